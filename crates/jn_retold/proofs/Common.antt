@@ -1,6 +1,6 @@
 -- The names from below that these proofs cite, passed on from one place. Declares nothing.
-pub use Rattle.std.proofs.Common.{◌≡◌, ℕ, ◌+◌, Bool, true, false, List, [], ◌∷◌, ◌++◌, append-nil, append_assoc, length, drop, map, Option, Some, None, refl, sym, ◌∙◌, ap, subst, ◌≢◌, ◌⊎◌, inl, inr, ◌≤◌, ◌<◌, arith, suc, zero, ◌-◌, take}
-pub use Rattle.std.specs.Prelude.{if◌then◌else◌, ◌||◌, is_some, nat_lt, slice_get, ◌&&◌, not, nat_eq, ⊤, option_and_then, nat_le}
+pub use Rattle.std.proofs.Common.{◌≡◌, ℕ, ◌+◌, Bool, true, false, List, [], ◌∷◌, ◌++◌, append-nil, append_assoc, drop, Option, Some, None, refl, sym, ◌∙◌, ap, subst, ◌≢◌, ◌⊎◌, inl, inr, ◌≤◌, ◌<◌, arith, suc, zero, ◌-◌, take}
+pub use Rattle.std.specs.Prelude.{length, map, if◌then◌else◌, ◌||◌, is_some, nat_lt, slice_get, ◌&&◌, not, nat_eq, ⊤, option_and_then, nat_le}
 pub use Rattle.std.specs.List.{list_all, list_any, AllByRecursion}
 pub use Rattle.jn_base.specs.declared.names.ServerNo.{ServerNo}
 pub use Rattle.jn_base.specs.declared.device.Outside.{Outside}
@@ -8,7 +8,7 @@ pub use Rattle.jn_schedule.specs.declared.Event.{Event}
 pub use Rattle.jn_report.specs.declared.line.EventRefusal.TheVariants.{TooManyArmed, EpochsUsedUp}
 pub use Rattle.jn_report.specs.declared.line.Text.{Text}
 pub use Rattle.jn_report.specs.declared.line.Line.{Line}
-pub use Rattle.jn_rows.specs.Stable.{Pick, stable, Change, AddFlag, DropFlag, StableState, Prepared, is_going, AddReady, MarkGoing, CarryOut, RemoveWork, gone_on, made_by, made_all}
+pub use Rattle.jn_rows.specs.Stable.{Pick, stable, Change, AddFlag, DropFlag, StableState, Prepared, AddReady, MarkGoing, CarryOut, RemoveWork, gone_on, made_by, made_all}
 pub use Rattle.jn_rows.specs.Outcomes.{Sent, RowOutcome}
 pub use Rattle.jn_system.specs.WholeSystem.World.{World, Memory, opening, committed_in, commits_in, has_line, new_memory, at_server, servers_from, at_client}
 pub use Rattle.jn_system.specs.WholeSystem.Steps.{Step, after, run, NextEvent, work, works, Tell, Again, Deliver, Work, Nudge, Timeout, StopDelivery, StopWork, Crash, Narrow, StopRestart, Restart, Dismiss, CloseClients, ends, at_memory, handed, nudge, timeout, crash, narrow, stop_restart, restart, close_clients, commanded, took, IsRun, AreNames, IsStep, are_rising, tid_before, sent_now}
@@ -25,7 +25,7 @@ pub use Rattle.jn_written.specs.Kinds.{may_tell, is_up, is_answer, is_of_deliver
 pub use Rattle.jn_written.proofs.Telling.{Adds, adds, weaker}
 pub use Rattle.jn_retold.specs.Retold.{behind, IsAsIn, IsToldBy, IsRetold, IsRetoldInPart}
 pub use Rattle.jn_base.specs.declared.device.FaultKind.{FaultKind}
-pub use Rattle.jn_base.specs.Names.{server_eq, tid_eq, client_eq, work_eq, file_eq, block_eq}
+pub use Rattle.jn_base.specs.Names.{server_eq, tid_eq, client_eq, file_eq, block_eq, work_eq}
 pub use Rattle.jn_base.proofs.Tells.{server_tells, block_tells}
 pub use Rattle.jn_device.specs.declared.Armed.{Armed}
 pub use Rattle.jn_device.specs.Device.{DeviceState}
@@ -38,7 +38,7 @@ pub use Rattle.jn_base.specs.declared.names.BlockNo.{BlockNo}
 pub use Rattle.jn_base.specs.declared.names.LockUnit.TheVariants.{Block, File}
 pub use Rattle.jn_base.specs.declared.names.Party.TheVariants.{Server, Client}
 pub use Rattle.jn_msgs.specs.declared.message.Message.{Message}
-pub use Rattle.jn_order.specs.Files.{AllFiles, change, answer_to}
+pub use Rattle.jn_order.specs.Files.{AllFiles}
 pub use Rattle.jn_system.specs.WholeSystem.Servers.{Room, server_step, server_row, of_coordinator, named_now, restored, storage_of, is_for_worker, of_worker, of_step, server_again, of_timeout, server_timeout}
 pub use Rattle.jn_within.proofs.WorldSteps.{sent-near, run-within, opening-within}
 pub use Rattle.jn_written.specs.Tasks.{Task, Begins, Meets, Rests, State, Acts, CutShort, Stage, InSchedule, when_at, when_of, next_at, begun, ComesUp, AtEnd}
@@ -53,7 +53,6 @@ pub use Rattle.jn_rows.specs.Coordinator.{close_clients_row, CoordinatorTable, t
 pub use Rattle.std.proofs.lemmas.List.Folds.{list_all-append}
 pub use Rattle.jn_system_settling.specs.Settling.Settle.{clients_from, is_busy as has_going, handing, working}
 pub use Rattle.jn_base.specs.declared.names.Tickets.{Tickets}
-pub use Rattle.jn_msgs.specs.declared.message.Vote.{Vote}
 pub use Rattle.jn_base.specs.declared.op.Command.{Command}
 pub use Rattle.jn_report.specs.declared.line.When.TheVariants.{Event as AtEvent}
 pub use Rattle.std.proofs.lemmas.Bool.Decides.{nat_tests}
@@ -61,13 +60,13 @@ pub use Rattle.std.proofs.lemmas.Bool.{cases_Bool}
 pub use Rattle.jn_written.specs.Whole.{closed_world, before, AreImages, IsWritten}
 pub use Rattle.jn_base.specs.declared.names.LockUnit.{LockUnit}
 pub use Rattle.jn_schedule.specs.Ranges.{EventInRange}
-pub use Rattle.jn_locks.specs.Locks.{is_unit, unit_eq, unit_before, work_before}
+pub use Rattle.jn_locks.specs.Locks.{is_unit, work_before}
 pub use Rattle.jn_locks.specs.declared.words.Mode.TheVariants.{Commit, IntentionWrite}
 pub use Rattle.jn_rows.specs.declared.worker.Phase.{Phase}
 pub use Rattle.jn_rows.specs.declared.worker.Phase.TheVariants.{Active, Broken, Prepared as Stored}
-pub use Rattle.jn_rows.specs.Worker.{WorkerTable, holds, commit_holder, WorkStorage, list_with, Wanted, work_at, work_of, with_phase, without, with_unit, with_units, units_for, wants_of, is_fit, breaks_at, broken_by, after_grant, name_from, new_work, open_row, granted_row, repeated, op_phase, op_row, conflict, commit_wants, vote_of, shortage, need_in, prepared_row, prepare_phase, prepare_row, commit_phase, commit_row, drop_phase, drop_row, worker_row, going_work, intentions_of, carried_row, going_row, worker_step, vulnerable, timed_out, timeout_row, written_unit, restored_work, restored_worker}
+pub use Rattle.jn_rows.specs.Worker.{WorkerTable, holds, commit_holder, WorkStorage, list_with, wants_of, is_fit, units_for, worker_row, worker_step, vulnerable, timeout_row, restored_work, restored_worker, going_work}
 pub use Rattle.jn_storage.specs.Orderly.{unit_in_range}
 pub use Rattle.jn_within.proofs.Taking.{scheduled-in-range, servers-taken, command-fits, take-fits, new-fits, over-fits}
-pub use Rattle.jn_records.specs.NetLists.{list_change, blocks_below}
 pub use Rattle.jn_worker.specs.Handling.{InRange}
+pub use Rattle.jn_records.specs.NetLists.{blocks_below}
 pub use Rattle.jn_written.proofs.Struck.{stop-had-waited, told-had-waited, nothing-strikes}

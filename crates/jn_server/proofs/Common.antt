@@ -1,20 +1,20 @@
 -- The names from below that these proofs cite, passed on from one place. Declares nothing.
-pub use Rattle.std.proofs.Common.{◌≡◌, ◌⊎◌, inl, inr, ℕ, ◌+◌, ◌*◌, ◌≤◌, Bool, true, false, List, [], ◌∷◌, Option, refl, sym, ◌∙◌, ap, subst, arith, true≢false, ◌≢◌, ◌<◌, ◌&&◌, ◌||◌, ◌++◌, is_some, suc, Some, None, append_assoc, ◌^◌, ⊎_elim, ◌-◌, not, get_or, zero, rules}
-pub use Rattle.std.specs.Prelude.{length, nat_lt, map, Result, Ok, Err, is_ok, IfErr, OnOk, if◌then◌else◌, nat_eq, slice_get, count_by, slice_index_or, option_and_then}
+pub use Rattle.std.proofs.Common.{◌≡◌, ◌⊎◌, inl, inr, ◌+◌, ◌*◌, ◌≤◌, Bool, true, false, List, [], ◌∷◌, Option, refl, sym, ◌∙◌, ap, subst, arith, true≢false, ◌≢◌, ◌++◌, suc, Some, append_assoc, ⊎_elim, ◌-◌, not, get_or, zero, rules}
+pub use Rattle.std.specs.Prelude.{ℕ, Result, Ok, Err, length, ◌&&◌, ◌<◌, ◌||◌, is_some, nat_lt, None, map, is_ok, IfErr, OnOk, ◌^◌, if◌then◌else◌, count_by, nat_eq, slice_index_or, option_and_then}
 pub use Rattle.std.specs.Result.{IsErr, IsErrAnd}
 pub use Rattle.std.proofs.lemmas.Bool.Decides.{nat_tests}
 pub use Rattle.jn_base.specs.declared.names.Tickets.{Tickets}
 pub use Rattle.jn_base.specs.declared.names.WorkId.{WorkId}
 pub use Rattle.jn_base.specs.Names.{work_eq, file_eq, block_eq, tid_eq}
-pub use Rattle.jn_locks.specs.Locks.{unit_eq, unit_before, is_unit}
+pub use Rattle.jn_locks.specs.Locks.{unit_eq, is_unit}
 unfoldable pub use Rattle.jn_locks.specs.Locks.{work_before}
 pub use Rattle.jn_lock_rows.specs.Matching.{is_after, is_before}
 pub use Rattle.jn_msgs.specs.Collected.{Collected}
-pub use Rattle.jn_order.specs.Files.{Files, change, answer_to}
+pub use Rattle.jn_order.specs.Files.{Files}
 pub use Rattle.jn_rows.specs.Stable.{StableState, Prepared, Change, AddReady, MarkGoing, CarryOut, RemoveWork, AddFlag, DropFlag, is_going, made_by, made_all, FlagState, Pick}
 pub use Rattle.jn_rows.specs.Outcomes.{RowOutcome}
 pub use Rattle.jn_rows.specs.declared.worker.Work.{Work}
-pub use Rattle.jn_rows.specs.Worker.{work_at, name_from as work_from, commit_holder, WorkerTable, WorkStorage, Wanted, work_of, with_phase, without, with_unit, with_units, units_for, wants_of, is_fit, breaks_at, broken_by, after_grant, new_work, open_row, granted_row, refusal_of, repeated, op_phase, op_row, conflict, commit_wants, vote_of, shortage, need_in, prepared_row, prepare_phase, prepare_row, commit_phase, commit_row, drop_phase, drop_row, worker_row, going_work, intentions_of, carried_row, going_row, worker_step, vulnerable, timed_out, timeout_row, written_unit, restored_work, restored_worker, holds, worker_again}
+pub use Rattle.jn_rows.specs.Worker.{work_at, name_from as work_from, commit_holder, WorkerTable, WorkStorage, is_fit, wants_of, units_for, worker_row, worker_step, vulnerable, timeout_row, restored_work, restored_worker, intentions_of, need_in, holds, worker_again}
 pub use Rattle.jn_rows.specs.Coordinator.{CoordinatorTable, restored_coordinator, restored_transactions, restored_transaction, name_from as tid_from, seen_in_flags, seen_in_flag, promised, coordinator_again, name_from, close_clients_row, coordinator_row}
 pub use Rattle.jn_storage.specs.Storage.{Accounts, StorageView, is_stored, IsCounted, needed, intentions, list_of, IsServing, file_there}
 pub use Rattle.jn_storage.specs.Calls.{state, BlockRead, is_above, NextFile}
@@ -47,10 +47,10 @@ pub use Rattle.jn_server.specs.declared.show.Shown.{Shown}
 pub use Rattle.jn_server.specs.Showing.{print_of, Looks, IsShown, CutsShort}
 pub use Rattle.jn_server.specs.Pieces.{one_if, count_of, is_at, is_of_first, is_of_lesser, to_print, name_if, block_at, prints_of_blocks, LooksOver, TellsPiece, CutsPiece, blocks_of, prints_of_file, number_after, IsNextShown, NextShown}
 unfoldable pub use Rattle.jn_server.specs.Pieces.{blocks_below}
-pub use Rattle.jn_locks.specs.declared.words.Mode.TheVariants.{IntentionWrite, Commit}
 pub use Rattle.jn_rows.specs.declared.worker.Phase.{Phase}
 pub use Rattle.jn_rows.specs.declared.worker.Phase.TheVariants.{Active, Broken, Prepared as Stored}
-pub use Rattle.jn_storage.specs.Orderly.{unit_in_range, IsPrepared, IsGiven}
+pub use Rattle.jn_locks.specs.declared.words.Mode.TheVariants.{IntentionWrite, Commit}
+pub use Rattle.jn_storage.specs.Orderly.{IsPrepared, IsGiven, unit_in_range}
 pub use Rattle.jn_server.specs.Ranges.{IsInRange, AreInRange}
 pub use Rattle.jn_base.specs.declared.names.ServerNo.{ServerNo}
 pub use Rattle.jn_records.specs.StablePages.{Counts, Pages, address_in, block_behind, block_in, head_of}

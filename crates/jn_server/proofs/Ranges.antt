@@ -1,251 +1,43 @@
 -- Each row of a worker keeps what it has written in range.
-use Rattle.jn_server.proofs.Common.{◌≡◌, ℕ, ◌+◌, ◌<◌, Bool, true, false, List, [], ◌∷◌, ◌++◌, Option, Some, None, refl, subst, arith, if◌then◌else◌, nat_lt, nat_eq, length, map, slice_get, list_all, nat_tests, LockUnit, Tid, Tickets, WorkId, work_eq, tid_eq, IntentionWrite, unit_eq, unit_before, change, answer_to, Work, Phase, Active, Broken, Stored, RowOutcome, StableState, Prepared, is_going, WorkerTable, WorkStorage, Wanted, work_at, work_of, with_phase, without, with_unit, with_units, units_for, wants_of, is_fit, breaks_at, broken_by, after_grant, new_work, open_row, granted_row, refusal_of, repeated, op_phase, op_row, conflict, commit_wants, vote_of, shortage, need_in, prepared_row, prepare_phase, prepare_row, commit_phase, commit_row, drop_phase, drop_row, worker_row, going_work, intentions_of, carried_row, going_row, worker_step, vulnerable, timed_out, timeout_row, written_unit, restored_work, restored_worker, unit_in_range, IsPrepared, IsInRange, AreInRange}
-use Rattle.std.specs.Prelude.{◌&&◌}
-use Rattle.jn_base.specs.declared.names.ClientNo.{ClientNo}
-use Rattle.jn_base.specs.declared.op.Answer.{Answer}
-use Rattle.jn_base.specs.declared.op.Op.{Op}
-use Rattle.jn_base.specs.declared.op.Op.TheVariants as ops
+use Rattle.jn_server.proofs.Common.{◌≡◌, true, List, [], ◌∷◌, Option, Some, None, refl, LockUnit, Tid, Tickets, WorkId, Work, Phase, Active, Broken, Stored, RowOutcome, StableState, Prepared, WorkerTable, WorkStorage, is_fit, wants_of, units_for, worker_row, worker_step, vulnerable, timeout_row, restored_work, restored_worker, IntentionWrite, IsPrepared, IsInRange, AreInRange, Change}
 use Rattle.jn_msgs.specs.declared.message.Message.{Message}
-use Rattle.jn_msgs.specs.declared.message.Message.TheVariants as messages
-use Rattle.jn_msgs.specs.declared.message.Vote.{Vote}
-use Rattle.jn_msgs.specs.declared.message.Vote.TheVariants as votes
-use Rattle.jn_records.specs.NetLists.{list_change}
-use Rattle.jn_records.specs.declared.intention.Intention.{Intention}
-use Rattle.jn_records.specs.declared.intention.What.TheVariants as whats
-use Rattle.jn_rows.specs.declared.worker.ActiveWork.{ActiveWork}
-use Rattle.jn_rows.specs.Worker.{name_from}
-use Rattle.jn_storage.specs.Viewing.{BlockInRange}
 use Rattle.jn_worker.specs.Handling.{InRange}
+use Rattle.jn_worker.proofs.EachPhase.{Rules, joined, row-keeps, step-keeps, timeout-keeps}
+use Rattle.jn_worker.proofs.UnitRanges.{some-more, wants-in-range, list-in-range}
 
--- ---- lists of units
-
-abbrev Are : List LockUnit → Type 0
-Are us = list_all unit_in_range us ≡ true
-
-both : {a b : Bool} → a ≡ true → b ≡ true → (a && b) ≡ true
-both p q = grind (arith, p, q)
-
-first-of : (a b : Bool) → (a && b) ≡ true → a ≡ true
-first-of a b h = grind arith
-
-second-of : (a b : Bool) → (a && b) ≡ true → b ≡ true
-second-of a b h = grind arith
-
-one-more : (u : LockUnit) (vs : List LockUnit) → unit_in_range u ≡ true → Are vs → Are (with_unit u vs)
-one-more u [] h k = both h refl
-one-more u (v ∷ vs) h k = by (unit_before u v) (unit_eq u v) (one-more u vs h (second-of (unit_in_range v) (list_all unit_in_range vs) k))
+in-range : Rules IsInRange (λ (x : Change). true)
+in-range = record {
+  new = λ W T. refl;
+  broken = λ u T. refl;
+  refused = λ a answer i. i;
+  done = λ a op answer r i. some-more (units_for IntentionWrite (wants_of op (is_fit answer))) a.writes (wants-in-range op (is_fit answer) r) i;
+  stored = λ a i. i;
+  vulnerable = same;
+  adds = λ c w a i. refl;
+  marks = λ W. refl;
+  carries = λ W i. refl;
+  removes = λ W. refl;
+}
   where
-    by : (b c : Bool) → Are (with_unit u vs) → Are (if b then u ∷ v ∷ vs else (if c then v ∷ vs else v ∷ with_unit u vs))
-    by true c again = both h k
-    by false true again = k
-    by false false again = both (first-of (unit_in_range v) (list_all unit_in_range vs) k) again
-
-some-more : (us vs : List LockUnit) → Are us → Are vs → Are (with_units us vs)
-some-more [] vs h k = k
-some-more (u ∷ us) vs h k = some-more us (with_unit u vs) (second-of (unit_in_range u) (list_all unit_in_range us) h) (one-more u vs (first-of (unit_in_range u) (list_all unit_in_range us) h) k)
-
-block-within : (n : ℕ) → n < 120 → nat_lt n 120 ≡ true
-block-within n h = grind (arith, nat_tests, h)
-
--- what an operation writes
-wants-in-range : (op : Op) (fit : Bool) → BlockInRange op → Are (units_for IntentionWrite (wants_of op fit))
-wants-in-range op false h = refl
-wants-in-range (ops.Create f) true h = refl
-wants-in-range (ops.Remove f) true h = refl
-wants-in-range (ops.Cut f n) true h = refl
-wants-in-range (ops.Read f p) true h = refl
-wants-in-range (ops.Write f p bytes) true h = both (block-within p.0 h) refl
-
--- ---- tables
-
-with-phase : (W : WorkId) (phase : Phase) (t : WorkerTable) → IsInRange phase → AreInRange t → AreInRange (with_phase W phase t)
-with-phase W phase [] h k = tt
-with-phase W phase (w ∷ ws) h k = by (work_eq w.name W) (with-phase W phase ws h k.1)
-  where
-    by : (b : Bool) → AreInRange (with_phase W phase ws) → AreInRange (if b then record w { phase = phase } ∷ ws else w ∷ with_phase W phase ws)
-    by true again = (h, k.1)
-    by false again = (k.0, again)
-
-less : (W : WorkId) (t : WorkerTable) → AreInRange t → AreInRange (without W t)
-less W [] k = tt
-less W (w ∷ ws) k = by (work_eq w.name W) (less W ws k.1)
-  where
-    by : (b : Bool) → AreInRange (without W ws) → AreInRange (if b then ws else w ∷ without W ws)
-    by true again = k.1
-    by false again = (k.0, again)
-
-granted : (T : Tid) (W : WorkId) (wants : List Wanted) (t : WorkerTable) → AreInRange t → AreInRange (after_grant T W wants t)
-granted T W wants [] k = tt
-granted T W wants (v ∷ vs) k = (by (breaks_at W wants v), granted T W wants vs k.1)
-  where
-    by : (o : Option LockUnit) → IsInRange (broken_by T o v).phase
-    by None = k.0
-    by (Some u) = refl
-
-at-name : (W : WorkId) (t : WorkerTable) (w : Work) → work_at W t ≡ Some w → AreInRange t → IsInRange w.phase
-at-name W [] w e k = absurd (none w e)
-  where
-    none : (w : Work) → None ≡ Some w → ⊥
-    none w q = cc
-at-name W (v ∷ vs) w e k = by (work_eq v.name W) e (λ q. at-name W vs w q k.1)
-  where
-    some : (a b : Work) → Some a ≡ Some b → a ≡ b
-    some a b q = cc
-
-    by : (b : Bool) → (if b then Some v else work_at W vs) ≡ Some w → (work_at W vs ≡ Some w → IsInRange w.phase) → IsInRange w.phase
-    by true q again = subst (λ (z : Work). IsInRange z.phase) (some v w q) k.0
-    by false q again = again q
-
-of-tid : (T : Tid) (t : WorkerTable) (w : Work) → work_of T t ≡ Some w → AreInRange t → IsInRange w.phase
-of-tid T [] w e k = absurd (none w e)
-  where
-    none : (w : Work) → None ≡ Some w → ⊥
-    none w q = cc
-of-tid T (v ∷ vs) w e k = by (tid_eq v.tid T) e (λ q. of-tid T vs w q k.1)
-  where
-    some : (a b : Work) → Some a ≡ Some b → a ≡ b
-    some a b q = cc
-
-    by : (b : Bool) → (if b then Some v else work_of T vs) ≡ Some w → (work_of T vs ≡ Some w → IsInRange w.phase) → IsInRange w.phase
-    by true q again = subst (λ (z : Work). IsInRange z.phase) (some v w q) k.0
-    by false q again = again q
-
-joined : (t u : WorkerTable) → AreInRange t → AreInRange u → AreInRange (t ++ u)
-joined [] u h k = k
-joined (w ∷ ws) u h k = (h.0, joined ws u h.1 k)
-
--- ---- rows
-
-abbrev Keeps : RowOutcome WorkerTable → Type 0
-Keeps row = AreInRange row.table
-
-either : (b : Bool) (p q : RowOutcome WorkerTable) → Keeps p → Keeps q → Keeps (if b then p else q)
-either true p q h l = h
-either false p q h l = l
-
-module _ (t : WorkerTable) (h : AreInRange t) (s : WorkStorage) (k : Tickets) where
-  opens : (c : ClientNo) (request : ℕ) (T : Tid) (o : Option Work) → Keeps (open_row t k c request T o)
-  opens c request T (Some w) = h
-  opens c request T None = either (nat_lt (length t) 64) _ _ (joined t (new_work (name_from k) T ∷ []) h (refl, tt)) h
-
-  grants : (c : ClientNo) (request : ℕ) (w : Work) (a : ActiveWork) (op : Op) (answer : Answer) → BlockInRange op → IsInRange (Active a) → (o : Option Answer)
-      → Keeps (granted_row t k c request w a op answer (wants_of op (is_fit answer)) o)
-  grants c request w a op answer r i (Some refusal) = with-phase w.name _ t i h
-  grants c request w a op answer r i None = with-phase w.name _ (after_grant w.tid w.name (wants_of op (is_fit answer)) t)
-      (some-more (units_for IntentionWrite (wants_of op (is_fit answer))) a.writes (wants-in-range op (is_fit answer) r) i) (granted w.tid w.name (wants_of op (is_fit answer)) t h)
-
-  repeats : (c : ClientNo) (request : ℕ) (o : Option Answer) → Keeps (repeated t k c request o)
-  repeats c request (Some answer) = h
-  repeats c request None = h
-
-  operates : (c : ClientNo) (request : ℕ) (w : Work) (number : ℕ) (op : Op) → BlockInRange op → (p : Phase) → IsInRange p → Keeps (op_phase t s.state.files k c request w number op p)
-  operates c request w number op r (Active a) i = let answer = answer_to op (change (list_change a.list) s.state.files) in
-      either (nat_eq number (a.last + 1)) _ _ (grants c request w a op answer r i (refusal_of t w.name a op answer (wants_of op (is_fit answer))))
-      (either (nat_eq number a.last) _ _ (repeats c request a.kept) h)
-  operates c request w number op r (Broken u by) i = h
-  operates c request w number op r (Stored p) i = h
-
-  all-operate : (c : ClientNo) (request : ℕ) (W : WorkId) (number : ℕ) (op : Op) → BlockInRange op → (o : Option Work) → work_at W t ≡ o → Keeps (op_row t s.state.files k c request W number op o)
-  all-operate c request W number op r (Some w) e = operates c request w number op r w.phase (at-name W t w e h)
-  all-operate c request W number op r None e = h
-
-  votes-on : (T : Tid) (c : ClientNo) (w : Work) (a : ActiveWork) → IsInRange (Active a) → (v : Vote) → Keeps (prepared_row t k T c w a v)
-  votes-on T c w a i votes.Ready = with-phase w.name _ (after_grant w.tid w.name (commit_wants a.writes) t) i (granted w.tid w.name (commit_wants a.writes) t h)
-  votes-on T c w a i (votes.Waiting u by) = h
-  votes-on T c w a i (votes.Broken u by) = h
-  votes-on T c w a i (votes.Lost m n) = h
-  votes-on T c w a i (votes.Full m n o) = h
-
-  prepares : (T : Tid) (c : ClientNo) (w : Work) (p : Phase) → IsInRange p → Keeps (prepare_phase t s k T c w p)
-  prepares T c w (Active a) i = votes-on T c w a i (vote_of (conflict w.name (commit_wants a.writes) t) (shortage s.free (need_in s.state.files a.list)))
-  prepares T c w (Broken u by) i = h
-  prepares T c w (Stored p) i = either (is_going (s.state.works w.name)) _ _ h h
-
-  all-prepare : (T : Tid) (c : ClientNo) (W : WorkId) (o : Option Work) → work_at W t ≡ o → Keeps (prepare_row t s k T c W o)
-  all-prepare T c W (Some w) e = prepares T c w w.phase (at-name W t w e h)
-  all-prepare T c W None e = h
-
-  commits : (W : WorkId) (p : Phase) → Keeps (commit_phase t s k W p)
-  commits W (Stored p) = either (is_going (s.state.works W)) _ _ h h
-  commits W (Active a) = h
-  commits W (Broken u by) = h
-
-  all-commit : (T : Tid) (W : WorkId) (o : Option Work) → Keeps (commit_row t s k T W o)
-  all-commit T W (Some w) = commits W w.phase
-  all-commit T W None = h
-
-  drops : (W : WorkId) (p : Phase) → Keeps (drop_phase t s k W p)
-  drops W (Stored p) = either (is_going (s.state.works W)) _ _ h (less W t h)
-  drops W (Active a) = less W t h
-  drops W (Broken u by) = less W t h
-
-  all-drop : (W : WorkId) (o : Option Work) → Keeps (drop_row t s k W o)
-  all-drop W (Some w) = drops W w.phase
-  all-drop W None = h
-
-  pub row-in-range : (m : Message) → InRange m → AreInRange (worker_row t s k m).table
-  row-in-range (messages.Open c request T) r = opens c request T (work_of T t)
-  row-in-range (messages.Op c request W number op) r = all-operate c request W number op r (work_at W t) refl
-  row-in-range (messages.Prepare T c W) r = all-prepare T c W (work_at W t) refl
-  row-in-range (messages.Commit T W) r = all-commit T W (work_at W t)
-  row-in-range (messages.Drop T W) r = all-drop W (work_at W t)
-  row-in-range m r = h
-
-  carried : (w : Work) (o : Option Intention) → Keeps (carried_row t k w o)
-  carried w (Some i) = h
-  carried w None = less w.name t h
-
-  pub step-in-range : (row : RowOutcome WorkerTable) → worker_step t s k ≡ Some row → AreInRange row.table
-  step-in-range row e = by (going_work s.state t) e
-    where
-      some : {a b : RowOutcome WorkerTable} → Some a ≡ Some b → a ≡ b
-      some q = cc
-
-      rest : (b : Bool) → (if b then Some (record { table = t; changes = []; messages = []; notes = []; tickets = k }) else None) ≡ Some row → Keeps row
-      rest true q = subst Keeps (some q) h
-      rest false q = absurd (none q)
-        where
-          none : None ≡ Some row → ⊥
-          none z = cc
-
-      by : (o : Option Work) → going_row t s k o ≡ Some row → Keeps row
-      by (Some w) q = subst Keeps (some q) (carried w (slice_get (intentions_of (s.state.works w.name)) (s.next w.name)))
-      by None q = rest s.rubbish q
-
--- a work that gives way from now on has written the same
-pub timeout-in-range : (t : WorkerTable) (T : Tid) (u : WorkerTable) → AreInRange t → timeout_row t T ≡ Some u → AreInRange u
-timeout-in-range t T u h e = by (work_of T t) refl e
-  where
-    some : {a b : WorkerTable} → Some a ≡ Some b → a ≡ b
-    some q = cc
-
-    none : None ≡ Some u → ⊥
-    none q = cc
-
     same : (p : Phase) → IsInRange p → IsInRange (vulnerable p)
     same (Active a) i = i
     same (Broken v by) i = i
     same (Stored q) i = i
 
-    by : (o : Option Work) → work_of T t ≡ o → timed_out t o ≡ Some u → AreInRange u
-    by None f q = absurd (none q)
-    by (Some w) f q = subst AreInRange (some q) (with-phase w.name (vulnerable w.phase) t (same w.phase (of-tid T t w f h)) h)
+module _ (t : WorkerTable) (h : AreInRange t) (s : WorkStorage) (k : Tickets) where
+  pub row-in-range : (m : Message) → InRange m → AreInRange (worker_row t s k m).table
+  row-in-range m r = (row-keeps IsInRange (λ (x : Change). true) in-range t h s k m r).0
 
--- ---- restored works
+  pub step-in-range : (row : RowOutcome WorkerTable) → worker_step t s k ≡ Some row → AreInRange row.table
+  step-in-range row e = (step-keeps IsInRange (λ (x : Change). true) in-range t h s k row e).0
 
-list-in-range : (list : List Intention) → list_all (λ (i : Intention). nat_lt i.block.0 120) list ≡ true → Are (map (λ (i : Intention). written_unit i.what i.file i.block) list)
-list-in-range [] h = refl
-list-in-range (i ∷ is) h = both (one i.what (first-of (nat_lt i.block.0 120) _ h)) (list-in-range is (second-of (nat_lt i.block.0 120) _ h))
-  where
-    one : (w : _) → nat_lt i.block.0 120 ≡ true → unit_in_range (written_unit w i.file i.block) ≡ true
-    one whats.Put k = k
-    one whats.Fresh k = refl
-    one whats.Gone k = refl
-    one whats.Cut k = refl
+-- a work that gives way from now on has written the same
+pub timeout-in-range : (t : WorkerTable) (T : Tid) (u : WorkerTable) → AreInRange t → timeout_row t T ≡ Some u → AreInRange u
+timeout-in-range t T u h e = timeout-keeps IsInRange (λ (x : Change). true) in-range t T u h e
 
 pub restored-in-range : (x : StableState) (Ws : List WorkId) → ((W : WorkId) (p : Prepared) → x.works W ≡ Some p → IsPrepared x.files p.list p.reads) → AreInRange (restored_worker x Ws)
 restored-in-range x [] h = tt
-restored-in-range x (W ∷ Ws) h = joined (restored_work W (x.works W)) (restored_worker x Ws) (by (x.works W) refl) (restored-in-range x Ws h)
+restored-in-range x (W ∷ Ws) h = joined IsInRange (λ (x : Change). true) in-range (restored_work W (x.works W)) (restored_worker x Ws) (by (x.works W) refl) (restored-in-range x Ws h)
   where
     by : (o : Option Prepared) → x.works W ≡ o → AreInRange (restored_work W o)
     by None e = tt

@@ -1,8 +1,6 @@
 -- What the rows read of a storage is what stands on its pages.
-use Rattle.jn_server.proofs.Common.{◌≡◌, ⊎_elim, ◌<◌, ◌+◌, ◌-◌, ℕ, suc, Bool, true, false, not, ◌&&◌, ◌||◌, List, [], ◌∷◌, get_or, Option, Some, None, refl, sym, ◌∙◌, ap, subst, true≢false, arith, nat_tests, count_by, nat_eq, nat_lt, slice_index_or, list_any, Tickets, WorkId, work_eq, work_tells, Counts, Pages, Work, StableState, Prepared, WorkerTable, work_at, intentions_of, need_in, promised, is_before, is_in, are_different, total, Accounts, IsCounted, needed, intentions, list_of, state, StoreView, pool_on, heads_on, listed, Kept, view_of, rubbish_in, WorkerView, WorkFits, is_none, Remembered, ServerView, IsServer, IsRoomOfPages, CountsPages}
-use Rattle.std.proofs.Common.{if◌then◌else◌, length}
+use Rattle.jn_server.proofs.Common.{◌≡◌, ⊎_elim, ◌<◌, ◌+◌, ◌-◌, ℕ, suc, Bool, true, false, not, ◌&&◌, ◌||◌, if◌then◌else◌, List, [], ◌∷◌, length, get_or, Option, Some, None, refl, sym, ◌∙◌, ap, subst, true≢false, arith, nat_tests, is_some, count_by, nat_eq, nat_lt, slice_index_or, list_any, Tickets, WorkId, work_eq, work_tells, Counts, Pages, Work, StableState, Prepared, WorkerTable, work_at, intentions_of, need_in, promised, is_before, is_in, are_different, total, Accounts, IsCounted, needed, intentions, list_of, state, StoreView, pool_on, heads_on, listed, Kept, view_of, rubbish_in, WorkerView, WorkFits, is_none, Remembered, ServerView, IsServer, IsRoomOfPages, CountsPages}
 use Rattle.std.proofs.lemmas.List.Sums.{sum_by-cons}
-use Rattle.std.specs.Prelude.{is_some}
 use Rattle.jn_alloc.specs.Free.{free_count as free_numbers, is_free as is_free_number}
 use Rattle.jn_files.specs.Table.{TableView, IsTable, is_held, is_free, head_in, address_of, IsUnnamed}
 use Rattle.jn_records.specs.declared.head.Head.{Head}

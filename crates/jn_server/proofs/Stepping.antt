@@ -1,7 +1,5 @@
 -- A background step of the worker, and what is sent again, as the whole server's.
-use Rattle.jn_server.proofs.Common.{◌≡◌, Bool, true, false, ◌||◌, [], ◌++◌, append_assoc, Option, Some, None, refl, sym, ◌∙◌, ap, arith, Result, Ok, Err, OnOk, is_ok, nat_lt, IsErr, IsErrAnd, Collected, RowOutcome, WorkerTable, worker_step, worker_again, coordinator_again, StorageView, state, added, WorkerFault, WorkerSteps, AsksAgain, WorkerView, seen, of_step, server_step, server_again, step-aside, ServerFault, fault_of, Steps, ServerView, memory_of, room_of, IsServer}
-use Rattle.std.proofs.Common.{length}
-use Rattle.std.specs.Prelude.{is_some}
+use Rattle.jn_server.proofs.Common.{◌≡◌, Bool, true, false, ◌||◌, [], ◌++◌, length, append_assoc, Option, Some, None, refl, sym, ◌∙◌, ap, arith, Result, Ok, Err, OnOk, is_ok, is_some, nat_lt, IsErr, IsErrAnd, Collected, RowOutcome, WorkerTable, worker_step, worker_again, coordinator_again, StorageView, state, added, WorkerFault, WorkerSteps, AsksAgain, WorkerView, seen, of_step, server_step, server_again, step-aside, ServerFault, fault_of, Steps, ServerView, memory_of, room_of, IsServer}
 use Rattle.jn_server.proofs.Room.{not_none}
 use Rattle.jn_server.proofs.Ranges.{step-in-range}
 use Rattle.jn_server.proofs.Working.{worked, one-leaves, worker_failed}

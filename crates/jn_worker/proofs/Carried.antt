@@ -1,6 +1,5 @@
 -- A going work is carried on.
-use Rattle.jn_worker.proofs.Common.{◌≡◌, ◌≢◌, Bool, true, false, List, [], ◌∷◌, ◌++◌, Option, Some, None, map, refl, sym, ◌∙◌, ap, subst, arith, true≢false, Result, Ok, Err, is_some, ◌&&◌, ◌||◌, filter, slice_get, append-nil, Stopped, Tid, Tickets, WorkId, LockUnit, Server, work_eq, work_tells, change, Intention, intention_change, Read, Commit, Table, IsCompatible, is_unit, unit_eq, unit_tells, Collected, Work, Phase, ActiveWork, Active, Broken, Stored, Prepared, CarryOut, RemoveWork, made_by, is_going, WorkerTable, work_at, without, new_work, carried_row, holds, LocksMatch, are_rising, held_in, is_in, unit_of, StorageView, intentions, state, IsGoing, next_of, StepApplied, CountsOn, WorkRemoved, WorkerFault, Stops, Memory, WorkerView, Fits, TicketsFit, WorkFits, PhaseFits, WorkListFits, ListFits, are_written, Takes}
-use Rattle.std.specs.Prelude.{not, if◌then◌else◌}
+use Rattle.jn_worker.proofs.Common.{◌≡◌, ◌≢◌, Bool, true, false, List, [], ◌∷◌, ◌++◌, Option, Some, None, map, refl, sym, ◌∙◌, ap, subst, arith, true≢false, Result, Ok, Err, is_some, not, ◌&&◌, ◌||◌, filter, slice_get, if◌then◌else◌, append-nil, Stopped, Tid, Tickets, WorkId, LockUnit, Server, work_eq, work_tells, change, Intention, intention_change, Read, Commit, Table, IsCompatible, is_unit, unit_eq, unit_tells, Collected, Work, Phase, ActiveWork, Active, Broken, Stored, Prepared, CarryOut, RemoveWork, made_by, is_going, WorkerTable, work_at, without, new_work, carried_row, holds, LocksMatch, are_rising, held_in, is_in, unit_of, StorageView, intentions, state, IsGoing, next_of, StepApplied, CountsOn, WorkRemoved, WorkerFault, Stops, Memory, WorkerView, Fits, TicketsFit, WorkFits, PhaseFits, WorkListFits, ListFits, are_written, Takes}
 use Rattle.jn_msgs.specs.declared.message.Message.TheVariants as messages
 use Rattle.jn_storage.proofs.Kept.{AreApart, prepared-carried}
 use Rattle.jn_worker.proofs.Counts.{counts_on, counts_off}

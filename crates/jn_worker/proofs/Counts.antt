@@ -1,6 +1,5 @@
 -- What a row's changes leave of the accounts.
-use Rattle.jn_worker.proofs.Common.{◌≡◌, ℕ, Bool, true, false, List, [], ◌∷◌, length, Option, Some, None, if◌then◌else◌, refl, sym, ◌∙◌, ap, subst, arith, inl, inr, ◌||◌, LockUnit, Tid, WorkId, work_eq, work_is, Intention, Need, WorkHead, ActiveWork, Active, Change, StableState, Prepared, AddReady, CarryOut, RemoveWork, next_after, IsActive, is_in, Accounts, StorageView, intentions, list_of, state, with_work, CountsOn, CountsOff, CountsErased, is_none, WorkerView, Fits, WorkFits, PhaseFits, CountsBy}
-use Rattle.std.specs.Prelude.{not, ◌+◌, ◌⊎◌}
+use Rattle.jn_worker.proofs.Common.{◌≡◌, ℕ, Bool, true, false, List, [], ◌∷◌, length, Option, Some, None, if◌then◌else◌, refl, sym, ◌∙◌, ap, subst, arith, inl, inr, not, ◌+◌, ◌⊎◌, ◌||◌, LockUnit, Tid, WorkId, work_eq, work_is, Intention, Need, WorkHead, ActiveWork, Active, Change, StableState, Prepared, AddReady, CarryOut, RemoveWork, next_after, IsActive, is_in, Accounts, StorageView, intentions, list_of, state, with_work, CountsOn, CountsOff, CountsErased, is_none, WorkerView, Fits, WorkFits, PhaseFits, CountsBy}
 use Rattle.std.proofs.Math.Path.{fun_ext}
 use Rattle.jn_worker.specs.Leaving.{left_by}
 

@@ -1,6 +1,5 @@
 -- A work whose transaction's outcome is known.
-use Rattle.jn_worker.proofs.Common.{◌≡◌, Bool, true, false, List, [], ◌∷◌, ◌++◌, Option, Some, refl, sym, ◌∙◌, ap, subst, arith, ◌⊎◌, inl, inr, Ok, is_some, ◌&&◌, work_tells, append-nil, Tid, Tickets, WorkId, work_eq, Collected, Work, Phase, Active, Broken, Stored, RowOutcome, quiet, MarkGoing, RemoveWork, is_going, WorkerTable, WorkStorage, work_at, commit_row, commit_phase, drop_row, drop_phase, without, is_in, StorageView, state, MarkedGoing, WorkRemoved, WorkerView, Fits, is_stored, seen, Takes, are_rising}
-use Rattle.std.specs.Prelude.{not}
+use Rattle.jn_worker.proofs.Common.{◌≡◌, Bool, true, false, List, [], ◌∷◌, ◌++◌, Option, Some, refl, sym, ◌∙◌, ap, subst, arith, ◌⊎◌, inl, inr, Ok, is_some, not, ◌&&◌, work_tells, append-nil, Tid, Tickets, WorkId, work_eq, Collected, Work, Phase, Active, Broken, Stored, RowOutcome, quiet, MarkGoing, RemoveWork, is_going, WorkerTable, WorkStorage, work_at, commit_row, commit_phase, drop_row, drop_phase, without, is_in, StorageView, state, MarkedGoing, WorkRemoved, WorkerView, Fits, is_stored, seen, Takes, are_rising}
 use Rattle.jn_worker.proofs.Counts.{counts_same, counts_off, left_only, filled}
 use Rattle.jn_worker.proofs.Exits.{without_change, one_made}
 use Rattle.jn_worker.proofs.Fit.{ready_here, fits_marked, tickets_marked, fits_let_go, tickets_let_go, fits_removed, tickets_removed}

@@ -1,5 +1,5 @@
 -- An operation that is performed meets its row.
-use Rattle.jn_worker.proofs.Common.{nat_tests, ◌≡◌, ◌<◌, ◌+◌, ℕ, true, [], ◌∷◌, ◌++◌, length, Option, Some, None, if◌then◌else◌, refl, sym, ◌∙◌, ap, subst, arith, Ok, nat_eq, ClientNo, Client, Tid, Tickets, WorkId, Answer, Op, Collected, answer_to, change, list_change, length_with, block_of, Read, ActiveWork, Active, ignored, Prepared, work_at, with_phase, after_grant, op_row, op_phase, performed, repeated, granted_row, refusal_of, past_limit, first_of_two, locked, conflict, wants_of, with_units, units_for, is_fit, counted, done, IsActive, found-name, StorageView, state, WorkerView, Fits, TicketsFit, WorkFits, PhaseFits, WorkListFits, ListFits, ActiveFits, Takes, Settles, settled, told_breaks, told_of}
+use Rattle.jn_worker.proofs.Common.{◌≡◌, ◌<◌, ◌+◌, ℕ, true, [], ◌∷◌, ◌++◌, length, Option, Some, None, if◌then◌else◌, refl, sym, ◌∙◌, ap, subst, arith, nat_tests, Ok, nat_eq, ClientNo, Client, Tid, Tickets, WorkId, Answer, Op, Collected, answer_to, change, list_change, length_with, block_of, Read, ActiveWork, Active, ignored, Prepared, work_at, with_phase, after_grant, op_row, op_phase, performed, repeated, granted_row, refusal_of, past_limit, first_of_two, locked, conflict, wants_of, with_units, units_for, is_fit, counted, done, IsActive, found-name, StorageView, state, WorkerView, Fits, TicketsFit, WorkFits, PhaseFits, WorkListFits, ListFits, ActiveFits, Takes, Settles, settled, told_breaks, told_of}
 use Rattle.jn_msgs.specs.declared.message.Message.TheVariants as messages
 use Rattle.jn_worker.proofs.Exits.{without_change}
 use Rattle.jn_worker.proofs.Fit.{fits_phase, tickets_phase}

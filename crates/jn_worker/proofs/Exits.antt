@@ -1,6 +1,5 @@
 -- The exits of a call that does one message.
-use Rattle.jn_worker.proofs.Common.{◌≡◌, ◌≤◌, ℕ, Bool, true, false, List, [], ◌∷◌, ◌++◌, refl, sym, ◌∙◌, ap, subst, arith, inl, inr, Result, Ok, Err, IsErr, IsErrAnd, err_from_is_err_and, Tickets, Collected, RowOutcome, StableState, Change, Changed, ChangedAll, Pick, WorkerTable, StorageView, IsServing, state, Called, WorkerFault, Memory, WorkerView, Fits, TicketsFit, Takes, CountsBy, has_stopped}
-use Rattle.std.specs.Prelude.{not}
+use Rattle.jn_worker.proofs.Common.{◌≡◌, ◌≤◌, ℕ, Bool, true, false, List, [], ◌∷◌, ◌++◌, refl, sym, ◌∙◌, ap, subst, arith, inl, inr, Result, Ok, Err, not, IsErr, IsErrAnd, err_from_is_err_and, Tickets, Collected, RowOutcome, StableState, Change, Changed, ChangedAll, Pick, WorkerTable, StorageView, IsServing, state, Called, WorkerFault, Memory, WorkerView, Fits, TicketsFit, Takes, CountsBy, has_stopped}
 use Rattle.jn_storage.proofs.Laws.{called_not}
 use Rattle.jn_worker.specs.declared.words.WorkerFault.TheVariants.{Stopped}
 use Rattle.jn_worker.proofs.Counts.{counts_kept}

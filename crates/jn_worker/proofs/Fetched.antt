@@ -1,6 +1,5 @@
 -- An operation whose answer is a stored block.
-use Rattle.jn_worker.proofs.Common.{◌≡◌, ◌<◌, ◌+◌, ℕ, Bool, true, false, not, List, [], ◌∷◌, ◌++◌, length, take, Option, Some, None, if◌then◌else◌, refl, sym, ◌∙◌, ap, subst, arith, true≢false, ◌&&◌, is_some, IsErrAnd, err_from_is_err_and, take_at, ClientNo, Client, Tid, Tickets, WorkId, Answer, Did, Op, Create, Remove, CutBlocks, ReadOp, WriteOp, work_eq, Collected, Files, answer_to, change, Intention, list_change, length_with, block_of, answered, intention_for, Read, IntentionWrite, Active, ActiveWork, RowOutcome, WorkerTable, work_at, with_phase, after_grant, break_notes, op_row, conflict, locked, wants_of, with_units, units_for, is_fit, past_limit, first_of_two, refusal_of, list_with, counted, done, IsActive, rephased, is_in, StorageView, IsServing, state, Viewed, reads_stored, served, WorkerFault, Stops, Memory, WorkerView, Fits, is_active, is_active_phase, tallied, Takes, CountsBy, Settles, has_stopped, unseen, ReadSettles, OnlyReads, answer_now, asks_now, asks_in, asks_for, is_unknown, rephased-is}
-use Rattle.std.proofs.Common.{Result, Ok, Err}
+use Rattle.jn_worker.proofs.Common.{◌≡◌, ◌<◌, ◌+◌, ℕ, Bool, true, false, not, List, [], ◌∷◌, ◌++◌, length, take, Option, Some, None, Result, Ok, Err, if◌then◌else◌, refl, sym, ◌∙◌, ap, subst, arith, true≢false, ◌&&◌, is_some, IsErrAnd, err_from_is_err_and, take_at, ClientNo, Client, Tid, Tickets, WorkId, Answer, Did, Op, Create, Remove, CutBlocks, ReadOp, WriteOp, work_eq, Collected, Files, answer_to, change, Intention, list_change, length_with, block_of, answered, intention_for, Read, IntentionWrite, Active, ActiveWork, RowOutcome, WorkerTable, work_at, with_phase, after_grant, break_notes, op_row, conflict, locked, wants_of, with_units, units_for, is_fit, past_limit, first_of_two, refusal_of, list_with, counted, done, IsActive, rephased, is_in, StorageView, IsServing, state, Viewed, reads_stored, served, WorkerFault, Stops, Memory, WorkerView, Fits, is_active, is_active_phase, tallied, Takes, CountsBy, Settles, has_stopped, unseen, ReadSettles, OnlyReads, answer_now, asks_now, asks_in, asks_for, is_unknown, rephased-is}
 use Rattle.std.proofs.Math.Seq.{take-length}
 use Rattle.jn_storage.specs.declared.faults.ViewFault.{ViewFault}
 use Rattle.jn_storage.specs.declared.faults.ViewFault.TheVariants.{Stopped as NotSeen, Memory as NoBytes}

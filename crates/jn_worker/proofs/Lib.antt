@@ -26,3 +26,5 @@ pub mod Settled
 pub mod Does
 pub mod Fetched
 pub mod RowLaws
+pub mod EachPhase
+pub mod UnitRanges

@@ -1,6 +1,5 @@
 -- A work is opened.
-use Rattle.jn_worker.proofs.Common.{◌≡◌, ◌<◌, ◌+◌, ℕ, Bool, true, false, List, [], ◌∷◌, ◌++◌, Option, Some, None, length, refl, sym, ◌∙◌, ap, subst, arith, true≢false, Ok, nat_lt, is_some, append-nil, nat_tests, ClientNo, Tid, Tickets, WorkId, Client, work_eq, work_tells, Files, work_before, work_before-irreflexive, Collected, Work, sends, Prepared, WorkerTable, work_at, work_of, name_from, new_work, open_row, is_after, at-more, none-front, is_in, IsPrepared, StorageView, state, WorkerView, Fits, TicketsFit, WorkFits, WorkListFits, NameFits, Takes}
-use Rattle.std.specs.Prelude.{if◌then◌else◌}
+use Rattle.jn_worker.proofs.Common.{◌≡◌, ◌<◌, ◌+◌, ℕ, Bool, true, false, List, [], ◌∷◌, ◌++◌, Option, Some, None, length, refl, sym, ◌∙◌, ap, subst, arith, true≢false, Ok, nat_lt, is_some, if◌then◌else◌, append-nil, nat_tests, ClientNo, Tid, Tickets, WorkId, Client, work_eq, work_tells, Files, work_before, work_before-irreflexive, Collected, Work, sends, Prepared, WorkerTable, work_at, work_of, name_from, new_work, open_row, is_after, at-more, none-front, is_in, IsPrepared, StorageView, state, WorkerView, Fits, TicketsFit, WorkFits, WorkListFits, NameFits, Takes}
 use Rattle.jn_msgs.specs.declared.message.Message.TheVariants as messages
 use Rattle.jn_worker.proofs.Exits.{without_change}
 

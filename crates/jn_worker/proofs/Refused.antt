@@ -1,6 +1,5 @@
 -- A vote for a work that isn't active.
-use Rattle.jn_worker.proofs.Common.{◌≡◌, true, false, List, [], ◌∷◌, ◌++◌, Option, Some, None, refl, sym, ◌∙◌, ap, subst, Ok, append-nil, ClientNo, Tid, Tickets, WorkId, Server, work_eq, Collected, Ignored, Vote, Work, Phase, Active, Broken, Stored, ignored, Prepared, is_going, WorkerTable, WorkStorage, work_at, prepare_row, prepare_phase, voted, found-name, is_in, StorageView, state, WorkerView, Fits, WorkFits, PhaseFits, seen, is_active, is_active_phase, Takes, vote_inactive}
-use Rattle.std.specs.Prelude.{if◌then◌else◌}
+use Rattle.jn_worker.proofs.Common.{◌≡◌, true, false, List, [], ◌∷◌, ◌++◌, Option, Some, None, refl, sym, ◌∙◌, ap, subst, Ok, if◌then◌else◌, append-nil, ClientNo, Tid, Tickets, WorkId, Server, work_eq, Collected, Ignored, Vote, Work, Phase, Active, Broken, Stored, ignored, Prepared, is_going, WorkerTable, WorkStorage, work_at, prepare_row, prepare_phase, voted, found-name, is_in, StorageView, state, WorkerView, Fits, WorkFits, PhaseFits, seen, is_active, is_active_phase, Takes, vote_inactive}
 use Rattle.jn_msgs.specs.declared.message.Message.TheVariants as messages
 use Rattle.jn_msgs.specs.declared.message.Vote.TheVariants as votes
 use Rattle.jn_worker.proofs.Exits.{without_change}

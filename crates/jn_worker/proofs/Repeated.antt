@@ -1,6 +1,5 @@
 -- An operation of an active work that isn't its next one.
-use Rattle.jn_worker.proofs.Common.{◌≡◌, ◌+◌, ℕ, Bool, true, false, [], ◌∷◌, ◌++◌, Option, Some, None, refl, sym, ◌∙◌, ap, subst, Ok, nat_eq, append-nil, ClientNo, Client, Tid, Tickets, WorkId, Answer, Op, Collected, Ignored, answer_to, change, list_change, ActiveWork, ignored, work_at, op_row, op_phase, performed, repeated, replies, IsActive, StorageView, state, WorkerView, Fits, is_active, Takes}
-use Rattle.std.specs.Prelude.{if◌then◌else◌}
+use Rattle.jn_worker.proofs.Common.{◌≡◌, ◌+◌, ℕ, Bool, true, false, [], ◌∷◌, ◌++◌, Option, Some, None, refl, sym, ◌∙◌, ap, subst, Ok, nat_eq, if◌then◌else◌, append-nil, ClientNo, Client, Tid, Tickets, WorkId, Answer, Op, Collected, Ignored, answer_to, change, list_change, ActiveWork, ignored, work_at, op_row, op_phase, performed, repeated, replies, IsActive, StorageView, state, WorkerView, Fits, is_active, Takes}
 use Rattle.jn_msgs.specs.declared.message.Message.TheVariants as messages
 use Rattle.jn_worker.proofs.Exits.{without_change}
 use Rattle.jn_worker.proofs.Voted.{found_active}

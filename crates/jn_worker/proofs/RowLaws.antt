@@ -1,7 +1,5 @@
 -- What a worker's rows never do.
-use Rattle.jn_worker.proofs.Common.{◌≡◌, ◌+◌, ℕ, Bool, true, false, not, List, [], ◌∷◌, ◌++◌, length, Option, Some, None, if◌then◌else◌, refl, sym, ◌∙◌, ap, subst, arith, true≢false, inl, inr, ◌&&◌, nat_eq, nat_lt, nat_tests, ClientNo, Client, Tickets, Tid, WorkId, Answer, AnyOp, work_eq, Files, answer_to, change, list_change, Vote, ActiveWork, Phase, Active, Broken, Stored, Work, ignored, quiet, sends, MarkGoing, RemoveWork, is_going, WorkerTable, WorkStorage, Wanted, wants_of, is_fit, counted, done, commit_wants, conflict, vote_of, shortage, need_in, work_at, work_of, with_phase, without, after_grant, broken_by, collision, gives_way, name_from, new_work, open_row, op_row, op_phase, performed, repeated, granted_row, refusal_of, prepare_row, prepare_phase, prepared_row, voted, commit_row, commit_phase, drop_row, drop_phase, worker_row, timed_out, vulnerable, are_rising, work_is, found-name, at-less, at-phase, in_phase, at-grant, once_granted, is_stored}
-use Rattle.std.specs.Prelude.{◌⊎◌}
-use Rattle.jn_msgs.specs.declared.message.Message.{Message}
+use Rattle.jn_worker.proofs.Common.{◌≡◌, ◌+◌, ℕ, Bool, true, false, not, List, [], ◌∷◌, ◌++◌, length, Option, Some, None, if◌then◌else◌, refl, sym, ◌∙◌, ap, subst, arith, true≢false, inl, inr, ◌⊎◌, ◌&&◌, nat_eq, nat_lt, nat_tests, ClientNo, Client, Tickets, Tid, WorkId, Answer, AnyOp, work_eq, Files, answer_to, change, list_change, Vote, ActiveWork, Phase, Active, Broken, Stored, Work, ignored, quiet, sends, MarkGoing, RemoveWork, is_going, WorkerTable, WorkStorage, Wanted, wants_of, is_fit, counted, done, commit_wants, conflict, vote_of, shortage, need_in, work_at, work_of, with_phase, without, after_grant, broken_by, collision, gives_way, name_from, new_work, open_row, op_row, op_phase, performed, repeated, granted_row, refusal_of, prepare_row, prepare_phase, prepared_row, voted, commit_row, commit_phase, drop_row, drop_phase, worker_row, timed_out, vulnerable, are_rising, work_is, found-name, at-less, at-phase, in_phase, at-grant, once_granted, is_stored, Message}
 use Rattle.jn_msgs.specs.declared.message.Message.TheVariants as messages
 use Rattle.jn_msgs.specs.declared.message.Vote.TheVariants as votes
 use Rattle.jn_worker.proofs.Does.{nat_same}

@@ -1,6 +1,5 @@
 -- An active work is prepared.
-use Rattle.jn_worker.proofs.Common.{◌≡◌, Bool, true, false, List, Option, Some, None, refl, sym, ◌∙◌, ap, subst, arith, ClientNo, Tid, WorkId, LockUnit, Intention, WorkHead, Table, IsCompatible, Work, ActiveWork, Active, Ok, is_some, Tickets, work_eq, work_tells, Prepared, AddReady, made_by, at_work, ready_work, is_going, WorkerTable, work_at, with_phase, commit_wants, conflict, name_from, IsActive, stored, at-phase, in_phase, is_in, LocksMatch, Accounts, StorageView, state, MayPrepare, WorkPrepared, WorkerView, Fits, TicketsFit, WorkFits, PhaseFits, WorkListFits, ListFits, head_of}
-use Rattle.std.specs.Prelude.{if◌then◌else◌}
+use Rattle.jn_worker.proofs.Common.{◌≡◌, Bool, true, false, List, Option, Some, None, refl, sym, ◌∙◌, ap, subst, arith, ClientNo, Tid, WorkId, LockUnit, Intention, WorkHead, Table, IsCompatible, Work, ActiveWork, Active, Ok, is_some, if◌then◌else◌, Tickets, work_eq, work_tells, Prepared, AddReady, made_by, at_work, ready_work, is_going, WorkerTable, work_at, with_phase, commit_wants, conflict, name_from, IsActive, stored, at-phase, in_phase, is_in, LocksMatch, Accounts, StorageView, state, MayPrepare, WorkPrepared, WorkerView, Fits, TicketsFit, WorkFits, PhaseFits, WorkListFits, ListFits, head_of}
 use Rattle.jn_worker.proofs.Apart.{may_prepare}
 use Rattle.jn_worker.proofs.Fit.{name-later, length-phase, after-phase}
 

@@ -1,6 +1,5 @@
 -- The exits of a call that prepares an active work.
-use Rattle.jn_worker.proofs.Common.{◌≡◌, ℕ, Bool, true, false, List, [], ◌∷◌, ◌++◌, Option, Some, None, refl, sym, ◌∙◌, ap, subst, arith, Result, Ok, Err, nat_lt, append-nil, ClientNo, Server, Tid, Tickets, WorkId, Need, BrokenAt, Collected, Vote, Work, Phase, ActiveWork, Active, Broken, Stored, RowOutcome, AddReady, WorkerTable, Held, work_at, with_phase, after_grant, break_notes, commit_wants, conflict, prepare_row, prepare_phase, prepared_row, voted, vote_of, need_in, shortage, IsActive, Grants, notes_of, stored, found-name, StorageView, needed, state, WorkPrepared, reached, first_short, storage_shortage, WorkerFault, Memory, WorkerView, Fits, seen, is_active, Takes, Stores, head_of}
-use Rattle.std.specs.Prelude.{if◌then◌else◌}
+use Rattle.jn_worker.proofs.Common.{◌≡◌, ℕ, Bool, true, false, List, [], ◌∷◌, ◌++◌, Option, Some, None, refl, sym, ◌∙◌, ap, subst, arith, Result, Ok, Err, nat_lt, if◌then◌else◌, append-nil, ClientNo, Server, Tid, Tickets, WorkId, Need, BrokenAt, Collected, Vote, Work, Phase, ActiveWork, Active, Broken, Stored, RowOutcome, AddReady, WorkerTable, Held, work_at, with_phase, after_grant, break_notes, commit_wants, conflict, prepare_row, prepare_phase, prepared_row, voted, vote_of, need_in, shortage, IsActive, Grants, notes_of, stored, found-name, StorageView, needed, state, WorkPrepared, reached, first_short, storage_shortage, WorkerFault, Memory, WorkerView, Fits, seen, is_active, Takes, Stores, head_of}
 use Rattle.jn_base.specs.declared.names.Resource.TheVariants as resources
 use Rattle.jn_msgs.specs.declared.message.Message.TheVariants as messages
 use Rattle.jn_msgs.specs.declared.message.Vote.TheVariants as votes

@@ -21,9 +21,7 @@ ghost use Rattle.jn_worker.specs.Fitting.{Fits, seen, is_active};
 
 use crate::words::WorkerFault;
 use crate::worker::Worker;
-use jn_base::{
-    Answer, ClientNo, LockUnit, MOST_INTENTIONS, MOST_READS, Op, Party, Tid, WorkId,
-};
+use jn_base::{Answer, ClientNo, LockUnit, MOST_INTENTIONS, MOST_READS, Op, Party, Tid, WorkId};
 use jn_lock_rows::{Refused, grant_operation, note_breaks, operation_wants, units_with, work_at};
 use jn_locks::Mode;
 use jn_msgs::{Message, Note, Out};

@@ -1,4 +1,4 @@
-use Rattle.jn_server.proofs.Common.{subst, sym, StoreView, ◌≡◌, [], OnOk, state, server_again, added, Parts, view_with, memory_of, IsServer}
+use Rattle.jn_server.proofs.Common.{subst, sym, StoreView, OnOk, state, server_again, added, Parts, view_with, memory_of, IsServer, ◌≡◌, []}
 use Rattle.jn_server.proofs.Stepping.{sent-again}
 use Rattle.jn_server.proofs.server.Server.again.Goals as goal
 

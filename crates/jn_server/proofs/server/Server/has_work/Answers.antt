@@ -1,5 +1,4 @@
-use Rattle.jn_server.proofs.Common.{◌≡◌, subst, sym, StoreView, state, server_step, Parts, view_with, memory_of, room_of, IsServer}
-use Rattle.std.specs.Prelude.{is_some}
+use Rattle.jn_server.proofs.Common.{◌≡◌, subst, sym, is_some, StoreView, state, server_step, Parts, view_with, memory_of, room_of, IsServer}
 use Rattle.jn_server.proofs.Stepping.{work_goes, rubbish_left}
 use Rattle.jn_server.proofs.server.Server.has_work.Goals as goal
 

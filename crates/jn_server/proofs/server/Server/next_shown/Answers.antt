@@ -1,5 +1,4 @@
-use Rattle.jn_server.proofs.Common.{sym, subst, File, StoreView, to_print, number_after, NextShown, Parts, view_with}
-use Rattle.std.specs.Prelude.{is_some}
+use Rattle.jn_server.proofs.Common.{sym, subst, is_some, File, StoreView, to_print, number_after, NextShown, Parts, view_with}
 use Rattle.jn_server.proofs.Shows.{next-shown}
 use Rattle.jn_server.proofs.server.Server.next_shown.Goals as goal
 

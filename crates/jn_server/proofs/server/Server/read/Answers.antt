@@ -1,5 +1,4 @@
-use Rattle.jn_server.proofs.Common.{◌≡◌, subst, Block, StoreView, view_of, state, Parts, view_with}
-use Rattle.std.specs.Prelude.{None}
+use Rattle.jn_server.proofs.Common.{◌≡◌, subst, None, Block, StoreView, view_of, state, Parts, view_with}
 use Rattle.jn_server.proofs.server.Server.read.Goals as goal
 
 pub returns-clause-unasked : goal.returns-clause-unasked

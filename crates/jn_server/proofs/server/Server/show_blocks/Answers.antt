@@ -1,5 +1,4 @@
-use Rattle.jn_server.proofs.Common.{◌≡◌, subst, arith, StoreView, is_of_first, to_print, prints_of_blocks, TellsPiece, ServerView, view_with}
-use Rattle.std.specs.Prelude.{ℕ}
+use Rattle.jn_server.proofs.Common.{◌≡◌, subst, arith, StoreView, is_of_first, to_print, prints_of_blocks, TellsPiece, ServerView, view_with, ℕ}
 use Rattle.jn_server.proofs.Pieces.{tells-no-blocks, tells-more-blocks, cut-blocks, handed-on, no-show}
 use Rattle.jn_server.proofs.server.Server.show_blocks.Goals as goal
 

@@ -1,5 +1,4 @@
-use Rattle.jn_server.proofs.Common.{subst, sym, StoreView, view_of, state, server_step, Steps, Parts, view_with, memory_of, room_of, IsServer}
-use Rattle.std.proofs.Common.{Ok}
+use Rattle.jn_server.proofs.Common.{Ok, subst, sym, StoreView, view_of, state, server_step, Steps, Parts, view_with, memory_of, room_of, IsServer}
 use Rattle.jn_server.proofs.Stepping.{stepped, step-failed}
 use Rattle.jn_server.proofs.server.Server.step.Goals as goal
 

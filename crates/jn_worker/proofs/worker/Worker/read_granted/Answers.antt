@@ -1,5 +1,4 @@
-use Rattle.jn_worker.proofs.Common.{subst, sym, ActiveWork, Viewed, table, LocksMatch, tallied}
-use Rattle.std.proofs.Common.{Ok}
+use Rattle.jn_worker.proofs.Common.{subst, sym, Ok, ActiveWork, Viewed, table, LocksMatch, tallied}
 use Rattle.jn_worker.proofs.Fetched.{viewed_lost}
 use Rattle.jn_worker.proofs.Settled.{one_active}
 use Rattle.jn_worker.proofs.Performed.{match_rephased, tallied_keeps}

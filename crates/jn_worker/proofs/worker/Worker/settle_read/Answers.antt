@@ -1,5 +1,4 @@
-use Rattle.jn_worker.proofs.Common.{subst, sym, ap, ◌∙◌, length, not, Answer, has_stopped, OnlyReads, asks_now}
-use Rattle.std.proofs.Common.{Ok, Err}
+use Rattle.jn_worker.proofs.Common.{subst, sym, ap, ◌∙◌, length, not, Ok, Err, Answer, has_stopped, OnlyReads, asks_now}
 use Rattle.jn_worker.proofs.Fetched.{granted_active, refused_settles, granted_settles, granted_reads, unseen-stops, taken_back}
 use Rattle.jn_worker.proofs.Voted.{found_active}
 use Rattle.jn_worker.proofs.worker.Worker.settle_read.Goals as goal
