@@ -21,8 +21,8 @@ use Rattle.jn_recovery.specs.declared.counts.PageCounts.{PageCounts}
 use Rattle.jn_recovery.specs.declared.load.Found.{Found}
 use Rattle.jn_recovery.specs.Loading.{counts_by}
 use Rattle.jn_records.specs.StablePages.{page_count}
-use Rattle.jn_restarts.specs.Restarts.{MayBegin, IsOf}
-use Rattle.jn_restarts.proofs.Starts.{later_of, loaded_started, may_begin}
+use Rattle.jn_server_tests.specs.Restarts.{MayBegin, IsOf}
+use Rattle.jn_server_tests.proofs.Starts.{later_of, loaded_started, may_begin}
 use Rattle.jn_server.specs.declared.fault.ServerFault.{ServerFault}
 use Rattle.jn_server.specs.declared.fault.ServerFault.TheVariants.{Stopped, Memory as NoMemory}
 use Rattle.jn_server.specs.declared.show.Shown.{Shown}

@@ -6,5 +6,6 @@ mod moves;
 mod plays;
 mod rows;
 mod script;
+mod store;
 mod words;
 mod works;

@@ -1,18 +1,18 @@
 //! A server as the tests drive it.
 ghost use Rattle.std.specs.Prelude.{IfOk, IfErr};
 ghost use Rattle.jn_coord.specs.Handling.{FewWorks};
-ghost use Rattle.jn_restarts.specs.Restarts.{MayBegin, IsOf};
+ghost use Rattle.jn_server_tests.specs.Restarts.{MayBegin, IsOf};
 ghost use Rattle.jn_server.specs.Seen.{view_with};
 ghost use Rattle.jn_server_tests.specs.Trial.{IsOn, LeavesServer};
 ghost use Rattle.jn_worker.specs.Handling.{InRange};
 
 use super::moves::{Move, SERVER, message_of};
 use super::script::scene_of;
+use super::store::new_array;
 use super::words::Words;
 use jn_base::{Stopped, Tid};
 use jn_intent::{DownCause, PageCounts};
 use jn_msgs::{Message, Out};
-use jn_restarts::new_array;
 use jn_server::{Server, ServerFault, restart};
 use jn_store::{ArrayStore, StableStore};
 use std::alloc::Global;
@@ -41,7 +41,7 @@ pub(crate) fn new_store(alloc: Global, counts: PageCounts) -> Result<Left<ArrayS
     ensures { IfOk result (λ left. MayBegin SERVER left.counts (⟦<ArrayStore as StableStore>⟧.view left.store)) }
 {
     Ok(Left {
-        store: new_array(alloc, SERVER, counts, 0)?,
+        store: new_array(alloc, SERVER, counts)?,
         counts,
     })
 }

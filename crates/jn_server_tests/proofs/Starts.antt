@@ -8,7 +8,7 @@ use Rattle.jn_recovery.specs.Loading.{counts_by, IsLoaded}
 use Rattle.jn_records.specs.StablePages.{Counts}
 use Rattle.jn_storage.specs.Storage.{StorageView, StorageLater}
 use Rattle.jn_store.specs.Store.{StoreView}
-use Rattle.jn_restarts.specs.Restarts.{MayBegin, IsOf, IsStarted}
+use Rattle.jn_server_tests.specs.Restarts.{MayBegin, IsOf, IsStarted}
 
 pub loaded_started : (server : ServerNo) (n : PageCounts) (v : StoreView) (told : Found) (w : StorageView) → IsLoaded server (counts_by n) v told w → IsStarted server n told.epoch w
 loaded_started server n v told w l = record {
