@@ -2,10 +2,7 @@
 
 mod bench;
 mod coordinator;
-mod moves;
 mod plays;
 mod rows;
-mod script;
 mod store;
-mod words;
 mod works;

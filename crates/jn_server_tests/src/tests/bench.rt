@@ -6,14 +6,12 @@ ghost use Rattle.jn_server.specs.Seen.{view_with};
 ghost use Rattle.jn_server_tests.specs.Trial.{IsOn, LeavesServer};
 ghost use Rattle.jn_worker.specs.Handling.{InRange};
 
-use super::moves::{Move, SERVER, message_of};
-use super::script::scene_of;
 use super::store::new_array;
-use super::words::Words;
 use jn_base::{Stopped, Tid};
 use jn_intent::{DownCause, PageCounts};
 use jn_msgs::{Message, Out};
 use jn_server::{Server, ServerFault, restart};
+use jn_server_scripts::{Move, SERVER, Words, message_of, scene_of};
 use jn_store::{ArrayStore, StableStore};
 use std::alloc::Global;
 use std::process::Abort;

@@ -1,6 +1,6 @@
 //! Scripts: a line has what a server is made to do, and what it says of it, behind a bar.
 
-use super::moves::{Move, Named, Task};
+use crate::moves::{Move, Named, Task};
 use jn_base::{FileNo, LockUnit, Resource, ServerNo, Tid, WorkId};
 use jn_msgs::Vote;
 
@@ -159,12 +159,12 @@ impl<'a> Reader<'a> {
 
 /// What a line has: the move, and what the server says of it.
 #[derive(Clone, Copy)]
-pub(crate) struct Scene<'a> {
-    pub(crate) step: Move,
-    pub(crate) words: &'a str,
+pub struct Scene<'a> {
+    pub step: Move,
+    pub words: &'a str,
 }
 
-pub(crate) fn scene_of(line: &str) -> Option<Scene<'_>> {
+pub fn scene_of(line: &str) -> Option<Scene<'_>> {
     let (first, words) = line.split_once('|')?;
     let step = Reader { rest: first.trim() }.step()?;
     Some(Scene {

@@ -9,13 +9,13 @@ use std::alloc::{AllocError, Global};
 
 /// A list of words.
 #[derive(Drop)]
-pub(crate) struct Words {
-    pub(crate) alloc: Global,
-    pub(crate) text: String,
+pub struct Words {
+    pub alloc: Global,
+    pub text: String,
 }
 
 impl Words {
-    pub(crate) fn new(alloc: Global) -> Words {
+    pub fn new(alloc: Global) -> Words {
         Words {
             alloc,
             text: String::new(alloc),
@@ -23,7 +23,7 @@ impl Words {
     }
 
     /// Adds a word, behind a space where it isn't the first of its part.
-    pub(crate) fn word(&mut self, word: &str) -> Result<(), AllocError> {
+    pub fn word(&mut self, word: &str) -> Result<(), AllocError> {
         if !self.text.is_empty() {
             self.text.push(' ')?;
         }
@@ -281,7 +281,7 @@ impl Words {
     }
 
     /// Each message behind the one that it goes to, and then the notes.
-    pub(crate) fn out(&mut self, out: &Out) -> Result<(), AllocError> {
+    pub fn out(&mut self, out: &Out) -> Result<(), AllocError> {
         for (to, message) in out.messages() {
             self.word(">")?;
             self.party(*to)?;
@@ -311,7 +311,7 @@ impl Words {
         }
     }
 
-    pub(crate) fn shown(&mut self, list: &[Shown]) -> Result<(), AllocError> {
+    pub fn shown(&mut self, list: &[Shown]) -> Result<(), AllocError> {
         for shown in list {
             self.one_shown(shown)?;
         }

@@ -8,11 +8,11 @@ use jn_base::{BlockContent, BlockNo, ClientNo, FileNo, Op, ServerNo, Tid, WorkId
 use jn_msgs::{Message, Vote, Works};
 use std::alloc::{AllocError, Global};
 
-pub(crate) const SERVER: ServerNo = ServerNo(0);
+pub const SERVER: ServerNo = ServerNo(0);
 
 /// An operation of a file and one of its 120 blocks; a write is of nines.
 #[derive(Clone, Copy)]
-pub(crate) enum Task {
+pub enum Task {
     Create(u32),
     Remove(u32),
     Cut(u32, u8),
@@ -22,7 +22,7 @@ pub(crate) enum Task {
 
 /// The works that an End or an Abort names.
 #[derive(Clone, Copy)]
-pub(crate) enum Named {
+pub enum Named {
     Nothing,
     One(WorkId),
     Two(WorkId, WorkId),
@@ -30,7 +30,7 @@ pub(crate) enum Named {
 
 /// What a server does. A client's number comes first; its request is number 9, but that of a Begin.
 #[derive(Clone, Copy)]
-pub(crate) enum Move {
+pub enum Move {
     Begin(u8, u32),
     Open(u8, Tid),
     /// The work's operation of this number.
@@ -91,7 +91,7 @@ fn works_of(alloc: Global, named: Named) -> Result<Works, AllocError>
 }
 
 /// The message that makes the server do this, where it is one.
-pub(crate) fn message_of(alloc: Global, step: Move) -> Result<Option<Message>, AllocError>
+pub fn message_of(alloc: Global, step: Move) -> Result<Option<Message>, AllocError>
     ensures range { IfOk result (λ message. IfSome message InRange) }
     ensures few { IfOk result (λ message. IfSome message FewWorks) }
 {
