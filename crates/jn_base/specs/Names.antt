@@ -1,4 +1,4 @@
--- Whether two names are the same, and the numbers of refusals.
+-- Whether two names are the same, the request and the operation of a number, and the numbers of refusals.
 use Rattle.std.specs.Prelude.{ℕ, Bool, nat_eq, ◌&&◌}
 use Rattle.jn_base.specs.declared.names.ServerNo.{ServerNo}
 use Rattle.jn_base.specs.declared.names.ClientNo.{ClientNo}
@@ -6,6 +6,8 @@ use Rattle.jn_base.specs.declared.names.FileNo.{FileNo}
 use Rattle.jn_base.specs.declared.names.BlockNo.{BlockNo}
 use Rattle.jn_base.specs.declared.names.Tid.{Tid}
 use Rattle.jn_base.specs.declared.names.WorkId.{WorkId}
+use Rattle.jn_base.specs.declared.names.OperationNo.{OperationNo}
+use Rattle.jn_base.specs.declared.names.RequestNo.{RequestNo}
 use Rattle.jn_base.specs.declared.names.Resource.{Resource}
 use Rattle.jn_base.specs.declared.names.Resource.TheVariants.{Records, Pages, Heads}
 
@@ -21,11 +23,20 @@ file_eq a b = nat_eq a.0 b.0
 abbrev pub block_eq : BlockNo → BlockNo → Bool
 block_eq a b = nat_eq a.0 b.0
 
+abbrev pub request_eq : RequestNo → RequestNo → Bool
+request_eq a b = nat_eq a.0 b.0
+
 abbrev pub tid_eq : Tid → Tid → Bool
 tid_eq a b = server_eq a.server b.server && (nat_eq a.epoch b.epoch && nat_eq a.ticket b.ticket)
 
 abbrev pub work_eq : WorkId → WorkId → Bool
 work_eq a b = server_eq a.server b.server && (nat_eq a.epoch b.epoch && nat_eq a.ticket b.ticket)
+
+abbrev pub request_of : ℕ → RequestNo
+request_of n = record { 0 = n }
+
+abbrev pub operation_of : ℕ → OperationNo
+operation_of n = record { 0 = n }
 
 -- the refusal for want of something
 abbrev pub refusal_number : Resource → ℕ

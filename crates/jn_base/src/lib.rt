@@ -13,7 +13,7 @@ pub use device::{FaultKind, Outside, Page, Stopped};
 pub use fields::{PageWriter, numbers_are_read_back, take_bytes, take_u8, take_u16, take_u32};
 pub use limits::{MOST_INTENTIONS, MOST_READS, MOST_TRANSACTIONS, MOST_WORKS};
 pub use names::{
-    BlockNo, Cause, ClientNo, FileNo, LockUnit, MsgKind, Party, Resource, ServerNo, Short, Tickets,
-    Tid, WorkId,
+    BlockNo, Cause, ClientNo, FileNo, LockUnit, MsgKind, OperationNo, Party, RequestNo, Resource,
+    ServerNo, Short, Tickets, Tid, WorkId,
 };
 pub use op::{Answer, Command, Op};

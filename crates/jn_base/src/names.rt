@@ -34,6 +34,14 @@ pub struct WorkId {
     pub ticket: u32,
 }
 
+/// A request of a client, counted from 1 in the order in which it makes them.
+#[derive(Clone, Copy, Debug, PartialEq, Eq)]
+pub struct RequestNo(pub u32);
+
+/// An operation on a work, counted from 1 in the order in which its client asks for them.
+#[derive(Clone, Copy, Debug, PartialEq, Eq)]
+pub struct OperationNo(pub u32);
+
 /// What a lock is held on: a file itself, or one block of it.
 #[derive(Clone, Copy, Debug, PartialEq, Eq)]
 pub enum LockUnit {

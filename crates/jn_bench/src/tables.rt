@@ -1,6 +1,6 @@
 //! Many calls of a lock table and of a network, counted.
 
-use jn_base::{BlockNo, ClientNo, FileNo, LockUnit, Party, ServerNo, WorkId};
+use jn_base::{BlockNo, ClientNo, FileNo, LockUnit, Party, RequestNo, ServerNo, WorkId};
 use jn_locks::{LockTable, Mode, Want};
 use jn_msgs::Message;
 use jn_net::Net;
@@ -72,7 +72,11 @@ pub(crate) fn carried(alloc: Global, messages: u32) -> u64 {
     let server = Party::Server(ServerNo(0));
     for request in 0..messages {
         if net
-            .send(client, server, Message::Begin(ClientNo(1), request))
+            .send(
+                client,
+                server,
+                Message::Begin(ClientNo(1), RequestNo(request)),
+            )
             .is_err()
         {
             break;

@@ -119,7 +119,7 @@ module _ (w v : World) (k : IsAsIn w v) where
   past-seen c T p = record {
     request = p.request;
     began = sent-out _ p.began;
-    drawn = subst (λ (t : ClientTable). p.request < t.next) (sym (same-client c)) p.drawn;
+    drawn = subst (λ (t : ClientTable). p.request.0 < t.next) (sym (same-client c)) p.drawn;
     answered = λ o e. p.answered o (ap (λ (t : ClientTable). t.outstanding) (sym (same-client c)) ∙ e);
     over = λ e. p.over (ap (λ (t : ClientTable). t.transaction) (sym (same-client c)) ∙ e);
   }

@@ -1,10 +1,11 @@
 -- What the calls of a client give.
 use Rattle.std.specs.Prelude.{◌≡◌, ℕ, Bool, true, nat_eq, nat_lt, ◌+◌, ◌&&◌, if◌then◌else◌, List, [], ◌∷◌, Option, Some, None, Result, Ok, Err}
+use Rattle.jn_base.specs.declared.names.RequestNo.{RequestNo}
 use Rattle.jn_base.specs.declared.names.ClientNo.{ClientNo}
 use Rattle.jn_base.specs.declared.names.Party.{Party}
 use Rattle.jn_base.specs.declared.op.Command.{Command}
 use Rattle.jn_base.specs.declared.op.Command.TheVariants.{Do}
-use Rattle.jn_base.specs.Names.{client_eq}
+use Rattle.jn_base.specs.Names.{client_eq, request_eq, request_of}
 use Rattle.jn_base.specs.declared.names.Cause.{Cause}
 use Rattle.jn_msgs.specs.declared.message.Message.{Message}
 use Rattle.jn_msgs.specs.declared.message.Outcome.{Outcome}
@@ -31,13 +32,13 @@ abbrev pub sent_table : ClientTable → ℕ → Command → Party → Message �
 sent_table t j command to m = record t {
   works = works_after command t.works;
   next = t.next + 1;
-  outstanding = Some (record { event = j; request = t.next; command = command; to = to; message = m });
+  outstanding = Some (record { event = j; request = request_of t.next; command = command; to = to; message = m });
 }
 
 -- the event and the command of the outstanding request, where a client's message replies to it
-abbrev pub replied_to : ClientNo → Option Outstanding → ClientNo → ℕ → Option (ℕ × Command)
+abbrev pub replied_to : ClientNo → Option Outstanding → ClientNo → RequestNo → Option (ℕ × Command)
 replied_to me None client request = None
-replied_to me (Some o) client request = if client_eq client me && nat_eq o.request request then Some (o.event, o.command) else None
+replied_to me (Some o) client request = if client_eq client me && request_eq o.request request then Some (o.event, o.command) else None
 
 -- the event of the outstanding command, where it passes the test
 abbrev pub event_where : (Command → Bool) → Option Outstanding → Option ℕ

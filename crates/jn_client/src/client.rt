@@ -16,7 +16,9 @@ use crate::effect::{
     Effect, aborted, begun, committed, did, forgotten, opened, read, refused, thanks, waiting,
 };
 use crate::words::CommandFault;
-use jn_base::{Answer, Cause, ClientNo, Command, Op, Party, ServerNo, Tid, WorkId};
+use jn_base::{
+    Answer, Cause, ClientNo, Command, Op, OperationNo, Party, RequestNo, ServerNo, Tid, WorkId,
+};
 use jn_msgs::{Message, Outcome};
 use jn_report::Refusal;
 use jn_rows::{OpenWork, Outstanding, Taken};
@@ -243,7 +245,7 @@ impl Client {
             return Err(CommandFault::Refused(Refusal::HasTransaction));
         }
         let to = Party::Server(server);
-        let (client, request) = (self.client, self.last + 1);
+        let (client, request) = (self.client, RequestNo(self.last + 1));
         self.wait(
             j,
             Command::Begin(server),
@@ -270,7 +272,7 @@ impl Client {
             return Err(CommandFault::Refused(Refusal::AlreadyOpen));
         }
         let to = Party::Server(server);
-        let (client, request) = (self.client, self.last + 1);
+        let (client, request) = (self.client, RequestNo(self.last + 1));
         self.wait(
             j,
             Command::Open(server),
@@ -302,7 +304,8 @@ impl Client {
             return Err(CommandFault::Refused(Refusal::NotOpen));
         };
         let to = Party::Server(server);
-        let (client, request, number) = (self.client, self.last + 1, at.last + 1);
+        let (client, request) = (self.client, RequestNo(self.last + 1));
+        let number = OperationNo(at.last + 1);
         let asked = Command::Do(server, op.copy()?);
         let kept = Message::Op(client, request, at.work, number, op.copy()?);
         let sent = Message::Op(client, request, at.work, number, op.copy()?);
@@ -321,7 +324,7 @@ impl Client {
             return Err(CommandFault::Refused(Refusal::NoTransaction));
         };
         let to = Party::Server(tid.server);
-        let (client, request) = (self.client, self.last + 1);
+        let (client, request) = (self.client, RequestNo(self.last + 1));
         let works = names_of(self.alloc, &self.works)?;
         let kept = Message::End(client, request, tid, copy_of_works(self.alloc, &works)?);
         self.wait(j, Command::End, to, kept)?;
@@ -336,7 +339,7 @@ impl Client {
             return Err(CommandFault::Refused(Refusal::NoTransaction));
         };
         let to = Party::Server(tid.server);
-        let (client, request) = (self.client, self.last + 1);
+        let (client, request) = (self.client, RequestNo(self.last + 1));
         let works = names_of(self.alloc, &self.works)?;
         let kept = Message::Abort(client, request, tid, copy_of_works(self.alloc, &works)?);
         self.wait(j, Command::Abort, to, kept)?;
@@ -362,7 +365,7 @@ impl Client {
         count(&mut self.works, &command, request);
         self.outstanding = Some(Outstanding {
             event,
-            request,
+            request: RequestNo(request),
             command,
             to,
             message,
@@ -400,7 +403,12 @@ impl Client {
         }
     }
 
-    fn begun(&mut self, client: ClientNo, request: u32, answer: Option<Tid>) -> Effect<'static>
+    fn begun(
+        &mut self,
+        client: ClientNo,
+        request: RequestNo,
+        answer: Option<Tid>,
+    ) -> Effect<'static>
         ensures { (self.new, taken_of self.old.client result) ≡ rows.take_row self.old (messages.Begun client request answer) }
     {
         let Some((j, Command::Begin(_))) = self.replied_to(client, request) else {
@@ -419,7 +427,7 @@ impl Client {
     fn opened(
         &mut self,
         client: ClientNo,
-        request: u32,
+        request: RequestNo,
         tid: Tid,
         answer: Option<WorkId>,
     ) -> Effect<'static>
@@ -444,7 +452,12 @@ impl Client {
         Effect::Opened(j, work.server)
     }
 
-    fn answered<'a>(&mut self, client: ClientNo, request: u32, answer: &'a Answer) -> Effect<'a>
+    fn answered<'a>(
+        &mut self,
+        client: ClientNo,
+        request: RequestNo,
+        answer: &'a Answer,
+    ) -> Effect<'a>
         ensures { (self.new, taken_of self.old.client result) ≡ rows.take_row self.old (messages.Answer client request answer.now) }
     {
         let Some((j, Command::Do(_, _))) = self.replied_to(client, request) else {
@@ -528,7 +541,7 @@ impl Client {
     }
 
     /// The event and the command of the outstanding request, where the client's request is it.
-    fn replied_to(&self, client: ClientNo, request: u32) -> Option<(u32, &Command)>
+    fn replied_to(&self, client: ClientNo, request: RequestNo) -> Option<(u32, &Command)>
         ensures reply { option_map (λ r. (r.0, r.1.now)) result ≡ replied_to self.now.client self.now.outstanding client request }
         ensures waits { IfSome result (λ _. is_some self.now.outstanding ≡ true) }
     {

@@ -1,5 +1,5 @@
 -- A commit is told once its flag is put, row by row.
-use Rattle.jn_coord.proofs.Common.{◌≡◌, ◌⊎◌, inl, inr, ⊎_elim, ℕ, Bool, true, false, not, nat_eq, nat_lt, ◌&&◌, ◌||◌, if◌then◌else◌, List, [], ◌∷◌, ◌++◌, length, Option, Some, None, refl, sym, ◌∙◌, ap, subst, true≢false, is_some, list_any, ClientNo, Tid, WorkId, Cause, Tickets, tid_eq, tid_tells, Message, Vote, Transaction, Stage, Open, Voting, Committed, Aborted, Commitment, Ballot, Change, RowOutcome, Sent, ignored, CoordinatorTable, transaction_at, is_work, with_work, all_in, drops, commits, prepares, committed_to, aborted_to, abort_row, commit_row, not_known, after_closing, changes_of_closing, seen_now, begun_by, begin_new, begin_again, begin_row, end_promised, end_stage, end_row, abort_stage, abort_request, forget_row, thanks_stage, thanks_row, told_stage, inquire_row, counted_vote, vote_stage, vote_row, done_stage, done_row, coordinator_row, committed_at}
+use Rattle.jn_coord.proofs.Common.{◌≡◌, ◌⊎◌, inl, inr, ⊎_elim, ℕ, Bool, true, false, not, nat_eq, nat_lt, ◌&&◌, ◌||◌, if◌then◌else◌, List, [], ◌∷◌, ◌++◌, length, Option, Some, None, refl, sym, ◌∙◌, ap, subst, true≢false, is_some, list_any, ClientNo, Tid, WorkId, Cause, Tickets, tid_eq, tid_tells, Message, Vote, Transaction, Stage, Open, Voting, Committed, Aborted, Commitment, Ballot, Change, RowOutcome, Sent, ignored, CoordinatorTable, transaction_at, is_work, with_work, all_in, drops, commits, prepares, committed_to, aborted_to, abort_row, commit_row, not_known, after_closing, changes_of_closing, seen_now, begun_by, begin_new, begin_again, begin_row, end_promised, end_stage, end_row, abort_stage, abort_request, forget_row, thanks_stage, thanks_row, told_stage, inquire_row, counted_vote, vote_stage, vote_row, done_stage, done_row, coordinator_row, committed_at, RequestNo}
 use Rattle.jn_msgs.specs.declared.message.Message.TheVariants as messages
 use Rattle.jn_msgs.specs.declared.message.Vote.TheVariants as votes
 use Rattle.jn_coord.specs.AfterFlag.{is_commit_of, tells_commit, FollowsFlag}
@@ -44,7 +44,7 @@ stood t row U at none = record { is = λ T h. ⊎_elim (λ e. inr (subst (λ V. 
 abort-follows : (t : CoordinatorTable) (k : Tickets) (x : Transaction) (cause : Cause) (Ws : List WorkId) → Follows t (abort_row t k x cause Ws)
 abort-follows t k x cause Ws = silent t _ (λ T. rw (drops-no T x.tid Ws (aborted_to x cause ∷ [])) refl)
 
-commit-follows : (t : CoordinatorTable) (k : Tickets) (x : Transaction) (q : ℕ) (Ws : List WorkId) → Follows t (commit_row t k x q Ws)
+commit-follows : (t : CoordinatorTable) (k : Tickets) (x : Transaction) (q : RequestNo) (Ws : List WorkId) → Follows t (commit_row t k x q Ws)
 commit-follows t k x q Ws = record { is = λ T h. by T h (tid_eq x.tid T) refl }
   where
     by : (T : Tid) → tells_commit T (commit_row t k x q Ws) ≡ true → (b : Bool) → tid_eq x.tid T ≡ b → ((tid_eq x.tid T || false) ≡ true) ⊎ (is_some (committed_at T t.transactions) ≡ true)
@@ -54,11 +54,11 @@ commit-follows t k x q Ws = record { is = λ T h. by T h (tid_eq x.tid T) refl }
 not-known-follows : (t : CoordinatorTable) (k : Tickets) (c : ClientNo) (T : Tid) (Ws : List WorkId) → Follows t (not_known t k c T Ws)
 not-known-follows t k c U Ws = silent t _ (λ T. rw (only-drops T U Ws) refl)
 
-end-promised-follows : (t : CoordinatorTable) (k : Tickets) (x : Transaction) (q : ℕ) (Ws : List WorkId) → Follows t (end_promised t k x q Ws)
+end-promised-follows : (t : CoordinatorTable) (k : Tickets) (x : Transaction) (q : RequestNo) (Ws : List WorkId) → Follows t (end_promised t k x q Ws)
 end-promised-follows t k x q [] = commit-follows t k x q []
 end-promised-follows t k x q (W ∷ Ws) = silent t _ (λ T. rw (only-prepares T x.tid x.client Ws) refl)
 
-end-follows : (t : CoordinatorTable) (free : ℕ) (k : Tickets) (x : Transaction) (q : ℕ) (Ws : List WorkId) (s : Stage) → ((d : Commitment) → s ≡ Committed d → is_some (committed_at x.tid t.transactions) ≡ true) → Follows t (end_stage t free k x q Ws s)
+end-follows : (t : CoordinatorTable) (free : ℕ) (k : Tickets) (x : Transaction) (q : RequestNo) (Ws : List WorkId) (s : Stage) → ((d : Commitment) → s ≡ Committed d → is_some (committed_at x.tid t.transactions) ≡ true) → Follows t (end_stage t free k x q Ws s)
 end-follows t free k x q Ws Open at = if-follows t (nat_lt free 1) _ _ (abort-follows t k x _ Ws) (end-promised-follows t k x q Ws)
 end-follows t free k x q Ws (Voting b) at = silent t _ (λ T. rw (only-prepares T x.tid x.client _) refl)
 end-follows t free k x q Ws (Committed d) at = stood t _ x.tid (at d refl) (λ T e. rw e refl)
@@ -104,9 +104,9 @@ done-follows t k U W (Voting b) = silent t _ (λ T. refl)
 done-follows t k U W (Committed d) = if-follows t (is_work W d.works && not (is_work W d.done)) _ _ (forget-follows t k U (record d { done = d.done ++ W ∷ [] })) (silent t (ignored t k) (λ T. refl))
 done-follows t k U W (Aborted cause) = silent t _ (λ T. refl)
 
-begin-follows : (t : CoordinatorTable) (k : Tickets) (c : ClientNo) (q : ℕ) → Follows t (begin_row t k c q)
-begin-follows t k c q = if-follows t (nat_lt (t.seen c) q) _ _ (new (record { transactions = after_closing c t.transactions; seen = seen_now t.seen c q }) (changes_of_closing c t.transactions))
-    (if-follows t (nat_eq (t.seen c) q) _ _ (again (begun_by c q t.transactions)) (silent t (ignored t k) (λ T. refl)))
+begin-follows : (t : CoordinatorTable) (k : Tickets) (c : ClientNo) (q : RequestNo) → Follows t (begin_row t k c q)
+begin-follows t k c q = if-follows t (nat_lt (t.seen c) q.0) _ _ (new (record { transactions = after_closing c t.transactions; seen = seen_now t.seen c q }) (changes_of_closing c t.transactions))
+    (if-follows t (nat_eq (t.seen c) q.0) _ _ (again (begun_by c q t.transactions)) (silent t (ignored t k) (λ T. refl)))
   where
     new : (u : CoordinatorTable) (cs : List Change) → Follows t (begin_new u cs k c q)
     new u cs = if-follows t (nat_lt (length u.transactions) 64) _ _ (silent t _ (λ T. refl)) (silent t _ (λ T. refl))

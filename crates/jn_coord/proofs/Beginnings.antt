@@ -1,5 +1,5 @@
 -- A client's new transaction.
-use Rattle.jn_coord.proofs.Common.{◌≡◌, ◌⊎◌, inl, inr, ⊎_elim, ℕ, Bool, true, false, nat_eq, nat_lt, ◌+◌, ◌≤◌, ◌<◌, ◌&&◌, if◌then◌else◌, List, [], ◌∷◌, ◌++◌, Option, Some, None, Result, Ok, Err, length, length-append, slice_set, refl, sym, true≢false, ◌∙◌, ap, subst, arith, fun_ext, is_some, is_ok, OnOk, nat_tests, length-set, ClientNo, Tid, Tickets, Client, client_eq, tid_eq, tid_tells, Collected, Transaction, Stage, Open, Voting, Committed, Aborted, Change, DropFlag, StableState, made_by, made_all, ignored, CoordinatorTable, transaction_at, is_voting, promised, all_in, closed, thanked_changes, after_closing, changes_of_closing, name_from, seen_now, begun_by, begin_again, begin_row, IsGiven, StorageView, state, name_below, Remembered, table_of, seen_by, are_above, rises, added, committed_as, committed_at, ballot_fits, ballots_fit, FitsStorage, IsDone, CoordFault, goes, ClientClosed, ClosesClient, count_left, are_before, TicketsFit, new_transaction, with_request, with_begun}
+use Rattle.jn_coord.proofs.Common.{◌≡◌, ◌⊎◌, inl, inr, ⊎_elim, ℕ, Bool, true, false, nat_eq, nat_lt, ◌+◌, ◌≤◌, ◌<◌, ◌&&◌, if◌then◌else◌, List, [], ◌∷◌, ◌++◌, Option, Some, None, Result, Ok, Err, length, length-append, slice_set, refl, sym, true≢false, ◌∙◌, ap, subst, arith, fun_ext, is_some, is_ok, OnOk, nat_tests, length-set, ClientNo, Tid, Tickets, Client, client_eq, tid_eq, tid_tells, Collected, Transaction, Stage, Open, Voting, Committed, Aborted, Change, DropFlag, StableState, made_by, made_all, ignored, CoordinatorTable, transaction_at, is_voting, promised, all_in, closed, thanked_changes, after_closing, changes_of_closing, name_from, seen_now, begun_by, begin_again, begin_row, IsGiven, StorageView, state, name_below, Remembered, table_of, seen_by, are_above, rises, added, committed_as, committed_at, ballot_fits, ballots_fit, FitsStorage, IsDone, CoordFault, goes, ClientClosed, ClosesClient, count_left, are_before, TicketsFit, new_transaction, with_request, with_begun, RequestNo}
 use Rattle.jn_msgs.specs.declared.message.Message.TheVariants as messages
 use Rattle.jn_coord.proofs.Restart.{both-of, seen-set}
 
@@ -29,19 +29,19 @@ rises-more (y ∷ ys) x h b = let s = both-of (are_above y.tid ys) (rises ys) h 
     above-more [] h b = rw b refl
     above-more (z ∷ zs) h b = let s = both-of (name_below y.tid z.tid) (are_above y.tid zs) h in rw (s.0, above-more zs s.1 b) refl
 
-committed-more : (T : Tid) (xs : List Transaction) (c : ClientNo) (q : ℕ) (U : Tid) → committed_at T (xs ++ new_transaction c q U ∷ []) ≡ committed_at T xs
+committed-more : (T : Tid) (xs : List Transaction) (c : ClientNo) (q : RequestNo) (U : Tid) → committed_at T (xs ++ new_transaction c q U ∷ []) ≡ committed_at T xs
 committed-more T [] c q U = grind arith
 committed-more T (y ∷ ys) c q U = ap (λ o. if tid_eq y.tid T then committed_as y.client y.stage else o) (committed-more T ys c q U)
 
-promised-more : (xs : List Transaction) (c : ClientNo) (q : ℕ) (U : Tid) → promised (xs ++ new_transaction c q U ∷ []) ≡ promised xs
+promised-more : (xs : List Transaction) (c : ClientNo) (q : RequestNo) (U : Tid) → promised (xs ++ new_transaction c q U ∷ []) ≡ promised xs
 promised-more [] c q U = refl
 promised-more (y ∷ ys) c q U = ap (λ n. if is_voting y.stage then n + 1 else n) (promised-more ys c q U)
 
-ballots-more : (xs : List Transaction) (c : ClientNo) (q : ℕ) (U : Tid) → ballots_fit (xs ++ new_transaction c q U ∷ []) ≡ ballots_fit xs
+ballots-more : (xs : List Transaction) (c : ClientNo) (q : RequestNo) (U : Tid) → ballots_fit (xs ++ new_transaction c q U ∷ []) ≡ ballots_fit xs
 ballots-more [] c q U = refl
 ballots-more (y ∷ ys) c q U = ap (λ b. ballot_fits y.stage && b) (ballots-more ys c q U)
 
-named-more : (T : Tid) (xs : List Transaction) (c : ClientNo) (q : ℕ) (U : Tid) → is_some (transaction_at T (xs ++ new_transaction c q U ∷ [])) ≡ true → (is_some (transaction_at T xs) ≡ true) ⊎ (tid_eq U T ≡ true)
+named-more : (T : Tid) (xs : List Transaction) (c : ClientNo) (q : RequestNo) (U : Tid) → is_some (transaction_at T (xs ++ new_transaction c q U ∷ [])) ≡ true → (is_some (transaction_at T xs) ≡ true) ⊎ (tid_eq U T ≡ true)
 named-more T [] c q U h = inr (grind (arith, h))
 named-more T (y ∷ ys) c q U h = by (tid_eq y.tid T) h (named-more T ys c q U)
   where
@@ -50,10 +50,10 @@ named-more T (y ∷ ys) c q U h = by (tid_eq y.tid T) h (named-more T ys c q U)
     by true h again = inl refl
     by false h again = again h
 
-fits-more : (r : Remembered) (v : StorageView) (c : ClientNo) (q : ℕ) (U : Tid) → FitsStorage r v → length r.transactions < 64 → are_before r.transactions U ≡ true → IsGiven v.accounts.server (state v).epoch U.server U.epoch → FitsStorage (with_begun r c q U) v
+fits-more : (r : Remembered) (v : StorageView) (c : ClientNo) (q : RequestNo) (U : Tid) → FitsStorage r v → length r.transactions < 64 → are_before r.transactions U ≡ true → IsGiven v.accounts.server (state v).epoch U.server U.epoch → FitsStorage (with_begun r c q U) v
 fits-more r v c q U fits room before given = record {
   serving = fits.serving;
-  clients = length-set r.requests c.0 q ∙ fits.clients;
+  clients = length-set r.requests c.0 q.0 ∙ fits.clients;
   few = let more = length-append r.transactions (new_transaction c q U ∷ []) in omega (arith, more, room);
   rising = rises-more r.transactions (new_transaction c q U) fits.rising before;
   flags = λ T. fits.flags T ∙ sym (committed-more T r.transactions c q U);
@@ -102,21 +102,21 @@ closing-epoch c (x ∷ xs) z = by (client_eq x.client c) (closing-epoch c xs)
     by true again = thanked-epoch x x.stage (changes_of_closing c xs) z again
     by false again = again z
 
-pub begin-still : (t : CoordinatorTable) (k : Tickets) (c : ClientNo) (q : ℕ) → nat_lt (t.seen c) q ≡ false → ((begin_row t k c q).table ≡ t) × ((begin_row t k c q).changes ≡ []) × ((begin_row t k c q).tickets ≡ k)
-begin-still t k c q h = rw h (by (nat_eq (t.seen c) q) (begun_by c q t.transactions))
+pub begin-still : (t : CoordinatorTable) (k : Tickets) (c : ClientNo) (q : RequestNo) → nat_lt (t.seen c) q.0 ≡ false → ((begin_row t k c q).table ≡ t) × ((begin_row t k c q).changes ≡ []) × ((begin_row t k c q).tickets ≡ k)
+begin-still t k c q h = rw h (by (nat_eq (t.seen c) q.0) (begun_by c q t.transactions))
   where
     by : (b : Bool) (o : Option Transaction) → ((if b then begin_again t k c q o else ignored t k).table ≡ t) × ((if b then begin_again t k c q o else ignored t k).changes ≡ []) × ((if b then begin_again t k c q o else ignored t k).tickets ≡ k)
     by true None = (refl, refl, refl)
     by true (Some x) = (refl, refl, refl)
     by false o = (refl, refl, refl)
 
-pub begun-again : (r : Remembered) (k : Tickets) (c : ClientNo) (q : ℕ) → nat_lt (seen_by r.requests c) q ≡ false → seen_by r.requests c ≡ q → begin_row (table_of r) k c q ≡ begin_again (table_of r) k c q (begun_by c q r.transactions)
-begun-again r k c q h e = rw h (let same : nat_eq (seen_by r.requests c) q ≡ true = grind (arith, nat_tests, e) in rw same refl)
+pub begun-again : (r : Remembered) (k : Tickets) (c : ClientNo) (q : RequestNo) → nat_lt (seen_by r.requests c) q.0 ≡ false → seen_by r.requests c ≡ q.0 → begin_row (table_of r) k c q ≡ begin_again (table_of r) k c q (begun_by c q r.transactions)
+begun-again r k c q h e = rw h (let same : nat_eq (seen_by r.requests c) q.0 ≡ true = grind (arith, nat_tests, e) in rw same refl)
 
-seen-later : (r : Remembered) (c : ClientNo) (q : ℕ) → length r.requests ≡ 256 → nat_lt c.0 256 ≡ true → seen_by (slice_set r.requests c.0 q) ≡ seen_now (seen_by r.requests) c q
-seen-later r c q few h = fun_ext (λ d. seen-set r.requests c d q few h)
+seen-later : (r : Remembered) (c : ClientNo) (q : RequestNo) → length r.requests ≡ 256 → nat_lt c.0 256 ≡ true → seen_by (slice_set r.requests c.0 q.0) ≡ seen_now (seen_by r.requests) c q
+seen-later r c q few h = fun_ext (λ d. seen-set r.requests c d q.0 few h)
 
-begun-row : (r : Remembered) (k : Tickets) (c : ClientNo) (q : ℕ) → nat_lt (seen_by r.requests c) q ≡ true → count_left c r.transactions < 64
+begun-row : (r : Remembered) (k : Tickets) (c : ClientNo) (q : RequestNo) → nat_lt (seen_by r.requests c) q.0 ≡ true → count_left c r.transactions < 64
     → begin_row (table_of r) k c q ≡ record {
       table = record { transactions = after_closing c r.transactions ++ new_transaction c q (name_from k) ∷ []; seen = seen_now (seen_by r.requests) c q };
       changes = changes_of_closing c r.transactions;
@@ -126,8 +126,8 @@ begun-row : (r : Remembered) (k : Tickets) (c : ClientNo) (q : ℕ) → nat_lt (
     }
 begun-row r k c q new room = rw new (let few : nat_lt (length (after_closing c r.transactions)) 64 ≡ true = rw (sym (counted_left c r.transactions)) (grind (arith, nat_tests, room)) in rw few refl)
 
-pub begun : (r s r' : Remembered) (v w : StorageView) (k : Tickets) (c : ClientNo) (q : ℕ) (before after : Collected)
-    → FitsStorage r v → TicketsFit r v k → nat_lt (seen_by r.requests c) q ≡ true → count_left c r.transactions < 64 → nat_lt c.0 256 ≡ true
+pub begun : (r s r' : Remembered) (v w : StorageView) (k : Tickets) (c : ClientNo) (q : RequestNo) (before after : Collected)
+    → FitsStorage r v → TicketsFit r v k → nat_lt (seen_by r.requests c) q.0 ≡ true → count_left c r.transactions < 64 → nat_lt c.0 256 ≡ true
     → ClientClosed (Some c) r v s w → r' ≡ with_begun s c q (name_from k) → after ≡ added before ((Client c, messages.Begun c q (Some (name_from k))) ∷ []) []
     → IsDone (begin_row (table_of r) k c q) v before r' w after
 begun r s r' v w k c q before after fits tickets new room few closed is sent = rw (begun-row r k c q new room) (record {
@@ -159,12 +159,12 @@ client-closed-of c r s v w (Err f) h e = absurd (cc e)
 pub room-after : (c : ClientNo) (r s : Remembered) (v w : StorageView) → ClientClosed (Some c) r v s w → count_left c r.transactions < 64 → length s.transactions < 64
 room-after c r s v w closed room = rw closed.table (let left = counted_left c r.transactions in omega (arith, left, room))
 
-pub begun-tickets : (r : Remembered) (k : Tickets) (c : ClientNo) (q : ℕ) → nat_lt (seen_by r.requests c) q ≡ true → count_left c r.transactions < 64 → (begin_row (table_of r) k c q).tickets ≡ record k { next = k.next + 1 }
+pub begun-tickets : (r : Remembered) (k : Tickets) (c : ClientNo) (q : RequestNo) → nat_lt (seen_by r.requests c) q.0 ≡ true → count_left c r.transactions < 64 → (begin_row (table_of r) k c q).tickets ≡ record k { next = k.next + 1 }
 begun-tickets r k c q new room = ap (λ row. row.tickets) (begun-row r k c q new room)
 
 -- ---- where there is no room
 
-full-row : (r : Remembered) (k : Tickets) (c : ClientNo) (q : ℕ) → nat_lt (seen_by r.requests c) q ≡ true → 64 ≤ count_left c r.transactions
+full-row : (r : Remembered) (k : Tickets) (c : ClientNo) (q : RequestNo) → nat_lt (seen_by r.requests c) q.0 ≡ true → 64 ≤ count_left c r.transactions
     → begin_row (table_of r) k c q ≡ record {
       table = record { transactions = after_closing c r.transactions; seen = seen_now (seen_by r.requests) c q };
       changes = changes_of_closing c r.transactions;
@@ -174,12 +174,12 @@ full-row : (r : Remembered) (k : Tickets) (c : ClientNo) (q : ℕ) → nat_lt (s
     }
 full-row r k c q new full = rw new (let few : nat_lt (length (after_closing c r.transactions)) 64 ≡ false = rw (sym (counted_left c r.transactions)) (grind (arith, nat_tests, full)) in rw few refl)
 
-pub full-tickets : {A : Type 0} (a : Result A CoordFault) (r : Remembered) (k : Tickets) (c : ClientNo) (q : ℕ) → nat_lt (seen_by r.requests c) q ≡ true → 64 ≤ count_left c r.transactions → OnOk a (k ≡ (begin_row (table_of r) k c q).tickets)
+pub full-tickets : {A : Type 0} (a : Result A CoordFault) (r : Remembered) (k : Tickets) (c : ClientNo) (q : RequestNo) → nat_lt (seen_by r.requests c) q.0 ≡ true → 64 ≤ count_left c r.transactions → OnOk a (k ≡ (begin_row (table_of r) k c q).tickets)
 full-tickets (Ok x) r k c q new full = sym (ap (λ row. row.tickets) (full-row r k c q new full))
 full-tickets (Err f) r k c q new full = tt
 
-pub not-begun : (r s r' : Remembered) (v w : StorageView) (k : Tickets) (c : ClientNo) (q : ℕ) (before after : Collected)
-    → FitsStorage r v → nat_lt (seen_by r.requests c) q ≡ true → 64 ≤ count_left c r.transactions → nat_lt c.0 256 ≡ true
+pub not-begun : (r s r' : Remembered) (v w : StorageView) (k : Tickets) (c : ClientNo) (q : RequestNo) (before after : Collected)
+    → FitsStorage r v → nat_lt (seen_by r.requests c) q.0 ≡ true → 64 ≤ count_left c r.transactions → nat_lt c.0 256 ≡ true
     → ClientClosed (Some c) r v s w → r' ≡ with_request s c q → after ≡ added before ((Client c, messages.Begun c q None) ∷ []) []
     → IsDone (begin_row (table_of r) k c q) v before r' w after
 not-begun r s r' v w k c q before after fits new full few closed is sent = rw (full-row r k c q new full) (record {
@@ -188,7 +188,7 @@ not-begun r s r' v w k c q before after fits new full few closed is sent = rw (f
   made = λ p. closed.fits.serving.up p ∙ closed.made;
   fits = rw is (record {
     serving = closed.fits.serving;
-    clients = length-set s.requests c.0 q ∙ closed.fits.clients;
+    clients = length-set s.requests c.0 q.0 ∙ closed.fits.clients;
     few = closed.fits.few;
     rising = closed.fits.rising;
     flags = closed.fits.flags;

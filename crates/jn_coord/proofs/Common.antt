@@ -20,6 +20,7 @@ pub use Rattle.jn_rows.specs.Stable.{Change, DropFlag, StableState, made_by, mad
 pub use Rattle.jn_rows.specs.Outcomes.{RowOutcome, Sent, ignored, sends}
 pub use Rattle.jn_rows.specs.Coordinator.{CoordinatorTable, transaction_at, is_work, with_work, all_in, drops, commits, prepares, committed_to, aborted_to, abort_row, commit_row, not_known, after_closing, changes_of_closing, seen_now, begun_by, begin_new, begin_again, begin_row, end_promised, end_stage, end_row, abort_stage, abort_request, forget_row, thanks_stage, thanks_row, told_stage, inquire_row, counted_vote, vote_stage, vote_row, done_stage, done_row, coordinator_row, is_voting, promised, closed, thanked_changes, name_from, without, thanked, with_stage, close_clients_row, all_thanked, flags_of_thanked, restored_transaction, restored_transactions, seen_in_flag, seen_in_flags, noted, dropped}
 pub use Rattle.jn_coord.specs.Calls.{committed_at, committed_as, ballot_fits, ballots_fit, FitsStorage, IsDone, flag_told, Releases, FitsWith, stage_in, Reaches, IsStopped, Does, IsPromised, is_memory, ballot_row, spare_of, works_in, voting_in, ballot_in, ballot_of, waiting_row, CountsRecords}
+pub use Rattle.jn_base.specs.declared.names.RequestNo.{RequestNo}
 pub use Rattle.std.proofs.Math.Path.{fun_ext}
 pub use Rattle.std.proofs.lemmas.Bool.Decides.{nat_tests}
 pub use Rattle.std.proofs.lemmas.List.{length-set}

@@ -1,5 +1,5 @@
 -- How a transaction ends that was open.
-use Rattle.jn_coord.proofs.Common.{◌≡◌, ℕ, true, false, not, nat_lt, nat_eq, ◌+◌, ◌-◌, ◌≤◌, ◌<◌, List, [], ◌∷◌, Option, Some, None, Result, Ok, Err, length, refl, sym, ◌∙◌, ap, subst, arith, nat_tests, Tid, WorkId, Tickets, Collected, Transaction, Open, Voting, Ballot, RowOutcome, CoordinatorTable, transaction_at, with_stage, prepares, end_promised, StorageView, with_promises, CoordFault, Memory, Stopped, Remembered, table_of, added, FitsWith, stage_in, committed_at, Releases, Reaches, IsDone, IsStopped, Does, IsPromised, is_memory, ballot_row}
+use Rattle.jn_coord.proofs.Common.{◌≡◌, ℕ, true, false, not, nat_lt, nat_eq, ◌+◌, ◌-◌, ◌≤◌, ◌<◌, List, [], ◌∷◌, Option, Some, None, Result, Ok, Err, length, refl, sym, ◌∙◌, ap, subst, arith, nat_tests, Tid, WorkId, Tickets, Collected, Transaction, Open, Voting, Ballot, RowOutcome, CoordinatorTable, transaction_at, with_stage, prepares, end_promised, StorageView, with_promises, CoordFault, Memory, Stopped, Remembered, table_of, added, FitsWith, stage_in, committed_at, Releases, Reaches, IsDone, IsStopped, Does, IsPromised, is_memory, ballot_row, RequestNo}
 use Rattle.jn_coord.proofs.Tables.{at-named, for-found}
 use Rattle.jn_coord.proofs.Fitting.{fits-staged, same-flags, committed-found}
 use Rattle.jn_coord.proofs.Rows.{stays}
@@ -19,7 +19,7 @@ pub none-of : (Ws : List WorkId) → (nat_eq (length Ws) 0) ≡ true → Ws ≡ 
 none-of [] e = refl
 none-of (W ∷ Ws) e = absurd (grind (arith, nat_tests, e))
 
-pub ended-with : (t : CoordinatorTable) (k : Tickets) (x : Transaction) (request : ℕ) (Ws : List WorkId) → (nat_eq (length Ws) 0) ≡ false → end_promised t k x request Ws ≡ ballot_row t k x (record { request = request; works = Ws; ready = [] })
+pub ended-with : (t : CoordinatorTable) (k : Tickets) (x : Transaction) (request : RequestNo) (Ws : List WorkId) → (nat_eq (length Ws) 0) ≡ false → end_promised t k x request Ws ≡ ballot_row t k x (record { request = request; works = Ws; ready = [] })
 ended-with t k x request [] e = absurd (grind (arith, nat_tests, e))
 ended-with t k x request (W ∷ Ws) e = refl
 

@@ -1,5 +1,5 @@
 -- The next name comes after all that are live, row by row.
-use Rattle.jn_coord.proofs.Common.{◌≡◌, ℕ, Bool, true, false, not, nat_eq, nat_lt, ◌+◌, ◌&&◌, if◌then◌else◌, List, [], ◌∷◌, ◌++◌, Option, Some, None, Result, Ok, Err, length, refl, sym, ◌∙◌, ap, arith, is_ok, nat_tests, ClientNo, Tid, WorkId, Tickets, tid_eq, Collected, Message, Vote, Transaction, Stage, Open, Voting, Committed, Aborted, Commitment, Ballot, Change, AddReady, MarkGoing, CarryOut, RemoveWork, AddFlag, DropFlag, StableState, made_by, made_all, RowOutcome, CoordinatorTable, transaction_at, with_stage, without, is_work, with_work, all_in, changes_of_closing, name_from, begun_by, begin_new, begin_again, begin_row, end_promised, end_stage, end_row, abort_stage, abort_request, forget_row, thanks_stage, thanks_row, told_stage, inquire_row, counted_vote, vote_stage, vote_row, done_stage, done_row, coordinator_row, thanked, all_thanked, flags_of_thanked, StorageView, state, name_below, Remembered, table_of, CoordFault, IsDone, ClosesClient, are_before, TicketsFit}
+use Rattle.jn_coord.proofs.Common.{◌≡◌, ℕ, Bool, true, false, not, nat_eq, nat_lt, ◌+◌, ◌&&◌, if◌then◌else◌, List, [], ◌∷◌, ◌++◌, Option, Some, None, Result, Ok, Err, length, refl, sym, ◌∙◌, ap, arith, is_ok, nat_tests, ClientNo, Tid, WorkId, Tickets, tid_eq, Collected, Message, Vote, Transaction, Stage, Open, Voting, Committed, Aborted, Commitment, Ballot, Change, AddReady, MarkGoing, CarryOut, RemoveWork, AddFlag, DropFlag, StableState, made_by, made_all, RowOutcome, CoordinatorTable, transaction_at, with_stage, without, is_work, with_work, all_in, changes_of_closing, name_from, begun_by, begin_new, begin_again, begin_row, end_promised, end_stage, end_row, abort_stage, abort_request, forget_row, thanks_stage, thanks_row, told_stage, inquire_row, counted_vote, vote_stage, vote_row, done_stage, done_row, coordinator_row, thanked, all_thanked, flags_of_thanked, StorageView, state, name_below, Remembered, table_of, CoordFault, IsDone, ClosesClient, are_before, TicketsFit, RequestNo}
 use Rattle.jn_msgs.specs.declared.message.Message.TheVariants as messages
 use Rattle.jn_msgs.specs.declared.message.Vote.TheVariants as votes
 use Rattle.jn_coord.proofs.Restart.{both-of}
@@ -42,11 +42,11 @@ if-on : (k : Tickets) (b : Bool) (row row' : RowOutcome CoordinatorTable) → On
 if-on k true row row' e f = e
 if-on k false row row' e f = f
 
-end-promised-on : (t : CoordinatorTable) (k : Tickets) (x : Transaction) (q : ℕ) (Ws : List WorkId) → Before t k → Onward k (end_promised t k x q Ws)
+end-promised-on : (t : CoordinatorTable) (k : Tickets) (x : Transaction) (q : RequestNo) (Ws : List WorkId) → Before t k → Onward k (end_promised t k x q Ws)
 end-promised-on t k x q [] h = staged-on t k _ x.tid _ h refl refl
 end-promised-on t k x q (W ∷ Ws) h = staged-on t k _ x.tid _ h refl refl
 
-end-on : (t : CoordinatorTable) (free : ℕ) (k : Tickets) (x : Transaction) (q : ℕ) (Ws : List WorkId) (s : Stage) → Before t k → Onward k (end_stage t free k x q Ws s)
+end-on : (t : CoordinatorTable) (free : ℕ) (k : Tickets) (x : Transaction) (q : RequestNo) (Ws : List WorkId) (s : Stage) → Before t k → Onward k (end_stage t free k x q Ws s)
 end-on t free k x q Ws Open h = if-on k (nat_lt free 1) _ _ (staged-on t k _ x.tid _ h refl refl) (end-promised-on t k x q Ws h)
 end-on t free k x q Ws (Voting b) h = same-on t k _ h refl refl
 end-on t free k x q Ws (Committed d) h = same-on t k _ h refl refl
@@ -104,16 +104,16 @@ before-next : (k : Tickets) (x : Transaction) (xs : List Transaction) → x.tid 
 before-next k x [] e h = rw (e, now-below k) refl
 before-next k x (y ∷ ys) e h = let p = both-of (name_below y.tid (name_from k)) (are_before ys (name_from k)) h in rw (below-next y.tid k p.0, before-next k x ys e p.1) refl
 
-begin-new-on : (t : CoordinatorTable) (cs : List Change) (k : Tickets) (c : ClientNo) (q : ℕ) → Before t k → Onward k (begin_new t cs k c q)
+begin-new-on : (t : CoordinatorTable) (cs : List Change) (k : Tickets) (c : ClientNo) (q : RequestNo) → Before t k → Onward k (begin_new t cs k c q)
 begin-new-on t cs k c q h = if-on k (nat_lt (length t.transactions) 64) _ _ (record { server = refl; epoch = refl; before = before-next k _ t.transactions refl h }) (same-on t k _ h refl refl)
 
-begin-again-on : (t : CoordinatorTable) (k : Tickets) (c : ClientNo) (q : ℕ) (o : Option Transaction) → Before t k → Onward k (begin_again t k c q o)
+begin-again-on : (t : CoordinatorTable) (k : Tickets) (c : ClientNo) (q : RequestNo) (o : Option Transaction) → Before t k → Onward k (begin_again t k c q o)
 begin-again-on t k c q None h = same-on t k _ h refl refl
 begin-again-on t k c q (Some x) h = same-on t k _ h refl refl
 
-begin-on : (t : CoordinatorTable) (k : Tickets) (c : ClientNo) (q : ℕ) → Before t k → Onward k (begin_row t k c q)
-begin-on t k c q h = if-on k (nat_lt (t.seen c) q) _ _ (begin-new-on _ (changes_of_closing c t.transactions) k c q (before-closing c (name_from k) t.transactions h))
-    (if-on k (nat_eq (t.seen c) q) _ _ (begin-again-on t k c q (begun_by c q t.transactions) h) (same-on t k _ h refl refl))
+begin-on : (t : CoordinatorTable) (k : Tickets) (c : ClientNo) (q : RequestNo) → Before t k → Onward k (begin_row t k c q)
+begin-on t k c q h = if-on k (nat_lt (t.seen c) q.0) _ _ (begin-new-on _ (changes_of_closing c t.transactions) k c q (before-closing c (name_from k) t.transactions h))
+    (if-on k (nat_eq (t.seen c) q.0) _ _ (begin-again-on t k c q (begun_by c q t.transactions) h) (same-on t k _ h refl refl))
 
 -- ---- every message
 

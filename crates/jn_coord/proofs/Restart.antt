@@ -1,5 +1,5 @@
 -- Flags come to their places after a restart.
-use Rattle.jn_coord.proofs.Common.{◌≡◌, ⊎_elim, ℕ, zero, suc, Bool, true, false, ◌⊎◌, ◌≢◌, nat_eq, ◌+◌, ◌≤◌, ◌<◌, ◌&&◌, ◌||◌, nat_lt, if◌then◌else◌, List, [], ◌∷◌, ◌++◌, Option, Some, None, length, map, replicate, slice_set, slice_index_or, refl, sym, true≢false, ◌∙◌, ap, subst, arith, fun_ext, is_some, nat_tests, length-set, AllByRecursion, ClientNo, Tid, WorkId, client_eq, tid_eq, client_tells, tid_tells, Transaction, StableState, FlagState, flag_state, transaction_at, promised, restored_transaction, restored_transactions, seen_in_flag, seen_in_flags, is_in, are_different, StorageView, IsServing, state, tid_of, TellsFlags, name_below, restored_from, inserted, with_flags, seen_by, are_above, rises, flag_told, committed_at, ballots_fit, with_seen, with_requests, clients_fit, Restored}
+use Rattle.jn_coord.proofs.Common.{◌≡◌, ⊎_elim, ℕ, zero, suc, Bool, true, false, ◌⊎◌, ◌≢◌, nat_eq, ◌+◌, ◌≤◌, ◌<◌, ◌&&◌, ◌||◌, nat_lt, if◌then◌else◌, List, [], ◌∷◌, ◌++◌, Option, Some, None, length, map, replicate, slice_set, slice_index_or, refl, sym, true≢false, ◌∙◌, ap, subst, arith, fun_ext, is_some, nat_tests, length-set, AllByRecursion, ClientNo, Tid, WorkId, client_eq, tid_eq, client_tells, tid_tells, Transaction, StableState, FlagState, flag_state, transaction_at, promised, restored_transaction, restored_transactions, seen_in_flag, seen_in_flags, is_in, are_different, StorageView, IsServing, state, tid_of, TellsFlags, name_below, restored_from, inserted, with_flags, seen_by, are_above, rises, flag_told, committed_at, ballots_fit, with_seen, with_requests, clients_fit, Restored, RequestNo}
 use Rattle.std.proofs.lemmas.List.Elements.{recursion_from_All}
 use Rattle.jn_records.specs.declared.flag.Flag.{Flag}
 use Rattle.jn_storage.proofs.Listings.{but, is_in-but, length-but}
@@ -183,19 +183,19 @@ pub seen-set : (requests : List ℕ) (c d : ClientNo) (n : ℕ) → length reque
 seen-set requests c d n l h = set-seen requests c.0 d.0 n (grind (arith, nat_tests, l, h))
 
 seen-with : (requests : List ℕ) (f : Flag) (d : ClientNo) → length requests ≡ 256 → nat_lt f.client.0 256 ≡ true → seen_by (with_seen requests f.client f.request) d ≡ seen_in_flag d (Some (flag_state f)) (seen_by requests d)
-seen-with requests f d l h = let set = seen-set requests f.client d f.request l h in let t = client_tells f.client d in by (nat_lt (seen_by requests f.client) f.request) refl set t
+seen-with requests f d l h = let set = seen-set requests f.client d f.request.0 l h in let t = client_tells f.client d in by (nat_lt (seen_by requests f.client) f.request.0) refl set t
   where
-    by : (b : Bool) → nat_lt (seen_by requests f.client) f.request ≡ b → seen_by (slice_set requests f.client.0 f.request) d ≡ (if client_eq f.client d then f.request else seen_by requests d)
+    by : (b : Bool) → nat_lt (seen_by requests f.client) f.request.0 ≡ b → seen_by (slice_set requests f.client.0 f.request.0) d ≡ (if client_eq f.client d then f.request.0 else seen_by requests d)
         → ((client_eq f.client d ≡ true) × (f.client ≡ d)) ⊎ ((client_eq f.client d ≡ false) × (f.client ≢ d))
-        → seen_by (if b then slice_set requests f.client.0 f.request else requests) d ≡ (if client_eq f.client d && nat_lt (seen_by requests d) f.request then f.request else seen_by requests d)
-    by true e set t = set ∙ ⊎_elim (λ y. rw (y.0, ap (λ c. nat_lt (seen_by requests c) f.request) (sym y.1) ∙ e) refl) (λ n. rw n.0 refl) t
-    by false e set t = ⊎_elim (λ y. rw (y.0, ap (λ c. nat_lt (seen_by requests c) f.request) (sym y.1) ∙ e) refl) (λ n. rw n.0 refl) t
+        → seen_by (if b then slice_set requests f.client.0 f.request.0 else requests) d ≡ (if client_eq f.client d && nat_lt (seen_by requests d) f.request.0 then f.request.0 else seen_by requests d)
+    by true e set t = set ∙ ⊎_elim (λ y. rw (y.0, ap (λ c. nat_lt (seen_by requests c) f.request.0) (sym y.1) ∙ e) refl) (λ n. rw n.0 refl) t
+    by false e set t = ⊎_elim (λ y. rw (y.0, ap (λ c. nat_lt (seen_by requests c) f.request.0) (sym y.1) ∙ e) refl) (λ n. rw n.0 refl) t
 
-with-length : (requests : List ℕ) (c : ClientNo) (n : ℕ) → length requests ≡ 256 → length (with_seen requests c n) ≡ 256
-with-length requests c n l = by (nat_lt (seen_by requests c) n)
+with-length : (requests : List ℕ) (c : ClientNo) (q : RequestNo) → length requests ≡ 256 → length (with_seen requests c q) ≡ 256
+with-length requests c q l = by (nat_lt (seen_by requests c) q.0)
   where
-    by : (b : Bool) → length (if b then slice_set requests c.0 n else requests) ≡ 256
-    by true = length-set requests c.0 n ∙ l
+    by : (b : Bool) → length (if b then slice_set requests c.0 q.0 else requests) ≡ 256
+    by true = length-set requests c.0 q.0 ∙ l
     by false = l
 
 -- ---- flag after flag

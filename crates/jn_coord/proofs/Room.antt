@@ -1,5 +1,5 @@
 -- A flag that is to be put has its room.
-use Rattle.jn_coord.proofs.Common.{◌≡◌, ℕ, true, ◌+◌, ◌≤◌, if◌then◌else◌, List, [], ◌∷◌, Option, Some, None, length, refl, sym, ◌∙◌, ap, arith, is_some, ClientNo, Tid, WorkId, tid_eq, tid_tells, Transaction, Stage, Open, Voting, Committed, Aborted, FlagState, transaction_at, is_in, are_different, StorageView, state, MayPutFlag, HasFlag, Remembered, rises, flag_told, committed_as, committed_at, spare_of, FitsWith, is_committed}
+use Rattle.jn_coord.proofs.Common.{◌≡◌, ℕ, true, ◌+◌, ◌≤◌, if◌then◌else◌, List, [], ◌∷◌, Option, Some, None, length, refl, sym, ◌∙◌, ap, arith, is_some, ClientNo, Tid, WorkId, tid_eq, tid_tells, Transaction, Stage, Open, Voting, Committed, Aborted, FlagState, transaction_at, is_in, are_different, StorageView, state, MayPutFlag, HasFlag, Remembered, rises, flag_told, committed_as, committed_at, spare_of, FitsWith, is_committed, RequestNo}
 use Rattle.jn_coord.proofs.Fitting.{above-none, has-promise, committed-found}
 
 -- the names of the committed transactions
@@ -31,7 +31,7 @@ told-none : (o : Option FlagState) → flag_told o ≡ None → o ≡ None
 told-none None e = refl
 told-none (Some flag) e = absurd (cc e)
 
-pub may-put : (r : Remembered) (v : StorageView) (T : Tid) (y : Transaction) (client : ClientNo) (request : ℕ) (works : List WorkId)
+pub may-put : (r : Remembered) (v : StorageView) (T : Tid) (y : Transaction) (client : ClientNo) (request : RequestNo) (works : List WorkId)
     → FitsWith (spare_of (transaction_at T r.transactions)) r v → transaction_at T r.transactions ≡ Some y → committed_at T r.transactions ≡ None → length works ≤ 8
     → MayPutFlag v (record { tid = T; client = client; request = request; works = works })
 may-put r v T y client request works fits found undecided few = record {

@@ -1,5 +1,5 @@
 -- What a step of a coordinator comes to, row by row.
-use Rattle.jn_coord.proofs.Common.{⊎_elim, ◌≢◌, not, nat_lt, ◌&&◌, ◌-◌, Result, Ok, Err, ◌≡◌, ℕ, Bool, true, false, ◌+◌, ◌≤◌, if◌then◌else◌, List, [], ◌∷◌, ◌++◌, Option, Some, None, length, refl, sym, ◌∙◌, ap, subst, arith, nat_tests, ClientNo, Tid, tid_eq, Cause, WorkId, Tickets, Client, Vote, Collected, Transaction, Stage, Open, Voting, Committed, Aborted, Commitment, Ballot, FlagState, Change, Changed, AddFlag, DropFlag, made_by, RowOutcome, ignored, sends, CoordinatorTable, transaction_at, with_stage, without, is_voting, drops, commits, all_in, abort_row, commit_row, forget_row, noted, thanks_row, thanks_stage, vote_stage, told_stage, inquire_row, dropped, is_work, StorageView, state, PromiseReleased, Called, FlagPut, FlagDropped, storage_refl, is_aborted, Remembered, table_of, CoordFault, Memory, Stopped, added, Adds, Longer, flag_told, committed_as, committed_at, works_in, voting_in, spare_of, FitsStorage, FitsWith, ballot_in, ballot_of, ballot_fits, ballots_fit, waiting_row, Releases, Reaches, IsDone, IsStopped, Does, added_none, longer_same}
+use Rattle.jn_coord.proofs.Common.{⊎_elim, ◌≢◌, not, nat_lt, ◌&&◌, ◌-◌, Result, Ok, Err, ◌≡◌, ℕ, Bool, true, false, ◌+◌, ◌≤◌, if◌then◌else◌, List, [], ◌∷◌, ◌++◌, Option, Some, None, length, refl, sym, ◌∙◌, ap, subst, arith, nat_tests, ClientNo, Tid, tid_eq, Cause, WorkId, Tickets, Client, Vote, Collected, Transaction, Stage, Open, Voting, Committed, Aborted, Commitment, Ballot, FlagState, Change, Changed, AddFlag, DropFlag, made_by, RowOutcome, ignored, sends, CoordinatorTable, transaction_at, with_stage, without, is_voting, drops, commits, all_in, abort_row, commit_row, forget_row, noted, thanks_row, thanks_stage, vote_stage, told_stage, inquire_row, dropped, is_work, StorageView, state, PromiseReleased, Called, FlagPut, FlagDropped, storage_refl, is_aborted, Remembered, table_of, CoordFault, Memory, Stopped, added, Adds, Longer, flag_told, committed_as, committed_at, works_in, voting_in, spare_of, FitsStorage, FitsWith, ballot_in, ballot_of, ballot_fits, ballots_fit, waiting_row, Releases, Reaches, IsDone, IsStopped, Does, added_none, longer_same, RequestNo}
 use Rattle.jn_msgs.specs.declared.message.Message.TheVariants as messages
 use Rattle.jn_msgs.specs.declared.message.Outcome.{Outcome}
 use Rattle.jn_msgs.specs.declared.message.Outcome.TheVariants as outcomes
@@ -132,7 +132,7 @@ not-forgotten r v w T k d before ok over put fell = let p = subst (λ b. FlagDro
 
 -- ---- a transaction commits
 
-pub committed : (r r' : Remembered) (v w : StorageView) (T : Tid) (k : Tickets) (y x : Transaction) (request : ℕ) (works : List WorkId) (before after : Collected) (ok : Bool)
+pub committed : (r r' : Remembered) (v w : StorageView) (T : Tid) (k : Tickets) (y x : Transaction) (request : RequestNo) (works : List WorkId) (before after : Collected) (ok : Bool)
     → FitsWith (spare_of (transaction_at T r.transactions)) r v → transaction_at T r.transactions ≡ Some y → transaction_at T r.transactions ≡ Some x
     → FlagPut v (record { tid = T; client = y.client; request = request; works = works }) ok w → ok ≡ true
     → after ≡ added before (commits T works ++ (Client y.client, messages.Outcome y.client T outcomes.Committed) ∷ []) (notes.Commit T ∷ [])
@@ -171,7 +171,7 @@ committed r r' v w T k y x request works before after ok fits found at put went 
       no_stop = p.called.no_stop refl;
     })
 
-pub not-committed : (r : Remembered) (v w : StorageView) (T : Tid) (k : Tickets) (y x : Transaction) (request : ℕ) (works : List WorkId) (before after : Collected) (ok : Bool)
+pub not-committed : (r : Remembered) (v w : StorageView) (T : Tid) (k : Tickets) (y x : Transaction) (request : RequestNo) (works : List WorkId) (before after : Collected) (ok : Bool)
     → transaction_at T r.transactions ≡ Some y → transaction_at T r.transactions ≡ Some x
     → FlagPut v (record { tid = T; client = y.client; request = request; works = works }) ok w → ok ≡ false
     → after ≡ added before (commits T works ++ (Client y.client, messages.Outcome y.client T outcomes.Committed) ∷ []) (notes.Commit T ∷ [])

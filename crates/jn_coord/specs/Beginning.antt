@@ -1,5 +1,6 @@
 -- What a new transaction of a client does.
 use Rattle.std.specs.Prelude.{◌≡◌, ℕ, Bool, true, ◌&&◌, List, [], ◌∷◌, ◌++◌, Some, slice_set}
+use Rattle.jn_base.specs.declared.names.RequestNo.{RequestNo}
 use Rattle.jn_base.specs.declared.names.ClientNo.{ClientNo}
 use Rattle.jn_base.specs.declared.names.Tid.{Tid}
 use Rattle.jn_base.specs.declared.names.Tickets.{Tickets}
@@ -22,12 +23,12 @@ pub record TicketsFit (r : Remembered) (v : StorageView) (k : Tickets) : Type 0 
   pub epoch : k.epoch ≡ (state v).epoch
   pub after : are_before r.transactions (name_from k) ≡ true
 
-abbrev pub new_transaction : ClientNo → ℕ → Tid → Transaction
+abbrev pub new_transaction : ClientNo → RequestNo → Tid → Transaction
 new_transaction c request T = record { tid = T; client = c; begun = Some request; stage = Open }
 
 -- a client's request is the greatest that was seen
-abbrev pub with_request : Remembered → ClientNo → ℕ → Remembered
-with_request r c request = record r { requests = slice_set r.requests c.0 request }
+abbrev pub with_request : Remembered → ClientNo → RequestNo → Remembered
+with_request r c request = record r { requests = slice_set r.requests c.0 request.0 }
 
-abbrev pub with_begun : Remembered → ClientNo → ℕ → Tid → Remembered
-with_begun r c request T = record { transactions = r.transactions ++ new_transaction c request T ∷ []; requests = slice_set r.requests c.0 request }
+abbrev pub with_begun : Remembered → ClientNo → RequestNo → Tid → Remembered
+with_begun r c request T = record { transactions = r.transactions ++ new_transaction c request T ∷ []; requests = slice_set r.requests c.0 request.0 }

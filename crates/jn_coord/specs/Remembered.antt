@@ -6,7 +6,7 @@ use Rattle.jn_rows.specs.declared.coordinator.Transaction.{Transaction}
 use Rattle.jn_rows.specs.Coordinator.{CoordinatorTable}
 use Rattle.jn_transactions.specs.Listed.{name_below}
 
--- its live transactions, and the greatest request that it has seen of each client, by the client's number
+-- its live transactions, and the number of the greatest request that it has seen of each client, by the client's number
 pub record Remembered : Type 0 where
   pub transactions : List Transaction
   pub requests : List ℕ

@@ -1,5 +1,6 @@
 -- What a coordinator remembers after a restart.
 use Rattle.std.specs.Prelude.{◌≡◌, ℕ, Bool, true, nat_lt, ◌&&◌, if◌then◌else◌, List, [], ◌∷◌, is_some, slice_set}
+use Rattle.jn_base.specs.declared.names.RequestNo.{RequestNo}
 use Rattle.jn_base.specs.declared.names.ClientNo.{ClientNo}
 use Rattle.jn_base.specs.declared.names.Tid.{Tid}
 use Rattle.jn_base.specs.Names.{tid_eq}
@@ -12,8 +13,8 @@ use Rattle.jn_coord.specs.Remembered.{Remembered, seen_by, table_of}
 use Rattle.jn_coord.specs.Calls.{FitsStorage}
 
 -- a client's request is seen
-abbrev pub with_seen : List ℕ → ClientNo → ℕ → List ℕ
-with_seen requests c request = if nat_lt (seen_by requests c) request then slice_set requests c.0 request else requests
+abbrev pub with_seen : List ℕ → ClientNo → RequestNo → List ℕ
+with_seen requests c request = if nat_lt (seen_by requests c) request.0 then slice_set requests c.0 request.0 else requests
 
 abbrev pub with_requests : List ℕ → List Flag → List ℕ
 with_requests requests [] = requests

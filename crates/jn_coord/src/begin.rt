@@ -14,7 +14,7 @@ ghost use Rattle.jn_transactions.specs.Closing.{count_left};
 ghost use Rattle.jn_coord.specs.Beginning.{TicketsFit, new_transaction, with_request, with_begun};
 
 use crate::coordinator::Coordinator;
-use jn_base::{ClientNo, MOST_TRANSACTIONS, Party, Tickets, Tid};
+use jn_base::{ClientNo, MOST_TRANSACTIONS, Party, RequestNo, Tickets, Tid};
 use jn_msgs::{Message, Note, Out};
 use jn_rows::{Stage, Transaction};
 use jn_storage::FlagStore;
@@ -31,27 +31,27 @@ fn name_from(tickets: &Tickets) -> Tid
 }
 
 impl Coordinator {
-    /// The greatest request that was seen of a client.
+    /// The number of the greatest request that was seen of a client.
     fn seen(&self, client: ClientNo) -> u32
         ensures { result ≡ seen_by self.now.requests client }
     {
         self.requests[client.0 as usize]
     }
 
-    fn see(&mut self, client: ClientNo, request: u32)
+    fn see(&mut self, client: ClientNo, request: RequestNo)
         ensures seen { self.new ≡ with_request self.old client request }
         ensures client { nat_lt client.0 256 ≡ true }
     {
-        self.requests[client.0 as usize] = request;
+        self.requests[client.0 as usize] = request.0;
     }
 
     /// A new transaction is open.
-    fn add(&mut self, client: ClientNo, request: u32, tid: Tid)
+    fn add(&mut self, client: ClientNo, request: RequestNo, tid: Tid)
         requires room { length self.old.transactions < most_transactions }
         ensures added { self.new ≡ with_begun self.old client request tid }
         ensures client { nat_lt client.0 256 ≡ true }
     {
-        self.requests[client.0 as usize] = request;
+        self.requests[client.0 as usize] = request.0;
         self.transactions.push_reserved(Transaction {
             tid,
             client,
@@ -61,12 +61,17 @@ impl Coordinator {
     }
 
     /// A Begin whose request was seen before is answered again or is stale.
-    fn begin_seen(&self, client: ClientNo, request: u32, out: &mut Out) -> Result<(), CoordFault>
-        requires seen { nat_lt (seen_by self.now.requests client) request ≡ false }
+    fn begin_seen(
+        &self,
+        client: ClientNo,
+        request: RequestNo,
+        out: &mut Out,
+    ) -> Result<(), CoordFault>
+        requires seen { nat_lt (seen_by self.now.requests client) request.0 ≡ false }
         ensures { (k : Tickets)
             → Adds (rows.begin_row (table_of self.now) k client request).messages (rows.begin_row (table_of self.now) k client request).notes out.old result out.new }
     {
-        if self.seen(client) != request {
+        if self.seen(client) != request.0 {
             return note(out, Note::Ignored);
         }
         begin_again(&self.transactions, client, request, out)
@@ -77,14 +82,14 @@ impl Coordinator {
         &mut self,
         store: &mut F,
         client: ClientNo,
-        request: u32,
+        request: RequestNo,
         tickets: &mut Tickets,
         out: &mut Out,
     ) -> Result<(), CoordFault>
         requires fits { FitsStorage self.old (F.view store.old) }
         requires tickets { TicketsFit self.old (F.view store.old) tickets.old }
         requires next { tickets.old.next + 1 < 2 ^ 32 }
-        requires new { nat_lt (seen_by self.old.requests client) request ≡ true }
+        requires new { nat_lt (seen_by self.old.requests client) request.0 ≡ true }
         requires room { count_left client self.old.transactions < most_transactions }
         ensures does { Does (rows.begin_row (table_of self.old) tickets.old client request) self.old (F.view store.old) out.old result self.new (F.view store.new) out.new }
         ensures drawn { OnOk result (tickets.new ≡ (rows.begin_row (table_of self.old) tickets.old client request).tickets) }
@@ -106,11 +111,11 @@ impl Coordinator {
         &mut self,
         store: &mut F,
         client: ClientNo,
-        request: u32,
+        request: RequestNo,
         out: &mut Out,
     ) -> Result<(), CoordFault>
         requires fits { FitsStorage self.old (F.view store.old) }
-        requires new { nat_lt (seen_by self.old.requests client) request ≡ true }
+        requires new { nat_lt (seen_by self.old.requests client) request.0 ≡ true }
         requires full { most_transactions ≤ count_left client self.old.transactions }
         ensures { (k : Tickets)
             → Does (rows.begin_row (table_of self.old) k client request) self.old (F.view store.old) out.old result self.new (F.view store.new) out.new }
@@ -129,7 +134,7 @@ impl Coordinator {
         &mut self,
         store: &mut F,
         client: ClientNo,
-        request: u32,
+        request: RequestNo,
         tickets: &mut Tickets,
         out: &mut Out,
     ) -> Result<(), CoordFault>
@@ -140,7 +145,7 @@ impl Coordinator {
         ensures drawn { OnOk result (tickets.new ≡ (rows.begin_row (table_of self.old) tickets.old client request).tickets) }
         ensures kept { OnErr result (tickets.new ≡ tickets.old) }
     {
-        if self.seen(client) >= request {
+        if self.seen(client) >= request.0 {
             return self.begin_seen(client, request, out);
         }
         if count_left(&self.transactions, client) < MOST_TRANSACTIONS {

@@ -25,7 +25,7 @@ ghost use Rattle.jn_coord.specs.Closing.{going_in, LetsGo, ClosesNext, ClosesAll
 ghost use Rattle.jn_transactions.specs.Telling.{Adds, added};
 ghost use Rattle.jn_coord.specs.Calls.{FitsStorage, FitsWith, Does, Releases, committed_as, committed_at, spare_of, voting_in, works_in, ballot_in, stage_in, free_of, is_memory, IsPromised, ballot_row, waiting_row};
 
-use jn_base::{Cause, ClientNo, Party, Resource, Tickets, Tid, WorkId};
+use jn_base::{Cause, ClientNo, Party, RequestNo, Resource, Tickets, Tid, WorkId};
 use jn_msgs::{Message, Note, Out, Outcome, Vote, Works};
 use jn_records::{Flag, ListOf};
 use jn_rows::{Committed, Stage, Transaction, Voting};
@@ -44,7 +44,7 @@ use std::marker::Model;
 pub struct Coordinator {
     /// In rising order of their names. There is room for all that may be live.
     pub(crate) transactions: Vec<Transaction>,
-    /// The greatest request that was seen of each client, by its number; 0 where none was.
+    /// The number of the greatest request that was seen of each client, by the client's number; 0 where none was.
     pub(crate) requests: [u32; 256],
     pub(crate) alloc: Global,
 }
@@ -150,7 +150,7 @@ impl Coordinator {
         &mut self,
         store: &mut F,
         tid: Tid,
-        request: u32,
+        request: RequestNo,
         works: Works,
         out: &mut Out,
     ) -> Result<(), CoordFault>
@@ -473,7 +473,7 @@ impl Coordinator {
         &mut self,
         store: &mut F,
         client: ClientNo,
-        request: u32,
+        request: RequestNo,
         tid: Tid,
         works: &Works,
         tickets: Tickets,
@@ -501,7 +501,7 @@ impl Coordinator {
     fn end_open<F: FlagStore>(
         &mut self,
         store: &mut F,
-        request: u32,
+        request: RequestNo,
         tid: Tid,
         works: &Works,
         tickets: Tickets,
@@ -527,7 +527,7 @@ impl Coordinator {
     fn end_or_release<F: FlagStore>(
         &mut self,
         store: &mut F,
-        request: u32,
+        request: RequestNo,
         tid: Tid,
         works: &Works,
         out: &mut Out,
@@ -548,7 +548,7 @@ impl Coordinator {
     fn end_promised<F: FlagStore>(
         &mut self,
         store: &mut F,
-        request: u32,
+        request: RequestNo,
         tid: Tid,
         works: &Works,
         out: &mut Out,

@@ -4,7 +4,10 @@ ghost use Rattle.std.specs.Prelude.{◌≡◌};
 ghost use Rattle.jn_msgs.specs.Kinds.{kind_of};
 
 use crate::works::Works;
-use jn_base::{Answer, Cause, ClientNo, LockUnit, MsgKind, Op, Resource, ServerNo, Tid, WorkId};
+use jn_base::{
+    Answer, Cause, ClientNo, LockUnit, MsgKind, Op, OperationNo, RequestNo, Resource, ServerNo,
+    Tid, WorkId,
+};
 
 /// What a worker says of a work that is to be prepared.
 #[derive(Clone, Copy, Debug, PartialEq, Eq, Drop)]
@@ -43,23 +46,23 @@ pub enum Note {
     Ignored,
 }
 
-/// A message. `request` counts a client's requests, `number` the operations of a work.
+/// A message.
 #[derive(Drop)]
 pub enum Message {
-    Begin(ClientNo, u32),
+    Begin(ClientNo, RequestNo),
     /// The client, its request and the transaction.
-    Open(ClientNo, u32, Tid),
+    Open(ClientNo, RequestNo, Tid),
     /// The client, its request, the work, the operation's number and the operation.
-    Op(ClientNo, u32, WorkId, u32, Op),
+    Op(ClientNo, RequestNo, WorkId, OperationNo, Op),
     /// The client, its request, the transaction and its works.
-    End(ClientNo, u32, Tid, Works),
-    Abort(ClientNo, u32, Tid, Works),
+    End(ClientNo, RequestNo, Tid, Works),
+    Abort(ClientNo, RequestNo, Tid, Works),
     Thanks(ClientNo, Tid),
     /// The new transaction, or none where no more can be live there.
-    Begun(ClientNo, u32, Option<Tid>),
+    Begun(ClientNo, RequestNo, Option<Tid>),
     /// The transaction and its new work, or none where no more can be live there.
-    Opened(ClientNo, u32, Tid, Option<WorkId>),
-    Answer(ClientNo, u32, Answer),
+    Opened(ClientNo, RequestNo, Tid, Option<WorkId>),
+    Answer(ClientNo, RequestNo, Answer),
     Outcome(ClientNo, Tid, Outcome),
     /// The transaction, its client and the work that is to be prepared.
     Prepare(Tid, ClientNo, WorkId),

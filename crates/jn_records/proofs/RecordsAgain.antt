@@ -46,17 +46,17 @@ prepared_again going head intentions reads rest fits pages =
     ) refl
 
 flag_again : (f : Flag) (rest : List ℕ) → FlagFits f → length f.works ≤ 55
-    → flag_at (tid_bytes f.tid ++ (big_bytes 1 f.client.0 ++ (big_bytes 4 f.request ++ (big_bytes 1 (length f.works) ++ (flat_map (λ w. work_bytes w) f.works ++ rest))))) ≡ Some (FlagRecord f)
+    → flag_at (tid_bytes f.tid ++ (big_bytes 1 f.client.0 ++ (big_bytes 4 f.request.0 ++ (big_bytes 1 (length f.works) ++ (flat_map (λ w. work_bytes w) f.works ++ rest))))) ≡ Some (FlagRecord f)
 unfolding flag_at
 flag_again f rest fits few =
     let after_count = flat_map (λ w. work_bytes w) f.works ++ rest in
     let after_request = big_bytes 1 (length f.works) ++ after_count in
-    let after_client = big_bytes 4 f.request ++ after_request in
+    let after_client = big_bytes 4 f.request.0 ++ after_request in
     let after_tid = big_bytes 1 f.client.0 ++ after_client in
     rw (
       tid_again f.tid after_tid fits.tid,
       number_again 1 f.client.0 after_client fits.client,
-      number_again 4 f.request after_request fits.request,
+      number_again 4 f.request.0 after_request fits.request,
       number_again 1 (length f.works) after_count (omega (arith, few)),
       list_again (λ (w : WorkId). work_bytes w) (λ b. work_at b) WorkFits work_again f.works rest fits.works,
     ) refl
@@ -83,6 +83,6 @@ record_is_read page (Going head intentions reads) pages fits e =
     ap record_at (e ∙ regrouped) ∙ rw (number_again 1 3 behind (omega arith)) (prepared_again true head intentions reads rest fits pages)
 record_is_read page (FlagRecord f) pages fits e =
     let rest = replicate (512 - length (record_bytes (FlagRecord f))) 0 in
-    let behind = tid_bytes f.tid ++ (big_bytes 1 f.client.0 ++ (big_bytes 4 f.request ++ (big_bytes 1 (length f.works) ++ (flat_map (λ w. work_bytes w) f.works ++ rest)))) in
+    let behind = tid_bytes f.tid ++ (big_bytes 1 f.client.0 ++ (big_bytes 4 f.request.0 ++ (big_bytes 1 (length f.works) ++ (flat_map (λ w. work_bytes w) f.works ++ rest)))) in
     let regrouped : record_page (FlagRecord f) ≡ big_bytes 1 4 ++ behind = refl in
     ap record_at (e ∙ regrouped) ∙ rw (number_again 1 4 behind (omega arith)) (flag_again f rest fits (grind (arith, nat_tests, pages)))

@@ -25,7 +25,7 @@ prepared_bytes kind head intentions reads =
 
 abbrev pub flag_bytes : Flag → List ℕ
 flag_bytes f =
-    big_bytes 1 4 ++ tid_bytes f.tid ++ big_bytes 1 f.client.0 ++ big_bytes 4 f.request ++ big_bytes 1 (length f.works) ++ flat_map (λ w. work_bytes w) f.works
+    big_bytes 1 4 ++ tid_bytes f.tid ++ big_bytes 1 f.client.0 ++ big_bytes 4 f.request.0 ++ big_bytes 1 (length f.works) ++ flat_map (λ w. work_bytes w) f.works
 
 abbrev pub record_bytes : Record → List ℕ
 record_bytes Free = []
@@ -93,7 +93,7 @@ pub record PreparedFits (head : WorkHead) (intentions : ℕ) (reads : List LockU
 pub record FlagFits (f : Flag) : Type 0 where
   pub tid : TidFits f.tid
   pub client : f.client.0 < 2 ^ 8
-  pub request : f.request < 2 ^ 32
+  pub request : f.request.0 < 2 ^ 32
   pub works : AllByRecursion WorkFits f.works
 
 pub record IntentionRecordFits (work : WorkId) (tid : Tid) (order : ℕ) (i : StoredIntention) : Type 0 where
@@ -146,7 +146,7 @@ flag_at bytes = do
   request ← number_at 4 client.1
   count ← number_at 1 request.1
   works ← list_at (λ b. work_at b) count.0 count.1
-  Some (FlagRecord (record { tid = tid.0; client = record { 0 = client.0 }; request = request.0; works = works.0 }))
+  Some (FlagRecord (record { tid = tid.0; client = record { 0 = client.0 }; request = record { 0 = request.0 }; works = works.0 }))
 
 unfoldable pub record_at : List ℕ → Option Record
 record_at bytes = do

@@ -11,7 +11,7 @@ use crate::intention::{self, StoredIntention, intention_at, put_intention};
 use crate::list::{ListOf, list_at, put_list};
 use crate::name::{put_tid, put_work, tid_at, work_at};
 use crate::work::{WorkHead, all_have_pages, ascends};
-use jn_base::{ClientNo, LockUnit, Page, PageWriter, Tid, WorkId};
+use jn_base::{ClientNo, LockUnit, Page, PageWriter, RequestNo, Tid, WorkId};
 use std::alloc::{AllocError, Global};
 
 const FREE: u8 = 0;
@@ -187,7 +187,7 @@ fn put_flag(page: &mut PageWriter, flag: &Flag)
     page.put_u8(FLAG);
     put_tid(page, flag.tid);
     page.put_u8(flag.client.0);
-    page.put_u32(flag.request);
+    page.put_u32(flag.request.0);
     let works = flag.works.as_slice();
     page.put_u8(works.len() as u8);
     put_list(page, works);
@@ -284,7 +284,7 @@ fn flag_at(alloc: Global, bytes: &[u8]) -> Result<Option<Record>, AllocError>
     Ok(Some(Record::Flag(Flag {
         tid,
         client: ClientNo(client),
-        request,
+        request: RequestNo(request),
         works: ListOf::from_vec(works),
     })))
 }

@@ -1,5 +1,6 @@
 -- What a coordinator makes stable are flags, and no works.
 use Rattle.jn_retold.proofs.Common.{◌≡◌, ℕ, Bool, true, false, List, [], ◌∷◌, ◌++◌, length, Option, Some, None, refl, ◌∙◌, arith, ◌&&◌, not, if◌then◌else◌, nat_lt, nat_eq, list_all, list_all-append, ClientNo, Tid, WorkId, Tickets, client_eq, Message, Change, AddFlag, DropFlag, RowOutcome, CoordinatorTable, transaction_at, is_work, all_in, forget_row, thanked_changes, after_closing, changes_of_closing, begin_new, begin_again, begun_by, begin_row, seen_now, end_promised, end_stage, end_row, abort_stage, abort_request, told_stage, inquire_row, counted_vote, vote_stage, vote_row, done_stage, done_row, thanks_stage, thanks_row, with_work, coordinator_row, flags_of_thanked}
+use Rattle.jn_base.specs.declared.names.RequestNo.{RequestNo}
 use Rattle.jn_msgs.specs.declared.message.Vote.{Vote}
 use Rattle.jn_msgs.specs.declared.message.Message.TheVariants as messages
 use Rattle.jn_msgs.specs.declared.message.Vote.TheVariants as votes
@@ -59,28 +60,28 @@ module _ (t : CoordinatorTable) (k : Tickets) where
   forget : (T : Tid) (d : Commitment) → Flags (forget_row t k T d)
   forget T d = either (d.thanked && all_in d.works d.done) _ _ refl refl
 
-  again : (c : ClientNo) (request : ℕ) (o : Option Transaction) → Flags (begin_again t k c request o)
+  again : (c : ClientNo) (request : RequestNo) (o : Option Transaction) → Flags (begin_again t k c request o)
   again c request (Some y) = refl
   again c request None = refl
 
-  new : (u : CoordinatorTable) (changes : List Change) (c : ClientNo) (request : ℕ) → list_all is_of_flag changes ≡ true → Flags (begin_new u changes k c request)
+  new : (u : CoordinatorTable) (changes : List Change) (c : ClientNo) (request : RequestNo) → list_all is_of_flag changes ≡ true → Flags (begin_new u changes k c request)
   new u changes c request h = either (nat_lt (length u.transactions) 64) _ _ h h
 
-  begins : (c : ClientNo) (request : ℕ) → Flags (begin_row t k c request)
-  begins c request = either (nat_lt (t.seen c) request) _ _ (new (record { transactions = after_closing c t.transactions; seen = seen_now t.seen c request }) (changes_of_closing c t.transactions) c request (closing-flags c t.transactions))
-      (either (nat_eq (t.seen c) request) _ _ (again c request (begun_by c request t.transactions)) refl)
+  begins : (c : ClientNo) (request : RequestNo) → Flags (begin_row t k c request)
+  begins c request = either (nat_lt (t.seen c) request.0) _ _ (new (record { transactions = after_closing c t.transactions; seen = seen_now t.seen c request }) (changes_of_closing c t.transactions) c request (closing-flags c t.transactions))
+      (either (nat_eq (t.seen c) request.0) _ _ (again c request (begun_by c request t.transactions)) refl)
 
-  promised : (y : Transaction) (request : ℕ) (works : List WorkId) → Flags (end_promised t k y request works)
+  promised : (y : Transaction) (request : RequestNo) (works : List WorkId) → Flags (end_promised t k y request works)
   promised y request [] = refl
   promised y request (W ∷ Ws) = refl
 
-  ends-at : (free : ℕ) (y : Transaction) (request : ℕ) (works : List WorkId) (s : Stage) → Flags (end_stage t free k y request works s)
+  ends-at : (free : ℕ) (y : Transaction) (request : RequestNo) (works : List WorkId) (s : Stage) → Flags (end_stage t free k y request works s)
   ends-at free y request works Open = either (nat_lt free 1) _ _ refl (promised y request works)
   ends-at free y request works (Voting b) = refl
   ends-at free y request works (Committed d) = refl
   ends-at free y request works (Aborted cause) = refl
 
-  ends : (free : ℕ) (c : ClientNo) (request : ℕ) (T : Tid) (works : List WorkId) (o : Option Transaction) → Flags (end_row t free k c request T works o)
+  ends : (free : ℕ) (c : ClientNo) (request : RequestNo) (T : Tid) (works : List WorkId) (o : Option Transaction) → Flags (end_row t free k c request T works o)
   ends free c request T works (Some y) = ends-at free y request works y.stage
   ends free c request T works None = refl
 

@@ -11,7 +11,7 @@ use Rattle.jn_base.specs.declared.op.Answer.{Answer}
 use Rattle.jn_base.specs.declared.op.Answer.TheVariants as answers
 use Rattle.jn_base.specs.declared.op.Command.{Command}
 use Rattle.jn_base.specs.declared.op.Command.TheVariants.{Begin, Open, Do, End, Abort}
-use Rattle.jn_base.specs.Names.{server_eq, client_eq, tid_eq}
+use Rattle.jn_base.specs.Names.{server_eq, client_eq, request_eq, request_of, operation_of, tid_eq}
 use Rattle.jn_msgs.specs.declared.message.Outcome.{Outcome}
 use Rattle.jn_msgs.specs.declared.message.Outcome.TheVariants.{Committed, Aborted, Waiting, NotKnown}
 use Rattle.jn_msgs.specs.declared.message.Message.{Message}
@@ -47,7 +47,7 @@ pub data Commanded : Type 0 where
 
 -- the next request is drawn, and its message sent
 abbrev pub sends : ClientTable → ℕ → Command → Party → Message → Commanded
-sends t j command to m = Sends (record t { next = t.next + 1; outstanding = Some (record { event = j; request = t.next; command = command; to = to; message = m }) }) to m
+sends t j command to m = Sends (record t { next = t.next + 1; outstanding = Some (record { event = j; request = request_of t.next; command = command; to = to; message = m }) }) to m
 
 -- the work at a server
 abbrev pub work_at : ServerNo → List OpenWork → Option OpenWork
@@ -89,15 +89,15 @@ names_of ws = map (λ (w : OpenWork). w.work) ws
 -- what a command that event j gives does
 abbrev pub command_row : ClientTable → ℕ → Command → Commanded
 command_row t j (Begin s) = if_server t s (if_idle t.outstanding (if_no_transaction t.transaction
-    (sends t j (Begin s) (Server s) (messages.Begin t.client t.next))))
+    (sends t j (Begin s) (Server s) (messages.Begin t.client (request_of t.next)))))
 command_row t j (Open s) = if_server t s (if_idle t.outstanding (if_transaction t.transaction (λ T. if_not_open (work_at s t.works)
-    (sends t j (Open s) (Server s) (messages.Open t.client t.next T)))))
+    (sends t j (Open s) (Server s) (messages.Open t.client (request_of t.next) T)))))
 command_row t j (Do s op) = if_server t s (if_idle t.outstanding (if_transaction t.transaction (λ T. if_open (work_at s t.works)
-    (λ w. sends (record t { works = with_operation s t.works }) j (Do s op) (Server s) (messages.Op t.client t.next w.work (w.last + 1) op)))))
+    (λ w. sends (record t { works = with_operation s t.works }) j (Do s op) (Server s) (messages.Op t.client (request_of t.next) w.work (operation_of (w.last + 1)) op)))))
 command_row t j End = if_idle t.outstanding (if_transaction t.transaction
-    (λ T. sends t j End (Server T.server) (messages.End t.client t.next T (names_of t.works))))
+    (λ T. sends t j End (Server T.server) (messages.End t.client (request_of t.next) T (names_of t.works))))
 command_row t j Abort = if_transaction t.transaction
-    (λ T. sends t j Abort (Server T.server) (messages.Abort t.client t.next T (names_of t.works)))
+    (λ T. sends t j Abort (Server T.server) (messages.Abort t.client (request_of t.next) T (names_of t.works)))
 
 -- the outstanding message once more
 abbrev pub sent_again : Option Outstanding → Option (Party × Message)
@@ -198,10 +198,10 @@ outcome_row t T (NotKnown s epoch) = if is_current t T
 -- what a message does; one for another client, or that no client takes, is ignored
 abbrev pub take_row : ClientTable → Message → ClientTable × Taken
 take_row t (messages.Begun c request answer) = if_waits t t.outstanding
-    (λ o. client_eq c t.client && (nat_eq o.request request && is_begin o.command)) (λ j. begun_row t j answer)
+    (λ o. client_eq c t.client && (request_eq o.request request && is_begin o.command)) (λ j. begun_row t j answer)
 take_row t (messages.Opened c request T answer) = if_waits t t.outstanding
-    (λ o. client_eq c t.client && (nat_eq o.request request && (is_current t T && opens answer o.command))) (λ j. opened_row t j answer)
+    (λ o. client_eq c t.client && (request_eq o.request request && (is_current t T && opens answer o.command))) (λ j. opened_row t j answer)
 take_row t (messages.Answer c request answer) = if_waits t t.outstanding
-    (λ o. client_eq c t.client && (nat_eq o.request request && is_operation o.command)) (λ j. told (idle t) (answer_line t.client j answer))
+    (λ o. client_eq c t.client && (request_eq o.request request && is_operation o.command)) (λ j. told (idle t) (answer_line t.client j answer))
 take_row t (messages.Outcome c T outcome) = if client_eq c t.client then outcome_row t T outcome else ignored t
 take_row t m = ignored t

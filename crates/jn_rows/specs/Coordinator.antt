@@ -2,6 +2,7 @@
 use Rattle.std.specs.Prelude.{ℕ, Bool, true, false, not, nat_eq, nat_lt, ◌+◌, ◌&&◌, ◌||◌, if◌then◌else◌, List, [], ◌∷◌, ◌++◌, map, filter, length, Option, Some, None}
 use Rattle.std.specs.List.{list_all}
 use Rattle.jn_base.specs.declared.names.ClientNo.{ClientNo}
+use Rattle.jn_base.specs.declared.names.RequestNo.{RequestNo}
 use Rattle.jn_base.specs.declared.names.Tid.{Tid}
 use Rattle.jn_base.specs.declared.names.WorkId.{WorkId}
 use Rattle.jn_base.specs.declared.names.Tickets.{Tickets}
@@ -9,7 +10,7 @@ use Rattle.jn_base.specs.declared.names.Cause.{Cause}
 use Rattle.jn_base.specs.declared.names.Cause.TheVariants.{Requested, Broken as BrokenAt, Lost as LostAt, Full as FullAt}
 use Rattle.jn_base.specs.declared.names.Party.TheVariants.{Client, Server}
 use Rattle.jn_base.specs.declared.names.Resource.TheVariants as resources
-use Rattle.jn_base.specs.Names.{client_eq, tid_eq, work_eq}
+use Rattle.jn_base.specs.Names.{client_eq, request_eq, tid_eq, work_eq}
 use Rattle.jn_base.specs.Limits.{most_transactions}
 use Rattle.jn_msgs.specs.declared.message.Message.{Message}
 use Rattle.jn_msgs.specs.declared.message.Message.TheVariants as messages
@@ -25,8 +26,8 @@ use Rattle.jn_rows.specs.declared.coordinator.Committed.{Committed as Commitment
 use Rattle.jn_rows.specs.Stable.{Change, FlagState, AddFlag, DropFlag, StableState}
 use Rattle.jn_rows.specs.Outcomes.{RowOutcome, Sent, quiet, ignored, sends}
 
--- its live transactions, in rising order of their names, and the greatest request that it has seen of each client, 0
--- where it has seen none
+-- its live transactions, in rising order of their names, and the number of the greatest request that it has
+-- seen of each client, 0 where it has seen none
 pub record CoordinatorTable : Type 0 where
   pub transactions : List Transaction
   pub seen : ClientNo → ℕ
@@ -79,7 +80,7 @@ aborted_to x cause = (Client x.client, messages.Outcome x.client x.tid (outcomes
 -- ---- to commit, to abort, to forget
 
 -- its flag is put, and then its works and its client are told
-abbrev pub commit_row : CoordinatorTable → Tickets → Transaction → ℕ → List WorkId → RowOutcome CoordinatorTable
+abbrev pub commit_row : CoordinatorTable → Tickets → Transaction → RequestNo → List WorkId → RowOutcome CoordinatorTable
 commit_row t k x request works = record {
   table = staged t x.tid (Committed (record { works = works; done = []; thanked = false }));
   changes = AddFlag (record { tid = x.tid; client = x.client; request = request; works = works }) ∷ [];
@@ -127,33 +128,33 @@ changes_of_closing c (x ∷ xs) = if client_eq x.client c then thanked_changes x
 abbrev pub name_from : Tickets → Tid
 name_from k = record { server = k.server; epoch = k.epoch; ticket = k.next }
 
-abbrev pub seen_now : (ClientNo → ℕ) → ClientNo → ℕ → ClientNo → ℕ
-seen_now seen c request d = if client_eq c d then request else seen d
+abbrev pub seen_now : (ClientNo → ℕ) → ClientNo → RequestNo → ClientNo → ℕ
+seen_now seen c request d = if client_eq c d then request.0 else seen d
 
-abbrev pub begin_new : CoordinatorTable → List Change → Tickets → ClientNo → ℕ → RowOutcome CoordinatorTable
+abbrev pub begin_new : CoordinatorTable → List Change → Tickets → ClientNo → RequestNo → RowOutcome CoordinatorTable
 begin_new t changes k c request = if nat_lt (length t.transactions) most_transactions
     then record (sends (record t { transactions = t.transactions ++ (record { tid = name_from k; client = c; begun = Some request; stage = Open }) ∷ [] })
     (record k { next = k.next + 1 }) ((Client c, messages.Begun c request (Some (name_from k))) ∷ [])) { changes = changes }
     else record (sends t k ((Client c, messages.Begun c request None) ∷ [])) { changes = changes }
 
-abbrev pub is_begun : Option ℕ → ℕ → Bool
+abbrev pub is_begun : Option RequestNo → RequestNo → Bool
 is_begun None request = false
-is_begun (Some begun) request = nat_eq begun request
+is_begun (Some begun) request = request_eq begun request
 
 -- the client's transaction that this request began
-abbrev pub begun_by : ClientNo → ℕ → List Transaction → Option Transaction
+abbrev pub begun_by : ClientNo → RequestNo → List Transaction → Option Transaction
 begun_by c request [] = None
 begun_by c request (x ∷ xs) = if client_eq x.client c && is_begun x.begun request then Some x else begun_by c request xs
 
-abbrev pub begin_again : CoordinatorTable → Tickets → ClientNo → ℕ → Option Transaction → RowOutcome CoordinatorTable
+abbrev pub begin_again : CoordinatorTable → Tickets → ClientNo → RequestNo → Option Transaction → RowOutcome CoordinatorTable
 begin_again t k c request (Some x) = sends t k ((Client c, messages.Begun c request (Some x.tid)) ∷ [])
 begin_again t k c request None = ignored t k
 
 -- a greater request than was seen closes the client's transactions first; an equal one is answered again
-abbrev pub begin_row : CoordinatorTable → Tickets → ClientNo → ℕ → RowOutcome CoordinatorTable
-begin_row t k c request = if nat_lt (t.seen c) request
+abbrev pub begin_row : CoordinatorTable → Tickets → ClientNo → RequestNo → RowOutcome CoordinatorTable
+begin_row t k c request = if nat_lt (t.seen c) request.0
     then begin_new (record { transactions = after_closing c t.transactions; seen = seen_now t.seen c request }) (changes_of_closing c t.transactions) k c request
-    else (if nat_eq (t.seen c) request then begin_again t k c request (begun_by c request t.transactions) else ignored t k)
+    else (if nat_eq (t.seen c) request.0 then begin_again t k c request (begun_by c request t.transactions) else ignored t k)
 
 -- ---- End and Abort
 
@@ -161,23 +162,23 @@ begin_row t k c request = if nat_lt (t.seen c) request
 abbrev pub not_known : CoordinatorTable → Tickets → ClientNo → Tid → List WorkId → RowOutcome CoordinatorTable
 not_known t k c T works = sends t k ((Client c, messages.Outcome c T (outcomes.NotKnown k.server k.epoch)) ∷ drops T works)
 
-abbrev pub end_promised : CoordinatorTable → Tickets → Transaction → ℕ → List WorkId → RowOutcome CoordinatorTable
+abbrev pub end_promised : CoordinatorTable → Tickets → Transaction → RequestNo → List WorkId → RowOutcome CoordinatorTable
 end_promised t k x request [] = commit_row t k x request []
 end_promised t k x request (W ∷ Ws) = sends (staged t x.tid (Voting (record { request = request; works = W ∷ Ws; ready = [] }))) k (prepares x.tid x.client (W ∷ Ws))
 
 -- one record is promised for its flag; without works it commits at once
-abbrev pub end_open : CoordinatorTable → ℕ → Tickets → Transaction → ℕ → List WorkId → RowOutcome CoordinatorTable
+abbrev pub end_open : CoordinatorTable → ℕ → Tickets → Transaction → RequestNo → List WorkId → RowOutcome CoordinatorTable
 end_open t free k x request works = if nat_lt free 1
     then abort_row t k x (FullAt k.server resources.Records free 1) works
     else end_promised t k x request works
 
-abbrev pub end_stage : CoordinatorTable → ℕ → Tickets → Transaction → ℕ → List WorkId → Stage → RowOutcome CoordinatorTable
+abbrev pub end_stage : CoordinatorTable → ℕ → Tickets → Transaction → RequestNo → List WorkId → Stage → RowOutcome CoordinatorTable
 end_stage t free k x request works Open = end_open t free k x request works
 end_stage t free k x request works (Voting b) = sends t k (prepares x.tid x.client (besides b.works b.ready))
 end_stage t free k x request works (Committed d) = sends t k (committed_to x ∷ [])
 end_stage t free k x request works (Aborted cause) = sends t k (aborted_to x cause ∷ [])
 
-abbrev pub end_row : CoordinatorTable → ℕ → Tickets → ClientNo → ℕ → Tid → List WorkId → Option Transaction → RowOutcome CoordinatorTable
+abbrev pub end_row : CoordinatorTable → ℕ → Tickets → ClientNo → RequestNo → Tid → List WorkId → Option Transaction → RowOutcome CoordinatorTable
 end_row t free k c request T works (Some x) = end_stage t free k x request works x.stage
 end_row t free k c request T works None = not_known t k c T works
 
@@ -314,7 +315,7 @@ restored_transactions x (T ∷ Ts) = restored_transaction T (x.flags T) ++ resto
 -- the greatest request in a flag of the client
 abbrev pub seen_in_flag : ClientNo → Option FlagState → ℕ → ℕ
 seen_in_flag c None seen = seen
-seen_in_flag c (Some flag) seen = if client_eq flag.client c && nat_lt seen flag.request then flag.request else seen
+seen_in_flag c (Some flag) seen = if client_eq flag.client c && nat_lt seen flag.request.0 then flag.request.0 else seen
 
 abbrev pub seen_in_flags : StableState → List Tid → ClientNo → ℕ
 seen_in_flags x [] c = 0

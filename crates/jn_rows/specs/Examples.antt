@@ -9,7 +9,7 @@ use Rattle.jn_base.specs.declared.names.Tid.{Tid}
 use Rattle.jn_base.specs.declared.names.WorkId.{WorkId}
 use Rattle.jn_base.specs.declared.names.Tickets.{Tickets}
 use Rattle.jn_base.specs.declared.op.Answer.{Answer}
-use Rattle.jn_base.specs.Names.{file_eq}
+use Rattle.jn_base.specs.Names.{file_eq, request_of}
 use Rattle.jn_order.specs.Files.{Files, there, zeros}
 use Rattle.jn_records.specs.declared.intention.What.TheVariants.{Put, Fresh}
 use Rattle.jn_records.specs.declared.intention.Intention.{Intention}
@@ -83,7 +83,7 @@ fresh_4 = plain Fresh (file 4) 0
 -- ---- a coordinator of server 1
 
 abbrev pub transaction : ℕ → ℕ → Stage → Transaction
-transaction n begun stage = record { tid = tid n; client = client; begun = Some begun; stage = stage }
+transaction n begun stage = record { tid = tid n; client = client; begun = Some (request_of begun); stage = stage }
 
 abbrev pub coordinator : List Transaction → CoordinatorTable
 coordinator xs = record { transactions = xs; seen = λ c. 5 }
@@ -108,11 +108,11 @@ holding W T going next = record (storage 3) {
 
 -- its End named two works, and this one is ready
 abbrev pub ballot : WorkId → CoordinatorTable
-ballot W = coordinator (transaction 1 5 (Voting (record { request = 7; works = far_work 2 ∷ work 5 ∷ []; ready = W ∷ [] })) ∷ [])
+ballot W = coordinator (transaction 1 5 (Voting (record { request = request_of 7; works = far_work 2 ∷ work 5 ∷ []; ready = W ∷ [] })) ∷ [])
 
 -- a flag of two works, ended by request 7, and what a restart makes of it once these are done
 abbrev pub flagged : StableState
-flagged = record (storage 3).state { flags = at_tid (λ T. None) (tid 1) (Some (record { client = client; request = 7; works = far_work 2 ∷ work 5 ∷ [] })) }
+flagged = record (storage 3).state { flags = at_tid (λ T. None) (tid 1) (Some (record { client = client; request = request_of 7; works = far_work 2 ∷ work 5 ∷ [] })) }
 
 abbrev pub committed : ℕ → List WorkId → Bool → Transaction
 committed n done thanked = record { tid = tid n; client = client; begun = None; stage = Committed (record { works = far_work 2 ∷ work 5 ∷ []; done = done; thanked = thanked }) }

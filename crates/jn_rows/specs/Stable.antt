@@ -2,6 +2,7 @@
 use Rattle.std.specs.Prelude.{◌≡◌, ◌⊎◌, ℕ, ◌+◌, Bool, true, false, List, [], ◌∷◌, take, Option, Some, None, if◌then◌else◌}
 use Rattle.jn_base.specs.declared.names.ClientNo.{ClientNo}
 use Rattle.jn_base.specs.declared.names.LockUnit.{LockUnit}
+use Rattle.jn_base.specs.declared.names.RequestNo.{RequestNo}
 use Rattle.jn_base.specs.declared.names.Tid.{Tid}
 use Rattle.jn_base.specs.declared.names.WorkId.{WorkId}
 use Rattle.jn_base.specs.Names.{tid_eq, work_eq}
@@ -26,7 +27,7 @@ pub record Prepared : Type 0 where
 -- ended it, its works
 pub record FlagState : Type 0 where
   pub client : ClientNo
-  pub request : ℕ
+  pub request : RequestNo
   pub works : List WorkId
 
 -- works and flags by name, as no order of them is stable

@@ -3,6 +3,8 @@ use Rattle.std.specs.Prelude.{ℕ, Bool, true, false, not, nat_eq, nat_lt, ◌+�
 use Rattle.jn_base.specs.declared.names.ClientNo.{ClientNo}
 use Rattle.jn_base.specs.declared.names.FileNo.{FileNo}
 use Rattle.jn_base.specs.declared.names.BlockNo.{BlockNo}
+use Rattle.jn_base.specs.declared.names.RequestNo.{RequestNo}
+use Rattle.jn_base.specs.declared.names.OperationNo.{OperationNo}
 use Rattle.jn_base.specs.declared.names.Tid.{Tid}
 use Rattle.jn_base.specs.declared.names.WorkId.{WorkId}
 use Rattle.jn_base.specs.declared.names.Tickets.{Tickets}
@@ -181,7 +183,7 @@ abbrev pub new_work : WorkId → Tid → Work
 new_work W T = record { name = W; tid = T; phase = Active (record { list = []; reads = []; writes = []; last = 0; kept = None; vulnerable = false }) }
 
 -- a live work of T is told again; else there is a new one, unless as many are live as may be
-abbrev pub open_row : WorkerTable → Tickets → ClientNo → ℕ → Tid → Option Work → RowOutcome WorkerTable
+abbrev pub open_row : WorkerTable → Tickets → ClientNo → RequestNo → Tid → Option Work → RowOutcome WorkerTable
 open_row t k c request T (Some w) = sends t k ((Client c, messages.Opened c request T (Some w.name)) ∷ [])
 open_row t k c request T None = if nat_lt (length t) most_works
     then sends (t ++ new_work (name_from k) T ∷ []) (record k { next = k.next + 1 }) ((Client c, messages.Opened c request T (Some (name_from k))) ∷ [])
@@ -189,7 +191,7 @@ open_row t k c request T None = if nat_lt (length t) most_works
 
 -- ---- Op
 
-abbrev pub replies : WorkerTable → Tickets → ClientNo → ℕ → Answer → RowOutcome WorkerTable
+abbrev pub replies : WorkerTable → Tickets → ClientNo → RequestNo → Answer → RowOutcome WorkerTable
 replies t k c request answer = sends t k ((Client c, messages.Answer c request answer) ∷ [])
 
 -- whether the file is as the operation needs it
@@ -232,31 +234,31 @@ refusal_of t W a op answer wants = first_of_two
     (past_limit (length (with_units (units_for Read wants) a.reads)) (if is_fit answer then length_with a.list op else length a.list))
     (locked (conflict W wants t))
 
-abbrev pub granted_row : WorkerTable → Tickets → ClientNo → ℕ → Work → ActiveWork → Op → Answer → List Wanted → Option Answer → RowOutcome WorkerTable
+abbrev pub granted_row : WorkerTable → Tickets → ClientNo → RequestNo → Work → ActiveWork → Op → Answer → List Wanted → Option Answer → RowOutcome WorkerTable
 granted_row t k c request w a op answer wants (Some refusal) = replies (with_phase w.name (Active (counted a refusal)) t) k c request refusal
 granted_row t k c request w a op answer wants None = record (replies (with_phase w.name (Active (done a op answer wants)) (after_grant w.tid w.name wants t)) k c request answer) {
   notes = break_notes w.tid w.name wants t;
 }
 
 -- the next operation, whose answer the work's files give
-abbrev pub performed : WorkerTable → Tickets → ClientNo → ℕ → Work → ActiveWork → Op → Answer → RowOutcome WorkerTable
+abbrev pub performed : WorkerTable → Tickets → ClientNo → RequestNo → Work → ActiveWork → Op → Answer → RowOutcome WorkerTable
 performed t k c request w a op answer = granted_row t k c request w a op answer (wants_of op (is_fit answer)) (refusal_of t w.name a op answer (wants_of op (is_fit answer)))
 
-abbrev pub repeated : WorkerTable → Tickets → ClientNo → ℕ → Option Answer → RowOutcome WorkerTable
+abbrev pub repeated : WorkerTable → Tickets → ClientNo → RequestNo → Option Answer → RowOutcome WorkerTable
 repeated t k c request (Some answer) = replies t k c request answer
 repeated t k c request None = ignored t k
 
-abbrev pub by_number : WorkerTable → Files → Tickets → ClientNo → ℕ → Work → ActiveWork → ℕ → Op → RowOutcome WorkerTable
-by_number t files k c request w a number op = if nat_eq number (a.last + 1)
+abbrev pub by_number : WorkerTable → Files → Tickets → ClientNo → RequestNo → Work → ActiveWork → OperationNo → Op → RowOutcome WorkerTable
+by_number t files k c request w a number op = if nat_eq number.0 (a.last + 1)
     then performed t k c request w a op (answer_to op (change (list_change a.list) files))
-    else (if nat_eq number a.last then repeated t k c request a.kept else ignored t k)
+    else (if nat_eq number.0 a.last then repeated t k c request a.kept else ignored t k)
 
-abbrev pub op_phase : WorkerTable → Files → Tickets → ClientNo → ℕ → Work → ℕ → Op → Phase → RowOutcome WorkerTable
+abbrev pub op_phase : WorkerTable → Files → Tickets → ClientNo → RequestNo → Work → OperationNo → Op → Phase → RowOutcome WorkerTable
 op_phase t files k c request w number op (Active a) = by_number t files k c request w a number op
 op_phase t files k c request w number op (Broken u by) = replies t k c request (BrokenAnswer u by)
 op_phase t files k c request w number op (Stored p) = replies t k c request Closing
 
-abbrev pub op_row : WorkerTable → Files → Tickets → ClientNo → ℕ → WorkId → ℕ → Op → Option Work → RowOutcome WorkerTable
+abbrev pub op_row : WorkerTable → Files → Tickets → ClientNo → RequestNo → WorkId → OperationNo → Op → Option Work → RowOutcome WorkerTable
 op_row t files k c request W number op (Some w) = op_phase t files k c request w number op w.phase
 op_row t files k c request W number op None = replies t k c request (LostAnswer W.epoch k.epoch)
 

@@ -1,6 +1,6 @@
 //! What a client remembers of its transaction and of the command that it waits for.
 
-use jn_base::{Command, Party, WorkId};
+use jn_base::{Command, Party, RequestNo, WorkId};
 use jn_msgs::Message;
 use jn_report::Text;
 
@@ -16,7 +16,7 @@ pub struct OpenWork {
 pub struct Outstanding {
     /// The number of the event that gave the command.
     pub event: u32,
-    pub request: u32,
+    pub request: RequestNo,
     pub command: Command,
     pub to: Party,
     pub message: Message,

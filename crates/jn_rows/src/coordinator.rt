@@ -1,6 +1,6 @@
 //! What a coordinator remembers of its transactions.
 
-use jn_base::{Cause, ClientNo, Tid};
+use jn_base::{Cause, ClientNo, RequestNo, Tid};
 use jn_msgs::Works;
 
 /// A transaction at its coordinator, from its Begin until it is forgotten.
@@ -9,7 +9,7 @@ pub struct Transaction {
     pub tid: Tid,
     pub client: ClientNo,
     /// The request that began it; none where a restart found its flag, which doesn't have it.
-    pub begun: Option<u32>,
+    pub begun: Option<RequestNo>,
     pub stage: Stage,
 }
 
@@ -29,7 +29,7 @@ pub enum Stage {
 #[derive(Drop)]
 pub struct Voting {
     /// The request that ended it.
-    pub request: u32,
+    pub request: RequestNo,
     /// In the order in which the client opened them.
     pub works: Works,
     /// The works that are prepared.

@@ -6,6 +6,7 @@ ghost use Rattle.jn_base.specs.declared.names.Party.TheVariants.{Client, Server}
 ghost use Rattle.jn_base.specs.declared.names.Cause.TheVariants as causes;
 ghost use Rattle.jn_base.specs.declared.names.Resource.TheVariants as resources;
 ghost use Rattle.jn_base.specs.declared.op.Op.TheVariants as ops;
+ghost use Rattle.jn_base.specs.Names.{request_of, operation_of};
 ghost use Rattle.jn_base.specs.declared.op.Answer.TheVariants as answers;
 ghost use Rattle.jn_order.specs.Files.{zeros};
 ghost use Rattle.jn_msgs.specs.declared.message.Message.TheVariants as messages;
@@ -22,30 +23,30 @@ ghost use Rattle.jn_rows.specs.Examples.{tid, work, far_work, client, file, bloc
 
 /// A transaction opens a work, and is told the same work again.
 pub fn a_work_is_opened_once()
-    ensures new { worker_row [] (storage 3) (tickets 0 5) (messages.Open client 9 (tid 1)) ≡ record {
+    ensures new { worker_row [] (storage 3) (tickets 0 5) (messages.Open client (request_of 9) (tid 1)) ≡ record {
       table = new_work (work 5) (tid 1) ∷ [];
       changes = [];
-      messages = (Client client, messages.Opened client 9 (tid 1) (Some (work 5))) ∷ [];
+      messages = (Client client, messages.Opened client (request_of 9) (tid 1) (Some (work 5))) ∷ [];
       notes = [];
       tickets = tickets 0 6;
     } }
-    ensures again { (worker_row (new_work (work 5) (tid 1) ∷ []) (storage 3) (tickets 0 6) (messages.Open client 9 (tid 1))).messages
-        ≡ (Client client, messages.Opened client 9 (tid 1) (Some (work 5))) ∷ [] }
+    ensures again { (worker_row (new_work (work 5) (tid 1) ∷ []) (storage 3) (tickets 0 6) (messages.Open client (request_of 9) (tid 1))).messages
+        ≡ (Client client, messages.Opened client (request_of 9) (tid 1) (Some (work 5))) ∷ [] }
 {}
 
 /// The first operation is done, then told again, and one that was left out is ignored.
 pub fn operations_go_by_number()
-    ensures done { worker_row (new_work (work 5) (tid 1) ∷ []) (storage 3) (tickets 0 6) (messages.Op client 9 (work 5) 1 (ops.Create (file 4))) ≡ record {
+    ensures done { worker_row (new_work (work 5) (tid 1) ∷ []) (storage 3) (tickets 0 6) (messages.Op client (request_of 9) (work 5) (operation_of 1) (ops.Create (file 4))) ≡ record {
       table = active (work 5) (tid 1) (fresh_4 ∷ []) (File (file 4) ∷ []) (File (file 4) ∷ []) 1 (Some answers.Did) false ∷ [];
       changes = [];
-      messages = (Client client, messages.Answer client 9 answers.Did) ∷ [];
+      messages = (Client client, messages.Answer client (request_of 9) answers.Did) ∷ [];
       notes = [];
       tickets = tickets 0 6;
     } }
     ensures again { (worker_row (active (work 5) (tid 1) [] [] [] 1 (Some answers.Closing) false ∷ []) (storage 3) (tickets 0 6)
-        (messages.Op client 9 (work 5) 1 (ops.Create (file 4)))).messages
-        ≡ (Client client, messages.Answer client 9 answers.Closing) ∷ [] }
-    ensures skipped { (worker_row (new_work (work 5) (tid 1) ∷ []) (storage 3) (tickets 0 6) (messages.Op client 9 (work 5) 2 (ops.Create (file 4)))).notes
+        (messages.Op client (request_of 9) (work 5) (operation_of 1) (ops.Create (file 4)))).messages
+        ≡ (Client client, messages.Answer client (request_of 9) answers.Closing) ∷ [] }
+    ensures skipped { (worker_row (new_work (work 5) (tid 1) ∷ []) (storage 3) (tickets 0 6) (messages.Op client (request_of 9) (work 5) (operation_of 2) (ops.Create (file 4)))).notes
         ≡ notes.Ignored ∷ [] }
 {}
 
@@ -54,22 +55,22 @@ pub fn a_vulnerable_work_breaks()
     ensures locked { worker_row
         (active (work 5) (tid 1) (put_7 3 ∷ []) (File (file 7) ∷ []) (Block (file 7) (block 3) ∷ []) 1 (Some answers.Did) false
         ∷ new_work (work 6) (tid 2) ∷ [])
-        (storage 3) (tickets 0 7) (messages.Op client 9 (work 6) 1 (ops.Write (file 7) (block 3) zeros)) ≡ record {
+        (storage 3) (tickets 0 7) (messages.Op client (request_of 9) (work 6) (operation_of 1) (ops.Write (file 7) (block 3) zeros)) ≡ record {
           table = active (work 5) (tid 1) (put_7 3 ∷ []) (File (file 7) ∷ []) (Block (file 7) (block 3) ∷ []) 1 (Some answers.Did) false
               ∷ active (work 6) (tid 2) [] [] [] 1 (Some (answers.Locked (Block (file 7) (block 3)) (tid 1))) false ∷ [];
           changes = [];
-          messages = (Client client, messages.Answer client 9 (answers.Locked (Block (file 7) (block 3)) (tid 1))) ∷ [];
+          messages = (Client client, messages.Answer client (request_of 9) (answers.Locked (Block (file 7) (block 3)) (tid 1))) ∷ [];
           notes = [];
           tickets = tickets 0 7;
         } }
     ensures broken { worker_row
         (active (work 5) (tid 1) (put_7 3 ∷ []) (File (file 7) ∷ []) (Block (file 7) (block 3) ∷ []) 1 (Some answers.Did) true
         ∷ new_work (work 6) (tid 2) ∷ [])
-        (storage 3) (tickets 0 7) (messages.Op client 9 (work 6) 1 (ops.Write (file 7) (block 3) zeros)) ≡ record {
+        (storage 3) (tickets 0 7) (messages.Op client (request_of 9) (work 6) (operation_of 1) (ops.Write (file 7) (block 3) zeros)) ≡ record {
           table = record { name = work 5; tid = tid 1; phase = phases.Broken (Block (file 7) (block 3)) (tid 2) }
               ∷ active (work 6) (tid 2) (put_7 3 ∷ []) (File (file 7) ∷ []) (Block (file 7) (block 3) ∷ []) 1 (Some answers.Did) false ∷ [];
           changes = [];
-          messages = (Client client, messages.Answer client 9 answers.Did) ∷ [];
+          messages = (Client client, messages.Answer client (request_of 9) answers.Did) ∷ [];
           notes = notes.Broke (tid 1) (Block (file 7) (block 3)) (tid 2) ∷ [];
           tickets = tickets 0 7;
         } }
@@ -95,8 +96,8 @@ pub fn a_work_is_prepared_where_there_is_room()
 
 /// A work that isn't live: an operation of it is lost, and its commit counts as done.
 pub fn a_work_may_be_over()
-    ensures lost { (worker_row [] (storage 3) (tickets 0 7) (messages.Op client 9 (work 5) 1 (ops.Create (file 4)))).messages
-        ≡ (Client client, messages.Answer client 9 (answers.Lost 2 2)) ∷ [] }
+    ensures lost { (worker_row [] (storage 3) (tickets 0 7) (messages.Op client (request_of 9) (work 5) (operation_of 1) (ops.Create (file 4)))).messages
+        ≡ (Client client, messages.Answer client (request_of 9) (answers.Lost 2 2)) ∷ [] }
     ensures done { (worker_row [] (storage 3) (tickets 0 7) (messages.Commit (tid 1) (work 5))).messages
         ≡ (Server (tid 1).server, messages.Done (tid 1) (work 5)) ∷ [] }
 {}
@@ -104,12 +105,12 @@ pub fn a_work_may_be_over()
 /// An end asks each work in the client's order, and the last vote commits.
 pub fn the_last_vote_commits()
     ensures asked { (coordinator_row (coordinator (transaction 1 5 stages.Open ∷ [])) 1 (tickets 1 8)
-        (messages.End client 7 (tid 1) (far_work 2 ∷ work 5 ∷ []))).messages
+        (messages.End client (request_of 7) (tid 1) (far_work 2 ∷ work 5 ∷ []))).messages
         ≡ (Server (far_work 2).server, messages.Prepare (tid 1) client (far_work 2)) ∷ (Server (work 5).server, messages.Prepare (tid 1) client (work 5)) ∷ [] }
-    ensures committed { coordinator_row (coordinator (transaction 1 5 (stages.Voting (record { request = 7; works = far_work 2 ∷ work 5 ∷ []; ready = work 5 ∷ [] })) ∷ []))
+    ensures committed { coordinator_row (coordinator (transaction 1 5 (stages.Voting (record { request = request_of 7; works = far_work 2 ∷ work 5 ∷ []; ready = work 5 ∷ [] })) ∷ []))
         0 (tickets 1 8) (messages.Vote (tid 1) (far_work 2) votes.Ready) ≡ record {
           table = coordinator (transaction 1 5 (stages.Committed (record { works = far_work 2 ∷ work 5 ∷ []; done = []; thanked = false })) ∷ []);
-          changes = stable.AddFlag (record { tid = tid 1; client = client; request = 7; works = far_work 2 ∷ work 5 ∷ [] }) ∷ [];
+          changes = stable.AddFlag (record { tid = tid 1; client = client; request = request_of 7; works = far_work 2 ∷ work 5 ∷ [] }) ∷ [];
           messages = (Server (far_work 2).server, messages.Commit (tid 1) (far_work 2)) ∷ (Server (work 5).server, messages.Commit (tid 1) (work 5))
               ∷ (Client client, messages.Outcome client (tid 1) outcomes.Committed) ∷ [];
           notes = notes.Commit (tid 1) ∷ [];
@@ -119,7 +120,7 @@ pub fn the_last_vote_commits()
 
 /// A work that was lost aborts its transaction and needs no drop, and a transaction without room for its flag is aborted.
 pub fn a_transaction_aborts()
-    ensures lost { coordinator_row (coordinator (transaction 1 5 (stages.Voting (record { request = 7; works = far_work 2 ∷ work 5 ∷ []; ready = work 5 ∷ [] })) ∷ []))
+    ensures lost { coordinator_row (coordinator (transaction 1 5 (stages.Voting (record { request = request_of 7; works = far_work 2 ∷ work 5 ∷ []; ready = work 5 ∷ [] })) ∷ []))
         0 (tickets 1 8) (messages.Vote (tid 1) (far_work 2) (votes.Lost 6 7)) ≡ record {
           table = coordinator (transaction 1 5 (stages.Aborted (causes.Lost (far_work 2).server)) ∷ []);
           changes = [];
@@ -128,7 +129,7 @@ pub fn a_transaction_aborts()
           notes = [];
           tickets = tickets 1 8;
         } }
-    ensures full { (coordinator_row (coordinator (transaction 1 5 stages.Open ∷ [])) 0 (tickets 1 8) (messages.End client 7 (tid 1) [])).messages
+    ensures full { (coordinator_row (coordinator (transaction 1 5 stages.Open ∷ [])) 0 (tickets 1 8) (messages.End client (request_of 7) (tid 1) [])).messages
         ≡ (Client client, messages.Outcome client (tid 1) (outcomes.Aborted (causes.Full (tickets 1 8).server resources.Records 0 1))) ∷ [] }
 {}
 
@@ -137,13 +138,13 @@ pub fn a_later_begin_closes()
     ensures closes { (coordinator_row (coordinator
         (transaction 1 2 (stages.Committed (record { works = work 5 ∷ []; done = work 5 ∷ []; thanked = false }))
         ∷ transaction 2 4 (stages.Aborted causes.Requested) ∷ transaction 3 5 stages.Open ∷ []))
-        1 (tickets 1 8) (messages.Begin client 6)).table.transactions ≡ transaction 8 6 stages.Open ∷ [] }
+        1 (tickets 1 8) (messages.Begin client (request_of 6))).table.transactions ≡ transaction 8 6 stages.Open ∷ [] }
     ensures flags { (coordinator_row (coordinator
         (transaction 1 2 (stages.Committed (record { works = work 5 ∷ []; done = work 5 ∷ []; thanked = false })) ∷ []))
-        1 (tickets 1 8) (messages.Begin client 6)).changes ≡ stable.DropFlag (tid 1) ∷ [] }
-    ensures again { (coordinator_row (coordinator (transaction 3 5 stages.Open ∷ [])) 1 (tickets 1 8) (messages.Begin client 5)).messages
-        ≡ (Client client, messages.Begun client 5 (Some (tid 3))) ∷ [] }
-    ensures older { (coordinator_row (coordinator (transaction 3 5 stages.Open ∷ [])) 1 (tickets 1 8) (messages.Begin client 4)).notes
+        1 (tickets 1 8) (messages.Begin client (request_of 6))).changes ≡ stable.DropFlag (tid 1) ∷ [] }
+    ensures again { (coordinator_row (coordinator (transaction 3 5 stages.Open ∷ [])) 1 (tickets 1 8) (messages.Begin client (request_of 5))).messages
+        ≡ (Client client, messages.Begun client (request_of 5) (Some (tid 3))) ∷ [] }
+    ensures older { (coordinator_row (coordinator (transaction 3 5 stages.Open ∷ [])) 1 (tickets 1 8) (messages.Begin client (request_of 4))).notes
         ≡ notes.Ignored ∷ [] }
     ensures forgotten { coordinator_row (coordinator
         (transaction 1 2 (stages.Committed (record { works = work 5 ∷ []; done = []; thanked = true })) ∷ []))
@@ -201,8 +202,8 @@ pub fn a_prepared_work_goes_on()
 
 /// An abort of a vote drops the works of the end and then those of the abort, each once.
 pub fn an_abort_drops_each_work_once()
-    ensures { (coordinator_row (coordinator (transaction 1 5 (stages.Voting (record { request = 7; works = far_work 2 ∷ work 5 ∷ []; ready = [] })) ∷ []))
-        0 (tickets 1 8) (messages.Abort client 8 (tid 1) (work 5 ∷ work 6 ∷ []))).messages
+    ensures { (coordinator_row (coordinator (transaction 1 5 (stages.Voting (record { request = request_of 7; works = far_work 2 ∷ work 5 ∷ []; ready = [] })) ∷ []))
+        0 (tickets 1 8) (messages.Abort client (request_of 8) (tid 1) (work 5 ∷ work 6 ∷ []))).messages
         ≡ (Server (far_work 2).server, messages.Drop (tid 1) (far_work 2)) ∷ (Server (work 5).server, messages.Drop (tid 1) (work 5))
         ∷ (Server (work 6).server, messages.Drop (tid 1) (work 6))
         ∷ (Client client, messages.Outcome client (tid 1) (outcomes.Aborted causes.Requested)) ∷ [] }
@@ -222,7 +223,7 @@ pub fn a_waiting_vote_is_told()
         ((Client client, messages.Outcome client (tid 1) (outcomes.Waiting (far_work 2).server (File (file 7)) (tid 6))) ∷ []) }
     ensures noted { coordinator_row (ballot (work 5)) 0 (tickets 1 8) (messages.Vote (tid 1) (work 5) (votes.Waiting (File (file 7)) (tid 6)))
         ≡ ignored (ballot (work 5)) (tickets 1 8) }
-    ensures asked { coordinator_row (ballot (work 5)) 0 (tickets 1 8) (messages.End client 8 (tid 1) (far_work 2 ∷ work 5 ∷ []))
+    ensures asked { coordinator_row (ballot (work 5)) 0 (tickets 1 8) (messages.End client (request_of 8) (tid 1) (far_work 2 ∷ work 5 ∷ []))
         ≡ sends (ballot (work 5)) (tickets 1 8) ((Server (far_work 2).server, messages.Prepare (tid 1) client (far_work 2)) ∷ []) }
 {}
 

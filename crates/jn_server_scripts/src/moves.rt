@@ -4,7 +4,9 @@ ghost use Rattle.jn_coord.specs.Handling.{FewWorks};
 ghost use Rattle.jn_storage.specs.Viewing.{BlockInRange};
 ghost use Rattle.jn_worker.specs.Handling.{InRange};
 
-use jn_base::{BlockContent, BlockNo, ClientNo, FileNo, Op, ServerNo, Tid, WorkId};
+use jn_base::{
+    BlockContent, BlockNo, ClientNo, FileNo, Op, OperationNo, RequestNo, ServerNo, Tid, WorkId,
+};
 use jn_msgs::{Message, Vote, Works};
 use std::alloc::{AllocError, Global};
 
@@ -28,7 +30,10 @@ pub enum Named {
     Two(WorkId, WorkId),
 }
 
-/// What a server does. A client's number comes first; its request is number 9, but that of a Begin.
+/// The request of each message that has one, but of a Begin.
+const REQUEST: RequestNo = RequestNo(9);
+
+/// What a server does. A client's number comes first.
 #[derive(Clone, Copy)]
 pub enum Move {
     Begin(u8, u32),
@@ -96,13 +101,19 @@ pub fn message_of(alloc: Global, step: Move) -> Result<Option<Message>, AllocErr
     ensures few { IfOk result (λ message. IfSome message FewWorks) }
 {
     let message = match step {
-        Move::Begin(c, request) => Message::Begin(ClientNo(c), request),
-        Move::Open(c, t) => Message::Open(ClientNo(c), 9, t),
+        Move::Begin(c, request) => Message::Begin(ClientNo(c), RequestNo(request)),
+        Move::Open(c, t) => Message::Open(ClientNo(c), REQUEST, t),
         Move::Do(c, w, number, task) => {
-            Message::Op(ClientNo(c), 9, w, number, op_of(alloc, task)?)
+            let op = op_of(alloc, task)?;
+            Message::Op(ClientNo(c), REQUEST, w, OperationNo(number), op)
         }
-        Move::End(c, t, named) => Message::End(ClientNo(c), 9, t, works_of(alloc, named)?),
-        Move::Abort(c, t, named) => Message::Abort(ClientNo(c), 9, t, works_of(alloc, named)?),
+        Move::End(c, t, named) => Message::End(ClientNo(c), REQUEST, t, works_of(alloc, named)?),
+        Move::Abort(c, t, named) => Message::Abort(
+            ClientNo(c),
+            REQUEST,
+            t,
+            works_of(alloc, named)?,
+        ),
         Move::Thanks(c, t) => Message::Thanks(ClientNo(c), t),
         Move::Prepare(t, c, w) => Message::Prepare(t, ClientNo(c), w),
         Move::Commit(t, w) => Message::Commit(t, w),
@@ -110,7 +121,7 @@ pub fn message_of(alloc: Global, step: Move) -> Result<Option<Message>, AllocErr
         Move::Vote(t, w, vote) => Message::Vote(t, w, vote),
         Move::Done(t, w) => Message::Done(t, w),
         Move::Inquire(t, w) => Message::Inquire(t, w),
-        Move::Stray(c) => Message::Begun(ClientNo(c), 9, None),
+        Move::Stray(c) => Message::Begun(ClientNo(c), REQUEST, None),
         Move::Step | Move::Again | Move::Timeout(_) | Move::Scrub | Move::Show | Move::Close =>
             return Ok(None),
     };

@@ -1,7 +1,8 @@
 //! What a server sends, notes and shows, in words: every field of a message, after whom it goes to.
 
 use jn_base::{
-    Answer, Block, BlockContent, Cause, ClientNo, FileNo, LockUnit, Party, Resource, Tid, WorkId,
+    Answer, Block, BlockContent, Cause, ClientNo, FileNo, LockUnit, Party, RequestNo, Resource,
+    Tid, WorkId,
 };
 use jn_msgs::{Message, Note, Out, Outcome, Vote};
 use jn_server::Shown;
@@ -202,10 +203,10 @@ impl Words {
     }
 
     /// An answer to a client's request.
-    fn reply(&mut self, kind: &str, c: ClientNo, request: u32) -> Result<(), AllocError> {
+    fn reply(&mut self, kind: &str, c: ClientNo, request: RequestNo) -> Result<(), AllocError> {
         self.word(kind)?;
         self.client(c)?;
-        self.number(request)
+        self.number(request.0)
     }
 
     fn begun(&mut self, t: Option<Tid>) -> Result<(), AllocError> {

@@ -52,7 +52,7 @@ fn flag_fits(flag: &Flag)
     ensures { FlagFits flag.now }
 {
     let _client = flag.client.0;
-    let _request = flag.request;
+    let _request = flag.request.0;
     tid_fits(flag.tid);
     works_fit(flag.works.as_slice());
 }

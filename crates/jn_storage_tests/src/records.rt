@@ -1,6 +1,8 @@
 //! Pages of records written out by hand.
 
-use jn_base::{BlockNo, ClientNo, FileNo, LockUnit, Page, PageWriter, ServerNo, Tid, WorkId};
+use jn_base::{
+    BlockNo, ClientNo, FileNo, LockUnit, Page, PageWriter, RequestNo, ServerNo, Tid, WorkId,
+};
 use jn_records::{Record, StoredIntention, What, WorkHead};
 use std::alloc::{AllocError, Global};
 use std::test::Fail;
@@ -126,7 +128,7 @@ fn is_the_flag(value: &Record) -> bool {
             let works = flag.works.as_slice();
             flag.tid == TID
                 && flag.client == ClientNo(8)
-                && flag.request == 256
+                && flag.request == RequestNo(256)
                 && works == [WORK].as_slice()
         }
         _ => false,

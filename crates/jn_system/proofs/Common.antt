@@ -12,7 +12,7 @@ pub use Rattle.jn_rows.specs.Stable.{StableState, Prepared, Pick, MarkGoing, Car
 pub use Rattle.jn_locks.specs.Locks.{is_unit, unit_eq, together, unit_before}
 unfoldable pub use Rattle.jn_locks.specs.Locks.{work_before}
 pub use Rattle.jn_system.specs.SmallSteps.Held.{commit_units, HoldsForCommit, Writes, HasRead, ReadsFiles, file_unit}
-pub use Rattle.jn_system.specs.SmallSteps.World.{World, base, Working, Knowledge, Unknown, Begun, Voting, Committed, replay, IsSerial, at_server}
+pub use Rattle.jn_system.specs.SmallSteps.World.{World, base, Working, Knowledge, Unknown, Begun, Voting, Committed, replay, IsSerial}
 pub use Rattle.jn_system.specs.SmallSteps.FoundStates.{IsPrepared, MayBeFound, AllOver, HasFlag, AllReady}
 pub use Rattle.jn_system.specs.SmallSteps.Invariant.{CoreFacts, Invariant}
 pub use Rattle.jn_system.specs.SmallSteps.Steps.{count_to, crash, found_of, restart, changed, put, narrow, lose, new_work, Atom, after, run, Prepare, Make, Name, Decide, Narrow, RaiseEpoch, Crash, Restart, server_of, with_epoch, always, name_it, Perform, End, perform, end_it, trace_of, opening_world, begin_it, learn, note_ready, note_over, abort, close, Begin, Open, NoteReady, NoteOver, Abort, Close, open_work, Lose, Learn, Count}
@@ -50,11 +50,16 @@ pub use Rattle.jn_rows.specs.declared.coordinator.Committed.{Committed as Commit
 pub use Rattle.jn_base.specs.declared.names.Tickets.{Tickets}
 pub use Rattle.jn_msgs.specs.declared.message.Note.{Note}
 pub use Rattle.jn_rows.specs.Outcomes.{RowOutcome, Sent}
+pub use Rattle.jn_base.specs.declared.names.RequestNo.{RequestNo}
 pub use Rattle.jn_rows.specs.declared.worker.Phase.TheVariants.{Broken, Active, Prepared as Stored}
 pub use Rattle.jn_lock_rows.specs.Matching.{are_rising, is_after, is_before}
 pub use Rattle.jn_lock_rows.proofs.Works.{work_is, work_same, found-name, in_phase, at-phase, rising-phase, once_granted, at-grant, rising-grant, at-more, rising-more, at-less, rising-less, none-front, found-behind, not-before}
 pub use Rattle.jn_system.specs.WholeSystem.LockFacts.{GoTogether, IsSoundWork, TableFact, IsSoundPrepared, ReadFiles, StoredFact, stored_phase, IsSoundActive, UpFact, ServerFact, LockFacts}
+pub use Rattle.jn_system.specs.WholeSystem.World.{at_server, at_client, Memory, opening}
 pub use Rattle.std.specs.List.{list_any, list_all, AllByRecursion}
-pub use Rattle.jn_system.specs.WholeSystem.Steps.{AreNames, are_rising as names_rise, Step, NextEvent, Tell, Again, Deliver, Nudge, Timeout, StopDelivery, StopWork, StopRestart, Dismiss, CloseClients, IsStep, IsRun, ends, stopped, at_memory, handed, work, works, nudge, timeout, stop_restart, close_clients, commanded, took, tid_before}
+pub use Rattle.jn_system.specs.WholeSystem.Steps.{AreNames, are_rising as names_rise, Step, NextEvent, Tell, Again, Deliver, Nudge, Timeout, StopDelivery, StopWork, StopRestart, Dismiss, CloseClients, at_memory, handed, work, works, nudge, timeout, stop_restart, close_clients, commanded, took, sent_now, stopped, restart_with, IsStep, IsRun, tid_before}
 pub use Rattle.jn_records.specs.NetEdits.{intention_for, with_intention, cut_again, front}
 pub use Rattle.jn_rows.specs.declared.worker.ActiveWork.{ActiveWork}
+pub use Rattle.jn_report.specs.declared.line.Text.{Text}
+pub use Rattle.jn_system.specs.WholeSystem.Servers.{Room, server_row, server_step, server_again, server_timeout, of_coordinator, of_worker, of_step, storage_of, is_for_worker, of_timeout, restored}
+pub use Rattle.jn_base.specs.declared.names.OperationNo.{OperationNo}

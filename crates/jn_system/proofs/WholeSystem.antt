@@ -10,5 +10,7 @@ pub mod WorkerChanges
 pub mod Closes
 pub mod CoordinatorRows
 pub mod Restored
+pub mod OneChange
+pub mod StepCases
 pub mod Steps
 pub mod LostCommits

@@ -11,7 +11,7 @@ ghost use Rattle.jn_transactions.specs.Closing.{is_of, takes_part, known, knowin
 use crate::faults::CoordFault;
 use crate::sending::{note, send};
 use crate::table::all_in;
-use jn_base::{ClientNo, Party, Tid};
+use jn_base::{ClientNo, Party, RequestNo, Tid};
 use jn_msgs::{Message, Note, Out};
 use jn_rows::{Stage, Transaction};
 
@@ -113,7 +113,7 @@ pub fn know_all(transactions: &mut [Transaction], who: Option<ClientNo>)
 }
 
 /// The client's transaction that the request began.
-fn begun_by(transactions: &[Transaction], client: ClientNo, request: u32) -> Option<Tid>
+fn begun_by(transactions: &[Transaction], client: ClientNo, request: RequestNo) -> Option<Tid>
     ensures { result ≡ tid_in (rows.begun_by client request transactions.now) }
 {
     for x in transactions {
@@ -128,7 +128,7 @@ fn begun_by(transactions: &[Transaction], client: ClientNo, request: u32) -> Opt
 pub fn begin_again(
     transactions: &[Transaction],
     client: ClientNo,
-    request: u32,
+    request: RequestNo,
     out: &mut Out,
 ) -> Result<(), CoordFault>
     ensures { (t : CoordinatorTable) (k : Tickets)

@@ -8,7 +8,7 @@ ghost use Rattle.jn_transactions.specs.Listed.{transaction_place};
 ghost use Rattle.jn_transactions.specs.Stages.{is_aborted, ready_in};
 
 use crate::faults::CoordFault;
-use jn_base::{Tid, WorkId};
+use jn_base::{RequestNo, Tid, WorkId};
 use jn_msgs::Works;
 use jn_rows::{Committed, Stage, Transaction, Voting};
 use std::alloc::{AllocError, Global};
@@ -205,7 +205,7 @@ pub fn is_ready(stage: &Stage, work: WorkId) -> bool
 }
 
 /// The ballot of works of which none is ready.
-pub fn new_ballot(alloc: Global, request: u32, works: &Works) -> Result<Voting, CoordFault>
+pub fn new_ballot(alloc: Global, request: RequestNo, works: &Works) -> Result<Voting, CoordFault>
     ensures ok { IfOk result (λ new. new ≡ record { request = request; works = works.now; ready = [] }) }
     ensures memory { IfErr result (λ fault. fault ≡ Memory) }
 {

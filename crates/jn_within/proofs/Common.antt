@@ -6,7 +6,7 @@ pub use Rattle.jn_base.specs.declared.names.ServerNo.{ServerNo}
 pub use Rattle.jn_base.specs.declared.names.ClientNo.{ClientNo}
 pub use Rattle.jn_base.specs.declared.names.WorkId.{WorkId}
 pub use Rattle.jn_base.specs.declared.op.Command.{Command}
-pub use Rattle.jn_base.specs.Names.{client_eq, tid_eq, server_eq}
+pub use Rattle.jn_base.specs.Names.{client_eq, request_eq, tid_eq, server_eq}
 pub use Rattle.jn_msgs.specs.declared.message.Message.{Message}
 pub use Rattle.jn_rows.specs.declared.client.OpenWork.{OpenWork}
 pub use Rattle.jn_rows.specs.declared.client.Outstanding.{Outstanding}
@@ -29,6 +29,7 @@ pub use Rattle.jn_rows.specs.declared.coordinator.Committed.{Committed as Commit
 pub use Rattle.jn_rows.specs.Stable.{Change, StableState, Prepared, FlagState, AddReady, MarkGoing, RemoveWork, AddFlag, DropFlag, made_by, made_all, Pick, stable}
 pub use Rattle.jn_rows.specs.Outcomes.{RowOutcome, Sent}
 pub use Rattle.jn_rows.specs.Coordinator.{CoordinatorTable, transaction_at, with_stage, without, all_in, is_work, besides, drops, commits, prepares, commit_row, abort_row, forget_row, thanked, thanked_changes, closed, after_closing, changes_of_closing, begin_new, begin_again, begun_by, begin_row, seen_now, end_promised, end_stage, end_row, not_known, abort_stage, abort_request, told_stage, inquire_row, counted_vote, vote_stage, vote_row, done_stage, done_row, thanks_stage, thanks_row, with_work, coordinator_row, told_again, coordinator_again, all_thanked, flags_of_thanked, close_clients_row, restored_transaction, restored_transactions}
+pub use Rattle.jn_base.specs.declared.names.RequestNo.{RequestNo}
 pub use Rattle.jn_base.specs.declared.op.Op.{Op}
 pub use Rattle.jn_base.specs.declared.op.Answer.{Answer}
 pub use Rattle.jn_order.specs.Files.{change, answer_to, AllFiles}
@@ -36,6 +37,7 @@ pub use Rattle.jn_records.specs.NetLists.{list_change}
 pub use Rattle.jn_records.specs.declared.intention.Intention.{Intention}
 pub use Rattle.jn_rows.specs.declared.worker.Work.{Work as WorkEntry}
 pub use Rattle.jn_rows.specs.declared.worker.Phase.{Phase}
+pub use Rattle.jn_base.specs.declared.names.OperationNo.{OperationNo}
 pub use Rattle.jn_within.specs.Drawing.{AreDrawn, DrawsOne, AreCovered}
 pub use Rattle.jn_base.proofs.Tells.{tid_tells, work_tells, server_tells}
 pub use Rattle.jn_system.specs.WholeSystem.World.{Memory, World, at_server, at_client, new_memory, opening}

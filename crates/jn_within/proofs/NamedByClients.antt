@@ -1,5 +1,5 @@
 -- A client names servers that there are.
-use Rattle.jn_within.proofs.Common.{◌≡◌, ℕ, Bool, true, false, List, [], ◌∷◌, Option, Some, None, refl, ◌∙◌, subst, arith, ◌&&◌, nat_eq, if◌then◌else◌, nat_tests, ServerNo, ClientNo, WorkId, Command, client_eq, Message, OpenWork, Outstanding, Taken, ClientTable, Commanded, Refuses, Sends, new_table, command_row, take_row, names_of, over, if_waits, is_current, opens, opened_row, work_at, IsClient, are_apart, after_command, command_keeps, take_keeps, names_are_few, sent_for, are_near, is_few, is_near, is_any_near, names_near, is_within, are_within, is_again_within, ClientWithin, CommandWithin}
+use Rattle.jn_within.proofs.Common.{◌≡◌, ℕ, Bool, true, false, List, [], ◌∷◌, Option, Some, None, refl, ◌∙◌, subst, arith, ◌&&◌, nat_eq, if◌then◌else◌, nat_tests, ServerNo, ClientNo, WorkId, Command, client_eq, Message, OpenWork, Outstanding, Taken, ClientTable, Commanded, Refuses, Sends, new_table, command_row, take_row, names_of, over, if_waits, is_current, opens, opened_row, work_at, IsClient, are_apart, after_command, command_keeps, take_keeps, names_are_few, sent_for, are_near, is_few, is_near, is_any_near, names_near, is_within, are_within, is_again_within, ClientWithin, CommandWithin, request_eq}
 use Rattle.jn_base.specs.declared.op.Command.TheVariants as commands
 use Rattle.jn_msgs.specs.declared.message.Message.TheVariants as messages
 use Rattle.jn_msgs.specs.declared.message.Outcome.TheVariants as outcomes
@@ -61,9 +61,9 @@ take-near n t (messages.Opened c request T answer) h k l = by t.outstanding
     on o true = opened o.event answer
     on o false = grind (arith, h, k)
 
-    by : (o : Option Outstanding) → taken_near n (if_waits t o (λ o. client_eq c t.client && (nat_eq o.request request && (is_current t T && opens answer o.command))) (λ j. opened_row t j answer)) ≡ true
+    by : (o : Option Outstanding) → taken_near n (if_waits t o (λ o. client_eq c t.client && (request_eq o.request request && (is_current t T && opens answer o.command))) (λ j. opened_row t j answer)) ≡ true
     by None = grind (arith, h, k)
-    by (Some o) = on o (client_eq c t.client && (nat_eq o.request request && (is_current t T && opens answer o.command)))
+    by (Some o) = on o (client_eq c t.client && (request_eq o.request request && (is_current t T && opens answer o.command)))
 take-near n t (messages.Answer c request answer) h k l = grind (arith, h, k)
 take-near n t (messages.Outcome c T outcomes.Committed) h k l = grind (arith, h, k, l)
 take-near n t (messages.Outcome c T (outcomes.Aborted cause)) h k l = grind (arith, h, k, l)

@@ -1,5 +1,5 @@
 -- A coordinator names servers that there are.
-use Rattle.jn_within.proofs.Common.{◌≡◌, ℕ, Bool, true, false, List, [], ◌∷◌, ◌++◌, length, Option, Some, None, refl, subst, arith, ◌&&◌, not, if◌then◌else◌, nat_lt, nat_eq, ClientNo, Tid, WorkId, Tickets, Cause, tid_eq, client_eq, Message, Vote, Transaction, Stage, Open, Voting, Committed, Aborted, Ballot, Commitment, Change, RowOutcome, Sent, CoordinatorTable, transaction_at, with_stage, without, all_in, is_work, besides, drops, commits, prepares, commit_row, abort_row, forget_row, thanked, thanked_changes, closed, after_closing, changes_of_closing, begin_new, begin_again, begun_by, begin_row, seen_now, end_promised, end_stage, end_row, not_known, abort_stage, abort_request, told_stage, inquire_row, counted_vote, vote_stage, vote_row, done_stage, done_row, thanks_stage, thanks_row, with_work, coordinator_row, told_again, coordinator_again, all_thanked, flags_of_thanked, close_clients_row, are_near, is_few, is_small_stage, is_near, names_near, are_within, is_transaction_within, are_transactions_within, are_changes_within}
+use Rattle.jn_within.proofs.Common.{◌≡◌, ℕ, Bool, true, false, List, [], ◌∷◌, ◌++◌, length, Option, Some, None, refl, subst, arith, ◌&&◌, not, if◌then◌else◌, nat_lt, nat_eq, ClientNo, Tid, WorkId, Tickets, Cause, tid_eq, client_eq, Message, Vote, Transaction, Stage, Open, Voting, Committed, Aborted, Ballot, Commitment, Change, RowOutcome, Sent, CoordinatorTable, transaction_at, with_stage, without, all_in, is_work, besides, drops, commits, prepares, commit_row, abort_row, forget_row, thanked, thanked_changes, closed, after_closing, changes_of_closing, begin_new, begin_again, begun_by, begin_row, seen_now, end_promised, end_stage, end_row, not_known, abort_stage, abort_request, told_stage, inquire_row, counted_vote, vote_stage, vote_row, done_stage, done_row, thanks_stage, thanks_row, with_work, coordinator_row, told_again, coordinator_again, all_thanked, flags_of_thanked, close_clients_row, are_near, is_few, is_small_stage, is_near, names_near, are_within, is_transaction_within, are_transactions_within, are_changes_within, RequestNo}
 use Rattle.jn_msgs.specs.declared.message.Message.TheVariants as messages
 use Rattle.jn_msgs.specs.declared.message.Vote.TheVariants as votes
 
@@ -142,7 +142,7 @@ module _ (n : ℕ) (t : CoordinatorTable) (free : ℕ) (k : Tickets) (h : are_tr
   forget-within T d l = either (d.thanked && all_in d.works d.done) _ _ (record { table = less-within n T t.transactions h; changes_are = refl; sent_are = refl }) (staged T (Committed d) [] l refl)
 
   module _ (y : Transaction) (near : is_near n y.tid.server ≡ true) where
-    commit-within : (request : ℕ) (works : List WorkId) → is_few n works ≡ true → Within n (commit_row t k y request works)
+    commit-within : (request : RequestNo) (works : List WorkId) → is_few n works ≡ true → Within n (commit_row t k y request works)
     commit-within request works l = record {
       table = staged-within n y.tid _ t.transactions h l;
       changes_are = grind (arith, near, l);
@@ -152,11 +152,11 @@ module _ (n : ℕ) (t : CoordinatorTable) (free : ℕ) (k : Tickets) (h : are_tr
     abort-within : (cause : Cause) (works : List WorkId) → are_near n works ≡ true → Within n (abort_row t k y cause works)
     abort-within cause works l = staged y.tid (Aborted cause) _ refl (sent-both n (drops y.tid works) _ (drops-within n y.tid works near l) (grind (arith, near)))
 
-    promised-within : (request : ℕ) (works : List WorkId) → is_few n works ≡ true → Within n (end_promised t k y request works)
+    promised-within : (request : RequestNo) (works : List WorkId) → is_few n works ≡ true → Within n (end_promised t k y request works)
     promised-within request [] l = commit-within request [] l
     promised-within request (W ∷ Ws) l = staged y.tid _ _ l (prepares-within n y.tid y.client (W ∷ Ws) near (few-near n (W ∷ Ws) l))
 
-    end-within : (request : ℕ) (works : List WorkId) (s : Stage) → is_few n works ≡ true → is_small_stage n s ≡ true → Within n (end_stage t free k y request works s)
+    end-within : (request : RequestNo) (works : List WorkId) (s : Stage) → is_few n works ≡ true → is_small_stage n s ≡ true → Within n (end_stage t free k y request works s)
     end-within request works Open l m = either (nat_lt free 1) _ _ (abort-within _ works (few-near n works l)) (promised-within request works l)
     end-within request works (Voting b) l m = still _ (prepares-within n y.tid y.client (besides b.works b.ready) near (near-besides n b.works b.ready (few-near n b.works m)))
     end-within request works (Committed d) l m = still _ (grind (arith, near))
@@ -194,26 +194,26 @@ module _ (n : ℕ) (t : CoordinatorTable) (free : ℕ) (k : Tickets) (h : are_tr
   thank-within T (Voting b) m = still _ refl
 
   -- Begin
-  begun-within : (c : ClientNo) (q : ℕ) (xs : List Transaction) → are_transactions_within n xs ≡ true → are_within n (begin_again t k c q (begun_by c q xs)).messages ≡ true
+  begun-within : (c : ClientNo) (q : RequestNo) (xs : List Transaction) → are_transactions_within n xs ≡ true → are_within n (begin_again t k c q (begun_by c q xs)).messages ≡ true
   begun-within c q [] l = refl
   begun-within c q (x ∷ xs) l = let again = begun-within c q xs in grind (arith, l)
 
-  begin-again-within : (c : ClientNo) (q : ℕ) → Within n (begin_again t k c q (begun_by c q t.transactions))
+  begin-again-within : (c : ClientNo) (q : RequestNo) → Within n (begin_again t k c q (begun_by c q t.transactions))
   begin-again-within c q = by (begun_by c q t.transactions) (begun-within c q t.transactions h)
     where
       by : (o : Option Transaction) → are_within n (begin_again t k c q o).messages ≡ true → Within n (begin_again t k c q o)
       by (Some x) l = still _ l
       by None l = still _ l
 
-  begin-new-within : (u : CoordinatorTable) (changes : List Change) (c : ClientNo) (request : ℕ) → is_near n k.server ≡ true → are_transactions_within n u.transactions ≡ true → are_changes_within n changes ≡ true → Within n (begin_new u changes k c request)
+  begin-new-within : (u : CoordinatorTable) (changes : List Change) (c : ClientNo) (request : RequestNo) → is_near n k.server ≡ true → are_transactions_within n u.transactions ≡ true → are_changes_within n changes ≡ true → Within n (begin_new u changes k c request)
   begin-new-within u changes c request mine l m = either (nat_lt (length u.transactions) 64) _ _
       (record { table = more-transactions n u.transactions _ l (grind (arith, mine)); changes_are = m; sent_are = grind (arith, mine) })
       (record { table = l; changes_are = m; sent_are = refl })
 
-  begin-within : (c : ClientNo) (request : ℕ) → is_near n k.server ≡ true → Within n (begin_row t k c request)
-  begin-within c request mine = either (nat_lt (t.seen c) request) _ _
+  begin-within : (c : ClientNo) (request : RequestNo) → is_near n k.server ≡ true → Within n (begin_row t k c request)
+  begin-within c request mine = either (nat_lt (t.seen c) request.0) _ _
       (begin-new-within (record { transactions = after_closing c t.transactions; seen = seen_now t.seen c request }) (changes_of_closing c t.transactions) c request mine (closing-within n c t.transactions h) (closing-changes n c t.transactions))
-      (either (nat_eq (t.seen c) request) _ _ (begin-again-within c request) (still _ refl))
+      (either (nat_eq (t.seen c) request.0) _ _ (begin-again-within c request) (still _ refl))
 
   -- a row on a transaction, if it is there
   on-one : (T : Tid) (f : Option Transaction → RowOutcome CoordinatorTable) → Within n (f None) → ((y : Transaction) → is_near n y.tid.server ≡ true → is_small_stage n y.stage ≡ true → Within n (f (Some y))) → Within n (f (transaction_at T t.transactions))

@@ -1,5 +1,5 @@
 -- A worker names servers that there are.
-use Rattle.jn_within.proofs.Common.{◌≡◌, ℕ, ◌+◌, Bool, true, false, List, [], ◌∷◌, ◌++◌, length, Option, Some, None, refl, subst, arith, if◌then◌else◌, nat_eq, nat_lt, slice_get, ClientNo, Tid, WorkId, Tickets, Op, Answer, change, answer_to, list_change, Intention, Message, WorkEntry, Phase, StableState, Change, RowOutcome, Sent, is_near, are_both_near, names_near, are_within, are_works_within, are_changes_within}
+use Rattle.jn_within.proofs.Common.{◌≡◌, ℕ, ◌+◌, Bool, true, false, List, [], ◌∷◌, ◌++◌, length, Option, Some, None, refl, subst, arith, if◌then◌else◌, nat_eq, nat_lt, slice_get, ClientNo, Tid, WorkId, Tickets, Op, Answer, change, answer_to, list_change, Intention, Message, WorkEntry, Phase, StableState, Change, RowOutcome, Sent, is_near, are_both_near, names_near, are_within, are_works_within, are_changes_within, OperationNo, RequestNo}
 use Rattle.jn_msgs.specs.declared.message.Message.TheVariants as messages
 use Rattle.jn_rows.specs.declared.worker.Phase.TheVariants as phases
 use Rattle.jn_rows.specs.Worker.{WorkerTable, WorkStorage, Wanted, work_at, work_of, with_phase, without, after_grant, wants_of, is_fit, refusal_of, granted_row, repeated, op_phase, op_row, prepare_phase, prepare_row, commit_phase, commit_row, drop_phase, drop_row, worker_row, going_work, going_row, carried_row, intentions_of, worker_step, worker_again, timed_out, vulnerable, open_row, new_work, name_from}
@@ -52,15 +52,15 @@ module _ (n : ℕ) (t : WorkerTable) (s : WorkStorage) (k : Tickets) (h : are_wo
   still : (sent : List Sent) → are_within n sent ≡ true → WorkerWithin n t [] sent
   still sent l = record { table = h; changes_are = refl; sent_are = l }
 
-  open-within : (c : ClientNo) (request : ℕ) (T : Tid) (o : Option WorkEntry) → (is_near n k.server) ≡ true → is_near n T.server ≡ true → work_of T t ≡ o → Within n (open_row t k c request T o)
+  open-within : (c : ClientNo) (request : RequestNo) (T : Tid) (o : Option WorkEntry) → (is_near n k.server) ≡ true → is_near n T.server ≡ true → work_of T t ≡ o → Within n (open_row t k c request T o)
   open-within c request T (Some w) mine l e = let entry = of-within n T t w h e in still _ (grind (arith, l, entry))
   open-within c request T None mine l e = choose (nat_lt (length t) 64) _ _
       (record { table = more-works n t (new_work (name_from k) T ∷ []) h (grind (arith, mine, l)); changes_are = refl; sent_are = grind (arith, mine, l) })
       (still _ (grind (arith, l)))
 
-  op-within : (c : ClientNo) (request : ℕ) (w : WorkEntry) (number : ℕ) (op : Op) (p : Phase) → Within n (op_phase t s.state.files k c request w number op p)
+  op-within : (c : ClientNo) (request : RequestNo) (w : WorkEntry) (number : OperationNo) (op : Op) (p : Phase) → Within n (op_phase t s.state.files k c request w number op p)
   op-within c request w number op (phases.Active a) = let answer = answer_to op (change (list_change a.list) s.state.files) in
-      choose (nat_eq number (a.last + 1)) _ _ (grants answer (wants_of op (is_fit answer)) (refusal_of t w.name a op answer (wants_of op (is_fit answer)))) (choose (nat_eq number a.last) _ _ (repeats a.kept) (still _ refl))
+      choose (nat_eq number.0 (a.last + 1)) _ _ (grants answer (wants_of op (is_fit answer)) (refusal_of t w.name a op answer (wants_of op (is_fit answer)))) (choose (nat_eq number.0 a.last) _ _ (repeats a.kept) (still _ refl))
     where
       grants : (answer : Answer) (wants : List Wanted) (o : Option Answer) → Within n (granted_row t k c request w a op answer wants o)
       grants answer wants (Some refusal) = record { table = phase-within n w.name _ t h; changes_are = refl; sent_are = refl }

@@ -1,5 +1,5 @@
 -- Servers send no requests, and draw a name only with a message.
-use Rattle.jn_within.proofs.Common.{◌≡◌, ℕ, ◌+◌, Bool, true, false, List, [], ◌∷◌, ◌++◌, length, Option, Some, None, refl, subst, arith, ◌&&◌, not, if◌then◌else◌, nat_lt, nat_eq, slice_get, ClientNo, Tid, WorkId, Tickets, Cause, Op, Answer, change, answer_to, list_change, Intention, Message, Vote, WorkEntry, Phase, Transaction, Stage, Open, Voting, Committed, Aborted, Ballot, Commitment, StableState, Change, RowOutcome, Sent, CoordinatorTable, transaction_at, all_in, is_work, besides, drops, commits, prepares, commit_row, abort_row, forget_row, begin_new, begin_again, begun_by, begin_row, after_closing, changes_of_closing, seen_now, end_promised, end_stage, end_row, abort_stage, abort_request, told_stage, inquire_row, counted_vote, vote_stage, vote_row, done_stage, done_row, thanks_stage, thanks_row, with_work, coordinator_row, told_again, coordinator_again, is_from_server, are_from_server, AreDrawn}
+use Rattle.jn_within.proofs.Common.{◌≡◌, ℕ, ◌+◌, Bool, true, false, List, [], ◌∷◌, ◌++◌, length, Option, Some, None, refl, subst, arith, ◌&&◌, not, if◌then◌else◌, nat_lt, nat_eq, slice_get, ClientNo, Tid, WorkId, Tickets, Cause, Op, Answer, change, answer_to, list_change, Intention, Message, Vote, WorkEntry, Phase, Transaction, Stage, Open, Voting, Committed, Aborted, Ballot, Commitment, StableState, Change, RowOutcome, Sent, CoordinatorTable, transaction_at, all_in, is_work, besides, drops, commits, prepares, commit_row, abort_row, forget_row, begin_new, begin_again, begun_by, begin_row, after_closing, changes_of_closing, seen_now, end_promised, end_stage, end_row, abort_stage, abort_request, told_stage, inquire_row, counted_vote, vote_stage, vote_row, done_stage, done_row, thanks_stage, thanks_row, with_work, coordinator_row, told_again, coordinator_again, is_from_server, are_from_server, AreDrawn, OperationNo, RequestNo}
 use Rattle.jn_msgs.specs.declared.message.Message.TheVariants as messages
 use Rattle.jn_msgs.specs.declared.message.Vote.TheVariants as votes
 use Rattle.jn_rows.specs.declared.worker.Phase.TheVariants as phases
@@ -50,13 +50,13 @@ either k false p q h l = l
 -- ---- a worker's rows
 
 module _ (t : WorkerTable) (s : WorkStorage) (k : Tickets) where
-  open-plain : (c : ClientNo) (request : ℕ) (T : Tid) (o : Option WorkEntry) → Plain k (open_row t k c request T o)
+  open-plain : (c : ClientNo) (request : RequestNo) (T : Tid) (o : Option WorkEntry) → Plain k (open_row t k c request T o)
   open-plain c request T (Some w) = still k _ refl
   open-plain c request T None = either k (nat_lt (length t) 64) _ _ (one-name k _ refl) (still k _ refl)
 
-  op-plain : (c : ClientNo) (request : ℕ) (w : WorkEntry) (number : ℕ) (op : Op) (p : Phase) → Plain k (worker.op_phase t s.state.files k c request w number op p)
+  op-plain : (c : ClientNo) (request : RequestNo) (w : WorkEntry) (number : OperationNo) (op : Op) (p : Phase) → Plain k (worker.op_phase t s.state.files k c request w number op p)
   op-plain c request w number op (phases.Active a) = let answer = answer_to op (change (list_change a.list) s.state.files) in
-      either k (nat_eq number (a.last + 1)) _ _ (grants (worker.refusal_of t w.name a op answer (worker.wants_of op (worker.is_fit answer)))) (either k (nat_eq number a.last) _ _ (repeats a.kept) (still k _ refl))
+      either k (nat_eq number.0 (a.last + 1)) _ _ (grants (worker.refusal_of t w.name a op answer (worker.wants_of op (worker.is_fit answer)))) (either k (nat_eq number.0 a.last) _ _ (repeats a.kept) (still k _ refl))
     where
       grants : (o : Option Answer) → Plain k (worker.granted_row t k c request w a op (answer_to op (change (list_change a.list) s.state.files)) (worker.wants_of op (worker.is_fit (answer_to op (change (list_change a.list) s.state.files)))) o)
       grants (Some refusal) = still k _ refl
@@ -117,7 +117,7 @@ worker-again-are x (w ∷ ws) = let again = worker-again-are x ws in grind (arit
 -- ---- a coordinator's rows
 
 module _ (t : CoordinatorTable) (k : Tickets) where
-  commit-are : (y : Transaction) (request : ℕ) (works : List WorkId) → Plain k (commit_row t k y request works)
+  commit-are : (y : Transaction) (request : RequestNo) (works : List WorkId) → Plain k (commit_row t k y request works)
   commit-are y request works = still k _ (both (commits y.tid works) _ (commits-are y.tid works) refl)
 
   abort-are : (y : Transaction) (cause : Cause) (works : List WorkId) → Plain k (abort_row t k y cause works)
@@ -133,29 +133,29 @@ module _ (t : CoordinatorTable) (k : Tickets) where
   forget-are T d = either k (d.thanked && all_in d.works d.done) _ _ (still k _ refl) (still k _ refl)
 
   -- Begin
-  again-are : (c : ClientNo) (request : ℕ) (o : Option Transaction) → Plain k (begin_again t k c request o)
+  again-are : (c : ClientNo) (request : RequestNo) (o : Option Transaction) → Plain k (begin_again t k c request o)
   again-are c request (Some y) = still k _ refl
   again-are c request None = still k _ refl
 
-  new-are : (u : CoordinatorTable) (changes : List Change) (c : ClientNo) (request : ℕ) → Plain k (begin_new u changes k c request)
+  new-are : (u : CoordinatorTable) (changes : List Change) (c : ClientNo) (request : RequestNo) → Plain k (begin_new u changes k c request)
   new-are u changes c request = either k (nat_lt (length u.transactions) 64) _ _ (one-name k _ refl) (still k _ refl)
 
-  begin-are : (c : ClientNo) (request : ℕ) → Plain k (begin_row t k c request)
-  begin-are c request = either k (nat_lt (t.seen c) request) _ _ (new-are (record { transactions = after_closing c t.transactions; seen = seen_now t.seen c request }) (changes_of_closing c t.transactions) c request)
-      (either k (nat_eq (t.seen c) request) _ _ (again-are c request (begun_by c request t.transactions)) (still k _ refl))
+  begin-are : (c : ClientNo) (request : RequestNo) → Plain k (begin_row t k c request)
+  begin-are c request = either k (nat_lt (t.seen c) request.0) _ _ (new-are (record { transactions = after_closing c t.transactions; seen = seen_now t.seen c request }) (changes_of_closing c t.transactions) c request)
+      (either k (nat_eq (t.seen c) request.0) _ _ (again-are c request (begun_by c request t.transactions)) (still k _ refl))
 
   -- End and Abort
-  promised-are : (y : Transaction) (request : ℕ) (works : List WorkId) → Plain k (end_promised t k y request works)
+  promised-are : (y : Transaction) (request : RequestNo) (works : List WorkId) → Plain k (end_promised t k y request works)
   promised-are y request [] = commit-are y request []
   promised-are y request (W ∷ Ws) = still k _ (prepares-are y.tid y.client (W ∷ Ws))
 
-  end-are : (free : ℕ) (y : Transaction) (request : ℕ) (works : List WorkId) (s : Stage) → Plain k (end_stage t free k y request works s)
+  end-are : (free : ℕ) (y : Transaction) (request : RequestNo) (works : List WorkId) (s : Stage) → Plain k (end_stage t free k y request works s)
   end-are free y request works Open = either k (nat_lt free 1) _ _ (abort-are y _ works) (promised-are y request works)
   end-are free y request works (Voting b) = still k _ (prepares-are y.tid y.client (besides b.works b.ready))
   end-are free y request works (Committed d) = still k _ refl
   end-are free y request works (Aborted cause) = still k _ refl
 
-  ends-are : (free : ℕ) (c : ClientNo) (request : ℕ) (T : Tid) (works : List WorkId) (o : Option Transaction) → Plain k (end_row t free k c request T works o)
+  ends-are : (free : ℕ) (c : ClientNo) (request : RequestNo) (T : Tid) (works : List WorkId) (o : Option Transaction) → Plain k (end_row t free k c request T works o)
   ends-are free c request T works (Some y) = end-are free y request works y.stage
   ends-are free c request T works None = still k _ (drops-are T works)
 

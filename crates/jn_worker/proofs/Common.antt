@@ -46,6 +46,8 @@ pub use Rattle.std.proofs.lemmas.Bool.Decides.{nat_tests}
 pub use Rattle.jn_base.specs.declared.names.ClientNo.{ClientNo}
 pub use Rattle.jn_base.specs.declared.op.Answer.{Answer}
 pub use Rattle.jn_base.specs.declared.op.Op.{Op, Op as AnyOp}
+pub use Rattle.jn_base.specs.declared.names.OperationNo.{OperationNo}
+pub use Rattle.jn_base.specs.declared.names.RequestNo.{RequestNo}
 pub use Rattle.std.specs.List.{AllByRecursion, list_all}
 pub use Rattle.jn_msgs.specs.declared.message.Message.{Message}
 pub use Rattle.jn_msgs.specs.declared.message.Vote.{Vote}

@@ -1,5 +1,5 @@
 -- An operation that is performed meets its row.
-use Rattle.jn_worker.proofs.Common.{◌≡◌, ◌<◌, ◌+◌, ℕ, true, [], ◌∷◌, ◌++◌, length, Option, Some, None, if◌then◌else◌, refl, sym, ◌∙◌, ap, subst, arith, nat_tests, Ok, nat_eq, ClientNo, Client, Tid, Tickets, WorkId, Answer, Op, Collected, answer_to, change, list_change, length_with, block_of, Read, ActiveWork, Active, ignored, Prepared, work_at, with_phase, after_grant, op_row, op_phase, performed, repeated, granted_row, refusal_of, past_limit, first_of_two, locked, conflict, wants_of, with_units, units_for, is_fit, counted, done, IsActive, found-name, StorageView, state, WorkerView, Fits, TicketsFit, WorkFits, PhaseFits, WorkListFits, ListFits, ActiveFits, Takes, Settles, settled, told_breaks, told_of}
+use Rattle.jn_worker.proofs.Common.{◌≡◌, ◌<◌, ◌+◌, ℕ, true, [], ◌∷◌, ◌++◌, length, Option, Some, None, if◌then◌else◌, refl, sym, ◌∙◌, ap, subst, arith, nat_tests, Ok, nat_eq, ClientNo, Client, Tid, Tickets, WorkId, Answer, Op, Collected, answer_to, change, list_change, length_with, block_of, Read, ActiveWork, Active, ignored, Prepared, work_at, with_phase, after_grant, op_row, op_phase, performed, repeated, granted_row, refusal_of, past_limit, first_of_two, locked, conflict, wants_of, with_units, units_for, is_fit, counted, done, IsActive, found-name, StorageView, state, WorkerView, Fits, TicketsFit, WorkFits, PhaseFits, WorkListFits, ListFits, ActiveFits, Takes, Settles, settled, told_breaks, told_of, OperationNo, RequestNo}
 use Rattle.jn_msgs.specs.declared.message.Message.TheVariants as messages
 use Rattle.jn_worker.proofs.Exits.{without_change}
 use Rattle.jn_worker.proofs.Fit.{fits_phase, tickets_phase}
@@ -9,7 +9,7 @@ use Rattle.jn_worker.proofs.More.{active_after}
 pub nat_same : (n m : ℕ) → n ≡ m → nat_eq n m ≡ true
 nat_same n m e = grind (arith, nat_tests, e)
 
-module _ (t : WorkerView) (v : StorageView) (k : Tickets) (c : ClientNo) (request : ℕ) (W : WorkId) (op : Op) (answer : Answer) (S : Tid) (a : ActiveWork) (i : IsActive t.table S W a) where
+module _ (t : WorkerView) (v : StorageView) (k : Tickets) (c : ClientNo) (request : RequestNo) (W : WorkId) (op : Op) (answer : Answer) (S : Tid) (a : ActiveWork) (i : IsActive t.table S W a) where
   row-table : (o : Option Answer) → (granted_row t.table k c request i.work a op answer (wants_of op (is_fit answer)) o).table ≡ settled t.table S W a op answer o
   row-table (Some refusal) = ap (λ n. with_phase n (Active (counted a refusal)) t.table) (found-name W t.table i.work i.found)
   row-table None = ap (λ n. with_phase n (Active (done a op answer (wants_of op (is_fit answer)))) (after_grant i.work.tid n (wants_of op (is_fit answer)) t.table)) (found-name W t.table i.work i.found)
@@ -60,14 +60,14 @@ module _ (t : WorkerView) (v : StorageView) (k : Tickets) (c : ClientNo) (reques
   tickets_settled None f = tickets_phase (after_grant S W (wants_of op (is_fit answer)) t.table) v W (Active (done a op answer (wants_of op (is_fit answer)))) k (tickets_broken t.table v S W (wants_of op (is_fit answer)) k f)
 
   -- the row of the next operation
-  next-row : (number : ℕ) → number ≡ a.last + 1 → nat_eq number (a.last + 1) ≡ true → answer ≡ answer_to op (change (list_change a.list) (state v).files) → op_row t.table (state v).files k c request W number op (work_at W t.table)
+  next-row : (number : OperationNo) → number.0 ≡ a.last + 1 → nat_eq number.0 (a.last + 1) ≡ true → answer ≡ answer_to op (change (list_change a.list) (state v).files) → op_row t.table (state v).files k c request W number op (work_at W t.table)
       ≡ granted_row t.table k c request i.work a op answer (wants_of op (is_fit answer)) (refusal_of t.table W a op answer (wants_of op (is_fit answer)))
   next-row number count test is = ap (λ o. op_row t.table (state v).files k c request W number op o) i.found ∙ (ap (λ phase. op_phase t.table (state v).files k c request i.work number op phase) i.phase
-      ∙ (ap (λ b. if b then performed t.table k c request i.work a op (answer_to op (change (list_change a.list) (state v).files)) else (if nat_eq number a.last then repeated t.table k c request a.kept else ignored t.table k)) test
+      ∙ (ap (λ b. if b then performed t.table k c request i.work a op (answer_to op (change (list_change a.list) (state v).files)) else (if nat_eq number.0 a.last then repeated t.table k c request a.kept else ignored t.table k)) test
       ∙ (ap (λ x. performed t.table k c request i.work a op x) (sym is)
       ∙ ap (λ n. granted_row t.table k c request i.work a op answer (wants_of op (is_fit answer)) (refusal_of t.table n a op answer (wants_of op (is_fit answer)))) (found-name W t.table i.work i.found))))
 
-  pub perform_told : (u : WorkerView) (before mid last : Collected) (number : ℕ) (refusal : Option Answer) (told : Answer) → Fits t v → (block_of op).0 < 120 → number ≡ a.last + 1 → nat_eq number (a.last + 1) ≡ true → answer ≡ answer_to op (change (list_change a.list) (state v).files) → Settles t S W a op answer refusal before u mid
+  pub perform_told : (u : WorkerView) (before mid last : Collected) (number : OperationNo) (refusal : Option Answer) (told : Answer) → Fits t v → (block_of op).0 < 120 → number.0 ≡ a.last + 1 → nat_eq number.0 (a.last + 1) ≡ true → answer ≡ answer_to op (change (list_change a.list) (state v).files) → Settles t S W a op answer refusal before u mid
       → told ≡ told_of answer refusal → last ≡ record { messages = mid.messages ++ (Client c, messages.Answer c request told) ∷ []; notes = mid.notes } → Takes 784 (op_row t.table (state v).files k c request W number op (work_at W t.table)) t v before k (Ok (tt {0})) u v last k
   perform_told u before mid last number refusal told h range count test is s told_is sent = subst (λ row. Takes 784 row t v before k (Ok (tt {0})) u v last k)
       (sym (next-row number count test is ∙ ap (λ o. granted_row t.table k c request i.work a op answer (wants_of op (is_fit answer)) o) (sym s.refused)))

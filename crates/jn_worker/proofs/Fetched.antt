@@ -1,5 +1,5 @@
 -- An operation whose answer is a stored block.
-use Rattle.jn_worker.proofs.Common.{◌≡◌, ◌<◌, ◌+◌, ℕ, Bool, true, false, not, List, [], ◌∷◌, ◌++◌, length, take, Option, Some, None, Result, Ok, Err, if◌then◌else◌, refl, sym, ◌∙◌, ap, subst, arith, true≢false, ◌&&◌, is_some, IsErrAnd, err_from_is_err_and, take_at, ClientNo, Client, Tid, Tickets, WorkId, Answer, Did, Op, Create, Remove, CutBlocks, ReadOp, WriteOp, work_eq, Collected, Files, answer_to, change, Intention, list_change, length_with, block_of, answered, intention_for, Read, IntentionWrite, Active, ActiveWork, RowOutcome, WorkerTable, work_at, with_phase, after_grant, break_notes, op_row, conflict, locked, wants_of, with_units, units_for, is_fit, past_limit, first_of_two, refusal_of, list_with, counted, done, IsActive, rephased, is_in, StorageView, IsServing, state, Viewed, reads_stored, served, WorkerFault, Stops, Memory, WorkerView, Fits, is_active, is_active_phase, tallied, Takes, CountsBy, Settles, has_stopped, unseen, ReadSettles, OnlyReads, answer_now, asks_now, asks_in, asks_for, is_unknown, rephased-is}
+use Rattle.jn_worker.proofs.Common.{◌≡◌, ◌<◌, ◌+◌, ℕ, Bool, true, false, not, List, [], ◌∷◌, ◌++◌, length, take, Option, Some, None, Result, Ok, Err, if◌then◌else◌, refl, sym, ◌∙◌, ap, subst, arith, true≢false, ◌&&◌, is_some, IsErrAnd, err_from_is_err_and, take_at, ClientNo, Client, Tid, Tickets, WorkId, Answer, Did, Op, Create, Remove, CutBlocks, ReadOp, WriteOp, work_eq, Collected, Files, answer_to, change, Intention, list_change, length_with, block_of, answered, intention_for, Read, IntentionWrite, Active, ActiveWork, RowOutcome, WorkerTable, work_at, with_phase, after_grant, break_notes, op_row, conflict, locked, wants_of, with_units, units_for, is_fit, past_limit, first_of_two, refusal_of, list_with, counted, done, IsActive, rephased, is_in, StorageView, IsServing, state, Viewed, reads_stored, served, WorkerFault, Stops, Memory, WorkerView, Fits, is_active, is_active_phase, tallied, Takes, CountsBy, Settles, has_stopped, unseen, ReadSettles, OnlyReads, answer_now, asks_now, asks_in, asks_for, is_unknown, rephased-is, OperationNo, RequestNo}
 use Rattle.std.proofs.Math.Seq.{take-length}
 use Rattle.jn_storage.specs.declared.faults.ViewFault.{ViewFault}
 use Rattle.jn_storage.specs.declared.faults.ViewFault.TheVariants.{Stopped as NotSeen, Memory as NoBytes}
@@ -34,10 +34,10 @@ module _ (t u : WorkerView) (T : Tid) (W : WorkId) (a : ActiveWork) (op : Op) (a
   settles-refused refusal s = record { refused = s.refused ∙ refusal-same; works = s.works; sent = s.sent; noted = s.noted }
 
   -- the granted work keeps the answer once it is read
-  settles-read : (now : WorkerView) (number : ℕ) (i : IsActive t.table T W a) → number ≡ a.last + 1 → Settles t T W a op Did None before u after → now ≡ record u { table = rephased W (tallied number answer) u.table } → Settles t T W a op answer None before now after
+  settles-read : (now : WorkerView) (number : OperationNo) (i : IsActive t.table T W a) → number.0 ≡ a.last + 1 → Settles t T W a op Did None before u after → now ≡ record u { table = rephased W (tallied number.0 answer) u.table } → Settles t T W a op answer None before now after
   settles-read now number i count s is = record {
     refused = s.refused ∙ refusal-same;
-    works = is ∙ (ap (λ (u : WorkerView). record u { table = rephased W (tallied number answer) u.table }) s.works ∙ ap (λ l. record t { table = l }) kept);
+    works = is ∙ (ap (λ (u : WorkerView). record u { table = rephased W (tallied number.0 answer) u.table }) s.works ∙ ap (λ l. record t { table = l }) kept);
     sent = s.sent;
     noted = s.noted ∙ ap (λ b. before.notes ++ break_notes T W (wants_of op b) t.table) (sym fit);
   }
@@ -48,9 +48,9 @@ module _ (t u : WorkerView) (T : Tid) (W : WorkId) (a : ActiveWork) (op : Op) (a
       rest : WorkerTable
       rest = after_grant T W (wants_of op true) t.table
 
-      kept : rephased W (tallied number answer) (with_phase W (Active next) rest) ≡ with_phase W (Active (done a op answer (wants_of op (is_fit answer)))) (after_grant T W (wants_of op (is_fit answer)) t.table)
-      kept = rephased-is W (tallied number answer) (with_phase W (Active next) rest) (record i.work { phase = Active next }) (at-with W (Active next) rest i.work (granted_itself T W (wants_of op true) t.table i.work i.found))
-          ∙ (phase_twice W (Active (record next { last = number; kept = Some answer })) (Active next) rest
+      kept : rephased W (tallied number.0 answer) (with_phase W (Active next) rest) ≡ with_phase W (Active (done a op answer (wants_of op (is_fit answer)))) (after_grant T W (wants_of op (is_fit answer)) t.table)
+      kept = rephased-is W (tallied number.0 answer) (with_phase W (Active next) rest) (record i.work { phase = Active next }) (at-with W (Active next) rest i.work (granted_itself T W (wants_of op true) t.table i.work i.found))
+          ∙ (phase_twice W (Active (record next { last = number.0; kept = Some answer })) (Active next) rest
           ∙ (ap (λ n. with_phase W (Active (record next { last = n; kept = Some answer })) rest) count
           ∙ ap (λ b. with_phase W (Active (record (counted a answer) { list = if b then list_with (intention_for a.list op) op a.list else a.list; reads = with_units (units_for Read (wants_of op b)) a.reads; writes = with_units (units_for IntentionWrite (wants_of op b)) a.writes })) (after_grant T W (wants_of op b) t.table)) (sym fit)))
 
@@ -113,11 +113,11 @@ viewed_lost list op v w answer r h err = let x = err_from_is_err_and r err in su
     error f = Err f
 
 -- a read that is granted
-pub granted_settles : (t u now : WorkerView) (v w : StorageView) (T : Tid) (W : WorkId) (a : ActiveWork) (op : Op) (o : Option Answer) (answer : Answer) (number : ℕ) (before after : Collected) → IsActive t.table T W a → number ≡ a.last + 1 → is_unknown a op v → o ≡ None → Settles t T W a op Did o before u after
-    → ((T : Tid) (a : ActiveWork) → IsActive u.table T W a → Viewed a.list v op (Ok answer) w) → now ≡ record u { table = rephased W (tallied number answer) u.table } → ReadSettles t v T W a op answer before now after
+pub granted_settles : (t u now : WorkerView) (v w : StorageView) (T : Tid) (W : WorkId) (a : ActiveWork) (op : Op) (o : Option Answer) (answer : Answer) (number : OperationNo) (before after : Collected) → IsActive t.table T W a → number.0 ≡ a.last + 1 → is_unknown a op v → o ≡ None → Settles t T W a op Did o before u after
+    → ((T : Tid) (a : ActiveWork) → IsActive u.table T W a → Viewed a.list v op (Ok answer) w) → now ≡ record u { table = rephased W (tallied number.0 answer) u.table } → ReadSettles t v T W a op answer before now after
 granted_settles t u now v w T W a op o answer number before after i count unknown none settles viewed is = record {
   refusal = None;
-  settles = settles-read t u T W a op (answer_now a op v) before after fit now number i count s (is ∙ ap (λ x. record u { table = rephased W (tallied number x) u.table }) seen);
+  settles = settles-read t u T W a op (answer_now a op v) before after fit now number i count s (is ∙ ap (λ x. record u { table = rephased W (tallied number.0 x) u.table }) seen);
   answer = seen;
 }
   where
@@ -193,11 +193,11 @@ read_failed A {B} answer f row t u v w before after k l asks is o silent = subst
     }
 
 -- the client is answered
-pub read_told : (t u : WorkerView) (v w : StorageView) (k : Tickets) (c : ClientNo) (request : ℕ) (T : Tid) (W : WorkId) (a : ActiveWork) (number : ℕ) (op : Op) (told : Answer) (before mid last : Collected) (asks : Bool) → IsActive t.table T W a → Fits t v → (block_of op).0 < 120 → number ≡ a.last + 1
+pub read_told : (t u : WorkerView) (v w : StorageView) (k : Tickets) (c : ClientNo) (request : RequestNo) (T : Tid) (W : WorkId) (a : ActiveWork) (number : OperationNo) (op : Op) (told : Answer) (before mid last : Collected) (asks : Bool) → IsActive t.table T W a → Fits t v → (block_of op).0 < 120 → number.0 ≡ a.last + 1
     → ReadSettles t v T W a op told before u mid → OnlyReads asks v true w → last ≡ record { messages = mid.messages ++ (Client c, messages.Answer c request told) ∷ []; notes = mid.notes } → Takes 784 (op_row t.table (state v).files k c request W number op (work_at W t.table)) t v before k (Ok (tt {0})) u w last k
 read_told t u v w k c request T W a number op told before mid last asks i h range count r o sent = read_on (tt {0}) (op_row t.table (state v).files k c request W number op (work_at W t.table)) t u v w before last k k asks h.serving
-    (perform_told t v k c request W op (answer_now a op v) T a i u before mid last number r.refusal told h range count (nat_same number (a.last + 1) count) refl r.settles r.answer sent) o
+    (perform_told t v k c request W op (answer_now a op v) T a i u before mid last number r.refusal told h range count (nat_same number.0 (a.last + 1) count) refl r.settles r.answer sent) o
 
 -- the device is asked only where the operation's row says so
-pub quiet_read : (t : WorkerTable) (v w : StorageView) (T : Tid) (W : WorkId) (a : ActiveWork) (op : Op) (number : ℕ) (ok : Bool) → IsActive t T W a → number ≡ a.last + 1 → OnlyReads (asks_now t v W a op) v ok w → asks_for t v W number op (work_at W t) ≡ false → w ≡ v
-quiet_read t v w T W a op number ok i count o e = o.quiet (ap (λ b. b && asks_now t v W a op) (sym (nat_same number (a.last + 1) count)) ∙ (sym (ap (λ p. asks_in t v W number op p) i.phase) ∙ (sym (ap (λ o. asks_for t v W number op o) i.found) ∙ e)))
+pub quiet_read : (t : WorkerTable) (v w : StorageView) (T : Tid) (W : WorkId) (a : ActiveWork) (op : Op) (number : OperationNo) (ok : Bool) → IsActive t T W a → number.0 ≡ a.last + 1 → OnlyReads (asks_now t v W a op) v ok w → asks_for t v W number op (work_at W t) ≡ false → w ≡ v
+quiet_read t v w T W a op number ok i count o e = o.quiet (ap (λ b. b && asks_now t v W a op) (sym (nat_same number.0 (a.last + 1) count)) ∙ (sym (ap (λ p. asks_in t v W number op p) i.phase) ∙ (sym (ap (λ o. asks_for t v W number op o) i.found) ∙ e)))

@@ -1,5 +1,5 @@
 -- A work is opened.
-use Rattle.jn_worker.proofs.Common.{◌≡◌, ◌<◌, ◌+◌, ℕ, Bool, true, false, List, [], ◌∷◌, ◌++◌, Option, Some, None, length, refl, sym, ◌∙◌, ap, subst, arith, true≢false, Ok, nat_lt, is_some, if◌then◌else◌, append-nil, nat_tests, ClientNo, Tid, Tickets, WorkId, Client, work_eq, work_tells, Files, work_before, work_before-irreflexive, Collected, Work, sends, Prepared, WorkerTable, work_at, work_of, name_from, new_work, open_row, is_after, at-more, none-front, is_in, IsPrepared, StorageView, state, WorkerView, Fits, TicketsFit, WorkFits, WorkListFits, NameFits, Takes}
+use Rattle.jn_worker.proofs.Common.{◌≡◌, ◌<◌, ◌+◌, ℕ, Bool, true, false, List, [], ◌∷◌, ◌++◌, Option, Some, None, length, refl, sym, ◌∙◌, ap, subst, arith, true≢false, Ok, nat_lt, is_some, if◌then◌else◌, append-nil, nat_tests, ClientNo, Tid, Tickets, WorkId, Client, work_eq, work_tells, Files, work_before, work_before-irreflexive, Collected, Work, sends, Prepared, WorkerTable, work_at, work_of, name_from, new_work, open_row, is_after, at-more, none-front, is_in, IsPrepared, StorageView, state, WorkerView, Fits, TicketsFit, WorkFits, WorkListFits, NameFits, Takes, RequestNo}
 use Rattle.jn_msgs.specs.declared.message.Message.TheVariants as messages
 use Rattle.jn_worker.proofs.Exits.{without_change}
 
@@ -81,14 +81,14 @@ tickets_opened t v k T f = record {
   rubbish = λ V e. next-before V k (f.rubbish V e);
 }
 
-opens : (t : WorkerTable) (k : Tickets) (c : ClientNo) (request : ℕ) (T : Tid) → length t < 64
+opens : (t : WorkerTable) (k : Tickets) (c : ClientNo) (request : RequestNo) (T : Tid) → length t < 64
     → open_row t k c request T None ≡ sends (t ++ new_work (name_from k) T ∷ []) (record k { next = k.next + 1 }) ((Client c, messages.Opened c request T (Some (name_from k))) ∷ [])
 opens t k c request T room = ap (λ b. if b then sends (t ++ new_work (name_from k) T ∷ []) (record k { next = k.next + 1 }) ((Client c, messages.Opened c request T (Some (name_from k))) ∷ []) else sends t k ((Client c, messages.Opened c request T None) ∷ [])) below
   where
     below : nat_lt (length t) 64 ≡ true
     below = grind (arith, nat_tests, room)
 
-open_made : (t u : WorkerView) (v : StorageView) (before after : Collected) (k : Tickets) (c : ClientNo) (request : ℕ) (T : Tid) → Fits t v → TicketsFit t.table v k → work_of T t.table ≡ None → length t.table < 64
+open_made : (t u : WorkerView) (v : StorageView) (before after : Collected) (k : Tickets) (c : ClientNo) (request : RequestNo) (T : Tid) → Fits t v → TicketsFit t.table v k → work_of T t.table ≡ None → length t.table < 64
     → u ≡ record t { table = t.table ++ new_work (name_from k) T ∷ [] } → after.notes ≡ before.notes → after.messages ≡ before.messages ++ (Client c, messages.Opened c request T (Some (name_from k))) ∷ []
     → Takes 784 (open_row t.table k c request T (work_of T t.table)) t v before k (Ok (tt {0})) u v after (record k { next = k.next + 1 })
 open_made t u v before after k c request T h f none room is notes sent = subst (λ o. Takes 784 (open_row t.table k c request T o) t v before k (Ok (tt {0})) u v after (record k { next = k.next + 1 })) (sym none)
@@ -98,7 +98,7 @@ open_made t u v before after k c request T h f none room is notes sent = subst (
 
 -- ---- as the code has it
 
-pub open_here : (t : WorkerView) (ws found opened : List Work) (gs : List WorkId) (v : StorageView) (before after : Collected) (k : Tickets) (c : ClientNo) (request : ℕ) (T : Tid) (N : WorkId) (n : ℕ) → record { table = ws; going = gs } ≡ t → found ≡ ws → work_of T found ≡ None
+pub open_here : (t : WorkerView) (ws found opened : List Work) (gs : List WorkId) (v : StorageView) (before after : Collected) (k : Tickets) (c : ClientNo) (request : RequestNo) (T : Tid) (N : WorkId) (n : ℕ) → record { table = ws; going = gs } ≡ t → found ≡ ws → work_of T found ≡ None
     → n ≡ length ws → n < 64 → N ≡ name_from k → opened ≡ ws ++ new_work N T ∷ [] → after ≡ record { messages = before.messages ++ (Client c, messages.Opened c request T (Some N)) ∷ []; notes = before.notes }
     → Fits t v → TicketsFit t.table v k → Takes 784 (open_row t.table k c request T (work_of T t.table)) t v before k (Ok (tt {0})) (record { table = opened; going = gs }) v after (record k { next = k.next + 1 })
 open_here t ws found opened gs v before after k c request T N n e same none count short name is sent h f = open_made t (record { table = opened; going = gs }) v before after k c request T h f

@@ -1,5 +1,5 @@
 -- An operation is granted, or refused.
-use Rattle.jn_worker.proofs.Common.{◌≡◌, ◌+◌, ℕ, Bool, true, false, List, [], ◌∷◌, ◌++◌, Option, Some, None, if◌then◌else◌, refl, sym, ◌∙◌, ap, subst, Ok, Result, append-nil, Tid, WorkId, LockUnit, Answer, Locked, Op, work_eq, Collected, Broke, Intention, intention_for, list_after, BrokenAt, Read, IntentionWrite, Work, Phase, ActiveWork, Active, work_at, with_phase, after_grant, break_notes, conflict, locked, counted, done, wants_of, with_units, units_for, is_fit, list_with, IsActive, Becomes, Grants, IsRefused, note_if, notes_of, rephased, at-phase, in_phase, work_same, WorkerFault, WorkerView, relisted, tallied, Granted, locked_by, rephased-is}
+use Rattle.jn_worker.proofs.Common.{◌≡◌, ◌+◌, ℕ, Bool, true, false, List, [], ◌∷◌, ◌++◌, Option, Some, None, if◌then◌else◌, refl, sym, ◌∙◌, ap, subst, Ok, Result, append-nil, Tid, WorkId, LockUnit, Answer, Locked, Op, work_eq, Collected, Broke, Intention, intention_for, list_after, BrokenAt, Read, IntentionWrite, Work, Phase, ActiveWork, Active, work_at, with_phase, after_grant, break_notes, conflict, locked, counted, done, wants_of, with_units, units_for, is_fit, list_with, IsActive, Becomes, Grants, IsRefused, note_if, notes_of, rephased, at-phase, in_phase, work_same, WorkerFault, WorkerView, relisted, tallied, Granted, locked_by, rephased-is, OperationNo}
 use Rattle.jn_lock_rows.specs.declared.grants.Refused.{Refused}
 use Rattle.jn_lock_rows.specs.declared.grants.Refused.TheVariants.{Held as HeldBy, Memory as NotGranted}
 use Rattle.jn_works.specs.Changing.{list_of}
@@ -43,8 +43,8 @@ abbrev told_ok : Answer → Result Answer WorkerFault
 told_ok answer = Ok answer
 
 -- another work stands in the way
-pub grant_refused : (t : WorkerView) (ws found given taken kept back after : List Work) (gs : List WorkId) (W : WorkId) (x : Work) (T : Tid) (a : ActiveWork) (op : Op) (answer refusal : Answer) (fit : Bool) (number : ℕ) (empty list : List Intention) (refused : Refused) (before : Collected) → record { table = ws; going = gs } ≡ t → found ≡ ws → work_at W found ≡ Some x
-    → IsActive t.table T W a → number ≡ a.last + 1 → given ≡ rephased W (relisted empty) ws → list ≡ list_of empty (work_at W ws) → taken ≡ given → fit ≡ is_fit answer → IsRefused taken W (wants_of op fit) refused → kept ≡ taken → back ≡ rephased W (relisted list) kept → locked_by refused ≡ Ok refusal → after ≡ rephased W (tallied number refusal) back
+pub grant_refused : (t : WorkerView) (ws found given taken kept back after : List Work) (gs : List WorkId) (W : WorkId) (x : Work) (T : Tid) (a : ActiveWork) (op : Op) (answer refusal : Answer) (fit : Bool) (number : OperationNo) (empty list : List Intention) (refused : Refused) (before : Collected) → record { table = ws; going = gs } ≡ t → found ≡ ws → work_at W found ≡ Some x
+    → IsActive t.table T W a → number.0 ≡ a.last + 1 → given ≡ rephased W (relisted empty) ws → list ≡ list_of empty (work_at W ws) → taken ≡ given → fit ≡ is_fit answer → IsRefused taken W (wants_of op fit) refused → kept ≡ taken → back ≡ rephased W (relisted list) kept → locked_by refused ≡ Ok refusal → after ≡ rephased W (tallied number.0 refusal) back
     → Granted t T W a op answer (Some refusal) before (record { table = after; going = gs }) before
 grant_refused t ws found given taken kept back after gs W x T a op answer refusal fit number empty list refused before view same look i count swapped is_list taken_is fits how kept_is back_is told after_is =
     subst (λ (t : WorkerView). IsActive t.table T W a → Granted t T W a op answer (Some refusal) before (record { table = after; going = gs }) before) view core i
@@ -88,8 +88,8 @@ grant_refused t ws found given taken kept back after gs W x T a op answer refusa
         at2 = ap (λ l. work_at W l) back_with ∙ at-with W (Active (record a { list = list })) ws x at
 
         now : after ≡ with_phase W (Active (counted a refusal)) ws
-        now = after_is ∙ (rephased-is W (tallied number refusal) back x2 at2 ∙ (ap (λ l. with_phase W (Active (record a { list = list; last = number; kept = Some refusal })) l) back_with ∙ (phase_twice W (Active (record a { list = list; last = number; kept = Some refusal })) (Active (record a { list = list })) ws
-            ∙ (ap (λ l. with_phase W (Active (record a { list = l; last = number; kept = Some refusal })) ws) old ∙ ap (λ n. with_phase W (Active (record a { last = n; kept = Some refusal })) ws) count))))
+        now = after_is ∙ (rephased-is W (tallied number.0 refusal) back x2 at2 ∙ (ap (λ l. with_phase W (Active (record a { list = list; last = number.0; kept = Some refusal })) l) back_with ∙ (phase_twice W (Active (record a { list = list; last = number.0; kept = Some refusal })) (Active (record a { list = list })) ws
+            ∙ (ap (λ l. with_phase W (Active (record a { list = l; last = number.0; kept = Some refusal })) ws) old ∙ ap (λ n. with_phase W (Active (record a { last = n; kept = Some refusal })) ws) count))))
 
         is_answer : (y z : Answer) → told_ok y ≡ told_ok z → y ≡ z
         is_answer y z e = cc e
@@ -118,9 +118,9 @@ notes-rephased T W f [] ws = refl
 notes-rephased T W f (b ∷ bs) ws = ap (λ l. l ++ notes_of T bs (rephased W f ws)) (note-rephased T b.work W b.unit f ws) ∙ ap (λ l. note_if T b.unit (work_at b.work ws) ++ l) (notes-rephased T W f bs ws)
 
 -- its wants are granted
-pub grant_done : (t : WorkerView) (ws found given taken kept after shown full : List Work) (gs : List WorkId) (W : WorkId) (x : Work) (T : Tid) (a b next : ActiveWork) (op : Op) (answer : Answer) (fit : Bool) (number : ℕ) (empty list longer : List Intention) (bs told : List BrokenAt) (before last : Collected) → record { table = ws; going = gs } ≡ t → found ≡ ws → work_at W found ≡ Some x → x.phase ≡ Active b
-    → IsActive t.table T W a → number ≡ a.last + 1 → given ≡ rephased W (relisted empty) ws → list ≡ list_of empty (work_at W ws) → taken ≡ given → fit ≡ is_fit answer → Grants taken x.tid W (wants_of op fit) (Active next) bs kept → full ≡ kept
-    → next.reads ≡ with_units (units_for Read (wants_of op (is_fit answer))) a.reads → next.writes ≡ with_units (units_for IntentionWrite (wants_of op (is_fit answer))) a.writes → next.vulnerable ≡ b.vulnerable → next.last ≡ number → next.kept ≡ Some answer
+pub grant_done : (t : WorkerView) (ws found given taken kept after shown full : List Work) (gs : List WorkId) (W : WorkId) (x : Work) (T : Tid) (a b next : ActiveWork) (op : Op) (answer : Answer) (fit : Bool) (number : OperationNo) (empty list longer : List Intention) (bs told : List BrokenAt) (before last : Collected) → record { table = ws; going = gs } ≡ t → found ≡ ws → work_at W found ≡ Some x → x.phase ≡ Active b
+    → IsActive t.table T W a → number.0 ≡ a.last + 1 → given ≡ rephased W (relisted empty) ws → list ≡ list_of empty (work_at W ws) → taken ≡ given → fit ≡ is_fit answer → Grants taken x.tid W (wants_of op fit) (Active next) bs kept → full ≡ kept
+    → next.reads ≡ with_units (units_for Read (wants_of op (is_fit answer))) a.reads → next.writes ≡ with_units (units_for IntentionWrite (wants_of op (is_fit answer))) a.writes → next.vulnerable ≡ b.vulnerable → next.last ≡ number.0 → next.kept ≡ Some answer
     → longer ≡ (if fit then list_after (intention_for list op) op list else list) → after ≡ rephased W (relisted longer) full → shown ≡ after → told ≡ bs → last.messages ≡ before.messages → last.notes ≡ before.notes ++ notes_of x.tid told shown
     → Granted t T W a op answer None before (record { table = after; going = gs }) last
 grant_done t ws found given taken kept after shown full gs W x T a b next op answer fit number empty list longer bs told before last view same look phase i count swapped is_list taken_is fits grants full_is reads writes vulnerable number_is kept_answer longer_is after_is shown_is told_is sent notes =

@@ -1,5 +1,5 @@
 -- What a worker's rows never do.
-use Rattle.jn_worker.proofs.Common.{◌≡◌, ◌+◌, ℕ, Bool, true, false, not, List, [], ◌∷◌, ◌++◌, length, Option, Some, None, if◌then◌else◌, refl, sym, ◌∙◌, ap, subst, arith, true≢false, inl, inr, ◌⊎◌, ◌&&◌, nat_eq, nat_lt, nat_tests, ClientNo, Client, Tickets, Tid, WorkId, Answer, AnyOp, work_eq, Files, answer_to, change, list_change, Vote, ActiveWork, Phase, Active, Broken, Stored, Work, ignored, quiet, sends, MarkGoing, RemoveWork, is_going, WorkerTable, WorkStorage, Wanted, wants_of, is_fit, counted, done, commit_wants, conflict, vote_of, shortage, need_in, work_at, work_of, with_phase, without, after_grant, broken_by, collision, gives_way, name_from, new_work, open_row, op_row, op_phase, performed, repeated, granted_row, refusal_of, prepare_row, prepare_phase, prepared_row, voted, commit_row, commit_phase, drop_row, drop_phase, worker_row, timed_out, vulnerable, are_rising, work_is, found-name, at-less, at-phase, in_phase, at-grant, once_granted, is_stored, Message}
+use Rattle.jn_worker.proofs.Common.{◌≡◌, ◌+◌, ℕ, Bool, true, false, not, List, [], ◌∷◌, ◌++◌, length, Option, Some, None, if◌then◌else◌, refl, sym, ◌∙◌, ap, subst, arith, true≢false, inl, inr, ◌⊎◌, ◌&&◌, nat_eq, nat_lt, nat_tests, ClientNo, Client, Tickets, Tid, WorkId, Answer, AnyOp, work_eq, Files, answer_to, change, list_change, Vote, ActiveWork, Phase, Active, Broken, Stored, Work, ignored, quiet, sends, MarkGoing, RemoveWork, is_going, WorkerTable, WorkStorage, Wanted, wants_of, is_fit, counted, done, commit_wants, conflict, vote_of, shortage, need_in, work_at, work_of, with_phase, without, after_grant, broken_by, collision, gives_way, name_from, new_work, open_row, op_row, op_phase, performed, repeated, granted_row, refusal_of, prepare_row, prepare_phase, prepared_row, voted, commit_row, commit_phase, drop_row, drop_phase, worker_row, timed_out, vulnerable, are_rising, work_is, found-name, at-less, at-phase, in_phase, at-grant, once_granted, is_stored, Message, OperationNo, RequestNo}
 use Rattle.jn_msgs.specs.declared.message.Message.TheVariants as messages
 use Rattle.jn_msgs.specs.declared.message.Vote.TheVariants as votes
 use Rattle.jn_worker.proofs.Does.{nat_same}
@@ -46,7 +46,7 @@ module _ (t : WorkerTable) (W : WorkId) (w : Work) (at : work_at W t ≡ Some w)
   rephased : (x : Work) (p : Phase) (u : WorkerTable) → work_eq x.name W ≡ false → work_at W u ≡ Some w → work_at W (with_phase x.name p u) ≡ Some w
   rephased x p u differs here = at-phase W x.name p u ∙ (ap (λ b. if b then in_phase p (work_at W u) else work_at W u) differs ∙ here)
 
-  open_stays : (k : Tickets) (c : ClientNo) (request : ℕ) (T : Tid) (o : Option Work) → Stays (open_row t k c request T o).table
+  open_stays : (k : Tickets) (c : ClientNo) (request : RequestNo) (T : Tid) (o : Option Work) → Stays (open_row t k c request T o).table
   open_stays k c request T (Some x) = inl at
   open_stays k c request T None = by (nat_lt (length t) 64)
     where
@@ -54,14 +54,14 @@ module _ (t : WorkerTable) (W : WorkId) (w : Work) (at : work_at W t ≡ Some w)
       by true = inl (found-more W t (new_work (name_from k) T) w at)
       by false = inl at
 
-  op_stays : (files : Files) (k : Tickets) (c : ClientNo) (request : ℕ) (V : WorkId) (number : ℕ) (op : AnyOp) (o : Option Work) → work_at V t ≡ o → Stays (op_row t files k c request V number op o).table
+  op_stays : (files : Files) (k : Tickets) (c : ClientNo) (request : RequestNo) (V : WorkId) (number : OperationNo) (op : AnyOp) (o : Option Work) → work_at V t ≡ o → Stays (op_row t files k c request V number op o).table
   op_stays files k c request V number op None there = inl at
   op_stays files k c request V number op (Some x) there = by x.phase refl
     where
       by : (phase : Phase) → x.phase ≡ phase → Stays (op_phase t files k c request x number op phase).table
       by (Broken u S) e = inl at
       by (Stored q) e = inl at
-      by (Active a) e = number_is (nat_eq number (a.last + 1)) (nat_eq number a.last) a.kept
+      by (Active a) e = number_is (nat_eq number.0 (a.last + 1)) (nat_eq number.0 a.last) a.kept
         where
           differs : work_eq x.name W ≡ false
           differs = other V x there (ap is_stored e)
@@ -166,7 +166,7 @@ timeouts_keep_prepared t u T rising e W w at stored = timeout_stays t W w at sto
 
 -- ---- operations that were done
 
-says_kept : (t : WorkerTable) (k : Tickets) (c : ClientNo) (request : ℕ) (a : ActiveWork) (number : ℕ) (b : Bool) (kept : Option Answer) → nat_eq number a.last ≡ b → a.kept ≡ kept → SaysAgain t k c request a number (if b then repeated t k c request kept else ignored t k)
+says_kept : (t : WorkerTable) (k : Tickets) (c : ClientNo) (request : RequestNo) (a : ActiveWork) (number : OperationNo) (b : Bool) (kept : Option Answer) → nat_eq number.0 a.last ≡ b → a.kept ≡ kept → SaysAgain t k c request a number (if b then repeated t k c request kept else ignored t k)
 says_kept t k c request a number true (Some x) e m = record {
   table = refl;
   changes = refl;
@@ -181,14 +181,14 @@ says_kept t k c request a number true None e m = record { table = refl; changes 
   where
     none : (x : Answer) → None ≡ Some x → ⊥
     none x e = cc e
-says_kept t k c request a number false kept e m = record { table = refl; changes = refl; tickets = refl; again = λ answer is said. absurd (true≢false (sym (nat_same number a.last is) ∙ e)); silent = λ other. refl }
+says_kept t k c request a number false kept e m = record { table = refl; changes = refl; tickets = refl; again = λ answer is said. absurd (true≢false (sym (nat_same number.0 a.last is) ∙ e)); silent = λ other. refl }
 
 pub old_operations_do_nothing : OldOperationsDoNothing
 old_operations_do_nothing t s k c request W number op T a i other = subst (λ row. SaysAgain t k c request a number row)
     (sym (ap (λ o. op_row t s.state.files k c request W number op o) i.found ∙ (ap (λ phase. op_phase t s.state.files k c request i.work number op phase) i.phase
-    ∙ ap (λ b. if b then performed t k c request i.work a op (answer_to op (change (list_change a.list) s.state.files)) else (if nat_eq number a.last then repeated t k c request a.kept else ignored t k)) (differs (nat_eq number (a.last + 1)) refl))))
-    (says_kept t k c request a number (nat_eq number a.last) a.kept refl refl)
+    ∙ ap (λ b. if b then performed t k c request i.work a op (answer_to op (change (list_change a.list) s.state.files)) else (if nat_eq number.0 a.last then repeated t k c request a.kept else ignored t k)) (differs (nat_eq number.0 (a.last + 1)) refl))))
+    (says_kept t k c request a number (nat_eq number.0 a.last) a.kept refl refl)
   where
-    differs : (b : Bool) → nat_eq number (a.last + 1) ≡ b → b ≡ false
+    differs : (b : Bool) → nat_eq number.0 (a.last + 1) ≡ b → b ≡ false
     differs false e = refl
     differs true e = absurd (other (grind (arith, nat_tests, e)))

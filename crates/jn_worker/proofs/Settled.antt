@@ -1,5 +1,5 @@
 -- An operation is done, or refused for a limit or for another work.
-use Rattle.jn_worker.proofs.Common.{◌≡◌, ◌+◌, ℕ, Bool, List, length, Option, Some, None, if◌then◌else◌, refl, sym, ◌∙◌, ap, subst, append-nil, Tid, WorkId, LockUnit, Answer, Op, Collected, length_with, Read, Work, ActiveWork, Active, work_at, with_phase, conflict, locked, wants_of, with_units, units_for, is_fit, past_limit, first_of_two, IsActive, rephased, WorkerView, tallied, Granted, Settles, rephased-is}
+use Rattle.jn_worker.proofs.Common.{◌≡◌, ◌+◌, ℕ, Bool, List, length, Option, Some, None, if◌then◌else◌, refl, sym, ◌∙◌, ap, subst, append-nil, Tid, WorkId, LockUnit, Answer, Op, Collected, length_with, Read, Work, ActiveWork, Active, work_at, with_phase, conflict, locked, wants_of, with_units, units_for, is_fit, past_limit, first_of_two, IsActive, rephased, WorkerView, tallied, Granted, Settles, rephased-is, OperationNo}
 
 is_work : (x y : Work) → Some x ≡ Some y → x ≡ y
 is_work x y e = cc e
@@ -21,8 +21,8 @@ limit_is op answer fit a b reads n m o fits same is count many limit = limit ∙
     ∙ (ap (λ f. past_limit (length (with_units (units_for Read (wants_of op f)) b.reads)) (if f then length_with b.list op else length b.list)) fits
     ∙ ap (λ (c : ActiveWork). past_limit (length (with_units (units_for Read (wants_of op (is_fit answer))) c.reads)) (if is_fit answer then length_with c.list op else length c.list)) same)))
 
-pub limit_settles : (t : WorkerView) (ws found after : List Work) (gs : List WorkId) (W : WorkId) (x : Work) (T : Tid) (a : ActiveWork) (op : Op) (answer refusal : Answer) (number : ℕ) (o : Option Answer) (before : Collected) → record { table = ws; going = gs } ≡ t → found ≡ ws → work_at W found ≡ Some x → IsActive t.table T W a → number ≡ a.last + 1
-    → o ≡ past_limit (length (with_units (units_for Read (wants_of op (is_fit answer))) a.reads)) (if is_fit answer then length_with a.list op else length a.list) → o ≡ Some refusal → after ≡ rephased W (tallied number refusal) ws
+pub limit_settles : (t : WorkerView) (ws found after : List Work) (gs : List WorkId) (W : WorkId) (x : Work) (T : Tid) (a : ActiveWork) (op : Op) (answer refusal : Answer) (number : OperationNo) (o : Option Answer) (before : Collected) → record { table = ws; going = gs } ≡ t → found ≡ ws → work_at W found ≡ Some x → IsActive t.table T W a → number.0 ≡ a.last + 1
+    → o ≡ past_limit (length (with_units (units_for Read (wants_of op (is_fit answer))) a.reads)) (if is_fit answer then length_with a.list op else length a.list) → o ≡ Some refusal → after ≡ rephased W (tallied number.0 refusal) ws
     → Settles t T W a op answer (Some refusal) before (record { table = after; going = gs }) before
 limit_settles t ws found after gs W x T a op answer refusal number o before view same look i count limit some after_is =
     subst (λ (t : WorkerView). IsActive t.table T W a → Settles t T W a op answer (Some refusal) before (record { table = after; going = gs }) before) view core i
@@ -33,7 +33,7 @@ limit_settles t ws found after gs W x T a op answer refusal number o before view
     core : IsActive ws T W a → Settles (record { table = ws; going = gs }) T W a op answer (Some refusal) before (record { table = after; going = gs }) before
     core i = record {
       refused = sym (ap (λ o. first_of_two o (locked (conflict W (wants_of op (is_fit answer)) ws))) (sym limit ∙ some));
-      works = ap (λ (l : List Work). record { table = l; going = gs }) (after_is ∙ (rephased-is W (tallied number refusal) ws x at ∙ (ap (λ p. with_phase W (tallied number refusal p) ws) active ∙ ap (λ n. with_phase W (Active (record a { last = n; kept = Some refusal })) ws) count)));
+      works = ap (λ (l : List Work). record { table = l; going = gs }) (after_is ∙ (rephased-is W (tallied number.0 refusal) ws x at ∙ (ap (λ p. with_phase W (tallied number.0 refusal p) ws) active ∙ ap (λ n. with_phase W (Active (record a { last = n; kept = Some refusal })) ws) count)));
       sent = refl;
       noted = sym (append-nil before.notes);
     }

@@ -1,5 +1,7 @@
 -- What a worker's rows never do.
 use Rattle.std.specs.Prelude.{◌≡◌, ◌≢◌, ◌⊎◌, ◌+◌, ℕ, true, [], ◌∷◌, Some, None}
+use Rattle.jn_base.specs.declared.names.OperationNo.{OperationNo}
+use Rattle.jn_base.specs.declared.names.RequestNo.{RequestNo}
 use Rattle.jn_base.specs.declared.names.ClientNo.{ClientNo}
 use Rattle.jn_base.specs.declared.names.Party.TheVariants.{Client}
 use Rattle.jn_base.specs.declared.names.Tickets.{Tickets}
@@ -30,14 +32,14 @@ abbrev pub TimeoutsKeepPrepared : Type 0
 TimeoutsKeepPrepared = (t u : WorkerTable) (T : Tid) → are_rising t ≡ true → timeout_row t T ≡ Some u → PreparedStay t u
 
 -- nothing is done; the client is told the active work's kept answer again where the number is that of its last operation
-pub record SaysAgain (t : WorkerTable) (k : Tickets) (c : ClientNo) (request : ℕ) (a : ActiveWork) (number : ℕ) (row : RowOutcome WorkerTable) : Type 0 where
+pub record SaysAgain (t : WorkerTable) (k : Tickets) (c : ClientNo) (request : RequestNo) (a : ActiveWork) (number : OperationNo) (row : RowOutcome WorkerTable) : Type 0 where
   pub table : row.table ≡ t
   pub changes : row.changes ≡ []
   pub tickets : row.tickets ≡ k
-  pub again : (answer : Answer) → number ≡ a.last → a.kept ≡ Some answer → row.messages ≡ (Client c, messages.Answer c request answer) ∷ []
-  pub silent : number ≢ a.last → row.messages ≡ []
+  pub again : (answer : Answer) → number.0 ≡ a.last → a.kept ≡ Some answer → row.messages ≡ (Client c, messages.Answer c request answer) ∷ []
+  pub silent : number.0 ≢ a.last → row.messages ≡ []
 
 -- an operation of an active work that isn't its next one
 abbrev pub OldOperationsDoNothing : Type 0
-OldOperationsDoNothing = (t : WorkerTable) (s : WorkStorage) (k : Tickets) (c : ClientNo) (request : ℕ) (W : WorkId) (number : ℕ) (op : AnyOp) (T : Tid) (a : ActiveWork) → IsActive t T W a → number ≢ a.last + 1
+OldOperationsDoNothing = (t : WorkerTable) (s : WorkStorage) (k : Tickets) (c : ClientNo) (request : RequestNo) (W : WorkId) (number : OperationNo) (op : AnyOp) (T : Tid) (a : ActiveWork) → IsActive t T W a → number.0 ≢ a.last + 1
     → SaysAgain t k c request a number (worker_row t s k (messages.Op c request W number op))

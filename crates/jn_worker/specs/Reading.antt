@@ -1,5 +1,6 @@
 -- An operation whose answer is a stored block.
 use Rattle.std.specs.Prelude.{◌≡◌, ◌+◌, ℕ, Bool, true, false, not, nat_eq, ◌&&◌, Option, Some, None, is_some}
+use Rattle.jn_base.specs.declared.names.OperationNo.{OperationNo}
 use Rattle.jn_store.specs.DeviceCalls.{cleaned_get_calls}
 use Rattle.jn_base.specs.declared.names.Tid.{Tid}
 use Rattle.jn_base.specs.declared.names.WorkId.{WorkId}
@@ -45,11 +46,11 @@ pub record OnlyReads (asks : Bool) (v : StorageView) (ok : Bool) (w : StorageVie
 abbrev pub asks_now : WorkerTable → StorageView → WorkId → ActiveWork → Op → Bool
 asks_now t v W a op = reads_stored a.list op (state v).files && not (is_some (refusal_of t W a op (answer_now a op v) (wants_of op (is_fit (answer_now a op v)))))
 
-abbrev pub asks_in : WorkerTable → StorageView → WorkId → ℕ → Op → Phase → Bool
-asks_in t v W number op (Active a) = nat_eq number (a.last + 1) && asks_now t v W a op
+abbrev pub asks_in : WorkerTable → StorageView → WorkId → OperationNo → Op → Phase → Bool
+asks_in t v W number op (Active a) = nat_eq number.0 (a.last + 1) && asks_now t v W a op
 asks_in t v W number op phase = false
 
 -- whether an operation asks the device
-abbrev pub asks_for : WorkerTable → StorageView → WorkId → ℕ → Op → Option Work → Bool
+abbrev pub asks_for : WorkerTable → StorageView → WorkId → OperationNo → Op → Option Work → Bool
 asks_for t v W number op None = false
 asks_for t v W number op (Some w) = asks_in t v W number op w.phase

@@ -9,7 +9,7 @@ ghost use Rattle.jn_worker.specs.Fitting.{Fits, TicketsFit};
 
 use crate::words::WorkerFault;
 use crate::worker::Worker;
-use jn_base::{ClientNo, MOST_WORKS, Party, Tickets, Tid, WorkId};
+use jn_base::{ClientNo, MOST_WORKS, Party, RequestNo, Tickets, Tid, WorkId};
 use jn_lock_rows::open_work;
 use jn_msgs::{Message, Out};
 use jn_works::work_of;
@@ -29,7 +29,7 @@ impl Worker {
     pub(crate) fn open(
         &mut self,
         client: ClientNo,
-        request: u32,
+        request: RequestNo,
         tid: Tid,
         tickets: &mut Tickets,
         out: &mut Out,

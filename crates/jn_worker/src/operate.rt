@@ -21,7 +21,10 @@ ghost use Rattle.jn_worker.specs.Fitting.{Fits, seen, is_active};
 
 use crate::words::WorkerFault;
 use crate::worker::Worker;
-use jn_base::{Answer, ClientNo, LockUnit, MOST_INTENTIONS, MOST_READS, Op, Party, Tid, WorkId};
+use jn_base::{
+    Answer, ClientNo, LockUnit, MOST_INTENTIONS, MOST_READS, Op, OperationNo, Party, RequestNo,
+    Tid, WorkId,
+};
 use jn_lock_rows::{Refused, grant_operation, note_breaks, operation_wants, units_with, work_at};
 use jn_locks::Mode;
 use jn_msgs::{Message, Note, Out};
@@ -108,7 +111,7 @@ impl Worker {
     fn grant(
         &mut self,
         name: WorkId,
-        number: u32,
+        number: OperationNo,
         op: &Op,
         answer: Answer,
         units: (Vec<LockUnit>, Vec<LockUnit>),
@@ -117,7 +120,7 @@ impl Worker {
         requires active { is_active (rows.work_at name self.old.table) ≡ true }
         requires reads { (T : Tid) (a : ActiveWork) → IsActive self.old.table T name a → units.0.items ≡ rows.with_units (rows.units_for modes.Read (rows.wants_of op.now (rows.is_fit answer))) a.reads }
         requires writes { (T : Tid) (a : ActiveWork) → IsActive self.old.table T name a → units.1.items ≡ rows.with_units (rows.units_for modes.IntentionWrite (rows.wants_of op.now (rows.is_fit answer))) a.writes }
-        ensures granted { IfOk result (λ refusal. (T : Tid) (a : ActiveWork) → IsActive self.old.table T name a → number ≡ a.last + 1 → Granted self.old T name a op.now answer refusal out.old self.new out.new) }
+        ensures granted { IfOk result (λ refusal. (T : Tid) (a : ActiveWork) → IsActive self.old.table T name a → number.0 ≡ a.last + 1 → Granted self.old T name a op.now answer refusal out.old self.new out.new) }
         ensures memory { IfErr result (λ fault. fault ≡ Memory) }
     {
         let Some(work) = work_at(&self.works, name) else {
@@ -133,7 +136,7 @@ impl Worker {
             list: NetList::new(self.alloc),
             reads: ListOf::from_vec(units.0),
             writes: ListOf::from_vec(units.1),
-            last: number,
+            last: number.0,
             kept: Some(answer),
             vulnerable,
         };
@@ -152,7 +155,7 @@ impl Worker {
                 let _none = swap_list(&mut self.works, name, list);
                 let refusal = locked(refused)?;
                 let kept = refusal.copy()?;
-                tally(&mut self.works, name, number, kept);
+                tally(&mut self.works, name, number.0, kept);
                 return Ok(Some(refusal));
             }
         };
@@ -168,13 +171,13 @@ impl Worker {
     pub(crate) fn settle(
         &mut self,
         name: WorkId,
-        number: u32,
+        number: OperationNo,
         op: &Op,
         answer: Answer,
         out: &mut Out,
     ) -> Result<Option<Answer>, WorkerFault>
         requires active { is_active (rows.work_at name self.old.table) ≡ true }
-        ensures settled { IfOk result (λ refusal. (T : Tid) (a : ActiveWork) → IsActive self.old.table T name a → number ≡ a.last + 1 → Settles self.old T name a op.now answer refusal out.old self.new out.new) }
+        ensures settled { IfOk result (λ refusal. (T : Tid) (a : ActiveWork) → IsActive self.old.table T name a → number.0 ≡ a.last + 1 → Settles self.old T name a op.now answer refusal out.old self.new out.new) }
         ensures memory { IfErr result (λ fault. fault ≡ Memory) }
     {
         let Some(work) = work_at(&self.works, name) else {
@@ -187,7 +190,7 @@ impl Worker {
         let units = units_after(self.alloc, active, op, fit)?;
         if let Some(refusal) = past_limit(units.0.len(), intentions(active, op, fit)) {
             let kept = refusal.copy()?;
-            tally(&mut self.works, name, number, kept);
+            tally(&mut self.works, name, number.0, kept);
             return Ok(Some(refusal));
         }
         let refusal = self.grant(name, number, op, answer, units, out)?;
@@ -198,15 +201,15 @@ impl Worker {
     pub(crate) fn perform(
         &mut self,
         client: ClientNo,
-        request: u32,
+        request: RequestNo,
         name: WorkId,
-        number: u32,
+        number: OperationNo,
         op: &Op,
         answer: Answer,
         out: &mut Out,
     ) -> Result<(), WorkerFault>
         requires active { is_active (rows.work_at name self.old.table) ≡ true }
-        requires next { (T : Tid) (a : ActiveWork) → IsActive self.old.table T name a → number ≡ a.last + 1 }
+        requires next { (T : Tid) (a : ActiveWork) → IsActive self.old.table T name a → number.0 ≡ a.last + 1 }
         ensures takes { (v : StorageView) (k : Tickets) → Fits self.old v → BlockInRange op.now → ((T : Tid) (a : ActiveWork) → IsActive self.old.table T name a → answer ≡ answer_to op.now (change (list_change a.list) (state v).files)) → Takes prepare_calls (rows.op_row self.old.table (state v).files k client request name number op.now (rows.work_at name self.old.table)) self.old v out.old k result self.new v out.new k }
     {
         let kept = answer.copy()?;
@@ -220,13 +223,13 @@ impl Worker {
     pub(crate) fn repeat(
         &self,
         client: ClientNo,
-        request: u32,
+        request: RequestNo,
         name: WorkId,
-        number: u32,
+        number: OperationNo,
         out: &mut Out,
     ) -> Result<(), WorkerFault>
         requires active { is_active (rows.work_at name self.now.table) ≡ true }
-        requires other { (T : Tid) (a : ActiveWork) → IsActive self.now.table T name a → nat_eq number (a.last + 1) ≡ false }
+        requires other { (T : Tid) (a : ActiveWork) → IsActive self.now.table T name a → nat_eq number.0 (a.last + 1) ≡ false }
         ensures takes { (v : StorageView) (k : Tickets) (op : AnyOp) → Fits self.now v → Takes prepare_calls (rows.op_row self.now.table (state v).files k client request name number op (rows.work_at name self.now.table)) self.now v out.old k result self.now v out.new k }
     {
         if let Some(answer) = self.kept_answer(name, number) {
@@ -238,9 +241,9 @@ impl Worker {
     }
 
     /// What the active work's operation of this number was answered, if it was its last one.
-    fn kept_answer(&self, name: WorkId, number: u32) -> Option<&Answer>
+    fn kept_answer(&self, name: WorkId, number: OperationNo) -> Option<&Answer>
         requires active { is_active (rows.work_at name self.now.table) ≡ true }
-        ensures { (T : Tid) (a : ActiveWork) → IsActive self.now.table T name a → Gives (λ answer. answer.now) result (if nat_eq number a.last then a.kept else None) }
+        ensures { (T : Tid) (a : ActiveWork) → IsActive self.now.table T name a → Gives (λ answer. answer.now) result (if nat_eq number.0 a.last then a.kept else None) }
     {
         let Some(work) = work_at(&self.works, name) else {
             unreachable!()
@@ -248,7 +251,7 @@ impl Worker {
         let Phase::Active(active) = &work.phase else {
             unreachable!()
         };
-        if number == active.last {
+        if number.0 == active.last {
             active.kept.as_ref()
         } else {
             None

@@ -18,7 +18,7 @@ ghost use Rattle.jn_worker.specs.Fitting.{Fits, is_active};
 
 use crate::words::WorkerFault;
 use crate::worker::Worker;
-use jn_base::{Answer, ClientNo, FileNo, Op, Party, Tickets, WorkId};
+use jn_base::{Answer, ClientNo, FileNo, Op, OperationNo, Party, RequestNo, Tickets, WorkId};
 use jn_lock_rows::work_at;
 use jn_msgs::{Message, Out};
 use jn_rows::Phase;
@@ -36,9 +36,9 @@ fn file_of(op: &Op) -> FileNo
 
 impl Worker {
     /// Whether the active work's next operation has this number.
-    fn is_next(&self, name: WorkId, number: u32) -> bool
+    fn is_next(&self, name: WorkId, number: OperationNo) -> bool
         requires active { is_active (rows.work_at name self.now.table) ≡ true }
-        ensures { (T : Tid) (a : ActiveWork) → IsActive self.now.table T name a → result ≡ nat_eq number (a.last + 1) }
+        ensures { (T : Tid) (a : ActiveWork) → IsActive self.now.table T name a → result ≡ nat_eq number.0 (a.last + 1) }
     {
         let Some(work) = work_at(&self.works, name) else {
             unreachable!()
@@ -46,7 +46,7 @@ impl Worker {
         let Phase::Active(active) = &work.phase else {
             unreachable!()
         };
-        active.last.checked_add(1) == Some(number)
+        active.last.checked_add(1) == Some(number.0)
     }
 
     /// What an operation of the active work is answered; none where it is the stored block.
@@ -76,14 +76,14 @@ impl Worker {
         &mut self,
         store: &mut W,
         name: WorkId,
-        number: u32,
+        number: OperationNo,
         op: &Op,
     ) -> Result<Answer, ViewFault>
         requires serving { IsServing (W.view store.old) }
         requires range { BlockInRange op.now }
         requires active { is_active (rows.work_at name self.old.table) ≡ true }
         ensures viewed { (T : Tid) (a : ActiveWork) → IsActive self.old.table T name a → Viewed a.list (W.view store.old) op.now result (W.view store.new) }
-        ensures kept { IfOk result (λ answer. self.new ≡ record self.old { table = rephased name (tallied number answer) self.old.table }) }
+        ensures kept { IfOk result (λ answer. self.new ≡ record self.old { table = rephased name (tallied number.0 answer) self.old.table }) }
     {
         let Some(work) = work_at(&self.works, name) else {
             unreachable!()
@@ -93,7 +93,7 @@ impl Worker {
         };
         let answer = view(self.alloc, &active.list, store, op)?;
         let kept = answer.copy()?;
-        tally(&mut self.works, name, number, kept);
+        tally(&mut self.works, name, number.0, kept);
         Ok(answer)
     }
 
@@ -102,14 +102,14 @@ impl Worker {
         &mut self,
         store: &mut W,
         name: WorkId,
-        number: u32,
+        number: OperationNo,
         op: &Op,
         out: &mut Out,
     ) -> Result<Answer, WorkerFault>
         requires serving { IsServing (W.view store.old) }
         requires range { BlockInRange op.now }
         requires active { is_active (rows.work_at name self.old.table) ≡ true }
-        requires next { (T : Tid) (a : ActiveWork) → IsActive self.old.table T name a → number ≡ a.last + 1 }
+        requires next { (T : Tid) (a : ActiveWork) → IsActive self.old.table T name a → number.0 ≡ a.last + 1 }
         requires unknown { (T : Tid) (a : ActiveWork) → IsActive self.old.table T name a → is_unknown a op.now (W.view store.old) }
         ensures settled { IfOk result (λ told. (T : Tid) (a : ActiveWork) → IsActive self.old.table T name a → ReadSettles self.old (W.view store.old) T name a op.now told out.old self.new out.new) }
         ensures reads { (T : Tid) (a : ActiveWork) → IsActive self.old.table T name a → OnlyReads (asks_now self.old.table (W.view store.old) name a op.now) (W.view store.old) (not (has_stopped result)) (W.view store.new) }
@@ -134,16 +134,16 @@ impl Worker {
         &mut self,
         store: &mut W,
         client: ClientNo,
-        request: u32,
+        request: RequestNo,
         name: WorkId,
-        number: u32,
+        number: OperationNo,
         op: &Op,
         out: &mut Out,
     ) -> Result<(), WorkerFault>
         requires fits { Fits self.old (W.view store.old) }
         requires range { BlockInRange op.now }
         requires active { is_active (rows.work_at name self.old.table) ≡ true }
-        requires next { (T : Tid) (a : ActiveWork) → IsActive self.old.table T name a → number ≡ a.last + 1 }
+        requires next { (T : Tid) (a : ActiveWork) → IsActive self.old.table T name a → number.0 ≡ a.last + 1 }
         requires unknown { (T : Tid) (a : ActiveWork) → IsActive self.old.table T name a → is_unknown a op.now (W.view store.old) }
         ensures takes { (k : Tickets) → Takes prepare_calls (rows.op_row self.old.table (state (W.view store.old)).files k client request name number op.now (rows.work_at name self.old.table)) self.old (W.view store.old) out.old k result self.new (W.view store.new) out.new k }
         ensures asks { asks_for self.old.table (W.view store.old) name number op.now (rows.work_at name self.old.table) ≡ false → W.view store.new ≡ W.view store.old }
@@ -159,9 +159,9 @@ impl Worker {
         &mut self,
         store: &mut W,
         client: ClientNo,
-        request: u32,
+        request: RequestNo,
         name: WorkId,
-        number: u32,
+        number: OperationNo,
         op: &Op,
         tickets: &Tickets,
         out: &mut Out,

@@ -1,6 +1,7 @@
 // Messages to a work that doesn't take them.
 ghost use Rattle.std.specs.Prelude.{◌≡◌, false, ℕ};
 ghost use Rattle.jn_base.specs.declared.names.ClientNo.{ClientNo};
+ghost use Rattle.jn_base.specs.declared.names.OperationNo.{OperationNo};
 ghost use Rattle.jn_base.specs.declared.op.Op.{Op};
 ghost use Rattle.jn_rows.specs.Worker as rows;
 ghost use Rattle.jn_storage.specs.Storage.{StorageView};
@@ -11,7 +12,7 @@ ghost use Rattle.jn_worker.specs.Fitting.{Fits, seen, is_active};
 
 use crate::words::WorkerFault;
 use crate::worker::Worker;
-use jn_base::{Answer, ClientNo, Party, Tickets, Tid, WorkId};
+use jn_base::{Answer, ClientNo, Party, RequestNo, Tickets, Tid, WorkId};
 use jn_lock_rows::work_at;
 use jn_msgs::{Message, Note, Out, Vote};
 use jn_rows::Phase;
@@ -64,13 +65,13 @@ impl Worker {
     pub(crate) fn refuse_operation(
         &self,
         client: ClientNo,
-        request: u32,
+        request: RequestNo,
         name: WorkId,
         tickets: &Tickets,
         out: &mut Out,
     ) -> Result<(), WorkerFault>
         requires inactive { is_active (rows.work_at name self.now.table) ≡ false }
-        ensures takes { (v : StorageView) (number : ℕ) (op : Op) → Fits self.now v → Takes prepare_calls (rows.op_row self.now.table (state v).files tickets.now client request name number op (rows.work_at name self.now.table)) self.now v out.old tickets.now result self.now v out.new tickets.now }
+        ensures takes { (v : StorageView) (number : OperationNo) (op : Op) → Fits self.now v → Takes prepare_calls (rows.op_row self.now.table (state v).files tickets.now client request name number op (rows.work_at name self.now.table)) self.now v out.old tickets.now result self.now v out.new tickets.now }
     {
         let answer = match work_at(&self.works, name) {
             None => Answer::Lost(name.epoch, tickets.epoch),

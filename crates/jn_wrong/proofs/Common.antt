@@ -76,4 +76,5 @@ pub use Rattle.jn_wrong.specs.Wanting.{IsShort, WasShort, OfText, OfLines, OfCau
 pub use Rattle.jn_base.specs.declared.names.Tickets.{Tickets}
 pub use Rattle.jn_msgs.specs.declared.message.Outcome.{Outcome}
 pub use Rattle.jn_msgs.specs.declared.message.Vote.{Vote}
+pub use Rattle.jn_base.specs.declared.names.RequestNo.{RequestNo}
 pub use Rattle.jn_base.specs.declared.op.Answer.{Answer}

@@ -1,5 +1,5 @@
 -- Whatever holds where a server is short of room holds of all that a coordinator's rows say of it.
-use Rattle.jn_wrong.proofs.Common.{◌≡◌, ℕ, zero, suc, Bool, true, false, List, [], ◌∷◌, ◌++◌, length, Option, Some, None, refl, subst, if◌then◌else◌, nat_eq, nat_lt, slice_get, ◌&&◌, not, ServerNo, ClientNo, Tid, WorkId, Tickets, Resource, client_eq, tid_eq, Message, Outcome, Vote, StableState, FlagState, RowOutcome, Sent, ignored, quiet, sends, CoordinatorTable, transaction_at, with_stage, without, besides, all_in, is_work, drops, commits, prepares, committed_to, aborted_to, commit_row, abort_row, forget_row, thanked, closed, after_closing, begin_new, begun_by, begin_again, begin_row, seen_now, changes_of_closing, end_promised, end_open, end_stage, end_row, abort_stage, abort_request, told_stage, inquire_row, noted, with_work, counted_vote, vote_stage, vote_row, done_stage, done_row, thanks_stage, thanks_row, coordinator_row, told_again, coordinator_again, all_thanked, restored_transaction, restored_transactions, OfCause}
+use Rattle.jn_wrong.proofs.Common.{◌≡◌, ℕ, zero, suc, Bool, true, false, List, [], ◌∷◌, ◌++◌, length, Option, Some, None, refl, subst, if◌then◌else◌, nat_eq, nat_lt, slice_get, ◌&&◌, not, ServerNo, ClientNo, Tid, WorkId, Tickets, Resource, client_eq, tid_eq, Message, Outcome, Vote, StableState, FlagState, RowOutcome, Sent, ignored, quiet, sends, CoordinatorTable, transaction_at, with_stage, without, besides, all_in, is_work, drops, commits, prepares, committed_to, aborted_to, commit_row, abort_row, forget_row, thanked, closed, after_closing, begin_new, begun_by, begin_again, begin_row, seen_now, changes_of_closing, end_promised, end_open, end_stage, end_row, abort_stage, abort_request, told_stage, inquire_row, noted, with_work, counted_vote, vote_stage, vote_row, done_stage, done_row, thanks_stage, thanks_row, coordinator_row, told_again, coordinator_again, all_thanked, restored_transaction, restored_transactions, OfCause, RequestNo}
 use Rattle.jn_base.specs.declared.names.Cause.{Cause}
 use Rattle.jn_base.specs.declared.names.Cause.TheVariants.{Requested, Broken as BrokenAt, Lost as LostAt, Full as FullAt}
 use Rattle.jn_base.specs.declared.names.Resource.TheVariants as resources
@@ -157,7 +157,7 @@ module _ (P : ServerNo → Resource → ℕ → ℕ → Type 0) where
     is-ignored : OfRow (ignored t k)
     is-ignored = record { says = tt; table = its }
 
-    commits-so : (y : Transaction) (request : ℕ) (Ws : List WorkId) → OfRow (commit_row t k y request Ws)
+    commits-so : (y : Transaction) (request : RequestNo) (Ws : List WorkId) → OfRow (commit_row t k y request Ws)
     commits-so y request Ws = record {
       says = both-say (commits y.tid Ws) (committed_to y ∷ []) (commits-say y.tid Ws) (tt, tt);
       table = staged-so y.tid (Committed (record { works = Ws; done = []; thanked = false })) tt t.transactions its;
@@ -169,25 +169,25 @@ module _ (P : ServerNo → Resource → ℕ → ℕ → Type 0) where
     forgets-so : (T : Tid) (d : Commitment) → OfRow (forget_row t k T d)
     forgets-so T d = either (d.thanked && all_in d.works d.done) _ _ (record { says = tt; table = without-so T t.transactions its }) (record { says = tt; table = staged-so T (Committed d) tt t.transactions its })
 
-    ends-promised : (y : Transaction) (request : ℕ) (Ws : List WorkId) → OfRow (end_promised t k y request Ws)
+    ends-promised : (y : Transaction) (request : RequestNo) (Ws : List WorkId) → OfRow (end_promised t k y request Ws)
     ends-promised y request [] = commits-so y request []
     ends-promised y request (W ∷ Ws) = record { says = prepares-say y.tid y.client (W ∷ Ws); table = staged-so y.tid (Voting (record { request = request; works = W ∷ Ws; ready = [] })) tt t.transactions its }
 
     -- the one place where it is short itself
-    ends-open : (free : ℕ) (y : Transaction) (request : ℕ) (Ws : List WorkId) → (nat_lt free 1 ≡ true → P k.server resources.Records free 1) → OfRow (end_open t free k y request Ws)
+    ends-open : (free : ℕ) (y : Transaction) (request : RequestNo) (Ws : List WorkId) → (nat_lt free 1 ≡ true → P k.server resources.Records free 1) → OfRow (end_open t free k y request Ws)
     ends-open free y request Ws short = by (nat_lt free 1) refl
       where
         by : (b : Bool) → nat_lt free 1 ≡ b → OfRow (if b then abort_row t k y (FullAt k.server resources.Records free 1) Ws else end_promised t k y request Ws)
         by true e = aborts-so y (FullAt k.server resources.Records free 1) Ws (short e)
         by false e = ends-promised y request Ws
 
-    ends-stage : (free : ℕ) (y : Transaction) (request : ℕ) (Ws : List WorkId) → (nat_lt free 1 ≡ true → P k.server resources.Records free 1) → (stage : Stage) → OfStage stage → OfRow (end_stage t free k y request Ws stage)
+    ends-stage : (free : ℕ) (y : Transaction) (request : RequestNo) (Ws : List WorkId) → (nat_lt free 1 ≡ true → P k.server resources.Records free 1) → (stage : Stage) → OfStage stage → OfRow (end_stage t free k y request Ws stage)
     ends-stage free y request Ws short Open h = ends-open free y request Ws short
     ends-stage free y request Ws short (Voting b) h = only-says (prepares y.tid y.client (besides b.works b.ready)) (prepares-say y.tid y.client (besides b.works b.ready))
     ends-stage free y request Ws short (Committed d) h = only-says (committed_to y ∷ []) (tt, tt)
     ends-stage free y request Ws short (Aborted cause) h = only-says (aborted_to y cause ∷ []) (h, tt)
 
-    ends-so : (free : ℕ) (c : ClientNo) (request : ℕ) (T : Tid) (Ws : List WorkId) → (nat_lt free 1 ≡ true → P k.server resources.Records free 1) → (o : Option Transaction) → OfFound o → OfRow (end_row t free k c request T Ws o)
+    ends-so : (free : ℕ) (c : ClientNo) (request : RequestNo) (T : Tid) (Ws : List WorkId) → (nat_lt free 1 ≡ true → P k.server resources.Records free 1) → (o : Option Transaction) → OfFound o → OfRow (end_row t free k c request T Ws o)
     ends-so free c request T Ws short (Some y) h = ends-stage free y request Ws short y.stage h
     ends-so free c request T Ws short None h = record { says = (tt, drops-say T Ws); table = its }
 
@@ -251,17 +251,17 @@ module _ (P : ServerNo → Resource → ℕ → ℕ → Type 0) where
     thanks-so T (Some y) = thanks-stage-so T y.stage
     thanks-so T None = is-ignored
 
-    begins-again : (c : ClientNo) (request : ℕ) (o : Option Transaction) → OfRow (begin_again t k c request o)
+    begins-again : (c : ClientNo) (request : RequestNo) (o : Option Transaction) → OfRow (begin_again t k c request o)
     begins-again c request (Some y) = only-says ((_, messages.Begun c request (Some y.tid)) ∷ []) (tt, tt)
     begins-again c request None = is-ignored
 
-  begins-new : (t : CoordinatorTable) → OfTable t.transactions → (changes : _) (k : Tickets) (c : ClientNo) (request : ℕ) → OfRow (begin_new t changes k c request)
+  begins-new : (t : CoordinatorTable) → OfTable t.transactions → (changes : _) (k : Tickets) (c : ClientNo) (request : RequestNo) → OfRow (begin_new t changes k c request)
   begins-new t its changes k c request = either (nat_lt (length t.transactions) 64) _ _ (record { says = (tt, tt); table = both-stand t.transactions (_ ∷ []) its (tt, tt) }) (record { says = (tt, tt); table = its })
 
-  begins-so : (t : CoordinatorTable) (k : Tickets) → OfTable t.transactions → (c : ClientNo) (request : ℕ) → OfRow (begin_row t k c request)
-  begins-so t k its c request = either (nat_lt (t.seen c) request) _ _
+  begins-so : (t : CoordinatorTable) (k : Tickets) → OfTable t.transactions → (c : ClientNo) (request : RequestNo) → OfRow (begin_row t k c request)
+  begins-so t k its c request = either (nat_lt (t.seen c) request.0) _ _
       (begins-new (record { transactions = after_closing c t.transactions; seen = seen_now t.seen c request }) (closing-so c t.transactions its) (changes_of_closing c t.transactions) k c request)
-      (either (nat_eq (t.seen c) request) _ _ (begins-again t k its c request (begun_by c request t.transactions)) (is-ignored t k its))
+      (either (nat_eq (t.seen c) request.0) _ _ (begins-again t k its c request (begun_by c request t.transactions)) (is-ignored t k its))
 
   pub coordinates-so : (t : CoordinatorTable) (free : ℕ) (k : Tickets) → OfTable t.transactions → (nat_lt free 1 ≡ true → P k.server resources.Records free 1) → (m : Message) → OfMessage m → OfRow (coordinator_row t free k m)
   coordinates-so t free k its short (messages.Begin c request) h = begins-so t k its c request

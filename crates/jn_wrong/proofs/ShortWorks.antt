@@ -1,5 +1,6 @@
 -- And of all that a worker's rows say of it.
-use Rattle.jn_wrong.proofs.Common.{◌≡◌, ℕ, ◌+◌, Bool, true, false, List, [], ◌∷◌, length, Option, Some, None, refl, subst, if◌then◌else◌, nat_eq, nat_lt, slice_get, ServerNo, ClientNo, Tid, WorkId, Tickets, Server, Op, Answer, Resource, Need, Files, answer_to, change, Message, Vote, Work, Phase, Active, Broken, Stored, StableState, is_going, RowOutcome, ignored, WorkerTable, WorkStorage, Held, Wanted, shortage, vote_of, voted, prepared_row, prepare_phase, prepare_row, need_in, conflict, commit_wants, open_row, op_row, op_phase, by_number, granted_row, repeated, wants_of, is_fit, commit_phase, drop_row, drop_phase, worker_row, work_at, work_of, going_row, going_work, carried_row, intentions_of, worker_step, worker_again, IsShort}
+use Rattle.jn_wrong.proofs.Common.{◌≡◌, ℕ, ◌+◌, Bool, true, false, List, [], ◌∷◌, length, Option, Some, None, refl, subst, if◌then◌else◌, nat_eq, nat_lt, slice_get, ServerNo, ClientNo, Tid, WorkId, Tickets, Server, Op, Answer, Resource, Need, Files, answer_to, change, Message, Vote, Work, Phase, Active, Broken, Stored, StableState, is_going, RowOutcome, ignored, WorkerTable, WorkStorage, Held, Wanted, shortage, vote_of, voted, prepared_row, prepare_phase, prepare_row, need_in, conflict, commit_wants, open_row, op_row, op_phase, by_number, granted_row, repeated, wants_of, is_fit, commit_phase, drop_row, drop_phase, worker_row, work_at, work_of, going_row, going_work, carried_row, intentions_of, worker_step, worker_again, IsShort, RequestNo}
+use Rattle.jn_base.specs.declared.names.OperationNo.{OperationNo}
 use Rattle.jn_base.specs.declared.names.Resource.TheVariants as resources
 use Rattle.jn_records.specs.declared.intention.Intention.{Intention}
 use Rattle.jn_records.specs.NetLists.{list_change}
@@ -18,29 +19,29 @@ module _ (P : ServerNo → Resource → ℕ → ℕ → Type 0) where
   either true r s h k = h
   either false r s h k = k
 
-  opens-so : (t : WorkerTable) (k : Tickets) (c : ClientNo) (request : ℕ) (T : Tid) (o : Option Work) → Says (open_row t k c request T o)
+  opens-so : (t : WorkerTable) (k : Tickets) (c : ClientNo) (request : RequestNo) (T : Tid) (o : Option Work) → Says (open_row t k c request T o)
   opens-so t k c request T (Some w) = (tt, tt)
   opens-so t k c request T None = either (nat_lt (length t) 64) _ _ (tt, tt) (tt, tt)
 
-  granted-so : (t : WorkerTable) (k : Tickets) (c : ClientNo) (request : ℕ) (w : Work) (a : ActiveWork) (op : Op) (answer : Answer) (wants : List Wanted) (o : Option Answer) → Says (granted_row t k c request w a op answer wants o)
+  granted-so : (t : WorkerTable) (k : Tickets) (c : ClientNo) (request : RequestNo) (w : Work) (a : ActiveWork) (op : Op) (answer : Answer) (wants : List Wanted) (o : Option Answer) → Says (granted_row t k c request w a op answer wants o)
   granted-so t k c request w a op answer wants (Some refusal) = (tt, tt)
   granted-so t k c request w a op answer wants None = (tt, tt)
 
-  repeats-so : (t : WorkerTable) (k : Tickets) (c : ClientNo) (request : ℕ) (o : Option Answer) → Says (repeated t k c request o)
+  repeats-so : (t : WorkerTable) (k : Tickets) (c : ClientNo) (request : RequestNo) (o : Option Answer) → Says (repeated t k c request o)
   repeats-so t k c request (Some answer) = (tt, tt)
   repeats-so t k c request None = tt
 
-  numbers-so : (t : WorkerTable) (files : Files) (k : Tickets) (c : ClientNo) (request : ℕ) (w : Work) (a : ActiveWork) (number : ℕ) (op : Op) → Says (by_number t files k c request w a number op)
-  numbers-so t files k c request w a number op = either (nat_eq number (a.last + 1)) _ _
+  numbers-so : (t : WorkerTable) (files : Files) (k : Tickets) (c : ClientNo) (request : RequestNo) (w : Work) (a : ActiveWork) (number : OperationNo) (op : Op) → Says (by_number t files k c request w a number op)
+  numbers-so t files k c request w a number op = either (nat_eq number.0 (a.last + 1)) _ _
       (granted-so t k c request w a op (answer_to op (change (list_change a.list) files)) (wants_of op (is_fit (answer_to op (change (list_change a.list) files)))) (refusal_of t w.name a op (answer_to op (change (list_change a.list) files)) (wants_of op (is_fit (answer_to op (change (list_change a.list) files))))))
-      (either (nat_eq number a.last) _ _ (repeats-so t k c request a.kept) tt)
+      (either (nat_eq number.0 a.last) _ _ (repeats-so t k c request a.kept) tt)
 
-  op-phase-so : (t : WorkerTable) (files : Files) (k : Tickets) (c : ClientNo) (request : ℕ) (w : Work) (number : ℕ) (op : Op) (phase : Phase) → Says (op_phase t files k c request w number op phase)
+  op-phase-so : (t : WorkerTable) (files : Files) (k : Tickets) (c : ClientNo) (request : RequestNo) (w : Work) (number : OperationNo) (op : Op) (phase : Phase) → Says (op_phase t files k c request w number op phase)
   op-phase-so t files k c request w number op (Active a) = numbers-so t files k c request w a number op
   op-phase-so t files k c request w number op (Broken u by) = (tt, tt)
   op-phase-so t files k c request w number op (Stored p) = (tt, tt)
 
-  op-so : (t : WorkerTable) (files : Files) (k : Tickets) (c : ClientNo) (request : ℕ) (W : WorkId) (number : ℕ) (op : Op) (o : Option Work) → Says (op_row t files k c request W number op o)
+  op-so : (t : WorkerTable) (files : Files) (k : Tickets) (c : ClientNo) (request : RequestNo) (W : WorkId) (number : OperationNo) (op : Op) (o : Option Work) → Says (op_row t files k c request W number op o)
   op-so t files k c request W number op (Some w) = op-phase-so t files k c request w number op w.phase
   op-so t files k c request W number op None = (tt, tt)
 

@@ -1,5 +1,5 @@
 -- No row of a coordinator changes a stable work. Each draws one ticket at most, and drops no more flags than there are transactions.
-use Rattle.jn_system.proofs.Common.{◌≡◌, ◌⊎◌, inl, inr, ℕ, zero, suc, ◌+◌, ◌≤◌, Bool, true, false, List, [], ◌∷◌, ◌++◌, take, Option, Some, None, refl, ◌∙◌, arith, ◌&&◌, not, if◌then◌else◌, nat_lt, nat_eq, length, ClientNo, Tid, WorkId, Tickets, Message, Vote, Note, Transaction, Stage, Commitment, StableState, Change, AddReady, MarkGoing, CarryOut, RemoveWork, AddFlag, DropFlag, made_all, RowOutcome, Sent, CoordinatorTable, all_in, is_work, commit_row, forget_row, changes_of_closing, close_clients_row, begin_new, begin_again, begun_by, begin_row, end_promised, end_stage, end_row, abort_stage, abort_request, told_stage, inquire_row, noted, counted_vote, vote_stage, vote_row, done_stage, done_row, thanks_stage, thanks_row, coordinator_row, transaction_at, with_work, after_closing, seen_now}
+use Rattle.jn_system.proofs.Common.{◌≡◌, ◌⊎◌, inl, inr, ℕ, zero, suc, ◌+◌, ◌≤◌, Bool, true, false, List, [], ◌∷◌, ◌++◌, take, Option, Some, None, refl, ◌∙◌, arith, ◌&&◌, not, if◌then◌else◌, nat_lt, nat_eq, length, ClientNo, Tid, WorkId, Tickets, Message, Vote, Note, Transaction, Stage, Commitment, StableState, Change, AddReady, MarkGoing, CarryOut, RemoveWork, AddFlag, DropFlag, made_all, RowOutcome, Sent, CoordinatorTable, all_in, is_work, commit_row, forget_row, changes_of_closing, close_clients_row, begin_new, begin_again, begun_by, begin_row, end_promised, end_stage, end_row, abort_stage, abort_request, told_stage, inquire_row, noted, counted_vote, vote_stage, vote_row, done_stage, done_row, thanks_stage, thanks_row, coordinator_row, transaction_at, with_work, after_closing, seen_now, RequestNo}
 use Rattle.jn_msgs.specs.declared.message.Message.TheVariants as messages
 use Rattle.jn_msgs.specs.declared.message.Vote.TheVariants as votes
 use Rattle.jn_rows.specs.declared.coordinator.Stage.TheVariants.{Open, Voting, Committed, Aborted}
@@ -88,32 +88,32 @@ closes-few (Goes x p e h) = let few = closes-few h in omega (arith, few)
 closes-few (Waits x d p e h) = let few = closes-few h in omega (arith, few)
 closes-few (Forgets x d p e g h) = let few = closes-few h in omega (arith, few)
 
-again-aside : (t : CoordinatorTable) (k : Tickets) (c : ClientNo) (request : ℕ) (o : Option Transaction) → Aside (length t.transactions) k (begin_again t k c request o)
+again-aside : (t : CoordinatorTable) (k : Tickets) (c : ClientNo) (request : RequestNo) (o : Option Transaction) → Aside (length t.transactions) k (begin_again t k c request o)
 again-aside t k c request (Some x) = still k t _ _
 again-aside t k c request None = still k t _ _
 
-new-aside : (n : ℕ) (t : CoordinatorTable) (changes : List Change) (k : Tickets) (c : ClientNo) (request : ℕ) → are_of_flags changes ≡ true → length changes ≤ n → Aside n k (begin_new t changes k c request)
+new-aside : (n : ℕ) (t : CoordinatorTable) (changes : List Change) (k : Tickets) (c : ClientNo) (request : RequestNo) → are_of_flags changes ≡ true → length changes ≤ n → Aside n k (begin_new t changes k c request)
 new-aside n t changes k c request h l = either k (nat_lt (length t.transactions) 64) _ _ (record { flags = h; tickets = inr refl; few = inr l }) (record { flags = h; tickets = inl refl; few = inr l })
 
-begin-aside : (t : CoordinatorTable) (k : Tickets) (c : ClientNo) (request : ℕ) → Aside (length t.transactions) k (begin_row t k c request)
-begin-aside t k c request = either k (nat_lt (t.seen c) request) _ _
+begin-aside : (t : CoordinatorTable) (k : Tickets) (c : ClientNo) (request : RequestNo) → Aside (length t.transactions) k (begin_row t k c request)
+begin-aside t k c request = either k (nat_lt (t.seen c) request.0) _ _
     (new-aside (length t.transactions) (record { transactions = after_closing c t.transactions; seen = seen_now t.seen c request }) (changes_of_closing c t.transactions) k c request (closes-flags (client-closes c t.transactions)) (closes-few (client-closes c t.transactions)))
-    (either k (nat_eq (t.seen c) request) _ _ (again-aside t k c request (begun_by c request t.transactions)) (still k t _ _))
+    (either k (nat_eq (t.seen c) request.0) _ _ (again-aside t k c request (begun_by c request t.transactions)) (still k t _ _))
 
-commit-aside : (t : CoordinatorTable) (k : Tickets) (x : Transaction) (request : ℕ) (works : List WorkId) → Aside (length t.transactions) k (commit_row t k x request works)
+commit-aside : (t : CoordinatorTable) (k : Tickets) (x : Transaction) (request : RequestNo) (works : List WorkId) → Aside (length t.transactions) k (commit_row t k x request works)
 commit-aside t k x request works = record { flags = refl; tickets = inl refl; few = inl (omega arith) }
 
-promised-aside : (t : CoordinatorTable) (k : Tickets) (x : Transaction) (request : ℕ) (works : List WorkId) → Aside (length t.transactions) k (end_promised t k x request works)
+promised-aside : (t : CoordinatorTable) (k : Tickets) (x : Transaction) (request : RequestNo) (works : List WorkId) → Aside (length t.transactions) k (end_promised t k x request works)
 promised-aside t k x request [] = commit-aside t k x request []
 promised-aside t k x request (W ∷ Ws) = still k _ _ _
 
-end-aside : (t : CoordinatorTable) (free : ℕ) (k : Tickets) (x : Transaction) (request : ℕ) (works : List WorkId) (s : Stage) → Aside (length t.transactions) k (end_stage t free k x request works s)
+end-aside : (t : CoordinatorTable) (free : ℕ) (k : Tickets) (x : Transaction) (request : RequestNo) (works : List WorkId) (s : Stage) → Aside (length t.transactions) k (end_stage t free k x request works s)
 end-aside t free k x request works Open = either k (nat_lt free 1) _ _ (still k _ _ _) (promised-aside t k x request works)
 end-aside t free k x request works (Voting b) = still k _ _ _
 end-aside t free k x request works (Committed d) = still k _ _ _
 end-aside t free k x request works (Aborted cause) = still k _ _ _
 
-ends-aside : (t : CoordinatorTable) (free : ℕ) (k : Tickets) (c : ClientNo) (request : ℕ) (T : Tid) (works : List WorkId) (o : Option Transaction) → Aside (length t.transactions) k (end_row t free k c request T works o)
+ends-aside : (t : CoordinatorTable) (free : ℕ) (k : Tickets) (c : ClientNo) (request : RequestNo) (T : Tid) (works : List WorkId) (o : Option Transaction) → Aside (length t.transactions) k (end_row t free k c request T works o)
 ends-aside t free k c request T works (Some x) = end-aside t free k x request works x.stage
 ends-aside t free k c request T works None = still k _ _ _
 

@@ -1,5 +1,5 @@
 -- No row of a worker puts or drops a flag, and each makes one change and draws one name at most.
-use Rattle.jn_system.proofs.Common.{◌≡◌, ◌⊎◌, inl, inr, ℕ, ◌+◌, Bool, true, false, List, [], ◌∷◌, Option, Some, None, refl, sym, ◌∙◌, subst, ◌≤◌, arith, if◌then◌else◌, nat_lt, nat_eq, length, slice_get, AllByRecursion, ClientNo, Tid, WorkId, Tickets, Op, Answer, Files, change, answer_to, list_change, Intention, Message, Vote, Work, Phase, Active, Broken, Stored, ActiveWork, StableState, Change, AddReady, MarkGoing, CarryOut, RemoveWork, AddFlag, DropFlag, made_by, made_all, is_going, RowOutcome, WorkerTable, WorkStorage, Wanted, work_at, work_of, open_row, wants_of, is_fit, refusal_of, granted_row, repeated, op_phase, op_row, conflict, commit_wants, vote_of, shortage, need_in, prepared_row, prepare_phase, prepare_row, commit_phase, work_commit_row, drop_phase, drop_row, worker_row, going_work, intentions_of, carried_row, going_row, worker_step}
+use Rattle.jn_system.proofs.Common.{◌≡◌, ◌⊎◌, inl, inr, ◌+◌, Bool, true, false, List, [], ◌∷◌, Option, Some, None, refl, sym, ◌∙◌, subst, ◌≤◌, arith, if◌then◌else◌, nat_lt, nat_eq, length, slice_get, AllByRecursion, ClientNo, Tid, WorkId, Tickets, Op, Answer, Files, change, answer_to, list_change, Intention, Message, Vote, Work, Phase, Active, Broken, Stored, ActiveWork, StableState, Change, AddReady, MarkGoing, CarryOut, RemoveWork, AddFlag, DropFlag, made_by, made_all, is_going, RowOutcome, WorkerTable, WorkStorage, Wanted, work_at, work_of, open_row, wants_of, is_fit, refusal_of, granted_row, repeated, op_phase, op_row, conflict, commit_wants, vote_of, shortage, need_in, prepared_row, prepare_phase, prepare_row, commit_phase, work_commit_row, drop_phase, drop_row, worker_row, going_work, intentions_of, carried_row, going_row, worker_step, OperationNo, RequestNo}
 use Rattle.jn_msgs.specs.declared.message.Message.TheVariants as messages
 use Rattle.jn_msgs.specs.declared.message.Vote.TheVariants as votes
 
@@ -38,26 +38,26 @@ either : {k : Tickets} (b : Bool) (p q : RowOutcome WorkerTable) → Aside k p �
 either true p q h l = h
 either false p q h l = l
 
-open-aside : (t : WorkerTable) (k : Tickets) (c : ClientNo) (request : ℕ) (T : Tid) (o : Option Work) → Aside k (open_row t k c request T o)
+open-aside : (t : WorkerTable) (k : Tickets) (c : ClientNo) (request : RequestNo) (T : Tid) (o : Option Work) → Aside k (open_row t k c request T o)
 open-aside t k c request T (Some w) = still k _ refl refl
 open-aside t k c request T None = either (nat_lt (length t) 64) _ _ (record { works = tt; few = omega arith; tickets = inr refl }) (still k _ refl refl)
 
-granted-aside : (t : WorkerTable) (k : Tickets) (c : ClientNo) (request : ℕ) (w : Work) (a : ActiveWork) (op : Op) (answer : Answer) (wants : List Wanted) (o : Option Answer) → Aside k (granted_row t k c request w a op answer wants o)
+granted-aside : (t : WorkerTable) (k : Tickets) (c : ClientNo) (request : RequestNo) (w : Work) (a : ActiveWork) (op : Op) (answer : Answer) (wants : List Wanted) (o : Option Answer) → Aside k (granted_row t k c request w a op answer wants o)
 granted-aside t k c request w a op answer wants (Some refusal) = still k _ refl refl
 granted-aside t k c request w a op answer wants None = still k _ refl refl
 
-repeated-aside : (t : WorkerTable) (k : Tickets) (c : ClientNo) (request : ℕ) (o : Option Answer) → Aside k (repeated t k c request o)
+repeated-aside : (t : WorkerTable) (k : Tickets) (c : ClientNo) (request : RequestNo) (o : Option Answer) → Aside k (repeated t k c request o)
 repeated-aside t k c request (Some answer) = still k _ refl refl
 repeated-aside t k c request None = still k _ refl refl
 
-op-aside : (t : WorkerTable) (files : Files) (k : Tickets) (c : ClientNo) (request : ℕ) (w : Work) (number : ℕ) (op : Op) (p : Phase) → Aside k (op_phase t files k c request w number op p)
+op-aside : (t : WorkerTable) (files : Files) (k : Tickets) (c : ClientNo) (request : RequestNo) (w : Work) (number : OperationNo) (op : Op) (p : Phase) → Aside k (op_phase t files k c request w number op p)
 op-aside t files k c request w number op (Active a) = let answer = answer_to op (change (list_change a.list) files) in
-    either (nat_eq number (a.last + 1)) _ _ (granted-aside t k c request w a op answer (wants_of op (is_fit answer)) (refusal_of t w.name a op answer (wants_of op (is_fit answer))))
-    (either (nat_eq number a.last) _ _ (repeated-aside t k c request a.kept) (still k _ refl refl))
+    either (nat_eq number.0 (a.last + 1)) _ _ (granted-aside t k c request w a op answer (wants_of op (is_fit answer)) (refusal_of t w.name a op answer (wants_of op (is_fit answer))))
+    (either (nat_eq number.0 a.last) _ _ (repeated-aside t k c request a.kept) (still k _ refl refl))
 op-aside t files k c request w number op (Broken u by) = still k _ refl refl
 op-aside t files k c request w number op (Stored p) = still k _ refl refl
 
-ops-aside : (t : WorkerTable) (files : Files) (k : Tickets) (c : ClientNo) (request : ℕ) (W : WorkId) (number : ℕ) (op : Op) (o : Option Work) → Aside k (op_row t files k c request W number op o)
+ops-aside : (t : WorkerTable) (files : Files) (k : Tickets) (c : ClientNo) (request : RequestNo) (W : WorkId) (number : OperationNo) (op : Op) (o : Option Work) → Aside k (op_row t files k c request W number op o)
 ops-aside t files k c request W number op (Some w) = op-aside t files k c request w number op w.phase
 ops-aside t files k c request W number op None = still k _ refl refl
 

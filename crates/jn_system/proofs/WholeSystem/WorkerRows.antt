@@ -1,5 +1,5 @@
 -- Each row of a worker keeps what holds of its works and locks: every message, every background step, a timeout.
-use Rattle.jn_system.proofs.Common.{ap, ◌∙◌, ◌⊎◌, inr, inl, ◌≡◌, ◌≢◌, ℕ, ◌+◌, Bool, true, false, List, [], ◌∷◌, Option, Some, None, refl, sym, subst, arith, if◌then◌else◌, nat_lt, nat_eq, length, slice_get, ClientNo, Tid, WorkId, Tickets, LockUnit, Op, Answer, work_eq, work_tells, answer_to, change, Intention, list_change, Mode, Read, IntentionWrite, Commit, Message, Vote, Note, Work, Phase, Active, Broken, Stored, ActiveWork, StableState, Prepared, RemoveWork, made_all, at_work, is_going, gone_on, RowOutcome, Sent, WorkerTable, WorkStorage, Held, wants_of, commit_wants, holds, work_at, work_of, with_phase, without, conflict, counted, is_fit, granted_row, refusal_of, first_of_two, locked, past_limit, by_number, repeated, op_phase, op_row, open_row, vote_of, shortage, need_in, prepared_row, prepare_phase, prepare_row, commit_phase, drop_phase, drop_row, worker_row, worker_step, going_row, going_work, carried_row, intentions_of, vulnerable, timed_out, timeout_row, units_for, with_units, length_with, IsSoundWork, IsSoundActive, TableFact}
+use Rattle.jn_system.proofs.Common.{ap, ◌∙◌, ◌⊎◌, inr, inl, ◌≡◌, ◌≢◌, ℕ, ◌+◌, Bool, true, false, List, [], ◌∷◌, Option, Some, None, refl, sym, subst, arith, if◌then◌else◌, nat_lt, nat_eq, length, slice_get, ClientNo, Tid, WorkId, Tickets, LockUnit, Op, Answer, work_eq, work_tells, answer_to, change, Intention, list_change, Mode, Read, IntentionWrite, Commit, Message, Vote, Note, Work, Phase, Active, Broken, Stored, ActiveWork, StableState, Prepared, RemoveWork, made_all, at_work, is_going, gone_on, RowOutcome, Sent, WorkerTable, WorkStorage, Held, wants_of, commit_wants, holds, work_at, work_of, with_phase, without, conflict, counted, is_fit, granted_row, refusal_of, first_of_two, locked, past_limit, by_number, repeated, op_phase, op_row, open_row, vote_of, shortage, need_in, prepared_row, prepare_phase, prepare_row, commit_phase, drop_phase, drop_row, worker_row, worker_step, going_row, going_work, carried_row, intentions_of, vulnerable, timed_out, timeout_row, units_for, with_units, length_with, IsSoundWork, IsSoundActive, TableFact, OperationNo, RequestNo}
 use Rattle.jn_msgs.specs.declared.message.Message.TheVariants as messages
 use Rattle.jn_msgs.specs.declared.message.Vote.TheVariants as votes
 use Rattle.jn_rows.specs.Worker.{commit_row}
@@ -74,7 +74,7 @@ either x k false r q h l = l
 
 -- ---- Open
 
-open-keeps : (x : StableState) (k : Tickets) (t : WorkerTable) (c : ClientNo) (request : ℕ) (T : Tid) (o : Option Work) → TableFact t k x.works → RowKeeps x k (open_row t k c request T o)
+open-keeps : (x : StableState) (k : Tickets) (t : WorkerTable) (c : ClientNo) (request : RequestNo) (T : Tid) (o : Option Work) → TableFact t k x.works → RowKeeps x k (open_row t k c request T o)
 open-keeps x k t c request T (Some w) fact = still x k t _ _ fact
 open-keeps x k t c request T None fact = either x k (nat_lt (length t) 64) _ _
     (record { table = opened-keeps t k x.works T fact; server = refl; epoch = refl; same_epoch = refl; few = λ n. none-of [] n refl; idle = λ next h. h })
@@ -101,23 +101,23 @@ module _ (x : StableState) (k : Tickets) (t : WorkerTable) (W : WorkId) (w : Wor
       sound : IsSoundActive (x.works w.name) a → IsSoundActive (x.works w.name) (counted a answer)
       sound h = record { not_stored = h.not_stored; in_order = h.in_order; covers = h.covers; files = h.files }
 
-  granted-keeps : (c : ClientNo) (request : ℕ) (a : ActiveWork) (op : Op) (answer : Answer) (r : Option Answer) → w.phase ≡ Active a → refusal_of t w.name a op answer (wants_of op (is_fit answer)) ≡ r
+  granted-keeps : (c : ClientNo) (request : RequestNo) (a : ActiveWork) (op : Op) (answer : Answer) (r : Option Answer) → w.phase ≡ Active a → refusal_of t w.name a op answer (wants_of op (is_fit answer)) ≡ r
       → RowKeeps x k (granted_row t k c request w a op answer (wants_of op (is_fit answer)) r)
   granted-keeps c request a op answer (Some refusal) e h = still x k _ _ _ (counted-keeps a refusal e)
   granted-keeps c request a op answer None e h = still x k _ _ _ (done-keeps W w t k x.works fact found a op answer e
       (no-lock (past_limit (length (with_units (units_for Read (wants_of op (is_fit answer))) a.reads)) (if is_fit answer then length_with a.list op else length a.list))
       (conflict w.name (wants_of op (is_fit answer)) t) h))
 
-  repeated-keeps : (c : ClientNo) (request : ℕ) (o : Option Answer) → RowKeeps x k (repeated t k c request o)
+  repeated-keeps : (c : ClientNo) (request : RequestNo) (o : Option Answer) → RowKeeps x k (repeated t k c request o)
   repeated-keeps c request (Some answer) = still x k t _ _ fact
   repeated-keeps c request None = still x k t _ _ fact
 
-  number-keeps : (c : ClientNo) (request : ℕ) (a : ActiveWork) (number : ℕ) (op : Op) → w.phase ≡ Active a → RowKeeps x k (by_number t x.files k c request w a number op)
+  number-keeps : (c : ClientNo) (request : RequestNo) (a : ActiveWork) (number : OperationNo) (op : Op) → w.phase ≡ Active a → RowKeeps x k (by_number t x.files k c request w a number op)
   number-keeps c request a number op e = let answer = answer_to op (change (list_change a.list) x.files) in
-      either x k (nat_eq number (a.last + 1)) _ _ (granted-keeps c request a op answer (refusal_of t w.name a op answer (wants_of op (is_fit answer))) e refl)
-      (either x k (nat_eq number a.last) _ _ (repeated-keeps c request a.kept) (still x k t _ _ fact))
+      either x k (nat_eq number.0 (a.last + 1)) _ _ (granted-keeps c request a op answer (refusal_of t w.name a op answer (wants_of op (is_fit answer))) e refl)
+      (either x k (nat_eq number.0 a.last) _ _ (repeated-keeps c request a.kept) (still x k t _ _ fact))
 
-  op-keeps : (c : ClientNo) (request number : ℕ) (op : Op) (phase : Phase) → w.phase ≡ phase → RowKeeps x k (op_phase t x.files k c request w number op phase)
+  op-keeps : (c : ClientNo) (request : RequestNo) (number : OperationNo) (op : Op) (phase : Phase) → w.phase ≡ phase → RowKeeps x k (op_phase t x.files k c request w number op phase)
   op-keeps c request number op (Active a) e = number-keeps c request a number op e
   op-keeps c request number op (Broken u T) e = still x k t _ _ fact
   op-keeps c request number op (Stored p) e = still x k t _ _ fact
@@ -188,7 +188,7 @@ module _ (x : StableState) (k : Tickets) (t : WorkerTable) (W : WorkId) (w : Wor
 -- ---- every message
 
 module _ (s : WorkStorage) (k : Tickets) (t : WorkerTable) (fact : TableFact t k s.state.works) where
-  ops : (c : ClientNo) (request : ℕ) (W : WorkId) (number : ℕ) (op : Op) (o : Option Work) → work_at W t ≡ o → RowKeeps s.state k (op_row t s.state.files k c request W number op o)
+  ops : (c : ClientNo) (request : RequestNo) (W : WorkId) (number : OperationNo) (op : Op) (o : Option Work) → work_at W t ≡ o → RowKeeps s.state k (op_row t s.state.files k c request W number op o)
   ops c request W number op (Some w) h = op-keeps s.state k t W w fact h c request number op w.phase refl
   ops c request W number op None h = still s.state k t _ _ fact
 

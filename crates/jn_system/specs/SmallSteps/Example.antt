@@ -10,7 +10,7 @@ use Rattle.jn_base.specs.declared.names.Tid.{Tid}
 use Rattle.jn_base.specs.declared.names.WorkId.{WorkId}
 use Rattle.jn_base.specs.declared.op.Op.TheVariants.{Create}
 use Rattle.jn_base.specs.declared.op.Answer.TheVariants.{Did}
-use Rattle.jn_base.specs.Names.{server_eq}
+use Rattle.jn_base.specs.Names.{server_eq, request_of}
 use Rattle.jn_order.specs.Files.{no_files, zeros}
 use Rattle.jn_records.specs.declared.intention.What.TheVariants.{Fresh}
 use Rattle.jn_records.specs.declared.intention.Intention.{Intention}
@@ -52,7 +52,7 @@ abbrev pub its_head : WorkHead
 its_head = record { work = example_work; tid = example_transaction; client = example_client }
 
 abbrev pub its_flag : Flag
-its_flag = record { tid = example_transaction; client = example_client; request = 2; works = example_work ∷ [] }
+its_flag = record { tid = example_transaction; client = example_client; request = request_of 2; works = example_work ∷ [] }
 
 abbrev pub its_works : ServerNo → Option WorkId
 its_works s = if server_eq example_server s then Some example_work else None

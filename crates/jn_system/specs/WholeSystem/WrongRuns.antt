@@ -10,7 +10,7 @@ use Rattle.jn_base.specs.declared.names.WorkId.{WorkId}
 use Rattle.jn_base.specs.declared.op.Op.TheVariants.{Create, Read}
 use Rattle.jn_base.specs.declared.op.Answer.{Answer}
 use Rattle.jn_base.specs.declared.op.Answer.TheVariants.{Did, NoFile, Read as Found}
-use Rattle.jn_base.specs.Names.{server_eq}
+use Rattle.jn_base.specs.Names.{server_eq, request_of}
 use Rattle.jn_order.specs.Files.{no_files, zeros}
 use Rattle.jn_records.specs.declared.intention.Intention.{Intention}
 use Rattle.jn_records.specs.declared.intention.What.TheVariants.{Fresh}
@@ -44,7 +44,7 @@ abbrev pub of_work : ℕ → ServerNo → Option WorkId
 of_work n s = if server_eq worker s then Some (work n) else None
 
 abbrev pub flag : ℕ → Flag
-flag n = record { tid = transaction n; client = client; request = 2; works = work n ∷ [] }
+flag n = record { tid = transaction n; client = client; request = request_of 2; works = work n ∷ [] }
 
 abbrev pub begins : ℕ → List Atom
 begins n = Begin (transaction n) ∷ Open (work n) (transaction n) ∷ []

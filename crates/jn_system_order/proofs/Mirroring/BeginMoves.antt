@@ -1,5 +1,6 @@
 -- What a coordinator does with a Begin, as steps of the machine.
-use Rattle.jn_system_order.proofs.Common.{◌≡◌, ◌≢◌, ◌⊎◌, inl, inr, ℕ, ◌+◌, Bool, true, false, List, [], ◌∷◌, ◌++◌, append-nil, Option, Some, None, refl, sym, ◌∙◌, ap, subst, ◌&&◌, if◌then◌else◌, length, nat_lt, nat_eq, All-nil, All-cons, ServerNo, ClientNo, Tid, Client, server_eq, client_eq, tid_eq, server_tells, tid_tells, Message, Transaction, Open, StableState, made_all, at_tid, RowOutcome, CoordinatorTable, transaction_at, after_closing, changes_of_closing, seen_now, name_from, begin_again, begun_by, begin_row, is_begun, Machine, Begun, Invariant, Atom, begin_it, run, MayRun, MayBegin, Says, run_kept, fresh_tid, at_tid_here, not_both, World, Memory, of_coordinator, UpFact, Mirrors, IsTrue, IsAddressed, AreTransactions, commits_of, knowledge_of, Closes, client-closes}
+use Rattle.jn_system_order.proofs.Common.{◌≡◌, ◌≢◌, ◌⊎◌, inl, inr, ◌+◌, Bool, true, false, List, [], ◌∷◌, ◌++◌, append-nil, Option, Some, None, refl, sym, ◌∙◌, ap, subst, ◌&&◌, if◌then◌else◌, length, nat_lt, nat_eq, All-nil, All-cons, ServerNo, ClientNo, Tid, Client, server_eq, client_eq, tid_eq, server_tells, tid_tells, Message, Transaction, Open, StableState, made_all, at_tid, RowOutcome, CoordinatorTable, transaction_at, after_closing, changes_of_closing, seen_now, name_from, begin_again, begun_by, begin_row, is_begun, Machine, Begun, Invariant, Atom, begin_it, run, MayRun, MayBegin, Says, run_kept, fresh_tid, at_tid_here, not_both, World, Memory, of_coordinator, UpFact, Mirrors, IsTrue, IsAddressed, AreTransactions, commits_of, knowledge_of, Closes, client-closes}
+use Rattle.jn_base.specs.declared.names.RequestNo.{RequestNo}
 use Rattle.jn_msgs.specs.declared.message.Message.TheVariants as messages
 use Rattle.jn_system.specs.SmallSteps.Steps.{Begin}
 use Rattle.jn_system.proofs.WholeSystem.CoordinatorRows.{epoch-all}
@@ -24,7 +25,7 @@ module _ (r : World) (w : Machine) (s : ServerNo) (m : Memory) (mirrors : Mirror
   abbrev xs : List Transaction
   xs = m.coordinator.transactions
 
-  module _ (c : ClientNo) (request : ℕ) where
+  module _ (c : ClientNo) (request : RequestNo) where
     abbrev ys : List Transaction
     ys = after_closing c xs
 
@@ -172,5 +173,5 @@ module _ (r : World) (w : Machine) (s : ServerNo) (m : Memory) (mirrors : Mirror
     either false p q h l = l
 
     pub begin-moves : Moves (begin_row m.coordinator m.tickets c request)
-    begin-moves = either (nat_lt (m.coordinator.seen c) request) _ _ (either (nat_lt (length ys) 64) _ _ begun-moves full-moves)
-        (either (nat_eq (m.coordinator.seen c) request) _ _ (again-moves (begun_by c request xs) refl) (ignores r w s m mirrors is up grow inv))
+    begin-moves = either (nat_lt (m.coordinator.seen c) request.0) _ _ (either (nat_lt (length ys) 64) _ _ begun-moves full-moves)
+        (either (nat_eq (m.coordinator.seen c) request.0) _ _ (again-moves (begun_by c request xs) refl) (ignores r w s m mirrors is up grow inv))

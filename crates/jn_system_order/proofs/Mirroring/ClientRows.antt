@@ -1,5 +1,7 @@
 -- What a client sends is true, and its table says what the machine does.
-use Rattle.jn_system_order.proofs.Common.{◌≡◌, ◌≢◌, ◌⊎◌, inl, inr, ℕ, ◌+◌, Bool, true, false, List, [], ◌∷◌, ◌++◌, Option, Some, None, refl, sym, ◌∙◌, ap, subst, arith, ◌&&◌, ◌||◌, if◌then◌else◌, nat_lt, nat_eq, ServerNo, ClientNo, Tid, WorkId, Party, Server, Answer, Command, server_eq, client_eq, tid_eq, work_eq, server_tells, tid_tells, work_tells, Message, Outcome, Text, OpenWork, Outstanding, Taken, Sent, is_work, ClientTable, Commanded, Refuses, Sends, with_operation, names_of, if_server, if_idle, if_transaction, if_no_transaction, if_open, if_not_open, command_row, is_end, opens, is_tid, is_current, if_waits, idle, over, begun_row, opened_row, answer_line, decided_row, outcome_row, take_row, sends, Machine, Says, IsWorkOf, AreWorksOf, committed_in, IsAddressed, AreOpen, IsCurrent, IsClient}
+use Rattle.jn_system_order.proofs.Common.{◌≡◌, ◌≢◌, ◌⊎◌, inl, inr, ℕ, ◌+◌, Bool, true, false, List, [], ◌∷◌, ◌++◌, Option, Some, None, refl, sym, ◌∙◌, ap, subst, arith, ◌&&◌, ◌||◌, if◌then◌else◌, nat_lt, ServerNo, ClientNo, Tid, WorkId, Party, Server, Answer, Command, server_eq, client_eq, tid_eq, work_eq, server_tells, tid_tells, work_tells, Message, Outcome, Text, OpenWork, Outstanding, Taken, Sent, is_work, ClientTable, Commanded, Refuses, Sends, with_operation, names_of, if_server, if_idle, if_transaction, if_no_transaction, if_open, if_not_open, command_row, is_end, opens, is_tid, is_current, if_waits, idle, over, begun_row, opened_row, answer_line, decided_row, outcome_row, take_row, sends, Machine, Says, IsWorkOf, AreWorksOf, committed_in, IsAddressed, AreOpen, IsCurrent, IsClient}
+use Rattle.jn_base.specs.Names.{request_eq, request_of, operation_of}
+use Rattle.jn_base.specs.declared.names.RequestNo.{RequestNo}
 use Rattle.jn_base.specs.declared.op.Answer.TheVariants as answers
 use Rattle.jn_base.specs.declared.op.Command.TheVariants.{Begin, Open, Do, End, Abort}
 use Rattle.jn_msgs.specs.declared.message.Message.TheVariants as messages
@@ -143,22 +145,22 @@ module _ (w : Machine) (t : ClientTable) (h : IsClient w t) (event : ℕ) where
   )
 
   pub commands-tell : (command : Command) → is_end command ≡ false → Tells w (command_row t event command)
-  commands-tell (Begin s) not = at-server s _ (where-idle t.outstanding _ (without-one t.transaction _ (sends-it t.works (Begin s) (Server s) (messages.Begin t.client t.next) h.current tt tt (λ q e. absurd (no q e)))))
+  commands-tell (Begin s) not = at-server s _ (where-idle t.outstanding _ (without-one t.transaction _ (sends-it t.works (Begin s) (Server s) (messages.Begin t.client (request_of t.next)) h.current tt tt (λ q e. absurd (no q e)))))
     where
       no : (q : ServerNo) → Begin s ≡ Open q → ⊥
       no q e = cc
   commands-tell (Open s) not = at-server s _ (where-idle t.outstanding _ (with-one t.transaction _ (λ T e. where-none (work_at s t.works) _ (λ none.
-      sends-it t.works (Open s) (Server s) (messages.Open t.client t.next T) h.current (current T e).0 tt (λ q f. subst (λ (z : ServerNo). work_at z t.works ≡ None) (same q f) none)))))
+      sends-it t.works (Open s) (Server s) (messages.Open t.client (request_of t.next) T) h.current (current T e).0 tt (λ q f. subst (λ (z : ServerNo). work_at z t.works ≡ None) (same q f) none)))))
     where
       same : (q : ServerNo) → Open s ≡ Open q → s ≡ q
       same q e = cc
   commands-tell (Do s op) not = at-server s _ (where-idle t.outstanding _ (with-one t.transaction _ (λ T e. where-open (work_at s t.works) _ (λ v f. let its = found-open w T s t.works v (current T e).1 f in
-      sends-it (with_operation s t.works) (Do s op) (Server s) (messages.Op t.client t.next v.work (v.last + 1) op)
+      sends-it (with_operation s t.works) (Do s op) (Server s) (messages.Op t.client (request_of t.next) v.work (operation_of (v.last + 1)) op)
       (subst (λ o. IsCurrent w o (with_operation s t.works)) (sym e) ((current T e).0, are-counted w T s t.works (current T e).1)) its.0.0 its.1 (λ q g. absurd (no q g))))))
     where
       no : (q : ServerNo) → Do s op ≡ Open q → ⊥
       no q e = cc
-  commands-tell Abort not = with-one t.transaction _ (λ T e. sends-it t.works Abort (Server T.server) (messages.Abort t.client t.next T (names_of t.works)) h.current ((current T e).0, names-of w T t.works (current T e).1) refl (λ q f. absurd (no q f)))
+  commands-tell Abort not = with-one t.transaction _ (λ T e. sends-it t.works Abort (Server T.server) (messages.Abort t.client (request_of t.next) T (names_of t.works)) h.current ((current T e).0, names-of w T t.works (current T e).1) refl (λ q f. absurd (no q f)))
     where
       no : (q : ServerNo) → Abort ≡ Open q → ⊥
       no q e = cc
@@ -214,7 +216,7 @@ module _ (w : Machine) (t : ClientTable) (h : IsClient w t) where
   is-over : IsClient w (over t)
   is-over = record { current = tt; waits = tt; opening = λ o s e f. absurd (none-out o e) }
 
-  begun-takes : (j : ℕ) (o : Option Tid) (c : ClientNo) (request : ℕ) → Says w (messages.Begun c request o) → TakesRow w (begun_row t j o)
+  begun-takes : (j : ℕ) (o : Option Tid) (c : ClientNo) (request : RequestNo) → Says w (messages.Begun c request o) → TakesRow w (begun_row t j o)
   begun-takes j None c request said = (is-idle, refl)
   begun-takes j (Some T) c request said = (record { current = (said, tt); waits = tt; opening = λ o s e f. absurd (none-out o e) }, refl)
 
@@ -253,7 +255,7 @@ module _ (w : Machine) (t : ClientTable) (h : IsClient w t) where
       by End f g = absurd (no g)
       by Abort f g = absurd (no g)
 
-  opened-takes : (j : ℕ) (o : Option WorkId) (x : Outstanding) (c : ClientNo) (request : ℕ) (T : Tid) → t.outstanding ≡ Some x → t.transaction ≡ Some T → opens o x.command ≡ true → Says w (messages.Opened c request T o) → TakesRow w (opened_row t j o)
+  opened-takes : (j : ℕ) (o : Option WorkId) (x : Outstanding) (c : ClientNo) (request : RequestNo) (T : Tid) → t.outstanding ≡ Some x → t.transaction ≡ Some T → opens o x.command ≡ true → Says w (messages.Opened c request T o) → TakesRow w (opened_row t j o)
   opened-takes j None x c request T e f g said = (is-idle, refl)
   opened-takes j (Some W) x c request T e f g said = (
     record {
@@ -278,7 +280,7 @@ module _ (w : Machine) (t : ClientTable) (h : IsClient w t) where
 
   pub takes : (message : Message) → Says w message → TakesRow w (take_row t message)
   takes (messages.Begun c request answer) said = waits t.outstanding _ _ refl (λ x e f. begun-takes x.event answer c request said)
-  takes (messages.Opened c request T answer) said = waits t.outstanding _ _ refl (λ x e f. let rest = second-of (nat_eq x.request request) (is_current t T && opens answer x.command) (second-of (client_eq c t.client) (nat_eq x.request request && (is_current t T && opens answer x.command)) f) in
+  takes (messages.Opened c request T answer) said = waits t.outstanding _ _ refl (λ x e f. let rest = second-of (request_eq x.request request) (is_current t T && opens answer x.command) (second-of (client_eq c t.client) (request_eq x.request request && (is_current t T && opens answer x.command)) f) in
       opened-takes x.event answer x c request T e (is-its T t.transaction (first-of (is_current t T) (opens answer x.command) rest)) (second-of (is_current t T) (opens answer x.command) rest) said)
   takes (messages.Answer c request answer) said = waits t.outstanding _ _ refl (λ x e f. (is-idle, answer-quiet t.client x.event answer))
   takes (messages.Outcome c T outcome) said = either (client_eq c t.client) _ _ (λ e. outcome-takes T outcome) (λ e. h)

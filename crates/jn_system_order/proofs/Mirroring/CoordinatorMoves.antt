@@ -1,5 +1,6 @@
 -- What a coordinator does with a message of one of its transactions, as steps of the machine.
 use Rattle.jn_system_order.proofs.Common.{◌≡◌, ◌≢◌, ◌⊎◌, inl, inr, ℕ, Bool, true, false, List, [], ◌∷◌, ◌++◌, Option, Some, None, refl, sym, ap, subst, arith, ◌&&◌, not, nat_lt, if◌then◌else◌, All, All-nil, All-cons, All-append, ServerNo, ClientNo, Tid, WorkId, Cause, Client, Server, work_tells, work_eq, Flag, Message, Vote, Ignored, Transaction, Stage, Open, Voting, Committed, Aborted, Ballot, Commitment, DropFlag, RowOutcome, Sent, CoordinatorTable, transaction_at, is_work, besides, all_in, with_work, drops, commits, prepares, committed_to, aborted_to, staged, without, commit_row, abort_row, forget_row, not_known, end_promised, end_stage, end_row, abort_stage, abort_request, told_stage, inquire_row, counted_vote, vote_stage, vote_row, done_stage, done_row, thanks_stage, thanks_row, Machine, Unknown, Notes, Finishes, AllReady, AllOver, AreParts, Knows, Invariant, Atom, Learn, Decide, after, run, MayRun, MayLearn, Says, IsPartOf, IsWorkOf, AreWorksOf, DropSays, VoteSays, at_tid_here, World, Memory, of_coordinator, UpFact, Mirrors, IsTrue, IsAddressed, IsStage, knowledge_of, knowledge_in}
+use Rattle.jn_base.specs.declared.names.RequestNo.{RequestNo}
 use Rattle.jn_msgs.specs.declared.message.Message.TheVariants as messages
 use Rattle.jn_msgs.specs.declared.message.Outcome.TheVariants as outcomes
 use Rattle.jn_msgs.specs.declared.message.Vote.TheVariants as votes
@@ -8,7 +9,7 @@ use Rattle.jn_system_order.proofs.Mirroring.QuietMoves.{ServerMoves}
 use Rattle.jn_system_order.proofs.Mirroring.Transactions.{is-work-one, in-besides, in-either, in-with, in-all, All-works}
 use Rattle.jn_system_order.proofs.Mirroring.StageMoves.{knows, is-up, tells-moves, its, place, begun, stage-is, stage-known, stage-moves, decide-moves, forget-moves, leave-moves}
 
-abbrev flag-of : Transaction → ℕ → List WorkId → Flag
+abbrev flag-of : Transaction → RequestNo → List WorkId → Flag
 flag-of x request works = record { tid = x.tid; client = x.client; request = request; works = works }
 
 -- ---- messages to works
@@ -202,7 +203,7 @@ module _ (r : World) (w : Machine) (s : ServerNo) (m : Memory) (mirrors : Mirror
         now = at_tid_here w.aborted x.tid true
 
     -- its flag is put
-    commit-moves : (request : ℕ) (works : List WorkId) → w.named x.tid ≡ false → w.aborted x.tid ≡ false → w.ended x.tid ≡ true → AllReady w x.tid → AreParts w x.tid works → Moves (commit_row m.coordinator m.tickets x request works)
+    commit-moves : (request : RequestNo) (works : List WorkId) → w.named x.tid ≡ false → w.aborted x.tid ≡ false → w.ended x.tid ≡ true → AllReady w x.tid → AreParts w x.tid works → Moves (commit_row m.coordinator m.tickets x request works)
     commit-moves request works not-named not-aborted ended ready parts = decide-moves r w s m mirrors is up grow inv x.tid x found (flag-of x request works) refl
         (record { begun = begun-it; ended = ended; not_aborted = not-aborted; ready = ready; works = parts }) not-named (commits x.tid works ++ committed_to x ∷ [])
         (All-append (IsTrue (after (Decide (flag-of x request works)) w)) (commits x.tid works) (committed_to x ∷ []) (commits-true (after (Decide (flag-of x request works)) w) x.tid works (λ W k. (now, (ended, parts.each W k)))) (one (IsTrue (after (Decide (flag-of x request works)) w)) (committed_to x) now))
@@ -254,7 +255,7 @@ module _ (r : World) (w : Machine) (s : ServerNo) (m : Memory) (mirrors : Mirror
     tell-client : (sent : Sent) → IsTrue w sent → IsAddressed sent → Moves (record { table = m.coordinator; changes = []; messages = sent ∷ []; notes = []; tickets = m.tickets })
     tell-client sent h a = tells (sent ∷ []) (one (IsTrue w) sent h) (one IsAddressed sent a)
 
-    promised-moves : (request : ℕ) (works : List WorkId) → x.stage ≡ Open → w.ended x.tid ≡ true → AreParts w x.tid works → Moves (end_promised m.coordinator m.tickets x request works)
+    promised-moves : (request : RequestNo) (works : List WorkId) → x.stage ≡ Open → w.ended x.tid ≡ true → AreParts w x.tid works → Moves (end_promised m.coordinator m.tickets x request works)
     promised-moves request [] e ended parts = let k = known x.tid x found Open e in commit-moves request [] k.0 k.1 ended (λ q W l. absurd (no (parts.all q W l))) parts
       where
         no : false ≡ true → ⊥
@@ -266,7 +267,7 @@ module _ (r : World) (w : Machine) (s : ServerNo) (m : Memory) (mirrors : Mirror
         no : false ≡ true → ⊥
         no q = grind arith
 
-    end-moves : (free request : ℕ) (works : List WorkId) (stage : Stage) → x.stage ≡ stage → w.ended x.tid ≡ true → AreParts w x.tid works → Moves (end_stage m.coordinator free m.tickets x request works stage)
+    end-moves : (free : ℕ) (request : RequestNo) (works : List WorkId) (stage : Stage) → x.stage ≡ stage → w.ended x.tid ≡ true → AreParts w x.tid works → Moves (end_stage m.coordinator free m.tickets x request works stage)
     end-moves free request works Open e ended parts = either (nat_lt free 1) _ _ (abort-moves _ works (known x.tid x found Open e).0 (λ W k. of-part x.tid W (parts.each W k))) (promised-moves request works e ended parts)
     end-moves free request works (Voting b) e ended parts = tells _ (prepares-true w x.tid x.client (besides b.works b.ready) (λ W k. (ended, (stands x.tid x found (Voting b) e).1.each W (in-besides W b.works b.ready k))))
         (prepares-addressed x.tid x.client (besides b.works b.ready))
@@ -304,12 +305,12 @@ module _ (r : World) (w : Machine) (s : ServerNo) (m : Memory) (mirrors : Mirror
   thanks-row-moves c T None h said = ignores
   thanks-row-moves c T (Some x) h said = thanks-moves T x h x.stage refl said
 
-  pub end-row-moves : (free : ℕ) (c : ClientNo) (request : ℕ) (T : Tid) (works : List WorkId) (o : Option Transaction) → transaction_at T xs ≡ o → Says w (messages.End c request T works) → T.server ≡ s
+  pub end-row-moves : (free : ℕ) (c : ClientNo) (request : RequestNo) (T : Tid) (works : List WorkId) (o : Option Transaction) → transaction_at T xs ≡ o → Says w (messages.End c request T works) → T.server ≡ s
       → Moves (end_row m.coordinator free m.tickets c request T works o)
   end-row-moves free c request T works None h said at = not-known-moves c T works h at said.0 (λ W k. of-part T W (said.2.each W k))
   end-row-moves free c request T works (Some x) h said at = end-moves x (own T x h) free request works x.stage refl (subst (λ (U : Tid). w.ended U ≡ true) (sym (same T x h)) said.1) (subst (λ (U : Tid). AreParts w U works) (sym (same T x h)) said.2)
 
-  pub abort-row-moves : (c : ClientNo) (request : ℕ) (T : Tid) (works : List WorkId) (o : Option Transaction) → transaction_at T xs ≡ o → Says w (messages.Abort c request T works) → T.server ≡ s
+  pub abort-row-moves : (c : ClientNo) (request : RequestNo) (T : Tid) (works : List WorkId) (o : Option Transaction) → transaction_at T xs ≡ o → Says w (messages.Abort c request T works) → T.server ≡ s
       → Moves (abort_request m.coordinator m.tickets c T works o)
   abort-row-moves c request T works None h said at = not-known-moves c T works h at said.0 said.1
   abort-row-moves c request T works (Some x) h said at = abort-stage-moves x (own T x h) works x.stage refl (subst (λ (U : Tid). AreWorksOf w U works) (sym (same T x h)) said.1)

@@ -60,7 +60,7 @@ All-grows w v g sent h = λ k d l. g _ (h k d l)
 
 module _ (w v : Machine) (g : (message : Message) → Says w message → Says v message) where
   ended-still : (T : Tid) (works : List WorkId) → w.begun T ≡ true → w.ended T ≡ true → AreParts w T works → (w.ended T ≡ true → v.ended T ≡ true) × AreParts v T works
-  ended-still T works b e parts = let h = g (messages.End (record { 0 = 0 }) 0 T works) (b, e, parts) in (λ q. h.1, h.2)
+  ended-still T works b e parts = let h = g (messages.End (record { 0 = 0 }) (record { 0 = 0 }) T works) (b, e, parts) in (λ q. h.1, h.2)
 
   stage-still : (T : Tid) (stage : Stage) → w.begun T ≡ true → IsStage w T stage → IsStage v T stage
   stage-still T Open b h = tt
@@ -69,7 +69,7 @@ module _ (w v : Machine) (g : (message : Message) → Says w message → Says v 
   stage-still T (Aborted cause) b h = g (messages.Outcome (record { 0 = 0 }) T (outcomes.Aborted cause)) h
 
   pub transaction-still : (s : ServerNo) (x : Transaction) → IsTransaction w s x → IsTransaction v s x
-  transaction-still s x h = record { place = h.place; begun = g (messages.Open (record { 0 = 0 }) 0 x.tid) h.begun; is = stage-still x.tid x.stage h.begun h.is }
+  transaction-still s x h = record { place = h.place; begun = g (messages.Open (record { 0 = 0 }) (record { 0 = 0 }) x.tid) h.begun; is = stage-still x.tid x.stage h.begun h.is }
 
   pub transactions-still : (s : ServerNo) (xs : List Transaction) → AreTransactions w s xs → AreTransactions v s xs
   transactions-still s [] h = tt
@@ -83,7 +83,7 @@ module _ (w v : Machine) (g : (message : Message) → Says w message → Says v 
 
   current-still : (o : Option Tid) (works : List OpenWork) → IsCurrent w o works → IsCurrent v o works
   current-still None works h = tt
-  current-still (Some T) works h = (g (messages.Open (record { 0 = 0 }) 0 T) h.0, open-still T works h.1)
+  current-still (Some T) works h = (g (messages.Open (record { 0 = 0 }) (record { 0 = 0 }) T) h.0, open-still T works h.1)
 
   waits-still : (o : Option Outstanding) → IsOutstanding w o → IsOutstanding v o
   waits-still None h = tt

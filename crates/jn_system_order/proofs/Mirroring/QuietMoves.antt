@@ -1,5 +1,6 @@
 -- Rows that change no stable state and no active work, and the opening of a work, as steps of the machine.
 use Rattle.jn_system_order.proofs.Common.{◌≡◌, ◌≢◌, ◌⊎◌, inl, inr, ℕ, zero, suc, ◌+◌, Bool, true, false, List, [], ◌∷◌, ◌++◌, Some, is_some, refl, sym, ◌∙◌, ap, subst, if◌then◌else◌, take, All, All-nil, All-cons, ServerNo, ClientNo, Tid, WorkId, Client, server_eq, work_eq, server_tells, work_tells, Message, Note, Work, Phase, StableState, Pick, at_work, made_all, RowOutcome, Sent, WorkerTable, work_at, with_phase, new_work, at-more, at-phase, in_phase, work_is, Machine, Atom, open_work, run, MayRun, Says, World, Memory, UpFact, of_worker, Mirrors, IsTrue, IsAddressed, working_of, working_in, next_in}
+use Rattle.jn_base.specs.declared.names.RequestNo.{RequestNo}
 use Rattle.jn_msgs.specs.declared.message.Message.TheVariants as messages
 use Rattle.jn_rows.specs.Worker.{name_from}
 use Rattle.jn_system.specs.SmallSteps.Steps.{Open}
@@ -182,7 +183,7 @@ module _ (r : World) (w : Machine) (s : ServerNo) (m : Memory) (mirrors : Mirror
         by (inr p) e = grow (Open (name_from m.tickets) T ∷ []) may-open (messages.Inquire v.tid V)
             (mirrors.owner s m V v is (subst (λ (b : Bool). (if b then Some (new_work (name_from m.tickets) T) else work_at V m.worker) ≡ Some v) p.0 e))
 
-    pub open-moves : (c : ClientNo) (request : ℕ) → RowMoves s m (record {
+    pub open-moves : (c : ClientNo) (request : RequestNo) → RowMoves s m (record {
       table = m.worker ++ new_work (name_from m.tickets) T ∷ [];
       changes = [];
       messages = (Client c, messages.Opened c request T (Some (name_from m.tickets))) ∷ [];

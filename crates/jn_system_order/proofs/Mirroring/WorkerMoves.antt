@@ -1,5 +1,7 @@
 -- What a worker does with an Open, an Op and a Prepare, as steps of the machine.
-use Rattle.jn_system_order.proofs.Common.{◌≡◌, ◌≢◌, ◌⊎◌, inl, inr, ℕ, ◌+◌, Bool, true, false, List, [], ◌∷◌, Option, Some, None, is_some, refl, sym, ◌∙◌, ap, subst, arith, if◌then◌else◌, nat_lt, nat_eq, length, All, All-nil, All-cons, ServerNo, ClientNo, Tid, WorkId, Client, Server, Op, Answer, work_eq, tid_tells, work_tells, change, answer_to, list_change, length_with, Message, Vote, Work, Phase, Active, Broken, Stored, ActiveWork, StableState, stable, is_going, at_work, RowOutcome, Sent, WorkerTable, Held, work_at, work_of, wants_of, is_fit, units_for, with_units, granted_row, refusal_of, past_limit, conflict, counted, repeated, by_number, op_phase, op_row, open_row, commit_wants, vote_of, shortage, need_in, prepared_row, prepare_phase, prepare_row, Read, Machine, PartFact, Atom, NoteReady, run, MayRun, Says, IsPartOf, found-name, World, Memory, Room, storage_of, UpFact, IsSoundWork, IsSoundPrepared, Mirrors, IsTrue, IsAddressed, working_in, next_in, by-name, of-found, no-lock}
+use Rattle.jn_system_order.proofs.Common.{◌≡◌, ◌≢◌, ◌⊎◌, inl, inr, ◌+◌, Bool, true, false, List, [], ◌∷◌, Option, Some, None, is_some, refl, sym, ◌∙◌, ap, subst, arith, if◌then◌else◌, nat_lt, nat_eq, length, All, All-nil, All-cons, ServerNo, ClientNo, Tid, WorkId, Client, Server, Op, Answer, work_eq, tid_tells, work_tells, change, answer_to, list_change, length_with, Message, Vote, Work, Phase, Active, Broken, Stored, ActiveWork, StableState, stable, is_going, at_work, RowOutcome, Sent, WorkerTable, Held, work_at, work_of, wants_of, is_fit, units_for, with_units, granted_row, refusal_of, past_limit, conflict, counted, repeated, by_number, op_phase, op_row, open_row, commit_wants, vote_of, shortage, need_in, prepared_row, prepare_phase, prepare_row, Read, Machine, PartFact, Atom, NoteReady, run, MayRun, Says, IsPartOf, found-name, World, Memory, Room, storage_of, UpFact, IsSoundWork, IsSoundPrepared, Mirrors, IsTrue, IsAddressed, working_in, next_in, by-name, of-found, no-lock}
+use Rattle.jn_base.specs.declared.names.OperationNo.{OperationNo}
+use Rattle.jn_base.specs.declared.names.RequestNo.{RequestNo}
 use Rattle.jn_msgs.specs.declared.message.Message.TheVariants as messages
 use Rattle.jn_msgs.specs.declared.message.Vote.TheVariants as votes
 use Rattle.jn_rows.specs.declared.worker.PreparedWork.{PreparedWork}
@@ -27,7 +29,7 @@ module _ (r : World) (w : Machine) (s : ServerNo) (m : Memory) (mirrors : Mirror
 
   -- ---- Open
 
-  pub opens : (c : ClientNo) (request : ℕ) (T : Tid) (o : Option Work) → work_of T m.worker ≡ o → w.begun T ≡ true → RowMoves s m (open_row m.worker m.tickets c request T o) w
+  pub opens : (c : ClientNo) (request : RequestNo) (T : Tid) (o : Option Work) → work_of T m.worker ≡ o → w.begun T ≡ true → RowMoves s m (open_row m.worker m.tickets c request T o) w
   opens c request T (Some v) h begun = sends-moves r w s m mirrors is up _ [] (one (Client c, messages.Opened c request T (Some v.name)) (subst (λ (U : Tid). Says w (messages.Inquire U v.name)) (of-tid T m.worker v h)
       (mirrors.owner s m v.name v is (of-found T m.worker v up.table.rising h))) tt)
   opens c request T None h begun = either s m w (nat_lt (length m.worker) 64) _ _ (open-moves r w s m mirrors is up T begun grow c request)
@@ -36,7 +38,7 @@ module _ (r : World) (w : Machine) (s : ServerNo) (m : Memory) (mirrors : Mirror
   -- ---- Op
 
   module _ (x : Work) (found : work_at x.name m.worker ≡ Some x) where
-    granted : (c : ClientNo) (request : ℕ) (a : ActiveWork) (op : Op) (o : Option Answer) → x.phase ≡ Active a
+    granted : (c : ClientNo) (request : RequestNo) (a : ActiveWork) (op : Op) (o : Option Answer) → x.phase ≡ Active a
         → refusal_of m.worker x.name a op (answer_to op (change (list_change a.list) (stable (r.found s)).files)) (wants_of op (is_fit (answer_to op (change (list_change a.list) (stable (r.found s)).files)))) ≡ o
         → RowMoves s m (granted_row m.worker m.tickets c request x a op (answer_to op (change (list_change a.list) (stable (r.found s)).files))
         (wants_of op (is_fit (answer_to op (change (list_change a.list) (stable (r.found s)).files)))) o) w
@@ -53,20 +55,20 @@ module _ (r : World) (w : Machine) (s : ServerNo) (m : Memory) (mirrors : Mirror
           stops = still-stops r w s m mirrors is up _ refl;
         }
 
-    again : (c : ClientNo) (request : ℕ) (o : Option Answer) → RowMoves s m (repeated m.worker m.tickets c request o) w
+    again : (c : ClientNo) (request : RequestNo) (o : Option Answer) → RowMoves s m (repeated m.worker m.tickets c request o) w
     again c request (Some answer) = sends-moves r w s m mirrors is up _ [] (one (Client c, messages.Answer c request answer) tt tt)
     again c request None = sends-moves r w s m mirrors is up _ _ none
 
-    numbered : (c : ClientNo) (request : ℕ) (a : ActiveWork) (number : ℕ) (op : Op) → x.phase ≡ Active a → RowMoves s m (by_number m.worker (stable (r.found s)).files m.tickets c request x a number op) w
-    numbered c request a number op e = either s m w (nat_eq number (a.last + 1)) _ _ (granted c request a op _ e refl)
-        (either s m w (nat_eq number a.last) _ _ (again c request a.kept) (sends-moves r w s m mirrors is up _ _ none))
+    numbered : (c : ClientNo) (request : RequestNo) (a : ActiveWork) (number : OperationNo) (op : Op) → x.phase ≡ Active a → RowMoves s m (by_number m.worker (stable (r.found s)).files m.tickets c request x a number op) w
+    numbered c request a number op e = either s m w (nat_eq number.0 (a.last + 1)) _ _ (granted c request a op _ e refl)
+        (either s m w (nat_eq number.0 a.last) _ _ (again c request a.kept) (sends-moves r w s m mirrors is up _ _ none))
 
-    by-phase : (c : ClientNo) (request number : ℕ) (op : Op) (p : Phase) → x.phase ≡ p → RowMoves s m (op_phase m.worker (stable (r.found s)).files m.tickets c request x number op p) w
+    by-phase : (c : ClientNo) (request : RequestNo) (number : OperationNo) (op : Op) (p : Phase) → x.phase ≡ p → RowMoves s m (op_phase m.worker (stable (r.found s)).files m.tickets c request x number op p) w
     by-phase c request number op (Active a) e = numbered c request a number op e
     by-phase c request number op (Broken u T) e = sends-moves r w s m mirrors is up _ [] (one (Client c, messages.Answer c request _) tt tt)
     by-phase c request number op (Stored p) e = sends-moves r w s m mirrors is up _ [] (one (Client c, messages.Answer c request _) tt tt)
 
-  pub ops-move : (c : ClientNo) (request : ℕ) (W : WorkId) (number : ℕ) (op : Op) (o : Option Work) → work_at W m.worker ≡ o → RowMoves s m (op_row m.worker (stable (r.found s)).files m.tickets c request W number op o) w
+  pub ops-move : (c : ClientNo) (request : RequestNo) (W : WorkId) (number : OperationNo) (op : Op) (o : Option Work) → work_at W m.worker ≡ o → RowMoves s m (op_row m.worker (stable (r.found s)).files m.tickets c request W number op o) w
   ops-move c request W number op (Some x) h = by-phase x (by-name W m.worker x h) c request number op x.phase refl
   ops-move c request W number op None h = sends-moves r w s m mirrors is up _ [] (one (Client c, messages.Answer c request _) tt tt)
 

@@ -1,5 +1,7 @@
 -- No row of a worker says that a transaction has committed.
-use Rattle.jn_system_order.proofs.Common.{◌≡◌, Bool, true, false, List, [], ◌∷◌, ◌++◌, Option, Some, None, refl, subst, if◌then◌else◌, ℕ, nat_lt, nat_eq, ◌+◌, length, slice_get, ClientNo, Tid, WorkId, LockUnit, Tickets, Op, Answer, Files, change, answer_to, list_change, Intention, Message, Vote, Work, Phase, Active, Broken, Stored, ActiveWork, is_going, RowOutcome, WorkerTable, WorkStorage, Wanted, work_at, work_of, breaks_at, note_of, break_notes, open_row, wants_of, is_fit, refusal_of, granted_row, repeated, op_phase, op_row, conflict, commit_wants, vote_of, shortage, need_in, prepared_row, prepare_phase, prepare_row, commit_phase, drop_phase, drop_row, worker_row, going_work, intentions_of, carried_row, going_row, worker_step}
+use Rattle.jn_system_order.proofs.Common.{◌≡◌, Bool, true, false, List, [], ◌∷◌, ◌++◌, Option, Some, None, refl, subst, if◌then◌else◌, nat_lt, nat_eq, ◌+◌, length, slice_get, ClientNo, Tid, WorkId, LockUnit, Tickets, Op, Answer, Files, change, answer_to, list_change, Intention, Message, Vote, Work, Phase, Active, Broken, Stored, ActiveWork, is_going, RowOutcome, WorkerTable, WorkStorage, Wanted, work_at, work_of, breaks_at, note_of, break_notes, open_row, wants_of, is_fit, refusal_of, granted_row, repeated, op_phase, op_row, conflict, commit_wants, vote_of, shortage, need_in, prepared_row, prepare_phase, prepare_row, commit_phase, drop_phase, drop_row, worker_row, going_work, intentions_of, carried_row, going_row, worker_step}
+use Rattle.jn_base.specs.declared.names.OperationNo.{OperationNo}
+use Rattle.jn_base.specs.declared.names.RequestNo.{RequestNo}
 use Rattle.jn_msgs.specs.declared.message.Message.TheVariants as messages
 use Rattle.jn_msgs.specs.declared.message.Vote.TheVariants as votes
 use Rattle.jn_rows.specs.Worker.{commit_row}
@@ -20,26 +22,26 @@ breaks-none T W wants (v ∷ vs) = by (breaks_at W wants v) (breaks-none T W wan
     by None h = h
     by (Some u) h = h
 
-open-none : (t : WorkerTable) (k : Tickets) (c : ClientNo) (request : ℕ) (T : Tid) (o : Option Work) → NamesNone (open_row t k c request T o)
+open-none : (t : WorkerTable) (k : Tickets) (c : ClientNo) (request : RequestNo) (T : Tid) (o : Option Work) → NamesNone (open_row t k c request T o)
 open-none t k c request T (Some w) = refl
 open-none t k c request T None = either (nat_lt (length t) 64) _ _ refl refl
 
-granted-none : (t : WorkerTable) (k : Tickets) (c : ClientNo) (request : ℕ) (w : Work) (a : ActiveWork) (op : Op) (answer : Answer) (wants : List Wanted) (o : Option Answer) → NamesNone (granted_row t k c request w a op answer wants o)
+granted-none : (t : WorkerTable) (k : Tickets) (c : ClientNo) (request : RequestNo) (w : Work) (a : ActiveWork) (op : Op) (answer : Answer) (wants : List Wanted) (o : Option Answer) → NamesNone (granted_row t k c request w a op answer wants o)
 granted-none t k c request w a op answer wants (Some refusal) = refl
 granted-none t k c request w a op answer wants None = breaks-none w.tid w.name wants t
 
-repeated-none : (t : WorkerTable) (k : Tickets) (c : ClientNo) (request : ℕ) (o : Option Answer) → NamesNone (repeated t k c request o)
+repeated-none : (t : WorkerTable) (k : Tickets) (c : ClientNo) (request : RequestNo) (o : Option Answer) → NamesNone (repeated t k c request o)
 repeated-none t k c request (Some answer) = refl
 repeated-none t k c request None = refl
 
-op-none : (t : WorkerTable) (files : Files) (k : Tickets) (c : ClientNo) (request : ℕ) (w : Work) (number : ℕ) (op : Op) (p : Phase) → NamesNone (op_phase t files k c request w number op p)
+op-none : (t : WorkerTable) (files : Files) (k : Tickets) (c : ClientNo) (request : RequestNo) (w : Work) (number : OperationNo) (op : Op) (p : Phase) → NamesNone (op_phase t files k c request w number op p)
 op-none t files k c request w number op (Active a) = let answer = answer_to op (change (list_change a.list) files) in
-    either (nat_eq number (a.last + 1)) _ _ (granted-none t k c request w a op answer (wants_of op (is_fit answer)) (refusal_of t w.name a op answer (wants_of op (is_fit answer))))
-    (either (nat_eq number a.last) _ _ (repeated-none t k c request a.kept) refl)
+    either (nat_eq number.0 (a.last + 1)) _ _ (granted-none t k c request w a op answer (wants_of op (is_fit answer)) (refusal_of t w.name a op answer (wants_of op (is_fit answer))))
+    (either (nat_eq number.0 a.last) _ _ (repeated-none t k c request a.kept) refl)
 op-none t files k c request w number op (Broken u by) = refl
 op-none t files k c request w number op (Stored p) = refl
 
-ops-none : (t : WorkerTable) (files : Files) (k : Tickets) (c : ClientNo) (request : ℕ) (W : WorkId) (number : ℕ) (op : Op) (o : Option Work) → NamesNone (op_row t files k c request W number op o)
+ops-none : (t : WorkerTable) (files : Files) (k : Tickets) (c : ClientNo) (request : RequestNo) (W : WorkId) (number : OperationNo) (op : Op) (o : Option Work) → NamesNone (op_row t files k c request W number op o)
 ops-none t files k c request W number op (Some w) = op-none t files k c request w number op w.phase
 ops-none t files k c request W number op None = refl
 

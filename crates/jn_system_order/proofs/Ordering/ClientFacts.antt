@@ -1,5 +1,7 @@
 -- A client's steps keep what holds of the openings and of its requests.
-use Rattle.jn_system_order.proofs.Common.{◌≡◌, ◌≢◌, ◌⊎◌, inl, inr, ◌<◌, ℕ, ◌+◌, Bool, true, false, List, [], ◌∷◌, Option, Some, None, refl, sym, ◌∙◌, ap, subst, arith, ◌&&◌, if◌then◌else◌, nat_eq, nat_lt, All, nat_tests, All-nil, All-cons, ServerNo, ClientNo, Tid, WorkId, Party, Client, Command, client_eq, client_tells, Message, Outcome, Text, OpenWork, Outstanding, Taken, Sent, ClientTable, Commanded, Refuses, Sends, with_operation, if_server, if_idle, if_transaction, if_no_transaction, if_open, if_not_open, command_row, is_begin, is_operation, is_end_or_abort, opens, is_current, if_waits, idle, over, begun_row, opened_row, decided_row, outcome_row, take_row, sends, not_both, false_unless}
+use Rattle.jn_system_order.proofs.Common.{◌≡◌, ◌≢◌, ◌⊎◌, inl, inr, ◌<◌, ℕ, ◌+◌, Bool, true, false, List, [], ◌∷◌, Option, Some, None, refl, sym, ◌∙◌, ap, subst, arith, ◌&&◌, if◌then◌else◌, nat_lt, All, nat_tests, All-nil, All-cons, ServerNo, ClientNo, Tid, WorkId, Party, Client, Command, client_eq, client_tells, Message, Outcome, Text, OpenWork, Outstanding, Taken, Sent, ClientTable, Commanded, Refuses, Sends, with_operation, if_server, if_idle, if_transaction, if_no_transaction, if_open, if_not_open, command_row, is_begin, is_operation, is_end_or_abort, opens, is_current, if_waits, idle, over, begun_row, opened_row, decided_row, outcome_row, take_row, sends, not_both, false_unless}
+use Rattle.jn_base.specs.Names.{request_eq, request_of}
+use Rattle.jn_base.specs.declared.names.RequestNo.{RequestNo}
 use Rattle.jn_base.specs.declared.op.Command.TheVariants.{Begin, Open, Do, End, Abort}
 use Rattle.jn_msgs.specs.declared.message.Message.TheVariants as messages
 use Rattle.jn_msgs.specs.declared.message.Outcome.TheVariants as outcomes
@@ -44,7 +46,7 @@ all-have os (x ∷ sent) h = All-cons (λ (x : Sent). (a : Opening) → Has a (o
 pub all-have-theirs : (sent : List Sent) → All (λ (x : Sent). (a : Opening) → Has a (opening_in x) → Has a (openings sent)) sent
 all-have-theirs sent = all-have (openings sent) sent (λ a h. h)
 
-module _ (os : List Opening) (ended : Tid → Bool) (c : ClientNo) (t : ClientTable) (h : IsRunning os ended c t) (drawn : (T : Tid) (q : ℕ) → Has (opening c q T) os → ended T ≡ true → q < t.next) where
+module _ (os : List Opening) (ended : Tid → Bool) (c : ClientNo) (t : ClientTable) (h : IsRunning os ended c t) (drawn : (T : Tid) (q : RequestNo) → Has (opening c q T) os → ended T ≡ true → q.0 < t.next) where
   -- ---- a command
 
   abbrev pub CommandFacts : Commanded → Type 0
@@ -79,15 +81,15 @@ module _ (os : List Opening) (ended : Tid → Bool) (c : ClientNo) (t : ClientTa
   where-open (Some v) row k = k v
 
   -- no opening has the next request
-  next-free : (T : Tid) → Has (opening c t.next T) os → ended T ≡ false
-  next-free T k = false_unless (ended T) (λ e. not-self t.next (drawn T t.next k e))
+  next-free : (T : Tid) → Has (opening c (request_of t.next) T) os → ended T ≡ false
+  next-free T k = false_unless (ended T) (λ e. not-self t.next (drawn T (request_of t.next) k e))
 
   pub sends-one : (works : List OpenWork) (event : ℕ) (command : Command) (to : Party) (message : Message) → opening_in (to, message) ≡ [] → (is_end_or_abort command ≡ false → t.outstanding ≡ None)
       → CommandFacts (sends (record t { works = works }) event command to message)
   sends-one works event command to message quiet free = (
     record {
       name = h.name;
-      current = λ T e. let b = h.current T e in record { request = b.request; has = b.has; drawn = below b.request t.next b.drawn };
+      current = λ T e. let b = h.current T e in record { request = b.request; has = b.has; drawn = below b.request.0 t.next b.drawn };
       fresh = λ T e k. h.fresh T e (ap is_closing (free k));
       waits = λ o e. subst (λ (z : Outstanding). IsWaiting os ended c (t.next + 1) z) (some-out _ o e) (record { drawn = self-below t.next; quiet = quiet; begins = λ b T k. next-free T k });
     },
@@ -165,10 +167,10 @@ module _ (os : List Opening) (ended : Tid → Bool) (c : ClientNo) (t : ClientTa
       by (inl p) = p.1 ∙ h.name
       by (inr p) = absurd (not_both (client_eq d t.client) e p.0)
 
-  same-number : (a b : ℕ) → nat_eq a b ≡ true → a ≡ b
+  same-number : (a b : RequestNo) → request_eq a b ≡ true → a ≡ b
   same-number a b e = grind (arith, nat_tests)
 
-  begun-takes : (x : Outstanding) (d : ClientNo) (request : ℕ) (o : Option Tid) → t.outstanding ≡ Some x → client_eq d t.client ≡ true → nat_eq x.request request ≡ true → is_begin x.command ≡ true
+  begun-takes : (x : Outstanding) (d : ClientNo) (request : RequestNo) (o : Option Tid) → t.outstanding ≡ Some x → client_eq d t.client ≡ true → request_eq x.request request ≡ true → is_begin x.command ≡ true
       → ((a : Opening) → Has a (opening_in (Client c, messages.Begun d request o)) → Has a os) → TakeFacts (begun_row t x.event o)
   begun-takes x d request None e f g b has = (is-idle x t.works e (open-begin x.command b), refl, tt)
   begun-takes x d request (Some T) e f g b has = (
@@ -199,13 +201,13 @@ module _ (os : List Opening) (ended : Tid → Bool) (c : ClientNo) (t : ClientTa
   outcome-takes T (outcomes.NotKnown s epoch) = either (is_current t T) _ _ (where-waits t.outstanding _ _ refl (λ x e k. (is-over, refl, tt))) (h, refl, tt)
 
   pub take-facts : (message : Message) → ((a : Opening) → Has a (opening_in (Client c, message)) → Has a os) → TakeFacts (take_row t message)
-  take-facts (messages.Begun d request answer) has = where-waits t.outstanding _ _ refl (λ x e k. let rest = second-of (client_eq d t.client) (nat_eq x.request request && is_begin x.command) k in
-      begun-takes x d request answer e (first-of (client_eq d t.client) (nat_eq x.request request && is_begin x.command) k) (first-of (nat_eq x.request request) (is_begin x.command) rest) (second-of (nat_eq x.request request) (is_begin x.command) rest) has)
+  take-facts (messages.Begun d request answer) has = where-waits t.outstanding _ _ refl (λ x e k. let rest = second-of (client_eq d t.client) (request_eq x.request request && is_begin x.command) k in
+      begun-takes x d request answer e (first-of (client_eq d t.client) (request_eq x.request request && is_begin x.command) k) (first-of (request_eq x.request request) (is_begin x.command) rest) (second-of (request_eq x.request request) (is_begin x.command) rest) has)
   take-facts (messages.Opened d request T answer) has = where-waits t.outstanding _ _ refl (λ x e k. opened-takes x answer e
-      (second-of (is_current t T) (opens answer x.command) (second-of (nat_eq x.request request) (is_current t T && opens answer x.command) (second-of (client_eq d t.client) (nat_eq x.request request && (is_current t T && opens answer x.command)) k))))
+      (second-of (is_current t T) (opens answer x.command) (second-of (request_eq x.request request) (is_current t T && opens answer x.command) (second-of (client_eq d t.client) (request_eq x.request request && (is_current t T && opens answer x.command)) k))))
   take-facts (messages.Answer d request answer) has = where-waits t.outstanding _ _ refl (λ x e k. (
     is-idle x t.works e (open-operation x.command
-        (second-of (nat_eq x.request request) (is_operation x.command) (second-of (client_eq d t.client) (nat_eq x.request request && is_operation x.command) k))),
+        (second-of (request_eq x.request request) (is_operation x.command) (second-of (client_eq d t.client) (request_eq x.request request && is_operation x.command) k))),
     refl,
     tt,
   ))

@@ -1,5 +1,7 @@
 -- A client's steps: what holds of the openings stays, and an End is a step of the machine.
 use Rattle.jn_system_order.proofs.Common.{◌≡◌, ◌≢◌, ◌⊎◌, inl, inr, ◌<◌, ℕ, ◌+◌, Bool, true, false, List, [], ◌∷◌, ◌++◌, append-nil, Option, Some, None, refl, sym, ◌∙◌, ap, subst, arith, ◌||◌, if◌then◌else◌, slice_get, All-nil, All-cons, All-append, ServerNo, ClientNo, Tid, WorkId, Client, Server, Command, server_eq, client_eq, tid_eq, work_eq, server_tells, client_tells, tid_tells, work_tells, Message, OpenWork, Outstanding, Taken, Sent, is_work, ClientTable, Commanded, Refuses, Sends, names_of, if_idle, if_transaction, command_row, take_row, sends, is_begin, sent_again, Machine, Invariant, Atom, Ends, end_it, run, MayRun, MayEnd, Says, IsWorkOf, at_tid_here, at_tid_other, at_tid_cases, World, at_client, commanded, tell, again, sent_now, took, taken_by, dismiss, Mirrors, IsTrue, IsAddressed, AreOpen, IsCurrent, IsClient}
+use Rattle.jn_base.specs.Names.{request_of}
+use Rattle.jn_base.specs.declared.names.RequestNo.{RequestNo}
 use Rattle.jn_base.specs.declared.op.Command.TheVariants.{Open, End}
 use Rattle.jn_msgs.specs.declared.message.Message.TheVariants as messages
 use Rattle.jn_report.specs.declared.line.Refusal.{Refusal}
@@ -41,11 +43,11 @@ IsOther c d = ((client_eq c d ≡ true) × (c ≡ d)) ⊎ ((client_eq c d ≡ fa
 -- one client changes, and sends nothing that opens
 client-keeps : (r r' : World) (w v : Machine) → Facts r w → (c : ClientNo) (u : ClientTable) → r'.memory ≡ r.memory → r'.clients ≡ at_client r.clients c u → openings r'.sent ≡ openings r.sent
     → IsRunning (openings r.sent) v.ended c u → ((d : ClientNo) → c ≢ d → IsRunning (openings r.sent) v.ended d (r.clients d))
-    → ((a : Opening) → Has a (openings r.sent) → v.ended a.tid ≡ true → a.request < (at_client r.clients c u a.client).next) → ((T : Tid) → v.ended T ≡ true → v.begun T ≡ true) → Facts r' v
+    → ((a : Opening) → Has a (openings r.sent) → v.ended a.tid ≡ true → a.request.0 < (at_client r.clients c u a.client).next) → ((T : Tid) → v.ended T ≡ true → v.begun T ≡ true) → Facts r' v
 client-keeps r r' w v facts c u memory clients sent own others drawn begun = record {
   unique = subst (λ l. (a b : Opening) → Has a l → Has b l → a.tid ≡ b.tid → a ≡ b) (sym sent) facts.unique;
   tables = λ s m e. subst (λ l. HaveOpenings l m.coordinator.transactions) (sym sent) (facts.tables s m (ap (λ f. f s) (sym memory) ∙ e));
-  drawn = λ a h e. subst (λ f. a.request < (f a.client).next) (sym clients) (drawn a (subst (λ l. Has a l) sent h) e);
+  drawn = λ a h e. subst (λ f. a.request.0 < (f a.client).next) (sym clients) (drawn a (subst (λ l. Has a l) sent h) e);
   clients = λ d. subst (λ l. IsRunning l v.ended d (r'.clients d)) (sym sent) (subst (λ f. IsRunning (openings r.sent) v.ended d (f d)) (sym clients) (each d (client_tells c d)));
   begun = begun;
 }
@@ -58,7 +60,7 @@ quiet-more : (sent : List Sent) (x : Sent) → opening_in x ≡ [] → openings 
 quiet-more sent x e = openings-more sent (x ∷ []) ∙ ap (λ l. openings sent ++ (l ++ [])) e ∙ append-nil (openings sent)
 
 module _ (r : World) (w v : Machine) (mirrors : Mirrors r w) (facts : Facts r w) (ended : v.ended ≡ w.ended) (grow : (T : Tid) → w.begun T ≡ true → v.begun T ≡ true) (inv : Invariant w) where
-  own-drawn : (c : ClientNo) (T : Tid) (q : ℕ) → Has (opening c q T) (openings r.sent) → w.ended T ≡ true → q < (r.clients c).next
+  own-drawn : (c : ClientNo) (T : Tid) (q : RequestNo) → Has (opening c q T) (openings r.sent) → w.ended T ≡ true → q.0 < (r.clients c).next
   own-drawn c T q h e = facts.drawn (opening c q T) h e
 
   -- its requests don't fall
@@ -67,9 +69,9 @@ module _ (r : World) (w v : Machine) (mirrors : Mirrors r w) (facts : Facts r w)
       (λ d ne. subst (λ f. IsRunning (openings r.sent) f d (r.clients d)) (sym ended) (facts.clients d)) (λ a h e. by a (client_tells c a.client) (facts.drawn a h (subst (λ f. f a.tid ≡ true) ended e)))
       (λ T e. grow T (facts.begun T (subst (λ f. f T ≡ true) ended e)))
     where
-      by : (a : Opening) → IsOther c a.client → a.request < (r.clients a.client).next → a.request < (at_client r.clients c u a.client).next
-      by a (inl p) h = subst (λ (b : Bool). a.request < (if b then u else r.clients a.client).next) (sym p.0) (more a.request (subst (λ (z : ClientNo). a.request < (r.clients z).next) (sym p.1) h))
-      by a (inr p) h = subst (λ (b : Bool). a.request < (if b then u else r.clients a.client).next) (sym p.0) h
+      by : (a : Opening) → IsOther c a.client → a.request.0 < (r.clients a.client).next → a.request.0 < (at_client r.clients c u a.client).next
+      by a (inl p) h = subst (λ (b : Bool). a.request.0 < (if b then u else r.clients a.client).next) (sym p.0) (more a.request.0 (subst (λ (z : ClientNo). a.request.0 < (r.clients z).next) (sym p.1) h))
+      by a (inr p) h = subst (λ (b : Bool). a.request.0 < (if b then u else r.clients a.client).next) (sym p.0) h
 
   commanded-facts : (c : ClientNo) (row : Commanded) → CommandFacts (openings r.sent) w.ended c (r.clients c) (facts.clients c) (own-drawn c) row → Facts (commanded c row r) v
   commanded-facts c (Refuses refusal) k = still-facts r w v mirrors facts inv ended grow _ refl refl facts.tables
@@ -185,7 +187,7 @@ module _ (r : World) (w : Machine) (mirrors : Mirrors r w) (facts : Facts r w) (
     atoms = m.atoms;
     may = m.may;
     mirrors = m.mirrors;
-    facts = still-facts r w (run m.atoms w) mirrors facts inv m.ended (λ T b. grow m.atoms m.may (messages.Open c 0 T) b) _ refl refl facts.tables;
+    facts = still-facts r w (run m.atoms w) mirrors facts inv m.ended (λ T b. grow m.atoms m.may (messages.Open c (request_of 0) T) b) _ refl refl facts.tables;
     ends = λ T e. inl (subst (λ f. f T ≡ true) m.ended e);
   }
 
@@ -219,7 +221,7 @@ module _ (r : World) (w : Machine) (mirrors : Mirrors r w) (facts : Facts r w) (
     its-part : v.part T ≡ parts
     its-part = at_tid_here w.part T parts
 
-    end-says : Says v (messages.End t.client t.next T (names_of t.works))
+    end-says : Says v (messages.End t.client (request_of t.next) T (names_of t.works))
     end-says = (
       current.0,
       at_tid_here w.ended T true,
@@ -229,17 +231,17 @@ module _ (r : World) (w : Machine) (mirrors : Mirrors r w) (facts : Facts r w) (
     now : IsClient v t
     now = client-still w v g t (mirrors.clients c)
 
-    told : Tells v (sends t r.event End (Server T.server) (messages.End t.client t.next T (names_of t.works)))
-    told = sends-it v t now r.event t.works End (Server T.server) (messages.End t.client t.next T (names_of t.works)) now.current end-says refl (λ s e. absurd (no s e))
+    told : Tells v (sends t r.event End (Server T.server) (messages.End t.client (request_of t.next) T (names_of t.works)))
+    told = sends-it v t now r.event t.works End (Server T.server) (messages.End t.client (request_of t.next) T (names_of t.works)) now.current end-says refl (λ s e. absurd (no s e))
       where
         no : (s : ServerNo) → End ≡ Open s → ⊥
         no s e = cc
 
     abbrev u : ClientTable
-    u = record t { next = t.next + 1; outstanding = Some (record { event = r.event; request = t.next; command = End; to = Server T.server; message = messages.End t.client t.next T (names_of t.works) }) }
+    u = record t { next = t.next + 1; outstanding = Some (record { event = r.event; request = request_of t.next; command = End; to = Server T.server; message = messages.End t.client (request_of t.next) T (names_of t.works) }) }
 
     abbrev message : Message
-    message = messages.End t.client t.next T (names_of t.works)
+    message = messages.End t.client (request_of t.next) T (names_of t.works)
 
     ended-mirrors : Mirrors (commanded c (Sends u (Server T.server) message) r) v
     ended-mirrors = mirrors-still r w mirrors grow v (record { up = refl; found = refl; active = refl; next = refl; ticket = refl; knowledge = refl; history = refl }) g (at_client r.clients c u) (at-one r w mirrors grow v g c u told.0) (r.sent ++ (Server T.server, message) ∷ [])
@@ -255,7 +257,7 @@ module _ (r : World) (w : Machine) (mirrors : Mirrors r w) (facts : Facts r w) (
     before = sends-one (openings r.sent) w.ended c t (facts.clients c) (λ U q h e. facts.drawn (opening c q U) h e) t.works r.event End (Server T.server) message refl (λ k. idle)
 
     -- another client has begun another transaction
-    other-begun : (d : ClientNo) (q : ℕ) (U : Tid) → c ≢ d → Has (opening d q U) (openings r.sent) → T ≢ U
+    other-begun : (d : ClientNo) (q : RequestNo) (U : Tid) → c ≢ d → Has (opening d q U) (openings r.sent) → T ≢ U
     other-begun d q U ne h e = ne (ap (λ (a : Opening). a.client) (facts.unique (opening c began.request T) (opening d q U) began.has h e))
 
     still-open : (U : Tid) → T ≢ U → w.ended U ≡ false → v.ended U ≡ false
@@ -286,15 +288,15 @@ module _ (r : World) (w : Machine) (mirrors : Mirrors r w) (facts : Facts r w) (
       waits = λ o e. let x = h.waits o e in record { drawn = x.drawn; quiet = x.quiet; begins = λ b U k. still-open U (other-begun d o.request U ne k) (x.begins b U k) };
     }
 
-    drawn : (a : Opening) → Has a (openings r.sent) → v.ended a.tid ≡ true → a.request < (at_client r.clients c u a.client).next
+    drawn : (a : Opening) → Has a (openings r.sent) → v.ended a.tid ≡ true → a.request.0 < (at_client r.clients c u a.client).next
     drawn a h e = by (tid_tells T a.tid)
       where
-        same : IsOther c a.client → a.request < (r.clients a.client).next → a.request < (at_client r.clients c u a.client).next
-        same (inl p) k = subst (λ (b : Bool). a.request < (if b then u else r.clients a.client).next) (sym p.0) (below a.request t.next (subst (λ (z : ClientNo). a.request < (r.clients z).next) (sym p.1) k))
-        same (inr p) k = subst (λ (b : Bool). a.request < (if b then u else r.clients a.client).next) (sym p.0) k
+        same : IsOther c a.client → a.request.0 < (r.clients a.client).next → a.request.0 < (at_client r.clients c u a.client).next
+        same (inl p) k = subst (λ (b : Bool). a.request.0 < (if b then u else r.clients a.client).next) (sym p.0) (below a.request.0 t.next (subst (λ (z : ClientNo). a.request.0 < (r.clients z).next) (sym p.1) k))
+        same (inr p) k = subst (λ (b : Bool). a.request.0 < (if b then u else r.clients a.client).next) (sym p.0) k
 
-        by : ((tid_eq T a.tid ≡ true) × (T ≡ a.tid)) ⊎ ((tid_eq T a.tid ≡ false) × (T ≢ a.tid)) → a.request < (at_client r.clients c u a.client).next
-        by (inl p) = same (client_tells c a.client) (subst (λ (z : Opening). z.request < (r.clients z.client).next) (facts.unique (opening c began.request T) a began.has h p.1) began.drawn)
+        by : ((tid_eq T a.tid ≡ true) × (T ≡ a.tid)) ⊎ ((tid_eq T a.tid ≡ false) × (T ≢ a.tid)) → a.request.0 < (at_client r.clients c u a.client).next
+        by (inl p) = same (client_tells c a.client) (subst (λ (z : Opening). z.request.0 < (r.clients z.client).next) (facts.unique (opening c began.request T) a began.has h p.1) began.drawn)
         by (inr p) = same (client_tells c a.client) (facts.drawn a h (sym (at_tid_other w.ended T true a.tid p.1) ∙ e))
 
     begun-still : (U : Tid) → v.ended U ≡ true → v.begun U ≡ true
@@ -341,7 +343,7 @@ module _ (r : World) (w : Machine) (mirrors : Mirrors r w) (facts : Facts r w) (
   pub end-next : Next (tell c End r) w
   end-next = by t.outstanding t.transaction refl refl
     where
-      by : (o : Option Outstanding) (x : Option Tid) → t.outstanding ≡ o → t.transaction ≡ x → Next (commanded c (if_idle o (if_transaction x (λ T. sends t r.event End (Server T.server) (messages.End t.client t.next T (names_of t.works))))) r) w
+      by : (o : Option Outstanding) (x : Option Tid) → t.outstanding ≡ o → t.transaction ≡ x → Next (commanded c (if_idle o (if_transaction x (λ T. sends t r.event End (Server T.server) (messages.End t.client (request_of t.next) T (names_of t.works))))) r) w
       by (Some o) x e f = refused refusals.ClientBusy
       by None None e f = refused refusals.NoTransaction
       by None (Some T) e f = ended-next T e f

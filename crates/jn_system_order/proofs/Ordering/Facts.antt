@@ -1,9 +1,10 @@
 -- What holds of the openings, the clients and the ends between any two steps.
 use Rattle.jn_system_order.proofs.Common.{◌≡◌, ◌⊎◌, inl, inr, ◌<◌, ℕ, Bool, true, false, List, [], ◌∷◌, Option, Some, None, sym, ◌∙◌, ap, subst, All, All-head, All-tail, ServerNo, ClientNo, Tid, Outstanding, Sent, ClientTable, is_begin, is_end_or_abort, Machine, not_both, false_unless, World, Memory, Mirrors, IsTrue}
+use Rattle.jn_base.specs.declared.names.RequestNo.{RequestNo}
 use Rattle.jn_msgs.specs.declared.message.Message.TheVariants as messages
 use Rattle.jn_system_order.proofs.Ordering.Openings.{Opening, opening_in, openings, Has, has-either, HaveOpenings}
 
-abbrev pub opening : ClientNo → ℕ → Tid → Opening
+abbrev pub opening : ClientNo → RequestNo → Tid → Opening
 opening c q T = record { client = c; request = q; tid = T }
 
 -- it waits for an End or an Abort
@@ -13,12 +14,12 @@ is_closing (Some o) = is_end_or_abort o.command
 
 -- one of the client's requests before this one began it
 pub record Began (os : List Opening) (c : ClientNo) (n : ℕ) (T : Tid) : Type 0 where
-  pub request : ℕ
+  pub request : RequestNo
   pub has : Has (opening c request T) os
-  pub drawn : request < n
+  pub drawn : request.0 < n
 
 pub record IsWaiting (os : List Opening) (ended : Tid → Bool) (c : ClientNo) (n : ℕ) (o : Outstanding) : Type 0 where
-  pub drawn : o.request < n
+  pub drawn : o.request.0 < n
   pub quiet : opening_in (o.to, o.message) ≡ []
   -- what it waits to begin has no end
   pub begins : is_begin o.command ≡ true → (T : Tid) → Has (opening c o.request T) os → ended T ≡ false
@@ -33,7 +34,7 @@ pub record Facts (r : World) (w : Machine) : Type 0 where
   -- each transaction begins once
   pub unique : (a b : Opening) → Has a (openings r.sent) → Has b (openings r.sent) → a.tid ≡ b.tid → a ≡ b
   pub tables : (s : ServerNo) (m : Memory) → r.memory s ≡ Some m → HaveOpenings (openings r.sent) m.coordinator.transactions
-  pub drawn : (a : Opening) → Has a (openings r.sent) → w.ended a.tid ≡ true → a.request < (r.clients a.client).next
+  pub drawn : (a : Opening) → Has a (openings r.sent) → w.ended a.tid ≡ true → a.request.0 < (r.clients a.client).next
   pub clients : (c : ClientNo) → IsRunning (openings r.sent) w.ended c (r.clients c)
   pub begun : (T : Tid) → w.ended T ≡ true → w.begun T ≡ true
 
@@ -79,10 +80,10 @@ module _ (r r' : World) (w v : Machine) (mirrors : Mirrors r w) (facts : Facts r
   not-ended : (T : Tid) → w.begun T ≡ false → w.ended T ≡ false
   not-ended T h = false_unless (w.ended T) (λ e. not_both (w.begun T) (facts.begun T e) h)
 
-  drawn : (a : Opening) → Has a (openings r'.sent) → w.ended a.tid ≡ true → a.request < (r.clients a.client).next
+  drawn : (a : Opening) → Has a (openings r'.sent) → w.ended a.tid ≡ true → a.request.0 < (r.clients a.client).next
   drawn a h e = by (back a h)
     where
-      by : Has a (openings r.sent) ⊎ ((a ≡ fresh) × (w.begun fresh.tid ≡ false)) → a.request < (r.clients a.client).next
+      by : Has a (openings r.sent) ⊎ ((a ≡ fresh) × (w.begun fresh.tid ≡ false)) → a.request.0 < (r.clients a.client).next
       by (inl p) = facts.drawn a p e
       by (inr p) = absurd (not_both (w.ended a.tid) e (not-ended a.tid (subst (λ (z : Opening). w.begun z.tid ≡ false) (sym p.0) p.1)))
 
@@ -102,7 +103,7 @@ module _ (r r' : World) (w v : Machine) (mirrors : Mirrors r w) (facts : Facts r
   facts-keep = record {
     unique = unique;
     tables = tables;
-    drawn = λ a h e. subst (λ f. a.request < (f a.client).next) (sym clients) (drawn a h (subst (λ f. f a.tid ≡ true) ended e));
+    drawn = λ a h e. subst (λ f. a.request.0 < (f a.client).next) (sym clients) (drawn a h (subst (λ f. f a.tid ≡ true) ended e));
     clients = λ c. subst (λ f. IsRunning (openings r'.sent) f c (r'.clients c)) (sym ended) (subst (λ f. IsRunning (openings r'.sent) w.ended c (f c)) (sym clients) (running c));
     begun = λ T e. grow T (facts.begun T (subst (λ f. f T ≡ true) ended e));
   }

@@ -1,13 +1,14 @@
 -- By which request of which client each transaction began, as the messages say.
-use Rattle.jn_system_order.proofs.Common.{◌≡◌, ◌⊎◌, inl, inr, ℕ, List, [], ◌∷◌, ◌++◌, Option, Some, None, refl, sym, ◌∙◌, ap, ClientNo, Tid, Transaction, Sent}
+use Rattle.jn_system_order.proofs.Common.{◌≡◌, ◌⊎◌, inl, inr, List, [], ◌∷◌, ◌++◌, Option, Some, None, refl, sym, ◌∙◌, ap, ClientNo, Tid, Transaction, Sent}
+use Rattle.jn_base.specs.declared.names.RequestNo.{RequestNo}
 use Rattle.jn_msgs.specs.declared.message.Message.TheVariants as messages
 
 pub record Opening : Type 0 where
   pub client : ClientNo
-  pub request : ℕ
+  pub request : RequestNo
   pub tid : Tid
 
-abbrev pub opening_of : ClientNo → ℕ → Option Tid → List Opening
+abbrev pub opening_of : ClientNo → RequestNo → Option Tid → List Opening
 opening_of c q None = []
 opening_of c q (Some T) = record { client = c; request = q; tid = T } ∷ []
 
@@ -51,7 +52,7 @@ has-either o (x ∷ a) b (inr h) = by (has-either o a b h)
 
 -- a transaction of a table has its message, where the table says by which request it began
 abbrev pub HasOpening : List Opening → Transaction → Type 0
-HasOpening os x = (q : ℕ) → x.begun ≡ Some q → Has (record { client = x.client; request = q; tid = x.tid }) os
+HasOpening os x = (q : RequestNo) → x.begun ≡ Some q → Has (record { client = x.client; request = q; tid = x.tid }) os
 
 abbrev pub HaveOpenings : List Opening → List Transaction → Type 0
 HaveOpenings os [] = Unit {0}

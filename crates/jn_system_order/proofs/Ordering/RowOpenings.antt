@@ -1,5 +1,7 @@
 -- No row but that of a Begin says that a transaction has begun.
 use Rattle.jn_system_order.proofs.Common.{◌≡◌, ℕ, ◌+◌, Bool, true, false, not, List, [], ◌∷◌, ◌++◌, Option, Some, None, refl, sym, ◌∙◌, ap, subst, ◌&&◌, if◌then◌else◌, nat_lt, nat_eq, length, slice_get, ClientNo, Tid, WorkId, Tickets, Cause, Server, Op, Answer, tid_eq, Files, change, answer_to, list_change, Intention, Message, Vote, Work, Phase, Active, Broken, Stored, ActiveWork, Transaction, Stage, Open, Voting, Committed, Aborted, Ballot, Commitment, StableState, FlagState, Change, is_going, RowOutcome, Sent, WorkerTable, WorkStorage, Wanted, work_at, work_of, open_row, wants_of, is_fit, refusal_of, granted_row, repeated, op_phase, op_row, conflict, commit_wants, vote_of, shortage, need_in, prepared_row, prepare_phase, prepare_row, commit_phase, work_commit_row, drop_phase, drop_row, worker_row, going_work, intentions_of, carried_row, going_row, worker_step, worker_again, CoordinatorTable, with_stage, without, all_in, is_work, besides, drops, commits, prepares, commit_row, abort_row, forget_row, end_promised, end_stage, end_row, abort_stage, abort_request, told_stage, inquire_row, counted_vote, vote_stage, vote_row, done_stage, done_row, thanks_stage, thanks_row, with_work, told_again, coordinator_again, restored_transaction, restored_transactions, committed_to, aborted_to, Closes, Empty, Stays, Goes, Waits, Forgets}
+use Rattle.jn_base.specs.declared.names.OperationNo.{OperationNo}
+use Rattle.jn_base.specs.declared.names.RequestNo.{RequestNo}
 use Rattle.jn_msgs.specs.declared.message.Message.TheVariants as messages
 use Rattle.jn_msgs.specs.declared.message.Vote.TheVariants as votes
 use Rattle.jn_system_order.proofs.Ordering.Openings.{Opening, opening_in, openings, openings-more, HaveOpenings}
@@ -13,26 +15,26 @@ either : (b : Bool) (p q : RowOutcome WorkerTable) → OpensNone p → OpensNone
 either true p q h l = h
 either false p q h l = l
 
-open-none : (t : WorkerTable) (k : Tickets) (c : ClientNo) (request : ℕ) (T : Tid) (o : Option Work) → OpensNone (open_row t k c request T o)
+open-none : (t : WorkerTable) (k : Tickets) (c : ClientNo) (request : RequestNo) (T : Tid) (o : Option Work) → OpensNone (open_row t k c request T o)
 open-none t k c request T (Some w) = refl
 open-none t k c request T None = either (nat_lt (length t) 64) _ _ refl refl
 
-granted-none : (t : WorkerTable) (k : Tickets) (c : ClientNo) (request : ℕ) (w : Work) (a : ActiveWork) (op : Op) (answer : Answer) (wants : List Wanted) (o : Option Answer) → OpensNone (granted_row t k c request w a op answer wants o)
+granted-none : (t : WorkerTable) (k : Tickets) (c : ClientNo) (request : RequestNo) (w : Work) (a : ActiveWork) (op : Op) (answer : Answer) (wants : List Wanted) (o : Option Answer) → OpensNone (granted_row t k c request w a op answer wants o)
 granted-none t k c request w a op answer wants (Some refusal) = refl
 granted-none t k c request w a op answer wants None = refl
 
-repeated-none : (t : WorkerTable) (k : Tickets) (c : ClientNo) (request : ℕ) (o : Option Answer) → OpensNone (repeated t k c request o)
+repeated-none : (t : WorkerTable) (k : Tickets) (c : ClientNo) (request : RequestNo) (o : Option Answer) → OpensNone (repeated t k c request o)
 repeated-none t k c request (Some answer) = refl
 repeated-none t k c request None = refl
 
-op-none : (t : WorkerTable) (files : Files) (k : Tickets) (c : ClientNo) (request : ℕ) (w : Work) (number : ℕ) (op : Op) (p : Phase) → OpensNone (op_phase t files k c request w number op p)
+op-none : (t : WorkerTable) (files : Files) (k : Tickets) (c : ClientNo) (request : RequestNo) (w : Work) (number : OperationNo) (op : Op) (p : Phase) → OpensNone (op_phase t files k c request w number op p)
 op-none t files k c request w number op (Active a) = let answer = answer_to op (change (list_change a.list) files) in
-    either (nat_eq number (a.last + 1)) _ _ (granted-none t k c request w a op answer (wants_of op (is_fit answer)) (refusal_of t w.name a op answer (wants_of op (is_fit answer))))
-    (either (nat_eq number a.last) _ _ (repeated-none t k c request a.kept) refl)
+    either (nat_eq number.0 (a.last + 1)) _ _ (granted-none t k c request w a op answer (wants_of op (is_fit answer)) (refusal_of t w.name a op answer (wants_of op (is_fit answer))))
+    (either (nat_eq number.0 a.last) _ _ (repeated-none t k c request a.kept) refl)
 op-none t files k c request w number op (Broken u by) = refl
 op-none t files k c request w number op (Stored p) = refl
 
-ops-none : (t : WorkerTable) (files : Files) (k : Tickets) (c : ClientNo) (request : ℕ) (W : WorkId) (number : ℕ) (op : Op) (o : Option Work) → OpensNone (op_row t files k c request W number op o)
+ops-none : (t : WorkerTable) (files : Files) (k : Tickets) (c : ClientNo) (request : RequestNo) (W : WorkId) (number : OperationNo) (op : Op) (o : Option Work) → OpensNone (op_row t files k c request W number op o)
 ops-none t files k c request W number op (Some w) = op-none t files k c request w number op w.phase
 ops-none t files k c request W number op None = refl
 
@@ -161,23 +163,23 @@ module _ (t : CoordinatorTable) (k : Tickets) where
   abort-quiet : (x : Transaction) (cause : Cause) (works : List WorkId) → Quiet t (abort_row t k x cause works)
   abort-quiet x cause works = record { none = then-one (drops x.tid works) (aborted_to x cause) (drops-quiet x.tid works) refl; keeps = λ os h. staged-have os x.tid _ t.transactions h }
 
-  commit-quiet : (x : Transaction) (request : ℕ) (works : List WorkId) → Quiet t (commit_row t k x request works)
+  commit-quiet : (x : Transaction) (request : RequestNo) (works : List WorkId) → Quiet t (commit_row t k x request works)
   commit-quiet x request works = record { none = then-one (commits x.tid works) (committed_to x) (commits-quiet x.tid works) refl; keeps = λ os h. staged-have os x.tid _ t.transactions h }
 
   forget-quiet : (T : Tid) (d : Commitment) → Quiet t (forget_row t k T d)
   forget-quiet T d = quiet-either (d.thanked && all_in d.works d.done) _ _ (record { none = refl; keeps = λ os h. less-have os T t.transactions h }) (record { none = refl; keeps = λ os h. staged-have os T (Committed d) t.transactions h })
 
-  promised-quiet : (x : Transaction) (request : ℕ) (works : List WorkId) → Quiet t (end_promised t k x request works)
+  promised-quiet : (x : Transaction) (request : RequestNo) (works : List WorkId) → Quiet t (end_promised t k x request works)
   promised-quiet x request [] = commit-quiet x request []
   promised-quiet x request (W ∷ Ws) = record { none = prepares-quiet x.tid x.client (W ∷ Ws); keeps = λ os h. staged-have os x.tid _ t.transactions h }
 
-  end-quiet : (free : ℕ) (x : Transaction) (request : ℕ) (works : List WorkId) (stage : Stage) → Quiet t (end_stage t free k x request works stage)
+  end-quiet : (free : ℕ) (x : Transaction) (request : RequestNo) (works : List WorkId) (stage : Stage) → Quiet t (end_stage t free k x request works stage)
   end-quiet free x request works Open = quiet-either (nat_lt free 1) _ _ (abort-quiet x _ works) (promised-quiet x request works)
   end-quiet free x request works (Voting b) = same _ refl (prepares-quiet x.tid x.client (besides b.works b.ready))
   end-quiet free x request works (Committed d) = same _ refl refl
   end-quiet free x request works (Aborted cause) = same _ refl refl
 
-  pub ends-quiet : (free : ℕ) (c : ClientNo) (request : ℕ) (T : Tid) (works : List WorkId) (o : Option Transaction) → Quiet t (end_row t free k c request T works o)
+  pub ends-quiet : (free : ℕ) (c : ClientNo) (request : RequestNo) (T : Tid) (works : List WorkId) (o : Option Transaction) → Quiet t (end_row t free k c request T works o)
   ends-quiet free c request T works (Some x) = end-quiet free x request works x.stage
   ends-quiet free c request T works None = same _ refl (drops-quiet T works)
 
@@ -262,5 +264,5 @@ restored-have os x (T ∷ Ts) = by (x.flags T) (restored-have os x Ts)
     by None on = on
     by (Some flag) on = (λ q e. absurd (none q e), on)
       where
-        none : (q : ℕ) → None ≡ Some q → ⊥
+        none : (q : RequestNo) → None ≡ Some q → ⊥
         none q e = cc

@@ -53,7 +53,7 @@ module _ (files : AllFiles) (epochs : ServerNo → ℕ) (before : List Atom) (ma
       atoms = m.atoms;
       may = m.may;
       mirrors = m.mirrors;
-      facts = step-facts r w (run_atoms m.atoms w) mirrors facts inv m.ended (λ T b. grow m.atoms m.may (messages.Open (record { 0 = 0 }) 0 T) b) locks step;
+      facts = step-facts r w (run_atoms m.atoms w) mirrors facts inv m.ended (λ T b. grow m.atoms m.may (messages.Open (record { 0 = 0 }) (record { 0 = 0 }) T) b) locks step;
       ends = λ T e. inl (subst (λ f. f T ≡ true) m.ended e);
     }
 

@@ -1,5 +1,6 @@
 -- A server's steps keep what holds of the openings.
 use Rattle.jn_system_order.proofs.Common.{◌≡◌, ◌≢◌, ◌⊎◌, inl, inr, ℕ, Bool, true, false, List, [], ◌∷◌, ◌++◌, append-nil, Option, Some, None, is_some, ◌+◌, refl, sym, ◌∙◌, ap, subst, arith, ◌&&◌, if◌then◌else◌, nat_eq, nat_lt, length, nat_tests, ServerNo, ClientNo, Tid, WorkId, Client, server_eq, client_eq, client_tells, Message, Transaction, Open, StableState, Pick, stable, RowOutcome, WorkerTable, worker_step, worker_again, timeout_row, CoordinatorTable, transaction_at, coordinator_again, name_from, after_closing, changes_of_closing, seen_now, begin_again, begun_by, begin_row, is_begun, close_clients_row, Machine, Invariant, fresh_tid, World, Memory, at_server, Room, storage_of, of_worker, of_coordinator, of_step, server_row, server_again, of_timeout, restored, done, stopped, ends, at_memory, works, work, nudge, timeout, crash, narrow, stop_restart, restart, close_clients, ServerFact, UpFact, client-closes, outcomes-close, Mirrors}
+use Rattle.jn_base.specs.declared.names.RequestNo.{RequestNo}
 use Rattle.jn_msgs.specs.declared.message.Message.TheVariants as messages
 use Rattle.jn_system_order.proofs.Mirroring.GrantMoves.{found-here}
 use Rattle.jn_system_order.proofs.Ordering.Openings.{Opening, openings, openings-more, Has, has-first, has-second, has-either, HasOpening, HaveOpenings, more-openings}
@@ -13,7 +14,7 @@ pub record RowFacts (os : List Opening) (w : Machine) (row : RowOutcome Memory) 
   pub tables : HaveOpenings (os ++ openings row.messages) row.table.coordinator.transactions
 
 no-opening : Opening
-no-opening = record { client = record { 0 = 0 }; request = 0; tid = record { server = record { 0 = 0 }; epoch = 0; ticket = 0 } }
+no-opening = record { client = record { 0 = 0 }; request = record { 0 = 0 }; tid = record { server = record { 0 = 0 }; epoch = 0; ticket = 0 } }
 
 append-have : (os : List Opening) (xs ys : List Transaction) → HaveOpenings os xs → HaveOpenings os ys → HaveOpenings os (xs ++ ys)
 append-have os [] ys h k = k
@@ -43,7 +44,7 @@ module _ (os : List Opening) (w : Machine) (m : Memory) (have : HaveOpenings os 
   by-quiet row q = plain (of_coordinator m row) q.none (q.keeps os have)
 
   -- a Begin
-  module _ (c : ClientNo) (request : ℕ) (not-begun : w.begun (name_from m.tickets) ≡ false) where
+  module _ (c : ClientNo) (request : RequestNo) (not-begun : w.begun (name_from m.tickets) ≡ false) where
     abbrev ys : List Transaction
     ys = after_closing c m.coordinator.transactions
 
@@ -59,7 +60,7 @@ module _ (os : List Opening) (w : Machine) (m : Memory) (have : HaveOpenings os 
     its : HasOpening (os ++ opening c request (name_from m.tickets) ∷ []) new
     its q e = has-second _ os (opening c request (name_from m.tickets) ∷ []) (inl (ap (λ n. opening c n (name_from m.tickets)) (some e)))
       where
-        some : {q : ℕ} → Some request ≡ Some q → request ≡ q
+        some : {q : RequestNo} → Some request ≡ Some q → request ≡ q
         some f = cc
 
     begun-facts : RowFacts os w (of_coordinator m (record {
@@ -110,7 +111,7 @@ module _ (os : List Opening) (w : Machine) (m : Memory) (have : HaveOpenings os 
             at (inl p) = p.1
             at (inr p) = absurd (off (client_eq z.client c) e p.0)
 
-        same-request : (o : Option ℕ) → is_begun o request ≡ true → o ≡ Some request
+        same-request : (o : Option RequestNo) → is_begun o request ≡ true → o ≡ Some request
         same-request None e = absurd (no e)
           where
             no : false ≡ true → ⊥
@@ -135,8 +136,8 @@ module _ (os : List Opening) (w : Machine) (m : Memory) (have : HaveOpenings os 
         by a (inr e) = absurd e
 
     begin-facts : RowFacts os w (of_coordinator m (begin_row m.coordinator m.tickets c request))
-    begin-facts = either (nat_lt (m.coordinator.seen c) request) _ _ (either (nat_lt (length ys) 64) _ _ begun-facts (plain _ refl ys-have))
-        (either (nat_eq (m.coordinator.seen c) request) _ _ (again-facts (begun_by c request m.coordinator.transactions) refl) (plain _ refl have))
+    begin-facts = either (nat_lt (m.coordinator.seen c) request.0) _ _ (either (nat_lt (length ys) 64) _ _ begun-facts (plain _ refl ys-have))
+        (either (nat_eq (m.coordinator.seen c) request.0) _ _ (again-facts (begun_by c request m.coordinator.transactions) refl) (plain _ refl have))
 
   pub row-facts : (x : StableState) (room : Room) (message : Message) → w.begun (name_from m.tickets) ≡ false → RowFacts os w (server_row m x room message)
   row-facts x room (messages.Open c request T) fresh = by-worker _ (worker-none m.worker (storage_of m x room) m.tickets (messages.Open c request T))

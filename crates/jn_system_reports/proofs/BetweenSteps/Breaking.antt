@@ -1,5 +1,7 @@
 -- A broken work of a table was broken there before a step, or active; where a step names a commit, it breaks none.
 use Rattle.jn_system_reports.proofs.Common.{◌≡◌, ◌≢◌, ◌⊎◌, inl, inr, ℕ, ◌+◌, Bool, true, false, List, [], ◌∷◌, ◌++◌, append-nil, Option, Some, None, refl, sym, ◌∙◌, ap, subst, if◌then◌else◌, nat_eq, nat_lt, length, slice_get, ServerNo, ClientNo, Tid, WorkId, Tickets, Client, Server, Op, Answer, server_eq, work_eq, Files, change, answer_to, list_change, length_with, Read, Intention, Message, Vote, Work, Phase, Active, Broken, Stored, ActiveWork, Taken, Pick, is_going, stable, RowOutcome, Sent, ClientTable, Commanded, Refuses, Sends, command_row, take_row, WorkerTable, WorkStorage, Wanted, Held, gives_way, work_at, work_of, without, new_work, name_from, open_row, conflict, commit_wants, wants_of, is_fit, past_limit, units_for, with_units, refusal_of, counted, performed-work, granted_row, performed, repeated, op_phase, op_row, vote_of, shortage, need_in, prepared_row, prepare_phase, prepare_row, commit_phase, drop_phase, drop_row, worker_row, going_work, intentions_of, carried_row, going_row, worker_step, vulnerable, timed_out, timeout_row, coordinator_row, close_clients_row, are_rising, is_after, at-more, at-less, some_is, none_some, not_both, World, Memory, at_server, commits_in, Room, storage_of, is_for_worker, server_row, of_step, of_worker, of_coordinator, of_timeout, lines_of, restored, Step, NextEvent, Tell, Again, Deliver, Works, Nudge, Timeout, StopDelivery, StopWork, Crash, Narrow, StopRestart, Restart, Dismiss, CloseClients, after, commanded, took, ends, at_memory, handed, works, work, nudge, timeout, crash, narrow, stop_restart, restart, close_clients, LockFacts, ServerFact, UpFact, Regrants, Origin, Mine, Kept, Broke, granted, phase_changed, restored-is, of-found, no-lock, named_by, commits-more, lines-commit, worker-none, step-none}
+use Rattle.jn_base.specs.declared.names.OperationNo.{OperationNo}
+use Rattle.jn_base.specs.declared.names.RequestNo.{RequestNo}
 use Rattle.jn_msgs.specs.declared.message.Message.TheVariants as messages
 use Rattle.jn_msgs.specs.declared.message.Vote.TheVariants as votes
 use Rattle.jn_rows.specs.declared.client.Taken.TheVariants as taken
@@ -79,27 +81,27 @@ module _ (t : WorkerTable) (k : Tickets) (rising : are_rising t ≡ true) (befor
   less : (N : WorkId) → BreaksFrom t (without N t)
   less N = from-none t (without N t) (less-none N t rising)
 
-  opens : (c : ClientNo) (request : ℕ) (T : Tid) (o : Option Work) → Ok (open_row t k c request T o)
+  opens : (c : ClientNo) (request : RequestNo) (T : Tid) (o : Option Work) → Ok (open_row t k c request T o)
   opens c request T (Some w) = same-from t
   opens c request T None = either (nat_lt (length t) 64) _ _ (from-none t _ (more-none (name_from k) T t before)) (same-from t)
 
-  grants : (c : ClientNo) (request : ℕ) (w : Work) (a : ActiveWork) (op : Op) (answer : Answer) (wants : List Wanted) (o : Option Answer) → (o ≡ None → conflict w.name wants t ≡ None) → Ok (granted_row t k c request w a op answer wants o)
+  grants : (c : ClientNo) (request : RequestNo) (w : Work) (a : ActiveWork) (op : Op) (answer : Answer) (wants : List Wanted) (o : Option Answer) → (o ≡ None → conflict w.name wants t ≡ None) → Ok (granted_row t k c request w a op answer wants o)
   grants c request w a op answer wants (Some refusal) free = regrants-from w.name [] (Active (counted a refusal)) t _ (phase_changed w.name (Active (counted a refusal)) t) (λ v l b. never false refl b)
   grants c request w a op answer wants None free = regrants-from w.name wants (Active (performed-work a op answer wants)) t _ (granted w.tid w.name wants (Active (performed-work a op answer wants)) t (free refl)) (λ v l b. never false refl b)
 
-  repeats : (c : ClientNo) (request : ℕ) (o : Option Answer) → Ok (repeated t k c request o)
+  repeats : (c : ClientNo) (request : RequestNo) (o : Option Answer) → Ok (repeated t k c request o)
   repeats c request (Some answer) = same-from t
   repeats c request None = same-from t
 
-  performs : (c : ClientNo) (request : ℕ) (w : Work) (a : ActiveWork) (op : Op) (answer : Answer) → Ok (performed t k c request w a op answer)
+  performs : (c : ClientNo) (request : RequestNo) (w : Work) (a : ActiveWork) (op : Op) (answer : Answer) → Ok (performed t k c request w a op answer)
   performs c request w a op answer = let wants = wants_of op (is_fit answer) in grants c request w a op answer wants (refusal_of t w.name a op answer wants) (λ e. no-lock (past_limit (length (with_units (units_for Read wants) a.reads)) (if is_fit answer then length_with a.list op else length a.list)) (conflict w.name wants t) e)
 
-  op-phases : (files : Files) (c : ClientNo) (request : ℕ) (w : Work) (number : ℕ) (op : Op) (p : Phase) → Ok (op_phase t files k c request w number op p)
-  op-phases files c request w number op (Active a) = either (nat_eq number (a.last + 1)) _ _ (performs c request w a op (answer_to op (change (list_change a.list) files))) (either (nat_eq number a.last) _ _ (repeats c request a.kept) (same-from t))
+  op-phases : (files : Files) (c : ClientNo) (request : RequestNo) (w : Work) (number : OperationNo) (op : Op) (p : Phase) → Ok (op_phase t files k c request w number op p)
+  op-phases files c request w number op (Active a) = either (nat_eq number.0 (a.last + 1)) _ _ (performs c request w a op (answer_to op (change (list_change a.list) files))) (either (nat_eq number.0 a.last) _ _ (repeats c request a.kept) (same-from t))
   op-phases files c request w number op (Broken u by) = same-from t
   op-phases files c request w number op (Stored p) = same-from t
 
-  ops : (files : Files) (c : ClientNo) (request : ℕ) (W : WorkId) (number : ℕ) (op : Op) (o : Option Work) → Ok (op_row t files k c request W number op o)
+  ops : (files : Files) (c : ClientNo) (request : RequestNo) (W : WorkId) (number : OperationNo) (op : Op) (o : Option Work) → Ok (op_row t files k c request W number op o)
   ops files c request W number op (Some w) = op-phases files c request w number op w.phase
   ops files c request W number op None = same-from t
 

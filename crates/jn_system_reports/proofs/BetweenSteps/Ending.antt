@@ -1,5 +1,6 @@
 -- Each step of the whole system as steps of the machine that end a transaction only where its End is sent.
 use Rattle.jn_system_reports.proofs.Common.{◌≡◌, ◌≢◌, ◌⊎◌, inl, inr, ℕ, zero, suc, true, List, [], ◌∷◌, ◌++◌, append-nil, length, Option, Some, None, refl, sym, subst, slice_get, ServerNo, ClientNo, Tid, Client, Server, Begin, Open, Do, End, Abort, AllFiles, Message, Refusal, Outstanding, Taken, Pick, stable, RowOutcome, Sent, close_clients_row, ClientTable, Commanded, Refuses, Sends, names_of, if_idle, if_transaction, sends, command_row, take_row, again_row, Machine, Invariant, Says, Atom, Ends, run_atoms, opening_world, MayRun, run_grows, says_still, run_kept, opening_kept, at_tid_cases, World, Memory, Room, server_row, server_step, server_again, of_coordinator, Step, NextEvent, Tell, Again, Deliver, Works, Nudge, Timeout, StopDelivery, StopWork, Crash, Narrow, StopRestart, Restart, Dismiss, CloseClients, IsStep, after, commanded, sent_now, took, ends, at_memory, handed, works, work, nudge, timeout, crash, narrow, stop_restart, restart, close_clients, LockFacts, Mirrors, MovesTo, is_shown, quiet-line, stays-with, step-moves, Facts, step-facts, still-facts, parts_of, end-may, end-mirrors, end-facts, WasEnded}
+use Rattle.jn_base.specs.Names.{request_of}
 use Rattle.jn_msgs.specs.declared.message.Message.TheVariants as messages
 use Rattle.jn_report.specs.declared.line.Refusal.TheVariants as refusals
 use Rattle.jn_report.specs.declared.line.Text.TheVariants as says
@@ -110,7 +111,7 @@ module _ (files : AllFiles) (epochs : ServerNo → ℕ) (before : List Atom) (ma
   grow atoms further message h = says_still w (run_atoms atoms w) (run_grows atoms w further inv) message h
 
   begun-on : (atoms : List Atom) → MayRun atoms w → (T : Tid) → w.begun T ≡ true → (run_atoms atoms w).begun T ≡ true
-  begun-on atoms further T h = grow atoms further (messages.Open (record { 0 = 0 }) 0 T) h
+  begun-on atoms further T h = grow atoms further (messages.Open (record { 0 = 0 }) (record { 0 = 0 }) T) h
 
   ends-none : (q : World) (m : MovesTo q w) → Facts q (run_atoms m.atoms w) → NextEnds q w
   ends-none q m f = record { atoms = m.atoms; may = m.may; mirrors = m.mirrors; facts = f; ends = λ T e. inl (subst (λ g. g T ≡ true) m.ended e) }
@@ -123,7 +124,7 @@ module _ (files : AllFiles) (epochs : ServerNo → ℕ) (before : List Atom) (ma
       ends-none _ m (still-facts r w (run_atoms m.atoms w) mirrors facts inv m.ended (begun-on m.atoms m.may) _ refl refl facts.tables)
 
   ended : (c : ClientNo) (o : Option Outstanding) (x : Option Tid) → (r.clients c).outstanding ≡ o → (r.clients c).transaction ≡ x
-      → NextEnds (commanded c (if_idle o (if_transaction x (λ T. sends (r.clients c) r.event End (Server T.server) (messages.End (r.clients c).client (r.clients c).next T (names_of (r.clients c).works))))) r) w
+      → NextEnds (commanded c (if_idle o (if_transaction x (λ T. sends (r.clients c) r.event End (Server T.server) (messages.End (r.clients c).client (request_of (r.clients c).next) T (names_of (r.clients c).works))))) r) w
   ended c (Some o) x e f = refused c refusals.ClientBusy
   ended c None None e f = refused c refusals.NoTransaction
   ended c None (Some T) e f = record {
@@ -135,10 +136,10 @@ module _ (files : AllFiles) (epochs : ServerNo → ℕ) (before : List Atom) (ma
   }
     where
       q : World
-      q = commanded c (sends (r.clients c) r.event End (Server T.server) (messages.End (r.clients c).client (r.clients c).next T (names_of (r.clients c).works))) r
+      q = commanded c (sends (r.clients c) r.event End (Server T.server) (messages.End (r.clients c).client (request_of (r.clients c).next) T (names_of (r.clients c).works))) r
 
       now : WasEnded q T
-      now = record { client = (r.clients c).client; request = (r.clients c).next; works = names_of (r.clients c).works; sent = record { to = Server T.server; number = length r.sent; is = get-last r.sent _ } }
+      now = record { client = (r.clients c).client; request = request_of (r.clients c).next; works = names_of (r.clients c).works; sent = record { to = Server T.server; number = length r.sent; is = get-last r.sent _ } }
 
       by : (U : Tid) → ((T ≡ U) × (true ≡ true)) ⊎ ((T ≢ U) × (w.ended U ≡ true)) → (w.ended U ≡ true) ⊎ WasEnded q U
       by U (inl p) = inr (subst (λ (z : Tid). WasEnded q z) p.0 now)

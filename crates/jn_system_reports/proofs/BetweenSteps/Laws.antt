@@ -1,5 +1,6 @@
 -- The laws that are the machine's, in the words of the whole system.
 use Rattle.jn_system_reports.proofs.Common.{◌≡◌, ◌⊎◌, inl, inr, ◌≤◌, ◌<◌, ℕ, Bool, true, false, List, [], Option, Some, None, is_some, refl, sym, ◌∙◌, ap, subst, ServerNo, ClientNo, LockUnit, Tid, WorkId, AllFiles, Intention, Message, ActiveWork, StableState, Pick, OpenWork, is_work, Sent, Machine, Working, HasRead, Invariant, run_atoms, opening_world, IsGiven, Says, not_both, some_is, false_unless, clash, run_told, opening_told, IsTold, opening_kept, World, Memory, has_line, ServerFact, UpFact, found-open, IsTrue, IsCurrent, active_in, working_in, working_of, holds-of, Opening, opening_in, openings, Has, all-have-theirs, WasSent, HasCommitLine, WasEnded, IsFlagged, IsPrepared, IsCarriedOut, DoWorksStay, IsActive, AreAsPrepared, AreReadsKept}
+use Rattle.jn_base.specs.declared.names.RequestNo.{RequestNo}
 use Rattle.jn_msgs.specs.declared.message.Message.TheVariants as messages
 use Rattle.jn_msgs.specs.declared.message.Outcome.TheVariants as outcomes
 use Rattle.jn_rows.specs.Client.{work_at}
@@ -35,7 +36,7 @@ module _ (files : AllFiles) (epochs : ServerNo → ℕ) (r : World) (h : Standin
 
   -- ---- names
 
-  has : (c : ClientNo) (n : ℕ) (T : Tid) → WasSent r (messages.Begun c n (Some T)) → Has (opening c n T) (openings r.sent)
+  has : (c : ClientNo) (n : RequestNo) (T : Tid) → WasSent r (messages.Begun c n (Some T)) → Has (opening c n T) (openings r.sent)
   has c n T s = holds-of (λ (x : Sent). (a : Opening) → Has a (opening_in x) → Has a (openings r.sent)) r.sent s.number (s.to, messages.Begun c n (Some T)) (all-have-theirs r.sent) s.is (opening c n T) (inl refl)
 
   made : (s : ServerNo) (epoch ticket : ℕ) → ((c : Pick) → IsGiven (w.up s) (w.ticket s) (w.found s c).epoch epoch ticket) → WasMade r s epoch ticket

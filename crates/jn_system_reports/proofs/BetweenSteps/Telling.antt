@@ -1,5 +1,7 @@
 -- A step tells an answer of a transaction only to its client, which goes on in it, and only such a client sends an operation.
 use Rattle.jn_system_reports.proofs.Common.{◌≡◌, ◌≢◌, ◌⊎◌, inl, inr, ℕ, ◌+◌, Bool, true, false, List, [], ◌∷◌, ◌++◌, append-nil, Option, Some, None, refl, sym, ◌∙◌, ap, subst, arith, ◌&&◌, ◌||◌, if◌then◌else◌, nat_eq, nat_lt, slice_get, ServerNo, ClientNo, Tid, WorkId, Tickets, Client, Server, Op, Answer, Command, Begin, Open, Do, End, Abort, client_eq, client_tells, Files, change, answer_to, list_change, Event, event_at, performed_in, answered, answered_by, is_own, Message, Outcome, Refusal, Text, Work, Phase, Active, Broken, Stored, ActiveWork, OpenWork, Outstanding, Taken, Pick, stable, RowOutcome, Sent, ClientTable, Commanded, Refuses, Sends, if_server, if_idle, if_transaction, if_no_transaction, if_open, if_not_open, command_row, is_operation, is_end_or_abort, is_current, if_waits, idle, begun_row, opened_row, answer_line, outcome_row, take_row, sent_again, Machine, not_both, World, Memory, at_client, Room, lines_of, Step, NextEvent, Tell, Again, Deliver, Works, Nudge, Timeout, StopDelivery, StopWork, Crash, Narrow, StopRestart, Restart, Dismiss, CloseClients, after, commanded, sent_now, took, at_memory, handed, LockFacts, Mirrors, IsTrue, IsCurrent, found-open, IsThanks, Takes, takes, holds-of, Facts, is_closing, work_is, ops_in, owner_in}
+use Rattle.jn_base.specs.declared.names.OperationNo.{OperationNo}
+use Rattle.jn_base.specs.declared.names.RequestNo.{RequestNo}
 use Rattle.jn_base.specs.declared.op.Answer.TheVariants as answers
 use Rattle.jn_msgs.specs.declared.message.Message.TheVariants as messages
 use Rattle.jn_msgs.specs.declared.message.Outcome.TheVariants as outcomes
@@ -29,7 +31,7 @@ either : (b : Bool) (p q : RowOutcome worker.WorkerTable) → HaveNoOp p.message
 either true p q h l = h
 either false p q h l = l
 
-op-none : (t : worker.WorkerTable) (files : Files) (k : Tickets) (c : ClientNo) (request : ℕ) (W : WorkId) (number : ℕ) (op : Op) (o : Option Work) → HaveNoOp (worker.op_row t files k c request W number op o).messages
+op-none : (t : worker.WorkerTable) (files : Files) (k : Tickets) (c : ClientNo) (request : RequestNo) (W : WorkId) (number : OperationNo) (op : Op) (o : Option Work) → HaveNoOp (worker.op_row t files k c request W number op o).messages
 op-none t files k c request W number op None = (tt, tt)
 op-none t files k c request W number op (Some x) = by x.phase
   where
@@ -43,7 +45,7 @@ op-none t files k c request W number op (Some x) = by x.phase
 
     by : (p : Phase) → HaveNoOp (worker.op_phase t files k c request x number op p).messages
     by (Active a) = let answer = answer_to op (change (list_change a.list) files) in
-        either (nat_eq number (a.last + 1)) _ _ (granted a answer (worker.wants_of op (worker.is_fit answer)) (worker.refusal_of t x.name a op answer (worker.wants_of op (worker.is_fit answer)))) (either (nat_eq number a.last) _ _ (again a.kept) tt)
+        either (nat_eq number.0 (a.last + 1)) _ _ (granted a answer (worker.wants_of op (worker.is_fit answer)) (worker.refusal_of t x.name a op answer (worker.wants_of op (worker.is_fit answer)))) (either (nat_eq number.0 a.last) _ _ (again a.kept) tt)
     by (Broken u T) = (tt, tt)
     by (Stored p) = (tt, tt)
 
@@ -194,7 +196,7 @@ module _ (events : List Event) (r : World) (w : Machine) (mirrors : Mirrors r w)
 
   -- ---- servers
 
-  op-ends : (s : ServerNo) (k : ℕ) (room : Room) (stop : Option (Pick → ℕ)) (d : ClientNo) (request : ℕ) (W : WorkId) (number : ℕ) (op : Op) (o : Option Memory) → Ok (at_memory s k room stop (messages.Op d request W number op) o r)
+  op-ends : (s : ServerNo) (k : ℕ) (room : Room) (stop : Option (Pick → ℕ)) (d : ClientNo) (request : RequestNo) (W : WorkId) (number : OperationNo) (op : Op) (o : Option Memory) → Ok (at_memory s k room stop (messages.Op d request W number op) o r)
   op-ends s k room stop d request W number op None = of-quiet _ (lines-quiet r locks (says.Lost k ∷ []) (tt, tt))
   op-ends s k room None d request W number op (Some m) = let row = worker.op_row m.worker (stable (r.found s)).files m.tickets d request W number op (worker.work_at W m.worker) in record {
     ops = λ T. inl ((same-told r.lines (lines_of s (Some k) row.notes) (lines-dumb s (Some k) row.notes)).ops events T);

@@ -1,5 +1,7 @@
 -- A client's step: what it is told to do is its event, and what it takes was asked for by one.
 use Rattle.jn_system_reports.proofs.Common.{◌≡◌, ◌≢◌, ◌⊎◌, inl, inr, ◌<◌, ◌≤◌, ℕ, ◌+◌, Bool, true, false, List, [], ◌∷◌, ◌++◌, length, Option, Some, None, refl, sym, ◌∙◌, ap, subst, arith, ◌&&◌, ◌||◌, if◌then◌else◌, nat_eq, nat_lt, nat_tests, ServerNo, ClientNo, Tid, WorkId, Party, Client, Server, Answer, Command, Begin, Open, Do, End, Abort, server_eq, client_eq, tid_eq, work_eq, server_tells, client_tells, tid_tells, work_tells, Message, Outcome, Event, Text, Line, OpenWork, Outstanding, Taken, Sent, is_work, ClientTable, Commanded, Refuses, Sends, with_operation, names_of, if_server, if_idle, if_transaction, if_no_transaction, if_open, if_not_open, command_row, is_begin, is_tid, is_current, if_waits, idle, over, begun_row, opened_row, answer_line, decided_row, outcome_row, take_row, Machine, not_both, World, at_client, sent_now, Mirrors, openings, openings-more, Has, has-first, Facts, says, last_begun, begins, AreWithin, begun_then-append, at_event}
+use Rattle.jn_base.specs.declared.names.RequestNo.{RequestNo}
+use Rattle.jn_base.specs.Names.{request_eq, request_of}
 use Rattle.jn_base.specs.declared.op.Answer.TheVariants as answers
 use Rattle.jn_msgs.specs.declared.message.Message.TheVariants as messages
 use Rattle.jn_msgs.specs.declared.message.Outcome.TheVariants as outcomes
@@ -85,14 +87,14 @@ module _ (es es' : List Event) (on : (j : ℕ) (e : Event) → Stands 1 es j e �
           by (inl p) = subst (λ (b : Bool). P (if b then u else r.clients d)) (sym p.0) (own p.1)
           by (inr p) = subst (λ (b : Bool). P (if b then u else r.clients d)) (sym p.0) (other p.1)
 
-      up : (q n m : ℕ) → q < n → n ≤ m → q < m
-      up q n m k l = omega (arith, k, l)
+      up : (k n m : ℕ) → k < n → n ≤ m → k < m
+      up j n m k l = omega (arith, k, l)
 
-      next : (d : ClientNo) (q : ℕ) → q < (r.clients d).next → q < (at_client r.clients c u d).next
-      next d q k = at-own (λ (x : ClientTable). q < x.next) d (λ e. up q (r.clients c).next u.next (subst (λ (z : ClientNo). q < (r.clients z).next) (sym e) k) goes.next) (λ e. k)
+      next : (d : ClientNo) (q : RequestNo) → q.0 < (r.clients d).next → q.0 < (at_client r.clients c u d).next
+      next d q k = at-own (λ (x : ClientTable). q.0 < x.next) d (λ e. up q.0 (r.clients c).next u.next (subst (λ (z : ClientNo). q.0 < (r.clients z).next) (sym e) k) goes.next) (λ e. k)
 
-      waits : (d : ClientNo) (o : Outstanding) → (at_client r.clients c u d).outstanding ≡ Some o → ((r.clients d).outstanding ≡ Some o) ⊎ ((r.clients d).next ≤ o.request)
-      waits d o = at-own (λ (x : ClientTable). x.outstanding ≡ Some o → ((r.clients d).outstanding ≡ Some o) ⊎ ((r.clients d).next ≤ o.request)) d (λ e k. subst (λ (z : ClientNo). ((r.clients z).outstanding ≡ Some o) ⊎ ((r.clients z).next ≤ o.request)) e (goes.fresh o k)) (λ e k. inl k)
+      waits : (d : ClientNo) (o : Outstanding) → (at_client r.clients c u d).outstanding ≡ Some o → ((r.clients d).outstanding ≡ Some o) ⊎ ((r.clients d).next ≤ o.request.0)
+      waits d o = at-own (λ (x : ClientTable). x.outstanding ≡ Some o → ((r.clients d).outstanding ≡ Some o) ⊎ ((r.clients d).next ≤ o.request.0)) d (λ e k. subst (λ (z : ClientNo). ((r.clients z).outstanding ≡ Some o) ⊎ ((r.clients z).next ≤ o.request.0)) e (goes.fresh o k)) (λ e k. inl k)
 
       each : (d : ClientNo) → ClientFact es' (ls ++ at_event (1 + length es) new) (r.sent ++ more) r.memory d (at_client r.clients c u d)
       each d = at-own (λ (x : ClientTable). ClientFact es' (ls ++ at_event (1 + length es) new) (r.sent ++ more) r.memory d x) d (λ e. subst (λ (z : ClientNo). ClientFact es' (ls ++ at_event (1 + length es) new) (r.sent ++ more) r.memory z u) e h.own) (λ e. kept new more d (h.others d e))
@@ -159,7 +161,7 @@ module _ (es es' : List Event) (on : (j : ℕ) (e : Event) → Stands 1 es j e �
     second-of : (a b : Bool) → (a && b) ≡ true → b ≡ true
     second-of a b h = grind arith
 
-    same-number : (a b : ℕ) → nat_eq a b ≡ true → a ≡ b
+    same-number : (a b : RequestNo) → request_eq a b ≡ true → a ≡ b
     same-number a b e = grind (arith, nat_tests)
 
     name : t.client ≡ c
@@ -239,7 +241,7 @@ module _ (es es' : List Event) (on : (j : ℕ) (e : Event) → Stands 1 es j e �
         other d ne now (inl p) = absurd (ne (sym (p.1 ∙ name)))
         other d ne now (inr p) = ap (λ (b : Bool). if b then Some T else now) p.0
 
-    begun-take : (x : Outstanding) (q : ℕ) (o : Option Tid) → t.outstanding ≡ Some x → x.request ≡ q → is_begin x.command ≡ true → MessageFact es ls (openings r.sent) r.clients r.memory w (Client c, messages.Begun c q o) → TakesCause k (begun_row t x.event o)
+    begun-take : (x : Outstanding) (q : RequestNo) (o : Option Tid) → t.outstanding ≡ Some x → x.request ≡ q → is_begin x.command ≡ true → MessageFact es ls (openings r.sent) r.clients r.memory w (Client c, messages.Begun c q o) → TakesCause k (begun_row t x.event o)
     begun-take x q None out e b h = idles _ (λ d n now. refl)
     begun-take x q (Some T) out e b h = begins-it x T out b (h.1 x out e)
 
@@ -287,10 +289,10 @@ module _ (es es' : List Event) (on : (j : ℕ) (e : Event) → Stands 1 es j e �
 
     pub take-keeps : (message : Message) → In (Client c, message) r.sent → MessageFact es ls (openings r.sent) r.clients r.memory w (Client c, message) → TakesCause k (take_row t message)
     take-keeps (messages.Begun d q o) i h = waits-take t.outstanding _ _ refl (λ x e f. let rest = second-of (client_eq d t.client) _ f in
-        begun-take x q o e (same-number x.request q (first-of (nat_eq x.request q) (is_begin x.command) rest)) (second-of (nat_eq x.request q) (is_begin x.command) rest)
+        begun-take x q o e (same-number x.request q (first-of (request_eq x.request q) (is_begin x.command) rest)) (second-of (request_eq x.request q) (is_begin x.command) rest)
         (subst (λ (z : ClientNo). MessageFact es ls (openings r.sent) r.clients r.memory w (Client c, messages.Begun z q o)) (same-client d (first-of (client_eq d t.client) _ f)) h))
     take-keeps (messages.Opened d q T o) i h = waits-take t.outstanding _ _ refl (λ x e f. opened-take x.event T o (λ W g. record { to = Client c; client = d; request = q; is = subst (λ (z : Option WorkId). In (Client c, messages.Opened d q T z) r.sent) g i })
-        (its T (first-of (is_current t T) _ (second-of (nat_eq x.request q) _ (second-of (client_eq d t.client) _ f)))))
+        (its T (first-of (is_current t T) _ (second-of (request_eq x.request q) _ (second-of (client_eq d t.client) _ f)))))
     take-keeps (messages.Answer d q answer) i h = waits-take t.outstanding _ _ refl (λ x e f. idles _ (answer-mutes x.event answer))
     take-keeps (messages.Outcome d T outcome) i h = either (client_eq d t.client) _ _ (λ e. outcome-take T outcome) ignores
     take-keeps _ i h = ignores
@@ -303,7 +305,7 @@ module _ (es es' : List Event) (on : (j : ℕ) (e : Event) → Stands 1 es j e �
     CommandCauses (Sends u to message) = ClientKeeps u [] ((to, message) ∷ [])
 
     abbrev sent-table : Command → List OpenWork → Party → Message → ClientTable
-    sent-table command works to message = record t { works = works; next = t.next + 1; outstanding = Some (record { event = r.event; request = t.next; command = command; to = to; message = message }) }
+    sent-table command works to message = record t { works = works; next = t.next + 1; outstanding = Some (record { event = r.event; request = request_of t.next; command = command; to = to; message = message }) }
 
     abbrev Said : ClientTable → Party → Message → Type 0
     Said u to message = MessageFact es' (ls ++ []) (openings (r.sent ++ (to, message) ∷ [])) (at_client r.clients c u) r.memory v (to, message)
@@ -331,9 +333,9 @@ module _ (es es' : List Event) (on : (j : ℕ) (e : Event) → Stands 1 es j e �
     below : (n : ℕ) → n < n + 1
     below n = omega arith
 
-    begin-said : (command : Command) (works : List OpenWork) (to : Party) → Said (sent-table command works to (messages.Begin t.client t.next)) to (messages.Begin t.client t.next)
-    begin-said command works to = let u = sent-table command works to (messages.Begin t.client t.next) in
-        subst (λ (z : ClientTable). (t.next < z.next) × ((o : Outstanding) → z.outstanding ≡ Some o → o.request ≡ t.next → o.to ≡ to)) (sym (own-table u)) (below t.next, λ o e f. ap (λ (z : Outstanding). z.to) (sym (some-out _ o e)))
+    begin-said : (command : Command) (works : List OpenWork) (to : Party) → Said (sent-table command works to (messages.Begin t.client (request_of t.next))) to (messages.Begin t.client (request_of t.next))
+    begin-said command works to = let u = sent-table command works to (messages.Begin t.client (request_of t.next)) in
+        subst (λ (z : ClientTable). (t.next < z.next) × ((o : Outstanding) → z.outstanding ≡ Some o → o.request ≡ request_of t.next → o.to ≡ to)) (sym (own-table u)) (below t.next, λ o e f. ap (λ (z : Outstanding). z.to) (sym (some-out _ o e)))
 
     -- the client comes to the server by this event
     comes : (s : ServerNo) (T : Tid) (x : Sent) → Stands 1 es' r.event (events.Command c (Open s)) → t.transaction ≡ Some T → CameBy es' (ls ++ []) (openings (r.sent ++ x ∷ [])) c T s
@@ -390,9 +392,9 @@ module _ (es es' : List Event) (on : (j : ℕ) (e : Event) → Stands 1 es j e �
         no : (q : ServerNo) → Open s ≡ Begin q → ⊥
         no q e = cc
 
-        opens : (T : Tid) → t.transaction ≡ Some T → (q : ServerNo) → Server s ≡ Server q → CameBy es' (ls ++ []) (openings (r.sent ++ (Server s, messages.Open t.client t.next T) ∷ [])) t.client T q
-        opens T e q f = subst (λ (z : ServerNo). CameBy es' (ls ++ []) (openings (r.sent ++ (Server s, messages.Open t.client t.next T) ∷ [])) t.client T z) (same-server s q f)
-            (subst (λ (d : ClientNo). CameBy es' (ls ++ []) (openings (r.sent ++ (Server s, messages.Open t.client t.next T) ∷ [])) d T s) (sym (facts.clients c).name) (comes s T (Server s, messages.Open t.client t.next T) stands e))
+        opens : (T : Tid) → t.transaction ≡ Some T → (q : ServerNo) → Server s ≡ Server q → CameBy es' (ls ++ []) (openings (r.sent ++ (Server s, messages.Open t.client (request_of t.next) T) ∷ [])) t.client T q
+        opens T e q f = subst (λ (z : ServerNo). CameBy es' (ls ++ []) (openings (r.sent ++ (Server s, messages.Open t.client (request_of t.next) T) ∷ [])) t.client T z) (same-server s q f)
+            (subst (λ (d : ClientNo). CameBy es' (ls ++ []) (openings (r.sent ++ (Server s, messages.Open t.client (request_of t.next) T) ∷ [])) d T s) (sym (facts.clients c).name) (comes s T (Server s, messages.Open t.client (request_of t.next) T) stands e))
     command-keeps (Do s op) stands = at-server s _ (where-idle t.outstanding _ (with-one t.transaction _ refl (λ T e. where-open (work_at s t.works) _ (λ x. sends-it (Do s op) stands (with_operation s t.works) (Server s) _ (same-names s t.works) (λ q f. absurd (no q f)) tt))))
       where
         no : (q : ServerNo) → Do s op ≡ Begin q → ⊥

@@ -1,5 +1,6 @@
 -- A coordinator's row: a transaction that isn't past stays in its table, and what is dropped has its outcome.
 use Rattle.jn_system_reports.proofs.Common.{◌≡◌, ◌≢◌, ◌⊎◌, inl, inr, ℕ, ◌+◌, Bool, true, false, List, [], ◌∷◌, ◌++◌, Option, Some, None, is_some, refl, sym, ap, subst, arith, ◌&&◌, not, if◌then◌else◌, nat_lt, nat_eq, length, ServerNo, ClientNo, Tid, WorkId, Tickets, Cause, Requested, BrokenAt, LostAt, FullAt, Resource, client_eq, tid_eq, client_tells, tid_tells, Message, Note, Vote, Outstanding, Transaction, Stage, Ballot, Commitment, StableState, Change, DropFlag, RowOutcome, Sent, ClientTable, CoordinatorTable, transaction_at, with_stage, with_work, is_work, all_in, besides, drops, commits, prepares, aborted_to, committed_to, commit_row, abort_row, forget_row, begin_new, begin_again, closed, after_closing, changes_of_closing, seen_now, end_promised, end_stage, end_row, abort_stage, abort_request, told_stage, inquire_row, counted_vote, vote_stage, vote_row, done_stage, done_row, thanks_stage, thanks_row, coordinator_row, Machine, IsTrue, Opening, Has}
+use Rattle.jn_base.specs.declared.names.RequestNo.{RequestNo}
 use Rattle.jn_base.specs.declared.names.Resource.TheVariants as resources
 use Rattle.jn_msgs.specs.declared.message.Message.TheVariants as messages
 use Rattle.jn_msgs.specs.declared.message.Vote.TheVariants as votes
@@ -27,7 +28,7 @@ there-first x xs = by (tid_tells x.tid x.tid)
     by (inr p) = absurd (p.1 refl)
 
 -- the transaction that a request began is in the table
-begun-there : (P : Transaction → Type 0) (c : ClientNo) (q : ℕ) (xs : List Transaction) (x : Transaction) → Each P xs → begun_by c q xs ≡ Some x → P x × IsThere x.tid xs
+begun-there : (P : Transaction → Type 0) (c : ClientNo) (q : RequestNo) (xs : List Transaction) (x : Transaction) → Each P xs → begun_by c q xs ≡ Some x → P x × IsThere x.tid xs
 begun-there P c q [] x h k = absurd (none k)
   where
     none : None ≡ Some x → ⊥
@@ -60,14 +61,14 @@ module _ (os : List Opening) (clients : ClientNo → ClientTable) (w v : Machine
 
   module _ (t : CoordinatorTable) (k : Tickets) (all-entries : Each (EntryFact os clients w Caused t.seen) t.transactions)
       (place : Each (λ (y : Transaction). y.tid.server ≡ k.server) t.transactions)
-      (last : (c : ClientNo) (o : Outstanding) → (clients c).outstanding ≡ Some o → (clients c).next ≡ o.request + 1)
+      (last : (c : ClientNo) (o : Outstanding) → (clients c).outstanding ≡ Some o → (clients c).next ≡ o.request.0 + 1)
       (committed : (T : Tid) (y : Transaction) (d : Commitment) → transaction_at T t.transactions ≡ Some y → y.stage ≡ Committed d → Spent v T)
       (aborted : (T : Tid) (y : Transaction) (cause : Cause) → transaction_at T t.transactions ≡ Some y → y.stage ≡ Aborted cause → Spent v T) where
     abbrev Entry : Transaction → Type 0
     Entry y = EntryFact os clients w Caused t.seen y
 
     -- what is told to have begun is in the table and was asked for, and what is dropped has its outcome
-    abbrev pub NewsFact : (ClientNo → ℕ → Type 0) → List Transaction → Sent → Type 0
+    abbrev pub NewsFact : (ClientNo → RequestNo → Type 0) → List Transaction → Sent → Type 0
     NewsFact Asks now (to, messages.Begun c q (Some T)) = IsThere T now × (T.server ≡ k.server) × Asks c q
     NewsFact Asks now (to, messages.Begun c q None) = Unit {0}
     NewsFact Asks now (to, messages.Outcome c T outcome) = Unit {0}
@@ -76,11 +77,11 @@ module _ (os : List Opening) (clients : ClientNo → ClientTable) (w v : Machine
     NewsFact Asks now (to, messages.Drop T W) = Spent v T
     NewsFact Asks now (to, message) = ⊥
 
-    pub record RowHolds (Asks : ClientNo → ℕ → Type 0) (row : RowOutcome CoordinatorTable) : Type 0 where
+    pub record RowHolds (Asks : ClientNo → RequestNo → Type 0) (row : RowOutcome CoordinatorTable) : Type 0 where
       pub held : (T : Tid) → NotPast T → IsThere T t.transactions → IsThere T row.table.transactions
       pub news : ((m : Sent) → In m row.messages → IsTrue v m) → Each (NewsFact Asks row.table.transactions) row.messages
 
-    module _ (Asks : ClientNo → ℕ → Type 0) where
+    module _ (Asks : ClientNo → RequestNo → Type 0) where
       abbrev Holds : RowOutcome CoordinatorTable → Type 0
       Holds row = RowHolds Asks row
 
@@ -113,7 +114,7 @@ module _ (os : List Opening) (clients : ClientNo → ClientTable) (w v : Machine
       aborts : (y : Transaction) (cause : Cause) (Ws : List WorkId) → Holds (abort_row t k y cause Ws)
       aborts y cause Ws = staged y.tid (Aborted cause) _ _ _ (λ h. each-append (NewsFact Asks _) (drops y.tid Ws) (aborted_to y cause ∷ []) (drops-new _ y.tid Ws (inr (h (aborted_to y cause) (in-second (aborted_to y cause) (drops y.tid Ws) (aborted_to y cause ∷ []) (inl refl))))) (tt, tt))
 
-      commits-it : (y : Transaction) (q : ℕ) (Ws : List WorkId) → Holds (commit_row t k y q Ws)
+      commits-it : (y : Transaction) (q : RequestNo) (Ws : List WorkId) → Holds (commit_row t k y q Ws)
       commits-it y q Ws = staged y.tid _ _ _ _ (λ h. each-append (NewsFact Asks _) (commits y.tid Ws) (committed_to y ∷ []) (commits-new _ y.tid Ws) (tt, tt))
 
       module _ (T : Tid) (y : Transaction) (found : transaction_at T t.transactions ≡ Some y) where
@@ -130,11 +131,11 @@ module _ (os : List Opening) (clients : ClientNo → ClientTable) (w v : Machine
             by true e = let p = past (first-of d.thanked (all_in d.works d.done) e) in leaves T _ p.0 p.1
             by false e = staged T (Committed d) [] [] [] (λ h. tt)
 
-        promised : (q : ℕ) (Ws : List WorkId) → Holds (end_promised t k y q Ws)
+        promised : (q : RequestNo) (Ws : List WorkId) → Holds (end_promised t k y q Ws)
         promised q [] = commits-it y q []
         promised q (W ∷ Ws) = staged y.tid _ _ _ _ (λ h. prepares-new _ y.tid y.client (W ∷ Ws))
 
-        ends : (free q : ℕ) (Ws : List WorkId) (stage : Stage) → Holds (end_stage t free k y q Ws stage)
+        ends : (free : ℕ) (q : RequestNo) (Ws : List WorkId) (stage : Stage) → Holds (end_stage t free k y q Ws stage)
         ends free q Ws Open = either (nat_lt free 1) _ _ (aborts y (FullAt k.server resources.Records free 1) Ws) (promised q Ws)
         ends free q Ws (Voting b) = stays _ _ (λ h. prepares-new _ y.tid y.client (besides b.works b.ready))
         ends free q Ws (Committed d) = stays _ _ (λ h. (tt, tt))
@@ -179,7 +180,7 @@ module _ (os : List Opening) (clients : ClientNo → ClientTable) (w v : Machine
 
       -- ---- Begin
 
-      module _ (c : ClientNo) (q : ℕ) (asks : Asks c q) (began : BeganBy os c (clients c) q) (later : nat_lt (t.seen c) q ≡ true) where
+      module _ (c : ClientNo) (q : RequestNo) (asks : Asks c q) (began : BeganBy os c (clients c) q) (later : nat_lt (t.seen c) q.0 ≡ true) where
         closing-holds : (U : Tid) → NotPast U → (xs : List Transaction) → Each Entry xs → IsThere U xs → IsThere U (after_closing c xs)
         closing-holds U past [] h l = l
         closing-holds U past (y ∷ ys) h l = by (tid_tells y.tid U) (client_tells y.client c) (closing-holds U past ys h.1)
@@ -202,7 +203,7 @@ module _ (os : List Opening) (clients : ClientNo → ClientTable) (w v : Machine
             })
             (record { held = λ T past l. closing-holds T past t.transactions all-entries l; news = λ h. (tt, tt) })
 
-      begins-again : (c : ClientNo) (q : ℕ) → Asks c q → (o : Option Transaction) → begun_by c q t.transactions ≡ o → Holds (begin_again t k c q o)
+      begins-again : (c : ClientNo) (q : RequestNo) → Asks c q → (o : Option Transaction) → begun_by c q t.transactions ≡ o → Holds (begin_again t k c q o)
       begins-again c q asks (Some y) e = let p = begun-there (λ (z : Transaction). z.tid.server ≡ k.server) c q t.transactions y place e in stays _ _ (λ h. ((p.1, p.0, asks), tt))
       begins-again c q asks None e = stays _ _ (λ h. tt)
 
@@ -216,7 +217,7 @@ module _ (os : List Opening) (clients : ClientNo → ClientTable) (w v : Machine
       abbrev pub IsKnown : Tid → Type 0
       IsKnown T = transaction_at T t.transactions ≡ None → Spent v T
 
-      ends-row : (free q : ℕ) (c : ClientNo) (T : Tid) (Ws : List WorkId) → IsKnown T → (o : Option Transaction) → transaction_at T t.transactions ≡ o → Holds (end_row t free k c q T Ws o)
+      ends-row : (free : ℕ) (q : RequestNo) (c : ClientNo) (T : Tid) (Ws : List WorkId) → IsKnown T → (o : Option Transaction) → transaction_at T t.transactions ≡ o → Holds (end_row t free k c q T Ws o)
       ends-row free q c T Ws known None e = stays _ _ (λ h. (tt, drops-new _ T Ws (known e)))
       ends-row free q c T Ws known (Some y) e = ends T y e free q Ws y.stage
 
@@ -251,7 +252,7 @@ module _ (os : List Opening) (clients : ClientNo → ClientTable) (w v : Machine
       Comes message = Unit {0}
 
       pub row-holds : (free : ℕ) (message : Message) → Comes message → Holds (coordinator_row t free k message)
-      row-holds free (messages.Begin c q) h = where-is (nat_lt (t.seen c) q) _ _ (λ l. begins-new c q h.0 h.1 l) (either (nat_eq (t.seen c) q) _ _ (begins-again c q h.0 (begun_by c q t.transactions) refl) (stays _ _ (λ h. tt)))
+      row-holds free (messages.Begin c q) h = where-is (nat_lt (t.seen c) q.0) _ _ (λ l. begins-new c q h.0 h.1 l) (either (nat_eq (t.seen c) q.0) _ _ (begins-again c q h.0 (begun_by c q t.transactions) refl) (stays _ _ (λ h. tt)))
       row-holds free (messages.End c q T Ws) h = ends-row free q c T Ws h (transaction_at T t.transactions) refl
       row-holds free (messages.Abort c q T Ws) h = aborts-row c T Ws h (transaction_at T t.transactions) refl
       row-holds free (messages.Vote T W v) h = votes-row T W v h (transaction_at T t.transactions) refl

@@ -1,5 +1,6 @@
 -- What each message and each client says of the events that gave it, and of a server that went down after them.
 use Rattle.jn_system_reports.proofs.Common.{◌≡◌, ◌≢◌, ◌⊎◌, inl, inr, ◌<◌, ◌≤◌, ℕ, ◌+◌, Bool, true, false, List, [], ◌∷◌, ◌++◌, length, Option, Some, None, refl, sym, ◌∙◌, ap, subst, arith, All, ◌||◌, list_any, ServerNo, ClientNo, Tid, WorkId, Cause, Party, Server, Event, Text, Line, Outstanding, Sent, is_work, ClientTable, names_of, Machine, IsWorkOf, Memory, IsTrue, all-have-theirs, Opening, opening_in, openings, openings-more, Has, has-first, Began, says, begun_then, last_begun, goes_down, begun_then-append, at_event}
+use Rattle.jn_base.specs.declared.names.RequestNo.{RequestNo}
 use Rattle.jn_base.specs.declared.op.Command.TheVariants as commands
 use Rattle.jn_msgs.specs.declared.message.Message.TheVariants as messages
 use Rattle.jn_schedule.specs.declared.Event.TheVariants as events
@@ -25,20 +26,20 @@ HasWork memory W = (m : Memory) × (memory W.server ≡ Some m) × IsLive W m.wo
 pub record CameBy (es : List Event) (ls : List Line) (os : List Opening) (c : ClientNo) (T : Tid) (s : ServerNo) : Type 0 where
   pub number : ℕ
   pub came : Came es ls c T s number
-  pub request : ℕ
+  pub request : RequestNo
   pub has : Has (opening c request T) os
 
 -- the work was told to be open
 pub record WasOpened (sent : List Sent) (T : Tid) (W : WorkId) : Type 0 where
   pub to : Party
   pub client : ClientNo
-  pub request : ℕ
+  pub request : RequestNo
   pub is : In (to, messages.Opened client request T (Some W)) sent
 
 -- an abort's cause, unless it is of another client's transaction
 pub record OfAnother (os : List Opening) (c : ClientNo) (T : Tid) : Type 0 where
   pub client : ClientNo
-  pub request : ℕ
+  pub request : RequestNo
   pub has : Has (opening client request T) os
   pub other : client ≢ c
 
@@ -57,9 +58,9 @@ pub record BegunFor (ls : List Line) (memory : ServerNo → Option Memory) (T : 
   pub stands : HasTransaction memory T ⊎ DownAfter ls T.server o.event
 
 abbrev pub MessageFact : List Event → List Line → List Opening → (ClientNo → ClientTable) → (ServerNo → Option Memory) → Machine → Sent → Type 0
-MessageFact es ls os clients memory w (to, messages.Begin c q) = (q < (clients c).next) × ((o : Outstanding) → (clients c).outstanding ≡ Some o → o.request ≡ q → o.to ≡ to)
+MessageFact es ls os clients memory w (to, messages.Begin c q) = (q.0 < (clients c).next) × ((o : Outstanding) → (clients c).outstanding ≡ Some o → o.request ≡ q → o.to ≡ to)
 MessageFact es ls os clients memory w (to, messages.Open c q T) = (s : ServerNo) → to ≡ Server s → CameBy es ls os c T s
-MessageFact es ls os clients memory w (to, messages.Begun c q (Some T)) = (q < (clients c).next) × ((o : Outstanding) → (clients c).outstanding ≡ Some o → o.request ≡ q → BegunFor ls memory T o)
+MessageFact es ls os clients memory w (to, messages.Begun c q (Some T)) = (q.0 < (clients c).next) × ((o : Outstanding) → (clients c).outstanding ≡ Some o → o.request ≡ q → BegunFor ls memory T o)
 MessageFact es ls os clients memory w (to, messages.Opened c q T (Some W)) = OpenedBy es ls os memory w c T W
 MessageFact es ls os clients memory w (to, messages.Drop T W) = Spent w T
 MessageFact es ls os clients memory w (to, message) = Unit {0}
@@ -129,27 +130,27 @@ module _ (es es' : List Event) (on : (j : ℕ) (e : Event) → Stands 1 es j e �
 
   module _ (sent more : List Sent) (clients clients' : ClientNo → ClientTable) (memory memory' : ServerNo → Option Memory) (lines : List Text) (w v : Machine) (facts : CauseFacts es ls sent clients memory lines w)
       (says : All (IsTrue w) sent) (unique : (a b : Opening) → Has a (openings sent) → Has b (openings sent) → a.tid ≡ b.tid → a ≡ b) (began : (c : ClientNo) (T : Tid) → (clients c).transaction ≡ Some T → Began (openings sent) c (clients c).next T)
-      (spent : (T : Tid) → Spent w T → Spent v T) (next : (c : ClientNo) (q : ℕ) → q < (clients c).next → q < (clients' c).next) (waits : (c : ClientNo) (o : Outstanding) → (clients' c).outstanding ≡ Some o → ((clients c).outstanding ≡ Some o) ⊎ ((clients c).next ≤ o.request))
+      (spent : (T : Tid) → Spent w T → Spent v T) (next : (c : ClientNo) (q : RequestNo) → q.0 < (clients c).next → q.0 < (clients' c).next) (waits : (c : ClientNo) (o : Outstanding) → (clients' c).outstanding ≡ Some o → ((clients c).outstanding ≡ Some o) ⊎ ((clients c).next ≤ o.request.0))
       (holds : (T : Tid) → ((c : ClientNo) → IsPast (openings sent) c (clients c) T → ⊥) → HasTransaction memory T → HasTransaction memory' T ⊎ GoesDown T.server)
       (has : (W : WorkId) → HasWork memory W → HasWork memory' W ⊎ (GoesDown W.server ⊎ Spent v (w.owner W))) where
     pub forth : (a : Opening) → Has a (openings sent) → Has a (openings (sent ++ more))
     forth a h = subst (λ l. Has a l) (sym (openings-more sent more)) (has-first a (openings sent) (openings more) h)
 
     -- a transaction is past for none but its own client
-    own-past : (c : ClientNo) (q : ℕ) (T : Tid) → Has (opening c q T) (openings sent) → (IsPast (openings sent) c (clients c) T → q ≡ q → ⊥) → (d : ClientNo) → IsPast (openings sent) d (clients d) T → ⊥
+    own-past : (c : ClientNo) (q : RequestNo) (T : Tid) → Has (opening c q T) (openings sent) → (IsPast (openings sent) c (clients c) T → q ≡ q → ⊥) → (d : ClientNo) → IsPast (openings sent) d (clients d) T → ⊥
     own-past c q T h not d p = not (subst (λ (z : ClientNo). IsPast (openings sent) z (clients z) T) (ap (λ (a : Opening). a.client) (unique (opening d p.request T) (opening c q T) p.has h refl)) p) refl
 
-    not-new : (c : ClientNo) (q : ℕ) (o : Outstanding) → q < (clients c).next → o.request ≡ q → ((clients c).outstanding ≡ Some o) ⊎ ((clients c).next ≤ o.request) → (clients c).outstanding ≡ Some o
+    not-new : (c : ClientNo) (q : RequestNo) (o : Outstanding) → q.0 < (clients c).next → o.request ≡ q → ((clients c).outstanding ≡ Some o) ⊎ ((clients c).next ≤ o.request.0) → (clients c).outstanding ≡ Some o
     not-new c q o l e (inl f) = f
     not-new c q o l e (inr k) = absurd (over q (clients c).next o.request l e k)
       where
-        over : (a b c : ℕ) → a < b → c ≡ a → b ≤ c → ⊥
-        over a b c l e k = omega (arith, l, e, k)
+        over : (a : RequestNo) (b : ℕ) (c : RequestNo) → a.0 < b → c ≡ a → b ≤ c.0 → ⊥
+        over a b c l e k = let same = ap (λ (z : RequestNo). z.0) e in omega (arith, l, same, k)
 
     pub came-by : (c : ClientNo) (T : Tid) (s : ServerNo) → CameBy es ls (openings sent) c T s → CameBy es' (ls ++ at_event (1 + length es) new) (openings (sent ++ more)) c T s
     came-by c T s h = record { number = h.number; came = came-on c T s h.number h.came; request = h.request; has = forth _ h.has }
 
-    begun-for : (c : ClientNo) (q : ℕ) (T : Tid) (o : Outstanding) → Has (opening c q T) (openings sent) → o.request ≡ q → (clients c).outstanding ≡ Some o → BegunFor ls memory T o → BegunFor (ls ++ at_event (1 + length es) new) memory' T o
+    begun-for : (c : ClientNo) (q : RequestNo) (T : Tid) (o : Outstanding) → Has (opening c q T) (openings sent) → o.request ≡ q → (clients c).outstanding ≡ Some o → BegunFor ls memory T o → BegunFor (ls ++ at_event (1 + length es) new) memory' T o
     begun-for c q T o opened e f h = record { to = h.to; stands = by h.stands }
       where
         below : o.event < 1 + length es

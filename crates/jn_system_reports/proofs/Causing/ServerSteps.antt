@@ -1,5 +1,6 @@
 -- A server's step: what it has it has after it, or went down, or knows the outcome of.
 use Rattle.jn_system_reports.proofs.Common.{◌≡◌, ◌≢◌, ◌⊎◌, inl, inr, ℕ, ◌+◌, Bool, true, false, List, [], ◌∷◌, ◌++◌, append-nil, Option, Some, None, is_some, refl, sym, ◌∙◌, ap, subst, arith, if◌then◌else◌, nat_lt, list_any, ServerNo, ClientNo, LockUnit, Tid, WorkId, Cause, LostAt, FullAt, Server, Resource, server_eq, client_eq, server_tells, client_tells, Message, Note, Event, Text, Line, Work, Phase, Broken, Transaction, Stage, Commitment, Outstanding, Pick, Prepared, StableState, stable, is_going, RowOutcome, Sent, WorkerTable, work_at, worker_row, worker_step, worker_again, timeout_row, CoordinatorTable, transaction_at, coordinator_row, coordinator_again, commits, besides, told_again, committed_to, close_clients_row, found-name, Machine, Unknown, Invariant, Knows, Atom, run_atoms, MayRun, Says, not_both, some_of, World, Memory, at_server, has_line, Room, storage_of, of_worker, of_coordinator, of_step, server_row, server_again, of_timeout, restored, line_of, lines_of, named_now, done, ends, at_memory, works, work, nudge, timeout, crash, narrow, stop_restart, restart, close_clients, IsIdle, LockFacts, UpFact, ServerFact, Mirrors, AreTransactions, IsTrue, IsAddressed, knowledge_of, knowledge_in, IsStage, same-server, still-says, knows, stage-is, stage-known, openings, Facts, begun_then, goes_down, breaks, says, at_event}
+use Rattle.jn_base.specs.declared.names.RequestNo.{RequestNo}
 use Rattle.jn_msgs.specs.declared.message.Message.TheVariants as messages
 use Rattle.jn_msgs.specs.declared.message.Note.TheVariants as notes
 use Rattle.jn_msgs.specs.declared.message.Vote.TheVariants as votes
@@ -226,8 +227,8 @@ module _ (es : List Event) (ls : List Line) (r : World) (w v : Machine) (past : 
 
     -- ---- a worker's row that is done
 
-    worker-done : (k : Option ℕ) (row : RowOutcome WorkerTable) (Asks : ClientNo → ℕ → Tid → Type 0) (Goes : WorkId → Type 0) → RowKeeps (openings r.sent) r.clients w Caused full s k r.lines m.worker m.tickets up.table.rising up.table.place (cause.broken s m is) Asks Goes row
-        → ((c : ClientNo) (q : ℕ) (T : Tid) → Asks c q T → In (Server s, messages.Open c q T) r.sent) → ((W : WorkId) → W.server ≡ s → Goes W → Spent v (w.owner W)) → ServerKeeps (done s k (of_worker m row) r)
+    worker-done : (k : Option ℕ) (row : RowOutcome WorkerTable) (Asks : ClientNo → RequestNo → Tid → Type 0) (Goes : WorkId → Type 0) → RowKeeps (openings r.sent) r.clients w Caused full s k r.lines m.worker m.tickets up.table.rising up.table.place (cause.broken s m is) Asks Goes row
+        → ((c : ClientNo) (q : RequestNo) (T : Tid) → Asks c q T → In (Server s, messages.Open c q T) r.sent) → ((W : WorkId) → W.server ≡ s → Goes W → Spent v (w.owner W)) → ServerKeeps (done s k (of_worker m row) r)
     worker-done k row Asks Goes h asked goes = record {
       new = lines_of s k row.notes;
       adds = refl;

@@ -1,5 +1,7 @@
 -- A worker's row: broken works have their lines, what it had it has, and its votes have causes.
 use Rattle.jn_system_reports.proofs.Common.{◌≡◌, ◌≢◌, ◌⊎◌, inl, inr, ℕ, ◌+◌, Bool, true, false, List, [], ◌∷◌, ◌++◌, Option, Some, None, is_some, refl, sym, ◌∙◌, ap, subst, arith, if◌then◌else◌, nat_eq, nat_lt, length, slice_get, list_any, ServerNo, ClientNo, LockUnit, Tid, WorkId, Tickets, Cause, FullAt, Op, Answer, Resource, work_eq, server_tells, tid_tells, work_tells, Files, change, answer_to, Intention, list_change, Message, Note, Vote, Text, Work, Phase, Active, Broken, Stored, ActiveWork, Change, Prepared, is_going, StableState, RowOutcome, Sent, WorkerTable, WorkStorage, Wanted, Held, work_at, work_of, with_phase, without, after_grant, breaks_at, broken_by, note_of, break_notes, name_from, new_work, open_row, wants_of, is_fit, refusal_of, granted_row, repeated, op_phase, op_row, conflict, commit_wants, shortage, vote_of, need_in, prepared_row, prepare_phase, prepare_row, commit_phase, drop_phase, drop_row, worker_row, going_work, going_row, carried_row, intentions_of, worker_step, vulnerable, timed_out, timeout_row, restored_work, restored_worker, ClientTable, are_rising, work_same, at-less, at-phase, in_phase, at-grant, once_granted, of-found, Machine, line_of, lines_of, Opening, unit_eq, breaks}
+use Rattle.jn_base.specs.declared.names.RequestNo.{RequestNo}
+use Rattle.jn_base.specs.declared.names.OperationNo.{OperationNo}
 use Rattle.jn_base.specs.declared.names.Resource.TheVariants as resources
 use Rattle.jn_records.specs.declared.net_list.Need.{Need}
 use Rattle.jn_msgs.specs.declared.message.Message.TheVariants as messages
@@ -94,7 +96,7 @@ live-less V W t rising h = by (work_tells W V)
 module _ (os : List Opening) (clients : ClientNo → ClientTable) (w : Machine) (Caused : ClientNo → Tid → Cause → Type 0) (full : (c : ClientNo) (T : Tid) (s : ServerNo) (n : Resource) (free need : ℕ) → nat_lt free need ≡ true → Caused c T (FullAt s n free need))
     (s : ServerNo) (n : Option ℕ) (lines : List Text) (t : WorkerTable) (k : Tickets) (rising : are_rising t ≡ true) (place : (W : WorkId) (x : Work) → work_at W t ≡ Some x → W.server ≡ k.server) (all : Each (WorkTold s lines) t) where
   -- a work that is told to be open is one of the table, and was asked for
-  abbrev pub OpensFact : (ClientNo → ℕ → Tid → Type 0) → WorkerTable → Sent → Type 0
+  abbrev pub OpensFact : (ClientNo → RequestNo → Tid → Type 0) → WorkerTable → Sent → Type 0
   OpensFact Asks now (to, messages.Opened c q T (Some W)) = IsLive W now × (W.server ≡ k.server) × Asks c q T
   OpensFact Asks now (to, messages.Opened c q T None) = Unit {0}
   OpensFact Asks now (to, messages.Answer c q answer) = Unit {0}
@@ -103,13 +105,13 @@ module _ (os : List Opening) (clients : ClientNo → ClientTable) (w : Machine) 
   OpensFact Asks now (to, messages.Inquire T W) = Unit {0}
   OpensFact Asks now (to, message) = ⊥
 
-  pub record RowKeeps (Asks : ClientNo → ℕ → Tid → Type 0) (Goes : WorkId → Type 0) (row : RowOutcome WorkerTable) : Type 0 where
+  pub record RowKeeps (Asks : ClientNo → RequestNo → Tid → Type 0) (Goes : WorkId → Type 0) (row : RowOutcome WorkerTable) : Type 0 where
     pub told : Each (WorkTold s (lines ++ lines_of s n row.notes)) row.table
     pub live : (W : WorkId) → IsLive W t → IsLive W row.table ⊎ Goes W
     pub says : Each (SaysPast os clients w Caused) row.messages
     pub opens : Each (OpensFact Asks row.table) row.messages
 
-  module _ (Asks : ClientNo → ℕ → Tid → Type 0) (Goes : WorkId → Type 0) where
+  module _ (Asks : ClientNo → RequestNo → Tid → Type 0) (Goes : WorkId → Type 0) where
     abbrev Keeps : RowOutcome WorkerTable → Type 0
     Keeps row = RowKeeps Asks Goes row
 
@@ -122,7 +124,7 @@ module _ (os : List Opening) (clients : ClientNo → ClientTable) (w : Machine) 
 
     -- ---- Open
 
-    opens-one : (c : ClientNo) (q : ℕ) (T : Tid) → Asks c q T → (o : Option Work) → work_of T t ≡ o → Keeps (open_row t k c q T o)
+    opens-one : (c : ClientNo) (q : RequestNo) (T : Tid) → Asks c q T → (o : Option Work) → work_of T t ≡ o → Keeps (open_row t k c q T o)
     opens-one c q T asks (Some x) e = let found = of-found T t x rising e in stays _ _ _ (tt, tt) ((ap is_some found, place x.name x found, asks), tt)
     opens-one c q T asks None e = either (nat_lt (length t) 64) _ _ (record {
       told = each-append (WorkTold s (lines ++ [])) t _ (all-told s lines [] t all) (tt, tt);
@@ -155,7 +157,7 @@ module _ (os : List Opening) (clients : ClientNo → ClientTable) (w : Machine) 
       opens = o;
     }
 
-    performs : (c : ClientNo) (q : ℕ) (x : Work) (a : ActiveWork) (op : Op) (answer : Answer) (wants : List Wanted) (o : Option Answer) → Keeps (granted_row t k c q x a op answer wants o)
+    performs : (c : ClientNo) (q : RequestNo) (x : Work) (a : ActiveWork) (op : Op) (answer : Answer) (wants : List Wanted) (o : Option Answer) → Keeps (granted_row t k c q x a op answer wants o)
     performs c q x a op answer wants (Some refusal) = record {
       told = each-phase (WorkTold s (lines ++ [])) x.name _ t (λ v e p. tt) (all-told s lines [] t all);
       live = λ V l. inl (live-phase V x.name _ t l);
@@ -164,18 +166,18 @@ module _ (os : List Opening) (clients : ClientNo → ClientTable) (w : Machine) 
     }
     performs c q x a op answer wants None = grants _ _ x.tid x.name wants _ (λ T. tt) (tt, tt) (tt, tt)
 
-    repeats : (c : ClientNo) (q : ℕ) (o : Option Answer) → Keeps (repeated t k c q o)
+    repeats : (c : ClientNo) (q : RequestNo) (o : Option Answer) → Keeps (repeated t k c q o)
     repeats c q (Some answer) = stays _ _ _ (tt, tt) (tt, tt)
     repeats c q None = stays _ _ _ tt tt
 
-    op-keeps : (files : Files) (c : ClientNo) (q : ℕ) (x : Work) (number : ℕ) (op : Op) (p : Phase) → Keeps (op_phase t files k c q x number op p)
+    op-keeps : (files : Files) (c : ClientNo) (q : RequestNo) (x : Work) (number : OperationNo) (op : Op) (p : Phase) → Keeps (op_phase t files k c q x number op p)
     op-keeps files c q x number op (Active a) = let answer = answer_to op (change (list_change a.list) files) in
-        either (nat_eq number (a.last + 1)) _ _ (performs c q x a op answer (wants_of op (is_fit answer)) (refusal_of t x.name a op answer (wants_of op (is_fit answer))))
-        (either (nat_eq number a.last) _ _ (repeats c q a.kept) (stays _ _ _ tt tt))
+        either (nat_eq number.0 (a.last + 1)) _ _ (performs c q x a op answer (wants_of op (is_fit answer)) (refusal_of t x.name a op answer (wants_of op (is_fit answer))))
+        (either (nat_eq number.0 a.last) _ _ (repeats c q a.kept) (stays _ _ _ tt tt))
     op-keeps files c q x number op (Broken u by) = stays _ _ _ (tt, tt) (tt, tt)
     op-keeps files c q x number op (Stored p) = stays _ _ _ (tt, tt) (tt, tt)
 
-    ops-keep : (files : Files) (c : ClientNo) (q : ℕ) (W : WorkId) (number : ℕ) (op : Op) (o : Option Work) → Keeps (op_row t files k c q W number op o)
+    ops-keep : (files : Files) (c : ClientNo) (q : RequestNo) (W : WorkId) (number : OperationNo) (op : Op) (o : Option Work) → Keeps (op_row t files k c q W number op o)
     ops-keep files c q W number op (Some x) = op-keeps files c q x number op x.phase
     ops-keep files c q W number op None = stays _ _ _ (tt, tt) (tt, tt)
 
@@ -241,7 +243,7 @@ module _ (os : List Opening) (clients : ClientNo → ClientTable) (w : Machine) 
 
   -- ---- every message
 
-  abbrev pub Asked : Message → ClientNo → ℕ → Tid → Type 0
+  abbrev pub Asked : Message → ClientNo → RequestNo → Tid → Type 0
   Asked message c q T = message ≡ messages.Open c q T
 
   abbrev pub Dropped : Message → WorkId → Type 0

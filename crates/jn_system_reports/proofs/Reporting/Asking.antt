@@ -1,5 +1,7 @@
 -- What clients ask of works, and what such an operation can be answered.
 use Rattle.jn_system_reports.proofs.Common.{◌≡◌, ◌⊎◌, inl, inr, ◌≤◌, ℕ, Bool, true, List, [], ◌++◌, Option, Some, None, refl, not, length, ClientNo, WorkId, Party, Op, Answer, Work, Phase, Active, Sent, answer_line, answers_op, can_have, is_read}
+use Rattle.jn_base.specs.declared.names.OperationNo.{OperationNo}
+use Rattle.jn_base.specs.declared.names.RequestNo.{RequestNo}
 use Rattle.jn_base.specs.declared.op.Answer.TheVariants as answers
 use Rattle.jn_msgs.specs.declared.message.Message.TheVariants as messages
 use Rattle.jn_report.specs.declared.line.Refusal.TheVariants as refusals
@@ -8,9 +10,9 @@ use Rattle.jn_system_reports.proofs.Reporting.Lists.{In, in-first}
 -- an operation of a work, with its number and the request that asks for it
 pub record Asking : Type 0 where
   pub client : ClientNo
-  pub request : ℕ
+  pub request : RequestNo
   pub work : WorkId
-  pub number : ℕ
+  pub number : OperationNo
   pub op : Op
 
 pub record IsAsked (sent : List Sent) (a : Asking) : Type 0 where
@@ -45,7 +47,7 @@ pub record Answers (sent : List Sent) (answer : Answer) : Type 0 where
   pub fits : can_answer of.op answer ≡ true
 
 -- the answer is to this request of the client
-pub record IsAnswered (sent : List Sent) (c : ClientNo) (q : ℕ) (answer : Answer) : Type 0 where
+pub record IsAnswered (sent : List Sent) (c : ClientNo) (q : RequestNo) (answer : Answer) : Type 0 where
   pub by : Answers sent answer
   pub client : by.of.client ≡ c
   pub request : by.of.request ≡ q
@@ -74,7 +76,7 @@ workers-reply sent (to, _) h = tt
 pub record IsKept (sent : List Sent) (W : WorkId) (n : ℕ) (answer : Answer) : Type 0 where
   pub by : Answers sent answer
   pub work : by.of.work ≡ W
-  pub number : by.of.number ≡ n
+  pub number : by.of.number.0 ≡ n
 
 abbrev pub KeepsAnswer : List Sent → WorkId → ℕ → Option Answer → Type 0
 KeepsAnswer sent W n None = Unit {0}

@@ -1,5 +1,7 @@
 -- A work that a row says is broken was one that held something, and is broken in its table.
-use Rattle.jn_system_reports.proofs.Common.{◌≡◌, ◌⊎◌, inl, inr, ℕ, ◌+◌, Bool, true, false, List, [], ◌∷◌, Option, Some, None, refl, sym, ◌∙◌, ap, subst, arith, ◌&&◌, ◌||◌, not, if◌then◌else◌, nat_lt, nat_eq, length, ClientNo, Tid, WorkId, LockUnit, Tickets, Op, Answer, work_eq, work_tells, Files, change, answer_to, list_change, Read, IntentionWrite, is_unit, Message, Vote, Work, Phase, Active, Broken, Stored, ActiveWork, is_going, RowOutcome, WorkerTable, WorkStorage, Wanted, work_at, work_of, with_phase, after_grant, breaks_at, broken_by, note_of, break_notes, gives_way, collision, has_mode, open_row, wants_of, is_fit, refusal_of, granted_row, repeated, op_phase, op_row, conflict, commit_wants, vote_of, shortage, need_in, prepared_row, prepare_phase, prepare_row, commit_phase, drop_phase, drop_row, worker_row, is_before, are_rising, work_same, found-name, found-behind, not-before, in_phase, at-phase, once_granted, at-grant}
+use Rattle.jn_system_reports.proofs.Common.{◌≡◌, ◌⊎◌, inl, inr, ◌+◌, Bool, true, false, List, [], ◌∷◌, Option, Some, None, refl, sym, ◌∙◌, ap, subst, arith, ◌&&◌, ◌||◌, not, if◌then◌else◌, nat_lt, nat_eq, length, ClientNo, Tid, WorkId, LockUnit, Tickets, Op, Answer, work_eq, work_tells, Files, change, answer_to, list_change, Read, IntentionWrite, is_unit, Message, Vote, Work, Phase, Active, Broken, Stored, ActiveWork, is_going, RowOutcome, WorkerTable, WorkStorage, Wanted, work_at, work_of, with_phase, after_grant, breaks_at, broken_by, note_of, break_notes, gives_way, collision, has_mode, open_row, wants_of, is_fit, refusal_of, granted_row, repeated, op_phase, op_row, conflict, commit_wants, vote_of, shortage, need_in, prepared_row, prepare_phase, prepare_row, commit_phase, drop_phase, drop_row, worker_row, is_before, are_rising, work_same, found-name, found-behind, not-before, in_phase, at-phase, once_granted, at-grant}
+use Rattle.jn_base.specs.declared.names.OperationNo.{OperationNo}
+use Rattle.jn_base.specs.declared.names.RequestNo.{RequestNo}
 use Rattle.jn_locks.specs.declared.words.Mode.TheVariants.{Commit}
 use Rattle.jn_msgs.specs.declared.message.Message.TheVariants as messages
 use Rattle.jn_msgs.specs.declared.message.Note.TheVariants.{Broke, Ignored}
@@ -142,26 +144,26 @@ module _ (t : WorkerTable) (k : Tickets) (rising : are_rising t ≡ true) where
   either true p q h l = h
   either false p q h l = l
 
-  open-breaks : (c : ClientNo) (q : ℕ) (T : Tid) (o : Option Work) → Breaks t (open_row t k c q T o)
+  open-breaks : (c : ClientNo) (q : RequestNo) (T : Tid) (o : Option Work) → Breaks t (open_row t k c q T o)
   open-breaks c q T (Some w) = none-broke _ refl
   open-breaks c q T None = either (nat_lt (length t) 64) _ _ (none-broke _ refl) (none-broke _ refl)
 
-  granted-breaks : (c : ClientNo) (q : ℕ) (w : Work) (a : ActiveWork) (op : Op) (answer : Answer) (wants : List Wanted) (o : Option Answer) → Breaks t (granted_row t k c q w a op answer wants o)
+  granted-breaks : (c : ClientNo) (q : RequestNo) (w : Work) (a : ActiveWork) (op : Op) (answer : Answer) (wants : List Wanted) (o : Option Answer) → Breaks t (granted_row t k c q w a op answer wants o)
   granted-breaks c q w a op answer wants (Some refusal) = none-broke _ refl
   granted-breaks c q w a op answer wants None = λ T u by i. broke-one w.tid w.name wants _ t _ refl T u by (noted w.tid w.name wants t rising T u by i)
 
-  repeated-breaks : (c : ClientNo) (q : ℕ) (o : Option Answer) → Breaks t (repeated t k c q o)
+  repeated-breaks : (c : ClientNo) (q : RequestNo) (o : Option Answer) → Breaks t (repeated t k c q o)
   repeated-breaks c q (Some answer) = none-broke _ refl
   repeated-breaks c q None = ignored-broke _ refl
 
-  op-breaks : (files : Files) (c : ClientNo) (q : ℕ) (w : Work) (n : ℕ) (op : Op) (p : Phase) → Breaks t (op_phase t files k c q w n op p)
+  op-breaks : (files : Files) (c : ClientNo) (q : RequestNo) (w : Work) (n : OperationNo) (op : Op) (p : Phase) → Breaks t (op_phase t files k c q w n op p)
   op-breaks files c q w n op (Active a) = let answer = answer_to op (change (list_change a.list) files) in
-      either (nat_eq n (a.last + 1)) _ _ (granted-breaks c q w a op answer (wants_of op (is_fit answer)) (refusal_of t w.name a op answer (wants_of op (is_fit answer))))
-      (either (nat_eq n a.last) _ _ (repeated-breaks c q a.kept) (ignored-broke _ refl))
+      either (nat_eq n.0 (a.last + 1)) _ _ (granted-breaks c q w a op answer (wants_of op (is_fit answer)) (refusal_of t w.name a op answer (wants_of op (is_fit answer))))
+      (either (nat_eq n.0 a.last) _ _ (repeated-breaks c q a.kept) (ignored-broke _ refl))
   op-breaks files c q w n op (Broken u by) = none-broke _ refl
   op-breaks files c q w n op (Stored p) = none-broke _ refl
 
-  ops-break : (files : Files) (c : ClientNo) (q : ℕ) (W : WorkId) (n : ℕ) (op : Op) (o : Option Work) → Breaks t (op_row t files k c q W n op o)
+  ops-break : (files : Files) (c : ClientNo) (q : RequestNo) (W : WorkId) (n : OperationNo) (op : Op) (o : Option Work) → Breaks t (op_row t files k c q W n op o)
   ops-break files c q W n op (Some w) = op-breaks files c q w n op w.phase
   ops-break files c q W n op None = none-broke _ refl
 

@@ -1,5 +1,7 @@
 -- A client's rows keep what it has asked for, and a new operation of it is the next one of its work.
-use Rattle.jn_system_reports.proofs.Common.{◌≡◌, ◌≢◌, ◌⊎◌, inl, inr, ◌<◌, ◌≤◌, ℕ, ◌+◌, Bool, true, false, List, [], ◌∷◌, ◌++◌, Option, Some, None, refl, sym, ◌∙◌, ap, subst, arith, ◌&&◌, if◌then◌else◌, nat_eq, nat_lt, nat_tests, ServerNo, ClientNo, Tid, WorkId, Party, Client, Server, Op, Command, Begin, Open, Do, End, Abort, server_eq, client_eq, client_tells, Message, Outcome, Text, OpenWork, Outstanding, Taken, Sent, ClientTable, Commanded, Refuses, Sends, with_operation, if_server, if_idle, if_transaction, if_no_transaction, if_open, if_not_open, command_row, sends, is_begin, is_current, if_waits, idle, over, begun_row, opened_row, decided_row, outcome_row, take_row, Machine, IsWorkOf, not_both, AreOpen, found-open, Opening, opening_in, Has, Began, IsRunning}
+use Rattle.jn_system_reports.proofs.Common.{◌≡◌, ◌≢◌, ◌⊎◌, inl, inr, ◌<◌, ◌≤◌, ℕ, ◌+◌, Bool, true, false, List, [], ◌∷◌, ◌++◌, Option, Some, None, refl, sym, ◌∙◌, ap, subst, arith, ◌&&◌, if◌then◌else◌, nat_lt, nat_tests, ServerNo, ClientNo, Tid, WorkId, Party, Client, Server, Op, Command, Begin, Open, Do, End, Abort, server_eq, client_eq, client_tells, Message, Outcome, Text, OpenWork, Outstanding, Taken, Sent, ClientTable, Commanded, Refuses, Sends, with_operation, if_server, if_idle, if_transaction, if_no_transaction, if_open, if_not_open, command_row, sends, is_begin, is_current, if_waits, idle, over, begun_row, opened_row, decided_row, outcome_row, take_row, Machine, IsWorkOf, not_both, AreOpen, found-open, Opening, opening_in, Has, Began, IsRunning}
+use Rattle.jn_base.specs.Names.{request_eq, request_of, operation_of}
+use Rattle.jn_base.specs.declared.names.RequestNo.{RequestNo}
 use Rattle.jn_msgs.specs.declared.message.Message.TheVariants as messages
 use Rattle.jn_msgs.specs.declared.message.Outcome.TheVariants as outcomes
 use Rattle.jn_report.specs.declared.line.Refusal.TheVariants as refusals
@@ -97,7 +99,7 @@ IsHeard sent message = Unit {0}
 pub record TableGoes (os : List Opening) (c : ClientNo) (t u : ClientTable) : Type 0 where
   pub next : t.next ≤ u.next
   pub fresh : WaitsStay t u
-  pub has : (T : Tid) → u.transaction ≡ Some T → (t.transaction ≡ Some T) ⊎ ((x : Outstanding) × (t.outstanding ≡ Some x) × ((q : ℕ) → Has (opening c q T) os → x.request ≡ q))
+  pub has : (T : Tid) → u.transaction ≡ Some T → (t.transaction ≡ Some T) ⊎ ((x : Outstanding) × (t.outstanding ≡ Some x) × ((q : RequestNo) → Has (opening c q T) os → x.request ≡ q))
 
 module _ (os : List Opening) (w : Machine) (ended : Tid → Bool) (sent : List Sent) (c : ClientNo) (t : ClientTable) (run : IsRunning os ended c t)
     (unique : (a b : Opening) → Has a os → Has b os → a.tid ≡ b.tid → a ≡ b) (waits : (o : Outstanding) → t.outstanding ≡ Some o → WaitFact sent t o)
@@ -113,7 +115,7 @@ module _ (os : List Opening) (w : Machine) (ended : Tid → Bool) (sent : List S
     pub work : OpenWork
     pub found : work_at server t.works ≡ Some work
     pub named : a.work ≡ work.work
-    pub number : a.number ≡ work.last + 1
+    pub number : a.number.0 ≡ work.last + 1
     pub fact : AskedFact os w u a
     pub idle : t.outstanding ≡ None
     pub of : IsWorkOf w tid a.work
@@ -126,7 +128,7 @@ module _ (os : List Opening) (w : Machine) (ended : Tid → Bool) (sent : List S
     pub waiting : (o : Outstanding) → u.outstanding ≡ Some o → (o.to ≡ to) × (o.message ≡ message) × (is_begin o.command ≡ true → u.transaction ≡ None)
     pub asks : (a : Asking) → asking_in message ≡ Some a → IsNext u a
     pub heard : IsHeard sent (to, message)
-    pub last : (o : Outstanding) → u.outstanding ≡ Some o → u.next ≡ o.request + 1
+    pub last : (o : Outstanding) → u.outstanding ≡ Some o → u.next ≡ o.request.0 + 1
 
   abbrev pub CommandTalks : Commanded → Type 0
   CommandTalks (Refuses refusal) = Unit {0}
@@ -163,20 +165,20 @@ module _ (os : List Opening) (w : Machine) (ended : Tid → Bool) (sent : List S
   not-begin e = absurd (grind arith)
 
   abbrev sent-table : List OpenWork → ℕ → Command → Party → Message → ClientTable
-  sent-table works j command to message = record t { works = works; next = t.next + 1; outstanding = Some (record { event = j; request = t.next; command = command; to = to; message = message }) }
+  sent-table works j command to message = record t { works = works; next = t.next + 1; outstanding = Some (record { event = j; request = request_of t.next; command = command; to = to; message = message }) }
 
   sends-one : (works : List OpenWork) (j : ℕ) (command : Command) (to : Party) (message : Message) → ((q : ServerNo) (v : OpenWork) → work_at q t.works ≡ Some v → Stays q v works)
       → (is_begin command ≡ true → t.transaction ≡ None) → ((a : Asking) → asking_in message ≡ Some a → IsNext (sent-table works j command to message) a) → IsHeard sent (to, message)
       → CommandTalks (sends (record t { works = works }) j command to message)
   sends-one works j command to message stay none asks heard = record {
     next = up t.next;
-    fresh = λ o e. inr (subst (λ (z : Outstanding). t.next ≤ z.request) (some-out _ o e) (self t.next));
+    fresh = λ o e. inr (subst (λ (z : Outstanding). t.next ≤ z.request.0) (some-out _ o e) (self t.next));
     same = refl;
     works = stay;
     waiting = λ o e. subst (λ (z : Outstanding). (z.to ≡ to) × (z.message ≡ message) × (is_begin z.command ≡ true → t.transaction ≡ None)) (some-out _ o e) (refl, refl, none);
     asks = asks;
     heard = heard;
-    last = λ o e. subst (λ (z : Outstanding). t.next + 1 ≡ z.request + 1) (some-out _ o e) refl;
+    last = λ o e. subst (λ (z : Outstanding). t.next + 1 ≡ z.request.0 + 1) (some-out _ o e) refl;
   }
 
   none-asked : (u : ClientTable) (a : Asking) → None ≡ Some a → IsNext u a
@@ -195,7 +197,7 @@ module _ (os : List Opening) (w : Machine) (ended : Tid → Bool) (sent : List S
   one-stays q v h = it-stays q v t.works h
 
   op-next : (j : ℕ) (s : ServerNo) (op : Op) (T : Tid) (v : OpenWork) → t.outstanding ≡ None → t.transaction ≡ Some T → work_at s t.works ≡ Some v
-      → IsNext (sent-table (with_operation s t.works) j (Do s op) (Server s) (messages.Op t.client t.next v.work (v.last + 1) op)) (record { client = t.client; request = t.next; work = v.work; number = v.last + 1; op = op })
+      → IsNext (sent-table (with_operation s t.works) j (Do s op) (Server s) (messages.Op t.client (request_of t.next) v.work (operation_of (v.last + 1)) op)) (record { client = t.client; request = request_of t.next; work = v.work; number = operation_of (v.last + 1); op = op })
   op-next j s op T v free e f = let its = found-open w T s t.works v (current T e) f in record {
     client = run.name;
     tid = T;
@@ -231,7 +233,7 @@ module _ (os : List Opening) (w : Machine) (ended : Tid → Bool) (sent : List S
   command-talks j (Begin s) = at-server s _ (where-idle t.outstanding _ refl (λ free. without-one t.transaction _ refl (λ e. sends-one t.works j (Begin s) _ _ one-stays (λ b. e) (λ a k. none-asked _ a k) tt)))
   command-talks j (Open s) = at-server s _ (where-idle t.outstanding _ refl (λ free. with-one t.transaction _ refl (λ T e. where-none (work_at s t.works) _ (sends-one t.works j (Open s) _ _ one-stays (no-begin false refl) (λ a k. none-asked _ a k) tt))))
   command-talks j (Do s op) = at-server s _ (where-idle t.outstanding _ refl (λ free. with-one t.transaction _ refl (λ T e. where-open s (work_at s t.works) _ refl (λ v f. sends-one (with_operation s t.works) j (Do s op) _ _ (counted-stay s t.works) (no-begin false refl)
-      (λ a k. subst (λ (z : Asking). IsNext (sent-table (with_operation s t.works) j (Do s op) (Server s) (messages.Op t.client t.next v.work (v.last + 1) op)) z) (some-asking _ a k) (op-next j s op T v free e f)) tt))))
+      (λ a k. subst (λ (z : Asking). IsNext (sent-table (with_operation s t.works) j (Do s op) (Server s) (messages.Op t.client (request_of t.next) v.work (operation_of (v.last + 1)) op)) z) (some-asking _ a k) (op-next j s op T v free e f)) tt))))
     where
       some-asking : (a b : Asking) → Some a ≡ Some b → a ≡ b
       some-asking a b q = cc
@@ -305,10 +307,10 @@ module _ (os : List Opening) (w : Machine) (ended : Tid → Bool) (sent : List S
       by (inl p) = p.1 ∙ run.name
       by (inr p) = absurd (not_both (client_eq d t.client) e p.0)
 
-  same-number : (a b : ℕ) → nat_eq a b ≡ true → a ≡ b
+  same-number : (a b : RequestNo) → request_eq a b ≡ true → a ≡ b
   same-number a b e = grind (arith, nat_tests)
 
-  begun-talks : (x : Outstanding) (d : ClientNo) (request : ℕ) (o : Option Tid) → t.outstanding ≡ Some x → client_eq d t.client ≡ true → nat_eq x.request request ≡ true → is_begin x.command ≡ true
+  begun-talks : (x : Outstanding) (d : ClientNo) (request : RequestNo) (o : Option Tid) → t.outstanding ≡ Some x → client_eq d t.client ≡ true → request_eq x.request request ≡ true → is_begin x.command ≡ true
       → ((a : Opening) → Has a (opening_in (Client c, messages.Begun d request o)) → Has a os) → TakeTalks (begun_row t x.event o)
   begun-talks x d request None e f g b has = idle-row t.works _ one-stays
   begun-talks x d request (Some T) e f g b has = record {
@@ -325,7 +327,7 @@ module _ (os : List Opening) (w : Machine) (ended : Tid → Bool) (sent : List S
       its : Has (opening c x.request T) os
       its = subst (λ (z : ClientNo). Has (opening z x.request T) os) (same-client d f) (subst (λ n. Has (opening d n T) os) (sym (same-number x.request request g)) (has (opening d request T) (inl refl)))
 
-      one : (U : Tid) (n : ℕ) → Some T ≡ Some U → Has (opening c n U) os → x.request ≡ n
+      one : (U : Tid) (n : RequestNo) → Some T ≡ Some U → Has (opening c n U) os → x.request ≡ n
       one U n q k = ap (λ (z : Opening). z.request) (unique (opening c x.request T) (opening c n U) its k (some-tid T U q))
 
   opened-talks : (j : ℕ) (o : Option WorkId) → TakeTalks (opened_row t j o)
@@ -342,8 +344,8 @@ module _ (os : List Opening) (w : Machine) (ended : Tid → Bool) (sent : List S
   outcome-talks T (outcomes.NotKnown s epoch) = either (is_current t T) _ _ (where-waits t.outstanding _ _ refl (λ x e k. over-row _ tt)) (same-row _ tt)
 
   pub take-talks : (message : Message) → ((a : Opening) → Has a (opening_in (Client c, message)) → Has a os) → TakeTalks (take_row t message)
-  take-talks (messages.Begun d request answer) has = where-waits t.outstanding _ _ refl (λ x e k. let rest = second-of (client_eq d t.client) (nat_eq x.request request && is_begin x.command) k in
-      begun-talks x d request answer e (first-of (client_eq d t.client) (nat_eq x.request request && is_begin x.command) k) (first-of (nat_eq x.request request) (is_begin x.command) rest) (second-of (nat_eq x.request request) (is_begin x.command) rest) has)
+  take-talks (messages.Begun d request answer) has = where-waits t.outstanding _ _ refl (λ x e k. let rest = second-of (client_eq d t.client) (request_eq x.request request && is_begin x.command) k in
+      begun-talks x d request answer e (first-of (client_eq d t.client) (request_eq x.request request && is_begin x.command) k) (first-of (request_eq x.request request) (is_begin x.command) rest) (second-of (request_eq x.request request) (is_begin x.command) rest) has)
   take-talks (messages.Opened d request T answer) has = where-waits t.outstanding _ _ refl (λ x e k. opened-talks x.event answer)
   take-talks (messages.Answer d request answer) has = where-waits t.outstanding _ _ refl (λ x e k. idle-row t.works _ one-stays)
   take-talks (messages.Outcome d T outcome) has = either (client_eq d t.client) _ _ (outcome-talks T outcome) (same-row _ tt)

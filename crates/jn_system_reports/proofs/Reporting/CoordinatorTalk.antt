@@ -1,5 +1,6 @@
 -- A coordinator answers no operation, and asks for none.
 use Rattle.jn_system_reports.proofs.Common.{ℕ, Bool, true, false, List, [], ◌∷◌, ◌++◌, Option, Some, None, ◌&&◌, not, if◌then◌else◌, nat_lt, nat_eq, length, ClientNo, Tid, WorkId, Tickets, Cause, Message, Vote, Transaction, Stage, Ballot, Commitment, Change, RowOutcome, Sent, CoordinatorTable, transaction_at, with_work, is_work, all_in, besides, drops, commits, prepares, commit_row, abort_row, forget_row, begin_new, begin_again, begin_row, after_closing, changes_of_closing, seen_now, end_promised, end_stage, end_row, abort_stage, abort_request, told_stage, inquire_row, counted_vote, vote_stage, vote_row, done_stage, done_row, thanks_stage, thanks_row, coordinator_row, told_again, coordinator_again, committed_to}
+use Rattle.jn_base.specs.declared.names.RequestNo.{RequestNo}
 use Rattle.jn_msgs.specs.declared.message.Message.TheVariants as messages
 use Rattle.jn_msgs.specs.declared.message.Vote.TheVariants as votes
 use Rattle.jn_rows.specs.declared.coordinator.Stage.TheVariants.{Open, Voting, Committed, Aborted}
@@ -28,37 +29,37 @@ module _ (sent : List Sent) where
   prepares-silent T c (W ∷ Ws) = (tt, prepares-silent T c Ws)
 
   module _ (t : CoordinatorTable) (k : Tickets) where
-    new-silent : (u : CoordinatorTable) (changes : List Change) (c : ClientNo) (q : ℕ) → Silent (begin_new u changes k c q)
+    new-silent : (u : CoordinatorTable) (changes : List Change) (c : ClientNo) (q : RequestNo) → Silent (begin_new u changes k c q)
     new-silent u changes c q = either (nat_lt (length u.transactions) 64) _ _ (tt, tt) (tt, tt)
 
-    again-silent : (c : ClientNo) (q : ℕ) (o : Option Transaction) → Silent (begin_again t k c q o)
+    again-silent : (c : ClientNo) (q : RequestNo) (o : Option Transaction) → Silent (begin_again t k c q o)
     again-silent c q (Some x) = (tt, tt)
     again-silent c q None = tt
 
-    begin-silent : (c : ClientNo) (q : ℕ) → Silent (begin_row t k c q)
-    begin-silent c q = either (nat_lt (t.seen c) q) _ _ (new-silent (record { transactions = after_closing c t.transactions; seen = seen_now t.seen c q }) (changes_of_closing c t.transactions) c q)
-        (either (nat_eq (t.seen c) q) _ _ (again-silent c q (begun_by c q t.transactions)) tt)
+    begin-silent : (c : ClientNo) (q : RequestNo) → Silent (begin_row t k c q)
+    begin-silent c q = either (nat_lt (t.seen c) q.0) _ _ (new-silent (record { transactions = after_closing c t.transactions; seen = seen_now t.seen c q }) (changes_of_closing c t.transactions) c q)
+        (either (nat_eq (t.seen c) q.0) _ _ (again-silent c q (begun_by c q t.transactions)) tt)
 
     abort-silent : (x : Transaction) (cause : Cause) (Ws : List WorkId) → Silent (abort_row t k x cause Ws)
     abort-silent x cause Ws = each-append (IsReply sent) (drops x.tid Ws) _ (drops-silent x.tid Ws) (tt, tt)
 
-    commit-silent : (x : Transaction) (q : ℕ) (Ws : List WorkId) → Silent (commit_row t k x q Ws)
+    commit-silent : (x : Transaction) (q : RequestNo) (Ws : List WorkId) → Silent (commit_row t k x q Ws)
     commit-silent x q Ws = each-append (IsReply sent) (commits x.tid Ws) _ (commits-silent x.tid Ws) (tt, tt)
 
     forget-silent : (T : Tid) (d : Commitment) → Silent (forget_row t k T d)
     forget-silent T d = either (d.thanked && all_in d.works d.done) _ _ tt tt
 
-    promised-silent : (x : Transaction) (q : ℕ) (Ws : List WorkId) → Silent (end_promised t k x q Ws)
+    promised-silent : (x : Transaction) (q : RequestNo) (Ws : List WorkId) → Silent (end_promised t k x q Ws)
     promised-silent x q [] = commit-silent x q []
     promised-silent x q (W ∷ Ws) = prepares-silent x.tid x.client (W ∷ Ws)
 
-    end-silent : (free : ℕ) (x : Transaction) (q : ℕ) (Ws : List WorkId) (stage : Stage) → Silent (end_stage t free k x q Ws stage)
+    end-silent : (free : ℕ) (x : Transaction) (q : RequestNo) (Ws : List WorkId) (stage : Stage) → Silent (end_stage t free k x q Ws stage)
     end-silent free x q Ws Open = either (nat_lt free 1) _ _ (abort-silent x _ Ws) (promised-silent x q Ws)
     end-silent free x q Ws (Voting b) = prepares-silent x.tid x.client (besides b.works b.ready)
     end-silent free x q Ws (Committed d) = (tt, tt)
     end-silent free x q Ws (Aborted cause) = (tt, tt)
 
-    ends-silent : (free : ℕ) (c : ClientNo) (q : ℕ) (T : Tid) (Ws : List WorkId) (o : Option Transaction) → Silent (end_row t free k c q T Ws o)
+    ends-silent : (free : ℕ) (c : ClientNo) (q : RequestNo) (T : Tid) (Ws : List WorkId) (o : Option Transaction) → Silent (end_row t free k c q T Ws o)
     ends-silent free c q T Ws (Some x) = end-silent free x q Ws x.stage
     ends-silent free c q T Ws None = (tt, drops-silent T Ws)
 

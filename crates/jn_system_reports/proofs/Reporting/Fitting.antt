@@ -1,5 +1,6 @@
 -- What each step tells a client answers the command that it waits for.
-use Rattle.jn_system_reports.proofs.Common.{◌≡◌, ℕ, Bool, true, false, List, [], ◌∷◌, ◌++◌, Option, Some, None, refl, sym, ◌∙◌, ap, subst, arith, ◌&&◌, if◌then◌else◌, nat_eq, ServerNo, ClientNo, Tid, WorkId, Op, Answer, Command, Begin, Open, Do, End, Abort, client_eq, Message, Note, Outcome, Text, Outstanding, Taken, ClientTable, take_row, if_waits, is_begin, is_operation, is_end, is_end_or_abort, is_current, opens, begun_row, opened_row, answer_line, outcome_row, Asked, Waited, is_own, answers_command, addressed, answer_in, is_last, fits, after_answer, has_line, line_of, lines_of, named_now, after, ends}
+use Rattle.jn_system_reports.proofs.Common.{◌≡◌, ℕ, Bool, true, false, List, [], ◌∷◌, ◌++◌, Option, Some, None, refl, sym, ◌∙◌, ap, subst, arith, ◌&&◌, if◌then◌else◌, ServerNo, ClientNo, Tid, WorkId, Op, Answer, Command, Begin, Open, Do, End, Abort, client_eq, Message, Note, Outcome, Text, Outstanding, Taken, ClientTable, take_row, if_waits, is_begin, is_operation, is_end, is_end_or_abort, is_current, opens, begun_row, opened_row, answer_line, outcome_row, Asked, Waited, is_own, answers_command, addressed, answer_in, is_last, fits, after_answer, has_line, line_of, lines_of, named_now, after, ends}
+use Rattle.jn_base.specs.Names.{request_eq}
 use Rattle.jn_base.specs.declared.op.Answer.TheVariants as answers
 use Rattle.jn_msgs.specs.declared.message.Message.TheVariants as messages
 use Rattle.jn_msgs.specs.declared.message.Note.TheVariants as notes
@@ -110,7 +111,7 @@ TakeFits t (u, taken.Told line answer) = TellsIt t u line
 
 -- an answer to the outstanding request is one of its operation
 abbrev pub AnswerFits : ClientTable → Message → Type 0
-AnswerFits t (messages.Answer d q answer) = (o : Outstanding) → t.outstanding ≡ Some o → client_eq d t.client ≡ true → nat_eq o.request q ≡ true → (op : Op) × (Does o.command op × (can_answer op answer ≡ true))
+AnswerFits t (messages.Answer d q answer) = (o : Outstanding) → t.outstanding ≡ Some o → client_eq d t.client ≡ true → request_eq o.request q ≡ true → (op : Op) × (Does o.command op × (can_answer op answer ≡ true))
 AnswerFits t message = Unit {0}
 
 module _ (t : ClientTable) where
@@ -241,10 +242,10 @@ module _ (t : ClientTable) where
   outcome-fits T (outcomes.NotKnown s epoch) = either (is_current t T) _ _ (where-waits t.outstanding _ _ refl (λ x e k. closing-fits x _ _ e refl refl refl tt refl refl k)) refl
 
   pub take-fits : (message : Message) → AnswerFits t message → TakeFits t (take_row t message)
-  take-fits (messages.Begun d q o) fit = where-waits t.outstanding _ _ refl (λ x e k. begun-fits x o e (second-of (nat_eq x.request q) (is_begin x.command) (second-of (client_eq d t.client) (nat_eq x.request q && is_begin x.command) k)))
+  take-fits (messages.Begun d q o) fit = where-waits t.outstanding _ _ refl (λ x e k. begun-fits x o e (second-of (request_eq x.request q) (is_begin x.command) (second-of (client_eq d t.client) (request_eq x.request q && is_begin x.command) k)))
   take-fits (messages.Opened d q T o) fit = where-waits t.outstanding _ _ refl (λ x e k. opened-fits x o e
-      (second-of (is_current t T) (opens o x.command) (second-of (nat_eq x.request q) (is_current t T && opens o x.command) (second-of (client_eq d t.client) (nat_eq x.request q && (is_current t T && opens o x.command)) k))))
+      (second-of (is_current t T) (opens o x.command) (second-of (request_eq x.request q) (is_current t T && opens o x.command) (second-of (client_eq d t.client) (request_eq x.request q && (is_current t T && opens o x.command)) k))))
   take-fits (messages.Answer d q answer) fit = where-waits t.outstanding _ _ refl (λ x e k. answer-fits x answer e
-      (fit x e (first-of (client_eq d t.client) (nat_eq x.request q && is_operation x.command) k) (first-of (nat_eq x.request q) (is_operation x.command) (second-of (client_eq d t.client) (nat_eq x.request q && is_operation x.command) k))))
+      (fit x e (first-of (client_eq d t.client) (request_eq x.request q && is_operation x.command) k) (first-of (request_eq x.request q) (is_operation x.command) (second-of (client_eq d t.client) (request_eq x.request q && is_operation x.command) k))))
   take-fits (messages.Outcome d T outcome) fit = either (client_eq d t.client) _ _ (outcome-fits T outcome) refl
   take-fits _ fit = refl

@@ -1,5 +1,7 @@
 -- The lines that a step adds answer what its clients wait for.
 use Rattle.jn_system_reports.proofs.Common.{◌≡◌, ◌≢◌, ◌⊎◌, inl, inr, ℕ, ◌+◌, Bool, true, false, List, [], ◌∷◌, ◌++◌, append-nil, Option, Some, None, refl, sym, ◌∙◌, ap, subst, arith, length, drop, ◌&&◌, if◌then◌else◌, nat_eq, nat_lt, slice_get, nat_tests, drop-append_seam, ServerNo, ClientNo, Tid, WorkId, Client, Server, Op, Answer, Command, Begin, Open, Do, End, Abort, client_eq, client_tells, Message, Text, OpenWork, Outstanding, Taken, Pick, stable, RowOutcome, Sent, close_clients_row, ClientTable, Commanded, Refuses, Sends, if_server, if_idle, if_transaction, if_no_transaction, if_open, if_not_open, command_row, take_row, Asked, Waited, with_asked, is_own, addressed, answer_in, is_last, fits_asked, fits, after_answer, World, Memory, at_client, Room, server_row, server_step, of_coordinator, lines_of, named_now, Step, NextEvent, Tell, Again, Deliver, Nudge, Timeout, StopDelivery, StopWork, Crash, Narrow, StopRestart, Restart, Dismiss, CloseClients, after, took, ends, at_memory, handed, works, work, nudge, timeout, crash, narrow, stop_restart, restart, close_clients, Machine, not_both, Facts, told_by, Done}
+use Rattle.jn_base.specs.Names.{request_eq}
+use Rattle.jn_base.specs.declared.names.RequestNo.{RequestNo}
 use Rattle.jn_msgs.specs.declared.message.Message.TheVariants as messages
 use Rattle.jn_report.specs.declared.line.Refusal.TheVariants as refusals
 use Rattle.jn_report.specs.declared.line.Text.TheVariants as says
@@ -85,7 +87,7 @@ module _ (r : World) (w : Machine) (facts : Facts r w) (talk : Talk r w) where
   took-hears c k u (taken.Send to message) h = record { same_event = refl; texts = []; adds = sym (append-nil r.lines); heard = λ out waits. mute-heard out [] (at_client r.clients c u) (same-waits r.clients c u out waits h) tt }
   took-hears c k u (taken.Told line answer) h = record { same_event = refl; texts = line ∷ []; adds = refl; heard = λ out waits. line-heard r.clients c u out waits (facts.clients c).name line h }
 
-  own-answer : (c : ClientNo) (k : ℕ) (d : ClientNo) (q : ℕ) (answer : Answer) → slice_get r.sent k ≡ Some (Client c, messages.Answer d q answer) → AnswerFits (r.clients c) (messages.Answer d q answer)
+  own-answer : (c : ClientNo) (k : ℕ) (d : ClientNo) (q : RequestNo) (answer : Answer) → slice_get r.sent k ≡ Some (Client c, messages.Answer d q answer) → AnswerFits (r.clients c) (messages.Answer d q answer)
   own-answer c k d q answer e o f same number = by (each-in (IsHeard r.sent) r.sent (Client c, messages.Answer d q answer) talk.heard (get-in r.sent k _ e))
     where
       is-client : d ≡ c
@@ -95,7 +97,7 @@ module _ (r : World) (w : Machine) (facts : Facts r w) (talk : Talk r w) where
           at (inl p) = p.1 ∙ (facts.clients c).name
           at (inr p) = absurd (not_both (client_eq d (r.clients c).client) same p.0)
 
-      is-number : (a b : ℕ) → nat_eq a b ≡ true → a ≡ b
+      is-number : (a b : RequestNo) → request_eq a b ≡ true → a ≡ b
       is-number a b g = grind (arith, nat_tests)
 
       by : IsAnswered r.sent d q answer → (op : Op) × (Does o.command op × (can_answer op answer ≡ true))

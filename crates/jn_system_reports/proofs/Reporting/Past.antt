@@ -1,5 +1,7 @@
 -- Transactions that their clients have had, and that are past for them.
 use Rattle.jn_system_reports.proofs.Common.{◌≡◌, ◌≢◌, ◌⊎◌, inl, inr, ◌<◌, ◌≤◌, ℕ, ◌+◌, Bool, true, false, List, Option, Some, None, refl, arith, ClientNo, Tid, WorkId, Cause, Requested, BrokenAt, LostAt, FullAt, Outcome, Vote, Outstanding, Transaction, Stage, FlagState, Change, AddFlag, DropFlag, Sent, ClientTable, Machine, Opening, Has}
+use Rattle.jn_base.specs.Names.{request_of}
+use Rattle.jn_base.specs.declared.names.RequestNo.{RequestNo}
 use Rattle.jn_msgs.specs.declared.message.Message.TheVariants as messages
 use Rattle.jn_msgs.specs.declared.message.Outcome.TheVariants as outcomes
 use Rattle.jn_msgs.specs.declared.message.Vote.TheVariants as votes
@@ -9,20 +11,20 @@ use Rattle.jn_system_reports.proofs.Reporting.Known.{IsPast}
 
 -- the client took its beginning
 pub record WasHad (os : List Opening) (c : ClientNo) (t : ClientTable) (T : Tid) : Type 0 where
-  pub request : ℕ
+  pub request : RequestNo
   pub has : Has (opening c request T) os
-  pub drawn : request < t.next
+  pub drawn : request.0 < t.next
   pub answered : (o : Outstanding) → t.outstanding ≡ Some o → o.request ≢ request
 
 -- and ended it by this later request
-pub record EndedBy (os : List Opening) (c : ClientNo) (t : ClientTable) (T : Tid) (n : ℕ) : Type 0 where
+pub record EndedBy (os : List Opening) (c : ClientNo) (t : ClientTable) (T : Tid) (q : RequestNo) : Type 0 where
   pub had : WasHad os c t T
-  pub later : had.request < n
+  pub later : had.request.0 < q.0
 
 -- a request that began a transaction came no later than the one that began what the client has now
-pub record BeganBy (os : List Opening) (c : ClientNo) (t : ClientTable) (n : ℕ) : Type 0 where
-  pub drawn : n < t.next
-  pub now : (T : Tid) (q : ℕ) → t.transaction ≡ Some T → Has (opening c q T) os → n ≤ q
+pub record BeganBy (os : List Opening) (c : ClientNo) (t : ClientTable) (q : RequestNo) : Type 0 where
+  pub drawn : q.0 < t.next
+  pub now : (T : Tid) (p : RequestNo) → t.transaction ≡ Some T → Has (opening c p T) os → q.0 ≤ p.0
 
 module _ (os : List Opening) (clients : ClientNo → ClientTable) (w : Machine) (Caused : ClientNo → Tid → Cause → Type 0) where
   abbrev pub Had : ClientNo → Tid → Type 0
@@ -47,7 +49,7 @@ module _ (os : List Opening) (clients : ClientNo → ClientTable) (w : Machine) 
   -- what a message says of its transaction's client
   abbrev pub SaysPast : Sent → Type 0
   SaysPast (to, messages.Begin c q) = BeganBy os c (clients c) q
-  SaysPast (to, messages.Begun c q T) = q < (clients c).next
+  SaysPast (to, messages.Begun c q T) = q.0 < (clients c).next
   SaysPast (to, messages.End c q T Ws) = EndedBy os c (clients c) T q
   SaysPast (to, messages.Abort c q T Ws) = Had c T × Caused c T Requested
   SaysPast (to, messages.Thanks c T) = Past c T
@@ -64,9 +66,9 @@ module _ (os : List Opening) (clients : ClientNo → ClientTable) (w : Machine) 
   StageFact c T (Aborted cause) = Had c T × Caused c T cause
 
   pub record EntryFact (seen : ClientNo → ℕ) (x : Transaction) : Type 0 where
-    pub request : ℕ
+    pub request : RequestNo
     pub has : Has (opening x.client request x.tid) os
-    pub seen_it : request ≤ seen x.client
+    pub seen_it : request.0 ≤ seen x.client
     pub stage : StageFact x.client x.tid x.stage
 
   -- ---- changes
@@ -86,9 +88,9 @@ module _ (os : List Opening) (clients : ClientNo → ClientTable) (w : Machine) 
 pub record Goes (os os' : List Opening) (clients clients' : ClientNo → ClientTable) (w v : Machine) (Caused Caused' : ClientNo → Tid → Cause → Type 0) : Type 0 where
   pub opened : (a : Opening) → Has a os → Has a os'
   pub next : (c : ClientNo) (n : ℕ) → n < (clients c).next → n < (clients' c).next
-  pub had : (c : ClientNo) (T : Tid) (n : ℕ) → EndedBy os c (clients c) T n → EndedBy os' c (clients' c) T n
+  pub had : (c : ClientNo) (T : Tid) (q : RequestNo) → EndedBy os c (clients c) T q → EndedBy os' c (clients' c) T q
   pub past : (c : ClientNo) (T : Tid) → IsPast os c (clients c) T → IsPast os' c (clients' c) T
-  pub began : (c : ClientNo) (n : ℕ) → BeganBy os c (clients c) n → BeganBy os' c (clients' c) n
+  pub began : (c : ClientNo) (q : RequestNo) → BeganBy os c (clients c) q → BeganBy os' c (clients' c) q
   pub caused : (c : ClientNo) (T : Tid) (cause : Cause) → Caused c T cause → Caused' c T cause
   pub aborted : (T : Tid) → w.aborted T ≡ true → v.aborted T ≡ true
   pub named : (T : Tid) → w.named T ≡ true → v.named T ≡ true
@@ -98,7 +100,7 @@ module _ (os os' : List Opening) (clients clients' : ClientNo → ClientTable) (
   below n = omega arith
 
   pub had-goes : (c : ClientNo) (T : Tid) → WasHad os c (clients c) T → WasHad os' c (clients' c) T
-  had-goes c T h = (g.had c T (h.request + 1) (record { had = h; later = below h.request })).had
+  had-goes c T h = (g.had c T (request_of (h.request.0 + 1)) (record { had = h; later = below h.request.0 })).had
 
   not-yet : (a b : Bool) → (a ≡ true → b ≡ true) → b ≡ false → a ≡ false
   not-yet true b h e = absurd (grind arith)
@@ -119,7 +121,7 @@ module _ (os os' : List Opening) (clients clients' : ClientNo → ClientTable) (
 
   pub says-goes : (x : Sent) → SaysPast os clients w Caused x → SaysPast os' clients' v Caused' x
   says-goes (to, messages.Begin c q) h = g.began c q h
-  says-goes (to, messages.Begun c q T) h = g.next c q h
+  says-goes (to, messages.Begun c q T) h = g.next c q.0 h
   says-goes (to, messages.End c q T Ws) h = g.had c T q h
   says-goes (to, messages.Abort c q T Ws) h = (had-goes c T h.0, g.caused c T Requested h.1)
   says-goes (to, messages.Thanks c T) h = g.past c T h
@@ -147,7 +149,7 @@ module _ (os os' : List Opening) (clients clients' : ClientNo → ClientTable) (
 
 -- more openings, that are none of what a client has now
 pub opened-goes : (os os' : List Opening) (clients : ClientNo → ClientTable) (w v : Machine) (Caused Caused' : ClientNo → Tid → Cause → Type 0) → ((a : Opening) → Has a os → Has a os')
-    → ((c : ClientNo) (T : Tid) (q : ℕ) → (clients c).transaction ≡ Some T → Has (opening c q T) os' → Has (opening c q T) os) → ((c : ClientNo) (T : Tid) (cause : Cause) → Caused c T cause → Caused' c T cause)
+    → ((c : ClientNo) (T : Tid) (q : RequestNo) → (clients c).transaction ≡ Some T → Has (opening c q T) os' → Has (opening c q T) os) → ((c : ClientNo) (T : Tid) (cause : Cause) → Caused c T cause → Caused' c T cause)
     → ((T : Tid) → w.aborted T ≡ true → v.aborted T ≡ true) → ((T : Tid) → w.named T ≡ true → v.named T ≡ true) → Goes os os' clients clients w v Caused Caused'
 opened-goes os os' clients w v Caused Caused' more back caused aborted named = record {
   opened = more;

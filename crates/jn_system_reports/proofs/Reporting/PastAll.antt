@@ -38,7 +38,7 @@ module _ (r : World) (w v : Machine) (Caused Caused' : ClientNo → Tid → Caus
   Now q = PastFacts q.sent q.clients q.memory q.found v Caused'
 
   -- a client's table changes, and it sends this
-  one-client : (c : ClientNo) (u : ClientTable) (more : List Sent) → TableGoes (openings r.sent) c (r.clients c) u → openings (r.sent ++ more) ≡ openings r.sent → ((o : Outstanding) → u.outstanding ≡ Some o → u.next ≡ o.request + 1)
+  one-client : (c : ClientNo) (u : ClientTable) (more : List Sent) → TableGoes (openings r.sent) c (r.clients c) u → openings (r.sent ++ more) ≡ openings r.sent → ((o : Outstanding) → u.outstanding ≡ Some o → u.next ≡ o.request.0 + 1)
       → Each (SaysPast (openings r.sent) (at_client r.clients c u) v Caused') more → ((T : Tid) → v.named T ≡ true → w.named T ≡ true) → PastFacts (r.sent ++ more) (at_client r.clients c u) r.memory r.found v Caused'
   one-client c u more g none last says same = client-past r.sent r.clients r.memory r.found w v Caused Caused' past caused aborted grown same c u g more none last says
 
@@ -78,7 +78,7 @@ module _ (r : World) (w v : Machine) (Caused Caused' : ClientNo → Tid → Caus
       → Takes w u what → TakenSays (openings r.sent) r.clients w v Caused Caused' c (facts.clients c).name (runs c) (u, what) → Later (took c k u what r) v → Now (took c k u what r)
   took-past c k u what h t p l = by what h t p l
     where
-      last : TakeTalks (openings r.sent) w w.ended r.sent c (r.clients c) (facts.clients c) facts.unique (talk.waits c) (current c) (u, what) → (o : Outstanding) → u.outstanding ≡ Some o → u.next ≡ o.request + 1
+      last : TakeTalks (openings r.sent) w w.ended r.sent c (r.clients c) (facts.clients c) facts.unique (talk.waits c) (current c) (u, what) → (o : Outstanding) → u.outstanding ≡ Some o → u.next ≡ o.request.0 + 1
       last h o e = h.same_next ∙ past.last c o (h.waiting o e).0
 
       alone : (line : Text) → committed_in line ≡ [] → commits_in (line ∷ []) ≡ []

@@ -1,5 +1,7 @@
 -- A client's steps keep what is past for it, and what it sends says what is past.
 use Rattle.jn_system_reports.proofs.Common.{◌≡◌, ◌≢◌, ◌⊎◌, inl, inr, ◌<◌, ◌≤◌, ℕ, ◌+◌, Bool, true, false, List, [], ◌++◌, append-nil, Option, Some, None, is_some, refl, sym, ◌∙◌, ap, subst, arith, if◌then◌else◌, nat_lt, ServerNo, ClientNo, Tid, WorkId, Cause, Requested, Party, Client, Server, Command, Begin, Open, Do, End, Abort, client_eq, tid_eq, client_tells, tid_tells, Message, Outcome, Text, OpenWork, Outstanding, Taken, StableState, Pick, Sent, ClientTable, Commanded, Refuses, Sends, names_of, if_server, if_idle, if_transaction, if_no_transaction, if_open, if_not_open, command_row, is_tid, is_current, if_waits, over, begun_row, opened_row, decided_row, outcome_row, take_row, Machine, not_both, Memory, at_client, Opening, openings, Has, Began}
+use Rattle.jn_base.specs.Names.{request_of}
+use Rattle.jn_base.specs.declared.names.RequestNo.{RequestNo}
 use Rattle.jn_msgs.specs.declared.message.Message.TheVariants as messages
 use Rattle.jn_msgs.specs.declared.message.Outcome.TheVariants as outcomes
 use Rattle.jn_report.specs.declared.line.Refusal.TheVariants as refusals
@@ -18,38 +20,38 @@ module _ (os : List Opening) (c : ClientNo) (t u : ClientTable) (g : TableGoes o
   drawn-on : (n : ℕ) → n < t.next → n < u.next
   drawn-on n k = omega (arith, g.next)
 
-  not-new : (n m : ℕ) → m < t.next → t.next ≤ n → n ≢ m
-  not-new n m k l = omega (arith, k, l)
+  not-new : (p q : RequestNo) → q.0 < t.next → t.next ≤ p.0 → p ≢ q
+  not-new p q k l e = let same = ap (λ (z : RequestNo). z.0) e in omega (arith, k, l, same)
 
-  answered-on : (q : ℕ) → q < t.next → ((o : Outstanding) → t.outstanding ≡ Some o → o.request ≢ q) → (o : Outstanding) → u.outstanding ≡ Some o → o.request ≢ q
+  answered-on : (q : RequestNo) → q.0 < t.next → ((o : Outstanding) → t.outstanding ≡ Some o → o.request ≢ q) → (o : Outstanding) → u.outstanding ≡ Some o → o.request ≢ q
   answered-on q k h o e = by (g.fresh o e)
     where
-      by : (t.outstanding ≡ Some o) ⊎ (t.next ≤ o.request) → o.request ≢ q
+      by : (t.outstanding ≡ Some o) ⊎ (t.next ≤ o.request.0) → o.request ≢ q
       by (inl f) = h o f
       by (inr l) = not-new o.request q k l
 
   had-on : (T : Tid) → WasHad os c t T → WasHad os c u T
-  had-on T h = record { request = h.request; has = h.has; drawn = drawn-on h.request h.drawn; answered = answered-on h.request h.drawn h.answered }
+  had-on T h = record { request = h.request; has = h.has; drawn = drawn-on h.request.0 h.drawn; answered = answered-on h.request h.drawn h.answered }
 
-  pub ended-on : (T : Tid) (n : ℕ) → EndedBy os c t T n → EndedBy os c u T n
-  ended-on T n h = record { had = record { request = h.had.request; has = h.had.has; drawn = drawn-on h.had.request h.had.drawn; answered = answered-on h.had.request h.had.drawn h.had.answered }; later = h.later }
+  pub ended-on : (T : Tid) (q : RequestNo) → EndedBy os c t T q → EndedBy os c u T q
+  ended-on T q h = record { had = record { request = h.had.request; has = h.had.has; drawn = drawn-on h.had.request.0 h.had.drawn; answered = answered-on h.had.request h.had.drawn h.had.answered }; later = h.later }
 
   pub past-on : (T : Tid) → IsPast os c t T → IsPast os c u T
-  past-on T h = record { request = h.request; has = h.has; drawn = drawn-on h.request h.drawn; over = λ e. by (g.has T e); answered = answered-on h.request h.drawn h.answered }
+  past-on T h = record { request = h.request; has = h.has; drawn = drawn-on h.request.0 h.drawn; over = λ e. by (g.has T e); answered = answered-on h.request h.drawn h.answered }
     where
-      by : (t.transaction ≡ Some T) ⊎ ((x : Outstanding) × (t.outstanding ≡ Some x) × ((q : ℕ) → Has (opening c q T) os → x.request ≡ q)) → ⊥
+      by : (t.transaction ≡ Some T) ⊎ ((x : Outstanding) × (t.outstanding ≡ Some x) × ((q : RequestNo) → Has (opening c q T) os → x.request ≡ q)) → ⊥
       by (inl e) = h.over e
       by (inr x) = h.answered x.0 x.1 (x.2 h.request h.has)
 
-  pub began-on : ((o : Outstanding) → t.outstanding ≡ Some o → t.next ≡ o.request + 1) → (n : ℕ) → BeganBy os c t n → BeganBy os c u n
-  began-on last n h = record { drawn = drawn-on n h.drawn; now = λ T q e k. by T q k (g.has T e) }
+  pub began-on : ((o : Outstanding) → t.outstanding ≡ Some o → t.next ≡ o.request.0 + 1) → (q : RequestNo) → BeganBy os c t q → BeganBy os c u q
+  began-on last q h = record { drawn = drawn-on q.0 h.drawn; now = λ T p e k. by T p k (g.has T e) }
     where
-      up-to : (a b n m : ℕ) → a < n → n ≡ b + 1 → b ≡ m → a ≤ m
-      up-to a b n m k e f = omega (arith, k, e, f)
+      up-to : (a : ℕ) (b : RequestNo) (n : ℕ) (m : RequestNo) → a < n → n ≡ b.0 + 1 → b ≡ m → a ≤ m.0
+      up-to a b n m k e f = let same = ap (λ (z : RequestNo). z.0) f in omega (arith, k, e, same)
 
-      by : (T : Tid) (q : ℕ) → Has (opening c q T) os → (t.transaction ≡ Some T) ⊎ ((x : Outstanding) × (t.outstanding ≡ Some x) × ((q : ℕ) → Has (opening c q T) os → x.request ≡ q)) → n ≤ q
-      by T q k (inl e) = h.now T q e k
-      by T q k (inr x) = up-to n x.0.request t.next q h.drawn (last x.0 x.1) (x.2 q k)
+      by : (T : Tid) (p : RequestNo) → Has (opening c p T) os → (t.transaction ≡ Some T) ⊎ ((x : Outstanding) × (t.outstanding ≡ Some x) × ((q : RequestNo) → Has (opening c q T) os → x.request ≡ q)) → q.0 ≤ p.0
+      by T p k (inl e) = h.now T p e k
+      by T p k (inr x) = up-to q.0 x.0.request t.next p h.drawn (last x.0 x.1) (x.2 p k)
 
 -- ---- all tables
 
@@ -69,7 +71,7 @@ module _ (sent : List Sent) (clients : ClientNo → ClientTable) (memory : Serve
       named = grown;
     }
 
-    clients-past : (more : List Sent) → openings (sent ++ more) ≡ openings sent → ((c : ClientNo) (o : Outstanding) → (clients' c).outstanding ≡ Some o → (clients' c).next ≡ o.request + 1) → Each (SaysPast (openings sent) clients' v Caused') more
+    clients-past : (more : List Sent) → openings (sent ++ more) ≡ openings sent → ((c : ClientNo) (o : Outstanding) → (clients' c).outstanding ≡ Some o → (clients' c).next ≡ o.request.0 + 1) → Each (SaysPast (openings sent) clients' v Caused') more
         → PastFacts (sent ++ more) clients' memory found v Caused'
     clients-past more same last says = record {
       last = last;
@@ -97,11 +99,11 @@ module _ (sent : List Sent) (clients : ClientNo → ClientTable) (memory : Serve
         by (inl p) = subst (λ (b : Bool). P d (if b then u else clients d)) (sym p.0) (subst (λ (z : ClientNo). P z u) p.1 own)
         by (inr p) = subst (λ (b : Bool). P d (if b then u else clients d)) (sym p.0) (other d)
 
-    pub client-past : (more : List Sent) → openings (sent ++ more) ≡ openings sent → ((o : Outstanding) → u.outstanding ≡ Some o → u.next ≡ o.request + 1) → Each (SaysPast (openings sent) (at_client clients c u) v Caused') more
+    pub client-past : (more : List Sent) → openings (sent ++ more) ≡ openings sent → ((o : Outstanding) → u.outstanding ≡ Some o → u.next ≡ o.request.0 + 1) → Each (SaysPast (openings sent) (at_client clients c u) v Caused') more
         → PastFacts (sent ++ more) (at_client clients c u) memory found v Caused'
     client-past more same last says = clients-past (at_client clients c u)
         (at-own (λ d (t : ClientTable). TableGoes (openings sent) d (clients d) t) g (λ d. record { next = no-fall (clients d).next; fresh = λ o e. inl e; has = λ T e. inl e }))
-        more same (at-own (λ d (t : ClientTable). (o : Outstanding) → t.outstanding ≡ Some o → t.next ≡ o.request + 1) last past.last) says
+        more same (at-own (λ d (t : ClientTable). (o : Outstanding) → t.outstanding ≡ Some o → t.next ≡ o.request.0 + 1) last past.last) says
 
   pub dismiss-past : PastFacts sent (λ c. over (clients c)) memory found v Caused'
   dismiss-past = subst (λ l. PastFacts l (λ c. over (clients c)) memory found v Caused') (append-nil sent) (clients-past (λ c. over (clients c))
@@ -170,11 +172,11 @@ module _ (os : List Opening) (clients : ClientNo → ClientTable) (w v : Machine
   on : (n m : ℕ) → n < m → n < m + 1
   on n m k = omega arith
 
-  not-it : (n m : ℕ) → n < m → m ≢ n
-  not-it n m k = omega arith
+  not-it : (q : RequestNo) (n : ℕ) → q.0 < n → request_of n ≢ q
+  not-it q n k e = let same = ap (λ (z : RequestNo). z.0) e in omega (arith, k, same)
 
   abbrev waiting : ℕ → Command → Party → Message → ClientTable
-  waiting j command to message = record t { next = t.next + 1; outstanding = Some (record { event = j; request = t.next; command = command; to = to; message = message }) }
+  waiting j command to message = record t { next = t.next + 1; outstanding = Some (record { event = j; request = request_of t.next; command = command; to = to; message = message }) }
 
   some-out : (o p : Outstanding) → Some o ≡ Some p → o ≡ p
   some-out o p e = cc
@@ -183,19 +185,19 @@ module _ (os : List Opening) (clients : ClientNo → ClientTable) (w v : Machine
   none-tid T e = cc
 
   had-now : (j : ℕ) (command : Command) (to : Party) (message : Message) (T : Tid) (b : Began os c t.next T) → WasHad os c (waiting j command to message) T
-  had-now j command to message T b = record { request = b.request; has = b.has; drawn = on b.request t.next b.drawn; answered = λ o e. subst (λ (z : Outstanding). z.request ≢ b.request) (some-out _ o e) (not-it b.request t.next b.drawn) }
+  had-now j command to message T b = record { request = b.request; has = b.has; drawn = on b.request.0 t.next b.drawn; answered = λ o e. subst (λ (z : Outstanding). z.request ≢ b.request) (some-out _ o e) (not-it b.request t.next b.drawn) }
 
   pub command-says : (j : ℕ) (command : Command) (requested : command ≡ Abort → (T : Tid) → t.transaction ≡ Some T → Caused' c T Requested) → CommandSays (command_row t j command)
-  command-says j (Begin s) requested = at-server s _ (where-idle t.outstanding _ (without-one t.transaction _ refl (λ e. here (λ d (x : ClientTable). BeganBy os d x t.next) (waiting j (Begin s) (Server s) (messages.Begin t.client t.next))
+  command-says j (Begin s) requested = at-server s _ (where-idle t.outstanding _ (without-one t.transaction _ refl (λ e. here (λ d (x : ClientTable). BeganBy os d x (request_of t.next)) (waiting j (Begin s) (Server s) (messages.Begin t.client (request_of t.next)))
       (record { drawn = below t.next; now = λ T q f k. absurd (none-tid T (sym e ∙ f)) }))))
   command-says j (Open s) requested = at-server s _ (where-idle t.outstanding _ (with-one t.transaction _ refl (λ T e. where-none (work_at s t.works) _ tt)))
   command-says j (Do s op) requested = at-server s _ (where-idle t.outstanding _ (with-one t.transaction _ refl (λ T e. where-open (work_at s t.works) _ (λ x. tt))))
-  command-says j End requested = where-idle t.outstanding _ (with-one t.transaction _ refl (λ T e. let to = Server T.server in let message = messages.End t.client t.next T (names_of t.works) in
-      here (λ d (x : ClientTable). EndedBy os d x T t.next) (waiting j End to message) (ended j T (began T e))))
+  command-says j End requested = where-idle t.outstanding _ (with-one t.transaction _ refl (λ T e. let to = Server T.server in let message = messages.End t.client (request_of t.next) T (names_of t.works) in
+      here (λ d (x : ClientTable). EndedBy os d x T (request_of t.next)) (waiting j End to message) (ended j T (began T e))))
     where
-      ended : (j : ℕ) (T : Tid) (b : Began os c t.next T) → EndedBy os c (waiting j End (Server T.server) (messages.End t.client t.next T (names_of t.works))) T t.next
-      ended j T b = record { had = record { request = b.request; has = b.has; drawn = on b.request t.next b.drawn; answered = λ o e. subst (λ (z : Outstanding). z.request ≢ b.request) (some-out _ o e) (not-it b.request t.next b.drawn) }; later = b.drawn }
-  command-says j Abort requested = with-one t.transaction _ refl (λ T e. let to = Server T.server in let message = messages.Abort t.client t.next T (names_of t.works) in
+      ended : (j : ℕ) (T : Tid) (b : Began os c t.next T) → EndedBy os c (waiting j End (Server T.server) (messages.End t.client (request_of t.next) T (names_of t.works))) T (request_of t.next)
+      ended j T b = record { had = record { request = b.request; has = b.has; drawn = on b.request.0 t.next b.drawn; answered = λ o e. subst (λ (z : Outstanding). z.request ≢ b.request) (some-out _ o e) (not-it b.request t.next b.drawn) }; later = b.drawn }
+  command-says j Abort requested = with-one t.transaction _ refl (λ T e. let to = Server T.server in let message = messages.Abort t.client (request_of t.next) T (names_of t.works) in
       (here (λ d (x : ClientTable). WasHad os d x T) (waiting j Abort to message) (had-now j Abort to message T (began T e)), subst (λ (d : ClientNo). Caused' d T Requested) (sym name) (requested refl T e)))
 
   -- ---- a message

@@ -1,5 +1,6 @@
 -- A coordinator's rows keep what they say of transactions that are past, and forget only those.
 use Rattle.jn_system_reports.proofs.Common.{◌≡◌, ◌≢◌, ◌⊎◌, inl, inr, ◌<◌, ◌≤◌, ℕ, ◌+◌, Bool, true, false, List, [], ◌∷◌, ◌++◌, Option, Some, None, is_some, refl, sym, ◌∙◌, ap, subst, arith, ◌&&◌, not, if◌then◌else◌, nat_lt, nat_eq, length, list_any, nat_tests, ServerNo, ClientNo, Tid, WorkId, Tickets, Cause, Requested, BrokenAt, LostAt, FullAt, Party, Resource, client_eq, tid_eq, client_tells, tid_tells, Message, Note, Vote, Outstanding, Transaction, Stage, Ballot, Commitment, StableState, FlagState, Change, DropFlag, at_tid, made_by, made_all, RowOutcome, Sent, ClientTable, CoordinatorTable, transaction_at, with_stage, with_work, is_work, all_in, besides, drops, commits, prepares, commit_row, abort_row, forget_row, begin_new, begin_again, after_closing, changes_of_closing, all_thanked, close_clients_row, seen_now, seen_in_flag, seen_in_flags, restored_transaction, restored_transactions, not_known, end_promised, end_stage, end_row, abort_stage, abort_request, told_stage, inquire_row, counted_vote, vote_stage, vote_row, done_stage, done_row, thanks_stage, thanks_row, coordinator_row, told_again, coordinator_again, committed_to, Machine, IsIdle, is_committed, Closes, Empty, Stays, Goes, Waits, Forgets, client-closes, outcomes-close, named_by, Opening, Has, openings, has-first, has-second}
+use Rattle.jn_base.specs.declared.names.RequestNo.{RequestNo}
 use Rattle.jn_base.specs.declared.names.Resource.TheVariants as resources
 use Rattle.jn_msgs.specs.declared.message.Message.TheVariants as messages
 use Rattle.jn_msgs.specs.declared.message.Outcome.TheVariants as outcomes
@@ -144,10 +145,10 @@ is_broke note = false
 module _ (os : List Opening) (clients : ClientNo → ClientTable) (w : Machine) (Caused : ClientNo → Tid → Cause → Type 0) (unique : (a b : Opening) → Has a os → Has b os → a.tid ≡ b.tid → a ≡ b)
     (full : (c : ClientNo) (T : Tid) (s : ServerNo) (n : Resource) (free need : ℕ) → nat_lt free need ≡ true → Caused c T (FullAt s n free need)) where
   -- two openings of a transaction
-  one-client : (c d : ClientNo) (p q : ℕ) (T U : Tid) → Has (opening c p T) os → Has (opening d q U) os → T ≡ U → c ≡ d
+  one-client : (c d : ClientNo) (p q : RequestNo) (T U : Tid) → Has (opening c p T) os → Has (opening d q U) os → T ≡ U → c ≡ d
   one-client c d p q T U h k e = ap (λ (a : Opening). a.client) (unique (opening c p T) (opening d q U) h k e)
 
-  one-request : (c d : ClientNo) (p q : ℕ) (T U : Tid) → Has (opening c p T) os → Has (opening d q U) os → T ≡ U → p ≡ q
+  one-request : (c d : ClientNo) (p q : RequestNo) (T U : Tid) → Has (opening c p T) os → Has (opening d q U) os → T ≡ U → p ≡ q
   one-request c d p q T U h k e = ap (λ (a : Opening). a.request) (unique (opening c p T) (opening d q U) h k e)
 
   past-had : (c : ClientNo) (T : Tid) → Past os clients w Caused c T → Had os clients w Caused c T
@@ -254,7 +255,7 @@ module _ (os : List Opening) (clients : ClientNo → ClientTable) (w : Machine) 
       aborts : (cause : Cause) (Ws : List WorkId) → Had os clients w Caused y.client y.tid → Caused y.client y.tid cause → RowPast (abort_row t k y cause Ws)
       aborts cause Ws had caused = staged (Aborted cause) _ (had, caused) (each-append Says (drops y.tid Ws) _ (drops-say y.tid Ws) ((had, caused), tt))
 
-      commits-it : (q : ℕ) (Ws : List WorkId) → EndedBy os y.client (clients y.client) y.tid q → RowPast (commit_row t k y q Ws)
+      commits-it : (q : RequestNo) (Ws : List WorkId) → EndedBy os y.client (clients y.client) y.tid q → RowPast (commit_row t k y q Ws)
       commits-it q Ws h = record {
         quiet = refl;
         sends = each-append Says (commits y.tid Ws) _ (commits-say y.tid Ws) (h.had, tt);
@@ -302,11 +303,11 @@ module _ (os : List Opening) (clients : ClientNo → ClientTable) (w : Machine) 
 
       -- ---- End, Abort
 
-      promised : (q : ℕ) (Ws : List WorkId) → EndedBy os y.client (clients y.client) y.tid q → RowPast (end_promised t k y q Ws)
+      promised : (q : RequestNo) (Ws : List WorkId) → EndedBy os y.client (clients y.client) y.tid q → RowPast (end_promised t k y q Ws)
       promised q [] h = commits-it q [] h
       promised q (W ∷ Ws) h = staged (Voting (record { request = q; works = W ∷ Ws; ready = [] })) _ h (prepares-say y.tid y.client (W ∷ Ws))
 
-      ends : (free q : ℕ) (Ws : List WorkId) → EndedBy os y.client (clients y.client) y.tid q → (stage : Stage) → StageFact os clients w Caused y.client y.tid stage → RowPast (end_stage t free k y q Ws stage)
+      ends : (free : ℕ) (q : RequestNo) (Ws : List WorkId) → EndedBy os y.client (clients y.client) y.tid q → (stage : Stage) → StageFact os clients w Caused y.client y.tid stage → RowPast (end_stage t free k y q Ws stage)
       ends free q Ws h Open s = by (nat_lt free 1) refl
         where
           by : (b : Bool) → nat_lt free 1 ≡ b → RowPast (if b then abort_row t k y (FullAt k.server resources.Records free 1) Ws else end_promised t k y q Ws)
@@ -358,8 +359,8 @@ module _ (os : List Opening) (clients : ClientNo → ClientTable) (w : Machine) 
 
     -- ---- Begin
 
-    module _ (c : ClientNo) (q : ℕ) (began : BeganBy os c (clients c) q) (last : (o : Outstanding) → (clients c).outstanding ≡ Some o → (clients c).next ≡ o.request + 1) (later : nat_lt (t.seen c) q ≡ true) where
-      is-later : t.seen c < q
+    module _ (c : ClientNo) (q : RequestNo) (began : BeganBy os c (clients c) q) (last : (o : Outstanding) → (clients c).outstanding ≡ Some o → (clients c).next ≡ o.request.0 + 1) (later : nat_lt (t.seen c) q.0 ≡ true) where
+      is-later : t.seen c < q.0
       is-later = grind (arith, nat_tests)
 
       -- what its client began before is past
@@ -367,16 +368,16 @@ module _ (os : List Opening) (clients : ClientNo → ClientTable) (w : Machine) 
       begin-past y h e = record {
         request = h.request;
         has = has;
-        drawn = drawn h.request (t.seen c) q (clients c).next seen is-later began.drawn;
-        over = λ f. not-after h.request (t.seen c) q seen is-later (began.now y.tid h.request f has);
-        answered = λ o f. other o.request h.request (t.seen c) q (clients c).next seen is-later began.drawn (last o f);
+        drawn = drawn h.request.0 (t.seen c) q.0 (clients c).next seen is-later began.drawn;
+        over = λ f. not-after h.request.0 (t.seen c) q.0 seen is-later (began.now y.tid h.request f has);
+        answered = λ o f. other o.request h.request (t.seen c) q.0 (clients c).next seen is-later began.drawn (last o f);
       }
         where
           has : Has (opening c h.request y.tid) os
           has = subst (λ (d : ClientNo). Has (opening d h.request y.tid) os) e h.has
 
-          seen : h.request ≤ t.seen c
-          seen = subst (λ (d : ClientNo). h.request ≤ t.seen d) e h.seen_it
+          seen : h.request.0 ≤ t.seen c
+          seen = subst (λ (d : ClientNo). h.request.0 ≤ t.seen d) e h.seen_it
 
           drawn : (a b c n : ℕ) → a ≤ b → b < c → c < n → a < n
           drawn a b c n k l m = omega (arith, k, l, m)
@@ -384,8 +385,8 @@ module _ (os : List Opening) (clients : ClientNo → ClientTable) (w : Machine) 
           not-after : (a b c : ℕ) → a ≤ b → b < c → c ≤ a → ⊥
           not-after a b c k l m = omega (arith, k, l, m)
 
-          other : (o a b c n : ℕ) → a ≤ b → b < c → c < n → n ≡ o + 1 → o ≢ a
-          other o a b c n k l m e = omega (arith, k, l, m, e)
+          other : (o a : RequestNo) (b c n : ℕ) → a.0 ≤ b → b < c → c < n → n ≡ o.0 + 1 → o ≢ a
+          other o a b c n k l m e f = let same = ap (λ (z : RequestNo). z.0) f in omega (arith, k, l, m, e, same)
 
       seen' : ClientNo → ℕ
       seen' = seen_now t.seen c q
@@ -393,15 +394,15 @@ module _ (os : List Opening) (clients : ClientNo → ClientTable) (w : Machine) 
       seen-more : (y : Transaction) (n : ℕ) → n ≤ t.seen y.client → n ≤ seen_now t.seen c q y.client
       seen-more y n h = by (client_tells c y.client)
         where
-          up : (n m q : ℕ) → n ≤ m → m < q → n ≤ q
-          up n m q k l = omega (arith, k, l)
+          up : (n m k : ℕ) → n ≤ m → m < k → n ≤ k
+          up n m j k l = omega (arith, k, l)
 
-          by : ((client_eq c y.client ≡ true) × (c ≡ y.client)) ⊎ ((client_eq c y.client ≡ false) × (c ≢ y.client)) → n ≤ (if client_eq c y.client then q else t.seen y.client)
-          by (inl p) = subst (λ (b : Bool). n ≤ (if b then q else t.seen y.client)) (sym p.0) (up n (t.seen c) q (subst (λ (d : ClientNo). n ≤ t.seen d) (sym p.1) h) is-later)
-          by (inr p) = subst (λ (b : Bool). n ≤ (if b then q else t.seen y.client)) (sym p.0) h
+          by : ((client_eq c y.client ≡ true) × (c ≡ y.client)) ⊎ ((client_eq c y.client ≡ false) × (c ≢ y.client)) → n ≤ (if client_eq c y.client then q.0 else t.seen y.client)
+          by (inl p) = subst (λ (b : Bool). n ≤ (if b then q.0 else t.seen y.client)) (sym p.0) (up n (t.seen c) q.0 (subst (λ (d : ClientNo). n ≤ t.seen d) (sym p.1) h) is-later)
+          by (inr p) = subst (λ (b : Bool). n ≤ (if b then q.0 else t.seen y.client)) (sym p.0) h
 
       entry-later : (y : Transaction) → Entry y → EntryFact os clients w Caused (seen_now t.seen c q) y
-      entry-later y h = record { request = h.request; has = h.has; seen_it = seen-more y h.request h.seen_it; stage = h.stage }
+      entry-later y h = record { request = h.request; has = h.has; seen_it = seen-more y h.request.0 h.seen_it; stage = h.stage }
 
       closing : Closes (λ (y : Transaction). y.client ≡ c) t.transactions (after_closing c t.transactions) (changes_of_closing c t.transactions)
       closing = client-closes c t.transactions
@@ -442,8 +443,8 @@ module _ (os : List Opening) (clients : ClientNo → ClientTable) (w : Machine) 
           self : (n : ℕ) → n ≤ n
           self n = omega arith
 
-          seen-own : ((client_eq c c ≡ true) × (c ≡ c)) ⊎ ((client_eq c c ≡ false) × (c ≢ c)) → q ≤ (if client_eq c c then q else t.seen c)
-          seen-own (inl p) = subst (λ (b : Bool). q ≤ (if b then q else t.seen c)) (sym p.0) (self q)
+          seen-own : ((client_eq c c ≡ true) × (c ≡ c)) ⊎ ((client_eq c c ≡ false) × (c ≢ c)) → q.0 ≤ (if client_eq c c then q.0 else t.seen c)
+          seen-own (inl p) = subst (λ (b : Bool). q.0 ≤ (if b then q.0 else t.seen c)) (sym p.0) (self q.0)
           seen-own (inr p) = absurd (p.1 refl)
 
     -- every outcome is thanked, once every client is idle
@@ -464,7 +465,7 @@ module _ (os : List Opening) (clients : ClientNo → ClientTable) (w : Machine) 
         idle-past y d p e h = let had = (subst (λ (z : Stage). StageFact os clients w Caused y.client y.tid z) e h.stage).0 in
             record { request = had.request; has = had.has; drawn = had.drawn; over = λ f. none-tid y.tid (sym (idle y.client).0 ∙ f); answered = had.answered }
 
-    begins-again : (c : ClientNo) (q : ℕ) (o : Option Transaction) → q < (clients c).next → RowPast (begin_again t k c q o)
+    begins-again : (c : ClientNo) (q : RequestNo) (o : Option Transaction) → q.0 < (clients c).next → RowPast (begin_again t k c q o)
     begins-again c q (Some y) h = tells _ [] refl refl (h, tt)
     begins-again c q None h = tells _ _ refl refl tt
 
@@ -477,7 +478,7 @@ module _ (os : List Opening) (clients : ClientNo → ClientTable) (w : Machine) 
     -- what holds where the transaction isn't in the table, or votes
     module _ (Here : Tid → Type 0) (unknown : (c : ClientNo) (T : Tid) → Here T → transaction_at T t.transactions ≡ None → Had os clients w Caused c T → OutcomeFact os clients w Caused c T (outcomes.NotKnown k.server k.epoch))
         (undecided : (T : Tid) (y : Transaction) (b : Ballot) → transaction_at T t.transactions ≡ Some y → y.stage ≡ Voting b → (w.named T ≡ false) × (w.aborted T ≡ false))
-        (last : (c : ClientNo) (o : Outstanding) → (clients c).outstanding ≡ Some o → (clients c).next ≡ o.request + 1) where
+        (last : (c : ClientNo) (o : Outstanding) → (clients c).outstanding ≡ Some o → (clients c).next ≡ o.request.0 + 1) where
       -- what asks for the outcome comes to its transaction's server
       abbrev pub ComesHere : Message → Type 0
       ComesHere (messages.End c q T Ws) = Here T
@@ -487,7 +488,7 @@ module _ (os : List Opening) (clients : ClientNo → ClientTable) (w : Machine) 
       not-known-past : (c : ClientNo) (T : Tid) (Ws : List WorkId) → Here T → transaction_at T t.transactions ≡ None → Had os clients w Caused c T → RowPast (not_known t k c T Ws)
       not-known-past c T Ws here none h = tells _ [] refl refl (unknown c T here none h, drops-say T Ws)
 
-      end-past : (free : ℕ) (c : ClientNo) (q : ℕ) (T : Tid) (Ws : List WorkId) (o : Option Transaction) → Here T → transaction_at T t.transactions ≡ o → EndedBy os c (clients c) T q → RowPast (end_row t free k c q T Ws o)
+      end-past : (free : ℕ) (c : ClientNo) (q : RequestNo) (T : Tid) (Ws : List WorkId) (o : Option Transaction) → Here T → transaction_at T t.transactions ≡ o → EndedBy os c (clients c) T q → RowPast (end_row t free k c q T Ws o)
       end-past free c q T Ws None here e h = not-known-past c T Ws here e h.had
       end-past free c q T Ws (Some y) here e h = ends T y e free q Ws (subst (λ (U : Tid). EndedBy os y.client (clients y.client) U q) (sym (its T y e).1) (subst (λ (d : ClientNo). EndedBy os d (clients d) T q) (its-client T y e c h.had) h)) y.stage (its T y e).0.stage
 
@@ -515,7 +516,7 @@ module _ (os : List Opening) (clients : ClientNo → ClientTable) (w : Machine) 
       thanks-past c T (Some y) e h = thanks T y e c h y.stage refl (its T y e).0.stage
 
       pub row-past : (free : ℕ) (to : Party) (message : Message) → ComesHere message → Says (to, message) → RowPast (coordinator_row t free k message)
-      row-past free to (messages.Begin c q) here h = where-is (nat_lt (t.seen c) q) _ _ (λ l. begins-new c q h (last c) l) (either (nat_eq (t.seen c) q) _ _ (begins-again c q (begun_by c q t.transactions) h.drawn) (tells _ _ refl refl tt))
+      row-past free to (messages.Begin c q) here h = where-is (nat_lt (t.seen c) q.0) _ _ (λ l. begins-new c q h (last c) l) (either (nat_eq (t.seen c) q.0) _ _ (begins-again c q (begun_by c q t.transactions) h.drawn) (tells _ _ refl refl tt))
       row-past free to (messages.End c q T Ws) here h = end-past free c q T Ws (transaction_at T t.transactions) here refl h
       row-past free to (messages.Abort c q T Ws) here h = abort-past c T Ws (transaction_at T t.transactions) here refl h.0 h.1
       row-past free to (messages.Thanks c T) here h = thanks-past c T (transaction_at T t.transactions) refl h
@@ -557,23 +558,23 @@ restored-past os clients w Caused x Ts flags = some Ts (λ c n h. h)
         over : (n m r : ℕ) → n ≤ m → nat_lt m r ≡ true → n ≤ r
         over n m r a e = grind (arith, nat_tests)
 
-        at : (flag : FlagState) (a b : Bool) → nat_lt (seen_in_flags x Us c) flag.request ≡ b → n ≤ (if a && b then flag.request else seen_in_flags x Us c)
-        at flag true true e = over n (seen_in_flags x Us c) flag.request k e
+        at : (flag : FlagState) (a b : Bool) → nat_lt (seen_in_flags x Us c) flag.request.0 ≡ b → n ≤ (if a && b then flag.request.0 else seen_in_flags x Us c)
+        at flag true true e = over n (seen_in_flags x Us c) flag.request.0 k e
         at flag true false e = k
         at flag false b e = k
 
         by : (o : Option FlagState) → n ≤ seen_in_flag c o (seen_in_flags x Us c)
         by None = k
-        by (Some flag) = at flag (client_eq flag.client c) (nat_lt (seen_in_flags x Us c) flag.request) refl
+        by (Some flag) = at flag (client_eq flag.client c) (nat_lt (seen_in_flags x Us c) flag.request.0) refl
 
-    own : (T : Tid) (Us : List Tid) (flag : FlagState) → x.flags T ≡ Some flag → flag.request ≤ seen_in_flags x (T ∷ Us) flag.client
-    own T Us flag e = subst (λ o. flag.request ≤ seen_in_flag flag.client o (seen_in_flags x Us flag.client)) (sym e) (by (client_tells flag.client flag.client))
+    own : (T : Tid) (Us : List Tid) (flag : FlagState) → x.flags T ≡ Some flag → flag.request.0 ≤ seen_in_flags x (T ∷ Us) flag.client
+    own T Us flag e = subst (λ o. flag.request.0 ≤ seen_in_flag flag.client o (seen_in_flags x Us flag.client)) (sym e) (by (client_tells flag.client flag.client))
       where
         least : (r m : ℕ) → r ≤ (if nat_lt m r then r else m)
         least r m = grind (arith, nat_tests)
 
-        by : ((client_eq flag.client flag.client ≡ true) × (flag.client ≡ flag.client)) ⊎ ((client_eq flag.client flag.client ≡ false) × (flag.client ≢ flag.client)) → flag.request ≤ (if client_eq flag.client flag.client && nat_lt (seen_in_flags x Us flag.client) flag.request then flag.request else seen_in_flags x Us flag.client)
-        by (inl p) = subst (λ (b : Bool). flag.request ≤ (if b && nat_lt (seen_in_flags x Us flag.client) flag.request then flag.request else seen_in_flags x Us flag.client)) (sym p.0) (least flag.request (seen_in_flags x Us flag.client))
+        by : ((client_eq flag.client flag.client ≡ true) × (flag.client ≡ flag.client)) ⊎ ((client_eq flag.client flag.client ≡ false) × (flag.client ≢ flag.client)) → flag.request.0 ≤ (if client_eq flag.client flag.client && nat_lt (seen_in_flags x Us flag.client) flag.request.0 then flag.request.0 else seen_in_flags x Us flag.client)
+        by (inl p) = subst (λ (b : Bool). flag.request.0 ≤ (if b && nat_lt (seen_in_flags x Us flag.client) flag.request.0 then flag.request.0 else seen_in_flags x Us flag.client)) (sym p.0) (least flag.request.0 (seen_in_flags x Us flag.client))
         by (inr p) = absurd (p.1 refl)
 
     less : (a b : ℕ) → a < b → (c : ℕ) → b ≤ c → a ≤ c
@@ -586,4 +587,4 @@ restored-past os clients w Caused x Ts flags = some Ts (λ c n h. h)
         by : (o : Option FlagState) → x.flags T ≡ o → FlagPast os clients w Caused T o → Each (EntryFact os clients w Caused (seen_in_flags x Ts)) (restored_transactions x Us)
             → Each (EntryFact os clients w Caused (seen_in_flags x Ts)) (restored_transaction T o ++ restored_transactions x Us)
         by None e f on = on
-        by (Some flag) e f on = (record { request = f.had.request; has = f.had.has; seen_it = h flag.client f.had.request (less f.had.request flag.request f.later _ (own T Us flag e)); stage = (f.had, λ q. no-true q) }, on)
+        by (Some flag) e f on = (record { request = f.had.request; has = f.had.has; seen_it = h flag.client f.had.request.0 (less f.had.request.0 flag.request.0 f.later _ (own T Us flag e)); stage = (f.had, λ q. no-true q) }, on)

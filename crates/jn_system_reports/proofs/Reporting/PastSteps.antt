@@ -1,5 +1,6 @@
 -- Each step keeps what holds of transactions that are past: a server forgets no other, and a client asks nothing more of it.
 use Rattle.jn_system_reports.proofs.Common.{◌≡◌, ◌≢◌, ◌⊎◌, inl, inr, ◌<◌, ℕ, zero, suc, ◌+◌, Bool, true, false, List, [], ◌∷◌, ◌++◌, take, Option, Some, None, is_some, refl, sym, ◌∙◌, ap, subst, if◌then◌else◌, ServerNo, ClientNo, Tid, Cause, tid_eq, tid_tells, Outstanding, StableState, Pick, Change, AddReady, MarkGoing, CarryOut, RemoveWork, AddFlag, DropFlag, made_by, made_all, stable, Sent, ClientTable, Machine, World, Memory, Opening, opening_in, openings, openings-more, Has, has-first, has-either, Began}
+use Rattle.jn_base.specs.declared.names.RequestNo.{RequestNo}
 use Rattle.jn_msgs.specs.declared.message.Message.TheVariants as messages
 use Rattle.jn_system_order.proofs.Ordering.Facts.{opening}
 use Rattle.jn_system_reports.proofs.Reporting.Lists.{Each, each-append, each-more}
@@ -8,7 +9,7 @@ use Rattle.jn_system_reports.proofs.Reporting.PastRows.{IsThere}
 
 pub record PastFacts (sent : List Sent) (clients : ClientNo → ClientTable) (memory : ServerNo → Option Memory) (found : ServerNo → Pick → StableState) (w : Machine) (Caused : ClientNo → Tid → Cause → Type 0) : Type 0 where
   -- what is outstanding has the last request
-  pub last : (c : ClientNo) (o : Outstanding) → (clients c).outstanding ≡ Some o → (clients c).next ≡ o.request + 1
+  pub last : (c : ClientNo) (o : Outstanding) → (clients c).outstanding ≡ Some o → (clients c).next ≡ o.request.0 + 1
   pub says : Each (SaysPast (openings sent) clients w Caused) sent
   pub entries : (s : ServerNo) (m : Memory) → memory s ≡ Some m → Each (EntryFact (openings sent) clients w Caused m.coordinator.seen) m.coordinator.transactions
   pub flags : (s : ServerNo) (c : Pick) (T : Tid) → FlagPast (openings sent) clients w Caused T ((found s c).flags T)
@@ -19,17 +20,17 @@ pub record PastFacts (sent : List Sent) (clients : ClientNo → ClientTable) (me
 
 -- ---- openings
 
-opening-drawn : (os : List Opening) (clients : ClientNo → ClientTable) (w : Machine) (Caused : ClientNo → Tid → Cause → Type 0) (x : Sent) → SaysPast os clients w Caused x → (a : Opening) → Has a (opening_in x) → a.request < (clients a.client).next
-opening-drawn os clients w Caused (to, messages.Begun c q (Some T)) h a (inl e) = subst (λ (z : Opening). z.request < (clients z.client).next) e h
+opening-drawn : (os : List Opening) (clients : ClientNo → ClientTable) (w : Machine) (Caused : ClientNo → Tid → Cause → Type 0) (x : Sent) → SaysPast os clients w Caused x → (a : Opening) → Has a (opening_in x) → a.request.0 < (clients a.client).next
+opening-drawn os clients w Caused (to, messages.Begun c q (Some T)) h a (inl e) = subst (λ (z : Opening). z.request.0 < (clients z.client).next) e h
 opening-drawn os clients w Caused (to, messages.Begun c q (Some T)) h a (inr k) = absurd k
 opening-drawn os clients w Caused (to, messages.Begun c q None) h a k = absurd k
 opening-drawn os clients w Caused (to, _) h a k = absurd k
 
-pub all-drawn : (os : List Opening) (clients : ClientNo → ClientTable) (w : Machine) (Caused : ClientNo → Tid → Cause → Type 0) (sent : List Sent) → Each (SaysPast os clients w Caused) sent → (a : Opening) → Has a (openings sent) → a.request < (clients a.client).next
+pub all-drawn : (os : List Opening) (clients : ClientNo → ClientTable) (w : Machine) (Caused : ClientNo → Tid → Cause → Type 0) (sent : List Sent) → Each (SaysPast os clients w Caused) sent → (a : Opening) → Has a (openings sent) → a.request.0 < (clients a.client).next
 all-drawn os clients w Caused [] h a k = absurd k
 all-drawn os clients w Caused (x ∷ sent) h a k = by (has-either a (opening_in x) (openings sent) k) (all-drawn os clients w Caused sent h.1 a)
   where
-    by : Has a (opening_in x) ⊎ Has a (openings sent) → (Has a (openings sent) → a.request < (clients a.client).next) → a.request < (clients a.client).next
+    by : Has a (opening_in x) ⊎ Has a (openings sent) → (Has a (openings sent) → a.request.0 < (clients a.client).next) → a.request.0 < (clients a.client).next
     by (inl i) on = opening-drawn os clients w Caused x h.0 a i
     by (inr i) on = on i
 
@@ -110,7 +111,7 @@ module _ (r : World) (w v : Machine) (Caused Caused' : ClientNo → Tid → Caus
     forth : (a : Opening) → Has a (openings r.sent) → Has a (openings (r.sent ++ more))
     forth a h = subst (λ l. Has a l) (sym (openings-more r.sent more)) (has-first a (openings r.sent) (openings more) h)
 
-    back : (c : ClientNo) (T : Tid) (q : ℕ) → (r.clients c).transaction ≡ Some T → Has (opening c q T) (openings (r.sent ++ more)) → Has (opening c q T) (openings r.sent)
+    back : (c : ClientNo) (T : Tid) (q : RequestNo) → (r.clients c).transaction ≡ Some T → Has (opening c q T) (openings (r.sent ++ more)) → Has (opening c q T) (openings r.sent)
     back c T q e h = let b = runs c T e in subst (λ (a : Opening). Has a (openings r.sent)) (unique (opening c b.request T) (opening c q T) (forth _ b.has) h refl) b.has
 
     goes : Goes (openings r.sent) (openings (r.sent ++ more)) r.clients r.clients w v Caused Caused'

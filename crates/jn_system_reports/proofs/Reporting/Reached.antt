@@ -1,5 +1,6 @@
 -- What holds after any steps from an opening: the machine stands there too, and all facts hold.
 use Rattle.jn_system_reports.proofs.Common.{◌≡◌, ◌⊎◌, inl, inr, ℕ, Bool, true, false, List, [], ◌∷◌, ◌++◌, Some, None, is_some, sym, ◌∙◌, ap, subst, arith, list_any, ServerNo, Tid, tid_eq, AllFiles, Machine, Invariant, Atom, run_atoms, opening_world, MayRun, run_kept, opening_kept, still-says, run-append, may-append, opening-mirrors, committed-any, run_told, opening_told, AreNamed, Mirrors, World, opening, new_memory, has_line, Step, IsStep, after, LockFacts, locks-keep, opening-keeps, Facts, step-next, opening-facts, Next, ◌||◌, if◌then◌else◌, All, All-head, All-tail, ClientNo, WorkId, LockUnit, Cause, Server, server_eq, work_eq, work_tells, Message, Vote, Text, OpenWork, Outstanding, Pick, stable, Sent, worker_row, is_work, coordinator_row, ClientTable, names_of, IsWorkOf, Grows, run_grows, not_both, some_of, Memory, Room, storage_of, of_worker, done, ServerFact, UpFact, IsAddressed, worker-none, Opening, openings, Has, began_by, is_closing, EndsNow}
+use Rattle.jn_base.specs.declared.names.RequestNo.{RequestNo}
 use Rattle.jn_msgs.specs.declared.message.Message.TheVariants as messages
 use Rattle.jn_system_order.proofs.Ordering.Named.{step-names}
 use Rattle.jn_system_reports.proofs.Reporting.Talk.{Talk, step-talk, opening-talk}
@@ -137,23 +138,23 @@ module _ (r : World) (w : Machine) (atoms : List Atom) (may : MayRun atoms w) (m
       same-owner : (U : Tid) → IsWorkOf (run_atoms atoms w) U a.work → U ≡ T
       same-owner U k = sym k.1 ∙ of.1
 
-      known : IsKnown (openings (after step r).sent) (run_atoms atoms w) a.client ((after step r).clients a.client) a.work a.number
+      known : IsKnown (openings (after step r).sent) (run_atoms atoms w) a.client ((after step r).clients a.client) a.work a.number.0
       known = (talk'.asked a h).known
 
       old : IsAsked r.sent a ⊎ IsFresh r w a → w.ended T ≡ true → (run_atoms atoms w).part T a.work.server ≡ Some a.work
       old (inl k) we = let was = (talk.asked a k).known in grown.part T we a.work.server ∙ ends a k T (subst (λ (U : Tid). IsWorkOf w U a.work) (same-owner was.tid (grow was.tid a.work was.of)) was.of) we
       old (inr k) we = absurd (not_both (w.ended T) we (subst (λ (U : Tid). w.ended U ≡ false) (same-owner k.tid (grow k.tid a.work k.of)) ((facts.clients a.client).fresh k.tid k.current (ap is_closing k.idle))))
 
-      now : EndsNow (after step r) (run_atoms atoms w) T → IsOpen ((after step r).clients a.client) known.tid a.work a.number ⊎ IsPast (openings (after step r).sent) a.client ((after step r).clients a.client) known.tid → (run_atoms atoms w).part T a.work.server ≡ Some a.work
+      now : EndsNow (after step r) (run_atoms atoms w) T → IsOpen ((after step r).clients a.client) known.tid a.work a.number.0 ⊎ IsPast (openings (after step r).sent) a.client ((after step r).clients a.client) known.tid → (run_atoms atoms w).part T a.work.server ≡ Some a.work
       now n k = at k
         where
           tid : known.tid ≡ T
           tid = same-owner known.tid known.of
 
-          is-own : (q : ℕ) → Has (began_by a.client q known.tid) (openings (after step r).sent) → n.client ≡ a.client
+          is-own : (q : RequestNo) → Has (began_by a.client q known.tid) (openings (after step r).sent) → n.client ≡ a.client
           is-own q has = let b = (facts'.clients n.client).current T n.current in ap (λ (z : Opening). z.client) (facts'.unique (began_by n.client b.request T) (began_by a.client q known.tid) b.has has (sym tid))
 
-          at : IsOpen ((after step r).clients a.client) known.tid a.work a.number ⊎ IsPast (openings (after step r).sent) a.client ((after step r).clients a.client) known.tid → (run_atoms atoms w).part T a.work.server ≡ Some a.work
+          at : IsOpen ((after step r).clients a.client) known.tid a.work a.number.0 ⊎ IsPast (openings (after step r).sent) a.client ((after step r).clients a.client) known.tid → (run_atoms atoms w).part T a.work.server ≡ Some a.work
           at (inl p) = let b = (facts'.clients a.client).current known.tid p.current in n.parts a.work (subst (λ (c : ClientNo). is_work a.work (names_of ((after step r).clients c).works) ≡ true) (sym (is-own b.request b.has))
               (subst (λ (W : WorkId). is_work W (names_of ((after step r).clients a.client).works) ≡ true) p.named (found-named a.work.server ((after step r).clients a.client).works p.work p.found)))
           at (inr p) = absurd (p.over (ap (λ (c : ClientNo). ((after step r).clients c).transaction) (sym (is-own p.request p.has)) ∙ n.current ∙ ap (λ (z : Tid). Some z) (sym tid)))

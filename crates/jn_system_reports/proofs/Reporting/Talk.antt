@@ -1,5 +1,7 @@
 -- Each step keeps what holds of the operations that clients ask for, and of their answers.
 use Rattle.jn_system_reports.proofs.Common.{◌≡◌, ◌≢◌, ◌⊎◌, inl, inr, ◌≤◌, ℕ, ◌+◌, Bool, true, false, List, [], ◌∷◌, ◌++◌, append-nil, Option, Some, None, refl, sym, ◌∙◌, ap, subst, arith, if◌then◌else◌, slice_get, ServerNo, ClientNo, Tid, WorkId, Party, Client, Server, server_eq, client_eq, client_tells, Message, OpenWork, Outstanding, Taken, StableState, Pick, stable, RowOutcome, Sent, WorkerTable, worker_row, worker_step, worker_again, timeout_row, coordinator_row, coordinator_again, close_clients_row, ClientTable, Commanded, Refuses, Sends, command_row, take_row, sent_again, over, Machine, IsWorkOf, World, Memory, at_server, at_client, new_memory, AllFiles, Room, storage_of, of_worker, of_coordinator, of_step, server_row, of_timeout, restored, Step, NextEvent, Tell, Again, Deliver, Nudge, Timeout, StopDelivery, StopWork, Crash, Narrow, StopRestart, Restart, Dismiss, CloseClients, after, commanded, sent_now, took, ends, at_memory, handed, works, work, nudge, timeout, crash, narrow, stop_restart, restart, dismiss, close_clients, Mirrors, IsCurrent, AreOpen, found-open, Opening, opening_in, openings, openings-more, Has, has-first, Began, Facts, all-have-theirs, holds-of}
+use Rattle.jn_base.specs.declared.names.OperationNo.{OperationNo}
+use Rattle.jn_base.specs.declared.names.RequestNo.{RequestNo}
 use Rattle.jn_msgs.specs.declared.message.Message.TheVariants as messages
 use Rattle.jn_rows.specs.declared.client.Taken.TheVariants as taken
 use Rattle.jn_rows.specs.Client.{work_at}
@@ -140,7 +142,7 @@ module _ (r : World) (w v : Machine) (mirrors : Mirrors r w) (facts : Facts r w)
   apart : (c : ClientNo) (u : ClientTable) (a b : Asking) → IsNext (openings r.sent) w w.ended r.sent c (r.clients c) (facts.clients c) facts.unique (talk.waits c) (current c) u a → IsAsked r.sent b → a.work ≡ b.work → a.number ≡ b.number → ⊥
   apart c u a b n asked same number = by known.stands
     where
-      known : IsKnown (openings r.sent) w b.client (r.clients b.client) b.work b.number
+      known : IsKnown (openings r.sent) w b.client (r.clients b.client) b.work b.number.0
       known = (talk.asked b asked).known
 
       its : IsWorkOf w n.tid n.work.work × (n.work.work.server ≡ n.server)
@@ -152,7 +154,7 @@ module _ (r : World) (w v : Machine) (mirrors : Mirrors r w) (facts : Facts r w)
       began : Began (openings r.sent) c (r.clients c).next n.tid
       began = (facts.clients c).current n.tid n.is
 
-      is-own : (q : ℕ) → Has (opening b.client q known.tid) (openings r.sent) → c ≡ b.client
+      is-own : (q : RequestNo) → Has (opening b.client q known.tid) (openings r.sent) → c ≡ b.client
       is-own q h = ap (λ (z : Opening). z.client) (facts.unique (opening c began.request n.tid) (opening b.client q known.tid) began.has h (sym tid))
 
       too-many : (n m k : ℕ) → n ≡ m → n ≡ k + 1 → m ≤ k → ⊥
@@ -161,8 +163,8 @@ module _ (r : World) (w v : Machine) (mirrors : Mirrors r w) (facts : Facts r w)
       some-open : (v x : OpenWork) → Some v ≡ Some x → v ≡ x
       some-open v x e = cc
 
-      by : IsOpen (r.clients b.client) known.tid b.work b.number ⊎ IsPast (openings r.sent) b.client (r.clients b.client) known.tid → ⊥
-      by (inl p) = too-many a.number b.number n.work.last number n.number (subst (λ (x : OpenWork). b.number ≤ x.last) (some-open p.work n.work (sym p.found ∙ at-same ∙ n.found)) p.counted)
+      by : IsOpen (r.clients b.client) known.tid b.work b.number.0 ⊎ IsPast (openings r.sent) b.client (r.clients b.client) known.tid → ⊥
+      by (inl p) = too-many a.number.0 b.number.0 n.work.last (ap (λ (z : OperationNo). z.0) number) n.number (subst (λ (x : OpenWork). b.number.0 ≤ x.last) (some-open p.work n.work (sym p.found ∙ at-same ∙ n.found)) p.counted)
         where
           client : c ≡ b.client
           client = is-own ((facts.clients b.client).current known.tid p.current).request ((facts.clients b.client).current known.tid p.current).has

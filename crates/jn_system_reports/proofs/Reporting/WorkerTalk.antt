@@ -1,5 +1,8 @@
 -- What a worker answers can be the answer of what was asked, and so can what it keeps.
 use Rattle.jn_system_reports.proofs.Common.{◌≡◌, ◌⊎◌, inl, inr, ◌≤◌, ℕ, ◌+◌, Bool, true, false, List, [], ◌∷◌, ◌++◌, Option, Some, None, refl, sym, ◌∙◌, ap, subst, arith, if◌then◌else◌, nat_eq, nat_lt, length, slice_get, is_some, nat_tests, ClientNo, Tid, WorkId, Tickets, LockUnit, File, Block, Server, Op, Answer, tid_eq, work_eq, Files, change, answer_to, or_else, zeros, Intention, list_change, length_with, Message, Vote, Work, Phase, Active, Broken, Stored, ActiveWork, StableState, Prepared, is_going, RowOutcome, Sent, WorkerTable, WorkStorage, Wanted, Held, work_at, work_of, with_phase, without, after_grant, breaks_at, broken_by, units_for, with_units, open_row, wants_of, is_fit, list_with, locked, first_of_two, refusal_of, granted_row, repeated, op_phase, op_row, conflict, commit_wants, vote_of, shortage, need_in, prepared_row, prepare_phase, prepare_row, commit_phase, drop_phase, drop_row, worker_row, going_work, intentions_of, carried_row, going_row, worker_step, worker_again, timed_out, timeout_row, vulnerable, restored_worker, restored_work, Read, found-name, work_is}
+use Rattle.jn_base.specs.Names.{operation_of}
+use Rattle.jn_base.specs.declared.names.OperationNo.{OperationNo}
+use Rattle.jn_base.specs.declared.names.RequestNo.{RequestNo}
 use Rattle.jn_base.specs.declared.op.Op.TheVariants as ops
 use Rattle.jn_base.specs.declared.op.Answer.TheVariants as answers
 use Rattle.jn_records.specs.NetEdits.{intention_for}
@@ -174,7 +177,7 @@ module _ (sent : List Sent) (once : (a b : Asking) → IsAsked sent a → IsAske
   grant-keeps T W wants (v ∷ vs) h = (broken-keeps T (breaks_at W wants v) v h.0, grant-keeps T W wants vs h.1)
 
   module _ (t : WorkerTable) (k : Tickets) (keeps : Each (KeepsWork sent) t) where
-    open-talks : (c : ClientNo) (q : ℕ) (T : Tid) (o : Option Work) → Talks (open_row t k c q T o)
+    open-talks : (c : ClientNo) (q : RequestNo) (T : Tid) (o : Option Work) → Talks (open_row t k c q T o)
     open-talks c q T (Some w) = ((tt, tt), keeps)
     open-talks c q T None = either (nat_lt (length t) 64) _ _ ((tt, tt), each-append (KeepsWork sent) t _ keeps ((short, tt, inl (refl, refl)), tt)) ((tt, tt), keeps)
       where
@@ -182,20 +185,20 @@ module _ (sent : List Sent) (once : (a b : Asking) → IsAsked sent a → IsAske
         short = omega arith
 
     -- an answer to what was asked
-    module _ (c : ClientNo) (q : ℕ) (W : WorkId) (n : ℕ) (op : Op) (asked : IsAsked sent (record { client = c; request = q; work = W; number = n; op = op })) where
+    module _ (c : ClientNo) (q : RequestNo) (W : WorkId) (n : OperationNo) (op : Op) (asked : IsAsked sent (record { client = c; request = q; work = W; number = n; op = op })) where
       abbrev it : (answer : Answer) → can_answer op answer ≡ true → Answers sent answer
       it answer h = record { of = record { client = c; request = q; work = W; number = n; op = op }; asked = asked; fits = h }
 
       reply : (answer : Answer) → can_answer op answer ≡ true → IsAnswered sent c q answer
       reply answer h = record { by = it answer h; client = refl; request = refl }
 
-      keep : (answer : Answer) (N : WorkId) (m : ℕ) → N ≡ W → n ≡ m → can_answer op answer ≡ true → IsKept sent N m answer
+      keep : (answer : Answer) (N : WorkId) (m : ℕ) → N ≡ W → n.0 ≡ m → can_answer op answer ≡ true → IsKept sent N m answer
       keep answer N m e f h = record { by = it answer h; work = sym e; number = f }
 
       was : {P : Type 0} → (N : WorkId) → N ≡ W → P ⊎ WasAsked sent N
       was N e = inr (record { of = record { client = c; request = q; work = W; number = n; op = op }; asked = asked; work = sym e })
 
-      granted-talks : (w : Work) (a : ActiveWork) (answer : Answer) (o : Option Answer) → w.name ≡ W → n ≡ a.last + 1 → length a.list ≤ 24 → can_answer op answer ≡ true → refusal_of t w.name a op answer (wants_of op (is_fit answer)) ≡ o
+      granted-talks : (w : Work) (a : ActiveWork) (answer : Answer) (o : Option Answer) → w.name ≡ W → n.0 ≡ a.last + 1 → length a.list ≤ 24 → can_answer op answer ≡ true → refusal_of t w.name a op answer (wants_of op (is_fit answer)) ≡ o
           → Talks (granted_row t k c q w a op answer (wants_of op (is_fit answer)) o)
       granted-talks w a answer (Some refusal) e f few fits h = let r = refusal-fits t w.name a op answer (wants_of op (is_fit answer)) refusal few h in
           ((reply refusal r, tt), each-phase (KeepsWork sent) w.name _ t (λ v g p. (few, keep refusal v.name (a.last + 1) (g ∙ e) f r, was v.name (g ∙ e))) keeps)
@@ -205,12 +208,12 @@ module _ (sent : List Sent) (once : (a b : Asking) → IsAsked sent a → IsAske
             (λ v g p. (short-done t w.name a op answer (wants_of op (is_fit answer)) few h, keep answer v.name (a.last + 1) (g ∙ e) f fits, was v.name (g ∙ e))) (grant-keeps w.tid w.name (wants_of op (is_fit answer)) t keeps),
       )
 
-      repeated-talks : (w : Work) (last : ℕ) (o : Option Answer) → w.name ≡ W → n ≡ last → KeepsAnswer sent w.name last o → Talks (repeated t k c q o)
+      repeated-talks : (w : Work) (last : ℕ) (o : Option Answer) → w.name ≡ W → n.0 ≡ last → KeepsAnswer sent w.name last o → Talks (repeated t k c q o)
       repeated-talks w last None e f h = (tt, keeps)
       repeated-talks w last (Some answer) e f h = ((record { by = it answer fits; client = refl; request = refl }, tt), keeps)
         where
           same : h.by.of ≡ record { client = c; request = q; work = W; number = n; op = op }
-          same = once h.by.of _ h.by.asked asked (h.work ∙ e) (h.number ∙ sym f)
+          same = once h.by.of _ h.by.asked asked (h.work ∙ e) (ap operation_of (h.number ∙ sym f))
 
           fits : can_answer op answer ≡ true
           fits = ap (λ (a : Asking). can_answer a.op answer) (sym same) ∙ h.by.fits
@@ -221,9 +224,9 @@ module _ (sent : List Sent) (once : (a b : Asking) → IsAsked sent a → IsAske
       phase-talks : (files : Files) (w : Work) (p : Phase) → w.name ≡ W → KeepsPhase sent w.name p → Talks (op_phase t files k c q w n op p)
       phase-talks files w (Broken u by) e h = ((reply (answers.Broken u by) refl, tt), keeps)
       phase-talks files w (Stored p) e h = ((reply answers.Closing refl, tt), keeps)
-      phase-talks files w (Active a) e h = where-is (nat_eq n (a.last + 1)) _ _
-          (λ f. granted-talks w a (answer_to op (change (list_change a.list) files)) _ e (number-of n (a.last + 1) f) h.0 (answer-fits op (change (list_change a.list) files)) refl)
-          (where-is (nat_eq n a.last) _ _ (λ f. repeated-talks w a.last a.kept e (number-of n a.last f) h.1) (tt, keeps))
+      phase-talks files w (Active a) e h = where-is (nat_eq n.0 (a.last + 1)) _ _
+          (λ f. granted-talks w a (answer_to op (change (list_change a.list) files)) _ e (number-of n.0 (a.last + 1) f) h.0 (answer-fits op (change (list_change a.list) files)) refl)
+          (where-is (nat_eq n.0 a.last) _ _ (λ f. repeated-talks w a.last a.kept e (number-of n.0 a.last f) h.1) (tt, keeps))
 
       op-talks : (files : Files) (o : Option Work) → work_at W t ≡ o → Talks (op_row t files k c q W n op o)
       op-talks files None e = ((reply (answers.Lost W.epoch k.epoch) refl, tt), keeps)

@@ -1,5 +1,5 @@
 -- The commits of the lines are those of the machine, with what its works did.
-use Rattle.jn_system_reports.proofs.Common.{◌≡◌, ◌⊎◌, inl, inr, ℕ, ◌+◌, Bool, true, false, List, [], ◌∷◌, ◌++◌, Option, Some, None, refl, sym, ◌∙◌, ap, subst, arith, fun_ext, ◌||◌, list_any, All-nil, ServerNo, LockUnit, Tid, WorkId, tid_eq, tid_tells, AllFiles, change, Event, Line, Pick, stable, history_of, Performed, files_then, GivesAnswers, ops_of, replay-lines, AgreesFrom, Answered, effects, Agrees, Machine, Commit, IsSerial, Atom, trace_of, run_atoms, opening_world, MayRun, Invariant, has_committed, HasTraces, InOrder, not_both, false_unless, run_kept, opening_kept, run_grows, Text, IsTold, run_told, opening_told, in_order, World, commits_in, opening, Step, IsStep, after, LockFacts, ServerFact, locks-keep, opening-keeps, Mirrors, commits_of, run-append, may-append, committed-any, opening-mirrors, IsDone, Facts, opening-facts, ops_in, at_place, AreAsTold}
+use Rattle.jn_system_reports.proofs.Common.{◌≡◌, ◌⊎◌, inl, inr, ℕ, Bool, true, false, List, [], ◌∷◌, ◌++◌, Option, Some, None, refl, sym, ◌∙◌, ap, subst, arith, fun_ext, ◌||◌, list_any, All-nil, ServerNo, LockUnit, Tid, WorkId, tid_eq, tid_tells, AllFiles, change, Event, Line, Pick, stable, history_of, Performed, files_then, GivesAnswers, ops_of, replay-lines, AgreesFrom, Answered, effects, Agrees, Machine, Commit, IsSerial, Atom, trace_of, run_atoms, opening_world, MayRun, Invariant, has_committed, HasTraces, InOrder, not_both, false_unless, run_kept, opening_kept, run_grows, Text, IsTold, run_told, opening_told, in_order, World, commits_in, opening, Step, IsStep, after, LockFacts, ServerFact, locks-keep, opening-keeps, Mirrors, commits_of, run-append, may-append, committed-any, opening-mirrors, IsDone, Facts, opening-facts, ops_in, at_place, AreAsTold}
 use Rattle.jn_system.specs.SmallSteps.World.{replay}
 use Rattle.jn_system_order.proofs.Ordering.Unlocked.{writes-nothing}
 use Rattle.jn_system_reports.proofs.Telling.Tellings.{SaysAs, as-itself, all-answers}

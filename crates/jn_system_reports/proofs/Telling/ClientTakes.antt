@@ -1,5 +1,7 @@
 -- A client takes a message.
-use Rattle.jn_system_reports.proofs.Common.{◌≡◌, ◌≢◌, ◌⊎◌, inl, inr, ◌<◌, ◌≤◌, ℕ, ◌+◌, Bool, true, false, List, [], ◌∷◌, ◌++◌, append-nil, Option, Some, None, refl, sym, ◌∙◌, ap, subst, arith, if◌then◌else◌, ◌||◌, ◌&&◌, nat_eq, All, slice_get, nat_tests, All-nil, ServerNo, ClientNo, Tid, WorkId, Client, Server, Op, Answer, Command, Begin, Open, Do, End, Abort, server_eq, client_eq, tid_eq, work_eq, server_tells, client_tells, tid_tells, Event, CommandOf, Message, Outcome, Text, ActiveWork, OpenWork, Outstanding, Taken, Sent, ClientTable, open_at, is_begin, is_operation, is_end_or_abort, opens, is_current, is_tid, if_waits, idle, over, begun_row, opened_row, answer_line, decided_row, outcome_row, take_row, event_at, performed_in, answered_by, begins_for, owner_after, is_its_client, work_same, Answered, Machine, Says, IsWorkOf, not_both, false_unless, some_is, none_some, World, at_client, took, taken_by, Mirrors, IsCurrent, found-open, holds-of, Opening, opening_in, openings, Has, is_closing, Facts, all-have-theirs, any-append, ops_in, owner_in, begins_it, is_begun, begun_by, at_place}
+use Rattle.jn_system_reports.proofs.Common.{◌≡◌, ◌≢◌, ◌⊎◌, inl, inr, ◌<◌, ◌≤◌, ℕ, ◌+◌, Bool, true, false, List, [], ◌∷◌, ◌++◌, append-nil, Option, Some, None, refl, sym, ◌∙◌, ap, subst, arith, if◌then◌else◌, ◌||◌, ◌&&◌, All, slice_get, nat_tests, All-nil, ServerNo, ClientNo, Tid, WorkId, Client, Server, Op, Answer, Command, Begin, Open, Do, End, Abort, server_eq, client_eq, tid_eq, work_eq, server_tells, client_tells, tid_tells, Event, CommandOf, Message, Outcome, Text, ActiveWork, OpenWork, Outstanding, Taken, Sent, ClientTable, open_at, is_begin, is_operation, is_end_or_abort, opens, is_current, is_tid, if_waits, idle, over, begun_row, opened_row, answer_line, decided_row, outcome_row, take_row, event_at, performed_in, answered_by, begins_for, owner_after, is_its_client, work_same, Answered, Machine, Says, IsWorkOf, not_both, false_unless, some_is, none_some, World, at_client, took, taken_by, Mirrors, IsCurrent, found-open, holds-of, Opening, opening_in, openings, Has, is_closing, Facts, all-have-theirs, any-append, ops_in, owner_in, begins_it, is_begun, begun_by, at_place}
+use Rattle.jn_base.specs.Names.{request_eq}
+use Rattle.jn_base.specs.declared.names.RequestNo.{RequestNo}
 use Rattle.jn_base.specs.declared.op.Answer.TheVariants as answers
 use Rattle.jn_msgs.specs.declared.message.Message.TheVariants as messages
 use Rattle.jn_msgs.specs.declared.message.Outcome.TheVariants as outcomes
@@ -15,7 +17,7 @@ use Rattle.jn_system_reports.proofs.Telling.ClientTells.{its-begun, other-work}
 
 -- ---- one line more
 
-same-number : (a b : ℕ) → nat_eq a b ≡ true → a ≡ b
+same-number : (a b : RequestNo) → request_eq a b ≡ true → a ≡ b
 same-number a b e = grind (arith, nat_tests)
 
 client-same : (c : ClientNo) → client_eq c c ≡ true
@@ -254,7 +256,7 @@ module _ (events : List Event) (r : World) (w : Machine) (mirrors : Mirrors r w)
           its = by-client (λ d z. z.transaction ≡ Some (w.owner W) → IsOpenAt W (open_at W.server z.works)) r.clients c (idle t) (g.its c) (λ d ne. g.its d);
         }) (λ T e. table-started events r w c (idle t) [] (answer_line c o.event answer ∷ []) draws T (λ d f. sym (by-still d T) ∙ f) (talk.started T (sym (begun-still T) ∙ e)))
       where
-        draws : (t.next ≤ (idle t).next) × ((p : Outstanding) → (idle t).outstanding ≡ Some p → (t.outstanding ≡ Some p) ⊎ (t.next ≤ p.request))
+        draws : (t.next ≤ (idle t).next) × ((p : Outstanding) → (idle t).outstanding ≡ Some p → (t.outstanding ≡ Some p) ⊎ (t.next ≤ p.request.0))
         draws = (le t.next, λ p e. absurd (none_some p e))
 
   -- ---- its transaction begins
@@ -271,7 +273,7 @@ module _ (events : List Event) (r : World) (w : Machine) (mirrors : Mirrors r w)
     not-begun = false_unless (is_begun T r.lines) (λ e. clash (talk.started T e))
       where
         clash : IsStarted r T → ⊥
-        clash h = self o.request (subst (λ n. n < o.request) request (h.before o (ap (λ (d : ClientNo). (r.clients d).outstanding) client ∙ waits) begins))
+        clash h = self o.request.0 (subst (λ (n : RequestNo). n.0 < o.request.0) request (h.before o (ap (λ (d : ClientNo). (r.clients d).outstanding) client ∙ waits) begins))
           where
             same : opening h.client h.request T ≡ opening c o.request T
             same = facts.unique (opening h.client h.request T) (opening c o.request T) h.has has refl
@@ -342,7 +344,7 @@ module _ (events : List Event) (r : World) (w : Machine) (mirrors : Mirrors r w)
       running = λ U e g q. subst (λ (z : Tid). said events z q (r.lines ++ says.Begun c o.event T ∷ []) ≡ []) (some_is T U e) (said-so T q ∙ ap (λ z. at_place q z) (none-told events T r.lines not-begun).0);
     }
 
-    begun-draws : (t.next ≤ in-it.next) × ((p : Outstanding) → in-it.outstanding ≡ Some p → (t.outstanding ≡ Some p) ⊎ (t.next ≤ p.request))
+    begun-draws : (t.next ≤ in-it.next) × ((p : Outstanding) → in-it.outstanding ≡ Some p → (t.outstanding ≡ Some p) ⊎ (t.next ≤ p.request.0))
     begun-draws = (le t.next, λ p e. absurd (none_some p e))
 
     begun-started : (U : Tid) → is_begun U (r.lines ++ says.Begun c o.event T ∷ []) ≡ true → IsStarted begun-world U
@@ -365,7 +367,7 @@ module _ (events : List Event) (r : World) (w : Machine) (mirrors : Mirrors r w)
           client = c;
           request = o.request;
           has = subst (λ l. Has (opening c o.request T) (openings l)) (sym (append-nil r.sent)) has;
-          drawn = subst (λ (z : ClientTable). o.request < z.next) (sym (at-own r.clients c in-it)) ((facts.clients c).waits o waits).drawn;
+          drawn = subst (λ (z : ClientTable). o.request.0 < z.next) (sym (at-own r.clients c in-it)) ((facts.clients c).waits o waits).drawn;
           before = λ p f g. absurd (none_some p (ap (λ (z : ClientTable). z.outstanding) (sym (at-own r.clients c in-it)) ∙ f));
           its = λ d f. now-its d (begun_by d T r.lines) refl (sym (any-append (begins_for d T) r.lines (says.Begun c o.event T ∷ [])) ∙ f) (client_tells d c);
         }
@@ -449,7 +451,7 @@ module _ (events : List Event) (r : World) (w : Machine) (mirrors : Mirrors r w)
         by None e g = absurd g
         by (Some y) e g = subst (λ z. IsOpenAt V z) (sym (more-there q t.works new-work y e)) g
 
-    opened-draws : (t.next ≤ with-it.next) × ((p : Outstanding) → with-it.outstanding ≡ Some p → (t.outstanding ≡ Some p) ⊎ (t.next ≤ p.request))
+    opened-draws : (t.next ≤ with-it.next) × ((p : Outstanding) → with-it.outstanding ≡ Some p → (t.outstanding ≡ Some p) ⊎ (t.next ≤ p.request.0))
     opened-draws = (le t.next, λ p e. absurd (none_some p e))
 
     pub opened-talks : Talk events opened-world w
@@ -574,7 +576,7 @@ module _ (events : List Event) (r : World) (w : Machine) (mirrors : Mirrors r w)
       by (inr p) = absurd (not_both (tid_eq T U) e p.0)
 
   module _ (message : Message) (sent : slice_get r.sent k ≡ Some (Client c, message)) where
-    begun-takes : (d : ClientNo) (request : ℕ) (answer : Option Tid) → message ≡ messages.Begun d request answer → (o : Outstanding) → t.outstanding ≡ Some o → client_eq d t.client ≡ true → nat_eq o.request request ≡ true → is_begin o.command ≡ true → TakeTalks (begun_row t o.event answer)
+    begun-takes : (d : ClientNo) (request : RequestNo) (answer : Option Tid) → message ≡ messages.Begun d request answer → (o : Outstanding) → t.outstanding ≡ Some o → client_eq d t.client ≡ true → request_eq o.request request ≡ true → is_begin o.command ≡ true → TakeTalks (begun_row t o.event answer)
     begun-takes d request None m o e f g b = refused-talks o _ e (begin-command o.command b).0 (begin-command o.command b).1 tt
     begun-takes d request (Some T) m o e f g b = subst (λ (z : ClientNo). TakesWell (now events r w c (record (idle t) { transaction = Some T; works = [] }) [] (says.Begun z o.event T ∷ []))) (sym its-name) (begun-talks o e b T has, begun-line c o.event T)
       where
@@ -584,12 +586,12 @@ module _ (events : List Event) (r : World) (w : Machine) (mirrors : Mirrors r w)
         has : Has (opening c o.request T) (openings r.sent)
         has = subst (λ (z : ClientNo). Has (opening z o.request T) (openings r.sent)) (is-client d t.client f ∙ its-name) (subst (λ n. Has (opening d n T) (openings r.sent)) (sym (same-number o.request request g)) (all (opening d request T) (inl refl)))
 
-    opened-takes : (T : Tid) (answer : Option WorkId) (o : Outstanding) → t.outstanding ≡ Some o → is_current t T ≡ true → opens answer o.command ≡ true → Says w (messages.Opened c 0 T answer) → TakeTalks (opened_row t o.event answer)
+    opened-takes : (T : Tid) (answer : Option WorkId) (o : Outstanding) → t.outstanding ≡ Some o → is_current t T ≡ true → opens answer o.command ≡ true → Says w (messages.Opened c (record { 0 = 0 }) T answer) → TakeTalks (opened_row t o.event answer)
     opened-takes T None o e f g said = refused-talks o _ e (open-command None o.command g).0 (open-command None o.command g).1 tt
     opened-takes T (Some W) o e f g said = subst (λ (z : ClientNo). TakesWell (now events r w c (record (idle t) { works = t.works ++ (record { work = W; last = 0 }) ∷ [] }) [] (says.Opened z o.event W.server ∷ []))) (sym its-name)
         (opened-talks o e T (its-tid T t.transaction f) W (opens-at W o.command g) ((mirrors.clients c).opening o W.server e (opens-at W o.command g)) said, dumb-line (says.Opened c o.event W.server) tt)
 
-    answer-takes : (d : ClientNo) (request : ℕ) (answer : Answer) → message ≡ messages.Answer d request answer → (o : Outstanding) → t.outstanding ≡ Some o → client_eq d t.client ≡ true → nat_eq o.request request ≡ true → is_operation o.command ≡ true
+    answer-takes : (d : ClientNo) (request : RequestNo) (answer : Answer) → message ≡ messages.Answer d request answer → (o : Outstanding) → t.outstanding ≡ Some o → client_eq d t.client ≡ true → request_eq o.request request ≡ true → is_operation o.command ≡ true
         → TakeTalks (idle t, taken.Told (answer_line t.client o.event answer) None)
     answer-takes d request answer m o e f g b = by o.command refl b ((talk.clients c).asking o e)
       where
@@ -621,10 +623,10 @@ module _ (events : List Event) (r : World) (w : Machine) (mirrors : Mirrors r w)
 
   pub take-talks : (message : Message) → slice_get r.sent k ≡ Some (Client c, message) → Says w message → TakesWell (taken_by c k (take_row t message) r)
   take-talks (messages.Begun d request answer) sent said = where-waits t.outstanding _ _ refl (λ o e f. let g = second-of (client_eq d t.client) _ f in
-      begun-takes (messages.Begun d request answer) sent d request answer refl o e (first-of (client_eq d t.client) _ f) (first-of (nat_eq o.request request) (is_begin o.command) g) (second-of (nat_eq o.request request) (is_begin o.command) g))
-  take-talks (messages.Opened d request T answer) sent said = where-waits t.outstanding _ _ refl (λ o e f. let g = second-of (nat_eq o.request request) _ (second-of (client_eq d t.client) _ f) in
+      begun-takes (messages.Begun d request answer) sent d request answer refl o e (first-of (client_eq d t.client) _ f) (first-of (request_eq o.request request) (is_begin o.command) g) (second-of (request_eq o.request request) (is_begin o.command) g))
+  take-talks (messages.Opened d request T answer) sent said = where-waits t.outstanding _ _ refl (λ o e f. let g = second-of (request_eq o.request request) _ (second-of (client_eq d t.client) _ f) in
       opened-takes (messages.Opened d request T answer) sent T answer o e (first-of (is_current t T) (opens answer o.command) g) (second-of (is_current t T) (opens answer o.command) g) said)
   take-talks (messages.Answer d request answer) sent said = where-waits t.outstanding _ _ refl (λ o e f. let g = second-of (client_eq d t.client) _ f in
-      answer-takes (messages.Answer d request answer) sent d request answer refl o e (first-of (client_eq d t.client) _ f) (first-of (nat_eq o.request request) (is_operation o.command) g) (second-of (nat_eq o.request request) (is_operation o.command) g))
+      answer-takes (messages.Answer d request answer) sent d request answer refl o e (first-of (client_eq d t.client) _ f) (first-of (request_eq o.request request) (is_operation o.command) g) (second-of (request_eq o.request request) (is_operation o.command) g))
   take-talks (messages.Outcome d T outcome) sent said = either (client_eq d t.client) _ _ (λ e. outcome-takes (messages.Outcome d T outcome) sent T outcome) ignores
   take-talks _ sent said = ignores

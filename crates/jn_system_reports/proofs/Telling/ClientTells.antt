@@ -1,5 +1,6 @@
 -- A client does a command, or sends its outstanding message once more.
 use Rattle.jn_system_reports.proofs.Common.{nat_lt, ◌≡◌, ◌≢◌, ◌⊎◌, inl, inr, ◌<◌, ◌≤◌, ℕ, ◌+◌, Bool, true, false, List, [], ◌∷◌, ◌++◌, append-nil, Option, Some, None, refl, sym, ◌∙◌, ap, subst, arith, if◌then◌else◌, ◌||◌, All, All-nil, All-cons, All-append, ServerNo, ClientNo, Tid, WorkId, Party, Server, Op, Command, Begin, Open, Do, End, Abort, server_eq, work_eq, server_tells, work_tells, Event, CommandOf, Message, Refusal, ActiveWork, OpenWork, Outstanding, Sent, ClientTable, Commanded, if_server, if_idle, if_transaction, if_no_transaction, if_open, if_not_open, Refuses, open_at, with_operation, sent_again, is_end_or_abort, sends, event_at, work_same, Machine, Invariant, IsWorkOf, not_both, some_is, none_some, World, at_client, tell, again, commanded, sent_now, Mirrors, IsCurrent, found-open, are-counted, openings, openings-more, Has, has-first, is_closing, Facts, owner_in, is_begun}
+use Rattle.jn_base.specs.Names.{request_of, operation_of}
 use Rattle.jn_msgs.specs.declared.message.Message.TheVariants as messages
 use Rattle.jn_report.specs.declared.line.Refusal.TheVariants as refusals
 use Rattle.jn_report.specs.declared.line.Text.TheVariants as says
@@ -54,12 +55,12 @@ its-begun events T texts c h = by (is_begun T texts) refl
 -- ---- an operation is sent, for the first time or once more
 
 module _ (events : List Event) (r : World) (w : Machine) (talk : Talk events r w) (clients : (d : ClientNo) → IsCurrent w (r.clients d).transaction (r.clients d).works) (inv : Invariant w) (c : ClientNo) (o : Outstanding) (waits : (r.clients c).outstanding ≡ Some o)
-    (s : ServerNo) (op : Op) (its : IsOperation events c (r.clients c) o s op) (drawn : o.request < (r.clients c).next) (fresh : (T : Tid) → (r.clients c).transaction ≡ Some T → w.ended T ≡ false) where
+    (s : ServerNo) (op : Op) (its : IsOperation events c (r.clients c) o s op) (drawn : o.request.0 < (r.clients c).next) (fresh : (T : Tid) → (r.clients c).transaction ≡ Some T → w.ended T ≡ false) where
   abbrev W : WorkId
   W = its.work.work
 
   abbrev x : Sent
-  x = (o.to, messages.Op c o.request W its.work.last op)
+  x = (o.to, messages.Op c o.request W (operation_of its.work.last) op)
 
   work-of : (d : ClientNo) (T : Tid) (q : ServerNo) (y : OpenWork) → (r.clients d).transaction ≡ Some T → open_at q (r.clients d).works ≡ Some y → IsWorkOf w T y.work × (y.work.server ≡ q)
   work-of d T q y e k = found-open w T q (r.clients d).works y (subst (λ z. IsCurrent w z (r.clients d).works) e (clients d)).1 k
@@ -87,7 +88,7 @@ module _ (events : List Event) (r : World) (w : Machine) (talk : Talk events r w
 
           asked : (p : Op) → op_asked (r.clients d).outstanding y.work ≡ Some p → p ≡ op
           asked p l = some_is p op (sym l ∙ ap (λ (z : ClientNo). op_asked (r.clients z).outstanding y.work) f ∙ ap (λ z. op_asked z y.work) waits ∙ ap (λ z. op_in y.work z) its.message
-              ∙ ap (λ (z : WorkId). op_in z (messages.Op c o.request W its.work.last op)) (sym same) ∙ ap (λ (b : Bool). if b then Some op else None) (work_same W))
+              ∙ ap (λ (z : WorkId). op_in z (messages.Op c o.request W (operation_of its.work.last) op)) (sym same) ∙ ap (λ (b : Bool). if b then Some op else None) (work_same W))
 
   past : (T : Tid) (q : ServerNo) (V : WorkId) (a : ActiveWork) → w.ended T ≡ true → w.part T q ≡ Some V → IsPast V a x
   past T q V a ended part same = absurd (not_both (w.ended T) ended (subst (λ (z : Tid). w.ended z ≡ false) (sym its-work.0.1 ∙ ap w.owner same ∙ (inv.core.parts T q V part).owner) (fresh its.tid its.current)))
@@ -170,24 +171,24 @@ module _ (events : List Event) (r : World) (w : Machine) (mirrors : Mirrors r w)
 
   -- a message that is no operation is sent for a command
   sends-plain : (event : ℕ) (command : Command) (to : Party) (message : Message) → IsSilent (to, message)
-      → IsAsking events c (record t { next = t.next + 1; outstanding = Some (record { event = event; request = t.next; command = command; to = to; message = message }) }) (record { event = event; request = t.next; command = command; to = to; message = message }) command
+      → IsAsking events c (record t { next = t.next + 1; outstanding = Some (record { event = event; request = request_of t.next; command = command; to = to; message = message }) }) (record { event = event; request = request_of t.next; command = command; to = to; message = message }) command
       → (is_end_or_abort command ≡ false → (T : Tid) → t.transaction ≡ Some T → t.outstanding ≡ None) → RowTalks (sends t event command to message)
   sends-plain event command to message silent asking idle = subst (λ l. Talk events (record r { clients = at_client r.clients c u; sent = r.sent ++ (to, message) ∷ []; lines = l }) w) (append-nil r.lines)
-      (plain-talks events r w c u ((to, message) ∷ []) [] talk (silent, tt) tt (more t.next, λ p e. inr (subst (λ (z : Outstanding). t.next ≤ z.request) (some_is o p e) (le t.next)))
+      (plain-talks events r w c u ((to, message) ∷ []) [] talk (silent, tt) tt (more t.next, λ p e. inr (subst (λ (z : Outstanding). t.next ≤ z.request.0) (some_is o p e) (le t.next)))
       (λ T e. (e, refl)) (λ p e. subst (λ (z : Outstanding). IsAsking events c u z z.command) (some_is o p e) asking)
       (λ T e k. let free = idle k T e in (ap is_closing free, λ W. (ap (λ z. op_asked z W) free, silent-asks W to message silent))))
     where
       o : Outstanding
-      o = record { event = event; request = t.next; command = command; to = to; message = message }
+      o = record { event = event; request = request_of t.next; command = command; to = to; message = message }
 
       u : ClientTable
-      u = record t { next = t.next + 1; outstanding = Some (record { event = event; request = t.next; command = command; to = to; message = message }) }
+      u = record t { next = t.next + 1; outstanding = Some (record { event = event; request = request_of t.next; command = command; to = to; message = message }) }
 
   -- ---- an operation
 
   module _ (s : ServerNo) (op : Op) (idle : t.outstanding ≡ None) (T : Tid) (current : t.transaction ≡ Some T) (v : OpenWork) (is : open_at s t.works ≡ Some v) (told : event_at events r.event ≡ Some (CommandOf c (Do s op))) where
     abbrev asked : Outstanding
-    asked = record { event = r.event; request = t.next; command = Do s op; to = Server s; message = messages.Op t.client t.next v.work (v.last + 1) op }
+    asked = record { event = r.event; request = request_of t.next; command = Do s op; to = Server s; message = messages.Op t.client (request_of t.next) v.work (operation_of (v.last + 1)) op }
 
     abbrev u : ClientTable
     u = record t { works = with_operation s t.works; next = t.next + 1; outstanding = Some asked }
@@ -202,7 +203,7 @@ module _ (events : List Event) (r : World) (w : Machine) (mirrors : Mirrors r w)
     operation = record {
       work = grown;
       is = counted-at s t.works v is;
-      message = ap (λ (z : ClientNo). messages.Op z t.next v.work (v.last + 1) op) its-name;
+      message = ap (λ (z : ClientNo). messages.Op z (request_of t.next) v.work (operation_of (v.last + 1)) op) its-name;
       told = told;
       tid = T;
       current = current;
@@ -254,8 +255,8 @@ module _ (events : List Event) (r : World) (w : Machine) (mirrors : Mirrors r w)
         by (inl k) = subst (λ z. IsOpenAt W z) (sym (ap (λ (z : ServerNo). open_at z (with_operation s t.works)) (sym k.1) ∙ counted-at s t.works v is)) (subst (λ z. IsOpenAt W z) (ap (λ (z : ServerNo). open_at z t.works) (sym k.1) ∙ is) h)
         by (inr k) = subst (λ z. IsOpenAt W z) (sym (counted-other s q t.works k.1)) h
 
-    draws : (t.next ≤ u.next) × ((p : Outstanding) → u.outstanding ≡ Some p → (t.outstanding ≡ Some p) ⊎ (t.next ≤ p.request))
-    draws = (more t.next, λ p e. inr (subst (λ (z : Outstanding). t.next ≤ z.request) (some_is asked p e) (le t.next)))
+    draws : (t.next ≤ u.next) × ((p : Outstanding) → u.outstanding ≡ Some p → (t.outstanding ≡ Some p) ⊎ (t.next ≤ p.request.0))
+    draws = (more t.next, λ p e. inr (subst (λ (z : Outstanding). t.next ≤ z.request.0) (some_is asked p e) (le t.next)))
 
     table-talks : Talk events r1 w
     table-talks = let same = same-told r.lines [] tt in
@@ -268,7 +269,7 @@ module _ (events : List Event) (r : World) (w : Machine) (mirrors : Mirrors r w)
         }) (λ U e. table-started events r w c u [] [] draws U (λ d f. sym (same.by d U) ∙ f) (talk.started U (sym (same.begun U) ∙ e)))
 
     -- the table as it is, with the message
-    does-talks : RowTalks (sends (record t { works = with_operation s t.works }) r.event (Do s op) (Server s) (messages.Op t.client t.next v.work (v.last + 1) op))
+    does-talks : RowTalks (sends (record t { works = with_operation s t.works }) r.event (Do s op) (Server s) (messages.Op t.client (request_of t.next) v.work (operation_of (v.last + 1)) op))
     does-talks = op-again events r2 w talk2 (by-client (λ d z. IsCurrent w z.transaction z.works) r.clients c u its-current (λ d ne. (mirrors.clients d).current)) inv c asked (ap (λ (z : ClientTable). z.outstanding) (at-own r.clients c u)) s op
         (subst (λ z. IsOperation events c z asked s op) (sym (at-own r.clients c u)) operation) (subst (λ z. t.next < z.next) (sym (at-own r.clients c u)) (below t.next)) fresh
       where

@@ -1,5 +1,6 @@
 -- One client changes, and perhaps something is told: what keeps the talk.
 use Rattle.jn_system_reports.proofs.Common.{◌≡◌, ◌≢◌, ◌⊎◌, inl, inr, ◌<◌, ◌≤◌, ℕ, Bool, true, false, List, ◌++◌, Option, Some, None, refl, sym, ◌∙◌, ap, subst, arith, fun_ext, if◌then◌else◌, All, All-append, ServerNo, ClientNo, Tid, WorkId, client_eq, client_tells, Event, Message, Text, OpenWork, Outstanding, Sent, ClientTable, is_begin, open_at, Machine, some_is, none_some, World, at_client, dismiss, openings, openings-more, Has, has-first, is_closing, owner_in, is_begun, begun_by}
+use Rattle.jn_base.specs.declared.names.RequestNo.{RequestNo}
 use Rattle.jn_msgs.specs.declared.message.Message.TheVariants as messages
 use Rattle.jn_system_order.proofs.Ordering.Facts.{opening}
 use Rattle.jn_system_reports.proofs.Telling.Tellings.{SaysAs}
@@ -45,39 +46,39 @@ module _ (events : List Event) (r : World) (v : Machine) (c : ClientNo) (u : Cli
 
   -- what it waits for it did before, or it is drawn now
   abbrev pub DrawsNew : Type 0
-  DrawsNew = ((r.clients c).next ≤ u.next) × ((o : Outstanding) → u.outstanding ≡ Some o → ((r.clients c).outstanding ≡ Some o) ⊎ ((r.clients c).next ≤ o.request))
+  DrawsNew = ((r.clients c).next ≤ u.next) × ((o : Outstanding) → u.outstanding ≡ Some o → ((r.clients c).outstanding ≡ Some o) ⊎ ((r.clients c).next ≤ o.request.0))
 
   pub table-drawn : DrawsNew → (x : Sent) → IsDrawn r x → IsDrawn now x
   table-drawn new (to, messages.Op d request W number op) h = (
-    by-client (λ e t. request < (r.clients e).next → request < t.next) r.clients c u (λ k. below k) (λ e ne k. k) d h.0,
-    by-client (λ e t. request < (r.clients e).next → ((o : Outstanding) → (r.clients e).outstanding ≡ Some o → o.request ≡ request → o.message ≡ messages.Op d request W number op) → (o : Outstanding) → t.outstanding ≡ Some o → o.request ≡ request → o.message ≡ messages.Op d request W number op)
+    by-client (λ e t. request.0 < (r.clients e).next → request.0 < t.next) r.clients c u (λ k. below k) (λ e ne k. k) d h.0,
+    by-client (λ e t. request.0 < (r.clients e).next → ((o : Outstanding) → (r.clients e).outstanding ≡ Some o → o.request ≡ request → o.message ≡ messages.Op d request W number op) → (o : Outstanding) → t.outstanding ≡ Some o → o.request ≡ request → o.message ≡ messages.Op d request W number op)
         r.clients c u (λ k l o e f. by k o f l (new.1 o e)) (λ e ne k l. l) d h.0 h.1,
   )
     where
-      below : request < (r.clients c).next → request < u.next
+      below : request.0 < (r.clients c).next → request.0 < u.next
       below k = let le = new.0 in omega (arith, k, le)
 
-      by : request < (r.clients c).next → (o : Outstanding) → o.request ≡ request → ((o : Outstanding) → (r.clients c).outstanding ≡ Some o → o.request ≡ request → o.message ≡ messages.Op d request W number op)
-          → ((r.clients c).outstanding ≡ Some o) ⊎ ((r.clients c).next ≤ o.request) → o.message ≡ messages.Op d request W number op
+      by : request.0 < (r.clients c).next → (o : Outstanding) → o.request ≡ request → ((o : Outstanding) → (r.clients c).outstanding ≡ Some o → o.request ≡ request → o.message ≡ messages.Op d request W number op)
+          → ((r.clients c).outstanding ≡ Some o) ⊎ ((r.clients c).next ≤ o.request.0) → o.message ≡ messages.Op d request W number op
       by k o f l (inl e) = l o e f
-      by k o f l (inr le) = absurd (omega (arith, k, le, f))
+      by k o f l (inr le) = absurd (let same = ap (λ (z : RequestNo). z.0) f in omega (arith, k, le, same))
   table-drawn new (to, messages.Answer d request answer) h = (
-    by-client (λ e t. request < (r.clients e).next → request < t.next) r.clients c u (λ k. below k) (λ e ne k. k) d h.0,
-    by-client (λ e t. request < (r.clients e).next → ((o : Outstanding) → (r.clients e).outstanding ≡ Some o → o.request ≡ request → IsKept r answer o.message) → (o : Outstanding) → t.outstanding ≡ Some o → o.request ≡ request → IsKept now answer o.message)
+    by-client (λ e t. request.0 < (r.clients e).next → request.0 < t.next) r.clients c u (λ k. below k) (λ e ne k. k) d h.0,
+    by-client (λ e t. request.0 < (r.clients e).next → ((o : Outstanding) → (r.clients e).outstanding ≡ Some o → o.request ≡ request → IsKept r answer o.message) → (o : Outstanding) → t.outstanding ≡ Some o → o.request ≡ request → IsKept now answer o.message)
         r.clients c u (λ k l o e f. by k o f l (new.1 o e)) (λ e ne k l o f g. kept-still o.message (l o f g)) d h.0 h.1,
   )
     where
-      below : request < (r.clients c).next → request < u.next
+      below : request.0 < (r.clients c).next → request.0 < u.next
       below k = let le = new.0 in omega (arith, k, le)
 
       kept-still : (message : Message) → IsKept r answer message → IsKept now answer message
       kept-still (messages.Op e q W number op) k = k
       kept-still _ k = tt
 
-      by : request < (r.clients c).next → (o : Outstanding) → o.request ≡ request → ((o : Outstanding) → (r.clients c).outstanding ≡ Some o → o.request ≡ request → IsKept r answer o.message)
-          → ((r.clients c).outstanding ≡ Some o) ⊎ ((r.clients c).next ≤ o.request) → IsKept now answer o.message
+      by : request.0 < (r.clients c).next → (o : Outstanding) → o.request ≡ request → ((o : Outstanding) → (r.clients c).outstanding ≡ Some o → o.request ≡ request → IsKept r answer o.message)
+          → ((r.clients c).outstanding ≡ Some o) ⊎ ((r.clients c).next ≤ o.request.0) → IsKept now answer o.message
       by k o f l (inl e) = kept-still o.message (l o e f)
-      by k o f l (inr le) = absurd (omega (arith, k, le, f))
+      by k o f l (inr le) = absurd (let same = ap (λ (z : RequestNo). z.0) f in omega (arith, k, le, same))
   table-drawn new (to, _) h = tt
 
   pub table-started : DrawsNew → (T : Tid) → ((d : ClientNo) → begun_by d T (r.lines ++ texts) ≡ true → begun_by d T r.lines ≡ true) → IsStarted r T → IsStarted now T
@@ -85,14 +86,14 @@ module _ (events : List Event) (r : World) (v : Machine) (c : ClientNo) (u : Cli
     client = k.client;
     request = k.request;
     has = subst (λ l. Has (opening k.client k.request T) l) (sym (openings-more r.sent more)) (has-first (opening k.client k.request T) (openings r.sent) (openings more) k.has);
-    drawn = by-client (λ e t. k.request < (r.clients e).next → k.request < t.next) r.clients c u (λ l. let le = new.0 in omega (arith, l, le)) (λ e ne l. l) k.client k.drawn;
-    before = by-client (λ e t. k.request < (r.clients e).next → ((o : Outstanding) → (r.clients e).outstanding ≡ Some o → is_begin o.command ≡ true → k.request < o.request) → (o : Outstanding) → t.outstanding ≡ Some o → is_begin o.command ≡ true → k.request < o.request)
+    drawn = by-client (λ e t. k.request.0 < (r.clients e).next → k.request.0 < t.next) r.clients c u (λ l. let le = new.0 in omega (arith, l, le)) (λ e ne l. l) k.client k.drawn;
+    before = by-client (λ e t. k.request.0 < (r.clients e).next → ((o : Outstanding) → (r.clients e).outstanding ≡ Some o → is_begin o.command ≡ true → k.request.0 < o.request.0) → (o : Outstanding) → t.outstanding ≡ Some o → is_begin o.command ≡ true → k.request.0 < o.request.0)
         r.clients c u (λ l m o e f. by l m o f (new.1 o e)) (λ e ne l m. m) k.client k.drawn k.before;
     its = λ d e. k.its d (told d e);
   }
     where
-      by : k.request < (r.clients c).next → ((o : Outstanding) → (r.clients c).outstanding ≡ Some o → is_begin o.command ≡ true → k.request < o.request) → (o : Outstanding) → is_begin o.command ≡ true
-          → ((r.clients c).outstanding ≡ Some o) ⊎ ((r.clients c).next ≤ o.request) → k.request < o.request
+      by : k.request.0 < (r.clients c).next → ((o : Outstanding) → (r.clients c).outstanding ≡ Some o → is_begin o.command ≡ true → k.request.0 < o.request.0) → (o : Outstanding) → is_begin o.command ≡ true
+          → ((r.clients c).outstanding ≡ Some o) ⊎ ((r.clients c).next ≤ o.request.0) → k.request.0 < o.request.0
       by l m o f (inl e) = m o e f
       by l m o f (inr le) = omega (arith, l, le)
 

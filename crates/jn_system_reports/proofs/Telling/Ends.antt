@@ -1,5 +1,6 @@
 -- A client ends its transaction: what was told is what its works did.
 use Rattle.jn_system_reports.proofs.Common.{◌≡◌, ◌≢◌, ◌⊎◌, inl, inr, ◌≤◌, ◌+◌, true, false, List, [], ◌∷◌, Option, Some, None, refl, sym, ◌∙◌, ap, subst, ServerNo, ClientNo, Tid, WorkId, Server, End, Event, Message, ActiveWork, OpenWork, Sent, ClientTable, Sends, names_of, Machine, Invariant, Atom, end_it, MayRun, Says, IsWorkOf, not_both, at_tid_here, at_tid_other, at_tid_cases, World, commanded, Mirrors, AreOpen, IsCurrent, found-open, is_closing, Facts, work_in, parts_of}
+use Rattle.jn_base.specs.Names.{request_of}
 use Rattle.jn_msgs.specs.declared.message.Message.TheVariants as messages
 use Rattle.jn_rows.specs.Client.{work_at}
 use Rattle.jn_system.specs.SmallSteps.Steps.{run}
@@ -26,10 +27,10 @@ module _ (r : World) (w : Machine) (mirrors : Mirrors r w) (facts : Facts r w) (
     its-part = at_tid_here w.part T parts
 
     abbrev u : ClientTable
-    u = record t { next = t.next + 1; outstanding = Some (record { event = r.event; request = t.next; command = End; to = Server T.server; message = messages.End t.client t.next T (names_of t.works) }) }
+    u = record t { next = t.next + 1; outstanding = Some (record { event = r.event; request = request_of t.next; command = End; to = Server T.server; message = messages.End t.client (request_of t.next) T (names_of t.works) }) }
 
     abbrev message : Message
-    message = messages.End t.client t.next T (names_of t.works)
+    message = messages.End t.client (request_of t.next) T (names_of t.works)
 
     abbrev ended-world : World
     ended-world = commanded c (Sends u (Server T.server) message) r
@@ -47,7 +48,7 @@ module _ (r : World) (w : Machine) (mirrors : Mirrors r w) (facts : Facts r w) (
       takes-operations W of (inr (inr h)) = absurd (not_both (w.ended T) (inv.core.parts T W.server W (subst (λ (U : Tid). w.part U W.server ≡ Some W) of.1 (inv.core.rest.part_of W h))).ended not-ended)
 
       numbered-past : (y : OpenWork) (a : ActiveWork) → a.last ≡ y.last → (z : Sent) → IsNumbered y None z → IsPast y.work a z
-      numbered-past y a e (to, messages.Op d request V number op) h = λ k. subst (λ n. number ≤ n) (sym e) (h k).0
+      numbered-past y a e (to, messages.Op d request V number op) h = λ k. subst (λ n. number.0 ≤ n) (sym e) (h k).0
       numbered-past y a e (to, _) h = tt
 
       part-ended : (s : ServerNo) (o : Option OpenWork) → work_at s t.works ≡ o → IsRunningAt events r w T None s o → IsEndedAt events ended-world v T s (work_in o)

@@ -1,6 +1,8 @@
 -- What holds of the talk between clients and workers: which operations a client sent, which of them its work has performed,
 -- and that the answers told so far are what the work did.
-use Rattle.jn_system_reports.proofs.Common.{◌≡◌, ◌⊎◌, ◌<◌, ◌≤◌, ℕ, ◌+◌, Bool, true, false, List, [], ◌∷◌, ◌++◌, Option, Some, None, ◌||◌, if◌then◌else◌, All, ServerNo, ClientNo, Tid, WorkId, Op, Answer, Command, Do, work_eq, Event, CommandOf, Message, Text, ActiveWork, OpenWork, Outstanding, Sent, ClientTable, is_begin, open_at, event_at, Answered, Machine, World, openings, Has, is_closing, ops_in, owner_in, is_begun, begun_by, at_place}
+use Rattle.jn_system_reports.proofs.Common.{◌≡◌, ◌⊎◌, ◌<◌, ◌≤◌, ◌+◌, Bool, true, false, List, [], ◌∷◌, ◌++◌, Option, Some, None, ◌||◌, if◌then◌else◌, All, ServerNo, ClientNo, Tid, WorkId, Op, Answer, Command, Do, work_eq, Event, CommandOf, Message, Text, ActiveWork, OpenWork, Outstanding, Sent, ClientTable, is_begin, open_at, event_at, Answered, Machine, World, openings, Has, is_closing, ops_in, owner_in, is_begun, begun_by, at_place}
+use Rattle.jn_base.specs.Names.{operation_of}
+use Rattle.jn_base.specs.declared.names.RequestNo.{RequestNo}
 use Rattle.jn_base.specs.declared.op.Answer.TheVariants as answers
 use Rattle.jn_msgs.specs.declared.message.Message.TheVariants as messages
 use Rattle.jn_system_order.proofs.Ordering.Facts.{opening}
@@ -35,7 +37,7 @@ op_asked (Some o) W = op_in W o.message
 pub record IsOperation (events : List Event) (c : ClientNo) (t : ClientTable) (o : Outstanding) (s : ServerNo) (op : Op) : Type 0 where
   pub work : OpenWork
   pub is : open_at s t.works ≡ Some work
-  pub message : o.message ≡ messages.Op c o.request work.work work.last op
+  pub message : o.message ≡ messages.Op c o.request work.work (operation_of work.last) op
   pub told : event_at events o.event ≡ Some (CommandOf c (Do s op))
   pub tid : Tid
   pub current : t.transaction ≡ Some tid
@@ -48,7 +50,7 @@ IsAsking events c t o command = IsSilent (o.to, o.message)
 
 -- No operation of the work comes after the last that its client sent. The last one, while it is outstanding, is that one.
 abbrev pub IsNumbered : OpenWork → Option Outstanding → Sent → Type 0
-IsNumbered v o (to, messages.Op d request W number op) = W ≡ v.work → (number ≤ v.last) × (number ≡ v.last → (p : Op) → op_asked o v.work ≡ Some p → p ≡ op)
+IsNumbered v o (to, messages.Op d request W number op) = W ≡ v.work → (number.0 ≤ v.last) × (number.0 ≡ v.last → (p : Op) → op_asked o v.work ≡ Some p → p ≡ op)
 IsNumbered v o sent = Unit {0}
 
 -- what was told is what the work did, but for an outstanding operation that it has performed
@@ -68,7 +70,7 @@ pub record IsTalking (events : List Event) (r : World) (w : Machine) (c : Client
 -- ---- a work whose transaction was ended
 
 abbrev pub IsPast : WorkId → ActiveWork → Sent → Type 0
-IsPast W a (to, messages.Op d request V number op) = V ≡ W → number ≤ a.last
+IsPast W a (to, messages.Op d request V number op) = V ≡ W → number.0 ≤ a.last
 IsPast W a sent = Unit {0}
 
 abbrev pub IsEndedAt : List Event → World → Machine → Tid → ServerNo → Option WorkId → Type 0
@@ -79,13 +81,13 @@ IsEndedAt events r w T s (Some W) = (IsPresent w W → SaysAs (said events T s r
 
 -- an answer to an outstanding operation is what its work has kept
 abbrev pub IsKept : World → Answer → Message → Type 0
-IsKept r answer (messages.Op d request W number op) = (a : ActiveWork) → acting r W ≡ Some a → (a.last ≡ number) × (a.kept ≡ Some answer)
+IsKept r answer (messages.Op d request W number op) = (a : ActiveWork) → acting r W ≡ Some a → (a.last ≡ number.0) × (a.kept ≡ Some answer)
 IsKept r answer message = Unit {0}
 
 -- a request has one message
 abbrev pub IsDrawn : World → Sent → Type 0
-IsDrawn r (to, messages.Op d request W number op) = (request < (r.clients d).next) × ((o : Outstanding) → (r.clients d).outstanding ≡ Some o → o.request ≡ request → o.message ≡ messages.Op d request W number op)
-IsDrawn r (to, messages.Answer d request answer) = (request < (r.clients d).next) × ((o : Outstanding) → (r.clients d).outstanding ≡ Some o → o.request ≡ request → IsKept r answer o.message)
+IsDrawn r (to, messages.Op d request W number op) = (request.0 < (r.clients d).next) × ((o : Outstanding) → (r.clients d).outstanding ≡ Some o → o.request ≡ request → o.message ≡ messages.Op d request W number op)
+IsDrawn r (to, messages.Answer d request answer) = (request.0 < (r.clients d).next) × ((o : Outstanding) → (r.clients d).outstanding ≡ Some o → o.request ≡ request → IsKept r answer o.message)
 IsDrawn r sent = Unit {0}
 
 abbrev pub is_op_of : WorkId → Sent → Bool
@@ -112,10 +114,10 @@ pub record IsKnown (r : World) (w : Machine) (W : WorkId) : Type 0 where
 -- one request of one client began it, before any that is still to begin one
 pub record IsStarted (r : World) (T : Tid) : Type 0 where
   pub client : ClientNo
-  pub request : ℕ
+  pub request : RequestNo
   pub has : Has (opening client request T) (openings r.sent)
-  pub drawn : request < (r.clients client).next
-  pub before : (o : Outstanding) → (r.clients client).outstanding ≡ Some o → is_begin o.command ≡ true → request < o.request
+  pub drawn : request.0 < (r.clients client).next
+  pub before : (o : Outstanding) → (r.clients client).outstanding ≡ Some o → is_begin o.command ≡ true → request.0 < o.request.0
   -- no other client was told that it began
   pub its : (c : ClientNo) → begun_by c T r.lines ≡ true → c ≡ client
 

@@ -1,5 +1,7 @@
 -- A server takes an operation: it performs the next one, or answers the last one again.
 use Rattle.jn_system_reports.proofs.Common.{◌≡◌, ◌≢◌, ◌⊎◌, inl, inr, ℕ, ◌+◌, Bool, true, false, List, [], ◌∷◌, ◌++◌, append-nil, Option, Some, None, is_some, refl, sym, ◌∙◌, ap, subst, arith, if◌then◌else◌, nat_eq, nat_lt, length, slice_get, nat_tests, All-nil, All-cons, ServerNo, ClientNo, Tid, WorkId, Tickets, LockUnit, Client, Server, Op, Answer, server_eq, server_tells, Files, change, answer_to, list_change, length_with, Read, Message, Note, Work, Phase, Active, Broken, Stored, ActiveWork, Prepared, Pick, stable, RowOutcome, ignored, WorkerTable, Wanted, Held, work_at, with_phase, breaks_at, note_of, break_notes, wants_of, is_fit, units_for, with_units, refusal_of, past_limit, locked, first_of_two, conflict, counted, performed-work, granted_row, repeated, performed, op_phase, op_row, found-name, at-phase, in_phase, work_same, Answered, Machine, Atom, run_atoms, MayRun, Says, Invariant, has_committed, some_is, none_some, at_work_here, World, Memory, commits_in, has_line, Room, of_worker, lines_of, done, at_memory, LockFacts, ServerFact, UpFact, Regrants, Origin, Mine, Kept, Broke, phase_changed, by-name, no-lock, Mirrors, MovesTo, DoesRow, named_by, commits-more, lines-commit, mirrored, worker-does, committed-any}
+use Rattle.jn_base.specs.declared.names.OperationNo.{OperationNo}
+use Rattle.jn_base.specs.declared.names.RequestNo.{RequestNo}
 use Rattle.jn_base.specs.declared.op.Op.TheVariants as ops
 use Rattle.jn_base.specs.declared.op.Answer.TheVariants as answers
 use Rattle.jn_msgs.specs.declared.message.Message.TheVariants as messages
@@ -93,7 +95,7 @@ module _ (r : World) (w : Machine) (mirrors : Mirrors r w) (locks : LockFacts r)
   pub moved-by : (r' : World) (atoms : List Atom) → MayRun atoms w → Mirrors r' (run_atoms atoms w) → Moved r r' w (run_atoms atoms w)
   moved-by r' atoms may h = moved r r' w atoms may mirrors h inv (named-so [] tt r mirrors) (named-so atoms may r' h)
 
-  module _ (s : ServerNo) (m : Memory) (is : r.memory s ≡ Some m) (up : UpFact s m (r.found s)) (k : ℕ) (d : ClientNo) (request : ℕ) (W : WorkId) (number : ℕ) (op : Op)
+  module _ (s : ServerNo) (m : Memory) (is : r.memory s ≡ Some m) (up : UpFact s m (r.found s)) (k : ℕ) (d : ClientNo) (request : RequestNo) (W : WorkId) (number : OperationNo) (op : Op)
       (sent : slice_get r.sent k ≡ Some (Server s, messages.Op d request W number op)) (place : W.server ≡ s) (drawn : IsDrawn r (Server s, messages.Op d request W number op)) where
     abbrev Tells : ServerNo → Type 0
     Tells q = ((server_eq s q ≡ true) × (s ≡ q)) ⊎ ((server_eq s q ≡ false) × (s ≢ q))
@@ -110,7 +112,7 @@ module _ (r : World) (w : Machine) (mirrors : Mirrors r w) (locks : LockFacts r)
 
     module _ (now : WorkerTable) (notes : List Note) (answer : Answer) (v : Machine) (none : named_by notes ≡ [])
         (stays : (V : WorkId) (a b : ActiveWork) → acting_of (work_at V m.worker) ≡ Some a → acting_of (work_at V now) ≡ Some b → DidTheSame a b ⊎ Advances r w v V a b) (new : TableNew m.worker now)
-        (kept : (b : ActiveWork) → acting_of (work_at W now) ≡ Some b → (b.last ≡ number) × (b.kept ≡ Some answer)) where
+        (kept : (b : ActiveWork) → acting_of (work_at W now) ≡ Some b → (b.last ≡ number.0) × (b.kept ≡ Some answer)) where
       abbrev r' : World
       r' = after-row (answers-with now notes answer)
 
@@ -123,7 +125,7 @@ module _ (r : World) (w : Machine) (mirrors : Mirrors r w) (locks : LockFacts r)
       its-kept : (message : Message) → message ≡ messages.Op d request W number op → IsKept r' answer message
       its-kept message e = subst (λ z. IsKept r' answer z) (sym e) (λ b f. by b f (server_tells s W.server))
         where
-          by : (b : ActiveWork) → acting r' W ≡ Some b → Tells W.server → (b.last ≡ number) × (b.kept ≡ Some answer)
+          by : (b : ActiveWork) → acting r' W ≡ Some b → Tells W.server → (b.last ≡ number.0) × (b.kept ≡ Some answer)
           by b f (inl t) = kept b (now-here W b t.0 f)
           by b f (inr t) = absurd (t.1 (sym place))
 
@@ -154,7 +156,7 @@ module _ (r : World) (w : Machine) (mirrors : Mirrors r w) (locks : LockFacts r)
           as-before V c p f (inr t) = subst (λ (z : Bool). (if z then r.found s c else r.found V.server c).works V ≡ Some p) t.0 f
 
     -- the table stays, and what is answered is what the work has kept, if it takes operations
-    replied : (answer : Answer) → ((b : ActiveWork) → acting_of (work_at W m.worker) ≡ Some b → (b.last ≡ number) × (b.kept ≡ Some answer)) → MovesTo (after-row (answers-with m.worker [] answer)) w → Serves r (after-row (answers-with m.worker [] answer)) w
+    replied : (answer : Answer) → ((b : ActiveWork) → acting_of (work_at W m.worker) ≡ Some b → (b.last ≡ number.0) × (b.kept ≡ Some answer)) → MovesTo (after-row (answers-with m.worker [] answer)) w → Serves r (after-row (answers-with m.worker [] answer)) w
     replied answer kept moves = still-serves r _ w moves (answer-serves m.worker [] answer (run_atoms moves.atoms w) refl (λ V a b e f. inl (same-did (acting_of (work_at V m.worker)) a b e f)) (λ V b e f. none-new (acting_of (work_at V m.worker)) b e f) kept)
 
     -- nothing is answered
@@ -182,7 +184,7 @@ module _ (r : World) (w : Machine) (mirrors : Mirrors r w) (locks : LockFacts r)
       here-acting = here W (sym place) ∙ its-acting
 
       -- it has performed one operation more
-      module _ (next : number ≡ a.last + 1) (wants : List Wanted) (b : ActiveWork) (now : WorkerTable) (regrants : Regrants x.name wants (Active b) m.worker now) (answer : Answer)
+      module _ (next : number.0 ≡ a.last + 1) (wants : List Wanted) (b : ActiveWork) (now : WorkerTable) (regrants : Regrants x.name wants (Active b) m.worker now) (answer : Answer)
           (last : b.last ≡ a.last + 1) (kept : b.kept ≡ Some answer) (v : Machine) (says : (told : List Answered) → SaysAs told (w.trace W) → SaysAs (told ++ counts op answer) (v.trace W)) where
         mine : (u : Work) (c : ActiveWork) → u.phase ≡ Active c → (y : Work) → u ≡ record y { phase = Active b } → b ≡ c
         mine u c p y e = same-active b c (sym (ap (λ (z : Work). z.phase) e) ∙ p)
@@ -226,11 +228,11 @@ module _ (r : World) (w : Machine) (mirrors : Mirrors r w) (locks : LockFacts r)
             by u p (Kept ne l clear) = none-new (acting_of (work_at V m.worker)) c e (ap acting_of l ∙ ap acting_in p)
             by u p (Broke ne y l way n T q) = absurd (broken u y c n T p q)
 
-        performs-kept : (c : ActiveWork) → acting_of (work_at W now) ≡ Some c → (c.last ≡ number) × (c.kept ≡ Some answer)
+        performs-kept : (c : ActiveWork) → acting_of (work_at W now) ≡ Some c → (c.last ≡ number.0) × (c.kept ≡ Some answer)
         performs-kept c h = let u = its-work (work_at W now) c h in by u.0 u.1.1 (regrants.origin W u.0 u.1.0)
           where
-            by : (u : Work) → u.phase ≡ Active c → Origin x.name wants (Active b) m.worker W u → (c.last ≡ number) × (c.kept ≡ Some answer)
-            by u p (Mine same y l q) = subst (λ (z : ActiveWork). (z.last ≡ number) × (z.kept ≡ Some answer)) (mine u c p y q) (last ∙ sym next, kept)
+            by : (u : Work) → u.phase ≡ Active c → Origin x.name wants (Active b) m.worker W u → (c.last ≡ number.0) × (c.kept ≡ Some answer)
+            by u p (Mine same y l q) = subst (λ (z : ActiveWork). (z.last ≡ number.0) × (z.kept ≡ Some answer)) (mine u c p y q) (last ∙ sym next, kept)
             by u p (Kept ne l clear) = absurd (ne name)
             by u p (Broke ne y l way n T q) = absurd (broken u y c n T p q)
 
@@ -238,7 +240,7 @@ module _ (r : World) (w : Machine) (mirrors : Mirrors r w) (locks : LockFacts r)
         performs-serves notes none = answer-serves now notes answer v none performs-stays performs-new performs-kept
 
       -- it is refused
-      refused : (refusal : Answer) → number ≡ a.last + 1 → refusal_of m.worker x.name a op (answer-of a) (wants-of a) ≡ Some refusal
+      refused : (refusal : Answer) → number.0 ≡ a.last + 1 → refusal_of m.worker x.name a op (answer-of a) (wants-of a) ≡ Some refusal
           → MovesTo (after-row (answers-with (with_phase x.name (Active (counted a refusal)) m.worker) [] refusal)) w → Serves r (after-row (answers-with (with_phase x.name (Active (counted a refusal)) m.worker) [] refusal)) w
       refused refusal next e moves = still-serves r _ w moves (performs-serves next [] (counted a refusal) _ regrants refusal refl refl (run_atoms moves.atoms w) says [] refl)
         where
@@ -268,7 +270,7 @@ module _ (r : World) (w : Machine) (mirrors : Mirrors r w) (locks : LockFacts r)
               (acting-says r _ w (run_atoms moves.atoms w) (moved-by _ moves.atoms moves.may moves.mirrors) W a (counted a refusal) told here-acting acting-now refl h)
 
       -- it is performed
-      granted : number ≡ a.last + 1 → refusal_of m.worker x.name a op (answer-of a) (wants-of a) ≡ None → Serves r (after-row (granted_row m.worker m.tickets d request x a op (answer-of a) (wants-of a) None)) w
+      granted : number.0 ≡ a.last + 1 → refusal_of m.worker x.name a op (answer-of a) (wants-of a) ≡ None → Serves r (after-row (granted_row m.worker m.tickets d request x a op (answer-of a) (wants-of a) None)) w
       granted next e = record {
         atoms = its-atoms;
         may = may-op r w s m mirrors is up grow x a found active op free;
@@ -316,24 +318,24 @@ module _ (r : World) (w : Machine) (mirrors : Mirrors r w) (locks : LockFacts r)
       its-phase : acting_of (work_at W m.worker) ≡ acting_in x.phase
       its-phase = subst (λ (U : WorkId). acting_of (work_at U m.worker) ≡ acting_in x.phase) name (ap acting_of found)
 
-      performs : (a : ActiveWork) → x.phase ≡ Active a → number ≡ a.last + 1 → (o : Option Answer) → refusal_of m.worker x.name a op (answer-of a) (wants-of a) ≡ o
+      performs : (a : ActiveWork) → x.phase ≡ Active a → number.0 ≡ a.last + 1 → (o : Option Answer) → refusal_of m.worker x.name a op (answer-of a) (wants-of a) ≡ o
           → MovesTo (after-row (granted_row m.worker m.tickets d request x a op (answer-of a) (wants-of a) o)) w → Serves r (after-row (granted_row m.worker m.tickets d request x a op (answer-of a) (wants-of a) o)) w
       performs a e next (Some refusal) k moves = refused x a found e name refusal next k moves
       performs a e next None k moves = granted x a found e name next k
 
-      repeats : (a : ActiveWork) → x.phase ≡ Active a → number ≡ a.last → (o : Option Answer) → a.kept ≡ o → MovesTo (after-row (repeated m.worker m.tickets d request o)) w → Serves r (after-row (repeated m.worker m.tickets d request o)) w
-      repeats a e same (Some answer) k moves = replied answer (λ b f. subst (λ (z : ActiveWork). (z.last ≡ number) × (z.kept ≡ Some answer)) (some_is a b (sym (its-phase ∙ ap acting_in e) ∙ f)) (sym same, k)) moves
+      repeats : (a : ActiveWork) → x.phase ≡ Active a → number.0 ≡ a.last → (o : Option Answer) → a.kept ≡ o → MovesTo (after-row (repeated m.worker m.tickets d request o)) w → Serves r (after-row (repeated m.worker m.tickets d request o)) w
+      repeats a e same (Some answer) k moves = replied answer (λ b f. subst (λ (z : ActiveWork). (z.last ≡ number.0) × (z.kept ≡ Some answer)) (some_is a b (sym (its-phase ∙ ap acting_in e) ∙ f)) (sym same, k)) moves
       repeats a e same None k moves = ignored-serves (notes.Ignored ∷ []) refl moves
 
-      numbered : (a : ActiveWork) → x.phase ≡ Active a → (b c : Bool) → nat_eq number (a.last + 1) ≡ b → nat_eq number a.last ≡ c
+      numbered : (a : ActiveWork) → x.phase ≡ Active a → (b c : Bool) → nat_eq number.0 (a.last + 1) ≡ b → nat_eq number.0 a.last ≡ c
           → MovesTo (after-row (if b then performed m.worker m.tickets d request x a op (answer-of a) else (if c then repeated m.worker m.tickets d request a.kept else ignored m.worker m.tickets))) w
           → Serves r (after-row (if b then performed m.worker m.tickets d request x a op (answer-of a) else (if c then repeated m.worker m.tickets d request a.kept else ignored m.worker m.tickets))) w
-      numbered a e true c k l moves = performs a e (same-number number (a.last + 1) k) (refusal_of m.worker x.name a op (answer-of a) (wants-of a)) refl moves
-      numbered a e false true k l moves = repeats a e (same-number number a.last l) a.kept refl moves
+      numbered a e true c k l moves = performs a e (same-number number.0 (a.last + 1) k) (refusal_of m.worker x.name a op (answer-of a) (wants-of a)) refl moves
+      numbered a e false true k l moves = repeats a e (same-number number.0 a.last l) a.kept refl moves
       numbered a e false false k l moves = ignored-serves (notes.Ignored ∷ []) refl moves
 
       by-phase : (p : Phase) → x.phase ≡ p → MovesTo (after-row (op_phase m.worker files-here m.tickets d request x number op p)) w → Serves r (after-row (op_phase m.worker files-here m.tickets d request x number op p)) w
-      by-phase (Active a) e moves = numbered a e (nat_eq number (a.last + 1)) (nat_eq number a.last) refl refl moves
+      by-phase (Active a) e moves = numbered a e (nat_eq number.0 (a.last + 1)) (nat_eq number.0 a.last) refl refl moves
       by-phase (Broken u by) e moves = replied _ (λ b f. absurd (none_some b (sym (its-phase ∙ ap acting_in e) ∙ f))) moves
       by-phase (Stored p) e moves = replied _ (λ b f. absurd (none_some b (sym (its-phase ∙ ap acting_in e) ∙ f))) moves
 
@@ -344,7 +346,7 @@ module _ (r : World) (w : Machine) (mirrors : Mirrors r w) (locks : LockFacts r)
   -- ---- every step of a server, also where it stops
 
   -- an operation changes nothing that is stable
-  op-adds : (t : WorkerTable) (files : Files) (k : Tickets) (d : ClientNo) (request : ℕ) (W : WorkId) (number : ℕ) (op : Op) (o : Option Work) → Adds t (op_row t files k d request W number op o).changes
+  op-adds : (t : WorkerTable) (files : Files) (k : Tickets) (d : ClientNo) (request : RequestNo) (W : WorkId) (number : OperationNo) (op : Op) (o : Option Work) → Adds t (op_row t files k d request W number op o).changes
   op-adds t files k d request W number op None = tt
   op-adds t files k d request W number op (Some x) = by x.phase
     where
@@ -362,11 +364,11 @@ module _ (r : World) (w : Machine) (mirrors : Mirrors r w) (locks : LockFacts r)
 
       by : (p : Phase) → Adds t (op_phase t files k d request x number op p).changes
       by (Active a) = let answer = answer_to op (change (list_change a.list) files) in
-          either (nat_eq number (a.last + 1)) _ _ (granted-adds a answer (wants_of op (is_fit answer)) (refusal_of t x.name a op answer (wants_of op (is_fit answer)))) (either (nat_eq number a.last) _ _ (again a.kept) tt)
+          either (nat_eq number.0 (a.last + 1)) _ _ (granted-adds a answer (wants_of op (is_fit answer)) (refusal_of t x.name a op answer (wants_of op (is_fit answer)))) (either (nat_eq number.0 a.last) _ _ (again a.kept) tt)
       by (Broken u T) = tt
       by (Stored p) = tt
 
-  pub op-steps : (s : ServerNo) (k : ℕ) (room : Room) (stop : Option (Pick → ℕ)) (d : ClientNo) (request : ℕ) (W : WorkId) (number : ℕ) (op : Op) (o : Option Memory) → r.memory s ≡ o → ServerFact s o (r.found s)
+  pub op-steps : (s : ServerNo) (k : ℕ) (room : Room) (stop : Option (Pick → ℕ)) (d : ClientNo) (request : RequestNo) (W : WorkId) (number : OperationNo) (op : Op) (o : Option Memory) → r.memory s ≡ o → ServerFact s o (r.found s)
       → slice_get r.sent k ≡ Some (Server s, messages.Op d request W number op) → W.server ≡ s → IsDrawn r (Server s, messages.Op d request W number op)
       → MovesTo (at_memory s k room stop (messages.Op d request W number op) o r) w → Serves r (at_memory s k room stop (messages.Op d request W number op) o r) w
   op-steps s k room stop d request W number op None is fact sent place drawn moves = still-serves r _ w moves (of-quiet r _ w (run_atoms moves.atoms w) (lines-quiet r locks (says.Lost k ∷ []) (tt, tt)))

@@ -1,6 +1,9 @@
 -- A step keeps the talk in which no client changes and no client is told anything, and in which each work that takes operations does
 -- as much as before, or performs the operation that comes next.
 use Rattle.jn_system_reports.proofs.Common.{◌≡◌, ◌⊎◌, inl, inr, ℕ, ◌+◌, ◌≤◌, ◌<◌, Bool, true, false, List, [], ◌∷◌, ◌++◌, append-nil, Option, Some, None, refl, sym, ◌∙◌, ap, subst, arith, fun_ext, ◌||◌, if◌then◌else◌, All, get_or, slice_get, list_any, All-nil, All-cons, All-append, ServerNo, ClientNo, Tid, WorkId, Party, Command, Begin, Open, Do, End, Abort, Op, Answer, tid_eq, Event, list_change, Message, Text, ActiveWork, OpenWork, Outstanding, Prepared, Pick, Sent, is_end_or_abort, ClientTable, open_at, answered_by, begins_for, owner_after, Answered, effects, Machine, Working, Atom, run_atoms, MayRun, Invariant, Grows, run_grows, run_kept, not_both, false_unless, none_some, some_of, work_same, holds-of, World, commits_in, has_line, Mirrors, IsCurrent, IsOutstanding, found-open, Says, IsPart, openings, openings-more, Has, has-first, is_closing, any-append, ops_in, owner_in, begins_it, is_begun, at_place, begun_by}
+use Rattle.jn_base.specs.Names.{operation_of}
+use Rattle.jn_base.specs.declared.names.OperationNo.{OperationNo}
+use Rattle.jn_base.specs.declared.names.RequestNo.{RequestNo}
 use Rattle.jn_msgs.specs.declared.message.Message.TheVariants as messages
 use Rattle.jn_report.specs.declared.line.Refusal.TheVariants as refusals
 use Rattle.jn_report.specs.declared.line.Text.TheVariants as says
@@ -220,14 +223,14 @@ pub record IsQuiet (r r' : World) : Type 0 where
 pub record Advances (r : World) (w v : Machine) (W : WorkId) (a b : ActiveWork) : Type 0 where
   pub to : Party
   pub client : ClientNo
-  pub request : ℕ
-  pub number : ℕ
+  pub request : RequestNo
+  pub number : OperationNo
   pub op : Op
   pub answer : Answer
   pub index : ℕ
   pub sent : slice_get r.sent index ≡ Some (to, messages.Op client request W number op)
-  pub next : number ≡ a.last + 1
-  pub last : b.last ≡ number
+  pub next : number.0 ≡ a.last + 1
+  pub last : b.last ≡ number.0
   pub kept : b.kept ≡ Some answer
   pub says : (told : List Answered) → SaysAs told (w.trace W) → SaysAs (told ++ counts op answer) (v.trace W)
 
@@ -289,7 +292,7 @@ module _ (r r' : World) (w v : Machine) (m : Moved r r' w v) where
   advance-hears : (W : WorkId) (o : Option Outstanding) (x : OpenWork) (a b : ActiveWork) (told : List Answered) → x.work ≡ W → Advances r w v W a b → All (IsNumbered x o) r.sent → Hears (op_asked o x.work) x a told (w.trace W) → Hears (op_asked o x.work) x b told (v.trace W)
   advance-hears W o x a b told e adv all h = by (op_asked o x.work) refl h
     where
-      its : (adv.number ≤ x.last) × (adv.number ≡ x.last → (p : Op) → op_asked o x.work ≡ Some p → p ≡ adv.op)
+      its : (adv.number.0 ≤ x.last) × (adv.number.0 ≡ x.last → (p : Op) → op_asked o x.work ≡ Some p → p ≡ adv.op)
       its = holds-of (IsNumbered x o) r.sent adv.index (adv.to, messages.Op adv.client adv.request W adv.number adv.op) all adv.sent (sym e)
 
       too-far : a.last ≡ x.last → ⊥
@@ -298,7 +301,7 @@ module _ (r r' : World) (w v : Machine) (m : Moved r r' w v) where
       by : (asked : Option Op) → op_asked o x.work ≡ asked → Hears asked x a told (w.trace W) → Hears asked x b told (v.trace W)
       by None k g = absurd (too-far g.0)
       by (Some p) k (inr g) = absurd (too-far g.0)
-      by (Some p) k (inl g) = let now : adv.number ≡ x.last = adv.next ∙ g.0 in
+      by (Some p) k (inl g) = let now : adv.number.0 ≡ x.last = adv.next ∙ g.0 in
           inr (adv.last ∙ now, (adv.answer, (adv.kept, subst (λ (z : Op). SaysAs (told ++ counts z adv.answer) (v.trace W)) (sym (its.1 now p k)) (adv.says told g.1))))
 
   -- nor can one of a work whose transaction was ended
@@ -391,7 +394,7 @@ module _ (r r' : World) (w v : Machine) (m : Moved r r' w v) where
         }
 
       past-on : (W : WorkId) (a b : ActiveWork) → b.last ≡ a.last → (x : Sent) → IsPast W a x → IsPast W b x
-      past-on W a b e (to, messages.Op d request V number op) h = λ k. subst (λ n. number ≤ n) (sym e) (h k)
+      past-on W a b e (to, messages.Op d request V number op) h = λ k. subst (λ n. number.0 ≤ n) (sym e) (h k)
       past-on W a b e (to, _) h = tt
 
       ended-on : (T : Tid) (s : ServerNo) (o : Option WorkId) → w.part T s ≡ o → v.aborted T ≡ false → IsEndedAt events r w T s o → IsEndedAt events r' v T s o
@@ -406,7 +409,7 @@ module _ (r r' : World) (w v : Machine) (m : Moved r r' w v) where
           last a b past (inr adv) = absurd (not-past W a b adv past)
 
       -- a work that has kept the answer to an outstanding operation performs no other
-      not-outstanding : (d : ClientNo) (o : Outstanding) → (r.clients d).outstanding ≡ Some o → (W : WorkId) (number : ℕ) (a b : ActiveWork) → ((c : ClientNo) (request : ℕ) (op : Op) → o.message ≡ messages.Op c request W number op → a.last ≡ number → Advances r w v W a b → ⊥)
+      not-outstanding : (d : ClientNo) (o : Outstanding) → (r.clients d).outstanding ≡ Some o → (W : WorkId) (number : OperationNo) (a b : ActiveWork) → ((c : ClientNo) (request : RequestNo) (op : Op) → o.message ≡ messages.Op c request W number op → a.last ≡ number.0 → Advances r w v W a b → ⊥)
       not-outstanding d o e W number a b c request op is l adv = by o.command refl ((talk.clients d).asking o e)
         where
           asked : op_in W o.message ≡ Some op
@@ -421,13 +424,13 @@ module _ (r r' : World) (w v : Machine) (m : Moved r r' w v) where
           by : (command : Command) → o.command ≡ command → IsAsking events d (r.clients d) o command → ⊥
           by (Do s p) f k = far (number-of (sym is ∙ k.message))
             where
-              number-of : messages.Op c request W number op ≡ messages.Op d o.request k.work.work k.work.last p → (W ≡ k.work.work) × (number ≡ k.work.last)
+              number-of : messages.Op c request W number op ≡ messages.Op d o.request k.work.work (operation_of k.work.last) p → (W ≡ k.work.work) × (number.0 ≡ k.work.last)
               number-of g = (cc, cc)
 
               runs : IsRunningAt events r w k.tid (r.clients d).outstanding s (Some k.work)
               runs = subst (λ z. IsRunningAt events r w k.tid (r.clients d).outstanding s z) k.is ((talk.clients d).running k.tid k.current (none-closes s p f) s)
 
-              far : (W ≡ k.work.work) × (number ≡ k.work.last) → ⊥
+              far : (W ≡ k.work.work) × (number.0 ≡ k.work.last) → ⊥
               far g = let le = (holds-of (IsNumbered k.work (r.clients d).outstanding) r.sent adv.index (adv.to, messages.Op adv.client adv.request W adv.number adv.op) runs.0 adv.sent g.0).0 in
                   let n = adv.next in let at = g.1 in omega (arith, le, n, l, at)
           by (Begin s) f k = other (silent-asks W o.to o.message k)
@@ -439,14 +442,14 @@ module _ (r r' : World) (w v : Machine) (m : Moved r r' w v) where
       kept-on d o answer e (messages.Op c request W number op) is k = λ b f. let a = acting-back W b (subst (λ (z : Message). Says w z) is (subst (λ x. IsOutstanding w x) e (m.before.clients d).waits).0) f in
           by a.0 b (q.same W a.0 b a.1 f) (k a.0 a.1)
         where
-          by : (a b : ActiveWork) → DidTheSame a b ⊎ Advances r w v W a b → (a.last ≡ number) × (a.kept ≡ Some answer) → (b.last ≡ number) × (b.kept ≡ Some answer)
+          by : (a b : ActiveWork) → DidTheSame a b ⊎ Advances r w v W a b → (a.last ≡ number.0) × (a.kept ≡ Some answer) → (b.last ≡ number.0) × (b.kept ≡ Some answer)
           by a b (inl same) h = (same.last ∙ h.0, same.kept ∙ h.1)
           by a b (inr adv) h = absurd (not-outstanding d o e W number a b c request op is h.0 adv)
       kept-on d o answer e _ is k = tt
 
       drawn-on : (x : Sent) → IsDrawn r x → IsDrawn r' x
-      drawn-on (to, messages.Op d request W number op) h = subst (λ f. (request < (f d).next) × ((o : Outstanding) → (f d).outstanding ≡ Some o → o.request ≡ request → o.message ≡ messages.Op d request W number op)) (sym q.clients) h
-      drawn-on (to, messages.Answer d request answer) h = subst (λ f. (request < (f d).next) × ((o : Outstanding) → (f d).outstanding ≡ Some o → o.request ≡ request → IsKept r' answer o.message)) (sym q.clients)
+      drawn-on (to, messages.Op d request W number op) h = subst (λ f. (request.0 < (f d).next) × ((o : Outstanding) → (f d).outstanding ≡ Some o → o.request ≡ request → o.message ≡ messages.Op d request W number op)) (sym q.clients) h
+      drawn-on (to, messages.Answer d request answer) h = subst (λ f. (request.0 < (f d).next) × ((o : Outstanding) → (f d).outstanding ≡ Some o → o.request ≡ request → IsKept r' answer o.message)) (sym q.clients)
           (h.0, λ o e k. kept-on d o answer e o.message refl (h.1 o e k))
       drawn-on (to, _) h = tt
 
@@ -474,7 +477,7 @@ module _ (r r' : World) (w v : Machine) (m : Moved r r' w v) where
         client = k.client;
         request = k.request;
         has = subst (λ l. Has (opening k.client k.request T) (openings l)) (sym q.sent) (subst (λ l. Has (opening k.client k.request T) l) (sym (openings-more r.sent q.more)) (has-first (opening k.client k.request T) (openings r.sent) (openings q.more) k.has));
-        drawn = subst (λ f. k.request < (f k.client).next) (sym q.clients) k.drawn;
+        drawn = subst (λ f. k.request.0 < (f k.client).next) (sym q.clients) k.drawn;
         before = λ o e. k.before o (subst (λ f. (f k.client).outstanding ≡ Some o) q.clients e);
         its = λ d e. k.its d (sym (q.told.by d T) ∙ e);
       }

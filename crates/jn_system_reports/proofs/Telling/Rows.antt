@@ -1,5 +1,6 @@
 -- No row of a server but that of an operation changes what a work did, or sends an operation or an answer.
 use Rattle.jn_system_reports.proofs.Common.{◌≡◌, ◌⊎◌, inl, inr, ℕ, Bool, true, false, not, List, [], ◌∷◌, ◌++◌, Option, Some, None, refl, arith, ◌&&◌, if◌then◌else◌, nat_lt, nat_eq, length, ClientNo, Tid, WorkId, Tickets, Cause, Message, Vote, Transaction, Stage, Ballot, Commitment, StableState, Change, RowOutcome, Sent, WorkerTable, work_at, work_of, CoordinatorTable, all_in, is_work, besides, drops, commits, prepares, committed_to, commit_row, abort_row, forget_row, after_closing, close_clients_row, begin_again, begin_row, end_promised, end_stage, end_row, abort_stage, abort_request, not_known, told_stage, inquire_row, noted, counted_vote, vote_stage, vote_row, done_stage, done_row, thanks_stage, thanks_row, told_again, coordinator_again, transaction_at, with_work, Memory, storage_of, Room, of_worker, of_coordinator, server_row, server_again, TableFact, Closes, Empty, Remains, Goes, Waits, Forgets, client-closes, outcomes-close, named_by, worker-none}
+use Rattle.jn_base.specs.declared.names.RequestNo.{RequestNo}
 use Rattle.jn_msgs.specs.declared.message.Message.TheVariants as messages
 use Rattle.jn_msgs.specs.declared.message.Vote.TheVariants as votes
 use Rattle.jn_rows.specs.declared.coordinator.Stage.TheVariants.{Open, Voting, Committed, Aborted}
@@ -59,7 +60,7 @@ module _ (t : WorkerTable) where
   closes-add (Forgets x d p e g c) = (tt, closes-add c)
 
   module _ (k : Tickets) where
-    commit-plain : (ct : CoordinatorTable) (x : Transaction) (request : ℕ) (works : List WorkId) → IsPlain (commit_row ct k x request works)
+    commit-plain : (ct : CoordinatorTable) (x : Transaction) (request : RequestNo) (works : List WorkId) → IsPlain (commit_row ct k x request works)
     commit-plain ct x request works = (then-one (commits x.tid works) (committed_to x) (commits-silent x.tid works) (tt, tt), (tt, tt))
 
     abort-plain : (ct : CoordinatorTable) (x : Transaction) (cause : Cause) (works : List WorkId) → IsPlain (abort_row ct k x cause works)
@@ -68,8 +69,8 @@ module _ (t : WorkerTable) where
     forget-plain : (ct : CoordinatorTable) (T : Tid) (d : Commitment) → IsPlain (forget_row ct k T d)
     forget-plain ct T d = either (d.thanked && all_in d.works d.done) _ _ (tt, (tt, tt)) (tt, tt)
 
-    begin-plain : (ct : CoordinatorTable) (c : ClientNo) (request : ℕ) → IsPlain (begin_row ct k c request)
-    begin-plain ct c request = either (nat_lt (ct.seen c) request) _ _ (either (nat_lt (length (after_closing c ct.transactions)) 64) _ _ ((tt, tt), closes-add (client-closes c ct.transactions)) ((tt, tt), closes-add (client-closes c ct.transactions))) (either (nat_eq (ct.seen c) request) _ _ (again (begun_by c request ct.transactions)) (tt, tt))
+    begin-plain : (ct : CoordinatorTable) (c : ClientNo) (request : RequestNo) → IsPlain (begin_row ct k c request)
+    begin-plain ct c request = either (nat_lt (ct.seen c) request.0) _ _ (either (nat_lt (length (after_closing c ct.transactions)) 64) _ _ ((tt, tt), closes-add (client-closes c ct.transactions)) ((tt, tt), closes-add (client-closes c ct.transactions))) (either (nat_eq (ct.seen c) request.0) _ _ (again (begun_by c request ct.transactions)) (tt, tt))
       where
         again : (o : Option Transaction) → IsPlain (begin_again ct k c request o)
         again (Some x) = ((tt, tt), tt)
@@ -78,7 +79,7 @@ module _ (t : WorkerTable) where
     not-known-plain : (ct : CoordinatorTable) (c : ClientNo) (T : Tid) (works : List WorkId) → IsPlain (not_known ct k c T works)
     not-known-plain ct c T works = ((tt, drops-silent T works), tt)
 
-    end-plain : (ct : CoordinatorTable) (free : ℕ) (c : ClientNo) (request : ℕ) (T : Tid) (works : List WorkId) (o : Option Transaction) → IsPlain (end_row ct free k c request T works o)
+    end-plain : (ct : CoordinatorTable) (free : ℕ) (c : ClientNo) (request : RequestNo) (T : Tid) (works : List WorkId) (o : Option Transaction) → IsPlain (end_row ct free k c request T works o)
     end-plain ct free c request T works None = not-known-plain ct c T works
     end-plain ct free c request T works (Some x) = by x.stage
       where

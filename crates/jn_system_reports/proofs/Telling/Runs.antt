@@ -1,5 +1,6 @@
 -- Every step keeps the talk, whatever steps come one after another.
 use Rattle.jn_system_reports.proofs.Common.{◌≡◌, inl, ℕ, true, List, [], ◌∷◌, ◌++◌, append-nil, Option, Some, None, refl, sym, ◌∙◌, ap, subst, slice_get, is_some, ServerNo, ClientNo, Tid, Client, Server, Command, Begin, Open, Do, End, Abort, AllFiles, Event, CommandOf, event_at, Message, Refusal, Text, Outstanding, Taken, Pick, Sent, ClientTable, Commanded, Refuses, Sends, command_row, take_row, if_idle, if_transaction, names_of, sends, Machine, Invariant, Atom, Ends, run_atoms, opening_world, MayRun, Says, has_committed, run_kept, opening_kept, run_grows, says_still, run_told, opening_told, World, commits_in, Room, Step, NextEvent, Tell, Again, Deliver, Nudge, Timeout, StopDelivery, StopWork, Crash, Narrow, StopRestart, Restart, Dismiss, CloseClients, IsStep, after, handed, at_memory, commanded, tell, again, took, dismiss, LockFacts, Mirrors, MovesTo, IsAddressed, IsTrue, is_shown, active_in, next_in, known_in, All-grows, client-still, Takes, takes, quiet-line, stays-with, step-moves, holds-of, Facts, still-facts, message-facts, work-facts, nudge-facts, timeout-facts, crash-facts, narrow-facts, raise-facts, restart-facts, close-facts, tell-facts, again-facts, taken-facts, dismiss-facts, is_own, not_both, ops_in, parts_of, end-may, end-mirrors, end-facts}
+use Rattle.jn_base.specs.Names.{request_of}
 use Rattle.jn_msgs.specs.declared.message.Message.TheVariants as messages
 use Rattle.jn_report.specs.declared.line.Refusal.TheVariants as refusals
 use Rattle.jn_report.specs.declared.line.Text.TheVariants as says
@@ -71,7 +72,7 @@ module _ (events : List Event) (files : AllFiles) (epochs : ServerNo → ℕ) (b
   told atoms further T = (run_told files atoms w further inv (run_told files before (opening_world files epochs) may (opening_kept files epochs) (opening_told files epochs)).1).1.named T
 
   begun-on : (atoms : List Atom) → MayRun atoms w → (T : Tid) → w.begun T ≡ true → (run_atoms atoms w).begun T ≡ true
-  begun-on atoms further T h = grow atoms further (messages.Open (record { 0 = 0 }) 0 T) h
+  begun-on atoms further T h = grow atoms further (messages.Open (record { 0 = 0 }) (record { 0 = 0 }) T) h
 
   module _ (r : World) (mirrors : Mirrors r w) (facts : Facts r w) (locks : LockFacts r) (talk : Talk events r w) where
     -- what holds of the openings whatever the machine's steps are
@@ -153,8 +154,8 @@ module _ (events : List Event) (files : AllFiles) (epochs : ServerNo → ℕ) (b
         (λ v h f i t. (subst (λ l. Talk events (record r { sent = l; lines = r.lines ++ says.Refused c r.event refusal ∷ [] }) v) (append-nil r.sent) (no-client-talks events r v c [] (says.Refused c r.event refusal ∷ []) t tt (dumb, tt)), λ T e. (same-told r.lines (says.Refused c r.event refusal ∷ []) (dumb, tt)).ops events T))
 
     end-on : (c : ClientNo) (o : Option Outstanding) (x : Option Tid) → (r.clients c).outstanding ≡ o → (r.clients c).transaction ≡ x
-        → Talk events (commanded c (if_idle o (if_transaction x (λ T. sends (r.clients c) r.event End (Server T.server) (messages.End (r.clients c).client (r.clients c).next T (names_of (r.clients c).works))))) r) w
-        → Goes events r.lines (commanded c (if_idle o (if_transaction x (λ T. sends (r.clients c) r.event End (Server T.server) (messages.End (r.clients c).client (r.clients c).next T (names_of (r.clients c).works))))) r) w
+        → Talk events (commanded c (if_idle o (if_transaction x (λ T. sends (r.clients c) r.event End (Server T.server) (messages.End (r.clients c).client (request_of (r.clients c).next) T (names_of (r.clients c).works))))) r) w
+        → Goes events r.lines (commanded c (if_idle o (if_transaction x (λ T. sends (r.clients c) r.event End (Server T.server) (messages.End (r.clients c).client (request_of (r.clients c).next) T (names_of (r.clients c).works))))) r) w
     end-on c (Some o) x e f t = refused-on c refusals.ClientBusy tt
     end-on c None None e f t = refused-on c refusals.NoTransaction tt
     end-on c None (Some T) e f t = record {

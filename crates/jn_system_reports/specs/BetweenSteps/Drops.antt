@@ -1,5 +1,6 @@
 -- What was sent to a work and to a client as of a transaction that is no more, where the transaction is named.
 use Rattle.std.specs.Prelude.{◌≡◌, ◌≢◌, ◌⊎◌, ◌<◌, ℕ, Some, None}
+use Rattle.jn_base.specs.declared.names.RequestNo.{RequestNo}
 use Rattle.jn_base.specs.declared.names.ServerNo.{ServerNo}
 use Rattle.jn_base.specs.declared.names.ClientNo.{ClientNo}
 use Rattle.jn_base.specs.declared.names.Tid.{Tid}
@@ -21,9 +22,9 @@ pub record IsOver (r : World) (W : WorkId) : Type 0 where
 -- One of the client's requests began it. The client doesn't wait for that request's answer any more, and has gone on from the
 -- transaction.
 pub record IsPast (r : World) (c : ClientNo) (T : Tid) : Type 0 where
-  pub request : ℕ
+  pub request : RequestNo
   pub began : WasSent r (Begun c request (Some T))
-  pub drawn : request < (r.clients c).next
+  pub drawn : request.0 < (r.clients c).next
   pub answered : (o : Outstanding) → (r.clients c).outstanding ≡ Some o → o.request ≢ request
   pub over : (r.clients c).transaction ≢ Some T
 

@@ -1,5 +1,7 @@
 -- The answers that the lines tell of works that may yet commit.
-use Rattle.std.specs.Prelude.{◌≡◌, ℕ, List, Some}
+use Rattle.std.specs.Prelude.{◌≡◌, List, Some}
+use Rattle.jn_base.specs.declared.names.OperationNo.{OperationNo}
+use Rattle.jn_base.specs.declared.names.RequestNo.{RequestNo}
 use Rattle.jn_base.specs.declared.names.ServerNo.{ServerNo}
 use Rattle.jn_base.specs.declared.names.ClientNo.{ClientNo}
 use Rattle.jn_base.specs.declared.names.Tid.{Tid}
@@ -22,8 +24,8 @@ use Rattle.jn_system_reports.specs.BetweenSteps.Works.{IsActive}
 -- some operation was sent to the work
 pub record WasAsked (r : World) (W : WorkId) : Type 0 where
   pub client : ClientNo
-  pub request : ℕ
-  pub number : ℕ
+  pub request : RequestNo
+  pub number : OperationNo
   pub op : Op
   pub sent : WasSent r (messages.Op client request W number op)
 

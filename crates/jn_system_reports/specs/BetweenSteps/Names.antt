@@ -1,5 +1,6 @@
 -- Each name of a transaction and of a work is made once.
 use Rattle.std.specs.Prelude.{◌≡◌, ◌≤◌, ◌<◌, ℕ, Some}
+use Rattle.jn_base.specs.declared.names.RequestNo.{RequestNo}
 use Rattle.jn_base.specs.declared.names.ServerNo.{ServerNo}
 use Rattle.jn_base.specs.declared.names.ClientNo.{ClientNo}
 use Rattle.jn_base.specs.declared.names.Tid.{Tid}
@@ -19,13 +20,13 @@ pub record WasMade (r : World) (s : ServerNo) (e t : ℕ) : Type 0 where
 
 pub record AreMadeOnce (r : World) : Type 0 where
   -- a transaction's name answers one request of one client
-  pub transactions : (c d : ClientNo) (m n : ℕ) (T : Tid) → WasSent r (Begun c m (Some T)) → WasSent r (Begun d n (Some T)) → (c ≡ d) × (m ≡ n)
+  pub transactions : (c d : ClientNo) (m n : RequestNo) (T : Tid) → WasSent r (Begun c m (Some T)) → WasSent r (Begun d n (Some T)) → (c ≡ d) × (m ≡ n)
   -- a work's name is of one transaction
-  pub works : (c d : ClientNo) (m n : ℕ) (T U : Tid) (W : WorkId) → WasSent r (Opened c m T (Some W)) → WasSent r (Opened d n U (Some W)) → T ≡ U
+  pub works : (c d : ClientNo) (m n : RequestNo) (T U : Tid) (W : WorkId) → WasSent r (Opened c m T (Some W)) → WasSent r (Opened d n U (Some W)) → T ≡ U
   -- no two clients have one transaction, or have one work open in theirs
   pub clients : (c d : ClientNo) (T : Tid) → (r.clients c).transaction ≡ Some T → (r.clients d).transaction ≡ Some T → c ≡ d
   pub openers : (c d : ClientNo) (T U : Tid) (s q : ServerNo) (v x : OpenWork) → (r.clients c).transaction ≡ Some T → (r.clients d).transaction ≡ Some U
       → work_at s (r.clients c).works ≡ Some v → work_at q (r.clients d).works ≡ Some x → v.work ≡ x.work → c ≡ d
   -- and no name will be made again
-  pub before : (c : ClientNo) (n : ℕ) (T : Tid) → WasSent r (Begun c n (Some T)) → WasMade r T.server T.epoch T.ticket
-  pub works_before : (c : ClientNo) (n : ℕ) (T : Tid) (W : WorkId) → WasSent r (Opened c n T (Some W)) → WasMade r W.server W.epoch W.ticket
+  pub before : (c : ClientNo) (n : RequestNo) (T : Tid) → WasSent r (Begun c n (Some T)) → WasMade r T.server T.epoch T.ticket
+  pub works_before : (c : ClientNo) (n : RequestNo) (T : Tid) (W : WorkId) → WasSent r (Opened c n T (Some W)) → WasMade r W.server W.epoch W.ticket

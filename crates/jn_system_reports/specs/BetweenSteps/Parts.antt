@@ -1,5 +1,6 @@
 -- The works of a transaction's end.
-use Rattle.std.specs.Prelude.{◌≡◌, ℕ, true, false, List}
+use Rattle.std.specs.Prelude.{◌≡◌, true, false, List}
+use Rattle.jn_base.specs.declared.names.RequestNo.{RequestNo}
 use Rattle.jn_base.specs.declared.names.ClientNo.{ClientNo}
 use Rattle.jn_base.specs.declared.names.Tid.{Tid}
 use Rattle.jn_base.specs.declared.names.WorkId.{WorkId}
@@ -11,7 +12,7 @@ use Rattle.jn_system_reports.specs.BetweenSteps.Sent.{WasSent}
 -- a client has ended it with these works
 pub record WasEnded (r : World) (T : Tid) : Type 0 where
   pub client : ClientNo
-  pub request : ℕ
+  pub request : RequestNo
   pub works : List WorkId
   pub sent : WasSent r (End client request T works)
 

@@ -1,5 +1,7 @@
 -- What is sent about the vote of a transaction is sent for a message about it.
 use Rattle.jn_system_settling.proofs.Common.{◌≡◌, ℕ, Bool, true, false, List, [], ◌∷◌, ◌++◌, length, Option, Some, None, refl, ◌∙◌, ap, arith, ◌&&◌, not, if◌then◌else◌, nat_lt, nat_eq, ◌+◌, ClientNo, Tid, WorkId, Cause, Tickets, Op, Answer, tid_eq, change, answer_to, list_change, Message, Vote, Work, Phase, Active, Broken, Stored, ActiveWork, Transaction, Stage, Open, Voting, Committed, Aborted, is_going, RowOutcome, Sent, WorkerTable, WorkStorage, Wanted, work_at, work_of, open_row, granted_row, repeated, op_phase, op_row, refusal_of, wants_of, is_fit, commit_wants, conflict, vote_of, shortage, need_in, prepared_row, prepare_phase, prepare_row, commit_phase, drop_phase, worker_row, CoordinatorTable, transaction_at, is_work, all_in, besides, drops, commits, prepares, end_promised, end_stage, end_row, abort_stage, abort_request, told_stage, inquire_row, with_work, counted_vote, vote_stage, vote_row, done_stage, done_row, thanks_stage, thanks_row, begin_again, begun_by, after_closing, coordinator_row, commit_row, abort_row}
+use Rattle.jn_base.specs.declared.names.OperationNo.{OperationNo}
+use Rattle.jn_base.specs.declared.names.RequestNo.{RequestNo}
 use Rattle.jn_msgs.specs.declared.message.Message.TheVariants as messages
 use Rattle.jn_msgs.specs.declared.message.Vote.TheVariants as votes
 use Rattle.jn_rows.specs.Worker as worker
@@ -47,9 +49,9 @@ module _ (T : Tid) (t : WorkerTable) (s : WorkStorage) (k : Tickets) where
   choose true p q h l = h
   choose false p q h l = l
 
-  op-off : (c : ClientNo) (request : ℕ) (w : Work) (number : ℕ) (op : Op) (p : Phase) → Off (op_phase t s.state.files k c request w number op p)
+  op-off : (c : ClientNo) (request : RequestNo) (w : Work) (number : OperationNo) (op : Op) (p : Phase) → Off (op_phase t s.state.files k c request w number op p)
   op-off c request w number op (Active a) = let answer = answer_to op (change (list_change a.list) s.state.files) in
-      choose (nat_eq number (a.last + 1)) _ _ (grants answer (wants_of op (is_fit answer)) (refusal_of t w.name a op answer (wants_of op (is_fit answer)))) (choose (nat_eq number a.last) _ _ (repeats a.kept) (plain _ refl))
+      choose (nat_eq number.0 (a.last + 1)) _ _ (grants answer (wants_of op (is_fit answer)) (refusal_of t w.name a op answer (wants_of op (is_fit answer)))) (choose (nat_eq number.0 a.last) _ _ (repeats a.kept) (plain _ refl))
     where
       grants : (answer : Answer) (wants : List Wanted) (o : Option Answer) → Off (granted_row t k c request w a op answer wants o)
       grants answer wants (Some refusal) = plain _ refl
@@ -131,7 +133,7 @@ module _ (T : Tid) (t : CoordinatorTable) (free : ℕ) (k : Tickets) where
     other : tid_eq y.tid T ≡ false
     other = ap (λ (V : Tid). tid_eq V T) (found-name U t.transactions y found) ∙ h
 
-    commit-off : (request : ℕ) (works : List WorkId) → OffRow (commit_row t k y request works)
+    commit-off : (request : RequestNo) (works : List WorkId) → OffRow (commit_row t k y request works)
     commit-off request works = so _ (off-both T (commits y.tid works) _ (off-commits T y.tid works) refl)
 
     abort-off : (cause : Cause) (works : List WorkId) → OffRow (abort_row t k y cause works)
@@ -143,7 +145,7 @@ module _ (T : Tid) (t : CoordinatorTable) (free : ℕ) (k : Tickets) where
     told-off V W (Committed d) = either (is_work W d.works && not (is_work W d.done)) _ _ (so _ refl) (so _ refl)
     told-off V W (Aborted cause) = so _ refl
 
-    end-off : (request : ℕ) (works : List WorkId) (s : Stage) → OffRow (end_stage t free k y request works s)
+    end-off : (request : RequestNo) (works : List WorkId) (s : Stage) → OffRow (end_stage t free k y request works s)
     end-off request works Open = either (nat_lt free 1) _ _ (abort-off _ works) (by works)
       where
         by : (works : List WorkId) → OffRow (end_promised t k y request works)
@@ -181,7 +183,7 @@ module _ (T : Tid) (t : CoordinatorTable) (free : ℕ) (k : Tickets) where
       by (Some y) e = some y e
 
   pub coordinator-off : (m : Message) → is_about T m ≡ false → OffRow (coordinator_row t free k m)
-  coordinator-off (messages.Begin c q) h = either (nat_lt (t.seen c) q) _ _ (either (nat_lt (length (after_closing c t.transactions)) 64) _ _ (so _ refl) (so _ refl)) (either (nat_eq (t.seen c) q) _ _ (again (begun_by c q t.transactions)) (so _ refl))
+  coordinator-off (messages.Begin c q) h = either (nat_lt (t.seen c) q.0) _ _ (either (nat_lt (length (after_closing c t.transactions)) 64) _ _ (so _ refl) (so _ refl)) (either (nat_eq (t.seen c) q.0) _ _ (again (begun_by c q t.transactions)) (so _ refl))
     where
       again : (o : Option Transaction) → OffRow (begin_again t k c q o)
       again None = so _ refl

@@ -1,5 +1,7 @@
 -- A Begin is answered: its request was not seen before, or the reply to it still waits.
 use Rattle.jn_system_settling.proofs.Common.{◌≡◌, ◌⊎◌, inl, inr, ◌≤◌, ◌<◌, ℕ, suc, ◌+◌, Bool, true, false, List, [], ◌∷◌, ◌++◌, length, length-append, Option, Some, None, true≢false, refl, sym, ◌∙◌, ap, subst, arith, ◌&&◌, if◌then◌else◌, nat_lt, nat_eq, slice_get, list_any, nat_tests, slice_get_within, ServerNo, ClientNo, Tid, Client, Server, client_eq, AllFiles, Outstanding, Taken, Ignored, Transaction, Open, Pick, stable, RowOutcome, Sent, ignored_row, CoordinatorTable, after_closing, changes_of_closing, begin_new, begin_again, begun_by, seen_now, name_from, ClientTable, Commanded, Refuses, Sends, command_row, take_row, is_begin, if_waits, begun_row, over, World, Memory, Room, server_row, Step, NextEvent, Tell, Again, Deliver, Nudge, Timeout, StopDelivery, StopWork, Crash, Narrow, StopRestart, Restart, Dismiss, CloseClients, IsStep, after, handed, commanded, Course, numbered, without_number, still_waiting, go}
+use Rattle.jn_base.specs.declared.names.RequestNo.{RequestNo}
+use Rattle.jn_base.specs.Names.{request_eq, request_of}
 use Rattle.jn_msgs.specs.declared.message.Message.TheVariants as messages
 use Rattle.jn_system.specs.WholeSystem.Steps.{Work}
 use Rattle.jn_system_settling.proofs.Settling.Burdens.{get-more}
@@ -11,12 +13,12 @@ use Rattle.jn_system_settling.proofs.AtRest.RequestSteps.{Requests, CommandsAs, 
 use Rattle.jn_system_settling.proofs.AtRest.Answered.{Talking, go-talking}
 
 -- a client that doesn't wait for the answer to this request
-abbrev pub NotWaited : ClientTable → ℕ → Type 0
+abbrev pub NotWaited : ClientTable → RequestNo → Type 0
 NotWaited t q = (o : Outstanding) → t.outstanding ≡ Some o → o.request ≡ q → ⊥
 
 -- each reply to a Begin waits, or its client doesn't wait for it
 pub record RepliesWait (d : Course) : Type 0 where
-  pub each : (k : ℕ) (c : ClientNo) (q : ℕ) (a : Option Tid) → slice_get d.world.sent k ≡ Some (Client c, messages.Begun c q a) → (list_any (nat_eq k) d.waiting ≡ true) ⊎ NotWaited (d.world.clients c) q
+  pub each : (k : ℕ) (c : ClientNo) (q : RequestNo) (a : Option Tid) → slice_get d.world.sent k ≡ Some (Client c, messages.Begun c q a) → (list_any (nat_eq k) d.waiting ≡ true) ⊎ NotWaited (d.world.clients c) q
 
 in-numbered : (n : ℕ) (ys : List Sent) (k : ℕ) → n ≤ k → k < n + length ys → list_any (nat_eq k) (numbered n ys) ≡ true
 in-numbered n [] k l h = absurd (omega (arith, l, h))
@@ -27,11 +29,11 @@ in-numbered n (y ∷ ys) k l h = by (nat_eq k n) refl (in-numbered (n + 1) ys k)
     by false e again = let on = again (grind (arith, nat_tests, e, l)) (omega (arith, h)) in grind (arith, on)
 
 -- what a client takes as the reply to the Begin that it waits for
-begun-taken : (t : ClientTable) (q : ℕ) (a : Option Tid) → ((o : Outstanding) → t.outstanding ≡ Some o → o.request ≡ q → is_begin o.command ≡ true) → NotWaited (take_row t (messages.Begun t.client q a)).0 q
+begun-taken : (t : ClientTable) (q : RequestNo) (a : Option Tid) → ((o : Outstanding) → t.outstanding ≡ Some o → o.request ≡ q → is_begin o.command ≡ true) → NotWaited (take_row t (messages.Begun t.client q a)).0 q
 begun-taken t q a begins = by t.outstanding refl
   where
     test : Outstanding → Bool
-    test p = client_eq t.client t.client && (nat_eq p.request q && is_begin p.command)
+    test p = client_eq t.client t.client && (request_eq p.request q && is_begin p.command)
 
     row : ℕ → ClientTable × Taken
     row j = begun_row t j a
@@ -46,7 +48,7 @@ begun-taken t q a begins = by t.outstanding refl
     over (Some T) j = refl
     over None j = refl
 
-    tested : (o : Outstanding) → t.outstanding ≡ Some o → (b : Bool) → nat_eq o.request q ≡ b → NotWaited (if test o then row o.event else (t, Ignored)).0 q
+    tested : (o : Outstanding) → t.outstanding ≡ Some o → (b : Bool) → request_eq o.request q ≡ b → NotWaited (if test o then row o.event else (t, Ignored)).0 q
     tested o e true is = subst (λ (b : Bool). NotWaited (if b then row o.event else (t, Ignored)).0 q) (sym (passes (begins o e (grind (arith, nat_tests, is))))) (λ p k r. none p (sym (over a o.event) ∙ k))
       where
         passes : is_begin o.command ≡ true → test o ≡ true
@@ -61,13 +63,13 @@ begun-taken t q a begins = by t.outstanding refl
 
     by : (o : Option Outstanding) → t.outstanding ≡ o → NotWaited (if_waits t o test row).0 q
     by None e = λ p k r. none p (sym e ∙ k)
-    by (Some o) e = tested o e (nat_eq o.request q) refl
+    by (Some o) e = tested o e (request_eq o.request q) refl
 
 begun-ends : (t : ClientTable) (o : Outstanding) (a : Option Tid) → t.outstanding ≡ Some o → is_begin o.command ≡ true → IsEnd t (messages.Begun t.client o.request a)
 begun-ends t o a e begins = ap (λ z. (if_waits t z test row).0.outstanding) e ∙ ap (λ (b : Bool). (if b then row o.event else (t, Ignored)).0.outstanding) passes ∙ over a
   where
     test : Outstanding → Bool
-    test p = client_eq t.client t.client && (nat_eq p.request o.request && is_begin p.command)
+    test p = client_eq t.client t.client && (request_eq p.request o.request && is_begin p.command)
 
     row : ℕ → ClientTable × Taken
     row j = begun_row t j a
@@ -111,19 +113,19 @@ module _ (n : ℕ) (at_most : n ≤ 8) (start : World) (files : AllFiles) (epoch
     goes-on Dismiss e = still-on (w.clients e) (over (w.clients e)) refl (inr refl)
     goes-on step e = quiet step (quiet-clients step d.world refl) e
 
-    not-waited-on : (t now : ClientTable) (q : ℕ) → GoesOn t now → q < t.next → NotWaited t q → NotWaited now q
+    not-waited-on : (t now : ClientTable) (q : RequestNo) → GoesOn t now → q.0 < t.next → NotWaited t q → NotWaited now q
     not-waited-on t now q (waits_on l e) below h = λ o is at. h o (sym e ∙ is) at
     not-waited-on t now q (waits_not l e) below h = λ o is at. none o (sym e ∙ is)
       where
         none : (o : Outstanding) → None ≡ Some o → ⊥
         none o z = cc
-    not-waited-on t now q (waits_anew l p e new) below h = λ o is at. let one = ap (λ (z : Outstanding). z.request) (same o (sym e ∙ is)) in omega (arith, new, one, at, below)
+    not-waited-on t now q (waits_anew l p e new) below h = λ o is at. let one = ap (λ (z : Outstanding). z.request.0) (same o (sym e ∙ is)) in let its = ap (λ (z : RequestNo). z.0) at in omega (arith, new, one, its, below)
       where
         same : (o : Outstanding) → Some p ≡ Some o → p ≡ o
         same o z = cc
 
     -- a reply that is handed over
-    taken-not : (k : ℕ) (room : Room) (stop : Option (Pick → ℕ)) (c : ClientNo) (q : ℕ) (a : Option Tid) → slice_get w.sent k ≡ Some (Client c, messages.Begun c q a) → NotWaited ((handed k room stop (slice_get w.sent k) w).clients c) q
+    taken-not : (k : ℕ) (room : Room) (stop : Option (Pick → ℕ)) (c : ClientNo) (q : RequestNo) (a : Option Tid) → slice_get w.sent k ≡ Some (Client c, messages.Begun c q a) → NotWaited ((handed k room stop (slice_get w.sent k) w).clients c) q
     taken-not k room stop c q a e = subst (λ o. NotWaited ((handed k room stop o w).clients c) q) (sym e) (subst (λ (z : ClientTable). NotWaited z q) (sym (handed-taken c k room stop (messages.Begun c q a) w))
         (subst (λ z. NotWaited (take_row (w.clients c) (messages.Begun z q a)).0 q) (h.talking.talks c).name (begun-taken (w.clients c) q a (subst (λ z. (o : Outstanding) → (w.clients z).outstanding ≡ Some o → o.request ≡ q → is_begin o.command ≡ true) refl past.1))))
       where
@@ -143,7 +145,7 @@ module _ (n : ℕ) (at_most : n ≤ 8) (start : World) (files : AllFiles) (epoch
         left k e = subst (λ ks. list_any (nat_eq k) ks ≡ true) (sym (waiting-is n at_most start d step (grows w step).new (grows w step).sent)) (any-left (nat_eq k) (still_waiting step d.waiting) _ e)
 
         -- one that waited waits on, or is handed over now
-        onward : (step : Step) (k : ℕ) (c : ClientNo) (q : ℕ) (a : Option Tid) → slice_get w.sent k ≡ Some (Client c, messages.Begun c q a) → list_any (nat_eq k) d.waiting ≡ true
+        onward : (step : Step) (k : ℕ) (c : ClientNo) (q : RequestNo) (a : Option Tid) → slice_get w.sent k ≡ Some (Client c, messages.Begun c q a) → list_any (nat_eq k) d.waiting ≡ true
             → (list_any (nat_eq k) (still_waiting step d.waiting) ≡ true) ⊎ NotWaited ((after step w).clients c) q
         onward (Deliver j room) k c q a e waits = split (nat_eq k j) refl
           where
@@ -169,7 +171,7 @@ module _ (n : ℕ) (at_most : n ≤ 8) (start : World) (files : AllFiles) (epoch
         onward Dismiss k c q a e waits = inl waits
         onward (CloseClients s) k c q a e waits = inl waits
 
-        by : (k : ℕ) (c : ClientNo) (q : ℕ) (a : Option Tid) → slice_get (after step w).sent k ≡ Some (Client c, messages.Begun c q a) → (g : Grows w (after step w)) → (b : Bool) → nat_lt k (length w.sent) ≡ b
+        by : (k : ℕ) (c : ClientNo) (q : RequestNo) (a : Option Tid) → slice_get (after step w).sent k ≡ Some (Client c, messages.Begun c q a) → (g : Grows w (after step w)) → (b : Bool) → nat_lt k (length w.sent) ≡ b
             → (list_any (nat_eq k) (go step d).waiting ≡ true) ⊎ NotWaited ((after step w).clients c) q
         by k c q a e g true l = old (h.replies.each k c q a was)
           where
@@ -207,7 +209,7 @@ module _ (n : ℕ) (at_most : n ≤ 8) (start : World) (files : AllFiles) (epoch
 
   pub begin-reply : (d : Course) (c : ClientNo) (o : Outstanding) (s : ServerNo) (m : Memory) (room : Room) → Good d → (d.world.clients c).outstanding ≡ Some o → is_begin o.command ≡ true → d.world.memory s ≡ Some m
       → Reply c (d.world.clients c) (server_row m (stable (d.world.found s)) room (messages.Begin (d.world.clients c).client o.request)).messages ⊎ Answering c (d.world.clients c) d
-  begin-reply d c o s m room h e begins up = by (nat_lt (m.coordinator.seen me) o.request) refl (nat_eq (m.coordinator.seen me) o.request) refl (begun_by me o.request m.coordinator.transactions)
+  begin-reply d c o s m room h e begins up = by (nat_lt (m.coordinator.seen me) o.request.0) refl (nat_eq (m.coordinator.seen me) o.request.0) refl (begun_by me o.request m.coordinator.transactions)
     where
       me : ClientNo
       me = (d.world.clients c).client
@@ -221,45 +223,45 @@ module _ (n : ℕ) (at_most : n ≤ 8) (start : World) (files : AllFiles) (epoch
       told : (a : Option Tid) → Reply c (d.world.clients c) ((Client (d.world.clients c).client, messages.Begun (d.world.clients c).client o.request a) ∷ [])
       told a = record { message = messages.Begun (d.world.clients c).client o.request a; has = inl (ap (λ z. (Client z, messages.Begun (d.world.clients c).client o.request a)) name); ends_it = begun-ends (d.world.clients c) o a e begins }
 
-      last : (1 ≤ o.request) × (o.request + 1 ≡ (d.world.clients c).next)
+      last : (1 ≤ o.request.0) × (o.request.0 + 1 ≡ (d.world.clients c).next)
       last = (h.requests.draws c).latest o e
 
       seen : SeenFits d.world.clients d.world.sent c (m.coordinator.seen c)
       seen = (h.requests.servers s).seen m up c
 
       -- nothing later than what it waits for was seen
-      no-later : m.coordinator.seen c ≤ o.request
+      no-later : m.coordinator.seen c ≤ o.request.0
       no-later = fits seen
         where
-          fits : SeenFits d.world.clients d.world.sent c (m.coordinator.seen c) → m.coordinator.seen c ≤ o.request
+          fits : SeenFits d.world.clients d.world.sent c (m.coordinator.seen c) → m.coordinator.seen c ≤ o.request.0
           fits (inl z) = let l = last.0 in omega (arith, z, l)
           fits (inr (inl p)) = let one = p.0 in let two = last.1 in omega (arith, one, two)
-          fits (inr (inr b)) = let p = h.requests.sent (Client c, messages.Begun c (m.coordinator.seen c) b.answer) b.has in let one = p.0 in let two = last.1 in omega (arith, one, two)
+          fits (inr (inr b)) = let p = h.requests.sent (Client c, messages.Begun c (request_of (m.coordinator.seen c)) b.answer) b.has in let one = p.0 in let two = last.1 in omega (arith, one, two)
 
       -- what it waits for was seen: the reply waits
-      waits : m.coordinator.seen c ≡ o.request → Answering c (d.world.clients c) d
+      waits : m.coordinator.seen c ≡ o.request.0 → Answering c (d.world.clients c) d
       waits is = fits seen
         where
           fits : SeenFits d.world.clients d.world.sent c (m.coordinator.seen c) → Answering c (d.world.clients c) d
           fits (inl z) = let l = last.0 in absurd (omega (arith, z, l, is))
-          fits (inr (inl p)) = absurd (true≢false (sym begins ∙ p.1 o e (sym is)))
-          fits (inr (inr b)) = found (has-number d.world.sent (Client c, messages.Begun c (m.coordinator.seen c) b.answer) b.has)
+          fits (inr (inl p)) = absurd (true≢false (sym begins ∙ p.1 o e (ap request_of (sym is))))
+          fits (inr (inr b)) = found (has-number d.world.sent (Client c, messages.Begun c (request_of (m.coordinator.seen c)) b.answer) b.has)
             where
-              found : (k : ℕ) × (slice_get d.world.sent k ≡ Some (Client c, messages.Begun c (m.coordinator.seen c) b.answer)) → Answering c (d.world.clients c) d
-              found x = on (h.replies.each x.0 c (m.coordinator.seen c) b.answer x.1)
+              found : (k : ℕ) × (slice_get d.world.sent k ≡ Some (Client c, messages.Begun c (request_of (m.coordinator.seen c)) b.answer)) → Answering c (d.world.clients c) d
+              found x = on (h.replies.each x.0 c (request_of (m.coordinator.seen c)) b.answer x.1)
                 where
-                  on : (list_any (nat_eq x.0) d.waiting ≡ true) ⊎ NotWaited (d.world.clients c) (m.coordinator.seen c) → Answering c (d.world.clients c) d
+                  on : (list_any (nat_eq x.0) d.waiting ≡ true) ⊎ NotWaited (d.world.clients c) (request_of (m.coordinator.seen c)) → Answering c (d.world.clients c) d
                   on (inl k) = record {
-                    message = messages.Begun c (m.coordinator.seen c) b.answer;
+                    message = messages.Begun c (request_of (m.coordinator.seen c)) b.answer;
                     waits = record { number = x.0; waits = k; is = x.1 };
-                    ends_it = subst (λ z. IsEnd (d.world.clients c) (messages.Begun z (m.coordinator.seen c) b.answer)) name (subst (λ z. IsEnd (d.world.clients c) (messages.Begun (d.world.clients c).client z b.answer)) (sym is) (begun-ends (d.world.clients c) o b.answer e begins));
+                    ends_it = subst (λ z. IsEnd (d.world.clients c) (messages.Begun z (request_of (m.coordinator.seen c)) b.answer)) name (subst (λ z. IsEnd (d.world.clients c) (messages.Begun (d.world.clients c).client z b.answer)) (ap request_of (sym is)) (begun-ends (d.world.clients c) o b.answer e begins));
                   }
-                  on (inr not) = absurd (not o e (sym is))
+                  on (inr not) = absurd (not o e (ap request_of (sym is)))
 
       seen-me : m.coordinator.seen (d.world.clients c).client ≡ m.coordinator.seen c
       seen-me = ap m.coordinator.seen name
 
-      by : (a : Bool) → nat_lt (m.coordinator.seen (d.world.clients c).client) o.request ≡ a → (b : Bool) → nat_eq (m.coordinator.seen (d.world.clients c).client) o.request ≡ b → (y : Option Transaction)
+      by : (a : Bool) → nat_lt (m.coordinator.seen (d.world.clients c).client) o.request.0 ≡ a → (b : Bool) → nat_eq (m.coordinator.seen (d.world.clients c).client) o.request.0 ≡ b → (y : Option Transaction)
           → Result (if a then begin_new (record { transactions = after_closing (d.world.clients c).client m.coordinator.transactions; seen = seen_now m.coordinator.seen (d.world.clients c).client o.request }) (changes_of_closing (d.world.clients c).client m.coordinator.transactions) m.tickets (d.world.clients c).client o.request
           else (if b then begin_again m.coordinator m.tickets (d.world.clients c).client o.request y else ignored_row m.coordinator m.tickets)).messages
       by true l b k y = new (nat_lt (length (after_closing (d.world.clients c).client m.coordinator.transactions)) 64)

@@ -1,5 +1,7 @@
 -- A work that goes goes on until it is over, and a Commit of a work that isn't over makes it go.
 use Rattle.jn_system_settling.proofs.Common.{◌≡◌, ◌≢◌, ◌⊎◌, inl, inr, ℕ, ◌+◌, Bool, true, false, List, [], ◌∷◌, length, Option, Some, None, true≢false, refl, sym, ◌∙◌, ap, subst, arith, if◌then◌else◌, nat_lt, nat_eq, ServerNo, ClientNo, Tid, WorkId, Tickets, Server, Op, Answer, work_eq, work_tells, AllFiles, change, answer_to, list_change, Message, Vote, Work, Phase, Active, Broken, Stored, ActiveWork, StableState, Prepared, MarkGoing, at_work, gone_on, stable, is_going, made_all, RowOutcome, quiet, ignored, WorkerTable, WorkStorage, Wanted, work_at, work_of, open_row, granted_row, repeated, op_phase, op_row, refusal_of, wants_of, is_fit, commit_wants, conflict, vote_of, shortage, need_in, prepared_row, prepare_phase, prepare_row, commit_phase, drop_phase, drop_row, worker_row, coordinator_row, found-name, Machine, not_both, World, Memory, Room, storage_of, server_row, of_worker, of_coordinator, is_for_worker, TableFact, IsSoundWork, UpFact, flags-all, coordinator-aside, active_in, working_of, working_in, each-in, Reached, LineFact}
+use Rattle.jn_base.specs.declared.names.OperationNo.{OperationNo}
+use Rattle.jn_base.specs.declared.names.RequestNo.{RequestNo}
 use Rattle.jn_msgs.specs.declared.message.Message.TheVariants as messages
 use Rattle.jn_msgs.specs.declared.message.Vote.TheVariants as votes
 use Rattle.jn_report.specs.declared.line.Text.TheVariants as says
@@ -44,10 +46,10 @@ module _ (t : WorkerTable) (s : WorkStorage) (k : Tickets) (table : TableFact t 
   not-stored : s.state.works W ≡ None → ⊥
   not-stored e = true≢false (sym goes ∙ ap is_going e)
 
-  op-on : (c : ClientNo) (request : ℕ) (w : Work) (number : ℕ) (op : Op) (p : Phase) → On (op_phase t s.state.files k c request w number op p)
+  op-on : (c : ClientNo) (request : RequestNo) (w : Work) (number : OperationNo) (op : Op) (p : Phase) → On (op_phase t s.state.files k c request w number op p)
   op-on c request w number op (Active a) = let answer = answer_to op (change (list_change a.list) s.state.files) in
-      choose (nat_eq number (a.last + 1)) _ _ (λ e. granted answer (wants_of op (is_fit answer)) (refusal_of t w.name a op answer (wants_of op (is_fit answer))))
-      (λ e. choose (nat_eq number a.last) _ _ (λ f. repeats a.kept) (λ f. quietly _ refl))
+      choose (nat_eq number.0 (a.last + 1)) _ _ (λ e. granted answer (wants_of op (is_fit answer)) (refusal_of t w.name a op answer (wants_of op (is_fit answer))))
+      (λ e. choose (nat_eq number.0 a.last) _ _ (λ f. repeats a.kept) (λ f. quietly _ refl))
     where
       granted : (answer : Answer) (wants : List Wanted) (o : Option Answer) → On (granted_row t k c request w a op answer wants o)
       granted answer wants (Some refusal) = quietly _ refl

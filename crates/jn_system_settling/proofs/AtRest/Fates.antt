@@ -1,6 +1,7 @@
 -- What becomes of a transaction in a row of its coordinator: it stays as it is, comes to another stage, is forgotten, or is
 -- closed by a later Begin of its client.
 use Rattle.jn_system_settling.proofs.Common.{◌≡◌, ◌≢◌, ◌⊎◌, inl, inr, ℕ, ◌+◌, Bool, true, false, List, [], ◌∷◌, ◌++◌, length, Option, Some, None, true≢false, refl, sym, ◌∙◌, ap, subst, arith, ◌&&◌, ◌||◌, not, if◌then◌else◌, nat_lt, nat_eq, ServerNo, ClientNo, Tid, WorkId, Tickets, Cause, Client, Server, client_eq, tid_eq, work_eq, client_tells, tid_tells, work_tells, Message, Note, Vote, Transaction, Stage, Open, Voting, Committed, Aborted, Ballot, Commitment, DropFlag, RowOutcome, Sent, quiet, ignored, CoordinatorTable, staged, transaction_at, with_stage, all_in, is_work, besides, drops, commits, committed_to, aborted_to, commit_row, abort_row, forget_row, closed, after_closing, changes_of_closing, seen_now, begin_new, begin_again, begun_by, begin_row, name_from, end_promised, end_stage, end_row, abort_stage, abort_request, told_stage, inquire_row, with_work, counted_vote, vote_stage, vote_row, done_stage, done_row, thanks_stage, thanks_row, coordinator_row, Machine, AreTransactions, in_stage, at-stage, none-staged, none-less, In, is_undecided}
+use Rattle.jn_base.specs.declared.names.RequestNo.{RequestNo}
 use Rattle.jn_msgs.specs.declared.message.Message.TheVariants as messages
 use Rattle.jn_msgs.specs.declared.message.Note.TheVariants as notes
 use Rattle.jn_msgs.specs.declared.message.Vote.TheVariants as votes
@@ -57,7 +58,7 @@ pub data Fate (T : Tid) (x : Transaction) (t : CoordinatorTable) (m : Message) (
   stays : transaction_at T row.table.transactions ≡ Some x → Fate T x t m row
   moves : (stage : Stage) → transaction_at T row.table.transactions ≡ Some (record x { stage = stage }) → Move x row.messages row.notes stage → Fate T x t m row
   forgets : transaction_at T row.table.transactions ≡ None → is_undecided x.stage ≡ false → Fate T x t m row
-  closes : (q : ℕ) → m ≡ messages.Begin x.client q → nat_lt (t.seen x.client) q ≡ true → is_undecided x.stage ≡ true → transaction_at T row.table.transactions ≡ None → Fate T x t m row
+  closes : (q : RequestNo) → m ≡ messages.Begin x.client q → nat_lt (t.seen x.client) q.0 ≡ true → is_undecided x.stage ≡ true → transaction_at T row.table.transactions ≡ None → Fate T x t m row
 
 some-transaction : (x y : Transaction) → Some x ≡ Some y → x ≡ y
 some-transaction x y e = cc
@@ -82,14 +83,14 @@ module _ (t : CoordinatorTable) (k : Tickets) (U : Tid) (y : Transaction) (found
   as-named : (stage : Stage) → with_stage y.tid stage t.transactions ≡ with_stage U stage t.transactions
   as-named stage = ap (λ (V : Tid). with_stage V stage t.transactions) its-name
 
-  commit-its : (request : ℕ) (works : List WorkId) → is_undecided y.stage ≡ true → Its (commit_row t k y request works)
+  commit-its : (request : RequestNo) (works : List WorkId) → is_undecided y.stage ≡ true → Its (commit_row t k y request works)
   commit-its request works u = comes (Committed (record { works = works; done = []; thanked = false })) (as-named _) refl
       (commits_now (record { works = works; done = []; thanked = false }) u (inl refl) (has-after (commits y.tid works) (committed_to y ∷ []) (committed_to y) (inl refl)) (λ W h. has-before (commits y.tid works) (committed_to y ∷ []) _ (has-commit y.tid W works h)))
 
   abort-its : (cause : Cause) (works : List WorkId) → is_undecided y.stage ≡ true → Its (abort_row t k y cause works)
   abort-its cause works u = comes (Aborted cause) (as-named _) refl (aborts_now cause u (has-after (drops y.tid works) (aborted_to y cause ∷ []) (aborted_to y cause) (inl refl)))
 
-  pub end-its : (free : ℕ) (request : ℕ) (works : List WorkId) (s : Stage) → y.stage ≡ s → Its (end_stage t free k y request works s)
+  pub end-its : (free : ℕ) (request : RequestNo) (works : List WorkId) (s : Stage) → y.stage ≡ s → Its (end_stage t free k y request works s)
   end-its free request works Open e = either-its (nat_lt free 1) _ _ (abort-its _ works (ap is_undecided e)) (by works)
     where
       by : (works : List WorkId) → Its (end_promised t k y request works)
@@ -301,19 +302,19 @@ module _ (w : Machine) (s : ServerNo) (t : CoordinatorTable) (free : ℕ) (k : T
     one-more [] z e = ap (λ (f : Bool). if f then Some z else None) e
     one-more (y ∷ l) z e = ap (λ o. if tid_eq y.tid T then Some y else o) (one-more l z e)
 
-    begin-fate : (c : ClientNo) (q : ℕ) → Fate T x t (messages.Begin c q) (begin_row t k c q)
-    begin-fate c q = by (nat_lt (t.seen c) q) refl (nat_eq (t.seen c) q)
+    begin-fate : (c : ClientNo) (q : RequestNo) → Fate T x t (messages.Begin c q) (begin_row t k c q)
+    begin-fate c q = by (nat_lt (t.seen c) q.0) refl (nat_eq (t.seen c) q.0)
       where
         ys : List Transaction
         ys = after_closing c t.transactions
 
-        left : (row : RowOutcome CoordinatorTable) → transaction_at T row.table.transactions ≡ transaction_at T (after_closing c t.transactions) → nat_lt (t.seen c) q ≡ true → Left t.transactions (after_closing c t.transactions) c x → Fate T x t (messages.Begin c q) row
+        left : (row : RowOutcome CoordinatorTable) → transaction_at T row.table.transactions ≡ transaction_at T (after_closing c t.transactions) → nat_lt (t.seen c) q.0 ≡ true → Left t.transactions (after_closing c t.transactions) c x → Fate T x t (messages.Begin c q) row
         left row e l (other h) = stays (e ∙ h)
         left row e l (thanked_now d f h) = moves (Committed (record d { thanked = true })) (e ∙ h) (finishes d (record d { thanked = true }) f refl (λ W g. g) (λ g. refl))
         left row e l (gone h u) = forgets (e ∙ h) u
-        left row e l (closed_now f u h) = closes q (ap (λ (z : ClientNo). messages.Begin z q) (sym f)) (ap (λ (z : ClientNo). nat_lt (t.seen z) q) f ∙ l) u (e ∙ h)
+        left row e l (closed_now f u h) = closes q (ap (λ (z : ClientNo). messages.Begin z q) (sym f)) (ap (λ (z : ClientNo). nat_lt (t.seen z) q.0) f ∙ l) u (e ∙ h)
 
-        new : nat_lt (t.seen c) q ≡ true → (b : Bool) → Fate T x t (messages.Begin c q) (if b
+        new : nat_lt (t.seen c) q.0 ≡ true → (b : Bool) → Fate T x t (messages.Begin c q) (if b
             then record { table = record { transactions = after_closing c t.transactions ++ (record { tid = name_from k; client = c; begun = Some q; stage = Open }) ∷ []; seen = seen_now t.seen c q }; changes = changes_of_closing c t.transactions; messages = (Client c, messages.Begun c q (Some (name_from k))) ∷ []; notes = []; tickets = record k { next = k.next + 1 } }
             else record { table = record { transactions = after_closing c t.transactions; seen = seen_now t.seen c q }; changes = changes_of_closing c t.transactions; messages = (Client c, messages.Begun c q None) ∷ []; notes = []; tickets = k })
         new l true = left _ (one-more ys _ fresh) l (closing-leaves c t.transactions x all found)
@@ -323,7 +324,7 @@ module _ (w : Machine) (s : ServerNo) (t : CoordinatorTable) (free : ℕ) (k : T
         again (Some y) = unmoved _ _ refl
         again None = unmoved _ _ refl
 
-        by : (b : Bool) → nat_lt (t.seen c) q ≡ b → (d : Bool) → Fate T x t (messages.Begin c q) (if b then begin_new (record { transactions = after_closing c t.transactions; seen = seen_now t.seen c q }) (changes_of_closing c t.transactions) k c q
+        by : (b : Bool) → nat_lt (t.seen c) q.0 ≡ b → (d : Bool) → Fate T x t (messages.Begin c q) (if b then begin_new (record { transactions = after_closing c t.transactions; seen = seen_now t.seen c q }) (changes_of_closing c t.transactions) k c q
             else (if d then begin_again t k c q (begun_by c q t.transactions) else ignored t k))
         by true e d = new e (nat_lt (length ys) 64)
         by false e true = again (begun_by c q t.transactions)
@@ -411,9 +412,9 @@ module _ (t : CoordinatorTable) (free : ℕ) (k : Tickets) (T : Tid) (none : tra
   row-new m = (by m).is
     where
       by : (m : Message) → IsNew (coordinator_row t free k m)
-      by (messages.Begin c q) = choose-new (nat_lt (t.seen c) q) _ _
+      by (messages.Begin c q) = choose-new (nat_lt (t.seen c) q.0) _ _
           (choose-new (nat_lt (length (after_closing c t.transactions)) 64) _ _ (record { is = λ y e. ap (λ (z : Transaction). z.stage) (sym (last-is (after_closing c t.transactions) _ y (none-closed T c t.transactions none) e)) }) (no-one _ (none-closed T c t.transactions none)))
-          (choose-new (nat_eq (t.seen c) q) _ _ (again (begun_by c q t.transactions)) (no-one _ none))
+          (choose-new (nat_eq (t.seen c) q.0) _ _ (again (begun_by c q t.transactions)) (no-one _ none))
         where
           again : (o : Option Transaction) → IsNew (begin_again t k c q o)
           again None = no-one _ none

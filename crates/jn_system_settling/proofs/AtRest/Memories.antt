@@ -185,8 +185,8 @@ module _ (t : CoordinatorTable) (free : ℕ) (k : Tickets) (h : all_unfinished t
       by (Some y) e = by-kind U y (f (Some y)) (some y e)
 
   pub row-unfinished : (m : Message) → AreUnfinished (coordinator_row t free k m)
-  row-unfinished (messages.Begin c q) = choose (nat_lt (t.seen c) q) _ _ (choose (nat_lt (length (after_closing c t.transactions)) 64) _ _ (both-unfinished (after_closing c t.transactions) _ (closing-unfinished c t.transactions h) refl) (closing-unfinished c t.transactions h))
-      (choose (nat_eq (t.seen c) q) _ _ (again (begun_by c q t.transactions)) h)
+  row-unfinished (messages.Begin c q) = choose (nat_lt (t.seen c) q.0) _ _ (choose (nat_lt (length (after_closing c t.transactions)) 64) _ _ (both-unfinished (after_closing c t.transactions) _ (closing-unfinished c t.transactions h) refl) (closing-unfinished c t.transactions h))
+      (choose (nat_eq (t.seen c) q.0) _ _ (again (begun_by c q t.transactions)) h)
     where
       again : (o : Option Transaction) → AreUnfinished (begin_again t k c q o)
       again None = h

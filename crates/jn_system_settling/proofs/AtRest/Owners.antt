@@ -1,5 +1,6 @@
 -- Each transaction of a table and of a flag has the client that began it.
 use Rattle.jn_system_settling.proofs.Common.{◌≡◌, ℕ, zero, suc, ◌+◌, Bool, true, false, List, [], ◌∷◌, ◌++◌, take, Option, Some, None, true≢false, refl, sym, arith, ◌&&◌, ◌||◌, not, if◌then◌else◌, nat_lt, nat_eq, length, nat_tests, ClientNo, Tid, WorkId, Tickets, Cause, Client, tid_eq, client_eq, tid_tells, Message, Vote, Transaction, Stage, Open, Voting, Committed, Aborted, Ballot, Commitment, StableState, FlagState, Change, AddReady, MarkGoing, CarryOut, RemoveWork, AddFlag, DropFlag, made_by, made_all, RowOutcome, Closes, Empty, Stays, Goes, Waits, Forgets, client-closes, CoordinatorTable, transaction_at, with_stage, all_in, is_work, commit_row, abort_row, forget_row, after_closing, changes_of_closing, begin_again, begun_by, begin_row, seen_now, name_from, end_promised, end_stage, end_row, abort_stage, abort_request, told_stage, inquire_row, counted_vote, vote_stage, vote_row, done_stage, done_row, thanks_stage, thanks_row, with_work, coordinator_row, restored_transaction, restored_transactions, Opening, openings}
+use Rattle.jn_base.specs.declared.names.RequestNo.{RequestNo}
 use Rattle.jn_msgs.specs.declared.message.Message.TheVariants as messages
 use Rattle.jn_msgs.specs.declared.message.Note.TheVariants.{Ignored}
 use Rattle.jn_msgs.specs.declared.message.Vote.TheVariants as votes
@@ -96,17 +97,17 @@ module _ (P : Owner) (t : CoordinatorTable) (k : Tickets) (h : all_owned P t.tra
     its : P y.client y.tid ≡ true
     its = owned-found P T t.transactions y h found
 
-    commit-owned : (request : ℕ) (works : List WorkId) → RowOwned P (commit_row t k y request works)
+    commit-owned : (request : RequestNo) (works : List WorkId) → RowOwned P (commit_row t k y request works)
     commit-owned request works = record { table = owned-staged P y.tid _ t.transactions h; flags = let own = its in grind arith }
 
     abort-owned : (cause : Cause) (works : List WorkId) → RowOwned P (abort_row t k y cause works)
     abort-owned cause works = staged y.tid (Aborted cause) _ refl refl
 
-    promised-owned : (request : ℕ) (works : List WorkId) → RowOwned P (end_promised t k y request works)
+    promised-owned : (request : RequestNo) (works : List WorkId) → RowOwned P (end_promised t k y request works)
     promised-owned request [] = commit-owned request []
     promised-owned request (W ∷ Ws) = staged y.tid _ _ refl refl
 
-    end-owned : (free : ℕ) (request : ℕ) (works : List WorkId) (s : Stage) → RowOwned P (end_stage t free k y request works s)
+    end-owned : (free : ℕ) (request : RequestNo) (works : List WorkId) (s : Stage) → RowOwned P (end_stage t free k y request works s)
     end-owned free request works Open = either (nat_lt free 1) _ _ (abort-owned _ works) (promised-owned request works)
     end-owned free request works (Voting b) = still _ refl refl
     end-owned free request works (Committed d) = still _ refl refl
@@ -131,7 +132,7 @@ module _ (P : Owner) (t : CoordinatorTable) (k : Tickets) (h : all_owned P t.tra
   told-owned T W Open = still _ refl refl
   told-owned T W (Voting b) = still _ refl refl
 
-  ends-owned : (free : ℕ) (c : ClientNo) (request : ℕ) (T : Tid) (works : List WorkId) (o : Option Transaction) → transaction_at T t.transactions ≡ o → RowOwned P (end_row t free k c request T works o)
+  ends-owned : (free : ℕ) (c : ClientNo) (request : RequestNo) (T : Tid) (works : List WorkId) (o : Option Transaction) → transaction_at T t.transactions ≡ o → RowOwned P (end_row t free k c request T works o)
   ends-owned free c request T works (Some y) e = end-owned T y e free request works y.stage
   ends-owned free c request T works None e = still _ refl refl
 
@@ -175,7 +176,7 @@ module _ (P : Owner) (t : CoordinatorTable) (k : Tickets) (h : all_owned P t.tra
 
 -- ---- Begin
 
-module _ (os : List Opening) (t : CoordinatorTable) (k : Tickets) (h : all_owned (owner_in os) t.transactions ≡ true) (c : ClientNo) (request : ℕ) where
+module _ (os : List Opening) (t : CoordinatorTable) (k : Tickets) (h : all_owned (owner_in os) t.transactions ≡ true) (c : ClientNo) (request : RequestNo) where
   abbrev Now : RowOutcome CoordinatorTable → Type 0
   Now row = RowOwned (owner_in (os ++ openings row.messages)) row
 
@@ -207,7 +208,7 @@ module _ (os : List Opening) (t : CoordinatorTable) (k : Tickets) (h : all_owned
   new-owned false = record { table = left []; flags = closes-flags-owned (owner_in (os ++ [])) (client-closes c t.transactions) }
 
   pub begin-owned : Now (begin_row t k c request)
-  begin-owned = choose (nat_lt (t.seen c) request) _ _ (new-owned (nat_lt (length ys) 64)) (choose (nat_eq (t.seen c) request) _ _ (again-owned (begun_by c request t.transactions)) (old _ refl refl))
+  begin-owned = choose (nat_lt (t.seen c) request.0) _ _ (new-owned (nat_lt (length ys) 64)) (choose (nat_eq (t.seen c) request.0) _ _ (again-owned (begun_by c request t.transactions)) (old _ refl refl))
 
 -- ---- every message
 
@@ -234,7 +235,7 @@ coordinator-owned os t free k m h = by m (grown (owner_in os) (owner_in (os ++ o
 
 -- the flags that are put are of transactions that were there
 pub coordinator-flags : (P : Owner) (t : CoordinatorTable) (free : ℕ) (k : Tickets) (m : Message) → all_owned P t.transactions ≡ true → flags_owned P (coordinator_row t free k m).changes ≡ true
-coordinator-flags P t free k (messages.Begin c request) h = by (nat_lt (t.seen c) request) (nat_lt (length (after_closing c t.transactions)) 64) (nat_eq (t.seen c) request) (begun_by c request t.transactions)
+coordinator-flags P t free k (messages.Begin c request) h = by (nat_lt (t.seen c) request.0) (nat_lt (length (after_closing c t.transactions)) 64) (nat_eq (t.seen c) request.0) (begun_by c request t.transactions)
   where
     again : (o : Option Transaction) → flags_owned P (begin_again t k c request o).changes ≡ true
     again (Some y) = refl

@@ -1,5 +1,6 @@
 -- Each step of the whole system keeps what is said of clients' requests.
 use Rattle.jn_system_settling.proofs.Common.{◌≡◌, ◌≢◌, ◌⊎◌, inl, inr, ◌≤◌, ℕ, zero, suc, ◌+◌, Bool, true, false, List, [], ◌∷◌, ◌++◌, take, Option, Some, None, true≢false, append-nil, refl, sym, ◌∙◌, ap, subst, arith, ◌&&◌, if◌then◌else◌, nat_lt, slice_get, nat_tests, ServerNo, ClientNo, Tid, WorkId, Party, Client, Server, Command, server_eq, client_eq, client_tells, Message, AllFiles, OpenWork, Outstanding, Taken, Transaction, StableState, FlagState, Pick, stable, made_all, RowOutcome, Sent, WorkerTable, worker_row, worker_step, work_of, timed_out, transaction_at, coordinator_row, close_clients_row, seen_in_flags, seen_in_flag, ClientTable, if_server, if_idle, if_transaction, if_no_transaction, if_open, if_not_open, with_operation, names_of, sends_command, Commanded, Refuses, Sends, command_row, take_row, again_row, sent_again, is_begin, over, with_epoch, World, Memory, at_server, at_client, Room, storage_of, server_row, server_step, server_again, of_worker, of_coordinator, of_step, of_timeout, server_timeout, is_for_worker, restored, Step, NextEvent, Tell, Again, Deliver, Nudge, Timeout, StopDelivery, StopWork, Crash, Narrow, StopRestart, Restart, Dismiss, CloseClients, after, ends, at_memory, handed, work, works, nudge, timeout, crash, narrow, stop_restart, restart, dismiss, close_clients, took, commanded, sent_now, UpFact, ServerFact, Opening, openings, openings-more, HasOpening, Course, go}
+use Rattle.jn_base.specs.Names.{request_of, operation_of}
 use Rattle.jn_base.specs.declared.op.Command.TheVariants as commands
 use Rattle.jn_msgs.specs.declared.message.Message.TheVariants as messages
 use Rattle.jn_report.specs.declared.line.Refusal.TheVariants as refusals
@@ -20,7 +21,7 @@ use Rattle.jn_system_settling.proofs.AtRest.Answered.{Talks, Talking, go-talking
 -- the outstanding request is the last one drawn
 pub record Draws (t : ClientTable) : Type 0 where
   pub some : 1 ≤ t.next
-  pub latest : (o : Outstanding) → t.outstanding ≡ Some o → (1 ≤ o.request) × (o.request + 1 ≡ t.next)
+  pub latest : (o : Outstanding) → t.outstanding ≡ Some o → (1 ≤ o.request.0) × (o.request.0 + 1 ≡ t.next)
 
 pub record ServerRequests (f : Clients) (sent : List Sent) (o : Option Memory) (found : Pick → StableState) : Type 0 where
   pub votings : (m : Memory) → o ≡ Some m → Votings (Past false f) m.coordinator.transactions
@@ -110,7 +111,7 @@ pub record Commands (u t : ClientTable) (to : Party) (m : Message) : Type 0 wher
   pub waits : Outstanding
   pub outstanding : t.outstanding ≡ Some waits
   pub message : waits.message ≡ m
-  pub request : waits.request ≡ u.next
+  pub request : waits.request.0 ≡ u.next
   pub next : t.next ≡ u.next + 1
 
 abbrev pub CommandsAs : ClientTable → Commanded → Type 0
@@ -145,14 +146,14 @@ not-open-as u None row h = h
 not-open-as u (Some w) row h = tt
 
 sends-as : (u : ClientTable) (works : List OpenWork) (j : ℕ) (command : Command) (to : Party) (m : Message) → CommandsAs u (sends_command (record u { works = works }) j command to m)
-sends-as u works j command to m = record { waits = record { event = j; request = u.next; command = command; to = to; message = m }; outstanding = refl; message = refl; request = refl; next = refl }
+sends-as u works j command to m = record { waits = record { event = j; request = request_of u.next; command = command; to = to; message = m }; outstanding = refl; message = refl; request = refl; next = refl }
 
 pub commands-as : (u : ClientTable) (j : ℕ) (command : Command) → CommandsAs u (command_row u j command)
-commands-as u j (commands.Begin s) = server-as u s _ (idle-as u u.outstanding _ (no-transaction-as u u.transaction _ (sends-as u u.works j (commands.Begin s) (Server s) (messages.Begin u.client u.next))))
-commands-as u j (commands.Open s) = server-as u s _ (idle-as u u.outstanding _ (transaction-as u u.transaction _ (λ T. not-open-as u (work_at s u.works) _ (sends-as u u.works j (commands.Open s) (Server s) (messages.Open u.client u.next T)))))
-commands-as u j (commands.Do s op) = server-as u s _ (idle-as u u.outstanding _ (transaction-as u u.transaction _ (λ T. open-as u (work_at s u.works) _ (λ w. sends-as u (with_operation s u.works) j (commands.Do s op) (Server s) (messages.Op u.client u.next w.work (w.last + 1) op)))))
-commands-as u j commands.End = idle-as u u.outstanding _ (transaction-as u u.transaction _ (λ T. sends-as u u.works j commands.End (Server T.server) (messages.End u.client u.next T (names_of u.works))))
-commands-as u j commands.Abort = transaction-as u u.transaction _ (λ T. sends-as u u.works j commands.Abort (Server T.server) (messages.Abort u.client u.next T (names_of u.works)))
+commands-as u j (commands.Begin s) = server-as u s _ (idle-as u u.outstanding _ (no-transaction-as u u.transaction _ (sends-as u u.works j (commands.Begin s) (Server s) (messages.Begin u.client (request_of u.next)))))
+commands-as u j (commands.Open s) = server-as u s _ (idle-as u u.outstanding _ (transaction-as u u.transaction _ (λ T. not-open-as u (work_at s u.works) _ (sends-as u u.works j (commands.Open s) (Server s) (messages.Open u.client (request_of u.next) T)))))
+commands-as u j (commands.Do s op) = server-as u s _ (idle-as u u.outstanding _ (transaction-as u u.transaction _ (λ T. open-as u (work_at s u.works) _ (λ w. sends-as u (with_operation s u.works) j (commands.Do s op) (Server s) (messages.Op u.client (request_of u.next) w.work (operation_of (w.last + 1)) op)))))
+commands-as u j commands.End = idle-as u u.outstanding _ (transaction-as u u.transaction _ (λ T. sends-as u u.works j commands.End (Server T.server) (messages.End u.client (request_of u.next) T (names_of u.works))))
+commands-as u j commands.Abort = transaction-as u u.transaction _ (λ T. sends-as u u.works j commands.Abort (Server T.server) (messages.Abort u.client (request_of u.next) T (names_of u.works)))
 
 -- ---- what a client waits for is said truly
 
@@ -337,7 +338,7 @@ module _ (n : ℕ) (at_most : n ≤ 8) (start : World) (files : AllFiles) (epoch
             draws : Draws t
             draws = record {
               some = let l = shape.next in omega (arith, l);
-              latest = λ o is. let one = ap (λ (z : Outstanding). z.request) (some o (sym shape.outstanding ∙ is)) in let two = shape.request in let next = shape.next in let least = (r.draws c).some in (omega (arith, one, two, least), omega (arith, one, two, next));
+              latest = λ o is. let one = ap (λ (z : Outstanding). z.request.0) (some o (sym shape.outstanding ∙ is)) in let two = shape.request in let next = shape.next in let least = (r.draws c).some in (omega (arith, one, two, least), omega (arith, one, two, next));
             }
 
             g-draws : (e : ClientNo) → Draws (at_client w.clients c t e)
@@ -432,12 +433,12 @@ module _ (n : ℕ) (at_most : n ≤ 8) (start : World) (files : AllFiles) (epoch
       where
         by : (o : Option FlagState) → x.flags T ≡ o → SeenFits w.clients w.sent c (seen_in_flags x Ts c) → SeenFits w.clients w.sent c (seen_in_flag c o (seen_in_flags x Ts c))
         by None e again = again
-        by (Some f) e again = on-flag (client_tells f.client c) (nat_lt (seen_in_flags x Ts c) f.request)
+        by (Some f) e again = on-flag (client_tells f.client c) (nat_lt (seen_in_flags x Ts c) f.request.0)
           where
-            on-flag : ((client_eq f.client c ≡ true) × (f.client ≡ c)) ⊎ ((client_eq f.client c ≡ false) × (f.client ≢ c)) → (b : Bool) → SeenFits w.clients w.sent c (if client_eq f.client c && b then f.request else seen_in_flags x Ts c)
-            on-flag (inl t) true = subst (λ (z : Bool). SeenFits w.clients w.sent c (if z && true then f.request else seen_in_flags x Ts c)) (sym t.0) (inr (inl (subst (λ z. Past false w.clients z f.request) t.1 (stored T f e))))
-            on-flag (inl t) false = subst (λ (z : Bool). SeenFits w.clients w.sent c (if z && false then f.request else seen_in_flags x Ts c)) (sym t.0) again
-            on-flag (inr t) b = subst (λ (z : Bool). SeenFits w.clients w.sent c (if z && b then f.request else seen_in_flags x Ts c)) (sym t.0) again
+            on-flag : ((client_eq f.client c ≡ true) × (f.client ≡ c)) ⊎ ((client_eq f.client c ≡ false) × (f.client ≢ c)) → (b : Bool) → SeenFits w.clients w.sent c (if client_eq f.client c && b then f.request.0 else seen_in_flags x Ts c)
+            on-flag (inl t) true = subst (λ (z : Bool). SeenFits w.clients w.sent c (if z && true then f.request.0 else seen_in_flags x Ts c)) (sym t.0) (inr (inl (subst (λ z. Past false w.clients z f.request) t.1 (stored T f e))))
+            on-flag (inl t) false = subst (λ (z : Bool). SeenFits w.clients w.sent c (if z && false then f.request.0 else seen_in_flags x Ts c)) (sym t.0) again
+            on-flag (inr t) b = subst (λ (z : Bool). SeenFits w.clients w.sent c (if z && b then f.request.0 else seen_in_flags x Ts c)) (sym t.0) again
 
     restart-requests : (s : ServerNo) (pick : Pick) (Ws : List WorkId) (Ts : List Tid) (o : Option Memory) → Requests (restart s pick Ws Ts o w)
     restart-requests s pick Ws Ts None = record {

@@ -1,5 +1,7 @@
 -- What messages, tables and flags say of clients' requests, and that it stays true.
 use Rattle.jn_system_settling.proofs.Common.{◌≡◌, ◌≢◌, ◌⊎◌, inl, inr, ◌≤◌, ◌<◌, ℕ, ◌+◌, Bool, true, false, List, [], ◌∷◌, ◌++◌, length, Option, Some, None, true≢false, refl, sym, ◌∙◌, ap, subst, arith, ◌&&◌, if◌then◌else◌, nat_lt, nat_eq, ClientNo, Tid, Tickets, Client, client_eq, client_tells, Message, Outstanding, Transaction, Open, Change, AddReady, MarkGoing, CarryOut, RemoveWork, AddFlag, DropFlag, RowOutcome, Sent, WorkerTable, client-closes, CoordinatorTable, after_closing, changes_of_closing, begin_again, begun_by, begin_row, seen_now, name_from, ClientTable, is_begin, Memory, of_worker, of_coordinator, Opening}
+use Rattle.jn_base.specs.Names.{request_of}
+use Rattle.jn_base.specs.declared.names.RequestNo.{RequestNo}
 use Rattle.jn_msgs.specs.declared.message.Message.TheVariants as messages
 use Rattle.jn_system_settling.proofs.Settling.WorkerFits.{keep_flags}
 use Rattle.jn_system_settling.proofs.AtRest.Ways.{Has}
@@ -10,10 +12,10 @@ abbrev pub Clients : Type 0
 Clients = ClientNo → ClientTable
 
 -- the client has drawn this request, and if it waits for its answer, it is a Begin or not
-abbrev pub Past : Bool → Clients → ClientNo → ℕ → Type 0
-Past b f c q = (q < (f c).next) × ((o : Outstanding) → (f c).outstanding ≡ Some o → o.request ≡ q → is_begin o.command ≡ b)
+abbrev pub Past : Bool → Clients → ClientNo → RequestNo → Type 0
+Past b f c q = (q.0 < (f c).next) × ((o : Outstanding) → (f c).outstanding ≡ Some o → o.request ≡ q → is_begin o.command ≡ b)
 
-pub record HasBegun (sent : List Sent) (c : ClientNo) (q : ℕ) : Type 0 where
+pub record HasBegun (sent : List Sent) (c : ClientNo) (q : RequestNo) : Type 0 where
   pub answer : Option Tid
   pub has : Has (Client c, messages.Begun c q answer) sent
 
@@ -23,18 +25,18 @@ MessageFits f os (messages.Begun c q a) = Past true f c q
 MessageFits f os (messages.End c q T works) = Past false f c q × (owner_in os c T ≡ true)
 MessageFits f os m = Unit {0}
 
--- a request that a coordinator has seen was answered, or it was no Begin
+-- the request of this number, which a coordinator has seen, was answered, or it was no Begin
 abbrev pub SeenFits : Clients → List Sent → ClientNo → ℕ → Type 0
-SeenFits f sent c q = (q ≡ 0) ⊎ (Past false f c q ⊎ HasBegun sent c q)
+SeenFits f sent c n = (n ≡ 0) ⊎ (Past false f c (request_of n) ⊎ HasBegun sent c (request_of n))
 
 -- ---- clients go on
 
 pub data GoesOn (t now : ClientTable) : Type 0 where
   waits_on : t.next ≤ now.next → now.outstanding ≡ t.outstanding → GoesOn t now
   waits_not : t.next ≤ now.next → now.outstanding ≡ None → GoesOn t now
-  waits_anew : t.next ≤ now.next → (o : Outstanding) → now.outstanding ≡ Some o → o.request ≡ t.next → GoesOn t now
+  waits_anew : t.next ≤ now.next → (o : Outstanding) → now.outstanding ≡ Some o → o.request.0 ≡ t.next → GoesOn t now
 
-pub past-on : (b : Bool) (f g : Clients) (c : ClientNo) (q : ℕ) → GoesOn (f c) (g c) → Past b f c q → Past b g c q
+pub past-on : (b : Bool) (f g : Clients) (c : ClientNo) (q : RequestNo) → GoesOn (f c) (g c) → Past b f c q → Past b g c q
 past-on b f g c q (waits_on l e) h = (let k = h.0 in omega (arith, l, k), λ o is. h.1 o (sym e ∙ is))
 past-on b f g c q (waits_not l e) h = (let k = h.0 in omega (arith, l, k), λ o is. absurd (none o (sym e ∙ is)))
   where
@@ -46,7 +48,7 @@ past-on b f g c q (waits_anew l p e new) h = (let k = h.0 in omega (arith, l, k)
     same o z = cc
 
     by : (o : Outstanding) → (g c).outstanding ≡ Some o → o.request ≡ q → ⊥
-    by o is at = let one = ap (λ (z : Outstanding). z.request) (same o (sym e ∙ is)) in let k = h.0 in omega (arith, new, one, at, k)
+    by o is at = let one = ap (λ (z : Outstanding). z.request.0) (same o (sym e ∙ is)) in let its = ap (λ (z : RequestNo). z.0) at in let k = h.0 in omega (arith, new, one, its, k)
 
 has-more : (x : Sent) (a b : List Sent) → Has x a → Has x (a ++ b)
 has-more x [] b h = absurd h
@@ -85,10 +87,10 @@ module _ (f g : Clients) (on : (c : ClientNo) → GoesOn (f c) (g c)) where
   message-on os more (messages.Done T W) h = tt
   message-on os more (messages.Inquire T W) h = tt
 
-  pub seen-on : (sent more : List Sent) (c : ClientNo) (q : ℕ) → SeenFits f sent c q → SeenFits g (sent ++ more) c q
-  seen-on sent more c q (inl e) = inl e
-  seen-on sent more c q (inr (inl h)) = inr (inl (past-on false f g c q (on c) h))
-  seen-on sent more c q (inr (inr h)) = inr (inr (record { answer = h.answer; has = has-more _ sent more h.has }))
+  pub seen-on : (sent more : List Sent) (c : ClientNo) (n : ℕ) → SeenFits f sent c n → SeenFits g (sent ++ more) c n
+  seen-on sent more c n (inl e) = inl e
+  seen-on sent more c n (inr (inl h)) = inr (inl (past-on false f g c (request_of n) (on c) h))
+  seen-on sent more c n (inr (inr h)) = inr (inr (record { answer = h.answer; has = has-more _ sent more h.has }))
 
 pub stays : (f : Clients) (c : ClientNo) → GoesOn (f c) (f c)
 stays f c = waits_on (omega arith) refl
@@ -129,7 +131,7 @@ pub record RowRequests (f : Clients) (sent : List Sent) (row : RowOutcome Memory
   pub flags : FlagsOf (Past false f) row.changes
   pub fits : (os : List Opening) (x : Sent) → Has x row.messages → MessageFits f os x.1
 
-works-of : (P : ClientNo → ℕ → Type 0) (cs : List Change) → keep_flags cs ≡ true → FlagsOf P cs
+works-of : (P : ClientNo → RequestNo → Type 0) (cs : List Change) → keep_flags cs ≡ true → FlagsOf P cs
 works-of P [] h = tt
 works-of P (AddReady head list reads ∷ cs) h = (tt, works-of P cs h)
 works-of P (MarkGoing W ∷ cs) h = (tt, works-of P cs h)
@@ -159,7 +161,7 @@ module _ (f : Clients) (sent : List Sent) (m : Memory) (votings : Votings (Past 
   }
 
   -- a Begin
-  module _ (c : ClientNo) (q : ℕ) (past : Past true f c q) where
+  module _ (c : ClientNo) (q : RequestNo) (past : Past true f c q) where
     abbrev Is : RowOutcome CoordinatorTable → Type 0
     Is row = RowRequests f sent (of_coordinator m row)
 
@@ -175,10 +177,10 @@ module _ (f : Clients) (sent : List Sent) (m : Memory) (votings : Votings (Past 
     now-seen : (a : Option Tid) (d : ClientNo) → SeenFits f (sent ++ (Client c, messages.Begun c q a) ∷ []) d (seen_now m.coordinator.seen c q d)
     now-seen a d = by (client_tells c d)
       where
-        by : ((client_eq c d ≡ true) × (c ≡ d)) ⊎ ((client_eq c d ≡ false) × (c ≢ d)) → SeenFits f (sent ++ (Client c, messages.Begun c q a) ∷ []) d (if client_eq c d then q else m.coordinator.seen d)
-        by (inl e) = subst (λ (b : Bool). SeenFits f (sent ++ (Client c, messages.Begun c q a) ∷ []) d (if b then q else m.coordinator.seen d)) (sym e.0)
+        by : ((client_eq c d ≡ true) × (c ≡ d)) ⊎ ((client_eq c d ≡ false) × (c ≢ d)) → SeenFits f (sent ++ (Client c, messages.Begun c q a) ∷ []) d (if client_eq c d then q.0 else m.coordinator.seen d)
+        by (inl e) = subst (λ (b : Bool). SeenFits f (sent ++ (Client c, messages.Begun c q a) ∷ []) d (if b then q.0 else m.coordinator.seen d)) (sym e.0)
             (inr (inr (record { answer = a; has = has-new _ sent _ (inl (ap (λ z. (Client z, messages.Begun z q a)) e.1)) })))
-        by (inr e) = subst (λ (b : Bool). SeenFits f (sent ++ (Client c, messages.Begun c q a) ∷ []) d (if b then q else m.coordinator.seen d)) (sym e.0) (old-seen _ d)
+        by (inr e) = subst (λ (b : Bool). SeenFits f (sent ++ (Client c, messages.Begun c q a) ∷ []) d (if b then q.0 else m.coordinator.seen d)) (sym e.0) (old-seen _ d)
 
     abbrev ys : List Transaction
     ys = after_closing c m.coordinator.transactions
@@ -197,5 +199,5 @@ module _ (f : Clients) (sent : List Sent) (m : Memory) (votings : Votings (Past 
     again-requests k None = record { table = votings; seen = old-seen []; flags = tt; fits = λ os x k. absurd k }
 
     pub begin-requests : (k : Tickets) → Is (begin_row m.coordinator k c q)
-    begin-requests k = choose (nat_lt (m.coordinator.seen c) q) _ _ (new-requests k (nat_lt (length ys) 64))
-        (choose (nat_eq (m.coordinator.seen c) q) _ _ (again-requests k (begun_by c q m.coordinator.transactions)) (record { table = votings; seen = old-seen []; flags = tt; fits = λ os x k. absurd k }))
+    begin-requests k = choose (nat_lt (m.coordinator.seen c) q.0) _ _ (new-requests k (nat_lt (length ys) 64))
+        (choose (nat_eq (m.coordinator.seen c) q.0) _ _ (again-requests k (begun_by c q m.coordinator.transactions)) (record { table = votings; seen = old-seen []; flags = tt; fits = λ os x k. absurd k }))

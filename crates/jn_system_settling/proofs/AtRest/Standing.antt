@@ -1,5 +1,6 @@
 -- What holds of transactions and works at servers that are up, in every world that a run reaches.
 use Rattle.jn_system_settling.proofs.Common.{◌≡◌, ◌≢◌, ◌⊎◌, inl, inr, ◌<◌, ℕ, Bool, true, false, List, [], ◌∷◌, Option, Some, None, is_some, refl, sym, ◌∙◌, ap, subst, arith, if◌then◌else◌, nat_lt, nat_tests, ServerNo, Tid, WorkId, Server, tid_eq, tid_tells, AllFiles, Transaction, Stage, Voting, Ballot, Prepared, Pick, is_going, transaction_at, is_work, name_from, Machine, Knowledge, Invariant, Knows, run_atoms, opening_world, not_both, World, Memory, UpFact, ServerFact, IsTransaction, IsStage, knowledge_in, known_in, knowledge_of, found-is, openings, HasOpening, In, Each, each-in, Reached, Free, invariant}
+use Rattle.jn_base.specs.declared.names.RequestNo.{RequestNo}
 use Rattle.jn_msgs.specs.declared.message.Message.TheVariants as messages
 use Rattle.jn_system_order.proofs.Ordering.Facts.{opening}
 use Rattle.jn_system_reports.proofs.Reporting.Past.{SaysPast, EntryFact, BeganBy}
@@ -56,7 +57,7 @@ module _ (files : AllFiles) (epochs : ServerNo → ℕ) (r : World) (R : Reached
     entry = each-found (EntryFact (openings r.sent) r.clients machine Free m.coordinator.seen) T m.coordinator.transactions x (R.past.entries T.server m up) found
 
     -- while it is its client's, no later Begin comes
-    pub no-later : (q : ℕ) (s : ServerNo) → In (Server s, messages.Begin x.client q) r.sent → (r.clients x.client).transaction ≡ Some T → nat_lt (m.coordinator.seen x.client) q ≡ true → ⊥
+    pub no-later : (q : RequestNo) (s : ServerNo) → In (Server s, messages.Begin x.client q) r.sent → (r.clients x.client).transaction ≡ Some T → nat_lt (m.coordinator.seen x.client) q.0 ≡ true → ⊥
     no-later q s has current l = by (each-in (SaysPast (openings r.sent) r.clients machine Free) r.sent (Server s, messages.Begin x.client q) R.past.says has)
       where
         by : BeganBy (openings r.sent) x.client (r.clients x.client) q → ⊥

@@ -1,5 +1,6 @@
 -- A client that waits for the outcome of its transaction is told of it, or goes on waiting.
 use Rattle.jn_system_settling.proofs.Common.{◌≡◌, ◌≢◌, ◌⊎◌, inl, inr, ℕ, Bool, true, false, List, [], ◌∷◌, length, Option, Some, None, true≢false, refl, sym, ◌∙◌, ap, subst, arith, nat_tests, ◌&&◌, if◌then◌else◌, nat_eq, nat_lt, ClientNo, Tid, WorkId, Tickets, Cause, Server, Command, End, Abort, client_eq, tid_eq, client_tells, tid_tells, Message, Outcome, Text, Outstanding, Taken, Transaction, Stage, Open, Voting, Committed, Aborted, StableState, RowOutcome, Sent, worker_row, CoordinatorTable, after_closing, begun_by, begin_again, coordinator_row, ClientTable, is_begin, is_operation, is_end, is_end_or_abort, told, over, opens, is_tid, is_current, if_waits, outcome_row, take_row, Memory, Room, storage_of, server_row, of_worker, of_coordinator, is_for_worker, tells_outcome}
+use Rattle.jn_base.specs.Names.{request_eq}
 use Rattle.jn_msgs.specs.declared.message.Message.TheVariants as messages
 use Rattle.jn_msgs.specs.declared.message.Outcome.TheVariants as outcomes
 use Rattle.jn_report.specs.declared.line.Text.TheVariants as says
@@ -72,8 +73,8 @@ row-begins m x room message = by (is_for_worker message)
     none y k = absurd k
 
     begins : (message : Message) → is_begin_message message ≡ true → NoneBegins (coordinator_row m.coordinator room.free.records m.tickets message).messages
-    begins (messages.Begin c q) e = choose (nat_lt (m.coordinator.seen c) q) _ _ (choose (nat_lt (length (after_closing c m.coordinator.transactions)) 64) _ _ (one _ refl) (one _ refl))
-        (choose (nat_eq (m.coordinator.seen c) q) _ _ (again (begun_by c q m.coordinator.transactions)) none)
+    begins (messages.Begin c q) e = choose (nat_lt (m.coordinator.seen c) q.0) _ _ (choose (nat_lt (length (after_closing c m.coordinator.transactions)) 64) _ _ (one _ refl) (one _ refl))
+        (choose (nat_eq (m.coordinator.seen c) q.0) _ _ (again (begun_by c q m.coordinator.transactions)) none)
       where
         again : (o : Option Transaction) → NoneBegins (begin_again m.coordinator m.tickets c q o).messages
         again None = none
@@ -168,12 +169,12 @@ module _ (T : Tid) (t : ClientTable) (i : IsIn T t) where
               on false = refl
 
   pub take-in : (m : Message) → TookIn T t m
-  take-in (messages.Begun c q a) = same_table (fits-not _ _ (false-third (client_eq c t.client) (nat_eq i.command.request q) (is_begin i.command.command) (no-begin i.command.command i.closing)))
-  take-in (messages.Opened c q U a) = same_table (fits-not _ _ (false-third (client_eq c t.client) (nat_eq i.command.request q) (is_current t U && opens a i.command.command) (both (is_current t U) (opens a i.command.command) (no-open a i.command.command i.closing))))
+  take-in (messages.Begun c q a) = same_table (fits-not _ _ (false-third (client_eq c t.client) (request_eq i.command.request q) (is_begin i.command.command) (no-begin i.command.command i.closing)))
+  take-in (messages.Opened c q U a) = same_table (fits-not _ _ (false-third (client_eq c t.client) (request_eq i.command.request q) (is_current t U && opens a i.command.command) (both (is_current t U) (opens a i.command.command) (no-open a i.command.command i.closing))))
     where
       both : (a b : Bool) → b ≡ false → (a && b) ≡ false
       both a b h = grind (arith, h)
-  take-in (messages.Answer c q a) = same_table (fits-not _ _ (false-third (client_eq c t.client) (nat_eq i.command.request q) (is_operation i.command.command) (no-operation i.command.command i.closing)))
+  take-in (messages.Answer c q a) = same_table (fits-not _ _ (false-third (client_eq c t.client) (request_eq i.command.request q) (is_operation i.command.command) (no-operation i.command.command i.closing)))
   take-in (messages.Outcome c U outcome) = by (client_tells c t.client)
     where
       tell : ((tid_eq U T ≡ true) × (U ≡ T)) ⊎ ((tid_eq U T ≡ false) × (U ≢ T)) → (U ≡ T) ⊎ (tid_eq U T ≡ false)

@@ -1,5 +1,7 @@
 -- The requests that a coordinator keeps, and which of a server's rows speak of requests.
 use Rattle.jn_system_settling.proofs.Common.{◌≡◌, ◌≢◌, ◌⊎◌, inl, inr, ℕ, zero, suc, ◌+◌, Bool, true, false, List, [], ◌∷◌, ◌++◌, length, take, Option, Some, None, true≢false, refl, sym, ◌∙◌, ap, subst, arith, ◌&&◌, not, if◌then◌else◌, nat_lt, nat_eq, slice_get, ClientNo, Tid, WorkId, Tickets, Cause, Op, Answer, tid_eq, tid_tells, change, answer_to, list_change, Intention, Message, Vote, Work, Phase, ActiveWork, Transaction, Stage, Open, Voting, Committed, Aborted, Ballot, Commitment, StableState, FlagState, Change, AddReady, MarkGoing, CarryOut, RemoveWork, AddFlag, DropFlag, made_by, made_all, at_tid, is_going, RowOutcome, Sent, WorkerTable, WorkStorage, Wanted, work_at, work_of, open_row, wants_of, is_fit, refusal_of, granted_row, repeated, op_phase, op_row, conflict, commit_wants, vote_of, shortage, need_in, prepared_row, prepare_phase, prepare_row, commit_phase, work_commit_row, drop_phase, drop_row, worker_row, going_work, going_row, carried_row, intentions_of, worker_step, worker_again, Closes, Empty, Stays, Goes, Waits, Forgets, outcomes-close, close_clients_row, CoordinatorTable, transaction_at, with_stage, all_in, is_work, besides, drops, commits, prepares, commit_row, abort_row, forget_row, end_promised, end_stage, end_row, abort_stage, abort_request, told_stage, inquire_row, counted_vote, vote_stage, vote_row, done_stage, done_row, thanks_stage, thanks_row, with_work, coordinator_row, committed_to, aborted_to, told_again, coordinator_again, restored_transaction, restored_transactions}
+use Rattle.jn_base.specs.declared.names.OperationNo.{OperationNo}
+use Rattle.jn_base.specs.declared.names.RequestNo.{RequestNo}
 use Rattle.jn_msgs.specs.declared.message.Message.TheVariants as messages
 use Rattle.jn_msgs.specs.declared.message.Vote.TheVariants as votes
 use Rattle.jn_rows.specs.declared.worker.Phase.TheVariants as phases
@@ -44,26 +46,26 @@ choose : (b : Bool) (p q : RowOutcome WorkerTable) → Plain p → Plain q → P
 choose true p q h l = h
 choose false p q h l = l
 
-open-plain : (t : WorkerTable) (k : Tickets) (c : ClientNo) (request : ℕ) (T : Tid) (o : Option Work) → Plain (open_row t k c request T o)
+open-plain : (t : WorkerTable) (k : Tickets) (c : ClientNo) (request : RequestNo) (T : Tid) (o : Option Work) → Plain (open_row t k c request T o)
 open-plain t k c request T (Some w) = refl
 open-plain t k c request T None = choose (nat_lt (length t) 64) _ _ refl refl
 
-granted-plain : (t : WorkerTable) (k : Tickets) (c : ClientNo) (request : ℕ) (w : Work) (a : ActiveWork) (op : Op) (answer : Answer) (wants : List Wanted) (o : Option Answer) → Plain (granted_row t k c request w a op answer wants o)
+granted-plain : (t : WorkerTable) (k : Tickets) (c : ClientNo) (request : RequestNo) (w : Work) (a : ActiveWork) (op : Op) (answer : Answer) (wants : List Wanted) (o : Option Answer) → Plain (granted_row t k c request w a op answer wants o)
 granted-plain t k c request w a op answer wants (Some refusal) = refl
 granted-plain t k c request w a op answer wants None = refl
 
-repeated-plain : (t : WorkerTable) (k : Tickets) (c : ClientNo) (request : ℕ) (o : Option Answer) → Plain (repeated t k c request o)
+repeated-plain : (t : WorkerTable) (k : Tickets) (c : ClientNo) (request : RequestNo) (o : Option Answer) → Plain (repeated t k c request o)
 repeated-plain t k c request (Some answer) = refl
 repeated-plain t k c request None = refl
 
-op-plain : (t : WorkerTable) (x : StableState) (k : Tickets) (c : ClientNo) (request : ℕ) (w : Work) (number : ℕ) (op : Op) (p : Phase) → Plain (op_phase t x.files k c request w number op p)
+op-plain : (t : WorkerTable) (x : StableState) (k : Tickets) (c : ClientNo) (request : RequestNo) (w : Work) (number : OperationNo) (op : Op) (p : Phase) → Plain (op_phase t x.files k c request w number op p)
 op-plain t x k c request w number op (phases.Active a) = let answer = answer_to op (change (list_change a.list) x.files) in
-    choose (nat_eq number (a.last + 1)) _ _ (granted-plain t k c request w a op answer (wants_of op (is_fit answer)) (refusal_of t w.name a op answer (wants_of op (is_fit answer))))
-    (choose (nat_eq number a.last) _ _ (repeated-plain t k c request a.kept) refl)
+    choose (nat_eq number.0 (a.last + 1)) _ _ (granted-plain t k c request w a op answer (wants_of op (is_fit answer)) (refusal_of t w.name a op answer (wants_of op (is_fit answer))))
+    (choose (nat_eq number.0 a.last) _ _ (repeated-plain t k c request a.kept) refl)
 op-plain t x k c request w number op (phases.Broken u by) = refl
 op-plain t x k c request w number op (phases.Prepared p) = refl
 
-ops-plain : (t : WorkerTable) (x : StableState) (k : Tickets) (c : ClientNo) (request : ℕ) (W : WorkId) (number : ℕ) (op : Op) (o : Option Work) → Plain (op_row t x.files k c request W number op o)
+ops-plain : (t : WorkerTable) (x : StableState) (k : Tickets) (c : ClientNo) (request : RequestNo) (W : WorkId) (number : OperationNo) (op : Op) (o : Option Work) → Plain (op_row t x.files k c request W number op o)
 ops-plain t x k c request W number op (Some w) = op-plain t x k c request w number op w.phase
 ops-plain t x k c request W number op None = refl
 
@@ -153,7 +155,7 @@ again-plain x t xs = plain-both (worker_again x t) (coordinator_again xs) (inqui
 -- ---- the requests that ended what is voted on, and flags
 
 abbrev pub Asker : Type 1
-Asker = ClientNo → ℕ → Type 0
+Asker = ClientNo → RequestNo → Type 0
 
 abbrev pub VoteOf : Asker → ClientNo → Stage → Type 0
 VoteOf P c (Voting b) = P c b.request
@@ -174,13 +176,13 @@ FlagsOf P (c ∷ cs) = FlagOf P c × FlagsOf P cs
 abbrev pub StoredOf : Asker → (Tid → Option FlagState) → Type 0
 StoredOf P flags = (T : Tid) (f : FlagState) → flags T ≡ Some f → P f.client f.request
 
-vote-grown : (P Q : Asker) → ((c : ClientNo) (q : ℕ) → P c q → Q c q) → (c : ClientNo) (s : Stage) → VoteOf P c s → VoteOf Q c s
+vote-grown : (P Q : Asker) → ((c : ClientNo) (q : RequestNo) → P c q → Q c q) → (c : ClientNo) (s : Stage) → VoteOf P c s → VoteOf Q c s
 vote-grown P Q more c (Voting b) h = more c b.request h
 vote-grown P Q more c Open h = tt
 vote-grown P Q more c (Committed d) h = tt
 vote-grown P Q more c (Aborted cause) h = tt
 
-pub votings-grown : (P Q : Asker) → ((c : ClientNo) (q : ℕ) → P c q → Q c q) → (xs : List Transaction) → Votings P xs → Votings Q xs
+pub votings-grown : (P Q : Asker) → ((c : ClientNo) (q : RequestNo) → P c q → Q c q) → (xs : List Transaction) → Votings P xs → Votings Q xs
 votings-grown P Q more [] h = tt
 votings-grown P Q more (x ∷ xs) h = (vote-grown P Q more x.client x.stage h.0, votings-grown P Q more xs h.1)
 
@@ -251,7 +253,7 @@ module _ (P : Asker) (t : CoordinatorTable) (k : Tickets) (h : Votings P t.trans
       → RowVotes P t (record { table = record t { transactions = with_stage T s t.transactions }; changes = []; messages = sent; notes = []; tickets = k })
   staged T s sent mine plain = record { table = staged-votings P T s t.transactions mine h; seen = refl; flags = tt; plain = plain }
 
-  commit-votes : (y : Transaction) (request : ℕ) (works : List WorkId) → P y.client request → RowVotes P t (commit_row t k y request works)
+  commit-votes : (y : Transaction) (request : RequestNo) (works : List WorkId) → P y.client request → RowVotes P t (commit_row t k y request works)
   commit-votes y request works p = record { table = staged-votings P y.tid _ t.transactions (λ z e. tt) h; seen = refl; flags = (p, tt); plain = plain-both (commits y.tid works) (committed_to y ∷ []) (plain-commits y.tid works) refl }
 
   abort-votes : (y : Transaction) (cause : Cause) (works : List WorkId) → RowVotes P t (abort_row t k y cause works)
@@ -277,11 +279,11 @@ module _ (P : Asker) (t : CoordinatorTable) (k : Tickets) (h : Votings P t.trans
         some : Some y ≡ Some z → y ≡ z
         some q = cc
 
-    promised-votes : (request : ℕ) (works : List WorkId) → P y.client request → RowVotes P t (end_promised t k y request works)
+    promised-votes : (request : RequestNo) (works : List WorkId) → P y.client request → RowVotes P t (end_promised t k y request works)
     promised-votes request [] p = commit-votes y request [] p
     promised-votes request (W ∷ Ws) p = staged y.tid (Voting (record { request = request; works = W ∷ Ws; ready = [] })) _ (same-client (Voting (record { request = request; works = W ∷ Ws; ready = [] })) p) (plain-prepares y.tid y.client (W ∷ Ws))
 
-    end-votes : (free : ℕ) (request : ℕ) (works : List WorkId) (s : Stage) → P y.client request → RowVotes P t (end_stage t free k y request works s)
+    end-votes : (free : ℕ) (request : RequestNo) (works : List WorkId) (s : Stage) → P y.client request → RowVotes P t (end_stage t free k y request works s)
     end-votes free request works Open p = either (nat_lt free 1) _ _ (abort-votes y _ works) (promised-votes request works p)
     end-votes free request works (Voting b) p = still _ refl refl (plain-prepares y.tid y.client (besides b.works b.ready))
     end-votes free request works (Committed d) p = still _ refl refl refl
@@ -306,7 +308,7 @@ module _ (P : Asker) (t : CoordinatorTable) (k : Tickets) (h : Votings P t.trans
     vote-votes W vote (Committed d) v = told-votes y.tid W (Committed d)
     vote-votes W vote (Aborted cause) v = told-votes y.tid W (Aborted cause)
 
-  ends-votes : (free : ℕ) (c : ClientNo) (request : ℕ) (T : Tid) (works : List WorkId) (o : Option Transaction) → transaction_at T t.transactions ≡ o → ((y : Transaction) → o ≡ Some y → P y.client request) → RowVotes P t (end_row t free k c request T works o)
+  ends-votes : (free : ℕ) (c : ClientNo) (request : RequestNo) (T : Tid) (works : List WorkId) (o : Option Transaction) → transaction_at T t.transactions ≡ o → ((y : Transaction) → o ≡ Some y → P y.client request) → RowVotes P t (end_row t free k c request T works o)
   ends-votes free c request T works (Some y) e p = end-votes T y e free request works y.stage (p y refl)
   ends-votes free c request T works None e p = still _ refl refl (plain-drops T works)
 

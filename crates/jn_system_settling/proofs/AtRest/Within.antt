@@ -1,5 +1,8 @@
 -- Whatever is named is at one of so many servers, and each message to a server is for one of these.
 use Rattle.jn_system_settling.proofs.Common.{◌≡◌, ◌≤◌, ◌<◌, ℕ, zero, suc, ◌+◌, Bool, true, false, List, [], ◌∷◌, ◌++◌, take, Option, Some, None, true≢false, refl, sym, ◌∙◌, ap, subst, arith, if◌then◌else◌, slice_get, ◌&&◌, not, nat_lt, nat_eq, length, nat_tests, ServerNo, ClientNo, Tid, WorkId, Tickets, Cause, Party, Client, Server, Op, Answer, Command, server_eq, client_eq, tid_tells, work_tells, AllFiles, change, answer_to, list_change, Intention, Message, Vote, Outstanding, Taken, WorkEntry, Phase, Transaction, Stage, Open, Voting, Committed, Aborted, StableState, Prepared, FlagState, Pick, Change, AddReady, MarkGoing, RemoveWork, made_by, made_all, stable, RowOutcome, Sent, ClientTable, Commanded, Refuses, Sends, command_row, take_row, if_waits, is_current, opens, opened_row, sent_again, WorkerTable, WorkStorage, Wanted, work_at, work_of, with_phase, without, after_grant, wants_of, is_fit, refusal_of, granted_row, repeated, op_phase, op_row, prepare_phase, prepare_row, commit_phase, drop_phase, drop_row, worker_row, going_work, going_row, carried_row, intentions_of, worker_step, worker_again, timed_out, restored_worker, CoordinatorTable, transaction_at, is_work, all_in, besides, drops, commits, prepares, end_stage, end_row, abort_stage, abort_request, told_stage, inquire_row, with_work, counted_vote, vote_stage, vote_row, begin_again, begun_by, after_closing, coordinator_row, commit_row, abort_row, told_again, coordinator_again, close_clients_row, with_epoch, World, Memory, at_server, new_memory, opening, Room, storage_of, server_row, server_step, of_worker, of_coordinator, of_step, of_timeout, server_timeout, is_for_worker, restored, Step, NextEvent, Tell, Again, Deliver, Nudge, Timeout, StopDelivery, StopWork, Crash, Narrow, StopRestart, Restart, Dismiss, CloseClients, IsStep, after, ends, at_memory, handed, work, works, nudge, timeout, crash, narrow, stop_restart, restart, close_clients, took, commanded, sent_now, LockFacts, are_of_flags, coordinator-aside, close-aside, are_near, is_few, IsSmall, is_small, is_small_stage, are_small_stages, Sizes, openings}
+use Rattle.jn_base.specs.Names.{request_eq}
+use Rattle.jn_base.specs.declared.names.OperationNo.{OperationNo}
+use Rattle.jn_base.specs.declared.names.RequestNo.{RequestNo}
 use Rattle.jn_base.specs.declared.op.Command.TheVariants as commands
 use Rattle.jn_msgs.specs.declared.message.Message.TheVariants as messages
 use Rattle.jn_msgs.specs.declared.message.Vote.TheVariants as votes
@@ -105,9 +108,9 @@ take-near n t (messages.Opened c request T answer) h k = by t.outstanding
     on o true = opened o.event answer
     on o false = grind (arith, h)
 
-    by : (o : Option Outstanding) → taken_near n (if_waits t o (λ o. client_eq c t.client && (nat_eq o.request request && (is_current t T && opens answer o.command))) (λ j. opened_row t j answer)) ≡ true
+    by : (o : Option Outstanding) → taken_near n (if_waits t o (λ o. client_eq c t.client && (request_eq o.request request && (is_current t T && opens answer o.command))) (λ j. opened_row t j answer)) ≡ true
     by None = grind (arith, h)
-    by (Some o) = on o (client_eq c t.client && (nat_eq o.request request && (is_current t T && opens answer o.command)))
+    by (Some o) = on o (client_eq c t.client && (request_eq o.request request && (is_current t T && opens answer o.command)))
 take-near n t (messages.Answer c request answer) h k = grind (arith, h, k)
 take-near n t (messages.Outcome c T outcomes.Committed) h k = grind (arith, h, k)
 take-near n t (messages.Outcome c T (outcomes.Aborted cause)) h k = grind (arith, h, k)
@@ -164,13 +167,13 @@ module _ (n : ℕ) (t : CoordinatorTable) (free : ℕ) (k : Tickets) where
   told-inside T W s h l = grind (arith, h, l)
 
   module _ (y : Transaction) (h : near n y.tid ≡ true) where
-    commit-inside : (request : ℕ) (works : List WorkId) → are_near n works ≡ true → Inside (commit_row t k y request works)
+    commit-inside : (request : RequestNo) (works : List WorkId) → are_near n works ≡ true → Inside (commit_row t k y request works)
     commit-inside request works l = inside-both n (commits y.tid works) _ (commits-inside n y.tid works h l) (grind (arith, h))
 
     abort-inside : (cause : Cause) (works : List WorkId) → are_near n works ≡ true → Inside (abort_row t k y cause works)
     abort-inside cause works l = inside-both n (drops y.tid works) _ (drops-inside n y.tid works l) (grind (arith, h))
 
-    end-inside : (request : ℕ) (works : List WorkId) (s : Stage) → are_near n works ≡ true → is_small_stage n s ≡ true → Inside (end_stage t free k y request works s)
+    end-inside : (request : RequestNo) (works : List WorkId) (s : Stage) → are_near n works ≡ true → is_small_stage n s ≡ true → Inside (end_stage t free k y request works s)
     end-inside request works s l m = grind (arith, commit-inside request, abort-inside, prepares-inside n y.tid y.client, near-besides n, h, l, m)
 
     abort-stage-inside : (works : List WorkId) (s : Stage) → are_near n works ≡ true → is_small_stage n s ≡ true → Inside (abort_stage t k y works s)
@@ -199,12 +202,12 @@ module _ (n : ℕ) (t : CoordinatorTable) (free : ℕ) (k : Tickets) where
         by None e = none
         by (Some y) e = some y (owned-found (near_owner n) T t.transactions y tids e) (found-small n T t.transactions y small e)
 
-    begun-inside : (c : ClientNo) (q : ℕ) (xs : List Transaction) → all_owned (near_owner n) xs ≡ true → Inside (begin_again t k c q (begun_by c q xs))
+    begun-inside : (c : ClientNo) (q : RequestNo) (xs : List Transaction) → all_owned (near_owner n) xs ≡ true → Inside (begin_again t k c q (begun_by c q xs))
     begun-inside c q [] h = refl
     begun-inside c q (x ∷ xs) h = let again = begun-inside c q xs in grind (arith, h)
 
     coordinator-inside : (m : Message) → is_named n m ≡ true → is_small n m ≡ true → Inside (coordinator_row t free k m)
-    coordinator-inside (messages.Begin c q) h l = either (nat_lt (t.seen c) q) _ _ (either (nat_lt (length (after_closing c t.transactions)) 64) _ _ (grind (arith, mine)) refl) (either (nat_eq (t.seen c) q) _ _ (begun-inside c q t.transactions tids) refl)
+    coordinator-inside (messages.Begin c q) h l = either (nat_lt (t.seen c) q.0) _ _ (either (nat_lt (length (after_closing c t.transactions)) 64) _ _ (grind (arith, mine)) refl) (either (nat_eq (t.seen c) q.0) _ _ (begun-inside c q t.transactions tids) refl)
     coordinator-inside (messages.End c q T works) h l = on-one T (end_row t free k c q T works) (let d = drops-inside n T works (few-near n works l) in grind (arith, h, d)) (λ y near stage. end-inside y near q works y.stage (few-near n works l) stage)
     coordinator-inside (messages.Abort c q T works) h l = on-one T (abort_request t k c T works) (let d = drops-inside n T works (few-near n works l) in grind (arith, h, d)) (λ y near stage. abort-stage-inside y near works y.stage (few-near n works l) stage)
     coordinator-inside (messages.Vote T W vote) h l = on-one T (vote_row t k T W vote) (grind (arith, h)) (λ y near stage. vote-inside y near W vote y.stage (second-of _ _ h) stage)
@@ -281,9 +284,9 @@ module _ (n : ℕ) (t : WorkerTable) (s : WorkStorage) (k : Tickets) (h : table_
   still : (sent : List Sent) → are_inside n sent ≡ true → IsNear n t [] sent
   still sent l = record { table = h; changes_are = refl; sent_are = l }
 
-  op-near : (c : ClientNo) (request : ℕ) (w : WorkEntry) (number : ℕ) (op : Op) (p : Phase) → RowNear n (op_phase t s.state.files k c request w number op p)
+  op-near : (c : ClientNo) (request : RequestNo) (w : WorkEntry) (number : OperationNo) (op : Op) (p : Phase) → RowNear n (op_phase t s.state.files k c request w number op p)
   op-near c request w number op (phases.Active a) = let answer = answer_to op (change (list_change a.list) s.state.files) in
-      choose (nat_eq number (a.last + 1)) _ _ (grants answer (wants_of op (is_fit answer)) (refusal_of t w.name a op answer (wants_of op (is_fit answer)))) (choose (nat_eq number a.last) _ _ (repeats a.kept) (still _ refl))
+      choose (nat_eq number.0 (a.last + 1)) _ _ (grants answer (wants_of op (is_fit answer)) (refusal_of t w.name a op answer (wants_of op (is_fit answer)))) (choose (nat_eq number.0 a.last) _ _ (repeats a.kept) (still _ refl))
     where
       grants : (answer : Answer) (wants : List Wanted) (o : Option Answer) → RowNear n (granted_row t k c request w a op answer wants o)
       grants answer wants o = grind (arith, phase-near n, grant-near n, h)

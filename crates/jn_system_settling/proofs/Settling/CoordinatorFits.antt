@@ -1,5 +1,6 @@
 -- What a coordinator's row sends weighs less than the message, and its table stays small.
 use Rattle.jn_system_settling.proofs.Common.{◌≡◌, ◌≤◌, ℕ, ◌+◌, ◌*◌, Bool, true, false, List, [], ◌∷◌, ◌++◌, length, length-append, Option, Some, None, true≢false, refl, sym, subst, arith, ◌&&◌, not, if◌then◌else◌, nat_lt, nat_eq, is_some, nat_tests, ClientNo, Tid, WorkId, Tickets, Cause, Client, tid_eq, tid_tells, Message, Vote, Transaction, Stage, Open, Voting, Committed, Aborted, Ballot, Commitment, StableState, Change, AddFlag, DropFlag, made_by, made_all, RowOutcome, Sent, CoordinatorTable, transaction_at, with_stage, all_in, is_work, besides, drops, commits, prepares, commit_row, abort_row, forget_row, after_closing, changes_of_closing, begin_new, begin_again, begun_by, begin_row, seen_now, name_from, end_promised, end_stage, end_row, abort_stage, abort_request, told_stage, inquire_row, counted_vote, vote_stage, vote_row, done_stage, done_row, thanks_stage, thanks_row, with_work, coordinator_row, close_clients_row, committed_to, aborted_to, Closes, Empty, Stays, Goes, Waits, Forgets, client-closes, outcomes-close, weight, weigh_all, is_few, is_small, is_small_stage, are_small_stages, is_committed, committed_at, AreFlagsOf}
+use Rattle.jn_base.specs.declared.names.RequestNo.{RequestNo}
 use Rattle.jn_msgs.specs.declared.message.Message.TheVariants as messages
 use Rattle.jn_msgs.specs.declared.message.Outcome.TheVariants as outcomes
 use Rattle.jn_msgs.specs.declared.message.Vote.TheVariants as votes
@@ -182,7 +183,7 @@ module _ (n : ℕ) (at_most : n ≤ 8) (x : StableState) (t : CoordinatorTable) 
     abort-fits w cause works undecided light = staged-fits w (Aborted cause) (drops y.tid works ++ aborted_to y cause ∷ []) (sym undecided) refl
         (let a = weigh-all-more (drops y.tid works) (aborted_to y cause ∷ []) in let b = weigh-drops y.tid works in omega (arith, a, b, light))
 
-    commit-fits : (w : ℕ) (request : ℕ) (works : List WorkId) → is_few n works ≡ true → 2 * length works + 3 ≤ w → CoordinatorFits n x t w (commit_row t k y request works)
+    commit-fits : (w : ℕ) (request : RequestNo) (works : List WorkId) → is_few n works ≡ true → 2 * length works + 3 ≤ w → CoordinatorFits n x t w (commit_row t k y request works)
     commit-fits w request works l light = record {
       few = let l = length-staged y.tid (Committed (record { works = works; done = []; thanked = false })) t.transactions in omega (arith, l, few);
       small = small-staged n y.tid _ t.transactions small l;
@@ -202,7 +203,7 @@ module _ (n : ℕ) (at_most : n ≤ 8) (x : StableState) (t : CoordinatorTable) 
 
   -- ---- Begin
 
-  module _ (c : ClientNo) (request : ℕ) where
+  module _ (c : ClientNo) (request : RequestNo) where
     abbrev ys : List Transaction
     ys = after_closing c t.transactions
 
@@ -233,13 +234,13 @@ module _ (n : ℕ) (at_most : n ≤ 8) (x : StableState) (t : CoordinatorTable) 
           sent = omega arith;
         }
 
-  again-fits : (c : ClientNo) (request : ℕ) (o : Option Transaction) → CoordinatorFits n x t 2 (begin_again t k c request o)
+  again-fits : (c : ClientNo) (request : RequestNo) (o : Option Transaction) → CoordinatorFits n x t 2 (begin_again t k c request o)
   again-fits c request (Some y) = still 2 _ refl refl (omega arith)
   again-fits c request None = still 2 _ refl refl (omega arith)
 
-  begin-fits : (c : ClientNo) (request : ℕ) → CoordinatorFits n x t 2 (begin_row t k c request)
-  begin-fits c request = either (nat_lt (t.seen c) request) _ _ (begin-new-fits c request)
-      (either (nat_eq (t.seen c) request) _ _ (again-fits c request (begun_by c request t.transactions)) (still 2 _ refl refl (omega arith)))
+  begin-fits : (c : ClientNo) (request : RequestNo) → CoordinatorFits n x t 2 (begin_row t k c request)
+  begin-fits c request = either (nat_lt (t.seen c) request.0) _ _ (begin-new-fits c request)
+      (either (nat_eq (t.seen c) request.0) _ _ (again-fits c request (begun_by c request t.transactions)) (still 2 _ refl refl (omega arith)))
 
   -- every outcome is thanked
   pub close-fits : CoordinatorFits n x t 1 (close_clients_row t k)
@@ -257,11 +258,11 @@ module _ (n : ℕ) (at_most : n ≤ 8) (x : StableState) (t : CoordinatorTable) 
   unknown-fits c T works l = let a = weigh-drops T works in let b = few-of n works l in omega (arith, a, b, at_most)
 
   module _ (T : Tid) (y : Transaction) (found : transaction_at T t.transactions ≡ Some y) where
-    promised-fits : (request : ℕ) (works : List WorkId) → is_few n works ≡ true → y.stage ≡ Open → CoordinatorFits n x t 161 (end_promised t k y request works)
+    promised-fits : (request : RequestNo) (works : List WorkId) → is_few n works ≡ true → y.stage ≡ Open → CoordinatorFits n x t 161 (end_promised t k y request works)
     promised-fits request [] l e = commit-fits T y found 161 request [] l (omega arith)
     promised-fits request (W ∷ Ws) l e = staged-fits T y found 161 _ _ (rw e refl) l (let a = weigh-prepares y.tid y.client (W ∷ Ws) in let b = few-of n (W ∷ Ws) l in omega (arith, a, b, at_most))
 
-    end-fits : (free : ℕ) (request : ℕ) (works : List WorkId) (s : Stage) → is_few n works ≡ true → y.stage ≡ s → CoordinatorFits n x t 161 (end_stage t free k y request works s)
+    end-fits : (free : ℕ) (request : RequestNo) (works : List WorkId) (s : Stage) → is_few n works ≡ true → y.stage ≡ s → CoordinatorFits n x t 161 (end_stage t free k y request works s)
     end-fits free request works Open l e = either (nat_lt free 1) _ _ (abort-fits T y found 161 _ works (rw e refl) (let b = few-of n works l in omega (arith, b, at_most))) (promised-fits request works l e)
     end-fits free request works (Voting b) l e = still 161 _ refl refl (let a = weigh-prepares y.tid y.client (besides b.works b.ready) in let c = besides-few b.works b.ready in let d = few-of n b.works (subst (λ z. is_small_stage n z ≡ true) e (stage-small T y found)) in omega (arith, a, c, d, at_most))
     end-fits free request works (Committed d) l e = still 161 _ refl refl (omega arith)
@@ -331,7 +332,7 @@ module _ (n : ℕ) (at_most : n ≤ 8) (x : StableState) (t : CoordinatorTable) 
 
   -- ---- every message
 
-  ends-fit : (free : ℕ) (c : ClientNo) (request : ℕ) (T : Tid) (works : List WorkId) (o : Option Transaction) → is_few n works ≡ true → transaction_at T t.transactions ≡ o → CoordinatorFits n x t 161 (end_row t free k c request T works o)
+  ends-fit : (free : ℕ) (c : ClientNo) (request : RequestNo) (T : Tid) (works : List WorkId) (o : Option Transaction) → is_few n works ≡ true → transaction_at T t.transactions ≡ o → CoordinatorFits n x t 161 (end_row t free k c request T works o)
   ends-fit free c request T works (Some y) l e = end-fits T y e free request works y.stage l refl
   ends-fit free c request T works None l e = still 161 _ refl refl (unknown-fits c T works l)
 

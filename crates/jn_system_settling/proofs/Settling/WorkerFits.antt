@@ -1,5 +1,7 @@
 -- What a worker's row sends and sets going weighs less than the message, and its table stays small.
 use Rattle.jn_system_settling.proofs.Common.{◌≡◌, ◌≤◌, ℕ, ◌+◌, Bool, true, false, List, [], ◌∷◌, ◌++◌, length, length-append, Option, Some, None, true≢false, refl, sym, ◌∙◌, ap, subst, arith, ◌&&◌, if◌then◌else◌, nat_lt, nat_eq, slice_get, is_some, nat_tests, ClientNo, Tid, WorkId, LockUnit, Tickets, Party, Client, Op, Answer, work_tells, change, answer_to, list_change, Intention, Message, Vote, Work, Phase, Active, Broken, Stored, ActiveWork, StableState, Prepared, Change, RemoveWork, AddFlag, DropFlag, made_all, is_going, at_work, gone_on, ready_work, RowOutcome, sends, WorkerTable, WorkStorage, Wanted, work_at, work_of, with_phase, without, after_grant, broken_by, breaks_at, new_work, open_row, wants_of, is_fit, refusal_of, granted_row, repeated, op_phase, op_row, conflict, commit_wants, vote_of, shortage, need_in, prepared_row, prepare_phase, prepare_row, commit_phase, drop_phase, drop_row, worker_row, going_work, intentions_of, carried_row, going_row, worker_step, is_before, are_rising, none-front, TableFact, going-is, weight, weigh_all, goings}
+use Rattle.jn_base.specs.declared.names.OperationNo.{OperationNo}
+use Rattle.jn_base.specs.declared.names.RequestNo.{RequestNo}
 use Rattle.jn_locks.proofs.Orders.{work_before-irreflexive}
 use Rattle.jn_msgs.specs.declared.message.Message.TheVariants as messages
 use Rattle.jn_msgs.specs.declared.message.Vote.TheVariants as votes
@@ -110,7 +112,7 @@ module _ (x : StableState) (t : WorkerTable) (few : length t ≤ 64) where
   reply : (n : ℕ) (k : Tickets) (to : Party) (m : Message) (p : weight m + 1 ≤ n) → WorkerFits x t n (record { table = t; changes = []; messages = (to, m) ∷ []; notes = []; tickets = k })
   reply n k to m p = still n _ refl refl refl (omega (arith, p))
 
-  open-fits : (k : Tickets) (c : ClientNo) (request : ℕ) (T : Tid) (o : Option Work) → TableFact t k x.works → WorkerFits x t 2 (open_row t k c request T o)
+  open-fits : (k : Tickets) (c : ClientNo) (request : RequestNo) (T : Tid) (o : Option Work) → TableFact t k x.works → WorkerFits x t 2 (open_row t k c request T o)
   open-fits k c request T (Some w) fact = reply 2 k _ _ (omega arith)
   open-fits k c request T None fact = by (nat_lt (length t) 64) refl
     where
@@ -135,23 +137,23 @@ module _ (x : StableState) (t : WorkerTable) (few : length t ≤ 64) where
 
   -- ---- operations
 
-  granted-fits : (k : Tickets) (c : ClientNo) (request : ℕ) (w : Work) (a : ActiveWork) (op : Op) (answer : Answer) (wants : List Wanted) (o : Option Answer) → WorkerFits x t 2 (granted_row t k c request w a op answer wants o)
+  granted-fits : (k : Tickets) (c : ClientNo) (request : RequestNo) (w : Work) (a : ActiveWork) (op : Op) (answer : Answer) (wants : List Wanted) (o : Option Answer) → WorkerFits x t 2 (granted_row t k c request w a op answer wants o)
   granted-fits k c request w a op answer wants (Some refusal) = still 2 _ refl (length-phase w.name _ t) (goings-phase x.works w.name _ t) (omega arith)
   granted-fits k c request w a op answer wants None = still 2 _ refl (length-phase w.name _ _ ∙ length-grant w.tid w.name wants t)
       (goings-phase x.works w.name _ (after_grant w.tid w.name wants t) ∙ goings-grant x.works w.tid w.name wants t) (omega arith)
 
-  repeated-fits : (k : Tickets) (c : ClientNo) (request : ℕ) (o : Option Answer) → WorkerFits x t 2 (repeated t k c request o)
+  repeated-fits : (k : Tickets) (c : ClientNo) (request : RequestNo) (o : Option Answer) → WorkerFits x t 2 (repeated t k c request o)
   repeated-fits k c request (Some answer) = reply 2 k _ _ (omega arith)
   repeated-fits k c request None = still 2 _ refl refl refl (omega arith)
 
-  op-fits : (k : Tickets) (c : ClientNo) (request : ℕ) (w : Work) (number : ℕ) (op : Op) (p : Phase) → WorkerFits x t 2 (op_phase t x.files k c request w number op p)
+  op-fits : (k : Tickets) (c : ClientNo) (request : RequestNo) (w : Work) (number : OperationNo) (op : Op) (p : Phase) → WorkerFits x t 2 (op_phase t x.files k c request w number op p)
   op-fits k c request w number op (Active a) = let answer = answer_to op (change (list_change a.list) x.files) in
-      either (nat_eq number (a.last + 1)) _ _ (granted-fits k c request w a op answer (wants_of op (is_fit answer)) (refusal_of t w.name a op answer (wants_of op (is_fit answer))))
-      (either (nat_eq number a.last) _ _ (repeated-fits k c request a.kept) (still 2 _ refl refl refl (omega arith)))
+      either (nat_eq number.0 (a.last + 1)) _ _ (granted-fits k c request w a op answer (wants_of op (is_fit answer)) (refusal_of t w.name a op answer (wants_of op (is_fit answer))))
+      (either (nat_eq number.0 a.last) _ _ (repeated-fits k c request a.kept) (still 2 _ refl refl refl (omega arith)))
   op-fits k c request w number op (Broken u by) = reply 2 k _ _ (omega arith)
   op-fits k c request w number op (Stored p) = reply 2 k _ _ (omega arith)
 
-  ops-fit : (k : Tickets) (c : ClientNo) (request : ℕ) (W : WorkId) (number : ℕ) (op : Op) (o : Option Work) → WorkerFits x t 2 (op_row t x.files k c request W number op o)
+  ops-fit : (k : Tickets) (c : ClientNo) (request : RequestNo) (W : WorkId) (number : OperationNo) (op : Op) (o : Option Work) → WorkerFits x t 2 (op_row t x.files k c request W number op o)
   ops-fit k c request W number op (Some w) = op-fits k c request w number op w.phase
   ops-fit k c request W number op None = reply 2 k _ _ (omega arith)
 

@@ -12,6 +12,6 @@ put_list-requires c =
     let a = grows c.put_u8.new.self c.args.page.now (big_bytes 1 4) 1 refl c.put_u8.ensures in
     let b = grows c.put_tid.new.page c.put_u8.new.self (tid_bytes flag.tid) 9 refl c.put_tid.ensures in
     let d = grows c.put_u8-2.new.self c.put_tid.new.page (big_bytes 1 flag.client.0) 1 refl c.put_u8-2.ensures in
-    let e = grows c.put_u32.new.self c.put_u8-2.new.self (big_bytes 4 flag.request) 4 refl c.put_u32.ensures in
+    let e = grows c.put_u32.new.self c.put_u8-2.new.self (big_bytes 4 flag.request.0) 4 refl c.put_u32.ensures in
     let f = grows c.put_u8-3.new.self c.put_u32.new.self (big_bytes 1 (length works)) 1 refl c.put_u8-3.ensures in
     omega (arith, size, begin, all, a, b, d, e, f, c.requires.few)

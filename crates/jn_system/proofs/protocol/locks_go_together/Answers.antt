@@ -1,4 +1,4 @@
-use Rattle.jn_system.specs.WholeSystem.World.{opening}
+use Rattle.jn_system.proofs.Common.{opening}
 use Rattle.jn_system.proofs.WholeSystem.Steps.{run-keeps, opening-keeps}
 use Rattle.jn_system.proofs.protocol.locks_go_together.Goals as goal
 

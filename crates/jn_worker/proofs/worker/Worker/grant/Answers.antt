@@ -20,13 +20,13 @@ invariant_of-self-in_err-kept-in-Err c = subst (λ ws. LocksMatch ws (table c.gr
     (match_rephased c.args.name (relisted c.swap_list-list.result) (relisted_keeps c.swap_list-list.result) c.grant_operation.new.works (table c.grant_operation.new.locks) c.in-Err.ensures.matches)
 
 pub invariant_of-self-in-Err : goal.invariant_of-self-in-Err
-invariant_of-self-in-Err c = subst (λ ws. LocksMatch ws (table c.grant_operation.new.locks)) (sym c.tally.ensures) (match_rephased c.args.name (tallied c.args.number c.in_ok-kept-in-Err.kept) (tallied_keeps c.args.number c.in_ok-kept-in-Err.kept) c.swap_list-none.new.works.items (table c.grant_operation.new.locks)
+invariant_of-self-in-Err c = subst (λ ws. LocksMatch ws (table c.grant_operation.new.locks)) (sym c.tally.ensures) (match_rephased c.args.name (tallied c.args.number.0 c.in_ok-kept-in-Err.kept) (tallied_keeps c.args.number.0 c.in_ok-kept-in-Err.kept) c.swap_list-none.new.works.items (table c.grant_operation.new.locks)
     (subst (λ ws. LocksMatch ws (table c.grant_operation.new.locks)) (sym (c.swap_list-none.ensures.works ∙ ap (λ l. rephased c.args.name (relisted c.swap_list-list.result) l) (with_items_is c.swap_list-list.new.works c.grant_operation.new.works (omega (arith, c.deref_mut.ensures.len, c.swap_list-list.new.works.ok.0)))))
     (match_rephased c.args.name (relisted c.swap_list-list.result) (relisted_keeps c.swap_list-list.result) c.grant_operation.new.works (table c.grant_operation.new.locks) c.in-Err.ensures.matches)))
 
 pub returns-in-Err-clause-granted : goal.returns-in-Err-clause-granted
 returns-in-Err-clause-granted c = λ T a i count. grant_refused c.args.self.now c.self.inside.works.items c.deref.result.now c.swap_list-list.new.works.items c.deref_mut.result.now (with_items c.swap_list-list.new.works c.grant_operation.new.works).items c.swap_list-none.new.works.items c.tally.new.works.items c.self.inside.going.items c.args.name c.in-Some.work.now T a c.args.op.now c.args.answer c.in_ok-refusal-in-Err.refusal c.is_fit-fit.result c.args.number c.new.result c.swap_list-list.result c.in-Err.refused c.args.out.now
-    c.self.view_is c.deref.ensures.value c.in-Some.ensures i count c.swap_list-list.ensures.works c.swap_list-list.ensures.list c.deref_mut.ensures.value c.is_fit-fit.ensures c.in-Err.ensures.refused (with_items_is c.swap_list-list.new.works c.grant_operation.new.works (omega (arith, c.deref_mut.ensures.len, c.swap_list-list.new.works.ok.0)) ∙ c.in-Err.ensures.same) c.swap_list-none.ensures.works (sym c.locked.ensures ∙ c.in_ok-refusal-in-Err.was) (c.tally.ensures ∙ ap (λ x. rephased c.args.name (tallied c.args.number x) c.swap_list-none.new.works.items) c.in_ok-kept-in-Err.ensures)
+    c.self.view_is c.deref.ensures.value c.in-Some.ensures i count c.swap_list-list.ensures.works c.swap_list-list.ensures.list c.deref_mut.ensures.value c.is_fit-fit.ensures c.in-Err.ensures.refused (with_items_is c.swap_list-list.new.works c.grant_operation.new.works (omega (arith, c.deref_mut.ensures.len, c.swap_list-list.new.works.ok.0)) ∙ c.in-Err.ensures.same) c.swap_list-none.ensures.works (sym c.locked.ensures ∙ c.in_ok-refusal-in-Err.was) (c.tally.ensures ∙ ap (λ x. rephased c.args.name (tallied c.args.number.0 x) c.swap_list-none.new.works.items) c.in_ok-kept-in-Err.ensures)
 
 pub invariant_of-self-in_err-note_breaks : goal.invariant_of-self-in_err-note_breaks
 invariant_of-self-in_err-note_breaks c = subst (λ ws. LocksMatch ws (table c.grant_operation.new.locks)) (sym (c.swap_list-none-2.ensures.works ∙ ap (λ l. rephased c.args.name (relisted c.if-fit.list) l) (with_items_is c.swap_list-list.new.works c.grant_operation.new.works (omega (arith, c.deref_mut.ensures.len, c.swap_list-list.new.works.ok.0)))))

@@ -5,7 +5,7 @@ use Rattle.jn_worker.proofs.Performed.{match_rephased, tallied_keeps}
 use Rattle.jn_worker.proofs.worker.Worker.read_granted.Goals as goal
 
 pub invariant_of-self : goal.invariant_of-self
-invariant_of-self g c = subst (λ ws. LocksMatch ws (table c.self.inside.locks)) (sym c.tally.ensures) (match_rephased c.args.name (tallied c.args.number c.in_ok-kept.kept) (tallied_keeps c.args.number c.in_ok-kept.kept) c.self.inside.works.items (table c.self.inside.locks) c.self.invariant)
+invariant_of-self g c = subst (λ ws. LocksMatch ws (table c.self.inside.locks)) (sym c.tally.ensures) (match_rephased c.args.name (tallied c.args.number.0 c.in_ok-kept.kept) (tallied_keeps c.args.number.0 c.in_ok-kept.kept) c.self.inside.works.items (table c.self.inside.locks) c.self.invariant)
 
 pub returns-in_err-kept-clause-viewed : goal.returns-in_err-kept-clause-viewed
 returns-in_err-kept-clause-viewed g c = λ T a i. viewed_lost a.list c.args.op.now (g.W.Storage.view c.args.store.now) (g.W.Storage.view c.view.new.files) c.in_ok-answer.answer c.from_residual-in_err-kept.result
