@@ -6,7 +6,7 @@ pub use Rattle.jn_base.specs.declared.names.ClientNo.{ClientNo}
 pub use Rattle.jn_schedule.specs.declared.Event.{Event}
 pub use Rattle.jn_system.specs.WholeSystem.World.{World, servers_from, Memory, new_memory}
 pub use Rattle.jn_system_settling.specs.Settling.Course.{Course, go_on, go}
-pub use Rattle.jn_system_settling.specs.Settling.Settle.{clients_from, Chance as Befalling, first_busy as first_going, handing, working, next_step}
+pub use Rattle.jn_system_settling.specs.Settling.Settle.{clients_from, Chance as Befalling, first_busy as first_going, next_step}
 pub use Rattle.jn_system_settling.proofs.Settling.Courses.{Sound, IsBalanced, go-sound, go-balance, burden-after, deliveries-more, go-on-sound}
 pub use Rattle.jn_system_settling.proofs.Settling.Parts.{Bounded}
 pub use Rattle.jn_system_settling.proofs.Settling.Asking.{Asked, servers-length, waiting-light, waiting-weighs, asked}
@@ -17,6 +17,6 @@ pub use Rattle.jn_written.specs.Runs.{none, more, Steps, Moment, DoesStep, Leads
 pub use Rattle.jn_bounds.specs.Settles.{DoesEarlier, Settles, IsWithinBound, IsOver, IsUnderWay, HasSettle, HasItsSettles}
 pub use Rattle.jn_written.specs.Deeds.{Deed, room, no_room, nothing, served, delivered, delivered_at, is_busy, working_steps}
 pub use Rattle.jn_written.specs.Steps.{is_too_much, come_to, cut_short, done}
-pub use Rattle.jn_system.specs.WholeSystem.Steps.{Again, Nudge, Work, StopWork, after, work, works, IsRun}
+pub use Rattle.jn_system.specs.WholeSystem.Steps.{Again, Nudge, Work, StopWork, after, work, works, IsRun, handing, working}
 pub use Rattle.jn_written.specs.Devices.{Devices}
 pub use Rattle.jn_written.specs.Whole.{closed_world, IsWritten, before, IsWhole}

@@ -10,7 +10,7 @@ pub use Rattle.jn_report.specs.declared.line.Text.{Text}
 pub use Rattle.jn_report.specs.declared.line.Line.{Line}
 pub use Rattle.jn_aside.specs.Aside.{plain, is_show, is_aside}
 pub use Rattle.jn_system.specs.WholeSystem.World.{World, Memory, opening, commits_in, servers_from, at_server, committed_in}
-pub use Rattle.jn_system.specs.WholeSystem.Steps.{Step, Dismiss, after, run, IsStep, Work, IsRun, NextEvent, Tell, StopDelivery, StopWork, StopRestart, Deliver, Nudge, Again, Crash, CloseClients, Restart, at_memory, handed, work, works, nudge, crash, close_clients, restart, took, AreNames, Narrow, narrow, tid_before}
+pub use Rattle.jn_system.specs.WholeSystem.Steps.{Step, Dismiss, after, run, IsStep, Work, IsRun, NextEvent, Tell, StopDelivery, StopWork, StopRestart, Deliver, Nudge, Again, Crash, CloseClients, Restart, at_memory, handed, work, works, nudge, crash, close_clients, restart, took, AreNames, Narrow, narrow, tid_before, handing, working}
 pub use Rattle.jn_system_settling.specs.Settling.Course.{Course, go, go_on, newly_sent, numbered, still_waiting, opening_course}
 pub use Rattle.jn_system_reports.specs.Reporting.Reported.{Item, steps_of, world_of, lines_of, Does, told_by, events_of, IsReported, Act, Refuses, Tells, Shows, steps_in, may_do, may_act, IsUnder, AreUnder, at_event}
 pub use Rattle.jn_system_reports.specs.Reporting.Ending.{at_end, told_by_steps, Comeback, Ending, restarts_from, steps_at_end, settles, IsEnding, texts_from, world_at_end, ArePrinted, counted, IsWholeRun, all_lines, AreFilesOf, lines_to_end}
@@ -27,7 +27,7 @@ pub use Rattle.std.proofs.lemmas.Bool.Decides.{nat_tests}
 pub use Rattle.jn_rows.specs.Outcomes.{RowOutcome, Sent}
 pub use Rattle.jn_rows.specs.Stable.{StableState, Change, stable, Pick, Prepared, FlagState, at_work, at_tid}
 pub use Rattle.jn_system.specs.WholeSystem.Servers.{Room, server_step, server_row, of_coordinator, restored}
-pub use Rattle.jn_system_settling.specs.Settling.Settle.{is_busy as has_going, settled, until_rest, ask_again, first_busy as first_going, handing, working, next_step, clients_from, Chances, onward}
+pub use Rattle.jn_system_settling.specs.Settling.Settle.{is_busy as has_going, settled, until_rest, ask_again, first_busy as first_going, next_step, clients_from, Chances, onward}
 pub use Rattle.jn_rests.proofs.BusyServers.{goes, nothing, erased-same, first-is, first-none}
 pub use Rattle.jn_written.specs.Deeds.{is_busy, is_busy_with, Deed, blocks_from, served, room, no_room, delivered, delivered_at, worked, working_steps, Reads, stopped_idle, shown, showing, scrubbed, crashed_at, recovers, recovering, recovered, given_up, is_used_up, pick_read, tells}
 pub use Rattle.jn_system_settling.proofs.Settling.Settling.{on-world}

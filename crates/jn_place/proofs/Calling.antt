@@ -1,5 +1,5 @@
 -- What a server's call does, by its row.
-use Rattle.jn_place.proofs.Common.{◌≡◌, ℕ, Bool, true, false, length, Option, Some, None, Ok, Err, is_some, true≢false, refl, sym, ◌∙◌, ap, subst, arith, List, Message, Collected, server_row, of_coordinator, Memory, table_of, Scrubbed, close_clients_row, RowOutcome, Unchanged, IsDone, IsStopped, Steps, Shown, ServerView, Parts, view_with, memory_of, room_of, state, Accounts, StorageLater, StoreView, IsCalm, added, AllCanBeTaken, Slot, Up, Answered, Sends, work_of, has_work_at, idle_row, IsRowDone, IsRowStopped, RowEnds, Handles, IsWorking, Works, Idles, Shows, Closes}
+use Rattle.jn_place.proofs.Common.{◌≡◌, ℕ, Bool, true, false, length, Option, Some, None, Ok, Err, is_some, true≢false, refl, sym, ◌∙◌, ap, subst, arith, List, Message, Collected, server_row, of_coordinator, Memory, table_of, Scrubbed, close_clients_row, RowOutcome, Unchanged, IsDone, IsStopped, Steps, Shown, ServerView, Parts, view_with, memory_of, room_of, state, Accounts, StorageLater, StoreView, IsCalm, added, AllCanBeTaken, Slot, Up, Answered, Sends, work_of, has_work_at, idle_row, IsRowDone, IsRowStopped, RowEnds, Handles, IsWorking, Works, Idles, Shows, Closes, row_calls}
 use Rattle.jn_server.specs.declared.fault.ServerFault.TheVariants.{Stopped}
 use Rattle.jn_server.specs.Showing.{IsShown, IsCutShort}
 use Rattle.jn_place.proofs.Rows.{step-taken, step-draws}
@@ -22,13 +22,13 @@ module _ {S : Type 0} (look : S → StoreView) where
   row_at p message = let v = view_with look p in server_row (memory_of v) (state v.storage) (room_of v.storage) message
 
   pub handles-done : (a : Slot S) (p q : Parts S) (message : Message) (before after : Collected) → a ≡ Up p → before ≡ nothing
-      → IsDone 1024 (let v = view_with look p in server_row (memory_of v) (state v.storage) (room_of v.storage) message) (view_with look p) before (view_with look q) after → Handles look message a (Some after) (Up q)
+      → IsDone row_calls (let v = view_with look p in server_row (memory_of v) (state v.storage) (room_of v.storage) message) (view_with look p) before (view_with look q) after → Handles look message a (Some after) (Up q)
   handles-done a p q message before after is none d = subst (λ (x : Slot S). Handles look message x (Some after) (Up q)) (sym is)
-      (row-done 1024 (row_at p message) p q before after d, row-sends 1024 (row_at p message) (view_with look p) before (view_with look q) after none d)
+      (row-done row_calls (row_at p message) p q before after d, row-sends row_calls (row_at p message) (view_with look p) before (view_with look q) after none d)
 
   pub handles-stopped : (a : Slot S) (p q : Parts S) (message : Message) (before after : Collected) → a ≡ Up p
-      → IsStopped 1024 (let v = view_with look p in server_row (memory_of v) (state v.storage) (room_of v.storage) message) (view_with look p) before (view_with look q) after → Handles look message a None (Up q)
-  handles-stopped a p q message before after is d = subst (λ (x : Slot S). Handles look message x None (Up q)) (sym is) (row-stopped 1024 (row_at p message) p q before after d, tt)
+      → IsStopped row_calls (let v = view_with look p in server_row (memory_of v) (state v.storage) (room_of v.storage) message) (view_with look p) before (view_with look q) after → Handles look message a None (Up q)
+  handles-stopped a p q message before after is d = subst (λ (x : Slot S). Handles look message x None (Up q)) (sym is) (row-stopped row_calls (row_at p message) p q before after d, tt)
 
   -- ---- a background step
 
@@ -106,8 +106,8 @@ module _ {S : Type 0} (look : S → StoreView) where
   abbrev closed_at : Parts S → RowOutcome Memory
   closed_at p = let v = view_with look p in of_coordinator (memory_of v) (close_clients_row (table_of v.coordinator) v.tickets)
 
-  pub closes-done : (a : Slot S) (p q : Parts S) → a ≡ Up p → IsDone 1024 (let v = view_with look p in of_coordinator (memory_of v) (close_clients_row (table_of v.coordinator) v.tickets)) (view_with look p) nothing (view_with look q) nothing → Closes look a true (Up q)
-  closes-done a p q is d = subst (λ (x : Slot S). Closes look x true (Up q)) (sym is) (row-done 1024 (closed_at p) p q nothing nothing d)
+  pub closes-done : (a : Slot S) (p q : Parts S) → a ≡ Up p → IsDone row_calls (let v = view_with look p in of_coordinator (memory_of v) (close_clients_row (table_of v.coordinator) v.tickets)) (view_with look p) nothing (view_with look q) nothing → Closes look a true (Up q)
+  closes-done a p q is d = subst (λ (x : Slot S). Closes look x true (Up q)) (sym is) (row-done row_calls (closed_at p) p q nothing nothing d)
 
-  pub closes-stopped : (a : Slot S) (p q : Parts S) → a ≡ Up p → IsStopped 1024 (let v = view_with look p in of_coordinator (memory_of v) (close_clients_row (table_of v.coordinator) v.tickets)) (view_with look p) nothing (view_with look q) nothing → Closes look a false (Up q)
-  closes-stopped a p q is d = subst (λ (x : Slot S). Closes look x false (Up q)) (sym is) (row-stopped 1024 (closed_at p) p q nothing nothing d)
+  pub closes-stopped : (a : Slot S) (p q : Parts S) → a ≡ Up p → IsStopped row_calls (let v = view_with look p in of_coordinator (memory_of v) (close_clients_row (table_of v.coordinator) v.tickets)) (view_with look p) nothing (view_with look q) nothing → Closes look a false (Up q)
+  closes-stopped a p q is d = subst (λ (x : Slot S). Closes look x false (Up q)) (sym is) (row-stopped row_calls (closed_at p) p q nothing nothing d)

@@ -11,7 +11,7 @@ pub use Rattle.jn_msgs.specs.Collected.{Collected}
 pub use Rattle.jn_system.specs.WholeSystem.Servers.{server_again, server_row, of_coordinator, of_worker, of_step, storage_of, restored, Room, server_step}
 pub use Rattle.jn_records.specs.StablePages.{Counts}
 pub use Rattle.jn_server.specs.Befalling.{Befalls}
-pub use Rattle.jn_server.specs.Handling.{TimesOut, IsDone, IsStopped, Steps, StepLeaves}
+pub use Rattle.jn_server.specs.Handling.{TimesOut, IsDone, IsStopped, Steps, row_calls, StepLeaves}
 pub use Rattle.jn_server.specs.Seen.{Parts, view_with, memory_of, ServerView, room_of}
 pub use Rattle.jn_storage.specs.Calls.{state, CountsErased}
 pub use Rattle.jn_storage.specs.Storage.{Accounts, StorageLater, intentions}

@@ -5,10 +5,10 @@ ghost use Rattle.jn_base.specs.declared.names.ServerNo.{ServerNo};
 ghost use Rattle.jn_order.specs.Files.{AllFiles};
 ghost use Rattle.jn_net.specs.declared.Sent.{Sent as Posted};
 ghost use Rattle.jn_net.specs.Carried.{Carried, waiting};
-ghost use Rattle.jn_system.specs.WholeSystem.Steps.{Step, after};
+ghost use Rattle.jn_system.specs.WholeSystem.Steps.{Step, after, handing};
 ghost use Rattle.jn_system.specs.WholeSystem.World.{World};
 ghost use Rattle.jn_system_settling.specs.Settling.Course.{Course, opening_course, go};
-ghost use Rattle.jn_system_settling.specs.Settling.Settle.{Chance, next_step, handing};
+ghost use Rattle.jn_system_settling.specs.Settling.Settle.{Chance, next_step};
 ghost use Rattle.jn_rests.specs.Waiting.{waiting_numbers, sent_of, are_new, Carries, delivered_by};
 
 /// A network carries what a course has sent, and as much of it waits: at first, once a step has handed a message over and its

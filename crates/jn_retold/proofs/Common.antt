@@ -11,7 +11,7 @@ pub use Rattle.jn_report.specs.declared.line.Line.{Line}
 pub use Rattle.jn_rows.specs.Stable.{Pick, stable, Change, AddFlag, DropFlag, StableState, Prepared, AddReady, MarkGoing, CarryOut, RemoveWork, gone_on, made_by, made_all}
 pub use Rattle.jn_rows.specs.Outcomes.{Sent, RowOutcome}
 pub use Rattle.jn_system.specs.WholeSystem.World.{World, Memory, opening, committed_in, commits_in, has_line, new_memory, at_server, servers_from, at_client}
-pub use Rattle.jn_system.specs.WholeSystem.Steps.{Step, after, run, NextEvent, work, works, Tell, Again, Deliver, Work, Nudge, Timeout, StopDelivery, StopWork, Crash, Narrow, StopRestart, Restart, Dismiss, CloseClients, ends, at_memory, handed, nudge, timeout, crash, narrow, stop_restart, restart, close_clients, commanded, took, IsRun, AreNames, IsStep, are_rising, tid_before, sent_now}
+pub use Rattle.jn_system.specs.WholeSystem.Steps.{Step, after, run, NextEvent, work, works, Tell, Again, Deliver, Work, Nudge, Timeout, StopDelivery, StopWork, Crash, Narrow, StopRestart, Restart, Dismiss, CloseClients, ends, at_memory, handed, nudge, timeout, crash, narrow, stop_restart, restart, close_clients, commanded, took, IsRun, AreNames, IsStep, are_rising, tid_before, sent_now, handing, working}
 pub use Rattle.jn_system.specs.WholeSystem.Printing.{print_files, Printed, FileThere, PageStored, UnitLocked, print_unit, print_one, print_blocks, print_file, file_before, block_before, ArePrints}
 pub use Rattle.jn_system_reports.specs.Reporting.Reported.{Act, Does, Refuses, Tells, Shows, steps_in, told_in, Waiting, one_more, armed, with_event, strikes, strike_all, AreStruck, Item, IsUnder, IsShown, world_of, at_event, lines_of, none_wait, IsReported, events_of, after_item, waiting_in, told_under, AreUnder, AreShown, FaultsWait, step_of, steps_of, told_by, may_refuse, may_act, may_do, GoesOver, IsShow, one_less, IsStruck}
 pub use Rattle.jn_system_reports.specs.Reporting.Printing.{prints_of, text_printed, IsPrinted}
@@ -51,8 +51,9 @@ pub use Rattle.jn_base.specs.declared.names.WorkId.{WorkId}
 pub use Rattle.jn_rows.specs.declared.client.Taken.{Taken}
 pub use Rattle.jn_rows.specs.Coordinator.{close_clients_row, CoordinatorTable, transaction_at, is_work, all_in, forget_row, thanked_changes, after_closing, changes_of_closing, begin_new, begin_again, begun_by, begin_row, seen_now, end_promised, end_stage, end_row, abort_stage, abort_request, told_stage, inquire_row, counted_vote, vote_stage, vote_row, done_stage, done_row, thanks_stage, thanks_row, with_work, coordinator_row, flags_of_thanked}
 pub use Rattle.std.proofs.lemmas.List.Folds.{list_all-append}
-pub use Rattle.jn_system_settling.specs.Settling.Settle.{clients_from, is_busy as has_going, handing, working}
+pub use Rattle.jn_system_settling.specs.Settling.Settle.{clients_from, is_busy as has_going}
 pub use Rattle.jn_base.specs.declared.names.Tickets.{Tickets}
+pub use Rattle.jn_system.proofs.WholeSystem.CoordinatorRows.{is_of_flag}
 pub use Rattle.jn_base.specs.declared.op.Command.{Command}
 pub use Rattle.jn_report.specs.declared.line.When.TheVariants.{Event as AtEvent}
 pub use Rattle.std.proofs.lemmas.Bool.Decides.{nat_tests}

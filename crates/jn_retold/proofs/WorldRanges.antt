@@ -1,12 +1,12 @@
 -- Blocks stay below 120 in every run whose commands name only such.
-use Rattle.jn_retold.proofs.Common.{◌≡◌, ◌≤◌, ℕ, zero, suc, ◌+◌, Bool, true, false, List, [], ◌∷◌, ◌++◌, take, Option, Some, None, refl, subst, arith, ⊤, ◌&&◌, if◌then◌else◌, slice_get, list_all, AllByRecursion, ServerNo, ClientNo, Tid, WorkId, Client, Server, server_eq, client_eq, work_eq, AllFiles, Message, blocks_below, Taken, coordinator_row, flags_of_thanked, close_clients_row, RowOutcome, Sent, StableState, Prepared, Change, AddReady, MarkGoing, CarryOut, RemoveWork, AddFlag, DropFlag, gone_on, made_by, made_all, Pick, stable, WorkerTable, worker_row, worker_step, timeout_row, World, Memory, at_server, at_client, new_memory, opening, Room, storage_of, is_for_worker, of_worker, server_row, of_step, server_step, server_again, of_timeout, server_timeout, of_coordinator, restored, Step, NextEvent, Tell, Again, Deliver, Work, Nudge, Timeout, StopDelivery, StopWork, Crash, Narrow, StopRestart, Restart, Dismiss, CloseClients, after, run, ends, at_memory, handed, work, works, nudge, timeout, crash, narrow, stop_restart, restart, close_clients, took, commanded, sent_now, InRange, servers-taken, command-fits, take-fits, new-fits, over-fits}
+use Rattle.jn_retold.proofs.Common.{◌≡◌, ◌≤◌, ℕ, zero, suc, ◌+◌, Bool, true, false, List, [], ◌∷◌, ◌++◌, take, Option, Some, None, refl, subst, arith, ⊤, ◌&&◌, if◌then◌else◌, slice_get, list_all, AllByRecursion, ServerNo, ClientNo, Tid, WorkId, Client, Server, server_eq, client_eq, work_eq, AllFiles, Message, blocks_below, Taken, coordinator_row, flags_of_thanked, close_clients_row, RowOutcome, Sent, StableState, Prepared, Change, AddReady, MarkGoing, CarryOut, RemoveWork, AddFlag, DropFlag, gone_on, made_by, made_all, Pick, stable, WorkerTable, worker_row, worker_step, timeout_row, World, Memory, at_server, at_client, new_memory, opening, Room, storage_of, is_for_worker, of_worker, server_row, of_step, server_step, server_again, of_timeout, server_timeout, of_coordinator, restored, Step, NextEvent, Tell, Again, Deliver, Work, Nudge, Timeout, StopDelivery, StopWork, Crash, Narrow, StopRestart, Restart, Dismiss, CloseClients, after, run, ends, at_memory, handed, work, works, nudge, timeout, crash, narrow, stop_restart, restart, close_clients, took, commanded, sent_now, InRange, servers-taken, command-fits, take-fits, new-fits, over-fits, is_of_flag}
 use Rattle.std.proofs.lemmas.List.Elements.{All-nil, All-head, All-tail, All-append, All-cons}
 use Rattle.jn_rows.specs.declared.client.Taken.TheVariants as taken
 use Rattle.jn_rows.specs.Client.{ClientTable, Commanded, Refuses, Sends, command_row, take_row, again_row}
 use Rattle.jn_within.specs.Taking.{CanBeTaken, AllCanBeTaken, CommandInRange, ClientFits, CommandFits, sent_for}
 use Rattle.jn_within.proofs.ServerRows.{row-requests, step-requests, again-requests}
 use Rattle.jn_retold.proofs.RowRanges.{AreRanged, is_ranged, WorksRanged, row-ranged, step-ranged, timeout-ranged, restored-ranged}
-use Rattle.jn_retold.proofs.Coordinating.{is_of_flag, row-flags, all-thanked-flags}
+use Rattle.jn_retold.proofs.Coordinating.{row-flags, all-thanked-flags}
 
 first-of : (a b : Bool) → (a && b) ≡ true → a ≡ true
 first-of a b h = grind arith

@@ -30,7 +30,7 @@ pub use Rattle.jn_system.proofs.WholeSystem.CoordinatorRows.{Aside, is_of_flag, 
 pub use Rattle.jn_system.proofs.WholeSystem.WorkerChanges.{DrawsOne, step-aside, works-flags, worker-aside}
 pub use Rattle.jn_server.specs.declared.fault.ServerFault.{ServerFault}
 pub use Rattle.jn_server.specs.Seen.{ServerView, memory_of, IsServer, room_of, Parts, view_with}
-pub use Rattle.jn_server.specs.Handling.{IsDone, IsStopped, Does, LeavesRubbish, TimesOut, Steps}
+pub use Rattle.jn_server.specs.Handling.{IsDone, IsStopped, Does, LeavesRubbish, row_calls, TimesOut, Steps}
 pub use Rattle.jn_server.specs.Faults.{of_worker as fault_of}
 pub use Rattle.std.specs.List.{list_any, list_all}
 pub use Rattle.jn_system.specs.WholeSystem.Steps.{are_rising, AreNames, tid_before}

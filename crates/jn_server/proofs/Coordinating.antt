@@ -1,5 +1,5 @@
 -- What the coordinator does by its row, the whole server does.
-use Rattle.jn_server.proofs.Common.{◌≡◌, ◌⊎◌, inl, inr, ℕ, ◌+◌, ◌*◌, ◌≤◌, Bool, true, false, List, [], ◌∷◌, Option, Result, Ok, Err, refl, sym, ◌∙◌, ap, subst, arith, true≢false, length, ◌&&◌, IsErr, IsErrAnd, nat_tests, Tickets, WorkId, work_eq, work_before, is_after, Collected, Files, StableState, Prepared, Change, AddReady, MarkGoing, CarryOut, RemoveWork, AddFlag, DropFlag, is_going, made_by, made_all, RowOutcome, Work, work_at, work_from, CoordinatorTable, Accounts, StorageView, state, is_in, calm_on, left_by, left_over, WorkFits, WorkListFits, Remembered, CoordinatorDone, CoordinatorStopped, CoordinatorDoes, CoordinatorTickets, of_coordinator, Aside, is_of_flag, are_of_flags, first-of, second-of, flags-all, epoch-all, DrawsOne, ServerFault, ServerView, memory_of, IsServer, IsDone, IsStopped, Does, LeavesRubbish}
+use Rattle.jn_server.proofs.Common.{◌≡◌, ◌⊎◌, inl, inr, ℕ, ◌+◌, ◌*◌, ◌≤◌, Bool, true, false, List, [], ◌∷◌, Option, Result, Ok, Err, refl, sym, ◌∙◌, ap, subst, arith, true≢false, length, ◌&&◌, IsErr, IsErrAnd, nat_tests, Tickets, WorkId, work_eq, work_before, is_after, Collected, Files, StableState, Prepared, Change, AddReady, MarkGoing, CarryOut, RemoveWork, AddFlag, DropFlag, is_going, made_by, made_all, RowOutcome, Work, work_at, work_from, CoordinatorTable, Accounts, StorageView, state, is_in, calm_on, left_by, left_over, WorkFits, WorkListFits, Remembered, CoordinatorDone, CoordinatorStopped, CoordinatorDoes, CoordinatorTickets, of_coordinator, Aside, is_of_flag, are_of_flags, first-of, second-of, flags-all, epoch-all, DrawsOne, ServerFault, ServerView, memory_of, IsServer, IsDone, IsStopped, Does, LeavesRubbish, row_calls}
 use Rattle.jn_coord.specs.Handling.{Handles}
 use Rattle.jn_transactions.specs.declared.faults.CoordFault.{CoordFault}
 use Rattle.jn_transactions.specs.declared.faults.CoordFault.TheVariants as faults
@@ -51,13 +51,13 @@ flags-leave (c ∷ cs) x h = one c (first-of (is_of_flag c) (are_of_flags cs) h)
     one (RemoveWork W) k again = absurd (true≢false (sym k))
 
 module _ (v : ServerView) (serves : IsServer v) (row : RowOutcome CoordinatorTable) (aside : Aside (length v.coordinator.transactions) v.tickets row) (before : Collected) where
-  bounded : (a b : ℕ) → b ≤ a + 16 * length row.changes → b ≤ a + 1024
+  bounded : (a b : ℕ) → b ≤ a + 16 * length row.changes → b ≤ a + row_calls
   bounded a b h = by aside.few
     where
       few : length v.coordinator.transactions ≤ 64
       few = serves.transactions.few
 
-      by : (length row.changes ≤ 1) ⊎ (length row.changes ≤ length v.coordinator.transactions) → b ≤ a + 1024
+      by : (length row.changes ≤ 1) ⊎ (length row.changes ≤ length v.coordinator.transactions) → b ≤ a + row_calls
       by (inl one) = omega (arith, h, one)
       by (inr most) = omega (arith, h, most, few)
 
@@ -65,7 +65,7 @@ module _ (v : ServerView) (serves : IsServer v) (row : RowOutcome CoordinatorTab
     abbrev now : ServerView
     now = record { storage = w; worker = v.worker; coordinator = r; tickets = l }
 
-    pub coordinated : CoordinatorDone row v.storage before r w after → l ≡ row.tickets → CoordinatorTickets r w l → IsDone 1024 (of_coordinator (memory_of v) row) v before now after
+    pub coordinated : CoordinatorDone row v.storage before r w after → l ≡ row.tickets → CoordinatorTickets r w l → IsDone row_calls (of_coordinator (memory_of v) row) v before now after
     coordinated h drawn fit = record {
       memory = ap (λ (t : CoordinatorTable). record (memory_of now) { coordinator = t }) h.table
           ∙ ap (λ (k : Tickets). record (memory_of now) { coordinator = row.table; tickets = k }) drawn
@@ -120,7 +120,7 @@ module _ (v : ServerView) (serves : IsServer v) (row : RowOutcome CoordinatorTab
     pub flags-leave-none : w.accounts.rubbish ≡ v.storage.accounts.rubbish → LeavesRubbish v (of_coordinator (memory_of v) row) now
     flags-leave-none same = let s = ap (λ (ws : List WorkId). length ws) same in let n = flags-leave row.changes (state v.storage) aside.flags in omega (arith, s, n)
 
-    pub coordinator_stopped : CoordinatorStopped row v.storage w → after ≡ before → IsStopped 1024 (of_coordinator (memory_of v) row) v before now after
+    pub coordinator_stopped : CoordinatorStopped row v.storage w → after ≡ before → IsStopped row_calls (of_coordinator (memory_of v) row) v before now after
     coordinator_stopped h silent = record {
       some = h.some;
       silent = silent;
@@ -132,17 +132,17 @@ module _ (v : ServerView) (serves : IsServer v) (row : RowOutcome CoordinatorTab
 
     -- why it wasn't done
     pub coordinator_failed : {A : Type 0} (B : Type 0) (fault : CoordFault) (answer : Result A ServerFault) → IsErr answer → IsErrAnd answer (λ e. e ≡ fault_of fault)
-        → Handles {A = B} row v.coordinator v.storage before v.tickets (Err fault) r w after l → Does 1024 (of_coordinator (memory_of v) row) v before answer now after
+        → Handles {A = B} row v.coordinator v.storage before v.tickets (Err fault) r w after l → Does row_calls (of_coordinator (memory_of v) row) v before answer now after
     coordinator_failed B fault (Ok x) h is t = absurd (cc h)
-    coordinator_failed {A} B faults.Stopped (Err e) h is t = subst (λ (z : ServerFault). Does {A = A} 1024 (of_coordinator (memory_of v) row) v before (Err z) now after) (sym is) (coordinator_stopped t.0 t.1)
-    coordinator_failed {A} B faults.Memory (Err e) h is t = subst (λ (z : ServerFault). Does {A = A} 1024 (of_coordinator (memory_of v) row) v before (Err z) now after) (sym is) tt
+    coordinator_failed {A} B faults.Stopped (Err e) h is t = subst (λ (z : ServerFault). Does {A = A} row_calls (of_coordinator (memory_of v) row) v before (Err z) now after) (sym is) (coordinator_stopped t.0 t.1)
+    coordinator_failed {A} B faults.Memory (Err e) h is t = subst (λ (z : ServerFault). Does {A = A} row_calls (of_coordinator (memory_of v) row) v before (Err z) now after) (sym is) tt
 
     -- a closing fails by a stop alone
     pub closing_failed : {A : Type 0} (B : Type 0) (fault : CoordFault) (answer : Result A ServerFault) → IsErr answer → IsErrAnd answer (λ e. e ≡ fault_of fault) → fault ≡ faults.Stopped
-        → after ≡ before → CoordinatorDoes {A = B} row v.coordinator v.storage before (Err fault) r w after → Does 1024 (of_coordinator (memory_of v) row) v before answer now after
+        → after ≡ before → CoordinatorDoes {A = B} row v.coordinator v.storage before (Err fault) r w after → Does row_calls (of_coordinator (memory_of v) row) v before answer now after
     closing_failed B faults.Memory answer h is only silent t = absurd (cc only)
     closing_failed B faults.Stopped answer h is only silent t = stops answer h is
       where
-        stops : {A : Type 0} (answer : Result A ServerFault) → IsErr answer → IsErrAnd answer (λ e. e ≡ fault_of faults.Stopped) → Does 1024 (of_coordinator (memory_of v) row) v before answer now after
+        stops : {A : Type 0} (answer : Result A ServerFault) → IsErr answer → IsErrAnd answer (λ e. e ≡ fault_of faults.Stopped) → Does row_calls (of_coordinator (memory_of v) row) v before answer now after
         stops (Ok x) h is = absurd (cc h)
-        stops {A} (Err e) h is = subst (λ (z : ServerFault). Does {A = A} 1024 (of_coordinator (memory_of v) row) v before (Err z) now after) (sym is) (coordinator_stopped t.0 silent)
+        stops {A} (Err e) h is = subst (λ (z : ServerFault). Does {A = A} row_calls (of_coordinator (memory_of v) row) v before (Err z) now after) (sym is) (coordinator_stopped t.0 silent)

@@ -5,7 +5,7 @@ ghost use Rattle.jn_intent.specs.Scrubbing.{Scrubbed};
 ghost use Rattle.jn_msgs.specs.Collected.{Collected};
 ghost use Rattle.jn_system.specs.WholeSystem.Servers.{of_coordinator};
 ghost use Rattle.jn_rows.specs.Coordinator.{close_clients_row};
-ghost use Rattle.jn_server.specs.Handling.{Does};
+ghost use Rattle.jn_server.specs.Handling.{Does, row_calls};
 ghost use Rattle.jn_server.specs.Seen.{view_with, memory_of, IsServer};
 
 use crate::fault::ServerFault;
@@ -17,7 +17,7 @@ impl<S: StableStore> Server<S> {
     /// Each outcome counts as thanked: what is over goes with its flag, and what is undecided stays. Nothing is sent.
     pub fn close_clients(&mut self) -> Result<(), ServerFault>
         requires serves { IsServer (view_with (λ s. S.view s) self.old) }
-        ensures does { (before : Collected) → let v = view_with (λ s. S.view s) self.old in Does 1024 (of_coordinator (memory_of v) (close_clients_row (table_of v.coordinator) v.tickets)) v before result (view_with (λ s. S.view s) self.new) before }
+        ensures does { (before : Collected) → let v = view_with (λ s. S.view s) self.old in Does row_calls (of_coordinator (memory_of v) (close_clients_row (table_of v.coordinator) v.tickets)) v before result (view_with (λ s. S.view s) self.new) before }
         ensures rubbish { OnOk result ((view_with (λ s. S.view s) self.new).storage.accounts.rubbish ≡ (view_with (λ s. S.view s) self.old).storage.accounts.rubbish) }
     {
         self.coordinator.close_clients(&mut self.storage)?;

@@ -26,7 +26,7 @@ use Rattle.jn_server_tests.proofs.Starts.{later_of, loaded_started, may_begin}
 use Rattle.jn_server.specs.declared.fault.ServerFault.{ServerFault}
 use Rattle.jn_server.specs.declared.fault.ServerFault.TheVariants.{Stopped, Memory as NoMemory}
 use Rattle.jn_server.specs.declared.show.Shown.{Shown}
-use Rattle.jn_server.specs.Handling.{Does, Steps, TimesOut}
+use Rattle.jn_server.specs.Handling.{Does, Steps, TimesOut, row_calls}
 use Rattle.jn_server.specs.Restarting.{IsRestarted, IsLeft}
 use Rattle.jn_server.specs.Seen.{ServerView, memory_of, room_of, IsServer}
 use Rattle.jn_server.specs.Showing.{IsShown}
@@ -80,11 +80,11 @@ module _ (n : PageCounts) (k : ℕ) (v w : ServerView) (on : IsOn n k v) where
   done most names row (Err Stopped) before after few does = kept does.later
   done most names row (Err NoMemory) before after few does = tt
 
-  pub told : {A : Type 0} (message : Message) (answer : Result A ServerFault) (before after : Collected) → Does 1024 (server_row (memory_of v) (state v.storage) (room_of v.storage) message) v before answer w after → LeavesServer n (k + 1) answer w
-  told message answer before after does = done 1024 (k + 1) _ answer before after (let few = row-names (memory_of v) (state v.storage) (room_of v.storage) message in let drawn = on.drawn in omega (arith, few, drawn)) does
+  pub told : {A : Type 0} (message : Message) (answer : Result A ServerFault) (before after : Collected) → Does row_calls (server_row (memory_of v) (state v.storage) (room_of v.storage) message) v before answer w after → LeavesServer n (k + 1) answer w
+  told message answer before after does = done row_calls (k + 1) _ answer before after (let few = row-names (memory_of v) (state v.storage) (room_of v.storage) message in let drawn = on.drawn in omega (arith, few, drawn)) does
 
-  pub closed : {A : Type 0} (answer : Result A ServerFault) (before after : Collected) → Does 1024 (of_coordinator (memory_of v) (close_clients_row (memory_of v).coordinator v.tickets)) v before answer w after → LeavesServer n k answer w
-  closed answer before after does = done 1024 k _ answer before after on.drawn does
+  pub closed : {A : Type 0} (answer : Result A ServerFault) (before after : Collected) → Does row_calls (of_coordinator (memory_of v) (close_clients_row (memory_of v).coordinator v.tickets)) v before answer w after → LeavesServer n k answer w
+  closed answer before after does = done row_calls k _ answer before after on.drawn does
 
   same : w ≡ v → IsOn n k w
   same e = subst (IsOn n k) (sym e) on

@@ -60,6 +60,6 @@ pub use Rattle.std.specs.List.{list_any, list_all, AllByRecursion}
 pub use Rattle.jn_system.specs.WholeSystem.Steps.{AreNames, are_rising as names_rise, Step, NextEvent, Tell, Again, Deliver, Nudge, Timeout, StopDelivery, StopWork, StopRestart, Dismiss, CloseClients, at_memory, handed, work, works, nudge, timeout, stop_restart, close_clients, commanded, took, sent_now, stopped, restart_with, IsStep, IsRun, tid_before}
 pub use Rattle.jn_records.specs.NetEdits.{intention_for, with_intention, cut_again, front}
 pub use Rattle.jn_rows.specs.declared.worker.ActiveWork.{ActiveWork}
+pub use Rattle.jn_system.specs.WholeSystem.Servers.{Room, storage_of, is_for_worker, of_worker, of_coordinator, of_step, server_row, server_step, server_again, server_timeout, of_timeout, restored}
 pub use Rattle.jn_report.specs.declared.line.Text.{Text}
-pub use Rattle.jn_system.specs.WholeSystem.Servers.{Room, server_row, server_step, server_again, server_timeout, of_coordinator, of_worker, of_step, storage_of, is_for_worker, of_timeout, restored}
 pub use Rattle.jn_base.specs.declared.names.OperationNo.{OperationNo}

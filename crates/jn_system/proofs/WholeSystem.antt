@@ -4,6 +4,7 @@ pub mod Granted
 pub mod Keeping
 pub mod Units
 pub mod Rows
+pub mod ServerRows
 pub mod Tables
 pub mod WorkerRows
 pub mod WorkerChanges

@@ -28,7 +28,7 @@ pub use Rattle.jn_server.specs.Seen.{view_with, IsServer, Parts, memory_of, room
 pub use Rattle.jn_storage.specs.Calls.{state}
 pub use Rattle.jn_stands.specs.Going.{WentOn, WasCut, IsTold, IsStepTo}
 pub use Rattle.jn_stands.specs.Pages.{HasCounts, ReadsPages, IsIdleAt}
-pub use Rattle.jn_stands.specs.Stands.{Standing, Stands, with_named, StandsAt, PlaceStands, with_answer, texts_sent, is_client_number, with_sent}
+pub use Rattle.jn_stands.specs.Stands.{Standing, Stands, with_named, StandsAt, PlaceStands, with_answer, texts_sent, posted_by, is_client_number, with_sent}
 pub use Rattle.jn_store.specs.Pairs.{pairs_view}
 pub use Rattle.jn_store.specs.Store.{StoreView}
 pub use Rattle.jn_world.specs.declared.ended.Ended.{Ended}
@@ -55,12 +55,12 @@ pub use Rattle.jn_rows.specs.Stable.{StableState, Pick, IsUp, stable}
 pub use Rattle.jn_stands.proofs.RestNext.{next-works, next-none, rest-next, rest-over-step, next-delivers}
 pub use Rattle.jn_stands.proofs.Still.{refused-step, counts-step, begins-step, settles-step}
 pub use Rattle.jn_world.specs.Settling.{AreIdleBelow, IsBusyAt, IsFirstBusy, ReadsAt, TellsBusy, IsAtRest, handed, steps_of_all, asking_clients, asking_servers, TellsFirst}
-pub use Rattle.jn_world.specs.Standing.{is_up_at, is_up_in, works_at, works_in, IsWorld, IsClientOf, posted_by, ArePlaces, ArePosted, messages_in, AreStores, AreClosed}
+pub use Rattle.jn_world.specs.Standing.{is_up_at, is_up_in, works_at, works_in, IsWorld, IsClientOf, ArePlaces, ArePosted, messages_in, AreStores, AreClosed}
 pub use Rattle.jn_written.specs.Devices.{rubbish_on, Devices}
 pub use Rattle.jn_written.specs.Events.{next_in, servers_of, ending, coming_up, settling, printing, acted, met, resting, deed_of, asking, told_unless}
 pub use Rattle.jn_written.specs.Refusals.{has_work, refusal_of, unless, if_there, if_up, if_down}
 pub use Rattle.jn_base.specs.declared.names.ClientNo.{ClientNo}
-pub use Rattle.jn_system_settling.specs.Settling.Settle.{clients_from, handing, working}
+pub use Rattle.jn_system_settling.specs.Settling.Settle.{clients_from}
 pub use Rattle.jn_written.proofs.Computed.{join}
 pub use Rattle.std.proofs.lemmas.List.Elements.{All-nil, All-set, All-get_or, All-from_get_or, All-append, All-map, All-cons, All-weaker, All-from_recursion, recursion_from_All, All-push}
 pub use Rattle.jn_device.specs.Events.{disarmed, is_within, Decays as PageDecays, Revives as PageRevives, Arms as FaultArmed}
@@ -70,11 +70,12 @@ pub use Rattle.jn_world.specs.Calm.{IsQuietAt, AreQuiet, IsUpAndCalm, AreUpAndCa
 pub use Rattle.jn_world.specs.Opening.{StandFor, AreNew, StandsFor, Opens}
 pub use Rattle.jn_base.specs.declared.op.Command.{Command}
 pub use Rattle.jn_rows.specs.declared.client.Taken.{Taken}
-pub use Rattle.jn_system.specs.WholeSystem.Steps.{sent_now, IsIdle}
+pub use Rattle.jn_system.specs.WholeSystem.Steps.{sent_now, IsIdle, handing, working}
 pub use Rattle.jn_report.specs.declared.line.When.TheVariants.{Event as AtEvent, End}
 pub use Rattle.jn_rows.specs.Client.{ClientTable, Commanded, Refuses, command_row, take_row, again_row, new_table, over, Sends, sent_again}
 pub use Rattle.jn_rows.specs.Outcomes.{Sent}
 pub use Rattle.jn_within.specs.Taking.{sent_for, CanBeTaken, AllCanBeTaken, ClientFits, CommandInRange, CommandFits}
+pub use Rattle.jn_stands.proofs.Posted.{none-traced, lines-append}
 pub use Rattle.jn_within.proofs.Taking.{over-fits, command-fits, command-draws, take-fits, take-number, new-fits}
 pub use Rattle.jn_stands.proofs.Crashing.{down-already-step, crashed-step}
 pub use Rattle.jn_stands.proofs.Dismissing.{there-is, dismissed-step}

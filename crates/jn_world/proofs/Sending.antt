@@ -1,17 +1,13 @@
 -- Messages and notes of a step one after another, and what the world has then.
-use Rattle.jn_world.proofs.Common.{◌≡◌, ◌≤◌, ◌<◌, ℕ, suc, ◌+◌, Bool, true, false, ◌||◌, List, [], ◌∷◌, ◌++◌, length, length-append, append_assoc, Option, Some, Result, refl, sym, ◌∙◌, ap, arith, fun_ext, map-append, Party, Server, ServerNo, Tid, tid_eq, Posted, lines_of, commits_in, has_line, Line, Text, When, Sent, Collected, Standing, with_sent, with_named, with_answer, texts_sent, Ended, World, is_among, standing_of, EndsPart, lines_at, message_texts, traced}
+use Rattle.jn_world.proofs.Common.{posted_by, ◌≡◌, ◌≤◌, ◌<◌, ℕ, suc, ◌+◌, Bool, true, false, ◌||◌, List, [], ◌∷◌, ◌++◌, length, length-append, append_assoc, Option, Some, Result, refl, sym, ◌∙◌, ap, arith, fun_ext, map-append, Party, Server, ServerNo, Tid, tid_eq, Posted, lines_of, commits_in, has_line, Line, Text, When, Sent, Collected, Standing, with_sent, with_named, with_answer, texts_sent, Ended, World, is_among, standing_of, EndsPart, lines_at, message_texts, traced, lines-append}
 use Rattle.std.proofs.lemmas.List.Folds.{list_any-append}
 use Rattle.std.proofs.Math.Bool.{or_comm}
 use Rattle.jn_msgs.specs.declared.message.Note.{Note}
 use Rattle.jn_msgs.specs.Kinds.{kind_of}
 use Rattle.jn_report.specs.declared.line.Text.TheVariants as says
-use Rattle.jn_stands.specs.Stands.{posted_by}
 use Rattle.jn_world.proofs.Exits.{part-as}
 
 -- ---- lines
-
-pub lines-append : (when : When) (a b : List Text) → lines_at when (a ++ b) ≡ lines_at when a ++ lines_at when b
-lines-append when a b = map-append (λ (text : Text). record { when = when; text = text }) a b
 
 pub lines-then : (when : When) (first : List Line) (a b : List Text) → (first ++ lines_at when a) ++ lines_at when b ≡ first ++ lines_at when (a ++ b)
 lines-then when first a b = append_assoc first (lines_at when a) (lines_at when b) ∙ ap (λ (more : List Line). first ++ more) (sym (lines-append when a b))

@@ -1,6 +1,5 @@
 -- When the world stands so that every event can be done.
 use Rattle.std.specs.Prelude.{◌≡◌, ◌≤◌, ◌+◌, ℕ, Bool, false, List, [], ◌∷◌, map, length, slice_get, All, vec_len, Option, Some, None}
-use Rattle.jn_base.specs.declared.names.Party.{Party}
 use Rattle.jn_found.specs.Recoverable.{IsRecoverable}
 use Rattle.jn_msgs.specs.Collected.{Collected}
 use Rattle.jn_net.specs.declared.Sent.{Sent as Posted}
@@ -42,10 +41,6 @@ pub record IsWorldUpTo {S : Type 0} (look : S → StoreView) (most : ℕ) (w : W
 -- Between two steps. A name is drawn, and a number given, only with a message.
 abbrev pub IsWorld : {S : Type 0} → (S → StoreView) → World S → Type 0
 IsWorld look w = IsWorldUpTo look (length w.net.sent) w
-
--- a party's messages as the network keeps them
-abbrev pub posted_by : Party → List Sent → List Posted
-posted_by from messages = map (λ (m : Sent). record { from = from; to = m.0; message = m.1; delivered = false }) messages
 
 -- what a step sends, which sends nothing where it is stopped
 abbrev pub messages_in : Option Collected → List Sent

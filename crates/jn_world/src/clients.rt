@@ -6,12 +6,12 @@ ghost use Rattle.jn_report.specs.declared.line.When.TheVariants.{Event as AtEven
 ghost use Rattle.jn_rows.specs.Client.{new_table, take_row};
 ghost use Rattle.jn_schedule.specs.declared.Event.TheVariants as events;
 ghost use Rattle.jn_stands.specs.Clients.{texts_taken};
-ghost use Rattle.jn_stands.specs.Stands.{is_client_number, with_sent};
+ghost use Rattle.jn_stands.specs.Stands.{is_client_number, posted_by, with_sent};
 ghost use Rattle.jn_within.specs.Taking.{sent_for, AllCanBeTaken, CommandInRange};
 ghost use Rattle.jn_world.specs.Calm.{StayUp};
 ghost use Rattle.jn_world.specs.Opening.{AreNew};
 ghost use Rattle.jn_world.specs.Settling.{handed};
-ghost use Rattle.jn_world.specs.Standing.{IsWorld, IsClientOf, posted_by};
+ghost use Rattle.jn_world.specs.Standing.{IsWorld, IsClientOf};
 ghost use Rattle.jn_world.specs.Written.{DoesEvent, EndsStep, IsSentTo, standing_of};
 ghost use Rattle.jn_written.specs.Steps.{lines_at, message_texts, traced};
 

@@ -3,8 +3,8 @@ ghost use Rattle.std.specs.Prelude.{◌≡◌, ◌≤◌, ◌++◌, ◌∷◌, [
 ghost use Rattle.jn_base.specs.declared.names.Party.TheVariants.{Server};
 ghost use Rattle.jn_system.specs.WholeSystem.Servers.{line_of, lines_of};
 ghost use Rattle.jn_system.specs.WholeSystem.World.{commits_in};
-ghost use Rattle.jn_stands.specs.Stands.{texts_sent, with_answer, with_sent};
-ghost use Rattle.jn_world.specs.Standing.{posted_by, messages_in};
+ghost use Rattle.jn_stands.specs.Stands.{posted_by, texts_sent, with_answer, with_sent};
+ghost use Rattle.jn_world.specs.Standing.{messages_in};
 ghost use Rattle.jn_world.specs.Written.{EndsPart, EndsStep, standing_of};
 ghost use Rattle.jn_written.specs.Steps.{lines_at, message_texts, traced};
 

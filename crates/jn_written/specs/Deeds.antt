@@ -12,9 +12,9 @@ use Rattle.jn_rows.specs.Stable.{StableState, Pick, stable}
 use Rattle.jn_rows.specs.Outcomes.{Sent}
 use Rattle.jn_system.specs.WholeSystem.World.{World, Memory}
 use Rattle.jn_system.specs.WholeSystem.Servers.{Room}
-use Rattle.jn_system.specs.WholeSystem.Steps.{Step, Deliver, StopWork, Crash, Narrow, StopRestart, Restart}
+use Rattle.jn_system.specs.WholeSystem.Steps.{Step, Deliver, StopWork, Crash, Narrow, StopRestart, Restart, handing, working}
 use Rattle.jn_system.specs.WholeSystem.Printing.{print_files}
-use Rattle.jn_system_settling.specs.Settling.Settle.{handing, working, is_busy as has_going}
+use Rattle.jn_system_settling.specs.Settling.Settle.{is_busy as has_going}
 use Rattle.jn_system_reports.specs.Reporting.Printing.{text_printed, prints_of}
 use Rattle.jn_written.specs.Chances.{Chance}
 use Rattle.jn_written.specs.Tasks.{Task}

@@ -1,8 +1,8 @@
 -- A restart, a show and a settle where nothing strikes: what is found and what is free doesn't matter.
-use Rattle.jn_wrong.proofs.Common.{◌≡◌, ℕ, Bool, true, false, List, [], ◌∷◌, Option, Some, None, is_some, refl, sym, ◌∙◌, ap, subst, if◌then◌else◌, nat_eq, map, ServerNo, FileNo, Tid, WorkId, File, file_eq, tid_eq, work_eq, file_tells, tid_tells, work_tells, Text, StableState, Pick, work_before, World, Memory, print_files, file_before, Step, Restart, tid_before, after, run, IsRun, restart, restart_with, text_printed, prints_of, go_on, course_to, Setup, Chance, Meets, Acts, ComesUp, State, begun, Deed, Reads, last_epoch, served, stopped_idle, blocks_from, shown, showing, pick_read, recovering, recovered, given_up, is_used_up, brought_up, Devices, IsLookedOver, IsRecovery, Alone, Befalls, EventRefusal, NoSuchServer, ServerDown, unless, met, deed_of, made, IsQuiet, Raised, called-calm, recovered-calm, quiet-alone, quiet-called, restarted-up, still, IsBlank, PrintsNothing}
+use Rattle.jn_wrong.proofs.Common.{◌≡◌, ℕ, Bool, true, false, List, [], ◌∷◌, Option, Some, None, is_some, refl, sym, ◌∙◌, ap, subst, if◌then◌else◌, nat_eq, map, ServerNo, FileNo, Tid, WorkId, File, file_eq, tid_eq, work_eq, file_tells, tid_tells, work_tells, Text, StableState, Pick, work_before, World, Memory, print_files, file_before, Step, Restart, tid_before, after, run, IsRun, restart, restart_with, text_printed, prints_of, go_on, course_to, Setup, Chance, Meets, Acts, ComesUp, State, begun, Deed, Reads, last_epoch, served, stopped_idle, blocks_from, shown, showing, pick_read, recovering, recovered, given_up, is_used_up, brought_up, Devices, IsLookedOver, IsRecovery, Alone, Befalls, EventRefusal, NoSuchServer, ServerDown, unless, met, deed_of, made, IsQuiet, Raised, called-calm, recovered-calm, quiet-alone, quiet-called, restarted-up, still, IsBlank, PrintsNothing, no-faults}
 use Rattle.jn_schedule.specs.declared.Event.TheVariants as events
 use Rattle.jn_wrong.proofs.Bare.{bare_course, bare, made-same}
-use Rattle.jn_wrong.proofs.Doing.{Follows, no-faults, below, none-named, itself}
+use Rattle.jn_wrong.proofs.Doing.{Follows, below, none-named, itself}
 
 same-work : (W : WorkId) → work_eq W W ≡ true
 same-work W = itself work_eq W (work_tells W W)

@@ -1,5 +1,5 @@
 -- What each task does where nothing strikes: the same as without chances.
-use Rattle.jn_wrong.proofs.Common.{◌≡◌, ◌≢◌, ◌⊎◌, inl, inr, ℕ, ◌<◌, Bool, true, false, List, [], ◌∷◌, Option, Some, None, is_some, refl, sym, ◌∙◌, ap, subst, arith, nat_tests, ◌||◌, if◌then◌else◌, nat_lt, map, list_any, ServerNo, ClientNo, Outside, Command, server_eq, server_tells, DeviceState, Event, Pick, Commanded, Refuses, Sends, command_row, World, Memory, NextEvent, Tell, Again, Nudge, Crash, CloseClients, AreNames, after, commanded, crash, go_on, Setup, Chance, Task, Begins, Meets, Acts, Dismisses, GoesDown, ClosesClients, CountsCommits, State, begun, served, stopped_idle, crashed_at, Devices, IsServed, Alone, Befalls, deed_of, made, done, IsQuiet, Calm, called-calm, quiet-same, quiet-alone, quiet-called, nudged-up, closed-up, crashed-up, still}
+use Rattle.jn_wrong.proofs.Common.{◌≡◌, ◌≢◌, ◌⊎◌, inl, inr, ℕ, ◌<◌, Bool, true, false, List, [], ◌∷◌, Option, Some, None, is_some, refl, sym, ◌∙◌, ap, subst, arith, nat_tests, ◌||◌, if◌then◌else◌, nat_lt, map, list_any, ServerNo, ClientNo, Outside, Command, server_eq, server_tells, DeviceState, Event, Pick, Commanded, Refuses, Sends, command_row, World, Memory, NextEvent, Tell, Again, Nudge, Crash, CloseClients, AreNames, after, commanded, crash, go_on, Setup, Chance, Task, Begins, Meets, Acts, Dismisses, GoesDown, ClosesClients, CountsCommits, State, begun, served, stopped_idle, crashed_at, Devices, IsServed, Alone, Befalls, deed_of, made, done, IsQuiet, Calm, called-calm, quiet-same, quiet-alone, quiet-called, nudged-up, closed-up, crashed-up, still, no-faults}
 use Rattle.jn_schedule.specs.declared.Event.TheVariants as events
 use Rattle.jn_report.specs.declared.line.Text.TheVariants as says
 use Rattle.jn_wrong.proofs.Bare.{bare_course, bare, made-same}
@@ -8,9 +8,6 @@ use Rattle.jn_wrong.proofs.Bare.{bare_course, bare, made-same}
 pub record Follows (x : Setup) (h : Chance) (task : Task) (s : State) (es : Devices) : Type 0 where
   pub same : bare (done x h task s) ≡ bare (done x still task s)
   pub quiet : IsQuiet x (go_on (deed_of x h task s).steps s.course).world es
-
-pub no-faults : (q : ServerNo) (told : List Outside) → told ≡ [] → map (λ (fault : Outside). says.Outside q fault) told ≡ []
-no-faults q told e = ap (λ (os : List Outside). map (λ (fault : Outside). says.Outside q fault) os) e
 
 pub clash : (a : Bool) → a ≡ true → a ≡ false → ⊥
 clash a e k = cc

@@ -1,7 +1,7 @@
 -- What each step of the whole system changes, in nine cases: a client's row, a server's row that is done or stopped, a late
 -- transaction, a server that goes down or comes up, what is found of a server that is down, the clients dismissed, and steps that
 -- leave every table and state.
-use Rattle.jn_system.proofs.Common.{Bool, ◌≡◌, ℕ, ◌+◌, List, [], ◌∷◌, ◌++◌, Option, Some, None, refl, if◌then◌else◌, slice_get, ServerNo, ClientNo, Tid, WorkId, server_eq, Message, StableState, Pick, stable, RowOutcome, Sent, close_clients_row, with_epoch, Step, NextEvent, Tell, Again, Deliver, Nudge, Timeout, StopDelivery, StopWork, StopRestart, Dismiss, CloseClients, at_memory, handed, work, works, nudge, timeout, stop_restart, close_clients, commanded, took, Text, Memory, at_server, at_client, Room, server_row, server_step, server_again, server_timeout, of_coordinator, sent_now, stopped, restart_with}
+use Rattle.jn_system.proofs.Common.{Bool, ◌≡◌, ℕ, ◌+◌, List, [], ◌∷◌, ◌++◌, Option, Some, None, refl, if◌then◌else◌, slice_get, ServerNo, ClientNo, Tid, WorkId, server_eq, Message, StableState, Pick, stable, RowOutcome, Sent, close_clients_row, with_epoch, Step, NextEvent, Tell, Again, Deliver, Nudge, Timeout, StopDelivery, StopWork, StopRestart, Dismiss, CloseClients, at_memory, handed, work, works, nudge, timeout, stop_restart, close_clients, commanded, took, Text, Memory, at_server, at_client, Room, server_row, server_step, server_again, server_timeout, of_coordinator, sent_now, stopped, restart_with, true, false}
 use Rattle.jn_base.specs.declared.names.Party.{Party}
 use Rattle.jn_base.specs.declared.names.Party.TheVariants.{Client, Server}
 use Rattle.jn_base.specs.declared.op.Command.{Command}
@@ -11,16 +11,9 @@ use Rattle.jn_rows.specs.declared.client.Taken.{Taken}
 use Rattle.jn_rows.specs.declared.client.Taken.TheVariants as taken
 use Rattle.jn_rows.specs.Client.{Commanded, Refuses, Sends, ClientTable, command_row, take_row, again_row, over}
 use Rattle.jn_system.specs.WholeSystem.World.{World}
+pub use Rattle.jn_system.specs.WholeSystem.Steps.{handing, working}
 use Rattle.jn_system.specs.WholeSystem.Steps.{Work, Crash, Narrow, Restart, after, done, crash, narrow, restart}
-
--- a message is handed over, or a server works on, perhaps with a stop
-abbrev pub handing : ℕ → Room → Option (Pick → ℕ) → Step
-handing k room None = Deliver k room
-handing k room (Some made) = StopDelivery k room made
-
-abbrev pub working : ServerNo → Room → Option (Pick → ℕ) → Step
-working s room None = Work s room
-working s room (Some made) = StopWork s room made
+use Rattle.jn_system.proofs.WholeSystem.OneChange.{one-found}
 
 -- a client's row: its table then, and all that was sent and told then
 pub data ClientRow (w : World) (c : ClientNo) : Step → ClientTable → List Sent → List Text → Type 0 where
@@ -147,3 +140,18 @@ module _ (w : World) where
   step-case (Restart s pick Ws Ts) = restart-case s pick Ws Ts (w.memory s) refl
   step-case Dismiss = dismissed
   step-case (CloseClients s) = close-case s (w.memory s) refl
+
+-- ---- what holds of each state that may be found
+
+module _ (P : StableState → Type 0) (w : World) (old : (q : ServerNo) (c : Pick) → P (w.found q c)) (s : ServerNo) where
+  pub found-now : (found : Pick → StableState) → ((c : Pick) → P (found c)) → (q : ServerNo) (c : Pick) → P (if server_eq s q then found c else w.found q c)
+  found-now found now = one-found (λ q c x. P x) w.found s found now (λ q other. old q)
+
+  -- where its server is down, whatever the epoch
+  pub found-then : ((x : StableState) → P x → P (with_epoch x)) → (step : Step) (found : Pick → StableState) (lines : List Text) → FoundThen w s step found lines → (q : ServerNo) (c : Pick) → P (if server_eq s q then found c else w.found q c)
+  found-then up _ _ _ (by_narrowing g) = found-now (λ c. w.found s (g c)) (λ c. old s (g c))
+  found-then up _ _ _ (by_raising raise) = found-now (λ c. if raise c then with_epoch (w.found s c) else w.found s c) (λ c. by c (raise c))
+    where
+      by : (c : Pick) (b : Bool) → P (if b then with_epoch (w.found s c) else w.found s c)
+      by c true = up (w.found s c) (old s c)
+      by c false = old s c

@@ -1,5 +1,5 @@
 -- Each step of the whole system keeps what holds of the works and locks of each server.
-use Rattle.jn_system.proofs.Common.{◌≡◌, ◌≢◌, ◌⊎◌, ◌≤◌, inl, inr, ℕ, ◌+◌, Bool, true, false, List, [], ◌∷◌, take, Option, Some, None, refl, sym, ◌∙◌, ap, subst, arith, if◌then◌else◌, length, ServerNo, Tid, WorkId, Tickets, server_eq, server_tells, AllFiles, Message, StableState, Pick, Change, stable, made_all, is_going, RowOutcome, WorkerTable, worker_row, worker_step, timeout_row, CoordinatorTable, coordinator_row, close_clients_row, with_epoch, Step, IsStep, IsRun, TableFact, StoredFact, UpFact, ServerFact, LockFacts, Memory, opening, at_server, Room, server_row, server_step, of_worker, of_coordinator, of_step, storage_of, is_for_worker, server_timeout, of_timeout, restored, Text}
+use Rattle.jn_system.proofs.Common.{◌≡◌, ◌≢◌, ◌⊎◌, ◌≤◌, inl, inr, ℕ, ◌+◌, Bool, true, false, List, [], ◌∷◌, take, Option, Some, None, refl, sym, ◌∙◌, ap, subst, arith, if◌then◌else◌, length, ServerNo, Tid, WorkId, Tickets, server_eq, server_tells, AllFiles, Message, StableState, Pick, Change, stable, made_all, is_going, RowOutcome, WorkerTable, worker_row, timeout_row, CoordinatorTable, coordinator_row, close_clients_row, with_epoch, Step, IsStep, IsRun, TableFact, StoredFact, UpFact, ServerFact, LockFacts, Memory, opening, at_server, Room, server_row, server_step, of_worker, of_coordinator, storage_of, server_timeout, of_timeout, restored, Text}
 use Rattle.jn_system.specs.WholeSystem.World.{World}
 use Rattle.jn_system.specs.WholeSystem.Steps.{after, run}
 use Rattle.jn_system.proofs.WholeSystem.Rows.{RowKeeps}
@@ -9,6 +9,7 @@ use Rattle.jn_system.proofs.WholeSystem.Tables.{drawn-keeps}
 use Rattle.jn_system.proofs.WholeSystem.WorkerRows.{worker-keeps, step-keeps, timeout-keeps}
 use Rattle.jn_system.proofs.WholeSystem.CoordinatorRows.{Aside, coordinator-aside, close-aside, flags-keep, flags-all, epoch-kept, epoch-all}
 use Rattle.jn_system.proofs.WholeSystem.Restored.{stored-fact, restart-keeps}
+use Rattle.jn_system.proofs.WholeSystem.ServerRows.{row-either, row-of-step}
 
 -- ---- a server's row
 
@@ -65,21 +66,12 @@ module _ (s : ServerNo) (m : Memory) (x : StableState) (table : TableFact m.work
       now (inr e) = ap (λ (k : Tickets). k.epoch) e
 
   row-leaves : (room : Room) (message : Message) → Leaves s x (server_row m x room message)
-  row-leaves room message = by (is_for_worker message)
-    where
-      by : (b : Bool) → Leaves s x (if b then of_worker m (worker_row m.worker (storage_of m x room) m.tickets message) else of_coordinator m (coordinator_row m.coordinator room.free.records m.tickets message))
-      by true = of-worker (worker_row m.worker (storage_of m x room) m.tickets message) (worker-keeps (storage_of m x room) m.tickets m.worker table message)
-      by false = of-coordinator (coordinator_row m.coordinator room.free.records m.tickets message) (coordinator-aside m.coordinator room.free.records m.tickets message)
+  row-leaves room message = row-either (Leaves s x) m x room message
+      (of-worker (worker_row m.worker (storage_of m x room) m.tickets message) (worker-keeps (storage_of m x room) m.tickets m.worker table message))
+      (of-coordinator (coordinator_row m.coordinator room.free.records m.tickets message) (coordinator-aside m.coordinator room.free.records m.tickets message))
 
   step-leaves : (room : Room) (row : RowOutcome Memory) → server_step m x room ≡ Some row → Leaves s x row
-  step-leaves room row h = by (worker_step m.worker (storage_of m x room) m.tickets) refl h
-    where
-      some : (a b : RowOutcome Memory) → Some a ≡ Some b → a ≡ b
-      some a b e = cc
-
-      by : (o : Option (RowOutcome WorkerTable)) → worker_step m.worker (storage_of m x room) m.tickets ≡ o → of_step m o ≡ Some row → Leaves s x row
-      by None e q = absurd (grind arith)
-      by (Some r) e q = subst (λ (z : RowOutcome Memory). Leaves s x z) (some (of_worker m r) row q) (of-worker r (step-keeps (storage_of m x room) m.tickets m.worker table r e))
+  step-leaves room row h = row-of-step (Leaves s x) m x room row h (λ r e. of-worker r (step-keeps (storage_of m x room) m.tickets m.worker table r e))
 
 -- ---- the facts of a server that is up, or down
 

@@ -53,6 +53,15 @@ pub data Step : Type 0 where
   -- a server counts each outcome as thanked, once the clients are dismissed
   CloseClients : ServerNo → Step
 
+-- a message is handed over, or a server does one background step, perhaps with a stop
+abbrev pub handing : ℕ → Room → Option (Pick → ℕ) → Step
+handing k room None = Deliver k room
+handing k room (Some made) = StopDelivery k room made
+
+abbrev pub working : ServerNo → Room → Option (Pick → ℕ) → Step
+working s room None = Work s room
+working s room (Some made) = StopWork s room made
+
 -- ---- clients
 
 abbrev pub commanded : ClientNo → Commanded → World → World

@@ -1,6 +1,5 @@
 -- What a coordinator does with a Begin, as steps of the machine.
-use Rattle.jn_system_order.proofs.Common.{◌≡◌, ◌≢◌, ◌⊎◌, inl, inr, ◌+◌, Bool, true, false, List, [], ◌∷◌, ◌++◌, append-nil, Option, Some, None, refl, sym, ◌∙◌, ap, subst, ◌&&◌, if◌then◌else◌, length, nat_lt, nat_eq, All-nil, All-cons, ServerNo, ClientNo, Tid, Client, server_eq, client_eq, tid_eq, server_tells, tid_tells, Message, Transaction, Open, StableState, made_all, at_tid, RowOutcome, CoordinatorTable, transaction_at, after_closing, changes_of_closing, seen_now, name_from, begin_again, begun_by, begin_row, is_begun, Machine, Begun, Invariant, Atom, begin_it, run, MayRun, MayBegin, Says, run_kept, fresh_tid, at_tid_here, not_both, World, Memory, of_coordinator, UpFact, Mirrors, IsTrue, IsAddressed, AreTransactions, commits_of, knowledge_of, Closes, client-closes}
-use Rattle.jn_base.specs.declared.names.RequestNo.{RequestNo}
+use Rattle.jn_system_order.proofs.Common.{◌≡◌, ◌≢◌, ◌⊎◌, inl, inr, ◌+◌, Bool, true, false, List, [], ◌∷◌, ◌++◌, append-nil, Option, Some, None, refl, sym, ◌∙◌, ap, subst, ◌&&◌, if◌then◌else◌, length, nat_lt, nat_eq, All-nil, All-cons, ServerNo, ClientNo, Tid, Client, server_eq, client_eq, tid_eq, server_tells, tid_tells, Message, Transaction, Open, StableState, made_all, at_tid, RowOutcome, CoordinatorTable, transaction_at, after_closing, changes_of_closing, seen_now, name_from, begin_again, begun_by, begin_row, is_begun, Machine, Begun, Invariant, Atom, begin_it, run, MayRun, MayBegin, Says, run_kept, fresh_tid, at_tid_here, not_both, World, Memory, of_coordinator, UpFact, Mirrors, IsTrue, IsAddressed, AreTransactions, commits_of, knowledge_of, Closes, client-closes, RequestNo}
 use Rattle.jn_msgs.specs.declared.message.Message.TheVariants as messages
 use Rattle.jn_system.specs.SmallSteps.Steps.{Begin}
 use Rattle.jn_system.proofs.WholeSystem.CoordinatorRows.{epoch-all}

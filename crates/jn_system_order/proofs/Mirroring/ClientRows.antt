@@ -1,7 +1,5 @@
 -- What a client sends is true, and its table says what the machine does.
-use Rattle.jn_system_order.proofs.Common.{◌≡◌, ◌≢◌, ◌⊎◌, inl, inr, ℕ, ◌+◌, Bool, true, false, List, [], ◌∷◌, ◌++◌, Option, Some, None, refl, sym, ◌∙◌, ap, subst, arith, ◌&&◌, ◌||◌, if◌then◌else◌, nat_lt, ServerNo, ClientNo, Tid, WorkId, Party, Server, Answer, Command, server_eq, client_eq, tid_eq, work_eq, server_tells, tid_tells, work_tells, Message, Outcome, Text, OpenWork, Outstanding, Taken, Sent, is_work, ClientTable, Commanded, Refuses, Sends, with_operation, names_of, if_server, if_idle, if_transaction, if_no_transaction, if_open, if_not_open, command_row, is_end, opens, is_tid, is_current, if_waits, idle, over, begun_row, opened_row, answer_line, decided_row, outcome_row, take_row, sends, Machine, Says, IsWorkOf, AreWorksOf, committed_in, IsAddressed, AreOpen, IsCurrent, IsClient}
-use Rattle.jn_base.specs.Names.{request_eq, request_of, operation_of}
-use Rattle.jn_base.specs.declared.names.RequestNo.{RequestNo}
+use Rattle.jn_system_order.proofs.Common.{◌≡◌, ◌≢◌, ◌⊎◌, inl, inr, ℕ, ◌+◌, Bool, true, false, List, [], ◌∷◌, ◌++◌, Option, Some, None, refl, sym, ◌∙◌, ap, subst, arith, ◌&&◌, ◌||◌, if◌then◌else◌, nat_lt, ServerNo, ClientNo, Tid, WorkId, Party, Server, Answer, Command, server_eq, client_eq, tid_eq, work_eq, server_tells, tid_tells, work_tells, Message, Outcome, Text, OpenWork, Outstanding, Taken, Sent, is_work, ClientTable, Commanded, Refuses, Sends, with_operation, names_of, if_server, if_idle, if_transaction, if_no_transaction, if_open, if_not_open, command_row, is_end, opens, is_tid, is_current, if_waits, idle, over, begun_row, opened_row, answer_line, decided_row, outcome_row, take_row, sends, Machine, Says, IsWorkOf, AreWorksOf, committed_in, IsAddressed, AreOpen, IsCurrent, IsClient, request_eq, request_of, operation_of, RequestNo}
 use Rattle.jn_base.specs.declared.op.Answer.TheVariants as answers
 use Rattle.jn_base.specs.declared.op.Command.TheVariants.{Begin, Open, Do, End, Abort}
 use Rattle.jn_msgs.specs.declared.message.Message.TheVariants as messages

@@ -1,6 +1,5 @@
 -- The works that a grant breaks go from the machine's memory, one by one.
-use Rattle.jn_system_order.proofs.Common.{◌≡◌, ◌≢◌, ◌⊎◌, inl, inr, Bool, true, false, List, [], ◌∷◌, ◌++◌, Option, Some, None, is_some, refl, sym, ◌∙◌, ap, arith, ◌&&◌, ◌||◌, not, if◌then◌else◌, WorkId, work_eq, work_tells, Work, at_work, WorkerTable, work_at, is_work, Machine, Working, Atom, Lose, lose, run, MayRun, working_of}
-use Rattle.std.proofs.Math.Path.{fun_ext}
+use Rattle.jn_system_order.proofs.Common.{◌≡◌, ◌≢◌, ◌⊎◌, inl, inr, Bool, true, false, List, [], ◌∷◌, ◌++◌, Option, Some, None, is_some, refl, sym, ◌∙◌, ap, arith, ◌&&◌, ◌||◌, not, if◌then◌else◌, WorkId, work_eq, work_tells, Work, at_work, WorkerTable, work_at, is_work, Machine, Working, Atom, Lose, lose, run, MayRun, working_of, fun_ext}
 
 abbrev pub loses : List WorkId → List Atom
 loses [] = []

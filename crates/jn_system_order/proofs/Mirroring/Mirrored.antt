@@ -1,10 +1,9 @@
 -- Where the machine's steps do what a row does, the machine stands again where the whole system does.
-use Rattle.jn_system_order.proofs.Common.{◌≡◌, ◌≢◌, ◌⊎◌, inl, inr, ℕ, zero, suc, Bool, true, false, List, [], ◌∷◌, ◌++◌, append-nil, Option, Some, None, is_some, refl, sym, ◌∙◌, ap, subst, if◌then◌else◌, take, All, All-append, ServerNo, Tid, WorkId, server_eq, server_tells, Message, Inquire, Note, Text, Transaction, Stage, Open, Voting, Committed, Aborted, transaction_at, Work, OpenWork, Outstanding, ClientTable, StableState, Change, Pick, made_by, made_all, next_after, RowOutcome, Sent, WorkerTable, work_at, Machine, Unknown, AreParts, Says, World, Memory, at_server, commits_in, committed_in, of_worker, line_of, lines_of, done, stopped, Mirrors, IsTrue, IsAddressed, AreOpen, IsCurrent, IsOutstanding, IsClient, IsStage, IsTransaction, AreTransactions, commits_of, working_of, active_in, next_in, knowledge_of, known_in}
+use Rattle.jn_system_order.proofs.Common.{◌≡◌, ◌≢◌, ◌⊎◌, inl, inr, ℕ, zero, suc, Bool, true, false, List, [], ◌∷◌, ◌++◌, append-nil, Option, Some, None, is_some, refl, sym, ◌∙◌, ap, subst, if◌then◌else◌, take, All, All-append, ServerNo, Tid, WorkId, server_eq, server_tells, Message, Inquire, Note, Text, Transaction, Stage, Open, Voting, Committed, Aborted, transaction_at, Work, OpenWork, Outstanding, ClientTable, StableState, Change, Pick, made_by, made_all, next_after, RowOutcome, Sent, WorkerTable, work_at, Machine, Unknown, AreParts, Says, World, Memory, at_server, commits_in, committed_in, of_worker, line_of, lines_of, done, stopped, Mirrors, IsTrue, IsAddressed, AreOpen, IsCurrent, IsOutstanding, IsClient, IsStage, IsTransaction, AreTransactions, commits_of, working_of, active_in, next_in, knowledge_of, known_in, crash}
 use Rattle.jn_msgs.specs.declared.message.Message.TheVariants as messages
 use Rattle.jn_msgs.specs.declared.message.Outcome.TheVariants as outcomes
 use Rattle.jn_msgs.specs.declared.message.Note.TheVariants as notes
 use Rattle.jn_report.specs.declared.line.Text.TheVariants as says
-use Rattle.jn_system.specs.SmallSteps.Steps.{crash}
 
 -- what the machine's steps have changed at the server of a worker's row
 pub record DoesRow (s : ServerNo) (m : Memory) (row : RowOutcome WorkerTable) (w v : Machine) : Type 0 where

@@ -1,6 +1,5 @@
 -- Rows that change no stable state and no active work, and the opening of a work, as steps of the machine.
-use Rattle.jn_system_order.proofs.Common.{◌≡◌, ◌≢◌, ◌⊎◌, inl, inr, ℕ, zero, suc, ◌+◌, Bool, true, false, List, [], ◌∷◌, ◌++◌, Some, is_some, refl, sym, ◌∙◌, ap, subst, if◌then◌else◌, take, All, All-nil, All-cons, ServerNo, ClientNo, Tid, WorkId, Client, server_eq, work_eq, server_tells, work_tells, Message, Note, Work, Phase, StableState, Pick, at_work, made_all, RowOutcome, Sent, WorkerTable, work_at, with_phase, new_work, at-more, at-phase, in_phase, work_is, Machine, Atom, open_work, run, MayRun, Says, World, Memory, UpFact, of_worker, Mirrors, IsTrue, IsAddressed, working_of, working_in, next_in}
-use Rattle.jn_base.specs.declared.names.RequestNo.{RequestNo}
+use Rattle.jn_system_order.proofs.Common.{◌≡◌, ◌≢◌, ◌⊎◌, inl, inr, ℕ, zero, suc, ◌+◌, Bool, true, false, List, [], ◌∷◌, ◌++◌, Some, is_some, refl, sym, ◌∙◌, ap, subst, if◌then◌else◌, take, All, All-nil, All-cons, ServerNo, ClientNo, Tid, WorkId, Client, server_eq, work_eq, server_tells, work_tells, Message, Note, Work, Phase, StableState, Pick, at_work, made_all, RowOutcome, Sent, WorkerTable, work_at, with_phase, new_work, at-more, at-phase, in_phase, work_is, Machine, Atom, open_work, run, MayRun, Says, World, Memory, UpFact, of_worker, Mirrors, IsTrue, IsAddressed, working_of, working_in, next_in, RequestNo}
 use Rattle.jn_msgs.specs.declared.message.Message.TheVariants as messages
 use Rattle.jn_rows.specs.Worker.{name_from}
 use Rattle.jn_system.specs.SmallSteps.Steps.{Open}

@@ -1,7 +1,5 @@
 -- What a worker does with an Open, an Op and a Prepare, as steps of the machine.
-use Rattle.jn_system_order.proofs.Common.{◌≡◌, ◌≢◌, ◌⊎◌, inl, inr, ◌+◌, Bool, true, false, List, [], ◌∷◌, Option, Some, None, is_some, refl, sym, ◌∙◌, ap, subst, arith, if◌then◌else◌, nat_lt, nat_eq, length, All, All-nil, All-cons, ServerNo, ClientNo, Tid, WorkId, Client, Server, Op, Answer, work_eq, tid_tells, work_tells, change, answer_to, list_change, length_with, Message, Vote, Work, Phase, Active, Broken, Stored, ActiveWork, StableState, stable, is_going, at_work, RowOutcome, Sent, WorkerTable, Held, work_at, work_of, wants_of, is_fit, units_for, with_units, granted_row, refusal_of, past_limit, conflict, counted, repeated, by_number, op_phase, op_row, open_row, commit_wants, vote_of, shortage, need_in, prepared_row, prepare_phase, prepare_row, Read, Machine, PartFact, Atom, NoteReady, run, MayRun, Says, IsPartOf, found-name, World, Memory, Room, storage_of, UpFact, IsSoundWork, IsSoundPrepared, Mirrors, IsTrue, IsAddressed, working_in, next_in, by-name, of-found, no-lock}
-use Rattle.jn_base.specs.declared.names.OperationNo.{OperationNo}
-use Rattle.jn_base.specs.declared.names.RequestNo.{RequestNo}
+use Rattle.jn_system_order.proofs.Common.{◌≡◌, ◌≢◌, ◌⊎◌, inl, inr, ◌+◌, Bool, true, false, List, [], ◌∷◌, Option, Some, None, is_some, refl, sym, ◌∙◌, ap, subst, arith, if◌then◌else◌, nat_lt, nat_eq, length, All, All-nil, All-cons, ServerNo, ClientNo, Tid, WorkId, Client, Server, Op, Answer, work_eq, tid_tells, work_tells, change, answer_to, list_change, length_with, Message, Vote, Work, Phase, Active, Broken, Stored, ActiveWork, StableState, stable, is_going, at_work, RowOutcome, Sent, WorkerTable, Held, work_at, work_of, wants_of, is_fit, units_for, with_units, granted_row, refusal_of, past_limit, conflict, counted, repeated, by_number, op_phase, op_row, open_row, commit_wants, vote_of, shortage, need_in, prepared_row, prepare_phase, prepare_row, Read, Machine, PartFact, Atom, NoteReady, run, MayRun, Says, IsPartOf, found-name, World, Memory, Room, storage_of, UpFact, IsSoundWork, IsSoundPrepared, Mirrors, IsTrue, IsAddressed, working_in, next_in, by-name, of-found, no-lock, OperationNo, RequestNo}
 use Rattle.jn_msgs.specs.declared.message.Message.TheVariants as messages
 use Rattle.jn_msgs.specs.declared.message.Vote.TheVariants as votes
 use Rattle.jn_rows.specs.declared.worker.PreparedWork.{PreparedWork}

@@ -1,7 +1,5 @@
 -- No row of a worker says that a transaction has committed.
-use Rattle.jn_system_order.proofs.Common.{◌≡◌, Bool, true, false, List, [], ◌∷◌, ◌++◌, Option, Some, None, refl, subst, if◌then◌else◌, nat_lt, nat_eq, ◌+◌, length, slice_get, ClientNo, Tid, WorkId, LockUnit, Tickets, Op, Answer, Files, change, answer_to, list_change, Intention, Message, Vote, Work, Phase, Active, Broken, Stored, ActiveWork, is_going, RowOutcome, WorkerTable, WorkStorage, Wanted, work_at, work_of, breaks_at, note_of, break_notes, open_row, wants_of, is_fit, refusal_of, granted_row, repeated, op_phase, op_row, conflict, commit_wants, vote_of, shortage, need_in, prepared_row, prepare_phase, prepare_row, commit_phase, drop_phase, drop_row, worker_row, going_work, intentions_of, carried_row, going_row, worker_step}
-use Rattle.jn_base.specs.declared.names.OperationNo.{OperationNo}
-use Rattle.jn_base.specs.declared.names.RequestNo.{RequestNo}
+use Rattle.jn_system_order.proofs.Common.{◌≡◌, Bool, true, false, List, [], ◌∷◌, ◌++◌, Option, Some, None, refl, subst, if◌then◌else◌, nat_lt, nat_eq, ◌+◌, length, slice_get, ClientNo, Tid, WorkId, LockUnit, Tickets, Op, Answer, Files, change, answer_to, list_change, Intention, Message, Vote, Work, Phase, Active, Broken, Stored, ActiveWork, is_going, RowOutcome, WorkerTable, WorkStorage, Wanted, work_at, work_of, breaks_at, note_of, break_notes, open_row, wants_of, is_fit, refusal_of, granted_row, repeated, op_phase, op_row, conflict, commit_wants, vote_of, shortage, need_in, prepared_row, prepare_phase, prepare_row, commit_phase, drop_phase, drop_row, worker_row, going_work, intentions_of, carried_row, going_row, worker_step, OperationNo, RequestNo}
 use Rattle.jn_msgs.specs.declared.message.Message.TheVariants as messages
 use Rattle.jn_msgs.specs.declared.message.Vote.TheVariants as votes
 use Rattle.jn_rows.specs.Worker.{commit_row}

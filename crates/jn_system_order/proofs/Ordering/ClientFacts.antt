@@ -1,7 +1,5 @@
 -- A client's steps keep what holds of the openings and of its requests.
-use Rattle.jn_system_order.proofs.Common.{◌≡◌, ◌≢◌, ◌⊎◌, inl, inr, ◌<◌, ℕ, ◌+◌, Bool, true, false, List, [], ◌∷◌, Option, Some, None, refl, sym, ◌∙◌, ap, subst, arith, ◌&&◌, if◌then◌else◌, nat_lt, All, nat_tests, All-nil, All-cons, ServerNo, ClientNo, Tid, WorkId, Party, Client, Command, client_eq, client_tells, Message, Outcome, Text, OpenWork, Outstanding, Taken, Sent, ClientTable, Commanded, Refuses, Sends, with_operation, if_server, if_idle, if_transaction, if_no_transaction, if_open, if_not_open, command_row, is_begin, is_operation, is_end_or_abort, opens, is_current, if_waits, idle, over, begun_row, opened_row, decided_row, outcome_row, take_row, sends, not_both, false_unless}
-use Rattle.jn_base.specs.Names.{request_eq, request_of}
-use Rattle.jn_base.specs.declared.names.RequestNo.{RequestNo}
+use Rattle.jn_system_order.proofs.Common.{◌≡◌, ◌≢◌, ◌⊎◌, inl, inr, ◌<◌, ℕ, ◌+◌, Bool, true, false, List, [], ◌∷◌, Option, Some, None, refl, sym, ◌∙◌, ap, subst, arith, ◌&&◌, if◌then◌else◌, nat_lt, All, nat_tests, All-nil, All-cons, ServerNo, ClientNo, Tid, WorkId, Party, Client, Command, client_eq, client_tells, Message, Outcome, Text, OpenWork, Outstanding, Taken, Sent, ClientTable, Commanded, Refuses, Sends, with_operation, if_server, if_idle, if_transaction, if_no_transaction, if_open, if_not_open, command_row, is_begin, is_operation, is_end_or_abort, opens, is_current, if_waits, idle, over, begun_row, opened_row, decided_row, outcome_row, take_row, sends, not_both, false_unless, request_eq, request_of, RequestNo}
 use Rattle.jn_base.specs.declared.op.Command.TheVariants.{Begin, Open, Do, End, Abort}
 use Rattle.jn_msgs.specs.declared.message.Message.TheVariants as messages
 use Rattle.jn_msgs.specs.declared.message.Outcome.TheVariants as outcomes

@@ -1,17 +1,14 @@
 -- A client's steps: what holds of the openings stays, and an End is a step of the machine.
-use Rattle.jn_system_order.proofs.Common.{◌≡◌, ◌≢◌, ◌⊎◌, inl, inr, ◌<◌, ℕ, ◌+◌, Bool, true, false, List, [], ◌∷◌, ◌++◌, append-nil, Option, Some, None, refl, sym, ◌∙◌, ap, subst, arith, ◌||◌, if◌then◌else◌, slice_get, All-nil, All-cons, All-append, ServerNo, ClientNo, Tid, WorkId, Client, Server, Command, server_eq, client_eq, tid_eq, work_eq, server_tells, client_tells, tid_tells, work_tells, Message, OpenWork, Outstanding, Taken, Sent, is_work, ClientTable, Commanded, Refuses, Sends, names_of, if_idle, if_transaction, command_row, take_row, sends, is_begin, sent_again, Machine, Invariant, Atom, Ends, end_it, run, MayRun, MayEnd, Says, IsWorkOf, at_tid_here, at_tid_other, at_tid_cases, World, at_client, commanded, tell, again, sent_now, took, taken_by, dismiss, Mirrors, IsTrue, IsAddressed, AreOpen, IsCurrent, IsClient}
-use Rattle.jn_base.specs.Names.{request_of}
-use Rattle.jn_base.specs.declared.names.RequestNo.{RequestNo}
+use Rattle.jn_system_order.proofs.Common.{Step, Text, ◌≡◌, ◌≢◌, ◌⊎◌, inl, inr, ◌<◌, ℕ, ◌+◌, Bool, true, false, List, [], ◌∷◌, ◌++◌, append-nil, Option, Some, None, refl, sym, ◌∙◌, ap, subst, arith, ◌||◌, if◌then◌else◌, slice_get, All-nil, All-cons, All-append, ServerNo, ClientNo, Tid, WorkId, Client, Server, server_eq, tid_eq, work_eq, server_tells, tid_tells, work_tells, Message, OpenWork, Outstanding, Taken, Sent, is_work, ClientTable, Refuses, Sends, names_of, if_idle, if_transaction, take_row, sends, is_begin, sent_again, Machine, Invariant, Atom, Ends, end_it, run, MayRun, MayEnd, Says, IsWorkOf, at_tid_here, at_tid_other, at_tid_cases, World, at_client, commanded, tell, again, sent_now, dismiss, Mirrors, IsTrue, IsAddressed, AreOpen, IsCurrent, IsClient, request_of, RequestNo, one-client, ClientRow, by_command, by_ignoring, by_answering, by_telling}
 use Rattle.jn_base.specs.declared.op.Command.TheVariants.{Open, End}
 use Rattle.jn_msgs.specs.declared.message.Message.TheVariants as messages
 use Rattle.jn_report.specs.declared.line.Refusal.{Refusal}
 use Rattle.jn_report.specs.declared.line.Refusal.TheVariants as refusals
 use Rattle.jn_report.specs.declared.line.Text.TheVariants as says
-use Rattle.jn_rows.specs.declared.client.Taken.TheVariants as taken
 use Rattle.jn_rows.specs.Client.{work_at}
 use Rattle.jn_system_order.proofs.Mirroring.Mirrored.{All-grows, client-still}
 use Rattle.jn_system_order.proofs.Mirroring.ClientRows.{found-open, Tells, sends-it}
-use Rattle.jn_system_order.proofs.Mirroring.ClientMoves.{quiet-line, mirrors-still, at-one, stays-with}
+use Rattle.jn_system_order.proofs.Mirroring.ClientMoves.{mirrors-still, at-one, line-moves}
 use Rattle.jn_system_order.proofs.Mirroring.StepMoves.{holds-of}
 use Rattle.jn_system_order.proofs.Ordering.Openings.{Opening, opening_in, openings, openings-more, Has, HaveOpenings}
 use Rattle.jn_system_order.proofs.Ordering.Facts.{opening, is_closing, Began, IsRunning, Facts}
@@ -37,8 +34,12 @@ pub record Next (r : World) (w : Machine) : Type 0 where
   -- what has ended was so, or ends now
   pub ends : (T : Tid) → (run atoms w).ended T ≡ true → (w.ended T ≡ true) ⊎ EndsNow r (run atoms w) T
 
-abbrev IsOther : ClientNo → ClientNo → Type 0
-IsOther c d = ((client_eq c d ≡ true) × (c ≡ d)) ⊎ ((client_eq c d ≡ false) × (c ≢ d))
+-- a client's requests don't fall, so those of each opening stay below what is next
+still-drawn : (clients : ClientNo → ClientTable) (c : ClientNo) (u : ClientTable) → ((n : ℕ) → n < (clients c).next → n < u.next) → (a : Opening) → a.request.0 < (clients a.client).next → a.request.0 < (at_client clients c u a.client).next
+still-drawn clients c u more a h = one-client (λ (d : ClientNo) (t : ClientTable). a.client ≡ d → a.request.0 < t.next) clients c u (λ e. more a.request.0 (at e)) (λ d ne e. at e) a.client refl
+  where
+    at : {d : ClientNo} → a.client ≡ d → a.request.0 < (clients d).next
+    at e = subst (λ (z : ClientNo). a.request.0 < (clients z).next) e h
 
 -- one client changes, and sends nothing that opens
 client-keeps : (r r' : World) (w v : Machine) → Facts r w → (c : ClientNo) (u : ClientTable) → r'.memory ≡ r.memory → r'.clients ≡ at_client r.clients c u → openings r'.sent ≡ openings r.sent
@@ -48,13 +49,9 @@ client-keeps r r' w v facts c u memory clients sent own others drawn begun = rec
   unique = subst (λ l. (a b : Opening) → Has a l → Has b l → a.tid ≡ b.tid → a ≡ b) (sym sent) facts.unique;
   tables = λ s m e. subst (λ l. HaveOpenings l m.coordinator.transactions) (sym sent) (facts.tables s m (ap (λ f. f s) (sym memory) ∙ e));
   drawn = λ a h e. subst (λ f. a.request.0 < (f a.client).next) (sym clients) (drawn a (subst (λ l. Has a l) sent h) e);
-  clients = λ d. subst (λ l. IsRunning l v.ended d (r'.clients d)) (sym sent) (subst (λ f. IsRunning (openings r.sent) v.ended d (f d)) (sym clients) (each d (client_tells c d)));
+  clients = λ d. subst (λ l. IsRunning l v.ended d (r'.clients d)) (sym sent) (subst (λ f. IsRunning (openings r.sent) v.ended d (f d)) (sym clients) (one-client (IsRunning (openings r.sent) v.ended) r.clients c u own others d));
   begun = begun;
 }
-  where
-    each : (d : ClientNo) → IsOther c d → IsRunning (openings r.sent) v.ended d (at_client r.clients c u d)
-    each d (inl p) = subst (λ (b : Bool). IsRunning (openings r.sent) v.ended d (if b then u else r.clients d)) (sym p.0) (subst (λ (z : ClientNo). IsRunning (openings r.sent) v.ended z u) p.1 own)
-    each d (inr p) = subst (λ (b : Bool). IsRunning (openings r.sent) v.ended d (if b then u else r.clients d)) (sym p.0) (others d p.1)
 
 quiet-more : (sent : List Sent) (x : Sent) → opening_in x ≡ [] → openings (sent ++ x ∷ []) ≡ openings sent
 quiet-more sent x e = openings-more sent (x ∷ []) ∙ ap (λ l. openings sent ++ (l ++ [])) e ∙ append-nil (openings sent)
@@ -64,21 +61,10 @@ module _ (r : World) (w v : Machine) (mirrors : Mirrors r w) (facts : Facts r w)
   own-drawn c T q h e = facts.drawn (opening c q T) h e
 
   -- its requests don't fall
-  one-client : (c : ClientNo) (u : ClientTable) (r' : World) → r'.memory ≡ r.memory → r'.clients ≡ at_client r.clients c u → openings r'.sent ≡ openings r.sent → IsRunning (openings r.sent) w.ended c u → ((n : ℕ) → n < (r.clients c).next → n < u.next) → Facts r' v
-  one-client c u r' memory clients sent own more = client-keeps r r' w v facts c u memory clients sent (subst (λ f. IsRunning (openings r.sent) f c u) (sym ended) own)
-      (λ d ne. subst (λ f. IsRunning (openings r.sent) f d (r.clients d)) (sym ended) (facts.clients d)) (λ a h e. by a (client_tells c a.client) (facts.drawn a h (subst (λ f. f a.tid ≡ true) ended e)))
+  client-changes : (c : ClientNo) (u : ClientTable) (r' : World) → r'.memory ≡ r.memory → r'.clients ≡ at_client r.clients c u → openings r'.sent ≡ openings r.sent → IsRunning (openings r.sent) w.ended c u → ((n : ℕ) → n < (r.clients c).next → n < u.next) → Facts r' v
+  client-changes c u r' memory clients sent own more = client-keeps r r' w v facts c u memory clients sent (subst (λ f. IsRunning (openings r.sent) f c u) (sym ended) own)
+      (λ d ne. subst (λ f. IsRunning (openings r.sent) f d (r.clients d)) (sym ended) (facts.clients d)) (λ a h e. still-drawn r.clients c u more a (facts.drawn a h (subst (λ f. f a.tid ≡ true) ended e)))
       (λ T e. grow T (facts.begun T (subst (λ f. f T ≡ true) ended e)))
-    where
-      by : (a : Opening) → IsOther c a.client → a.request.0 < (r.clients a.client).next → a.request.0 < (at_client r.clients c u a.client).next
-      by a (inl p) h = subst (λ (b : Bool). a.request.0 < (if b then u else r.clients a.client).next) (sym p.0) (more a.request.0 (subst (λ (z : ClientNo). a.request.0 < (r.clients z).next) (sym p.1) h))
-      by a (inr p) h = subst (λ (b : Bool). a.request.0 < (if b then u else r.clients a.client).next) (sym p.0) h
-
-  commanded-facts : (c : ClientNo) (row : Commanded) → CommandFacts (openings r.sent) w.ended c (r.clients c) (facts.clients c) (own-drawn c) row → Facts (commanded c row r) v
-  commanded-facts c (Refuses refusal) k = still-facts r w v mirrors facts inv ended grow _ refl refl facts.tables
-  commanded-facts c (Sends u to message) k = one-client c u _ refl refl (quiet-more r.sent (to, message) k.1) k.0 (λ n l. subst (λ z. n < z) (sym k.2) (below n (r.clients c).next l))
-
-  pub tell-facts : (c : ClientNo) (command : Command) → Facts (tell c command r) v
-  tell-facts c command = commanded-facts c (command_row (r.clients c) r.event command) (command-facts (openings r.sent) w.ended c (r.clients c) (facts.clients c) (own-drawn c) r.event command)
 
   pub again-facts : (c : ClientNo) → Facts (again c r) v
   again-facts c = still-facts r w v mirrors facts inv ended grow _ refl (by (r.clients c).outstanding refl) facts.tables
@@ -87,16 +73,18 @@ module _ (r : World) (w v : Machine) (mirrors : Mirrors r w) (facts : Facts r w)
       by None e = ap openings (append-nil r.sent)
       by (Some o) e = quiet-more r.sent (o.to, o.message) ((facts.clients c).waits o e).quiet
 
-  took-facts : (c : ClientNo) (k : ℕ) (u : ClientTable) (what : Taken) → TakeFacts (openings r.sent) w.ended c (r.clients c) (facts.clients c) (own-drawn c) (u, what) → Facts (took c k u what r) v
-  took-facts c k u taken.Ignored h = one-client c u _ refl refl refl h.0 (λ n l. subst (λ z. n < z) (sym h.1) l)
-  took-facts c k u (taken.Send to message) h = one-client c u _ refl refl (quiet-more r.sent (to, message) h.2) h.0 (λ n l. subst (λ z. n < z) (sym h.1) l)
-  took-facts c k u (taken.Told line None) h = one-client c u _ refl refl (ap openings (append-nil r.sent)) h.0 (λ n l. subst (λ z. n < z) (sym h.1) l)
-  took-facts c k u (taken.Told line (Some sent)) h = one-client c u _ refl refl (quiet-more r.sent sent h.2) h.0 (λ n l. subst (λ z. n < z) (sym h.1) l)
+  so-takes : (c : ClientNo) (k : ℕ) (message : Message) (row : ClientTable × Taken) → slice_get r.sent k ≡ Some (Client c, message) → take_row (r.clients c) message ≡ row → TakeFacts (openings r.sent) w.ended c (r.clients c) (facts.clients c) (own-drawn c) row
+  so-takes c k message row is e = subst (TakeFacts (openings r.sent) w.ended c (r.clients c) (facts.clients c) (own-drawn c)) e (take-facts (openings r.sent) w.ended c (r.clients c) (facts.clients c) (own-drawn c) message
+      (holds-of (λ (x : Sent). (a : Opening) → Has a (opening_in x) → Has a (openings r.sent)) r.sent k (Client c, message) (all-have-theirs r.sent) is))
 
-  pub taken-facts : (c : ClientNo) (k : ℕ) (message : Message) → slice_get r.sent k ≡ Some (Client c, message) → Facts (taken_by c k (take_row (r.clients c) message) r) v
-  taken-facts c k message e = let row = take_row (r.clients c) message in
-      took-facts c k row.0 row.1 (take-facts (openings r.sent) w.ended c (r.clients c) (facts.clients c) (own-drawn c) message
-      (holds-of (λ (x : Sent). (a : Opening) → Has a (opening_in x) → Has a (openings r.sent)) r.sent k (Client c, message) (all-have-theirs r.sent) e))
+  pub row-facts : (c : ClientNo) (step : Step) (u : ClientTable) (sent : List Sent) (lines : List Text) → ClientRow r c step u sent lines → Facts (record r { clients = at_client r.clients c u; sent = sent; lines = lines }) v
+  row-facts c _ _ _ _ (by_command command u to message e) =
+      let k = subst (CommandFacts (openings r.sent) w.ended c (r.clients c) (facts.clients c) (own-drawn c)) e (command-facts (openings r.sent) w.ended c (r.clients c) (facts.clients c) (own-drawn c) r.event command) in
+      client-changes c u _ refl refl (quiet-more r.sent (to, message) k.1) k.0 (λ n l. subst (λ z. n < z) (sym k.2) (below n (r.clients c).next l))
+  row-facts c _ _ _ _ (by_ignoring k room stop message u is e) = let h = so-takes c k message _ is e in client-changes c u _ refl refl refl h.0 (λ n l. subst (λ z. n < z) (sym h.1) l)
+  row-facts c _ _ _ _ (by_answering k room stop message u to answer is e) = let h = so-takes c k message _ is e in client-changes c u _ refl refl (quiet-more r.sent (to, answer) h.2) h.0 (λ n l. subst (λ z. n < z) (sym h.1) l)
+  row-facts c _ _ _ _ (by_telling k room stop message u line None is e) = let h = so-takes c k message _ is e in client-changes c u _ refl refl (ap openings (append-nil r.sent)) h.0 (λ n l. subst (λ z. n < z) (sym h.1) l)
+  row-facts c _ _ _ _ (by_telling k room stop message u line (Some sent) is e) = let h = so-takes c k message _ is e in client-changes c u _ refl refl (quiet-more r.sent sent h.2) h.0 (λ n l. subst (λ z. n < z) (sym h.1) l)
 
   pub dismiss-facts : Facts (dismiss r) v
   dismiss-facts = record {
@@ -183,7 +171,7 @@ module _ (r : World) (w : Machine) (mirrors : Mirrors r w) (facts : Facts r w) (
 
   -- a refusal
   refused : (refusal : Refusal) → Next (commanded c (Refuses refusal) r) w
-  refused refusal = let m = stays-with r w mirrors grow r.clients mirrors.clients r.sent mirrors.says mirrors.addressed (r.lines ++ says.Refused c r.event refusal ∷ []) (quiet-line r.lines (says.Refused c r.event refusal) refl) in record {
+  refused refusal = let m = line-moves r w mirrors grow (says.Refused c r.event refusal) refl in record {
     atoms = m.atoms;
     may = m.may;
     mirrors = m.mirrors;
@@ -291,13 +279,12 @@ module _ (r : World) (w : Machine) (mirrors : Mirrors r w) (facts : Facts r w) (
     drawn : (a : Opening) → Has a (openings r.sent) → v.ended a.tid ≡ true → a.request.0 < (at_client r.clients c u a.client).next
     drawn a h e = by (tid_tells T a.tid)
       where
-        same : IsOther c a.client → a.request.0 < (r.clients a.client).next → a.request.0 < (at_client r.clients c u a.client).next
-        same (inl p) k = subst (λ (b : Bool). a.request.0 < (if b then u else r.clients a.client).next) (sym p.0) (below a.request.0 t.next (subst (λ (z : ClientNo). a.request.0 < (r.clients z).next) (sym p.1) k))
-        same (inr p) k = subst (λ (b : Bool). a.request.0 < (if b then u else r.clients a.client).next) (sym p.0) k
+        same : a.request.0 < (r.clients a.client).next → a.request.0 < (at_client r.clients c u a.client).next
+        same = still-drawn r.clients c u (λ n. below n t.next) a
 
         by : ((tid_eq T a.tid ≡ true) × (T ≡ a.tid)) ⊎ ((tid_eq T a.tid ≡ false) × (T ≢ a.tid)) → a.request.0 < (at_client r.clients c u a.client).next
-        by (inl p) = same (client_tells c a.client) (subst (λ (z : Opening). z.request.0 < (r.clients z.client).next) (facts.unique (opening c began.request T) a began.has h p.1) began.drawn)
-        by (inr p) = same (client_tells c a.client) (facts.drawn a h (sym (at_tid_other w.ended T true a.tid p.1) ∙ e))
+        by (inl p) = same (subst (λ (z : Opening). z.request.0 < (r.clients z.client).next) (facts.unique (opening c began.request T) a began.has h p.1) began.drawn)
+        by (inr p) = same (facts.drawn a h (sym (at_tid_other w.ended T true a.tid p.1) ∙ e))
 
     begun-still : (U : Tid) → v.ended U ≡ true → v.begun U ≡ true
     begun-still U e = by (at_tid_cases w.ended T true U true e)
@@ -315,16 +302,15 @@ module _ (r : World) (w : Machine) (mirrors : Mirrors r w) (facts : Facts r w) (
     pub end-facts : Facts (commanded c (Sends u (Server T.server) message) r) (end_it T (parts_of t.works) w)
     end-facts = client-keeps r _ w v facts c u refl refl (quiet-more r.sent (Server T.server, message) refl) own others drawn begun-still
 
-    own-table : IsOther c c → at_client r.clients c u c ≡ u
-    own-table (inl p) = ap (λ (b : Bool). if b then u else r.clients c) p.0
-    own-table (inr p) = absurd (p.1 refl)
+    own-table : at_client r.clients c u c ≡ u
+    own-table = one-client (λ (d : ClientNo) (z : ClientTable). c ≡ d → z ≡ u) r.clients c u (λ e. refl) (λ d ne e. absurd (ne e)) c refl
 
     its-end : EndsNow (commanded c (Sends u (Server T.server) message) r) v T
     its-end = record {
       client = c;
-      current = ap (λ (z : ClientTable). z.transaction) (own-table (client_tells c c)) ∙ its;
-      parts = λ W h. end-says.2.each W (subst (λ (z : ClientTable). is_work W (names_of z.works) ≡ true) (own-table (client_tells c c)) h);
-      all = λ q W h. subst (λ (z : ClientTable). is_work W (names_of z.works) ≡ true) (sym (own-table (client_tells c c))) (end-says.2.all q W h);
+      current = ap (λ (z : ClientTable). z.transaction) own-table ∙ its;
+      parts = λ W h. end-says.2.each W (subst (λ (z : ClientTable). is_work W (names_of z.works) ≡ true) own-table h);
+      all = λ q W h. subst (λ (z : ClientTable). is_work W (names_of z.works) ≡ true) (sym own-table) (end-says.2.all q W h);
     }
 
     ends-now : (U : Tid) → ((T ≡ U) × (true ≡ true)) ⊎ ((T ≢ U) × (w.ended U ≡ true)) → (w.ended U ≡ true) ⊎ EndsNow (commanded c (Sends u (Server T.server) message) r) v U

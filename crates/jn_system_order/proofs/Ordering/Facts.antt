@@ -1,6 +1,5 @@
 -- What holds of the openings, the clients and the ends between any two steps.
-use Rattle.jn_system_order.proofs.Common.{◌≡◌, ◌⊎◌, inl, inr, ◌<◌, ℕ, Bool, true, false, List, [], ◌∷◌, Option, Some, None, sym, ◌∙◌, ap, subst, All, All-head, All-tail, ServerNo, ClientNo, Tid, Outstanding, Sent, ClientTable, is_begin, is_end_or_abort, Machine, not_both, false_unless, World, Memory, Mirrors, IsTrue}
-use Rattle.jn_base.specs.declared.names.RequestNo.{RequestNo}
+use Rattle.jn_system_order.proofs.Common.{◌≡◌, ◌⊎◌, inl, inr, ◌<◌, ℕ, Bool, true, false, List, [], ◌∷◌, Option, Some, None, sym, ◌∙◌, ap, subst, All, All-head, All-tail, ServerNo, ClientNo, Tid, Outstanding, Sent, ClientTable, is_begin, is_end_or_abort, Machine, not_both, false_unless, World, Memory, Mirrors, IsTrue, RequestNo}
 use Rattle.jn_msgs.specs.declared.message.Message.TheVariants as messages
 use Rattle.jn_system_order.proofs.Ordering.Openings.{Opening, opening_in, openings, Has, has-either, HaveOpenings}
 

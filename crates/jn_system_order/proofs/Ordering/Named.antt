@@ -1,12 +1,12 @@
 -- Each step keeps that a client is told of a commit only once its line was told.
-use Rattle.jn_system_order.proofs.Common.{◌≡◌, ℕ, ◌+◌, Bool, true, false, List, [], ◌∷◌, ◌++◌, append-nil, Option, Some, None, refl, sym, ◌∙◌, ap, subst, if◌then◌else◌, slice_get, ServerNo, ClientNo, Tid, WorkId, Client, Server, Answer, client_eq, Message, Note, Outcome, Text, Outstanding, Taken, Pick, stable, RowOutcome, Sent, ClientTable, Commanded, Refuses, Sends, command_row, take_row, if_waits, is_current, begun_row, opened_row, answer_line, decided_row, outcome_row, Machine, Says, OutcomeSays, World, Memory, has_line, Room, server_row, server_step, line_of, lines_of, named_now, Step, NextEvent, Tell, Again, Deliver, Nudge, Timeout, StopDelivery, StopWork, Crash, Narrow, StopRestart, Restart, Dismiss, CloseClients, commanded, took, ends, at_memory, handed, works, work, nudge, timeout, crash, narrow, stop_restart, restart, close_clients, Mirrors, IsTrue, IsNamedBefore, AreNamed}
+use Rattle.jn_system_order.proofs.Common.{◌≡◌, ℕ, ◌+◌, Bool, true, false, List, [], ◌∷◌, ◌++◌, append-nil, Option, Some, None, refl, sym, ◌∙◌, ap, subst, if◌then◌else◌, ServerNo, ClientNo, Tid, WorkId, Client, Answer, client_eq, Message, Note, Outcome, Text, Outstanding, Taken, StableState, Pick, Sent, ClientTable, take_row, if_waits, is_current, begun_row, opened_row, answer_line, decided_row, outcome_row, Machine, Says, OutcomeSays, World, has_line, line_of, lines_of, named_now, Step, Mirrors, IsTrue, IsNamedBefore, AreNamed, ClientRow, by_command, by_ignoring, by_answering, by_telling, FoundThen, by_narrowing, by_raising, Quiet, is_refused, is_lost, StepCase, client_row, row_done, row_stopped, gone_late, gone_down, come_up, found_anew, dismissed, quietly, step-case}
 use Rattle.jn_base.specs.declared.op.Answer.TheVariants as answers
 use Rattle.jn_msgs.specs.declared.message.Message.TheVariants as messages
 use Rattle.jn_msgs.specs.declared.message.Note.TheVariants as notes
 use Rattle.jn_msgs.specs.declared.message.Outcome.TheVariants as outcomes
 use Rattle.jn_report.specs.declared.line.Text.TheVariants as says
 use Rattle.jn_rows.specs.declared.client.Taken.TheVariants as taken
-use Rattle.jn_system.specs.WholeSystem.Steps.{Work, after}
+use Rattle.jn_system.specs.WholeSystem.Steps.{after}
 use Rattle.jn_system_order.proofs.Mirroring.StepMoves.{holds-of}
 
 append-append : (a b c : List Text) → (a ++ b) ++ c ≡ a ++ (b ++ c)
@@ -121,78 +121,32 @@ module _ (r : World) (w : Machine) (mirrors : Mirrors r w) (named : (T : Tid) �
   plainly : (texts : List Text) → ArePlain texts → AreNamed [] (r.lines ++ texts)
   plainly texts h = named-more [] r.lines texts names (plain-named r.lines texts h)
 
-  commanded-names : (c : ClientNo) (row : Commanded) → AreNamed [] (commanded c row r).lines
-  commanded-names c (Refuses refusal) = plainly _ (tt, tt)
-  commanded-names c (Sends t to message) = names
+  client-names : (c : ClientNo) (step : Step) (t : ClientTable) (sent : List Sent) (lines : List Text) → ClientRow r c step t sent lines → AreNamed [] lines
+  client-names c _ _ _ _ (by_command command t to message e) = names
+  client-names c _ _ _ _ (by_ignoring k room stop message t is e) = plainly _ (tt, tt)
+  client-names c _ _ _ _ (by_answering k room stop message t to answer is e) = names
+  client-names c _ _ _ _ (by_telling k room stop message t line answer is e) = named-more [] r.lines (line ∷ []) names
+      (subst (λ row. RowNamed w r.lines named (r.clients c) row) e (takes-named w r.lines named (r.clients c) message (holds-of (IsTrue w) r.sent k (Client c, message) mirrors.says is)), tt)
 
-  took-names : (c : ClientNo) (k : ℕ) (t u : ClientTable) (what : Taken) → TellsNamed w r.lines named t what → AreNamed [] (took c k u what r).lines
-  took-names c k t u taken.Ignored h = plainly _ (tt, tt)
-  took-names c k t u (taken.Send to message) h = names
-  took-names c k t u (taken.Told line answer) h = named-more [] r.lines (line ∷ []) names (h, tt)
+  found-names : (s : ServerNo) (step : Step) (found : Pick → StableState) (lines : List Text) → FoundThen r s step found lines → AreNamed [] lines
+  found-names s _ _ _ (by_narrowing g) = names
+  found-names s _ _ _ (by_raising raise) = plainly _ (tt, tt)
 
-  ends-names : (s : ServerNo) (k : Option ℕ) (stop : Option (Pick → ℕ)) (row : RowOutcome Memory) → AreNamed [] (ends s k stop row r).lines
-  ends-names s k None row = plainly (lines_of s k row.notes) (lines-plain s k row.notes)
-  ends-names s k (Some made) row = plainly _ (tt, tt)
+  quiet-names : (step : Step) (event : ℕ) (sent : List Sent) (lines : List Text) → Quiet r step event sent lines → AreNamed [] lines
+  quiet-names _ _ _ _ (is_refused c command refusal e) = plainly _ (tt, tt)
+  quiet-names _ _ _ _ (is_lost k room stop s message is e) = plainly _ (tt, tt)
+  quiet-names _ _ _ _ _ = names
 
-  memory-names : (s : ServerNo) (k : ℕ) (room : Room) (stop : Option (Pick → ℕ)) (message : Message) (o : Option Memory) → AreNamed [] (at_memory s k room stop message o r).lines
-  memory-names s k room stop message None = plainly _ (tt, tt)
-  memory-names s k room stop message (Some m) = ends-names s (Some k) stop (server_row m (stable (r.found s)) room message)
-
-  handed-names : (k : ℕ) (room : Room) (stop : Option (Pick → ℕ)) (o : Option Sent) → slice_get r.sent k ≡ o → AreNamed [] (handed k room stop o r).lines
-  handed-names k room stop None e = names
-  handed-names k room stop (Some (Client c, message)) e = let row = take_row (r.clients c) message in
-      took-names c k (r.clients c) row.0 row.1 (takes-named w r.lines named (r.clients c) message (holds-of (IsTrue w) r.sent k (Client c, message) mirrors.says e))
-  handed-names k room stop (Some (Server s, message)) e = memory-names s k room stop message (r.memory s)
-
-  works-names : (s : ServerNo) (stop : Option (Pick → ℕ)) (o : Option (RowOutcome Memory)) → AreNamed [] (works s stop o r).lines
-  works-names s stop None = names
-  works-names s stop (Some row) = ends-names s None stop row
-
-  work-names : (s : ServerNo) (room : Room) (stop : Option (Pick → ℕ)) (o : Option Memory) → AreNamed [] (work s room stop o r).lines
-  work-names s room stop None = names
-  work-names s room stop (Some m) = works-names s stop (server_step m (stable (r.found s)) room)
-
-  nudge-names : (s : ServerNo) (o : Option Memory) → AreNamed [] (nudge s o r).lines
-  nudge-names s None = names
-  nudge-names s (Some m) = names
-
-  timeout-names : (s : ServerNo) (T : Tid) (o : Option Memory) → AreNamed [] (timeout s T o r).lines
-  timeout-names s T None = names
-  timeout-names s T (Some m) = names
-
-  crash-names : (s : ServerNo) (o : Option Memory) → AreNamed [] (crash s o r).lines
-  crash-names s None = names
-  crash-names s (Some m) = plainly _ (tt, tt)
-
-  narrow-names : (s : ServerNo) (g : Pick → Pick) (o : Option Memory) → AreNamed [] (narrow s g o r).lines
-  narrow-names s g None = names
-  narrow-names s g (Some m) = names
-
-  raise-names : (s : ServerNo) (raised : Pick → Bool) (o : Option Memory) → AreNamed [] (stop_restart s raised o r).lines
-  raise-names s raised None = plainly _ (tt, tt)
-  raise-names s raised (Some m) = names
-
-  restart-names : (s : ServerNo) (pick : Pick) (Ws : List WorkId) (Ts : List Tid) (o : Option Memory) → AreNamed [] (restart s pick Ws Ts o r).lines
-  restart-names s pick Ws Ts None = plainly (says.Up s ((r.found s pick).epoch + 1) ∷ named_now Ts r.lines) (tt, now-plain Ts r.lines)
-  restart-names s pick Ws Ts (Some m) = names
-
-  close-names : (s : ServerNo) (o : Option Memory) → AreNamed [] (close_clients s o r).lines
-  close-names s None = names
-  close-names s (Some m) = plainly [] tt
+  by-case : (step : Step) (now : World) → StepCase r step now → AreNamed [] now.lines
+  by-case step _ (client_row _ c t sent lines row) = client-names c step t sent lines row
+  by-case step _ (row_done _ s m k row e is) = plainly (lines_of s k row.notes) (lines-plain s k row.notes)
+  by-case step _ (row_stopped _ s m k row made e is) = plainly _ (tt, tt)
+  by-case _ _ (gone_late s m T e) = names
+  by-case _ _ (gone_down s m e) = plainly _ (tt, tt)
+  by-case _ _ (come_up s pick Ws Ts e) = plainly (says.Up s ((r.found s pick).epoch + 1) ∷ named_now Ts r.lines) (tt, now-plain Ts r.lines)
+  by-case step _ (found_anew _ s found lines e is) = found-names s step found lines is
+  by-case _ _ dismissed = names
+  by-case step _ (quietly _ event sent lines is) = quiet-names step event sent lines is
 
   pub step-names : (step : Step) → AreNamed [] (after step r).lines
-  step-names NextEvent = names
-  step-names (Tell c command) = commanded-names c (command_row (r.clients c) r.event command)
-  step-names (Again c) = names
-  step-names (Deliver k room) = handed-names k room None (slice_get r.sent k) refl
-  step-names (Work s room) = work-names s room None (r.memory s)
-  step-names (Nudge s) = nudge-names s (r.memory s)
-  step-names (Timeout s T) = timeout-names s T (r.memory s)
-  step-names (StopDelivery k room made) = handed-names k room (Some made) (slice_get r.sent k) refl
-  step-names (StopWork s room made) = work-names s room (Some made) (r.memory s)
-  step-names (Crash s) = crash-names s (r.memory s)
-  step-names (Narrow s g) = narrow-names s g (r.memory s)
-  step-names (StopRestart s raised) = raise-names s raised (r.memory s)
-  step-names (Restart s pick Ws Ts) = restart-names s pick Ws Ts (r.memory s)
-  step-names Dismiss = names
-  step-names (CloseClients s) = close-names s (r.memory s)
+  step-names step = by-case step (after step r) (step-case r step)

@@ -1,6 +1,5 @@
 -- By which request of which client each transaction began, as the messages say.
-use Rattle.jn_system_order.proofs.Common.{◌≡◌, ◌⊎◌, inl, inr, List, [], ◌∷◌, ◌++◌, Option, Some, None, refl, sym, ◌∙◌, ap, ClientNo, Tid, Transaction, Sent}
-use Rattle.jn_base.specs.declared.names.RequestNo.{RequestNo}
+use Rattle.jn_system_order.proofs.Common.{◌≡◌, ◌⊎◌, inl, inr, List, [], ◌∷◌, ◌++◌, Option, Some, None, refl, sym, ◌∙◌, ap, ClientNo, Tid, Transaction, Sent, RequestNo}
 use Rattle.jn_msgs.specs.declared.message.Message.TheVariants as messages
 
 pub record Opening : Type 0 where

@@ -1,41 +1,42 @@
 -- Each run of the whole system is a run of the machine, and so its commits are in order.
-use Rattle.jn_system_order.proofs.Common.{◌≡◌, inl, ℕ, true, false, List, [], ◌∷◌, ◌++◌, Option, Some, None, refl, sym, ◌∙◌, ap, subst, arith, slice_get, list_any, ServerNo, LockUnit, Tid, Client, Server, tid_eq, AllFiles, Message, Outstanding, Pick, stable, Sent, Machine, replay, Invariant, Atom, run_atoms, opening_world, MayRun, Says, run_kept, opening_kept, run_grows, says_still, in_order, run_told, opening_told, World, Memory, opening, new_memory, Room, Step, NextEvent, Tell, Again, Deliver, Nudge, Timeout, StopDelivery, StopWork, Crash, Narrow, StopRestart, Restart, Dismiss, CloseClients, IsStep, IsRun, handed, LockFacts, ServerFact, Mirrors, is_shown, locks-keep, opening-keeps, IsMoves, IsDone, IsInOrder, AreNamed}
-use Rattle.jn_base.specs.declared.op.Command.TheVariants.{Begin, Open, Do, End, Abort}
+use Rattle.jn_system_order.proofs.Common.{Text, restored, ◌≡◌, inl, ℕ, true, false, List, [], ◌∷◌, ◌++◌, Some, None, refl, sym, ◌∙◌, ap, subst, arith, list_any, ServerNo, LockUnit, Tid, tid_eq, AllFiles, Message, Outstanding, Pick, stable, Sent, Machine, replay, Invariant, Atom, run_atoms, opening_world, MayRun, Says, run_kept, opening_kept, run_grows, says_still, in_order, run_told, opening_told, World, Memory, opening, new_memory, Step, Tell, IsStep, IsRun, LockFacts, ServerFact, Mirrors, is_shown, locks-keep, opening-keeps, IsMoves, IsDone, IsInOrder, AreNamed, Quiet, client_repeats, server_repeats, StepCase, client_row, row_done, row_stopped, gone_late, gone_down, come_up, found_anew, dismissed, quietly, step-case}
+use Rattle.jn_base.specs.declared.op.Command.TheVariants.{End}
 use Rattle.jn_msgs.specs.declared.message.Message.TheVariants as messages
-use Rattle.jn_system.specs.WholeSystem.Steps.{Work, after, run}
+use Rattle.jn_system.specs.WholeSystem.Steps.{after, run}
 use Rattle.jn_system_order.proofs.Mirroring.Losing.{run-append, may-append}
 use Rattle.jn_system_order.proofs.Mirroring.StepMoves.{step-moves, opening-mirrors, committed-any}
 use Rattle.jn_system_order.proofs.Ordering.Named.{step-names}
 use Rattle.jn_system_order.proofs.Ordering.Unlocked.{writes-nothing}
-use Rattle.jn_system_order.proofs.Ordering.Openings.{HaveOpenings}
+use Rattle.jn_system_order.proofs.Ordering.Openings.{openings, HaveOpenings}
+use Rattle.jn_system_order.proofs.Ordering.RowOpenings.{restored-have}
 use Rattle.jn_system_order.proofs.Ordering.Facts.{Facts}
-use Rattle.jn_system_order.proofs.Ordering.ServerFacts.{still-facts, message-facts, work-facts, nudge-facts, timeout-facts, crash-facts, narrow-facts, raise-facts, restart-facts, close-facts}
-use Rattle.jn_system_order.proofs.Ordering.ClientSteps.{Next, tell-facts, again-facts, taken-facts, dismiss-facts, end-next}
+use Rattle.jn_system_order.proofs.Ordering.ServerFacts.{still-facts, again-opens, up-tables, down-tables, late-tables, done-facts}
+use Rattle.jn_system_order.proofs.Ordering.ClientSteps.{Next, row-facts, again-facts, dismiss-facts, end-next}
 
 -- ---- one step
 
 module _ (r : World) (w v : Machine) (mirrors : Mirrors r w) (facts : Facts r w) (inv : Invariant w) (ended : v.ended ≡ w.ended) (grow : (T : Tid) → w.begun T ≡ true → v.begun T ≡ true) (locks : LockFacts r) where
-  handed-facts : (k : ℕ) (room : Room) (stop : Option (Pick → ℕ)) (o : Option Sent) → slice_get r.sent k ≡ o → Facts (handed k room stop o r) v
-  handed-facts k room stop None e = still-facts r w v mirrors facts inv ended grow r refl refl facts.tables
-  handed-facts k room stop (Some (Client c, message)) e = taken-facts r w v mirrors facts ended grow inv c k message e
-  handed-facts k room stop (Some (Server s, message)) e = message-facts r w v mirrors facts inv ended grow s k room stop message (r.memory s) refl (locks s)
+  still : (r' : World) → r'.clients ≡ r.clients → openings r'.sent ≡ openings r.sent → ((s : ServerNo) (m : Memory) → r'.memory s ≡ Some m → HaveOpenings (openings r.sent) m.coordinator.transactions) → Facts r' v
+  still = still-facts r w v mirrors facts inv ended grow
+
+  quiet-facts : (step : Step) (event : ℕ) (sent : List Sent) (lines : List Text) → Quiet r step event sent lines → Facts (record r { event = event; sent = sent; lines = lines }) v
+  quiet-facts _ _ _ _ (client_repeats c) = again-facts r w v mirrors facts ended grow inv c
+  quiet-facts _ _ _ _ (server_repeats s m is) = still _ refl (again-opens r w v mirrors facts inv ended grow s m) facts.tables
+  quiet-facts _ _ _ _ _ = still _ refl refl facts.tables
+
+  by-case : (step : Step) (now : World) → StepCase r step now → Facts now v
+  by-case step _ (client_row _ c t sent lines row) = row-facts r w v mirrors facts ended grow inv c step t sent lines row
+  by-case step _ (row_done _ s m k row is of) = done-facts r w v mirrors facts inv ended grow s m is (subst (λ o. ServerFact s o (r.found s)) is (locks s)) step k row of
+  by-case step _ (row_stopped _ s m k row made is of) = still _ refl refl (down-tables r w v mirrors facts inv ended grow s)
+  by-case _ _ (gone_late s m T is) = still _ refl refl (late-tables r w v mirrors facts inv ended grow s m T is)
+  by-case _ _ (gone_down s m is) = still _ refl refl (down-tables r w v mirrors facts inv ended grow s)
+  by-case _ _ (come_up s pick Ws Ts is) = still _ refl refl (up-tables r w v mirrors facts inv ended grow s (restored s (r.found s pick) Ws Ts) (restored-have (openings r.sent) (r.found s pick) Ts))
+  by-case step _ (found_anew _ s found lines is of) = still _ refl refl facts.tables
+  by-case _ _ dismissed = dismiss-facts r w v mirrors facts ended grow inv
+  by-case step _ (quietly _ event sent lines of) = quiet-facts step event sent lines of
 
   pub step-facts : (step : Step) → Facts (after step r) v
-  step-facts NextEvent = still-facts r w v mirrors facts inv ended grow _ refl refl facts.tables
-  step-facts (Tell c command) = tell-facts r w v mirrors facts ended grow inv c command
-  step-facts (Again c) = again-facts r w v mirrors facts ended grow inv c
-  step-facts (Deliver k room) = handed-facts k room None (slice_get r.sent k) refl
-  step-facts (Work s room) = work-facts r w v mirrors facts inv ended grow s room None (r.memory s) refl
-  step-facts (Nudge s) = nudge-facts r w v mirrors facts inv ended grow s (r.memory s) refl
-  step-facts (Timeout s T) = timeout-facts r w v mirrors facts inv ended grow s T (r.memory s) refl
-  step-facts (StopDelivery k room made) = handed-facts k room (Some made) (slice_get r.sent k) refl
-  step-facts (StopWork s room made) = work-facts r w v mirrors facts inv ended grow s room (Some made) (r.memory s) refl
-  step-facts (Crash s) = crash-facts r w v mirrors facts inv ended grow s (r.memory s)
-  step-facts (Narrow s g) = narrow-facts r w v mirrors facts inv ended grow s g (r.memory s)
-  step-facts (StopRestart s raised) = raise-facts r w v mirrors facts inv ended grow s raised (r.memory s)
-  step-facts (Restart s pick Ws Ts) = restart-facts r w v mirrors facts inv ended grow s pick Ws Ts (r.memory s)
-  step-facts Dismiss = dismiss-facts r w v mirrors facts ended grow inv
-  step-facts (CloseClients s) = close-facts r w v mirrors facts inv ended grow s (r.memory s) refl
+  step-facts step = by-case step (after step r) (step-case r step)
 
 module _ (files : AllFiles) (epochs : ServerNo → ℕ) (before : List Atom) (may : MayRun before (opening_world files epochs)) where
   abbrev w : Machine
@@ -60,24 +61,7 @@ module _ (files : AllFiles) (epochs : ServerNo → ℕ) (before : List Atom) (ma
     -- every step
     pub step-next : (step : Step) → IsStep step r → Next (after step r) w
     step-next (Tell c End) i = end-next r w mirrors facts inv grow c
-    step-next (Tell c (Begin s)) i = shown-next (Tell c (Begin s)) i refl
-    step-next (Tell c (Open s)) i = shown-next (Tell c (Open s)) i refl
-    step-next (Tell c (Do s op)) i = shown-next (Tell c (Do s op)) i refl
-    step-next (Tell c Abort) i = shown-next (Tell c Abort) i refl
-    step-next NextEvent i = shown-next NextEvent i refl
-    step-next (Again c) i = shown-next (Again c) i refl
-    step-next (Deliver k room) i = shown-next (Deliver k room) i refl
-    step-next (Work s room) i = shown-next (Work s room) i refl
-    step-next (Nudge s) i = shown-next (Nudge s) i refl
-    step-next (Timeout s T) i = shown-next (Timeout s T) i refl
-    step-next (StopDelivery k room made) i = shown-next (StopDelivery k room made) i refl
-    step-next (StopWork s room made) i = shown-next (StopWork s room made) i refl
-    step-next (Crash s) i = shown-next (Crash s) i refl
-    step-next (Narrow s g) i = shown-next (Narrow s g) i refl
-    step-next (StopRestart s raised) i = shown-next (StopRestart s raised) i refl
-    step-next (Restart s pick Ws Ts) i = shown-next (Restart s pick Ws Ts) i refl
-    step-next Dismiss i = shown-next Dismiss i refl
-    step-next (CloseClients s) i = shown-next (CloseClients s) i refl
+    step-next step i = shown-next step i refl
 
 -- ---- every run
 

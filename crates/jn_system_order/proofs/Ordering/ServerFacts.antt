@@ -1,10 +1,9 @@
 -- A server's steps keep what holds of the openings.
-use Rattle.jn_system_order.proofs.Common.{◌≡◌, ◌≢◌, ◌⊎◌, inl, inr, ℕ, Bool, true, false, List, [], ◌∷◌, ◌++◌, append-nil, Option, Some, None, is_some, ◌+◌, refl, sym, ◌∙◌, ap, subst, arith, ◌&&◌, if◌then◌else◌, nat_eq, nat_lt, length, nat_tests, ServerNo, ClientNo, Tid, WorkId, Client, server_eq, client_eq, client_tells, Message, Transaction, Open, StableState, Pick, stable, RowOutcome, WorkerTable, worker_step, worker_again, timeout_row, CoordinatorTable, transaction_at, coordinator_again, name_from, after_closing, changes_of_closing, seen_now, begin_again, begun_by, begin_row, is_begun, close_clients_row, Machine, Invariant, fresh_tid, World, Memory, at_server, Room, storage_of, of_worker, of_coordinator, of_step, server_row, server_again, of_timeout, restored, done, stopped, ends, at_memory, works, work, nudge, timeout, crash, narrow, stop_restart, restart, close_clients, ServerFact, UpFact, client-closes, outcomes-close, Mirrors}
-use Rattle.jn_base.specs.declared.names.RequestNo.{RequestNo}
+use Rattle.jn_system_order.proofs.Common.{Step, ◌≡◌, ◌≢◌, ◌⊎◌, inl, inr, ℕ, Bool, true, false, List, [], ◌∷◌, ◌++◌, append-nil, Option, Some, None, is_some, ◌+◌, refl, sym, ◌∙◌, ap, subst, arith, ◌&&◌, if◌then◌else◌, nat_eq, nat_lt, length, nat_tests, ServerNo, ClientNo, Tid, Client, client_eq, client_tells, Message, Transaction, Open, StableState, stable, RowOutcome, WorkerTable, worker_step, worker_again, timeout_row, CoordinatorTable, transaction_at, coordinator_again, name_from, after_closing, changes_of_closing, seen_now, begin_again, begun_by, begin_row, is_begun, Machine, Invariant, fresh_tid, World, Memory, at_server, Room, storage_of, of_worker, of_coordinator, of_step, server_row, server_again, of_timeout, done, works, UpFact, client-closes, outcomes-close, Mirrors, RequestNo, server_timeout, one-server, ServerRow, of_message, of_work, of_closing}
 use Rattle.jn_msgs.specs.declared.message.Message.TheVariants as messages
 use Rattle.jn_system_order.proofs.Mirroring.GrantMoves.{found-here}
 use Rattle.jn_system_order.proofs.Ordering.Openings.{Opening, openings, openings-more, Has, has-first, has-second, has-either, HasOpening, HaveOpenings, more-openings}
-use Rattle.jn_system_order.proofs.Ordering.RowOpenings.{worker-none, step-none, again-none, Quiet, closes-have, ends-quiet, aborts-quiet, inquires-quiet, votes-quiet, dones-quiet, thanks-quiet, coordinator-again-quiet, restored-have}
+use Rattle.jn_system_order.proofs.Ordering.RowOpenings.{worker-none, step-none, again-none, Quiet, closes-have, ends-quiet, aborts-quiet, inquires-quiet, votes-quiet, dones-quiet, thanks-quiet, coordinator-again-quiet}
 use Rattle.jn_system_order.proofs.Ordering.Facts.{opening, Facts, facts-keep}
 
 -- what a row's messages and table have
@@ -139,7 +138,7 @@ module _ (os : List Opening) (w : Machine) (m : Memory) (have : HaveOpenings os 
     begin-facts = either (nat_lt (m.coordinator.seen c) request.0) _ _ (either (nat_lt (length ys) 64) _ _ begun-facts (plain _ refl ys-have))
         (either (nat_eq (m.coordinator.seen c) request.0) _ _ (again-facts (begun_by c request m.coordinator.transactions) refl) (plain _ refl have))
 
-  pub row-facts : (x : StableState) (room : Room) (message : Message) → w.begun (name_from m.tickets) ≡ false → RowFacts os w (server_row m x room message)
+  row-facts : (x : StableState) (room : Room) (message : Message) → w.begun (name_from m.tickets) ≡ false → RowFacts os w (server_row m x room message)
   row-facts x room (messages.Open c request T) fresh = by-worker _ (worker-none m.worker (storage_of m x room) m.tickets (messages.Open c request T))
   row-facts x room (messages.Op c request W number op) fresh = by-worker _ (worker-none m.worker (storage_of m x room) m.tickets (messages.Op c request W number op))
   row-facts x room (messages.Prepare T c W) fresh = by-worker _ (worker-none m.worker (storage_of m x room) m.tickets (messages.Prepare T c W))
@@ -152,10 +151,7 @@ module _ (os : List Opening) (w : Machine) (m : Memory) (have : HaveOpenings os 
   row-facts x room (messages.Vote T W vote) fresh = by-quiet _ (votes-quiet m.coordinator m.tickets T W vote (transaction_at T m.coordinator.transactions))
   row-facts x room (messages.Done T W) fresh = by-quiet _ (dones-quiet m.coordinator m.tickets T W (transaction_at T m.coordinator.transactions))
   row-facts x room (messages.Inquire T W) fresh = by-quiet _ (inquires-quiet m.coordinator m.tickets T W (transaction_at T m.coordinator.transactions))
-  row-facts x room (messages.Begun c request T) fresh = plain _ refl have
-  row-facts x room (messages.Opened c request T W) fresh = plain _ refl have
-  row-facts x room (messages.Answer c request answer) fresh = plain _ refl have
-  row-facts x room (messages.Outcome c T outcome) fresh = plain _ refl have
+  row-facts x room _ fresh = plain _ refl have
 
 -- ---- the world
 
@@ -168,94 +164,68 @@ module _ (r : World) (w v : Machine) (mirrors : Mirrors r w) (facts : Facts r w)
   still-facts r' clients same tables = facts-keep r r' w v mirrors facts clients ended grow no-opening (λ a h. subst (λ l. Has a l) (sym same) h) (λ a h. inl (subst (λ l. Has a l) same h))
       (λ s m e. subst (λ l. HaveOpenings l m.coordinator.transactions) (sym same) (tables s m e))
 
-  -- a server's table changes
-  at-tables : (s : ServerNo) (o : Option Memory) (more : List Opening) → ((m : Memory) → o ≡ Some m → HaveOpenings (os ++ more) m.coordinator.transactions) → (q : ServerNo) (n : Memory) → at_server r.memory s o q ≡ Some n → HaveOpenings (os ++ more) n.coordinator.transactions
-  at-tables s o more h q n e = by (server_eq s q) e
-    where
-      by : (b : Bool) → (if b then o else r.memory q) ≡ Some n → HaveOpenings (os ++ more) n.coordinator.transactions
-      by true k = h n k
-      by false k = more-openings os more n.coordinator.transactions (facts.tables q n k)
+  abbrev Have : List Opening → ServerNo → Option Memory → Type 0
+  Have now s o = (m : Memory) → o ≡ Some m → HaveOpenings now m.coordinator.transactions
 
-  done-facts : (s : ServerNo) (k : Option ℕ) (row : RowOutcome Memory) → RowFacts os w row → Facts (done s k row r) v
-  done-facts s k row h = facts-keep r (done s k row r) w v mirrors facts refl ended grow h.fresh
-      (λ a e. subst (λ l. Has a l) (sym (openings-more r.sent row.messages)) (has-first a os (openings row.messages) e))
-      (λ a e. by a (has-either a os (openings row.messages) (subst (λ l. Has a l) (openings-more r.sent row.messages) e)))
-      (λ q n e. subst (λ l. HaveOpenings l n.coordinator.transactions) (sym (openings-more r.sent row.messages)) (at-tables s (Some row.table) (openings row.messages) (λ m f. subst (λ (z : Memory). HaveOpenings (os ++ openings row.messages) z.coordinator.transactions) (some-memory row.table m f) h.tables) q n e))
-    where
-      by : (a : Opening) → Has a os ⊎ Has a (openings row.messages) → Has a os ⊎ ((a ≡ h.fresh) × (w.begun h.fresh.tid ≡ false))
-      by a (inl p) = inl p
-      by a (inr p) = h.back a p
+  up-has : (now : List Opening) (s : ServerNo) (m : Memory) → HaveOpenings now m.coordinator.transactions → Have now s (Some m)
+  up-has now s m h n e = subst (λ (z : Memory). HaveOpenings now z.coordinator.transactions) (some-memory m n e) h
 
-  back-nil : (xs : List Transaction) → HaveOpenings (os ++ []) xs → HaveOpenings os xs
-  back-nil xs h = subst (λ l. HaveOpenings l xs) (append-nil os) h
+  -- a server's table changes, and nothing is sent
+  at-tables : (s : ServerNo) (o : Option Memory) → Have os s o → (q : ServerNo) → Have os q (at_server r.memory s o q)
+  at-tables s o h = one-server (Have os) r.memory s o h (λ q ne. facts.tables q)
 
-  gone-tables : (s : ServerNo) (q : ServerNo) (n : Memory) → at_server r.memory s None q ≡ Some n → HaveOpenings os n.coordinator.transactions
-  gone-tables s q n e = back-nil n.coordinator.transactions (at-tables s None [] (λ m f. absurd (none-memory m f)) q n e)
+  pub up-tables : (s : ServerNo) (m : Memory) → HaveOpenings os m.coordinator.transactions → (q : ServerNo) → Have os q (at_server r.memory s (Some m) q)
+  up-tables s m h = at-tables s (Some m) (up-has os s m h)
 
-  stopped-facts : (s : ServerNo) (made : Pick → ℕ) (row : RowOutcome Memory) → Facts (stopped s made row r) v
-  stopped-facts s made row = still-facts (stopped s made row r) refl refl (gone-tables s)
+  pub down-tables : (s q : ServerNo) → Have os q (at_server r.memory s None q)
+  down-tables s = at-tables s None (λ m e. absurd (none-memory m e))
 
-  ends-facts : (s : ServerNo) (k : Option ℕ) (stop : Option (Pick → ℕ)) (row : RowOutcome Memory) → RowFacts os w row → Facts (ends s k stop row r) v
-  ends-facts s k None row h = done-facts s k row h
-  ends-facts s k (Some made) row h = stopped-facts s made row
-
-  same-facts : Facts r v
-  same-facts = still-facts r refl refl facts.tables
-
-  -- a name that is given next was never given
-  next-fresh : (s : ServerNo) (m : Memory) → r.memory s ≡ Some m → UpFact s m (r.found s) → w.begun (name_from m.tickets) ≡ false
-  next-fresh s m is up = fresh_tid w (name_from m.tickets) inv.names record {
-    up = mirrors.up m.tickets.server ∙ ap (λ (q : ServerNo). is_some (r.memory q)) up.server ∙ ap is_some is;
-    ticket = sym (ap w.ticket up.server ∙ mirrors.ticket s m is);
-    epoch = λ c. up.epoch ∙ sym (ap (λ x. x.epoch) (found-here r w s m mirrors is up m.tickets.server c up.server));
-  }
-
-  pub message-facts : (s : ServerNo) (k : ℕ) (room : Room) (stop : Option (Pick → ℕ)) (message : Message) (o : Option Memory) → r.memory s ≡ o → ServerFact s o (r.found s) → Facts (at_memory s k room stop message o r) v
-  message-facts s k room stop message None is fact = still-facts _ refl refl facts.tables
-  message-facts s k room stop message (Some m) is up = ends-facts s (Some k) stop _ (row-facts os w m (facts.tables s m is) (stable (r.found s)) room message (next-fresh s m is up))
-
-  pub work-facts : (s : ServerNo) (room : Room) (stop : Option (Pick → ℕ)) (o : Option Memory) → r.memory s ≡ o → Facts (work s room stop o r) v
-  work-facts s room stop None is = same-facts
-  work-facts s room stop (Some m) is = by (worker_step m.worker (storage_of m (stable (r.found s)) room) m.tickets) refl
-    where
-      by : (o : Option (RowOutcome WorkerTable)) → worker_step m.worker (storage_of m (stable (r.found s)) room) m.tickets ≡ o → Facts (works s stop (of_step m o) r) v
-      by None e = same-facts
-      by (Some row) e = ends-facts s None stop (of_worker m row) (by-worker os w m (facts.tables s m is) row (step-none m.worker (storage_of m (stable (r.found s)) room) m.tickets row e))
-
-  pub nudge-facts : (s : ServerNo) (o : Option Memory) → r.memory s ≡ o → Facts (nudge s o r) v
-  nudge-facts s None is = same-facts
-  nudge-facts s (Some m) is = facts-keep r _ w v mirrors facts refl ended grow no-opening (λ a h. subst (λ l. Has a l) (sym same) h) (λ a h. inl (subst (λ l. Has a l) same h)) (λ q n e. subst (λ l. HaveOpenings l n.coordinator.transactions) (sym same) (facts.tables q n e))
-    where
-      same : openings (r.sent ++ server_again m (stable (r.found s))) ≡ os
-      same = openings-more r.sent (server_again m (stable (r.found s))) ∙ ap (λ l. os ++ l) (openings-more (worker_again (stable (r.found s)) m.worker) (coordinator_again m.coordinator.transactions)
-          ∙ ap (λ l. l ++ openings (coordinator_again m.coordinator.transactions)) (again-none (stable (r.found s)) m.worker) ∙ coordinator-again-quiet m.coordinator.transactions) ∙ append-nil os
-
-  pub timeout-facts : (s : ServerNo) (T : Tid) (o : Option Memory) → r.memory s ≡ o → Facts (timeout s T o r) v
-  timeout-facts s T None is = same-facts
-  timeout-facts s T (Some m) is = still-facts _ refl refl (λ q n e. back-nil n.coordinator.transactions (at-tables s (Some (of_timeout m (timeout_row m.worker T))) [] (λ x f. more-openings os [] x.coordinator.transactions
-      (subst (λ (z : Memory). HaveOpenings os z.coordinator.transactions) (some-memory _ x f) (by (timeout_row m.worker T)))) q n e))
+  pub late-tables : (s : ServerNo) (m : Memory) (T : Tid) → r.memory s ≡ Some m → (q : ServerNo) → Have os q (at_server r.memory s (Some (server_timeout m T)) q)
+  late-tables s m T is = up-tables s (server_timeout m T) (by (timeout_row m.worker T))
     where
       by : (t : Option WorkerTable) → HaveOpenings os (of_timeout m t).coordinator.transactions
       by None = facts.tables s m is
       by (Some t) = facts.tables s m is
 
-  pub crash-facts : (s : ServerNo) (o : Option Memory) → Facts (crash s o r) v
-  crash-facts s None = same-facts
-  crash-facts s (Some m) = still-facts _ refl refl (gone-tables s)
+  -- what a server sends again opens nothing
+  pub again-opens : (s : ServerNo) (m : Memory) → openings (r.sent ++ server_again m (stable (r.found s))) ≡ os
+  again-opens s m = openings-more r.sent (server_again m (stable (r.found s))) ∙ ap (λ l. os ++ l) (openings-more (worker_again (stable (r.found s)) m.worker) (coordinator_again m.coordinator.transactions)
+      ∙ ap (λ l. l ++ openings (coordinator_again m.coordinator.transactions)) (again-none (stable (r.found s)) m.worker) ∙ coordinator-again-quiet m.coordinator.transactions) ∙ append-nil os
 
-  pub narrow-facts : (s : ServerNo) (g : Pick → Pick) (o : Option Memory) → Facts (narrow s g o r) v
-  narrow-facts s g None = still-facts _ refl refl facts.tables
-  narrow-facts s g (Some m) = same-facts
+  module _ (s : ServerNo) (m : Memory) (is : r.memory s ≡ Some m) (up : UpFact s m (r.found s)) where
+    -- a name that is given next was never given
+    next-fresh : w.begun (name_from m.tickets) ≡ false
+    next-fresh = fresh_tid w (name_from m.tickets) inv.names record {
+      up = mirrors.up m.tickets.server ∙ ap (λ (q : ServerNo). is_some (r.memory q)) up.server ∙ ap is_some is;
+      ticket = sym (ap w.ticket up.server ∙ mirrors.ticket s m is);
+      epoch = λ c. up.epoch ∙ sym (ap (λ x. x.epoch) (found-here r w s m mirrors is up m.tickets.server c up.server));
+    }
 
-  pub raise-facts : (s : ServerNo) (raised : Pick → Bool) (o : Option Memory) → Facts (stop_restart s raised o r) v
-  raise-facts s raised None = still-facts _ refl refl facts.tables
-  raise-facts s raised (Some m) = same-facts
+    works-open : (room : Room) (row : RowOutcome Memory) (o : Option (RowOutcome WorkerTable)) → worker_step m.worker (storage_of m (stable (r.found s)) room) m.tickets ≡ o → of_step m o ≡ Some row → RowFacts os w row
+    works-open room row None e q = absurd (grind arith)
+    works-open room row (Some x) e q = subst (λ (z : RowOutcome Memory). RowFacts os w z) (some (of_worker m x) row q)
+        (by-worker os w m (facts.tables s m is) x (step-none m.worker (storage_of m (stable (r.found s)) room) m.tickets x e))
+      where
+        some : (a b : RowOutcome Memory) → Some a ≡ Some b → a ≡ b
+        some a b f = cc
 
-  pub restart-facts : (s : ServerNo) (pick : Pick) (Ws : List WorkId) (Ts : List Tid) (o : Option Memory) → Facts (restart s pick Ws Ts o r) v
-  restart-facts s pick Ws Ts (Some m) = same-facts
-  restart-facts s pick Ws Ts None = still-facts _ refl refl (λ q n e. back-nil n.coordinator.transactions (at-tables s (Some (restored s (r.found s pick) Ws Ts)) [] (λ x f. more-openings os [] x.coordinator.transactions
-      (subst (λ (z : Memory). HaveOpenings os z.coordinator.transactions) (some-memory (restored s (r.found s pick) Ws Ts) x f) (restored-have os (r.found s pick) Ts))) q n e))
+    row-opens : (step : Step) (k : Option ℕ) (row : RowOutcome Memory) → ServerRow r s m None step k row → RowFacts os w row
+    row-opens _ _ _ (of_message _ k room message e) = row-facts os w m (facts.tables s m is) (stable (r.found s)) room message next-fresh
+    row-opens _ _ _ (of_work _ room row e) = works-open room row (worker_step m.worker (storage_of m (stable (r.found s)) room) m.tickets) refl e
+    row-opens _ _ _ of_closing = plain os w m (facts.tables s m is) _ refl (closes-have os (outcomes-close m.coordinator.transactions) (facts.tables s m is))
 
-  pub close-facts : (s : ServerNo) (o : Option Memory) → r.memory s ≡ o → Facts (close_clients s o r) v
-  close-facts s None is = same-facts
-  close-facts s (Some m) is = let row = of_coordinator m (close_clients_row m.coordinator m.tickets) in done-facts s None row (plain os w m (facts.tables s m is) row refl (closes-have os (outcomes-close m.coordinator.transactions) (facts.tables s m is)))
+    pub done-facts : (step : Step) (k : Option ℕ) (row : RowOutcome Memory) → ServerRow r s m None step k row → Facts (done s k row r) v
+    done-facts step k row of = facts-keep r (done s k row r) w v mirrors facts refl ended grow h.fresh (λ a e. subst (λ l. Has a l) (sym more) (has-first a os (openings row.messages) e))
+        (λ a e. by a (has-either a os (openings row.messages) (subst (λ l. Has a l) more e)))
+        (subst (λ l. (q : ServerNo) → Have l q (at_server r.memory s (Some row.table) q)) (sym more)
+        (one-server (Have (os ++ openings row.messages)) r.memory s (Some row.table) (up-has (os ++ openings row.messages) s row.table h.tables) (λ q ne n e. more-openings os (openings row.messages) n.coordinator.transactions (facts.tables q n e))))
+      where
+        h : RowFacts os w row
+        h = row-opens step k row of
+
+        more : openings (r.sent ++ row.messages) ≡ os ++ openings row.messages
+        more = openings-more r.sent row.messages
+
+        by : (a : Opening) → Has a os ⊎ Has a (openings row.messages) → Has a os ⊎ ((a ≡ h.fresh) × (w.begun h.fresh.tid ≡ false))
+        by a (inl p) = inl p
+        by a (inr p) = h.back a p

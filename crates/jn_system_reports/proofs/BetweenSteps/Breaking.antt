@@ -1,10 +1,7 @@
 -- A broken work of a table was broken there before a step, or active; where a step names a commit, it breaks none.
-use Rattle.jn_system_reports.proofs.Common.{◌≡◌, ◌≢◌, ◌⊎◌, inl, inr, ℕ, ◌+◌, Bool, true, false, List, [], ◌∷◌, ◌++◌, append-nil, Option, Some, None, refl, sym, ◌∙◌, ap, subst, if◌then◌else◌, nat_eq, nat_lt, length, slice_get, ServerNo, ClientNo, Tid, WorkId, Tickets, Client, Server, Op, Answer, server_eq, work_eq, Files, change, answer_to, list_change, length_with, Read, Intention, Message, Vote, Work, Phase, Active, Broken, Stored, ActiveWork, Taken, Pick, is_going, stable, RowOutcome, Sent, ClientTable, Commanded, Refuses, Sends, command_row, take_row, WorkerTable, WorkStorage, Wanted, Held, gives_way, work_at, work_of, without, new_work, name_from, open_row, conflict, commit_wants, wants_of, is_fit, past_limit, units_for, with_units, refusal_of, counted, performed-work, granted_row, performed, repeated, op_phase, op_row, vote_of, shortage, need_in, prepared_row, prepare_phase, prepare_row, commit_phase, drop_phase, drop_row, worker_row, going_work, intentions_of, carried_row, going_row, worker_step, vulnerable, timed_out, timeout_row, coordinator_row, close_clients_row, are_rising, is_after, at-more, at-less, some_is, none_some, not_both, World, Memory, at_server, commits_in, Room, storage_of, is_for_worker, server_row, of_step, of_worker, of_coordinator, of_timeout, lines_of, restored, Step, NextEvent, Tell, Again, Deliver, Works, Nudge, Timeout, StopDelivery, StopWork, Crash, Narrow, StopRestart, Restart, Dismiss, CloseClients, after, commanded, took, ends, at_memory, handed, works, work, nudge, timeout, crash, narrow, stop_restart, restart, close_clients, LockFacts, ServerFact, UpFact, Regrants, Origin, Mine, Kept, Broke, granted, phase_changed, restored-is, of-found, no-lock, named_by, commits-more, lines-commit, worker-none, step-none}
-use Rattle.jn_base.specs.declared.names.OperationNo.{OperationNo}
-use Rattle.jn_base.specs.declared.names.RequestNo.{RequestNo}
+use Rattle.jn_system_reports.proofs.Common.{◌≡◌, ◌⊎◌, inl, inr, ℕ, ◌+◌, Bool, true, false, List, [], ◌∷◌, ◌++◌, append-nil, Option, Some, None, refl, sym, ◌∙◌, ap, subst, if◌then◌else◌, nat_eq, nat_lt, length, slice_get, ServerNo, ClientNo, Tid, WorkId, Tickets, Op, Answer, work_eq, Files, change, answer_to, list_change, length_with, Read, Intention, Message, Vote, Work, Phase, Active, Broken, Stored, ActiveWork, is_going, stable, RowOutcome, WorkerTable, WorkStorage, Wanted, Held, gives_way, work_at, work_of, without, new_work, name_from, open_row, conflict, commit_wants, wants_of, is_fit, past_limit, units_for, with_units, refusal_of, counted, performed-work, granted_row, performed, repeated, op_phase, op_row, vote_of, shortage, need_in, prepared_row, prepare_phase, prepare_row, commit_phase, drop_phase, drop_row, worker_row, going_work, intentions_of, carried_row, going_row, worker_step, vulnerable, timed_out, timeout_row, coordinator_row, close_clients_row, are_rising, is_after, at-more, at-less, some_is, none_some, not_both, World, Memory, at_server, commits_in, storage_of, is_for_worker, of_step, of_worker, of_coordinator, of_timeout, lines_of, restored, Step, after, LockFacts, ServerFact, UpFact, Regrants, Origin, Mine, Kept, Broke, granted, phase_changed, restored-is, of-found, no-lock, named_by, commits-more, lines-commit, worker-none, step-none, done, OperationNo, RequestNo, one-server, ServerRow, of_message, of_work, of_closing, StepCase, client_row, row_done, row_stopped, gone_late, gone_down, come_up, found_anew, dismissed, quietly, step-case}
 use Rattle.jn_msgs.specs.declared.message.Message.TheVariants as messages
 use Rattle.jn_msgs.specs.declared.message.Vote.TheVariants as votes
-use Rattle.jn_rows.specs.declared.client.Taken.TheVariants as taken
 use Rattle.jn_rows.specs.Worker.{commit_row}
 
 abbrev pub is_broken : Phase → Bool
@@ -192,11 +189,7 @@ pub record Breaks (r q : World) : Type 0 where
 
 module _ (r : World) (locks : LockFacts r) where
   at-all : (s : ServerNo) (now : Option Memory) (P : WorkerTable → WorkerTable → Type 0) → ((t : WorkerTable) → P t t) → P (table_of (r.memory s)) (table_of now) → (q : ServerNo) → P (table_of (r.memory q)) (table_of (at_server r.memory s now q))
-  at-all s now P same h q = by (Rattle.jn_base.proofs.Tells.server_tells s q)
-    where
-      by : ((server_eq s q ≡ true) × (s ≡ q)) ⊎ ((server_eq s q ≡ false) × (s ≢ q)) → P (table_of (r.memory q)) (table_of (if server_eq s q then now else r.memory q))
-      by (inl p) = subst (λ (b : Bool). P (table_of (r.memory q)) (table_of (if b then now else r.memory q))) (sym p.0) (subst (λ (z : ServerNo). P (table_of (r.memory z)) (table_of now)) p.1 h)
-      by (inr p) = subst (λ (b : Bool). P (table_of (r.memory q)) (table_of (if b then now else r.memory q))) (sym p.0) (same (table_of (r.memory q)))
+  at-all s now P same h = one-server (λ q o. P (table_of (r.memory q)) (table_of o)) r.memory s now h (λ q other. same (table_of (r.memory q)))
 
   -- no table has a work newly broken
   breaks-none : (q : World) → ((s : ServerNo) → BreaksNone (table_of (r.memory s)) (table_of (q.memory s))) → Breaks r q
@@ -219,95 +212,43 @@ module _ (r : World) (locks : LockFacts r) where
     here now P h = subst (λ o. P (table_of o) now) (sym is) h
 
     -- a row of the worker's, which names no commit
-    worker-ends : (k : Option ℕ) (stop : Option (Pick → ℕ)) (row : RowOutcome WorkerTable) → named_by row.notes ≡ [] → BreaksFrom m.worker row.table → Breaks r (ends s k stop (of_worker m row) r)
-    worker-ends k None row names h = record {
+    worker-ends : (k : Option ℕ) (row : RowOutcome WorkerTable) → named_by row.notes ≡ [] → BreaksFrom m.worker row.table → Breaks r (done s k (of_worker m row) r)
+    worker-ends k row names h = record {
       from = at-all s (Some (of_worker m row).table) BreaksFrom same-from (here row.table BreaksFrom h);
       none = inl (commits-more r.lines (lines_of s k row.notes) ∙ ap (λ z. commits_in r.lines ++ z) (lines-commit s k row.notes ∙ names) ∙ append-nil (commits_in r.lines));
     }
-    worker-ends k (Some made) row names h = one-none _ s None refl (empty-none (table_of (r.memory s)))
 
-    coordinator-ends : (k : Option ℕ) (stop : Option (Pick → ℕ)) (row : RowOutcome _) → Breaks r (ends s k stop (of_coordinator m row) r)
-    coordinator-ends k None row = one-none _ s (Some (of_coordinator m row).table) refl (here m.worker BreaksNone (same-none m.worker))
-    coordinator-ends k (Some made) row = one-none _ s None refl (empty-none (table_of (r.memory s)))
+    coordinator-ends : (k : Option ℕ) (row : RowOutcome _) → Breaks r (done s k (of_coordinator m row) r)
+    coordinator-ends k row = one-none _ s (Some (of_coordinator m row).table) refl (here m.worker BreaksNone (same-none m.worker))
 
-    row-ends : (k : Option ℕ) (stop : Option (Pick → ℕ)) (room : Room) (message : Message) → Breaks r (ends s k stop (server_row m (stable (r.found s)) room message) r)
-    row-ends k stop room message = by (is_for_worker message)
+    row-ends : (step : Step) (k : Option ℕ) (row : RowOutcome Memory) → ServerRow r s m None step k row → Breaks r (done s k row r)
+    row-ends _ _ _ (of_message _ k room message is) = by (is_for_worker message)
       where
-        by : (b : Bool) → Breaks r (ends s k stop (if b then of_worker m (worker_row m.worker (storage_of m (stable (r.found s)) room) m.tickets message) else of_coordinator m (coordinator_row m.coordinator room.free.records m.tickets message)) r)
-        by true = worker-ends k stop (worker_row m.worker (storage_of m (stable (r.found s)) room) m.tickets message) (worker-none m.worker (storage_of m (stable (r.found s)) room) m.tickets message) (takes m.worker m.tickets up.table.rising up.table.before (storage_of m (stable (r.found s)) room) message)
-        by false = coordinator-ends k stop (coordinator_row m.coordinator room.free.records m.tickets message)
+        by : (b : Bool) → Breaks r (done s (Some k) (if b then of_worker m (worker_row m.worker (storage_of m (stable (r.found s)) room) m.tickets message) else of_coordinator m (coordinator_row m.coordinator room.free.records m.tickets message)) r)
+        by true = worker-ends (Some k) (worker_row m.worker (storage_of m (stable (r.found s)) room) m.tickets message) (worker-none m.worker (storage_of m (stable (r.found s)) room) m.tickets message) (takes m.worker m.tickets up.table.rising up.table.before (storage_of m (stable (r.found s)) room) message)
+        by false = coordinator-ends (Some k) (coordinator_row m.coordinator room.free.records m.tickets message)
+    row-ends _ _ row (of_work _ room _ is) = by (worker_step m.worker (storage_of m (stable (r.found s)) room) m.tickets) refl is
+      where
+        by : (o : Option (RowOutcome WorkerTable)) → worker_step m.worker (storage_of m (stable (r.found s)) room) m.tickets ≡ o → of_step m o ≡ Some row → Breaks r (done s None row r)
+        by None e f = absurd (none_some row f)
+        by (Some x) e f = subst (λ (z : RowOutcome Memory). Breaks r (done s None z r)) (some_is (of_worker m x) row f)
+            (worker-ends None x (step-none m.worker (storage_of m (stable (r.found s)) room) m.tickets x e) (steps m.worker m.tickets up.table.rising up.table.before (storage_of m (stable (r.found s)) room) x e))
+    row-ends _ _ _ of_closing = coordinator-ends None (close_clients_row m.coordinator m.tickets)
 
-    work-ends : (stop : Option (Pick → ℕ)) (room : Room) (o : Option (RowOutcome WorkerTable)) → worker_step m.worker (storage_of m (stable (r.found s)) room) m.tickets ≡ o → Breaks r (works s stop (of_step m o) r)
-    work-ends stop room None e = still _ refl
-    work-ends stop room (Some row) e = worker-ends None stop row (step-none m.worker (storage_of m (stable (r.found s)) room) m.tickets row e) (steps m.worker m.tickets up.table.rising up.table.before (storage_of m (stable (r.found s)) room) row e)
+    late-ends : (T : Tid) (o : Option WorkerTable) → timeout_row m.worker T ≡ o → Breaks r (record r { memory = at_server r.memory s (Some (of_timeout m o)) })
+    late-ends T None e = one-none _ s (Some m) refl (here m.worker BreaksNone (same-none m.worker))
+    late-ends T (Some t) e = record { from = at-all s (Some (record m { worker = t })) BreaksFrom same-from (here t BreaksFrom (times-out m.worker m.tickets up.table.rising up.table.before T t e)); none = inl refl }
 
-    timeout-ends : (T : Tid) (o : Option WorkerTable) → timeout_row m.worker T ≡ o → Breaks r (record r { memory = at_server r.memory s (Some (of_timeout m o)) })
-    timeout-ends T None e = one-none _ s (Some m) refl (here m.worker BreaksNone (same-none m.worker))
-    timeout-ends T (Some t) e = record { from = at-all s (Some (record m { worker = t })) BreaksFrom same-from (here t BreaksFrom (times-out m.worker m.tickets up.table.rising up.table.before T t e)); none = inl refl }
-
-  at-memories : (s : ServerNo) (k : ℕ) (room : Room) (stop : Option (Pick → ℕ)) (message : Message) (o : Option Memory) → r.memory s ≡ o → Breaks r (at_memory s k room stop message o r)
-  at-memories s k room stop message None e = still _ refl
-  at-memories s k room stop message (Some m) e = row-ends s m e (Some k) stop room message
-
-  takings : (c : ClientNo) (k : ℕ) (t : ClientTable) (what : Taken) → Breaks r (took c k t what r)
-  takings c k t taken.Ignored = still _ refl
-  takings c k t (taken.Send to message) = still _ refl
-  takings c k t (taken.Told line answer) = still _ refl
-
-  hands : (k : ℕ) (room : Room) (stop : Option (Pick → ℕ)) (o : Option Sent) → Breaks r (handed k room stop o r)
-  hands k room stop None = still _ refl
-  hands k room stop (Some (Client c, message)) = let row = take_row (r.clients c) message in takings c k row.0 row.1
-  hands k room stop (Some (Server s, message)) = at-memories s k room stop message (r.memory s) refl
-
-  commands : (c : ClientNo) (row : Commanded) → Breaks r (commanded c row r)
-  commands c (Refuses refusal) = still _ refl
-  commands c (Sends t to message) = still _ refl
-
-  workings : (s : ServerNo) (room : Room) (stop : Option (Pick → ℕ)) (o : Option Memory) → r.memory s ≡ o → Breaks r (work s room stop o r)
-  workings s room stop None e = still _ refl
-  workings s room stop (Some m) e = work-ends s m e stop room (worker_step m.worker (storage_of m (stable (r.found s)) room) m.tickets) refl
-
-  nudges : (s : ServerNo) (o : Option Memory) → Breaks r (nudge s o r)
-  nudges s None = still _ refl
-  nudges s (Some m) = still _ refl
-
-  timeouts : (s : ServerNo) (T : Tid) (o : Option Memory) → r.memory s ≡ o → Breaks r (timeout s T o r)
-  timeouts s T None e = still _ refl
-  timeouts s T (Some m) e = timeout-ends s m e T (timeout_row m.worker T) refl
-
-  crashes : (s : ServerNo) (o : Option Memory) → Breaks r (crash s o r)
-  crashes s None = still _ refl
-  crashes s (Some m) = one-none _ s None refl (empty-none (table_of (r.memory s)))
-
-  narrows : (s : ServerNo) (g : Pick → Pick) (o : Option Memory) → Breaks r (narrow s g o r)
-  narrows s g None = still _ refl
-  narrows s g (Some m) = still _ refl
-
-  raises : (s : ServerNo) (raised : Pick → Bool) (o : Option Memory) → Breaks r (stop_restart s raised o r)
-  raises s raised None = still _ refl
-  raises s raised (Some m) = still _ refl
-
-  restarts : (s : ServerNo) (pick : Pick) (Ws : List WorkId) (Ts : List Tid) (o : Option Memory) → Breaks r (restart s pick Ws Ts o r)
-  restarts s pick Ws Ts None = one-none _ s (Some (restored s (r.found s pick) Ws Ts)) refl (λ W x e b. let f = restored-is (r.found s pick) Ws W x e in absurd (not_both (is_broken x.phase) b (ap (λ (z : Work). is_broken z.phase) f.1.1)))
-  restarts s pick Ws Ts (Some m) = still _ refl
-
-  closes : (s : ServerNo) (o : Option Memory) → r.memory s ≡ o → Breaks r (close_clients s o r)
-  closes s None e = still r refl
-  closes s (Some m) e = coordinator-ends s m e None None (close_clients_row m.coordinator m.tickets)
+  by-case : (step : Step) (now : World) → StepCase r step now → Breaks r now
+  by-case _ _ (client_row step c t sent lines row) = still _ refl
+  by-case step _ (row_done _ s m k row e is) = row-ends s m e step k row is
+  by-case _ _ (row_stopped step s m k row made e is) = one-none _ s None refl (empty-none (table_of (r.memory s)))
+  by-case _ _ (gone_late s m T e) = late-ends s m e T (timeout_row m.worker T) refl
+  by-case _ _ (gone_down s m e) = one-none _ s None refl (empty-none (table_of (r.memory s)))
+  by-case _ _ (come_up s pick Ws Ts e) = one-none _ s (Some (restored s (r.found s pick) Ws Ts)) refl (λ W x e b. let f = restored-is (r.found s pick) Ws W x e in absurd (not_both (is_broken x.phase) b (ap (λ (z : Work). is_broken z.phase) f.1.1)))
+  by-case _ _ (found_anew step s found lines e is) = still _ refl
+  by-case _ _ dismissed = still _ refl
+  by-case _ _ (quietly step event sent lines is) = still _ refl
 
   pub step-breaks : (step : Step) → Breaks r (after step r)
-  step-breaks NextEvent = still _ refl
-  step-breaks (Tell c command) = commands c (command_row (r.clients c) r.event command)
-  step-breaks (Again c) = still _ refl
-  step-breaks (Deliver k room) = hands k room None (slice_get r.sent k)
-  step-breaks (Works s room) = workings s room None (r.memory s) refl
-  step-breaks (Nudge s) = nudges s (r.memory s)
-  step-breaks (Timeout s T) = timeouts s T (r.memory s) refl
-  step-breaks (StopDelivery k room made) = hands k room (Some made) (slice_get r.sent k)
-  step-breaks (StopWork s room made) = workings s room (Some made) (r.memory s) refl
-  step-breaks (Crash s) = crashes s (r.memory s)
-  step-breaks (Narrow s g) = narrows s g (r.memory s)
-  step-breaks (StopRestart s raised) = raises s raised (r.memory s)
-  step-breaks (Restart s pick Ws Ts) = restarts s pick Ws Ts (r.memory s)
-  step-breaks Dismiss = still _ refl
-  step-breaks (CloseClients s) = closes s (r.memory s) refl
+  step-breaks step = by-case step (after step r) (step-case r step)

@@ -1,10 +1,8 @@
 -- Each step of the whole system as steps of the machine that end a transaction only where its End is sent.
-use Rattle.jn_system_reports.proofs.Common.{◌≡◌, ◌≢◌, ◌⊎◌, inl, inr, ℕ, zero, suc, true, List, [], ◌∷◌, ◌++◌, append-nil, length, Option, Some, None, refl, sym, subst, slice_get, ServerNo, ClientNo, Tid, Client, Server, Begin, Open, Do, End, Abort, AllFiles, Message, Refusal, Outstanding, Taken, Pick, stable, RowOutcome, Sent, close_clients_row, ClientTable, Commanded, Refuses, Sends, names_of, if_idle, if_transaction, sends, command_row, take_row, again_row, Machine, Invariant, Says, Atom, Ends, run_atoms, opening_world, MayRun, run_grows, says_still, run_kept, opening_kept, at_tid_cases, World, Memory, Room, server_row, server_step, server_again, of_coordinator, Step, NextEvent, Tell, Again, Deliver, Works, Nudge, Timeout, StopDelivery, StopWork, Crash, Narrow, StopRestart, Restart, Dismiss, CloseClients, IsStep, after, commanded, sent_now, took, ends, at_memory, handed, works, work, nudge, timeout, crash, narrow, stop_restart, restart, close_clients, LockFacts, Mirrors, MovesTo, is_shown, quiet-line, stays-with, step-moves, Facts, step-facts, still-facts, parts_of, end-may, end-mirrors, end-facts, WasEnded}
-use Rattle.jn_base.specs.Names.{request_of}
+use Rattle.jn_system_reports.proofs.Common.{◌≡◌, ◌≢◌, ◌⊎◌, inl, inr, ℕ, zero, suc, true, List, [], ◌∷◌, ◌++◌, append-nil, length, Option, Some, None, refl, sym, subst, slice_get, ServerNo, ClientNo, Tid, Server, Begin, Open, Do, End, Abort, AllFiles, Message, Refusal, Outstanding, stable, Sent, ClientTable, Refuses, names_of, if_idle, if_transaction, sends, again_row, Machine, Invariant, Says, Atom, Ends, run_atoms, opening_world, MayRun, run_grows, says_still, run_kept, opening_kept, at_tid_cases, World, server_again, Step, Tell, IsStep, after, commanded, sent_now, LockFacts, Mirrors, MovesTo, is_shown, quiet-line, stays-with, step-moves, Facts, step-facts, still-facts, parts_of, end-may, end-mirrors, end-facts, WasEnded, Text, request_of, ClientRow, by_command, by_ignoring, by_answering, by_telling, Quiet, event_begins, none_changes, is_refused, client_repeats, server_repeats, is_lost, StepCase, client_row, row_done, row_stopped, gone_late, gone_down, come_up, found_anew, dismissed, quietly, step-case}
 use Rattle.jn_msgs.specs.declared.message.Message.TheVariants as messages
 use Rattle.jn_report.specs.declared.line.Refusal.TheVariants as refusals
 use Rattle.jn_report.specs.declared.line.Text.TheVariants as says
-use Rattle.jn_rows.specs.declared.client.Taken.TheVariants as taken
 
 -- ---- what was sent stays sent
 
@@ -12,62 +10,39 @@ abbrev pub SendsMore : World → World → Type 0
 SendsMore r q = (more : List Sent) × (q.sent ≡ r.sent ++ more)
 
 module _ (r : World) where
-  abbrev Ok : World → Type 0
-  Ok q = SendsMore r q
+  abbrev More : List Sent → Type 0
+  More sent = (more : List Sent) × (sent ≡ r.sent ++ more)
 
-  same : Ok r
+  same : More r.sent
   same = ([], sym (append-nil r.sent))
 
-  commands : (c : ClientNo) (row : Commanded) → Ok (commanded c row r)
-  commands c (Refuses refusal) = same
-  commands c (Sends t to message) = ((to, message) ∷ [], refl)
+  client-sends : (c : ClientNo) (step : Step) (t : ClientTable) (sent : List Sent) (lines : List Text) → ClientRow r c step t sent lines → More sent
+  client-sends c _ _ _ _ (by_command command t to message e) = ((to, message) ∷ [], refl)
+  client-sends c _ _ _ _ (by_ignoring k room stop message t is e) = same
+  client-sends c _ _ _ _ (by_answering k room stop message t to answer is e) = ((to, answer) ∷ [], refl)
+  client-sends c _ _ _ _ (by_telling k room stop message t line answer is e) = (sent_now answer, refl)
 
-  takings : (c : ClientNo) (k : ℕ) (t : ClientTable) (what : Taken) → Ok (took c k t what r)
-  takings c k t taken.Ignored = same
-  takings c k t (taken.Send to message) = ((to, message) ∷ [], refl)
-  takings c k t (taken.Told line answer) = (sent_now answer, refl)
+  quiet-sends : (step : Step) (event : ℕ) (sent : List Sent) (lines : List Text) → Quiet r step event sent lines → More sent
+  quiet-sends _ _ _ _ (client_repeats c) = (sent_now (again_row (r.clients c)), refl)
+  quiet-sends _ _ _ _ (server_repeats s m e) = (server_again m (stable (r.found s)), refl)
+  quiet-sends _ _ _ _ event_begins = same
+  quiet-sends _ _ _ _ (none_changes step) = same
+  quiet-sends _ _ _ _ (is_refused c command refusal e) = same
+  quiet-sends _ _ _ _ (is_lost k room stop s message is e) = same
 
-  row-ends : (s : ServerNo) (k : Option ℕ) (stop : Option (Pick → ℕ)) (row : RowOutcome Memory) → Ok (ends s k stop row r)
-  row-ends s k None row = (row.messages, refl)
-  row-ends s k (Some made) row = same
+  by-case : (step : Step) (now : World) → StepCase r step now → SendsMore r now
+  by-case step _ (client_row _ c t sent lines row) = client-sends c step t sent lines row
+  by-case step _ (row_done _ s m k row e is) = (row.messages, refl)
+  by-case step _ (row_stopped _ s m k row made e is) = same
+  by-case _ _ (gone_late s m T e) = same
+  by-case _ _ (gone_down s m e) = same
+  by-case _ _ (come_up s pick Ws Ts e) = same
+  by-case step _ (found_anew _ s found lines e is) = same
+  by-case _ _ dismissed = same
+  by-case step _ (quietly _ event sent lines is) = quiet-sends step event sent lines is
 
-  memories : (s : ServerNo) (k : ℕ) (room : Room) (stop : Option (Pick → ℕ)) (message : Message) (o : Option Memory) → Ok (at_memory s k room stop message o r)
-  memories s k room stop message None = same
-  memories s k room stop message (Some m) = row-ends s (Some k) stop (server_row m (stable (r.found s)) room message)
-
-  hands : (k : ℕ) (room : Room) (stop : Option (Pick → ℕ)) (o : Option Sent) → Ok (handed k room stop o r)
-  hands k room stop None = same
-  hands k room stop (Some (Client c, message)) = let row = take_row (r.clients c) message in takings c k row.0 row.1
-  hands k room stop (Some (Server s, message)) = memories s k room stop message (r.memory s)
-
-  workings : (s : ServerNo) (stop : Option (Pick → ℕ)) (o : Option (RowOutcome Memory)) → Ok (works s stop o r)
-  workings s stop None = same
-  workings s stop (Some row) = row-ends s None stop row
-
-  work-sends : (s : ServerNo) (room : Room) (stop : Option (Pick → ℕ)) (o : Option Memory) → Ok (work s room stop o r)
-  work-sends s room stop None = same
-  work-sends s room stop (Some m) = workings s stop (server_step m (stable (r.found s)) room)
-
-  by-memory : (f : Option Memory → World) → Ok (f None) → ((m : Memory) → Ok (f (Some m))) → (o : Option Memory) → Ok (f o)
-  by-memory f h k None = h
-  by-memory f h k (Some m) = k m
-
-  pub step-sends : (step : Step) → Ok (after step r)
-  step-sends NextEvent = same
-  step-sends (Tell c command) = commands c (command_row (r.clients c) r.event command)
-  step-sends (Again c) = (sent_now (again_row (r.clients c)), refl)
-  step-sends (Deliver k room) = hands k room None (slice_get r.sent k)
-  step-sends (Works s room) = work-sends s room None (r.memory s)
-  step-sends (Nudge s) = by-memory (λ o. nudge s o r) same (λ m. (server_again m (stable (r.found s)), refl)) (r.memory s)
-  step-sends (Timeout s T) = by-memory (λ o. timeout s T o r) same (λ m. same) (r.memory s)
-  step-sends (StopDelivery k room made) = hands k room (Some made) (slice_get r.sent k)
-  step-sends (StopWork s room made) = work-sends s room (Some made) (r.memory s)
-  step-sends (Crash s) = by-memory (λ o. crash s o r) same (λ m. same) (r.memory s)
-  step-sends (Narrow s g) = by-memory (λ o. narrow s g o r) same (λ m. same) (r.memory s)
-  step-sends (StopRestart s raised) = by-memory (λ o. stop_restart s raised o r) same (λ m. same) (r.memory s)
-  step-sends (Restart s pick Ws Ts) = by-memory (λ o. restart s pick Ws Ts o r) same (λ m. same) (r.memory s)
-  step-sends Dismiss = same
-  step-sends (CloseClients s) = by-memory (λ o. close_clients s o r) same (λ m. row-ends s None None (of_coordinator m (close_clients_row m.coordinator m.tickets))) (r.memory s)
+  pub step-sends : (step : Step) → SendsMore r (after step r)
+  step-sends step = by-case step (after step r) (step-case r step)
 
 get-more : (xs ys : List Sent) (k : ℕ) (x : Sent) → slice_get xs k ≡ Some x → slice_get (xs ++ ys) k ≡ Some x
 get-more [] ys k x e = absurd (none x e)

@@ -1,6 +1,5 @@
 -- The laws that are the machine's, in the words of the whole system.
-use Rattle.jn_system_reports.proofs.Common.{◌≡◌, ◌⊎◌, inl, inr, ◌≤◌, ◌<◌, ℕ, Bool, true, false, List, [], Option, Some, None, is_some, refl, sym, ◌∙◌, ap, subst, ServerNo, ClientNo, LockUnit, Tid, WorkId, AllFiles, Intention, Message, ActiveWork, StableState, Pick, OpenWork, is_work, Sent, Machine, Working, HasRead, Invariant, run_atoms, opening_world, IsGiven, Says, not_both, some_is, false_unless, clash, run_told, opening_told, IsTold, opening_kept, World, Memory, has_line, ServerFact, UpFact, found-open, IsTrue, IsCurrent, active_in, working_in, working_of, holds-of, Opening, opening_in, openings, Has, all-have-theirs, WasSent, HasCommitLine, WasEnded, IsFlagged, IsPrepared, IsCarriedOut, DoWorksStay, IsActive, AreAsPrepared, AreReadsKept}
-use Rattle.jn_base.specs.declared.names.RequestNo.{RequestNo}
+use Rattle.jn_system_reports.proofs.Common.{◌≡◌, ◌⊎◌, inl, inr, ◌≤◌, ◌<◌, ℕ, Bool, true, false, List, [], Option, Some, None, is_some, refl, sym, ◌∙◌, ap, subst, ServerNo, ClientNo, LockUnit, Tid, WorkId, AllFiles, Intention, Message, ActiveWork, StableState, Pick, OpenWork, is_work, Sent, Machine, Working, HasRead, Invariant, run_atoms, opening_world, IsGiven, Says, not_both, some_is, false_unless, clash, run_told, opening_told, IsTold, opening_kept, World, Memory, has_line, ServerFact, UpFact, found-open, IsTrue, IsCurrent, active_in, working_in, working_of, holds-of, Opening, opening_in, openings, Has, all-have-theirs, WasSent, HasCommitLine, WasEnded, IsFlagged, IsPrepared, IsCarriedOut, DoWorksStay, IsActive, AreAsPrepared, AreReadsKept, RequestNo}
 use Rattle.jn_msgs.specs.declared.message.Message.TheVariants as messages
 use Rattle.jn_msgs.specs.declared.message.Outcome.TheVariants as outcomes
 use Rattle.jn_rows.specs.Client.{work_at}

@@ -1,8 +1,8 @@
 -- What the machine's states keep of a work: where it was ready it stays prepared, or is carried out, and wherever it is found it
 -- has one list and the same reads.
-use Rattle.jn_system_reports.proofs.Common.{◌≡◌, ◌≢◌, ◌⊎◌, inl, inr, ℕ, Bool, true, false, List, [], ◌∷◌, Option, Some, None, is_some, refl, sym, ◌∙◌, ap, subst, arith, if◌then◌else◌, ServerNo, LockUnit, Tid, WorkId, server_eq, work_eq, server_tells, work_tells, Files, or_else, change, Intention, intention_change, list_change, StableState, Prepared, Pick, Change, AddReady, MarkGoing, CarryOut, RemoveWork, AddFlag, DropFlag, at_work, gone_on, ready_work, made_by, Working, HasRead, Writes, NamesFact, Invariant, Atom, Perform, Lose, Prepare, NoteReady, Make, Decide, RaiseEpoch, changed, server_of, with_epoch, MayCarryOut, MayRemove, MayMake, May, MayRun, grows, fresh_work, step_kept, not_both, false_unless, at_work_cases, some_is, none_some, clash, AreCarriedOut}
+use Rattle.jn_system_reports.proofs.Common.{◌≡◌, ◌≢◌, ◌⊎◌, inl, inr, ℕ, Bool, true, false, List, [], ◌∷◌, Option, Some, None, is_some, refl, sym, ◌∙◌, ap, subst, arith, if◌then◌else◌, ServerNo, LockUnit, Tid, WorkId, server_eq, work_eq, server_tells, work_tells, Files, or_else, change, Intention, intention_change, list_change, StableState, Prepared, Pick, Change, AddReady, MarkGoing, CarryOut, RemoveWork, AddFlag, DropFlag, at_work, gone_on, ready_work, made_by, Working, HasRead, Writes, NamesFact, Invariant, Atom, Perform, Lose, Prepare, NoteReady, Make, Decide, RaiseEpoch, changed, server_of, with_epoch, MayCarryOut, MayRemove, MayMake, May, MayRun, grows, fresh_work, step_kept, not_both, false_unless, at_work_cases, some_is, none_some, clash, AreCarriedOut, Crash, Narrow, Restart}
 use Rattle.jn_system.specs.SmallSteps.World.{World}
-use Rattle.jn_system.specs.SmallSteps.Steps.{Open, Crash, new_work, Narrow, Restart, after, run}
+use Rattle.jn_system.specs.SmallSteps.Steps.{Open, new_work, after, run}
 use Rattle.jn_system.proofs.SmallSteps.HeldLemmas.{writes_apart}
 use Rattle.jn_system_reports.proofs.Telling.Atoms.{IsStill, still}
 

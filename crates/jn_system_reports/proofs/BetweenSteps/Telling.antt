@@ -1,7 +1,5 @@
 -- A step tells an answer of a transaction only to its client, which goes on in it, and only such a client sends an operation.
-use Rattle.jn_system_reports.proofs.Common.{◌≡◌, ◌≢◌, ◌⊎◌, inl, inr, ℕ, ◌+◌, Bool, true, false, List, [], ◌∷◌, ◌++◌, append-nil, Option, Some, None, refl, sym, ◌∙◌, ap, subst, arith, ◌&&◌, ◌||◌, if◌then◌else◌, nat_eq, nat_lt, slice_get, ServerNo, ClientNo, Tid, WorkId, Tickets, Client, Server, Op, Answer, Command, Begin, Open, Do, End, Abort, client_eq, client_tells, Files, change, answer_to, list_change, Event, event_at, performed_in, answered, answered_by, is_own, Message, Outcome, Refusal, Text, Work, Phase, Active, Broken, Stored, ActiveWork, OpenWork, Outstanding, Taken, Pick, stable, RowOutcome, Sent, ClientTable, Commanded, Refuses, Sends, if_server, if_idle, if_transaction, if_no_transaction, if_open, if_not_open, command_row, is_operation, is_end_or_abort, is_current, if_waits, idle, begun_row, opened_row, answer_line, outcome_row, take_row, sent_again, Machine, not_both, World, Memory, at_client, Room, lines_of, Step, NextEvent, Tell, Again, Deliver, Works, Nudge, Timeout, StopDelivery, StopWork, Crash, Narrow, StopRestart, Restart, Dismiss, CloseClients, after, commanded, sent_now, took, at_memory, handed, LockFacts, Mirrors, IsTrue, IsCurrent, found-open, IsThanks, Takes, takes, holds-of, Facts, is_closing, work_is, ops_in, owner_in}
-use Rattle.jn_base.specs.declared.names.OperationNo.{OperationNo}
-use Rattle.jn_base.specs.declared.names.RequestNo.{RequestNo}
+use Rattle.jn_system_reports.proofs.Common.{◌≡◌, ◌≢◌, ◌⊎◌, inl, inr, ℕ, Bool, true, false, List, [], ◌∷◌, ◌++◌, append-nil, Option, Some, None, refl, sym, ◌∙◌, ap, subst, arith, ◌&&◌, ◌||◌, if◌then◌else◌, nat_lt, ServerNo, ClientNo, Tid, WorkId, Client, Server, Answer, Command, Begin, Open, Do, End, Abort, client_eq, client_tells, Event, event_at, performed_in, answered, answered_by, is_own, Message, Outcome, Refusal, Text, OpenWork, Outstanding, Taken, stable, Sent, ClientTable, Commanded, Refuses, Sends, if_server, if_idle, if_transaction, if_no_transaction, if_open, if_not_open, command_row, is_operation, is_end_or_abort, is_current, if_waits, idle, begun_row, opened_row, answer_line, outcome_row, take_row, sent_again, Machine, not_both, World, at_client, lines_of, Step, after, commanded, sent_now, took, LockFacts, Mirrors, IsTrue, IsCurrent, found-open, IsThanks, Takes, takes, holds-of, Facts, is_closing, work_is, ops_in, owner_in, one-client}
 use Rattle.jn_base.specs.declared.op.Answer.TheVariants as answers
 use Rattle.jn_msgs.specs.declared.message.Message.TheVariants as messages
 use Rattle.jn_msgs.specs.declared.message.Outcome.TheVariants as outcomes
@@ -14,8 +12,8 @@ use Rattle.jn_system_reports.proofs.Reporting.Hearing.{commands, Commands}
 use Rattle.jn_system_reports.proofs.Telling.Tellings.{ops-more}
 use Rattle.jn_system_reports.proofs.Telling.Acting.{IsSilent}
 use Rattle.jn_system_reports.proofs.Telling.Facts.{is_op_of, op_sent, IsAsking, Talk}
-use Rattle.jn_system_reports.proofs.Telling.Quiet.{HasNoOp, HaveNoOp, silent-nos, op_sent-more, same-sent, same-told, IsQuiet}
-use Rattle.jn_system_reports.proofs.Telling.ServerSteps.{lines-dumb, lines-quiet, nothing-quiet, at-memory-quiet, work-quiet, nudge-quiet, timeout-quiet, crash-quiet, narrow-quiet, raise-quiet, up-quiet, close-quiet}
+use Rattle.jn_system_reports.proofs.Telling.Quiet.{HasNoOp, silent-nos, op_sent-more, same-sent, same-told, IsQuiet}
+use Rattle.jn_system_reports.proofs.Telling.ServerSteps.{lines-dumb, op-plain, TellCase, is_quiet, client_is_told, client_takes, client_asks_again, clients_dismissed, server_operates, tell-case}
 
 -- a client has the transaction, and goes on in it
 abbrev pub GoesOn : World → Tid → Type 0
@@ -24,30 +22,6 @@ GoesOn r T = (c : ClientNo) × ((r.clients c).transaction ≡ Some T) × (is_clo
 pub record Tells (events : List Event) (owner : WorkId → Tid) (r q : World) : Type 0 where
   pub ops : (T : Tid) → (ops_in events T None q.lines ≡ ops_in events T None r.lines) ⊎ GoesOn q T
   pub asked : (W : WorkId) → op_sent W q.sent ≡ true → (op_sent W r.sent ≡ true) ⊎ GoesOn q (owner W)
-
--- ---- an operation's row sends no operation
-
-either : (b : Bool) (p q : RowOutcome worker.WorkerTable) → HaveNoOp p.messages → HaveNoOp q.messages → HaveNoOp (if b then p else q).messages
-either true p q h l = h
-either false p q h l = l
-
-op-none : (t : worker.WorkerTable) (files : Files) (k : Tickets) (c : ClientNo) (request : RequestNo) (W : WorkId) (number : OperationNo) (op : Op) (o : Option Work) → HaveNoOp (worker.op_row t files k c request W number op o).messages
-op-none t files k c request W number op None = (tt, tt)
-op-none t files k c request W number op (Some x) = by x.phase
-  where
-    granted : (a : ActiveWork) (answer : Answer) (wants : List worker.Wanted) (o : Option Answer) → HaveNoOp (worker.granted_row t k c request x a op answer wants o).messages
-    granted a answer wants None = (tt, tt)
-    granted a answer wants (Some refusal) = (tt, tt)
-
-    again : (o : Option Answer) → HaveNoOp (worker.repeated t k c request o).messages
-    again (Some answer) = (tt, tt)
-    again None = tt
-
-    by : (p : Phase) → HaveNoOp (worker.op_phase t files k c request x number op p).messages
-    by (Active a) = let answer = answer_to op (change (list_change a.list) files) in
-        either (nat_eq number.0 (a.last + 1)) _ _ (granted a answer (worker.wants_of op (worker.is_fit answer)) (worker.refusal_of t x.name a op answer (worker.wants_of op (worker.is_fit answer)))) (either (nat_eq number.0 a.last) _ _ (again a.kept) tt)
-    by (Broken u T) = (tt, tt)
-    by (Stored p) = (tt, tt)
 
 -- ---- what a client tells
 
@@ -194,28 +168,10 @@ module _ (events : List Event) (r : World) (w : Machine) (mirrors : Mirrors r w)
       by None = refl
       by (Some d) = h events d
 
-  -- ---- servers
-
-  op-ends : (s : ServerNo) (k : ℕ) (room : Room) (stop : Option (Pick → ℕ)) (d : ClientNo) (request : RequestNo) (W : WorkId) (number : OperationNo) (op : Op) (o : Option Memory) → Ok (at_memory s k room stop (messages.Op d request W number op) o r)
-  op-ends s k room stop d request W number op None = of-quiet _ (lines-quiet r locks (says.Lost k ∷ []) (tt, tt))
-  op-ends s k room None d request W number op (Some m) = let row = worker.op_row m.worker (stable (r.found s)).files m.tickets d request W number op (worker.work_at W m.worker) in record {
-    ops = λ T. inl ((same-told r.lines (lines_of s (Some k) row.notes) (lines-dumb s (Some k) row.notes)).ops events T);
-    asked = λ V e. inl (sym (same-sent V r.sent row.messages (op-none m.worker (stable (r.found s)).files m.tickets d request W number op (worker.work_at W m.worker))) ∙ e);
-  }
-  op-ends s k room (Some made) d request W number op (Some m) = record { ops = λ T. inl ((same-told r.lines (says.Stopped s ∷ []) (tt, tt)).ops events T); asked = λ V e. inl e }
-
-  to-server : (s : ServerNo) (k : ℕ) (room : Room) (stop : Option (Pick → ℕ)) (message : Message) → Ok (at_memory s k room stop message (r.memory s) r)
-  to-server s k room stop (messages.Op d request W number op) = op-ends s k room stop d request W number op (r.memory s)
-  to-server s k room stop message = of-quiet _ (at-memory-quiet r locks s k room stop message (r.memory s) refl (locks s) refl)
-
   -- ---- clients
 
   own-table : (c : ClientNo) (u : ClientTable) → at_client r.clients c u c ≡ u
-  own-table c u = by (client_tells c c)
-    where
-      by : ((client_eq c c ≡ true) × (c ≡ c)) ⊎ ((client_eq c c ≡ false) × (c ≢ c)) → (if client_eq c c then u else r.clients c) ≡ u
-      by (inl p) = ap (λ (b : Bool). if b then u else r.clients c) p.0
-      by (inr p) = absurd (p.1 refl)
+  own-table c u = one-client (λ d t. c ≡ d → t ≡ u) r.clients c u (λ e. refl) (λ d other e. absurd (other e)) c refl
 
   -- what it waits for is an operation of its transaction
   its-operation : (c : ClientNo) (o : Outstanding) → (r.clients c).outstanding ≡ Some o → (p : Command) → o.command ≡ p → is_operation p ≡ true → (T : Tid) × ((r.clients c).transaction ≡ Some T)
@@ -313,24 +269,19 @@ module _ (events : List Event) (r : World) (w : Machine) (mirrors : Mirrors r w)
   agains c None e = record { ops = λ T. inl refl; asked = λ W k. inl (sym (same-sent W r.sent [] tt) ∙ k) }
   agains c (Some o) e = record { ops = λ T. inl refl; asked = λ W k. one-more W (o.to, o.message) _ k (again-asked c o e o.command refl ((talk.clients c).asking o e) W) }
 
-  hands : (k : ℕ) (room : Room) (stop : Option (Pick → ℕ)) (o : Option Sent) → slice_get r.sent k ≡ o → Ok (handed k room stop o r)
-  hands k room stop None e = of-quiet r (nothing-quiet r locks)
-  hands k room stop (Some (Client c, message)) e = let row = take_row (r.clients c) message in takings c k row.0 row.1 (takes-so (r.clients c) message) (takes w (r.clients c) (mirrors.clients c) message (holds-of (IsTrue w) r.sent k (Client c, message) mirrors.says e))
-  hands k room stop (Some (Server s, message)) e = to-server s k room stop message
+  -- ---- every step
+
+  by-case : (step : Step) (now : World) → TellCase r step now → Ok now
+  by-case _ _ (is_quiet step now h) = of-quiet now h
+  by-case _ _ (client_is_told c command row e) = commandings c command row (subst (Commands r.event command) e (commands (r.clients c) r.event command)) (subst (SendsSo (r.clients c)) e (command-so (r.clients c) r.event command))
+  by-case _ _ (client_takes step c k message row is e) = takings c k row.0 row.1 (subst (SaysSo (r.clients c)) e (takes-so (r.clients c) message))
+      (subst (λ x. Takes w x.0 x.1) e (takes w (r.clients c) (mirrors.clients c) message (holds-of (IsTrue w) r.sent k (Client c, message) mirrors.says is)))
+  by-case _ _ (client_asks_again c) = agains c (r.clients c).outstanding refl
+  by-case _ _ clients_dismissed = record { ops = λ T. inl refl; asked = λ W e. inl e }
+  by-case _ _ (server_operates step s m k d request W number op e is) = let row = worker.op_row m.worker (stable (r.found s)).files m.tickets d request W number op (worker.work_at W m.worker) in record {
+    ops = λ T. inl ((same-told r.lines (lines_of s (Some k) row.notes) (lines-dumb s (Some k) row.notes)).ops events T);
+    asked = λ V f. inl (sym (same-sent V r.sent row.messages (op-plain m.worker (stable (r.found s)).files m.tickets d request number op W (worker.work_at W m.worker)).1) ∙ f);
+  }
 
   pub step-tells : (step : Step) → Ok (after step r)
-  step-tells NextEvent = record { ops = λ T. inl refl; asked = λ W e. inl e }
-  step-tells (Tell c command) = commandings c command (command_row (r.clients c) r.event command) (commands (r.clients c) r.event command) (command-so (r.clients c) r.event command)
-  step-tells (Again c) = agains c (r.clients c).outstanding refl
-  step-tells (Deliver k room) = hands k room None (slice_get r.sent k) refl
-  step-tells (Works s room) = of-quiet _ (work-quiet r locks s room None (r.memory s) refl (locks s))
-  step-tells (Nudge s) = of-quiet _ (nudge-quiet r locks s (r.memory s) refl)
-  step-tells (Timeout s T) = of-quiet _ (timeout-quiet r locks s T (r.memory s) refl (locks s))
-  step-tells (StopDelivery k room made) = hands k room (Some made) (slice_get r.sent k) refl
-  step-tells (StopWork s room made) = of-quiet _ (work-quiet r locks s room (Some made) (r.memory s) refl (locks s))
-  step-tells (Crash s) = of-quiet _ (crash-quiet r locks s (r.memory s) refl)
-  step-tells (Narrow s f) = of-quiet _ (narrow-quiet r locks s f (r.memory s) refl)
-  step-tells (StopRestart s raised) = of-quiet _ (raise-quiet r locks s raised (r.memory s) refl)
-  step-tells (Restart s pick Ws Ts) = of-quiet _ (up-quiet r locks s pick Ws Ts (r.memory s) refl)
-  step-tells Dismiss = record { ops = λ T. inl refl; asked = λ W e. inl e }
-  step-tells (CloseClients s) = of-quiet _ (close-quiet r locks s (r.memory s) refl)
+  step-tells step = by-case step (after step r) (tell-case r locks step)

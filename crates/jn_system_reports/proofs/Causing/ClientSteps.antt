@@ -1,7 +1,5 @@
 -- A client's step: what it is told to do is its event, and what it takes was asked for by one.
-use Rattle.jn_system_reports.proofs.Common.{◌≡◌, ◌≢◌, ◌⊎◌, inl, inr, ◌<◌, ◌≤◌, ℕ, ◌+◌, Bool, true, false, List, [], ◌∷◌, ◌++◌, length, Option, Some, None, refl, sym, ◌∙◌, ap, subst, arith, ◌&&◌, ◌||◌, if◌then◌else◌, nat_eq, nat_lt, nat_tests, ServerNo, ClientNo, Tid, WorkId, Party, Client, Server, Answer, Command, Begin, Open, Do, End, Abort, server_eq, client_eq, tid_eq, work_eq, server_tells, client_tells, tid_tells, work_tells, Message, Outcome, Event, Text, Line, OpenWork, Outstanding, Taken, Sent, is_work, ClientTable, Commanded, Refuses, Sends, with_operation, names_of, if_server, if_idle, if_transaction, if_no_transaction, if_open, if_not_open, command_row, is_begin, is_tid, is_current, if_waits, idle, over, begun_row, opened_row, answer_line, decided_row, outcome_row, take_row, Machine, not_both, World, at_client, sent_now, Mirrors, openings, openings-more, Has, has-first, Facts, says, last_begun, begins, AreWithin, begun_then-append, at_event}
-use Rattle.jn_base.specs.declared.names.RequestNo.{RequestNo}
-use Rattle.jn_base.specs.Names.{request_eq, request_of}
+use Rattle.jn_system_reports.proofs.Common.{◌≡◌, ◌≢◌, ◌⊎◌, inl, inr, ◌<◌, ◌≤◌, ℕ, ◌+◌, Bool, true, false, List, [], ◌∷◌, ◌++◌, length, Option, Some, None, refl, sym, ◌∙◌, ap, subst, arith, ◌&&◌, ◌||◌, if◌then◌else◌, nat_eq, nat_lt, nat_tests, ServerNo, ClientNo, Tid, WorkId, Party, Client, Server, Answer, Command, Begin, Open, Do, End, Abort, server_eq, client_eq, tid_eq, work_eq, server_tells, client_tells, tid_tells, work_tells, Message, Outcome, Event, Text, Line, OpenWork, Outstanding, Taken, Sent, is_work, ClientTable, Commanded, Refuses, Sends, with_operation, names_of, if_server, if_idle, if_transaction, if_no_transaction, if_open, if_not_open, command_row, is_begin, is_tid, is_current, if_waits, idle, over, begun_row, opened_row, answer_line, decided_row, outcome_row, take_row, Machine, not_both, World, at_client, sent_now, Mirrors, openings, openings-more, Has, has-first, Facts, says, last_begun, begins, AreWithin, begun_then-append, at_event, RequestNo, request_eq, request_of, one-client}
 use Rattle.jn_base.specs.declared.op.Answer.TheVariants as answers
 use Rattle.jn_msgs.specs.declared.message.Message.TheVariants as messages
 use Rattle.jn_msgs.specs.declared.message.Outcome.TheVariants as outcomes
@@ -80,24 +78,17 @@ module _ (es es' : List Event) (on : (j : ℕ) (e : Event) → Stands 1 es j e �
     told = told-on es es' on ls new r.lines cause.told;
   }
     where
-      at-own : (P : ClientTable → Type 0) (d : ClientNo) → (c ≡ d → P u) → (c ≢ d → P (r.clients d)) → P (at_client r.clients c u d)
-      at-own P d own other = by (client_tells c d)
-        where
-          by : ((client_eq c d ≡ true) × (c ≡ d)) ⊎ ((client_eq c d ≡ false) × (c ≢ d)) → P (if client_eq c d then u else r.clients d)
-          by (inl p) = subst (λ (b : Bool). P (if b then u else r.clients d)) (sym p.0) (own p.1)
-          by (inr p) = subst (λ (b : Bool). P (if b then u else r.clients d)) (sym p.0) (other p.1)
-
       up : (k n m : ℕ) → k < n → n ≤ m → k < m
       up j n m k l = omega (arith, k, l)
 
       next : (d : ClientNo) (q : RequestNo) → q.0 < (r.clients d).next → q.0 < (at_client r.clients c u d).next
-      next d q k = at-own (λ (x : ClientTable). q.0 < x.next) d (λ e. up q.0 (r.clients c).next u.next (subst (λ (z : ClientNo). q.0 < (r.clients z).next) (sym e) k) goes.next) (λ e. k)
+      next d q = one-client (λ e x. q.0 < (r.clients e).next → q.0 < x.next) r.clients c u (λ k. up q.0 (r.clients c).next u.next k goes.next) (λ e other k. k) d
 
       waits : (d : ClientNo) (o : Outstanding) → (at_client r.clients c u d).outstanding ≡ Some o → ((r.clients d).outstanding ≡ Some o) ⊎ ((r.clients d).next ≤ o.request.0)
-      waits d o = at-own (λ (x : ClientTable). x.outstanding ≡ Some o → ((r.clients d).outstanding ≡ Some o) ⊎ ((r.clients d).next ≤ o.request.0)) d (λ e k. subst (λ (z : ClientNo). ((r.clients z).outstanding ≡ Some o) ⊎ ((r.clients z).next ≤ o.request.0)) e (goes.fresh o k)) (λ e k. inl k)
+      waits d o = one-client (λ e x. x.outstanding ≡ Some o → ((r.clients e).outstanding ≡ Some o) ⊎ ((r.clients e).next ≤ o.request.0)) r.clients c u (goes.fresh o) (λ e other k. inl k) d
 
       each : (d : ClientNo) → ClientFact es' (ls ++ at_event (1 + length es) new) (r.sent ++ more) r.memory d (at_client r.clients c u d)
-      each d = at-own (λ (x : ClientTable). ClientFact es' (ls ++ at_event (1 + length es) new) (r.sent ++ more) r.memory d x) d (λ e. subst (λ (z : ClientNo). ClientFact es' (ls ++ at_event (1 + length es) new) (r.sent ++ more) r.memory z u) e h.own) (λ e. kept new more d (h.others d e))
+      each = one-client (ClientFact es' (ls ++ at_event (1 + length es) new) (r.sent ++ more) r.memory) r.clients c u h.own (λ d other. kept new more d (h.others d other))
 
   -- ---- a message
 
@@ -324,11 +315,7 @@ module _ (es es' : List Event) (on : (j : ℕ) (e : Event) → Stands 1 es j e �
     }
 
     own-table : (u : ClientTable) → at_client r.clients c u t.client ≡ u
-    own-table u = by (client_tells c t.client)
-      where
-        by : ((client_eq c t.client ≡ true) × (c ≡ t.client)) ⊎ ((client_eq c t.client ≡ false) × (c ≢ t.client)) → (if client_eq c t.client then u else r.clients t.client) ≡ u
-        by (inl p) = ap (λ (b : Bool). if b then u else r.clients t.client) p.0
-        by (inr p) = absurd (p.1 (sym (facts.clients c).name))
+    own-table u = one-client (λ d z. d ≡ t.client → z ≡ u) r.clients c u (λ e. refl) (λ d other e. absurd (other (sym (e ∙ (facts.clients c).name)))) t.client refl
 
     below : (n : ℕ) → n < n + 1
     below n = omega arith

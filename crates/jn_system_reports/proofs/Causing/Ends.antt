@@ -1,11 +1,11 @@
 -- The end of a run tells nothing that needs a cause or answers a client, as no client waits for anything.
-use Rattle.jn_system_reports.proofs.Common.{◌≡◌, ℕ, ◌+◌, Bool, true, false, List, [], ◌∷◌, ◌++◌, append-nil, length, Option, Some, None, refl, sym, ◌∙◌, subst, arith, ◌&&◌, if◌then◌else◌, map, slice_get, list_all, ServerNo, ClientNo, Tid, WorkId, Client, Server, client_eq, AllFiles, Message, Note, Outcome, Event, Line, Text, Outstanding, Taken, Pick, stable, RowOutcome, Sent, ClientTable, is_current, if_waits, decided_row, outcome_row, take_row, World, Memory, at_client, has_line, opening, servers_from, Room, server_row, server_step, line_of, lines_of, named_now, Step, NextEvent, Tell, Again, Deliver, Nudge, Timeout, StopDelivery, StopWork, Crash, Narrow, StopRestart, Restart, Dismiss, CloseClients, IsIdle, after, took, at_memory, handed, works, work, nudge, timeout, crash, narrow, restart, close_clients, history_of, is_answer, Caused, Caused-lines, needs_cause, NeedNoCause, CausedFrom-plain, Printed, FileThere, PageStored, UnitLocked, text_printed, Does, Item, events_of, told_by, lines_of_items, world_of, IsReported, Comeback, Ending, restarts_from, steps_at_end, settles, IsEnding, told_by_steps, texts_from, at_end, lines_to_end}
+use Rattle.jn_system_reports.proofs.Common.{◌≡◌, ℕ, ◌+◌, Bool, true, false, List, [], ◌∷◌, ◌++◌, append-nil, length, Option, Some, None, refl, sym, ◌∙◌, subst, arith, ◌&&◌, if◌then◌else◌, map, list_all, ServerNo, ClientNo, Tid, client_eq, AllFiles, Message, Note, Outcome, Event, Line, Text, Outstanding, Taken, Pick, RowOutcome, Sent, ClientTable, is_current, if_waits, decided_row, outcome_row, take_row, World, Memory, at_client, has_line, opening, servers_from, line_of, lines_of, named_now, Step, Tell, StopDelivery, StopWork, StopRestart, Dismiss, CloseClients, IsIdle, after, history_of, is_answer, Caused, Caused-lines, needs_cause, NeedNoCause, CausedFrom-plain, Printed, FileThere, PageStored, UnitLocked, text_printed, Does, Item, events_of, told_by, lines_of_items, world_of, IsReported, Comeback, Ending, restarts_from, steps_at_end, settles, IsEnding, told_by_steps, texts_from, at_end, lines_to_end, StableState, one-client, ClientRow, by_command, by_ignoring, by_answering, by_telling, ServerRow, of_message, of_work, FoundThen, by_narrowing, by_raising, Quiet, event_begins, none_changes, is_refused, client_repeats, server_repeats, is_lost, StepCase, client_row, row_done, row_stopped, gone_late, gone_down, come_up, found_anew, dismissed, quietly, step-case}
+use Rattle.jn_system.specs.WholeSystem.Steps.{Crash}
 use Rattle.jn_msgs.specs.declared.message.Message.TheVariants as messages
 use Rattle.jn_msgs.specs.declared.message.Note.TheVariants as notes
 use Rattle.jn_msgs.specs.declared.message.Outcome.TheVariants as outcomes
 use Rattle.jn_report.specs.declared.line.Text.TheVariants as says
 use Rattle.jn_rows.specs.declared.client.Taken.TheVariants as taken
-use Rattle.jn_system.specs.WholeSystem.Steps.{Work}
 use Rattle.jn_system_reports.specs.Reporting.Ending.{counted}
 use Rattle.jn_system_reports.proofs.Reporting.Lists.{Each, each-append}
 use Rattle.jn_system_reports.proofs.Reporting.Hearing.{told-is}
@@ -124,75 +124,47 @@ module _ (w : World) (idle : (c : ClientNo) → IsIdle (w.clients c)) where
   silent : (q : World) → q.lines ≡ w.lines → q.clients ≡ w.clients → TellsPlainly w q
   silent q lines same = tells q [] (lines ∙ sym (append-nil w.lines)) same tt
 
-  at-own : (c : ClientNo) (u : ClientTable) → IsIdle u → (d : ClientNo) → IsIdle (at_client w.clients c u d)
-  at-own c u h d = by (client_eq c d)
-    where
-      by : (b : Bool) → IsIdle (if b then u else w.clients d)
-      by true = h
-      by false = idle d
+  one-tells : (c : ClientNo) (u : ClientTable) (sent : List Sent) (lines new : List Text) → lines ≡ w.lines ++ new → Each IsOfEnd new → IsIdle u → TellsPlainly w (record w { clients = at_client w.clients c u; sent = sent; lines = lines })
+  one-tells c u sent lines new adds h now = record { new = new; adds = adds; each = h; idle = one-client (λ d t. IsIdle t) w.clients c u now (λ d other. idle d) }
 
-  took-plain : (c : ClientNo) (k : ℕ) (u : ClientTable) (what : Taken) → StaysIdle (u, what) → TellsPlainly w (took c k u what w)
-  took-plain c k u taken.Ignored h = record { new = says.Ignored k ∷ []; adds = refl; each = ((refl, refl), tt); idle = at-own c u h }
-  took-plain c k u (taken.Send to message) h = record { new = []; adds = sym (append-nil w.lines); each = tt; idle = at-own c u h }
-  took-plain c k u (taken.Told line answer) h = absurd h
+  took-idle : (c : ClientNo) (message : Message) (row : ClientTable × Taken) → take_row (w.clients c) message ≡ row → StaysIdle row
+  took-idle c message row e = subst StaysIdle e (take-idle (w.clients c) (idle c) message)
 
-  handed-plain : (k : ℕ) (room : Room) (o : Option Sent) → TellsPlainly w (handed k room None o w)
-  handed-plain k room None = silent w refl refl
-  handed-plain k room (Some (Client c, message)) = let row = take_row (w.clients c) message in took-plain c k row.0 row.1 (take-idle (w.clients c) (idle c) message)
-  handed-plain k room (Some (Server s, message)) = by (w.memory s)
-    where
-      by : (o : Option Memory) → TellsPlainly w (at_memory s k room None message o w)
-      by None = tells _ (says.Lost k ∷ []) refl refl ((refl, refl), tt)
-      by (Some m) = tells _ (lines_of s (Some k) (server_row m (stable (w.found s)) room message).notes) refl refl (lines-plain s (Some k) _)
+  client-plain : (c : ClientNo) (step : Step) (u : ClientTable) (sent : List Sent) (lines : List Text) → ClientRow w c step u sent lines → IsFinal step → TellsPlainly w (record w { clients = at_client w.clients c u; sent = sent; lines = lines })
+  client-plain c _ _ _ _ (by_command command u to message e) h = absurd h
+  client-plain c _ _ _ _ (by_ignoring k room stop message u is e) h = one-tells c u _ _ (says.Ignored k ∷ []) refl ((refl, refl), tt) (took-idle c message _ e)
+  client-plain c _ _ _ _ (by_answering k room stop message u to answer is e) h = one-tells c u _ _ [] (sym (append-nil w.lines)) tt (took-idle c message _ e)
+  client-plain c _ _ _ _ (by_telling k room stop message u line answer is e) h = absurd (took-idle c message _ e)
 
-  work-plain : (s : ServerNo) (room : Room) (o : Option Memory) → TellsPlainly w (work s room None o w)
-  work-plain s room None = silent w refl refl
-  work-plain s room (Some m) = by (server_step m (stable (w.found s)) room)
-    where
-      by : (o : Option (RowOutcome Memory)) → TellsPlainly w (works s None o w)
-      by None = silent w refl refl
-      by (Some row) = tells _ (lines_of s None row.notes) refl refl (lines-plain s None row.notes)
+  never-stopped : (s : ServerNo) (m : Memory) (made : Pick → ℕ) (step : Step) (k : Option ℕ) (row : RowOutcome Memory) → ServerRow w s m (Some made) step k row → IsFinal step → ⊥
+  never-stopped s m _ _ _ _ (of_message (Some made) k room message is) h = h
+  never-stopped s m _ _ _ _ (of_work (Some made) room row is) h = h
 
-  nudge-plain : (s : ServerNo) (o : Option Memory) → TellsPlainly w (nudge s o w)
-  nudge-plain s None = silent w refl refl
-  nudge-plain s (Some m) = silent _ refl refl
+  found-plain : (s : ServerNo) (step : Step) (found : Pick → StableState) (lines : List Text) → FoundThen w s step found lines → IsFinal step → lines ≡ w.lines
+  found-plain s _ _ _ (by_narrowing g) h = refl
+  found-plain s _ _ _ (by_raising raise) h = absurd h
 
-  timeout-plain : (s : ServerNo) (T : Tid) (o : Option Memory) → TellsPlainly w (timeout s T o w)
-  timeout-plain s T None = silent w refl refl
-  timeout-plain s T (Some m) = silent _ refl refl
+  quiet-plain : (step : Step) (event : ℕ) (sent : List Sent) (lines : List Text) → Quiet w step event sent lines → IsFinal step → TellsPlainly w (record w { event = event; sent = sent; lines = lines })
+  quiet-plain _ _ _ _ event_begins h = silent _ refl refl
+  quiet-plain _ _ _ _ (none_changes step) h = silent _ refl refl
+  quiet-plain _ _ _ _ (is_refused c command refusal e) h = absurd h
+  quiet-plain _ _ _ _ (client_repeats c) h = silent _ refl refl
+  quiet-plain _ _ _ _ (server_repeats s m e) h = silent _ refl refl
+  quiet-plain _ _ _ _ (is_lost k room stop s message is e) h = tells _ (says.Lost k ∷ []) refl refl ((refl, refl), tt)
 
-  crash-plain : (s : ServerNo) (o : Option Memory) → TellsPlainly w (crash s o w)
-  crash-plain s None = silent w refl refl
-  crash-plain s (Some m) = tells _ (says.Down s ∷ []) refl refl ((refl, refl), tt)
-
-  narrow-plain : (s : ServerNo) (g : Pick → Pick) (o : Option Memory) → TellsPlainly w (narrow s g o w)
-  narrow-plain s g None = silent _ refl refl
-  narrow-plain s g (Some m) = silent w refl refl
-
-  restart-plain : (s : ServerNo) (pick : Pick) (Ws : List WorkId) (Ts : List Tid) (o : Option Memory) → TellsPlainly w (restart s pick Ws Ts o w)
-  restart-plain s pick Ws Ts None = tells _ (says.Up s ((w.found s pick).epoch + 1) ∷ named_now Ts w.lines) refl refl ((refl, refl), now-plain Ts w.lines)
-  restart-plain s pick Ws Ts (Some m) = silent w refl refl
-
-  close-plain : (s : ServerNo) (o : Option Memory) → TellsPlainly w (close_clients s o w)
-  close-plain s None = silent w refl refl
-  close-plain s (Some m) = tells _ [] refl refl tt
+  by-case : (step : Step) (now : World) → StepCase w step now → IsFinal step → TellsPlainly w now
+  by-case step _ (client_row _ c u sent lines row) h = client-plain c step u sent lines row h
+  by-case _ _ (row_done step s m k row e is) h = tells _ (lines_of s k row.notes) refl refl (lines-plain s k row.notes)
+  by-case step _ (row_stopped _ s m k row made e is) h = absurd (never-stopped s m made step k row is h)
+  by-case _ _ (gone_late s m T e) h = silent _ refl refl
+  by-case _ _ (gone_down s m e) h = tells _ (says.Down s ∷ []) refl refl ((refl, refl), tt)
+  by-case _ _ (come_up s pick Ws Ts e) h = tells _ (says.Up s ((w.found s pick).epoch + 1) ∷ named_now Ts w.lines) refl refl ((refl, refl), now-plain Ts w.lines)
+  by-case step _ (found_anew _ s found lines e is) h = silent _ (found-plain s step found lines is h) refl
+  by-case _ _ dismissed h = record { new = []; adds = sym (append-nil w.lines); each = tt; idle = λ c. (refl, refl) }
+  by-case step _ (quietly _ event sent lines is) h = quiet-plain step event sent lines is h
 
   step-plain : (step : Step) → IsFinal step → TellsPlainly w (after step w)
-  step-plain NextEvent h = silent _ refl refl
-  step-plain (Tell c command) h = absurd h
-  step-plain (Again c) h = silent _ refl refl
-  step-plain (Deliver k room) h = handed-plain k room (slice_get w.sent k)
-  step-plain (Work s room) h = work-plain s room (w.memory s)
-  step-plain (Nudge s) h = nudge-plain s (w.memory s)
-  step-plain (Timeout s T) h = timeout-plain s T (w.memory s)
-  step-plain (StopDelivery k room made) h = absurd h
-  step-plain (StopWork s room made) h = absurd h
-  step-plain (Crash s) h = crash-plain s (w.memory s)
-  step-plain (Narrow s g) h = narrow-plain s g (w.memory s)
-  step-plain (StopRestart s raised) h = absurd h
-  step-plain (Restart s pick Ws Ts) h = restart-plain s pick Ws Ts (w.memory s)
-  step-plain Dismiss h = record { new = []; adds = sym (append-nil w.lines); each = tt; idle = λ c. (refl, refl) }
-  step-plain (CloseClients s) h = close-plain s (w.memory s)
+  step-plain step h = by-case step (after step w) (step-case w step) h
 
 steps-plain : (steps : List Step) (w : World) → ((c : ClientNo) → IsIdle (w.clients c)) → Each IsFinal steps → Each IsOfEnd (told_by_steps steps w)
 steps-plain [] w idle h = tt

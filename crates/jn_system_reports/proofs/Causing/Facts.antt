@@ -1,6 +1,5 @@
 -- What each message and each client says of the events that gave it, and of a server that went down after them.
-use Rattle.jn_system_reports.proofs.Common.{◌≡◌, ◌≢◌, ◌⊎◌, inl, inr, ◌<◌, ◌≤◌, ℕ, ◌+◌, Bool, true, false, List, [], ◌∷◌, ◌++◌, length, Option, Some, None, refl, sym, ◌∙◌, ap, subst, arith, All, ◌||◌, list_any, ServerNo, ClientNo, Tid, WorkId, Cause, Party, Server, Event, Text, Line, Outstanding, Sent, is_work, ClientTable, names_of, Machine, IsWorkOf, Memory, IsTrue, all-have-theirs, Opening, opening_in, openings, openings-more, Has, has-first, Began, says, begun_then, last_begun, goes_down, begun_then-append, at_event}
-use Rattle.jn_base.specs.declared.names.RequestNo.{RequestNo}
+use Rattle.jn_system_reports.proofs.Common.{◌≡◌, ◌≢◌, ◌⊎◌, inl, inr, ◌<◌, ◌≤◌, ℕ, ◌+◌, Bool, true, false, List, [], ◌∷◌, ◌++◌, length, Option, Some, None, refl, sym, ◌∙◌, ap, subst, arith, All, ◌||◌, list_any, ServerNo, ClientNo, Tid, WorkId, Cause, Party, Server, Event, Text, Line, Outstanding, Sent, is_work, ClientTable, names_of, Machine, IsWorkOf, Memory, IsTrue, all-have-theirs, Opening, opening_in, openings, openings-more, Has, has-first, Began, says, begun_then, last_begun, goes_down, begun_then-append, at_event, RequestNo}
 use Rattle.jn_base.specs.declared.op.Command.TheVariants as commands
 use Rattle.jn_msgs.specs.declared.message.Message.TheVariants as messages
 use Rattle.jn_schedule.specs.declared.Event.TheVariants as events

@@ -1,13 +1,12 @@
 -- A server's step: what it has it has after it, or went down, or knows the outcome of.
-use Rattle.jn_system_reports.proofs.Common.{◌≡◌, ◌≢◌, ◌⊎◌, inl, inr, ℕ, ◌+◌, Bool, true, false, List, [], ◌∷◌, ◌++◌, append-nil, Option, Some, None, is_some, refl, sym, ◌∙◌, ap, subst, arith, if◌then◌else◌, nat_lt, list_any, ServerNo, ClientNo, LockUnit, Tid, WorkId, Cause, LostAt, FullAt, Server, Resource, server_eq, client_eq, server_tells, client_tells, Message, Note, Event, Text, Line, Work, Phase, Broken, Transaction, Stage, Commitment, Outstanding, Pick, Prepared, StableState, stable, is_going, RowOutcome, Sent, WorkerTable, work_at, worker_row, worker_step, worker_again, timeout_row, CoordinatorTable, transaction_at, coordinator_row, coordinator_again, commits, besides, told_again, committed_to, close_clients_row, found-name, Machine, Unknown, Invariant, Knows, Atom, run_atoms, MayRun, Says, not_both, some_of, World, Memory, at_server, has_line, Room, storage_of, of_worker, of_coordinator, of_step, server_row, server_again, of_timeout, restored, line_of, lines_of, named_now, done, ends, at_memory, works, work, nudge, timeout, crash, narrow, stop_restart, restart, close_clients, IsIdle, LockFacts, UpFact, ServerFact, Mirrors, AreTransactions, IsTrue, IsAddressed, knowledge_of, knowledge_in, IsStage, same-server, still-says, knows, stage-is, stage-known, openings, Facts, begun_then, goes_down, breaks, says, at_event}
-use Rattle.jn_base.specs.declared.names.RequestNo.{RequestNo}
+use Rattle.jn_system_reports.proofs.Common.{◌≡◌, ◌≢◌, ◌⊎◌, inl, inr, ℕ, ◌+◌, Bool, true, false, List, [], ◌∷◌, ◌++◌, append-nil, Option, Some, None, is_some, refl, sym, ◌∙◌, ap, subst, arith, if◌then◌else◌, nat_lt, list_any, ServerNo, ClientNo, LockUnit, Tid, WorkId, Cause, LostAt, FullAt, Server, Resource, client_eq, client_tells, Message, Note, Event, Text, Line, Work, Phase, Broken, Transaction, Stage, Commitment, Outstanding, Pick, Prepared, StableState, stable, is_going, RowOutcome, Sent, WorkerTable, work_at, worker_row, worker_step, worker_again, timeout_row, CoordinatorTable, transaction_at, coordinator_row, coordinator_again, commits, besides, told_again, committed_to, close_clients_row, found-name, Machine, Unknown, Invariant, Knows, Atom, run_atoms, MayRun, Says, not_both, some_of, World, Memory, at_server, has_line, Room, storage_of, of_worker, of_coordinator, of_step, server_again, of_timeout, restored, line_of, lines_of, named_now, done, IsIdle, LockFacts, UpFact, Mirrors, AreTransactions, IsTrue, IsAddressed, knowledge_of, knowledge_in, IsStage, still-says, knows, stage-is, stage-known, openings, Facts, begun_then, goes_down, breaks, says, at_event, Step, IsStep, is_for_worker, some_is, none_some, RequestNo, server_timeout, restart_with, one-server, ServerRow, of_message, of_work, of_closing}
 use Rattle.jn_msgs.specs.declared.message.Message.TheVariants as messages
 use Rattle.jn_msgs.specs.declared.message.Note.TheVariants as notes
 use Rattle.jn_msgs.specs.declared.message.Vote.TheVariants as votes
 use Rattle.jn_report.specs.declared.line.Text.TheVariants as texts
 use Rattle.jn_rows.specs.declared.coordinator.Stage.TheVariants.{Open, Voting, Committed, Aborted}
 use Rattle.jn_system_order.proofs.Ordering.Facts.{opening}
-use Rattle.jn_system_reports.proofs.Reporting.Lists.{In, in-second, Each, each-in, each-append, each-more}
+use Rattle.jn_system_reports.proofs.Reporting.Lists.{In, in-second, get-in, Each, each-in, each-append, each-more}
 use Rattle.jn_system_reports.proofs.Reporting.Known.{IsPast}
 use Rattle.jn_system_reports.proofs.Reporting.Past.{VoteFact, SaysPast, EntryFact}
 use Rattle.jn_system_reports.proofs.Reporting.PastRows.{IsThere, each-found}
@@ -93,58 +92,49 @@ module _ (es : List Event) (ls : List Line) (r : World) (w v : Machine) (past : 
   old-told : (s : ServerNo) (m : Memory) (new : List Text) → r.memory s ≡ Some m → Each (WorkTold s (r.lines ++ new)) m.worker
   old-told s m new e = all-told s r.lines new m.worker (cause.broken s m e)
 
-  -- ---- one server's memory
+  -- ---- one server's memory changes
 
-  module _ (s : ServerNo) (new : List Text) where
-    own : (o : Option Memory) (q : ServerNo) → s ≡ q → at_server r.memory s o q ≡ o
-    own o q e = by (server_tells s q)
-      where
-        by : ((server_eq s q ≡ true) × (s ≡ q)) ⊎ ((server_eq s q ≡ false) × (s ≢ q)) → (if server_eq s q then o else r.memory q) ≡ o
-        by (inl p) = ap (λ (b : Bool). if b then o else r.memory q) p.0
-        by (inr p) = absurd (p.1 e)
+  own : (s : ServerNo) (o : Option Memory) (q : ServerNo) → s ≡ q → at_server r.memory s o q ≡ o
+  own s o = one-server (λ q z. s ≡ q → z ≡ o) r.memory s o (λ e. refl) (λ q other e. absurd (other e))
 
+  module _ (s : ServerNo) (now : Option Memory) where
     -- what another server has stays, and so does what holds here
-    at-either : (o : Option Memory) (q : ServerNo) (P : Memory → Type 0) (B : Type 0) → (m : Memory) × (r.memory q ≡ Some m) × P m → (s ≡ q → (m : Memory) → r.memory q ≡ Some m → P m → ((n : Memory) × (at_server r.memory s o q ≡ Some n) × P n) ⊎ B) → ((n : Memory) × (at_server r.memory s o q ≡ Some n) × P n) ⊎ B
-    at-either o q P B h here = by (server_tells s q)
-      where
-        by : ((server_eq s q ≡ true) × (s ≡ q)) ⊎ ((server_eq s q ≡ false) × (s ≢ q)) → ((n : Memory) × (at_server r.memory s o q ≡ Some n) × P n) ⊎ B
-        by (inl p) = here p.1 h.0 h.1 h.2
-        by (inr p) = inl (h.0, ap (λ (b : Bool). if b then o else r.memory q) p.0 ∙ h.1, h.2)
+    at-either : (q : ServerNo) (P : Memory → Type 0) (B : Type 0) → (s ≡ q → (m : Memory) → r.memory s ≡ Some m → P m → ((n : Memory) × (now ≡ Some n) × P n) ⊎ B) → (m : Memory) × (r.memory q ≡ Some m) × P m → ((n : Memory) × (at_server r.memory s now q ≡ Some n) × P n) ⊎ B
+    at-either q P B here = one-server (λ z o. z ≡ q → (m : Memory) × (r.memory z ≡ Some m) × P m → ((n : Memory) × (o ≡ Some n) × P n) ⊎ B) r.memory s now (λ e h. here e h.0 h.1 h.2) (λ z other e h. inl h) q refl
 
-    all-broken : (o : Option Memory) → ((n : Memory) → o ≡ Some n → Each (WorkTold s (r.lines ++ new)) n.worker) → (q : ServerNo) (m : Memory) → at_server r.memory s o q ≡ Some m → Each (WorkTold q (r.lines ++ new)) m.worker
-    all-broken o h q m e = by (server_tells s q)
-      where
-        by : ((server_eq s q ≡ true) × (s ≡ q)) ⊎ ((server_eq s q ≡ false) × (s ≢ q)) → Each (WorkTold q (r.lines ++ new)) m.worker
-        by (inl p) = subst (λ (z : ServerNo). Each (WorkTold z (r.lines ++ new)) m.worker) p.1 (h m (subst (λ (b : Bool). (if b then o else r.memory q) ≡ Some m) p.0 e))
-        by (inr p) = old-told q m new (subst (λ (b : Bool). (if b then o else r.memory q) ≡ Some m) p.0 e)
+    memory-keeps : (found : ServerNo → Pick → StableState) (sent more : List Sent) (lines new : List Text) → sent ≡ r.sent ++ more → lines ≡ r.lines ++ new → Each IsServers new
+        → ((T : Tid) → ((c : ClientNo) → IsPast (openings r.sent) c (r.clients c) T → ⊥) → s ≡ T.server → (m : Memory) → r.memory s ≡ Some m → IsThere T m.coordinator.transactions → ((n : Memory) × (now ≡ Some n) × IsThere T n.coordinator.transactions) ⊎ (list_any (goes_down T.server) new ≡ true))
+        → ((W : WorkId) → s ≡ W.server → (m : Memory) → r.memory s ≡ Some m → IsLive W m.worker → ((n : Memory) × (now ≡ Some n) × IsLive W n.worker) ⊎ ((list_any (goes_down W.server) new ≡ true) ⊎ Spent v (w.owner W)))
+        → ((n : Memory) → now ≡ Some n → Each (WorkTold s (r.lines ++ new)) n.worker) → Each (News (at_server r.memory s now)) more → ServerKeeps (record r { memory = at_server r.memory s now; found = found; sent = sent; lines = lines })
+    memory-keeps found sent more lines new sends adds quiet holds has told news = record {
+      new = new;
+      adds = adds;
+      more = more;
+      sends = sends;
+      same = refl;
+      quiet = quiet;
+      holds = λ T not. at-either T.server (λ (z : Memory). IsThere T z.coordinator.transactions) (list_any (goes_down T.server) new ≡ true) (holds T not);
+      has = λ W. at-either W.server (λ (z : Memory). IsLive W z.worker) ((list_any (goes_down W.server) new ≡ true) ⊎ Spent v (w.owner W)) (has W);
+      broken = one-server (λ q o. (m : Memory) → o ≡ Some m → Each (WorkTold q (r.lines ++ new)) m.worker) r.memory s now told (λ q other m e. old-told q m new e);
+      news = news;
+    }
 
-    module _ (m n : Memory) (is : r.memory s ≡ Some m) where
-      one-holds : (T : Tid) → (s ≡ T.server → IsThere T m.coordinator.transactions → IsThere T n.coordinator.transactions) → HasTransaction r.memory T → HasTransaction (at_server r.memory s (Some n)) T ⊎ (list_any (goes_down T.server) new ≡ true)
-      one-holds T f h = at-either (Some n) T.server (λ (z : Memory). IsThere T z.coordinator.transactions) (list_any (goes_down T.server) new ≡ true) h
-          (λ e o k l. inl (n, own (Some n) T.server e, f e (subst (λ (z : Memory). IsThere T z.coordinator.transactions) (some-memory o m (sym k ∙ ap r.memory (sym e) ∙ is)) l)))
-
-      one-has : (W : WorkId) → (s ≡ W.server → IsLive W m.worker → IsLive W n.worker ⊎ Spent v (w.owner W)) → HasWork r.memory W → HasWork (at_server r.memory s (Some n)) W ⊎ ((list_any (goes_down W.server) new ≡ true) ⊎ Spent v (w.owner W))
-      one-has W f h = at-either (Some n) W.server (λ (z : Memory). IsLive W z.worker) ((list_any (goes_down W.server) new ≡ true) ⊎ Spent v (w.owner W)) h
-          (λ e o k l. by e (f e (subst (λ (z : Memory). IsLive W z.worker) (some-memory o m (sym k ∙ ap r.memory (sym e) ∙ is)) l)))
-        where
-          by : s ≡ W.server → IsLive W n.worker ⊎ Spent v (w.owner W) → HasWork (at_server r.memory s (Some n)) W ⊎ ((list_any (goes_down W.server) new ≡ true) ⊎ Spent v (w.owner W))
-          by e (inl l) = inl (n, own (Some n) W.server e, l)
-          by e (inr p) = inr (inr p)
+  -- a server that is up stays so
+  up-keeps : (s : ServerNo) (m n : Memory) → r.memory s ≡ Some m → (found : ServerNo → Pick → StableState) (sent more : List Sent) (lines new : List Text) → sent ≡ r.sent ++ more → lines ≡ r.lines ++ new → Each IsServers new
+      → ((T : Tid) → ((c : ClientNo) → IsPast (openings r.sent) c (r.clients c) T → ⊥) → IsThere T m.coordinator.transactions → IsThere T n.coordinator.transactions)
+      → ((W : WorkId) → s ≡ W.server → IsLive W m.worker → IsLive W n.worker ⊎ Spent v (w.owner W)) → Each (WorkTold s (r.lines ++ new)) n.worker → Each (News (at_server r.memory s (Some n))) more
+      → ServerKeeps (record r { memory = at_server r.memory s (Some n); found = found; sent = sent; lines = lines })
+  up-keeps s m n is found sent more lines new sends adds quiet holds has told news = memory-keeps s (Some n) found sent more lines new sends adds quiet
+      (λ T not e o k t. inl (n, refl, holds T not (subst (λ (z : Memory). IsThere T z.coordinator.transactions) (some-memory o m (sym k ∙ is)) t))) (λ W e o k t. by W (has W e (subst (λ (z : Memory). IsLive W z.worker) (some-memory o m (sym k ∙ is)) t)))
+      (λ o e. subst (λ (z : Memory). Each (WorkTold s (r.lines ++ new)) z.worker) (some-memory n o e) told) news
+    where
+      by : (W : WorkId) → IsLive W n.worker ⊎ Spent v (w.owner W) → ((z : Memory) × (Some n ≡ Some z) × IsLive W z.worker) ⊎ ((list_any (goes_down W.server) new ≡ true) ⊎ Spent v (w.owner W))
+      by W (inl l) = inl (n, refl, l)
+      by W (inr p) = inr (inr p)
 
   -- it goes down
-  down-keeps : (s : ServerNo) (text : Text) → IsServers text → goes_down s text ≡ true → (q : World) → q.memory ≡ at_server r.memory s None → q.lines ≡ r.lines ++ text ∷ [] → q.sent ≡ r.sent → q.clients ≡ r.clients → ServerKeeps q
-  down-keeps s text plain down q memory lines sent clients = record {
-    new = text ∷ [];
-    adds = lines;
-    more = [];
-    sends = sent ∙ sym (append-nil r.sent);
-    same = clients;
-    quiet = (plain, tt);
-    holds = λ T not h. subst (λ f. HasTransaction f T ⊎ (list_any (goes_down T.server) (text ∷ []) ≡ true)) (sym memory) (at-either s (text ∷ []) None T.server (λ (z : Memory). IsThere T z.coordinator.transactions) (list_any (goes_down T.server) (text ∷ []) ≡ true) h (λ e o k l. inr (falls T.server e)));
-    has = λ W h. subst (λ f. HasWork f W ⊎ ((list_any (goes_down W.server) (text ∷ []) ≡ true) ⊎ Spent v (w.owner W))) (sym memory) (at-either s (text ∷ []) None W.server (λ (z : Memory). IsLive W z.worker) ((list_any (goes_down W.server) (text ∷ []) ≡ true) ⊎ Spent v (w.owner W)) h (λ e o k l. inr (inl (falls W.server e))));
-    broken = λ z m e. all-broken s (text ∷ []) None (λ n f. absurd (none-memory n f)) z m (ap (λ f. f z) (sym memory) ∙ e);
-    news = tt;
-  }
+  pub down-keeps : (s : ServerNo) (found : ServerNo → Pick → StableState) (text : Text) → IsServers text → goes_down s text ≡ true → ServerKeeps (record r { memory = at_server r.memory s None; found = found; lines = r.lines ++ text ∷ [] })
+  down-keeps s found text plain down = memory-keeps s None found r.sent [] _ (text ∷ []) (sym (append-nil r.sent)) refl (plain, tt) (λ T not e m k t. inr (falls T.server e)) (λ W e m k t. inr (inl (falls W.server e))) (λ n f. absurd (none-memory n f)) tt
     where
       first : (a : Bool) → a ≡ true → list_any (λ (b : Bool). b) (a ∷ []) ≡ true
       first a h = grind arith
@@ -152,26 +142,13 @@ module _ (es : List Event) (ls : List Line) (r : World) (w v : Machine) (past : 
       falls : (z : ServerNo) → s ≡ z → list_any (goes_down z) (text ∷ []) ≡ true
       falls z e = first (goes_down z text) (subst (λ (y : ServerNo). goes_down y text ≡ true) e down)
 
-  -- nothing in memory changes
-  still-keeps : (q : World) (new : List Text) (more : List Sent) → q.lines ≡ r.lines ++ new → q.sent ≡ r.sent ++ more → q.clients ≡ r.clients → q.memory ≡ r.memory → Each IsServers new → Each (News r.memory) more → ServerKeeps q
-  still-keeps q new more lines sent clients memory quiet news = record {
-    new = new;
-    adds = lines;
-    more = more;
-    sends = sent;
-    same = clients;
-    quiet = quiet;
-    holds = λ T not h. inl (subst (λ f. HasTransaction f T) (sym memory) h);
-    has = λ W h. inl (subst (λ f. HasWork f W) (sym memory) h);
-    broken = λ s m e. old-told s m new (ap (λ f. f s) (sym memory) ∙ e);
-    news = subst (λ f. Each (News f) more) (sym memory) news;
-  }
-
-  pub nothing-keeps : ServerKeeps r
-  nothing-keeps = still-keeps r [] [] (sym (append-nil r.lines)) (sym (append-nil r.sent)) refl refl tt tt
-
-  quiet-keeps : (q : World) (text : Text) → q.lines ≡ r.lines ++ text ∷ [] → q.sent ≡ r.sent → q.clients ≡ r.clients → q.memory ≡ r.memory → IsServers text → ServerKeeps q
-  quiet-keeps q text lines sent clients memory plain = still-keeps q (text ∷ []) [] lines (sent ∙ sym (append-nil r.sent)) clients memory (plain, tt) tt
+  -- it comes up
+  pub restart-keeps : (s : ServerNo) → r.memory s ≡ None → (x : StableState) (Ws : List WorkId) (Ts : List Tid) → ServerKeeps (restart_with s x Ws Ts r)
+  restart-keeps s is x Ws Ts = memory-keeps s (Some (restored s x Ws Ts)) _ r.sent [] _ new (sym (append-nil r.sent)) refl (tt, now-servers Ts r.lines) (λ T not e m k t. absurd (none-memory m (sym is ∙ k))) (λ W e m k t. absurd (none-memory m (sym is ∙ k)))
+      (λ n e. subst (λ (z : Memory). Each (WorkTold s (r.lines ++ new)) z.worker) (some-memory (restored s x Ws Ts) n e) (restored-told s (r.lines ++ new) x Ws)) tt
+    where
+      new : List Text
+      new = texts.Up s (x.epoch + 1) ∷ named_now Ts r.lines
 
   -- ---- rows
 
@@ -229,25 +206,15 @@ module _ (es : List Event) (ls : List Line) (r : World) (w v : Machine) (past : 
 
     worker-done : (k : Option ℕ) (row : RowOutcome WorkerTable) (Asks : ClientNo → RequestNo → Tid → Type 0) (Goes : WorkId → Type 0) → RowKeeps (openings r.sent) r.clients w Caused full s k r.lines m.worker m.tickets up.table.rising up.table.place (cause.broken s m is) Asks Goes row
         → ((c : ClientNo) (q : RequestNo) (T : Tid) → Asks c q T → In (Server s, messages.Open c q T) r.sent) → ((W : WorkId) → W.server ≡ s → Goes W → Spent v (w.owner W)) → ServerKeeps (done s k (of_worker m row) r)
-    worker-done k row Asks Goes h asked goes = record {
-      new = lines_of s k row.notes;
-      adds = refl;
-      more = row.messages;
-      sends = refl;
-      same = refl;
-      quiet = lines-servers s k row.notes;
-      holds = λ T not l. one-holds s (lines_of s k row.notes) m (of_worker m row).table is T (λ e t. t) l;
-      has = λ W l. one-has s (lines_of s k row.notes) m (of_worker m row).table is W (λ e t. gone W e (h.live W t)) l;
-      broken = all-broken s (lines_of s k row.notes) (Some (of_worker m row).table) (λ n e. subst (λ (z : Memory). Each (WorkTold s (r.lines ++ lines_of s k row.notes)) z.worker) (some-memory (of_worker m row).table n e) h.told);
-      news = each-more (OpensFact (openings r.sent) r.clients w Caused full s k r.lines m.worker m.tickets up.table.rising up.table.place (cause.broken s m is) Asks row.table) (News (at_server r.memory s (Some (of_worker m row).table))) row.messages news h.opens;
-    }
+    worker-done k row Asks Goes h asked goes = up-keeps s m (of_worker m row).table is _ _ row.messages _ (lines_of s k row.notes) refl refl (lines-servers s k row.notes) (λ T not t. t) (λ W e t. gone W e (h.live W t)) h.told
+        (each-more (OpensFact (openings r.sent) r.clients w Caused full s k r.lines m.worker m.tickets up.table.rising up.table.place (cause.broken s m is) Asks row.table) (News (at_server r.memory s (Some (of_worker m row).table))) row.messages news h.opens)
       where
         gone : (W : WorkId) → s ≡ W.server → IsLive W row.table ⊎ Goes W → IsLive W row.table ⊎ Spent v (w.owner W)
         gone W e (inl l) = inl l
         gone W e (inr g) = inr (goes W (sym e) g)
 
         news : (x : Sent) → OpensFact (openings r.sent) r.clients w Caused full s k r.lines m.worker m.tickets up.table.rising up.table.place (cause.broken s m is) Asks row.table x → News (at_server r.memory s (Some (of_worker m row).table)) x
-        news (to, messages.Opened c q T (Some W)) p = ((((of_worker m row).table, own s (lines_of s k row.notes) (Some (of_worker m row).table) W.server (sym (p.1 ∙ up.server)), p.0)), subst (λ (z : ServerNo). In (Server z, messages.Open c q T) r.sent) (sym (p.1 ∙ up.server)) (asked c q T p.2))
+        news (to, messages.Opened c q T (Some W)) p = ((((of_worker m row).table, own s (Some (of_worker m row).table) W.server (sym (p.1 ∙ up.server)), p.0)), subst (λ (z : ServerNo). In (Server z, messages.Open c q T) r.sent) (sym (p.1 ∙ up.server)) (asked c q T p.2))
         news (to, messages.Opened c q T None) p = tt
         news (to, messages.Answer c q answer) p = tt
         news (to, messages.Vote T W vote) p = tt
@@ -255,9 +222,8 @@ module _ (es : List Event) (ls : List Line) (r : World) (w v : Machine) (past : 
         news (to, messages.Inquire T W) p = tt
         news (to, _) p = absurd p
 
-    worker-ends : (k : ℕ) (stop : Option (Pick → ℕ)) (room : Room) (message : Message) → In (Server s, message) r.sent → ServerKeeps (ends s (Some k) stop (of_worker m (worker_row m.worker (storage_of m (stable (r.found s)) room) m.tickets message)) r)
-    worker-ends k (Some made) room message i = down-keeps s (texts.Stopped s) tt (same-server s) _ refl refl refl refl
-    worker-ends k None room message i = worker-done (Some k) _ _ _ (worker-row (Some k) room message i) (λ c q T e. subst (λ z. In (Server s, z) r.sent) e i) (λ W at g. spent (w.owner W) (drops W g))
+    message-done : (k : ℕ) (room : Room) (message : Message) → In (Server s, message) r.sent → ServerKeeps (done s (Some k) (of_worker m (worker_row m.worker (storage_of m (stable (r.found s)) room) m.tickets message)) r)
+    message-done k room message i = worker-done (Some k) _ _ _ (worker-row (Some k) room message i) (λ c q T e. subst (λ z. In (Server s, z) r.sent) e i) (λ W at g. spent (w.owner W) (drops W g))
       where
         drops : (W : WorkId) → (T : Tid) × (message ≡ messages.Drop T W) → Spent w (w.owner W)
         drops W g = let j = subst (λ z. In (Server s, z) r.sent) g.1 i in
@@ -271,9 +237,8 @@ module _ (es : List Event) (ls : List Line) (r : World) (w v : Machine) (past : 
         by None e k = absurd (grind arith)
         by (Some p) e k = ((inv.core.states s (λ n. false)).prepared W p e).going k
 
-    pub step-ends : (stop : Option (Pick → ℕ)) (room : Room) (row : RowOutcome WorkerTable) → worker_step m.worker (storage_of m (stable (r.found s)) room) m.tickets ≡ Some row → ServerKeeps (ends s None stop (of_worker m row) r)
-    step-ends (Some made) room row h = down-keeps s (texts.Stopped s) tt (same-server s) _ refl refl refl refl
-    step-ends None room row h = worker-done None row (λ c q T. ⊥) (λ W. is_going ((stable (r.found s)).works W) ≡ true)
+    step-done : (room : Room) (row : RowOutcome WorkerTable) → worker_step m.worker (storage_of m (stable (r.found s)) room) m.tickets ≡ Some row → ServerKeeps (done s None (of_worker m row) r)
+    step-done room row h = worker-done None row (λ c q T. ⊥) (λ W. is_going ((stable (r.found s)).works W) ≡ true)
         (step-keeps (openings r.sent) r.clients w Caused full s None r.lines m.worker m.tickets up.table.rising up.table.place (cause.broken s m is) (storage_of m (stable (r.found s)) room) row h) (λ c q T k. absurd k) (λ W at g. spent (w.owner W) (inl (going-named W g)))
 
     -- ---- a coordinator's row
@@ -312,22 +277,11 @@ module _ (es : List Event) (ls : List Line) (r : World) (w v : Machine) (past : 
     comes (messages.Inquire T W) i = let of = in-all (IsTrue w) r.sent (Server s, messages.Inquire T W) mirrors.says i in known T (in-all IsAddressed r.sent (Server s, messages.Inquire T W) mirrors.addressed i) (subst (λ (U : Tid). w.begun U ≡ true) of.1 (inv.core.rest.of_begun W of.0))
     comes _ i = tt
 
-    coordinator-ends : (k : ℕ) (stop : Option (Pick → ℕ)) (free : ℕ) (message : Message) → In (Server s, message) r.sent → ((x : Sent) → In x (ends s (Some k) stop (of_coordinator m (coordinator_row m.coordinator free m.tickets message)) r).sent → IsTrue v x)
-        → ServerKeeps (ends s (Some k) stop (of_coordinator m (coordinator_row m.coordinator free m.tickets message)) r)
-    coordinator-ends k (Some made) free message i true' = down-keeps s (texts.Stopped s) tt (same-server s) _ refl refl refl refl
-    coordinator-ends k None free message i true' = record {
-      new = lines_of s (Some k) row.notes;
-      adds = refl;
-      more = row.messages;
-      sends = refl;
-      same = refl;
-      quiet = lines-servers s (Some k) row.notes;
-      holds = λ T not l. one-holds s (lines_of s (Some k) row.notes) m (of_coordinator m row).table is T (λ e t. h.held T not t) l;
-      has = λ W l. one-has s (lines_of s (Some k) row.notes) m (of_coordinator m row).table is W (λ e t. inl t) l;
-      broken = all-broken s (lines_of s (Some k) row.notes) (Some (of_coordinator m row).table) (λ n e. subst (λ (z : Memory). Each (WorkTold s (r.lines ++ lines_of s (Some k) row.notes)) z.worker) (some-memory (of_coordinator m row).table n e) (old-told s m (lines_of s (Some k) row.notes) is));
-      news = each-more (NewsFact (openings r.sent) r.clients w v Caused facts.unique full m.coordinator m.tickets (past.entries s m is) places past.last named-here aborted-here (λ c q. message ≡ messages.Begin c q) row.table.transactions) (News (at_server r.memory s (Some (of_coordinator m row).table))) row.messages news
-          (h.news (λ x j. true' x (in-second x r.sent row.messages j)));
-    }
+    coordinator-done : (k : ℕ) (free : ℕ) (message : Message) → In (Server s, message) r.sent → ((x : Sent) → In x (r.sent ++ (coordinator_row m.coordinator free m.tickets message).messages) → IsTrue v x)
+        → ServerKeeps (done s (Some k) (of_coordinator m (coordinator_row m.coordinator free m.tickets message)) r)
+    coordinator-done k free message i said = up-keeps s m (of_coordinator m row).table is _ _ row.messages _ (lines_of s (Some k) row.notes) refl refl (lines-servers s (Some k) row.notes) h.held (λ W e t. inl t) (old-told s m (lines_of s (Some k) row.notes) is)
+        (each-more (NewsFact (openings r.sent) r.clients w v Caused facts.unique full m.coordinator m.tickets (past.entries s m is) places past.last named-here aborted-here (λ c q. message ≡ messages.Begin c q) row.table.transactions) (News (at_server r.memory s (Some (of_coordinator m row).table))) row.messages news
+        (h.news (λ x j. said x (in-second x r.sent row.messages j))))
       where
         row : RowOutcome CoordinatorTable
         row = coordinator_row m.coordinator free m.tickets message
@@ -336,7 +290,7 @@ module _ (es : List Event) (ls : List Line) (r : World) (w v : Machine) (past : 
         h = row-holds (openings r.sent) r.clients w v Caused facts.unique full m.coordinator m.tickets (past.entries s m is) places past.last named-here aborted-here (λ c q. message ≡ messages.Begin c q) free message (comes message i)
 
         news : (x : Sent) → NewsFact (openings r.sent) r.clients w v Caused facts.unique full m.coordinator m.tickets (past.entries s m is) places past.last named-here aborted-here (λ c q. message ≡ messages.Begin c q) row.table.transactions x → News (at_server r.memory s (Some (of_coordinator m row).table)) x
-        news (to, messages.Begun c q (Some T)) p = (((of_coordinator m row).table, own s (lines_of s (Some k) row.notes) (Some (of_coordinator m row).table) T.server (sym (p.1 ∙ up.server)), p.0), subst (λ (z : ServerNo). In (Server z, messages.Begin c q) r.sent) (sym (p.1 ∙ up.server)) (subst (λ z. In (Server s, z) r.sent) p.2 i))
+        news (to, messages.Begun c q (Some T)) p = (((of_coordinator m row).table, own s (Some (of_coordinator m row).table) T.server (sym (p.1 ∙ up.server)), p.0), subst (λ (z : ServerNo). In (Server z, messages.Begin c q) r.sent) (sym (p.1 ∙ up.server)) (subst (λ z. In (Server s, z) r.sent) p.2 i))
         news (to, messages.Begun c q None) p = tt
         news (to, messages.Outcome c T outcome) p = tt
         news (to, messages.Prepare T c W) p = tt
@@ -344,28 +298,55 @@ module _ (es : List Event) (ls : List Line) (r : World) (w v : Machine) (past : 
         news (to, messages.Drop T W) p = p
         news (to, _) p = absurd p
 
-    pub delivered : (k : ℕ) (room : Room) (stop : Option (Pick → ℕ)) (message : Message) → In (Server s, message) r.sent → ((x : Sent) → In x (ends s (Some k) stop (server_row m (stable (r.found s)) room message) r).sent → IsTrue v x) → ServerKeeps (ends s (Some k) stop (server_row m (stable (r.found s)) room message) r)
-    delivered k room stop (messages.Open c q T) i true' = worker-ends k stop room (messages.Open c q T) i
-    delivered k room stop (messages.Op c q W n op) i true' = worker-ends k stop room (messages.Op c q W n op) i
-    delivered k room stop (messages.Prepare T c W) i true' = worker-ends k stop room (messages.Prepare T c W) i
-    delivered k room stop (messages.Commit T W) i true' = worker-ends k stop room (messages.Commit T W) i
-    delivered k room stop (messages.Drop T W) i true' = worker-ends k stop room (messages.Drop T W) i
-    delivered k room stop (messages.Begin c q) i true' = coordinator-ends k stop room.free.records (messages.Begin c q) i true'
-    delivered k room stop (messages.End c q T Ws) i true' = coordinator-ends k stop room.free.records (messages.End c q T Ws) i true'
-    delivered k room stop (messages.Abort c q T Ws) i true' = coordinator-ends k stop room.free.records (messages.Abort c q T Ws) i true'
-    delivered k room stop (messages.Thanks c T) i true' = coordinator-ends k stop room.free.records (messages.Thanks c T) i true'
-    delivered k room stop (messages.Vote T W vote) i true' = coordinator-ends k stop room.free.records (messages.Vote T W vote) i true'
-    delivered k room stop (messages.Done T W) i true' = coordinator-ends k stop room.free.records (messages.Done T W) i true'
-    delivered k room stop (messages.Inquire T W) i true' = coordinator-ends k stop room.free.records (messages.Inquire T W) i true'
-    delivered k room stop (messages.Begun c q o) i true' = coordinator-ends k stop room.free.records (messages.Begun c q o) i true'
-    delivered k room stop (messages.Opened c q T o) i true' = coordinator-ends k stop room.free.records (messages.Opened c q T o) i true'
-    delivered k room stop (messages.Answer c q answer) i true' = coordinator-ends k stop room.free.records (messages.Answer c q answer) i true'
-    delivered k room stop (messages.Outcome c T outcome) i true' = coordinator-ends k stop room.free.records (messages.Outcome c T outcome) i true'
+    -- where every client is idle, each transaction is past
+    closing-done : ((c : ClientNo) → IsIdle (r.clients c)) → ServerKeeps (done s None (of_coordinator m (close_clients_row m.coordinator m.tickets)) r)
+    closing-done idle = up-keeps s m (of_coordinator m (close_clients_row m.coordinator m.tickets)).table is _ _ [] _ [] refl refl tt (λ T not t. absurd (is-past T t not)) (λ W e t. inl t) (old-told s m [] is) tt
+      where
+        none-tid : (T : Tid) → None ≡ Some T → ⊥
+        none-tid T e = cc
+
+        none-out : (x : Outstanding) → None ≡ Some x → ⊥
+        none-out x e = cc
+
+        is-past : (T : Tid) → IsThere T m.coordinator.transactions → ((c : ClientNo) → IsPast (openings r.sent) c (r.clients c) T → ⊥) → ⊥
+        is-past T t not = let f = some_of (transaction_at T m.coordinator.transactions) t in let y = each-found (EntryFact (openings r.sent) r.clients w Caused m.coordinator.seen) T m.coordinator.transactions f.0 (past.entries s m is) f.1 in
+            not f.0.client (subst (λ (U : Tid). IsPast (openings r.sent) f.0.client (r.clients f.0.client) U) y.1 (record {
+              request = y.0.request;
+              has = y.0.has;
+              drawn = all-drawn (openings r.sent) r.clients w Caused r.sent past.says (opening f.0.client y.0.request f.0.tid) y.0.has;
+              over = λ e. none-tid f.0.tid (sym (idle f.0.client).0 ∙ e);
+              answered = λ o e. absurd (none-out o (sym (idle f.0.client).1 ∙ e));
+            }))
+
+    pub row-keeps : (step : Step) (k : Option ℕ) (row : RowOutcome Memory) → ServerRow r s m None step k row → IsStep step r → ((x : Sent) → In x (r.sent ++ row.messages) → IsTrue v x) → ServerKeeps (done s k row r)
+    row-keeps _ _ _ (of_message _ k room message is) may said = by (is_for_worker message) said
+      where
+        by : (b : Bool) → ((x : Sent) → In x (r.sent ++ (if b then of_worker m (worker_row m.worker (storage_of m (stable (r.found s)) room) m.tickets message) else of_coordinator m (coordinator_row m.coordinator room.free.records m.tickets message)).messages) → IsTrue v x)
+            → ServerKeeps (done s (Some k) (if b then of_worker m (worker_row m.worker (storage_of m (stable (r.found s)) room) m.tickets message) else of_coordinator m (coordinator_row m.coordinator room.free.records m.tickets message)) r)
+        by true h = message-done k room message (get-in r.sent k (Server s, message) is)
+        by false h = coordinator-done k room.free.records message (get-in r.sent k (Server s, message) is) h
+    row-keeps _ _ row (of_work _ room _ is) may said = by (worker_step m.worker (storage_of m (stable (r.found s)) room) m.tickets) refl is
+      where
+        by : (o : Option (RowOutcome WorkerTable)) → worker_step m.worker (storage_of m (stable (r.found s)) room) m.tickets ≡ o → of_step m o ≡ Some row → ServerKeeps (done s None row r)
+        by None e f = absurd (none_some row f)
+        by (Some x) e f = subst (λ (z : RowOutcome Memory). ServerKeeps (done s None z r)) (some_is (of_worker m x) row f) (step-done room x e)
+    row-keeps _ _ _ of_closing idle said = closing-done idle
 
     -- ---- what changes no table of transactions
 
-    pub nudged : ServerKeeps (nudge s (Some m) r)
-    nudged = still-keeps _ [] (server_again m (stable (r.found s))) (sym (append-nil r.lines)) refl refl refl tt (each-append (News r.memory) (worker_again (stable (r.found s)) m.worker) (coordinator_again m.coordinator.transactions) (asks m.worker) (tells m.coordinator.transactions))
+    pub again-keeps : ServerKeeps (record r { sent = r.sent ++ server_again m (stable (r.found s)) })
+    again-keeps = record {
+      new = [];
+      adds = sym (append-nil r.lines);
+      more = server_again m (stable (r.found s));
+      sends = refl;
+      same = refl;
+      quiet = tt;
+      holds = λ T not h. inl h;
+      has = λ W h. inl h;
+      broken = λ q n e. old-told q n [] e;
+      news = each-append (News r.memory) (worker_again (stable (r.found s)) m.worker) (coordinator_again m.coordinator.transactions) (asks m.worker) (tells m.coordinator.transactions);
+    }
       where
         asks : (t : WorkerTable) → Each (News r.memory) (worker_again (stable (r.found s)) t)
         asks [] = tt
@@ -393,19 +374,9 @@ module _ (es : List Event) (ls : List Line) (r : World) (w v : Machine) (past : 
         tells [] = tt
         tells (y ∷ ys) = each-append (News r.memory) (told_again y y.stage) (coordinator_again ys) (one y y.stage) (tells ys)
 
-    pub timed-out : (T : Tid) → ServerKeeps (timeout s T (Some m) r)
-    timed-out T = record {
-      new = [];
-      adds = sym (append-nil r.lines);
-      more = [];
-      sends = sym (append-nil r.sent);
-      same = refl;
-      quiet = tt;
-      holds = λ U not l. one-holds s [] m (of_timeout m (timeout_row m.worker T)) is U (λ e t. subst (λ (z : CoordinatorTable). IsThere U z.transactions) (sym (same (timeout_row m.worker T))) t) l;
-      has = λ W l. one-has s [] m (of_timeout m (timeout_row m.worker T)) is W (λ e t. inl (live (timeout_row m.worker T) refl W t)) l;
-      broken = all-broken s [] (Some (of_timeout m (timeout_row m.worker T))) (λ n e. subst (λ (z : Memory). Each (WorkTold s (r.lines ++ [])) z.worker) (some-memory (of_timeout m (timeout_row m.worker T)) n e) (all-told s r.lines [] _ (told (timeout_row m.worker T) refl)));
-      news = tt;
-    }
+    pub late-keeps : (T : Tid) → ServerKeeps (record r { memory = at_server r.memory s (Some (server_timeout m T)) })
+    late-keeps T = up-keeps s m (of_timeout m (timeout_row m.worker T)) is r.found r.sent [] r.lines [] (sym (append-nil r.sent)) (sym (append-nil r.lines)) tt (λ U not t. subst (λ (z : CoordinatorTable). IsThere U z.transactions) (sym (same (timeout_row m.worker T))) t)
+        (λ W e t. inl (live (timeout_row m.worker T) refl W t)) (all-told s r.lines [] _ (told (timeout_row m.worker T) refl)) tt
       where
         same : (o : Option WorkerTable) → (of_timeout m o).coordinator ≡ m.coordinator
         same None = refl
@@ -418,93 +389,3 @@ module _ (es : List Event) (ls : List Line) (r : World) (w v : Machine) (past : 
         told : (o : Option WorkerTable) → timeout_row m.worker T ≡ o → Each (WorkTold s r.lines) (of_timeout m o).worker
         told None e = cause.broken s m is
         told (Some now) e = (timeout-keeps s r.lines m.worker T now up.table.rising (cause.broken s m is) e).told
-
-  -- ---- every step of a server
-
-  up-at : (s : ServerNo) (m : Memory) → r.memory s ≡ Some m → UpFact s m (r.found s)
-  up-at s m is = subst (λ o. ServerFact s o (r.found s)) is (locks s)
-
-  pub memory-keeps : (s : ServerNo) (k : ℕ) (room : Room) (stop : Option (Pick → ℕ)) (message : Message) (o : Option Memory) → r.memory s ≡ o → In (Server s, message) r.sent → ((x : Sent) → In x (at_memory s k room stop message o r).sent → IsTrue v x) → ServerKeeps (at_memory s k room stop message o r)
-  memory-keeps s k room stop message None is i true' = quiet-keeps _ (texts.Lost k) refl refl refl refl tt
-  memory-keeps s k room stop message (Some m) is i true' = delivered s m is (up-at s m is) k room stop message i true'
-
-  pub work-keeps : (s : ServerNo) (room : Room) (stop : Option (Pick → ℕ)) (o : Option Memory) → r.memory s ≡ o → ServerKeeps (work s room stop o r)
-  work-keeps s room stop None is = nothing-keeps
-  work-keeps s room stop (Some m) is = by (worker_step m.worker (storage_of m (stable (r.found s)) room) m.tickets) refl
-    where
-      by : (o : Option (RowOutcome WorkerTable)) → worker_step m.worker (storage_of m (stable (r.found s)) room) m.tickets ≡ o → ServerKeeps (works s stop (of_step m o) r)
-      by None e = nothing-keeps
-      by (Some row) e = step-ends s m is (up-at s m is) stop room row e
-
-  pub nudge-keeps : (s : ServerNo) (o : Option Memory) → r.memory s ≡ o → ServerKeeps (nudge s o r)
-  nudge-keeps s None is = nothing-keeps
-  nudge-keeps s (Some m) is = nudged s m is (up-at s m is)
-
-  pub timing-keeps : (s : ServerNo) (T : Tid) (o : Option Memory) → r.memory s ≡ o → ServerKeeps (timeout s T o r)
-  timing-keeps s T None is = nothing-keeps
-  timing-keeps s T (Some m) is = timed-out s m is (up-at s m is) T
-
-  pub crash-keeps : (s : ServerNo) (o : Option Memory) → ServerKeeps (crash s o r)
-  crash-keeps s None = nothing-keeps
-  crash-keeps s (Some m) = down-keeps s (texts.Down s) tt (same-server s) _ refl refl refl refl
-
-  pub narrow-keeps : (s : ServerNo) (g : Pick → Pick) (o : Option Memory) → ServerKeeps (narrow s g o r)
-  narrow-keeps s g None = still-keeps _ [] [] (sym (append-nil r.lines)) (sym (append-nil r.sent)) refl refl tt tt
-  narrow-keeps s g (Some m) = nothing-keeps
-
-  pub raise-keeps : (s : ServerNo) (raised : Pick → Bool) (o : Option Memory) → ServerKeeps (stop_restart s raised o r)
-  raise-keeps s raised None = quiet-keeps _ (texts.Stopped s) refl refl refl refl tt
-  raise-keeps s raised (Some m) = nothing-keeps
-
-  pub restart-keeps : (s : ServerNo) (pick : Pick) (Ws : List WorkId) (Ts : List Tid) (o : Option Memory) → r.memory s ≡ o → ServerKeeps (restart s pick Ws Ts o r)
-  restart-keeps s pick Ws Ts (Some m) is = nothing-keeps
-  restart-keeps s pick Ws Ts None is = record {
-    new = new;
-    adds = refl;
-    more = [];
-    sends = sym (append-nil r.sent);
-    same = refl;
-    quiet = (tt, now-servers Ts r.lines);
-    holds = λ T not l. at-either s new (Some memory) T.server (λ (z : Memory). IsThere T z.coordinator.transactions) (list_any (goes_down T.server) new ≡ true) l (λ e m f t. absurd (none-memory m (sym is ∙ ap r.memory e ∙ f)));
-    has = λ W l. at-either s new (Some memory) W.server (λ (z : Memory). IsLive W z.worker) ((list_any (goes_down W.server) new ≡ true) ⊎ Spent v (w.owner W)) l (λ e m f t. absurd (none-memory m (sym is ∙ ap r.memory e ∙ f)));
-    broken = all-broken s new (Some memory) (λ n e. subst (λ (z : Memory). Each (WorkTold s (r.lines ++ new)) z.worker) (some-memory memory n e) (restored-told s (r.lines ++ new) (r.found s pick) Ws));
-    news = tt;
-  }
-    where
-      new : List Text
-      new = texts.Up s ((r.found s pick).epoch + 1) ∷ named_now Ts r.lines
-
-      memory : Memory
-      memory = restored s (r.found s pick) Ws Ts
-
-  -- where every client is idle, each transaction is past
-  pub close-keeps : (s : ServerNo) (o : Option Memory) → r.memory s ≡ o → ((c : ClientNo) → IsIdle (r.clients c)) → ServerKeeps (close_clients s o r)
-  close-keeps s None is idle = nothing-keeps
-  close-keeps s (Some m) is idle = record {
-    new = [];
-    adds = refl;
-    more = [];
-    sends = refl;
-    same = refl;
-    quiet = tt;
-    holds = λ T not h. absurd (is-past T h not);
-    has = λ W h. one-has s [] m (of_coordinator m (close_clients_row m.coordinator m.tickets)).table is W (λ e t. inl t) h;
-    broken = all-broken s [] (Some (of_coordinator m (close_clients_row m.coordinator m.tickets)).table) (λ n e. subst (λ (z : Memory). Each (WorkTold s (r.lines ++ [])) z.worker) (some-memory (of_coordinator m (close_clients_row m.coordinator m.tickets)).table n e) (old-told s m [] is));
-    news = tt;
-  }
-    where
-      none-tid : (T : Tid) → None ≡ Some T → ⊥
-      none-tid T e = cc
-
-      none-out : (x : Outstanding) → None ≡ Some x → ⊥
-      none-out x e = cc
-
-      is-past : (T : Tid) → HasTransaction r.memory T → ((c : ClientNo) → IsPast (openings r.sent) c (r.clients c) T → ⊥) → ⊥
-      is-past T h not = let f = some_of (transaction_at T h.0.coordinator.transactions) h.2 in let y = each-found (EntryFact (openings r.sent) r.clients w Caused h.0.coordinator.seen) T h.0.coordinator.transactions f.0 (past.entries T.server h.0 h.1) f.1 in
-          not f.0.client (subst (λ (U : Tid). IsPast (openings r.sent) f.0.client (r.clients f.0.client) U) y.1 (record {
-            request = y.0.request;
-            has = y.0.has;
-            drawn = all-drawn (openings r.sent) r.clients w Caused r.sent past.says (opening f.0.client y.0.request f.0.tid) y.0.has;
-            over = λ e. none-tid f.0.tid (sym (idle f.0.client).0 ∙ e);
-            answered = λ o e. absurd (none-out o (sym (idle f.0.client).1 ∙ e));
-          }))

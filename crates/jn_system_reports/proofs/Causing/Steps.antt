@@ -1,10 +1,9 @@
 -- After any steps, with the events that they stand under: each abort that is told has its cause.
-use Rattle.jn_system_reports.proofs.Common.{◌≡◌, ◌≢◌, ◌⊎◌, inl, inr, ℕ, ◌+◌, Bool, true, false, List, [], ◌∷◌, ◌++◌, append-nil, length, Option, Some, None, is_some, refl, sym, ◌∙◌, ap, subst, arith, ◌&&◌, slice_get, nat_lt, list_any, ServerNo, ClientNo, Tid, WorkId, Cause, Requested, LostAt, FullAt, Client, Server, Command, Abort, Resource, client_eq, tid_eq, client_tells, tid_tells, Message, Event, Text, Line, Outstanding, Taken, Pick, stable, Sent, worker_row, transaction_at, coordinator_row, ClientTable, Commanded, Refuses, Sends, command_row, take_row, sent_again, Machine, Invariant, Grows, not_both, World, Memory, has_line, Room, storage_of, Step, NextEvent, Tell, Again, Deliver, Nudge, Timeout, StopDelivery, StopWork, Crash, Narrow, StopRestart, Restart, Dismiss, CloseClients, IsStep, after, commanded, sent_now, took, handed, LockFacts, UpFact, ServerFact, Mirrors, AreOpen, IsCurrent, IsTrue, IsAddressed, holds-of, Opening, opening_in, openings, openings-more, Has, has-first, began_by, Began, Facts, all-have-theirs, EndsNow, is_in, AreWithin, at_event}
+use Rattle.jn_system_reports.proofs.Common.{◌≡◌, ◌≢◌, ◌⊎◌, inl, inr, ℕ, ◌+◌, Bool, true, false, List, [], ◌∷◌, ◌++◌, append-nil, length, Option, Some, None, is_some, refl, sym, ◌∙◌, ap, subst, arith, ◌&&◌, slice_get, nat_lt, list_any, ServerNo, ClientNo, Tid, WorkId, Cause, Requested, LostAt, FullAt, Client, Server, Command, Abort, Resource, client_eq, tid_eq, client_tells, tid_tells, Message, Event, Text, Line, Outstanding, Taken, Pick, stable, Sent, worker_row, transaction_at, coordinator_row, ClientTable, Commanded, Refuses, Sends, command_row, take_row, sent_again, Machine, Invariant, Grows, not_both, World, Memory, has_line, Room, storage_of, Step, Tell, IsStep, after, commanded, sent_now, LockFacts, UpFact, ServerFact, Mirrors, AreOpen, IsCurrent, IsTrue, IsAddressed, holds-of, Opening, opening_in, openings, openings-more, Has, has-first, began_by, Began, Facts, all-have-theirs, EndsNow, is_in, AreWithin, at_event, StableState, at_client, server_eq, same-server, if◌then◌else◌, ClientRow, by_command, by_ignoring, by_answering, by_telling, FoundThen, by_narrowing, by_raising, Quiet, event_begins, none_changes, is_refused, client_repeats, server_repeats, is_lost, StepCase, client_row, row_done, row_stopped, gone_late, gone_down, come_up, found_anew, dismissed, quietly, step-case}
 use Rattle.jn_msgs.specs.declared.message.Message.TheVariants as messages
 use Rattle.jn_schedule.specs.declared.Event.TheVariants as events
 use Rattle.jn_report.specs.declared.line.Text.TheVariants as texts
 use Rattle.jn_rows.specs.declared.client.Taken.TheVariants as taken
-use Rattle.jn_system.specs.WholeSystem.Steps.{Work}
 use Rattle.jn_system_reports.proofs.Reporting.Lists.{In, Each, each-in, get-in}
 use Rattle.jn_system_reports.proofs.Reporting.ClientTalk.{TableGoes, CommandTalks, command-talks, take-talks}
 use Rattle.jn_system_reports.proofs.Reporting.Talk.{Talk}
@@ -18,8 +17,8 @@ use Rattle.jn_system_reports.proofs.Reporting.Reached.{in-all}
 use Rattle.jn_system_reports.proofs.Reporting.StepLines.{IsPlainText, AddsLines, step-lines}
 use Rattle.jn_system_reports.proofs.Causing.Evidence.{Stands, Stood, DownAfter, in-here}
 use Rattle.jn_system_reports.proofs.Causing.CoordinatorKeeps.{Spent}
-use Rattle.jn_system_reports.proofs.Causing.Facts.{HasTransaction, WasOpened, HasCause, MessageFact, CauseFacts, BeganAt, cause-more, opened-more, came-by, messages-on, client-on, told-on}
-use Rattle.jn_system_reports.proofs.Causing.ServerSteps.{servers-mute, News, ServerKeeps, worker-row, nothing-keeps, memory-keeps, work-keeps, nudge-keeps, timing-keeps, crash-keeps, narrow-keeps, raise-keeps, restart-keeps, close-keeps}
+use Rattle.jn_system_reports.proofs.Causing.Facts.{IsMute, HasTransaction, WasOpened, HasCause, MessageFact, CauseFacts, BeganAt, cause-more, opened-more, came-by, messages-on, client-on, told-on}
+use Rattle.jn_system_reports.proofs.Causing.ServerSteps.{servers-mute, News, ServerKeeps, worker-row, row-keeps, down-keeps, late-keeps, restart-keeps, again-keeps}
 use Rattle.jn_system_reports.proofs.Causing.ClientSteps.{client-facts, again-facts, dismissed-facts, TakesCause, take-keeps, CommandCauses, command-keeps}
 
 -- an abort has its cause
@@ -97,16 +96,22 @@ module _ (es es' : List Event) (on : (j : ℕ) (e : Event) → Stands 1 es j e �
       news [] h = tt
       news (x ∷ more) h = (one x h.0, news more h.1)
 
+  -- no client and no memory changes
+  still-next : (event : ℕ) (found : ServerNo → Pick → StableState) (lines new : List Text) → lines ≡ r.lines ++ new → ((c : ClientNo) → IsMute c new) → NextCauses (record r { event = event; found = found; lines = lines })
+  still-next event found lines new adds mute = of-facts _ new [] adds (sym (append-nil r.sent)) (again-facts es es' on ls r w v cause mirrors facts spent new [] mute (λ x i. absurd i))
+
   -- ---- a client's
 
   current : (c : ClientNo) (T : Tid) → (r.clients c).transaction ≡ Some T → AreOpen w T (r.clients c).works
   current c T e = (subst (λ o. IsCurrent w o (r.clients c).works) e (mirrors.clients c).current).1
 
-  commanded-next : (c : ClientNo) (within : AreWithin 0 r.event ls) (row : Commanded) → CommandTalks (openings r.sent) w w.ended r.sent c (r.clients c) (facts.clients c) facts.unique (talk.waits c) (current c) row
-      → CommandCauses es es' on ls r w v cause mirrors facts spent c within row → NextCauses (commanded c row r)
-  commanded-next c within (Refuses refusal) h k = of-facts _ (texts.Refused c r.event refusal ∷ []) [] refl (sym (append-nil r.sent)) (again-facts es es' on ls r w v cause mirrors facts spent (texts.Refused c r.event refusal ∷ []) [] (λ d n now. refl) (λ x i. absurd i))
-  commanded-next c within (Sends u to message) h k = of-facts _ [] ((to, message) ∷ []) (sym (append-nil r.lines)) refl
-      (client-facts es es' on ls r w v cause mirrors facts spent c u [] ((to, message) ∷ []) (record { next = h.next; fresh = h.fresh; has = λ T e. inl (sym h.same ∙ e) }) k)
+  told-next : (c : ClientNo) (command : Command) (row : Commanded) → command_row (r.clients c) r.event command ≡ row → IsTold es es' ls r c command → NextCauses (commanded c row r)
+  told-next c command (Refuses refusal) e it = still-next r.event r.found _ (texts.Refused c r.event refusal ∷ []) refl (λ d n now. refl)
+  told-next c command (Sends u to message) e it = of-facts _ [] ((to, message) ∷ []) (sym (append-nil r.lines)) refl (client-facts es es' on ls r w v cause mirrors facts spent c u [] ((to, message) ∷ [])
+      (record { next = h.next; fresh = h.fresh; has = λ T k. inl (sym h.same ∙ k) }) (subst (CommandCauses es es' on ls r w v cause mirrors facts spent c it.within) e (command-keeps es es' on ls r w v cause mirrors facts spent c it.within command it.stands)))
+    where
+      h : CommandTalks (openings r.sent) w w.ended r.sent c (r.clients c) (facts.clients c) facts.unique (talk.waits c) (current c) (Sends u to message)
+      h = subst (CommandTalks (openings r.sent) w w.ended r.sent c (r.clients c) (facts.clients c) facts.unique (talk.waits c) (current c)) e (command-talks (openings r.sent) w w.ended r.sent c (r.clients c) (facts.clients c) facts.unique (talk.waits c) (current c) r.event command)
 
   again-next : (c : ClientNo) (o : Option Outstanding) → (r.clients c).outstanding ≡ o → NextCauses (record r { sent = r.sent ++ sent_now (sent_again o) })
   again-next c None e = of-facts _ [] [] (sym (append-nil r.lines)) refl (again-facts es es' on ls r w v cause mirrors facts spent [] [] (λ d n now. refl) (λ x i. absurd i))
@@ -116,43 +121,55 @@ module _ (es es' : List Event) (on : (j : ℕ) (e : Event) → Stands 1 es j e �
       by x (inl f) = subst (λ (y : Sent). In y r.sent) f (talk.waits c o e).again
       by x (inr f) = absurd f
 
-  took-next : (c : ClientNo) (k : ℕ) (u : ClientTable) (what : Taken) → TableGoes (openings r.sent) c (r.clients c) u → TakesCause es es' on ls r w v cause mirrors facts spent c k (u, what) → NextCauses (took c k u what r)
-  took-next c k u taken.Ignored g h = of-facts _ (texts.Ignored k ∷ []) [] refl (sym (append-nil r.sent)) (client-facts es es' on ls r w v cause mirrors facts spent c u (texts.Ignored k ∷ []) [] g h)
-  took-next c k u (taken.Send to message) g h = of-facts _ [] ((to, message) ∷ []) (sym (append-nil r.lines)) refl (client-facts es es' on ls r w v cause mirrors facts spent c u [] ((to, message) ∷ []) g h)
-  took-next c k u (taken.Told line answer) g h = of-facts _ (line ∷ []) (sent_now answer) refl refl (client-facts es es' on ls r w v cause mirrors facts spent c u (line ∷ []) (sent_now answer) g h)
-
-  handed-next : (k : ℕ) (room : Room) (stop : Option (Pick → ℕ)) (o : Option Sent) → slice_get r.sent k ≡ o → ((x : Sent) → In x (handed k room stop o r).sent → IsTrue v x) → NextCauses (handed k room stop o r)
-  handed-next k room stop None e said = server-next r (nothing-keeps es ls r w v past cause parts mirrors inv locks facts spent)
-  handed-next k room stop (Some (Client c, message)) e said = let row = take_row (r.clients c) message in
-      took-next c k row.0 row.1 (take-talks (openings r.sent) w w.ended r.sent c (r.clients c) (facts.clients c) facts.unique (talk.waits c) (current c) message
-      (holds-of (λ (x : Sent). (a : Opening) → Has a (opening_in x) → Has a (openings r.sent)) r.sent k (Client c, message) (all-have-theirs r.sent) e)).goes
-      (take-keeps es es' on ls r w v cause mirrors facts spent c k message (get-in r.sent k (Client c, message) e) (each-in (MessageFact es ls (openings r.sent) r.clients r.memory w) r.sent (Client c, message) cause.messages (get-in r.sent k (Client c, message) e)))
-  handed-next k room stop (Some (Server s, message)) e said = server-next _ (memory-keeps es ls r w v past cause parts mirrors inv locks facts spent s k room stop message (r.memory s) refl (get-in r.sent k (Server s, message) e) said)
-
-  -- ---- every step
-
-  pub step-causes : (step : Step) → IsStep step r → ((c : ClientNo) (command : Command) → step ≡ Tell c command → IsTold es es' ls r c command) → ((x : Sent) → In x (after step r).sent → IsTrue v x) → NextCauses (after step r)
-  step-causes NextEvent i told said = of-facts _ [] [] (sym (append-nil r.lines)) (sym (append-nil r.sent)) (again-facts es es' on ls r w v cause mirrors facts spent [] [] (λ d n now. refl) (λ x i. absurd i))
-  step-causes (Tell c command) i told said = let it = told c command refl in commanded-next c it.within (command_row (r.clients c) r.event command) (command-talks (openings r.sent) w w.ended r.sent c (r.clients c) (facts.clients c) facts.unique (talk.waits c) (current c) r.event command)
-      (command-keeps es es' on ls r w v cause mirrors facts spent c it.within command it.stands)
-  step-causes (Again c) i told said = again-next c (r.clients c).outstanding refl
-  step-causes (Deliver k room) i told said = handed-next k room None (slice_get r.sent k) refl said
-  step-causes (Work s room) i told said = server-next _ (work-keeps es ls r w v past cause parts mirrors inv locks facts spent s room None (r.memory s) refl)
-  step-causes (Nudge s) i told said = server-next _ (nudge-keeps es ls r w v past cause parts mirrors inv locks facts spent s (r.memory s) refl)
-  step-causes (Timeout s T) i told said = server-next _ (timing-keeps es ls r w v past cause parts mirrors inv locks facts spent s T (r.memory s) refl)
-  step-causes (StopDelivery k room made) i told said = handed-next k room (Some made) (slice_get r.sent k) refl said
-  step-causes (StopWork s room made) i told said = server-next _ (work-keeps es ls r w v past cause parts mirrors inv locks facts spent s room (Some made) (r.memory s) refl)
-  step-causes (Crash s) i told said = server-next _ (crash-keeps es ls r w v past cause parts mirrors inv locks facts spent s (r.memory s))
-  step-causes (Narrow s g) i told said = server-next _ (narrow-keeps es ls r w v past cause parts mirrors inv locks facts spent s g (r.memory s))
-  step-causes (StopRestart s raised) i told said = server-next _ (raise-keeps es ls r w v past cause parts mirrors inv locks facts spent s raised (r.memory s))
-  step-causes (Restart s pick Ws Ts) i told said = server-next _ (restart-keeps es ls r w v past cause parts mirrors inv locks facts spent s pick Ws Ts (r.memory s) refl)
-  step-causes Dismiss i told said = of-facts _ [] [] (sym (append-nil r.lines)) (sym (append-nil r.sent)) (dismissed-facts es es' on ls r w v cause mirrors facts spent [] [] (λ d n now. refl) (λ x j. absurd j))
-  step-causes (CloseClients s) i told said = server-next _ (close-keeps es ls r w v past cause parts mirrors inv locks facts spent s (r.memory s) refl i)
-
-  -- ---- what aborts have as their causes
+  takes : (c : ClientNo) (k : ℕ) (message : Message) (row : ClientTable × Taken) → slice_get r.sent k ≡ Some (Client c, message) → take_row (r.clients c) message ≡ row → TableGoes (openings r.sent) c (r.clients c) row.0 × TakesCause es es' on ls r w v cause mirrors facts spent c k row
+  takes c k message row is e = let i = get-in r.sent k (Client c, message) is in (
+    subst (λ x. TableGoes (openings r.sent) c (r.clients c) x.0) e (take-talks (openings r.sent) w w.ended r.sent c (r.clients c) (facts.clients c) facts.unique (talk.waits c) (current c) message
+        (holds-of (λ (x : Sent). (a : Opening) → Has a (opening_in x) → Has a (openings r.sent)) r.sent k (Client c, message) (all-have-theirs r.sent) is)).goes,
+    subst (TakesCause es es' on ls r w v cause mirrors facts spent c k) e (take-keeps es es' on ls r w v cause mirrors facts spent c k message i (each-in (MessageFact es ls (openings r.sent) r.clients r.memory w) r.sent (Client c, message) cause.messages i)),
+  )
 
   up-at : (s : ServerNo) (m : Memory) → r.memory s ≡ Some m → UpFact s m (r.found s)
   up-at s m is = subst (λ o. ServerFact s o (r.found s)) is (locks s)
+
+  -- ---- every step
+
+  abbrev IsToldBy : Step → Type 0
+  IsToldBy step = (c : ClientNo) (command : Command) → step ≡ Tell c command → IsTold es es' ls r c command
+
+  client-next : (c : ClientNo) (step : Step) (u : ClientTable) (sent : List Sent) (lines : List Text) → ClientRow r c step u sent lines → IsToldBy step
+      → NextCauses (record r { clients = at_client r.clients c u; sent = sent; lines = lines })
+  client-next c _ _ _ _ (by_command command u to message e) told = told-next c command (Sends u to message) e (told c command refl)
+  client-next c _ _ _ _ (by_ignoring k room stop message u is e) told = let h = takes c k message (u, taken.Ignored) is e in of-facts _ (texts.Ignored k ∷ []) [] refl (sym (append-nil r.sent)) (client-facts es es' on ls r w v cause mirrors facts spent c u (texts.Ignored k ∷ []) [] h.0 h.1)
+  client-next c _ _ _ _ (by_answering k room stop message u to answer is e) told = let h = takes c k message (u, taken.Send to answer) is e in of-facts _ [] ((to, answer) ∷ []) (sym (append-nil r.lines)) refl (client-facts es es' on ls r w v cause mirrors facts spent c u [] ((to, answer) ∷ []) h.0 h.1)
+  client-next c _ _ _ _ (by_telling k room stop message u line answer is e) told = let h = takes c k message (u, taken.Told line answer) is e in of-facts _ (line ∷ []) (sent_now answer) refl refl (client-facts es es' on ls r w v cause mirrors facts spent c u (line ∷ []) (sent_now answer) h.0 h.1)
+
+  found-next : (step : Step) (s : ServerNo) (found : Pick → StableState) (lines : List Text) → FoundThen r s step found lines → NextCauses (record r { found = λ q c. if server_eq s q then found c else r.found q c; lines = lines })
+  found-next _ s _ _ (by_narrowing g) = still-next r.event _ r.lines [] (sym (append-nil r.lines)) (λ d n now. refl)
+  found-next _ s _ _ (by_raising raise) = still-next r.event _ _ (texts.Stopped s ∷ []) refl (λ d n now. refl)
+
+  quiet-next : (step : Step) (event : ℕ) (sent : List Sent) (lines : List Text) → Quiet r step event sent lines → IsToldBy step → NextCauses (record r { event = event; sent = sent; lines = lines })
+  quiet-next _ _ _ _ event_begins told = still-next (r.event + 1) r.found r.lines [] (sym (append-nil r.lines)) (λ d n now. refl)
+  quiet-next _ _ _ _ (none_changes step) told = still-next r.event r.found r.lines [] (sym (append-nil r.lines)) (λ d n now. refl)
+  quiet-next _ _ _ _ (is_refused c command refusal e) told = told-next c command (Refuses refusal) e (told c command refl)
+  quiet-next _ _ _ _ (client_repeats c) told = again-next c (r.clients c).outstanding refl
+  quiet-next _ _ _ _ (server_repeats s m e) told = server-next _ (again-keeps es ls r w v past cause parts mirrors inv locks facts spent s m e (up-at s m e))
+  quiet-next _ _ _ _ (is_lost k room stop s message is e) told = still-next r.event r.found _ (texts.Lost k ∷ []) refl (λ d n now. refl)
+
+  by-case : (step : Step) (now : World) → StepCase r step now → IsStep step r → IsToldBy step → ((x : Sent) → In x now.sent → IsTrue v x) → NextCauses now
+  by-case step _ (client_row _ c u sent lines row) may told said = client-next c step u sent lines row told
+  by-case step _ (row_done _ s m k row e is) may told said = server-next _ (row-keeps es ls r w v past cause parts mirrors inv locks facts spent s m e (up-at s m e) step k row is may said)
+  by-case _ _ (row_stopped step s m k row made e is) may told said = server-next _ (down-keeps es ls r w v past cause parts mirrors inv locks facts spent s _ (texts.Stopped s) tt (same-server s))
+  by-case _ _ (gone_late s m T e) may told said = server-next _ (late-keeps es ls r w v past cause parts mirrors inv locks facts spent s m e (up-at s m e) T)
+  by-case _ _ (gone_down s m e) may told said = server-next _ (down-keeps es ls r w v past cause parts mirrors inv locks facts spent s r.found (texts.Down s) tt (same-server s))
+  by-case _ _ (come_up s pick Ws Ts e) may told said = server-next _ (restart-keeps es ls r w v past cause parts mirrors inv locks facts spent s e (r.found s pick) Ws Ts)
+  by-case step _ (found_anew _ s found lines e is) may told said = found-next step s found lines is
+  by-case _ _ dismissed may told said = of-facts _ [] [] (sym (append-nil r.lines)) (sym (append-nil r.sent)) (dismissed-facts es es' on ls r w v cause mirrors facts spent [] [] (λ d n now. refl) (λ x j. absurd j))
+  by-case step _ (quietly _ event sent lines is) may told said = quiet-next step event sent lines is told
+
+  pub step-causes : (step : Step) → IsStep step r → IsToldBy step → ((x : Sent) → In x (after step r).sent → IsTrue v x) → NextCauses (after step r)
+  step-causes step = by-case step (after step r) (step-case r step)
+
+  -- ---- what aborts have as their causes
 
   pub votes-say : (s : ServerNo) (m : Memory) → r.memory s ≡ Some m → (room : Room) (message : Message) → In (Server s, message) r.sent → Each (SaysPast (openings r.sent) r.clients w Caused) (worker_row m.worker (storage_of m (stable (r.found s)) room) m.tickets message).messages
   votes-say s m is room message i = (worker-row es ls r w v past cause parts mirrors inv locks facts spent s m is (up-at s m is) None room message i).says
@@ -195,7 +212,7 @@ module _ (es es' : List Event) (on : (j : ℕ) (e : Event) → Stands 1 es j e �
   any-full c T s n free need h = inr h
 
   -- a client's own abort
-  requested : (step : Step) → ((c : ClientNo) (command : Command) → step ≡ Tell c command → IsTold es es' ls r c command) → (new : List Text) (os : List Opening) (c : ClientNo) → step ≡ Tell c Abort → (T : Tid) → (r.clients c).transaction ≡ Some T → HasCause os es' (ls ++ at_event (1 + length es) new) c T Requested
+  requested : (step : Step) → IsToldBy step → (new : List Text) (os : List Opening) (c : ClientNo) → step ≡ Tell c Abort → (T : Tid) → (r.clients c).transaction ≡ Some T → HasCause os es' (ls ++ at_event (1 + length es) new) c T Requested
   requested step told new os c e T f = let it = told c Abort e in inr (record {
     number = r.event;
     event = events.Command c Abort;
@@ -209,7 +226,7 @@ module _ (es es' : List Event) (on : (j : ℕ) (e : Event) → Stands 1 es j e �
       both : (a b : Bool) → a ≡ true → b ≡ true → (a && b) ≡ true
       both a b h k = grind arith
 
-  pub past-next : (step : Step) → IsStep step r → ((c : ClientNo) (command : Command) → step ≡ Tell c command → IsTold es es' ls r c command) → (next : NextCauses (after step r)) → Later (after step r) v
+  pub past-next : (step : Step) → IsStep step r → IsToldBy step → (next : NextCauses (after step r)) → Later (after step r) v
       → PastFacts (after step r).sent (after step r).clients (after step r).memory (after step r).found v (HasCause (openings (after step r).sent) es' (ls ++ at_event (1 + length es) next.new))
   past-next step i told next later = step-past r w v Caused (HasCause (openings (after step r).sent) es' (ls ++ at_event (1 + length es) next.new)) past (cause-more es es' on ls next.new (openings r.sent) (openings (after step r).sent) next.forth) grown.aborted grown.named named any-full mirrors inv locks facts talk votes-say lost-there
       step (i, requested step told next.new (openings (after step r).sent)) later

@@ -1,7 +1,5 @@
 -- A worker's row: broken works have their lines, what it had it has, and its votes have causes.
-use Rattle.jn_system_reports.proofs.Common.{◌≡◌, ◌≢◌, ◌⊎◌, inl, inr, ℕ, ◌+◌, Bool, true, false, List, [], ◌∷◌, ◌++◌, Option, Some, None, is_some, refl, sym, ◌∙◌, ap, subst, arith, if◌then◌else◌, nat_eq, nat_lt, length, slice_get, list_any, ServerNo, ClientNo, LockUnit, Tid, WorkId, Tickets, Cause, FullAt, Op, Answer, Resource, work_eq, server_tells, tid_tells, work_tells, Files, change, answer_to, Intention, list_change, Message, Note, Vote, Text, Work, Phase, Active, Broken, Stored, ActiveWork, Change, Prepared, is_going, StableState, RowOutcome, Sent, WorkerTable, WorkStorage, Wanted, Held, work_at, work_of, with_phase, without, after_grant, breaks_at, broken_by, note_of, break_notes, name_from, new_work, open_row, wants_of, is_fit, refusal_of, granted_row, repeated, op_phase, op_row, conflict, commit_wants, shortage, vote_of, need_in, prepared_row, prepare_phase, prepare_row, commit_phase, drop_phase, drop_row, worker_row, going_work, going_row, carried_row, intentions_of, worker_step, vulnerable, timed_out, timeout_row, restored_work, restored_worker, ClientTable, are_rising, work_same, at-less, at-phase, in_phase, at-grant, once_granted, of-found, Machine, line_of, lines_of, Opening, unit_eq, breaks}
-use Rattle.jn_base.specs.declared.names.RequestNo.{RequestNo}
-use Rattle.jn_base.specs.declared.names.OperationNo.{OperationNo}
+use Rattle.jn_system_reports.proofs.Common.{◌≡◌, ◌≢◌, ◌⊎◌, inl, inr, ℕ, ◌+◌, Bool, true, false, List, [], ◌∷◌, ◌++◌, Option, Some, None, is_some, refl, sym, ◌∙◌, ap, subst, arith, if◌then◌else◌, nat_eq, nat_lt, length, slice_get, list_any, ServerNo, ClientNo, LockUnit, Tid, WorkId, Tickets, Cause, FullAt, Op, Answer, Resource, work_eq, server_tells, tid_tells, work_tells, Files, change, answer_to, Intention, list_change, Message, Note, Vote, Text, Work, Phase, Active, Broken, Stored, ActiveWork, Change, Prepared, is_going, StableState, RowOutcome, Sent, WorkerTable, WorkStorage, Wanted, Held, work_at, work_of, with_phase, without, after_grant, breaks_at, broken_by, note_of, break_notes, name_from, new_work, open_row, wants_of, is_fit, refusal_of, granted_row, repeated, op_phase, op_row, conflict, commit_wants, shortage, vote_of, need_in, prepared_row, prepare_phase, prepare_row, commit_phase, drop_phase, drop_row, worker_row, going_work, going_row, carried_row, intentions_of, worker_step, vulnerable, timed_out, timeout_row, restored_work, restored_worker, ClientTable, are_rising, work_same, at-less, at-phase, in_phase, at-grant, once_granted, of-found, Machine, line_of, lines_of, Opening, unit_eq, breaks, RequestNo, OperationNo}
 use Rattle.jn_base.specs.declared.names.Resource.TheVariants as resources
 use Rattle.jn_records.specs.declared.net_list.Need.{Need}
 use Rattle.jn_msgs.specs.declared.message.Message.TheVariants as messages

@@ -1,9 +1,8 @@
 -- Each stop and each refused fault of a run's lines has an arm, or a decay of its event.
-use Rattle.jn_system_reports.proofs.Common.{◌≡◌, ◌≢◌, ◌⊎◌, inl, inr, ◌≤◌, ℕ, suc, ◌+◌, Bool, true, false, List, [], ◌∷◌, ◌++◌, append-nil, append_assoc, length, refl, sym, ◌∙◌, ap, subst, arith, ◌&&◌, ◌||◌, not, if◌then◌else◌, nat_lt, list_any, list_all, nat_tests, ServerNo, server_eq, server_tells, AllFiles, Event, AtEvent, Text, Line, lines_at, says, count_lines, count_events, is_stop, refuses_event, stops, arms_stop, refuses_fault, gives_fault, AreWithin, lines_at-newest, AreWithin-append, AreWithin-wider, World, opening, Step, NextEvent, Tell, Again, Deliver, Nudge, Timeout, StopDelivery, StopWork, Crash, Narrow, StopRestart, Restart, Dismiss, CloseClients, after, IsRun, Act, Does, Tells, Shows, Item, events_of, steps_in, steps_of, told_in, told_under, after_item, at_event, may_do, may_act, IsUnder, AreUnder, Waiting, none_wait, one_more, armed, with_event, strike_all, AreStruck, FaultsWait, IsReported, ArmedFrom, AreArmed}
+use Rattle.jn_system_reports.proofs.Common.{◌≡◌, ◌≢◌, ◌⊎◌, inl, inr, ◌≤◌, ℕ, suc, ◌+◌, Bool, true, false, List, [], ◌∷◌, ◌++◌, append-nil, append_assoc, length, refl, sym, ◌∙◌, ap, subst, arith, ◌&&◌, ◌||◌, not, if◌then◌else◌, nat_lt, list_any, list_all, nat_tests, ServerNo, server_eq, server_tells, AllFiles, Event, AtEvent, Text, Line, lines_at, says, count_lines, count_events, is_stop, refuses_event, stops, arms_stop, refuses_fault, gives_fault, AreWithin, lines_at-newest, AreWithin-append, AreWithin-wider, World, opening, NextEvent, after, IsRun, Act, Does, Tells, Shows, Item, events_of, steps_in, steps_of, told_in, told_under, after_item, at_event, may_act, IsUnder, AreUnder, Waiting, none_wait, one_more, armed, with_event, strike_all, AreStruck, FaultsWait, IsReported, ArmedFrom, AreArmed}
 use Rattle.jn_base.specs.declared.device.FaultKind.{FaultKind}
 use Rattle.jn_schedule.specs.declared.Event.TheVariants as events
 use Rattle.jn_report.specs.declared.line.Text.TheVariants as says
-use Rattle.jn_system.specs.WholeSystem.Steps.{Work}
 use Rattle.jn_system_reports.specs.Reporting.Reported.{Refuses, lines_of}
 use Rattle.jn_system_reports.proofs.Reporting.Lists.{Each}
 use Rattle.jn_system_reports.proofs.Reporting.Reached.{Reached, next-reached, opening-reached}
@@ -17,41 +16,21 @@ abbrev IsRefusal : Text → Type 0
 IsRefusal (says.RefusedEvent refusal) = Unit {0}
 IsRefusal text = ⊥
 
-arm-does-none : (s : ServerNo) (n : ℕ) (kind : FaultKind) (step : Step) → may_do (events.Arm s n kind) step ≡ false
-arm-does-none s n kind NextEvent = refl
-arm-does-none s n kind (Tell c command) = refl
-arm-does-none s n kind (Again c) = refl
-arm-does-none s n kind (Deliver k room) = refl
-arm-does-none s n kind (Work t room) = refl
-arm-does-none s n kind (Nudge t) = refl
-arm-does-none s n kind (Timeout t T) = refl
-arm-does-none s n kind (StopDelivery k room made) = refl
-arm-does-none s n kind (StopWork t room made) = refl
-arm-does-none s n kind (Crash t) = refl
-arm-does-none s n kind (Narrow t g) = refl
-arm-does-none s n kind (StopRestart t raised) = refl
-arm-does-none s n kind (Restart t pick Ws Ts) = refl
-arm-does-none s n kind Dismiss = refl
-arm-does-none s n kind (CloseClients t) = refl
-
 arm-texts : (s : ServerNo) (n : ℕ) (kind : FaultKind) (acts : List Act) (r : World) → list_all (may_act (events.Arm s n kind)) acts ≡ true → Each IsRefusal (told_in acts r)
-arm-texts s n kind [] r h = tt
-arm-texts s n kind (Does step ∷ acts) r h = absurd (both (may_do (events.Arm s n kind) step) (list_all (may_act (events.Arm s n kind)) acts) (arm-does-none s n kind step) h)
-  where
-    both : (a b : Bool) → a ≡ false → (a && b) ≡ true → ⊥
-    both a b e k = grind arith
-arm-texts s n kind (Refuses refusal ∷ acts) r h = (tt, arm-texts s n kind acts r (second _ _ h))
+arm-texts s n kind acts r h = by acts h
   where
     second : (a b : Bool) → (a && b) ≡ true → b ≡ true
     second a b k = grind arith
-arm-texts s n kind (Tells t fault ∷ acts) r h = absurd (no (list_all (may_act (events.Arm s n kind)) acts) h)
-  where
+
     no : (b : Bool) → (false && b) ≡ true → ⊥
     no b k = grind arith
-arm-texts s n kind (Shows t prints ∷ acts) r h = absurd (no (list_all (may_act (events.Arm s n kind)) acts) h)
-  where
-    no : (b : Bool) → (false && b) ≡ true → ⊥
-    no b k = grind arith
+
+    by : (acts : List Act) → list_all (may_act (events.Arm s n kind)) acts ≡ true → Each IsRefusal (told_in acts r)
+    by [] h = tt
+    by (Does step ∷ acts) h = absurd (no (list_all (may_act (events.Arm s n kind)) acts) h)
+    by (Refuses refusal ∷ acts) h = (tt, by acts (second _ _ h))
+    by (Tells t fault ∷ acts) h = absurd (no (list_all (may_act (events.Arm s n kind)) acts) h)
+    by (Shows t prints ∷ acts) h = absurd (no (list_all (may_act (events.Arm s n kind)) acts) h)
 
 -- ---- what an event may give
 

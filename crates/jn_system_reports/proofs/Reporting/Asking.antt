@@ -1,7 +1,5 @@
 -- What clients ask of works, and what such an operation can be answered.
-use Rattle.jn_system_reports.proofs.Common.{◌≡◌, ◌⊎◌, inl, inr, ◌≤◌, ℕ, Bool, true, List, [], ◌++◌, Option, Some, None, refl, not, length, ClientNo, WorkId, Party, Op, Answer, Work, Phase, Active, Sent, answer_line, answers_op, can_have, is_read}
-use Rattle.jn_base.specs.declared.names.OperationNo.{OperationNo}
-use Rattle.jn_base.specs.declared.names.RequestNo.{RequestNo}
+use Rattle.jn_system_reports.proofs.Common.{◌≡◌, ◌⊎◌, inl, inr, ◌≤◌, ℕ, Bool, true, List, [], ◌++◌, Option, Some, None, refl, not, length, ClientNo, WorkId, Party, Op, Answer, Work, Phase, Active, Sent, answer_line, answers_op, can_have, is_read, OperationNo, RequestNo}
 use Rattle.jn_base.specs.declared.op.Answer.TheVariants as answers
 use Rattle.jn_msgs.specs.declared.message.Message.TheVariants as messages
 use Rattle.jn_report.specs.declared.line.Refusal.TheVariants as refusals

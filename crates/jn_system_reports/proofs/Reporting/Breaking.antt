@@ -1,7 +1,5 @@
 -- A work that a row says is broken was one that held something, and is broken in its table.
-use Rattle.jn_system_reports.proofs.Common.{◌≡◌, ◌⊎◌, inl, inr, ◌+◌, Bool, true, false, List, [], ◌∷◌, Option, Some, None, refl, sym, ◌∙◌, ap, subst, arith, ◌&&◌, ◌||◌, not, if◌then◌else◌, nat_lt, nat_eq, length, ClientNo, Tid, WorkId, LockUnit, Tickets, Op, Answer, work_eq, work_tells, Files, change, answer_to, list_change, Read, IntentionWrite, is_unit, Message, Vote, Work, Phase, Active, Broken, Stored, ActiveWork, is_going, RowOutcome, WorkerTable, WorkStorage, Wanted, work_at, work_of, with_phase, after_grant, breaks_at, broken_by, note_of, break_notes, gives_way, collision, has_mode, open_row, wants_of, is_fit, refusal_of, granted_row, repeated, op_phase, op_row, conflict, commit_wants, vote_of, shortage, need_in, prepared_row, prepare_phase, prepare_row, commit_phase, drop_phase, drop_row, worker_row, is_before, are_rising, work_same, found-name, found-behind, not-before, in_phase, at-phase, once_granted, at-grant}
-use Rattle.jn_base.specs.declared.names.OperationNo.{OperationNo}
-use Rattle.jn_base.specs.declared.names.RequestNo.{RequestNo}
+use Rattle.jn_system_reports.proofs.Common.{◌≡◌, ◌⊎◌, inl, inr, ◌+◌, Bool, true, false, List, [], ◌∷◌, Option, Some, None, refl, sym, ◌∙◌, ap, subst, arith, ◌&&◌, ◌||◌, not, if◌then◌else◌, nat_lt, nat_eq, length, ClientNo, Tid, WorkId, LockUnit, Tickets, Op, Answer, work_eq, work_tells, Files, change, answer_to, list_change, Read, IntentionWrite, is_unit, Message, Vote, Work, Phase, Active, Broken, Stored, ActiveWork, is_going, RowOutcome, WorkerTable, WorkStorage, Wanted, work_at, work_of, with_phase, after_grant, breaks_at, broken_by, note_of, break_notes, gives_way, collision, has_mode, open_row, wants_of, is_fit, refusal_of, granted_row, repeated, op_phase, op_row, conflict, commit_wants, vote_of, shortage, need_in, prepared_row, prepare_phase, prepare_row, commit_phase, drop_phase, drop_row, worker_row, is_before, are_rising, work_same, found-name, found-behind, not-before, in_phase, at-phase, once_granted, at-grant, OperationNo, RequestNo}
 use Rattle.jn_locks.specs.declared.words.Mode.TheVariants.{Commit}
 use Rattle.jn_msgs.specs.declared.message.Message.TheVariants as messages
 use Rattle.jn_msgs.specs.declared.message.Note.TheVariants.{Broke, Ignored}

@@ -1,7 +1,5 @@
 -- A client's rows keep what it has asked for, and a new operation of it is the next one of its work.
-use Rattle.jn_system_reports.proofs.Common.{◌≡◌, ◌≢◌, ◌⊎◌, inl, inr, ◌<◌, ◌≤◌, ℕ, ◌+◌, Bool, true, false, List, [], ◌∷◌, ◌++◌, Option, Some, None, refl, sym, ◌∙◌, ap, subst, arith, ◌&&◌, if◌then◌else◌, nat_lt, nat_tests, ServerNo, ClientNo, Tid, WorkId, Party, Client, Server, Op, Command, Begin, Open, Do, End, Abort, server_eq, client_eq, client_tells, Message, Outcome, Text, OpenWork, Outstanding, Taken, Sent, ClientTable, Commanded, Refuses, Sends, with_operation, if_server, if_idle, if_transaction, if_no_transaction, if_open, if_not_open, command_row, sends, is_begin, is_current, if_waits, idle, over, begun_row, opened_row, decided_row, outcome_row, take_row, Machine, IsWorkOf, not_both, AreOpen, found-open, Opening, opening_in, Has, Began, IsRunning}
-use Rattle.jn_base.specs.Names.{request_eq, request_of, operation_of}
-use Rattle.jn_base.specs.declared.names.RequestNo.{RequestNo}
+use Rattle.jn_system_reports.proofs.Common.{◌≡◌, ◌≢◌, ◌⊎◌, inl, inr, ◌<◌, ◌≤◌, ℕ, ◌+◌, Bool, true, false, List, [], ◌∷◌, ◌++◌, Option, Some, None, refl, sym, ◌∙◌, ap, subst, arith, ◌&&◌, if◌then◌else◌, nat_lt, nat_tests, ServerNo, ClientNo, Tid, WorkId, Party, Client, Server, Op, Command, Begin, Open, Do, End, Abort, server_eq, client_eq, client_tells, Message, Outcome, Text, OpenWork, Outstanding, Taken, Sent, ClientTable, Commanded, Refuses, Sends, with_operation, if_server, if_idle, if_transaction, if_no_transaction, if_open, if_not_open, command_row, sends, is_begin, is_current, if_waits, idle, over, begun_row, opened_row, decided_row, outcome_row, take_row, Machine, IsWorkOf, not_both, AreOpen, found-open, Opening, opening_in, Has, Began, IsRunning, request_eq, request_of, operation_of, RequestNo}
 use Rattle.jn_msgs.specs.declared.message.Message.TheVariants as messages
 use Rattle.jn_msgs.specs.declared.message.Outcome.TheVariants as outcomes
 use Rattle.jn_report.specs.declared.line.Refusal.TheVariants as refusals

@@ -1,6 +1,5 @@
 -- A coordinator answers no operation, and asks for none.
-use Rattle.jn_system_reports.proofs.Common.{ℕ, Bool, true, false, List, [], ◌∷◌, ◌++◌, Option, Some, None, ◌&&◌, not, if◌then◌else◌, nat_lt, nat_eq, length, ClientNo, Tid, WorkId, Tickets, Cause, Message, Vote, Transaction, Stage, Ballot, Commitment, Change, RowOutcome, Sent, CoordinatorTable, transaction_at, with_work, is_work, all_in, besides, drops, commits, prepares, commit_row, abort_row, forget_row, begin_new, begin_again, begin_row, after_closing, changes_of_closing, seen_now, end_promised, end_stage, end_row, abort_stage, abort_request, told_stage, inquire_row, counted_vote, vote_stage, vote_row, done_stage, done_row, thanks_stage, thanks_row, coordinator_row, told_again, coordinator_again, committed_to}
-use Rattle.jn_base.specs.declared.names.RequestNo.{RequestNo}
+use Rattle.jn_system_reports.proofs.Common.{ℕ, Bool, true, false, List, [], ◌∷◌, ◌++◌, Option, Some, None, ◌&&◌, not, if◌then◌else◌, nat_lt, nat_eq, length, ClientNo, Tid, WorkId, Tickets, Cause, Message, Vote, Transaction, Stage, Ballot, Commitment, Change, RowOutcome, Sent, CoordinatorTable, transaction_at, with_work, is_work, all_in, besides, drops, commits, prepares, commit_row, abort_row, forget_row, begin_new, begin_again, begin_row, after_closing, changes_of_closing, seen_now, end_promised, end_stage, end_row, abort_stage, abort_request, told_stage, inquire_row, counted_vote, vote_stage, vote_row, done_stage, done_row, thanks_stage, thanks_row, coordinator_row, told_again, coordinator_again, committed_to, RequestNo}
 use Rattle.jn_msgs.specs.declared.message.Message.TheVariants as messages
 use Rattle.jn_msgs.specs.declared.message.Vote.TheVariants as votes
 use Rattle.jn_rows.specs.declared.coordinator.Stage.TheVariants.{Open, Voting, Committed, Aborted}

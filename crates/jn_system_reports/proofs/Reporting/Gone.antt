@@ -1,7 +1,7 @@
 -- A work that is nowhere stays so, and never becomes ready.
-use Rattle.jn_system_reports.proofs.Common.{◌≡◌, ◌≢◌, ◌⊎◌, inl, inr, Bool, true, false, List, [], ◌∷◌, Option, Some, None, is_some, refl, sym, ◌∙◌, ap, subst, if◌then◌else◌, ServerNo, WorkId, server_eq, work_eq, server_tells, work_tells, StableState, Pick, Change, AddReady, MarkGoing, CarryOut, RemoveWork, AddFlag, DropFlag, at_work, gone_on, made_by, NamesFact, Invariant, Atom, Perform, Lose, Prepare, Learn, NoteReady, NoteOver, Close, Make, Count, Name, Decide, RaiseEpoch, changed, server_of, with_epoch, May, MayRun, MayMake, fresh_work, step_kept, not_both, clash, some_none}
+use Rattle.jn_system_reports.proofs.Common.{◌≡◌, ◌≢◌, ◌⊎◌, inl, inr, Bool, true, false, List, [], ◌∷◌, Option, Some, None, is_some, refl, sym, ◌∙◌, ap, subst, if◌then◌else◌, ServerNo, WorkId, server_eq, work_eq, server_tells, work_tells, StableState, Pick, Change, AddReady, MarkGoing, CarryOut, RemoveWork, AddFlag, DropFlag, at_work, gone_on, made_by, NamesFact, Invariant, Atom, Perform, Lose, Prepare, Learn, NoteReady, NoteOver, Close, Make, Count, Name, Decide, RaiseEpoch, changed, server_of, with_epoch, May, MayRun, MayMake, fresh_work, step_kept, not_both, clash, some_none, Narrow, Crash, Restart}
 use Rattle.jn_system.specs.SmallSteps.World.{World}
-use Rattle.jn_system.specs.SmallSteps.Steps.{Begin, Open, End, Abort, Narrow, Crash, Restart, after, run}
+use Rattle.jn_system.specs.SmallSteps.Steps.{Begin, Open, End, Abort, after, run}
 
 -- its server has it neither in memory nor in a state that may be found
 pub record Gone (w : World) (W : WorkId) : Type 0 where

@@ -1,13 +1,10 @@
 -- The lines that a step adds answer what its clients wait for.
-use Rattle.jn_system_reports.proofs.Common.{◌≡◌, ◌≢◌, ◌⊎◌, inl, inr, ℕ, ◌+◌, Bool, true, false, List, [], ◌∷◌, ◌++◌, append-nil, Option, Some, None, refl, sym, ◌∙◌, ap, subst, arith, length, drop, ◌&&◌, if◌then◌else◌, nat_eq, nat_lt, slice_get, nat_tests, drop-append_seam, ServerNo, ClientNo, Tid, WorkId, Client, Server, Op, Answer, Command, Begin, Open, Do, End, Abort, client_eq, client_tells, Message, Text, OpenWork, Outstanding, Taken, Pick, stable, RowOutcome, Sent, close_clients_row, ClientTable, Commanded, Refuses, Sends, if_server, if_idle, if_transaction, if_no_transaction, if_open, if_not_open, command_row, take_row, Asked, Waited, with_asked, is_own, addressed, answer_in, is_last, fits_asked, fits, after_answer, World, Memory, at_client, Room, server_row, server_step, of_coordinator, lines_of, named_now, Step, NextEvent, Tell, Again, Deliver, Nudge, Timeout, StopDelivery, StopWork, Crash, Narrow, StopRestart, Restart, Dismiss, CloseClients, after, took, ends, at_memory, handed, works, work, nudge, timeout, crash, narrow, stop_restart, restart, close_clients, Machine, not_both, Facts, told_by, Done}
-use Rattle.jn_base.specs.Names.{request_eq}
-use Rattle.jn_base.specs.declared.names.RequestNo.{RequestNo}
+use Rattle.jn_system_reports.proofs.Common.{◌≡◌, ◌≢◌, ◌⊎◌, inl, inr, ℕ, ◌+◌, Bool, true, false, List, [], ◌∷◌, ◌++◌, append-nil, Option, Some, None, refl, sym, ◌∙◌, ap, subst, arith, length, drop, ◌&&◌, if◌then◌else◌, nat_eq, nat_lt, slice_get, nat_tests, drop-append_seam, ServerNo, ClientNo, Tid, Client, Op, Answer, Command, Begin, Open, Do, End, Abort, client_eq, client_tells, Message, Text, OpenWork, Outstanding, Taken, Sent, ClientTable, Commanded, Refuses, Sends, if_server, if_idle, if_transaction, if_no_transaction, if_open, if_not_open, command_row, take_row, Asked, Waited, with_asked, is_own, addressed, answer_in, is_last, fits_asked, fits, after_answer, World, at_client, lines_of, named_now, Step, NextEvent, Tell, Dismiss, after, Machine, not_both, Facts, told_by, Done, request_eq, RequestNo, one-client, ClientRow, by_command, by_ignoring, by_answering, by_telling, by_narrowing, by_raising, Quiet, event_begins, none_changes, is_refused, client_repeats, server_repeats, is_lost, StepCase, client_row, row_done, row_stopped, gone_late, gone_down, come_up, found_anew, dismissed, quietly, step-case}
 use Rattle.jn_msgs.specs.declared.message.Message.TheVariants as messages
 use Rattle.jn_report.specs.declared.line.Refusal.TheVariants as refusals
 use Rattle.jn_report.specs.declared.line.Text.TheVariants as says
 use Rattle.jn_rows.specs.declared.client.Taken.TheVariants as taken
 use Rattle.jn_rows.specs.Client.{work_at}
-use Rattle.jn_system.specs.WholeSystem.Steps.{Work}
 use Rattle.jn_system_reports.proofs.Reporting.Lists.{Each, each-in, get-in}
 use Rattle.jn_system_reports.proofs.Reporting.Asking.{can_answer, IsAnswered}
 use Rattle.jn_system_reports.proofs.Reporting.Known.{Does}
@@ -34,11 +31,7 @@ told-is r step texts e = ap (λ (l : List Text). drop (length r.lines) l) e ∙ 
 module _ (clients : ClientNo → ClientTable) (c : ClientNo) (u : ClientTable) (out : Waited) (waits : Waits out clients) where
   -- it waits for the same
   same-waits : u.outstanding ≡ (clients c).outstanding → Waits out (at_client clients c u)
-  same-waits e d = by (client_tells c d)
-    where
-      by : ((client_eq c d ≡ true) × (c ≡ d)) ⊎ ((client_eq c d ≡ false) × (c ≢ d)) → out d ≡ asked_of (if client_eq c d then u else clients d).outstanding
-      by (inl p) = waits d ∙ ap (λ (z : ClientNo). asked_of (clients z).outstanding) (sym p.1) ∙ ap asked_of (sym e) ∙ ap (λ (b : Bool). asked_of (if b then u else clients d).outstanding) (sym p.0)
-      by (inr p) = waits d ∙ ap (λ (b : Bool). asked_of (if b then u else clients d).outstanding) (sym p.0)
+  same-waits e = one-client (λ d (x : ClientTable). out d ≡ asked_of x.outstanding) clients c u (waits c ∙ ap asked_of (sym e)) (λ d ne. waits d)
 
   -- or for this
   pub new-waits : (o : Option Asked) → asked_of u.outstanding ≡ o → Waits (with_asked out c o) (at_client clients c u)
@@ -76,16 +69,12 @@ module _ (r : World) (w : Machine) (facts : Facts r w) (talk : Talk r w) where
   abbrev Hears : World → Type 0
   Hears q = StepHeard r.lines r.clients r.event q
 
-  silent : (q : World) → q.lines ≡ r.lines → q.clients ≡ r.clients → q.event ≡ r.event → Hears q
-  silent q e f g = record { same_event = g; texts = []; adds = e ∙ sym (append-nil r.lines); heard = λ out waits. mute-heard out [] q.clients (λ c. waits c ∙ ap (λ (g : ClientNo → ClientTable). asked_of (g c).outstanding) (sym f)) tt }
+  -- nothing that is told answers, and each client waits for the same
+  mutely : (q : World) (texts : List Text) → q.lines ≡ r.lines ++ texts → q.event ≡ r.event → Each IsMute texts → ((out : Waited) → Waits out r.clients → Waits out q.clients) → Hears q
+  mutely q texts e g h same = record { same_event = g; texts = texts; adds = e; heard = λ out waits. mute-heard out texts q.clients (same out waits) h }
 
-  mutely : (q : World) (texts : List Text) → q.lines ≡ r.lines ++ texts → q.clients ≡ r.clients → q.event ≡ r.event → Each IsMute texts → Hears q
-  mutely q texts e f g h = record { same_event = g; texts = texts; adds = e; heard = λ out waits. mute-heard out texts q.clients (λ c. waits c ∙ ap (λ (g : ClientNo → ClientTable). asked_of (g c).outstanding) (sym f)) h }
-
-  took-hears : (c : ClientNo) (k : ℕ) (u : ClientTable) (what : Taken) → TakeFits (r.clients c) (u, what) → Hears (took c k u what r)
-  took-hears c k u taken.Ignored h = record { same_event = refl; texts = says.Ignored k ∷ []; adds = refl; heard = λ out waits. mute-heard out (says.Ignored k ∷ []) (at_client r.clients c u) (same-waits r.clients c u out waits h) ((refl, tt), tt) }
-  took-hears c k u (taken.Send to message) h = record { same_event = refl; texts = []; adds = sym (append-nil r.lines); heard = λ out waits. mute-heard out [] (at_client r.clients c u) (same-waits r.clients c u out waits h) tt }
-  took-hears c k u (taken.Told line answer) h = record { same_event = refl; texts = line ∷ []; adds = refl; heard = λ out waits. line-heard r.clients c u out waits (facts.clients c).name line h }
+  silent : (q : World) → q.lines ≡ r.lines → q.event ≡ r.event → ((out : Waited) → Waits out r.clients → Waits out q.clients) → Hears q
+  silent q e g same = mutely q [] (e ∙ sym (append-nil r.lines)) g tt same
 
   own-answer : (c : ClientNo) (k : ℕ) (d : ClientNo) (q : RequestNo) (answer : Answer) → slice_get r.sent k ≡ Some (Client c, messages.Answer d q answer) → AnswerFits (r.clients c) (messages.Answer d q answer)
   own-answer c k d q answer e o f same number = by (each-in (IsHeard r.sent) r.sent (Client c, messages.Answer d q answer) talk.heard (get-in r.sent k _ e))
@@ -107,71 +96,42 @@ module _ (r : World) (w : Machine) (facts : Facts r w) (talk : Talk r w) where
   answer-fits c k (messages.Answer d q answer) e = own-answer c k d q answer e
   answer-fits c k _ e = tt
 
-  ends-hears : (s : ServerNo) (k : Option ℕ) (stop : Option (Pick → ℕ)) (row : RowOutcome Memory) → Hears (ends s k stop row r)
-  ends-hears s k None row = mutely _ (lines_of s k row.notes) refl refl refl (lines-mute s k row.notes)
-  ends-hears s k (Some made) row = mutely _ (says.Stopped s ∷ []) refl refl refl ((refl, tt), tt)
+  own-fits : (c : ClientNo) (k : ℕ) (message : Message) (row : ClientTable × Taken) → slice_get r.sent k ≡ Some (Client c, message) → take_row (r.clients c) message ≡ row → TakeFits (r.clients c) row
+  own-fits c k message row e f = subst (λ (x : ClientTable × Taken). TakeFits (r.clients c) x) f (take-fits (r.clients c) message (answer-fits c k message e))
 
-  memory-hears : (s : ServerNo) (k : ℕ) (room : Room) (stop : Option (Pick → ℕ)) (message : Message) (o : Option Memory) → Hears (at_memory s k room stop message o r)
-  memory-hears s k room stop message None = mutely _ (says.Lost k ∷ []) refl refl refl ((refl, tt), tt)
-  memory-hears s k room stop message (Some m) = ends-hears s (Some k) stop (server_row m (stable (r.found s)) room message)
+  client-hears : (c : ClientNo) (step : Step) (u : ClientTable) (sent : List Sent) (lines : List Text) → ClientRow r c step u sent lines → IsQuiet step → Hears (record r { clients = at_client r.clients c u; sent = sent; lines = lines })
+  client-hears c _ _ _ _ (by_command command u to message e) q = absurd q
+  client-hears c _ _ _ _ (by_ignoring k room stop message u e f) q = mutely _ (says.Ignored k ∷ []) refl refl ((refl, tt), tt) (λ out waits. same-waits r.clients c u out waits (own-fits c k message (u, taken.Ignored) e f))
+  client-hears c _ _ _ _ (by_answering k room stop message u to answer e f) q = silent _ refl refl (λ out waits. same-waits r.clients c u out waits (own-fits c k message (u, taken.Send to answer) e f))
+  client-hears c _ _ _ _ (by_telling k room stop message u line answer e f) q = record {
+    same_event = refl;
+    texts = line ∷ [];
+    adds = refl;
+    heard = λ out waits. line-heard r.clients c u out waits (facts.clients c).name line (own-fits c k message (u, taken.Told line answer) e f);
+  }
 
-  handed-hears : (k : ℕ) (room : Room) (stop : Option (Pick → ℕ)) (o : Option Sent) → slice_get r.sent k ≡ o → Hears (handed k room stop o r)
-  handed-hears k room stop None e = silent _ refl refl refl
-  handed-hears k room stop (Some (Client c, message)) e = let row = take_row (r.clients c) message in took-hears c k row.0 row.1 (take-fits (r.clients c) message (answer-fits c k message e))
-  handed-hears k room stop (Some (Server s, message)) e = memory-hears s k room stop message (r.memory s)
+  quiet-hears : (step : Step) (event : ℕ) (sent : List Sent) (lines : List Text) → Quiet r step event sent lines → IsQuiet step → Hears (record r { event = event; sent = sent; lines = lines })
+  quiet-hears _ _ _ _ event_begins q = absurd q
+  quiet-hears _ _ _ _ (is_refused c command refusal e) q = absurd q
+  quiet-hears _ _ _ _ (none_changes step) q = silent _ refl refl (λ out waits. waits)
+  quiet-hears _ _ _ _ (client_repeats c) q = silent _ refl refl (λ out waits. waits)
+  quiet-hears _ _ _ _ (server_repeats s m e) q = silent _ refl refl (λ out waits. waits)
+  quiet-hears _ _ _ _ (is_lost k room stop s message e f) q = mutely _ (says.Lost k ∷ []) refl refl ((refl, tt), tt) (λ out waits. waits)
 
-  works-hears : (s : ServerNo) (stop : Option (Pick → ℕ)) (o : Option (RowOutcome Memory)) → Hears (works s stop o r)
-  works-hears s stop None = silent _ refl refl refl
-  works-hears s stop (Some row) = ends-hears s None stop row
-
-  work-hears : (s : ServerNo) (room : Room) (stop : Option (Pick → ℕ)) (o : Option Memory) → Hears (work s room stop o r)
-  work-hears s room stop None = silent _ refl refl refl
-  work-hears s room stop (Some m) = works-hears s stop (server_step m (stable (r.found s)) room)
-
-  nudge-hears : (s : ServerNo) (o : Option Memory) → Hears (nudge s o r)
-  nudge-hears s None = silent _ refl refl refl
-  nudge-hears s (Some m) = silent _ refl refl refl
-
-  timeout-hears : (s : ServerNo) (T : Tid) (o : Option Memory) → Hears (timeout s T o r)
-  timeout-hears s T None = silent _ refl refl refl
-  timeout-hears s T (Some m) = silent _ refl refl refl
-
-  crash-hears : (s : ServerNo) (o : Option Memory) → Hears (crash s o r)
-  crash-hears s None = silent _ refl refl refl
-  crash-hears s (Some m) = mutely _ (says.Down s ∷ []) refl refl refl ((refl, tt), tt)
-
-  narrow-hears : (s : ServerNo) (g : Pick → Pick) (o : Option Memory) → Hears (narrow s g o r)
-  narrow-hears s g None = silent _ refl refl refl
-  narrow-hears s g (Some m) = silent _ refl refl refl
-
-  raise-hears : (s : ServerNo) (raised : Pick → Bool) (o : Option Memory) → Hears (stop_restart s raised o r)
-  raise-hears s raised None = mutely _ (says.Stopped s ∷ []) refl refl refl ((refl, tt), tt)
-  raise-hears s raised (Some m) = silent _ refl refl refl
-
-  restart-hears : (s : ServerNo) (pick : Pick) (Ws : List WorkId) (Ts : List Tid) (o : Option Memory) → Hears (restart s pick Ws Ts o r)
-  restart-hears s pick Ws Ts None = mutely _ (says.Up s ((r.found s pick).epoch + 1) ∷ named_now Ts r.lines) refl refl refl ((refl, tt), now-mute Ts r.lines)
-  restart-hears s pick Ws Ts (Some m) = silent _ refl refl refl
-
-  close-hears : (s : ServerNo) (o : Option Memory) → Hears (close_clients s o r)
-  close-hears s None = silent _ refl refl refl
-  close-hears s (Some m) = ends-hears s None None (of_coordinator m (close_clients_row m.coordinator m.tickets))
+  by-case : (step : Step) (now : World) → StepCase r step now → IsQuiet step → Hears now
+  by-case step _ (client_row _ c u sent lines row) q = client-hears c step u sent lines row q
+  by-case _ _ (row_done _ s m k row e is) q = mutely _ (lines_of s k row.notes) refl refl (lines-mute s k row.notes) (λ out waits. waits)
+  by-case _ _ (row_stopped _ s m k row made e is) q = mutely _ (says.Stopped s ∷ []) refl refl ((refl, tt), tt) (λ out waits. waits)
+  by-case _ _ (gone_late s m T e) q = silent _ refl refl (λ out waits. waits)
+  by-case _ _ (gone_down s m e) q = mutely _ (says.Down s ∷ []) refl refl ((refl, tt), tt) (λ out waits. waits)
+  by-case _ _ (come_up s pick Ws Ts e) q = mutely _ (says.Up s ((r.found s pick).epoch + 1) ∷ named_now Ts r.lines) refl refl ((refl, tt), now-mute Ts r.lines) (λ out waits. waits)
+  by-case _ _ (found_anew _ s _ _ e (by_narrowing g)) q = silent _ refl refl (λ out waits. waits)
+  by-case _ _ (found_anew _ s _ _ e (by_raising raise)) q = mutely _ (says.Stopped s ∷ []) refl refl ((refl, tt), tt) (λ out waits. waits)
+  by-case _ _ dismissed q = absurd q
+  by-case step _ (quietly _ event sent lines is) q = quiet-hears step event sent lines is q
 
   pub step-hears : (step : Step) → IsQuiet step → Hears (after step r)
-  step-hears (Tell c command) q = absurd q
-  step-hears NextEvent q = absurd q
-  step-hears Dismiss q = absurd q
-  step-hears (Again c) q = silent _ refl refl refl
-  step-hears (Deliver k room) q = handed-hears k room None (slice_get r.sent k) refl
-  step-hears (Work s room) q = work-hears s room None (r.memory s)
-  step-hears (Nudge s) q = nudge-hears s (r.memory s)
-  step-hears (Timeout s T) q = timeout-hears s T (r.memory s)
-  step-hears (StopDelivery k room made) q = handed-hears k room (Some made) (slice_get r.sent k) refl
-  step-hears (StopWork s room made) q = work-hears s room (Some made) (r.memory s)
-  step-hears (Crash s) q = crash-hears s (r.memory s)
-  step-hears (Narrow s g) q = narrow-hears s g (r.memory s)
-  step-hears (StopRestart s raised) q = raise-hears s raised (r.memory s)
-  step-hears (Restart s pick Ws Ts) q = restart-hears s pick Ws Ts (r.memory s)
-  step-hears (CloseClients s) q = close-hears s (r.memory s)
+  step-hears step q = by-case step (after step r) (step-case r step) q
 
 -- ---- a command
 

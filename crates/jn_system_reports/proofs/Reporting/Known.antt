@@ -1,6 +1,5 @@
 -- What a client has asked for stays known as its table changes.
-use Rattle.jn_system_reports.proofs.Common.{◌≡◌, ◌≢◌, ◌⊎◌, inl, inr, ◌<◌, ◌≤◌, ℕ, List, Some, None, sym, ◌∙◌, ap, subst, arith, ServerNo, ClientNo, Tid, WorkId, Op, Command, Do, OpenWork, Outstanding, ClientTable, Machine, IsWorkOf, Opening, Has, Began}
-use Rattle.jn_base.specs.declared.names.RequestNo.{RequestNo}
+use Rattle.jn_system_reports.proofs.Common.{◌≡◌, ◌≢◌, ◌⊎◌, inl, inr, ◌<◌, ◌≤◌, ℕ, List, Some, None, sym, ◌∙◌, ap, subst, arith, ServerNo, ClientNo, Tid, WorkId, Op, Command, Do, OpenWork, Outstanding, ClientTable, Machine, IsWorkOf, Opening, Has, Began, RequestNo}
 use Rattle.jn_rows.specs.Client.{work_at}
 use Rattle.jn_system_order.proofs.Ordering.Facts.{opening}
 use Rattle.jn_system_reports.proofs.Reporting.Asking.{Asking}

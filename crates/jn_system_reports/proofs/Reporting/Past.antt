@@ -1,7 +1,5 @@
 -- Transactions that their clients have had, and that are past for them.
-use Rattle.jn_system_reports.proofs.Common.{◌≡◌, ◌≢◌, ◌⊎◌, inl, inr, ◌<◌, ◌≤◌, ℕ, ◌+◌, Bool, true, false, List, Option, Some, None, refl, arith, ClientNo, Tid, WorkId, Cause, Requested, BrokenAt, LostAt, FullAt, Outcome, Vote, Outstanding, Transaction, Stage, FlagState, Change, AddFlag, DropFlag, Sent, ClientTable, Machine, Opening, Has}
-use Rattle.jn_base.specs.Names.{request_of}
-use Rattle.jn_base.specs.declared.names.RequestNo.{RequestNo}
+use Rattle.jn_system_reports.proofs.Common.{◌≡◌, ◌≢◌, ◌⊎◌, inl, inr, ◌<◌, ◌≤◌, ℕ, ◌+◌, Bool, true, false, List, Option, Some, None, refl, arith, ClientNo, Tid, WorkId, Cause, Requested, BrokenAt, LostAt, FullAt, Outcome, Vote, Outstanding, Transaction, Stage, FlagState, Change, AddFlag, DropFlag, Sent, ClientTable, Machine, Opening, Has, request_of, RequestNo}
 use Rattle.jn_msgs.specs.declared.message.Message.TheVariants as messages
 use Rattle.jn_msgs.specs.declared.message.Outcome.TheVariants as outcomes
 use Rattle.jn_msgs.specs.declared.message.Vote.TheVariants as votes

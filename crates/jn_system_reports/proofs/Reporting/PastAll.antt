@@ -1,16 +1,15 @@
 -- Every step keeps what holds of transactions that are past.
-use Rattle.jn_system_reports.proofs.Common.{◌≡◌, ◌⊎◌, inl, ℕ, ◌+◌, true, List, [], ◌∷◌, ◌++◌, append-nil, Option, Some, None, refl, sym, ◌∙◌, ap, subst, slice_get, nat_lt, ServerNo, ClientNo, Tid, Cause, Requested, LostAt, FullAt, Command, Abort, Client, Server, Resource, Message, Text, Outstanding, Taken, Pick, stable, Sent, worker_row, transaction_at, ClientTable, Commanded, Refuses, Sends, command_row, take_row, sent_again, Machine, Invariant, World, Memory, at_client, commits_in, committed_in, has_line, Room, storage_of, Step, NextEvent, Tell, Again, Deliver, Nudge, Timeout, StopDelivery, StopWork, Crash, Narrow, StopRestart, Restart, Dismiss, CloseClients, IsStep, after, commanded, sent_now, took, handed, LockFacts, Mirrors, IsTrue, IsAddressed, IsCurrent, AreOpen, IsThanks, Takes, takes, holds-of, Opening, opening_in, openings, openings-more, Has, Facts, Began, CommandFacts, command-facts, all-have-theirs}
+use Rattle.jn_system_reports.proofs.Common.{◌≡◌, ◌⊎◌, inl, ℕ, ◌+◌, true, List, [], ◌∷◌, ◌++◌, append-nil, Option, Some, None, refl, sym, ◌∙◌, ap, subst, slice_get, nat_lt, ServerNo, ClientNo, Tid, Cause, Requested, LostAt, FullAt, Command, Abort, Client, Server, Resource, Message, Text, Outstanding, Taken, stable, Sent, worker_row, transaction_at, ClientTable, Commanded, take_row, sent_again, Machine, Invariant, World, Memory, at_client, commits_in, has_line, Room, storage_of, Step, Tell, IsStep, after, sent_now, LockFacts, Mirrors, IsTrue, IsCurrent, AreOpen, IsThanks, Takes, takes, holds-of, Opening, opening_in, openings, openings-more, Has, Facts, Began, CommandFacts, command-facts, all-have-theirs, ClientRow, by_command, by_ignoring, by_answering, by_telling, Quiet, event_begins, none_changes, is_refused, client_repeats, server_repeats, is_lost, StepCase, client_row, row_done, row_stopped, gone_late, gone_down, come_up, found_anew, dismissed, quietly, step-case}
 use Rattle.jn_msgs.specs.declared.message.Message.TheVariants as messages
 use Rattle.jn_report.specs.declared.line.Text.TheVariants as says
 use Rattle.jn_rows.specs.declared.client.Taken.TheVariants as taken
-use Rattle.jn_system.specs.WholeSystem.Steps.{Work}
 use Rattle.jn_system_order.proofs.Ordering.Facts.{opening}
 use Rattle.jn_system_reports.proofs.Reporting.Lists.{In, Each, each-in, get-in}
 use Rattle.jn_system_reports.proofs.Reporting.ClientTalk.{TableGoes, CommandTalks, command-talks, TakeTalks, take-talks}
 use Rattle.jn_system_reports.proofs.Reporting.Talk.{Talk}
 use Rattle.jn_system_reports.proofs.Reporting.Past.{Had, Past, SaysPast}
-use Rattle.jn_system_reports.proofs.Reporting.PastSteps.{PastFacts, server-past}
-use Rattle.jn_system_reports.proofs.Reporting.PastWorld.{Later, quiet-past, same-past, same-names, old-entries, memory-past, work-past, nudge-past, timeout-past, crash-past, narrow-past, raise-past, restart-past, close-past}
+use Rattle.jn_system_reports.proofs.Reporting.PastSteps.{PastFacts}
+use Rattle.jn_system_reports.proofs.Reporting.PastWorld.{Later, quiet-past, same-past, same-names, sent-past, again-past, row-done-past, row-stopped-past, late-past, down-past, up-past, anew-past}
 use Rattle.jn_system_reports.proofs.Reporting.PastClients.{client-past, dismiss-past, CommandSays, command-says, TakenSays, take-says}
 
 no-more : (sent : List Sent) (x : Sent) → opening_in x ≡ [] → openings (sent ++ x ∷ []) ≡ openings sent
@@ -56,74 +55,71 @@ module _ (r : World) (w v : Machine) (Caused Caused' : ClientNo → Tid → Caus
 
   -- ---- clients
 
-  abbrev Talks : ClientNo → Commanded → Type 0
-  Talks c row = CommandTalks (openings r.sent) w w.ended r.sent c (r.clients c) (facts.clients c) facts.unique (talk.waits c) (current c) row
+  abbrev Tells : ClientNo → Commanded → Type 0
+  Tells c row = CommandTalks (openings r.sent) w w.ended r.sent c (r.clients c) (facts.clients c) facts.unique (talk.waits c) (current c) row
+      × CommandFacts (openings r.sent) w.ended c (r.clients c) (facts.clients c) (λ T q h e. facts.drawn (opening c q T) h e) row × CommandSays (openings r.sent) r.clients w v Caused Caused' c (facts.clients c).name (runs c) row
 
-  commanded-past : (c : ClientNo) (row : Commanded) → Talks c row → CommandFacts (openings r.sent) w.ended c (r.clients c) (facts.clients c) (λ T q h e. facts.drawn (opening c q T) h e) row
-      → CommandSays (openings r.sent) r.clients w v Caused Caused' c (facts.clients c).name (runs c) row → Later (commanded c row r) v → Now (commanded c row r)
-  commanded-past c (Refuses refusal) h f p l = quiet (says.Refused c r.event refusal ∷ []) refl l.named
-  commanded-past c (Sends u to message) h f p l = one-client c u ((to, message) ∷ []) (record { next = h.next; fresh = h.fresh; has = λ T e. inl (sym h.same ∙ e) }) (no-more r.sent (to, message) f.1) h.last (p, tt) (none-same l.named)
+  abbrev Hears : ClientNo → ClientTable × Taken → Type 0
+  Hears c row = TakeTalks (openings r.sent) w w.ended r.sent c (r.clients c) (facts.clients c) facts.unique (talk.waits c) (current c) row
+      × Takes w row.0 row.1 × TakenSays (openings r.sent) r.clients w v Caused Caused' c (facts.clients c).name (runs c) row
 
-  again-past : (c : ClientNo) (o : Option Outstanding) → (r.clients c).outstanding ≡ o → Later (record r { sent = r.sent ++ sent_now (sent_again o) }) v → PastFacts (r.sent ++ sent_now (sent_again o)) r.clients r.memory r.found v Caused'
-  again-past c None e l = subst (λ z. PastFacts z r.clients r.memory r.found v Caused') (sym (append-nil r.sent)) (same l.named)
-  again-past c (Some o) e l = server-past r w v Caused Caused' past caused aborted grown runs ((o.to, o.message) ∷ []) l.unique r.memory r.found record {
-    says = (each-in (SaysPast (openings r.sent) r.clients w Caused) r.sent (o.to, o.message) past.says (talk.waits c o e).again, tt);
-    entries = λ q n f. old-entries r w v Caused Caused' past caused aborted grown runs named facts.unique full q n f (openings ((o.to, o.message) ∷ []));
-    flags = past.flags;
-    held = past.held;
-    stays = λ T p f. past.named T p (none-same l.named T f);
-  }
+  hears : (c : ClientNo) (k : ℕ) (message : Message) (row : ClientTable × Taken) → slice_get r.sent k ≡ Some (Client c, message) → take_row (r.clients c) message ≡ row → Hears c row
+  hears c k message row i e = subst (λ (x : ClientTable × Taken). Hears c x) e (
+    take-talks (openings r.sent) w w.ended r.sent c (r.clients c) (facts.clients c) facts.unique (talk.waits c) (current c) message (holds-of (λ (x : Sent). (a : Opening) → Has a (opening_in x) → Has a (openings r.sent)) r.sent k (Client c, message) (all-have-theirs r.sent) i),
+    takes w (r.clients c) (mirrors.clients c) message (holds-of (IsTrue w) r.sent k (Client c, message) mirrors.says i),
+    take-says (openings r.sent) r.clients w v Caused Caused' c (facts.clients c).name (runs c) message (each-in (SaysPast (openings r.sent) r.clients w Caused) r.sent (Client c, message) past.says (get-in r.sent k (Client c, message) i)),
+  )
 
-  took-past : (c : ClientNo) (k : ℕ) (u : ClientTable) (what : Taken) → TakeTalks (openings r.sent) w w.ended r.sent c (r.clients c) (facts.clients c) facts.unique (talk.waits c) (current c) (u, what)
-      → Takes w u what → TakenSays (openings r.sent) r.clients w v Caused Caused' c (facts.clients c).name (runs c) (u, what) → Later (took c k u what r) v → Now (took c k u what r)
-  took-past c k u what h t p l = by what h t p l
-    where
-      last : TakeTalks (openings r.sent) w w.ended r.sent c (r.clients c) (facts.clients c) facts.unique (talk.waits c) (current c) (u, what) → (o : Outstanding) → u.outstanding ≡ Some o → u.next ≡ o.request.0 + 1
-      last h o e = h.same_next ∙ past.last c o (h.waiting o e).0
+  took-past : (c : ClientNo) (u : ClientTable) (what : Taken) (more : List Sent) → Hears c (u, what) → openings (r.sent ++ more) ≡ openings r.sent → Each (SaysPast (openings r.sent) (at_client r.clients c u) v Caused') more
+      → ((T : Tid) → v.named T ≡ true → w.named T ≡ true) → PastFacts (r.sent ++ more) (at_client r.clients c u) r.memory r.found v Caused'
+  took-past c u what more h none says same = one-client c u more h.0.goes none (λ o e. h.0.same_next ∙ past.last c o (h.0.waiting o e).0) says same
 
-      alone : (line : Text) → committed_in line ≡ [] → commits_in (line ∷ []) ≡ []
-      alone line e = ap (λ z. z ++ []) e
+  -- a client's abort is a cause for its transaction
+  abbrev AbortsAre : Step → Type 0
+  AbortsAre step = (c : ClientNo) → step ≡ Tell c Abort → (T : Tid) → (r.clients c).transaction ≡ Some T → Caused' c T Requested
 
-      none : openings (r.sent ++ []) ≡ openings r.sent
-      none = ap openings (append-nil r.sent)
+  client-now : (c : ClientNo) (step : Step) (u : ClientTable) (sent : List Sent) (lines : List Text) → ClientRow r c step u sent lines → AbortsAre step
+      → ((T : Tid) → v.named T ≡ has_line T lines) → PastFacts sent (at_client r.clients c u) r.memory r.found v Caused'
+  client-now c _ _ _ _ (by_command command u to message e) aborts l = let h = subst (λ (x : Commanded). Tells c x) e (
+    command-talks (openings r.sent) w w.ended r.sent c (r.clients c) (facts.clients c) facts.unique (talk.waits c) (current c) r.event command,
+    command-facts (openings r.sent) w.ended c (r.clients c) (facts.clients c) (λ T q h e. facts.drawn (opening c q T) h e) r.event command,
+    command-says (openings r.sent) r.clients w v Caused Caused' c (facts.clients c).name (runs c) r.event command (λ e. aborts c (ap (λ (z : Command). Tell c z) e)),
+  ) in
+      one-client c u ((to, message) ∷ []) (record { next = h.0.next; fresh = h.0.fresh; has = λ T e. inl (sym h.0.same ∙ e) }) (no-more r.sent (to, message) h.1.1) h.0.last (h.2, tt) (none-same l)
+  client-now c _ _ _ _ (by_ignoring k room stop message u i e) aborts l = subst (λ z. PastFacts z (at_client r.clients c u) r.memory r.found v Caused') (append-nil r.sent)
+      (took-past c u taken.Ignored [] (hears c k message (u, taken.Ignored) i e) (ap openings (append-nil r.sent)) tt (same-of (says.Ignored k ∷ []) refl l))
+  client-now c _ _ _ _ (by_answering k room stop message u to answer i e) aborts l = let h = hears c k message (u, taken.Send to answer) i e in
+      took-past c u (taken.Send to answer) ((to, answer) ∷ []) h (no-more r.sent (to, answer) (thanks-none (to, answer) h.1.1)) (h.2, tt) (none-same l)
+  client-now c _ _ _ _ (by_telling k room stop message u line None i e) aborts l = let h = hears c k message (u, taken.Told line None) i e in
+      took-past c u (taken.Told line None) [] h (ap openings (append-nil r.sent)) tt (same-of (line ∷ []) (ap (λ z. z ++ []) h.1.1) l)
+  client-now c _ _ _ _ (by_telling k room stop message u line (Some x) i e) aborts l = let h = hears c k message (u, taken.Told line (Some x)) i e in
+      took-past c u (taken.Told line (Some x)) (x ∷ []) h (no-more r.sent x (thanks-none x h.1.2)) (h.2, tt) (same-of (line ∷ []) (ap (λ z. z ++ []) h.1.1) l)
 
-      by : (what : Taken) → TakeTalks (openings r.sent) w w.ended r.sent c (r.clients c) (facts.clients c) facts.unique (talk.waits c) (current c) (u, what) → Takes w u what → TakenSays (openings r.sent) r.clients w v Caused Caused' c (facts.clients c).name (runs c) (u, what)
-          → Later (took c k u what r) v → Now (took c k u what r)
-      by taken.Ignored h t p l = subst (λ z. PastFacts z (at_client r.clients c u) r.memory r.found v Caused') (append-nil r.sent) (one-client c u [] h.goes none (λ o e. h.same_next ∙ past.last c o (h.waiting o e).0) tt (same-of (says.Ignored k ∷ []) refl l.named))
-      by (taken.Send to message) h t p l = one-client c u ((to, message) ∷ []) h.goes (no-more r.sent (to, message) (thanks-none (to, message) t.1)) (λ o e. h.same_next ∙ past.last c o (h.waiting o e).0) (p, tt) (none-same l.named)
-      by (taken.Told line None) h t p l = one-client c u [] h.goes none (λ o e. h.same_next ∙ past.last c o (h.waiting o e).0) tt (same-of (line ∷ []) (alone line t.1) l.named)
-      by (taken.Told line (Some x)) h t p l = one-client c u (x ∷ []) h.goes (no-more r.sent x (thanks-none x t.2)) (λ o e. h.same_next ∙ past.last c o (h.waiting o e).0) (p, tt) (same-of (line ∷ []) (alone line t.1) l.named)
-
-  said : (k : ℕ) (x : Sent) → slice_get r.sent k ≡ Some x → SaysPast (openings r.sent) r.clients w Caused x
-  said k x e = each-in (SaysPast (openings r.sent) r.clients w Caused) r.sent x past.says (get-in r.sent k x e)
-
-  handed-past : (k : ℕ) (room : Room) (stop : Option (Pick → ℕ)) (o : Option Sent) → slice_get r.sent k ≡ o → Later (handed k room stop o r) v → Now (handed k room stop o r)
-  handed-past k room stop None e l = same l.named
-  handed-past k room stop (Some (Client c, message)) e l = let row = take_row (r.clients c) message in
-      took-past c k row.0 row.1 (take-talks (openings r.sent) w w.ended r.sent c (r.clients c) (facts.clients c) facts.unique (talk.waits c) (current c) message
-      (holds-of (λ (x : Sent). (a : Opening) → Has a (opening_in x) → Has a (openings r.sent)) r.sent k (Client c, message) (all-have-theirs r.sent) e))
-      (takes w (r.clients c) (mirrors.clients c) message (holds-of (IsTrue w) r.sent k (Client c, message) mirrors.says e))
-      (take-says (openings r.sent) r.clients w v Caused Caused' c (facts.clients c).name (runs c) message (said k (Client c, message) e)) l
-  handed-past k room stop (Some (Server s, message)) e l = memory-past r w v Caused Caused' past caused aborted grown runs named facts.unique full mirrors inv locks votes lost s k room stop message (r.memory s) refl (locks s) (get-in r.sent k (Server s, message) e)
-      (holds-of IsAddressed r.sent k (Server s, message) mirrors.addressed e) (said k (Server s, message) e) l
+  repeats-past : (c : ClientNo) (o : Option Outstanding) → (r.clients c).outstanding ≡ o → Later (record r { sent = r.sent ++ sent_now (sent_again o) }) v → PastFacts (r.sent ++ sent_now (sent_again o)) r.clients r.memory r.found v Caused'
+  repeats-past c None e l = subst (λ z. PastFacts z r.clients r.memory r.found v Caused') (sym (append-nil r.sent)) (same l.named)
+  repeats-past c (Some o) e l = sent-past r w v Caused Caused' past caused aborted grown runs named facts.unique full mirrors inv locks votes lost ((o.to, o.message) ∷ []) l.unique
+      (each-in (SaysPast (openings r.sent) r.clients w Caused) r.sent (o.to, o.message) past.says (talk.waits c o e).again, tt) (none-same l.named)
 
   -- ---- every step
 
-  -- a client's abort is a cause for its transaction
+  quiet-now : (step : Step) (event : ℕ) (sent : List Sent) (lines : List Text) → Quiet r step event sent lines → Later (record r { event = event; sent = sent; lines = lines }) v → PastFacts sent r.clients r.memory r.found v Caused'
+  quiet-now _ _ _ _ event_begins l = same l.named
+  quiet-now _ _ _ _ (none_changes step) l = same l.named
+  quiet-now _ _ _ _ (is_refused c command refusal e) l = quiet (says.Refused c r.event refusal ∷ []) refl l.named
+  quiet-now _ _ _ _ (client_repeats c) l = repeats-past c (r.clients c).outstanding refl l
+  quiet-now _ _ _ _ (server_repeats s m is) l = again-past r w v Caused Caused' past caused aborted grown runs named facts.unique full mirrors inv locks votes lost s m is l
+  quiet-now _ _ _ _ (is_lost k room stop s message e is) l = quiet (says.Lost k ∷ []) refl l.named
+
+  by-case : (step : Step) (now : World) → StepCase r step now → IsStep step r × AbortsAre step → Later now v → Now now
+  by-case step _ (client_row _ c u sent lines row) i l = client-now c step u sent lines row i.1 l.named
+  by-case step _ (row_done _ s m k row is how) i l = row-done-past r w v Caused Caused' past caused aborted grown runs named facts.unique full mirrors inv locks votes lost s m step k row is how i.0 l
+  by-case step _ (row_stopped _ s m k row made is how) i l = row-stopped-past r w v Caused Caused' past caused aborted grown runs named facts.unique full mirrors inv locks votes lost s m step k row made is how i.0 l
+  by-case _ _ (gone_late s m T is) i l = late-past r w v Caused Caused' past caused aborted grown runs named facts.unique full mirrors inv locks votes lost s m T is l
+  by-case _ _ (gone_down s m is) i l = down-past r w v Caused Caused' past caused aborted grown runs named facts.unique full mirrors inv locks votes lost s l
+  by-case _ _ (come_up s pick Ws Ts is) i l = up-past r w v Caused Caused' past caused aborted grown runs named facts.unique full mirrors inv locks votes lost s pick Ws Ts i.0.1 l
+  by-case step _ (found_anew _ s found lines is how) i l = anew-past r w v Caused Caused' past caused aborted grown runs named facts.unique full mirrors inv locks votes lost s step found lines is how l
+  by-case _ _ dismissed i l = dismiss-past r.sent r.clients r.memory r.found w v Caused Caused' past caused aborted grown (none-same l.named)
+  by-case step _ (quietly _ event sent lines how) i l = quiet-now step event sent lines how l
+
   pub step-past : (step : Step) → IsStep step r × ((c : ClientNo) → step ≡ Tell c Abort → (T : Tid) → (r.clients c).transaction ≡ Some T → Caused' c T Requested) → Later (after step r) v → Now (after step r)
-  step-past NextEvent i l = same l.named
-  step-past (Tell c command) i l = commanded-past c (command_row (r.clients c) r.event command) (command-talks (openings r.sent) w w.ended r.sent c (r.clients c) (facts.clients c) facts.unique (talk.waits c) (current c) r.event command)
-      (command-facts (openings r.sent) w.ended c (r.clients c) (facts.clients c) (λ T q h e. facts.drawn (opening c q T) h e) r.event command) (command-says (openings r.sent) r.clients w v Caused Caused' c (facts.clients c).name (runs c) r.event command (λ e. i.1 c (ap (λ (z : Command). Tell c z) e))) l
-  step-past (Again c) i l = again-past c (r.clients c).outstanding refl l
-  step-past (Deliver k room) i l = handed-past k room None (slice_get r.sent k) refl l
-  step-past (Work s room) i l = work-past r w v Caused Caused' past caused aborted grown runs named facts.unique full mirrors inv locks votes lost s room None (r.memory s) refl (locks s) l
-  step-past (Nudge s) i l = nudge-past r w v Caused Caused' past caused aborted grown runs named facts.unique full mirrors inv locks votes lost s (r.memory s) refl l
-  step-past (Timeout s T) i l = timeout-past r w v Caused Caused' past caused aborted grown runs named facts.unique full mirrors inv locks votes lost s T (r.memory s) refl l
-  step-past (StopDelivery k room made) i l = handed-past k room (Some made) (slice_get r.sent k) refl l
-  step-past (StopWork s room made) i l = work-past r w v Caused Caused' past caused aborted grown runs named facts.unique full mirrors inv locks votes lost s room (Some made) (r.memory s) refl (locks s) l
-  step-past (Crash s) i l = crash-past r w v Caused Caused' past caused aborted grown runs named facts.unique full mirrors inv locks votes lost s (r.memory s) l
-  step-past (Narrow s g) i l = narrow-past r w v Caused Caused' past caused aborted grown runs named facts.unique full mirrors inv locks votes lost s g (r.memory s) refl l
-  step-past (StopRestart s raised) i l = raise-past r w v Caused Caused' past caused aborted grown runs named facts.unique full mirrors inv locks votes lost s raised (r.memory s) l
-  step-past (Restart s pick Ws Ts) i l = restart-past r w v Caused Caused' past caused aborted grown runs named facts.unique full mirrors inv locks votes lost s pick Ws Ts (r.memory s) refl i.0.1 l
-  step-past Dismiss i l = dismiss-past r.sent r.clients r.memory r.found w v Caused Caused' past caused aborted grown (none-same l.named)
-  step-past (CloseClients s) i l = close-past r w v Caused Caused' past caused aborted grown runs named facts.unique full mirrors inv locks votes lost s (r.memory s) refl (locks s) i.0 l
+  step-past step i l = by-case step (after step r) (step-case r step) i l

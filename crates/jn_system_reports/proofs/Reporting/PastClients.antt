@@ -1,7 +1,5 @@
 -- A client's steps keep what is past for it, and what it sends says what is past.
-use Rattle.jn_system_reports.proofs.Common.{◌≡◌, ◌≢◌, ◌⊎◌, inl, inr, ◌<◌, ◌≤◌, ℕ, ◌+◌, Bool, true, false, List, [], ◌++◌, append-nil, Option, Some, None, is_some, refl, sym, ◌∙◌, ap, subst, arith, if◌then◌else◌, nat_lt, ServerNo, ClientNo, Tid, WorkId, Cause, Requested, Party, Client, Server, Command, Begin, Open, Do, End, Abort, client_eq, tid_eq, client_tells, tid_tells, Message, Outcome, Text, OpenWork, Outstanding, Taken, StableState, Pick, Sent, ClientTable, Commanded, Refuses, Sends, names_of, if_server, if_idle, if_transaction, if_no_transaction, if_open, if_not_open, command_row, is_tid, is_current, if_waits, over, begun_row, opened_row, decided_row, outcome_row, take_row, Machine, not_both, Memory, at_client, Opening, openings, Has, Began}
-use Rattle.jn_base.specs.Names.{request_of}
-use Rattle.jn_base.specs.declared.names.RequestNo.{RequestNo}
+use Rattle.jn_system_reports.proofs.Common.{◌≡◌, ◌≢◌, ◌⊎◌, inl, inr, ◌<◌, ◌≤◌, ℕ, ◌+◌, Bool, true, false, List, [], ◌++◌, append-nil, Option, Some, None, is_some, refl, sym, ◌∙◌, ap, subst, arith, if◌then◌else◌, nat_lt, ServerNo, ClientNo, Tid, WorkId, Cause, Requested, Party, Client, Server, Command, Begin, Open, Do, End, Abort, client_eq, tid_eq, client_tells, tid_tells, Message, Outcome, Text, OpenWork, Outstanding, Taken, StableState, Pick, Sent, ClientTable, Commanded, Refuses, Sends, names_of, if_server, if_idle, if_transaction, if_no_transaction, if_open, if_not_open, command_row, is_tid, is_current, if_waits, over, begun_row, opened_row, decided_row, outcome_row, take_row, Machine, not_both, Memory, at_client, Opening, openings, Has, Began, request_of, RequestNo}
 use Rattle.jn_msgs.specs.declared.message.Message.TheVariants as messages
 use Rattle.jn_msgs.specs.declared.message.Outcome.TheVariants as outcomes
 use Rattle.jn_report.specs.declared.line.Refusal.TheVariants as refusals

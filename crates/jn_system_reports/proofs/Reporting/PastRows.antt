@@ -1,6 +1,5 @@
 -- A coordinator's rows keep what they say of transactions that are past, and forget only those.
-use Rattle.jn_system_reports.proofs.Common.{◌≡◌, ◌≢◌, ◌⊎◌, inl, inr, ◌<◌, ◌≤◌, ℕ, ◌+◌, Bool, true, false, List, [], ◌∷◌, ◌++◌, Option, Some, None, is_some, refl, sym, ◌∙◌, ap, subst, arith, ◌&&◌, not, if◌then◌else◌, nat_lt, nat_eq, length, list_any, nat_tests, ServerNo, ClientNo, Tid, WorkId, Tickets, Cause, Requested, BrokenAt, LostAt, FullAt, Party, Resource, client_eq, tid_eq, client_tells, tid_tells, Message, Note, Vote, Outstanding, Transaction, Stage, Ballot, Commitment, StableState, FlagState, Change, DropFlag, at_tid, made_by, made_all, RowOutcome, Sent, ClientTable, CoordinatorTable, transaction_at, with_stage, with_work, is_work, all_in, besides, drops, commits, prepares, commit_row, abort_row, forget_row, begin_new, begin_again, after_closing, changes_of_closing, all_thanked, close_clients_row, seen_now, seen_in_flag, seen_in_flags, restored_transaction, restored_transactions, not_known, end_promised, end_stage, end_row, abort_stage, abort_request, told_stage, inquire_row, counted_vote, vote_stage, vote_row, done_stage, done_row, thanks_stage, thanks_row, coordinator_row, told_again, coordinator_again, committed_to, Machine, IsIdle, is_committed, Closes, Empty, Stays, Goes, Waits, Forgets, client-closes, outcomes-close, named_by, Opening, Has, openings, has-first, has-second}
-use Rattle.jn_base.specs.declared.names.RequestNo.{RequestNo}
+use Rattle.jn_system_reports.proofs.Common.{◌≡◌, ◌≢◌, ◌⊎◌, inl, inr, ◌<◌, ◌≤◌, ℕ, ◌+◌, Bool, true, false, List, [], ◌∷◌, ◌++◌, Option, Some, None, is_some, refl, sym, ◌∙◌, ap, subst, arith, ◌&&◌, not, if◌then◌else◌, nat_lt, nat_eq, length, list_any, nat_tests, ServerNo, ClientNo, Tid, WorkId, Tickets, Cause, Requested, BrokenAt, LostAt, FullAt, Party, Resource, client_eq, tid_eq, client_tells, tid_tells, Message, Note, Vote, Outstanding, Transaction, Stage, Ballot, Commitment, StableState, FlagState, Change, DropFlag, at_tid, made_by, made_all, RowOutcome, Sent, ClientTable, CoordinatorTable, transaction_at, with_stage, with_work, is_work, all_in, besides, drops, commits, prepares, commit_row, abort_row, forget_row, begin_new, begin_again, after_closing, changes_of_closing, all_thanked, close_clients_row, seen_now, seen_in_flag, seen_in_flags, restored_transaction, restored_transactions, not_known, end_promised, end_stage, end_row, abort_stage, abort_request, told_stage, inquire_row, counted_vote, vote_stage, vote_row, done_stage, done_row, thanks_stage, thanks_row, coordinator_row, told_again, coordinator_again, committed_to, Machine, IsIdle, is_committed, Closes, Empty, Stays, Goes, Waits, Forgets, client-closes, outcomes-close, named_by, Opening, Has, openings, has-first, has-second, RequestNo}
 use Rattle.jn_base.specs.declared.names.Resource.TheVariants as resources
 use Rattle.jn_msgs.specs.declared.message.Message.TheVariants as messages
 use Rattle.jn_msgs.specs.declared.message.Outcome.TheVariants as outcomes

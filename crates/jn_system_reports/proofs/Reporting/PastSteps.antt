@@ -1,6 +1,5 @@
 -- Each step keeps what holds of transactions that are past: a server forgets no other, and a client asks nothing more of it.
-use Rattle.jn_system_reports.proofs.Common.{◌≡◌, ◌≢◌, ◌⊎◌, inl, inr, ◌<◌, ℕ, zero, suc, ◌+◌, Bool, true, false, List, [], ◌∷◌, ◌++◌, take, Option, Some, None, is_some, refl, sym, ◌∙◌, ap, subst, if◌then◌else◌, ServerNo, ClientNo, Tid, Cause, tid_eq, tid_tells, Outstanding, StableState, Pick, Change, AddReady, MarkGoing, CarryOut, RemoveWork, AddFlag, DropFlag, made_by, made_all, stable, Sent, ClientTable, Machine, World, Memory, Opening, opening_in, openings, openings-more, Has, has-first, has-either, Began}
-use Rattle.jn_base.specs.declared.names.RequestNo.{RequestNo}
+use Rattle.jn_system_reports.proofs.Common.{◌≡◌, ◌≢◌, ◌⊎◌, inl, inr, ◌<◌, ℕ, zero, suc, ◌+◌, Bool, true, false, List, [], ◌∷◌, ◌++◌, take, Option, Some, None, is_some, refl, sym, ◌∙◌, ap, subst, if◌then◌else◌, ServerNo, ClientNo, Tid, Cause, tid_eq, tid_tells, Outstanding, StableState, Pick, Change, AddReady, MarkGoing, CarryOut, RemoveWork, AddFlag, DropFlag, made_by, made_all, stable, Sent, ClientTable, Machine, World, Memory, Opening, opening_in, openings, openings-more, Has, has-first, has-either, Began, RequestNo}
 use Rattle.jn_msgs.specs.declared.message.Message.TheVariants as messages
 use Rattle.jn_system_order.proofs.Ordering.Facts.{opening}
 use Rattle.jn_system_reports.proofs.Reporting.Lists.{Each, each-append, each-more}

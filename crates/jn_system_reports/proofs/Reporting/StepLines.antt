@@ -1,9 +1,7 @@
 -- What holds of the lines that a step adds, where it holds of those that tell of an abort or of a broken work.
-use Rattle.jn_system_reports.proofs.Common.{◌≡◌, inl, inr, ℕ, ◌+◌, Bool, true, false, List, [], ◌∷◌, ◌++◌, append-nil, Option, Some, None, refl, sym, ◌∙◌, ap, subst, arith, ◌||◌, if◌then◌else◌, slice_get, list_any, ServerNo, ClientNo, Tid, WorkId, LockUnit, Tickets, Cause, Client, Server, Intention, Message, Note, Text, Work, Taken, Pick, stable, RowOutcome, Sent, WorkerTable, WorkStorage, worker_row, worker_step, going_work, carried_row, intentions_of, going_row, coordinator_row, close_clients_row, ClientTable, Commanded, Refuses, Sends, command_row, take_row, Machine, World, Memory, has_line, Room, storage_of, of_worker, of_coordinator, of_step, server_row, line_of, lines_of, named_now, Step, NextEvent, Tell, Again, Deliver, Works, Nudge, Timeout, StopDelivery, StopWork, Crash, Narrow, StopRestart, Restart, Dismiss, CloseClients, after, commanded, took, ends, at_memory, handed, works, work, nudge, timeout, crash, narrow, stop_restart, restart, close_clients, done, Mirrors, IsTrue, holds-of, openings, Facts}
-use Rattle.jn_msgs.specs.declared.message.Message.TheVariants as messages
+use Rattle.jn_system_reports.proofs.Common.{◌≡◌, inl, inr, ℕ, ◌+◌, Bool, true, false, List, [], ◌∷◌, ◌++◌, append-nil, Option, Some, None, refl, sym, ◌∙◌, ap, subst, arith, ◌||◌, if◌then◌else◌, slice_get, list_any, ServerNo, ClientNo, Tid, LockUnit, Tickets, Cause, Client, Server, Intention, Message, Note, Text, Work, Taken, stable, RowOutcome, Sent, WorkerTable, WorkStorage, worker_row, worker_step, going_work, carried_row, intentions_of, going_row, coordinator_row, close_clients_row, ClientTable, Machine, World, Memory, at_client, has_line, Room, storage_of, of_worker, of_coordinator, line_of, lines_of, named_now, Step, after, done, Mirrors, IsTrue, holds-of, openings, Facts, ClientRow, by_command, by_ignoring, by_answering, by_telling, ServerRow, of_message, of_work, of_closing, by_narrowing, by_raising, Quiet, event_begins, none_changes, is_refused, client_repeats, server_repeats, is_lost, StepCase, client_row, row_done, row_stopped, gone_late, gone_down, come_up, found_anew, dismissed, quietly, step-case, row-either, row-of-step}
 use Rattle.jn_msgs.specs.declared.message.Note.TheVariants as notes
 use Rattle.jn_report.specs.declared.line.Text.TheVariants as says
-use Rattle.jn_rows.specs.declared.client.Taken.TheVariants as taken
 use Rattle.jn_system_reports.proofs.Reporting.Lists.{In, Each, each-append, each-in, get-in}
 use Rattle.jn_system_reports.proofs.Reporting.Past.{SaysPast}
 use Rattle.jn_system_reports.proofs.Reporting.PastRows.{is_broke}
@@ -87,103 +85,43 @@ module _ (P : Text → Type 0) (plain : (text : Text) → IsPlainText text → P
       (broke : (s : ServerNo) (m : Memory) (is : r.memory s ≡ Some m) (k : ℕ) (room : Room) (message : Message) → In (Server s, message) r.sent → After (done s (Some k) (of_worker m (worker_row m.worker (storage_of m (stable (r.found s)) room) m.tickets message)) r)
       → (T : Tid) (u : LockUnit) (by : Tid) → In (notes.Broke T u by) (worker_row m.worker (storage_of m (stable (r.found s)) room) m.tickets message).notes → P (says.Broke s T u by))
       (silent : (s : ServerNo) (m : Memory) (is : r.memory s ≡ Some m) (room : Room) (message : Message) → In (Server s, message) r.sent → list_any is_broke (coordinator_row m.coordinator room.free.records m.tickets message).notes ≡ false) where
-    commanded-lines : (c : ClientNo) (row : Commanded) → AddsLines P r (commanded c row r)
-    commanded-lines c (Refuses refusal) = one _ (says.Refused c r.event refusal) refl (plain (says.Refused c r.event refusal) tt)
-    commanded-lines c (Sends u to message) = none _ refl
-
-    took-lines : (c : ClientNo) (k : ℕ) (u : ClientTable) (what : Taken) → AbortsTruly (openings r.sent) r.clients w Caused c (facts.clients c).name (u, what) → AddsLines P r (took c k u what r)
-    took-lines c k u taken.Ignored h = one _ (says.Ignored k) refl (plain (says.Ignored k) tt)
-    took-lines c k u (taken.Send to message) h = none _ refl
-    took-lines c k u (taken.Told line answer) h = one _ line refl (told c line h)
+    client-lines : (c : ClientNo) (step : Step) (u : ClientTable) (sent : List Sent) (lines : List Text) → ClientRow r c step u sent lines → AddsLines P r (record r { clients = at_client r.clients c u; sent = sent; lines = lines })
+    client-lines c _ _ _ _ (by_command command u to message e) = none _ refl
+    client-lines c _ _ _ _ (by_ignoring k room stop message u i e) = one _ (says.Ignored k) refl (plain (says.Ignored k) tt)
+    client-lines c _ _ _ _ (by_answering k room stop message u to answer i e) = none _ refl
+    client-lines c _ _ _ _ (by_telling k room stop message u line answer i e) = one _ line refl (told c line (subst (λ (x : ClientTable × Taken). AbortsTruly (openings r.sent) r.clients w Caused c (facts.clients c).name x) e
+        (take-aborts (openings r.sent) r.clients w Caused c (facts.clients c).name message (holds-of (IsTrue w) r.sent k (Client c, message) mirrors.says i) (each-in (SaysPast (openings r.sent) r.clients w Caused) r.sent (Client c, message) past.says (get-in r.sent k (Client c, message) i)))))
 
     -- a row that tells of no broken work
-    quiet-lines : (s : ServerNo) (k : Option ℕ) (stop : Option (Pick → ℕ)) (row : RowOutcome Memory) → list_any is_broke row.notes ≡ false → AddsLines P r (ends s k stop row r)
-    quiet-lines s k None row h = record { texts = lines_of s k row.notes; adds = refl; each = notes-lines s k row.notes (λ T u by i. absurd (none-broke row.notes h T u by i)) }
-    quiet-lines s k (Some made) row h = one _ (says.Stopped s) refl (plain (says.Stopped s) tt)
+    quiet-lines : (s : ServerNo) (k : Option ℕ) (row : RowOutcome Memory) → list_any is_broke row.notes ≡ false → AddsLines P r (done s k row r)
+    quiet-lines s k row h = record { texts = lines_of s k row.notes; adds = refl; each = notes-lines s k row.notes (λ T u by i. absurd (none-broke row.notes h T u by i)) }
 
-    worker-lines : (s : ServerNo) (m : Memory) (is : r.memory s ≡ Some m) (k : ℕ) (room : Room) (stop : Option (Pick → ℕ)) (message : Message) → In (Server s, message) r.sent
-        → After (ends s (Some k) stop (of_worker m (worker_row m.worker (storage_of m (stable (r.found s)) room) m.tickets message)) r) → AddsLines P r (ends s (Some k) stop (of_worker m (worker_row m.worker (storage_of m (stable (r.found s)) room) m.tickets message)) r)
-    worker-lines s m is k room None message i l = record { texts = lines_of s (Some k) (worker_row m.worker (storage_of m (stable (r.found s)) room) m.tickets message).notes; adds = refl; each = notes-lines s (Some k) _ (broke s m is k room message i l) }
-    worker-lines s m is k room (Some made) message i l = one _ (says.Stopped s) refl (plain (says.Stopped s) tt)
+    row-lines : (s : ServerNo) (m : Memory) (step : Step) (k : Option ℕ) (row : RowOutcome Memory) → r.memory s ≡ Some m → ServerRow r s m None step k row → After (done s k row r) → AddsLines P r (done s k row r)
+    row-lines s m _ _ _ is (of_message _ k room message e) l = row-either (λ (row : RowOutcome Memory). After (done s (Some k) row r) → AddsLines P r (done s (Some k) row r)) m (stable (r.found s)) room message
+        (λ l. record { texts = lines_of s (Some k) (worker_row m.worker (storage_of m (stable (r.found s)) room) m.tickets message).notes; adds = refl; each = notes-lines s (Some k) _ (broke s m is k room message (get-in r.sent k (Server s, message) e) l) })
+        (λ l. quiet-lines s (Some k) (of_coordinator m (coordinator_row m.coordinator room.free.records m.tickets message)) (silent s m is room message (get-in r.sent k (Server s, message) e))) l
+    row-lines s m _ _ _ is (of_work _ room row e) l = row-of-step (λ (row : RowOutcome Memory). AddsLines P r (done s None row r)) m (stable (r.found s)) room row e (λ step f. quiet-lines s None (of_worker m step) (step-quiet m.worker (storage_of m (stable (r.found s)) room) m.tickets step f))
+    row-lines s m _ _ _ is of_closing l = quiet-lines s None (of_coordinator m (close_clients_row m.coordinator m.tickets)) refl
 
-    delivered : (s : ServerNo) (m : Memory) (is : r.memory s ≡ Some m) (k : ℕ) (room : Room) (stop : Option (Pick → ℕ)) (message : Message) → In (Server s, message) r.sent
-        → After (ends s (Some k) stop (server_row m (stable (r.found s)) room message) r) → AddsLines P r (ends s (Some k) stop (server_row m (stable (r.found s)) room message) r)
-    delivered s m is k room stop (messages.Open c q T) i l = worker-lines s m is k room stop (messages.Open c q T) i l
-    delivered s m is k room stop (messages.Op c q W n op) i l = worker-lines s m is k room stop (messages.Op c q W n op) i l
-    delivered s m is k room stop (messages.Prepare T c W) i l = worker-lines s m is k room stop (messages.Prepare T c W) i l
-    delivered s m is k room stop (messages.Commit T W) i l = worker-lines s m is k room stop (messages.Commit T W) i l
-    delivered s m is k room stop (messages.Drop T W) i l = worker-lines s m is k room stop (messages.Drop T W) i l
-    delivered s m is k room stop (messages.Begin c q) i l = quiet-lines s (Some k) stop _ (silent s m is room (messages.Begin c q) i)
-    delivered s m is k room stop (messages.End c q T Ws) i l = quiet-lines s (Some k) stop _ (silent s m is room (messages.End c q T Ws) i)
-    delivered s m is k room stop (messages.Abort c q T Ws) i l = quiet-lines s (Some k) stop _ (silent s m is room (messages.Abort c q T Ws) i)
-    delivered s m is k room stop (messages.Thanks c T) i l = quiet-lines s (Some k) stop _ (silent s m is room (messages.Thanks c T) i)
-    delivered s m is k room stop (messages.Vote T W vote) i l = quiet-lines s (Some k) stop _ (silent s m is room (messages.Vote T W vote) i)
-    delivered s m is k room stop (messages.Done T W) i l = quiet-lines s (Some k) stop _ (silent s m is room (messages.Done T W) i)
-    delivered s m is k room stop (messages.Inquire T W) i l = quiet-lines s (Some k) stop _ (silent s m is room (messages.Inquire T W) i)
-    delivered s m is k room stop (messages.Begun c q o) i l = quiet-lines s (Some k) stop _ (silent s m is room (messages.Begun c q o) i)
-    delivered s m is k room stop (messages.Opened c q T o) i l = quiet-lines s (Some k) stop _ (silent s m is room (messages.Opened c q T o) i)
-    delivered s m is k room stop (messages.Answer c q answer) i l = quiet-lines s (Some k) stop _ (silent s m is room (messages.Answer c q answer) i)
-    delivered s m is k room stop (messages.Outcome c T outcome) i l = quiet-lines s (Some k) stop _ (silent s m is room (messages.Outcome c T outcome) i)
+    quietly-lines : (step : Step) (event : ℕ) (sent : List Sent) (lines : List Text) → Quiet r step event sent lines → AddsLines P r (record r { event = event; sent = sent; lines = lines })
+    quietly-lines _ _ _ _ event_begins = none _ refl
+    quietly-lines _ _ _ _ (none_changes step) = none _ refl
+    quietly-lines _ _ _ _ (is_refused c command refusal e) = one _ (says.Refused c r.event refusal) refl (plain (says.Refused c r.event refusal) tt)
+    quietly-lines _ _ _ _ (client_repeats c) = none _ refl
+    quietly-lines _ _ _ _ (server_repeats s m e) = none _ refl
+    quietly-lines _ _ _ _ (is_lost k room stop s message e f) = one _ (says.Lost k) refl (plain (says.Lost k) tt)
 
-    memory-lines : (s : ServerNo) (k : ℕ) (room : Room) (stop : Option (Pick → ℕ)) (message : Message) (o : Option Memory) → r.memory s ≡ o → In (Server s, message) r.sent → After (at_memory s k room stop message o r) → AddsLines P r (at_memory s k room stop message o r)
-    memory-lines s k room stop message None is i l = one _ (says.Lost k) refl (plain (says.Lost k) tt)
-    memory-lines s k room stop message (Some m) is i l = delivered s m is k room stop message i l
-
-    handed-lines : (k : ℕ) (room : Room) (stop : Option (Pick → ℕ)) (o : Option Sent) → slice_get r.sent k ≡ o → After (handed k room stop o r) → AddsLines P r (handed k room stop o r)
-    handed-lines k room stop None e l = none _ refl
-    handed-lines k room stop (Some (Client c, message)) e l = let row = take_row (r.clients c) message in took-lines c k row.0 row.1
-        (take-aborts (openings r.sent) r.clients w Caused c (facts.clients c).name message (holds-of (IsTrue w) r.sent k (Client c, message) mirrors.says e) (each-in (SaysPast (openings r.sent) r.clients w Caused) r.sent (Client c, message) past.says (get-in r.sent k (Client c, message) e)))
-    handed-lines k room stop (Some (Server s, message)) e l = memory-lines s k room stop message (r.memory s) refl (get-in r.sent k (Server s, message) e) l
-
-    work-lines : (s : ServerNo) (room : Room) (stop : Option (Pick → ℕ)) (o : Option Memory) → AddsLines P r (work s room stop o r)
-    work-lines s room stop None = none _ refl
-    work-lines s room stop (Some m) = by (worker_step m.worker (storage_of m (stable (r.found s)) room) m.tickets) refl
-      where
-        by : (o : Option (RowOutcome WorkerTable)) → worker_step m.worker (storage_of m (stable (r.found s)) room) m.tickets ≡ o → AddsLines P r (works s stop (of_step m o) r)
-        by None e = none _ refl
-        by (Some row) e = quiet-lines s None stop (of_worker m row) (step-quiet m.worker (storage_of m (stable (r.found s)) room) m.tickets row e)
-
-    nudge-lines : (s : ServerNo) (o : Option Memory) → AddsLines P r (nudge s o r)
-    nudge-lines s None = none _ refl
-    nudge-lines s (Some m) = none _ refl
-
-    timeout-lines : (s : ServerNo) (T : Tid) (o : Option Memory) → AddsLines P r (timeout s T o r)
-    timeout-lines s T None = none _ refl
-    timeout-lines s T (Some m) = none _ refl
-
-    crash-lines : (s : ServerNo) (o : Option Memory) → AddsLines P r (crash s o r)
-    crash-lines s None = none _ refl
-    crash-lines s (Some m) = one _ (says.Down s) refl (plain (says.Down s) tt)
-
-    narrow-lines : (s : ServerNo) (g : Pick → Pick) (o : Option Memory) → AddsLines P r (narrow s g o r)
-    narrow-lines s g None = none _ refl
-    narrow-lines s g (Some m) = none _ refl
-
-    raise-lines : (s : ServerNo) (raised : Pick → Bool) (o : Option Memory) → AddsLines P r (stop_restart s raised o r)
-    raise-lines s raised None = one _ (says.Stopped s) refl (plain (says.Stopped s) tt)
-    raise-lines s raised (Some m) = none _ refl
-
-    restart-lines : (s : ServerNo) (pick : Pick) (Ws : List WorkId) (Ts : List Tid) (o : Option Memory) → AddsLines P r (restart s pick Ws Ts o r)
-    restart-lines s pick Ws Ts None = record { texts = says.Up s ((r.found s pick).epoch + 1) ∷ named_now Ts r.lines; adds = refl; each = (plain (says.Up s ((r.found s pick).epoch + 1)) tt, now-lines Ts r.lines) }
-    restart-lines s pick Ws Ts (Some m) = none _ refl
-
-    close-lines : (s : ServerNo) (o : Option Memory) → AddsLines P r (close_clients s o r)
-    close-lines s None = none _ refl
-    close-lines s (Some m) = quiet-lines s None None (of_coordinator m (close_clients_row m.coordinator m.tickets)) refl
+    by-case : (step : Step) (now : World) → StepCase r step now → After now → AddsLines P r now
+    by-case step _ (client_row _ c u sent lines row) l = client-lines c step u sent lines row
+    by-case step _ (row_done _ s m k row is how) l = row-lines s m step k row is how l
+    by-case _ _ (row_stopped _ s m k row made is how) l = one _ (says.Stopped s) refl (plain (says.Stopped s) tt)
+    by-case _ _ (gone_late s m T is) l = none _ refl
+    by-case _ _ (gone_down s m is) l = one _ (says.Down s) refl (plain (says.Down s) tt)
+    by-case _ _ (come_up s pick Ws Ts is) l = record { texts = says.Up s ((r.found s pick).epoch + 1) ∷ named_now Ts r.lines; adds = refl; each = (plain (says.Up s ((r.found s pick).epoch + 1)) tt, now-lines Ts r.lines) }
+    by-case _ _ (found_anew _ s _ _ is (by_narrowing g)) l = none _ refl
+    by-case _ _ (found_anew _ s _ _ is (by_raising raise)) l = one _ (says.Stopped s) refl (plain (says.Stopped s) tt)
+    by-case _ _ dismissed l = none _ refl
+    by-case step _ (quietly _ event sent lines is) l = quietly-lines step event sent lines is
 
     pub step-lines : (step : Step) → After (after step r) → AddsLines P r (after step r)
-    step-lines NextEvent l = none _ refl
-    step-lines (Tell c command) l = commanded-lines c (command_row (r.clients c) r.event command)
-    step-lines (Again c) l = none _ refl
-    step-lines (Deliver k room) l = handed-lines k room None (slice_get r.sent k) refl l
-    step-lines (Works s room) l = work-lines s room None (r.memory s)
-    step-lines (Nudge s) l = nudge-lines s (r.memory s)
-    step-lines (Timeout s T) l = timeout-lines s T (r.memory s)
-    step-lines (StopDelivery k room made) l = handed-lines k room (Some made) (slice_get r.sent k) refl l
-    step-lines (StopWork s room made) l = work-lines s room (Some made) (r.memory s)
-    step-lines (Crash s) l = crash-lines s (r.memory s)
-    step-lines (Narrow s g) l = narrow-lines s g (r.memory s)
-    step-lines (StopRestart s raised) l = raise-lines s raised (r.memory s)
-    step-lines (Restart s pick Ws Ts) l = restart-lines s pick Ws Ts (r.memory s)
-    step-lines Dismiss l = none _ refl
-    step-lines (CloseClients s) l = close-lines s (r.memory s)
+    step-lines step l = by-case step (after step r) (step-case r step) l

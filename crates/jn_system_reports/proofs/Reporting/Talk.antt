@@ -1,12 +1,9 @@
 -- Each step keeps what holds of the operations that clients ask for, and of their answers.
-use Rattle.jn_system_reports.proofs.Common.{◌≡◌, ◌≢◌, ◌⊎◌, inl, inr, ◌≤◌, ℕ, ◌+◌, Bool, true, false, List, [], ◌∷◌, ◌++◌, append-nil, Option, Some, None, refl, sym, ◌∙◌, ap, subst, arith, if◌then◌else◌, slice_get, ServerNo, ClientNo, Tid, WorkId, Party, Client, Server, server_eq, client_eq, client_tells, Message, OpenWork, Outstanding, Taken, StableState, Pick, stable, RowOutcome, Sent, WorkerTable, worker_row, worker_step, worker_again, timeout_row, coordinator_row, coordinator_again, close_clients_row, ClientTable, Commanded, Refuses, Sends, command_row, take_row, sent_again, over, Machine, IsWorkOf, World, Memory, at_server, at_client, new_memory, AllFiles, Room, storage_of, of_worker, of_coordinator, of_step, server_row, of_timeout, restored, Step, NextEvent, Tell, Again, Deliver, Nudge, Timeout, StopDelivery, StopWork, Crash, Narrow, StopRestart, Restart, Dismiss, CloseClients, after, commanded, sent_now, took, ends, at_memory, handed, works, work, nudge, timeout, crash, narrow, stop_restart, restart, dismiss, close_clients, Mirrors, IsCurrent, AreOpen, found-open, Opening, opening_in, openings, openings-more, Has, has-first, Began, Facts, all-have-theirs, holds-of}
-use Rattle.jn_base.specs.declared.names.OperationNo.{OperationNo}
-use Rattle.jn_base.specs.declared.names.RequestNo.{RequestNo}
+use Rattle.jn_system_reports.proofs.Common.{◌≡◌, ◌⊎◌, inl, inr, ◌≤◌, ℕ, ◌+◌, List, [], ◌∷◌, ◌++◌, append-nil, Option, Some, None, refl, sym, ◌∙◌, ap, subst, arith, slice_get, ServerNo, ClientNo, Tid, WorkId, Party, Client, Server, Message, OpenWork, Outstanding, Taken, Pick, stable, RowOutcome, Sent, WorkerTable, worker_row, worker_again, timeout_row, coordinator_again, ClientTable, Commanded, Sends, take_row, sent_again, over, Machine, IsWorkOf, World, Memory, at_server, at_client, new_memory, AllFiles, storage_of, of_timeout, restored, Step, after, sent_now, works, dismiss, Mirrors, IsCurrent, AreOpen, found-open, Opening, opening_in, openings, openings-more, Has, has-first, Began, Facts, all-have-theirs, holds-of, OperationNo, RequestNo, one-server, one-client, ClientRow, by_command, by_ignoring, by_answering, by_telling, ServerRow, of_message, of_work, of_closing, Quiet, event_begins, none_changes, is_refused, client_repeats, server_repeats, is_lost, StepCase, client_row, row_done, row_stopped, gone_late, gone_down, come_up, found_anew, dismissed, quietly, step-case, server_timeout, row-either, row-of-step, Text}
 use Rattle.jn_msgs.specs.declared.message.Message.TheVariants as messages
 use Rattle.jn_rows.specs.declared.client.Taken.TheVariants as taken
 use Rattle.jn_rows.specs.Client.{work_at}
 use Rattle.jn_system.specs.WholeSystem.World.{opening as opening_world}
-use Rattle.jn_system.specs.WholeSystem.Steps.{Work}
 use Rattle.jn_system_order.proofs.Ordering.Facts.{opening}
 use Rattle.jn_system_reports.proofs.Reporting.Lists.{In, in-first, in-second, in-either, Each, each-in, each-append, each-more, get-in}
 use Rattle.jn_system_reports.proofs.Reporting.Asking.{asked-more, Asking, IsAsked, IsReply, IsWorkers, workers-reply, KeepsWork, keeps-more, reply-more}
@@ -55,88 +52,109 @@ asked-either sent more a h = by (in-either _ sent more h.is)
 none-asked : (sent more : List Sent) (a : Asking) → Each (IsReply sent) more → IsAsked more a → ⊥
 none-asked sent more a h k = each-in (IsReply sent) more (k.to, messages.Op a.client a.request a.work a.number a.op) h k.is
 
-module _ (sent : List Sent) (clients : ClientNo → ClientTable) (memory : ServerNo → Option Memory) (w v : Machine) (talk : TalkFacts sent clients memory w)
-    (grow : (T : Tid) (W : WorkId) → IsWorkOf w T W → IsWorkOf v T W) where
-  -- nothing new is asked
-  more-talk : (memory' : ServerNo → Option Memory) (more : List Sent) → ((a : Asking) → IsAsked more a → IsAsked sent a) → Each (IsHeard sent) more → ((s : ServerNo) (m : Memory) → memory' s ≡ Some m → Each (KeepsWork sent) m.worker) → TalkFacts (sent ++ more) clients memory' v
-  more-talk memory' more none heard works = record {
-    once = λ a b h k. talk.once a b (back a h) (back b k);
-    asked = λ a h. known-grows (openings sent) (openings (sent ++ more)) w v (clients a.client) a (more-openings sent more) grow (talk.asked a (back a h));
-    waits = λ c o e. let x = talk.waits c o e in record { again = in-first _ sent more x.again; begins = x.begins };
-    works = λ s m e. each-more (KeepsWork sent) (KeepsWork (sent ++ more)) m.worker (λ x g. keeps-more sent more x g) (works s m e);
-    heard = all-heard sent more talk.heard heard;
-  }
-    where
-      back : (a : Asking) → IsAsked (sent ++ more) a → IsAsked sent a
-      back a h = by (asked-either sent more a h)
-        where
-          by : IsAsked sent a ⊎ IsAsked more a → IsAsked sent a
-          by (inl k) = k
-          by (inr k) = none a k
+-- ---- what is asked
 
-  pub server-talk : (memory' : ServerNo → Option Memory) (more : List Sent) → Each (IsReply sent) more → ((s : ServerNo) (m : Memory) → memory' s ≡ Some m → Each (KeepsWork sent) m.worker) → TalkFacts (sent ++ more) clients memory' v
-  server-talk memory' more replies works = more-talk memory' more (λ a k. absurd (none-asked sent more a replies k)) (each-more (IsReply sent) (IsHeard sent) more (λ x g. heard-of sent x g) replies) works
+-- an operation that is asked for now, by a client that waits for nothing
+pub record IsFresh (r : World) (w : Machine) (a : Asking) : Type 0 where
+  pub tid : Tid
+  pub of : IsWorkOf w tid a.work
+  pub current : (r.clients a.client).transaction ≡ Some tid
+  pub idle : (r.clients a.client).outstanding ≡ None
 
-  -- a message is sent once more
-  pub repeated-talk : (x : Sent) → In x sent → TalkFacts (sent ++ x ∷ []) clients memory v
-  repeated-talk x h = more-talk memory (x ∷ []) (λ a k. record { to = k.to; is = by a k.to k.is }) (each-in (IsHeard sent) sent x talk.heard h, tt) talk.works
-    where
-      by : (a : Asking) (to : Party) → In (to, messages.Op a.client a.request a.work a.number a.op) (x ∷ []) → In (to, messages.Op a.client a.request a.work a.number a.op) sent
-      by a to (inl e) = subst (λ (y : Sent). In y sent) e h
-      by a to (inr k) = absurd k
-
-  pub still-talk : (memory' : ServerNo → Option Memory) → ((s : ServerNo) (m : Memory) → memory' s ≡ Some m → Each (KeepsWork sent) m.worker) → TalkFacts sent clients memory' v
-  still-talk memory' works = subst (λ l. TalkFacts l clients memory' v) (append-nil sent) (server-talk memory' [] tt works)
-
-  -- ---- a client's step
-
-  module _ (c : ClientNo) (u : ClientTable) (more : List Sent) (IsNew : Asking → Type 0) where
-    abbrev IsOther : ClientNo → Type 0
-    IsOther d = ((client_eq c d ≡ true) × (c ≡ d)) ⊎ ((client_eq c d ≡ false) × (c ≢ d))
-
-    at-own : (P : ClientTable → Type 0) (d : ClientNo) → IsOther d → (c ≡ d → P u) → (c ≢ d → P (clients d)) → P (at_client clients c u d)
-    at-own P d (inl p) own other = subst (λ (b : Bool). P (if b then u else clients d)) (sym p.0) (own p.1)
-    at-own P d (inr p) own other = subst (λ (b : Bool). P (if b then u else clients d)) (sym p.0) (other p.1)
-
-    pub client-talk : ((a : Asking) → IsAsked more a → IsAsked sent a ⊎ IsNew a) → ((a b : Asking) → IsNew a → IsNew b → a ≡ b)
-        → ((a b : Asking) → IsNew a → IsAsked sent b → a.work ≡ b.work → a.number ≡ b.number → ⊥)
-        → ((a : Asking) → IsNew a → (a.client ≡ c) × AskedFact (openings sent) w u a)
-        → ((a : Asking) → a.client ≡ c → AskedFact (openings sent) w (clients c) a → AskedFact (openings sent) w u a)
-        → ((o : Outstanding) → u.outstanding ≡ Some o → WaitFact (sent ++ more) u o) → Each (IsHeard sent) more → TalkFacts (sent ++ more) (at_client clients c u) memory v
-    client-talk back one apart new own waits heard = record {
-      once = λ a b h k e f. pair a b (from a h) (from b k) e f;
-      asked = λ a h. known-grows (openings sent) (openings (sent ++ more)) w v (at_client clients c u a.client) a (more-openings sent more) grow (fact a (from a h));
-      waits = λ d o e. at-own (λ (t : ClientTable). t.outstanding ≡ Some o → WaitFact (sent ++ more) t o) d (client_tells c d) (λ p. waits o)
-          (λ p f. let x = talk.waits d o f in record { again = in-first _ sent more x.again; begins = x.begins }) e;
-      works = λ s m e. each-more (KeepsWork sent) (KeepsWork (sent ++ more)) m.worker (λ x g. keeps-more sent more x g) (talk.works s m e);
-      heard = all-heard sent more talk.heard heard;
-    }
-      where
-        from : (a : Asking) → IsAsked (sent ++ more) a → IsAsked sent a ⊎ IsNew a
-        from a h = by (asked-either sent more a h)
-          where
-            by : IsAsked sent a ⊎ IsAsked more a → IsAsked sent a ⊎ IsNew a
-            by (inl k) = inl k
-            by (inr k) = back a k
-
-        pair : (a b : Asking) → IsAsked sent a ⊎ IsNew a → IsAsked sent b ⊎ IsNew b → a.work ≡ b.work → a.number ≡ b.number → a ≡ b
-        pair a b (inl h) (inl k) e f = talk.once a b h k e f
-        pair a b (inl h) (inr k) e f = absurd (apart b a k h (sym e) (sym f))
-        pair a b (inr h) (inl k) e f = absurd (apart a b h k e f)
-        pair a b (inr h) (inr k) e f = one a b h k
-
-        fact : (a : Asking) → IsAsked sent a ⊎ IsNew a → AskedFact (openings sent) w (at_client clients c u a.client) a
-        fact a (inl h) = at-own (λ (t : ClientTable). AskedFact (openings sent) w t a) a.client (client_tells c a.client)
-            (λ p. own a (sym p) (subst (λ (d : ClientNo). AskedFact (openings sent) w (clients d) a) (sym p) (talk.asked a h))) (λ p. talk.asked a h)
-        fact a (inr h) = at-own (λ (t : ClientTable). AskedFact (openings sent) w t a) a.client (client_tells c a.client) (λ p. (new a h).1) (λ p. absurd (p (sym (new a h).0)))
+pub record Asks (r : World) (w : Machine) (sent : List Sent) : Type 0 where
+  pub back : (a : Asking) → IsAsked sent a → IsAsked r.sent a ⊎ IsFresh r w a
+  pub forth : (a : Asking) → IsAsked r.sent a → IsAsked sent a
 
 -- ---- every step
 
 module _ (r : World) (w v : Machine) (mirrors : Mirrors r w) (facts : Facts r w) (talk : Talk r w) (grow : (T : Tid) (W : WorkId) → IsWorkOf w T W → IsWorkOf v T W) where
+  -- what clients and workers have, and what is asked with these messages
+  abbrev Now : List Sent → (ClientNo → ClientTable) → (ServerNo → Option Memory) → Type 0
+  Now sent clients memory = TalkFacts sent clients memory v × Asks r w sent
+
+  abbrev AllKeep : (ServerNo → Option Memory) → Type 0
+  AllKeep memory = (s : ServerNo) (m : Memory) → memory s ≡ Some m → Each (KeepsWork r.sent) m.worker
+
+  -- nothing new is asked
+  more-now : (memory : ServerNo → Option Memory) (more : List Sent) → ((a : Asking) → IsAsked more a → IsAsked r.sent a) → Each (IsHeard r.sent) more → AllKeep memory → Now (r.sent ++ more) r.clients memory
+  more-now memory more none heard works = (
+    record {
+      once = λ a b h k. talk.once a b (back a h) (back b k);
+      asked = λ a h. known-grows (openings r.sent) (openings (r.sent ++ more)) w v (r.clients a.client) a (more-openings r.sent more) grow (talk.asked a (back a h));
+      waits = λ c o e. let x = talk.waits c o e in record { again = in-first _ r.sent more x.again; begins = x.begins };
+      works = λ s m e. each-more (KeepsWork r.sent) (KeepsWork (r.sent ++ more)) m.worker (λ x g. keeps-more r.sent more x g) (works s m e);
+      heard = all-heard r.sent more talk.heard heard;
+    },
+    record { back = λ a h. inl (back a h); forth = λ a h. asked-more r.sent more a h },
+  )
+    where
+      back : (a : Asking) → IsAsked (r.sent ++ more) a → IsAsked r.sent a
+      back a h = by (asked-either r.sent more a h)
+        where
+          by : IsAsked r.sent a ⊎ IsAsked more a → IsAsked r.sent a
+          by (inl k) = k
+          by (inr k) = none a k
+
+  replied : (memory : ServerNo → Option Memory) (more : List Sent) → Each (IsReply r.sent) more → AllKeep memory → Now (r.sent ++ more) r.clients memory
+  replied memory more replies works = more-now memory more (λ a k. absurd (none-asked r.sent more a replies k)) (each-more (IsReply r.sent) (IsHeard r.sent) more (λ x g. heard-of r.sent x g) replies) works
+
+  -- nothing is sent
+  unsent : (memory : ServerNo → Option Memory) → AllKeep memory → Now r.sent r.clients memory
+  unsent memory works = subst (λ l. Now l r.clients memory) (append-nil r.sent) (replied memory [] tt works)
+
+  same : Now r.sent r.clients r.memory
+  same = unsent r.memory talk.works
+
+  -- a message is sent once more
+  repeated : (x : Sent) → In x r.sent → Now (r.sent ++ x ∷ []) r.clients r.memory
+  repeated x h = more-now r.memory (x ∷ []) (λ a k. record { to = k.to; is = by a k.to k.is }) (each-in (IsHeard r.sent) r.sent x talk.heard h, tt) talk.works
+    where
+      by : (a : Asking) (to : Party) → In (to, messages.Op a.client a.request a.work a.number a.op) (x ∷ []) → In (to, messages.Op a.client a.request a.work a.number a.op) r.sent
+      by a to (inl e) = subst (λ (y : Sent). In y r.sent) e h
+      by a to (inr k) = absurd k
+
+  -- ---- a client's step
+
+  client-now : (c : ClientNo) (u : ClientTable) (more : List Sent) (IsNew : Asking → Type 0) → ((a : Asking) → IsAsked more a → IsAsked r.sent a ⊎ IsNew a) → ((a b : Asking) → IsNew a → IsNew b → a ≡ b)
+      → ((a b : Asking) → IsNew a → IsAsked r.sent b → a.work ≡ b.work → a.number ≡ b.number → ⊥)
+      → ((a : Asking) → IsNew a → (a.client ≡ c) × AskedFact (openings r.sent) w u a × IsFresh r w a)
+      → ((a : Asking) → a.client ≡ c → AskedFact (openings r.sent) w (r.clients c) a → AskedFact (openings r.sent) w u a)
+      → ((o : Outstanding) → u.outstanding ≡ Some o → WaitFact (r.sent ++ more) u o) → Each (IsHeard r.sent) more → Now (r.sent ++ more) (at_client r.clients c u) r.memory
+  client-now c u more IsNew back one apart new own waits heard = (
+    record {
+      once = λ a b h k e f. pair a b (from a h) (from b k) e f;
+      asked = λ a h. known-grows (openings r.sent) (openings (r.sent ++ more)) w v (at_client r.clients c u a.client) a (more-openings r.sent more) grow (fact a (from a h));
+      waits = λ d o. one-client (λ d (t : ClientTable). t.outstanding ≡ Some o → WaitFact (r.sent ++ more) t o) r.clients c u (waits o) (λ d p f. let x = talk.waits d o f in record { again = in-first _ r.sent more x.again; begins = x.begins }) d;
+      works = λ s m e. each-more (KeepsWork r.sent) (KeepsWork (r.sent ++ more)) m.worker (λ x g. keeps-more r.sent more x g) (talk.works s m e);
+      heard = all-heard r.sent more talk.heard heard;
+    },
+    record { back = λ a h. by a (from a h); forth = λ a h. asked-more r.sent more a h },
+  )
+    where
+      from : (a : Asking) → IsAsked (r.sent ++ more) a → IsAsked r.sent a ⊎ IsNew a
+      from a h = by (asked-either r.sent more a h)
+        where
+          by : IsAsked r.sent a ⊎ IsAsked more a → IsAsked r.sent a ⊎ IsNew a
+          by (inl k) = inl k
+          by (inr k) = back a k
+
+      by : (a : Asking) → IsAsked r.sent a ⊎ IsNew a → IsAsked r.sent a ⊎ IsFresh r w a
+      by a (inl h) = inl h
+      by a (inr h) = inr (new a h).2
+
+      pair : (a b : Asking) → IsAsked r.sent a ⊎ IsNew a → IsAsked r.sent b ⊎ IsNew b → a.work ≡ b.work → a.number ≡ b.number → a ≡ b
+      pair a b (inl h) (inl k) e f = talk.once a b h k e f
+      pair a b (inl h) (inr k) e f = absurd (apart b a k h (sym e) (sym f))
+      pair a b (inr h) (inl k) e f = absurd (apart a b h k e f)
+      pair a b (inr h) (inr k) e f = one a b h k
+
+      fact : (a : Asking) → IsAsked r.sent a ⊎ IsNew a → AskedFact (openings r.sent) w (at_client r.clients c u a.client) a
+      fact a (inl h) = one-client (λ d t. d ≡ a.client → AskedFact (openings r.sent) w t a) r.clients c u (λ e. own a (sym e) (subst (λ (d : ClientNo). AskedFact (openings r.sent) w (r.clients d) a) (sym e) (talk.asked a h)))
+          (λ d p e. subst (λ (d : ClientNo). AskedFact (openings r.sent) w (r.clients d) a) (sym e) (talk.asked a h)) a.client refl
+      fact a (inr h) = one-client (λ d t. d ≡ a.client → AskedFact (openings r.sent) w t a) r.clients c u (λ e. (new a h).1) (λ d p e. absurd (p (sym (e ∙ (new a h).0)))) a.client refl
+
   current : (c : ClientNo) (T : Tid) → (r.clients c).transaction ≡ Some T → AreOpen w T (r.clients c).works
   current c T e = (subst (λ o. IsCurrent w o (r.clients c).works) e (mirrors.clients c).current).1
-
-  -- ---- a client's
 
   -- a new operation has a number that its work didn't have
   apart : (c : ClientNo) (u : ClientTable) (a b : Asking) → IsNext (openings r.sent) w w.ended r.sent c (r.clients c) (facts.clients c) facts.unique (talk.waits c) (current c) u a → IsAsked r.sent b → a.work ≡ b.work → a.number ≡ b.number → ⊥
@@ -173,11 +191,17 @@ module _ (r : World) (w v : Machine) (mirrors : Mirrors r w) (facts : Facts r w)
           at-same = ap (λ (s : ServerNo). work_at s (r.clients b.client).works) (ap (λ (W : WorkId). W.server) (sym same ∙ n.named) ∙ its.1) ∙ ap (λ (d : ClientNo). work_at n.server (r.clients d).works) (sym client)
       by (inr p) = p.over (ap (λ (d : ClientNo). (r.clients d).transaction) (sym (is-own p.request p.has)) ∙ n.is ∙ ap (λ (T : Tid). Some T) (sym tid))
 
-  commanded-talk : (c : ClientNo) (row : Commanded) → CommandTalks (openings r.sent) w w.ended r.sent c (r.clients c) (facts.clients c) facts.unique (talk.waits c) (current c) row → Talk (commanded c row r) v
-  commanded-talk c (Refuses refusal) h = still-talk r.sent r.clients r.memory w v talk grow r.memory talk.works
-  commanded-talk c (Sends u to message) h = client-talk r.sent r.clients r.memory w v talk grow c u ((to, message) ∷ []) (λ a. asking_in message ≡ Some a)
+  abbrev Tells : ClientNo → Commanded → Type 0
+  Tells c row = CommandTalks (openings r.sent) w w.ended r.sent c (r.clients c) (facts.clients c) facts.unique (talk.waits c) (current c) row
+
+  abbrev Hears : ClientNo → ClientTable × Taken → Type 0
+  Hears c row = TakeTalks (openings r.sent) w w.ended r.sent c (r.clients c) (facts.clients c) facts.unique (talk.waits c) (current c) row
+
+  commanded-now : (c : ClientNo) (u : ClientTable) (to : Party) (message : Message) → Tells c (Sends u to message) → Now (r.sent ++ (to, message) ∷ []) (at_client r.clients c u) r.memory
+  commanded-now c u to message h = client-now c u ((to, message) ∷ []) (λ a. asking_in message ≡ Some a)
       (λ a k. inr (asked-alone (to, message) a k)) (λ a b e f. some-asking a b (sym e ∙ f)) (λ a b e k same number. apart c u a b (h.asks a e) k same number)
-      (λ a e. ((h.asks a e).client, (h.asks a e).fact)) (λ a n k. goes-on (openings r.sent) w (r.clients c) u a k h.next h.fresh h.same h.works)
+      (λ a e. let n = h.asks a e in (n.client, n.fact, record { tid = n.tid; of = n.of; current = ap (λ (d : ClientNo). (r.clients d).transaction) n.client ∙ n.is; idle = ap (λ (d : ClientNo). (r.clients d).outstanding) n.client ∙ n.idle }))
+      (λ a n k. goes-on (openings r.sent) w (r.clients c) u a k h.next h.fresh h.same h.works)
       (λ o e. record { again = in-second _ r.sent ((to, message) ∷ []) (inl (same-sent o (h.waiting o e).0 (h.waiting o e).1)); begins = (h.waiting o e).2 }) (h.heard, tt)
     where
       some-asking : (a b : Asking) → Some a ≡ Some b → a ≡ b
@@ -186,134 +210,65 @@ module _ (r : World) (w v : Machine) (mirrors : Mirrors r w) (facts : Facts r w)
       same-sent : (o : Outstanding) → o.to ≡ to → o.message ≡ message → as-sent to message ≡ as-sent o.to o.message
       same-sent o e f = cc
 
-  again-talk : (c : ClientNo) (o : Option Outstanding) → (r.clients c).outstanding ≡ o → TalkFacts (r.sent ++ sent_now (sent_again o)) r.clients r.memory v
-  again-talk c None e = server-talk r.sent r.clients r.memory w v talk grow r.memory [] tt talk.works
-  again-talk c (Some o) e = repeated-talk r.sent r.clients r.memory w v talk grow (o.to, o.message) (talk.waits c o e).again
+  hears : (c : ClientNo) (k : ℕ) (message : Message) (row : ClientTable × Taken) → slice_get r.sent k ≡ Some (Client c, message) → take_row (r.clients c) message ≡ row → Hears c row
+  hears c k message row i e = subst (λ (x : ClientTable × Taken). Hears c x) e (take-talks (openings r.sent) w w.ended r.sent c (r.clients c) (facts.clients c) facts.unique (talk.waits c) (current c) message
+      (holds-of (λ (x : Sent). (a : Opening) → Has a (opening_in x) → Has a (openings r.sent)) r.sent k (Client c, message) (all-have-theirs r.sent) i))
 
-  took-one : (c : ClientNo) (u : ClientTable) (what : Taken) (more : List Sent) → TakeTalks (openings r.sent) w w.ended r.sent c (r.clients c) (facts.clients c) facts.unique (talk.waits c) (current c) (u, what) → Each (IsReply r.sent) more
-      → TalkFacts (r.sent ++ more) (at_client r.clients c u) r.memory v
-  took-one c u what more h replies = client-talk r.sent r.clients r.memory w v talk grow c u more (λ a. ⊥) (λ a k. absurd (none-asked r.sent more a replies k)) (λ a b e f. absurd e) (λ a b e k same number. absurd e) (λ a e. absurd e)
+  took-now : (c : ClientNo) (u : ClientTable) (what : Taken) (more : List Sent) → Hears c (u, what) → Each (IsReply r.sent) more → Now (r.sent ++ more) (at_client r.clients c u) r.memory
+  took-now c u what more h replies = client-now c u more (λ a. ⊥) (λ a k. absurd (none-asked r.sent more a replies k)) (λ a b e f. absurd e) (λ a b e k same number. absurd e) (λ a e. absurd e)
       h.keeps (λ o e. let x = talk.waits c o (h.waiting o e).0 in record { again = in-first _ r.sent more x.again; begins = λ b. (h.waiting o e).1 ∙ x.begins b })
       (each-more (IsReply r.sent) (IsHeard r.sent) more (λ x g. heard-of r.sent x g) replies)
 
-  took-talk : (c : ClientNo) (k : ℕ) (u : ClientTable) (what : Taken) → TakeTalks (openings r.sent) w w.ended r.sent c (r.clients c) (facts.clients c) facts.unique (talk.waits c) (current c) (u, what) → Talk (took c k u what r) v
-  took-talk c k u taken.Ignored h = subst (λ l. TalkFacts l (at_client r.clients c u) r.memory v) (append-nil r.sent) (took-one c u taken.Ignored [] h tt)
-  took-talk c k u (taken.Send to message) h = took-one c u (taken.Send to message) ((to, message) ∷ []) h (h.little, tt)
-  took-talk c k u (taken.Told line None) h = took-one c u (taken.Told line None) [] h tt
-  took-talk c k u (taken.Told line (Some x)) h = took-one c u (taken.Told line (Some x)) (x ∷ []) h (h.little, tt)
+  row-now : (c : ClientNo) (step : Step) (u : ClientTable) (sent : List Sent) (lines : List Text) → ClientRow r c step u sent lines → Now sent (at_client r.clients c u) r.memory
+  row-now c _ _ _ _ (by_command command u to message e) = commanded-now c u to message (subst (λ (x : Commanded). Tells c x) e (command-talks (openings r.sent) w w.ended r.sent c (r.clients c) (facts.clients c) facts.unique (talk.waits c) (current c) r.event command))
+  row-now c _ _ _ _ (by_ignoring k room stop message u i e) = subst (λ l. Now l (at_client r.clients c u) r.memory) (append-nil r.sent) (took-now c u taken.Ignored [] (hears c k message (u, taken.Ignored) i e) tt)
+  row-now c _ _ _ _ (by_answering k room stop message u to answer i e) = let h = hears c k message (u, taken.Send to answer) i e in took-now c u (taken.Send to answer) ((to, answer) ∷ []) h (h.little, tt)
+  row-now c _ _ _ _ (by_telling k room stop message u line None i e) = took-now c u (taken.Told line None) [] (hears c k message (u, taken.Told line None) i e) tt
+  row-now c _ _ _ _ (by_telling k room stop message u line (Some x) i e) = let h = hears c k message (u, taken.Told line (Some x)) i e in took-now c u (taken.Told line (Some x)) (x ∷ []) h (h.little, tt)
 
-  taken-talk : (c : ClientNo) (k : ℕ) (message : Message) → slice_get r.sent k ≡ Some (Client c, message) → Talk (took c k (take_row (r.clients c) message).0 (take_row (r.clients c) message).1 r) v
-  taken-talk c k message e = took-talk c k (take_row (r.clients c) message).0 (take_row (r.clients c) message).1 (take-talks (openings r.sent) w w.ended r.sent c (r.clients c) (facts.clients c) facts.unique (talk.waits c) (current c) message
-      (holds-of (λ (x : Sent). (a : Opening) → Has a (opening_in x) → Has a (openings r.sent)) r.sent k (Client c, message) (all-have-theirs r.sent) e))
+  again-now : (c : ClientNo) (o : Option Outstanding) → (r.clients c).outstanding ≡ o → Now (r.sent ++ sent_now (sent_again o)) r.clients r.memory
+  again-now c None e = replied r.memory [] tt talk.works
+  again-now c (Some o) e = repeated (o.to, o.message) (talk.waits c o e).again
 
   -- ---- a server's
 
-  some-memory : (a b : Memory) → Some a ≡ Some b → a ≡ b
-  some-memory a b e = cc
+  all-keep : (s : ServerNo) (o : Option Memory) → ((m : Memory) → o ≡ Some m → Each (KeepsWork r.sent) m.worker) → AllKeep (at_server r.memory s o)
+  all-keep s o h = one-server (λ q o. (m : Memory) → o ≡ Some m → Each (KeepsWork r.sent) m.worker) r.memory s o h (λ q ne. talk.works q)
 
-  none-memory : (a : Memory) → None ≡ Some a → ⊥
-  none-memory a e = cc
+  with-table : (s : ServerNo) (m : Memory) → Each (KeepsWork r.sent) m.worker → AllKeep (at_server r.memory s (Some m))
+  with-table s m h = all-keep s (Some m) (λ n e. subst (λ (z : Memory). Each (KeepsWork r.sent) z.worker) (some-memory m n e) h)
+    where
+      some-memory : (a b : Memory) → Some a ≡ Some b → a ≡ b
+      some-memory a b e = cc
+
+  gone-now : (s : ServerNo) → Now r.sent r.clients (at_server r.memory s None)
+  gone-now s = unsent (at_server r.memory s None) (all-keep s None (λ m e. absurd (none-memory m e)))
+    where
+      none-memory : (a : Memory) → None ≡ Some a → ⊥
+      none-memory a e = cc
 
   abbrev RowTalks : RowOutcome Memory → Type 0
   RowTalks row = Each (IsReply r.sent) row.messages × Each (KeepsWork r.sent) row.table.worker
 
-  at-works : (s : ServerNo) (o : Option Memory) → ((m : Memory) → o ≡ Some m → Each (KeepsWork r.sent) m.worker) → (q : ServerNo) (m : Memory) → at_server r.memory s o q ≡ Some m → Each (KeepsWork r.sent) m.worker
-  at-works s o h q m e = by (server_eq s q) e
-    where
-      by : (b : Bool) → (if b then o else r.memory q) ≡ Some m → Each (KeepsWork r.sent) m.worker
-      by true k = h m k
-      by false k = talk.works q m k
-
-  same-talk : Talk r v
-  same-talk = still-talk r.sent r.clients r.memory w v talk grow r.memory talk.works
-
-  gone-talk : (s : ServerNo) → TalkFacts r.sent r.clients (at_server r.memory s None) v
-  gone-talk s = still-talk r.sent r.clients r.memory w v talk grow (at_server r.memory s None) (at-works s None (λ m e. absurd (none-memory m e)))
-
-  table-talk : (s : ServerNo) (m : Memory) → Each (KeepsWork r.sent) m.worker → TalkFacts r.sent r.clients (at_server r.memory s (Some m)) v
-  table-talk s m h = still-talk r.sent r.clients r.memory w v talk grow (at_server r.memory s (Some m)) (at-works s (Some m) (λ n e. subst (λ (z : Memory). Each (KeepsWork r.sent) z.worker) (some-memory m n e) h))
-
-  ends-talk : (s : ServerNo) (k : Option ℕ) (stop : Option (Pick → ℕ)) (row : RowOutcome Memory) → RowTalks row → Talk (ends s k stop row r) v
-  ends-talk s k None row h = server-talk r.sent r.clients r.memory w v talk grow (at_server r.memory s (Some row.table)) row.messages h.0 (at-works s (Some row.table) (λ m e. subst (λ (z : Memory). Each (KeepsWork r.sent) z.worker) (some-memory row.table m e) h.1))
-  ends-talk s k (Some made) row h = gone-talk s
-
   as-replies : (row : RowOutcome WorkerTable) → Talks r.sent talk.once row → Each (IsReply r.sent) row.messages × Each (KeepsWork r.sent) row.table
   as-replies row h = (each-more (IsWorkers r.sent) (IsReply r.sent) row.messages (workers-reply r.sent) h.0, h.1)
 
-  module _ (s : ServerNo) (m : Memory) (is : r.memory s ≡ Some m) (x : StableState) (room : Room) where
-    by-worker : (message : Message) → WasSent r.sent talk.once m.worker m.tickets (talk.works s m is) (storage_of m x room) message → RowTalks (of_worker m (worker_row m.worker (storage_of m x room) m.tickets message))
-    by-worker message sent = as-replies (worker_row m.worker (storage_of m x room) m.tickets message) (worker-talks r.sent talk.once m.worker m.tickets (talk.works s m is) (storage_of m x room) message sent)
-
-    by-coordinator : (message : Message) → RowTalks (of_coordinator m (coordinator_row m.coordinator room.free.records m.tickets message))
-    by-coordinator message = (coordinator-silent r.sent m.coordinator m.tickets room.free.records message, talk.works s m is)
-
-    row-talks : (message : Message) → WasSent r.sent talk.once m.worker m.tickets (talk.works s m is) (storage_of m x room) message → RowTalks (server_row m x room message)
-    row-talks (messages.Open c q T) sent = by-worker (messages.Open c q T) sent
-    row-talks (messages.Op c q W n op) sent = by-worker (messages.Op c q W n op) sent
-    row-talks (messages.Prepare T c W) sent = by-worker (messages.Prepare T c W) sent
-    row-talks (messages.Commit T W) sent = by-worker (messages.Commit T W) sent
-    row-talks (messages.Drop T W) sent = by-worker (messages.Drop T W) sent
-    row-talks (messages.Begin c q) sent = by-coordinator (messages.Begin c q)
-    row-talks (messages.End c q T Ws) sent = by-coordinator (messages.End c q T Ws)
-    row-talks (messages.Abort c q T Ws) sent = by-coordinator (messages.Abort c q T Ws)
-    row-talks (messages.Thanks c T) sent = by-coordinator (messages.Thanks c T)
-    row-talks (messages.Vote T W vote) sent = by-coordinator (messages.Vote T W vote)
-    row-talks (messages.Done T W) sent = by-coordinator (messages.Done T W)
-    row-talks (messages.Inquire T W) sent = by-coordinator (messages.Inquire T W)
-    row-talks (messages.Begun c q o) sent = by-coordinator (messages.Begun c q o)
-    row-talks (messages.Opened c q T o) sent = by-coordinator (messages.Opened c q T o)
-    row-talks (messages.Answer c q answer) sent = by-coordinator (messages.Answer c q answer)
-    row-talks (messages.Outcome c T outcome) sent = by-coordinator (messages.Outcome c T outcome)
-
-    was-sent : (k : ℕ) (message : Message) → slice_get r.sent k ≡ Some (Server s, message) → WasSent r.sent talk.once m.worker m.tickets (talk.works s m is) (storage_of m x room) message
-    was-sent k (messages.Op c q W n op) e = record { to = Server s; is = get-in r.sent k _ e }
-    was-sent k _ e = tt
-
-  memory-talk : (s : ServerNo) (k : ℕ) (room : Room) (stop : Option (Pick → ℕ)) (message : Message) (o : Option Memory) → r.memory s ≡ o → slice_get r.sent k ≡ Some (Server s, message) → Talk (at_memory s k room stop message o r) v
-  memory-talk s k room stop message None is e = same-talk
-  memory-talk s k room stop message (Some m) is e = ends-talk s (Some k) stop _ (row-talks s m is (stable (r.found s)) room message (was-sent s m is (stable (r.found s)) room k message e))
-
-  handed-talk : (k : ℕ) (room : Room) (stop : Option (Pick → ℕ)) (o : Option Sent) → slice_get r.sent k ≡ o → Talk (handed k room stop o r) v
-  handed-talk k room stop None e = same-talk
-  handed-talk k room stop (Some (Client c, message)) e = taken-talk c k message e
-  handed-talk k room stop (Some (Server s, message)) e = memory-talk s k room stop message (r.memory s) refl e
-
-  work-talk : (s : ServerNo) (room : Room) (stop : Option (Pick → ℕ)) (o : Option Memory) → r.memory s ≡ o → Talk (work s room stop o r) v
-  work-talk s room stop None is = same-talk
-  work-talk s room stop (Some m) is = by (worker_step m.worker (storage_of m (stable (r.found s)) room) m.tickets) refl
+  row-talks : (s : ServerNo) (m : Memory) (stop : Option (Pick → ℕ)) (step : Step) (k : Option ℕ) (row : RowOutcome Memory) → r.memory s ≡ Some m → ServerRow r s m stop step k row → RowTalks row
+  row-talks s m _ _ _ _ is (of_message stop k room message e) = row-either (λ row. RowTalks row) m (stable (r.found s)) room message
+      (as-replies (worker_row m.worker (storage_of m (stable (r.found s)) room) m.tickets message) (worker-talks r.sent talk.once m.worker m.tickets (talk.works s m is) (storage_of m (stable (r.found s)) room) message (was-sent message e))) (coordinator-silent r.sent m.coordinator m.tickets room.free.records message, talk.works s m is)
     where
-      by : (o : Option (RowOutcome WorkerTable)) → worker_step m.worker (storage_of m (stable (r.found s)) room) m.tickets ≡ o → Talk (works s stop (of_step m o) r) v
-      by None e = same-talk
-      by (Some row) e = ends-talk s None stop (of_worker m row) (as-replies row (step-talks r.sent talk.once m.worker m.tickets (talk.works s m is) (storage_of m (stable (r.found s)) room) row e))
+      was-sent : (message : Message) → slice_get r.sent k ≡ Some (Server s, message) → WasSent r.sent talk.once m.worker m.tickets (talk.works s m is) (storage_of m (stable (r.found s)) room) message
+      was-sent (messages.Op c q W n op) e = record { to = Server s; is = get-in r.sent k _ e }
+      was-sent _ e = tt
+  row-talks s m _ _ _ _ is (of_work stop room row e) = row-of-step (λ row. RowTalks row) m (stable (r.found s)) room row e (λ step f. as-replies step (step-talks r.sent talk.once m.worker m.tickets (talk.works s m is) (storage_of m (stable (r.found s)) room) step f))
+  row-talks s m _ _ _ _ is of_closing = (tt, talk.works s m is)
 
-  nudge-talk : (s : ServerNo) (o : Option Memory) → Talk (nudge s o r) v
-  nudge-talk s None = same-talk
-  nudge-talk s (Some m) = server-talk r.sent r.clients r.memory w v talk grow r.memory _ (each-append (IsReply r.sent) (worker_again (stable (r.found s)) m.worker) (coordinator_again m.coordinator.transactions)
-      (each-more (IsWorkers r.sent) (IsReply r.sent) (worker_again (stable (r.found s)) m.worker) (workers-reply r.sent) (again-talks r.sent (stable (r.found s)) m.worker)) (again-silent-all r.sent m.coordinator.transactions)) talk.works
-
-  timeout-talk : (s : ServerNo) (T : Tid) (o : Option Memory) → r.memory s ≡ o → Talk (timeout s T o r) v
-  timeout-talk s T None is = same-talk
-  timeout-talk s T (Some m) is = by (timeout_row m.worker T) refl
+  late : (s : ServerNo) (m : Memory) (T : Tid) → r.memory s ≡ Some m → Each (KeepsWork r.sent) (server_timeout m T).worker
+  late s m T is = by (timeout_row m.worker T) refl
     where
-      by : (o : Option WorkerTable) → timeout_row m.worker T ≡ o → TalkFacts r.sent r.clients (at_server r.memory s (Some (of_timeout m o))) v
-      by None e = table-talk s m (talk.works s m is)
-      by (Some t) e = table-talk s (record m { worker = t }) (timeout-talks r.sent talk.once m.worker m.tickets (talk.works s m is) T t e)
-
-  crash-talk : (s : ServerNo) (o : Option Memory) → Talk (crash s o r) v
-  crash-talk s None = same-talk
-  crash-talk s (Some m) = gone-talk s
-
-  narrow-talk : (s : ServerNo) (g : Pick → Pick) (o : Option Memory) → Talk (narrow s g o r) v
-  narrow-talk s g None = same-talk
-  narrow-talk s g (Some m) = same-talk
-
-  raise-talk : (s : ServerNo) (raised : Pick → Bool) (o : Option Memory) → Talk (stop_restart s raised o r) v
-  raise-talk s raised None = same-talk
-  raise-talk s raised (Some m) = same-talk
-
-  restart-talk : (s : ServerNo) (pick : Pick) (Ws : List WorkId) (Ts : List Tid) (o : Option Memory) → Talk (restart s pick Ws Ts o r) v
-  restart-talk s pick Ws Ts None = table-talk s (restored s (r.found s pick) Ws Ts) (restored-talks r.sent (r.found s pick) Ws)
-  restart-talk s pick Ws Ts (Some m) = same-talk
+      by : (o : Option WorkerTable) → timeout_row m.worker T ≡ o → Each (KeepsWork r.sent) (of_timeout m o).worker
+      by None e = talk.works s m is
+      by (Some t) e = timeout-talks r.sent talk.once m.worker m.tickets (talk.works s m is) T t e
 
   dismiss-talk : Talk (dismiss r) v
   dismiss-talk = record {
@@ -331,156 +286,32 @@ module _ (r : World) (w v : Machine) (mirrors : Mirrors r w) (facts : Facts r w)
       none-out : (o : Outstanding) → None ≡ Some o → ⊥
       none-out o e = cc
 
-  close-talk : (s : ServerNo) (o : Option Memory) → r.memory s ≡ o → Talk (close_clients s o r) v
-  close-talk s None is = same-talk
-  close-talk s (Some m) is = ends-talk s None None (of_coordinator m (close_clients_row m.coordinator m.tickets)) (tt, talk.works s m is)
+  quiet-now : (step : Step) (event : ℕ) (sent : List Sent) (lines : List Text) → Quiet r step event sent lines → Now sent r.clients r.memory
+  quiet-now _ _ _ _ event_begins = same
+  quiet-now _ _ _ _ (none_changes step) = same
+  quiet-now _ _ _ _ (is_refused c command refusal e) = same
+  quiet-now _ _ _ _ (client_repeats c) = again-now c (r.clients c).outstanding refl
+  quiet-now _ _ _ _ (server_repeats s m e) = replied r.memory _ (each-append (IsReply r.sent) (worker_again (stable (r.found s)) m.worker) (coordinator_again m.coordinator.transactions)
+      (each-more (IsWorkers r.sent) (IsReply r.sent) (worker_again (stable (r.found s)) m.worker) (workers-reply r.sent) (again-talks r.sent (stable (r.found s)) m.worker)) (again-silent-all r.sent m.coordinator.transactions)) talk.works
+  quiet-now _ _ _ _ (is_lost k room stop s message i e) = same
+
+  by-case : (step : Step) (now : World) → StepCase r step now → Now now.sent now.clients now.memory
+  by-case step _ (client_row _ c u sent lines row) = row-now c step u sent lines row
+  by-case step _ (row_done _ s m k row is how) = let h = row-talks s m None step k row is how in replied (at_server r.memory s (Some row.table)) row.messages h.0 (with-table s row.table h.1)
+  by-case _ _ (row_stopped _ s m k row made is how) = gone-now s
+  by-case _ _ (gone_late s m T is) = unsent (at_server r.memory s (Some (server_timeout m T))) (with-table s (server_timeout m T) (late s m T is))
+  by-case _ _ (gone_down s m is) = gone-now s
+  by-case _ _ (come_up s pick Ws Ts is) = unsent (at_server r.memory s (Some (restored s (r.found s pick) Ws Ts))) (with-table s (restored s (r.found s pick) Ws Ts) (restored-talks r.sent (r.found s pick) Ws))
+  by-case _ _ (found_anew _ s found lines is how) = same
+  by-case _ _ dismissed = (dismiss-talk, same.1)
+  by-case step _ (quietly _ event sent lines how) = quiet-now step event sent lines how
 
   pub step-talk : (step : Step) → Talk (after step r) v
-  step-talk NextEvent = same-talk
-  step-talk (Tell c command) = commanded-talk c (command_row (r.clients c) r.event command) (command-talks (openings r.sent) w w.ended r.sent c (r.clients c) (facts.clients c) facts.unique (talk.waits c) (current c) r.event command)
-  step-talk (Again c) = again-talk c (r.clients c).outstanding refl
-  step-talk (Deliver k room) = handed-talk k room None (slice_get r.sent k) refl
-  step-talk (Work s room) = work-talk s room None (r.memory s) refl
-  step-talk (Nudge s) = nudge-talk s (r.memory s)
-  step-talk (Timeout s T) = timeout-talk s T (r.memory s) refl
-  step-talk (StopDelivery k room made) = handed-talk k room (Some made) (slice_get r.sent k) refl
-  step-talk (StopWork s room made) = work-talk s room (Some made) (r.memory s) refl
-  step-talk (Crash s) = crash-talk s (r.memory s)
-  step-talk (Narrow s g) = narrow-talk s g (r.memory s)
-  step-talk (StopRestart s raised) = raise-talk s raised (r.memory s)
-  step-talk (Restart s pick Ws Ts) = restart-talk s pick Ws Ts (r.memory s)
-  step-talk Dismiss = dismiss-talk
-  step-talk (CloseClients s) = close-talk s (r.memory s) refl
-
--- ---- what is asked
-
--- an operation that is asked for now, by a client that waits for nothing
-pub record IsFresh (r : World) (w : Machine) (a : Asking) : Type 0 where
-  pub tid : Tid
-  pub of : IsWorkOf w tid a.work
-  pub current : (r.clients a.client).transaction ≡ Some tid
-  pub idle : (r.clients a.client).outstanding ≡ None
-
-pub record Asks (r : World) (w : Machine) (sent : List Sent) : Type 0 where
-  pub back : (a : Asking) → IsAsked sent a → IsAsked r.sent a ⊎ IsFresh r w a
-  pub forth : (a : Asking) → IsAsked r.sent a → IsAsked sent a
+  step-talk step = (by-case step (after step r) (step-case r step)).0
 
 module _ (r : World) (w : Machine) (mirrors : Mirrors r w) (facts : Facts r w) (talk : Talk r w) where
-  abbrev same-grow : (T : Tid) (W : WorkId) → IsWorkOf w T W → IsWorkOf w T W
-  same-grow = λ T W h. h
-
-  same-asks : Asks r w r.sent
-  same-asks = record { back = λ a h. inl h; forth = λ a h. h }
-
-  reply-asks : (more : List Sent) → Each (IsReply r.sent) more → Asks r w (r.sent ++ more)
-  reply-asks more h = record { back = λ a k. by a (asked-either r.sent more a k); forth = λ a k. asked-more r.sent more a k }
-    where
-      by : (a : Asking) → IsAsked r.sent a ⊎ IsAsked more a → IsAsked r.sent a ⊎ IsFresh r w a
-      by a (inl k) = inl k
-      by a (inr k) = absurd (none-asked r.sent more a h k)
-
-  repeat-asks : (x : Sent) → In x r.sent → Asks r w (r.sent ++ x ∷ [])
-  repeat-asks x h = record { back = λ a k. by a (asked-either r.sent (x ∷ []) a k); forth = λ a k. asked-more r.sent (x ∷ []) a k }
-    where
-      at : (a : Asking) (to : Party) → In (to, messages.Op a.client a.request a.work a.number a.op) (x ∷ []) → In (to, messages.Op a.client a.request a.work a.number a.op) r.sent
-      at a to (inl e) = subst (λ (y : Sent). In y r.sent) e h
-      at a to (inr k) = absurd k
-
-      by : (a : Asking) → IsAsked r.sent a ⊎ IsAsked (x ∷ []) a → IsAsked r.sent a ⊎ IsFresh r w a
-      by a (inl k) = inl k
-      by a (inr k) = inl (record { to = k.to; is = at a k.to k.is })
-
-  nothing-asks : Asks r w (r.sent ++ [])
-  nothing-asks = reply-asks [] tt
-
-  commanded-asks : (c : ClientNo) (row : Commanded) → CommandTalks (openings r.sent) w w.ended r.sent c (r.clients c) (facts.clients c) facts.unique (talk.waits c) (current r w w mirrors facts talk same-grow c) row → Asks r w (commanded c row r).sent
-  commanded-asks c (Refuses refusal) h = same-asks
-  commanded-asks c (Sends u to message) h = record { back = λ a k. by a (asked-either r.sent ((to, message) ∷ []) a k); forth = λ a k. asked-more r.sent ((to, message) ∷ []) a k }
-    where
-      fresh : (a : Asking) → IsNext (openings r.sent) w w.ended r.sent c (r.clients c) (facts.clients c) facts.unique (talk.waits c) (current r w w mirrors facts talk same-grow c) u a → IsFresh r w a
-      fresh a n = record { tid = n.tid; of = n.of; current = ap (λ (d : ClientNo). (r.clients d).transaction) n.client ∙ n.is; idle = ap (λ (d : ClientNo). (r.clients d).outstanding) n.client ∙ n.idle }
-
-      by : (a : Asking) → IsAsked r.sent a ⊎ IsAsked ((to, message) ∷ []) a → IsAsked r.sent a ⊎ IsFresh r w a
-      by a (inl k) = inl k
-      by a (inr k) = inr (fresh a (h.asks a (asked-alone (to, message) a k)))
-
-  again-asks : (c : ClientNo) (o : Option Outstanding) → (r.clients c).outstanding ≡ o → Asks r w (r.sent ++ sent_now (sent_again o))
-  again-asks c None e = nothing-asks
-  again-asks c (Some o) e = repeat-asks (o.to, o.message) (talk.waits c o e).again
-
-  took-asks : (c : ClientNo) (k : ℕ) (u : ClientTable) (what : Taken) → TakeTalks (openings r.sent) w w.ended r.sent c (r.clients c) (facts.clients c) facts.unique (talk.waits c) (current r w w mirrors facts talk same-grow c) (u, what) → Asks r w (took c k u what r).sent
-  took-asks c k u taken.Ignored h = same-asks
-  took-asks c k u (taken.Send to message) h = reply-asks ((to, message) ∷ []) (h.little, tt)
-  took-asks c k u (taken.Told line None) h = nothing-asks
-  took-asks c k u (taken.Told line (Some x)) h = reply-asks (x ∷ []) (h.little, tt)
-
-  ends-asks : (s : ServerNo) (k : Option ℕ) (stop : Option (Pick → ℕ)) (row : RowOutcome Memory) → Each (IsReply r.sent) row.messages → Asks r w (ends s k stop row r).sent
-  ends-asks s k None row h = reply-asks row.messages h
-  ends-asks s k (Some made) row h = same-asks
-
-  memory-asks : (s : ServerNo) (k : ℕ) (room : Room) (stop : Option (Pick → ℕ)) (message : Message) (o : Option Memory) → r.memory s ≡ o → slice_get r.sent k ≡ Some (Server s, message) → Asks r w (at_memory s k room stop message o r).sent
-  memory-asks s k room stop message None is e = same-asks
-  memory-asks s k room stop message (Some m) is e = ends-asks s (Some k) stop _ (row-talks r w w mirrors facts talk same-grow s m is (stable (r.found s)) room message (was-sent r w w mirrors facts talk same-grow s m is (stable (r.found s)) room k message e)).0
-
-  handed-asks : (k : ℕ) (room : Room) (stop : Option (Pick → ℕ)) (o : Option Sent) → slice_get r.sent k ≡ o → Asks r w (handed k room stop o r).sent
-  handed-asks k room stop None e = same-asks
-  handed-asks k room stop (Some (Client c, message)) e = took-asks c k (take_row (r.clients c) message).0 (take_row (r.clients c) message).1 (take-talks (openings r.sent) w w.ended r.sent c (r.clients c) (facts.clients c) facts.unique (talk.waits c) (current r w w mirrors facts talk same-grow c) message
-      (holds-of (λ (x : Sent). (a : Opening) → Has a (opening_in x) → Has a (openings r.sent)) r.sent k (Client c, message) (all-have-theirs r.sent) e))
-  handed-asks k room stop (Some (Server s, message)) e = memory-asks s k room stop message (r.memory s) refl e
-
-  work-asks : (s : ServerNo) (room : Room) (stop : Option (Pick → ℕ)) (o : Option Memory) → r.memory s ≡ o → Asks r w (work s room stop o r).sent
-  work-asks s room stop None is = same-asks
-  work-asks s room stop (Some m) is = by (worker_step m.worker (storage_of m (stable (r.found s)) room) m.tickets) refl
-    where
-      by : (o : Option (RowOutcome WorkerTable)) → worker_step m.worker (storage_of m (stable (r.found s)) room) m.tickets ≡ o → Asks r w (works s stop (of_step m o) r).sent
-      by None e = same-asks
-      by (Some row) e = ends-asks s None stop (of_worker m row) (each-more (IsWorkers r.sent) (IsReply r.sent) row.messages (workers-reply r.sent) (step-talks r.sent talk.once m.worker m.tickets (talk.works s m is) (storage_of m (stable (r.found s)) room) row e).0)
-
-  nudge-asks : (s : ServerNo) (o : Option Memory) → Asks r w (nudge s o r).sent
-  nudge-asks s None = same-asks
-  nudge-asks s (Some m) = reply-asks _ (each-append (IsReply r.sent) (worker_again (stable (r.found s)) m.worker) (coordinator_again m.coordinator.transactions)
-      (each-more (IsWorkers r.sent) (IsReply r.sent) (worker_again (stable (r.found s)) m.worker) (workers-reply r.sent) (again-talks r.sent (stable (r.found s)) m.worker)) (again-silent-all r.sent m.coordinator.transactions))
-
-  timeout-asks : (s : ServerNo) (T : Tid) (o : Option Memory) → Asks r w (timeout s T o r).sent
-  timeout-asks s T None = same-asks
-  timeout-asks s T (Some m) = same-asks
-
-  crash-asks : (s : ServerNo) (o : Option Memory) → Asks r w (crash s o r).sent
-  crash-asks s None = same-asks
-  crash-asks s (Some m) = same-asks
-
-  narrow-asks : (s : ServerNo) (g : Pick → Pick) (o : Option Memory) → Asks r w (narrow s g o r).sent
-  narrow-asks s g None = same-asks
-  narrow-asks s g (Some m) = same-asks
-
-  raise-asks : (s : ServerNo) (raised : Pick → Bool) (o : Option Memory) → Asks r w (stop_restart s raised o r).sent
-  raise-asks s raised None = same-asks
-  raise-asks s raised (Some m) = same-asks
-
-  restart-asks : (s : ServerNo) (pick : Pick) (Ws : List WorkId) (Ts : List Tid) (o : Option Memory) → Asks r w (restart s pick Ws Ts o r).sent
-  restart-asks s pick Ws Ts None = same-asks
-  restart-asks s pick Ws Ts (Some m) = same-asks
-
-  close-asks : (s : ServerNo) (o : Option Memory) → Asks r w (close_clients s o r).sent
-  close-asks s None = same-asks
-  close-asks s (Some m) = nothing-asks
-
   pub step-asks : (step : Step) → Asks r w (after step r).sent
-  step-asks NextEvent = same-asks
-  step-asks (Tell c command) = commanded-asks c (command_row (r.clients c) r.event command) (command-talks (openings r.sent) w w.ended r.sent c (r.clients c) (facts.clients c) facts.unique (talk.waits c) (current r w w mirrors facts talk same-grow c) r.event command)
-  step-asks (Again c) = again-asks c (r.clients c).outstanding refl
-  step-asks (Deliver k room) = handed-asks k room None (slice_get r.sent k) refl
-  step-asks (Work s room) = work-asks s room None (r.memory s) refl
-  step-asks (Nudge s) = nudge-asks s (r.memory s)
-  step-asks (Timeout s T) = timeout-asks s T (r.memory s)
-  step-asks (StopDelivery k room made) = handed-asks k room (Some made) (slice_get r.sent k) refl
-  step-asks (StopWork s room made) = work-asks s room (Some made) (r.memory s) refl
-  step-asks (Crash s) = crash-asks s (r.memory s)
-  step-asks (Narrow s g) = narrow-asks s g (r.memory s)
-  step-asks (StopRestart s raised) = raise-asks s raised (r.memory s)
-  step-asks (Restart s pick Ws Ts) = restart-asks s pick Ws Ts (r.memory s)
-  step-asks Dismiss = same-asks
-  step-asks (CloseClients s) = close-asks s (r.memory s)
+  step-asks step = (by-case r w w mirrors facts talk (λ T W h. h) step (after step r) (step-case r step)).1
 
 pub opening-talk : (servers : ℕ) (files : AllFiles) (epochs : ServerNo → ℕ) (w : Machine) → Talk (opening_world servers files epochs) w
 opening-talk servers files epochs w = record {

@@ -1,8 +1,5 @@
 -- What a worker answers can be the answer of what was asked, and so can what it keeps.
-use Rattle.jn_system_reports.proofs.Common.{◌≡◌, ◌⊎◌, inl, inr, ◌≤◌, ℕ, ◌+◌, Bool, true, false, List, [], ◌∷◌, ◌++◌, Option, Some, None, refl, sym, ◌∙◌, ap, subst, arith, if◌then◌else◌, nat_eq, nat_lt, length, slice_get, is_some, nat_tests, ClientNo, Tid, WorkId, Tickets, LockUnit, File, Block, Server, Op, Answer, tid_eq, work_eq, Files, change, answer_to, or_else, zeros, Intention, list_change, length_with, Message, Vote, Work, Phase, Active, Broken, Stored, ActiveWork, StableState, Prepared, is_going, RowOutcome, Sent, WorkerTable, WorkStorage, Wanted, Held, work_at, work_of, with_phase, without, after_grant, breaks_at, broken_by, units_for, with_units, open_row, wants_of, is_fit, list_with, locked, first_of_two, refusal_of, granted_row, repeated, op_phase, op_row, conflict, commit_wants, vote_of, shortage, need_in, prepared_row, prepare_phase, prepare_row, commit_phase, drop_phase, drop_row, worker_row, going_work, intentions_of, carried_row, going_row, worker_step, worker_again, timed_out, timeout_row, vulnerable, restored_worker, restored_work, Read, found-name, work_is}
-use Rattle.jn_base.specs.Names.{operation_of}
-use Rattle.jn_base.specs.declared.names.OperationNo.{OperationNo}
-use Rattle.jn_base.specs.declared.names.RequestNo.{RequestNo}
+use Rattle.jn_system_reports.proofs.Common.{◌≡◌, ◌⊎◌, inl, inr, ◌≤◌, ℕ, ◌+◌, Bool, true, false, List, [], ◌∷◌, ◌++◌, Option, Some, None, refl, sym, ◌∙◌, ap, subst, arith, if◌then◌else◌, nat_eq, nat_lt, length, slice_get, is_some, nat_tests, ClientNo, Tid, WorkId, Tickets, LockUnit, File, Block, Server, Op, Answer, tid_eq, work_eq, Files, change, answer_to, or_else, zeros, Intention, list_change, length_with, Message, Vote, Work, Phase, Active, Broken, Stored, ActiveWork, StableState, Prepared, is_going, RowOutcome, Sent, WorkerTable, WorkStorage, Wanted, Held, work_at, work_of, with_phase, without, after_grant, breaks_at, broken_by, units_for, with_units, open_row, wants_of, is_fit, list_with, locked, first_of_two, refusal_of, granted_row, repeated, op_phase, op_row, conflict, commit_wants, vote_of, shortage, need_in, prepared_row, prepare_phase, prepare_row, commit_phase, drop_phase, drop_row, worker_row, going_work, intentions_of, carried_row, going_row, worker_step, worker_again, timed_out, timeout_row, vulnerable, restored_worker, restored_work, Read, found-name, work_is, operation_of, OperationNo, RequestNo}
 use Rattle.jn_base.specs.declared.op.Op.TheVariants as ops
 use Rattle.jn_base.specs.declared.op.Answer.TheVariants as answers
 use Rattle.jn_records.specs.NetEdits.{intention_for}

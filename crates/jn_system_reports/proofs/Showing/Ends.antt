@@ -1,5 +1,6 @@
 -- The end of a run prints what all commits leave.
-use Rattle.jn_system_reports.proofs.Common.{◌≡◌, ◌⊎◌, inl, inr, ℕ, suc, ◌+◌, ◌≤◌, ◌<◌, Bool, true, false, List, [], ◌∷◌, ◌++◌, append-nil, append_assoc, length, Some, None, refl, sym, ◌∙◌, ap, subst, arith, ◌&&◌, map, nat_lt, nat_tests, list_all, ServerNo, FileNo, LockUnit, File, Block, server_eq, file_eq, server_tells, AllFiles, AtEnd, Text, Line, lines_at, says_it, history_of, replay, IsAsIn, AllAsIn, prints_file, is_locked, ShowsFiles, ShownSoFar, Shown, Follows, lines_at-append, AreAtEnd, AreInTurn, turn-to-end, run_atoms, opening_world, commits-more, commit_holder, World, Memory, opening, commits_in, servers_from, Step, NextEvent, Tell, Crash, CloseClients, after, run, IsRun, Printed, FileThere, PageStored, UnitLocked, text_printed, IsPrinted, Does, Item, events_of, steps_of, told_by, told_under, world_of, after_item, at_event, IsReported, Comeback, Ending, AreFilesOf, restarts_from, steps_at_end, world_at_end, settles, ArePrinted, IsEnding, told_by_steps, texts_from, at_end, lines_to_end, AreAsTold}
+use Rattle.jn_system_reports.proofs.Common.{◌≡◌, ◌⊎◌, inl, inr, ℕ, suc, ◌+◌, ◌≤◌, ◌<◌, Bool, true, false, List, [], ◌∷◌, ◌++◌, append-nil, append_assoc, length, Some, None, refl, sym, ◌∙◌, ap, subst, arith, ◌&&◌, map, nat_lt, nat_tests, list_all, ServerNo, FileNo, LockUnit, File, Block, server_eq, file_eq, server_tells, AllFiles, AtEnd, Text, Line, lines_at, says_it, history_of, replay, IsAsIn, AllAsIn, prints_file, is_locked, ShowsFiles, ShownSoFar, Shown, Follows, lines_at-append, AreAtEnd, AreInTurn, turn-to-end, run_atoms, opening_world, commits-more, commit_holder, World, Memory, opening, commits_in, servers_from, Step, NextEvent, Tell, CloseClients, after, run, IsRun, Printed, FileThere, PageStored, UnitLocked, text_printed, IsPrinted, Does, Item, events_of, steps_of, told_by, told_under, world_of, after_item, at_event, IsReported, Comeback, Ending, AreFilesOf, restarts_from, steps_at_end, world_at_end, settles, ArePrinted, IsEnding, told_by_steps, texts_from, at_end, lines_to_end, AreAsTold}
+use Rattle.jn_system.specs.WholeSystem.Steps.{Crash}
 use Rattle.jn_report.specs.declared.line.Text.TheVariants as says
 use Rattle.jn_system_reports.specs.Reporting.Reported.{lines_of}
 use Rattle.jn_system_reports.proofs.Reporting.Lists.{In, Each, in-first, in-second, in-either, each-in, each-append}

@@ -1,5 +1,5 @@
 -- No operation is told at a server that there isn't.
-use Rattle.jn_system_reports.proofs.Common.{◌≡◌, ◌≢◌, ◌⊎◌, inl, inr, ℕ, suc, ◌+◌, ◌≤◌, ◌<◌, Bool, true, false, List, [], ◌∷◌, ◌++◌, append_assoc, length, Option, Some, None, refl, sym, ◌∙◌, ap, subst, arith, ◌&&◌, if◌then◌else◌, nat_eq, nat_lt, slice_get, nat_tests, ServerNo, ClientNo, Tid, WorkId, Client, Server, Op, Answer, Command, Begin, Open, Do, End, Abort, server_eq, client_eq, server_tells, AllFiles, files_after, all_files_after, Message, Outcome, Event, CommandOf, Text, Line, Outstanding, OpenWork, Taken, Pick, stable, RowOutcome, Sent, ClientTable, Commanded, Refuses, Sends, if_server, if_idle, if_transaction, if_no_transaction, if_open, if_not_open, command_row, is_current, is_end, is_end_or_abort, if_waits, begun_row, opened_row, decided_row, outcome_row, take_row, Performed, Asked, Waited, with_asked, answer_in, is_last, fits, fits_asked, answers_command, after_answer, event_at, files_then, ops_of, replay, performed_in, answered, answered_by, owner_after, event_at-next, World, Memory, at_client, opening, Room, server_row, server_step, Step, NextEvent, Tell, Again, Deliver, Nudge, Timeout, StopDelivery, StopWork, Crash, Narrow, StopRestart, Restart, Dismiss, CloseClients, after, run, IsRun, commanded, took, ends, at_memory, handed, works, work, nudge, timeout, crash, narrow, stop_restart, restart, close_clients, Act, Does, Refused, Tells, Shows, Item, events_of, steps_in, steps_of, after_item, IsUnder, AreUnder, ops_in}
+use Rattle.jn_system_reports.proofs.Common.{◌≡◌, ◌≢◌, ◌⊎◌, inl, inr, ℕ, suc, ◌+◌, ◌≤◌, ◌<◌, Bool, true, false, List, [], ◌∷◌, ◌++◌, append_assoc, length, Option, Some, None, refl, sym, ◌∙◌, ap, subst, arith, ◌&&◌, if◌then◌else◌, nat_eq, nat_lt, nat_tests, ServerNo, ClientNo, Tid, WorkId, Op, Answer, Command, Begin, Open, Do, End, Abort, server_eq, client_eq, server_tells, AllFiles, files_after, all_files_after, Message, Outcome, Event, CommandOf, Text, Line, Outstanding, OpenWork, Taken, Sent, ClientTable, Commanded, Refuses, Sends, if_server, if_idle, if_transaction, if_no_transaction, if_open, if_not_open, command_row, is_current, is_end, is_end_or_abort, if_waits, begun_row, opened_row, decided_row, outcome_row, take_row, Performed, Asked, Waited, with_asked, answer_in, is_last, fits, fits_asked, answers_command, after_answer, event_at, files_then, ops_of, replay, performed_in, answered, answered_by, owner_after, event_at-next, World, at_client, opening, Step, NextEvent, Tell, Dismiss, after, run, IsRun, commanded, Act, Does, Refused, Tells, Shows, Item, events_of, steps_in, steps_of, after_item, IsUnder, AreUnder, ops_in, one-client, ClientRow, by_command, by_ignoring, by_answering, by_telling, StepCase, client_row, row_done, row_stopped, gone_late, gone_down, come_up, found_anew, dismissed, quietly, step-case}
 use Rattle.jn_msgs.specs.declared.message.Message.TheVariants as messages
 use Rattle.jn_msgs.specs.declared.message.Outcome.TheVariants as outcomes
 use Rattle.jn_report.specs.declared.line.Refusal.TheVariants as refusals
@@ -7,7 +7,6 @@ use Rattle.jn_report.specs.declared.line.Text.TheVariants as says
 use Rattle.jn_rows.specs.declared.client.Taken.TheVariants as taken
 use Rattle.jn_rows.specs.Client.{work_at}
 use Rattle.jn_serial.specs.declared.following.Addressed.{Addressed}
-use Rattle.jn_system.specs.WholeSystem.Steps.{Work}
 use Rattle.jn_system_reports.proofs.Reporting.Lists.{Each, each-append}
 use Rattle.jn_system_reports.proofs.Reporting.Reached.{Reached, next-reached}
 use Rattle.jn_system_reports.proofs.Reporting.Fitting.{asked_of, Fit, left}
@@ -130,59 +129,28 @@ module _ (servers : ℕ) where
   Tables clients = (c : ClientNo) → (clients c).servers ≡ servers
 
   at-one : (clients : ClientNo → ClientTable) (c : ClientNo) (u : ClientTable) → u.servers ≡ (clients c).servers → Tables clients → Tables (at_client clients c u)
-  at-one clients c u e h d = by (client_eq c d)
-    where
-      by : (b : Bool) → (if b then u else clients d).servers ≡ servers
-      by true = e ∙ h c
-      by false = h d
+  at-one clients c u e h = one-client (λ d t. t.servers ≡ servers) clients c u (e ∙ h c) (λ d other. h d)
 
-  took-tables : (c : ClientNo) (k : ℕ) (u : ClientTable) (what : Taken) (r : World) → u.servers ≡ (r.clients c).servers → Tables r.clients → Tables (took c k u what r).clients
-  took-tables c k u taken.Ignored r e h = at-one r.clients c u e h
-  took-tables c k u (taken.Send to message) r e h = at-one r.clients c u e h
-  took-tables c k u (taken.Told line answer) r e h = at-one r.clients c u e h
+  module _ (r : World) where
+    row-servers : (c : ClientNo) (step : Step) (t : ClientTable) (sent : List Sent) (lines : List Text) → ClientRow r c step t sent lines → t.servers ≡ (r.clients c).servers
+    row-servers c _ _ _ _ (by_command command t to message e) = (subst (λ row. Sound (r.clients c) command row) e (commands-sound (r.clients c) r.event command)).0
+    row-servers c _ _ _ _ (by_ignoring k room stop message t is e) = ap (λ x. x.0.servers) (sym e) ∙ takes (r.clients c) message
+    row-servers c _ _ _ _ (by_answering k room stop message t to answer is e) = ap (λ x. x.0.servers) (sym e) ∙ takes (r.clients c) message
+    row-servers c _ _ _ _ (by_telling k room stop message t line answer is e) = ap (λ x. x.0.servers) (sym e) ∙ takes (r.clients c) message
 
-  ends-tables : (s : ServerNo) (k : Option ℕ) (stop : Option (Pick → ℕ)) (row : RowOutcome Memory) (r : World) → Tables r.clients → Tables (ends s k stop row r).clients
-  ends-tables s k None row r h = h
-  ends-tables s k (Some made) row r h = h
+    by-case : (step : Step) (now : World) → StepCase r step now → Tables r.clients → Tables now.clients
+    by-case step _ (client_row _ c t sent lines row) h = at-one r.clients c t (row-servers c step t sent lines row) h
+    by-case _ _ (row_done step s m k row e is) h = h
+    by-case _ _ (row_stopped step s m k row made e is) h = h
+    by-case _ _ (gone_late s m T e) h = h
+    by-case _ _ (gone_down s m e) h = h
+    by-case _ _ (come_up s pick Ws Ts e) h = h
+    by-case _ _ (found_anew step s found lines e is) h = h
+    by-case _ _ dismissed h = h
+    by-case _ _ (quietly step event sent lines is) h = h
 
-  handed-tables : (k : ℕ) (room : Room) (stop : Option (Pick → ℕ)) (o : Option Sent) (r : World) → Tables r.clients → Tables (handed k room stop o r).clients
-  handed-tables k room stop None r h = h
-  handed-tables k room stop (Some (Client c, message)) r h = took-tables c k (take_row (r.clients c) message).0 (take_row (r.clients c) message).1 r (takes (r.clients c) message) h
-  handed-tables k room stop (Some (Server s, message)) r h = by (r.memory s)
-    where
-      by : (o : Option Memory) → Tables (at_memory s k room stop message o r).clients
-      by None = h
-      by (Some m) = ends-tables s (Some k) stop (server_row m (stable (r.found s)) room message) r h
-
-  work-tables : (s : ServerNo) (room : Room) (stop : Option (Pick → ℕ)) (o : Option Memory) (r : World) → Tables r.clients → Tables (work s room stop o r).clients
-  work-tables s room stop None r h = h
-  work-tables s room stop (Some m) r h = by (server_step m (stable (r.found s)) room)
-    where
-      by : (o : Option (RowOutcome Memory)) → Tables (works s stop o r).clients
-      by None = h
-      by (Some row) = ends-tables s None stop row r h
-
-  -- where a server's memory decides alone whether something is done
-  either-memory : (f : Option Memory → World) (o : Option Memory) → Tables (f None).clients → ((m : Memory) → Tables (f (Some m)).clients) → Tables (f o).clients
-  either-memory f None h k = h
-  either-memory f (Some m) h k = k m
-
-  quiet-tables : (step : Step) (r : World) → IsQuiet step → Tables r.clients → Tables (after step r).clients
-  quiet-tables (Tell c command) r q h = absurd q
-  quiet-tables NextEvent r q h = absurd q
-  quiet-tables Dismiss r q h = absurd q
-  quiet-tables (Again c) r q h = h
-  quiet-tables (Deliver k room) r q h = handed-tables k room None (slice_get r.sent k) r h
-  quiet-tables (StopDelivery k room made) r q h = handed-tables k room (Some made) (slice_get r.sent k) r h
-  quiet-tables (Work s room) r q h = work-tables s room None (r.memory s) r h
-  quiet-tables (StopWork s room made) r q h = work-tables s room (Some made) (r.memory s) r h
-  quiet-tables (Nudge s) r q h = either-memory (λ o. nudge s o r) (r.memory s) h (λ m. h)
-  quiet-tables (Timeout s T) r q h = either-memory (λ o. timeout s T o r) (r.memory s) h (λ m. h)
-  quiet-tables (Crash s) r q h = either-memory (λ o. crash s o r) (r.memory s) h (λ m. h)
-  quiet-tables (Narrow s g) r q h = either-memory (λ o. narrow s g o r) (r.memory s) h (λ m. h)
-  quiet-tables (StopRestart s raised) r q h = either-memory (λ o. stop_restart s raised o r) (r.memory s) h (λ m. h)
-  quiet-tables (Restart s pick Ws Ts) r q h = either-memory (λ o. restart s pick Ws Ts o r) (r.memory s) h (λ m. h)
-  quiet-tables (CloseClients s) r q h = either-memory (λ o. close_clients s o r) (r.memory s) h (λ m. h)
+    step-tables : (step : Step) → Tables r.clients → Tables (after step r).clients
+    step-tables step h = by-case step (after step r) (step-case r step) h
 
   -- ---- what is answered is an operation at one of them
 
@@ -238,7 +206,7 @@ module _ (servers : ℕ) where
     module _ (files : AllFiles) (epochs : ServerNo → ℕ) where
       quiet-within : (r : World) (step : Step) → Reached files epochs r → IsQuiet step → Within r → Within (after step r)
       quiet-within r step reached q w = let h = step-hears r _ reached.facts reached.talk step q in let k = h.heard (asked r.clients) (λ c. refl) in let f = all-fit (asked r.clients) h.texts k.fit w.asks in record {
-        tables = quiet-tables step r q w.tables;
+        tables = step-tables r step w.tables;
         asks = λ c a e. f.1 c a (k.now c ∙ e);
         lines = subst (λ l. Each Answers l) (sym h.adds) (each-append Answers r.lines h.texts w.lines f.0);
       }

@@ -1,6 +1,5 @@
 -- The works that take operations: no row but that of an operation changes what they did, or sends an operation or an answer.
-use Rattle.jn_system_reports.proofs.Common.{◌≡◌, ◌≢◌, ◌⊎◌, inl, inr, ℕ, zero, suc, Bool, true, false, List, [], ◌∷◌, ◌++◌, Option, Some, None, refl, sym, ◌∙◌, ap, subst, arith, if◌then◌else◌, nat_lt, length, slice_get, take, ClientNo, Tid, WorkId, Tickets, Server, work_eq, change, Intention, Vote, Work, Phase, Active, Broken, Stored, ActiveWork, StableState, Prepared, Change, AddReady, MarkGoing, CarryOut, RemoveWork, AddFlag, DropFlag, gone_on, is_going, ready_work, made_by, made_all, RowOutcome, Sent, WorkerTable, WorkStorage, Wanted, Held, work_at, work_of, with_phase, without, new_work, name_from, open_row, conflict, commit_wants, vote_of, shortage, need_in, prepared_row, prepare_phase, prepare_row, commit_phase, work_commit_row, drop_phase, drop_row, going_work, intentions_of, carried_row, going_row, worker_step, worker_again, vulnerable, timed_out, timeout_row, are_rising, is_after, at-more, at-less, none-front, work_is, Working, some_is, none_some, at_work_cases, World, Memory, TableFact, Regrants, Origin, Mine, Kept, Broke, granted, phase_changed, by-name, of-found, active_in, working_in, working_of}
-use Rattle.jn_base.specs.declared.names.RequestNo.{RequestNo}
+use Rattle.jn_system_reports.proofs.Common.{◌≡◌, ◌≢◌, ◌⊎◌, inl, inr, ℕ, zero, suc, Bool, true, false, List, [], ◌∷◌, ◌++◌, Option, Some, None, refl, sym, ◌∙◌, ap, subst, arith, if◌then◌else◌, nat_lt, length, slice_get, take, ClientNo, Tid, WorkId, Tickets, Server, work_eq, change, Intention, Vote, Work, Phase, Active, Broken, Stored, ActiveWork, StableState, Prepared, Change, AddReady, MarkGoing, CarryOut, RemoveWork, AddFlag, DropFlag, gone_on, is_going, ready_work, made_by, made_all, RowOutcome, Sent, WorkerTable, WorkStorage, Wanted, Held, work_at, work_of, with_phase, without, new_work, name_from, open_row, conflict, commit_wants, vote_of, shortage, need_in, prepared_row, prepare_phase, prepare_row, commit_phase, work_commit_row, drop_phase, drop_row, going_work, intentions_of, carried_row, going_row, worker_step, worker_again, vulnerable, timed_out, timeout_row, are_rising, is_after, at-more, at-less, none-front, work_is, Working, some_is, none_some, at_work_cases, World, Memory, TableFact, Regrants, Origin, Mine, Kept, Broke, granted, phase_changed, by-name, of-found, active_in, working_in, working_of, RequestNo}
 use Rattle.jn_msgs.specs.declared.message.Message.TheVariants as messages
 use Rattle.jn_msgs.specs.declared.message.Vote.TheVariants as votes
 

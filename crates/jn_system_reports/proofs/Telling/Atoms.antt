@@ -1,7 +1,7 @@
 -- What any steps of the machine leave of a work: what it did grows at its end, and where it doesn't go on it stays as it is.
-use Rattle.jn_system_reports.proofs.Common.{◌≡◌, ◌≢◌, ◌⊎◌, inl, inr, Bool, true, false, List, [], ◌∷◌, ◌++◌, append-nil, Option, Some, None, if◌then◌else◌, refl, sym, ◌∙◌, ap, subst, ServerNo, WorkId, server_eq, work_eq, server_tells, work_tells, StableState, Prepared, Pick, Change, AddReady, MarkGoing, CarryOut, RemoveWork, AddFlag, DropFlag, at_work, gone_on, ready_work, made_by, Working, Answered, Invariant, NamesFact, Atom, Perform, Lose, Prepare, NoteReady, Make, Decide, RaiseEpoch, server_of, changed, with_epoch, MayMake, May, MayRun, not_both, at_work_other, at_work_cases, none_some, some_of, fresh_work, grows, step_kept}
+use Rattle.jn_system_reports.proofs.Common.{◌≡◌, ◌≢◌, ◌⊎◌, inl, inr, Bool, true, false, List, [], ◌∷◌, ◌++◌, append-nil, Option, Some, None, if◌then◌else◌, refl, sym, ◌∙◌, ap, subst, ServerNo, WorkId, server_eq, work_eq, server_tells, work_tells, StableState, Prepared, Pick, Change, AddReady, MarkGoing, CarryOut, RemoveWork, AddFlag, DropFlag, at_work, gone_on, ready_work, made_by, Working, Answered, Invariant, NamesFact, Atom, Perform, Lose, Prepare, NoteReady, Make, Decide, RaiseEpoch, server_of, changed, with_epoch, MayMake, May, MayRun, not_both, at_work_other, at_work_cases, none_some, some_of, fresh_work, grows, step_kept, Narrow, Crash, Restart}
 use Rattle.jn_system.specs.SmallSteps.World.{World}
-use Rattle.jn_system.specs.SmallSteps.Steps.{Open, Narrow, Crash, Restart, after, run}
+use Rattle.jn_system.specs.SmallSteps.Steps.{Open, after, run}
 
 -- ---- what a work did
 

@@ -1,7 +1,5 @@
 -- A client takes a message.
-use Rattle.jn_system_reports.proofs.Common.{◌≡◌, ◌≢◌, ◌⊎◌, inl, inr, ◌<◌, ◌≤◌, ℕ, ◌+◌, Bool, true, false, List, [], ◌∷◌, ◌++◌, append-nil, Option, Some, None, refl, sym, ◌∙◌, ap, subst, arith, if◌then◌else◌, ◌||◌, ◌&&◌, All, slice_get, nat_tests, All-nil, ServerNo, ClientNo, Tid, WorkId, Client, Server, Op, Answer, Command, Begin, Open, Do, End, Abort, server_eq, client_eq, tid_eq, work_eq, server_tells, client_tells, tid_tells, Event, CommandOf, Message, Outcome, Text, ActiveWork, OpenWork, Outstanding, Taken, Sent, ClientTable, open_at, is_begin, is_operation, is_end_or_abort, opens, is_current, is_tid, if_waits, idle, over, begun_row, opened_row, answer_line, decided_row, outcome_row, take_row, event_at, performed_in, answered_by, begins_for, owner_after, is_its_client, work_same, Answered, Machine, Says, IsWorkOf, not_both, false_unless, some_is, none_some, World, at_client, took, taken_by, Mirrors, IsCurrent, found-open, holds-of, Opening, opening_in, openings, Has, is_closing, Facts, all-have-theirs, any-append, ops_in, owner_in, begins_it, is_begun, begun_by, at_place}
-use Rattle.jn_base.specs.Names.{request_eq}
-use Rattle.jn_base.specs.declared.names.RequestNo.{RequestNo}
+use Rattle.jn_system_reports.proofs.Common.{◌≡◌, ◌≢◌, ◌⊎◌, inl, inr, ◌<◌, ◌≤◌, ℕ, ◌+◌, Bool, true, false, List, [], ◌∷◌, ◌++◌, append-nil, Option, Some, None, refl, sym, ◌∙◌, ap, subst, arith, if◌then◌else◌, ◌||◌, ◌&&◌, All, slice_get, nat_tests, All-nil, ServerNo, ClientNo, Tid, WorkId, Client, Server, Op, Answer, Command, Begin, Open, Do, End, Abort, server_eq, client_eq, tid_eq, work_eq, server_tells, client_tells, tid_tells, Event, CommandOf, Message, Outcome, Text, ActiveWork, OpenWork, Outstanding, Taken, Sent, ClientTable, open_at, is_begin, is_operation, is_end_or_abort, opens, is_current, is_tid, if_waits, idle, over, begun_row, opened_row, answer_line, decided_row, outcome_row, take_row, event_at, performed_in, answered_by, begins_for, owner_after, is_its_client, work_same, Answered, Machine, Says, IsWorkOf, not_both, false_unless, some_is, none_some, World, at_client, took, taken_by, Mirrors, IsCurrent, found-open, holds-of, Opening, opening_in, openings, Has, is_closing, Facts, all-have-theirs, any-append, ops_in, owner_in, begins_it, is_begun, begun_by, at_place, request_eq, RequestNo, one-client}
 use Rattle.jn_base.specs.declared.op.Answer.TheVariants as answers
 use Rattle.jn_msgs.specs.declared.message.Message.TheVariants as messages
 use Rattle.jn_msgs.specs.declared.message.Outcome.TheVariants as outcomes
@@ -12,7 +10,7 @@ use Rattle.jn_system_reports.proofs.Telling.Tellings.{SaysAs, ops-more, owner-mo
 use Rattle.jn_system_reports.proofs.Telling.Acting.{acting, AreSilent}
 use Rattle.jn_system_reports.proofs.Telling.Facts.{said, counts, op_in, op_asked, IsOperation, IsAsking, IsNumbered, Hears, IsRunningAt, IsTalking, IsKept, IsDrawn, is_op_of, op_sent, IsOpenAt, IsKnown, IsStarted, Talk}
 use Rattle.jn_system_reports.proofs.Telling.Quiet.{SameTold, IsDumb, same-told, map-all, none-of, silent-asks}
-use Rattle.jn_system_reports.proofs.Telling.Clients.{by-client, at-own, at-other, now, client-talks, running-still, table-started, plain-talks, same-client-talks}
+use Rattle.jn_system_reports.proofs.Telling.Clients.{at-own, at-other, now, client-talks, running-still, table-started, plain-talks, same-client-talks}
 use Rattle.jn_system_reports.proofs.Telling.ClientTells.{its-begun, other-work}
 
 -- ---- one line more
@@ -249,11 +247,11 @@ module _ (events : List Event) (r : World) (w : Machine) (mirrors : Mirrors r w)
     pub answer-talks : Talk events told w
     answer-talks = client-talks events r w c (idle t) [] (answer_line c o.event answer ∷ []) talk tt own
         (λ T d ne e. (owner-still T ∙ e, λ q. said-other T (Some d) q e (λ f g h. ne (h ∙ sym (some_is d f g)))))
-        ended-said (λ T d e. by-client (λ d z. owner_in T None r.lines ≡ Some d → (z.transaction ≡ None) ⊎ (z.transaction ≡ Some T)) r.clients c (idle t) (talk.owners T c) (λ d ne. talk.owners T d) d (sym (owner-still T) ∙ e))
+        ended-said (λ T d e. one-client (λ d z. owner_in T None r.lines ≡ Some d → (z.transaction ≡ None) ⊎ (z.transaction ≡ Some T)) r.clients c (idle t) (talk.owners T c) (λ d ne. talk.owners T d) d (sym (owner-still T) ∙ e))
         draws (All-nil (IsDrawn told)) (λ W e g. record {
           opened = g.opened;
           begun = begun-still (w.owner W) ∙ g.begun;
-          its = by-client (λ d z. z.transaction ≡ Some (w.owner W) → IsOpenAt W (open_at W.server z.works)) r.clients c (idle t) (g.its c) (λ d ne. g.its d);
+          its = one-client (λ d z. z.transaction ≡ Some (w.owner W) → IsOpenAt W (open_at W.server z.works)) r.clients c (idle t) (g.its c) (λ d ne. g.its d);
         }) (λ T e. table-started events r w c (idle t) [] (answer_line c o.event answer ∷ []) draws T (λ d f. sym (by-still d T) ∙ f) (talk.started T (sym (begun-still T) ∙ e)))
       where
         draws : (t.next ≤ (idle t).next) × ((p : Outstanding) → (idle t).outstanding ≡ Some p → (t.outstanding ≡ Some p) ⊎ (t.next ≤ p.request.0))
@@ -381,7 +379,7 @@ module _ (events : List Event) (r : World) (w : Machine) (mirrors : Mirrors r w)
     begun-known W g = record {
       opened = g.opened;
       begun = begun-now (w.owner W) ∙ ap (λ (b : Bool). b || (tid_eq (w.owner W) T || false)) g.begun;
-      its = by-client (λ d z. z.transaction ≡ Some (w.owner W) → IsOpenAt W (open_at W.server z.works)) r.clients c in-it
+      its = one-client (λ d z. z.transaction ≡ Some (w.owner W) → IsOpenAt W (open_at W.server z.works)) r.clients c in-it
           (λ e. absurd (not_both (is_begun (w.owner W) r.lines) g.begun (subst (λ (z : Tid). is_begun z r.lines ≡ false) (some_is T (w.owner W) e) not-begun))) (λ d ne. g.its d);
     }
 
@@ -457,11 +455,11 @@ module _ (events : List Event) (r : World) (w : Machine) (mirrors : Mirrors r w)
     pub opened-talks : Talk events opened-world w
     opened-talks = client-talks events r w c with-it [] (says.Opened c o.event W.server ∷ []) talk tt opened-own
         (λ U d ne e. (told-same-so.owner U ∙ e, told-same-so.said events U)) (λ U e. told-same-so.said events U)
-        (λ U d e. by-client (λ d z. owner_in U None r.lines ≡ Some d → (z.transaction ≡ None) ⊎ (z.transaction ≡ Some U)) r.clients c with-it (talk.owners U c) (λ d ne. talk.owners U d) d (sym (told-same-so.owner U) ∙ e))
+        (λ U d e. one-client (λ d z. owner_in U None r.lines ≡ Some d → (z.transaction ≡ None) ⊎ (z.transaction ≡ Some U)) r.clients c with-it (talk.owners U c) (λ d ne. talk.owners U d) d (sym (told-same-so.owner U) ∙ e))
         opened-draws (All-nil (IsDrawn opened-world)) (λ V e g. record {
           opened = g.opened;
           begun = told-same-so.begun (w.owner V) ∙ g.begun;
-          its = by-client (λ d z. z.transaction ≡ Some (w.owner V) → IsOpenAt V (open_at V.server z.works)) r.clients c with-it (λ f. open-more V V.server (g.its c f)) (λ d ne. g.its d);
+          its = one-client (λ d z. z.transaction ≡ Some (w.owner V) → IsOpenAt V (open_at V.server z.works)) r.clients c with-it (λ f. open-more V V.server (g.its c f)) (λ d ne. g.its d);
         }) (λ U e. table-started events r w c with-it [] (says.Opened c o.event W.server ∷ []) opened-draws U (λ d f. sym (told-same-so.by d U) ∙ f) (talk.started U (sym (told-same-so.begun U) ∙ e)))
 
   -- ---- lines that tell a transaction nothing

@@ -1,6 +1,5 @@
 -- A client does a command, or sends its outstanding message once more.
-use Rattle.jn_system_reports.proofs.Common.{nat_lt, ◌≡◌, ◌≢◌, ◌⊎◌, inl, inr, ◌<◌, ◌≤◌, ℕ, ◌+◌, Bool, true, false, List, [], ◌∷◌, ◌++◌, append-nil, Option, Some, None, refl, sym, ◌∙◌, ap, subst, arith, if◌then◌else◌, ◌||◌, All, All-nil, All-cons, All-append, ServerNo, ClientNo, Tid, WorkId, Party, Server, Op, Command, Begin, Open, Do, End, Abort, server_eq, work_eq, server_tells, work_tells, Event, CommandOf, Message, Refusal, ActiveWork, OpenWork, Outstanding, Sent, ClientTable, Commanded, if_server, if_idle, if_transaction, if_no_transaction, if_open, if_not_open, Refuses, open_at, with_operation, sent_again, is_end_or_abort, sends, event_at, work_same, Machine, Invariant, IsWorkOf, not_both, some_is, none_some, World, at_client, tell, again, commanded, sent_now, Mirrors, IsCurrent, found-open, are-counted, openings, openings-more, Has, has-first, is_closing, Facts, owner_in, is_begun}
-use Rattle.jn_base.specs.Names.{request_of, operation_of}
+use Rattle.jn_system_reports.proofs.Common.{nat_lt, ◌≡◌, ◌≢◌, ◌⊎◌, inl, inr, ◌<◌, ◌≤◌, ℕ, ◌+◌, Bool, true, false, List, [], ◌∷◌, ◌++◌, append-nil, Option, Some, None, refl, sym, ◌∙◌, ap, subst, arith, if◌then◌else◌, ◌||◌, All, All-nil, All-cons, All-append, ServerNo, ClientNo, Tid, WorkId, Party, Server, Op, Command, Begin, Open, Do, End, Abort, server_eq, work_eq, server_tells, work_tells, Event, CommandOf, Message, Refusal, ActiveWork, OpenWork, Outstanding, Sent, ClientTable, Commanded, if_server, if_idle, if_transaction, if_no_transaction, if_open, if_not_open, Refuses, open_at, with_operation, sent_again, is_end_or_abort, sends, event_at, work_same, Machine, Invariant, IsWorkOf, not_both, some_is, none_some, World, at_client, tell, again, commanded, sent_now, Mirrors, IsCurrent, found-open, are-counted, openings, openings-more, Has, has-first, is_closing, Facts, owner_in, is_begun, request_of, operation_of, one-client}
 use Rattle.jn_msgs.specs.declared.message.Message.TheVariants as messages
 use Rattle.jn_report.specs.declared.line.Refusal.TheVariants as refusals
 use Rattle.jn_report.specs.declared.line.Text.TheVariants as says
@@ -9,7 +8,7 @@ use Rattle.jn_system_reports.proofs.Telling.Tellings.{none-told}
 use Rattle.jn_system_reports.proofs.Telling.Acting.{IsSilent}
 use Rattle.jn_system_reports.proofs.Telling.Facts.{said, op_in, op_asked, IsOperation, IsAsking, IsNumbered, Hears, IsRunningAt, IsTalking, IsPast, IsEndedAt, IsDrawn, op_sent, IsOpenAt, IsKnown, Talk}
 use Rattle.jn_system_reports.proofs.Telling.Quiet.{IsDumb, same-told, map-all, op_sent-more, silent-asks}
-use Rattle.jn_system_reports.proofs.Telling.Clients.{by-client, at-own, same-client, now, client-talks, running-still, table-started, plain-talks, no-client-talks}
+use Rattle.jn_system_reports.proofs.Telling.Clients.{at-own, same-client, now, client-talks, running-still, table-started, plain-talks, no-client-talks}
 
 -- ---- a client's works, once one has an operation more
 
@@ -261,16 +260,16 @@ module _ (events : List Event) (r : World) (w : Machine) (mirrors : Mirrors r w)
     table-talks : Talk events r1 w
     table-talks = let same = same-told r.lines [] tt in
         client-talks events r w c u [] [] talk tt own (λ U d ne e. (same.owner U ∙ e, same.said events U)) (λ U e. same.said events U)
-        (λ U d e. by-client (λ d z. owner_in U None r.lines ≡ Some d → (z.transaction ≡ None) ⊎ (z.transaction ≡ Some U)) r.clients c u (talk.owners U c) (λ d ne. talk.owners U d) d (sym (same.owner U) ∙ e))
+        (λ U d e. one-client (λ d z. owner_in U None r.lines ≡ Some d → (z.transaction ≡ None) ⊎ (z.transaction ≡ Some U)) r.clients c u (talk.owners U c) (λ d ne. talk.owners U d) d (sym (same.owner U) ∙ e))
         draws (All-nil (IsDrawn r1)) (λ W e k. record {
           opened = k.opened;
           begun = same.begun (w.owner W) ∙ k.begun;
-          its = by-client (λ d z. z.transaction ≡ Some (w.owner W) → IsOpenAt W (open_at W.server z.works)) r.clients c u (λ f. open-still W W.server (k.its c f)) (λ d ne. k.its d);
+          its = one-client (λ d z. z.transaction ≡ Some (w.owner W) → IsOpenAt W (open_at W.server z.works)) r.clients c u (λ f. open-still W W.server (k.its c f)) (λ d ne. k.its d);
         }) (λ U e. table-started events r w c u [] [] draws U (λ d f. sym (same.by d U) ∙ f) (talk.started U (sym (same.begun U) ∙ e)))
 
     -- the table as it is, with the message
     does-talks : RowTalks (sends (record t { works = with_operation s t.works }) r.event (Do s op) (Server s) (messages.Op t.client (request_of t.next) v.work (operation_of (v.last + 1)) op))
-    does-talks = op-again events r2 w talk2 (by-client (λ d z. IsCurrent w z.transaction z.works) r.clients c u its-current (λ d ne. (mirrors.clients d).current)) inv c asked (ap (λ (z : ClientTable). z.outstanding) (at-own r.clients c u)) s op
+    does-talks = op-again events r2 w talk2 (one-client (λ d z. IsCurrent w z.transaction z.works) r.clients c u its-current (λ d ne. (mirrors.clients d).current)) inv c asked (ap (λ (z : ClientTable). z.outstanding) (at-own r.clients c u)) s op
         (subst (λ z. IsOperation events c z asked s op) (sym (at-own r.clients c u)) operation) (subst (λ z. t.next < z.next) (sym (at-own r.clients c u)) (below t.next)) fresh
       where
         below : (n : ℕ) → n < n + 1

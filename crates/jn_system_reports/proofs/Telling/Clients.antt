@@ -1,6 +1,5 @@
 -- One client changes, and perhaps something is told: what keeps the talk.
-use Rattle.jn_system_reports.proofs.Common.{◌≡◌, ◌≢◌, ◌⊎◌, inl, inr, ◌<◌, ◌≤◌, ℕ, Bool, true, false, List, ◌++◌, Option, Some, None, refl, sym, ◌∙◌, ap, subst, arith, fun_ext, if◌then◌else◌, All, All-append, ServerNo, ClientNo, Tid, WorkId, client_eq, client_tells, Event, Message, Text, OpenWork, Outstanding, Sent, ClientTable, is_begin, open_at, Machine, some_is, none_some, World, at_client, dismiss, openings, openings-more, Has, has-first, is_closing, owner_in, is_begun, begun_by}
-use Rattle.jn_base.specs.declared.names.RequestNo.{RequestNo}
+use Rattle.jn_system_reports.proofs.Common.{◌≡◌, ◌≢◌, ◌⊎◌, inl, inr, ◌<◌, ◌≤◌, ℕ, true, false, List, ◌++◌, Option, Some, None, refl, sym, ◌∙◌, ap, subst, arith, fun_ext, All, All-append, ServerNo, ClientNo, Tid, WorkId, Event, Message, Text, OpenWork, Outstanding, Sent, ClientTable, is_begin, open_at, Machine, some_is, none_some, World, at_client, dismiss, openings, openings-more, Has, has-first, is_closing, owner_in, is_begun, begun_by, RequestNo, one-client}
 use Rattle.jn_msgs.specs.declared.message.Message.TheVariants as messages
 use Rattle.jn_system_order.proofs.Ordering.Facts.{opening}
 use Rattle.jn_system_reports.proofs.Telling.Tellings.{SaysAs}
@@ -8,31 +7,12 @@ use Rattle.jn_system_reports.proofs.Telling.Acting.{AreSilent}
 use Rattle.jn_system_reports.proofs.Telling.Facts.{said, op_asked, IsAsking, IsNumbered, Hears, IsRunningAt, IsTalking, IsEndedAt, IsKept, IsDrawn, op_sent, IsOpenAt, IsKnown, IsStarted, Talk}
 use Rattle.jn_system_reports.proofs.Telling.Quiet.{AreDumb, same-told, silent-nos, silent-drawn, every, HaveNoOp, SameTold, numbered-more, past-more, map-all, same-sent}
 
-abbrev pub IsOther : ClientNo → ClientNo → Type 0
-IsOther c d = ((client_eq c d ≡ true) × (c ≡ d)) ⊎ ((client_eq c d ≡ false) × (c ≢ d))
-
 -- the client's table is replaced, and no other
 pub at-own : (clients : ClientNo → ClientTable) (c : ClientNo) (u : ClientTable) → at_client clients c u c ≡ u
-at-own clients c u = by (client_tells c c)
-  where
-    by : IsOther c c → (if client_eq c c then u else clients c) ≡ u
-    by (inl p) = ap (λ (b : Bool). if b then u else clients c) p.0
-    by (inr p) = absurd (p.1 refl)
+at-own clients c u = one-client (λ d t. c ≡ d → t ≡ u) clients c u (λ e. refl) (λ d other e. absurd (other e)) c refl
 
 pub at-other : (clients : ClientNo → ClientTable) (c d : ClientNo) (u : ClientTable) → c ≢ d → at_client clients c u d ≡ clients d
-at-other clients c d u ne = by (client_tells c d)
-  where
-    by : IsOther c d → (if client_eq c d then u else clients d) ≡ clients d
-    by (inl p) = absurd (ne p.1)
-    by (inr p) = ap (λ (b : Bool). if b then u else clients d) p.0
-
--- what holds of the new table, and of each other client's, holds of all
-pub by-client : (P : ClientNo → ClientTable → Type 0) (clients : ClientNo → ClientTable) (c : ClientNo) (u : ClientTable) → P c u → ((d : ClientNo) → c ≢ d → P d (clients d)) → (d : ClientNo) → P d (at_client clients c u d)
-by-client P clients c u own others d = by (client_tells c d)
-  where
-    by : IsOther c d → P d (at_client clients c u d)
-    by (inl p) = subst (λ (z : ClientNo). P z (at_client clients c u z)) p.1 (subst (λ t. P c t) (sym (at-own clients c u)) own)
-    by (inr p) = subst (λ t. P d t) (sym (at-other clients c d u p.1)) (others d p.1)
+at-other clients c d u = one-client (λ e t. c ≢ e → t ≡ clients e) clients c u (λ ne. absurd (ne refl)) (λ e other ne. refl) d
 
 -- no two clients are in one transaction
 pub same-client : (events : List Event) (r : World) (v : Machine) (c d : ClientNo) (T : Tid) → Talk events r v → (r.clients c).transaction ≡ Some T → (r.clients d).transaction ≡ Some T → c ≡ d
@@ -50,8 +30,8 @@ module _ (events : List Event) (r : World) (v : Machine) (c : ClientNo) (u : Cli
 
   pub table-drawn : DrawsNew → (x : Sent) → IsDrawn r x → IsDrawn now x
   table-drawn new (to, messages.Op d request W number op) h = (
-    by-client (λ e t. request.0 < (r.clients e).next → request.0 < t.next) r.clients c u (λ k. below k) (λ e ne k. k) d h.0,
-    by-client (λ e t. request.0 < (r.clients e).next → ((o : Outstanding) → (r.clients e).outstanding ≡ Some o → o.request ≡ request → o.message ≡ messages.Op d request W number op) → (o : Outstanding) → t.outstanding ≡ Some o → o.request ≡ request → o.message ≡ messages.Op d request W number op)
+    one-client (λ e t. request.0 < (r.clients e).next → request.0 < t.next) r.clients c u (λ k. below k) (λ e ne k. k) d h.0,
+    one-client (λ e t. request.0 < (r.clients e).next → ((o : Outstanding) → (r.clients e).outstanding ≡ Some o → o.request ≡ request → o.message ≡ messages.Op d request W number op) → (o : Outstanding) → t.outstanding ≡ Some o → o.request ≡ request → o.message ≡ messages.Op d request W number op)
         r.clients c u (λ k l o e f. by k o f l (new.1 o e)) (λ e ne k l. l) d h.0 h.1,
   )
     where
@@ -63,8 +43,8 @@ module _ (events : List Event) (r : World) (v : Machine) (c : ClientNo) (u : Cli
       by k o f l (inl e) = l o e f
       by k o f l (inr le) = absurd (let same = ap (λ (z : RequestNo). z.0) f in omega (arith, k, le, same))
   table-drawn new (to, messages.Answer d request answer) h = (
-    by-client (λ e t. request.0 < (r.clients e).next → request.0 < t.next) r.clients c u (λ k. below k) (λ e ne k. k) d h.0,
-    by-client (λ e t. request.0 < (r.clients e).next → ((o : Outstanding) → (r.clients e).outstanding ≡ Some o → o.request ≡ request → IsKept r answer o.message) → (o : Outstanding) → t.outstanding ≡ Some o → o.request ≡ request → IsKept now answer o.message)
+    one-client (λ e t. request.0 < (r.clients e).next → request.0 < t.next) r.clients c u (λ k. below k) (λ e ne k. k) d h.0,
+    one-client (λ e t. request.0 < (r.clients e).next → ((o : Outstanding) → (r.clients e).outstanding ≡ Some o → o.request ≡ request → IsKept r answer o.message) → (o : Outstanding) → t.outstanding ≡ Some o → o.request ≡ request → IsKept now answer o.message)
         r.clients c u (λ k l o e f. by k o f l (new.1 o e)) (λ e ne k l o f g. kept-still o.message (l o f g)) d h.0 h.1,
   )
     where
@@ -86,8 +66,8 @@ module _ (events : List Event) (r : World) (v : Machine) (c : ClientNo) (u : Cli
     client = k.client;
     request = k.request;
     has = subst (λ l. Has (opening k.client k.request T) l) (sym (openings-more r.sent more)) (has-first (opening k.client k.request T) (openings r.sent) (openings more) k.has);
-    drawn = by-client (λ e t. k.request.0 < (r.clients e).next → k.request.0 < t.next) r.clients c u (λ l. let le = new.0 in omega (arith, l, le)) (λ e ne l. l) k.client k.drawn;
-    before = by-client (λ e t. k.request.0 < (r.clients e).next → ((o : Outstanding) → (r.clients e).outstanding ≡ Some o → is_begin o.command ≡ true → k.request.0 < o.request.0) → (o : Outstanding) → t.outstanding ≡ Some o → is_begin o.command ≡ true → k.request.0 < o.request.0)
+    drawn = one-client (λ e t. k.request.0 < (r.clients e).next → k.request.0 < t.next) r.clients c u (λ l. let le = new.0 in omega (arith, l, le)) (λ e ne l. l) k.client k.drawn;
+    before = one-client (λ e t. k.request.0 < (r.clients e).next → ((o : Outstanding) → (r.clients e).outstanding ≡ Some o → is_begin o.command ≡ true → k.request.0 < o.request.0) → (o : Outstanding) → t.outstanding ≡ Some o → is_begin o.command ≡ true → k.request.0 < o.request.0)
         r.clients c u (λ l m o e f. by l m o f (new.1 o e)) (λ e ne l m. m) k.client k.drawn k.before;
     its = λ d e. k.its d (told d e);
   }
@@ -138,7 +118,7 @@ module _ (events : List Event) (r : World) (v : Machine) (c : ClientNo) (u : Cli
 
     pub client-talks : Talk events now v
     client-talks = record {
-      clients = by-client (λ d t. IsTalking events now v d t) r.clients c u own other-talks;
+      clients = one-client (λ d t. IsTalking events now v d t) r.clients c u own other-talks;
       ended = λ T e free s. ended-still T s (v.part T s) (ended T e s) (talk.ended T e free s);
       owners = owners;
       drawn = All-append (IsDrawn now) r.sent more (map-all (IsDrawn r) (IsDrawn now) r.sent (table-drawn new) talk.drawn) drawn;
@@ -159,7 +139,7 @@ module _ (events : List Event) (r : World) (v : Machine) (c : ClientNo) (u : Cli
       keeps-known W k = record {
         opened = k.opened;
         begun = told.begun (v.owner W) ∙ k.begun;
-        its = by-client (λ d t. t.transaction ≡ Some (v.owner W) → IsOpenAt W (open_at W.server t.works)) r.clients c u
+        its = one-client (λ d t. t.transaction ≡ Some (v.owner W) → IsOpenAt W (open_at W.server t.works)) r.clients c u
             (λ e. let l = stays (v.owner W) e in subst (λ z. IsOpenAt W (open_at W.server z)) (sym l.1) (k.its c l.0)) (λ d ne. k.its d);
       }
 
@@ -176,7 +156,7 @@ module _ (events : List Event) (r : World) (v : Machine) (c : ClientNo) (u : Cli
 
       pub quiet-client-talks : Talk events now v
       quiet-client-talks = client-talks talk (silent-nos more silent) own (λ T d ne e. (told.owner T ∙ e, told.said events T)) (λ T e. told.said events T)
-          (λ T d e. by-client (λ d t. owner_in T None r.lines ≡ Some d → (t.transaction ≡ None) ⊎ (t.transaction ≡ Some T)) r.clients c u (keeps-owner T) (λ d ne. talk.owners T d) d (sym (told.owner T) ∙ e))
+          (λ T d e. one-client (λ d t. owner_in T None r.lines ≡ Some d → (t.transaction ≡ None) ⊎ (t.transaction ≡ Some T)) r.clients c u (keeps-owner T) (λ d ne. talk.owners T d) d (sym (told.owner T) ∙ e))
           new (every (IsDrawn now) more silent (silent-drawn now)) (λ W e. keeps-known W) (λ T e. table-started new T (λ d f. sym (told.by d T) ∙ f) (talk.started T (sym (told.begun T) ∙ e)))
 
     -- no operation is outstanding, before and now
@@ -203,11 +183,7 @@ module _ (events : List Event) (r : World) (v : Machine) (c : ClientNo) (more : 
 
   -- no client changes
   pub no-client-talks : Talk events (record r { sent = r.sent ++ more; lines = r.lines ++ texts }) v
-  no-client-talks = subst (λ f. Talk events (record r { clients = f; sent = r.sent ++ more; lines = r.lines ++ texts }) v) (fun_ext (λ d. same d (client_tells c d))) same-client-talks
-    where
-      same : (d : ClientNo) → IsOther c d → at_client r.clients c (r.clients c) d ≡ r.clients d
-      same d (inl p) = ap (λ (b : Bool). if b then r.clients c else r.clients d) p.0 ∙ ap r.clients p.1
-      same d (inr p) = ap (λ (b : Bool). if b then r.clients c else r.clients d) p.0
+  no-client-talks = subst (λ f. Talk events (record r { clients = f; sent = r.sent ++ more; lines = r.lines ++ texts }) v) (fun_ext (one-client (λ d t. t ≡ r.clients d) r.clients c (r.clients c) refl (λ d other. refl))) same-client-talks
 
 -- no client waits for anything or has a transaction any more
 pub dismiss-talks : (events : List Event) (r : World) (v : Machine) → Talk events r v → Talk events (dismiss r) v

@@ -1,8 +1,6 @@
 -- What holds of the talk between clients and workers: which operations a client sent, which of them its work has performed,
 -- and that the answers told so far are what the work did.
-use Rattle.jn_system_reports.proofs.Common.{◌≡◌, ◌⊎◌, ◌<◌, ◌≤◌, ◌+◌, Bool, true, false, List, [], ◌∷◌, ◌++◌, Option, Some, None, ◌||◌, if◌then◌else◌, All, ServerNo, ClientNo, Tid, WorkId, Op, Answer, Command, Do, work_eq, Event, CommandOf, Message, Text, ActiveWork, OpenWork, Outstanding, Sent, ClientTable, is_begin, open_at, event_at, Answered, Machine, World, openings, Has, is_closing, ops_in, owner_in, is_begun, begun_by, at_place}
-use Rattle.jn_base.specs.Names.{operation_of}
-use Rattle.jn_base.specs.declared.names.RequestNo.{RequestNo}
+use Rattle.jn_system_reports.proofs.Common.{◌≡◌, ◌⊎◌, ◌<◌, ◌≤◌, ◌+◌, Bool, true, false, List, [], ◌∷◌, ◌++◌, Option, Some, None, ◌||◌, if◌then◌else◌, All, ServerNo, ClientNo, Tid, WorkId, Op, Answer, Command, Do, work_eq, Event, CommandOf, Message, Text, ActiveWork, OpenWork, Outstanding, Sent, ClientTable, is_begin, open_at, event_at, Answered, Machine, World, openings, Has, is_closing, ops_in, owner_in, is_begun, begun_by, at_place, operation_of, RequestNo}
 use Rattle.jn_base.specs.declared.op.Answer.TheVariants as answers
 use Rattle.jn_msgs.specs.declared.message.Message.TheVariants as messages
 use Rattle.jn_system_order.proofs.Ordering.Facts.{opening}

@@ -1,18 +1,15 @@
 -- A server takes an operation: it performs the next one, or answers the last one again.
-use Rattle.jn_system_reports.proofs.Common.{◌≡◌, ◌≢◌, ◌⊎◌, inl, inr, ℕ, ◌+◌, Bool, true, false, List, [], ◌∷◌, ◌++◌, append-nil, Option, Some, None, is_some, refl, sym, ◌∙◌, ap, subst, arith, if◌then◌else◌, nat_eq, nat_lt, length, slice_get, nat_tests, All-nil, All-cons, ServerNo, ClientNo, Tid, WorkId, Tickets, LockUnit, Client, Server, Op, Answer, server_eq, server_tells, Files, change, answer_to, list_change, length_with, Read, Message, Note, Work, Phase, Active, Broken, Stored, ActiveWork, Prepared, Pick, stable, RowOutcome, ignored, WorkerTable, Wanted, Held, work_at, with_phase, breaks_at, note_of, break_notes, wants_of, is_fit, units_for, with_units, refusal_of, past_limit, locked, first_of_two, conflict, counted, performed-work, granted_row, repeated, performed, op_phase, op_row, found-name, at-phase, in_phase, work_same, Answered, Machine, Atom, run_atoms, MayRun, Says, Invariant, has_committed, some_is, none_some, at_work_here, World, Memory, commits_in, has_line, Room, of_worker, lines_of, done, at_memory, LockFacts, ServerFact, UpFact, Regrants, Origin, Mine, Kept, Broke, phase_changed, by-name, no-lock, Mirrors, MovesTo, DoesRow, named_by, commits-more, lines-commit, mirrored, worker-does, committed-any}
-use Rattle.jn_base.specs.declared.names.OperationNo.{OperationNo}
-use Rattle.jn_base.specs.declared.names.RequestNo.{RequestNo}
+use Rattle.jn_system_reports.proofs.Common.{◌≡◌, ◌⊎◌, inl, inr, ℕ, ◌+◌, Bool, true, false, List, [], ◌∷◌, ◌++◌, append-nil, Option, Some, None, is_some, refl, sym, ◌∙◌, ap, subst, arith, if◌then◌else◌, nat_eq, nat_lt, length, slice_get, nat_tests, All-nil, All-cons, ServerNo, ClientNo, Tid, WorkId, LockUnit, Client, Server, Op, Answer, Files, change, answer_to, list_change, length_with, Read, Message, Note, Work, Phase, Active, Broken, Stored, ActiveWork, stable, RowOutcome, ignored, WorkerTable, Wanted, Held, work_at, with_phase, breaks_at, note_of, break_notes, wants_of, is_fit, units_for, with_units, refusal_of, past_limit, locked, first_of_two, conflict, counted, performed-work, granted_row, repeated, performed, op_phase, op_row, found-name, at-phase, in_phase, work_same, Answered, Machine, Atom, run_atoms, MayRun, Says, Invariant, has_committed, some_is, none_some, at_work_here, World, Memory, commits_in, has_line, of_worker, lines_of, done, LockFacts, UpFact, Regrants, Origin, Mine, Kept, Broke, phase_changed, by-name, no-lock, Mirrors, MovesTo, DoesRow, named_by, commits-more, lines-commit, mirrored, worker-does, committed-any, at_server, OperationNo, RequestNo, one-server}
 use Rattle.jn_base.specs.declared.op.Op.TheVariants as ops
 use Rattle.jn_base.specs.declared.op.Answer.TheVariants as answers
 use Rattle.jn_msgs.specs.declared.message.Message.TheVariants as messages
 use Rattle.jn_msgs.specs.declared.message.Note.TheVariants as notes
-use Rattle.jn_report.specs.declared.line.Text.TheVariants as says
 use Rattle.jn_system_order.proofs.Mirroring.OpMoves.{atoms, performed-world, may-op, op-does, op-ran, g}
 use Rattle.jn_system_reports.proofs.Telling.Tellings.{SaysAs, both-more}
-use Rattle.jn_system_reports.proofs.Telling.Acting.{acting, acting_at, acting_of, acting_in, its-work, DidTheSame, same-did, none-new, TableNew, table-same, Adds}
+use Rattle.jn_system_reports.proofs.Telling.Acting.{acting, acting_at, acting_of, acting_in, its-work, DidTheSame, same-did, none-new, TableNew, table-same}
 use Rattle.jn_system_reports.proofs.Telling.Facts.{counts, IsKept, IsDrawn}
 use Rattle.jn_system_reports.proofs.Telling.Quiet.{same-told, Moved, moved, Advances, IsServing, acting-says, of-quiet}
-use Rattle.jn_system_reports.proofs.Telling.ServerSteps.{lines-quiet, stopped-quiet, lines-dumb, not-stored, done-quiet}
+use Rattle.jn_system_reports.proofs.Telling.ServerSteps.{lines-dumb, not-stored, found-at, done-quiet}
 use Rattle.jn_system_reports.proofs.Telling.Rows.{of-worker}
 
 -- ---- notes
@@ -97,11 +94,11 @@ module _ (r : World) (w : Machine) (mirrors : Mirrors r w) (locks : LockFacts r)
 
   module _ (s : ServerNo) (m : Memory) (is : r.memory s ≡ Some m) (up : UpFact s m (r.found s)) (k : ℕ) (d : ClientNo) (request : RequestNo) (W : WorkId) (number : OperationNo) (op : Op)
       (sent : slice_get r.sent k ≡ Some (Server s, messages.Op d request W number op)) (place : W.server ≡ s) (drawn : IsDrawn r (Server s, messages.Op d request W number op)) where
-    abbrev Tells : ServerNo → Type 0
-    Tells q = ((server_eq s q ≡ true) × (s ≡ q)) ⊎ ((server_eq s q ≡ false) × (s ≢ q))
+    here : (V : WorkId) → acting_at (r.memory s) V ≡ acting_of (work_at V m.worker)
+    here V = ap (λ z. acting_at z V) is
 
-    here : (V : WorkId) → s ≡ V.server → acting r V ≡ acting_of (work_at V m.worker)
-    here V e = ap (λ (z : ServerNo). acting_at (r.memory z) V) (sym e) ∙ ap (λ z. acting_at z V) is
+    at-its : (o : Option Memory) → at_server r.memory s o W.server ≡ o
+    at-its o = one-server (λ q z. q ≡ W.server → z ≡ o) r.memory s o (λ e. refl) (λ q other e. absurd (other (sym (e ∙ place)))) W.server refl
 
     -- what the row makes of the world
     abbrev answers-with : WorkerTable → List Note → Answer → RowOutcome WorkerTable
@@ -116,18 +113,8 @@ module _ (r : World) (w : Machine) (mirrors : Mirrors r w) (locks : LockFacts r)
       abbrev r' : World
       r' = after-row (answers-with now notes answer)
 
-      now-here : (V : WorkId) (b : ActiveWork) → server_eq s V.server ≡ true → acting r' V ≡ Some b → acting_of (work_at V now) ≡ Some b
-      now-here V b t f = subst (λ (z : Bool). acting_at (if z then Some (of_worker m (answers-with now notes answer)).table else r.memory V.server) V ≡ Some b) t f
-
-      now-there : (V : WorkId) (b : ActiveWork) → server_eq s V.server ≡ false → acting r' V ≡ Some b → acting r V ≡ Some b
-      now-there V b t f = subst (λ (z : Bool). acting_at (if z then Some (of_worker m (answers-with now notes answer)).table else r.memory V.server) V ≡ Some b) t f
-
       its-kept : (message : Message) → message ≡ messages.Op d request W number op → IsKept r' answer message
-      its-kept message e = subst (λ z. IsKept r' answer z) (sym e) (λ b f. by b f (server_tells s W.server))
-        where
-          by : (b : ActiveWork) → acting r' W ≡ Some b → Tells W.server → (b.last ≡ number.0) × (b.kept ≡ Some answer)
-          by b f (inl t) = kept b (now-here W b t.0 f)
-          by b f (inr t) = absurd (t.1 (sym place))
+      its-kept message e = subst (λ z. IsKept r' answer z) (sym e) (λ b f. kept b (sym (ap (λ z. acting_at z W) (at-its (Some (of_worker m (answers-with now notes answer)).table))) ∙ f))
 
       pub answer-serves : IsServing r r' w v
       answer-serves = record {
@@ -137,23 +124,11 @@ module _ (r : World) (w : Machine) (mirrors : Mirrors r w) (locks : LockFacts r)
         no_op = (tt, tt);
         replies = All-cons (IsDrawn r') (Client d, messages.Answer d request answer) [] (drawn.0, λ o e f. its-kept o.message (drawn.1 o e f)) (All-nil (IsDrawn r'));
         told = same-told r.lines (lines_of s (Some k) notes) (lines-dumb s (Some k) notes);
-        same = λ V a b e f. same V a b e f (server_tells s V.server);
-        new = λ V b e f. fresh V b e f (server_tells s V.server);
-        found = λ V c p a e f. absurd (not-stored r locks V a c p e (as-before V c p f (server_tells s V.server)));
+        same = λ V a b. one-server (λ q z. acting_at (r.memory q) V ≡ Some a → acting_at z V ≡ Some b → DidTheSame a b ⊎ Advances r w v V a b) r.memory s _ (λ e f. stays V a b (sym (here V) ∙ e) f) (λ q other e f. inl (same-did (acting_at (r.memory q) V) a b e f)) V.server;
+        new = λ V b. one-server (λ q z. acting_at (r.memory q) V ≡ None → acting_at z V ≡ Some b → (b.last ≡ 0) × (b.list ≡ [])) r.memory s _ (λ e f. new V b (sym (here V) ∙ e) f) (λ q other e f. none-new (acting_at (r.memory q) V) b e f) V.server;
+        found = found-at r locks s (r.found s) (λ V c p a e f. absurd (not-stored r locks s V a c p e f));
         quiet = inl (commits-more r.lines (lines_of s (Some k) notes) ∙ ap (λ z. commits_in r.lines ++ z) (lines-commit s (Some k) notes ∙ none) ∙ append-nil (commits_in r.lines));
       }
-        where
-          same : (V : WorkId) (a b : ActiveWork) → acting r V ≡ Some a → acting r' V ≡ Some b → Tells V.server → DidTheSame a b ⊎ Advances r w v V a b
-          same V a b e f (inl t) = stays V a b (sym (here V t.1) ∙ e) (now-here V b t.0 f)
-          same V a b e f (inr t) = inl (same-did (acting r V) a b e (now-there V b t.0 f))
-
-          fresh : (V : WorkId) (b : ActiveWork) → acting r V ≡ None → acting r' V ≡ Some b → Tells V.server → (b.last ≡ 0) × (b.list ≡ [])
-          fresh V b e f (inl t) = new V b (sym (here V t.1) ∙ e) (now-here V b t.0 f)
-          fresh V b e f (inr t) = none-new (acting r V) b e (now-there V b t.0 f)
-
-          as-before : (V : WorkId) (c : Pick) (p : Prepared) → (r'.found V.server c).works V ≡ Some p → Tells V.server → (r.found V.server c).works V ≡ Some p
-          as-before V c p f (inl t) = subst (λ (z : ServerNo). (r.found z c).works V ≡ Some p) t.1 (subst (λ (z : Bool). (if z then r.found s c else r.found V.server c).works V ≡ Some p) t.0 f)
-          as-before V c p f (inr t) = subst (λ (z : Bool). (if z then r.found s c else r.found V.server c).works V ≡ Some p) t.0 f
 
     -- the table stays, and what is answered is what the work has kept, if it takes operations
     replied : (answer : Answer) → ((b : ActiveWork) → acting_of (work_at W m.worker) ≡ Some b → (b.last ≡ number.0) × (b.kept ≡ Some answer)) → MovesTo (after-row (answers-with m.worker [] answer)) w → Serves r (after-row (answers-with m.worker [] answer)) w
@@ -181,7 +156,7 @@ module _ (r : World) (w : Machine) (mirrors : Mirrors r w) (locks : LockFacts r)
       its-acting = subst (λ (U : WorkId). acting_of (work_at U m.worker) ≡ Some a) name (ap acting_of found ∙ ap acting_in active)
 
       here-acting : acting r W ≡ Some a
-      here-acting = here W (sym place) ∙ its-acting
+      here-acting = ap (λ (z : ServerNo). acting_at (r.memory z) W) place ∙ here W ∙ its-acting
 
       -- it has performed one operation more
       module _ (next : number.0 ≡ a.last + 1) (wants : List Wanted) (b : ActiveWork) (now : WorkerTable) (regrants : Regrants x.name wants (Active b) m.worker now) (answer : Answer)
@@ -251,16 +226,12 @@ module _ (r : World) (w : Machine) (mirrors : Mirrors r w) (locks : LockFacts r)
           regrants = phase_changed x.name (Active (counted a refusal)) m.worker
 
           acting-now : acting (after-row (answers-with (with_phase x.name (Active (counted a refusal)) m.worker) [] refusal)) W ≡ Some (counted a refusal)
-          acting-now = by (server_tells s W.server)
+          acting-now = ap (λ z. acting_at z W) (at-its _) ∙ its
             where
               its : acting_of (work_at W (with_phase x.name (Active (counted a refusal)) m.worker)) ≡ Some (counted a refusal)
               its = subst (λ (U : WorkId). acting_of (work_at U (with_phase x.name (Active (counted a refusal)) m.worker)) ≡ Some (counted a refusal)) name
                   (ap acting_of (at-phase x.name x.name (Active (counted a refusal)) m.worker) ∙ ap (λ (z : Bool). acting_of (if z then in_phase (Active (counted a refusal)) (work_at x.name m.worker) else work_at x.name m.worker)) (work_same x.name)
                   ∙ ap (λ z. acting_of (in_phase (Active (counted a refusal)) z)) found)
-
-              by : Tells W.server → acting (after-row (answers-with (with_phase x.name (Active (counted a refusal)) m.worker) [] refusal)) W ≡ Some (counted a refusal)
-              by (inl t) = ap (λ (z : Bool). acting_at (if z then Some (of_worker m (answers-with (with_phase x.name (Active (counted a refusal)) m.worker) [] refusal)).table else r.memory W.server) W) t.0 ∙ its
-              by (inr t) = absurd (t.1 (sym place))
 
           counts-none : counts op refusal ≡ []
           counts-none = refusal-counts op (length (with_units (units_for Read (wants-of a)) a.reads)) (if is_fit (answer-of a) then length_with a.list op else length a.list) (conflict x.name (wants-of a) m.worker) refusal e
@@ -342,36 +313,3 @@ module _ (r : World) (w : Machine) (mirrors : Mirrors r w) (locks : LockFacts r)
     pub op-serves : (o : Option Work) → work_at W m.worker ≡ o → MovesTo (after-row (op_row m.worker files-here m.tickets d request W number op o)) w → Serves r (after-row (op_row m.worker files-here m.tickets d request W number op o)) w
     op-serves (Some x) h moves = by-phase x (by-name W m.worker x h) (found-name W m.worker x h) x.phase refl moves
     op-serves None h moves = replied _ (λ b f. absurd (none_some b (sym (ap acting_of h) ∙ f))) moves
-
-  -- ---- every step of a server, also where it stops
-
-  -- an operation changes nothing that is stable
-  op-adds : (t : WorkerTable) (files : Files) (k : Tickets) (d : ClientNo) (request : RequestNo) (W : WorkId) (number : OperationNo) (op : Op) (o : Option Work) → Adds t (op_row t files k d request W number op o).changes
-  op-adds t files k d request W number op None = tt
-  op-adds t files k d request W number op (Some x) = by x.phase
-    where
-      either : (b : Bool) (p q : RowOutcome WorkerTable) → Adds t p.changes → Adds t q.changes → Adds t (if b then p else q).changes
-      either true p q h l = h
-      either false p q h l = l
-
-      granted-adds : (a : ActiveWork) (answer : Answer) (wants : List Wanted) (o : Option Answer) → Adds t (granted_row t k d request x a op answer wants o).changes
-      granted-adds a answer wants None = tt
-      granted-adds a answer wants (Some refusal) = tt
-
-      again : (o : Option Answer) → Adds t (repeated t k d request o).changes
-      again (Some answer) = tt
-      again None = tt
-
-      by : (p : Phase) → Adds t (op_phase t files k d request x number op p).changes
-      by (Active a) = let answer = answer_to op (change (list_change a.list) files) in
-          either (nat_eq number.0 (a.last + 1)) _ _ (granted-adds a answer (wants_of op (is_fit answer)) (refusal_of t x.name a op answer (wants_of op (is_fit answer)))) (either (nat_eq number.0 a.last) _ _ (again a.kept) tt)
-      by (Broken u T) = tt
-      by (Stored p) = tt
-
-  pub op-steps : (s : ServerNo) (k : ℕ) (room : Room) (stop : Option (Pick → ℕ)) (d : ClientNo) (request : RequestNo) (W : WorkId) (number : OperationNo) (op : Op) (o : Option Memory) → r.memory s ≡ o → ServerFact s o (r.found s)
-      → slice_get r.sent k ≡ Some (Server s, messages.Op d request W number op) → W.server ≡ s → IsDrawn r (Server s, messages.Op d request W number op)
-      → MovesTo (at_memory s k room stop (messages.Op d request W number op) o r) w → Serves r (at_memory s k room stop (messages.Op d request W number op) o r) w
-  op-steps s k room stop d request W number op None is fact sent place drawn moves = still-serves r _ w moves (of-quiet r _ w (run_atoms moves.atoms w) (lines-quiet r locks (says.Lost k ∷ []) (tt, tt)))
-  op-steps s k room None d request W number op (Some m) is up sent place drawn moves = op-serves s m is up k d request W number op sent place drawn (work_at W m.worker) refl moves
-  op-steps s k room (Some made) d request W number op (Some m) is up sent place drawn moves = still-serves r _ w moves (of-quiet r _ w (run_atoms moves.atoms w)
-      (stopped-quiet r locks s m is made (of_worker m (op_row m.worker (stable (r.found s)).files m.tickets d request W number op (work_at W m.worker))) (op-adds m.worker (stable (r.found s)).files m.tickets d request W number op (work_at W m.worker))))

@@ -1,16 +1,14 @@
 -- Every step keeps the talk, whatever steps come one after another.
-use Rattle.jn_system_reports.proofs.Common.{◌≡◌, inl, ℕ, true, List, [], ◌∷◌, ◌++◌, append-nil, Option, Some, None, refl, sym, ◌∙◌, ap, subst, slice_get, is_some, ServerNo, ClientNo, Tid, Client, Server, Command, Begin, Open, Do, End, Abort, AllFiles, Event, CommandOf, event_at, Message, Refusal, Text, Outstanding, Taken, Pick, Sent, ClientTable, Commanded, Refuses, Sends, command_row, take_row, if_idle, if_transaction, names_of, sends, Machine, Invariant, Atom, Ends, run_atoms, opening_world, MayRun, Says, has_committed, run_kept, opening_kept, run_grows, says_still, run_told, opening_told, World, commits_in, Room, Step, NextEvent, Tell, Again, Deliver, Nudge, Timeout, StopDelivery, StopWork, Crash, Narrow, StopRestart, Restart, Dismiss, CloseClients, IsStep, after, handed, at_memory, commanded, tell, again, took, dismiss, LockFacts, Mirrors, MovesTo, IsAddressed, IsTrue, is_shown, active_in, next_in, known_in, All-grows, client-still, Takes, takes, quiet-line, stays-with, step-moves, holds-of, Facts, still-facts, message-facts, work-facts, nudge-facts, timeout-facts, crash-facts, narrow-facts, raise-facts, restart-facts, close-facts, tell-facts, again-facts, taken-facts, dismiss-facts, is_own, not_both, ops_in, parts_of, end-may, end-mirrors, end-facts}
-use Rattle.jn_base.specs.Names.{request_of}
+use Rattle.jn_system_reports.proofs.Common.{◌≡◌, ℕ, true, List, [], ◌∷◌, ◌++◌, append-nil, Option, Some, None, refl, sym, ◌∙◌, ap, subst, is_some, ServerNo, ClientNo, Tid, Client, Server, Command, Begin, Open, Do, End, Abort, AllFiles, Event, CommandOf, event_at, Message, Refusal, Text, Outstanding, Taken, ClientTable, Commanded, Refuses, Sends, if_idle, if_transaction, names_of, sends, Machine, Invariant, Atom, Ends, run_atoms, opening_world, MayRun, Says, has_committed, run_kept, opening_kept, run_grows, says_still, run_told, opening_told, World, commits_in, Step, Tell, IsStep, after, commanded, took, LockFacts, Mirrors, MovesTo, IsAddressed, IsTrue, is_shown, active_in, next_in, known_in, All-grows, client-still, Takes, takes, quiet-line, stays-with, step-moves, holds-of, Facts, still-facts, is_own, not_both, ops_in, parts_of, end-may, end-mirrors, end-facts, step-facts, ServerFact, work_at, taken_by, request_of}
 use Rattle.jn_msgs.specs.declared.message.Message.TheVariants as messages
 use Rattle.jn_report.specs.declared.line.Refusal.TheVariants as refusals
 use Rattle.jn_report.specs.declared.line.Text.TheVariants as says
 use Rattle.jn_rows.specs.declared.client.Taken.TheVariants as taken
-use Rattle.jn_system.specs.WholeSystem.Steps.{Work}
 use Rattle.jn_system_reports.proofs.Reporting.Hearing.{Commands, commands}
 use Rattle.jn_system_reports.proofs.Telling.Facts.{IsDrawn, Talk}
-use Rattle.jn_system_reports.proofs.Telling.Quiet.{same-told, IsDumb, Moved, IsQuiet, told-same, of-quiet, serving-talks}
-use Rattle.jn_system_reports.proofs.Telling.ServerSteps.{nothing-quiet, at-memory-quiet, work-quiet, nudge-quiet, timeout-quiet, crash-quiet, narrow-quiet, raise-quiet, up-quiet, close-quiet}
-use Rattle.jn_system_reports.proofs.Telling.OpSteps.{Serves, still-serves, moved-by, op-steps}
+use Rattle.jn_system_reports.proofs.Telling.Quiet.{same-told, IsDumb, Moved, of-quiet, serving-talks}
+use Rattle.jn_system_reports.proofs.Telling.ServerSteps.{nothing-quiet, TellCase, is_quiet, client_is_told, client_takes, client_asks_again, clients_dismissed, server_operates, tell-case}
+use Rattle.jn_system_reports.proofs.Telling.OpSteps.{Serves, still-serves, moved-by, op-serves}
 use Rattle.jn_system_reports.proofs.Telling.Clients.{no-client-talks, dismiss-talks}
 use Rattle.jn_system_reports.proofs.Telling.ClientTells.{tell-talks, again-talks}
 use Rattle.jn_system_reports.proofs.Telling.ClientTakes.{take-talks}
@@ -93,11 +91,11 @@ module _ (events : List Event) (files : AllFiles) (epochs : ServerNo → ℕ) (b
       kept = λ T e. s.serves.told.ops events T;
     }
 
-    quiet-on : (r' : World) → MovesTo r' w → IsQuiet r r' → FactsAfter r' → Goes events r.lines r' w
-    quiet-on r' m q f = serves-on r' (still-serves r r' w m (of-quiet r r' w (run_atoms m.atoms w) q)) f
+    -- a client's step, after which what is ended was told nothing more
+    abbrev TalksOn : World → Machine → Type 0
+    TalksOn r' v = Talk events r' v × ((T : Tid) → v.ended T ≡ true → ops_in events T None r'.lines ≡ ops_in events T None r.lines)
 
-    -- a client's step
-    client-on : (r' : World) → MovesTo r' w → SameServers r r' → FactsAfter r' → ((v : Machine) → Mirrors r v → Facts r v → Invariant v → Talk events r v → Talk events r' v × ((T : Tid) → v.ended T ≡ true → ops_in events T None r'.lines ≡ ops_in events T None r.lines)) → Goes events r.lines r' w
+    client-on : (r' : World) → MovesTo r' w → SameServers r r' → FactsAfter r' → ((v : Machine) → Mirrors r v → Facts r v → Invariant v → Talk events r v → TalksOn r' v) → Goes events r.lines r' w
     client-on r' m same f on = record {
       atoms = m.atoms;
       may = m.may;
@@ -126,25 +124,9 @@ module _ (events : List Event) (files : AllFiles) (epochs : ServerNo → ℕ) (b
           addressed = mirrors.addressed;
         }
 
-        now : Talk events r' (run_atoms m.atoms w) × ((T : Tid) → (run_atoms m.atoms w).ended T ≡ true → ops_in events T None r'.lines ≡ ops_in events T None r.lines)
+        now : TalksOn r' (run_atoms m.atoms w)
         now = on v back (still-facts r w v mirrors facts inv m.ended (begun-on m.atoms m.may) r refl refl facts.tables) (run_kept m.atoms w m.may inv)
             (serving-talks r r w v (moves-so r m.atoms m.may back) events (of-quiet r r w v (nothing-quiet r locks)) m.ended talk)
-
-    -- ---- a message
-
-    to-server : (k : ℕ) (room : Room) (stop : Option (Pick → ℕ)) (s : ServerNo) (message : Message) → slice_get r.sent k ≡ Some (Server s, message) → MovesTo (at_memory s k room stop message (r.memory s) r) w → Goes events r.lines (at_memory s k room stop message (r.memory s) r) w
-    to-server k room stop s (messages.Op d request W number op) e m = serves-on _ (op-steps r w mirrors locks inv grow told s k room stop d request W number op (r.memory s) refl (locks s) e
-        (holds-of IsAddressed r.sent k (Server s, messages.Op d request W number op) mirrors.addressed e) (holds-of (IsDrawn r) r.sent k (Server s, messages.Op d request W number op) talk.drawn e) m)
-        (λ v ended g. message-facts r w v mirrors facts inv ended g s k room stop (messages.Op d request W number op) (r.memory s) refl (locks s))
-    to-server k room stop s message e m = quiet-on _ m (at-memory-quiet r locks s k room stop message (r.memory s) refl (locks s) refl) (λ v ended g. message-facts r w v mirrors facts inv ended g s k room stop message (r.memory s) refl (locks s))
-
-    hands-on : (k : ℕ) (room : Room) (stop : Option (Pick → ℕ)) (o : Option Sent) → slice_get r.sent k ≡ o → MovesTo (handed k room stop o r) w → Goes events r.lines (handed k room stop o r) w
-    hands-on k room stop None e m = quiet-on r m (nothing-quiet r locks) (λ v ended g. still-facts r w v mirrors facts inv ended g r refl refl facts.tables)
-    hands-on k room stop (Some (Client c, message)) e m = let said = holds-of (IsTrue w) r.sent k (Client c, message) mirrors.says e in
-        client-on _ m (took-same w c k (take_row (r.clients c) message).0 (take_row (r.clients c) message).1 r (takes w (r.clients c) (mirrors.clients c) message said))
-        (λ v ended g. taken-facts r w v mirrors facts ended g inv c k message e)
-        (λ v h f i t. take-talks events r v h f t c k message e (holds-of (IsTrue v) r.sent k (Client c, message) h.says e))
-    hands-on k room stop (Some (Server s, message)) e m = to-server k room stop s message e m
 
     -- ---- an End
 
@@ -169,38 +151,24 @@ module _ (events : List Event) (files : AllFiles) (epochs : ServerNo → ℕ) (b
 
     -- ---- every step
 
-    tells-on : (c : ClientNo) (command : Command) → event_at events r.event ≡ Some (CommandOf c command) → MovesTo (tell c command r) w → Goes events r.lines (tell c command r) w
-    tells-on c command e m = client-on _ m (commanded-same c (command_row (r.clients c) r.event command) r) (λ v ended g. tell-facts r w v mirrors facts ended g inv c command) (λ v h f i t. (tell-talks events r v h f i t c command e, λ T g. command-keeps events T c command (command_row (r.clients c) r.event command) r (commands (r.clients c) r.event command)))
+    by-case : (step : Step) (now : World) → TellCase r step now → MovesTo now w → FactsAfter now → TellsAs events step r → Goes events r.lines now w
+    by-case _ _ (is_quiet step now q) m f e = serves-on now (still-serves r now w m (of-quiet r now w (run_atoms m.atoms w) q)) f
+    by-case _ _ (client_is_told c command row is) m f e = client-on _ m (commanded-same c row r) f
+        (λ v h g i t. (subst (λ x. Talk events (commanded c x r) v) is (tell-talks events r v h g i t c command e), λ T k. command-keeps events T c command row r (subst (Commands r.event command) is (commands (r.clients c) r.event command))))
+    by-case _ _ (client_takes step c k message row sent is) m f e = client-on _ m (took-same w c k row.0 row.1 r (subst (λ x. Takes w x.0 x.1) is (takes w (r.clients c) (mirrors.clients c) message (holds-of (IsTrue w) r.sent k (Client c, message) mirrors.says sent)))) f
+        (λ v h g i t. subst (λ x. TalksOn (taken_by c k x r) v) is (take-talks events r v h g t c k message sent (holds-of (IsTrue v) r.sent k (Client c, message) h.says sent)))
+    by-case _ _ (client_asks_again c) m f e = client-on _ m (record { memory = refl; found = refl; commits = refl }) f (λ v h g i t. (again-talks events r v h g i t c, λ T k. refl))
+    by-case _ _ clients_dismissed m f e = client-on _ m (record { memory = refl; found = refl; commits = refl }) f (λ v h g i t. (dismiss-talks events r v t, λ T k. refl))
+    by-case _ _ (server_operates step s m k d request W number op e is) moves f _ = serves-on _ (op-serves r w mirrors locks inv grow told s m e (subst (λ o. ServerFact s o (r.found s)) e (locks s)) k d request W number op is
+        (holds-of IsAddressed r.sent k (Server s, messages.Op d request W number op) mirrors.addressed is) (holds-of (IsDrawn r) r.sent k (Server s, messages.Op d request W number op) talk.drawn is) (work_at W m.worker) refl moves) f
 
-    next-quiet : IsQuiet r (after NextEvent r)
-    next-quiet = let q = nothing-quiet r locks in record { clients = refl; more = []; sent = sym (append-nil r.sent); silent = tt; told = told-same r.lines; same = q.same; new = q.new; found = q.found; quiet = inl refl }
-
-    again-same : (c : ClientNo) → SameServers r (again c r)
-    again-same c = record { memory = refl; found = refl; commits = refl }
-
-    dismiss-same : SameServers r (dismiss r)
-    dismiss-same = record { memory = refl; found = refl; commits = refl }
-
-    moves-of : (step : Step) → IsStep step r → is_shown step ≡ true → MovesTo (after step r) w
-    moves-of step i shown = step-moves files epochs before r may mirrors locks step i shown
+    shown : (step : Step) → IsStep step r → is_shown step ≡ true → TellsAs events step r → Goes events r.lines (after step r) w
+    shown step i s e = by-case step (after step r) (tell-case r locks step) (step-moves files epochs before r may mirrors locks step i s) (λ v ended g. step-facts r w v mirrors facts inv ended g locks step) e
 
     pub goes-on : (step : Step) → IsStep step r → TellsAs events step r → Goes events r.lines (after step r) w
-    goes-on NextEvent i e = quiet-on _ (moves-of NextEvent i refl) next-quiet (λ v ended g. still-facts r w v mirrors facts inv ended g _ refl refl facts.tables)
     goes-on (Tell c End) i e = end-on c (r.clients c).outstanding (r.clients c).transaction refl refl (tell-talks events r w mirrors facts inv talk c End e)
-    goes-on (Tell c (Begin s)) i e = tells-on c (Begin s) e (moves-of (Tell c (Begin s)) i refl)
-    goes-on (Tell c (Open s)) i e = tells-on c (Open s) e (moves-of (Tell c (Open s)) i refl)
-    goes-on (Tell c (Do s op)) i e = tells-on c (Do s op) e (moves-of (Tell c (Do s op)) i refl)
-    goes-on (Tell c Abort) i e = tells-on c Abort e (moves-of (Tell c Abort) i refl)
-    goes-on (Again c) i e = client-on _ (moves-of (Again c) i refl) (again-same c) (λ v ended g. again-facts r w v mirrors facts ended g inv c) (λ v h f i t. (again-talks events r v h f i t c, λ T g. refl))
-    goes-on (Deliver k room) i e = hands-on k room None (slice_get r.sent k) refl (moves-of (Deliver k room) i refl)
-    goes-on (StopDelivery k room made) i e = hands-on k room (Some made) (slice_get r.sent k) refl (moves-of (StopDelivery k room made) i refl)
-    goes-on (Work s room) i e = quiet-on _ (moves-of (Work s room) i refl) (work-quiet r locks s room None (r.memory s) refl (locks s)) (λ v ended g. work-facts r w v mirrors facts inv ended g s room None (r.memory s) refl)
-    goes-on (StopWork s room made) i e = quiet-on _ (moves-of (StopWork s room made) i refl) (work-quiet r locks s room (Some made) (r.memory s) refl (locks s)) (λ v ended g. work-facts r w v mirrors facts inv ended g s room (Some made) (r.memory s) refl)
-    goes-on (Nudge s) i e = quiet-on _ (moves-of (Nudge s) i refl) (nudge-quiet r locks s (r.memory s) refl) (λ v ended g. nudge-facts r w v mirrors facts inv ended g s (r.memory s) refl)
-    goes-on (Timeout s T) i e = quiet-on _ (moves-of (Timeout s T) i refl) (timeout-quiet r locks s T (r.memory s) refl (locks s)) (λ v ended g. timeout-facts r w v mirrors facts inv ended g s T (r.memory s) refl)
-    goes-on (Crash s) i e = quiet-on _ (moves-of (Crash s) i refl) (crash-quiet r locks s (r.memory s) refl) (λ v ended g. crash-facts r w v mirrors facts inv ended g s (r.memory s))
-    goes-on (Narrow s f) i e = quiet-on _ (moves-of (Narrow s f) i refl) (narrow-quiet r locks s f (r.memory s) refl) (λ v ended g. narrow-facts r w v mirrors facts inv ended g s f (r.memory s))
-    goes-on (StopRestart s raised) i e = quiet-on _ (moves-of (StopRestart s raised) i refl) (raise-quiet r locks s raised (r.memory s) refl) (λ v ended g. raise-facts r w v mirrors facts inv ended g s raised (r.memory s))
-    goes-on (Restart s pick Ws Ts) i e = quiet-on _ (moves-of (Restart s pick Ws Ts) i refl) (up-quiet r locks s pick Ws Ts (r.memory s) refl) (λ v ended g. restart-facts r w v mirrors facts inv ended g s pick Ws Ts (r.memory s))
-    goes-on Dismiss i e = client-on _ (moves-of Dismiss i refl) dismiss-same (λ v ended g. dismiss-facts r w v mirrors facts ended g inv) (λ v h f i t. (dismiss-talks events r v t, λ T g. refl))
-    goes-on (CloseClients s) i e = quiet-on _ (moves-of (CloseClients s) i refl) (close-quiet r locks s (r.memory s) refl) (λ v ended g. close-facts r w v mirrors facts inv ended g s (r.memory s) refl)
+    goes-on (Tell c (Begin s)) i e = shown (Tell c (Begin s)) i refl e
+    goes-on (Tell c (Open s)) i e = shown (Tell c (Open s)) i refl e
+    goes-on (Tell c (Do s op)) i e = shown (Tell c (Do s op)) i refl e
+    goes-on (Tell c Abort) i e = shown (Tell c Abort) i refl e
+    goes-on step i e = shown step i refl e

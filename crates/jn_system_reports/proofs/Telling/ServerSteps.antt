@@ -1,10 +1,12 @@
--- Each step of a server is quiet, but that in which it takes an operation.
-use Rattle.jn_system_reports.proofs.Common.{◌≡◌, ◌≢◌, ◌⊎◌, inl, inr, ℕ, ◌+◌, Bool, true, false, List, [], ◌∷◌, ◌++◌, append-nil, Option, Some, None, refl, sym, ◌∙◌, ap, subst, if◌then◌else◌, take, ServerNo, Tid, WorkId, server_eq, server_tells, Message, Note, Text, Work, Phase, ActiveWork, StableState, Prepared, Pick, Change, stable, made_all, RowOutcome, WorkerTable, work_at, worker_step, timeout_row, restored_worker, with_epoch, some_is, none_some, World, Memory, at_server, commits_in, has_line, storage_of, Room, of_worker, of_step, of_timeout, server_row, server_again, line_of, lines_of, named_now, restored, done, stopped, ends, at_memory, works, work, nudge, timeout, crash, narrow, stop_restart, restart, close_clients, LockFacts, ServerFact, UpFact, IsSoundWork, restored-is, named_by, commits-more, lines-commit, step-none, quiet-line}
+-- Each step is quiet, but a client's, and that in which a server takes an operation.
+use Rattle.jn_system_reports.proofs.Common.{◌≡◌, ◌⊎◌, inl, inr, ℕ, ◌+◌, Bool, true, false, List, [], ◌∷◌, ◌++◌, append-nil, Option, Some, None, refl, sym, ◌∙◌, ap, subst, if◌then◌else◌, take, ServerNo, Tid, WorkId, server_eq, Message, Note, Text, Work, Phase, ActiveWork, StableState, Prepared, Pick, Change, stable, made_all, RowOutcome, WorkerTable, work_at, worker_step, timeout_row, restored_worker, with_epoch, some_is, none_some, World, Memory, at_server, commits_in, has_line, storage_of, of_worker, of_step, of_timeout, server_again, line_of, lines_of, named_now, restored, done, LockFacts, ServerFact, UpFact, IsSoundWork, restored-is, named_by, commits-more, lines-commit, step-none, quiet-line, slice_get, Client, Server, Files, Tickets, ClientNo, Op, Answer, Wanted, Active, Broken, Stored, op_row, granted_row, repeated, op_phase, answer_to, change, list_change, wants_of, is_fit, refusal_of, nat_eq, Step, Command, Commanded, command_row, Tell, Again, Dismiss, commanded, taken_by, again, dismiss, ClientTable, Taken, take_row, Sent, after, at_client, Sends, Refuses, OperationNo, RequestNo, restart_with, one-server, one-found, ClientRow, by_command, by_ignoring, by_answering, by_telling, ServerRow, of_message, of_work, of_closing, FoundThen, by_narrowing, by_raising, Quiet, event_begins, none_changes, is_refused, client_repeats, server_repeats, is_lost, StepCase, client_row, row_done, row_stopped, gone_late, gone_down, come_up, found_anew, dismissed, quietly, step-case}
+use Rattle.jn_msgs.specs.declared.message.Message.TheVariants as messages
 use Rattle.jn_msgs.specs.declared.message.Note.TheVariants as notes
 use Rattle.jn_report.specs.declared.line.Text.TheVariants as says
-use Rattle.jn_system_reports.proofs.Telling.Acting.{acting, acting_at, acting_of, its-work, DidTheSame, same-did, none-new, Adds, FoundBack, all-back, adds-take, step-stays, timeout-stays}
-use Rattle.jn_system_reports.proofs.Telling.Rows.{ServerStays, is_op, row-stays, close-stays, of-worker, server-again}
-use Rattle.jn_system_reports.proofs.Telling.Quiet.{AreDumb, same-told, told-same, IsQuiet}
+use Rattle.jn_rows.specs.declared.client.Taken.TheVariants as taken
+use Rattle.jn_system_reports.proofs.Telling.Acting.{acting, acting_at, acting_of, its-work, DidTheSame, same-did, none-new, Adds, FoundBack, all-back, adds-take, step-stays, timeout-stays, AreSilent}
+use Rattle.jn_system_reports.proofs.Telling.Rows.{ServerStays, row-stays, close-stays, of-worker, server-again}
+use Rattle.jn_system_reports.proofs.Telling.Quiet.{AreDumb, same-told, told-same, IsQuiet, SameTold, HaveNoOp}
 
 -- ---- lines
 
@@ -38,202 +40,170 @@ MemoryGoes o now = ((W : WorkId) (a b : ActiveWork) → acting_at o W ≡ Some a
 memory-gone : (o : Option Memory) → MemoryGoes o None
 memory-gone o = (λ W a b e f. absurd (none_some b f), λ W b e f. absurd (none_some b f))
 
+-- ---- an operation's row
+
+-- it changes nothing that is stable, and sends no operation
+module _ (t : WorkerTable) (files : Files) (k : Tickets) (d : ClientNo) (request : RequestNo) (number : OperationNo) (op : Op) where
+  abbrev IsPlain : RowOutcome WorkerTable → Type 0
+  IsPlain row = Adds t row.changes × HaveNoOp row.messages
+
+  either : (b : Bool) (p q : RowOutcome WorkerTable) → IsPlain p → IsPlain q → IsPlain (if b then p else q)
+  either true p q h l = h
+  either false p q h l = l
+
+  pub op-plain : (W : WorkId) (o : Option Work) → IsPlain (op_row t files k d request W number op o)
+  op-plain W None = (tt, (tt, tt))
+  op-plain W (Some x) = by x.phase
+    where
+      granted : (a : ActiveWork) (answer : Answer) (wants : List Wanted) (o : Option Answer) → IsPlain (granted_row t k d request x a op answer wants o)
+      granted a answer wants None = (tt, (tt, tt))
+      granted a answer wants (Some refusal) = (tt, (tt, tt))
+
+      again : (o : Option Answer) → IsPlain (repeated t k d request o)
+      again (Some answer) = (tt, (tt, tt))
+      again None = (tt, tt)
+
+      by : (p : Phase) → IsPlain (op_phase t files k d request x number op p)
+      by (Active a) = let answer = answer_to op (change (list_change a.list) files) in
+          either (nat_eq number.0 (a.last + 1)) _ _ (granted a answer (wants_of op (is_fit answer)) (refusal_of t x.name a op answer (wants_of op (is_fit answer)))) (either (nat_eq number.0 a.last) _ _ (again a.kept) (tt, tt))
+      by (Broken u T) = (tt, (tt, tt))
+      by (Stored p) = (tt, (tt, tt))
+
+-- a server's row stays, or it is an operation's
+data RowCase (r : World) (s : ServerNo) (m : Memory) : Option ℕ → RowOutcome Memory → Type 0 where
+  row_stays : (k : Option ℕ) (row : RowOutcome Memory) → ServerStays m row → RowCase r s m k row
+  row_operates : (k : ℕ) (d : ClientNo) (request : RequestNo) (W : WorkId) (number : OperationNo) (op : Op) → slice_get r.sent k ≡ Some (Server s, messages.Op d request W number op)
+      → RowCase r s m (Some k) (of_worker m (op_row m.worker (stable (r.found s)).files m.tickets d request W number op (work_at W m.worker)))
+
+-- each step is quiet, but a client's, and that in which a server takes an operation
+pub data TellCase (r : World) : Step → World → Type 0 where
+  is_quiet : (step : Step) (now : World) → IsQuiet r now → TellCase r step now
+  client_is_told : (c : ClientNo) (command : Command) (row : Commanded) → command_row (r.clients c) r.event command ≡ row → TellCase r (Tell c command) (commanded c row r)
+  client_takes : (step : Step) (c : ClientNo) (k : ℕ) (message : Message) (row : ClientTable × Taken) → slice_get r.sent k ≡ Some (Client c, message) → take_row (r.clients c) message ≡ row → TellCase r step (taken_by c k row r)
+  client_asks_again : (c : ClientNo) → TellCase r (Again c) (again c r)
+  clients_dismissed : TellCase r Dismiss (dismiss r)
+  server_operates : (step : Step) (s : ServerNo) (m : Memory) (k : ℕ) (d : ClientNo) (request : RequestNo) (W : WorkId) (number : OperationNo) (op : Op) → r.memory s ≡ Some m → slice_get r.sent k ≡ Some (Server s, messages.Op d request W number op)
+      → TellCase r step (done s (Some k) (of_worker m (op_row m.worker (stable (r.found s)).files m.tickets d request W number op (work_at W m.worker))) r)
+
 module _ (r : World) (locks : LockFacts r) where
   -- a work that takes operations isn't stored
-  pub not-stored : (W : WorkId) (a : ActiveWork) (c : Pick) (p : Prepared) → acting r W ≡ Some a → (r.found W.server c).works W ≡ Some p → ⊥
-  not-stored W a c p e f = by (r.memory W.server) (locks W.server) e
+  pub not-stored : (q : ServerNo) (W : WorkId) (a : ActiveWork) (c : Pick) (p : Prepared) → acting_at (r.memory q) W ≡ Some a → (r.found q c).works W ≡ Some p → ⊥
+  not-stored q W a c p e f = by (r.memory q) (locks q) e
     where
-      by : (o : Option Memory) → ServerFact W.server o (r.found W.server) → acting_at o W ≡ Some a → ⊥
+      by : (o : Option Memory) → ServerFact q o (r.found q) → acting_at o W ≡ Some a → ⊥
       by None fact k = none_some a k
       by (Some m) fact k = let w = its-work (work_at W m.worker) a k in
-          none_some p (sym (subst (λ (z : Phase). IsSoundWork ((stable (r.found W.server)).works W) w.0.tid z) w.1.1 (fact.table.sound W w.0 w.1.0)).not_stored ∙ sym (ap (λ x. x.works W) (fact.same c)) ∙ f)
+          none_some p (sym (subst (λ (z : Phase). IsSoundWork ((stable (r.found q)).works W) w.0.tid z) w.1.1 (fact.table.sound W w.0 w.1.0)).not_stored ∙ sym (ap (λ x. x.works W) (fact.same c)) ∙ f)
 
-  module _ (s : ServerNo) (o now : Option Memory) (is : r.memory s ≡ o) (goes : MemoryGoes o now) where
-    abbrev Tells : ServerNo → Type 0
-    Tells q = ((server_eq s q ≡ true) × (s ≡ q)) ⊎ ((server_eq s q ≡ false) × (s ≢ q))
+  -- what is found of a work that takes operations did what it did
+  abbrev pub KeepsFound : (ServerNo → Pick → StableState) → Type 0
+  KeepsFound found = (W : WorkId) (c : Pick) (p : Prepared) (a : ActiveWork) → acting r W ≡ Some a → (found W.server c).works W ≡ Some p → a.list ≡ p.list
 
-    here : (W : WorkId) → s ≡ W.server → acting r W ≡ acting_at o W
-    here W e = ap (λ (z : ServerNo). acting_at (r.memory z) W) (sym e) ∙ ap (λ z. acting_at z W) is
+  found-same : KeepsFound r.found
+  found-same W c p a e f = absurd (not-stored W.server W a c p e f)
 
-    same-at : (W : WorkId) (a b : ActiveWork) → acting r W ≡ Some a → acting_at (at_server r.memory s now W.server) W ≡ Some b → DidTheSame a b
-    same-at W a b e f = by (server_tells s W.server)
-      where
-        by : Tells W.server → DidTheSame a b
-        by (inl t) = goes.0 W a b (sym (here W t.1) ∙ e) (subst (λ (z : Bool). acting_at (if z then now else r.memory W.server) W ≡ Some b) t.0 f)
-        by (inr t) = same-did (acting r W) a b e (subst (λ (z : Bool). acting_at (if z then now else r.memory W.server) W ≡ Some b) t.0 f)
+  -- what is found of one server changes
+  pub found-at : (s : ServerNo) (now : Pick → StableState) → ((W : WorkId) (c : Pick) (p : Prepared) (a : ActiveWork) → acting_at (r.memory s) W ≡ Some a → (now c).works W ≡ Some p → a.list ≡ p.list)
+      → KeepsFound (λ q c. if server_eq s q then now c else r.found q c)
+  found-at s now here W c p a = one-found (λ q c x. acting_at (r.memory q) W ≡ Some a → x.works W ≡ Some p → a.list ≡ p.list) r.found s now (λ c. here W c p a) (λ q other c e f. absurd (not-stored q W a c p e f)) W.server c
 
-    new-at : (W : WorkId) (b : ActiveWork) → acting r W ≡ None → acting_at (at_server r.memory s now W.server) W ≡ Some b → (b.last ≡ 0) × (b.list ≡ [])
-    new-at W b e f = by (server_tells s W.server)
-      where
-        by : Tells W.server → (b.last ≡ 0) × (b.list ≡ [])
-        by (inl t) = goes.1 W b (sym (here W t.1) ∙ e) (subst (λ (z : Bool). acting_at (if z then now else r.memory W.server) W ≡ Some b) t.0 f)
-        by (inr t) = none-new (acting r W) b e (subst (λ (z : Bool). acting_at (if z then now else r.memory W.server) W ≡ Some b) t.0 f)
-
-    unchanged-at : ((W : WorkId) → acting_at now W ≡ acting_at o W) → (W : WorkId) → acting_at (at_server r.memory s now W.server) W ≡ acting r W
-    unchanged-at same W = by (server_tells s W.server)
-      where
-        by : Tells W.server → acting_at (at_server r.memory s now W.server) W ≡ acting r W
-        by (inl t) = ap (λ (z : Bool). acting_at (if z then now else r.memory W.server) W) t.0 ∙ same W ∙ sym (here W t.1)
-        by (inr t) = ap (λ (z : Bool). acting_at (if z then now else r.memory W.server) W) t.0
-
-  -- nothing is found that wasn't
-  found-same : (W : WorkId) (c : Pick) (p : Prepared) (a : ActiveWork) → acting r W ≡ Some a → (r.found W.server c).works W ≡ Some p → a.list ≡ p.list
-  found-same W c p a e f = absurd (not-stored W a c p e f)
-
-  -- only lines are told
-  pub lines-quiet : (texts : List Text) → AreDumb texts → IsQuiet r (record r { lines = r.lines ++ texts })
-  lines-quiet texts dumb = record {
+  -- no memory changes
+  still-quiet : (event : ℕ) (found : ServerNo → Pick → StableState) (sent : List Sent) (lines : List Text) → KeepsFound found → (more : List Sent) → sent ≡ r.sent ++ more → AreSilent more → SameTold r.lines lines
+      → IsQuiet r (record r { event = event; found = found; sent = sent; lines = lines })
+  still-quiet event found sent lines keeps more adds silent told = record {
     clients = refl;
-    more = [];
-    sent = sym (append-nil r.sent);
-    silent = tt;
-    told = same-told r.lines texts dumb;
+    more = more;
+    sent = adds;
+    silent = silent;
+    told = told;
     same = λ W a b e f. same-did (acting r W) a b e f;
     new = λ W b e f. none-new (acting r W) b e f;
-    found = found-same;
+    found = keeps;
     quiet = inr (λ W. refl);
   }
 
   pub nothing-quiet : IsQuiet r r
-  nothing-quiet = record {
-    clients = refl;
-    more = [];
-    sent = sym (append-nil r.sent);
-    silent = tt;
-    told = told-same r.lines;
-    same = λ W a b e f. same-did (acting r W) a b e f;
-    new = λ W b e f. none-new (acting r W) b e f;
-    found = found-same;
-    quiet = inr (λ W. refl);
-  }
+  nothing-quiet = still-quiet r.event r.found r.sent r.lines found-same [] (sym (append-nil r.sent)) tt (told-same r.lines)
 
-  -- a server that is up does a row, or stops within it
+  -- one memory changes
+  module _ (s : ServerNo) (o now : Option Memory) (is : r.memory s ≡ o) (goes : MemoryGoes o now) where
+    here : (W : WorkId) → acting_at (r.memory s) W ≡ acting_at o W
+    here W = ap (λ z. acting_at z W) is
+
+    unchanged : ((W : WorkId) → acting_at now W ≡ acting_at o W) → (W : WorkId) → acting_at (at_server r.memory s now W.server) W ≡ acting r W
+    unchanged same W = one-server (λ q z. acting_at z W ≡ acting_at (r.memory q) W) r.memory s now (same W ∙ sym (here W)) (λ q other. refl) W.server
+
+    memory-quiet : (found : ServerNo → Pick → StableState) (sent : List Sent) (lines : List Text) → KeepsFound found → (more : List Sent) → sent ≡ r.sent ++ more → AreSilent more → SameTold r.lines lines
+        → (commits_in lines ≡ commits_in r.lines) ⊎ ((W : WorkId) → acting_at now W ≡ acting_at o W) → IsQuiet r (record r { memory = at_server r.memory s now; found = found; sent = sent; lines = lines })
+    memory-quiet found sent lines keeps more adds silent told quiet = record {
+      clients = refl;
+      more = more;
+      sent = adds;
+      silent = silent;
+      told = told;
+      same = λ W a b. one-server (λ q z. acting_at (r.memory q) W ≡ Some a → acting_at z W ≡ Some b → DidTheSame a b) r.memory s now (λ e f. goes.0 W a b (sym (here W) ∙ e) f) (λ q other e f. same-did (acting_at (r.memory q) W) a b e f) W.server;
+      new = λ W b. one-server (λ q z. acting_at (r.memory q) W ≡ None → acting_at z W ≡ Some b → (b.last ≡ 0) × (b.list ≡ [])) r.memory s now (λ e f. goes.1 W b (sym (here W) ∙ e) f) (λ q other e f. none-new (acting_at (r.memory q) W) b e f) W.server;
+      found = keeps;
+      quiet = by quiet;
+    }
+      where
+        by : (commits_in lines ≡ commits_in r.lines) ⊎ ((W : WorkId) → acting_at now W ≡ acting_at o W) → (commits_in lines ≡ commits_in r.lines) ⊎ ((W : WorkId) → acting_at (at_server r.memory s now W.server) W ≡ acting r W)
+        by (inl h) = inl h
+        by (inr h) = inr (unchanged h)
+
+  -- ---- a server that is up does a row, or stops within it
+
   module _ (s : ServerNo) (m : Memory) (is : r.memory s ≡ Some m) where
     -- what is found after some changes
-    changed-found : (changes : Pick → List Change) → ((c : Pick) → Adds m.worker (changes c)) → (W : WorkId) (c : Pick) (p : Prepared) (a : ActiveWork) → acting r W ≡ Some a
-        → (if server_eq s W.server then made_all (changes c) (r.found s c) else r.found W.server c).works W ≡ Some p → a.list ≡ p.list
-    changed-found changes adds W c p a e f = by (server_tells s W.server)
+    found-made : (changes : Pick → List Change) → ((c : Pick) → Adds m.worker (changes c)) → KeepsFound (λ q c. if server_eq s q then made_all (changes c) (r.found s c) else r.found q c)
+    found-made changes adds = found-at s (λ c. made_all (changes c) (r.found s c)) (λ W c p a e f. at W c p a e (all-back m.worker (changes c) (r.found s c) W p (adds c) f))
       where
-        by : ((server_eq s W.server ≡ true) × (s ≡ W.server)) ⊎ ((server_eq s W.server ≡ false) × (s ≢ W.server)) → a.list ≡ p.list
-        by (inr t) = found-same W c p a e (subst (λ (z : Bool). (if z then made_all (changes c) (r.found s c) else r.found W.server c).works W ≡ Some p) t.0 f)
-        by (inl t) = at (all-back m.worker (changes c) (r.found s c) W p (adds c) (subst (λ (z : Bool). (if z then made_all (changes c) (r.found s c) else r.found W.server c).works W ≡ Some p) t.0 f))
-          where
-            at : FoundBack (r.found s c) m.worker W p → a.list ≡ p.list
-            at (inl k) = absurd (not-stored W a c k.0 e (subst (λ (z : ServerNo). (r.found z c).works W ≡ Some k.0) t.1 k.1.0))
-            at (inr k) = ap (λ (z : ActiveWork). z.list) (some_is a k.0 (sym e ∙ here s (Some m) (Some m) is (λ V x y g h. same-did (acting_of (work_at V m.worker)) x y g h, λ V y g h. none-new (acting_of (work_at V m.worker)) y g h) W t.1 ∙ k.1.0)) ∙ k.1.1
+        at : (W : WorkId) (c : Pick) (p : Prepared) (a : ActiveWork) → acting_at (r.memory s) W ≡ Some a → FoundBack (r.found s c) m.worker W p → a.list ≡ p.list
+        at W c p a e (inl k) = absurd (not-stored s W a c k.0 e k.1.0)
+        at W c p a e (inr k) = ap (λ (z : ActiveWork). z.list) (some_is a k.0 (sym e ∙ ap (λ z. acting_at z W) is ∙ k.1.0)) ∙ k.1.1
 
     pub done-quiet : (k : Option ℕ) (row : RowOutcome Memory) → ServerStays m row → IsQuiet r (done s k row r)
-    done-quiet k row h = record {
-      clients = refl;
-      more = row.messages;
-      sent = refl;
-      silent = h.silent;
-      told = same-told r.lines (lines_of s k row.notes) (lines-dumb s k row.notes);
-      same = same-at s (Some m) (Some row.table) is h.table;
-      new = new-at s (Some m) (Some row.table) is h.table;
-      found = changed-found (λ c. row.changes) (λ c. h.adds);
-      quiet = by h.quiet;
-    }
+    done-quiet k row h = memory-quiet s (Some m) (Some row.table) is h.table _ _ _ (found-made (λ c. row.changes) (λ c. h.adds)) row.messages refl h.silent (same-told r.lines (lines_of s k row.notes) (lines-dumb s k row.notes)) (by h.quiet)
       where
-        by : (named_by row.notes ≡ []) ⊎ (row.table.worker ≡ m.worker) → (commits_in (r.lines ++ lines_of s k row.notes) ≡ commits_in r.lines) ⊎ ((W : WorkId) → acting_at (at_server r.memory s (Some row.table) W.server) W ≡ acting r W)
+        by : (named_by row.notes ≡ []) ⊎ (row.table.worker ≡ m.worker) → (commits_in (r.lines ++ lines_of s k row.notes) ≡ commits_in r.lines) ⊎ ((W : WorkId) → acting_at (Some row.table) W ≡ acting_at (Some m) W)
         by (inl none) = inl (commits-more r.lines (lines_of s k row.notes) ∙ ap (λ z. commits_in r.lines ++ z) (lines-commit s k row.notes ∙ none) ∙ append-nil (commits_in r.lines))
-        by (inr same) = inr (unchanged-at s (Some m) (Some row.table) is h.table (λ W. ap (λ t. acting_of (work_at W t)) same))
+        by (inr same) = inr (λ W. ap (λ t. acting_of (work_at W t)) same)
 
-    pub stopped-quiet : (made : Pick → ℕ) (row : RowOutcome Memory) → Adds m.worker row.changes → IsQuiet r (stopped s made row r)
-    stopped-quiet made row adds = record {
-      clients = refl;
-      more = [];
-      sent = sym (append-nil r.sent);
-      silent = tt;
-      told = same-told r.lines (says.Stopped s ∷ []) (tt, tt);
-      same = same-at s (Some m) None is (memory-gone (Some m));
-      new = new-at s (Some m) None is (memory-gone (Some m));
-      found = changed-found (λ c. take (made c) row.changes) (λ c. adds-take m.worker (made c) row.changes adds);
-      quiet = inl (quiet-line r.lines (says.Stopped s) refl);
-    }
+    -- it goes down, perhaps with some changes made
+    down-quiet : (found : ServerNo → Pick → StableState) → KeepsFound found → (line : Text) → AreDumb (line ∷ []) → commits_in (r.lines ++ line ∷ []) ≡ commits_in r.lines → IsQuiet r (record r { memory = at_server r.memory s None; found = found; lines = r.lines ++ line ∷ [] })
+    down-quiet found keeps line dumb same = memory-quiet s (Some m) None is (memory-gone (Some m)) found r.sent _ keeps [] (sym (append-nil r.sent)) tt (same-told r.lines (line ∷ []) dumb) (inl same)
 
-    ends-quiet : (k : Option ℕ) (stop : Option (Pick → ℕ)) (row : RowOutcome Memory) → ServerStays m row → IsQuiet r (ends s k stop row r)
-    ends-quiet k None row h = done-quiet k row h
-    ends-quiet k (Some made) row h = stopped-quiet made row h.adds
-
-    pub message-quiet : (k : ℕ) (room : Room) (stop : Option (Pick → ℕ)) (message : Message) → UpFact s m (r.found s) → is_op message ≡ false → IsQuiet r (ends s (Some k) stop (server_row m (stable (r.found s)) room message) r)
-    message-quiet k room stop message up other = ends-quiet (Some k) stop _ (row-stays m (stable (r.found s)) room message up.table other)
-
-    work-done : (room : Room) (stop : Option (Pick → ℕ)) (o : Option (RowOutcome WorkerTable)) → UpFact s m (r.found s) → worker_step m.worker (storage_of m (stable (r.found s)) room) m.tickets ≡ o → IsQuiet r (works s stop (of_step m o) r)
-    work-done room stop None up e = nothing-quiet
-    work-done room stop (Some row) up e = ends-quiet None stop (of_worker m row)
-        (of-worker m row (step-none m.worker (storage_of m (stable (r.found s)) room) m.tickets row e) (step-stays m.worker m.tickets (stable (r.found s)).works up.table (storage_of m (stable (r.found s)) room) row e))
-
-    pub nudged-quiet : IsQuiet r (record r { sent = r.sent ++ server_again m (stable (r.found s)) })
-    nudged-quiet = record {
-      clients = refl;
-      more = server_again m (stable (r.found s));
-      sent = refl;
-      silent = server-again m (stable (r.found s));
-      told = told-same r.lines;
-      same = λ W a b e f. same-did (acting r W) a b e f;
-      new = λ W b e f. none-new (acting r W) b e f;
-      found = found-same;
-      quiet = inr (λ W. refl);
-    }
-
-    -- only the memory of the server changes
-    pub memory-quiet : (now : Option Memory) (texts : List Text) → MemoryGoes (Some m) now → AreDumb texts → commits_in (r.lines ++ texts) ≡ commits_in r.lines → IsQuiet r (record r { memory = at_server r.memory s now; lines = r.lines ++ texts })
-    memory-quiet now texts goes dumb same = record {
-      clients = refl;
-      more = [];
-      sent = sym (append-nil r.sent);
-      silent = tt;
-      told = same-told r.lines texts dumb;
-      same = same-at s (Some m) now is goes;
-      new = new-at s (Some m) now is goes;
-      found = found-same;
-      quiet = inl same;
-    }
-
-    crash-done : IsQuiet r (crash s (Some m) r)
-    crash-done = memory-quiet None (says.Down s ∷ []) (memory-gone (Some m)) (tt, tt) (quiet-line r.lines (says.Down s) refl)
-
-    timeout-done : (T : Tid) (o : Option WorkerTable) → UpFact s m (r.found s) → timeout_row m.worker T ≡ o → IsQuiet r (record r { memory = at_server r.memory s (Some (of_timeout m o)) })
-    timeout-done T o up e = record {
-      clients = refl;
-      more = [];
-      sent = sym (append-nil r.sent);
-      silent = tt;
-      told = told-same r.lines;
-      same = same-at s (Some m) (Some (of_timeout m o)) is (goes o e);
-      new = new-at s (Some m) (Some (of_timeout m o)) is (goes o e);
-      found = found-same;
-      quiet = inl refl;
-    }
+    late-quiet : (T : Tid) → UpFact s m (r.found s) → (o : Option WorkerTable) → timeout_row m.worker T ≡ o → IsQuiet r (record r { memory = at_server r.memory s (Some (of_timeout m o)) })
+    late-quiet T up o e = memory-quiet s (Some m) (Some (of_timeout m o)) is (goes o e) r.found r.sent r.lines found-same [] (sym (append-nil r.sent)) tt (told-same r.lines) (inl refl)
       where
         goes : (o : Option WorkerTable) → timeout_row m.worker T ≡ o → MemoryGoes (Some m) (Some (of_timeout m o))
         goes None e = (λ W a b e f. same-did (acting_of (work_at W m.worker)) a b e f, λ W b e f. none-new (acting_of (work_at W m.worker)) b e f)
         goes (Some t) e = timeout-stays m.worker m.tickets (stable (r.found s)).works up.table T t e
 
+    row-case : UpFact s m (r.found s) → (stop : Option (Pick → ℕ)) (step : Step) (k : Option ℕ) (row : RowOutcome Memory) → ServerRow r s m stop step k row → RowCase r s m k row
+    row-case up _ _ _ _ (of_message stop k room (messages.Op d request W number op) is) = row_operates k d request W number op is
+    row-case up _ _ _ _ (of_message stop k room message is) = row_stays (Some k) _ (row-stays m (stable (r.found s)) room message up.table refl)
+    row-case up _ _ _ row (of_work stop room _ is) = row_stays None row (by (worker_step m.worker (storage_of m (stable (r.found s)) room) m.tickets) refl is)
+      where
+        by : (o : Option (RowOutcome WorkerTable)) → worker_step m.worker (storage_of m (stable (r.found s)) room) m.tickets ≡ o → of_step m o ≡ Some row → ServerStays m row
+        by None e f = absurd (none_some row f)
+        by (Some x) e f = subst (λ (z : RowOutcome Memory). ServerStays m z) (some_is (of_worker m x) row f)
+            (of-worker m x (step-none m.worker (storage_of m (stable (r.found s)) room) m.tickets x e) (step-stays m.worker m.tickets (stable (r.found s)).works up.table (storage_of m (stable (r.found s)) room) x e))
+    row-case up _ _ _ _ of_closing = row_stays None _ (close-stays m)
+
+    row-adds : (k : Option ℕ) (row : RowOutcome Memory) → RowCase r s m k row → Adds m.worker row.changes
+    row-adds _ _ (row_stays k row h) = h.adds
+    row-adds _ _ (row_operates k d request W number op is) = (op-plain m.worker (stable (r.found s)).files m.tickets d request number op W (work_at W m.worker)).0
+
+    row-tells : (step : Step) (k : Option ℕ) (row : RowOutcome Memory) → RowCase r s m k row → TellCase r step (done s k row r)
+    row-tells step _ _ (row_stays k row h) = is_quiet step _ (done-quiet k row h)
+    row-tells step _ _ (row_operates k d request W number op sent) = server_operates step s m k d request W number op is sent
+
   -- ---- a server that is down
 
   module _ (s : ServerNo) (is : r.memory s ≡ None) where
-    elsewhere : (W : WorkId) (a : ActiveWork) → acting r W ≡ Some a → server_eq s W.server ≡ false
-    elsewhere W a e = by (server_tells s W.server)
-      where
-        by : ((server_eq s W.server ≡ true) × (s ≡ W.server)) ⊎ ((server_eq s W.server ≡ false) × (s ≢ W.server)) → server_eq s W.server ≡ false
-        by (inl t) = absurd (none_some a (sym (ap (λ z. acting_at z W) (ap r.memory (sym t.1) ∙ is)) ∙ e))
-        by (inr t) = t.0
-
-    -- what is found there changes
-    pub down-quiet : (f : Pick → StableState) (texts : List Text) → AreDumb texts → IsQuiet r (record r { found = λ q c. if server_eq s q then f c else r.found q c; lines = r.lines ++ texts })
-    down-quiet f texts dumb = record {
-      clients = refl;
-      more = [];
-      sent = sym (append-nil r.sent);
-      silent = tt;
-      told = same-told r.lines texts dumb;
-      same = λ W a b e g. same-did (acting r W) a b e g;
-      new = λ W b e g. none-new (acting r W) b e g;
-      found = λ W c p a e g. found-same W c p a e (subst (λ (z : Bool). (if z then f c else r.found W.server c).works W ≡ Some p) (elsewhere W a e) g);
-      quiet = inr (λ W. refl);
-    }
+    found-down : (f : Pick → StableState) → KeepsFound (λ q c. if server_eq s q then f c else r.found q c)
+    found-down f = found-at s f (λ W c p a e g. absurd (none_some a (sym (ap (λ z. acting_at z W) is) ∙ e)))
 
     restarted-none : (x : StableState) (Ws : List WorkId) (W : WorkId) → acting_of (work_at W (restored_worker x Ws)) ≡ None
     restarted-none x Ws W = by (work_at W (restored_worker x Ws)) refl
@@ -242,62 +212,44 @@ module _ (r : World) (locks : LockFacts r) where
         by None e = refl
         by (Some v) e = let k = restored-is x Ws W v e in ap (λ (z : Work). acting_of (Some z)) k.1.1
 
-    pub restart-quiet : (pick : Pick) (Ws : List WorkId) (Ts : List Tid) → IsQuiet r (restart s pick Ws Ts None r)
-    restart-quiet pick Ws Ts = record {
-      clients = refl;
-      more = [];
-      sent = sym (append-nil r.sent);
-      silent = tt;
-      told = same-told r.lines (says.Up s (x.epoch + 1) ∷ named_now Ts r.lines) (tt, named-dumb Ts r.lines);
-      same = same-at s None now is goes;
-      new = new-at s None now is goes;
-      found = λ W c p a e g. found-same W c p a e (subst (λ (z : Bool). (if z then with_epoch x else r.found W.server c).works W ≡ Some p) (elsewhere W a e) g);
-      quiet = inr (unchanged-at s None now is goes (λ W. restarted-none x Ws W));
-    }
-      where
-        x : StableState
-        x = r.found s pick
+    restart-quiet : (x : StableState) (Ws : List WorkId) (Ts : List Tid) → IsQuiet r (restart_with s x Ws Ts r)
+    restart-quiet x Ws Ts = memory-quiet s None (Some (restored s x Ws Ts)) is (λ W a b e f. absurd (none_some a e), λ W b e f. absurd (none_some b (sym (restarted-none x Ws W) ∙ f))) _ r.sent _ (found-down (λ c. with_epoch x)) [] (sym (append-nil r.sent)) tt
+        (same-told r.lines (says.Up s (x.epoch + 1) ∷ named_now Ts r.lines) (tt, named-dumb Ts r.lines)) (inr (restarted-none x Ws))
 
-        now : Option Memory
-        now = Some (restored s x Ws Ts)
+  -- ---- every step
 
-        goes : MemoryGoes None now
-        goes = (λ W a b e f. absurd (none_some a e), λ W b e f. absurd (none_some b (sym (restarted-none x Ws W) ∙ f)))
+  found-tells : (step : Step) (s : ServerNo) (found : Pick → StableState) (lines : List Text) → r.memory s ≡ None → FoundThen r s step found lines → SameTold r.lines lines
+  found-tells _ s _ _ e (by_narrowing g) = told-same r.lines
+  found-tells _ s _ _ e (by_raising raise) = same-told r.lines (says.Stopped s ∷ []) (tt, tt)
 
-  -- ---- every step of a server
+  client-tells : (c : ClientNo) (step : Step) (t : ClientTable) (sent : List Sent) (lines : List Text) → ClientRow r c step t sent lines → TellCase r step (record r { clients = at_client r.clients c t; sent = sent; lines = lines })
+  client-tells c _ _ _ _ (by_command command t to message e) = client_is_told c command (Sends t to message) e
+  client-tells c step _ _ _ (by_ignoring k room stop message t is e) = client_takes step c k message (t, taken.Ignored) is e
+  client-tells c step _ _ _ (by_answering k room stop message t to answer is e) = client_takes step c k message (t, taken.Send to answer) is e
+  client-tells c step _ _ _ (by_telling k room stop message t line answer is e) = client_takes step c k message (t, taken.Told line answer) is e
 
-  pub at-memory-quiet : (s : ServerNo) (k : ℕ) (room : Room) (stop : Option (Pick → ℕ)) (message : Message) (o : Option Memory) → r.memory s ≡ o → ServerFact s o (r.found s) → is_op message ≡ false → IsQuiet r (at_memory s k room stop message o r)
-  at-memory-quiet s k room stop message None is fact other = lines-quiet (says.Lost k ∷ []) (tt, tt)
-  at-memory-quiet s k room stop message (Some m) is fact other = message-quiet s m is k room stop message fact other
+  quiet-tells : (step : Step) (event : ℕ) (sent : List Sent) (lines : List Text) → Quiet r step event sent lines → TellCase r step (record r { event = event; sent = sent; lines = lines })
+  quiet-tells _ _ _ _ event_begins = is_quiet _ _ (still-quiet (r.event + 1) r.found r.sent r.lines found-same [] (sym (append-nil r.sent)) tt (told-same r.lines))
+  quiet-tells _ _ _ _ (none_changes step) = is_quiet step r nothing-quiet
+  quiet-tells _ _ _ _ (is_refused c command refusal e) = client_is_told c command (Refuses refusal) e
+  quiet-tells _ _ _ _ (client_repeats c) = client_asks_again c
+  quiet-tells _ _ _ _ (server_repeats s m e) = is_quiet _ _ (still-quiet r.event r.found _ r.lines found-same (server_again m (stable (r.found s))) refl (server-again m (stable (r.found s))) (told-same r.lines))
+  quiet-tells step _ _ _ (is_lost k room stop s message is e) = is_quiet step _ (still-quiet r.event r.found r.sent _ found-same [] (sym (append-nil r.sent)) tt (same-told r.lines (says.Lost k ∷ []) (tt, tt)))
 
-  pub work-quiet : (s : ServerNo) (room : Room) (stop : Option (Pick → ℕ)) (o : Option Memory) → r.memory s ≡ o → ServerFact s o (r.found s) → IsQuiet r (work s room stop o r)
-  work-quiet s room stop None is fact = nothing-quiet
-  work-quiet s room stop (Some m) is fact = work-done s m is room stop (worker_step m.worker (storage_of m (stable (r.found s)) room) m.tickets) fact refl
+  up-at : (s : ServerNo) (m : Memory) → r.memory s ≡ Some m → UpFact s m (r.found s)
+  up-at s m e = subst (λ o. ServerFact s o (r.found s)) e (locks s)
 
-  pub nudge-quiet : (s : ServerNo) (o : Option Memory) → r.memory s ≡ o → IsQuiet r (nudge s o r)
-  nudge-quiet s None is = nothing-quiet
-  nudge-quiet s (Some m) is = nudged-quiet s m is
+  by-case : (step : Step) (now : World) → StepCase r step now → TellCase r step now
+  by-case step _ (client_row _ c t sent lines row) = client-tells c step t sent lines row
+  by-case step _ (row_done _ s m k row e is) = row-tells s m e step k row (row-case s m e (up-at s m e) None step k row is)
+  by-case step _ (row_stopped _ s m k row made e is) = is_quiet step _ (down-quiet s m e _ (found-made s m e (λ c. take (made c) row.changes) (λ c. adds-take m.worker (made c) row.changes (row-adds s m e k row (row-case s m e (up-at s m e) (Some made) step k row is))))
+      (says.Stopped s) (tt, tt) (quiet-line r.lines (says.Stopped s) refl))
+  by-case _ _ (gone_late s m T e) = is_quiet _ _ (late-quiet s m e T (up-at s m e) (timeout_row m.worker T) refl)
+  by-case _ _ (gone_down s m e) = is_quiet _ _ (down-quiet s m e r.found found-same (says.Down s) (tt, tt) (quiet-line r.lines (says.Down s) refl))
+  by-case _ _ (come_up s pick Ws Ts e) = is_quiet _ _ (restart-quiet s e (r.found s pick) Ws Ts)
+  by-case step _ (found_anew _ s found lines e is) = is_quiet step _ (still-quiet r.event _ r.sent lines (found-down s e found) [] (sym (append-nil r.sent)) tt (found-tells step s found lines e is))
+  by-case _ _ dismissed = clients_dismissed
+  by-case step _ (quietly _ event sent lines is) = quiet-tells step event sent lines is
 
-  pub timeout-quiet : (s : ServerNo) (T : Tid) (o : Option Memory) → r.memory s ≡ o → ServerFact s o (r.found s) → IsQuiet r (timeout s T o r)
-  timeout-quiet s T None is fact = nothing-quiet
-  timeout-quiet s T (Some m) is fact = timeout-done s m is T (timeout_row m.worker T) fact refl
-
-  pub crash-quiet : (s : ServerNo) (o : Option Memory) → r.memory s ≡ o → IsQuiet r (crash s o r)
-  crash-quiet s None is = nothing-quiet
-  crash-quiet s (Some m) is = crash-done s m is
-
-  pub narrow-quiet : (s : ServerNo) (g : Pick → Pick) (o : Option Memory) → r.memory s ≡ o → IsQuiet r (narrow s g o r)
-  narrow-quiet s g None is = subst (λ l. IsQuiet r (record r { found = λ q c. if server_eq s q then r.found s (g c) else r.found q c; lines = l })) (append-nil r.lines) (down-quiet s is (λ c. r.found s (g c)) [] tt)
-  narrow-quiet s g (Some m) is = nothing-quiet
-
-  pub raise-quiet : (s : ServerNo) (raised : Pick → Bool) (o : Option Memory) → r.memory s ≡ o → IsQuiet r (stop_restart s raised o r)
-  raise-quiet s raised None is = down-quiet s is _ (says.Stopped s ∷ []) (tt, tt)
-  raise-quiet s raised (Some m) is = nothing-quiet
-
-  pub up-quiet : (s : ServerNo) (pick : Pick) (Ws : List WorkId) (Ts : List Tid) (o : Option Memory) → r.memory s ≡ o → IsQuiet r (restart s pick Ws Ts o r)
-  up-quiet s pick Ws Ts None is = restart-quiet s is pick Ws Ts
-  up-quiet s pick Ws Ts (Some m) is = nothing-quiet
-
-  pub close-quiet : (s : ServerNo) (o : Option Memory) → r.memory s ≡ o → IsQuiet r (close_clients s o r)
-  close-quiet s None is = nothing-quiet
-  close-quiet s (Some m) is = done-quiet s m is None _ (close-stays m)
+  pub tell-case : (step : Step) → TellCase r step (after step r)
+  tell-case step = by-case step (after step r) (step-case r step)

@@ -1,7 +1,5 @@
 -- What is sent about the vote of a transaction is sent for a message about it.
-use Rattle.jn_system_settling.proofs.Common.{◌≡◌, ℕ, Bool, true, false, List, [], ◌∷◌, ◌++◌, length, Option, Some, None, refl, ◌∙◌, ap, arith, ◌&&◌, not, if◌then◌else◌, nat_lt, nat_eq, ◌+◌, ClientNo, Tid, WorkId, Cause, Tickets, Op, Answer, tid_eq, change, answer_to, list_change, Message, Vote, Work, Phase, Active, Broken, Stored, ActiveWork, Transaction, Stage, Open, Voting, Committed, Aborted, is_going, RowOutcome, Sent, WorkerTable, WorkStorage, Wanted, work_at, work_of, open_row, granted_row, repeated, op_phase, op_row, refusal_of, wants_of, is_fit, commit_wants, conflict, vote_of, shortage, need_in, prepared_row, prepare_phase, prepare_row, commit_phase, drop_phase, worker_row, CoordinatorTable, transaction_at, is_work, all_in, besides, drops, commits, prepares, end_promised, end_stage, end_row, abort_stage, abort_request, told_stage, inquire_row, with_work, counted_vote, vote_stage, vote_row, done_stage, done_row, thanks_stage, thanks_row, begin_again, begun_by, after_closing, coordinator_row, commit_row, abort_row}
-use Rattle.jn_base.specs.declared.names.OperationNo.{OperationNo}
-use Rattle.jn_base.specs.declared.names.RequestNo.{RequestNo}
+use Rattle.jn_system_settling.proofs.Common.{◌≡◌, ℕ, Bool, true, false, List, [], ◌∷◌, ◌++◌, length, Option, Some, None, refl, ◌∙◌, ap, arith, ◌&&◌, not, if◌then◌else◌, nat_lt, nat_eq, ◌+◌, ClientNo, Tid, WorkId, Cause, Tickets, Op, Answer, tid_eq, change, answer_to, list_change, Message, Vote, Work, Phase, Active, Broken, Stored, ActiveWork, Transaction, Stage, Open, Voting, Committed, Aborted, is_going, RowOutcome, Sent, WorkerTable, WorkStorage, Wanted, work_at, work_of, open_row, granted_row, repeated, op_phase, op_row, refusal_of, wants_of, is_fit, commit_wants, conflict, vote_of, shortage, need_in, prepared_row, prepare_phase, prepare_row, commit_phase, drop_phase, worker_row, CoordinatorTable, transaction_at, is_work, all_in, besides, drops, commits, prepares, end_promised, end_stage, end_row, abort_stage, abort_request, told_stage, inquire_row, with_work, counted_vote, vote_stage, vote_row, done_stage, done_row, thanks_stage, thanks_row, begin_again, begun_by, after_closing, coordinator_row, commit_row, abort_row, OperationNo, RequestNo}
 use Rattle.jn_msgs.specs.declared.message.Message.TheVariants as messages
 use Rattle.jn_msgs.specs.declared.message.Vote.TheVariants as votes
 use Rattle.jn_rows.specs.Worker as worker

@@ -1,6 +1,5 @@
 -- What a settle with all servers up answers.
-use Rattle.jn_system_settling.proofs.Common.{◌≡◌, ◌≢◌, ◌⊎◌, inl, inr, ◌≤◌, ◌<◌, ℕ, zero, suc, ◌+◌, Bool, true, false, List, [], ◌∷◌, ◌++◌, Option, Some, None, true≢false, refl, sym, ◌∙◌, ap, subst, arith, if◌then◌else◌, slice_get, nat_eq, nat_lt, ◌&&◌, ◌||◌, length, map, list_any, nat_tests, ServerNo, ClientNo, Tid, WorkId, Client, Server, Command, client_eq, server_eq, tid_eq, client_tells, server_tells, Message, WorkEntry, Taken, Ignored, Outstanding, Pick, stable, Sent, sends_row, work_of, new_work, open_row, ClientTable, Commanded, Refuses, Sends, command_row, take_row, is_current, is_tid, opens, opened_row, if_waits, outcome_row, is_end_or_abort, over, after_command, World, Memory, at_client, servers_from, Room, server_row, Step, Tell, Again, Deliver, Nudge, StopDelivery, StopWork, Dismiss, IsStep, after, handed, commanded, works, UpFact, ServerFact, of-found, Course, go, go_on, Chance, clients_from, first_busy, handing, working, next_step, onward, until_rest, ask_again, AllFiles, Requested, tid_tells, Outcome, Transaction, Stage, Open, Voting, Committed, Aborted, transaction_at, abort_stage, abort_request, drops, besides, aborted_to, Opening, openings, HasOpening, Reached, next-reached}
-use Rattle.jn_base.specs.Names.{request_eq}
+use Rattle.jn_system_settling.proofs.Common.{◌≡◌, ◌≢◌, ◌⊎◌, inl, inr, ◌≤◌, ◌<◌, ℕ, zero, suc, ◌+◌, Bool, true, false, List, [], ◌∷◌, ◌++◌, Option, Some, None, true≢false, refl, sym, ◌∙◌, ap, subst, arith, if◌then◌else◌, slice_get, nat_eq, nat_lt, ◌&&◌, ◌||◌, length, map, list_any, nat_tests, ServerNo, ClientNo, Tid, WorkId, Client, Server, Command, client_eq, server_eq, tid_eq, client_tells, server_tells, Message, WorkEntry, Taken, Ignored, Outstanding, Pick, stable, Sent, sends_row, work_of, new_work, open_row, ClientTable, Commanded, Refuses, Sends, command_row, take_row, is_current, is_tid, opens, opened_row, if_waits, outcome_row, is_end_or_abort, over, after_command, World, Memory, at_client, servers_from, Room, server_row, Step, Tell, Again, Deliver, Nudge, StopDelivery, StopWork, Dismiss, IsStep, after, handed, commanded, works, UpFact, ServerFact, of-found, Course, go, go_on, Chance, clients_from, first_busy, handing, working, next_step, onward, until_rest, ask_again, AllFiles, Requested, tid_tells, Outcome, Transaction, Stage, Open, Voting, Committed, Aborted, transaction_at, abort_stage, abort_request, drops, besides, aborted_to, Opening, openings, HasOpening, Reached, next-reached, request_eq}
 use Rattle.jn_base.specs.declared.op.Command.TheVariants as commands
 use Rattle.jn_msgs.specs.declared.message.Message.TheVariants as messages
 use Rattle.jn_rows.specs.Worker.{name_from}

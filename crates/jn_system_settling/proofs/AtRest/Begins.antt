@@ -1,15 +1,12 @@
 -- A Begin is answered: its request was not seen before, or the reply to it still waits.
-use Rattle.jn_system_settling.proofs.Common.{◌≡◌, ◌⊎◌, inl, inr, ◌≤◌, ◌<◌, ℕ, suc, ◌+◌, Bool, true, false, List, [], ◌∷◌, ◌++◌, length, length-append, Option, Some, None, true≢false, refl, sym, ◌∙◌, ap, subst, arith, ◌&&◌, if◌then◌else◌, nat_lt, nat_eq, slice_get, list_any, nat_tests, slice_get_within, ServerNo, ClientNo, Tid, Client, Server, client_eq, AllFiles, Outstanding, Taken, Ignored, Transaction, Open, Pick, stable, RowOutcome, Sent, ignored_row, CoordinatorTable, after_closing, changes_of_closing, begin_new, begin_again, begun_by, seen_now, name_from, ClientTable, Commanded, Refuses, Sends, command_row, take_row, is_begin, if_waits, begun_row, over, World, Memory, Room, server_row, Step, NextEvent, Tell, Again, Deliver, Nudge, Timeout, StopDelivery, StopWork, Crash, Narrow, StopRestart, Restart, Dismiss, CloseClients, IsStep, after, handed, commanded, Course, numbered, without_number, still_waiting, go}
-use Rattle.jn_base.specs.declared.names.RequestNo.{RequestNo}
-use Rattle.jn_base.specs.Names.{request_eq, request_of}
+use Rattle.jn_system_settling.proofs.Common.{Text, Message, ◌≡◌, ◌⊎◌, inl, inr, ◌≤◌, ◌<◌, ℕ, suc, ◌+◌, Bool, true, false, List, [], ◌∷◌, ◌++◌, length, length-append, Option, Some, None, true≢false, refl, sym, ◌∙◌, ap, subst, arith, ◌&&◌, if◌then◌else◌, nat_lt, nat_eq, slice_get, list_any, nat_tests, slice_get_within, ServerNo, ClientNo, Tid, Client, client_eq, AllFiles, Outstanding, Taken, Ignored, Transaction, Open, Pick, stable, RowOutcome, Sent, ignored_row, CoordinatorTable, after_closing, changes_of_closing, begin_new, begin_again, begun_by, seen_now, name_from, ClientTable, take_row, is_begin, if_waits, begun_row, over, World, Memory, Room, server_row, Step, Deliver, StopDelivery, IsStep, after, handed, Course, numbered, without_number, still_waiting, go, RequestNo, request_eq, request_of, one-client, ClientRow, by_command, by_ignoring, by_answering, by_telling, StepCase, client_row, dismissed, step-case}
 use Rattle.jn_msgs.specs.declared.message.Message.TheVariants as messages
-use Rattle.jn_system.specs.WholeSystem.Steps.{Work}
 use Rattle.jn_system_settling.proofs.Settling.Burdens.{get-more}
 use Rattle.jn_system_settling.proofs.Settling.Courses.{Grows, grows, waiting-is}
 use Rattle.jn_system_settling.proofs.AtRest.Talk.{take-still}
-use Rattle.jn_system_settling.proofs.AtRest.Ways.{any-left, any-right, Has, IsEnd, Reply, Answering, any-without, handed-taken, took-clients, memory-clients, quiet-clients}
+use Rattle.jn_system_settling.proofs.AtRest.Ways.{any-left, any-right, Has, IsEnd, Reply, Answering, any-without, handed-taken}
 use Rattle.jn_system_settling.proofs.AtRest.Requests.{Past, SeenFits, GoesOn, waits_on, waits_not, waits_anew, stays}
-use Rattle.jn_system_settling.proofs.AtRest.RequestSteps.{Requests, CommandsAs, commands-as, one-client, still-on, take-next, requests-go, has-at}
+use Rattle.jn_system_settling.proofs.AtRest.RequestSteps.{Requests, CommandsAs, commands-as, still-on, take-next, requests-go, has-at}
 use Rattle.jn_system_settling.proofs.AtRest.Answered.{Talking, go-talking}
 
 -- a client that doesn't wait for the answer to this request
@@ -92,26 +89,21 @@ module _ (n : ℕ) (at_most : n ≤ 8) (start : World) (files : AllFiles) (epoch
     abbrev w : World
     w = d.world
 
-    quiet : (step : Step) → (after step d.world).clients ≡ d.world.clients → (e : ClientNo) → GoesOn (d.world.clients e) ((after step d.world).clients e)
-    quiet step q e = subst (λ f. GoesOn (d.world.clients e) (f e)) (sym q) (stays d.world.clients e)
+    took-on : (c : ClientNo) (message : Message) (t : ClientTable) (r : Taken) → take_row (w.clients c) message ≡ (t, r) → GoesOn (w.clients c) t
+    took-on c message t r is = subst (λ (z : ClientTable × Taken). GoesOn (w.clients c) z.0) is (still-on (w.clients c) (take_row (w.clients c) message).0 (take-next (w.clients c) message) (take-still (w.clients c) message))
 
-    handed-on : (k : ℕ) (room : Room) (stop : Option (Pick → ℕ)) (o : Option Sent) (e : ClientNo) → GoesOn (d.world.clients e) ((handed k room stop o d.world).clients e)
-    handed-on k room stop None e = stays d.world.clients e
-    handed-on k room stop (Some (Client c, message)) e = subst (λ f. GoesOn (d.world.clients e) (f e)) (sym (took-clients c k (take_row (d.world.clients c) message).0 (take_row (d.world.clients c) message).1 d.world))
-        (one-client (λ e z. GoesOn (d.world.clients e) z) d.world.clients c (take_row (d.world.clients c) message).0 (still-on (d.world.clients c) (take_row (d.world.clients c) message).0 (take-next (d.world.clients c) message) (take-still (d.world.clients c) message)) (stays d.world.clients) e)
-    handed-on k room stop (Some (Server s, message)) e = subst (λ f. GoesOn (d.world.clients e) (f e)) (sym (memory-clients s k room stop message (d.world.memory s) d.world)) (stays d.world.clients e)
+    row-on : (step : Step) (c : ClientNo) (t : ClientTable) (sent : List Sent) (lines : List Text) → ClientRow w c step t sent lines → GoesOn (w.clients c) t
+    row-on _ c _ _ _ (by_command command t to message is) = let shape = subst (CommandsAs (w.clients c)) is (commands-as (w.clients c) w.event command) in
+        waits_anew (let l = shape.next in omega (arith, l)) shape.waits shape.outstanding shape.request
+    row-on _ c _ _ _ (by_ignoring k room stop message t e is) = took-on c message t _ is
+    row-on _ c _ _ _ (by_answering k room stop message t to answer e is) = took-on c message t _ is
+    row-on _ c _ _ _ (by_telling k room stop message t line answer e is) = took-on c message t _ is
 
     -- each client goes on
-    goes-on : (step : Step) (e : ClientNo) → GoesOn (w.clients e) ((after step w).clients e)
-    goes-on (Tell c command) e = by (command_row (w.clients c) w.event command) (commands-as (w.clients c) w.event command)
-      where
-        by : (row : Commanded) → CommandsAs (w.clients c) row → GoesOn (w.clients e) ((commanded c row w).clients e)
-        by (Refuses refusal) shape = stays w.clients e
-        by (Sends t to m) shape = one-client (λ e z. GoesOn (w.clients e) z) w.clients c t (waits_anew (let l = shape.next in omega (arith, l)) shape.waits shape.outstanding shape.request) (stays w.clients) e
-    goes-on (Deliver k room) e = handed-on k room None (slice_get w.sent k) e
-    goes-on (StopDelivery k room made) e = handed-on k room (Some made) (slice_get w.sent k) e
-    goes-on Dismiss e = still-on (w.clients e) (over (w.clients e)) refl (inr refl)
-    goes-on step e = quiet step (quiet-clients step d.world refl) e
+    goes-on : (step : Step) (now : World) → StepCase w step now → (e : ClientNo) → GoesOn (w.clients e) (now.clients e)
+    goes-on step _ (client_row _ c t sent lines row) e = one-client (λ d z. GoesOn (w.clients d) z) w.clients c t (row-on step c t sent lines row) (λ d other. stays w.clients d) e
+    goes-on _ _ dismissed e = still-on (w.clients e) (over (w.clients e)) refl (inr refl)
+    goes-on _ _ is e = stays w.clients e
 
     not-waited-on : (t now : ClientTable) (q : RequestNo) → GoesOn t now → q.0 < t.next → NotWaited t q → NotWaited now q
     not-waited-on t now q (waits_on l e) below h = λ o is at. h o (sym e ∙ is) at
@@ -145,31 +137,16 @@ module _ (n : ℕ) (at_most : n ≤ 8) (start : World) (files : AllFiles) (epoch
         left k e = subst (λ ks. list_any (nat_eq k) ks ≡ true) (sym (waiting-is n at_most start d step (grows w step).new (grows w step).sent)) (any-left (nat_eq k) (still_waiting step d.waiting) _ e)
 
         -- one that waited waits on, or is handed over now
+        hands : (k : ℕ) (c : ClientNo) (q : RequestNo) (a : Option Tid) → slice_get w.sent k ≡ Some (Client c, messages.Begun c q a) → list_any (nat_eq k) d.waiting ≡ true → (j : ℕ) (room : Room) (stop : Option (Pick → ℕ)) (b : Bool) → nat_eq k j ≡ b
+            → (list_any (nat_eq k) (without_number j d.waiting) ≡ true) ⊎ NotWaited ((handed j room stop (slice_get w.sent j) w).clients c) q
+        hands k c q a e waits j room stop false ne = inl (any-without j k d.waiting waits ne)
+        hands k c q a e waits j room stop true is = inr (subst (λ i. NotWaited ((handed i room stop (slice_get w.sent i) w).clients c) q) (grind (arith, nat_tests, is)) (taken-not k room stop c q a e))
+
         onward : (step : Step) (k : ℕ) (c : ClientNo) (q : RequestNo) (a : Option Tid) → slice_get w.sent k ≡ Some (Client c, messages.Begun c q a) → list_any (nat_eq k) d.waiting ≡ true
             → (list_any (nat_eq k) (still_waiting step d.waiting) ≡ true) ⊎ NotWaited ((after step w).clients c) q
-        onward (Deliver j room) k c q a e waits = split (nat_eq k j) refl
-          where
-            split : (b : Bool) → nat_eq k j ≡ b → (list_any (nat_eq k) (without_number j d.waiting) ≡ true) ⊎ NotWaited ((after (Deliver j room) w).clients c) q
-            split false ne = inl (any-without j k d.waiting waits ne)
-            split true is = inr (subst (λ i. NotWaited ((handed i room None (slice_get w.sent i) w).clients c) q) (grind (arith, nat_tests, is)) (taken-not k room None c q a e))
-        onward (StopDelivery j room made) k c q a e waits = split (nat_eq k j) refl
-          where
-            split : (b : Bool) → nat_eq k j ≡ b → (list_any (nat_eq k) (without_number j d.waiting) ≡ true) ⊎ NotWaited ((after (StopDelivery j room made) w).clients c) q
-            split false ne = inl (any-without j k d.waiting waits ne)
-            split true is = inr (subst (λ i. NotWaited ((handed i room (Some made) (slice_get w.sent i) w).clients c) q) (grind (arith, nat_tests, is)) (taken-not k room (Some made) c q a e))
-        onward NextEvent k c q a e waits = inl waits
-        onward (Tell x command) k c q a e waits = inl waits
-        onward (Again x) k c q a e waits = inl waits
-        onward (Work s room) k c q a e waits = inl waits
-        onward (Nudge s) k c q a e waits = inl waits
-        onward (Timeout s T) k c q a e waits = inl waits
-        onward (StopWork s room made) k c q a e waits = inl waits
-        onward (Crash s) k c q a e waits = inl waits
-        onward (Narrow s g) k c q a e waits = inl waits
-        onward (StopRestart s up) k c q a e waits = inl waits
-        onward (Restart s pick Ws Ts) k c q a e waits = inl waits
-        onward Dismiss k c q a e waits = inl waits
-        onward (CloseClients s) k c q a e waits = inl waits
+        onward (Deliver j room) k c q a e waits = hands k c q a e waits j room None (nat_eq k j) refl
+        onward (StopDelivery j room made) k c q a e waits = hands k c q a e waits j room (Some made) (nat_eq k j) refl
+        onward step k c q a e waits = inl waits
 
         by : (k : ℕ) (c : ClientNo) (q : RequestNo) (a : Option Tid) → slice_get (after step w).sent k ≡ Some (Client c, messages.Begun c q a) → (g : Grows w (after step w)) → (b : Bool) → nat_lt k (length w.sent) ≡ b
             → (list_any (nat_eq k) (go step d).waiting ≡ true) ⊎ NotWaited ((after step w).clients c) q
@@ -182,7 +159,7 @@ module _ (n : ℕ) (at_most : n ≤ 8) (start : World) (files : AllFiles) (epoch
             past = h.requests.sent (Client c, messages.Begun c q a) (has-at w.sent k (Client c, messages.Begun c q a) was)
 
             old : (list_any (nat_eq k) d.waiting ≡ true) ⊎ NotWaited (w.clients c) q → (list_any (nat_eq k) (go step d).waiting ≡ true) ⊎ NotWaited ((after step w).clients c) q
-            old (inr not) = inr (not-waited-on (w.clients c) ((after step w).clients c) q (goes-on step c) past.0 not)
+            old (inr not) = inr (not-waited-on (w.clients c) ((after step w).clients c) q (goes-on step (after step w) (step-case w step) c) past.0 not)
             old (inl waits) = on (onward step k c q a was waits)
               where
                 on : (list_any (nat_eq k) (still_waiting step d.waiting) ≡ true) ⊎ NotWaited ((after step w).clients c) q → (list_any (nat_eq k) (go step d).waiting ≡ true) ⊎ NotWaited ((after step w).clients c) q

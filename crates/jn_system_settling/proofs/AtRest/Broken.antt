@@ -1,7 +1,5 @@
 -- Each broken work has its line.
-use Rattle.jn_system_settling.proofs.Common.{◌≡◌, ◌≢◌, ◌⊎◌, inl, inr, ℕ, ◌+◌, Bool, true, false, List, [], ◌∷◌, ◌++◌, length, Option, Some, None, refl, sym, ◌∙◌, ap, subst, map, if◌then◌else◌, nat_lt, nat_eq, slice_get, ServerNo, ClientNo, Tid, WorkId, Tickets, LockUnit, Op, Answer, work_eq, work_tells, AllFiles, change, answer_to, list_change, Intention, Message, Vote, Note, Text, Work, Phase, Active, Broken, Stored, ActiveWork, StableState, Prepared, stable, is_going, RowOutcome, quiet, WorkerTable, WorkStorage, Wanted, work_at, work_of, with_phase, without, new_work, open_row, break_notes, breaks_at, broken_by, note_of, after_grant, granted_row, repeated, op_phase, op_row, refusal_of, wants_of, is_fit, commit_wants, conflict, vote_of, shortage, need_in, prepared_row, prepare_phase, prepare_row, commit_phase, drop_phase, drop_row, worker_row, worker_step, going_work, going_row, carried_row, intentions_of, timed_out, timeout_row, vulnerable, written_unit, restored_work, restored_worker, are_rising, is_after, in_phase, at-phase, at-grant, once_granted, at-less, at-more, World, Memory, Room, storage_of, of_worker, of_coordinator, of_step, of_timeout, server_step, server_timeout, is_for_worker, restored, line_of, lines_of, Step, IsRun, after, run, UpFact, ServerFact, of-found, coordinator_row, In, in-first, in-second, Reached, next-reached}
-use Rattle.jn_base.specs.declared.names.OperationNo.{OperationNo}
-use Rattle.jn_base.specs.declared.names.RequestNo.{RequestNo}
+use Rattle.jn_system_settling.proofs.Common.{◌≡◌, ◌≢◌, ◌⊎◌, inl, inr, ℕ, ◌+◌, Bool, true, false, List, [], ◌∷◌, ◌++◌, length, Option, Some, None, refl, sym, ◌∙◌, ap, subst, map, if◌then◌else◌, nat_lt, nat_eq, slice_get, ServerNo, ClientNo, Tid, WorkId, Tickets, LockUnit, Op, Answer, work_eq, work_tells, AllFiles, change, answer_to, list_change, Intention, Message, Vote, Note, Text, Work, Phase, Active, Broken, Stored, ActiveWork, StableState, Prepared, stable, is_going, RowOutcome, quiet, WorkerTable, WorkStorage, Wanted, work_at, work_of, with_phase, without, new_work, open_row, break_notes, breaks_at, broken_by, note_of, after_grant, granted_row, repeated, op_phase, op_row, refusal_of, wants_of, is_fit, commit_wants, conflict, vote_of, shortage, need_in, prepared_row, prepare_phase, prepare_row, commit_phase, drop_phase, drop_row, worker_row, worker_step, going_work, going_row, carried_row, intentions_of, timed_out, timeout_row, vulnerable, written_unit, restored_work, restored_worker, are_rising, is_after, in_phase, at-phase, at-grant, once_granted, at-less, at-more, World, Memory, Room, storage_of, of_worker, of_coordinator, of_step, of_timeout, server_step, server_timeout, is_for_worker, restored, line_of, lines_of, Step, IsRun, after, run, UpFact, ServerFact, of-found, coordinator_row, In, in-first, in-second, Reached, next-reached, OperationNo, RequestNo}
 use Rattle.jn_msgs.specs.declared.message.Message.TheVariants as messages
 use Rattle.jn_msgs.specs.declared.message.Vote.TheVariants as votes
 use Rattle.jn_msgs.specs.declared.message.Note.TheVariants as notes

@@ -1,6 +1,6 @@
 -- A part of a settle at whose end all of so many servers are up: no step of it was stopped, so that it keeps what each message handed over
 -- and each step of a server keeps.
-use Rattle.jn_system_settling.proofs.Common.{length, length-append, append_assoc, ◌≡◌, ◌≢◌, ◌⊎◌, inl, inr, ◌≤◌, ◌<◌, ℕ, zero, suc, ◌+◌, Bool, true, false, List, [], ◌∷◌, ◌++◌, append-nil, Option, Some, None, is_some, true≢false, refl, sym, ◌∙◌, ap, subst, arith, ◌||◌, if◌then◌else◌, slice_get, nat_eq, map, list_any, nat_tests, ServerNo, ClientNo, Client, Server, client_eq, server_eq, client_tells, server_tells, Message, WorkEntry, StableState, Pick, stable, RowOutcome, Sent, going_work, going_row, carried_row, intentions_of, take_row, again_row, World, Memory, servers_from, Room, storage_of, of_worker, of_step, server_row, server_again, Step, NextEvent, Tell, Timeout, Crash, Narrow, StopRestart, Restart, Dismiss, CloseClients, Again, Deliver, Nudge, StopDelivery, StopWork, IsStep, after, sent_now, taken_by, done, at_memory, handed, work, works, nudge, Course, numbered, still_waiting, without_number, go, go_on, Chance, is_busy, first_busy, handing, working, next_step, onward, until_rest, ask_again, AreUp}
+use Rattle.jn_system_settling.proofs.Common.{length, length-append, append_assoc, ◌≡◌, ◌≢◌, ◌⊎◌, inl, inr, ◌≤◌, ◌<◌, ℕ, zero, suc, ◌+◌, Bool, true, false, List, [], ◌∷◌, ◌++◌, append-nil, Option, Some, None, is_some, true≢false, refl, sym, ◌∙◌, ap, subst, arith, ◌||◌, if◌then◌else◌, slice_get, nat_eq, map, list_any, nat_tests, ServerNo, ClientNo, Client, Server, client_eq, server_eq, client_tells, server_tells, Message, WorkEntry, StableState, Pick, stable, RowOutcome, Sent, going_work, going_row, carried_row, intentions_of, take_row, again_row, World, Memory, servers_from, Room, storage_of, of_worker, of_step, server_row, server_again, Step, Again, Deliver, Nudge, StopDelivery, StopWork, IsStep, after, sent_now, taken_by, done, at_memory, handed, work, works, nudge, Course, numbered, still_waiting, without_number, go, go_on, Chance, is_busy, first_busy, handing, working, next_step, onward, until_rest, ask_again, AreUp}
 use Rattle.jn_system.specs.WholeSystem.Steps.{Work}
 use Rattle.jn_system_settling.proofs.Settling.Burdens.{are_below, busy-within, busy-is, get-more, get-next}
 use Rattle.jn_system_settling.proofs.Settling.Courses.{Sound, waiting-is}
@@ -58,19 +58,7 @@ less-old j k (i ∷ ks) h = let again = less-old j k ks in grind (arith, h)
 still-old : (j : ℕ) (step : Step) (ks : List ℕ) → list_any (nat_eq j) (still_waiting step ks) ≡ true → list_any (nat_eq j) ks ≡ true
 still-old j (Deliver k room) ks h = less-old j k ks h
 still-old j (StopDelivery k room made) ks h = less-old j k ks h
-still-old j NextEvent ks h = h
-still-old j (Tell c command) ks h = h
-still-old j (Again c) ks h = h
-still-old j (Work s room) ks h = h
-still-old j (Nudge s) ks h = h
-still-old j (Timeout s T) ks h = h
-still-old j (StopWork s room made) ks h = h
-still-old j (Crash s) ks h = h
-still-old j (Narrow s g) ks h = h
-still-old j (StopRestart s up) ks h = h
-still-old j (Restart s pick Ws Ts) ks h = h
-still-old j Dismiss ks h = h
-still-old j (CloseClients s) ks h = h
+still-old j step ks h = h
 
 -- a new number is that of a new message
 pub new-has : (xs ys : List Sent) (k : ℕ) (x : Sent) → list_any (nat_eq k) (numbered (length xs) ys) ≡ true → slice_get (xs ++ ys) k ≡ Some x → Has x ys

@@ -1,7 +1,5 @@
 -- A work that goes goes on until it is over, and a Commit of a work that isn't over makes it go.
-use Rattle.jn_system_settling.proofs.Common.{◌≡◌, ◌≢◌, ◌⊎◌, inl, inr, ℕ, ◌+◌, Bool, true, false, List, [], ◌∷◌, length, Option, Some, None, true≢false, refl, sym, ◌∙◌, ap, subst, arith, if◌then◌else◌, nat_lt, nat_eq, ServerNo, ClientNo, Tid, WorkId, Tickets, Server, Op, Answer, work_eq, work_tells, AllFiles, change, answer_to, list_change, Message, Vote, Work, Phase, Active, Broken, Stored, ActiveWork, StableState, Prepared, MarkGoing, at_work, gone_on, stable, is_going, made_all, RowOutcome, quiet, ignored, WorkerTable, WorkStorage, Wanted, work_at, work_of, open_row, granted_row, repeated, op_phase, op_row, refusal_of, wants_of, is_fit, commit_wants, conflict, vote_of, shortage, need_in, prepared_row, prepare_phase, prepare_row, commit_phase, drop_phase, drop_row, worker_row, coordinator_row, found-name, Machine, not_both, World, Memory, Room, storage_of, server_row, of_worker, of_coordinator, is_for_worker, TableFact, IsSoundWork, UpFact, flags-all, coordinator-aside, active_in, working_of, working_in, each-in, Reached, LineFact}
-use Rattle.jn_base.specs.declared.names.OperationNo.{OperationNo}
-use Rattle.jn_base.specs.declared.names.RequestNo.{RequestNo}
+use Rattle.jn_system_settling.proofs.Common.{◌≡◌, ◌≢◌, ◌⊎◌, inl, inr, ℕ, ◌+◌, Bool, true, false, List, [], ◌∷◌, length, Option, Some, None, true≢false, refl, sym, ◌∙◌, ap, subst, arith, if◌then◌else◌, nat_lt, nat_eq, ServerNo, ClientNo, Tid, WorkId, Tickets, Server, Op, Answer, work_eq, work_tells, AllFiles, change, answer_to, list_change, Message, Vote, Work, Phase, Active, Broken, Stored, ActiveWork, StableState, Prepared, MarkGoing, at_work, gone_on, stable, is_going, made_all, RowOutcome, quiet, ignored, WorkerTable, WorkStorage, Wanted, work_at, work_of, open_row, granted_row, repeated, op_phase, op_row, refusal_of, wants_of, is_fit, commit_wants, conflict, vote_of, shortage, need_in, prepared_row, prepare_phase, prepare_row, commit_phase, drop_phase, drop_row, worker_row, coordinator_row, found-name, Machine, not_both, World, Memory, Room, storage_of, server_row, of_worker, of_coordinator, is_for_worker, TableFact, IsSoundWork, UpFact, flags-all, coordinator-aside, active_in, working_of, working_in, each-in, Reached, LineFact, OperationNo, RequestNo}
 use Rattle.jn_msgs.specs.declared.message.Message.TheVariants as messages
 use Rattle.jn_msgs.specs.declared.message.Vote.TheVariants as votes
 use Rattle.jn_report.specs.declared.line.Text.TheVariants as says

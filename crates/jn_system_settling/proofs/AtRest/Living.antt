@@ -1,7 +1,5 @@
 -- A work that isn't live stays so, and a Drop or a Commit of a live one ends it or makes it go.
-use Rattle.jn_system_settling.proofs.Common.{◌≡◌, ◌≢◌, ◌⊎◌, inl, inr, ◌<◌, ℕ, ◌+◌, Bool, true, false, List, [], ◌∷◌, ◌++◌, length, Option, Some, None, is_some, refl, sym, ◌∙◌, ap, subst, arith, if◌then◌else◌, nat_lt, nat_eq, ServerNo, ClientNo, Tid, WorkId, Tickets, Op, Answer, work_eq, work_tells, AllFiles, change, answer_to, list_change, Intention, Message, Vote, Work, Phase, Active, Broken, Stored, ActiveWork, StableState, RemoveWork, stable, is_going, RowOutcome, quiet, ignored, coordinator_row, WorkerTable, WorkStorage, Wanted, work_at, work_of, with_phase, without, new_work, open_row, after_grant, granted_row, repeated, op_phase, op_row, refusal_of, wants_of, is_fit, commit_wants, conflict, vote_of, shortage, need_in, prepared_row, prepare_phase, prepare_row, commit_phase, drop_phase, drop_row, worker_row, carried_row, are_rising, is_after, in_phase, at-phase, at-grant, once_granted, at-less, at-more, World, Memory, Room, storage_of, server_row, of_worker, of_coordinator, is_for_worker, UpFact, coordinator-aside, Reached}
-use Rattle.jn_base.specs.declared.names.OperationNo.{OperationNo}
-use Rattle.jn_base.specs.declared.names.RequestNo.{RequestNo}
+use Rattle.jn_system_settling.proofs.Common.{◌≡◌, ◌≢◌, ◌⊎◌, inl, inr, ◌<◌, ℕ, ◌+◌, Bool, true, false, List, [], ◌∷◌, ◌++◌, length, Option, Some, None, is_some, refl, sym, ◌∙◌, ap, subst, arith, if◌then◌else◌, nat_lt, nat_eq, ServerNo, ClientNo, Tid, WorkId, Tickets, Op, Answer, work_eq, work_tells, AllFiles, change, answer_to, list_change, Intention, Message, Vote, Work, Phase, Active, Broken, Stored, ActiveWork, StableState, RemoveWork, stable, is_going, RowOutcome, quiet, ignored, coordinator_row, WorkerTable, WorkStorage, Wanted, work_at, work_of, with_phase, without, new_work, open_row, after_grant, granted_row, repeated, op_phase, op_row, refusal_of, wants_of, is_fit, commit_wants, conflict, vote_of, shortage, need_in, prepared_row, prepare_phase, prepare_row, commit_phase, drop_phase, drop_row, worker_row, carried_row, are_rising, is_after, in_phase, at-phase, at-grant, once_granted, at-less, at-more, World, Memory, Room, storage_of, server_row, of_worker, of_coordinator, is_for_worker, UpFact, coordinator-aside, Reached, OperationNo, RequestNo}
 use Rattle.jn_msgs.specs.declared.message.Message.TheVariants as messages
 use Rattle.jn_msgs.specs.declared.message.Vote.TheVariants as votes
 use Rattle.jn_rows.specs.Worker.{name_from, commit_row}

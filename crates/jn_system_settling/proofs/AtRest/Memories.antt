@@ -1,9 +1,7 @@
 -- How a server's memory comes to be in a step, and what holds of every table of a coordinator: no vote or commit in it is complete.
-use Rattle.jn_system_settling.proofs.Common.{◌≡◌, ◌≢◌, ◌⊎◌, inl, inr, ℕ, Bool, true, false, List, [], ◌∷◌, ◌++◌, length, Option, Some, None, refl, sym, ◌∙◌, ap, subst, arith, ◌&&◌, not, if◌then◌else◌, nat_lt, nat_eq, slice_get, ServerNo, ClientNo, Tid, Tickets, WorkId, Client, Server, server_eq, client_eq, server_tells, Message, Taken, Transaction, Stage, Open, Voting, Committed, Aborted, StableState, FlagState, Pick, stable, RowOutcome, Sent, ClientTable, Commanded, Refuses, Sends, command_row, take_row, all_thanked, thanked, close_clients_row, CoordinatorTable, transaction_at, with_stage, all_in, closed, after_closing, begin_again, begun_by, end_row, abort_request, inquire_row, vote_row, done_row, thanks_row, coordinator_row, restored_transaction, restored_transactions, World, Memory, at_server, Room, server_row, server_step, server_timeout, storage_of, of_timeout, of_step, of_worker, of_coordinator, is_for_worker, restored, lines_of, WorkerTable, worker_row, worker_step, timeout_row, Step, NextEvent, Tell, Again, Deliver, Nudge, Timeout, StopDelivery, StopWork, Crash, Narrow, StopRestart, Restart, Dismiss, CloseClients, after, run, commanded, took, done, stopped, ends, at_memory, handed, work, works, nudge, timeout, crash, narrow, stop_restart, restart, close_clients}
+use Rattle.jn_system_settling.proofs.Common.{◌≡◌, ℕ, Bool, true, false, List, [], ◌∷◌, ◌++◌, length, Option, Some, None, refl, ◌∙◌, ap, subst, arith, ◌&&◌, not, if◌then◌else◌, nat_lt, nat_eq, ServerNo, ClientNo, Tid, Tickets, WorkId, Server, client_eq, Message, Transaction, Stage, Open, Voting, Committed, Aborted, StableState, FlagState, Pick, stable, RowOutcome, all_thanked, thanked, close_clients_row, CoordinatorTable, transaction_at, with_stage, all_in, closed, after_closing, begin_again, begun_by, end_row, abort_request, inquire_row, vote_row, done_row, thanks_row, coordinator_row, restored_transaction, restored_transactions, World, Memory, at_server, Room, server_row, server_step, server_timeout, storage_of, of_timeout, of_step, of_worker, of_coordinator, is_for_worker, restored, lines_of, WorkerTable, worker_row, worker_step, timeout_row, Step, after, run, done, stopped, timeout, crash, restart, ServerRow, of_message, of_work, of_closing, StepCase, client_row, row_done, row_stopped, gone_late, gone_down, come_up, found_anew, dismissed, quietly, step-case, one-server}
 use Rattle.jn_msgs.specs.declared.message.Message.TheVariants as messages
-use Rattle.jn_rows.specs.declared.client.Taken.TheVariants as taken
 use Rattle.jn_rows.specs.Coordinator.{without}
-use Rattle.jn_system.specs.WholeSystem.Steps.{Work}
 use Rattle.jn_system_settling.proofs.AtRest.Ways.{Has}
 use Rattle.jn_system_settling.proofs.AtRest.RequestSteps.{has-at}
 use Rattle.jn_system_settling.proofs.AtRest.Fates.{is_unfinished, Kind, keeps, comes, goes, end-its, abort-stage-its, told-its, vote-its, done-its, thanks-its}
@@ -18,92 +16,29 @@ pub data Remembers (w now : World) (s : ServerNo) : Option Memory → Type 0 whe
   by_closing : (m : Memory) → w.memory s ≡ Some m → Remembers w now s (Some (of_coordinator m (close_clients_row m.coordinator m.tickets)).table)
   by_restart : (x : StableState) (Ws : List WorkId) (Ts : List Tid) → Remembers w now s (Some (restored s x Ws Ts))
 
-module _ (w : World) (q : ServerNo) where
-  abbrev So : World → Type 0
-  So now = Remembers w now q (now.memory q)
-
+module _ (w : World) where
   -- one server's memory changes
-  one-server : (now : World) (s : ServerNo) (o : Option Memory) → Remembers w now s o → Remembers w now q (at_server w.memory s o q)
-  one-server now s o h = by (server_tells s q)
-    where
-      by : ((server_eq s q ≡ true) × (s ≡ q)) ⊎ ((server_eq s q ≡ false) × (s ≢ q)) → Remembers w now q (if server_eq s q then o else w.memory q)
-      by (inl p) = subst (λ (b : Bool). Remembers w now q (if b then o else w.memory q)) (sym p.0) (subst (λ (z : ServerNo). Remembers w now z o) p.1 h)
-      by (inr p) = subst (λ (b : Bool). Remembers w now q (if b then o else w.memory q)) (sym p.0) as_before
+  one : (now : World) (s : ServerNo) (o : Option Memory) → Remembers w now s o → (q : ServerNo) → Remembers w now q (at_server w.memory s o q)
+  one now s o h = one-server (λ q o. Remembers w now q o) w.memory s o h (λ q other. as_before)
 
-  ends-so : (s : ServerNo) (k : Option ℕ) (stop : Option (Pick → ℕ)) (row : RowOutcome Memory) → Remembers w (done s k row w) s (Some row.table) → So (ends s k stop row w)
-  ends-so s k None row h = one-server (done s k row w) s (Some row.table) h
-  ends-so s k (Some made) row h = one-server (stopped s made row w) s None down
+  of-row : (s : ServerNo) (m : Memory) (stop : Option (Pick → ℕ)) (step : Step) (k : Option ℕ) (row : RowOutcome Memory) → w.memory s ≡ Some m → ServerRow w s m stop step k row → Remembers w (done s k row w) s (Some row.table)
+  of-row s m _ _ _ _ up (of_message stop k room message is) = by_message m room message up (has-at w.sent k (Server s, message) is) k refl
+  of-row s m _ _ _ _ up (of_work stop room row is) = by_step m room row up is
+  of-row s m _ _ _ _ up of_closing = by_closing m up
 
-  took-so : (c : ClientNo) (k : ℕ) (row : ClientTable × Taken) → So (took c k row.0 row.1 w)
-  took-so c k (t, taken.Ignored) = as_before
-  took-so c k (t, taken.Send to m) = as_before
-  took-so c k (t, taken.Told line answer) = as_before
+  by-case : (step : Step) (now : World) → StepCase w step now → (q : ServerNo) → Remembers w now q (now.memory q)
+  by-case _ _ (client_row _ c t sent lines row) = λ q. as_before
+  by-case step _ (row_done _ s m k row e is) = one (done s k row w) s (Some row.table) (of-row s m None step k row e is)
+  by-case _ _ (row_stopped _ s m k row made e is) = one (stopped s made row w) s None down
+  by-case _ _ (gone_late s m T e) = one (timeout s T (Some m) w) s (Some (server_timeout m T)) (by_timeout m T e)
+  by-case _ _ (gone_down s m e) = one (crash s (Some m) w) s None down
+  by-case _ _ (come_up s pick Ws Ts e) = one (restart s pick Ws Ts None w) s (Some (restored s (w.found s pick) Ws Ts)) (by_restart (w.found s pick) Ws Ts)
+  by-case _ _ (found_anew _ s found lines e is) = λ q. as_before
+  by-case _ _ dismissed = λ q. as_before
+  by-case _ _ (quietly _ event sent lines is) = λ q. as_before
 
-  handed-so : (k : ℕ) (room : Room) (stop : Option (Pick → ℕ)) (o : Option Sent) → slice_get w.sent k ≡ o → So (handed k room stop o w)
-  handed-so k room stop None e = as_before
-  handed-so k room stop (Some (Client c, message)) e = took-so c k (take_row (w.clients c) message)
-  handed-so k room stop (Some (Server s, message)) e = by (w.memory s) refl
-    where
-      by : (o : Option Memory) → w.memory s ≡ o → So (at_memory s k room stop message o w)
-      by None f = as_before
-      by (Some m) f = ends-so s (Some k) stop (server_row m (stable (w.found s)) room message) (by_message m room message f (has-at w.sent k (Server s, message) e) k refl)
-
-  work-so : (s : ServerNo) (room : Room) (stop : Option (Pick → ℕ)) (o : Option Memory) → w.memory s ≡ o → So (work s room stop o w)
-  work-so s room stop None e = as_before
-  work-so s room stop (Some m) e = by (server_step m (stable (w.found s)) room) refl
-    where
-      by : (o : Option (RowOutcome Memory)) → server_step m (stable (w.found s)) room ≡ o → So (works s stop o w)
-      by None f = as_before
-      by (Some row) f = ends-so s None stop row (by_step m room row e f)
-
-  pub step-memory : (step : Step) → Remembers w (after step w) q ((after step w).memory q)
-  step-memory NextEvent = as_before
-  step-memory (Tell c command) = by (command_row (w.clients c) w.event command)
-    where
-      by : (row : Commanded) → So (commanded c row w)
-      by (Refuses refusal) = as_before
-      by (Sends t to m) = as_before
-  step-memory (Again c) = as_before
-  step-memory (Deliver k room) = handed-so k room None (slice_get w.sent k) refl
-  step-memory (Work s room) = work-so s room None (w.memory s) refl
-  step-memory (Nudge s) = by (w.memory s)
-    where
-      by : (o : Option Memory) → So (nudge s o w)
-      by None = as_before
-      by (Some m) = as_before
-  step-memory (Timeout s T) = by (w.memory s) refl
-    where
-      by : (o : Option Memory) → w.memory s ≡ o → So (timeout s T o w)
-      by None e = as_before
-      by (Some m) e = one-server (timeout s T (Some m) w) s (Some (server_timeout m T)) (by_timeout m T e)
-  step-memory (StopDelivery k room made) = handed-so k room (Some made) (slice_get w.sent k) refl
-  step-memory (StopWork s room made) = work-so s room (Some made) (w.memory s) refl
-  step-memory (Crash s) = by (w.memory s)
-    where
-      by : (o : Option Memory) → So (crash s o w)
-      by None = as_before
-      by (Some m) = one-server (crash s (Some m) w) s None down
-  step-memory (Narrow s g) = by (w.memory s)
-    where
-      by : (o : Option Memory) → So (narrow s g o w)
-      by None = as_before
-      by (Some m) = as_before
-  step-memory (StopRestart s raised) = by (w.memory s)
-    where
-      by : (o : Option Memory) → So (stop_restart s raised o w)
-      by None = as_before
-      by (Some m) = as_before
-  step-memory (Restart s pick Ws Ts) = by (w.memory s)
-    where
-      by : (o : Option Memory) → So (restart s pick Ws Ts o w)
-      by None = one-server (restart s pick Ws Ts None w) s (Some (restored s (w.found s pick) Ws Ts)) (by_restart (w.found s pick) Ws Ts)
-      by (Some m) = as_before
-  step-memory Dismiss = as_before
-  step-memory (CloseClients s) = by (w.memory s) refl
-    where
-      by : (o : Option Memory) → w.memory s ≡ o → So (close_clients s o w)
-      by None e = as_before
-      by (Some m) e = ends-so s None None (of_coordinator m (close_clients_row m.coordinator m.tickets)) (by_closing m e)
+pub step-memory : (w : World) (q : ServerNo) (step : Step) → Remembers w (after step w) q ((after step w).memory q)
+step-memory w q step = by-case w step (after step w) (step-case w step) q
 
 -- ---- no vote or commit is complete
 

@@ -1,6 +1,5 @@
 -- Each transaction of a table and of a flag has the client that began it.
-use Rattle.jn_system_settling.proofs.Common.{◌≡◌, ℕ, zero, suc, ◌+◌, Bool, true, false, List, [], ◌∷◌, ◌++◌, take, Option, Some, None, true≢false, refl, sym, arith, ◌&&◌, ◌||◌, not, if◌then◌else◌, nat_lt, nat_eq, length, nat_tests, ClientNo, Tid, WorkId, Tickets, Cause, Client, tid_eq, client_eq, tid_tells, Message, Vote, Transaction, Stage, Open, Voting, Committed, Aborted, Ballot, Commitment, StableState, FlagState, Change, AddReady, MarkGoing, CarryOut, RemoveWork, AddFlag, DropFlag, made_by, made_all, RowOutcome, Closes, Empty, Stays, Goes, Waits, Forgets, client-closes, CoordinatorTable, transaction_at, with_stage, all_in, is_work, commit_row, abort_row, forget_row, after_closing, changes_of_closing, begin_again, begun_by, begin_row, seen_now, name_from, end_promised, end_stage, end_row, abort_stage, abort_request, told_stage, inquire_row, counted_vote, vote_stage, vote_row, done_stage, done_row, thanks_stage, thanks_row, with_work, coordinator_row, restored_transaction, restored_transactions, Opening, openings}
-use Rattle.jn_base.specs.declared.names.RequestNo.{RequestNo}
+use Rattle.jn_system_settling.proofs.Common.{◌≡◌, ℕ, zero, suc, ◌+◌, Bool, true, false, List, [], ◌∷◌, ◌++◌, take, Option, Some, None, true≢false, refl, sym, arith, ◌&&◌, ◌||◌, not, if◌then◌else◌, nat_lt, nat_eq, length, nat_tests, ClientNo, Tid, WorkId, Tickets, Cause, Client, tid_eq, client_eq, tid_tells, Message, Vote, Transaction, Stage, Open, Voting, Committed, Aborted, Ballot, Commitment, StableState, FlagState, Change, AddReady, MarkGoing, CarryOut, RemoveWork, AddFlag, DropFlag, made_by, made_all, RowOutcome, Closes, Empty, Stays, Goes, Waits, Forgets, client-closes, CoordinatorTable, transaction_at, with_stage, all_in, is_work, commit_row, abort_row, forget_row, after_closing, changes_of_closing, begin_again, begun_by, begin_row, seen_now, name_from, end_promised, end_stage, end_row, abort_stage, abort_request, told_stage, inquire_row, counted_vote, vote_stage, vote_row, done_stage, done_row, thanks_stage, thanks_row, with_work, coordinator_row, restored_transaction, restored_transactions, Opening, openings, RequestNo}
 use Rattle.jn_msgs.specs.declared.message.Message.TheVariants as messages
 use Rattle.jn_msgs.specs.declared.message.Note.TheVariants.{Ignored}
 use Rattle.jn_msgs.specs.declared.message.Vote.TheVariants as votes

@@ -1,12 +1,9 @@
 -- Each step of the whole system keeps what is said of clients' requests.
-use Rattle.jn_system_settling.proofs.Common.{◌≡◌, ◌≢◌, ◌⊎◌, inl, inr, ◌≤◌, ℕ, zero, suc, ◌+◌, Bool, true, false, List, [], ◌∷◌, ◌++◌, take, Option, Some, None, true≢false, append-nil, refl, sym, ◌∙◌, ap, subst, arith, ◌&&◌, if◌then◌else◌, nat_lt, slice_get, nat_tests, ServerNo, ClientNo, Tid, WorkId, Party, Client, Server, Command, server_eq, client_eq, client_tells, Message, AllFiles, OpenWork, Outstanding, Taken, Transaction, StableState, FlagState, Pick, stable, made_all, RowOutcome, Sent, WorkerTable, worker_row, worker_step, work_of, timed_out, transaction_at, coordinator_row, close_clients_row, seen_in_flags, seen_in_flag, ClientTable, if_server, if_idle, if_transaction, if_no_transaction, if_open, if_not_open, with_operation, names_of, sends_command, Commanded, Refuses, Sends, command_row, take_row, again_row, sent_again, is_begin, over, with_epoch, World, Memory, at_server, at_client, Room, storage_of, server_row, server_step, server_again, of_worker, of_coordinator, of_step, of_timeout, server_timeout, is_for_worker, restored, Step, NextEvent, Tell, Again, Deliver, Nudge, Timeout, StopDelivery, StopWork, Crash, Narrow, StopRestart, Restart, Dismiss, CloseClients, after, ends, at_memory, handed, work, works, nudge, timeout, crash, narrow, stop_restart, restart, dismiss, close_clients, took, commanded, sent_now, UpFact, ServerFact, Opening, openings, openings-more, HasOpening, Course, go}
-use Rattle.jn_base.specs.Names.{request_of, operation_of}
+use Rattle.jn_system_settling.proofs.Common.{◌≡◌, ◌≢◌, ◌⊎◌, inl, inr, ◌≤◌, ℕ, zero, suc, ◌+◌, Bool, true, false, List, [], ◌∷◌, ◌++◌, take, Option, Some, None, true≢false, append-nil, refl, sym, ◌∙◌, ap, subst, arith, ◌&&◌, if◌then◌else◌, nat_lt, slice_get, nat_tests, ServerNo, ClientNo, Tid, Party, Server, Command, client_eq, client_tells, Message, AllFiles, OpenWork, Outstanding, Taken, Transaction, StableState, FlagState, Pick, stable, made_all, RowOutcome, Sent, WorkerTable, worker_row, worker_step, work_of, timed_out, transaction_at, coordinator_row, close_clients_row, seen_in_flags, seen_in_flag, ClientTable, if_server, if_idle, if_transaction, if_no_transaction, if_open, if_not_open, with_operation, names_of, sends_command, Commanded, Refuses, Sends, command_row, take_row, again_row, sent_again, is_begin, over, with_epoch, World, Memory, at_client, Room, storage_of, server_row, server_step, server_again, of_worker, of_coordinator, of_step, of_timeout, server_timeout, is_for_worker, restored, Step, Tell, after, works, commanded, sent_now, UpFact, ServerFact, Opening, openings, openings-more, HasOpening, Course, go, request_of, operation_of, Text, ClientRow, by_command, by_ignoring, by_answering, by_telling, ServerRow, of_message, of_work, of_closing, Quiet, event_begins, none_changes, is_refused, client_repeats, server_repeats, is_lost, StepCase, client_row, row_done, row_stopped, gone_late, gone_down, come_up, found_anew, dismissed, quietly, step-case, client-changes, memory-now, memory-gone, found-now, found-then}
 use Rattle.jn_base.specs.declared.op.Command.TheVariants as commands
 use Rattle.jn_msgs.specs.declared.message.Message.TheVariants as messages
 use Rattle.jn_report.specs.declared.line.Refusal.TheVariants as refusals
-use Rattle.jn_rows.specs.declared.client.Taken.TheVariants as taken
 use Rattle.jn_rows.specs.Client.{work_at}
-use Rattle.jn_system.specs.WholeSystem.Steps.{Work}
 use Rattle.jn_system_settling.proofs.Settling.WorkerFits.{worker-fits, step-fits}
 use Rattle.jn_system_settling.proofs.Settling.CoordinatorFits.{found-name}
 use Rattle.jn_system_settling.proofs.Settling.ClientFits.{sent_with}
@@ -51,13 +48,9 @@ module _ (r : World) (h : Requests r) (g : Clients) (on : (c : ClientNo) → Goe
       by (inr new) = fits x new
 
   -- no server changes
-  clients-step : (now : World) → now.memory ≡ r.memory → now.found ≡ r.found → now.clients ≡ g → (more : List Sent) → now.sent ≡ r.sent ++ more → ((c : ClientNo) → Draws (g c)) → ((x : Sent) → Has x more → MessageFits g (openings (r.sent ++ more)) x.1) → Requests now
-  clients-step now memory found clients more sent draws fits = record {
-    draws = subst (λ f. (c : ClientNo) → Draws (f c)) (sym clients) draws;
-    sent = subst (λ f. (x : Sent) → Has x now.sent → MessageFits f (openings now.sent) x.1) (sym clients) (subst (λ l. (x : Sent) → Has x l → MessageFits g (openings l) x.1) (sym sent) (messages-on more fits));
-    servers = λ s. subst (λ f. ServerRequests f now.sent (now.memory s) (now.found s)) (sym clients) (subst (λ l. ServerRequests g l (now.memory s) (now.found s)) (sym sent)
-        (subst (λ y. ServerRequests g (r.sent ++ more) (y s) (now.found s)) (sym memory) (subst (λ y. ServerRequests g (r.sent ++ more) (r.memory s) (y s)) (sym found) (server-on more s))));
-  }
+  clients-step : (event : ℕ) (more sent : List Sent) (lines : List Text) → sent ≡ r.sent ++ more → ((c : ClientNo) → Draws (g c)) → ((x : Sent) → Has x more → MessageFits g (openings (r.sent ++ more)) x.1)
+      → Requests (record r { event = event; clients = g; sent = sent; lines = lines })
+  clients-step event more sent lines e draws fits = subst (λ sent. Requests (record r { event = event; clients = g; sent = sent; lines = lines })) (sym e) (record { draws = draws; sent = messages-on more fits; servers = server-on more })
 
 pub has-at : (xs : List Sent) (k : ℕ) (x : Sent) → slice_get xs k ≡ Some x → Has x xs
 has-at [] k x e = absurd (cc e)
@@ -66,12 +59,6 @@ has-at (y ∷ ys) zero x e = inl (some e)
     some : Some y ≡ Some x → y ≡ x
     some q = cc
 has-at (y ∷ ys) (suc k) x e = inr (has-at ys k x e)
-
-some-memory : (a b : Memory) → Some a ≡ Some b → a ≡ b
-some-memory a b e = cc
-
-none-memory : (a : Memory) → None ≡ Some a → ⊥
-none-memory a e = cc
 
 pub take-next : (t : ClientTable) (m : Message) → (take_row t m).0.next ≡ t.next
 take-next t (messages.Begun c request answer) = grind arith
@@ -100,11 +87,7 @@ still-draws t now e (inr q) h = record { some = let s = h.some in omega (arith, 
 
 -- one client's table is another one
 pub one-client : (P : ClientNo → ClientTable → Type 0) (f : Clients) (c : ClientNo) (t : ClientTable) → P c t → ((d : ClientNo) → P d (f d)) → (d : ClientNo) → P d (at_client f c t d)
-one-client P f c t now old d = by (client_tells c d)
-  where
-    by : ((client_eq c d ≡ true) × (c ≡ d)) ⊎ ((client_eq c d ≡ false) × (c ≢ d)) → P d (if client_eq c d then t else f d)
-    by (inl e) = subst (λ (b : Bool). P d (if b then t else f d)) (sym e.0) (subst (λ (z : ClientNo). P z t) e.1 now)
-    by (inr e) = subst (λ (b : Bool). P d (if b then t else f d)) (sym e.0) (old d)
+one-client P f c t now old = client-changes P f c t now (λ d other. old d)
 
 -- a command's message and table
 pub record Commands (u t : ClientTable) (to : Party) (m : Message) : Type 0 where
@@ -254,177 +237,28 @@ module _ (n : ℕ) (at_most : n ≤ 8) (start : World) (files : AllFiles) (epoch
             subst (λ (y : RowOutcome Memory). RowRequests w.clients w.sent y) (some (of_worker m z) row q)
             (worker-requests w.clients w.sent m ((r.servers s).votings m up) ((r.servers s).seen m up) z few.flags (step-plain m.worker (storage_of m (stable (w.found s)) room) m.tickets z k))
 
-    on : (c : ClientNo) → GoesOn (w.clients c) (w.clients c)
-    on c = stays w.clients c
+    row-of : (s : ServerNo) (m : Memory) (stop : Option (Pick → ℕ)) (step : Step) (k : Option ℕ) (row : RowOutcome Memory) → w.memory s ≡ Some m → ServerRow w s m stop step k row → RowRequests w.clients w.sent row
+    row-of s m _ _ _ _ up (of_message stop k room message is) = row-requests s m room message up (r.sent (Server s, message) (has-at w.sent k (Server s, message) is))
+    row-of s m _ _ _ _ up (of_work stop room row is) = step-requests s m room row up is
+    row-of s m _ _ _ _ up of_closing = let mine = (r.servers s).votings m up in
+        other-requests w.clients w.sent m mine ((r.servers s).seen m up) (close_clients_row m.coordinator m.tickets) (close-votes (Past false w.clients) m.coordinator m.tickets mine)
 
-    -- one server changes, and this is sent
-    changed-at : (s : ServerNo) (more : List Sent) (m : Option Memory) (found : Pick → StableState) → ServerRequests w.clients (w.sent ++ more) m found
-        → (q : ServerNo) → ServerRequests w.clients (w.sent ++ more) (at_server w.memory s m q) (λ c. if server_eq s q then found c else w.found q c)
-    changed-at s more m found now q = by (server_eq s q)
-      where
-        by : (b : Bool) → ServerRequests w.clients (w.sent ++ more) (if b then m else w.memory q) (λ c. if b then found c else w.found q c)
-        by true = now
-        by false = server-on w r w.clients on more q
+    -- ---- one server changes
 
-    -- the table or the stable states change alone
-    parts-at : (s : ServerNo) (m : Option Memory) (found : Pick → StableState)
-        → ((a : Memory) → m ≡ Some a → Votings (Past false w.clients) a.coordinator.transactions × ((c : ClientNo) → SeenFits w.clients w.sent c (a.coordinator.seen c))) → ((k : Pick) → StoredOf (Past false w.clients) (found k).flags)
-        → (q : ServerNo) (a b : Bool) → ServerRequests w.clients w.sent (if a then m else w.memory q) (λ k. if b then found k else w.found q k)
-    parts-at s m found table flags q true true = record { votings = λ a e. (table a e).0; seen = λ a e. (table a e).1; flags = flags }
-    parts-at s m found table flags q true false = record { votings = λ a e. (table a e).0; seen = λ a e. (table a e).1; flags = (r.servers q).flags }
-    parts-at s m found table flags q false true = record { votings = (r.servers q).votings; seen = (r.servers q).seen; flags = flags }
-    parts-at s m found table flags q false false = r.servers q
+    abbrev Fits : List Sent → Memory → Type 0
+    Fits sent m = Votings (Past false w.clients) m.coordinator.transactions × ((c : ClientNo) → SeenFits w.clients sent c (m.coordinator.seen c))
 
-    -- with servers that are so
-    with-servers : (memory : ServerNo → Option Memory) (found : ServerNo → Pick → StableState) (now : World) → now.clients ≡ w.clients → now.sent ≡ w.sent → ((q : ServerNo) → ServerRequests w.clients w.sent (now.memory q) (now.found q)) → Requests now
-    with-servers memory found now clients sent servers = record {
-      draws = subst (λ f. (c : ClientNo) → Draws (f c)) (sym clients) r.draws;
-      sent = subst (λ f. (x : Sent) → Has x now.sent → MessageFits f (openings now.sent) x.1) (sym clients) (subst (λ l. (x : Sent) → Has x l → MessageFits w.clients (openings l) x.1) (sym sent) r.sent);
-      servers = λ q. subst (λ f. ServerRequests f now.sent (now.memory q) (now.found q)) (sym clients) (subst (λ l. ServerRequests w.clients l (now.memory q) (now.found q)) (sym sent) (servers q));
-    }
+    abbrev StateFits : StableState → Type 0
+    StateFits x = StoredOf (Past false w.clients) x.flags
 
-    module _ (s : ServerNo) (m : Memory) (up : w.memory s ≡ Some m) (row : RowOutcome Memory) (rr : RowRequests w.clients w.sent row) where
-      ends-requests : (k : Option ℕ) (stop : Option (Pick → ℕ)) → Requests (ends s k stop row w)
-      ends-requests k None = record {
-        draws = r.draws;
-        sent = messages-on w r w.clients on row.messages (rr.fits (openings (w.sent ++ row.messages)));
-        servers = changed-at s row.messages (Some row.table) (λ c. made_all row.changes (w.found s c)) (record {
-          votings = λ a e. subst (λ (z : Memory). Votings (Past false w.clients) z.coordinator.transactions) (some-memory row.table a e) rr.table;
-          seen = λ a e. subst (λ (z : Memory). (c : ClientNo) → SeenFits w.clients (w.sent ++ row.messages) c (z.coordinator.seen c)) (some-memory row.table a e) rr.seen;
-          flags = λ c. all-changes-of (Past false w.clients) row.changes (w.found s c) rr.flags ((r.servers s).flags c);
-        });
-      }
-      ends-requests k (Some made) = record {
-        draws = r.draws;
-        sent = r.sent;
-        servers = λ q. parts-at s None (λ c. made_all (take (made c) row.changes) (w.found s c)) (λ a e. absurd (none-memory a e)) (λ c. prefix-of (Past false w.clients) row.changes (made c) (w.found s c) rr.flags ((r.servers s).flags c)) q (server_eq s q) (server_eq s q);
-      }
+    server-fits : (sent : List Sent) (o : Option Memory) (found : Pick → StableState) → ((m : Memory) → o ≡ Some m → Fits sent m) → ((k : Pick) → StateFits (found k)) → ServerRequests w.clients sent o found
+    server-fits sent o found table flags = record { votings = λ m e. (table m e).0; seen = λ m e. (table m e).1; flags = flags }
 
-    same : (now : World) → now.clients ≡ w.clients → now.sent ≡ w.sent → now.memory ≡ w.memory → now.found ≡ w.found → Requests now
-    same now clients sent memory found = with-servers w.memory w.found now clients sent (λ q. subst (λ y. ServerRequests w.clients w.sent (y q) (now.found q)) (sym memory) (subst (λ y. ServerRequests w.clients w.sent (w.memory q) (y q)) (sym found) (r.servers q)))
+    old : (q : ServerNo) (m : Memory) → w.memory q ≡ Some m → Fits w.sent m
+    old q m e = ((r.servers q).votings m e, (r.servers q).seen m e)
 
-    -- ---- clients
-
-    taken-requests : (c : ClientNo) (k : ℕ) (message : Message) → Requests (took c k (take_row (w.clients c) message).0 (take_row (w.clients c) message).1 w)
-    taken-requests c k message = by (take_row (w.clients c) message).1 (take-plain (w.clients c) message)
-      where
-        t : ClientTable
-        t = (take_row (w.clients c) message).0
-
-        g-on : (e : ClientNo) → GoesOn (w.clients e) (at_client w.clients c (take_row (w.clients c) message).0 e)
-        g-on = one-client (λ e t. GoesOn (w.clients e) t) w.clients c (take_row (w.clients c) message).0 (still-on (w.clients c) (take_row (w.clients c) message).0 (take-next (w.clients c) message) (take-still (w.clients c) message)) on
-
-        g-draws : (e : ClientNo) → Draws (at_client w.clients c (take_row (w.clients c) message).0 e)
-        g-draws = one-client (λ e t. Draws t) w.clients c (take_row (w.clients c) message).0 (still-draws (w.clients c) (take_row (w.clients c) message).0 (take-next (w.clients c) message) (take-still (w.clients c) message) (r.draws c)) r.draws
-
-        by : (z : Taken) → are_plain (sent_with z) ≡ true → Requests (took c k (take_row (w.clients c) message).0 z w)
-        by taken.Ignored plain = clients-step w r (at_client w.clients c (take_row (w.clients c) message).0) g-on (took c k (take_row (w.clients c) message).0 taken.Ignored w) refl refl refl [] (sym (append-nil w.sent)) g-draws (λ x q. absurd q)
-        by (taken.Send to m) plain = clients-step w r (at_client w.clients c (take_row (w.clients c) message).0) g-on (took c k (take_row (w.clients c) message).0 (taken.Send to m) w) refl refl refl ((to, m) ∷ []) refl g-draws (plain-fits (at_client w.clients c (take_row (w.clients c) message).0) (openings (w.sent ++ (to, m) ∷ [])) ((to, m) ∷ []) plain)
-        by (taken.Told line answer) plain = clients-step w r (at_client w.clients c (take_row (w.clients c) message).0) g-on (took c k (take_row (w.clients c) message).0 (taken.Told line answer) w) refl refl refl (sent_now answer) refl g-draws (plain-fits (at_client w.clients c (take_row (w.clients c) message).0) (openings (w.sent ++ sent_now answer)) (sent_now answer) plain)
-
-    tell-requests : (c : ClientNo) (command : Command) → Requests (commanded c (command_row (w.clients c) w.event command) w)
-    tell-requests c command = by (command_row (w.clients c) w.event command) refl (commands-as (w.clients c) w.event command)
-      where
-        by : (row : Commanded) → command_row (w.clients c) w.event command ≡ row → CommandsAs (w.clients c) row → Requests (commanded c row w)
-        by (Refuses refusal) e shape = same (commanded c (Refuses refusal) w) refl refl refl refl
-        by (Sends t to m) e shape = clients-step w r (at_client w.clients c t) g-on (commanded c (Sends t to m) w) refl refl refl ((to, m) ∷ []) refl g-draws fits
-          where
-            some : (o : Outstanding) → Some shape.waits ≡ Some o → shape.waits ≡ o
-            some o q = cc
-
-            g-on : (e : ClientNo) → GoesOn (w.clients e) (at_client w.clients c t e)
-            g-on = one-client (λ e z. GoesOn (w.clients e) z) w.clients c t (waits_anew (let l = shape.next in omega (arith, l)) shape.waits shape.outstanding shape.request) on
-
-            draws : Draws t
-            draws = record {
-              some = let l = shape.next in omega (arith, l);
-              latest = λ o is. let one = ap (λ (z : Outstanding). z.request.0) (some o (sym shape.outstanding ∙ is)) in let two = shape.request in let next = shape.next in let least = (r.draws c).some in (omega (arith, one, two, least), omega (arith, one, two, next));
-            }
-
-            g-draws : (e : ClientNo) → Draws (at_client w.clients c t e)
-            g-draws = one-client (λ e z. Draws z) w.clients c t draws r.draws
-
-            world : after (Tell c command) w ≡ commanded c (Sends t to m) w
-            world = ap (λ z. commanded c z w) e
-
-            itself : client_eq c c ≡ true
-            itself = grind (arith, nat_tests)
-
-            table : (after (Tell c command) w).clients c ≡ t
-            table = ap (λ (z : World). z.clients c) world ∙ ap (λ (b : Bool). if b then t else w.clients c) itself
-
-            truly : MessageFits (at_client w.clients c t) (openings (w.sent ++ (to, m) ∷ [])) shape.waits.message
-            truly = subst (λ (z : World). MessageFits z.clients (openings z.sent) shape.waits.message) world
-                (waits-truly (go (Tell c command) d) c shape.waits (go-talking n at_most start files epochs d (Tell c command) h tt) (subst (λ (z : ClientTable). Draws z) (sym table) draws) (ap (λ (z : ClientTable). z.outstanding) table ∙ shape.outstanding))
-
-            fits : (x : Sent) → Has x ((to, m) ∷ []) → MessageFits (at_client w.clients c t) (openings (w.sent ++ (to, m) ∷ [])) x.1
-            fits x (inl q) = subst (λ (z : Sent). MessageFits (at_client w.clients c t) (openings (w.sent ++ (to, m) ∷ [])) z.1) q (subst (λ z. MessageFits (at_client w.clients c t) (openings (w.sent ++ (to, m) ∷ [])) z) shape.message truly)
-            fits x (inr q) = absurd q
-
-    again-requests : (c : ClientNo) → Requests (after (Again c) w)
-    again-requests c = clients-step w r w.clients on (after (Again c) w) refl refl refl (sent_now (again_row (w.clients c))) refl r.draws (by (w.clients c).outstanding refl)
-      where
-        by : (o : Option Outstanding) → (w.clients c).outstanding ≡ o → (x : Sent) → Has x (sent_now (sent_again o)) → MessageFits w.clients (openings (w.sent ++ sent_now (again_row (w.clients c)))) x.1
-        by None e x q = absurd q
-        by (Some o) e x (inl q) = subst (λ (z : Sent). MessageFits w.clients (openings (w.sent ++ sent_now (again_row (w.clients c)))) z.1) q
-            (subst (λ os. MessageFits w.clients os o.message) (sym (openings-more w.sent (sent_now (again_row (w.clients c))))) (message-on w.clients w.clients on (openings w.sent) (openings (sent_now (again_row (w.clients c)))) o.message (waits-truly d c o h (r.draws c) e)))
-        by (Some o) e x (inr q) = absurd q
-
-    -- ---- every step
-
-    handed-requests : (k : ℕ) (room : Room) (stop : Option (Pick → ℕ)) (o : Option Sent) → slice_get w.sent k ≡ o → Requests (handed k room stop o w)
-    handed-requests k room stop None e = r
-    handed-requests k room stop (Some (Client c, message)) e = taken-requests c k message
-    handed-requests k room stop (Some (Server s, message)) e = by (w.memory s) refl
-      where
-        fits : MessageFits w.clients (openings w.sent) message
-        fits = r.sent (Server s, message) (has-at w.sent k (Server s, message) e)
-
-        by : (o : Option Memory) → w.memory s ≡ o → Requests (at_memory s k room stop message o w)
-        by None q = same (at_memory s k room stop message None w) refl refl refl refl
-        by (Some m) q = ends-requests s m q (server_row m (stable (w.found s)) room message) (row-requests s m room message q fits) (Some k) stop
-
-    work-requests : (s : ServerNo) (room : Room) (stop : Option (Pick → ℕ)) (o : Option Memory) → w.memory s ≡ o → Requests (work s room stop o w)
-    work-requests s room stop None e = r
-    work-requests s room stop (Some m) e = by (server_step m (stable (w.found s)) room) refl
-      where
-        by : (o : Option (RowOutcome Memory)) → server_step m (stable (w.found s)) room ≡ o → Requests (works s stop o w)
-        by None q = r
-        by (Some row) q = ends-requests s m e row (step-requests s m room row e q) None stop
-
-    nudge-requests : (s : ServerNo) (o : Option Memory) → Requests (nudge s o w)
-    nudge-requests s None = r
-    nudge-requests s (Some m) = clients-step w r w.clients on (nudge s (Some m) w) refl refl refl (server_again m (stable (w.found s))) refl r.draws
-        (plain-fits w.clients (openings (w.sent ++ server_again m (stable (w.found s)))) (server_again m (stable (w.found s))) (again-plain (stable (w.found s)) m.worker m.coordinator.transactions))
-
-    timeout-requests : (s : ServerNo) (T : Tid) (o : Option Memory) → w.memory s ≡ o → Requests (timeout s T o w)
-    timeout-requests s T None e = r
-    timeout-requests s T (Some m) e = record {
-      draws = r.draws;
-      sent = r.sent;
-      servers = λ q. parts-at s (Some (server_timeout m T)) (w.found s) (λ a k. subst (λ (z : Memory). Votings (Past false w.clients) z.coordinator.transactions × ((c : ClientNo) → SeenFits w.clients w.sent c (z.coordinator.seen c)))
-          (some-memory (server_timeout m T) a k) (kept (timed_out m.worker (work_of T m.worker)))) (r.servers s).flags q (server_eq s q) false;
-    }
-      where
-        kept : (o : Option WorkerTable) → Votings (Past false w.clients) (of_timeout m o).coordinator.transactions × ((c : ClientNo) → SeenFits w.clients w.sent c ((of_timeout m o).coordinator.seen c))
-        kept None = ((r.servers s).votings m e, (r.servers s).seen m e)
-        kept (Some t) = ((r.servers s).votings m e, (r.servers s).seen m e)
-
-    crash-requests : (s : ServerNo) (o : Option Memory) → Requests (crash s o w)
-    crash-requests s None = r
-    crash-requests s (Some m) = record { draws = r.draws; sent = r.sent; servers = λ q. parts-at s None (w.found s) (λ a e. absurd (none-memory a e)) (r.servers s).flags q (server_eq s q) false }
-
-    narrow-requests : (s : ServerNo) (g : Pick → Pick) (o : Option Memory) → Requests (narrow s g o w)
-    narrow-requests s g None = record { draws = r.draws; sent = r.sent; servers = λ q. parts-at s None (λ c. w.found s (g c)) (λ a e. absurd (none-memory a e)) (λ c. (r.servers s).flags (g c)) q false (server_eq s q) }
-    narrow-requests s g (Some m) = r
-
-    raise-requests : (s : ServerNo) (up : Pick → Bool) (o : Option Memory) → Requests (stop_restart s up o w)
-    raise-requests s up None = record { draws = r.draws; sent = r.sent; servers = λ q. parts-at s None (λ c. if up c then with_epoch (w.found s c) else w.found s c) (λ a e. absurd (none-memory a e)) (λ c. by c (up c)) q false (server_eq s q) }
-      where
-        by : (c : Pick) (b : Bool) → StoredOf (Past false w.clients) (if b then with_epoch (w.found s c) else w.found s c).flags
-        by c true = (r.servers s).flags c
-        by c false = (r.servers s).flags c
-    raise-requests s up (Some m) = r
+    old-states : (q : ServerNo) (k : Pick) → StateFits (w.found q k)
+    old-states q = (r.servers q).flags
 
     -- what flags have of a client's requests
     flags-seen : (x : StableState) (Ts : List Tid) (c : ClientNo) → StoredOf (Past false w.clients) x.flags → SeenFits w.clients w.sent c (seen_in_flags x Ts c)
@@ -440,37 +274,114 @@ module _ (n : ℕ) (at_most : n ≤ 8) (start : World) (files : AllFiles) (epoch
             on-flag (inl t) false = subst (λ (z : Bool). SeenFits w.clients w.sent c (if z && false then f.request.0 else seen_in_flags x Ts c)) (sym t.0) again
             on-flag (inr t) b = subst (λ (z : Bool). SeenFits w.clients w.sent c (if z && b then f.request.0 else seen_in_flags x Ts c)) (sym t.0) again
 
-    restart-requests : (s : ServerNo) (pick : Pick) (Ws : List WorkId) (Ts : List Tid) (o : Option Memory) → Requests (restart s pick Ws Ts o w)
-    restart-requests s pick Ws Ts None = record {
+    -- ---- clients
+
+    on : (c : ClientNo) → GoesOn (w.clients c) (w.clients c)
+    on c = stays w.clients c
+
+    client-step : (c : ClientNo) (t : ClientTable) (more sent : List Sent) (lines : List Text) → sent ≡ w.sent ++ more → GoesOn (w.clients c) t → Draws t → ((x : Sent) → Has x more → MessageFits (at_client w.clients c t) (openings (w.sent ++ more)) x.1)
+        → Requests (record w { clients = at_client w.clients c t; sent = sent; lines = lines })
+    client-step c t more sent lines e goes draws fits = clients-step w r (at_client w.clients c t) (one-client (λ e t. GoesOn (w.clients e) t) w.clients c t goes on) w.event more sent lines e (one-client (λ e t. Draws t) w.clients c t draws r.draws) fits
+
+    -- what a client takes
+    abbrev Takes : ClientNo → ClientTable × Taken → Type 0
+    Takes c x = GoesOn (w.clients c) x.0 × (Draws x.0 × (are_plain (sent_with x.1) ≡ true))
+
+    taken-requests : (c : ClientNo) (message : Message) (x : ClientTable × Taken) (sent : List Sent) (lines : List Text) → take_row (w.clients c) message ≡ x → sent ≡ w.sent ++ sent_with x.1
+        → Requests (record w { clients = at_client w.clients c x.0; sent = sent; lines = lines })
+    taken-requests c message x sent lines e is = client-step c x.0 (sent_with x.1) sent lines is takes.0 takes.1.0 (plain-fits (at_client w.clients c x.0) (openings (w.sent ++ sent_with x.1)) (sent_with x.1) takes.1.1)
+      where
+        takes : Takes c x
+        takes = let next = take-next (w.clients c) message in let still = take-still (w.clients c) message in
+            subst (Takes c) e (still-on (w.clients c) (take_row (w.clients c) message).0 next still, (still-draws (w.clients c) (take_row (w.clients c) message).0 next still (r.draws c), take-plain (w.clients c) message))
+
+    commanded-requests : (c : ClientNo) (command : Command) (t : ClientTable) (to : Party) (m : Message) → command_row (w.clients c) w.event command ≡ Sends t to m → Requests (commanded c (Sends t to m) w)
+    commanded-requests c command t to m e = client-step c t ((to, m) ∷ []) (w.sent ++ (to, m) ∷ []) w.lines refl (waits_anew (let l = shape.next in omega (arith, l)) shape.waits shape.outstanding shape.request) draws fits
+      where
+        shape : Commands (w.clients c) t to m
+        shape = subst (CommandsAs (w.clients c)) e (commands-as (w.clients c) w.event command)
+
+        some : (o : Outstanding) → Some shape.waits ≡ Some o → shape.waits ≡ o
+        some o q = cc
+
+        draws : Draws t
+        draws = record {
+          some = let l = shape.next in omega (arith, l);
+          latest = λ o is. let one = ap (λ (z : Outstanding). z.request.0) (some o (sym shape.outstanding ∙ is)) in let two = shape.request in let next = shape.next in let least = (r.draws c).some in (omega (arith, one, two, least), omega (arith, one, two, next));
+        }
+
+        world : after (Tell c command) w ≡ commanded c (Sends t to m) w
+        world = ap (λ z. commanded c z w) e
+
+        itself : client_eq c c ≡ true
+        itself = grind (arith, nat_tests)
+
+        table : (after (Tell c command) w).clients c ≡ t
+        table = ap (λ (z : World). z.clients c) world ∙ ap (λ (b : Bool). if b then t else w.clients c) itself
+
+        truly : MessageFits (at_client w.clients c t) (openings (w.sent ++ (to, m) ∷ [])) shape.waits.message
+        truly = subst (λ (z : World). MessageFits z.clients (openings z.sent) shape.waits.message) world
+            (waits-truly (go (Tell c command) d) c shape.waits (go-talking n at_most start files epochs d (Tell c command) h tt) (subst (λ (z : ClientTable). Draws z) (sym table) draws) (ap (λ (z : ClientTable). z.outstanding) table ∙ shape.outstanding))
+
+        fits : (x : Sent) → Has x ((to, m) ∷ []) → MessageFits (at_client w.clients c t) (openings (w.sent ++ (to, m) ∷ [])) x.1
+        fits x (inl q) = subst (λ (z : Sent). MessageFits (at_client w.clients c t) (openings (w.sent ++ (to, m) ∷ [])) z.1) q (subst (λ z. MessageFits (at_client w.clients c t) (openings (w.sent ++ (to, m) ∷ [])) z) shape.message truly)
+        fits x (inr q) = absurd q
+
+    row-of-client : (c : ClientNo) (step : Step) (t : ClientTable) (sent : List Sent) (lines : List Text) → ClientRow w c step t sent lines → Requests (record w { clients = at_client w.clients c t; sent = sent; lines = lines })
+    row-of-client c _ _ _ _ (by_command command t to m e) = commanded-requests c command t to m e
+    row-of-client c _ _ _ _ (by_ignoring k room stop message t is e) = taken-requests c message _ _ _ e (sym (append-nil w.sent))
+    row-of-client c _ _ _ _ (by_answering k room stop message t to answer is e) = taken-requests c message _ _ _ e refl
+    row-of-client c _ _ _ _ (by_telling k room stop message t line answer is e) = taken-requests c message _ _ _ e refl
+
+    -- ---- steps that leave every table and state
+
+    again-fits : (c : ClientNo) (os : List Opening) (o : Option Outstanding) → (w.clients c).outstanding ≡ o → (x : Sent) → Has x (sent_now (sent_again o)) → MessageFits w.clients (openings w.sent ++ os) x.1
+    again-fits c os None e x q = absurd q
+    again-fits c os (Some o) e x (inl q) = subst (λ (z : Sent). MessageFits w.clients (openings w.sent ++ os) z.1) q (message-on w.clients w.clients on (openings w.sent) os o.message (waits-truly d c o h (r.draws c) e))
+    again-fits c os (Some o) e x (inr q) = absurd q
+
+    quiet-requests : (step : Step) (event : ℕ) (sent : List Sent) (lines : List Text) → Quiet w step event sent lines → Requests (record w { event = event; sent = sent; lines = lines })
+    quiet-requests _ _ _ _ (client_repeats c) = let more = sent_now (again_row (w.clients c)) in clients-step w r w.clients on w.event more _ w.lines refl r.draws
+        (λ x k. subst (λ os. MessageFits w.clients os x.1) (sym (openings-more w.sent more)) (again-fits c (openings more) (w.clients c).outstanding refl x k))
+    quiet-requests _ _ _ _ (server_repeats s m e) = let more = server_again m (stable (w.found s)) in clients-step w r w.clients on w.event more _ w.lines refl r.draws
+        (plain-fits w.clients (openings (w.sent ++ more)) more (again-plain (stable (w.found s)) m.worker m.coordinator.transactions))
+    quiet-requests _ _ _ _ event_begins = record { draws = r.draws; sent = r.sent; servers = r.servers }
+    quiet-requests _ _ _ _ (none_changes step) = record { draws = r.draws; sent = r.sent; servers = r.servers }
+    quiet-requests _ _ _ _ (is_refused c command refusal e) = record { draws = r.draws; sent = r.sent; servers = r.servers }
+    quiet-requests _ _ _ _ (is_lost k room stop s message is e) = record { draws = r.draws; sent = r.sent; servers = r.servers }
+
+    -- ---- every step
+
+    by-case : (step : Step) (now : World) → StepCase w step now → Requests now
+    by-case step _ (client_row _ c t sent lines row) = row-of-client c step t sent lines row
+    by-case step _ (row_done _ s m k row e is) = let rr = row-of s m None step k row e is in let still = server-on w r w.clients on row.messages in record {
+      draws = r.draws;
+      sent = messages-on w r w.clients on row.messages (rr.fits (openings (w.sent ++ row.messages)));
+      servers = λ q. server-fits _ _ _ (memory-now (Fits (w.sent ++ row.messages)) w.memory (λ q m e. ((still q).votings m e, (still q).seen m e)) s row.table (rr.table, rr.seen) q)
+          (found-now StateFits w old-states s (λ c. made_all row.changes (w.found s c)) (λ c. all-changes-of (Past false w.clients) row.changes (w.found s c) rr.flags (old-states s c)) q);
+    }
+    by-case step _ (row_stopped _ s m k row made e is) = let rr = row-of s m (Some made) step k row e is in record {
       draws = r.draws;
       sent = r.sent;
-      servers = λ q. parts-at s (Some (restored s (w.found s pick) Ws Ts)) (λ c. with_epoch (w.found s pick)) (λ a k. subst (λ (z : Memory). Votings (Past false w.clients) z.coordinator.transactions × ((c : ClientNo) → SeenFits w.clients w.sent c (z.coordinator.seen c)))
-          (some-memory (restored s (w.found s pick) Ws Ts) a k) (restored-votings (Past false w.clients) (w.found s pick) Ts, λ c. flags-seen (w.found s pick) Ts c ((r.servers s).flags pick))) (λ c. (r.servers s).flags pick) q (server_eq s q) (server_eq s q);
+      servers = λ q. server-fits _ _ _ (memory-gone (Fits w.sent) w.memory old s q)
+          (found-now StateFits w old-states s (λ c. made_all (take (made c) row.changes) (w.found s c)) (λ c. prefix-of (Past false w.clients) row.changes (made c) (w.found s c) rr.flags (old-states s c)) q);
     }
-    restart-requests s pick Ws Ts (Some m) = r
-
-    close-requests : (s : ServerNo) (o : Option Memory) → w.memory s ≡ o → Requests (close_clients s o w)
-    close-requests s None e = r
-    close-requests s (Some m) e = let mine = (r.servers s).votings m e in let row = close_clients_row m.coordinator m.tickets in
-        ends-requests s m e (of_coordinator m row) (other-requests w.clients w.sent m mine ((r.servers s).seen m e) row (close-votes (Past false w.clients) m.coordinator m.tickets mine)) None None
-
-    dismiss-requests : Requests (dismiss w)
-    dismiss-requests = clients-step w r (λ c. over (w.clients c)) (λ c. still-on (w.clients c) (over (w.clients c)) refl (inr refl)) (dismiss w) refl refl refl [] (sym (append-nil w.sent))
+    by-case _ _ (gone_late s m T e) = record { draws = r.draws; sent = r.sent; servers = λ q. server-fits _ _ _ (memory-now (Fits w.sent) w.memory old s (server_timeout m T) (kept (timed_out m.worker (work_of T m.worker))) q) (old-states q) }
+      where
+        kept : (o : Option WorkerTable) → Fits w.sent (of_timeout m o)
+        kept None = old s m e
+        kept (Some t) = old s m e
+    by-case _ _ (gone_down s m e) = record { draws = r.draws; sent = r.sent; servers = λ q. server-fits _ _ _ (memory-gone (Fits w.sent) w.memory old s q) (old-states q) }
+    by-case _ _ (come_up s pick Ws Ts e) = record {
+      draws = r.draws;
+      sent = r.sent;
+      servers = λ q. server-fits _ _ _ (memory-now (Fits w.sent) w.memory old s (restored s (w.found s pick) Ws Ts) (restored-votings (Past false w.clients) (w.found s pick) Ts, λ c. flags-seen (w.found s pick) Ts c (old-states s pick)) q)
+          (found-now StateFits w old-states s (λ c. with_epoch (w.found s pick)) (λ c. old-states s pick) q);
+    }
+    by-case step _ (found_anew _ s found lines e is) = record { draws = r.draws; sent = r.sent; servers = λ q. server-fits _ _ _ (old q) (found-then StateFits w old-states s (λ x h. h) step found lines is q) }
+    by-case _ _ dismissed = clients-step w r (λ c. over (w.clients c)) (λ c. still-on (w.clients c) (over (w.clients c)) refl (inr refl)) w.event [] w.sent w.lines (sym (append-nil w.sent))
         (λ c. still-draws (w.clients c) (over (w.clients c)) refl (inr refl) (r.draws c)) (λ x q. absurd q)
+    by-case step _ (quietly _ event sent lines is) = quiet-requests step event sent lines is
 
     pub requests-go : (step : Step) → Requests (after step w)
-    requests-go NextEvent = same (after NextEvent w) refl refl refl refl
-    requests-go (Tell c command) = tell-requests c command
-    requests-go (Again c) = again-requests c
-    requests-go (Deliver k room) = handed-requests k room None (slice_get w.sent k) refl
-    requests-go (Work s room) = work-requests s room None (w.memory s) refl
-    requests-go (Nudge s) = nudge-requests s (w.memory s)
-    requests-go (Timeout s T) = timeout-requests s T (w.memory s) refl
-    requests-go (StopDelivery k room made) = handed-requests k room (Some made) (slice_get w.sent k) refl
-    requests-go (StopWork s room made) = work-requests s room (Some made) (w.memory s) refl
-    requests-go (Crash s) = crash-requests s (w.memory s)
-    requests-go (Narrow s g) = narrow-requests s g (w.memory s)
-    requests-go (StopRestart s up) = raise-requests s up (w.memory s)
-    requests-go (Restart s pick Ws Ts) = restart-requests s pick Ws Ts (w.memory s)
-    requests-go Dismiss = dismiss-requests
-    requests-go (CloseClients s) = close-requests s (w.memory s) refl
+    requests-go step = by-case step (after step w) (step-case w step)

@@ -1,6 +1,5 @@
 -- What holds of transactions and works at servers that are up, in every world that a run reaches.
-use Rattle.jn_system_settling.proofs.Common.{◌≡◌, ◌≢◌, ◌⊎◌, inl, inr, ◌<◌, ℕ, Bool, true, false, List, [], ◌∷◌, Option, Some, None, is_some, refl, sym, ◌∙◌, ap, subst, arith, if◌then◌else◌, nat_lt, nat_tests, ServerNo, Tid, WorkId, Server, tid_eq, tid_tells, AllFiles, Transaction, Stage, Voting, Ballot, Prepared, Pick, is_going, transaction_at, is_work, name_from, Machine, Knowledge, Invariant, Knows, run_atoms, opening_world, not_both, World, Memory, UpFact, ServerFact, IsTransaction, IsStage, knowledge_in, known_in, knowledge_of, found-is, openings, HasOpening, In, Each, each-in, Reached, Free, invariant}
-use Rattle.jn_base.specs.declared.names.RequestNo.{RequestNo}
+use Rattle.jn_system_settling.proofs.Common.{◌≡◌, ◌≢◌, ◌⊎◌, inl, inr, ◌<◌, ℕ, Bool, true, false, List, [], ◌∷◌, Option, Some, None, is_some, refl, sym, ◌∙◌, ap, subst, arith, if◌then◌else◌, nat_lt, nat_tests, ServerNo, Tid, WorkId, Server, tid_eq, tid_tells, AllFiles, Transaction, Stage, Voting, Ballot, Prepared, Pick, is_going, transaction_at, is_work, name_from, Machine, Knowledge, Invariant, Knows, run_atoms, opening_world, not_both, World, Memory, UpFact, ServerFact, IsTransaction, IsStage, knowledge_in, known_in, knowledge_of, found-is, openings, HasOpening, In, Each, each-in, Reached, Free, invariant, RequestNo}
 use Rattle.jn_msgs.specs.declared.message.Message.TheVariants as messages
 use Rattle.jn_system_order.proofs.Ordering.Facts.{opening}
 use Rattle.jn_system_reports.proofs.Reporting.Past.{SaysPast, EntryFact, BeganBy}

@@ -1,6 +1,5 @@
 -- A client that waits for the outcome of its transaction is told of it, or goes on waiting.
-use Rattle.jn_system_settling.proofs.Common.{◌≡◌, ◌≢◌, ◌⊎◌, inl, inr, ℕ, Bool, true, false, List, [], ◌∷◌, length, Option, Some, None, true≢false, refl, sym, ◌∙◌, ap, subst, arith, nat_tests, ◌&&◌, if◌then◌else◌, nat_eq, nat_lt, ClientNo, Tid, WorkId, Tickets, Cause, Server, Command, End, Abort, client_eq, tid_eq, client_tells, tid_tells, Message, Outcome, Text, Outstanding, Taken, Transaction, Stage, Open, Voting, Committed, Aborted, StableState, RowOutcome, Sent, worker_row, CoordinatorTable, after_closing, begun_by, begin_again, coordinator_row, ClientTable, is_begin, is_operation, is_end, is_end_or_abort, told, over, opens, is_tid, is_current, if_waits, outcome_row, take_row, Memory, Room, storage_of, server_row, of_worker, of_coordinator, is_for_worker, tells_outcome}
-use Rattle.jn_base.specs.Names.{request_eq}
+use Rattle.jn_system_settling.proofs.Common.{◌≡◌, ◌≢◌, ◌⊎◌, inl, inr, ℕ, Bool, true, false, List, [], ◌∷◌, length, Option, Some, None, true≢false, refl, sym, ◌∙◌, ap, subst, arith, nat_tests, ◌&&◌, if◌then◌else◌, nat_eq, nat_lt, ClientNo, Tid, WorkId, Tickets, Cause, Server, Command, End, Abort, client_eq, tid_eq, client_tells, tid_tells, Message, Outcome, Text, Outstanding, Taken, Transaction, Stage, Open, Voting, Committed, Aborted, StableState, RowOutcome, Sent, worker_row, CoordinatorTable, after_closing, begun_by, begin_again, coordinator_row, ClientTable, is_begin, is_operation, is_end, is_end_or_abort, told, over, opens, is_tid, is_current, if_waits, outcome_row, take_row, Memory, Room, storage_of, server_row, of_worker, of_coordinator, is_for_worker, tells_outcome, request_eq}
 use Rattle.jn_msgs.specs.declared.message.Message.TheVariants as messages
 use Rattle.jn_msgs.specs.declared.message.Outcome.TheVariants as outcomes
 use Rattle.jn_report.specs.declared.line.Text.TheVariants as says

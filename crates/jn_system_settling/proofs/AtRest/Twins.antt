@@ -144,19 +144,13 @@ module _ (w : World) where
   commanded-alike : (c : ClientNo) (a b : Commanded) → SameRows a b → Alike (commanded c a w) (commanded c b (plain w))
   commanded-alike c (Refuses x) (Refuses y) h = record { memory = refl; found = refl; sent = refl; clients = λ d. twice (w.clients d) }
   commanded-alike c (Sends t to m) (Sends u to' m') h = record { memory = refl; found = refl; sent = ap (λ z. w.sent ++ (z, m') ∷ []) h.1 ∙ ap (λ z. w.sent ++ (to, z) ∷ []) h.2; clients = one-changed c t u h.0 }
-  commanded-alike c (Refuses x) (Sends u to' m') h = absurd h
-  commanded-alike c (Sends t to m) (Refuses y) h = absurd h
+  commanded-alike c a b h = absurd h
 
   took-alike : (c : ClientNo) (k : ℕ) (a b : ClientTable × Taken) → SameTaken a b → Alike (took c k a.0 a.1 w) (took c k b.0 b.1 (plain w))
   took-alike c k (t, taken.Ignored) (u, taken.Ignored) h = record { memory = refl; found = refl; sent = refl; clients = one-changed c t u h }
   took-alike c k (t, taken.Send to m) (u, taken.Send to' m') h = record { memory = refl; found = refl; sent = ap (λ z. w.sent ++ (z, m') ∷ []) h.1 ∙ ap (λ z. w.sent ++ (to, z) ∷ []) h.2; clients = one-changed c t u h.0 }
   took-alike c k (t, taken.Told line answer) (u, taken.Told line' answer') h = record { memory = refl; found = refl; sent = ap (λ z. w.sent ++ sent_now z) h.1; clients = one-changed c t u h.0 }
-  took-alike c k (t, taken.Ignored) (u, taken.Send to' m') h = absurd h
-  took-alike c k (t, taken.Ignored) (u, taken.Told line' answer') h = absurd h
-  took-alike c k (t, taken.Send to m) (u, taken.Ignored) h = absurd h
-  took-alike c k (t, taken.Send to m) (u, taken.Told line' answer') h = absurd h
-  took-alike c k (t, taken.Told line answer) (u, taken.Ignored) h = absurd h
-  took-alike c k (t, taken.Told line answer) (u, taken.Send to' m') h = absurd h
+  took-alike c k (t, r) (u, r') h = absurd h
 
   again-alike : (c : ClientNo) → Alike (after (Again c) w) (after (Again c) (plain w))
   again-alike c = record { memory = refl; found = refl; sent = ap (λ z. w.sent ++ sent_now z) (by (w.clients c).outstanding); clients = λ d. twice (w.clients d) }
@@ -295,19 +289,8 @@ module _ (files : AllFiles) (epochs : ServerNo → ℕ) (events : List Event) wh
       next-at : (n : ℕ) → n ≡ length es + 1 → event_at (es ++ CommandOf c command ∷ commands_in steps) n ≡ Some (CommandOf c command)
       next-at n k = subst (λ m. event_at (es ++ CommandOf c command ∷ commands_in steps) m ≡ Some (CommandOf c command)) (omega (arith, k)) (event_at-next es (commands_in steps) (CommandOf c command))
   run-twin (NextEvent ∷ steps) r es e i h = run-twin steps (after NextEvent r) es e i.1 (record { twin = h.twin; alike = h.alike; number = h.number; reached = h.reached; stands = h.stands })
-  run-twin (Again c ∷ steps) r es e i h = run-twin steps _ es e i.1 (quiet-twin (Again c) (length es) r tt i.0 h)
-  run-twin (Deliver k room ∷ steps) r es e i h = run-twin steps _ es e i.1 (quiet-twin (Deliver k room) (length es) r tt i.0 h)
-  run-twin (Work s room ∷ steps) r es e i h = run-twin steps _ es e i.1 (quiet-twin (Work s room) (length es) r tt i.0 h)
-  run-twin (Nudge s ∷ steps) r es e i h = run-twin steps _ es e i.1 (quiet-twin (Nudge s) (length es) r tt i.0 h)
-  run-twin (Timeout s T ∷ steps) r es e i h = run-twin steps _ es e i.1 (quiet-twin (Timeout s T) (length es) r tt i.0 h)
-  run-twin (StopDelivery k room made ∷ steps) r es e i h = run-twin steps _ es e i.1 (quiet-twin (StopDelivery k room made) (length es) r tt i.0 h)
-  run-twin (StopWork s room made ∷ steps) r es e i h = run-twin steps _ es e i.1 (quiet-twin (StopWork s room made) (length es) r tt i.0 h)
-  run-twin (Crash s ∷ steps) r es e i h = run-twin steps _ es e i.1 (quiet-twin (Crash s) (length es) r tt i.0 h)
-  run-twin (Narrow s g ∷ steps) r es e i h = run-twin steps _ es e i.1 (quiet-twin (Narrow s g) (length es) r tt i.0 h)
-  run-twin (StopRestart s raised ∷ steps) r es e i h = run-twin steps _ es e i.1 (quiet-twin (StopRestart s raised) (length es) r tt i.0 h)
-  run-twin (Restart s pick Ws Ts ∷ steps) r es e i h = run-twin steps _ es e i.1 (quiet-twin (Restart s pick Ws Ts) (length es) r tt i.0 h)
   run-twin (Dismiss ∷ steps) r es e i h = run-twin steps _ es e i.1 (dismissed-twin (length es) r h)
-  run-twin (CloseClients s ∷ steps) r es e i h = run-twin steps _ es e i.1 (quiet-twin (CloseClients s) (length es) r tt i.0 h)
+  run-twin (step ∷ steps) r es e i h = run-twin steps _ es e i.1 (quiet-twin step (length es) r tt i.0 h)
 
 -- after every run
 pub record HasTwin (files : AllFiles) (epochs : ServerNo → ℕ) (r : World) : Type 0 where

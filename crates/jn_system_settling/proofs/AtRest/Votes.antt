@@ -1,7 +1,5 @@
 -- The requests that a coordinator keeps, and which of a server's rows speak of requests.
-use Rattle.jn_system_settling.proofs.Common.{◌≡◌, ◌≢◌, ◌⊎◌, inl, inr, ℕ, zero, suc, ◌+◌, Bool, true, false, List, [], ◌∷◌, ◌++◌, length, take, Option, Some, None, true≢false, refl, sym, ◌∙◌, ap, subst, arith, ◌&&◌, not, if◌then◌else◌, nat_lt, nat_eq, slice_get, ClientNo, Tid, WorkId, Tickets, Cause, Op, Answer, tid_eq, tid_tells, change, answer_to, list_change, Intention, Message, Vote, Work, Phase, ActiveWork, Transaction, Stage, Open, Voting, Committed, Aborted, Ballot, Commitment, StableState, FlagState, Change, AddReady, MarkGoing, CarryOut, RemoveWork, AddFlag, DropFlag, made_by, made_all, at_tid, is_going, RowOutcome, Sent, WorkerTable, WorkStorage, Wanted, work_at, work_of, open_row, wants_of, is_fit, refusal_of, granted_row, repeated, op_phase, op_row, conflict, commit_wants, vote_of, shortage, need_in, prepared_row, prepare_phase, prepare_row, commit_phase, work_commit_row, drop_phase, drop_row, worker_row, going_work, going_row, carried_row, intentions_of, worker_step, worker_again, Closes, Empty, Stays, Goes, Waits, Forgets, outcomes-close, close_clients_row, CoordinatorTable, transaction_at, with_stage, all_in, is_work, besides, drops, commits, prepares, commit_row, abort_row, forget_row, end_promised, end_stage, end_row, abort_stage, abort_request, told_stage, inquire_row, counted_vote, vote_stage, vote_row, done_stage, done_row, thanks_stage, thanks_row, with_work, coordinator_row, committed_to, aborted_to, told_again, coordinator_again, restored_transaction, restored_transactions}
-use Rattle.jn_base.specs.declared.names.OperationNo.{OperationNo}
-use Rattle.jn_base.specs.declared.names.RequestNo.{RequestNo}
+use Rattle.jn_system_settling.proofs.Common.{◌≡◌, ◌≢◌, ◌⊎◌, inl, inr, ℕ, zero, suc, ◌+◌, Bool, true, false, List, [], ◌∷◌, ◌++◌, length, take, Option, Some, None, true≢false, refl, sym, ◌∙◌, ap, subst, arith, ◌&&◌, not, if◌then◌else◌, nat_lt, nat_eq, slice_get, ClientNo, Tid, WorkId, Tickets, Cause, Op, Answer, tid_eq, tid_tells, change, answer_to, list_change, Intention, Message, Vote, Work, Phase, ActiveWork, Transaction, Stage, Open, Voting, Committed, Aborted, Ballot, Commitment, StableState, FlagState, Change, AddReady, MarkGoing, CarryOut, RemoveWork, AddFlag, DropFlag, made_by, made_all, at_tid, is_going, RowOutcome, Sent, WorkerTable, WorkStorage, Wanted, work_at, work_of, open_row, wants_of, is_fit, refusal_of, granted_row, repeated, op_phase, op_row, conflict, commit_wants, vote_of, shortage, need_in, prepared_row, prepare_phase, prepare_row, commit_phase, work_commit_row, drop_phase, drop_row, worker_row, going_work, going_row, carried_row, intentions_of, worker_step, worker_again, Closes, Empty, Stays, Goes, Waits, Forgets, outcomes-close, close_clients_row, CoordinatorTable, transaction_at, with_stage, all_in, is_work, besides, drops, commits, prepares, commit_row, abort_row, forget_row, end_promised, end_stage, end_row, abort_stage, abort_request, told_stage, inquire_row, counted_vote, vote_stage, vote_row, done_stage, done_row, thanks_stage, thanks_row, with_work, coordinator_row, committed_to, aborted_to, told_again, coordinator_again, restored_transaction, restored_transactions, OperationNo, RequestNo}
 use Rattle.jn_msgs.specs.declared.message.Message.TheVariants as messages
 use Rattle.jn_msgs.specs.declared.message.Vote.TheVariants as votes
 use Rattle.jn_rows.specs.declared.worker.Phase.TheVariants as phases

@@ -1,5 +1,5 @@
 -- What a client waits for when a settle asks again is on its way until it is answered: its message waits, or a reply to it.
-use Rattle.jn_system_settling.proofs.Common.{◌≡◌, ◌≢◌, ◌⊎◌, inl, inr, ◌≤◌, ◌<◌, ℕ, zero, suc, ◌+◌, Bool, true, false, List, [], ◌∷◌, ◌++◌, length, length-append, Option, Some, None, is_some, true≢false, append_assoc, refl, sym, ◌∙◌, ap, subst, arith, if◌then◌else◌, slice_get, nat_eq, map, list_any, nat_tests, ServerNo, ClientNo, Party, Client, Server, server_eq, client_eq, client_tells, server_tells, Message, Taken, Pick, stable, RowOutcome, Sent, ClientTable, take_row, again_row, World, Memory, at_client, servers_from, Room, server_row, server_step, Step, NextEvent, Tell, Again, Deliver, Nudge, Timeout, StopDelivery, StopWork, Crash, Narrow, StopRestart, Restart, Dismiss, CloseClients, IsStep, after, ends, at_memory, handed, work, works, nudge, timeout, crash, narrow, stop_restart, restart, close_clients, took, taken_by, sent_now, Course, numbered, still_waiting, without_number, go, go_on, Chance, first_busy, handing, working, next_step, onward, until_rest, ask_again}
+use Rattle.jn_system_settling.proofs.Common.{Text, at_server, server_timeout, ◌≡◌, ◌≢◌, ◌⊎◌, inl, inr, ◌≤◌, ◌<◌, ℕ, zero, suc, ◌+◌, Bool, true, false, List, [], ◌∷◌, ◌++◌, length, length-append, Option, Some, None, is_some, true≢false, append_assoc, refl, sym, ◌∙◌, ap, subst, arith, if◌then◌else◌, slice_get, nat_eq, map, list_any, nat_tests, ServerNo, ClientNo, Party, Client, Server, server_eq, client_eq, client_tells, Message, Taken, Pick, stable, Sent, ClientTable, take_row, again_row, World, Memory, at_client, servers_from, Room, server_row, Step, Tell, Again, Deliver, Nudge, StopDelivery, StopWork, Restart, Dismiss, IsStep, after, at_memory, handed, took, taken_by, sent_now, Course, numbered, still_waiting, without_number, go, go_on, Chance, first_busy, handing, working, next_step, onward, until_rest, ask_again, one-server, one-client, ClientRow, by_command, by_ignoring, by_answering, by_telling, StepCase, client_row, row_done, row_stopped, gone_late, gone_down, come_up, dismissed, step-case}
 use Rattle.jn_rows.specs.declared.client.Taken.TheVariants as taken
 use Rattle.jn_system.specs.WholeSystem.Steps.{Work}
 use Rattle.jn_system_settling.proofs.Settling.Burdens.{are_below, get-more, get-next}
@@ -69,13 +69,10 @@ took-clients c k t taken.Ignored w = refl
 took-clients c k t (taken.Send to message) w = refl
 took-clients c k t (taken.Told line answer) w = refl
 
-pub ends-clients : (s : ServerNo) (k : Option ℕ) (stop : Option (Pick → ℕ)) (row : RowOutcome Memory) (w : World) → (ends s k stop row w).clients ≡ w.clients
-ends-clients s k None row w = refl
-ends-clients s k (Some made) row w = refl
-
 pub memory-clients : (s : ServerNo) (k : ℕ) (room : Room) (stop : Option (Pick → ℕ)) (message : Message) (o : Option Memory) (w : World) → (at_memory s k room stop message o w).clients ≡ w.clients
 memory-clients s k room stop message None w = refl
-memory-clients s k room stop message (Some m) w = ends-clients s (Some k) stop (server_row m (stable (w.found s)) room message) w
+memory-clients s k room None message (Some m) w = refl
+memory-clients s k room (Some made) message (Some m) w = refl
 
 -- no step but these changes a client
 abbrev pub is_quiet : Step → Bool
@@ -85,66 +82,28 @@ is_quiet (StopDelivery k room made) = false
 is_quiet Dismiss = false
 is_quiet step = true
 
-work-clients : (s : ServerNo) (room : Room) (stop : Option (Pick → ℕ)) (o : Option Memory) (w : World) → (work s room stop o w).clients ≡ w.clients
-work-clients s room stop None w = refl
-work-clients s room stop (Some m) w = on (server_step m (stable (w.found s)) room)
-  where
-    on : (o : Option (RowOutcome Memory)) → (works s stop o w).clients ≡ w.clients
-    on None = refl
-    on (Some row) = ends-clients s None stop row w
-
 pub quiet-clients : (step : Step) (w : World) → is_quiet step ≡ true → (after step w).clients ≡ w.clients
-quiet-clients (Tell c command) w q = absurd (true≢false (sym q))
-quiet-clients (Deliver k room) w q = absurd (true≢false (sym q))
-quiet-clients (StopDelivery k room made) w q = absurd (true≢false (sym q))
-quiet-clients Dismiss w q = absurd (true≢false (sym q))
-quiet-clients (CloseClients s) w q = by (w.memory s)
+quiet-clients step w q = by step (after step w) (step-case w step) q
   where
-    by : (o : Option Memory) → (close_clients s o w).clients ≡ w.clients
-    by None = refl
-    by (Some m) = refl
-quiet-clients NextEvent w q = refl
-quiet-clients (Again c) w q = refl
-quiet-clients (Work s room) w q = work-clients s room None (w.memory s) w
-quiet-clients (StopWork s room made) w q = work-clients s room (Some made) (w.memory s) w
-quiet-clients (Nudge s) w q = by (w.memory s)
-  where
-    by : (o : Option Memory) → (nudge s o w).clients ≡ w.clients
-    by None = refl
-    by (Some m) = refl
-quiet-clients (Timeout s T) w q = by (w.memory s)
-  where
-    by : (o : Option Memory) → (timeout s T o w).clients ≡ w.clients
-    by None = refl
-    by (Some m) = refl
-quiet-clients (Crash s) w q = by (w.memory s)
-  where
-    by : (o : Option Memory) → (crash s o w).clients ≡ w.clients
-    by None = refl
-    by (Some m) = refl
-quiet-clients (Narrow s g) w q = by (w.memory s)
-  where
-    by : (o : Option Memory) → (narrow s g o w).clients ≡ w.clients
-    by None = refl
-    by (Some m) = refl
-quiet-clients (StopRestart s up) w q = by (w.memory s)
-  where
-    by : (o : Option Memory) → (stop_restart s up o w).clients ≡ w.clients
-    by None = refl
-    by (Some m) = refl
-quiet-clients (Restart s pick Ws Ts) w q = by (w.memory s)
-  where
-    by : (o : Option Memory) → (restart s pick Ws Ts o w).clients ≡ w.clients
-    by None = refl
-    by (Some m) = refl
+    hands : (k : ℕ) (room : Room) (stop : Option (Pick → ℕ)) → is_quiet (handing k room stop) ≡ false
+    hands k room None = refl
+    hands k room (Some made) = refl
+
+    speaks : (step : Step) (c : ClientNo) (t : ClientTable) (sent : List Sent) (lines : List Text) → ClientRow w c step t sent lines → is_quiet step ≡ false
+    speaks _ c _ _ _ (by_command command t to message is) = refl
+    speaks _ c _ _ _ (by_ignoring k room stop message t e is) = hands k room stop
+    speaks _ c _ _ _ (by_answering k room stop message t to answer e is) = hands k room stop
+    speaks _ c _ _ _ (by_telling k room stop message t line answer e is) = hands k room stop
+
+    by : (step : Step) (now : World) → StepCase w step now → is_quiet step ≡ true → now.clients ≡ w.clients
+    by step _ (client_row _ c t sent lines row) q = absurd (true≢false (sym q ∙ speaks step c t sent lines row))
+    by _ _ dismissed q = absurd (true≢false (sym q))
+    by _ _ is q = refl
 
 -- a client takes what is handed to it, and nothing else
 pub taken-still : (c d : ClientNo) (k : ℕ) (message : Message) (w : World) → IsStill (w.clients c) ((taken_by d k (take_row (w.clients d) message) w).clients c)
-taken-still c d k message w = subst (λ f. IsStill (w.clients c) (f c)) (sym (took-clients d k (take_row (w.clients d) message).0 (take_row (w.clients d) message).1 w)) (by (client_tells d c))
-  where
-    by : ((client_eq d c ≡ true) × (d ≡ c)) ⊎ ((client_eq d c ≡ false) × (d ≢ c)) → IsStill (w.clients c) (at_client w.clients d (take_row (w.clients d) message).0 c)
-    by (inl e) = subst (λ (b : Bool). IsStill (w.clients c) (if b then (take_row (w.clients d) message).0 else w.clients c)) (sym e.0) (subst (λ (z : ClientNo). IsStill (w.clients z) (take_row (w.clients d) message).0) e.1 (take-still (w.clients d) message))
-    by (inr e) = subst (λ (b : Bool). IsStill (w.clients c) (if b then (take_row (w.clients d) message).0 else w.clients c)) (sym e.0) (inl refl)
+taken-still c d k message w = subst (λ f. IsStill (w.clients c) (f c)) (sym (took-clients d k (take_row (w.clients d) message).0 (take_row (w.clients d) message).1 w))
+    (one-client (λ e z. IsStill (w.clients e) z) w.clients d (take_row (w.clients d) message).0 (take-still (w.clients d) message) (λ e other. inl refl) c)
 
 pub handed-still : (c : ClientNo) (k : ℕ) (room : Room) (stop : Option (Pick → ℕ)) (y : Sent) (w : World) → IsStill (w.clients c) ((handed k room stop (Some y) w).clients c)
 handed-still c k room stop (Client d, message) w = taken-still c d k message w
@@ -160,42 +119,32 @@ taken-taken c k message w = ap (λ f. f c) (took-clients c k (take_row (w.client
 pub handed-taken : (c : ClientNo) (k : ℕ) (room : Room) (stop : Option (Pick → ℕ)) (message : Message) (w : World) → (handed k room stop (Some (Client c, message)) w).clients c ≡ (take_row (w.clients c) message).0
 handed-taken c k room stop message w = taken-taken c k message w
 
--- a server that is down stays down
-pub ends-down : (s q : ServerNo) (k : Option ℕ) (stop : Option (Pick → ℕ)) (row : RowOutcome Memory) (w : World) (m : Memory) → w.memory s ≡ Some m → w.memory q ≡ None → (ends s k stop row w).memory q ≡ None
-ends-down s q k stop row w m up down = by (server_tells s q) stop
-  where
-    clash : Some m ≡ None → ⊥
-    clash e = cc
-
-    by : ((server_eq s q ≡ true) × (s ≡ q)) ⊎ ((server_eq s q ≡ false) × (s ≢ q)) → (stop : Option (Pick → ℕ)) → (ends s k stop row w).memory q ≡ None
-    by (inl e) stop = absurd (clash (sym up ∙ ap w.memory e.1 ∙ down))
-    by (inr e) None = ap (λ (b : Bool). if b then Some row.table else w.memory q) e.0 ∙ down
-    by (inr e) (Some made) = ap (λ (b : Bool). if b then None else w.memory q) e.0 ∙ down
-
 pub took-memory : (c : ClientNo) (k : ℕ) (t : ClientTable) (r : Taken) (w : World) → (took c k t r w).memory ≡ w.memory
 took-memory c k t taken.Ignored w = refl
 took-memory c k t (taken.Send to message) w = refl
 took-memory c k t (taken.Told line answer) w = refl
 
-pub handed-down : (q : ServerNo) (k : ℕ) (room : Room) (stop : Option (Pick → ℕ)) (o : Option Sent) (w : World) → w.memory q ≡ None → (handed k room stop o w).memory q ≡ None
-handed-down q k room stop None w down = down
-handed-down q k room stop (Some (Client d, message)) w down = ap (λ f. f q) (took-memory d k (take_row (w.clients d) message).0 (take_row (w.clients d) message).1 w) ∙ down
-handed-down q k room stop (Some (Server s, message)) w down = by (w.memory s) refl
-  where
-    by : (o : Option Memory) → w.memory s ≡ o → (at_memory s k room stop message o w).memory q ≡ None
-    by None e = down
-    by (Some m) e = ends-down s q (Some k) stop (server_row m (stable (w.found s)) room message) w m e down
+-- a server that is down stays down until it is started again
+abbrev starts_none : Step → Bool
+starts_none (Restart s pick Ws Ts) = false
+starts_none step = true
 
-pub work-down : (q s : ServerNo) (room : Room) (stop : Option (Pick → ℕ)) (w : World) → w.memory q ≡ None → (work s room stop (w.memory s) w).memory q ≡ None
-work-down q s room stop w down = by (w.memory s) refl
+down-still : (q : ServerNo) (step : Step) (w : World) → starts_none step ≡ true → w.memory q ≡ None → (after step w).memory q ≡ None
+down-still q step w none down = by step (after step w) (step-case w step) none
   where
-    by : (o : Option Memory) → w.memory s ≡ o → (work s room stop o w).memory q ≡ None
-    by None e = down
-    by (Some m) e = on (server_step m (stable (w.found s)) room)
-      where
-        on : (o : Option (RowOutcome Memory)) → (works s stop o w).memory q ≡ None
-        on None = down
-        on (Some row) = ends-down s q None stop row w m e down
+    clash : (m : Memory) → Some m ≡ None → ⊥
+    clash m e = cc
+
+    other : (s : ServerNo) (m : Memory) (o : Option Memory) → w.memory s ≡ Some m → at_server w.memory s o q ≡ None
+    other s m o e = one-server (λ z x. z ≡ q → x ≡ None) w.memory s o (λ is. absurd (clash m (sym e ∙ ap w.memory is ∙ down))) (λ z apart is. ap w.memory is ∙ down) q refl
+
+    by : (step : Step) (now : World) → StepCase w step now → starts_none step ≡ true → now.memory q ≡ None
+    by step _ (row_done _ s m k row e is) none = other s m (Some row.table) e
+    by step _ (row_stopped _ s m k row made e is) none = other s m None e
+    by _ _ (gone_late s m T e) none = other s m (Some (server_timeout m T)) e
+    by _ _ (gone_down s m e) none = other s m None e
+    by _ _ (come_up s pick Ws Ts e) none = absurd (true≢false (sym none))
+    by _ _ is none = down
 
 pub rest-down : (n : ℕ) (q : ServerNo) (j : ℕ) (chances : ℕ → Chance) (d : Course) → d.world.memory q ≡ None → (until_rest (servers_from 0 n) chances j d).world.memory q ≡ None
 rest-down n q zero chances d down = down
@@ -204,14 +153,14 @@ rest-down n q (suc j) chances d down = by d.waiting (first_busy d.world (servers
     on : (o : Option ServerNo) (stop : Option (Pick → ℕ)) → ((e : Course) → e.world.memory q ≡ None → (until_rest (servers_from 0 n) (λ i. chances (i + 1)) j e).world.memory q ≡ None)
         → (onward (next_step (record { room = (chances 0).room; stop = stop }) [] o) d (until_rest (servers_from 0 n) (λ i. chances (i + 1)) j)).world.memory q ≡ None
     on None stop again = down
-    on (Some s) None again = again (go (working s (chances 0).room None) d) (work-down q s (chances 0).room None d.world down)
-    on (Some s) (Some made) again = again (go (working s (chances 0).room (Some made)) d) (work-down q s (chances 0).room (Some made) d.world down)
+    on (Some s) None again = again (go (working s (chances 0).room None) d) (down-still q (Work s (chances 0).room) d.world refl down)
+    on (Some s) (Some made) again = again (go (working s (chances 0).room (Some made)) d) (down-still q (StopWork s (chances 0).room made) d.world refl down)
 
     by : (waiting : List ℕ) (o : Option ServerNo) (stop : Option (Pick → ℕ)) → ((e : Course) → e.world.memory q ≡ None → (until_rest (servers_from 0 n) (λ i. chances (i + 1)) j e).world.memory q ≡ None)
         → (onward (next_step (record { room = (chances 0).room; stop = stop }) waiting o) d (until_rest (servers_from 0 n) (λ i. chances (i + 1)) j)).world.memory q ≡ None
     by [] o stop again = on o stop again
-    by (k ∷ ks) o None again = again (go (handing k (chances 0).room None) d) (handed-down q k (chances 0).room None (slice_get d.world.sent k) d.world down)
-    by (k ∷ ks) o (Some made) again = again (go (handing k (chances 0).room (Some made)) d) (handed-down q k (chances 0).room (Some made) (slice_get d.world.sent k) d.world down)
+    by (k ∷ ks) o None again = again (go (handing k (chances 0).room None) d) (down-still q (Deliver k (chances 0).room) d.world refl down)
+    by (k ∷ ks) o (Some made) again = again (go (handing k (chances 0).room (Some made)) d) (down-still q (StopDelivery k (chances 0).room made) d.world refl down)
 
 -- ---- on its way
 

@@ -1,8 +1,5 @@
 -- Whatever is named is at one of so many servers, and each message to a server is for one of these.
-use Rattle.jn_system_settling.proofs.Common.{◌≡◌, ◌≤◌, ◌<◌, ℕ, zero, suc, ◌+◌, Bool, true, false, List, [], ◌∷◌, ◌++◌, take, Option, Some, None, true≢false, refl, sym, ◌∙◌, ap, subst, arith, if◌then◌else◌, slice_get, ◌&&◌, not, nat_lt, nat_eq, length, nat_tests, ServerNo, ClientNo, Tid, WorkId, Tickets, Cause, Party, Client, Server, Op, Answer, Command, server_eq, client_eq, tid_tells, work_tells, AllFiles, change, answer_to, list_change, Intention, Message, Vote, Outstanding, Taken, WorkEntry, Phase, Transaction, Stage, Open, Voting, Committed, Aborted, StableState, Prepared, FlagState, Pick, Change, AddReady, MarkGoing, RemoveWork, made_by, made_all, stable, RowOutcome, Sent, ClientTable, Commanded, Refuses, Sends, command_row, take_row, if_waits, is_current, opens, opened_row, sent_again, WorkerTable, WorkStorage, Wanted, work_at, work_of, with_phase, without, after_grant, wants_of, is_fit, refusal_of, granted_row, repeated, op_phase, op_row, prepare_phase, prepare_row, commit_phase, drop_phase, drop_row, worker_row, going_work, going_row, carried_row, intentions_of, worker_step, worker_again, timed_out, restored_worker, CoordinatorTable, transaction_at, is_work, all_in, besides, drops, commits, prepares, end_stage, end_row, abort_stage, abort_request, told_stage, inquire_row, with_work, counted_vote, vote_stage, vote_row, begin_again, begun_by, after_closing, coordinator_row, commit_row, abort_row, told_again, coordinator_again, close_clients_row, with_epoch, World, Memory, at_server, new_memory, opening, Room, storage_of, server_row, server_step, of_worker, of_coordinator, of_step, of_timeout, server_timeout, is_for_worker, restored, Step, NextEvent, Tell, Again, Deliver, Nudge, Timeout, StopDelivery, StopWork, Crash, Narrow, StopRestart, Restart, Dismiss, CloseClients, IsStep, after, ends, at_memory, handed, work, works, nudge, timeout, crash, narrow, stop_restart, restart, close_clients, took, commanded, sent_now, LockFacts, are_of_flags, coordinator-aside, close-aside, are_near, is_few, IsSmall, is_small, is_small_stage, are_small_stages, Sizes, openings}
-use Rattle.jn_base.specs.Names.{request_eq}
-use Rattle.jn_base.specs.declared.names.OperationNo.{OperationNo}
-use Rattle.jn_base.specs.declared.names.RequestNo.{RequestNo}
+use Rattle.jn_system_settling.proofs.Common.{◌≡◌, ◌≤◌, ◌<◌, ℕ, zero, suc, ◌+◌, Bool, true, false, List, [], ◌∷◌, ◌++◌, take, Option, Some, None, true≢false, refl, sym, ◌∙◌, ap, subst, arith, if◌then◌else◌, slice_get, ◌&&◌, not, nat_lt, nat_eq, length, nat_tests, ServerNo, ClientNo, Tid, WorkId, Tickets, Cause, Party, Client, Server, Op, Answer, Command, client_eq, tid_tells, work_tells, AllFiles, change, answer_to, list_change, Intention, Message, Vote, Outstanding, Taken, WorkEntry, Phase, Transaction, Stage, Open, Voting, Committed, Aborted, StableState, Prepared, FlagState, Pick, Change, AddReady, MarkGoing, RemoveWork, made_by, made_all, stable, RowOutcome, Sent, ClientTable, Commanded, Refuses, Sends, command_row, take_row, if_waits, is_current, opens, opened_row, sent_again, WorkerTable, WorkStorage, Wanted, work_at, work_of, with_phase, without, after_grant, wants_of, is_fit, refusal_of, granted_row, repeated, op_phase, op_row, prepare_phase, prepare_row, commit_phase, drop_phase, drop_row, worker_row, going_work, going_row, carried_row, intentions_of, worker_step, worker_again, timed_out, restored_worker, CoordinatorTable, transaction_at, is_work, all_in, besides, drops, commits, prepares, end_stage, end_row, abort_stage, abort_request, told_stage, inquire_row, with_work, counted_vote, vote_stage, vote_row, begin_again, begun_by, after_closing, coordinator_row, commit_row, abort_row, told_again, coordinator_again, close_clients_row, with_epoch, World, Memory, new_memory, opening, Room, storage_of, server_row, server_step, of_worker, of_coordinator, of_step, of_timeout, server_timeout, is_for_worker, restored, Step, IsStep, after, works, sent_now, LockFacts, are_of_flags, coordinator-aside, close-aside, are_near, is_few, IsSmall, is_small, is_small_stage, are_small_stages, Sizes, openings, request_eq, OperationNo, RequestNo, Text, ClientRow, by_command, by_ignoring, by_answering, by_telling, ServerRow, of_message, of_work, of_closing, Quiet, event_begins, none_changes, is_refused, client_repeats, server_repeats, is_lost, StepCase, client_row, row_done, row_stopped, gone_late, gone_down, come_up, found_anew, dismissed, quietly, step-case, one-client, some-memory, memory-now, memory-gone, found-now, found-then}
 use Rattle.jn_base.specs.declared.op.Command.TheVariants as commands
 use Rattle.jn_msgs.specs.declared.message.Message.TheVariants as messages
 use Rattle.jn_msgs.specs.declared.message.Vote.TheVariants as votes
@@ -10,11 +7,10 @@ use Rattle.jn_msgs.specs.declared.message.Outcome.TheVariants as outcomes
 use Rattle.jn_rows.specs.declared.client.Taken.TheVariants as taken
 use Rattle.jn_rows.specs.declared.worker.Phase.TheVariants as phases
 use Rattle.jn_rows.specs.Worker as worker
-use Rattle.jn_system.specs.WholeSystem.Steps.{Work}
 use Rattle.jn_system_settling.proofs.Settling.ClientFits.{sent_with}
 use Rattle.jn_system_settling.proofs.Settling.WorldSizes.{holds-of, up-sizes, up-locks}
 use Rattle.jn_system_settling.proofs.AtRest.Owners.{Owner, owner_in, all_owned, grown, owned-found}
-use Rattle.jn_system_settling.proofs.AtRest.OwnerSteps.{AreOwned, some-memory, none-memory, step-keeps-owned}
+use Rattle.jn_system_settling.proofs.AtRest.OwnerSteps.{AreOwned, step-keeps-owned}
 
 -- ---- messages
 
@@ -435,116 +431,80 @@ module _ (n : ℕ) (at_most : n ≤ 8) (w : World) (sizes : Sizes n w) (locks : 
       by None f q = absurd (cc q)
       by (Some r) f q = subst MemoryNear (some (of_worker m r) row q) (step-near n m.worker (storage_of m (stable (w.found s)) room) m.tickets (h.works s m up) r f)
 
+  row-of : (s : ServerNo) (m : Memory) (stop : Option (Pick → ℕ)) (step : Step) (k : Option ℕ) (row : RowOutcome Memory) → w.memory s ≡ Some m → ServerRow w s m stop step k row → MemoryNear row
+  row-of s m _ _ _ _ up (of_message stop k room message is) = row-near s m room k message up is
+  row-of s m _ _ _ _ up (of_work stop room row is) = work-step-near s m room row up is
+  row-of s m _ _ _ _ up of_closing = record {
+    table = h.works s m up;
+    changes_are = let a = close-aside m.coordinator m.tickets in flags-near n (close_clients_row m.coordinator m.tickets).changes a.flags;
+    sent_are = refl;
+  }
+
   -- ---- one of them changes
 
-  works-one : (s : ServerNo) (o : Option Memory) → ((m : Memory) → o ≡ Some m → table_near n m.worker ≡ true) → (q : ServerNo) (m : Memory) → at_server w.memory s o q ≡ Some m → table_near n m.worker ≡ true
-  works-one s o new q m e = let now = new m in let old = h.works q m in grind (arith, e)
+  abbrev WorksNear : Memory → Type 0
+  WorksNear m = table_near n m.worker ≡ true
 
-  works-of : (a : Memory) → table_near n a.worker ≡ true → (m : Memory) → Some a ≡ Some m → table_near n m.worker ≡ true
-  works-of a l m e = subst (λ (z : Memory). table_near n z.worker ≡ true) (some-memory a m e) l
+  late-near : (m : Memory) → table_near n m.worker ≡ true → (o : Option WorkEntry) → table_near n (of_timeout m (timed_out m.worker o)).worker ≡ true
+  late-near m l o = grind (arith, phase-near n, l)
 
-  stored-one : (s : ServerNo) (f : Pick → StableState) → ((c : Pick) → StoredNear n (f c)) → (q : ServerNo) (c : Pick) → StoredNear n (if server_eq s q then f c else w.found q c)
-  stored-one s f new q c W p e = let now = new c W p in let old = h.stored q c W p in grind (arith, e)
+  raised-near : (x : StableState) → StoredNear n x → StoredNear n (with_epoch x)
+  raised-near x h W p e = h W p e
 
-  clients-one : (c : ClientNo) (t : ClientTable) → client_near n t ≡ true → (d : ClientNo) → client_near n (if client_eq c d then t else w.clients d) ≡ true
-  clients-one c t l d = let old = h.clients d in grind (arith, l)
+  -- what a client's row sends, and its table
+  took-near : (c : ClientNo) (k : ℕ) (message : Message) (r : ClientTable × Taken) → slice_get w.sent k ≡ Some (Client c, message) → take_row (w.clients c) message ≡ r → (are_inside n (w.sent ++ sent_with r.1) ≡ true) × (client_near n r.0 ≡ true)
+  took-near c k message r is e = let l = subst (λ r. taken_near n r ≡ true) e (take-near n (w.clients c) message (h.clients c) (named-of n (Client c, message) (inside-at n w.sent k (Client c, message) h.sent is))) in
+      (inside-both n w.sent _ h.sent (second-of _ _ l), first-of _ _ l)
 
-  ends-near : (s : ServerNo) (k : Option ℕ) (stop : Option (Pick → ℕ)) (row : RowOutcome Memory) → MemoryNear row → AreNear n (ends s k stop row w)
-  ends-near s k None row r = record {
-    sent = inside-both n w.sent row.messages h.sent r.sent_are;
-    clients = h.clients;
-    works = works-one s (Some row.table) (works-of row.table r.table);
-    stored = stored-one s (λ c. made_all row.changes (w.found s c)) (λ c. all-near n row.changes (w.found s c) r.changes_are (h.stored s c));
-  }
-  ends-near s k (Some made) row r = record {
-    sent = h.sent;
-    clients = h.clients;
-    works = works-one s None (λ m e. absurd (none-memory m e));
-    stored = stored-one s (λ c. made_all (take (made c) row.changes) (w.found s c)) (λ c. front-near n (made c) row.changes (w.found s c) r.changes_are (h.stored s c));
-  }
-
-  took-near : (c : ClientNo) (k : ℕ) (t : ClientTable) (r : Taken) → taken_near n (t, r) ≡ true → AreNear n (took c k t r w)
-  took-near c k t taken.Ignored l = record { sent = h.sent; clients = clients-one c t (first-of _ _ l); works = h.works; stored = h.stored }
-  took-near c k t (taken.Send to m) l = record { sent = inside-both n w.sent _ h.sent (second-of _ _ l); clients = clients-one c t (first-of _ _ l); works = h.works; stored = h.stored }
-  took-near c k t (taken.Told line answer) l = record { sent = inside-both n w.sent _ h.sent (second-of _ _ l); clients = clients-one c t (first-of _ _ l); works = h.works; stored = h.stored }
-
-  handed-near : (k : ℕ) (room : Room) (stop : Option (Pick → ℕ)) (o : Option Sent) → slice_get w.sent k ≡ o → AreNear n (handed k room stop o w)
-  handed-near k room stop None e = h
-  handed-near k room stop (Some (Client c, message)) e = took-near c k _ _ (take-near n (w.clients c) message (h.clients c) (named-of n (Client c, message) (inside-at n w.sent k (Client c, message) h.sent e)))
-  handed-near k room stop (Some (Server s, message)) e = by (w.memory s) refl
-    where
-      by : (o : Option Memory) → w.memory s ≡ o → AreNear n (at_memory s k room stop message o w)
-      by None q = record { sent = h.sent; clients = h.clients; works = h.works; stored = h.stored }
-      by (Some m) q = ends-near s (Some k) stop _ (row-near s m room k message q e)
-
-  work-near : (s : ServerNo) (room : Room) (stop : Option (Pick → ℕ)) (o : Option Memory) → w.memory s ≡ o → AreNear n (work s room stop o w)
-  work-near s room stop None e = h
-  work-near s room stop (Some m) e = by (server_step m (stable (w.found s)) room) refl
-    where
-      by : (o : Option (RowOutcome Memory)) → server_step m (stable (w.found s)) room ≡ o → AreNear n (works s stop o w)
-      by None q = h
-      by (Some row) q = ends-near s None stop row (work-step-near s m room row e q)
-
-  more-near-sent : (more : List Sent) → are_inside n more ≡ true → AreNear n (record w { sent = w.sent ++ more })
-  more-near-sent more l = record { sent = inside-both n w.sent more h.sent l; clients = h.clients; works = h.works; stored = h.stored }
-
-  tell-near : (c : ClientNo) (r : Commanded) → commanded_near n r ≡ true → AreNear n (commanded c r w)
-  tell-near c (Refuses refusal) l = record { sent = h.sent; clients = h.clients; works = h.works; stored = h.stored }
-  tell-near c (Sends t to message) l = record { sent = inside-both n w.sent ((to, message) ∷ []) h.sent (grind (arith, l)); clients = clients-one c t (second-of _ _ l); works = h.works; stored = h.stored }
+  row-of-client : (c : ClientNo) (step : Step) (t : ClientTable) (sent : List Sent) (lines : List Text) → ClientRow w c step t sent lines → (are_inside n sent ≡ true) × (client_near n t ≡ true)
+  row-of-client c _ _ _ _ (by_command command t to message e) = let size = sizes.clients c in let l = subst (λ r. commanded_near n r ≡ true) e (command-near n (w.clients c) w.event command size.servers_are (h.clients c)) in
+      (inside-both n w.sent ((to, message) ∷ []) h.sent (grind (arith, l)), second-of _ _ l)
+  row-of-client c _ _ _ _ (by_ignoring k room stop message t is e) = (h.sent, (took-near c k message _ is e).1)
+  row-of-client c _ _ _ _ (by_answering k room stop message t to answer is e) = took-near c k message _ is e
+  row-of-client c _ _ _ _ (by_telling k room stop message t line answer is e) = took-near c k message _ is e
 
   again-near : (o : Option Outstanding) → is_inside_again n o ≡ true → are_inside n (sent_now (sent_again o)) ≡ true
   again-near o l = grind (arith, l)
 
-  step-near-all : (step : Step) → AreNear n (after step w)
-  step-near-all NextEvent = record { sent = h.sent; clients = h.clients; works = h.works; stored = h.stored }
-  step-near-all (Tell c command) = let size = sizes.clients c in tell-near c _ (command-near n (w.clients c) w.event command size.servers_are (h.clients c))
-  step-near-all (Again c) = more-near-sent _ (again-near (w.clients c).outstanding (first-of _ _ (h.clients c)))
-  step-near-all (Deliver k room) = handed-near k room None (slice_get w.sent k) refl
-  step-near-all (StopDelivery k room made) = handed-near k room (Some made) (slice_get w.sent k) refl
-  step-near-all (Work s room) = work-near s room None (w.memory s) refl
-  step-near-all (StopWork s room made) = work-near s room (Some made) (w.memory s) refl
-  step-near-all (Nudge s) = by (w.memory s) refl
-    where
-      by : (o : Option Memory) → w.memory s ≡ o → AreNear n (nudge s o w)
-      by None e = h
-      by (Some m) e = let z = up-sizes n at_most w sizes locks s m e in more-near-sent _ (inside-both n (worker_again (stable (w.found s)) m.worker) (coordinator_again m.coordinator.transactions) (again-inside n (stable (w.found s)) m.worker (h.works s m e)) (all-again-inside n m.coordinator.transactions (tids-near s m e) z.stages))
-  step-near-all (Timeout s T) = by (w.memory s) refl
-    where
-      timed : (m : Memory) → table_near n m.worker ≡ true → (o : Option WorkEntry) → table_near n (of_timeout m (timed_out m.worker o)).worker ≡ true
-      timed m l o = grind (arith, phase-near n, l)
+  quiet-near : (step : Step) (event : ℕ) (sent : List Sent) (lines : List Text) → Quiet w step event sent lines → are_inside n sent ≡ true
+  quiet-near _ _ _ _ (client_repeats c) = inside-both n w.sent _ h.sent (again-near (w.clients c).outstanding (first-of _ _ (h.clients c)))
+  quiet-near _ _ _ _ (server_repeats s m e) = let z = up-sizes n at_most w sizes locks s m e in inside-both n w.sent _ h.sent
+      (inside-both n (worker_again (stable (w.found s)) m.worker) (coordinator_again m.coordinator.transactions) (again-inside n (stable (w.found s)) m.worker (h.works s m e)) (all-again-inside n m.coordinator.transactions (tids-near s m e) z.stages))
+  quiet-near _ _ _ _ event_begins = h.sent
+  quiet-near _ _ _ _ (none_changes step) = h.sent
+  quiet-near _ _ _ _ (is_refused c command refusal e) = h.sent
+  quiet-near _ _ _ _ (is_lost k room stop s message is e) = h.sent
 
-      by : (o : Option Memory) → w.memory s ≡ o → AreNear n (timeout s T o w)
-      by None e = h
-      by (Some m) e = record { sent = h.sent; clients = h.clients; works = works-one s (Some (server_timeout m T)) (works-of _ (timed m (h.works s m e) (work_of T m.worker))); stored = h.stored }
-  step-near-all (Crash s) = by (w.memory s)
-    where
-      by : (o : Option Memory) → AreNear n (crash s o w)
-      by None = h
-      by (Some m) = record { sent = h.sent; clients = h.clients; works = works-one s None (λ m e. absurd (none-memory m e)); stored = h.stored }
-  step-near-all (Narrow s g) = by (w.memory s)
-    where
-      by : (o : Option Memory) → AreNear n (narrow s g o w)
-      by None = record { sent = h.sent; clients = h.clients; works = h.works; stored = stored-one s (λ c. w.found s (g c)) (λ c. h.stored s (g c)) }
-      by (Some m) = h
-  step-near-all (StopRestart s raised) = by (w.memory s)
-    where
-      by : (o : Option Memory) → AreNear n (stop_restart s raised o w)
-      by None = record { sent = h.sent; clients = h.clients; works = h.works; stored = stored-one s (λ c. if raised c then with_epoch (w.found s c) else w.found s c) (λ c W p e. let old = h.stored s c W p in grind (arith, e)) }
-      by (Some m) = h
-  step-near-all (Restart s pick Ws Ts) = by (w.memory s)
-    where
-      by : (o : Option Memory) → AreNear n (restart s pick Ws Ts o w)
-      by None = record { sent = h.sent; clients = h.clients; works = works-one s (Some (restored s (w.found s pick) Ws Ts)) (works-of _ (restored-near n (w.found s pick) Ws (h.stored s pick))); stored = stored-one s (λ c. with_epoch (w.found s pick)) (λ c. h.stored s pick) }
-      by (Some m) = h
-  step-near-all Dismiss = record { sent = h.sent; clients = λ c. refl; works = h.works; stored = h.stored }
-  step-near-all (CloseClients s) = by (w.memory s) refl
-    where
-      by : (o : Option Memory) → w.memory s ≡ o → AreNear n (close_clients s o w)
-      by None e = h
-      by (Some m) e = ends-near s None None (of_coordinator m (close_clients_row m.coordinator m.tickets)) (record { table = h.works s m e; changes_are = let a = close-aside m.coordinator m.tickets in flags-near n (close_clients_row m.coordinator m.tickets).changes a.flags; sent_are = refl })
+  -- ---- every step
+
+  by-case : (step : Step) (now : World) → StepCase w step now → AreNear n now
+  by-case step _ (client_row _ c t sent lines row) = let r = row-of-client c step t sent lines row in record { sent = r.0; clients = one-client (λ d t. client_near n t ≡ true) w.clients c t r.1 (λ d other. h.clients d); works = h.works; stored = h.stored }
+  by-case step _ (row_done _ s m k row e is) = let r = row-of s m None step k row e is in record {
+    sent = inside-both n w.sent row.messages h.sent r.sent_are;
+    clients = h.clients;
+    works = memory-now WorksNear w.memory h.works s row.table r.table;
+    stored = found-now (StoredNear n) w h.stored s (λ c. made_all row.changes (w.found s c)) (λ c. all-near n row.changes (w.found s c) r.changes_are (h.stored s c));
+  }
+  by-case step _ (row_stopped _ s m k row made e is) = let r = row-of s m (Some made) step k row e is in record {
+    sent = h.sent;
+    clients = h.clients;
+    works = memory-gone WorksNear w.memory h.works s;
+    stored = found-now (StoredNear n) w h.stored s (λ c. made_all (take (made c) row.changes) (w.found s c)) (λ c. front-near n (made c) row.changes (w.found s c) r.changes_are (h.stored s c));
+  }
+  by-case _ _ (gone_late s m T e) = record { sent = h.sent; clients = h.clients; works = memory-now WorksNear w.memory h.works s (server_timeout m T) (late-near m (h.works s m e) (work_of T m.worker)); stored = h.stored }
+  by-case _ _ (gone_down s m e) = record { sent = h.sent; clients = h.clients; works = memory-gone WorksNear w.memory h.works s; stored = h.stored }
+  by-case _ _ (come_up s pick Ws Ts e) = record {
+    sent = h.sent;
+    clients = h.clients;
+    works = memory-now WorksNear w.memory h.works s (restored s (w.found s pick) Ws Ts) (restored-near n (w.found s pick) Ws (h.stored s pick));
+    stored = found-now (StoredNear n) w h.stored s (λ c. with_epoch (w.found s pick)) (λ c. h.stored s pick);
+  }
+  by-case step _ (found_anew _ s found lines e is) = record { sent = h.sent; clients = h.clients; works = h.works; stored = found-then (StoredNear n) w h.stored s raised-near step found lines is }
+  by-case _ _ dismissed = record { sent = h.sent; clients = λ c. refl; works = h.works; stored = h.stored }
+  by-case step _ (quietly _ event sent lines is) = record { sent = quiet-near step event sent lines is; clients = h.clients; works = h.works; stored = h.stored }
 
   pub within-step : (step : Step) → IsStep step w → Within n (after step w)
-  within-step step i = record { near_all = step-near-all step; owned = step-keeps-owned n at_most w sizes locks within.owned step i }
+  within-step step i = record { near_all = by-case step (after step w) (step-case w step); owned = step-keeps-owned n at_most w sizes locks within.owned step i }
 
 pub opening-within : (n : ℕ) (files : AllFiles) (epochs : ServerNo → ℕ) → Within n (opening n files epochs)
 opening-within n files epochs = record {

@@ -1,6 +1,5 @@
 -- What a coordinator's row sends weighs less than the message, and its table stays small.
-use Rattle.jn_system_settling.proofs.Common.{◌≡◌, ◌≤◌, ℕ, ◌+◌, ◌*◌, Bool, true, false, List, [], ◌∷◌, ◌++◌, length, length-append, Option, Some, None, true≢false, refl, sym, subst, arith, ◌&&◌, not, if◌then◌else◌, nat_lt, nat_eq, is_some, nat_tests, ClientNo, Tid, WorkId, Tickets, Cause, Client, tid_eq, tid_tells, Message, Vote, Transaction, Stage, Open, Voting, Committed, Aborted, Ballot, Commitment, StableState, Change, AddFlag, DropFlag, made_by, made_all, RowOutcome, Sent, CoordinatorTable, transaction_at, with_stage, all_in, is_work, besides, drops, commits, prepares, commit_row, abort_row, forget_row, after_closing, changes_of_closing, begin_new, begin_again, begun_by, begin_row, seen_now, name_from, end_promised, end_stage, end_row, abort_stage, abort_request, told_stage, inquire_row, counted_vote, vote_stage, vote_row, done_stage, done_row, thanks_stage, thanks_row, with_work, coordinator_row, close_clients_row, committed_to, aborted_to, Closes, Empty, Stays, Goes, Waits, Forgets, client-closes, outcomes-close, weight, weigh_all, is_few, is_small, is_small_stage, are_small_stages, is_committed, committed_at, AreFlagsOf}
-use Rattle.jn_base.specs.declared.names.RequestNo.{RequestNo}
+use Rattle.jn_system_settling.proofs.Common.{◌≡◌, ◌≤◌, ℕ, ◌+◌, ◌*◌, Bool, true, false, List, [], ◌∷◌, ◌++◌, length, length-append, Option, Some, None, true≢false, refl, sym, subst, arith, ◌&&◌, not, if◌then◌else◌, nat_lt, nat_eq, is_some, nat_tests, ClientNo, Tid, WorkId, Tickets, Cause, Client, tid_eq, tid_tells, Message, Vote, Transaction, Stage, Open, Voting, Committed, Aborted, Ballot, Commitment, StableState, Change, AddFlag, DropFlag, made_by, made_all, RowOutcome, Sent, CoordinatorTable, transaction_at, with_stage, all_in, is_work, besides, drops, commits, prepares, commit_row, abort_row, forget_row, after_closing, changes_of_closing, begin_new, begin_again, begun_by, begin_row, seen_now, name_from, end_promised, end_stage, end_row, abort_stage, abort_request, told_stage, inquire_row, counted_vote, vote_stage, vote_row, done_stage, done_row, thanks_stage, thanks_row, with_work, coordinator_row, close_clients_row, committed_to, aborted_to, Closes, Empty, Stays, Goes, Waits, Forgets, client-closes, outcomes-close, weight, weigh_all, is_few, is_small, is_small_stage, are_small_stages, is_committed, committed_at, AreFlagsOf, RequestNo}
 use Rattle.jn_msgs.specs.declared.message.Message.TheVariants as messages
 use Rattle.jn_msgs.specs.declared.message.Outcome.TheVariants as outcomes
 use Rattle.jn_msgs.specs.declared.message.Vote.TheVariants as votes

@@ -1,8 +1,6 @@
 -- What holds of a course after each of its steps, and what a step does to its burden.
-use Rattle.jn_system_settling.proofs.Common.{◌≡◌, ◌≤◌, ℕ, ◌+◌, true, List, [], ◌∷◌, ◌++◌, length, length-append, append-nil, drop, Option, Some, None, refl, sym, ◌∙◌, ap, subst, arith, slice_get, ServerNo, ClientNo, Client, Server, Message, Taken, Pick, stable, RowOutcome, Sent, ClientTable, Commanded, Refuses, Sends, command_row, take_row, again_row, World, Memory, servers_from, Room, server_step, server_row, server_again, Step, NextEvent, Tell, Again, Deliver, Nudge, Timeout, StopDelivery, StopWork, Crash, Narrow, StopRestart, Restart, Dismiss, CloseClients, IsStep, IsRun, after, run, ends, at_memory, handed, work, works, nudge, timeout, crash, narrow, stop_restart, restart, close_clients, commanded, took, sent_now, LockFacts, locks-keep, Course, numbered, without_number, still_waiting, go, go_on, weigh, going_works, burden, Sizes, one_if_delivery, deliveries, IsCourse}
+use Rattle.jn_system_settling.proofs.Common.{Text, ◌≡◌, ◌≤◌, ℕ, ◌+◌, true, List, [], ◌∷◌, ◌++◌, length, length-append, append-nil, drop, refl, sym, ◌∙◌, ap, subst, arith, ClientNo, stable, Sent, ClientTable, again_row, World, servers_from, server_again, Step, Deliver, StopDelivery, IsStep, IsRun, after, run, sent_now, LockFacts, locks-keep, Course, numbered, without_number, still_waiting, go, go_on, weigh, going_works, burden, Sizes, one_if_delivery, deliveries, IsCourse, ClientRow, by_command, by_ignoring, by_answering, by_telling, Quiet, client_repeats, server_repeats, StepCase, client_row, row_done, quietly, step-case}
 use Rattle.std.proofs.Math.Seq.{drop-append_seam}
-use Rattle.jn_rows.specs.declared.client.Taken.TheVariants as taken
-use Rattle.jn_system.specs.WholeSystem.Steps.{Work}
 use Rattle.jn_system_settling.proofs.Settling.WorldSizes.{sizes-keep}
 use Rattle.jn_system_settling.proofs.Settling.Burdens.{are_below, weigh-more, weigh-both, weigh-new, below-both, below-more, below-new, Leads}
 
@@ -13,83 +11,25 @@ pub record Grows (w now : World) : Type 0 where
   pub sent : now.sent ≡ w.sent ++ new
 
 module _ (w : World) where
-  same : (now : World) → now.sent ≡ w.sent → Grows w now
-  same now e = record { new = []; sent = e ∙ sym (append-nil w.sent) }
+  client-sent : (step : Step) (c : ClientNo) (t : ClientTable) (sent : List Sent) (lines : List Text) → ClientRow w c step t sent lines → (new : List Sent) × (sent ≡ w.sent ++ new)
+  client-sent _ c _ _ _ (by_command command t to message is) = ((to, message) ∷ [], refl)
+  client-sent _ c _ _ _ (by_ignoring k room stop message t e is) = ([], sym (append-nil w.sent))
+  client-sent _ c _ _ _ (by_answering k room stop message t to answer e is) = ((to, answer) ∷ [], refl)
+  client-sent _ c _ _ _ (by_telling k room stop message t line answer e is) = (sent_now answer, refl)
 
-  commanded-grows : (c : ClientNo) (r : Commanded) → Grows w (commanded c r w)
-  commanded-grows c (Refuses refusal) = same _ refl
-  commanded-grows c (Sends t to message) = record { new = (to, message) ∷ []; sent = refl }
+  quiet-sent : (step : Step) (event : ℕ) (sent : List Sent) (lines : List Text) → Quiet w step event sent lines → (new : List Sent) × (sent ≡ w.sent ++ new)
+  quiet-sent _ _ _ _ (client_repeats c) = (sent_now (again_row (w.clients c)), refl)
+  quiet-sent _ _ _ _ (server_repeats s m e) = (server_again m (stable (w.found s)), refl)
+  quiet-sent _ _ _ _ is = ([], sym (append-nil w.sent))
 
-  took-grows : (c : ClientNo) (k : ℕ) (t : ClientTable) (r : Taken) → Grows w (took c k t r w)
-  took-grows c k t taken.Ignored = same (took c k t taken.Ignored w) refl
-  took-grows c k t (taken.Send to message) = record { new = (to, message) ∷ []; sent = refl }
-  took-grows c k t (taken.Told line answer) = record { new = sent_now answer; sent = refl }
-
-  ends-grows : (s : ServerNo) (k : Option ℕ) (stop : Option (Pick → ℕ)) (row : RowOutcome Memory) → Grows w (ends s k stop row w)
-  ends-grows s k None row = record { new = row.messages; sent = refl }
-  ends-grows s k (Some made) row = same (ends s k (Some made) row w) refl
-
-  memory-grows : (s : ServerNo) (k : ℕ) (room : Room) (stop : Option (Pick → ℕ)) (message : Message) (o : Option Memory) → Grows w (at_memory s k room stop message o w)
-  memory-grows s k room stop message None = same (at_memory s k room stop message None w) refl
-  memory-grows s k room stop message (Some m) = ends-grows s (Some k) stop (server_row m (stable (w.found s)) room message)
-
-  handed-grows : (k : ℕ) (room : Room) (stop : Option (Pick → ℕ)) (o : Option Sent) → Grows w (handed k room stop o w)
-  handed-grows k room stop None = same w refl
-  handed-grows k room stop (Some (Client c, message)) = took-grows c k (take_row (w.clients c) message).0 (take_row (w.clients c) message).1
-  handed-grows k room stop (Some (Server s, message)) = memory-grows s k room stop message (w.memory s)
-
-  works-grows : (s : ServerNo) (stop : Option (Pick → ℕ)) (o : Option (RowOutcome Memory)) → Grows w (works s stop o w)
-  works-grows s stop None = same w refl
-  works-grows s stop (Some row) = ends-grows s None stop row
-
-  work-grows : (s : ServerNo) (room : Room) (stop : Option (Pick → ℕ)) (o : Option Memory) → Grows w (work s room stop o w)
-  work-grows s room stop None = same w refl
-  work-grows s room stop (Some m) = works-grows s stop (server_step m (stable (w.found s)) room)
-
-  nudge-grows : (s : ServerNo) (o : Option Memory) → Grows w (nudge s o w)
-  nudge-grows s None = same w refl
-  nudge-grows s (Some m) = record { new = server_again m (stable (w.found s)); sent = refl }
+  by-case : (step : Step) (now : World) → StepCase w step now → Grows w now
+  by-case step _ (client_row _ c t sent lines row) = let new = client-sent step c t sent lines row in record { new = new.0; sent = new.1 }
+  by-case step _ (row_done _ s m k row e is) = record { new = row.messages; sent = refl }
+  by-case step _ (quietly _ event sent lines is) = let new = quiet-sent step event sent lines is in record { new = new.0; sent = new.1 }
+  by-case _ _ is = record { new = []; sent = sym (append-nil w.sent) }
 
   pub grows : (step : Step) → Grows w (after step w)
-  grows NextEvent = same (after NextEvent w) refl
-  grows (Tell c command) = commanded-grows c (command_row (w.clients c) w.event command)
-  grows (Again c) = record { new = sent_now (again_row (w.clients c)); sent = refl }
-  grows (Deliver k room) = handed-grows k room None (slice_get w.sent k)
-  grows (Work s room) = work-grows s room None (w.memory s)
-  grows (Nudge s) = nudge-grows s (w.memory s)
-  grows (Timeout s T) = by (w.memory s)
-    where
-      by : (o : Option Memory) → Grows w (timeout s T o w)
-      by None = same w refl
-      by (Some m) = same (timeout s T (Some m) w) refl
-  grows (StopDelivery k room made) = handed-grows k room (Some made) (slice_get w.sent k)
-  grows (StopWork s room made) = work-grows s room (Some made) (w.memory s)
-  grows (Crash s) = by (w.memory s)
-    where
-      by : (o : Option Memory) → Grows w (crash s o w)
-      by None = same w refl
-      by (Some m) = same (crash s (Some m) w) refl
-  grows (Narrow s g) = by (w.memory s)
-    where
-      by : (o : Option Memory) → Grows w (narrow s g o w)
-      by None = same (narrow s g None w) refl
-      by (Some m) = same w refl
-  grows (StopRestart s up) = by (w.memory s)
-    where
-      by : (o : Option Memory) → Grows w (stop_restart s up o w)
-      by None = same (stop_restart s up None w) refl
-      by (Some m) = same w refl
-  grows (Restart s pick Ws Ts) = by (w.memory s)
-    where
-      by : (o : Option Memory) → Grows w (restart s pick Ws Ts o w)
-      by None = same (restart s pick Ws Ts None w) refl
-      by (Some m) = same w refl
-  grows Dismiss = same (after Dismiss w) refl
-  grows (CloseClients s) = by (w.memory s)
-    where
-      by : (o : Option Memory) → Grows w (close_clients s o w)
-      by None = same w refl
-      by (Some m) = record { new = []; sent = refl }
+  grows step = by-case step (after step w) (step-case w step)
 
 -- ---- runs
 
@@ -123,19 +63,7 @@ below-less n k (j ∷ js) h = let again = below-less n k js in grind (arith, h)
 pub below-still : (n : ℕ) (step : Step) (ks : List ℕ) → are_below n ks ≡ true → are_below n (still_waiting step ks) ≡ true
 below-still n (Deliver k room) ks h = below-less n k ks h
 below-still n (StopDelivery k room made) ks h = below-less n k ks h
-below-still n NextEvent ks h = h
-below-still n (Tell c command) ks h = h
-below-still n (Again c) ks h = h
-below-still n (Work s room) ks h = h
-below-still n (Nudge s) ks h = h
-below-still n (Timeout s T) ks h = h
-below-still n (StopWork s room made) ks h = h
-below-still n (Crash s) ks h = h
-below-still n (Narrow s g) ks h = h
-below-still n (StopRestart s up) ks h = h
-below-still n (Restart s pick Ws Ts) ks h = h
-below-still n Dismiss ks h = h
-below-still n (CloseClients s) ks h = h
+below-still n step ks h = h
 
 module _ (n : ℕ) (at_most : n ≤ 8) (start : World) where
   -- what is new waits behind what is still waiting

@@ -1,7 +1,5 @@
 -- What a worker's row sends and sets going weighs less than the message, and its table stays small.
-use Rattle.jn_system_settling.proofs.Common.{◌≡◌, ◌≤◌, ℕ, ◌+◌, Bool, true, false, List, [], ◌∷◌, ◌++◌, length, length-append, Option, Some, None, true≢false, refl, sym, ◌∙◌, ap, subst, arith, ◌&&◌, if◌then◌else◌, nat_lt, nat_eq, slice_get, is_some, nat_tests, ClientNo, Tid, WorkId, LockUnit, Tickets, Party, Client, Op, Answer, work_tells, change, answer_to, list_change, Intention, Message, Vote, Work, Phase, Active, Broken, Stored, ActiveWork, StableState, Prepared, Change, RemoveWork, AddFlag, DropFlag, made_all, is_going, at_work, gone_on, ready_work, RowOutcome, sends, WorkerTable, WorkStorage, Wanted, work_at, work_of, with_phase, without, after_grant, broken_by, breaks_at, new_work, open_row, wants_of, is_fit, refusal_of, granted_row, repeated, op_phase, op_row, conflict, commit_wants, vote_of, shortage, need_in, prepared_row, prepare_phase, prepare_row, commit_phase, drop_phase, drop_row, worker_row, going_work, intentions_of, carried_row, going_row, worker_step, is_before, are_rising, none-front, TableFact, going-is, weight, weigh_all, goings}
-use Rattle.jn_base.specs.declared.names.OperationNo.{OperationNo}
-use Rattle.jn_base.specs.declared.names.RequestNo.{RequestNo}
+use Rattle.jn_system_settling.proofs.Common.{◌≡◌, ◌≤◌, ℕ, ◌+◌, Bool, true, false, List, [], ◌∷◌, ◌++◌, length, length-append, Option, Some, None, true≢false, refl, sym, ◌∙◌, ap, subst, arith, ◌&&◌, if◌then◌else◌, nat_lt, nat_eq, slice_get, is_some, nat_tests, ClientNo, Tid, WorkId, LockUnit, Tickets, Party, Client, Op, Answer, work_tells, change, answer_to, list_change, Intention, Message, Vote, Work, Phase, Active, Broken, Stored, ActiveWork, StableState, Prepared, Change, RemoveWork, AddFlag, DropFlag, made_all, is_going, at_work, gone_on, ready_work, RowOutcome, sends, WorkerTable, WorkStorage, Wanted, work_at, work_of, with_phase, without, after_grant, broken_by, breaks_at, new_work, open_row, wants_of, is_fit, refusal_of, granted_row, repeated, op_phase, op_row, conflict, commit_wants, vote_of, shortage, need_in, prepared_row, prepare_phase, prepare_row, commit_phase, drop_phase, drop_row, worker_row, going_work, intentions_of, carried_row, going_row, worker_step, is_before, are_rising, none-front, TableFact, going-is, weight, weigh_all, goings, OperationNo, RequestNo}
 use Rattle.jn_locks.proofs.Orders.{work_before-irreflexive}
 use Rattle.jn_msgs.specs.declared.message.Message.TheVariants as messages
 use Rattle.jn_msgs.specs.declared.message.Vote.TheVariants as votes

@@ -7,7 +7,7 @@ use Rattle.jn_rows.specs.Stable.{StableState, Pick, stable}
 use Rattle.jn_rows.specs.Worker.{going_work}
 use Rattle.jn_system.specs.WholeSystem.World.{World, Memory, servers_from}
 use Rattle.jn_system.specs.WholeSystem.Servers.{Room}
-use Rattle.jn_system.specs.WholeSystem.Steps.{Step, Again, Deliver, Work, Nudge, StopDelivery, StopWork}
+use Rattle.jn_system.specs.WholeSystem.Steps.{Step, Again, Nudge, handing, working}
 use Rattle.jn_system_settling.specs.Settling.Course.{Course, go, go_on}
 
 -- What befalls a step: what its server's storage says of itself, and how much of its changes each pick finds where it is
@@ -33,14 +33,6 @@ is_busy x (Some m) = is_some (going_work x m.worker)
 abbrev pub first_busy : World → List ServerNo → Option ServerNo
 first_busy w [] = None
 first_busy w (s ∷ servers) = if is_busy (stable (w.found s)) (w.memory s) then Some s else first_busy w servers
-
-abbrev pub handing : ℕ → Room → Option (Pick → ℕ) → Step
-handing k room None = Deliver k room
-handing k room (Some made) = StopDelivery k room made
-
-abbrev pub working : ServerNo → Room → Option (Pick → ℕ) → Step
-working s room None = Work s room
-working s room (Some made) = StopWork s room made
 
 -- the least message that waits is handed over; where none waits, the first server that has something to do makes one step
 abbrev pub next_step : Chance → List ℕ → Option ServerNo → Option Step

@@ -1,4 +1,4 @@
-use Rattle.jn_server.proofs.Common.{◌≡◌, [], ap, refl, subst, sym, StoreView, view_of, Accounts, table_of, close_clients_row, of_coordinator, close-aside, IsDone, Does, Parts, view_with, memory_of, IsServer}
+use Rattle.jn_server.proofs.Common.{◌≡◌, [], ap, refl, subst, sym, StoreView, view_of, Accounts, table_of, close_clients_row, of_coordinator, close-aside, IsDone, Does, Parts, view_with, memory_of, IsServer, row_calls}
 use Rattle.jn_server.proofs.Coordinating.{coordinated, closing_failed}
 use Rattle.jn_server.proofs.server.Server.close_clients.Goals as goal
 
@@ -9,7 +9,7 @@ returns-clause-does g c =
     let v = view_with look inside in
     let serves : IsServer v = subst (λ (s : Parts g.row.S.Denot). IsServer (view_with look s)) (sym c.self.view_is) c.requires.serves in
     let h = c.in_ok-close_clients.ensures in
-    λ before. subst (λ (s : Parts g.row.S.Denot). IsDone 1024 (of_coordinator (memory_of (view_with look s)) (close_clients_row (table_of s.coordinator) s.tickets)) (view_with look s) before
+    λ before. subst (λ (s : Parts g.row.S.Denot). IsDone row_calls (of_coordinator (memory_of (view_with look s)) (close_clients_row (table_of s.coordinator) s.tickets)) (view_with look s) before
     (view_with look (record { storage = c.close_clients.new.store; worker = c.self.inside.worker; coordinator = c.close_clients.new.self; tickets = c.self.inside.tickets })) before) c.self.view_is
     (coordinated v serves (close_clients_row (table_of v.coordinator) v.tickets) (close-aside (table_of v.coordinator) v.tickets) before c.close_clients.new.self
     (view_of c.close_clients.new.store.1 (look c.close_clients.new.store.0)) before v.tickets (h.does v.tickets before) refl (h.tickets v.tickets serves.transactions_before))
@@ -21,7 +21,7 @@ returns-in_err-close_clients-clause-does g c =
     let v = view_with look inside in
     let serves : IsServer v = subst (λ (s : Parts g.row.S.Denot). IsServer (view_with look s)) (sym c.self.view_is) c.requires.serves in
     let h = c.in_err-close_clients.ensures in
-    λ before. subst (λ (s : Parts g.row.S.Denot). Does 1024 (of_coordinator (memory_of (view_with look s)) (close_clients_row (table_of s.coordinator) s.tickets)) (view_with look s) before c.from_residual.result
+    λ before. subst (λ (s : Parts g.row.S.Denot). Does row_calls (of_coordinator (memory_of (view_with look s)) (close_clients_row (table_of s.coordinator) s.tickets)) (view_with look s) before c.from_residual.result
     (view_with look (record { storage = c.close_clients.new.store; worker = c.self.inside.worker; coordinator = c.close_clients.new.self; tickets = c.self.inside.tickets })) before) c.self.view_is
     (closing_failed v serves (close_clients_row (table_of v.coordinator) v.tickets) (close-aside (table_of v.coordinator) v.tickets) before c.close_clients.new.self
     (view_of c.close_clients.new.store.1 (look c.close_clients.new.store.0)) before v.tickets (Unit {0}) c.in_err-close_clients.field-0.0 c.from_residual.result c.from_residual.ensures.0 c.from_residual.ensures.1

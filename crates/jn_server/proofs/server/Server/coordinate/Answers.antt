@@ -1,4 +1,4 @@
-use Rattle.jn_server.proofs.Common.{ap, subst, sym, view_of, Accounts, free_of, table_of, coordinator_row, of_coordinator, coordinator-aside, Parts, view_with, memory_of, IsServer, IsDone, Does, LeavesRubbish}
+use Rattle.jn_server.proofs.Common.{ap, subst, sym, view_of, Accounts, free_of, table_of, coordinator_row, of_coordinator, coordinator-aside, Parts, view_with, memory_of, IsServer, IsDone, Does, LeavesRubbish, row_calls}
 use Rattle.jn_server.proofs.Coordinating.{coordinated, flags-leave-none, coordinator_failed}
 use Rattle.jn_server.proofs.server.Server.coordinate.Goals as goal
 
@@ -10,7 +10,7 @@ returns-clause-does g c =
     let serves : IsServer v = subst (λ (s : Parts g.row.S.Denot). IsServer (view_with look s)) (sym c.self.view_is) c.requires.serves in
     let message = c.args.message.now in
     let h = c.in_ok-handle.ensures in
-    subst (λ (s : Parts g.row.S.Denot). IsDone 1024 (of_coordinator (memory_of (view_with look s)) (coordinator_row (table_of s.coordinator) (free_of (view_of s.storage.1 (look s.storage.0))) s.tickets message)) (view_with look s) c.args.out.now
+    subst (λ (s : Parts g.row.S.Denot). IsDone row_calls (of_coordinator (memory_of (view_with look s)) (coordinator_row (table_of s.coordinator) (free_of (view_of s.storage.1 (look s.storage.0))) s.tickets message)) (view_with look s) c.args.out.now
     (view_with look (record { storage = c.handle.new.store; worker = c.self.inside.worker; coordinator = c.handle.new.self; tickets = c.handle.new.tickets })) c.handle.new.out) c.self.view_is
     (coordinated v serves (coordinator_row (table_of v.coordinator) (free_of v.storage) v.tickets message) (coordinator-aside (table_of v.coordinator) (free_of v.storage) v.tickets message)
     _ _ _ _ _ h.handles.0 h.handles.1 h.tickets)
@@ -36,7 +36,7 @@ returns-in_err-handle-clause-does g c =
     let serves : IsServer v = subst (λ (s : Parts g.row.S.Denot). IsServer (view_with look s)) (sym c.self.view_is) c.requires.serves in
     let message = c.args.message.now in
     let h = c.in_err-handle.ensures in
-    subst (λ (s : Parts g.row.S.Denot). Does 1024 (of_coordinator (memory_of (view_with look s)) (coordinator_row (table_of s.coordinator) (free_of (view_of s.storage.1 (look s.storage.0))) s.tickets message)) (view_with look s) c.args.out.now
+    subst (λ (s : Parts g.row.S.Denot). Does row_calls (of_coordinator (memory_of (view_with look s)) (coordinator_row (table_of s.coordinator) (free_of (view_of s.storage.1 (look s.storage.0))) s.tickets message)) (view_with look s) c.args.out.now
     c.from_residual.result (view_with look (record { storage = c.handle.new.store; worker = c.self.inside.worker; coordinator = c.handle.new.self; tickets = c.handle.new.tickets })) c.handle.new.out) c.self.view_is
     (coordinator_failed v serves (coordinator_row (table_of v.coordinator) (free_of v.storage) v.tickets message) (coordinator-aside (table_of v.coordinator) (free_of v.storage) v.tickets message)
     _ _ _ _ _ (Unit {0}) c.in_err-handle.field-0.0 c.from_residual.result c.from_residual.ensures.0 c.from_residual.ensures.1 h.handles)
