@@ -17,6 +17,6 @@ pub use Rattle.jn_written.specs.Runs.{none, more, Steps, Moment, DoesStep, Leads
 pub use Rattle.jn_bounds.specs.Settles.{DoesEarlier, Settles, IsWithinBound, IsOver, IsUnderWay, HasSettle, HasItsSettles}
 pub use Rattle.jn_written.specs.Deeds.{Deed, room, no_room, nothing, served, delivered, delivered_at, is_busy, working_steps}
 pub use Rattle.jn_written.specs.Steps.{is_too_much, come_to, cut_short, done}
-pub use Rattle.jn_system.specs.WholeSystem.Steps.{Again, Nudge, Work, StopWork, after, work, works, IsRun, handing, working}
+pub use Rattle.jn_system.specs.WholeSystem.Steps.{Again, Nudge, Work, StopWork, after, work, works, handing, working, IsRun}
 pub use Rattle.jn_written.specs.Devices.{Devices}
 pub use Rattle.jn_written.specs.Whole.{closed_world, IsWritten, before, IsWhole}

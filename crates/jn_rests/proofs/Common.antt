@@ -6,7 +6,7 @@ pub use Rattle.jn_rows.specs.Stable.{Pick, stable, StableState, Change, made_all
 pub use Rattle.jn_rows.specs.Outcomes.{RowOutcome, Sent, quiet}
 pub use Rattle.jn_system.specs.WholeSystem.World.{World, Memory, servers_from, at_server, opening}
 pub use Rattle.jn_system.specs.WholeSystem.Servers.{Room, server_step, storage_of, of_worker, of_step}
-pub use Rattle.jn_system.specs.WholeSystem.Steps.{Step, StopWork, after, work, works, Work, done, NextEvent, Tell, Again, Deliver, Nudge, Timeout, StopDelivery, Crash, Narrow, StopRestart, Restart, Dismiss, CloseClients, handing}
+pub use Rattle.jn_system.specs.WholeSystem.Steps.{Step, StopWork, after, work, works, Work, done, Deliver, StopDelivery, handing}
 pub use Rattle.jn_system_settling.specs.Settling.Course.{Course, go, go_on, opening_course, without_number, still_waiting, numbered}
 pub use Rattle.jn_system_settling.specs.Settling.Settle.{onward, clients_from, ask_again, is_busy, first_busy, Chance, next_step, until_rest, settled}
 pub use Rattle.jn_rests.specs.Rests.{ComesNext, IsHalt, EachComes, IsBounded, in_two, asked as asked_again, EachInTurn, AreNext, NothingIsLeft, ComeToRest, chances_of, asked, both_parts}

@@ -1,5 +1,5 @@
 -- The numbers of the messages that wait in a network.
-use Rattle.jn_rests.proofs.Common.{◌≡◌, ◌≤◌, ◌<◌, ℕ, zero, suc, ◌+◌, ◌-◌, Bool, true, false, List, [], ◌∷◌, ◌++◌, length, length-append, drop, length-drop, Option, Some, None, refl, sym, ◌∙◌, ap, subst, arith, nat_tests, ◌&&◌, not, nat_eq, if◌then◌else◌, slice_get, ServerNo, Step, NextEvent, Tell, Again, Deliver, Work, Nudge, Timeout, StopDelivery, StopWork, Crash, Narrow, StopRestart, Restart, Dismiss, CloseClients, after, Course, opening_course, without_number, still_waiting, numbered, go, Chance, next_step, handing}
+use Rattle.jn_rests.proofs.Common.{◌≡◌, ◌≤◌, ◌<◌, ℕ, zero, suc, ◌+◌, ◌-◌, Bool, true, false, List, [], ◌∷◌, ◌++◌, length, length-append, drop, length-drop, Option, Some, None, refl, sym, ◌∙◌, ap, subst, arith, nat_tests, ◌&&◌, not, nat_eq, if◌then◌else◌, slice_get, ServerNo, Step, Deliver, StopDelivery, after, Course, opening_course, without_number, still_waiting, numbered, go, Chance, next_step, handing}
 use Rattle.std.proofs.Math.Seq.{drop-length, drop-append_seam}
 use Rattle.std.proofs.lemmas.List.{drop-append-le, length-map, map-append}
 use Rattle.std.specs.List.{position_from}
@@ -116,19 +116,7 @@ record Hands (n : Carried) (step : Step) (handed : List Posted) : Type 0 where
 hands : (n : Carried) (step : Step) → Hands n step (delivered_by step n.sent)
 hands n (Deliver k room) = record { sent = same-sent k n.sent; long = same-length k n.sent; waiting = waiting-delivered n k }
 hands n (StopDelivery k room made) = record { sent = same-sent k n.sent; long = same-length k n.sent; waiting = waiting-delivered n k }
-hands n NextEvent = record { sent = refl; long = refl; waiting = refl }
-hands n (Tell c command) = record { sent = refl; long = refl; waiting = refl }
-hands n (Again c) = record { sent = refl; long = refl; waiting = refl }
-hands n (Work s room) = record { sent = refl; long = refl; waiting = refl }
-hands n (Nudge s) = record { sent = refl; long = refl; waiting = refl }
-hands n (Timeout s T) = record { sent = refl; long = refl; waiting = refl }
-hands n (StopWork s room made) = record { sent = refl; long = refl; waiting = refl }
-hands n (Crash s) = record { sent = refl; long = refl; waiting = refl }
-hands n (Narrow s g) = record { sent = refl; long = refl; waiting = refl }
-hands n (StopRestart s raised) = record { sent = refl; long = refl; waiting = refl }
-hands n (Restart s pick works tids) = record { sent = refl; long = refl; waiting = refl }
-hands n Dismiss = record { sent = refl; long = refl; waiting = refl }
-hands n (CloseClients s) = record { sent = refl; long = refl; waiting = refl }
+hands n _ = record { sent = refl; long = refl; waiting = refl }
 
 pub carries-step : (n : Carried) (c : Course) (step : Step) (more : List Posted) → Carries n c → are_new more ≡ true → (after step c.world).sent ≡ c.world.sent ++ sent_of more → Carries (record n { sent = delivered_by step n.sent ++ more }) (go step c)
 carries-step n c step more h new e = by (delivered_by step n.sent) (hands n step)

@@ -1,5 +1,5 @@
 -- With lines of servers that came up before its own, a world goes the same way.
-use Rattle.jn_retold.proofs.Common.{◌≡◌, ℕ, ◌+◌, Bool, true, List, [], ◌∷◌, ◌++◌, append_assoc, Option, Some, None, refl, sym, ◌∙◌, ap, arith, ◌&&◌, if◌then◌else◌, slice_get, list_all, list_any, ServerNo, ClientNo, Tid, WorkId, Client, Server, tid_eq, Message, Text, Taken, Pick, stable, RowOutcome, Sent, close_clients_row, World, Memory, committed_in, commits_in, has_line, Room, server_row, server_step, of_coordinator, named_now, Step, NextEvent, Tell, Again, Deliver, Work, Nudge, Timeout, StopDelivery, StopWork, Crash, Narrow, StopRestart, Restart, Dismiss, CloseClients, after, run, ends, at_memory, handed, work, works, nudge, timeout, crash, narrow, stop_restart, restart, close_clients, commanded, took, is_up, behind}
+use Rattle.jn_retold.proofs.Common.{◌≡◌, ℕ, ◌+◌, Bool, true, List, [], ◌∷◌, ◌++◌, append_assoc, Option, Some, None, refl, sym, ◌∙◌, ap, arith, ◌&&◌, if◌then◌else◌, slice_get, list_all, list_any, ServerNo, ClientNo, Tid, WorkId, Client, Server, tid_eq, Text, Taken, Pick, stable, RowOutcome, Sent, close_clients_row, World, Memory, committed_in, commits_in, has_line, Room, server_row, server_step, of_coordinator, named_now, Step, Tell, Deliver, Work, Nudge, Timeout, StopDelivery, StopWork, Crash, Narrow, StopRestart, Restart, CloseClients, after, run, ends, at_memory, handed, work, works, nudge, timeout, crash, narrow, stop_restart, restart, close_clients, commanded, took, is_up, behind}
 use Rattle.jn_report.specs.declared.line.Text.TheVariants as says
 use Rattle.jn_rows.specs.declared.client.Taken.TheVariants as taken
 use Rattle.jn_rows.specs.Client.{ClientTable, Commanded, Refuses, Sends, command_row, take_row}
@@ -36,6 +36,11 @@ module _ (ups : List Text) (mute : commits_in ups ≡ []) where
   longer now ls texts = ap (λ (all : List Text). record now { lines = all }) (append_assoc ups ls texts)
 
   module _ (w : World) where
+    -- the same way where a server is down, and where it is up
+    by-memory : (f : Option Memory → World → World) (o : Option Memory) → f None (behind ups w) ≡ behind ups (f None w) → ((m : Memory) → f (Some m) (behind ups w) ≡ behind ups (f (Some m) w)) → f o (behind ups w) ≡ behind ups (f o w)
+    by-memory f None down up = down
+    by-memory f (Some m) down up = up m
+
     commanded-behind : (c : ClientNo) (row : Commanded) → commanded c row (behind ups w) ≡ behind ups (commanded c row w)
     commanded-behind c (Refuses refusal) = longer w w.lines (says.Refused c w.event refusal ∷ [])
     commanded-behind c (Sends t to message) = refl
@@ -49,68 +54,36 @@ module _ (ups : List Text) (mute : commits_in ups ≡ []) where
     ends-behind s k None row = longer (ends s k None row w) w.lines (lines_of s k row.notes)
     ends-behind s k (Some made) row = longer (ends s k (Some made) row w) w.lines (says.Stopped s ∷ [])
 
-    memory-behind : (s : ServerNo) (k : ℕ) (room : Room) (stop : Option (Pick → ℕ)) (message : Message) (o : Option Memory) → at_memory s k room stop message o (behind ups w) ≡ behind ups (at_memory s k room stop message o w)
-    memory-behind s k room stop message None = longer w w.lines (says.Lost k ∷ [])
-    memory-behind s k room stop message (Some m) = ends-behind s (Some k) stop (server_row m (stable (w.found s)) room message)
-
     handed-behind : (k : ℕ) (room : Room) (stop : Option (Pick → ℕ)) (o : Option Sent) → handed k room stop o (behind ups w) ≡ behind ups (handed k room stop o w)
     handed-behind k room stop None = refl
     handed-behind k room stop (Some (Client c, message)) = took-behind c k (take_row (w.clients c) message).0 (take_row (w.clients c) message).1
-    handed-behind k room stop (Some (Server s, message)) = memory-behind s k room stop message (w.memory s)
+    handed-behind k room stop (Some (Server s, message)) = by-memory (at_memory s k room stop message) (w.memory s) (longer w w.lines (says.Lost k ∷ [])) (λ m. ends-behind s (Some k) stop (server_row m (stable (w.found s)) room message))
 
     works-behind : (s : ServerNo) (stop : Option (Pick → ℕ)) (o : Option (RowOutcome Memory)) → works s stop o (behind ups w) ≡ behind ups (works s stop o w)
     works-behind s stop None = refl
     works-behind s stop (Some row) = ends-behind s None stop row
 
-    work-behind : (s : ServerNo) (room : Room) (stop : Option (Pick → ℕ)) (o : Option Memory) → work s room stop o (behind ups w) ≡ behind ups (work s room stop o w)
-    work-behind s room stop None = refl
-    work-behind s room stop (Some m) = works-behind s stop (server_step m (stable (w.found s)) room)
+    work-behind : (s : ServerNo) (room : Room) (stop : Option (Pick → ℕ)) → work s room stop (w.memory s) (behind ups w) ≡ behind ups (work s room stop (w.memory s) w)
+    work-behind s room stop = by-memory (work s room stop) (w.memory s) refl (λ m. works-behind s stop (server_step m (stable (w.found s)) room))
 
-    nudge-behind : (s : ServerNo) (o : Option Memory) → nudge s o (behind ups w) ≡ behind ups (nudge s o w)
-    nudge-behind s None = refl
-    nudge-behind s (Some m) = refl
-
-    timeout-behind : (s : ServerNo) (T : Tid) (o : Option Memory) → timeout s T o (behind ups w) ≡ behind ups (timeout s T o w)
-    timeout-behind s T None = refl
-    timeout-behind s T (Some m) = refl
-
-    crash-behind : (s : ServerNo) (o : Option Memory) → crash s o (behind ups w) ≡ behind ups (crash s o w)
-    crash-behind s None = refl
-    crash-behind s (Some m) = longer (crash s (Some m) w) w.lines (says.Down s ∷ [])
-
-    narrow-behind : (s : ServerNo) (g : Pick → Pick) (o : Option Memory) → narrow s g o (behind ups w) ≡ behind ups (narrow s g o w)
-    narrow-behind s g None = refl
-    narrow-behind s g (Some m) = refl
-
-    stop-restart-behind : (s : ServerNo) (raised : Pick → Bool) (o : Option Memory) → stop_restart s raised o (behind ups w) ≡ behind ups (stop_restart s raised o w)
-    stop-restart-behind s raised None = longer (stop_restart s raised None w) w.lines (says.Stopped s ∷ [])
-    stop-restart-behind s raised (Some m) = refl
-
-    restart-behind : (s : ServerNo) (pick : Pick) (Ws : List WorkId) (Ts : List Tid) (o : Option Memory) → restart s pick Ws Ts o (behind ups w) ≡ behind ups (restart s pick Ws Ts o w)
-    restart-behind s pick Ws Ts None = ap (λ (named : List Text). record (restart s pick Ws Ts None w) { lines = (ups ++ w.lines) ++ (says.Up s ((w.found s pick).epoch + 1) ∷ named) }) (same-named Ts w.lines)
+    restart-behind : (s : ServerNo) (pick : Pick) (Ws : List WorkId) (Ts : List Tid) → restart s pick Ws Ts None (behind ups w) ≡ behind ups (restart s pick Ws Ts None w)
+    restart-behind s pick Ws Ts = ap (λ (named : List Text). record (restart s pick Ws Ts None w) { lines = (ups ++ w.lines) ++ (says.Up s ((w.found s pick).epoch + 1) ∷ named) }) (same-named Ts w.lines)
         ∙ longer (restart s pick Ws Ts None w) w.lines (says.Up s ((w.found s pick).epoch + 1) ∷ named_now Ts w.lines)
-    restart-behind s pick Ws Ts (Some m) = refl
-
-    close-behind : (s : ServerNo) (o : Option Memory) → close_clients s o (behind ups w) ≡ behind ups (close_clients s o w)
-    close-behind s None = refl
-    close-behind s (Some m) = ends-behind s None None (of_coordinator m (close_clients_row m.coordinator m.tickets))
 
     pub step-behind : (step : Step) → after step (behind ups w) ≡ behind ups (after step w)
-    step-behind NextEvent = refl
     step-behind (Tell c command) = commanded-behind c (command_row (w.clients c) w.event command)
-    step-behind (Again c) = refl
     step-behind (Deliver k room) = handed-behind k room None (slice_get w.sent k)
-    step-behind (Work s room) = work-behind s room None (w.memory s)
-    step-behind (Nudge s) = nudge-behind s (w.memory s)
-    step-behind (Timeout s T) = timeout-behind s T (w.memory s)
     step-behind (StopDelivery k room made) = handed-behind k room (Some made) (slice_get w.sent k)
-    step-behind (StopWork s room made) = work-behind s room (Some made) (w.memory s)
-    step-behind (Crash s) = crash-behind s (w.memory s)
-    step-behind (Narrow s g) = narrow-behind s g (w.memory s)
-    step-behind (StopRestart s raised) = stop-restart-behind s raised (w.memory s)
-    step-behind (Restart s pick Ws Ts) = restart-behind s pick Ws Ts (w.memory s)
-    step-behind Dismiss = refl
-    step-behind (CloseClients s) = close-behind s (w.memory s)
+    step-behind (Work s room) = work-behind s room None
+    step-behind (StopWork s room made) = work-behind s room (Some made)
+    step-behind (Nudge s) = by-memory (nudge s) (w.memory s) refl (λ m. refl)
+    step-behind (Timeout s T) = by-memory (timeout s T) (w.memory s) refl (λ m. refl)
+    step-behind (Crash s) = by-memory (crash s) (w.memory s) refl (λ m. longer (crash s (Some m) w) w.lines (says.Down s ∷ []))
+    step-behind (Narrow s g) = by-memory (narrow s g) (w.memory s) refl (λ m. refl)
+    step-behind (StopRestart s raised) = by-memory (stop_restart s raised) (w.memory s) (longer (stop_restart s raised None w) w.lines (says.Stopped s ∷ [])) (λ m. refl)
+    step-behind (Restart s pick Ws Ts) = by-memory (restart s pick Ws Ts) (w.memory s) (restart-behind s pick Ws Ts) (λ m. refl)
+    step-behind (CloseClients s) = by-memory (close_clients s) (w.memory s) refl (λ m. ends-behind s None None (of_coordinator m (close_clients_row m.coordinator m.tickets)))
+    step-behind _ = refl
 
   pub run-behind : (steps : List Step) (w : World) → run steps (behind ups w) ≡ behind ups (run steps w)
   run-behind [] w = refl

@@ -8,10 +8,10 @@ pub use Rattle.jn_schedule.specs.declared.Event.{Event}
 pub use Rattle.jn_report.specs.declared.line.EventRefusal.TheVariants.{TooManyArmed, EpochsUsedUp}
 pub use Rattle.jn_report.specs.declared.line.Text.{Text}
 pub use Rattle.jn_report.specs.declared.line.Line.{Line}
-pub use Rattle.jn_rows.specs.Stable.{Pick, stable, Change, AddFlag, DropFlag, StableState, Prepared, AddReady, MarkGoing, CarryOut, RemoveWork, gone_on, made_by, made_all}
+pub use Rattle.jn_rows.specs.Stable.{Pick, stable, Change, DropFlag, StableState, Prepared, AddReady, MarkGoing, CarryOut, RemoveWork, AddFlag, gone_on, made_by, made_all}
 pub use Rattle.jn_rows.specs.Outcomes.{Sent, RowOutcome}
-pub use Rattle.jn_system.specs.WholeSystem.World.{World, Memory, opening, committed_in, commits_in, has_line, new_memory, at_server, servers_from, at_client}
-pub use Rattle.jn_system.specs.WholeSystem.Steps.{Step, after, run, NextEvent, work, works, Tell, Again, Deliver, Work, Nudge, Timeout, StopDelivery, StopWork, Crash, Narrow, StopRestart, Restart, Dismiss, CloseClients, ends, at_memory, handed, nudge, timeout, crash, narrow, stop_restart, restart, close_clients, commanded, took, IsRun, AreNames, IsStep, are_rising, tid_before, sent_now, handing, working}
+pub use Rattle.jn_system.specs.WholeSystem.World.{World, Memory, opening, committed_in, commits_in, has_line, new_memory, at_server, servers_from}
+pub use Rattle.jn_system.specs.WholeSystem.Steps.{Step, after, run, NextEvent, work, works, Tell, Deliver, Work, Nudge, Timeout, StopDelivery, StopWork, Crash, Narrow, StopRestart, Restart, CloseClients, ends, at_memory, handed, nudge, timeout, crash, narrow, stop_restart, restart, close_clients, commanded, took, Again, IsRun, handing, working, AreNames, IsStep, are_rising, tid_before, sent_now}
 pub use Rattle.jn_system.specs.WholeSystem.Printing.{print_files, Printed, FileThere, PageStored, UnitLocked, print_unit, print_one, print_blocks, print_file, file_before, block_before, ArePrints}
 pub use Rattle.jn_system_reports.specs.Reporting.Reported.{Act, Does, Refuses, Tells, Shows, steps_in, told_in, Waiting, one_more, armed, with_event, strikes, strike_all, AreStruck, Item, IsUnder, IsShown, world_of, at_event, lines_of, none_wait, IsReported, events_of, after_item, waiting_in, told_under, AreUnder, AreShown, FaultsWait, step_of, steps_of, told_by, may_refuse, may_act, may_do, GoesOver, IsShow, one_less, IsStruck}
 pub use Rattle.jn_system_reports.specs.Reporting.Printing.{prints_of, text_printed, IsPrinted}
@@ -59,6 +59,7 @@ pub use Rattle.jn_report.specs.declared.line.When.TheVariants.{Event as AtEvent}
 pub use Rattle.std.proofs.lemmas.Bool.Decides.{nat_tests}
 pub use Rattle.std.proofs.lemmas.Bool.{cases_Bool}
 pub use Rattle.jn_written.specs.Whole.{closed_world, before, AreImages, IsWritten}
+pub use Rattle.jn_system.specs.SmallSteps.Steps.{with_epoch}
 pub use Rattle.jn_base.specs.declared.names.LockUnit.{LockUnit}
 pub use Rattle.jn_schedule.specs.Ranges.{EventInRange}
 pub use Rattle.jn_locks.specs.Locks.{is_unit, work_before}

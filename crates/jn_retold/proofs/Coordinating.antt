@@ -1,5 +1,5 @@
 -- What a coordinator makes stable are flags, and no works.
-use Rattle.jn_retold.proofs.Common.{◌≡◌, ℕ, Bool, true, false, List, [], ◌∷◌, ◌++◌, length, Option, Some, None, refl, ◌∙◌, arith, ◌&&◌, not, if◌then◌else◌, nat_lt, nat_eq, list_all, list_all-append, ClientNo, Tid, WorkId, Tickets, client_eq, Message, Change, AddFlag, DropFlag, RowOutcome, CoordinatorTable, transaction_at, is_work, all_in, forget_row, thanked_changes, after_closing, changes_of_closing, begin_new, begin_again, begun_by, begin_row, seen_now, end_promised, end_stage, end_row, abort_stage, abort_request, told_stage, inquire_row, counted_vote, vote_stage, vote_row, done_stage, done_row, thanks_stage, thanks_row, with_work, coordinator_row, flags_of_thanked, is_of_flag}
+use Rattle.jn_retold.proofs.Common.{◌≡◌, ℕ, Bool, true, false, List, [], ◌∷◌, ◌++◌, length, Option, Some, None, refl, ◌∙◌, arith, ◌&&◌, not, if◌then◌else◌, nat_lt, nat_eq, list_all, list_all-append, ClientNo, Tid, WorkId, Tickets, client_eq, Message, Change, DropFlag, RowOutcome, CoordinatorTable, transaction_at, is_work, all_in, forget_row, thanked_changes, after_closing, changes_of_closing, begin_new, begin_again, begun_by, begin_row, seen_now, end_promised, end_stage, end_row, abort_stage, abort_request, told_stage, inquire_row, counted_vote, vote_stage, vote_row, done_stage, done_row, thanks_stage, thanks_row, with_work, coordinator_row, flags_of_thanked, is_of_flag}
 use Rattle.jn_base.specs.declared.names.RequestNo.{RequestNo}
 use Rattle.jn_msgs.specs.declared.message.Vote.{Vote}
 use Rattle.jn_msgs.specs.declared.message.Message.TheVariants as messages

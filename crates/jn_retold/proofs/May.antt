@@ -117,44 +117,20 @@ settle-works x h q w = worked-may (may_act events.Settle) h w q (λ fault. refl)
 -- ---- what is known of an event that isn't refused
 
 pub is-ready : (x : Setup) (w : World) (event : Event) → refusal_of x w event ≡ None → IsReady x.servers w event
-is-ready x w (events.Command c command) e = tt
-is-ready x w (events.Again c) e = tt
-is-ready x w (events.Deliver k) e = tt
-is-ready x w events.Settle e = tt
-is-ready x w (events.Step q) e = grind (arith, nat_tests, e)
-is-ready x w (events.Nudge q) e = tt
-is-ready x w (events.Timeout q T) e = tt
-is-ready x w (events.Scrub q) e = grind (arith, nat_tests, e)
-is-ready x w (events.Decay q p) e = grind (arith, nat_tests, e)
-is-ready x w (events.Revive q p) e = grind (arith, nat_tests, e)
-is-ready x w (events.Arm q k kind) e = grind (arith, nat_tests, e)
-is-ready x w (events.Crash q) e = grind (arith, nat_tests, e)
-is-ready x w (events.Show q) e = grind (arith, nat_tests, e)
 is-ready x w (events.Restart q) e = by (w.memory q) e
   where
     by : (o : Option Memory) → if_down x q o ≡ None → (q.0 < x.servers) × (o ≡ None)
     by None k = (grind (arith, nat_tests, k), refl)
     by (Some m) k = absurd (grind (arith, nat_tests, k))
+is-ready x w event e = grind (arith, nat_tests, e)
 
 pub refused-under : (x : Setup) (w : World) (event : Event) (refusal : EventRefusal) → refusal_of x w event ≡ Some refusal → may_refuse refusal event ≡ true
-refused-under x w (events.Command c command) refusal e = absurd (cc e)
-refused-under x w (events.Again c) refusal e = absurd (cc e)
-refused-under x w (events.Deliver k) refusal e = grind (arith, e)
-refused-under x w events.Settle refusal e = absurd (cc e)
-refused-under x w (events.Step q) refusal e = grind (arith, e)
-refused-under x w (events.Nudge q) refusal e = grind (arith, e)
-refused-under x w (events.Timeout q T) refusal e = grind (arith, e)
-refused-under x w (events.Scrub q) refusal e = grind (arith, e)
-refused-under x w (events.Decay q p) refusal e = grind (arith, e)
-refused-under x w (events.Revive q p) refusal e = grind (arith, e)
-refused-under x w (events.Arm q k kind) refusal e = grind (arith, e)
-refused-under x w (events.Crash q) refusal e = grind (arith, e)
-refused-under x w (events.Show q) refusal e = grind (arith, e)
 refused-under x w (events.Restart q) refusal e = by (w.memory q) e
   where
     by : (o : Option Memory) → if_down x q o ≡ Some refusal → may_refuse refusal (events.Restart q) ≡ true
     by None k = grind (arith, k)
     by (Some m) k = grind (arith, k)
+refused-under x w event refusal e = grind (arith, e)
 
 -- a refusal alone, under any event but a command
 pub refusal-under : (x : Setup) (w : World) (event : Event) (refusal : EventRefusal) → refusal_of x w event ≡ Some refusal → IsUnder event (Refuses refusal ∷ [])

@@ -1,8 +1,7 @@
 -- The system while its servers come up, one after another.
-use Rattle.jn_retold.proofs.Common.{◌≡◌, ◌≢◌, ◌⊎◌, inl, inr, ◌<◌, ℕ, ◌+◌, Bool, true, false, List, [], ◌∷◌, ◌++◌, append-nil, Option, Some, None, refl, sym, ◌∙◌, ap, arith, not, ◌||◌, if◌then◌else◌, nat_lt, is_some, cases_Bool, nat_tests, ServerNo, server_eq, server_tells, AllFiles, Text, StableState, Pick, World, Memory, new_memory, opening, at_server, restored, Restart, AreNames, after, restart, closed_world, behind}
+use Rattle.jn_retold.proofs.Common.{◌≡◌, ◌≢◌, ◌⊎◌, inl, inr, ◌<◌, ℕ, ◌+◌, Bool, true, false, List, [], ◌∷◌, ◌++◌, append-nil, Option, Some, None, refl, sym, ◌∙◌, ap, arith, not, ◌||◌, if◌then◌else◌, nat_lt, is_some, cases_Bool, nat_tests, ServerNo, server_eq, server_tells, AllFiles, Text, StableState, Pick, World, Memory, new_memory, opening, at_server, restored, Restart, AreNames, after, restart, closed_world, behind, with_epoch}
 use Rattle.std.proofs.Math.Path.{fun_ext}
 use Rattle.jn_report.specs.declared.line.Text.TheVariants as says
-use Rattle.jn_system.specs.SmallSteps.Steps.{with_epoch}
 
 -- names of nothing
 pub none-named : {A B : Type 0} (eq before : A → A → Bool) → ((a : A) → eq a a ≡ true) → (there : A → Option B) → ((a : A) → is_some (there a) ≡ false) → (names : List A) → AreNames eq before there names → names ≡ []

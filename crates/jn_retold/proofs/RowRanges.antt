@@ -1,5 +1,5 @@
 -- Each row of a worker keeps the blocks that it has written, and those of its list, below 120.
-use Rattle.jn_retold.proofs.Common.{◌≡◌, ℕ, Bool, true, false, List, [], ◌∷◌, Option, Some, None, refl, ⊤, if◌then◌else◌, nat_lt, list_all, AllByRecursion, Tid, Tickets, WorkId, IntentionWrite, Message, Phase, Active, Broken, Stored, RowOutcome, StableState, Prepared, WorkerTable, WorkStorage, list_with, wants_of, is_fit, units_for, worker_row, worker_step, vulnerable, timeout_row, restored_work, restored_worker, unit_in_range, InRange, blocks_below, Change, AddReady}
+use Rattle.jn_retold.proofs.Common.{◌≡◌, Bool, true, false, List, [], ◌∷◌, Option, Some, None, refl, ⊤, if◌then◌else◌, nat_lt, list_all, AllByRecursion, Tid, Tickets, WorkId, IntentionWrite, Message, Phase, Active, Broken, Stored, RowOutcome, StableState, Prepared, WorkerTable, WorkStorage, list_with, wants_of, is_fit, units_for, worker_row, worker_step, vulnerable, timeout_row, restored_work, restored_worker, unit_in_range, InRange, blocks_below, Change, AddReady}
 use Rattle.jn_base.specs.declared.op.Op.{Op}
 use Rattle.jn_records.specs.declared.intention.Intention.{Intention}
 use Rattle.jn_rows.specs.declared.worker.Work.{Work}

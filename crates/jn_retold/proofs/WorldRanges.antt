@@ -1,10 +1,13 @@
 -- Blocks stay below 120 in every run whose commands name only such.
-use Rattle.jn_retold.proofs.Common.{◌≡◌, ◌≤◌, ℕ, zero, suc, ◌+◌, Bool, true, false, List, [], ◌∷◌, ◌++◌, take, Option, Some, None, refl, subst, arith, ⊤, ◌&&◌, if◌then◌else◌, slice_get, list_all, AllByRecursion, ServerNo, ClientNo, Tid, WorkId, Client, Server, server_eq, client_eq, work_eq, AllFiles, Message, blocks_below, Taken, coordinator_row, flags_of_thanked, close_clients_row, RowOutcome, Sent, StableState, Prepared, Change, AddReady, MarkGoing, CarryOut, RemoveWork, AddFlag, DropFlag, gone_on, made_by, made_all, Pick, stable, WorkerTable, worker_row, worker_step, timeout_row, World, Memory, at_server, at_client, new_memory, opening, Room, storage_of, is_for_worker, of_worker, server_row, of_step, server_step, server_again, of_timeout, server_timeout, of_coordinator, restored, Step, NextEvent, Tell, Again, Deliver, Work, Nudge, Timeout, StopDelivery, StopWork, Crash, Narrow, StopRestart, Restart, Dismiss, CloseClients, after, run, ends, at_memory, handed, work, works, nudge, timeout, crash, narrow, stop_restart, restart, close_clients, took, commanded, sent_now, InRange, servers-taken, command-fits, take-fits, new-fits, over-fits, is_of_flag}
-use Rattle.std.proofs.lemmas.List.Elements.{All-nil, All-head, All-tail, All-append, All-cons}
+use Rattle.jn_retold.proofs.Common.{◌≡◌, ◌≤◌, ℕ, zero, suc, Bool, true, false, List, [], ◌∷◌, ◌++◌, take, Option, Some, None, refl, subst, arith, ⊤, ◌&&◌, if◌then◌else◌, list_all, AllByRecursion, ServerNo, ClientNo, Tid, Server, server_eq, work_eq, AllFiles, Message, blocks_below, Taken, coordinator_row, flags_of_thanked, RowOutcome, Sent, StableState, Prepared, Change, AddReady, MarkGoing, CarryOut, RemoveWork, AddFlag, DropFlag, gone_on, made_by, made_all, Pick, stable, WorkerTable, worker_row, worker_step, timeout_row, World, Memory, at_server, new_memory, opening, Room, storage_of, is_for_worker, of_worker, server_row, of_step, server_step, server_again, of_timeout, server_timeout, of_coordinator, restored, Step, Tell, after, run, sent_now, InRange, servers-taken, command-fits, take-fits, new-fits, over-fits, is_of_flag, Text, with_epoch}
+use Rattle.std.proofs.lemmas.List.Elements.{All-nil, All-append, All-cons}
 use Rattle.jn_rows.specs.declared.client.Taken.TheVariants as taken
-use Rattle.jn_rows.specs.Client.{ClientTable, Commanded, Refuses, Sends, command_row, take_row, again_row}
+use Rattle.jn_rows.specs.Client.{ClientTable, take_row, again_row}
 use Rattle.jn_within.specs.Taking.{CanBeTaken, AllCanBeTaken, CommandInRange, ClientFits, CommandFits, sent_for}
 use Rattle.jn_within.proofs.ServerRows.{row-requests, step-requests, again-requests}
+use Rattle.jn_system.proofs.WholeSystem.OneChange.{one-server, one-found, one-client}
+use Rattle.jn_system.proofs.WholeSystem.StepCases.{ClientRow, by_command, by_ignoring, by_answering, by_telling, ServerRow, of_message, of_work, of_closing, FoundThen, by_narrowing, by_raising, Quiet, client_repeats, server_repeats, StepCase, client_row, row_done, row_stopped, gone_late, gone_down, come_up, found_anew, dismissed, quietly, step-case}
+use Rattle.jn_system_settling.proofs.Settling.WorldSizes.{holds-of}
 use Rattle.jn_retold.proofs.RowRanges.{AreRanged, is_ranged, WorksRanged, row-ranged, step-ranged, timeout-ranged, restored-ranged}
 use Rattle.jn_retold.proofs.Coordinating.{row-flags, all-thanked-flags}
 
@@ -25,16 +28,8 @@ abbrev pub StepInRange : Step → Type 0
 StepInRange (Tell c command) = CommandInRange command
 StepInRange step = ⊤
 
-taken-at : (sent : List Sent) (k : ℕ) (x : Sent) → AllCanBeTaken sent → slice_get sent k ≡ Some x → CanBeTaken x.1
-taken-at [] k x h e = absurd (cc e)
-taken-at (y ∷ sent) zero x h e = subst (λ (z : Sent). CanBeTaken z.1) (some y x e) (All-head (λ (z : Sent). CanBeTaken z.1) y sent h)
-  where
-    some : (a b : Sent) → Some a ≡ Some b → a ≡ b
-    some a b q = cc
-taken-at (y ∷ sent) (suc k) x h e = taken-at sent k x (All-tail (λ (z : Sent). CanBeTaken z.1) y sent h) e
-
-more-taken : (a b : List Sent) → AllCanBeTaken a → AllCanBeTaken b → AllCanBeTaken (a ++ b)
-more-taken a b h k = All-append (λ (z : Sent). CanBeTaken z.1) a b h k
+abbrev IsTaken : Sent → Type 0
+IsTaken x = CanBeTaken x.1
 
 -- ---- what is stable
 
@@ -119,136 +114,84 @@ some-memory a b q = cc
 
 module _ (w : World) (h : Ranged w) where
   memory-one : (s : ServerNo) (o : Option Memory) → ((m : Memory) → o ≡ Some m → AreRanged m.worker) → (q : ServerNo) (m : Memory) → at_server w.memory s o q ≡ Some m → AreRanged m.worker
-  memory-one s o new q m e = by (server_eq s q) e
-    where
-      by : (b : Bool) → (if b then o else w.memory q) ≡ Some m → AreRanged m.worker
-      by true k = new m k
-      by false k = h.memory q m k
+  memory-one s o now = one-server (λ q z. (m : Memory) → z ≡ Some m → AreRanged m.worker) w.memory s o now (λ q other. h.memory q)
 
-  memory-of : (a : Memory) → AreRanged a.worker → (m : Memory) → Some a ≡ Some m → AreRanged m.worker
-  memory-of a l m e = subst (λ (z : Memory). AreRanged z.worker) (some-memory a m e) l
+  memory-of : (s : ServerNo) (a : Memory) → AreRanged a.worker → (q : ServerNo) (m : Memory) → at_server w.memory s (Some a) q ≡ Some m → AreRanged m.worker
+  memory-of s a l = memory-one s (Some a) (λ m e. subst (λ (z : Memory). AreRanged z.worker) (some-memory a m e) l)
 
-  memory-gone : (m : Memory) → None ≡ Some m → AreRanged m.worker
-  memory-gone m e = absurd (cc e)
+  memory-gone : (s q : ServerNo) (m : Memory) → at_server w.memory s None q ≡ Some m → AreRanged m.worker
+  memory-gone s = memory-one s None (λ m e. absurd (cc e))
 
   found-one : (s : ServerNo) (f : Pick → StableState) → ((c : Pick) → WorksRanged (f c).works) → (q : ServerNo) (c : Pick) → WorksRanged (if server_eq s q then f c else w.found q c).works
-  found-one s f new q c = by (server_eq s q)
-    where
-      by : (b : Bool) → WorksRanged (if b then f c else w.found q c).works
-      by true = new c
-      by false = h.found q c
+  found-one s f now = one-found (λ q c x. WorksRanged x.works) w.found s f now (λ q other. h.found q)
 
-  client-one : (c : ClientNo) (t : ClientTable) → ClientFits t → (d : ClientNo) → ClientFits (at_client w.clients c t d)
-  client-one c t l d = by (client_eq c d)
-    where
-      by : (b : Bool) → ClientFits (if b then t else w.clients d)
-      by true = l
-      by false = h.clients d
+  more : (sent : List Sent) → AllCanBeTaken sent → AllCanBeTaken (w.sent ++ sent)
+  more sent l = All-append IsTaken w.sent sent h.sent l
 
-  -- ---- clients
+  -- ---- every step
 
-  commanded-ranged : (c : ClientNo) (r : Commanded) → CommandFits r → Ranged (commanded c r w)
-  commanded-ranged c (Refuses refusal) l = record { sent = h.sent; clients = h.clients; memory = h.memory; found = h.found }
-  commanded-ranged c (Sends t to message) l = record { sent = more-taken w.sent ((to, message) ∷ []) h.sent (All-cons (λ (z : Sent). CanBeTaken z.1) (to, message) [] l.1 (All-nil (λ (z : Sent). CanBeTaken z.1))); clients = client-one c t l.0; memory = h.memory; found = h.found }
+  taken-ranged : (c : ClientNo) (message : Message) (t : ClientTable) (r : Taken) → take_row (w.clients c) message ≡ (t, r) → ClientFits t × AllCanBeTaken (sent_for r)
+  taken-ranged c message t r is = subst (λ (z : ClientTable × Taken). ClientFits z.0 × AllCanBeTaken (sent_for z.1)) is (take-fits (w.clients c) message (h.clients c))
 
-  took-ranged : (c : ClientNo) (k : ℕ) (t : ClientTable) (r : Taken) → ClientFits t → AllCanBeTaken (sent_for r) → Ranged (took c k t r w)
-  took-ranged c k t taken.Ignored l m = record { sent = h.sent; clients = client-one c t l; memory = h.memory; found = h.found }
-  took-ranged c k t (taken.Send to message) l m = record { sent = more-taken w.sent ((to, message) ∷ []) h.sent m; clients = client-one c t l; memory = h.memory; found = h.found }
-  took-ranged c k t (taken.Told line answer) l m = record { sent = more-taken w.sent (sent_now answer) h.sent m; clients = client-one c t l; memory = h.memory; found = h.found }
+  client-ranged : (step : Step) (c : ClientNo) (t : ClientTable) (sent : List Sent) (lines : List Text) → ClientRow w c step t sent lines → StepInRange step → ClientFits t × AllCanBeTaken sent
+  client-ranged _ c _ _ _ (by_command command t to message is) r = let l = subst CommandFits is (command-fits (w.clients c) w.event command (h.clients c) r) in (l.0, more ((to, message) ∷ []) (All-cons IsTaken (to, message) [] l.1 (All-nil IsTaken)))
+  client-ranged _ c _ _ _ (by_ignoring k room stop message t e is) r = ((taken-ranged c message t taken.Ignored is).0, h.sent)
+  client-ranged _ c _ _ _ (by_answering k room stop message t to answer e is) r = let l = taken-ranged c message t (taken.Send to answer) is in (l.0, more ((to, answer) ∷ []) l.1)
+  client-ranged _ c _ _ _ (by_telling k room stop message t line answer e is) r = let l = taken-ranged c message t (taken.Told line answer) is in (l.0, more (sent_now answer) l.1)
 
-  -- ---- servers
+  of-row : (s : ServerNo) (m : Memory) (stop : Option (Pick → ℕ)) (step : Step) (k : Option ℕ) (row : RowOutcome Memory) → w.memory s ≡ Some m → ServerRow w s m stop step k row → RowRanged row
+  of-row s m _ _ _ _ e (of_message stop k room message is) = let taken = holds-of IsTaken w.sent k (Server s, message) h.sent is in message-row m (stable (w.found s)) room message (h.memory s m e) taken.in_range
+  of-row s m _ _ _ _ e (of_work stop room row is) = step-row m (stable (w.found s)) room row is (h.memory s m e)
+  of-row s m _ _ _ _ e of_closing = (h.memory s m e, flags-ranged (flags_of_thanked m.coordinator.transactions) (all-thanked-flags m.coordinator.transactions), All-nil IsTaken)
 
-  ends-ranged : (s : ServerNo) (k : Option ℕ) (stop : Option (Pick → ℕ)) (row : RowOutcome Memory) → RowRanged row → Ranged (ends s k stop row w)
-  ends-ranged s k None row r = record {
-    sent = more-taken w.sent row.messages h.sent r.2;
-    clients = h.clients;
-    memory = memory-one s (Some row.table) (memory-of row.table r.0);
-    found = found-one s (λ c. made_all row.changes (w.found s c)) (λ c. all-changes row.changes (w.found s c) r.1 (h.found s c));
-  }
-  ends-ranged s k (Some made) row r = record {
-    sent = h.sent;
-    clients = h.clients;
-    memory = memory-one s None memory-gone;
-    found = found-one s (λ c. made_all (take (made c) row.changes) (w.found s c)) (λ c. all-changes (take (made c) row.changes) (w.found s c) (some-of (made c) row.changes r.1) (h.found s c));
-  }
-
-  handed-ranged : (k : ℕ) (room : Room) (stop : Option (Pick → ℕ)) (o : Option Sent) → slice_get w.sent k ≡ o → Ranged (handed k room stop o w)
-  handed-ranged k room stop None e = h
-  handed-ranged k room stop (Some (Client c, message)) e = let fits = take-fits (w.clients c) message (h.clients c) in took-ranged c k (take_row (w.clients c) message).0 (take_row (w.clients c) message).1 fits.0 fits.1
-  handed-ranged k room stop (Some (Server s, message)) e = by (w.memory s) refl
-    where
-      by : (o : Option Memory) → w.memory s ≡ o → Ranged (at_memory s k room stop message o w)
-      by None q = record { sent = h.sent; clients = h.clients; memory = h.memory; found = h.found }
-      by (Some m) q = let taken = taken-at w.sent k (Server s, message) h.sent e in ends-ranged s (Some k) stop (server_row m (stable (w.found s)) room message) (message-row m (stable (w.found s)) room message (h.memory s m q) taken.in_range)
-
-  work-ranged : (s : ServerNo) (room : Room) (stop : Option (Pick → ℕ)) (o : Option Memory) → w.memory s ≡ o → Ranged (work s room stop o w)
-  work-ranged s room stop None e = h
-  work-ranged s room stop (Some m) e = by (server_step m (stable (w.found s)) room) refl
-    where
-      by : (o : Option (RowOutcome Memory)) → server_step m (stable (w.found s)) room ≡ o → Ranged (works s stop o w)
-      by None q = h
-      by (Some row) q = ends-ranged s None stop row (step-row m (stable (w.found s)) room row q (h.memory s m e))
-
-  nudge-ranged : (s : ServerNo) (o : Option Memory) → Ranged (nudge s o w)
-  nudge-ranged s None = h
-  nudge-ranged s (Some m) = record { sent = more-taken w.sent (server_again m (stable (w.found s))) h.sent (servers-taken (server_again m (stable (w.found s))) (again-requests m (stable (w.found s)))); clients = h.clients; memory = h.memory; found = h.found }
-
-  timeout-ranged-memory : (m : Memory) (T : Tid) → AreRanged m.worker → AreRanged (server_timeout m T).worker
-  timeout-ranged-memory m T l = by (timeout_row m.worker T) refl
+  late-ranged : (m : Memory) (T : Tid) → AreRanged m.worker → AreRanged (server_timeout m T).worker
+  late-ranged m T l = by (timeout_row m.worker T) refl
     where
       by : (o : Option WorkerTable) → timeout_row m.worker T ≡ o → AreRanged (of_timeout m o).worker
       by None e = l
       by (Some t) e = timeout-ranged m.worker T t l e
 
-  timed-ranged : (s : ServerNo) (T : Tid) (o : Option Memory) → w.memory s ≡ o → Ranged (timeout s T o w)
-  timed-ranged s T None e = h
-  timed-ranged s T (Some m) e = record { sent = h.sent; clients = h.clients; memory = memory-one s (Some (server_timeout m T)) (memory-of (server_timeout m T) (timeout-ranged-memory m T (h.memory s m e))); found = h.found }
-
-  crash-ranged : (s : ServerNo) (o : Option Memory) → Ranged (crash s o w)
-  crash-ranged s None = h
-  crash-ranged s (Some m) = record { sent = h.sent; clients = h.clients; memory = memory-one s None memory-gone; found = h.found }
-
-  narrow-ranged : (s : ServerNo) (g : Pick → Pick) (o : Option Memory) → Ranged (narrow s g o w)
-  narrow-ranged s g None = record { sent = h.sent; clients = h.clients; memory = h.memory; found = found-one s (λ c. w.found s (g c)) (λ c. h.found s (g c)) }
-  narrow-ranged s g (Some m) = h
-
-  raise-ranged : (s : ServerNo) (raised : Pick → Bool) (o : Option Memory) → Ranged (stop_restart s raised o w)
-  raise-ranged s raised None = record { sent = h.sent; clients = h.clients; memory = h.memory; found = found-one s (λ c. if raised c then record (w.found s c) { epoch = (w.found s c).epoch + 1 } else w.found s c) (λ c. by c (raised c)) }
+  found-ranged : (step : Step) (s : ServerNo) (found : Pick → StableState) (lines : List Text) → FoundThen w s step found lines → (c : Pick) → WorksRanged (found c).works
+  found-ranged _ s _ _ (by_narrowing g) c = h.found s (g c)
+  found-ranged _ s _ _ (by_raising raise) c = by (raise c)
     where
-      by : (c : Pick) (b : Bool) → WorksRanged (if b then record (w.found s c) { epoch = (w.found s c).epoch + 1 } else w.found s c).works
-      by c true = h.found s c
-      by c false = h.found s c
-  raise-ranged s raised (Some m) = h
+      by : (b : Bool) → WorksRanged (if b then with_epoch (w.found s c) else w.found s c).works
+      by true = h.found s c
+      by false = h.found s c
 
-  restart-ranged : (s : ServerNo) (pick : Pick) (Ws : List WorkId) (Ts : List Tid) (o : Option Memory) → Ranged (restart s pick Ws Ts o w)
-  restart-ranged s pick Ws Ts None = record {
+  quiet-ranged : (step : Step) (event : ℕ) (sent : List Sent) (lines : List Text) → Quiet w step event sent lines → AllCanBeTaken sent
+  quiet-ranged _ _ _ _ (client_repeats c) = more (sent_now (again_row (w.clients c))) (h.clients c).again
+  quiet-ranged _ _ _ _ (server_repeats s m e) = more (server_again m (stable (w.found s))) (servers-taken (server_again m (stable (w.found s))) (again-requests m (stable (w.found s))))
+  quiet-ranged _ _ _ _ is = h.sent
+
+  by-case : (step : Step) (now : World) → StepCase w step now → StepInRange step → Ranged now
+  by-case step _ (client_row _ c t sent lines row) r = let l = client-ranged step c t sent lines row r in record { sent = l.1; clients = one-client (λ d. ClientFits) w.clients c t l.0 (λ d other. h.clients d); memory = h.memory; found = h.found }
+  by-case step _ (row_done _ s m k row e is) r = let l = of-row s m None step k row e is in record {
+    sent = more row.messages l.2;
+    clients = h.clients;
+    memory = memory-of s row.table l.0;
+    found = found-one s (λ c. made_all row.changes (w.found s c)) (λ c. all-changes row.changes (w.found s c) l.1 (h.found s c));
+  }
+  by-case step _ (row_stopped _ s m k row made e is) r = let l = of-row s m (Some made) step k row e is in record {
     sent = h.sent;
     clients = h.clients;
-    memory = memory-one s (Some (restored s (w.found s pick) Ws Ts)) (memory-of (restored s (w.found s pick) Ws Ts) (restored-ranged (w.found s pick) Ws (h.found s pick)));
-    found = found-one s (λ c. record (w.found s pick) { epoch = (w.found s pick).epoch + 1 }) (λ c. h.found s pick);
+    memory = memory-gone s;
+    found = found-one s (λ c. made_all (take (made c) row.changes) (w.found s c)) (λ c. all-changes (take (made c) row.changes) (w.found s c) (some-of (made c) row.changes l.1) (h.found s c));
   }
-  restart-ranged s pick Ws Ts (Some m) = h
-
-  close-ranged : (s : ServerNo) (o : Option Memory) → w.memory s ≡ o → Ranged (close_clients s o w)
-  close-ranged s None e = h
-  close-ranged s (Some m) e = ends-ranged s None None (of_coordinator m (close_clients_row m.coordinator m.tickets)) (h.memory s m e, flags-ranged (flags_of_thanked m.coordinator.transactions) (all-thanked-flags m.coordinator.transactions), All-nil (λ (z : Sent). CanBeTaken z.1))
+  by-case _ _ (gone_late s m T e) r = record { sent = h.sent; clients = h.clients; memory = memory-of s (server_timeout m T) (late-ranged m T (h.memory s m e)); found = h.found }
+  by-case _ _ (gone_down s m e) r = record { sent = h.sent; clients = h.clients; memory = memory-gone s; found = h.found }
+  by-case _ _ (come_up s pick Ws Ts e) r = record {
+    sent = h.sent;
+    clients = h.clients;
+    memory = memory-of s (restored s (w.found s pick) Ws Ts) (restored-ranged (w.found s pick) Ws (h.found s pick));
+    found = found-one s (λ c. with_epoch (w.found s pick)) (λ c. h.found s pick);
+  }
+  by-case step _ (found_anew _ s found lines e is) r = record { sent = h.sent; clients = h.clients; memory = h.memory; found = found-one s found (found-ranged step s found lines is) }
+  by-case _ _ dismissed r = record { sent = h.sent; clients = λ c. over-fits (w.clients c) (h.clients c); memory = h.memory; found = h.found }
+  by-case step _ (quietly _ event sent lines is) r = record { sent = quiet-ranged step event sent lines is; clients = h.clients; memory = h.memory; found = h.found }
 
   pub after-ranged : (step : Step) → StepInRange step → Ranged (after step w)
-  after-ranged NextEvent r = record { sent = h.sent; clients = h.clients; memory = h.memory; found = h.found }
-  after-ranged (Tell c command) r = commanded-ranged c (command_row (w.clients c) w.event command) (command-fits (w.clients c) w.event command (h.clients c) r)
-  after-ranged (Again c) r = let client = h.clients c in record { sent = more-taken w.sent (sent_now (again_row (w.clients c))) h.sent client.again; clients = h.clients; memory = h.memory; found = h.found }
-  after-ranged (Deliver k room) r = handed-ranged k room None (slice_get w.sent k) refl
-  after-ranged (Work s room) r = work-ranged s room None (w.memory s) refl
-  after-ranged (Nudge s) r = nudge-ranged s (w.memory s)
-  after-ranged (Timeout s T) r = timed-ranged s T (w.memory s) refl
-  after-ranged (StopDelivery k room made) r = handed-ranged k room (Some made) (slice_get w.sent k) refl
-  after-ranged (StopWork s room made) r = work-ranged s room (Some made) (w.memory s) refl
-  after-ranged (Crash s) r = crash-ranged s (w.memory s)
-  after-ranged (Narrow s g) r = narrow-ranged s g (w.memory s)
-  after-ranged (StopRestart s raised) r = raise-ranged s raised (w.memory s)
-  after-ranged (Restart s pick Ws Ts) r = restart-ranged s pick Ws Ts (w.memory s)
-  after-ranged Dismiss r = record { sent = h.sent; clients = λ c. over-fits (w.clients c) (h.clients c); memory = h.memory; found = h.found }
-  after-ranged (CloseClients s) r = close-ranged s (w.memory s) refl
+  after-ranged step = by-case step (after step w) (step-case w step)
 
 pub run-ranged : (steps : List Step) (w : World) → AllByRecursion StepInRange steps → Ranged w → Ranged (run steps w)
 run-ranged [] w r h = h
@@ -256,7 +199,7 @@ run-ranged (step ∷ steps) w r h = run-ranged steps (after step w) r.1 (after-r
 
 pub opening-ranged : (n : ℕ) (files : AllFiles) (epochs : ServerNo → ℕ) → n ≤ 8 → Ranged (opening n files epochs)
 opening-ranged n files epochs few = record {
-  sent = All-nil (λ (z : Sent). CanBeTaken z.1);
+  sent = All-nil IsTaken;
   clients = λ c. new-fits c n few;
   memory = λ s m e. subst (λ (z : Memory). AreRanged z.worker) (some-memory (new_memory s (epochs s)) m e) tt;
   found = λ s c W p e. absurd (none-prepared p e);

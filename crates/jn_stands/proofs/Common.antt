@@ -33,7 +33,7 @@ pub use Rattle.jn_base.specs.declared.names.Party.TheVariants.{Client, Server}
 pub use Rattle.jn_base.specs.Names.{client_eq, server_eq, tid_eq, file_eq, block_eq, work_eq}
 pub use Rattle.jn_net.specs.declared.Sent.{Sent as Posted}
 pub use Rattle.jn_net.specs.Carried.{with_delivered, Carried, waiting}
-pub use Rattle.jn_system.specs.WholeSystem.Steps.{Deliver, after, took, taken_by, handed, CloseClients, IsIdle, done, close_clients, Tell, Again, commanded, sent_now, Step, run, IsRun, Crash, crash, Dismiss, StopWork, work, works, AreNames, at_memory, are_rising, tid_before, Nudge, Timeout, nudge, timeout, NextEvent, IsStep, Restart, restart, restart_with, stopped, ends, Narrow, StopRestart, narrow, stop_restart, handing, working}
+pub use Rattle.jn_system.specs.WholeSystem.Steps.{Deliver, after, took, taken_by, handed, CloseClients, IsIdle, done, close_clients, Tell, Again, commanded, sent_now, Step, run, IsRun, Crash, crash, Dismiss, StopWork, work, works, AreNames, at_memory, are_rising, tid_before, Nudge, Timeout, nudge, timeout, NextEvent, handing, working, IsStep, Restart, restart, restart_with, stopped, ends, Narrow, StopRestart, narrow, stop_restart}
 pub use Rattle.jn_rows.specs.declared.client.Taken.{Taken}
 pub use Rattle.jn_rows.specs.Client.{ClientTable, new_table, take_row, if_waits, ignored, begun_row, opened_row, answer_line, is_current, decided_row, outcome_row, Commanded, Refuses, command_row, again_row, over}
 pub use Rattle.jn_rows.specs.Outcomes.{Sent, RowOutcome, quiet as quiet_row}

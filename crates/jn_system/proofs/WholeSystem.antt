@@ -7,8 +7,10 @@ pub mod Rows
 pub mod ServerRows
 pub mod Tables
 pub mod WorkerRows
+pub mod WorkerCases
 pub mod WorkerChanges
 pub mod Closes
+pub mod CoordinatorCases
 pub mod CoordinatorRows
 pub mod Restored
 pub mod OneChange

@@ -1,6 +1,6 @@
 -- The names from below that these proofs cite, passed on from one place. Declares nothing.
-pub use Rattle.std.proofs.Common.{◌≡◌, ℕ, Bool, true, false, List, [], ◌∷◌, Option, Some, None, refl, ◌∙◌, subst, arith, ◌++◌, length, ◌+◌, take, zero, suc, sym, ap, ◌≤◌, true≢false, length-append, ◌<◌, ◌⊎◌, inl, inr, ◌≢◌}
-pub use Rattle.std.specs.Prelude.{◌&&◌, nat_eq, if◌then◌else◌, not, nat_lt, slice_get, ⊤}
+pub use Rattle.std.proofs.Common.{◌≡◌, ℕ, Bool, true, false, List, [], ◌∷◌, Option, Some, None, refl, ◌∙◌, subst, arith, ◌++◌, length, ◌+◌, take, zero, suc, sym, ap, ◌≤◌, true≢false, length-append, ◌<◌}
+pub use Rattle.std.specs.Prelude.{◌&&◌, if◌then◌else◌, not, nat_lt, nat_eq, slice_get, ⊤}
 pub use Rattle.std.proofs.lemmas.Bool.Decides.{nat_tests}
 pub use Rattle.jn_base.specs.declared.names.ServerNo.{ServerNo}
 pub use Rattle.jn_base.specs.declared.names.ClientNo.{ClientNo}
@@ -16,7 +16,7 @@ pub use Rattle.jn_rows.specs.ClientLaws.{IsClient, are_apart, after_command}
 pub use Rattle.jn_rows.proofs.ClientKeeps.{command_keeps, take_keeps, names_are_few}
 pub use Rattle.jn_within.specs.Taking.{sent_for, is_from_server, are_from_server, CanBeTaken, AllCanBeTaken, CommandInRange, ClientFits, CommandFits}
 pub use Rattle.jn_system_settling.specs.Settling.Sizes.{are_near, is_few, is_small_stage}
-pub use Rattle.jn_within.specs.Naming.{is_near, is_any_near, names_near, is_within, are_within, is_again_within, ClientWithin, CommandWithin, is_transaction_within, are_transactions_within, are_changes_within, are_both_near, are_works_within, is_change_within, StateWithin, is_for_near}
+pub use Rattle.jn_within.specs.Naming.{is_near, is_any_near, names_near, is_within, are_within, is_again_within, ClientWithin, CommandWithin, is_transaction_within, are_transactions_within, are_changes_within, are_both_near, are_works_within, is_change_within, StateWithin}
 pub use Rattle.jn_base.specs.declared.names.Tid.{Tid}
 pub use Rattle.jn_base.specs.declared.names.Tickets.{Tickets}
 pub use Rattle.jn_base.specs.declared.names.Cause.{Cause}
@@ -39,9 +39,10 @@ pub use Rattle.jn_rows.specs.declared.worker.Work.{Work as WorkEntry}
 pub use Rattle.jn_rows.specs.declared.worker.Phase.{Phase}
 pub use Rattle.jn_base.specs.declared.names.OperationNo.{OperationNo}
 pub use Rattle.jn_within.specs.Drawing.{AreDrawn, DrawsOne, AreCovered}
-pub use Rattle.jn_base.proofs.Tells.{tid_tells, work_tells, server_tells}
-pub use Rattle.jn_system.specs.WholeSystem.World.{Memory, World, at_server, at_client, new_memory, opening}
+pub use Rattle.jn_system.specs.WholeSystem.World.{Memory, World, at_server, new_memory, opening}
 pub use Rattle.jn_system.specs.WholeSystem.Servers.{Room, storage_of, server_row, server_step, server_again, server_timeout, of_worker, of_coordinator, of_step, of_timeout, is_for_worker, restored}
 pub use Rattle.jn_within.specs.Within.{MemoryWithin, RowWithin, Within}
-pub use Rattle.jn_system.specs.WholeSystem.Steps.{sent_now, Step, NextEvent, Tell, Again, Deliver, Work, Nudge, Timeout, StopDelivery, StopWork, Crash, Narrow, StopRestart, Restart, Dismiss, CloseClients, after, run, ends, at_memory, handed, work, works, nudge, timeout, crash, narrow, stop_restart, restart, close_clients, took, commanded}
-pub use Rattle.jn_base.specs.declared.names.Party.TheVariants.{Client, Server}
+pub use Rattle.jn_system.specs.WholeSystem.Steps.{sent_now, Step, after, run}
+pub use Rattle.jn_report.specs.declared.line.Text.{Text}
+pub use Rattle.jn_system.proofs.WholeSystem.OneChange.{one-server, one-client, one-found}
+pub use Rattle.jn_system.proofs.WholeSystem.StepCases.{ClientRow, by_command, by_ignoring, by_answering, by_telling, ServerRow, of_message, of_work, of_closing, StepCase, client_row, row_done, row_stopped, gone_late, gone_down, come_up, found_anew, dismissed, quietly, step-case, FoundThen, by_narrowing, by_raising, Quiet, client_repeats, server_repeats}

@@ -1,5 +1,5 @@
 -- A client names servers that there are.
-use Rattle.jn_within.proofs.Common.{◌≡◌, ℕ, Bool, true, false, List, [], ◌∷◌, Option, Some, None, refl, ◌∙◌, subst, arith, ◌&&◌, nat_eq, if◌then◌else◌, nat_tests, ServerNo, ClientNo, WorkId, Command, client_eq, Message, OpenWork, Outstanding, Taken, ClientTable, Commanded, Refuses, Sends, new_table, command_row, take_row, names_of, over, if_waits, is_current, opens, opened_row, work_at, IsClient, are_apart, after_command, command_keeps, take_keeps, names_are_few, sent_for, are_near, is_few, is_near, is_any_near, names_near, is_within, are_within, is_again_within, ClientWithin, CommandWithin, request_eq}
+use Rattle.jn_within.proofs.Common.{◌≡◌, ℕ, Bool, true, false, List, [], ◌∷◌, Option, Some, None, refl, ◌∙◌, subst, arith, ◌&&◌, if◌then◌else◌, nat_tests, ServerNo, ClientNo, WorkId, Command, client_eq, Message, OpenWork, Outstanding, Taken, ClientTable, Commanded, Refuses, Sends, new_table, command_row, take_row, names_of, over, if_waits, is_current, opens, opened_row, work_at, IsClient, are_apart, after_command, command_keeps, take_keeps, names_are_few, sent_for, are_near, is_few, is_near, is_any_near, names_near, is_within, are_within, is_again_within, ClientWithin, CommandWithin, request_eq}
 use Rattle.jn_base.specs.declared.op.Command.TheVariants as commands
 use Rattle.jn_msgs.specs.declared.message.Message.TheVariants as messages
 use Rattle.jn_msgs.specs.declared.message.Outcome.TheVariants as outcomes

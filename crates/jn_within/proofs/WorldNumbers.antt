@@ -1,6 +1,7 @@
 -- Each step of the whole system sends a message for each name and each number that it draws.
-use Rattle.jn_within.proofs.Common.{◌≡◌, ◌≤◌, ℕ, ◌+◌, Bool, true, false, List, [], ◌∷◌, ◌++◌, length, length-append, Option, Some, None, refl, ap, subst, arith, if◌then◌else◌, slice_get, ServerNo, ClientNo, Tid, WorkId, Tickets, Client, Server, server_eq, client_eq, AllFiles, Taken, ClientTable, Commanded, Refuses, Sends, take_row, again_row, close_clients_row, RowOutcome, Sent, Pick, stable, World, Memory, at_server, at_client, new_memory, opening, Room, server_row, server_step, server_again, server_timeout, of_coordinator, restored, Step, NextEvent, Tell, Again, Deliver, Work, Nudge, Timeout, StopDelivery, StopWork, Crash, Narrow, StopRestart, Restart, Dismiss, CloseClients, after, run, ends, at_memory, handed, work, works, nudge, timeout, crash, narrow, stop_restart, restart, close_clients, took, commanded, sent_now, DrawsOne, AreCovered}
+use Rattle.jn_within.proofs.Common.{◌≡◌, ◌∙◌, sym, ◌≤◌, ℕ, ◌+◌, List, [], ◌∷◌, length, length-append, Option, Some, None, ap, subst, arith, ServerNo, ClientNo, Tickets, AllFiles, Taken, ClientTable, take_row, RowOutcome, Sent, Pick, stable, World, Memory, at_server, new_memory, opening, server_timeout, restored, Step, after, run, DrawsOne, AreCovered, Text, Message, one-server, one-client, ClientRow, by_command, by_ignoring, by_answering, by_telling, ServerRow, of_message, of_work, of_closing, StepCase, client_row, row_done, row_stopped, gone_late, gone_down, come_up, found_anew, dismissed, quietly, step-case}
 use Rattle.jn_rows.specs.declared.client.Taken.TheVariants as taken
+use Rattle.jn_system_settling.proofs.Settling.Courses.{Grows, grows}
 use Rattle.jn_within.proofs.Taking.{command-draws, take-number}
 use Rattle.jn_within.proofs.ServerRows.{row-drawn, step-tickets, timeout-tickets}
 
@@ -8,9 +9,6 @@ some : (a b : Memory) → Some a ≡ Some b → a ≡ b
 some a b q = cc
 
 module _ (w : World) (h : AreCovered w) where
-  longer : (more : List Sent) → length w.sent ≤ length (w.sent ++ more)
-  longer more = let long = length-append w.sent more in omega (arith, long)
-
   abbrev Few : ℕ → Option Memory → Type 0
   Few most o = (m : Memory) → o ≡ Some m → m.tickets.next ≤ most
 
@@ -20,122 +18,57 @@ module _ (w : World) (h : AreCovered w) where
   few-gone : (most : ℕ) → Few most None
   few-gone most m e = absurd (cc e)
 
-  names-more : (more : List Sent) (q : ServerNo) → Few (length (w.sent ++ more)) (w.memory q)
-  names-more more q m e = let old = h.names q m e in let long = longer more in omega (arith, old, long)
+  -- no fewer messages were sent then
+  module _ (most : ℕ) (long : length w.sent ≤ most) where
+    names-still : (q : ServerNo) → Few most (w.memory q)
+    names-still q m e = let old = h.names q m e in omega (arith, old, long)
 
-  -- one server's memory changes
-  names-one : (s : ServerNo) (o : Option Memory) (more : List Sent) → Few (length (w.sent ++ more)) o → (q : ServerNo) → Few (length (w.sent ++ more)) (at_server w.memory s o q)
-  names-one s o more l q = by (server_eq s q)
-    where
-      by : (b : Bool) → Few (length (w.sent ++ more)) (if b then o else w.memory q)
-      by true = l
-      by false = names-more more q
+    names-one : (s : ServerNo) (o : Option Memory) → Few most o → (q : ServerNo) → Few most (at_server w.memory s o q)
+    names-one s o l = one-server (λ q z. Few most z) w.memory s o l (λ q other. names-still q)
 
-  -- and without a message
-  names-still : (s : ServerNo) (o : Option Memory) → Few (length w.sent) o → (q : ServerNo) → Few (length w.sent) (at_server w.memory s o q)
-  names-still s o l q = by (server_eq s q)
-    where
-      by : (b : Bool) → Few (length w.sent) (if b then o else w.memory q)
-      by true = l
-      by false = h.names q
+    requests-still : (c : ClientNo) → (w.clients c).next ≤ most + 1
+    requests-still c = let old = h.requests c in omega (arith, old, long)
 
-  requests-more : (more : List Sent) (c : ClientNo) → (w.clients c).next ≤ length (w.sent ++ more) + 1
-  requests-more more c = let old = h.requests c in let long = longer more in omega (arith, old, long)
+    taken-still : (c : ClientNo) (message : Message) (t : ClientTable) (r : Taken) → take_row (w.clients c) message ≡ (t, r) → t.next ≤ most + 1
+    taken-still c message t r is = subst (λ (z : ClientTable × Taken). z.0.next ≤ most + 1) is (subst (λ (k : ℕ). k ≤ most + 1) (sym (take-number (w.clients c) message)) (requests-still c))
 
-  requests-one : (c : ClientNo) (t : ClientTable) (most : ℕ) → t.next ≤ most + 1 → length w.sent ≤ most → (d : ClientNo) → (at_client w.clients c t d).next ≤ most + 1
-  requests-one c t most l long d = by (client_eq c d)
-    where
-      by : (b : Bool) → (if b then t else w.clients d).next ≤ most + 1
-      by true = l
-      by false = let old = h.requests d in omega (arith, old, long)
+  client-covered : (step : Step) (c : ClientNo) (t : ClientTable) (sent : List Sent) (lines : List Text) → ClientRow w c step t sent lines → length w.sent ≤ length sent → t.next ≤ length sent + 1
+  client-covered _ c _ _ _ (by_command command t to message is) long = let one = subst (DrawsOne (w.clients c)) is (command-draws (w.clients c) w.event command) in
+      let old = h.requests c in let more = length-append w.sent ((to, message) ∷ []) in omega (arith, one, old, more)
+  client-covered _ c _ _ _ (by_ignoring k room stop message t e is) long = taken-still _ long c message t taken.Ignored is
+  client-covered _ c _ _ _ (by_answering k room stop message t to answer e is) long = taken-still _ long c message t (taken.Send to answer) is
+  client-covered _ c _ _ _ (by_telling k room stop message t line answer e is) long = taken-still _ long c message t (taken.Told line answer) is
 
-  more-sent : (more : List Sent) → AreCovered (record w { sent = w.sent ++ more })
-  more-sent more = record { names = names-more more; requests = requests-more more }
+  row-draws : (s : ServerNo) (m : Memory) (stop : Option (Pick → ℕ)) (step : Step) (k : Option ℕ) (row : RowOutcome Memory) → ServerRow w s m stop step k row → row.table.tickets.next ≤ m.tickets.next + length row.messages
+  row-draws s m _ _ _ _ (of_message stop k room message is) = let drawn = row-drawn m (stable (w.found s)) room message in drawn.next
+  row-draws s m _ _ _ _ (of_work stop room row is) = let same = ap (λ (k : Tickets). k.next) (step-tickets m (stable (w.found s)) room row is) in omega (arith, same)
+  row-draws s m _ _ _ _ of_closing = omega arith
 
-  -- ---- clients
-
-  commanded-covered : (c : ClientNo) (r : Commanded) → DrawsOne (w.clients c) r → AreCovered (commanded c r w)
-  commanded-covered c (Refuses refusal) l = record { names = h.names; requests = h.requests }
-  commanded-covered c (Sends t to message) l = record {
-    names = names-more ((to, message) ∷ []);
-    requests = requests-one c t (length (w.sent ++ (to, message) ∷ [])) (let old = h.requests c in let long = length-append w.sent ((to, message) ∷ []) in omega (arith, l, old, long)) (longer ((to, message) ∷ []));
+  by-case : (step : Step) (now : World) → StepCase w step now → length w.sent ≤ length now.sent → AreCovered now
+  by-case step _ (client_row _ c t sent lines row) long = record {
+    names = names-still (length sent) long;
+    requests = one-client (λ d (z : ClientTable). z.next ≤ length sent + 1) w.clients c t (client-covered step c t sent lines row long) (λ d other. requests-still (length sent) long d);
   }
-
-  took-covered : (c : ClientNo) (k : ℕ) (t : ClientTable) (r : Taken) → t.next ≡ (w.clients c).next → AreCovered (took c k t r w)
-  took-covered c k t taken.Ignored l = record { names = h.names; requests = requests-one c t (length w.sent) (let old = h.requests c in omega (arith, l, old)) (omega arith) }
-  took-covered c k t (taken.Send to message) l = record { names = names-more ((to, message) ∷ []); requests = requests-one c t (length (w.sent ++ (to, message) ∷ [])) (let old = requests-more ((to, message) ∷ []) c in omega (arith, l, old)) (longer ((to, message) ∷ [])) }
-  took-covered c k t (taken.Told line answer) l = record { names = names-more (sent_now answer); requests = requests-one c t (length (w.sent ++ sent_now answer)) (let old = requests-more (sent_now answer) c in omega (arith, l, old)) (longer (sent_now answer)) }
-
-  -- ---- servers
-
-  ends-covered : (s : ServerNo) (m : Memory) → w.memory s ≡ Some m → (k : Option ℕ) (stop : Option (Pick → ℕ)) (row : RowOutcome Memory) → row.table.tickets.next ≤ m.tickets.next + length row.messages → AreCovered (ends s k stop row w)
-  ends-covered s m up k None row l = record {
-    names = names-one s (Some row.table) row.messages (few-of (length (w.sent ++ row.messages)) row.table (let old = h.names s m up in let long = length-append w.sent row.messages in omega (arith, l, old, long)));
-    requests = requests-more row.messages;
+  by-case step _ (row_done _ s m k row e is) long = record {
+    names = names-one _ long s (Some row.table) (few-of _ row.table (let new = row-draws s m None step k row is in let old = h.names s m e in let more = length-append w.sent row.messages in omega (arith, new, old, more)));
+    requests = requests-still _ long;
   }
-  ends-covered s m up k (Some made) row l = record { names = names-still s None (few-gone (length w.sent)); requests = h.requests }
-
-  handed-covered : (k : ℕ) (room : Room) (stop : Option (Pick → ℕ)) (o : Option Sent) → AreCovered (handed k room stop o w)
-  handed-covered k room stop None = h
-  handed-covered k room stop (Some (Client c, message)) = took-covered c k _ (take_row (w.clients c) message).1 (take-number (w.clients c) message)
-  handed-covered k room stop (Some (Server s, message)) = by (w.memory s) refl
-    where
-      by : (o : Option Memory) → w.memory s ≡ o → AreCovered (at_memory s k room stop message o w)
-      by None e = record { names = h.names; requests = h.requests }
-      by (Some m) e = let drawn = row-drawn m (stable (w.found s)) room message in ends-covered s m e (Some k) stop (server_row m (stable (w.found s)) room message) drawn.next
-
-  work-covered : (s : ServerNo) (room : Room) (stop : Option (Pick → ℕ)) (o : Option Memory) → w.memory s ≡ o → AreCovered (work s room stop o w)
-  work-covered s room stop None e = h
-  work-covered s room stop (Some m) e = by (server_step m (stable (w.found s)) room) refl
-    where
-      by : (o : Option (RowOutcome Memory)) → server_step m (stable (w.found s)) room ≡ o → AreCovered (works s stop o w)
-      by None q = h
-      by (Some row) q = let same = ap (λ (k : Tickets). k.next) (step-tickets m (stable (w.found s)) room row q) in ends-covered s m e None stop row (omega (arith, same))
-
-  nudge-covered : (s : ServerNo) (o : Option Memory) → AreCovered (nudge s o w)
-  nudge-covered s None = h
-  nudge-covered s (Some m) = more-sent (server_again m (stable (w.found s)))
-
-  timeout-covered : (s : ServerNo) (T : Tid) (o : Option Memory) → w.memory s ≡ o → AreCovered (timeout s T o w)
-  timeout-covered s T None e = h
-  timeout-covered s T (Some m) e = record { names = names-still s (Some (server_timeout m T)) (few-of (length w.sent) (server_timeout m T) (let same = ap (λ (k : Tickets). k.next) (timeout-tickets m T) in let old = h.names s m e in omega (arith, same, old))); requests = h.requests }
-
-  crash-covered : (s : ServerNo) (o : Option Memory) → AreCovered (crash s o w)
-  crash-covered s None = h
-  crash-covered s (Some m) = record { names = names-still s None (few-gone (length w.sent)); requests = h.requests }
-
-  narrow-covered : (s : ServerNo) (g : Pick → Pick) (o : Option Memory) → AreCovered (narrow s g o w)
-  narrow-covered s g None = record { names = h.names; requests = h.requests }
-  narrow-covered s g (Some m) = h
-
-  raise-covered : (s : ServerNo) (raised : Pick → Bool) (o : Option Memory) → AreCovered (stop_restart s raised o w)
-  raise-covered s raised None = record { names = h.names; requests = h.requests }
-  raise-covered s raised (Some m) = h
-
-  restart-covered : (s : ServerNo) (pick : Pick) (Ws : List WorkId) (Ts : List Tid) (o : Option Memory) → AreCovered (restart s pick Ws Ts o w)
-  restart-covered s pick Ws Ts None = record { names = names-still s (Some (restored s (w.found s pick) Ws Ts)) (few-of (length w.sent) (restored s (w.found s pick) Ws Ts) (omega arith)); requests = h.requests }
-  restart-covered s pick Ws Ts (Some m) = h
-
-  close-covered : (s : ServerNo) (o : Option Memory) → w.memory s ≡ o → AreCovered (close_clients s o w)
-  close-covered s None e = h
-  close-covered s (Some m) e = ends-covered s m e None None (of_coordinator m (close_clients_row m.coordinator m.tickets)) (omega arith)
+  by-case step _ (row_stopped _ s m k row made e is) long = record { names = names-one _ long s None (few-gone _); requests = h.requests }
+  by-case _ _ (gone_late s m T e) long = record {
+    names = names-one _ long s (Some (server_timeout m T)) (few-of _ (server_timeout m T) (let same = ap (λ (k : Tickets). k.next) (timeout-tickets m T) in let old = h.names s m e in omega (arith, same, old)));
+    requests = h.requests;
+  }
+  by-case _ _ (gone_down s m e) long = record { names = names-one _ long s None (few-gone _); requests = h.requests }
+  by-case _ _ (come_up s pick Ws Ts e) long = record { names = names-one _ long s (Some (restored s (w.found s pick) Ws Ts)) (few-of _ _ (omega arith)); requests = h.requests }
+  by-case step _ (found_anew _ s found lines e is) long = record { names = h.names; requests = h.requests }
+  by-case _ _ dismissed long = record { names = h.names; requests = h.requests }
+  by-case step _ (quietly _ event sent lines is) long = record { names = names-still (length sent) long; requests = requests-still (length sent) long }
 
   pub after-covered : (step : Step) → AreCovered (after step w)
-  after-covered NextEvent = record { names = h.names; requests = h.requests }
-  after-covered (Tell c command) = commanded-covered c _ (command-draws (w.clients c) w.event command)
-  after-covered (Again c) = more-sent (sent_now (again_row (w.clients c)))
-  after-covered (Deliver k room) = handed-covered k room None (slice_get w.sent k)
-  after-covered (Work s room) = work-covered s room None (w.memory s) refl
-  after-covered (Nudge s) = nudge-covered s (w.memory s)
-  after-covered (Timeout s T) = timeout-covered s T (w.memory s) refl
-  after-covered (StopDelivery k room made) = handed-covered k room (Some made) (slice_get w.sent k)
-  after-covered (StopWork s room made) = work-covered s room (Some made) (w.memory s) refl
-  after-covered (Crash s) = crash-covered s (w.memory s)
-  after-covered (Narrow s g) = narrow-covered s g (w.memory s)
-  after-covered (StopRestart s raised) = raise-covered s raised (w.memory s)
-  after-covered (Restart s pick Ws Ts) = restart-covered s pick Ws Ts (w.memory s)
-  after-covered Dismiss = record { names = h.names; requests = h.requests }
-  after-covered (CloseClients s) = close-covered s (w.memory s) refl
+  after-covered step = by-case step (after step w) (step-case w step) (longer (grows w step))
+    where
+      longer : Grows w (after step w) → length w.sent ≤ length (after step w).sent
+      longer g = let more = ap length g.sent ∙ length-append w.sent g.new in omega (arith, more)
 
 pub run-covered : (steps : List Step) (w : World) → AreCovered w → AreCovered (run steps w)
 run-covered [] w h = h

@@ -1,5 +1,6 @@
 -- Each step of the whole system leaves what is named at the servers that there are.
-use Rattle.jn_within.proofs.Common.{◌≡◌, ◌<◌, ℕ, Bool, true, false, List, [], ◌∷◌, ◌++◌, take, zero, suc, Option, Some, None, refl, sym, ◌∙◌, ap, ◌⊎◌, inl, inr, ◌≢◌, subst, arith, ◌&&◌, if◌then◌else◌, slice_get, nat_tests, ServerNo, ClientNo, Tid, WorkId, Client, Server, server_eq, client_eq, server_tells, AllFiles, Message, Outstanding, Taken, ClientTable, Commanded, Refuses, Sends, take_row, sent_again, close_clients_row, RowOutcome, Sent, StableState, Prepared, FlagState, Pick, made_all, stable, World, Memory, at_server, at_client, new_memory, opening, Room, server_step, server_timeout, of_coordinator, restored, Step, NextEvent, Tell, Again, Deliver, Work, Nudge, Timeout, StopDelivery, StopWork, Crash, Narrow, StopRestart, Restart, Dismiss, CloseClients, after, run, ends, at_memory, handed, work, works, nudge, timeout, crash, narrow, stop_restart, restart, close_clients, took, commanded, sent_now, sent_for, is_near, is_for_near, names_near, is_within, are_within, is_again_within, ClientWithin, CommandWithin, StateWithin, MemoryWithin, RowWithin, Within}
+use Rattle.jn_within.proofs.Common.{◌≡◌, ◌<◌, ℕ, Bool, true, false, List, [], ◌∷◌, ◌++◌, take, zero, suc, Option, Some, None, refl, subst, arith, ◌&&◌, if◌then◌else◌, slice_get, nat_tests, ServerNo, ClientNo, server_eq, AllFiles, Message, Outstanding, Taken, ClientTable, take_row, sent_again, RowOutcome, Sent, StableState, Prepared, FlagState, Pick, made_all, stable, World, Memory, at_server, new_memory, opening, server_timeout, restored, Step, after, run, sent_now, sent_for, is_near, names_near, is_within, are_within, is_again_within, ClientWithin, CommandWithin, StateWithin, MemoryWithin, RowWithin, Within, Text, one-server, one-found, one-client, ClientRow, by_command, by_ignoring, by_answering, by_telling, ServerRow, of_message, of_work, of_closing, FoundThen, by_narrowing, by_raising, Quiet, client_repeats, server_repeats, StepCase, client_row, row_done, row_stopped, gone_late, gone_down, come_up, found_anew, dismissed, quietly, step-case}
+use Rattle.jn_base.specs.declared.names.Party.TheVariants.{Client, Server}
 use Rattle.jn_rows.specs.declared.client.Taken.TheVariants as taken
 use Rattle.jn_system.specs.SmallSteps.Steps.{with_epoch}
 use Rattle.jn_within.proofs.NamedByClients.{new-within, command-within, take-within, over-within}
@@ -20,150 +21,96 @@ sent-at n (y ∷ ys) (suc k) x h e = sent-at n ys k x (second-of _ _ h) e
 some : (a b : Memory) → Some a ≡ Some b → a ≡ b
 some a b q = cc
 
--- with its epoch raised
-raised-within : (n : ℕ) (x : StableState) → StateWithin n x → StateWithin n (with_epoch x)
-raised-within n x h = record { works = h.works; flags = h.flags }
-
 module _ (n : ℕ) (w : World) (h : Within n w) where
   -- ---- one of them changes
 
   memory-one : (s : ServerNo) (o : Option Memory) → ((m : Memory) → o ≡ Some m → MemoryWithin n s m) → (q : ServerNo) (m : Memory) → at_server w.memory s o q ≡ Some m → MemoryWithin n q m
-  memory-one s o new q = by (server_eq s q) (server_tells s q)
-    where
-      by : (b : Bool) → ((server_eq s q ≡ true) × (s ≡ q)) ⊎ ((server_eq s q ≡ false) × (s ≢ q)) → (m : Memory) → (if server_eq s q then o else w.memory q) ≡ Some m → MemoryWithin n q m
-      by b (inl t) m e = subst (λ (z : ServerNo). MemoryWithin n z m) t.1 (new m (sym (ap (λ (b : Bool). if b then o else w.memory q) t.0) ∙ e))
-      by b (inr t) m e = h.memory q m (sym (ap (λ (b : Bool). if b then o else w.memory q) t.0) ∙ e)
+  memory-one s o now = one-server (λ q z. (m : Memory) → z ≡ Some m → MemoryWithin n q m) w.memory s o now (λ q other. h.memory q)
 
-  memory-of : (s : ServerNo) (a : Memory) → MemoryWithin n s a → (m : Memory) → Some a ≡ Some m → MemoryWithin n s m
-  memory-of s a l m e = subst (λ (z : Memory). MemoryWithin n s z) (some a m e) l
+  memory-of : (s : ServerNo) (a : Memory) → MemoryWithin n s a → (q : ServerNo) (m : Memory) → at_server w.memory s (Some a) q ≡ Some m → MemoryWithin n q m
+  memory-of s a l = memory-one s (Some a) (λ m e. subst (MemoryWithin n s) (some a m e) l)
 
-  memory-gone : (s : ServerNo) (m : Memory) → None ≡ Some m → MemoryWithin n s m
-  memory-gone s m e = absurd (cc e)
+  memory-gone : (s q : ServerNo) (m : Memory) → at_server w.memory s None q ≡ Some m → MemoryWithin n q m
+  memory-gone s = memory-one s None (λ m e. absurd (cc e))
 
   found-one : (s : ServerNo) (f : Pick → StableState) → ((c : Pick) → StateWithin n (f c)) → (q : ServerNo) (c : Pick) → StateWithin n (if server_eq s q then f c else w.found q c)
-  found-one s f new q c = by (server_eq s q)
-    where
-      by : (b : Bool) → StateWithin n (if b then f c else w.found q c)
-      by true = new c
-      by false = h.found q c
+  found-one s f now = one-found (λ q c x. StateWithin n x) w.found s f now (λ q other. h.found q)
 
-  client-one : (c : ClientNo) (t : ClientTable) → ClientWithin n t → (d : ClientNo) → ClientWithin n (at_client w.clients c t d)
-  client-one c t l d = by (client_eq c d)
-    where
-      by : (b : Bool) → ClientWithin n (if b then t else w.clients d)
-      by true = l
-      by false = h.clients d
+  -- with its epoch raised
+  raised : (s : ServerNo) (c : Pick) → StateWithin n (with_epoch (w.found s c))
+  raised s c = let old = h.found s c in record { works = old.works; flags = old.flags }
 
-  more-sent : (more : List Sent) → are_within n more ≡ true → Within n (record w { sent = w.sent ++ more })
-  more-sent more l = record { sent = sent-both n w.sent more h.sent l; clients = h.clients; memory = h.memory; found = h.found }
+  more : (sent : List Sent) → are_within n sent ≡ true → are_within n (w.sent ++ sent) ≡ true
+  more sent l = sent-both n w.sent sent h.sent l
 
   -- ---- clients
 
-  commanded-within : (c : ClientNo) (r : Commanded) → CommandWithin n r → Within n (commanded c r w)
-  commanded-within c (Refuses refusal) l = record { sent = h.sent; clients = h.clients; memory = h.memory; found = h.found }
-  commanded-within c (Sends t to message) l = record { sent = sent-both n w.sent ((to, message) ∷ []) h.sent (one (to, message) l.1); clients = client-one c t l.0; memory = h.memory; found = h.found }
-    where
-      one : (x : Sent) → is_within n x ≡ true → are_within n (x ∷ []) ≡ true
-      one x l = grind (arith, l)
+  one-sent : (x : Sent) → is_within n x ≡ true → are_within n (x ∷ []) ≡ true
+  one-sent x l = grind (arith, l)
 
   asked-again : (o : Option Outstanding) → is_again_within n o ≡ true → are_within n (sent_now (sent_again o)) ≡ true
   asked-again None l = refl
-  asked-again (Some o) l = grind (arith, l)
+  asked-again (Some o) l = one-sent (o.to, o.message) l
 
-  took-within : (c : ClientNo) (k : ℕ) (t : ClientTable) (r : Taken) → ClientWithin n t → are_within n (sent_for r) ≡ true → Within n (took c k t r w)
-  took-within c k t taken.Ignored l m = record { sent = h.sent; clients = client-one c t l; memory = h.memory; found = h.found }
-  took-within c k t (taken.Send to message) l m = record { sent = sent-both n w.sent _ h.sent m; clients = client-one c t l; memory = h.memory; found = h.found }
-  took-within c k t (taken.Told line answer) l m = record { sent = sent-both n w.sent _ h.sent m; clients = client-one c t l; memory = h.memory; found = h.found }
+  taken-within : (c : ClientNo) (k : ℕ) (message : Message) (t : ClientTable) (r : Taken) → slice_get w.sent k ≡ Some (Client c, message) → take_row (w.clients c) message ≡ (t, r) → ClientWithin n t × (are_within n (sent_for r) ≡ true)
+  taken-within c k message t r e is = subst (λ (z : ClientTable × Taken). ClientWithin n z.0 × (are_within n (sent_for z.1) ≡ true)) is (take-within n (w.clients c) message (h.clients c) (sent-at n w.sent k (Client c, message) h.sent e))
+
+  client-within : (step : Step) (c : ClientNo) (t : ClientTable) (sent : List Sent) (lines : List Text) → ClientRow w c step t sent lines → ClientWithin n t × (are_within n sent ≡ true)
+  client-within _ c _ _ _ (by_command command t to message is) = let l = subst (CommandWithin n) is (command-within n (w.clients c) w.event command (h.clients c)) in (l.0, more ((to, message) ∷ []) (one-sent (to, message) l.1))
+  client-within _ c _ _ _ (by_ignoring k room stop message t e is) = ((taken-within c k message t taken.Ignored e is).0, h.sent)
+  client-within _ c _ _ _ (by_answering k room stop message t to answer e is) = let l = taken-within c k message t (taken.Send to answer) e is in (l.0, more ((to, answer) ∷ []) l.1)
+  client-within _ c _ _ _ (by_telling k room stop message t line answer e is) = let l = taken-within c k message t (taken.Told line answer) e is in (l.0, more (sent_now answer) l.1)
 
   -- ---- servers
 
-  ends-within : (s : ServerNo) (k : Option ℕ) (stop : Option (Pick → ℕ)) (row : RowOutcome Memory) → RowWithin n s row → Within n (ends s k stop row w)
-  ends-within s k None row r = record {
-    sent = sent-both n w.sent row.messages h.sent r.sent;
+  of-row : (s : ServerNo) (m : Memory) (stop : Option (Pick → ℕ)) (step : Step) (k : Option ℕ) (row : RowOutcome Memory) → w.memory s ≡ Some m → ServerRow w s m stop step k row → RowWithin n s row
+  of-row s m _ _ _ _ e (of_message stop k room message is) = let at = sent-at n w.sent k (Server s, message) h.sent is in row-within n s m (h.memory s m e) (stable (w.found s)) room message (first-of _ _ at) (second-of _ _ at)
+  of-row s m _ _ _ _ e (of_work stop room row is) = step-row-within n s m (h.memory s m e) (stable (w.found s)) room row is
+  of-row s m _ _ _ _ e of_closing = close-row-within n s m (h.memory s m e)
+
+  found-within : (step : Step) (s : ServerNo) (found : Pick → StableState) (lines : List Text) → FoundThen w s step found lines → (c : Pick) → StateWithin n (found c)
+  found-within _ s _ _ (by_narrowing g) c = h.found s (g c)
+  found-within _ s _ _ (by_raising raise) c = by (raise c)
+    where
+      by : (b : Bool) → StateWithin n (if b then with_epoch (w.found s c) else w.found s c)
+      by true = raised s c
+      by false = h.found s c
+
+  -- ---- every step
+
+  quiet-within : (step : Step) (event : ℕ) (sent : List Sent) (lines : List Text) → Quiet w step event sent lines → are_within n sent ≡ true
+  quiet-within _ _ _ _ (client_repeats c) = more _ (asked-again (w.clients c).outstanding (h.clients c).again)
+  quiet-within _ _ _ _ (server_repeats s m e) = more _ (again-within n s m (h.memory s m e) (stable (w.found s)))
+  quiet-within _ _ _ _ is = h.sent
+
+  by-case : (step : Step) (now : World) → StepCase w step now → Within n now
+  by-case step _ (client_row _ c t sent lines row) = let l = client-within step c t sent lines row in record { sent = l.1; clients = one-client (λ d. ClientWithin n) w.clients c t l.0 (λ d other. h.clients d); memory = h.memory; found = h.found }
+  by-case step _ (row_done _ s m k row e is) = let l = of-row s m None step k row e is in record {
+    sent = more row.messages l.sent;
     clients = h.clients;
-    memory = memory-one s (Some row.table) (memory-of s row.table r.memory);
-    found = found-one s (λ c. made_all row.changes (w.found s c)) (λ c. all-changes-within n row.changes (w.found s c) r.changes (h.found s c));
+    memory = memory-of s row.table l.memory;
+    found = found-one s (λ c. made_all row.changes (w.found s c)) (λ c. all-changes-within n row.changes (w.found s c) l.changes (h.found s c));
   }
-  ends-within s k (Some made) row r = record {
+  by-case step _ (row_stopped _ s m k row made e is) = let l = of-row s m (Some made) step k row e is in record {
     sent = h.sent;
     clients = h.clients;
-    memory = memory-one s None (memory-gone s);
-    found = found-one s (λ c. made_all (take (made c) row.changes) (w.found s c)) (λ c. changes-within n (made c) row.changes (w.found s c) r.changes (h.found s c));
+    memory = memory-gone s;
+    found = found-one s (λ c. made_all (take (made c) row.changes) (w.found s c)) (λ c. changes-within n (made c) row.changes (w.found s c) l.changes (h.found s c));
   }
-
-  handed-within : (k : ℕ) (room : Room) (stop : Option (Pick → ℕ)) (o : Option Sent) → slice_get w.sent k ≡ o → Within n (handed k room stop o w)
-  handed-within k room stop None e = h
-  handed-within k room stop (Some (Client c, message)) e = let at = sent-at n w.sent k (Client c, message) h.sent e in let took = take-within n (w.clients c) message (h.clients c) (second-of (is_for_near n (Client c)) (names_near n message) at) in took-within c k _ (take_row (w.clients c) message).1 took.0 took.1
-  handed-within k room stop (Some (Server s, message)) e = by (w.memory s) refl
-    where
-      at : is_within n (Server s, message) ≡ true
-      at = sent-at n w.sent k (Server s, message) h.sent e
-
-      by : (o : Option Memory) → w.memory s ≡ o → Within n (at_memory s k room stop message o w)
-      by None q = record { sent = h.sent; clients = h.clients; memory = h.memory; found = h.found }
-      by (Some m) q = ends-within s (Some k) stop _ (row-within n s m (h.memory s m q) (stable (w.found s)) room message (first-of (is_near n s) (names_near n message) at) (second-of (is_near n s) (names_near n message) at))
-
-  work-within : (s : ServerNo) (room : Room) (stop : Option (Pick → ℕ)) (o : Option Memory) → w.memory s ≡ o → Within n (work s room stop o w)
-  work-within s room stop None e = h
-  work-within s room stop (Some m) e = by (server_step m (stable (w.found s)) room) refl
-    where
-      by : (o : Option (RowOutcome Memory)) → server_step m (stable (w.found s)) room ≡ o → Within n (works s stop o w)
-      by None q = h
-      by (Some row) q = ends-within s None stop row (step-row-within n s m (h.memory s m e) (stable (w.found s)) room row q)
-
-  nudge-within : (s : ServerNo) (o : Option Memory) → w.memory s ≡ o → Within n (nudge s o w)
-  nudge-within s None e = h
-  nudge-within s (Some m) e = more-sent _ (again-within n s m (h.memory s m e) (stable (w.found s)))
-
-  timeout-within : (s : ServerNo) (T : Tid) (o : Option Memory) → w.memory s ≡ o → Within n (timeout s T o w)
-  timeout-within s T None e = h
-  timeout-within s T (Some m) e = record { sent = h.sent; clients = h.clients; memory = memory-one s (Some (server_timeout m T)) (memory-of s _ (timeout-memory-within n s m (h.memory s m e) T)); found = h.found }
-
-  crash-within : (s : ServerNo) (o : Option Memory) → Within n (crash s o w)
-  crash-within s None = h
-  crash-within s (Some m) = record { sent = h.sent; clients = h.clients; memory = memory-one s None (memory-gone s); found = h.found }
-
-  narrow-within : (s : ServerNo) (g : Pick → Pick) (o : Option Memory) → Within n (narrow s g o w)
-  narrow-within s g None = record { sent = h.sent; clients = h.clients; memory = h.memory; found = found-one s (λ c. w.found s (g c)) (λ c. h.found s (g c)) }
-  narrow-within s g (Some m) = h
-
-  raise-within : (s : ServerNo) (raised : Pick → Bool) (o : Option Memory) → Within n (stop_restart s raised o w)
-  raise-within s raised None = record { sent = h.sent; clients = h.clients; memory = h.memory; found = found-one s (λ c. if raised c then with_epoch (w.found s c) else w.found s c) (λ c. by c (raised c)) }
-    where
-      by : (c : Pick) (b : Bool) → StateWithin n (if b then with_epoch (w.found s c) else w.found s c)
-      by c true = raised-within n (w.found s c) (h.found s c)
-      by c false = h.found s c
-  raise-within s raised (Some m) = h
-
-  restart-within : (s : ServerNo) (pick : Pick) (Ws : List WorkId) (Ts : List Tid) (o : Option Memory) → Within n (restart s pick Ws Ts o w)
-  restart-within s pick Ws Ts None = record {
+  by-case _ _ (gone_late s m T e) = record { sent = h.sent; clients = h.clients; memory = memory-of s (server_timeout m T) (timeout-memory-within n s m (h.memory s m e) T); found = h.found }
+  by-case _ _ (gone_down s m e) = record { sent = h.sent; clients = h.clients; memory = memory-gone s; found = h.found }
+  by-case _ _ (come_up s pick Ws Ts e) = record {
     sent = h.sent;
     clients = h.clients;
-    memory = memory-one s (Some (restored s (w.found s pick) Ws Ts)) (memory-of s _ (restored-within n s (w.found s pick) Ws Ts (h.found s pick)));
-    found = found-one s (λ c. with_epoch (w.found s pick)) (λ c. raised-within n (w.found s pick) (h.found s pick));
+    memory = memory-of s (restored s (w.found s pick) Ws Ts) (restored-within n s (w.found s pick) Ws Ts (h.found s pick));
+    found = found-one s (λ c. with_epoch (w.found s pick)) (λ c. raised s pick);
   }
-  restart-within s pick Ws Ts (Some m) = h
-
-  close-within : (s : ServerNo) (o : Option Memory) → w.memory s ≡ o → Within n (close_clients s o w)
-  close-within s None e = h
-  close-within s (Some m) e = ends-within s None None (of_coordinator m (close_clients_row m.coordinator m.tickets)) (close-row-within n s m (h.memory s m e))
+  by-case step _ (found_anew _ s found lines e is) = record { sent = h.sent; clients = h.clients; memory = h.memory; found = found-one s found (found-within step s found lines is) }
+  by-case _ _ dismissed = record { sent = h.sent; clients = λ c. over-within n (w.clients c) (h.clients c); memory = h.memory; found = h.found }
+  by-case step _ (quietly _ event sent lines is) = record { sent = quiet-within step event sent lines is; clients = h.clients; memory = h.memory; found = h.found }
 
   pub after-within : (step : Step) → Within n (after step w)
-  after-within NextEvent = record { sent = h.sent; clients = h.clients; memory = h.memory; found = h.found }
-  after-within (Tell c command) = commanded-within c _ (command-within n (w.clients c) w.event command (h.clients c))
-  after-within (Again c) = let client = h.clients c in more-sent _ (asked-again (w.clients c).outstanding client.again)
-  after-within (Deliver k room) = handed-within k room None (slice_get w.sent k) refl
-  after-within (Work s room) = work-within s room None (w.memory s) refl
-  after-within (Nudge s) = nudge-within s (w.memory s) refl
-  after-within (Timeout s T) = timeout-within s T (w.memory s) refl
-  after-within (StopDelivery k room made) = handed-within k room (Some made) (slice_get w.sent k) refl
-  after-within (StopWork s room made) = work-within s room (Some made) (w.memory s) refl
-  after-within (Crash s) = crash-within s (w.memory s)
-  after-within (Narrow s g) = narrow-within s g (w.memory s)
-  after-within (StopRestart s raised) = raise-within s raised (w.memory s)
-  after-within (Restart s pick Ws Ts) = restart-within s pick Ws Ts (w.memory s)
-  after-within Dismiss = record { sent = h.sent; clients = λ c. over-within n (w.clients c) (h.clients c); memory = h.memory; found = h.found }
-  after-within (CloseClients s) = close-within s (w.memory s) refl
+  after-within step = by-case step (after step w) (step-case w step)
 
 pub run-within : (n : ℕ) (steps : List Step) (w : World) → Within n w → Within n (run steps w)
 run-within n [] w h = h

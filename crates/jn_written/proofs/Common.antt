@@ -1,13 +1,13 @@
 -- The names from below that these proofs cite, passed on from one place. Declares nothing.
 pub use Rattle.std.proofs.Common.{◌≡◌, ℕ, Bool, true, false, List, [], ◌∷◌, map, Option, Some, None, refl, sym, subst, arith, zero, suc, ◌+◌, ◌++◌, length, ◌∙◌, ap, append-nil, append_assoc, ◌≤◌, ◌<◌, ◌≢◌}
-pub use Rattle.std.specs.Prelude.{if◌then◌else◌, slice_get, drop, not, nat_lt, ◌||◌, is_some, ◌&&◌}
+pub use Rattle.std.specs.Prelude.{if◌then◌else◌, slice_get, drop, not, nat_lt, is_some, ◌&&◌, ◌||◌}
 pub use Rattle.std.specs.List.{list_all}
 pub use Rattle.jn_base.specs.declared.names.ServerNo.{ServerNo}
 pub use Rattle.jn_schedule.specs.declared.Event.{Event}
 pub use Rattle.jn_report.specs.declared.line.EventRefusal.{EventRefusal}
 pub use Rattle.jn_report.specs.declared.line.EventRefusal.TheVariants.{TooManyArmed, EpochsUsedUp}
 pub use Rattle.jn_report.specs.declared.line.Text.{Text}
-pub use Rattle.jn_rows.specs.Stable.{Pick, stable}
+pub use Rattle.jn_rows.specs.Stable.{Pick, stable, StableState}
 pub use Rattle.jn_system.specs.WholeSystem.World.{World, Memory, committed_in, commits_in, servers_from, has_line}
 pub use Rattle.jn_system.specs.WholeSystem.Printing.{Printed, FileThere, PageStored, UnitLocked, print_files}
 pub use Rattle.jn_system_settling.specs.Settling.Course.{go_on, Course, go, newly_sent}
@@ -18,14 +18,14 @@ pub use Rattle.jn_written.specs.Deeds.{Deed, delivered, worked, blocks_from, sho
 pub use Rattle.jn_written.specs.Refusals.{refusal_of}
 pub use Rattle.jn_written.specs.Events.{servers_of, first_busy, next_event, told_unless, acted, met, resting, deed_of, asking, settling, next_in, printing, coming_up, ending, tasks_of}
 pub use Rattle.jn_written.specs.Steps.{texts_of, done, next_by, is_too_much, come_to, cut_short, made_to, made, outside_texts, own_texts, message_texts, traced, lines_at, most_messages}
-pub use Rattle.jn_written.specs.Kinds.{no_refusal, refused_while, or_else, cause_of, event_after, events_left, none_before, are_in_order, is_answer, is_note, is_of_delivery, is_up, is_down, is_stopped, no_message, are_quiet, may_tell, counts_right, count_right}
+pub use Rattle.jn_written.specs.Kinds.{no_refusal, refused_while, or_else, cause_of, event_after, events_left, none_before, are_in_order, no_message, are_quiet, may_tell, counts_right, count_right, is_answer, is_note, is_of_delivery, is_up, is_stopped}
 pub use Rattle.jn_written.specs.Runs.{Steps, none, more, MayLead, Moment, Leads, MayStep, DoesStep, IsOnCourse}
 pub use Rattle.jn_order.specs.Files.{AllFiles}
 pub use Rattle.jn_base.specs.declared.names.ClientNo.{ClientNo}
 pub use Rattle.jn_base.specs.declared.names.Party.TheVariants.{Client, Server}
 pub use Rattle.jn_rows.specs.Outcomes.{Sent, RowOutcome}
-pub use Rattle.jn_system.specs.WholeSystem.Servers.{Room, server_step, server_row, of_coordinator, lines_of, named_now}
-pub use Rattle.jn_system.specs.WholeSystem.Steps.{Step, NextEvent, IsStep, IsRun, after, run, Tell, Deliver, Work, StopDelivery, StopWork, Crash, StopRestart, Restart, CloseClients, Again, Nudge, Timeout, Narrow, Dismiss, ends, at_memory, handed, work, works, nudge, timeout, crash, narrow, stop_restart, restart, close_clients, commanded, took}
+pub use Rattle.jn_system.specs.WholeSystem.Servers.{Room, server_row, of_coordinator, lines_of, named_now}
+pub use Rattle.jn_system.specs.WholeSystem.Steps.{Step, NextEvent, handing, working, IsStep, IsRun, after, run, Deliver, StopDelivery}
 pub use Rattle.jn_written.specs.Whole.{before, closed_world}
 pub use Rattle.std.proofs.Math.Seq.{drop-append_seam}
 pub use Rattle.jn_base.specs.declared.names.Tid.{Tid}

@@ -1,5 +1,5 @@
 -- Messages have lines only where they are asked for, and each line that counts commits counts those before it.
-use Rattle.jn_written.proofs.Common.{◌≡◌, ℕ, Bool, true, false, List, [], ◌∷◌, ◌++◌, append-nil, append_assoc, length, drop, refl, sym, ◌∙◌, subst, arith, ◌||◌, if◌then◌else◌, list_all, drop-append_seam, list_all-append, When, Text, Line, history_of, Sent, Step, Tell, Deliver, Work, StopDelivery, StopWork, Crash, StopRestart, Restart, CloseClients, go_on, newly_sent, Setup, Chance, Task, Begins, Meets, Acts, Rests, ComesUp, Dismisses, GoesDown, ClosesClients, CountsCommits, State, when_of, begun, Deed, nobody, deed_of, own_texts, texts_of, lines_at, is_too_much, come_to, cut_short, made_to, traced, message_texts, none, more, MayStep, MayLead, is_answer, is_note, is_of_delivery, is_up, is_down, is_stopped, no_message, are_quiet, may_tell, counts_right, count_right}
+use Rattle.jn_written.proofs.Common.{◌≡◌, ℕ, Bool, true, false, List, [], ◌∷◌, ◌++◌, append-nil, append_assoc, length, drop, refl, sym, ◌∙◌, subst, arith, if◌then◌else◌, list_all, drop-append_seam, list_all-append, When, Text, Line, history_of, Sent, Step, go_on, newly_sent, Setup, Chance, Task, Dismisses, CountsCommits, State, when_of, begun, Deed, nobody, deed_of, own_texts, texts_of, lines_at, is_too_much, come_to, cut_short, made_to, traced, message_texts, none, more, MayStep, MayLead, no_message, are_quiet, may_tell, counts_right, count_right, NextEvent}
 use Rattle.jn_report.specs.declared.line.Text.TheVariants as says
 use Rattle.jn_written.proofs.Telling.{both, first, second}
 use Rattle.jn_written.proofs.Ordered.{begun-lines}
@@ -14,45 +14,9 @@ is_of_system (says.Commits n) = false
 is_of_system (says.RefusedEvent refusal) = false
 is_of_system text = true
 
-of-answer : (text : Text) → is_answer text ≡ true → is_of_system text ≡ true
-of-answer text h = grind arith
-
-of-note : (text : Text) → is_note text ≡ true → is_of_system text ≡ true
-of-note text h = grind arith
-
-of-delivery : (text : Text) → is_of_delivery text ≡ true → is_of_system text ≡ true
-of-delivery text h = grind arith
-
-of-stop : (text : Text) → is_stopped text ≡ true → is_of_system text ≡ true
-of-stop text h = grind arith
-
-of-down : (text : Text) → is_down text ≡ true → is_of_system text ≡ true
-of-down text h = grind arith
-
-of-up : (text : Text) → is_up text ≡ true → is_of_system text ≡ true
-of-up text h = grind arith
-
-either : (a b c : Bool) → (a ≡ true → c ≡ true) → (b ≡ true → c ≡ true) → (a || b) ≡ true → c ≡ true
-either true b c h k e = h refl
-either false b c h k e = k e
-
-never : (c : Bool) → false ≡ true → c ≡ true
-never c h = absurd (clash h)
-  where
-    clash : false ≡ true → ⊥
-    clash e = cc
-
 pub of-step : (step : Step) (text : Text) → may_tell step text ≡ true → is_of_system text ≡ true
-of-step (Tell c command) text h = of-answer text h
-of-step (Deliver k room) text h = of-delivery text h
-of-step (Work s room) text h = of-note text h
-of-step (StopDelivery k room made) text h = either (is_of_delivery text) (is_stopped text) (is_of_system text) (of-delivery text) (of-stop text) h
-of-step (StopWork s room made) text h = of-stop text h
-of-step (Crash s) text h = of-down text h
-of-step (StopRestart s raised) text h = of-stop text h
-of-step (Restart s pick works tids) text h = either (is_up text) (is_note text) (is_of_system text) (of-up text) (of-note text) h
-of-step (CloseClients s) text h = of-note text h
-of-step step text h = never (is_of_system text) h
+of-step NextEvent text h = grind arith
+of-step _ text h = grind arith
 
 -- ---- messages
 
@@ -64,14 +28,7 @@ besides = record { file = λ q f. refl; page = λ q f p bytes. refl; locked = λ
 
 task-quiet : (x : Setup) (h : Chance) (task : Task) (s : State) → list_all no_message (deed_of x h task s).texts ≡ true
 task-quiet x h CountsCommits s = refl
-task-quiet x h (Begins e) s = task-texts no_message besides x h (Begins e) s (λ e. cc)
-task-quiet x h (Meets e) s = task-texts no_message besides x h (Meets e) s (λ e. cc)
-task-quiet x h (Acts e) s = task-texts no_message besides x h (Acts e) s (λ e. cc)
-task-quiet x h Rests s = task-texts no_message besides x h Rests s (λ e. cc)
-task-quiet x h (ComesUp q) s = task-texts no_message besides x h (ComesUp q) s (λ e. cc)
-task-quiet x h Dismisses s = task-texts no_message besides x h Dismisses s (λ e. cc)
-task-quiet x h (GoesDown q) s = task-texts no_message besides x h (GoesDown q) s (λ e. cc)
-task-quiet x h (ClosesClients q) s = task-texts no_message besides x h (ClosesClients q) s (λ e. cc)
+task-quiet x h task s = task-texts no_message besides x h task s (λ e. cc)
 
 at-lines : (test : Text → Bool) (w : When) (texts : List Text) → list_all test texts ≡ true → list_all (λ (l : Line). test l.text) (lines_at w texts) ≡ true
 at-lines test w [] h = refl
@@ -176,13 +133,7 @@ module _ (x : Setup) where
       by : (task : Task) → count_right [] (made_to x m.chance (deed_of x m.chance task s) (go_on (deed_of x m.chance task s).steps (begun task s).course) (begun task s)).lines ≡ true
       by CountsCommits = counting-made m.chance s old
       by Dismisses = quiet-made m.chance (deed_of x m.chance Dismisses s) (begun Dismisses s) refl old
-      by (Begins e) = quiet-made m.chance (deed_of x m.chance (Begins e) s) (begun (Begins e) s) refl old
-      by (Meets e) = quiet-made m.chance (deed_of x m.chance (Meets e) s) (begun (Meets e) s) (task-texts no_count none-besides x m.chance (Meets e) s (λ e. cc)) old
-      by (Acts e) = quiet-made m.chance (deed_of x m.chance (Acts e) s) (begun (Acts e) s) (task-texts no_count none-besides x m.chance (Acts e) s (λ e. cc)) old
-      by Rests = quiet-made m.chance (deed_of x m.chance Rests s) (begun Rests s) (task-texts no_count none-besides x m.chance Rests s (λ e. cc)) old
-      by (ComesUp q) = quiet-made m.chance (deed_of x m.chance (ComesUp q) s) (begun (ComesUp q) s) (task-texts no_count none-besides x m.chance (ComesUp q) s (λ e. cc)) old
-      by (GoesDown q) = quiet-made m.chance (deed_of x m.chance (GoesDown q) s) (begun (GoesDown q) s) (task-texts no_count none-besides x m.chance (GoesDown q) s (λ e. cc)) old
-      by (ClosesClients q) = quiet-made m.chance (deed_of x m.chance (ClosesClients q) s) (begun (ClosesClients q) s) refl old
+      by task = quiet-made m.chance (deed_of x m.chance task s) (begun task s) (task-texts no_count none-besides x m.chance task s (λ e. cc)) old
 
   pub count-run : (s t : State) → MayLead x s t → count_right [] s.lines ≡ true → count_right [] t.lines ≡ true
   count-run s t (none u) old = old

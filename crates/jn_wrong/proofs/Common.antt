@@ -7,7 +7,7 @@ pub use Rattle.jn_system.specs.WholeSystem.World.{World, Memory, new_memory, has
 pub use Rattle.std.specs.Prelude.{◌||◌, if◌then◌else◌, nat_lt, nat_eq, map, ◌&&◌, slice_get, not, take, filter}
 pub use Rattle.jn_base.specs.declared.names.Party.{Party}
 pub use Rattle.jn_report.specs.declared.line.Text.{Text}
-pub use Rattle.jn_system.specs.WholeSystem.Steps.{Step, Restart, tid_before, after, run, IsRun, restart, restart_with, NextEvent, Tell, Again, Nudge, Crash, CloseClients, AreNames, commanded, crash, Deliver, Work as Works, Timeout, StopDelivery, StopWork, Narrow, StopRestart, Dismiss, took, ends, at_memory, handed, works, work, nudge, timeout, narrow, stop_restart, close_clients, are_rising, sent_now, stopped, handing, working}
+pub use Rattle.jn_system.specs.WholeSystem.Steps.{Step, Restart, tid_before, after, run, IsRun, restart, restart_with, NextEvent, Tell, Again, Nudge, Crash, CloseClients, AreNames, commanded, crash, Deliver, Work as Works, Timeout, StopDelivery, StopWork, Narrow, StopRestart, Dismiss, took, ends, at_memory, handed, works, work, nudge, timeout, narrow, stop_restart, close_clients, handing, are_rising, working, sent_now, stopped}
 pub use Rattle.jn_system_settling.specs.Settling.Course.{Course, go, go_on, newly_sent, course_to, without_number, still_waiting, numbered}
 pub use Rattle.jn_written.specs.Chances.{Setup, Chance}
 pub use Rattle.jn_written.specs.Tasks.{Task, Begins, Meets, Acts, Rests, ComesUp, Dismisses, GoesDown, ClosesClients, CountsCommits, State, when_of, begun, next_task, Stage, InSchedule, AtEnd, CutShort, next_at, when_at}
@@ -61,7 +61,6 @@ pub use Rattle.jn_wrong.specs.Turns.{epoch_after, may_rise, epochs_rise, is_by, 
 pub use Rattle.jn_base.specs.declared.names.LockUnit.{LockUnit}
 pub use Rattle.jn_system_settling.proofs.Settling.Settling.{on-world}
 pub use Rattle.jn_written.proofs.Texts.{More, gone-on, task-texts, Besides}
-pub use Rattle.jn_system_settling.specs.Settling.Settle.{is_busy as has_going}
 pub use Rattle.jn_wrong.specs.Settles.{HandsOver, ComesToRest}
 pub use Rattle.jn_written.proofs.Ordered.{begun-lines, events-rise}
 pub use Rattle.jn_wrong.specs.Showing.{unit_printed, prints_unit, AreThere, PrintsAll, is_printed, printed_lines, Shows}

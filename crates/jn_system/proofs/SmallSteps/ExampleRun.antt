@@ -1,5 +1,6 @@
 -- The steps of the example may come.
-use Rattle.jn_system.proofs.Common.{◌≡◌, ◌≢◌, inl, inr, ℕ, true, false, List, [], ◌∷◌, ◌++◌, take, Option, Some, None, is_some, refl, sym, ◌∙◌, ap, subst, arith, ServerNo, LockUnit, Tid, WorkId, server_tells, tid_tells, work_tells, or_else, change, and_then, intention_change, list_change, Prepared, FlagState, at_work, at_tid, ready_work, flag_state, is_work, asks, effect_of, HasRead, ReadsFiles, World, Working, new_work, Atom, after, run, MayRun, no_files, File, Block}
+use Rattle.jn_system.proofs.Common.{◌≡◌, ◌≢◌, inl, inr, ℕ, true, false, List, [], ◌∷◌, ◌++◌, take, Option, Some, None, is_some, refl, sym, ◌∙◌, ap, subst, arith, ServerNo, LockUnit, Tid, WorkId, server_tells, tid_tells, work_tells, or_else, change, and_then, intention_change, list_change, Prepared, FlagState, at_work, at_tid, ready_work, flag_state, is_work, asks, effect_of, HasRead, ReadsFiles, World, Working, Atom, after, run, MayRun, no_files, File, Block}
+use Rattle.jn_system.specs.SmallSteps.Steps.{new_work}
 use Rattle.jn_system.specs.SmallSteps.Example.{example_server, example_transaction, example_work, its_answer, its_intention, its_reads, its_working, its_head, its_flag, its_works, example_opening, to_the_vote, to_the_flag, to_the_second_stop, to_the_end, example_atoms}
 use Rattle.jn_system.proofs.SmallSteps.Updates.{not_both, some_is, none_some}
 

@@ -1,6 +1,5 @@
 -- What a server that stops leaves of its works, and what a restart makes of them.
-use Rattle.jn_system.proofs.Common.{◌≡◌, ◌≢◌, ◌⊎◌, ◌≤◌, inl, inr, ℕ, ◌+◌, Bool, true, false, List, [], ◌∷◌, ◌++◌, Option, Some, None, is_some, refl, sym, ◌∙◌, ap, subst, arith, ◌&&◌, ◌||◌, if◌then◌else◌, list_any, list_all, nat_tests, ServerNo, WorkId, Tickets, LockUnit, work_eq, work_tells, Mode, Read, IntentionWrite, Commit, is_unit, work_before, commit_units, HoldsForCommit, HasRead, ReadsFiles, file_unit, Work, Phase, Active, Broken, Stored, StableState, Prepared, WorkerTable, work_at, name_from, holds, restored_work, restored_worker, is_after, is_before, are_rising, AreNames, names_rise, GoTogether, IsSoundWork, IsSoundPrepared, ReadFiles, TableFact, StoredFact, stored_phase}
-use Rattle.jn_rows.specs.declared.worker.PreparedWork.{PreparedWork}
+use Rattle.jn_system.proofs.Common.{◌≡◌, ◌≢◌, ◌⊎◌, ◌≤◌, inl, inr, ℕ, ◌+◌, Bool, true, false, List, [], ◌∷◌, ◌++◌, Option, Some, None, is_some, refl, sym, ◌∙◌, ap, subst, arith, ◌&&◌, ◌||◌, if◌then◌else◌, list_any, list_all, nat_tests, ServerNo, WorkId, Tickets, LockUnit, work_eq, work_tells, Mode, Read, IntentionWrite, Commit, is_unit, work_before, commit_units, HoldsForCommit, HasRead, ReadsFiles, file_unit, Work, Phase, Active, Broken, Stored, StableState, Prepared, WorkerTable, work_at, name_from, holds, restored_work, restored_worker, is_after, is_before, are_rising, AreNames, names_rise, GoTogether, IsSoundWork, IsSoundPrepared, ReadFiles, TableFact, StoredFact, stored_phase, PreparedWork}
 
 some-same : {A : Type 0} → (a b : A) → Some a ≡ Some b → a ≡ b
 some-same a b e = cc

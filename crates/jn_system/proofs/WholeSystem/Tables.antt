@@ -1,6 +1,5 @@
 -- What holds of a table's works and locks holds with one work more, one work less, and where a stable work goes on.
-use Rattle.jn_system.proofs.Common.{◌≡◌, ◌≢◌, ◌⊎◌, inl, inr, ◌+◌, Bool, true, false, [], ◌∷◌, ◌++◌, Option, Some, None, is_some, refl, sym, ◌∙◌, ap, subst, arith, ◌&&◌, if◌then◌else◌, nat_tests, Tid, WorkId, Tickets, LockUnit, work_eq, tid_eq, work_tells, Mode, Read, IntentionWrite, Commit, together, is_unit, work_before, work_before-transitive, HasRead, Work, Phase, Active, Broken, Stored, Prepared, at_work, gone_on, WorkerTable, work_at, work_of, without, name_from, holds, are_rising, is_after, is_before, at-more, rising-more, at-less, rising-less, none-front, found-behind, not-before, work_same, GoTogether, IsSoundWork, IsSoundActive, TableFact}
-use Rattle.jn_rows.specs.Worker.{new_work}
+use Rattle.jn_system.proofs.Common.{◌≡◌, ◌≢◌, ◌⊎◌, inl, inr, ◌+◌, Bool, true, false, [], ◌∷◌, ◌++◌, Option, Some, None, is_some, refl, sym, ◌∙◌, ap, subst, arith, ◌&&◌, if◌then◌else◌, nat_tests, Tid, WorkId, Tickets, LockUnit, work_eq, tid_eq, work_tells, Mode, Read, IntentionWrite, Commit, together, is_unit, work_before, work_before-transitive, HasRead, Work, Phase, Active, Broken, Stored, Prepared, at_work, gone_on, WorkerTable, work_at, work_of, without, name_from, holds, are_rising, is_after, is_before, at-more, rising-more, at-less, rising-less, none-front, found-behind, not-before, work_same, GoTogether, IsSoundWork, IsSoundActive, TableFact, new_work}
 
 -- ---- tickets that go on
 

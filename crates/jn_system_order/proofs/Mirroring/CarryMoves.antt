@@ -1,5 +1,5 @@
 -- What a worker does with a prepared work, as steps of the machine: its next intention is carried out, or it goes.
-use Rattle.jn_system_order.proofs.Common.{◌≡◌, ◌≢◌, ◌⊎◌, inl, inr, ℕ, suc, ◌+◌, Bool, true, false, List, [], ◌∷◌, take, Option, Some, None, is_some, refl, sym, ◌∙◌, ap, subst, arith, if◌then◌else◌, slice_get, All, All-nil, All-cons, ServerNo, Tid, WorkId, LockUnit, Server, server_eq, work_eq, server_tells, work_tells, change, or_else, or_also, Intention, intention_change, list_change, Message, Work, StableState, Prepared, Pick, CarryOut, RemoveWork, is_going, made_by, at_work, stable, RowOutcome, Sent, WorkerTable, work_at, going_work, going_row, carried_row, intentions_of, worker_step, at-less, Machine, Invariant, Atom, Count, Make, NoteOver, always, run, MayRun, MayCount, MayCarryOut, MayRemove, MayBeOver, IsPrepared, Says, take_zero, World, Memory, UpFact, Mirrors, IsTrue, IsAddressed, working_of, next_in, Room, storage_of, going-is, stored-fact}
+use Rattle.jn_system_order.proofs.Common.{◌≡◌, ◌≢◌, ◌⊎◌, inl, inr, ℕ, suc, ◌+◌, Bool, true, false, List, [], ◌∷◌, take, Option, Some, None, is_some, refl, sym, ◌∙◌, ap, subst, arith, if◌then◌else◌, slice_get, All, All-nil, All-cons, ServerNo, Tid, WorkId, LockUnit, Server, server_eq, work_eq, server_tells, work_tells, change, or_else, or_also, Intention, intention_change, list_change, Message, Work, StableState, Prepared, Pick, CarryOut, RemoveWork, is_going, made_by, at_work, stable, RowOutcome, Sent, WorkerTable, work_at, carried_row, intentions_of, worker_step, at-less, Machine, Invariant, Atom, Count, Make, NoteOver, always, run, MayRun, MayCount, MayCarryOut, MayRemove, MayBeOver, IsPrepared, Says, take_zero, World, Memory, UpFact, Mirrors, IsTrue, IsAddressed, working_of, next_in, Room, storage_of, going-is, stored-fact, WorkerStep, carries_out, is_over, erases_rubbish, worker-step-case}
 use Rattle.jn_msgs.specs.declared.message.Message.TheVariants as messages
 use Rattle.jn_rows.specs.Worker.{without}
 use Rattle.jn_system_order.proofs.Mirroring.GrantMoves.{active-here, found-here}
@@ -277,23 +277,10 @@ module _ (r : World) (w : Machine) (s : ServerNo) (m : Memory) (mirrors : Mirror
   carried x (Some p) (Some i) e g h = carry-moves r w s m mirrors is up grow inv x.name p e g i h
   carried x (Some p) None e g h = over-moves r w s m mirrors is up grow inv x.name p e g x.tid h
 
-  going : (o : Option Work) (room : Room) (row : RowOutcome WorkerTable) → going_work (stable (r.found s)) m.worker ≡ o → going_row m.worker (storage_of m (stable (r.found s)) room) m.tickets o ≡ Some row → RowMoves s m row w
-  going (Some x) room row e h = subst (λ (z : RowOutcome WorkerTable). RowMoves s m z w) (some h)
-      (carried x ((stable (r.found s)).works x.name) (slice_get (intentions_of ((stable (r.found s)).works x.name)) (m.next x.name)) refl (going-is (stable (r.found s)) m.worker x e) refl)
-    where
-      some : {a b : RowOutcome WorkerTable} → Some a ≡ Some b → a ≡ b
-      some q = cc
-  going None room row e h = by room.rubbish h
-    where
-      some : {a b : RowOutcome WorkerTable} → Some a ≡ Some b → a ≡ b
-      some q = cc
-
-      by : (b : Bool) → (if b then Some (record { table = m.worker; changes = []; messages = []; notes = []; tickets = m.tickets }) else None) ≡ Some row → RowMoves s m row w
-      by true q = subst (λ (z : RowOutcome WorkerTable). RowMoves s m z w) (some q) (sends-moves r w s m mirrors is up [] [] (All-nil (IsTrue w), All-nil IsAddressed))
-      by false q = absurd (none q)
-        where
-          none : None ≡ Some row → ⊥
-          none z = cc
-
   pub step-move : (room : Room) (row : RowOutcome WorkerTable) → worker_step m.worker (storage_of m (stable (r.found s)) room) m.tickets ≡ Some row → RowMoves s m row w
-  step-move room row h = going (going_work (stable (r.found s)) m.worker) room row refl h
+  step-move room row h = by row (worker-step-case m.worker (storage_of m (stable (r.found s)) room) m.tickets row h)
+    where
+      by : (row : RowOutcome WorkerTable) → WorkerStep m.worker (storage_of m (stable (r.found s)) room) m.tickets row → RowMoves s m row w
+      by _ (carries_out x i e f) = carried x ((stable (r.found s)).works x.name) (Some i) refl (going-is (stable (r.found s)) m.worker x e) f
+      by _ (is_over x e f) = carried x ((stable (r.found s)).works x.name) None refl (going-is (stable (r.found s)) m.worker x e) f
+      by _ (erases_rubbish e g) = sends-moves r w s m mirrors is up [] [] (All-nil (IsTrue w), All-nil IsAddressed)

@@ -1,14 +1,13 @@
 -- What a worker does with a Commit, as steps of the machine: its work goes on, or is over.
-use Rattle.jn_system_order.proofs.Common.{◌≡◌, ◌≢◌, ◌⊎◌, inl, inr, ℕ, Bool, true, false, List, [], ◌∷◌, Option, Some, None, is_some, refl, sym, ◌∙◌, ap, subst, arith, if◌then◌else◌, All-nil, All-cons, ServerNo, Tid, WorkId, Server, server_eq, work_eq, work_tells, Message, Ignored, Work, Phase, Active, Broken, Stored, StableState, Prepared, Pick, MarkGoing, made_by, at_work, stable, is_going, work_at, commit_phase, Machine, PartFact, Atom, NoteOver, Make, always, run, MayRun, MayGoOn, Says, World, Memory, Room, storage_of, UpFact, Mirrors, IsTrue, IsAddressed, working_of, next_in}
+use Rattle.jn_system_order.proofs.Common.{◌≡◌, ◌≢◌, ◌⊎◌, inl, inr, ℕ, Bool, true, false, List, [], ◌∷◌, Option, Some, None, is_some, refl, sym, ◌∙◌, ap, subst, arith, if◌then◌else◌, All-nil, All-cons, ServerNo, Tid, WorkId, Server, server_eq, work_eq, work_tells, Message, StableState, Prepared, Pick, MarkGoing, made_by, at_work, stable, is_going, work_at, Machine, PartFact, Atom, NoteOver, Make, always, run, MayRun, MayGoOn, Says, World, Memory, UpFact, Mirrors, IsTrue, IsAddressed, working_of, next_in}
 use Rattle.jn_msgs.specs.declared.message.Message.TheVariants as messages
-use Rattle.jn_rows.specs.Worker.{commit_row}
 use Rattle.jn_system_order.proofs.Mirroring.GrantMoves.{active-here, found-here, found-same}
 use Rattle.jn_system_order.proofs.Mirroring.Mirrored.{some_made, made-one, DoesStop}
-use Rattle.jn_system_order.proofs.Mirroring.QuietMoves.{RowMoves, still-stops, sends-moves}
+use Rattle.jn_system_order.proofs.Mirroring.QuietMoves.{RowMoves, still-stops}
 
 module _ (r : World) (w : Machine) (s : ServerNo) (m : Memory) (mirrors : Mirrors r w) (is : r.memory s ≡ Some m) (up : UpFact s m (r.found s))
     (grow : (atoms : List Atom) → MayRun atoms w → (message : Message) → Says w message → Says (run atoms w) message) (parts : PartFact w)
-    (room : Room) (T : Tid) (W : WorkId) (said : Says w (messages.Commit T W)) (at : W.server ≡ s) where
+    (T : Tid) (W : WorkId) (said : Says w (messages.Commit T W)) (at : W.server ≡ s) where
   next-here : (V : WorkId) → V.server ≡ s → w.next V ≡ m.next V
   next-here V e = mirrors.next V ∙ ap (λ (q : ServerNo). next_in (r.memory q) V) e ∙ ap (λ o. next_in o V) is
 
@@ -39,7 +38,7 @@ module _ (r : World) (w : Machine) (s : ServerNo) (m : Memory) (mirrors : Mirror
     over-now (inl e) = ap (λ (b : Bool). if b then true else w.over W) e.0
     over-now (inr e) = absurd (e.1 refl)
 
-    over-moves : RowMoves s m (record { table = m.worker; changes = []; messages = (Server T.server, messages.Done T W) ∷ []; notes = []; tickets = m.tickets }) w
+    pub over-moves : RowMoves s m (record { table = m.worker; changes = []; messages = (Server T.server, messages.Done T W) ∷ []; notes = []; tickets = m.tickets }) w
     over-moves = record {
       atoms = NoteOver W ∷ [];
       may = may-over;
@@ -89,7 +88,7 @@ module _ (r : World) (w : Machine) (s : ServerNo) (m : Memory) (mirrors : Mirror
       grows = λ message h. grow (Make (λ p. some_made (made p)) (MarkGoing W) ∷ []) (may-mark (λ p. some_made (made p))) message h;
     }
 
-    mark-moves : RowMoves s m (record { table = m.worker; changes = MarkGoing W ∷ []; messages = []; notes = []; tickets = m.tickets }) w
+    pub mark-moves : RowMoves s m (record { table = m.worker; changes = MarkGoing W ∷ []; messages = []; notes = []; tickets = m.tickets }) w
     mark-moves = record {
       atoms = Make always (MarkGoing W) ∷ [];
       may = may-mark always;
@@ -112,17 +111,3 @@ module _ (r : World) (w : Machine) (s : ServerNo) (m : Memory) (mirrors : Mirror
       };
       stops = λ made. record { atoms = Make (λ p. some_made (made p)) (MarkGoing W) ∷ []; may = may-mark (λ p. some_made (made p)); does = mark-stops made };
     }
-
-  by-going : (b : Bool) → is_going ((stable (r.found s)).works W) ≡ b
-      → RowMoves s m (if b then record { table = m.worker; changes = []; messages = []; notes = Ignored ∷ []; tickets = m.tickets } else record { table = m.worker; changes = MarkGoing W ∷ []; messages = []; notes = []; tickets = m.tickets }) w
-  by-going true e = sends-moves r w s m mirrors is up [] (Ignored ∷ []) (All-nil (IsTrue w), All-nil IsAddressed)
-  by-going false e = mark-moves e
-
-  by-stage : (p : Phase) → RowMoves s m (commit_phase m.worker (storage_of m (stable (r.found s)) room) m.tickets W p) w
-  by-stage (Active a) = sends-moves r w s m mirrors is up [] (Ignored ∷ []) (All-nil (IsTrue w), All-nil IsAddressed)
-  by-stage (Broken u by) = sends-moves r w s m mirrors is up [] (Ignored ∷ []) (All-nil (IsTrue w), All-nil IsAddressed)
-  by-stage (Stored p) = by-going (is_going ((stable (r.found s)).works W)) refl
-
-  pub commits-move : (o : Option Work) → work_at W m.worker ≡ o → RowMoves s m (commit_row m.worker (storage_of m (stable (r.found s)) room) m.tickets T W o) w
-  commits-move (Some x) h = by-stage x.phase
-  commits-move None h = over-moves h

@@ -1,14 +1,14 @@
 -- What a worker does with a Drop, as steps of the machine: its work goes from memory, or from the stable state.
-use Rattle.jn_system_order.proofs.Common.{◌≡◌, ◌≢◌, ◌⊎◌, inl, inr, Bool, true, false, List, [], ◌∷◌, Option, Some, None, refl, sym, ◌∙◌, ap, subst, if◌then◌else◌, All-nil, ServerNo, Tid, WorkId, work_eq, work_tells, Message, Ignored, Work, Phase, Active, Broken, Stored, Prepared, Pick, RemoveWork, at_work, stable, is_going, work_at, drop_phase, drop_row, at-less, Machine, IsPrepared, Invariant, Atom, Count, Make, NoteOver, Lose, always, run, MayRun, MayRemove, Says, not_both, World, Memory, Room, storage_of, UpFact, IsSoundWork, Mirrors, IsTrue, IsAddressed, working_of, next_in}
+use Rattle.jn_system_order.proofs.Common.{◌≡◌, ◌≢◌, ◌⊎◌, inl, inr, Bool, true, false, List, [], ◌∷◌, Some, None, refl, sym, ◌∙◌, ap, subst, if◌then◌else◌, All-nil, ServerNo, Tid, WorkId, work_eq, work_tells, Message, Work, Prepared, Pick, RemoveWork, at_work, stable, work_at, at-less, Machine, IsPrepared, Invariant, Atom, Count, Make, NoteOver, Lose, always, run, MayRun, MayRemove, Says, not_both, World, Memory, UpFact, Mirrors, IsTrue, IsAddressed, working_of, next_in}
 use Rattle.jn_msgs.specs.declared.message.Message.TheVariants as messages
 use Rattle.jn_rows.specs.Worker.{without}
 use Rattle.jn_system_order.proofs.Mirroring.GrantMoves.{active-here, found-same}
-use Rattle.jn_system_order.proofs.Mirroring.QuietMoves.{RowMoves, still-stops, sends-moves}
+use Rattle.jn_system_order.proofs.Mirroring.QuietMoves.{RowMoves, still-stops}
 use Rattle.jn_system_order.proofs.Mirroring.CarryMoves.{prepared, remove-moves}
 
 module _ (r : World) (w : Machine) (s : ServerNo) (m : Memory) (mirrors : Mirrors r w) (is : r.memory s ≡ Some m) (up : UpFact s m (r.found s))
     (grow : (atoms : List Atom) → MayRun atoms w → (message : Message) → Says w message → Says (run atoms w) message) (inv : Invariant w)
-    (room : Room) (T : Tid) (W : WorkId) (said : Says w (messages.Drop T W)) (at : W.server ≡ s) where
+    (T : Tid) (W : WorkId) (said : Says w (messages.Drop T W)) (at : W.server ≡ s) where
   -- ---- a work in memory alone
 
   may-lose : MayRun (Lose W ∷ []) w
@@ -32,7 +32,7 @@ module _ (r : World) (w : Machine) (s : ServerNo) (m : Memory) (mirrors : Mirror
       no q = cc
   owner-left V v false h = mirrors.owner s m V v is h
 
-  lose-moves : RowMoves s m (record { table = without W m.worker; changes = []; messages = []; notes = []; tickets = m.tickets }) w
+  pub lose-moves : RowMoves s m (record { table = without W m.worker; changes = []; messages = []; notes = []; tickets = m.tickets }) w
   lose-moves = record {
     atoms = Lose W ∷ [];
     may = may-lose;
@@ -76,17 +76,5 @@ module _ (r : World) (w : Machine) (s : ServerNo) (m : Memory) (mirrors : Mirror
       done = λ q e n u v h. absurd (not_both (w.named (w.owner W)) n (inv.core.aborted (w.owner W) aborted).not_named);
     }
 
-  by-going : (p : Prepared) (b : Bool) → (stable (r.found s)).works W ≡ Some p
-      → RowMoves s m (if b then record { table = m.worker; changes = []; messages = []; notes = Ignored ∷ []; tickets = m.tickets }
-      else record { table = without W m.worker; changes = RemoveWork W ∷ []; messages = []; notes = []; tickets = m.tickets }) w
-  by-going p true stored = sends-moves r w s m mirrors is up [] (Ignored ∷ []) (All-nil (IsTrue w), All-nil IsAddressed)
-  by-going p false stored = remove-moves r w s m mirrors is up grow inv W p stored (may-remove p stored) [] (All-nil (IsTrue (run (Count W 0 ∷ Make always (RemoveWork W) ∷ NoteOver W ∷ []) w))) (All-nil IsAddressed)
-
-  by-stage : (x : Work) (p : Phase) → IsSoundWork ((stable (r.found s)).works W) x.tid p → RowMoves s m (drop_phase m.worker (storage_of m (stable (r.found s)) room) m.tickets W p) w
-  by-stage x (Active a) sound = lose-moves
-  by-stage x (Broken u by) sound = lose-moves
-  by-stage x (Stored p) sound = by-going sound.work (is_going ((stable (r.found s)).works W)) sound.is
-
-  pub drops-move : (o : Option Work) → work_at W m.worker ≡ o → RowMoves s m (drop_row m.worker (storage_of m (stable (r.found s)) room) m.tickets W o) w
-  drops-move (Some x) h = by-stage x x.phase (up.table.sound W x h)
-  drops-move None h = sends-moves r w s m mirrors is up [] (Ignored ∷ []) (All-nil (IsTrue w), All-nil IsAddressed)
+  pub drop-moves : (p : Prepared) → (stable (r.found s)).works W ≡ Some p → RowMoves s m (record { table = without W m.worker; changes = RemoveWork W ∷ []; messages = []; notes = []; tickets = m.tickets }) w
+  drop-moves p stored = remove-moves r w s m mirrors is up grow inv W p stored (may-remove p stored) [] (All-nil (IsTrue (run (Count W 0 ∷ Make always (RemoveWork W) ∷ NoteOver W ∷ []) w))) (All-nil IsAddressed)

@@ -1,5 +1,5 @@
 -- Where the machine's steps do what a row does, the machine stands again where the whole system does.
-use Rattle.jn_system_order.proofs.Common.{◌≡◌, ◌≢◌, ◌⊎◌, inl, inr, ℕ, zero, suc, Bool, true, false, List, [], ◌∷◌, ◌++◌, append-nil, Option, Some, None, is_some, refl, sym, ◌∙◌, ap, subst, if◌then◌else◌, take, All, All-append, ServerNo, Tid, WorkId, server_eq, server_tells, Message, Inquire, Note, Text, Transaction, Stage, Open, Voting, Committed, Aborted, transaction_at, Work, OpenWork, Outstanding, ClientTable, StableState, Change, Pick, made_by, made_all, next_after, RowOutcome, Sent, WorkerTable, work_at, Machine, Unknown, AreParts, Says, World, Memory, at_server, commits_in, committed_in, of_worker, line_of, lines_of, done, stopped, Mirrors, IsTrue, IsAddressed, AreOpen, IsCurrent, IsOutstanding, IsClient, IsStage, IsTransaction, AreTransactions, commits_of, working_of, active_in, next_in, knowledge_of, known_in, crash}
+use Rattle.jn_system_order.proofs.Common.{◌≡◌, ◌≢◌, ◌⊎◌, inl, inr, ℕ, zero, suc, Bool, true, false, List, [], ◌∷◌, ◌++◌, append-nil, Option, Some, None, is_some, refl, sym, ◌∙◌, ap, subst, if◌then◌else◌, take, All, All-append, ServerNo, Tid, WorkId, server_eq, server_tells, Message, Inquire, Note, Text, Transaction, Stage, Open, Voting, Committed, Aborted, transaction_at, Work, OpenWork, Outstanding, ClientTable, StableState, Change, Pick, made_by, made_all, next_after, RowOutcome, Sent, WorkerTable, work_at, Machine, Unknown, AreParts, Says, World, Memory, at_server, commits_in, committed_in, of_worker, line_of, lines_of, done, stopped, Mirrors, IsTrue, IsAddressed, AreOpen, IsCurrent, IsOutstanding, IsClient, IsStage, IsTransaction, AreTransactions, commits_of, working_of, active_in, next_in, knowledge_of, known_in, crash, some-memory, none-memory}
 use Rattle.jn_msgs.specs.declared.message.Message.TheVariants as messages
 use Rattle.jn_msgs.specs.declared.message.Outcome.TheVariants as outcomes
 use Rattle.jn_msgs.specs.declared.message.Note.TheVariants as notes
@@ -140,11 +140,8 @@ module _ (r : World) (w v : Machine) (s : ServerNo) (m : Memory) (row : RowOutco
   is-next W (inl p) = does.next_here W (sym p.1) ∙ sym (ap (λ o. next_in o W) (memory-here W.server p.0))
   is-next W (inr p) = does.next_elsewhere W p.1 ∙ mirrors.next W ∙ sym (ap (λ o. next_in o W) (memory-there W.server p.0))
 
-  some : (a b : Memory) → Some a ≡ Some b → a ≡ b
-  some a b e = cc
-
   is-ticket : (q : ServerNo) (n : Memory) → Tells q → at_server r.memory s (Some row.table) q ≡ Some n → v.ticket q ≡ n.tickets.next
-  is-ticket q n (inl p) e = subst (λ (z : ServerNo). v.ticket z ≡ n.tickets.next) p.1 (does.ticket_here ∙ ap (λ (x : Memory). x.tickets.next) (some row.table n (sym (memory-here q p.0) ∙ e)))
+  is-ticket q n (inl p) e = subst (λ (z : ServerNo). v.ticket z ≡ n.tickets.next) p.1 (does.ticket_here ∙ ap (λ (x : Memory). x.tickets.next) (some-memory row.table n (sym (memory-here q p.0) ∙ e)))
   is-ticket q n (inr p) e = does.ticket_elsewhere q p.1 ∙ mirrors.ticket q n (sym (memory-there q p.0) ∙ e)
 
   is-known : (T : Tid) → Tells T.server → v.knowledge T ≡ known_in (at_server r.memory s (Some row.table) T.server) T
@@ -153,11 +150,11 @@ module _ (r : World) (w v : Machine) (s : ServerNo) (m : Memory) (row : RowOutco
 
   has-transactions : (q : ServerNo) (n : Memory) → Tells q → at_server r.memory s (Some row.table) q ≡ Some n → AreTransactions v q n.coordinator.transactions
   has-transactions q n (inl p) e = subst (λ (z : ServerNo). AreTransactions v z n.coordinator.transactions) p.1
-      (subst (λ (z : Memory). AreTransactions v s z.coordinator.transactions) (some row.table n (sym (memory-here q p.0) ∙ e)) does.transactions)
+      (subst (λ (z : Memory). AreTransactions v s z.coordinator.transactions) (some-memory row.table n (sym (memory-here q p.0) ∙ e)) does.transactions)
   has-transactions q n (inr p) e = transactions-still w v does.grows q n.coordinator.transactions (mirrors.transactions q n (sym (memory-there q p.0) ∙ e))
 
   is-owner : (q : ServerNo) (n : Memory) (W : WorkId) (x : Work) → Tells q → at_server r.memory s (Some row.table) q ≡ Some n → work_at W n.worker ≡ Some x → Says v (Inquire x.tid W)
-  is-owner q n W x (inl p) e h = does.owner W x (subst (λ (z : Memory). work_at W z.worker ≡ Some x) (sym (some row.table n (sym (memory-here q p.0) ∙ e))) h)
+  is-owner q n W x (inl p) e h = does.owner W x (subst (λ (z : Memory). work_at W z.worker ≡ Some x) (sym (some-memory row.table n (sym (memory-here q p.0) ∙ e))) h)
   is-owner q n W x (inr p) e h = does.grows (Inquire x.tid W) (mirrors.owner q n W x (sym (memory-there q p.0) ∙ e) h)
 
   pub mirrored : Mirrors (done s k row r) v
@@ -268,19 +265,16 @@ module _ (r : World) (w v : Machine) (s : ServerNo) (row : RowOutcome Memory) (m
   gone-known T (inl p) = ap (λ (b : Bool). if b then Unknown else v.knowledge T) p.0 ∙ sym (ap (λ (b : Bool). known_in (if b then None else r.memory T.server) T) p.0)
   gone-known T (inr p) = ap (λ (b : Bool). if b then Unknown else v.knowledge T) p.0 ∙ does.knowledge T p.1 ∙ mirrors.knowledge T ∙ sym (ap (λ (b : Bool). known_in (if b then None else r.memory T.server) T) p.0)
 
-  nothing : (n : Memory) → None ≡ Some n → ⊥
-  nothing n e = cc
-
   gone-ticket : (q : ServerNo) (n : Memory) → Either q → at_server r.memory s None q ≡ Some n → v.ticket q ≡ n.tickets.next
-  gone-ticket q n (inl p) e = absurd (nothing n (subst (λ (b : Bool). (if b then None else r.memory q) ≡ Some n) p.0 e))
+  gone-ticket q n (inl p) e = absurd (none-memory n (subst (λ (b : Bool). (if b then None else r.memory q) ≡ Some n) p.0 e))
   gone-ticket q n (inr p) e = does.ticket q p.1 ∙ mirrors.ticket q n (subst (λ (b : Bool). (if b then None else r.memory q) ≡ Some n) p.0 e)
 
   gone-owner : (q : ServerNo) (n : Memory) (W : WorkId) (x : Work) → Either q → at_server r.memory s None q ≡ Some n → work_at W n.worker ≡ Some x → Says (crash s v) (Inquire x.tid W)
-  gone-owner q n W x (inl p) e h = absurd (nothing n (subst (λ (b : Bool). (if b then None else r.memory q) ≡ Some n) p.0 e))
+  gone-owner q n W x (inl p) e h = absurd (none-memory n (subst (λ (b : Bool). (if b then None else r.memory q) ≡ Some n) p.0 e))
   gone-owner q n W x (inr p) e h = grow (Inquire x.tid W) (does.grows (Inquire x.tid W) (mirrors.owner q n W x (subst (λ (b : Bool). (if b then None else r.memory q) ≡ Some n) p.0 e) h))
 
   gone-transactions : (q : ServerNo) (n : Memory) → Either q → at_server r.memory s None q ≡ Some n → AreTransactions (crash s v) q n.coordinator.transactions
-  gone-transactions q n (inl p) e = absurd (nothing n (subst (λ (b : Bool). (if b then None else r.memory q) ≡ Some n) p.0 e))
+  gone-transactions q n (inl p) e = absurd (none-memory n (subst (λ (b : Bool). (if b then None else r.memory q) ≡ Some n) p.0 e))
   gone-transactions q n (inr p) e = transactions-still w (crash s v) (λ message h. grow message (does.grows message h)) q n.coordinator.transactions (mirrors.transactions q n (subst (λ (b : Bool). (if b then None else r.memory q) ≡ Some n) p.0 e))
 
   gone-found : (q : ServerNo) (c : Pick) (b : Bool) → (if b then made_all (take (made c) row.changes) (w.found s c) else w.found q c) ≡ (if b then made_all (take (made c) row.changes) (r.found s c) else r.found q c)

@@ -1,5 +1,5 @@
 -- Steps of the whole system as steps of the machine.
-use Rattle.jn_system_order.proofs.Common.{◌≡◌, ◌⊎◌, ◌<◌, ◌≤◌, inl, inr, Bool, true, List, [], ◌∷◌, ◌++◌, Option, Some, None, is_some, refl, sym, ◌∙◌, ap, subst, arith, ◌||◌, if◌then◌else◌, slice_get, All, get_or, list_any, All-get_or, All-nil, ServerNo, Tid, Client, Server, server_eq, tid_eq, AllFiles, Message, Work, Phase, Active, Broken, Stored, Outstanding, StableState, Pick, stable, RowOutcome, Sent, transaction_at, over, worker_row, worker_step, WorkerTable, work_at, work_of, timed_out, vulnerable, Text, Machine, PartFact, Atom, Crashes, Narrows, RaiseEpoch, with_epoch, run, opening_world, MayRun, Says, run_kept, opening_kept, Invariant, run_told, opening_told, still_true, grows, says_still, World, Memory, at_server, opening, new_memory, commits_in, storage_of, of_step, Room, of_worker, server_row, of_timeout, works, Step, done, stopped, IsStep, LockFacts, ServerFact, UpFact, Mirrors, AreTransactions, IsClient, commits_of, MovesTo, IsTrue, IsAddressed, is_shown, active_in, next_in, known_in, working_in, of-found, append-nil, fun_ext, one-found, ServerRow, of_message, of_work, of_closing, FoundThen, by_narrowing, by_raising, Quiet, event_begins, none_changes, is_refused, client_repeats, server_repeats, is_lost, StepCase, client_row, row_done, row_stopped, gone_late, gone_down, come_up, found_anew, dismissed, quietly, step-case}
+use Rattle.jn_system_order.proofs.Common.{◌≡◌, ◌⊎◌, ◌<◌, ◌≤◌, inl, inr, Bool, true, List, [], ◌∷◌, ◌++◌, Option, Some, None, is_some, refl, sym, ◌∙◌, ap, subst, arith, ◌||◌, if◌then◌else◌, slice_get, All, get_or, list_any, All-get_or, All-nil, ServerNo, Tid, Client, Server, server_eq, tid_eq, AllFiles, Message, Work, Phase, Active, Broken, Stored, Outstanding, StableState, Pick, stable, RowOutcome, Sent, transaction_at, over, worker_row, WorkerTable, work_at, work_of, timed_out, vulnerable, Text, Machine, PartFact, Atom, Crashes, Narrows, RaiseEpoch, with_epoch, run, opening_world, MayRun, Says, run_kept, opening_kept, Invariant, run_told, opening_told, still_true, grows, says_still, World, Memory, at_server, opening, new_memory, commits_in, storage_of, Room, of_worker, server_row, of_timeout, works, Step, done, stopped, IsStep, LockFacts, ServerFact, UpFact, Mirrors, AreTransactions, IsClient, commits_of, MovesTo, IsTrue, IsAddressed, is_shown, active_in, next_in, known_in, working_in, of-found, append-nil, fun_ext, one-found, ServerRow, of_message, of_work, of_closing, FoundThen, by_narrowing, by_raising, Quiet, event_begins, none_changes, is_refused, client_repeats, server_repeats, is_lost, StepCase, client_row, row_done, row_stopped, gone_late, gone_down, come_up, found_anew, dismissed, quietly, step-case, some-memory, row-of-step}
 use Rattle.std.proofs.Common.{ℕ, length}
 use Rattle.std.proofs.lemmas.Option.{slice_get_cases}
 use Rattle.jn_msgs.specs.declared.message.Message.TheVariants as messages
@@ -12,15 +12,13 @@ use Rattle.jn_system_order.proofs.Mirroring.WorkerNotes.{worker-none, step-none}
 use Rattle.jn_system_order.proofs.Mirroring.QuietMoves.{sends-moves, RowMoves, ServerMoves, ServerStops, worker-moves, phase-moves}
 use Rattle.jn_system_order.proofs.Mirroring.Losing.{run-append, may-append}
 use Rattle.jn_system_order.proofs.Mirroring.CarryMoves.{step-move}
-use Rattle.jn_system_order.proofs.Mirroring.CommitMoves.{commits-move}
-use Rattle.jn_system_order.proofs.Mirroring.DropMoves.{drops-move}
 use Rattle.jn_system_order.proofs.Mirroring.CoordinatorMoves.{ignores, inquires-move, vote-row-moves, done-row-moves, thanks-row-moves, end-row-moves, abort-row-moves}
 use Rattle.jn_system_order.proofs.Mirroring.ClosingMoves.{close-moves}
 use Rattle.jn_system_order.proofs.Mirroring.BeginMoves.{begin-moves}
 use Rattle.jn_system_order.proofs.Mirroring.ClientMoves.{quiet-line, stays-with, line-moves, again-moves, row-moves}
 use Rattle.jn_system_order.proofs.Mirroring.NudgeMoves.{nudged}
 use Rattle.jn_system_order.proofs.Mirroring.RestartMoves.{restart-moves}
-use Rattle.jn_system_order.proofs.Mirroring.WorkerMoves.{opens, ops-move, prepares-move}
+use Rattle.jn_system_order.proofs.Mirroring.WorkerMoves.{worker-row-moves}
 
 -- what holds of every message that was sent
 pub holds-of : (P : Sent → Type 0) (sent : List Sent) (k : ℕ) (x : Sent) → All P sent → slice_get sent k ≡ Some x → P x
@@ -99,15 +97,15 @@ module _ (w : Machine) (grow : (atoms : List Atom) → MayRun atoms w → (messa
     up = subst (λ o. ServerFact s o (r.found s)) is (locks s)
 
     module _ (room : Room) where
-      by-worker : (message : Message) → RowMoves s m (worker_row m.worker (storage_of m (stable (r.found s)) room) m.tickets message) w → ServerMoves s (of_worker m (worker_row m.worker (storage_of m (stable (r.found s)) room) m.tickets message)) w
-      by-worker message moves = worker-moves r w s m _ h is (worker-none m.worker (storage_of m (stable (r.found s)) room) m.tickets message) moves
+      by-worker : (message : Message) → Says w message → IsAddressed (Server s, message) → ServerMoves s (of_worker m (worker_row m.worker (storage_of m (stable (r.found s)) room) m.tickets message)) w
+      by-worker message said to = worker-moves r w s m _ h is (worker-none m.worker (storage_of m (stable (r.found s)) room) m.tickets message) (worker-row-moves r w s m h is up grow parts inv room message said to)
 
       delivered : (message : Message) → Says w message → IsAddressed (Server s, message) → ServerMoves s (server_row m (stable (r.found s)) room message) w
-      delivered (messages.Open c request T) said to = by-worker (messages.Open c request T) (opens r w s m h is up grow parts c request T (work_of T m.worker) refl said)
-      delivered (messages.Op c request W number op) said to = by-worker (messages.Op c request W number op) (ops-move r w s m h is up grow parts c request W number op (work_at W m.worker) refl)
-      delivered (messages.Prepare T c W) said to = by-worker (messages.Prepare T c W) (prepares-move r w s m h is up grow parts room T c W (work_at W m.worker) refl said)
-      delivered (messages.Commit T W) said to = by-worker (messages.Commit T W) (commits-move r w s m h is up grow parts room T W said to (work_at W m.worker) refl)
-      delivered (messages.Drop T W) said to = by-worker (messages.Drop T W) (drops-move r w s m h is up grow inv room T W said to (work_at W m.worker) refl)
+      delivered (messages.Open c request T) said to = by-worker (messages.Open c request T) said to
+      delivered (messages.Op c request W number op) said to = by-worker (messages.Op c request W number op) said to
+      delivered (messages.Prepare T c W) said to = by-worker (messages.Prepare T c W) said to
+      delivered (messages.Commit T W) said to = by-worker (messages.Commit T W) said to
+      delivered (messages.Drop T W) said to = by-worker (messages.Drop T W) said to
       delivered (messages.Begin c request) said to = begin-moves r w s m h is up grow inv c request
       delivered (messages.End c request T works) said to = end-row-moves r w s m h is up grow inv room.free.records c request T works (transaction_at T m.coordinator.transactions) refl said to
       delivered (messages.Abort c request T works) said to = abort-row-moves r w s m h is up grow inv c request T works (transaction_at T m.coordinator.transactions) refl said to
@@ -117,17 +115,10 @@ module _ (w : Machine) (grow : (atoms : List Atom) → MayRun atoms w → (messa
       delivered (messages.Inquire T W) said to = inquires-move r w s m h is up grow inv T W (transaction_at T m.coordinator.transactions) refl said to
       delivered _ said to = ignores r w s m h is up grow inv
 
-      works-on : (row : RowOutcome Memory) (o : Option (RowOutcome WorkerTable)) → worker_step m.worker (storage_of m (stable (r.found s)) room) m.tickets ≡ o → of_step m o ≡ Some row → ServerMoves s row w
-      works-on row None e q = absurd (grind arith)
-      works-on row (Some x) e q = subst (λ (z : RowOutcome Memory). ServerMoves s z w) (some (of_worker m x) row q)
-          (worker-moves r w s m x h is (step-none m.worker (storage_of m (stable (r.found s)) room) m.tickets x e) (step-move r w s m h is up grow inv room x e))
-        where
-          some : (a b : RowOutcome Memory) → Some a ≡ Some b → a ≡ b
-          some a b f = cc
-
     server-moves : (stop : Option (Pick → ℕ)) (step : Step) (k : Option ℕ) (row : RowOutcome Memory) → ServerRow r s m stop step k row → ServerMoves s row w
     server-moves _ _ _ _ (of_message stop k room message e) = delivered room message (holds-of (IsTrue w) r.sent k (Server s, message) h.says e) (holds-of IsAddressed r.sent k (Server s, message) h.addressed e)
-    server-moves _ _ _ _ (of_work stop room row e) = works-on room row (worker_step m.worker (storage_of m (stable (r.found s)) room) m.tickets) refl e
+    server-moves _ _ _ _ (of_work stop room row e) = row-of-step (λ z. ServerMoves s z w) m (stable (r.found s)) room row e
+        (λ x i. worker-moves r w s m x h is (step-none m.worker (storage_of m (stable (r.found s)) room) m.tickets x i) (step-move r w s m h is up grow inv room x i))
     server-moves _ _ _ _ of_closing = close-moves r w s m h is up grow inv
 
     -- ---- a row that changes the worker's table at most
@@ -230,19 +221,16 @@ opening-mirrors servers files epochs = record {
   found = λ s c. refl;
   active = λ W. refl;
   next = λ W. refl;
-  ticket = λ s m e. ap (λ (x : Memory). x.tickets.next) (same (new_memory s (epochs s)) m e);
+  ticket = λ s m e. ap (λ (x : Memory). x.tickets.next) (some-memory (new_memory s (epochs s)) m e);
   knowledge = λ T. refl;
-  owner = λ s m W v e h. absurd (none v (subst (λ (x : Memory). work_at W x.worker ≡ Some v) (sym (same (new_memory s (epochs s)) m e)) h));
-  transactions = λ s m e. subst (λ (x : Memory). AreTransactions (opening_world files epochs) s x.coordinator.transactions) (same (new_memory s (epochs s)) m e) tt;
+  owner = λ s m W v e h. absurd (none v (subst (λ (x : Memory). work_at W x.worker ≡ Some v) (sym (some-memory (new_memory s (epochs s)) m e)) h));
+  transactions = λ s m e. subst (λ (x : Memory). AreTransactions (opening_world files epochs) s x.coordinator.transactions) (some-memory (new_memory s (epochs s)) m e) tt;
   clients = λ c. record { current = tt; waits = tt; opening = λ o s e f. absurd (none-out o e) };
   commits = refl;
   says = All-nil (IsTrue (opening_world files epochs));
   addressed = All-nil IsAddressed;
 }
   where
-    same : (a b : Memory) → Some a ≡ Some b → a ≡ b
-    same a b e = cc
-
     none : (v : Work) → None ≡ Some v → ⊥
     none v e = cc
 

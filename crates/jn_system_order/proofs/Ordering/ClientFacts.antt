@@ -1,5 +1,5 @@
 -- A client's steps keep what holds of the openings and of its requests.
-use Rattle.jn_system_order.proofs.Common.{◌≡◌, ◌≢◌, ◌⊎◌, inl, inr, ◌<◌, ℕ, ◌+◌, Bool, true, false, List, [], ◌∷◌, Option, Some, None, refl, sym, ◌∙◌, ap, subst, arith, ◌&&◌, if◌then◌else◌, nat_lt, All, nat_tests, All-nil, All-cons, ServerNo, ClientNo, Tid, WorkId, Party, Client, Command, client_eq, client_tells, Message, Outcome, Text, OpenWork, Outstanding, Taken, Sent, ClientTable, Commanded, Refuses, Sends, with_operation, if_server, if_idle, if_transaction, if_no_transaction, if_open, if_not_open, command_row, is_begin, is_operation, is_end_or_abort, opens, is_current, if_waits, idle, over, begun_row, opened_row, decided_row, outcome_row, take_row, sends, not_both, false_unless, request_eq, request_of, RequestNo}
+use Rattle.jn_system_order.proofs.Common.{◌≡◌, inl, ◌<◌, ℕ, ◌+◌, Bool, true, false, List, [], ◌∷◌, Option, Some, None, refl, sym, ◌∙◌, ap, subst, arith, ◌&&◌, if◌then◌else◌, nat_lt, All, nat_tests, All-nil, All-cons, ServerNo, ClientNo, Tid, WorkId, Party, Client, Command, client_eq, client_tells, Message, Outcome, Text, OpenWork, Outstanding, Taken, Sent, ClientTable, Commanded, Refuses, Sends, with_operation, if_server, if_idle, if_transaction, if_no_transaction, if_open, if_not_open, command_row, is_begin, is_operation, is_end_or_abort, opens, is_current, if_waits, idle, over, begun_row, opened_row, decided_row, outcome_row, take_row, sends, false_unless, request_eq, request_of, RequestNo}
 use Rattle.jn_base.specs.declared.op.Command.TheVariants.{Begin, Open, Do, End, Abort}
 use Rattle.jn_msgs.specs.declared.message.Message.TheVariants as messages
 use Rattle.jn_msgs.specs.declared.message.Outcome.TheVariants as outcomes
@@ -159,11 +159,7 @@ module _ (os : List Opening) (ended : Tid → Bool) (c : ClientNo) (t : ClientTa
   open-open (Some W) Abort e = absurd (grind arith)
 
   same-client : (d : ClientNo) → client_eq d t.client ≡ true → d ≡ c
-  same-client d e = by (client_tells d t.client)
-    where
-      by : ((client_eq d t.client ≡ true) × (d ≡ t.client)) ⊎ ((client_eq d t.client ≡ false) × (d ≢ t.client)) → d ≡ c
-      by (inl p) = p.1 ∙ h.name
-      by (inr p) = absurd (not_both (client_eq d t.client) e p.0)
+  same-client d e = let is = h.name in grind (arith, client_tells d t.client, e, is)
 
   same-number : (a b : RequestNo) → request_eq a b ≡ true → a ≡ b
   same-number a b e = grind (arith, nat_tests)

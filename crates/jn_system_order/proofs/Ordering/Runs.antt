@@ -1,5 +1,5 @@
 -- Each run of the whole system is a run of the machine, and so its commits are in order.
-use Rattle.jn_system_order.proofs.Common.{Text, restored, ◌≡◌, inl, ℕ, true, false, List, [], ◌∷◌, ◌++◌, Some, None, refl, sym, ◌∙◌, ap, subst, arith, list_any, ServerNo, LockUnit, Tid, tid_eq, AllFiles, Message, Outstanding, Pick, stable, Sent, Machine, replay, Invariant, Atom, run_atoms, opening_world, MayRun, Says, run_kept, opening_kept, run_grows, says_still, in_order, run_told, opening_told, World, Memory, opening, new_memory, Step, Tell, IsStep, IsRun, LockFacts, ServerFact, Mirrors, is_shown, locks-keep, opening-keeps, IsMoves, IsDone, IsInOrder, AreNamed, Quiet, client_repeats, server_repeats, StepCase, client_row, row_done, row_stopped, gone_late, gone_down, come_up, found_anew, dismissed, quietly, step-case}
+use Rattle.jn_system_order.proofs.Common.{Text, restored, ◌≡◌, inl, ℕ, true, false, List, [], ◌∷◌, ◌++◌, Some, None, refl, sym, ◌∙◌, ap, subst, arith, list_any, ServerNo, LockUnit, Tid, tid_eq, AllFiles, Message, Outstanding, Pick, stable, Sent, Machine, replay, Invariant, Atom, run_atoms, opening_world, MayRun, Says, run_kept, opening_kept, run_grows, says_still, in_order, run_told, opening_told, World, Memory, opening, new_memory, Step, Tell, IsStep, IsRun, LockFacts, ServerFact, Mirrors, is_shown, locks-keep, opening-keeps, IsMoves, IsDone, IsInOrder, AreNamed, Quiet, client_repeats, server_repeats, StepCase, client_row, row_done, row_stopped, gone_late, gone_down, come_up, found_anew, dismissed, quietly, step-case, some-memory}
 use Rattle.jn_base.specs.declared.op.Command.TheVariants.{End}
 use Rattle.jn_msgs.specs.declared.message.Message.TheVariants as messages
 use Rattle.jn_system.specs.WholeSystem.Steps.{after, run}
@@ -79,15 +79,12 @@ run-moves files epochs (step ∷ steps) r before may mirrors facts locks names i
 pub opening-facts : (servers : ℕ) (files : AllFiles) (epochs : ServerNo → ℕ) → Facts (opening servers files epochs) (opening_world files epochs)
 opening-facts servers files epochs = record {
   unique = λ a b h k e. absurd h;
-  tables = λ s m e. subst (λ (x : Memory). HaveOpenings [] x.coordinator.transactions) (same (new_memory s (epochs s)) m e) tt;
+  tables = λ s m e. subst (λ (x : Memory). HaveOpenings [] x.coordinator.transactions) (some-memory (new_memory s (epochs s)) m e) tt;
   drawn = λ a h e. absurd h;
   clients = λ c. record { name = refl; current = λ T e. absurd (none-tid T e); fresh = λ T e k. absurd (none-tid T e); waits = λ o e. absurd (none-out o e) };
   begun = λ T e. absurd (no e);
 }
   where
-    same : (a b : Memory) → Some a ≡ Some b → a ≡ b
-    same a b e = cc
-
     none-tid : (T : Tid) → None ≡ Some T → ⊥
     none-tid T e = cc
 

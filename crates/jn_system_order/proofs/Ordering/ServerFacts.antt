@@ -1,9 +1,9 @@
 -- A server's steps keep what holds of the openings.
-use Rattle.jn_system_order.proofs.Common.{Step, ◌≡◌, ◌≢◌, ◌⊎◌, inl, inr, ℕ, Bool, true, false, List, [], ◌∷◌, ◌++◌, append-nil, Option, Some, None, is_some, ◌+◌, refl, sym, ◌∙◌, ap, subst, arith, ◌&&◌, if◌then◌else◌, nat_eq, nat_lt, length, nat_tests, ServerNo, ClientNo, Tid, Client, client_eq, client_tells, Message, Transaction, Open, StableState, stable, RowOutcome, WorkerTable, worker_step, worker_again, timeout_row, CoordinatorTable, transaction_at, coordinator_again, name_from, after_closing, changes_of_closing, seen_now, begin_again, begun_by, begin_row, is_begun, Machine, Invariant, fresh_tid, World, Memory, at_server, Room, storage_of, of_worker, of_coordinator, of_step, server_row, server_again, of_timeout, done, works, UpFact, client-closes, outcomes-close, Mirrors, RequestNo, server_timeout, one-server, ServerRow, of_message, of_work, of_closing}
+use Rattle.jn_system_order.proofs.Common.{Step, ◌≡◌, ◌⊎◌, inl, inr, ℕ, Bool, true, false, List, [], ◌∷◌, ◌++◌, append-nil, Option, Some, None, is_some, ◌+◌, refl, sym, ◌∙◌, ap, subst, arith, ◌&&◌, if◌then◌else◌, nat_eq, nat_lt, length, nat_tests, ServerNo, ClientNo, Tid, Client, client_eq, client_tells, Message, Transaction, Open, StableState, stable, RowOutcome, WorkerTable, worker_again, timeout_row, CoordinatorTable, coordinator_again, name_from, after_closing, changes_of_closing, seen_now, begin_again, begun_by, begin_row, is_begun, Machine, Invariant, fresh_tid, World, Memory, at_server, Room, storage_of, of_worker, of_coordinator, server_row, server_again, of_timeout, done, works, UpFact, client-closes, outcomes-close, Mirrors, RequestNo, server_timeout, ServerRow, of_message, of_work, of_closing, memory-now, memory-gone, row-of-step}
 use Rattle.jn_msgs.specs.declared.message.Message.TheVariants as messages
 use Rattle.jn_system_order.proofs.Mirroring.GrantMoves.{found-here}
 use Rattle.jn_system_order.proofs.Ordering.Openings.{Opening, openings, openings-more, Has, has-first, has-second, has-either, HasOpening, HaveOpenings, more-openings}
-use Rattle.jn_system_order.proofs.Ordering.RowOpenings.{worker-none, step-none, again-none, Quiet, closes-have, ends-quiet, aborts-quiet, inquires-quiet, votes-quiet, dones-quiet, thanks-quiet, coordinator-again-quiet}
+use Rattle.jn_system_order.proofs.Ordering.RowOpenings.{worker-none, step-none, again-none, Quiet, closes-have, coordinator-quiet, coordinator-again-quiet}
 use Rattle.jn_system_order.proofs.Ordering.Facts.{opening, Facts, facts-keep}
 
 -- what a row's messages and table have
@@ -18,12 +18,6 @@ no-opening = record { client = record { 0 = 0 }; request = record { 0 = 0 }; tid
 append-have : (os : List Opening) (xs ys : List Transaction) → HaveOpenings os xs → HaveOpenings os ys → HaveOpenings os (xs ++ ys)
 append-have os [] ys h k = k
 append-have os (x ∷ xs) ys h k = (h.0, append-have os xs ys h.1 k)
-
-some-memory : (a b : Memory) → Some a ≡ Some b → a ≡ b
-some-memory a b e = cc
-
-none-memory : (a : Memory) → None ≡ Some a → ⊥
-none-memory a e = cc
 
 -- ---- rows
 
@@ -100,15 +94,8 @@ module _ (os : List Opening) (w : Machine) (m : Memory) (have : HaveOpenings os 
         second : (a b : Bool) → (a && b) ≡ true → b ≡ true
         second a b q = grind arith
 
-        off : (b : Bool) → b ≡ true → b ≡ false → ⊥
-        off b p q = grind arith
-
         same-client : client_eq z.client c ≡ true → z.client ≡ c
-        same-client e = at (client_tells z.client c)
-          where
-            at : ((client_eq z.client c ≡ true) × (z.client ≡ c)) ⊎ ((client_eq z.client c ≡ false) × (z.client ≢ c)) → z.client ≡ c
-            at (inl p) = p.1
-            at (inr p) = absurd (off (client_eq z.client c) e p.0)
+        same-client e = grind (arith, client_tells z.client c, e)
 
         same-request : (o : Option RequestNo) → is_begun o request ≡ true → o ≡ Some request
         same-request None e = absurd (no e)
@@ -145,12 +132,12 @@ module _ (os : List Opening) (w : Machine) (m : Memory) (have : HaveOpenings os 
   row-facts x room (messages.Commit T W) fresh = by-worker _ (worker-none m.worker (storage_of m x room) m.tickets (messages.Commit T W))
   row-facts x room (messages.Drop T W) fresh = by-worker _ (worker-none m.worker (storage_of m x room) m.tickets (messages.Drop T W))
   row-facts x room (messages.Begin c request) fresh = begin-facts c request fresh
-  row-facts x room (messages.End c request T works) fresh = by-quiet _ (ends-quiet m.coordinator m.tickets room.free.records c request T works (transaction_at T m.coordinator.transactions))
-  row-facts x room (messages.Abort c request T works) fresh = by-quiet _ (aborts-quiet m.coordinator m.tickets c T works (transaction_at T m.coordinator.transactions))
-  row-facts x room (messages.Thanks c T) fresh = by-quiet _ (thanks-quiet m.coordinator m.tickets T (transaction_at T m.coordinator.transactions))
-  row-facts x room (messages.Vote T W vote) fresh = by-quiet _ (votes-quiet m.coordinator m.tickets T W vote (transaction_at T m.coordinator.transactions))
-  row-facts x room (messages.Done T W) fresh = by-quiet _ (dones-quiet m.coordinator m.tickets T W (transaction_at T m.coordinator.transactions))
-  row-facts x room (messages.Inquire T W) fresh = by-quiet _ (inquires-quiet m.coordinator m.tickets T W (transaction_at T m.coordinator.transactions))
+  row-facts x room (messages.End c request T works) fresh = by-quiet _ (coordinator-quiet m.coordinator room.free.records m.tickets (messages.End c request T works) refl)
+  row-facts x room (messages.Abort c request T works) fresh = by-quiet _ (coordinator-quiet m.coordinator room.free.records m.tickets (messages.Abort c request T works) refl)
+  row-facts x room (messages.Thanks c T) fresh = by-quiet _ (coordinator-quiet m.coordinator room.free.records m.tickets (messages.Thanks c T) refl)
+  row-facts x room (messages.Vote T W vote) fresh = by-quiet _ (coordinator-quiet m.coordinator room.free.records m.tickets (messages.Vote T W vote) refl)
+  row-facts x room (messages.Done T W) fresh = by-quiet _ (coordinator-quiet m.coordinator room.free.records m.tickets (messages.Done T W) refl)
+  row-facts x room (messages.Inquire T W) fresh = by-quiet _ (coordinator-quiet m.coordinator room.free.records m.tickets (messages.Inquire T W) refl)
   row-facts x room _ fresh = plain _ refl have
 
 -- ---- the world
@@ -164,23 +151,17 @@ module _ (r : World) (w v : Machine) (mirrors : Mirrors r w) (facts : Facts r w)
   still-facts r' clients same tables = facts-keep r r' w v mirrors facts clients ended grow no-opening (λ a h. subst (λ l. Has a l) (sym same) h) (λ a h. inl (subst (λ l. Has a l) same h))
       (λ s m e. subst (λ l. HaveOpenings l m.coordinator.transactions) (sym same) (tables s m e))
 
-  abbrev Have : List Opening → ServerNo → Option Memory → Type 0
-  Have now s o = (m : Memory) → o ≡ Some m → HaveOpenings now m.coordinator.transactions
-
-  up-has : (now : List Opening) (s : ServerNo) (m : Memory) → HaveOpenings now m.coordinator.transactions → Have now s (Some m)
-  up-has now s m h n e = subst (λ (z : Memory). HaveOpenings now z.coordinator.transactions) (some-memory m n e) h
+  abbrev Have : List Opening → Memory → Type 0
+  Have now m = HaveOpenings now m.coordinator.transactions
 
   -- a server's table changes, and nothing is sent
-  at-tables : (s : ServerNo) (o : Option Memory) → Have os s o → (q : ServerNo) → Have os q (at_server r.memory s o q)
-  at-tables s o h = one-server (Have os) r.memory s o h (λ q ne. facts.tables q)
+  pub up-tables : (s : ServerNo) (m : Memory) → Have os m → (q : ServerNo) (n : Memory) → at_server r.memory s (Some m) q ≡ Some n → Have os n
+  up-tables = memory-now (Have os) r.memory facts.tables
 
-  pub up-tables : (s : ServerNo) (m : Memory) → HaveOpenings os m.coordinator.transactions → (q : ServerNo) → Have os q (at_server r.memory s (Some m) q)
-  up-tables s m h = at-tables s (Some m) (up-has os s m h)
+  pub down-tables : (s q : ServerNo) (n : Memory) → at_server r.memory s None q ≡ Some n → Have os n
+  down-tables = memory-gone (Have os) r.memory facts.tables
 
-  pub down-tables : (s q : ServerNo) → Have os q (at_server r.memory s None q)
-  down-tables s = at-tables s None (λ m e. absurd (none-memory m e))
-
-  pub late-tables : (s : ServerNo) (m : Memory) (T : Tid) → r.memory s ≡ Some m → (q : ServerNo) → Have os q (at_server r.memory s (Some (server_timeout m T)) q)
+  pub late-tables : (s : ServerNo) (m : Memory) (T : Tid) → r.memory s ≡ Some m → (q : ServerNo) (n : Memory) → at_server r.memory s (Some (server_timeout m T)) q ≡ Some n → Have os n
   late-tables s m T is = up-tables s (server_timeout m T) (by (timeout_row m.worker T))
     where
       by : (t : Option WorkerTable) → HaveOpenings os (of_timeout m t).coordinator.transactions
@@ -201,24 +182,17 @@ module _ (r : World) (w v : Machine) (mirrors : Mirrors r w) (facts : Facts r w)
       epoch = λ c. up.epoch ∙ sym (ap (λ x. x.epoch) (found-here r w s m mirrors is up m.tickets.server c up.server));
     }
 
-    works-open : (room : Room) (row : RowOutcome Memory) (o : Option (RowOutcome WorkerTable)) → worker_step m.worker (storage_of m (stable (r.found s)) room) m.tickets ≡ o → of_step m o ≡ Some row → RowFacts os w row
-    works-open room row None e q = absurd (grind arith)
-    works-open room row (Some x) e q = subst (λ (z : RowOutcome Memory). RowFacts os w z) (some (of_worker m x) row q)
-        (by-worker os w m (facts.tables s m is) x (step-none m.worker (storage_of m (stable (r.found s)) room) m.tickets x e))
-      where
-        some : (a b : RowOutcome Memory) → Some a ≡ Some b → a ≡ b
-        some a b f = cc
-
     row-opens : (step : Step) (k : Option ℕ) (row : RowOutcome Memory) → ServerRow r s m None step k row → RowFacts os w row
     row-opens _ _ _ (of_message _ k room message e) = row-facts os w m (facts.tables s m is) (stable (r.found s)) room message next-fresh
-    row-opens _ _ _ (of_work _ room row e) = works-open room row (worker_step m.worker (storage_of m (stable (r.found s)) room) m.tickets) refl e
+    row-opens _ _ _ (of_work _ room row e) = row-of-step (RowFacts os w) m (stable (r.found s)) room row e
+        (λ x i. by-worker os w m (facts.tables s m is) x (step-none m.worker (storage_of m (stable (r.found s)) room) m.tickets x i))
     row-opens _ _ _ of_closing = plain os w m (facts.tables s m is) _ refl (closes-have os (outcomes-close m.coordinator.transactions) (facts.tables s m is))
 
     pub done-facts : (step : Step) (k : Option ℕ) (row : RowOutcome Memory) → ServerRow r s m None step k row → Facts (done s k row r) v
     done-facts step k row of = facts-keep r (done s k row r) w v mirrors facts refl ended grow h.fresh (λ a e. subst (λ l. Has a l) (sym more) (has-first a os (openings row.messages) e))
         (λ a e. by a (has-either a os (openings row.messages) (subst (λ l. Has a l) more e)))
-        (subst (λ l. (q : ServerNo) → Have l q (at_server r.memory s (Some row.table) q)) (sym more)
-        (one-server (Have (os ++ openings row.messages)) r.memory s (Some row.table) (up-has (os ++ openings row.messages) s row.table h.tables) (λ q ne n e. more-openings os (openings row.messages) n.coordinator.transactions (facts.tables q n e))))
+        (subst (λ l. (q : ServerNo) (n : Memory) → at_server r.memory s (Some row.table) q ≡ Some n → Have l n) (sym more)
+        (memory-now (Have (os ++ openings row.messages)) r.memory (λ q n e. more-openings os (openings row.messages) n.coordinator.transactions (facts.tables q n e)) s row.table h.tables))
       where
         h : RowFacts os w row
         h = row-opens step k row of

@@ -1,5 +1,5 @@
 -- A broken work of a table was broken there before a step, or active; where a step names a commit, it breaks none.
-use Rattle.jn_system_reports.proofs.Common.{◌≡◌, ◌⊎◌, inl, inr, ℕ, ◌+◌, Bool, true, false, List, [], ◌∷◌, ◌++◌, append-nil, Option, Some, None, refl, sym, ◌∙◌, ap, subst, if◌then◌else◌, nat_eq, nat_lt, length, slice_get, ServerNo, ClientNo, Tid, WorkId, Tickets, Op, Answer, work_eq, Files, change, answer_to, list_change, length_with, Read, Intention, Message, Vote, Work, Phase, Active, Broken, Stored, ActiveWork, is_going, stable, RowOutcome, WorkerTable, WorkStorage, Wanted, Held, gives_way, work_at, work_of, without, new_work, name_from, open_row, conflict, commit_wants, wants_of, is_fit, past_limit, units_for, with_units, refusal_of, counted, performed-work, granted_row, performed, repeated, op_phase, op_row, vote_of, shortage, need_in, prepared_row, prepare_phase, prepare_row, commit_phase, drop_phase, drop_row, worker_row, going_work, intentions_of, carried_row, going_row, worker_step, vulnerable, timed_out, timeout_row, coordinator_row, close_clients_row, are_rising, is_after, at-more, at-less, some_is, none_some, not_both, World, Memory, at_server, commits_in, storage_of, is_for_worker, of_step, of_worker, of_coordinator, of_timeout, lines_of, restored, Step, after, LockFacts, ServerFact, UpFact, Regrants, Origin, Mine, Kept, Broke, granted, phase_changed, restored-is, of-found, no-lock, named_by, commits-more, lines-commit, worker-none, step-none, done, OperationNo, RequestNo, one-server, ServerRow, of_message, of_work, of_closing, StepCase, client_row, row_done, row_stopped, gone_late, gone_down, come_up, found_anew, dismissed, quietly, step-case}
+use Rattle.jn_system_reports.proofs.Common.{◌≡◌, ◌⊎◌, inl, inr, ℕ, ◌+◌, Bool, true, false, List, [], ◌∷◌, ◌++◌, append-nil, Option, Some, None, refl, sym, ◌∙◌, ap, subst, if◌then◌else◌, nat_eq, nat_lt, length, slice_get, ServerNo, ClientNo, Tid, WorkId, Tickets, Op, Answer, work_eq, Files, change, answer_to, list_change, length_with, Read, Intention, Message, Vote, Work, Phase, Active, Broken, Stored, ActiveWork, is_going, stable, RowOutcome, WorkerTable, WorkStorage, Wanted, Held, gives_way, work_at, work_of, without, new_work, name_from, open_row, conflict, commit_wants, wants_of, is_fit, past_limit, units_for, with_units, refusal_of, counted, performed-work, granted_row, performed, repeated, op_phase, op_row, vote_of, shortage, need_in, prepared_row, prepare_phase, prepare_row, commit_phase, drop_phase, drop_row, worker_row, going_work, intentions_of, carried_row, going_row, worker_step, vulnerable, timed_out, timeout_row, coordinator_row, close_clients_row, are_rising, is_after, at-more, at-less, some_is, none_some, not_both, World, Memory, at_server, commits_in, storage_of, of_worker, of_coordinator, of_timeout, lines_of, restored, Step, after, LockFacts, ServerFact, UpFact, Regrants, Origin, Mine, Kept, Broke, granted, phase_changed, restored-is, of-found, no-lock, named_by, commits-more, lines-commit, worker-none, step-none, done, OperationNo, RequestNo, one-server, ServerRow, of_message, of_work, of_closing, StepCase, client_row, row_done, row_stopped, gone_late, gone_down, come_up, found_anew, dismissed, quietly, step-case, row-either, row-of-step}
 use Rattle.jn_msgs.specs.declared.message.Message.TheVariants as messages
 use Rattle.jn_msgs.specs.declared.message.Vote.TheVariants as votes
 use Rattle.jn_rows.specs.Worker.{commit_row}
@@ -222,17 +222,11 @@ module _ (r : World) (locks : LockFacts r) where
     coordinator-ends k row = one-none _ s (Some (of_coordinator m row).table) refl (here m.worker BreaksNone (same-none m.worker))
 
     row-ends : (step : Step) (k : Option ℕ) (row : RowOutcome Memory) → ServerRow r s m None step k row → Breaks r (done s k row r)
-    row-ends _ _ _ (of_message _ k room message is) = by (is_for_worker message)
-      where
-        by : (b : Bool) → Breaks r (done s (Some k) (if b then of_worker m (worker_row m.worker (storage_of m (stable (r.found s)) room) m.tickets message) else of_coordinator m (coordinator_row m.coordinator room.free.records m.tickets message)) r)
-        by true = worker-ends (Some k) (worker_row m.worker (storage_of m (stable (r.found s)) room) m.tickets message) (worker-none m.worker (storage_of m (stable (r.found s)) room) m.tickets message) (takes m.worker m.tickets up.table.rising up.table.before (storage_of m (stable (r.found s)) room) message)
-        by false = coordinator-ends (Some k) (coordinator_row m.coordinator room.free.records m.tickets message)
-    row-ends _ _ row (of_work _ room _ is) = by (worker_step m.worker (storage_of m (stable (r.found s)) room) m.tickets) refl is
-      where
-        by : (o : Option (RowOutcome WorkerTable)) → worker_step m.worker (storage_of m (stable (r.found s)) room) m.tickets ≡ o → of_step m o ≡ Some row → Breaks r (done s None row r)
-        by None e f = absurd (none_some row f)
-        by (Some x) e f = subst (λ (z : RowOutcome Memory). Breaks r (done s None z r)) (some_is (of_worker m x) row f)
-            (worker-ends None x (step-none m.worker (storage_of m (stable (r.found s)) room) m.tickets x e) (steps m.worker m.tickets up.table.rising up.table.before (storage_of m (stable (r.found s)) room) x e))
+    row-ends _ _ _ (of_message _ k room message is) = row-either (λ z. Breaks r (done s (Some k) z r)) m (stable (r.found s)) room message
+        (worker-ends (Some k) (worker_row m.worker (storage_of m (stable (r.found s)) room) m.tickets message) (worker-none m.worker (storage_of m (stable (r.found s)) room) m.tickets message) (takes m.worker m.tickets up.table.rising up.table.before (storage_of m (stable (r.found s)) room) message))
+        (coordinator-ends (Some k) (coordinator_row m.coordinator room.free.records m.tickets message))
+    row-ends _ _ row (of_work _ room _ is) = row-of-step (λ z. Breaks r (done s None z r)) m (stable (r.found s)) room row is
+        (λ x e. worker-ends None x (step-none m.worker (storage_of m (stable (r.found s)) room) m.tickets x e) (steps m.worker m.tickets up.table.rising up.table.before (storage_of m (stable (r.found s)) room) x e))
     row-ends _ _ _ of_closing = coordinator-ends None (close_clients_row m.coordinator m.tickets)
 
     late-ends : (T : Tid) (o : Option WorkerTable) → timeout_row m.worker T ≡ o → Breaks r (record r { memory = at_server r.memory s (Some (of_timeout m o)) })

@@ -1,5 +1,5 @@
 -- A step tells an answer of a transaction only to its client, which goes on in it, and only such a client sends an operation.
-use Rattle.jn_system_reports.proofs.Common.{◌≡◌, ◌≢◌, ◌⊎◌, inl, inr, ℕ, Bool, true, false, List, [], ◌∷◌, ◌++◌, append-nil, Option, Some, None, refl, sym, ◌∙◌, ap, subst, arith, ◌&&◌, ◌||◌, if◌then◌else◌, nat_lt, ServerNo, ClientNo, Tid, WorkId, Client, Server, Answer, Command, Begin, Open, Do, End, Abort, client_eq, client_tells, Event, event_at, performed_in, answered, answered_by, is_own, Message, Outcome, Refusal, Text, OpenWork, Outstanding, Taken, stable, Sent, ClientTable, Commanded, Refuses, Sends, if_server, if_idle, if_transaction, if_no_transaction, if_open, if_not_open, command_row, is_operation, is_end_or_abort, is_current, if_waits, idle, begun_row, opened_row, answer_line, outcome_row, take_row, sent_again, Machine, not_both, World, at_client, lines_of, Step, after, commanded, sent_now, took, LockFacts, Mirrors, IsTrue, IsCurrent, found-open, IsThanks, Takes, takes, holds-of, Facts, is_closing, work_is, ops_in, owner_in, one-client}
+use Rattle.jn_system_reports.proofs.Common.{◌≡◌, ◌≢◌, ◌⊎◌, inl, inr, ℕ, Bool, true, false, List, [], ◌∷◌, ◌++◌, append-nil, Option, Some, None, refl, sym, ◌∙◌, ap, subst, arith, ◌&&◌, ◌||◌, if◌then◌else◌, nat_lt, ServerNo, ClientNo, Tid, WorkId, Client, Server, Answer, Command, Begin, Open, Do, End, Abort, client_eq, client_tells, Event, event_at, performed_in, answered, answered_by, is_own, Message, Outcome, Refusal, Text, OpenWork, Outstanding, Taken, stable, Sent, ClientTable, Commanded, Refuses, Sends, if_server, if_idle, if_transaction, if_no_transaction, if_open, if_not_open, command_row, is_operation, is_end_or_abort, is_current, if_waits, idle, begun_row, opened_row, answer_line, outcome_row, take_row, sent_again, Machine, not_both, World, at_client, lines_of, Step, after, commanded, sent_now, took, LockFacts, Mirrors, IsTrue, IsCurrent, found-open, IsThanks, Takes, takes, holds-of, Facts, is_closing, work_is, ops_in, owner_in}
 use Rattle.jn_base.specs.declared.op.Answer.TheVariants as answers
 use Rattle.jn_msgs.specs.declared.message.Message.TheVariants as messages
 use Rattle.jn_msgs.specs.declared.message.Outcome.TheVariants as outcomes
@@ -14,6 +14,7 @@ use Rattle.jn_system_reports.proofs.Telling.Acting.{IsSilent}
 use Rattle.jn_system_reports.proofs.Telling.Facts.{is_op_of, op_sent, IsAsking, Talk}
 use Rattle.jn_system_reports.proofs.Telling.Quiet.{HasNoOp, silent-nos, op_sent-more, same-sent, same-told, IsQuiet}
 use Rattle.jn_system_reports.proofs.Telling.ServerSteps.{lines-dumb, op-plain, TellCase, is_quiet, client_is_told, client_takes, client_asks_again, clients_dismissed, server_operates, tell-case}
+use Rattle.jn_system_reports.proofs.Telling.Clients.{at-own}
 
 -- a client has the transaction, and goes on in it
 abbrev pub GoesOn : World → Tid → Type 0
@@ -170,9 +171,6 @@ module _ (events : List Event) (r : World) (w : Machine) (mirrors : Mirrors r w)
 
   -- ---- clients
 
-  own-table : (c : ClientNo) (u : ClientTable) → at_client r.clients c u c ≡ u
-  own-table c u = one-client (λ d t. c ≡ d → t ≡ u) r.clients c u (λ e. refl) (λ d other e. absurd (other e)) c refl
-
   -- what it waits for is an operation of its transaction
   its-operation : (c : ClientNo) (o : Outstanding) → (r.clients c).outstanding ≡ Some o → (p : Command) → o.command ≡ p → is_operation p ≡ true → (T : Tid) × ((r.clients c).transaction ≡ Some T)
   its-operation c o e (Do s op) f h = let x = subst (λ (p : Command). IsAsking events c (r.clients c) o p) f ((talk.clients c).asking o e) in (x.tid, x.current)
@@ -191,7 +189,7 @@ module _ (events : List Event) (r : World) (w : Machine) (mirrors : Mirrors r w)
       its = its-operation c h.waits h.was h.waits.command refl h.operation
 
       goes : (r.clients c).transaction ≡ Some T → GoesOn q T
-      goes e = let now = ap (λ f. f c) clients ∙ own-table c u ∙ h.now in (c, ap (λ (z : ClientTable). z.transaction) now ∙ e, ap (λ (z : ClientTable). is_closing z.outstanding) now)
+      goes e = let now = ap (λ f. f c) clients ∙ at-own r.clients c u ∙ h.now in (c, ap (λ (z : ClientTable). z.transaction) now ∙ e, ap (λ (z : ClientTable). is_closing z.outstanding) now)
 
       none : {A : Type 0} → {a : A} → None ≡ Some a → ⊥
       none e = cc
@@ -245,8 +243,8 @@ module _ (events : List Event) (r : World) (w : Machine) (mirrors : Mirrors r w)
     ops = λ T. inl refl;
     asked = λ W e. one-more W (to, message) _ e (λ f. (
       c,
-      ap (λ (z : ClientTable). z.transaction) (own-table c u) ∙ k.now ∙ ap (λ (T : Tid). Some T) (sym (its-owner c k.tid k.was k.server k.work k.found) ∙ ap owner (k.its W f)),
-      ap (λ (z : ClientTable). is_closing z.outstanding) (own-table c u) ∙ k.goes,
+      ap (λ (z : ClientTable). z.transaction) (at-own r.clients c u) ∙ k.now ∙ ap (λ (T : Tid). Some T) (sym (its-owner c k.tid k.was k.server k.work k.found) ∙ ap owner (k.its W f)),
+      ap (λ (z : ClientTable). is_closing z.outstanding) (at-own r.clients c u) ∙ k.goes,
     ));
   }
 

@@ -1,5 +1,5 @@
 -- The lines of a run have their causes, event by event.
-use Rattle.jn_system_reports.proofs.Common.{◌≡◌, ◌≤◌, ℕ, ◌+◌, true, false, List, [], ◌∷◌, ◌++◌, append-nil, append_assoc, length, Some, None, refl, sym, ◌∙◌, ap, subst, arith, ServerNo, ClientNo, Tid, Command, AllFiles, Event, When, AtEvent, Text, Line, Outstanding, Commanded, Refuses, Sends, command_row, opening_world, World, Memory, opening, new_memory, Step, NextEvent, Tell, after, run, IsRun, commanded, opening-keeps, opening-mirrors, opening-facts, is_caused_by, is_caused, CausedFrom, Caused, AreWithin, AreWithin-wider, AreWithin-append, is_fault, ArmedFrom, map, Printed, FileThere, PageStored, UnitLocked, text_printed, Act, Does, Refused, Tells, Shows, Item, events_of, steps_in, steps_of, told_by, told_in, told_under, after_item, at_event, IsUnder, AreUnder, IsReported}
+use Rattle.jn_system_reports.proofs.Common.{◌≡◌, ◌≤◌, ℕ, ◌+◌, true, false, List, [], ◌∷◌, ◌++◌, append-nil, append_assoc, length, Some, None, refl, sym, ◌∙◌, ap, subst, arith, ServerNo, ClientNo, Tid, Command, AllFiles, Event, When, AtEvent, Text, Line, Outstanding, Commanded, Refuses, Sends, command_row, opening_world, World, Memory, opening, new_memory, Step, NextEvent, Tell, after, run, IsRun, commanded, opening-keeps, opening-mirrors, opening-facts, is_caused_by, is_caused, CausedFrom, Caused, AreWithin, AreWithin-wider, AreWithin-append, is_fault, ArmedFrom, map, Printed, FileThere, PageStored, UnitLocked, text_printed, Act, Does, Refused, Tells, Shows, Item, events_of, steps_in, steps_of, told_by, told_in, told_under, after_item, at_event, IsUnder, AreUnder, IsReported, some-memory}
 use Rattle.jn_schedule.specs.declared.Event.TheVariants as events
 use Rattle.jn_report.specs.declared.line.Text.TheVariants as says
 use Rattle.jn_system_reports.specs.Reporting.Reported.{lines_of}
@@ -222,7 +222,7 @@ module _ (files : AllFiles) (epochs : ServerNo → ℕ) where
     past = record {
       last = λ c o e. absurd (none-out o e);
       says = tt;
-      entries = λ s m e. subst (λ (x : Memory). Each (EntryFact [] (opening servers files epochs).clients (opening_world files epochs) (HasCause [] [] []) x.coordinator.seen) x.coordinator.transactions) (same (new_memory s (epochs s)) m e) tt;
+      entries = λ s m e. subst (λ (x : Memory). Each (EntryFact [] (opening servers files epochs).clients (opening_world files epochs) (HasCause [] [] []) x.coordinator.seen) x.coordinator.transactions) (some-memory (new_memory s (epochs s)) m e) tt;
       flags = λ s c T. tt;
       held = λ s m e T f. absurd (no f);
       named = λ T c e. absurd (no e);
@@ -230,7 +230,7 @@ module _ (files : AllFiles) (epochs : ServerNo → ℕ) where
     causes = record {
       messages = tt;
       each = λ c. record { asked = λ o e. absurd (none-out o e); to = λ o s e. absurd (none-out o e); current = λ T e. absurd (none-tid T e); works = λ T e. absurd (none-tid T e); begun = λ T e. absurd (none-tid T e) };
-      broken = λ s m e. subst (λ (x : Memory). Each (WorkTold s []) x.worker) (same (new_memory s (epochs s)) m e) tt;
+      broken = λ s m e. subst (λ (x : Memory). Each (WorkTold s []) x.worker) (some-memory (new_memory s (epochs s)) m e) tt;
       told = λ test e. absurd (no e);
     };
     parts = λ T W e. absurd (no e);
@@ -241,9 +241,6 @@ module _ (files : AllFiles) (epochs : ServerNo → ℕ) where
 
       none-tid : (T : Tid) → None ≡ Some T → ⊥
       none-tid T e = cc
-
-      same : (a b : Memory) → Some a ≡ Some b → a ≡ b
-      same a b e = cc
 
       no : false ≡ true → ⊥
       no q = grind arith

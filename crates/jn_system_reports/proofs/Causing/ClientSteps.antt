@@ -159,11 +159,7 @@ module _ (es es' : List Event) (on : (j : ℕ) (e : Event) → Stands 1 es j e �
     name = (facts.clients c).name
 
     same-client : (d : ClientNo) → client_eq d t.client ≡ true → d ≡ c
-    same-client d e = by (client_tells d t.client)
-      where
-        by : ((client_eq d t.client ≡ true) × (d ≡ t.client)) ⊎ ((client_eq d t.client ≡ false) × (d ≢ t.client)) → d ≡ c
-        by (inl p) = p.1 ∙ name
-        by (inr p) = absurd (not_both (client_eq d t.client) e p.0)
+    same-client d e = grind (arith, client_tells d t.client, e, name)
 
     answer-mutes : (j : ℕ) (answer : Answer) → Mutes (answer_line t.client j answer)
     answer-mutes j answers.Did d n now = refl

@@ -1,5 +1,5 @@
 -- A server's step: what it has it has after it, or went down, or knows the outcome of.
-use Rattle.jn_system_reports.proofs.Common.{◌≡◌, ◌≢◌, ◌⊎◌, inl, inr, ℕ, ◌+◌, Bool, true, false, List, [], ◌∷◌, ◌++◌, append-nil, Option, Some, None, is_some, refl, sym, ◌∙◌, ap, subst, arith, if◌then◌else◌, nat_lt, list_any, ServerNo, ClientNo, LockUnit, Tid, WorkId, Cause, LostAt, FullAt, Server, Resource, client_eq, client_tells, Message, Note, Event, Text, Line, Work, Phase, Broken, Transaction, Stage, Commitment, Outstanding, Pick, Prepared, StableState, stable, is_going, RowOutcome, Sent, WorkerTable, work_at, worker_row, worker_step, worker_again, timeout_row, CoordinatorTable, transaction_at, coordinator_row, coordinator_again, commits, besides, told_again, committed_to, close_clients_row, found-name, Machine, Unknown, Invariant, Knows, Atom, run_atoms, MayRun, Says, not_both, some_of, World, Memory, at_server, has_line, Room, storage_of, of_worker, of_coordinator, of_step, server_again, of_timeout, restored, line_of, lines_of, named_now, done, IsIdle, LockFacts, UpFact, Mirrors, AreTransactions, IsTrue, IsAddressed, knowledge_of, knowledge_in, IsStage, still-says, knows, stage-is, stage-known, openings, Facts, begun_then, goes_down, breaks, says, at_event, Step, IsStep, is_for_worker, some_is, none_some, RequestNo, server_timeout, restart_with, one-server, ServerRow, of_message, of_work, of_closing}
+use Rattle.jn_system_reports.proofs.Common.{◌≡◌, ◌≢◌, ◌⊎◌, inl, inr, ℕ, ◌+◌, Bool, true, false, List, [], ◌∷◌, ◌++◌, append-nil, Option, Some, None, is_some, refl, sym, ◌∙◌, ap, subst, arith, if◌then◌else◌, nat_lt, list_any, ServerNo, ClientNo, LockUnit, Tid, WorkId, Cause, LostAt, FullAt, Server, Resource, client_eq, client_tells, Message, Note, Event, Text, Line, Work, Phase, Broken, Transaction, Stage, Commitment, Outstanding, Pick, Prepared, StableState, stable, is_going, RowOutcome, Sent, WorkerTable, work_at, worker_row, worker_step, worker_again, timeout_row, CoordinatorTable, transaction_at, coordinator_row, coordinator_again, commits, besides, told_again, committed_to, close_clients_row, found-name, Machine, Unknown, Invariant, Knows, Atom, run_atoms, MayRun, Says, not_both, some_of, World, Memory, at_server, has_line, Room, storage_of, of_worker, of_coordinator, server_again, of_timeout, restored, line_of, lines_of, named_now, done, IsIdle, LockFacts, UpFact, Mirrors, AreTransactions, IsTrue, IsAddressed, knowledge_of, knowledge_in, IsStage, still-says, knows, stage-is, stage-known, openings, Facts, begun_then, goes_down, breaks, says, at_event, Step, IsStep, RequestNo, server_timeout, restart_with, one-server, ServerRow, of_message, of_work, of_closing, row-either, row-of-step, some-memory, none-memory}
 use Rattle.jn_msgs.specs.declared.message.Message.TheVariants as messages
 use Rattle.jn_msgs.specs.declared.message.Note.TheVariants as notes
 use Rattle.jn_msgs.specs.declared.message.Vote.TheVariants as votes
@@ -82,12 +82,6 @@ module _ (es : List Event) (ls : List Line) (r : World) (w v : Machine) (past : 
     pub has : (W : WorkId) → HasWork r.memory W → HasWork q.memory W ⊎ ((list_any (goes_down W.server) new ≡ true) ⊎ Spent v (w.owner W))
     pub broken : (s : ServerNo) (m : Memory) → q.memory s ≡ Some m → Each (WorkTold s (r.lines ++ new)) m.worker
     pub news : Each (News q.memory) more
-
-  some-memory : (a b : Memory) → Some a ≡ Some b → a ≡ b
-  some-memory a b e = cc
-
-  none-memory : (a : Memory) → None ≡ Some a → ⊥
-  none-memory a e = cc
 
   old-told : (s : ServerNo) (m : Memory) (new : List Text) → r.memory s ≡ Some m → Each (WorkTold s (r.lines ++ new)) m.worker
   old-told s m new e = all-told s r.lines new m.worker (cause.broken s m e)
@@ -319,17 +313,9 @@ module _ (es : List Event) (ls : List Line) (r : World) (w v : Machine) (past : 
             }))
 
     pub row-keeps : (step : Step) (k : Option ℕ) (row : RowOutcome Memory) → ServerRow r s m None step k row → IsStep step r → ((x : Sent) → In x (r.sent ++ row.messages) → IsTrue v x) → ServerKeeps (done s k row r)
-    row-keeps _ _ _ (of_message _ k room message is) may said = by (is_for_worker message) said
-      where
-        by : (b : Bool) → ((x : Sent) → In x (r.sent ++ (if b then of_worker m (worker_row m.worker (storage_of m (stable (r.found s)) room) m.tickets message) else of_coordinator m (coordinator_row m.coordinator room.free.records m.tickets message)).messages) → IsTrue v x)
-            → ServerKeeps (done s (Some k) (if b then of_worker m (worker_row m.worker (storage_of m (stable (r.found s)) room) m.tickets message) else of_coordinator m (coordinator_row m.coordinator room.free.records m.tickets message)) r)
-        by true h = message-done k room message (get-in r.sent k (Server s, message) is)
-        by false h = coordinator-done k room.free.records message (get-in r.sent k (Server s, message) is) h
-    row-keeps _ _ row (of_work _ room _ is) may said = by (worker_step m.worker (storage_of m (stable (r.found s)) room) m.tickets) refl is
-      where
-        by : (o : Option (RowOutcome WorkerTable)) → worker_step m.worker (storage_of m (stable (r.found s)) room) m.tickets ≡ o → of_step m o ≡ Some row → ServerKeeps (done s None row r)
-        by None e f = absurd (none_some row f)
-        by (Some x) e f = subst (λ (z : RowOutcome Memory). ServerKeeps (done s None z r)) (some_is (of_worker m x) row f) (step-done room x e)
+    row-keeps _ _ _ (of_message _ k room message is) may said = let i = get-in r.sent k (Server s, message) is in
+        row-either (λ row. ((x : Sent) → In x (r.sent ++ row.messages) → IsTrue v x) → ServerKeeps (done s (Some k) row r)) m (stable (r.found s)) room message (λ h. message-done k room message i) (coordinator-done k room.free.records message i) said
+    row-keeps _ _ row (of_work _ room _ is) may said = row-of-step (λ z. ServerKeeps (done s None z r)) m (stable (r.found s)) room row is (step-done room)
     row-keeps _ _ _ of_closing idle said = closing-done idle
 
     -- ---- what changes no table of transactions

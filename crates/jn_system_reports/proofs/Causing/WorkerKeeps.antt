@@ -1,12 +1,11 @@
 -- A worker's row: broken works have their lines, what it had it has, and its votes have causes.
-use Rattle.jn_system_reports.proofs.Common.{◌≡◌, ◌≢◌, ◌⊎◌, inl, inr, ℕ, ◌+◌, Bool, true, false, List, [], ◌∷◌, ◌++◌, Option, Some, None, is_some, refl, sym, ◌∙◌, ap, subst, arith, if◌then◌else◌, nat_eq, nat_lt, length, slice_get, list_any, ServerNo, ClientNo, LockUnit, Tid, WorkId, Tickets, Cause, FullAt, Op, Answer, Resource, work_eq, server_tells, tid_tells, work_tells, Files, change, answer_to, Intention, list_change, Message, Note, Vote, Text, Work, Phase, Active, Broken, Stored, ActiveWork, Change, Prepared, is_going, StableState, RowOutcome, Sent, WorkerTable, WorkStorage, Wanted, Held, work_at, work_of, with_phase, without, after_grant, breaks_at, broken_by, note_of, break_notes, name_from, new_work, open_row, wants_of, is_fit, refusal_of, granted_row, repeated, op_phase, op_row, conflict, commit_wants, shortage, vote_of, need_in, prepared_row, prepare_phase, prepare_row, commit_phase, drop_phase, drop_row, worker_row, going_work, going_row, carried_row, intentions_of, worker_step, vulnerable, timed_out, timeout_row, restored_work, restored_worker, ClientTable, are_rising, work_same, at-less, at-phase, in_phase, at-grant, once_granted, of-found, Machine, line_of, lines_of, Opening, unit_eq, breaks, RequestNo, OperationNo}
+use Rattle.jn_system_reports.proofs.Common.{◌≡◌, ◌≢◌, ◌⊎◌, inl, inr, ℕ, Bool, true, false, List, [], ◌∷◌, ◌++◌, Option, Some, None, is_some, refl, sym, ◌∙◌, ap, subst, arith, if◌then◌else◌, nat_lt, list_any, ServerNo, ClientNo, LockUnit, Tid, WorkId, Tickets, Cause, FullAt, Resource, work_eq, server_tells, tid_tells, work_tells, Message, Note, Vote, Text, Work, Phase, Active, Broken, Stored, Change, Prepared, is_going, StableState, RowOutcome, Sent, WorkerTable, WorkStorage, Wanted, Held, work_at, work_of, with_phase, without, after_grant, breaks_at, broken_by, note_of, break_notes, name_from, new_work, conflict, commit_wants, shortage, vote_of, need_in, worker_row, worker_step, vulnerable, timed_out, timeout_row, restored_work, restored_worker, ClientTable, are_rising, work_same, at-less, at-phase, in_phase, at-grant, once_granted, of-found, Machine, line_of, lines_of, Opening, unit_eq, breaks, RequestNo, going-is, WorkerCase, replies_only, opens_anew, refuses_next, performs_next, prepares_it, drops_it, removes_it, Replies, is_open_already, votes_against, votes_broken, votes_lost, WorkerStep, is_over, its_wants, worker-case, worker-step-case}
 use Rattle.jn_base.specs.declared.names.Resource.TheVariants as resources
 use Rattle.jn_records.specs.declared.net_list.Need.{Need}
 use Rattle.jn_msgs.specs.declared.message.Message.TheVariants as messages
 use Rattle.jn_msgs.specs.declared.message.Note.TheVariants as notes
 use Rattle.jn_msgs.specs.declared.message.Vote.TheVariants as votes
 use Rattle.jn_report.specs.declared.line.Text.TheVariants as says
-use Rattle.jn_rows.specs.Worker.{commit_row}
 use Rattle.jn_system_reports.proofs.Reporting.Lists.{In, in-second, Each, each-append, each-more}
 use Rattle.jn_system_reports.proofs.Reporting.WorkerTalk.{each-phase, each-less}
 use Rattle.jn_system_reports.proofs.Reporting.Past.{VoteFact, SaysPast}
@@ -113,25 +112,8 @@ module _ (os : List Opening) (clients : ClientNo → ClientTable) (w : Machine) 
     abbrev Keeps : RowOutcome WorkerTable → Type 0
     Keeps row = RowKeeps Asks Goes row
 
-    either : (b : Bool) (p q : RowOutcome WorkerTable) → Keeps p → Keeps q → Keeps (if b then p else q)
-    either true p q h l = h
-    either false p q h l = l
-
     stays : (changes : List Change) (sent : List Sent) (noted : List Note) → Each (SaysPast os clients w Caused) sent → Each (OpensFact Asks t) sent → Keeps (record { table = t; changes = changes; messages = sent; notes = noted; tickets = k })
     stays changes sent noted h o = record { told = all-told s lines _ t all; live = λ W l. inl l; says = h; opens = o }
-
-    -- ---- Open
-
-    opens-one : (c : ClientNo) (q : RequestNo) (T : Tid) → Asks c q T → (o : Option Work) → work_of T t ≡ o → Keeps (open_row t k c q T o)
-    opens-one c q T asks (Some x) e = let found = of-found T t x rising e in stays _ _ _ (tt, tt) ((ap is_some found, place x.name x found, asks), tt)
-    opens-one c q T asks None e = either (nat_lt (length t) 64) _ _ (record {
-      told = each-append (WorkTold s (lines ++ [])) t _ (all-told s lines [] t all) (tt, tt);
-      live = λ W l. inl (live-more W t (new_work (name_from k) T) l);
-      says = (tt, tt);
-      opens = ((live-last t (new_work (name_from k) T), refl, asks), tt);
-    }) (stays _ _ _ (tt, tt) (tt, tt))
-
-    -- ---- Op
 
     grant-told : (R : Tid) (W : WorkId) (wants : List Wanted) (more : List Text) (l : WorkerTable) → Each (WorkTold s lines) l → ((T : Tid) (u : LockUnit) (by : Tid) → In (notes.Broke T u by) (break_notes R W wants l) → list_any (breaks s T u by) more ≡ true)
         → Each (WorkTold s (lines ++ more)) (after_grant R W wants l)
@@ -155,89 +137,12 @@ module _ (os : List Opening) (clients : ClientNo → ClientTable) (w : Machine) 
       opens = o;
     }
 
-    performs : (c : ClientNo) (q : RequestNo) (x : Work) (a : ActiveWork) (op : Op) (answer : Answer) (wants : List Wanted) (o : Option Answer) → Keeps (granted_row t k c q x a op answer wants o)
-    performs c q x a op answer wants (Some refusal) = record {
-      told = each-phase (WorkTold s (lines ++ [])) x.name _ t (λ v e p. tt) (all-told s lines [] t all);
-      live = λ V l. inl (live-phase V x.name _ t l);
-      says = (tt, tt);
-      opens = (tt, tt);
-    }
-    performs c q x a op answer wants None = grants _ _ x.tid x.name wants _ (λ T. tt) (tt, tt) (tt, tt)
-
-    repeats : (c : ClientNo) (q : RequestNo) (o : Option Answer) → Keeps (repeated t k c q o)
-    repeats c q (Some answer) = stays _ _ _ (tt, tt) (tt, tt)
-    repeats c q None = stays _ _ _ tt tt
-
-    op-keeps : (files : Files) (c : ClientNo) (q : RequestNo) (x : Work) (number : OperationNo) (op : Op) (p : Phase) → Keeps (op_phase t files k c q x number op p)
-    op-keeps files c q x number op (Active a) = let answer = answer_to op (change (list_change a.list) files) in
-        either (nat_eq number.0 (a.last + 1)) _ _ (performs c q x a op answer (wants_of op (is_fit answer)) (refusal_of t x.name a op answer (wants_of op (is_fit answer))))
-        (either (nat_eq number.0 a.last) _ _ (repeats c q a.kept) (stays _ _ _ tt tt))
-    op-keeps files c q x number op (Broken u by) = stays _ _ _ (tt, tt) (tt, tt)
-    op-keeps files c q x number op (Stored p) = stays _ _ _ (tt, tt) (tt, tt)
-
-    ops-keep : (files : Files) (c : ClientNo) (q : RequestNo) (W : WorkId) (number : OperationNo) (op : Op) (o : Option Work) → Keeps (op_row t files k c q W number op o)
-    ops-keep files c q W number op (Some x) = op-keeps files c q x number op x.phase
-    ops-keep files c q W number op None = stays _ _ _ (tt, tt) (tt, tt)
-
-    -- ---- Prepare
-
-    -- a shortage is of something of which there is less than is needed
-    abbrev IsShort : Option Vote → Type 0
-    IsShort None = Unit {0}
-    IsShort (Some vote) = (number : Resource) × (free : ℕ) × (need : ℕ) × (vote ≡ votes.Full number free need) × (nat_lt free need ≡ true)
-
-    is-short : (free need : Need) → IsShort (shortage free need)
-    is-short free need = by (nat_lt free.records need.records) refl (nat_lt free.pages need.pages) refl (nat_lt free.heads need.heads) refl
+    goes : (W : WorkId) (changes : List Change) (sent : List Sent) → ((V : WorkId) → W ≡ V → Goes V) → Each (SaysPast os clients w Caused) sent → Each (OpensFact Asks (without W t)) sent → Keeps (record { table = without W t; changes = changes; messages = sent; notes = []; tickets = k })
+    goes W changes sent may h o = record { told = each-less (WorkTold s (lines ++ [])) W t (all-told s lines [] t all); live = λ V l. by V (live-less V W t rising l); says = h; opens = o }
       where
-        by : (a : Bool) → nat_lt free.records need.records ≡ a → (b : Bool) → nat_lt free.pages need.pages ≡ b → (c : Bool) → nat_lt free.heads need.heads ≡ c
-            → IsShort (if a then Some (votes.Full resources.Records free.records need.records) else (if b then Some (votes.Full resources.Pages free.pages need.pages) else (if c then Some (votes.Full resources.Heads free.heads need.heads) else None)))
-        by true e b f c g = (resources.Records, free.records, need.records, refl, e)
-        by false e true f c g = (resources.Pages, free.pages, need.pages, refl, f)
-        by false e false f true g = (resources.Heads, free.heads, need.heads, refl, g)
-        by false e false f false g = tt
-
-    prepares : (T : Tid) (c : ClientNo) (x : Work) (a : ActiveWork) (held : Option Held) (short : Option Vote) → IsShort short → Keeps (prepared_row t k T c x a (vote_of held short))
-    prepares T c x a (Some held) short h = stays _ _ _ (tt, tt) (tt, tt)
-    prepares T c x a None None h = grants _ _ x.tid x.name (commit_wants a.writes) _ (λ U. tt) (tt, tt) (tt, tt)
-    prepares T c x a None (Some vote) h = subst (λ (v : Vote). Keeps (prepared_row t k T c x a v)) (sym h.3) (stays _ _ _ ((λ d. full d T x.name.server h.0 h.1 h.2 h.4), tt) (tt, tt))
-
-    module _ (st : WorkStorage) where
-      prepare-keeps : (T : Tid) (c : ClientNo) (x : Work) (p : Phase) → ((u : LockUnit) (by : Tid) → p ≡ Broken u by → VoteFact os clients w Caused T x.name (votes.Broken u by)) → Keeps (prepare_phase t st k T c x p)
-      prepare-keeps T c x (Active a) broken = prepares T c x a (conflict x.name (commit_wants a.writes) t) (shortage st.free (need_in st.state.files a.list)) (is-short st.free (need_in st.state.files a.list))
-      prepare-keeps T c x (Broken u by) broken = stays _ _ _ (broken u by refl, tt) (tt, tt)
-      prepare-keeps T c x (Stored p) broken = either (is_going (st.state.works x.name)) _ _ (stays _ _ _ tt tt) (stays _ _ _ (tt, tt) (tt, tt))
-
-      prepares-keep : (T : Tid) (c : ClientNo) (W : WorkId) (o : Option Work) → work_at W t ≡ o → (work_at W t ≡ None → VoteFact os clients w Caused T W (votes.Lost W.epoch k.epoch))
-          → ((x : Work) (u : LockUnit) (by : Tid) → work_at W t ≡ Some x → x.phase ≡ Broken u by → VoteFact os clients w Caused T x.name (votes.Broken u by)) → Keeps (prepare_row t st k T c W o)
-      prepares-keep T c W None e lost broken = stays _ _ _ (lost e, tt) (tt, tt)
-      prepares-keep T c W (Some x) e lost broken = prepare-keeps T c x x.phase (λ u by f. broken x u by e f)
-
-      -- ---- Commit and Drop
-
-      commit-keeps : (W : WorkId) (p : Phase) → Keeps (commit_phase t st k W p)
-      commit-keeps W (Active a) = stays _ _ _ tt tt
-      commit-keeps W (Broken u by) = stays _ _ _ tt tt
-      commit-keeps W (Stored p) = either (is_going (st.state.works W)) _ _ (stays _ _ _ tt tt) (stays _ _ _ tt tt)
-
-      commits-keep : (T : Tid) (W : WorkId) (o : Option Work) → Keeps (commit_row t st k T W o)
-      commits-keep T W (Some x) = commit-keeps W x.phase
-      commits-keep T W None = stays _ _ _ (tt, tt) (tt, tt)
-
-      goes : (W : WorkId) (changes : List Change) (sent : List Sent) → ((V : WorkId) → W ≡ V → Goes V) → Each (SaysPast os clients w Caused) sent → Each (OpensFact Asks (without W t)) sent → Keeps (record { table = without W t; changes = changes; messages = sent; notes = []; tickets = k })
-      goes W changes sent may h o = record { told = each-less (WorkTold s (lines ++ [])) W t (all-told s lines [] t all); live = λ V l. by V (live-less V W t rising l); says = h; opens = o }
-        where
-          by : (V : WorkId) → IsLive V (without W t) ⊎ (W ≡ V) → IsLive V (without W t) ⊎ Goes V
-          by V (inl l) = inl l
-          by V (inr e) = inr (may V e)
-
-      drop-keeps : (W : WorkId) (p : Phase) → ((V : WorkId) → W ≡ V → Goes V) → Keeps (drop_phase t st k W p)
-      drop-keeps W (Active a) may = goes W _ _ may tt tt
-      drop-keeps W (Broken u by) may = goes W _ _ may tt tt
-      drop-keeps W (Stored p) may = either (is_going (st.state.works W)) _ _ (stays _ _ _ tt tt) (goes W _ _ may tt tt)
-
-      drops-keep : (W : WorkId) (o : Option Work) → ((V : WorkId) → W ≡ V → Goes V) → Keeps (drop_row t st k W o)
-      drops-keep W (Some x) may = drop-keeps W x.phase may
-      drops-keep W None may = stays _ _ _ tt tt
+        by : (V : WorkId) → IsLive V (without W t) ⊎ (W ≡ V) → IsLive V (without W t) ⊎ Goes V
+        by V (inl l) = inl l
+        by V (inr e) = inr (may V e)
 
   -- ---- every message
 
@@ -251,53 +156,67 @@ module _ (os : List Opening) (clients : ClientNo → ClientTable) (w : Machine) 
     pub lost : (T : Tid) (c : ClientNo) (W : WorkId) → message ≡ messages.Prepare T c W → work_at W t ≡ None → VoteFact os clients w Caused T W (votes.Lost W.epoch k.epoch)
     pub broken : (T : Tid) (c : ClientNo) (W : WorkId) (x : Work) (u : LockUnit) (by : Tid) → message ≡ messages.Prepare T c W → work_at W t ≡ Some x → x.phase ≡ Broken u by → VoteFact os clients w Caused T x.name (votes.Broken u by)
 
+  -- a shortage is of something of which there is less than is needed
+  abbrev IsShort : Option Vote → Type 0
+  IsShort None = Unit {0}
+  IsShort (Some vote) = (number : Resource) × (free : ℕ) × (need : ℕ) × (vote ≡ votes.Full number free need) × (nat_lt free need ≡ true)
+
+  is-short : (free need : Need) → IsShort (shortage free need)
+  is-short free need = by (nat_lt free.records need.records) refl (nat_lt free.pages need.pages) refl (nat_lt free.heads need.heads) refl
+    where
+      by : (a : Bool) → nat_lt free.records need.records ≡ a → (b : Bool) → nat_lt free.pages need.pages ≡ b → (c : Bool) → nat_lt free.heads need.heads ≡ c
+          → IsShort (if a then Some (votes.Full resources.Records free.records need.records) else (if b then Some (votes.Full resources.Pages free.pages need.pages) else (if c then Some (votes.Full resources.Heads free.heads need.heads) else None)))
+      by true e b f c g = (resources.Records, free.records, need.records, refl, e)
+      by false e true f c g = (resources.Pages, free.pages, need.pages, refl, f)
+      by false e false f true g = (resources.Heads, free.heads, need.heads, refl, g)
+      by false e false f false g = tt
+
+  vote-fact : (T : Tid) (W : WorkId) (held : Option Held) (short : Option Vote) → IsShort short → VoteFact os clients w Caused T W (vote_of held short)
+  vote-fact T W (Some held) short h = tt
+  vote-fact T W None None h = tt
+  vote-fact T W None (Some vote) h = subst (λ (v : Vote). VoteFact os clients w Caused T W v) (sym h.3) (λ d. full d T W.server h.0 h.1 h.2 h.4)
+
   pub worker-keeps : (st : WorkStorage) (message : Message) → Votes message → RowKeeps (Asked message) (Dropped message) (worker_row t st k message)
-  worker-keeps st (messages.Open c q T) v = opens-one _ _ c q T refl (work_of T t) refl
-  worker-keeps st (messages.Op c q W number op) v = ops-keep _ _ st.state.files c q W number op (work_at W t)
-  worker-keeps st (messages.Prepare T c W) v = prepares-keep _ _ st T c W (work_at W t) refl (λ e. v.lost T c W refl e) (λ x u by e f. v.broken T c W x u by refl e f)
-  worker-keeps st (messages.Commit T W) v = commits-keep _ _ st T W (work_at W t)
-  worker-keeps st (messages.Drop T W) v = drops-keep _ _ st W (work_at W t) (λ V e. (T, ap (λ (U : WorkId). messages.Drop T U) e))
-  worker-keeps st _ v = stays _ _ _ _ _ tt tt
+  worker-keeps st message = by message (worker_row t st k message) (worker-case t st k message)
+    where
+      replied : (m : Message) (sent : Sent) → Replies t st k m sent → Votes m → SaysPast os clients w Caused sent × OpensFact (Asked m) t sent
+      replied _ _ (is_open_already c q T x e) v = let found = of-found T t x rising e in (tt, (ap is_some found, place x.name x found, refl))
+      replied _ _ (votes_against T c W x a e f g) v = (vote-fact T x.name (conflict x.name (commit_wants a.writes) t) (shortage st.free (need_in st.state.files a.list)) (is-short st.free (need_in st.state.files a.list)), tt)
+      replied _ _ (votes_broken T c W x u R e f) v = (v.broken T c W x u R refl e f, tt)
+      replied _ _ (votes_lost T c W e) v = (v.lost T c W refl e, tt)
+      replied m sent reply v = (tt, tt)
+
+      by : (m : Message) (row : RowOutcome WorkerTable) → WorkerCase t st k m row → Votes m → RowKeeps (Asked m) (Dropped m) row
+      by _ _ (replies_only m sent reply) v = let h = replied m sent reply v in stays _ _ _ _ _ (h.0, tt) (h.1, tt)
+      by _ _ (opens_anew c q T none room) v = record {
+        told = each-append (WorkTold s (lines ++ [])) t _ (all-told s lines [] t all) (tt, tt);
+        live = λ W l. inl (live-more W t (new_work (name_from k) T) l);
+        says = (tt, tt);
+        opens = ((live-last t (new_work (name_from k) T), refl, refl), tt);
+      }
+      by _ _ (refuses_next c q W number op x a refusal found e l r) v = record {
+        told = each-phase (WorkTold s (lines ++ [])) x.name _ t (λ y f p. tt) (all-told s lines [] t all);
+        live = λ V l. inl (live-phase V x.name _ t l);
+        says = (tt, tt);
+        opens = (tt, tt);
+      }
+      by _ _ (performs_next c q W number op x a found e l r) v = grants _ _ _ _ x.tid x.name (its_wants st a op) _ (λ T. tt) (tt, tt) (tt, tt)
+      by _ _ (prepares_it T c W x a found e g) v = grants _ _ _ _ x.tid x.name (commit_wants a.writes) _ (λ U. tt) (tt, tt) (tt, tt)
+      by _ _ (drops_it T W x found f) v = goes _ _ W _ _ (λ V e. (T, ap (λ (U : WorkId). messages.Drop T U) e)) tt tt
+      by _ _ (removes_it T W x p found f g) v = goes _ _ W _ _ (λ V e. (T, ap (λ (U : WorkId). messages.Drop T U) e)) tt tt
+      by m row case v = stays _ _ _ _ _ tt tt
 
   -- ---- without a message
 
   abbrev pub Forgets : WorkStorage → WorkId → Type 0
   Forgets st W = is_going (st.state.works W) ≡ true
 
-  going-found : (x : StableState) (l : WorkerTable) (v : Work) → going_work x l ≡ Some v → is_going (x.works v.name) ≡ true
-  going-found x [] v h = absurd (none h)
-    where
-      none : None ≡ Some v → ⊥
-      none e = cc
-  going-found x (y ∷ ys) v h = by (is_going (x.works y.name)) refl h (going-found x ys v)
-    where
-      some : Some y ≡ Some v → y ≡ v
-      some e = cc
-
-      by : (b : Bool) → is_going (x.works y.name) ≡ b → (if b then Some y else going_work x ys) ≡ Some v → (going_work x ys ≡ Some v → is_going (x.works v.name) ≡ true) → is_going (x.works v.name) ≡ true
-      by true e k on = subst (λ (z : Work). is_going (x.works z.name) ≡ true) (some k) e
-      by false e k on = on k
-
   pub step-keeps : (st : WorkStorage) (row : RowOutcome WorkerTable) → worker_step t st k ≡ Some row → RowKeeps (λ c q T. ⊥) (Forgets st) row
-  step-keeps st row h = by (going_work st.state t) refl h
+  step-keeps st row h = by row (worker-step-case t st k row h)
     where
-      some : {a b : RowOutcome WorkerTable} → Some a ≡ Some b → a ≡ b
-      some e = cc
-
-      none : None ≡ Some row → ⊥
-      none e = cc
-
-      carries : (x : Work) (o : Option Intention) → is_going (st.state.works x.name) ≡ true → RowKeeps (λ c q T. ⊥) (Forgets st) (carried_row t k x o)
-      carries x (Some i) e = stays _ _ _ _ _ tt tt
-      carries x None e = goes _ _ st x.name _ _ (λ V f. subst (λ (U : WorkId). is_going (st.state.works U) ≡ true) f e) (tt, tt) (tt, tt)
-
-      rest : (b : Bool) → (if b then Some (record { table = t; changes = []; messages = []; notes = []; tickets = k }) else None) ≡ Some row → RowKeeps (λ c q T. ⊥) (Forgets st) row
-      rest true e = subst (λ (z : RowOutcome WorkerTable). RowKeeps (λ c q T. ⊥) (Forgets st) z) (some e) (stays _ _ _ _ _ tt tt)
-      rest false e = absurd (none e)
-
-      by : (o : Option Work) → going_work st.state t ≡ o → going_row t st k o ≡ Some row → RowKeeps (λ c q T. ⊥) (Forgets st) row
-      by (Some x) e q = subst (λ (z : RowOutcome WorkerTable). RowKeeps (λ c q T. ⊥) (Forgets st) z) (some q) (carries x (slice_get (intentions_of (st.state.works x.name)) (st.next x.name)) (going-found st.state t x e))
-      by None e q = rest st.rubbish q
+      by : (row : RowOutcome WorkerTable) → WorkerStep t st k row → RowKeeps (λ c q T. ⊥) (Forgets st) row
+      by _ (is_over x e f) = goes _ _ x.name _ _ (λ V g. subst (λ (U : WorkId). is_going (st.state.works U) ≡ true) g (going-is st.state t x e)) (tt, tt) (tt, tt)
+      by row case = stays _ _ _ _ _ tt tt
 
 -- ---- a timeout and a restart
 

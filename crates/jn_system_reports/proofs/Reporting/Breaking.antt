@@ -1,10 +1,7 @@
 -- A work that a row says is broken was one that held something, and is broken in its table.
-use Rattle.jn_system_reports.proofs.Common.{◌≡◌, ◌⊎◌, inl, inr, ◌+◌, Bool, true, false, List, [], ◌∷◌, Option, Some, None, refl, sym, ◌∙◌, ap, subst, arith, ◌&&◌, ◌||◌, not, if◌then◌else◌, nat_lt, nat_eq, length, ClientNo, Tid, WorkId, LockUnit, Tickets, Op, Answer, work_eq, work_tells, Files, change, answer_to, list_change, Read, IntentionWrite, is_unit, Message, Vote, Work, Phase, Active, Broken, Stored, ActiveWork, is_going, RowOutcome, WorkerTable, WorkStorage, Wanted, work_at, work_of, with_phase, after_grant, breaks_at, broken_by, note_of, break_notes, gives_way, collision, has_mode, open_row, wants_of, is_fit, refusal_of, granted_row, repeated, op_phase, op_row, conflict, commit_wants, vote_of, shortage, need_in, prepared_row, prepare_phase, prepare_row, commit_phase, drop_phase, drop_row, worker_row, is_before, are_rising, work_same, found-name, found-behind, not-before, in_phase, at-phase, once_granted, at-grant, OperationNo, RequestNo}
+use Rattle.jn_system_reports.proofs.Common.{◌≡◌, ◌⊎◌, inl, inr, Bool, true, false, List, [], ◌∷◌, Option, Some, None, refl, sym, ◌∙◌, ap, subst, arith, ◌&&◌, ◌||◌, not, if◌then◌else◌, Tid, WorkId, LockUnit, Tickets, work_eq, work_tells, Read, IntentionWrite, is_unit, Message, Work, Phase, Active, Broken, Stored, ActiveWork, RowOutcome, WorkerTable, WorkStorage, Wanted, work_at, with_phase, after_grant, breaks_at, broken_by, note_of, break_notes, gives_way, collision, has_mode, commit_wants, worker_row, is_before, are_rising, work_same, found-name, found-behind, not-before, in_phase, at-phase, once_granted, at-grant, WorkerCase, none_done, performs_next, prepares_it, its_wants, worker-case}
 use Rattle.jn_locks.specs.declared.words.Mode.TheVariants.{Commit}
-use Rattle.jn_msgs.specs.declared.message.Message.TheVariants as messages
 use Rattle.jn_msgs.specs.declared.message.Note.TheVariants.{Broke, Ignored}
-use Rattle.jn_msgs.specs.declared.message.Vote.TheVariants as votes
-use Rattle.jn_rows.specs.Worker.{commit_row}
 use Rattle.jn_system_reports.proofs.Reporting.Lists.{In, in-either}
 
 -- the work that broke
@@ -138,72 +135,11 @@ module _ (t : WorkerTable) (k : Tickets) (rising : are_rising t ≡ true) where
       no (inl q) = absurd (clash q)
       no (inr q) = absurd q
 
-  either : (b : Bool) (p q : RowOutcome WorkerTable) → Breaks t p → Breaks t q → Breaks t (if b then p else q)
-  either true p q h l = h
-  either false p q h l = l
-
-  open-breaks : (c : ClientNo) (q : RequestNo) (T : Tid) (o : Option Work) → Breaks t (open_row t k c q T o)
-  open-breaks c q T (Some w) = none-broke _ refl
-  open-breaks c q T None = either (nat_lt (length t) 64) _ _ (none-broke _ refl) (none-broke _ refl)
-
-  granted-breaks : (c : ClientNo) (q : RequestNo) (w : Work) (a : ActiveWork) (op : Op) (answer : Answer) (wants : List Wanted) (o : Option Answer) → Breaks t (granted_row t k c q w a op answer wants o)
-  granted-breaks c q w a op answer wants (Some refusal) = none-broke _ refl
-  granted-breaks c q w a op answer wants None = λ T u by i. broke-one w.tid w.name wants _ t _ refl T u by (noted w.tid w.name wants t rising T u by i)
-
-  repeated-breaks : (c : ClientNo) (q : RequestNo) (o : Option Answer) → Breaks t (repeated t k c q o)
-  repeated-breaks c q (Some answer) = none-broke _ refl
-  repeated-breaks c q None = ignored-broke _ refl
-
-  op-breaks : (files : Files) (c : ClientNo) (q : RequestNo) (w : Work) (n : OperationNo) (op : Op) (p : Phase) → Breaks t (op_phase t files k c q w n op p)
-  op-breaks files c q w n op (Active a) = let answer = answer_to op (change (list_change a.list) files) in
-      either (nat_eq n.0 (a.last + 1)) _ _ (granted-breaks c q w a op answer (wants_of op (is_fit answer)) (refusal_of t w.name a op answer (wants_of op (is_fit answer))))
-      (either (nat_eq n.0 a.last) _ _ (repeated-breaks c q a.kept) (ignored-broke _ refl))
-  op-breaks files c q w n op (Broken u by) = none-broke _ refl
-  op-breaks files c q w n op (Stored p) = none-broke _ refl
-
-  ops-break : (files : Files) (c : ClientNo) (q : RequestNo) (W : WorkId) (n : OperationNo) (op : Op) (o : Option Work) → Breaks t (op_row t files k c q W n op o)
-  ops-break files c q W n op (Some w) = op-breaks files c q w n op w.phase
-  ops-break files c q W n op None = none-broke _ refl
-
-  vote-breaks : (T : Tid) (c : ClientNo) (w : Work) (a : ActiveWork) (vote : Vote) → Breaks t (prepared_row t k T c w a vote)
-  vote-breaks T c w a votes.Ready = λ U u by i. broke-one w.tid w.name (commit_wants a.writes) _ t _ refl U u by (noted w.tid w.name (commit_wants a.writes) t rising U u by i)
-  vote-breaks T c w a (votes.Waiting u by) = none-broke _ refl
-  vote-breaks T c w a (votes.Broken u by) = none-broke _ refl
-  vote-breaks T c w a (votes.Lost m n) = none-broke _ refl
-  vote-breaks T c w a (votes.Full m n l) = none-broke _ refl
-
-  module _ (s : WorkStorage) where
-    prepare-breaks : (T : Tid) (c : ClientNo) (w : Work) (p : Phase) → Breaks t (prepare_phase t s k T c w p)
-    prepare-breaks T c w (Active a) = vote-breaks T c w a (vote_of (conflict w.name (commit_wants a.writes) t) (shortage s.free (need_in s.state.files a.list)))
-    prepare-breaks T c w (Broken u by) = none-broke _ refl
-    prepare-breaks T c w (Stored p) = either (is_going (s.state.works w.name)) _ _ (ignored-broke _ refl) (none-broke _ refl)
-
-    prepares-break : (T : Tid) (c : ClientNo) (W : WorkId) (o : Option Work) → Breaks t (prepare_row t s k T c W o)
-    prepares-break T c W (Some w) = prepare-breaks T c w w.phase
-    prepares-break T c W None = none-broke _ refl
-
-    commit-breaks : (W : WorkId) (p : Phase) → Breaks t (commit_phase t s k W p)
-    commit-breaks W (Active a) = ignored-broke _ refl
-    commit-breaks W (Broken u by) = ignored-broke _ refl
-    commit-breaks W (Stored p) = either (is_going (s.state.works W)) _ _ (ignored-broke _ refl) (none-broke _ refl)
-
-    commits-break : (T : Tid) (W : WorkId) (o : Option Work) → Breaks t (commit_row t s k T W o)
-    commits-break T W (Some w) = commit-breaks W w.phase
-    commits-break T W None = none-broke _ refl
-
-    drop-breaks : (W : WorkId) (p : Phase) → Breaks t (drop_phase t s k W p)
-    drop-breaks W (Active a) = none-broke _ refl
-    drop-breaks W (Broken u by) = none-broke _ refl
-    drop-breaks W (Stored p) = either (is_going (s.state.works W)) _ _ (ignored-broke _ refl) (none-broke _ refl)
-
-    drops-break : (W : WorkId) (o : Option Work) → Breaks t (drop_row t s k W o)
-    drops-break W (Some w) = drop-breaks W w.phase
-    drops-break W None = ignored-broke _ refl
-
-    pub worker-breaks : (message : Message) → Breaks t (worker_row t s k message)
-    worker-breaks (messages.Open c q T) = open-breaks c q T (work_of T t)
-    worker-breaks (messages.Op c q W n op) = ops-break s.state.files c q W n op (work_at W t)
-    worker-breaks (messages.Prepare T c W) = prepares-break T c W (work_at W t)
-    worker-breaks (messages.Commit T W) = commits-break T W (work_at W t)
-    worker-breaks (messages.Drop T W) = drops-break W (work_at W t)
-    worker-breaks _ = ignored-broke _ refl
+  pub worker-breaks : (s : WorkStorage) (message : Message) → Breaks t (worker_row t s k message)
+  worker-breaks s message = row-breaks message (worker_row t s k message) (worker-case t s k message)
+    where
+      row-breaks : (m : Message) (row : RowOutcome WorkerTable) → WorkerCase t s k m row → Breaks t row
+      row-breaks _ _ (none_done m) = ignored-broke _ refl
+      row-breaks _ _ (performs_next c q W n op w a found e l r) = λ T u by i. broke-one w.tid w.name (its_wants s a op) _ t _ refl T u by (noted w.tid w.name (its_wants s a op) t rising T u by i)
+      row-breaks _ _ (prepares_it T c W w a found e v) = λ U u by i. broke-one w.tid w.name (commit_wants a.writes) _ t _ refl U u by (noted w.tid w.name (commit_wants a.writes) t rising U u by i)
+      row-breaks m row case = none-broke row refl

@@ -1,5 +1,5 @@
 -- A client's rows keep what it has asked for, and a new operation of it is the next one of its work.
-use Rattle.jn_system_reports.proofs.Common.{◌≡◌, ◌≢◌, ◌⊎◌, inl, inr, ◌<◌, ◌≤◌, ℕ, ◌+◌, Bool, true, false, List, [], ◌∷◌, ◌++◌, Option, Some, None, refl, sym, ◌∙◌, ap, subst, arith, ◌&&◌, if◌then◌else◌, nat_lt, nat_tests, ServerNo, ClientNo, Tid, WorkId, Party, Client, Server, Op, Command, Begin, Open, Do, End, Abort, server_eq, client_eq, client_tells, Message, Outcome, Text, OpenWork, Outstanding, Taken, Sent, ClientTable, Commanded, Refuses, Sends, with_operation, if_server, if_idle, if_transaction, if_no_transaction, if_open, if_not_open, command_row, sends, is_begin, is_current, if_waits, idle, over, begun_row, opened_row, decided_row, outcome_row, take_row, Machine, IsWorkOf, not_both, AreOpen, found-open, Opening, opening_in, Has, Began, IsRunning, request_eq, request_of, operation_of, RequestNo}
+use Rattle.jn_system_reports.proofs.Common.{◌≡◌, ◌⊎◌, inl, inr, ◌<◌, ◌≤◌, ℕ, ◌+◌, Bool, true, false, List, [], ◌∷◌, ◌++◌, Option, Some, None, refl, sym, ◌∙◌, ap, subst, arith, ◌&&◌, if◌then◌else◌, nat_lt, nat_tests, ServerNo, ClientNo, Tid, WorkId, Party, Client, Server, Op, Command, Begin, Open, Do, End, Abort, server_eq, client_eq, client_tells, Message, Outcome, Text, OpenWork, Outstanding, Taken, Sent, ClientTable, Commanded, Refuses, Sends, with_operation, if_server, if_idle, if_transaction, if_no_transaction, if_open, if_not_open, command_row, sends, is_begin, is_current, if_waits, idle, over, begun_row, opened_row, decided_row, outcome_row, take_row, Machine, IsWorkOf, AreOpen, found-open, Opening, opening_in, Has, Began, IsRunning, request_eq, request_of, operation_of, RequestNo}
 use Rattle.jn_msgs.specs.declared.message.Message.TheVariants as messages
 use Rattle.jn_msgs.specs.declared.message.Outcome.TheVariants as outcomes
 use Rattle.jn_report.specs.declared.line.Refusal.TheVariants as refusals
@@ -299,11 +299,7 @@ module _ (os : List Opening) (w : Machine) (ended : Tid → Bool) (sent : List S
   second-of a b h = grind arith
 
   same-client : (d : ClientNo) → client_eq d t.client ≡ true → d ≡ c
-  same-client d e = by (client_tells d t.client)
-    where
-      by : ((client_eq d t.client ≡ true) × (d ≡ t.client)) ⊎ ((client_eq d t.client ≡ false) × (d ≢ t.client)) → d ≡ c
-      by (inl p) = p.1 ∙ run.name
-      by (inr p) = absurd (not_both (client_eq d t.client) e p.0)
+  same-client d e = let is = run.name in grind (arith, client_tells d t.client, e, is)
 
   same-number : (a b : RequestNo) → request_eq a b ≡ true → a ≡ b
   same-number a b e = grind (arith, nat_tests)

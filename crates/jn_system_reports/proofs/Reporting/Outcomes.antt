@@ -1,5 +1,5 @@
 -- What is told aborted or broken isn't named, and never will be.
-use Rattle.jn_system_reports.proofs.Common.{◌≡◌, ◌≢◌, ◌⊎◌, inl, inr, ℕ, Bool, true, false, List, [], ◌++◌, append-nil, Option, Some, None, refl, sym, ◌∙◌, ap, subst, arith, if◌then◌else◌, list_any, ServerNo, ClientNo, Tid, WorkId, LockUnit, Cause, Client, Answer, server_eq, client_eq, tid_eq, server_tells, client_tells, tid_tells, Message, Outcome, Text, Phase, Broken, Outstanding, Taken, Pick, RowOutcome, Sent, WorkerTable, ClientTable, is_tid, is_current, if_waits, begun_row, opened_row, answer_line, outcome_row, take_row, found-name, Machine, Invariant, IsWorkOf, OutcomeSays, Says, not_both, some_none, false_unless, World, Memory, at_server, commits_in, has_line, of_worker, lines_of, done, LockFacts, UpFact, ServerFact, Mirrors, active_in, working_in, working_of, commits-more, lines-commit, named_by, Opening}
+use Rattle.jn_system_reports.proofs.Common.{◌≡◌, ◌≢◌, ◌⊎◌, inl, inr, ℕ, Bool, true, false, List, [], ◌++◌, append-nil, Option, Some, None, refl, sym, ◌∙◌, ap, subst, arith, if◌then◌else◌, list_any, ServerNo, ClientNo, Tid, WorkId, LockUnit, Cause, Client, Answer, client_eq, tid_eq, client_tells, tid_tells, Message, Outcome, Text, Phase, Broken, Outstanding, Taken, Pick, RowOutcome, Sent, WorkerTable, ClientTable, is_tid, is_current, if_waits, begun_row, opened_row, answer_line, outcome_row, take_row, found-name, Machine, Invariant, IsWorkOf, OutcomeSays, Says, not_both, some_none, false_unless, World, Memory, at_server, commits_in, has_line, of_worker, lines_of, done, LockFacts, UpFact, ServerFact, Mirrors, active_in, working_in, working_of, commits-more, lines-commit, named_by, Opening, one-server}
 use Rattle.jn_base.specs.declared.op.Answer.TheVariants as answers
 use Rattle.jn_msgs.specs.declared.message.Message.TheVariants as messages
 use Rattle.jn_msgs.specs.declared.message.Outcome.TheVariants as outcomes
@@ -73,11 +73,7 @@ module _ (os : List Opening) (clients : ClientNo → ClientTable) (w : Machine) 
   outcome-abort T (outcomes.NotKnown q epoch) s (inr p) = either (is_current t T) _ _ (λ e. waits-abort t.outstanding _ _ (λ j. (name, is-its T e, p.0, p.1))) tt
 
   same-client : (d : ClientNo) → client_eq d t.client ≡ true → d ≡ c
-  same-client d e = by (client_tells d t.client)
-    where
-      by : ((client_eq d t.client ≡ true) × (d ≡ t.client)) ⊎ ((client_eq d t.client ≡ false) × (d ≢ t.client)) → d ≡ c
-      by (inl p) = p.1 ∙ name
-      by (inr p) = absurd (not_both (client_eq d t.client) e p.0)
+  same-client d e = grind (arith, client_tells d t.client, e, name)
 
   pub take-aborts : (message : Message) → Says w message → SaysPast os clients w Caused (Client c, message) → AbortsTruly (take_row t message)
   take-aborts (messages.Begun d q o) s h = waits-abort t.outstanding _ _ (λ j. begun j o)
@@ -122,11 +118,7 @@ module _ (r : World) (w : Machine) (mirrors : Mirrors r w) (talk : Talk r w) (lo
   now = (of_worker m row).table
 
   here : at_server r.memory s (Some (of_worker m row).table) s ≡ Some (of_worker m row).table
-  here = by (server_tells s s)
-    where
-      by : ((server_eq s s ≡ true) × (s ≡ s)) ⊎ ((server_eq s s ≡ false) × (s ≢ s)) → (if server_eq s s then Some (of_worker m row).table else r.memory s) ≡ Some (of_worker m row).table
-      by (inl p) = ap (λ (b : Bool). if b then Some (of_worker m row).table else r.memory s) p.0
-      by (inr p) = absurd (p.1 refl)
+  here = one-server (λ q z. s ≡ q → z ≡ Some (of_worker m row).table) r.memory s (Some (of_worker m row).table) (λ e. refl) (λ q other e. absurd (other e)) s refl
 
   up : UpFact s m (r.found s)
   up = subst (λ o. ServerFact s o (r.found s)) is (locks s)

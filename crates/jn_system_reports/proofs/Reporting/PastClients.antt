@@ -1,5 +1,5 @@
 -- A client's steps keep what is past for it, and what it sends says what is past.
-use Rattle.jn_system_reports.proofs.Common.{◌≡◌, ◌≢◌, ◌⊎◌, inl, inr, ◌<◌, ◌≤◌, ℕ, ◌+◌, Bool, true, false, List, [], ◌++◌, append-nil, Option, Some, None, is_some, refl, sym, ◌∙◌, ap, subst, arith, if◌then◌else◌, nat_lt, ServerNo, ClientNo, Tid, WorkId, Cause, Requested, Party, Client, Server, Command, Begin, Open, Do, End, Abort, client_eq, tid_eq, client_tells, tid_tells, Message, Outcome, Text, OpenWork, Outstanding, Taken, StableState, Pick, Sent, ClientTable, Commanded, Refuses, Sends, names_of, if_server, if_idle, if_transaction, if_no_transaction, if_open, if_not_open, command_row, is_tid, is_current, if_waits, over, begun_row, opened_row, decided_row, outcome_row, take_row, Machine, not_both, Memory, at_client, Opening, openings, Has, Began, request_of, RequestNo}
+use Rattle.jn_system_reports.proofs.Common.{◌≡◌, ◌≢◌, ◌⊎◌, inl, inr, ◌<◌, ◌≤◌, ℕ, ◌+◌, Bool, true, false, List, [], ◌++◌, append-nil, Option, Some, None, is_some, refl, sym, ◌∙◌, ap, subst, arith, if◌then◌else◌, nat_lt, ServerNo, ClientNo, Tid, WorkId, Cause, Requested, Party, Client, Server, Command, Begin, Open, Do, End, Abort, client_eq, tid_eq, client_tells, tid_tells, Message, Outcome, Text, OpenWork, Outstanding, Taken, StableState, Pick, Sent, ClientTable, Commanded, Refuses, Sends, names_of, if_server, if_idle, if_transaction, if_no_transaction, if_open, if_not_open, command_row, is_tid, is_current, if_waits, over, begun_row, opened_row, decided_row, outcome_row, take_row, Machine, not_both, Memory, at_client, Opening, openings, Has, Began, request_of, RequestNo, one-client}
 use Rattle.jn_msgs.specs.declared.message.Message.TheVariants as messages
 use Rattle.jn_msgs.specs.declared.message.Outcome.TheVariants as outcomes
 use Rattle.jn_report.specs.declared.line.Refusal.TheVariants as refusals
@@ -90,18 +90,11 @@ module _ (sent : List Sent) (clients : ClientNo → ClientTable) (memory : Serve
   no-fall n = omega arith
 
   module _ (c : ClientNo) (u : ClientTable) (g : TableGoes (openings sent) c (clients c) u) where
-    at-own : (P : ClientNo → ClientTable → Type 0) → P c u → ((d : ClientNo) → P d (clients d)) → (d : ClientNo) → P d (at_client clients c u d)
-    at-own P own other d = by (client_tells c d)
-      where
-        by : ((client_eq c d ≡ true) × (c ≡ d)) ⊎ ((client_eq c d ≡ false) × (c ≢ d)) → P d (if client_eq c d then u else clients d)
-        by (inl p) = subst (λ (b : Bool). P d (if b then u else clients d)) (sym p.0) (subst (λ (z : ClientNo). P z u) p.1 own)
-        by (inr p) = subst (λ (b : Bool). P d (if b then u else clients d)) (sym p.0) (other d)
-
     pub client-past : (more : List Sent) → openings (sent ++ more) ≡ openings sent → ((o : Outstanding) → u.outstanding ≡ Some o → u.next ≡ o.request.0 + 1) → Each (SaysPast (openings sent) (at_client clients c u) v Caused') more
         → PastFacts (sent ++ more) (at_client clients c u) memory found v Caused'
     client-past more same last says = clients-past (at_client clients c u)
-        (at-own (λ d (t : ClientTable). TableGoes (openings sent) d (clients d) t) g (λ d. record { next = no-fall (clients d).next; fresh = λ o e. inl e; has = λ T e. inl e }))
-        more same (at-own (λ d (t : ClientTable). (o : Outstanding) → t.outstanding ≡ Some o → t.next ≡ o.request.0 + 1) last past.last) says
+        (one-client (λ d (t : ClientTable). TableGoes (openings sent) d (clients d) t) clients c u g (λ d other. record { next = no-fall (clients d).next; fresh = λ o e. inl e; has = λ T e. inl e }))
+        more same (one-client (λ d (t : ClientTable). (o : Outstanding) → t.outstanding ≡ Some o → t.next ≡ o.request.0 + 1) clients c u last (λ d other. past.last d)) says
 
   pub dismiss-past : PastFacts sent (λ c. over (clients c)) memory found v Caused'
   dismiss-past = subst (λ l. PastFacts l (λ c. over (clients c)) memory found v Caused') (append-nil sent) (clients-past (λ c. over (clients c))
@@ -121,11 +114,7 @@ module _ (os : List Opening) (clients : ClientNo → ClientTable) (w v : Machine
 
   -- of the table that is now the client's
   own-table : (u : ClientTable) (d : ClientNo) → d ≡ c → at_client clients c u d ≡ u
-  own-table u d e = by (client_tells c d)
-    where
-      by : ((client_eq c d ≡ true) × (c ≡ d)) ⊎ ((client_eq c d ≡ false) × (c ≢ d)) → (if client_eq c d then u else clients d) ≡ u
-      by (inl p) = ap (λ (b : Bool). if b then u else clients d) p.0
-      by (inr p) = absurd (p.1 (sym e))
+  own-table u d e = one-client (λ d z. d ≡ c → z ≡ u) clients c u (λ e. refl) (λ d other e. absurd (other (sym e))) d e
 
   -- a fact of the client with its new table
   here : (P : ClientNo → ClientTable → Type 0) (u : ClientTable) → P c u → P t.client (at_client clients c u t.client)
@@ -253,11 +242,7 @@ module _ (os : List Opening) (clients : ClientNo → ClientTable) (w v : Machine
   outcome-says T (outcomes.NotKnown s epoch) h = either (is_current t T) _ _ (λ e. waits-says t.outstanding _ _ (λ j. tt)) (λ e. tt)
 
   same-client : (d : ClientNo) → client_eq d t.client ≡ true → d ≡ c
-  same-client d e = by (client_tells d t.client)
-    where
-      by : ((client_eq d t.client ≡ true) × (d ≡ t.client)) ⊎ ((client_eq d t.client ≡ false) × (d ≢ t.client)) → d ≡ c
-      by (inl p) = p.1 ∙ name
-      by (inr p) = absurd (not_both (client_eq d t.client) e p.0)
+  same-client d e = grind (arith, client_tells d t.client, e, name)
 
   pub take-says : (message : Message) → SaysPast os clients w Caused (Client c, message) → TakenSays (take_row t message)
   take-says (messages.Begun d q o) h = waits-says t.outstanding _ _ (λ j. begun j o)

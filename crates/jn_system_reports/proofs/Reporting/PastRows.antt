@@ -1,15 +1,14 @@
 -- A coordinator's rows keep what they say of transactions that are past, and forget only those.
-use Rattle.jn_system_reports.proofs.Common.{◌≡◌, ◌≢◌, ◌⊎◌, inl, inr, ◌<◌, ◌≤◌, ℕ, ◌+◌, Bool, true, false, List, [], ◌∷◌, ◌++◌, Option, Some, None, is_some, refl, sym, ◌∙◌, ap, subst, arith, ◌&&◌, not, if◌then◌else◌, nat_lt, nat_eq, length, list_any, nat_tests, ServerNo, ClientNo, Tid, WorkId, Tickets, Cause, Requested, BrokenAt, LostAt, FullAt, Party, Resource, client_eq, tid_eq, client_tells, tid_tells, Message, Note, Vote, Outstanding, Transaction, Stage, Ballot, Commitment, StableState, FlagState, Change, DropFlag, at_tid, made_by, made_all, RowOutcome, Sent, ClientTable, CoordinatorTable, transaction_at, with_stage, with_work, is_work, all_in, besides, drops, commits, prepares, commit_row, abort_row, forget_row, begin_new, begin_again, after_closing, changes_of_closing, all_thanked, close_clients_row, seen_now, seen_in_flag, seen_in_flags, restored_transaction, restored_transactions, not_known, end_promised, end_stage, end_row, abort_stage, abort_request, told_stage, inquire_row, counted_vote, vote_stage, vote_row, done_stage, done_row, thanks_stage, thanks_row, coordinator_row, told_again, coordinator_again, committed_to, Machine, IsIdle, is_committed, Closes, Empty, Stays, Goes, Waits, Forgets, client-closes, outcomes-close, named_by, Opening, Has, openings, has-first, has-second, RequestNo}
+use Rattle.jn_system_reports.proofs.Common.{◌≡◌, ◌≢◌, ◌⊎◌, inl, inr, ◌<◌, ◌≤◌, ℕ, ◌+◌, Bool, true, false, List, [], ◌∷◌, ◌++◌, Option, Some, None, is_some, refl, sym, ◌∙◌, ap, subst, arith, ◌&&◌, if◌then◌else◌, nat_lt, list_any, nat_tests, ServerNo, ClientNo, Tid, WorkId, Tickets, Cause, Requested, FullAt, Party, Resource, client_eq, tid_eq, client_tells, tid_tells, Message, Note, Outstanding, Transaction, Stage, Ballot, Commitment, StableState, FlagState, Change, DropFlag, at_tid, made_by, made_all, RowOutcome, Sent, ClientTable, CoordinatorTable, transaction_at, with_stage, with_work, all_in, besides, drops, commits, prepares, commit_row, after_closing, changes_of_closing, all_thanked, close_clients_row, seen_now, seen_in_flag, seen_in_flags, restored_transaction, restored_transactions, coordinator_row, told_again, coordinator_again, committed_to, Machine, IsIdle, is_committed, Closes, Empty, Stays, Goes, Waits, Forgets, client-closes, outcomes-close, named_by, Opening, Has, openings, has-first, has-second, RequestNo, IsListed, wants_to_commit, wants_to_abort, Saying, says_nothing, says_begun, says_unknown, prepares_again, says_committed, says_aborted, Committing, has_no_works, is_last_vote, Aborting, finds_no_record, stops_open, stops_voting, work_is_lost, work_is_broken, work_has_no_room, Noting, work_is_done, client_thanks, CoordinatorCase, is_ignored_by, is_left_by, begins_anew, finds_no_room, starts_voting, counts_vote, is_committed_by, is_aborted_by, notes_commit, forgets_commit, forgets_abort, coordinator-case, one-changes}
 use Rattle.jn_base.specs.declared.names.Resource.TheVariants as resources
 use Rattle.jn_msgs.specs.declared.message.Message.TheVariants as messages
 use Rattle.jn_msgs.specs.declared.message.Outcome.TheVariants as outcomes
 use Rattle.jn_msgs.specs.declared.message.Note.TheVariants.{Broke}
-use Rattle.jn_msgs.specs.declared.message.Vote.TheVariants as votes
 use Rattle.jn_rows.specs.declared.coordinator.Stage.TheVariants.{Open, Voting, Committed, Aborted}
-use Rattle.jn_rows.specs.Coordinator.{without, begun_by, name_from}
+use Rattle.jn_rows.specs.Coordinator.{without, name_from}
 use Rattle.jn_system_order.proofs.Ordering.Facts.{opening}
 use Rattle.jn_system_reports.proofs.Reporting.Lists.{In, Each, each-append, each-more}
-use Rattle.jn_system_reports.proofs.Reporting.Past.{WasHad, EndedBy, BeganBy, Had, Past, VoteFact, OutcomeFact, SaysPast, StageFact, EntryFact, ChangeFact, FlagPast}
+use Rattle.jn_system_reports.proofs.Reporting.Past.{WasHad, EndedBy, BeganBy, Had, Past, OutcomeFact, SaysPast, StageFact, EntryFact, ChangeFact, FlagPast}
 
 -- ---- tables
 
@@ -210,14 +209,6 @@ module _ (os : List Opening) (clients : ClientNo → ClientTable) (w : Machine) 
     more : (seen : ClientNo → ℕ) (os' : List Opening) (xs : List Transaction) → Each (EntryFact os clients w Caused seen) xs → Each (EntryFact (os ++ os') clients w Caused seen) xs
     more seen os' xs h = each-more (EntryFact os clients w Caused seen) (EntryFact (os ++ os') clients w Caused seen) xs (entry-opened seen os') h
 
-    either : (b : Bool) (p q : RowOutcome CoordinatorTable) → RowPast p → RowPast q → RowPast (if b then p else q)
-    either true p q h l = h
-    either false p q h l = l
-
-    -- the table stays
-    tells : (sent : List Sent) (told : List Note) → named_by told ≡ [] → list_any is_broke told ≡ false → Each Says sent → RowPast (record { table = t; changes = []; messages = sent; notes = told; tickets = k })
-    tells sent told none quiet h = record { quiet = quiet; sends = h; entries = more t.seen _ t.transactions all-entries; changes = tt; held = all-held; names = λ T i. absurd (subst (λ l. In T l) none i) }
-
     drops-say : (T : Tid) (Ws : List WorkId) → Each Says (drops T Ws)
     drops-say T [] = tt
     drops-say T (W ∷ Ws) = (tt, drops-say T Ws)
@@ -232,27 +223,24 @@ module _ (os : List Opening) (clients : ClientNo → ClientTable) (w : Machine) 
 
     -- ---- a transaction of the table
 
-    module _ (T : Tid) (y : Transaction) (found : transaction_at T t.transactions ≡ Some y) where
-      its : Entry y × (y.tid ≡ T)
-      its = each-found Entry T t.transactions y all-entries found
+    module _ (y : Transaction) (found : IsListed t y) where
+      its : Entry y
+      its = (each-found Entry y.tid t.transactions y all-entries found).0
 
-      there : IsThere y.tid t.transactions
-      there = ap (λ (U : Tid). is_some (transaction_at U t.transactions)) its.1 ∙ ap is_some found
+      at-stage : (stage : Stage) → y.stage ≡ stage → StageFact os clients w Caused y.client y.tid stage
+      at-stage stage e = subst (λ (z : Stage). StageFact os clients w Caused y.client y.tid z) e its.stage
 
       -- it is told of by its client alone
-      its-client : (c : ClientNo) → Had os clients w Caused c T → c ≡ y.client
-      its-client c h = one-client c y.client h.request its.0.request T y.tid h.has its.0.has (sym its.1)
+      its-client : (c : ClientNo) → Had os clients w Caused c y.tid → c ≡ y.client
+      its-client c h = one-client c y.client h.request its.request y.tid y.tid h.has its.has refl
 
       staged-entries : (stage : Stage) → StageFact os clients w Caused y.client y.tid stage → Each Entry (with_stage y.tid stage t.transactions)
       staged-entries stage h = each-stage Entry y.tid stage t.transactions
-          (λ z e f. record { request = f.request; has = f.has; seen_it = f.seen_it; stage = subst (λ (U : Tid). StageFact os clients w Caused z.client U stage) (sym e) (subst (λ (c : ClientNo). StageFact os clients w Caused c y.tid stage) (one-client y.client z.client its.0.request f.request y.tid z.tid its.0.has f.has (sym e)) h) }) all-entries
+          (λ z e f. record { request = f.request; has = f.has; seen_it = f.seen_it; stage = subst (λ (U : Tid). StageFact os clients w Caused z.client U stage) (sym e) (subst (λ (c : ClientNo). StageFact os clients w Caused c y.tid stage) (one-client y.client z.client its.request f.request y.tid z.tid its.has f.has (sym e)) h) }) all-entries
 
       staged : (stage : Stage) (sent : List Sent) → StageFact os clients w Caused y.client y.tid stage → Each Says sent
           → RowPast (record { table = record t { transactions = with_stage y.tid stage t.transactions }; changes = []; messages = sent; notes = []; tickets = k })
       staged stage sent h says = record { quiet = refl; sends = says; entries = more t.seen _ _ (staged-entries stage h); changes = tt; held = λ U f. there-staged U y.tid stage t.transactions (all-held U f); names = λ U i. absurd i }
-
-      aborts : (cause : Cause) (Ws : List WorkId) → Had os clients w Caused y.client y.tid → Caused y.client y.tid cause → RowPast (abort_row t k y cause Ws)
-      aborts cause Ws had caused = staged (Aborted cause) _ (had, caused) (each-append Says (drops y.tid Ws) _ (drops-say y.tid Ws) ((had, caused), tt))
 
       commits-it : (q : RequestNo) (Ws : List WorkId) → EndedBy os y.client (clients y.client) y.tid q → RowPast (commit_row t k y q Ws)
       commits-it q Ws h = record {
@@ -265,7 +253,7 @@ module _ (os : List Opening) (clients : ClientNo → ClientTable) (w : Machine) 
       }
         where
           flagged : (U : Tid) → ((tid_eq y.tid U ≡ true) × (y.tid ≡ U)) ⊎ ((tid_eq y.tid U ≡ false) × (y.tid ≢ U)) → is_some (if tid_eq y.tid U then Some (record { client = y.client; request = q; works = Ws }) else x.flags U) ≡ true → IsThere U t.transactions
-          flagged U (inl p) f = subst (λ (V : Tid). IsThere V t.transactions) p.1 there
+          flagged U (inl p) f = subst (λ (V : Tid). IsThere V t.transactions) p.1 (ap is_some found)
           flagged U (inr p) f = all-held U (subst (λ (b : Bool). is_some (if b then Some (record { client = y.client; request = q; works = Ws }) else x.flags U) ≡ true) p.0 f)
 
           named : (U : Tid) → (y.tid ≡ U) ⊎ ⊥ → is_some (at_tid x.flags y.tid (Some (record { client = y.client; request = q; works = Ws })) U) ≡ true
@@ -275,86 +263,23 @@ module _ (os : List Opening) (clients : ClientNo → ClientTable) (w : Machine) 
               here V = grind (arith, tid_tells V V)
           named U (inr i) = absurd i
 
-      -- a committed one that may be forgotten
-      forgets : (d : Commitment) → Had os clients w Caused y.client y.tid × (d.thanked ≡ true → Past os clients w Caused y.client y.tid) → RowPast (forget_row t k T d)
-      forgets d h = by (d.thanked && all_in d.works d.done) refl
-        where
-          first-of : (a b : Bool) → (a && b) ≡ true → a ≡ true
-          first-of a b e = grind arith
+      -- what commits it, aborts it, or goes on with its commit
+      committing-ended : (free : ℕ) (to : Party) (m : Message) (q : RequestNo) (Ws : List WorkId) → Says (to, m) → Committing free y m q Ws → EndedBy os y.client (clients y.client) y.tid q
+      committing-ended free to _ _ _ h (has_no_works c q e room) = subst (λ (d : ClientNo). EndedBy os d (clients d) y.tid q) (its-client c h.had) h
+      committing-ended free to _ _ _ h (is_last_vote W b e is all) = at-stage (Voting b) e
 
-          by : (b : Bool) → (d.thanked && all_in d.works d.done) ≡ b → RowPast (if b then record { table = record t { transactions = without T t.transactions }; changes = DropFlag T ∷ []; messages = []; notes = []; tickets = k } else record { table = record t { transactions = with_stage T (Committed d) t.transactions }; changes = []; messages = []; notes = []; tickets = k })
-          by true e = record {
-            quiet = refl;
-            sends = tt;
-            entries = more t.seen _ _ (each-without Entry T t.transactions all-entries);
-            changes = ((y.client, subst (λ (U : Tid). Past os clients w Caused y.client U) its.1 (h.1 (first-of d.thanked (all_in d.works d.done) e))), tt);
-            held = λ U f. let g = dropped-none x.flags T U f in there-less U T t.transactions g.0 (all-held U g.1);
-            names = λ U i. absurd i;
-          }
-          by false e = subst (λ (U : Tid). RowPast (record { table = record t { transactions = with_stage U (Committed d) t.transactions }; changes = []; messages = []; notes = []; tickets = k })) its.1 (staged (Committed d) [] h tt)
+      aborting-caused : (free : ℕ) (to : Party) (m : Message) (cause : Cause) (Ws : List WorkId) → ((b : Ballot) → y.stage ≡ Voting b → (w.named y.tid ≡ false) × (w.aborted y.tid ≡ false)) → Says (to, m) → Aborting free k y m cause Ws
+          → Had os clients w Caused y.client y.tid × Caused y.client y.tid cause
+      aborting-caused free to _ _ _ undecided h (finds_no_record c q Ws e less) = (subst (λ (d : ClientNo). Had os clients w Caused d y.tid) (its-client c h.had) h.had, full y.client y.tid k.server resources.Records free 1 less)
+      aborting-caused free to _ _ _ undecided h (stops_open c q Ws e) = subst (λ (d : ClientNo). Had os clients w Caused d y.tid × Caused d y.tid Requested) (its-client c h.0) h
+      aborting-caused free to _ _ _ undecided h (stops_voting c q Ws b e) = subst (λ (d : ClientNo). Had os clients w Caused d y.tid × Caused d y.tid Requested) (its-client c h.0) h
+      aborting-caused free to _ _ _ undecided h (work_is_lost W before now b e is) = let un = undecided b e in ((at-stage (Voting b) e).had, h un.0 un.1 y.client)
+      aborting-caused free to _ _ _ undecided h (work_is_broken W u held b e is) = ((at-stage (Voting b) e).had, h y.client)
+      aborting-caused free to _ _ _ undecided h (work_has_no_room W number left need b e is) = ((at-stage (Voting b) e).had, h y.client)
 
-      -- one that has no flag goes
-      leaves : is_committed y.stage ≡ false → RowPast (record { table = record t { transactions = without T t.transactions }; changes = []; messages = []; notes = []; tickets = k })
-      leaves e = record { quiet = refl; sends = tt; entries = more t.seen _ _ (each-without Entry T t.transactions all-entries); changes = tt; held = λ U f. there-less U T t.transactions (other U f) (all-held U f); names = λ U i. absurd i }
-        where
-          other : (U : Tid) → is_some (x.flags U) ≡ true → T ≢ U
-          other U f same = no-true (sym (ap is_some (no-flag T y found e)) ∙ subst (λ (V : Tid). is_some (x.flags V) ≡ true) (sym same) f)
-
-      -- ---- End, Abort
-
-      promised : (q : RequestNo) (Ws : List WorkId) → EndedBy os y.client (clients y.client) y.tid q → RowPast (end_promised t k y q Ws)
-      promised q [] h = commits-it q [] h
-      promised q (W ∷ Ws) h = staged (Voting (record { request = q; works = W ∷ Ws; ready = [] })) _ h (prepares-say y.tid y.client (W ∷ Ws))
-
-      ends : (free : ℕ) (q : RequestNo) (Ws : List WorkId) → EndedBy os y.client (clients y.client) y.tid q → (stage : Stage) → StageFact os clients w Caused y.client y.tid stage → RowPast (end_stage t free k y q Ws stage)
-      ends free q Ws h Open s = by (nat_lt free 1) refl
-        where
-          by : (b : Bool) → nat_lt free 1 ≡ b → RowPast (if b then abort_row t k y (FullAt k.server resources.Records free 1) Ws else end_promised t k y q Ws)
-          by true e = aborts (FullAt k.server resources.Records free 1) Ws h.had (full y.client y.tid k.server resources.Records free 1 e)
-          by false e = promised q Ws h
-      ends free q Ws h (Voting b) s = tells _ [] refl refl (prepares-say y.tid y.client (besides b.works b.ready))
-      ends free q Ws h (Committed d) s = tells _ [] refl refl (s.0, tt)
-      ends free q Ws h (Aborted cause) s = tells _ [] refl refl (s, tt)
-
-      stops : (Ws : List WorkId) → Had os clients w Caused y.client y.tid → Caused y.client y.tid Requested → (stage : Stage) → StageFact os clients w Caused y.client y.tid stage → RowPast (abort_stage t k y Ws stage)
-      stops Ws had caused Open s = aborts Requested Ws had caused
-      stops Ws had caused (Voting b) s = aborts Requested (b.works ++ besides Ws b.works) had caused
-      stops Ws had caused (Committed d) s = tells _ [] refl refl (s.0, tt)
-      stops Ws had caused (Aborted cause) s = tells _ [] refl refl (s, tt)
-
-      -- ---- Vote, Inquire, Done and Thanks
-
-      told : (W : WorkId) (stage : Stage) → RowPast (told_stage t k T W stage)
-      told W (Committed d) = either (is_work W d.works && not (is_work W d.done)) _ _ (tells _ [] refl refl (tt, tt)) (tells _ [] refl refl (tt, tt))
-      told W (Aborted cause) = tells _ [] refl refl (tt, tt)
-      told W Open = tells _ [] refl refl tt
-      told W (Voting b) = tells _ [] refl refl tt
-
-      counts : (b : Ballot) (W : WorkId) (vote : Vote) → EndedBy os y.client (clients y.client) y.tid b.request → w.named T ≡ false → w.aborted T ≡ false → VoteFact os clients w Caused T W vote → RowPast (counted_vote t k y b W vote)
-      counts b W votes.Ready h n a v = either (all_in b.works (with_work W b.ready)) _ _ (commits-it b.request b.works h) (staged (Voting (record b { ready = with_work W b.ready })) [] h tt)
-      counts b W (votes.Waiting u by) h n a v = either (is_work W b.ready) _ _ (tells _ _ refl refl tt) (tells _ [] refl refl (tt, tt))
-      counts b W (votes.Lost m l) h n a v = aborts (LostAt W.server) (besides b.works (W ∷ [])) h.had (subst (λ (U : Tid). Caused y.client U (LostAt W.server)) (sym its.1) (v n a y.client))
-      counts b W (votes.Broken u by) h n a v = aborts (BrokenAt W.server u by) b.works h.had (subst (λ (U : Tid). Caused y.client U (BrokenAt W.server u by)) (sym its.1) (v y.client))
-      counts b W (votes.Full m free need) h n a v = aborts (FullAt W.server m free need) b.works h.had (subst (λ (U : Tid). Caused y.client U (FullAt W.server m free need)) (sym its.1) (v y.client))
-
-      vote : (W : WorkId) (vote : Vote) (stage : Stage) → StageFact os clients w Caused y.client y.tid stage → ((b : Ballot) → stage ≡ Voting b → (w.named T ≡ false) × (w.aborted T ≡ false)) → VoteFact os clients w Caused T W vote → RowPast (vote_stage t k y W vote stage)
-      vote W v Open s undecided h = tells _ _ refl refl tt
-      vote W v (Voting b) s undecided h = either (is_work W b.works) _ _ (counts b W v s (undecided b refl).0 (undecided b refl).1 h) (tells _ _ refl refl tt)
-      vote W v (Committed d) s undecided h = subst (λ (U : Tid). RowPast (told_stage t k U W (Committed d))) (sym its.1) (told W (Committed d))
-      vote W v (Aborted cause) s undecided h = subst (λ (U : Tid). RowPast (told_stage t k U W (Aborted cause))) (sym its.1) (told W (Aborted cause))
-
-      done : (W : WorkId) (stage : Stage) → StageFact os clients w Caused y.client y.tid stage → RowPast (done_stage t k T W stage)
-      done W (Committed d) s = either (is_work W d.works && not (is_work W d.done)) _ _ (forgets (record d { done = d.done ++ W ∷ [] }) s) (tells _ _ refl refl tt)
-      done W Open s = tells _ _ refl refl tt
-      done W (Voting b) s = tells _ _ refl refl tt
-      done W (Aborted cause) s = tells _ _ refl refl tt
-
-      thanks : (c : ClientNo) → Past os clients w Caused c T → (stage : Stage) → y.stage ≡ stage → StageFact os clients w Caused y.client y.tid stage → RowPast (thanks_stage t k T stage)
-      thanks c past (Committed d) e s = either d.thanked _ _ (tells _ _ refl refl tt)
-          (forgets (record d { thanked = true }) (s.0, λ f. subst (λ (U : Tid). Past os clients w Caused y.client U) (sym its.1) (subst (λ (z : ClientNo). Past os clients w Caused z T) (its-client c (past-had c T past)) past)))
-      thanks c past (Aborted cause) e s = leaves (ap is_committed e)
-      thanks c past Open e s = tells _ _ refl refl tt
-      thanks c past (Voting b) e s = tells _ _ refl refl tt
+      noting-past : (to : Party) (m : Message) (d : Commitment) → Says (to, m) → Noting y m d → StageFact os clients w Caused y.client y.tid (Committed d)
+      noting-past to _ _ h (work_is_done W d e waits) = at-stage (Committed d) e
+      noting-past to _ _ h (client_thanks c d e new) = ((at-stage (Committed d) e).0, λ f. subst (λ (z : ClientNo). Past os clients w Caused z y.tid) (its-client c (past-had c y.tid h)) h)
 
     -- ---- Begin
 
@@ -391,14 +316,10 @@ module _ (os : List Opening) (clients : ClientNo → ClientTable) (w : Machine) 
       seen' = seen_now t.seen c q
 
       seen-more : (y : Transaction) (n : ℕ) → n ≤ t.seen y.client → n ≤ seen_now t.seen c q y.client
-      seen-more y n h = by (client_tells c y.client)
+      seen-more y n = one-changes (λ d x. n ≤ t.seen d → n ≤ x) t.seen c q.0 (λ h. up n (t.seen c) q.0 h is-later) (λ d other h. h) y.client
         where
           up : (n m k : ℕ) → n ≤ m → m < k → n ≤ k
           up n m j k l = omega (arith, k, l)
-
-          by : ((client_eq c y.client ≡ true) × (c ≡ y.client)) ⊎ ((client_eq c y.client ≡ false) × (c ≢ y.client)) → n ≤ (if client_eq c y.client then q.0 else t.seen y.client)
-          by (inl p) = subst (λ (b : Bool). n ≤ (if b then q.0 else t.seen y.client)) (sym p.0) (up n (t.seen c) q.0 (subst (λ (d : ClientNo). n ≤ t.seen d) (sym p.1) h) is-later)
-          by (inr p) = subst (λ (b : Bool). n ≤ (if b then q.0 else t.seen y.client)) (sym p.0) h
 
       entry-later : (y : Transaction) → Entry y → EntryFact os clients w Caused (seen_now t.seen c q) y
       entry-later y h = record { request = h.request; has = h.has; seen_it = seen-more y h.request.0 h.seen_it; stage = h.stage }
@@ -418,33 +339,11 @@ module _ (os : List Opening) (clients : ClientNo → ClientTable) (w : Machine) 
       after-held : (T : Tid) → is_some ((made_all (changes_of_closing c t.transactions) x).flags T) ≡ true → IsThere T (after_closing c t.transactions)
       after-held T h = closes-there closing x T (no-flag T) h (all-held T (closes-flags closing x T h))
 
-      begins-new : RowPast (begin_new (record { transactions = after_closing c t.transactions; seen = seen_now t.seen c q }) (changes_of_closing c t.transactions) k c q)
-      begins-new = either (nat_lt (length (after_closing c t.transactions)) 64) _ _
-          (record {
-            quiet = refl;
-            sends = (began.drawn, tt);
-            entries = each-append (EntryFact (os ++ opening c q (name_from k) ∷ []) clients w Caused (seen_now t.seen c q)) (after_closing c t.transactions) _
-                (more (seen_now t.seen c q) (opening c q (name_from k) ∷ []) (after_closing c t.transactions) after-entries)
-                (record { request = q; has = has-second _ os (opening c q (name_from k) ∷ []) (inl refl); seen_it = seen-own (client_tells c c); stage = tt }, tt);
-            changes = after-changes;
-            held = λ T h. there-more T (after_closing c t.transactions) _ (after-held T h);
-            names = λ T i. absurd i;
-          })
-          (record {
-            quiet = refl;
-            sends = (began.drawn, tt);
-            entries = more (seen_now t.seen c q) [] (after_closing c t.transactions) after-entries;
-            changes = after-changes;
-            held = after-held;
-            names = λ T i. absurd i;
-          })
+      seen-own : q.0 ≤ seen_now t.seen c q c
+      seen-own = one-changes (λ d x. c ≡ d → q.0 ≤ x) t.seen c q.0 (λ e. self q.0) (λ d other e. absurd (other e)) c refl
         where
           self : (n : ℕ) → n ≤ n
           self n = omega arith
-
-          seen-own : ((client_eq c c ≡ true) × (c ≡ c)) ⊎ ((client_eq c c ≡ false) × (c ≢ c)) → q.0 ≤ (if client_eq c c then q.0 else t.seen c)
-          seen-own (inl p) = subst (λ (b : Bool). q.0 ≤ (if b then q.0 else t.seen c)) (sym p.0) (self q.0)
-          seen-own (inr p) = absurd (p.1 refl)
 
     -- every outcome is thanked, once every client is idle
     pub close-past : ((c : ClientNo) → IsIdle (clients c)) → RowPast (close_clients_row t k)
@@ -464,14 +363,6 @@ module _ (os : List Opening) (clients : ClientNo → ClientTable) (w : Machine) 
         idle-past y d p e h = let had = (subst (λ (z : Stage). StageFact os clients w Caused y.client y.tid z) e h.stage).0 in
             record { request = had.request; has = had.has; drawn = had.drawn; over = λ f. none-tid y.tid (sym (idle y.client).0 ∙ f); answered = had.answered }
 
-    begins-again : (c : ClientNo) (q : RequestNo) (o : Option Transaction) → q.0 < (clients c).next → RowPast (begin_again t k c q o)
-    begins-again c q (Some y) h = tells _ [] refl refl (h, tt)
-    begins-again c q None h = tells _ _ refl refl tt
-
-    where-is : (b : Bool) (p r : RowOutcome CoordinatorTable) → (b ≡ true → RowPast p) → RowPast r → RowPast (if b then p else r)
-    where-is true p r h l = h refl
-    where-is false p r h l = l
-
     -- ---- every message
 
     -- what holds where the transaction isn't in the table, or votes
@@ -484,45 +375,64 @@ module _ (os : List Opening) (clients : ClientNo → ClientTable) (w : Machine) 
       ComesHere (messages.Abort c q T Ws) = Here T
       ComesHere message = Unit {0}
 
-      not-known-past : (c : ClientNo) (T : Tid) (Ws : List WorkId) → Here T → transaction_at T t.transactions ≡ None → Had os clients w Caused c T → RowPast (not_known t k c T Ws)
-      not-known-past c T Ws here none h = tells _ [] refl refl (unknown c T here none h, drops-say T Ws)
+      says-past : (to : Party) (m : Message) (sent : List Sent) → ComesHere m → Says (to, m) → Saying t k m sent → Each Says sent
+      says-past to _ _ here h (says_nothing m W y asks found) = tt
+      says-past to _ _ here h (says_begun c q y same e) = (h.drawn, tt)
+      says-past to _ _ here h (says_unknown _ c T Ws (wants_to_commit q) none) = (unknown c T here none h.had, drops-say T Ws)
+      says-past to _ _ here h (says_unknown _ c T Ws (wants_to_abort q) none) = (unknown c T here none h.0, drops-say T Ws)
+      says-past to _ _ here h (prepares_again c q Ws y b found e) = prepares-say y.tid y.client (besides b.works b.ready)
+      says-past to _ _ here h (says_committed m c Ws y d wants found e) = ((at-stage y found (Committed d) e).0, tt)
+      says-past to _ _ here h (says_aborted m c Ws y cause wants found e) = (at-stage y found (Aborted cause) e, tt)
+      says-past to _ _ here h _ = (tt, tt)
 
-      end-past : (free : ℕ) (c : ClientNo) (q : RequestNo) (T : Tid) (Ws : List WorkId) (o : Option Transaction) → Here T → transaction_at T t.transactions ≡ o → EndedBy os c (clients c) T q → RowPast (end_row t free k c q T Ws o)
-      end-past free c q T Ws None here e h = not-known-past c T Ws here e h.had
-      end-past free c q T Ws (Some y) here e h = ends T y e free q Ws (subst (λ (U : Tid). EndedBy os y.client (clients y.client) U q) (sym (its T y e).1) (subst (λ (d : ClientNo). EndedBy os d (clients d) T q) (its-client T y e c h.had) h)) y.stage (its T y e).0.stage
+      tells : (sent : List Sent) (told : List Note) → named_by told ≡ [] → list_any is_broke told ≡ false → Each Says sent → RowPast (record { table = t; changes = []; messages = sent; notes = told; tickets = k })
+      tells sent told none quiet h = record { quiet = quiet; sends = h; entries = more t.seen _ t.transactions all-entries; changes = tt; held = all-held; names = λ T i. absurd (subst (λ l. In T l) none i) }
 
-      abort-past : (c : ClientNo) (T : Tid) (Ws : List WorkId) (o : Option Transaction) → Here T → transaction_at T t.transactions ≡ o → Had os clients w Caused c T → Caused c T Requested → RowPast (abort_request t k c T Ws o)
-      abort-past c T Ws None here e h r = not-known-past c T Ws here e h
-      abort-past c T Ws (Some y) here e h r = stops T y e Ws (own (λ (d : ClientNo) (U : Tid). Had os clients w Caused d U) h) (own (λ (d : ClientNo) (U : Tid). Caused d U Requested) r) y.stage (its T y e).0.stage
+      case-past : (free : ℕ) (to : Party) (m : Message) (row : RowOutcome CoordinatorTable) → ComesHere m → Says (to, m) → CoordinatorCase t free k m row → RowPast row
+      case-past free to _ _ here h (is_ignored_by m) = tells _ _ refl refl tt
+      case-past free to _ _ here h (is_left_by m sent says) = tells sent [] refl refl (says-past to m sent here h says)
+      case-past free to _ _ here h (begins_anew c q later room) = record {
+        quiet = refl;
+        sends = (h.drawn, tt);
+        entries = each-append (EntryFact (os ++ opening c q (name_from k) ∷ []) clients w Caused (seen_now t.seen c q)) (after_closing c t.transactions) _
+            (more (seen_now t.seen c q) (opening c q (name_from k) ∷ []) (after_closing c t.transactions) (after-entries c q h (last c) later))
+            (record { request = q; has = has-second _ os (opening c q (name_from k) ∷ []) (inl refl); seen_it = seen-own c q h (last c) later; stage = tt }, tt);
+        changes = after-changes c q h (last c) later;
+        held = λ T f. there-more T (after_closing c t.transactions) _ (after-held c q h (last c) later T f);
+        names = λ T i. absurd i;
+      }
+      case-past free to _ _ here h (finds_no_room c q later less) = record {
+        quiet = refl;
+        sends = (h.drawn, tt);
+        entries = more (seen_now t.seen c q) [] (after_closing c t.transactions) (after-entries c q h (last c) later);
+        changes = after-changes c q h (last c) later;
+        held = after-held c q h (last c) later;
+        names = λ T i. absurd i;
+      }
+      case-past free to _ _ here h (starts_voting c q W Ws y found e room) = staged y found (Voting (record { request = q; works = W ∷ Ws; ready = [] })) _ (subst (λ (d : ClientNo). EndedBy os d (clients d) y.tid q) (its-client y found c h.had) h) (prepares-say y.tid y.client (W ∷ Ws))
+      case-past free to _ _ here h (counts_vote W y b found e is waits) = staged y found (Voting (record b { ready = with_work W b.ready })) [] (at-stage y found (Voting b) e) tt
+      case-past free to _ _ here h (is_committed_by m y q Ws found why) = commits-it y found q Ws (committing-ended y found free to m q Ws h why)
+      case-past free to _ _ here h (is_aborted_by m y cause Ws found why) = let caused = aborting-caused y found free to m cause Ws (λ b e. undecided y.tid y b found e) h why in staged y found (Aborted cause) _ caused (each-append Says (drops y.tid Ws) _ (drops-say y.tid Ws) (caused, tt))
+      case-past free to _ _ here h (notes_commit m y d found notes waits) = staged y found (Committed d) [] (noting-past y found to m d h notes) tt
+      case-past free to _ _ here h (forgets_commit m y d found notes through) = record {
+        quiet = refl;
+        sends = tt;
+        entries = more t.seen _ _ (each-without Entry y.tid t.transactions all-entries);
+        changes = ((y.client, (noting-past y found to m d h notes).1 (first-of d.thanked (all_in d.works d.done) through)), tt);
+        held = λ U f. let g = dropped-none x.flags y.tid U f in there-less U y.tid t.transactions g.0 (all-held U g.1);
+        names = λ U i. absurd i;
+      }
         where
-          own : (P : ClientNo → Tid → Type 0) → P c T → P y.client y.tid
-          own P p = subst (λ (U : Tid). P y.client U) (sym (its T y e).1) (subst (λ (d : ClientNo). P d T) (its-client T y e c h) p)
-
-      vote-past : (T : Tid) (W : WorkId) (v : Vote) (o : Option Transaction) → transaction_at T t.transactions ≡ o → VoteFact os clients w Caused T W v → RowPast (vote_row t k T W v o)
-      vote-past T W v None e h = tells _ [] refl refl (tt, tt)
-      vote-past T W v (Some y) e h = vote T y e W v y.stage (its T y e).0.stage (λ b f. undecided T y b e f) h
-
-      inquire-past : (T : Tid) (W : WorkId) (o : Option Transaction) → transaction_at T t.transactions ≡ o → RowPast (inquire_row t k T W o)
-      inquire-past T W None e = tells _ [] refl refl (tt, tt)
-      inquire-past T W (Some y) e = told T y e W y.stage
-
-      done-past : (T : Tid) (W : WorkId) (o : Option Transaction) → transaction_at T t.transactions ≡ o → RowPast (done_row t k T W o)
-      done-past T W None e = tells _ _ refl refl tt
-      done-past T W (Some y) e = done T y e W y.stage (its T y e).0.stage
-
-      thanks-past : (c : ClientNo) (T : Tid) (o : Option Transaction) → transaction_at T t.transactions ≡ o → Past os clients w Caused c T → RowPast (thanks_row t k T o)
-      thanks-past c T None e h = tells _ _ refl refl tt
-      thanks-past c T (Some y) e h = thanks T y e c h y.stage refl (its T y e).0.stage
+          first-of : (a b : Bool) → (a && b) ≡ true → a ≡ true
+          first-of a b e = grind arith
+      case-past free to _ _ here h (forgets_abort c y cause found e) = record { quiet = refl; sends = tt; entries = more t.seen _ _ (each-without Entry y.tid t.transactions all-entries); changes = tt; held = λ U f. there-less U y.tid t.transactions (other U f) (all-held U f); names = λ U i. absurd i }
+        where
+          -- it has no flag
+          other : (U : Tid) → is_some (x.flags U) ≡ true → y.tid ≢ U
+          other U f same = no-true (sym (ap is_some (no-flag y.tid y found (ap is_committed e))) ∙ subst (λ (V : Tid). is_some (x.flags V) ≡ true) (sym same) f)
 
       pub row-past : (free : ℕ) (to : Party) (message : Message) → ComesHere message → Says (to, message) → RowPast (coordinator_row t free k message)
-      row-past free to (messages.Begin c q) here h = where-is (nat_lt (t.seen c) q.0) _ _ (λ l. begins-new c q h (last c) l) (either (nat_eq (t.seen c) q.0) _ _ (begins-again c q (begun_by c q t.transactions) h.drawn) (tells _ _ refl refl tt))
-      row-past free to (messages.End c q T Ws) here h = end-past free c q T Ws (transaction_at T t.transactions) here refl h
-      row-past free to (messages.Abort c q T Ws) here h = abort-past c T Ws (transaction_at T t.transactions) here refl h.0 h.1
-      row-past free to (messages.Thanks c T) here h = thanks-past c T (transaction_at T t.transactions) refl h
-      row-past free to (messages.Vote T W v) here h = vote-past T W v (transaction_at T t.transactions) refl h
-      row-past free to (messages.Done T W) here h = done-past T W (transaction_at T t.transactions) refl
-      row-past free to (messages.Inquire T W) here h = inquire-past T W (transaction_at T t.transactions) refl
-      row-past free to _ here h = tells _ _ refl refl tt
+      row-past free to message here h = case-past free to message _ here h (coordinator-case t free k message)
 
   -- ---- what is sent again
 

@@ -1,5 +1,5 @@
 -- What holds after any steps from an opening: the machine stands there too, and all facts hold.
-use Rattle.jn_system_reports.proofs.Common.{◌≡◌, ◌⊎◌, inl, inr, ℕ, Bool, true, false, List, [], ◌∷◌, ◌++◌, Some, None, is_some, sym, ◌∙◌, ap, subst, arith, list_any, ServerNo, Tid, tid_eq, AllFiles, Machine, Invariant, Atom, run_atoms, opening_world, MayRun, run_kept, opening_kept, still-says, run-append, may-append, opening-mirrors, committed-any, run_told, opening_told, AreNamed, Mirrors, World, opening, new_memory, has_line, Step, IsStep, after, LockFacts, locks-keep, opening-keeps, Facts, step-next, opening-facts, Next, ◌||◌, if◌then◌else◌, All, All-head, All-tail, ClientNo, WorkId, LockUnit, Cause, Server, server_eq, work_eq, work_tells, Message, Vote, Text, OpenWork, Outstanding, Pick, stable, Sent, worker_row, is_work, coordinator_row, ClientTable, names_of, IsWorkOf, Grows, run_grows, not_both, some_of, Memory, Room, storage_of, of_worker, done, ServerFact, UpFact, IsAddressed, worker-none, Opening, openings, Has, began_by, is_closing, EndsNow, RequestNo}
+use Rattle.jn_system_reports.proofs.Common.{◌≡◌, ◌⊎◌, inl, inr, ℕ, Bool, true, false, List, [], ◌∷◌, ◌++◌, Some, None, is_some, sym, ◌∙◌, ap, subst, arith, list_any, ServerNo, Tid, tid_eq, AllFiles, Machine, Invariant, Atom, run_atoms, opening_world, MayRun, run_kept, opening_kept, still-says, run-append, may-append, opening-mirrors, committed-any, run_told, opening_told, AreNamed, Mirrors, World, opening, new_memory, has_line, Step, IsStep, after, LockFacts, locks-keep, opening-keeps, Facts, step-next, opening-facts, Next, ◌||◌, if◌then◌else◌, All, All-head, All-tail, ClientNo, WorkId, LockUnit, Cause, Server, server_eq, work_eq, work_tells, Message, Vote, Text, OpenWork, Outstanding, Pick, stable, Sent, worker_row, is_work, coordinator_row, ClientTable, names_of, IsWorkOf, Grows, run_grows, not_both, some_of, Memory, Room, storage_of, of_worker, done, ServerFact, UpFact, IsAddressed, worker-none, Opening, openings, Has, began_by, is_closing, EndsNow, RequestNo, some-memory}
 use Rattle.jn_msgs.specs.declared.message.Message.TheVariants as messages
 use Rattle.jn_system_order.proofs.Ordering.Named.{step-names}
 use Rattle.jn_system_reports.proofs.Reporting.Talk.{Talk, step-talk, opening-talk}
@@ -267,16 +267,13 @@ module _ (files : AllFiles) (epochs : ServerNo → ℕ) where
     facts = opening-facts servers files epochs;
     talk = opening-talk servers files epochs (opening_world files epochs);
     names = tt;
-    past = record { last = λ c o e. absurd (none-out o e); says = tt; entries = λ s m e. subst (λ (x : Memory). Each (EntryFact [] (opening servers files epochs).clients (opening_world files epochs) Free x.coordinator.seen) x.coordinator.transactions) (same (new_memory s (epochs s)) m e) tt; flags = λ s c T. tt; held = λ s m e T f. absurd (no f); named = λ T c e. absurd (no e) };
+    past = record { last = λ c o e. absurd (none-out o e); says = tt; entries = λ s m e. subst (λ (x : Memory). Each (EntryFact [] (opening servers files epochs).clients (opening_world files epochs) Free x.coordinator.seen) x.coordinator.transactions) (some-memory (new_memory s (epochs s)) m e) tt; flags = λ s c T. tt; held = λ s m e T f. absurd (no f); named = λ T c e. absurd (no e) };
     ends = λ a h T of e. absurd (no e);
     lines = tt;
   }
     where
       none-out : (o : Outstanding) → None ≡ Some o → ⊥
       none-out o e = cc
-
-      same : (a b : Memory) → Some a ≡ Some b → a ≡ b
-      same a b e = cc
 
       no : false ≡ true → ⊥
       no q = grind arith

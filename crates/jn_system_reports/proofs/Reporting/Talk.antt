@@ -1,5 +1,5 @@
 -- Each step keeps what holds of the operations that clients ask for, and of their answers.
-use Rattle.jn_system_reports.proofs.Common.{◌≡◌, ◌⊎◌, inl, inr, ◌≤◌, ℕ, ◌+◌, List, [], ◌∷◌, ◌++◌, append-nil, Option, Some, None, refl, sym, ◌∙◌, ap, subst, arith, slice_get, ServerNo, ClientNo, Tid, WorkId, Party, Client, Server, Message, OpenWork, Outstanding, Taken, Pick, stable, RowOutcome, Sent, WorkerTable, worker_row, worker_again, timeout_row, coordinator_again, ClientTable, Commanded, Sends, take_row, sent_again, over, Machine, IsWorkOf, World, Memory, at_server, at_client, new_memory, AllFiles, storage_of, of_timeout, restored, Step, after, sent_now, works, dismiss, Mirrors, IsCurrent, AreOpen, found-open, Opening, opening_in, openings, openings-more, Has, has-first, Began, Facts, all-have-theirs, holds-of, OperationNo, RequestNo, one-server, one-client, ClientRow, by_command, by_ignoring, by_answering, by_telling, ServerRow, of_message, of_work, of_closing, Quiet, event_begins, none_changes, is_refused, client_repeats, server_repeats, is_lost, StepCase, client_row, row_done, row_stopped, gone_late, gone_down, come_up, found_anew, dismissed, quietly, step-case, server_timeout, row-either, row-of-step, Text}
+use Rattle.jn_system_reports.proofs.Common.{◌≡◌, ◌⊎◌, inl, inr, ◌≤◌, ℕ, ◌+◌, List, [], ◌∷◌, ◌++◌, append-nil, Option, Some, None, refl, sym, ◌∙◌, ap, subst, arith, slice_get, ServerNo, ClientNo, Tid, WorkId, Party, Client, Server, Message, OpenWork, Outstanding, Taken, Pick, stable, RowOutcome, Sent, WorkerTable, worker_row, worker_again, timeout_row, coordinator_again, ClientTable, Commanded, Sends, take_row, sent_again, over, Machine, IsWorkOf, World, Memory, at_server, at_client, new_memory, AllFiles, storage_of, of_timeout, restored, Step, after, sent_now, works, dismiss, Mirrors, IsCurrent, AreOpen, found-open, Opening, opening_in, openings, openings-more, Has, has-first, Began, Facts, all-have-theirs, holds-of, OperationNo, RequestNo, one-client, ClientRow, by_command, by_ignoring, by_answering, by_telling, ServerRow, of_message, of_work, of_closing, Quiet, event_begins, none_changes, is_refused, client_repeats, server_repeats, is_lost, StepCase, client_row, row_done, row_stopped, gone_late, gone_down, come_up, found_anew, dismissed, quietly, step-case, server_timeout, row-either, row-of-step, Text, some-memory, memory-now, memory-gone}
 use Rattle.jn_msgs.specs.declared.message.Message.TheVariants as messages
 use Rattle.jn_rows.specs.declared.client.Taken.TheVariants as taken
 use Rattle.jn_rows.specs.Client.{work_at}
@@ -232,20 +232,11 @@ module _ (r : World) (w v : Machine) (mirrors : Mirrors r w) (facts : Facts r w)
 
   -- ---- a server's
 
-  all-keep : (s : ServerNo) (o : Option Memory) → ((m : Memory) → o ≡ Some m → Each (KeepsWork r.sent) m.worker) → AllKeep (at_server r.memory s o)
-  all-keep s o h = one-server (λ q o. (m : Memory) → o ≡ Some m → Each (KeepsWork r.sent) m.worker) r.memory s o h (λ q ne. talk.works q)
-
   with-table : (s : ServerNo) (m : Memory) → Each (KeepsWork r.sent) m.worker → AllKeep (at_server r.memory s (Some m))
-  with-table s m h = all-keep s (Some m) (λ n e. subst (λ (z : Memory). Each (KeepsWork r.sent) z.worker) (some-memory m n e) h)
-    where
-      some-memory : (a b : Memory) → Some a ≡ Some b → a ≡ b
-      some-memory a b e = cc
+  with-table = memory-now (λ m. Each (KeepsWork r.sent) m.worker) r.memory talk.works
 
   gone-now : (s : ServerNo) → Now r.sent r.clients (at_server r.memory s None)
-  gone-now s = unsent (at_server r.memory s None) (all-keep s None (λ m e. absurd (none-memory m e)))
-    where
-      none-memory : (a : Memory) → None ≡ Some a → ⊥
-      none-memory a e = cc
+  gone-now s = unsent (at_server r.memory s None) (memory-gone (λ m. Each (KeepsWork r.sent) m.worker) r.memory talk.works s)
 
   abbrev RowTalks : RowOutcome Memory → Type 0
   RowTalks row = Each (IsReply r.sent) row.messages × Each (KeepsWork r.sent) row.table.worker
@@ -318,12 +309,9 @@ opening-talk servers files epochs w = record {
   once = λ a b h. absurd h.is;
   asked = λ a h. absurd h.is;
   waits = λ c o e. absurd (none-out o e);
-  works = λ s m e. subst (λ (x : Memory). Each (KeepsWork []) x.worker) (same (new_memory s (epochs s)) m e) tt;
+  works = λ s m e. subst (λ (x : Memory). Each (KeepsWork []) x.worker) (some-memory (new_memory s (epochs s)) m e) tt;
   heard = tt;
 }
   where
-    same : (a b : Memory) → Some a ≡ Some b → a ≡ b
-    same a b e = cc
-
     none-out : (o : Outstanding) → None ≡ Some o → ⊥
     none-out o e = cc

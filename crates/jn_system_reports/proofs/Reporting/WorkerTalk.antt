@@ -1,12 +1,11 @@
 -- What a worker answers can be the answer of what was asked, and so can what it keeps.
-use Rattle.jn_system_reports.proofs.Common.{◌≡◌, ◌⊎◌, inl, inr, ◌≤◌, ℕ, ◌+◌, Bool, true, false, List, [], ◌∷◌, ◌++◌, Option, Some, None, refl, sym, ◌∙◌, ap, subst, arith, if◌then◌else◌, nat_eq, nat_lt, length, slice_get, is_some, nat_tests, ClientNo, Tid, WorkId, Tickets, LockUnit, File, Block, Server, Op, Answer, tid_eq, work_eq, Files, change, answer_to, or_else, zeros, Intention, list_change, length_with, Message, Vote, Work, Phase, Active, Broken, Stored, ActiveWork, StableState, Prepared, is_going, RowOutcome, Sent, WorkerTable, WorkStorage, Wanted, Held, work_at, work_of, with_phase, without, after_grant, breaks_at, broken_by, units_for, with_units, open_row, wants_of, is_fit, list_with, locked, first_of_two, refusal_of, granted_row, repeated, op_phase, op_row, conflict, commit_wants, vote_of, shortage, need_in, prepared_row, prepare_phase, prepare_row, commit_phase, drop_phase, drop_row, worker_row, going_work, intentions_of, carried_row, going_row, worker_step, worker_again, timed_out, timeout_row, vulnerable, restored_worker, restored_work, Read, found-name, work_is, operation_of, OperationNo, RequestNo}
+use Rattle.jn_system_reports.proofs.Common.{◌≡◌, ◌⊎◌, inl, inr, ◌≤◌, ℕ, ◌+◌, Bool, true, false, List, [], ◌∷◌, ◌++◌, Option, Some, None, refl, sym, ◌∙◌, ap, subst, arith, if◌then◌else◌, nat_eq, nat_lt, length, is_some, nat_tests, ClientNo, Tid, WorkId, Tickets, LockUnit, File, Block, Server, Op, Answer, tid_eq, work_eq, Files, change, answer_to, or_else, zeros, Intention, list_change, length_with, Message, Work, Phase, Active, Broken, Stored, ActiveWork, StableState, Prepared, is_going, RowOutcome, Sent, WorkerTable, WorkStorage, Wanted, Held, work_at, work_of, with_phase, without, after_grant, breaks_at, broken_by, units_for, with_units, is_fit, list_with, locked, first_of_two, refusal_of, conflict, commit_wants, worker_row, worker_step, worker_again, timed_out, timeout_row, vulnerable, restored_worker, restored_work, Read, found-name, work_is, operation_of, OperationNo, RequestNo, WorkerCase, replies_only, opens_anew, refuses_next, performs_next, prepares_it, drops_it, removes_it, Replies, is_repeated, is_broken_for, is_closing_for, is_gone_for, WorkerStep, is_over, its_answer, its_wants, worker-case, worker-step-case}
 use Rattle.jn_base.specs.declared.op.Op.TheVariants as ops
 use Rattle.jn_base.specs.declared.op.Answer.TheVariants as answers
 use Rattle.jn_records.specs.NetEdits.{intention_for}
 use Rattle.jn_records.proofs.EditLemmas.{edited-length, unchanged-length}
 use Rattle.jn_msgs.specs.declared.message.Message.TheVariants as messages
-use Rattle.jn_msgs.specs.declared.message.Vote.TheVariants as votes
-use Rattle.jn_rows.specs.Worker.{done, commit_row}
+use Rattle.jn_rows.specs.Worker.{done}
 use Rattle.jn_system_reports.proofs.Reporting.Lists.{Each, each-append}
 use Rattle.jn_system_reports.proofs.Reporting.Asking.{WasAsked, Asking, IsAsked, can_answer, Answers, IsAnswered, IsWorkers, IsKept, KeepsAnswer, KeepsPhase, KeepsWork}
 
@@ -157,14 +156,6 @@ module _ (sent : List Sent) (once : (a b : Asking) → IsAsked sent a → IsAske
   abbrev pub Talks : RowOutcome WorkerTable → Type 0
   Talks row = Each (IsWorkers sent) row.messages × Each (KeepsWork sent) row.table
 
-  either : (b : Bool) (p q : RowOutcome WorkerTable) → Talks p → Talks q → Talks (if b then p else q)
-  either true p q h l = h
-  either false p q h l = l
-
-  where-is : (b : Bool) (p q : RowOutcome WorkerTable) → (b ≡ true → Talks p) → Talks q → Talks (if b then p else q)
-  where-is true p q h l = h refl
-  where-is false p q h l = l
-
   broken-keeps : (T : Tid) (o : Option LockUnit) (v : Work) → KeepsWork sent v → KeepsWork sent (broken_by T o v)
   broken-keeps T None v h = h
   broken-keeps T (Some u) v h = tt
@@ -174,13 +165,6 @@ module _ (sent : List Sent) (once : (a b : Asking) → IsAsked sent a → IsAske
   grant-keeps T W wants (v ∷ vs) h = (broken-keeps T (breaks_at W wants v) v h.0, grant-keeps T W wants vs h.1)
 
   module _ (t : WorkerTable) (k : Tickets) (keeps : Each (KeepsWork sent) t) where
-    open-talks : (c : ClientNo) (q : RequestNo) (T : Tid) (o : Option Work) → Talks (open_row t k c q T o)
-    open-talks c q T (Some w) = ((tt, tt), keeps)
-    open-talks c q T None = either (nat_lt (length t) 64) _ _ ((tt, tt), each-append (KeepsWork sent) t _ keeps ((short, tt, inl (refl, refl)), tt)) ((tt, tt), keeps)
-      where
-        short : 0 ≤ 24
-        short = omega arith
-
     -- an answer to what was asked
     module _ (c : ClientNo) (q : RequestNo) (W : WorkId) (n : OperationNo) (op : Op) (asked : IsAsked sent (record { client = c; request = q; work = W; number = n; op = op })) where
       abbrev it : (answer : Answer) → can_answer op answer ≡ true → Answers sent answer
@@ -195,105 +179,63 @@ module _ (sent : List Sent) (once : (a b : Asking) → IsAsked sent a → IsAske
       was : {P : Type 0} → (N : WorkId) → N ≡ W → P ⊎ WasAsked sent N
       was N e = inr (record { of = record { client = c; request = q; work = W; number = n; op = op }; asked = asked; work = sym e })
 
-      granted-talks : (w : Work) (a : ActiveWork) (answer : Answer) (o : Option Answer) → w.name ≡ W → n.0 ≡ a.last + 1 → length a.list ≤ 24 → can_answer op answer ≡ true → refusal_of t w.name a op answer (wants_of op (is_fit answer)) ≡ o
-          → Talks (granted_row t k c q w a op answer (wants_of op (is_fit answer)) o)
-      granted-talks w a answer (Some refusal) e f few fits h = let r = refusal-fits t w.name a op answer (wants_of op (is_fit answer)) refusal few h in
-          ((reply refusal r, tt), each-phase (KeepsWork sent) w.name _ t (λ v g p. (few, keep refusal v.name (a.last + 1) (g ∙ e) f r, was v.name (g ∙ e))) keeps)
-      granted-talks w a answer None e f few fits h = (
-        (reply answer fits, tt),
-        each-phase (KeepsWork sent) w.name _ (after_grant w.tid w.name (wants_of op (is_fit answer)) t)
-            (λ v g p. (short-done t w.name a op answer (wants_of op (is_fit answer)) few h, keep answer v.name (a.last + 1) (g ∙ e) f fits, was v.name (g ∙ e))) (grant-keeps w.tid w.name (wants_of op (is_fit answer)) t keeps),
-      )
-
-      repeated-talks : (w : Work) (last : ℕ) (o : Option Answer) → w.name ≡ W → n.0 ≡ last → KeepsAnswer sent w.name last o → Talks (repeated t k c q o)
-      repeated-talks w last None e f h = (tt, keeps)
-      repeated-talks w last (Some answer) e f h = ((record { by = it answer fits; client = refl; request = refl }, tt), keeps)
+      -- the answer that was kept is that of the same operation
+      again : (N : WorkId) (last : ℕ) (answer : Answer) → N ≡ W → n.0 ≡ last → IsKept sent N last answer → IsAnswered sent c q answer
+      again N last answer e f h = reply answer (ap (λ (a : Asking). can_answer a.op answer) (sym same) ∙ h.by.fits)
         where
           same : h.by.of ≡ record { client = c; request = q; work = W; number = n; op = op }
           same = once h.by.of _ h.by.asked asked (h.work ∙ e) (ap operation_of (h.number ∙ sym f))
 
-          fits : can_answer op answer ≡ true
-          fits = ap (λ (a : Asking). can_answer a.op answer) (sym same) ∙ h.by.fits
+    number-of : (a b : ℕ) → nat_eq a b ≡ true → a ≡ b
+    number-of a b e = grind (arith, nat_tests)
 
-      number-of : (a b : ℕ) → nat_eq a b ≡ true → a ≡ b
-      number-of a b e = grind (arith, nat_tests)
-
-      phase-talks : (files : Files) (w : Work) (p : Phase) → w.name ≡ W → KeepsPhase sent w.name p → Talks (op_phase t files k c q w n op p)
-      phase-talks files w (Broken u by) e h = ((reply (answers.Broken u by) refl, tt), keeps)
-      phase-talks files w (Stored p) e h = ((reply answers.Closing refl, tt), keeps)
-      phase-talks files w (Active a) e h = where-is (nat_eq n.0 (a.last + 1)) _ _
-          (λ f. granted-talks w a (answer_to op (change (list_change a.list) files)) _ e (number-of n.0 (a.last + 1) f) h.0 (answer-fits op (change (list_change a.list) files)) refl)
-          (where-is (nat_eq n.0 a.last) _ _ (λ f. repeated-talks w a.last a.kept e (number-of n.0 a.last f) h.1) (tt, keeps))
-
-      op-talks : (files : Files) (o : Option Work) → work_at W t ≡ o → Talks (op_row t files k c q W n op o)
-      op-talks files None e = ((reply (answers.Lost W.epoch k.epoch) refl, tt), keeps)
-      op-talks files (Some w) e = phase-talks files w w.phase (found-name W t w e) (each-work (KeepsWork sent) W t w keeps e)
-
-    vote-talks : (T : Tid) (c : ClientNo) (w : Work) (a : ActiveWork) (vote : Vote) → Talks (prepared_row t k T c w a vote)
-    vote-talks T c w a votes.Ready = ((tt, tt), each-phase (KeepsWork sent) w.name _ (after_grant w.tid w.name (commit_wants a.writes) t) (λ v g p. tt) (grant-keeps w.tid w.name (commit_wants a.writes) t keeps))
-    vote-talks T c w a _ = ((tt, tt), keeps)
+    -- what a work that takes operations has kept
+    its-kept : (W : WorkId) (w : Work) (a : ActiveWork) → work_at W t ≡ Some w → w.phase ≡ Active a → KeepsPhase sent w.name (Active a)
+    its-kept W w a found e = subst (λ (p : Phase). KeepsPhase sent w.name p) e (each-work (KeepsWork sent) W t w keeps found)
 
     module _ (s : WorkStorage) where
-      prepare-talks : (T : Tid) (c : ClientNo) (w : Work) (p : Phase) → Talks (prepare_phase t s k T c w p)
-      prepare-talks T c w (Active a) = vote-talks T c w a (vote_of (conflict w.name (commit_wants a.writes) t) (shortage s.free (need_in s.state.files a.list)))
-      prepare-talks T c w (Broken u by) = ((tt, tt), keeps)
-      prepare-talks T c w (Stored p) = either (is_going (s.state.works w.name)) _ _ (tt, keeps) ((tt, tt), keeps)
-
-      prepares-talk : (T : Tid) (c : ClientNo) (W : WorkId) (o : Option Work) → Talks (prepare_row t s k T c W o)
-      prepares-talk T c W (Some w) = prepare-talks T c w w.phase
-      prepares-talk T c W None = ((tt, tt), keeps)
-
-      commit-talks : (W : WorkId) (p : Phase) → Talks (commit_phase t s k W p)
-      commit-talks W (Active a) = (tt, keeps)
-      commit-talks W (Broken u by) = (tt, keeps)
-      commit-talks W (Stored p) = either (is_going (s.state.works W)) _ _ (tt, keeps) (tt, keeps)
-
-      commits-talk : (T : Tid) (W : WorkId) (o : Option Work) → Talks (commit_row t s k T W o)
-      commits-talk T W (Some w) = commit-talks W w.phase
-      commits-talk T W None = ((tt, tt), keeps)
-
-      drop-talks : (W : WorkId) (p : Phase) → Talks (drop_phase t s k W p)
-      drop-talks W (Active a) = (tt, each-less (KeepsWork sent) W t keeps)
-      drop-talks W (Broken u by) = (tt, each-less (KeepsWork sent) W t keeps)
-      drop-talks W (Stored p) = either (is_going (s.state.works W)) _ _ (tt, keeps) (tt, each-less (KeepsWork sent) W t keeps)
-
-      drops-talk : (W : WorkId) (o : Option Work) → Talks (drop_row t s k W o)
-      drops-talk W (Some w) = drop-talks W w.phase
-      drops-talk W None = (tt, keeps)
-
       -- what is asked for was sent
       abbrev pub WasSent : Message → Type 0
       WasSent (messages.Op c q W n op) = IsAsked sent (record { client = c; request = q; work = W; number = n; op = op })
       WasSent message = Unit {0}
 
-      pub worker-talks : (message : Message) → WasSent message → Talks (worker_row t s k message)
-      worker-talks (messages.Open c q T) h = open-talks c q T (work_of T t)
-      worker-talks (messages.Op c q W n op) h = op-talks c q W n op h s.state.files (work_at W t) refl
-      worker-talks (messages.Prepare T c W) h = prepares-talk T c W (work_at W t)
-      worker-talks (messages.Commit T W) h = commits-talk T W (work_at W t)
-      worker-talks (messages.Drop T W) h = drops-talk W (work_at W t)
-      worker-talks _ h = (tt, keeps)
+      replied : (m : Message) (x : Sent) → Replies t s k m x → WasSent m → IsWorkers sent x
+      replied _ _ (is_repeated c q W n op w a answer found e l kept) h = again c q W n op h w.name a.last answer (found-name W t w found) (number-of n.0 a.last l) (subst (λ o. KeepsAnswer sent w.name a.last o) kept (its-kept W w a found e).1)
+      replied _ _ (is_broken_for c q W n op w u by found e) h = reply c q W n op h (answers.Broken u by) refl
+      replied _ _ (is_closing_for c q W n op w p found e) h = reply c q W n op h answers.Closing refl
+      replied _ _ (is_gone_for c q W n op e) h = reply c q W n op h (answers.Lost W.epoch k.epoch) refl
+      replied m x reply h = tt
 
-      carried-talks : (w : Work) (o : Option Intention) → Talks (carried_row t k w o)
-      carried-talks w (Some i) = (tt, keeps)
-      carried-talks w None = ((tt, tt), each-less (KeepsWork sent) w.name t keeps)
+      pub worker-talks : (message : Message) → WasSent message → Talks (worker_row t s k message)
+      worker-talks message = row-talks message (worker_row t s k message) (worker-case t s k message)
+        where
+          short : 0 ≤ 24
+          short = omega arith
+
+          row-talks : (m : Message) (row : RowOutcome WorkerTable) → WorkerCase t s k m row → WasSent m → Talks row
+          row-talks _ _ (replies_only m x reply) h = ((replied m x reply h, tt), keeps)
+          row-talks _ _ (opens_anew c q T none room) h = ((tt, tt), each-append (KeepsWork sent) t _ keeps ((short, tt, inl (refl, refl)), tt))
+          row-talks _ _ (refuses_next c q W n op w a refusal found e l r) h = let few = (its-kept W w a found e).0 in let fits = refusal-fits t w.name a op (its_answer s a op) (its_wants s a op) refusal few r in (
+            (reply c q W n op h refusal fits, tt),
+            each-phase (KeepsWork sent) w.name _ t (λ v g p. (few, keep c q W n op h refusal v.name (a.last + 1) (g ∙ found-name W t w found) (number-of n.0 (a.last + 1) l) fits, was c q W n op h v.name (g ∙ found-name W t w found))) keeps,
+          )
+          row-talks _ _ (performs_next c q W n op w a found e l r) h = let few = (its-kept W w a found e).0 in let fits = answer-fits op (change (list_change a.list) s.state.files) in (
+            (reply c q W n op h (its_answer s a op) fits, tt),
+            each-phase (KeepsWork sent) w.name _ (after_grant w.tid w.name (its_wants s a op) t)
+                (λ v g p. (short-done t w.name a op (its_answer s a op) (its_wants s a op) few r, keep c q W n op h (its_answer s a op) v.name (a.last + 1) (g ∙ found-name W t w found) (number-of n.0 (a.last + 1) l) fits, was c q W n op h v.name (g ∙ found-name W t w found)))
+                (grant-keeps w.tid w.name (its_wants s a op) t keeps),
+          )
+          row-talks _ _ (prepares_it T c W w a found e v) h = ((tt, tt), each-phase (KeepsWork sent) w.name _ (after_grant w.tid w.name (commit_wants a.writes) t) (λ y g p. tt) (grant-keeps w.tid w.name (commit_wants a.writes) t keeps))
+          row-talks _ _ (drops_it T W w found f) h = (tt, each-less (KeepsWork sent) W t keeps)
+          row-talks _ _ (removes_it T W w p found f g) h = (tt, each-less (KeepsWork sent) W t keeps)
+          row-talks m row case h = (tt, keeps)
 
       pub step-talks : (row : RowOutcome WorkerTable) → worker_step t s k ≡ Some row → Talks row
-      step-talks row h = by (going_work s.state t) h
+      step-talks row h = by row (worker-step-case t s k row h)
         where
-          some : {a b : RowOutcome WorkerTable} → Some a ≡ Some b → a ≡ b
-          some q = cc
-
-          none : None ≡ Some row → ⊥
-          none z = cc
-
-          rest : (b : Bool) → (if b then Some (record { table = t; changes = []; messages = []; notes = []; tickets = k }) else None) ≡ Some row → Talks row
-          rest true q = subst (λ (z : RowOutcome WorkerTable). Talks z) (some q) (tt, keeps)
-          rest false q = absurd (none q)
-
-          by : (o : Option Work) → going_row t s k o ≡ Some row → Talks row
-          by (Some w) q = subst (λ (z : RowOutcome WorkerTable). Talks z) (some q) (carried-talks w (slice_get (intentions_of (s.state.works w.name)) (s.next w.name)))
-          by None q = rest s.rubbish q
+          by : (row : RowOutcome WorkerTable) → WorkerStep t s k row → Talks row
+          by _ (is_over w e f) = ((tt, tt), each-less (KeepsWork sent) w.name t keeps)
+          by row case = (tt, keeps)
 
     -- a timeout
     pub timeout-talks : (T : Tid) (now : WorkerTable) → timeout_row t T ≡ Some now → Each (KeepsWork sent) now

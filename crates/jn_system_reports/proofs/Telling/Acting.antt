@@ -1,5 +1,5 @@
 -- The works that take operations: no row but that of an operation changes what they did, or sends an operation or an answer.
-use Rattle.jn_system_reports.proofs.Common.{◌≡◌, ◌≢◌, ◌⊎◌, inl, inr, ℕ, zero, suc, Bool, true, false, List, [], ◌∷◌, ◌++◌, Option, Some, None, refl, sym, ◌∙◌, ap, subst, arith, if◌then◌else◌, nat_lt, length, slice_get, take, ClientNo, Tid, WorkId, Tickets, Server, work_eq, change, Intention, Vote, Work, Phase, Active, Broken, Stored, ActiveWork, StableState, Prepared, Change, AddReady, MarkGoing, CarryOut, RemoveWork, AddFlag, DropFlag, gone_on, is_going, ready_work, made_by, made_all, RowOutcome, Sent, WorkerTable, WorkStorage, Wanted, Held, work_at, work_of, with_phase, without, new_work, name_from, open_row, conflict, commit_wants, vote_of, shortage, need_in, prepared_row, prepare_phase, prepare_row, commit_phase, work_commit_row, drop_phase, drop_row, going_work, intentions_of, carried_row, going_row, worker_step, worker_again, vulnerable, timed_out, timeout_row, are_rising, is_after, at-more, at-less, none-front, work_is, Working, some_is, none_some, at_work_cases, World, Memory, TableFact, Regrants, Origin, Mine, Kept, Broke, granted, phase_changed, by-name, of-found, active_in, working_in, working_of, RequestNo}
+use Rattle.jn_system_reports.proofs.Common.{◌≡◌, ◌≢◌, ◌⊎◌, inl, inr, ℕ, zero, suc, Bool, true, false, List, [], ◌∷◌, ◌++◌, Option, Some, None, refl, sym, ◌∙◌, ap, subst, arith, if◌then◌else◌, take, ClientNo, Tid, WorkId, Tickets, Server, work_eq, change, Work, Phase, Active, Broken, Stored, ActiveWork, StableState, Prepared, Change, AddReady, MarkGoing, CarryOut, RemoveWork, AddFlag, DropFlag, gone_on, is_going, ready_work, made_by, made_all, RowOutcome, Sent, WorkerTable, WorkStorage, Wanted, work_at, work_of, with_phase, without, new_work, name_from, conflict, commit_wants, prepared_row, worker_step, worker_again, vulnerable, timed_out, timeout_row, are_rising, is_after, at-more, at-less, none-front, work_is, Working, some_is, none_some, at_work_cases, World, Memory, TableFact, Regrants, Origin, Mine, Kept, Broke, granted, phase_changed, by-name, of-found, active_in, working_in, working_of, WorkerCase, none_done, replies_only, opens_anew, refuses_next, performs_next, prepares_it, marks_it, drops_it, removes_it, Replies, is_repeated, is_broken_for, is_closing_for, is_gone_for, WorkerStep, carries_out, is_over, erases_rubbish, worker-case, worker-step-case, no-conflict, Message, worker_row}
 use Rattle.jn_msgs.specs.declared.message.Message.TheVariants as messages
 use Rattle.jn_msgs.specs.declared.message.Vote.TheVariants as votes
 
@@ -218,84 +218,57 @@ pub record Stays (t : WorkerTable) (row : RowOutcome WorkerTable) : Type 0 where
   pub adds : Adds t row.changes
   pub silent : AreSilent row.messages
 
-either : (t : WorkerTable) (b : Bool) (p q : RowOutcome WorkerTable) → Stays t p → Stays t q → Stays t (if b then p else q)
-either t true p q h l = h
-either t false p q h l = l
-
 module _ (t : WorkerTable) (k : Tickets) (stored : WorkId → Option Prepared) (fact : TableFact t k stored) where
   -- it sends something, and perhaps changes a work that is stable
   sends-only : (changes : List Change) (sent : List Sent) (told : _) → Adds t changes → AreSilent sent → Stays t (record { table = t; changes = changes; messages = sent; notes = told; tickets = k })
   sends-only changes sent told adds silent = record { table = table-same t; adds = adds; silent = silent }
 
-  pub open-stays : (c : ClientNo) (request : RequestNo) (T : Tid) (o : Option Work) → Stays t (open_row t k c request T o)
-  open-stays c request T (Some w) = sends-only [] _ _ tt (tt, tt)
-  open-stays c request T None = either t (nat_lt (length t) 64) _ _ (record { table = table-more (name_from k) T t fact.before; adds = tt; silent = (tt, tt) }) (sends-only [] _ _ tt (tt, tt))
-
-  module _ (s : WorkStorage) (T : Tid) (c : ClientNo) (w : Work) (found : work_at w.name t ≡ Some w) where
-    ready-stays : (a : ActiveWork) → w.phase ≡ Active a → conflict w.name (commit_wants a.writes) t ≡ None → Stays t (prepared_row t k T c w a votes.Ready)
-    ready-stays a e free = record {
-      table = table-regrants w.name (commit_wants a.writes) _ t _ (granted w.tid w.name (commit_wants a.writes) (Stored (record { reads = a.reads; writes = a.writes })) t free) (λ v y l q. absurd (no y q));
-      adds = ((a, (ap acting_of found ∙ ap acting_in e, refl)), tt);
-      silent = (tt, tt);
-    }
-      where
-        no : (y : ActiveWork) → Stored (record { reads = a.reads; writes = a.writes }) ≡ Active y → ⊥
-        no y q = cc
-
-    prepared-stays : (a : ActiveWork) → w.phase ≡ Active a → (o : Option Held) (short : Option Vote) → conflict w.name (commit_wants a.writes) t ≡ o → Stays t (prepared_row t k T c w a (vote_of o short))
-    prepared-stays a e (Some held) short h = sends-only [] _ _ tt (tt, tt)
-    prepared-stays a e None (Some votes.Ready) h = ready-stays a e h
-    prepared-stays a e None (Some (votes.Waiting u by)) h = sends-only [] _ _ tt (tt, tt)
-    prepared-stays a e None (Some (votes.Broken u by)) h = sends-only [] _ _ tt (tt, tt)
-    prepared-stays a e None (Some (votes.Lost n l)) h = sends-only [] _ _ tt (tt, tt)
-    prepared-stays a e None (Some (votes.Full n l m)) h = sends-only [] _ _ tt (tt, tt)
-    prepared-stays a e None None h = ready-stays a e h
-
-    phase-stays : (p : Phase) → w.phase ≡ p → Stays t (prepare_phase t s k T c w p)
-    phase-stays (Active a) e = prepared-stays a e (conflict w.name (commit_wants a.writes) t) (shortage s.free (need_in s.state.files a.list)) refl
-    phase-stays (Broken u by) e = sends-only [] _ _ tt (tt, tt)
-    phase-stays (Stored p) e = either t (is_going (s.state.works w.name)) _ _ (sends-only [] _ _ tt tt) (sends-only [] _ _ tt (tt, tt))
-
-  pub prepare-stays : (s : WorkStorage) (T : Tid) (c : ClientNo) (W : WorkId) (o : Option Work) → work_at W t ≡ o → Stays t (prepare_row t s k T c W o)
-  prepare-stays s T c W (Some w) h = phase-stays s T c w (by-name W t w h) w.phase refl
-  prepare-stays s T c W None h = sends-only [] _ _ tt (tt, tt)
-
-  pub commit-stays : (s : WorkStorage) (T : Tid) (W : WorkId) (o : Option Work) → Stays t (work_commit_row t s k T W o)
-  commit-stays s T W (Some w) = by w.phase
+  ready-stays : (T : Tid) (c : ClientNo) (w : Work) (a : ActiveWork) → work_at w.name t ≡ Some w → w.phase ≡ Active a → conflict w.name (commit_wants a.writes) t ≡ None → Stays t (prepared_row t k T c w a votes.Ready)
+  ready-stays T c w a found e free = record {
+    table = table-regrants w.name (commit_wants a.writes) _ t _ (granted w.tid w.name (commit_wants a.writes) (Stored (record { reads = a.reads; writes = a.writes })) t free) (λ v y l q. absurd (no y q));
+    adds = ((a, (ap acting_of found ∙ ap acting_in e, refl)), tt);
+    silent = (tt, tt);
+  }
     where
-      by : (p : Phase) → Stays t (commit_phase t s k W p)
-      by (Active a) = sends-only [] _ _ tt tt
-      by (Broken u T) = sends-only [] _ _ tt tt
-      by (Stored p) = either t (is_going (s.state.works W)) _ _ (sends-only [] _ _ tt tt) (sends-only (MarkGoing W ∷ []) _ _ (tt, tt) tt)
-  commit-stays s T W None = sends-only [] _ _ tt (tt, tt)
+      no : (y : ActiveWork) → Stored (record { reads = a.reads; writes = a.writes }) ≡ Active y → ⊥
+      no y q = cc
 
-  pub drop-stays : (s : WorkStorage) (W : WorkId) (o : Option Work) → Stays t (drop_row t s k W o)
-  drop-stays s W (Some w) = by w.phase
+  gone-stays : (W : WorkId) (changes : List Change) (sent : List Sent) → Adds t changes → AreSilent sent → Stays t (record { table = without W t; changes = changes; messages = sent; notes = []; tickets = k })
+  gone-stays W changes sent adds silent = record { table = table-less W t fact.rising; adds = adds; silent = silent }
+
+  abbrev pub IsNoOp : Message → Type 0
+  IsNoOp (messages.Op c request W number op) = ⊥
+  IsNoOp message = Unit {0}
+
+  pub worker-stays : (s : WorkStorage) (m : Message) → IsNoOp m → Stays t (worker_row t s k m)
+  worker-stays s m = by m (worker_row t s k m) (worker-case t s k m)
     where
-      gone : (changes : List Change) → Adds t changes → Stays t (record { table = without W t; changes = changes; messages = []; notes = []; tickets = k })
-      gone changes adds = record { table = table-less W t fact.rising; adds = adds; silent = tt }
+      replied : (m : Message) (x : Sent) → Replies t s k m x → IsNoOp m → IsSilent x
+      replied _ _ (is_repeated c q W n op w a answer found e l kept) h = h
+      replied _ _ (is_broken_for c q W n op w u R found e) h = h
+      replied _ _ (is_closing_for c q W n op w p found e) h = h
+      replied _ _ (is_gone_for c q W n op e) h = h
+      replied m x reply h = tt
 
-      by : (p : Phase) → Stays t (drop_phase t s k W p)
-      by (Active a) = gone [] tt
-      by (Broken u T) = gone [] tt
-      by (Stored p) = either t (is_going (s.state.works W)) _ _ (sends-only [] _ _ tt tt) (gone (RemoveWork W ∷ []) (tt, tt))
-  drop-stays s W None = sends-only [] _ _ tt tt
+      by : (m : Message) (row : RowOutcome WorkerTable) → WorkerCase t s k m row → IsNoOp m → Stays t row
+      by _ _ (none_done m) h = sends-only [] _ _ tt tt
+      by _ _ (replies_only m x reply) h = sends-only [] _ _ tt (replied m x reply h, tt)
+      by _ _ (opens_anew c q T none room) h = record { table = table-more (name_from k) T t fact.before; adds = tt; silent = (tt, tt) }
+      by _ _ (refuses_next c q W n op w a refusal found e l r) h = absurd h
+      by _ _ (performs_next c q W n op w a found e l r) h = absurd h
+      by _ _ (prepares_it T c W w a found e v) h = ready-stays T c w a (by-name W t w found) e (no-conflict _ _ v)
+      by _ _ (marks_it T W w p found e g) h = sends-only (MarkGoing W ∷ []) _ _ (tt, tt) tt
+      by _ _ (drops_it T W w found f) h = gone-stays W [] [] tt tt
+      by _ _ (removes_it T W w p found e g) h = gone-stays W (RemoveWork W ∷ []) [] (tt, tt) tt
 
   -- a background step
-  carried-stays : (w : Work) (o : Option Intention) → Stays t (carried_row t k w o)
-  carried-stays w (Some i) = sends-only (CarryOut w.name i ∷ []) _ _ (tt, tt) tt
-  carried-stays w None = record { table = table-less w.name t fact.rising; adds = (tt, tt); silent = (tt, tt) }
-
   pub step-stays : (s : WorkStorage) (row : RowOutcome WorkerTable) → worker_step t s k ≡ Some row → Stays t row
-  step-stays s row h = by (going_work s.state t) h
+  step-stays s row h = by row (worker-step-case t s k row h)
     where
-      rest : (b : Bool) → (if b then Some (record { table = t; changes = []; messages = []; notes = []; tickets = k }) else None) ≡ Some row → Stays t row
-      rest true q = subst (λ (z : RowOutcome WorkerTable). Stays t z) (some_is _ row q) (sends-only [] [] [] tt tt)
-      rest false q = absurd (none_some row q)
-
-      by : (o : Option Work) → going_row t s k o ≡ Some row → Stays t row
-      by (Some w) q = subst (λ (z : RowOutcome WorkerTable). Stays t z) (some_is _ row q) (carried-stays w (slice_get (intentions_of (s.state.works w.name)) (s.next w.name)))
-      by None q = rest s.rubbish q
+      by : (row : RowOutcome WorkerTable) → WorkerStep t s k row → Stays t row
+      by _ (carries_out w i e f) = sends-only (CarryOut w.name i ∷ []) _ _ (tt, tt) tt
+      by _ (is_over w e f) = gone-stays w.name (RemoveWork w.name ∷ []) _ (tt, tt) (tt, tt)
+      by _ (erases_rubbish e g) = sends-only [] _ _ tt tt
 
   -- a timeout
   pub timeout-stays : (T : Tid) (now : WorkerTable) → timeout_row t T ≡ Some now → TableGoes t now

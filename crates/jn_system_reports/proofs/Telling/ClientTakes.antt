@@ -19,25 +19,13 @@ same-number : (a b : RequestNo) → request_eq a b ≡ true → a ≡ b
 same-number a b e = grind (arith, nat_tests)
 
 client-same : (c : ClientNo) → client_eq c c ≡ true
-client-same c = by (client_tells c c)
-  where
-    by : ((client_eq c c ≡ true) × (c ≡ c)) ⊎ ((client_eq c c ≡ false) × (c ≢ c)) → client_eq c c ≡ true
-    by (inl p) = p.0
-    by (inr p) = absurd (p.1 refl)
+client-same c = grind (arith, client_tells c c)
 
 client-other : (c d : ClientNo) → c ≢ d → client_eq c d ≡ false
-client-other c d ne = by (client_tells c d)
-  where
-    by : ((client_eq c d ≡ true) × (c ≡ d)) ⊎ ((client_eq c d ≡ false) × (c ≢ d)) → client_eq c d ≡ false
-    by (inl p) = absurd (ne p.1)
-    by (inr p) = p.0
+client-other c d ne = grind (arith, client_tells c d, ne)
 
 is-client : (c d : ClientNo) → client_eq c d ≡ true → c ≡ d
-is-client c d h = by (client_tells c d)
-  where
-    by : ((client_eq c d ≡ true) × (c ≡ d)) ⊎ ((client_eq c d ≡ false) × (c ≢ d)) → c ≡ d
-    by (inl p) = p.1
-    by (inr p) = absurd (not_both (client_eq c d) h p.0)
+is-client c d h = grind (arith, client_tells c d, h)
 
 said-more : (events : List Event) (T : Tid) (s : ServerNo) (lines : List Text) (line : Text) → said events T s (lines ++ line ∷ []) ≡ said events T s lines ++ at_place s (answered_by events (owner_in T None lines) line)
 said-more events T s lines line = ap (λ z. at_place s z) (ops-more events T None lines (line ∷ [])) ∙ place-more s (ops_in events T None lines) (answered_by events (owner_in T None lines) line ++ [])

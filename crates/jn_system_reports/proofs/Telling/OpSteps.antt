@@ -1,5 +1,5 @@
 -- A server takes an operation: it performs the next one, or answers the last one again.
-use Rattle.jn_system_reports.proofs.Common.{◌≡◌, ◌⊎◌, inl, inr, ℕ, ◌+◌, Bool, true, false, List, [], ◌∷◌, ◌++◌, append-nil, Option, Some, None, is_some, refl, sym, ◌∙◌, ap, subst, arith, if◌then◌else◌, nat_eq, nat_lt, length, slice_get, nat_tests, All-nil, All-cons, ServerNo, ClientNo, Tid, WorkId, LockUnit, Client, Server, Op, Answer, Files, change, answer_to, list_change, length_with, Read, Message, Note, Work, Phase, Active, Broken, Stored, ActiveWork, stable, RowOutcome, ignored, WorkerTable, Wanted, Held, work_at, with_phase, breaks_at, note_of, break_notes, wants_of, is_fit, units_for, with_units, refusal_of, past_limit, locked, first_of_two, conflict, counted, performed-work, granted_row, repeated, performed, op_phase, op_row, found-name, at-phase, in_phase, work_same, Answered, Machine, Atom, run_atoms, MayRun, Says, Invariant, has_committed, some_is, none_some, at_work_here, World, Memory, commits_in, has_line, of_worker, lines_of, done, LockFacts, UpFact, Regrants, Origin, Mine, Kept, Broke, phase_changed, by-name, no-lock, Mirrors, MovesTo, DoesRow, named_by, commits-more, lines-commit, mirrored, worker-does, committed-any, at_server, OperationNo, RequestNo, one-server}
+use Rattle.jn_system_reports.proofs.Common.{◌≡◌, ◌⊎◌, inl, inr, ℕ, ◌+◌, Bool, true, false, List, [], ◌∷◌, ◌++◌, append-nil, Option, Some, None, is_some, refl, sym, ◌∙◌, ap, subst, arith, if◌then◌else◌, nat_eq, nat_lt, length, slice_get, nat_tests, All-nil, All-cons, ServerNo, ClientNo, Tid, WorkId, LockUnit, Client, Server, Op, Answer, Files, change, answer_to, list_change, length_with, Read, Message, Note, Work, Phase, Active, Broken, Stored, ActiveWork, stable, RowOutcome, ignored, WorkerTable, Wanted, Held, work_at, with_phase, break_notes, wants_of, is_fit, units_for, with_units, refusal_of, past_limit, locked, first_of_two, conflict, counted, performed-work, granted_row, repeated, performed, op_phase, op_row, found-name, at-phase, in_phase, work_same, Answered, Machine, Atom, run_atoms, MayRun, Says, Invariant, has_committed, some_is, none_some, at_work_here, World, Memory, commits_in, has_line, of_worker, lines_of, done, LockFacts, UpFact, Regrants, Origin, Mine, Kept, Broke, phase_changed, by-name, no-lock, Mirrors, MovesTo, DoesRow, named_by, commits-more, lines-commit, mirrored, worker-does, committed-any, at_server, OperationNo, RequestNo, one-server, breaks-none}
 use Rattle.jn_base.specs.declared.op.Op.TheVariants as ops
 use Rattle.jn_base.specs.declared.op.Answer.TheVariants as answers
 use Rattle.jn_msgs.specs.declared.message.Message.TheVariants as messages
@@ -11,17 +11,6 @@ use Rattle.jn_system_reports.proofs.Telling.Facts.{counts, IsKept, IsDrawn}
 use Rattle.jn_system_reports.proofs.Telling.Quiet.{same-told, Moved, moved, Advances, IsServing, acting-says, of-quiet}
 use Rattle.jn_system_reports.proofs.Telling.ServerSteps.{lines-dumb, not-stored, found-at, done-quiet}
 use Rattle.jn_system_reports.proofs.Telling.Rows.{of-worker}
-
--- ---- notes
-
--- a work that breaks names no commit
-breaks-none : (T : Tid) (W : WorkId) (wants : List Wanted) (t : WorkerTable) → named_by (break_notes T W wants t) ≡ []
-breaks-none T W wants [] = refl
-breaks-none T W wants (v ∷ vs) = by (breaks_at W wants v) (breaks-none T W wants vs)
-  where
-    by : (o : Option LockUnit) → named_by (break_notes T W wants vs) ≡ [] → named_by (note_of T o v ++ break_notes T W wants vs) ≡ []
-    by None h = h
-    by (Some u) h = h
 
 -- ---- answers
 

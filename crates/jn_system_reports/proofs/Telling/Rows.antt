@@ -1,10 +1,10 @@
 -- No row of a server but that of an operation changes what a work did, or sends an operation or an answer.
-use Rattle.jn_system_reports.proofs.Common.{◌≡◌, ◌⊎◌, inl, inr, ℕ, Bool, true, false, not, List, [], ◌∷◌, ◌++◌, Option, Some, None, refl, arith, ◌&&◌, if◌then◌else◌, nat_lt, nat_eq, length, ClientNo, Tid, WorkId, Tickets, Cause, Message, Vote, Transaction, Stage, Ballot, Commitment, StableState, Change, RowOutcome, Sent, WorkerTable, work_at, work_of, CoordinatorTable, all_in, is_work, besides, drops, commits, prepares, committed_to, commit_row, abort_row, forget_row, after_closing, close_clients_row, begin_again, begin_row, end_promised, end_stage, end_row, abort_stage, abort_request, not_known, told_stage, inquire_row, noted, counted_vote, vote_stage, vote_row, done_stage, done_row, thanks_stage, thanks_row, told_again, coordinator_again, transaction_at, with_work, Memory, storage_of, Room, of_worker, of_coordinator, server_row, server_again, TableFact, Closes, Empty, Remains, Goes, Waits, Forgets, client-closes, outcomes-close, named_by, worker-none, RequestNo}
+use Rattle.jn_system_reports.proofs.Common.{◌≡◌, ◌⊎◌, inl, inr, ℕ, Bool, true, false, not, List, [], ◌∷◌, ◌++◌, Option, Some, None, refl, arith, ◌&&◌, if◌then◌else◌, nat_lt, nat_eq, length, ClientNo, Tid, WorkId, Tickets, Cause, Message, Vote, Transaction, Stage, Ballot, Commitment, StableState, Change, RowOutcome, Sent, WorkerTable, CoordinatorTable, all_in, is_work, besides, drops, commits, prepares, committed_to, commit_row, abort_row, forget_row, after_closing, close_clients_row, begin_again, begin_row, end_promised, end_stage, end_row, abort_stage, abort_request, not_known, told_stage, inquire_row, noted, counted_vote, vote_stage, vote_row, done_stage, done_row, thanks_stage, thanks_row, told_again, coordinator_again, transaction_at, with_work, Memory, storage_of, Room, of_worker, of_coordinator, server_row, server_again, TableFact, Closes, Empty, Remains, Goes, Waits, Forgets, client-closes, outcomes-close, named_by, worker-none, RequestNo, worker_row}
 use Rattle.jn_msgs.specs.declared.message.Message.TheVariants as messages
 use Rattle.jn_msgs.specs.declared.message.Vote.TheVariants as votes
 use Rattle.jn_rows.specs.declared.coordinator.Stage.TheVariants.{Open, Voting, Committed, Aborted}
 use Rattle.jn_rows.specs.Coordinator.{begun_by}
-use Rattle.jn_system_reports.proofs.Telling.Acting.{TableGoes, table-same, Adds, AreSilent, silent-more, Stays, open-stays, prepare-stays, commit-stays, drop-stays, works-again}
+use Rattle.jn_system_reports.proofs.Telling.Acting.{TableGoes, table-same, Adds, AreSilent, silent-more, Stays, IsNoOp, worker-stays, works-again}
 
 -- ---- what a coordinator sends
 
@@ -175,12 +175,15 @@ abbrev pub is_op : Message → Bool
 is_op (messages.Op c request W number op) = true
 is_op message = false
 
+by-worker : (m : Memory) (x : StableState) (room : Room) (message : Message) (fact : TableFact m.worker m.tickets x.works) → IsNoOp m.worker m.tickets x.works fact message → ServerStays m (of_worker m (worker_row m.worker (storage_of m x room) m.tickets message))
+by-worker m x room message fact other = of-worker m _ (worker-none m.worker (storage_of m x room) m.tickets message) (worker-stays m.worker m.tickets x.works fact (storage_of m x room) message other)
+
 pub row-stays : (m : Memory) (x : StableState) (room : Room) (message : Message) → TableFact m.worker m.tickets x.works → is_op message ≡ false → ServerStays m (server_row m x room message)
-row-stays m x room (messages.Open c request T) fact other = of-worker m _ (worker-none m.worker (storage_of m x room) m.tickets (messages.Open c request T)) (open-stays m.worker m.tickets x.works fact c request T (work_of T m.worker))
+row-stays m x room (messages.Open c request T) fact other = by-worker m x room (messages.Open c request T) fact tt
 row-stays m x room (messages.Op c request W number op) fact other = absurd (grind arith)
-row-stays m x room (messages.Prepare T c W) fact other = of-worker m _ (worker-none m.worker (storage_of m x room) m.tickets (messages.Prepare T c W)) (prepare-stays m.worker m.tickets x.works fact (storage_of m x room) T c W (work_at W m.worker) refl)
-row-stays m x room (messages.Commit T W) fact other = of-worker m _ (worker-none m.worker (storage_of m x room) m.tickets (messages.Commit T W)) (commit-stays m.worker m.tickets x.works fact (storage_of m x room) T W (work_at W m.worker))
-row-stays m x room (messages.Drop T W) fact other = of-worker m _ (worker-none m.worker (storage_of m x room) m.tickets (messages.Drop T W)) (drop-stays m.worker m.tickets x.works fact (storage_of m x room) W (work_at W m.worker))
+row-stays m x room (messages.Prepare T c W) fact other = by-worker m x room (messages.Prepare T c W) fact tt
+row-stays m x room (messages.Commit T W) fact other = by-worker m x room (messages.Commit T W) fact tt
+row-stays m x room (messages.Drop T W) fact other = by-worker m x room (messages.Drop T W) fact tt
 row-stays m x room (messages.Begin c request) fact other = of-plain m _ (begin-plain m.worker m.tickets m.coordinator c request)
 row-stays m x room (messages.End c request T works) fact other = of-plain m _ (end-plain m.worker m.tickets m.coordinator room.free.records c request T works (transaction_at T m.coordinator.transactions))
 row-stays m x room (messages.Abort c request T works) fact other = of-plain m _ (abort-request-plain m.worker m.tickets m.coordinator c T works (transaction_at T m.coordinator.transactions))

@@ -1,5 +1,5 @@
 -- Each step is quiet, but a client's, and that in which a server takes an operation.
-use Rattle.jn_system_reports.proofs.Common.{◌≡◌, ◌⊎◌, inl, inr, ℕ, ◌+◌, Bool, true, false, List, [], ◌∷◌, ◌++◌, append-nil, Option, Some, None, refl, sym, ◌∙◌, ap, subst, if◌then◌else◌, take, ServerNo, Tid, WorkId, server_eq, Message, Note, Text, Work, Phase, ActiveWork, StableState, Prepared, Pick, Change, stable, made_all, RowOutcome, WorkerTable, work_at, worker_step, timeout_row, restored_worker, with_epoch, some_is, none_some, World, Memory, at_server, commits_in, has_line, storage_of, of_worker, of_step, of_timeout, server_again, line_of, lines_of, named_now, restored, done, LockFacts, ServerFact, UpFact, IsSoundWork, restored-is, named_by, commits-more, lines-commit, step-none, quiet-line, slice_get, Client, Server, Files, Tickets, ClientNo, Op, Answer, Wanted, Active, Broken, Stored, op_row, granted_row, repeated, op_phase, answer_to, change, list_change, wants_of, is_fit, refusal_of, nat_eq, Step, Command, Commanded, command_row, Tell, Again, Dismiss, commanded, taken_by, again, dismiss, ClientTable, Taken, take_row, Sent, after, at_client, Sends, Refuses, OperationNo, RequestNo, restart_with, one-server, one-found, ClientRow, by_command, by_ignoring, by_answering, by_telling, ServerRow, of_message, of_work, of_closing, FoundThen, by_narrowing, by_raising, Quiet, event_begins, none_changes, is_refused, client_repeats, server_repeats, is_lost, StepCase, client_row, row_done, row_stopped, gone_late, gone_down, come_up, found_anew, dismissed, quietly, step-case}
+use Rattle.jn_system_reports.proofs.Common.{◌≡◌, ◌⊎◌, inl, inr, ℕ, ◌+◌, Bool, true, false, List, [], ◌∷◌, ◌++◌, append-nil, Option, Some, None, refl, sym, ◌∙◌, ap, subst, if◌then◌else◌, take, ServerNo, Tid, WorkId, server_eq, Message, Note, Text, Work, Phase, ActiveWork, StableState, Prepared, Pick, Change, stable, made_all, RowOutcome, WorkerTable, work_at, timeout_row, restored_worker, with_epoch, some_is, none_some, World, Memory, at_server, commits_in, has_line, storage_of, of_worker, of_timeout, server_again, line_of, lines_of, named_now, restored, done, LockFacts, ServerFact, UpFact, IsSoundWork, restored-is, named_by, commits-more, lines-commit, step-none, quiet-line, slice_get, Client, Server, Files, Tickets, ClientNo, Op, Answer, Wanted, Active, Broken, Stored, op_row, granted_row, repeated, op_phase, answer_to, change, list_change, wants_of, is_fit, refusal_of, nat_eq, Step, Command, Commanded, command_row, Tell, Again, Dismiss, commanded, taken_by, again, dismiss, ClientTable, Taken, take_row, Sent, after, at_client, Sends, Refuses, OperationNo, RequestNo, restart_with, one-server, one-found, ClientRow, by_command, by_ignoring, by_answering, by_telling, ServerRow, of_message, of_work, of_closing, FoundThen, by_narrowing, by_raising, Quiet, event_begins, none_changes, is_refused, client_repeats, server_repeats, is_lost, StepCase, client_row, row_done, row_stopped, gone_late, gone_down, come_up, found_anew, dismissed, quietly, step-case, row-of-step}
 use Rattle.jn_msgs.specs.declared.message.Message.TheVariants as messages
 use Rattle.jn_msgs.specs.declared.message.Note.TheVariants as notes
 use Rattle.jn_report.specs.declared.line.Text.TheVariants as says
@@ -183,12 +183,8 @@ module _ (r : World) (locks : LockFacts r) where
     row-case : UpFact s m (r.found s) → (stop : Option (Pick → ℕ)) (step : Step) (k : Option ℕ) (row : RowOutcome Memory) → ServerRow r s m stop step k row → RowCase r s m k row
     row-case up _ _ _ _ (of_message stop k room (messages.Op d request W number op) is) = row_operates k d request W number op is
     row-case up _ _ _ _ (of_message stop k room message is) = row_stays (Some k) _ (row-stays m (stable (r.found s)) room message up.table refl)
-    row-case up _ _ _ row (of_work stop room _ is) = row_stays None row (by (worker_step m.worker (storage_of m (stable (r.found s)) room) m.tickets) refl is)
-      where
-        by : (o : Option (RowOutcome WorkerTable)) → worker_step m.worker (storage_of m (stable (r.found s)) room) m.tickets ≡ o → of_step m o ≡ Some row → ServerStays m row
-        by None e f = absurd (none_some row f)
-        by (Some x) e f = subst (λ (z : RowOutcome Memory). ServerStays m z) (some_is (of_worker m x) row f)
-            (of-worker m x (step-none m.worker (storage_of m (stable (r.found s)) room) m.tickets x e) (step-stays m.worker m.tickets (stable (r.found s)).works up.table (storage_of m (stable (r.found s)) room) x e))
+    row-case up _ _ _ row (of_work stop room _ is) = row_stays None row (row-of-step (ServerStays m) m (stable (r.found s)) room row is
+        (λ x e. of-worker m x (step-none m.worker (storage_of m (stable (r.found s)) room) m.tickets x e) (step-stays m.worker m.tickets (stable (r.found s)).works up.table (storage_of m (stable (r.found s)) room) x e)))
     row-case up _ _ _ _ of_closing = row_stays None _ (close-stays m)
 
     row-adds : (k : Option ℕ) (row : RowOutcome Memory) → RowCase r s m k row → Adds m.worker row.changes

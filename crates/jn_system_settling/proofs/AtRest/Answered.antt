@@ -1,5 +1,5 @@
 -- What a settle with all servers up answers.
-use Rattle.jn_system_settling.proofs.Common.{◌≡◌, ◌≢◌, ◌⊎◌, inl, inr, ◌≤◌, ◌<◌, ℕ, zero, suc, ◌+◌, Bool, true, false, List, [], ◌∷◌, ◌++◌, Option, Some, None, true≢false, refl, sym, ◌∙◌, ap, subst, arith, if◌then◌else◌, slice_get, nat_eq, nat_lt, ◌&&◌, ◌||◌, length, map, list_any, nat_tests, ServerNo, ClientNo, Tid, WorkId, Client, Server, Command, client_eq, server_eq, tid_eq, client_tells, server_tells, Message, WorkEntry, Taken, Ignored, Outstanding, Pick, stable, Sent, sends_row, work_of, new_work, open_row, ClientTable, Commanded, Refuses, Sends, command_row, take_row, is_current, is_tid, opens, opened_row, if_waits, outcome_row, is_end_or_abort, over, after_command, World, Memory, at_client, servers_from, Room, server_row, Step, Tell, Again, Deliver, Nudge, StopDelivery, StopWork, Dismiss, IsStep, after, handed, commanded, works, UpFact, ServerFact, of-found, Course, go, go_on, Chance, clients_from, first_busy, handing, working, next_step, onward, until_rest, ask_again, AllFiles, Requested, tid_tells, Outcome, Transaction, Stage, Open, Voting, Committed, Aborted, transaction_at, abort_stage, abort_request, drops, besides, aborted_to, Opening, openings, HasOpening, Reached, next-reached, request_eq}
+use Rattle.jn_system_settling.proofs.Common.{Text, ◌≡◌, inl, inr, ◌≤◌, ◌<◌, ℕ, zero, suc, ◌+◌, Bool, true, false, List, [], ◌∷◌, ◌++◌, Option, Some, None, true≢false, refl, sym, ◌∙◌, ap, subst, arith, if◌then◌else◌, slice_get, nat_eq, nat_lt, ◌&&◌, ◌||◌, length, map, list_any, nat_tests, ServerNo, ClientNo, Tid, WorkId, Client, Command, client_eq, server_eq, tid_eq, client_tells, server_tells, Message, WorkEntry, Taken, Ignored, Outstanding, Pick, stable, Sent, sends_row, work_of, new_work, open_row, ClientTable, command_row, take_row, is_current, is_tid, opens, opened_row, if_waits, outcome_row, is_end_or_abort, over, after_command, World, Memory, servers_from, Room, server_row, Step, Again, Deliver, Nudge, StopDelivery, StopWork, IsStep, after, handed, works, UpFact, ServerFact, of-found, Course, go, go_on, Chance, clients_from, first_busy, handing, working, next_step, onward, until_rest, ask_again, AllFiles, Requested, tid_tells, Outcome, Transaction, Stage, Open, Voting, Committed, Aborted, transaction_at, abort_stage, abort_request, drops, besides, aborted_to, Opening, openings, HasOpening, Reached, next-reached, request_eq, one-client, ClientRow, by_command, by_ignoring, by_answering, by_telling, StepCase, client_row, dismissed, step-case}
 use Rattle.jn_base.specs.declared.op.Command.TheVariants as commands
 use Rattle.jn_msgs.specs.declared.message.Message.TheVariants as messages
 use Rattle.jn_rows.specs.Worker.{name_from}
@@ -10,7 +10,7 @@ use Rattle.jn_system_settling.proofs.Settling.CoordinatorFits.{found-name}
 use Rattle.jn_system_settling.proofs.AtRest.Owners.{owner_in, owned-found}
 use Rattle.jn_system_settling.proofs.AtRest.Within.{Within, within-step}
 use Rattle.jn_system_settling.proofs.AtRest.Talk.{IsStill, IsFitting, still-fits, command-fits, take-still}
-use Rattle.jn_system_settling.proofs.AtRest.Ways.{Has, Reply, IsEnd, none-still, handed-still, took-clients, memory-clients, quiet-clients}
+use Rattle.jn_system_settling.proofs.AtRest.Ways.{Has, Reply, IsEnd, none-still, handed-still, quiet-clients}
 
 -- an outcome after which its client waits for nothing
 abbrev pub ends_outcome : Outcome → Bool
@@ -37,22 +37,22 @@ taken-client t (messages.Answer c request answer) = grind arith
 taken-client t (messages.Outcome c T outcome) = grind arith
 taken-client t m = refl
 
-changed : (c d : ClientNo) (f : ClientNo → ClientTable) (t : ClientTable) → Talks c t → Talks d (f d) → Talks d (at_client f c t d)
-changed c d f t now old = by (client_tells c d)
-  where
-    by : ((client_eq c d ≡ true) × (c ≡ d)) ⊎ ((client_eq c d ≡ false) × (c ≢ d)) → Talks d (if client_eq c d then t else f d)
-    by (inl e) = subst (λ (b : Bool). Talks d (if b then t else f d)) (sym e.0) (subst (λ (z : ClientNo). Talks z t) e.1 now)
-    by (inr e) = subst (λ (b : Bool). Talks d (if b then t else f d)) (sym e.0) old
+module _ (w : World) (h : (c : ClientNo) → Talks c (w.clients c)) where
+  taken-talks : (c : ClientNo) (message : Message) (row : ClientTable × Taken) → take_row (w.clients c) message ≡ row → Talks c row.0
+  taken-talks c message row e = subst (λ (z : ClientTable × Taken). Talks c z.0) e
+      (record { name = taken-client (w.clients c) message ∙ (h c).name; fits = still-fits (w.clients c) (take_row (w.clients c) message).0 (take-still (w.clients c) message) (h c).fits })
 
-commanded-talks : (c d : ClientNo) (r : Commanded) (w : World) → Talks c (after_command r (w.clients c)) → Talks d (w.clients d) → Talks d ((commanded c r w).clients d)
-commanded-talks c d (Refuses refusal) w now old = old
-commanded-talks c d (Sends t to message) w now old = changed c d w.clients t now old
+  row-talks : (c : ClientNo) (step : Step) (t : ClientTable) (sent : List Sent) (lines : List Text) → ClientRow w c step t sent lines → Talks c t
+  row-talks c _ _ _ _ (by_command command t to message e) = subst (λ row. Talks c (after_command row (w.clients c))) e
+      (record { name = same-client (w.clients c) w.event command ∙ (h c).name; fits = command-fits (w.clients c) w.event command (h c).fits })
+  row-talks c _ _ _ _ (by_ignoring k room stop message t is e) = taken-talks c message _ e
+  row-talks c _ _ _ _ (by_answering k room stop message t to answer is e) = taken-talks c message _ e
+  row-talks c _ _ _ _ (by_telling k room stop message t line answer is e) = taken-talks c message _ e
 
-handed-talks : (d : ClientNo) (k : ℕ) (room : Room) (stop : Option (Pick → ℕ)) (o : Option Sent) (w : World) → ((c : ClientNo) → Talks c (w.clients c)) → Talks d ((handed k room stop o w).clients d)
-handed-talks d k room stop None w h = h d
-handed-talks d k room stop (Some (Client c, message)) w h = subst (λ f. Talks d (f d)) (sym (took-clients c k (take_row (w.clients c) message).0 (take_row (w.clients c) message).1 w))
-    (changed c d w.clients (take_row (w.clients c) message).0 (record { name = taken-client (w.clients c) message ∙ (h c).name; fits = still-fits (w.clients c) (take_row (w.clients c) message).0 (take-still (w.clients c) message) (h c).fits }) (h d))
-handed-talks d k room stop (Some (Server s, message)) w h = subst (λ f. Talks d (f d)) (sym (memory-clients s k room stop message (w.memory s) w)) (h d)
+  by-case : (step : Step) (now : World) → StepCase w step now → (c : ClientNo) → Talks c (now.clients c)
+  by-case step _ (client_row _ c t sent lines row) = one-client Talks w.clients c t (row-talks c step t sent lines row) (λ d other. h d)
+  by-case _ _ dismissed = λ c. record { name = (h c).name; fits = still-fits (w.clients c) (over (w.clients c)) (inr refl) (h c).fits }
+  by-case _ _ is = h
 
 module _ (n : ℕ) (at_most : n ≤ 8) (start : World) (files : AllFiles) (epochs : ServerNo → ℕ) where
   pub record Talking (d : Course) : Type 0 where
@@ -64,26 +64,10 @@ module _ (n : ℕ) (at_most : n ≤ 8) (start : World) (files : AllFiles) (epoch
   pub go-talking : (d : Course) (step : Step) → Talking d → IsStep step d.world → Talking (go step d)
   go-talking d step h i = record {
     sound = go-sound n at_most start d step h.sound i;
-    talks = λ c. by step c;
+    talks = by-case d.world h.talks step (after step d.world) (step-case d.world step);
     known = next-reached files epochs d.world step i h.known;
     within = within-step n at_most d.world h.sound.sizes h.sound.locks h.within step i;
   }
-    where
-      w : World
-      w = d.world
-
-      told : (c : ClientNo) (command : Command) → Talks c (after_command (command_row (d.world.clients c) d.world.event command) (d.world.clients c))
-      told c command = let t = h.talks c in record { name = same-client (d.world.clients c) d.world.event command ∙ t.name; fits = command-fits (d.world.clients c) d.world.event command t.fits }
-
-      quiet : (step : Step) → (after step d.world).clients ≡ d.world.clients → (c : ClientNo) → Talks c ((after step d.world).clients c)
-      quiet step e c = subst (λ f. Talks c (f c)) (sym e) (h.talks c)
-
-      by : (step : Step) (c : ClientNo) → Talks c ((after step d.world).clients c)
-      by (Tell e command) c = commanded-talks e c (command_row (d.world.clients e) d.world.event command) d.world (told e command) (h.talks c)
-      by (Deliver k room) c = handed-talks c k room None (slice_get d.world.sent k) d.world h.talks
-      by (StopDelivery k room made) c = handed-talks c k room (Some made) (slice_get d.world.sent k) d.world h.talks
-      by Dismiss c = let t = h.talks c in record { name = t.name; fits = still-fits (d.world.clients c) (over (d.world.clients c)) (inr refl) t.fits }
-      by step c = quiet step (quiet-clients step d.world refl) c
 
   -- ---- an Open is answered
 

@@ -1,5 +1,5 @@
 -- Each broken work has its line.
-use Rattle.jn_system_settling.proofs.Common.{◌≡◌, ◌≢◌, ◌⊎◌, inl, inr, ℕ, ◌+◌, Bool, true, false, List, [], ◌∷◌, ◌++◌, length, Option, Some, None, refl, sym, ◌∙◌, ap, subst, map, if◌then◌else◌, nat_lt, nat_eq, slice_get, ServerNo, ClientNo, Tid, WorkId, Tickets, LockUnit, Op, Answer, work_eq, work_tells, AllFiles, change, answer_to, list_change, Intention, Message, Vote, Note, Text, Work, Phase, Active, Broken, Stored, ActiveWork, StableState, Prepared, stable, is_going, RowOutcome, quiet, WorkerTable, WorkStorage, Wanted, work_at, work_of, with_phase, without, new_work, open_row, break_notes, breaks_at, broken_by, note_of, after_grant, granted_row, repeated, op_phase, op_row, refusal_of, wants_of, is_fit, commit_wants, conflict, vote_of, shortage, need_in, prepared_row, prepare_phase, prepare_row, commit_phase, drop_phase, drop_row, worker_row, worker_step, going_work, going_row, carried_row, intentions_of, timed_out, timeout_row, vulnerable, written_unit, restored_work, restored_worker, are_rising, is_after, in_phase, at-phase, at-grant, once_granted, at-less, at-more, World, Memory, Room, storage_of, of_worker, of_coordinator, of_step, of_timeout, server_step, server_timeout, is_for_worker, restored, line_of, lines_of, Step, IsRun, after, run, UpFact, ServerFact, of-found, coordinator_row, In, in-first, in-second, Reached, next-reached, OperationNo, RequestNo}
+use Rattle.jn_system_settling.proofs.Common.{at_server, server_timeout, LockFacts, ◌≡◌, ◌≢◌, ◌⊎◌, inl, inr, ℕ, ◌+◌, Bool, true, false, List, [], ◌∷◌, ◌++◌, length, Option, Some, None, refl, sym, ◌∙◌, ap, subst, map, if◌then◌else◌, nat_lt, nat_eq, slice_get, ServerNo, ClientNo, Tid, WorkId, Tickets, LockUnit, Op, Answer, work_eq, work_tells, AllFiles, change, answer_to, list_change, Intention, Message, Vote, Note, Text, Work, Phase, Active, Broken, Stored, ActiveWork, StableState, Prepared, stable, is_going, RowOutcome, quiet, WorkerTable, WorkStorage, Wanted, work_at, work_of, with_phase, without, new_work, open_row, break_notes, breaks_at, broken_by, note_of, after_grant, granted_row, repeated, op_phase, op_row, refusal_of, wants_of, is_fit, commit_wants, conflict, vote_of, shortage, need_in, prepared_row, prepare_phase, prepare_row, commit_phase, drop_phase, drop_row, worker_row, worker_step, going_work, going_row, carried_row, intentions_of, timed_out, timeout_row, vulnerable, written_unit, restored_work, restored_worker, are_rising, is_after, in_phase, at-phase, at-grant, once_granted, at-less, at-more, World, Memory, storage_of, of_timeout, restored, line_of, lines_of, Step, IsRun, after, run, UpFact, ServerFact, of-found, In, in-first, in-second, Reached, next-reached, OperationNo, RequestNo, one-server, some-memory, ServerRow, of_message, of_work, of_closing, StepCase, row_done, row_stopped, gone_late, gone_down, come_up, step-case, row-either, row-of-step, none-memory}
 use Rattle.jn_msgs.specs.declared.message.Message.TheVariants as messages
 use Rattle.jn_msgs.specs.declared.message.Vote.TheVariants as votes
 use Rattle.jn_msgs.specs.declared.message.Note.TheVariants as notes
@@ -8,7 +8,6 @@ use Rattle.jn_rows.specs.declared.worker.PreparedWork.{PreparedWork}
 use Rattle.jn_rows.specs.Worker.{name_from, commit_row}
 use Rattle.jn_system_reports.specs.Reporting.Reported.{Does, told_by}
 use Rattle.jn_system_reports.proofs.Reporting.Naming.{adds}
-use Rattle.jn_system_settling.proofs.AtRest.Memories.{Remembers, as_before, down, by_message, by_step, by_timeout, by_closing, by_restart, step-memory}
 
 -- where a broken work of a new table comes from: it was broken before, or breaks with its note
 record WasBroken (t : WorkerTable) (W : WorkId) (v : Work) (u : LockUnit) (by : Tid) : Type 0 where
@@ -173,7 +172,7 @@ module _ (t : WorkerTable) (k : Tickets) (rising : are_rising t ≡ true) (next 
       by None = same _ refl
   worker-breaks s m = same _ refl
 
-  step-breaks : (s : WorkStorage) (row : RowOutcome WorkerTable) → worker_step t s k ≡ Some row → Breaks t row.table []
+  step-breaks : (s : WorkStorage) (row : RowOutcome WorkerTable) → worker_step t s k ≡ Some row → Breaks t row.table row.notes
   step-breaks s row h = by (going_work s.state t) h
     where
       some : (a b : RowOutcome WorkerTable) → Some a ≡ Some b → a ≡ b
@@ -182,16 +181,16 @@ module _ (t : WorkerTable) (k : Tickets) (rising : are_rising t ≡ true) (next 
       none : None ≡ Some row → ⊥
       none q = cc
 
-      carried : (w : Work) (o : Option Intention) → Breaks t (carried_row t k w o).table []
+      carried : (w : Work) (o : Option Intention) → Breaks t (carried_row t k w o).table (carried_row t k w o).notes
       carried w (Some i) = same-breaks t []
       carried w None = less-breaks w.name t [] rising
 
-      rest : (b : Bool) → (if b then Some (quiet t k) else None) ≡ Some row → Breaks t row.table []
-      rest true q = subst (λ (z : RowOutcome WorkerTable). Breaks t z.table []) (some _ row q) (same-breaks t [])
+      rest : (b : Bool) → (if b then Some (quiet t k) else None) ≡ Some row → Breaks t row.table row.notes
+      rest true q = subst (λ (z : RowOutcome WorkerTable). Breaks t z.table z.notes) (some _ row q) (same-breaks t [])
       rest false q = absurd (none q)
 
-      by : (o : Option Work) → going_row t s k o ≡ Some row → Breaks t row.table []
-      by (Some w) q = subst (λ (z : RowOutcome WorkerTable). Breaks t z.table []) (some _ row q) (carried w (slice_get (intentions_of (s.state.works w.name)) (s.next w.name)))
+      by : (o : Option Work) → going_row t s k o ≡ Some row → Breaks t row.table row.notes
+      by (Some w) q = subst (λ (z : RowOutcome WorkerTable). Breaks t z.table z.notes) (some _ row q) (carried w (slice_get (intentions_of (s.state.works w.name)) (s.next w.name)))
       by None q = rest s.rubbish q
 
   late-breaks : (T : Tid) (o : Option Work) (now : WorkerTable) → ((w : Work) → o ≡ Some w → work_at w.name t ≡ Some w) → timed_out t o ≡ Some now → Breaks t now []
@@ -234,82 +233,61 @@ restored-whole x (V ∷ Vs) W v u by e p = on (x.works V) e (restored-whole x Vs
         at true z = stored-whole _ u by (ap (λ (y : Work). y.phase) (some-work _ v z) ∙ p)
         at false z = again z p
 
+-- a break's note is its line
+note-line : (s : ServerNo) (k : Option ℕ) (T : Tid) (u : LockUnit) (by : Tid) (told : List Note) → In (notes.Broke T u by) told → In (says.Broke s T u by) (lines_of s k told)
+note-line s k T u by [] q = absurd q
+note-line s k T u by (x ∷ told) (inl q) = in-first _ (line_of s k x) (lines_of s k told) (subst (λ z. In (says.Broke s T u by) (line_of s k z)) (sym q) (inl refl))
+note-line s k T u by (x ∷ told) (inr q) = in-second _ (line_of s k x) (lines_of s k told) (note-line s k T u by told q)
+
+module _ (r : World) (locks : LockFacts r) (h : BrokenTold r) where
+  up : (s : ServerNo) (m : Memory) → r.memory s ≡ Some m → UpFact s m (r.found s)
+  up s m e = subst (λ o. ServerFact s o (r.found s)) e (locks s)
+
+  row-breaks : (s : ServerNo) (m : Memory) (step : Step) (k : Option ℕ) (row : RowOutcome Memory) → UpFact s m (r.found s) → ServerRow r s m None step k row → Breaks m.worker row.table.worker row.notes
+  row-breaks s m _ _ _ up (of_message _ k room message is) = row-either (λ z. Breaks m.worker z.table.worker z.notes) m (stable (r.found s)) room message
+      (worker-breaks m.worker m.tickets up.table.rising up.table.before (storage_of m (stable (r.found s)) room) message).each (same-breaks m.worker _)
+  row-breaks s m _ _ row up (of_work _ room _ is) = row-of-step (λ z. Breaks m.worker z.table.worker z.notes) m (stable (r.found s)) room row is
+      (step-breaks m.worker m.tickets up.table.rising up.table.before (storage_of m (stable (r.found s)) room))
+  row-breaks s m _ _ _ up of_closing = same-breaks m.worker []
+
+  timeout-breaks : (s : ServerNo) (m : Memory) (T : Tid) → UpFact s m (r.found s) → (o : Option WorkerTable) → timeout_row m.worker T ≡ o → Breaks m.worker (of_timeout m o).worker []
+  timeout-breaks s m T up None e = same-breaks m.worker []
+  timeout-breaks s m T up (Some t) e = late-breaks m.worker m.tickets up.table.rising up.table.before T (work_of T m.worker) t (λ w k. of-found T m.worker w up.table.rising k) e
+
+  module _ (lines : List Text) (stays : (x : Text) → In x r.lines → In x lines) where
+    abbrev Told : ServerNo → Memory → Type 0
+    Told s m = (W : WorkId) (v : Work) (u : LockUnit) (by : Tid) → work_at W m.worker ≡ Some v → v.phase ≡ Broken u by → In (says.Broke s v.tid u by) lines
+
+    -- what was broken before has its line
+    still : (s : ServerNo) (m : Memory) → r.memory s ≡ Some m → Told s m
+    still s m e W v u by f p = stays _ (h s m W v u by e f p)
+
+    one : (s : ServerNo) (o : Option Memory) → ((m : Memory) → o ≡ Some m → Told s m) → (q : ServerNo) (m : Memory) → at_server r.memory s o q ≡ Some m → Told q m
+    one s o now = one-server (λ q o. (m : Memory) → o ≡ Some m → Told q m) r.memory s o now (λ q other. still q)
+
+    gone : (s q : ServerNo) (m : Memory) → at_server r.memory s None q ≡ Some m → Told q m
+    gone s = one s None (λ m e. absurd (none-memory m e))
+
+    -- what breaks has its line
+    breaks : (s : ServerNo) (m now : Memory) (told : List Note) → r.memory s ≡ Some m → Breaks m.worker now.worker told → ((T : Tid) (u : LockUnit) (by : Tid) → In (notes.Broke T u by) told → In (says.Broke s T u by) lines)
+        → (q : ServerNo) (n : Memory) → at_server r.memory s (Some now) q ≡ Some n → Told q n
+    breaks s m now told is b new = one s (Some now) (λ n e. subst (Told s) (some-memory now n e) (λ W v u by f p. on W v u by (b W v u by f p)))
+      where
+        on : (W : WorkId) (v : Work) (u : LockUnit) (by : Tid) → WasBroken m.worker W v u by ⊎ In (notes.Broke v.tid u by) told → In (says.Broke s v.tid u by) lines
+        on W v u by (inl w) = stays _ (subst (λ (T : Tid). In (says.Broke s T u by) r.lines) w.tid (h s m W w.work u by is w.found w.phase))
+        on W v u by (inr z) = new v.tid u by z
+
+  by-case : (step : Step) (now : World) → StepCase r step now → (stays : (x : Text) → In x r.lines → In x now.lines) → (s : ServerNo) (m : Memory) → now.memory s ≡ Some m → Told now.lines stays s m
+  by-case step _ (row_done _ s m k row e is) stays = breaks _ stays s m row.table row.notes e (row-breaks s m step k row (up s m e) is) (λ T u by z. in-second _ r.lines _ (note-line s k T u by row.notes z))
+  by-case step _ (row_stopped _ s m k row made e is) stays = gone _ stays s
+  by-case _ _ (gone_late s m T e) stays = breaks _ stays s m (server_timeout m T) [] e (timeout-breaks s m T (up s m e) (timeout_row m.worker T) refl) (λ T u by z. absurd z)
+  by-case _ _ (gone_down s m e) stays = gone _ stays s
+  by-case _ _ (come_up s pick Ws Ts e) stays = one _ stays s (Some (restored s (r.found s pick) Ws Ts)) (λ m k W v u by f p. absurd (restored-whole (r.found s pick) Ws W v u by (ap (λ (z : Memory). work_at W z.worker) (some-memory _ m k) ∙ f) p))
+  by-case _ _ is stays = still _ stays
+
 module _ (files : AllFiles) (epochs : ServerNo → ℕ) where
   step-told : (step : Step) (r : World) → Reached files epochs r → BrokenTold r → BrokenTold (after step r)
-  step-told step r R h s n W v u by e f p = on ((after step r).memory s) e (step-memory r s step)
-    where
-      same : (a b : Memory) → Some a ≡ Some b → a ≡ b
-      same a b q = cc
-
-      none : None ≡ Some n → ⊥
-      none q = cc
-
-      up : (m : Memory) → r.memory s ≡ Some m → UpFact s m (r.found s)
-      up m q = subst (λ o. ServerFact s o (r.found s)) q (R.locks s)
-
-      stays : (x : Text) → In x r.lines → In x (after step r).lines
-      stays x k = subst (λ l. In x l) (sym (adds files epochs r R step)) (in-first x r.lines (told_by (Does step) r) k)
-
-      old : (m : Memory) → r.memory s ≡ Some m → WasBroken m.worker W v u by → In (says.Broke s v.tid u by) (after step r).lines
-      old m q w = stays _ (subst (λ (T : Tid). In (says.Broke s T u by) r.lines) w.tid (h s m W w.work u by q w.found w.phase))
-
-      in-lines : (k : Option ℕ) (told : List Note) → In (notes.Broke v.tid u by) told → In (says.Broke s v.tid u by) (lines_of s k told)
-      in-lines k [] q = absurd q
-      in-lines k (x ∷ told) (inl q) = in-first _ (line_of s k x) (lines_of s k told) (subst (λ z. In (says.Broke s v.tid u by) (line_of s k z)) (sym q) (inl refl))
-      in-lines k (x ∷ told) (inr q) = in-second _ (line_of s k x) (lines_of s k told) (in-lines k told q)
-
-      its : (m : Memory) → r.memory s ≡ Some m → (t : WorkerTable) → Breaks m.worker t [] → work_at W t ≡ Some v → In (says.Broke s v.tid u by) (after step r).lines
-      its m q t b g = at (b W v u by g p)
-        where
-          at : WasBroken m.worker W v u by ⊎ ⊥ → In (says.Broke s v.tid u by) (after step r).lines
-          at (inl w) = old m q w
-          at (inr z) = absurd z
-
-      at-n : (m : Memory) → Some m ≡ Some n → work_at W m.worker ≡ Some v
-      at-n m q = ap (λ (z : Memory). work_at W z.worker) (same m n q) ∙ f
-
-      by-row : (m : Memory) (room : Room) (message : Message) (k : ℕ) (b : Bool) → r.memory s ≡ Some m
-          → work_at W (if b then of_worker m (worker_row m.worker (storage_of m (stable (r.found s)) room) m.tickets message) else of_coordinator m (coordinator_row m.coordinator room.free.records m.tickets message)).table.worker ≡ Some v
-          → (after step r).lines ≡ r.lines ++ lines_of s (Some k) (if b then of_worker m (worker_row m.worker (storage_of m (stable (r.found s)) room) m.tickets message) else of_coordinator m (coordinator_row m.coordinator room.free.records m.tickets message)).notes
-          → In (says.Broke s v.tid u by) (after step r).lines
-      by-row m room message k false q g l = old m q (record { work = v; found = g; phase = p; tid = refl })
-      by-row m room message k true q g l = at ((worker-breaks m.worker m.tickets (up m q).table.rising (up m q).table.before (storage_of m (stable (r.found s)) room) message).each W v u by g p)
-        where
-          at : WasBroken m.worker W v u by ⊎ In (notes.Broke v.tid u by) (worker_row m.worker (storage_of m (stable (r.found s)) room) m.tickets message).notes → In (says.Broke s v.tid u by) (after step r).lines
-          at (inl w) = old m q w
-          at (inr z) = subst (λ x. In (says.Broke s v.tid u by) x) (sym l) (in-second _ r.lines _ (in-lines (Some k) _ z))
-
-      by-own : (m : Memory) (room : Room) (row : RowOutcome Memory) → r.memory s ≡ Some m → server_step m (stable (r.found s)) room ≡ Some row → Some row.table ≡ Some n → In (says.Broke s v.tid u by) (after step r).lines
-      by-own m room row q g z = at (worker_step m.worker (storage_of m (stable (r.found s)) room) m.tickets) refl g
-        where
-          one : (a : RowOutcome Memory) → Some a ≡ Some row → a ≡ row
-          one a k = cc
-
-          no : None ≡ Some row → ⊥
-          no k = cc
-
-          at : (o : Option (RowOutcome WorkerTable)) → worker_step m.worker (storage_of m (stable (r.found s)) room) m.tickets ≡ o → of_step m o ≡ Some row → In (says.Broke s v.tid u by) (after step r).lines
-          at None x k = absurd (no k)
-          at (Some w) x k = its m q w.table (step-breaks m.worker m.tickets (up m q).table.rising (up m q).table.before (storage_of m (stable (r.found s)) room) w x) (ap (λ (y : RowOutcome Memory). work_at W y.table.worker) (one (of_worker m w) k) ∙ at-n row.table z)
-
-      by-late : (m : Memory) (T : Tid) → r.memory s ≡ Some m → Some (server_timeout m T) ≡ Some n → In (says.Broke s v.tid u by) (after step r).lines
-      by-late m T q z = at (timeout_row m.worker T) refl (at-n (server_timeout m T) z)
-        where
-          own : (w : Work) → work_of T m.worker ≡ Some w → work_at w.name m.worker ≡ Some w
-          own w k = of-found T m.worker w (up m q).table.rising k
-
-          at : (o : Option WorkerTable) → timeout_row m.worker T ≡ o → work_at W (of_timeout m o).worker ≡ Some v → In (says.Broke s v.tid u by) (after step r).lines
-          at None x g = old m q (record { work = v; found = g; phase = p; tid = refl })
-          at (Some t) x g = its m q t (late-breaks m.worker m.tickets (up m q).table.rising (up m q).table.before T (work_of T m.worker) t own x) g
-
-      on : (o : Option Memory) → o ≡ Some n → Remembers r (after step r) s o → In (says.Broke s v.tid u by) (after step r).lines
-      on o q as_before = stays _ (h s n W v u by q f p)
-      on o q down = absurd (none q)
-      on o q (by_message m room message up has k l) = by-row m room message k (is_for_worker message) up (at-n _ q) l
-      on o q (by_step m room row up g) = by-own m room row up g q
-      on o q (by_timeout m T up) = by-late m T up q
-      on o q (by_closing m up) = old m up (record { work = v; found = at-n _ q; phase = p; tid = refl })
-      on o q (by_restart x Ws Ts) = absurd (restored-whole x Ws W v u by (at-n (restored s x Ws Ts) q) p)
+  step-told step r R h s m W v u by e = by-case r R.locks h step (after step r) (step-case r step) (λ x k. subst (λ l. In x l) (sym (adds files epochs r R step)) (in-first x r.lines (told_by (Does step) r) k)) s m e W v u by
 
   pub run-told : (steps : List Step) (r : World) → IsRun steps r → Reached files epochs r → BrokenTold r → BrokenTold (run steps r)
   run-told [] r i R h = h

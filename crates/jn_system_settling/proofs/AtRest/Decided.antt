@@ -1,6 +1,6 @@
 -- A settle with these servers up leaves a live work only of a transaction that is undecided or was told, or that it opened; and so
 -- it settles.
-use Rattle.jn_system_settling.proofs.Common.{◌≡◌, ◌≢◌, ◌⊎◌, inl, inr, ◌≤◌, ◌<◌, ℕ, Bool, true, false, List, [], ◌∷◌, length, Option, Some, None, is_some, true≢false, refl, sym, ◌∙◌, ap, subst, arith, ◌&&◌, ◌||◌, if◌then◌else◌, nat_eq, list_any, ServerNo, ClientNo, Tid, WorkId, Server, Command, Begin, OpenAt, Do, End, Abort, client_eq, tid_eq, work_eq, client_tells, tid_tells, work_tells, AllFiles, Outstanding, Work, StableState, stable, is_going, Sent, WorkerTable, work_at, worker_again, coordinator_again, ClientTable, is_tid, is_current, is_end_or_abort, sent_again, again_row, World, Memory, opening, servers_from, sent_now, is_closing, Course, Chance, clients_from, until_rest, IsAtRest, get-in, AreUp, entry_in, live_at, holds_undecided, tells_outcome, told_since, AreDecided, IsSettled, LeavesBetween}
+use Rattle.jn_system_settling.proofs.Common.{◌≡◌, ◌≢◌, ◌⊎◌, inl, inr, ◌≤◌, ◌<◌, ℕ, Bool, true, false, List, [], ◌∷◌, length, Option, Some, None, is_some, true≢false, refl, sym, ◌∙◌, ap, subst, arith, ◌&&◌, ◌||◌, if◌then◌else◌, nat_eq, list_any, ServerNo, ClientNo, Tid, WorkId, Server, Command, Begin, OpenAt, Do, End, Abort, client_eq, tid_eq, work_eq, client_tells, tid_tells, work_tells, AllFiles, Outstanding, Work, StableState, stable, is_going, Sent, WorkerTable, work_at, worker_again, coordinator_again, ClientTable, is_tid, is_current, is_end_or_abort, sent_again, again_row, World, Memory, opening, servers_from, sent_now, is_closing, Course, Chance, clients_from, until_rest, IsAtRest, get-in, AreUp, entry_in, live_at, holds_undecided, tells_outcome, told_since, AreDecided, IsSettled, LeavesBetween, some-memory}
 use Rattle.jn_msgs.specs.declared.message.Message.TheVariants as messages
 use Rattle.jn_system_settling.proofs.Settling.Settling.{nothing-goes}
 use Rattle.jn_system_settling.proofs.AtRest.Ways.{Has}
@@ -165,9 +165,6 @@ module _ (n : ℕ) (at_most : n ≤ 8) (files : AllFiles) (epochs : ServerNo →
         by None q f = absurd (cc f)
         by (Some m) q f = (m, q, f)
 
-    same-memory : (a b : Memory) → Some a ≡ Some b → a ≡ b
-    same-memory a b e = cc
-
     -- it isn't there
     not-there : (w : World) (W : WorkId) (v : Work) → live_at w W ≡ Some v → NotLive w W → ⊥
     not-there w W v e q = no (sym q.none ∙ sym (ap (λ o. entry_in o W) q.up) ∙ e)
@@ -238,7 +235,7 @@ module _ (n : ℕ) (at_most : n ≤ 8) (files : AllFiles) (epochs : ServerNo →
       where
         old-then : (v : Work) → live_at c.world W ≡ Some v → Old W d
         old-then v e = let at = entry-of c.world W v e in rest-old W i first c h up-d
-            (λ m q. subst (λ (y : Memory). IsOld W y.tickets) (same-memory at.0 m (sym at.1 ∙ q)) (live-old files epochs c.world (reached n at_most files epochs c h) W at.0 v at.1 at.2))
+            (λ m q. subst (λ (y : Memory). IsOld W y.tickets) (some-memory at.0 m (sym at.1 ∙ q)) (live-old files epochs c.world (reached n at_most files epochs c h) W at.0 v at.1 at.2))
 
         memory-d : (m : Memory) × (d.world.memory W.server ≡ Some m)
         memory-d = by (d.world.memory W.server) refl

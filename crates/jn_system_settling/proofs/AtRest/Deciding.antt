@@ -1,5 +1,5 @@
 -- What becomes in a settle of a work that asks for its outcome: it goes, or its transaction stays undecided or is told.
-use Rattle.jn_system_settling.proofs.Common.{length, length-append, ◌≡◌, ◌≢◌, ◌⊎◌, inl, inr, ◌≤◌, ◌<◌, ℕ, Bool, true, false, List, [], ◌∷◌, ◌++◌, Option, Some, None, is_some, true≢false, refl, sym, ◌∙◌, ap, subst, arith, ◌&&◌, ◌||◌, not, if◌then◌else◌, slice_get, nat_eq, drop, list_any, nat_tests, ServerNo, ClientNo, Tid, WorkId, Cause, Client, Server, client_eq, server_eq, tid_eq, work_eq, client_tells, server_tells, tid_tells, work_tells, AllFiles, Intention, Message, Note, Text, Taken, Work, Transaction, Stage, Open, Voting, Committed, Aborted, StableState, stable, is_going, made_all, RowOutcome, Sent, WorkerTable, work_at, without, worker_row, carried_row, intentions_of, CoordinatorTable, transaction_at, is_work, coordinator_row, inquire_row, told_stage, commits, dropped, ClientTable, take_row, at-less, Says, IsWorkOf, Knows, not_both, World, Memory, opening, has_line, commits_in, at_client, Room, storage_of, server_row, of_worker, of_coordinator, is_for_worker, line_of, lines_of, took, taken_by, done, IsTrue, knowledge_in, Course, In, in-first, get-in, Reached, named-is, in-all, is_undecided, is_held, holds_undecided, tells_outcome}
+use Rattle.jn_system_settling.proofs.Common.{length, length-append, ◌≡◌, ◌≢◌, ◌⊎◌, inl, inr, ◌≤◌, ◌<◌, ℕ, Bool, true, false, List, [], ◌∷◌, ◌++◌, Option, Some, None, is_some, true≢false, refl, sym, ◌∙◌, ap, subst, arith, ◌&&◌, ◌||◌, not, if◌then◌else◌, slice_get, nat_eq, drop, list_any, nat_tests, ServerNo, ClientNo, Tid, WorkId, Cause, Client, Server, client_eq, server_eq, tid_eq, work_eq, client_tells, server_tells, tid_tells, work_tells, AllFiles, Intention, Message, Note, Text, Taken, Work, Transaction, Stage, Open, Voting, Committed, Aborted, StableState, stable, is_going, made_all, RowOutcome, Sent, WorkerTable, work_at, without, carried_row, intentions_of, CoordinatorTable, transaction_at, is_work, coordinator_row, inquire_row, told_stage, commits, dropped, ClientTable, take_row, at-less, Says, IsWorkOf, Knows, not_both, World, Memory, opening, has_line, commits_in, at_client, Room, server_row, of_worker, of_coordinator, line_of, lines_of, took, taken_by, done, IsTrue, knowledge_in, Course, In, in-first, get-in, Reached, named-is, in-all, is_undecided, is_held, holds_undecided, tells_outcome, some-memory, row-either}
 use Rattle.jn_msgs.specs.declared.message.Message.TheVariants as messages
 use Rattle.jn_msgs.specs.declared.message.Note.TheVariants as notes
 use Rattle.jn_msgs.specs.declared.message.Outcome.TheVariants as outcomes
@@ -48,9 +48,6 @@ module _ (n : ℕ) (at_most : n ≤ 8) (files : AllFiles) (epochs : ServerNo →
   abbrev pub HasOld : Course → Type 0
   HasOld d = (m : Memory) → d.world.memory W.server ≡ Some m → IsOld W m.tickets
 
-  same-memory : (a b : Memory) → Some a ≡ Some b → a ≡ b
-  same-memory a b e = cc
-
   itself : (p q : ServerNo) → p ≡ q → server_eq p q ≡ true
   itself p q e = grind (arith, nat_tests, e)
 
@@ -73,14 +70,14 @@ module _ (n : ℕ) (at_most : n ≤ 8) (files : AllFiles) (epochs : ServerNo →
     moved-old on h k up' = by (server_tells s W.server)
       where
         by : ((server_eq s W.server ≡ true) × (s ≡ W.server)) ⊎ ((server_eq s W.server ≡ false) × (s ≢ W.server)) → IsOld W k.tickets
-        by (inl p) = subst (λ (z : Memory). IsOld W z.tickets) (same-memory after k (sym (at-it p.1) ∙ up')) (on p.1 (h m (ap d.world.memory (sym p.1) ∙ up)))
+        by (inl p) = subst (λ (z : Memory). IsOld W z.tickets) (some-memory after k (sym (at-it p.1) ∙ up')) (on p.1 (h m (ap d.world.memory (sym p.1) ∙ up)))
         by (inr p) = h k (sym (elsewhere p.0) ∙ up')
 
     pub moved-gone : (s ≡ W.server → IsOld W m.tickets → IsOld W after.tickets) → (s ≡ W.server → IsOld W m.tickets → work_at W m.worker ≡ None → work_at W after.worker ≡ None) → NotLive d.world W → NotLive now.world W
     moved-gone on none h = by (server_tells s W.server)
       where
         here : s ≡ W.server → h.memory ≡ m
-        here e = same-memory h.memory m (sym h.up ∙ ap d.world.memory (sym e) ∙ up)
+        here e = some-memory h.memory m (sym h.up ∙ ap d.world.memory (sym e) ∙ up)
 
         by : ((server_eq s W.server ≡ true) × (s ≡ W.server)) ⊎ ((server_eq s W.server ≡ false) × (s ≢ W.server)) → NotLive now.world W
         by (inl p) = let old = subst (λ (z : Memory). IsOld W z.tickets) (here p.1) h.old in record { memory = after; up = at-it p.1; none = none p.1 old (subst (λ (z : Memory). work_at W z.worker ≡ None) (here p.1) h.none); old = on p.1 old }
@@ -461,11 +458,8 @@ module _ (n : ℕ) (at_most : n ≤ 8) (files : AllFiles) (epochs : ServerNo →
           at-coordinator q (named h) = absurd (undecided-new d g m x up-here found u h)
 
           at-server : IsTold now.world ⊎ Way now
-          at-server = by (is_for_worker message) refl
-            where
-              by : (b : Bool) → is_for_worker message ≡ b → IsTold now.world ⊎ Way now
-              by true q = held-by x (ap (λ (b : Bool). transaction_at T (if b then of_worker m (worker_row m.worker (storage_of m (stable (d.world.found s)) room) m.tickets message) else of_coordinator m (coordinator_row m.coordinator room.free.records m.tickets message)).table.coordinator.transactions) q ∙ found) u
-              by false q = at-coordinator (ap (λ (b : Bool). if b then of_worker m (worker_row m.worker (storage_of m (stable (d.world.found s)) room) m.tickets message) else of_coordinator m (coordinator_row m.coordinator room.free.records m.tickets message)) q) voice
+          at-server = row-either (λ z. row ≡ z → IsTold now.world ⊎ Way now) m (stable (d.world.found s)) room message
+              (λ q. held-by x (ap (λ (z : RowOutcome Memory). transaction_at T z.table.coordinator.transactions) q ∙ found) u) (λ q. at-coordinator q voice) refl
 
         held-on : holds_undecided (d.world.memory T.server) T ≡ true → IsTold now.world ⊎ Way now
         held-on h = by (server_tells s T.server)

@@ -1,6 +1,7 @@
 -- An End that a client waits for when a settle asks again is answered, or the client is told that it waits: each work that has no
 -- vote noted has a Prepare or a vote on its way.
-use Rattle.jn_system_settling.proofs.Common.{◌≡◌, ◌≢◌, ◌⊎◌, inl, inr, ◌≤◌, ℕ, zero, suc, Bool, true, false, List, [], ◌∷◌, ◌++◌, length, length-append, append-nil, drop, Option, Some, None, true≢false, refl, sym, ◌∙◌, ap, subst, arith, ◌&&◌, ◌||◌, not, if◌then◌else◌, nat_eq, nat_lt, slice_get, list_any, nat_tests, ServerNo, ClientNo, Tid, WorkId, LockUnit, Cause, Full, Tickets, Client, Server, End, server_eq, client_eq, tid_eq, work_eq, server_tells, tid_tells, work_tells, AllFiles, Message, Outcome, Vote, Text, Work, Phase, Active, Broken, Stored, ActiveWork, Outstanding, Taken, Transaction, Stage, Open, Voting, Committed, Aborted, Ballot, Commitment, stable, is_going, RowOutcome, Sent, quiet, ignored, sends, WorkerTable, WorkStorage, worker_row, work_at, prepare_phase, prepare_row, prepared_row, conflict, commit_wants, vote_of, shortage, need_in, voted_row, CoordinatorTable, commit_row, abort_row, staged, transaction_at, all_in, is_work, with_work, besides, prepares, drops, commits, committed_to, aborted_to, end_stage, end_promised, end_row, counted_vote, vote_stage, vote_row, coordinator_row, ClientTable, take_row, outcome_row, is_current, is_tid, is_end, is_end_or_abort, if_waits, told, names_of, found-name, Machine, World, Memory, opening, Room, storage_of, server_row, of_worker, of_coordinator, is_for_worker, lines_of, took, taken_by, done, in_stage, at-stage, Course, In, get-in, Reached, tells_waiting, is_undecided}
+use Rattle.jn_system_settling.proofs.Common.{◌≡◌, ◌≢◌, ◌⊎◌, inl, inr, ◌≤◌, ℕ, zero, suc, Bool, true, false, List, [], ◌∷◌, ◌++◌, length, length-append, append-nil, drop, Option, Some, None, true≢false, refl, sym, ◌∙◌, ap, subst, arith, ◌&&◌, ◌||◌, not, if◌then◌else◌, nat_eq, nat_lt, slice_get, list_any, nat_tests, ServerNo, ClientNo, Tid, WorkId, LockUnit, Cause, Full, Tickets, Client, Server, End, server_eq, client_eq, tid_eq, work_eq, server_tells, tid_tells, work_tells, AllFiles, Message, Outcome, Vote, Text, Work, Phase, Active, Broken, Stored, ActiveWork, Outstanding, Taken, Transaction, Stage, Open, Voting, Committed, Aborted, Ballot, Commitment, stable, is_going, RowOutcome, Sent, quiet, ignored, WorkerTable, WorkStorage, worker_row, work_at, prepare_phase, prepare_row, prepared_row, conflict, commit_wants, vote_of, shortage, need_in, voted_row, CoordinatorTable, commit_row, abort_row, staged, transaction_at, all_in, is_work, with_work, besides, prepares, drops, commits, committed_to, aborted_to, end_stage, end_promised, end_row, counted_vote, vote_stage, vote_row, coordinator_row, ClientTable, take_row, outcome_row, is_current, is_tid, is_end, is_end_or_abort, if_waits, told, names_of, found-name, Machine, World, Memory, opening, Room, storage_of, server_row, of_worker, of_coordinator, is_for_worker, lines_of, took, taken_by, done, in_stage, at-stage, Course, In, get-in, Reached, tells_waiting, is_undecided, some-memory}
+use Rattle.jn_rows.specs.Outcomes.{sends}
 use Rattle.jn_base.specs.declared.names.Resource.TheVariants as resources
 use Rattle.jn_msgs.specs.declared.message.Message.TheVariants as messages
 use Rattle.jn_msgs.specs.declared.message.Outcome.TheVariants as outcomes
@@ -120,10 +121,7 @@ prepare-votes t s k T c W idle (Some w) e = subst (λ (V : WorkId). (vote : Vote
 
     voted : (a : ActiveWork) (vote : Vote) → (v : Vote) × Has (Server T.server, messages.Vote T w.name v) (prepared_row t k T c w a vote).messages
     voted a votes.Ready = (votes.Ready, inl refl)
-    voted a (votes.Waiting u held) = (votes.Waiting u held, inl refl)
-    voted a (votes.Lost m n) = (votes.Lost m n, inl refl)
-    voted a (votes.Broken u held) = (votes.Broken u held, inl refl)
-    voted a (votes.Full m n need) = (votes.Full m n need, inl refl)
+    voted a vote = (vote, inl refl)
 
     stored : (b : Bool) → b ≡ false → (v : Vote) × Has (Server T.server, messages.Vote T w.name v) (if b then ignored t k else voted_row t k T w.name votes.Ready).messages
     stored true q = absurd (true≢false q)
@@ -378,16 +376,13 @@ module _ (n : ℕ) (at_most : n ≤ 8) (files : AllFiles) (epochs : ServerNo →
         itself : (p q : ServerNo) → p ≡ q → server_eq p q ≡ true
         itself p q e = grind (arith, nat_tests, e)
 
-    same-memory : (a b : Memory) → Some a ≡ Some b → a ≡ b
-    same-memory a b e = cc
-
     same-ballot : (a b : Ballot) → Voting a ≡ Voting b → a ≡ b
     same-ballot a b e = cc
 
     -- at the coordinator, any message but a vote of one of its works
     module _ (v : IsVoting d) (same : d.world.clients c ≡ t) (e : s ≡ T.server) where
       its : m ≡ v.memory
-      its = same-memory m v.memory (sym up ∙ ap d.world.memory e ∙ v.up)
+      its = some-memory m v.memory (sym up ∙ ap d.world.memory e ∙ v.up)
 
       found-here : transaction_at T m.coordinator.transactions ≡ Some v.entry
       found-here = ap (λ (z : Memory). transaction_at T z.coordinator.transactions) its ∙ v.found
@@ -525,14 +520,10 @@ module _ (n : ℕ) (at_most : n ≤ 8) (files : AllFiles) (epochs : ServerNo →
 
       -- one for the worker
       by-worker : is_for_worker message ≡ true → EndWay now
-      by-worker w = votes-at v row.table v.entry v.ballot (here-now e) (coordinator w ∙ found-here) v.stage v.client (pendings v (λ W vote work i. true≢false (sym w ∙ ap is_for_worker i.1))) same
+      by-worker w = votes-at v row.table v.entry v.ballot (here-now e) (coordinator ∙ found-here) v.stage v.client (pendings v (λ W vote work i. true≢false (sym w ∙ ap is_for_worker i.1))) same
         where
-          coordinator : is_for_worker message ≡ true → transaction_at T row.table.coordinator.transactions ≡ transaction_at T m.coordinator.transactions
-          coordinator w = at (is_for_worker message) w
-            where
-              at : (b : Bool) → b ≡ true → transaction_at T (if b then of_worker m (worker_row m.worker (storage_of m (stable (d.world.found s)) room) m.tickets message) else of_coordinator m (coordinator_row m.coordinator room.free.records m.tickets message)).table.coordinator.transactions ≡ transaction_at T m.coordinator.transactions
-              at true e = refl
-              at false e = absurd (true≢false (sym e))
+          coordinator : transaction_at T row.table.coordinator.transactions ≡ transaction_at T m.coordinator.transactions
+          coordinator = ap (λ (b : Bool). transaction_at T (if b then of_worker m (worker_row m.worker (storage_of m (stable (d.world.found s)) room) m.tickets message) else of_coordinator m (coordinator_row m.coordinator room.free.records m.tickets message)).table.coordinator.transactions) w
 
       voting-here : EndWay now
       voting-here = at (is_for_worker message) refl

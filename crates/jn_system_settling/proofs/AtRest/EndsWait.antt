@@ -1,5 +1,5 @@
 -- Each end that a settle with these servers up leaves was told to wait.
-use Rattle.jn_system_settling.proofs.Common.{◌≡◌, ◌⊎◌, inl, inr, ◌≤◌, ℕ, true, length, length-append, Option, Some, None, is_some, true≢false, refl, sym, ◌∙◌, ap, subst, arith, list_any, ServerNo, Tid, Server, Command, End, AllFiles, stable, Sent, ClientTable, sent_again, take_row, World, Memory, opening, new_memory, servers_from, server_row, lines_of, Course, Chance, clients_from, until_rest, IsAtRest, Reached, AreUp, tells_waiting, told_since, EndsWait}
+use Rattle.jn_system_settling.proofs.Common.{◌≡◌, ◌⊎◌, inl, inr, ◌≤◌, ℕ, true, length, length-append, Option, Some, None, is_some, true≢false, refl, sym, ◌∙◌, ap, subst, arith, list_any, ServerNo, Tid, Server, Command, End, AllFiles, stable, Sent, ClientTable, sent_again, take_row, World, Memory, opening, new_memory, servers_from, server_row, lines_of, Course, Chance, clients_from, until_rest, IsAtRest, Reached, AreUp, tells_waiting, told_since, EndsWait, some-memory}
 use Rattle.jn_system_settling.proofs.Settling.Courses.{Sound}
 use Rattle.jn_system_settling.proofs.AtRest.Talk.{FitsCommand}
 use Rattle.jn_system_settling.proofs.AtRest.Within.{Within}
@@ -26,10 +26,7 @@ module _ (n : ℕ) (at_most : n ≤ 8) (files : AllFiles) (epochs : ServerNo →
   unfinished d h = let c = h.talking.sound.course in subst (λ (z : World). Unfinished z) c.stands (run-unfinished d.steps start none)
     where
       none : Unfinished start
-      none s m e = subst (λ (z : Memory). all_unfinished z.coordinator.transactions ≡ true) (same (new_memory s (epochs s)) m e) refl
-        where
-          same : (a b : Memory) → Some a ≡ Some b → a ≡ b
-          same a b q = cc
+      none s m e = subst (λ (z : Memory). all_unfinished z.coordinator.transactions ≡ true) (some-memory (new_memory s (epochs s)) m e) refl
 
   sound : (d : Course) → IsGood d → Sound n start d
   sound d h = h.talking.sound

@@ -1,5 +1,5 @@
 -- A transaction that has committed is forgotten in a settle: each of its works is carried out, and its client thanks.
-use Rattle.jn_system_settling.proofs.Common.{◌≡◌, ◌≢◌, ◌⊎◌, inl, inr, ◌≤◌, ℕ, Bool, true, false, List, [], ◌∷◌, ◌++◌, append-nil, Option, Some, None, true≢false, refl, sym, ◌∙◌, ap, subst, arith, if◌then◌else◌, nat_eq, slice_get, list_any, nat_tests, ServerNo, ClientNo, Tid, WorkId, Cause, Client, Server, server_eq, client_eq, tid_eq, work_eq, server_tells, tid_tells, work_tells, AllFiles, Intention, Message, Text, Work, Outstanding, Taken, Transaction, Stage, Open, Voting, Committed, Aborted, Ballot, Commitment, stable, is_going, made_all, RowOutcome, Sent, work_at, worker_row, carried_row, intentions_of, going_work, worker_again, CoordinatorTable, transaction_at, is_work, besides, commits, committed_to, told_again, coordinator_again, coordinator_row, ClientTable, take_row, outcome_row, is_current, is_tid, is_end_or_abort, if_waits, over, Machine, Knows, not_both, World, Memory, opening, Room, storage_of, server_row, of_worker, of_coordinator, is_for_worker, took, taken_by, done, is_closing, IsStage, knowledge_in, Course, Reached}
+use Rattle.jn_system_settling.proofs.Common.{◌≡◌, ◌≢◌, ◌⊎◌, inl, inr, ◌≤◌, ℕ, Bool, true, false, List, [], ◌∷◌, ◌++◌, append-nil, Option, Some, None, true≢false, refl, sym, ◌∙◌, ap, subst, arith, if◌then◌else◌, nat_eq, slice_get, list_any, nat_tests, ServerNo, ClientNo, Tid, WorkId, Cause, Client, Server, server_eq, client_eq, tid_eq, work_eq, server_tells, tid_tells, work_tells, AllFiles, Intention, Message, Text, Work, Outstanding, Taken, Transaction, Stage, Open, Voting, Committed, Aborted, Ballot, Commitment, stable, is_going, made_all, RowOutcome, Sent, work_at, worker_row, carried_row, intentions_of, going_work, worker_again, CoordinatorTable, transaction_at, is_work, besides, commits, committed_to, told_again, coordinator_again, coordinator_row, ClientTable, take_row, outcome_row, is_current, is_tid, is_end_or_abort, if_waits, over, Machine, Knows, not_both, World, Memory, opening, Room, storage_of, server_row, of_worker, of_coordinator, is_for_worker, took, taken_by, done, is_closing, IsStage, knowledge_in, Course, Reached, some-memory}
 use Rattle.jn_msgs.specs.declared.message.Message.TheVariants as messages
 use Rattle.jn_msgs.specs.declared.message.Outcome.TheVariants as outcomes
 use Rattle.jn_report.specs.declared.line.Text.TheVariants as says
@@ -254,9 +254,6 @@ module _ (n : ℕ) (at_most : n ≤ 8) (files : AllFiles) (epochs : ServerNo →
         → ((r : Message) → is_for_worker r ≡ false → Meets T.server r → ⊥) → Progress now x cm
     unmoved m0 x cm up0 found stage apart = progress m0 x cm up0 found stage x cm refl refl (λ W q. q) (λ q. q) (λ W work i. absurd (apart (messages.Done T W) refl i)) (λ i. absurd (apart (messages.Thanks x.client T) refl i))
 
-    same-memory : (a b : Memory) → Some a ≡ Some b → a ≡ b
-    same-memory a b e = cc
-
     same-commit : (a b : Commitment) → Committed a ≡ Committed b → a ≡ b
     same-commit a b e = cc
 
@@ -351,7 +348,7 @@ module _ (n : ℕ) (at_most : n ≤ 8) (files : AllFiles) (epochs : ServerNo →
       here n0 y later up' found' stage' = by (is_for_worker message) refl
         where
           at-row : transaction_at T row.table.coordinator.transactions ≡ Some y
-          at-row = ap (λ (z : Memory). transaction_at T z.coordinator.transactions) (same-memory row.table n0 (sym (here-now e) ∙ up')) ∙ found'
+          at-row = ap (λ (z : Memory). transaction_at T z.coordinator.transactions) (some-memory row.table n0 (sym (here-now e) ∙ up')) ∙ found'
 
           by : (b : Bool) → is_for_worker message ≡ b → Progress now y later
           by true q = unmoved m y later up-here (sym (ap (λ (b : Bool). transaction_at T (if b then of_worker m (worker_row m.worker (storage_of m (stable (d.world.found s)) room) m.tickets message) else of_coordinator m (coordinator_row m.coordinator room.free.records m.tickets message)).table.coordinator.transactions) q) ∙ at-row) stage'
@@ -378,9 +375,6 @@ module _ (n : ℕ) (at_most : n ≤ 8) (files : AllFiles) (epochs : ServerNo →
     where
       row : RowOutcome Memory
       row = carried m d.world s v
-
-      same-memory : (a b : Memory) → Some a ≡ Some b → a ≡ b
-      same-memory a b e = cc
 
       coordinator : (o : Option Intention) → (of_worker m (carried_row m.worker m.tickets v o)).table.coordinator ≡ m.coordinator
       coordinator None = refl
@@ -434,7 +428,7 @@ module _ (n : ℕ) (at_most : n ≤ 8) (files : AllFiles) (epochs : ServerNo →
 
       at : (n0 : Memory) (x : Transaction) (cm : Commitment) → ((server_eq s T.server ≡ true) × (s ≡ T.server)) ⊎ ((server_eq s T.server ≡ false) × (s ≢ T.server)) → now.world.memory T.server ≡ Some n0 → transaction_at T n0.coordinator.transactions ≡ Some x → x.stage ≡ Committed cm → Progress now x cm
       at n0 x cm (inl p) up' found stage = progress m x cm (sym (ap d.world.memory p.1) ∙ up) (ap (λ (z : CoordinatorTable). transaction_at T z.transactions) (sym (coordinator (slice_get (intentions_of ((stable (d.world.found s)).works v.name)) (m.next v.name))))
-          ∙ ap (λ (z : Memory). transaction_at T z.coordinator.transactions) (same-memory (carried m d.world s v).table n0 (sym (ap (λ (z : World). z.memory T.server) comes.world ∙ ap (λ (b : Bool). if b then Some (carried m d.world s v).table else d.world.memory T.server) p.0) ∙ up')) ∙ found) stage
+          ∙ ap (λ (z : Memory). transaction_at T z.coordinator.transactions) (some-memory (carried m d.world s v).table n0 (sym (ap (λ (z : World). z.memory T.server) comes.world ∙ ap (λ (b : Bool). if b then Some (carried m d.world s v).table else d.world.memory T.server) p.0) ∙ up')) ∙ found) stage
       at n0 x cm (inr p) up' found stage = progress n0 x cm (sym (ap (λ (z : World). z.memory T.server) comes.world ∙ ap (λ (b : Bool). if b then Some (carried m d.world s v).table else d.world.memory T.server) p.0) ∙ up') found stage
 
   -- ---- from the asking on

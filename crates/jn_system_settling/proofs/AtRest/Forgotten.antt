@@ -1,5 +1,5 @@
 -- A settle with these servers up leaves no flag.
-use Rattle.jn_system_settling.proofs.Common.{◌≡◌, ◌≢◌, ◌⊎◌, inl, inr, ◌≤◌, ◌<◌, ℕ, zero, suc, ◌+◌, Bool, true, false, List, [], ◌∷◌, Option, Some, None, is_some, true≢false, refl, sym, ◌∙◌, ap, subst, arith, ◌&&◌, not, if◌then◌else◌, nat_lt, nat_eq, length, list_any, nat_tests, ServerNo, Tid, WorkId, server_eq, tid_eq, work_eq, work_tells, AllFiles, Work, Transaction, Stage, Committed, Commitment, StableState, FlagState, stable, is_going, Sent, WorkerTable, work_at, going_work, transaction_at, is_work, all_in, World, Memory, opening, new_memory, servers_from, Course, Chance, clients_from, until_rest, is_few, are_near, is_small_stage, is_committed, committed_at, TableSizes, ServerSizes, IsAtRest, NothingGoes, AreUp, AreForgotten, going-is, opening-reached}
+use Rattle.jn_system_settling.proofs.Common.{◌≡◌, ◌≢◌, ◌⊎◌, inl, inr, ◌≤◌, ◌<◌, ℕ, zero, suc, ◌+◌, Bool, true, false, List, [], ◌∷◌, Option, Some, None, is_some, true≢false, refl, sym, ◌∙◌, ap, subst, arith, ◌&&◌, not, if◌then◌else◌, nat_lt, nat_eq, length, list_any, nat_tests, ServerNo, Tid, WorkId, server_eq, tid_eq, work_eq, work_tells, AllFiles, Work, Transaction, Stage, Committed, Commitment, StableState, FlagState, stable, is_going, Sent, WorkerTable, work_at, going_work, transaction_at, is_work, all_in, World, Memory, opening, new_memory, servers_from, Course, Chance, clients_from, until_rest, is_few, are_near, is_small_stage, is_committed, committed_at, TableSizes, ServerSizes, IsAtRest, NothingGoes, AreUp, AreForgotten, going-is, opening-reached, some-memory}
 use Rattle.jn_system_settling.proofs.AtRest.Within.{found-small, near-one}
 use Rattle.jn_system_settling.proofs.AtRest.Ways.{Waits}
 use Rattle.jn_system_settling.proofs.AtRest.Ends.{all-ready}
@@ -65,11 +65,8 @@ module _ (n : ℕ) (at_most : n ≤ 8) (files : AllFiles) (epochs : ServerNo →
   broken d h = let c = h.talking.sound.course in subst (λ (z : World). BrokenTold z) c.stands (run-told files epochs d.steps start c.is_run (opening-reached files epochs n) none)
     where
       none : BrokenTold start
-      none s m W v u by e f p = absurd (no (ap (λ (z : Memory). work_at W z.worker) (same (new_memory s (epochs s)) m e) ∙ f))
+      none s m W v u by e f p = absurd (no (ap (λ (z : Memory). work_at W z.worker) (some-memory (new_memory s (epochs s)) m e) ∙ f))
         where
-          same : (a b : Memory) → Some a ≡ Some b → a ≡ b
-          same a b q = cc
-
           no : None ≡ Some v → ⊥
           no q = cc
 

@@ -1,8 +1,7 @@
 -- A work that isn't live stays so, and a Drop or a Commit of a live one ends it or makes it go.
-use Rattle.jn_system_settling.proofs.Common.{◌≡◌, ◌≢◌, ◌⊎◌, inl, inr, ◌<◌, ℕ, ◌+◌, Bool, true, false, List, [], ◌∷◌, ◌++◌, length, Option, Some, None, is_some, refl, sym, ◌∙◌, ap, subst, arith, if◌then◌else◌, nat_lt, nat_eq, ServerNo, ClientNo, Tid, WorkId, Tickets, Op, Answer, work_eq, work_tells, AllFiles, change, answer_to, list_change, Intention, Message, Vote, Work, Phase, Active, Broken, Stored, ActiveWork, StableState, RemoveWork, stable, is_going, RowOutcome, quiet, ignored, coordinator_row, WorkerTable, WorkStorage, Wanted, work_at, work_of, with_phase, without, new_work, open_row, after_grant, granted_row, repeated, op_phase, op_row, refusal_of, wants_of, is_fit, commit_wants, conflict, vote_of, shortage, need_in, prepared_row, prepare_phase, prepare_row, commit_phase, drop_phase, drop_row, worker_row, carried_row, are_rising, is_after, in_phase, at-phase, at-grant, once_granted, at-less, at-more, World, Memory, Room, storage_of, server_row, of_worker, of_coordinator, is_for_worker, UpFact, coordinator-aside, Reached, OperationNo, RequestNo}
+use Rattle.jn_system_settling.proofs.Common.{◌≡◌, ◌≢◌, ◌⊎◌, inl, inr, ◌<◌, ℕ, ◌+◌, Bool, true, false, List, [], ◌∷◌, ◌++◌, Option, Some, None, is_some, refl, sym, ◌∙◌, ap, subst, arith, if◌then◌else◌, ServerNo, Tid, WorkId, Tickets, work_eq, work_tells, AllFiles, Intention, Message, Work, Phase, Active, Broken, Stored, RemoveWork, stable, is_going, RowOutcome, quiet, ignored, coordinator_row, WorkerTable, WorkStorage, Wanted, work_at, with_phase, without, new_work, after_grant, commit_wants, drop_phase, drop_row, worker_row, carried_row, are_rising, is_after, in_phase, at-phase, at-grant, once_granted, at-less, at-more, World, Memory, Room, storage_of, server_row, UpFact, coordinator-aside, Reached, its_wants, WorkerCase, opens_anew, refuses_next, performs_next, prepares_it, drops_it, removes_it, worker-case, row-either}
 use Rattle.jn_msgs.specs.declared.message.Message.TheVariants as messages
-use Rattle.jn_msgs.specs.declared.message.Vote.TheVariants as votes
-use Rattle.jn_rows.specs.Worker.{name_from, commit_row}
+use Rattle.jn_rows.specs.Worker.{name_from}
 use Rattle.jn_system_settling.proofs.AtRest.Standing.{inv, up-at}
 use Rattle.jn_system_settling.proofs.AtRest.Carrying.{goes_in}
 
@@ -48,77 +47,20 @@ module _ (t : WorkerTable) (k : Tickets) (rising : are_rising t ≡ true) (next 
           too-far e l = omega (arith, e, l)
       by (inr p) = ap (λ (b : Bool). if b then Some (new_work (name_from k) T) else work_at W t) p.0 ∙ none
 
-  choose : (b : Bool) (p q : RowOutcome WorkerTable) → Row p → Row q → Row (if b then p else q)
-  choose true p q h l = h
-  choose false p q h l = l
-
-  op-none : (x : StableState) (c : ClientNo) (request : RequestNo) (w : Work) (number : OperationNo) (op : Op) (p : Phase) → Row (op_phase t x.files k c request w number op p)
-  op-none x c request w number op (Active a) = let answer = answer_to op (change (list_change a.list) x.files) in
-      choose (nat_eq number.0 (a.last + 1)) _ _ (grants answer (wants_of op (is_fit answer)) (refusal_of t w.name a op answer (wants_of op (is_fit answer))))
-      (choose (nat_eq number.0 a.last) _ _ (repeats a.kept) (same _ refl refl))
-    where
-      grants : (answer : Answer) (wants : List Wanted) (o : Option Answer) → Row (granted_row t k c request w a op answer wants o)
-      grants answer wants (Some refusal) = record { gone = phased w.name _ t; given = old }
-      grants answer wants None = record { gone = λ none. phased w.name _ (after_grant w.tid w.name wants t) (granted w.tid w.name wants none); given = old }
-
-      repeats : (o : Option Answer) → Row (repeated t k c request o)
-      repeats (Some answer) = same _ refl refl
-      repeats None = same _ refl refl
-  op-none x c request w number op (Broken u by) = same _ refl refl
-  op-none x c request w number op (Stored p) = same _ refl refl
-
-  prepared-none : (T : Tid) (c : ClientNo) (w : Work) (a : ActiveWork) (vote : Vote) → Row (prepared_row t k T c w a vote)
-  prepared-none T c w a votes.Ready = record { gone = λ none. phased w.name _ (after_grant w.tid w.name (commit_wants a.writes) t) (granted w.tid w.name (commit_wants a.writes) none); given = old }
-  prepared-none T c w a (votes.Waiting u held) = same _ refl refl
-  prepared-none T c w a (votes.Lost m n) = same _ refl refl
-  prepared-none T c w a (votes.Broken u held) = same _ refl refl
-  prepared-none T c w a (votes.Full m n need) = same _ refl refl
-
   pub worker-none : (s : WorkStorage) (m : Message) → Row (worker_row t s k m)
-  worker-none s (messages.Open c request T) = by (work_of T t)
+  worker-none s m = by m (worker_row t s k m) (worker-case t s k m)
     where
       later : (e : W.epoch ≡ k.epoch) → W.ticket < k.next + 1
       later e = let l = old e in omega (arith, l)
 
-      by : (o : Option Work) → Row (open_row t k c request T o)
-      by (Some w) = same _ refl refl
-      by None = choose (nat_lt (length t) 64) _ _ (record { gone = opened T; given = later }) (same _ refl refl)
-  worker-none s (messages.Op c request V number op) = by (work_at V t)
-    where
-      by : (o : Option Work) → Row (op_row t s.state.files k c request V number op o)
-      by (Some w) = op-none s.state c request w number op w.phase
-      by None = same _ refl refl
-  worker-none s (messages.Prepare T c V) = by (work_at V t)
-    where
-      phase : (w : Work) (p : Phase) → Row (prepare_phase t s k T c w p)
-      phase w (Active a) = prepared-none T c w a (vote_of (conflict w.name (commit_wants a.writes) t) (shortage s.free (need_in s.state.files a.list)))
-      phase w (Broken u by) = same _ refl refl
-      phase w (Stored p) = choose (is_going (s.state.works w.name)) _ _ (same _ refl refl) (same _ refl refl)
-
-      by : (o : Option Work) → Row (prepare_row t s k T c V o)
-      by (Some w) = phase w w.phase
-      by None = same _ refl refl
-  worker-none s (messages.Commit T V) = by (work_at V t)
-    where
-      phase : (p : Phase) → Row (commit_phase t s k V p)
-      phase (Active a) = same _ refl refl
-      phase (Broken u by) = same _ refl refl
-      phase (Stored p) = choose (is_going (s.state.works V)) _ _ (same _ refl refl) (same _ refl refl)
-
-      by : (o : Option Work) → Row (commit_row t s k T V o)
-      by (Some w) = phase w.phase
-      by None = same _ refl refl
-  worker-none s (messages.Drop T V) = by (work_at V t)
-    where
-      phase : (p : Phase) → Row (drop_phase t s k V p)
-      phase (Active a) = less V _ refl refl
-      phase (Broken u by) = less V _ refl refl
-      phase (Stored p) = choose (is_going (s.state.works V)) _ _ (same _ refl refl) (less V _ refl refl)
-
-      by : (o : Option Work) → Row (drop_row t s k V o)
-      by (Some w) = phase w.phase
-      by None = same _ refl refl
-  worker-none s m = same _ refl refl
+      by : (m : Message) (row : RowOutcome WorkerTable) → WorkerCase t s k m row → Row row
+      by _ _ (opens_anew c q T e l) = record { gone = opened T; given = later }
+      by _ _ (refuses_next c q V n op w a refusal e f l r) = record { gone = phased w.name _ t; given = old }
+      by _ _ (performs_next c q V n op w a e f l r) = record { gone = λ none. phased w.name _ (after_grant w.tid w.name (its_wants s a op) t) (granted w.tid w.name (its_wants s a op) none); given = old }
+      by _ _ (prepares_it T c V w a e f v) = record { gone = λ none. phased w.name _ (after_grant w.tid w.name (commit_wants a.writes) t) (granted w.tid w.name (commit_wants a.writes) none); given = old }
+      by _ _ (drops_it T V w e f) = less V _ refl refl
+      by _ _ (removes_it T V w p e f g) = less V _ refl refl
+      by m row case = same row refl refl
 
   pub carried-none : (w : Work) (o : Option Intention) → Row (carried_row t k w o)
   carried-none w (Some i) = same _ refl refl
@@ -141,23 +83,15 @@ module _ (files : AllFiles) (epochs : ServerNo → ℕ) (r : World) (R : Reached
   worker's = worker-none m.worker m.tickets fact.table.rising fact.table.before W old (storage_of m (stable (r.found W.server)) room) message
 
   pub row-none : work_at W m.worker ≡ None → work_at W (server_row m (stable (r.found W.server)) room message).table.worker ≡ None
-  row-none none = by (is_for_worker message)
-    where
-      by : (b : Bool) → work_at W (if b then of_worker m (worker_row m.worker (storage_of m (stable (r.found W.server)) room) m.tickets message) else of_coordinator m (coordinator_row m.coordinator room.free.records m.tickets message)).table.worker ≡ None
-      by true = worker's.gone none
-      by false = none
+  row-none none = row-either (λ row. work_at W row.table.worker ≡ None) m (stable (r.found W.server)) room message (worker's.gone none) none
 
   pub row-old : IsOld W (server_row m (stable (r.found W.server)) room message).table.tickets
-  row-old = by (is_for_worker message)
+  row-old = row-either (λ row. IsOld W row.table.tickets) m (stable (r.found W.server)) room message worker's.given (aside (coordinator-aside m.coordinator room.free.records m.tickets message).tickets)
     where
       aside : ((coordinator_row m.coordinator room.free.records m.tickets message).tickets ≡ m.tickets) ⊎ ((coordinator_row m.coordinator room.free.records m.tickets message).tickets ≡ record m.tickets { next = m.tickets.next + 1 })
           → IsOld W (coordinator_row m.coordinator room.free.records m.tickets message).tickets
       aside (inl e) = subst (λ (z : Tickets). IsOld W z) (sym e) old
       aside (inr e) = subst (λ (z : Tickets). IsOld W z) (sym e) (λ f. let l = old f in omega (arith, l))
-
-      by : (b : Bool) → IsOld W (if b then of_worker m (worker_row m.worker (storage_of m (stable (r.found W.server)) room) m.tickets message) else of_coordinator m (coordinator_row m.coordinator room.free.records m.tickets message)).table.tickets
-      by true = worker's.given
-      by false = aside (coordinator-aside m.coordinator room.free.records m.tickets message).tickets
 
 -- who is live has an old name
 module _ (files : AllFiles) (epochs : ServerNo → ℕ) (r : World) (R : Reached files epochs r) (W : WorkId) (m : Memory) (v : Work) (up : r.memory W.server ≡ Some m) (live : work_at W m.worker ≡ Some v) where

@@ -1,46 +1,8 @@
--- How a server's memory comes to be in a step, and what holds of every table of a coordinator: no vote or commit in it is complete.
-use Rattle.jn_system_settling.proofs.Common.{◌≡◌, ℕ, Bool, true, false, List, [], ◌∷◌, ◌++◌, length, Option, Some, None, refl, ◌∙◌, ap, subst, arith, ◌&&◌, not, if◌then◌else◌, nat_lt, nat_eq, ServerNo, ClientNo, Tid, Tickets, WorkId, Server, client_eq, Message, Transaction, Stage, Open, Voting, Committed, Aborted, StableState, FlagState, Pick, stable, RowOutcome, all_thanked, thanked, close_clients_row, CoordinatorTable, transaction_at, with_stage, all_in, closed, after_closing, begin_again, begun_by, end_row, abort_request, inquire_row, vote_row, done_row, thanks_row, coordinator_row, restored_transaction, restored_transactions, World, Memory, at_server, Room, server_row, server_step, server_timeout, storage_of, of_timeout, of_step, of_worker, of_coordinator, is_for_worker, restored, lines_of, WorkerTable, worker_row, worker_step, timeout_row, Step, after, run, done, stopped, timeout, crash, restart, ServerRow, of_message, of_work, of_closing, StepCase, client_row, row_done, row_stopped, gone_late, gone_down, come_up, found_anew, dismissed, quietly, step-case, one-server}
+-- What holds of every table of a coordinator: no vote or commit in it is complete.
+use Rattle.jn_system_settling.proofs.Common.{◌≡◌, ℕ, Bool, true, false, List, [], ◌∷◌, ◌++◌, length, Option, Some, None, refl, ◌∙◌, ap, arith, ◌&&◌, not, if◌then◌else◌, nat_lt, nat_eq, ServerNo, ClientNo, Tid, Tickets, client_eq, Message, Transaction, Stage, Open, Voting, Committed, Aborted, StableState, FlagState, stable, RowOutcome, all_thanked, thanked, CoordinatorTable, transaction_at, with_stage, all_in, closed, after_closing, begin_again, begun_by, end_row, abort_request, inquire_row, vote_row, done_row, thanks_row, coordinator_row, restored_transaction, restored_transactions, World, Memory, server_timeout, of_timeout, restored, WorkerTable, timeout_row, Step, after, run, ServerRow, of_message, of_work, of_closing, StepCase, row_done, row_stopped, gone_late, gone_down, come_up, step-case, memory-now, memory-gone, row-either, row-of-step}
 use Rattle.jn_msgs.specs.declared.message.Message.TheVariants as messages
 use Rattle.jn_rows.specs.Coordinator.{without}
-use Rattle.jn_system_settling.proofs.AtRest.Ways.{Has}
-use Rattle.jn_system_settling.proofs.AtRest.RequestSteps.{has-at}
 use Rattle.jn_system_settling.proofs.AtRest.Fates.{is_unfinished, Kind, keeps, comes, goes, end-its, abort-stage-its, told-its, vote-its, done-its, thanks-its}
-
--- what a server remembers after a step
-pub data Remembers (w now : World) (s : ServerNo) : Option Memory → Type 0 where
-  as_before : Remembers w now s (w.memory s)
-  down : Remembers w now s None
-  by_message : (m : Memory) (room : Room) (message : Message) → w.memory s ≡ Some m → Has (Server s, message) w.sent → (k : ℕ) → now.lines ≡ w.lines ++ lines_of s (Some k) (server_row m (stable (w.found s)) room message).notes → Remembers w now s (Some (server_row m (stable (w.found s)) room message).table)
-  by_step : (m : Memory) (room : Room) (row : RowOutcome Memory) → w.memory s ≡ Some m → server_step m (stable (w.found s)) room ≡ Some row → Remembers w now s (Some row.table)
-  by_timeout : (m : Memory) (T : Tid) → w.memory s ≡ Some m → Remembers w now s (Some (server_timeout m T))
-  by_closing : (m : Memory) → w.memory s ≡ Some m → Remembers w now s (Some (of_coordinator m (close_clients_row m.coordinator m.tickets)).table)
-  by_restart : (x : StableState) (Ws : List WorkId) (Ts : List Tid) → Remembers w now s (Some (restored s x Ws Ts))
-
-module _ (w : World) where
-  -- one server's memory changes
-  one : (now : World) (s : ServerNo) (o : Option Memory) → Remembers w now s o → (q : ServerNo) → Remembers w now q (at_server w.memory s o q)
-  one now s o h = one-server (λ q o. Remembers w now q o) w.memory s o h (λ q other. as_before)
-
-  of-row : (s : ServerNo) (m : Memory) (stop : Option (Pick → ℕ)) (step : Step) (k : Option ℕ) (row : RowOutcome Memory) → w.memory s ≡ Some m → ServerRow w s m stop step k row → Remembers w (done s k row w) s (Some row.table)
-  of-row s m _ _ _ _ up (of_message stop k room message is) = by_message m room message up (has-at w.sent k (Server s, message) is) k refl
-  of-row s m _ _ _ _ up (of_work stop room row is) = by_step m room row up is
-  of-row s m _ _ _ _ up of_closing = by_closing m up
-
-  by-case : (step : Step) (now : World) → StepCase w step now → (q : ServerNo) → Remembers w now q (now.memory q)
-  by-case _ _ (client_row _ c t sent lines row) = λ q. as_before
-  by-case step _ (row_done _ s m k row e is) = one (done s k row w) s (Some row.table) (of-row s m None step k row e is)
-  by-case _ _ (row_stopped _ s m k row made e is) = one (stopped s made row w) s None down
-  by-case _ _ (gone_late s m T e) = one (timeout s T (Some m) w) s (Some (server_timeout m T)) (by_timeout m T e)
-  by-case _ _ (gone_down s m e) = one (crash s (Some m) w) s None down
-  by-case _ _ (come_up s pick Ws Ts e) = one (restart s pick Ws Ts None w) s (Some (restored s (w.found s pick) Ws Ts)) (by_restart (w.found s pick) Ws Ts)
-  by-case _ _ (found_anew _ s found lines e is) = λ q. as_before
-  by-case _ _ dismissed = λ q. as_before
-  by-case _ _ (quietly _ event sent lines is) = λ q. as_before
-
-pub step-memory : (w : World) (q : ServerNo) (step : Step) → Remembers w (after step w) q ((after step w).memory q)
-step-memory w q step = by-case w step (after step w) (step-case w step) q
-
--- ---- no vote or commit is complete
 
 abbrev pub all_unfinished : List Transaction → Bool
 all_unfinished [] = true
@@ -134,8 +96,11 @@ module _ (t : CoordinatorTable) (free : ℕ) (k : Tickets) (h : all_unfinished t
   row-unfinished (messages.Inquire U W) = on-one U (inquire_row t k U W) h (λ y e. told-its t k U y e U W y.stage)
   row-unfinished m = h
 
+abbrev IsUnfinished : Memory → Type 0
+IsUnfinished m = all_unfinished m.coordinator.transactions ≡ true
+
 abbrev pub Unfinished : World → Type 0
-Unfinished w = (s : ServerNo) (m : Memory) → w.memory s ≡ Some m → all_unfinished m.coordinator.transactions ≡ true
+Unfinished w = (s : ServerNo) (m : Memory) → w.memory s ≡ Some m → IsUnfinished m
 
 restored-unfinished : (x : StableState) (Ts : List Tid) → all_unfinished (restored_transactions x Ts) ≡ true
 restored-unfinished x [] = refl
@@ -145,41 +110,26 @@ restored-unfinished x (T ∷ Ts) = both-unfinished (restored_transaction T (x.fl
     by None = refl
     by (Some flag) = refl
 
+module _ (w : World) (h : Unfinished w) where
+  of-row : (s : ServerNo) (m : Memory) (step : Step) (k : Option ℕ) (row : RowOutcome Memory) → IsUnfinished m → ServerRow w s m None step k row → IsUnfinished row.table
+  of-row s m _ _ _ old (of_message _ k room message is) = row-either (λ row. IsUnfinished row.table) m (stable (w.found s)) room message old (row-unfinished m.coordinator room.free.records m.tickets old message)
+  of-row s m _ _ row old (of_work _ room _ is) = row-of-step (λ row. IsUnfinished row.table) m (stable (w.found s)) room row is (λ r e. old)
+  of-row s m _ _ _ old of_closing = thanked-unfinished m.coordinator.transactions old
+
+  late : (m : Memory) (o : Option WorkerTable) → IsUnfinished m → IsUnfinished (of_timeout m o)
+  late m None old = old
+  late m (Some t) old = old
+
+  by-case : (step : Step) (now : World) → StepCase w step now → Unfinished now
+  by-case step _ (row_done _ s m k row e is) = memory-now IsUnfinished w.memory h s row.table (of-row s m step k row (h s m e) is)
+  by-case step _ (row_stopped _ s m k row made e is) = memory-gone IsUnfinished w.memory h s
+  by-case _ _ (gone_late s m T e) = memory-now IsUnfinished w.memory h s (server_timeout m T) (late m (timeout_row m.worker T) (h s m e))
+  by-case _ _ (gone_down s m e) = memory-gone IsUnfinished w.memory h s
+  by-case _ _ (come_up s pick Ws Ts e) = memory-now IsUnfinished w.memory h s (restored s (w.found s pick) Ws Ts) (restored-unfinished (w.found s pick) Ts)
+  by-case _ _ is = h
+
 pub step-unfinished : (step : Step) (w : World) → Unfinished w → Unfinished (after step w)
-step-unfinished step w h s n e = by ((after step w).memory s) e (step-memory w s step)
-  where
-    same : (a b : Memory) → Some a ≡ Some b → a ≡ b
-    same a b q = cc
-
-    its : (a : Memory) → Some a ≡ Some n → all_unfinished a.coordinator.transactions ≡ true → all_unfinished n.coordinator.transactions ≡ true
-    its a q k = subst (λ (z : Memory). all_unfinished z.coordinator.transactions ≡ true) (same a n q) k
-
-    for : (m : Memory) (room : Room) (message : Message) (b : Bool) → all_unfinished m.coordinator.transactions ≡ true → all_unfinished (if b then of_worker m (worker_row m.worker (storage_of m (stable (w.found s)) room) m.tickets message) else of_coordinator m (coordinator_row m.coordinator room.free.records m.tickets message)).table.coordinator.transactions ≡ true
-    for m room message true k = k
-    for m room message false k = row-unfinished m.coordinator room.free.records m.tickets k message
-
-    of-step : (m : Memory) (room : Room) (row : RowOutcome Memory) → server_step m (stable (w.found s)) room ≡ Some row → all_unfinished m.coordinator.transactions ≡ true → all_unfinished row.table.coordinator.transactions ≡ true
-    of-step m room row f k = on (worker_step m.worker (storage_of m (stable (w.found s)) room) m.tickets) f
-      where
-        one : (a : RowOutcome Memory) → Some a ≡ Some row → a ≡ row
-        one a q = cc
-
-        on : (o : Option (RowOutcome WorkerTable)) → of_step m o ≡ Some row → all_unfinished row.table.coordinator.transactions ≡ true
-        on None q = absurd (cc q)
-        on (Some r) q = subst (λ (z : RowOutcome Memory). all_unfinished z.table.coordinator.transactions ≡ true) (one (of_worker m r) q) k
-
-    of-late : (m : Memory) (o : Option WorkerTable) → all_unfinished m.coordinator.transactions ≡ true → all_unfinished (of_timeout m o).coordinator.transactions ≡ true
-    of-late m None k = k
-    of-late m (Some t) k = k
-
-    by : (o : Option Memory) → o ≡ Some n → Remembers w (after step w) s o → all_unfinished n.coordinator.transactions ≡ true
-    by o q as_before = h s n q
-    by o q down = absurd (cc q)
-    by o q (by_message m room message f has k l) = its _ q (for m room message (is_for_worker message) (h s m f))
-    by o q (by_step m room row f g) = its row.table q (of-step m room row g (h s m f))
-    by o q (by_timeout m T f) = its (server_timeout m T) q (of-late m (timeout_row m.worker T) (h s m f))
-    by o q (by_closing m f) = its _ q (thanked-unfinished m.coordinator.transactions (h s m f))
-    by o q (by_restart x Ws Ts) = its (restored s x Ws Ts) q (restored-unfinished x Ts)
+step-unfinished step w h = by-case w h step (after step w) (step-case w step)
 
 pub run-unfinished : (steps : List Step) (w : World) → Unfinished w → Unfinished (run steps w)
 run-unfinished [] w h = h

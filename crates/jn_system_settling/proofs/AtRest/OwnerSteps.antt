@@ -1,5 +1,5 @@
 -- Each step of the whole system keeps each transaction with the client that began it.
-use Rattle.jn_system_settling.proofs.Common.{◌≡◌, ◌≤◌, ℕ, Bool, true, false, List, [], ◌∷◌, ◌++◌, take, Option, Some, None, true≢false, refl, sym, subst, arith, if◌then◌else◌, ServerNo, Message, StableState, Pick, Change, AddReady, MarkGoing, CarryOut, RemoveWork, AddFlag, DropFlag, stable, made_all, RowOutcome, Sent, WorkerTable, worker_row, worker_step, work_of, timed_out, coordinator_row, with_epoch, World, Memory, Room, storage_of, server_row, server_step, of_worker, of_coordinator, of_step, of_timeout, server_timeout, is_for_worker, restored, Step, IsStep, after, UpFact, ServerFact, LockFacts, Opening, openings, openings-more, Sizes, outcomes-close, ServerRow, of_message, of_work, of_closing, StepCase, client_row, row_done, row_stopped, gone_late, gone_down, come_up, found_anew, dismissed, quietly, step-case, memory-now, memory-gone, found-now, found-then}
+use Rattle.jn_system_settling.proofs.Common.{◌≡◌, ◌≤◌, ℕ, true, List, [], ◌∷◌, ◌++◌, take, Option, Some, None, true≢false, refl, sym, subst, ServerNo, Message, StableState, Pick, Change, AddReady, MarkGoing, CarryOut, RemoveWork, AddFlag, DropFlag, stable, made_all, RowOutcome, Sent, WorkerTable, work_of, timed_out, with_epoch, World, Memory, Room, storage_of, server_row, of_worker, of_timeout, server_timeout, restored, Step, IsStep, after, UpFact, ServerFact, LockFacts, Opening, openings, openings-more, Sizes, outcomes-close, ServerRow, of_message, of_work, of_closing, StepCase, client_row, row_done, row_stopped, gone_late, gone_down, come_up, found_anew, dismissed, quietly, step-case, memory-now, memory-gone, found-now, found-then, row-either, row-of-step}
 use Rattle.jn_system_settling.proofs.Settling.WorkerFits.{keep_flags, worker-fits, step-fits}
 use Rattle.jn_system_settling.proofs.Settling.Courses.{grows}
 use Rattle.jn_system_settling.proofs.Settling.WorldSizes.{up-sizes}
@@ -46,29 +46,17 @@ module _ (n : ℕ) (at_most : n ≤ 8) (w : World) (sizes : Sizes n w) (locks : 
   }
 
   row-owned : (s : ServerNo) (m : Memory) (room : Room) (message : Message) → w.memory s ≡ Some m → MemoryOwned os (server_row m (stable (w.found s)) room message)
-  row-owned s m room message up = by (is_for_worker message)
+  row-owned s m room message up = row-either (MemoryOwned os) m (stable (w.found s)) room message
+      (let sizes = up-sizes n at_most w sizes locks s m up in let fits = worker-fits (storage_of m (stable (w.found s)) room) m.tickets m.worker message fact.table sizes.works in at-worker s m _ up fits.flags)
+      (let h = coordinator-owned os m.coordinator room.free.records m.tickets message ((owned s).table m up) in record { table = h.table; flags = coordinator-flags (owner_in os) m.coordinator room.free.records m.tickets message ((owned s).table m up) })
     where
       fact : UpFact s m (w.found s)
       fact = subst (λ o. ServerFact s o (w.found s)) up (locks s)
 
-      by : (b : Bool) → MemoryOwned os (if b then of_worker m (worker_row m.worker (storage_of m (stable (w.found s)) room) m.tickets message) else of_coordinator m (coordinator_row m.coordinator room.free.records m.tickets message))
-      by true = let sizes = up-sizes n at_most w sizes locks s m up in let fits = worker-fits (storage_of m (stable (w.found s)) room) m.tickets m.worker message fact.table sizes.works in at-worker s m _ up fits.flags
-      by false = let h = coordinator-owned os m.coordinator room.free.records m.tickets message ((owned s).table m up) in record { table = h.table; flags = coordinator-flags (owner_in os) m.coordinator room.free.records m.tickets message ((owned s).table m up) }
-
-  step-owned : (s : ServerNo) (m : Memory) (room : Room) (row : RowOutcome Memory) → w.memory s ≡ Some m → server_step m (stable (w.found s)) room ≡ Some row → MemoryOwned os row
-  step-owned s m room row up h = by (worker_step m.worker (storage_of m (stable (w.found s)) room) m.tickets) refl h
-    where
-      some : (a b : RowOutcome Memory) → Some a ≡ Some b → a ≡ b
-      some a b e = cc
-
-      by : (o : Option (RowOutcome WorkerTable)) → worker_step m.worker (storage_of m (stable (w.found s)) room) m.tickets ≡ o → of_step m o ≡ Some row → MemoryOwned os row
-      by None e q = absurd (grind arith)
-      by (Some r) e q = let sizes = up-sizes n at_most w sizes locks s m up in let fits = step-fits (storage_of m (stable (w.found s)) room) m.tickets m.worker r sizes.works e in
-          subst (λ (z : RowOutcome Memory). MemoryOwned os z) (some (of_worker m r) row q) (at-worker s m r up fits.flags)
-
   row-of : (s : ServerNo) (m : Memory) (stop : Option (Pick → ℕ)) (step : Step) (k : Option ℕ) (row : RowOutcome Memory) → w.memory s ≡ Some m → ServerRow w s m stop step k row → MemoryOwned os row
   row-of s m _ _ _ _ up (of_message stop k room message is) = row-owned s m room message up
-  row-of s m _ _ _ _ up (of_work stop room row is) = step-owned s m room row up is
+  row-of s m _ _ _ _ up (of_work stop room row is) = row-of-step (MemoryOwned os) m (stable (w.found s)) room row is
+      (λ r e. let sizes = up-sizes n at_most w sizes locks s m up in let fits = step-fits (storage_of m (stable (w.found s)) room) m.tickets m.worker r sizes.works e in at-worker s m r up fits.flags)
   row-of s m _ _ _ _ up of_closing = let its = outcomes-close m.coordinator.transactions in record {
     table = closes-owned (owner_in (os ++ [])) its (grown (owner_in os) (owner_in (os ++ [])) (owner-more os []) m.coordinator.transactions ((owned s).table m up));
     flags = closes-flags-owned (owner_in os) its;

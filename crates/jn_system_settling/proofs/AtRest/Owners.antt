@@ -1,8 +1,5 @@
 -- Each transaction of a table and of a flag has the client that began it.
-use Rattle.jn_system_settling.proofs.Common.{◌≡◌, ℕ, zero, suc, ◌+◌, Bool, true, false, List, [], ◌∷◌, ◌++◌, take, Option, Some, None, true≢false, refl, sym, arith, ◌&&◌, ◌||◌, not, if◌then◌else◌, nat_lt, nat_eq, length, nat_tests, ClientNo, Tid, WorkId, Tickets, Cause, Client, tid_eq, client_eq, tid_tells, Message, Vote, Transaction, Stage, Open, Voting, Committed, Aborted, Ballot, Commitment, StableState, FlagState, Change, AddReady, MarkGoing, CarryOut, RemoveWork, AddFlag, DropFlag, made_by, made_all, RowOutcome, Closes, Empty, Stays, Goes, Waits, Forgets, client-closes, CoordinatorTable, transaction_at, with_stage, all_in, is_work, commit_row, abort_row, forget_row, after_closing, changes_of_closing, begin_again, begun_by, begin_row, seen_now, name_from, end_promised, end_stage, end_row, abort_stage, abort_request, told_stage, inquire_row, counted_vote, vote_stage, vote_row, done_stage, done_row, thanks_stage, thanks_row, with_work, coordinator_row, restored_transaction, restored_transactions, Opening, openings, RequestNo}
-use Rattle.jn_msgs.specs.declared.message.Message.TheVariants as messages
-use Rattle.jn_msgs.specs.declared.message.Note.TheVariants.{Ignored}
-use Rattle.jn_msgs.specs.declared.message.Vote.TheVariants as votes
+use Rattle.jn_system_settling.proofs.Common.{◌≡◌, ℕ, zero, suc, Bool, true, false, List, [], ◌∷◌, ◌++◌, take, Option, Some, None, true≢false, refl, sym, arith, ◌&&◌, ◌||◌, nat_tests, ClientNo, Tid, Tickets, tid_eq, client_eq, tid_tells, Message, Transaction, Stage, StableState, FlagState, Change, AddReady, MarkGoing, CarryOut, RemoveWork, AddFlag, DropFlag, made_by, made_all, RowOutcome, Closes, Empty, Stays, Goes, Waits, Forgets, client-closes, CoordinatorTable, transaction_at, with_stage, after_closing, name_from, coordinator_row, restored_transaction, restored_transactions, Opening, openings, CoordinatorCase, is_ignored_by, is_left_by, begins_anew, finds_no_room, starts_voting, counts_vote, is_committed_by, is_aborted_by, notes_commit, forgets_commit, forgets_abort, coordinator-case}
 use Rattle.jn_rows.specs.Coordinator.{without}
 
 -- who began it, as the messages say
@@ -78,183 +75,38 @@ pub record RowOwned (P : Owner) (row : RowOutcome CoordinatorTable) : Type 0 whe
   pub table : all_owned P row.table.transactions ≡ true
   pub flags : flags_owned P row.changes ≡ true
 
-module _ (P : Owner) (t : CoordinatorTable) (k : Tickets) (h : all_owned P t.transactions ≡ true) where
-  either : (b : Bool) (p q : RowOutcome CoordinatorTable) → RowOwned P p → RowOwned P q → RowOwned P (if b then p else q)
-  either true p q a b = a
-  either false p q a b = b
+module _ (t : CoordinatorTable) (free : ℕ) (k : Tickets) where
+  flags-case : (P : Owner) → all_owned P t.transactions ≡ true → (m : Message) (row : RowOutcome CoordinatorTable) → CoordinatorCase t free k m row → flags_owned P row.changes ≡ true
+  flags-case P h _ _ (begins_anew c q later room) = closes-flags-owned P (client-closes c t.transactions)
+  flags-case P h _ _ (finds_no_room c q later full) = closes-flags-owned P (client-closes c t.transactions)
+  flags-case P h _ _ (is_committed_by m y q works found why) = let own = owned-found P y.tid t.transactions y h found in grind arith
+  flags-case P h _ _ _ = refl
 
-  still : (row : RowOutcome CoordinatorTable) → row.table ≡ t → row.changes ≡ [] → RowOwned P row
-  still row same none = record { table = rw same h; flags = rw none refl }
-
-  staged : (T : Tid) (s : Stage) (row : RowOutcome CoordinatorTable) → row.table ≡ record t { transactions = with_stage T s t.transactions } → row.changes ≡ [] → RowOwned P row
-  staged T s row same none = record { table = rw same (owned-staged P T s t.transactions h); flags = rw none refl }
-
-  forget-owned : (T : Tid) (d : Commitment) → RowOwned P (forget_row t k T d)
-  forget-owned T d = either (d.thanked && all_in d.works d.done) _ _ (record { table = owned-without P T t.transactions h; flags = refl }) (staged T (Committed d) _ refl refl)
-
-  module _ (T : Tid) (y : Transaction) (found : transaction_at T t.transactions ≡ Some y) where
-    its : P y.client y.tid ≡ true
-    its = owned-found P T t.transactions y h found
-
-    commit-owned : (request : RequestNo) (works : List WorkId) → RowOwned P (commit_row t k y request works)
-    commit-owned request works = record { table = owned-staged P y.tid _ t.transactions h; flags = let own = its in grind arith }
-
-    abort-owned : (cause : Cause) (works : List WorkId) → RowOwned P (abort_row t k y cause works)
-    abort-owned cause works = staged y.tid (Aborted cause) _ refl refl
-
-    promised-owned : (request : RequestNo) (works : List WorkId) → RowOwned P (end_promised t k y request works)
-    promised-owned request [] = commit-owned request []
-    promised-owned request (W ∷ Ws) = staged y.tid _ _ refl refl
-
-    end-owned : (free : ℕ) (request : RequestNo) (works : List WorkId) (s : Stage) → RowOwned P (end_stage t free k y request works s)
-    end-owned free request works Open = either (nat_lt free 1) _ _ (abort-owned _ works) (promised-owned request works)
-    end-owned free request works (Voting b) = still _ refl refl
-    end-owned free request works (Committed d) = still _ refl refl
-    end-owned free request works (Aborted cause) = still _ refl refl
-
-    abort-stage-owned : (works : List WorkId) (s : Stage) → RowOwned P (abort_stage t k y works s)
-    abort-stage-owned works Open = abort-owned _ works
-    abort-stage-owned works (Voting b) = abort-owned _ _
-    abort-stage-owned works (Committed d) = still _ refl refl
-    abort-stage-owned works (Aborted cause) = still _ refl refl
-
-    counted-owned : (b : Ballot) (W : WorkId) (vote : Vote) → RowOwned P (counted_vote t k y b W vote)
-    counted-owned b W votes.Ready = either (all_in b.works (with_work W b.ready)) _ _ (commit-owned b.request b.works) (staged y.tid _ _ refl refl)
-    counted-owned b W (votes.Waiting u by) = either (is_work W b.ready) _ _ (still _ refl refl) (still _ refl refl)
-    counted-owned b W (votes.Lost n m) = abort-owned _ _
-    counted-owned b W (votes.Broken u by) = abort-owned _ _
-    counted-owned b W (votes.Full n m l) = abort-owned _ _
-
-  told-owned : (T : Tid) (W : WorkId) (s : Stage) → RowOwned P (told_stage t k T W s)
-  told-owned T W (Committed d) = either (is_work W d.works && not (is_work W d.done)) _ _ (still _ refl refl) (still _ refl refl)
-  told-owned T W (Aborted cause) = still _ refl refl
-  told-owned T W Open = still _ refl refl
-  told-owned T W (Voting b) = still _ refl refl
-
-  ends-owned : (free : ℕ) (c : ClientNo) (request : RequestNo) (T : Tid) (works : List WorkId) (o : Option Transaction) → transaction_at T t.transactions ≡ o → RowOwned P (end_row t free k c request T works o)
-  ends-owned free c request T works (Some y) e = end-owned T y e free request works y.stage
-  ends-owned free c request T works None e = still _ refl refl
-
-  aborts-owned : (c : ClientNo) (T : Tid) (works : List WorkId) (o : Option Transaction) → transaction_at T t.transactions ≡ o → RowOwned P (abort_request t k c T works o)
-  aborts-owned c T works (Some y) e = abort-stage-owned T y e works y.stage
-  aborts-owned c T works None e = still _ refl refl
-
-  votes-owned : (T : Tid) (W : WorkId) (vote : Vote) (o : Option Transaction) → transaction_at T t.transactions ≡ o → RowOwned P (vote_row t k T W vote o)
-  votes-owned T W vote (Some y) e = by y.stage
-    where
-      by : (s : Stage) → RowOwned P (vote_stage t k y W vote s)
-      by Open = still _ refl refl
-      by (Voting b) = either (is_work W b.works) _ _ (counted-owned T y e b W vote) (still _ refl refl)
-      by (Committed d) = told-owned y.tid W (Committed d)
-      by (Aborted cause) = told-owned y.tid W (Aborted cause)
-  votes-owned T W vote None e = still _ refl refl
-
-  inquires-owned : (T : Tid) (W : WorkId) (o : Option Transaction) → RowOwned P (inquire_row t k T W o)
-  inquires-owned T W (Some y) = told-owned T W y.stage
-  inquires-owned T W None = still _ refl refl
-
-  dones-owned : (T : Tid) (W : WorkId) (o : Option Transaction) → RowOwned P (done_row t k T W o)
-  dones-owned T W (Some y) = by y.stage
-    where
-      by : (s : Stage) → RowOwned P (done_stage t k T W s)
-      by (Committed d) = either (is_work W d.works && not (is_work W d.done)) _ _ (forget-owned T (record d { done = d.done ++ W ∷ [] })) (still _ refl refl)
-      by Open = still _ refl refl
-      by (Voting b) = still _ refl refl
-      by (Aborted cause) = still _ refl refl
-  dones-owned T W None = still _ refl refl
-
-  all-thanks-owned : (T : Tid) (o : Option Transaction) → RowOwned P (thanks_row t k T o)
-  all-thanks-owned T (Some y) = by y.stage
-    where
-      by : (s : Stage) → RowOwned P (thanks_stage t k T s)
-      by (Committed d) = either d.thanked _ _ (still _ refl refl) (forget-owned T (record d { thanked = true }))
-      by (Aborted cause) = record { table = owned-without P T t.transactions h; flags = refl }
-      by Open = still _ refl refl
-      by (Voting b) = still _ refl refl
-  all-thanks-owned T None = still _ refl refl
-
--- ---- Begin
-
-module _ (os : List Opening) (t : CoordinatorTable) (k : Tickets) (h : all_owned (owner_in os) t.transactions ≡ true) (c : ClientNo) (request : RequestNo) where
-  abbrev Now : RowOutcome CoordinatorTable → Type 0
-  Now row = RowOwned (owner_in (os ++ openings row.messages)) row
-
-  choose : (b : Bool) (p q : RowOutcome CoordinatorTable) → Now p → Now q → Now (if b then p else q)
-  choose true p q a b = a
-  choose false p q a b = b
-
-  old : (row : RowOutcome CoordinatorTable) → row.table ≡ t → row.changes ≡ [] → Now row
-  old row same none = still (owner_in (os ++ openings row.messages)) t k (grown (owner_in os) (owner_in (os ++ openings row.messages)) (owner-more os (openings row.messages)) t.transactions h) row same none
-
-  again-owned : (o : Option Transaction) → Now (begin_again t k c request o)
-  again-owned (Some y) = old _ refl refl
-  again-owned None = old _ refl refl
-
-  abbrev ys : List Transaction
-  ys = after_closing c t.transactions
-
-  left : (more : List Opening) → all_owned (owner_in (os ++ more)) ys ≡ true
-  left more = closes-owned (owner_in (os ++ more)) (client-closes c t.transactions) (grown (owner_in os) (owner_in (os ++ more)) (owner-more os more) t.transactions h)
-
-  new-owned : (b : Bool) → Now (if b
-      then record { table = record { transactions = ys ++ (record { tid = name_from k; client = c; begun = Some request; stage = Open }) ∷ []; seen = seen_now t.seen c request }; changes = changes_of_closing c t.transactions; messages = (Client c, messages.Begun c request (Some (name_from k))) ∷ []; notes = []; tickets = record k { next = k.next + 1 } }
-      else record { table = record { transactions = ys; seen = seen_now t.seen c request }; changes = changes_of_closing c t.transactions; messages = (Client c, messages.Begun c request None) ∷ []; notes = []; tickets = k })
-  new-owned true = record {
-    table = owned-both (owner_in (os ++ (record { client = c; request = request; tid = name_from k }) ∷ [])) ys _ (left _)
-        (let now = owner-last os ((record { client = c; request = request; tid = name_from k }) ∷ []) c (name_from k) (grind (arith, nat_tests)) in grind (arith, now));
-    flags = closes-flags-owned (owner_in (os ++ (record { client = c; request = request; tid = name_from k }) ∷ [])) (client-closes c t.transactions);
-  }
-  new-owned false = record { table = left []; flags = closes-flags-owned (owner_in (os ++ [])) (client-closes c t.transactions) }
-
-  pub begin-owned : Now (begin_row t k c request)
-  begin-owned = choose (nat_lt (t.seen c) request.0) _ _ (new-owned (nat_lt (length ys) 64)) (choose (nat_eq (t.seen c) request.0) _ _ (again-owned (begun_by c request t.transactions)) (old _ refl refl))
-
--- ---- every message
-
-pub coordinator-owned : (os : List Opening) (t : CoordinatorTable) (free : ℕ) (k : Tickets) (m : Message) → all_owned (owner_in os) t.transactions ≡ true → RowOwned (owner_in (os ++ openings (coordinator_row t free k m).messages)) (coordinator_row t free k m)
-coordinator-owned os t free k m h = by m (grown (owner_in os) (owner_in (os ++ openings (coordinator_row t free k m).messages)) (owner-more os (openings (coordinator_row t free k m).messages)) t.transactions h)
-  where
-    by : (m : Message) → all_owned (owner_in (os ++ openings (coordinator_row t free k m).messages)) t.transactions ≡ true → RowOwned (owner_in (os ++ openings (coordinator_row t free k m).messages)) (coordinator_row t free k m)
-    by (messages.Begin c request) g = begin-owned os t k h c request
-    by (messages.End c request T works) g = ends-owned _ t k g free c request T works (transaction_at T t.transactions) refl
-    by (messages.Abort c request T works) g = aborts-owned _ t k g c T works (transaction_at T t.transactions) refl
-    by (messages.Thanks c T) g = all-thanks-owned _ t k g T (transaction_at T t.transactions)
-    by (messages.Vote T W vote) g = votes-owned _ t k g T W vote (transaction_at T t.transactions) refl
-    by (messages.Done T W) g = dones-owned _ t k g T W (transaction_at T t.transactions)
-    by (messages.Inquire T W) g = inquires-owned _ t k g T W (transaction_at T t.transactions)
-    by (messages.Open c request T) g = still _ t k g _ refl refl
-    by (messages.Op c request W number op) g = still _ t k g _ refl refl
-    by (messages.Begun c request T) g = still _ t k g _ refl refl
-    by (messages.Opened c request T W) g = still _ t k g _ refl refl
-    by (messages.Answer c request answer) g = still _ t k g _ refl refl
-    by (messages.Outcome c T outcome) g = still _ t k g _ refl refl
-    by (messages.Prepare T c W) g = still _ t k g _ refl refl
-    by (messages.Commit T W) g = still _ t k g _ refl refl
-    by (messages.Drop T W) g = still _ t k g _ refl refl
+  -- the new one's client is told that it has begun
+  table-case : (os : List Opening) (m : Message) (row : RowOutcome CoordinatorTable) → CoordinatorCase t free k m row → all_owned (owner_in (os ++ openings row.messages)) t.transactions ≡ true
+      → all_owned (owner_in (os ++ openings row.messages)) row.table.transactions ≡ true
+  table-case os _ _ (is_ignored_by m) h = h
+  table-case os _ _ (is_left_by m sent says) h = h
+  table-case os _ _ (begins_anew c q later room) h = owned-both (owner_in (os ++ (record { client = c; request = q; tid = name_from k }) ∷ [])) (after_closing c t.transactions) _ (closes-owned _ (client-closes c t.transactions) h)
+      (let now = owner-last os ((record { client = c; request = q; tid = name_from k }) ∷ []) c (name_from k) (grind (arith, nat_tests)) in grind (arith, now))
+  table-case os _ _ (finds_no_room c q later full) h = closes-owned _ (client-closes c t.transactions) h
+  table-case os _ _ (starts_voting c q W Ws y found e room) h = owned-staged _ y.tid _ t.transactions h
+  table-case os _ _ (counts_vote W y b found e is waits) h = owned-staged _ y.tid _ t.transactions h
+  table-case os _ _ (is_committed_by m y q works found why) h = owned-staged _ y.tid _ t.transactions h
+  table-case os _ _ (is_aborted_by m y cause works found why) h = owned-staged _ y.tid _ t.transactions h
+  table-case os _ _ (notes_commit m y d found notes waits) h = owned-staged _ y.tid _ t.transactions h
+  table-case os _ _ (forgets_commit m y d found notes through) h = owned-without _ y.tid t.transactions h
+  table-case os _ _ (forgets_abort c y cause found e) h = owned-without _ y.tid t.transactions h
 
 -- the flags that are put are of transactions that were there
 pub coordinator-flags : (P : Owner) (t : CoordinatorTable) (free : ℕ) (k : Tickets) (m : Message) → all_owned P t.transactions ≡ true → flags_owned P (coordinator_row t free k m).changes ≡ true
-coordinator-flags P t free k (messages.Begin c request) h = by (nat_lt (t.seen c) request.0) (nat_lt (length (after_closing c t.transactions)) 64) (nat_eq (t.seen c) request.0) (begun_by c request t.transactions)
-  where
-    again : (o : Option Transaction) → flags_owned P (begin_again t k c request o).changes ≡ true
-    again (Some y) = refl
-    again None = refl
+coordinator-flags P t free k m h = flags-case t free k P h m _ (coordinator-case t free k m)
 
-    by : (a b d : Bool) (o : Option Transaction) → flags_owned P (if a then (if b
-        then record { table = record { transactions = after_closing c t.transactions ++ (record { tid = name_from k; client = c; begun = Some request; stage = Open }) ∷ []; seen = seen_now t.seen c request }; changes = changes_of_closing c t.transactions; messages = (Client c, messages.Begun c request (Some (name_from k))) ∷ []; notes = []; tickets = record k { next = k.next + 1 } }
-        else record { table = record { transactions = after_closing c t.transactions; seen = seen_now t.seen c request }; changes = changes_of_closing c t.transactions; messages = (Client c, messages.Begun c request None) ∷ []; notes = []; tickets = k })
-        else (if d then begin_again t k c request o else record { table = t; changes = []; messages = []; notes = Ignored ∷ []; tickets = k })).changes ≡ true
-    by true true d o = closes-flags-owned P (client-closes c t.transactions)
-    by true false d o = closes-flags-owned P (client-closes c t.transactions)
-    by false b true o = again o
-    by false b false o = refl
-coordinator-flags P t free k (messages.End c request T works) h = let o = ends-owned P t k h free c request T works (transaction_at T t.transactions) refl in o.flags
-coordinator-flags P t free k (messages.Abort c request T works) h = let o = aborts-owned P t k h c T works (transaction_at T t.transactions) refl in o.flags
-coordinator-flags P t free k (messages.Thanks c T) h = let o = all-thanks-owned P t k h T (transaction_at T t.transactions) in o.flags
-coordinator-flags P t free k (messages.Vote T W vote) h = let o = votes-owned P t k h T W vote (transaction_at T t.transactions) refl in o.flags
-coordinator-flags P t free k (messages.Done T W) h = let o = dones-owned P t k h T W (transaction_at T t.transactions) in o.flags
-coordinator-flags P t free k (messages.Inquire T W) h = let o = inquires-owned P t k h T W (transaction_at T t.transactions) in o.flags
-coordinator-flags P t free k m h = refl
+pub coordinator-owned : (os : List Opening) (t : CoordinatorTable) (free : ℕ) (k : Tickets) (m : Message) → all_owned (owner_in os) t.transactions ≡ true → RowOwned (owner_in (os ++ openings (coordinator_row t free k m).messages)) (coordinator_row t free k m)
+coordinator-owned os t free k m h = record { table = table-case t free k os m _ (coordinator-case t free k m) more; flags = coordinator-flags _ t free k m more }
+  where
+    more : all_owned (owner_in (os ++ openings (coordinator_row t free k m).messages)) t.transactions ≡ true
+    more = grown (owner_in os) (owner_in (os ++ openings (coordinator_row t free k m).messages)) (owner-more os (openings (coordinator_row t free k m).messages)) t.transactions h
 
 -- ---- changes and restarts
 

@@ -1,5 +1,5 @@
 -- Each step of the whole system keeps what is said of clients' requests.
-use Rattle.jn_system_settling.proofs.Common.{◌≡◌, ◌≢◌, ◌⊎◌, inl, inr, ◌≤◌, ℕ, zero, suc, ◌+◌, Bool, true, false, List, [], ◌∷◌, ◌++◌, take, Option, Some, None, true≢false, append-nil, refl, sym, ◌∙◌, ap, subst, arith, ◌&&◌, if◌then◌else◌, nat_lt, slice_get, nat_tests, ServerNo, ClientNo, Tid, Party, Server, Command, client_eq, client_tells, Message, AllFiles, OpenWork, Outstanding, Taken, Transaction, StableState, FlagState, Pick, stable, made_all, RowOutcome, Sent, WorkerTable, worker_row, worker_step, work_of, timed_out, transaction_at, coordinator_row, close_clients_row, seen_in_flags, seen_in_flag, ClientTable, if_server, if_idle, if_transaction, if_no_transaction, if_open, if_not_open, with_operation, names_of, sends_command, Commanded, Refuses, Sends, command_row, take_row, again_row, sent_again, is_begin, over, with_epoch, World, Memory, at_client, Room, storage_of, server_row, server_step, server_again, of_worker, of_coordinator, of_step, of_timeout, server_timeout, is_for_worker, restored, Step, Tell, after, works, commanded, sent_now, UpFact, ServerFact, Opening, openings, openings-more, HasOpening, Course, go, request_of, operation_of, Text, ClientRow, by_command, by_ignoring, by_answering, by_telling, ServerRow, of_message, of_work, of_closing, Quiet, event_begins, none_changes, is_refused, client_repeats, server_repeats, is_lost, StepCase, client_row, row_done, row_stopped, gone_late, gone_down, come_up, found_anew, dismissed, quietly, step-case, client-changes, memory-now, memory-gone, found-now, found-then}
+use Rattle.jn_system_settling.proofs.Common.{◌≡◌, ◌≢◌, ◌⊎◌, inl, inr, ◌≤◌, ℕ, zero, suc, ◌+◌, Bool, true, false, List, [], ◌∷◌, ◌++◌, take, Option, Some, None, true≢false, append-nil, refl, sym, ◌∙◌, ap, subst, arith, ◌&&◌, if◌then◌else◌, nat_lt, slice_get, nat_tests, ServerNo, ClientNo, Tid, Party, Server, Command, client_eq, client_tells, Message, AllFiles, OpenWork, Outstanding, Taken, Transaction, StableState, FlagState, Pick, stable, made_all, RowOutcome, Sent, WorkerTable, work_of, timed_out, transaction_at, coordinator_row, close_clients_row, seen_in_flags, seen_in_flag, ClientTable, if_server, if_idle, if_transaction, if_no_transaction, if_open, if_not_open, with_operation, names_of, sends_command, Commanded, Refuses, Sends, command_row, take_row, again_row, sent_again, is_begin, over, with_epoch, World, Memory, at_client, Room, storage_of, server_row, server_again, of_coordinator, of_timeout, server_timeout, restored, Step, Tell, after, works, commanded, sent_now, UpFact, ServerFact, Opening, openings, openings-more, HasOpening, Course, go, request_of, operation_of, Text, ClientRow, by_command, by_ignoring, by_answering, by_telling, ServerRow, of_message, of_work, of_closing, Quiet, event_begins, none_changes, is_refused, client_repeats, server_repeats, is_lost, StepCase, client_row, row_done, row_stopped, gone_late, gone_down, come_up, found_anew, dismissed, quietly, step-case, memory-now, memory-gone, found-now, found-then, one-client, row-either, row-of-step}
 use Rattle.jn_base.specs.declared.op.Command.TheVariants as commands
 use Rattle.jn_msgs.specs.declared.message.Message.TheVariants as messages
 use Rattle.jn_report.specs.declared.line.Refusal.TheVariants as refusals
@@ -84,10 +84,6 @@ still-draws t now e (inr q) h = record { some = let s = h.some in omega (arith, 
   where
     none : (o : Outstanding) → None ≡ Some o → ⊥
     none o z = cc
-
--- one client's table is another one
-pub one-client : (P : ClientNo → ClientTable → Type 0) (f : Clients) (c : ClientNo) (t : ClientTable) → P c t → ((d : ClientNo) → P d (f d)) → (d : ClientNo) → P d (at_client f c t d)
-one-client P f c t now old = client-changes P f c t now (λ d other. old d)
 
 -- a command's message and table
 pub record Commands (u t : ClientTable) (to : Party) (m : Message) : Type 0 where
@@ -177,7 +173,10 @@ module _ (n : ℕ) (at_most : n ≤ 8) (start : World) (files : AllFiles) (epoch
     w = d.world
 
     row-requests : (s : ServerNo) (m : Memory) (room : Room) (message : Message) → w.memory s ≡ Some m → MessageFits w.clients (openings w.sent) message → RowRequests w.clients w.sent (server_row m (stable (w.found s)) room message)
-    row-requests s m room message up fits = by (is_for_worker message)
+    row-requests s m room message up fits = row-either (RowRequests w.clients w.sent) m (stable (w.found s)) room message
+        (let sizes = up-sizes n at_most w h.sound.sizes h.sound.locks s m up in let few = worker-fits (storage_of m (stable (w.found s)) room) m.tickets m.worker message fact.table sizes.works in
+        worker-requests w.clients w.sent m mine seen _ few.flags (worker-plain m.worker (storage_of m (stable (w.found s)) room) m.tickets message))
+        (coordinated message fits (is_begin_message message) refl)
       where
         fact : UpFact s m (w.found s)
         fact = subst (λ o. ServerFact s o (w.found s)) up (h.sound.locks s)
@@ -220,26 +219,11 @@ module _ (n : ℕ) (at_most : n ≤ 8) (start : World) (files : AllFiles) (epoch
             begun (messages.Begin c q) e fits = begin-requests w.clients w.sent m mine seen c q fits m.tickets
             begun _ e fits = absurd (true≢false (sym e))
 
-        by : (b : Bool) → RowRequests w.clients w.sent (if b then of_worker m (worker_row m.worker (storage_of m (stable (w.found s)) room) m.tickets message) else of_coordinator m (coordinator_row m.coordinator room.free.records m.tickets message))
-        by true = let sizes = up-sizes n at_most w h.sound.sizes h.sound.locks s m up in let few = worker-fits (storage_of m (stable (w.found s)) room) m.tickets m.worker message fact.table sizes.works in
-            worker-requests w.clients w.sent m mine seen _ few.flags (worker-plain m.worker (storage_of m (stable (w.found s)) room) m.tickets message)
-        by false = coordinated message fits (is_begin_message message) refl
-
-    step-requests : (s : ServerNo) (m : Memory) (room : Room) (row : RowOutcome Memory) → w.memory s ≡ Some m → server_step m (stable (w.found s)) room ≡ Some row → RowRequests w.clients w.sent row
-    step-requests s m room row up e = by (worker_step m.worker (storage_of m (stable (w.found s)) room) m.tickets) refl e
-      where
-        some : (a b : RowOutcome Memory) → Some a ≡ Some b → a ≡ b
-        some a b q = cc
-
-        by : (o : Option (RowOutcome WorkerTable)) → worker_step m.worker (storage_of m (stable (w.found s)) room) m.tickets ≡ o → of_step m o ≡ Some row → RowRequests w.clients w.sent row
-        by None k q = absurd (grind arith)
-        by (Some z) k q = let sizes = up-sizes n at_most w h.sound.sizes h.sound.locks s m up in let few = step-fits (storage_of m (stable (w.found s)) room) m.tickets m.worker z sizes.works k in
-            subst (λ (y : RowOutcome Memory). RowRequests w.clients w.sent y) (some (of_worker m z) row q)
-            (worker-requests w.clients w.sent m ((r.servers s).votings m up) ((r.servers s).seen m up) z few.flags (step-plain m.worker (storage_of m (stable (w.found s)) room) m.tickets z k))
-
     row-of : (s : ServerNo) (m : Memory) (stop : Option (Pick → ℕ)) (step : Step) (k : Option ℕ) (row : RowOutcome Memory) → w.memory s ≡ Some m → ServerRow w s m stop step k row → RowRequests w.clients w.sent row
     row-of s m _ _ _ _ up (of_message stop k room message is) = row-requests s m room message up (r.sent (Server s, message) (has-at w.sent k (Server s, message) is))
-    row-of s m _ _ _ _ up (of_work stop room row is) = step-requests s m room row up is
+    row-of s m _ _ _ _ up (of_work stop room row is) = row-of-step (RowRequests w.clients w.sent) m (stable (w.found s)) room row is
+        (λ z k. let sizes = up-sizes n at_most w h.sound.sizes h.sound.locks s m up in let few = step-fits (storage_of m (stable (w.found s)) room) m.tickets m.worker z sizes.works k in
+        worker-requests w.clients w.sent m ((r.servers s).votings m up) ((r.servers s).seen m up) z few.flags (step-plain m.worker (storage_of m (stable (w.found s)) room) m.tickets z k))
     row-of s m _ _ _ _ up of_closing = let mine = (r.servers s).votings m up in
         other-requests w.clients w.sent m mine ((r.servers s).seen m up) (close_clients_row m.coordinator m.tickets) (close-votes (Past false w.clients) m.coordinator m.tickets mine)
 
@@ -281,7 +265,7 @@ module _ (n : ℕ) (at_most : n ≤ 8) (start : World) (files : AllFiles) (epoch
 
     client-step : (c : ClientNo) (t : ClientTable) (more sent : List Sent) (lines : List Text) → sent ≡ w.sent ++ more → GoesOn (w.clients c) t → Draws t → ((x : Sent) → Has x more → MessageFits (at_client w.clients c t) (openings (w.sent ++ more)) x.1)
         → Requests (record w { clients = at_client w.clients c t; sent = sent; lines = lines })
-    client-step c t more sent lines e goes draws fits = clients-step w r (at_client w.clients c t) (one-client (λ e t. GoesOn (w.clients e) t) w.clients c t goes on) w.event more sent lines e (one-client (λ e t. Draws t) w.clients c t draws r.draws) fits
+    client-step c t more sent lines e goes draws fits = clients-step w r (at_client w.clients c t) (one-client (λ e t. GoesOn (w.clients e) t) w.clients c t goes (λ d other. on d)) w.event more sent lines e (one-client (λ e t. Draws t) w.clients c t draws (λ d other. r.draws d)) fits
 
     -- what a client takes
     abbrev Takes : ClientNo → ClientTable × Taken → Type 0

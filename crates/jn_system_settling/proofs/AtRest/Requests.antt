@@ -1,5 +1,5 @@
 -- What messages, tables and flags say of clients' requests, and that it stays true.
-use Rattle.jn_system_settling.proofs.Common.{◌≡◌, ◌≢◌, ◌⊎◌, inl, inr, ◌≤◌, ◌<◌, ℕ, ◌+◌, Bool, true, false, List, [], ◌∷◌, ◌++◌, length, Option, Some, None, true≢false, refl, sym, ◌∙◌, ap, subst, arith, ◌&&◌, if◌then◌else◌, nat_lt, nat_eq, ClientNo, Tid, Tickets, Client, client_eq, client_tells, Message, Outstanding, Transaction, Open, Change, AddReady, MarkGoing, CarryOut, RemoveWork, AddFlag, DropFlag, RowOutcome, Sent, WorkerTable, client-closes, CoordinatorTable, after_closing, changes_of_closing, begin_again, begun_by, begin_row, seen_now, name_from, ClientTable, is_begin, Memory, of_worker, of_coordinator, Opening, request_of, RequestNo}
+use Rattle.jn_system_settling.proofs.Common.{◌≡◌, ◌⊎◌, inl, inr, ◌≤◌, ◌<◌, ℕ, ◌+◌, Bool, true, false, List, [], ◌∷◌, ◌++◌, length, Option, Some, None, true≢false, refl, sym, ◌∙◌, ap, subst, arith, ◌&&◌, if◌then◌else◌, nat_lt, nat_eq, ClientNo, Tid, Tickets, Client, Message, Outstanding, Transaction, Open, Change, AddReady, MarkGoing, CarryOut, RemoveWork, AddFlag, DropFlag, RowOutcome, Sent, WorkerTable, client-closes, CoordinatorTable, after_closing, changes_of_closing, begin_again, begun_by, begin_row, seen_now, name_from, ClientTable, is_begin, Memory, of_worker, of_coordinator, Opening, request_of, RequestNo, one-client}
 use Rattle.jn_msgs.specs.declared.message.Message.TheVariants as messages
 use Rattle.jn_system_settling.proofs.Settling.WorkerFits.{keep_flags}
 use Rattle.jn_system_settling.proofs.AtRest.Ways.{Has}
@@ -173,12 +173,7 @@ module _ (f : Clients) (sent : List Sent) (m : Memory) (votings : Votings (Past 
 
     -- what is seen now is answered
     now-seen : (a : Option Tid) (d : ClientNo) → SeenFits f (sent ++ (Client c, messages.Begun c q a) ∷ []) d (seen_now m.coordinator.seen c q d)
-    now-seen a d = by (client_tells c d)
-      where
-        by : ((client_eq c d ≡ true) × (c ≡ d)) ⊎ ((client_eq c d ≡ false) × (c ≢ d)) → SeenFits f (sent ++ (Client c, messages.Begun c q a) ∷ []) d (if client_eq c d then q.0 else m.coordinator.seen d)
-        by (inl e) = subst (λ (b : Bool). SeenFits f (sent ++ (Client c, messages.Begun c q a) ∷ []) d (if b then q.0 else m.coordinator.seen d)) (sym e.0)
-            (inr (inr (record { answer = a; has = has-new _ sent _ (inl (ap (λ z. (Client z, messages.Begun z q a)) e.1)) })))
-        by (inr e) = subst (λ (b : Bool). SeenFits f (sent ++ (Client c, messages.Begun c q a) ∷ []) d (if b then q.0 else m.coordinator.seen d)) (sym e.0) (old-seen _ d)
+    now-seen a = one-client (SeenFits f (sent ++ (Client c, messages.Begun c q a) ∷ [])) m.coordinator.seen c q.0 (inr (inr (record { answer = a; has = has-new _ sent _ (inl refl) }))) (λ d other. old-seen _ d)
 
     abbrev ys : List Transaction
     ys = after_closing c m.coordinator.transactions

@@ -1,5 +1,5 @@
 -- Every settle after every run answers.
-use Rattle.jn_system_settling.proofs.Common.{◌≡◌, ◌≤◌, ℕ, suc, ◌+◌, List, [], ◌∷◌, Some, None, refl, sym, ◌∙◌, ap, subst, arith, false, inl, ServerNo, AllFiles, Outstanding, FlagState, World, Memory, opening, new_memory, servers_from, Step, IsRun, Course, opening_course, go, go_on, Chance, clients_from, until_rest, ask_again, settled, burden, IsAtRest, AreUp, AreAnswered, LeavesBetween, opening-reached, Client, Sent, new_table}
+use Rattle.jn_system_settling.proofs.Common.{◌≡◌, ◌≤◌, ℕ, suc, ◌+◌, List, [], ◌∷◌, Some, None, refl, sym, ◌∙◌, ap, subst, arith, false, inl, ServerNo, AllFiles, Outstanding, FlagState, World, Memory, opening, new_memory, servers_from, Step, IsRun, Course, opening_course, go, go_on, Chance, clients_from, until_rest, ask_again, settled, burden, IsAtRest, AreUp, AreAnswered, LeavesBetween, opening-reached, Client, Sent, new_table, some-memory}
 use Rattle.jn_system_settling.proofs.Settling.Resting.{PartEnds, part-ends}
 use Rattle.jn_system_settling.proofs.Settling.Settling.{opening-sound}
 use Rattle.jn_system_settling.proofs.Settling.Courses.{Sound}
@@ -47,9 +47,6 @@ module _ (n : ℕ) (at_most : n ≤ 8) (files : AllFiles) (epochs : ServerNo →
 
       no-message : (x : Sent) → None ≡ Some x → ⊥
       no-message x e = cc
-
-      some-memory : (a b : Memory) → Some a ≡ Some b → a ≡ b
-      some-memory a b e = cc
 
   go-on-talking : (start : World) (steps : List Step) (c : Course) → Good n at_most start files epochs c → IsRun steps c.world → Good n at_most start files epochs (go_on steps c)
   go-on-talking start [] c h i = h

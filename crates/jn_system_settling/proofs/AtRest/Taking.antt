@@ -1,5 +1,5 @@
 -- A client that waits for the outcome of its transaction is told of it, or goes on waiting.
-use Rattle.jn_system_settling.proofs.Common.{◌≡◌, ◌≢◌, ◌⊎◌, inl, inr, ℕ, Bool, true, false, List, [], ◌∷◌, length, Option, Some, None, true≢false, refl, sym, ◌∙◌, ap, subst, arith, nat_tests, ◌&&◌, if◌then◌else◌, nat_eq, nat_lt, ClientNo, Tid, WorkId, Tickets, Cause, Server, Command, End, Abort, client_eq, tid_eq, client_tells, tid_tells, Message, Outcome, Text, Outstanding, Taken, Transaction, Stage, Open, Voting, Committed, Aborted, StableState, RowOutcome, Sent, worker_row, CoordinatorTable, after_closing, begun_by, begin_again, coordinator_row, ClientTable, is_begin, is_operation, is_end, is_end_or_abort, told, over, opens, is_tid, is_current, if_waits, outcome_row, take_row, Memory, Room, storage_of, server_row, of_worker, of_coordinator, is_for_worker, tells_outcome, request_eq}
+use Rattle.jn_system_settling.proofs.Common.{◌≡◌, ◌≢◌, ◌⊎◌, inl, inr, ℕ, Bool, true, false, List, [], ◌∷◌, length, Option, Some, None, true≢false, refl, sym, ◌∙◌, ap, subst, arith, nat_tests, ◌&&◌, if◌then◌else◌, nat_eq, nat_lt, ClientNo, Tid, WorkId, Tickets, Cause, Server, Command, End, Abort, client_eq, tid_eq, client_tells, tid_tells, Message, Outcome, Text, Outstanding, Taken, Transaction, Stage, Open, Voting, Committed, Aborted, StableState, RowOutcome, Sent, CoordinatorTable, after_closing, begun_by, begin_again, coordinator_row, ClientTable, is_begin, is_operation, is_end, is_end_or_abort, told, over, opens, is_tid, is_current, if_waits, outcome_row, take_row, Memory, Room, storage_of, server_row, tells_outcome, request_eq, row-either}
 use Rattle.jn_msgs.specs.declared.message.Message.TheVariants as messages
 use Rattle.jn_msgs.specs.declared.message.Outcome.TheVariants as outcomes
 use Rattle.jn_report.specs.declared.line.Text.TheVariants as says
@@ -62,7 +62,7 @@ choose false p q h l = l
 
 -- no server begins a transaction
 pub row-begins : (m : Memory) (x : StableState) (room : Room) (message : Message) → NoneBegins (server_row m x room message).messages
-row-begins m x room message = by (is_for_worker message)
+row-begins m x room message = row-either (λ row. NoneBegins row.messages) m x room message (plain-begins _ (worker-plain m.worker (storage_of m x room) m.tickets message)) (on (is_begin_message message) refl)
   where
     one : (z : Sent) → is_begin_message z.1 ≡ false → NoneBegins (z ∷ [])
     one z h y (inl e) = subst (λ (v : Sent). is_begin_message v.1 ≡ false) e h
@@ -84,17 +84,9 @@ row-begins m x room message = by (is_for_worker message)
     on true e = begins message e
     on false e = plain-begins _ (plain-row m.coordinator room.free.records m.tickets message e).plain
 
-    by : (b : Bool) → NoneBegins (if b then of_worker m (worker_row m.worker (storage_of m x room) m.tickets message) else of_coordinator m (coordinator_row m.coordinator room.free.records m.tickets message)).messages
-    by true = plain-begins _ (worker-plain m.worker (storage_of m x room) m.tickets message)
-    by false = on (is_begin_message message) refl
-
 -- nor does it send about what the message isn't about
 pub row-off : (T : Tid) (m : Memory) (x : StableState) (room : Room) (message : Message) → is_about T message ≡ false → are_off T (server_row m x room message).messages ≡ true
-row-off T m x room message h = by (is_for_worker message)
-  where
-    by : (b : Bool) → are_off T (if b then of_worker m (worker_row m.worker (storage_of m x room) m.tickets message) else of_coordinator m (coordinator_row m.coordinator room.free.records m.tickets message)).messages ≡ true
-    by true = (worker-off T m.worker (storage_of m x room) m.tickets message h).off
-    by false = (coordinator-off T m.coordinator room.free.records m.tickets message h).off
+row-off T m x room message h = row-either (λ row. are_off T row.messages ≡ true) m x room message (worker-off T m.worker (storage_of m x room) m.tickets message h).off (coordinator-off T m.coordinator room.free.records m.tickets message h).off
 
 -- ---- a client in its transaction
 

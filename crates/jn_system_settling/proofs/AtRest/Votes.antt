@@ -1,9 +1,6 @@
 -- The requests that a coordinator keeps, and which of a server's rows speak of requests.
-use Rattle.jn_system_settling.proofs.Common.{◌≡◌, ◌≢◌, ◌⊎◌, inl, inr, ℕ, zero, suc, ◌+◌, Bool, true, false, List, [], ◌∷◌, ◌++◌, length, take, Option, Some, None, true≢false, refl, sym, ◌∙◌, ap, subst, arith, ◌&&◌, not, if◌then◌else◌, nat_lt, nat_eq, slice_get, ClientNo, Tid, WorkId, Tickets, Cause, Op, Answer, tid_eq, tid_tells, change, answer_to, list_change, Intention, Message, Vote, Work, Phase, ActiveWork, Transaction, Stage, Open, Voting, Committed, Aborted, Ballot, Commitment, StableState, FlagState, Change, AddReady, MarkGoing, CarryOut, RemoveWork, AddFlag, DropFlag, made_by, made_all, at_tid, is_going, RowOutcome, Sent, WorkerTable, WorkStorage, Wanted, work_at, work_of, open_row, wants_of, is_fit, refusal_of, granted_row, repeated, op_phase, op_row, conflict, commit_wants, vote_of, shortage, need_in, prepared_row, prepare_phase, prepare_row, commit_phase, work_commit_row, drop_phase, drop_row, worker_row, going_work, going_row, carried_row, intentions_of, worker_step, worker_again, Closes, Empty, Stays, Goes, Waits, Forgets, outcomes-close, close_clients_row, CoordinatorTable, transaction_at, with_stage, all_in, is_work, besides, drops, commits, prepares, commit_row, abort_row, forget_row, end_promised, end_stage, end_row, abort_stage, abort_request, told_stage, inquire_row, counted_vote, vote_stage, vote_row, done_stage, done_row, thanks_stage, thanks_row, with_work, coordinator_row, committed_to, aborted_to, told_again, coordinator_again, restored_transaction, restored_transactions, OperationNo, RequestNo}
+use Rattle.jn_system_settling.proofs.Common.{◌≡◌, ◌≢◌, ◌⊎◌, inl, inr, ℕ, zero, suc, Bool, true, false, List, [], ◌∷◌, ◌++◌, take, Option, Some, None, true≢false, refl, sym, ◌∙◌, ap, subst, arith, ◌&&◌, if◌then◌else◌, ClientNo, Tid, WorkId, Tickets, tid_eq, tid_tells, change, Message, Transaction, Stage, Open, Voting, Committed, Aborted, Ballot, StableState, FlagState, Change, AddReady, MarkGoing, CarryOut, RemoveWork, AddFlag, DropFlag, made_by, made_all, at_tid, RowOutcome, Sent, WorkerTable, WorkStorage, worker_row, worker_step, worker_again, Closes, Empty, Stays, Goes, Waits, Forgets, outcomes-close, close_clients_row, CoordinatorTable, transaction_at, with_stage, besides, drops, commits, prepares, with_work, coordinator_row, committed_to, aborted_to, told_again, coordinator_again, restored_transaction, restored_transactions, RequestNo, Replies, is_open_already, WorkerCase, replies_only, worker-case, WorkerStep, carries_out, worker-step-case, IsListed, Committing, has_no_works, is_last_vote, Saying, says_nothing, says_begun, says_unknown, prepares_again, CoordinatorCase, is_ignored_by, is_left_by, begins_anew, finds_no_room, starts_voting, counts_vote, is_committed_by, is_aborted_by, notes_commit, forgets_commit, forgets_abort, coordinator-case}
 use Rattle.jn_msgs.specs.declared.message.Message.TheVariants as messages
-use Rattle.jn_msgs.specs.declared.message.Vote.TheVariants as votes
-use Rattle.jn_rows.specs.declared.worker.Phase.TheVariants as phases
-use Rattle.jn_system_settling.proofs.Settling.CoordinatorFits.{found-name}
 use Rattle.jn_rows.specs.Coordinator.{without}
 
 -- ---- messages that speak of no request that begins, opens or ends
@@ -40,92 +37,23 @@ plain-prepares T c (W ∷ Ws) = plain-prepares T c Ws
 abbrev Plain : RowOutcome WorkerTable → Type 0
 Plain row = are_plain row.messages ≡ true
 
-choose : (b : Bool) (p q : RowOutcome WorkerTable) → Plain p → Plain q → Plain (if b then p else q)
-choose true p q h l = h
-choose false p q h l = l
-
-open-plain : (t : WorkerTable) (k : Tickets) (c : ClientNo) (request : RequestNo) (T : Tid) (o : Option Work) → Plain (open_row t k c request T o)
-open-plain t k c request T (Some w) = refl
-open-plain t k c request T None = choose (nat_lt (length t) 64) _ _ refl refl
-
-granted-plain : (t : WorkerTable) (k : Tickets) (c : ClientNo) (request : RequestNo) (w : Work) (a : ActiveWork) (op : Op) (answer : Answer) (wants : List Wanted) (o : Option Answer) → Plain (granted_row t k c request w a op answer wants o)
-granted-plain t k c request w a op answer wants (Some refusal) = refl
-granted-plain t k c request w a op answer wants None = refl
-
-repeated-plain : (t : WorkerTable) (k : Tickets) (c : ClientNo) (request : RequestNo) (o : Option Answer) → Plain (repeated t k c request o)
-repeated-plain t k c request (Some answer) = refl
-repeated-plain t k c request None = refl
-
-op-plain : (t : WorkerTable) (x : StableState) (k : Tickets) (c : ClientNo) (request : RequestNo) (w : Work) (number : OperationNo) (op : Op) (p : Phase) → Plain (op_phase t x.files k c request w number op p)
-op-plain t x k c request w number op (phases.Active a) = let answer = answer_to op (change (list_change a.list) x.files) in
-    choose (nat_eq number.0 (a.last + 1)) _ _ (granted-plain t k c request w a op answer (wants_of op (is_fit answer)) (refusal_of t w.name a op answer (wants_of op (is_fit answer))))
-    (choose (nat_eq number.0 a.last) _ _ (repeated-plain t k c request a.kept) refl)
-op-plain t x k c request w number op (phases.Broken u by) = refl
-op-plain t x k c request w number op (phases.Prepared p) = refl
-
-ops-plain : (t : WorkerTable) (x : StableState) (k : Tickets) (c : ClientNo) (request : RequestNo) (W : WorkId) (number : OperationNo) (op : Op) (o : Option Work) → Plain (op_row t x.files k c request W number op o)
-ops-plain t x k c request W number op (Some w) = op-plain t x k c request w number op w.phase
-ops-plain t x k c request W number op None = refl
-
-prepared-plain : (t : WorkerTable) (k : Tickets) (T : Tid) (c : ClientNo) (w : Work) (a : ActiveWork) (vote : Vote) → Plain (prepared_row t k T c w a vote)
-prepared-plain t k T c w a votes.Ready = refl
-prepared-plain t k T c w a _ = refl
-
-prepares-plain : (t : WorkerTable) (s : WorkStorage) (k : Tickets) (T : Tid) (c : ClientNo) (W : WorkId) (o : Option Work) → Plain (prepare_row t s k T c W o)
-prepares-plain t s k T c W None = refl
-prepares-plain t s k T c W (Some w) = by w.phase
-  where
-    by : (p : Phase) → Plain (prepare_phase t s k T c w p)
-    by (phases.Active a) = prepared-plain t k T c w a (vote_of (conflict w.name (commit_wants a.writes) t) (shortage s.free (need_in s.state.files a.list)))
-    by (phases.Broken u held) = refl
-    by (phases.Prepared p) = choose (is_going (s.state.works w.name)) _ _ refl refl
-
-commits-plain : (t : WorkerTable) (s : WorkStorage) (k : Tickets) (T : Tid) (W : WorkId) (o : Option Work) → Plain (work_commit_row t s k T W o)
-commits-plain t s k T W None = refl
-commits-plain t s k T W (Some w) = by w.phase
-  where
-    by : (p : Phase) → Plain (commit_phase t s k W p)
-    by (phases.Active a) = refl
-    by (phases.Broken u held) = refl
-    by (phases.Prepared p) = choose (is_going (s.state.works W)) _ _ refl refl
-
-drops-plain : (t : WorkerTable) (s : WorkStorage) (k : Tickets) (W : WorkId) (o : Option Work) → Plain (drop_row t s k W o)
-drops-plain t s k W None = refl
-drops-plain t s k W (Some w) = by w.phase
-  where
-    by : (p : Phase) → Plain (drop_phase t s k W p)
-    by (phases.Active a) = refl
-    by (phases.Broken u held) = refl
-    by (phases.Prepared p) = choose (is_going (s.state.works W)) _ _ refl refl
-
 pub worker-plain : (t : WorkerTable) (s : WorkStorage) (k : Tickets) (m : Message) → Plain (worker_row t s k m)
-worker-plain t s k (messages.Open c request T) = open-plain t k c request T (work_of T t)
-worker-plain t s k (messages.Op c request W number op) = ops-plain t s.state k c request W number op (work_at W t)
-worker-plain t s k (messages.Prepare T c W) = prepares-plain t s k T c W (work_at W t)
-worker-plain t s k (messages.Commit T W) = commits-plain t s k T W (work_at W t)
-worker-plain t s k (messages.Drop T W) = drops-plain t s k W (work_at W t)
-worker-plain t s k _ = refl
+worker-plain t s k m = by m (worker_row t s k m) (worker-case t s k m)
+  where
+    reply : (m : Message) (x : Sent) → Replies t s k m x → are_plain (x ∷ []) ≡ true
+    reply _ _ (is_open_already c q T w e) = refl
+    reply m x r = refl
+
+    by : (m : Message) (row : RowOutcome WorkerTable) → WorkerCase t s k m row → Plain row
+    by _ _ (replies_only m x r) = reply m x r
+    by m row case = refl
 
 pub step-plain : (t : WorkerTable) (s : WorkStorage) (k : Tickets) (row : RowOutcome WorkerTable) → worker_step t s k ≡ Some row → Plain row
-step-plain t s k row h = by (going_work s.state t) h
+step-plain t s k row h = by row (worker-step-case t s k row h)
   where
-    some : {a b : RowOutcome WorkerTable} → Some a ≡ Some b → a ≡ b
-    some q = cc
-
-    carried : (w : Work) (o : Option Intention) → Plain (carried_row t k w o)
-    carried w (Some i) = refl
-    carried w None = refl
-
-    rest : (b : Bool) → (if b then Some (record { table = t; changes = []; messages = []; notes = []; tickets = k }) else None) ≡ Some row → Plain row
-    rest true q = subst (λ (z : RowOutcome WorkerTable). Plain z) (some q) refl
-    rest false q = absurd (none q)
-      where
-        none : None ≡ Some row → ⊥
-        none z = cc
-
-    by : (o : Option Work) → going_row t s k o ≡ Some row → Plain row
-    by (Some w) q = subst (λ (z : RowOutcome WorkerTable). Plain z) (some q) (carried w (slice_get (intentions_of (s.state.works w.name)) (s.next w.name)))
-    by None q = rest s.rubbish q
+    by : (row : RowOutcome WorkerTable) → WorkerStep t s k row → Plain row
+    by _ (carries_out w i e f) = refl
+    by row step = refl
 
 -- ---- what is sent again
 
@@ -239,108 +167,8 @@ pub record RowVotes (P : Asker) (t : CoordinatorTable) (row : RowOutcome Coordin
   pub flags : FlagsOf P row.changes
   pub plain : are_plain row.messages ≡ true
 
-module _ (P : Asker) (t : CoordinatorTable) (k : Tickets) (h : Votings P t.transactions) where
-  either : (b : Bool) (p q : RowOutcome CoordinatorTable) → RowVotes P t p → RowVotes P t q → RowVotes P t (if b then p else q)
-  either true p q a b = a
-  either false p q a b = b
-
-  still : (row : RowOutcome CoordinatorTable) → row.table ≡ t → row.changes ≡ [] → are_plain row.messages ≡ true → RowVotes P t row
-  still row same none plain = record { table = subst (λ (z : CoordinatorTable). Votings P z.transactions) (sym same) h; seen = ap (λ (z : CoordinatorTable). z.seen) same; flags = subst (λ cs. FlagsOf P cs) (sym none) tt; plain = plain }
-
-  staged : (T : Tid) (s : Stage) (sent : List Sent) → ((y : Transaction) → transaction_at T t.transactions ≡ Some y → VoteOf P y.client s) → are_plain sent ≡ true
-      → RowVotes P t (record { table = record t { transactions = with_stage T s t.transactions }; changes = []; messages = sent; notes = []; tickets = k })
-  staged T s sent mine plain = record { table = staged-votings P T s t.transactions mine h; seen = refl; flags = tt; plain = plain }
-
-  commit-votes : (y : Transaction) (request : RequestNo) (works : List WorkId) → P y.client request → RowVotes P t (commit_row t k y request works)
-  commit-votes y request works p = record { table = staged-votings P y.tid _ t.transactions (λ z e. tt) h; seen = refl; flags = (p, tt); plain = plain-both (commits y.tid works) (committed_to y ∷ []) (plain-commits y.tid works) refl }
-
-  abort-votes : (y : Transaction) (cause : Cause) (works : List WorkId) → RowVotes P t (abort_row t k y cause works)
-  abort-votes y cause works = staged y.tid (Aborted cause) _ (λ z e. tt) (plain-both (drops y.tid works) (aborted_to y cause ∷ []) (plain-drops y.tid works) refl)
-
-  forget-votes : (T : Tid) (d : Commitment) → RowVotes P t (forget_row t k T d)
-  forget-votes T d = either (d.thanked && all_in d.works d.done) _ _ (record { table = without-votings P T t.transactions h; seen = refl; flags = (tt, tt); plain = refl }) (staged T (Committed d) [] (λ z e. tt) refl)
-
-  pub close-votes : RowVotes P t (close_clients_row t k)
-  close-votes = record { table = closes-votings P (outcomes-close t.transactions) h; seen = refl; flags = closes-flags-of P (outcomes-close t.transactions); plain = refl }
-
-  told-votes : (T : Tid) (W : WorkId) (s : Stage) → RowVotes P t (told_stage t k T W s)
-  told-votes T W (Committed d) = either (is_work W d.works && not (is_work W d.done)) _ _ (still _ refl refl refl) (still _ refl refl refl)
-  told-votes T W (Aborted cause) = still _ refl refl refl
-  told-votes T W Open = still _ refl refl refl
-  told-votes T W (Voting b) = still _ refl refl refl
-
-  module _ (T : Tid) (y : Transaction) (found : transaction_at T t.transactions ≡ Some y) where
-    -- what its own name finds has its client
-    same-client : (s : Stage) → VoteOf P y.client s → (z : Transaction) → transaction_at y.tid t.transactions ≡ Some z → VoteOf P z.client s
-    same-client s v z e = subst (λ (a : Transaction). VoteOf P a.client s) (some (sym (subst (λ (U : Tid). transaction_at U t.transactions ≡ Some y) (sym (found-name T t.transactions y found)) found) ∙ e)) v
-      where
-        some : Some y ≡ Some z → y ≡ z
-        some q = cc
-
-    promised-votes : (request : RequestNo) (works : List WorkId) → P y.client request → RowVotes P t (end_promised t k y request works)
-    promised-votes request [] p = commit-votes y request [] p
-    promised-votes request (W ∷ Ws) p = staged y.tid (Voting (record { request = request; works = W ∷ Ws; ready = [] })) _ (same-client (Voting (record { request = request; works = W ∷ Ws; ready = [] })) p) (plain-prepares y.tid y.client (W ∷ Ws))
-
-    end-votes : (free : ℕ) (request : RequestNo) (works : List WorkId) (s : Stage) → P y.client request → RowVotes P t (end_stage t free k y request works s)
-    end-votes free request works Open p = either (nat_lt free 1) _ _ (abort-votes y _ works) (promised-votes request works p)
-    end-votes free request works (Voting b) p = still _ refl refl (plain-prepares y.tid y.client (besides b.works b.ready))
-    end-votes free request works (Committed d) p = still _ refl refl refl
-    end-votes free request works (Aborted cause) p = still _ refl refl refl
-
-    abort-stage-votes : (works : List WorkId) (s : Stage) → RowVotes P t (abort_stage t k y works s)
-    abort-stage-votes works Open = abort-votes y _ works
-    abort-stage-votes works (Voting b) = abort-votes y _ _
-    abort-stage-votes works (Committed d) = still _ refl refl refl
-    abort-stage-votes works (Aborted cause) = still _ refl refl refl
-
-    counted-votes : (b : Ballot) (W : WorkId) (vote : Vote) → P y.client b.request → RowVotes P t (counted_vote t k y b W vote)
-    counted-votes b W votes.Ready p = either (all_in b.works (with_work W b.ready)) _ _ (commit-votes y b.request b.works p) (staged y.tid (Voting (record b { ready = with_work W b.ready })) [] (same-client (Voting (record b { ready = with_work W b.ready })) p) refl)
-    counted-votes b W (votes.Waiting u held) p = either (is_work W b.ready) _ _ (still _ refl refl refl) (still _ refl refl refl)
-    counted-votes b W (votes.Lost n m) p = abort-votes y _ _
-    counted-votes b W (votes.Broken u held) p = abort-votes y _ _
-    counted-votes b W (votes.Full n m l) p = abort-votes y _ _
-
-    vote-votes : (W : WorkId) (vote : Vote) (s : Stage) → VoteOf P y.client s → RowVotes P t (vote_stage t k y W vote s)
-    vote-votes W vote Open v = still _ refl refl refl
-    vote-votes W vote (Voting b) v = either (is_work W b.works) _ _ (counted-votes b W vote v) (still _ refl refl refl)
-    vote-votes W vote (Committed d) v = told-votes y.tid W (Committed d)
-    vote-votes W vote (Aborted cause) v = told-votes y.tid W (Aborted cause)
-
-  ends-votes : (free : ℕ) (c : ClientNo) (request : RequestNo) (T : Tid) (works : List WorkId) (o : Option Transaction) → transaction_at T t.transactions ≡ o → ((y : Transaction) → o ≡ Some y → P y.client request) → RowVotes P t (end_row t free k c request T works o)
-  ends-votes free c request T works (Some y) e p = end-votes T y e free request works y.stage (p y refl)
-  ends-votes free c request T works None e p = still _ refl refl (plain-drops T works)
-
-  aborts-votes : (c : ClientNo) (T : Tid) (works : List WorkId) (o : Option Transaction) → transaction_at T t.transactions ≡ o → RowVotes P t (abort_request t k c T works o)
-  aborts-votes c T works (Some y) e = abort-stage-votes T y e works y.stage
-  aborts-votes c T works None e = still _ refl refl (plain-drops T works)
-
-  votes-votes : (T : Tid) (W : WorkId) (vote : Vote) (o : Option Transaction) → transaction_at T t.transactions ≡ o → RowVotes P t (vote_row t k T W vote o)
-  votes-votes T W vote (Some y) e = vote-votes T y e W vote y.stage (found-vote P T t.transactions y h e)
-  votes-votes T W vote None e = still _ refl refl refl
-
-  inquires-votes : (T : Tid) (W : WorkId) (o : Option Transaction) → RowVotes P t (inquire_row t k T W o)
-  inquires-votes T W (Some y) = told-votes T W y.stage
-  inquires-votes T W None = still _ refl refl refl
-
-  dones-votes : (T : Tid) (W : WorkId) (o : Option Transaction) → RowVotes P t (done_row t k T W o)
-  dones-votes T W None = still _ refl refl refl
-  dones-votes T W (Some y) = by y.stage
-    where
-      by : (s : Stage) → RowVotes P t (done_stage t k T W s)
-      by (Committed d) = either (is_work W d.works && not (is_work W d.done)) _ _ (forget-votes T (record d { done = d.done ++ W ∷ [] })) (still _ refl refl refl)
-      by Open = still _ refl refl refl
-      by (Voting b) = still _ refl refl refl
-      by (Aborted cause) = still _ refl refl refl
-
-  all-thanks-votes : (T : Tid) (o : Option Transaction) → RowVotes P t (thanks_row t k T o)
-  all-thanks-votes T None = still _ refl refl refl
-  all-thanks-votes T (Some y) = by y.stage
-    where
-      by : (s : Stage) → RowVotes P t (thanks_stage t k T s)
-      by (Committed d) = either d.thanked _ _ (still _ refl refl refl) (forget-votes T (record d { thanked = true }))
-      by (Aborted cause) = record { table = without-votings P T t.transactions h; seen = refl; flags = tt; plain = refl }
-      by Open = still _ refl refl refl
-      by (Voting b) = still _ refl refl refl
+pub close-votes : (P : Asker) (t : CoordinatorTable) (k : Tickets) → Votings P t.transactions → RowVotes P t (close_clients_row t k)
+close-votes P t k h = record { table = closes-votings P (outcomes-close t.transactions) h; seen = refl; flags = closes-flags-of P (outcomes-close t.transactions); plain = refl }
 
 -- what an End says of its request
 abbrev pub EndOf : Asker → CoordinatorTable → Message → Type 0
@@ -351,15 +179,63 @@ abbrev pub is_begin_message : Message → Bool
 is_begin_message (messages.Begin c q) = true
 is_begin_message m = false
 
+module _ (P : Asker) (t : CoordinatorTable) (free : ℕ) (k : Tickets) (h : Votings P t.transactions) where
+  -- what its own name finds has its client
+  same-client : (y : Transaction) → IsListed t y → (s : Stage) → VoteOf P y.client s → (z : Transaction) → transaction_at y.tid t.transactions ≡ Some z → VoteOf P z.client s
+  same-client y found s v z e = subst (λ (a : Transaction). VoteOf P a.client s) (some (sym found ∙ e)) v
+    where
+      some : Some y ≡ Some z → y ≡ z
+      some q = cc
+
+  its-vote : (y : Transaction) → IsListed t y → (b : Ballot) → y.stage ≡ Voting b → P y.client b.request
+  its-vote y found b e = subst (λ (s : Stage). VoteOf P y.client s) e (found-vote P y.tid t.transactions y h found)
+
+  commit-asked : (m : Message) (y : Transaction) (q : RequestNo) (works : List WorkId) → IsListed t y → EndOf P t m → Committing free y m q works → P y.client q
+  commit-asked _ y _ _ found asked (has_no_works c q e room) = asked y found
+  commit-asked _ y _ _ found asked (is_last_vote W b e is all) = its-vote y found b e
+
+  says-plain : (m : Message) (sent : List Sent) → is_begin_message m ≡ false → Saying t k m sent → are_plain sent ≡ true
+  says-plain _ _ other (says_nothing m W y asks found) = refl
+  says-plain _ _ other (says_begun c q y same e) = absurd (true≢false other)
+  says-plain _ _ other (says_unknown m c T works ends none) = plain-drops T works
+  says-plain _ _ other (prepares_again c q works y b found e) = plain-prepares y.tid y.client (besides b.works b.ready)
+  says-plain _ _ other _ = refl
+
+  votes-case : (m : Message) (row : RowOutcome CoordinatorTable) → EndOf P t m → is_begin_message m ≡ false → CoordinatorCase t free k m row → RowVotes P t row
+  votes-case _ _ asked other (is_ignored_by m) = record { table = h; seen = refl; flags = tt; plain = refl }
+  votes-case _ _ asked other (is_left_by m sent says) = record { table = h; seen = refl; flags = tt; plain = says-plain m sent other says }
+  votes-case _ _ asked other (begins_anew c q later room) = absurd (true≢false other)
+  votes-case _ _ asked other (finds_no_room c q later full) = absurd (true≢false other)
+  votes-case _ _ asked other (starts_voting c q W Ws y found e room) = record {
+    table = staged-votings P y.tid _ t.transactions (same-client y found (Voting (record { request = q; works = W ∷ Ws; ready = [] })) (asked y found)) h;
+    seen = refl;
+    flags = tt;
+    plain = plain-prepares y.tid y.client (W ∷ Ws);
+  }
+  votes-case _ _ asked other (counts_vote W y b found e is waits) = record {
+    table = staged-votings P y.tid _ t.transactions (same-client y found (Voting (record b { ready = with_work W b.ready })) (its-vote y found b e)) h;
+    seen = refl;
+    flags = tt;
+    plain = refl;
+  }
+  votes-case _ _ asked other (is_committed_by m y q works found why) = record {
+    table = staged-votings P y.tid _ t.transactions (λ z e. tt) h;
+    seen = refl;
+    flags = (commit-asked m y q works found asked why, tt);
+    plain = plain-both (commits y.tid works) (committed_to y ∷ []) (plain-commits y.tid works) refl;
+  }
+  votes-case _ _ asked other (is_aborted_by m y cause works found why) = record {
+    table = staged-votings P y.tid (Aborted cause) t.transactions (λ z e. tt) h;
+    seen = refl;
+    flags = tt;
+    plain = plain-both (drops y.tid works) (aborted_to y cause ∷ []) (plain-drops y.tid works) refl;
+  }
+  votes-case _ _ asked other (notes_commit m y d found notes waits) = record { table = staged-votings P y.tid (Committed d) t.transactions (λ z e. tt) h; seen = refl; flags = tt; plain = refl }
+  votes-case _ _ asked other (forgets_commit m y d found notes through) = record { table = without-votings P y.tid t.transactions h; seen = refl; flags = (tt, tt); plain = refl }
+  votes-case _ _ asked other (forgets_abort c y cause found e) = record { table = without-votings P y.tid t.transactions h; seen = refl; flags = tt; plain = refl }
+
 pub coordinator-votes : (P : Asker) (t : CoordinatorTable) (free : ℕ) (k : Tickets) (m : Message) → Votings P t.transactions → EndOf P t m → is_begin_message m ≡ false → RowVotes P t (coordinator_row t free k m)
-coordinator-votes P t free k (messages.Begin c request) h e b = absurd (true≢false b)
-coordinator-votes P t free k (messages.End c request T works) h e b = ends-votes P t k h free c request T works (transaction_at T t.transactions) refl e
-coordinator-votes P t free k (messages.Abort c request T works) h e b = aborts-votes P t k h c T works (transaction_at T t.transactions) refl
-coordinator-votes P t free k (messages.Thanks c T) h e b = all-thanks-votes P t k h T (transaction_at T t.transactions)
-coordinator-votes P t free k (messages.Vote T W vote) h e b = votes-votes P t k h T W vote (transaction_at T t.transactions) refl
-coordinator-votes P t free k (messages.Done T W) h e b = dones-votes P t k h T W (transaction_at T t.transactions)
-coordinator-votes P t free k (messages.Inquire T W) h e b = inquires-votes P t k h T W (transaction_at T t.transactions)
-coordinator-votes P t free k _ h e b = still P t k h _ refl refl refl
+coordinator-votes P t free k m h asked other = votes-case P t free k h m _ asked other (coordinator-case t free k m)
 
 -- ---- changes and restarts
 

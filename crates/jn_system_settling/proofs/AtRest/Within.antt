@@ -1,5 +1,5 @@
 -- Whatever is named is at one of so many servers, and each message to a server is for one of these.
-use Rattle.jn_system_settling.proofs.Common.{◌≡◌, ◌≤◌, ◌<◌, ℕ, zero, suc, ◌+◌, Bool, true, false, List, [], ◌∷◌, ◌++◌, take, Option, Some, None, true≢false, refl, sym, ◌∙◌, ap, subst, arith, if◌then◌else◌, slice_get, ◌&&◌, not, nat_lt, nat_eq, length, nat_tests, ServerNo, ClientNo, Tid, WorkId, Tickets, Cause, Party, Client, Server, Op, Answer, Command, client_eq, tid_tells, work_tells, AllFiles, change, answer_to, list_change, Intention, Message, Vote, Outstanding, Taken, WorkEntry, Phase, Transaction, Stage, Open, Voting, Committed, Aborted, StableState, Prepared, FlagState, Pick, Change, AddReady, MarkGoing, RemoveWork, made_by, made_all, stable, RowOutcome, Sent, ClientTable, Commanded, Refuses, Sends, command_row, take_row, if_waits, is_current, opens, opened_row, sent_again, WorkerTable, WorkStorage, Wanted, work_at, work_of, with_phase, without, after_grant, wants_of, is_fit, refusal_of, granted_row, repeated, op_phase, op_row, prepare_phase, prepare_row, commit_phase, drop_phase, drop_row, worker_row, going_work, going_row, carried_row, intentions_of, worker_step, worker_again, timed_out, restored_worker, CoordinatorTable, transaction_at, is_work, all_in, besides, drops, commits, prepares, end_stage, end_row, abort_stage, abort_request, told_stage, inquire_row, with_work, counted_vote, vote_stage, vote_row, begin_again, begun_by, after_closing, coordinator_row, commit_row, abort_row, told_again, coordinator_again, close_clients_row, with_epoch, World, Memory, new_memory, opening, Room, storage_of, server_row, server_step, of_worker, of_coordinator, of_step, of_timeout, server_timeout, is_for_worker, restored, Step, IsStep, after, works, sent_now, LockFacts, are_of_flags, coordinator-aside, close-aside, are_near, is_few, IsSmall, is_small, is_small_stage, are_small_stages, Sizes, openings, request_eq, OperationNo, RequestNo, Text, ClientRow, by_command, by_ignoring, by_answering, by_telling, ServerRow, of_message, of_work, of_closing, Quiet, event_begins, none_changes, is_refused, client_repeats, server_repeats, is_lost, StepCase, client_row, row_done, row_stopped, gone_late, gone_down, come_up, found_anew, dismissed, quietly, step-case, one-client, some-memory, memory-now, memory-gone, found-now, found-then}
+use Rattle.jn_system_settling.proofs.Common.{◌≡◌, ◌≤◌, ◌<◌, ℕ, zero, suc, ◌+◌, Bool, true, false, List, [], ◌∷◌, ◌++◌, take, Option, Some, None, true≢false, refl, sym, ◌∙◌, ap, subst, arith, if◌then◌else◌, slice_get, ◌&&◌, not, nat_lt, nat_eq, length, nat_tests, ServerNo, ClientNo, Tid, WorkId, Tickets, Cause, Party, Client, Server, Op, Answer, Command, client_eq, tid_tells, work_tells, AllFiles, change, answer_to, list_change, Intention, Message, Vote, Outstanding, Taken, WorkEntry, Phase, Transaction, Stage, Open, Voting, Committed, Aborted, StableState, Prepared, FlagState, Pick, Change, AddReady, MarkGoing, RemoveWork, made_by, made_all, stable, RowOutcome, Sent, ClientTable, Commanded, Refuses, Sends, command_row, take_row, if_waits, is_current, opens, opened_row, sent_again, WorkerTable, WorkStorage, Wanted, work_at, work_of, with_phase, without, after_grant, wants_of, is_fit, refusal_of, granted_row, repeated, op_phase, op_row, prepare_phase, prepare_row, commit_phase, drop_phase, drop_row, worker_row, going_work, going_row, carried_row, intentions_of, worker_step, worker_again, timed_out, restored_worker, CoordinatorTable, transaction_at, is_work, all_in, besides, drops, commits, prepares, end_stage, end_row, abort_stage, abort_request, told_stage, inquire_row, with_work, counted_vote, vote_stage, vote_row, begin_again, begun_by, after_closing, coordinator_row, commit_row, abort_row, told_again, coordinator_again, close_clients_row, with_epoch, World, Memory, new_memory, opening, Room, storage_of, server_row, of_timeout, server_timeout, restored, Step, IsStep, after, works, sent_now, LockFacts, are_of_flags, coordinator-aside, close-aside, are_near, is_few, IsSmall, is_small, is_small_stage, are_small_stages, Sizes, openings, request_eq, OperationNo, RequestNo, Text, ClientRow, by_command, by_ignoring, by_answering, by_telling, ServerRow, of_message, of_work, of_closing, Quiet, event_begins, none_changes, is_refused, client_repeats, server_repeats, is_lost, StepCase, client_row, row_done, row_stopped, gone_late, gone_down, come_up, found_anew, dismissed, quietly, step-case, one-client, some-memory, memory-now, memory-gone, found-now, found-then, row-either, row-of-step, holds-of}
 use Rattle.jn_base.specs.declared.op.Command.TheVariants as commands
 use Rattle.jn_msgs.specs.declared.message.Message.TheVariants as messages
 use Rattle.jn_msgs.specs.declared.message.Vote.TheVariants as votes
@@ -8,7 +8,7 @@ use Rattle.jn_rows.specs.declared.client.Taken.TheVariants as taken
 use Rattle.jn_rows.specs.declared.worker.Phase.TheVariants as phases
 use Rattle.jn_rows.specs.Worker as worker
 use Rattle.jn_system_settling.proofs.Settling.ClientFits.{sent_with}
-use Rattle.jn_system_settling.proofs.Settling.WorldSizes.{holds-of, up-sizes, up-locks}
+use Rattle.jn_system_settling.proofs.Settling.WorldSizes.{up-sizes, up-locks}
 use Rattle.jn_system_settling.proofs.AtRest.Owners.{Owner, owner_in, all_owned, grown, owned-found}
 use Rattle.jn_system_settling.proofs.AtRest.OwnerSteps.{AreOwned, step-keeps-owned}
 
@@ -405,7 +405,11 @@ module _ (n : ℕ) (at_most : n ≤ 8) (w : World) (sizes : Sizes n w) (locks : 
   MemoryNear row = IsNear n row.table.worker row.changes row.messages
 
   row-near : (s : ServerNo) (m : Memory) (room : Room) (k : ℕ) (message : Message) → w.memory s ≡ Some m → slice_get w.sent k ≡ Some (Server s, message) → MemoryNear (server_row m (stable (w.found s)) room message)
-  row-near s m room k message up e = by (is_for_worker message)
+  row-near s m room k message up e = row-either MemoryNear m (stable (w.found s)) room message (worker-near n m.worker (storage_of m (stable (w.found s)) room) m.tickets (h.works s m up) message mine here) (record {
+    table = h.works s m up;
+    changes_are = let a = coordinator-aside m.coordinator room.free.records m.tickets message in flags-near n (coordinator_row m.coordinator room.free.records m.tickets message).changes a.flags;
+    sent_are = let z = up-sizes n at_most w sizes locks s m up in coordinator-inside n m.coordinator room.free.records m.tickets mine (tids-near s m up) z.stages message here (holds-of (IsSmall n) w.sent k (Server s, message) sizes.sent e);
+  })
     where
       here : is_named n message ≡ true
       here = named-of n (Server s, message) (inside-at n w.sent k (Server s, message) h.sent e)
@@ -413,27 +417,9 @@ module _ (n : ℕ) (at_most : n ≤ 8) (w : World) (sizes : Sizes n w) (locks : 
       mine : nat_lt m.tickets.server.0 n ≡ true
       mine = let f = up-locks n at_most w sizes locks s m up in ap (λ (q : ServerNo). nat_lt q.0 n) f.server ∙ within-of n (Server s, message) (inside-at n w.sent k (Server s, message) h.sent e)
 
-      by : (b : Bool) → MemoryNear (if b then of_worker m (worker_row m.worker (storage_of m (stable (w.found s)) room) m.tickets message) else of_coordinator m (coordinator_row m.coordinator room.free.records m.tickets message))
-      by true = worker-near n m.worker (storage_of m (stable (w.found s)) room) m.tickets (h.works s m up) message mine here
-      by false = record {
-        table = h.works s m up;
-        changes_are = let a = coordinator-aside m.coordinator room.free.records m.tickets message in flags-near n (coordinator_row m.coordinator room.free.records m.tickets message).changes a.flags;
-        sent_are = let z = up-sizes n at_most w sizes locks s m up in coordinator-inside n m.coordinator room.free.records m.tickets mine (tids-near s m up) z.stages message here (holds-of (IsSmall n) w.sent k (Server s, message) sizes.sent e);
-      }
-
-  work-step-near : (s : ServerNo) (m : Memory) (room : Room) (row : RowOutcome Memory) → w.memory s ≡ Some m → server_step m (stable (w.found s)) room ≡ Some row → MemoryNear row
-  work-step-near s m room row up e = by (worker_step m.worker (storage_of m (stable (w.found s)) room) m.tickets) refl e
-    where
-      some : (a b : RowOutcome Memory) → Some a ≡ Some b → a ≡ b
-      some a b q = cc
-
-      by : (o : Option (RowOutcome WorkerTable)) → worker_step m.worker (storage_of m (stable (w.found s)) room) m.tickets ≡ o → of_step m o ≡ Some row → MemoryNear row
-      by None f q = absurd (cc q)
-      by (Some r) f q = subst MemoryNear (some (of_worker m r) row q) (step-near n m.worker (storage_of m (stable (w.found s)) room) m.tickets (h.works s m up) r f)
-
   row-of : (s : ServerNo) (m : Memory) (stop : Option (Pick → ℕ)) (step : Step) (k : Option ℕ) (row : RowOutcome Memory) → w.memory s ≡ Some m → ServerRow w s m stop step k row → MemoryNear row
   row-of s m _ _ _ _ up (of_message stop k room message is) = row-near s m room k message up is
-  row-of s m _ _ _ _ up (of_work stop room row is) = work-step-near s m room row up is
+  row-of s m _ _ _ _ up (of_work stop room row is) = row-of-step MemoryNear m (stable (w.found s)) room row is (step-near n m.worker (storage_of m (stable (w.found s)) room) m.tickets (h.works s m up))
   row-of s m _ _ _ _ up of_closing = record {
     table = h.works s m up;
     changes_are = let a = close-aside m.coordinator m.tickets in flags-near n (close_clients_row m.coordinator m.tickets).changes a.flags;

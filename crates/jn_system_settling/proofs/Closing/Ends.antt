@@ -1,5 +1,5 @@
 -- The end of a run, and the settle after it.
-use Rattle.jn_system_settling.proofs.Common.{◌≡◌, ◌≢◌, ◌⊎◌, inl, inr, ◌≤◌, ◌<◌, ℕ, zero, suc, ◌+◌, Bool, true, false, List, [], ◌∷◌, ◌++◌, append-nil, Option, Some, None, is_some, true≢false, refl, sym, ◌∙◌, ap, subst, arith, if◌then◌else◌, ◌&&◌, ◌||◌, nat_lt, nat_eq, map, list_any, nat_tests, ServerNo, ClientNo, Tid, WorkId, server_eq, server_tells, AllFiles, Transaction, Stage, Open, Voting, Committed, Aborted, Commitment, StableState, Prepared, FlagState, Pick, stable, is_ready, is_going, Sent, WorkerTable, work_at, restored_work, restored_worker, is_work, all_in, thanked, all_thanked, restored_transaction, restored_transactions, close_clients_row, run_atoms, opening_world, AreTransactions, none_unless, none_of, false_unless, some_of, clash, World, Memory, opening, servers_from, restored, of_coordinator, Step, Again, Nudge, Crash, Narrow, Restart, Dismiss, CloseClients, IsStep, IsRun, run, after, nudge, crash, narrow, restart, close_clients, UpFact, Course, still_waiting, opening_course, go, go_on, Chance, clients_from, until_rest, ask_again, settled, committed_at, NothingGoes, Ends, AreUp, Reached, next-reached, opening-reached, invariant}
+use Rattle.jn_system_settling.proofs.Common.{◌≡◌, ◌≢◌, ◌⊎◌, inl, inr, ◌≤◌, ◌<◌, ℕ, zero, suc, ◌+◌, Bool, true, false, List, [], ◌∷◌, ◌++◌, append-nil, Option, Some, None, is_some, true≢false, refl, sym, ◌∙◌, ap, subst, arith, if◌then◌else◌, ◌&&◌, ◌||◌, nat_lt, nat_eq, map, list_any, nat_tests, ServerNo, ClientNo, Tid, WorkId, server_eq, server_tells, AllFiles, Transaction, Stage, Open, Voting, Committed, Aborted, Commitment, StableState, Prepared, FlagState, Pick, stable, is_ready, is_going, Sent, WorkerTable, work_at, restored_work, restored_worker, is_work, all_in, thanked, all_thanked, restored_transaction, restored_transactions, close_clients_row, run_atoms, opening_world, AreTransactions, none_unless, none_of, false_unless, some_of, clash, World, Memory, opening, servers_from, restored, of_coordinator, Step, Again, Nudge, Crash, Narrow, Restart, Dismiss, CloseClients, IsStep, IsRun, run, after, nudge, crash, restart, close_clients, UpFact, Course, still_waiting, opening_course, go, go_on, Chance, clients_from, until_rest, ask_again, settled, committed_at, NothingGoes, Ends, AreUp, Reached, next-reached, opening-reached, invariant, some-memory, one-server, none-memory}
 use Rattle.jn_system.proofs.WholeSystem.Closes.{is_committed}
 use Rattle.jn_system_order.specs.Ordering.Runs.{IsInOrder}
 use Rattle.jn_system_order.proofs.Ordering.Runs.{moves-in-order}
@@ -26,13 +26,10 @@ abbrev IfUp : (Memory → Type 0) → Option Memory → Type 0
 IfUp P o = (m : Memory) → o ≡ Some m → P m
 
 if-some : (P : Memory → Type 0) (m : Memory) → P m → IfUp P (Some m)
-if-some P m h a e = subst P (some e) h
-  where
-    some : Some m ≡ Some a → m ≡ a
-    some q = cc
+if-some P m h a e = subst P (some-memory m a e) h
 
 if-none : (P : Memory → Type 0) → IfUp P None
-if-none P m e = absurd (cc e)
+if-none P m e = absurd (none-memory m e)
 
 works-restored : (x : StableState) (Ws : List WorkId) → are_prepared (restored_worker x Ws) ≡ true
 works-restored x [] = refl
@@ -120,26 +117,10 @@ is_of_end step = false
 
 end-sends : (step : Step) (w : World) → is_of_end step ≡ true → (after step w).sent ≡ w.sent ++ []
 end-sends Dismiss w h = sym (append-nil w.sent)
-end-sends (Crash s) w h = by (w.memory s)
-  where
-    by : (o : Option Memory) → (crash s o w).sent ≡ w.sent ++ []
-    by None = sym (append-nil w.sent)
-    by (Some m) = sym (append-nil w.sent)
-end-sends (Narrow s g) w h = by (w.memory s)
-  where
-    by : (o : Option Memory) → (narrow s g o w).sent ≡ w.sent ++ []
-    by None = sym (append-nil w.sent)
-    by (Some m) = sym (append-nil w.sent)
-end-sends (Restart s pick Ws Ts) w h = by (w.memory s)
-  where
-    by : (o : Option Memory) → (restart s pick Ws Ts o w).sent ≡ w.sent ++ []
-    by None = sym (append-nil w.sent)
-    by (Some m) = sym (append-nil w.sent)
-end-sends (CloseClients s) w h = by (w.memory s)
-  where
-    by : (o : Option Memory) → (close_clients s o w).sent ≡ w.sent ++ []
-    by None = sym (append-nil w.sent)
-    by (Some m) = refl
+end-sends (Crash s) w h = grind (arith, append-nil w.sent)
+end-sends (Narrow s g) w h = grind (arith, append-nil w.sent)
+end-sends (Restart s pick Ws Ts) w h = grind (arith, append-nil w.sent)
+end-sends (CloseClients s) w h = grind (arith, append-nil w.sent)
 end-sends step w h = absurd (true≢false (sym h))
 
 end-waits : (step : Step) → is_of_end step ≡ true → still_waiting step [] ≡ []
@@ -155,48 +136,41 @@ end-idle step w h idle c = absurd (true≢false (sym h))
 
 -- what is true of a server's memory after a crash, a restart, and the thanks
 crash-memory : (q s : ServerNo) (w : World) (P : Memory → Type 0) → (server_eq s q ≡ true) ⊎ IfUp P (w.memory s) → IfUp P ((after (Crash q) w).memory s)
-crash-memory q s w P h = by (w.memory q) refl (server_tells q s) h
+crash-memory q s w P h = by (w.memory q) refl h
   where
-    by : (o : Option Memory) → w.memory q ≡ o → ((server_eq q s ≡ true) × (q ≡ s)) ⊎ ((server_eq q s ≡ false) × (q ≢ s)) → (server_eq s q ≡ true) ⊎ IfUp P (w.memory s) → IfUp P ((crash q o w).memory s)
-    by None e (inl t) h = subst (λ o. IfUp P o) (sym (ap w.memory (sym t.1) ∙ e)) (if-none P)
-    by (Some m) e (inl t) h = subst (λ (b : Bool). IfUp P (if b then None else w.memory s)) (sym t.0) (if-none P)
-    by o e (inr t) (inl k) = absurd (t.1 (sym (eq (server_tells s q))))
-      where
-        eq : ((server_eq s q ≡ true) × (s ≡ q)) ⊎ ((server_eq s q ≡ false) × (s ≢ q)) → s ≡ q
-        eq (inl z) = z.1
-        eq (inr z) = absurd (true≢false (sym k ∙ z.0))
-    by None e (inr t) (inr k) = k
-    by (Some m) e (inr t) (inr k) = subst (λ (b : Bool). IfUp P (if b then None else w.memory s)) (sym t.0) k
+    same : server_eq s q ≡ true → q ≡ s
+    same k = grind (arith, server_tells s q, k)
+
+    by : (o : Option Memory) → w.memory q ≡ o → (server_eq s q ≡ true) ⊎ IfUp P (w.memory s) → IfUp P ((crash q o w).memory s)
+    by None e (inl k) = subst (λ o. IfUp P o) (sym e ∙ ap w.memory (same k)) (if-none P)
+    by None e (inr k) = k
+    by (Some m) e (inl k) = one-server (λ z o. q ≡ z → IfUp P o) w.memory q None (λ t. if-none P) (λ z other t. absurd (other t)) s (same k)
+    by (Some m) e (inr k) = one-server (λ z o. IfUp P (w.memory z) → IfUp P o) w.memory q None (λ k. if-none P) (λ z other k. k) s k
 
 narrow-memory : (q s : ServerNo) (g : Pick → Pick) (w : World) → (after (Narrow q g) w).memory s ≡ w.memory s
-narrow-memory q s g w = by (w.memory q)
-  where
-    by : (o : Option Memory) → (narrow q g o w).memory s ≡ w.memory s
-    by None = refl
-    by (Some m) = refl
+narrow-memory q s g w = grind arith
 
 restart-memory : (q s : ServerNo) (pick : Pick) (Ws : List WorkId) (Ts : List Tid) (w : World) → IfUp Fresh (w.memory s) → IfUp Fresh ((after (Restart q pick Ws Ts) w).memory s)
 restart-memory q s pick Ws Ts w h = by (w.memory q)
   where
-    on : (b : Bool) → IfUp Fresh (if b then Some (restored q (w.found q pick) Ws Ts) else w.memory s)
-    on true = if-some Fresh (restored q (w.found q pick) Ws Ts) (record { works = works-restored (w.found q pick) Ws; transactions = transactions-restored (w.found q pick) Ts })
-    on false = h
+    now : IfUp Fresh (Some (restored q (w.found q pick) Ws Ts))
+    now = if-some Fresh _ (record { works = works-restored (w.found q pick) Ws; transactions = transactions-restored (w.found q pick) Ts })
 
     by : (o : Option Memory) → IfUp Fresh ((restart q pick Ws Ts o w).memory s)
-    by None = on (server_eq q s)
+    by None = one-server (λ z o. IfUp Fresh (w.memory z) → IfUp Fresh o) w.memory q (Some (restored q (w.found q pick) Ws Ts)) (λ k. now) (λ z other k. k) s h
     by (Some m) = h
 
 abbrev Closing : ServerNo → List ServerNo → World → Type 0
 Closing s servers w = IfUp Kept (w.memory s) ⊎ (IfUp Fresh (w.memory s) × (list_any (server_eq s) servers ≡ true))
 
 close-memory : (q s : ServerNo) (servers : List ServerNo) (w : World) → Closing s (q ∷ servers) w → Closing s servers (after (CloseClients q) w)
-close-memory q s servers w h = by (w.memory q) refl (server_tells q s) h
+close-memory q s servers w h = by (w.memory q) refl
   where
     now : Memory → Memory
     now m = (of_coordinator m (close_clients_row m.coordinator m.tickets)).table
 
-    kept : (m : Memory) → w.memory q ≡ Some m → q ≡ s → Closing s (q ∷ servers) w → Kept (now m)
-    kept m e t (inl k) = let a = k m (ap w.memory (sym t) ∙ e) in record { works = a.works; transactions = thanked-all m.coordinator.transactions (thanked-committed m.coordinator.transactions a.transactions) }
+    kept : (m : Memory) → w.memory q ≡ Some m → Closing q (q ∷ servers) w → Kept (now m)
+    kept m e (inl k) = let a = k m e in record { works = a.works; transactions = thanked-all m.coordinator.transactions (thanked-committed m.coordinator.transactions a.transactions) }
       where
         one : (st : Stage) → is_thanked st ≡ true → is_committed st ≡ true
         one (Committed d) h = refl
@@ -207,15 +181,19 @@ close-memory q s servers w h = by (w.memory q) refl (server_tells q s) h
         thanked-committed : (xs : List Transaction) → are_all is_thanked xs ≡ true → are_all is_committed xs ≡ true
         thanked-committed [] h = refl
         thanked-committed (x ∷ xs) h = let here = one x.stage (grind (arith, h)) in let again = thanked-committed xs (grind (arith, h)) in grind (arith, here, again)
-    kept m e t (inr k) = let a = k.0 m (ap w.memory (sym t) ∙ e) in record { works = a.works; transactions = thanked-all m.coordinator.transactions a.transactions }
+    kept m e (inr k) = let a = k.0 m e in record { works = a.works; transactions = thanked-all m.coordinator.transactions a.transactions }
 
-    by : (o : Option Memory) → w.memory q ≡ o → ((server_eq q s ≡ true) × (q ≡ s)) ⊎ ((server_eq q s ≡ false) × (q ≢ s)) → Closing s (q ∷ servers) w → Closing s servers (close_clients q o w)
-    by None e (inl t) h = inl (subst (λ o. IfUp Kept o) (sym (ap w.memory (sym t.1) ∙ e)) (if-none Kept))
-    by (Some m) e (inl t) h = inl (subst (λ (b : Bool). IfUp Kept (if b then Some (now m) else w.memory s)) (sym t.0) (if-some Kept (now m) (kept m e t.1 h)))
-    by None e (inr t) (inl k) = inl k
-    by None e (inr t) (inr k) = inr (k.0, (let z = k.1 in let y = t.0 in grind (arith, nat_tests, z, y)))
-    by (Some m) e (inr t) (inl k) = inl (subst (λ (b : Bool). IfUp Kept (if b then Some (now m) else w.memory s)) (sym t.0) k)
-    by (Some m) e (inr t) (inr k) = inr (subst (λ (b : Bool). IfUp Fresh (if b then Some (now m) else w.memory s)) (sym t.0) k.0, (let z = k.1 in let y = t.0 in grind (arith, nat_tests, z, y)))
+    later : (z : ServerNo) → q ≢ z → Closing z (q ∷ servers) w → Closing z servers w
+    later z other (inl k) = inl k
+    later z other (inr k) = inr (k.0, (let y = k.1 in grind (arith, server_tells z q, other, y)))
+
+    by : (o : Option Memory) → w.memory q ≡ o → Closing s servers (close_clients q o w)
+    by None e = at (server_tells q s)
+      where
+        at : ((server_eq q s ≡ true) × (q ≡ s)) ⊎ ((server_eq q s ≡ false) × (q ≢ s)) → Closing s servers w
+        at (inl t) = inl (subst (λ o. IfUp Kept o) (sym e ∙ ap w.memory t.1) (if-none Kept))
+        at (inr t) = later s t.1 h
+    by (Some m) e = one-server (λ z o. Closing z (q ∷ servers) w → IfUp Kept o ⊎ (IfUp Fresh o × (list_any (server_eq z) servers ≡ true))) w.memory q (Some (now m)) (λ k. inl (if-some Kept (now m) (kept m e k))) later s h
 
 module _ (n : ℕ) (at_most : n ≤ 8) (start : World) (files : AllFiles) (epochs : ServerNo → ℕ) where
   -- what every step keeps

@@ -1,10 +1,9 @@
 -- A settle after the end, where all of so many servers are up in the end: its steps keep what holds, and none is stopped.
-use Rattle.jn_system_settling.proofs.Common.{◌≡◌, ◌≢◌, ◌⊎◌, inl, inr, ◌≤◌, ◌<◌, ℕ, zero, suc, ◌+◌, Bool, true, false, List, [], ◌∷◌, ◌++◌, length, Option, Some, None, is_some, true≢false, refl, sym, ◌∙◌, ap, subst, arith, if◌then◌else◌, slice_get, ◌&&◌, not, map, nat_eq, list_any, nat_tests, ServerNo, ClientNo, Tid, WorkId, Party, Client, Server, server_eq, tid_eq, work_eq, server_tells, tid_tells, work_tells, AllFiles, Message, Work, Transaction, Stage, Open, Voting, Committed, Aborted, StableState, Prepared, Pick, stable, is_ready, is_going, RowOutcome, Sent, sent_again, WorkerTable, work_at, worker_again, transaction_at, is_work, besides, commits_of, told_again, coordinator_again, committed_to, run_atoms, opening_world, some_of, World, Memory, servers_from, Room, server_row, server_again, Step, Again, Deliver, WorkStep, Nudge, StopDelivery, StopWork, IsStep, after, at_memory, handed, done, nudge, sent_now, IsTrue, IsAddressed, Course, numbered, still_waiting, without_number, go, go_on, Chance, first_busy, next_step, onward, until_rest, ask_again, AreUp, next-reached}
+use Rattle.jn_system_settling.proofs.Common.{◌≡◌, ◌≢◌, ◌⊎◌, inl, inr, ◌≤◌, ◌<◌, ℕ, zero, suc, ◌+◌, Bool, true, false, List, [], ◌∷◌, ◌++◌, length, Option, Some, None, is_some, true≢false, refl, sym, ◌∙◌, ap, subst, arith, if◌then◌else◌, slice_get, ◌&&◌, not, map, nat_eq, list_any, nat_tests, ServerNo, ClientNo, Tid, WorkId, Party, Client, Server, server_eq, tid_eq, work_eq, server_tells, tid_tells, work_tells, AllFiles, Message, Work, Transaction, Stage, Open, Voting, Committed, Aborted, StableState, Prepared, Pick, stable, is_ready, is_going, RowOutcome, Sent, sent_again, WorkerTable, work_at, worker_again, transaction_at, is_work, besides, commits_of, told_again, coordinator_again, committed_to, run_atoms, opening_world, some_of, World, Memory, servers_from, Room, server_row, server_again, Step, Again, Deliver, WorkStep, Nudge, StopDelivery, StopWork, IsStep, after, at_memory, handed, done, nudge, sent_now, IsTrue, IsAddressed, Course, numbered, still_waiting, without_number, go, go_on, Chance, first_busy, next_step, onward, until_rest, ask_again, AreUp, next-reached, some-memory, holds-of}
 use Rattle.jn_msgs.specs.declared.message.Message.TheVariants as messages
 use Rattle.jn_system_settling.proofs.Settling.Burdens.{are_below, busy-within, busy-is}
 use Rattle.jn_system_settling.proofs.Settling.Courses.{go-sound, waiting-is}
 use Rattle.jn_system_settling.proofs.Settling.Parts.{Busy, busy-has, get-some, next_intention, row_of, works-as}
-use Rattle.jn_system_settling.proofs.Settling.WorldSizes.{holds-of}
 use Rattle.jn_system_settling.proofs.AtRest.Within.{to-near, within-step}
 use Rattle.jn_system_settling.proofs.AtRest.Requests.{has-new}
 use Rattle.jn_system_settling.proofs.AtRest.Ways.{Has, Waits, still-waits, now-waits, rest-down, any-without}
@@ -272,12 +271,9 @@ module _ (n : ℕ) (at_most : n ≤ 8) (start : World) (files : AllFiles) (epoch
   nudge-asks d s m up h = record {
     ready = λ W e r. ready W e (sym (ap (λ (z : World). is_ready (stored z W)) (nudge-now d s m up)) ∙ r);
     needed = λ T W e need. told (now-waits n at_most start d (Nudge s) _ _ sent (has-new _ (worker_again (stable (d.world.found s)) m.worker) _ (told-has T W m.coordinator.transactions
-        (subst (λ (z : Memory). needs z.coordinator.transactions T W ≡ true) (same need.memory (sym (ap (λ (z : World). z.memory T.server) (nudge-now d s m up) ∙ ap d.world.memory e ∙ up) ∙ need.up)) need.is))));
+        (subst (λ (z : Memory). needs z.coordinator.transactions T W ≡ true) (some-memory need.memory m (sym need.up ∙ ap (λ (z : World). z.memory T.server) (nudge-now d s m up) ∙ ap d.world.memory e ∙ up)) need.is))));
   }
     where
-      same : (a : Memory) → Some m ≡ Some a → a ≡ m
-      same a e = cc
-
       sent : (after (Nudge s) d.world).sent ≡ d.world.sent ++ server_again m (stable (d.world.found s))
       sent = ap (λ (z : World). z.sent) (nudge-now d s m up)
 

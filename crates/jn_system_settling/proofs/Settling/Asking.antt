@@ -3,7 +3,8 @@ use Rattle.jn_system_settling.proofs.Common.{◌≡◌, ◌≤◌, ℕ, zero, su
 use Rattle.jn_msgs.specs.declared.message.Message.TheVariants as messages
 use Rattle.jn_system_settling.proofs.Settling.CoordinatorFits.{weigh-commits, weigh-all-more, besides-few, few-of}
 use Rattle.jn_system_settling.proofs.Settling.WorldSizes.{weighs, up-sizes}
-use Rattle.jn_system_settling.proofs.Settling.Burdens.{Leads, are_below, weighs-some}
+use Rattle.jn_system_settling.proofs.Settling.Burdens.{Leads, are_below}
+use Rattle.jn_system_settling.proofs.Settling.WorkerFits.{weighs-some}
 use Rattle.jn_system_settling.proofs.Settling.Courses.{Sound, IsBalanced, go-sound, go-balance, burden-after, deliveries-more}
 use Rattle.jn_system_settling.proofs.Settling.Parts.{get-some, part-bounded}
 

@@ -1,9 +1,9 @@
 -- What a step does to the weight of what waits and goes.
-use Rattle.jn_system_settling.proofs.Common.{◌≡◌, ◌≢◌, ◌⊎◌, inl, inr, ◌≤◌, ◌<◌, ℕ, zero, suc, ◌+◌, Bool, true, false, List, [], ◌∷◌, ◌++◌, length, length-append, append-nil, append_assoc, take, Option, Some, None, refl, sym, ap, subst, arith, if◌then◌else◌, slice_get, nat_lt, ◌&&◌, nat_tests, ServerNo, ClientNo, Client, Server, server_eq, server_tells, Message, Taken, Pick, stable, made_all, RowOutcome, Sent, ClientTable, take_row, World, Memory, servers_from, Room, server_row, server_step, ends, done, stopped, at_memory, handed, works, took, sent_now, LockFacts, is_busy, first_busy, weight, weight_at, weigh_all, weigh, goings_at, sum_over, going_works, numbered, Sizes, IsSmall}
-use Rattle.jn_msgs.specs.declared.message.Message.TheVariants as messages
+use Rattle.jn_system_settling.proofs.Common.{◌≡◌, ◌≢◌, ◌⊎◌, inl, inr, ◌≤◌, ◌<◌, ℕ, zero, suc, ◌+◌, Bool, true, false, List, [], ◌∷◌, ◌++◌, length, length-append, append-nil, append_assoc, take, Option, Some, None, refl, sym, ap, subst, arith, if◌then◌else◌, slice_get, nat_lt, ◌&&◌, nat_tests, ServerNo, ClientNo, Client, Server, server_eq, server_tells, Taken, Pick, stable, made_all, RowOutcome, Sent, ClientTable, take_row, World, Memory, servers_from, Room, server_row, server_step, ends, done, stopped, at_memory, handed, took, sent_now, LockFacts, is_busy, first_busy, weight, weight_at, weigh_all, weigh, goings_at, sum_over, going_works, numbered, Sizes, IsSmall, holds-of}
 use Rattle.jn_rows.specs.declared.client.Taken.TheVariants as taken
 use Rattle.jn_system_settling.proofs.Settling.SizeSteps.{RowSizes}
-use Rattle.jn_system_settling.proofs.Settling.WorldSizes.{holds-of, row-at, step-at}
+use Rattle.jn_system_settling.proofs.Settling.WorldSizes.{row-at, step-at}
+use Rattle.jn_system_settling.proofs.Settling.WorkerFits.{weighs-some}
 use Rattle.jn_system_settling.proofs.Settling.ClientFits.{sent_with, take-light}
 
 -- ---- what waits
@@ -86,19 +86,6 @@ pub record Leads (n : ℕ) (w now : World) (less weight_of : ℕ) : Type 0 where
 -- what goes at one server in a world where another's memory and stable states have changed
 abbrev goings_in : World → ServerNo → ℕ
 goings_in w q = goings_at (stable (w.found q)) (w.memory q)
-
-pub weighs-some : (m : Message) → 1 ≤ weight m
-weighs-some (messages.End c request T works) = omega arith
-weighs-some (messages.Abort c request T works) = omega arith
-weighs-some (messages.Prepare T c W) = omega arith
-weighs-some (messages.Vote T W vote) = omega arith
-weighs-some (messages.Inquire T W) = omega arith
-weighs-some (messages.Begin c request) = omega arith
-weighs-some (messages.Open c request T) = omega arith
-weighs-some (messages.Op c request W number op) = omega arith
-weighs-some (messages.Outcome c T outcome) = omega arith
-weighs-some (messages.Commit T W) = omega arith
-weighs-some m = omega arith
 
 module _ (n : ℕ) (at_most : n ≤ 8) (w : World) (sizes : Sizes n w) (locks : LockFacts w) where
   module _ (s : ServerNo) (m : Memory) (up : w.memory s ≡ Some m) where

@@ -1,5 +1,5 @@
 -- What holds of the sizes of a server's tables and of what it has stored, after each of its steps.
-use Rattle.jn_system_settling.proofs.Common.{◌≡◌, ◌≢◌, ◌⊎◌, inl, inr, ◌≤◌, ℕ, zero, suc, ◌+◌, Bool, true, false, List, [], ◌∷◌, ◌++◌, length, take, Option, Some, None, true≢false, refl, sym, ◌∙◌, ap, subst, arith, if◌then◌else◌, is_some, map, list_any, list_all, IsDistinct, AllByRecursion, nat_tests, ServerNo, Tid, WorkId, tid_eq, work_eq, tid_tells, work_before, Message, Work, Transaction, StableState, Prepared, FlagState, Change, AddReady, MarkGoing, CarryOut, RemoveWork, AddFlag, DropFlag, made_by, made_all, at_tid, RowOutcome, WorkerTable, work_at, worker_row, worker_step, restored_work, restored_worker, CoordinatorTable, coordinator_row, close_clients_row, restored_transaction, restored_transactions, not-before, Memory, Room, storage_of, of_worker, of_coordinator, of_step, server_row, server_step, is_for_worker, restored, AreNames, tid_before, TableFact, worker-keeps, step-keeps, coordinator-aside, close-aside, are_of_flags, flags-keep, flags-all, weight, weigh_all, goings, goings_at, is_few, is_small, are_small_stages, committed_at, AreFlagsOf, AreSmallFlags, AreAtMost64, StoredSizes, TableSizes}
+use Rattle.jn_system_settling.proofs.Common.{◌≡◌, ◌≢◌, ◌⊎◌, inl, inr, ◌≤◌, ℕ, zero, suc, ◌+◌, Bool, true, false, List, [], ◌∷◌, ◌++◌, length, take, Option, Some, None, true≢false, refl, sym, ◌∙◌, ap, subst, arith, is_some, map, list_any, list_all, IsDistinct, AllByRecursion, nat_tests, ServerNo, Tid, WorkId, tid_eq, work_eq, tid_tells, work_before, Message, Work, Transaction, StableState, Prepared, FlagState, Change, AddReady, MarkGoing, CarryOut, RemoveWork, AddFlag, DropFlag, made_by, made_all, at_tid, RowOutcome, WorkerTable, work_at, worker_row, restored_work, restored_worker, CoordinatorTable, coordinator_row, close_clients_row, restored_transaction, restored_transactions, not-before, Memory, Room, storage_of, of_worker, of_coordinator, server_row, server_step, restored, AreNames, tid_before, TableFact, worker-keeps, step-keeps, coordinator-aside, close-aside, are_of_flags, flags-keep, flags-all, weight, weigh_all, goings, goings_at, is_few, is_small, are_small_stages, committed_at, AreFlagsOf, AreSmallFlags, AreAtMost64, StoredSizes, TableSizes, row-either, row-of-step}
 use Rattle.std.specs.Cmp.{IsEquivalence}
 use Rattle.std.proofs.lemmas.Map.Made.{length-le_from_is_member}
 use Rattle.jn_system.specs.WholeSystem.Steps.{are_rising}
@@ -164,27 +164,19 @@ module _ (n : ℕ) (at_most : n ≤ 8) (m : Memory) (x : StableState) (sizes : T
   }
 
   pub row-sizes : (room : Room) (message : Message) → is_small n message ≡ true → RowSizes n m x (weight message) 1 (weight message) (server_row m x room message)
-  row-sizes room message small = by (is_for_worker message)
-    where
-      by : (b : Bool) → RowSizes n m x (weight message) 1 (weight message) (if b then of_worker m (worker_row m.worker (storage_of m x room) m.tickets message) else of_coordinator m (coordinator_row m.coordinator room.free.records m.tickets message))
-      by true = let fits = worker-fits (storage_of m x room) m.tickets m.worker message table sizes.works in
-          of-worker (weight message) 1 (weight message) (worker_row m.worker (storage_of m x room) m.tickets message) (worker-keeps (storage_of m x room) m.tickets m.worker table message) fits.few fits.flags fits.sent fits.goes
-      by false = of-coordinator (weight message) (coordinator_row m.coordinator room.free.records m.tickets message) (coordinator-aside m.coordinator room.free.records m.tickets message).flags
-          (coordinator-fits n at_most x m.coordinator m.tickets sizes.transactions sizes.stages sizes.flags room.free.records message small)
+  row-sizes room message small = row-either (RowSizes n m x (weight message) 1 (weight message)) m x room message
+      (let fits = worker-fits (storage_of m x room) m.tickets m.worker message table sizes.works in
+      of-worker (weight message) 1 (weight message) (worker_row m.worker (storage_of m x room) m.tickets message) (worker-keeps (storage_of m x room) m.tickets m.worker table message) fits.few fits.flags fits.sent fits.goes)
+      (of-coordinator (weight message) (coordinator_row m.coordinator room.free.records m.tickets message) (coordinator-aside m.coordinator room.free.records m.tickets message).flags
+      (coordinator-fits n at_most x m.coordinator m.tickets sizes.transactions sizes.stages sizes.flags room.free.records message small))
 
   pub close-sizes : RowSizes n m x 1 1 1 (of_coordinator m (close_clients_row m.coordinator m.tickets))
   close-sizes = of-coordinator 1 (close_clients_row m.coordinator m.tickets) (close-aside m.coordinator m.tickets).flags (close-fits n at_most x m.coordinator m.tickets sizes.transactions sizes.stages sizes.flags)
 
   pub step-sizes : (room : Room) (row : RowOutcome Memory) → server_step m x room ≡ Some row → RowSizes n m x 2 0 0 row
-  step-sizes room row h = by (worker_step m.worker (storage_of m x room) m.tickets) refl h
-    where
-      some : (a b : RowOutcome Memory) → Some a ≡ Some b → a ≡ b
-      some a b e = cc
-
-      by : (o : Option (RowOutcome WorkerTable)) → worker_step m.worker (storage_of m x room) m.tickets ≡ o → of_step m o ≡ Some row → RowSizes n m x 2 0 0 row
-      by None e q = absurd (grind arith)
-      by (Some r) e q = let fits = step-fits (storage_of m x room) m.tickets m.worker r sizes.works e in subst (λ (z : RowOutcome Memory). RowSizes n m x 2 0 0 z) (some (of_worker m r) row q)
-          (of-worker 2 0 0 r (step-keeps (storage_of m x room) m.tickets m.worker table r e) fits.few fits.flags (let l = fits.sent in omega (arith, l)) (let g = fits.goes in omega (arith, g)))
+  step-sizes room row h = row-of-step (RowSizes n m x 2 0 0) m x room row h
+      (λ r e. let fits = step-fits (storage_of m x room) m.tickets m.worker r sizes.works e in
+      of-worker 2 0 0 r (step-keeps (storage_of m x room) m.tickets m.worker table r e) fits.few fits.flags (let l = fits.sent in omega (arith, l)) (let g = fits.goes in omega (arith, g)))
 
 -- ---- a restart
 

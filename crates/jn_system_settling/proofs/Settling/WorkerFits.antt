@@ -1,9 +1,8 @@
 -- What a worker's row sends and sets going weighs less than the message, and its table stays small.
-use Rattle.jn_system_settling.proofs.Common.{◌≡◌, ◌≤◌, ℕ, ◌+◌, Bool, true, false, List, [], ◌∷◌, ◌++◌, length, length-append, Option, Some, None, true≢false, refl, sym, ◌∙◌, ap, subst, arith, ◌&&◌, if◌then◌else◌, nat_lt, nat_eq, slice_get, is_some, nat_tests, ClientNo, Tid, WorkId, LockUnit, Tickets, Party, Client, Op, Answer, work_tells, change, answer_to, list_change, Intention, Message, Vote, Work, Phase, Active, Broken, Stored, ActiveWork, StableState, Prepared, Change, RemoveWork, AddFlag, DropFlag, made_all, is_going, at_work, gone_on, ready_work, RowOutcome, sends, WorkerTable, WorkStorage, Wanted, work_at, work_of, with_phase, without, after_grant, broken_by, breaks_at, new_work, open_row, wants_of, is_fit, refusal_of, granted_row, repeated, op_phase, op_row, conflict, commit_wants, vote_of, shortage, need_in, prepared_row, prepare_phase, prepare_row, commit_phase, drop_phase, drop_row, worker_row, going_work, intentions_of, carried_row, going_row, worker_step, is_before, are_rising, none-front, TableFact, going-is, weight, weigh_all, goings, OperationNo, RequestNo}
+use Rattle.jn_system_settling.proofs.Common.{◌≡◌, ◌≤◌, ℕ, ◌+◌, Bool, true, false, List, [], ◌∷◌, ◌++◌, length, length-append, Option, Some, None, true≢false, refl, sym, ◌∙◌, ap, arith, ◌&&◌, if◌then◌else◌, is_some, nat_tests, Tid, WorkId, LockUnit, Tickets, work_tells, change, Message, Work, Phase, Stored, StableState, Prepared, Change, AddFlag, DropFlag, made_all, is_going, at_work, gone_on, ready_work, RowOutcome, WorkerTable, WorkStorage, Wanted, with_phase, without, after_grant, broken_by, breaks_at, new_work, commit_wants, worker_row, going_work, worker_step, is_before, are_rising, none-front, TableFact, going-is, weight, weigh_all, goings, Sent, its_wants, Replies, is_open_already, WorkerCase, none_done, replies_only, opens_anew, refuses_next, performs_next, prepares_it, marks_it, drops_it, removes_it, worker-case, WorkerStep, is_over, worker-step-case}
 use Rattle.jn_locks.proofs.Orders.{work_before-irreflexive}
 use Rattle.jn_msgs.specs.declared.message.Message.TheVariants as messages
-use Rattle.jn_msgs.specs.declared.message.Vote.TheVariants as votes
-use Rattle.jn_rows.specs.Worker.{name_from, commit_row}
+use Rattle.jn_rows.specs.Worker.{name_from}
 
 abbrev Stable : Type 0
 Stable = WorkId → Option Prepared
@@ -34,6 +33,13 @@ goings-more : (stored : Stable) (t : WorkerTable) (w : Work) → is_going (store
 goings-more stored [] w h = grind arith
 goings-more stored (v ∷ vs) w h = let again = goings-more stored vs w h in grind arith
 
+-- what is put in a work's place doesn't go
+goings-at : (stored : Stable) (W : WorkId) (o : Option Prepared) (t : WorkerTable) → is_going o ≡ false → goings (at_work stored W o) t ≤ goings stored t
+goings-at stored W o t idle = goings-less (at_work stored W o) stored t on
+  where
+    on : (V : WorkId) → is_going (at_work stored W o V) ≡ true → is_going (stored V) ≡ true
+    on V g = grind (arith, idle)
+
 -- a work that stands once
 goings-behind : (stored : Stable) (W : WorkId) (p : Option Prepared) (t : WorkerTable) → is_before W t ≡ true → goings (at_work stored W p) t ≡ goings stored t
 goings-behind stored W p [] h = refl
@@ -48,11 +54,8 @@ goings-over : (x : StableState) (t : WorkerTable) (w : Work) → going_work x t 
 goings-over x [] w h = absurd (cc h)
 goings-over x (v ∷ vs) w h = by (is_going (x.works v.name)) refl h (goings-over x vs w)
   where
-    gone : (V : WorkId) → is_going (at_work x.works w.name None V) ≡ true → is_going (x.works V) ≡ true
-    gone V g = grind arith
-
     less : goings (at_work x.works w.name None) vs ≤ goings x.works vs
-    less = goings-less (at_work x.works w.name None) x.works vs gone
+    less = goings-at x.works w.name None vs refl
 
     some : Some v ≡ Some w → v ≡ w
     some q = cc
@@ -61,9 +64,14 @@ goings-over x (v ∷ vs) w h = by (is_going (x.works v.name)) refl h (goings-ove
         → (going_work x vs ≡ Some w → goings (at_work x.works w.name None) (without w.name vs) + 1 ≤ goings x.works vs)
         → goings (at_work x.works w.name None) (without w.name (v ∷ vs)) + 1 ≤ goings x.works (v ∷ vs)
     by true g e again = let tells = work_tells v.name w.name in let is = some e in grind (arith, less)
-    by false g e again = let on = again e in let tells = work_tells v.name w.name in let n = gone v.name in let going = going-is x vs w e in grind (arith, less)
+    by false g e again = let on = again e in let tells = work_tells v.name w.name in let going = going-is x vs w e in grind (arith, less)
 
 -- ---- rows
+
+-- each message weighs something
+pub weighs-some : (m : Message) → 1 ≤ weight m
+weighs-some (messages.End c request T works) = omega arith
+weighs-some m = omega arith
 
 abbrev pub keeps_flags : Change → Bool
 keeps_flags (AddFlag flag) = false
@@ -92,13 +100,12 @@ length-without : (W : WorkId) (t : WorkerTable) → length (without W t) ≤ len
 length-without W [] = omega arith
 length-without W (w ∷ ws) = let again = length-without W ws in grind arith
 
-module _ (x : StableState) (t : WorkerTable) (few : length t ≤ 64) where
-  either : {n : ℕ} (b : Bool) (r q : RowOutcome WorkerTable) → WorkerFits x t n r → WorkerFits x t n q → WorkerFits x t n (if b then r else q)
-  either true r q h l = h
-  either false r q h l = l
+module _ (s : WorkStorage) (k : Tickets) (t : WorkerTable) (few : length t ≤ 64) where
+  abbrev Fits : ℕ → RowOutcome WorkerTable → Type 0
+  Fits n row = WorkerFits s.state t n row
 
   -- nothing stable changes, and the works are the same but for their phases
-  still : (n : ℕ) (row : RowOutcome WorkerTable) → row.changes ≡ [] → length row.table ≡ length t → goings x.works row.table ≡ goings x.works t → weigh_all row.messages + 1 ≤ n → WorkerFits x t n row
+  still : (n : ℕ) (row : RowOutcome WorkerTable) → row.changes ≡ [] → length row.table ≡ length t → goings s.state.works row.table ≡ goings s.state.works t → weigh_all row.messages + 1 ≤ n → Fits n row
   still n row none same goes light = record {
     few = omega (arith, same, few);
     flags = rw none refl;
@@ -106,146 +113,49 @@ module _ (x : StableState) (t : WorkerTable) (few : length t ≤ 64) where
     goes = rw none (omega (arith, goes, light));
   }
 
-  -- one reply
-  reply : (n : ℕ) (k : Tickets) (to : Party) (m : Message) (p : weight m + 1 ≤ n) → WorkerFits x t n (record { table = t; changes = []; messages = (to, m) ∷ []; notes = []; tickets = k })
-  reply n k to m p = still n _ refl refl refl (omega (arith, p))
+  -- a reply weighs less than what it answers
+  light : (m : Message) (x : Sent) → Replies t s k m x → weight x.1 + 1 ≤ weight m
+  light _ _ (is_open_already c q T w e) = omega arith
+  light m x reply = omega arith
 
-  open-fits : (k : Tickets) (c : ClientNo) (request : RequestNo) (T : Tid) (o : Option Work) → TableFact t k x.works → WorkerFits x t 2 (open_row t k c request T o)
-  open-fits k c request T (Some w) fact = reply 2 k _ _ (omega arith)
-  open-fits k c request T None fact = by (nat_lt (length t) 64) refl
+  -- the next name is stored nowhere
+  new-idle : TableFact t k s.state.works → is_going (s.state.works (name_from k)) ≡ false
+  new-idle fact = by (s.state.works (name_from k)) refl
     where
-      idle : is_going (x.works (name_from k)) ≡ false
-      idle = by (x.works (name_from k)) refl
-        where
-          by : (o : Option Prepared) → x.works (name_from k) ≡ o → is_going o ≡ false
-          by None e = refl
-          by (Some p) e = absurd (nowhere (fact.live (name_from k) (ap is_some e)))
-            where
-              nowhere : is_some (work_at (name_from k) t) ≡ true → ⊥
-              nowhere h = true≢false (sym h ∙ ap is_some (none-front (name_from k) t fact.before))
+      by : (o : Option Prepared) → s.state.works (name_from k) ≡ o → is_going o ≡ false
+      by None e = refl
+      by (Some p) e = absurd (true≢false (sym (fact.live (name_from k) (ap is_some e)) ∙ ap is_some (none-front (name_from k) t fact.before)))
 
-      by : (b : Bool) → nat_lt (length t) 64 ≡ b → WorkerFits x t 2 (if b then sends (t ++ new_work (name_from k) T ∷ []) (record k { next = k.next + 1 }) ((Client c, messages.Opened c request T (Some (name_from k))) ∷ []) else sends t k ((Client c, messages.Opened c request T None) ∷ []))
-      by true e = record {
-        few = let more = length-append t (new_work (name_from k) T ∷ []) in grind (arith, nat_tests, e);
-        flags = refl;
-        sent = omega arith;
-        goes = let more = goings-more x.works t (new_work (name_from k) T) idle in omega (arith, more);
-      }
-      by false e = reply 2 k _ _ (omega arith)
-
-  -- ---- operations
-
-  granted-fits : (k : Tickets) (c : ClientNo) (request : RequestNo) (w : Work) (a : ActiveWork) (op : Op) (answer : Answer) (wants : List Wanted) (o : Option Answer) → WorkerFits x t 2 (granted_row t k c request w a op answer wants o)
-  granted-fits k c request w a op answer wants (Some refusal) = still 2 _ refl (length-phase w.name _ t) (goings-phase x.works w.name _ t) (omega arith)
-  granted-fits k c request w a op answer wants None = still 2 _ refl (length-phase w.name _ _ ∙ length-grant w.tid w.name wants t)
-      (goings-phase x.works w.name _ (after_grant w.tid w.name wants t) ∙ goings-grant x.works w.tid w.name wants t) (omega arith)
-
-  repeated-fits : (k : Tickets) (c : ClientNo) (request : RequestNo) (o : Option Answer) → WorkerFits x t 2 (repeated t k c request o)
-  repeated-fits k c request (Some answer) = reply 2 k _ _ (omega arith)
-  repeated-fits k c request None = still 2 _ refl refl refl (omega arith)
-
-  op-fits : (k : Tickets) (c : ClientNo) (request : RequestNo) (w : Work) (number : OperationNo) (op : Op) (p : Phase) → WorkerFits x t 2 (op_phase t x.files k c request w number op p)
-  op-fits k c request w number op (Active a) = let answer = answer_to op (change (list_change a.list) x.files) in
-      either (nat_eq number.0 (a.last + 1)) _ _ (granted-fits k c request w a op answer (wants_of op (is_fit answer)) (refusal_of t w.name a op answer (wants_of op (is_fit answer))))
-      (either (nat_eq number.0 a.last) _ _ (repeated-fits k c request a.kept) (still 2 _ refl refl refl (omega arith)))
-  op-fits k c request w number op (Broken u by) = reply 2 k _ _ (omega arith)
-  op-fits k c request w number op (Stored p) = reply 2 k _ _ (omega arith)
-
-  ops-fit : (k : Tickets) (c : ClientNo) (request : RequestNo) (W : WorkId) (number : OperationNo) (op : Op) (o : Option Work) → WorkerFits x t 2 (op_row t x.files k c request W number op o)
-  ops-fit k c request W number op (Some w) = op-fits k c request w number op w.phase
-  ops-fit k c request W number op None = reply 2 k _ _ (omega arith)
-
-  -- ---- prepares
-
-  prepared-fits : (k : Tickets) (T : Tid) (c : ClientNo) (w : Work) (a : ActiveWork) (vote : Vote) → WorkerFits x t 20 (prepared_row t k T c w a vote)
-  prepared-fits k T c w a votes.Ready = record {
-    few = let one = length-phase w.name (Stored (record { reads = a.reads; writes = a.writes })) (after_grant w.tid w.name (commit_wants a.writes) t) in let two = length-grant w.tid w.name (commit_wants a.writes) t in omega (arith, one, two, few);
+  fits : TableFact t k s.state.works → (m : Message) (row : RowOutcome WorkerTable) → WorkerCase t s k m row → Fits (weight m) row
+  fits fact _ _ (none_done m) = let some = weighs-some m in still _ _ refl refl refl (omega (arith, some))
+  fits fact _ _ (replies_only m x reply) = let less = light m x reply in still _ _ refl refl refl (omega (arith, less))
+  fits fact _ _ (opens_anew c q T e room) = record {
+    few = let more = length-append t (new_work (name_from k) T ∷ []) in grind (arith, nat_tests, room);
     flags = refl;
     sent = omega arith;
-    goes = let one = goings-phase (at_work x.works w.name (Some (ready_work (record { work = w.name; tid = w.tid; client = c }) a.list a.reads))) w.name (Stored (record { reads = a.reads; writes = a.writes })) (after_grant w.tid w.name (commit_wants a.writes) t) in
-        let two = goings-grant (at_work x.works w.name (Some (ready_work (record { work = w.name; tid = w.tid; client = c }) a.list a.reads))) w.tid w.name (commit_wants a.writes) t in
-        let less = goings-less (at_work x.works w.name (Some (ready_work (record { work = w.name; tid = w.tid; client = c }) a.list a.reads))) x.works t ready in omega (arith, one, two, less);
+    goes = let more = goings-more s.state.works t (new_work (name_from k) T) (new-idle fact) in omega (arith, more);
   }
-    where
-      ready : (V : WorkId) → is_going (at_work x.works w.name (Some (ready_work (record { work = w.name; tid = w.tid; client = c }) a.list a.reads)) V) ≡ true → is_going (x.works V) ≡ true
-      ready V g = grind arith
-  prepared-fits k T c w a (votes.Waiting u by) = reply 20 k _ _ (omega arith)
-  prepared-fits k T c w a (votes.Broken u by) = reply 20 k _ _ (omega arith)
-  prepared-fits k T c w a (votes.Lost n m) = reply 20 k _ _ (omega arith)
-  prepared-fits k T c w a (votes.Full n m l) = reply 20 k _ _ (omega arith)
-
-  prepare-fits : (s : WorkStorage) (k : Tickets) (T : Tid) (c : ClientNo) (w : Work) (p : Phase) → WorkerFits x t 20 (prepare_phase t s k T c w p)
-  prepare-fits s k T c w (Active a) = prepared-fits k T c w a (vote_of (conflict w.name (commit_wants a.writes) t) (shortage s.free (need_in s.state.files a.list)))
-  prepare-fits s k T c w (Broken u by) = reply 20 k _ _ (omega arith)
-  prepare-fits s k T c w (Stored p) = either (is_going (s.state.works w.name)) _ _ (still 20 _ refl refl refl (omega arith)) (reply 20 k _ _ (omega arith))
-
-  prepares-fit : (s : WorkStorage) (k : Tickets) (T : Tid) (c : ClientNo) (W : WorkId) (o : Option Work) → WorkerFits x t 20 (prepare_row t s k T c W o)
-  prepares-fit s k T c W (Some w) = prepare-fits s k T c w w.phase
-  prepares-fit s k T c W None = reply 20 k _ _ (omega arith)
-
-  -- ---- commits and drops
-
-  removed-fits : (k : Tickets) (W : WorkId) → WorkerFits x t 1 (record { table = without W t; changes = RemoveWork W ∷ []; messages = []; notes = []; tickets = k })
-  removed-fits k W = record {
+  fits fact _ _ (refuses_next c q W n op w a refusal e f l r) = still 2 _ refl (length-phase w.name _ t) (goings-phase s.state.works w.name _ t) (omega arith)
+  fits fact _ _ (performs_next c q W n op w a e f l r) = let wants = its_wants s a op in still 2 _ refl (length-phase w.name _ _ ∙ length-grant w.tid w.name wants t)
+      (goings-phase s.state.works w.name _ (after_grant w.tid w.name wants t) ∙ goings-grant s.state.works w.tid w.name wants t) (omega arith)
+  fits fact _ _ (prepares_it T c W w a e f v) = let wants = commit_wants a.writes in let ready = Some (ready_work (record { work = w.name; tid = w.tid; client = c }) a.list a.reads) in record {
+    few = let one = length-phase w.name (Stored (record { reads = a.reads; writes = a.writes })) (after_grant w.tid w.name wants t) in let two = length-grant w.tid w.name wants t in omega (arith, one, two, few);
+    flags = refl;
+    sent = omega arith;
+    goes = let one = goings-phase (at_work s.state.works w.name ready) w.name (Stored (record { reads = a.reads; writes = a.writes })) (after_grant w.tid w.name wants t) in
+        let two = goings-grant (at_work s.state.works w.name ready) w.tid w.name wants t in let less = goings-at s.state.works w.name ready t refl in omega (arith, one, two, less);
+  }
+  fits fact _ _ (marks_it T W w p e f g) = record { few = few; flags = refl; sent = omega arith; goes = let one = goings-mark s.state.works W (gone_on (s.state.works W)) t fact.rising in omega (arith, one) }
+  fits fact _ _ (drops_it T W w e f) = record { few = let less = length-without W t in omega (arith, less, few); flags = refl; sent = omega arith; goes = let one = goings-without s.state.works W t in omega (arith, one) }
+  fits fact _ _ (removes_it T W w p e f g) = record {
     few = let less = length-without W t in omega (arith, less, few);
     flags = refl;
     sent = omega arith;
-    goes = let one = goings-without (at_work x.works W None) W t in let less = goings-less (at_work x.works W None) x.works t gone in omega (arith, one, less);
+    goes = let one = goings-without (at_work s.state.works W None) W t in let less = goings-at s.state.works W None t refl in omega (arith, one, less);
   }
-    where
-      gone : (V : WorkId) → is_going (at_work x.works W None V) ≡ true → is_going (x.works V) ≡ true
-      gone V g = grind arith
-
-  dropped-fits : (k : Tickets) (W : WorkId) → WorkerFits x t 1 (record { table = without W t; changes = []; messages = []; notes = []; tickets = k })
-  dropped-fits k W = record {
-    few = let less = length-without W t in omega (arith, less, few);
-    flags = refl;
-    sent = omega arith;
-    goes = let one = goings-without x.works W t in omega (arith, one);
-  }
-
-  drop-fits : (s : WorkStorage) (k : Tickets) (W : WorkId) (p : Phase) → WorkerFits x t 1 (drop_phase t s k W p)
-  drop-fits s k W (Active a) = dropped-fits k W
-  drop-fits s k W (Broken u by) = dropped-fits k W
-  drop-fits s k W (Stored p) = either (is_going (s.state.works W)) _ _ (still 1 _ refl refl refl (omega arith)) (removed-fits k W)
-
-  drops-fit : (s : WorkStorage) (k : Tickets) (W : WorkId) (o : Option Work) → WorkerFits x t 1 (drop_row t s k W o)
-  drops-fit s k W (Some w) = drop-fits s k W w.phase
-  drops-fit s k W None = still 1 _ refl refl refl (omega arith)
-
-  commit-fits : (s : WorkStorage) (k : Tickets) (W : WorkId) (p : Phase) → are_rising t ≡ true → WorkerFits x t 2 (commit_phase t s k W p)
-  commit-fits s k W (Active a) rising = still 2 _ refl refl refl (omega arith)
-  commit-fits s k W (Broken u by) rising = still 2 _ refl refl refl (omega arith)
-  commit-fits s k W (Stored p) rising = either (is_going (s.state.works W)) _ _ (still 2 _ refl refl refl (omega arith)) (record {
-    few = few;
-    flags = refl;
-    sent = omega arith;
-    goes = let one = goings-mark x.works W (gone_on (x.works W)) t rising in omega (arith, one);
-  })
-
-  commits-fit : (s : WorkStorage) (k : Tickets) (T : Tid) (W : WorkId) (o : Option Work) → are_rising t ≡ true → WorkerFits x t 2 (commit_row t s k T W o)
-  commits-fit s k T W (Some w) rising = commit-fits s k W w.phase rising
-  commits-fit s k T W None rising = reply 2 k _ _ (omega arith)
-
--- ---- every message
 
 pub worker-fits : (s : WorkStorage) (k : Tickets) (t : WorkerTable) (m : Message) → TableFact t k s.state.works → length t ≤ 64 → WorkerFits s.state t (weight m) (worker_row t s k m)
-worker-fits s k t (messages.Open c request T) fact few = open-fits s.state t few k c request T (work_of T t) fact
-worker-fits s k t (messages.Op c request W number op) fact few = ops-fit s.state t few k c request W number op (work_at W t)
-worker-fits s k t (messages.Prepare T c W) fact few = prepares-fit s.state t few s k T c W (work_at W t)
-worker-fits s k t (messages.Commit T W) fact few = commits-fit s.state t few s k T W (work_at W t) fact.rising
-worker-fits s k t (messages.Drop T W) fact few = drops-fit s.state t few s k W (work_at W t)
-worker-fits s k t (messages.Begin c request) fact few = still s.state t few _ _ refl refl refl (omega arith)
-worker-fits s k t (messages.End c request T works) fact few = still s.state t few _ _ refl refl refl (omega arith)
-worker-fits s k t (messages.Abort c request T works) fact few = still s.state t few _ _ refl refl refl (omega arith)
-worker-fits s k t (messages.Thanks c T) fact few = still s.state t few _ _ refl refl refl (omega arith)
-worker-fits s k t (messages.Begun c request T) fact few = still s.state t few _ _ refl refl refl (omega arith)
-worker-fits s k t (messages.Opened c request T W) fact few = still s.state t few _ _ refl refl refl (omega arith)
-worker-fits s k t (messages.Answer c request answer) fact few = still s.state t few _ _ refl refl refl (omega arith)
-worker-fits s k t (messages.Outcome c T outcome) fact few = still s.state t few _ _ refl refl refl (omega arith)
-worker-fits s k t (messages.Vote T W vote) fact few = still s.state t few _ _ refl refl refl (omega arith)
-worker-fits s k t (messages.Done T W) fact few = still s.state t few _ _ refl refl refl (omega arith)
-worker-fits s k t (messages.Inquire T W) fact few = still s.state t few _ _ refl refl refl (omega arith)
+worker-fits s k t m fact few = fits s k t few fact m (worker_row t s k m) (worker-case t s k m)
 
 -- ---- a background step
 
@@ -256,28 +166,14 @@ pub record StepFits (x : StableState) (t : WorkerTable) (row : RowOutcome Worker
   pub sent : weigh_all row.messages ≤ 1
   pub goes : weigh_all row.messages + goings (made_all row.changes x).works row.table ≤ goings x.works t
 
-carried-fits : (x : StableState) (t : WorkerTable) (k : Tickets) (w : Work) (o : Option Intention) → length t ≤ 64 → going_work x t ≡ Some w → StepFits x t (carried_row t k w o)
-carried-fits x t k w (Some i) few is = record { few = few; flags = refl; sent = omega arith; goes = omega arith }
-carried-fits x t k w None few is = record {
-  few = let less = length-without w.name t in omega (arith, less, few);
-  flags = refl;
-  sent = omega arith;
-  goes = let over = goings-over x t w is in omega (arith, over);
-}
-
 pub step-fits : (s : WorkStorage) (k : Tickets) (t : WorkerTable) (row : RowOutcome WorkerTable) → length t ≤ 64 → worker_step t s k ≡ Some row → StepFits s.state t row
-step-fits s k t row few h = by (going_work s.state t) refl h
+step-fits s k t row few h = by row (worker-step-case t s k row h)
   where
-    some : {a b : RowOutcome WorkerTable} → Some a ≡ Some b → a ≡ b
-    some q = cc
-
-    rest : (b : Bool) → (if b then Some (record { table = t; changes = []; messages = []; notes = []; tickets = k }) else None) ≡ Some row → StepFits s.state t row
-    rest true q = subst (λ (z : RowOutcome WorkerTable). StepFits s.state t z) (some q) (record { few = few; flags = refl; sent = omega arith; goes = omega arith })
-    rest false q = absurd (none q)
-      where
-        none : None ≡ Some row → ⊥
-        none z = cc
-
-    by : (o : Option Work) → going_work s.state t ≡ o → going_row t s k o ≡ Some row → StepFits s.state t row
-    by (Some w) is q = subst (λ (z : RowOutcome WorkerTable). StepFits s.state t z) (some q) (carried-fits s.state t k w (slice_get (intentions_of (s.state.works w.name)) (s.next w.name)) few is)
-    by None is q = rest s.rubbish q
+    by : (row : RowOutcome WorkerTable) → WorkerStep t s k row → StepFits s.state t row
+    by _ (is_over w goes none) = record {
+      few = let less = length-without w.name t in omega (arith, less, few);
+      flags = refl;
+      sent = omega arith;
+      goes = let over = goings-over s.state t w goes in omega (arith, over);
+    }
+    by row step = record { few = few; flags = refl; sent = omega arith; goes = omega arith }
