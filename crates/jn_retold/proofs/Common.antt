@@ -1,6 +1,6 @@
 -- The names from below that these proofs cite, passed on from one place. Declares nothing.
 pub use Rattle.std.proofs.Common.{◌≡◌, ℕ, ◌+◌, Bool, true, false, List, [], ◌∷◌, ◌++◌, append-nil, append_assoc, drop, Option, Some, None, refl, sym, ◌∙◌, ap, subst, ◌≢◌, ◌⊎◌, inl, inr, ◌≤◌, ◌<◌, arith, suc, zero, ◌-◌, take}
-pub use Rattle.std.specs.Prelude.{length, map, if◌then◌else◌, ◌||◌, is_some, nat_lt, slice_get, ◌&&◌, not, nat_eq, ⊤, option_and_then, nat_le}
+pub use Rattle.std.specs.Prelude.{length, map, if◌then◌else◌, ◌||◌, is_some, nat_lt, slice_get, ◌&&◌, ⊤, nat_eq, not, option_and_then, nat_le}
 pub use Rattle.std.specs.List.{list_all, list_any, AllByRecursion}
 pub use Rattle.jn_base.specs.declared.names.ServerNo.{ServerNo}
 pub use Rattle.jn_base.specs.declared.device.Outside.{Outside}
@@ -8,7 +8,7 @@ pub use Rattle.jn_schedule.specs.declared.Event.{Event}
 pub use Rattle.jn_report.specs.declared.line.EventRefusal.TheVariants.{TooManyArmed, EpochsUsedUp}
 pub use Rattle.jn_report.specs.declared.line.Text.{Text}
 pub use Rattle.jn_report.specs.declared.line.Line.{Line}
-pub use Rattle.jn_rows.specs.Stable.{Pick, stable, Change, DropFlag, StableState, Prepared, AddReady, MarkGoing, CarryOut, RemoveWork, AddFlag, gone_on, made_by, made_all}
+pub use Rattle.jn_rows.specs.Stable.{Pick, stable, Change, StableState, Prepared, AddReady, MarkGoing, CarryOut, RemoveWork, AddFlag, DropFlag, gone_on, made_by, made_all}
 pub use Rattle.jn_rows.specs.Outcomes.{Sent, RowOutcome}
 pub use Rattle.jn_system.specs.WholeSystem.World.{World, Memory, opening, committed_in, commits_in, has_line, new_memory, at_server, servers_from}
 pub use Rattle.jn_system.specs.WholeSystem.Steps.{Step, after, run, NextEvent, work, works, Tell, Deliver, Work, Nudge, Timeout, StopDelivery, StopWork, Crash, Narrow, StopRestart, Restart, CloseClients, ends, at_memory, handed, nudge, timeout, crash, narrow, stop_restart, restart, close_clients, commanded, took, Again, IsRun, handing, working, AreNames, IsStep, are_rising, tid_before, sent_now}
@@ -49,11 +49,11 @@ pub use Rattle.jn_base.specs.declared.names.ClientNo.{ClientNo}
 pub use Rattle.jn_base.specs.declared.names.Tid.{Tid}
 pub use Rattle.jn_base.specs.declared.names.WorkId.{WorkId}
 pub use Rattle.jn_rows.specs.declared.client.Taken.{Taken}
-pub use Rattle.jn_rows.specs.Coordinator.{close_clients_row, CoordinatorTable, transaction_at, is_work, all_in, forget_row, thanked_changes, after_closing, changes_of_closing, begin_new, begin_again, begun_by, begin_row, seen_now, end_promised, end_stage, end_row, abort_stage, abort_request, told_stage, inquire_row, counted_vote, vote_stage, vote_row, done_stage, done_row, thanks_stage, thanks_row, with_work, coordinator_row, flags_of_thanked}
+pub use Rattle.jn_rows.specs.Coordinator.{close_clients_row, CoordinatorTable, coordinator_row, flags_of_thanked}
 pub use Rattle.std.proofs.lemmas.List.Folds.{list_all-append}
 pub use Rattle.jn_system_settling.specs.Settling.Settle.{clients_from, is_busy as has_going}
 pub use Rattle.jn_base.specs.declared.names.Tickets.{Tickets}
-pub use Rattle.jn_system.proofs.WholeSystem.CoordinatorRows.{is_of_flag}
+pub use Rattle.jn_system.proofs.WholeSystem.CoordinatorRows.{is_of_flag, are_of_flags, closes-flags, coordinator-aside}
 pub use Rattle.jn_base.specs.declared.op.Command.{Command}
 pub use Rattle.jn_report.specs.declared.line.When.TheVariants.{Event as AtEvent}
 pub use Rattle.std.proofs.lemmas.Bool.Decides.{nat_tests}

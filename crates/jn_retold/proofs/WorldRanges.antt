@@ -3,11 +3,11 @@ use Rattle.jn_retold.proofs.Common.{◌≡◌, ◌≤◌, ℕ, zero, suc, Bool, 
 use Rattle.std.proofs.lemmas.List.Elements.{All-nil, All-append, All-cons}
 use Rattle.jn_rows.specs.declared.client.Taken.TheVariants as taken
 use Rattle.jn_rows.specs.Client.{ClientTable, take_row, again_row}
-use Rattle.jn_within.specs.Taking.{CanBeTaken, AllCanBeTaken, CommandInRange, ClientFits, CommandFits, sent_for}
-use Rattle.jn_within.proofs.ServerRows.{row-requests, step-requests, again-requests}
 use Rattle.jn_system.proofs.WholeSystem.OneChange.{one-server, one-found, one-client}
 use Rattle.jn_system.proofs.WholeSystem.StepCases.{ClientRow, by_command, by_ignoring, by_answering, by_telling, ServerRow, of_message, of_work, of_closing, FoundThen, by_narrowing, by_raising, Quiet, client_repeats, server_repeats, StepCase, client_row, row_done, row_stopped, gone_late, gone_down, come_up, found_anew, dismissed, quietly, step-case}
-use Rattle.jn_system_settling.proofs.Settling.WorldSizes.{holds-of}
+use Rattle.jn_system_order.proofs.Mirroring.StepMoves.{holds-of}
+use Rattle.jn_within.specs.Taking.{CanBeTaken, AllCanBeTaken, CommandInRange, ClientFits, CommandFits, sent_for}
+use Rattle.jn_within.proofs.ServerRows.{row-requests, step-requests, again-requests}
 use Rattle.jn_retold.proofs.RowRanges.{AreRanged, is_ranged, WorksRanged, row-ranged, step-ranged, timeout-ranged, restored-ranged}
 use Rattle.jn_retold.proofs.Coordinating.{row-flags, all-thanked-flags}
 

@@ -2,12 +2,12 @@
 pub use Rattle.std.proofs.Common.{◌≡◌, ℕ, Bool, true, false, List, [], ◌∷◌, ◌++◌, append-nil, length, drop, refl, sym, ◌∙◌, ap, subst, None, Option, Some, is_some, zero, suc, ◌≢◌, ◌⊎◌, inl, inr, ◌<◌, arith, ◌+◌, ◌≤◌, length-append, append_assoc, ◌-◌, true≢false}
 pub use Rattle.std.proofs.Math.Seq.{drop-append_seam}
 pub use Rattle.jn_report.specs.declared.line.Line.{Line}
-pub use Rattle.jn_rows.specs.Outcomes.{Sent, RowOutcome, ignored, quiet, sends}
-pub use Rattle.jn_system.specs.WholeSystem.World.{World, Memory, new_memory, has_line, at_server, at_client}
+pub use Rattle.jn_rows.specs.Outcomes.{Sent, RowOutcome}
+pub use Rattle.jn_system.specs.WholeSystem.World.{World, Memory, new_memory, has_line, at_server}
 pub use Rattle.std.specs.Prelude.{◌||◌, if◌then◌else◌, nat_lt, nat_eq, map, ◌&&◌, slice_get, not, take, filter}
 pub use Rattle.jn_base.specs.declared.names.Party.{Party}
 pub use Rattle.jn_report.specs.declared.line.Text.{Text}
-pub use Rattle.jn_system.specs.WholeSystem.Steps.{Step, Restart, tid_before, after, run, IsRun, restart, restart_with, NextEvent, Tell, Again, Nudge, Crash, CloseClients, AreNames, commanded, crash, Deliver, Work as Works, Timeout, StopDelivery, StopWork, Narrow, StopRestart, Dismiss, took, ends, at_memory, handed, works, work, nudge, timeout, narrow, stop_restart, close_clients, handing, are_rising, working, sent_now, stopped}
+pub use Rattle.jn_system.specs.WholeSystem.Steps.{Step, Restart, tid_before, after, run, IsRun, restart, restart_with, NextEvent, Tell, Again, Nudge, Crash, CloseClients, AreNames, commanded, crash, Deliver, StopDelivery, handing, are_rising, Work as Works, at_memory, handed, working, sent_now}
 pub use Rattle.jn_system_settling.specs.Settling.Course.{Course, go, go_on, newly_sent, course_to, without_number, still_waiting, numbered}
 pub use Rattle.jn_written.specs.Chances.{Setup, Chance}
 pub use Rattle.jn_written.specs.Tasks.{Task, Begins, Meets, Acts, Rests, ComesUp, Dismisses, GoesDown, ClosesClients, CountsCommits, State, when_of, begun, next_task, Stage, InSchedule, AtEnd, CutShort, next_at, when_at}
@@ -29,7 +29,7 @@ pub use Rattle.jn_base.specs.declared.names.WorkId.{WorkId}
 pub use Rattle.jn_base.specs.declared.names.LockUnit.TheVariants.{File, Block}
 pub use Rattle.jn_base.specs.Names.{file_eq, tid_eq, work_eq, server_eq, client_eq}
 pub use Rattle.jn_base.proofs.Tells.{file_tells, tid_tells, work_tells, server_tells}
-pub use Rattle.jn_rows.specs.Stable.{StableState, Pick, Change, AddReady, MarkGoing, CarryOut, RemoveWork, AddFlag, DropFlag, stable, made_by, made_all, FlagState, is_going}
+pub use Rattle.jn_rows.specs.Stable.{StableState, Pick, Change, AddReady, MarkGoing, CarryOut, RemoveWork, AddFlag, DropFlag, made_by, made_all, stable, FlagState, is_going}
 pub use Rattle.jn_locks.specs.Locks.{work_before, unit_eq, unit_before}
 pub use Rattle.jn_system.specs.WholeSystem.Printing.{print_files, file_before, Printed, FileThere, PageStored, UnitLocked, print_unit, print_one, print_blocks, print_file}
 pub use Rattle.jn_system_reports.specs.Reporting.Printing.{text_printed, prints_of}
@@ -45,36 +45,31 @@ pub use Rattle.jn_report.specs.declared.line.When.TheVariants.{Event as AtEvent,
 unfoldable pub use Rattle.jn_written.specs.Examples.{block_of}
 pub use Rattle.std.proofs.lemmas.Bool.Decides.{nat_tests}
 pub use Rattle.jn_base.specs.declared.names.ClientNo.{ClientNo}
-pub use Rattle.jn_base.specs.declared.device.Outside.{Outside}
 pub use Rattle.jn_base.specs.declared.op.Command.{Command}
 pub use Rattle.jn_device.specs.Device.{DeviceState}
-pub use Rattle.jn_rows.specs.Client.{Commanded, Refuses, Sends, command_row, ClientTable, take_row, if_server, if_idle, if_transaction, if_no_transaction, if_open, if_not_open, work_at as open_at, again_row, sent_again, if_waits, begun_row, opened_row, answer_line, outcome_row, decided_row, is_current, is_end_or_abort, over}
-pub use Rattle.jn_base.specs.declared.names.Party.TheVariants.{Client, Server}
-pub use Rattle.jn_msgs.specs.declared.message.Message.{Message}
-pub use Rattle.jn_rows.specs.declared.client.Taken.{Taken}
-pub use Rattle.jn_rows.specs.Coordinator.{close_clients_row, CoordinatorTable, transaction_at, with_stage, without, besides, all_in, is_work, drops, commits, prepares, committed_to, aborted_to, commit_row, abort_row, forget_row, thanked, closed, after_closing, begin_new, begun_by, begin_again, begin_row, seen_now, changes_of_closing, end_promised, end_open, end_stage, end_row, abort_stage, abort_request, told_stage, inquire_row, noted, with_work, counted_vote, vote_stage, vote_row, done_stage, done_row, thanks_stage, thanks_row, coordinator_row, told_again, coordinator_again, all_thanked, restored_transaction, restored_transactions}
-pub use Rattle.jn_system.specs.WholeSystem.Servers.{Room, server_row, server_step, of_coordinator, named_now, storage_of, of_worker, is_for_worker, of_step, server_again, of_timeout, server_timeout, restored, line_of, lines_of}
+pub use Rattle.jn_rows.specs.Client.{Commanded, Refuses, Sends, command_row, ClientTable, if_server, if_idle, if_transaction, if_no_transaction, if_open, if_not_open, work_at as open_at, take_row, again_row, sent_again, if_waits, begun_row, opened_row, answer_line, outcome_row, decided_row, is_current}
+pub use Rattle.jn_system.specs.WholeSystem.Servers.{named_now, Room, server_row, server_step, storage_of, of_worker, of_coordinator, is_for_worker, of_step, server_again, of_timeout, server_timeout, restored, line_of, lines_of}
 pub use Rattle.jn_written.specs.Runs.{MayLead, none, more, Moment, Leads, DoesStep}
-pub use Rattle.jn_written.specs.Kinds.{is_note, is_of_delivery, is_answer, may_tell, is_up, is_down, is_stopped, events_left}
-pub use Rattle.jn_written.proofs.Telling.{Adds, adds, weaker}
 pub use Rattle.jn_wrong.specs.Turns.{epoch_after, may_rise, epochs_rise, is_by, are_by, are_read, is_up_after, may_be_told, takes_turns}
+pub use Rattle.jn_system.proofs.WholeSystem.OneChange.{one-found, one-server, one-client}
+pub use Rattle.jn_system.proofs.WholeSystem.StepCases.{FoundThen, by_narrowing, by_raising, StepCase, client_row, row_done, row_stopped, gone_late, gone_down, come_up, found_anew, dismissed, quietly, step-case, ClientRow, by_command, by_ignoring, by_answering, by_telling, ServerRow, of_message, of_work, of_closing, Quiet, is_refused, client_repeats, server_repeats, is_lost}
 pub use Rattle.jn_base.specs.declared.names.LockUnit.{LockUnit}
 pub use Rattle.jn_system_settling.proofs.Settling.Settling.{on-world}
+pub use Rattle.jn_written.specs.Kinds.{may_tell, is_of_delivery, is_up, is_down, is_stopped, events_left, is_note, is_answer}
 pub use Rattle.jn_written.proofs.Texts.{More, gone-on, task-texts, Besides}
+pub use Rattle.jn_base.specs.declared.names.Party.TheVariants.{Client, Server}
 pub use Rattle.jn_wrong.specs.Settles.{HandsOver, ComesToRest}
+pub use Rattle.jn_msgs.specs.declared.message.Message.{Message}
 pub use Rattle.jn_written.proofs.Ordered.{begun-lines, events-rise}
+pub use Rattle.jn_base.specs.declared.device.Outside.{Outside}
 pub use Rattle.jn_wrong.specs.Showing.{unit_printed, prints_unit, AreThere, PrintsAll, is_printed, printed_lines, Shows}
-pub use Rattle.jn_base.specs.declared.op.Op.{Op}
 pub use Rattle.jn_rows.specs.declared.worker.Work.{Work}
-pub use Rattle.jn_rows.specs.declared.worker.Phase.TheVariants.{Active, Broken, Prepared as Stored}
-pub use Rattle.jn_rows.specs.declared.worker.Phase.{Phase}
-pub use Rattle.jn_rows.specs.Worker.{drop_row, drop_phase, work_at, WorkerTable, worker_row, worker_step, timeout_row, WorkStorage, Held, Wanted, shortage, vote_of, voted, prepared_row, prepare_phase, prepare_row, need_in, conflict, commit_wants, open_row, op_row, op_phase, by_number, granted_row, repeated, wants_of, is_fit, commit_phase, work_of, going_row, going_work, carried_row, intentions_of, worker_again, commit_holder}
+pub use Rattle.jn_rows.specs.Worker.{drop_row, drop_phase, work_at, WorkerTable, worker_row, worker_step, timeout_row, WorkStorage, Held, shortage, vote_of, need_in, conflict, commit_wants, worker_again, commit_holder}
 pub use Rattle.jn_base.specs.declared.names.Resource.{Resource}
 pub use Rattle.jn_records.specs.declared.net_list.Need.{Need}
 pub use Rattle.jn_system.specs.WholeSystem.LockFacts.{LockFacts, ServerFact, UpFact}
 pub use Rattle.jn_wrong.specs.Wanting.{IsShort, WasShort, OfText, OfLines, OfCause}
 pub use Rattle.jn_base.specs.declared.names.Tickets.{Tickets}
 pub use Rattle.jn_msgs.specs.declared.message.Outcome.{Outcome}
-pub use Rattle.jn_msgs.specs.declared.message.Vote.{Vote}
-pub use Rattle.jn_base.specs.declared.names.RequestNo.{RequestNo}
-pub use Rattle.jn_base.specs.declared.op.Answer.{Answer}
+pub use Rattle.jn_rows.specs.Coordinator.{CoordinatorTable, transaction_at, with_stage, without, besides, drops, commits, prepares, committed_to, aborted_to, after_closing, coordinator_row, told_again, coordinator_again, all_thanked, restored_transaction, restored_transactions}
+pub use Rattle.jn_msgs.specs.declared.message.Note.{Note}

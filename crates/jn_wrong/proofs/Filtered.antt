@@ -1,6 +1,5 @@
 -- The lines of one kind among those that a step tells.
-use Rattle.jn_wrong.proofs.Common.{◌≡◌, Bool, true, false, List, [], ◌∷◌, ◌++◌, length, drop, refl, ◌∙◌, ap, arith, ◌||◌, ◌&&◌, not, filter, if◌then◌else◌, list_all, drop-append_seam, When, Text, Line, Step, Tell, Deliver, StopDelivery, StopWork, Crash, StopRestart, Restart, CloseClients, Course, go_on, own_texts, lines_at, may_tell, is_answer, is_note, is_of_delivery, is_up, is_down, is_stopped, More, gone-on}
-use Rattle.jn_system.specs.WholeSystem.Steps.{Work}
+use Rattle.jn_wrong.proofs.Common.{◌≡◌, Bool, true, false, List, [], ◌∷◌, ◌++◌, length, drop, refl, ◌∙◌, ap, arith, ◌||◌, ◌&&◌, not, filter, if◌then◌else◌, list_all, drop-append_seam, When, Text, Line, Step, Course, go_on, own_texts, lines_at, may_tell, is_of_delivery, is_up, is_down, is_stopped, More, gone-on, NextEvent}
 
 pub filter-both : {A : Type 0} (test : A → Bool) (xs ys : List A) → filter test (xs ++ ys) ≡ filter test xs ++ filter test ys
 filter-both test [] ys = refl
@@ -49,39 +48,6 @@ module _ (test : Text → Bool) where
 abbrev pub is_of_step : Text → Bool
 is_of_step text = is_of_delivery text || (is_up text || (is_down text || is_stopped text))
 
-of-note : (text : Text) → is_note text ≡ true → is_of_step text ≡ true
-of-note text h = grind arith
-
-of-answer : (text : Text) → is_answer text ≡ true → is_of_step text ≡ true
-of-answer text h = grind arith
-
-of-delivery : (text : Text) → is_of_delivery text ≡ true → is_of_step text ≡ true
-of-delivery text h = grind arith
-
-of-stop : (text : Text) → is_stopped text ≡ true → is_of_step text ≡ true
-of-stop text h = grind arith
-
-of-down : (text : Text) → is_down text ≡ true → is_of_step text ≡ true
-of-down text h = grind arith
-
-of-up : (text : Text) → is_up text ≡ true → is_of_step text ≡ true
-of-up text h = grind arith
-
-either : (a b c : Bool) → (a ≡ true → c ≡ true) → (b ≡ true → c ≡ true) → (a || b) ≡ true → c ≡ true
-either true b c h k e = h refl
-either false b c h k e = k e
-
 pub step-tells : (step : Step) (text : Text) → may_tell step text ≡ true → is_of_step text ≡ true
-step-tells (Tell c command) text h = of-answer text h
-step-tells (Deliver k room) text h = of-delivery text h
-step-tells (Work s room) text h = of-note text h
-step-tells (StopDelivery k room made) text h = either (is_of_delivery text) (is_stopped text) (is_of_step text) (of-delivery text) (of-stop text) h
-step-tells (StopWork s room made) text h = of-stop text h
-step-tells (Crash s) text h = of-down text h
-step-tells (StopRestart s raised) text h = of-stop text h
-step-tells (Restart s pick works tids) text h = either (is_up text) (is_note text) (is_of_step text) (of-up text) (of-note text) h
-step-tells (CloseClients s) text h = of-note text h
-step-tells step text h = absurd (clash h)
-  where
-    clash : false ≡ true → ⊥
-    clash z = cc
+step-tells NextEvent text h = grind arith
+step-tells _ text h = grind arith

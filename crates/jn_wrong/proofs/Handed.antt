@@ -1,7 +1,6 @@
 -- A message that a settle hands over waits no more, so that no settle hands it over again.
-use Rattle.jn_wrong.proofs.Common.{◌≡◌, ◌<◌, ℕ, ◌+◌, Bool, true, false, List, [], ◌∷◌, ◌++◌, length, length-append, drop, Option, Some, None, refl, sym, ◌∙◌, ap, subst, arith, ◌&&◌, not, nat_eq, nat_lt, if◌then◌else◌, slice_get, drop-append_seam, nat_tests, ServerNo, Client, Server, AllFiles, Event, Sent, Pick, World, Memory, Room, Step, NextEvent, Tell, Again, Deliver, Nudge, Timeout, StopDelivery, StopWork, Crash, Narrow, StopRestart, Restart, Dismiss, CloseClients, after, Course, without_number, still_waiting, numbered, go, go_on, handing, Setup, Chance, Task, Begins, Meets, Acts, Rests, ComesUp, Dismisses, GoesDown, ClosesClients, CountsCommits, Stage, CutShort, State, next_at, next_task, begun, Deed, room, no_room, delivered, delivered_at, servers_of, first_busy, next_event, next_in, resting, deed_of, is_too_much, come_to, cut_short, made, done, none, more, MayLead, before, HandsOver}
+use Rattle.jn_wrong.proofs.Common.{◌≡◌, ◌<◌, ℕ, ◌+◌, Bool, true, false, List, [], ◌∷◌, ◌++◌, length, length-append, drop, Option, Some, None, refl, sym, ◌∙◌, ap, subst, arith, ◌&&◌, not, nat_eq, nat_lt, if◌then◌else◌, slice_get, drop-append_seam, nat_tests, ServerNo, Client, Server, AllFiles, Event, Sent, Pick, World, Memory, Room, Step, Deliver, StopDelivery, after, Course, without_number, still_waiting, numbered, go, go_on, handing, Setup, Chance, Task, Rests, Dismisses, Stage, CutShort, State, next_at, next_task, begun, Deed, room, no_room, delivered, delivered_at, servers_of, first_busy, next_event, next_in, resting, deed_of, is_too_much, come_to, cut_short, made, done, none, more, MayLead, before, HandsOver}
 use Rattle.jn_schedule.specs.declared.Event.TheVariants as events
-use Rattle.jn_system.specs.WholeSystem.Steps.{Work}
 use Rattle.jn_system_settling.proofs.Settling.Burdens.{are_below, below-both, below-more, below-new}
 use Rattle.jn_system_settling.proofs.Settling.Courses.{Grows, grows, below-still}
 use Rattle.jn_system_settling.proofs.Settling.Parts.{get-some}
@@ -66,19 +65,7 @@ single-both n (k ∷ ks) ys l h = both _ _ (absent-both k ks (numbered n ys) (fi
 still : (P : List ℕ → Type 0) → ((j : ℕ) (ks : List ℕ) → P ks → P (without_number j ks)) → (step : Step) (ks : List ℕ) → P ks → P (still_waiting step ks)
 still P less (Deliver k room) ks h = less k ks h
 still P less (StopDelivery k room made) ks h = less k ks h
-still P less NextEvent ks h = h
-still P less (Tell c command) ks h = h
-still P less (Again c) ks h = h
-still P less (Work s room) ks h = h
-still P less (Nudge s) ks h = h
-still P less (Timeout s T) ks h = h
-still P less (StopWork s room made) ks h = h
-still P less (Crash s) ks h = h
-still P less (Narrow s g) ks h = h
-still P less (StopRestart s up) ks h = h
-still P less (Restart s pick Ws Ts) ks h = h
-still P less Dismiss ks h = h
-still P less (CloseClients s) ks h = h
+still P less _ ks h = h
 
 -- ---- courses
 
@@ -128,14 +115,7 @@ module _ (P : Course → Type 0) (goes : (c : Course) (step : Step) → P c → 
 
   begins : (task : Task) (s : State) → P s.course → P (begun task s).course
   begins Dismisses s h = drops s.course h
-  begins (Begins e) s h = h
-  begins (Meets e) s h = h
-  begins (Acts e) s h = h
-  begins Rests s h = h
-  begins (ComesUp q) s h = h
-  begins (GoesDown q) s h = h
-  begins (ClosesClients q) s h = h
-  begins CountsCommits s h = h
+  begins _ s h = h
 
   keeps : (x : Setup) (h : Chance) (task : Task) (s : State) → P s.course → P (done x h task s).course
   keeps x h task s p = by (is_too_much deed (go_on deed.steps (begun task s).course))

@@ -1,5 +1,7 @@
 -- One step of a settle where nothing strikes: the message that a calm run hands over, or an erasure, which changes nothing.
-use Rattle.jn_wrong.proofs.Common.{◌≡◌, ◌⊎◌, inl, inr, ℕ, ◌<◌, Bool, true, false, List, [], ◌∷◌, ◌++◌, append-nil, length, drop, Option, Some, None, is_some, refl, sym, ◌∙◌, ap, subst, arith, drop-append_seam, ◌&&◌, not, if◌then◌else◌, nat_lt, slice_get, ServerNo, Client, Server, Message, StableState, Pick, stable, RowOutcome, Sent, Work, Active, Broken, Stored, WorkId, Phase, drop_row, drop_phase, work_at, World, Memory, Room, server_row, storage_of, of_worker, Deliver, Works, after, at_memory, handed, handing, working, go_on, course_to, newly_sent, numbered, Setup, Chance, Rests, State, begun, Deed, room, no_room, nothing, served, delivered, delivered_at, is_busy, is_busy_with, worked, working_steps, Devices, IsServed, Alone, Befalls, servers_of, first_busy, next_event, resting, deed_of, most_messages, made, done, IsQuiet, Calm, quiet-same, quiet-called, delivered-up, still, is_fixed, is_sent_so, rests_so, no-faults}
+use Rattle.jn_wrong.proofs.Common.{◌≡◌, ◌⊎◌, inl, inr, ℕ, ◌<◌, Bool, true, false, List, [], ◌∷◌, ◌++◌, append-nil, length, drop, Option, Some, None, is_some, refl, sym, ◌∙◌, ap, subst, arith, drop-append_seam, ◌&&◌, not, if◌then◌else◌, nat_lt, slice_get, ServerNo, Client, Server, Message, StableState, Pick, stable, RowOutcome, Sent, Work, WorkId, drop_row, drop_phase, work_at, World, Memory, Room, server_row, storage_of, of_worker, Deliver, Works, after, at_memory, handed, handing, working, go_on, course_to, newly_sent, numbered, Setup, Chance, Rests, State, begun, Deed, room, no_room, nothing, served, delivered, delivered_at, is_busy, is_busy_with, worked, working_steps, Devices, IsServed, Alone, Befalls, servers_of, first_busy, next_event, resting, deed_of, most_messages, made, done, IsQuiet, Calm, quiet-same, quiet-called, delivered-up, still, is_fixed, is_sent_so, rests_so, no-faults}
+use Rattle.jn_rows.specs.declared.worker.Phase.TheVariants.{Active, Broken, Prepared as Stored}
+use Rattle.jn_rows.specs.declared.worker.Phase.{Phase}
 use Rattle.jn_system_settling.specs.Settling.Settle.{is_busy as has_going}
 use Rattle.jn_msgs.specs.declared.message.Message.TheVariants as messages
 use Rattle.jn_system.specs.WholeSystem.Steps as steps
