@@ -7,16 +7,17 @@ docs/REPORT.md and docs/SCHEDULE.md describe what is read here. `FORMS` has one 
 
 import argparse
 import json
+import os
 import re
 import sys
 from dataclasses import dataclass, field
-from typing import Dict, List, NamedTuple, Optional, Tuple, Union
-
-USAGE = "tools/report.py REPORT [SCHEDULE] --json"
+from functools import cached_property
+from typing import Callable, Dict, List, NamedTuple, Optional, Tuple, Union
 
 # ---- the tables
 
-NUMBER = r"(?:0|[1-9]\d*)"
+# No number of a report or a schedule has more than 20 digits.
+NUMBER = r"(?:0|[1-9][0-9]{0,19})"
 TRANSACTION = rf"[0-7]\.{NUMBER}\.{NUMBER}"
 UNIT = rf"{NUMBER}(?:/{NUMBER})?"
 
@@ -42,14 +43,23 @@ MESSAGES = {
 
 # What each fault of a device does. The test compares its words with docs/SCHEDULE.md.
 FAULTS = {
-    "soft": "the call fails once",
-    "null": "the write is reported as done and changes nothing",
-    "bad": "the page that is written goes bad",
+    "soft": "one read finds a good page bad",
+    "null": "one write changes nothing",
+    "bad": "one write leaves its page bad",
     "decay": "a page goes bad",
-    "revive": "a bad page is good again",
+    "revive": "a bad page is good again, with the bytes that it kept",
     "stop-before": "the server stops before the call takes effect",
-    "stop-torn": "the server stops while the page is written, which leaves it bad",
+    "stop-torn": "the server stops within a write, which leaves the page bad",
     "stop-after": "the server stops after the call took effect",
+}
+
+# What happens in place of a fault that wasn't allowed.
+IN_PLACE_OF = {
+    "soft": "the call was done without a fault",
+    "null": "the call was done without a fault",
+    "bad": "the call was done without a fault",
+    "decay": "the page stays good",
+    "stop-torn": "the page isn't torn, and the server stops before the call",
 }
 
 
@@ -68,7 +78,7 @@ PARTS = {
     "B": Part("[cs][0-8]"),
     "T": Part(TRANSACTION),
     "UNIT": Part(UNIT),
-    "HEX": Part("(?:-|(?:[0-9a-f]{2})+)"),
+    "HEX": Part("(?:-|(?:[0-9a-f]{2}){1,448})"),
     "FAULT": Part("|".join(FAULTS)),
     "WORD": Part("|".join(MESSAGES)),
     "CAUSE": Part(".+"),
@@ -269,7 +279,7 @@ class ReportFault(Exception):
 
 
 class Unusable(Exception):
-    """A file can't be used as it is asked for."""
+    """A file or a pair of files can't be used for what was asked."""
 
 
 class Line(NamedTuple):
@@ -292,10 +302,19 @@ class Report:
     trial: Optional[dict] = None
     is_whole: bool = False
 
+    @cached_property
+    def messages(self) -> List[Line]:
+        """The lines of messages; the place of each is its number. A report without `--trace` has none."""
+        return [it for it in self.lines if it.kind == "message"]
+
     @property
     def is_traced(self) -> bool:
-        """Tells whether the report has messages."""
-        return any(it.kind == "message" for it in self.lines)
+        return bool(self.messages)
+
+    @cached_property
+    def clients(self) -> Dict[str, str]:
+        """The client of each transaction that the report says has begun."""
+        return {it.fields["transaction"]: it.fields["client"] for it in self.lines if it.kind == "begun"}
 
 
 def forms_by_key() -> Dict[str, List[Form]]:
@@ -350,6 +369,8 @@ def check_order(lines: List[Line]) -> None:
             if line.fields["number"] != messages:
                 raise ReportFault(line.number, f"message {messages} is to come first")
             messages += 1
+        elif messages and line.kind in ("lost", "ignored") and line.fields["number"] >= messages:
+            raise ReportFault(line.number, f"message {line.fields['number']} isn't sent by then")
 
 
 def whole_lines(text: str, partial: bool) -> List[str]:
@@ -361,9 +382,9 @@ def whole_lines(text: str, partial: bool) -> List[str]:
     return lines
 
 
-def read_report(text: str, partial: bool = False) -> Report:
+def read_report(text: Union[str, bytes], partial: bool = False) -> Report:
     """Reads the text of a report, or, where `partial` is set, of its front up to any byte."""
-    raws = whole_lines(text, partial)
+    raws = whole_lines(text_of_bytes(text), partial)
     if not raws:
         if partial:
             return Report()
@@ -522,8 +543,8 @@ def fault_in_line(number: int, raw: str, fault: WordFault) -> Fault:
     return Fault(number, fault.at + 1, start, stop, fault.number, fault.reason)
 
 
-def limit_passed(text: str, events: int) -> Optional[str]:
-    size = len(text.encode("utf-8", "surrogatepass"))
+def limit_passed(size: int, events: int) -> Optional[str]:
+    """Says which limit a schedule of so many bytes and events passes, or None."""
     if size > MOST_BYTES:
         return f"the schedule has {size} bytes, and at most {MOST_BYTES} are taken"
     if events > MOST_EVENTS:
@@ -531,9 +552,10 @@ def limit_passed(text: str, events: int) -> Optional[str]:
     return None
 
 
-def read_schedule(text: str) -> Schedule:
-    """Reads the text of a schedule. Its events are those of the lines without a fault, numbered with those that have one."""
-    lines = text.split("\n")
+def read_schedule(text: Union[str, bytes]) -> Schedule:
+    """Reads the text of a schedule. A line with a fault is an event of the kind `fault`, so that the numbers go on."""
+    size = len(text if isinstance(text, bytes) else text.encode("utf-8", "surrogatepass"))
+    lines = text_of_bytes(text).split("\n")
     if lines[-1] == "":
         lines.pop()
     schedule = Schedule(lines)
@@ -548,7 +570,7 @@ def read_schedule(text: str) -> Schedule:
             schedule.faults += [fault_in_line(number, raw, it) for it in found]
             found = ("fault", {})
         schedule.events.append(Event(count, number, raw, *found))
-    schedule.too_long = limit_passed(text, count)
+    schedule.too_long = limit_passed(size, count)
     return schedule
 
 
@@ -638,17 +660,25 @@ def described_answer(line: Line, schedule: Optional[Schedule]) -> str:
     return f"{command} was answered: transaction {fields['transaction']} is aborted, since {cause_words(fields['cause'])}"
 
 
+def named_message(number: int, report: Optional[Report]) -> str:
+    """Names a message with its word and its way, which only a report with `--trace` has."""
+    if report is None or not report.is_traced:
+        return f"message {number} (a run with `--trace` shows which one that is)"
+    sent = report.messages[number]
+    return f"message {number} (`{sent.fields['word']}` from {sent.fields['sender']} to {sent.fields['receiver']}, sent in event {sent.when})"
+
+
 SERVER_WORDS = {
     "up": "{server} is up, in epoch {epoch}",
     "down": "{server} goes down",
     "stopped": "{server} stopped within this step",
     "commit": "transaction {transaction} is committed for good",
-    "ignored": "message {number} came too late or once too often, and was ignored",
-    "lost": "message {number} was lost, since its server was down",
-    "outside": "a fault `{fault}` at page {page} of {server} was refused: the faults that are allowed don't include it",
+    "ignored": "{message} came too late or once too often, and was ignored",
+    "lost": "{message} was lost, since its server was down",
+    "outside": "the fault `{fault}` at page {page} of {server} wasn't allowed there: {instead}",
     "file": "{server} has file {file}",
     "page": "{server} has block {file}/{block} with the bytes {hex}",
-    "message": "message {number} from {sender} to {receiver}: `{word}` {meaning}",
+    "message": "{sender} {meaning} ({receiver} is to get this message)",
     "commits": "the report names {number} commits",
 }
 
@@ -664,9 +694,14 @@ def describe(line: Line, report: Optional[Report] = None, schedule: Optional[Sch
         return f"the part of {fields['transaction']} at {fields['server']} was broken at {unit_words(fields['unit'])} by {fields['by']}"
     if line.kind == "locked":
         return f"{fields['server']} has {unit_words(fields['unit'])} locked by {fields['by']}"
+    more = {}
     if line.kind == "message":
-        fields = dict(fields, meaning=message_words(fields["word"]))
-    return SERVER_WORDS[line.kind].format(**fields)
+        more["meaning"] = message_words(fields["word"])
+    if line.kind in ("lost", "ignored"):
+        more["message"] = named_message(fields["number"], report)
+    if line.kind == "outside":
+        more["instead"] = IN_PLACE_OF.get(fields["fault"], "the call was done without it")
+    return SERVER_WORDS[line.kind].format(**fields, **more)
 
 
 # ---- JSON
@@ -693,38 +728,222 @@ def to_json(report: Report, schedule: Optional[Schedule] = None) -> List[dict]:
 
 # ---- files
 
-def text_of_bytes(data: bytes) -> str:
-    """Returns bytes as text. Bytes that are no UTF-8 are written as `\\xff`, which no word of a schedule or a report has."""
-    return data.decode("utf-8", "backslashreplace")
+# How files begin that are neither reports nor schedules.
+OTHER_FILES = {
+    b"\x89PNG": "a picture",
+    b"\xff\xd8\xff": "a picture",
+    b"GIF8": "a picture",
+    b"<svg": "a picture",
+    b"<?xml": "a picture",
+    b"<!doctype": "a page",
+    b"<!DOCTYPE": "a page",
+    b"JUNIMAGE": "the image of a disk",
+}
 
 
-def load_text(path: str) -> str:
+def text_of_bytes(data: Union[str, bytes]) -> str:
+    """Returns bytes as text. A byte that is no UTF-8 becomes `\\xff`, which stands in no word of a schedule or a report."""
+    return data if isinstance(data, str) else data.decode("utf-8", "backslashreplace")
+
+
+def load_bytes(path: str) -> bytes:
     """Reads a file, or standard input for `-`."""
     try:
         if path == "-":
-            return text_of_bytes(sys.stdin.buffer.read())
+            return sys.stdin.buffer.read()
         with open(path, "rb") as file:
-            return text_of_bytes(file.read())
+            return file.read()
+    except (OSError, ValueError, AttributeError) as fault:
+        raise Unusable(f"{path} can't be read: {getattr(fault, 'strerror', None) or fault}") from fault
+
+
+def load_text(path: str) -> str:
+    """Reads a file, or standard input for `-`, as text."""
+    return text_of_bytes(load_bytes(path))
+
+
+def refuse_other_files(path: str, data: bytes, wanted: str) -> None:
+    for start, what in OTHER_FILES.items():
+        if data.startswith(start):
+            raise Unusable(f"{path} is {what}, and no {wanted}")
+
+
+def looks_like_schedule(data: bytes) -> bool:
+    """Tells whether at least half of the lines that say anything are events."""
+    schedule = read_schedule(data[:100_000])
+    return 2 * len({it.line for it in schedule.faults}) < len(schedule.events)
+
+
+def looks_like_report(data: bytes) -> bool:
+    """Tells whether a text begins with a line that a report begins with, or is the one line where nothing was run."""
+    first = text_of_bytes(data[:1000]).split("\n")[0]
+    if TRIAL.fullmatch(first) or read_by(WHOLE_REFUSALS, first):
+        return True
+    try:
+        return bool(read_line(1, first))
+    except ReportFault:
+        return False
+
+
+def load_report(path: str, partial: bool = False) -> Report:
+    """Reads the report of a run from a file; a refusal and the line of a trial aren't taken for one."""
+    data = load_bytes(path)
+    refuse_other_files(path, data, "report")
+    try:
+        report = read_report(data, partial)
+    except ReportFault as fault:
+        if looks_like_schedule(data):
+            raise Unusable(f"{path} is a schedule, and a report is wanted there") from fault
+        raise Unusable(f"{path} is no report: {fault}") from fault
+    if report.refusal:
+        raise Unusable(f"{path} is no report of a run: {whole_refusal_words(report.refusal)}")
+    if report.trial:
+        raise Unusable(f"{path} is the line of a trial, which has no report of its events")
+    if not report.lines:
+        raise Unusable(f"{path} has no whole line of a report")
+    return report
+
+
+def load_schedule(path: str) -> Schedule:
+    """Reads a schedule from a file, with its faults."""
+    data = load_bytes(path)
+    refuse_other_files(path, data, "schedule")
+    if looks_like_report(data):
+        raise Unusable(f"{path} is a report, and a schedule is wanted there")
+    return read_schedule(data)
+
+
+def load_run(report_path: str, schedule_path: Optional[str] = None, partial: bool = False) -> Tuple[Report, Optional[Schedule]]:
+    """Reads a report and its schedule, which have to be of one run."""
+    if report_path == schedule_path == "-":
+        raise Unusable("only one file can be standard input")
+    report = load_report(report_path, partial)
+    if schedule_path is None:
+        return report, None
+    schedule = load_schedule(schedule_path)
+    if schedule.faults:
+        fault = schedule.faults[0]
+        raise Unusable(f"{schedule_path} has a fault in line {fault.line}: {fault.reason}; tools/lint shows all")
+    reason = why_not_of(report, schedule)
+    if reason:
+        raise Unusable(f"{report_path} isn't the report of {schedule_path}: {reason}")
+    return report, schedule
+
+
+# The commands that lines answer, where it isn't each of them.
+ANSWERED = {
+    "begun": {"begin"},
+    "opened": {"open"},
+    "did": {"create", "remove", "cut", "write"},
+    "read": {"read"},
+    "waiting": {"end"},
+    "committed": {"end", "abort"},
+    "aborted": {"end", "abort"},
+    "refused": set(COMMANDS) - {"again"},
+}
+# The events that some lines need; the start and the end have them too.
+TOLD_BY = {
+    "up": {"restart"},
+    "file": {"show"},
+    "page": {"show"},
+    "locked": {"show"},
+    "down": {"crash"},
+    "event-refused": set(OTHERS) - {"settle"} | {"arm"},
+}
+
+
+def why_not_told(line: Line, event: Event) -> Optional[str]:
+    """Says why an event can't have told a line, or returns None."""
+    fields = line.fields
+    wrong = event.kind not in TOLD_BY.get(line.kind, {event.kind})
+    if line.kind in TOLD_BY and line.kind != "event-refused":
+        wrong = wrong or event.fields["server"] != fields["server"]
+    if line.kind == "message" and event.kind in COMMANDS:
+        wrong = fields["sender"] != event.fields["client"]
+    return f"line {line.number} of the report doesn't go with event {event.number}, `{shortened(event.raw.strip())}`" if wrong else None
+
+
+def why_not_answered(line: Line, event: Optional[Event]) -> Optional[str]:
+    """Says why a line can't answer an event, or returns None."""
+    if event is None:
+        return f"line {line.number} answers an event that the schedule doesn't have"
+    fits = event.kind in ANSWERED[line.kind] and event.fields["client"] == line.fields["client"]
+    if fits and line.kind == "opened":
+        fits = event.fields["server"] == line.fields["server"]
+    return None if fits else f"line {line.number} of the report doesn't answer event {event.number}, `{shortened(event.raw.strip())}`"
+
+
+def why_not_of(report: Report, schedule: Schedule) -> Optional[str]:
+    """Says by which line a report shows that it isn't that of a schedule; None where nothing shows it."""
+    for line in report.lines:
+        if not line.event:
+            continue
+        event = schedule.event(line.event)
+        if event is None:
+            return f"line {line.number} is of event {line.event}, and the schedule has {len(schedule.events)} events"
+        reason = why_not_told(line, event)
+        if reason is None and "command" in line.fields:
+            reason = why_not_answered(line, schedule.event(line.fields["command"]))
+        if reason:
+            return reason
+    return None
+
+
+# ---- tools
+
+def shortened(text: str, most: int = 60) -> str:
+    return text if len(text) <= most else text[:most - 1] + "\u2026"
+
+
+def visible(text: str) -> str:
+    """Returns a text in which a character that a terminal doesn't show is written out, as `\\r`."""
+    if text.isprintable():
+        return text
+    return "".join(it if it.isprintable() else it.encode("unicode_escape").decode("ascii") for it in text)
+
+
+def parser_of(name: str, usage: str, text: str) -> argparse.ArgumentParser:
+    """Makes a parser of a tool's words that takes no abbreviations and keeps the text of its help as it is."""
+    return argparse.ArgumentParser(
+        prog=f"tools/{name}", usage=usage, description=text, allow_abbrev=False, formatter_class=argparse.RawDescriptionHelpFormatter
+    )
+
+
+def run_tool(name: str, main: Callable[[List[str]], int]) -> None:
+    """Runs a tool and ends with its status; what is wrong with its files is said in one line, with 2."""
+    for stream in (sys.stdout, sys.stderr):
+        if hasattr(stream, "reconfigure"):
+            stream.reconfigure(encoding="utf-8", errors="backslashreplace")
+    try:
+        status = main(sys.argv[1:])
+        sys.stdout.flush()
+    except (Unusable, ReportFault) as fault:
+        print(f"{name}: {visible(str(fault))}", file=sys.stderr)
+        status = 2
+    except BrokenPipeError:
+        # Whoever read the output wants no more of it. What is left in the buffer has nowhere to go.
+        os.dup2(os.open(os.devnull, os.O_WRONLY), sys.stdout.fileno())
+        status = 0
     except OSError as fault:
-        raise Unusable(f"{path}: {fault.strerror or fault}") from fault
+        print(f"{name}: the output can't be written: {fault.strerror}", file=sys.stderr)
+        os.dup2(os.open(os.devnull, os.O_WRONLY), sys.stdout.fileno())
+        status = 2
+    except KeyboardInterrupt:
+        status = 130
+    sys.exit(status)
 
 
 def main(words: List[str]) -> int:
-    parser = argparse.ArgumentParser(prog="tools/report.py", description=__doc__.split("\n")[0])
-    parser.add_argument("report")
-    parser.add_argument("schedule", nargs="?")
-    parser.add_argument("--json", action="store_true", required=True)
+    parser = parser_of("report.py", "tools/report.py REPORT [SCHEDULE] --json", __doc__)
+    parser.add_argument("report", metavar="REPORT", help="a report, or - for standard input")
+    parser.add_argument("schedule", metavar="SCHEDULE", nargs="?", help="the schedule that it is of, or -")
+    parser.add_argument("--json", action="store_true", required=True, help="print each line of the report as an object of JSON, one a line")
     given = parser.parse_args(words)
-    try:
-        report = read_report(load_text(given.report))
-        schedule = read_schedule(load_text(given.schedule)) if given.schedule else None
-    except (Unusable, ReportFault) as fault:
-        print(f"report.py: {fault}", file=sys.stderr)
-        return 2
+    report, schedule = load_run(given.report, given.schedule)
     for it in to_json(report, schedule):
         print(json.dumps(it))
     return 0
 
 
 if __name__ == "__main__":
-    sys.exit(main(sys.argv[1:]))
+    run_tool("report.py", main)
