@@ -8,6 +8,7 @@ import tempfile
 from concurrent.futures import ThreadPoolExecutor
 from typing import NamedTuple
 
+import report as reports
 from commands import TOP, Stop, load, save
 
 PROGRAM = os.path.abspath(os.environ.get("JUNIPER_PROGRAM") or os.path.join(TOP, "crates", "juniper", "out", "juniper"))
@@ -46,6 +47,17 @@ def text_of(data):
     return data.decode("latin-1")
 
 
+def schedule_of(source):
+    """Returns the schedule as it is read, where it has no fault."""
+    schedule = reports.read_schedule(text_of(source.schedule))
+    if schedule.faults:
+        fault = schedule.faults[0]
+        raise Stop(f"{source.path}, line {fault.line}: {fault.reason}; tools/lint shows all faults")
+    if schedule.too_long:
+        raise Stop(f"{source.path}: {schedule.too_long}")
+    return schedule
+
+
 def run_proved(schedule, options):
     done = subprocess.run(["juniper", "run", *options], executable=PROGRAM, input=schedule, stdout=subprocess.PIPE, check=False)
     return Run(done.returncode, text_of(done.stdout))
@@ -59,6 +71,29 @@ def run_one(schedule, options):
     if done.returncode in (69, 70):
         raise Stop("there is no answer without a proved program")
     return Run(done.returncode, text_of(done.stdout))
+
+
+def refusal_of(run):
+    """Returns why a run has no report to look at, or None where it has one."""
+    if run.status in (0, 8, 9) and run.report:
+        return None
+    first = run.report.split("\n")[0]
+    try:
+        refusal = reports.read_report(first + "\n").refusal
+    except reports.ReportFault:
+        refusal = None
+    why = reports.whole_refusal_words(refusal) if refusal else reports.status_words(run.status)
+    return f"{why} (status {run.status})"
+
+
+def report_of(source):
+    """Returns the report of a schedule with all messages."""
+    schedule_of(source)
+    run = run_one(source.schedule, source.options + ["--trace"] * ("--trace" not in source.options))
+    why = refusal_of(run)
+    if why:
+        raise Stop(f"{source.path}: {why}")
+    return run.report
 
 
 def run_many(schedules, options):
