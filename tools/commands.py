@@ -44,6 +44,12 @@ def split(words):
     return words[:at], words[at + 1 :]
 
 
+def usage_of(text):
+    """Returns the line of a help text that says how a tool is called, and the rest of the text."""
+    usage = next(it for it in text.splitlines() if it.startswith("Usage: "))
+    return "usage: " + usage.removeprefix("Usage: "), text.replace(usage + "\n\n", "").strip()
+
+
 def fault_of(words, options, least, most, takes_options):
     """Returns what is wrong with a tool's words, or None."""
     unknown = [it for it in words if it.startswith("-") and it != "-"]
@@ -52,7 +58,8 @@ def fault_of(words, options, least, most, takes_options):
     if options is not None and not takes_options:
         return "it takes no options of a run"
     if not least <= len(words) <= most:
-        return f"it takes {least if least == most else f'{least} to {most}'} words, and here are {len(words)}"
+        wanted = str(least) if least == most else f"{least} to {most}" if most < 1_000 else f"{least} or more"
+        return f"it takes {wanted} words, and here are {len(words)}"
     return None
 
 
@@ -74,19 +81,22 @@ def work_on(name, work, words, options, takes_options):
     return 2
 
 
-def call(name, usage, work, least, most, takes_options=False):
-    """Calls a tool with the words of the command line, and ends with its status. The words behind `--` are options of
-    a run."""
+def call(name, text, work, least, most, takes_options=False):
+    """Calls a tool with the words of the command line, and ends with its status.
+
+    The text is its help, in which a line begins with `Usage: `. The words behind `--` are options of a run.
+    """
     words, options = split(sys.argv[1:])
     # A word may have any bytes, and so may what is printed of it.
     for stream in (sys.stdout, sys.stderr):
         stream.reconfigure(errors="backslashreplace")
+    usage, rest = usage_of(text)
     if "--help" in words or "-h" in words:
-        work, words, least, most, takes_options = (lambda _: print(usage.strip())), [], 0, 0, False
+        work, words, least, most, takes_options = (lambda _: print(f"{usage}\n\n{rest}")), [], 0, 0, False
         options = None
     fault = fault_of(words, options, least, most, takes_options)
     if fault:
-        print(f"{name}: {shown(fault)}\n\n{usage.strip()}", file=sys.stderr)
+        print(f"{name}: {shown(fault)}\n{usage}", file=sys.stderr)
         sys.exit(2)
     try:
         status = work_on(name, work, words, options, takes_options)
