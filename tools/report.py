@@ -640,7 +640,13 @@ def command_words(line: Line, schedule: Optional[Schedule]) -> str:
     return f"{line.fields['client']}'s {event.kind if event else 'command'} ({event_words(number, schedule)})"
 
 
-def described_answer(line: Line, schedule: Optional[Schedule]) -> str:
+def of_client(transaction: str, report: Optional[Report]) -> str:
+    """Says whose transaction it is, where the report tells it."""
+    client = report.clients.get(transaction) if report else None
+    return f", a transaction of {client}" if client else ""
+
+
+def described_answer(line: Line, report: Optional[Report], schedule: Optional[Schedule]) -> str:
     fields, command = line.fields, command_words(line, schedule)
     if line.kind == "begun":
         return f"{command} began transaction {fields['transaction']}"
@@ -652,9 +658,10 @@ def described_answer(line: Line, schedule: Optional[Schedule]) -> str:
         found = "zeros" if fields["hex"] == "-" else fields["hex"]
         return f"{command} read {found}"
     if line.kind == "refused":
-        return f"{command} was refused: {refusal_words(fields['number'], fields)}"
+        holder = of_client(fields["by"], report) if "by" in fields else ""
+        return f"{command} was refused: {refusal_words(fields['number'], fields)}{holder}"
     if line.kind == "waiting":
-        return f"{command} waits at {fields['server']} for {unit_words(fields['unit'])}, which {fields['by']} holds"
+        return f"{command} waits at {fields['server']} for {unit_words(fields['unit'])}, held by {fields['by']}{of_client(fields['by'], report)}"
     if line.kind == "committed":
         return f"{command} was answered: transaction {fields['transaction']} is committed"
     return f"{command} was answered: transaction {fields['transaction']} is aborted, since {cause_words(fields['cause'])}"
@@ -671,7 +678,7 @@ def named_message(number: int, report: Optional[Report]) -> str:
 SERVER_WORDS = {
     "up": "{server} is up, in epoch {epoch}",
     "down": "{server} goes down",
-    "stopped": "{server} stopped within this step",
+    "stopped": "{server} was stopped within a step or a restart",
     "commit": "transaction {transaction} is committed for good",
     "ignored": "{message} came too late or once too often, and was ignored",
     "lost": "{message} was lost, since its server was down",
@@ -679,7 +686,7 @@ SERVER_WORDS = {
     "file": "{server} has file {file}",
     "page": "{server} has block {file}/{block} with the bytes {hex}",
     "message": "{sender} {meaning} ({receiver} is to get this message)",
-    "commits": "the report names {number} commits",
+    "commits": "commits that the report names: {number}",
 }
 
 
@@ -687,7 +694,7 @@ def describe(line: Line, report: Optional[Report] = None, schedule: Optional[Sch
     """Says in words what a line tells."""
     fields = line.fields
     if "command" in fields:
-        return described_answer(line, schedule)
+        return described_answer(line, report, schedule)
     if line.kind == "event-refused":
         return f"the event was refused: {event_refusal_words(fields['number'])}"
     if line.kind == "broke":
@@ -702,6 +709,58 @@ def describe(line: Line, report: Optional[Report] = None, schedule: Optional[Sch
     if line.kind == "outside":
         more["instead"] = IN_PLACE_OF.get(fields["fault"], "the call was done without it")
     return SERVER_WORDS[line.kind].format(**fields, **more)
+
+
+# ---- who waits for whom
+
+class Wait(NamedTuple):
+    """A client's `end` waits at a server for a unit that another transaction holds."""
+
+    client: str
+    server: str
+    unit: str
+    by: str
+
+
+class Waits:
+    """Who waits for whom, by the lines that were taken so far.
+
+    A wait is as a `waiting` line tells it, until the client is answered or the other transaction ends.
+    """
+
+    def __init__(self, report: Report):
+        self.clients = report.clients
+        self.now: List[Wait] = []
+
+    def take(self, line: Line) -> None:
+        """Goes on by a line."""
+        fields = line.fields
+        if line.kind == "waiting":
+            self.now = [it for it in self.now if (it.client, it.server) != (fields["client"], fields["server"])]
+            self.now.append(Wait(fields["client"], fields["server"], fields["unit"], fields["by"]))
+        elif line.kind in ("committed", "aborted", "begun"):
+            self.now = [it for it in self.now if it.client != fields["client"] and it.by != fields["transaction"]]
+        elif line.kind in ("commit", "broke"):
+            self.now = [it for it in self.now if it.by != fields["transaction"]]
+
+    def cycle(self) -> List[Wait]:
+        """Returns waits that lead in a circle from client to client, or none."""
+        for start in sorted({it.client for it in self.now}):
+            found = self.path_back(start, start, [])
+            if found:
+                return found
+        return []
+
+    def path_back(self, client: str, start: str, path: List[Wait]) -> List[Wait]:
+        for wait in (it for it in self.now if it.client == client):
+            holder = self.clients.get(wait.by)
+            if holder == start:
+                return path + [wait]
+            if holder and holder not in [it.client for it in path + [wait]]:
+                found = self.path_back(holder, start, path + [wait])
+                if found:
+                    return found
+        return []
 
 
 # ---- JSON
