@@ -36,6 +36,13 @@ def save(path, data):
         file.write(data)
 
 
+def rows_of(kind):
+    """Returns the rows of bin/words.txt of a kind, each as the parts behind it."""
+    with open(os.path.join(TOP, "bin", "words.txt"), encoding="utf-8") as file:
+        rows = [it.rstrip("\n").split("|") for it in file]
+    return [row[1:] for row in rows if row[0] == kind]
+
+
 def split(words):
     """Returns the words before a `--`, and those behind it, or None where there is no `--`."""
     if "--" not in words:

@@ -1,10 +1,9 @@
 """Reads images, the disks of servers as files, as docs/IMAGE.md describes them."""
 
 import hashlib
-import os
 from typing import Dict, List, NamedTuple, Optional, Tuple
 
-from commands import TOP
+from commands import rows_of
 
 HEADER, PAGE, BLOCK, DIGEST = 16, 512, 448, 32
 MOST_POOL, MOST_HEADS, MOST_DATA, MOST_BLOCKS = 1_000, 1_000, 8_000, 120
@@ -64,13 +63,6 @@ class Image(NamedTuple):
 
 def number_at(data: bytes, at: int, size: int) -> int:
     return int.from_bytes(data[at : at + size], "big")
-
-
-def sentences(kind: str) -> Dict[str, List[str]]:
-    """Returns what bin/words.txt says of a kind's numbers: for each the rest of its row."""
-    with open(os.path.join(TOP, "bin", "words.txt"), encoding="utf-8") as file:
-        rows = [it.rstrip("\n").split("|") for it in file]
-    return {it[1]: it[2:] for it in rows if it[0] == kind}
 
 
 def read_image(data: bytes) -> Image:
@@ -165,9 +157,9 @@ def fault_of(image: Image, server: Optional[int] = None) -> Optional[Tuple[int, 
 
 def fault_words(number: int, argument: Optional[int]) -> str:
     """Says what an unsound image's fault is."""
-    what, *behind = sentences("unsound")[str(number)]
-    return what if argument is None else f"{what}: {behind[0]} {argument}"
+    what, behind = next(row[1:] for row in rows_of("unsound") if row[0] == str(number))
+    return what if argument is None else f"{what}: {behind} {argument}"
 
 
 def no_image_words(number: int) -> str:
-    return sentences("bad")[str(number)][0]
+    return next(what for it, what in rows_of("bad") if it == str(number))
