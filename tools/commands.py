@@ -51,9 +51,9 @@ def split(words):
     return words[:at], words[at + 1 :]
 
 
-def usage_of(text):
+def usage_of(name, text):
     """Returns the line of a help text that says how a tool is called, and the rest of the text."""
-    usage = next(it for it in text.splitlines() if it.startswith("Usage: "))
+    usage = next((it for it in text.splitlines() if it.startswith("Usage: ")), f"Usage: {name}")
     return "usage: " + usage.removeprefix("Usage: "), text.replace(usage + "\n\n", "").strip()
 
 
@@ -97,7 +97,7 @@ def call(name, text, work, least, most, takes_options=False):
     # A word may have any bytes, and so may what is printed of it.
     for stream in (sys.stdout, sys.stderr):
         stream.reconfigure(errors="backslashreplace")
-    usage, rest = usage_of(text)
+    usage, rest = usage_of(name, text)
     if "--help" in words or "-h" in words:
         work, words, least, most, takes_options = (lambda _: print(f"{usage}\n\n{rest}")), [], 0, 0, False
         options = None

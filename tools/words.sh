@@ -1,6 +1,7 @@
 # shellcheck shell=bash
-# What the scripts of this folder do with their words: the comment at the head of each is its help.
+# What scripts do with their words, in bench/ and .ci/: the comment at the head of each is its help.
 
+# Prints the comment at the head of the script.
 print_comment() {
     awk 'NR > 1 { if (!/^#/) exit; sub(/^# ?/, ""); print }' "$0"
 }
@@ -16,7 +17,7 @@ take_numbers() {
         if ! [[ $word =~ ^(0|[1-9][0-9]{0,17})$ ]] || [ "$word" -lt "$least" ]; then most=-1; fi
     done
     if [ $# -gt "$most" ]; then
-        { echo "bench/${0##*/}: it takes other words" && print_comment | sed -n '/^Usage/,$p'; } >&2
+        { echo "${0##*/}: it takes other words" && print_comment | sed -n '/^Usage/,$p'; } >&2
         exit 2
     fi
 }
