@@ -34,10 +34,12 @@ function eventFits(event) {
   return fits([fields.client, clientOf(of)], [fields.server], [of]);
 }
 
-// A second round tells nothing new where its lines are messages, or tell once more what a client waits for.
+// A second round tells nothing new where its lines are messages, also ignored ones, or those lost at a server that was down before, or where they
+// tell once more what a client waits for.
 const lastWaits = new Map();
-function tellsNothingNew(line) {
+function tellsNothingNew(line, hasStop) {
   if (line.kind === "message" || line.kind === "ignored") return true;
+  if (line.kind === "lost") return !hasStop;
   return line.kind === "waiting" && lastWaits.get(line.command) === `${line.server} ${line.unit} ${line.by}`;
 }
 
@@ -49,7 +51,8 @@ const quietRounds = new Map(); // by event: how many messages its second round s
     const second = own.filter((it) => it.part >= FOLDED_PARTS).flatMap(linesAt);
     const remember = (line) => line.kind === "waiting" && lastWaits.set(line.command, `${line.server} ${line.unit} ${line.by}`);
     first.forEach(remember);
-    if (second.length && second.every(tellsNothingNew)) quietRounds.set(event, second.filter((it) => it.kind === "message").length);
+    const hasStop = first.some((it) => it.kind === "stopped");
+    if (second.length && second.every((it) => tellsNothingNew(it, hasStop))) quietRounds.set(event, second.filter((it) => it.kind === "message").length);
     second.forEach(remember);
   }
 })();

@@ -226,6 +226,7 @@ function fillLegend() {
 // ---- the beginning
 
 function start() {
+  document.body.className = "live"; // without the script the style of the picture alone holds
   for (const id of ["bar", "page"]) byId(id).hidden = false;
   byId("notes").hidden = !data.notes.length;
   fillChoices();
