@@ -165,16 +165,16 @@ TRIAL = re.compile(
     rf"refused (?P<refused>{NUMBER}) stopped (?P<stopped>{NUMBER}) outside (?P<outside>{NUMBER}) sha256 (?P<sha256>[0-9a-f]{{64}})"
 )
 
-# Why a command or an event is refused. A second text has the fields of the line.
+# Why a command is refused: in general, and with the fields of the line and of its event where these are known.
 REFUSALS = {
     1: ("the client still has an outstanding command", ""),
     2: ("the client has no transaction", ""),
     3: ("the client already has a transaction", ""),
-    4: ("the server isn't open in the transaction", ""),
-    5: ("the server is already open in the transaction", ""),
-    6: ("there is no such server", ""),
-    11: ("the file isn't there", ""),
-    12: ("the file is already there", ""),
+    4: ("the server isn't open in the transaction", "{server} isn't open in the transaction"),
+    5: ("the server is already open in the transaction", "{server} is already open in the transaction"),
+    6: ("there is no such server", "there is no server {server}"),
+    11: ("the file isn't there", "file {file} isn't there"),
+    12: ("the file is already there", "file {file} is already there"),
     13: ("another transaction holds the unit", "{unit} is locked by {by}"),
     14: ("the transaction's part at the server would have a 41st read unit", ""),
     15: ("the transaction's part at the server would have a 25th intention", ""),
@@ -586,12 +586,15 @@ def coordinator(transaction: str) -> str:
 
 
 def refusal_words(number: int, fields: Optional[dict] = None) -> str:
-    """Says why a command was refused; the fields of its line name the unit or the epochs."""
+    """Says why a command was refused. The fields of its line and of its event name the unit, the file or the server."""
     plain, full = REFUSALS.get(number, (EVENT_REFUSALS.get(number, f"reason {number}"), ""))
-    if full and fields and ("by" in fields or "then" in fields):
-        named = dict(fields, unit=unit_words(fields["unit"])) if "unit" in fields else fields
-        return full.format(**named)
-    return plain
+    named = dict(fields or {})
+    if "unit" in named:
+        named["unit"] = unit_words(named["unit"])
+    try:
+        return full.format(**named) if full else plain
+    except KeyError:
+        return plain
 
 
 def event_refusal_words(number: int) -> str:
@@ -659,7 +662,8 @@ def described_answer(line: Line, report: Optional[Report], schedule: Optional[Sc
         return f"{command} read {found}"
     if line.kind == "refused":
         holder = of_client(fields["by"], report) if "by" in fields else ""
-        return f"{command} was refused: {refusal_words(fields['number'], fields)}{holder}"
+        event = schedule.event(fields["command"]) if schedule else None
+        return f"{command} was refused: {refusal_words(fields['number'], {**(event.fields if event else {}), **fields})}{holder}"
     if line.kind == "waiting":
         return f"{command} waits at {fields['server']} for {unit_words(fields['unit'])}, held by {fields['by']}{of_client(fields['by'], report)}"
     if line.kind == "committed":

@@ -2,6 +2,7 @@
 
 import glob
 import os
+import re
 import subprocess
 import sys
 from typing import Iterator, List, NamedTuple, Optional, Tuple
@@ -98,3 +99,12 @@ def try_refused_file(tries: Tries, name: str, what: str, *words: str, given: byt
     fits = ended.status == 2 and not ended.output and ended.said.count("\n") == 1 and ended.said.startswith(name + ": ")
     tries.require(fits, f"{what}: {ended!r:.400}")
     return ended.said
+
+
+def try_page(tries: Tries, name: str, count: int) -> None:
+    """Requires that docs/LOOKING.md has so many commands of a tool with what they print, which is fenced below each."""
+    section = read_text("docs/LOOKING.md").split(f"\n## tools/{name}\n", 1)[1].split("\n## ", 1)[0]
+    shown = re.findall(r"^    tools/(\S+) (.*)$(?s:.*?)^```\n((?s:.*?))^```$", section, re.M)
+    tries.compare(f"docs/LOOKING.md shows {name}", [it[0] for it in shown], [name] * count)
+    for tool, words, output in shown:
+        tries.require(output in run_tool(tool, *words.split()).output, f"docs/LOOKING.md: tools/{tool} {words} prints other lines")
