@@ -1,19 +1,18 @@
-"""What the tools share that are called by words: help, counts of words, and faults in one line with status 2."""
+"""What the tools share that take plain words: their help, counts of words, numbers, files, and the rows of bin/words.txt."""
 
 import os
 import re
 import sys
 
+from calling import run_tool
+from files import Unusable, load_bytes
+from wording import visible
+
 TOP = os.path.dirname(os.path.dirname(os.path.realpath(__file__)))
 
 
-class Stop(Exception):
+class Stop(Unusable):
     """Ends a tool with status 2, and says why in one line."""
-
-
-def shown(text):
-    """Returns a text so that it stands on one line and can be printed anywhere."""
-    return text.encode("ascii", "backslashreplace").decode().replace("\n", "\\n").replace("\r", "\\r")
 
 
 def number(name, text, least, most):
@@ -25,10 +24,7 @@ def number(name, text, least, most):
 
 def load(path):
     """Returns the bytes of a file, or of standard input for `-`."""
-    if path == "-":
-        return sys.stdin.buffer.read()
-    with open(path, "rb") as file:
-        return file.read()
+    return load_bytes(path)
 
 
 def save(path, data):
@@ -70,45 +66,28 @@ def fault_of(words, options, least, most, takes_options):
     return None
 
 
-def work_on(name, work, words, options, takes_options):
-    """Does the work, and returns its status. Whoever reads standard output may stop doing so at any time."""
-    try:
-        status = work(words, options) if takes_options else work(words)
-        sys.stdout.flush()
-        return status or 0
-    except BrokenPipeError:
-        # Python would say at its end that it can't write what is left.
-        os.dup2(os.open(os.devnull, os.O_WRONLY), sys.stdout.fileno())
-        return 1
-    except OSError as fault:
-        why = f"{fault.filename}: {fault.strerror}" if fault.filename else fault.strerror or str(fault)
-    except (Stop, MemoryError, RecursionError, ValueError) as fault:
-        why = str(fault) or "memory ran out"
-    print(f"{name}: {shown(why)}", file=sys.stderr)
-    return 2
-
-
 def call(name, text, work, least, most, takes_options=False):
     """Calls a tool with the words of the command line, and ends with its status.
 
     The text is its help, in which a line begins with `Usage: `. The words behind `--` are options of a run.
     """
-    words, options = split(sys.argv[1:])
-    # A word may have any bytes, and so may what is printed of it.
-    for stream in (sys.stdout, sys.stderr):
-        stream.reconfigure(errors="backslashreplace")
     usage, rest = usage_of(name, text)
-    if "--help" in words or "-h" in words:
-        work, words, least, most, takes_options = (lambda _: print(f"{usage}\n\n{rest}")), [], 0, 0, False
-        options = None
-    fault = fault_of(words, options, least, most, takes_options)
-    if fault:
-        print(f"{name}: {shown(fault)}\n{usage}", file=sys.stderr)
-        sys.exit(2)
-    try:
-        status = work_on(name, work, words, options, takes_options)
-    except KeyboardInterrupt:
-        status = 130
-    # What couldn't be printed isn't tried again at the end.
-    sys.stdout = None
-    sys.exit(status)
+
+    def main(words):
+        words, options = split(words)
+        if "--help" in words or "-h" in words:
+            print(f"{usage}\n\n{rest}" if rest else usage)
+            return 0
+        fault = fault_of(words, options, least, most, takes_options)
+        if fault:
+            print(f"{name}: {visible(fault)}\n{usage}", file=sys.stderr)
+            return 2
+        try:
+            return (work(words, options) if takes_options else work(words)) or 0
+        except OSError as fault:
+            # Of standard output no file is named.
+            if fault.filename is None:
+                raise
+            raise Stop(f"{os.fsdecode(fault.filename)}: {fault.strerror}") from fault
+
+    run_tool(name, main)
