@@ -26,12 +26,14 @@ class Unusable(Exception):
 
 def load_bytes(path: str) -> bytes:
     """Reads a file, or standard input for `-`."""
+    if path == "-" and sys.stdin is None:
+        raise Unusable("standard input is closed")
     try:
         if path == "-":
             return sys.stdin.buffer.read()
         with open(path, "rb") as file:
             return file.read()
-    except (OSError, ValueError, AttributeError) as fault:
+    except (OSError, ValueError) as fault:
         raise Unusable(f"{path} can't be read: {getattr(fault, 'strerror', None) or fault}") from fault
 
 

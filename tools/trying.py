@@ -80,6 +80,16 @@ def runs() -> Iterator[Tuple[str, str]]:
             yield report, schedule
 
 
+def try_streams(tries: Tries, name: str, words: List[str], by_input: List[str]) -> None:
+    """Requires that a tool says in one line that a stream is closed or full, and nothing where its reader goes away."""
+    cases = {"a closed input": (by_input, "<&-"), "a closed output": (words, ">&-"), "a full disk": (words, ">/dev/full"), "a reader that goes": (words, "| true")}
+    for what, (given, stream) in cases.items():
+        script = f'"$0" "$@" {stream}'
+        done = subprocess.run(["sh", "-c", script, os.path.join(TOP, "tools", name), *given], capture_output=True, check=False, cwd=TOP)
+        wanted = (0, 0) if stream == "| true" else (2, 1)
+        tries.compare(f"{what}: {done.stderr!r:.200}", (done.returncode, done.stderr.count(b"\n")), wanted)
+
+
 def try_words(tries: Tries, name: str, fewest: int, most: int) -> None:
     """Requires that a tool prints usage for `--help`, and refuses wrong words with one line, usage and 2."""
     helped = run_tool(name, "--help")
