@@ -1,8 +1,9 @@
 #!/usr/bin/env python3
 """Reads the reports and the schedules of Juniper, for every tool that looks at runs, and prints a report as JSON.
 
-A tool imports what it needs from here: the tables from `tools/forms.py`, what reads texts from `tools/reading.py`, what says them in
-words from `tools/wording.py` and `tools/waits.py`, and what loads files and takes words from `tools/files.py` and `tools/calling.py`.
+A tool imports what it needs from here. The tables stand in `tools/forms.py`, and what reads texts by them in `tools/reading.py`. The
+words are made in `tools/wording.py` and `tools/waits.py`. Files are loaded by `tools/files.py`, and tools are called by
+`tools/calling.py`.
 """
 
 import json
@@ -21,8 +22,8 @@ from forms import (  # noqa: E402, F401
 from reading import Event, Fault, Line, Report, ReportFault, Schedule, read_line, read_report, read_schedule, text_of_bytes  # noqa: E402, F401
 from waits import Wait, Waits  # noqa: E402, F401
 from wording import (  # noqa: E402, F401
-    SERVER_WORDS, cause_words, coordinator, describe, event_refusal_words, message_words, of_client, refusal_words, shortened, status_words, unit_words,
-    visible, whole_refusal_words,
+    SERVER_WORDS, cause_words, coordinator, describe, event_refusal_words, message_words, named_message, of_client, refusal_words, shortened, status_words,
+    unit_words, visible, whole_refusal_words,
 )
 
 
