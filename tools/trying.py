@@ -82,7 +82,8 @@ def runs() -> Iterator[Tuple[str, str]]:
 
 def try_streams(tries: Tries, name: str, words: List[str], by_input: List[str]) -> None:
     """Requires that a tool says in one line that a stream is closed or full, and nothing where its reader goes away."""
-    cases = {"a closed input": (by_input, "<&-"), "a closed output": (words, ">&-"), "a full disk": (words, ">/dev/full"), "a reader that goes": (words, "| true")}
+    cases = {"a closed input": (by_input, "<&-"), "a closed output": (words, ">&-")}
+    cases.update({"a full disk": (words, ">/dev/full"), "a reader that goes": (words, "| true")})
     for what, (given, stream) in cases.items():
         script = f'"$0" "$@" {stream}'
         done = subprocess.run(["sh", "-c", script, os.path.join(TOP, "tools", name), *given], capture_output=True, check=False, cwd=TOP)
