@@ -149,6 +149,8 @@ def why_not_answered(line: Line, event: Optional[Event]) -> Optional[str]:
     """Says why a line can't answer an event, or returns None."""
     if event is None:
         return f"line {line.number} answers an event that the schedule doesn't have"
+    if event.number > line.event:
+        return f"line {line.number} of the report answers event {event.number}, which comes later"
     fits = event.kind in ANSWERED[line.kind] and event.fields["client"] == line.fields["client"]
     if fits and line.kind == "opened":
         fits = event.fields["server"] == line.fields["server"]
@@ -158,6 +160,8 @@ def why_not_answered(line: Line, event: Optional[Event]) -> Optional[str]:
 def why_not_of(report: Report, schedule: Schedule) -> Optional[str]:
     """Says by which line a report shows that it isn't that of a schedule; None where nothing shows it."""
     for line in report.lines:
+        if not line.event and "command" in line.fields:
+            return f"line {line.number} of the report answers a command at the start or the end, where none is answered"
         if not line.event:
             continue
         event = schedule.event(line.event)

@@ -219,6 +219,8 @@ class Settle:
 
 
 def steps_of_settle(event: Optional[int], lines: List[Line], queue: List[Line], is_cut: bool, causes: Dict[int, Set[Optional[int]]]) -> List[Step]:
+    if not lines and not queue:
+        return []
     steps = Settle(lines, queue, event is None, is_cut).steps(event, causes)
     if steps is not None:
         return steps

@@ -205,8 +205,9 @@ function drawBar(command, layer) {
   const ends = command.last >= 0 ? layout.rowOfLine[command.last] : command.replacedBy ? layout.rowOfEvent[command.replacedBy] : layout.rows.length - 0.5;
   const bar = svg("g", { "data-event": command.event, class: "label" });
   const rect = (top, bottom, kind) => bar.append(svg("rect", { class: "bar " + kind, x: x - 4, y: yOf(top) - 5, width: 8, height: Math.max(10, (bottom - top) * ROW + 10), rx: 3 }));
-  rect(from, ends, BARS[command.outcome]);
-  if (command.waits.length) rect(layout.rowOfLine[command.waits[0]], ends, "waits");
+  const waits = command.waits.length ? layout.rowOfLine[command.waits[0]] : ends;
+  rect(from, waits, BARS[command.outcome]);
+  if (command.waits.length) rect(waits, ends, "waits");
   bar.append(svg("title", {}, `${textOfEvent(command.event)} (event ${command.event}): ${outcomeWords(command)}`));
   layer.append(bar);
 }

@@ -121,6 +121,8 @@ function goToHit(step) {
 
 // ---- controls
 
+const MOST_CHOICES = 300; // of transactions; any other can be typed
+
 function fillChoices() {
   const add = (id, value, text) => {
     const option = html("option", "", text);
@@ -129,7 +131,7 @@ function fillChoices() {
   };
   for (const it of parties) add(it[0] === "c" ? "client" : "server", it, it);
   const byName = transactions.map((it, number) => number).sort((a, b) => compareNames(nameOf(a), nameOf(b)));
-  for (const number of byName) add("transaction", number, nameOf(number) + (clientOf(number) ? ` (${clientOf(number)})` : ""));
+  for (const number of byName.slice(0, MOST_CHOICES)) add("transactions", nameOf(number), clientOf(number) ? "of " + clientOf(number) : "");
 }
 
 function compareNames(a, b) {
@@ -141,7 +143,8 @@ function setFilter(client, server, transaction) {
   Object.assign(filter, { client, server, transaction });
   byId("client").value = client;
   byId("server").value = server;
-  byId("transaction").value = transaction < 0 ? "" : String(transaction);
+  byId("transaction").value = transaction < 0 ? "" : nameOf(transaction);
+  byId("transaction").setCustomValidity("");
   relayout();
 }
 
@@ -150,8 +153,11 @@ function clearFilters() {
 }
 
 function readFilters() {
+  const name = byId("transaction").value.trim();
+  const isKnown = name === "" || numberOf.has(name);
+  byId("transaction").setCustomValidity(isKnown ? "" : "The report names no such transaction");
   Object.assign(filter, {
-    client: byId("client").value, server: byId("server").value, transaction: byId("transaction").value === "" ? -1 : Number(byId("transaction").value),
+    client: byId("client").value, server: byId("server").value, transaction: name && isKnown ? numberOf.get(name) : -1,
     inquire: byId("inquire").checked, rounds: byId("rounds").checked,
   });
   if (!filter.rounds) unfolded.clear();
@@ -163,7 +169,7 @@ function takeKey(key) {
   const isTyping = key.target === byId("search");
   if (key.key === "Escape") letGo();
   else if (isTyping && key.key === "Enter") goToHit(key.shiftKey ? -1 : 1);
-  else if (isTyping || key.target.tagName === "SELECT") return;
+  else if (key.target.tagName === "SELECT" || key.target.tagName === "INPUT" && key.target.type !== "checkbox") return;
   else if (key.key === "/") byId("search").focus();
   else if (key.key === "j") pickNext(1);
   else if (key.key === "k") pickNext(-1);

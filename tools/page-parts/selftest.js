@@ -1,13 +1,13 @@
 // With #selftest at the end of the address the page tries itself and writes what it counted behind all else, for tools/test_page.
 
 function runSelftest() {
-  const found = { painted: Math.round(performance.now()), nodes: {}, arrows: {}, past: {}, future: {} };
+  const found = { painted: Math.round(performance.now()), past: {}, future: {} };
   found.messages = messages.length;
   found.transactions = messages.map((it) => nameOf(it.of));
   found.commands = messages.map((it) => it.command);
   found.how = messages.map((it) => it.how);
   found.arrows = countArrows();
-  for (const it of messages.slice(0, 400)) {
+  for (const it of messages.length < 2000 ? messages.slice(0, 60) : []) {
     const cones = conesOfMessage(it);
     const sorted = (set) => [...set].sort((a, b) => a - b);
     found.past[it.number] = sorted(cones.pastMessages);
@@ -38,7 +38,7 @@ function countArrows() {
   Object.assign(filter, { inquire: true, rounds: true });
   found.all = count("", "", -1);
   for (const it of parties) found[it[0] === "c" ? "clients" : "servers"][it] = it[0] === "c" ? count(it, "", -1) : count("", it, -1);
-  transactions.forEach((it, number) => { found.transactions[it.name] = count("", "", number); });
+  transactions.slice(0, messages.length < 2000 ? 100 : 5).forEach((it, number) => { found.transactions[it.name] = count("", "", number); });
   Object.assign(filter, { inquire: true, rounds: false });
   found.folded = count("", "", -1);
   Object.assign(filter, { inquire: false, rounds: true });
