@@ -1,6 +1,8 @@
 """What the tests of the tools share: counting tries, running a tool, and the words and files that each tool has to refuse."""
 
 import glob
+import importlib.machinery
+import importlib.util
 import os
 import re
 import subprocess
@@ -48,6 +50,14 @@ def run_tool(name: str, *words: str, given: bytes = b"") -> Ended:
     """Runs a tool from `tools/` on these words and this standard input."""
     done = subprocess.run([os.path.join(TOP, "tools", name), *words], input=given, capture_output=True, check=False, cwd=TOP)
     return Ended(done.returncode, done.stdout.decode("utf-8", "replace"), done.stderr.decode("utf-8", "replace"))
+
+
+def load_script(path: str):
+    """Loads a script that has no ending as a module; the path is from the top."""
+    loader = importlib.machinery.SourceFileLoader(os.path.basename(path), os.path.join(TOP, path))
+    module = importlib.util.module_from_spec(importlib.util.spec_from_loader(loader.name, loader))
+    loader.exec_module(module)
+    return module
 
 
 def read_bytes(path: str) -> bytes:
