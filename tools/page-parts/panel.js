@@ -62,6 +62,7 @@ function fillPanel() {
   if (picked.message >= 0) appendMessage(panel, messages[picked.message]);
   appendEvent(panel);
   appendStanding(panel);
+  appendMessages(panel);
 }
 
 function appendSummary(panel) {
@@ -124,7 +125,7 @@ function appendEvent(panel) {
     if (command.last >= 0 && lines[command.last].event !== event) parts.push(" in ", eventLink(lines[command.last].event));
     panel.append(paragraph("", ...parts));
   }
-  const told = own.filter((it) => it.kind !== "message"), sent = own.filter((it) => it.kind === "message");
+  const told = own.filter((it) => it.kind !== "message");
   const makeLine = (line) => {
     const made = html("div");
     made.append(html("p", "", line.words), html("span", "raw", line.raw));
@@ -132,14 +133,19 @@ function appendEvent(panel) {
   };
   if (told.length) panel.append(html("h2", "", "What is told"));
   appendList(panel, told, makeLine);
+  if (!own.length) panel.append(html("p", "faint", event > shownLast ? "The report was cut before this event." : "The report has no line of this event."));
+}
+
+// What the event sends and hands over; last, since it can be long.
+function appendMessages(panel) {
+  const event = picked.event, sent = linesOf(event).filter((it) => it.kind === "message");
   if (sent.length) panel.append(html("h2", "", `Messages sent: ${sent.length}`));
   appendList(panel, sent, messageRow);
   const taken = momentsOf(event).filter((it) => it.message >= 0);
   if (taken.length) panel.append(html("h2", "", `Messages handed over: ${taken.length}`), numbersOf(new Set(taken.map((it) => it.message))));
-  if (!own.length) panel.append(html("p", "faint", event > shownLast ? "The report was cut before this event." : "The report has no line of this event."));
   if (!data.traced) return;
   const { past, future } = conesOfEvent(event);
-  panel.append(paragraph("faint", `Causal past: ${past.size} steps of clients and servers; causal future: ${future.size}.`));
+  panel.append(html("h2", "", "Causes"), paragraph("faint", `Causal past: ${past.size} steps of clients and servers; causal future: ${future.size}.`));
 }
 
 function messageRow(line) {
