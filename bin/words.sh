@@ -64,14 +64,19 @@ answer_with() {
 # Answers words that ask for help, and ends. The program itself refuses all of these.
 answer_help() {
     local word
-    case "$#, ${1-}, ${2-}" in
-        *', --help, '* | *', -h, '* | '1, help, ') answer_with print_help ;;
-        *', --version, '* | *', -V, '*) answer_with print_version ;;
-        '2, help, run' | '2, help, trial') answer_with print_help "$2" ;;
-        *', run, '* | *', trial, '*)
+    case ${1-} in
+        --help | -h) answer_with print_help ;;
+        --version | -V) answer_with print_version ;;
+        help)
+            case "$# ${2-}" in
+                '1 ') answer_with print_help ;;
+                '2 run' | '2 trial') answer_with print_help "$2" ;;
+            esac
+            ;;
+        run | trial)
             for word in "${@:2}"; do
                 case $word in
-                    --) return ;;
+                    --) return 0 ;;
                     --help | -h) answer_with print_help "$1" ;;
                 esac
             done

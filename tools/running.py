@@ -97,7 +97,9 @@ def report_of(source):
 
 
 def run_many(schedules, options):
-    """Returns the runs of these schedules, in their order."""
+    """Returns the runs of these schedules, in their order. They would save their images over one another's."""
+    if any(it.startswith("--out") for it in options):
+        raise Stop("many runs save no images: leave out --out")
     if not is_proved():
         return run_unproved(schedules, options) if len(schedules) > 1 else [run_one(it, options) for it in schedules]
     with ThreadPoolExecutor(os.cpu_count()) as pool:
@@ -106,7 +108,7 @@ def run_many(schedules, options):
 
 def run_unproved(schedules, options):
     """Runs schedules without proofs, all with one compilation, which takes a minute or more."""
-    if any(it.startswith(("--in", "--out")) for it in options):
+    if any(it.startswith("--in") for it in options):
         raise Stop("without a proved program many runs take no images: bin/build builds it")
     print(f"no proved program is built yet, so {len(schedules)} runs are compiled without proofs, in a minute or more", file=sys.stderr)
     names = [f"{number:06}" for number in range(len(schedules))]
