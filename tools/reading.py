@@ -84,6 +84,8 @@ def check_order(lines: List[Line]) -> None:
         event = float("inf") if line.event is None else line.event
         if event < last:
             raise ReportFault(line.number, "its event is before that of the line above")
+        if (line.event or 0) > MOST_EVENTS:
+            raise ReportFault(line.number, f"its event is above {MOST_EVENTS}, and no run has more events")
         last = event
         if line.kind == "message":
             if line.fields["number"] != messages:

@@ -1,6 +1,6 @@
 """Finds by the lines of a report which client waits for which."""
 
-from typing import List, NamedTuple
+from typing import Dict, List, NamedTuple
 
 from reading import Line, Report
 
@@ -22,6 +22,8 @@ class Waits:
 
     def __init__(self, report: Report):
         self.clients = report.clients
+        # The transaction in which each client is now.
+        self.own: Dict[str, str] = {}
         self.now: List[Wait] = []
 
     def take(self, line: Line) -> None:
@@ -31,6 +33,7 @@ class Waits:
             self.now = [it for it in self.now if (it.client, it.server) != (fields["client"], fields["server"])]
             self.now.append(Wait(fields["client"], fields["server"], fields["unit"], fields["by"]))
         elif line.kind in ("committed", "aborted", "begun"):
+            self.own[fields["client"]] = fields["transaction"] if line.kind == "begun" else ""
             self.now = [it for it in self.now if it.client != fields["client"] and it.by != fields["transaction"]]
         elif line.kind in ("commit", "broke"):
             self.now = [it for it in self.now if it.by != fields["transaction"]]
@@ -45,7 +48,10 @@ class Waits:
 
     def path_back(self, client: str, start: str, path: List[Wait]) -> List[Wait]:
         for wait in (it for it in self.now if it.client == client):
+            # A part that a client left behind in an earlier transaction waits for nobody.
             holder = self.clients.get(wait.by)
+            if holder and self.own.get(holder) != wait.by:
+                continue
             if holder == start:
                 return path + [wait]
             if holder and holder not in [it.client for it in path + [wait]]:
