@@ -84,12 +84,17 @@ def load_report(path: str, partial: bool = False) -> Report:
     return report
 
 
-def load_schedule(path: str) -> Schedule:
-    """Reads a schedule from a file, with its faults."""
-    data = load_bytes(path)
+def refuse_what_is_none(path: str, data: bytes) -> None:
+    """Refuses bytes that surely aren't meant as a schedule."""
     refuse_other_files(path, data, "schedule")
     if looks_like_report(data):
         raise Unusable(f"{path} is a report, and a schedule is wanted there")
+
+
+def load_schedule(path: str) -> Schedule:
+    """Reads a schedule from a file, with its faults."""
+    data = load_bytes(path)
+    refuse_what_is_none(path, data)
     return read_schedule(data)
 
 

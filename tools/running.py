@@ -10,6 +10,7 @@ from typing import NamedTuple
 
 import report as reports
 from commands import TOP, Stop, load, save
+from files import refuse_what_is_none
 
 PROGRAM = os.path.abspath(os.environ.get("JUNIPER_PROGRAM") or os.path.join(TOP, "crates", "juniper", "out", "juniper"))
 SCRIPT = os.path.join(TOP, "bin", "juniper")
@@ -49,6 +50,7 @@ def text_of(data):
 
 def schedule_of(source):
     """Returns the schedule as it is read, where it has no fault."""
+    refuse_what_is_none(source.path, source.schedule)
     schedule = reports.read_schedule(text_of(source.schedule))
     if schedule.faults:
         fault = schedule.faults[0]
