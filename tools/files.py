@@ -4,7 +4,7 @@ import sys
 from typing import Optional, Tuple
 
 from forms import COMMANDS, OTHERS, TRIAL, WHOLE_REFUSALS, read_by
-from reading import Event, Line, Report, ReportFault, Schedule, read_line, read_report, read_schedule, text_of_bytes
+from reading import Event, Line, Report, ReportFault, Schedule, limit_passed, read_line, read_report, read_schedule, text_of_bytes
 from wording import shortened, whole_refusal_words
 
 # How files begin that are neither reports nor schedules.
@@ -98,6 +98,22 @@ def load_schedule(path: str) -> Schedule:
     return read_schedule(data)
 
 
+def load_sound_schedule(path: str) -> Schedule:
+    """Reads a schedule that the program takes; as there, too many bytes count before a fault, and too many events behind it."""
+    data = load_bytes(path)
+    refuse_what_is_none(path, data)
+    too_long = limit_passed(len(data), 0)
+    if too_long:
+        raise Unusable(f"{path}: {too_long}")
+    schedule = read_schedule(data)
+    if schedule.faults:
+        fault = schedule.faults[0]
+        raise Unusable(f"{path} has a fault in line {fault.line}: {fault.reason}; tools/lint shows all")
+    if schedule.too_long:
+        raise Unusable(f"{path}: {schedule.too_long}")
+    return schedule
+
+
 def load_run(report_path: str, schedule_path: Optional[str] = None, partial: bool = False) -> Tuple[Report, Optional[Schedule]]:
     """Reads a report and its schedule, which have to be of one run."""
     if report_path == schedule_path == "-":
@@ -105,10 +121,7 @@ def load_run(report_path: str, schedule_path: Optional[str] = None, partial: boo
     report = load_report(report_path, partial)
     if schedule_path is None:
         return report, None
-    schedule = load_schedule(schedule_path)
-    if schedule.faults:
-        fault = schedule.faults[0]
-        raise Unusable(f"{schedule_path} has a fault in line {fault.line}: {fault.reason}; tools/lint shows all")
+    schedule = load_sound_schedule(schedule_path)
     reason = why_not_of(report, schedule)
     if reason:
         raise Unusable(f"{report_path} isn't the report of {schedule_path}: {reason}")
