@@ -6,6 +6,7 @@ import sys
 
 from calling import run_tool
 from files import Unusable, load_bytes
+from forms import words_but
 from wording import visible
 
 TOP = os.path.dirname(os.path.dirname(os.path.realpath(__file__)))
@@ -62,7 +63,7 @@ def fault_of(words, options, least, most, takes_options):
         return "it takes no options of a run"
     if not least <= len(words) <= most:
         wanted = str(least) if least == most else f"{least} to {most}" if most < 1_000 else f"{least} or more"
-        return f"it takes {wanted} words, and here are {len(words)}"
+        return f"it takes {words_but(wanted, len(words))}"
     return None
 
 

@@ -3,7 +3,7 @@
 import sys
 from typing import Optional, Tuple
 
-from forms import COMMANDS, OTHERS, TRIAL, WHOLE_REFUSALS, read_by
+from forms import COMMANDS, OTHERS, TRIAL, WHOLE_REFUSALS, counted, read_by
 from reading import Event, Line, Report, ReportFault, Schedule, limit_passed, read_line, read_report, read_schedule, text_of_bytes
 from wording import shortened, whole_refusal_words
 
@@ -184,7 +184,7 @@ def why_not_of(report: Report, schedule: Schedule) -> Optional[str]:
             continue
         event = schedule.event(line.event)
         if event is None:
-            return f"line {line.number} is of event {line.event}, and the schedule has {len(schedule.events)} events"
+            return f"line {line.number} is of event {line.event}, and the schedule has {counted(len(schedule.events), 'event')}"
         reason = why_not_told(line, event)
         if reason is None and "command" in line.fields:
             reason = why_not_answered(line, schedule.event(line.fields["command"]))

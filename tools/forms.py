@@ -217,6 +217,18 @@ EVENT_REFUSALS = {
     46: "16 faults wait there already, or one for that very call",
     47: "there is no such physical page",
 }
+
+
+def counted(count: int, what: str) -> str:
+    """Returns a count with what it counts, as `1 event` or `2 events`."""
+    return f"{count} {what}{'' if count == 1 else 's'}"
+
+
+def words_but(wanted: str, count: int) -> str:
+    """Says how many words are wanted, and how many are there."""
+    return f"{wanted} word{'' if wanted == '1' else 's'}, and here {'is' if count == 1 else 'are'} {count}"
+
+
 RESOURCES = {31: "records of the pool", 32: "data pages", 33: "heads of files"}
 STATUSES = {
     0: "all was done",

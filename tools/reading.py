@@ -7,6 +7,7 @@ from typing import Dict, List, NamedTuple, Optional, Tuple, Union
 
 from forms import (
     CALL, CLIENT, COMMANDS, FORMS_BY_KEY, KINDS, MOST_BYTES, MOST_EVENTS, MOST_HEX, NUMBER, OTHERS, SERVER, TRIAL, WHOLE_REFUSALS, Place, read_by,
+    words_but,
 )
 
 PARTY = re.compile("c[1-8]|s[0-7]")
@@ -231,7 +232,7 @@ def read_event(words: List[str]) -> Union[List[WordFault], Tuple[str, dict]]:
     if len(words) != before + len(places):
         wanted = before + len(places)
         at = min(wanted, len(words) - 1)
-        return [WordFault(at, 2, f"this event has {wanted} words, and here are {len(words)}")]
+        return [WordFault(at, 2, f"this event has {words_but(str(wanted), len(words))}")]
     values = list(zip(range(before, len(words)), places))
     if kind == "arm":
         values = [(1, SERVER), (2, CALL)] + values

@@ -17,7 +17,7 @@ from calling import parser_of, run_tool  # noqa: E402
 from files import Unusable, load_bytes, load_report, load_run, load_schedule, load_text, why_not_of  # noqa: E402, F401
 from forms import (  # noqa: E402, F401
     BLOCK, CALL, CAUSES, COMMANDS, EVENT_REFUSALS, FAULTS, FILE, FORMS, IN_PLACE_OF, KINDS, MESSAGES, MOST_BYTES, MOST_EVENTS, OTHERS, PAGE, REFUSALS,
-    RESOURCES, SERVER, STATUSES, WHOLE_REFUSALS, Form, Place,
+    RESOURCES, SERVER, STATUSES, WHOLE_REFUSALS, Form, Place, counted,
 )
 from reading import Event, Fault, Line, Report, ReportFault, Schedule, read_line, read_report, read_schedule, text_of_bytes  # noqa: E402, F401
 from waits import Wait, Waits  # noqa: E402, F401

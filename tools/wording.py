@@ -51,7 +51,7 @@ def cause_words(cause: dict) -> str:
     if cause["word"] == "lost":
         return f"{cause['server']} lost its part"
     what = RESOURCES.get(cause["number"], f"resource {cause['number']}")
-    return f"{cause['server']} had no room: {cause['need']} {what} were needed, and {cause['free']} were free"
+    return f"{cause['server']} had too few {what}: {cause['need']} needed, {cause['free']} free"
 
 
 def status_words(status: int) -> str:
