@@ -79,6 +79,8 @@ def refusal_of(run):
     """Returns why a run has no report to look at, or None where it has one."""
     if run.status in (0, 8, 9) and run.report:
         return None
+    if run.status == 0:
+        return "it printed no report (status 0)"
     first = run.report.split("\n")[0]
     try:
         refusal = reports.read_report(first + "\n").refusal
