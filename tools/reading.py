@@ -67,6 +67,8 @@ class Report:
 
 def read_line(number: int, raw: str) -> Line:
     """Reads a line of a report."""
+    if raw.endswith("\r"):
+        raise ReportFault(number, "it ends with \\r, and a line feed alone has to end it")
     when, colon, text = raw.partition(": ")
     if not colon or not WHEN.fullmatch(when):
         raise ReportFault(number, "it doesn't begin with an event's number, or `end`, and a colon")
@@ -96,18 +98,28 @@ def check_order(lines: List[Line]) -> None:
             raise ReportFault(line.number, f"message {line.fields['number']} isn't sent by then")
 
 
-def whole_lines(text: str, partial: bool) -> List[str]:
-    """Returns the lines of a text, which each end with a line feed; a last piece without one is left out of a part of a text."""
-    lines = text.split("\n")
-    last = lines.pop()
-    if last and not partial:
-        raise ReportFault(len(lines) + 1, "it has no end: the report was cut")
-    return lines
+# How the front of a first line of a report, of a refusal or of a trial begins, where it is cut.
+CUT_FRONT = re.compile(rf"(?:{NUMBER}|end)(?::.*)?|refused.*|trial.*|[a-z]{{1,6}}")
+
+
+def check_end(lines: List[str], last: str) -> None:
+    """Requires that nothing stands behind the last line feed. What is wrong above, or can't be a report's front, is said first."""
+    if not last:
+        return
+    for number, raw in enumerate(lines, 1):
+        if number > 1 or not (read_by(WHOLE_REFUSALS, raw) or TRIAL.fullmatch(raw)):
+            read_line(number, raw)
+    if not lines and not CUT_FRONT.fullmatch(last):
+        read_line(1, last)
+    raise ReportFault(len(lines) + 1, "it has no end: the report was cut")
 
 
 def read_report(text: Union[str, bytes], partial: bool = False) -> Report:
     """Reads the text of a report, or, where `partial` is set, of its front up to any byte."""
-    raws = whole_lines(text_of_bytes(text), partial)
+    raws = text_of_bytes(text).split("\n")
+    last = raws.pop()
+    if not partial:
+        check_end(raws, last)
     if not raws:
         if partial:
             return Report()
