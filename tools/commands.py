@@ -6,10 +6,8 @@ import sys
 
 from calling import run_tool
 from files import Unusable, load_bytes
-from forms import words_but
+from forms import TOP, rows_of, words_but  # noqa: F401
 from wording import visible
-
-TOP = os.path.dirname(os.path.dirname(os.path.realpath(__file__)))
 
 
 class Stop(Unusable):
@@ -31,13 +29,6 @@ def load(path):
 def save(path, data):
     with open(path, "wb") as file:
         file.write(data)
-
-
-def rows_of(kind):
-    """Returns the rows of bin/words.txt of a kind, each as the parts behind it."""
-    with open(os.path.join(TOP, "bin", "words.txt"), encoding="utf-8") as file:
-        rows = [it.rstrip("\n").split("|") for it in file]
-    return [row[1:] for row in rows if row[0] == kind]
 
 
 def split(words):

@@ -1,11 +1,14 @@
 """The forms of lines of a report and of events of a schedule, and the words for their parts.
 
 docs/REPORT.md and docs/SCHEDULE.md describe the same forms; `tools/test_report` compares them. `FORMS` has one row for each form of a
-line, and `COMMANDS` and `OTHERS` one for each form of an event. A new form is one more row.
+line, and `COMMANDS` and `OTHERS` one for each form of an event. A new form is one more row. The statuses are those of bin/words.txt.
 """
 
+import os
 import re
 from typing import Dict, List, NamedTuple, Optional, Tuple
+
+TOP = os.path.dirname(os.path.dirname(os.path.realpath(__file__)))
 
 # No number of a report or a schedule has more than 20 digits.
 NUMBER = r"(?:0|[1-9][0-9]{0,19})"
@@ -230,19 +233,16 @@ def words_but(wanted: str, count: int) -> str:
 
 
 RESOURCES = {31: "records of the pool", 32: "data pages", 33: "heads of files"}
-STATUSES = {
-    0: "all was done",
-    2: "the words aren't a command, or one isn't text",
-    3: "the bytes aren't a schedule",
-    4: "an image is missing, is none or is unsound",
-    5: "standard input failed",
-    6: "standard output failed",
-    7: "an image can't be loaded or saved",
-    8: "a limit was reached: bytes or events of the schedule, messages, or epochs of a server",
-    9: "memory ran out",
-    69: "no proved program is built, and `rt` isn't on the path",
-    70: "no proved program is built, and a run without proofs gives no answer",
-}
+
+
+def rows_of(kind: str) -> List[List[str]]:
+    """Returns the rows of bin/words.txt of a kind, each as the parts behind it."""
+    with open(os.path.join(TOP, "bin", "words.txt"), encoding="utf-8") as file:
+        rows = [it.rstrip("\n").split("|") for it in file]
+    return [row[1:] for row in rows if row[0] == kind]
+
+
+STATUSES = {int(row[0]): row[1] for row in rows_of("status")}
 
 
 class Place(NamedTuple):
