@@ -1,5 +1,5 @@
 -- The names from below that these proofs cite, passed on from one place. Declares nothing.
-pub use Rattle.std.proofs.Common.{◌≡◌, ◌⊎◌, inl, inr, ◌≤◌, ◌<◌, ℕ, true, false, List, [], ◌++◌, Option, Some, None, is_some, refl, sym, ◌∙◌, ap, subst, ◌≢◌, ◌/◌, Bool, if◌then◌else◌, ◌+◌, ◌∷◌, append-nil, length, map, drop, arith}
+pub use Rattle.std.proofs.Common.{◌≡◌, ◌⊎◌, inl, inr, ◌≤◌, ◌<◌, ℕ, true, false, List, [], ◌++◌, Option, Some, None, is_some, refl, sym, ◌∙◌, ap, subst, ◌≢◌, ◌/◌, Bool, if◌then◌else◌, arith, ◌+◌, ◌∷◌, append-nil, length, map, drop}
 pub use Rattle.std.specs.List.{AllByRecursion, list_all, list_any}
 pub use Rattle.jn_base.specs.declared.names.ServerNo.{ServerNo}
 pub use Rattle.jn_base.specs.declared.names.Tid.{Tid}
@@ -18,10 +18,10 @@ pub use Rattle.jn_system_reports.specs.Reporting.Reported.{events_of, steps_of, 
 pub use Rattle.jn_system_settling.specs.Settling.Course.{go_on}
 pub use Rattle.jn_system_reports.specs.Telling.Agreement.{AreAsTold}
 pub use Rattle.jn_written.specs.Chances.{Setup, Chance}
-pub use Rattle.jn_written.specs.Devices.{Devices, AreFound, Alone, IsServed, IsLookedOver, IsRecovery, IsUsed}
+pub use Rattle.jn_written.specs.Devices.{Devices, AreFound, Alone, IsServed, IsLookedOver, IsRecovery, IsUsed, IsScrubbed, IsCalled}
 pub use Rattle.jn_written.specs.Runs.{Moment, none, more, DoesStep, Leads}
 pub use Rattle.jn_written.specs.Tasks.{AtEnd, CutShort, Task, Dismisses, InSchedule, State, begun, Begins, Stage, first_of_tasks}
-pub use Rattle.jn_written.specs.Whole.{before, IsWritten}
+pub use Rattle.jn_written.specs.Whole.{before, IsWritten, IsFresh}
 pub use Rattle.jn_retold.specs.Retold.{behind, IsAsIn, IsRetold, IsToldBy, IsRetoldInPart}
 pub use Rattle.jn_retold.proofs.Forms.{as-behind, Between, between, meeting, settling, cut, ended, between-part, meeting-part, amid-part}
 pub use Rattle.jn_retold.proofs.Items.{run-both, is-run-both}

@@ -9,7 +9,8 @@ use Rattle.jn_system_settling.specs.Closing.Ending.{IsEmpty}
 use Rattle.jn_headline.proofs.Begins.{begins}
 use Rattle.jn_headline.proofs.Ended.{PartOf, WholeOf, dismissed, ending, is-whole, lines-are, world-is, up, empty, free, prints}
 use Rattle.jn_headline.proofs.Through.{asked_steps}
-use Rattle.jn_between.proofs.Found.{pages-stay}
+use Rattle.jn_records.specs.StablePages.{page_count}
+use Rattle.jn_between.proofs.Found.{pages-stay, fresh-pages}
 use Rattle.jn_between.proofs.Seen.{seen}
 use Rattle.jn_between.proofs.Moments.{run-consistent, found-now, retold-end}
 
@@ -121,5 +122,5 @@ module _ (x : Setup) (schedule : List Event) (images : Devices) (m : Moment) (fe
         works = λ q c W l. (alone x few h.files schedule m r whole here q c l).0 W;
         flags = λ q c T l. (alone x few h.files schedule m r whole here q c l).1 T;
         found = here;
-        count = λ q l. sym (pages-stay x (record { state = before x schedule h.files h.epochs; devices = images }) m h.leads q ∙ (h.are_images.fresh q l).count);
+        count = λ q l. sym (pages-stay x (record { state = before x schedule h.files h.epochs; devices = images }) m h.leads q ∙ fresh-pages (page_count (x.counts q)) (images q) (h.are_images.fresh q l));
       }

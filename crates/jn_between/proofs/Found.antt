@@ -1,11 +1,14 @@
 -- The world of each moment is what steps of the system lead to, and what is found in it is what is found on the pages.
-use Rattle.jn_between.proofs.Common.{◌≡◌, ◌≢◌, ◌⊎◌, inl, inr, ℕ, ◌/◌, Bool, true, false, if◌then◌else◌, is_some, List, [], ◌++◌, refl, sym, ◌∙◌, ap, subst, ServerNo, server_eq, World, Step, IsRun, run, go_on, Setup, Chance, Task, Dismisses, InSchedule, AtEnd, CutShort, State, begun, deed_of, is_too_much, come_to, cut_short, Devices, Alone, IsServed, IsLookedOver, IsRecovery, IsUsed, AreFound, none, more, Moment, DoesStep, Leads, goes-or-cut, go-world, run-both, is-run-both}
+use Rattle.jn_between.proofs.Common.{◌≡◌, ◌≢◌, ◌⊎◌, inl, inr, ℕ, ◌/◌, Bool, true, false, if◌then◌else◌, is_some, List, [], ◌++◌, refl, sym, ◌∙◌, ap, subst, ServerNo, server_eq, World, Step, IsRun, run, go_on, Setup, Chance, Task, Dismisses, InSchedule, AtEnd, CutShort, State, begun, deed_of, is_too_much, come_to, cut_short, Devices, Alone, IsServed, IsLookedOver, IsRecovery, IsUsed, AreFound, none, more, Moment, DoesStep, Leads, goes-or-cut, go-world, run-both, is-run-both, arith, ◌<◌, IsFresh, IsScrubbed, IsCalled}
+use Rattle.std.proofs.Math.Nat.{mul-div_cancel_left}
 use Rattle.jn_base.proofs.Tells.{server_tells}
 use Rattle.jn_device.specs.Device.{DeviceState}
 use Rattle.jn_device.specs.Events.{powered_off, Decays as PageDecays, Revives as PageRevives, Arms as FaultArmed}
 use Rattle.jn_store.specs.Pairs.{pairs_view}
 use Rattle.jn_written.specs.Deeds.{Use, Nothing, Calls, Reads, Recovers, PowersOff, Decays, Revives, Arms, Disarms, Deed}
 use Rattle.jn_headline.proofs.Came.{stuck}
+use Rattle.jn_written.specs.Deeds.{Cleans}
+use Rattle.jn_written.proofs.Called.{called-store}
 
 -- a task is begun in the same world
 same-world : (task : Task) (s : State) → (begun task s).course.world ≡ s.course.world
@@ -46,6 +49,13 @@ found-then x a b found (more u v t d rest) going = by (does x u v d) (λ now. fo
 abbrev pages : DeviceState → ℕ
 pages d = (pairs_view d).count
 
+-- a device before a run has so many stable pages
+pub fresh-pages : (n : ℕ) (d : DeviceState) → IsFresh n d → pages d ≡ n
+fresh-pages n d f = ap (λ (c : ℕ). c / 2) f.count ∙ mul-div_cancel_left n some
+  where
+    some : 0 < 2
+    some = omega arith
+
 same-alone : (becomes : DeviceState → DeviceState → Type 0) (p : ServerNo) (ds es : Devices) → Alone p becomes ds es → ((d e : DeviceState) → becomes d e → pages e ≡ pages d) → (q : ServerNo) → pages (es q) ≡ pages (ds q)
 same-alone becomes p ds es a stay q = by (server_tells p q)
   where
@@ -53,19 +63,24 @@ same-alone becomes p ds es a stay q = by (server_tells p q)
     by (inl t) = subst (λ (s : ServerNo). pages (es s) ≡ pages (ds s)) t.1 (stay (ds p) (es p) a.its)
     by (inr t) = ap pages (a.others q t.0)
 
--- no use of a device changes that
+-- no call of a device changes that
+called-pages : (most : ℕ) (h : Chance) (d e : DeviceState) → IsCalled most h d e → pages e ≡ pages d
+called-pages most h d e c = ap pages c.after ∙ (let later = called-store most h d e c in later.count)
+
+-- and no use of one
 same-pages : (x : Setup) (h : Chance) (does_so : Use) (w now : World) (ds es : Devices) → IsUsed x h does_so w now ds es → (q : ServerNo) → pages (es q) ≡ pages (ds q)
 same-pages x h Nothing w now ds es used q = ap pages (used q)
-same-pages x h (Calls p) w now ds es used q = same-alone (IsServed (x.counts p) h w p) p ds es used (λ d e s. ap pages s.called.after ∙ s.called.calls.count) q
-same-pages x h (Reads p) w now ds es used q = same-alone (IsLookedOver h w p) p ds es used (λ d e s. ap pages s.called.after ∙ s.called.calls.count) q
-same-pages x h (Recovers p) w now ds es used q = same-alone (IsRecovery h (is_some (now.memory p))) p ds es used (λ d e s. recovered d e (is_some (now.memory p)) s) q
+same-pages x h (Calls p most) w now ds es used q = same-alone (IsServed (x.counts p) most h w p) p ds es used (λ d e s. called-pages most h d e s.called) q
+same-pages x h (Cleans p) w now ds es used q = same-alone (IsScrubbed (x.counts p) h w p) p ds es used (λ d e s. called-pages _ h d e s.served.called) q
+same-pages x h (Reads p) w now ds es used q = same-alone (IsLookedOver (x.counts p) h w p) p ds es used (λ d e s. called-pages _ h d e s.called) q
+same-pages x h (Recovers p) w now ds es used q = same-alone (IsRecovery (x.counts p) h (is_some (now.memory p))) p ds es used (λ d e s. recovered d e (is_some (now.memory p)) s) q
   where
     either : (up : Bool) (d : DeviceState) → pages (if up then d else powered_off d) ≡ pages d
     either true d = refl
     either false d = refl
 
-    recovered : (d e : DeviceState) (up : Bool) → IsRecovery h up d e → pages e ≡ pages d
-    recovered d e up s = ap pages s.after ∙ either up s.last ∙ ap pages s.called.after ∙ s.called.calls.count ∙ ap (λ (n : ℕ). n / 2) s.power.count
+    recovered : (d e : DeviceState) (up : Bool) → IsRecovery (x.counts p) h up d e → pages e ≡ pages d
+    recovered d e up s = ap pages s.after ∙ either up s.last ∙ called-pages _ h s.powered s.last s.called ∙ ap (λ (n : ℕ). n / 2) s.power.count
 same-pages x h (PowersOff p) w now ds es used q = same-alone (λ d e. e ≡ powered_off d) p ds es used (λ d e s. ap pages s) q
 same-pages x h (Decays p n) w now ds es used q = same-alone (λ d e. PageDecays d n h.allows e) p ds es used (λ d e s. ap (λ (n : ℕ). n / 2) s.becomes.count) q
 same-pages x h (Revives p n) w now ds es used q = same-alone (λ d e. PageRevives d n e) p ds es used (λ d e s. ap (λ (n : ℕ). n / 2) s.count) q

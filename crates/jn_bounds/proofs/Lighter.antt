@@ -6,6 +6,7 @@ use Rattle.jn_rows.specs.Outcomes.{RowOutcome, Sent}
 use Rattle.jn_system.specs.WholeSystem.Servers.{Room, server_step}
 use Rattle.jn_system_settling.proofs.Settling.Burdens.{Leads, work-leads}
 use Rattle.jn_rests.proofs.Bounded.{list-bounded}
+use Rattle.jn_storage.specs.DeviceCalls.{step_calls}
 
 -- the first of these that has something to do is one of them
 busy-within : (rubbish : ServerNo → Bool) (w : World) (n j : ℕ) (s : ServerNo) → first_busy rubbish w (servers_from j n) ≡ Some s → s.0 < j + n
@@ -85,7 +86,7 @@ module _ (x : Setup) (at_most : x.servers ≤ 8) (start : World) (h : Chance) (c
   abbrev WithinRest : Deed → Type 0
   WithinRest deed = Bounded x.servers at_most start c (go_on deed.steps c)
 
-  busy : (b : Bool) (q : ServerNo) → q.0 < x.servers → WithinRest (if b then served q (working_steps h q) else nothing)
+  busy : (b : Bool) (q : ServerNo) → q.0 < x.servers → WithinRest (if b then served q step_calls (working_steps h q) else nothing)
   busy true q below = works-on x.servers at_most start c sound q (room h q) below h.stop
   busy false q below = idle x.servers at_most start c sound
 

@@ -1,3 +1,4 @@
 mod Common
 pub mod Get
 pub mod Put
+pub mod OneCall

@@ -3,6 +3,7 @@ use Rattle.std.specs.Prelude.{◌≡◌, ◌≢◌, ◌⊎◌, ℕ, ◌+◌, ◌
 use Rattle.jn_base.specs.declared.device.Stopped.{Stopped}
 use Rattle.jn_device.specs.Device.{DeviceState, Rose, partner_of}
 use Rattle.jn_device.specs.Later.{Later, Struck}
+use Rattle.jn_device.specs.Happens.{Happens}
 use Rattle.jn_phys.specs.declared.Found.{Found}
 use Rattle.jn_phys.specs.declared.Found.TheVariants.{Same, Other, LooksBad}
 
@@ -31,6 +32,7 @@ page_compared (Err e) bytes = Err e
 
 -- a careful get of page p, from s to t
 pub record CarefulGot (s : DeviceState) (p : ℕ) (answer : Result (Option (List ℕ)) Stopped) (t : DeviceState) : Type 0 where
+  pub happens : (from : DeviceState) → Happens from s → Happens from t
   pub later : Later s t
   pub calls : t.calls ≤ s.calls + 4
   pub puts : t.puts ≡ s.puts
@@ -48,6 +50,7 @@ pub record CarefulGot (s : DeviceState) (p : ℕ) (answer : Result (Option (List
 
 -- a careful put of a page at p, from s to t
 pub record CarefulPut (s : DeviceState) (p : ℕ) (new : List ℕ) (stopped : Bool) (t : DeviceState) : Type 0 where
+  pub happens : (from : DeviceState) → Happens from s → Happens from t
   pub later : Later s t
   pub calls : t.calls ≤ s.calls + 8
   pub struck : (q : ℕ) → q ≢ p → Struck q s t

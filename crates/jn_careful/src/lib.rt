@@ -3,11 +3,15 @@
 
 ghost use Rattle.std.specs.Prelude.{◌≡◌, ◌≢◌, ◌≤◌, ◌<◌, [], ℕ, is_err, true, Ok};
 ghost use Rattle.jn_careful.specs.Careful.{CarefulGot, CarefulPut, page_read, page_compared};
+ghost use Rattle.jn_careful.specs.Tries.{MakesGets, MakesPuts};
 ghost use Rattle.jn_phys.specs.Answers.{IsCompared};
 ghost use Rattle.jn_device.specs.Events.{PowersUp, powered_off, Decays, Revives, Arms, is_within, disarmed, cleared};
 
+mod one_call;
+
 use jn_base::{FaultKind, Outside, Page, Stopped};
 use jn_phys::{Found, PhysDisk, PhysPower};
+pub use one_call::a_good_page_is_got_by_one_call;
 use std::marker::Model;
 
 /// How often a call is tried. A page fails at most three times until it is read.
@@ -53,6 +57,7 @@ impl<D: PhysDisk> Careful<D> {
     pub fn get(&mut self, p: u32, into: &mut Page) -> Result<bool, Stopped>
         requires { p < (D.state self.old).count }
         ensures got { CarefulGot (D.state self.old) p (page_read result into.new) (D.state self.new) }
+        ensures makes { MakesGets (D.state self.old) p (page_read result into.new) (D.state self.new) }
         ensures kept { result ≢ Ok true → into.new ≡ into.old }
     {
         for _try in 0..TRIES {
@@ -68,6 +73,7 @@ impl<D: PhysDisk> Careful<D> {
     pub fn compare(&mut self, p: u32, page: &Page) -> Result<Found, Stopped>
         requires { p < (D.state self.old).count }
         ensures got { CarefulGot (D.state self.old) p (page_compared result ((D.state self.new).pages p).bytes) (D.state self.new) }
+        ensures makes { MakesGets (D.state self.old) p (page_compared result ((D.state self.new).pages p).bytes) (D.state self.new) }
         ensures compared { IsCompared result ((D.state self.new).pages p).bytes page.now }
     {
         for _try in 0..TRIES {
@@ -84,6 +90,7 @@ impl<D: PhysDisk> Careful<D> {
     pub fn put(&mut self, p: u32, page: &Page) -> Result<(), Stopped>
         requires { p < (D.state self.old).count }
         ensures put { CarefulPut (D.state self.old) p page.now (is_err result) (D.state self.new) }
+        ensures makes { MakesPuts (D.state self.old) p page.now (is_err result) (D.state self.new) }
     {
         for _try in 0..TRIES {
             let found = self.disk.put_and_compare(p, page)?;

@@ -2,3 +2,4 @@ pub mod Device
 pub mod Calls
 pub mod Events
 pub mod Later
+pub mod Happens

@@ -82,6 +82,7 @@ module _ (server : ServerNo) (g : Counts) (halves : List Half) (are : AreSound s
       pub is_store : IsStoreOfPages server g halves (pairs_view s)
       is_store = record {
         fresh = λ epoch fits root. image_fresh server (image_of server g halves) (pairs_view s) are.sound are.fit store_of epoch fits root;
+        device = sym holds.count ∙ are.size;
         untouched = record {
           calm = record { quiet = new.waiting; power = new.power };
           told = new.told;

@@ -1,11 +1,13 @@
 -- A store of zeros with a root, as a new server has it.
-use Rattle.jn_disks.proofs.Common.{◌≡◌, ℕ, zero, suc, ◌+◌, ◌<◌, ◌^◌, ◌||◌, ◌&&◌, ◌≤◌, nat_eq, Bool, true, false, true≢false, if◌then◌else◌, List, [], ◌∷◌, Some, None, drop, replicate, refl, sym, ◌∙◌, ap, subst, arith, option_map, option_and_then, ServerNo, there, blank_page, IsNewStore, new_page, no_files, CountsFit, IsFresh, image_fresh, Image, IsSound, Counts, page_count, slot_place, head_place, data_place, is_used, file_in, is_head_of, head_from, block_in, files_of_pages, StoreView, StorePut, IsBlank, IsOnly}
+use Rattle.jn_disks.proofs.Common.{◌≡◌, ℕ, zero, suc, ◌+◌, ◌<◌, ◌^◌, ◌||◌, ◌&&◌, ◌≤◌, nat_eq, Bool, true, false, true≢false, if◌then◌else◌, List, [], ◌∷◌, Some, None, drop, replicate, refl, sym, ◌∙◌, ap, subst, arith, option_map, option_and_then, ServerNo, there, blank_page, IsNewStore, new_page, no_files, CountsFit, IsFresh, image_fresh, Image, IsSound, Counts, page_count, slot_place, head_place, data_place, is_used, file_in, is_head_of, head_from, block_in, files_of_pages, StoreView, StorePut, IsBlank, IsOnly, StoreLater}
 use Rattle.std.proofs.Math.Path.{fun_ext}
 use Rattle.jn_base.specs.declared.device.Outside.{Outside}
 use Rattle.jn_base.specs.declared.names.FileNo.{FileNo}
 use Rattle.jn_base.specs.declared.names.LockUnit.{LockUnit}
 use Rattle.jn_base.specs.declared.names.LockUnit.TheVariants.{File, Block}
+use Rattle.jn_device.specs.Happens.{none}
 use Rattle.jn_device.specs.Later.{count_kind, count_told}
+use Rattle.jn_device.proofs.Happening.{happens_later}
 use Rattle.jn_records.specs.declared.head.Head.TheVariants.{Free as FreeHead}
 use Rattle.jn_records.specs.declared.record.Record.TheVariants.{Free}
 use Rattle.jn_records.specs.declared.root.Root.{Root}
@@ -32,6 +34,10 @@ unfolding blank_page
 blank_tail = refl
 
 -- ---- the image
+
+-- calls keep how many pages a store's device has
+pub same_device : (v w : StoreView) → StoreLater v w → w.device.count ≡ v.device.count
+same_device v w later = (happens_later v.device w.device (later.happens v.device (none v.device))).count
 
 none_told : (told : List Outside) → count_told (λ k. true) told ≤ 0 → told ≡ []
 none_told [] few = refl

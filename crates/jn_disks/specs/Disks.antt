@@ -1,5 +1,5 @@
 -- A server's store in memory: how it starts, and what its pages are in the end.
-use Rattle.std.specs.Prelude.{◌≡◌, ◌<◌, ◌*◌, ◌/◌, ◌^◌, ℕ, nat_eq, if◌then◌else◌, List, [], length, None}
+use Rattle.std.specs.Prelude.{◌≡◌, ◌≤◌, ◌<◌, ◌*◌, ◌/◌, ◌^◌, ℕ, nat_eq, if◌then◌else◌, List, [], length, None}
 use Rattle.jn_base.specs.declared.names.ServerNo.{ServerNo}
 use Rattle.jn_device.specs.Device.{DeviceState, blank_page}
 use Rattle.jn_device.specs.declared.Half.{Half}
@@ -9,6 +9,7 @@ use Rattle.jn_records.specs.declared.root.Root.{Root}
 use Rattle.jn_records.specs.Pages.{root_page}
 use Rattle.jn_records.specs.Sound.{Image, IsSound, root_of}
 use Rattle.jn_records.specs.StablePages.{Counts, counts_of, page_count, files_of_pages}
+use Rattle.jn_store.specs.DeviceCalls.{put_calls}
 use Rattle.jn_store.specs.Store.{StoreView, IsCalm, IsWholePage, IsOnly}
 use Rattle.jn_found.specs.Images.{CountsFit, IsFresh}
 
@@ -34,6 +35,11 @@ pub record IsNewStore (root : Root) (v : StoreView) : Type 0 where
   pub fresh : IsFresh root.server (counts_of root) root.epoch no_files v
   pub untouched : IsUntouched v
 
+-- its device has two pages for each stable page, and was called for one put at most
+pub record HasNewDevice (root : Root) (d : DeviceState) : Type 0 where
+  pub count : d.count ≡ 2 * page_count (counts_of root)
+  pub calls : d.calls ≤ put_calls
+
 -- ---- a server that was closed
 
 abbrev pub image_of : ServerNo → Counts → List Half → Image
@@ -48,10 +54,11 @@ pub record AreSound (server : ServerNo) (g : Counts) (halves : List Half) : Type
 abbrev pub files_in : Counts → List Half → Files
 files_in g halves = files_of_pages g (λ p. (half_at halves p).bytes)
 
--- a store of such pages, whose root has this epoch: the image's files are found, no work and no flag
+-- a store of such pages, two of its device for each stable page, whose root has this epoch: the image's files are found, no work and no flag
 pub record IsStoreOfPages (server : ServerNo) (g : Counts) (halves : List Half) (v : StoreView) : Type 0 where
   pub fresh : (epoch : ℕ) → epoch < 2 ^ 32 → (half_at halves 0).bytes ≡ root_page (root_of (image_of server g halves) epoch) → IsFresh server g epoch (files_in g halves) v
   pub untouched : IsUntouched v
+  pub device : v.device.count ≡ 2 * page_count g
 
 -- ---- the pages themselves
 

@@ -1,13 +1,14 @@
 //! A server's store in memory: a new one, one of the pages of a server that was closed, and the pages of a store.
 #![tactic(auto)]
 
-ghost use Rattle.std.specs.Prelude.{◌≡◌, ◌+◌, ℕ, IfOk};
+ghost use Rattle.std.specs.Prelude.{◌≡◌, ◌≤◌, ◌+◌, ℕ, IfOk};
 ghost use Rattle.jn_base.specs.declared.names.ServerNo.{ServerNo};
-ghost use Rattle.jn_disks.specs.Disks.{IsNewStore, AreSound, HasPages, IsStoreOfPages, files_in};
+ghost use Rattle.jn_disks.specs.Disks.{IsNewStore, HasNewDevice, AreSound, HasPages, IsStoreOfPages, files_in};
 ghost use Rattle.jn_found.specs.Images.{IsImage};
 ghost use Rattle.jn_memdisk.specs.Disk.{IsNew};
 ghost use Rattle.jn_order.specs.Files.{Files};
 ghost use Rattle.jn_records.specs.StablePages.{Counts, page_count};
+ghost use Rattle.jn_store.specs.DeviceCalls.{put_calls};
 ghost use Rattle.jn_store.specs.Store.{IsBlank};
 
 use jn_device::Half;
@@ -19,7 +20,8 @@ use std::alloc::{AllocError, Global};
 
 /// The store of a new server: zeros behind its root.
 pub fn new_store(alloc: Global, root: Root) -> Result<Pairs<MemDisk>, AllocError>
-    ensures { IfOk result (λ store. IsNewStore root (⟦<Pairs<MemDisk> as StableStore>⟧.view store)) }
+    ensures new { IfOk result (λ store. IsNewStore root (⟦<Pairs<MemDisk> as StableStore>⟧.view store)) }
+    ensures device { IfOk result (λ store. HasNewDevice root (⟦<Pairs<MemDisk> as Powered>⟧.device store)) }
 {
     let pages = 1 + u32::from(root.pool) + u32::from(root.heads) + u32::from(root.leaves);
     let mut store = Pairs::new(MemDisk::new(alloc, 2 * pages)?);
@@ -30,7 +32,9 @@ pub fn new_store(alloc: Global, root: Root) -> Result<Pairs<MemDisk>, AllocError
 /// Puts the root of a new server to a store of zeros.
 pub fn put_root<S: StableStore>(store: &mut S, root: Root)
     requires { IsBlank (1 + root.pool + root.heads + root.leaves) (S.view store.old) }
-    ensures { IsNewStore root (S.view store.new) }
+    ensures new { IsNewStore root (S.view store.new) }
+    ensures device { (S.view store.new).device.count ≡ (S.view store.old).device.count }
+    ensures calls { (S.view store.new).calls ≤ put_calls }
 {
     let Ok(()) = store.put(0, &root.encode()) else {
         unreachable!()

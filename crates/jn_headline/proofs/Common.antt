@@ -16,7 +16,7 @@ pub use Rattle.jn_system_reports.specs.Reporting.Reported.{Item, steps_of, world
 pub use Rattle.jn_system_reports.specs.Reporting.Ending.{at_end, told_by_steps, Comeback, Ending, restarts_from, steps_at_end, settles, IsEnding, texts_from, world_at_end, ArePrinted, counted, IsWholeRun, all_lines, AreFilesOf, lines_to_end}
 pub use Rattle.jn_written.specs.Chances.{Setup, Chance}
 pub use Rattle.jn_written.specs.Tasks.{Task, Dismisses, InSchedule, AtEnd, CutShort, Stage, State, next_at, begun, when_at, Rests, Acts, ComesUp, GoesDown, ClosesClients, CountsCommits}
-pub use Rattle.jn_written.specs.Devices.{Befalls, Devices, IsCalled, IsRecovery, IsServed, Alone, AreFound, IsLookedOver}
+pub use Rattle.jn_written.specs.Devices.{Befalls, Devices, IsCalled, IsRecovery, IsServed, Alone, AreFound, IsLookedOver, IsScrubbed}
 pub use Rattle.jn_written.specs.Events.{ending, deed_of, dismissing, first_busy, next_event, resting, servers_of, settling, coming_up, printing, counting}
 pub use Rattle.jn_written.specs.Steps.{own_texts, is_too_much, come_to, cut_short, made, done, outside_texts, texts_of, message_texts, traced}
 pub use Rattle.jn_written.specs.Runs.{none, more, Moment, Leads, DoesStep}
@@ -29,7 +29,7 @@ pub use Rattle.jn_rows.specs.Stable.{StableState, Change, stable, Pick, Prepared
 pub use Rattle.jn_system.specs.WholeSystem.Servers.{Room, server_step, server_row, of_coordinator, restored}
 pub use Rattle.jn_system_settling.specs.Settling.Settle.{is_busy as has_going, settled, until_rest, ask_again, first_busy as first_going, next_step, clients_from, Chances, onward}
 pub use Rattle.jn_rests.proofs.BusyServers.{goes, nothing, erased-same, first-is, first-none}
-pub use Rattle.jn_written.specs.Deeds.{is_busy, is_busy_with, Deed, blocks_from, served, room, no_room, delivered, delivered_at, worked, working_steps, Reads, stopped_idle, shown, showing, scrubbed, crashed_at, recovers, recovering, recovered, given_up, is_used_up, pick_read, tells}
+pub use Rattle.jn_written.specs.Deeds.{is_busy, is_busy_with, Deed, blocks_from, served, room, no_room, delivered, delivered_at, worked, working_steps, Reads, stopped_idle, shown, showing, scrubbed, Cleans, crashed_at, recovers, recovering, recovered, given_up, is_used_up, pick_read, tells}
 pub use Rattle.jn_system_settling.proofs.Settling.Settling.{on-world}
 pub use Rattle.jn_headline.specs.CutReports.Cut.{is_of_end, is_print, CutEnd, IsCutEnd, IsTrueSoFar, cut_lines}
 pub use Rattle.jn_written.proofs.Telling.{both, adds, first, second}
@@ -67,4 +67,5 @@ pub use Rattle.jn_system_reports.proofs.Showing.Ends.{end-agrees, end-whole, end
 pub use Rattle.jn_headline.specs.Headline.{IsTrueOfBegun, but_shows}
 pub use Rattle.jn_base.specs.Names.{server_eq, file_eq, tid_eq, work_eq}
 pub use Rattle.jn_base.proofs.Tells.{server_tells, work_tells, tid_tells}
+pub use Rattle.jn_records.specs.StablePages.{Counts, Pages, block_behind, address_in, block_in, head_of, files_of_pages}
 pub use Rattle.jn_aside.proofs.Plain.{filter-aside, plain-append, plain-none, history-plain, same-of}

@@ -1,5 +1,5 @@
 -- Devices at which no fault waits strike nothing, and stay so.
-use Rattle.jn_headline.proofs.Common.{◌≡◌, ◌≢◌, ◌⊎◌, inl, inr, ℕ, ◌<◌, Bool, true, false, List, [], Option, Some, None, is_some, refl, sym, ◌∙◌, ap, subst, not, if◌then◌else◌, slice_get, ServerNo, ClientNo, Tid, Client, Server, server_eq, server_tells, Message, DeviceState, RowOutcome, Sent, Pick, stable, World, Memory, at_server, Room, server_row, server_step, of_coordinator, restored, Deliver, Work, Nudge, Crash, Restart, CloseClients, after, at_memory, handed, work, works, nudge, crash, close_clients, restart, took, Setup, Chance, Devices, IsCalled, IsRecovery}
+use Rattle.jn_headline.proofs.Common.{◌≡◌, ◌≢◌, ◌⊎◌, inl, inr, ℕ, ◌<◌, Bool, true, false, List, [], Option, Some, None, is_some, refl, sym, ◌∙◌, ap, subst, not, if◌then◌else◌, slice_get, ServerNo, ClientNo, Tid, Client, Server, server_eq, server_tells, Message, DeviceState, RowOutcome, Sent, Pick, stable, World, Memory, at_server, Room, server_row, server_step, of_coordinator, restored, Deliver, Work, Nudge, Crash, Restart, CloseClients, after, at_memory, handed, work, works, nudge, crash, close_clients, restart, took, Setup, Chance, Devices, IsCalled, IsRecovery, Counts}
 use Rattle.jn_base.specs.declared.names.WorkId.{WorkId}
 use Rattle.jn_device.specs.Events.{powered_off}
 use Rattle.jn_rows.specs.declared.client.Taken.{Taken}
@@ -7,6 +7,7 @@ use Rattle.jn_rows.specs.declared.client.Taken.TheVariants as taken
 use Rattle.jn_rows.specs.Client.{ClientTable, take_row}
 use Rattle.jn_rows.specs.Coordinator.{close_clients_row}
 use Rattle.jn_written.proofs.Struck.{nothing-strikes}
+use Rattle.jn_written.proofs.Called.{called-later}
 
 -- each server that is up has power, and no device has told a fault or lets one wait
 pub record IsQuiet (x : Setup) (w : World) (ds : Devices) : Type 0 where
@@ -105,13 +106,13 @@ pub record Calm (h : Chance) (e : DeviceState) : Type 0 where
   pub nothing_told : e.told ≡ []
   pub nothing_waits : e.waiting ≡ []
 
-pub called-calm : (h : Chance) (d e : DeviceState) → IsCalled h d e → d.power ≡ true → d.told ≡ [] → d.waiting ≡ [] → Calm h e
-called-calm h d e c on none quiet = let still = nothing-strikes h d e c on none quiet in record {
+pub called-calm : (most : ℕ) (h : Chance) (d e : DeviceState) → IsCalled most h d e → d.power ≡ true → d.told ≡ [] → d.waiting ≡ [] → Calm h e
+called-calm most h d e c on none quiet = let still = nothing-strikes most h d e c on none quiet in record {
   stop = still.0;
   told = still.1;
   power = ap (λ (f : DeviceState). f.power) c.after ∙ lit c.last.power (sym (ap is_some still.0) ∙ c.stop);
   nothing_told = ap (λ (f : DeviceState). f.told) c.after;
-  nothing_waits = ap (λ (f : DeviceState). f.waiting) c.after ∙ c.calls.quiet quiet;
+  nothing_waits = ap (λ (f : DeviceState). f.waiting) c.after ∙ (let later = called-later most h d e c in later.quiet) quiet;
 }
   where
     lit : (power : Bool) → false ≡ not power → power ≡ true
@@ -128,8 +129,8 @@ pub record Raised (h : Chance) (up : Bool) (e : DeviceState) : Type 0 where
   pub nothing_told : e.told ≡ []
   pub nothing_waits : e.waiting ≡ []
 
-pub recovered-calm : (h : Chance) (up : Bool) (d e : DeviceState) → IsRecovery h up d e → d.told ≡ [] → d.waiting ≡ [] → Raised h up e
-recovered-calm h up d e r none quiet = record {
+pub recovered-calm : (g : Counts) (h : Chance) (up : Bool) (d e : DeviceState) → IsRecovery g h up d e → d.told ≡ [] → d.waiting ≡ [] → Raised h up e
+recovered-calm g h up d e r none quiet = record {
   stop = calm.stop;
   told = calm.told;
   power = on up r.after;
@@ -138,7 +139,7 @@ recovered-calm h up d e r none quiet = record {
 }
   where
     calm : Calm h r.last
-    calm = called-calm h r.powered r.last r.called r.power.power_is (r.power.told ∙ none) (r.power.waiting ∙ quiet)
+    calm = called-calm _ h r.powered r.last r.called r.power.power_is (r.power.told ∙ none) (r.power.waiting ∙ quiet)
 
     on : (b : Bool) → e ≡ (if b then r.last else powered_off r.last) → b ≡ true → e.power ≡ true
     on true k z = ap (λ (f : DeviceState). f.power) k ∙ calm.power

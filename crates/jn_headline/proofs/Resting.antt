@@ -6,6 +6,7 @@ use Rattle.jn_headline.proofs.Came.{Came, Makes, all-append, on-append, one-step
 use Rattle.jn_headline.proofs.Parts.{Part, Past, left, cut-off}
 use Rattle.jn_headline.proofs.Tasks.{no-faults}
 use Rattle.jn_headline.proofs.Busy.{IsFirst, first-busy-is, none-busy, idle-goes-not, erases}
+use Rattle.jn_storage.specs.DeviceCalls.{step_calls}
 
 module _ (x : Setup) (ups : List Text) (are_up : list_all is_up ups ≡ true) (start : Course) (before : List Line)
     (near : (steps : List Step) (k : ℕ) (q : ServerNo) (message : Message) → slice_get (run steps start.world).sent k ≡ Some (Server q, message) → q.0 < x.servers) where
@@ -62,20 +63,20 @@ module _ (x : Setup) (ups : List Text) (are_up : list_all is_up ups ≡ true) (s
           (came-one x ups are_up start before m n h (on (delivered_at h k q None)) rest d.0 (steps ++ these) came (Deliver k (room h q)) refl refl refl tt refl
           (quiet-same x w (after (Deliver k (room h q)) w) m.devices n.devices came.quiet (λ s. delivered-up w s k (room h q)) (let b = d.1 in b.used)))
           (tasks-then x ups are_up start before m n h (on (delivered_at h k q None)) rest d.0 (steps ++ these) [] came)
-      handed q message below (Some mm) e d = served-by (let b = d.1 in b.used)
+      handed q message below (Some mm) e d = served-by _ d
         where
-          calmly : Calm h (n.devices q) → ((s : ServerNo) → server_eq q s ≡ false → n.devices s ≡ m.devices s) → (stop : Option (Pick → ℕ)) → h.stop ≡ stop → Does (on (served q (handing k (room h q) stop ∷ []))) → Result now steps rest
-          calmly calm others None z f = steps-on (Deliver k (room h q)) refl (comes (room h q))
-              (came-one x ups are_up start before m n h (on (served q (Deliver k (room h q) ∷ []))) rest f.0 (steps ++ these) came (Deliver k (room h q)) refl refl (no-faults q h.told calm.told) tt refl
+          calmly : (most : ℕ) → Calm h (n.devices q) → ((s : ServerNo) → server_eq q s ≡ false → n.devices s ≡ m.devices s) → (stop : Option (Pick → ℕ)) → h.stop ≡ stop → Does (on (served q most (handing k (room h q) stop ∷ []))) → Result now steps rest
+          calmly most calm others None z f = steps-on (Deliver k (room h q)) refl (comes (room h q))
+              (came-one x ups are_up start before m n h (on (served q most (Deliver k (room h q) ∷ []))) rest f.0 (steps ++ these) came (Deliver k (room h q)) refl refl (no-faults q h.told calm.told) tt refl
               (quiet-called x w (after (Deliver k (room h q)) w) m.devices n.devices came.quiet h q (λ s. delivered-up w s k (room h q)) others calm))
-              (tasks-then x ups are_up start before m n h (on (served q (Deliver k (room h q) ∷ []))) rest f.0 (steps ++ these) [] came)
-          calmly calm others (Some made) z f = absurd (never (sym calm.stop ∙ z))
+              (tasks-then x ups are_up start before m n h (on (served q most (Deliver k (room h q) ∷ []))) rest f.0 (steps ++ these) [] came)
+          calmly most calm others (Some made) z f = absurd (never (sym calm.stop ∙ z))
             where
               never : None ≡ Some made → ⊥
               never z = cc
 
-          served-by : Alone q (IsServed (x.counts q) h w q) m.devices n.devices → Result now steps rest
-          served-by a = calmly (called-calm h (m.devices q) (n.devices q) a.its.called (came.quiet.power q below (ap is_some a.its.up)) (came.quiet.told q below) (came.quiet.waiting q below)) a.others h.stop refl d
+          served-by : (most : ℕ) → Does (on (served q most (handing k (room h q) h.stop ∷ []))) → Result now steps rest
+          served-by most d = let b = d.1 in let a = b.used in calmly most (called-calm most h (m.devices q) (n.devices q) a.its.called (came.quiet.power q below (ap is_some a.its.up)) (came.quiet.told q below) (came.quiet.waiting q below)) a.others h.stop refl d
 
       delivers : (o : Option Sent) → slice_get w.sent k ≡ o → Does (on (delivered h k w o)) → Result now steps rest
       delivers None e d = again these (came-none x ups are_up start before m n h (on nothing) rest d.0 (steps ++ these) [] came refl refl refl (quiet-same x w w m.devices n.devices came.quiet (λ s z. z) (let b = d.1 in b.used))) settle next
@@ -95,8 +96,8 @@ module _ (x : Setup) (ups : List Text) (are_up : list_all is_up ups ≡ true) (s
           is : IsFirst h.rubbish w 0 x.servers q
           is = first-busy-is h.rubbish w 0 x.servers q first
 
-          d' : Does (on (served q (working_steps h q)))
-          d' = subst (λ (b : Bool). Does (on (if b then served q (working_steps h q) else nothing))) is.busy d
+          d' : Does (on (served q step_calls (working_steps h q)))
+          d' = subst (λ (b : Bool). Does (on (if b then served q step_calls (working_steps h q) else nothing))) is.busy d
 
           below : q.0 < x.servers
           below = let l = is.high in omega (arith, l)
@@ -111,11 +112,11 @@ module _ (x : Setup) (ups : List Text) (are_up : list_all is_up ups ≡ true) (s
           Calls deed = n.state ≡ come_to x h deed (go_on deed.steps m.state.course) (record m.state { tasks = rest })
 
           goes : (mm : Memory) → w.memory q ≡ Some mm → Calm h (n.devices q) → ((s : ServerNo) → server_eq q s ≡ false → n.devices s ≡ m.devices s) → (going : Bool) → has_going (stable (w.found q)) (Some mm) ≡ going
-              → Calls (on (served q (Work q (room h q) ∷ []))) → Result now steps rest
+              → Calls (on (served q step_calls (Work q (room h q) ∷ []))) → Result now steps rest
           goes mm up calm others true g f = steps-on (Work q (room h q)) refl comes
-              (came-one x ups are_up start before m n h (on (served q (Work q (room h q) ∷ []))) rest f (steps ++ these) came (Work q (room h q)) refl refl (no-faults q h.told calm.told) tt refl
+              (came-one x ups are_up start before m n h (on (served q step_calls (Work q (room h q) ∷ []))) rest f (steps ++ these) came (Work q (room h q)) refl refl (no-faults q h.told calm.told) tt refl
               (quiet-called x w (after (Work q (room h q)) w) m.devices n.devices came.quiet h q (λ s. worked-up w s q (room h q)) others calm))
-              (tasks-then x ups are_up start before m n h (on (served q (Work q (room h q) ∷ []))) rest f (steps ++ these) [] came)
+              (tasks-then x ups are_up start before m n h (on (served q step_calls (Work q (room h q) ∷ []))) rest f (steps ++ these) [] came)
             where
               busy : has_going (stable (here.world.found q)) (here.world.memory q) ≡ true
               busy = subst (λ (v : World). has_going (stable (v.found q)) (v.memory q) ≡ true) world-is (ap (λ (o : Option Memory). has_going (stable (w.found q)) o) up ∙ g)
@@ -126,14 +127,14 @@ module _ (x : Setup) (ups : List Text) (are_up : list_all is_up ups ≡ true) (s
                 is_next = ap (λ (js : List ℕ). next_step (record { room = room h q; stop = None }) js (first_going here.world (servers_from 0 x.servers))) (sym waiting-is ∙ waits)
                     ∙ ap (next_step (record { room = room h q; stop = None }) []) (first-is here.world x.servers q below busy idle-before);
               }
-          goes mm up calm others false g f = again these (came-same x ups are_up start before m n h (on (served q (Work q (room h q) ∷ []))) rest f (steps ++ these) [] came (Work q (room h q)) refl refl
+          goes mm up calm others false g f = again these (came-same x ups are_up start before m n h (on (served q step_calls (Work q (room h q) ∷ []))) rest f (steps ++ these) [] came (Work q (room h q)) refl refl
               (erases w q mm (room h q) up (subst (λ (o : Option Memory). is_busy_with (stable (w.found q)) o (h.rubbish q) ≡ true) up is.busy) g) (λ js. refl) (no-faults q h.told calm.told)
               (quiet-called x w w m.devices n.devices came.quiet h q (λ s z. z) others calm)) settle next
-              (tasks-then x ups are_up start before m n h (on (served q (Work q (room h q) ∷ []))) rest f (steps ++ these) [] came)
+              (tasks-then x ups are_up start before m n h (on (served q step_calls (Work q (room h q) ∷ []))) rest f (steps ++ these) [] came)
 
-          served-by : Alone q (IsServed (x.counts q) h w q) m.devices n.devices → Result now steps rest
-          served-by a = let calm = called-calm h (m.devices q) (n.devices q) a.its.called (came.quiet.power q below (ap is_some a.its.up)) (came.quiet.told q below) (came.quiet.waiting q below) in
-              goes a.its.memory a.its.up calm a.others (has_going (stable (w.found q)) (Some a.its.memory)) refl (subst (λ (stop : Option (Pick → ℕ)). Calls (on (served q (working q (room h q) stop ∷ [])))) calm.stop d'.0)
+          served-by : Alone q (IsServed (x.counts q) step_calls h w q) m.devices n.devices → Result now steps rest
+          served-by a = let calm = called-calm _ h (m.devices q) (n.devices q) a.its.called (came.quiet.power q below (ap is_some a.its.up)) (came.quiet.told q below) (came.quiet.waiting q below) in
+              goes a.its.memory a.its.up calm a.others (has_going (stable (w.found q)) (Some a.its.memory)) refl (subst (λ (stop : Option (Pick → ℕ)). Calls (on (served q step_calls (working q (room h q) stop ∷ [])))) calm.stop d'.0)
 
       -- nothing is left to do
       over : first_busy h.rubbish w (servers_from 0 x.servers) ≡ None → Does nothing → Result now steps rest

@@ -1,13 +1,13 @@
 -- Shows and scrubs at the end: what each server prints, and that nothing else happens.
-use Rattle.jn_headline.proofs.Common.{◌≡◌, ◌⊎◌, inl, inr, ℕ, zero, suc, ◌+◌, ◌<◌, ◌≤◌, Bool, true, false, List, [], ◌∷◌, ◌++◌, append_assoc, append-nil, length, Option, Some, None, is_some, refl, sym, ◌∙◌, ap, subst, arith, map, nat_lt, if◌then◌else◌, option_and_then, list_all, nat_tests, ServerNo, FileNo, BlockNo, File, Block, server_eq, file_eq, Text, Line, StableState, Pick, stable, World, Memory, servers_from, Printed, FileThere, PageStored, UnitLocked, prints_in, print_files, file_before, Step, AreNames, Course, go_on, text_printed, is_print, Setup, Chance, Task, Acts, Deed, Reads, served, stopped_idle, shown, showing, scrubbed, blocks_from, Befalls, AreFound, IsServed, IsLookedOver, Alone, is_up, come_to, Moment, Leads, both}
+use Rattle.jn_headline.proofs.Common.{◌≡◌, ◌⊎◌, inl, inr, ℕ, zero, suc, ◌+◌, ◌<◌, ◌≤◌, Bool, true, false, List, [], ◌∷◌, ◌++◌, append_assoc, append-nil, length, Option, Some, None, is_some, refl, sym, ◌∙◌, ap, subst, arith, map, nat_lt, if◌then◌else◌, option_and_then, list_all, nat_tests, ServerNo, FileNo, BlockNo, File, Block, server_eq, file_eq, Text, Line, StableState, Pick, stable, World, Memory, servers_from, Printed, FileThere, PageStored, UnitLocked, prints_in, print_files, file_before, Step, AreNames, Course, go_on, text_printed, is_print, Setup, Chance, Task, Acts, Deed, Reads, served, stopped_idle, shown, showing, scrubbed, blocks_from, Befalls, AreFound, IsServed, IsLookedOver, Alone, is_up, come_to, Moment, Leads, both, Server, Counts, Pages, block_behind, address_in, block_in, head_of, files_of_pages, Cleans, IsScrubbed}
 use Rattle.jn_schedule.specs.declared.Event.TheVariants as events
-use Rattle.jn_records.specs.StablePages.{Counts, Pages, block_behind, address_in, block_in, head_of, files_of_pages}
 use Rattle.jn_store.specs.Pairs.{pairs_view}
 use Rattle.jn_found.specs.Pages.{pages_by}
 use Rattle.jn_headline.proofs.Quiet.{Calm, called-calm, quiet-called}
 use Rattle.jn_headline.proofs.Came.{Came, came-none, tasks-then}
 use Rattle.jn_headline.proofs.Parts.{Part, Past, Onward, drive}
 use Rattle.jn_headline.proofs.Tasks.{no-faults}
+use Rattle.jn_written.specs.Deeds.{plain}
 
 -- how many blocks a file may have
 pub most : ℕ
@@ -76,7 +76,7 @@ module _ (x : Setup) (ups : List Text) (are_up : list_all is_up ups ≡ true) (s
     was = m.state.course.world
 
     abbrev deed : List Step → List Text → Deed
-    deed ss texts = record (served q ss) { device = Reads q; texts = texts }
+    deed ss texts = record (plain (Server q) ss) { device = Reads q; texts = texts }
 
     abbrev ShowsBy : Deed → Type 0
     ShowsBy d = (n.state ≡ come_to x h d (go_on d.steps m.state.course) (record m.state { tasks = rest })) × Befalls x h d was m.devices n.devices
@@ -108,8 +108,8 @@ module _ (x : Setup) (ups : List Text) (are_up : list_all is_up ups ≡ true) (s
     looks : ShowsBy (showing h q was) → Shows now printed q rest
     looks d = at (let b = d.1 in b.used)
       where
-        at : Alone q (IsLookedOver h was q) m.devices n.devices → Shows now printed q rest
-        at a = let calm = called-calm h (m.devices q) (n.devices q) a.its.called (came.quiet.power q below (ap is_some a.its.up)) (came.quiet.told q below) (came.quiet.waiting q below) in
+        at : Alone q (IsLookedOver (x.counts q) h was q) m.devices n.devices → Shows now printed q rest
+        at a = let calm = called-calm _ h (m.devices q) (n.devices q) a.its.called (came.quiet.power q below (ap is_some a.its.up)) (came.quiet.told q below) (came.quiet.waiting q below) in
             prints a.its.memory a.its.up (a.its.files calm.stop) calm a.others (subst (λ (o : Option Memory). ShowsBy (deed [] (shown h q was o None))) a.its.up
             (subst (λ (stop : Option (Pick → ℕ)). ShowsBy (deed (stopped_idle q stop) (shown h q was (was.memory q) stop))) calm.stop d))
 
@@ -162,21 +162,24 @@ module _ (x : Setup) (ups : List Text) (are_up : list_all is_up ups ≡ true) (s
   -- ---- scrubs
 
   module _ (q : ServerNo) (below : q.0 < x.servers) (m now : Moment) (printed : List Text) (rest : List Task) (came : Came x ups start before m steps printed) (n : Moment) (l : Leads x n now) (h : Chance) where
+    abbrev cleans : List Step → Deed
+    cleans ss = record (plain (Server q) ss) { device = Cleans q }
+
     abbrev ScrubsBy : Deed → Type 0
     ScrubsBy d = n.state ≡ come_to x h d (go_on d.steps m.state.course) (record m.state { tasks = rest })
 
-    idles : Calm h (n.devices q) → ((s : ServerNo) → server_eq q s ≡ false → n.devices s ≡ m.devices s) → ScrubsBy (served q []) → Past x ups start before now steps printed rest
+    idles : Calm h (n.devices q) → ((s : ServerNo) → server_eq q s ≡ false → n.devices s ≡ m.devices s) → ScrubsBy (cleans []) → Past x ups start before now steps printed rest
     idles calm others d = record {
       moment = n;
-      came = subst (λ (ts : List Text). Came x ups start before n steps ts) (append-nil printed) (came-none x ups are_up start before m n h (served q []) rest d steps printed came refl refl (no-faults q h.told calm.told)
+      came = subst (λ (ts : List Text). Came x ups start before n steps ts) (append-nil printed) (came-none x ups are_up start before m n h (cleans []) rest d steps printed came refl refl (no-faults q h.told calm.told)
           (quiet-called x m.state.course.world m.state.course.world m.devices n.devices came.quiet h q (λ s z. z) others calm));
-      tasks = tasks-then x ups are_up start before m n h (served q []) rest d steps printed came;
+      tasks = tasks-then x ups are_up start before m n h (cleans []) rest d steps printed came;
       leads = l;
     }
 
-    calls : ScrubsBy (scrubbed h q) → Alone q (IsServed (x.counts q) h m.state.course.world q) m.devices n.devices → Past x ups start before now steps printed rest
-    calls d a = let calm = called-calm h (m.devices q) (n.devices q) a.its.called (came.quiet.power q below (ap is_some a.its.up)) (came.quiet.told q below) (came.quiet.waiting q below) in
-        idles calm a.others (subst (λ (stop : Option (Pick → ℕ)). ScrubsBy (served q (stopped_idle q stop))) calm.stop d)
+    calls : ScrubsBy (scrubbed h q) → Alone q (IsScrubbed (x.counts q) h m.state.course.world q) m.devices n.devices → Past x ups start before now steps printed rest
+    calls d a = let calm = called-calm _ h (m.devices q) (n.devices q) a.its.served.called (came.quiet.power q below (ap is_some a.its.served.up)) (came.quiet.told q below) (came.quiet.waiting q below) in
+        idles calm a.others (subst (λ (stop : Option (Pick → ℕ)). ScrubsBy (cleans (stopped_idle q stop))) calm.stop d)
 
   scrubs : (q : ServerNo) → q.0 < x.servers → (m now : Moment) (printed : List Text) (rest : List Task) → Came x ups start before m steps printed → m.state.tasks ≡ Acts (events.Scrub q) ∷ rest → Leads x m now
       → Part start before now ⊎ Past x ups start before now steps printed rest

@@ -1,5 +1,5 @@
 -- What each of an end's tasks does that makes a step.
-use Rattle.jn_headline.proofs.Common.{◌≡◌, ◌≢◌, ◌⊎◌, inl, inr, ℕ, zero, suc, ◌+◌, ◌<◌, ◌≤◌, Bool, true, false, List, [], ◌∷◌, ◌++◌, append_assoc, append-nil, length, Option, Some, None, is_some, refl, sym, ◌∙◌, ap, subst, arith, map, if◌then◌else◌, list_all, ServerNo, ClientNo, Client, Server, server_eq, server_tells, DeviceState, Text, Line, Pick, World, Memory, servers_from, Step, Again, Nudge, Crash, Restart, CloseClients, after, run, crash, Course, go_on, Comeback, restarts_from, Setup, Chance, Task, Acts, ComesUp, GoesDown, ClosesClients, Deed, crashed_at, served, recovers, recovering, recovered, given_up, is_used_up, pick_read, Befalls, IsServed, IsRecovery, Alone, is_up, is_too_much, come_to, Moment, Leads}
+use Rattle.jn_headline.proofs.Common.{◌≡◌, ◌≢◌, ◌⊎◌, inl, inr, ℕ, zero, suc, ◌+◌, ◌<◌, ◌≤◌, Bool, true, false, List, [], ◌∷◌, ◌++◌, append_assoc, append-nil, length, Option, Some, None, is_some, refl, sym, ◌∙◌, ap, subst, arith, map, if◌then◌else◌, list_all, ServerNo, ClientNo, Client, Server, server_eq, server_tells, DeviceState, Text, Line, Pick, World, Memory, servers_from, Step, Again, Nudge, Crash, Restart, CloseClients, after, run, crash, Course, go_on, Comeback, restarts_from, Setup, Chance, Task, Acts, ComesUp, GoesDown, ClosesClients, Deed, crashed_at, served, recovers, recovering, recovered, given_up, is_used_up, pick_read, Befalls, IsServed, IsRecovery, Alone, is_up, is_too_much, come_to, Moment, Leads, deed_of}
 use Rattle.jn_base.specs.declared.device.Outside.{Outside}
 use Rattle.jn_schedule.specs.declared.Event.TheVariants as events
 use Rattle.jn_report.specs.declared.line.Text.TheVariants as says
@@ -64,17 +64,17 @@ module _ (x : Setup) (ups : List Text) (are_up : list_all is_up ups ≡ true) (s
 
       by : Part start before now ⊎ Onward x m now (ClosesClients q) rest → After now (steps ++ CloseClients q ∷ []) rest
       by (inl part) = inl part
-      by (inr on) = goes on.makes.befalls.used
+      by (inr on) = goes _ on.makes.befalls.used
         where
           h : Chance
           h = on.makes.chance
 
-          goes : Alone q (IsServed (x.counts q) h w q) m.devices on.moment.devices → After now (steps ++ CloseClients q ∷ []) rest
-          goes a = let calm = called-calm h (m.devices q) (on.moment.devices q) a.its.called (came.quiet.power q below (ap is_some a.its.up)) (came.quiet.told q below) (came.quiet.waiting q below) in inr (record {
+          goes : (most : ℕ) → Alone q (IsServed (x.counts q) most h w q) m.devices on.moment.devices → After now (steps ++ CloseClients q ∷ []) rest
+          goes most a = let calm = called-calm most h (m.devices q) (on.moment.devices q) a.its.called (came.quiet.power q below (ap is_some a.its.up)) (came.quiet.told q below) (came.quiet.waiting q below) in inr (record {
             moment = on.moment;
-            came = came-one x ups are_up start before m on.moment h (served q (CloseClients q ∷ [])) rest on.makes.state_is steps came (CloseClients q) refl refl (no-faults q h.told calm.told) (let b = on.makes.befalls in b.steps.0) refl
+            came = came-one x ups are_up start before m on.moment h (deed_of x h (ClosesClients q) m.state) rest on.makes.state_is steps came (CloseClients q) refl refl (no-faults q h.told calm.told) (let b = on.makes.befalls in b.steps.0) refl
                 (quiet-called x w (after (CloseClients q) w) m.devices on.moment.devices came.quiet h q (λ s. closed-up w s q) a.others calm);
-            tasks = tasks-then x ups are_up start before m on.moment h (served q (CloseClients q ∷ [])) rest on.makes.state_is steps [] came;
+            tasks = tasks-then x ups are_up start before m on.moment h (deed_of x h (ClosesClients q) m.state) rest on.makes.state_is steps [] came;
             leads = on.leads;
           })
 
@@ -122,8 +122,8 @@ module _ (x : Setup) (ups : List Text) (are_up : list_all is_up ups ≡ true) (s
     restarts : n.state ≡ come_to x h (recovers q (raised ∷ [])) (go_on (raised ∷ []) m.state.course) (record m.state { tasks = rest }) → Befalls x h (recovers q (raised ∷ [])) was m.devices n.devices → CameUp now steps q rest
     restarts state b = goes b.used
       where
-        goes : Alone q (IsRecovery h (is_some ((after raised was).memory q))) m.devices n.devices → CameUp now steps q rest
-        goes a = let r = recovered-calm h (is_some ((after raised was).memory q)) (m.devices q) (n.devices q) a.its (came.quiet.told q below) (came.quiet.waiting q below) in record {
+        goes : Alone q (IsRecovery (x.counts q) h (is_some ((after raised was).memory q))) m.devices n.devices → CameUp now steps q rest
+        goes a = let r = recovered-calm (x.counts q) h (is_some ((after raised was).memory q)) (m.devices q) (n.devices q) a.its (came.quiet.told q below) (came.quiet.waiting q below) in record {
           back = record { pick = pick_read h; works = h.works; tids = h.tids };
           past = record {
             moment = n;
@@ -141,8 +141,8 @@ module _ (x : Setup) (ups : List Text) (are_up : list_all is_up ups ≡ true) (s
     up-calmly None e d = restarts d.1 d.2
     up-calmly (Some made) e d = absurd (strikes (let b = d.2 in b.used))
       where
-        strikes : Alone q (IsRecovery h (is_some ((run (recovering h q (Some made)) was).memory q))) m.devices n.devices → ⊥
-        strikes a = let r = recovered-calm h (is_some ((run (recovering h q (Some made)) was).memory q)) (m.devices q) (n.devices q) a.its (came.quiet.told q below) (came.quiet.waiting q below) in never (sym r.stop ∙ e)
+        strikes : Alone q (IsRecovery (x.counts q) h (is_some ((run (recovering h q (Some made)) was).memory q))) m.devices n.devices → ⊥
+        strikes a = let r = recovered-calm (x.counts q) h (is_some ((run (recovering h q (Some made)) was).memory q)) (m.devices q) (n.devices q) a.its (came.quiet.told q below) (came.quiet.waiting q below) in never (sym r.stop ∙ e)
           where
             never : None ≡ Some made → ⊥
             never z = cc

@@ -31,9 +31,10 @@ impl<S: StableStore> Intents<S> {
         self.sets.has_rubbish()
     }
 
-    /// For proofs alone: while the store has power, what is kept in memory is what stands on the pages.
+    /// For proofs alone: while the store has power, what is kept in memory is what stands on the pages, and a recovery may begin from them.
     pub fn is_kept(&self)
-        ensures { IsKeptMemory self.now.1 (S.view self.now.0) }
+        ensures kept { IsKeptMemory self.now.1 (S.view self.now.0) }
+        ensures recoverable { IsRecoverable self.now.1.server self.now.1.table.counts (S.view self.now.0) }
     {
         let _sets = &self.sets;
     }

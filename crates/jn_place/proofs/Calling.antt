@@ -1,5 +1,5 @@
 -- What a server's call does, by its row.
-use Rattle.jn_place.proofs.Common.{◌≡◌, ℕ, Bool, true, false, length, Option, Some, None, Ok, Err, is_some, true≢false, refl, sym, ◌∙◌, ap, subst, arith, List, Message, Collected, server_row, of_coordinator, Memory, table_of, Scrubbed, close_clients_row, RowOutcome, Unchanged, IsDone, IsStopped, Steps, Shown, ServerView, Parts, view_with, memory_of, room_of, state, Accounts, StorageLater, StoreView, IsCalm, added, AllCanBeTaken, Slot, Up, Answered, Sends, work_of, has_work_at, idle_row, IsRowDone, IsRowStopped, RowEnds, Handles, IsWorking, Works, Idles, Shows, Closes, row_calls}
+use Rattle.jn_place.proofs.Common.{Scrubs, ◌≡◌, ◌≤◌, ◌+◌, ℕ, Bool, true, false, length, Option, Some, None, Ok, Err, is_some, true≢false, refl, sym, ◌∙◌, ap, subst, arith, List, Message, Collected, server_row, of_coordinator, Memory, table_of, Scrubbed, close_clients_row, RowOutcome, Unchanged, IsDone, IsStopped, Steps, Shown, ServerView, Parts, view_with, memory_of, room_of, state, Accounts, StorageLater, StoreView, IsCalm, added, AllCanBeTaken, Slot, Up, Answered, Sends, work_of, has_work_at, idle_row, IsRowDone, IsRowStopped, RowEnds, Handles, IsWorking, Works, Shows, Closes, row_calls}
 use Rattle.jn_server.specs.declared.fault.ServerFault.TheVariants.{Stopped}
 use Rattle.jn_server.specs.Showing.{IsShown, IsCutShort}
 use Rattle.jn_place.proofs.Rows.{step-taken, step-draws}
@@ -7,11 +7,11 @@ use Rattle.jn_place.proofs.Served.{nothing}
 use Rattle.jn_place.proofs.Slots.{done-called, stopped-called}
 
 module _ {S : Type 0} (look : S → StoreView) where
-  pub row-done : (most : ℕ) (row : RowOutcome Memory) (p q : Parts S) (before after : Collected) → IsDone most row (view_with look p) before (view_with look q) after → RowEnds look row p true (Up q)
-  row-done most row p q before after d = record { memory = d.memory; found = d.found; later = d.later; power = d.serves.works.serving.power }
+  pub row-done : (most : ℕ) (row : RowOutcome Memory) (p q : Parts S) (before after : Collected) → IsDone most row (view_with look p) before (view_with look q) after → RowEnds look most row p true (Up q)
+  row-done most row p q before after d = record { memory = d.memory; found = d.found; later = d.later; few = d.calls; power = d.serves.works.serving.power }
 
-  pub row-stopped : (most : ℕ) (row : RowOutcome Memory) (p q : Parts S) (before after : Collected) → IsStopped most row (view_with look p) before (view_with look q) after → RowEnds look row p false (Up q)
-  row-stopped most row p q before after d = record { some = d.some; later = d.later; dark = d.stop.dark; not_calm = d.not_calm }
+  pub row-stopped : (most : ℕ) (row : RowOutcome Memory) (p q : Parts S) (before after : Collected) → IsStopped most row (view_with look p) before (view_with look q) after → RowEnds look most row p false (Up q)
+  row-stopped most row p q before after d = record { some = d.some; later = d.later; few = d.calls; dark = d.stop.dark; not_calm = d.not_calm }
 
   row-sends : (most : ℕ) (row : RowOutcome Memory) (v : ServerView) (before : Collected) (w : ServerView) (after : Collected) → before ≡ nothing → IsDone most row v before w after → Sends row (Some after)
   row-sends most row v before w after none d = d.sent ∙ ap (λ (b : Collected). added b row.messages row.notes) none
@@ -77,29 +77,29 @@ module _ {S : Type 0} (look : S → StoreView) where
   same-memory : (v w : ServerView) → w ≡ record v { storage = w.storage } → w.storage.accounts ≡ v.storage.accounts → memory_of w ≡ memory_of v
   same-memory v w tables same = ap memory_of tables ∙ ap (λ (a : Accounts). memory_of (record v { storage = record w.storage { accounts = a } })) same
 
-  idle-done : (p q : Parts S) → view_with look q ≡ record (view_with look p) { storage = (view_with look q).storage } → (view_with look q).storage.accounts ≡ (view_with look p).storage.accounts
-      → Unchanged (state (view_with look p).storage) (view_with look q).storage.found → StorageLater (view_with look p).storage (view_with look q).storage → (look q.storage.0).power ≡ true → IsRowDone look (idle_row (memory_of (view_with look p))) p q
-  idle-done p q tables same found later power = record { memory = same-memory (view_with look p) (view_with look q) tables same; found = found; later = later; power = power }
+  idle-done : (most : ℕ) (p q : Parts S) → view_with look q ≡ record (view_with look p) { storage = (view_with look q).storage } → (view_with look q).storage.accounts ≡ (view_with look p).storage.accounts
+      → Unchanged (state (view_with look p).storage) (view_with look q).storage.found → StorageLater (view_with look p).storage (view_with look q).storage → (look q.storage.0).calls ≤ (look p.storage.0).calls + most → (look q.storage.0).power ≡ true → IsRowDone look most (idle_row (memory_of (view_with look p))) p q
+  idle-done most p q tables same found later few power = record { memory = same-memory (view_with look p) (view_with look q) tables same; found = found; later = later; few = few; power = power }
 
-  idle-stopped : (p q : Parts S) → Unchanged (state (view_with look p).storage) (view_with look q).storage.found → StorageLater (view_with look p).storage (view_with look q).storage → (look q.storage.0).power ≡ false
-      → (IsCalm (look p.storage.0) → ⊥) → IsRowStopped look (idle_row (memory_of (view_with look p))) p q
-  idle-stopped p q found later dark not_calm = record { some = λ c. record { made = 0; is_after = found c }; later = later; dark = dark; not_calm = not_calm }
+  idle-stopped : (most : ℕ) (p q : Parts S) → Unchanged (state (view_with look p).storage) (view_with look q).storage.found → StorageLater (view_with look p).storage (view_with look q).storage → (look q.storage.0).calls ≤ (look p.storage.0).calls + most → (look q.storage.0).power ≡ false
+      → (IsCalm (look p.storage.0) → ⊥) → IsRowStopped look most (idle_row (memory_of (view_with look p))) p q
+  idle-stopped most p q found later few dark not_calm = record { some = λ c. record { made = 0; is_after = found c }; later = later; few = few; dark = dark; not_calm = not_calm }
 
   pub shows-done : (a : Slot S) (p q : Parts S) (list : List Shown) → a ≡ Up p → IsShown (view_with look p) list (view_with look q) → Shows look a (Some list) (Up q)
   shows-done a p q list is h = subst (λ (x : Slot S). Shows look x (Some list) (Up q)) (sym is)
-      (idle-done p q h.looks.tables h.accounts h.looks.found h.looks.later h.serves.works.serving.power, (h.prints, h.in_range))
+      (idle-done _ p q h.looks.tables h.accounts h.looks.found h.looks.later h.looks.calls h.serves.works.serving.power, (h.prints, h.in_range))
 
   pub shows-stopped : (a : Slot S) (p q : Parts S) → a ≡ Up p → IsCutShort (view_with look p) (view_with look q) → Shows look a None (Up q)
-  shows-stopped a p q is h = subst (λ (x : Slot S). Shows look x None (Up q)) (sym is) (idle-stopped p q h.looks.found h.looks.later h.stop.dark h.not_calm, tt)
+  shows-stopped a p q is h = subst (λ (x : Slot S). Shows look x None (Up q)) (sym is) (idle-stopped _ p q h.looks.found h.looks.later h.looks.calls h.stop.dark h.not_calm, tt)
 
-  pub scrubs-done : (a : Slot S) (p q : Parts S) → a ≡ Up p → Scrubbed (view_with look p).storage true (view_with look q).storage → view_with look q ≡ record (view_with look p) { storage = (view_with look q).storage } → Idles look a true (Up q)
-  scrubs-done a p q is h tables = subst (λ (x : Slot S). Idles look x true (Up q)) (sym is) (idle-done p q tables h.same h.unchanged h.called.later (let s = h.called.serving refl in s.power))
+  pub scrubs-done : (a : Slot S) (p q : Parts S) → a ≡ Up p → Scrubbed (view_with look p).storage true (view_with look q).storage → view_with look q ≡ record (view_with look p) { storage = (view_with look q).storage } → Scrubs look a true (Up q)
+  scrubs-done a p q is h tables = subst (λ (x : Slot S). Scrubs look x true (Up q)) (sym is) (idle-done _ p q tables h.same h.unchanged h.called.later h.called.calls (let s = h.called.serving refl in s.power))
 
-  pub scrubs-stopped : (a : Slot S) (p q : Parts S) → a ≡ Up p → Scrubbed (view_with look p).storage false (view_with look q).storage → Idles look a false (Up q)
+  pub scrubs-stopped : (a : Slot S) (p q : Parts S) → a ≡ Up p → Scrubbed (view_with look p).storage false (view_with look q).storage → Scrubs look a false (Up q)
   scrubs-stopped a p q is h =
       let stop = h.called.stop refl in
-      subst (λ (x : Slot S). Idles look x false (Up q)) (sym is)
-      (idle-stopped p q h.unchanged h.called.later stop.dark (λ calm. let after = h.called.later.store.calm calm in true≢false (sym after.power ∙ stop.dark)))
+      subst (λ (x : Slot S). Scrubs look x false (Up q)) (sym is)
+      (idle-stopped _ p q h.unchanged h.called.later h.called.calls stop.dark (λ calm. let after = h.called.later.store.calm calm in true≢false (sym after.power ∙ stop.dark)))
 
   -- ---- the clients' end
 

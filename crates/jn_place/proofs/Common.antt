@@ -1,5 +1,5 @@
 -- The names from below that these proofs cite, passed on from one place. Declares nothing.
-pub use Rattle.std.proofs.Common.{[], sym, ◌∙◌, ap, subst, false, length, true≢false, refl, arith, ◌∷◌, append_assoc, ◌≢◌, ◌⊎◌, inl, inr, ◌≤◌, ◌<◌, ◌+◌, suc, ⊎_elim, ◌||◌, drop}
+pub use Rattle.std.proofs.Common.{[], sym, ◌∙◌, ap, subst, ◌≤◌, ◌+◌, false, length, true≢false, refl, arith, ◌∷◌, append_assoc, ◌≢◌, ◌⊎◌, inl, inr, ◌<◌, suc, ⊎_elim, ◌||◌, drop}
 pub use Rattle.std.specs.Prelude.{◌≡◌, ℕ, Bool, true, Option, Some, None, Ok, Err, is_some, List, ◌++◌, Result, OnOk, map, if◌then◌else◌, not, slice_get, IfOk}
 pub use Rattle.jn_base.specs.declared.names.ServerNo.{ServerNo}
 pub use Rattle.jn_base.specs.declared.names.Tid.{Tid}
@@ -15,13 +15,13 @@ pub use Rattle.jn_server.specs.Handling.{TimesOut, IsDone, IsStopped, Steps, row
 pub use Rattle.jn_server.specs.Seen.{Parts, view_with, memory_of, ServerView, room_of}
 pub use Rattle.jn_storage.specs.Calls.{state, CountsErased}
 pub use Rattle.jn_storage.specs.Storage.{Accounts, StorageLater, intentions}
-pub use Rattle.jn_store.specs.Store.{StoreView, HasSamePages, IsCalm, StoreLater}
+pub use Rattle.jn_store.specs.Store.{StoreView, HasSamePages, IsCalm, StoreLater, IsClean, IsWholePage}
 pub use Rattle.jn_transactions.specs.Telling.{added}
 pub use Rattle.jn_place.specs.declared.place.Slot.{Slot}
 pub use Rattle.jn_place.specs.declared.place.Slot.TheVariants.{Up, Down, Gone}
 pub use Rattle.jn_place.specs.Calls.{LeavesStore, Answered, CameUp, IsCalled, Serves, Called, Left}
-pub use Rattle.jn_place.specs.Exact.{AsksAgain, TimedOut, Crashed, Befell, Sends, work_of, has_work_at, idle_row, IsSpent, lines_at, texts_of_step, IsStepOf, StaysCalm, WhereUp, WorkLeaves, IsTried, IsUpAt, IsStoppedUp, IsUsedUpAt, CameTo, IsRestart, IsCalmAt, ComesCalm, is_stopped, TakeLeaves, KeepsRubbish, LeavesImage, Took, WorkedBy, ScrubbedBy, Showed, Closed, items_of}
-pub use Rattle.jn_place.specs.Inner.{SaysSame, IsAsBefore, StaysAs, IsRowDone, IsRowStopped, RowEnds, Handles, IsWorking, Works, Idles, Shows, Closes, told_at, Follows, IsRisen, IsCutUp, IsAtLast, StandsUp, Rises, Lifts, WhereDone, LeavesOwnImage}
+pub use Rattle.jn_place.specs.Exact.{AsksAgain, TimedOut, Crashed, Befell, Sends, work_of, has_work_at, idle_row, IsSpent, lines_at, texts_of_step, IsStepOf, StaysCalm, WhereUp, WorkLeaves, IsTried, IsUpAt, IsStoppedUp, IsUsedUpAt, CameTo, IsRestart, IsCalmAt, ComesCalm, is_stopped, TakeLeaves, KeepsRubbish, LeavesImage, LeavesClean, Took, WorkedBy, ScrubbedBy, Showed, Closed, items_of}
+pub use Rattle.jn_place.specs.Inner.{SaysSame, IsAsBefore, StaysAs, Scrubs, IsRowDone, IsRowStopped, RowEnds, Handles, IsWorking, Works, Shows, Closes, told_at, Follows, IsRisen, IsCutUp, IsAtLast, StandsUp, Rises, Lifts, WhereDone, LeavesOwnImage, Idles}
 pub use Rattle.jn_place.specs.Places.{Stands, HoldsUp, NoneTold, IsPlace, IsDownAt, CountsAt, is_up, IsHeld, HasPages, is_there}
 pub use Rattle.jn_msgs.specs.declared.message.Message.{Message}
 pub use Rattle.jn_system.specs.WholeSystem.World.{Memory}
@@ -33,7 +33,7 @@ pub use Rattle.jn_rows.specs.Stable.{Unchanged, StableState, Pick, IsStopState, 
 pub use Rattle.jn_server.specs.declared.show.Shown.{Shown}
 pub use Rattle.jn_within.specs.Taking.{AllCanBeTaken}
 pub use Rattle.jn_found.specs.Recoverable.{IsRecoverable}
-pub use Rattle.jn_recovery.specs.Loading.{counts_by, IsSameOrNext}
+pub use Rattle.jn_recovery.specs.Loading.{counts_by, most_calls, IsSameOrNext}
 pub use Rattle.jn_recovery.specs.declared.counts.PageCounts.{PageCounts}
 pub use Rattle.jn_store.specs.Pairs.{pairs_view}
 pub use Rattle.jn_place.specs.declared.place.Place.{Place}

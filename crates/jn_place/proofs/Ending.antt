@@ -1,5 +1,6 @@
 -- A call and what follows it, as one step by its row.
-use Rattle.jn_place.proofs.Common.{◌≡◌, Bool, true, false, true≢false, List, [], ◌∷◌, ◌++◌, refl, sym, ◌∙◌, ap, subst, append_assoc, Result, Ok, Err, OnOk, map, Outside, ServerNo, DeviceState, cleared, found_on, counts_in, Memory, Counts, When, Line, RowOutcome, StableState, Pick, IsStopState, Parts, view_with, state, Accounts, pairs_view, StoreView, StoreLater, IsCalm, Slot, Up, Down, Gone, LeavesStore, IsSpent, lines_at, texts_of_step, IsStepOf, StaysCalm, RowEnds, told_at, StaysAs, Follows, is_up}
+use Rattle.jn_device.specs.Happens.{none}
+use Rattle.jn_place.proofs.Common.{◌≡◌, ◌≤◌, ◌+◌, ℕ, arith, Bool, true, false, true≢false, List, [], ◌∷◌, ◌++◌, refl, sym, ◌∙◌, ap, subst, append_assoc, Result, Ok, Err, OnOk, map, Outside, ServerNo, DeviceState, cleared, found_on, counts_in, Memory, Counts, When, Line, RowOutcome, StableState, Pick, IsStopState, Parts, view_with, state, Accounts, pairs_view, StoreView, StoreLater, IsCalm, Slot, Up, Down, Gone, LeavesStore, IsSpent, lines_at, texts_of_step, IsStepOf, StaysCalm, RowEnds, told_at, StaysAs, Follows, is_up}
 use Rattle.std.proofs.lemmas.List.{append-nil, map-append}
 use Rattle.jn_report.specs.declared.line.Text.{Text}
 use Rattle.jn_report.specs.declared.line.Text.TheVariants as says
@@ -70,14 +71,20 @@ module _ {S : Type 0} (look : S → StoreView) (device : S → DeviceState) (see
   pub later-below : (s t : S) → StoreLater (look s) (look t) → StoreLater (pairs_view (device s)) (pairs_view (device t))
   later-below s t h = subst (λ (v : StoreView). StoreLater v (pairs_view (device t))) (sees s) (subst (λ (w : StoreView). StoreLater (look s) w) (sees t) h)
 
-  pub spent : (s t u : S) (power : Bool) → StoreLater (look s) (look t) → (look t).power ≡ power → device u ≡ cleared (device t) → IsSpent (device t).told power (device s) (device u)
-  spent s t u power later lit after = record {
+  pub spent-on : (most : ℕ) (s t : S) (e : DeviceState) (told : List Outside) (power : Bool) → told ≡ (device t).told → StoreLater (look s) (look t) → (look t).calls ≤ (look s).calls + most → (look t).power ≡ power
+      → e ≡ cleared (device t) → IsSpent most told power (device s) e
+  spent-on most s t e told power is later few lit after = record {
     last = device t;
-    calls = later-below s t later;
-    told_is = refl;
+    happens = (later-below s t later).happens (device s) (none (device s));
+    few = let a : (look t).calls ≡ (device t).calls = ap (λ (v : StoreView). v.calls) (sees t) in let b : (look s).calls ≡ (device s).calls = ap (λ (v : StoreView). v.calls) (sees s) in omega (arith, a, b, few);
+    whole = (later-below s t later).whole;
+    told_is = is;
     power_is = sym (ap (λ (v : StoreView). v.power) (sees t)) ∙ lit;
     after = after;
   }
+
+  pub spent : (most : ℕ) (s t u : S) (power : Bool) → StoreLater (look s) (look t) → (look t).calls ≤ (look s).calls + most → (look t).power ≡ power → device u ≡ cleared (device t) → IsSpent most (device t).told power (device s) (device u)
+  spent most s t u power later few lit after = spent-on most s t (device u) (device t).told power refl later few lit after
 
   pub calm-cleared : (t u : S) → device u ≡ cleared (device t) → IsCalm (look t) → IsCalm (look u)
   calm-cleared t u after calm = record {
@@ -85,15 +92,15 @@ module _ {S : Type 0} (look : S → StoreView) (device : S → DeviceState) (see
     power = ap (λ (v : StoreView). v.power) (sees u) ∙ ap (λ (d : DeviceState). d.power) after ∙ sym (ap (λ (v : StoreView). v.power) (sees t)) ∙ calm.power;
   }
 
-  module _ (q : ServerNo) (g : Counts) (when : When) (row : RowOutcome Memory) (p : Parts S) (counts : counts_in (view_with look p).storage.accounts ≡ g) (lines lines' : List Line) where
-    pub step-of : (m : Slot S) (done : Bool) (b : Slot S) → RowEnds look row p done m → Follows look device m done b → lines' ≡ lines ++ lines_at when (texts_of_step q (told_at device m) done)
-        → IsStepOf look device q g when row (Up p) done b lines lines'
+  module _ (q : ServerNo) (g : Counts) (most : ℕ) (when : When) (row : RowOutcome Memory) (p : Parts S) (counts : counts_in (view_with look p).storage.accounts ≡ g) (lines lines' : List Line) where
+    pub step-of : (m : Slot S) (done : Bool) (b : Slot S) → RowEnds look most row p done m → Follows look device m done b → lines' ≡ lines ++ lines_at when (texts_of_step q (told_at device m) done)
+        → IsStepOf look device q g most when row (Up p) done b lines lines'
     step-of (Up m) true (Up b) ends follows e = record {
       told = (device m.storage.0).told;
       ends = record {
         memory = follows.0.memory ∙ ends.memory;
         found = λ c. ap (λ f. f c) follows.0.found ∙ ends.found c;
-        spent = spent p.storage.0 m.storage.0 b.storage.0 true ends.later.store ends.power follows.1;
+        spent = spent most p.storage.0 m.storage.0 b.storage.0 true ends.later.store ends.few ends.power follows.1;
       };
       lines_are = e;
     }
@@ -101,7 +108,7 @@ module _ {S : Type 0} (look : S → StoreView) (device : S → DeviceState) (see
       told = (device m.storage.0).told;
       ends = record {
         some = λ c. subst (λ (x : StableState). IsStopState (state (view_with look p).storage) row.changes x) (sym (found c)) (ends.some c);
-        spent = spent p.storage.0 m.storage.0 s false ends.later.store ends.dark follows.1;
+        spent = spent most p.storage.0 m.storage.0 s false ends.later.store ends.few ends.dark follows.1;
       };
       lines_are = e;
     }
@@ -120,7 +127,7 @@ module _ {S : Type 0} (look : S → StoreView) (device : S → DeviceState) (see
     step-of Gone true b ends follows e = absurd ends
     step-of Gone false b ends follows e = absurd ends
 
-    pub calm-of : (m : Slot S) (done : Bool) (b : Slot S) → RowEnds look row p done m → Follows look device m done b → StaysCalm look (Up p) done b
+    pub calm-of : (m : Slot S) (done : Bool) (b : Slot S) → RowEnds look most row p done m → Follows look device m done b → StaysCalm look (Up p) done b
     calm-of (Up m) true (Up b) ends follows calm = (refl, refl, calm-cleared m.storage.0 b.storage.0 follows.1 (ends.later.store.calm calm))
     calm-of (Up m) true (Down s) ends follows calm = absurd follows
     calm-of (Up m) true Gone ends follows calm = absurd follows

@@ -1,5 +1,5 @@
 -- A restart, from the store with power to the server.
-use Rattle.jn_place.proofs.Common.{◌≡◌, ◌<◌, ◌+◌, ℕ, suc, Bool, true, false, true≢false, List, [], ◌∷◌, ◌++◌, map, Option, Some, None, is_some, ⊎_elim, ◌||◌, refl, sym, ◌∙◌, ap, subst, arith, Result, Ok, Err, IfOk, ServerNo, Tid, tid_eq, tid_tells, DeviceState, PowersUp, powered_off, cleared, found_on, fewer_picked, restored, Memory, Counts, Found, Transaction, restored_transaction, restored_transactions, StableState, FlagState, IsRestarted, IsNotRestarted, Parts, view_with, memory_of, StoreView, IsCalm, work_eq, IsSameOrNext, When, Line, Accounts, StoreLater, Restarted, Slot, Up, Down, Gone, lines_at, texts_of_step, IsTried, IsUpAt, IsStoppedUp, IsUsedUpAt, CameTo, IsRestart, IsCalmAt, ComesCalm, is_stopped, IsRisen, IsCutUp, IsAtLast, SaysSame, StaysAs, StandsUp, Rises, Lifts, told_at, CameUp, IsHeld}
+use Rattle.jn_place.proofs.Common.{most_calls, ◌≡◌, ◌≤◌, ◌<◌, ◌+◌, ℕ, suc, Bool, true, false, true≢false, List, [], ◌∷◌, ◌++◌, map, Option, Some, None, is_some, ⊎_elim, ◌||◌, refl, sym, ◌∙◌, ap, subst, arith, Result, Ok, Err, IfOk, ServerNo, Tid, tid_eq, tid_tells, DeviceState, PowersUp, powered_off, cleared, found_on, fewer_picked, restored, Memory, Counts, Found, Transaction, restored_transaction, restored_transactions, StableState, FlagState, IsRestarted, IsNotRestarted, Parts, view_with, memory_of, StoreView, IsCalm, work_eq, IsSameOrNext, When, Line, Accounts, StoreLater, Restarted, Slot, Up, Down, Gone, lines_at, texts_of_step, IsTried, IsUpAt, IsStoppedUp, IsUsedUpAt, CameTo, IsRestart, IsCalmAt, ComesCalm, is_stopped, IsRisen, IsCutUp, IsAtLast, SaysSame, StaysAs, StandsUp, Rises, Lifts, told_at, CameUp, IsHeld}
 use Rattle.std.specs.List.{list_any}
 use Rattle.jn_system.specs.WholeSystem.Steps.{AreNames, tid_before}
 use Rattle.jn_recovery.specs.declared.load.DownCause.{DownCause}
@@ -7,7 +7,7 @@ use Rattle.jn_recovery.specs.declared.load.DownCause.TheVariants.{Stopped, Epoch
 use Rattle.jn_locks.specs.Locks.{work_before}
 use Rattle.jn_system.specs.SmallSteps.Steps.{with_epoch}
 use Rattle.jn_place.specs.declared.place.Restarted.TheVariants as came
-use Rattle.jn_place.proofs.Ending.{Sees, later-below, spent, calm-cleared}
+use Rattle.jn_place.proofs.Ending.{Sees, spent, spent-on, calm-cleared}
 
 -- ---- the names of the flags
 
@@ -38,6 +38,7 @@ module _ {S : Type 0} (look : S → StoreView) (device : S → DeviceState) (q :
   pub risen : (told : Found) (tids : List Tid) (p : Parts S) → IsRestarted q g (look s) told (view_with look p) → tids ≡ map (λ (t : Transaction). t.tid) p.coordinator.transactions → IsRisen look q g s told.epoch tids p
   risen told tids p r e = record {
     later = r.loaded.recovering.later;
+    few = r.loaded.recovering.calls;
     power = r.serves.works.serving.power;
     pick = r.loaded.before;
     works = r.works;
@@ -77,6 +78,7 @@ module _ {S : Type 0} (look : S → StoreView) (device : S → DeviceState) (q :
   pub cut-up : (cause : DownCause) (s' : S) → cause ≡ Stopped → IsNotRestarted q g (look s) cause (look s') → IsCutUp look g s s'
   cut-up cause s' is d = record {
     later = d.down.recovering.later;
+    few = d.down.recovering.calls;
     dark = (d.down.stop is).dark;
     each = d.down.recovering.each;
     not_calm = λ calm. d.down.calm calm is;
@@ -86,6 +88,7 @@ module _ {S : Type 0} (look : S → StoreView) (device : S → DeviceState) (q :
   at-last cause called s' is d off same = let used = d.down.used_up is in record {
     called = called;
     later = d.down.recovering.later;
+    few = d.down.recovering.calls;
     power = used.power;
     device_is = off;
     each = λ c. let h = fewer_picked (look s) (look called) used.fewer g c in (h.0, ap (λ f. f c) (same g) ∙ h.1);
@@ -99,12 +102,12 @@ module _ {S : Type 0} (look : S → StoreView) (device : S → DeviceState) (see
   lifted a s lit r b is powers same h = subst (λ (x : Slot S). Lifts look device q g x r b) (sym is) (record { lit = lit; powers = powers; same = same; rises = h })
 
   module _ (s lit : S) (powers : PowersUp (device s) (device lit)) (same : SaysSame look s lit) where
-    tried : (t u : S) (power : Bool) → StoreLater (look lit) (look t) → (look t).power ≡ power → device u ≡ cleared (device t) → IsTried (device t).told power (device s) (device u)
-    tried t u power later lit-is after = record { powered = device lit; up = powers; spent = spent look device sees lit t u power later lit-is after }
+    tried : (t u : S) (power : Bool) → StoreLater (look lit) (look t) → (look t).calls ≤ (look lit).calls + most_calls g → (look t).power ≡ power → device u ≡ cleared (device t) → IsTried g (device t).told power (device s) (device u)
+    tried t u power later few lit-is after = record { powered = device lit; up = powers; spent = spent look device sees (most_calls g) lit t u power later few lit-is after }
 
     up-at : (epoch : ℕ) (tids : List Tid) (m b : Parts S) → IsRisen look q g lit epoch tids m → StaysAs look device cleared (Up m) (Up b) → IsUpAt look device q g (device m.storage.0).told s epoch tids b
     up-at epoch tids m b h stays = record {
-      tried = tried m.storage.0 b.storage.0 true h.later h.power stays.1;
+      tried = tried m.storage.0 b.storage.0 true h.later h.few h.power stays.1;
       pick = h.pick;
       works = h.works;
       work_names = subst (λ (x : StableState). AreNames work_eq work_before x.works h.works) at h.work_names;
@@ -121,7 +124,7 @@ module _ {S : Type 0} (look : S → StoreView) (device : S → DeviceState) (see
 
     stopped-up : (m b : S) → IsCutUp look g lit m → StaysAs look device cleared (Down m) (Down b) → IsStoppedUp look device g (device m).told s b
     stopped-up m b h stays = record {
-      tried = tried m b false h.later h.dark stays.1;
+      tried = tried m b false h.later h.few h.dark stays.1;
       each = λ c. let (k, e) = h.each c in (
         k,
         subst (λ (x : StableState). IsSameOrNext x (found_on g (look b) c)) (ap (λ f. f k) (same g))
@@ -135,13 +138,7 @@ module _ {S : Type 0} (look : S → StoreView) (device : S → DeviceState) (see
       tried = record {
         powered = device lit;
         up = powers;
-        spent = record {
-          last = device h.called;
-          calls = later-below look device sees lit h.called h.later;
-          told_is = ap (λ (d : DeviceState). d.told) h.device_is;
-          power_is = sym (ap (λ (v : StoreView). v.power) (sees h.called)) ∙ h.power;
-          after = refl;
-        };
+        spent = spent-on look device sees (most_calls g) lit h.called (cleared (device h.called)) (device m).told true (ap (λ (d : DeviceState). d.told) h.device_is) h.later h.few h.power refl;
       };
       device_is = stays.1 ∙ ap cleared h.device_is;
       each = λ c. let (k, e) = h.each c in (k, ap (λ f. f c) (stays.0 g) ∙ e ∙ ap (λ f. f k) (same g));

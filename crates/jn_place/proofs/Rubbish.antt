@@ -1,5 +1,5 @@
 -- What calls of a server leave as rubbish, and that a scrub leaves an image.
-use Rattle.jn_place.proofs.Common.{◌≡◌, ℕ, Bool, true, false, length, Option, Ok, refl, sym, ◌∙◌, ap, subst, ServerNo, DeviceState, cleared, Scrubbed, counts_in, Message, Collected, Files, Memory, Counts, RowOutcome, Befalls, Steps, ServerView, Parts, view_with, state, CountsErased, Accounts, pairs_view, StoreView, Slot, Up, Down, Gone, WhereUp, TakeLeaves, WorkLeaves, KeepsRubbish, LeavesImage, work_of, WhereDone, IsAsBefore, Follows, LeavesOwnImage, Stands}
+use Rattle.jn_place.proofs.Common.{◌≡◌, ℕ, Bool, true, false, length, Option, Ok, refl, sym, ◌∙◌, ap, subst, ServerNo, DeviceState, cleared, Scrubbed, counts_in, Message, Collected, Files, Memory, Counts, RowOutcome, Befalls, Steps, ServerView, Parts, view_with, state, CountsErased, Accounts, pairs_view, StoreView, Slot, Up, Down, Gone, WhereUp, TakeLeaves, WorkLeaves, KeepsRubbish, LeavesImage, work_of, WhereDone, IsAsBefore, Follows, LeavesOwnImage, Stands, IsClean, IsWholePage, LeavesClean}
 use Rattle.jn_found.specs.Images.{IsImage}
 use Rattle.jn_place.proofs.Ending.{Sees}
 
@@ -33,6 +33,9 @@ module _ {S : Type 0} (look : S → StoreView) where
   pub scrubs-image : (a : Slot S) (p q : Parts S) → a ≡ Up p → Scrubbed (view_with look p).storage true (view_with look q).storage → WhereUp look LeavesOwnImage a (Up q)
   scrubs-image a p q is h = up-so LeavesOwnImage a p q is (λ calm idle. h.image calm idle)
 
+  pub scrubs-clean : (a : Slot S) (p q : Parts S) → a ≡ Up p → Scrubbed (view_with look p).storage true (view_with look q).storage → WhereUp look LeavesClean a (Up q)
+  scrubs-clean a p q is h = up-so LeavesClean a p q is (record { clean = h.clean refl; whole = h.whole })
+
   -- ---- with what follows it
 
   module _ (device : S → DeviceState) where
@@ -58,6 +61,20 @@ module _ {S : Type 0} (look : S → StoreView) where
 
     pub keeps-lasts : Outlasts look device KeepsRubbish
     keeps-lasts v m b same after h = ap (λ (a : Accounts). a.rubbish) same.accounts ∙ h
+
+    clean-left : Sees look device → (i : ℕ) (s t : S) → device t ≡ cleared (device s) → IsClean (look s) i → IsClean (look t) i
+    clean-left sees i s t after h = subst (λ (v : StoreView). IsClean v i) (sym (sees t)) (subst (λ (d : DeviceState). IsClean (pairs_view d) i) (sym after) (subst (λ (v : StoreView). IsClean v i) (sees s) h))
+
+    whole-left : Sees look device → (i : ℕ) (s t : S) → device t ≡ cleared (device s) → IsWholePage (look s) i → IsWholePage (look t) i
+    whole-left sees i s t after h =
+        let at-s : IsWholePage (pairs_view (device s)) i = subst (λ (v : StoreView). IsWholePage v i) (sees s) h in
+        subst (λ (v : StoreView). IsWholePage v i) (sym (sees t)) (subst (λ (d : DeviceState). IsWholePage (pairs_view d) i) (sym after) (record { both = at-s.both; clean = at-s.clean }))
+
+    pub clean-lasts : Sees look device → Outlasts look device LeavesClean
+    clean-lasts sees v m b same after h = record {
+      clean = λ i below. clean-left sees i m.storage.0 b.storage.0 after (h.clean i below);
+      whole = λ calm i below. whole-left sees i m.storage.0 b.storage.0 after (h.whole calm i below);
+    }
 
     cleared-image : (q : ServerNo) (g : Counts) (files : Files) (d : DeviceState) → IsImage q g files (pairs_view d) → IsImage q g files (pairs_view (cleared d))
     cleared-image q g files d h = record { sound = h.sound; fit = h.fit; same_files = h.same_files }

@@ -1,5 +1,5 @@
 -- What each call of a place does, exactly: to the server, to its device, and in lines.
-use Rattle.std.specs.Prelude.{◌≡◌, ◌<◌, ◌+◌, ℕ, Bool, true, false, ⊤, if◌then◌else◌, List, [], ◌∷◌, ◌++◌, map, Option, Some, None, is_some}
+use Rattle.std.specs.Prelude.{◌≡◌, ◌≤◌, ◌<◌, ◌+◌, ◌*◌, ℕ, Bool, true, false, ⊤, if◌then◌else◌, List, [], ◌∷◌, ◌++◌, map, Option, Some, None, is_some}
 use Rattle.std.specs.Global.{Vec}
 use Rattle.jn_base.specs.declared.names.BlockNo.{BlockNo}
 use Rattle.jn_base.specs.declared.names.FileNo.{FileNo}
@@ -12,6 +12,7 @@ use Rattle.jn_base.specs.Names.{tid_eq, work_eq}
 use Rattle.jn_base.specs.Limits.{most_blocks}
 use Rattle.jn_device.specs.Device.{DeviceState}
 use Rattle.jn_device.specs.Events.{PowersUp, powered_off, cleared}
+use Rattle.jn_device.specs.Happens.{Happens}
 use Rattle.jn_found.specs.Images.{IsImage}
 use Rattle.jn_found.specs.Pages.{found_on}
 use Rattle.jn_intent.specs.Scrubbing.{IsIdle}
@@ -23,7 +24,7 @@ use Rattle.jn_system.specs.WholeSystem.Servers.{server_row, server_step, server_
 use Rattle.jn_system.specs.WholeSystem.Steps.{AreNames, tid_before}
 use Rattle.jn_system.specs.WholeSystem.World.{Memory}
 use Rattle.jn_records.specs.StablePages.{Counts}
-use Rattle.jn_recovery.specs.Loading.{IsSameOrNext}
+use Rattle.jn_recovery.specs.Loading.{IsSameOrNext, most_calls}
 use Rattle.jn_report.specs.declared.line.When.{When}
 use Rattle.jn_report.specs.declared.line.Text.{Text}
 use Rattle.jn_report.specs.declared.line.Text.TheVariants as says
@@ -34,13 +35,15 @@ use Rattle.jn_system.specs.SmallSteps.Steps.{with_epoch}
 use Rattle.jn_rows.specs.Stable.{Pick, IsStopState, made_all}
 use Rattle.jn_rows.specs.Worker.{timeout_row}
 use Rattle.jn_server.specs.declared.show.Shown.{Shown}
-use Rattle.jn_server.specs.Handling.{LeavesRubbish, StepLeaves}
+use Rattle.jn_server.specs.Handling.{row_calls, LeavesRubbish, StepLeaves}
 use Rattle.jn_server.specs.Seen.{Parts, ServerView, view_with, memory_of, room_of}
 use Rattle.jn_server.specs.Showing.{print_of}
 use Rattle.jn_server.specs.Reading.{IsRoomOfPages}
 use Rattle.jn_storage.specs.Calls.{state}
+use Rattle.jn_storage.specs.DeviceCalls.{step_calls}
+use Rattle.jn_store.specs.DeviceCalls.{put_calls, cleaned_get_calls}
 use Rattle.jn_store.specs.Pairs.{pairs_view}
-use Rattle.jn_store.specs.Store.{StoreView, StoreLater, IsCalm}
+use Rattle.jn_store.specs.Store.{StoreView, IsCalm, IsClean, IsWholePage}
 use Rattle.jn_place.specs.declared.place.Restarted.{Restarted}
 use Rattle.jn_place.specs.declared.place.Restarted.TheVariants as came
 use Rattle.jn_place.specs.declared.place.Slot.{Slot}
@@ -49,10 +52,12 @@ use Rattle.jn_place.specs.Places.{is_up}
 
 -- ---- the device
 
--- A device was called any number of times. These faults were told, and then forgotten, and it has power or none.
-pub record IsSpent (told : List Outside) (power : Bool) (d e : DeviceState) : Type 0 where
+-- A device was called so many times at most. These faults were told, and then forgotten, and it has power or none.
+pub record IsSpent (most : ℕ) (told : List Outside) (power : Bool) (d e : DeviceState) : Type 0 where
   pub last : DeviceState
-  pub calls : StoreLater (pairs_view d) (pairs_view last)
+  pub happens : Happens d last
+  pub few : last.calls ≤ d.calls + most
+  pub whole : IsCalm (pairs_view d) → (i : ℕ) → i < (pairs_view d).count → IsWholePage (pairs_view d) i → IsWholePage (pairs_view last) i
   pub told_is : told ≡ last.told
   pub power_is : last.power ≡ power
   pub after : e ≡ cleared last
@@ -69,25 +74,25 @@ texts_of_step q told done = map (λ (fault : Outside). says.Outside q fault) tol
 -- ---- a row
 
 -- all its changes are made
-pub record IsDoneAt {S : Type 0} (look : S → StoreView) (device : S → DeviceState) (told : List Outside) (row : RowOutcome Memory) (p p' : Parts S) : Type 0 where
+pub record IsDoneAt {S : Type 0} (look : S → StoreView) (device : S → DeviceState) (most : ℕ) (told : List Outside) (row : RowOutcome Memory) (p p' : Parts S) : Type 0 where
   pub memory : memory_of (view_with look p') ≡ row.table
   pub found : (c : Pick) → (view_with look p').storage.found c ≡ made_all row.changes (state (view_with look p).storage)
-  pub spent : IsSpent told true (device p.storage.0) (device p'.storage.0)
+  pub spent : IsSpent most told true (device p.storage.0) (device p'.storage.0)
 
 -- by each pick some of them are, from the first one on, and the server is down
-pub record IsStoppedAt {S : Type 0} (look : S → StoreView) (device : S → DeviceState) (g : Counts) (told : List Outside) (row : RowOutcome Memory) (p : Parts S) (s : S) : Type 0 where
+pub record IsStoppedAt {S : Type 0} (look : S → StoreView) (device : S → DeviceState) (g : Counts) (most : ℕ) (told : List Outside) (row : RowOutcome Memory) (p : Parts S) (s : S) : Type 0 where
   pub some : (c : Pick) → IsStopState (state (view_with look p).storage) row.changes (found_on g (look s) c)
-  pub spent : IsSpent told false (device p.storage.0) (device s)
+  pub spent : IsSpent most told false (device p.storage.0) (device s)
 
-abbrev pub Ends : {S : Type 0} → (S → StoreView) → (S → DeviceState) → Counts → List Outside → RowOutcome Memory → Slot S → Bool → Slot S → Type 0
-Ends look device g told row (Up p) true (Up p') = IsDoneAt look device told row p p'
-Ends look device g told row (Up p) false (Down s) = IsStoppedAt look device g told row p s
-Ends look device g told row before done after = ⊥
+abbrev pub Ends : {S : Type 0} → (S → StoreView) → (S → DeviceState) → Counts → ℕ → List Outside → RowOutcome Memory → Slot S → Bool → Slot S → Type 0
+Ends look device g most told row (Up p) true (Up p') = IsDoneAt look device most told row p p'
+Ends look device g most told row (Up p) false (Down s) = IsStoppedAt look device g most told row p s
+Ends look device g most told row before done after = ⊥
 
--- A step of a server that is up by this row: it was done or stopped, and these lines were added.
-pub record IsStepOf {S : Type 0} (look : S → StoreView) (device : S → DeviceState) (q : ServerNo) (g : Counts) (when : When) (row : RowOutcome Memory) (before : Slot S) (done : Bool) (after : Slot S) (lines lines' : List Line) : Type 0 where
+-- A step of a server that is up by this row, with so many calls of its device at most: it was done or stopped, and these lines were added.
+pub record IsStepOf {S : Type 0} (look : S → StoreView) (device : S → DeviceState) (q : ServerNo) (g : Counts) (most : ℕ) (when : When) (row : RowOutcome Memory) (before : Slot S) (done : Bool) (after : Slot S) (lines lines' : List Line) : Type 0 where
   pub told : List Outside
-  pub ends : Ends look device g told row before done after
+  pub ends : Ends look device g most told row before done after
   pub lines_are : lines' ≡ lines ++ lines_at when (texts_of_step q told done)
 
 -- what a step sends and notes is its row's
@@ -106,7 +111,7 @@ abbrev pub Took : {S : Type 0} → (S → StoreView) → (S → DeviceState) →
 Took look device q g when message (Up p) answer after lines lines' =
     let v = view_with look p in
     let row = server_row (memory_of v) (state v.storage) (room_of v.storage) message in
-    IsStepOf look device q g when row (Up p) (is_some answer) after lines lines' × Sends row answer
+    IsStepOf look device q g row_calls when row (Up p) (is_some answer) after lines lines' × Sends row answer
 Took look device q g when message before answer after lines lines' = ⊥
 
 -- its next background step, if there is something to do
@@ -127,16 +132,22 @@ ReadsPages look before = ⊥
 pub record IsWorked {S : Type 0} (look : S → StoreView) (device : S → DeviceState) (q : ServerNo) (g : Counts) (when : When) (p : Parts S) (answer : Option Collected) (after : Slot S) (lines lines' : List Line) : Type 0 where
   pub row : RowOutcome Memory
   pub row_is : work_of (view_with look p) ≡ Some row
-  pub step : IsStepOf look device q g when row (Up p) (is_some answer) after lines lines'
+  pub step : IsStepOf look device q g step_calls when row (Up p) (is_some answer) after lines lines'
   pub sends : Sends row answer
 
 abbrev pub WorkedBy : {S : Type 0} → (S → StoreView) → (S → DeviceState) → ServerNo → Counts → When → Slot S → Option Collected → Slot S → List Line → List Line → Type 0
 WorkedBy look device q g when (Up p) answer after lines lines' = IsWorked look device q g when p answer after lines lines'
 WorkedBy look device q g when before answer after lines lines' = ⊥
 
+-- each pair of its pages is clean then, and whole where no fault waited
+pub record LeavesClean (v w : ServerView) : Type 0 where
+  pub clean : (i : ℕ) → i < v.storage.store.count → IsClean w.storage.store i
+  pub whole : IsCalm v.storage.store → (i : ℕ) → i < v.storage.store.count → IsWholePage w.storage.store i
+
 -- it cleaned its pages, and nothing else changed
 abbrev pub ScrubbedBy : {S : Type 0} → (S → StoreView) → (S → DeviceState) → ServerNo → Counts → When → Slot S → Bool → Slot S → List Line → List Line → Type 0
-ScrubbedBy look device q g when (Up p) done after lines lines' = IsStepOf look device q g when (idle_row (memory_of (view_with look p))) (Up p) done after lines lines'
+ScrubbedBy look device q g when (Up p) done after lines lines' =
+    IsStepOf look device q g (put_calls * (look p.storage.0).count) when (idle_row (memory_of (view_with look p))) (Up p) done after lines lines'
 ScrubbedBy look device q g when before done after lines lines' = ⊥
 
 -- each block of which there is something to print is one of the 120
@@ -155,14 +166,14 @@ items_of (Some list) = Some list.items
 
 abbrev pub Showed : {S : Type 0} → (S → StoreView) → (S → DeviceState) → ServerNo → Counts → When → Slot S → Option (List Shown) → Slot S → List Line → List Line → Type 0
 Showed look device q g when (Up p) list after lines lines' =
-    IsStepOf look device q g when (idle_row (memory_of (view_with look p))) (Up p) (is_some list) after lines lines' × Prints (view_with look p) list
+    IsStepOf look device q g (cleaned_get_calls * (view_with look p).storage.accounts.leaves) when (idle_row (memory_of (view_with look p))) (Up p) (is_some list) after lines lines' × Prints (view_with look p) list
 Showed look device q g when before list after lines lines' = ⊥
 
 -- each outcome counts as thanked
 abbrev pub Closed : {S : Type 0} → (S → StoreView) → (S → DeviceState) → ServerNo → Counts → When → Slot S → Bool → Slot S → List Line → List Line → Type 0
 Closed look device q g when (Up p) done after lines lines' =
     let m = memory_of (view_with look p) in
-    IsStepOf look device q g when (of_coordinator m (close_clients_row m.coordinator m.tickets)) (Up p) done after lines lines'
+    IsStepOf look device q g row_calls when (of_coordinator m (close_clients_row m.coordinator m.tickets)) (Up p) done after lines lines'
 Closed look device q g when before done after lines lines' = ⊥
 
 -- it would send this again
@@ -216,16 +227,16 @@ abbrev pub Crashed : {S : Type 0} → (S → StoreView) → (S → DeviceState) 
 Crashed look device g (Up p) (Down s) = IsCrashed look device g p s
 Crashed look device g before after = ⊥
 
--- the power came, and then the device was called
-pub record IsTried (told : List Outside) (power : Bool) (d e : DeviceState) : Type 0 where
+-- the power came, and then the device was called, as often as a recovery may
+pub record IsTried (g : Counts) (told : List Outside) (power : Bool) (d e : DeviceState) : Type 0 where
   pub powered : DeviceState
   pub up : PowersUp d powered
-  pub spent : IsSpent told power powered e
+  pub spent : IsSpent (most_calls g) told power powered e
 
 -- It came up with what this pick found, in the next epoch: it remembers its works and flags, and nothing else. The transactions of the flags
 -- are told in rising order.
 pub record IsUpAt {S : Type 0} (look : S → StoreView) (device : S → DeviceState) (q : ServerNo) (g : Counts) (told : List Outside) (s : S) (epoch : ℕ) (tids : List Tid) (p' : Parts S) : Type 0 where
-  pub tried : IsTried told true (device s) (device p'.storage.0)
+  pub tried : IsTried g told true (device s) (device p'.storage.0)
   pub pick : Pick
   pub works : List WorkId
   pub work_names : AreNames work_eq work_before (found_on g (look s) pick).works works
@@ -239,13 +250,13 @@ pub record IsUpAt {S : Type 0} (look : S → StoreView) (device : S → DeviceSt
 
 -- It was stopped: each pick finds what some pick found before, in the same epoch or the next.
 pub record IsStoppedUp {S : Type 0} (look : S → StoreView) (device : S → DeviceState) (g : Counts) (told : List Outside) (s s' : S) : Type 0 where
-  pub tried : IsTried told false (device s) (device s')
+  pub tried : IsTried g told false (device s) (device s')
   pub each : (c : Pick) → (b : Pick) × IsSameOrNext (found_on g (look s) b) (found_on g (look s') c)
 
 -- It found the last epoch, and its power went again: each pick finds what some pick found before, in that epoch.
 pub record IsUsedUpAt {S : Type 0} (look : S → StoreView) (device : S → DeviceState) (g : Counts) (told : List Outside) (s s' : S) : Type 0 where
   pub called : DeviceState
-  pub tried : IsTried told true (device s) called
+  pub tried : IsTried g told true (device s) called
   pub device_is : device s' ≡ powered_off called
   pub each : (c : Pick) → (b : Pick) × (found_on g (look s') c ≡ found_on g (look s) b)
   pub last : (c : Pick) → (found_on g (look s') c).epoch ≡ 4294967295

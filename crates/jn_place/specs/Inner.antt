@@ -1,5 +1,5 @@
 -- What the parts of a call at a place do: the server's own call, and what follows it.
-use Rattle.std.specs.Prelude.{◌≡◌, ◌<◌, ◌+◌, ℕ, Bool, true, false, ⊤, List, [], map, Option, Some, is_some}
+use Rattle.std.specs.Prelude.{◌≡◌, ◌≤◌, ◌<◌, ◌+◌, ◌*◌, ℕ, Bool, true, false, ⊤, List, [], map, Option, Some, is_some}
 use Rattle.jn_base.specs.declared.names.ServerNo.{ServerNo}
 use Rattle.jn_base.specs.declared.names.Tid.{Tid}
 use Rattle.jn_base.specs.declared.names.WorkId.{WorkId}
@@ -17,7 +17,7 @@ use Rattle.jn_system.specs.WholeSystem.Servers.{server_row, of_coordinator, rest
 use Rattle.jn_system.specs.WholeSystem.Steps.{AreNames, tid_before}
 use Rattle.jn_system.specs.WholeSystem.World.{Memory}
 use Rattle.jn_records.specs.StablePages.{Counts}
-use Rattle.jn_recovery.specs.Loading.{IsSameOrNext}
+use Rattle.jn_recovery.specs.Loading.{IsSameOrNext, most_calls}
 use Rattle.jn_rows.specs.declared.coordinator.Transaction.{Transaction}
 use Rattle.jn_rows.specs.Coordinator.{close_clients_row}
 use Rattle.jn_rows.specs.Outcomes.{RowOutcome}
@@ -25,7 +25,10 @@ use Rattle.jn_rows.specs.Stable.{Pick, IsStopState, made_all}
 use Rattle.jn_server.specs.declared.show.Shown.{Shown}
 use Rattle.jn_server.specs.Seen.{Parts, ServerView, view_with, memory_of, room_of}
 use Rattle.jn_storage.specs.Calls.{state}
+use Rattle.jn_storage.specs.DeviceCalls.{step_calls}
 use Rattle.jn_storage.specs.Storage.{StorageLater}
+use Rattle.jn_store.specs.DeviceCalls.{put_calls, cleaned_get_calls}
+use Rattle.jn_server.specs.Handling.{row_calls}
 use Rattle.jn_store.specs.Store.{StoreView, StoreLater, IsCalm}
 use Rattle.jn_place.specs.declared.place.Restarted.{Restarted}
 use Rattle.jn_place.specs.declared.place.Restarted.TheVariants as came
@@ -35,38 +38,40 @@ use Rattle.jn_place.specs.Exact.{Sends, Prints, WhereUp, LeavesImage, idle_row, 
 
 -- ---- a call of a server that is up, which leaves it where it is
 
--- its row is done
-pub record IsRowDone {S : Type 0} (look : S → StoreView) (row : RowOutcome Memory) (p p' : Parts S) : Type 0 where
+-- its row is done, with so many calls of the device at most
+pub record IsRowDone {S : Type 0} (look : S → StoreView) (most : ℕ) (row : RowOutcome Memory) (p p' : Parts S) : Type 0 where
   pub memory : memory_of (view_with look p') ≡ row.table
   pub found : (c : Pick) → (view_with look p').storage.found c ≡ made_all row.changes (state (view_with look p).storage)
   pub later : StorageLater (view_with look p).storage (view_with look p').storage
+  pub few : (look p'.storage.0).calls ≤ (look p.storage.0).calls + most
   pub power : (look p'.storage.0).power ≡ true
 
 -- or stopped, which doesn't happen while no fault waits
-pub record IsRowStopped {S : Type 0} (look : S → StoreView) (row : RowOutcome Memory) (p p' : Parts S) : Type 0 where
+pub record IsRowStopped {S : Type 0} (look : S → StoreView) (most : ℕ) (row : RowOutcome Memory) (p p' : Parts S) : Type 0 where
   pub some : (c : Pick) → IsStopState (state (view_with look p).storage) row.changes ((view_with look p').storage.found c)
   pub later : StorageLater (view_with look p).storage (view_with look p').storage
+  pub few : (look p'.storage.0).calls ≤ (look p.storage.0).calls + most
   pub dark : (look p'.storage.0).power ≡ false
   pub not_calm : IsCalm (look p.storage.0) → ⊥
 
-abbrev pub RowEnds : {S : Type 0} → (S → StoreView) → RowOutcome Memory → Parts S → Bool → Slot S → Type 0
-RowEnds look row p true (Up p') = IsRowDone look row p p'
-RowEnds look row p false (Up p') = IsRowStopped look row p p'
-RowEnds look row p done after = ⊥
+abbrev pub RowEnds : {S : Type 0} → (S → StoreView) → ℕ → RowOutcome Memory → Parts S → Bool → Slot S → Type 0
+RowEnds look most row p true (Up p') = IsRowDone look most row p p'
+RowEnds look most row p false (Up p') = IsRowStopped look most row p p'
+RowEnds look most row p done after = ⊥
 
 -- a message
 abbrev pub Handles : {S : Type 0} → (S → StoreView) → Message → Slot S → Option Collected → Slot S → Type 0
 Handles look message (Up p) answer after =
     let v = view_with look p in
     let row = server_row (memory_of v) (state v.storage) (room_of v.storage) message in
-    RowEnds look row p (is_some answer) after × Sends row answer
+    RowEnds look row_calls row p (is_some answer) after × Sends row answer
 Handles look message before answer after = ⊥
 
 -- a background step
 pub record IsWorking {S : Type 0} (look : S → StoreView) (p : Parts S) (answer : Option Collected) (after : Slot S) : Type 0 where
   pub row : RowOutcome Memory
   pub row_is : work_of (view_with look p) ≡ Some row
-  pub ends : RowEnds look row p (is_some answer) after
+  pub ends : RowEnds look step_calls row p (is_some answer) after
   pub sends : Sends row answer
 
 abbrev pub Works : {S : Type 0} → (S → StoreView) → Slot S → Option Collected → Slot S → Type 0
@@ -74,18 +79,22 @@ Works look (Up p) answer after = IsWorking look p answer after
 Works look before answer after = ⊥
 
 -- one that changes nothing
-abbrev pub Idles : {S : Type 0} → (S → StoreView) → Slot S → Bool → Slot S → Type 0
-Idles look (Up p) done after = RowEnds look (idle_row (memory_of (view_with look p))) p done after
-Idles look before done after = ⊥
+abbrev pub Idles : {S : Type 0} → (S → StoreView) → ℕ → Parts S → Bool → Slot S → Type 0
+Idles look most p done after = RowEnds look most (idle_row (memory_of (view_with look p))) p done after
+
+-- a scrub
+abbrev pub Scrubs : {S : Type 0} → (S → StoreView) → Slot S → Bool → Slot S → Type 0
+Scrubs look (Up p) done after = Idles look (put_calls * (look p.storage.0).count) p done after
+Scrubs look before done after = ⊥
 
 -- a show
 abbrev pub Shows : {S : Type 0} → (S → StoreView) → Slot S → Option (List Shown) → Slot S → Type 0
-Shows look (Up p) list after = Idles look (Up p) (is_some list) after × Prints (view_with look p) list
+Shows look (Up p) list after = Idles look (cleaned_get_calls * (view_with look p).storage.accounts.leaves) p (is_some list) after × Prints (view_with look p) list
 Shows look before list after = ⊥
 
 -- the clients' end
 abbrev pub Closes : {S : Type 0} → (S → StoreView) → Slot S → Bool → Slot S → Type 0
-Closes look (Up p) done after = let m = memory_of (view_with look p) in RowEnds look (of_coordinator m (close_clients_row m.coordinator m.tickets)) p done after
+Closes look (Up p) done after = let m = memory_of (view_with look p) in RowEnds look row_calls (of_coordinator m (close_clients_row m.coordinator m.tickets)) p done after
 Closes look before done after = ⊥
 
 -- this holds of the server before and after a call that is done
@@ -131,6 +140,7 @@ Follows look device before done after = ⊥
 -- from a store with power: the server is up
 pub record IsRisen {S : Type 0} (look : S → StoreView) (q : ServerNo) (g : Counts) (s : S) (epoch : ℕ) (tids : List Tid) (p' : Parts S) : Type 0 where
   pub later : StoreLater (look s) (look p'.storage.0)
+  pub few : (look p'.storage.0).calls ≤ (look s).calls + most_calls g
   pub power : (look p'.storage.0).power ≡ true
   pub pick : Pick
   pub works : List WorkId
@@ -145,6 +155,7 @@ pub record IsRisen {S : Type 0} (look : S → StoreView) (q : ServerNo) (g : Cou
 -- or it was stopped
 pub record IsCutUp {S : Type 0} (look : S → StoreView) (g : Counts) (s s' : S) : Type 0 where
   pub later : StoreLater (look s) (look s')
+  pub few : (look s').calls ≤ (look s).calls + most_calls g
   pub dark : (look s').power ≡ false
   pub each : (c : Pick) → (b : Pick) × IsSameOrNext (found_on g (look s) b) (found_on g (look s') c)
   pub not_calm : IsCalm (look s) → ⊥
@@ -153,6 +164,7 @@ pub record IsCutUp {S : Type 0} (look : S → StoreView) (g : Counts) (s s' : S)
 pub record IsAtLast {S : Type 0} (look : S → StoreView) (device : S → DeviceState) (g : Counts) (s s' : S) : Type 0 where
   pub called : S
   pub later : StoreLater (look s) (look called)
+  pub few : (look called).calls ≤ (look s).calls + most_calls g
   pub power : (look called).power ≡ true
   pub device_is : device s' ≡ powered_off (device called)
   pub each : (c : Pick) → (b : Pick) × (found_on g (look s') c ≡ found_on g (look s) b)

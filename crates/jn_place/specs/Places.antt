@@ -5,7 +5,7 @@ use Rattle.jn_found.specs.Recoverable.{IsRecoverable}
 use Rattle.jn_intent.specs.Scrubbing.{counts_in}
 use Rattle.jn_records.specs.StablePages.{Counts, page_count}
 use Rattle.jn_recovery.specs.Loading.{counts_by}
-use Rattle.jn_server.specs.Reading.{CountsPages}
+use Rattle.jn_server.specs.Reading.{StandsOnPages}
 use Rattle.jn_server.specs.Seen.{ServerView, view_with, IsServer}
 use Rattle.jn_store.specs.Store.{StoreView}
 use Rattle.jn_place.specs.declared.place.Place.{Place}
@@ -62,9 +62,9 @@ is_up (Up p) = true
 is_up (Down s) = false
 is_up Gone = false
 
--- a server that is up counts as many records and heads as there are on its pages
+-- a server that is up counts as many records and heads as there are on its pages, from which a restart may begin
 abbrev pub CountsAt : {S : Type 0} → (S → StoreView) → Slot S → Type 0
-CountsAt look (Up p) = CountsPages (view_with look p)
+CountsAt look (Up p) = StandsOnPages (view_with look p)
 CountsAt look (Down s) = ⊤
 CountsAt look Gone = ⊤
 

@@ -8,8 +8,8 @@ ghost use Rattle.jn_recovery.specs.Loading.{counts_by};
 ghost use Rattle.jn_rows.specs.declared.coordinator.Transaction.{Transaction};
 ghost use Rattle.jn_within.specs.Taking.{CanBeTaken, AllCanBeTaken};
 ghost use Rattle.jn_place.specs.Calls.{Serves, Called, Answered, LeavesStore, CameUp, Left, StandsOn};
-ghost use Rattle.jn_place.specs.Exact.{lines_at, texts_of_step, has_work_at, ReadsPages, items_of, Took, WorkedBy, ScrubbedBy, Showed, Closed, AsksAgain, TimedOut, Crashed, IsRestart, Befell, StaysCalm, ComesCalm, WhereUp, TakeLeaves, WorkLeaves, KeepsRubbish, LeavesImage};
-ghost use Rattle.jn_place.specs.Inner.{Handles, Works, Idles, Shows, Closes, told_at, SaysSame, StaysAs, Follows, StandsUp, Rises, Lifts, WhereDone, LeavesOwnImage};
+ghost use Rattle.jn_place.specs.Exact.{lines_at, texts_of_step, has_work_at, ReadsPages, items_of, Took, WorkedBy, ScrubbedBy, Showed, Closed, AsksAgain, TimedOut, Crashed, IsRestart, Befell, StaysCalm, ComesCalm, WhereUp, TakeLeaves, WorkLeaves, KeepsRubbish, LeavesClean, LeavesImage};
+ghost use Rattle.jn_place.specs.Inner.{Handles, Works, Scrubs, Shows, Closes, told_at, SaysSame, StaysAs, Follows, StandsUp, Rises, Lifts, WhereDone, LeavesOwnImage};
 ghost use Rattle.jn_place.specs.Remaining.{steps_at};
 ghost use Rattle.jn_place.specs.Places.{HoldsUp, Stands, IsDownAt, IsPlace, NoneTold, HasPages, is_up, is_there};
 
@@ -163,6 +163,7 @@ impl<S: Powered + Drop> Place<S> {
         ensures scrubbed { OnOk result ((done : Bool) × ScrubbedBy (λ s. S.view s) (λ s. S.device s) server (counts_by self.old.counts) when self.old.slot done self.new.slot told.old.items told.new.items) }
         ensures calm { OnOk result (StaysCalm (λ s. S.view s) self.old.slot true self.new.slot) }
         ensures rubbish { OnOk result (WhereUp (λ s. S.view s) KeepsRubbish self.old.slot self.new.slot) }
+        ensures cleaned { OnOk result (WhereUp (λ s. S.view s) LeavesClean self.old.slot self.new.slot) }
         ensures image { OnOk result (WhereUp (λ s. S.view s) (LeavesImage server (counts_by self.old.counts)) self.old.slot self.new.slot) }
         ensures counts { self.new.counts ≡ self.old.counts }
     {
@@ -283,7 +284,8 @@ impl<S: Powered + Drop> Place<S> {
     fn clean(&mut self) -> Option<()>
         requires serves { Serves (λ s. S.view s) 1000000 self.old.slot }
         ensures called { Called (λ s. S.view s) 0 (is_some result) self.old.slot self.new.slot }
-        ensures idles { Idles (λ s. S.view s) self.old.slot (is_some result) self.new.slot }
+        ensures scrubs { Scrubs (λ s. S.view s) self.old.slot (is_some result) self.new.slot }
+        ensures cleaned { WhereDone (λ s. S.view s) LeavesClean self.old.slot (is_some result) self.new.slot }
         ensures rubbish { WhereDone (λ s. S.view s) KeepsRubbish self.old.slot (is_some result) self.new.slot }
         ensures image { WhereDone (λ s. S.view s) LeavesOwnImage self.old.slot (is_some result) self.new.slot }
         ensures counts { self.new.counts ≡ self.old.counts }

@@ -1,5 +1,5 @@
 -- What a deed does and tells, as acts under an event.
-use Rattle.jn_retold.proofs.Common.{◌≡◌, ℕ, ◌+◌, Bool, true, false, List, [], ◌∷◌, ◌++◌, append-nil, append_assoc, length, drop, map, Option, Some, None, refl, sym, ◌∙◌, ap, subst, if◌then◌else◌, list_all, ServerNo, Outside, Event, TooManyArmed, EpochsUsedUp, Text, Line, Pick, Sent, World, Memory, Step, after, run, print_files, Act, Does, Refuses, Tells, Shows, steps_in, told_in, prints_of, is_aside, plain, plain-append, plain-none, Setup, Chance, Use, Calls, Reads, Recovers, Deed, blocks_from, is_used_up, acted, outside_texts, own_texts, message_texts, traced, texts_of, lines_at, may_tell, Adds, adds, behind}
+use Rattle.jn_retold.proofs.Common.{◌≡◌, ℕ, ◌+◌, Bool, true, false, List, [], ◌∷◌, ◌++◌, append-nil, append_assoc, length, drop, map, Option, Some, None, refl, sym, ◌∙◌, ap, subst, if◌then◌else◌, list_all, ServerNo, Outside, Event, TooManyArmed, EpochsUsedUp, Text, Line, Pick, Sent, World, Memory, Step, after, run, print_files, Act, Does, Refuses, Tells, Shows, steps_in, told_in, prints_of, is_aside, plain, plain-append, plain-none, Setup, Chance, Use, Calls, Reads, Recovers, Deed, blocks_from, is_used_up, acted, outside_texts, own_texts, message_texts, traced, texts_of, lines_at, may_tell, Adds, adds, behind, Cleans}
 use Rattle.std.proofs.Math.Seq.{drop-append_seam}
 use Rattle.jn_base.specs.declared.names.Party.{Party}
 use Rattle.jn_base.specs.declared.device.FaultKind.TheVariants as faults
@@ -11,7 +11,8 @@ use Rattle.jn_retold.proofs.Items.{steps-join, told-join}
 -- ---- acts
 
 abbrev pub outside_acts : Use → List Outside → List Act
-outside_acts (Calls q) told = map (λ (fault : Outside). Tells q fault) told
+outside_acts (Calls q most) told = map (λ (fault : Outside). Tells q fault) told
+outside_acts (Cleans q) told = map (λ (fault : Outside). Tells q fault) told
 outside_acts (Reads q) told = map (λ (fault : Outside). Tells q fault) told
 outside_acts (Recovers q) told = map (λ (fault : Outside). Tells q fault) told
 outside_acts device told = []
@@ -77,7 +78,8 @@ steps-told q [] = refl
 steps-told q (fault ∷ told) = steps-told q told
 
 steps-outside : (device : Use) (told : List Outside) → steps_in (outside_acts device told) ≡ []
-steps-outside (Calls q) told = steps-told q told
+steps-outside (Calls q most) told = steps-told q told
+steps-outside (Cleans q) told = steps-told q told
 steps-outside (Reads q) told = steps-told q told
 steps-outside (Recovers q) told = steps-told q told
 steps-outside device told = refl
@@ -96,7 +98,8 @@ told-told q [] w = refl
 told-told q (fault ∷ told) w = ap (λ (ls : List Text). says.Outside q fault ∷ ls) (told-told q told w)
 
 told-outside : (device : Use) (told : List Outside) (w : World) → told_in (outside_acts device told) w ≡ outside_texts device told
-told-outside (Calls q) told w = told-told q told w
+told-outside (Calls q most) told w = told-told q told w
+told-outside (Cleans q) told w = told-told q told w
 told-outside (Reads q) told w = told-told q told w
 told-outside (Recovers q) told w = told-told q told w
 told-outside device told w = refl

@@ -165,7 +165,7 @@ module _ (x : Setup) (files : AllFiles) (epochs : ServerNo → ℕ) (schedule : 
     no-own = grown-own v v [] (sym (append-nil v.lines))
 
     done-shown : (event : Event) (chance : Chance) → IsReady x.servers v event → IsUsed x chance (acted x chance event v).device v (run (acted x chance event v).steps v) a.devices b.devices → IsShown event v (acts_by x chance event v)
-    done-shown (events.Show q) chance ready used = shown-acts q v chance (a.devices q) (b.devices q) used.its (λ f p l. blocks q used.its.memory ready used.its.up f p l)
+    done-shown (events.Show q) chance ready used = shown-acts (x.counts q) q v chance (a.devices q) (b.devices q) used.its (λ f p l. blocks q used.its.memory ready used.its.up f p l)
     done-shown event chance ready used = tt
 
     -- a show sends nothing

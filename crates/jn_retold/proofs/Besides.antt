@@ -1,5 +1,5 @@
 -- What an event tells besides its steps, and what it leaves to be done.
-use Rattle.jn_retold.proofs.Common.{◌≡◌, ◌⊎◌, inl, inr, ℕ, Bool, true, false, List, [], ◌∷◌, ◌++◌, append-nil, map, Option, Some, None, refl, sym, ◌∙◌, ap, ◌&&◌, if◌then◌else◌, slice_get, list_all, list_all-append, ServerNo, ClientNo, Client, Server, Event, EventRefusal, TooManyArmed, EpochsUsedUp, Pick, Sent, World, Memory, clients_from, Refuses, Tells, IsShown, told_in, Setup, Chance, Task, Acts, Rests, served, nothing, delivered, delivered_at, is_busy, working_steps, shown, crashed_at, is_used_up, given_up, recovered, servers_of, asking, settling, told_unless, acted}
+use Rattle.jn_retold.proofs.Common.{◌≡◌, ◌⊎◌, inl, inr, ℕ, Bool, true, false, List, [], ◌∷◌, ◌++◌, append-nil, map, Option, Some, None, refl, sym, ◌∙◌, ap, ◌&&◌, if◌then◌else◌, slice_get, list_all, list_all-append, ServerNo, ClientNo, Client, Server, Event, EventRefusal, TooManyArmed, EpochsUsedUp, Pick, Sent, World, Memory, clients_from, Refuses, Tells, IsShown, told_in, Setup, Chance, Task, Acts, Rests, served, nothing, delivered, delivered_at, is_busy, working_steps, shown, crashed_at, is_used_up, given_up, recovered, servers_of, asking, settling, told_unless, acted, step_calls}
 use Rattle.jn_base.specs.declared.device.FaultKind.TheVariants as faults
 use Rattle.jn_schedule.specs.declared.Event.TheVariants as events
 use Rattle.jn_report.specs.declared.line.Text.TheVariants as says
@@ -64,7 +64,7 @@ acted-tasks x h (events.Deliver k) w = inl (by (slice_get w.sent k))
 acted-tasks x h events.Settle w = inr (refl, refl)
 acted-tasks x h (events.Step q) w = inl (by (is_busy h.rubbish w q))
   where
-    by : (b : Bool) → (if b then served q (working_steps h q) else nothing).tasks ≡ []
+    by : (b : Bool) → (if b then served q step_calls (working_steps h q) else nothing).tasks ≡ []
     by true = refl
     by false = refl
 acted-tasks x h (events.Nudge q) w = inl refl

@@ -18,7 +18,7 @@ pub use Rattle.jn_system_reports.specs.Reporting.Printing.{prints_of, text_print
 pub use Rattle.jn_aside.specs.Aside.{is_aside, plain, is_show}
 pub use Rattle.jn_aside.proofs.Plain.{plain-append, plain-none}
 pub use Rattle.jn_written.specs.Chances.{Setup, Chance}
-pub use Rattle.jn_written.specs.Deeds.{Use, Calls, Reads, Recovers, Deed, blocks_from, is_used_up, nobody, no_room, plain as plain_deed, stopped_idle, tells, served, nothing, delivered, delivered_at, is_busy, working_steps, shown, crashed_at, given_up, recovered, room, scrubbed, showing, pick_read, restarted, recovering, brought_up}
+pub use Rattle.jn_written.specs.Deeds.{Use, Calls, Reads, Recovers, Deed, blocks_from, is_used_up, Cleans, nobody, no_room, plain as plain_deed, stopped_idle, tells, served, nothing, delivered, delivered_at, is_busy, working_steps, shown, crashed_at, given_up, recovered, room, scrubbed, showing, pick_read, restarted, recovering, brought_up}
 pub use Rattle.jn_written.specs.Events.{acted, settling, met, servers_of, asking, told_unless, ending, deed_of, first_busy, next_event, resting}
 pub use Rattle.jn_written.specs.Steps.{outside_texts, own_texts, message_texts, traced, texts_of, lines_at, most_messages, is_too_much, come_to, cut_short, made}
 pub use Rattle.jn_written.specs.Kinds.{may_tell, is_up, is_answer, is_of_delivery, is_note}
@@ -52,6 +52,7 @@ pub use Rattle.jn_rows.specs.declared.client.Taken.{Taken}
 pub use Rattle.jn_rows.specs.Coordinator.{close_clients_row, CoordinatorTable, coordinator_row, flags_of_thanked}
 pub use Rattle.std.proofs.lemmas.List.Folds.{list_all-append}
 pub use Rattle.jn_system_settling.specs.Settling.Settle.{clients_from, is_busy as has_going}
+pub use Rattle.jn_storage.specs.DeviceCalls.{step_calls}
 pub use Rattle.jn_base.specs.declared.names.Tickets.{Tickets}
 pub use Rattle.jn_system.proofs.WholeSystem.CoordinatorRows.{is_of_flag, are_of_flags, closes-flags, coordinator-aside}
 pub use Rattle.jn_base.specs.declared.op.Command.{Command}
@@ -69,6 +70,8 @@ pub use Rattle.jn_rows.specs.declared.worker.Phase.TheVariants.{Active, Broken, 
 pub use Rattle.jn_rows.specs.Worker.{WorkerTable, holds, commit_holder, WorkStorage, list_with, wants_of, is_fit, units_for, worker_row, worker_step, vulnerable, timeout_row, restored_work, restored_worker, going_work}
 pub use Rattle.jn_storage.specs.Orderly.{unit_in_range}
 pub use Rattle.jn_within.proofs.Taking.{scheduled-in-range, servers-taken, command-fits, take-fits, new-fits, over-fits}
+pub use Rattle.jn_records.specs.StablePages.{Counts, Pages, files_of_pages, head_of, block_in, block_behind, address_in}
 pub use Rattle.jn_worker.specs.Handling.{InRange}
 pub use Rattle.jn_records.specs.NetLists.{blocks_below}
 pub use Rattle.jn_written.proofs.Struck.{stop-had-waited, told-had-waited, nothing-strikes}
+pub use Rattle.jn_written.proofs.Called.{called-later}

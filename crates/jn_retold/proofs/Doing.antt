@@ -1,5 +1,5 @@
 -- What befalls the devices in each event that is done.
-use Rattle.jn_retold.proofs.Common.{◌≡◌, ◌≢◌, ◌⊎◌, inl, inr, ◌<◌, ℕ, Bool, true, false, List, [], ◌∷◌, ◌++◌, append-nil, map, Option, Some, None, refl, sym, ◌∙◌, ap, subst, arith, ⊤, ◌&&◌, ◌||◌, if◌then◌else◌, nat_eq, slice_get, is_some, list_all, ServerNo, ClientNo, Tid, Client, Server, Command, server_eq, server_tells, Message, EventRefusal, EpochsUsedUp, TooManyArmed, Text, Event, Taken, Pick, stable, Sent, World, Memory, Printed, FileThere, PageStored, UnitLocked, print_files, Tell, Again, Deliver, Nudge, Timeout, Crash, after, run, commanded, took, at_memory, handed, nudge, timeout, crash, has_going, text_printed, prints_of, Waiting, with_event, strike_all, AreStruck, Setup, Chance, Deed, room, no_room, served, nothing, tells, delivered, delivered_at, is_busy, working_steps, scrubbed, blocks_from, shown, showing, crashed_at, pick_read, is_used_up, given_up, recovered, restarted, told_unless, acted, own_texts, Devices, IsUsed, is_answer, is_of_delivery, Adds, adds, weaker}
+use Rattle.jn_retold.proofs.Common.{◌≡◌, ◌≢◌, ◌⊎◌, inl, inr, ◌<◌, ℕ, Bool, true, false, List, [], ◌∷◌, ◌++◌, append-nil, map, Option, Some, None, refl, sym, ◌∙◌, ap, subst, arith, ⊤, ◌&&◌, ◌||◌, if◌then◌else◌, nat_eq, slice_get, is_some, list_all, ServerNo, ClientNo, Tid, Client, Server, Command, server_eq, server_tells, Message, EventRefusal, EpochsUsedUp, TooManyArmed, Text, Event, Taken, Pick, stable, Sent, World, Memory, Printed, FileThere, PageStored, UnitLocked, print_files, Tell, Again, Deliver, Nudge, Timeout, Crash, after, run, commanded, took, at_memory, handed, nudge, timeout, crash, has_going, text_printed, prints_of, Waiting, with_event, strike_all, AreStruck, Setup, Chance, Deed, room, no_room, served, nothing, tells, delivered, delivered_at, is_busy, working_steps, scrubbed, blocks_from, shown, showing, crashed_at, pick_read, is_used_up, given_up, recovered, restarted, told_unless, acted, own_texts, Devices, IsUsed, is_answer, is_of_delivery, Adds, adds, weaker, step_calls}
 use Rattle.jn_base.specs.declared.device.FaultKind.TheVariants as faults
 use Rattle.jn_report.specs.declared.line.Text.TheVariants as says
 use Rattle.jn_schedule.specs.declared.Event.TheVariants as events
@@ -111,7 +111,7 @@ module _ (x : Setup) (h : Chance) (w : World) (ds es : Devices) (z : Waiting) (s
         lost : (after (Deliver k (room h q)) w).memory ≡ w.memory
         lost = ap (λ (sent : Option Sent). (handed k (room h q) None sent w).memory) e ∙ ap (λ (memory : Option Memory). (at_memory q k (room h q) None message memory w).memory) down
     to-server k q message e (Some m) up used = let now = run (delivered_at h k q (Some m)).steps w in let t = delivery-turns w q (same-server q) m up k message (room h q) h.stop e in let l = near k q message e in
-        turned q l now used.others (call-spends h (is_some (now.memory q)) (ds q) (es q) used.its.called (st.power q m l up) (st.told q l)) [] refl h.stop refl t
+        turned q l now used.others (call-spends _ h (is_some (now.memory q)) (ds q) (es q) used.its.called (st.power q m l up) (st.told q l)) [] refl h.stop refl t
 
     delivers : (k : ℕ) (o : Option Sent) → slice_get w.sent k ≡ o → IsUsed x h (delivered h k w o).device w (run (delivered h k w o).steps w) ds es
         → JustBefell x.servers (texts_by h (delivered h k w o) w (run (delivered h k w o).steps w)) w (run (delivered h k w o).steps w) es z
@@ -124,11 +124,11 @@ module _ (x : Setup) (h : Chance) (w : World) (ds es : Devices) (z : Waiting) (s
 
     -- ---- background steps
 
-    works : (q : ServerNo) → q.0 < x.servers → (b : Bool) → is_busy h.rubbish w q ≡ b → IsUsed x h (if b then served q (working_steps h q) else nothing).device w (run (if b then served q (working_steps h q) else nothing).steps w) ds es
-        → JustBefell x.servers (texts_by h (if b then served q (working_steps h q) else nothing) w (run (if b then served q (working_steps h q) else nothing).steps w)) w (run (if b then served q (working_steps h q) else nothing).steps w) es z
+    works : (q : ServerNo) → q.0 < x.servers → (b : Bool) → is_busy h.rubbish w q ≡ b → IsUsed x h (if b then served q step_calls (working_steps h q) else nothing).device w (run (if b then served q step_calls (working_steps h q) else nothing).steps w) ds es
+        → JustBefell x.servers (texts_by h (if b then served q step_calls (working_steps h q) else nothing) w (run (if b then served q step_calls (working_steps h q) else nothing).steps w)) w (run (if b then served q step_calls (working_steps h q) else nothing).steps w) es z
     works q l false e used = calm w stays used
     works q l true e used = let now = run (working_steps h q) w in let m = used.its.memory in let t = working-turns w q (same-server q) m used.its.up (room h q) h.stop (goes m used.its.up) in
-        turned q l now used.others (call-spends h (is_some (now.memory q)) (ds q) (es q) used.its.called (st.power q m l used.its.up) (st.told q l)) [] refl h.stop refl t
+        turned q l now used.others (call-spends _ h (is_some (now.memory q)) (ds q) (es q) used.its.called (st.power q m l used.its.up) (st.told q l)) [] refl h.stop refl t
       where
         goes : (m : Memory) → w.memory q ≡ Some m → (has_going (stable (w.found q)) (Some m) || h.rubbish q) ≡ true
         goes m up = both-parts (has_going (stable (w.found q)) (Some m) || h.rubbish q) (sym (ap (λ (memory : Option Memory). is_some memory && (has_going (stable (w.found q)) memory || h.rubbish q)) up) ∙ e)
@@ -140,8 +140,8 @@ module _ (x : Setup) (h : Chance) (w : World) (ds es : Devices) (z : Waiting) (s
 
     looks : (q : ServerNo) → q.0 < x.servers → IsUsed x h (scrubbed h q).device w (run (scrubbed h q).steps w) ds es
         → JustBefell x.servers (texts_by h (scrubbed h q) w (run (scrubbed h q).steps w)) w (run (scrubbed h q).steps w) es z
-    looks q l used = let now = run (scrubbed h q).steps w in let m = used.its.memory in let t = idle-turns w q (same-server q) m used.its.up h.stop in
-        turned q l now used.others (call-spends h (is_some (now.memory q)) (ds q) (es q) used.its.called (st.power q m l used.its.up) (st.told q l)) [] refl h.stop refl t
+    looks q l used = let now = run (scrubbed h q).steps w in let m = used.its.served.memory in let t = idle-turns w q (same-server q) m used.its.served.up h.stop in
+        turned q l now used.others (call-spends _ h (is_some (now.memory q)) (ds q) (es q) used.its.served.called (st.power q m l used.its.served.up) (st.told q l)) [] refl h.stop refl t
 
     shown-harmless : (q : ServerNo) (o : Option Memory) (stop : Option (Pick → ℕ)) → list_all is_harmless (shown h q w o stop) ≡ true
     shown-harmless q None stop = refl
@@ -151,7 +151,7 @@ module _ (x : Setup) (h : Chance) (w : World) (ds es : Devices) (z : Waiting) (s
     shows : (q : ServerNo) → q.0 < x.servers → IsUsed x h (showing h q w).device w (run (showing h q w).steps w) ds es
         → JustBefell x.servers (texts_by h (showing h q w) w (run (showing h q w).steps w)) w (run (showing h q w).steps w) es z
     shows q l used = let now = run (showing h q w).steps w in let m = used.its.memory in let t = idle-turns w q (same-server q) m used.its.up h.stop in
-        turned q l now used.others (call-spends h (is_some (now.memory q)) (ds q) (es q) used.its.called (st.power q m l used.its.up) (st.told q l)) (shown h q w (w.memory q) h.stop) (shown-harmless q (w.memory q) h.stop) h.stop refl t
+        turned q l now used.others (call-spends _ h (is_some (now.memory q)) (ds q) (es q) used.its.called (st.power q m l used.its.up) (st.told q l)) (shown h q w (w.memory q) h.stop) (shown-harmless q (w.memory q) h.stop) h.stop refl t
 
     -- ---- crashes and restarts
 
@@ -173,7 +173,7 @@ module _ (x : Setup) (h : Chance) (w : World) (ds es : Devices) (z : Waiting) (s
 
         go : IsUsed x h gives.device w (run gives.steps w) ds es → JustBefell x.servers (texts_by h gives w (run gives.steps w)) w (run gives.steps w) es z
         go used = let now = run gives.steps w in let t = narrow-turns w q (same-server q) down h in
-            turned q l now used.others (recovery-spends h (is_some (now.memory q)) (ds q) (es q) used.its (st.told q l)) (says.RefusedEvent EpochsUsedUp ∷ []) refl None (unstopped h q w e) t
+            turned q l now used.others (recovery-spends (x.counts q) h (is_some (now.memory q)) (ds q) (es q) used.its (st.told q l)) (says.RefusedEvent EpochsUsedUp ∷ []) refl None (unstopped h q w e) t
     restarts q l down false e deed is used = subst (λ (d : Deed). IsUsed x h d.device w (run d.steps w) ds es → JustBefell x.servers (texts_by h d w (run d.steps w)) w (run d.steps w) es z) (sym is) go used
       where
         comes : Deed
@@ -181,7 +181,7 @@ module _ (x : Setup) (h : Chance) (w : World) (ds es : Devices) (z : Waiting) (s
 
         go : IsUsed x h comes.device w (run comes.steps w) ds es → JustBefell x.servers (texts_by h comes w (run comes.steps w)) w (run comes.steps w) es z
         go used = let now = run comes.steps w in let t = recovering-turns w q (same-server q) down h h.stop in
-            turned q l now used.others (recovery-spends h (is_some (now.memory q)) (ds q) (es q) used.its (st.told q l)) [] refl h.stop refl t
+            turned q l now used.others (recovery-spends (x.counts q) h (is_some (now.memory q)) (ds q) (es q) used.its (st.told q l)) [] refl h.stop refl t
 
     -- ---- each event
 

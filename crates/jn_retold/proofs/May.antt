@@ -1,5 +1,5 @@
 -- What is done under each event is what it may have, and what is known of an event that isn't refused.
-use Rattle.jn_retold.proofs.Common.{◌≡◌, ◌<◌, ℕ, Bool, true, false, List, [], ◌∷◌, ◌++◌, map, Option, Some, None, refl, ◌∙◌, arith, ◌&&◌, if◌then◌else◌, nat_eq, slice_get, list_all, nat_tests, list_all-append, ServerNo, ClientNo, Tid, WorkId, Client, Server, Outside, client_eq, tid_eq, EventRefusal, EpochsUsedUp, TooManyArmed, Event, Pick, Sent, World, Memory, Printed, Room, Deliver, StopDelivery, Work, StopWork, Narrow, StopRestart, Restart, handing, working, Act, Does, Refuses, Tells, Shows, may_refuse, may_act, IsUnder, Setup, Chance, Deed, served, nothing, delivered, delivered_at, is_busy, no_room, working_steps, stopped_idle, scrubbed, showing, given_up, recovering, recovered, crashed_at, is_used_up, room, refusal_of, if_down}
+use Rattle.jn_retold.proofs.Common.{◌≡◌, ◌<◌, ℕ, Bool, true, false, List, [], ◌∷◌, ◌++◌, map, Option, Some, None, refl, ◌∙◌, arith, ◌&&◌, if◌then◌else◌, nat_eq, slice_get, list_all, nat_tests, list_all-append, ServerNo, ClientNo, Tid, WorkId, Client, Server, Outside, client_eq, tid_eq, EventRefusal, EpochsUsedUp, TooManyArmed, Event, Pick, Sent, World, Memory, Printed, Room, Deliver, StopDelivery, Work, StopWork, Narrow, StopRestart, Restart, handing, working, Act, Does, Refuses, Tells, Shows, may_refuse, may_act, IsUnder, Setup, Chance, Deed, served, nothing, delivered, delivered_at, is_busy, no_room, working_steps, stopped_idle, scrubbed, showing, given_up, recovering, recovered, crashed_at, is_used_up, room, refusal_of, if_down, step_calls}
 use Rattle.jn_base.specs.declared.device.FaultKind.TheVariants as faults
 use Rattle.jn_report.specs.declared.line.Text.TheVariants as says
 use Rattle.jn_schedule.specs.declared.Event.TheVariants as events
@@ -46,9 +46,9 @@ module _ (test : Act → Bool) where
         working-may r None = works r
         working-may r (Some made) = halted r made
 
-        pub worked-may : (b : Bool) → list_all test (acts_of h (if b then served q (working_steps h q) else nothing) []) ≡ true
+        pub worked-may : (b : Bool) → list_all test (acts_of h (if b then served q step_calls (working_steps h q) else nothing) []) ≡ true
         worked-may false = refl
-        worked-may true = parts h (served q (working_steps h q)) [] (told-may q h.told tells) (both _ true (working-may (room h q) h.stop) refl) refl
+        worked-may true = parts h (served q step_calls (working_steps h q)) [] (told-may q h.told tells) (both _ true (working-may (room h q) h.stop) refl) refl
 
       idle-may : ((r : Room) (made : Pick → ℕ) → test (Does (StopWork q r made)) ≡ true) → (stop : Option (Pick → ℕ)) → list_all test (all_done (stopped_idle q stop)) ≡ true
       idle-may halted None = refl

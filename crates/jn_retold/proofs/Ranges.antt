@@ -1,7 +1,6 @@
 -- What is printed of a server's files has blocks with numbers below 120.
-use Rattle.jn_retold.proofs.Common.{◌≡◌, ◌≤◌, ℕ, Bool, true, false, List, [], ◌∷◌, ◌++◌, Option, Some, None, refl, sym, ◌∙◌, ap, subst, arith, ◌&&◌, if◌then◌else◌, nat_lt, option_and_then, list_all, AllByRecursion, nat_tests, ServerNo, ClientNo, FileNo, BlockNo, Tid, LockUnit, File, Block, Command, AllFiles, Event, EventInRange, is_unit, Commit, Phase, Active, Broken, Stored, StableState, WorkerTable, holds, commit_holder, unit_in_range, World, opening, print_unit, Step, NextEvent, Tell, after, Item, Act, Does, Refuses, Tells, Shows, IsUnder, AreUnder, IsReported, may_do, may_act, events_of, steps_in, steps_of, world_of, scheduled-in-range, Setup, Devices, AreFound}
+use Rattle.jn_retold.proofs.Common.{◌≡◌, ◌≤◌, ℕ, Bool, true, false, List, [], ◌∷◌, ◌++◌, Option, Some, None, refl, sym, ◌∙◌, ap, subst, arith, ◌&&◌, if◌then◌else◌, nat_lt, option_and_then, list_all, AllByRecursion, nat_tests, ServerNo, ClientNo, FileNo, BlockNo, Tid, LockUnit, File, Block, Command, AllFiles, Event, EventInRange, is_unit, Commit, Phase, Active, Broken, Stored, StableState, WorkerTable, holds, commit_holder, unit_in_range, World, opening, print_unit, Step, NextEvent, Tell, after, Item, Act, Does, Refuses, Tells, Shows, IsUnder, AreUnder, IsReported, may_do, may_act, events_of, steps_in, steps_of, world_of, scheduled-in-range, Setup, Devices, AreFound, Counts, Pages, files_of_pages, head_of, block_in, block_behind, address_in}
 use Rattle.jn_schedule.specs.declared.Event.TheVariants as events
-use Rattle.jn_records.specs.StablePages.{Counts, Pages, files_of_pages, head_of, block_in, block_behind, address_in}
 use Rattle.jn_found.specs.Pages.{pages_by}
 use Rattle.jn_store.specs.Pairs.{pairs_view}
 use Rattle.jn_retold.proofs.Beginning.{Blocks}

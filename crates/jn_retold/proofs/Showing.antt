@@ -1,5 +1,5 @@
 -- What a show prints, block by block, is what there is to print.
-use Rattle.jn_retold.proofs.Common.{◌≡◌, ◌≤◌, ◌<◌, ◌⊎◌, inl, inr, ℕ, zero, suc, ◌+◌, Bool, true, false, List, [], ◌∷◌, ◌++◌, append_assoc, map, Option, Some, None, refl, sym, ◌∙◌, ap, subst, arith, ◌&&◌, nat_lt, nat_le, is_some, list_all, list_any, cases_Bool, nat_tests, ServerNo, FileNo, BlockNo, LockUnit, File, Block, Outside, file_eq, block_eq, block_tells, Pick, World, Memory, StopWork, AreNames, are_rising, after, Printed, print_one, print_blocks, print_file, print_files, file_before, block_before, ArePrints, Act, Does, Tells, Shows, told_by, GoesOver, IsShow, prints_of, IsPrinted, Chance, no_room, stopped_idle, blocks_from, showing, IsLookedOver}
+use Rattle.jn_retold.proofs.Common.{◌≡◌, ◌≤◌, ◌<◌, ◌⊎◌, inl, inr, ℕ, zero, suc, ◌+◌, Bool, true, false, List, [], ◌∷◌, ◌++◌, append_assoc, map, Option, Some, None, refl, sym, ◌∙◌, ap, subst, arith, ◌&&◌, nat_lt, nat_le, is_some, list_all, list_any, cases_Bool, nat_tests, ServerNo, FileNo, BlockNo, LockUnit, File, Block, Outside, file_eq, block_eq, block_tells, Pick, World, Memory, StopWork, AreNames, are_rising, after, Printed, print_one, print_blocks, print_file, print_files, file_before, block_before, ArePrints, Act, Does, Tells, Shows, told_by, GoesOver, IsShow, prints_of, IsPrinted, Chance, no_room, stopped_idle, blocks_from, showing, IsLookedOver, Counts}
 use Rattle.jn_report.specs.declared.line.Text.TheVariants as says
 use Rattle.jn_retold.proofs.Strikes.{same-server}
 use Rattle.jn_retold.proofs.Acts.{all_done, shown_acts, acts_of, grown-own}
@@ -117,7 +117,7 @@ is-show : (q : ServerNo) (w : World) (told : List Outside) (rest : List Act) →
 is-show q w [] rest h k = k
 is-show q w (fault ∷ told) rest h k = over-told q w told rest h
 
-module _ (q : ServerNo) (w : World) (h : Chance) (d e : _) (looked : IsLookedOver h w q d e) (beyond : (f : FileNo) (p : BlockNo) → 120 ≤ p.0 → prints_of q w looked.memory (Block f p) ≡ None) where
+module _ (g : Counts) (q : ServerNo) (w : World) (h : Chance) (d e : _) (looked : IsLookedOver g h w q d e) (beyond : (f : FileNo) (p : BlockNo) → 120 ≤ p.0 → prints_of q w looked.memory (Block f p) ≡ None) where
   prints-it : h.stop ≡ None → IsPrinted q w (print_files (prints_of q w looked.memory) (λ f. blocks_from 0 120) h.files)
   prints-it none = record { memory = looked.memory; up = looked.up; prints_are = all-printed (prints_of q w looked.memory) 120 beyond h.files (looked.files none) }
 

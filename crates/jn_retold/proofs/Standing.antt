@@ -1,5 +1,5 @@
 -- What stands at each device between two steps, and how it stands after one with a server's device.
-use Rattle.jn_retold.proofs.Common.{◌≡◌, ◌≢◌, ◌⊎◌, inl, inr, ◌≤◌, ◌<◌, ℕ, ◌+◌, Bool, true, false, List, [], ◌∷◌, ◌++◌, Option, Some, None, sym, ◌∙◌, ap, subst, arith, not, if◌then◌else◌, is_some, list_all, ServerNo, server_eq, server_tells, DeviceState, powered_off, count_kind, count_told, is_stop, Text, Pick, World, Memory, Waiting, strike_all, AreStruck, Chance, own_texts, Devices, IsCalled, IsRecovery, stop-had-waited, told-had-waited}
+use Rattle.jn_retold.proofs.Common.{◌≡◌, ◌≢◌, ◌⊎◌, inl, inr, ◌≤◌, ◌<◌, ℕ, ◌+◌, Bool, true, false, List, [], ◌∷◌, ◌++◌, Option, Some, None, sym, ◌∙◌, ap, subst, arith, not, if◌then◌else◌, is_some, list_all, ServerNo, server_eq, server_tells, DeviceState, powered_off, count_kind, count_told, is_stop, Text, Pick, World, Memory, Waiting, strike_all, AreStruck, Chance, own_texts, Devices, IsCalled, IsRecovery, stop-had-waited, told-had-waited, Counts, called-later}
 use Rattle.jn_report.specs.declared.line.Text.TheVariants as says
 use Rattle.jn_retold.proofs.Acts.{grown-own}
 use Rattle.jn_retold.proofs.Strikes.{any, is_harmless, told_texts, Strikes, calm-strikes, halt-strikes}
@@ -66,17 +66,17 @@ pub record Spent (h : Chance) (up : Bool) (d e : DeviceState) : Type 0 where
 unstopped : (a b : Bool) → a ≡ not b → a ≡ false → b ≡ true
 unstopped a b h k = grind arith
 
-pub call-spends : (h : Chance) (up : Bool) (d e : DeviceState) → IsCalled h d e → d.power ≡ true → d.told ≡ [] → Spent h up d e
-call-spends h up d e c on none = record {
-  told_fits = told-had-waited h d e c none any;
-  stop_fits = λ s. stop-had-waited h d e c on s;
-  used = subst (λ (f : DeviceState). count_kind is_stop f.waiting ≤ count_kind is_stop d.waiting) (sym c.after) (c.calls.spends.used is_stop);
+pub call-spends : (most : ℕ) (h : Chance) (up : Bool) (d e : DeviceState) → IsCalled most h d e → d.power ≡ true → d.told ≡ [] → Spent h up d e
+call-spends most h up d e c on none = record {
+  told_fits = told-had-waited most h d e c none any;
+  stop_fits = λ s. stop-had-waited most h d e c on s;
+  used = subst (λ (f : DeviceState). count_kind is_stop f.waiting ≤ count_kind is_stop d.waiting) (sym c.after) (let later = called-later most h d e c in later.spends.used is_stop);
   forgot = ap (λ (f : DeviceState). f.told) c.after;
   power = λ u s. ap (λ (f : DeviceState). f.power) c.after ∙ unstopped (is_some h.stop) c.last.power c.stop s;
 }
 
-pub recovery-spends : (h : Chance) (up : Bool) (d e : DeviceState) → IsRecovery h up d e → d.told ≡ [] → Spent h up d e
-recovery-spends h up d e r none = let s = call-spends h up r.powered r.last r.called r.power.power_is (r.power.told ∙ none) in by up s r.after
+pub recovery-spends : (g : Counts) (h : Chance) (up : Bool) (d e : DeviceState) → IsRecovery g h up d e → d.told ≡ [] → Spent h up d e
+recovery-spends g h up d e r none = let s = call-spends _ h up r.powered r.last r.called r.power.power_is (r.power.told ∙ none) in by up s r.after
   where
     moved : (u : Bool) (f : DeviceState) → Spent h u r.powered f → f ≡ e → Spent h u d e
     moved u f s k = subst (λ (z : DeviceState). Spent h u d z) k (record {

@@ -1,5 +1,5 @@
 -- Until every server has come up.
-use Rattle.jn_retold.proofs.Common.{◌≡◌, ◌⊎◌, inl, inr, ◌≤◌, ◌<◌, ℕ, suc, ◌+◌, Bool, true, false, List, [], ◌∷◌, ◌++◌, append-nil, map, drop, Option, Some, None, refl, sym, ◌∙◌, ap, subst, arith, length, not, ◌&&◌, ◌||◌, if◌then◌else◌, nat_lt, is_some, list_all, list_all-append, nat_tests, ServerNo, Tid, WorkId, Outside, server_eq, tid_eq, work_eq, server_tells, Armed, DeviceState, powered_off, count_kind, is_stop, AllFiles, Event, Line, Text, Pick, work_before, World, Memory, new_memory, opening, servers_from, Step, Restart, IsRun, run, after, tid_before, go_on, IsReported, plain, plain-append, opening-within, Setup, Chance, Task, Begins, ComesUp, InSchedule, State, when_at, pick_read, is_used_up, given_up, recovering, recovered, brought_up, ending, is_too_much, most_messages, own_texts, texts_of, lines_at, come_to, cut_short, made, IsRecovery, Befalls, AreFound, is_up, Moment, DoesStep, nothing-strikes, IsAsIn, IsRetoldInPart}
+use Rattle.jn_retold.proofs.Common.{◌≡◌, ◌⊎◌, inl, inr, ◌≤◌, ◌<◌, ℕ, suc, ◌+◌, Bool, true, false, List, [], ◌∷◌, ◌++◌, append-nil, map, drop, Option, Some, None, refl, sym, ◌∙◌, ap, subst, arith, length, not, ◌&&◌, ◌||◌, if◌then◌else◌, nat_lt, is_some, list_all, list_all-append, nat_tests, ServerNo, Tid, WorkId, Outside, server_eq, tid_eq, work_eq, server_tells, Armed, DeviceState, powered_off, count_kind, is_stop, AllFiles, Event, Line, Text, Pick, work_before, World, Memory, new_memory, opening, servers_from, Step, Restart, IsRun, run, after, tid_before, go_on, IsReported, plain, plain-append, opening-within, Setup, Chance, Task, Begins, ComesUp, InSchedule, State, when_at, pick_read, is_used_up, given_up, recovering, recovered, brought_up, ending, is_too_much, most_messages, own_texts, texts_of, lines_at, come_to, cut_short, made, IsRecovery, Befalls, AreFound, is_up, Moment, DoesStep, nothing-strikes, IsAsIn, IsRetoldInPart, Counts, called-later}
 use Rattle.jn_report.specs.declared.line.Text.TheVariants as says
 use Rattle.jn_retold.proofs.Acts.{texts_by, grown-own, plain-texts}
 use Rattle.jn_retold.proofs.Going.{does-next, goes-or-cut, go-world}
@@ -20,19 +20,19 @@ record Recovers (h : Chance) (e : DeviceState) : Type 0 where
   told : h.told ≡ []
   quiet : IsQuiet e
 
-recovers : (h : Chance) (up : Bool) (d e : DeviceState) → IsRecovery h up d e → IsQuiet d → Recovers h e
-recovers h up d e r q = let none = nothing-strikes h r.powered r.last r.called r.power.power_is (r.power.told ∙ q.told) (r.power.waiting ∙ q.waiting) in
+recovers : (g : Counts) (h : Chance) (up : Bool) (d e : DeviceState) → IsRecovery g h up d e → IsQuiet d → Recovers h e
+recovers g h up d e r q = let none = nothing-strikes _ h r.powered r.last r.called r.power.power_is (r.power.told ∙ q.told) (r.power.waiting ∙ q.waiting) in
     record { stop = none.0; told = none.1; quiet = subst IsQuiet (sym r.after) (by up) }
   where
     last : IsQuiet r.last
-    last = record { waiting = ap (λ (f : DeviceState). f.waiting) r.called.after ∙ r.called.calls.quiet (r.power.waiting ∙ q.waiting); told = ap (λ (f : DeviceState). f.told) r.called.after }
+    last = record { waiting = ap (λ (f : DeviceState). f.waiting) r.called.after ∙ (let later = called-later _ h r.powered r.last r.called in later.quiet) (r.power.waiting ∙ q.waiting); told = ap (λ (f : DeviceState). f.told) r.called.after }
 
     by : (u : Bool) → IsQuiet (if u then r.last else powered_off r.last)
     by true = last
     by false = record { waiting = last.waiting; told = last.told }
 
-has-power : (h : Chance) (d e : DeviceState) → IsRecovery h true d e → h.stop ≡ None → e.power ≡ true
-has-power h d e r none = ap (λ (f : DeviceState). f.power) (r.after ∙ r.called.after) ∙ on r.called.last.power (sym (ap (λ (o : Option (Pick → ℕ)). is_some o) none) ∙ r.called.stop)
+has-power : (g : Counts) (h : Chance) (d e : DeviceState) → IsRecovery g h true d e → h.stop ≡ None → e.power ≡ true
+has-power g h d e r none = ap (λ (f : DeviceState). f.power) (r.after ∙ r.called.after) ∙ on r.called.last.power (sym (ap (λ (o : Option (Pick → ℕ)). is_some o) none) ∙ r.called.stop)
   where
     on : (b : Bool) → false ≡ not b → b ≡ true
     on true k = refl
@@ -150,7 +150,7 @@ module _ (x : Setup) (files : AllFiles) (epochs : ServerNo → ℕ) (schedule : 
     -- it comes up
     module _ (h : Chance) (befalls : Befalls x h (recovered h q) v a.devices b.devices) where
       re : Recovers h (b.devices q)
-      re = recovers h _ (a.devices q) (b.devices q) befalls.used.its (s.quiet q l)
+      re = recovers (x.counts q) h _ (a.devices q) (b.devices q) befalls.used.its (s.quiet q l)
 
       steps-are : recovering h q h.stop ≡ Restart q (pick_read h) h.works h.tids ∷ []
       steps-are = ap (λ (stop : Option (Pick → ℕ)). recovering h q stop) re.stop
@@ -219,7 +219,7 @@ module _ (x : Setup) (files : AllFiles) (epochs : ServerNo → ℕ) (schedule : 
                   by false z = absurd (cc z)
 
           powered : (p : ServerNo) → p.0 < k + 1 → ((server_eq q p ≡ true) × (q ≡ p)) ⊎ ((server_eq q p ≡ false) × (q ≡ p → ⊥)) → (b.devices p).power ≡ true
-          powered p m (inl t) = subst (λ (z : ServerNo). (b.devices z).power ≡ true) t.1 (has-power h (a.devices q) (b.devices q) (subst (λ (u : Bool). IsRecovery h u (a.devices q) (b.devices q)) is-up befalls.used.its) re.stop)
+          powered p m (inl t) = subst (λ (z : ServerNo). (b.devices z).power ≡ true) t.1 (has-power (x.counts q) h (a.devices q) (b.devices q) (subst (λ (u : Bool). IsRecovery (x.counts q) h u (a.devices q) (b.devices q)) is-up befalls.used.its) re.stop)
           powered p m (inr t) = ap (λ (d : DeviceState). d.power) (befalls.used.others p t.0) ∙ s.power p (below p m t.0)
             where
               below : (p : ServerNo) → p.0 < k + 1 → server_eq q p ≡ false → p.0 < k

@@ -59,7 +59,7 @@ pub use Rattle.jn_found.specs.Pages.{found_on, pool_on, heads_on, listed, pages_
 pub use Rattle.jn_recovery.specs.Loading.{IsLoaded, IsDown, Recovering, IsSameOrNext, counts_by}
 pub use Rattle.jn_server.specs.Restarting.{AreTables, IsRestarted, IsNotRestarted, IsWithin, Composes, IsLeft}
 pub use Rattle.jn_recovery.specs.Memory.{Memory as Kept, view_of, rubbish_in}
-pub use Rattle.jn_server.specs.Reading.{IsRoomOfPages, CountsPages}
+pub use Rattle.jn_server.specs.Reading.{IsRoomOfPages, CountsPages, StandsOnPages}
 pub use Rattle.jn_worker.specs.Calls.{TimesOut as WorkerTimesOut, Steps as WorkerSteps, AsksAgain, Takes, CountsBy}
 pub use Rattle.jn_intent.specs.Scrubbing.{Scrubbed, counts_in}
 pub use Rattle.jn_server.specs.Befalling.{Befalls}

@@ -1,6 +1,7 @@
 -- What the rows of a server read of its storage, as it stands on the pages.
 use Rattle.std.specs.Prelude.{◌≡◌, true, length, count_by}
 use Rattle.jn_found.specs.Pages.{pool_on, heads_on}
+use Rattle.jn_found.specs.Recoverable.{IsRecoverable}
 use Rattle.jn_intent.specs.Scrubbing.{counts_in}
 use Rattle.jn_sets.specs.Pool.{free_count, rubbish_count}
 use Rattle.jn_server.specs.Seen.{ServerView, memory_of, room_of}
@@ -20,3 +21,8 @@ pub record AreCountsOfPages (v : ServerView) : Type 0 where
 
 abbrev pub CountsPages : ServerView → Type 0
 CountsPages v = v.storage.store.power ≡ true → AreCountsOfPages v
+
+-- A recovery may begin from its pages, with power or without, and it counts what is on them.
+pub record StandsOnPages (v : ServerView) : Type 0 where
+  pub counts : CountsPages v
+  pub recoverable : IsRecoverable v.storage.accounts.server (counts_in v.storage.accounts) v.storage.store

@@ -3,7 +3,7 @@ ghost use Rattle.std.specs.Prelude.{◌≡◌, [], is_some, OnOk};
 ghost use Rattle.jn_system.specs.WholeSystem.Servers.{server_step, server_again};
 ghost use Rattle.jn_server.specs.Handling.{Steps, TimesOut};
 ghost use Rattle.jn_server.specs.Seen.{view_with, memory_of, room_of, IsServer};
-ghost use Rattle.jn_server.specs.Reading.{IsRoomOfPages, CountsPages};
+ghost use Rattle.jn_server.specs.Reading.{IsRoomOfPages, StandsOnPages};
 ghost use Rattle.jn_storage.specs.Calls.{state};
 ghost use Rattle.jn_transactions.specs.Telling.{added};
 
@@ -24,9 +24,10 @@ impl<S: StableStore> Server<S> {
         self.worker.is_in_order();
     }
 
-    /// For proofs alone: the storage counts as many free records, rubbish records and free heads as there are on its pages.
+    /// For proofs alone: the storage counts as many free records, rubbish records and free heads as there are on its pages, from which a
+    /// recovery may begin.
     pub fn counts_pages(&self)
-        ensures { CountsPages (view_with (λ s. S.view s) self.now) }
+        ensures { StandsOnPages (view_with (λ s. S.view s) self.now) }
     {
         self.storage.is_kept();
     }

@@ -1,0 +1,4 @@
+pub mod Halves
+pub mod Puts
+pub mod Cleans
+pub mod OneHalf

@@ -4,7 +4,9 @@
 //! least one of them whole. Of each pair at least one half is always good.
 #![tactic(auto)]
 
+mod one_call;
 mod pairs;
 mod power;
 
+pub use one_call::a_good_first_half_is_got_by_one_call;
 pub use pairs::Pairs;

@@ -1,9 +1,10 @@
 // Pairs of careful pages as a store.
-ghost use Rattle.std.specs.Prelude.{◌≡◌, ◌≤◌, ◌<◌, ◌/◌, ◌^◌, ◌*◌, ℕ, is_ok};
+ghost use Rattle.std.specs.Prelude.{◌≡◌, ◌≤◌, ◌<◌, ◌/◌, ◌^◌, ◌*◌, ℕ, is_ok, is_err};
 ghost use Rattle.std.proofs.Common.{arith};
 ghost use Rattle.jn_device.specs.Device.{IsSoundDevice};
 ghost use Rattle.jn_store.specs.Pairs.{pairs_view};
 ghost use Rattle.jn_store.specs.Store.{StoreGot, StorePut, StoreCleaned};
+ghost use Rattle.jn_stable.specs.Halves.{GetsHalves, PutsHalves, CleansHalves};
 ghost use Rattle.jn_stable.specs.Order.{GetsInOrder, PutsInOrder, CleansInOrder};
 
 use jn_base::{Page, Stopped};
@@ -61,6 +62,7 @@ impl<D: PhysDisk> StableStore for Pairs<D> {
     fn get(&mut self, i: u32) -> Result<Page, Stopped>
         requires { i < (pairs_view (D.state self.old)).count }
         ensures got { StoreGot (pairs_view (D.state self.old)) i result (pairs_view (D.state self.new)) }
+        ensures halves { GetsHalves (D.state self.old) i result (D.state self.new) }
         ensures order { GetsInOrder (D.state self.old) i result }
     {
         let other = i + self.disk.count() / 2;
@@ -74,6 +76,7 @@ impl<D: PhysDisk> StableStore for Pairs<D> {
     fn put(&mut self, i: u32, page: &Page) -> Result<(), Stopped>
         requires { i < (pairs_view (D.state self.old)).count }
         ensures put { StorePut (pairs_view (D.state self.old)) i page.now (is_ok result) (pairs_view (D.state self.new)) }
+        ensures halves { PutsHalves (D.state self.old) i page.now (is_err result) (D.state self.new) }
         ensures order { PutsInOrder (D.state self.old) i page.now (D.state self.new) }
     {
         let other = i + self.disk.count() / 2;
@@ -85,6 +88,7 @@ impl<D: PhysDisk> StableStore for Pairs<D> {
     fn cleanup(&mut self, i: u32) -> Result<bool, Stopped>
         requires { i < (pairs_view (D.state self.old)).count }
         ensures cleaned { StoreCleaned (pairs_view (D.state self.old)) i result (pairs_view (D.state self.new)) }
+        ensures halves { CleansHalves (D.state self.old) i result (D.state self.new) }
         ensures order { CleansInOrder (D.state self.old) i (D.state self.new) }
     {
         let other = i + self.disk.count() / 2;

@@ -10,7 +10,7 @@ use Rattle.jn_stands.proofs.Moving.{does-next, devices-now, device-here, device-
 use Rattle.jn_stands.proofs.Left.{Leaves}
 
 module _ {S : Type 0} (look : S → StoreView) (device : S → DeviceState) (seen : (s : S) → look s ≡ pairs_view (device s)) (x : Setup) (w : Standing S) (m : Moment) (stand : Stands look device x w m)
-    (q : ServerNo) (place : Place S) (at : slice_get w.places q.0 ≡ Some place) (slot : Slot S) (counts : HasCounts look (counts_by place.counts) slot)
+    (q : ServerNo) (place : Place S) (at : slice_get w.places q.0 ≡ Some place) (slot : Slot S) (counts : HasCounts look q (counts_by place.counts) slot)
     (kept : WhereUp look KeepsRubbish place.slot slot) (lines : List Line) (more : List Task) where
   abbrev allowing : Bool → Chance
   allowing answer = record (quiet_chance x m.devices) { allows = answer }

@@ -1,12 +1,12 @@
 -- The names from below that these proofs cite, passed on from one place. Declares nothing.
 pub use Rattle.std.proofs.Common.{◌≡◌, ℕ, Bool, true, false, List, [], ◌++◌, append-nil, drop, slice_set, Some, refl, sym, ap, subst, length, ◌-◌, ◌∷◌, Option, None, ◌∙◌, arith, ◌⊎◌, inl, inr, ◌≢◌, suc, ◌<◌, zero, true≢false, ◌≤◌, not, take, append_assoc, ◌+◌, length-append}
-pub use Rattle.std.specs.Prelude.{slice_get, if◌then◌else◌, ◌&&◌, nat_lt, map, is_some, ⊤, ◌||◌, nat_eq}
+pub use Rattle.std.specs.Prelude.{slice_get, if◌then◌else◌, ◌&&◌, nat_lt, map, is_some, ⊤, ◌||◌, ◌*◌, nat_eq}
 pub use Rattle.jn_base.specs.declared.names.ServerNo.{ServerNo}
 pub use Rattle.jn_device.specs.Device.{DeviceState}
 pub use Rattle.jn_device.specs.Events.{Decays as PageDecays, Revives as PageRevives, Arms as FaultArmed, powered_off, disarmed, cleared}
 pub use Rattle.jn_place.specs.declared.place.Place.{Place}
 pub use Rattle.jn_place.specs.declared.place.Slot.{Slot}
-pub use Rattle.jn_place.specs.Exact.{Befell, WhereUp, KeepsRubbish, IsDoneAt, Closed, texts_of_step, Crashed, IsSpent, IsStoppedAt, idle_row, PrintsInRange, IsStepOf, ScrubbedBy, Prints, Showed, AsksAgain, TimedOut, IsTimedOut, has_work_at, IsTried, IsUpAt, CameTo, IsRestart, Sends, IsStoppedUp, IsUsedUpAt, Took, TakeLeaves, work_of, WorkedBy, WorkLeaves}
+pub use Rattle.jn_place.specs.Exact.{Befell, WhereUp, KeepsRubbish, IsDoneAt, Closed, texts_of_step, Crashed, IsSpent, IsStoppedAt, idle_row, PrintsInRange, IsStepOf, ScrubbedBy, Prints, Showed, LeavesClean, AsksAgain, TimedOut, IsTimedOut, has_work_at, IsTried, IsUpAt, CameTo, IsRestart, Sends, IsStoppedUp, IsUsedUpAt, Took, TakeLeaves, work_of, WorkedBy, WorkLeaves}
 pub use Rattle.jn_system.specs.WholeSystem.World.{commits_in, World, at_client, Memory, has_line, at_server, committed_in, servers_from, new_memory}
 pub use Rattle.jn_recovery.specs.Loading.{counts_by}
 pub use Rattle.jn_report.specs.declared.line.EventRefusal.TheVariants.{TooManyArmed, EpochsUsedUp}
@@ -14,10 +14,10 @@ pub use Rattle.jn_report.specs.declared.line.Line.{Line}
 pub use Rattle.jn_report.specs.declared.line.Text.{Text}
 pub use Rattle.jn_schedule.specs.declared.Event.{Event}
 pub use Rattle.jn_store.specs.Pairs.{pairs_view}
-pub use Rattle.jn_store.specs.Store.{StoreView}
+pub use Rattle.jn_store.specs.Store.{StoreView, IsCalm, IsClean, IsWholePage}
 pub use Rattle.jn_written.specs.Chances.{Setup, Chance}
-pub use Rattle.jn_written.specs.Deeds.{Use, Decays, Revives, Arms, uses, plain, delivered, no_room, served, Deed, PowersOff, nothing, crashed_at, Reads, blocks_from, shown, room, delivered_at, Nothing, is_busy, working_steps, worked, is_used_up, given_up, recovered, restarted, stopped_idle, recovering, brought_up, last_epoch, Calls, nobody, is_busy_with}
-pub use Rattle.jn_written.specs.Devices.{Devices, Alone, IsUsed, AreFound, rubbish_on, IsCalled, pages_of, IsServed, IsLookedOver, Befalls, IsRecovery}
+pub use Rattle.jn_written.specs.Deeds.{Use, Decays, Revives, Arms, uses, plain, delivered, no_room, served, Deed, PowersOff, nothing, crashed_at, Reads, blocks_from, shown, Cleans, room, delivered_at, Nothing, is_busy, working_steps, worked, is_used_up, given_up, recovered, restarted, stopped_idle, recovering, brought_up, last_epoch, Calls, nobody, is_busy_with}
+pub use Rattle.jn_written.specs.Devices.{Devices, Alone, IsUsed, AreFound, rubbish_on, AreRecoverable, IsCalled, pages_of, IsServed, IsLookedOver, IsScrubbed, Befalls, IsRecovery}
 pub use Rattle.jn_written.specs.Events.{told_unless, acted, deed_of, dismissing, met, servers_of, asking, settling, next_in, resting, first_busy, next_event}
 pub use Rattle.jn_written.specs.Runs.{Moment, Leads, DoesStep, none, more}
 pub use Rattle.jn_written.specs.Steps.{outside_texts, lines_at, message_texts, traced, texts_of, come_to, cut_short, is_too_much, made_to}
@@ -51,12 +51,14 @@ pub use Rattle.jn_rows.specs.Stable.{StableState, Pick, made_all, IsUp, Change, 
 pub use Rattle.jn_server.specs.Seen.{Parts, view_with, memory_of, ServerView, room_of}
 pub use Rattle.jn_system_settling.specs.Settling.Course.{go_on, Course, go}
 pub use Rattle.jn_storage.specs.Calls.{state}
+pub use Rattle.jn_server.specs.Handling.{row_calls, StepLeaves}
 pub use Rattle.jn_rests.specs.Waiting.{Carries, sent_of, delivered_by, are_new, waiting_numbers}
 pub use Rattle.jn_within.specs.Within.{Within}
 pub use Rattle.jn_within.proofs.WorldSteps.{run-within, sent-near, opening-within}
 pub use Rattle.jn_written.proofs.Computed.{may-lead, join}
+pub use Rattle.jn_found.specs.Recoverable.{IsRecoverable}
 pub use Rattle.std.proofs.lemmas.Option.{slice_get_within, slice_get-map}
-pub use Rattle.jn_records.specs.StablePages.{Counts}
+pub use Rattle.jn_records.specs.StablePages.{Counts, page_count}
 pub use Rattle.jn_rests.proofs.Numbers.{carries-step, carries-forgotten, least-waits, none-waits}
 pub use Rattle.jn_found.specs.Pages.{pool_on, found_on}
 pub use Rattle.jn_server.specs.Standing.{standing_pages, free_on, has_rubbish}
@@ -71,6 +73,7 @@ pub use Rattle.jn_system.specs.WholeSystem.Printing.{prints_in, print_files, fil
 pub use Rattle.std.proofs.Math.Seq.{drop-length, drop-append_seam}
 pub use Rattle.jn_written.specs.Refusals.{refusal_of}
 pub use Rattle.jn_stands.specs.Meeting.{is_settle, begun_by, begins_in}
+pub use Rattle.jn_storage.specs.DeviceCalls.{step_calls}
 pub use Rattle.jn_stands.specs.Naming.{with_name, named_by, names_told}
 pub use Rattle.jn_msgs.specs.Collected.{Collected}
 pub use Rattle.jn_report.specs.declared.line.EventRefusal.{EventRefusal}

@@ -1,5 +1,5 @@
 -- From the next task to where the code stands once it is done.
-use Rattle.jn_stands.proofs.Common.{◌≡◌, ◌≤◌, ℕ, suc, Bool, true, false, List, [], ◌∷◌, ◌++◌, length, slice_get, drop, append-nil, Option, Some, refl, sym, ◌∙◌, ap, subst, ServerNo, ClientNo, Tid, Outside, DeviceState, Carried, Place, World, commits_in, has_line, Step, run, IsRun, Line, Carries, ClientTable, new_table, Pick, Event, Course, go, go_on, StoreView, Within, run-within, Setup, Chance, Deed, Devices, IsUsed, AreFound, rubbish_on, acted, deed_of, AreLeft, AreAllCounted, Moment, Leads, texts_of, lines_at, come_to, cut_short, Task, State, when_of, next_task, begun, may-lead, Standing, is_client_number, PlaceStands, Stands, ActsNext, IsStepTo}
+use Rattle.jn_stands.proofs.Common.{◌≡◌, ◌≤◌, ℕ, suc, Bool, true, false, List, [], ◌∷◌, ◌++◌, length, slice_get, drop, append-nil, Option, Some, refl, sym, ◌∙◌, ap, subst, ServerNo, ClientNo, Tid, Outside, DeviceState, Carried, Place, World, commits_in, has_line, Step, run, IsRun, Line, Carries, ClientTable, new_table, Pick, Event, Course, go, go_on, StoreView, Within, run-within, Setup, Chance, Deed, Devices, IsUsed, AreFound, rubbish_on, acted, deed_of, AreLeft, AreAllCounted, Moment, Leads, texts_of, lines_at, come_to, cut_short, Task, State, when_of, next_task, begun, may-lead, Standing, is_client_number, PlaceStands, Stands, ActsNext, IsStepTo, AreRecoverable}
 use Rattle.jn_records.specs.declared.net_list.Need.{Need}
 use Rattle.jn_written.proofs.Named.{names}
 use Rattle.jn_stands.proofs.Made.{Makes, made-leads, made-cuts, carried-length, not-too-much, too-much}
@@ -22,6 +22,7 @@ pub record ServersStand {S : Type 0} (look : S → StoreView) (device : S → De
   pub places : (n : ℕ) (p : Place S) → slice_get ps n ≡ Some p → PlaceStands look device x m n p
   pub found : AreFound x m.state.course.world m.devices
   pub counted : AreAllCounted x m.state.course.world m.devices
+  pub recoverable : AreRecoverable x m.devices
 
 pub record ClientsStand (x : Setup) (ts : List ClientTable) (w : World) : Type 0 where
   pub eight : length ts ≡ 8
@@ -56,6 +57,7 @@ module _ {S : Type 0} (look : S → StoreView) (device : S → DeviceState) (x :
     within = subst (λ (v : World). Within x.servers v) (sym (ap (λ (c : Course). c.world) course ∙ run-is steps m.state.course)) (run-within x.servers steps m.state.course.world stand.within);
     found = parts.servers.found;
     counted = parts.servers.counted;
+    recoverable = parts.servers.recoverable;
   }
 
   abbrev pub left : State
@@ -111,6 +113,7 @@ module _ {S : Type 0} (look : S → StoreView) (device : S → DeviceState) (x :
           found = subst (λ (v : World). AreFound x v es) (run-is deed.steps m.state.course) parts.servers.found;
           left = left-so;
           counted = subst (λ (v : World). AreAllCounted x v es) (run-is deed.steps m.state.course) parts.servers.counted;
+          recoverable = parts.servers.recoverable;
         };
       }
 

@@ -1,5 +1,5 @@
 -- A server goes down.
-use Rattle.jn_stands.proofs.Common.{◌≡◌, Bool, false, List, [], ◌∷◌, ◌++◌, append-nil, drop, slice_get, slice_set, Option, Some, None, refl, sym, ◌∙◌, ap, subst, true≢false, if◌then◌else◌, fun_ext, ServerNo, Server, DeviceState, powered_off, Place, Slot, Up, Down, Gone, Crashed, is_up, World, Memory, at_server, Crash, crash, counts_by, Line, Text, Parts, go_on, pairs_view, StoreView, Setup, PowersOff, Deed, plain, nothing, crashed_at, Moment, lines_at, Task, when_of, Standing, StandsAt, Stands, ActsNext, IsStepTo}
+use Rattle.jn_stands.proofs.Common.{◌≡◌, Bool, false, List, [], ◌∷◌, ◌++◌, append-nil, drop, slice_get, slice_set, Option, Some, None, refl, sym, ◌∙◌, ap, subst, true≢false, if◌then◌else◌, fun_ext, ServerNo, Server, DeviceState, powered_off, Place, Slot, Up, Down, Gone, Crashed, is_up, World, Memory, at_server, Crash, crash, counts_by, Line, Text, Parts, go_on, pairs_view, StoreView, Setup, PowersOff, Deed, plain, nothing, crashed_at, Moment, lines_at, Task, when_of, Standing, StandsAt, Stands, ActsNext, IsStepTo, IsRecoverable, HasCounts}
 use Rattle.jn_report.specs.declared.line.Text.TheVariants as says
 use Rattle.jn_schedule.specs.declared.Event.TheVariants as events
 use Rattle.jn_stands.proofs.Made.{quiet_chance, quiet-texts}
@@ -29,7 +29,7 @@ module _ {S : Type 0} (look : S → StoreView) (device : S → DeviceState) (see
           ap (λ (u : World). u.found q) after-is ∙ here.1 ∙ fun_ext (λ c. sym (crashed.found c)),
           device-here look device x w m stand seen q place at (device s),
         );
-        counts = tt;
+        counts = down-recoverable;
       })
       (ap (λ (u : World). u.clients) after-is)
       (net-quiet look device x w m stand (go_on (Crash q ∷ []) m.state.course) (says.Down q ∷ []) (carries-on w.net m.state.course (Crash q) refl (ap (λ (u : World). u.sent) after-is) stand.net) (ap (λ (u : World). u.lines) after-is) refl)
@@ -38,6 +38,14 @@ module _ {S : Type 0} (look : S → StoreView) (device : S → DeviceState) (see
       (λ r o n. refl) tt
       lines (lines ++ record { when = when_of m.state; text = says.Down q } ∷ []) refl
     where
+      -- its pages are as they were
+      down-recoverable : IsRecoverable q (counts_by place.counts) (look s)
+      down-recoverable =
+          let there = stand.places q.0 place at in
+          let pages : HasCounts look q (counts_by place.counts) (Up p) = subst (λ (slot : Slot S). HasCounts look q (counts_by place.counts) slot) is there.pages in
+          let was : IsRecoverable q (counts_by place.counts) (pairs_view (device p.storage.0)) = subst (λ (v : StoreView). IsRecoverable q (counts_by place.counts) v) (seen p.storage.0) pages.3 in
+          subst (λ (v : StoreView). IsRecoverable q (counts_by place.counts) v) (ap (λ (d : DeviceState). pairs_view d) (sym crashed.device_is) ∙ sym (seen s)) (record { count = was.count; each = was.each; clean = was.clean })
+
       here : StandsAt look device (counts_by place.counts) (Up p) (world.memory q) (world.found q) (m.devices q)
       here = let there = stand.places q.0 place at in subst (λ (slot : Slot S). StandsAt look device (counts_by place.counts) slot (world.memory q) (world.found q) (m.devices q)) is there.stands
 

@@ -1,5 +1,5 @@
 -- The end begins.
-use Rattle.jn_stands.proofs.Common.{◌≡◌, ◌<◌, ℕ, zero, suc, List, [], ◌∷◌, ◌++◌, length, append-nil, drop, Option, Some, None, refl, sym, ◌∙◌, ap, subst, arith, map, slice_get, length-map, slice_get_within, slice_get-map, DeviceState, disarmed, Posted, Place, Slot, Up, Down, Befell, Memory, commits_in, Dismiss, Counts, counts_by, Line, Text, Carries, carries-step, carries-forgotten, ClientTable, over, StableState, Pick, IsUp, Course, go, StoreView, run-within, Setup, Dismisses, AtEnd, State, when_of, next_task, Devices, dismissing, Moment, texts_of, lines_at, come_to, cut_short, Standing, StandsAt, PlaceStands, Stands, HasCounts}
+use Rattle.jn_stands.proofs.Common.{◌≡◌, ◌<◌, ℕ, zero, suc, List, [], ◌∷◌, ◌++◌, length, append-nil, drop, Option, Some, None, refl, sym, ◌∙◌, ap, subst, arith, map, slice_get, length-map, slice_get_within, slice_get-map, DeviceState, disarmed, Posted, Place, Slot, Up, Down, Befell, Memory, commits_in, Dismiss, Counts, counts_by, Line, Text, Carries, carries-step, carries-forgotten, ClientTable, over, StableState, Pick, IsUp, Course, go, StoreView, run-within, Setup, Dismisses, AtEnd, State, when_of, next_task, Devices, dismissing, Moment, texts_of, lines_at, come_to, cut_short, Standing, StandsAt, PlaceStands, Stands, HasCounts, AreRecoverable}
 use Rattle.std.specs.Option.{option_map}
 use Rattle.jn_stands.specs.Ending.{AreDisarmed, dismissed, BeginsEnd}
 use Rattle.jn_stands.proofs.Lines.{history-same}
@@ -56,10 +56,14 @@ module _ {S : Type 0} (look : S → StoreView) (device : S → DeviceState) (x :
           let now = still-there look device (counts_by old.counts) (λ d e. e ≡ disarmed d) old.slot p.slot (m.state.course.world.memory (record { 0 = n })) (m.state.course.world.found (record { 0 = n })) (m.devices (record { 0 = n })) d.befell s.stands in
           record {
             counts = s.counts ∙ ap counts_by (sym d.counts);
-            pages = subst (λ g. HasCounts look g p.slot) (sym (ap counts_by d.counts)) d.pages;
+            pages = subst (λ g. HasCounts look (record { 0 = n }) g p.slot) (sym (ap counts_by d.counts)) d.pages;
             stands = subst (λ g. StandsAt look device (counts_by g) p.slot (m.state.course.world.memory (record { 0 = n })) (m.state.course.world.found (record { 0 = n })) (disarmed (m.devices (record { 0 = n })))) (sym d.counts)
                 (subst (λ e. StandsAt look device (counts_by old.counts) p.slot (m.state.course.world.memory (record { 0 = n })) (m.state.course.world.found (record { 0 = n })) e) now.becomes_it now.stands);
           }
+
+  -- what waits for a device is nothing to a recovery
+  still-recoverable : AreRecoverable x es
+  still-recoverable q l = let h = stands.recoverable q l in record { count = h.count; each = h.each; clean = h.clean }
 
   client : (n : ℕ) (t : ClientTable) → slice_get (map (λ (t : ClientTable). over t) w.clients) n ≡ Some t → over (m.state.course.world.clients (record { 0 = suc n })) ≡ t
   client n t e = by (slice_get w.clients n) refl (sym (slice_get-map (λ (t : ClientTable). over t) w.clients n) ∙ e)
@@ -87,10 +91,11 @@ module _ {S : Type 0} (look : S → StoreView) (device : S → DeviceState) (x :
     within = run-within x.servers (Dismiss ∷ []) m.state.course.world stands.within;
     found = stands.found;
     counted = stands.counted;
+    recoverable = still-recoverable;
   }
 
   makes : next_task m.state ≡ Some Dismisses → Makes x m (quiet_chance x m.devices) dismissing begun_state (go Dismiss begun_course) es
-  makes next = record { task = Dismisses; next = next; deed_is = refl; begun_is = refl; course = refl; befalls = record { rubbish = λ q. refl; steps = (tt, tt); used = λ q. refl; found = stands.found; left = λ q l up. refl; counted = stands.counted } }
+  makes next = record { task = Dismisses; next = next; deed_is = refl; begun_is = refl; course = refl; befalls = record { rubbish = λ q. refl; steps = (tt, tt); used = λ q. refl; found = stands.found; left = λ q l up. refl; counted = stands.counted; recoverable = still-recoverable } }
 
   pub dismissed-step : (lines : List Line) → next_task m.state ≡ Some Dismisses → BeginsEnd look device x m (dismissed places w) lines
   dismissed-step lines next = record {

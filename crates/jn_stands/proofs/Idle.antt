@@ -47,16 +47,16 @@ module _ {S : Type 0} (look : S → StoreView) (device : S → DeviceState) (see
   abbrev pub idling : Option (Pick → ℕ) → List FileNo → Chance
   idling stop files = record { free = free_on (x.counts q) (pages_of (m.devices q)) (stable (world.found q)) mem; rubbish = rubbish_on x m.devices; stop = stop; told = told; allows = true; finds = λ c. c; works = []; tids = []; files = files }
 
-  pub calling : (stop : Option (Pick → ℕ)) (files : List FileNo) (power : Bool) (e : DeviceState) → is_some stop ≡ not power → IsSpent told power (device p.storage.0) e
-      → IsCalled (idling stop files) (m.devices q) (devices-now look device x w m stand seen q place at e q)
-  calling stop files power e stops spent = subst (λ (d : DeviceState). IsCalled (idling stop files) d (devices-now look device x w m stand seen q place at e q)) (sym here.2)
-      (record { last = spent.last; calls = spent.calls; told = spent.told_is; stop = stops ∙ ap not (sym spent.power_is); after = device-here look device x w m stand seen q place at e ∙ spent.after })
+  pub calling : (calls : ℕ) (stop : Option (Pick → ℕ)) (files : List FileNo) (power : Bool) (e : DeviceState) → is_some stop ≡ not power → IsSpent calls told power (device p.storage.0) e
+      → IsCalled calls (idling stop files) (m.devices q) (devices-now look device x w m stand seen q place at e q)
+  calling calls stop files power e stops spent = subst (λ (d : DeviceState). IsCalled calls (idling stop files) d (devices-now look device x w m stand seen q place at e q)) (sym here.2)
+      (record { last = spent.last; happens = spent.happens; few = spent.few; whole = spent.whole; told = spent.told_is; stop = stops ∙ ap not (sym spent.power_is); after = device-here look device x w m stand seen q place at e ∙ spent.after })
 
   -- ---- it is done
 
-  pub done-alone : (p' : Parts S) → IsDoneAt look device told (idle_row mem) p p' → HasCounts look (counts_by place.counts) (Up p')
+  pub done-alone : (calls : ℕ) (p' : Parts S) → IsDoneAt look device calls told (idle_row mem) p p' → HasCounts look q (counts_by place.counts) (Up p')
       → (now : Moment) → now.state.course.world ≡ world → now.devices ≡ devices-now look device x w m stand seen q place at (device p'.storage.0) → IsAlone look device seen x w m stand now q (counts_by place.counts) (Up p')
-  done-alone p' e counts now same ds = record {
+  done-alone calls p' e counts now same ds = record {
     memory = λ r o. ap (λ (u : World). u.memory r) same;
     found = λ r o. ap (λ (u : World). u.found r) same;
     devices = λ r o. ap (λ (f : Devices). f r) ds ∙ device-there look device x w m stand seen q place at (device p'.storage.0) r o;
@@ -77,9 +77,9 @@ module _ {S : Type 0} (look : S → StoreView) (device : S → DeviceState) (see
   pub after-stop : after stopping world ≡ record world { memory = at_server world.memory q None; found = λ r c. if server_eq q r then world.found q c else world.found r c; lines = world.lines ++ says.Stopped q ∷ [] }
   after-stop = ap (λ (o : Option Memory). work q idle_room (Some (λ c. 0)) o world) here.0 ∙ stopped-works q world (server_step mem (stable (world.found q)) idle_room) (always-some mem (stable (world.found q)))
 
-  pub stopped-alone : (s : S) → IsStoppedAt look device (counts_by place.counts) told (idle_row mem) p s
+  pub stopped-alone : (calls : ℕ) (s : S) → IsStoppedAt look device (counts_by place.counts) calls told (idle_row mem) p s → HasCounts look q (counts_by place.counts) (Down s)
       → (now : Moment) → now.state.course.world ≡ after stopping world → now.devices ≡ devices-now look device x w m stand seen q place at (device s) → IsAlone look device seen x w m stand now q (counts_by place.counts) (Down s)
-  stopped-alone s e now same ds = record {
+  stopped-alone calls s e counts now same ds = record {
     memory = λ r o. ap (λ (u : World). u.memory r) (same ∙ after-stop) ∙ ap (λ (b : Bool). if b then None else world.memory r) o;
     found = λ r o. ap (λ (u : World). u.found r) (same ∙ after-stop) ∙ fun_ext (λ c. ap (λ (b : Bool). if b then world.found q c else world.found r c) o);
     devices = λ r o. ap (λ (f : Devices). f r) ds ∙ device-there look device x w m stand seen q place at (device s) r o;
@@ -89,7 +89,7 @@ module _ {S : Type 0} (look : S → StoreView) (device : S → DeviceState) (see
           ∙ ap (λ (f : Pick → StableState). f c) here.1 ∙ here.3 c ∙ sym (found-there c)),
       ap (λ (f : Devices). f q) ds ∙ device-here look device x w m stand seen q place at (device s),
     );
-    counts = tt;
+    counts = counts;
   }
     where
       found-there : (c : Pick) → found_on (counts_by place.counts) (look s) c ≡ state (view_with look p).storage

@@ -45,8 +45,8 @@ module _ {S : Type 0} (look : S → StoreView) where
   leaves-by v q steps so p says Gone h = tt
 
 module _ {S : Type 0} (look : S → StoreView) (device : S → DeviceState) (seen : (s : S) → look s ≡ pairs_view (device s)) where
-  pub records-at : (g : Counts) (p : Parts S) (d : DeviceState) → HasCounts look g (Up p) → d ≡ device p.storage.0 → rubbish_count (pool_on g (standing_pages (pairs_view d))) ≡ counted look p
-  records-at g p d h e = ap (λ (c : DeviceState). rubbish_count (pool_on g (standing_pages (pairs_view c)))) e
+  pub records-at : (q : ServerNo) (g : Counts) (p : Parts S) (d : DeviceState) → HasCounts look q g (Up p) → d ≡ device p.storage.0 → rubbish_count (pool_on g (standing_pages (pairs_view d))) ≡ counted look p
+  records-at q g p d h e = ap (λ (c : DeviceState). rubbish_count (pool_on g (standing_pages (pairs_view c)))) e
       ∙ ap (λ (v : StoreView). rubbish_count (pool_on g (standing_pages v))) (sym (seen p.storage.0)) ∙ sym h.1
 
   module _ (x : Setup) (w : Standing S) (m : Moment) (stand : Stands look device x w m) where
@@ -54,12 +54,12 @@ module _ {S : Type 0} (look : S → StoreView) (device : S → DeviceState) (see
     v = m.state.course.world
 
     at-slots : (q : ServerNo) (steps : List Step) (g : Counts) (after before : Slot S) (memory memory' : Option Memory) (found found' : Pick → StableState) (d e : DeviceState)
-        → StandsAt look device g after memory' found' e → HasCounts look g after → StandsAt look device g before memory found d → HasCounts look g before
+        → StandsAt look device g after memory' found' e → HasCounts look q g after → StandsAt look device g before memory found d → HasCounts look q g before
         → Leaves look v q steps after before → is_some memory' ≡ true
         → rubbish_count (pool_on g (standing_pages (pairs_view e))) ≡ left_by_steps v q steps (rubbish_count (pool_on g (standing_pages (pairs_view d))))
     at-slots q steps g (Up p') (Up p) memory memory' found found' d e a k b j l up =
-        records-at g p' e k a.2 ∙ l ∙ ap (λ (n : ℕ). left_by_steps v q steps n) (sym (records-at g p d j b.2))
-    at-slots q steps g (Up p') (Down s) memory memory' found found' d e a k b j l up = records-at g p' e k a.2 ∙ l (rubbish_count (pool_on g (standing_pages (pairs_view d))))
+        records-at q g p' e k a.2 ∙ l ∙ ap (λ (n : ℕ). left_by_steps v q steps n) (sym (records-at q g p d j b.2))
+    at-slots q steps g (Up p') (Down s) memory memory' found found' d e a k b j l up = records-at q g p' e k a.2 ∙ l (rubbish_count (pool_on g (standing_pages (pairs_view d))))
     at-slots q steps g (Up p') Gone memory memory' found found' d e a k b j l up = absurd b
     at-slots q steps g (Down t) before memory memory' found found' d e a k b j l up = absurd (true≢false (sym up ∙ ap (λ (o : Option Memory). is_some o) a.0))
     at-slots q steps g Gone before memory memory' found found' d e a k b j l up = absurd a

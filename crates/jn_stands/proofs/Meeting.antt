@@ -1,5 +1,5 @@
 -- An event that isn't refused, and one of a settle or of the end, is what the next task does.
-use Rattle.jn_stands.proofs.Common.{◌≡◌, ℕ, Bool, true, false, List, [], ◌∷◌, Option, Some, None, refl, ◌∙◌, ap, if◌then◌else◌, slice_get, ServerNo, Client, Server, EpochsUsedUp, Event, Sent, World, Memory, Setup, Chance, Task, Meets, Acts, GoesDown, next_task, Deed, served, nothing, delivered_at, delivered, is_busy, working_steps, worked, crashed_at, is_used_up, given_up, recovered, restarted, acted, met, refusal_of, Moment, ActsNext, is_settle}
+use Rattle.jn_stands.proofs.Common.{◌≡◌, ℕ, Bool, true, false, List, [], ◌∷◌, Option, Some, None, refl, ◌∙◌, ap, if◌then◌else◌, slice_get, ServerNo, Client, Server, EpochsUsedUp, Event, Sent, World, Memory, Setup, Chance, Task, Meets, Acts, GoesDown, next_task, Deed, served, nothing, delivered_at, delivered, is_busy, working_steps, worked, crashed_at, is_used_up, given_up, recovered, restarted, acted, met, refusal_of, Moment, ActsNext, is_settle, step_calls}
 use Rattle.jn_report.specs.declared.line.Text.TheVariants as says
 use Rattle.jn_schedule.specs.declared.Event.TheVariants as events
 
@@ -18,7 +18,7 @@ delivers h k w (Some (Server q, message)) = by (w.memory q)
 works : (h : Chance) (q : ServerNo) (w : World) → (worked h q w).tasks ≡ []
 works h q w = by (is_busy h.rubbish w q)
   where
-    by : (c : Bool) → (if c then served q (working_steps h q) else nothing).tasks ≡ []
+    by : (c : Bool) → (if c then served q step_calls (working_steps h q) else nothing).tasks ≡ []
     by true = refl
     by false = refl
 

@@ -56,11 +56,11 @@ module _ {S : Type 0} (look : S → StoreView) (device : S → DeviceState) (see
 
   -- ---- a timeout
 
-  pub timed-out-step : (T : Tid) (more : List Task) → ActsNext x m (events.Timeout q T) more → (answer : Bool) (slot : Slot S) → TimedOut look T place.slot answer slot → HasCounts look (counts_by place.counts) slot → (lines : List Line)
+  pub timed-out-step : (T : Tid) (more : List Task) → ActsNext x m (events.Timeout q T) more → (answer : Bool) (slot : Slot S) → TimedOut look T place.slot answer slot → HasCounts look q (counts_by place.counts) slot → (lines : List Line)
       → IsStepTo look device x m (more ++ drop 1 m.state.tasks) (record w { places = slice_set w.places q.0 (record place { slot = slot }) }) lines lines
   timed-out-step T more next answer slot timed counts lines = by place.slot refl slot timed counts
     where
-      made : (p p' : Parts S) → StandsAt look device (counts_by place.counts) (Up p) (v.memory q) (v.found q) (m.devices q) → IsTimedOut look T p answer p' → HasCounts look (counts_by place.counts) (Up p')
+      made : (p p' : Parts S) → StandsAt look device (counts_by place.counts) (Up p) (v.memory q) (v.found q) (m.devices q) → IsTimedOut look T p answer p' → HasCounts look q (counts_by place.counts) (Up p')
           → IsStepTo look device x m (more ++ drop 1 m.state.tasks) (record w { places = slice_set w.places q.0 (record place { slot = Up p' }) }) lines lines
       made p p' h t counts' = subst (λ (ls : List Line). IsStepTo look device x m (more ++ drop 1 m.state.tasks) (record w { places = slice_set w.places q.0 (record place { slot = Up p' }) }) lines ls) (append-nil lines)
           (silent-step look device seen x w m stand (events.Timeout q T) more next (Server q) (Timeout q T) refl tt (λ s n. refl) [] refl (ap (λ (u : World). u.sent) after-is) (ap (λ (u : World). u.lines) after-is ∙ sym (append-nil v.lines))
@@ -84,7 +84,7 @@ module _ {S : Type 0} (look : S → StoreView) (device : S → DeviceState) (see
           found-is : (view_with look p').storage.found ≡ (view_with look p).storage.found
           found-is = ap (λ (z : S × Kept). (view_of z.1 (look z.0)).found) t.storage
 
-      by : (before : Slot S) → place.slot ≡ before → (now : Slot S) → TimedOut look T before answer now → HasCounts look (counts_by place.counts) now
+      by : (before : Slot S) → place.slot ≡ before → (now : Slot S) → TimedOut look T before answer now → HasCounts look q (counts_by place.counts) now
           → IsStepTo look device x m (more ++ drop 1 m.state.tasks) (record w { places = slice_set w.places q.0 (record place { slot = now }) }) lines lines
       by (Up p) is (Up p') t c = made p p' (stands-at (Up p) is) t c
       by (Up p) is (Down s) t c = absurd t

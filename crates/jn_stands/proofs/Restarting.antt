@@ -1,5 +1,5 @@
 -- A server comes up, or is stopped while it does.
-use Rattle.jn_stands.proofs.Common.{◌≡◌, ◌<◌, ℕ, ◌+◌, Bool, true, false, not, List, [], ◌∷◌, ◌++◌, append-nil, drop, length, map, slice_get, slice_set, Option, Some, None, is_some, refl, sym, ◌∙◌, ap, subst, arith, ◌||◌, if◌then◌else◌, nat_eq, fun_ext, nat_tests, ServerNo, Tid, WorkId, Outside, tid_eq, work_eq, DeviceState, powered_off, found_on, with_epoch, Place, Slot, Up, Down, IsTried, IsUpAt, texts_of_step, World, Memory, commits_in, has_line, restored, named_now, Restart, AreNames, tid_before, restart, restart_with, counts_by, Line, Text, StableState, Pick, Parts, go_on, pairs_view, StoreView, Setup, Chance, Deed, recovered, last_epoch, is_used_up, IsRecovery, rubbish_on, Moment, lines_at, when_of, names_told, HasCounts, Standing, StandsAt, Stands, with_named, IsStepTo, left_by_restart, left_by_step}
+use Rattle.jn_stands.proofs.Common.{◌≡◌, ◌<◌, ℕ, ◌+◌, Bool, true, false, not, List, [], ◌∷◌, ◌++◌, append-nil, drop, length, map, slice_get, slice_set, Option, Some, None, is_some, refl, sym, ◌∙◌, ap, subst, arith, ◌||◌, if◌then◌else◌, nat_eq, fun_ext, nat_tests, ServerNo, Tid, WorkId, Outside, tid_eq, work_eq, DeviceState, powered_off, found_on, with_epoch, Place, Slot, Up, Down, IsTried, IsUpAt, texts_of_step, World, Memory, commits_in, has_line, restored, named_now, Restart, AreNames, tid_before, restart, restart_with, counts_by, Line, Text, StableState, Pick, Parts, go_on, pairs_view, StoreView, Setup, Chance, Deed, recovered, last_epoch, is_used_up, IsRecovery, rubbish_on, Moment, lines_at, when_of, names_told, HasCounts, Standing, StandsAt, Stands, with_named, IsStepTo, left_by_restart, left_by_step, Counts}
 use Rattle.jn_locks.specs.Locks.{work_before}
 use Rattle.jn_report.specs.declared.line.Text.TheVariants as says
 use Rattle.jn_stands.proofs.Naming.{told-names}
@@ -8,12 +8,12 @@ use Rattle.jn_stands.proofs.Moving.{same-server, carries-on, Does, net-named, de
 use Rattle.jn_stands.proofs.Left.{counted, leaves-from}
 
 -- what a restart tells its device
-pub recovery : (h : Chance) (up : Bool) (told : List Outside) (power : Bool) (d e f : DeviceState) → h.told ≡ told → is_some h.stop ≡ not power → IsTried told power d e → f ≡ (if up then e else powered_off e) → IsRecovery h up d f
-recovery h up told power d e f told-is stop tried f-is = record {
+pub recovery : (g : Counts) (h : Chance) (up : Bool) (told : List Outside) (power : Bool) (d e f : DeviceState) → h.told ≡ told → is_some h.stop ≡ not power → IsTried g told power d e → f ≡ (if up then e else powered_off e) → IsRecovery g h up d f
+recovery g h up told power d e f told-is stop tried f-is = record {
   powered = tried.powered;
   last = e;
   power = tried.up;
-  called = record { last = tried.spent.last; calls = tried.spent.calls; told = told-is ∙ tried.spent.told_is; stop = stop ∙ ap not (sym tried.spent.power_is); after = tried.spent.after };
+  called = record { last = tried.spent.last; happens = tried.spent.happens; few = tried.spent.few; whole = tried.spent.whole; told = told-is ∙ tried.spent.told_is; stop = stop ∙ ap not (sym tried.spent.power_is); after = tried.spent.after };
   after = f-is;
 }
 
@@ -24,6 +24,9 @@ module _ {S : Type 0} (look : S → StoreView) (device : S → DeviceState) (see
 
   pub here : StandsAt look device (counts_by place.counts) (Down s) (world.memory q) (world.found q) (m.devices q)
   here = let there = stand.places q.0 place at in subst (λ (slot : Slot S). StandsAt look device (counts_by place.counts) slot (world.memory q) (world.found q) (m.devices q)) is there.stands
+
+  pub its-counts : x.counts q ≡ counts_by place.counts
+  its-counts = let there = stand.places q.0 place at in there.counts
 
   -- what each pick found before
   abbrev old : Pick → StableState
@@ -59,7 +62,7 @@ module _ {S : Type 0} (look : S → StoreView) (device : S → DeviceState) (see
     names-are : names_told tids w.named ≡ named_now tids world.lines
     names-are = told-names tids world.lines w.named up.flag_names.rising (λ T e. stand.named T)
 
-    pub up-step : (deed : Deed) → deed ≡ record (recovered up-chance q) { tasks = deed.tasks } → Does x m up-chance deed → HasCounts look (counts_by place.counts) (Up p)
+    pub up-step : (deed : Deed) → deed ≡ record (recovered up-chance q) { tasks = deed.tasks } → Does x m up-chance deed → HasCounts look q (counts_by place.counts) (Up p)
         → (lines lines' : List Line) → lines' ≡ lines ++ lines_at (when_of m.state) (texts_of_step q told true) ++ lines_at (when_of m.state) (says.Up q epoch ∷ names_told tids w.named)
         → IsStepTo look device x m (deed.tasks ++ drop 1 m.state.tasks) (with_named (names_told tids w.named) (record w { places = slice_set w.places q.0 (record place { slot = Up p }) })) lines lines'
     up-step deed deed-is does counts lines lines' lines-are =
@@ -83,10 +86,10 @@ module _ {S : Type 0} (look : S → StoreView) (device : S → DeviceState) (see
         after-lines (ap (λ (u : World). u.sent) after-up)
         ((subst (λ (y : StableState). AreNames work_eq work_before y.works up.works) (sym found-there) up.work_names, subst (λ (y : StableState). AreNames tid_eq tid_before y.flags tids) (sym found-there) up.flag_names), tt)
         (record {
-          its = subst (λ (o : Option Memory). IsRecovery up-chance (is_some o) (m.devices q) (devices-now look device x w m stand seen q place at (device p.storage.0) q))
+          its = subst (λ (o : Option Memory). IsRecovery (x.counts q) up-chance (is_some o) (m.devices q) (devices-now look device x w m stand seen q place at (device p.storage.0) q))
               (sym (ap (λ (u : World). u.memory q) after-up ∙ ap (λ (b : Bool). if b then Some (restored q (old up.pick) up.works tids) else world.memory q) (same-server q)))
-              (recovery up-chance true told true (m.devices q) (device p.storage.0) (devices-now look device x w m stand seen q place at (device p.storage.0) q) refl refl
-              (subst (λ (d : DeviceState). IsTried told true d (device p.storage.0)) (sym here.2) up.tried) (device-here look device x w m stand seen q place at (device p.storage.0)));
+              (recovery (x.counts q) up-chance true told true (m.devices q) (device p.storage.0) (devices-now look device x w m stand seen q place at (device p.storage.0) q) refl refl
+              (subst (λ (d : DeviceState). IsTried (x.counts q) told true d (device p.storage.0)) (sym here.2) (subst (λ (g : Counts). IsTried g told true (device s) (device p.storage.0)) (sym its-counts) up.tried)) (device-here look device x w m stand seen q place at (device p.storage.0)));
           others = λ r o. device-there look device x w m stand seen q place at (device p.storage.0) r o;
         })
         (λ r o n. ap (λ (b : Bool). if b then left_by_restart (world.memory r) n else n) o)

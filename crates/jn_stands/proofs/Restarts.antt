@@ -30,7 +30,7 @@ module _ {S : Type 0} (look : S → StoreView) (device : S → DeviceState) (see
 
   module _ (more : List Task) (next : ActsNext x m (events.Restart q) more) (lines lines' lines'' : List Line) where
     restarted-by : (told : List Outside) (before after : Slot S) (restarted : Restarted) → place.slot ≡ before → CameTo look device q (counts_by place.counts) told before restarted after
-        → HasCounts look (counts_by place.counts) after
+        → HasCounts look q (counts_by place.counts) after
         → lines' ≡ lines ++ lines_at (when_of m.state) (texts_of_step q told true) → lines'' ≡ lines' ++ lines_at (when_of m.state) (texts_restarted q w.named restarted)
         → IsStepTo look device x m (more ++ drop 1 m.state.tasks) (with_named (texts_restarted q w.named restarted) (standing after)) lines lines''
     restarted-by told (Down s) (Up p) (came.Up epoch tids) is up counts e f =
@@ -45,7 +45,7 @@ module _ {S : Type 0} (look : S → StoreView) (device : S → DeviceState) (see
         (stopped-step look device seen x w m stand q place at s is told t stopped
         (record (recovered (stopped-chance look device seen x w m stand q place at s is told t stopped) q) { tasks = more }) refl
         (does-next x m (events.Restart q) more next (stopped-chance look device seen x w m stand q place at s is told t stopped) (λ r. refl) (recovered (stopped-chance look device seen x w m stand q place at s is told t stopped) q) refl)
-        lines lines'' (lines-are lines lines' lines'' told (says.Stopped q ∷ []) e f))
+        counts lines lines'' (lines-are lines lines' lines'' told (says.Stopped q ∷ []) e f))
     restarted-by told (Down s) (Down t) came.UsedUp is used counts e f =
         subst (λ (now : Standing S). IsStepTo look device x m (more ++ drop 1 m.state.tasks) now lines lines'') (sym (same-named (says.RefusedEvent EpochsUsedUp ∷ []) (Down t) refl (λ T. refl)))
         (used-up-step look device seen x w m stand q place at s is told t used
@@ -54,14 +54,14 @@ module _ {S : Type 0} (look : S → StoreView) (device : S → DeviceState) (see
         (record (given_up (used-chance look device seen x w m stand q place at s is told t used) q) { texts = says.RefusedEvent EpochsUsedUp ∷ [] })
         (ap (λ (b : Bool). if b then record (given_up (used-chance look device seen x w m stand q place at s is told t used) q) { texts = says.RefusedEvent EpochsUsedUp ∷ [] } else recovered (used-chance look device seen x w m stand q place at s is told t used) q)
         (used-up look device seen x w m stand q place at s is told t used)))
-        lines lines'' (lines-are lines lines' lines'' told (says.RefusedEvent EpochsUsedUp ∷ []) e f))
+        counts lines lines'' (lines-are lines lines' lines'' told (says.RefusedEvent EpochsUsedUp ∷ []) e f))
     restarted-by told (Down s) Gone (came.Up epoch tids) is h counts e f = absurd h
     restarted-by told (Down s) Gone came.Stopped is h counts e f = absurd h
     restarted-by told (Down s) Gone came.UsedUp is h counts e f = absurd h
     restarted-by told before after restarted is h counts e f = absurd h
 
     -- by an event of the schedule
-    pub restarted-step : (restarted : Restarted) (slot : Slot S) → IsRestart look device q (counts_by place.counts) (when_of m.state) place.slot restarted slot lines lines' → HasCounts look (counts_by place.counts) slot
+    pub restarted-step : (restarted : Restarted) (slot : Slot S) → IsRestart look device q (counts_by place.counts) (when_of m.state) place.slot restarted slot lines lines' → HasCounts look q (counts_by place.counts) slot
         → lines'' ≡ lines' ++ lines_at (when_of m.state) (texts_restarted q w.named restarted)
         → IsStepTo look device x m (more ++ drop 1 m.state.tasks) (with_named (texts_restarted q w.named restarted) (standing slot)) lines lines''
     restarted-step restarted slot h counts f = restarted-by h.told place.slot slot restarted refl h.came counts h.lines_are f
@@ -70,7 +70,7 @@ module _ {S : Type 0} (look : S → StoreView) (device : S → DeviceState) (see
 
   module _ (next : next_task m.state ≡ Some (ComesUp q)) (lines lines' lines'' : List Line) where
     came-by : (told : List Outside) (before after : Slot S) (restarted : Restarted) → place.slot ≡ before → CameTo look device q (counts_by place.counts) told before restarted after
-        → HasCounts look (counts_by place.counts) after
+        → HasCounts look q (counts_by place.counts) after
         → lines' ≡ lines ++ lines_at (when_of m.state) (texts_of_step q told true) → lines'' ≡ lines' ++ lines_at (when_of m.state) (texts_restarted q w.named restarted)
         → ComesTo look device x m q w restarted (standing after) lines lines''
     came-by told (Down s) (Up p) (came.Up epoch tids) is up counts e f =
@@ -89,7 +89,7 @@ module _ {S : Type 0} (look : S → StoreView) (device : S → DeviceState) (see
         (stopped-step look device seen x w m stand q place at s is told t stopped
         (recovered (stopped-chance look device seen x w m stand q place at s is told t stopped) q) refl
         (record { task = ComesUp q; next = next; deed_is = refl; begun_is = refl })
-        lines lines'' (lines-are lines lines' lines'' told (says.Stopped q ∷ []) e f))
+        counts lines lines'' (lines-are lines lines' lines'' told (says.Stopped q ∷ []) e f))
     came-by told (Down s) (Down t) came.UsedUp is used counts e f =
         used-cut look device seen x w m stand q place at s is told t used
         (record {
@@ -98,13 +98,13 @@ module _ {S : Type 0} (look : S → StoreView) (device : S → DeviceState) (see
           deed_is = ap (λ (b : Bool). if b then record (given_up (used-chance look device seen x w m stand q place at s is told t used) q) { cuts = true } else recovered (used-chance look device seen x w m stand q place at s is told t used) q)
               (used-up look device seen x w m stand q place at s is told t used);
           begun_is = refl;
-        }) lines
+        }) counts lines
     came-by told (Down s) Gone (came.Up epoch tids) is h counts e f = absurd h
     came-by told (Down s) Gone came.Stopped is h counts e f = absurd h
     came-by told (Down s) Gone came.UsedUp is h counts e f = absurd h
     came-by told before after restarted is h counts e f = absurd h
 
-    pub came-up-step : (restarted : Restarted) (slot : Slot S) → IsRestart look device q (counts_by place.counts) (when_of m.state) place.slot restarted slot lines lines' → HasCounts look (counts_by place.counts) slot
+    pub came-up-step : (restarted : Restarted) (slot : Slot S) → IsRestart look device q (counts_by place.counts) (when_of m.state) place.slot restarted slot lines lines' → HasCounts look q (counts_by place.counts) slot
         → lines'' ≡ lines' ++ lines_at (when_of m.state) (texts_restarted q w.named restarted)
         → ComesTo look device x m q w restarted (standing slot) lines lines''
     came-up-step restarted slot h counts f = came-by h.told place.slot slot restarted refl h.came counts h.lines_are f

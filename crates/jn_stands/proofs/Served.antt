@@ -53,16 +53,18 @@ module _ {S : Type 0} (look : S → StoreView) (device : S → DeviceState) (see
     devices-there : (slot : Slot S) (s : ServerNo) → server_eq q s ≡ false → devices-with slot s ≡ m.devices s
     devices-there slot s e = ap (λ (b : Bool). if b then device-at slot else m.devices s) e
 
-    pub called : (told : List Outside) (stop : Option (Pick → ℕ)) (power : Bool) (slot : Slot S) → is_some stop ≡ not power → IsSpent told power (device p.storage.0) (device-at slot)
-        → Alone q (IsServed (x.counts q) (chance told stop) m.state.course.world q) m.devices (devices-with slot)
-    called told stop power slot e spent = record {
+    pub called : (calls : ℕ) (told : List Outside) (stop : Option (Pick → ℕ)) (power : Bool) (slot : Slot S) → is_some stop ≡ not power → IsSpent calls told power (device p.storage.0) (device-at slot)
+        → Alone q (IsServed (x.counts q) calls (chance told stop) m.state.course.world q) m.devices (devices-with slot)
+    called calls told stop power slot e spent = record {
       its = record {
         memory = memory_of (view_with look p);
         up = here.0;
         free = free-is;
-        called = subst (λ (d : DeviceState). IsCalled (chance told stop) d (devices-with slot q)) (sym here.2) (record {
+        called = subst (λ (d : DeviceState). IsCalled calls (chance told stop) d (devices-with slot q)) (sym here.2) (record {
           last = spent.last;
-          calls = spent.calls;
+          happens = spent.happens;
+          few = spent.few;
+          whole = spent.whole;
           told = spent.told_is;
           stop = e ∙ ap not (sym spent.power_is);
           after = devices-here slot ∙ spent.after;
@@ -73,8 +75,8 @@ module _ {S : Type 0} (look : S → StoreView) (device : S → DeviceState) (see
 
     -- ---- the server afterwards
 
-    module _ (row : RowOutcome Memory) (k : Option ℕ) (told : List Outside) where
-      pub done-here : (last : Moment) (p' : Parts S) → IsDoneAt look device told row p p' → HasCounts look (counts_by place.counts) (Up p')
+    module _ (row : RowOutcome Memory) (k : Option ℕ) (calls : ℕ) (told : List Outside) where
+      pub done-here : (last : Moment) (p' : Parts S) → IsDoneAt look device calls told row p p' → HasCounts look q (counts_by place.counts) (Up p')
           → last.state.course.world ≡ done q k row m.state.course.world → last.devices ≡ devices-with (Up p') → IsAlone look device seen x w m stand last q (counts_by place.counts) (Up p')
       done-here last p' e counts world ds = record {
         memory = λ s o. ap (λ (u : World). u.memory s) world ∙ ap (λ (b : Bool). if b then Some row.table else m.state.course.world.memory s) o;
@@ -90,12 +92,12 @@ module _ {S : Type 0} (look : S → StoreView) (device : S → DeviceState) (see
         counts = counts;
       }
 
-      abbrev pub made-by : (s : S) → IsStoppedAt look device (counts_by place.counts) told row p s → Pick → ℕ
+      abbrev pub made-by : (s : S) → IsStoppedAt look device (counts_by place.counts) calls told row p s → Pick → ℕ
       made-by s e c = let some = e.some c in some.made
 
-      pub stopped-here : (last : Moment) (s : S) (e : IsStoppedAt look device (counts_by place.counts) told row p s)
+      pub stopped-here : (last : Moment) (s : S) (e : IsStoppedAt look device (counts_by place.counts) calls told row p s) → HasCounts look q (counts_by place.counts) (Down s)
           → last.state.course.world ≡ stopped q (made-by s e) row m.state.course.world → last.devices ≡ devices-with (Down s) → IsAlone look device seen x w m stand last q (counts_by place.counts) (Down s)
-      stopped-here last s e world ds = record {
+      stopped-here last s e counts world ds = record {
         memory = λ r o. ap (λ (u : World). u.memory r) world ∙ ap (λ (b : Bool). if b then None else m.state.course.world.memory r) o;
         found = λ r o. ap (λ (u : World). u.found r) world ∙ fun_ext (λ c. ap (λ (b : Bool). if b then made_all (take (made-by s e c) row.changes) (m.state.course.world.found q c) else m.state.course.world.found r c) o);
         devices = λ r o. ap (λ (f : Devices). f r) ds ∙ devices-there (Down s) r o;
@@ -105,5 +107,5 @@ module _ {S : Type 0} (look : S → StoreView) (device : S → DeviceState) (see
               ∙ ap (made_all (take (made-by s e c) row.changes)) (ap (λ (f : Pick → StableState). f c) here.1 ∙ here.3 c) ∙ sym (let some = e.some c in some.is_after)),
           ap (λ (f : Devices). f q) ds ∙ devices-here (Down s),
         );
-        counts = tt;
+        counts = counts;
       }

@@ -13,13 +13,13 @@ in-order faults own sent more e = ap (λ (ts : List Text). ts ++ sent) (append-n
 
 module _ {S : Type 0} (look : S → StoreView) (device : S → DeviceState) (seen : (s : S) → look s ≡ pairs_view (device s)) (x : Setup) (w : Standing S) (m : Moment) (stand : Stands look device x w m)
     (q : ServerNo) (place : Place S) (at : slice_get w.places q.0 ≡ Some place) (p : Parts S) (is : place.slot ≡ Up p) (reads : ReadsPages look device (counts_by place.counts) place.slot)
-    (row : RowOutcome Memory) (k : Option ℕ) (event : Event) (step : Option (Pick → ℕ) → Step) (sent : List Posted) where
+    (row : RowOutcome Memory) (k : Option ℕ) (calls : ℕ) (event : Event) (step : Option (Pick → ℕ) → Step) (sent : List Posted) where
   abbrev v : World
   v = m.state.course.world
 
   -- the event is done by these steps of the system, which do the row or stop it, and leave these messages of those before
   pub record IsRowStep : Type 0 where
-    pub acts : (told : List Outside) (stop : Option (Pick → ℕ)) → acted x (chance look device seen x w m stand q place at p is reads told stop) event v ≡ served q (step stop ∷ [])
+    pub acts : (told : List Outside) (stop : Option (Pick → ℕ)) → acted x (chance look device seen x w m stand q place at p is reads told stop) event v ≡ served q calls (step stop ∷ [])
     pub does : (stop : Option (Pick → ℕ)) → after (step stop) v ≡ ends q k stop row v
     pub may : (stop : Option (Pick → ℕ)) → IsStep (step stop) v
     pub delivers : (stop : Option (Pick → ℕ)) → delivered_by (step stop) w.net.sent ≡ sent
@@ -36,11 +36,11 @@ module _ {S : Type 0} (look : S → StoreView) (device : S → DeviceState) (see
     length-is : length v.sent ≡ length w.net.sent
     length-is = let net = stand.net in carried-length w.net.sent m.state.course net.sent
 
-    done-step : (told : List Outside) (p' : Parts S) → IsDoneAt look device told row p p' → HasCounts look (counts_by place.counts) (Up p') → Leaves look v q (step None ∷ []) (Up p') (Up p)
+    done-step : (told : List Outside) (p' : Parts S) → IsDoneAt look device calls told row p p' → HasCounts look q (counts_by place.counts) (Up p') → Leaves look v q (step None ∷ []) (Up p') (Up p)
         → IsStepTo look device x m (more ++ drop 1 m.state.tasks) (answered (Up p') of-row) lines
         (lines ++ lines_at (when_of m.state) (texts_of_step q told true) ++ lines_at (when_of m.state) (texts_sent q k w.trace (length w.net.sent) of-row))
-    done-step told p' e counts leaves = step-made look device x w m stand event more next h (λ s. refl) (served q (step None ∷ [])) (acts.acts told None) refl
-        (devices-with look device seen x w m stand q place at (Up p')) (acts.may None, tt) (called look device seen x w m stand q place at p is reads told None true (Up p') refl e.spent)
+    done-step told p' e counts leaves = step-made look device x w m stand event more next h (λ s. refl) (served q calls (step None ∷ [])) (acts.acts told None) refl
+        (devices-with look device seen x w m stand q place at (Up p')) (acts.may None, tt) (called look device seen x w m stand q place at p is reads calls told None true (Up p') refl e.spent)
         (left-alone look device seen x w m stand (step None ∷ []) last refl q place at (Up p') alone (acts.quiet None) (leaves-from look v q (step None ∷ []) place.slot (Up p) (Up p') is leaves))
         (answered (Up p') of-row) parts lines _ told-are
       where
@@ -48,10 +48,10 @@ module _ {S : Type 0} (look : S → StoreView) (device : S → DeviceState) (see
         h = chance look device seen x w m stand q place at p is reads told None
 
         last : Moment
-        last = last-of look device x w m stand h (served q (step None ∷ [])) more (devices-with look device seen x w m stand q place at (Up p'))
+        last = last-of look device x w m stand h (served q calls (step None ∷ [])) more (devices-with look device seen x w m stand q place at (Up p'))
 
         alone : IsAlone look device seen x w m stand last q (counts_by place.counts) (Up p')
-        alone = done-here look device seen x w m stand q place at p is reads row k told last p' e counts (acts.does None) refl
+        alone = done-here look device seen x w m stand q place at p is reads row k calls told last p' e counts (acts.does None) refl
 
         parts : PartsStand look device x (answered (Up p') of-row) last
         parts = record {
@@ -67,32 +67,32 @@ module _ {S : Type 0} (look : S → StoreView) (device : S → DeviceState) (see
         }
 
         told-are : lines ++ lines_at (when_of m.state) (texts_of_step q told true) ++ lines_at (when_of m.state) (texts_sent q k w.trace (length w.net.sent) of-row)
-            ≡ lines ++ lines_at (when_of m.state) (texts_of x h (served q (step None ∷ [])) v (after (step None) v))
+            ≡ lines ++ lines_at (when_of m.state) (texts_of x h (served q calls (step None ∷ [])) v (after (step None) v))
         told-are = lines-in-two (when_of m.state) lines (texts_of_step q told true) (texts_sent q k w.trace (length w.net.sent) of-row)
             ∙ ap (λ (ts : List Text). lines ++ lines_at (when_of m.state) ts) (sym (
-            texts-are x h (served q (step None ∷ [])) v (after (step None) v) (lines_of q k row.notes) row.messages (ap (λ (u : World). u.lines) (acts.does None)) (ap (λ (u : World). u.sent) (acts.does None))
-            ∙ in-order (outside_texts (Calls q) told) (lines_of q k row.notes) (traced x.trace (message_texts (Server q) (length v.sent) row.messages)) (traced w.trace (message_texts (Server q) (length w.net.sent) row.messages))
+            texts-are x h (served q calls (step None ∷ [])) v (after (step None) v) (lines_of q k row.notes) row.messages (ap (λ (u : World). u.lines) (acts.does None)) (ap (λ (u : World). u.sent) (acts.does None))
+            ∙ in-order (outside_texts (Calls q calls) told) (lines_of q k row.notes) (traced x.trace (message_texts (Server q) (length v.sent) row.messages)) (traced w.trace (message_texts (Server q) (length w.net.sent) row.messages))
             (ap (λ (b : Bool). traced b (message_texts (Server q) (length v.sent) row.messages)) (sym stand.trace) ∙ ap (λ (n : ℕ). traced w.trace (message_texts (Server q) n row.messages)) length-is)))
 
-    stopped-step : (told : List Outside) (s : S) → IsStoppedAt look device (counts_by place.counts) told row p s
+    stopped-step : (told : List Outside) (s : S) → IsStoppedAt look device (counts_by place.counts) calls told row p s → HasCounts look q (counts_by place.counts) (Down s)
         → IsStepTo look device x m (more ++ drop 1 m.state.tasks) (answered (Down s) None) lines
         (lines ++ lines_at (when_of m.state) (texts_of_step q told false) ++ lines_at (when_of m.state) (texts_sent q k w.trace (length w.net.sent) None))
-    stopped-step told s e = step-made look device x w m stand event more next h (λ r. refl) (served q (step stop ∷ [])) (acts.acts told stop) refl
-        (devices-with look device seen x w m stand q place at (Down s)) (acts.may stop, tt) (called look device seen x w m stand q place at p is reads told stop false (Down s) refl e.spent)
+    stopped-step told s e counts = step-made look device x w m stand event more next h (λ r. refl) (served q calls (step stop ∷ [])) (acts.acts told stop) refl
+        (devices-with look device seen x w m stand q place at (Down s)) (acts.may stop, tt) (called look device seen x w m stand q place at p is reads calls told stop false (Down s) refl e.spent)
         (left-alone look device seen x w m stand (step stop ∷ []) last refl q place at (Down s) alone (acts.quiet stop) tt)
         (answered (Down s) None) parts lines _ told-are
       where
         stop : Option (Pick → ℕ)
-        stop = Some (made-by look device seen x w m stand q place at p is reads row k told s e)
+        stop = Some (made-by look device seen x w m stand q place at p is reads row k calls told s e)
 
         h : Chance
         h = chance look device seen x w m stand q place at p is reads told stop
 
         last : Moment
-        last = last-of look device x w m stand h (served q (step stop ∷ [])) more (devices-with look device seen x w m stand q place at (Down s))
+        last = last-of look device x w m stand h (served q calls (step stop ∷ [])) more (devices-with look device seen x w m stand q place at (Down s))
 
         alone : IsAlone look device seen x w m stand last q (counts_by place.counts) (Down s)
-        alone = stopped-here look device seen x w m stand q place at p is reads row k told last s e (acts.does stop) refl
+        alone = stopped-here look device seen x w m stand q place at p is reads row k calls told last s e counts (acts.does stop) refl
 
         parts : PartsStand look device x (answered (Down s) None) last
         parts = record {
@@ -108,15 +108,15 @@ module _ {S : Type 0} (look : S → StoreView) (device : S → DeviceState) (see
         }
 
         told-are : lines ++ lines_at (when_of m.state) (texts_of_step q told false) ++ lines_at (when_of m.state) []
-            ≡ lines ++ lines_at (when_of m.state) (texts_of x h (served q (step stop ∷ [])) v (after (step stop) v))
+            ≡ lines ++ lines_at (when_of m.state) (texts_of x h (served q calls (step stop ∷ [])) v (after (step stop) v))
         told-are = lines-in-two (when_of m.state) lines (texts_of_step q told false) []
             ∙ ap (λ (ts : List Text). lines ++ lines_at (when_of m.state) ts) (sym (
-            texts-are x h (served q (step stop ∷ [])) v (after (step stop) v) (says.Stopped q ∷ []) [] (ap (λ (u : World). u.lines) (acts.does stop)) (ap (λ (u : World). u.sent) (acts.does stop) ∙ sym (append-nil v.sent))
-            ∙ ap (λ (ts : List Text). outside_texts (Calls q) told ++ says.Stopped q ∷ [] ++ [] ++ ts) (none-traced x.trace)
-            ∙ ap (λ (ts : List Text). ts ++ []) (append-nil (outside_texts (Calls q) told ++ says.Stopped q ∷ []))))
+            texts-are x h (served q calls (step stop ∷ [])) v (after (step stop) v) (says.Stopped q ∷ []) [] (ap (λ (u : World). u.lines) (acts.does stop)) (ap (λ (u : World). u.sent) (acts.does stop) ∙ sym (append-nil v.sent))
+            ∙ ap (λ (ts : List Text). outside_texts (Calls q calls) told ++ says.Stopped q ∷ [] ++ [] ++ ts) (none-traced x.trace)
+            ∙ ap (λ (ts : List Text). ts ++ []) (append-nil (outside_texts (Calls q calls) told ++ says.Stopped q ∷ []))))
 
     -- done or stopped
-    pub row-step : (answer : Option Collected) (slot : Slot S) (told : List Line) → IsStepOf look device q (counts_by place.counts) (when_of m.state) row (Up p) (is_some answer) slot [] told → Sends row answer → HasCounts look (counts_by place.counts) slot
+    pub row-step : (answer : Option Collected) (slot : Slot S) (told : List Line) → IsStepOf look device q (counts_by place.counts) calls (when_of m.state) row (Up p) (is_some answer) slot [] told → Sends row answer → HasCounts look q (counts_by place.counts) slot
         → Leaves look v q (step None ∷ []) slot (Up p)
         → IsStepTo look device x m (more ++ drop 1 m.state.tasks) (answered slot answer) lines (lines ++ told ++ lines_at (when_of m.state) (texts_sent q k w.trace (length w.net.sent) answer))
     row-step (Some out) (Up p') told s sends counts leaves = subst (λ (ls : List Line). IsStepTo look device x m (more ++ drop 1 m.state.tasks) (answered (Up p') (Some out)) lines (lines ++ ls ++ lines_at (when_of m.state) (texts_sent q k w.trace (length w.net.sent) (Some out)))) (sym s.lines_are)
@@ -125,5 +125,5 @@ module _ {S : Type 0} (look : S → StoreView) (device : S → DeviceState) (see
     row-step (Some out) (Down s') told s sends counts leaves = absurd s.ends
     row-step (Some out) Gone told s sends counts leaves = absurd s.ends
     row-step None (Up p') told s sends counts leaves = absurd s.ends
-    row-step None (Down s') told s sends counts leaves = subst (λ (ls : List Line). IsStepTo look device x m (more ++ drop 1 m.state.tasks) (answered (Down s') None) lines (lines ++ ls ++ lines_at (when_of m.state) [])) (sym s.lines_are) (stopped-step s.told s' s.ends)
+    row-step None (Down s') told s sends counts leaves = subst (λ (ls : List Line). IsStepTo look device x m (more ++ drop 1 m.state.tasks) (answered (Down s') None) lines (lines ++ ls ++ lines_at (when_of m.state) [])) (sym s.lines_are) (stopped-step s.told s' s.ends counts)
     row-step None Gone told s sends counts leaves = absurd s.ends

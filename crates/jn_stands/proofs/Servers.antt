@@ -1,5 +1,5 @@
 -- Where the code's parts stand after a step of the system.
-use Rattle.jn_stands.proofs.Common.{◌≡◌, ◌⊎◌, inl, inr, ◌≢◌, ℕ, suc, ◌+◌, Bool, true, false, ◌<◌, List, ◌++◌, length, slice_get, slice_set, Option, Some, sym, ◌∙◌, ap, subst, arith, is_some, true≢false, ◌||◌, length-set, ServerNo, ClientNo, server_eq, server_tells, DeviceState, found_on, Posted, Place, Slot, Up, Down, Gone, World, Memory, commits_in, has_line, Step, after, Counts, counts_by, Text, sent_of, are_new, delivered_by, carries-step, ClientTable, StableState, Pick, stable, go, view_with, standing_pages, state, pairs_view, StoreView, Setup, CountsAll, Moment, Standing, StandsAt, PlaceStands, Stands, HasCounts}
+use Rattle.jn_stands.proofs.Common.{◌≡◌, ◌⊎◌, inl, inr, ◌≢◌, ℕ, suc, ◌+◌, Bool, true, false, ◌<◌, List, ◌++◌, length, slice_get, slice_set, Option, Some, sym, ◌∙◌, ap, subst, arith, is_some, true≢false, ◌||◌, length-set, ServerNo, ClientNo, server_eq, server_tells, DeviceState, found_on, Posted, Place, Slot, Up, Down, Gone, World, Memory, commits_in, has_line, Step, after, Counts, counts_by, Text, sent_of, are_new, delivered_by, carries-step, ClientTable, StableState, Pick, stable, go, view_with, standing_pages, state, pairs_view, StoreView, Setup, CountsAll, Moment, Standing, StandsAt, PlaceStands, Stands, HasCounts, IsRecoverable}
 use Rattle.jn_stands.proofs.Placed.{each-set}
 use Rattle.jn_stands.proofs.Lines.{line-append, count-append}
 use Rattle.jn_stands.proofs.Core.{ServersStand, ClientsStand, NetStands}
@@ -19,7 +19,7 @@ module _ {S : Type 0} (look : S → StoreView) (device : S → DeviceState) (see
     pub found : (s : ServerNo) → server_eq q s ≡ false → last.state.course.world.found s ≡ m.state.course.world.found s
     pub devices : (s : ServerNo) → server_eq q s ≡ false → last.devices s ≡ m.devices s
     pub here : StandsAt look device g slot (last.state.course.world.memory q) (last.state.course.world.found q) (last.devices q)
-    pub counts : HasCounts look g slot
+    pub counts : HasCounts look q g slot
 
   moved : (last : Moment) (n : ℕ) (p : Place S) → last.state.course.world.memory (record { 0 = n }) ≡ m.state.course.world.memory (record { 0 = n })
       → last.state.course.world.found (record { 0 = n }) ≡ m.state.course.world.found (record { 0 = n }) → last.devices (record { 0 = n }) ≡ m.devices (record { 0 = n })
@@ -41,26 +41,36 @@ module _ {S : Type 0} (look : S → StoreView) (device : S → DeviceState) (see
   counted-moved last q a b c there up = subst (λ (d : DeviceState). CountsAll (x.counts q) (stable (last.state.course.world.found q)) (standing_pages (pairs_view d))) (sym c)
       (subst (λ (f : Pick → StableState). CountsAll (x.counts q) (stable f) (standing_pages (pairs_view (m.devices q)))) (sym b) (stand.counted q there (ap (λ (o : Option Memory). is_some o) (sym a) ∙ up)))
 
+  recoverable-moved : (last : Moment) (q : ServerNo) → last.devices q ≡ m.devices q → q.0 < x.servers → IsRecoverable q (x.counts q) (pairs_view (last.devices q))
+  recoverable-moved last q c there = subst (λ (d : DeviceState). IsRecoverable q (x.counts q) (pairs_view d)) (sym c) (stand.recoverable q there)
+
   pub servers-same : (last : Moment) → AreSame last → ServersStand look device x w.places last
   servers-same last same = record {
     servers = stand.servers;
     places = λ n p e. moved last n p (same.memory (record { 0 = n })) (same.found (record { 0 = n })) (same.devices (record { 0 = n })) (stand.places n p e);
     found = λ q c l. found-moved last q c (same.found q) (same.devices q) (stand.found q c l);
     counted = λ q l up. counted-moved last q (same.memory q) (same.found q) (same.devices q) l up;
+    recoverable = λ q l. recoverable-moved last q (same.devices q) l;
   }
 
-  found-here : (g : Counts) (slot : Slot S) (o : Option Memory) (f : Pick → StableState) (d : DeviceState) → StandsAt look device g slot o f d → HasCounts look g slot → f ≡ found_on g (pairs_view d)
-  found-here g (Up p) o f d h k = h.1 ∙ ap (λ (n : Counts). found_on n (look p.storage.0)) k.0 ∙ ap (found_on g) (seen p.storage.0) ∙ ap (λ (e : DeviceState). found_on g (pairs_view e)) (sym h.2)
-  found-here g (Down s) o f d h k = h.1 ∙ ap (found_on g) (seen s) ∙ ap (λ (e : DeviceState). found_on g (pairs_view e)) (sym h.2)
-  found-here g Gone o f d h k = absurd h
+  found-here : (q : ServerNo) (g : Counts) (slot : Slot S) (o : Option Memory) (f : Pick → StableState) (d : DeviceState) → StandsAt look device g slot o f d → HasCounts look q g slot → f ≡ found_on g (pairs_view d)
+  found-here q g (Up p) o f d h k = h.1 ∙ ap (λ (n : Counts). found_on n (look p.storage.0)) k.0 ∙ ap (found_on g) (seen p.storage.0) ∙ ap (λ (e : DeviceState). found_on g (pairs_view e)) (sym h.2)
+  found-here q g (Down s) o f d h k = h.1 ∙ ap (found_on g) (seen s) ∙ ap (λ (e : DeviceState). found_on g (pairs_view e)) (sym h.2)
+  found-here q g Gone o f d h k = absurd h
 
   -- no record is there that nothing names
-  counted-here : (g : Counts) (slot : Slot S) (o : Option Memory) (f : Pick → StableState) (d : DeviceState) → StandsAt look device g slot o f d → HasCounts look g slot → is_some o ≡ true
+  counted-here : (q : ServerNo) (g : Counts) (slot : Slot S) (o : Option Memory) (f : Pick → StableState) (d : DeviceState) → StandsAt look device g slot o f d → HasCounts look q g slot → is_some o ≡ true
       → CountsAll g (stable f) (standing_pages (pairs_view d))
-  counted-here g (Up p) o f d h k up = subst (λ (found : Pick → StableState). CountsAll g (stable found) (standing_pages (pairs_view d))) (sym h.1)
+  counted-here q g (Up p) o f d h k up = subst (λ (found : Pick → StableState). CountsAll g (stable found) (standing_pages (pairs_view d))) (sym h.1)
       (subst (λ (v : StoreView). CountsAll g (state (view_with look p).storage) (standing_pages v)) (seen p.storage.0 ∙ ap (λ (e : DeviceState). pairs_view e) (sym h.2)) k.2)
-  counted-here g (Down s) o f d h k up = absurd (true≢false (sym up ∙ ap (λ (o : Option Memory). is_some o) h.0))
-  counted-here g Gone o f d h k up = absurd h
+  counted-here q g (Down s) o f d h k up = absurd (true≢false (sym up ∙ ap (λ (o : Option Memory). is_some o) h.0))
+  counted-here q g Gone o f d h k up = absurd h
+
+  -- a recovery may begin there
+  recoverable-here : (q : ServerNo) (g : Counts) (slot : Slot S) (o : Option Memory) (f : Pick → StableState) (d : DeviceState) → StandsAt look device g slot o f d → HasCounts look q g slot → IsRecoverable q g (pairs_view d)
+  recoverable-here q g (Up p) o f d h k = subst (λ (v : StoreView). IsRecoverable q g v) (seen p.storage.0 ∙ ap (λ (e : DeviceState). pairs_view e) (sym h.2)) k.3
+  recoverable-here q g (Down s) o f d h k = subst (λ (v : StoreView). IsRecoverable q g v) (seen s ∙ ap (λ (e : DeviceState). pairs_view e) (sym h.2)) k
+  recoverable-here q g Gone o f d h k = absurd h
 
   other-server : (q : ServerNo) (n : ℕ) → (q.0 ≡ n → ⊥) → server_eq q (record { 0 = n }) ≡ false
   other-server q n d = by (server_tells q (record { 0 = n }))
@@ -77,6 +87,7 @@ module _ {S : Type 0} (look : S → StoreView) (device : S → DeviceState) (see
         (λ n p other e. moved last n p (alone.memory (record { 0 = n }) (other-server q n other)) (alone.found (record { 0 = n }) (other-server q n other)) (alone.devices (record { 0 = n }) (other-server q n other)) (stand.places n p e));
     found = λ s c l. found-at s c l (server_tells q s);
     counted = λ s l up. counted-at s l up (server_tells q s);
+    recoverable = λ s l. recoverable-at s l (server_tells q s);
   }
     where
       counts-are : x.counts q ≡ counts_by p.counts
@@ -85,7 +96,7 @@ module _ {S : Type 0} (look : S → StoreView) (device : S → DeviceState) (see
       found-at : (s : ServerNo) (c : Pick) → s.0 < x.servers → ((server_eq q s ≡ true) × (q ≡ s)) ⊎ ((server_eq q s ≡ false) × (q ≢ s)) → last.state.course.world.found s c ≡ found_on (x.counts s) (pairs_view (last.devices s)) c
       found-at s c l (inr t) = found-moved last s c (alone.found s t.0) (alone.devices s t.0) (stand.found s c l)
       found-at s c l (inl t) = subst (λ (r : ServerNo). last.state.course.world.found r c ≡ found_on (x.counts r) (pairs_view (last.devices r)) c) t.1
-          (ap (λ (f : Pick → StableState). f c) (found-here (counts_by p.counts) slot (last.state.course.world.memory q) (last.state.course.world.found q) (last.devices q) alone.here alone.counts)
+          (ap (λ (f : Pick → StableState). f c) (found-here q (counts_by p.counts) slot (last.state.course.world.memory q) (last.state.course.world.found q) (last.devices q) alone.here alone.counts)
           ∙ ap (λ (g : Counts). found_on g (pairs_view (last.devices q)) c) (sym counts-are))
 
       counted-at : (s : ServerNo) → s.0 < x.servers → is_some (last.state.course.world.memory s) ≡ true → ((server_eq q s ≡ true) × (q ≡ s)) ⊎ ((server_eq q s ≡ false) × (q ≢ s))
@@ -93,7 +104,13 @@ module _ {S : Type 0} (look : S → StoreView) (device : S → DeviceState) (see
       counted-at s l up (inr t) = counted-moved last s (alone.memory s t.0) (alone.found s t.0) (alone.devices s t.0) l up
       counted-at s l up (inl t) = subst (λ (r : ServerNo). is_some (last.state.course.world.memory r) ≡ true → CountsAll (x.counts r) (stable (last.state.course.world.found r)) (standing_pages (pairs_view (last.devices r)))) t.1
           (λ is. subst (λ (g : Counts). CountsAll g (stable (last.state.course.world.found q)) (standing_pages (pairs_view (last.devices q)))) (sym counts-are)
-          (counted-here (counts_by p.counts) slot (last.state.course.world.memory q) (last.state.course.world.found q) (last.devices q) alone.here alone.counts is)) up
+          (counted-here q (counts_by p.counts) slot (last.state.course.world.memory q) (last.state.course.world.found q) (last.devices q) alone.here alone.counts is)) up
+
+      recoverable-at : (s : ServerNo) → s.0 < x.servers → ((server_eq q s ≡ true) × (q ≡ s)) ⊎ ((server_eq q s ≡ false) × (q ≢ s)) → IsRecoverable s (x.counts s) (pairs_view (last.devices s))
+      recoverable-at s l (inr t) = recoverable-moved last s (alone.devices s t.0) l
+      recoverable-at s l (inl t) = subst (λ (r : ServerNo). IsRecoverable r (x.counts r) (pairs_view (last.devices r))) t.1
+          (subst (λ (g : Counts). IsRecoverable q g (pairs_view (last.devices q))) (sym counts-are)
+          (recoverable-here q (counts_by p.counts) slot (last.state.course.world.memory q) (last.state.course.world.found q) (last.devices q) alone.here alone.counts))
 
   -- ---- clients
 

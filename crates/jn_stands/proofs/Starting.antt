@@ -1,5 +1,5 @@
 -- Where a run starts, and what it leaves at its end.
-use Rattle.jn_stands.proofs.Common.{◌≡◌, ◌<◌, ℕ, Bool, true, false, List, Some, None, refl, sym, ◌∙◌, ap, subst, arith, true≢false, Option, nat_lt, if◌then◌else◌, slice_get, is_some, fun_ext, nat_tests, slice_get_within, ServerNo, DeviceState, found_on, AllFiles, Place, Slot, Up, Down, Gone, Memory, new_memory, Counts, Carries, counts_by, Event, pairs_view, StoreView, Within, opening-within, Setup, Devices, AreFound, Moment, closed_world, before, Standing, StandsAt, PlaceStands, Stands, HasCounts}
+use Rattle.jn_stands.proofs.Common.{◌≡◌, ◌<◌, ℕ, Bool, true, false, List, Some, None, refl, sym, ◌∙◌, ap, subst, arith, true≢false, Option, nat_lt, if◌then◌else◌, slice_get, is_some, fun_ext, nat_tests, slice_get_within, ServerNo, DeviceState, found_on, AllFiles, Place, Slot, Up, Down, Gone, Memory, new_memory, Counts, Carries, counts_by, Event, pairs_view, StoreView, Within, opening-within, Setup, Devices, AreFound, Moment, closed_world, before, Standing, StandsAt, PlaceStands, Stands, HasCounts, IsRecoverable, AreRecoverable}
 use Rattle.jn_stands.specs.Starting.{IsFirst, IsStoreOf}
 
 closed-within : (n : ℕ) (files : AllFiles) (epochs : ServerNo → ℕ) → Within n (closed_world n files epochs)
@@ -15,9 +15,9 @@ closed-within n files epochs = let o = opening-within n files epochs in record {
     only false s k e = e
 
 module _ {S : Type 0} (look : S → StoreView) (device : S → DeviceState) (seen : (s : S) → look s ≡ pairs_view (device s)) (x : Setup) (w : Standing S) where
-  pub first-stands : (schedule : List Event) (files : AllFiles) (epochs : ServerNo → ℕ) (images : Devices) → IsFirst device x images w → AreFound x (closed_world x.servers files epochs) images
+  pub first-stands : (schedule : List Event) (files : AllFiles) (epochs : ServerNo → ℕ) (images : Devices) → IsFirst device x images w → AreFound x (closed_world x.servers files epochs) images → AreRecoverable x images
       → Stands look device x w (record { state = before x schedule files epochs; devices = images })
-  first-stands schedule files epochs images first found = record {
+  first-stands schedule files epochs images first found ready = record {
     servers = first.servers;
     trace = first.trace;
     places = places;
@@ -31,6 +31,7 @@ module _ {S : Type 0} (look : S → StoreView) (device : S → DeviceState) (see
     within = closed-within x.servers files epochs;
     found = found;
     counted = λ q l up. absurd (true≢false (sym up ∙ ap (λ (o : Option Memory). is_some o) (down q.0 l)));
+    recoverable = ready;
   }
     where
       down : (n : ℕ) → n < x.servers → (if nat_lt n x.servers then None else Some (new_memory (record { 0 = n }) (epochs (record { 0 = n })))) ≡ None
@@ -43,7 +44,9 @@ module _ {S : Type 0} (look : S → StoreView) (device : S → DeviceState) (see
           → PlaceStands look device x (record { state = before x schedule files epochs; devices = images }) n p
       at n p less counts s slot image = record {
         counts = counts;
-        pages = subst (λ (a : Slot S). HasCounts look (counts_by p.counts) a) (sym slot) tt;
+        pages = subst (λ (a : Slot S). HasCounts look (record { 0 = n }) (counts_by p.counts) a) (sym slot)
+            (subst (λ (v : StoreView). IsRecoverable (record { 0 = n }) (counts_by p.counts) v) (ap (λ (d : DeviceState). pairs_view d) image ∙ sym (seen s))
+            (subst (λ (g : Counts). IsRecoverable (record { 0 = n }) g (pairs_view (images (record { 0 = n })))) counts (ready (record { 0 = n }) less)));
         stands = subst (λ (a : Slot S). StandsAt look device (counts_by p.counts) a ((closed_world x.servers files epochs).memory (record { 0 = n })) ((closed_world x.servers files epochs).found (record { 0 = n })) (images (record { 0 = n }))) (sym slot) (
           down n less,
           fun_ext (λ c. found (record { 0 = n }) c less ∙ ap (λ (g : Counts). found_on g (pairs_view (images (record { 0 = n }))) c) counts

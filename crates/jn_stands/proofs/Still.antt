@@ -23,6 +23,7 @@ module _ {S : Type 0} (look : S → StoreView) (device : S → DeviceState) (x :
     within = stands.within;
     found = stands.found;
     counted = stands.counted;
+    recoverable = stands.recoverable;
   }
 
   -- and these lines are told
@@ -31,7 +32,7 @@ module _ {S : Type 0} (look : S → StoreView) (device : S → DeviceState) (x :
       → commits_in texts ≡ [] → lines' ≡ lines ++ lines_at (when_of m.state) texts → IsStepTo look device x m (more ++ drop 1 m.state.tasks) w lines lines'
   still-step task texts more lines lines' next deed begins none told =
       made-step look device x m (quiet_chance x m.devices) (record nothing { texts = texts; tasks = more }) m.state.course m.devices (more ++ drop 1 m.state.tasks) w lines lines'
-      (record { task = task; next = next; deed_is = deed; begun_is = begins; course = refl; befalls = record { rubbish = λ q. refl; steps = tt; used = λ q. refl; found = stands.found; left = λ q l up. refl; counted = stands.counted } })
+      (record { task = task; next = next; deed_is = deed; begun_is = begins; course = refl; befalls = record { rubbish = λ q. refl; steps = tt; used = λ q. refl; found = stands.found; left = λ q l up. refl; counted = stands.counted; recoverable = stands.recoverable } })
       refl
       (still-stands _ _ m.state.stage (history-same (when_of m.state) m.state.lines (texts_of x (quiet_chance x m.devices) (record nothing { texts = texts; tasks = more }) m.state.course.world m.state.course.world) (ap commits_in same ∙ none)))
       refl
@@ -76,12 +77,13 @@ module _ {S : Type 0} (look : S → StoreView) (device : S → DeviceState) (x :
     within = run-within x.servers (NextEvent ∷ []) m.state.course.world stands.within;
     found = stands.found;
     counted = stands.counted;
+    recoverable = stands.recoverable;
   }
 
   pub begins-step : (event : Event) (lines : List Line) → next_task m.state ≡ Some (Begins event) → IsStepTo look device x m (Meets event ∷ drop 1 m.state.tasks) w lines lines
   begins-step event lines next =
       made-step look device x m (quiet_chance x m.devices) deed (go NextEvent m.state.course) m.devices (Meets event ∷ drop 1 m.state.tasks) w lines lines
-      (record { task = Begins event; next = next; deed_is = refl; begun_is = refl; course = refl; befalls = record { rubbish = λ q. refl; steps = (tt, tt); used = λ q. refl; found = stands.found; left = λ q l up. refl; counted = stands.counted } })
+      (record { task = Begins event; next = next; deed_is = refl; begun_is = refl; course = refl; befalls = record { rubbish = λ q. refl; steps = (tt, tt); used = λ q. refl; found = stands.found; left = λ q l up. refl; counted = stands.counted; recoverable = stands.recoverable } })
       refl
       (event-stands _ _ m.state.stage (history-same (when_of m.state) m.state.lines (texts_of x (quiet_chance x m.devices) deed m.state.course.world (go NextEvent m.state.course).world) (ap commits_in same)))
       refl

@@ -1,17 +1,17 @@
 -- A server that is stopped while it comes up, and one whose epochs are used up.
-use Rattle.jn_stands.proofs.Common.{◌≡◌, ◌⊎◌, inl, inr, ℕ, suc, ◌+◌, Bool, true, false, List, [], ◌∷◌, ◌++◌, append-nil, drop, map, slice_get, slice_set, Option, Some, None, is_some, refl, sym, ◌∙◌, ap, subst, arith, if◌then◌else◌, nat_eq, nat_lt, fun_ext, ServerNo, Outside, server_eq, DeviceState, powered_off, cleared, found_on, changed, with_epoch, Place, Down, IsTried, IsStoppedUp, IsUsedUpAt, texts_of_step, World, Memory, Narrow, StopRestart, after, narrow, stop_restart, counts_by, EpochsUsedUp, Line, Text, Carries, StableState, Pick, go, go_on, pairs_view, StoreView, Setup, Chance, Deed, recovered, given_up, last_epoch, is_used_up, Devices, Alone, IsRecovery, AreFound, Moment, lines_at, cut_short, when_of, Standing, StandsAt, Stands, WasCut, IsStepTo, AreLeft}
+use Rattle.jn_stands.proofs.Common.{◌≡◌, ◌⊎◌, inl, inr, ℕ, suc, ◌+◌, Bool, true, false, List, [], ◌∷◌, ◌++◌, append-nil, drop, map, slice_get, slice_set, Option, Some, None, is_some, refl, sym, ◌∙◌, ap, subst, arith, if◌then◌else◌, nat_eq, nat_lt, fun_ext, ServerNo, Outside, server_eq, DeviceState, powered_off, cleared, found_on, changed, with_epoch, Place, Down, IsTried, IsStoppedUp, IsUsedUpAt, texts_of_step, World, Memory, Narrow, StopRestart, after, narrow, stop_restart, counts_by, EpochsUsedUp, Line, Text, Carries, StableState, Pick, go, go_on, pairs_view, StoreView, Setup, Chance, Deed, recovered, given_up, last_epoch, is_used_up, Devices, Alone, IsRecovery, AreFound, Moment, lines_at, cut_short, when_of, Standing, StandsAt, Stands, WasCut, IsStepTo, AreLeft, Counts, HasCounts}
 use Rattle.jn_report.specs.declared.line.Text.TheVariants as says
 use Rattle.jn_stands.proofs.Made.{made-cuts}
 use Rattle.jn_stands.proofs.Servers.{IsAlone, server-moved}
 use Rattle.jn_stands.proofs.Posted.{lines-in-two}
 use Rattle.jn_stands.proofs.Moving.{same-server, carries-on, Does, led-to, net-quiet, devices-now, device-here, device-there, moved-step}
-use Rattle.jn_stands.proofs.Restarting.{recovery, here, trying}
+use Rattle.jn_stands.proofs.Restarting.{recovery, here, its-counts, trying}
 use Rattle.jn_stands.proofs.Left.{left-alone}
 use Rattle.jn_stands.proofs.Core.{ServersStand}
 
 -- a device that has lost its power is as without
-dark : (told : List Outside) (d e : DeviceState) → IsTried told false d e → e ≡ powered_off e
-dark told d e tried = tried.spent.after ∙ ap (λ (b : Bool). record (cleared tried.spent.last) { power = b }) tried.spent.power_is ∙ sym (ap powered_off tried.spent.after)
+dark : (g : Counts) (told : List Outside) (d e : DeviceState) → IsTried g told false d e → e ≡ powered_off e
+dark g told d e tried = tried.spent.after ∙ ap (λ (b : Bool). record (cleared tried.spent.last) { power = b }) tried.spent.power_is ∙ sym (ap powered_off tried.spent.after)
 
 -- whether the epoch was raised
 abbrev raised-by : {a b c : ℕ} → (c ≡ a) ⊎ (c ≡ b) → ℕ
@@ -35,6 +35,9 @@ module _ {S : Type 0} (look : S → StoreView) (device : S → DeviceState) (see
 
   there : StandsAt look device (counts_by place.counts) (Down s) (world.memory q) (world.found q) (m.devices q)
   there = here look device seen x w m stand q place at s is told
+
+  counts-are : x.counts q ≡ counts_by place.counts
+  counts-are = its-counts look device seen x w m stand q place at s is told
 
   -- the code stands with the store that there is now
   abbrev left-down : Standing S
@@ -83,10 +86,10 @@ module _ {S : Type 0} (look : S → StoreView) (device : S → DeviceState) (see
     stop-carries = carries-on w.net (go (Narrow q finds) m.state.course) (StopRestart q raised) refl (ap (λ (u : World). u.sent) stop-is ∙ sym (ap (λ (u : World). u.sent) (after-narrow finds)))
         (carries-on w.net m.state.course (Narrow q finds) refl (ap (λ (u : World). u.sent) (after-narrow finds)) stand.net)
 
-    pub stopped-step : (deed : Deed) → deed ≡ record (recovered stopped-chance q) { tasks = deed.tasks } → Does x m stopped-chance deed
+    pub stopped-step : (deed : Deed) → deed ≡ record (recovered stopped-chance q) { tasks = deed.tasks } → Does x m stopped-chance deed → HasCounts look q (counts_by place.counts) (Down t)
         → (lines lines' : List Line) → lines' ≡ lines ++ lines_at (when_of m.state) (texts_of_step q told true) ++ lines_at (when_of m.state) (says.Stopped q ∷ [])
         → IsStepTo look device x m (deed.tasks ++ drop 1 m.state.tasks) left-down lines lines'
-    stopped-step deed deed-is does lines lines' lines-are =
+    stopped-step deed deed-is does counts lines lines' lines-are =
         moved-step look device x w m stand seen q place at stopped-chance (λ s. refl) (record (recovered stopped-chance q) { tasks = deed.tasks }) (subst (λ (d : Deed). Does x m stopped-chance d) deed-is does) refl
         (Down t) (device t) (says.Stopped q ∷ []) w.named w.commits
         (record {
@@ -94,15 +97,15 @@ module _ {S : Type 0} (look : S → StoreView) (device : S → DeviceState) (see
           found = λ r o. ap (λ (u : World). u.found r) stop-is ∙ fun_ext (λ c. ap (λ (b : Bool). if b then (if raised c then with_epoch ((narrowed finds).found q c) else (narrowed finds).found q c) else (narrowed finds).found r c) o ∙ narrowed-there finds r c o);
           devices = λ r o. device-there look device x w m stand seen q place at (device t) r o;
           here = (ap (λ (u : World). u.memory q) stop-is ∙ there.0, ap (λ (u : World). u.found q) stop-is ∙ fun_ext stop-found, device-here look device x w m stand seen q place at (device t));
-          counts = tt;
+          counts = counts;
         })
         (ap (λ (u : World). u.clients) stop-is)
         (net-quiet look device x w m stand (go_on (Narrow q finds ∷ StopRestart q raised ∷ []) m.state.course) (says.Stopped q ∷ []) stop-carries (ap (λ (u : World). u.lines) stop-is) refl)
         (ap (λ (u : World). u.lines) stop-is) (ap (λ (u : World). u.sent) stop-is) (tt, (tt, tt))
         (record {
-          its = subst (λ (o : Option Memory). IsRecovery stopped-chance (is_some o) (m.devices q) (devices-now look device x w m stand seen q place at (device t) q)) (sym (ap (λ (u : World). u.memory q) stop-is ∙ there.0))
-              (recovery stopped-chance false told false (m.devices q) (device t) (devices-now look device x w m stand seen q place at (device t) q) refl refl
-              (subst (λ (d : DeviceState). IsTried told false d (device t)) (sym there.2) stopped.tried) (device-here look device x w m stand seen q place at (device t) ∙ dark told (device s) (device t) stopped.tried));
+          its = subst (λ (o : Option Memory). IsRecovery (x.counts q) stopped-chance (is_some o) (m.devices q) (devices-now look device x w m stand seen q place at (device t) q)) (sym (ap (λ (u : World). u.memory q) stop-is ∙ there.0))
+              (recovery (x.counts q) stopped-chance false told false (m.devices q) (device t) (devices-now look device x w m stand seen q place at (device t) q) refl refl
+              (subst (λ (d : DeviceState). IsTried (x.counts q) told false d (device t)) (sym there.2) (subst (λ (g : Counts). IsTried g told false (device s) (device t)) (sym counts-are) stopped.tried)) (device-here look device x w m stand seen q place at (device t) ∙ dark (counts_by place.counts) told (device s) (device t) stopped.tried));
           others = λ r o. device-there look device x w m stand seen q place at (device t) r o;
         })
         (λ r o n. refl) tt
@@ -126,8 +129,8 @@ module _ {S : Type 0} (look : S → StoreView) (device : S → DeviceState) (see
     used-up = ap (λ (f : Pick → StableState). nat_eq (f (reads (λ n. false))).epoch last_epoch) there.1
         ∙ ap (λ (y : StableState). nat_eq y.epoch last_epoch) (let each = used.each (λ n. false) in sym each.1) ∙ ap (λ (n : ℕ). nat_eq n last_epoch) (used.last (λ n. false))
 
-    used-alone : (now : Moment) → now.state.course.world ≡ after (Narrow q reads) world → now.devices ≡ devices-now look device x w m stand seen q place at (device t) → IsAlone look device seen x w m stand now q (counts_by place.counts) (Down t)
-    used-alone now e ds = record {
+    used-alone : HasCounts look q (counts_by place.counts) (Down t) → (now : Moment) → now.state.course.world ≡ after (Narrow q reads) world → now.devices ≡ devices-now look device x w m stand seen q place at (device t) → IsAlone look device seen x w m stand now q (counts_by place.counts) (Down t)
+    used-alone counts now e ds = record {
       memory = λ r o. ap (λ (u : World). u.memory r) (e ∙ after-narrow reads);
       found = λ r o. ap (λ (u : World). u.found r) (e ∙ after-narrow reads) ∙ fun_ext (λ c. narrowed-there reads r c o);
       devices = λ r o. ap (λ (f : Devices). f r) ds ∙ device-there look device x w m stand seen q place at (device t) r o;
@@ -136,24 +139,24 @@ module _ {S : Type 0} (look : S → StoreView) (device : S → DeviceState) (see
         ap (λ (u : World). u.found q) (e ∙ after-narrow reads) ∙ fun_ext used-found,
         ap (λ (f : Devices). f q) ds ∙ device-here look device x w m stand seen q place at (device t),
       );
-      counts = tt;
+      counts = counts;
     }
 
-    used-device : Alone q (IsRecovery used-chance (is_some ((after (Narrow q reads) world).memory q))) m.devices (devices-now look device x w m stand seen q place at (device t))
+    used-device : Alone q (IsRecovery (x.counts q) used-chance (is_some ((after (Narrow q reads) world).memory q))) m.devices (devices-now look device x w m stand seen q place at (device t))
     used-device = record {
-      its = subst (λ (o : Option Memory). IsRecovery used-chance (is_some o) (m.devices q) (devices-now look device x w m stand seen q place at (device t) q)) (sym (ap (λ (u : World). u.memory q) (after-narrow reads) ∙ there.0))
-          (recovery used-chance false told true (m.devices q) used.called (devices-now look device x w m stand seen q place at (device t) q) refl refl
-          (subst (λ (d : DeviceState). IsTried told true d used.called) (sym there.2) used.tried) (device-here look device x w m stand seen q place at (device t) ∙ used.device_is));
+      its = subst (λ (o : Option Memory). IsRecovery (x.counts q) used-chance (is_some o) (m.devices q) (devices-now look device x w m stand seen q place at (device t) q)) (sym (ap (λ (u : World). u.memory q) (after-narrow reads) ∙ there.0))
+          (recovery (x.counts q) used-chance false told true (m.devices q) used.called (devices-now look device x w m stand seen q place at (device t) q) refl refl
+          (subst (λ (d : DeviceState). IsTried (x.counts q) told true d used.called) (sym there.2) (subst (λ (g : Counts). IsTried g told true (device s) used.called) (sym counts-are) used.tried)) (device-here look device x w m stand seen q place at (device t) ∙ used.device_is));
       others = λ r o. device-there look device x w m stand seen q place at (device t) r o;
     }
 
-    pub used-up-step : (deed : Deed) → deed ≡ record (given_up used-chance q) { texts = says.RefusedEvent EpochsUsedUp ∷ []; tasks = deed.tasks } → Does x m used-chance deed
+    pub used-up-step : (deed : Deed) → deed ≡ record (given_up used-chance q) { texts = says.RefusedEvent EpochsUsedUp ∷ []; tasks = deed.tasks } → Does x m used-chance deed → HasCounts look q (counts_by place.counts) (Down t)
         → (lines lines' : List Line) → lines' ≡ lines ++ lines_at (when_of m.state) (texts_of_step q told true) ++ lines_at (when_of m.state) (says.RefusedEvent EpochsUsedUp ∷ [])
         → IsStepTo look device x m (deed.tasks ++ drop 1 m.state.tasks) left-down lines lines'
-    used-up-step deed deed-is does lines lines' lines-are =
+    used-up-step deed deed-is does counts lines lines' lines-are =
         moved-step look device x w m stand seen q place at used-chance (λ s. refl) (record (given_up used-chance q) { texts = says.RefusedEvent EpochsUsedUp ∷ []; tasks = deed.tasks }) (subst (λ (d : Deed). Does x m used-chance d) deed-is does) refl
         (Down t) (device t) [] w.named w.commits
-        (used-alone (led-to x m used-chance (record (given_up used-chance q) { texts = says.RefusedEvent EpochsUsedUp ∷ []; tasks = deed.tasks }) (devices-now look device x w m stand seen q place at (device t))) refl refl)
+        (used-alone counts (led-to x m used-chance (record (given_up used-chance q) { texts = says.RefusedEvent EpochsUsedUp ∷ []; tasks = deed.tasks }) (devices-now look device x w m stand seen q place at (device t))) refl refl)
         (ap (λ (u : World). u.clients) (after-narrow reads))
         (net-quiet look device x w m stand (go_on (Narrow q reads ∷ []) m.state.course) [] (carries-on w.net m.state.course (Narrow q reads) refl (ap (λ (u : World). u.sent) (after-narrow reads)) stand.net)
         (ap (λ (u : World). u.lines) (after-narrow reads) ∙ sym (append-nil world.lines)) refl)
@@ -162,8 +165,8 @@ module _ {S : Type 0} (look : S → StoreView) (device : S → DeviceState) (see
         lines lines' (lines-are ∙ lines-in-two (when_of m.state) lines (texts_of_step q told true) (says.RefusedEvent EpochsUsedUp ∷ []))
 
     -- at the start or the end the run can't go on
-    pub used-cut : Does x m used-chance (record (given_up used-chance q) { cuts = true }) → (lines : List Line) → WasCut x m lines lines
-    used-cut does lines = record {
+    pub used-cut : Does x m used-chance (record (given_up used-chance q) { cuts = true }) → HasCounts look q (counts_by place.counts) (Down t) → (lines : List Line) → WasCut x m lines lines
+    used-cut does counts lines = record {
       last = record { state = cut_short (record m.state { tasks = drop 1 m.state.tasks }); devices = devices-now look device x w m stand seen q place at (device t) };
       leads = made-cuts x m used-chance (record (given_up used-chance q) { cuts = true }) (record m.state { tasks = drop 1 m.state.tasks }) (go_on (Narrow q reads ∷ []) m.state.course) (devices-now look device x w m stand seen q place at (device t))
           (record {
@@ -172,7 +175,7 @@ module _ {S : Type 0} (look : S → StoreView) (device : S → DeviceState) (see
             deed_is = does.deed_is;
             begun_is = does.begun_is;
             course = refl;
-            befalls = record { rubbish = λ r. refl; steps = (tt, tt); used = used-device; found = found-after; left = left-after; counted = servers-after.counted };
+            befalls = record { rubbish = λ r. refl; steps = (tt, tt); used = used-device; found = found-after; left = left-after; counted = servers-after.counted; recoverable = servers-after.recoverable };
           }) refl;
       stage = refl;
       told = record { new = []; here = sym (append-nil lines); there = sym (append-nil m.state.lines) };
@@ -182,10 +185,10 @@ module _ {S : Type 0} (look : S → StoreView) (device : S → DeviceState) (see
         led = led-to x m used-chance (record (given_up used-chance q) { cuts = true }) (devices-now look device x w m stand seen q place at (device t))
 
         left-after : AreLeft x (Narrow q reads ∷ []) world m.devices (devices-now look device x w m stand seen q place at (device t))
-        left-after = left-alone look device seen x w m stand (Narrow q reads ∷ []) led refl q place at (Down t) (used-alone led refl refl) (λ r o n. refl) tt
+        left-after = left-alone look device seen x w m stand (Narrow q reads ∷ []) led refl q place at (Down t) (used-alone counts led refl refl) (λ r o n. refl) tt
 
         servers-after : ServersStand look device x (slice_set w.places q.0 (record place { slot = Down t })) led
-        servers-after = server-moved look device seen x w m stand led q place (Down t) at (used-alone led refl refl)
+        servers-after = server-moved look device seen x w m stand led q place (Down t) at (used-alone counts led refl refl)
 
         found-after : AreFound x (after (Narrow q reads) world) (devices-now look device x w m stand seen q place at (device t))
         found-after = servers-after.found

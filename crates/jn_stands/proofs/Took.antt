@@ -1,5 +1,5 @@
 -- A server that is up takes a message.
-use Rattle.jn_stands.proofs.Common.{◌≡◌, ℕ, zero, suc, List, [], ◌∷◌, ◌++◌, length, slice_get, slice_set, drop, Option, Some, None, refl, ◌∙◌, ap, Bool, false, sym, ServerNo, Party, Server, Outside, DeviceState, Collected, Posted, with_delivered, Place, Slot, Up, Down, Gone, Took, WhereUp, TakeLeaves, Room, server_row, IsStep, after, ends, at_memory, handed, Deliver, Memory, World, counts_by, Line, sent_of, delivered_by, Sent, StableState, Pick, stable, Parts, view_with, memory_of, room_of, handing, state, pairs_view, StoreView, Setup, served, delivered, delivered_at, Moment, lines_at, Task, when_of, Standing, Stands, texts_sent, with_answer, HasCounts, ReadsPages, ActsNext, IsStepTo, left_by_row, left_by_message, left_by_sent, left_by_step, server_eq, if◌then◌else◌}
+use Rattle.jn_stands.proofs.Common.{◌≡◌, ℕ, zero, suc, List, [], ◌∷◌, ◌++◌, length, slice_get, slice_set, drop, Option, Some, None, refl, ◌∙◌, ap, Bool, false, sym, ServerNo, Party, Server, Outside, DeviceState, Collected, Posted, with_delivered, Place, Slot, Up, Down, Gone, Took, WhereUp, TakeLeaves, Room, server_row, IsStep, after, ends, at_memory, handed, Deliver, Memory, World, counts_by, Line, sent_of, delivered_by, Sent, StableState, Pick, stable, Parts, view_with, memory_of, room_of, handing, state, pairs_view, StoreView, Setup, served, delivered, delivered_at, Moment, lines_at, Task, when_of, Standing, Stands, texts_sent, with_answer, HasCounts, ReadsPages, ActsNext, IsStepTo, left_by_row, left_by_message, left_by_sent, left_by_step, server_eq, if◌then◌else◌, row_calls}
 use Rattle.jn_schedule.specs.declared.Event.TheVariants as events
 use Rattle.jn_stands.proofs.Served.{chance, room-is, here, same-server}
 use Rattle.jn_stands.proofs.ServedSteps.{IsRowStep, row-step}
@@ -22,7 +22,7 @@ module _ {S : Type 0} (look : S → StoreView) (device : S → DeviceState) (see
   module _ (q : ServerNo) (to : one.to ≡ Server q) (place : Place S) (at : slice_get w.places q.0 ≡ Some place) (reads : ReadsPages look device (counts_by place.counts) place.slot) where
     up-step : (p : Parts S) (is : place.slot ≡ Up p)
         → IsRowStep look device seen x w m stand q place at p is reads (server_row (memory_of (view_with look p)) (state (view_with look p).storage) (room_of (view_with look p).storage) one.message)
-        (Some k) (events.Deliver k) (handing k (room_of (view_with look p).storage)) (with_delivered k w.net.sent)
+        (Some k) row_calls (events.Deliver k) (handing k (room_of (view_with look p).storage)) (with_delivered k w.net.sent)
     up-step p is = record { acts = acts; does = does; may = may; delivers = delivers; quiet = quiet }
       where
         its : Room
@@ -31,10 +31,10 @@ module _ {S : Type 0} (look : S → StoreView) (device : S → DeviceState) (see
         mem : Memory
         mem = memory_of (view_with look p)
 
-        acts : (told : List Outside) (stop : Option (Pick → ℕ)) → delivered (chance look device seen x w m stand q place at p is reads told stop) k m.state.course.world (slice_get m.state.course.world.sent k) ≡ served q (handing k its stop ∷ [])
+        acts : (told : List Outside) (stop : Option (Pick → ℕ)) → delivered (chance look device seen x w m stand q place at p is reads told stop) k m.state.course.world (slice_get m.state.course.world.sent k) ≡ served q row_calls (handing k its stop ∷ [])
         acts told stop = ap (delivered (chance look device seen x w m stand q place at p is reads told stop) k m.state.course.world) (is-sent (Server q) to)
             ∙ ap (delivered_at (chance look device seen x w m stand q place at p is reads told stop) k q) (let stands = here look device seen x w m stand q place at p is reads in stands.0)
-            ∙ ap (λ (r : Room). served q (handing k r stop ∷ [])) (room-is look device seen x w m stand q place at p is reads told stop)
+            ∙ ap (λ (r : Room). served q row_calls (handing k r stop ∷ [])) (room-is look device seen x w m stand q place at p is reads told stop)
 
         does-by : (stop : Option (Pick → ℕ)) → handed k its stop (slice_get m.state.course.world.sent k) m.state.course.world ≡ ends q (Some k) stop (server_row mem (state (view_with look p).storage) its one.message) m.state.course.world
         does-by stop = ap (λ (o : Option Sent). handed k its stop o m.state.course.world) (is-sent (Server q) to)
@@ -74,7 +74,7 @@ module _ {S : Type 0} (look : S → StoreView) (device : S → DeviceState) (see
 
     -- It is done, or the server is stopped.
     pub took-step : (more : List Task) → ActsNext x m (events.Deliver k) more → (answer : Option Collected) (slot : Slot S) (told : List Line) → Took look device q (counts_by place.counts) (when_of m.state) one.message place.slot answer slot [] told
-        → HasCounts look (counts_by place.counts) slot → WhereUp look (TakeLeaves one.message) place.slot slot → (lines : List Line)
+        → HasCounts look q (counts_by place.counts) slot → WhereUp look (TakeLeaves one.message) place.slot slot → (lines : List Line)
         → IsStepTo look device x m (more ++ drop 1 m.state.tasks)
         (with_answer q (Some k) answer (record w { places = slice_set w.places q.0 (record place { slot = slot }); net = record w.net { sent = with_delivered k w.net.sent } }))
         lines (lines ++ told ++ lines_at (when_of m.state) (texts_sent q (Some k) w.trace (length w.net.sent) answer))
@@ -85,7 +85,7 @@ module _ {S : Type 0} (look : S → StoreView) (device : S → DeviceState) (see
             (with_answer q (Some k) answer (record w { places = slice_set w.places q.0 (record place { slot = slot }); net = record w.net { sent = with_delivered k w.net.sent } }))
             lines (lines ++ told ++ lines_at (when_of m.state) (texts_sent q (Some k) w.trace (length w.net.sent) answer))
         by (Up p) is t l = row-step look device seen x w m stand q place at p is reads (server_row (memory_of (view_with look p)) (state (view_with look p).storage) (room_of (view_with look p).storage) one.message)
-            (Some k) (events.Deliver k) (handing k (room_of (view_with look p).storage)) (with_delivered k w.net.sent) (up-step p is) more next lines answer slot told t.0 t.1 counts
+            (Some k) row_calls (events.Deliver k) (handing k (room_of (view_with look p).storage)) (with_delivered k w.net.sent) (up-step p is) more next lines answer slot told t.0 t.1 counts
             (leaves-by look m.state.course.world q (Deliver k (room_of (view_with look p).storage) ∷ []) (TakeLeaves one.message) p (λ b h. h ∙ sym (takes-leave p is (counted look p))) slot l)
         by (Down s) is t l = absurd t
         by Gone is t l = absurd t

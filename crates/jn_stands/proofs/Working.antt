@@ -1,5 +1,5 @@
 -- Background steps of servers that are up.
-use Rattle.jn_stands.proofs.Common.{◌≡◌, ℕ, Bool, true, false, List, [], ◌∷◌, ◌++◌, length, slice_get, slice_set, drop, Option, Some, None, is_some, refl, sym, ◌∙◌, ap, subst, ◌+◌, ◌-◌, arith, ◌||◌, if◌then◌else◌, ServerNo, Outside, DeviceState, Collected, Place, Slot, Up, Down, Gone, has_work_at, work_of, WorkedBy, WhereUp, WorkLeaves, Room, server_step, storage_of, of_step, of_worker, IsStep, after, ends, work, works, World, Memory, counts_by, Line, delivered_by, RowOutcome, quiet_row, StableState, Change, Pick, stable, Parts, view_with, memory_of, room_of, ServerView, working, has_going, state, pairs_view, StoreView, Setup, served, nothing, is_busy, is_busy_with, working_steps, worked, rubbish_on, Moment, lines_at, Task, when_of, Standing, StandsAt, Stands, texts_sent, with_answer, HasCounts, ReadsPages, ActsNext, IsStepTo, left_by_changes, left_by_work, left_at_work, left_by_step, WorkEntry, going_work, going_row, carried_row, intentions_of, server_eq}
+use Rattle.jn_stands.proofs.Common.{◌≡◌, ℕ, Bool, true, false, List, [], ◌∷◌, ◌++◌, length, slice_get, slice_set, drop, Option, Some, None, is_some, refl, sym, ◌∙◌, ap, subst, ◌+◌, ◌-◌, arith, ◌||◌, if◌then◌else◌, ServerNo, Outside, DeviceState, Collected, Place, Slot, Up, Down, Gone, has_work_at, work_of, WorkedBy, WhereUp, WorkLeaves, Room, server_step, storage_of, of_step, of_worker, IsStep, after, ends, work, works, World, Memory, counts_by, Line, delivered_by, RowOutcome, quiet_row, StableState, Change, Pick, stable, Parts, view_with, memory_of, room_of, ServerView, working, has_going, state, pairs_view, StoreView, Setup, served, nothing, is_busy, is_busy_with, working_steps, worked, rubbish_on, Moment, lines_at, Task, when_of, Standing, StandsAt, Stands, texts_sent, with_answer, HasCounts, ReadsPages, ActsNext, IsStepTo, left_by_changes, left_by_work, left_at_work, left_by_step, WorkEntry, going_work, going_row, carried_row, intentions_of, server_eq, step_calls, StepLeaves}
 use Rattle.jn_system.specs.WholeSystem.Steps.{Work}
 use Rattle.jn_rests.proofs.BusyServers.{goes, erases, nothing as none-to-do}
 use Rattle.jn_schedule.specs.declared.Event.TheVariants as events
@@ -9,7 +9,6 @@ use Rattle.jn_stands.proofs.Plain.{no-chance, nothing-step}
 use Rattle.jn_stands.proofs.Losing.{down-is}
 use Rattle.jn_stands.proofs.Left.{AreQuiet, Leaves, counted, leaves-by}
 use Rattle.jn_records.specs.declared.intention.Intention.{Intention}
-use Rattle.jn_server.specs.Handling.{StepLeaves}
 use Rattle.jn_worker.specs.Leaving.{left_over}
 
 -- a server has a background step exactly where a work of its goes or a rubbish record is left
@@ -78,21 +77,21 @@ module _ {S : Type 0} (look : S → StoreView) (device : S → DeviceState) (see
   -- a server that is up with nothing to do does nothing
   pub idle-step : (more : List Task) → ActsNext x m (events.Step q) more → has_work_at look place.slot ≡ false → (lines : List Line) → IsStepTo look device x m (more ++ drop 1 m.state.tasks) w lines lines
   idle-step more next e lines = nothing-step look device seen x w m stand next.task more next.next next.begun_is
-      (next.deed (no-chance look device seen x w m stand) (λ r. refl) ∙ ap (λ (b : Bool). record (if b then served q (working_steps (no-chance look device seen x w m stand) q) else nothing) { tasks = more }) (idle-here e)) lines
+      (next.deed (no-chance look device seen x w m stand) (λ r. refl) ∙ ap (λ (b : Bool). record (if b then served q step_calls (working_steps (no-chance look device seen x w m stand) q) else nothing) { tasks = more }) (idle-here e)) lines
 
   module _ (p : Parts S) (is : place.slot ≡ Up p) (row : RowOutcome Memory) (row-is : work_of (view_with look p) ≡ Some row) where
     has-work : has_work_at look place.slot ≡ true
     has-work = ap (has_work_at look) is ∙ ap (λ (o : Option (RowOutcome Memory)). is_some o) row-is
 
-    work-step : IsRowStep look device seen x w m stand q place at p is reads row None (events.Step q) (working q (room_of (view_with look p).storage)) w.net.sent
+    work-step : IsRowStep look device seen x w m stand q place at p is reads row None step_calls (events.Step q) (working q (room_of (view_with look p).storage)) w.net.sent
     work-step = record { acts = acts; does = does; may = may; delivers = delivers; quiet = quiet }
       where
         its : Room
         its = room_of (view_with look p).storage
 
-        acts : (told : List Outside) (stop : Option (Pick → ℕ)) → worked (chance look device seen x w m stand q place at p is reads told stop) q v ≡ served q (working q its stop ∷ [])
-        acts told stop = ap (λ (b : Bool). if b then served q (working_steps (chance look device seen x w m stand q place at p is reads told stop) q) else nothing) (busy-here ∙ has-work)
-            ∙ ap (λ (r : Room). served q (working q r stop ∷ [])) (room-is look device seen x w m stand q place at p is reads told stop)
+        acts : (told : List Outside) (stop : Option (Pick → ℕ)) → worked (chance look device seen x w m stand q place at p is reads told stop) q v ≡ served q step_calls (working q its stop ∷ [])
+        acts told stop = ap (λ (b : Bool). if b then served q step_calls (working_steps (chance look device seen x w m stand q place at p is reads told stop) q) else nothing) (busy-here ∙ has-work)
+            ∙ ap (λ (r : Room). served q step_calls (working q r stop ∷ [])) (room-is look device seen x w m stand q place at p is reads told stop)
 
         does-by : (stop : Option (Pick → ℕ)) → work q its stop (v.memory q) v ≡ ends q None stop row v
         does-by stop = ap (λ (o : Option Memory). work q its stop o v) (let stands = here look device seen x w m stand q place at p is reads in stands.0)
@@ -144,7 +143,7 @@ module _ {S : Type 0} (look : S → StoreView) (device : S → DeviceState) (see
 
   -- It makes its next background step, or is stopped in it.
   pub worked-step : (more : List Task) → ActsNext x m (events.Step q) more → (answer : Option Collected) (slot : Slot S) (told : List Line) → WorkedBy look device q (counts_by place.counts) (when_of m.state) place.slot answer slot [] told
-      → HasCounts look (counts_by place.counts) slot → WhereUp look WorkLeaves place.slot slot → (lines : List Line)
+      → HasCounts look q (counts_by place.counts) slot → WhereUp look WorkLeaves place.slot slot → (lines : List Line)
       → IsStepTo look device x m (more ++ drop 1 m.state.tasks) (with_answer q None answer (record w { places = slice_set w.places q.0 (record place { slot = slot }) }))
       lines (lines ++ told ++ lines_at (when_of m.state) (texts_sent q None w.trace (length w.net.sent) answer))
   worked-step more next answer slot told worked-by counts leaves lines = by place.slot refl worked-by leaves
@@ -152,6 +151,6 @@ module _ {S : Type 0} (look : S → StoreView) (device : S → DeviceState) (see
       by : (before : Slot S) → place.slot ≡ before → WorkedBy look device q (counts_by place.counts) (when_of m.state) before answer slot [] told → WhereUp look WorkLeaves before slot
           → IsStepTo look device x m (more ++ drop 1 m.state.tasks) (with_answer q None answer (record w { places = slice_set w.places q.0 (record place { slot = slot }) }))
           lines (lines ++ told ++ lines_at (when_of m.state) (texts_sent q None w.trace (length w.net.sent) answer))
-      by (Up p) is b l = row-step look device seen x w m stand q place at p is reads b.row None (events.Step q) (working q (room_of (view_with look p).storage)) w.net.sent (work-step p is b.row b.row_is) more next lines answer slot told b.step b.sends counts (work-leaves p is b.row b.row_is slot l)
+      by (Up p) is b l = row-step look device seen x w m stand q place at p is reads b.row None step_calls (events.Step q) (working q (room_of (view_with look p).storage)) w.net.sent (work-step p is b.row b.row_is) more next lines answer slot told b.step b.sends counts (work-leaves p is b.row b.row_is slot l)
       by (Down s) is b l = absurd b
       by Gone is b l = absurd b

@@ -16,14 +16,14 @@ use Rattle.jn_stands.specs.Stands.{Standing, Stands}
 use Rattle.jn_stands.specs.Going.{IsTold, WasCut}
 
 -- no fault waits at a server any more
-pub record IsDisarmed {S : Type 0} (look : S → StoreView) (device : S → DeviceState) (p p' : Place S) : Type 0 where
+pub record IsDisarmed {S : Type 0} (look : S → StoreView) (device : S → DeviceState) (n : ℕ) (p p' : Place S) : Type 0 where
   pub counts : p'.counts ≡ p.counts
   pub befell : Befell look device (counts_by p.counts) (λ d e. e ≡ disarmed d) p.slot p'.slot
-  pub pages : HasCounts look (counts_by p.counts) p'.slot
+  pub pages : HasCounts look (record { 0 = n }) (counts_by p.counts) p'.slot
 
 pub record AreDisarmed {S : Type 0} (look : S → StoreView) (device : S → DeviceState) (places places' : List (Place S)) : Type 0 where
   pub as_many : length places' ≡ length places
-  pub each : (n : ℕ) (p p' : Place S) → slice_get places n ≡ Some p → slice_get places' n ≡ Some p' → IsDisarmed look device p p'
+  pub each : (n : ℕ) (p p' : Place S) → slice_get places n ≡ Some p → slice_get places' n ≡ Some p' → IsDisarmed look device n p p'
 
 -- no message waits any more, and no client has a transaction
 abbrev pub dismissed : {S : Type 0} → List (Place S) → Standing S → Standing S

@@ -1,10 +1,12 @@
 -- What a server that is up reads of its pages.
 use Rattle.std.specs.Prelude.{◌≡◌, false, ⊤, length}
+use Rattle.jn_base.specs.declared.names.ServerNo.{ServerNo}
 use Rattle.jn_device.specs.Device.{DeviceState}
 use Rattle.jn_found.specs.Pages.{pool_on}
+use Rattle.jn_found.specs.Recoverable.{IsRecoverable}
 use Rattle.jn_place.specs.declared.place.Place.{Place}
 use Rattle.jn_place.specs.declared.place.Slot.{Slot}
-use Rattle.jn_place.specs.declared.place.Slot.TheVariants.{Up}
+use Rattle.jn_place.specs.declared.place.Slot.TheVariants.{Up, Down, Gone}
 use Rattle.jn_place.specs.Exact.{has_work_at}
 use Rattle.jn_records.specs.StablePages.{Counts}
 use Rattle.jn_recovery.specs.Loading.{counts_by}
@@ -16,12 +18,15 @@ use Rattle.jn_store.specs.Store.{StoreView}
 use Rattle.jn_written.specs.Devices.{pages_of}
 use Rattle.jn_written.specs.Rubbish.{CountsAll}
 
--- its storage has so many pages, it counts the rubbish records that are on them, and no record and no head is there that nothing names
-abbrev pub HasCounts : {S : Type 0} → (S → StoreView) → Counts → Slot S → Type 0
-HasCounts look g (Up p) =
+-- Its storage has so many pages, it counts the rubbish records that are on them, and no record and no head is there that nothing names. A recovery may
+-- begin from its pages, as from those of a server that is down.
+abbrev pub HasCounts : {S : Type 0} → (S → StoreView) → ServerNo → Counts → Slot S → Type 0
+HasCounts look q g (Up p) =
     (p.storage.1.table.counts ≡ g) × (length (view_with look p).storage.accounts.rubbish ≡ rubbish_count (pool_on g (standing_pages (look p.storage.0))))
     × CountsAll g (state (view_with look p).storage) (standing_pages (look p.storage.0))
-HasCounts look g slot = ⊤
+    × IsRecoverable q g (look p.storage.0)
+HasCounts look q g (Down s) = IsRecoverable q g (look s)
+HasCounts look q g Gone = ⊤
 
 -- what its rows read of its storage, what is free and whether a rubbish record is left, is what stands on its pages
 abbrev pub ReadsPages : {S : Type 0} → (S → StoreView) → (S → DeviceState) → Counts → Slot S → Type 0

@@ -27,7 +27,7 @@ use Rattle.jn_server.specs.Seen.{view_with, memory_of}
 use Rattle.jn_store.specs.Store.{StoreView}
 use Rattle.jn_within.specs.Within.{Within}
 use Rattle.jn_written.specs.Chances.{Setup}
-use Rattle.jn_written.specs.Devices.{AreFound}
+use Rattle.jn_written.specs.Devices.{AreFound, AreRecoverable}
 use Rattle.jn_written.specs.Rubbish.{AreAllCounted}
 use Rattle.jn_written.specs.Runs.{Moment}
 use Rattle.jn_written.specs.Steps.{message_texts, traced}
@@ -55,7 +55,7 @@ StandsAt look device g Gone memory found d = ⊥
 
 pub record PlaceStands {S : Type 0} (look : S → StoreView) (device : S → DeviceState) (x : Setup) (m : Moment) (n : ℕ) (p : Place S) : Type 0 where
   pub counts : x.counts (record { 0 = n }) ≡ counts_by p.counts
-  pub pages : HasCounts look (counts_by p.counts) p.slot
+  pub pages : HasCounts look (record { 0 = n }) (counts_by p.counts) p.slot
   pub stands : StandsAt look device (counts_by p.counts) p.slot (m.state.course.world.memory (record { 0 = n })) (m.state.course.world.found (record { 0 = n })) (m.devices (record { 0 = n }))
 
 -- Everything stands as the machine has it. Nothing names a server that there is not, and the lines so far name the system's commits.
@@ -74,6 +74,7 @@ pub record Stands {S : Type 0} (look : S → StoreView) (device : S → DeviceSt
   pub within : Within x.servers m.state.course.world
   pub found : AreFound x m.state.course.world m.devices
   pub counted : AreAllCounted x m.state.course.world m.devices
+  pub recoverable : AreRecoverable x m.devices
 
 -- ---- what the code changes in a step
 

@@ -7,7 +7,7 @@ ghost use Rattle.jn_place.specs.declared.place.Place.{Place};
 ghost use Rattle.jn_report.specs.declared.line.Line.{Line};
 ghost use Rattle.jn_schedule.specs.declared.Event.{Event};
 ghost use Rattle.jn_written.specs.Chances.{Setup};
-ghost use Rattle.jn_written.specs.Devices.{Devices, AreFound};
+ghost use Rattle.jn_written.specs.Devices.{Devices, AreFound, AreRecoverable};
 ghost use Rattle.jn_written.specs.Runs.{Moment, Leads};
 ghost use Rattle.jn_written.specs.Tasks.{Dismisses, AtEnd, CutShort, next_task};
 ghost use Rattle.jn_written.specs.Whole.{closed_world, before, AreImages, IsWhole, IsLimited, IsPartOfRun};
@@ -23,7 +23,7 @@ use jn_store::Powered;
 /// moment.
 pub fn a_run_starts_and_ends_on_its_stores<S: Powered>()
     ensures first { (x : Setup) (w : Standing S) (schedule : List Event) (files : AllFiles) (epochs : ServerNo → ℕ) (images : Devices) → IsFirst (λ s. S.device s) x images w
-        → AreFound x (closed_world x.servers files epochs) images → Stands (λ s. S.view s) (λ s. S.device s) x w (record { state = before x schedule files epochs; devices = images }) }
+        → AreFound x (closed_world x.servers files epochs) images → AreRecoverable x images → Stands (λ s. S.view s) (λ s. S.device s) x w (record { state = before x schedule files epochs; devices = images }) }
     ensures closing { (x : Setup) (w : Standing S) (m : Moment) → Stands (λ s. S.view s) (λ s. S.device s) x w m → (n : ℕ) (p : Place S) (s : S) → slice_get w.places n ≡ Some p → IsStoreOf p.slot s
         → m.devices (record { 0 = n }) ≡ S.device s }
 {}

@@ -4,7 +4,7 @@ ghost use Rattle.std.specs.Prelude.{◌≡◌, ◌++◌, ℕ, Bool, true, List, 
 ghost use Rattle.jn_base.specs.declared.names.ServerNo.{ServerNo};
 ghost use Rattle.jn_place.specs.declared.place.Place.{Place};
 ghost use Rattle.jn_place.specs.declared.place.Slot.{Slot};
-ghost use Rattle.jn_place.specs.Exact.{ScrubbedBy, Showed, Closed, WhereUp, KeepsRubbish};
+ghost use Rattle.jn_place.specs.Exact.{ScrubbedBy, Showed, Closed, WhereUp, KeepsRubbish, LeavesClean};
 ghost use Rattle.jn_place.specs.Places.{is_up};
 ghost use Rattle.jn_system.specs.WholeSystem.Steps.{IsIdle};
 ghost use Rattle.jn_recovery.specs.Loading.{counts_by};
@@ -27,12 +27,12 @@ use jn_store::Powered;
 pub fn a_look_is_a_step<S: Powered>()
     ensures scrub { (x : Setup) (w : Standing S) (m : Moment) → Stands (λ s. S.view s) (λ s. S.device s) x w m → (q : ServerNo) (place : Place S) → slice_get w.places q.0 ≡ Some place
         → (more : List Task) (lines lines' : List Line) (done : Bool) (slot : Slot S) → ScrubbedBy (λ s. S.view s) (λ s. S.device s) q (counts_by place.counts) (when_of m.state) place.slot done slot lines lines'
-        → HasCounts (λ s. S.view s) (counts_by place.counts) slot
-        → WhereUp (λ s. S.view s) KeepsRubbish place.slot slot → ActsNext x m (events.Scrub q) more
+        → HasCounts (λ s. S.view s) q (counts_by place.counts) slot
+        → WhereUp (λ s. S.view s) KeepsRubbish place.slot slot → WhereUp (λ s. S.view s) LeavesClean place.slot slot → ActsNext x m (events.Scrub q) more
         → IsStepTo (λ s. S.view s) (λ s. S.device s) x m (more ++ drop 1 m.state.tasks) (record w { places = slice_set w.places q.0 (record place { slot = slot }) }) lines lines' }
     ensures show { (x : Setup) (w : Standing S) (m : Moment) → Stands (λ s. S.view s) (λ s. S.device s) x w m → (q : ServerNo) (place : Place S) → slice_get w.places q.0 ≡ Some place
         → (more : List Task) (lines lines' : List Line) (list : Option (List Shown)) (slot : Slot S) → Showed (λ s. S.view s) (λ s. S.device s) q (counts_by place.counts) (when_of m.state) place.slot list slot lines lines'
-        → HasCounts (λ s. S.view s) (counts_by place.counts) slot
+        → HasCounts (λ s. S.view s) q (counts_by place.counts) slot
         → WhereUp (λ s. S.view s) KeepsRubbish place.slot slot → ActsNext x m (events.Show q) more
         → IsStepTo (λ s. S.view s) (λ s. S.device s) x m (more ++ drop 1 m.state.tasks) (record w { places = slice_set w.places q.0 (record place { slot = slot }) }) lines
         (lines' ++ lines_at (when_of m.state) (texts_shown q list)) }
@@ -42,7 +42,7 @@ pub fn a_look_is_a_step<S: Powered>()
 pub fn a_closing_is_a_step<S: Powered>()
     ensures { (x : Setup) (w : Standing S) (m : Moment) → Stands (λ s. S.view s) (λ s. S.device s) x w m → (q : ServerNo) (place : Place S) → slice_get w.places q.0 ≡ Some place
         → (lines : List Line) → ((n : ℕ) (t : ClientTable) → slice_get w.clients n ≡ Some t → IsIdle t) → next_task m.state ≡ Some (ClosesClients q)
-        → (done : Bool) (slot : Slot S) (lines' : List Line) → Closed (λ s. S.view s) (λ s. S.device s) q (counts_by place.counts) (when_of m.state) place.slot done slot lines lines' → is_up slot ≡ true → HasCounts (λ s. S.view s) (counts_by place.counts) slot
+        → (done : Bool) (slot : Slot S) (lines' : List Line) → Closed (λ s. S.view s) (λ s. S.device s) q (counts_by place.counts) (when_of m.state) place.slot done slot lines lines' → is_up slot ≡ true → HasCounts (λ s. S.view s) q (counts_by place.counts) slot
         → WhereUp (λ s. S.view s) KeepsRubbish place.slot slot
         → IsStepTo (λ s. S.view s) (λ s. S.device s) x m (drop 1 m.state.tasks) (record w { places = slice_set w.places q.0 (record place { slot = slot }) }) lines lines' }
 {}

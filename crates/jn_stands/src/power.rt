@@ -37,13 +37,13 @@ pub fn a_crash_is_a_step<S: Powered>()
 pub fn a_restart_is_a_step<S: Powered>()
     ensures event { (x : Setup) (w : Standing S) (m : Moment) → Stands (λ s. S.view s) (λ s. S.device s) x w m → (q : ServerNo) (place : Place S) → slice_get w.places q.0 ≡ Some place
         → (more : List Task) → ActsNext x m (events.Restart q) more → (lines lines' lines'' : List Line) (restarted : Restarted) (slot : Slot S)
-        → IsRestart (λ s. S.view s) (λ s. S.device s) q (counts_by place.counts) (when_of m.state) place.slot restarted slot lines lines' → HasCounts (λ s. S.view s) (counts_by place.counts) slot
+        → IsRestart (λ s. S.view s) (λ s. S.device s) q (counts_by place.counts) (when_of m.state) place.slot restarted slot lines lines' → HasCounts (λ s. S.view s) q (counts_by place.counts) slot
         → lines'' ≡ lines' ++ lines_at (when_of m.state) (texts_restarted q w.named restarted)
         → IsStepTo (λ s. S.view s) (λ s. S.device s) x m (more ++ drop 1 m.state.tasks)
         (with_named (texts_restarted q w.named restarted) (record w { places = slice_set w.places q.0 (record place { slot = slot }) })) lines lines'' }
     ensures comes_up { (x : Setup) (w : Standing S) (m : Moment) → Stands (λ s. S.view s) (λ s. S.device s) x w m → (q : ServerNo) (place : Place S) → slice_get w.places q.0 ≡ Some place
         → next_task m.state ≡ Some (ComesUp q) → (lines lines' lines'' : List Line) (restarted : Restarted) (slot : Slot S)
-        → IsRestart (λ s. S.view s) (λ s. S.device s) q (counts_by place.counts) (when_of m.state) place.slot restarted slot lines lines' → HasCounts (λ s. S.view s) (counts_by place.counts) slot
+        → IsRestart (λ s. S.view s) (λ s. S.device s) q (counts_by place.counts) (when_of m.state) place.slot restarted slot lines lines' → HasCounts (λ s. S.view s) q (counts_by place.counts) slot
         → lines'' ≡ lines' ++ lines_at (when_of m.state) (texts_restarted q w.named restarted)
         → ComesTo (λ s. S.view s) (λ s. S.device s) x m q w restarted (record w { places = slice_set w.places q.0 (record place { slot = slot }) }) lines lines'' }
 {}

@@ -32,7 +32,7 @@ pub fn a_message_at_a_server_is_a_step<S: Powered>()
         → (place : Place S) → slice_get w.places q.0 ≡ Some place → ReadsPages (λ s. S.view s) (λ s. S.device s) (counts_by place.counts) place.slot
         → (more : List Task) → ActsNext x m (events.Deliver k) more
         → (answer : Option Collected) (slot : Slot S) (told : List Line) → Took (λ s. S.view s) (λ s. S.device s) q (counts_by place.counts) (when_of m.state) one.message place.slot answer slot [] told
-        → HasCounts (λ s. S.view s) (counts_by place.counts) slot → WhereUp (λ s. S.view s) (TakeLeaves one.message) place.slot slot → (lines : List Line)
+        → HasCounts (λ s. S.view s) q (counts_by place.counts) slot → WhereUp (λ s. S.view s) (TakeLeaves one.message) place.slot slot → (lines : List Line)
         → IsStepTo (λ s. S.view s) (λ s. S.device s) x m (more ++ drop 1 m.state.tasks)
         (with_answer q (Some k) answer (record w { places = slice_set w.places q.0 (record place { slot = slot }); net = record w.net { sent = with_delivered k w.net.sent } }))
         lines (lines ++ told ++ lines_at (when_of m.state) (texts_sent q (Some k) w.trace (length w.net.sent) answer)) }
@@ -44,7 +44,7 @@ pub fn a_background_step_is_a_step<S: Powered>()
         → (q : ServerNo) (place : Place S) → slice_get w.places q.0 ≡ Some place → ReadsPages (λ s. S.view s) (λ s. S.device s) (counts_by place.counts) place.slot
         → (more : List Task) → ActsNext x m (events.Step q) more
         → (answer : Option Collected) (slot : Slot S) (told : List Line) → WorkedBy (λ s. S.view s) (λ s. S.device s) q (counts_by place.counts) (when_of m.state) place.slot answer slot [] told
-        → HasCounts (λ s. S.view s) (counts_by place.counts) slot → WhereUp (λ s. S.view s) WorkLeaves place.slot slot → (lines : List Line)
+        → HasCounts (λ s. S.view s) q (counts_by place.counts) slot → WhereUp (λ s. S.view s) WorkLeaves place.slot slot → (lines : List Line)
         → IsStepTo (λ s. S.view s) (λ s. S.device s) x m (more ++ drop 1 m.state.tasks)
         (with_answer q None answer (record w { places = slice_set w.places q.0 (record place { slot = slot }) }))
         lines (lines ++ told ++ lines_at (when_of m.state) (texts_sent q None w.trace (length w.net.sent) answer)) }
@@ -84,6 +84,6 @@ pub fn a_timeout_is_a_step<S: Powered>()
     ensures { (x : Setup) (w : Standing S) (m : Moment) → Stands (λ s. S.view s) (λ s. S.device s) x w m
         → (q : ServerNo) (place : Place S) → slice_get w.places q.0 ≡ Some place
         → (T : Tid) (more : List Task) → ActsNext x m (events.Timeout q T) more
-        → (answer : Bool) (slot : Slot S) → TimedOut (λ s. S.view s) T place.slot answer slot → HasCounts (λ s. S.view s) (counts_by place.counts) slot → (lines : List Line)
+        → (answer : Bool) (slot : Slot S) → TimedOut (λ s. S.view s) T place.slot answer slot → HasCounts (λ s. S.view s) q (counts_by place.counts) slot → (lines : List Line)
         → IsStepTo (λ s. S.view s) (λ s. S.device s) x m (more ++ drop 1 m.state.tasks) (record w { places = slice_set w.places q.0 (record place { slot = slot }) }) lines lines }
 {}

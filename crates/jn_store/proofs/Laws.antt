@@ -6,6 +6,7 @@ use Rattle.jn_store.specs.Store.{StoreView, Candidate, IsClean, IsOnly, IsCalm, 
 
 pub later_refl : (v : StoreView) → StoreLater v v
 later_refl v = record {
+  happens = λ from h. h;
   count = refl;
   calls = omega arith;
   puts = omega arith;
@@ -19,6 +20,7 @@ later_refl v = record {
 
 pub later_trans : (a b c : StoreView) → StoreLater a b → StoreLater b c → StoreLater a c
 later_trans a b c f g = record {
+  happens = λ from h. g.happens from (f.happens from h);
   count = g.count ∙ f.count;
   calls = omega (arith, f.calls, g.calls);
   puts = omega (arith, f.puts, g.puts);

@@ -1,3 +1,5 @@
 pub mod Laws
+pub mod Answers
 pub mod Choices
 pub mod Events
+pub mod TwoPuts

@@ -6,6 +6,7 @@ use Rattle.jn_store.specs.Store.{StoreView}
 abbrev pub view_at : ℕ → DeviceState → StoreView
 view_at half s = record {
   count = half;
+  device = s;
   first = λ i. (s.pages i).bytes;
   second = λ i. (s.pages (i + half)).bytes;
   both = λ i. (s.pages i).good && (s.pages (i + half)).good;

@@ -3,12 +3,15 @@ use Rattle.std.specs.Prelude.{◌≡◌, ◌≢◌, ◌⊎◌, ℕ, ◌+◌, ◌
 use Rattle.jn_base.specs.declared.device.Stopped.{Stopped}
 use Rattle.jn_base.specs.declared.device.Outside.{Outside}
 use Rattle.jn_device.specs.declared.Armed.{Armed}
-use Rattle.jn_device.specs.Device.{Rose, blank_page}
+use Rattle.jn_device.specs.Device.{DeviceState, Rose, blank_page}
+use Rattle.jn_device.specs.Happens.{Happens}
 use Rattle.jn_device.specs.Later.{Spends}
 
 -- what its users see of a store
 pub record StoreView : Type 0 where
   pub count : ℕ
+  -- that it stands on
+  pub device : DeviceState
   -- the bytes of the two halves that each stable page is kept as, good or bad: its candidates
   pub first : ℕ → List ℕ
   pub second : ℕ → List ℕ
@@ -61,6 +64,8 @@ pub record HasSamePages (v w : StoreView) : Type 0 where
 
 -- what every call keeps, and so every run of calls
 pub record StoreLater (v w : StoreView) : Type 0 where
+  -- what happens to its device goes on by calls
+  pub happens : (from : DeviceState) → Happens from v.device → Happens from w.device
   pub count : w.count ≡ v.count
   pub calls : v.calls ≤ w.calls
   pub puts : v.puts ≤ w.puts

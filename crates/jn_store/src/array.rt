@@ -1,16 +1,19 @@
 // A plain list of pages, which has no fault.
 ghost use Rattle.std.specs.Prelude.{◌≡◌, ◌≤◌, ◌<◌, ◌^◌, ℕ, vec_len, IfOk, [], true, slice_index_or};
-ghost use Rattle.jn_store.specs.Store.{StoreView, IsBlank};
+ghost use Rattle.jn_device.specs.Device.{bumped};
+ghost use Rattle.jn_store.specs.PlainList.{array_view};
+ghost use Rattle.jn_store.specs.Store.{IsBlank};
 
 use crate::StableStore;
 use jn_base::{Page, Stopped};
 use jn_device::blank_page;
 use std::alloc::{AllocError, Global};
 
-/// A store in memory that never stops, for programs and tests that want no faults.
+/// A store in memory that never stops, for programs and tests that want no faults. Each put counts as two of a device, one of each half.
 #[derive(Drop)]
 pub struct ArrayStore {
     pages: Vec<Page>,
+    puts: u64,
     ghost few: { vec_len pages < 2 ^ 32 },
 }
 
@@ -23,7 +26,7 @@ impl ArrayStore {
         for _made in 0..count {
             pages.push(blank_page())?;
         }
-        Ok(ArrayStore { pages })
+        Ok(ArrayStore { pages, puts: 0 })
     }
 
     /// A page as it stands, without a copy.
@@ -36,18 +39,7 @@ impl ArrayStore {
 }
 
 impl StableStore for ArrayStore {
-    ghost view = { λ s. record {
-      count = vec_len s.pages;
-      first = λ i. slice_index_or s.pages.items i [];
-      second = λ i. slice_index_or s.pages.items i [];
-      both = λ _. true;
-      power = true;
-      waiting = [];
-      told = [];
-      calls = 0;
-      puts = 0;
-      stops = 0;
-    } };
+    ghost view = { λ s. array_view (vec_len s.pages) s.pages.items s.puts };
 
     ghost count_fits = { λ s. s.few };
 
@@ -61,10 +53,17 @@ impl StableStore for ArrayStore {
 
     fn put(&mut self, i: u32, page: &Page) -> Result<(), Stopped> {
         self.pages[i as usize] = *page;
+        self.puts = bump(bump(self.puts));
         Ok(())
     }
 
     fn cleanup(&mut self, _i: u32) -> Result<bool, Stopped> {
         Ok(false)
     }
+}
+
+fn bump(count: u64) -> u64
+    ensures { result ≡ bumped count }
+{
+    if count < u64::MAX { count + 1 } else { count }
 }

@@ -1,5 +1,5 @@
 -- A server that is down comes up, as the written machine has it.
-use Rattle.jn_world.proofs.Common.{◌≡◌, ◌≤◌, ◌<◌, ℕ, zero, suc, Bool, true, false, [], ◌∷◌, ◌++◌, get_or, length, length-append, append-nil, append_assoc, slice_set, Some, Ok, Err, true≢false, refl, sym, ◌∙◌, ap, subst, arith, ◌+◌, ◌||◌, if◌then◌else◌, IsErrAnd, count_by, list_any, with_item, fun_ext, ServerNo, Tid, tid_eq, DeviceState, Place, Restarted, Slot, Up, Down, Gone, IsRestart, IsPlace, StandsThere, CountsAt, commits_in, has_line, Counts, Pages, counts_by, Line, Text, When, EpochsUsedUp, pool_on, heads_on, standing_pages, is_free_head, free_count, rubbish_count, view_with, IsServer, state, WentOn, WasCut, HasCounts, Standing, Stands, with_named, pairs_view, StoreView, Ended, Epoch, Memory, World, BroughtUp, texts_so_far, left_to_tell, is_among, newly_named, restart_texts, has_come, standing_of, DoesEvent, DoesTasks, is_going, Setup, Moment, lines_at, Task, ComesUp, when_of}
+use Rattle.jn_world.proofs.Common.{◌≡◌, ◌≤◌, ◌<◌, ℕ, zero, suc, Bool, true, false, [], ◌∷◌, ◌++◌, get_or, length, length-append, append-nil, append_assoc, slice_set, Some, Ok, Err, true≢false, refl, sym, ◌∙◌, ap, subst, arith, ◌+◌, ◌||◌, if◌then◌else◌, IsErrAnd, count_by, list_any, with_item, fun_ext, ServerNo, Tid, tid_eq, DeviceState, Place, Restarted, Slot, Up, Down, Gone, IsRestart, IsPlace, StandsThere, CountsAt, commits_in, has_line, Counts, Pages, counts_by, Line, Text, When, EpochsUsedUp, pool_on, heads_on, standing_pages, is_free_head, free_count, rubbish_count, view_with, IsServer, state, WentOn, WasCut, HasCounts, Standing, Stands, with_named, pairs_view, StoreView, Ended, Epoch, Memory, World, BroughtUp, texts_so_far, left_to_tell, is_among, newly_named, restart_texts, has_come, standing_of, DoesEvent, DoesTasks, is_going, Setup, Moment, lines_at, Task, ComesUp, when_of, IsRecoverable}
 use Rattle.std.proofs.Common.{List, drop, slice_get, Result}
 use Rattle.jn_place.specs.declared.place.Restarted.TheVariants as came
 use Rattle.jn_report.specs.declared.line.Text.TheVariants as says
@@ -78,7 +78,7 @@ place-got {S} ps q i p at within read = get-slice ps q.0 p within ∙ ap (λ (k 
 pub same-place : {S : Type 0} (p q : Place S) → q.counts ≡ p.counts → record p { slot = q.slot } ≡ q
 same-place p q e = ap (λ (c : _). record q { counts = c }) (sym e)
 
-has-by : {S : Type 0} (look : S → StoreView) (q : ServerNo) (g : Counts) (most : ℕ) (slot : Slot S) → StandsThere look q g most slot → CountsAt look slot → HasCounts look g slot
+has-by : {S : Type 0} (look : S → StoreView) (q : ServerNo) (g : Counts) (most : ℕ) (slot : Slot S) → StandsThere look q g most slot → CountsAt look slot → HasCounts look q g slot
 has-by look q g most (Up p) h keeps = (
   h.counts,
   own.rubbish ∙ ap (λ (n : Counts). rubbish_count (pool_on n pages)) h.counts,
@@ -92,6 +92,7 @@ has-by look q g most (Up p) h keeps = (
     records_all = all-records _ _ _ _ _ _ _ counted.records (own.free ∙ ap (λ (n : Counts). free_count (pool_on n pages)) h.counts) (own.rubbish ∙ ap (λ (n : Counts). rubbish_count (pool_on n pages)) h.counts) (ap (λ (n : Counts). n.pool) h.counts);
     heads_all = all-heads _ _ _ counted.heads_used (own.heads ∙ ap (λ (n : Counts). count_by is_free_head (heads_on n pages)) h.counts) (ap (λ (n : Counts). n.heads) h.counts);
   },
+  subst (λ (s : ServerNo). IsRecoverable s g (look p.storage.0)) h.its (subst (λ (n : Counts). IsRecoverable (view_with look p).storage.accounts.server n (look p.storage.0)) h.counts keeps.recoverable),
 )
   where
     pages : Pages
@@ -101,7 +102,7 @@ has-by look q g most (Up p) h keeps = (
     serves = h.serves refl
 
     own : AreCountsOfPages (view_with look p)
-    own = keeps serves.works.serving.power
+    own = keeps.counts serves.works.serving.power
 
     counted : IsCounted (state (view_with look p).storage) (view_with look p).storage.accounts
     counted = serves.works.serving.counted
@@ -111,18 +112,18 @@ has-by look q g most (Up p) h keeps = (
 
     all-heads : (free files free' : ℕ) {heads heads' : ℕ} → free + files ≡ heads → free ≡ free' → heads ≡ heads' → free' + files ≡ heads'
     all-heads free files free' e f s = omega (arith, e, f, s)
-has-by look q g most (Down s) h keeps = tt
+has-by look q g most (Down s) h keeps = h
 has-by look q g most Gone h keeps = absurd h
 
 -- a place that stands has its pages
-pub has-counts : {S : Type 0} (look : S → StoreView) (q : ServerNo) (most : ℕ) (p p' : Place S) → p'.counts ≡ p.counts → IsPlace look q most p' → HasCounts look (counts_by p.counts) p'.slot
-has-counts look q most p p' e h = subst (λ (c : _). HasCounts look (counts_by c) p'.slot) e (has-by look q (counts_by p'.counts) most p'.slot h.stands h.counted)
+pub has-counts : {S : Type 0} (look : S → StoreView) (q : ServerNo) (most : ℕ) (p p' : Place S) → p'.counts ≡ p.counts → IsPlace look q most p' → HasCounts look q (counts_by p.counts) p'.slot
+has-counts look q most p p' e h = subst (λ (c : _). HasCounts look q (counts_by c) p'.slot) e (has-by look q (counts_by p'.counts) most p'.slot h.stands h.counted)
 
 -- ---- a call that brings one up
 
 module _ {S : Type 0} (look : S → StoreView) (device : S → DeviceState) where
   pub brought : (w b : World S) (q : ServerNo) (i : ℕ) (p p' : Place S) (when : When) (r : Restarted) (is : Bool) (lines now later : List Line) → i ≡ q.0 → q.0 < length w.places.items → p ≡ get_or w.places.items i p → p'.counts ≡ p.counts
-      → HasCounts look (counts_by p.counts) p'.slot → IsRestart look device q (counts_by p.counts) when p.slot r p'.slot lines now
+      → HasCounts look q (counts_by p.counts) p'.slot → IsRestart look device q (counts_by p.counts) when p.slot r p'.slot lines now
       → b ≡ record (record w { places = with_item w.places i p' }) { named = b.named } → b.named.names.items ≡ w.named.names.items ++ commits_in (restart_texts q w.named.names.items r)
       → later ≡ now ++ lines_at when (restart_texts q w.named.names.items r) → is ≡ has_come r
       → BroughtUp look device q when (standing_of w) is (standing_of b) lines later

@@ -1,5 +1,5 @@
 -- A server that is up takes a message, or makes a step where it has something to do, and which one is first.
-use Rattle.jn_world.proofs.Common.{inl, inr, append-nil, ◌≡◌, ◌≤◌, ◌<◌, ℕ, zero, suc, ◌+◌, Bool, true, false, List, [], ◌∷◌, ◌++◌, length, Option, Some, None, Result, Ok, Err, true≢false, refl, sym, ◌∙◌, ap, subst, arith, set, nat_tests, length-set, slice_get_within, ◌⊎◌, nat_lt, slice_get, IsErr, IsErrAnd, IfErr, OnOk, drop, is_some, Server, ServerNo, Tid, DeviceState, Collected, Carried, with_delivered, waiting, Posted, Left, Place, Slot, Up, Down, Gone, Took, WorkedBy, AsksAgain, TimedOut, IsTimedOut, has_work_at, PlaceReads, WhereUp, TakeLeaves, WorkLeaves, StandsThere, IsPlace, is_up, server_timeout, of_timeout, ServerMemory, Counts, counts_by, NoSuchWork, Line, When, StableState, Pick, IsUp, Parts, view_with, memory_of, pool_on, standing_pages, rubbish_count, next-works, next-none, refused-step, WentOn, HasCounts, ReadsPages, IsIdleAt, Standing, Stands, StandsAt, PlaceStands, with_answer, texts_sent, state, pairs_view, StoreView, Ended, Messages, Epoch, Memory, AreIdleBelow, IsBusyAt, IsFirstBusy, ReadsAt, TellsBusy, is_up_at, is_up_in, works_at, works_in, DoesEvent, DoesTasks, EndsStep, GoesTo, TakesTurn, Setup, rubbish_on, next_in, has_work, refusal_of, unless, Moment, lines_at, Task, Meets, when_of}
+use Rattle.jn_world.proofs.Common.{inl, inr, append-nil, ◌≡◌, ◌≤◌, ◌<◌, ℕ, zero, suc, ◌+◌, Bool, true, false, List, [], ◌∷◌, ◌++◌, length, Option, Some, None, Result, Ok, Err, true≢false, refl, sym, ◌∙◌, ap, subst, arith, set, nat_tests, length-set, slice_get_within, ◌⊎◌, nat_lt, slice_get, IsErr, IsErrAnd, IfErr, OnOk, drop, is_some, Server, ServerNo, Tid, DeviceState, Collected, Carried, with_delivered, waiting, Posted, Left, Place, Slot, Up, Down, Gone, Took, WorkedBy, AsksAgain, TimedOut, IsTimedOut, has_work_at, PlaceReads, WhereUp, TakeLeaves, WorkLeaves, StandsThere, IsPlace, is_up, server_timeout, of_timeout, ServerMemory, Counts, counts_by, NoSuchWork, Line, When, StableState, Pick, IsUp, Parts, view_with, memory_of, pool_on, standing_pages, rubbish_count, next-works, next-none, refused-step, WentOn, HasCounts, ReadsPages, IsIdleAt, Standing, Stands, StandsAt, PlaceStands, with_answer, texts_sent, state, pairs_view, StoreView, Ended, Messages, Epoch, Memory, AreIdleBelow, IsBusyAt, IsFirstBusy, ReadsAt, TellsBusy, is_up_at, is_up_in, works_at, works_in, DoesEvent, DoesTasks, EndsStep, GoesTo, TakesTurn, Setup, rubbish_on, next_in, has_work, refusal_of, unless, Moment, lines_at, Task, Meets, when_of, IsRecoverable}
 use Rattle.jn_recovery.specs.Memory.{Memory as Kept, view_of}
 use Rattle.jn_report.specs.declared.line.Text.TheVariants as says
 use Rattle.jn_rows.specs.Worker.{WorkerTable, timeout_row}
@@ -18,7 +18,7 @@ some-of : {X : Type 0} (a b : X) → Some a ≡ Some b → a ≡ b
 some-of a b e = cc
 
 -- a step leaves a place with as many pages
-pub left-counts : {S : Type 0} (look : S → StoreView) (q : ServerNo) (most : ℕ) (p p' : Place S) (answer : Option Collected) → p'.counts ≡ p.counts → Left look q most p' answer → HasCounts look (counts_by p.counts) p'.slot
+pub left-counts : {S : Type 0} (look : S → StoreView) (q : ServerNo) (most : ℕ) (p p' : Place S) (answer : Option Collected) → p'.counts ≡ p.counts → Left look q most p' answer → HasCounts look q (counts_by p.counts) p'.slot
 left-counts look q most p p' None e h = has-counts look q most p p' e h
 left-counts look q most p p' (Some out) e h = has-counts look q (most + length out.messages) p p' e h.0
 
@@ -38,7 +38,7 @@ module _ {S : Type 0} (look : S → StoreView) (device : S → DeviceState) (see
 
   -- it takes the message of this number
   pub took-now : {A : Type 0} (w : Standing S) (q : ServerNo) (place new : Place S) (i : ℕ) → i ≡ q.0 → new.counts ≡ place.counts
-      → (when : When) (r : Result A Ended) (u : Standing S) (first later : List Line) → slice_get w.places q.0 ≡ Some place → HasCounts look (counts_by place.counts) new.slot
+      → (when : When) (r : Result A Ended) (u : Standing S) (first later : List Line) → slice_get w.places q.0 ≡ Some place → HasCounts look q (counts_by place.counts) new.slot
       → (k : ℕ) (one : Posted) (answer : Option Collected) (start told : List Line) (net : Carried) → start ≡ [] → slice_get w.net.sent k ≡ Some one → one.to ≡ Server q → ReadsPages look device (counts_by place.counts) place.slot
       → Took look device q (counts_by place.counts) when one.message place.slot answer new.slot start told → WhereUp look (TakeLeaves one.message) place.slot new.slot
       → net ≡ record w.net { sent = with_delivered k w.net.sent }
@@ -52,7 +52,7 @@ module _ {S : Type 0} (look : S → StoreView) (device : S → DeviceState) (see
 
   -- it makes a step
   pub worked-now : {A : Type 0} (w : Standing S) (q : ServerNo) (place new : Place S) (i : ℕ) → i ≡ q.0 → new.counts ≡ place.counts
-      → (when : When) (r : Result A Ended) (u : Standing S) (first later : List Line) → slice_get w.places q.0 ≡ Some place → HasCounts look (counts_by place.counts) new.slot
+      → (when : When) (r : Result A Ended) (u : Standing S) (first later : List Line) → slice_get w.places q.0 ≡ Some place → HasCounts look q (counts_by place.counts) new.slot
       → (answer : Option Collected) (start told : List Line) → start ≡ [] → ReadsPages look device (counts_by place.counts) place.slot
       → WorkedBy look device q (counts_by place.counts) when place.slot answer new.slot start told → WhereUp look WorkLeaves place.slot new.slot
       → EndsStep r (with_answer q None answer (record w { places = set w.places i new })) u first (first ++ told ++ lines_at when (texts_sent q None w.trace (length w.net.sent) answer)) later
@@ -157,14 +157,14 @@ module _ {S : Type 0} (look : S → StoreView) (device : S → DeviceState) (see
   timed-slot g T (Down s) slot' memory found d t h = absurd t
   timed-slot g T Gone slot' memory found d t h = absurd t
 
-  timed-pages : (g : Counts) (T : Tid) (answer : Bool) (slot slot' : Slot S) → TimedOut look T slot answer slot' → HasCounts look g slot → HasCounts look g slot'
-  timed-pages g T answer (Up p) (Up p') t h =
+  timed-pages : (q : ServerNo) (g : Counts) (T : Tid) (answer : Bool) (slot slot' : Slot S) → TimedOut look T slot answer slot' → HasCounts look q g slot → HasCounts look q g slot'
+  timed-pages q g T answer (Up p) (Up p') t h =
       subst (λ (z : S × Kept). (z.1.table.counts ≡ g) × (length (view_of z.1 (look z.0)).accounts.rubbish ≡ rubbish_count (pool_on g (standing_pages (look z.0))))
-      × CountsAll g (state (view_of z.1 (look z.0))) (standing_pages (look z.0))) (sym t.storage) h
-  timed-pages g T answer (Up p) (Down s) t h = absurd t
-  timed-pages g T answer (Up p) Gone t h = absurd t
-  timed-pages g T answer (Down s) slot' t h = absurd t
-  timed-pages g T answer Gone slot' t h = absurd t
+      × CountsAll g (state (view_of z.1 (look z.0))) (standing_pages (look z.0)) × IsRecoverable q g (look z.0)) (sym t.storage) h
+  timed-pages q g T answer (Up p) (Down s) t h = absurd t
+  timed-pages q g T answer (Up p) Gone t h = absurd t
+  timed-pages q g T answer (Down s) slot' t h = absurd t
+  timed-pages q g T answer Gone slot' t h = absurd t
 
   timed-work : (g : Counts) (T : Tid) (answer : Bool) (slot slot' : Slot S) (memory : Option ServerMemory) (found : Pick → StableState) (d : DeviceState) → TimedOut look T slot answer slot' → StandsAt look device g slot memory found d → has_work T memory ≡ answer
   timed-work g T answer (Up p) (Up p') memory found d t h = ap (has_work T) h.0 ∙ sym t.live
@@ -196,6 +196,7 @@ module _ {S : Type 0} (look : S → StoreView) (device : S → DeviceState) (see
       within = stands.within;
       found = stands.found;
       counted = stands.counted;
+      recoverable = stands.recoverable;
     })
       where
         here : PlaceStands look device x m q.0 new
@@ -203,7 +204,7 @@ module _ {S : Type 0} (look : S → StoreView) (device : S → DeviceState) (see
             let own = stands.places q.0 place at in
             record {
               counts = own.counts ∙ ap counts_by (sym same);
-              pages = subst (λ (c : _). HasCounts look (counts_by c) new.slot) (sym same) (timed-pages (counts_by place.counts) T false place.slot new.slot timed own.pages);
+              pages = subst (λ (c : _). HasCounts look q (counts_by c) new.slot) (sym same) (timed-pages q (counts_by place.counts) T false place.slot new.slot timed own.pages);
               stands = subst (λ (c : _). StandsAt look device (counts_by c) new.slot (m.state.course.world.memory (record { 0 = q.0 })) (m.state.course.world.found (record { 0 = q.0 })) (m.devices (record { 0 = q.0 }))) (sym same)
                   (timed-slot (counts_by place.counts) T place.slot new.slot (m.state.course.world.memory (record { 0 = q.0 })) (m.state.course.world.found (record { 0 = q.0 })) (m.devices (record { 0 = q.0 })) timed own.stands);
             }
@@ -227,7 +228,7 @@ module _ {S : Type 0} (look : S → StoreView) (device : S → DeviceState) (see
           (subst (λ (ts : List Task). WentOn look device x m ts (record w { places = set w.places i new }) first (first ++ record { when = when_of m.state; text = says.RefusedEvent NoSuchWork } ∷ [])) (ap (λ (ts : List Task). drop 1 ts) tasks) (step.done few))
 
       -- or it may be broken from now on
-      pub timeout-done : (r : Result A Ended) (u : Standing S) (first later : List Line) → answer ≡ true → HasCounts look (counts_by place.counts) new.slot
+      pub timeout-done : (r : Result A Ended) (u : Standing S) (first later : List Line) → answer ≡ true → HasCounts look q (counts_by place.counts) new.slot
           → EndsStep r (record w { places = set w.places i new }) u first first later → DoesTasks look device (λ x. Meets (events.Timeout q T) ∷ []) when w r u first later
       timeout-done r u first later is counts ends =
           meets-done look device when (events.Timeout q T) r w u first later refl

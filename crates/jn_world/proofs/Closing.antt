@@ -52,7 +52,7 @@ module _ {S : Type 0} (look : S → StoreView) (device : S → DeviceState) (see
   really-done q g (Down t) after false first later e h = absurd h
   really-done q g Gone after false first later e h = absurd h
 
-  pub closed-does : {A : Type 0} (a : A) (w : Standing S) (q : ServerNo) (i : ℕ) (p new : Place S) (done : Bool) (first later : List Line) → i ≡ q.0 → slice_get w.places q.0 ≡ Some p → new.counts ≡ p.counts → HasCounts look (counts_by p.counts) new.slot → WhereUp look KeepsRubbish p.slot new.slot
+  pub closed-does : {A : Type 0} (a : A) (w : Standing S) (q : ServerNo) (i : ℕ) (p new : Place S) (done : Bool) (first later : List Line) → i ≡ q.0 → slice_get w.places q.0 ≡ Some p → new.counts ≡ p.counts → HasCounts look q (counts_by p.counts) new.slot → WhereUp look KeepsRubbish p.slot new.slot
       → Closed look device q (counts_by p.counts) when p.slot done new.slot first later → is_up new.slot ≡ true → AreIdle w.clients → length w.net.sent ≤ 1000000
       → DoesTasks look device (λ x. ClosesClients q ∷ []) when w (Ok a) (record w { places = set w.places i new }) first later
   closed-does a w q i p new done first later index at same counts kept closed up idle few x m rest stands tasks going is =

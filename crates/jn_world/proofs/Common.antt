@@ -12,7 +12,7 @@ pub use Rattle.jn_place.specs.declared.place.Place.{Place}
 pub use Rattle.jn_place.specs.declared.place.Restarted.{Restarted}
 pub use Rattle.jn_place.specs.declared.place.Slot.{Slot}
 pub use Rattle.jn_place.specs.declared.place.Slot.TheVariants.{Up, Down, Gone}
-pub use Rattle.jn_place.specs.Exact.{IsRestart, Took, WorkedBy, AsksAgain, TimedOut, IsTimedOut, has_work_at, ReadsPages as PlaceReads, WhereUp, TakeLeaves, WorkLeaves, StaysCalm, ComesCalm, IsCalmAt, Befell, Crashed, Closed, KeepsRubbish, ScrubbedBy, LeavesImage, work_of, Showed, items_of}
+pub use Rattle.jn_place.specs.Exact.{IsRestart, Took, WorkedBy, AsksAgain, TimedOut, IsTimedOut, has_work_at, ReadsPages as PlaceReads, WhereUp, TakeLeaves, WorkLeaves, StaysCalm, ComesCalm, IsCalmAt, Befell, Crashed, Closed, KeepsRubbish, ScrubbedBy, LeavesImage, work_of, Showed, LeavesClean, items_of}
 pub use Rattle.jn_place.specs.Places.{IsPlace, Stands as StandsThere, CountsAt, is_up}
 pub use Rattle.jn_system.specs.WholeSystem.World.{commits_in, has_line, Memory as ServerMemory, servers_from, World as Protocol}
 pub use Rattle.jn_records.specs.StablePages.{Counts, Pages, page_count}
@@ -41,6 +41,7 @@ pub use Rattle.jn_written.specs.Chances.{Setup, Chance, physical_pages}
 pub use Rattle.jn_written.specs.Runs.{Moment, none, DoesStep, more, Leads}
 pub use Rattle.jn_written.specs.Steps.{lines_at, message_texts, traced, is_too_much, come_to, cut_short, made_to}
 pub use Rattle.jn_written.specs.Tasks.{Task, ComesUp, when_of, Meets, Stage, when_at, InSchedule, AtEnd, CutShort, ClosesClients, CountsCommits, Acts, Begins, GoesDown, Dismisses, next_at, Rests, State, begun, next_task}
+pub use Rattle.jn_found.specs.Recoverable.{IsRecoverable}
 pub use Rattle.std.proofs.Math.ListN.{set}
 pub use Rattle.std.proofs.lemmas.Bool.Decides.{nat_tests}
 pub use Rattle.std.proofs.lemmas.List.{length-set, map-append, length_push}

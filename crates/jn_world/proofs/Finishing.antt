@@ -36,7 +36,7 @@ either (suc n) (suc s) h = by (either n s (omega arith))
 
 pub record DisarmedTo {S : Type 0} (look : S → StoreView) (device : S → DeviceState) (s : ℕ) (ps ps' : List (Place S)) : Type 0 where
   pub as_many : length ps' ≡ length ps
-  pub each : (n : ℕ) (p p' : Place S) → n < s → slice_get ps n ≡ Some p → slice_get ps' n ≡ Some p' → IsDisarmed look device p p'
+  pub each : (n : ℕ) (p p' : Place S) → n < s → slice_get ps n ≡ Some p → slice_get ps' n ≡ Some p' → IsDisarmed look device n p p'
   pub rest : (n : ℕ) → s ≤ n → slice_get ps' n ≡ slice_get ps n
 
 module _ {S : Type 0} (look : S → StoreView) (device : S → DeviceState) where
@@ -46,24 +46,24 @@ module _ {S : Type 0} (look : S → StoreView) (device : S → DeviceState) wher
   some-same : (a b : Place S) → Some a ≡ Some b → a ≡ b
   some-same a b e = cc
 
-  pub disarmed-more : (s i : ℕ) (ps ps' : List (Place S)) (p q : Place S) → i ≡ s → s < length ps' → slice_get ps' s ≡ Some p → IsDisarmed look device p q → DisarmedTo look device s ps ps' → DisarmedTo look device (s + 1) ps (set ps' i q)
+  pub disarmed-more : (s i : ℕ) (ps ps' : List (Place S)) (p q : Place S) → i ≡ s → s < length ps' → slice_get ps' s ≡ Some p → IsDisarmed look device s p q → DisarmedTo look device s ps ps' → DisarmedTo look device (s + 1) ps (set ps' i q)
   disarmed-more s i ps ps' p q at within here is h = subst (λ (k : ℕ). DisarmedTo look device (s + 1) ps (set ps' k q)) (sym at) (record {
     as_many = length-set ps' s q ∙ h.as_many;
     each = each;
     rest = λ n k. get-other ps' s n q (λ e. omega arith) ∙ h.rest n (omega arith);
   })
     where
-      own : (a b : Place S) → slice_get ps s ≡ Some a → slice_get (set ps' s q) s ≡ Some b → IsDisarmed look device a b
+      own : (a b : Place S) → slice_get ps s ≡ Some a → slice_get (set ps' s q) s ≡ Some b → IsDisarmed look device s a b
       own a b e f =
           let first = some-same p a (sym here ∙ h.rest s (omega arith) ∙ e) in
           let second = some-same q b (sym (get-same ps' s q within) ∙ f) in
-          subst (λ (x : Place S). IsDisarmed look device x b) first (subst (λ (y : Place S). IsDisarmed look device p y) second is)
+          subst (λ (x : Place S). IsDisarmed look device s x b) first (subst (λ (y : Place S). IsDisarmed look device s p y) second is)
 
-      each : (n : ℕ) (a b : Place S) → n < s + 1 → slice_get ps n ≡ Some a → slice_get (set ps' s q) n ≡ Some b → IsDisarmed look device a b
+      each : (n : ℕ) (a b : Place S) → n < s + 1 → slice_get ps n ≡ Some a → slice_get (set ps' s q) n ≡ Some b → IsDisarmed look device n a b
       each n a b less e f = by (either n s less)
         where
-          by : (n ≡ s) ⊎ (n < s) → IsDisarmed look device a b
-          by (inl g) = own a b (subst (λ (k : ℕ). slice_get ps k ≡ Some a) g e) (subst (λ (k : ℕ). slice_get (set ps' s q) k ≡ Some b) g f)
+          by : (n ≡ s) ⊎ (n < s) → IsDisarmed look device n a b
+          by (inl g) = subst (λ (k : ℕ). IsDisarmed look device k a b) (sym g) (own a b (subst (λ (k : ℕ). slice_get ps k ≡ Some a) g e) (subst (λ (k : ℕ). slice_get (set ps' s q) k ≡ Some b) g f))
           by (inr g) = h.each n a b g e (sym (get-other ps' s n q (λ z. omega arith)) ∙ f)
 
   pub disarmed-all : (s : ℕ) (ps ps' : List (Place S)) → length ps ≤ s → DisarmedTo look device s ps ps' → AreDisarmed look device ps ps'
@@ -155,7 +155,7 @@ module _ {S : Type 0} (look : S → StoreView) (device : S → DeviceState) wher
         → GoesTo look device x (record { state = before x schedule files epochs; devices = images }) (map (λ (e : AnEvent). Begins e) schedule ++ ending x) r u first later
     starts r stores trace v u first later is does x schedule files epochs images of traced are =
         does x (record { state = before x schedule files epochs; devices = images }) (map (λ (e : AnEvent). Begins e) schedule ++ ending x)
-        (first-stands look device seen x v schedule files epochs images (is x images of traced) are.found) (append_assoc (coming_up x) (map (λ (e : AnEvent). Begins e) schedule) (ending x)) refl refl
+        (first-stands look device seen x v schedule files epochs images (is x images of traced) are.found are.recoverable) (append_assoc (coming_up x) (map (λ (e : AnEvent). Begins e) schedule) (ending x)) refl refl
 
     pub starts-at : (A : Type 0) (a : A) (stores : List (S × PageCounts)) (trace : Bool) (v : Standing S) (u : World S) (first later : List Line)
         → ((x : Setup) (images : Devices) → AreStoresOf device x stores images → x.trace ≡ trace → IsFirst device x images v) → DoesTasks look device coming_up (AtEvent 0) v (Ok a) (standing_of u) first later

@@ -1,5 +1,6 @@
 -- The event under way changes only as one begins.
 use Rattle.jn_world.proofs.Common.{◌≡◌, ℕ, ◌+◌, Bool, true, false, List, [], ◌∷◌, ◌++◌, map, drop, Option, Some, None, is_some, true≢false, refl, sym, ◌∙◌, ap, subst, arith, if◌then◌else◌, slice_get, ClientNo, ServerNo, Client, Server, EventRefusal, Sent, Pick, Event, clients_from, handing, working, is_going, Setup, Chance, EpochsUsedUp, acted, met, resting, deed_of, settling, asking, servers_of, next_in, refusal_of, none, more, Moment, DoesStep, Leads, is_too_much, come_to, cut_short, made_to, Task, Begins, Meets, Acts, Rests, ComesUp, Dismisses, GoesDown, ClosesClients, CountsCommits, Stage, InSchedule, AtEnd, CutShort, State, begun, next_at}
+use Rattle.jn_storage.specs.DeviceCalls.{step_calls}
 use Rattle.jn_system.specs.WholeSystem.Steps.{Step}
 use Rattle.jn_system.specs.WholeSystem.World.{World, Memory}
 use Rattle.jn_schedule.specs.declared.Event.TheVariants as events
@@ -108,8 +109,8 @@ module _ (n : ℕ) where
   worked-counts : (h : Chance) (q : ServerNo) (w : World) → Counts n n (worked h q w)
   worked-counts h q w = by (is_busy h.rubbish w q)
     where
-      by : (b : Bool) → Counts n n (if b then served q (working_steps h q) else nothing)
-      by true = plain-counts (served q (working_steps h q)) (working-same h q h.stop) refl
+      by : (b : Bool) → Counts n n (if b then served q step_calls (working_steps h q) else nothing)
+      by true = plain-counts (served q step_calls (working_steps h q)) (working-same h q h.stop) refl
       by false = plain-counts nothing refl refl
 
   acted-counts : (x : Setup) (h : Chance) (event : Event) (w : World) → Counts n n (acted x h event w)

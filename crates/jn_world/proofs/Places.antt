@@ -1,7 +1,6 @@
 -- The places of a list of servers, and the world whose places they are.
-use Rattle.jn_world.proofs.Common.{◌≡◌, ◌≤◌, ◌<◌, ℕ, zero, suc, ◌+◌, true, false, length, length-append, append-nil, [], ◌∷◌, ◌++◌, get_or, Option, Some, None, Ok, Err, true≢false, refl, sym, ◌∙◌, ap, subst, arith, set, nat_tests, All-append, All-map, All-nil, All-cons, All-set, All-weaker, All-get_or, All-from_recursion, recursion_from_All, slice_get_within, slice_get-get_or, get_or_from_slice_get, ByRecursion, All, Result, OnOk, slice_get, with_item, ClientNo, Party, Server, ServerNo, Command, Collected, Carried, with_delivered, Posted, sent_now, Counts, counts_by, PageCounts, ClientTable, Sends, command_row, take_row, again_row, new_table, Taken, Sent, StoreView, command-fits, command-draws, take-fits, take-number, new-fits, CanBeTaken, AllCanBeTaken, ClientFits, CommandInRange, CommandFits, sent_for, Left, Place, Slot, Up, Down, Gone, World, IsPlace, is_up, is_client_number, ArePlaces, IsClientOf, ArePosted, IsWorld, posted_by, messages_in, is_up_at, AreStores, AreClosed}
+use Rattle.jn_world.proofs.Common.{◌≡◌, ◌≤◌, ◌<◌, ℕ, zero, suc, ◌+◌, true, false, length, length-append, append-nil, [], ◌∷◌, ◌++◌, get_or, Option, Some, None, Ok, Err, true≢false, refl, sym, ◌∙◌, ap, subst, arith, set, nat_tests, All-append, All-map, All-nil, All-cons, All-set, All-weaker, All-get_or, All-from_recursion, recursion_from_All, slice_get_within, slice_get-get_or, get_or_from_slice_get, ByRecursion, All, Result, OnOk, slice_get, with_item, ClientNo, Party, Server, ServerNo, Command, Collected, Carried, with_delivered, Posted, sent_now, Counts, counts_by, PageCounts, ClientTable, Sends, command_row, take_row, again_row, new_table, Taken, Sent, StoreView, command-fits, command-draws, take-fits, take-number, new-fits, CanBeTaken, AllCanBeTaken, ClientFits, CommandInRange, CommandFits, sent_for, Left, Place, Slot, Up, Down, Gone, World, IsPlace, is_up, is_client_number, ArePlaces, IsClientOf, ArePosted, IsWorld, posted_by, messages_in, is_up_at, AreStores, AreClosed, IsRecoverable}
 use Rattle.std.proofs.Common.{List, vec_len}
-use Rattle.jn_found.specs.Recoverable.{IsRecoverable}
 use Rattle.jn_msgs.specs.declared.message.Message.{Message}
 use Rattle.jn_within.specs.Drawing.{DrawsOne}
 use Rattle.jn_place.specs.Places.{Stands}

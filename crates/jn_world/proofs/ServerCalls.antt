@@ -1,5 +1,5 @@
 -- What a call of a server's place does, and its messages and notes, is an event of the written machine.
-use Rattle.jn_world.proofs.Common.{◌≡◌, ℕ, Bool, false, List, [], ◌∷◌, ◌++◌, length, Option, Some, None, Result, Ok, Err, true≢false, sym, ap, subst, set, drop, slice_get, IsErr, IsErrAnd, FaultKind, Server, ServerNo, Tid, DeviceState, PageDecays, PageRevives, FaultArmed, Collected, with_delivered, Posted, Place, Down, Took, WorkedBy, ScrubbedBy, Showed, AsksAgain, TimedOut, Crashed, Befell, has_work_at, WhereUp, TakeLeaves, WorkLeaves, KeepsRubbish, counts_by, TooManyArmed, Line, When, Event, IsStepTo, HasCounts, ReadsPages, texts_shown, Standing, texts_sent, with_answer, lost-step, crashed-step, pairs_view, StoreView, Ended, Memory, DoesEvent, EndsStep, Setup, told_unless, Moment, lines_at, Task}
+use Rattle.jn_world.proofs.Common.{◌≡◌, ℕ, Bool, false, List, [], ◌∷◌, ◌++◌, length, Option, Some, None, Result, Ok, Err, true≢false, sym, ap, subst, set, drop, slice_get, IsErr, IsErrAnd, FaultKind, Server, ServerNo, Tid, DeviceState, PageDecays, PageRevives, FaultArmed, Collected, with_delivered, Posted, Place, Down, Took, WorkedBy, ScrubbedBy, Showed, AsksAgain, TimedOut, Crashed, Befell, has_work_at, WhereUp, TakeLeaves, WorkLeaves, KeepsRubbish, counts_by, TooManyArmed, Line, When, Event, IsStepTo, HasCounts, ReadsPages, texts_shown, Standing, texts_sent, with_answer, lost-step, crashed-step, pairs_view, StoreView, Ended, Memory, DoesEvent, EndsStep, Setup, told_unless, Moment, lines_at, Task, LeavesClean}
 use Rattle.std.specs.Prelude.{slice_set}
 use Rattle.jn_base.specs.declared.device.FaultKind.TheVariants as faults
 use Rattle.jn_report.specs.declared.line.Text.TheVariants as says
@@ -29,7 +29,7 @@ module _ {S : Type 0} (look : S → StoreView) (device : S → DeviceState) (see
         subst (λ (n : ℕ). IsStepTo look device x m rest (f (set w.places n new)) lines wanted) (sym index)
         (subst (λ (p : Place S). IsStepTo look device x m rest (f (set w.places q.0 p)) lines wanted) place-is step)
 
-    module _ {A : Type 0} (when : When) (r : Result A Ended) (u : Standing S) (first later : List Line) (at : slice_get w.places q.0 ≡ Some place) (counts : HasCounts look (counts_by place.counts) new.slot) where
+    module _ {A : Type 0} (when : When) (r : Result A Ended) (u : Standing S) (first later : List Line) (at : slice_get w.places q.0 ≡ Some place) (counts : HasCounts look q (counts_by place.counts) new.slot) where
       -- it takes a message
       pub took-does : (k : ℕ) (one : Posted) (answer : Option Collected) (told : List Line) → slice_get w.net.sent k ≡ Some one → one.to ≡ Server q → ReadsPages look device (counts_by place.counts) place.slot
           → Took look device q (counts_by place.counts) when one.message place.slot answer new.slot [] told → WhereUp look (TakeLeaves one.message) place.slot new.slot
@@ -59,13 +59,13 @@ module _ {S : Type 0} (look : S → StoreView) (device : S → DeviceState) (see
           ends
 
       -- its pages are cleaned
-      pub scrubbed-does : (done : Bool) (wanted : List Line) → ScrubbedBy look device q (counts_by place.counts) when place.slot done new.slot first wanted → WhereUp look KeepsRubbish place.slot new.slot
+      pub scrubbed-does : (done : Bool) (wanted : List Line) → ScrubbedBy look device q (counts_by place.counts) when place.slot done new.slot first wanted → WhereUp look KeepsRubbish place.slot new.slot → WhereUp look LeavesClean place.slot new.slot
           → EndsStep r (record w { places = set w.places i new }) u first wanted later → DoesEvent look device (events.Scrub q) when w r u first later
-      scrubbed-does done wanted scrubbed kept ends x m more stands next is =
+      scrubbed-does done wanted scrubbed kept clean ends x m more stands next is =
           step-ends look device x m (more ++ drop 1 m.state.tasks) (record w { places = set w.places i new }) u r first wanted later
           (written x m (more ++ drop 1 m.state.tasks) (λ ps. record w { places = ps }) first wanted
           (scrubbed-step look device seen x w m stands q place at more first wanted done new.slot
-          (subst (λ (t : When). ScrubbedBy look device q (counts_by place.counts) t place.slot done new.slot first wanted) (sym is) scrubbed) counts kept next))
+          (subst (λ (t : When). ScrubbedBy look device q (counts_by place.counts) t place.slot done new.slot first wanted) (sym is) scrubbed) counts kept clean next))
           ends
 
       -- its files are printed

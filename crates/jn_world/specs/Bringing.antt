@@ -38,7 +38,7 @@ pub record BroughtUp {S : Type 0} (look : S → StoreView) (device : S → Devic
   pub slot : Slot S
   pub now : List Line
   pub restart : IsRestart look device q (counts_by place.counts) when place.slot restarted slot lines now
-  pub counts : HasCounts look (counts_by place.counts) slot
+  pub counts : HasCounts look q (counts_by place.counts) slot
   pub here : w' ≡ with_named (texts_restarted q w.named restarted) (record w { places = slice_set w.places q.0 (record place { slot = slot }) })
   pub told : lines' ≡ now ++ lines_at when (texts_so_far q w.named restarted)
   pub came_is : came ≡ has_come restarted

@@ -1,6 +1,10 @@
 -- The names from below that these proofs cite, passed on from one place. Declares nothing.
-pub use Rattle.std.proofs.Common.{◌≡◌, ℕ, Bool, true, false, List, [], ◌∷◌, map, Option, Some, None, refl, sym, subst, arith, zero, suc, ◌+◌, ◌++◌, length, ◌∙◌, ap, append-nil, append_assoc, ◌≤◌, ◌<◌, ◌≢◌}
-pub use Rattle.std.specs.Prelude.{if◌then◌else◌, slice_get, drop, not, nat_lt, is_some, ◌&&◌, ◌||◌}
+pub use Rattle.std.proofs.Common.{ap, ◌≡◌, ℕ, Bool, true, false, List, [], ◌∷◌, map, Option, Some, None, refl, sym, subst, arith, zero, suc, ◌+◌, ◌++◌, length, ◌∙◌, append-nil, append_assoc, ◌≤◌, ◌<◌, ◌≢◌}
+pub use Rattle.jn_written.specs.Chances.{Chance, Setup}
+pub use Rattle.std.specs.Prelude.{◌/◌, if◌then◌else◌, slice_get, drop, not, nat_lt, is_some, ◌&&◌, ◌||◌}
+pub use Rattle.jn_device.specs.Device.{DeviceState}
+pub use Rattle.jn_device.specs.Later.{Later, count_kind, count_told, is_stop, darkness}
+pub use Rattle.jn_written.specs.Devices.{IsCalled}
 pub use Rattle.std.specs.List.{list_all}
 pub use Rattle.jn_base.specs.declared.names.ServerNo.{ServerNo}
 pub use Rattle.jn_schedule.specs.declared.Event.{Event}
@@ -12,9 +16,8 @@ pub use Rattle.jn_system.specs.WholeSystem.World.{World, Memory, committed_in, c
 pub use Rattle.jn_system.specs.WholeSystem.Printing.{Printed, FileThere, PageStored, UnitLocked, print_files}
 pub use Rattle.jn_system_settling.specs.Settling.Course.{go_on, Course, go, newly_sent}
 pub use Rattle.jn_system_reports.specs.Reporting.Printing.{text_printed, prints_of}
-pub use Rattle.jn_written.specs.Chances.{Setup, Chance}
 pub use Rattle.jn_written.specs.Tasks.{Task, Begins, Meets, Acts, Rests, ComesUp, Dismisses, GoesDown, ClosesClients, CountsCommits, State, next_task, Stage, InSchedule, AtEnd, CutShort, next_at, begun, when_of, when_at}
-pub use Rattle.jn_written.specs.Deeds.{Deed, delivered, worked, blocks_from, shown, crashed_at, is_used_up, brought_up, given_up, recovered, delivered_at, is_busy, working_steps, served, nothing, stopped_idle, restarted, recovering, Use, Calls, Reads, Recovers, nobody, tells}
+pub use Rattle.jn_written.specs.Deeds.{Deed, delivered, worked, blocks_from, shown, crashed_at, is_used_up, brought_up, given_up, recovered, delivered_at, is_busy, working_steps, served, nothing, stopped_idle, restarted, recovering, Use, Calls, Reads, Recovers, Cleans, nobody, tells}
 pub use Rattle.jn_written.specs.Refusals.{refusal_of}
 pub use Rattle.jn_written.specs.Events.{servers_of, first_busy, next_event, told_unless, acted, met, resting, deed_of, asking, settling, next_in, printing, coming_up, ending, tasks_of}
 pub use Rattle.jn_written.specs.Steps.{texts_of, done, next_by, is_too_much, come_to, cut_short, made_to, made, outside_texts, own_texts, message_texts, traced, lines_at, most_messages}
@@ -27,6 +30,7 @@ pub use Rattle.jn_rows.specs.Outcomes.{Sent, RowOutcome}
 pub use Rattle.jn_system.specs.WholeSystem.Servers.{Room, server_row, of_coordinator, lines_of, named_now}
 pub use Rattle.jn_system.specs.WholeSystem.Steps.{Step, NextEvent, handing, working, IsStep, IsRun, after, run, Deliver, StopDelivery}
 pub use Rattle.jn_written.specs.Whole.{before, closed_world}
+pub use Rattle.jn_storage.specs.DeviceCalls.{step_calls}
 pub use Rattle.std.proofs.Math.Seq.{drop-append_seam}
 pub use Rattle.jn_base.specs.declared.names.Tid.{Tid}
 pub use Rattle.jn_base.specs.declared.names.Party.{Party}

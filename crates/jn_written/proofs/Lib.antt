@@ -8,6 +8,7 @@ pub mod Texts
 pub mod Quiet
 pub mod Resting
 pub mod Refuted
+pub mod Called
 pub mod Struck
 pub mod Caused
 pub mod Coursed

@@ -1,16 +1,14 @@
 -- A stop and each fault that is told had waited.
-use Rattle.jn_written.proofs.Common.{◌≡◌, ◌≤◌, ℕ, ◌+◌, Bool, true, false, List, [], ◌∷◌, Option, Some, None, refl, sym, ◌∙◌, ap, arith, not, is_some, Outside, Pick, Chance}
+use Rattle.jn_written.proofs.Common.{◌≡◌, ◌≤◌, ℕ, ◌+◌, Bool, true, false, List, [], ◌∷◌, Option, Some, None, refl, sym, ◌∙◌, ap, arith, not, is_some, Outside, Pick, Chance, DeviceState, count_kind, count_told, is_stop, darkness, IsCalled}
 use Rattle.jn_base.specs.declared.device.FaultKind.{FaultKind}
-use Rattle.jn_device.specs.Device.{DeviceState}
-use Rattle.jn_device.specs.Later.{count_kind, count_told, is_stop, darkness}
-use Rattle.jn_written.specs.Devices.{IsCalled}
+use Rattle.jn_written.proofs.Called.{called-later}
 
-module _ (h : Chance) (d e : DeviceState) (c : IsCalled h d e) where
+module _ (most : ℕ) (h : Chance) (d e : DeviceState) (c : IsCalled most h d e) where
   left-waiting : e.waiting ≡ c.last.waiting
   left-waiting = ap (λ (f : DeviceState). f.waiting) c.after
 
   pub stop-had-waited : d.power ≡ true → is_some h.stop ≡ true → count_kind is_stop e.waiting + 1 ≤ count_kind is_stop d.waiting
-  stop-had-waited on stopped = less (ap (count_kind is_stop) left-waiting) (dark c.last.power (sym stopped ∙ c.stop)) (ap darkness on) c.calls.spends.stop_of
+  stop-had-waited on stopped = less (ap (count_kind is_stop) left-waiting) (dark c.last.power (sym stopped ∙ c.stop)) (ap darkness on) (let later = called-later most h d e c in later.spends.stop_of)
     where
       dark : (power : Bool) → true ≡ not power → darkness power ≡ 1
       dark false k = refl
@@ -23,7 +21,7 @@ module _ (h : Chance) (d e : DeviceState) (c : IsCalled h d e) where
       less a b k l = omega arith
 
   pub told-had-waited : d.told ≡ [] → (f : FaultKind → Bool) → count_kind f e.waiting + count_told f h.told ≤ count_kind f d.waiting
-  told-had-waited none f = less (ap (count_kind f) left-waiting) (ap (count_told f) c.told) (ap (count_told f) none) (c.calls.spends.told_of f)
+  told-had-waited none f = less (ap (count_kind f) left-waiting) (ap (count_told f) c.told) (ap (count_told f) none) (let later = called-later most h d e c in later.spends.told_of f)
     where
       less : {after told before last now was : ℕ} → after ≡ last → told ≡ now → was ≡ 0 → last + now ≤ before + was → after + told ≤ before
       less a b k l = omega arith

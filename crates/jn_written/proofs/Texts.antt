@@ -1,5 +1,5 @@
 -- What holds of all that is told, where it holds of what each step of the system may tell and of what deeds tell besides.
-use Rattle.jn_written.proofs.Common.{◌≡◌, ℕ, ◌+◌, Bool, true, false, List, [], ◌∷◌, ◌++◌, append-nil, append_assoc, map, length, drop, Option, Some, None, refl, sym, ◌∙◌, ap, subst, if◌then◌else◌, slice_get, list_all, drop-append_seam, list_all-append, ServerNo, Tid, Party, Client, Server, Outside, Event, EventRefusal, EpochsUsedUp, Text, Pick, Sent, World, Memory, Step, after, Printed, FileThere, PageStored, UnitLocked, Course, go, go_on, newly_sent, text_printed, Setup, Chance, Task, Begins, Meets, Acts, Rests, ComesUp, Dismisses, GoesDown, ClosesClients, CountsCommits, State, Use, Calls, Reads, Recovers, Deed, delivered, delivered_at, is_busy, worked, shown, crashed_at, is_used_up, restarted, brought_up, given_up, recovered, served, nothing, working_steps, refusal_of, told_unless, acted, met, next_in, resting, deed_of, outside_texts, own_texts, message_texts, traced, texts_of, may_tell, event_after}
+use Rattle.jn_written.proofs.Common.{◌≡◌, ℕ, ◌+◌, Bool, true, false, List, [], ◌∷◌, ◌++◌, append-nil, append_assoc, map, length, drop, Option, Some, None, refl, sym, ◌∙◌, ap, subst, if◌then◌else◌, slice_get, list_all, drop-append_seam, list_all-append, ServerNo, Tid, Party, Client, Server, Outside, Event, EventRefusal, EpochsUsedUp, Text, Pick, Sent, World, Memory, Step, after, Printed, FileThere, PageStored, UnitLocked, Course, go, go_on, newly_sent, text_printed, Setup, Chance, Task, Begins, Meets, Acts, Rests, ComesUp, Dismisses, GoesDown, ClosesClients, CountsCommits, State, Use, Calls, Reads, Recovers, Deed, delivered, delivered_at, is_busy, worked, shown, crashed_at, is_used_up, restarted, brought_up, given_up, recovered, served, nothing, working_steps, refusal_of, told_unless, acted, met, next_in, resting, deed_of, outside_texts, own_texts, message_texts, traced, texts_of, may_tell, event_after, Cleans, step_calls}
 use Rattle.jn_base.specs.declared.names.FileNo.{FileNo}
 use Rattle.jn_base.specs.declared.names.BlockNo.{BlockNo}
 use Rattle.jn_base.specs.declared.names.LockUnit.{LockUnit}
@@ -43,7 +43,8 @@ module _ (test : Text → Bool) where
       outside-of q (fault ∷ told) = both _ _ (outside q fault) (outside-of q told)
 
       outsides : (device : Use) (told : List Outside) → list_all test (outside_texts device told) ≡ true
-      outsides (Calls q) told = outside-of q told
+      outsides (Calls q most) told = outside-of q told
+      outsides (Cleans q) told = outside-of q told
       outsides (Reads q) told = outside-of q told
       outsides (Recovers q) told = outside-of q told
       outsides device told = refl
@@ -86,7 +87,7 @@ crashes q (Some m) = refl
 pub works : (h : Chance) (q : ServerNo) (w : World) → (worked h q w).texts ≡ []
 works h q w = by (is_busy h.rubbish w q)
   where
-    by : (c : Bool) → (if c then served q (working_steps h q) else nothing).texts ≡ []
+    by : (c : Bool) → (if c then served q step_calls (working_steps h q) else nothing).texts ≡ []
     by true = refl
     by false = refl
 

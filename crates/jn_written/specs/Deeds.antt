@@ -16,14 +16,17 @@ use Rattle.jn_system.specs.WholeSystem.Steps.{Step, Deliver, StopWork, Crash, Na
 use Rattle.jn_system.specs.WholeSystem.Printing.{print_files}
 use Rattle.jn_system_settling.specs.Settling.Settle.{is_busy as has_going}
 use Rattle.jn_system_reports.specs.Reporting.Printing.{text_printed, prints_of}
+use Rattle.jn_storage.specs.DeviceCalls.{step_calls}
+use Rattle.jn_server.specs.Handling.{row_calls}
 use Rattle.jn_written.specs.Chances.{Chance}
 use Rattle.jn_written.specs.Tasks.{Task}
 
 -- what a step does with a server's device
 pub data Use : Type 0 where
   Nothing : Use
-  -- a server that is up calls it, for a show to read what is printed
-  Calls : ServerNo → Use
+  -- a server that is up calls it, so many times at most; for a scrub to clean its pages; for a show to read what is printed
+  Calls : ServerNo → ℕ → Use
+  Cleans : ServerNo → Use
   Reads : ServerNo → Use
   -- its power comes, and it is called
   Recovers : ServerNo → Use
@@ -52,9 +55,9 @@ pub record Deed : Type 0 where
 abbrev pub plain : Party → List Step → Deed
 plain actor steps = record { actor = actor; device = Nothing; steps = steps; texts = []; tasks = []; cuts = false }
 
--- steps of a server that calls its device
-abbrev pub served : ServerNo → List Step → Deed
-served q steps = record (plain (Server q) steps) { device = Calls q }
+-- steps of a server that calls its device so many times at most
+abbrev pub served : ServerNo → ℕ → List Step → Deed
+served q most steps = record (plain (Server q) steps) { device = Calls q most }
 
 abbrev pub nobody : Party
 nobody = Server (record { 0 = 0 })
@@ -80,7 +83,7 @@ room h q = record { free = h.free; rubbish = h.rubbish q }
 -- a server that is down loses the message, and its device isn't called
 abbrev pub delivered_at : Chance → ℕ → ServerNo → Option Memory → Deed
 delivered_at h k q None = plain (Server q) (Deliver k (room h q) ∷ [])
-delivered_at h k q (Some m) = served q (handing k (room h q) h.stop ∷ [])
+delivered_at h k q (Some m) = served q row_calls (handing k (room h q) h.stop ∷ [])
 
 abbrev pub no_room : Room
 no_room = record { free = record { records = 0; heads = 0; pages = 0 }; rubbish = false }
@@ -103,7 +106,7 @@ working_steps h q = working q (room h q) h.stop ∷ []
 
 -- a server makes one step; with nothing to do it does nothing
 abbrev pub worked : Chance → ServerNo → World → Deed
-worked h q w = if is_busy h.rubbish w q then served q (working_steps h q) else nothing
+worked h q w = if is_busy h.rubbish w q then served q step_calls (working_steps h q) else nothing
 
 -- ---- scrubs and shows
 
@@ -113,7 +116,7 @@ stopped_idle q None = []
 stopped_idle q (Some made) = StopWork q (record no_room { rubbish = true }) (λ c. 0) ∷ []
 
 abbrev pub scrubbed : Chance → ServerNo → Deed
-scrubbed h q = served q (stopped_idle q h.stop)
+scrubbed h q = record (plain (Server q) (stopped_idle q h.stop)) { device = Cleans q }
 
 -- so many blocks from this number on
 abbrev pub blocks_from : ℕ → ℕ → List BlockNo
@@ -126,7 +129,7 @@ shown h q w (Some m) None = map (text_printed q) (print_files (prints_of q w m) 
 shown h q w memory stop = []
 
 abbrev pub showing : Chance → ServerNo → World → Deed
-showing h q w = record (served q (stopped_idle q h.stop)) { device = Reads q; texts = shown h q w (w.memory q) h.stop }
+showing h q w = record (plain (Server q) (stopped_idle q h.stop)) { device = Reads q; texts = shown h q w (w.memory q) h.stop }
 
 -- ---- crashes and restarts
 

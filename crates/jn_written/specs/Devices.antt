@@ -1,14 +1,18 @@
 -- What befalls a step is what its server's device does.
-use Rattle.std.specs.Prelude.{◌≡◌, ◌<◌, Bool, false, not, if◌then◌else◌, Some, None, is_some}
+use Rattle.std.specs.Prelude.{◌≡◌, ◌≤◌, ◌<◌, ◌+◌, ◌*◌, ℕ, Bool, false, not, if◌then◌else◌, Some, None, is_some}
 use Rattle.jn_base.specs.declared.names.ServerNo.{ServerNo}
 use Rattle.jn_base.specs.declared.names.LockUnit.TheVariants.{File}
 use Rattle.jn_base.specs.Names.{server_eq, file_eq}
 use Rattle.jn_device.specs.Device.{DeviceState}
 use Rattle.jn_device.specs.Events.{PowersUp, powered_off, disarmed, cleared, Decays as PageDecays, Revives as PageRevives, Arms as FaultArmed}
-use Rattle.jn_records.specs.StablePages.{Counts, Pages}
+use Rattle.jn_device.specs.Happens.{Happens}
+use Rattle.jn_records.specs.StablePages.{Counts, Pages, page_count}
+use Rattle.jn_store.specs.DeviceCalls.{put_calls, cleaned_get_calls}
 use Rattle.jn_store.specs.Pairs.{pairs_view}
-use Rattle.jn_store.specs.Store.{StoreLater}
+use Rattle.jn_store.specs.Store.{IsCalm, IsClean, IsWholePage}
 use Rattle.jn_found.specs.Pages.{pool_on, found_on}
+use Rattle.jn_found.specs.Recoverable.{IsRecoverable}
+use Rattle.jn_recovery.specs.Loading.{most_calls}
 use Rattle.jn_rows.specs.Stable.{Pick, stable}
 use Rattle.jn_system.specs.WholeSystem.World.{World, Memory}
 use Rattle.jn_system.specs.WholeSystem.Steps.{AreNames, run, IsRun}
@@ -17,28 +21,35 @@ use Rattle.jn_system_reports.specs.Reporting.Printing.{prints_of}
 use Rattle.jn_server.specs.Standing.{standing_pages, free_on, has_rubbish}
 use Rattle.jn_written.specs.Chances.{Setup, Chance}
 use Rattle.jn_written.specs.Rubbish.{AreLeft, AreAllCounted}
-use Rattle.jn_written.specs.Deeds.{Use, Nothing, Calls, Reads, Recovers, PowersOff, Decays, Revives, Arms, Disarms, Deed}
+use Rattle.jn_written.specs.Deeds.{Use, Nothing, Calls, Cleans, Reads, Recovers, PowersOff, Decays, Revives, Arms, Disarms, Deed}
 
 abbrev pub Devices : Type 0
 Devices = ServerNo → DeviceState
 
 -- ---- calls
 
--- The device is called, any number of times. A fault that it tells had waited, and so had a stop that takes its power.
-pub record IsCalled (h : Chance) (d e : DeviceState) : Type 0 where
+-- while no fault waits, a pair of good and equal halves stays one
+abbrev pub KeepsWhole : DeviceState → DeviceState → Type 0
+KeepsWhole d e = IsCalm (pairs_view d) → (i : ℕ) → i < (pairs_view d).count → IsWholePage (pairs_view d) i → IsWholePage (pairs_view e) i
+
+-- The device is called, so many times at most: each call is a step of its own. What it tells was outside at its call, and it has no power behind
+-- a stop.
+pub record IsCalled (most : ℕ) (h : Chance) (d e : DeviceState) : Type 0 where
   pub last : DeviceState
-  pub calls : StoreLater (pairs_view d) (pairs_view last)
+  pub happens : Happens d last
+  pub few : last.calls ≤ d.calls + most
+  pub whole : KeepsWhole d last
   pub told : h.told ≡ last.told
   pub stop : is_some h.stop ≡ not last.power
   -- what was told is forgotten
   pub after : e ≡ cleared last
 
 -- the power comes first, and goes where the server doesn't come up
-pub record IsRecovery (h : Chance) (up : Bool) (d e : DeviceState) : Type 0 where
+pub record IsRecovery (g : Counts) (h : Chance) (up : Bool) (d e : DeviceState) : Type 0 where
   pub powered : DeviceState
   pub last : DeviceState
   pub power : PowersUp d powered
-  pub called : IsCalled h powered last
+  pub called : IsCalled (most_calls g) h powered last
   pub after : e ≡ (if up then last else powered_off last)
 
 -- one server's device becomes another, and all others stay
@@ -58,25 +69,32 @@ rubbish_on x ds q = has_rubbish (pool_on (x.counts q) (pages_of (ds q)))
 -- ---- what a step does with the devices
 
 -- a server that is up has so much free, and its device is called
-pub record IsServed (g : Counts) (h : Chance) (w : World) (q : ServerNo) (d e : DeviceState) : Type 0 where
+pub record IsServed (g : Counts) (most : ℕ) (h : Chance) (w : World) (q : ServerNo) (d e : DeviceState) : Type 0 where
   pub memory : Memory
   pub up : w.memory q ≡ Some memory
   pub free : h.free ≡ free_on g (pages_of d) (stable (w.found q)) memory
-  pub called : IsCalled h d e
+  pub called : IsCalled most h d e
+
+-- where it isn't stopped, each pair of pages is clean then, and whole where no fault waits
+pub record IsScrubbed (g : Counts) (h : Chance) (w : World) (q : ServerNo) (d e : DeviceState) : Type 0 where
+  pub served : IsServed g (put_calls * page_count g) h w q d e
+  pub clean : h.stop ≡ None → (i : ℕ) → i < page_count g → IsClean (pairs_view e) i
+  pub whole : h.stop ≡ None → IsCalm (pairs_view d) → (i : ℕ) → i < page_count g → IsWholePage (pairs_view e) i
 
 -- where it isn't stopped, these are the files of which a server that is up has something to print
-pub record IsLookedOver (h : Chance) (w : World) (q : ServerNo) (d e : DeviceState) : Type 0 where
+pub record IsLookedOver (g : Counts) (h : Chance) (w : World) (q : ServerNo) (d e : DeviceState) : Type 0 where
   pub memory : Memory
   pub up : w.memory q ≡ Some memory
   pub files : h.stop ≡ None → AreNames file_eq file_before (λ f. prints_of q w memory (File f)) h.files
-  pub called : IsCalled h d e
+  pub called : IsCalled (cleaned_get_calls * g.leaves) h d e
 
 -- in a step from one world to another
 abbrev pub IsUsed : Setup → Chance → Use → World → World → Devices → Devices → Type 0
 IsUsed x h Nothing w now ds es = (q : ServerNo) → es q ≡ ds q
-IsUsed x h (Calls q) w now ds es = Alone q (IsServed (x.counts q) h w q) ds es
-IsUsed x h (Reads q) w now ds es = Alone q (IsLookedOver h w q) ds es
-IsUsed x h (Recovers q) w now ds es = Alone q (IsRecovery h (is_some (now.memory q))) ds es
+IsUsed x h (Calls q most) w now ds es = Alone q (IsServed (x.counts q) most h w q) ds es
+IsUsed x h (Cleans q) w now ds es = Alone q (IsScrubbed (x.counts q) h w q) ds es
+IsUsed x h (Reads q) w now ds es = Alone q (IsLookedOver (x.counts q) h w q) ds es
+IsUsed x h (Recovers q) w now ds es = Alone q (IsRecovery (x.counts q) h (is_some (now.memory q))) ds es
 IsUsed x h (PowersOff q) w now ds es = Alone q (λ d e. e ≡ powered_off d) ds es
 IsUsed x h (Decays q p) w now ds es = Alone q (λ d e. PageDecays d p h.allows e) ds es
 IsUsed x h (Revives q p) w now ds es = Alone q (λ d e. PageRevives d p e) ds es
@@ -88,6 +106,10 @@ IsUsed x h Disarms w now ds es = (q : ServerNo) → es q ≡ disarmed (ds q)
 -- each pick of halves of each server's pages finds what it finds in the world
 abbrev pub AreFound : Setup → World → Devices → Type 0
 AreFound x w ds = (q : ServerNo) (c : Pick) → q.0 < x.servers → w.found q c ≡ found_on (x.counts q) (pairs_view (ds q)) c
+
+-- a recovery may begin from each server's pages
+abbrev pub AreRecoverable : Setup → Devices → Type 0
+AreRecoverable x ds = (q : ServerNo) → q.0 < x.servers → IsRecoverable q (x.counts q) (pairs_view (ds q))
 
 -- a deed leads from this world and these devices to others
 pub record Befalls (x : Setup) (h : Chance) (deed : Deed) (w : World) (ds es : Devices) : Type 0 where
@@ -101,3 +123,5 @@ pub record Befalls (x : Setup) (h : Chance) (deed : Deed) (w : World) (ds es : D
   pub left : AreLeft x deed.steps w ds es
   -- and no record and no head is there that nothing names
   pub counted : AreAllCounted x (run deed.steps w) es
+  -- nor is a data page of two blocks
+  pub recoverable : AreRecoverable x es

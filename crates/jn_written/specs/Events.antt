@@ -16,6 +16,7 @@ use Rattle.jn_system.specs.WholeSystem.World.{World, servers_from}
 use Rattle.jn_system.specs.WholeSystem.Steps.{NextEvent, Tell, Again, Nudge, Timeout, Dismiss, CloseClients}
 use Rattle.jn_system_settling.specs.Settling.Course.{Course}
 use Rattle.jn_system_settling.specs.Settling.Settle.{clients_from}
+use Rattle.jn_server.specs.Handling.{row_calls}
 use Rattle.jn_written.specs.Chances.{Setup, Chance}
 use Rattle.jn_written.specs.Tasks.{Task, Begins, Meets, Acts, Rests, ComesUp, Dismisses, GoesDown, ClosesClients, CountsCommits, State}
 use Rattle.jn_written.specs.Deeds.{Decays, Revives, Arms, Disarms, Deed, plain, served, nobody, nothing, tells, leaves, uses, delivered, is_busy, worked, scrubbed, showing, crashed_at, restarted, brought_up}
@@ -96,7 +97,7 @@ deed_of x h Rests s = resting x h s.course.world (next_in x h.rubbish s.course)
 deed_of x h (ComesUp q) s = brought_up h q s.course.world
 deed_of x h Dismisses s = dismissing
 deed_of x h (GoesDown q) s = crashed_at q (s.course.world.memory q)
-deed_of x h (ClosesClients q) s = served q (CloseClients q ∷ [])
+deed_of x h (ClosesClients q) s = served q row_calls (CloseClients q ∷ [])
 deed_of x h CountsCommits s = tells (counting s.lines)
 
 -- ---- a whole run

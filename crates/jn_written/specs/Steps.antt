@@ -12,14 +12,15 @@ use Rattle.jn_system.specs.WholeSystem.World.{World}
 use Rattle.jn_system_settling.specs.Settling.Course.{Course, go_on, newly_sent}
 use Rattle.jn_written.specs.Chances.{Setup, Chance}
 use Rattle.jn_written.specs.Tasks.{Task, CutShort, State, when_of, next_task, begun}
-use Rattle.jn_written.specs.Deeds.{Use, Calls, Reads, Recovers, Deed}
+use Rattle.jn_written.specs.Deeds.{Use, Calls, Cleans, Reads, Recovers, Deed}
 use Rattle.jn_written.specs.Events.{deed_of}
 
 -- ---- lines
 
 -- the faults that a device tells while it is called
 abbrev pub outside_texts : Use → List Outside → List Text
-outside_texts (Calls q) told = map (λ (fault : Outside). says.Outside q fault) told
+outside_texts (Calls q most) told = map (λ (fault : Outside). says.Outside q fault) told
+outside_texts (Cleans q) told = map (λ (fault : Outside). says.Outside q fault) told
 outside_texts (Reads q) told = map (λ (fault : Outside). says.Outside q fault) told
 outside_texts (Recovers q) told = map (λ (fault : Outside). says.Outside q fault) told
 outside_texts device told = []

@@ -1,10 +1,10 @@
 -- The runs of a schedule: to their end, as far as messages and epochs go, or up to any step.
-use Rattle.std.specs.Prelude.{◌≡◌, ◌<◌, ℕ, nat_lt, if◌then◌else◌, List, [], Some, None}
+use Rattle.std.specs.Prelude.{◌≡◌, ◌≤◌, ◌<◌, ◌*◌, ℕ, nat_lt, if◌then◌else◌, List, [], Some, None}
 use Rattle.jn_base.specs.declared.names.ServerNo.{ServerNo}
 use Rattle.jn_order.specs.Files.{AllFiles}
 use Rattle.jn_device.specs.Device.{DeviceState}
 use Rattle.jn_records.specs.StablePages.{page_count}
-use Rattle.jn_store.specs.Pairs.{pairs_view}
+use Rattle.jn_store.specs.DeviceCalls.{put_calls}
 use Rattle.jn_schedule.specs.declared.Event.{Event}
 use Rattle.jn_report.specs.declared.line.Line.{Line}
 use Rattle.jn_system.specs.WholeSystem.World.{World, new_memory, opening}
@@ -12,7 +12,7 @@ use Rattle.jn_system_reports.specs.Reporting.Ending.{AreFilesOf}
 use Rattle.jn_written.specs.Chances.{Setup}
 use Rattle.jn_written.specs.Tasks.{InSchedule, CutShort, AtEnd, State}
 use Rattle.jn_written.specs.Events.{tasks_of}
-use Rattle.jn_written.specs.Devices.{Devices, AreFound}
+use Rattle.jn_written.specs.Devices.{Devices, AreFound, AreRecoverable}
 use Rattle.jn_written.specs.Runs.{Moment, Leads}
 
 -- every server that there is is down, with these files and epochs
@@ -27,11 +27,12 @@ before x schedule files epochs = record {
   stage = InSchedule;
 }
 
--- a device before a run, with so many stable pages
+-- a device before a run, with two pages for each of so many stable pages, to which one put of a stable page was made at most
 pub record IsFresh (pages : ℕ) (d : DeviceState) : Type 0 where
-  pub count : (pairs_view d).count ≡ pages
+  pub count : d.count ≡ 2 * pages
   pub waiting : d.waiting ≡ []
   pub told : d.told ≡ []
+  pub calls : d.calls ≤ put_calls
 
 -- no work and no flag stands on the pages of the images, and what files and epochs do
 pub record AreImages (x : Setup) (files : AllFiles) (epochs : ServerNo → ℕ) (images : Devices) : Type 0 where
@@ -39,6 +40,7 @@ pub record AreImages (x : Setup) (files : AllFiles) (epochs : ServerNo → ℕ) 
   pub its : AreFilesOf x.servers files
   pub fresh : (q : ServerNo) → q.0 < x.servers → IsFresh (page_count (x.counts q)) (images q)
   pub found : AreFound x (closed_world x.servers files epochs) images
+  pub recoverable : AreRecoverable x images
 
 -- a run of a schedule, from its images to this moment
 pub record IsWritten (x : Setup) (schedule : List Event) (images : Devices) (now : Moment) : Type 0 where

@@ -7,6 +7,8 @@ ghost use Rattle.jn_device.specs.Device.{DeviceState};
 ghost use Rattle.jn_device.specs.Later.{count_kind, count_told, is_stop};
 ghost use Rattle.jn_order.specs.Files.{AllFiles};
 ghost use Rattle.jn_schedule.specs.declared.Event.{Event};
+ghost use Rattle.jn_store.specs.Pairs.{pairs_view};
+ghost use Rattle.jn_store.specs.Store.{StoreLater};
 ghost use Rattle.jn_written.specs.Chances.{Setup, Chance};
 ghost use Rattle.jn_written.specs.Devices.{Devices, IsCalled};
 ghost use Rattle.jn_written.specs.Runs.{Moment, Leads, MayLead, IsOnCourse};
@@ -28,17 +30,22 @@ pub fn steps_are_a_run_of_the_system()
         → (files : AllFiles) × (epochs : ServerNo → ℕ) × IsOnCourse (closed_world x.servers files epochs) now.state.course }
 {}
 
+/// The calls of a step keep all that every run of calls of a store keeps.
+pub fn calls_keep_what_a_store_keeps()
+    ensures { (most : ℕ) (h : Chance) (d e : DeviceState) (c : IsCalled most h d e) → StoreLater (pairs_view d) (pairs_view c.last) }
+{}
+
 /// A step is stopped only by a stop that waited, which then waits no more.
 pub fn a_stop_had_waited()
-    ensures { (h : Chance) (d e : DeviceState) → IsCalled h d e → d.power ≡ true → is_some h.stop ≡ true → count_kind is_stop e.waiting + 1 ≤ count_kind is_stop d.waiting }
+    ensures { (most : ℕ) (h : Chance) (d e : DeviceState) → IsCalled most h d e → d.power ≡ true → is_some h.stop ≡ true → count_kind is_stop e.waiting + 1 ≤ count_kind is_stop d.waiting }
 {}
 
 /// Each fault that is told had waited, and then waits no more.
 pub fn refused_faults_had_waited()
-    ensures { (h : Chance) (d e : DeviceState) → IsCalled h d e → d.told ≡ [] → (f : FaultKind → Bool) → count_kind f e.waiting + count_told f h.told ≤ count_kind f d.waiting }
+    ensures { (most : ℕ) (h : Chance) (d e : DeviceState) → IsCalled most h d e → d.told ≡ [] → (f : FaultKind → Bool) → count_kind f e.waiting + count_told f h.told ≤ count_kind f d.waiting }
 {}
 
 /// Where no fault waits, no step is stopped and no fault is told.
 pub fn nothing_strikes_where_nothing_waits()
-    ensures { (h : Chance) (d e : DeviceState) → IsCalled h d e → d.power ≡ true → d.told ≡ [] → d.waiting ≡ [] → (h.stop ≡ None) × (h.told ≡ []) }
+    ensures { (most : ℕ) (h : Chance) (d e : DeviceState) → IsCalled most h d e → d.power ≡ true → d.told ≡ [] → d.waiting ≡ [] → (h.stop ≡ None) × (h.told ≡ []) }
 {}

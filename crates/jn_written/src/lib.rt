@@ -21,8 +21,9 @@ ghost use Rattle.jn_written.specs.Whole.{before};
 ghost use Rattle.jn_written.specs.Kinds.{are_in_order, are_quiet, count_right, events_left};
 
 pub use devices::{
-    a_stop_had_waited, devices_give_chances, nothing_strikes_where_nothing_waits,
-    refused_faults_had_waited, steps_are_a_run_of_the_system, steps_follow_steps,
+    a_stop_had_waited, calls_keep_what_a_store_keeps, devices_give_chances,
+    nothing_strikes_where_nothing_waits, refused_faults_had_waited, steps_are_a_run_of_the_system,
+    steps_follow_steps,
 };
 pub use rows::{
     a_coordinator_is_stopped_twice, a_half_prepared_work_decays, a_half_prepared_work_is_found,

@@ -1,6 +1,6 @@
-use Rattle.jn_place.proofs.Common.{◌∙◌, sym, subst, Bool, true, ◌≡◌, ◌++◌, is_some, OnOk, DeviceState, counts_by, StoreView, Called, lines_at, texts_of_step, ScrubbedBy, StaysCalm, WhereUp, KeepsRubbish, LeavesImage, told_at, Follows, LeavesOwnImage, IsPlace}
+use Rattle.jn_place.proofs.Common.{◌∙◌, sym, subst, Bool, true, ◌≡◌, ◌++◌, is_some, OnOk, DeviceState, counts_by, StoreView, Called, lines_at, texts_of_step, ScrubbedBy, StaysCalm, WhereUp, KeepsRubbish, LeavesImage, told_at, Follows, LeavesOwnImage, IsPlace, LeavesClean}
 use Rattle.jn_place.proofs.Ending.{on-ok, on-both, done-calm}
-use Rattle.jn_place.proofs.Rubbish.{left-up, keeps-lasts, image-lasts, its-image}
+use Rattle.jn_place.proofs.Rubbish.{left-up, keeps-lasts, clean-lasts, image-lasts, its-image}
 use Rattle.jn_place.proofs.Steps.{quiet-left}
 use Rattle.jn_place.proofs.Taking.{scrubbed-by, scrubbed-calm}
 use Rattle.jn_place.proofs.place.Place.scrub.Goals as goal
@@ -23,11 +23,13 @@ returns g c =
           (subst (λ (b : Bool). Called look 0 b p.slot q.slot) (sym c.is_some.ensures) call.called) call.counts c.after_step.ensures.place;
       scrubbed = on-both (Follows look device q.slot done r.slot) (new ≡ old ++ lines_at c.args.when (texts_of_step c.args.server (told_at device q.slot) done))
           ((d : Bool) × ScrubbedBy look device c.args.server (counts_by p.counts) c.args.when p.slot d r.slot old new) c.after_step.result
-          (λ h e. (done, scrubbed-by look device g.met.S.Powered.seen c.args.server (counts_by p.counts) 1000000 c.args.when old new p.slot q.slot r.slot done c.requires.place.stands call.idles h e)) follows lines;
+          (λ h e. (done, scrubbed-by look device g.met.S.Powered.seen c.args.server (counts_by p.counts) 1000000 c.args.when old new p.slot q.slot r.slot done c.requires.place.stands call.scrubs h e)) follows lines;
       calm = on-both (Follows look device q.slot done r.slot) (new ≡ old ++ lines_at c.args.when (texts_of_step c.args.server (told_at device q.slot) done))
           (StaysCalm look p.slot true r.slot) c.after_step.result
-          (λ h e. done-calm look p.slot done r.slot (scrubbed-calm look device g.met.S.Powered.seen c.args.server (counts_by p.counts) 1000000 c.args.when old new p.slot q.slot r.slot done c.requires.place.stands call.idles h)) follows lines;
+          (λ h e. done-calm look p.slot done r.slot (scrubbed-calm look device g.met.S.Powered.seen c.args.server (counts_by p.counts) 1000000 c.args.when old new p.slot q.slot r.slot done c.requires.place.stands call.scrubs h)) follows lines;
       rubbish = on-ok (Follows look device q.slot done r.slot) (WhereUp look KeepsRubbish p.slot r.slot) c.after_step.result (λ h. left-up look device KeepsRubbish (keeps-lasts look device) p.slot q.slot r.slot done call.rubbish h) follows;
+      cleaned = on-ok (Follows look device q.slot done r.slot) (WhereUp look LeavesClean p.slot r.slot) c.after_step.result
+          (λ h. left-up look device LeavesClean (clean-lasts look device g.met.S.Powered.seen) p.slot q.slot r.slot done call.cleaned h) follows;
       image = on-ok (Follows look device q.slot done r.slot) (WhereUp look (LeavesImage c.args.server (counts_by p.counts)) p.slot r.slot) c.after_step.result
           (λ h. its-image look c.args.server (counts_by p.counts) 1000000 p.slot r.slot c.requires.place.stands (left-up look device LeavesOwnImage (image-lasts look device g.met.S.Powered.seen) p.slot q.slot r.slot done call.image h)) follows;
       counts = c.after_step.ensures.counts ∙ call.counts;

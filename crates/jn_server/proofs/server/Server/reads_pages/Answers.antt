@@ -8,4 +8,4 @@ returns g c =
     let inside : Parts g.row.S.Denot = record { storage = c.self.inside.storage; worker = c.self.inside.worker; coordinator = c.self.inside.coordinator; tickets = c.self.inside.tickets } in
     let serves : IsServer (view_with look inside) = subst (λ (s : Parts g.row.S.Denot). IsServer (view_with look s)) (sym c.self.view_is) c.requires.serves in
     subst (λ (s : Parts g.row.S.Denot). IsRoomOfPages (view_with look s)) c.self.view_is
-    (room_of_pages c.self.inside.storage.1 (look c.self.inside.storage.0) c.self.inside.worker c.self.inside.coordinator c.self.inside.tickets serves c.is_in_order.ensures c.is_kept.ensures)
+    (room_of_pages c.self.inside.storage.1 (look c.self.inside.storage.0) c.self.inside.worker c.self.inside.coordinator c.self.inside.tickets serves c.is_in_order.ensures c.is_kept.ensures.kept)
