@@ -30,6 +30,7 @@ pub record SourceRead (left : Option (List ℕ)) (faults : ℕ) (room : List ℕ
   pub told : (n : ℕ) → answer ≡ Ok n → (bytes : List ℕ) → left ≡ Some bytes → Took bytes room n left' room'
   pub untold : left ≡ None → left' ≡ None
   pub rose : is_ok answer ≡ false → Rose faults faults'
+  pub no_fault : is_ok answer ≡ true → faults' ≡ faults
   pub kept : is_ok answer ≡ false → left' ≡ left
 
 -- a write of a piece: the bytes taken and the faults before it, its answer, and the same after it
@@ -39,6 +40,7 @@ pub record SinkWrote (taken : Option (List ℕ)) (faults : ℕ) (piece : List �
   pub some : (n : ℕ) → answer ≡ Ok n → 0 < length piece → 0 < n
   pub took : (n : ℕ) → answer ≡ Ok n → taken' ≡ append_known taken (take n piece)
   pub rose : is_ok answer ≡ false → Rose faults faults'
+  pub no_fault : is_ok answer ≡ true → faults' ≡ faults
   pub kept : is_ok answer ≡ false → taken' ≡ taken
 
 -- what each name holds, by the name's bytes
@@ -59,6 +61,7 @@ pub record KeeperLoaded (kept : Option Contents) (faults : ℕ) (name : List ℕ
   pub same : kept' ≡ kept
   pub found : (content : Option (Vec ℕ Global)) → answer ≡ Ok content → is_some kept ≡ true → kept_at kept name ≡ Some (found_bytes content)
   pub rose : answer ≡ Err CallFailed → Rose faults faults'
+  pub no_fault : answer ≢ Err CallFailed → faults' ≡ faults
 
 -- a save of bytes under a name: what was kept and the faults before it, its answer, and the same after it
 pub record KeeperSaved (kept : Option Contents) (faults : ℕ) (name : List ℕ) (bytes : List ℕ) (answer : Result (Unit {0}) KeepFailure) (kept' : Option Contents) (faults' : ℕ) : Type 0 where
@@ -70,3 +73,4 @@ pub record KeeperSaved (kept : Option Contents) (faults : ℕ) (name : List ℕ)
   pub unsaved : is_ok answer ≡ false → kept_at kept' name ≡ kept_at kept name
   pub others : (other : List ℕ) → other ≢ name → kept_at kept' other ≡ kept_at kept other
   pub rose : answer ≡ Err CallFailed → Rose faults faults'
+  pub no_fault : answer ≢ Err CallFailed → faults' ≡ faults

@@ -2,7 +2,7 @@
 use Rattle.jn_image.proofs.Common.{◌≡◌, ◌≤◌, ◌+◌, ◌*◌, ℕ, Bool, true, false, List, [], ◌++◌, length, take, drop, None, refl, sym, ap, ap₂, subst, ◌∙◌, append_assoc, arith, length-append, length-drop, ◌&&◌, nat_eq, nat_le, slice_index, codes, bytes_eq, take-add, false≢true, nat_tests, append-nil, take_at, drop_at, sha256, Half, Counts, page_count, Image, bad_of, server_in, counts_in, in_range, within, statuses_fit, has_digest, image_counts, header_bytes, body_bytes, image_bytes, body_size, image_size, HasForm, IsWithin, PagesFit, halves_in, image_in}
 use Rattle.std.proofs.lemmas.Slice.Eq.{bytes_eq-Decides}
 use Rattle.sha2.proofs.Facts256.{length-sha256}
-use Rattle.jn_image.proofs.Halves.{written, halves_again, statuses_again, length-written, length-halves_in, halves_written}
+use Rattle.jn_image.proofs.Halves.{written, halves_again, statuses_again, length-written, length-halves_in, halves_fit, halves_written}
 use Rattle.jn_image.proofs.Headers.{server_again, counts_again, AreBytes, header_written}
 use Rattle.jn_image.proofs.Passing.{Passes, PassesBehind, passes, was_passed}
 
@@ -140,6 +140,12 @@ module _ (bytes : List ℕ) (fit : AreBytes bytes) (none : bad_of bytes ≡ None
         leaves_within = within_is 8000 (counts_in bytes).leaves range.3;
         both_halves = length-halves_in (2 * page_count (counts_in bytes)) (drop 16 bytes);
       }
+
+  pub found_fit : PagesFit (image_in bytes)
+  unfolding image_in
+  found_fit =
+      let whole : length bytes ≡ image_size (counts_in bytes) = (was_passed bytes none).behind.whole in
+      halves_fit (2 * page_count (counts_in bytes)) (drop 16 bytes) (omega (arith, whole, length-drop 16 bytes))
 
   body_is : body_bytes (image_in bytes) ≡ take (body_size (counts_in bytes)) bytes
   unfolding image_in

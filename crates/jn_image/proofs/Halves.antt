@@ -1,5 +1,5 @@
 -- Physical pages are read as they were written, and written as they were read.
-use Rattle.jn_image.proofs.Common.{◌≡◌, ◌≤◌, ◌+◌, ◌*◌, ℕ, zero, suc, Bool, true, false, List, [], ◌∷◌, ◌++◌, length, take, drop, refl, sym, ap, ◌∙◌, append_assoc, arith, length-append, length-drop, ◌&&◌, nat_eq, nat_le, slice_index, flat_map, if◌then◌else◌, AllByRecursion, take-add, nat_tests, take_at, drop_at, Half, statuses_fit, half_bytes, half_in, halves_in}
+use Rattle.jn_image.proofs.Common.{◌≡◌, ◌≤◌, ◌+◌, ◌*◌, ℕ, zero, suc, Bool, true, false, List, [], ◌∷◌, ◌++◌, length, take, drop, refl, sym, ap, ◌∙◌, append_assoc, arith, length-append, length-drop, ◌&&◌, nat_eq, nat_le, slice_index, flat_map, if◌then◌else◌, AllByRecursion, take-add, nat_tests, take_at, drop_at, Half, statuses_fit, half_bytes, half_in, halves_in, length-take-le}
 
 abbrev made : Bool → List ℕ → Half
 made good bytes = record { good = good; bytes = bytes }
@@ -56,6 +56,11 @@ length-written (h ∷ hs) fit =
     omega (arith, ih, one, one_more h hs, length-append (half_bytes h) (written hs))
 
 -- ---- what was read is written
+
+pub halves_fit : (n : ℕ) (bytes : List ℕ) → 513 * n ≤ length bytes → AllByRecursion (λ h. length h.bytes ≡ 512) (halves_in n bytes)
+halves_fit zero bytes long = tt
+halves_fit (suc n) bytes long =
+    (length-take-le 512 (drop 1 bytes) (omega (arith, long, length-drop 1 bytes)), halves_fit n (drop 513 bytes) (omega (arith, long, length-drop 513 bytes)))
 
 pub length-halves_in : (n : ℕ) (bytes : List ℕ) → length (halves_in n bytes) ≡ n
 length-halves_in zero bytes = refl

@@ -1,6 +1,5 @@
 -- A header is read as it was written, and written as it was read.
-use Rattle.jn_image.proofs.Common.{◌≡◌, ◌<◌, ◌≤◌, ◌+◌, ◌*◌, ◌/◌, ◌%◌, ℕ, List, [], ◌∷◌, ◌++◌, length, take, drop, get_or, sym, ap, ap₂, ◌∙◌, arith, length-drop, slice_index, codes, take-add, drop-cons, get_or-drop, Counts, Image, server_in, counts_in, image_counts, header_bytes, HasForm}
-use Rattle.byteorder.specs.Endian.{big_bytes, big_number}
+use Rattle.jn_image.proofs.Common.{◌≡◌, ◌<◌, ◌≤◌, ◌+◌, ◌*◌, ◌/◌, ◌%◌, ℕ, List, [], ◌∷◌, ◌++◌, length, take, drop, get_or, sym, ap, ap₂, ◌∙◌, arith, length-drop, slice_index, codes, take-add, drop-cons, get_or-drop, Counts, Image, server_in, counts_in, image_counts, header_bytes, HasForm, big_bytes, big_number}
 use Rattle.byteorder.specs.Numbers.{big_number-reads_back}
 
 abbrev counts_by : ℕ → ℕ → ℕ → Counts

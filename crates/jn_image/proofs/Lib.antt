@@ -10,3 +10,4 @@ pub mod Repeated
 pub mod Exclusive
 pub mod HeadLists
 pub mod SoundPages
+pub mod SoundFits

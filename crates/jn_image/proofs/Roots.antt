@@ -1,7 +1,5 @@
 -- Whether a page is a root like another.
-use Rattle.jn_image.proofs.Common.{◌≡◌, ◌<◌, ◌^◌, ℕ, Bool, false, List, Some, None, sym, ap, ◌∙◌, IsTrue, ◌↔◌, false≢true, HasRoot, root_of, at_epoch}
-use Rattle.jn_records.specs.declared.root.Root.{Root}
-use Rattle.jn_records.specs.Pages.{root_page, IsRoot}
+use Rattle.jn_image.proofs.Common.{◌≡◌, ◌<◌, ◌^◌, ℕ, Bool, false, List, Some, None, sym, ap, ◌∙◌, IsTrue, ◌↔◌, false≢true, HasRoot, root_of, at_epoch, Root, root_page, IsRoot}
 use Rattle.jn_records.specs.Sound as sound
 
 same_root : (a b : Root) → Some a ≡ Some b → a ≡ b

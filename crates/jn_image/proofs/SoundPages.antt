@@ -1,7 +1,6 @@
 -- The pages of a sound image are sound.
-use Rattle.jn_image.proofs.Common.{◌<◌, ◌≤◌, ◌^◌, ℕ, subst, arith, ServerNo, IsSound, image_counts}
+use Rattle.jn_image.proofs.Common.{◌<◌, ◌≤◌, ◌^◌, ℕ, subst, arith, ServerNo, IsSound, image_counts, SoundImagesHaveSoundPages}
 use Rattle.jn_disks.specs.Disks.{image_of}
-use Rattle.jn_image.specs.Laws.{SoundImagesHaveSoundPages}
 
 one_byte : (n : ℕ) → n ≤ 7 → n < 2 ^ 8
 one_byte n most = omega (arith, most)

@@ -2,7 +2,7 @@
 use Rattle.jn_image.proofs.Common.{◌≡◌, ◌⊎◌, inl, inr, ℕ, List, Some, None, Result, Ok, Err, refl, sym, ap, ◌∙◌, subst, IfOk, MatchResult, BadImage, Image, bad_of, TellsImage, HasForm, PagesFit, image_bytes, image_in}
 use Rattle.jn_image.specs.declared.fault.DecodeError.{DecodeError}
 use Rattle.jn_image.specs.declared.fault.DecodeError.TheVariants.{Bad, Memory}
-use Rattle.jn_image.proofs.Again.{nothing_bad, image_again, found_form, found_bytes}
+use Rattle.jn_image.proofs.Again.{nothing_bad, image_again, found_form, found_fit, found_bytes}
 use Rattle.jn_image.proofs.Headers.{AreBytes}
 
 none_some : (f : BadImage) → None ≡ Some f → ⊥
@@ -13,10 +13,10 @@ same_fault f g e = cc
 
 module _ (bytes : List ℕ) where
   abbrev Found : Image → Type 0
-  Found m = HasForm m × (bytes ≡ image_bytes m)
+  Found m = HasForm m × PagesFit m × (bytes ≡ image_bytes m)
 
-  pub told_found : AreBytes bytes → (r : Result Image DecodeError) → TellsImage (bad_of bytes) r → IfOk r (λ m. m ≡ image_in bytes) → IfOk r (λ m. HasForm m × (bytes ≡ image_bytes m))
-  told_found fit (Ok m) told is = subst (λ (v : Image). HasForm v × (bytes ≡ image_bytes v)) (sym is) (found_form bytes fit told, found_bytes bytes fit told)
+  pub told_found : AreBytes bytes → (r : Result Image DecodeError) → TellsImage (bad_of bytes) r → IfOk r (λ m. m ≡ image_in bytes) → IfOk r (λ m. HasForm m × PagesFit m × (bytes ≡ image_bytes m))
+  told_found fit (Ok m) told is = subst (λ (v : Image). HasForm v × PagesFit v × (bytes ≡ image_bytes v)) (sym is) (found_form bytes fit told, found_fit bytes fit told, found_bytes bytes fit told)
   told_found fit (Err e) told is = tt
 
   pub told_only : (r : Result Image DecodeError) → TellsImage (bad_of bytes) r → IfOk r (λ m. m ≡ image_in bytes)

@@ -22,7 +22,7 @@ mod writing;
 
 pub use fault::{BadImage, CheckError, DecodeError, Unsound};
 pub use image::Image;
-pub use laws::a_sound_image_has_sound_pages;
+pub use laws::{a_sound_image_fits, a_sound_image_has_sound_pages, bytes_tell_the_image};
 pub use reading::decode;
 pub use soundness::check;
 pub use writing::encode;

@@ -26,8 +26,8 @@ const HALF: usize = 513;
 
 /// The image whose bytes these are.
 pub fn decode(alloc: Global, bytes: &[u8]) -> Result<Image, DecodeError>
-    // What is read is an image with these bytes.
-    ensures found { IfOk result (λ m. HasForm m × (bytes.now ≡ image_bytes m)) }
+    // What is read is an image with these bytes, 512 on each page.
+    ensures found { IfOk result (λ m. HasForm m × PagesFit m × (bytes.now ≡ image_bytes m)) }
     // The bytes of an image are read, unless memory runs out.
     ensures only { (m : AnyImage) → HasForm m → PagesFit m → bytes.now ≡ image_bytes m → MatchResult result (λ v. v ≡ m) (λ e. e ≡ Memory) }
     // A fault that is told is the first one.

@@ -1,9 +1,8 @@
 -- What is kept, from save to save.
-use Rattle.jn_images.proofs.Common.{◌≡◌, ◌≢◌, ℕ, zero, suc, ◌+◌, ◌<◌, ◌≤◌, Bool, true, false, List, [], ◌∷◌, length, slice_get, Option, Some, None, Result, Err, refl, sym, ◌∙◌, ap, subst, arith, true≢false, nat_tests, nat_lt, is_some, is_ok, get_or, ServerNo, DeviceState, Contents, KeeperSaved, kept_at, image_counts, image_bytes, Image, Half, AreSound, HasPages, Counts, counts_by, PageCounts, Has, IsClosed, IsKept, IsSoundImage, image_name, SavesOne, SavedTo, SavesAll}
+use Rattle.jn_images.proofs.Common.{◌≡◌, ◌≢◌, ℕ, zero, suc, ◌+◌, ◌<◌, ◌≤◌, Bool, true, false, List, [], ◌∷◌, length, slice_get, Option, Some, None, Result, Err, refl, sym, ◌∙◌, ap, subst, arith, true≢false, nat_tests, nat_lt, is_some, is_ok, get_or, ServerNo, DeviceState, Contents, KeeperSaved, kept_at, image_counts, image_bytes, Image, Half, AreSound, HasPages, Counts, counts_by, PageCounts, Has, IsClosed, IsKept, IsSoundImage, image_name, SavesOne, SavedTo, SavesAll, Rose}
 use Rattle.jn_host.specs.declared.KeepFailure.{KeepFailure}
 use Rattle.std.proofs.lemmas.Slice.Eq.{bytes_eq-Decides}
 use Rattle.std.specs.Str.{bytes_eq}
-use Rattle.jn_host.proofs.Faults.{rose_since}
 use Rattle.jn_images.proofs.Naming.{same-server}
 
 some-is : (a b : Option (List ℕ)) → Some a ≡ Some b → a ≡ b
@@ -61,6 +60,7 @@ saves-one name g q d m own bytes kept faults answer kept' faults' sound counts p
   unsaved = λ failed other. by other failed (bytes_eq other own) refl;
   others = λ other differs. s.others other (λ same. differs (same ∙ own_is));
   rose = s.rose;
+  no_fault = s.no_fault;
 }
   where
     by : (other : List ℕ) → is_ok answer ≡ false → (b : Bool) → bytes_eq other own ≡ b → kept_at kept' other ≡ kept_at kept other
@@ -122,11 +122,12 @@ module _ {S : Type 0} (device : S → DeviceState) (name : List ℕ) (stores : L
   }
 
   -- the save of one of them failed
-  pub fails-all : (n : ℕ) (g : Counts) (q : ServerNo) (d : DeviceState) (faults : ℕ) (middle : Option Contents) (faults_then : ℕ) (kept' : Option Contents) (faults' : ℕ) (one : Result (Unit {0}) KeepFailure) (answer : Result (Unit {0}) KeepFailure) (e : KeepFailure) → n < length stores → faults ≤ faults_then
+  pub fails-all : (n : ℕ) (g : Counts) (q : ServerNo) (d : DeviceState) (faults : ℕ) (middle : Option Contents) (faults_then : ℕ) (kept' : Option Contents) (faults' : ℕ) (one : Result (Unit {0}) KeepFailure) (answer : Result (Unit {0}) KeepFailure) (e : KeepFailure) → n < length stores → faults_then ≡ faults
       → SavedTo device name stores counts n kept middle → SavesOne name g q d middle faults_then one kept' faults' → one ≡ Err e → answer ≡ Err e → SavesAll device name stores counts kept faults answer kept' faults'
   fails-all n g q d faults middle faults_then kept' faults' one answer e lt so_far so save is same = record {
     count = omega (arith, so_far, save.count);
     saved = λ ok. absurd (true≢false (sym ok ∙ ap is_ok same));
     failed = λ no. (n, lt, saved-not n g q d middle kept' faults_then faults' one so save (ap is_ok is));
-    rose = λ failed. rose_since faults faults_then faults' so_far save.count (save.rose (is ∙ sym same ∙ failed));
+    rose = λ failed. subst (λ (n : ℕ). Rose n faults') so_far (save.rose (is ∙ sym same ∙ failed));
+    no_fault = λ well. save.no_fault (λ failed. well (same ∙ sym is ∙ failed)) ∙ so_far;
   }

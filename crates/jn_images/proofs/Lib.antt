@@ -5,3 +5,4 @@ pub mod Kept
 pub mod Stores
 pub mod Disks
 pub mod NewDisks
+pub mod Exclusive

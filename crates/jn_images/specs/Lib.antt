@@ -2,3 +2,4 @@ pub mod Kept
 pub mod Examined
 pub mod Saved
 pub mod Texts
+pub mod Laws

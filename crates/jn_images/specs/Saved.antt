@@ -23,6 +23,7 @@ pub record SavesOne (name : List ℕ) (g : Counts) (q : ServerNo) (d : DeviceSta
   pub unsaved : is_ok answer ≡ false → (other : List ℕ) → kept_at kept' other ≡ kept_at kept other
   pub others : (other : List ℕ) → other ≢ image_name name q.0 → kept_at kept' other ≡ kept_at kept other
   pub rose : answer ≡ Err CallFailed → Rose faults faults'
+  pub no_fault : answer ≢ Err CallFailed → faults' ≡ faults
 
 -- the first n of these stores, with their counts of pages, are kept, and nothing else was changed
 pub record SavedTo {S : Type 0} (device : S → DeviceState) (name : List ℕ) (stores : List S) (counts : List PageCounts) (n : ℕ) (kept kept' : Option Contents) : Type 0 where
@@ -35,3 +36,4 @@ pub record SavesAll {S : Type 0} (device : S → DeviceState) (name : List ℕ) 
   pub saved : is_ok answer ≡ true → SavedTo device name stores counts (length stores) kept kept'
   pub failed : is_ok answer ≡ false → (n : ℕ) × (n < length stores) × SavedTo device name stores counts n kept kept'
   pub rose : answer ≡ Err CallFailed → Rose faults faults'
+  pub no_fault : answer ≢ Err CallFailed → faults' ≡ faults

@@ -6,12 +6,17 @@
 #![tactic(auto)]
 
 mod examining;
+mod laws;
 mod loading;
 mod names;
 mod refusal;
 mod saving;
 
 pub use examining::{ExamineFault, examine};
+pub use laws::{
+    an_accepted_image_is_not_refused, an_image_is_refused_by_one_cause, bytes_tell_the_sound_image,
+    where_all_are_accepted_none_is_refused,
+};
 pub use loading::load_images;
 pub use refusal::{Cause, Refusal};
 pub use saving::save_images;

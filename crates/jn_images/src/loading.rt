@@ -1,6 +1,6 @@
 //! Images that are loaded.
 
-ghost use Rattle.std.specs.Prelude.{◌≡◌, ◌≤◌, Err, IfOk};
+ghost use Rattle.std.specs.Prelude.{◌≡◌, ◌≢◌, ◌≤◌, Err, IfOk};
 ghost use Rattle.jn_host.specs.Outside.{Rose};
 ghost use Rattle.jn_host.specs.declared.KeepFailure.TheVariants.{Failed as CallFailed};
 ghost use Rattle.jn_images.specs.Kept.{AreLoaded};
@@ -22,6 +22,7 @@ pub fn load_images<I: Keeper>(
     ensures same { I.kept keeper.new ≡ I.kept keeper.old }
     ensures count { I.faults keeper.old ≤ I.faults keeper.new }
     ensures rose { result ≡ Err CallFailed → Rose (I.faults keeper.old) (I.faults keeper.new) }
+    ensures no_fault { result ≢ Err CallFailed → I.faults keeper.new ≡ I.faults keeper.old }
 {
     let mut found = Vec::new(alloc);
     for server in 0..servers {

@@ -1,22 +1,33 @@
 -- The names from below that these proofs cite, passed on from one place. Declares nothing.
-pub use Rattle.std.proofs.Common.{◌≡◌, true, List, Result, ℕ, zero, suc, ◌≤◌, ◌<◌, Bool, false, [], ◌∷◌, length, slice_get, Option, Some, None, refl, sym, ◌∙◌, ap, subst, arith, inl, inr, map, Ok, Err, ◌+◌, ◌++◌, ◌-◌, drop, Vec, true≢false, drop-cons, get_or, append-nil, rules, lit<}
-pub use Rattle.std.specs.Prelude.{is_ok, nat_lt, option_map, take}
+pub use Rattle.std.proofs.Common.{◌≡◌, ◌≢◌, ◌≤◌, ◌<◌, ℕ, List, length, Option, Some, None, refl, sym, ◌∙◌, ap, subst, arith, true≢false, true, Result, zero, suc, Bool, false, [], ◌∷◌, slice_get, map, Ok, Err, ◌+◌, drop, ◌++◌, Vec, ◌-◌, inl, inr, drop-cons, get_or, append-nil, rules, lit<}
+pub use Rattle.jn_base.specs.declared.names.ServerNo.{ServerNo}
+pub use Rattle.jn_host.specs.Outside.{Contents, Rose}
+pub use Rattle.jn_schedule.specs.declared.Event.{Event}
+pub use Rattle.jn_schedule.specs.Grammar.{IsSchedule, word_lines}
+pub use Rattle.jn_images.specs.Kept.{Has, image_name, AreWithin, AreClosed, IsKept, found_at}
+pub use Rattle.jn_options.specs.declared.asked.Geometry.{Geometry}
+pub use Rattle.jn_options.specs.declared.asked.Opening.TheVariants.{New, Images}
+pub use Rattle.jn_options.specs.declared.asked.Options.{Options}
+pub use Rattle.jn_written.specs.Chances.{Setup}
+pub use Rattle.jn_written.specs.Devices.{Devices}
+pub use Rattle.jn_options.specs.declared.asked.Command.{Command}
+pub use Rattle.jn_images.specs.Examined.{IsAccepted, IsRefused, IsStoreOf, AreStoresOf as AreStoresOfImages, AreStoresOf}
+pub use Rattle.jn_options.specs.declared.asked.Command.TheVariants.{Run, Trial}
+pub use Rattle.jn_options.specs.declared.asked.Opening.{Opening}
+pub use Rattle.jn_report.specs.Text.{report_text}
+pub use Rattle.jn_schedule.specs.Faults.{IsFirstFault}
+pub use Rattle.jn_run.specs.Outcome.{Outside, SourceState, SinkState, KeeperState, Accepted, IsCutShort, IsText, IsWholeReport, Keeps, KeepsFirst, OutcomeOf, Reads, ReadsSchedule, RefusedImage, RefusedSchedule, RunEnds, TrialEnds, WordsEnd, Writes, most_bytes, words_refused, words_not_written, words_no_memory, done, not_read, too_many_bytes, too_many_events, schedule_refused, schedule_not_written, not_loaded, image_refused, image_not_written, at_limit, not_written, not_saved, no_memory, no_memory_inside, no_memory_saving, trial_done, trial_not_written, trial_at_limit, trial_no_memory, geometry_counts, root_of, AreNew, BeginsWith, IsOpened, Opens, no_files, IsUntouched, AreKept, IsRefusedImage, LeavesFiles, most_events, Ran, refused_line, IsPart, sink_state, FailsToLoad, BeginsFromImages, FailsToGive, Gives, GivesSome, HasTooManyBytes, trial_events, trial_options, RanTrial, TrialToLimit, source_state, outside, keeper_state, FailsToWrite}
+pub use Rattle.jn_run.specs.declared.status.Status.{Status}
+pub use Rattle.std.specs.Prelude.{is_ok, nat_lt, ◌*◌, option_map, take, IfSome}
 pub use Rattle.jn_report.specs.declared.line.Line.{Line}
 pub use Rattle.jn_writing.specs.Reporting.{Reporting, Reports, Joins}
 pub use Rattle.jn_run.specs.Running.{ReportedLast, AreDevices, course_of, AreLeft, RunsFrom, TookWhole, IsStore, Course, HasTold, StandsBefore, TookLimited, TookPart, ToldTo, Reaches, Reported, lines_kept, is_limit}
 pub use Rattle.std.proofs.lemmas.Option.{slice_get_past, slice_get-map}
-pub use Rattle.jn_base.specs.declared.names.ServerNo.{ServerNo}
 pub use Rattle.jn_device.specs.Device.{DeviceState}
-pub use Rattle.jn_disks.specs.Disks.{IsNewStore, image_of, files_in}
+pub use Rattle.jn_disks.specs.Disks.{IsNewStore, image_of, files_in, HasNewDevice}
 pub use Rattle.jn_found.specs.Images.{IsFresh, IsImage}
-pub use Rattle.jn_host.specs.Outside.{Contents, Rose}
 pub use Rattle.jn_image.proofs.SoundPages.{sound_pages}
-pub use Rattle.jn_images.specs.Examined.{IsStoreOf, AreStoresOf as AreStoresOfImages, AreStoresOf}
-pub use Rattle.jn_images.specs.Kept.{AreWithin, Has, image_name, AreClosed, IsKept, found_at}
 pub use Rattle.jn_options.specs.Words.{IsOpening, command_of}
-pub use Rattle.jn_options.specs.declared.asked.Geometry.{Geometry}
-pub use Rattle.jn_options.specs.declared.asked.Opening.TheVariants.{New, Images}
-pub use Rattle.jn_options.specs.declared.asked.Options.{Options}
 pub use Rattle.jn_order.specs.Files.{Files, AllFiles}
 pub use Rattle.jn_records.specs.Sound.{HasRoot}
 pub use Rattle.jn_records.specs.StablePages.{Counts, page_count}
@@ -25,23 +36,18 @@ pub use Rattle.jn_recovery.specs.Loading.{counts_by}
 pub use Rattle.jn_rows.specs.Stable.{StableState, Pick, stable}
 pub use Rattle.jn_store.specs.Pairs.{pairs_view}
 pub use Rattle.jn_store.specs.Store.{StoreView}
-pub use Rattle.jn_written.specs.Chances.{Setup}
-pub use Rattle.jn_written.specs.Devices.{Devices}
-pub use Rattle.jn_written.specs.Whole.{closed_world, AreImages, IsWhole as IsWholeRun, IsLimited, IsPartOfRun, before, IsWritten}
+pub use Rattle.jn_written.specs.Whole.{closed_world, AreImages, IsFresh as IsFreshDevice, IsWhole as IsWholeRun, IsLimited, IsPartOfRun, before, IsWritten}
 pub use Rattle.jn_run.specs.Opening.{AreDisks, AreOpened, IsDisk}
-pub use Rattle.jn_run.specs.Outcome.{geometry_counts, root_of, AreNew, BeginsWith, IsOpened, Opens, no_files, LeavesFiles, Accepted, AreKept, IsRefusedImage, Keeps, KeepsFirst, OfImage, OfRefusal, OfReport, OutcomeOf, OutcomeOn, IsUntouched, Outputs, Outside, IsText, most_bytes, most_events, Ran, Reads, Refuses, refused_line, IsWholeReport, IsPart, IsCutShort, RanInPart, RanUnkept, RanWhole, trial_events, trial_options, RanTrial, TrialToLimit}
 pub use Rattle.std.specs.List.{AllByRecursion}
-pub use Rattle.jn_host.proofs.Faults.{rose_since}
-pub use Rattle.jn_schedule.specs.declared.Event.{Event}
 pub use Rattle.jn_schedule.specs.Ranges.{EventInRange}
-pub use Rattle.jn_schedule.specs.Grammar.{IsSchedule, word_lines}
-pub use Rattle.jn_options.specs.declared.asked.Command.{Command}
-pub use Rattle.jn_writing.specs.Writing.{Took, TookFront, writes_to}
+pub use Rattle.jn_writing.specs.Writing.{writes_to, Took, TookFront}
 pub use Rattle.jn_written.specs.Runs.{Moment, Leads, MayLead, DoesStep}
 pub use Rattle.jn_run.specs.declared.running.RunFault.{RunFault}
+pub use Rattle.jn_run.specs.Parts.{EndsOn, Refuses}
+pub use Rattle.std.specs.declared.alloc.Global.{Global}
+pub use Rattle.std.specs.Io.KnownBytes.{prepend_known}
 pub use Rattle.jn_memdisk.specs.declared.disk.MemDisk.{MemDisk}
 pub use Rattle.jn_world.specs.Standing.{AreStores, IsWorld}
 pub use Rattle.std.proofs.lemmas.List.{length-drop, length-take, take-append-drop, length-append, length-map}
-pub use Rattle.std.specs.declared.alloc.Global.{Global}
 pub use Rattle.std.proofs.lemmas.Grind.{common_steps}
 pub use Rattle.std.proofs.lemmas.Result.{err_from_is_err_and}

@@ -1,5 +1,7 @@
 mod Common
+pub mod Complete
 pub mod Opened
+pub mod ReadBytes
 pub mod Outcomes
 pub mod Told
 pub mod Lines

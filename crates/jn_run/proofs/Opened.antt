@@ -1,9 +1,9 @@
 -- What a run begins with, of the stores that were opened.
-use Rattle.jn_run.proofs.Common.{◌≡◌, ℕ, zero, suc, ◌≤◌, ◌<◌, Bool, true, false, List, [], ◌∷◌, length, slice_get, Option, Some, None, refl, sym, ◌∙◌, ap, subst, arith, slice_get_past, nat_lt, ServerNo, DeviceState, IsNewStore, image_of, files_in, IsFresh, Contents, sound_pages, IsStoreOf, AreStoresOfImages, AreWithin, Has, image_name, IsOpening, Geometry, New, Images, Options, Files, AllFiles, HasRoot, Counts, PageCounts, counts_by, StableState, Pick, pairs_view, StoreView, Setup, Devices, closed_world, AreImages, AreDisks, AreOpened, geometry_counts, root_of, AreNew, BeginsWith, IsOpened, Opens, no_files, AreDevices}
+use Rattle.jn_run.proofs.Common.{◌≡◌, ℕ, zero, suc, ◌≤◌, ◌<◌, Bool, true, false, List, [], ◌∷◌, length, slice_get, Option, Some, None, refl, sym, ◌∙◌, ap, subst, arith, slice_get_past, nat_lt, ServerNo, DeviceState, IsNewStore, image_of, files_in, IsFresh, Contents, sound_pages, IsStoreOf, AreStoresOfImages, AreWithin, Has, image_name, IsOpening, Geometry, New, Images, Options, Files, AllFiles, HasRoot, Counts, PageCounts, counts_by, StableState, Pick, pairs_view, StoreView, Setup, Devices, closed_world, AreImages, AreDisks, AreOpened, geometry_counts, root_of, AreNew, BeginsWith, IsOpened, Opens, no_files, AreDevices, ◌*◌, page_count, HasNewDevice, IsFreshDevice, Opening}
+use Rattle.jn_store.specs.DeviceCalls.{put_calls}
 use Rattle.std.proofs.Math.Path.{fun_ext}
 use Rattle.jn_base.specs.declared.names.LockUnit.{LockUnit}
 use Rattle.jn_found.specs.Pages.{found_on}
-use Rattle.jn_options.specs.declared.asked.Opening.{Opening}
 use Rattle.jn_world.specs.Written.{AreStoresOf}
 
 pub some-at : {A : Type 0} (xs : List A) (n : ℕ) → n < length xs → (x : A) × (slice_get xs n ≡ Some x)
@@ -73,6 +73,12 @@ module _ {S : Type 0} (look : S → StoreView) (device : S → DeviceState) (see
     found-none : (q : ServerNo) → IsNewStore (root_of g q) (pairs_view (images q)) → (c : Pick) → (closed_world o.servers no_files (λ q. 0)).found q c ≡ found_on (geometry_counts g) (pairs_view (images q)) c
     found-none q n c = sym (n.fresh.found c)
 
+    -- the device of a new store
+    fresh-new : (q : ServerNo) → (x : S × PageCounts) × (slice_get stores q.0 ≡ Some x) → IsNewStore (root_of g q) (pairs_view (images q)) → IsFreshDevice (page_count (geometry_counts g)) (images q)
+    fresh-new q (x, at) n =
+        let its : HasNewDevice (root_of g q) (images q) = subst (λ (d : DeviceState). HasNewDevice (root_of g q) d) (ap (λ (v : StoreView). v.device) (seen x.0) ∙ sym (devices q.0 x at)) (disks q.0 x at).device in
+        record { count = its.count; waiting = n.untouched.calm.quiet; told = n.untouched.told; calls = its.calls }
+
     new-opened : o.opening ≡ New g → Opened device o kept stores
     new-opened is = record {
       setup = new_setup;
@@ -83,8 +89,9 @@ module _ {S : Type 0} (look : S → StoreView) (device : S → DeviceState) (see
       stores_are = record { servers = count; counts = λ n x at. sym (ap counts_by (disks n x at).counts); devices = devices };
       are_images = record {
         its = λ q u far. refl;
-        fresh = λ q lt. let n = images-new q lt in record { count = n.count; waiting = n.untouched.calm.quiet; told = n.untouched.told };
+        fresh = λ q lt. fresh-new q (there q lt) (images-new q lt);
         found = λ q c lt. found-none q (images-new q lt) c;
+        recoverable = λ q lt. (images-new q lt).fresh.recoverable;
       };
     }
 
@@ -98,6 +105,8 @@ module _ {S : Type 0} (look : S → StoreView) (device : S → DeviceState) (see
       fresh : IsFresh q counts epoch files (pairs_view (device x.0))
       waiting : (device x.0).waiting ≡ []
       told : (device x.0).told ≡ []
+      pages : (device x.0).count ≡ 2 * page_count counts
+      calls : (device x.0).calls ≡ 0
 
     record Began (q : ServerNo) : Type 0 where
       counts : Counts
@@ -126,6 +135,8 @@ module _ {S : Type 0} (look : S → StoreView) (device : S → DeviceState) (see
       fresh = let r = root-is q x s in subst (λ (v : StoreView). IsFresh q (counts_by x.1) (root-is q x s).0 (files_in (counts_by x.1) s.disk.image.pages) v) (seen x.0) (s.store.fresh r.0 r.1 r.2);
       waiting = s.disk.new.waiting;
       told = s.disk.new.told;
+      pages = ap (λ (v : StoreView). v.device.count) (sym (seen x.0)) ∙ s.store.device;
+      calls = s.disk.new.calls;
     }
 
     began : (q : ServerNo) → Began q
@@ -168,6 +179,9 @@ module _ {S : Type 0} (look : S → StoreView) (device : S → DeviceState) (see
         let (x, at) = there q lt in
         subst (λ (d : DeviceState). IsFresh q ((began q).counts) ((began q).epoch) ((began q).files) (pairs_view d)) (sym (devices q.0 x at)) ((began q).its x at).fresh
 
+    none : (n : ℕ) → n ≡ 0 → n ≤ put_calls
+    none n e = omega (arith, e)
+
     images-opened : o.opening ≡ Images name → Opened device o kept stores
     images-opened is = record {
       setup = its_setup;
@@ -182,11 +196,13 @@ module _ {S : Type 0} (look : S → StoreView) (device : S → DeviceState) (see
             let (x, at) = there q lt in
             let i = (began q).its x at in
             record {
-              count = sym (its-fresh q lt).recoverable.count;
+              count = ap (λ (d : DeviceState). d.count) (devices q.0 x at) ∙ i.pages;
               waiting = ap (λ (d : DeviceState). d.waiting) (devices q.0 x at) ∙ i.waiting;
               told = ap (λ (d : DeviceState). d.told) (devices q.0 x at) ∙ i.told;
+              calls = none (images q).calls (ap (λ (d : DeviceState). d.calls) (devices q.0 x at) ∙ i.calls);
             };
         found = λ q c lt. sym ((its-fresh q lt).found c);
+        recoverable = λ q lt. (its-fresh q lt).recoverable;
       };
     }
       where

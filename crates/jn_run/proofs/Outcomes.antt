@@ -1,73 +1,84 @@
 -- What a call leaves, by its status.
-use Rattle.jn_run.proofs.Common.{◌≡◌, inl, inr, ℕ, ◌≤◌, ◌<◌, List, length, map, slice_get, Option, Some, None, Result, Ok, Err, refl, sym, ap, subst, false, ◌∙◌, arith, slice_get-map, is_ok, option_map, AllByRecursion, ServerNo, DeviceState, Contents, Rose, rose_since, IsImage, AreClosed, AreWithin, IsKept, Counts, page_count, counts_by, PageCounts, StableState, stable, Event, EventInRange, IsSchedule, Command, Options, Images, AllFiles, Took, TookFront, writes_to, pairs_view, Devices, Moment, AreImages, IsWholeRun, IsLimited, IsPartOfRun, Line, RunFault, LeavesFiles, Accepted, AreKept, IsRefusedImage, Keeps, KeepsFirst, OfImage, OfRefusal, OfReport, OutcomeOf, OutcomeOn, IsUntouched, Outputs, Outside, IsText, most_bytes, most_events, Ran, Reads, Refuses, refused_line, IsWholeReport, IsPart, IsCutShort, RanInPart, RanUnkept, RanWhole, course_of, AreLeft, RunsFrom, TookWhole}
+use Rattle.jn_run.proofs.Common.{◌≡◌, ℕ, ◌≤◌, ◌<◌, List, length, map, slice_get, Option, Some, None, Result, Ok, Err, refl, sym, ap, subst, false, ◌∙◌, arith, slice_get-map, is_ok, option_map, AllByRecursion, ServerNo, DeviceState, Contents, Rose, IsImage, AreClosed, AreWithin, IsKept, Counts, page_count, counts_by, PageCounts, StableState, stable, Event, EventInRange, IsSchedule, Command, Options, Images, AllFiles, writes_to, pairs_view, Devices, Moment, AreImages, IsWholeRun, IsLimited, IsPartOfRun, Line, RunFault, course_of, AreLeft, RunsFrom, TookWhole, ◌≢◌, ◌+◌, drop, true≢false, OutcomeOf, IsUntouched, Outside, Accepted, AreKept, IsRefusedImage, Keeps, KeepsFirst, LeavesFiles, most_bytes, most_events, Ran, Reads, refused_line, IsWholeReport, IsPart, IsCutShort, SourceState, SinkState, KeeperState, sink_state, ReadsSchedule, Writes, FailsToLoad, BeginsFromImages, words_no_memory, trial_no_memory, done, too_many_events, schedule_refused, schedule_not_written, not_loaded, image_refused, image_not_written, at_limit, not_written, not_saved, no_memory, no_memory_inside, no_memory_saving, Setup, EndsOn, Refuses, IsFirstFault, Run, Trial, report_text, Status}
+use Rattle.jn_run.proofs.Told.{fault-is}
 use Rattle.jn_images.specs.Saved.{SavedTo}
 use Rattle.jn_images.specs.Texts.{refusal_text}
 use Rattle.jn_images.specs.declared.refusal.Refusal.{Refusal}
-use Rattle.jn_schedule.specs.Faults.{IsFirstFault}
 use Rattle.jn_between.proofs.Ended.{at-the-end}
 use Rattle.jn_headline.proofs.Joined.{whole-report, part-report, limited-report}
 use Rattle.jn_headline.specs.Headline.{IsTrueOfBegun}
 use Rattle.jn_headline.specs.WholeReports.Whole.{IsOfItsCommits}
-use Rattle.jn_options.specs.declared.asked.Command.TheVariants.{Run, Trial}
 use Rattle.jn_world.specs.Images.{HasFilesAlone}
-use Rattle.jn_report.specs.Text.{report_text}
-use Rattle.jn_run.specs.declared.status.Status.{Status}
 use Rattle.jn_run.specs.declared.status.Status.TheVariants as statuses
 use Rattle.jn_run.specs.declared.running.RunFault.TheVariants as runs
 use Rattle.jn_run.specs.Keeping.{KeptWith}
 use Rattle.jn_run.proofs.Opened.{Opened, get-below, one-files, some-at}
 
+-- ---- where nothing has failed
+
+drop-none : (known : Option (List ℕ)) → known ≡ option_map (λ (bytes : List ℕ). drop 0 bytes) known
+drop-none None = refl
+drop-none (Some bytes) = refl
+
+untouched : (before : Outside) → IsUntouched before before
+untouched before = record { source = refl; keeper = refl }
+
+-- a keeper whose contents and whose count are the same is as it was
+pub keeper-same : (before after : KeeperState) → after.kept ≡ before.kept → after.faults ≡ before.faults → after ≡ before
+keeper-same before after kept faults = ap (λ (k : Option Contents). record { kept = k; faults = after.faults }) kept ∙ ap (λ (n : ℕ). record { kept = before.kept; faults = n }) faults
+
+-- ---- before the run
+
 -- no memory for the words
-pub memory-outcome : (asked : Option Command) (o : Outside) → o.taken' ≡ o.taken → IsUntouched o → OutcomeOf asked o statuses.Memory
-memory-outcome None o nothing same = inl (nothing, same.kept)
-memory-outcome (Some (Run options)) o nothing same = inl (nothing, same.kept)
-memory-outcome (Some (Trial trial)) o nothing same = (nothing, same)
+pub memory-outcome : (asked : Option Command) (before : Outside) → OutcomeOf asked before before statuses.Memory
+memory-outcome None before = (untouched before, words_no_memory refl)
+memory-outcome (Some (Run options)) before = no_memory (0, omega arith, record { left = drop-none before.source.left; faults = refl }) refl refl
+memory-outcome (Some (Trial trial)) before = (untouched before, trial_no_memory refl)
+
+-- or for what follows once the schedule was read
+pub memory-ends : (options : Options) (text : List ℕ) (sink sink' : SinkState) (keeper keeper' : KeeperState) → sink' ≡ sink → keeper' ≡ keeper → EndsOn options text sink keeper statuses.Memory sink' keeper'
+memory-ends options text sink sink' keeper keeper' taken kept = λ source source' reads. (let fits = reads.fits in no_memory (length text, omega (arith, fits), reads.gave) taken kept)
 
 -- a refused line
-pub line-outcome : (options : Options) (text : List ℕ) (line number : ℕ) (before : Outputs) (status : Status) (after : Outputs) → IsFirstFault text line number → after.kept ≡ before.kept
-    → Refuses (refused_line line number) statuses.Schedule before.taken before.write_faults status after.taken after.write_faults → OutcomeOn options text before status after
-line-outcome options text line number before statuses.Schedule after is stays took =
-    λ left left' rf rf' told fits. (refl, record { text = text; reads = record { told = told; fits = fits }; line = line; number = number; refused = is; took = took.1 }, stays)
-line-outcome options text line number before statuses.Write after is stays wrote =
-    λ left left' rf rf' told fits. (wrote.0, OfRefusal refl (record { text = text; reads = record { told = told; fits = fits }; line = line; number = number; refused = is; took = wrote.1 }), stays)
-line-outcome options text line number before statuses.Memory after is stays same = λ left left' rf rf' told fits. inl (same, stays)
-line-outcome options text line number before statuses.Done after is stays h = absurd cc
-line-outcome options text line number before statuses.Words after is stays h = absurd cc
-line-outcome options text line number before statuses.Image after is stays h = absurd cc
-line-outcome options text line number before statuses.Read after is stays h = absurd cc
-line-outcome options text line number before statuses.Keep after is stays h = absurd cc
-line-outcome options text line number before statuses.Limit after is stays h = absurd cc
+pub line-ends : (options : Options) (text : List ℕ) (line number : ℕ) (sink : SinkState) (keeper : KeeperState) (status : Status) (sink' : SinkState) → IsFirstFault text line number
+    → Refuses (refused_line line number) statuses.Schedule sink status sink' → EndsOn options text sink keeper status sink' keeper
+line-ends options text line number sink keeper statuses.Schedule sink' is wrote = λ source source' reads. schedule_refused (record { text = text; reads = reads; line = line; number = number; refused = is; written = wrote.1 }) refl
+line-ends options text line number sink keeper statuses.Write sink' is wrote = λ source source' reads. schedule_not_written (record { text = text; reads = reads; line = line; number = number; refused = is; written = wrote }) refl
+line-ends options text line number sink keeper statuses.Memory sink' is same = memory-ends options text sink sink' keeper keeper same refl
+line-ends options text line number sink keeper statuses.Done sink' is h = absurd cc
+line-ends options text line number sink keeper statuses.Words sink' is h = absurd cc
+line-ends options text line number sink keeper statuses.Image sink' is h = absurd cc
+line-ends options text line number sink keeper statuses.Read sink' is h = absurd cc
+line-ends options text line number sink keeper statuses.Keep sink' is h = absurd cc
+line-ends options text line number sink keeper statuses.Limit sink' is h = absurd cc
 
 -- a schedule of too many events
-pub long-outcome : (options : Options) (text : List ℕ) (o : Outputs) → (es : List Event) × IsSchedule text es × (most_events < length es) → OutcomeOn options text o statuses.Limit o
-long-outcome options text o long =
-    λ left left' rf rf' told fits. (inl (refl, inr (record { text = text; reads = record { told = told; fits = fits }; events = long.0; schedule = long.1; many = long.2 }), refl), refl)
+pub long-ends : (options : Options) (text : List ℕ) (sink : SinkState) (keeper : KeeperState) → (es : List Event) × IsSchedule text es × (most_events < length es) → EndsOn options text sink keeper statuses.Limit sink keeper
+long-ends options text sink keeper long = λ source source' reads. too_many_events (record { text = text; reads = reads; events = long.0; schedule = long.1; many = long.2 }) refl refl
+
+-- a schedule that may be run
+abbrev read-so : (text : List ℕ) (events : List Event) → Accepted text events → (source source' : SourceState) → Reads text source source' → ReadsSchedule source source'
+read-so text events accepted source source' reads = record { text = text; reads = reads; events = events; accepted = accepted }
 
 -- a refused image
-pub image-outcome : (options : Options) (text : List ℕ) (events : List Event) (r : Refusal) (before : Outputs) (status : Status) (after : Outputs) → Accepted text events → IsRefusedImage options before.kept r → after.kept ≡ before.kept
-    → Refuses (refusal_text r) statuses.Image before.taken before.write_faults status after.taken after.write_faults → OutcomeOn options text before status after
-image-outcome options text events r before statuses.Image after a is stays took =
-    λ left left' rf rf' told fits. ((options, refl, record { text = text; reads = record { told = told; fits = fits }; events = events; accepted = a; refusal = r; refused = is; took = took.1 }), stays)
-image-outcome options text events r before statuses.Write after a is stays wrote =
-    λ left left' rf rf' told fits. (wrote.0, OfImage (options, refl, record { text = text; reads = record { told = told; fits = fits }; events = events; accepted = a; refusal = r; refused = is; took = wrote.1 }), stays)
-image-outcome options text events r before statuses.Memory after a is stays same = λ left left' rf rf' told fits. inl (same, stays)
-image-outcome options text events r before statuses.Done after a is stays h = absurd cc
-image-outcome options text events r before statuses.Words after a is stays h = absurd cc
-image-outcome options text events r before statuses.Schedule after a is stays h = absurd cc
-image-outcome options text events r before statuses.Read after a is stays h = absurd cc
-image-outcome options text events r before statuses.Keep after a is stays h = absurd cc
-image-outcome options text events r before statuses.Limit after a is stays h = absurd cc
+pub image-ends : (options : Options) (text : List ℕ) (events : List Event) (r : Refusal) (sink : SinkState) (keeper : KeeperState) (status : Status) (sink' : SinkState) (keeper' : KeeperState) → Accepted text events → IsRefusedImage options keeper.kept r → keeper' ≡ keeper
+    → Refuses (refusal_text r) statuses.Image sink status sink' → EndsOn options text sink keeper status sink' keeper'
+image-ends options text events r sink keeper statuses.Image sink' keeper' a is same wrote =
+    λ source source' reads. image_refused (record { read = read-so text events a source source' reads; refusal = r; refused = is; written = wrote.1 }) same
+image-ends options text events r sink keeper statuses.Write sink' keeper' a is same wrote =
+    λ source source' reads. image_not_written (record { read = read-so text events a source source' reads; refusal = r; refused = is; written = wrote }) same
+image-ends options text events r sink keeper statuses.Memory sink' keeper' a is same nothing = memory-ends options text sink sink' keeper keeper' nothing same
+image-ends options text events r sink keeper statuses.Done sink' keeper' a is same h = absurd cc
+image-ends options text events r sink keeper statuses.Words sink' keeper' a is same h = absurd cc
+image-ends options text events r sink keeper statuses.Schedule sink' keeper' a is same h = absurd cc
+image-ends options text events r sink keeper statuses.Read sink' keeper' a is same h = absurd cc
+image-ends options text events r sink keeper statuses.Keep sink' keeper' a is same h = absurd cc
+image-ends options text events r sink keeper statuses.Limit sink' keeper' a is same h = absurd cc
 
 -- an image that wasn't loaded
-pub load-outcome : (options : Options) (text : List ℕ) (events : List Event) (before after : Outputs) → Accepted text events → after.taken ≡ before.taken → after.kept ≡ before.kept → Rose before.keep_faults after.keep_faults → (name : List ℕ) × (options.opening ≡ Images name)
-    → OutcomeOn options text before statuses.Keep after
-load-outcome options text events before after a same stays rose from =
-    λ left left' rf rf' told fits. (rose, inl ((options, refl, record { text = text; reads = record { told = told; fits = fits }; events = events; accepted = a; name = from.0; opening = from.1 }), same, stays))
-
--- ---- what was told of a schedule that may be run
-
-told-of : (o : Outside) (Holds : List Event → List Line → Type 0) (TookOf : List ℕ → Type 0) (text : List ℕ) (events : List Event) → Reads o text → Accepted text events → (lines : List Line) → Holds events lines → TookOf (report_text lines) → Ran o Holds TookOf
-told-of o Holds TookOf text events reads a lines holds took = record { text = text; reads = reads; events = events; accepted = a; lines = lines; holds = holds; took = took }
+pub load-ends : (options : Options) (text : List ℕ) (events : List Event) (sink : SinkState) (keeper keeper' : KeeperState) → Accepted text events → FailsToLoad keeper keeper' → BeginsFromImages options
+    → EndsOn options text sink keeper statuses.Keep sink keeper'
+load-ends options text events sink keeper keeper' a fails from = λ source source' reads. not_loaded from (read-so text events a source source' reads) refl fails
 
 -- ---- a run from its disks
 
@@ -165,79 +176,95 @@ module _ {S : Type 0} (device : S → DeviceState) (options : Options) (kept : O
     all-kept : (name : List ℕ) (kept' : Option Contents) → SavedTo device name left counts (length left) kept kept' → AreKept kept name b.setup.servers b.setup closing kept'
     all-kept name kept' h = subst (λ (n : ℕ). AreKept kept name n b.setup closing kept') (sym servers-are) (disks-kept name (length left) kept' (omega arith) h)
 
-    first-kept : (name : List ℕ) (kept' : Option Contents) → (n : ℕ) × (n < length left) × SavedTo device name left counts n kept kept' → KeepsFirst (Some name) kept b.setup closing kept'
+    first-kept : (name : List ℕ) (kept' : Option Contents) → (n : ℕ) × (n < length left) × SavedTo device name left counts n kept kept' → (n : ℕ) × (n < b.setup.servers) × AreKept kept name n b.setup closing kept'
     first-kept name kept' h = (h.0, subst (λ (k : ℕ). h.0 < k) (sym servers-are) h.1, disks-kept name h.0 kept' (omega (arith, h.1)) h.2)
 
--- ---- its outcome
+-- ---- how it ends
 
-module _ {S K : Type 0} (device : S → DeviceState) (options : Options) (text : List ℕ) (events : List Event) (taken_of : K → Option (List ℕ)) (faults_of : K → ℕ) (sink sink' : K) (kept kept' : Option Contents) (keep_faults keep_faults' : ℕ)
-    (stores : List (S × PageCounts)) (b : Opened device options kept stores) (a : Accepted text events) (few : options.servers ≤ 8) (range : AllByRecursion EventInRange events) where
-  abbrev pub before : Outputs
-  before = record { taken = taken_of sink; write_faults = faults_of sink; kept = kept; keep_faults = keep_faults }
+-- a run that gave something, or failed otherwise, didn't fail to write
+ok-no-write : {A : Type 0} (r : Result A RunFault) (a : A) → r ≡ Ok a → r ≢ Err runs.Write
+ok-no-write r a is write = true≢false (sym (ap is_ok is) ∙ ap is_ok write)
 
-  abbrev pub after : Outputs
-  after = record { taken = taken_of sink'; write_faults = faults_of sink'; kept = kept'; keep_faults = keep_faults' }
+err-no-write : {A : Type 0} (r : Result A RunFault) (e : RunFault) → r ≡ Err e → e ≢ runs.Write → r ≢ Err runs.Write
+err-no-write r e is other write = other (fault-is r e is runs.Write write)
 
-  module _ {A : Type 0} (items_of : A → List S) (r : Result A RunFault) (ran : RunsFrom (writes_to taken_of faults_of) (course_of b.setup events b.images sink) (λ (left : A). AreLeft device b.setup (items_of left)) r sink') where
-    part-told : (left left' : Option (List ℕ)) (rf rf' : ℕ) → IsText left text → length text ≤ most_bytes → is_ok r ≡ false
-        → RanInPart (record { left = left; left' = left'; read_faults = rf; read_faults' = rf'; taken = before.taken; taken' = after.taken; write_faults = before.write_faults; write_faults' = after.write_faults; kept = before.kept; kept' = after.kept; keep_faults = before.keep_faults; keep_faults' = after.keep_faults }) options
-    part-told left left' rf rf' told fits failed =
-        told-of _ (IsPart options before.kept) (TookFront before.taken after.taken) text events (record { told = told; fits = fits }) a (ran.part failed).lines (part-holds device options before.kept stores b few events range _ (ran.part failed).part) (ran.part failed).took
+limit-no-write : runs.Limit ≢ runs.Write
+limit-no-write h = cc
 
-    pub run-limit : after.kept ≡ before.kept → r ≡ Err runs.Limit → OutcomeOn options text before statuses.Limit after
-    run-limit stays is = λ left left' rf rf' told fits. (
-      inr (
-        options,
-        refl,
-        told-of _ (IsCutShort options before.kept) (Took before.taken after.taken) text events (record { told = told; fits = fits }) a (ran.limit is).lines (limit-holds device options before.kept stores b few events range _ (ran.limit is).limited) (ran.limit is).took,
-      ),
-      stays,
-    )
+memory-no-write : runs.Memory ≢ runs.Write
+memory-no-write h = cc
 
-    pub run-write : after.kept ≡ before.kept → r ≡ Err runs.Write → OutcomeOn options text before statuses.Write after
-    run-write stays is = λ left left' rf rf' told fits. (ran.rose is, OfReport (options, refl, part-told left left' rf rf' told fits (ap is_ok is)), stays)
+module _ {S K A : Type 0} (device : S → DeviceState) (options : Options) (text : List ℕ) (events : List Event) (taken_of : K → Option (List ℕ)) (faults_of : K → ℕ) (sink sink' : K) (keeper : KeeperState) (stores : List (S × PageCounts))
+    (b : Opened device options keeper.kept stores) (a : Accepted text events) (few : options.servers ≤ 8) (range : AllByRecursion EventInRange events)
+    (items_of : A → List S) (r : Result A RunFault) (ran : RunsFrom (writes_to taken_of faults_of) (course_of b.setup events b.images sink) (λ (left : A). AreLeft device b.setup (items_of left)) r sink') where
+  abbrev now : SinkState
+  now = sink_state taken_of faults_of sink
 
-    pub run-memory : after.kept ≡ before.kept → r ≡ Err runs.Memory → OutcomeOn options text before statuses.Memory after
-    run-memory stays is = λ left left' rf rf' told fits. inr (inl ((options, refl, part-told left left' rf rf' told fits (ap is_ok is)), stays))
+  abbrev later : SinkState
+  later = sink_state taken_of faults_of sink'
 
-    module _ (left : A) (is : r ≡ Ok left) (counts : List PageCounts) (counts_are : counts ≡ map (λ (x : S × PageCounts). x.1) stores) (faults : ℕ) (since : before.keep_faults ≤ faults) where
-      abbrev whole : TookWhole (writes_to taken_of faults_of) (course_of b.setup events b.images sink) (AreLeft device b.setup (items_of left)) sink'
-      whole = ran.whole left is
+  pub run-limit : r ≡ Err runs.Limit → EndsOn options text now keeper statuses.Limit later keeper
+  run-limit is = λ source source' reads. at_limit (record {
+    read = read-so text events a source source' reads;
+    lines = (ran.limit is).lines;
+    holds = limit-holds device options keeper.kept stores b few events range _ (ran.limit is).limited;
+    written = record { took = (ran.limit is).took; faults = ran.no_fault (err-no-write r runs.Limit is limit-no-write) };
+  }) refl
 
-      abbrev w : IsWholeReport options before.kept events whole.lines
-      w = whole-holds device options before.kept stores b few events range whole.closing whole.lines whole.whole
+  pub run-write : r ≡ Err runs.Write → EndsOn options text now keeper statuses.Write later keeper
+  run-write is = λ source source' reads. not_written (record {
+    read = read-so text events a source source' reads;
+    lines = (ran.part (ap is_ok is)).lines;
+    holds = part-holds device options keeper.kept stores b few events range _ (ran.part (ap is_ok is)).part;
+    written = record { took = (ran.part (ap is_ok is)).took; rose = ran.rose is };
+  }) refl
 
-      abbrev around : Option (List ℕ) → Option (List ℕ) → ℕ → ℕ → Outside
-      around l l' rf rf' = record { left = l; left' = l'; read_faults = rf; read_faults' = rf'; taken = before.taken; taken' = after.taken; write_faults = before.write_faults; write_faults' = after.write_faults; kept = before.kept; kept' = after.kept; keep_faults = before.keep_faults; keep_faults' = after.keep_faults }
+  pub run-memory : r ≡ Err runs.Memory → EndsOn options text now keeper statuses.Memory later keeper
+  run-memory is = λ source source' reads. no_memory_inside (record {
+    read = read-so text events a source source' reads;
+    lines = (ran.part (ap is_ok is)).lines;
+    holds = part-holds device options keeper.kept stores b few events range _ (ran.part (ap is_ok is)).part;
+    written = record { took = (ran.part (ap is_ok is)).took; faults = ran.no_fault (err-no-write r runs.Memory is memory-no-write) };
+  }) refl
 
-      whole-told : (l l' : Option (List ℕ)) (rf rf' : ℕ) → IsText l text → length text ≤ most_bytes → Keeps options.closing before.kept b.setup whole.closing after.kept → RanWhole (around l l' rf rf') options
-      whole-told l l' rf rf' told fits keeps = told-of _ _ (Took before.taken after.taken) text events (record { told = told; fits = fits }) a whole.lines (w, keeps) whole.took
+  module _ (left : A) (is : r ≡ Ok left) (counts : List PageCounts) (counts_are : counts ≡ map (λ (x : S × PageCounts). x.1) stores) (keeper' : KeeperState) where
+    abbrev whole : TookWhole (writes_to taken_of faults_of) (course_of b.setup events b.images sink) (AreLeft device b.setup (items_of left)) sink'
+    whole = ran.whole left is
 
-      unkept-told : (l l' : Option (List ℕ)) (rf rf' : ℕ) → IsText l text → length text ≤ most_bytes → KeepsFirst options.closing before.kept b.setup whole.closing after.kept → RanUnkept (around l l' rf rf') options
-      unkept-told l l' rf rf' told fits keeps = told-of _ _ (Took before.taken after.taken) text events (record { told = told; fits = fits }) a whole.lines (w, keeps) whole.took
+    abbrev w : IsWholeReport options keeper.kept events whole.lines
+    w = whole-holds device options keeper.kept stores b few events range whole.closing whole.lines whole.whole
 
-      first : (name : List ℕ) → options.closing ≡ Some name → (n : ℕ) × (n < length (items_of left)) × SavedTo device name (items_of left) counts n before.kept after.kept → KeepsFirst options.closing before.kept b.setup whole.closing after.kept
-      first name e h = subst (λ (c : Option (List ℕ)). KeepsFirst c before.kept b.setup whole.closing after.kept) (sym e) (first-kept device options before.kept stores b few events range whole.closing whole.whole.last whole.whole.closing_is (items_of left) counts whole.gives counts_are name after.kept h)
+    told : (Kept : Setup → Devices → Type 0) → Kept b.setup whole.closing → (source source' : SourceState) → Reads text source source'
+        → Ran (record { source = source; sink = now; keeper = keeper }) (record { source = source'; sink = later; keeper = keeper' }) (λ events lines. (v : IsWholeReport options keeper.kept events lines) × Kept v.setup v.closing) Writes
+    told Kept kept source source' reads = record {
+      read = read-so text events a source source' reads;
+      lines = whole.lines;
+      holds = (w, kept);
+      written = record { took = whole.took; faults = ran.no_fault (ok-no-write r left is) };
+    }
 
-      by : (c : Option (List ℕ)) → options.closing ≡ c → (status : Status) → KeptWith device (items_of left) counts c before.kept faults status after.kept after.keep_faults → OutcomeOn options text before status after
-      by None e status k = subst (λ (s : Status). OutcomeOn options text before s after) (sym k.0)
-          (λ l l' rf rf' told fits. (options, refl, whole-told l l' rf rf' told fits (subst (λ (c : Option (List ℕ)). Keeps c before.kept b.setup whole.closing after.kept) (sym e) k.1)))
-      by (Some name) e statuses.Done k = λ l l' rf rf' told fits. (
-        options,
-        refl,
-        whole-told l l' rf rf' told fits
-            (subst (λ (c : Option (List ℕ)). Keeps c before.kept b.setup whole.closing after.kept) (sym e)
-            (all-kept device options before.kept stores b few events range whole.closing whole.whole.last whole.whole.closing_is (items_of left) counts whole.gives counts_are name after.kept k)),
-      )
-      by (Some name) e statuses.Keep k = λ l l' rf rf' told fits. (rose_since before.keep_faults faults after.keep_faults since k.0 k.1, inr (options, refl, unkept-told l l' rf rf' told fits (first name e k.2)))
-      by (Some name) e statuses.Memory k = λ l l' rf rf' told fits. inr (inr (options, refl, unkept-told l l' rf rf' told fits (first name e k)))
-      by (Some name) e statuses.Words k = absurd k
-      by (Some name) e statuses.Schedule k = absurd k
-      by (Some name) e statuses.Image k = absurd k
-      by (Some name) e statuses.Read k = absurd k
-      by (Some name) e statuses.Write k = absurd k
-      by (Some name) e statuses.Limit k = absurd k
+    all : (name : List ℕ) → SavedTo device name (items_of left) counts (length (items_of left)) keeper.kept keeper'.kept → AreKept keeper.kept name b.setup.servers b.setup whole.closing keeper'.kept
+    all name h = all-kept device options keeper.kept stores b few events range whole.closing whole.whole.last whole.whole.closing_is (items_of left) counts whole.gives counts_are name keeper'.kept h
 
-      -- it was done, and then its disks were to be kept
-      pub run-kept : (status : Status) → KeptWith device (items_of left) counts options.closing before.kept faults status after.kept after.keep_faults → OutcomeOn options text before status after
-      run-kept status k = by options.closing refl status k
+    first : (name : List ℕ) → options.closing ≡ Some name → (n : ℕ) × (n < length (items_of left)) × SavedTo device name (items_of left) counts n keeper.kept keeper'.kept → KeepsFirst options.closing b.setup whole.closing keeper keeper'
+    first name e h = subst (λ (c : Option (List ℕ)). KeepsFirst c b.setup whole.closing keeper keeper') (sym e)
+        (first-kept device options keeper.kept stores b few events range whole.closing whole.whole.last whole.whole.closing_is (items_of left) counts whole.gives counts_are name keeper'.kept h)
+
+    keeps : (c : Option (List ℕ)) → options.closing ≡ c → Keeps c b.setup whole.closing keeper keeper' → EndsOn options text now keeper statuses.Done later keeper'
+    keeps c e h = λ source source' reads. done (told (λ x closing. Keeps options.closing x closing keeper keeper') (subst (λ (d : Option (List ℕ)). Keeps d b.setup whole.closing keeper keeper') (sym e) h) source source' reads)
+
+    by : (c : Option (List ℕ)) → options.closing ≡ c → (status : Status) → KeptWith device (items_of left) counts c keeper status keeper' → EndsOn options text now keeper status later keeper'
+    by None e status k = subst (λ (s : Status). EndsOn options text now keeper s later keeper') (sym k.0) (keeps None e k.1)
+    by (Some name) e statuses.Done k = keeps (Some name) e (all name k.0, k.1)
+    by (Some name) e statuses.Keep k = λ source source' reads. not_saved (told (λ x closing. KeepsFirst options.closing x closing keeper keeper') (first name e k.1) source source' reads) k.0
+    by (Some name) e statuses.Memory k = λ source source' reads. no_memory_saving (told (λ x closing. KeepsFirst options.closing x closing keeper keeper') (first name e k.1) source source' reads) k.0
+    by (Some name) e statuses.Words k = absurd k
+    by (Some name) e statuses.Schedule k = absurd k
+    by (Some name) e statuses.Image k = absurd k
+    by (Some name) e statuses.Read k = absurd k
+    by (Some name) e statuses.Write k = absurd k
+    by (Some name) e statuses.Limit k = absurd k
+
+    -- it was done, and then its disks were to be kept
+    pub run-kept : (status : Status) → KeptWith device (items_of left) counts options.closing keeper status keeper' → EndsOn options text now keeper status later keeper'
+    run-kept status k = by options.closing refl status k

@@ -37,7 +37,7 @@ module _ {S A : Type 0} (device : S → DeviceState) (trial : Trial) (kept : Opt
       record {
         lines = w.lines;
         whole = subst (λ (es : List Event). IsWholeReport trial_options kept es w.lines) same (whole-holds device trial_options kept stores b two events range w.closing w.lines w.whole);
-        took = told w.lines (w.took [] new);
+        told = told w.lines (w.took [] new);
       }
 
   pub limit-told : answer ≡ Err runs.Limit → TrialToLimit trial kept
@@ -66,4 +66,4 @@ module _ {S A : Type 0} (device : S → DeviceState) (trial : Trial) (kept : Opt
 
 -- what the sink took of that line
 pub written-so : (trial : Trial) (kept : Option Contents) (TookOf : List ℕ → Type 0) (line : List ℕ) → RanTrial trial kept (λ text. line ≡ text) → TookOf line → RanTrial trial kept TookOf
-written-so trial kept TookOf line ran took = record { lines = ran.lines; whole = ran.whole; took = subst TookOf ran.took took }
+written-so trial kept TookOf line ran took = record { lines = ran.lines; whole = ran.whole; told = subst TookOf ran.told took }

@@ -1,5 +1,5 @@
 -- A run that is reported, call by call.
-use Rattle.jn_run.proofs.Common.{◌≡◌, ℕ, zero, suc, ◌≤◌, ◌<◌, false, List, [], ◌∷◌, ◌++◌, ◌+◌, map, length, drop, drop-cons, get_or, append-nil, Result, Ok, Err, refl, sym, ◌∙◌, ap, subst, arith, true≢false, is_ok, length-append, DeviceState, StoreView, Line, rose_since, Reporting, Joins, Moment, Leads, MayLead, DoesStep, Setup, Event, ServerNo, AllFiles, before, AreImages, IsWritten, RunFault, Course, AreLeft, HasTold, StandsBefore, TookLimited, TookPart, ToldTo, Reaches, RunsFrom, TookWhole, Reported, lines_kept, is_limit}
+use Rattle.jn_run.proofs.Common.{◌≡◌, ℕ, zero, suc, ◌≤◌, ◌<◌, false, List, [], ◌∷◌, ◌++◌, ◌+◌, map, length, drop, drop-cons, get_or, append-nil, Result, Ok, Err, refl, sym, ◌∙◌, ap, subst, arith, true≢false, is_ok, length-append, DeviceState, StoreView, Line, Rose, Reporting, Joins, Moment, Leads, MayLead, DoesStep, Setup, Event, ServerNo, AllFiles, before, AreImages, IsWritten, RunFault, Course, AreLeft, HasTold, StandsBefore, TookLimited, TookPart, ToldTo, Reaches, RunsFrom, TookWhole, Reported, lines_kept, is_limit}
 use Rattle.jn_written.specs.Kinds.{events_left}
 use Rattle.jn_written.proofs.Counted.{events-counted, left-of}
 use Rattle.jn_written.specs.Events.{ending}
@@ -49,10 +49,10 @@ module _ {O : Type 0} (r : Reporting O) (j : Joins r) (c : Course O) (m : Moment
     took = all-taken last lines is took;
   }
 
-  told-to : (Then : Moment → Type 0) (last : Moment) (lines : List Line) → r.faults out ≤ r.faults out' → Leads c.setup m last → last.state.lines ≡ m.state.lines ++ lines → r.took out out' lines → Then last → ToldTo r c Then out'
+  told-to : (Then : Moment → Type 0) (last : Moment) (lines : List Line) → r.faults out' ≡ r.faults out → Leads c.setup m last → last.state.lines ≡ m.state.lines ++ lines → r.took out out' lines → Then last → ToldTo r c Then out'
   told-to Then last lines count leads is took there = record {
     now = last;
-    told = record { count = omega (arith, h.count, count); written = further c m last h.written leads; took = all-taken last lines is took };
+    told = record { no_fault = count ∙ h.no_fault; written = further c m last h.written leads; took = all-taken last lines is took };
     there = there;
   }
 
@@ -67,7 +67,7 @@ module _ {O : Type 0} (r : Reporting O) (j : Joins r) (c : Course O) (m : Moment
     -- a call of the world that is reported
     module _ {A : Type 0} (Then : A → Moment → Type 0) (w' : Standing S) (lines : List Line) (answer : Result A RunFault) where
       whole-of : (done : Result A Ended) → GoesTo look device c.setup m rest done w' [] lines → ((a : A) → done ≡ Ok a → (went : WentOn look device c.setup m rest w' [] lines) → Then a went.last)
-          → (a : A) → done ≡ Ok a → r.faults out ≤ r.faults out' → r.took out out' lines → ToldTo r c (Then a) out'
+          → (a : A) → done ≡ Ok a → r.faults out' ≡ r.faults out → r.took out out' lines → ToldTo r c (Then a) out'
       whole-of (Ok b) went there a is count took = told-to (Then a) went.last lines count went.leads (new-lines m.state.lines went.told.new lines went.last.state.lines went.told.here went.told.there) took (there a is went)
       whole-of (Err e) went there a is count took = absurd (true≢false (sym (ap is_ok is)))
 
@@ -79,11 +79,12 @@ module _ {O : Type 0} (r : Reporting O) (j : Joins r) (c : Course O) (m : Moment
 
       pub reaches : (done : Result A Ended) → GoesTo look device c.setup m rest done w' [] lines → Reported r done lines out answer out' → ((a : A) → done ≡ Ok a → (went : WentOn look device c.setup m rest w' [] lines) → Then a went.last) → Reaches r c Then answer out'
       reaches done went one there = record {
-        count = omega (arith, h.count, one.count);
-        whole = λ a is. whole-of done went there a (one.whole a is).0 one.count (one.whole a is).1;
+        count = omega (arith, h.no_fault, one.count);
+        whole = λ a is. whole-of done went there a (one.whole a is).0 (one.no_fault (λ write. true≢false (sym (ap is_ok is) ∙ ap is_ok write))) (one.whole a is).1;
         limit = λ is. limit-of done went (one.limit is).0 (one.limit is).1;
         part = λ no. part-taken done lines (came-to done w' lines went) (one.part no);
-        rose = λ is. rose_since (r.faults c.output) (r.faults out) (r.faults out') h.count one.count (one.rose is);
+        rose = λ is. subst (λ (n : ℕ). Rose n (r.faults out')) h.no_fault (one.rose is);
+        no_fault = λ well. one.no_fault well ∙ h.no_fault;
       }
 
 -- ---- an event, the start and the end
@@ -132,6 +133,7 @@ module _ {O : Type 0} (r : Reporting O) (c : Course O) where
     limit = λ limit. one.limit (is ∙ ap (λ x. Err x) (fault-is s e same runs.Limit limit));
     part = λ no. one.part (ap is_ok is);
     rose = λ write. one.rose (is ∙ ap (λ x. Err x) (fault-is s e same runs.Write write));
+    no_fault = λ well. one.no_fault (λ write. well (same ∙ ap (λ x. Err x) (fault-is x e is runs.Write write)));
   }
 
   pub fault-reaches : {A B : Type 0} (Then : A → Moment → Type 0) (Other : B → Moment → Type 0) (x : Result A RunFault) (s : Result B RunFault) (e : RunFault) (out : O) → x ≡ Err e → s ≡ Err e → Reaches r c Then x out → Reaches r c Other s out
@@ -141,16 +143,18 @@ module _ {O : Type 0} (r : Reporting O) (c : Course O) where
     limit = λ limit. one.limit (is ∙ ap (λ x. Err x) (fault-is s e same runs.Limit limit));
     part = λ no. one.part (ap is_ok is);
     rose = λ write. one.rose (is ∙ ap (λ x. Err x) (fault-is s e same runs.Write write));
+    no_fault = λ well. one.no_fault (λ write. well (same ∙ ap (λ x. Err x) (fault-is x e is runs.Write write)));
   }
 
   -- nothing more is told where all is done
   pub there-reaches : (Then : Unit {0} → Moment → Type 0) (u : Unit {0}) (out : O) → ToldTo r c (Then u) out → Reaches r c Then (Ok u) out
   there-reaches Then u out to = record {
-    count = to.told.count;
+    count = omega (arith, to.told.no_fault);
     whole = λ a is. record { now = to.now; told = to.told; there = to.there };
     limit = λ is. absurd (true≢false (ap is_ok is));
     part = λ no. absurd (true≢false no);
     rose = λ is. absurd (true≢false (ap is_ok is));
+    no_fault = λ well. to.told.no_fault;
   }
 
 -- ---- the end
@@ -185,11 +189,12 @@ module _ {O S A : Type 0} (r : Reporting O) (j : Joins r) (device : S → Device
 
   pub closed-ends : (done : Result A Ended) (answer : Result A RunFault) → Closes device items_of c.setup m done [] lines → Reported r done lines out answer out' → RunsFrom r c (λ (a : A). AreLeft device c.setup (items_of a)) answer out'
   closed-ends done answer closed one = record {
-    count = omega (arith, told.count, one.count);
+    count = omega (arith, told.no_fault, one.count);
     whole = λ a is. closed-whole a (closed-so done closed a (one.whole a is).0) (one.whole a is).1;
     limit = λ is. closed-limit done closed (one.limit is).0 (one.limit is).1;
     part = λ no. part-taken r j c m out out' told done lines (closed-came done closed) (one.part no);
-    rose = λ is. rose_since (r.faults c.output) (r.faults out) (r.faults out') told.count one.count (one.rose is);
+    rose = λ is. subst (λ (n : ℕ). Rose n (r.faults out')) told.no_fault (one.rose is);
+    no_fault = λ well. one.no_fault well ∙ told.no_fault;
   }
 
 pub closed-told : {O S A : Type 0} (r : Reporting O) (j : Joins r) (device : S → DeviceState) (items_of : A → List S) (c : Course O) (m : Moment) (out out' : O) (told : HasTold r c m out) (done : Result A Ended) (old lines kept : List Line) (answer : Result A RunFault)
@@ -207,7 +212,7 @@ module _ {O S : Type 0} (r : Reporting O) (j : Joins r) (look : S → StoreView)
 
   first-told : HasTold r c first c.output
   first-told = record {
-    count = omega arith;
+    no_fault = refl;
     written = record { files = files; epochs = epochs; are_images = are; leads = Rattle.jn_written.specs.Runs.none first };
     took = j.nothing c.output;
   }
@@ -242,7 +247,7 @@ module _ {O S : Type 0} (r : Reporting O) (j : Joins r) (look : S → StoreView)
 -- want of memory ends a run where it is
 pub out-of-memory : {O A : Type 0} (r : Reporting O) (j : Joins r) (c : Course O) (There : Moment → Type 0) (Then : A → Moment → Type 0) (s : Result A RunFault) (out : O) → s ≡ Err runs.Memory → ToldTo r c There out → Reaches r c Then s out
 out-of-memory r j c There Then s out same to = record {
-  count = to.told.count;
+  count = omega (arith, to.told.no_fault);
   whole = λ a ok. absurd (true≢false (sym (ap is_ok ok) ∙ ap is_ok same));
   limit = λ limit. absurd (no-limit (fault-is s runs.Memory same runs.Limit limit));
   part = λ no. record {
@@ -251,6 +256,7 @@ out-of-memory r j c There Then s out same to = record {
     took = j.all c.output out to.now.state.lines to.told.took;
   };
   rose = λ write. absurd (no-write (fault-is s runs.Memory same runs.Write write));
+  no_fault = λ well. to.told.no_fault;
 }
   where
     no-limit : runs.Memory ≡ runs.Limit → ⊥

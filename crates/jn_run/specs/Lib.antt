@@ -1,7 +1,9 @@
 pub mod Codes
 pub mod Keeping
+pub mod Laws
 pub mod Opening
 pub mod Outcome
+pub mod Parts
 pub mod Reading
 pub mod Running
 pub mod Trial

@@ -1,7 +1,7 @@
 -- The disks that a run begins with.
-use Rattle.std.specs.Prelude.{◌≡◌, ◌≤◌, ◌<◌, ℕ, List, length, slice_get, Option, Some, Result, Err}
+use Rattle.std.specs.Prelude.{◌≡◌, ◌≢◌, ◌<◌, ℕ, List, length, slice_get, Option, Some, Result, Err}
 use Rattle.jn_device.specs.Device.{DeviceState}
-use Rattle.jn_disks.specs.Disks.{IsNewStore}
+use Rattle.jn_disks.specs.Disks.{IsNewStore, HasNewDevice}
 use Rattle.jn_host.specs.Outside.{Contents, Rose}
 use Rattle.jn_images.specs.Examined.{AreStoresOf}
 use Rattle.jn_images.specs.Kept.{Has, image_name}
@@ -18,6 +18,7 @@ use Rattle.jn_run.specs.declared.opening.OpenFault.TheVariants as opens
 pub record IsDisk {S : Type 0} (look : S → StoreView) (g : Geometry) (n : ℕ) (x : S × PageCounts) : Type 0 where
   pub counts : x.1 ≡ record { pool = g.pool; heads = g.heads; leaves = g.leaves }
   pub new : IsNewStore (root_of g (record { 0 = n })) (look x.0)
+  pub device : HasNewDevice (root_of g (record { 0 = n })) (look x.0).device
 
 abbrev pub AreDisks : {S : Type 0} → (S → StoreView) → Geometry → List (S × PageCounts) → Type 0
 AreDisks {S} look g stores = (n : ℕ) (x : S × PageCounts) → slice_get stores n ≡ Some x → IsDisk look g n x
@@ -30,6 +31,6 @@ AreOpened look device (Images name) kept stores = (found : ℕ → Option (List 
 -- Opening changes nothing that is kept. Where it fails for the keeper's sake, a call to that has failed, to load an image.
 pub record FailsToOpen {A : Type 0} (opening : Opening) (kept : Option Contents) (faults : ℕ) (answer : Result A OpenFault) (kept' : Option Contents) (faults' : ℕ) : Type 0 where
   pub same : kept' ≡ kept
-  pub count : faults ≤ faults'
   pub rose : answer ≡ Err opens.Keep → Rose faults faults'
+  pub no_fault : answer ≢ Err opens.Keep → faults' ≡ faults
   pub images : answer ≡ Err opens.Keep → (name : List ℕ) × (opening ≡ Images name)

@@ -1,5 +1,6 @@
--- What a call of the program leaves, by its status.
-use Rattle.std.specs.Prelude.{◌≡◌, true, false, ◌≤◌, ◌<◌, ◌⊎◌, ℕ, List, ◌∷◌, [], ◌++◌, length, Option, Some, None, is_some, codes, decimal, IfSome}
+-- What a call of the program leaves, by its status: what is asked for, what a run begins with, what holds of its lines, what is kept, read and written,
+-- and each way to end.
+use Rattle.std.specs.Prelude.{◌≡◌, ◌≤◌, ◌<◌, ℕ, ◌+◌, false, List, ◌∷◌, [], ◌++◌, length, drop, Option, Some, None, option_map, codes, decimal, IfSome}
 use Rattle.jn_schedule.specs.declared.Event.{Event}
 use Rattle.jn_report.specs.declared.line.Line.{Line}
 use Rattle.jn_report.specs.Text.{report_text}
@@ -43,11 +44,40 @@ use Rattle.jn_summary.specs.Summary.{summary_text}
 use Rattle.jn_run.specs.declared.status.Status.{Status}
 use Rattle.jn_run.specs.declared.status.Status.TheVariants as statuses
 
--- ---- what is asked for
+-- ---- the outside at one moment
 
--- a run is asked for, with options of which this holds
-abbrev pub Asks : Option Options → (Options → Type 0) → Type 0
-Asks asked Holds = (options : Options) × (asked ≡ Some options) × Holds options
+-- of a source the bytes that it has left, of a sink those that it took, and of a keeper what each name holds, where they tell it; and how often a call of
+-- each has failed
+pub record SourceState : Type 0 where
+  pub left : Option (List ℕ)
+  pub faults : ℕ
+
+pub record SinkState : Type 0 where
+  pub taken : Option (List ℕ)
+  pub faults : ℕ
+
+pub record KeeperState : Type 0 where
+  pub kept : Option Contents
+  pub faults : ℕ
+
+pub record Outside : Type 0 where
+  pub source : SourceState
+  pub sink : SinkState
+  pub keeper : KeeperState
+
+-- what is seen of the three that a program has
+abbrev pub source_state : {S : Type 0} → (S → Option (List ℕ)) → (S → ℕ) → S → SourceState
+source_state left faults source = record { left = left source; faults = faults source }
+
+abbrev pub sink_state : {K : Type 0} → (K → Option (List ℕ)) → (K → ℕ) → K → SinkState
+sink_state taken faults sink = record { taken = taken sink; faults = faults sink }
+
+abbrev pub keeper_state : {I : Type 0} → (I → Option Contents) → (I → ℕ) → I → KeeperState
+keeper_state kept faults keeper = record { kept = kept keeper; faults = faults keeper }
+
+abbrev pub outside : {S K I : Type 0} → (S → Option (List ℕ)) → (S → ℕ) → (K → Option (List ℕ)) → (K → ℕ) → (I → Option Contents) → (I → ℕ) → S → K → I → Outside
+outside left read_faults taken write_faults kept keep_faults source sink keeper =
+    record { source = source_state left read_faults source; sink = sink_state taken write_faults sink; keeper = keeper_state kept keep_faults keeper }
 
 -- ---- what a run begins with
 
@@ -126,17 +156,22 @@ pub record AreKept (kept : Option Contents) (name : List ℕ) (n : ℕ) (x : Set
   pub disks : (q : ServerNo) → q.0 < n → IsKept kept' name (x.counts q) q (closing q)
   pub others : OthersStay kept name n kept'
 
--- the disks that a run leaves are kept where that is asked for
-abbrev pub Keeps : Option (List ℕ) → Option Contents → Setup → Devices → Option Contents → Type 0
-Keeps None kept x closing kept' = kept' ≡ kept
-Keeps (Some name) kept x closing kept' = AreKept kept name x.servers x closing kept'
+-- the disks that a run leaves are kept where that is asked for, and no call failed
+abbrev pub Keeps : Option (List ℕ) → Setup → Devices → KeeperState → KeeperState → Type 0
+Keeps None x closing before after = after ≡ before
+Keeps (Some name) x closing before after = AreKept before.kept name x.servers x closing after.kept × (after.faults ≡ before.faults)
 
 -- or only the first of them, since one couldn't be kept
-abbrev pub KeepsFirst : Option (List ℕ) → Option Contents → Setup → Devices → Option Contents → Type 0
-KeepsFirst None kept x closing kept' = ⊥
-KeepsFirst (Some name) kept x closing kept' = (n : ℕ) × (n < x.servers) × AreKept kept name n x closing kept'
+abbrev pub KeepsFirst : Option (List ℕ) → Setup → Devices → KeeperState → KeeperState → Type 0
+KeepsFirst None x closing before after = ⊥
+KeepsFirst (Some name) x closing before after = (n : ℕ) × (n < x.servers) × AreKept before.kept name n x closing after.kept
 
--- ---- what was read and written
+-- a load failed, and nothing was changed
+pub record FailsToLoad (before after : KeeperState) : Type 0 where
+  pub kept : after.kept ≡ before.kept
+  pub rose : Rose before.faults after.faults
+
+-- ---- what is read
 
 -- the longest schedule
 abbrev pub most_bytes : ℕ
@@ -151,6 +186,70 @@ abbrev pub IsText : Option (List ℕ) → List ℕ → Type 0
 IsText None text = Unit {0}
 IsText (Some bytes) text = text ≡ bytes
 
+-- the source gave its first bytes, so many, and no call failed
+pub record Gives (count : ℕ) (before after : SourceState) : Type 0 where
+  pub left : after.left ≡ option_map (λ (bytes : List ℕ). drop count bytes) before.left
+  pub faults : after.faults ≡ before.faults
+
+-- it gave so many, at most one more than the longest schedule has
+abbrev pub GivesSome : SourceState → SourceState → Type 0
+GivesSome before after = (count : ℕ) × (count ≤ most_bytes + 1) × Gives count before after
+
+-- it gave at most as many as the longest schedule has, and then a call failed
+pub record FailsToGive (before after : SourceState) : Type 0 where
+  pub count : ℕ
+  pub few : count ≤ most_bytes
+  pub left : after.left ≡ option_map (λ (bytes : List ℕ). drop count bytes) before.left
+  pub rose : Rose before.faults after.faults
+
+-- it had this text, and gave it whole
+pub record Reads (text : List ℕ) (before after : SourceState) : Type 0 where
+  pub told : IsText before.left text
+  pub fits : length text ≤ most_bytes
+  pub gave : Gives (length text) before after
+
+-- it had more bytes than a schedule may have, and gave one more than that
+pub record HasTooManyBytes (before after : SourceState) : Type 0 where
+  pub many : IfSome before.left (λ bytes. most_bytes < length bytes)
+  pub gave : Gives (most_bytes + 1) before after
+
+-- this text is a schedule that may be run
+pub record Accepted (text : List ℕ) (events : List Event) : Type 0 where
+  pub schedule : IsSchedule text events
+  pub few : length events ≤ most_events
+
+-- it had a schedule that may be run
+pub record ReadsSchedule (before after : SourceState) : Type 0 where
+  pub text : List ℕ
+  pub reads : Reads text before after
+  pub events : List Event
+  pub accepted : Accepted text events
+
+-- it had a schedule of too many events
+pub record HasTooManyEvents (before after : SourceState) : Type 0 where
+  pub text : List ℕ
+  pub reads : Reads text before after
+  pub events : List Event
+  pub schedule : IsSchedule text events
+  pub many : most_events < length events
+
+-- ---- what is written
+
+-- the sink took this text, and no call failed
+pub record Writes (text : List ℕ) (before after : SinkState) : Type 0 where
+  pub took : Took before.taken after.taken text
+  pub faults : after.faults ≡ before.faults
+
+-- it took a front of it, and no call failed
+pub record WritesFront (text : List ℕ) (before after : SinkState) : Type 0 where
+  pub took : TookFront before.taken after.taken text
+  pub faults : after.faults ≡ before.faults
+
+-- it took a front of it, and then a call failed
+pub record FailsToWrite (text : List ℕ) (before after : SinkState) : Type 0 where
+  pub took : TookFront before.taken after.taken text
+  pub rose : Rose before.faults after.faults
+
 abbrev pub refused_words : List ℕ
 refused_words = codes "refused: words" ++ 10 ∷ []
 
@@ -158,86 +257,39 @@ refused_words = codes "refused: words" ++ 10 ∷ []
 abbrev pub refused_line : ℕ → ℕ → List ℕ
 refused_line line number = codes "refused: schedule line " ++ decimal line ++ codes " number " ++ decimal number ++ 10 ∷ []
 
--- what the sink took and the keeper keeps, and how often a call of each failed
-pub record Outputs : Type 0 where
-  pub taken : Option (List ℕ)
-  pub write_faults : ℕ
-  pub kept : Option Contents
-  pub keep_faults : ℕ
+-- ---- the parts of a run that is asked for
 
--- what the outside was before the call and after it
-pub record Outside : Type 0 where
-  pub left : Option (List ℕ)
-  pub left' : Option (List ℕ)
-  pub read_faults : ℕ
-  pub read_faults' : ℕ
-  pub taken : Option (List ℕ)
-  pub taken' : Option (List ℕ)
-  pub write_faults : ℕ
-  pub write_faults' : ℕ
-  pub kept : Option Contents
-  pub kept' : Option Contents
-  pub keep_faults : ℕ
-  pub keep_faults' : ℕ
-
--- the keeper holds what it held
-abbrev pub Stays : Outside → Type 0
-Stays o = o.kept' ≡ o.kept
-
--- nothing was read, and the keeper wasn't called
-pub record IsUntouched (o : Outside) : Type 0 where
-  pub left : o.left' ≡ o.left
-  pub read_faults : o.read_faults' ≡ o.read_faults
-  pub kept : Stays o
-  pub keep_faults : o.keep_faults' ≡ o.keep_faults
-
--- nothing was taken
-abbrev pub TookNothing : Outside → Type 0
-TookNothing o = o.taken' ≡ o.taken
-
--- the source had these bytes, whole
-pub record Reads (o : Outside) (text : List ℕ) : Type 0 where
-  pub told : IsText o.left text
-  pub fits : length text ≤ most_bytes
-
--- these bytes are a schedule that may be run
-pub record Accepted (text : List ℕ) (events : List Event) : Type 0 where
-  pub schedule : IsSchedule text events
-  pub few : length events ≤ most_events
-
--- The source had a schedule, and the sink took this of the text of lines of which this holds.
-pub record Ran (o : Outside) (Holds : List Event → List Line → Type 0) (TookOf : List ℕ → Type 0) : Type 0 where
-  pub text : List ℕ
-  pub reads : Reads o text
-  pub events : List Event
-  pub accepted : Accepted text events
+-- The source had a schedule, this holds of its events and of the run's lines, and so much of their text was written.
+pub record Ran (before after : Outside) (Holds : List Event → List Line → Type 0) (Written : List ℕ → SinkState → SinkState → Type 0) : Type 0 where
+  pub read : ReadsSchedule before.source after.source
   pub lines : List Line
-  pub holds : Holds events lines
-  pub took : TookOf (report_text lines)
+  pub holds : Holds read.events lines
+  pub written : Written (report_text lines) before.sink after.sink
 
--- the run was done, and its disks are kept
-abbrev pub RanWhole : Outside → Options → Type 0
-RanWhole o options = Ran o (λ events lines. (w : IsWholeReport options o.kept events lines) × Keeps options.closing o.kept w.setup w.closing o.kept') (Took o.taken o.taken')
+-- the run was done, and its disks are kept, or only the first of them
+abbrev pub RanWhole : Options → Outside → Outside → Type 0
+RanWhole options before after = Ran before after
+    (λ events lines. (w : IsWholeReport options before.keeper.kept events lines) × Keeps options.closing w.setup w.closing before.keeper after.keeper) Writes
 
--- it was done, and not all of its disks could be kept
-abbrev pub RanUnkept : Outside → Options → Type 0
-RanUnkept o options = Ran o (λ events lines. (w : IsWholeReport options o.kept events lines) × KeepsFirst options.closing o.kept w.setup w.closing o.kept') (Took o.taken o.taken')
+abbrev pub RanUnkept : Options → Outside → Outside → Type 0
+RanUnkept options before after = Ran before after
+    (λ events lines. (w : IsWholeReport options before.keeper.kept events lines) × KeepsFirst options.closing w.setup w.closing before.keeper after.keeper) Writes
 
--- it was cut off by want of memory or by the sink, or was cut short by a limit
-abbrev pub RanInPart : Outside → Options → Type 0
-RanInPart o options = Ran o (IsPart options o.kept) (TookFront o.taken o.taken')
+-- it was cut off, or cut short by a limit
+abbrev pub RanInPart : Options → Outside → Outside → (List ℕ → SinkState → SinkState → Type 0) → Type 0
+RanInPart options before after Written = Ran before after (IsPart options before.keeper.kept) Written
 
-abbrev pub RanToLimit : Outside → Options → Type 0
-RanToLimit o options = Ran o (IsCutShort options o.kept) (Took o.taken o.taken')
+abbrev pub RanToLimit : Options → Outside → Outside → Type 0
+RanToLimit options before after = Ran before after (IsCutShort options before.keeper.kept) Writes
 
--- the bytes were refused, and the sink took this of the text that says so
-pub record RefusedSchedule (o : Outside) (TookOf : List ℕ → Type 0) : Type 0 where
+-- the source's text was refused, and so much of the text that says so was written
+pub record RefusedSchedule (before after : Outside) (Written : List ℕ → SinkState → SinkState → Type 0) : Type 0 where
   pub text : List ℕ
-  pub reads : Reads o text
+  pub reads : Reads text before.source after.source
   pub line : ℕ
   pub number : ℕ
   pub refused : IsFirstFault text line number
-  pub took : TookOf (refused_line line number)
+  pub written : Written (refused_line line number) before.sink after.sink
 
 -- of the images of this name, which the keeper had so, this is the first that is refused
 pub record IsRefusedOf (name : List ℕ) (servers : ℕ) (kept : Option Contents) (r : Refusal) : Type 0 where
@@ -249,57 +301,49 @@ pub record IsRefusedOf (name : List ℕ) (servers : ℕ) (kept : Option Contents
 abbrev pub IsRefusedImage : Options → Option Contents → Refusal → Type 0
 IsRefusedImage options kept r = (name : List ℕ) × (options.opening ≡ Images name) × IsRefusedOf name options.servers kept r
 
--- the source had a schedule, an image was refused, and the sink took this of the text that says so
-pub record RefusedImage (o : Outside) (options : Options) (TookOf : List ℕ → Type 0) : Type 0 where
-  pub text : List ℕ
-  pub reads : Reads o text
-  pub events : List Event
-  pub accepted : Accepted text events
+-- the source had a schedule, an image was refused, and so much of the text that says so was written
+pub record RefusedImage (options : Options) (before after : Outside) (Written : List ℕ → SinkState → SinkState → Type 0) : Type 0 where
+  pub read : ReadsSchedule before.source after.source
   pub refusal : Refusal
-  pub refused : IsRefusedImage options o.kept refusal
-  pub took : TookOf (refusal_text refusal)
+  pub refused : IsRefusedImage options before.keeper.kept refusal
+  pub written : Written (refusal_text refusal) before.sink after.sink
 
--- the source had a schedule, for a run from images
-pub record WasToLoad (o : Outside) (options : Options) : Type 0 where
-  pub text : List ℕ
-  pub reads : Reads o text
-  pub events : List Event
-  pub accepted : Accepted text events
-  pub name : List ℕ
-  pub opening : options.opening ≡ Images name
+-- a run from images was asked for
+abbrev pub BeginsFromImages : Options → Type 0
+BeginsFromImages options = (name : List ℕ) × (options.opening ≡ Images name)
 
--- the schedule is too long
-pub record HasTooManyEvents (o : Outside) : Type 0 where
-  pub text : List ℕ
-  pub reads : Reads o text
-  pub events : List Event
-  pub schedule : IsSchedule text events
-  pub many : most_events < length events
+-- ---- each way to end
 
-abbrev pub IsTooLong : Outside → Type 0
-IsTooLong o = IfSome o.left (λ bytes. most_bytes < length bytes) ⊎ HasTooManyEvents o
+-- where the words are no command: they are refused, or the text that says so couldn't be written, or there was no memory for them
+pub data WordsEnd (before after : SinkState) : Status → Type 0 where
+  words_refused : Writes refused_words before after → WordsEnd before after statuses.Words
+  words_not_written : FailsToWrite refused_words before after → WordsEnd before after statuses.Write
+  words_no_memory : after ≡ before → WordsEnd before after statuses.Memory
 
--- ---- the statuses of a run, and of words that are refused
+-- where they ask for a run
+pub data RunEnds (options : Options) (before after : Outside) : Status → Type 0 where
+  done : RanWhole options before after → RunEnds options before after statuses.Done
+  -- the source failed, or the schedule is too long
+  not_read : FailsToGive before.source after.source → after.sink ≡ before.sink → after.keeper ≡ before.keeper → RunEnds options before after statuses.Read
+  too_many_bytes : HasTooManyBytes before.source after.source → after.sink ≡ before.sink → after.keeper ≡ before.keeper → RunEnds options before after statuses.Limit
+  too_many_events : HasTooManyEvents before.source after.source → after.sink ≡ before.sink → after.keeper ≡ before.keeper → RunEnds options before after statuses.Limit
+  -- the schedule is refused
+  schedule_refused : RefusedSchedule before after Writes → after.keeper ≡ before.keeper → RunEnds options before after statuses.Schedule
+  schedule_not_written : RefusedSchedule before after FailsToWrite → after.keeper ≡ before.keeper → RunEnds options before after statuses.Write
+  -- an image isn't loaded, or is refused
+  not_loaded : BeginsFromImages options → ReadsSchedule before.source after.source → after.sink ≡ before.sink → FailsToLoad before.keeper after.keeper → RunEnds options before after statuses.Keep
+  image_refused : RefusedImage options before after Writes → after.keeper ≡ before.keeper → RunEnds options before after statuses.Image
+  image_not_written : RefusedImage options before after FailsToWrite → after.keeper ≡ before.keeper → RunEnds options before after statuses.Write
+  -- the run is cut short by a limit, or its report isn't written, or its disks aren't kept
+  at_limit : RanToLimit options before after → after.keeper ≡ before.keeper → RunEnds options before after statuses.Limit
+  not_written : RanInPart options before after FailsToWrite → after.keeper ≡ before.keeper → RunEnds options before after statuses.Write
+  not_saved : RanUnkept options before after → Rose before.keeper.faults after.keeper.faults → RunEnds options before after statuses.Keep
+  -- memory runs out before the run, in it, or while its disks are kept
+  no_memory : GivesSome before.source after.source → after.sink ≡ before.sink → after.keeper ≡ before.keeper → RunEnds options before after statuses.Memory
+  no_memory_inside : RanInPart options before after WritesFront → after.keeper ≡ before.keeper → RunEnds options before after statuses.Memory
+  no_memory_saving : RanUnkept options before after → after.keeper.faults ≡ before.keeper.faults → RunEnds options before after statuses.Memory
 
--- what the sink took before it failed: of the text that refuses the words, the schedule or an image, or of the report
-pub data Written (asked : Option Options) (o : Outside) : Type 0 where
-  OfWords : asked ≡ None → TookFront o.taken o.taken' refused_words → Written asked o
-  OfRefusal : is_some asked ≡ true → RefusedSchedule o (TookFront o.taken o.taken') → Written asked o
-  OfImage : Asks asked (λ options. RefusedImage o options (TookFront o.taken o.taken')) → Written asked o
-  OfReport : Asks asked (RanInPart o) → Written asked o
-
-abbrev pub OutcomeOfRun : Option Options → Outside → Status → Type 0
-OutcomeOfRun asked o statuses.Done = Asks asked (RanWhole o)
-OutcomeOfRun asked o statuses.Words = (asked ≡ None) × Took o.taken o.taken' refused_words × Stays o
-OutcomeOfRun asked o statuses.Schedule = (is_some asked ≡ true) × RefusedSchedule o (Took o.taken o.taken') × Stays o
-OutcomeOfRun asked o statuses.Image = Asks asked (λ options. RefusedImage o options (Took o.taken o.taken')) × Stays o
-OutcomeOfRun asked o statuses.Read = (is_some asked ≡ true) × Rose o.read_faults o.read_faults' × TookNothing o × Stays o
-OutcomeOfRun asked o statuses.Write = Rose o.write_faults o.write_faults' × Written asked o × Stays o
-OutcomeOfRun asked o statuses.Keep = Rose o.keep_faults o.keep_faults' × ((Asks asked (WasToLoad o) × TookNothing o × Stays o) ⊎ Asks asked (RanUnkept o))
-OutcomeOfRun asked o statuses.Limit = (((is_some asked ≡ true) × IsTooLong o × TookNothing o) ⊎ Asks asked (RanToLimit o)) × Stays o
-OutcomeOfRun asked o statuses.Memory = (TookNothing o × Stays o) ⊎ (Asks asked (RanInPart o) × Stays o) ⊎ Asks asked (RanUnkept o)
-
--- ---- the statuses of a trial
+-- ---- the same of a trial
 
 -- two servers, each as one that a run has without options
 abbrev pub trial_options : Options
@@ -309,11 +353,11 @@ trial_options = record { servers = 2; opening = New (record { pool = 32; heads =
 abbrev pub trial_events : ATrial → List Event
 trial_events trial = events_from trial.seed trial.events
 
--- The lines are those of a whole run of these events, and the sink took this of the one line that sums them up.
-pub record RanTrial (trial : ATrial) (kept : Option Contents) (TookOf : List ℕ → Type 0) : Type 0 where
+-- The lines are those of a whole run of these events, and this holds of the one line that sums them up.
+pub record RanTrial (trial : ATrial) (kept : Option Contents) (Holds : List ℕ → Type 0) : Type 0 where
   pub lines : List Line
   pub whole : IsWholeReport trial_options kept (trial_events trial) lines
-  pub took : TookOf (summary_text trial.seed trial.events lines)
+  pub told : Holds (summary_text trial.seed trial.events lines)
 
 -- a limit cut the run of these events short
 pub record TrialToLimit (trial : ATrial) (kept : Option Contents) : Type 0 where
@@ -321,49 +365,20 @@ pub record TrialToLimit (trial : ATrial) (kept : Option Contents) : Type 0 where
   pub cut : IsCutShort trial_options kept (trial_events trial) lines
 
 -- Where a limit cuts it short or memory runs out, nothing is told of it.
-abbrev pub OutcomeOfTrial : ATrial → Outside → Status → Type 0
-OutcomeOfTrial trial o statuses.Done = RanTrial trial o.kept (Took o.taken o.taken') × IsUntouched o
-OutcomeOfTrial trial o statuses.Write = Rose o.write_faults o.write_faults' × RanTrial trial o.kept (TookFront o.taken o.taken') × IsUntouched o
-OutcomeOfTrial trial o statuses.Limit = TrialToLimit trial o.kept × TookNothing o × IsUntouched o
-OutcomeOfTrial trial o statuses.Memory = TookNothing o × IsUntouched o
-OutcomeOfTrial trial o status = ⊥
+pub data TrialEnds (trial : ATrial) (kept : Option Contents) (before after : SinkState) : Status → Type 0 where
+  trial_done : RanTrial trial kept (λ text. Writes text before after) → TrialEnds trial kept before after statuses.Done
+  trial_not_written : RanTrial trial kept (λ text. FailsToWrite text before after) → TrialEnds trial kept before after statuses.Write
+  trial_at_limit : TrialToLimit trial kept → after ≡ before → TrialEnds trial kept before after statuses.Limit
+  trial_no_memory : after ≡ before → TrialEnds trial kept before after statuses.Memory
 
 -- ---- what a call leaves, by the command that its words are
 
-abbrev pub OutcomeOf : Option Command → Outside → Status → Type 0
-OutcomeOf None o status = OutcomeOfRun None o status
-OutcomeOf (Some (Run options)) o status = OutcomeOfRun (Some options) o status
-OutcomeOf (Some (Trial trial)) o status = OutcomeOfTrial trial o status
+-- nothing was read, and the keeper wasn't called
+pub record IsUntouched (before after : Outside) : Type 0 where
+  pub source : after.source ≡ before.source
+  pub keeper : after.keeper ≡ before.keeper
 
--- ---- parts of a call
-
--- what a call leaves whose words ask for this run and whose source had this text, whole
-abbrev pub OutcomeOn : Options → List ℕ → Outputs → Status → Outputs → Type 0
-OutcomeOn options text before status after =
-    (left left' : Option (List ℕ)) (read_faults read_faults' : ℕ) → IsText left text → length text ≤ most_bytes
-    → OutcomeOfRun (Some options) (record {
-      left = left;
-      left' = left';
-      read_faults = read_faults;
-      read_faults' = read_faults';
-      taken = before.taken;
-      taken' = after.taken;
-      write_faults = before.write_faults;
-      write_faults' = after.write_faults;
-      kept = before.kept;
-      kept' = after.kept;
-      keep_faults = before.keep_faults;
-      keep_faults' = after.keep_faults;
-    }) status
-
--- the words were refused
-abbrev pub RefusesWords : Option (List ℕ) → ℕ → Status → Option (List ℕ) → ℕ → Type 0
-RefusesWords taken faults statuses.Words taken' faults' = Took taken taken' refused_words
-RefusesWords taken faults statuses.Write taken' faults' = Rose faults faults' × TookFront taken taken' refused_words
-RefusesWords taken faults _ taken' faults' = ⊥
-
--- a text refuses a schedule or an image, with this status
-abbrev pub Refuses : List ℕ → Status → Option (List ℕ) → ℕ → Status → Option (List ℕ) → ℕ → Type 0
-Refuses text refused taken faults statuses.Write taken' faults' = Rose faults faults' × TookFront taken taken' text
-Refuses text refused taken faults statuses.Memory taken' faults' = taken' ≡ taken
-Refuses text refused taken faults status taken' faults' = (status ≡ refused) × Took taken taken' text
+abbrev pub OutcomeOf : Option Command → Outside → Outside → Status → Type 0
+OutcomeOf None before after status = IsUntouched before after × WordsEnd before.sink after.sink status
+OutcomeOf (Some (Run options)) before after status = RunEnds options before after status
+OutcomeOf (Some (Trial trial)) before after status = IsUntouched before after × TrialEnds trial before.keeper.kept before.sink after.sink status

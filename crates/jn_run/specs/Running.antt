@@ -1,5 +1,5 @@
 -- How far a run has come, and what the output of its report took of it.
-use Rattle.std.specs.Prelude.{◌≡◌, ◌≤◌, ℕ, false, List, [], ◌++◌, map, length, slice_get, Some, Result, Ok, Err, is_ok}
+use Rattle.std.specs.Prelude.{◌≡◌, ◌≢◌, ◌≤◌, ℕ, false, List, [], ◌++◌, map, length, slice_get, Some, Result, Ok, Err, is_ok}
 use Rattle.jn_device.specs.Device.{DeviceState}
 use Rattle.jn_found.specs.Recoverable.{IsRecoverable}
 use Rattle.jn_host.specs.Outside.{Rose}
@@ -47,7 +47,7 @@ course_of x schedule images output = record { setup = x; schedule = schedule; im
 
 -- a run has come to this moment, and the output took each of its lines
 pub record HasTold {O : Type 0} (r : Reporting O) (c : Course O) (m : Moment) (now : O) : Type 0 where
-  pub count : r.faults c.output ≤ r.faults now
+  pub no_fault : r.faults now ≡ r.faults c.output
   pub written : IsWritten c.setup c.schedule c.images m
   pub took : r.took c.output now m.state.lines
 
@@ -81,6 +81,7 @@ pub record Reaches {O A : Type 0} (r : Reporting O) (c : Course O) (Then : A →
   pub limit : answer ≡ Err runs.Limit → TookLimited r c now
   pub part : is_ok answer ≡ false → TookPart r c now
   pub rose : answer ≡ Err runs.Write → Rose (r.faults c.output) (r.faults now)
+  pub no_fault : answer ≢ Err runs.Write → r.faults now ≡ r.faults c.output
 
 -- ---- the lines of one call
 
@@ -100,6 +101,7 @@ pub record Reported {O A : Type 0} (r : Reporting O) (done : Result A Ended) (li
   pub limit : answer ≡ Err runs.Limit → is_limit done × r.took before after lines
   pub part : is_ok answer ≡ false → r.front before after (lines_kept done lines)
   pub rose : answer ≡ Err runs.Write → Rose (r.faults before) (r.faults after)
+  pub no_fault : answer ≢ Err runs.Write → r.faults after ≡ r.faults before
 
 -- the last lines of a run that a limit cut short
 pub record ReportedLast {O : Type 0} (r : Reporting O) (lines : List Line) (before : O) (answer : RunFault) (after : O) : Type 0 where
@@ -107,6 +109,7 @@ pub record ReportedLast {O : Type 0} (r : Reporting O) (lines : List Line) (befo
   pub limit : answer ≡ runs.Limit → r.took before after lines
   pub front : r.front before after lines
   pub rose : answer ≡ runs.Write → Rose (r.faults before) (r.faults after)
+  pub no_fault : answer ≢ runs.Write → r.faults after ≡ r.faults before
 
 -- ---- a whole run
 
@@ -124,6 +127,7 @@ pub record RunsFrom {O A : Type 0} (r : Reporting O) (c : Course O) (Gives : A �
   pub limit : answer ≡ Err runs.Limit → TookLimited r c now
   pub part : is_ok answer ≡ false → TookPart r c now
   pub rose : answer ≡ Err runs.Write → Rose (r.faults c.output) (r.faults now)
+  pub no_fault : answer ≢ Err runs.Write → r.faults now ≡ r.faults c.output
 
 -- these stores are left, one of each server, and each is that of an image where the server has nothing but files
 pub record AreLeft {S : Type 0} (device : S → DeviceState) (x : Setup) (stores : List S) (m : Moment) : Type 0 where

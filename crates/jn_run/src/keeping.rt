@@ -3,6 +3,7 @@
 ghost use Rattle.std.specs.Prelude.{◌≡◌, ◌≤◌, length};
 ghost use Rattle.jn_images.specs.Kept.{AreClosed};
 ghost use Rattle.jn_run.specs.Keeping.{KeptAs, KeptWith};
+ghost use Rattle.jn_run.specs.Outcome.{keeper_state};
 
 use crate::running::Disks;
 use crate::status::Status;
@@ -26,7 +27,7 @@ pub fn keep<I: Keeper>(
     requires few { length stores.items ≤ 8 }
     requires counts { length counts.now ≡ length stores.items }
     requires closed { AreClosed (⟦<Pairs<MemDisk> as Powered>⟧.device) stores.items counts.now }
-    ensures kept { KeptWith (⟦<Pairs<MemDisk> as Powered>⟧.device) stores.items counts.now options.now.closing (I.kept keeper.old) (I.faults keeper.old) result (I.kept keeper.new) (I.faults keeper.new) }
+    ensures kept { KeptWith (⟦<Pairs<MemDisk> as Powered>⟧.device) stores.items counts.now options.now.closing (keeper_state I.kept I.faults keeper.old) result (keeper_state I.kept I.faults keeper.new) }
 {
     match &options.closing {
         None => Status::Done,
@@ -45,7 +46,7 @@ fn keep_as<I: Keeper>(
     requires few { length stores.items ≤ 8 }
     requires counts { length counts.now ≡ length stores.items }
     requires closed { AreClosed (⟦<Pairs<MemDisk> as Powered>⟧.device) stores.items counts.now }
-    ensures kept { KeptAs (⟦<Pairs<MemDisk> as Powered>⟧.device) stores.items counts.now name.now (I.kept keeper.old) (I.faults keeper.old) result (I.kept keeper.new) (I.faults keeper.new) }
+    ensures kept { KeptAs (⟦<Pairs<MemDisk> as Powered>⟧.device) stores.items counts.now name.now (keeper_state I.kept I.faults keeper.old) result (keeper_state I.kept I.faults keeper.new) }
 {
     match save_images(alloc, keeper, name, stores, counts) {
         Ok(()) => Status::Done,

@@ -1,7 +1,7 @@
 //! The top call: reads the words and a schedule, runs it, writes the report and keeps the disks.
 #![tactic(auto)]
 
-ghost use Rattle.std.specs.Prelude.{◌≡◌, ◌≤◌, ℕ, Option, Some, List, length, IfOk};
+ghost use Rattle.std.specs.Prelude.{◌≡◌, ◌≤◌, ℕ, Option, List, length, IfOk};
 ghost use Rattle.std.specs.List.{AllByRecursion};
 ghost use Rattle.jn_host.specs.Outside.{Contents};
 ghost use Rattle.jn_images.specs.Texts.{refusal_text};
@@ -10,13 +10,15 @@ ghost use Rattle.jn_schedule.specs.Grammar.{IsSchedule};
 ghost use Rattle.jn_schedule.specs.Ranges.{EventInRange};
 ghost use Rattle.jn_world.specs.Standing.{AreStores};
 ghost use Rattle.jn_run.specs.Opening.{AreOpened};
-ghost use Rattle.jn_run.specs.Outcome.{OutcomeOf, OutcomeOfRun, OutcomeOfTrial, OutcomeOn, Refuses, RefusesWords, refused_line};
+ghost use Rattle.jn_run.specs.Outcome.{OutcomeOf, RunEnds, TrialEnds, WordsEnd, keeper_state, outside, refused_line, sink_state};
+ghost use Rattle.jn_run.specs.Parts.{EndsOn, Refuses};
 ghost use Rattle.jn_run.specs.declared.status.Status.TheVariants as statuses;
 
 use jn_host::{Failed, Keeper, Sink, Source};
 use std::alloc::Global;
 
 mod keeping;
+mod laws;
 mod opening;
 mod reading;
 mod running;
@@ -33,6 +35,10 @@ use jn_store::{Powered, StableStore};
 use jn_text::push_number;
 use jn_writing::{Writer, write_all};
 use keeping::keep;
+pub use laws::{
+    a_run_that_can_be_done_is_done, a_run_without_images_leaves_the_keeper_alone, a_trial_is_done,
+    counts_tell_the_status,
+};
 use opening::{OpenFault, counts_of, open_stores};
 use reading::{ReadFault, read_all};
 use running::{Disks, RunFault, run_from};
@@ -63,20 +69,9 @@ pub fn run<S: Source, K: Sink, I: Keeper>(
     sink: &mut K,
     images: &mut I,
 ) -> Status
-    ensures outcome { OutcomeOf (command_of words.now) (record {
-      left = S.left source.old;
-      left' = S.left source.new;
-      read_faults = S.faults source.old;
-      read_faults' = S.faults source.new;
-      taken = K.taken sink.old;
-      taken' = K.taken sink.new;
-      write_faults = K.faults sink.old;
-      write_faults' = K.faults sink.new;
-      kept = I.kept images.old;
-      kept' = I.kept images.new;
-      keep_faults = I.faults images.old;
-      keep_faults' = I.faults images.new;
-    }) result }
+    ensures outcome { OutcomeOf (command_of words.now)
+        (outside S.left S.faults K.taken K.faults I.kept I.faults source.old sink.old images.old)
+        (outside S.left S.faults K.taken K.faults I.kept I.faults source.new sink.new images.new) result }
 {
     let asked = match read_command(alloc, words) {
         Ok(asked) => asked,
@@ -92,20 +87,7 @@ pub fn run<S: Source, K: Sink, I: Keeper>(
 /// Runs a trial, and writes the line that sums it up once it is done.
 fn run_trial<K: Sink>(alloc: Global, trial: &Trial, sink: &mut K) -> Status
     requires range { IsTrialInRange trial.now }
-    ensures outcome { (left : Option (List ℕ)) (read_faults : ℕ) (kept : Option Contents) (keep_faults : ℕ) → OutcomeOfTrial trial.now (record {
-      left = left;
-      left' = left;
-      read_faults = read_faults;
-      read_faults' = read_faults;
-      taken = K.taken sink.old;
-      taken' = K.taken sink.new;
-      write_faults = K.faults sink.old;
-      write_faults' = K.faults sink.new;
-      kept = kept;
-      kept' = kept;
-      keep_faults = keep_faults;
-      keep_faults' = keep_faults;
-    }) result }
+    ensures outcome { (kept : Option Contents) → TrialEnds trial.now kept (sink_state K.taken K.faults sink.old) (sink_state K.taken K.faults sink.new) result }
 {
     match sum_up(alloc, trial) {
         Ok(line) => match write_all(sink, &line) {
@@ -121,7 +103,7 @@ fn run_trial<K: Sink>(alloc: Global, trial: &Trial, sink: &mut K) -> Status
 
 /// Says that the words are no command.
 fn refuse_words<K: Sink>(sink: &mut K) -> Status
-    ensures refused { RefusesWords (K.taken sink.old) (K.faults sink.old) result (K.taken sink.new) (K.faults sink.new) }
+    ensures refused { WordsEnd (sink_state K.taken K.faults sink.old) (sink_state K.taken K.faults sink.new) result }
 {
     match write_all(sink, b"refused: words\n") {
         Ok(()) => Status::Words,
@@ -138,20 +120,9 @@ fn run_source<S: Source, K: Sink, I: Keeper>(
     keeper: &mut I,
 ) -> Status
     requires limits { AreWithinLimits options.now }
-    ensures outcome { OutcomeOfRun (Some options.now) (record {
-      left = S.left source.old;
-      left' = S.left source.new;
-      read_faults = S.faults source.old;
-      read_faults' = S.faults source.new;
-      taken = K.taken sink.old;
-      taken' = K.taken sink.new;
-      write_faults = K.faults sink.old;
-      write_faults' = K.faults sink.new;
-      kept = I.kept keeper.old;
-      kept' = I.kept keeper.new;
-      keep_faults = I.faults keeper.old;
-      keep_faults' = I.faults keeper.new;
-    }) result }
+    ensures outcome { RunEnds options.now
+        (outside S.left S.faults K.taken K.faults I.kept I.faults source.old sink.old keeper.old)
+        (outside S.left S.faults K.taken K.faults I.kept I.faults source.new sink.new keeper.new) result }
 {
     let text = match read_all(alloc, source) {
         Ok(text) => text,
@@ -171,9 +142,9 @@ fn run_text<K: Sink, I: Keeper>(
     keeper: &mut I,
 ) -> Status
     requires limits { AreWithinLimits options.now }
-    ensures ran { OutcomeOn options.now text.now
-        (record { taken = K.taken sink.old; write_faults = K.faults sink.old; kept = I.kept keeper.old; keep_faults = I.faults keeper.old }) result
-        (record { taken = K.taken sink.new; write_faults = K.faults sink.new; kept = I.kept keeper.new; keep_faults = I.faults keeper.new }) }
+    ensures ran { EndsOn options.now text.now
+        (sink_state K.taken K.faults sink.old) (keeper_state I.kept I.faults keeper.old) result
+        (sink_state K.taken K.faults sink.new) (keeper_state I.kept I.faults keeper.new) }
 {
     match parse_up_to(alloc, text, MOST_EVENTS) {
         Ok(Some(events)) => run_schedule(alloc, options, &events, sink, keeper),
@@ -194,9 +165,9 @@ fn run_schedule<K: Sink, I: Keeper>(
     requires limits { AreWithinLimits options.now }
     requires few { length events.now ≤ 100000 }
     requires range { AllByRecursion EventInRange events.now }
-    ensures ran { (text : List ℕ) → IsSchedule text events.now → OutcomeOn options.now text
-        (record { taken = K.taken sink.old; write_faults = K.faults sink.old; kept = I.kept keeper.old; keep_faults = I.faults keeper.old }) result
-        (record { taken = K.taken sink.new; write_faults = K.faults sink.new; kept = I.kept keeper.new; keep_faults = I.faults keeper.new }) }
+    ensures ran { (text : List ℕ) → IsSchedule text events.now → EndsOn options.now text
+        (sink_state K.taken K.faults sink.old) (keeper_state I.kept I.faults keeper.old) result
+        (sink_state K.taken K.faults sink.new) (keeper_state I.kept I.faults keeper.new) }
 {
     match open_stores(alloc, options, keeper) {
         Ok(stores) => run_stores(alloc, options, stores, events, sink, keeper),
@@ -221,10 +192,9 @@ fn run_stores<K: Sink, I: Keeper>(
     requires opened { AreOpened (⟦<Pairs<MemDisk> as StableStore>⟧.view) (⟦<Pairs<MemDisk> as Powered>⟧.device) options.now.opening (I.kept keeper.old) stores.items }
     requires few { length events.now ≤ 100000 }
     requires range { AllByRecursion EventInRange events.now }
-    // Also where calls of the keeper had failed before.
-    ensures ran { (text : List ℕ) (earlier : ℕ) → IsSchedule text events.now → earlier ≤ I.faults keeper.old → OutcomeOn options.now text
-        (record { taken = K.taken sink.old; write_faults = K.faults sink.old; kept = I.kept keeper.old; keep_faults = earlier }) result
-        (record { taken = K.taken sink.new; write_faults = K.faults sink.new; kept = I.kept keeper.new; keep_faults = I.faults keeper.new }) }
+    ensures ran { (text : List ℕ) → IsSchedule text events.now → EndsOn options.now text
+        (sink_state K.taken K.faults sink.old) (keeper_state I.kept I.faults keeper.old) result
+        (sink_state K.taken K.faults sink.new) (keeper_state I.kept I.faults keeper.new) }
 {
     let Ok(counts) = counts_of(alloc, &stores) else {
         return Status::Memory;
@@ -240,7 +210,7 @@ fn run_stores<K: Sink, I: Keeper>(
 
 /// Says which line is refused, and by which fault.
 fn refuse_line<K: Sink>(alloc: Global, line: usize, number: u8, sink: &mut K) -> Status
-    ensures refused { Refuses (refused_line line number) statuses.Schedule (K.taken sink.old) (K.faults sink.old) result (K.taken sink.new) (K.faults sink.new) }
+    ensures refused { Refuses (refused_line line number) statuses.Schedule (sink_state K.taken K.faults sink.old) result (sink_state K.taken K.faults sink.new) }
 {
     match line_text(alloc, line, number) {
         Ok(text) => match write_all(sink, &text) {
@@ -253,7 +223,7 @@ fn refuse_line<K: Sink>(alloc: Global, line: usize, number: u8, sink: &mut K) ->
 
 /// Says which image is refused, and why.
 fn refuse_image<K: Sink>(alloc: Global, refusal: Refusal, sink: &mut K) -> Status
-    ensures refused { Refuses (refusal_text refusal) statuses.Image (K.taken sink.old) (K.faults sink.old) result (K.taken sink.new) (K.faults sink.new) }
+    ensures refused { Refuses (refusal_text refusal) statuses.Image (sink_state K.taken K.faults sink.old) result (sink_state K.taken K.faults sink.new) }
 {
     match refusal.text(alloc) {
         Ok(text) => match write_all(sink, &text) {

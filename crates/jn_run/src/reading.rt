@@ -1,6 +1,7 @@
 //! The bytes that come in.
 
 ghost use Rattle.std.specs.Prelude.{◌≡◌};
+ghost use Rattle.jn_run.specs.Outcome.{source_state};
 ghost use Rattle.jn_run.specs.Reading.{ReadsAll};
 ghost use Rattle.jn_run.specs.declared.reading.ReadFault.TheVariants as reads;
 
@@ -39,7 +40,7 @@ impl From<AllocError> for ReadFault {
 
 /// Reads the source to its end, or to one byte more than the longest schedule.
 pub fn read_all<S: Source>(alloc: Global, source: &mut S) -> Result<Vec<u8>, ReadFault>
-    ensures read { ReadsAll (S.left source.old) (S.faults source.old) result (S.faults source.new) }
+    ensures read { ReadsAll (source_state S.left S.faults source.old) result (source_state S.left S.faults source.new) }
 {
     let mut bytes = Vec::new(alloc);
     let mut piece = [0; PIECE];

@@ -1,5 +1,5 @@
 -- What an output took of a report's lines.
-use Rattle.std.specs.Prelude.{◌≡◌, ◌≤◌, ℕ, true, false, List, [], ◌++◌, Result, Err, is_ok}
+use Rattle.std.specs.Prelude.{◌≡◌, ◌≢◌, ◌≤◌, ℕ, true, false, List, [], ◌++◌, Result, Err, is_ok}
 use Rattle.jn_report.specs.declared.line.Line.{Line}
 use Rattle.jn_host.specs.Outside.{Rose}
 use Rattle.jn_writing.specs.declared.fault.ReportFault.{ReportFault}
@@ -19,6 +19,7 @@ pub record Reports {O : Type 0} (r : Reporting O) (before : O) (lines : List Lin
   pub whole : is_ok answer ≡ true → r.took before after lines
   pub front : is_ok answer ≡ false → r.front before after lines
   pub rose : answer ≡ Err reports.Write → Rose (r.faults before) (r.faults after)
+  pub no_fault : answer ≢ Err reports.Write → r.faults after ≡ r.faults before
 
 -- what is taken one after another is taken in all
 pub record Joins {O : Type 0} (r : Reporting O) : Type 0 where

@@ -18,6 +18,7 @@ pub record WritesAll (taken : Option (List ℕ)) (faults : ℕ) (bytes : List �
   pub whole : ok ≡ true → Took taken taken' bytes
   pub front : ok ≡ false → TookFront taken taken' bytes
   pub rose : ok ≡ false → Rose faults faults'
+  pub no_fault : ok ≡ true → faults' ≡ faults
 
 -- A sink takes lines as their text. A front of that may end within a line.
 abbrev pub writes_to : {K : Type 0} → (K → Option (List ℕ)) → (K → ℕ) → Reporting K

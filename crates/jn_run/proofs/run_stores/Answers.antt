@@ -1,6 +1,6 @@
-use Rattle.jn_run.proofs.Common.{◌∙◌, ℕ, ◌≤◌, Err, List, Vec, ap, length, map, refl, subst, sym, length-map, Global, MemDisk, PageCounts}
+use Rattle.jn_run.proofs.Common.{◌∙◌, ℕ, ◌≤◌, Err, List, Vec, ap, length, map, refl, subst, sym, length-map, Global, MemDisk, PageCounts, keeper_state, sink_state}
 use Rattle.jn_run.proofs.Opened.{opened-so, within-of}
-use Rattle.jn_run.proofs.Outcomes.{left-closed, run-kept, run-limit, run-write, run-memory}
+use Rattle.jn_run.proofs.Outcomes.{left-closed, memory-ends, run-kept, run-limit, run-write, run-memory}
 use Rattle.jn_run.proofs.Stores.{look, device}
 use Rattle.jn_run.proofs.run_stores.Goals as goal
 
@@ -27,47 +27,49 @@ keep-requires-clause-closed g c =
     (c.deref-in-Ok-run_from.ensures.value ∙ c.in-Ok.ensures ∙ ap (λ (xs : List (MemDisk × PageCounts)). map (λ (x : MemDisk × PageCounts). x.1) xs) c.deref.ensures.value) whole.closing whole.lines whole.whole whole.gives
     (within-of look device o.opening kept c.args.stores.items c.requires.limits.opening c.requires.opened)
 
+pub returns-in_default : goal.returns-in_default
+returns-in_default g c =
+    let sink = sink_state g.K.Sink.taken g.K.Sink.faults c.args.sink.now in
+    let keeper = keeper_state g.I.Keeper.kept g.I.Keeper.faults c.args.keeper.now in
+    record { ran = λ text schedule. memory-ends c.args.options.now text sink sink keeper keeper refl refl }
+
 pub returns-in-Ok-run_from : goal.returns-in-Ok-run_from
 returns-in-Ok-run_from g c = record {
-  ran = λ text earlier schedule since.
+  ran = λ text schedule.
       let o = c.args.options.now in
       let b = opened-so look device (λ s. refl) o (g.I.Keeper.kept c.args.keeper.now) c.args.stores.items c.requires.servers c.requires.opened in
-      run-kept device o text c.args.events.now g.K.Sink.taken g.K.Sink.faults c.args.sink.now c.run_from.new.output (g.I.Keeper.kept c.args.keeper.now) (g.I.Keeper.kept c.keep.new.keeper) earlier (g.I.Keeper.faults c.keep.new.keeper) c.args.stores.items b
-      (record { schedule = schedule; few = c.requires.few }) c.requires.limits.servers.1
-      c.requires.range (λ (v : Vec MemDisk Global). v.items) c.run_from.result
+      run-kept device o text c.args.events.now g.K.Sink.taken g.K.Sink.faults c.args.sink.now c.run_from.new.output (keeper_state g.I.Keeper.kept g.I.Keeper.faults c.args.keeper.now) c.args.stores.items b
+      (record { schedule = schedule; few = c.requires.few }) c.requires.limits.servers.1 c.requires.range (λ (v : Vec MemDisk Global). v.items) c.run_from.result
       (c.run_from.ensures.ran b.setup b.files b.epochs b.images b.stores_are b.opens.trace b.are_images) c.in-Ok-run_from.left c.in-Ok-run_from.is c.deref-in-Ok-run_from.result.now
-      (c.deref-in-Ok-run_from.ensures.value ∙ c.in-Ok.ensures ∙ ap (λ (xs : List (MemDisk × PageCounts)). map (λ (x : MemDisk × PageCounts). x.1) xs) c.deref.ensures.value) (g.I.Keeper.faults c.args.keeper.now) since c.keep.result c.keep.ensures.kept;
+      (c.deref-in-Ok-run_from.ensures.value ∙ c.in-Ok.ensures ∙ ap (λ (xs : List (MemDisk × PageCounts)). map (λ (x : MemDisk × PageCounts). x.1) xs) c.deref.ensures.value) (keeper_state g.I.Keeper.kept g.I.Keeper.faults c.keep.new.keeper) c.keep.result c.keep.ensures.kept;
 }
 
 pub returns-in-Err-Write : goal.returns-in-Err-Write
 returns-in-Err-Write g c = record {
-  ran = λ text earlier schedule since.
+  ran = λ text schedule.
       let o = c.args.options.now in
       let b = opened-so look device (λ s. refl) o (g.I.Keeper.kept c.args.keeper.now) c.args.stores.items c.requires.servers c.requires.opened in
-      run-write device o text c.args.events.now g.K.Sink.taken g.K.Sink.faults c.args.sink.now c.run_from.new.output (g.I.Keeper.kept c.args.keeper.now) (g.I.Keeper.kept c.args.keeper.now) earlier (g.I.Keeper.faults c.args.keeper.now) c.args.stores.items b
-      (record { schedule = schedule; few = c.requires.few }) c.requires.limits.servers.1
-      c.requires.range (λ (v : Vec MemDisk Global). v.items) c.run_from.result
-      (c.run_from.ensures.ran b.setup b.files b.epochs b.images b.stores_are b.opens.trace b.are_images) refl (c.in-Err-Write.is ∙ ap (λ e. Err e) c.in-Err-Write.field-0-is);
+      run-write device o text c.args.events.now g.K.Sink.taken g.K.Sink.faults c.args.sink.now c.run_from.new.output (keeper_state g.I.Keeper.kept g.I.Keeper.faults c.args.keeper.now) c.args.stores.items b
+      (record { schedule = schedule; few = c.requires.few }) c.requires.limits.servers.1 c.requires.range (λ (v : Vec MemDisk Global). v.items) c.run_from.result
+      (c.run_from.ensures.ran b.setup b.files b.epochs b.images b.stores_are b.opens.trace b.are_images) (c.in-Err-Write.is ∙ ap (λ e. Err e) c.in-Err-Write.field-0-is);
 }
 
 pub returns-in-Err-Limit : goal.returns-in-Err-Limit
 returns-in-Err-Limit g c = record {
-  ran = λ text earlier schedule since.
+  ran = λ text schedule.
       let o = c.args.options.now in
       let b = opened-so look device (λ s. refl) o (g.I.Keeper.kept c.args.keeper.now) c.args.stores.items c.requires.servers c.requires.opened in
-      run-limit device o text c.args.events.now g.K.Sink.taken g.K.Sink.faults c.args.sink.now c.run_from.new.output (g.I.Keeper.kept c.args.keeper.now) (g.I.Keeper.kept c.args.keeper.now) earlier (g.I.Keeper.faults c.args.keeper.now) c.args.stores.items b
-      (record { schedule = schedule; few = c.requires.few }) c.requires.limits.servers.1
-      c.requires.range (λ (v : Vec MemDisk Global). v.items) c.run_from.result
-      (c.run_from.ensures.ran b.setup b.files b.epochs b.images b.stores_are b.opens.trace b.are_images) refl (c.in-Err-Limit.is ∙ ap (λ e. Err e) c.in-Err-Limit.field-0-is);
+      run-limit device o text c.args.events.now g.K.Sink.taken g.K.Sink.faults c.args.sink.now c.run_from.new.output (keeper_state g.I.Keeper.kept g.I.Keeper.faults c.args.keeper.now) c.args.stores.items b
+      (record { schedule = schedule; few = c.requires.few }) c.requires.limits.servers.1 c.requires.range (λ (v : Vec MemDisk Global). v.items) c.run_from.result
+      (c.run_from.ensures.ran b.setup b.files b.epochs b.images b.stores_are b.opens.trace b.are_images) (c.in-Err-Limit.is ∙ ap (λ e. Err e) c.in-Err-Limit.field-0-is);
 }
 
 pub returns : goal.returns
 returns g c = record {
-  ran = λ text earlier schedule since.
+  ran = λ text schedule.
       let o = c.args.options.now in
       let b = opened-so look device (λ s. refl) o (g.I.Keeper.kept c.args.keeper.now) c.args.stores.items c.requires.servers c.requires.opened in
-      run-memory device o text c.args.events.now g.K.Sink.taken g.K.Sink.faults c.args.sink.now c.run_from.new.output (g.I.Keeper.kept c.args.keeper.now) (g.I.Keeper.kept c.args.keeper.now) earlier (g.I.Keeper.faults c.args.keeper.now) c.args.stores.items b
-      (record { schedule = schedule; few = c.requires.few }) c.requires.limits.servers.1
-      c.requires.range (λ (v : Vec MemDisk Global). v.items) c.run_from.result
-      (c.run_from.ensures.ran b.setup b.files b.epochs b.images b.stores_are b.opens.trace b.are_images) refl (c.in-Err-Memory.is ∙ ap (λ e. Err e) c.in-Err-Memory.field-0-is);
+      run-memory device o text c.args.events.now g.K.Sink.taken g.K.Sink.faults c.args.sink.now c.run_from.new.output (keeper_state g.I.Keeper.kept g.I.Keeper.faults c.args.keeper.now) c.args.stores.items b
+      (record { schedule = schedule; few = c.requires.few }) c.requires.limits.servers.1 c.requires.range (λ (v : Vec MemDisk Global). v.items) c.run_from.result
+      (c.run_from.ensures.ran b.setup b.files b.epochs b.images b.stores_are b.opens.trace b.are_images) (c.in-Err-Memory.is ∙ ap (λ e. Err e) c.in-Err-Memory.field-0-is);
 }

@@ -1,4 +1,4 @@
-use Rattle.jn_images.proofs.Common.{◌≡◌, ◌+◌, ◌<◌, ◌∙◌, ℕ, Err, Some, ap, sym, subst, slice_get, length, refl, arith, length_push, err_from_is_err_and, PageCounts, get_or, is_ok}
+use Rattle.jn_images.proofs.Common.{◌≡◌, ◌+◌, ◌<◌, ◌∙◌, ℕ, Err, Some, ap, sym, subst, slice_get, length, refl, arith, length_push, err_from_is_err_and, PageCounts, get_or, is_ok, true≢false}
 use Rattle.std.proofs.lemmas.Iterator.Adapters.{YieldsList-from_vec}
 use Rattle.std.proofs.lemmas.Iterator.Consumers.{YieldsList-turn}
 use Rattle.jn_images.proofs.Disks.{device}
@@ -56,7 +56,7 @@ loop-store-preserved g c =
     let its : slice_get c.args.counts.now n ≡ Some own = subst (λ (k : ℕ). slice_get c.args.counts.now k ≡ Some (get_or c.args.counts.now c.from.result d)) place (slice_get-get_or c.args.counts.now c.from.result d (omega (arith, lt, long, c.requires.counts, place))) in
     record {
       count = length_push c.loop-store.yielded c.in-Some.store ∙ ap (λ (k : ℕ). k + 1) many;
-      faults = omega (arith, c.loop-store.invariant.faults, one.count);
+      faults = one.no_fault (λ failed. true≢false (sym (ap is_ok c.in_ok-save_image.was) ∙ ap is_ok failed)) ∙ c.loop-store.invariant.faults;
       saved = saved-more device c.args.name.now xs c.args.counts.now (g.I.Keeper.kept c.args.keeper.now) n c.in-Some.store own (record { 0 = n }) (g.I.Keeper.kept c.loop-store.keeper) (g.I.Keeper.kept c.save_image.new.keeper) (g.I.Keeper.faults c.loop-store.keeper) (g.I.Keeper.faults c.save_image.new.keeper) c.save_image.result refl (omega (arith, lt, long, c.requires.few))
           (get-some xs n c.in-Some.store lt (subst (λ (k : ℕ). c.in-Some.store ≡ get_or xs k c.in-Some.store) many t.1)) its c.loop-store.invariant.saved one (ap is_ok c.in_ok-save_image.was);
     }

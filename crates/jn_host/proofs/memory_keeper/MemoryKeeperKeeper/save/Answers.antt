@@ -11,4 +11,5 @@ returns-clause-saved c =
       unsaved = λ failed. grind arith;
       others = λ other apart. grind (arith, text_keys);
       rose = λ e. grind arith;
+      no_fault = λ well. grind arith;
     }

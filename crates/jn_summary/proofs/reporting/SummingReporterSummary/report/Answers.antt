@@ -1,4 +1,4 @@
-use Rattle.std.proofs.Common.{List, ap, subst, arith, true≢false}
+use Rattle.std.proofs.Common.{List, refl, ap, subst, arith, true≢false}
 use Rattle.std.proofs.lemmas.List.{take_all}
 use Rattle.std.specs.Prelude.{is_ok}
 use Rattle.jn_report.specs.declared.line.Line.{Line}
@@ -16,5 +16,6 @@ returns c = record {
     whole = λ yes. subst (λ (ls : List Line). Adds c.args.output.now c.loop-line.output ls) (take_all c.loop-line.line-index c.args.lines.now (omega (arith, c.loop-line-test.false))) c.loop-line.invariant;
     front = λ no. absurd (true≢false no);
     rose = λ is. absurd (true≢false (ap is_ok is));
+    no_fault = λ is. refl;
   };
 }
