@@ -1,0 +1,195 @@
+-- A rest of a settle: its steps, but for erasures, are each what comes next, and where all servers are up at its end none is stopped while it erases.
+use Rattle.jn_at_rest.proofs.Common.{◌≡◌, ◌≢◌, ◌⊎◌, inl, inr, ℕ, suc, ◌+◌, ◌<◌, ◌≤◌, Bool, true, false, List, [], ◌∷◌, ◌++◌, append-nil, length, drop, Option, Some, None, is_some, true≢false, refl, sym, ◌∙◌, ap, subst, arith, ◌&&◌, ◌||◌, if◌then◌else◌, slice_get, drop-length, ServerNo, Client, Server, server_eq, server_tells, Text, RowOutcome, Sent, Pick, stable, World, Memory, servers_from, commits_in, Room, server_step, Step, Deliver, Work, StopWork, after, work, works, handing, working, Course, go, go_on, numbered, still_waiting, newly_sent, has_going, first_going, next_step, AreUp, ComesNext, AreNext, ComeToRest, in-turn, Setup, Chance, Task, Rests, CutShort, Deed, room, no_room, nothing, served, delivered, delivered_at, is_busy_with, worked, working_steps, Befalls, pages_of, rubbish_on, deed_of, first_busy, next_event, resting, none, more, Steps, Moment, behind, DoesEarlier, GoesOn, IsCut, does, its-task, step_calls}
+use Rattle.jn_device.specs.Device.{DeviceState}
+use Rattle.jn_server.specs.Standing.{has_rubbish}
+use Rattle.jn_found.specs.Pages.{pool_on}
+use Rattle.jn_rests.proofs.BusyServers.{nothing as nothing-left, first-is, first-none}
+use Rattle.jn_headline.proofs.Came.{on-append}
+use Rattle.jn_headline.proofs.Busy.{IsFirst, first-busy-is, none-busy, idle-goes-not, erases}
+use Rattle.jn_at_rest.proofs.Lined.{IsLined, go-lined}
+use Rattle.jn_at_rest.proofs.Going.{a_rest, up-before, at-end, not-cut}
+
+-- ---- a server of which no work goes
+
+busy-with : (w : World) (q : ServerNo) (memory : Memory) (rubbish : Bool) → w.memory q ≡ Some memory → is_busy_with (stable (w.found q)) (w.memory q) rubbish ≡ true → is_busy_with (stable (w.found q)) (Some memory) rubbish ≡ true
+busy-with w q memory rubbish is_up busy = subst (λ (o : Option Memory). is_busy_with (stable (w.found q)) o rubbish ≡ true) is_up busy
+
+-- a stop takes it down where it has rubbish
+taken-down : (w : World) (q : ServerNo) (memory : Memory) (r : Room) (made : Pick → ℕ) → w.memory q ≡ Some memory → is_busy_with (stable (w.found q)) (Some memory) r.rubbish ≡ true → has_going (stable (w.found q)) (Some memory) ≡ false
+    → (after (StopWork q r made) w).memory q ≡ None
+taken-down w q memory r made is_up busy idle = ap (λ (o : Option Memory). (work q r (Some made) o w).memory q) is_up ∙ at (server_step memory (stable (w.found q)) r) refl
+  where
+    has : (a b : Bool) → (true && (a || b)) ≡ true → a ≡ false → b ≡ false → ⊥
+    has a b f g k = absurd (true≢false (sym f ∙ ap (λ (z : Bool). true && (z || b)) g ∙ k))
+
+    itself : ((server_eq q q ≡ true) × (q ≡ q)) ⊎ ((server_eq q q ≡ false) × (q ≢ q)) → server_eq q q ≡ true
+    itself (inl p) = p.0
+    itself (inr p) = absurd (p.1 refl)
+
+    at : (o : Option (RowOutcome Memory)) → server_step memory (stable (w.found q)) r ≡ o → (works q (Some made) o w).memory q ≡ None
+    at None z = absurd (has (has_going (stable (w.found q)) (Some memory)) r.rubbish busy idle (nothing-left memory (stable (w.found q)) r z).1)
+    at (Some row) z = ap (λ (b : Bool). if b then None else w.memory q) (itself (server_tells q q))
+
+-- ---- the rest
+
+module _ (x : Setup) (texts : List Text) (mute : commits_in texts ≡ []) (d : Course) where
+  -- a rest that began at this course of the whole system is over
+  pub record Rested (e : Moment) : Type 0 where
+    pub these : List Step
+    pub comes : ComeToRest (servers_from 0 x.servers) these d
+    pub lined : IsLined texts e.state.course (go_on these d)
+    pub rubbish : (q : ServerNo) → q.0 < x.servers → rubbish_on x e.devices q ≡ false
+
+  -- a step that changes nothing and hands nothing over
+  unmoved : (step : Step) (k here : Course) → still_waiting step k.waiting ≡ k.waiting → after step k.world ≡ k.world → IsLined texts k here → IsLined texts (go step k) here
+  unmoved step k here still same h = record {
+    world = h.world ∙ ap (behind texts) (sym same);
+    waiting = h.waiting ∙ sym (ap (λ (ks : List ℕ). ks ++ numbered (length k.world.sent) (newly_sent k.world (after step k.world))) still
+        ∙ ap (λ (w : World). k.waiting ++ numbered (length k.world.sent) (drop (length k.world.sent) w.sent)) same
+        ∙ ap (λ (more : List Sent). k.waiting ++ numbered (length k.world.sent) more) (drop-length k.world.sent) ∙ append-nil k.waiting);
+  }
+
+  module _ (rest : List Task) (m c e : Moment) (up : AreUp x.servers e.state.course.world) (these : List Step) (lined : IsLined texts m.state.course (go_on these d)) (next : AreNext (servers_from 0 x.servers) these d)
+      (left : Steps Moment (DoesEarlier x rest) c e)
+      (again : (those : List Step) → IsLined texts c.state.course (go_on those d) → AreNext (servers_from 0 x.servers) those d → c.state.tasks ≡ Rests ∷ rest → Rested e) (h : Chance) where
+    abbrev w : World
+    w = m.state.course.world
+
+    -- the course of the whole system
+    abbrev here : Course
+    here = go_on these d
+
+    abbrev Does : Deed → Type 0
+    Does deed = (c.state.tasks ≡ deed.tasks ++ rest) × (c.state.course ≡ go_on deed.steps m.state.course) × Befalls x h deed w m.devices c.devices
+
+    -- it goes on
+    abbrev on : Deed → Deed
+    on deed = record deed { tasks = Rests ∷ [] }
+
+    steps-on : (step : Step) → ComesNext (servers_from 0 x.servers) here step → c.state.course ≡ go step m.state.course → c.state.tasks ≡ Rests ∷ rest → Rested e
+    steps-on step comes course tasks = again (these ++ step ∷ [])
+        (subst (λ (k : Course). IsLined texts c.state.course k) (sym (on-append these (step ∷ []) d)) (subst (λ (k : Course). IsLined texts k (go step here)) (sym course) (go-lined texts mute step m.state.course here lined)))
+        (in-turn (ComesNext (servers_from 0 x.servers)) these (step ∷ []) d next (comes, tt)) tasks
+
+    stays-on : IsLined texts c.state.course here → c.state.tasks ≡ Rests ∷ rest → Rested e
+    stays-on l tasks = again these l next tasks
+
+    -- ---- a message is handed over
+
+    module _ (k : ℕ) (ks : List ℕ) (waits : m.state.course.waiting ≡ k ∷ ks) where
+      comes : (r : Room) (stop : Option (Pick → ℕ)) → ComesNext (servers_from 0 x.servers) here (handing k r stop)
+      comes r stop = record { chance = record { room = r; stop = stop }; is_next = ap (λ (js : List ℕ). next_step (record { room = r; stop = stop }) js (first_going here.world (servers_from 0 x.servers))) (lined.waiting ∙ waits) }
+
+      handed : (q : ServerNo) (o : Option Memory) → Does (on (delivered_at h k q o)) → Rested e
+      handed q None does = steps-on (Deliver k (room h q)) (comes (room h q) None) does.1 does.0
+      handed q (Some memory) does = steps-on (handing k (room h q) h.stop) (comes (room h q) h.stop) does.1 does.0
+
+      delivers : (o : Option Sent) → Does (on (delivered h k w o)) → Rested e
+      delivers None does = stays-on (subst (λ (z : Course). IsLined texts z here) (sym does.1) lined) does.0
+      delivers (Some (Client client, message)) does = steps-on (Deliver k no_room) (comes no_room None) does.1 does.0
+      delivers (Some (Server q, message)) does = handed q (w.memory q) does
+
+    -- ---- a server makes a step
+
+    module _ (waits : m.state.course.waiting ≡ []) where
+      works-at : (q : ServerNo) → first_busy h.rubbish w (servers_from 0 x.servers) ≡ Some q → Does (on (worked h q w)) → Rested e
+      works-at q first does = by (has_going (stable (w.found q)) (w.memory q)) refl
+        where
+          is : IsFirst h.rubbish w 0 x.servers q
+          is = first-busy-is h.rubbish w 0 x.servers q first
+
+          its : Does (on (served q step_calls (working_steps h q)))
+          its = subst (λ (b : Bool). Does (on (if b then served q step_calls (working_steps h q) else nothing))) is.busy does
+
+          below : q.0 < x.servers
+          below = let l = is.high in omega (arith, l)
+
+          idle-before : (p : ServerNo) → p.0 < q.0 → has_going (stable (here.world.found p)) (here.world.memory p) ≡ false
+          idle-before p l = subst (λ (v : World). has_going (stable (v.found p)) (v.memory p) ≡ false) (sym lined.world) (idle-goes-not (stable (w.found p)) (w.memory p) (h.rubbish p) (is.before p (least p.0) l))
+            where
+              least : (a : ℕ) → 0 ≤ a
+              least a = omega arith
+
+          work-next : has_going (stable (w.found q)) (w.memory q) ≡ true → ComesNext (servers_from 0 x.servers) here (working q (room h q) h.stop)
+          work-next g = record {
+            chance = record { room = room h q; stop = h.stop };
+            is_next = ap (λ (js : List ℕ). next_step (record { room = room h q; stop = h.stop }) js (first_going here.world (servers_from 0 x.servers))) (lined.waiting ∙ waits)
+                ∙ ap (next_step (record { room = room h q; stop = h.stop }) []) (first-is here.world x.servers q below
+                (subst (λ (v : World). has_going (stable (v.found q)) (v.memory q) ≡ true) (sym lined.world) g) idle-before);
+          }
+
+          -- nothing goes, so a rubbish record is erased
+          erased : (memory : Memory) → w.memory q ≡ Some memory → has_going (stable (w.found q)) (Some memory) ≡ false → (stop : Option (Pick → ℕ)) → c.state.course ≡ go (working q (room h q) stop) m.state.course → Rested e
+          erased memory is_up idle None course = stays-on (subst (λ (k : Course). IsLined texts k here) (sym course)
+              (unmoved (Work q (room h q)) m.state.course here refl (erases w q memory (room h q) is_up (busy-with w q memory (h.rubbish q) is_up is.busy) idle) lined)) its.0
+          erased memory is_up idle (Some made) course = absurd (true≢false (sym (up-before x rest (Rests ∷ []) c e its.0 (a_rest, tt) left up q below) ∙ ap (λ (k : Course). is_some (k.world.memory q)) course
+              ∙ ap is_some (taken-down w q memory (room h q) made is_up (busy-with w q memory (h.rubbish q) is_up is.busy) idle)))
+
+          at-memory : (o : Option Memory) → w.memory q ≡ o → has_going (stable (w.found q)) o ≡ false → Rested e
+          at-memory None z g = absurd (true≢false (sym is.busy ∙ ap (λ (o : Option Memory). is_busy_with (stable (w.found q)) o (h.rubbish q)) z))
+          at-memory (Some memory) z g = erased memory z g h.stop its.1
+
+          by : (going : Bool) → has_going (stable (w.found q)) (w.memory q) ≡ going → Rested e
+          by true g = steps-on (working q (room h q) h.stop) (work-next g) its.1 its.0
+          by false g = at-memory (w.memory q) refl g
+
+      -- nothing is left to do
+      over : first_busy h.rubbish w (servers_from 0 x.servers) ≡ None → Does nothing → Rested e
+      over idle does = subst (λ (z : Moment). Rested z) (sym ended) (record {
+        these = these;
+        comes = record { next = next; rest = record { waits = lined.waiting ∙ waits; idle = first-none here.world x.servers none-goes } };
+        lined = subst (λ (k : Course). IsLined texts k here) (sym does.1) lined;
+        rubbish = λ p below. ap (λ (s : DeviceState). has_rubbish (pool_on (x.counts p) (pages_of s))) ((let b = does.2 in b.used) p) ∙ sym ((let b = does.2 in b.rubbish) p)
+            ∙ none-left (is_some (w.memory p)) (has_going (stable (w.found p)) (w.memory p)) (h.rubbish p) (idle-at p below) (was-up p below);
+      })
+        where
+          ended : e ≡ c
+          ended = at-end x rest c e left does.0
+
+          least : (a : ℕ) → 0 ≤ a
+          least a = omega arith
+
+          most : (a : ℕ) → a < x.servers → a < 0 + x.servers
+          most a z = omega (arith, z)
+
+          idle-at : (p : ServerNo) → p.0 < x.servers → is_busy_with (stable (w.found p)) (w.memory p) (h.rubbish p) ≡ false
+          idle-at p below = none-busy h.rubbish w 0 x.servers idle p (least p.0) (most p.0 below)
+
+          none-goes : (p : ServerNo) → p.0 < x.servers → has_going (stable (here.world.found p)) (here.world.memory p) ≡ false
+          none-goes p below = subst (λ (v : World). has_going (stable (v.found p)) (v.memory p) ≡ false) (sym lined.world) (idle-goes-not (stable (w.found p)) (w.memory p) (h.rubbish p) (idle-at p below))
+
+          was-up : (p : ServerNo) → p.0 < x.servers → is_some (w.memory p) ≡ true
+          was-up p below = ap (λ (k : Course). is_some (k.world.memory p)) (sym does.1 ∙ ap (λ (z : Moment). z.state.course) (sym ended)) ∙ up p below
+
+          none-left : (a b r : Bool) → (a && (b || r)) ≡ false → a ≡ true → r ≡ false
+          none-left a b r f g = grind arith
+
+    -- ---- whichever it is
+
+    whichever : (waiting : List ℕ) → m.state.course.waiting ≡ waiting → (busy : Option ServerNo) → first_busy h.rubbish w (servers_from 0 x.servers) ≡ busy → Does (resting x h w (next_event waiting busy)) → Rested e
+    whichever (k ∷ ks) waits busy b does = delivers k ks waits (slice_get w.sent k) does
+    whichever [] waits (Some q) b does = works-at waits q b does
+    whichever [] waits None b does = over waits b does
+
+    pub rests-once : Does (resting x h w (next_event m.state.course.waiting (first_busy h.rubbish w (servers_from 0 x.servers)))) → Rested e
+    rests-once does = whichever m.state.course.waiting refl (first_busy h.rubbish w (servers_from 0 x.servers)) refl does
+
+  rests-on : (rest : List Task) (m e : Moment) → Steps Moment (DoesEarlier x rest) m e → AreUp x.servers e.state.course.world → e.state.tasks ≡ rest → (e.state.stage ≡ CutShort → ⊥) → m.state.tasks ≡ Rests ∷ rest
+      → (these : List Step) → IsLined texts m.state.course (go_on these d) → AreNext (servers_from 0 x.servers) these d → Rested e
+  rests-on rest m e (none a) up ends whole is these lined next = absurd (longer-by-one (length rest) (ap (λ (ts : List Task). length ts) (sym is ∙ ends)))
+    where
+      longer-by-one : (n : ℕ) → suc n ≡ n → ⊥
+      longer-by-one n l = omega (arith, l)
+  rests-on rest m e (more u c v step left) up ends whole is these lined next = by (does x Rests rest m c step.step is) (λ those l k t. rests-on rest c e left up ends whole t those l k)
+    where
+      by : GoesOn x step.step.chance Rests rest m c ⊎ IsCut Rests rest m c
+          → ((those : List Step) → IsLined texts c.state.course (go_on those d) → AreNext (servers_from 0 x.servers) those d → c.state.tasks ≡ Rests ∷ rest → Rested e) → Rested e
+      by (inl g) again = rests-once rest m c e up these lined next left again step.step.chance (
+        g.tasks,
+        g.course,
+        subst (λ (t : Task). Befalls x step.step.chance (deed_of x step.step.chance t m.state) m.state.course.world m.devices c.devices) (its-task x Rests rest m c step.step is) step.step.befalls,
+      )
+      by (inr k) again = absurd (not-cut x rest c e left whole k.stage)
+
+  pub rests : (rest : List Task) (m e : Moment) → Steps Moment (DoesEarlier x rest) m e → AreUp x.servers e.state.course.world → e.state.tasks ≡ rest → (e.state.stage ≡ CutShort → ⊥) → m.state.tasks ≡ Rests ∷ rest → IsLined texts m.state.course d → Rested e
+  rests rest m e steps up ends whole is lined = rests-on rest m e steps up ends whole is [] lined tt

@@ -1,0 +1,51 @@
+-- What a settle of a run leaves behind where all servers are up as it ends.
+use Rattle.std.specs.Prelude.{◌≡◌, ◌<◌, Bool, true, false, List, [], ◌∷◌, ◌++◌, map, length, drop, Some}
+use Rattle.std.specs.List.{list_any}
+use Rattle.jn_base.specs.declared.names.ServerNo.{ServerNo}
+use Rattle.jn_report.specs.declared.line.Line.{Line}
+use Rattle.jn_report.specs.declared.line.Text.{Text}
+use Rattle.jn_schedule.specs.declared.Event.{Event}
+use Rattle.jn_schedule.specs.declared.Event.TheVariants as events
+use Rattle.jn_system_settling.specs.AtRest.Settled.{AreUp, told_since, IsSettled}
+use Rattle.jn_written.specs.Chances.{Setup}
+use Rattle.jn_written.specs.Devices.{rubbish_on}
+use Rattle.jn_written.specs.Events.{servers_of, settling, ending, printing}
+use Rattle.jn_written.specs.Runs.{Moment, Leads}
+use Rattle.jn_written.specs.Tasks.{Task, Begins, Rests, CountsCommits, CutShort, first_of_tasks}
+
+-- the texts of the lines that were added
+abbrev pub texts_since : List Line → List Line → List Text
+texts_since before now = map (λ (l : Line). l.text) (drop (length before) now)
+
+-- These tasks come next at the first moment, and at the second one they are done, with those behind them left, of which the first is no rest. It isn't cut short.
+pub record ComesThrough (x : Setup) (tasks behind : List Task) (a b : Moment) : Type 0 where
+  pub begins : a.state.tasks ≡ tasks ++ behind
+  pub leads : Leads x a b
+  pub ends : b.state.tasks ≡ behind
+  pub no_rest : first_of_tasks behind ≡ Some Rests → ⊥
+  pub whole : b.state.stage ≡ CutShort → ⊥
+
+-- What is left then: no message waits, no work goes, and there is no flag. Each command that a client waits for is an end that was told to wait in this
+-- settle, and each live work is of a transaction that its coordinator holds undecided or whose outcome was told in it, or it wasn't live before.
+pub record LeavesSettled (x : Setup) (a b : Moment) : Type 0 where
+  pub settled : IsSettled x.servers a.state.course b.state.course
+  -- whatever the system told in this settle is in a line of it
+  pub told : (is : Text → Bool) → list_any is (told_since a.state.course.world b.state.course.world) ≡ true → list_any is (texts_since a.state.lines b.state.lines) ≡ true
+  -- and no record on a server's pages is rubbish
+  pub rubbish : (q : ServerNo) → q.0 < x.servers → rubbish_on x b.devices q ≡ false
+
+-- ---- the settles of a run
+
+-- A run from one moment to another has a settle with these tasks behind it, from its beginning to its end. Where all servers are up as it ends, it settles.
+pub record HasSettled (x : Setup) (start now : Moment) (behind : List Task) : Type 0 where
+  pub first : Moment
+  pub last : Moment
+  pub leads : Leads x start first
+  pub comes : ComesThrough x (settling x) behind first last
+  pub goes_on : Leads x last now
+  pub settles : AreUp x.servers last.state.course.world → LeavesSettled x first last
+
+-- each settle of the schedule's events, and that of the end
+pub record SettleEach (x : Setup) (schedule : List Event) (start now : Moment) : Type 0 where
+  pub of_events : (earlier later : List Event) → schedule ≡ earlier ++ events.Settle ∷ later → HasSettled x start now (map Begins later ++ ending x)
+  pub of_end : HasSettled x start now (printing (servers_of x) ++ CountsCommits ∷ [])

@@ -1,0 +1,8 @@
+mod Common
+pub mod Handing
+pub mod Answering
+pub mod Ignoring
+pub mod Last
+pub mod Example
+pub mod Kept
+pub mod Reaching

@@ -1,0 +1,4 @@
+pub mod Handing
+pub mod Example
+pub mod Works
+pub mod Worlds

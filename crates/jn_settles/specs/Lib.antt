@@ -1,0 +1,4 @@
+pub mod Tables
+pub mod Settled
+pub mod Bounded
+pub mod Closed
