@@ -1,5 +1,5 @@
 -- A restart, a show and a settle where nothing strikes: what is found and what is free doesn't matter.
-use Rattle.jn_wrong.proofs.Common.{◌≡◌, ℕ, Bool, true, false, List, [], ◌∷◌, Option, Some, None, is_some, refl, sym, ◌∙◌, ap, subst, if◌then◌else◌, nat_eq, map, ServerNo, FileNo, Tid, WorkId, File, file_eq, tid_eq, work_eq, file_tells, tid_tells, work_tells, Text, StableState, Pick, work_before, World, Memory, print_files, file_before, Step, Restart, tid_before, after, run, IsRun, restart, restart_with, text_printed, prints_of, go_on, course_to, Setup, Chance, Meets, Acts, ComesUp, State, begun, Deed, Reads, last_epoch, served, stopped_idle, blocks_from, shown, showing, pick_read, recovering, recovered, given_up, is_used_up, brought_up, Devices, IsLookedOver, IsRecovery, Alone, Befalls, EventRefusal, NoSuchServer, ServerDown, unless, met, deed_of, made, IsQuiet, Raised, called-calm, recovered-calm, quiet-alone, quiet-called, restarted-up, still, IsBlank, PrintsNothing, no-faults}
+use Rattle.jn_wrong.proofs.Common.{◌≡◌, ℕ, Bool, true, false, List, [], ◌∷◌, Option, Some, None, is_some, refl, sym, ◌∙◌, ap, subst, if◌then◌else◌, nat_eq, map, drop, ServerNo, FileNo, Tid, WorkId, File, file_eq, tid_eq, work_eq, file_tells, tid_tells, work_tells, Text, StableState, Pick, work_before, World, Memory, print_files, file_before, Step, Restart, tid_before, after, run, IsRun, restart, restart_with, text_printed, prints_of, go_on, course_to, Setup, Chance, Meets, Acts, ComesUp, State, begun, Deed, Reads, last_epoch, stopped_idle, blocks_from, shown, showing, pick_read, recovering, recovered, given_up, is_used_up, brought_up, Devices, IsLookedOver, IsRecovery, Alone, Befalls, EventRefusal, NoSuchServer, ServerDown, unless, met, deed_of, made, IsQuiet, Raised, called-calm, recovered-calm, quiet-alone, quiet-called, restarted-up, still, IsBlank, PrintsNothing, no-faults, DeviceState, plain, Server}
 use Rattle.jn_schedule.specs.declared.Event.TheVariants as events
 use Rattle.jn_wrong.proofs.Bare.{bare_course, bare, made-same}
 use Rattle.jn_wrong.proofs.Doing.{Follows, below, none-named, itself}
@@ -13,14 +13,56 @@ same-tid T = itself tid_eq T (tid_tells T T)
 same-file : (f : FileNo) → file_eq f f ≡ true
 same-file f = itself file_eq f (file_tells f f)
 
+-- ---- a show of nothing
+
+module _ (x : Setup) (h : Chance) (s : State) (q : ServerNo) (is : PrintsNothing x s.course.world q) where
+  abbrev here : World
+  here = s.course.world
+
+  -- its task is begun
+  abbrev begun_here : State
+  begun_here = record s { tasks = drop 1 s.tasks }
+
+  prints : (m : Memory) → here.memory q ≡ Some m → (f : FileNo) → prints_of q here m (File f) ≡ None
+  prints m up f = subst (λ (n : Memory). prints_of q here n (File f) ≡ None) (one (sym is.up ∙ up)) (is.nothing f)
+    where
+      one : Some is.memory ≡ Some m → is.memory ≡ m
+      one k = cc
+
+  abbrev pub asked : List Text → Deed
+  asked texts = record (plain (Server q) (stopped_idle q h.stop)) { device = Reads q; texts = texts }
+
+  abbrev pub asked-still : List Text → Deed
+  asked-still texts = record (plain (Server q) []) { device = Reads q; texts = texts }
+
+  shows-none : (g : Chance) (o : Option (Pick → ℕ)) → o ≡ None → g.files ≡ [] → shown g q here (here.memory q) o ≡ []
+  shows-none g o e none = ap (λ (k : Option (Pick → ℕ)). shown g q here (here.memory q) k) e ∙ ap (λ (k : Option Memory). shown g q here k None) is.up
+      ∙ ap (λ (fs : List FileNo). map (text_printed q) (print_files (prints_of q here is.memory) (λ f. blocks_from 0 120) fs)) none
+
+  -- with no stop and no fault told there is nothing to tell
+  pub looks-same : (d e : DeviceState) → h.stop ≡ None → h.told ≡ [] → IsLookedOver (x.counts q) h here q d e
+      → bare (made x h (asked (shown h q here (here.memory q) h.stop)) begun_here) ≡ bare (made x still (asked-still (shown still q here (here.memory q) None)) begun_here)
+  looks-same d e stop untold looked = ap (λ (texts : List Text). bare (made x h (asked texts) begun_here))
+      (shows-none h h.stop stop (none-named file_eq file_before (λ f. prints_of q here looked.memory (File f)) h.files (looked.files stop) same-file (λ f. prints looked.memory looked.up f)))
+      ∙ made-same x h (asked []) [] begun_here (no-faults q h.told untold) refl (ap (λ (o : Option (Pick → ℕ)). bare_course (go_on (stopped_idle q o) s.course)) stop)
+      ∙ ap (λ (texts : List Text). bare (made x still (asked-still texts) begun_here)) (sym (shows-none still None refl refl))
+
+  pub is-met : (g : Chance) → deed_of x g (Meets (events.Show q)) s ≡ showing g q here
+  is-met g = ap (λ (o : Option EventRefusal). met x g (events.Show q) here o) (ap (λ (b : Bool). unless b NoSuchServer (unless (is_some (here.memory q)) ServerDown None)) is.below
+      ∙ ap (λ (o : Option Memory). unless (is_some o) ServerDown None) is.up)
+
 module _ (x : Setup) (h : Chance) (s : State) (ds es : Devices) (quiet : IsQuiet x s.course.world ds) where
   abbrev w : World
   w = s.course.world
 
+  -- its task is begun
+  abbrev u : State
+  u = record s { tasks = drop 1 s.tasks }
+
   -- ---- a restart
 
   module _ (q : ServerNo) (is : IsBlank x w q) where
-    not-used : (g : Chance) → is_used_up g q w ≡ false
+    pub not-used : (g : Chance) → is_used_up g q w ≡ false
     not-used g = by g.stop
       where
         by : (o : Option (Pick → ℕ)) → (if is_some o then false else nat_eq (w.found q (pick_read g)).epoch last_epoch) ≡ false
@@ -40,16 +82,16 @@ module _ (x : Setup) (h : Chance) (s : State) (ds es : Devices) (quiet : IsQuiet
     abbrev Restarts : Pick → List WorkId → List Tid → Step
     Restarts p Ws Ts = Restart q p Ws Ts
 
-    comes-so : Befalls x h (recovered h q) w ds es → (bare (made x h (recovered h q) (begun (ComesUp q) s)) ≡ bare (made x still (recovered still q) (begun (ComesUp q) s))) × IsQuiet x (go_on (recovered h q).steps s.course).world es
+    pub comes-so : Befalls x h (recovered h q) w ds es → (bare (made x h (recovered h q) u) ≡ bare (made x still (recovered still q) u)) × IsQuiet x (go_on (recovered h q).steps s.course).world es
     comes-so b = by b.used
       where
-        by : Alone q (IsRecovery h (is_some ((run (recovering h q h.stop) w).memory q))) ds es
-            → (bare (made x h (recovered h q) (begun (ComesUp q) s)) ≡ bare (made x still (recovered still q) (begun (ComesUp q) s))) × IsQuiet x (go_on (recovering h q h.stop) s.course).world es
-        by a = at (recovered-calm h (is_some ((run (recovering h q h.stop) w).memory q)) (ds q) (es q) a.its (quiet.told q (below q.0 x.servers is.below)) (quiet.waiting q (below q.0 x.servers is.below)))
+        by : Alone q (IsRecovery (x.counts q) h (is_some ((run (recovering h q h.stop) w).memory q))) ds es
+            → (bare (made x h (recovered h q) u) ≡ bare (made x still (recovered still q) u)) × IsQuiet x (go_on (recovering h q h.stop) s.course).world es
+        by a = at (recovered-calm (x.counts q) h (is_some ((run (recovering h q h.stop) w).memory q)) (ds q) (es q) a.its (quiet.told q (below q.0 x.servers is.below)) (quiet.waiting q (below q.0 x.servers is.below)))
           where
             at : Raised h (is_some ((run (recovering h q h.stop) w).memory q)) (es q)
-                → (bare (made x h (recovered h q) (begun (ComesUp q) s)) ≡ bare (made x still (recovered still q) (begun (ComesUp q) s))) × IsQuiet x (go_on (recovering h q h.stop) s.course).world es
-            at r = (made-same x h (recovered h q) (Restarts (pick_read still) [] [] ∷ []) (begun (ComesUp q) s) (no-faults q h.told r.told) refl course, subst (λ (steps : List Step). IsQuiet x (go_on steps s.course).world es) (sym steps) calm)
+                → (bare (made x h (recovered h q) u) ≡ bare (made x still (recovered still q) u)) × IsQuiet x (go_on (recovering h q h.stop) s.course).world es
+            at r = (made-same x h (recovered h q) (Restarts (pick_read still) [] [] ∷ []) u (no-faults q h.told r.told) refl course, subst (λ (steps : List Step). IsQuiet x (go_on steps s.course).world es) (sym steps) calm)
               where
                 read : Pick
                 read = pick_read h
@@ -86,43 +128,20 @@ module _ (x : Setup) (h : Chance) (s : State) (ds es : Devices) (quiet : IsQuiet
   -- ---- a show
 
   module _ (q : ServerNo) (is : PrintsNothing x w q) where
-    prints : (m : Memory) → w.memory q ≡ Some m → (f : FileNo) → prints_of q w m (File f) ≡ None
-    prints m up f = subst (λ (n : Memory). prints_of q w n (File f) ≡ None) (one (sym is.up ∙ up)) (is.nothing f)
-      where
-        one : Some is.memory ≡ Some m → is.memory ≡ m
-        one k = cc
-
-    abbrev asked : List Text → Deed
-    asked texts = record (served q (stopped_idle q h.stop)) { device = Reads q; texts = texts }
-
-    abbrev asked-still : List Text → Deed
-    asked-still texts = record (served q []) { device = Reads q; texts = texts }
-
-    shows-none : (g : Chance) (o : Option (Pick → ℕ)) → o ≡ None → g.files ≡ [] → shown g q w (w.memory q) o ≡ []
-    shows-none g o e none = ap (λ (k : Option (Pick → ℕ)). shown g q w (w.memory q) k) e ∙ ap (λ (k : Option Memory). shown g q w k None) is.up
-        ∙ ap (λ (fs : List FileNo). map (text_printed q) (print_files (prints_of q w is.memory) (λ f. blocks_from 0 120) fs)) none
-
     pub shows : Befalls x h (deed_of x h (Acts (events.Show q)) s) w ds es → Follows x h (Acts (events.Show q)) s es
     shows b = by b.used
       where
-        by : Alone q (IsLookedOver h w q) ds es → Follows x h (Acts (events.Show q)) s es
-        by a = let calm = called-calm h (ds q) (es q) a.its.called (quiet.power q (below q.0 x.servers is.below) (ap is_some is.up)) (quiet.told q (below q.0 x.servers is.below)) (quiet.waiting q (below q.0 x.servers is.below)) in record {
-          same = ap (λ (texts : List Text). bare (made x h (asked texts) (begun (Acts (events.Show q)) s)))
-              (shows-none h h.stop calm.stop (none-named file_eq file_before (λ f. prints_of q w a.its.memory (File f)) h.files (a.its.files calm.stop) same-file (λ f. prints a.its.memory a.its.up f)))
-              ∙ made-same x h (asked []) [] (begun (Acts (events.Show q)) s) (no-faults q h.told calm.told) refl (ap (λ (o : Option (Pick → ℕ)). bare_course (go_on (stopped_idle q o) s.course)) calm.stop)
-              ∙ ap (λ (texts : List Text). bare (made x still (asked-still texts) (begun (Acts (events.Show q)) s))) (sym (shows-none still None refl refl));
+        by : Alone q (IsLookedOver (x.counts q) h w q) ds es → Follows x h (Acts (events.Show q)) s es
+        by a = let calm = called-calm _ h (ds q) (es q) a.its.called (quiet.power q (below q.0 x.servers is.below) (ap is_some is.up)) (quiet.told q (below q.0 x.servers is.below)) (quiet.waiting q (below q.0 x.servers is.below)) in record {
+          same = looks-same x h s q is (ds q) (es q) calm.stop calm.told a.its;
           quiet = subst (λ (o : Option (Pick → ℕ)). IsQuiet x (go_on (stopped_idle q o) s.course).world es) (sym calm.stop) (quiet-called x w w ds es quiet h q (λ p z. z) a.others calm);
         }
 
-    is-met : (g : Chance) → deed_of x g (Meets (events.Show q)) s ≡ showing g q w
-    is-met g = ap (λ (o : Option EventRefusal). met x g (events.Show q) w o) (ap (λ (b : Bool). unless b NoSuchServer (unless (is_some (w.memory q)) ServerDown None)) is.below
-        ∙ ap (λ (o : Option Memory). unless (is_some o) ServerDown None) is.up)
-
     pub meets : Befalls x h (deed_of x h (Meets (events.Show q)) s) w ds es → Follows x h (Meets (events.Show q)) s es
-    meets b = by (shows (subst (λ (deed : Deed). Befalls x h deed w ds es) (is-met h) b))
+    meets b = by (shows (subst (λ (deed : Deed). Befalls x h deed w ds es) (is-met x h s q is h) b))
       where
         by : Follows x h (Acts (events.Show q)) s es → Follows x h (Meets (events.Show q)) s es
         by f = record {
-          same = ap (λ (deed : Deed). bare (made x h deed (begun (Acts (events.Show q)) s))) (is-met h) ∙ f.same ∙ ap (λ (deed : Deed). bare (made x still deed (begun (Acts (events.Show q)) s))) (sym (is-met still));
-          quiet = subst (λ (deed : Deed). IsQuiet x (go_on deed.steps s.course).world es) (sym (is-met h)) f.quiet;
+          same = ap (λ (deed : Deed). bare (made x h deed (begun (Acts (events.Show q)) s))) (is-met x h s q is h) ∙ f.same ∙ ap (λ (deed : Deed). bare (made x still deed (begun (Acts (events.Show q)) s))) (sym (is-met x h s q is still));
+          quiet = subst (λ (deed : Deed). IsQuiet x (go_on deed.steps s.course).world es) (sym (is-met x h s q is h)) f.quiet;
         }

@@ -1,5 +1,5 @@
 -- What each task does where nothing strikes: the same as without chances.
-use Rattle.jn_wrong.proofs.Common.{◌≡◌, ◌≢◌, ◌⊎◌, inl, inr, ℕ, ◌<◌, Bool, true, false, List, [], ◌∷◌, Option, Some, None, is_some, refl, sym, ◌∙◌, ap, subst, arith, nat_tests, ◌||◌, if◌then◌else◌, nat_lt, list_any, ServerNo, ClientNo, Command, server_eq, server_tells, DeviceState, Event, Pick, Commanded, Refuses, Sends, command_row, World, Memory, NextEvent, Tell, Again, Nudge, Crash, CloseClients, AreNames, after, commanded, crash, go_on, Setup, Chance, Task, Begins, Meets, Acts, Dismisses, GoesDown, ClosesClients, CountsCommits, State, begun, served, stopped_idle, crashed_at, Devices, IsServed, Alone, Befalls, deed_of, made, done, IsQuiet, Calm, called-calm, quiet-same, quiet-alone, quiet-called, nudged-up, closed-up, crashed-up, still, no-faults}
+use Rattle.jn_wrong.proofs.Common.{◌≡◌, ◌≢◌, ◌⊎◌, inl, inr, ℕ, ◌<◌, Bool, true, false, List, [], ◌∷◌, Option, Some, None, is_some, refl, sym, ◌∙◌, ap, subst, arith, nat_tests, ◌||◌, if◌then◌else◌, nat_lt, list_any, ServerNo, ClientNo, Command, server_eq, server_tells, DeviceState, Event, Pick, Commanded, Refuses, Sends, command_row, World, Memory, NextEvent, Tell, Again, Nudge, Crash, CloseClients, AreNames, after, commanded, crash, go_on, Setup, Chance, Task, Begins, Meets, Acts, Dismisses, GoesDown, ClosesClients, CountsCommits, State, begun, served, stopped_idle, crashed_at, Devices, IsServed, Alone, Befalls, deed_of, made, done, IsQuiet, Calm, called-calm, quiet-same, quiet-alone, quiet-called, nudged-up, closed-up, crashed-up, still, no-faults, row_calls, IsScrubbed, scrubbed}
 use Rattle.jn_schedule.specs.declared.Event.TheVariants as events
 use Rattle.jn_wrong.proofs.Bare.{bare_course, bare, made-same}
 
@@ -71,24 +71,24 @@ module _ (x : Setup) (h : Chance) (s : State) (ds es : Devices) (quiet : IsQuiet
 
   -- ---- a server is called
 
-  pub is-calm : (q : ServerNo) → q.0 < x.servers → Alone q (IsServed (x.counts q) h w q) ds es → Calm h (es q)
-  is-calm q l a = called-calm h (ds q) (es q) a.its.called (quiet.power q l (ap is_some a.its.up)) (quiet.told q l) (quiet.waiting q l)
+  pub is-calm : (most : ℕ) (q : ServerNo) → q.0 < x.servers → Alone q (IsServed (x.counts q) most h w q) ds es → Calm h (es q)
+  is-calm most q l a = called-calm most h (ds q) (es q) a.its.called (quiet.power q l (ap is_some a.its.up)) (quiet.told q l) (quiet.waiting q l)
 
   pub closes : (q : ServerNo) → q.0 < x.servers → Befalls x h (deed_of x h (ClosesClients q) s) w ds es → Follows x h (ClosesClients q) s es
   closes q l b = by b.used
     where
-      by : Alone q (IsServed (x.counts q) h w q) ds es → Follows x h (ClosesClients q) s es
-      by a = let calm = is-calm q l a in record {
-        same = made-same x h (served q (CloseClients q ∷ [])) (CloseClients q ∷ []) (begun (ClosesClients q) s) (no-faults q h.told calm.told) refl refl;
+      by : Alone q (IsServed (x.counts q) row_calls h w q) ds es → Follows x h (ClosesClients q) s es
+      by a = let calm = is-calm row_calls q l a in record {
+        same = made-same x h (served q row_calls (CloseClients q ∷ [])) (CloseClients q ∷ []) (begun (ClosesClients q) s) (no-faults q h.told calm.told) refl refl;
         quiet = quiet-called x w (after (CloseClients q) w) ds es quiet h q (λ p. closed-up w p q) a.others calm;
       }
 
   pub scrubs : (q : ServerNo) → q.0 < x.servers → Befalls x h (deed_of x h (Acts (events.Scrub q)) s) w ds es → Follows x h (Acts (events.Scrub q)) s es
   scrubs q l b = by b.used
     where
-      by : Alone q (IsServed (x.counts q) h w q) ds es → Follows x h (Acts (events.Scrub q)) s es
-      by a = let calm = is-calm q l a in record {
-        same = made-same x h (served q (stopped_idle q h.stop)) [] (begun (Acts (events.Scrub q)) s) (no-faults q h.told calm.told) refl (ap (λ (o : Option (Pick → ℕ)). bare_course (go_on (stopped_idle q o) s.course)) calm.stop);
+      by : Alone q (IsScrubbed (x.counts q) h w q) ds es → Follows x h (Acts (events.Scrub q)) s es
+      by a = let calm = called-calm _ h (ds q) (es q) a.its.served.called (quiet.power q l (ap is_some a.its.served.up)) (quiet.told q l) (quiet.waiting q l) in record {
+        same = made-same x h (scrubbed h q) [] (begun (Acts (events.Scrub q)) s) (no-faults q h.told calm.told) refl (ap (λ (o : Option (Pick → ℕ)). bare_course (go_on (stopped_idle q o) s.course)) calm.stop);
         quiet = subst (λ (o : Option (Pick → ℕ)). IsQuiet x (go_on (stopped_idle q o) s.course).world es) (sym calm.stop) (quiet-called x w w ds es quiet h q (λ p z. z) a.others calm);
       }
 

@@ -1,13 +1,12 @@
 -- A whole run at which nothing can strike is the one without chances, whatever befalls it.
-use Rattle.jn_wrong.proofs.Common.{◌≡◌, ◌⊎◌, inl, inr, ℕ, zero, suc, ◌≤◌, ◌<◌, Bool, true, false, List, [], ◌∷◌, drop, Option, Some, None, is_some, refl, sym, ◌∙◌, ap, subst, arith, nat_tests, if◌then◌else◌, nat_lt, ServerNo, LockUnit, AllFiles, no_files, Counts, Event, Line, StableState, World, new_memory, run, go_on, on-world, Setup, Chance, Task, Begins, Meets, Acts, Rests, ComesUp, Dismisses, GoesDown, ClosesClients, CountsCommits, Stage, InSchedule, AtEnd, CutShort, State, next_at, next_task, begun, Deed, Devices, Befalls, deed_of, is_too_much, come_to, cut_short, done, next, next_by, none, more, Moment, Leads, before, AreImages, IsWhole, IsQuiet, blank, AreNew, IsOnly, IsNoneOfNew, still, goes, DoesSo, DoesNext, GoesSo}
-use Rattle.std.proofs.Math.Path.{fun_ext}
+use Rattle.jn_wrong.proofs.Common.{◌≡◌, ◌⊎◌, inl, inr, ℕ, zero, suc, ◌≤◌, ◌<◌, Bool, true, false, List, [], ◌∷◌, drop, Option, Some, None, is_some, refl, sym, ◌∙◌, ap, subst, arith, nat_tests, if◌then◌else◌, nat_lt, ServerNo, LockUnit, AllFiles, no_files, Counts, Event, Line, StableState, World, new_memory, run, go_on, on-world, Setup, Chance, Task, Begins, Meets, Acts, Rests, ComesUp, Dismisses, GoesDown, ClosesClients, CountsCommits, Stage, InSchedule, AtEnd, CutShort, State, next_at, next_task, begun, Deed, Devices, Befalls, deed_of, is_too_much, come_to, cut_short, done, next, next_by, none, more, Moment, Leads, before, AreImages, IsWhole, IsQuiet, blank, AreNew, IsOnly, IsNoneOfNew, still, goes, DoesSo, DoesNext, GoesSo, fun_ext}
 use Rattle.jn_schedule.specs.declared.Event.TheVariants as events
 use Rattle.jn_wrong.proofs.Bare.{bare, done-bare}
 use Rattle.jn_wrong.proofs.Doing.{Follows, below, begins, tells-client, settles, asks, nudges, dismisses, counts, closes, scrubs, goes-down}
 use Rattle.jn_wrong.proofs.Chanced.{comes-up, shows, meets}
 use Rattle.jn_wrong.proofs.Resting.{rests, never}
 
-no-task : {A : Type 0} (task : Task) → None ≡ Some task → A
+pub no-task : {A : Type 0} (task : Task) → None ≡ Some task → A
 no-task task e = absurd (no' e)
   where
     no' : None ≡ Some task → ⊥
@@ -57,7 +56,7 @@ module _ (x : Setup) (h : Chance) (s : State) (ds es : Devices) (quiet : IsQuiet
   one-step (ClosesClients q) n so b = inl (closes x h s ds es quiet q (below q.0 x.servers so) b)
   one-step CountsCommits n so b = inl (counts x h s ds es quiet b)
 
-deed-bare : (x : Setup) (h : Chance) (task : Task) (s : State) → deed_of x h task s ≡ deed_of x h task (bare s)
+pub deed-bare : (x : Setup) (h : Chance) (task : Task) (s : State) → deed_of x h task s ≡ deed_of x h task (bare s)
 deed-bare x h (Begins e) s = refl
 deed-bare x h (Meets e) s = refl
 deed-bare x h (Acts e) s = refl
@@ -142,6 +141,48 @@ new_epochs n epochs q = if nat_lt q.0 n then 0 else epochs q
 abbrev pub setup_of : ℕ → Bool → (ServerNo → Counts) → Setup
 setup_of n trace counts = record { servers = n; counts = counts; trace = trace }
 
+-- what is there where a run begins
+module _ (n : ℕ) (trace : Bool) (schedule : List Event) (counts : ServerNo → Counts) (images : Devices) (new : AreNew (setup_of n trace counts) images)
+    (files : AllFiles) (epochs : ServerNo → ℕ) (are : AreImages (setup_of n trace counts) files epochs images) where
+  abbrev x : Setup
+  x = setup_of n trace counts
+
+  nothing-found : (q : ServerNo) → q.0 < n → record { epoch = epochs q; files = files q; works = λ W. None; flags = λ T. None } ≡ blank 0
+  nothing-found q l = are.found q (λ i. false) l ∙ new q (λ i. false) l
+
+  above : (q m : ℕ) → nat_lt q m ≡ false → m ≤ q
+  above q m e = grind (arith, nat_tests, e)
+
+  no-files : files ≡ no_files
+  no-files = fun_ext (λ q. fun_ext (λ u. at q u (nat_lt q.0 n) refl))
+    where
+      at : (q : ServerNo) (u : LockUnit) (b : Bool) → nat_lt q.0 n ≡ b → files q u ≡ None
+      at q u true e = ap (λ (y : StableState). y.files u) (nothing-found q (below q.0 n e))
+      at q u false e = are.its q u (above q.0 n e)
+
+  no-epochs : epochs ≡ new_epochs n epochs
+  no-epochs = fun_ext (λ q. at q (nat_lt q.0 n) refl)
+    where
+      at : (q : ServerNo) (b : Bool) → nat_lt q.0 n ≡ b → epochs q ≡ (if b then 0 else epochs q)
+      at q true e = ap (λ (y : StableState). y.epoch) (nothing-found q (below q.0 n e))
+      at q false e = refl
+
+  pub quiet : IsQuiet x (before x schedule files epochs).course.world images
+  quiet = record { power = λ q l z. down q l z; told = λ q l. let f = are.fresh q l in f.told; waiting = λ q l. let f = are.fresh q l in f.waiting }
+    where
+      down : (q : ServerNo) → q.0 < n → is_some ((before x schedule files epochs).course.world.memory q) ≡ true → (images q).power ≡ true
+      down q l z = by (nat_lt q.0 n) refl z
+        where
+          by : (b : Bool) → nat_lt q.0 n ≡ b → is_some (if b then None else Some (new_memory q (epochs q))) ≡ true → (images q).power ≡ true
+          by true e k = never k
+          by false e k = absurd (no' q.0 n l (above q.0 n e))
+            where
+              no' : (a m : ℕ) → a < m → m ≤ a → ⊥
+              no' a m p r = omega (arith, p, r)
+
+  pub start : before x schedule files epochs ≡ before x schedule no_files (new_epochs n epochs)
+  start = ap (λ (fs : AllFiles). before x schedule fs epochs) no-files ∙ ap (λ (es : ServerNo → ℕ). before x schedule no_files es) no-epochs
+
 -- so many steps without chances are the run, and tell this
 pub record IsRunOf (n : ℕ) (trace : Bool) (schedule : List Event) (steps : ℕ) (report : List Line) (counts : ServerNo → Counts) (epochs : ServerNo → ℕ) : Type 0 where
   pub so : GoesSo (setup_of n trace counts) steps (before (setup_of n trace counts) schedule no_files (new_epochs n epochs))
@@ -150,53 +191,17 @@ pub record IsRunOf (n : ℕ) (trace : Bool) (schedule : List Event) (steps : ℕ
 
 module _ (n : ℕ) (trace : Bool) (schedule : List Event) (steps : ℕ) (report : List Line) (runs : (counts : ServerNo → Counts) (epochs : ServerNo → ℕ) → IsRunOf n trace schedule steps report counts epochs) where
   module _ (counts : ServerNo → Counts) (images : Devices) (new : AreNew (setup_of n trace counts) images) where
-    abbrev x : Setup
-    x = setup_of n trace counts
+    abbrev the_setup : Setup
+    the_setup = setup_of n trace counts
 
-    module _ (files : AllFiles) (epochs : ServerNo → ℕ) (are : AreImages x files epochs images) where
-      nothing-found : (q : ServerNo) → q.0 < n → record { epoch = epochs q; files = files q; works = λ W. None; flags = λ T. None } ≡ blank 0
-      nothing-found q l = are.found q (λ i. false) l ∙ new q (λ i. false) l
-
-      above : (q m : ℕ) → nat_lt q m ≡ false → m ≤ q
-      above q m e = grind (arith, nat_tests, e)
-
-      no-files : files ≡ no_files
-      no-files = fun_ext (λ q. fun_ext (λ u. at q u (nat_lt q.0 n) refl))
-        where
-          at : (q : ServerNo) (u : LockUnit) (b : Bool) → nat_lt q.0 n ≡ b → files q u ≡ None
-          at q u true e = ap (λ (y : StableState). y.files u) (nothing-found q (below q.0 n e))
-          at q u false e = are.its q u (above q.0 n e)
-
-      no-epochs : epochs ≡ new_epochs n epochs
-      no-epochs = fun_ext (λ q. at q (nat_lt q.0 n) refl)
-        where
-          at : (q : ServerNo) (b : Bool) → nat_lt q.0 n ≡ b → epochs q ≡ (if b then 0 else epochs q)
-          at q true e = ap (λ (y : StableState). y.epoch) (nothing-found q (below q.0 n e))
-          at q false e = refl
-
-      quiet : IsQuiet x (before x schedule files epochs).course.world images
-      quiet = record { power = λ q l z. down q l z; told = λ q l. let f = are.fresh q l in f.told; waiting = λ q l. let f = are.fresh q l in f.waiting }
-        where
-          down : (q : ServerNo) → q.0 < n → is_some ((before x schedule files epochs).course.world.memory q) ≡ true → (images q).power ≡ true
-          down q l z = by (nat_lt q.0 n) refl z
-            where
-              by : (b : Bool) → nat_lt q.0 n ≡ b → is_some (if b then None else Some (new_memory q (epochs q))) ≡ true → (images q).power ≡ true
-              by true e k = never k
-              by false e k = absurd (no' q.0 n l (above q.0 n e))
-                where
-                  no' : (a m : ℕ) → a < m → m ≤ a → ⊥
-                  no' a m p r = omega (arith, p, r)
-
-      start : before x schedule files epochs ≡ before x schedule no_files (new_epochs n epochs)
-      start = ap (λ (fs : AllFiles). before x schedule fs epochs) no-files ∙ ap (λ (es : ServerNo → ℕ). before x schedule no_files es) no-epochs
-
-      told : (last : Moment) → Leads x (record { state = before x schedule files epochs; devices = images }) last → next_task last.state ≡ None → last.state.lines ≡ report
-      told last leads over = ap (λ (t : State). t.lines) (sim x steps (before x schedule no_files (new_epochs n epochs)) r.so r.end (record { state = before x schedule files epochs; devices = images }) last leads (ap bare start) (inl quiet) over) ∙ r.tells
+    module _ (files : AllFiles) (epochs : ServerNo → ℕ) (are : AreImages the_setup files epochs images) where
+      told : (last : Moment) → Leads the_setup (record { state = before the_setup schedule files epochs; devices = images }) last → next_task last.state ≡ None → last.state.lines ≡ report
+      told last leads over = ap (λ (t : State). t.lines) (sim the_setup steps (before the_setup schedule no_files (new_epochs n epochs)) r.so r.end (record { state = before the_setup schedule files epochs; devices = images }) last leads (ap bare (start n trace schedule counts images new files epochs are)) (inl (quiet n trace schedule counts images new files epochs are)) over) ∙ r.tells
         where
           r : IsRunOf n trace schedule steps report counts epochs
           r = runs counts epochs
 
-    is-only : (closing : Devices) (lines : List Line) → IsWhole x schedule images closing lines → lines ≡ report
+    is-only : (closing : Devices) (lines : List Line) → IsWhole the_setup schedule images closing lines → lines ≡ report
     is-only closing lines h = sym h.lines_are ∙ told h.written.files h.written.epochs h.written.are_images h.last h.written.leads
         (ap (λ (stage : Stage). next_at stage h.last.state.tasks) h.stage ∙ ap (λ (tasks : List Task). next_at AtEnd tasks) h.tasks)
 

@@ -23,3 +23,15 @@ pub mod ShortRows
 pub mod ShortWorks
 pub mod ShortSteps
 pub mod Short
+pub mod Calls
+pub mod Order
+pub mod Driving
+pub mod Pairs
+pub mod OneServer
+pub mod Forgiven
+pub mod Waiting
+pub mod FarOff
+pub mod Struck
+pub mod Misreported
+pub mod Told
+pub mod Scrubbed

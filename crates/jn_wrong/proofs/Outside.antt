@@ -1,7 +1,6 @@
 -- The lines of a step that tell of refused faults are those that its device told.
-use Rattle.jn_wrong.proofs.Common.{◌≡◌, ◌≢◌, ◌⊎◌, inl, inr, ℕ, ◌+◌, Bool, true, false, List, [], ◌∷◌, ◌++◌, append-nil, map, length, Option, Some, None, is_some, refl, ◌∙◌, ap, arith, not, filter, if◌then◌else◌, slice_get, ServerNo, Party, Client, Server, Outside, DeviceState, Event, EventRefusal, TooManyArmed, EpochsUsedUp, Text, Line, Sent, Pick, World, Memory, Printed, FileThere, PageStored, UnitLocked, print_files, Step, run, Course, go_on, newly_sent, text_printed, prints_of, Setup, Chance, Task, Begins, Meets, Acts, Rests, ComesUp, Dismisses, GoesDown, ClosesClients, CountsCommits, CutShort, State, when_of, begun, Use, Nothing, Calls, Reads, Recovers, PowersOff, Decays, Revives, Arms, Disarms, Deed, blocks_from, delivered, delivered_at, is_busy, worked, served, working_steps, nothing, shown, crashed_at, is_used_up, restarted, recovered, given_up, brought_up, Devices, IsCalled, IsRecovery, IsUsed, refusal_of, told_unless, acted, met, next_in, resting, deed_of, outside_texts, own_texts, message_texts, traced, texts_of, lines_at, is_too_much, come_to, cut_short, Moment, DoesStep, may_tell, begun-lines}
+use Rattle.jn_wrong.proofs.Common.{◌≡◌, ◌≢◌, ◌⊎◌, inl, inr, ℕ, ◌+◌, Bool, true, false, List, [], ◌∷◌, ◌++◌, append-nil, map, length, Option, Some, None, is_some, refl, ◌∙◌, ap, arith, not, filter, if◌then◌else◌, slice_get, ServerNo, Party, Client, Server, Outside, DeviceState, Event, EventRefusal, TooManyArmed, EpochsUsedUp, Text, Line, Sent, Pick, World, Memory, Printed, FileThere, PageStored, UnitLocked, print_files, Step, run, Course, go_on, newly_sent, text_printed, prints_of, Setup, Chance, Task, Begins, Meets, Acts, Rests, ComesUp, Dismisses, GoesDown, ClosesClients, CountsCommits, CutShort, State, when_of, begun, Use, Nothing, Calls, Reads, Recovers, PowersOff, Decays, Revives, Arms, Disarms, Deed, blocks_from, delivered, delivered_at, is_busy, worked, served, working_steps, nothing, shown, crashed_at, is_used_up, restarted, recovered, given_up, brought_up, Devices, IsCalled, IsRecovery, IsUsed, refusal_of, told_unless, acted, met, next_in, resting, deed_of, outside_texts, own_texts, message_texts, traced, texts_of, lines_at, is_too_much, come_to, cut_short, Moment, DoesStep, may_tell, begun-lines, powered_off, Cleans, step_calls}
 use Rattle.jn_base.specs.declared.device.FaultKind.TheVariants as faults
-use Rattle.jn_device.specs.Events.{powered_off}
 use Rattle.jn_schedule.specs.declared.Event.TheVariants as events
 use Rattle.jn_report.specs.declared.line.Text.TheVariants as says
 use Rattle.jn_wrong.proofs.Filtered.{filter-both, lines-left, is_of_step, step-tells, own-filtered}
@@ -60,7 +59,7 @@ delivered-just h k w (Some (Server q, message)) = at-just h k q (w.memory q)
 worked-just : (h : Chance) (q : ServerNo) (w : World) → Tells_just h (worked h q w)
 worked-just h q w = by (is_busy h.rubbish w q)
   where
-    by : (b : Bool) → Tells_just h (if b then served q (working_steps h q) else nothing)
+    by : (b : Bool) → Tells_just h (if b then served q step_calls (working_steps h q) else nothing)
     by true = refl
     by false = refl
 
@@ -133,7 +132,8 @@ all-outside q [] = refl
 all-outside q (fault ∷ told) = ap (λ (texts : List Text). says.Outside q fault ∷ texts) (all-outside q told)
 
 device-told : (device : Use) (told : List Outside) → filter is_outside (outside_texts device told) ≡ outside_texts device told
-device-told (Calls q) told = all-outside q told
+device-told (Calls q most) told = all-outside q told
+device-told (Cleans q) told = all-outside q told
 device-told (Reads q) told = all-outside q told
 device-told (Recovers q) told = all-outside q told
 device-told Nothing told = refl
@@ -166,23 +166,24 @@ faults-of x h deed c just = filter-both is_outside (told ++ own ++ deed.texts) m
 -- ---- and by which device
 
 module _ (x : Setup) (h : Chance) (w now : World) (ds es : Devices) where
-  called : (d e : DeviceState) (q : ServerNo) → IsCalled h d e → (texts : List Text) → texts ≡ outside_at q h.told ++ [] → TellsOf q d e texts
-  called d e q c texts is = record {
+  called : (most : ℕ) (d e : DeviceState) (q : ServerNo) → IsCalled most h d e → (texts : List Text) → texts ≡ outside_at q h.told ++ [] → TellsOf q d e texts
+  called most d e q c texts is = record {
     told = h.told;
-    tells = record { last = c.last; calls = c.calls; told_is = c.told; after = c.after };
+    tells = record { last = c.last; happens = c.happens; whole = c.whole; told_is = c.told; after = c.after };
     texts_are = is ∙ append-nil (outside_at q h.told);
   }
 
-  raised : (q : ServerNo) (up : Bool) → IsRecovery h up (ds q) (es q) → (texts : List Text) → texts ≡ outside_at q h.told ++ [] → TellsRaised q (ds q) (es q) texts
-  raised q up r texts is = record { powered = r.powered; last = r.last; power = r.power; tells = called r.powered r.last q r.called texts is; after = by up r.after }
+  raised : (q : ServerNo) (up : Bool) → IsRecovery (x.counts q) h up (ds q) (es q) → (texts : List Text) → texts ≡ outside_at q h.told ++ [] → TellsRaised q (ds q) (es q) texts
+  raised q up r texts is = record { powered = r.powered; last = r.last; power = r.power; tells = called _ r.powered r.last q r.called texts is; after = by up r.after }
     where
       by : (b : Bool) → es q ≡ (if b then r.last else powered_off r.last) → (es q ≡ r.last) ⊎ (es q ≡ powered_off r.last)
       by true e = inl e
       by false e = inr e
 
   told-by : (device : Use) → IsUsed x h device w now ds es → (texts : List Text) → texts ≡ outside_texts device h.told ++ of_decay device h → AreToldBy device ds es texts
-  told-by (Calls q) a texts is = called (ds q) (es q) q a.its.called texts is
-  told-by (Reads q) a texts is = called (ds q) (es q) q a.its.called texts is
+  told-by (Calls q most) a texts is = called most (ds q) (es q) q a.its.called texts is
+  told-by (Cleans q) a texts is = called _ (ds q) (es q) q a.its.served.called texts is
+  told-by (Reads q) a texts is = called _ (ds q) (es q) q a.its.called texts is
   told-by (Recovers q) a texts is = raised q (is_some (now.memory q)) a.its texts is
   told-by (Decays q p) a texts is = is ∙ ap (λ (b : Bool). told_unless b (says.Outside q (record { kind = faults.Decay p; page = p }))) a.its.answers
   told-by Nothing a texts is = is

@@ -1,5 +1,5 @@
 -- One step of a settle where nothing strikes: the message that a calm run hands over, or an erasure, which changes nothing.
-use Rattle.jn_wrong.proofs.Common.{◌≡◌, ◌⊎◌, inl, inr, ℕ, ◌<◌, Bool, true, false, List, [], ◌∷◌, ◌++◌, append-nil, length, drop, Option, Some, None, is_some, refl, sym, ◌∙◌, ap, subst, arith, drop-append_seam, ◌&&◌, not, if◌then◌else◌, nat_lt, slice_get, ServerNo, Client, Server, Message, StableState, Pick, stable, RowOutcome, Sent, Work, WorkId, drop_row, drop_phase, work_at, World, Memory, Room, server_row, storage_of, of_worker, Deliver, Works, after, at_memory, handed, handing, working, go_on, course_to, newly_sent, numbered, Setup, Chance, Rests, State, begun, Deed, room, no_room, nothing, served, delivered, delivered_at, is_busy, is_busy_with, worked, working_steps, Devices, IsServed, Alone, Befalls, servers_of, first_busy, next_event, resting, deed_of, most_messages, made, done, IsQuiet, Calm, quiet-same, quiet-called, delivered-up, still, is_fixed, is_sent_so, rests_so, no-faults}
+use Rattle.jn_wrong.proofs.Common.{◌≡◌, ◌⊎◌, inl, inr, ℕ, ◌<◌, Bool, true, false, List, [], ◌∷◌, ◌++◌, append-nil, length, drop, Option, Some, None, is_some, refl, sym, ◌∙◌, ap, subst, arith, drop-append_seam, ◌&&◌, not, if◌then◌else◌, nat_lt, slice_get, ServerNo, Client, Server, Message, StableState, Pick, stable, RowOutcome, Sent, Work, WorkId, drop_row, drop_phase, work_at, World, Memory, Room, server_row, storage_of, of_worker, Deliver, Works, after, at_memory, handed, handing, working, go_on, course_to, newly_sent, numbered, Setup, Chance, Rests, State, begun, Deed, room, no_room, nothing, served, delivered, delivered_at, is_busy, is_busy_with, worked, working_steps, Devices, IsServed, Alone, Befalls, servers_of, first_busy, next_event, resting, deed_of, most_messages, made, done, IsQuiet, Calm, quiet-same, quiet-called, delivered-up, still, is_fixed, is_sent_so, rests_so, no-faults, step_calls, row_calls}
 use Rattle.jn_rows.specs.declared.worker.Phase.TheVariants.{Active, Broken, Prepared as Stored}
 use Rattle.jn_rows.specs.declared.worker.Phase.{Phase}
 use Rattle.jn_system_settling.specs.Settling.Settle.{is_busy as has_going}
@@ -80,12 +80,12 @@ module _ (x : Setup) (h : Chance) (s : State) (ds es : Devices) (quiet : IsQuiet
       is : (nat_lt q.0 x.servers ≡ true) × (true ≡ true) × (is_fixed message ≡ true)
       is = three (nat_lt q.0 x.servers) true (is_fixed message) so
 
-      by : Alone q (IsServed (x.counts q) h w q) ds es → Same (on (served q (handing k (room h q) h.stop ∷ []))) (on (served q (Deliver k (room still q) ∷ [])))
-      by a = at (is-calm x h s ds es quiet q (below q.0 x.servers is.0) a)
+      by : Alone q (IsServed (x.counts q) row_calls h w q) ds es → Same (on (served q row_calls (handing k (room h q) h.stop ∷ []))) (on (served q row_calls (Deliver k (room still q) ∷ [])))
+      by a = at (is-calm x h s ds es quiet row_calls q (below q.0 x.servers is.0) a)
         where
-          at : Calm h (es q) → Same (on (served q (handing k (room h q) h.stop ∷ []))) (on (served q (Deliver k (room still q) ∷ [])))
+          at : Calm h (es q) → Same (on (served q row_calls (handing k (room h q) h.stop ∷ []))) (on (served q row_calls (Deliver k (room still q) ∷ [])))
           at calm = (
-            made-same x h (on (served q (handing k (room h q) h.stop ∷ []))) (Deliver k (room still q) ∷ []) s' (no-faults q h.told calm.told) refl
+            made-same x h (on (served q row_calls (handing k (room h q) h.stop ∷ []))) (Deliver k (room still q) ∷ []) s' (no-faults q h.told calm.told) refl
                 (ap (λ (o : Option (Pick → ℕ)). bare_course (go_on (handing k (room h q) o ∷ []) s.course)) calm.stop
                 ∙ ap (λ (now : World). bare_course (course_to now (Deliver k (room still q)) s.course)) (after-fixed w k (room h q) (room still q) q message m e up is.2)),
             subst (λ (o : Option (Pick → ℕ)). IsQuiet x (go_on (handing k (room h q) o ∷ []) s.course).world es) (sym calm.stop)
@@ -100,11 +100,11 @@ module _ (x : Setup) (h : Chance) (s : State) (ds es : Devices) (quiet : IsQuiet
   -- ---- an erasure
 
   module _ (few : nat_lt most_messages (length w.sent) ≡ false) (waits : s.course.waiting ≡ []) (tasks : s.tasks ≡ Rests ∷ drop 1 s.tasks) where
-    erases-one : (q : ServerNo) → q.0 < x.servers → is_busy h.rubbish w q ≡ true → has_going (stable (w.found q)) (w.memory q) ≡ false → Befalls x h (on (served q (working_steps h q))) w ds es → Stays (on (served q (working_steps h q)))
+    erases-one : (q : ServerNo) → q.0 < x.servers → is_busy h.rubbish w q ≡ true → has_going (stable (w.found q)) (w.memory q) ≡ false → Befalls x h (on (served q step_calls (working_steps h q))) w ds es → Stays (on (served q step_calls (working_steps h q)))
     erases-one q l busy idle b = by b.used
       where
-        by : Alone q (IsServed (x.counts q) h w q) ds es → Stays (on (served q (working_steps h q)))
-        by a = at (is-calm x h s ds es quiet q l a)
+        by : Alone q (IsServed (x.counts q) step_calls h w q) ds es → Stays (on (served q step_calls (working_steps h q)))
+        by a = at (is-calm x h s ds es quiet step_calls q l a)
           where
             m : Memory
             m = a.its.memory
@@ -113,12 +113,12 @@ module _ (x : Setup) (h : Chance) (s : State) (ds es : Devices) (quiet : IsQuiet
             still-so = erases w q m (room h q) a.its.up (subst (λ (o : Option Memory). is_busy_with (stable (w.found q)) o (h.rubbish q) ≡ true) a.its.up busy)
                 (subst (λ (o : Option Memory). has_going (stable (w.found q)) o ≡ false) a.its.up idle)
 
-            at : Calm h (es q) → Stays (on (served q (working_steps h q)))
+            at : Calm h (es q) → Stays (on (served q step_calls (working_steps h q)))
             at calm = (
-              made-same x h (on (served q (working_steps h q))) [] s' (no-faults q h.told calm.told) refl
+              made-same x h (on (served q step_calls (working_steps h q))) [] s' (no-faults q h.told calm.told) refl
                   (ap (λ (o : Option (Pick → ℕ)). bare_course (go_on (working q (room h q) o ∷ []) s.course)) calm.stop
                   ∙ ap (λ (now : World). bare_course (course_to now (Works q (room h q)) s.course)) still-so ∙ idle-course)
-                  ∙ idles x (on (served q [])) s s' few refl refl refl refl refl (sym tasks),
+                  ∙ idles x (on (served q step_calls [])) s s' few refl refl refl refl refl (sym tasks),
               quiet-called x w w ds es quiet h q (λ p z. z) a.others calm,
             )
               where
@@ -140,8 +140,8 @@ module _ (x : Setup) (h : Chance) (s : State) (ds es : Devices) (quiet : IsQuiet
         is : IsFirst h.rubbish w 0 x.servers q
         is = first-busy-is h.rubbish w 0 x.servers q e
 
-        is-worked : worked h q w ≡ served q (working_steps h q)
-        is-worked = ap (λ (c : Bool). if c then served q (working_steps h q) else nothing) is.busy
+        is-worked : worked h q w ≡ served q step_calls (working_steps h q)
+        is-worked = ap (λ (c : Bool). if c then served q step_calls (working_steps h q) else nothing) is.busy
 
         l : q.0 < x.servers
         l = let k = is.high in omega (arith, k)

@@ -1,9 +1,8 @@
 -- In any run, each abort that is told for want of room was short of it at a step.
-use Rattle.jn_wrong.proofs.Common.{◌≡◌, ℕ, zero, suc, ◌+◌, Bool, true, false, List, [], ◌∷◌, ◌++◌, map, length, drop, Option, Some, None, refl, sym, ◌∙◌, ap, subst, arith, if◌then◌else◌, ◌&&◌, nat_lt, slice_get, list_all, ServerNo, ClientNo, Party, Client, Server, Resource, Outside, AllFiles, Need, Message, Event, EventRefusal, EpochsUsedUp, When, Text, Line, Sent, Pick, World, Memory, new_memory, Room, Step, Deliver, IsRun, run, after, LockFacts, ServerFact, Course, go, go_on, handing, working, on-world, Setup, Chance, Task, Begins, Meets, Acts, Rests, ComesUp, Dismisses, GoesDown, ClosesClients, CountsCommits, State, when_of, begun, Use, Nothing, Calls, Reads, Recovers, PowersOff, Decays, Revives, Arms, Disarms, Deed, room, delivered, delivered_at, is_busy, worked, working_steps, served, nothing, stopped_idle, crashed_at, recovering, recovered, restarted, given_up, brought_up, is_used_up, Devices, IsServed, Alone, IsUsed, refusal_of, acted, met, next_in, resting, deed_of, outside_texts, message_texts, traced, texts_of, lines_at, is_too_much, come_to, cut_short, none, more, Moment, DoesStep, Leads, before, closed_world, IsWritten, begun-lines, task-texts, Besides, IsShort, WasShort, OfText, OfLines}
+use Rattle.jn_wrong.proofs.Common.{◌≡◌, ℕ, zero, suc, ◌+◌, Bool, true, false, List, [], ◌∷◌, ◌++◌, map, length, drop, Option, Some, None, refl, sym, ◌∙◌, ap, subst, arith, if◌then◌else◌, ◌&&◌, nat_lt, slice_get, list_all, ServerNo, ClientNo, Party, Client, Server, Resource, Outside, AllFiles, Need, Message, Event, EventRefusal, EpochsUsedUp, When, Text, Line, Sent, Pick, World, Memory, new_memory, Room, Step, Deliver, IsRun, run, after, LockFacts, ServerFact, Course, go, go_on, handing, working, on-world, Setup, Chance, Task, Begins, Meets, Acts, Rests, ComesUp, Dismisses, GoesDown, ClosesClients, CountsCommits, State, when_of, begun, Use, Nothing, Calls, Reads, Recovers, PowersOff, Decays, Revives, Arms, Disarms, Deed, room, delivered, delivered_at, is_busy, worked, working_steps, served, nothing, stopped_idle, crashed_at, recovering, recovered, restarted, given_up, brought_up, is_used_up, Devices, IsServed, Alone, IsUsed, refusal_of, acted, met, next_in, resting, deed_of, outside_texts, message_texts, traced, texts_of, lines_at, is_too_much, come_to, cut_short, none, more, Moment, DoesStep, Leads, before, closed_world, IsWritten, begun-lines, task-texts, Besides, IsShort, WasShort, OfText, OfLines, join, Cleans, step_calls}
 use Rattle.jn_schedule.specs.declared.Event.TheVariants as events
 use Rattle.jn_report.specs.declared.line.Text.TheVariants as says
 use Rattle.jn_system.proofs.WholeSystem.Steps.{locks-keep, run-keeps, opening-keeps}
-use Rattle.jn_written.proofs.Computed.{join}
 use Rattle.jn_wrong.proofs.ShortRows.{OfTable}
 use Rattle.jn_wrong.proofs.ShortSteps.{OfTexts, both-tell, OfWorld, Finds, FindsAt, step-so}
 
@@ -63,7 +62,7 @@ recovers-none h q (Some made) = refl
 worked-none : (h : Chance) (q : ServerNo) (w : World) → HandsNothing (worked h q w)
 worked-none h q w = by (is_busy h.rubbish w q)
   where
-    by : (b : Bool) → HandsNothing (if b then served q (working_steps h q) else nothing)
+    by : (b : Bool) → HandsNothing (if b then served q step_calls (working_steps h q) else nothing)
     by true = works-none q (room h q) h.stop
     by false = refl
 
@@ -125,7 +124,8 @@ module _ (x : Setup) (start now : Moment) where
   of-faults q (fault ∷ told) = (tt, of-faults q told)
 
   of-outside : (device : Use) (told : List Outside) → OfTexts P (outside_texts device told)
-  of-outside (Calls q) told = of-faults q told
+  of-outside (Calls q most) told = of-faults q told
+  of-outside (Cleans q) told = of-faults q told
   of-outside (Reads q) told = of-faults q told
   of-outside (Recovers q) told = of-faults q told
   of-outside Nothing told = tt
@@ -190,8 +190,8 @@ module _ (x : Setup) (start now : Moment) where
     h = d.chance
 
     -- a server that is up and called
-    served-finds : (k : ℕ) (q : ServerNo) (message : Message) → slice_get w.sent k ≡ Some (Server q, message) → Alone q (IsServed (x.counts q) h w q) m.devices n.devices → FindsAt P w k (room h q)
-    served-finds k q message e a s memory other here up number has need short = by (one-server s q (received (Server s, other) (Server q, message) (sym here ∙ e)))
+    served-finds : (most k : ℕ) (q : ServerNo) (message : Message) → slice_get w.sent k ≡ Some (Server q, message) → Alone q (IsServed (x.counts q) most h w q) m.devices n.devices → FindsAt P w k (room h q)
+    served-finds most k q message e a s memory other here up number has need short = by (one-server s q (received (Server s, other) (Server q, message) (sym here ∙ e)))
       where
         its : Memory
         its = a.its.memory
@@ -208,13 +208,13 @@ module _ (x : Setup) (start now : Moment) where
           short = subst (λ (free : Need). IsShort free number has need) a.its.free short;
         })
 
-    handing-finds : (k : ℕ) (q : ServerNo) (message : Message) → slice_get w.sent k ≡ Some (Server q, message) → Alone q (IsServed (x.counts q) h w q) m.devices n.devices → (stop : Option (Pick → ℕ)) → AllFind (handing k (room h q) stop ∷ []) w
-    handing-finds k q message e a None = (served-finds k q message e a, tt)
-    handing-finds k q message e a (Some made) = (tt, tt)
+    handing-finds : (most k : ℕ) (q : ServerNo) (message : Message) → slice_get w.sent k ≡ Some (Server q, message) → Alone q (IsServed (x.counts q) most h w q) m.devices n.devices → (stop : Option (Pick → ℕ)) → AllFind (handing k (room h q) stop ∷ []) w
+    handing-finds most k q message e a None = (served-finds most k q message e a, tt)
+    handing-finds most k q message e a (Some made) = (tt, tt)
 
     at-finds : (k : ℕ) (q : ServerNo) (message : Message) → slice_get w.sent k ≡ Some (Server q, message) → (o : Option Memory) → w.memory q ≡ o → (next : World) → IsUsed x h (delivered_at h k q o).device w next m.devices n.devices → AllFind (delivered_at h k q o).steps w
     at-finds k q message e None down next used = ((λ s memory other here up number has need short. no-memory memory (sym down ∙ ap w.memory (sym (one-server s q (received (Server s, other) (Server q, message) (sym here ∙ e)))) ∙ up)), tt)
-    at-finds k q message e (Some mm) up next used = handing-finds k q message e used h.stop
+    at-finds k q message e (Some mm) up next used = handing-finds _ k q message e used h.stop
 
     delivered-finds : (k : ℕ) (o : Option Sent) → slice_get w.sent k ≡ o → (next : World) → IsUsed x h (delivered h k w o).device w next m.devices n.devices → AllFind (delivered h k w o).steps w
     delivered-finds k None e next used = tt

@@ -1,5 +1,5 @@
 -- The lines of a show are those of what there is to print.
-use Rattle.jn_wrong.proofs.Common.{◌≡◌, ◌≢◌, ℕ, ◌+◌, Bool, true, false, List, [], ◌∷◌, ◌++◌, append-nil, map, length, Option, None, refl, ◌∙◌, ap, subst, arith, not, filter, if◌then◌else◌, ServerNo, Party, Outside, EventRefusal, Text, Line, Sent, Pick, stable, commit_holder, World, Memory, Printed, FileThere, PageStored, UnitLocked, print_files, Step, Course, go_on, newly_sent, text_printed, prints_of, Setup, Chance, Task, Meets, Acts, CutShort, State, when_of, begun, Deed, Reads, served, stopped_idle, blocks_from, shown, showing, IsLookedOver, Alone, Befalls, refusal_of, met, deed_of, own_texts, message_texts, traced, texts_of, lines_at, is_too_much, come_to, cut_short, Moment, DoesStep, may_tell, begun-lines, is_printed, printed_lines, Shows}
+use Rattle.jn_wrong.proofs.Common.{◌≡◌, ◌≢◌, ℕ, ◌+◌, Bool, true, false, List, [], ◌∷◌, ◌++◌, append-nil, map, length, Option, None, refl, ◌∙◌, ap, subst, arith, not, filter, if◌then◌else◌, ServerNo, Party, Outside, EventRefusal, Text, Line, Sent, Pick, stable, commit_holder, World, Memory, Printed, FileThere, PageStored, UnitLocked, print_files, Step, Course, go_on, newly_sent, text_printed, prints_of, Setup, Chance, Task, Meets, Acts, CutShort, State, when_of, begun, Deed, Reads, stopped_idle, blocks_from, shown, showing, IsLookedOver, Alone, Befalls, refusal_of, met, deed_of, own_texts, message_texts, traced, texts_of, lines_at, is_too_much, come_to, cut_short, Moment, DoesStep, may_tell, begun-lines, is_printed, printed_lines, Shows, plain, Server}
 use Rattle.jn_schedule.specs.declared.Event.TheVariants as events
 use Rattle.jn_report.specs.declared.line.Text.TheVariants as says
 use Rattle.jn_wrong.proofs.Filtered.{filter-both, lines-left, is_of_step, step-tells, own-filtered}
@@ -31,7 +31,7 @@ all-prints q (UnitLocked u T ∷ prints) = ap (λ (texts : List Text). says.Lock
 
 module _ (x : Setup) (q : ServerNo) (h : Chance) where
   abbrev looks : List Step → List Text → Deed
-  looks steps texts = record (served q steps) { device = Reads q; texts = texts }
+  looks steps texts = record (plain (Server q) steps) { device = Reads q; texts = texts }
 
   prints-of : (steps : List Step) (prints : List Printed) (c : Course)
       → filter is_printed (texts_of x h (looks steps (map (text_printed q) prints)) c.world (go_on steps c).world) ≡ map (text_printed q) prints
@@ -64,13 +64,13 @@ module _ (x : Setup) (q : ServerNo) (a b : Moment) (d : DoesStep x a b) (goes : 
   abbrev u : State
   u = begun d.task a.state
 
-  looked : IsLookedOver d.chance w q (a.devices q) (b.devices q)
+  looked : IsLookedOver (x.counts q) d.chance w q (a.devices q) (b.devices q)
   looked = by (subst (λ (deed : Deed). Befalls x d.chance deed w a.devices b.devices) is d.befalls)
     where
-      by : Befalls x d.chance (showing d.chance q w) w a.devices b.devices → IsLookedOver d.chance w q (a.devices q) (b.devices q)
+      by : Befalls x d.chance (showing d.chance q w) w a.devices b.devices → IsLookedOver (x.counts q) d.chance w q (a.devices q) (b.devices q)
       by f = at f.used
         where
-          at : Alone q (IsLookedOver d.chance w q) a.devices b.devices → IsLookedOver d.chance w q (a.devices q) (b.devices q)
+          at : Alone q (IsLookedOver (x.counts q) d.chance w q) a.devices b.devices → IsLookedOver (x.counts q) d.chance w q (a.devices q) (b.devices q)
           at alone = alone.its
 
   there : Option Memory → Option (Pick → ℕ) → List Text

@@ -8,3 +8,4 @@ pub mod Showing
 pub mod Turns
 pub mod Wanting
 pub mod Leaving
+pub mod Faults

@@ -6,13 +6,12 @@ use Rattle.jn_base.specs.declared.device.Outside.{Outside}
 use Rattle.jn_device.specs.Device.{DeviceState}
 use Rattle.jn_device.specs.Calls.{decay_outside}
 use Rattle.jn_device.specs.Events.{PowersUp, cleared, powered_off}
-use Rattle.jn_store.specs.Pairs.{pairs_view}
-use Rattle.jn_store.specs.Store.{StoreLater}
+use Rattle.jn_device.specs.Happens.{Happens}
 use Rattle.jn_report.specs.declared.line.Text.{Text}
 use Rattle.jn_report.specs.declared.line.Text.TheVariants as says
 use Rattle.jn_report.specs.declared.line.Line.{Line}
-use Rattle.jn_written.specs.Deeds.{Use, Calls, Reads, Recovers, Decays}
-use Rattle.jn_written.specs.Devices.{Devices}
+use Rattle.jn_written.specs.Deeds.{Use, Calls, Cleans, Reads, Recovers, Decays}
+use Rattle.jn_written.specs.Devices.{Devices, KeepsWhole}
 use Rattle.jn_written.specs.Events.{told_unless, deed_of}
 use Rattle.jn_written.specs.Chances.{Setup}
 use Rattle.jn_written.specs.Steps.{lines_at}
@@ -31,10 +30,11 @@ outside_lines lines = filter (λ (l : Line). is_outside l.text) lines
 abbrev pub outside_at : ServerNo → List Outside → List Text
 outside_at q told = map (λ (fault : Outside). says.Outside q fault) told
 
--- the device is called, any number of times, and tells these faults meanwhile
+-- the device is called, each call a step of its own, and tells these faults meanwhile
 pub record TellsMeanwhile (told : List Outside) (d e : DeviceState) : Type 0 where
   pub last : DeviceState
-  pub calls : StoreLater (pairs_view d) (pairs_view last)
+  pub happens : Happens d last
+  pub whole : KeepsWhole d last
   pub told_is : told ≡ last.told
   pub after : e ≡ cleared last
 
@@ -54,7 +54,8 @@ pub record TellsRaised (q : ServerNo) (d e : DeviceState) (texts : List Text) : 
 
 -- what is told of refused faults where devices are used so: each that the device told, and a decay that isn't allowed
 abbrev pub AreToldBy : Use → Devices → Devices → List Text → Type 0
-AreToldBy (Calls q) ds es texts = TellsOf q (ds q) (es q) texts
+AreToldBy (Calls q most) ds es texts = TellsOf q (ds q) (es q) texts
+AreToldBy (Cleans q) ds es texts = TellsOf q (ds q) (es q) texts
 AreToldBy (Reads q) ds es texts = TellsOf q (ds q) (es q) texts
 AreToldBy (Recovers q) ds es texts = TellsRaised q (ds q) (es q) texts
 AreToldBy (Decays q p) ds es texts = texts ≡ told_unless (not (decay_outside ((ds q).count / 2) (ds q).pages p)) (says.Outside q (record { kind = faults.Decay p; page = p }))

@@ -4,7 +4,10 @@ ghost use Rattle.std.specs.Prelude.{◌≡◌, ◌≢◌, ◌<◌, ℕ, true, fa
 ghost use Rattle.jn_base.specs.declared.names.ServerNo.{ServerNo};
 ghost use Rattle.jn_order.specs.Files.{AllFiles};
 ghost use Rattle.jn_schedule.specs.declared.Event.{Event};
-ghost use Rattle.jn_schedule.specs.declared.Event.TheVariants.{Show};
+ghost use Rattle.jn_schedule.specs.declared.Event.TheVariants.{Scrub, Show};
+ghost use Rattle.jn_found.specs.Pages.{found_on};
+ghost use Rattle.jn_rows.specs.Stable.{Pick};
+ghost use Rattle.jn_store.specs.Pairs.{pairs_view};
 ghost use Rattle.jn_written.specs.Chances.{Setup};
 ghost use Rattle.jn_written.specs.Refusals.{refusal_of};
 ghost use Rattle.jn_written.specs.Runs.{Moment, DoesStep, MayLead};
@@ -18,6 +21,14 @@ ghost use Rattle.jn_wrong.specs.Turns.{takes_turns, epochs_rise, are_by};
 /// device doesn't allow: none is left out, and none is told besides.
 pub fn each_refused_fault_is_told()
     ensures { (x : Setup) (a b : Moment) (d : DoesStep x a b) → b.state.stage ≢ CutShort → TellsFaults x a b d }
+{}
+
+/// Behind a scrub that isn't refused or stopped, and behind each of the end, every pick of halves finds the same, so that no decay shows what stood before.
+pub fn a_scrub_leaves_no_old_half()
+    ensures in_the_schedule { (x : Setup) (q : ServerNo) (a b : Moment) (d : DoesStep x a b) → q.0 < x.servers → d.task ≡ Meets (Scrub q) → refusal_of x a.state.course.world (Scrub q) ≡ None → d.chance.stop ≡ None
+        → (c r : Pick) → found_on (x.counts q) (pairs_view (b.devices q)) c ≡ found_on (x.counts q) (pairs_view (b.devices q)) r }
+    ensures at_the_end { (x : Setup) (q : ServerNo) (a b : Moment) (d : DoesStep x a b) → q.0 < x.servers → d.task ≡ Acts (Scrub q) → d.chance.stop ≡ None
+        → (c r : Pick) → found_on (x.counts q) (pairs_view (b.devices q)) c ≡ found_on (x.counts q) (pairs_view (b.devices q)) r }
 {}
 
 /// A show that isn't refused or stopped, and each of the end, prints each file and each of its blocks that is there, once, in order, each file

@@ -1,0 +1,66 @@
+//! Reports of one server with faults and crashes, from new images on good pages: six schedules with the only report that each has, and what is told by none.
+
+ghost use Rattle.std.specs.Prelude.{◌≡◌, ◌≢◌, ℕ, nat_lt, false};
+ghost use Rattle.jn_base.specs.declared.device.FaultKind.{FaultKind};
+ghost use Rattle.jn_base.specs.declared.device.FaultKind.TheVariants.{Null};
+ghost use Rattle.jn_wrong.specs.Faults.{IsOnlyOfGood, IsNoneOfGood, quiet_report, decays_once, first_decay_told, decays_both, both_report, decays_behind_scrub, nothing_mended, decays_with_power, forgiven_report, nothing_forgiven, arms_two, armed_too_many, arms_far, show_stopped, arms_first, stop_passed_by, arms_in_order, outside_swapped, arms_null, null_told};
+
+/// Each whole run of these schedules tells exactly this, whatever befalls it.
+pub fn reports_with_faults_are_the_only_ones()
+    ensures decay { IsOnlyOfGood decays_once quiet_report }
+    ensures both_halves { IsOnlyOfGood decays_both both_report }
+    ensures scrub { IsOnlyOfGood decays_behind_scrub quiet_report }
+    ensures power { IsOnlyOfGood decays_with_power forgiven_report }
+    ensures two_faults { IsOnlyOfGood arms_two quiet_report }
+    ensures far_off { IsOnlyOfGood arms_far quiet_report }
+{}
+
+/// The first decay of a page is told as refused.
+pub fn a_first_decay_told_as_refused_is_none()
+    ensures { IsNoneOfGood decays_once first_decay_told }
+{}
+
+/// A decay is passed over, so that the page's other half may decay too.
+pub fn a_decay_passed_over_is_none()
+    ensures { IsNoneOfGood decays_both quiet_report }
+{}
+
+/// A half that had gone bad before a scrub is bad behind it, so that the other one may not decay.
+pub fn a_scrub_that_mends_nothing_is_none()
+    ensures { IsNoneOfGood decays_behind_scrub nothing_mended }
+{}
+
+/// A page that has failed three times may not fail again, though the power went and came.
+pub fn a_power_up_that_forgives_nothing_is_none()
+    ensures { IsNoneOfGood decays_with_power nothing_forgiven }
+{}
+
+/// A fault is refused as one too many for a call for which none can wait.
+pub fn a_fault_refused_for_a_free_call_is_none()
+    ensures { IsNoneOfGood arms_two armed_too_many }
+{}
+
+/// A show is stopped by a stop that waits for call 1,000,000.
+pub fn a_show_that_meets_a_stop_far_off_is_none()
+    ensures { IsNoneOfGood arms_far show_stopped }
+{}
+
+/// A restart, which must raise the epoch, passes by a stop that waits for its first call.
+pub fn a_stop_passed_by_is_none()
+    ensures { IsNoneOfGood arms_first stop_passed_by }
+{}
+
+/// Of two faults that a restart tells, the one that met the later call stands first.
+pub fn faults_told_in_another_order_are_none()
+    ensures { (p r : ℕ) → IsNoneOfGood arms_in_order (outside_swapped p r) }
+{}
+
+/// A fault is told at a page that isn't there.
+pub fn a_fault_at_a_page_that_is_not_there_is_none()
+    ensures { (page : ℕ) → nat_lt page 354 ≡ false → IsNoneOfGood arms_null (null_told Null page) }
+{}
+
+/// Another fault is told than the one that was to wait.
+pub fn a_fault_that_was_never_armed_is_none()
+    ensures { (kind : FaultKind) → kind ≢ Null → (page : ℕ) → IsNoneOfGood arms_null (null_told kind page) }
+{}
