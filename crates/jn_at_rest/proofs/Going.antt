@@ -24,7 +24,7 @@ all-both (t ∷ ts) us h k = (h.0, all-both ts us h.1 k)
 
 -- ---- a server that is down stays down until it comes up
 
-abbrev starts_none : Step → Bool
+abbrev pub starts_none : Step → Bool
 starts_none (Restart s pick works tids) = false
 starts_none step = true
 
@@ -45,7 +45,7 @@ down-still q step w starts down = by step (after step w) (step-case w step) star
     by _ _ (come_up s pick works tids e) starts = absurd (true≢false (sym starts))
     by _ _ is starts = down
 
-down-run : (q : ServerNo) (steps : List Step) (w : World) → list_all starts_none steps ≡ true → w.memory q ≡ None → (run steps w).memory q ≡ None
+pub down-run : (q : ServerNo) (steps : List Step) (w : World) → list_all starts_none steps ≡ true → w.memory q ≡ None → (run steps w).memory q ≡ None
 down-run q [] w h down = down
 down-run q (step ∷ steps) w h down = down-run q steps (after step w) (second (starts_none step) (list_all starts_none steps) h) (down-still q step w (first (starts_none step) (list_all starts_none steps) h) down)
   where

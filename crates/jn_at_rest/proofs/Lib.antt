@@ -12,3 +12,4 @@ pub mod Whole
 pub mod Within
 pub mod Behind
 pub mod Each
+pub mod Ending

@@ -49,3 +49,8 @@ pub record HasSettled (x : Setup) (start now : Moment) (behind : List Task) : Ty
 pub record SettleEach (x : Setup) (schedule : List Event) (start now : Moment) : Type 0 where
   pub of_events : (earlier later : List Event) → schedule ≡ earlier ++ events.Settle ∷ later → HasSettled x start now (map Begins later ++ ending x)
   pub of_end : HasSettled x start now (printing (servers_of x) ++ CountsCommits ∷ [])
+
+-- and in its end all servers are up, so that settles
+pub record SettlesAtEnd (x : Setup) (start now : Moment) : Type 0 where
+  pub has : HasSettled x start now (printing (servers_of x) ++ CountsCommits ∷ [])
+  pub settled : LeavesSettled x has.first has.last

@@ -2,11 +2,13 @@
 #![tactic(auto)]
 
 ghost use Rattle.std.specs.Prelude.{◌≡◌, ◌≤◌, List, [], ◌∷◌, ◌++◌, map, Some};
-ghost use Rattle.jn_at_rest.specs.Settled.{ComesThrough, LeavesSettled, SettleEach};
+ghost use Rattle.std.specs.List.{AllByRecursion};
+ghost use Rattle.jn_at_rest.specs.Settled.{ComesThrough, LeavesSettled, SettleEach, SettlesAtEnd};
 ghost use Rattle.jn_bounds.specs.Settles.{IsWithinBound};
 ghost use Rattle.jn_report.specs.declared.line.Line.{Line};
 ghost use Rattle.jn_schedule.specs.declared.Event.{Event};
 ghost use Rattle.jn_schedule.specs.declared.Event.TheVariants as events;
+ghost use Rattle.jn_schedule.specs.Ranges.{EventInRange};
 ghost use Rattle.jn_system_settling.specs.AtRest.Settled.{AreUp};
 ghost use Rattle.jn_written.specs.Chances.{Setup};
 ghost use Rattle.jn_written.specs.Devices.{Devices};
@@ -47,4 +49,10 @@ pub fn no_rest_stands_behind_a_settle()
 pub fn each_settle_of_a_whole_run_settles()
     ensures { (x : Setup) (schedule : List Event) (images closing : Devices) (lines : List Line) → x.servers ≤ 8 → (run : IsWhole x schedule images closing lines)
         → SettleEach x schedule (record { state = before x schedule run.written.files run.written.epochs; devices = images }) run.last }
+{}
+
+/// And that of the end settles, since all servers are up in the end of a whole run.
+pub fn the_end_of_a_whole_run_settles()
+    ensures { (x : Setup) (schedule : List Event) (images closing : Devices) (lines : List Line) → x.servers ≤ 8 → AllByRecursion EventInRange schedule → (run : IsWhole x schedule images closing lines)
+        → SettlesAtEnd x (record { state = before x schedule run.written.files run.written.epochs; devices = images }) run.last }
 {}

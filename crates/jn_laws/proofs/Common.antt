@@ -1,6 +1,6 @@
 -- The names from below that these proofs cite, passed on from one place. Declares nothing.
-pub use Rattle.std.proofs.Common.{◌≡◌, ◌≢◌, ◌⊎◌, inl, inr, ℕ, ◌+◌, ◌<◌, Bool, true, false, List, [], ◌∷◌, ◌++◌, append-nil, length, length-append, Option, Some, None, is_some, refl, sym, ◌∙◌, ap, subst, arith, drop, ◌≤◌, append_assoc, Result, Ok, Err}
-pub use Rattle.std.specs.Prelude.{if◌then◌else◌, slice_get, ◌||◌, nat_lt, not, map, ◌&&◌}
+pub use Rattle.std.proofs.Common.{◌≡◌, ◌≢◌, ◌⊎◌, inl, inr, ℕ, ◌+◌, ◌<◌, Bool, true, false, List, [], ◌∷◌, ◌++◌, append-nil, length, length-append, Option, Some, None, is_some, refl, sym, ◌∙◌, ap, subst, arith, drop, ◌≤◌, append_assoc, Result, Ok, Err, zero, suc, ◌-◌, take, get_or}
+pub use Rattle.std.specs.Prelude.{if◌then◌else◌, slice_get, ◌||◌, nat_lt, not, map, ◌&&◌, nat_eq}
 pub use Rattle.jn_base.specs.declared.names.ServerNo.{ServerNo}
 pub use Rattle.jn_base.specs.declared.names.Party.{Party}
 pub use Rattle.jn_base.specs.declared.names.Party.TheVariants.{Client, Server}
@@ -23,9 +23,10 @@ pub use Rattle.jn_written.specs.Steps.{most_messages, outside_texts, own_texts, 
 pub use Rattle.jn_written.specs.Tasks.{CutShort, Task, Meets, Acts, Rests, Stage, State, next_at, next_task, when_of, begun, Begins, InSchedule, AtEnd}
 pub use Rattle.jn_laws.specs.Handing.{HandsOver, Answer, tells_alone, room_on, row_on, of_row, of_server, of_taken, its_answer, IsGiven, IsDone, IsTaken, IsStopped, stopped_at, IsTooLong, IsStale, number_in, number_by, faults_in, tells_ignored, IsVoting, IsLast, commits_with}
 pub use Rattle.jn_base.specs.declared.names.WorkId.{WorkId}
-pub use Rattle.std.proofs.Math.Seq.{drop-append_seam}
+pub use Rattle.std.proofs.Math.Seq.{drop-append_seam, take-append_seam, drop-append-add}
 pub use Rattle.jn_schedule.specs.declared.Event.{Event}
 pub use Rattle.jn_report.specs.declared.line.Text.{Text}
+pub use Rattle.std.proofs.lemmas.Bool.Decides.{nat_tests}
 pub use Rattle.std.specs.List.{list_any, list_all, AllByRecursion}
 pub use Rattle.jn_base.specs.declared.names.Tid.{Tid}
 pub use Rattle.jn_rows.specs.declared.worker.Work.{Work}

@@ -6,3 +6,4 @@ pub mod Last
 pub mod Example
 pub mod Kept
 pub mod Reaching
+pub mod ReadBack

@@ -1,8 +1,9 @@
-//! Laws of every run that go over several crates below: a message has its answer in the event that hands it over, works of commits stand with what they
-//! have read, and a world of servers stands where its events lead.
+//! Laws that go over several crates below. Those of every run: a message has its answer in the event that hands it over, works of commits stand with what
+//! they have read, and a world of servers stands where its events lead. And one of texts: what a report spells is read where a schedule says it.
 #![tactic(auto)]
 
 mod messages;
+mod texts;
 mod works;
 mod worlds;
 
@@ -10,5 +11,6 @@ pub use messages::{
     a_last_ready_comes, a_message_has_its_answer_in_its_event, only_stale_messages_are_ignored,
     the_last_ready_names_its_commit,
 };
+pub use texts::hex_is_read_back;
 pub use works::works_of_commits_stand_with_their_reads;
 pub use worlds::a_world_stands_where_its_events_lead;

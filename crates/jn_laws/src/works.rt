@@ -10,8 +10,8 @@ ghost use Rattle.jn_written.specs.Runs.{Moment, Leads};
 ghost use Rattle.jn_written.specs.Whole.{IsWritten};
 ghost use Rattle.jn_laws.specs.Works.{DoWorksStandWithReads, AreTheirReads};
 
-/// At each moment of each run the works of a flag and of a commit stand with their read units, until they are carried out; and the read units that are found
-/// of a work are all that it has read.
+/// At each moment of each run the works of a flag and of a commit stand with their read units, until they are carried out; and what a work has read is among
+/// the read units that are found of it.
 pub fn works_of_commits_stand_with_their_reads()
     ensures stand { (x : Setup) (schedule : List Event) (images : Devices) (m : Moment) → x.servers ≤ 8 → AllByRecursion EventInRange schedule → IsWritten x schedule images m
         → DoWorksStandWithReads m.state.course.world }
