@@ -373,7 +373,7 @@ pub data TrialEnds (trial : ATrial) (kept : Option Contents) (before after : Sin
 
 -- ---- what a call leaves, by the command that its words are
 
--- nothing was read, and the keeper wasn't called
+-- nothing was read; what the keeper keeps, and how often it failed, are as before
 pub record IsUntouched (before after : Outside) : Type 0 where
   pub source : after.source ≡ before.source
   pub keeper : after.keeper ≡ before.keeper
