@@ -1,5 +1,5 @@
 -- Answers to clients, without lines aside.
-use Rattle.jn_aside.proofs.Common.{◌≡◌, inl, inr, ℕ, ◌+◌, ◌≤◌, Bool, true, List, [], ◌∷◌, length, Some, None, refl, ◌∙◌, ap, subst, if◌then◌else◌, cases_Bool, Event, AtEvent, Text, Line, when_eq, lines_at, Outstanding, nothing_asked, with_asked, answer_in, fits, after_answer, AllFit, after_answers, refuses_own, after_event, own_in_place, AllOwnInPlace, is_own_refusal, own_refusals, FollowsEvent, after_one, FollowsFrom, is_answer, IsOfEvent, AllOfEvents, Follows, is_aside, plain}
+use Rattle.jn_aside.proofs.Common.{◌≡◌, inl, inr, ℕ, ◌+◌, ◌≤◌, Bool, true, List, [], ◌∷◌, length, Some, None, refl, ◌∙◌, ap, subst, if◌then◌else◌, cases_Bool, Event, AtEvent, Text, Line, when_eq, lines_at, Outstanding, nothing_asked, with_asked, answer_in, fits, after_answer, AllFit, after_answers, refuses_own, after_event, own_in_place, AllOwnInPlace, is_own_refusal, FollowsEvent, after_one, FollowsFrom, is_answer, IsOfEvent, AllOfEvents, Follows, is_aside, plain, count_lines}
 use Rattle.jn_schedule.specs.declared.Event.TheVariants as events
 use Rattle.jn_aside.proofs.Plain.{of-aside, mute, same-of, filter-aside, says-plain, count-plain, Passes, passes-aside, whole}
 
@@ -34,7 +34,7 @@ event-aside : (out : Outstanding) (number : ℕ) (e : Event) (a b : List Line) �
 event-aside out number e a b q h = record {
   fit = subst (λ o. AllFit o b) (same-of (after_event out number e) (event-plain out number e) a b q) (passes-aside Outstanding AllFit _ _ _ fit (after_event out number e a) a b q h.fit);
   own = passes-aside (Unit {0}) (λ s ls. AllOwnInPlace number e ls) _ _ _ (own number e) tt a b q h.own;
-  once = subst (λ n. n ≤ 1) (same-of own_refusals (count-plain is_own_refusal (mute is_own_refusal (λ s n. refl) (λ k a b kind. refl))) a b q) h.once;
+  once = subst (λ n. n ≤ 1) (same-of (count_lines is_own_refusal) (count-plain is_own_refusal (mute is_own_refusal (λ s n. refl) (λ k a b kind. refl))) a b q) h.once;
 }
 
 -- ---- all events

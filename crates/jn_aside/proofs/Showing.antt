@@ -1,5 +1,5 @@
 -- What transactions did, and what shows print, without lines aside.
-use Rattle.jn_aside.proofs.Common.{◌≡◌, inl, inr, ℕ, ◌+◌, Bool, List, [], ◌∷◌, ◌++◌, None, refl, sym, ◌∙◌, ap, subst, if◌then◌else◌, cases_Bool, ServerNo, ClientNo, Tid, AllFiles, Event, AtEvent, End, Text, Line, when_eq, is_before, lines_at, lines_before, says_it, history_of, is_in, answer_told, or_later, first_told, performed, op_in, ops_from, ops_of, replay, AgreesFrom, Agrees, IsAsIn, AllAsIn, prints_file, accounts_file, accounts_block, ShowsFiles, is_no_show, is_locked, ShownSoFar, ShownAtEnd, is_aside, plain}
+use Rattle.jn_aside.proofs.Common.{◌≡◌, inl, inr, ℕ, ◌+◌, Bool, List, [], ◌∷◌, ◌++◌, None, refl, sym, ◌∙◌, ap, subst, if◌then◌else◌, cases_Bool, ServerNo, ClientNo, Tid, AllFiles, Event, AtEvent, End, Text, Line, when_eq, is_before, lines_at, lines_before, says_it, history_of, is_in, answer_told, or_also, first_told, performed, op_in, ops_from, ops_of, replay, AgreesFrom, Agrees, IsAsIn, AllAsIn, prints_file, accounts_file, accounts_block, ShowsFiles, is_no_show, is_locked, ShownSoFar, ShownAtEnd, is_aside, plain}
 use Rattle.jn_base.specs.declared.op.Command.TheVariants as commands
 use Rattle.jn_replay.specs.Operations.{files_then, GivesAnswers}
 use Rattle.jn_schedule.specs.declared.Event.TheVariants as events
@@ -11,7 +11,7 @@ told-plain : (c : ClientNo) (j : ℕ) (xs : List Line) → first_told c j (plain
 told-plain c j [] = refl
 told-plain c j (l ∷ xs) = elim (cases_Bool (is_aside l.text)) [
   | inl e ↦ rw (e, of-aside (λ x. answer_told c j x ≡ None) (λ s n. refl) (λ k a b kind. refl) l.text e) (told-plain c j xs)
-  | inr e ↦ rw e (ap (or_later (answer_told c j l.text)) (told-plain c j xs))
+  | inr e ↦ rw e (ap (or_also (answer_told c j l.text)) (told-plain c j xs))
 ]
 
 op-plain : (t : Tid) (xs : List Line) (j : ℕ) (e : Event) → op_in t (plain xs) j e ≡ op_in t xs j e

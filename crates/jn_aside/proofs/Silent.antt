@@ -1,5 +1,5 @@
 -- One more event, of which no line tells.
-use Rattle.jn_aside.proofs.Common.{◌≡◌, ◌⊎◌, inl, inr, ℕ, zero, suc, ◌+◌, ◌<◌, ◌≤◌, Bool, true, false, nat_eq, ◌&&◌, if◌then◌else◌, List, [], ◌∷◌, ◌++◌, append-nil, length, Option, Some, None, refl, sym, ◌∙◌, ap, subst, arith, cases_Bool, ServerNo, ClientNo, Tid, client_eq, AllFiles, Event, When, AtEvent, End, Text, Line, when_eq, lines_at, lines_before, event_at, says_it, history_of, is_in, answer_told, or_later, first_told, performed, op_in, ops_from, ops_of, Agrees, ShowsFiles, ShownSoFar, Outstanding, nothing_asked, with_asked, answer_in, is_last, fits_asked, fits, after_answer, AllFit, after_answers, refuses_own, after_event, FollowsEvent, after_one, FollowsFrom, is_answer, IsOfEvent, AllOfEvents, Follows, is_show}
+use Rattle.jn_aside.proofs.Common.{◌≡◌, ◌⊎◌, inl, inr, ℕ, zero, suc, ◌+◌, ◌<◌, ◌≤◌, Bool, true, false, nat_eq, ◌&&◌, if◌then◌else◌, List, [], ◌∷◌, ◌++◌, append-nil, length, Option, Some, None, refl, sym, ◌∙◌, ap, subst, arith, cases_Bool, ServerNo, ClientNo, Tid, client_eq, AllFiles, Event, When, AtEvent, End, Text, Line, when_eq, lines_at, lines_before, event_at, says_it, history_of, is_in, answer_told, or_also, first_told, performed, op_in, ops_from, ops_of, Agrees, ShowsFiles, ShownSoFar, Outstanding, nothing_asked, with_asked, answer_in, is_last, fits_asked, fits, after_answer, AllFit, after_answers, refuses_own, after_event, FollowsEvent, after_one, FollowsFrom, is_answer, IsOfEvent, AllOfEvents, Follows, is_show}
 use Rattle.std.proofs.lemmas.Bool.Decides.{nat_tests}
 use Rattle.jn_base.specs.declared.op.Answer.{Answer}
 use Rattle.jn_base.specs.declared.op.Command.TheVariants as commands
@@ -136,7 +136,7 @@ unanswered _ e n = λ c j l. refl
 
 first-untold : (n : ℕ) (ls : List Line) → ((l : Line) → In l ls → IsUntold n l.text) → (c : ClientNo) (j : ℕ) → n < j → first_told c j ls ≡ None
 first-untold n [] h c j l = refl
-first-untold n (x ∷ xs) h c j l = ap (λ o. or_later o (first_told c j xs)) (h x (inl refl) c j l) ∙ first-untold n xs (λ z i. h z (inr i)) c j l
+first-untold n (x ∷ xs) h c j l = ap (λ o. or_also o (first_told c j xs)) (h x (inl refl) c j l) ∙ first-untold n xs (λ z i. h z (inr i)) c j l
 
 -- ---- what a transaction did
 

@@ -1,5 +1,5 @@
 -- Every whole run has its settles, and each settles.
-use Rattle.jn_at_rest.proofs.Common.{◌≡◌, ◌≤◌, List, [], ◌∷◌, ◌++◌, map, Some, sym, ◌∙◌, ap, Event, Setup, Task, Begins, Rests, CutShort, CountsCommits, first_of_tasks, Devices, servers_of, settling, ending, printing, Moment, Leads, stays, forget, ComesThrough, Line, AtEnd, before, IsWhole, HasSettle, HasSettled, SettleEach}
+use Rattle.jn_at_rest.proofs.Common.{◌≡◌, ◌≤◌, List, [], ◌∷◌, ◌++◌, map, Some, sym, ◌∙◌, ap, Event, Setup, Task, Begins, Rests, CutShort, CountsCommits, first_of_tasks, Devices, servers_of, settling, ending, printing, Moment, stays, forget, ComesThrough, Line, AtEnd, before, IsWhole, HasSettle, HasSettled, SettleEach}
 use Rattle.jn_bounds.proofs.Whole.{has-its-settles}
 use Rattle.jn_at_rest.proofs.Behind.{behind-event, behind-end}
 use Rattle.jn_at_rest.proofs.Whole.{settles}

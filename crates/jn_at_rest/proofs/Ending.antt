@@ -1,5 +1,5 @@
 -- The end of a whole run settles: all servers are up in it.
-use Rattle.jn_at_rest.proofs.Common.{refl, is_some, true≢false, AllByRecursion, list_all, ◌≡◌, ◌⊎◌, inl, inr, ◌≤◌, ◌<◌, ℕ, Bool, true, List, [], ◌∷◌, ◌++◌, append_assoc, map, Option, Some, None, sym, ◌∙◌, ap, subst, ServerNo, Event, Pick, World, Memory, Course, go_on, AreUp, on-world, Setup, Chance, Task, Acts, CountsCommits, Stage, State, begun, next_at, Devices, deed_of, servers_of, printing, none, more, Moment, DoesStep, Leads, GoesOn, IsCut, does, Line, stopped_idle, InSchedule, AtEnd, CutShort, before, IsWhole, SettlesAtEnd}
+use Rattle.jn_at_rest.proofs.Common.{refl, is_some, true≢false, AllByRecursion, list_all, ◌≡◌, ◌⊎◌, inl, inr, ◌≤◌, ℕ, true, List, [], ◌∷◌, ◌++◌, map, Option, Some, None, sym, ◌∙◌, ap, ServerNo, Event, Pick, World, Memory, Course, go_on, AreUp, on-world, Setup, Chance, Task, Acts, CountsCommits, Stage, State, begun, next_at, Devices, deed_of, servers_of, printing, none, more, Moment, DoesStep, Leads, GoesOn, IsCut, does, Line, stopped_idle, InSchedule, AtEnd, CutShort, before, IsWhole, SettlesAtEnd}
 use Rattle.jn_schedule.specs.declared.Event.TheVariants as events
 use Rattle.jn_schedule.specs.Ranges.{EventInRange}
 use Rattle.jn_between.proofs.Ended.{at-the-end}

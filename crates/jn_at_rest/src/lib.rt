@@ -38,8 +38,8 @@ pub fn a_settle_of_a_run_is_within_its_bound()
         → IsWithinBound x.servers a.state.course b.state.course }
 {}
 
-/// No rest stands behind a settle: behind that of an event the next event begins, or the end does, and behind that of the end the files are printed.
-pub fn no_rest_stands_behind_a_settle()
+/// No rest is left after a settle: after that of an event the next event begins, or the end does, and after that of the end the files are printed.
+pub fn no_rest_is_left_after_a_settle()
     ensures of_event { (x : Setup) (later : List Event) → first_of_tasks (map (λ (e : Event). Begins e) later ++ ending x) ≡ Some Rests → ⊥ }
     ensures of_end { (x : Setup) → first_of_tasks (printing (servers_of x) ++ CountsCommits ∷ []) ≡ Some Rests → ⊥ }
 {}

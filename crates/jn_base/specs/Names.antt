@@ -1,15 +1,19 @@
--- Whether two names are the same, the request and the operation of a number, and the numbers of refusals.
-use Rattle.std.specs.Prelude.{ℕ, Bool, nat_eq, ◌&&◌}
+-- Whether two names are the same, the request and the operation of a number, the numbers of refusals, and the words of faults.
+use Rattle.std.specs.Prelude.{ℕ, Bool, false, nat_eq, ◌&&◌, List, codes}
 use Rattle.jn_base.specs.declared.names.ServerNo.{ServerNo}
 use Rattle.jn_base.specs.declared.names.ClientNo.{ClientNo}
 use Rattle.jn_base.specs.declared.names.FileNo.{FileNo}
 use Rattle.jn_base.specs.declared.names.BlockNo.{BlockNo}
+use Rattle.jn_base.specs.declared.names.LockUnit.{LockUnit}
+use Rattle.jn_base.specs.declared.names.LockUnit.TheVariants.{File, Block}
 use Rattle.jn_base.specs.declared.names.Tid.{Tid}
 use Rattle.jn_base.specs.declared.names.WorkId.{WorkId}
 use Rattle.jn_base.specs.declared.names.OperationNo.{OperationNo}
 use Rattle.jn_base.specs.declared.names.RequestNo.{RequestNo}
 use Rattle.jn_base.specs.declared.names.Resource.{Resource}
 use Rattle.jn_base.specs.declared.names.Resource.TheVariants.{Records, Pages, Heads}
+use Rattle.jn_base.specs.declared.device.FaultKind.{FaultKind}
+use Rattle.jn_base.specs.declared.device.FaultKind.TheVariants as faults
 
 abbrev pub server_eq : ServerNo → ServerNo → Bool
 server_eq a b = nat_eq a.0 b.0
@@ -22,6 +26,11 @@ file_eq a b = nat_eq a.0 b.0
 
 abbrev pub block_eq : BlockNo → BlockNo → Bool
 block_eq a b = nat_eq a.0 b.0
+
+abbrev pub unit_eq : LockUnit → LockUnit → Bool
+unit_eq (File f) (File g) = file_eq f g
+unit_eq (Block f p) (Block g q) = file_eq f g && block_eq p q
+unit_eq _ _ = false
 
 abbrev pub request_eq : RequestNo → RequestNo → Bool
 request_eq a b = nat_eq a.0 b.0
@@ -43,3 +52,14 @@ abbrev pub refusal_number : Resource → ℕ
 refusal_number Records = 31
 refusal_number Pages = 32
 refusal_number Heads = 33
+
+-- the word of a fault, in a schedule and in a report
+abbrev pub fault_word : FaultKind → List ℕ
+fault_word faults.Soft = codes "soft"
+fault_word faults.Null = codes "null"
+fault_word faults.Bad = codes "bad"
+fault_word (faults.Decay p) = codes "decay"
+fault_word (faults.Revive p) = codes "revive"
+fault_word faults.StopBefore = codes "stop-before"
+fault_word faults.StopTorn = codes "stop-torn"
+fault_word faults.StopAfter = codes "stop-after"

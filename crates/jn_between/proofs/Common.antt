@@ -17,7 +17,7 @@ pub use Rattle.jn_system.specs.WholeSystem.World.{World, Memory, opening, commit
 pub use Rattle.jn_system_reports.specs.Reporting.Reported.{events_of, steps_of, world_of, IsReported, Item, lines_of}
 pub use Rattle.jn_system_settling.specs.Settling.Course.{go_on}
 pub use Rattle.jn_system_reports.specs.Telling.Agreement.{AreAsTold}
-pub use Rattle.jn_written.specs.Chances.{Setup, Chance}
+pub use Rattle.jn_written.specs.Chances.{Setup, Chance, allowed}
 pub use Rattle.jn_written.specs.Devices.{Devices, AreFound, Alone, IsServed, IsLookedOver, IsRecovery, IsUsed, IsScrubbed, IsCalled}
 pub use Rattle.jn_written.specs.Runs.{Moment, none, more, DoesStep, Leads}
 pub use Rattle.jn_written.specs.Tasks.{AtEnd, CutShort, Task, Dismisses, InSchedule, State, begun, Begins, Stage, first_of_tasks}

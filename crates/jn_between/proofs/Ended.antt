@@ -7,7 +7,7 @@ use Rattle.jn_system_reports.specs.Reporting.Ending.{Ending, IsWholeRun, all_lin
 use Rattle.jn_system_reports.proofs.Showing.Ends.{end-agrees}
 use Rattle.jn_system_settling.specs.Closing.Ending.{IsEmpty}
 use Rattle.jn_headline.proofs.Begins.{begins}
-use Rattle.jn_headline.proofs.Ended.{PartOf, WholeOf, dismissed, ending, is-whole, lines-are, world-is, up, empty, free, prints}
+use Rattle.jn_headline.proofs.Ended.{PartOf, WholeOf, dismissed, ending, is-whole, lines-are, world-is, up, empty, free}
 use Rattle.jn_headline.proofs.Through.{asked_steps}
 use Rattle.jn_records.specs.StablePages.{page_count}
 use Rattle.jn_between.proofs.Found.{pages-stay, fresh-pages}
@@ -37,7 +37,7 @@ module _ (x : Setup) (few : x.servers ≤ 8) (files : AllFiles) (schedule : List
   run-whole = is-whole x.servers few files r.epochs r.items reported m whole
 
   ended_is : world_at_end x.servers (ending x.servers few files r.epochs r.items reported m whole) (world_of r.items start) ≡ (go_on (asked_steps x.servers whole.backs whole.one ++ whole.two) (dismissed (world_of r.items (opening x.servers files r.epochs)))).world
-  ended_is = world-is x.servers few files r.epochs r.items reported m whole (prints x.servers few files r.epochs r.items reported m whole)
+  ended_is = world-is x.servers few files r.epochs r.items reported m whole whole.prints
 
   now : m.state.course.world ≡ behind whole.ups w
   now = whole.world ∙ ap (λ (z : World). behind whole.ups z) (sym ended_is)

@@ -1,5 +1,5 @@
 -- The world of each moment is what steps of the system lead to, and what is found in it is what is found on the pages.
-use Rattle.jn_between.proofs.Common.{◌≡◌, ◌≢◌, ◌⊎◌, inl, inr, ℕ, ◌/◌, Bool, true, false, if◌then◌else◌, is_some, List, [], ◌++◌, refl, sym, ◌∙◌, ap, subst, ServerNo, server_eq, World, Step, IsRun, run, go_on, Setup, Chance, Task, Dismisses, InSchedule, AtEnd, CutShort, State, begun, deed_of, is_too_much, come_to, cut_short, Devices, Alone, IsServed, IsLookedOver, IsRecovery, IsUsed, AreFound, none, more, Moment, DoesStep, Leads, goes-or-cut, go-world, run-both, is-run-both, arith, ◌<◌, IsFresh, IsScrubbed, IsCalled}
+use Rattle.jn_between.proofs.Common.{◌≡◌, ◌≢◌, ◌⊎◌, inl, inr, ℕ, ◌/◌, Bool, true, false, if◌then◌else◌, is_some, List, [], ◌++◌, refl, sym, ◌∙◌, ap, subst, ServerNo, server_eq, World, Step, IsRun, run, go_on, Setup, Chance, Task, Dismisses, InSchedule, AtEnd, CutShort, State, begun, deed_of, is_too_much, come_to, cut_short, Devices, Alone, IsServed, IsLookedOver, IsRecovery, IsUsed, AreFound, none, more, Moment, DoesStep, Leads, goes-or-cut, go-world, run-both, is-run-both, arith, ◌<◌, IsFresh, IsScrubbed, IsCalled, allowed}
 use Rattle.std.proofs.Math.Nat.{mul-div_cancel_left}
 use Rattle.jn_base.proofs.Tells.{server_tells}
 use Rattle.jn_device.specs.Device.{DeviceState}
@@ -82,9 +82,9 @@ same-pages x h (Recovers p) w now ds es used q = same-alone (IsRecovery (x.count
     recovered : (d e : DeviceState) (up : Bool) → IsRecovery (x.counts p) h up d e → pages e ≡ pages d
     recovered d e up s = ap pages s.after ∙ either up s.last ∙ called-pages _ h s.powered s.last s.called ∙ ap (λ (n : ℕ). n / 2) s.power.count
 same-pages x h (PowersOff p) w now ds es used q = same-alone (λ d e. e ≡ powered_off d) p ds es used (λ d e s. ap pages s) q
-same-pages x h (Decays p n) w now ds es used q = same-alone (λ d e. PageDecays d n h.allows e) p ds es used (λ d e s. ap (λ (n : ℕ). n / 2) s.becomes.count) q
+same-pages x h (Decays p n) w now ds es used q = same-alone (λ d e. PageDecays d n (allowed h.found) e) p ds es used (λ d e s. ap (λ (n : ℕ). n / 2) s.becomes.count) q
 same-pages x h (Revives p n) w now ds es used q = same-alone (λ d e. PageRevives d n e) p ds es used (λ d e s. ap (λ (n : ℕ). n / 2) s.count) q
-same-pages x h (Arms p n kind) w now ds es used q = same-alone (λ d e. FaultArmed d n kind h.allows e) p ds es used (λ d e s. ap pages s.armed) q
+same-pages x h (Arms p n kind) w now ds es used q = same-alone (λ d e. FaultArmed d n kind (allowed h.found) e) p ds es used (λ d e s. ap pages s.armed) q
 same-pages x h Disarms w now ds es used q = ap pages (used q)
 
 pub pages-stay : (x : Setup) (a b : Moment) → Leads x a b → (q : ServerNo) → pages (b.devices q) ≡ pages (a.devices q)

@@ -123,7 +123,7 @@ module _ (x : Setup) (files : AllFiles) (epochs : ServerNo → ℕ) (items : Lis
   true-between = record {
     number = as-in.event ∙ items-begin items (opening x.servers files epochs) reported.under ∙ none-before (length items) ∙ sym (length-map items (λ (item : Item). item.event));
     system = seen w m.state.course.world as-in files system;
-    report = true-aside files events ls m.state.lines (sym lines) (run-true x.servers files epochs items reported);
+    report = true-aside files events events ls m.state.lines (sym lines) (run-true x.servers files epochs items reported);
     answers = lines-seen w m.state.course.world as-in files events ls m.state.lines (sym lines) (run-lines-stand x.servers files epochs items reported);
     pages = pages;
   }

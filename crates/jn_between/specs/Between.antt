@@ -26,8 +26,7 @@ use Rattle.jn_system_reports.specs.BetweenSteps.Commits.{AreToldAfter}
 use Rattle.jn_system_reports.specs.BetweenSteps.Drops.{AreOfThePast}
 use Rattle.jn_system_reports.specs.BetweenSteps.Answers.{DoAnswersStand}
 use Rattle.jn_system_reports.specs.BetweenSteps.Lines.{DoLinesStand}
-use Rattle.jn_headline.specs.CutReports.Cut.{IsTrueSoFar}
-use Rattle.jn_headline.specs.WholeReports.Whole.{IsOfItsCommits}
+use Rattle.jn_headline.specs.Headline.{IsOfItsCommits, IsTrueSoFar}
 use Rattle.jn_written.specs.Chances.{Setup}
 use Rattle.jn_written.specs.Devices.{Devices, AreFound}
 use Rattle.jn_written.specs.Runs.{Moment}
@@ -74,7 +73,7 @@ pub record AreOnPages (x : Setup) (files : AllFiles) (w : World) (ds : Devices) 
 pub record IsTrueBetween (x : Setup) (files : AllFiles) (done : List Event) (m : Moment) : Type 0 where
   pub number : m.state.course.world.event ≡ length done
   pub system : IsConsistent files m.state.course.world
-  pub report : IsTrueSoFar files done m.state.lines
+  pub report : IsTrueSoFar files done done m.state.lines
   pub answers : DoLinesStand files done m.state.lines m.state.course.world
   pub pages : AreOnPages x (files_told files done m.state.lines) m.state.course.world m.devices
 

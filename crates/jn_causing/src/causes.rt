@@ -2,6 +2,7 @@
 
 ghost use Rattle.std.specs.Prelude.{◌≡◌, ◌↔◌, ◌&&◌, not, IsTrue};
 ghost use Rattle.jn_base.specs.declared.names.Cause.TheVariants as reasons;
+ghost use Rattle.jn_base.specs.Names as names;
 ghost use Rattle.jn_report.specs.declared.line.When.TheVariants.{Event as AtEvent};
 ghost use Rattle.jn_serial.specs.Begun.{is_in as is_in_tid};
 ghost use Rattle.jn_serial.specs.Caused as caused;
@@ -131,7 +132,7 @@ fn is_lost(events: &[Event], lines: &[Line], client: ClientNo, t: Tid, server: S
 }
 
 fn is_same_unit(a: LockUnit, b: LockUnit) -> bool
-    ensures { result ≡ caused.unit_eq a b }
+    ensures { result ≡ names.unit_eq a b }
 {
     match (a, b) {
         (LockUnit::File(f), LockUnit::File(g)) => f == g,

@@ -26,8 +26,8 @@ pub use Rattle.std.proofs.lemmas.Bool.Decides.{nat_tests}
 pub use Rattle.std.proofs.lemmas.List.{length-set}
 pub use Rattle.jn_base.specs.declared.names.Party.TheVariants.{Client}
 pub use Rattle.jn_msgs.specs.Collected.{Collected}
-pub use Rattle.jn_storage.specs.Orderly.{IsGiven}
-pub use Rattle.jn_storage.specs.Storage.{StorageView, IsLoadable, IsServing, Accounts}
+pub use Rattle.jn_storage.specs.Orderly.{IsGiven, IsLoadable}
+pub use Rattle.jn_storage.specs.Storage.{StorageView, IsServing, Accounts}
 pub use Rattle.jn_storage.specs.Calls.{state, FlagDropped, with_promises, tid_of, TellsFlags, MayPutFlag, HasFlag, PromiseReleased, Called, FlagPut}
 pub use Rattle.jn_transactions.specs.Listed.{name_below, restored_from, inserted, with_flags}
 pub use Rattle.jn_coord.specs.Remembered.{Remembered, table_of, seen_by, are_above, rises}

@@ -18,8 +18,8 @@ use Rattle.jn_rows.specs.declared.coordinator.Stage.TheVariants.{Voting, Committ
 use Rattle.jn_rows.specs.Stable.{FlagState, Pick, IsStopState, made_all}
 use Rattle.jn_rows.specs.Outcomes.{RowOutcome, ignored, sends}
 use Rattle.jn_rows.specs.Coordinator.{CoordinatorTable, transaction_at, is_work, is_voting, promised, staged, prepares}
-use Rattle.jn_storage.specs.Orderly.{IsGiven}
-use Rattle.jn_storage.specs.Storage.{Accounts, StorageView, StorageLater, IsLoadable, IsServing}
+use Rattle.jn_storage.specs.Orderly.{IsGiven, IsLoadable}
+use Rattle.jn_storage.specs.Storage.{Accounts, StorageView, StorageLater, IsServing}
 use Rattle.jn_storage.specs.Calls.{state, PromiseReleased, with_promises}
 use Rattle.jn_transactions.specs.declared.faults.CoordFault.{CoordFault}
 use Rattle.jn_transactions.specs.declared.faults.CoordFault.TheVariants.{Stopped, Memory}

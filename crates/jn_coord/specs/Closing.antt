@@ -6,7 +6,8 @@ use Rattle.jn_base.specs.Names.{tid_eq}
 use Rattle.jn_rows.specs.declared.coordinator.Transaction.{Transaction}
 use Rattle.jn_rows.specs.Stable.{Change, DropFlag, Pick, IsStopState, made_all}
 use Rattle.jn_rows.specs.Coordinator.{is_voting, thanked_changes, after_closing, changes_of_closing, all_thanked, flags_of_thanked}
-use Rattle.jn_storage.specs.Storage.{StorageView, StorageLater, IsLoadable, IsServing}
+use Rattle.jn_storage.specs.Storage.{StorageView, StorageLater, IsServing}
+use Rattle.jn_storage.specs.Orderly.{IsLoadable}
 use Rattle.jn_storage.specs.Calls.{state, FlagDropped}
 use Rattle.jn_store.specs.Store.{IsStop}
 use Rattle.jn_transactions.specs.declared.faults.CoordFault.{CoordFault}

@@ -60,13 +60,10 @@ may_decay_at half pages q = may_fail (pages q) && (pages (partner_at half q)).go
 abbrev pub decayed : PageState → PageState
 decayed x = record x { good = false; fails = x.fails + 1 }
 
-abbrev pub revived : PageState → PageState
-revived x = record x { good = true }
-
 -- page q after a fault that strikes a page by itself, or after any other, which waits for its call
 abbrev pub met_at : ℕ → (ℕ → PageState) → Option FaultKind → ℕ → PageState
 met_at half pages (Some (Decay d)) q = if nat_eq d q && ((pages q).good && may_decay_at half pages q) then decayed (pages q) else pages q
-met_at half pages (Some (Revive d)) q = if nat_eq d q then revived (pages q) else pages q
+met_at half pages (Some (Revive d)) q = if nat_eq d q then record (pages q) { good = true } else pages q
 met_at half pages _ q = pages q
 
 abbrev pub page_met : DeviceState → Option FaultKind → ℕ → PageState

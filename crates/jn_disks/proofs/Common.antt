@@ -12,6 +12,6 @@ pub use Rattle.jn_records.specs.StablePages.{Counts, Pages, page_count, slot_pla
 pub use Rattle.jn_store.specs.Pairs.{pairs_view}
 pub use Rattle.jn_found.specs.Images.{IsStoreOf, IsImage, image_on, CountsFit, IsFresh}
 pub use Rattle.jn_found.proofs.ImageStates.{files_agree, image_fresh}
-pub use Rattle.jn_disks.specs.Disks.{AreSound, HasPages, image_of, files_in, IsStoreOfPages, IsNewStore, new_page, no_files}
+pub use Rattle.jn_disks.specs.Disks.{AreSound, HasPages, image_of, files_in, IsStoreOfPages, IsNewStore, IsNewDisk, new_page, no_files}
 pub use Rattle.jn_store.specs.Store.{StoreView, StorePut, IsBlank, IsOnly, StoreLater}
 pub use Rattle.jn_memdisk.specs.contracts.disk.MemDiskPhysDisk.TheImpl.{ghosts}

@@ -1,5 +1,5 @@
 -- A store of zeros with a root, as a new server has it.
-use Rattle.jn_disks.proofs.Common.{◌≡◌, ℕ, zero, suc, ◌+◌, ◌<◌, ◌^◌, ◌||◌, ◌&&◌, ◌≤◌, nat_eq, Bool, true, false, true≢false, if◌then◌else◌, List, [], ◌∷◌, Some, None, drop, replicate, refl, sym, ◌∙◌, ap, subst, arith, option_map, option_and_then, ServerNo, there, blank_page, IsNewStore, new_page, no_files, CountsFit, IsFresh, image_fresh, Image, IsSound, Counts, page_count, slot_place, head_place, data_place, is_used, file_in, is_head_of, head_from, block_in, files_of_pages, StoreView, StorePut, IsBlank, IsOnly, StoreLater}
+use Rattle.jn_disks.proofs.Common.{◌≡◌, ℕ, zero, suc, ◌+◌, ◌<◌, ◌^◌, ◌||◌, ◌&&◌, ◌≤◌, nat_eq, Bool, true, false, true≢false, if◌then◌else◌, List, [], ◌∷◌, Some, None, drop, replicate, refl, sym, ◌∙◌, ap, subst, arith, option_map, option_and_then, ServerNo, there, blank_page, IsNewStore, IsNewDisk, new_page, no_files, CountsFit, IsFresh, image_fresh, Image, IsSound, Counts, page_count, slot_place, head_place, data_place, is_used, file_in, is_head_of, head_from, block_in, files_of_pages, StoreView, StorePut, IsBlank, IsOnly, StoreLater}
 use Rattle.std.proofs.Math.Path.{fun_ext}
 use Rattle.jn_base.specs.declared.device.Outside.{Outside}
 use Rattle.jn_base.specs.declared.names.FileNo.{FileNo}
@@ -129,11 +129,10 @@ module _ (server : ServerNo) (g : Counts) (epoch : ℕ) (epoch_fits : epoch < 2 
         let at : i < page_count g = subst (λ n. i < n) count lt in
         subst (λ page. IsOnly w i page) (behind_root i at) (only i at)
 
-    pub new_is : IsNewStore root w
-    new_is = record {
+    new_store : IsNewStore root w
+    new_store = record {
       count = count;
       pages = new_pages;
-      fresh = found;
       untouched = record {
         calm = put.later.calm blank.calm;
         told = none_told w.told (let spent = put.later.spends.told_of (λ k. true) in
@@ -142,3 +141,6 @@ module _ (server : ServerNo) (g : Counts) (epoch : ℕ) (epoch_fits : epoch < 2 
             put.later.whole blank.calm i (subst (λ n. i < n) (sym blank.count_is) at) (blank.whole i at);
       };
     }
+
+    pub new_is : IsNewDisk root w
+    new_is = record { store = new_store; fresh = found }

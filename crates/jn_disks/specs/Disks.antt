@@ -7,8 +7,8 @@ use Rattle.jn_memdisk.specs.Pages.{half_at}
 use Rattle.jn_order.specs.Files.{Files}
 use Rattle.jn_records.specs.declared.root.Root.{Root}
 use Rattle.jn_records.specs.Pages.{root_page}
-use Rattle.jn_records.specs.Sound.{Image, IsSound, root_of}
-use Rattle.jn_records.specs.StablePages.{Counts, counts_of, page_count, files_of_pages}
+use Rattle.jn_records.specs.Sound.{Image, IsSound}
+use Rattle.jn_records.specs.StablePages.{root_by, Counts, counts_of, page_count, files_of_pages}
 use Rattle.jn_store.specs.DeviceCalls.{put_calls}
 use Rattle.jn_store.specs.Store.{StoreView, IsCalm, IsWholePage, IsOnly}
 use Rattle.jn_found.specs.Images.{CountsFit, IsFresh}
@@ -28,12 +28,16 @@ no_files u = None
 abbrev pub new_page : Root → ℕ → List ℕ
 new_page root i = if nat_eq i 0 then root_page root else blank_page
 
--- both halves of each page are so, good, and nothing is found but the root's epoch
+-- both halves of each page are so, and good
 pub record IsNewStore (root : Root) (v : StoreView) : Type 0 where
   pub count : v.count ≡ page_count (counts_of root)
   pub pages : (i : ℕ) → i < v.count → IsOnly v i (new_page root i)
-  pub fresh : IsFresh root.server (counts_of root) root.epoch no_files v
   pub untouched : IsUntouched v
+
+-- so a recovery may begin there, and finds nothing but the root's epoch
+pub record IsNewDisk (root : Root) (v : StoreView) : Type 0 where
+  pub store : IsNewStore root v
+  pub fresh : IsFresh root.server (counts_of root) root.epoch no_files v
 
 -- its device has two pages for each stable page, and was called for one put at most
 pub record HasNewDevice (root : Root) (d : DeviceState) : Type 0 where
@@ -56,7 +60,7 @@ files_in g halves = files_of_pages g (λ p. (half_at halves p).bytes)
 
 -- a store of such pages, two of its device for each stable page, whose root has this epoch: the image's files are found, no work and no flag
 pub record IsStoreOfPages (server : ServerNo) (g : Counts) (halves : List Half) (v : StoreView) : Type 0 where
-  pub fresh : (epoch : ℕ) → epoch < 2 ^ 32 → (half_at halves 0).bytes ≡ root_page (root_of (image_of server g halves) epoch) → IsFresh server g epoch (files_in g halves) v
+  pub fresh : (epoch : ℕ) → epoch < 2 ^ 32 → (half_at halves 0).bytes ≡ root_page (root_by server g epoch) → IsFresh server g epoch (files_in g halves) v
   pub untouched : IsUntouched v
   pub device : v.device.count ≡ 2 * page_count g
 

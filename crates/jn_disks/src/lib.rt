@@ -3,7 +3,7 @@
 
 ghost use Rattle.std.specs.Prelude.{◌≡◌, ◌≤◌, ◌+◌, ℕ, IfOk};
 ghost use Rattle.jn_base.specs.declared.names.ServerNo.{ServerNo};
-ghost use Rattle.jn_disks.specs.Disks.{IsNewStore, HasNewDevice, AreSound, HasPages, IsStoreOfPages, files_in};
+ghost use Rattle.jn_disks.specs.Disks.{IsNewDisk, HasNewDevice, AreSound, HasPages, IsStoreOfPages, files_in};
 ghost use Rattle.jn_found.specs.Images.{IsImage};
 ghost use Rattle.jn_memdisk.specs.Disk.{IsNew};
 ghost use Rattle.jn_order.specs.Files.{Files};
@@ -20,7 +20,7 @@ use std::alloc::{AllocError, Global};
 
 /// The store of a new server: zeros behind its root.
 pub fn new_store(alloc: Global, root: Root) -> Result<Pairs<MemDisk>, AllocError>
-    ensures new { IfOk result (λ store. IsNewStore root (⟦<Pairs<MemDisk> as StableStore>⟧.view store)) }
+    ensures new { IfOk result (λ store. IsNewDisk root (⟦<Pairs<MemDisk> as StableStore>⟧.view store)) }
     ensures device { IfOk result (λ store. HasNewDevice root (⟦<Pairs<MemDisk> as Powered>⟧.device store)) }
 {
     let pages = 1 + u32::from(root.pool) + u32::from(root.heads) + u32::from(root.leaves);
@@ -32,7 +32,7 @@ pub fn new_store(alloc: Global, root: Root) -> Result<Pairs<MemDisk>, AllocError
 /// Puts the root of a new server to a store of zeros.
 pub fn put_root<S: StableStore>(store: &mut S, root: Root)
     requires { IsBlank (1 + root.pool + root.heads + root.leaves) (S.view store.old) }
-    ensures new { IsNewStore root (S.view store.new) }
+    ensures new { IsNewDisk root (S.view store.new) }
     ensures device { (S.view store.new).device.count ≡ (S.view store.old).device.count }
     ensures calls { (S.view store.new).calls ≤ put_calls }
 {

@@ -1,9 +1,11 @@
 //! Whether each answer to a client answers its outstanding command.
 
 ghost use Rattle.std.specs.Prelude.{◌≡◌, ◌↔◌, true, IfOk, OnOk, IsTrue, length};
+ghost use Rattle.jn_base.specs.declared.names.ServerNo.{ServerNo};
+ghost use Rattle.jn_base.specs.declared.op.Command.TheVariants as commands;
 ghost use Rattle.jn_following.specs.Asked.{outstanding_of};
 ghost use Rattle.jn_serial.specs.Follows as follows;
-ghost use Rattle.jn_serial.specs.Lines.{says};
+ghost use Rattle.jn_serial.specs.Lines.{count_lines, says};
 
 use jn_base::{ClientNo, Command, Op};
 use jn_report::{Line, Refusal, Text, When};
@@ -42,7 +44,7 @@ fn is_read(op: &Op) -> bool
 }
 
 fn answers_begin(text: &Text) -> bool
-    ensures { result ≡ follows.answers_begin text.now }
+    ensures { (s : ServerNo) → result ≡ follows.answers_command (commands.Begin s) text.now }
 {
     matches!(
         text,
@@ -51,7 +53,7 @@ fn answers_begin(text: &Text) -> bool
 }
 
 fn answers_open(text: &Text) -> bool
-    ensures { result ≡ follows.answers_open text.now }
+    ensures { (s : ServerNo) → result ≡ follows.answers_command (commands.Open s) text.now }
 {
     matches!(
         text,
@@ -60,7 +62,7 @@ fn answers_open(text: &Text) -> bool
 }
 
 fn answers_op(op: &Op, text: &Text) -> bool
-    ensures { result ≡ follows.answers_op op.now text.now }
+    ensures { (s : ServerNo) → result ≡ follows.answers_command (commands.Do s op.now) text.now }
 {
     match text {
         Text::Did(_, _) => !is_read(op),
@@ -71,7 +73,7 @@ fn answers_op(op: &Op, text: &Text) -> bool
 }
 
 fn answers_end(text: &Text) -> bool
-    ensures { result ≡ follows.answers_end text.now }
+    ensures { result ≡ follows.answers_command commands.End text.now }
 {
     matches!(
         text,
@@ -80,7 +82,7 @@ fn answers_end(text: &Text) -> bool
 }
 
 fn answers_abort(text: &Text) -> bool
-    ensures { result ≡ follows.answers_abort text.now }
+    ensures { result ≡ follows.answers_command commands.Abort text.now }
 {
     matches!(text, Text::Committed(_, _, _) | Text::Aborted(_, _, _, _))
 }
@@ -276,7 +278,7 @@ fn is_own_refusal(text: &Text) -> bool
 
 /// How many refusals by clients themselves these lines are.
 fn own_refusals(here: &[Line]) -> usize
-    ensures { result ≡ follows.own_refusals here.now }
+    ensures { result ≡ count_lines follows.is_own_refusal here.now }
 {
     let mut count = 0;
     for line in here {

@@ -3,7 +3,7 @@ pub use Rattle.std.proofs.Common.{◌≡◌, ℕ, List, [], ◌∷◌, map, refl
 pub use Rattle.jn_base.specs.declared.names.WorkId.{WorkId}
 pub use Rattle.jn_records.specs.NetLists.{carried_out, after_turns, intention_change, change_by}
 pub use Rattle.jn_order.specs.Files.{change, there, Files, or_else, removed}
-pub use Rattle.jn_rows.specs.Stable.{StableState, made_all, CarryOut, Pick, made_by, AddReady, MarkGoing, RemoveWork, AddFlag, DropFlag, IsUp, Change, Changed, Unchanged, Prepared, FlagState, at_work, at_tid, gone_on, flag_state}
+pub use Rattle.jn_rows.specs.Stable.{StableState, made_all, CarryOut, Pick, made_by, AddReady, MarkGoing, RemoveWork, AddFlag, DropFlag, IsUp, ready_work, Change, Changed, Unchanged, Prepared, FlagState, at_work, at_tid, gone_on, flag_state}
 pub use Rattle.jn_records.specs.declared.intention.Intention.{Intention as FullIntention}
 pub use Rattle.std.specs.Prelude.{false, None, slice_set, nat_eq, is_some, option_and_then, nat_lt, take, slice_index_or, option_map, nat_le, drop, replicate, slice_index, flat_map}
 pub use Rattle.std.proofs.lemmas.Bool.{cases_eq, cases_lt}
@@ -18,19 +18,19 @@ pub use Rattle.jn_records.specs.declared.intention.StoredIntention.{StoredIntent
 pub use Rattle.jn_records.specs.declared.record.Record.{Record}
 pub use Rattle.jn_records.specs.declared.record.Record.TheVariants.{Free, Intention, Ready, Going, Flag as FlagRecord}
 pub use Rattle.jn_sets.specs.Pool.{record_in, is_intention, is_prepared, is_flag, slot_page, IsStored, Says, IsRecord, IsRecordPage, is_free, is_rubbish}
-pub use Rattle.jn_found.specs.Contents.{stored_in, intention_of, with_first, intentions_from, stored_list, Contents, state_in, intended, heads_name, works_name, is_head_of, behind, block_in, files_in, address_at, bytes_by, prepared_as, prepared_by, works_in, has_address, holds_address, head_in, flags_in, full_list, flag_by}
+pub use Rattle.jn_found.specs.Contents.{stored_in, intention_of, with_first, intentions_from, stored_list, Contents, state_in, intended, heads_name, works_name, is_head_of, behind, block_in, files_in, address_at, bytes_by, prepared_by, works_in, has_address, holds_address, head_in, flags_in, full_list, flag_by}
 pub use Rattle.jn_found.specs.Recoverable.{HasIntentions, HasFirst, HasNone, IsCompleteBy, Intends, HasAt, IsWholeWork, IsRecoverable, NamedAreClean, is_named, IsConsistent, PassesOnce, Addresses, AddressesDiffer, IsFound, IsDistinct, AreFresh}
 pub use Rattle.jn_base.specs.declared.names.LockUnit.{LockUnit}
 pub use Rattle.jn_base.specs.declared.names.ServerNo.{ServerNo}
 pub use Rattle.jn_records.specs.declared.flag.Flag.{Flag}
 pub use Rattle.jn_records.specs.declared.head.Head.{Head}
 pub use Rattle.jn_records.specs.declared.work.WorkHead.{WorkHead}
-pub use Rattle.jn_records.specs.StablePages.{Counts, data_place, page_count, slot_place, head_place, Pages, address_in, is_head_of as is_page_of, head_from, head_of, block_behind, block_in as block_on_page, files_of_pages, is_used, file_in}
-pub use Rattle.jn_storage.specs.Storage.{IsLoadable}
+pub use Rattle.jn_records.specs.StablePages.{Counts, data_place, page_count, slot_place, head_place, Pages, address_in, is_head_of as is_page_of, head_from, head_of, block_behind, block_in as block_on_page, files_of_pages, is_used, file_in, root_by}
+pub use Rattle.jn_storage.specs.Orderly.{IsLoadable, IsGiven}
 pub use Rattle.jn_store.specs.Store.{StoreView, IsClean, Candidate, IsOnly, StoreGot, StoreCleaned, IsWholePage, HasSamePages, StorePut}
 pub use Rattle.jn_found.specs.Changes.{IsIdlePut, IsReadyPut, IsReadySlot, IsPreparedSlot, IsFlagPut, IsFlagSlot, IsHeadPut, with_record, is_idle, with_block, with_head, address_after, serves_for, is_head_after, with_epoch, IsFreeSlot}
 pub use Rattle.jn_found.specs.Held.{held_contents, IsHeadStored, IsHeld, epoch_after, records_after, heads_after}
-pub use Rattle.jn_found.specs.Pages.{block_on, pages_by, half_of, found_on, contents_of, epoch_by, record_or_free, head_or_free, record_on, head_on, heads_on, listed, IsHeadPage, state_of, root_by, epoch_in, pool_on, IsRootPage, IsDataPage, IsOfFormat}
+pub use Rattle.jn_found.specs.Pages.{block_on, pages_by, half_of, found_on, contents_of, epoch_by, record_or_free, head_or_free, record_on, head_on, heads_on, listed, IsHeadPage, state_of, epoch_in, pool_on, IsRootPage, IsDataPage, IsOfFormat}
 pub use Rattle.jn_found.specs.Puts.{RootPut, RecordPut, HeadPut, BlockPut, put_in, contents_by, IsPut, IsReadable, IsFrontClean, PagePut, put_place, IsPagePut, PutStep, IsFewer, put_page, is_written, KeepsClean, KeepsConsistent}
 pub use Rattle.jn_found.specs.Standing.{IsStanding, IsPutStep, MayChange, Makes, MakesNothing, MakesEpoch, standing_state}
 pub use Rattle.jn_store.specs.Choices.{IsChoice, Agree, with_page}
@@ -49,7 +49,7 @@ pub use Rattle.jn_records.specs.declared.intention.What.TheVariants.{Fresh, Gone
 pub use Rattle.jn_records.specs.Pages.{root_page, IsRoot}
 pub use Rattle.jn_records.proofs.Roots.{root_is_read}
 pub use Rattle.jn_store.proofs.Laws.{same_shrinks, cleaned_kept}
-pub use Rattle.jn_records.specs.Sound.{Image, IsSound, Names, root_of}
+pub use Rattle.jn_records.specs.Sound.{Image, IsSound, Names}
 pub use Rattle.jn_found.specs.Images.{image_on, place_in, IsImage, CountsFit, IsStoreOf, IsFresh, only_files}
 pub use Rattle.jn_records.proofs.RecordsAgain.{record_is_read}
 pub use Rattle.jn_store.proofs.Choices.{with_same, with_other}

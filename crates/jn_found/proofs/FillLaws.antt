@@ -1,5 +1,5 @@
 -- The state reads named data pages alone.
-use Rattle.jn_found.proofs.Common.{◌≡◌, ℕ, zero, suc, Bool, true, false, ◌&&◌, if◌then◌else◌, List, ◌∷◌, map, Option, None, Some, get_or, refl, sym, ◌∙◌, ap, subst, true≢false, arith, fun_ext, nat_tests, find, list_any, nat_eq, option_and_then, BlockNo, FileNo, LockUnit, File, Block, WorkId, work_eq, work_tells, Head, FreeHead, Used, FullIntention, StoredIntention, What, Fresh, Gone, Cut, Put, Record, Free, Intention, Ready, Going, FlagRecord, is_prepared, is_intention, Contents, is_head_of, behind, address_at, block_in, files_in, bytes_by, intended, stored_in, intention_of, with_first, intentions_from, prepared_as, prepared_by, works_in, has_address, holds_address, heads_name, works_name, state_in, with_block, is_named}
+use Rattle.jn_found.proofs.Common.{◌≡◌, ℕ, zero, suc, Bool, true, false, ◌&&◌, if◌then◌else◌, List, ◌∷◌, map, Option, None, Some, get_or, refl, sym, ◌∙◌, ap, subst, true≢false, arith, fun_ext, nat_tests, find, list_any, nat_eq, option_and_then, BlockNo, FileNo, LockUnit, File, Block, WorkId, work_eq, work_tells, Head, FreeHead, Used, FullIntention, StoredIntention, What, Fresh, Gone, Cut, Put, Record, Free, Intention, Ready, Going, FlagRecord, is_prepared, is_intention, Contents, is_head_of, behind, address_at, block_in, files_in, bytes_by, intended, stored_in, intention_of, with_first, intentions_from, ready_work, prepared_by, works_in, has_address, holds_address, heads_name, works_name, state_in, with_block, is_named}
 use Rattle.jn_found.proofs.Found.{found_passes, found_any, found_any_by}
 use Rattle.jn_found.proofs.Slots.{passes_any}
 
@@ -87,8 +87,8 @@ module _ (one two : ℕ → List ℕ) where
     work_by w (Some Free) e = refl
     work_by w (Some (Intention v t k i)) e = refl
     work_by w (Some (FlagRecord f)) e = refl
-    work_by w (Some (Ready head n reads)) e = ap (λ l. Some (prepared_as head l reads false)) (list_same w (found_any (is_prepared w) Free pool (Ready head n reads) e) 0 n)
-    work_by w (Some (Going head n reads)) e = ap (λ l. Some (prepared_as head l reads true)) (list_same w (found_any (is_prepared w) Free pool (Going head n reads) e) 0 n)
+    work_by w (Some (Ready head n reads)) e = ap (λ l. Some (ready_work head l reads)) (list_same w (found_any (is_prepared w) Free pool (Ready head n reads) e) 0 n)
+    work_by w (Some (Going head n reads)) e = ap (λ l. Some (record (ready_work head l reads) { going = true })) (list_same w (found_any (is_prepared w) Free pool (Going head n reads) e) 0 n)
 
     works_same : works_in pool two ≡ works_in pool one
     works_same = fun_ext (λ w. work_by w (find (is_prepared w) pool) refl)

@@ -1,5 +1,5 @@
 -- What is found on the pages of a sound image: its files alone.
-use Rattle.jn_found.proofs.Common.{◌≡◌, ⊎_elim, ◌<◌, ◌+◌, ◌^◌, ℕ, suc, Bool, true, [], length, get_or, refl, sym, ◌∙◌, ap, subst, true≢false, arith, fun_ext, cases_lt, nat_tests, get_or_past, list_all_at, false, nat_le, take, None, BlockNo, ServerNo, Head, FreeHead, Used, head_at, IsHead, root_page, Image, IsSound, root_of, Counts, Pages, page_count, head_place, data_place, files_of_pages, head_is_read, root_is_read, StableState, Pick, StoreView, Contents, head_in, is_head_of, address_at, files_in, state_in, CountsFit, IsStoreOf, IsFresh, only_files, head_on, heads_on, head_or_free, block_on, epoch_by, root_by, pages_by, found_on, contents_of, IsHeadPage, is_named}
+use Rattle.jn_found.proofs.Common.{◌≡◌, ⊎_elim, ◌<◌, ◌+◌, ◌^◌, ℕ, suc, Bool, true, [], length, get_or, refl, sym, ◌∙◌, ap, subst, true≢false, arith, fun_ext, cases_lt, nat_tests, get_or_past, list_all_at, false, nat_le, take, None, BlockNo, ServerNo, Head, FreeHead, Used, head_at, IsHead, root_page, Image, IsSound, Counts, Pages, page_count, head_place, data_place, files_of_pages, head_is_read, root_is_read, StableState, Pick, StoreView, Contents, head_in, is_head_of, address_at, files_in, state_in, CountsFit, IsStoreOf, IsFresh, only_files, head_on, heads_on, head_or_free, block_on, epoch_by, root_by, pages_by, found_on, contents_of, IsHeadPage, is_named}
 use Rattle.jn_found.proofs.FillLaws.{named_read}
 use Rattle.jn_found.proofs.FilesOnPages.{files_on_pages, state_on_pages}
 use Rattle.jn_found.proofs.Naming.{named_addresses}
@@ -47,7 +47,7 @@ module _ (g : Counts) (one two : Pages) (few : g.leaves < 2 ^ 16) (format : (i :
       ∙ ap (λ l. files_in l (block_on g two)) heads_same
       ∙ sym (files_on_pages g two few (λ i lt. subst (IsHeadPage g.leaves) (same (head_place g i) (omega (arith, lt))) (format i lt)))
 
-module _ (s : ServerNo) (m : Image) (v : StoreView) (sound : IsSound s m) (fit : CountsFit s m.counts) (store : IsStoreOf m v) (epoch : ℕ) (fits : epoch < 2 ^ 32) (root : m.bytes 0 ≡ root_page (root_of m epoch)) where
+module _ (s : ServerNo) (m : Image) (v : StoreView) (sound : IsSound s m) (fit : CountsFit s m.counts) (store : IsStoreOf m v) (epoch : ℕ) (fits : epoch < 2 ^ 32) (root : m.bytes 0 ≡ root_page (root_by m.server m.counts epoch)) where
   image_found : (c : Pick) → found_on m.counts v c ≡ only_files epoch (files_of_pages m.counts m.bytes)
   image_found c =
       let format = image_format s m sound fit v store c in

@@ -1,6 +1,5 @@
 -- The puts of a data page and of the root leave what a recovery asks.
-use Rattle.jn_found.proofs.Common.{◌≡◌, ℕ, ◌≤◌, false, List, sym, subst, arith, ServerNo, Counts, IsLoadable, StableState, Contents, state_in, with_block, with_epoch, AddressesDiffer, IsConsistent, is_named}
-use Rattle.jn_storage.specs.Orderly.{IsGiven}
+use Rattle.jn_found.proofs.Common.{◌≡◌, ℕ, ◌≤◌, false, List, sym, subst, arith, ServerNo, Counts, IsLoadable, StableState, Contents, state_in, with_block, with_epoch, AddressesDiffer, IsConsistent, is_named, IsGiven}
 use Rattle.jn_found.proofs.FillLaws.{fill_law}
 
 -- where pool and heads are the same, so are the addresses

@@ -1,5 +1,5 @@
 -- One record's change as a change of the stable state.
-use Rattle.jn_found.proofs.Common.{◌≡◌, ◌≢◌, ℕ, Bool, true, false, if◌then◌else◌, List, Option, None, Some, refl, sym, ◌∙◌, ap, true≢false, arith, fun_ext, list_any, slice_set, LockUnit, Tid, WorkId, work_eq, tid_eq, work_tells, tid_tells, Flag, FullIntention, Record, Free, Intention, Ready, Going, FlagRecord, WorkHead, StableState, Prepared, FlagState, made_by, AddReady, MarkGoing, RemoveWork, AddFlag, DropFlag, at_work, at_tid, gone_on, flag_state, record_in, is_prepared, is_intention, is_flag, Contents, state_in, works_in, flags_in, prepared_by, prepared_as, full_list, flag_by, with_record, IsIdlePut, IsFreeSlot, IsReadyPut, IsReadySlot, IsPreparedSlot, IsFlagPut, IsFlagSlot}
+use Rattle.jn_found.proofs.Common.{◌≡◌, ◌≢◌, ℕ, Bool, true, false, if◌then◌else◌, List, Option, None, Some, refl, sym, ◌∙◌, ap, true≢false, arith, fun_ext, list_any, slice_set, LockUnit, Tid, WorkId, work_eq, tid_eq, work_tells, tid_tells, Flag, FullIntention, Record, Free, Intention, Ready, Going, FlagRecord, WorkHead, StableState, Prepared, FlagState, made_by, AddReady, MarkGoing, RemoveWork, AddFlag, DropFlag, at_work, at_tid, gone_on, flag_state, record_in, is_prepared, is_intention, is_flag, Contents, state_in, works_in, flags_in, prepared_by, ready_work, full_list, flag_by, with_record, IsIdlePut, IsFreeSlot, IsReadyPut, IsReadySlot, IsPreparedSlot, IsFlagPut, IsFlagSlot}
 use Rattle.jn_found.proofs.Found.{found_once, none_at}
 use Rattle.jn_found.proofs.PoolLemmas.{works_written, work_kept, flags_kept, flags_written, idle_works, idle_flags}
 
@@ -43,11 +43,11 @@ module _ (c : Contents) (slot : ℕ) where
         → state_in (with_record c slot (Ready head n reads)) ≡ made_by (AddReady head list reads) (state_in c)
     ready_law head n list reads put =
         let w = head.work in
-        let written : works_in (slice_set c.pool slot (Ready head n reads)) c.blocks ≡ at_work (works_in c.pool c.blocks) w (Some (prepared_as head list reads false)) =
+        let written : works_in (slice_set c.pool slot (Ready head n reads)) c.blocks ≡ at_work (works_in c.pool c.blocks) w (Some (ready_work head list reads)) =
         works_written c.pool c.blocks slot (Ready head n reads) free_list (λ v k. refl) free.there w (none_else (is_prepared w) refl put.new) (λ v ne. free_work v) (λ v ne. work_other w v ne)
         ∙ ap (λ b. at_work (works_in c.pool c.blocks) w (prepared_by c.pool c.blocks w (if b then Some (Ready head n reads) else None))) (work_same w)
-        ∙ ap (λ l. at_work (works_in c.pool c.blocks) w (Some (prepared_as head l reads false))) put.list_stands in
-        same_state (state_in (with_record c slot (Ready head n reads))) (at_work (works_in c.pool c.blocks) w (Some (prepared_as head list reads false))) (flags_in c.pool) written
+        ∙ ap (λ l. at_work (works_in c.pool c.blocks) w (Some (ready_work head l reads))) put.list_stands in
+        same_state (state_in (with_record c slot (Ready head n reads))) (at_work (works_in c.pool c.blocks) w (Some (ready_work head list reads))) (flags_in c.pool) written
         (flags_kept c.pool slot (Ready head n reads) free_flag (λ t. refl))
 
     pub flag_law : (flag : Flag) → IsFlagPut c.pool slot flag → state_in (with_record c slot (FlagRecord flag)) ≡ made_by (AddFlag flag) (state_in c)
@@ -110,7 +110,7 @@ module _ (c : Contents) (slot : ℕ) where
       let w = head.work in
       let stands : is_prepared w (record_in c.pool slot) ≡ true = ap (is_prepared w) at.stands ∙ work_same w in
       let list = full_list c.pool c.blocks w n in
-      let before : works_in c.pool c.blocks w ≡ Some (prepared_as head list reads false) =
+      let before : works_in c.pool c.blocks w ≡ Some (ready_work head list reads) =
       ap (prepared_by c.pool c.blocks w) (found_once (is_prepared w) Free c.pool slot refl (λ j t. at.once j slot t stands) ∙ ap (λ b. if b then Some (record_in c.pool slot) else None) stands ∙ ap (λ (r : Record). Some r) at.stands) in
       same_state (state_in (with_record c slot (Going head n reads))) (at_work (works_in c.pool c.blocks) w (gone_on (works_in c.pool c.blocks w))) (flags_in c.pool)
       (works_written c.pool c.blocks slot (Going head n reads) (λ v k. prepared_list w v k (record_in c.pool slot) stands) (λ v k. refl) at.there w (λ j t. at.once j slot t stands) (λ v ne. prepared_other w v (record_in c.pool slot) stands ne) (λ v ne. work_other w v ne)

@@ -1,5 +1,5 @@
 -- What one record's change does to the works and flags of a pool.
-use Rattle.jn_found.proofs.Common.{◌≡◌, ◌≢◌, ◌⊎◌, inl, inr, ℕ, zero, suc, ◌<◌, Bool, true, false, not, ◌&&◌, ◌||◌, if◌then◌else◌, List, length, map, Option, None, Some, refl, sym, ◌∙◌, ap, subst, true≢false, arith, fun_ext, find_past, slice_set, nat_eq, option_and_then, find, list_any, Tid, WorkId, work_tells, tid_tells, Record, Free, Intention, Ready, Going, FlagRecord, Prepared, FlagState, at_work, at_tid, record_in, is_free, is_prepared, is_intention, is_flag, is_rubbish, stored_in, intention_of, with_first, intentions_from, full_list, intended, prepared_as, prepared_by, works_in, flag_by, flags_in}
+use Rattle.jn_found.proofs.Common.{◌≡◌, ◌≢◌, ◌⊎◌, inl, inr, ℕ, zero, suc, ◌<◌, Bool, true, false, not, ◌&&◌, ◌||◌, if◌then◌else◌, List, length, map, Option, None, Some, refl, sym, ◌∙◌, ap, subst, true≢false, arith, fun_ext, find_past, slice_set, nat_eq, option_and_then, find, list_any, Tid, WorkId, work_tells, tid_tells, Record, Free, Intention, Ready, Going, FlagRecord, Prepared, FlagState, at_work, at_tid, record_in, is_free, is_prepared, is_intention, is_flag, is_rubbish, stored_in, intention_of, with_first, intentions_from, full_list, intended, ready_work, prepared_by, works_in, flag_by, flags_in}
 use Rattle.jn_found.proofs.Found.{found_written, none_passes}
 
 -- a record at a slot gives way to another
@@ -25,8 +25,8 @@ prepared_same one two blocks work same None = refl
 prepared_same one two blocks work same (Some Free) = refl
 prepared_same one two blocks work same (Some (Intention w t k i)) = refl
 prepared_same one two blocks work same (Some (FlagRecord f)) = refl
-prepared_same one two blocks work same (Some (Ready head n reads)) = ap (λ list. Some (prepared_as head list reads false)) (same n)
-prepared_same one two blocks work same (Some (Going head n reads)) = ap (λ list. Some (prepared_as head list reads true)) (same n)
+prepared_same one two blocks work same (Some (Ready head n reads)) = ap (λ list. Some (ready_work head list reads)) (same n)
+prepared_same one two blocks work same (Some (Going head n reads)) = ap (λ list. Some (record (ready_work head list reads) { going = true })) (same n)
 
 -- what is written of one work at one slot
 module _ (pool : List Record) (blocks : ℕ → List ℕ) (slot : ℕ) (new : Record)

@@ -1,9 +1,8 @@
 -- What the pages of a server say, apart from their bytes, and the stable state that follows from it.
-use Rattle.std.specs.Prelude.{ℕ, zero, suc, nat_eq, Bool, true, false, ◌&&◌, List, [], ◌∷◌, map, slice_index_or, Option, Some, None, option_map, option_and_then}
+use Rattle.std.specs.Prelude.{ℕ, zero, suc, nat_eq, Bool, false, ◌&&◌, List, [], ◌∷◌, map, slice_index_or, Option, Some, None, option_map, option_and_then}
 use Rattle.std.specs.List.{find, list_any}
 use Rattle.jn_base.specs.declared.names.BlockNo.{BlockNo}
 use Rattle.jn_base.specs.declared.names.FileNo.{FileNo}
-use Rattle.jn_base.specs.declared.names.LockUnit.{LockUnit}
 use Rattle.jn_base.specs.declared.names.LockUnit.TheVariants.{File, Block}
 use Rattle.jn_base.specs.declared.names.Tid.{Tid}
 use Rattle.jn_base.specs.declared.names.WorkId.{WorkId}
@@ -17,8 +16,7 @@ use Rattle.jn_records.specs.declared.intention.What.{What}
 use Rattle.jn_records.specs.declared.intention.What.TheVariants.{Put}
 use Rattle.jn_records.specs.declared.record.Record.{Record}
 use Rattle.jn_records.specs.declared.record.Record.TheVariants.{Intention as IntentionRecord, Ready, Going, Flag as FlagRecord}
-use Rattle.jn_records.specs.declared.work.WorkHead.{WorkHead}
-use Rattle.jn_rows.specs.Stable.{StableState, Prepared, FlagState, flag_state}
+use Rattle.jn_rows.specs.Stable.{StableState, Prepared, FlagState, ready_work, flag_state, gone_on}
 use Rattle.jn_sets.specs.Pool.{is_prepared, is_intention, is_flag}
 
 -- the root's epoch, a record for each slot of the pool, a head for each place, and the block of each data page
@@ -90,12 +88,9 @@ stored_list pool work n = intentions_from pool work 0 n
 abbrev pub full_list : List Record → (ℕ → List ℕ) → WorkId → ℕ → List Intention
 full_list pool blocks work n = map (intended blocks) (stored_list pool work n)
 
-abbrev pub prepared_as : WorkHead → List Intention → List LockUnit → Bool → Prepared
-prepared_as head list reads going = record { tid = head.tid; client = head.client; list = list; reads = reads; going = going }
-
 abbrev pub prepared_by : List Record → (ℕ → List ℕ) → WorkId → Option Record → Option Prepared
-prepared_by pool blocks work (Some (Ready head n reads)) = Some (prepared_as head (full_list pool blocks work n) reads false)
-prepared_by pool blocks work (Some (Going head n reads)) = Some (prepared_as head (full_list pool blocks work n) reads true)
+prepared_by pool blocks work (Some (Ready head n reads)) = Some (ready_work head (full_list pool blocks work n) reads)
+prepared_by pool blocks work (Some (Going head n reads)) = gone_on (Some (ready_work head (full_list pool blocks work n) reads))
 prepared_by pool blocks work _ = None
 
 -- one work for each ready or going record, with its intentions by their places

@@ -5,12 +5,12 @@ use Rattle.jn_records.specs.declared.head.Head.{Head}
 use Rattle.jn_records.specs.declared.record.Record.{Record}
 use Rattle.jn_records.specs.Heads.{head_page, IsHead, FileFits}
 use Rattle.jn_records.specs.Pages.{root_page, IsRoot}
-use Rattle.jn_records.specs.StablePages.{Counts, page_count, head_place}
+use Rattle.jn_records.specs.StablePages.{Counts, page_count, head_place, root_by}
 use Rattle.jn_rows.specs.Stable.{Pick}
 use Rattle.jn_sets.specs.Pool.{HoldsRecords}
 use Rattle.jn_store.specs.Store.{StoreView, IsOnly}
 use Rattle.jn_found.specs.Contents.{Contents, head_in}
-use Rattle.jn_found.specs.Pages.{root_by, block_on, pages_by}
+use Rattle.jn_found.specs.Pages.{block_on, pages_by}
 use Rattle.jn_found.specs.Puts.{PagePut, RootPut, RecordPut, HeadPut}
 
 -- the one candidate of a place of the heads is the page of this head

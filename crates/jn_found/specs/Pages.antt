@@ -10,7 +10,7 @@ use Rattle.jn_records.specs.Heads.{head_page, head_at, IsHead, FileFits}
 use Rattle.jn_records.specs.Pages.{root_page, IsRoot}
 use Rattle.jn_records.specs.Reading.{root_at}
 use Rattle.jn_records.specs.Records.{record_at}
-use Rattle.jn_records.specs.StablePages.{Counts, Pages, slot_place, head_place, data_place, files_of_pages}
+use Rattle.jn_records.specs.StablePages.{Counts, Pages, slot_place, head_place, data_place, files_of_pages, root_by}
 use Rattle.jn_rows.specs.Stable.{StableState, Pick}
 use Rattle.jn_sets.specs.Pool.{IsRecordPage}
 use Rattle.jn_store.specs.Store.{StoreView}
@@ -82,9 +82,6 @@ abbrev pub found_on : Counts → StoreView → Pick → StableState
 found_on g v c = state_of g (pages_by v c)
 
 -- ---- pages of the format
-
-abbrev pub root_by : ServerNo → Counts → ℕ → Root
-root_by server g epoch = record { server = server; pool = g.pool; heads = g.heads; leaves = g.leaves; epoch = epoch }
 
 abbrev pub IsRootPage : ServerNo → Counts → List ℕ → Type 0
 IsRootPage server g page = (epoch : ℕ) × IsRoot (root_by server g epoch) × (page ≡ root_page (root_by server g epoch))

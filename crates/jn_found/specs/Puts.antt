@@ -6,13 +6,13 @@ use Rattle.jn_records.specs.declared.record.Record.{Record}
 use Rattle.jn_records.specs.Heads.{head_page, IsHead, FileFits}
 use Rattle.jn_records.specs.Pages.{root_page, IsRoot}
 use Rattle.jn_records.specs.Records.{record_page}
-use Rattle.jn_records.specs.StablePages.{Counts, page_count, slot_place, head_place, data_place}
+use Rattle.jn_records.specs.StablePages.{Counts, page_count, slot_place, head_place, data_place, root_by}
 use Rattle.jn_rows.specs.Stable.{Pick, StableState}
 use Rattle.jn_sets.specs.Pool.{IsRecord}
 use Rattle.jn_store.specs.Store.{StoreView, StorePut, IsClean, IsWholePage, Shrinks}
 use Rattle.jn_found.specs.Contents.{Contents, state_in}
 use Rattle.jn_found.specs.Changes.{with_record, with_head, with_block, with_epoch}
-use Rattle.jn_found.specs.Pages.{root_by, contents_of, pages_by, IsOfFormat}
+use Rattle.jn_found.specs.Pages.{contents_of, pages_by, IsOfFormat}
 use Rattle.jn_found.specs.Recoverable.{is_named, IsConsistent}
 
 pub data PagePut : Type 0 where

@@ -13,7 +13,7 @@ use Rattle.jn_records.specs.declared.record.Record.TheVariants.{Intention as Int
 use Rattle.jn_records.specs.StablePages.{Counts, Pages, page_count, data_place}
 use Rattle.jn_rows.specs.Stable.{Pick}
 use Rattle.jn_sets.specs.Pool.{record_in, is_prepared, is_intention, is_flag}
-use Rattle.jn_storage.specs.Storage.{IsLoadable}
+use Rattle.jn_storage.specs.Orderly.{IsLoadable}
 use Rattle.jn_store.specs.Store.{StoreView, IsClean}
 use Rattle.jn_found.specs.Contents.{Contents, head_in, is_head_of, address_at, intention_of, heads_name, works_name, stored_list, state_in}
 use Rattle.jn_found.specs.Pages.{contents_of, pages_by, IsOfFormat}

@@ -5,7 +5,7 @@ use Rattle.jn_records.specs.declared.head.Head.{Head}
 use Rattle.jn_records.specs.declared.record.Record.{Record}
 use Rattle.jn_records.specs.StablePages.{Counts}
 use Rattle.jn_rows.specs.Stable.{StableState, Pick, Change, made_by, stable, Changed, Unchanged}
-use Rattle.jn_storage.specs.Storage.{IsLoadable}
+use Rattle.jn_storage.specs.Orderly.{IsLoadable}
 use Rattle.jn_store.specs.Store.{StoreView}
 use Rattle.jn_found.specs.Pages.{found_on}
 use Rattle.jn_found.specs.Puts.{PagePut, IsPagePut, PutStep}

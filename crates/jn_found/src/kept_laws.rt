@@ -13,7 +13,7 @@ ghost use Rattle.jn_records.specs.declared.record.Record.TheVariants.{Free, Read
 ghost use Rattle.jn_records.specs.declared.work.WorkHead.{WorkHead};
 ghost use Rattle.jn_records.specs.StablePages.{Counts};
 ghost use Rattle.jn_rows.specs.Stable.{made_by, AddReady, MarkGoing, CarryOut, RemoveWork, AddFlag, DropFlag};
-ghost use Rattle.jn_storage.specs.Storage.{IsLoadable};
+ghost use Rattle.jn_storage.specs.Orderly.{IsLoadable};
 ghost use Rattle.jn_found.specs.Contents.{Contents, state_in, intended};
 ghost use Rattle.jn_found.specs.Changes.{with_record, with_head, with_block, with_epoch, IsIdlePut, IsReadyPut, IsReadySlot, IsPreparedSlot, IsFlagPut, IsFlagSlot, IsHeadPut};
 ghost use Rattle.jn_found.specs.Recoverable.{IsConsistent, Intends, HasAt, IsWholeWork, is_named};

@@ -5,8 +5,8 @@ ghost use Rattle.jn_records.specs.declared.head.Head.{Head};
 ghost use Rattle.jn_records.specs.declared.record.Record.{Record};
 ghost use Rattle.jn_records.specs.declared.record.Record.TheVariants.{Free};
 ghost use Rattle.jn_records.specs.Pages.{root_page};
-ghost use Rattle.jn_records.specs.Sound.{Image, IsSound, root_of};
-ghost use Rattle.jn_records.specs.StablePages.{Counts, files_of_pages};
+ghost use Rattle.jn_records.specs.Sound.{Image, IsSound};
+ghost use Rattle.jn_records.specs.StablePages.{Counts, root_by, files_of_pages};
 ghost use Rattle.jn_sets.specs.Pool.{record_in};
 ghost use Rattle.jn_store.specs.Store.{StoreView, IsWholePage};
 ghost use Rattle.jn_found.specs.Images.{CountsFit, IsStoreOf, IsFresh, IsImage};
@@ -15,7 +15,7 @@ ghost use Rattle.jn_found.specs.Standing.{IsStanding, standing_state};
 /// From the pages of a sound image a recovery may begin. By each pick it finds the image's files, no work and no flag.
 pub fn a_sound_image_is_found()
     ensures { (server : ServerNo) (m : Image) (v : StoreView) → IsSound server m → CountsFit server m.counts → IsStoreOf m v
-        → (epoch : ℕ) → epoch < 2 ^ 32 → m.bytes 0 ≡ root_page (root_of m epoch) → IsFresh server m.counts epoch (files_of_pages m.counts m.bytes) v }
+        → (epoch : ℕ) → epoch < 2 ^ 32 → m.bytes 0 ≡ root_page (root_by m.server m.counts epoch) → IsFresh server m.counts epoch (files_of_pages m.counts m.bytes) v }
 {}
 
 /// Where no record stands and each page is good in both its halves, the pages are those of a sound image, with the files that are found.

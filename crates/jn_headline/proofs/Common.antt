@@ -1,6 +1,6 @@
 -- The names from below that these proofs cite, passed on from one place. Declares nothing.
 pub use Rattle.std.proofs.Common.{◌≡◌, ◌⊎◌, inl, ℕ, ◌<◌, Bool, true, false, List, [], ◌∷◌, ◌++◌, append-nil, length, drop, Option, Some, None, is_some, refl, sym, ◌∙◌, ap, subst, zero, suc, ◌+◌, ◌≤◌, arith, inr, append_assoc, ◌≢◌}
-pub use Rattle.std.specs.Prelude.{slice_get, if◌then◌else◌, ◌&&◌, ◌||◌, nat_lt, map, not, option_and_then}
+pub use Rattle.std.specs.Prelude.{slice_get, if◌then◌else◌, ◌&&◌, ◌||◌, nat_lt, map, not}
 pub use Rattle.jn_base.specs.declared.names.ServerNo.{ServerNo}
 pub use Rattle.jn_base.specs.declared.names.Party.TheVariants.{Server, Client}
 pub use Rattle.jn_msgs.specs.declared.message.Message.{Message}
@@ -9,14 +9,14 @@ pub use Rattle.jn_device.specs.Device.{DeviceState}
 pub use Rattle.jn_report.specs.declared.line.Text.{Text}
 pub use Rattle.jn_report.specs.declared.line.Line.{Line}
 pub use Rattle.jn_aside.specs.Aside.{plain, is_show, is_aside}
-pub use Rattle.jn_system.specs.WholeSystem.World.{World, Memory, opening, commits_in, servers_from, at_server, committed_in}
-pub use Rattle.jn_system.specs.WholeSystem.Steps.{Step, Dismiss, after, run, IsStep, Work, IsRun, NextEvent, Tell, StopDelivery, StopWork, StopRestart, Deliver, Nudge, Again, Crash, CloseClients, Restart, at_memory, handed, work, works, nudge, crash, close_clients, restart, took, handing, working, AreNames, Narrow, narrow, tid_before}
+pub use Rattle.jn_system.specs.WholeSystem.World.{World, Memory, opening, commits_in, servers_from, AreFilesOf, at_server, clients_from, committed_in}
+pub use Rattle.jn_system.specs.WholeSystem.Steps.{Step, Dismiss, after, run, IsStep, Work, IsRun, NextEvent, Tell, StopDelivery, StopWork, StopRestart, Deliver, Nudge, Again, Crash, CloseClients, Restart, at_memory, handed, work, works, nudge, crash, close_clients, restart, took, handing, working, Narrow, narrow, AreNames, tid_before}
 pub use Rattle.jn_system_settling.specs.Settling.Course.{Course, go, go_on, newly_sent, numbered, still_waiting, opening_course}
 pub use Rattle.jn_system_reports.specs.Reporting.Reported.{Item, steps_of, world_of, lines_of, Does, told_by, events_of, IsReported, Act, Refuses, Tells, Shows, steps_in, may_do, may_act, IsUnder, AreUnder, at_event}
-pub use Rattle.jn_system_reports.specs.Reporting.Ending.{at_end, told_by_steps, Comeback, Ending, restarts_from, steps_at_end, settles, IsEnding, texts_from, world_at_end, ArePrinted, counted, IsWholeRun, all_lines, AreFilesOf, lines_to_end}
-pub use Rattle.jn_written.specs.Chances.{Setup, Chance}
+pub use Rattle.jn_system_reports.specs.Reporting.Ending.{at_end, told_by_steps, Comeback, Ending, restarts_from, steps_at_end, settles, IsEnding, texts_from, world_at_end, ArePrinted, counted, IsWholeRun, all_lines, lines_to_end}
+pub use Rattle.jn_written.specs.Chances.{Setup, Chance, prints_found, works_found, tids_found}
 pub use Rattle.jn_written.specs.Tasks.{Task, Dismisses, InSchedule, AtEnd, CutShort, Stage, State, next_at, begun, when_at, Rests, Acts, ComesUp, GoesDown, ClosesClients, CountsCommits}
-pub use Rattle.jn_written.specs.Devices.{Befalls, Devices, IsCalled, IsRecovery, IsServed, Alone, AreFound, IsLookedOver, IsScrubbed}
+pub use Rattle.jn_written.specs.Devices.{Befalls, Devices, IsCalled, IsRecovery, IsServed, Alone, IsLookedOver, IsScrubbed}
 pub use Rattle.jn_written.specs.Events.{ending, deed_of, dismissing, first_busy, next_event, resting, servers_of, settling, coming_up, printing, counting}
 pub use Rattle.jn_written.specs.Steps.{own_texts, is_too_much, come_to, cut_short, made, done, outside_texts, texts_of, message_texts, traced}
 pub use Rattle.jn_written.specs.Runs.{none, more, Moment, Leads, DoesStep}
@@ -26,19 +26,18 @@ pub use Rattle.jn_written.specs.Kinds.{is_up, event_after}
 pub use Rattle.std.proofs.lemmas.Bool.Decides.{nat_tests}
 pub use Rattle.jn_rows.specs.Outcomes.{RowOutcome, Sent}
 pub use Rattle.jn_rows.specs.Stable.{StableState, Change, stable, Pick, Prepared, FlagState, at_work, at_tid}
-pub use Rattle.jn_system.specs.WholeSystem.Servers.{Room, server_step, server_row, of_coordinator, restored}
-pub use Rattle.jn_system_settling.specs.Settling.Settle.{is_busy as has_going, settled, until_rest, ask_again, first_busy as first_going, next_step, clients_from, Chances, onward}
+pub use Rattle.jn_system.specs.WholeSystem.Servers.{Room, server_step, is_busy as has_going, server_row, of_coordinator, restored}
 pub use Rattle.jn_rests.proofs.BusyServers.{goes, nothing, erased-same, first-is, first-none}
-pub use Rattle.jn_written.specs.Deeds.{is_busy, is_busy_with, Deed, blocks_from, served, room, no_room, delivered, delivered_at, worked, working_steps, Reads, stopped_idle, shown, showing, scrubbed, Cleans, crashed_at, recovers, recovering, recovered, given_up, is_used_up, pick_read, tells}
+pub use Rattle.jn_written.specs.Deeds.{is_busy, is_busy_with, Deed, served, room, no_room, delivered, delivered_at, worked, working_steps, Reads, stopped_idle, shown, showing, scrubbed, Cleans, crashed_at, recovers, recovering, recovered, given_up, is_used_up, pick_read, tells}
 pub use Rattle.jn_system_settling.proofs.Settling.Settling.{on-world}
-pub use Rattle.jn_headline.specs.CutReports.Cut.{is_of_end, is_print, CutEnd, IsCutEnd, IsTrueSoFar, cut_lines}
+pub use Rattle.jn_headline.specs.CutReports.Cut.{is_of_end, is_print, CutEnd, IsCutEnd, cut_lines}
 pub use Rattle.jn_written.proofs.Telling.{both, adds, first, second}
 pub use Rattle.std.proofs.lemmas.List.{length-map, map-append}
 pub use Rattle.jn_schedule.specs.declared.Event.{Event}
 pub use Rattle.jn_report.specs.declared.line.When.TheVariants.{Event as AtEvent, End}
 pub use Rattle.jn_serial.specs.Lines.{lines_at, when_eq, history_of, commit_in, has_tid}
 pub use Rattle.jn_serial.specs.Follows.{nothing_asked, Follows, is_answer}
-pub use Rattle.jn_serial.specs.Shown.{ShownSoFar}
+pub use Rattle.jn_serial.specs.Shown.{ShownSoFar, Shown}
 pub use Rattle.jn_serial.proofs.CausedGrowth.{Caused-events}
 pub use Rattle.jn_serial.proofs.Growth.{lines_at-outside}
 pub use Rattle.jn_system_reports.proofs.Reporting.Lists.{Each, each-append, In, in-first, in-second, in-either, each-in}
@@ -49,23 +48,19 @@ pub use Rattle.jn_system_reports.proofs.Causing.Ends.{IsOfEnd, IsFinal, dismisse
 pub use Rattle.jn_system_reports.proofs.Telling.Reports.{IsCalm, texts-more, end-as-told, beginning-told, run-as-told, steps-append}
 pub use Rattle.jn_system_reports.proofs.Showing.Follows.{follows-to-end, counted-follows}
 pub use Rattle.jn_aside.proofs.Silent.{silent-agrees, silent-shown, silent-follows}
-pub use Rattle.jn_system.specs.WholeSystem.Printing.{Printed, FileThere, PageStored, UnitLocked, print_unit, prints_in, print_files, file_before}
+pub use Rattle.jn_headline.specs.Headline.{IsTrueSoFar, IsOfItsCommits, IsTrueOfBegun, but_shows}
+pub use Rattle.jn_system.specs.WholeSystem.Printing.{Printed, FileThere, PageStored, UnitLocked}
 pub use Rattle.jn_system_reports.specs.Reporting.Printing.{text_printed, IsPrinted}
 pub use Rattle.jn_base.specs.declared.names.ClientNo.{ClientNo}
-pub use Rattle.jn_base.specs.declared.names.FileNo.{FileNo}
-pub use Rattle.jn_base.specs.declared.names.BlockNo.{BlockNo}
-pub use Rattle.jn_base.specs.declared.names.Tid.{Tid}
 pub use Rattle.jn_base.specs.declared.names.LockUnit.{LockUnit}
-pub use Rattle.jn_base.specs.declared.names.LockUnit.TheVariants.{Block, File}
 pub use Rattle.jn_rows.specs.Worker.{commit_holder}
+pub use Rattle.jn_system_settling.specs.Settling.Settle.{settled, until_rest, ask_again, first_busy as first_going, next_step, Chances, onward}
 pub use Rattle.jn_system_settling.specs.AtRest.Settled.{AreUp}
 pub use Rattle.jn_system_settling.specs.Closing.Ending.{IsEmpty, Start, restarts, end_steps, without_messages, ended, IsClosed, Leaves}
 pub use Rattle.jn_rests.specs.Rests.{ComeToRest, chances_of, asked, ComesNext, AreNext}
 pub use Rattle.jn_rests.proofs.Loops.{reached, in-turn}
-pub use Rattle.jn_headline.specs.WholeReports.Whole.{IsSettledEnd, IsOfItsCommits, course_at_end}
-pub use Rattle.jn_system_reports.proofs.Showing.Ends.{end-agrees, end-whole, end-free}
-pub use Rattle.jn_headline.specs.Headline.{IsTrueOfBegun, but_shows}
-pub use Rattle.jn_base.specs.Names.{server_eq, file_eq, tid_eq, work_eq}
+pub use Rattle.jn_headline.specs.WholeReports.Whole.{IsSettledEnd, course_at_end}
+pub use Rattle.jn_base.specs.declared.names.Tid.{Tid}
+pub use Rattle.jn_base.specs.Names.{server_eq, tid_eq, work_eq, file_eq}
 pub use Rattle.jn_base.proofs.Tells.{server_tells, work_tells, tid_tells}
-pub use Rattle.jn_records.specs.StablePages.{Counts, Pages, block_behind, address_in, block_in, head_of, files_of_pages}
 pub use Rattle.jn_aside.proofs.Plain.{filter-aside, plain-append, plain-none, history-plain, same-of}

@@ -1,5 +1,6 @@
 -- What a run comes to whose schedule is retold.
-use Rattle.jn_headline.proofs.Common.{◌≡◌, ◌⊎◌, inl, inr, ℕ, ◌+◌, ◌≤◌, List, [], append-nil, length, sym, ◌∙◌, ap, subst, arith, length-map, ServerNo, AllFiles, Event, plain, opening, Item, events_of, world_of, IsReported, Ending, IsWholeRun, AreFilesOf, all_lines, run-follows, end-causes, end-told, end-agrees, end-whole, end-free, follows-to-end, counted-follows, IsSettledEnd, IsOfItsCommits, CutEnd, IsCutEnd, IsTrueSoFar, cut_lines, Setup, AtEnd, Moment, IsRetold, IsRetoldInPart, IsTrueOfBegun}
+use Rattle.jn_headline.proofs.Common.{◌≡◌, ◌⊎◌, inl, inr, ℕ, ◌+◌, ◌≤◌, List, [], append-nil, length, sym, ◌∙◌, ap, subst, arith, length-map, ServerNo, AllFiles, Event, plain, opening, Item, events_of, world_of, IsReported, Ending, IsWholeRun, AreFilesOf, all_lines, run-follows, end-causes, end-told, follows-to-end, counted-follows, IsSettledEnd, IsOfItsCommits, CutEnd, IsCutEnd, IsTrueSoFar, cut_lines, Setup, AtEnd, Moment, IsRetold, IsRetoldInPart, IsTrueOfBegun, Shown}
+use Rattle.jn_system_reports.proofs.Showing.Ends.{end-agrees, end-whole, end-free}
 use Rattle.jn_headline.proofs.WholeReports.Outcomes.{told-to-end}
 use Rattle.jn_headline.proofs.WholeReports.Whole.{end-holds}
 use Rattle.jn_headline.proofs.Numbered.{items-begin}
@@ -33,15 +34,21 @@ module _ (x : Setup) (schedule : List Event) (files : AllFiles) (now : Moment) (
 
 -- ---- what holds of its lines
 
-of-commits : (servers : ℕ) (files : AllFiles) (epochs : ServerNo → ℕ) (items : List Item) (e : Ending) → servers ≤ 8 → AreFilesOf servers files → IsWholeRun servers files epochs items e → IsSettledEnd servers e (world_of items (opening servers files epochs))
+pub of-commits : (servers : ℕ) (files : AllFiles) (epochs : ServerNo → ℕ) (items : List Item) (e : Ending) → servers ≤ 8 → AreFilesOf servers files → IsWholeRun servers files epochs items e → IsSettledEnd servers e (world_of items (opening servers files epochs))
     → IsOfItsCommits files (events_of items) (all_lines servers files epochs items e)
 of-commits servers files epochs items e few of h rest = record {
-  agrees = (end-agrees servers files epochs items e h.reported h.ending).agrees;
-  shown = end-whole servers files epochs items e h.reported h.ending of (end-free servers files epochs items e h.reported h.ending (end-holds servers few files epochs items e h.reported h.ending rest));
-  told = told-to-end files epochs servers items e h.reported h.ending;
-  caused = end-causes files epochs servers items e h.reported h.ending;
-  follows = counted-follows _ _ (follows-to-end _ _ _ (end-told servers e (world_of items (opening servers files epochs)) h.ending.settling) (run-follows files epochs servers items h.reported));
+  so_far = record {
+    agrees = (end-agrees servers files epochs items e h.reported h.ending).agrees;
+    shown = shows.so_far;
+    told = told-to-end files epochs servers items e h.reported h.ending;
+    caused = end-causes files epochs servers items e h.reported h.ending;
+    follows = counted-follows _ _ (follows-to-end _ _ _ (end-told servers e (world_of items (opening servers files epochs)) h.ending.settling) (run-follows files epochs servers items h.reported));
+  };
+  at_end = shows.at_end;
 }
+  where
+    shows : Shown files (events_of items) (all_lines servers files epochs items e)
+    shows = end-whole servers files epochs items e h.reported h.ending of (end-free servers files epochs items e h.reported h.ending (end-holds servers few files epochs items e h.reported h.ending rest))
 
 module _ (x : Setup) (schedule : List Event) (files : AllFiles) (now : Moment) (r : IsRetold x schedule files now) where
   -- all its events have begun
@@ -53,7 +60,7 @@ module _ (x : Setup) (schedule : List Event) (files : AllFiles) (now : Moment) (
 
   cut-so-far : PartOf x.servers files r.epochs r.items now → IsTrueOfBegun files schedule now.state.course.world.event now.state.lines
   cut-so-far part = none-silent files schedule [] schedule now.state.course.world.event now.state.lines (append-nil schedule) (all-begun part.event)
-      (subst (λ (es : List Event). IsTrueSoFar files es now.state.lines) r.events (part-true x.servers files r.epochs r.items r.told.reported now part))
+      (subst (λ (es : List Event). IsTrueSoFar files es es now.state.lines) r.events (part-true x.servers files r.epochs r.items r.told.reported now part))
 
   pub end-so-far : (now.state.stage ≡ AtEnd → now.state.tasks ≡ [] → ⊥) → IsTrueOfBegun files schedule now.state.course.world.event now.state.lines
   end-so-far unfinished = by (comes-to x schedule files now r)
@@ -82,7 +89,7 @@ module _ (x : Setup) (schedule : List Event) (files : AllFiles) (now : Moment) (
           → IsTrueOfBegun files schedule now.state.course.world.event now.state.lines
       by (inl part) = cut-so-far x schedule files now r part
       by (inr whole) = let t = of-whole whole in none-silent files schedule [] schedule now.state.course.world.event now.state.lines (append-nil schedule) (all-begun x schedule files now r whole.event)
-          (record { agrees = t.agrees; shown = t.shown.so_far; told = t.told; caused = t.caused; follows = t.follows })
+          t.so_far
 
 pub part-so-far : (x : Setup) (schedule : List Event) (files : AllFiles) (now : Moment) → IsRetoldInPart x schedule files now → IsTrueOfBegun files schedule now.state.course.world.event now.state.lines
 part-so-far x schedule files now r = begun-aside files schedule now.state.course.world.event _ now.state.lines (sym r.lines) (schedule-true x.servers files r.epochs r.items r.reported r.begun r.rest schedule now.state.course.world.event r.events r.one r.event)

@@ -11,28 +11,21 @@ use Rattle.jn_headline.proofs.Ended.{PartOf, dismissed, dismissal-untold}
 
 -- ---- lines that are one but for those aside
 
-module _ (files : AllFiles) (events : List Event) (a b : List Line) (same : plain a ≡ plain b) where
-  pub true-aside : IsTrueSoFar files events a → IsTrueSoFar files events b
-  true-aside t = record {
-    agrees = agrees-aside events a b same files t.agrees;
-    shown = so-far-aside files events a b same t.shown;
-    told = told-aside a b same t.told;
-    caused = caused-aside events a b same t.caused;
-    follows = follows-aside events a b same t.follows;
-  }
+pub true-aside : (files : AllFiles) (events shows : List Event) (a b : List Line) → plain a ≡ plain b → IsTrueSoFar files events shows a → IsTrueSoFar files events shows b
+true-aside files events shows a b same t = record {
+  agrees = agrees-aside events a b same files t.agrees;
+  shown = so-far-aside files shows a b same t.shown;
+  told = told-aside a b same t.told;
+  caused = caused-aside events a b same t.caused;
+  follows = follows-aside events a b same t.follows;
+}
 
-  pub whole-aside : IsOfItsCommits files events a → IsOfItsCommits files events b
-  whole-aside t = record {
-    agrees = agrees-aside events a b same files t.agrees;
-    shown = record { so_far = so-far-aside files events a b same t.shown.so_far; at_end = at-end-aside files events a b same t.shown.at_end };
-    told = told-aside a b same t.told;
-    caused = caused-aside events a b same t.caused;
-    follows = follows-aside events a b same t.follows;
-  }
+pub whole-aside : (files : AllFiles) (events : List Event) (a b : List Line) → plain a ≡ plain b → IsOfItsCommits files events a → IsOfItsCommits files events b
+whole-aside files events a b same t = record { so_far = true-aside files events events a b same t.so_far; at_end = at-end-aside files events a b same t.at_end }
 
 -- ---- all that began is told
 
-pub none-silent : (files : AllFiles) (begun rest schedule : List Event) (count : ℕ) (lines : List Line) → begun ++ rest ≡ schedule → length begun ≡ count → IsTrueSoFar files begun lines → IsTrueOfBegun files schedule count lines
+pub none-silent : (files : AllFiles) (begun rest schedule : List Event) (count : ℕ) (lines : List Line) → begun ++ rest ≡ schedule → length begun ≡ count → IsTrueSoFar files begun begun lines → IsTrueOfBegun files schedule count lines
 none-silent files begun rest schedule count lines e n t = record {
   told_of = begun;
   silent = [];
@@ -41,11 +34,13 @@ none-silent files begun rest schedule count lines e n t = record {
   one = omega arith;
   begun = omega (arith, n);
   untold = λ z k. absurd (none-left z k);
-  agrees = subst (λ (es : List Event). Agrees files es lines) (sym (append-nil begun)) t.agrees;
-  shown = subst (λ (es : List Event). ShownSoFar files es lines) (sym (append-nil begun)) t.shown;
-  told = t.told;
-  caused = subst (λ (es : List Event). Caused es lines) (sym (append-nil begun)) t.caused;
-  follows = subst (λ (es : List Event). Follows es lines) (sym (append-nil begun)) t.follows;
+  so_far = record {
+    agrees = subst (λ (es : List Event). Agrees files es lines) (sym (append-nil begun)) t.agrees;
+    shown = subst (λ (es : List Event). ShownSoFar files es lines) (sym (append-nil begun)) t.shown;
+    told = t.told;
+    caused = subst (λ (es : List Event). Caused es lines) (sym (append-nil begun)) t.caused;
+    follows = subst (λ (es : List Event). Follows es lines) (sym (append-nil begun)) t.follows;
+  };
 }
   where
     none-left : (z : Event) → [] ≡ z ∷ [] → ⊥
@@ -61,8 +56,8 @@ module _ (servers : ℕ) (files : AllFiles) (epochs : ServerNo → ℕ) (items :
   part-lines = part.lines ∙ ap (λ (ts : List Text). plain (lines_of items (opening servers files epochs) ++ at_end (ts ++ told_by_steps part.steps (dismissed (world_of items (opening servers files epochs))).world ++ part.printed))) (sym (dismissal-untold (world_of items (opening servers files epochs))))
 
 module _ (servers : ℕ) (files : AllFiles) (epochs : ServerNo → ℕ) (items : List Item) (reported : IsReported items (opening servers files epochs)) where
-  pub part-true : (now : Moment) → PartOf servers files epochs items now → IsTrueSoFar files (events_of items) now.state.lines
-  part-true now part = true-aside files (events_of items) _ now.state.lines (sym (part-lines servers files epochs items now part))
+  pub part-true : (now : Moment) → PartOf servers files epochs items now → IsTrueSoFar files (events_of items) (events_of items) now.state.lines
+  part-true now part = true-aside files (events_of items) (events_of items) _ now.state.lines (sym (part-lines servers files epochs items now part))
       (cut-true servers files epochs items (record { steps = part.steps; printed = part.printed }) reported (part-is-cut servers files epochs items now part))
 
   -- ---- within its schedule
@@ -95,11 +90,13 @@ module _ (servers : ℕ) (files : AllFiles) (epochs : ServerNo → ℕ) (items :
     one = omega arith;
     begun = last-number count n;
     untold = λ z k. at-last count n;
-    agrees = t.agrees;
-    shown = subst (λ (b : Bool). ShownSoFar files (events_of items ++ (if not b then e ∷ [] else [])) ls) (sym other) t.shown;
-    told = t.told;
-    caused = t.caused;
-    follows = t.follows;
+    so_far = record {
+      agrees = t.agrees;
+      shown = subst (λ (b : Bool). ShownSoFar files (events_of items ++ (if not b then e ∷ [] else [])) ls) (sym other) t.shown;
+      told = t.told;
+      caused = t.caused;
+      follows = t.follows;
+    };
   }
   last-silent e rest schedule count is n true show = let t = run-true servers files epochs items reported in record {
     told_of = events_of items;
@@ -109,11 +106,13 @@ module _ (servers : ℕ) (files : AllFiles) (epochs : ServerNo → ℕ) (items :
     one = omega arith;
     begun = last-number count n;
     untold = λ z k. at-last count n;
-    agrees = silent-agrees (events_of items) e ls t.follows files t.agrees;
-    shown = subst (λ (b : Bool). ShownSoFar files (events_of items ++ (if not b then e ∷ [] else [])) ls) (sym show) (subst (λ (es : List Event). ShownSoFar files es ls) (sym (append-nil (events_of items))) t.shown);
-    told = t.told;
-    caused = Caused-events (events_of items) (e ∷ []) ls t.caused;
-    follows = silent-follows (events_of items) e ls t.follows nothing-told;
+    so_far = record {
+      agrees = silent-agrees (events_of items) e ls t.follows files t.agrees;
+      shown = subst (λ (b : Bool). ShownSoFar files (events_of items ++ (if not b then e ∷ [] else [])) ls) (sym show) (subst (λ (es : List Event). ShownSoFar files es ls) (sym (append-nil (events_of items))) t.shown);
+      told = t.told;
+      caused = Caused-events (events_of items) (e ∷ []) ls t.caused;
+      follows = silent-follows (events_of items) e ls t.follows nothing-told;
+    };
   }
 
   pub schedule-true : (begun rest schedule : List Event) (count : ℕ) → events_of items ++ begun ++ rest ≡ schedule → length begun < 2 → count ≡ length items + length begun → IsTrueOfBegun files schedule count (lines_of items (opening servers files epochs))
@@ -133,9 +132,5 @@ begun-aside files schedule count a b same t = record {
   one = t.one;
   begun = t.begun;
   untold = λ e k. sym (filter-aside (λ w. when_eq w (AtEvent count)) a b same) ∙ t.untold e k;
-  agrees = agrees-aside (t.told_of ++ t.silent) a b same files t.agrees;
-  shown = so-far-aside files (t.told_of ++ but_shows t.silent) a b same t.shown;
-  told = told-aside a b same t.told;
-  caused = caused-aside (t.told_of ++ t.silent) a b same t.caused;
-  follows = follows-aside (t.told_of ++ t.silent) a b same t.follows;
+  so_far = true-aside files (t.told_of ++ t.silent) (t.told_of ++ but_shows t.silent) a b same t.so_far;
 }

@@ -1,5 +1,5 @@
 -- What each of an end's tasks does that makes a step.
-use Rattle.jn_headline.proofs.Common.{◌≡◌, ◌≢◌, ◌⊎◌, inl, inr, ℕ, zero, suc, ◌+◌, ◌<◌, ◌≤◌, Bool, true, false, List, [], ◌∷◌, ◌++◌, append_assoc, append-nil, length, Option, Some, None, is_some, refl, sym, ◌∙◌, ap, subst, arith, map, if◌then◌else◌, list_all, ServerNo, ClientNo, Client, Server, server_eq, server_tells, DeviceState, Text, Line, Pick, World, Memory, servers_from, Step, Again, Nudge, Crash, Restart, CloseClients, after, run, crash, Course, go_on, Comeback, restarts_from, Setup, Chance, Task, Acts, ComesUp, GoesDown, ClosesClients, Deed, crashed_at, served, recovers, recovering, recovered, given_up, is_used_up, pick_read, Befalls, IsServed, IsRecovery, Alone, is_up, is_too_much, come_to, Moment, Leads, deed_of}
+use Rattle.jn_headline.proofs.Common.{◌≡◌, ◌≢◌, ◌⊎◌, inl, inr, ℕ, zero, suc, ◌+◌, ◌<◌, ◌≤◌, Bool, true, false, List, [], ◌∷◌, ◌++◌, append_assoc, append-nil, length, Option, Some, None, is_some, refl, sym, ◌∙◌, ap, subst, arith, map, if◌then◌else◌, list_all, ServerNo, ClientNo, Client, Server, server_eq, server_tells, DeviceState, Text, Line, Pick, World, Memory, servers_from, Step, Again, Nudge, Crash, Restart, CloseClients, after, run, crash, Course, go_on, Comeback, restarts_from, Setup, Chance, Task, Acts, ComesUp, GoesDown, ClosesClients, Deed, crashed_at, recovers, recovering, recovered, given_up, is_used_up, pick_read, Befalls, IsServed, IsRecovery, Alone, is_up, is_too_much, come_to, Moment, Leads, deed_of, works_found, tids_found}
 use Rattle.jn_base.specs.declared.device.Outside.{Outside}
 use Rattle.jn_schedule.specs.declared.Event.TheVariants as events
 use Rattle.jn_report.specs.declared.line.Text.TheVariants as says
@@ -117,18 +117,18 @@ module _ (x : Setup) (ups : List Text) (are_up : list_all is_up ups ≡ true) (s
     was = m.state.course.world
 
     abbrev raised : Step
-    raised = Restart q (pick_read h) h.works h.tids
+    raised = Restart q (pick_read h) (works_found h.found) (tids_found h.found)
 
     restarts : n.state ≡ come_to x h (recovers q (raised ∷ [])) (go_on (raised ∷ []) m.state.course) (record m.state { tasks = rest }) → Befalls x h (recovers q (raised ∷ [])) was m.devices n.devices → CameUp now steps q rest
     restarts state b = goes b.used
       where
         goes : Alone q (IsRecovery (x.counts q) h (is_some ((after raised was).memory q))) m.devices n.devices → CameUp now steps q rest
         goes a = let r = recovered-calm (x.counts q) h (is_some ((after raised was).memory q)) (m.devices q) (n.devices q) a.its (came.quiet.told q below) (came.quiet.waiting q below) in record {
-          back = record { pick = pick_read h; works = h.works; tids = h.tids };
+          back = record { pick = pick_read h; works = works_found h.found; tids = tids_found h.found };
           past = record {
             moment = n;
             came = came-one x ups are_up start before m n h (recovers q (raised ∷ [])) rest state steps came raised refl refl (no-faults q h.told r.told) b.steps.0 refl
-                (quiet-alone x was (after raised was) m.devices n.devices came.quiet q (λ s e. restarted-up was s q (pick_read h) h.works h.tids e) a.others r.power r.nothing_told r.nothing_waits);
+                (quiet-alone x was (after raised was) m.devices n.devices came.quiet q (λ s e. restarted-up was s q (pick_read h) (works_found h.found) (tids_found h.found) e) a.others r.power r.nothing_told r.nothing_waits);
             tasks = tasks-then x ups are_up start before m n h (recovers q (raised ∷ [])) rest state steps [] came;
             leads = l;
           };

@@ -1,5 +1,5 @@
 -- An end from its beginning to its last line.
-use Rattle.jn_headline.proofs.Common.{◌≡◌, ◌⊎◌, inl, inr, ℕ, zero, suc, ◌+◌, ◌<◌, ◌≤◌, true, List, [], ◌∷◌, ◌++◌, append_assoc, length, Some, None, refl, sym, ◌∙◌, ap, arith, map, slice_get, list_all, AllByRecursion, ServerNo, ClientNo, Tid, Server, Message, Text, Line, history_of, plain, history-plain, same-of, servers_from, Step, Again, Nudge, Crash, CloseClients, run, IsRun, Course, go_on, clients_from, ComeToRest, Comeback, restarts_from, settles, told_by_steps, at_end, counted, Setup, Task, Acts, Rests, ComesUp, GoesDown, ClosesClients, CountsCommits, AtEnd, Stage, State, next_at, Deed, tells, servers_of, settling, coming_up, printing, counting, is_up, none, more, Moment, Leads, behind}
+use Rattle.jn_headline.proofs.Common.{◌≡◌, ◌⊎◌, inl, inr, ℕ, zero, suc, ◌+◌, ◌<◌, ◌≤◌, true, List, [], ◌∷◌, ◌++◌, append_assoc, length, Some, None, refl, sym, ◌∙◌, ap, arith, map, slice_get, list_all, AllByRecursion, ServerNo, ClientNo, Tid, Server, Message, Text, Line, history_of, plain, history-plain, same-of, servers_from, Step, Again, Nudge, Crash, CloseClients, run, IsRun, Course, go_on, clients_from, ComeToRest, Comeback, restarts_from, settles, told_by_steps, at_end, counted, Setup, Task, Acts, Rests, ComesUp, GoesDown, ClosesClients, CountsCommits, AtEnd, Stage, State, next_at, Deed, tells, servers_of, settling, coming_up, printing, counting, is_up, none, more, Moment, Leads, behind, ArePrinted, texts_from, Printed}
 use Rattle.jn_schedule.specs.declared.Event.TheVariants as events
 use Rattle.jn_report.specs.declared.line.Text.TheVariants.{Commits}
 use Rattle.jn_headline.proofs.Texts.{at-end-append}
@@ -7,7 +7,7 @@ use Rattle.jn_headline.proofs.Came.{Came, drop-all, lines-then, tasks-then}
 use Rattle.jn_headline.proofs.Parts.{Part, Onward, same-event, drive, MakesOne, many}
 use Rattle.jn_headline.proofs.Tasks.{goes-down, closes, asks-client, asks-server, come-up}
 use Rattle.jn_headline.proofs.Resting.{rests}
-use Rattle.jn_headline.proofs.Showing.{AllLooked, joined, show-all, scrub-all}
+use Rattle.jn_headline.proofs.Showing.{show-all, scrub-all}
 
 pub then : {P A B : Type 0} → P ⊎ A → (A → P ⊎ B) → P ⊎ B
 then (inl p) f = inl p
@@ -35,16 +35,16 @@ pub record Whole (servers : ℕ) (start : Course) (before : List Line) (now : Mo
   pub first : ComeToRest (servers_from 0 servers) one (go_on (opening_steps servers backs) start)
   pub second : ComeToRest (servers_from 0 servers) two (go_on (asked_steps servers backs one) start)
   pub is_run : IsRun (asked_steps servers backs one ++ two) start.world
-  pub texts : List (List Text)
-  pub text_count : length texts ≡ servers
-  pub looked : AllLooked (go_on (asked_steps servers backs one ++ two) start).world 0 texts
+  pub prints : List (List Printed)
+  pub print_count : length prints ≡ servers
+  pub are_printed : ArePrinted 0 (go_on (asked_steps servers backs one ++ two) start).world prints
   pub ups : List Text
   pub are_up : list_all is_up ups ≡ true
   pub world : now.state.course.world ≡ behind ups (go_on (asked_steps servers backs one ++ two) start).world
   pub stage : now.state.stage ≡ AtEnd
   pub tasks : now.state.tasks ≡ []
   pub event : now.state.course.world.event ≡ start.world.event
-  pub lines : plain now.state.lines ≡ plain (counted (before ++ at_end (told_by_steps (asked_steps servers backs one ++ two) start.world ++ joined texts)))
+  pub lines : plain now.state.lines ≡ plain (counted (before ++ at_end (told_by_steps (asked_steps servers backs one ++ two) start.world ++ texts_from 0 prints)))
 
 -- ---- the tasks, one list after another
 
@@ -151,8 +151,8 @@ module _ (x : Setup) (ups : List Text) (are_up : list_all is_up ups ≡ true) (s
         (λ again. then (many x ups start before (λ (q : ServerNo). Acts (events.Nudge q)) (λ (s : ServerNo). Nudge s) all (each-server (λ q. MakesOne x ups start before (Acts (events.Nudge q)) (Nudge q)) x.servers x.servers 0 (all-of x.servers) (λ q l. asks-server x ups are_up start before q)) again.moment now (opening_steps x.servers up.backs ++ first.these ++ map (λ (c : ClientNo). Again c) clients) (Rests ∷ late x) again.came again.tasks again.leads)
         (λ nudged. then (rests x ups are_up start before near nudged.moment now nudged.leads (asked_steps x.servers up.backs first.these) nudged.came (late x) nudged.tasks)
         (λ second. then (show-all x ups are_up start before (asked_steps x.servers up.backs first.these ++ second.these) x.servers 0 (all-of x.servers) second.past.moment now [] (scrubs ++ (CountsCommits ∷ [])) second.past.came second.past.tasks second.past.leads)
-        (λ shown. then (scrub-all x ups are_up start before (asked_steps x.servers up.backs first.these ++ second.these) x.servers 0 (all-of x.servers) shown.past.moment now (joined shown.texts) (CountsCommits ∷ []) shown.past.came shown.past.tasks shown.past.leads)
-        (λ scrubbed. then (counts scrubbed.moment now (asked_steps x.servers up.backs first.these ++ second.these) (joined shown.texts) scrubbed.came scrubbed.tasks scrubbed.leads)
+        (λ shown. then (scrub-all x ups are_up start before (asked_steps x.servers up.backs first.these ++ second.these) x.servers 0 (all-of x.servers) shown.past.moment now (texts_from 0 shown.prints) (CountsCommits ∷ []) shown.past.came shown.past.tasks shown.past.leads)
+        (λ scrubbed. then (counts scrubbed.moment now (asked_steps x.servers up.backs first.these ++ second.these) (texts_from 0 shown.prints) scrubbed.came scrubbed.tasks scrubbed.leads)
         (λ counted. inr (record {
           backs = up.backs;
           back_count = up.count_is;
@@ -163,9 +163,9 @@ module _ (x : Setup) (ups : List Text) (are_up : list_all is_up ups ≡ true) (s
           first = first.comes;
           second = second.comes;
           is_run = second.past.came.is_run;
-          texts = shown.texts;
-          text_count = shown.count_is;
-          looked = shown.looked;
+          prints = shown.prints;
+          print_count = shown.count_is;
+          are_printed = shown.are_printed;
           ups = ups;
           are_up = are_up;
           world = counted.world;

@@ -11,7 +11,8 @@ ghost use Rattle.jn_system.specs.WholeSystem.Steps.{Step, Dismiss};
 ghost use Rattle.jn_system.specs.WholeSystem.Example.{start};
 ghost use Rattle.jn_system_reports.specs.Reporting.Reported.{Item, events_of, lines_of, world_of, IsReported};
 ghost use Rattle.jn_system_reports.specs.Reporting.Ending.{Ending, IsEnding, steps_at_end, texts_from};
-ghost use Rattle.jn_headline.specs.CutReports.Cut.{CutEnd, IsCutEnd, IsTrueSoFar, cut_lines};
+ghost use Rattle.jn_headline.specs.CutReports.Cut.{CutEnd, IsCutEnd, cut_lines};
+ghost use Rattle.jn_headline.specs.Headline.{IsTrueSoFar};
 ghost use Rattle.jn_headline.specs.CutReports.Example.{a_server_is_down, its_lines};
 
 /// Whatever is done under the events of a schedule, with one more event that is no show and of which nothing is told, or with an end
@@ -20,11 +21,11 @@ ghost use Rattle.jn_headline.specs.CutReports.Example.{a_server_is_down, its_lin
 /// answers its client's outstanding command. Of what the end itself prints nothing is said.
 pub fn reports_are_true_so_far()
     ensures within_its_events { (servers : ℕ) (files : AllFiles) (epochs : ServerNo → ℕ) (items : List Item) → IsReported items (opening servers files epochs)
-        → IsTrueSoFar files (events_of items) (lines_of items (opening servers files epochs)) }
+        → IsTrueSoFar files (events_of items) (events_of items) (lines_of items (opening servers files epochs)) }
     ensures at_its_last_event { (servers : ℕ) (files : AllFiles) (epochs : ServerNo → ℕ) (items : List Item) (e : Event) → IsReported items (opening servers files epochs) → is_show e ≡ false
-        → IsTrueSoFar files (events_of items ++ e ∷ []) (lines_of items (opening servers files epochs)) }
+        → IsTrueSoFar files (events_of items ++ e ∷ []) (events_of items ++ e ∷ []) (lines_of items (opening servers files epochs)) }
     ensures within_its_end { (servers : ℕ) (files : AllFiles) (epochs : ServerNo → ℕ) (items : List Item) (e : CutEnd) → IsReported items (opening servers files epochs)
-        → IsCutEnd e (world_of items (opening servers files epochs)) → IsTrueSoFar files (events_of items) (cut_lines items e (opening servers files epochs)) }
+        → IsCutEnd e (world_of items (opening servers files epochs)) → IsTrueSoFar files (events_of items) (events_of items) (cut_lines items e (opening servers files epochs)) }
 {}
 
 /// Every front of an end's steps, with every front of what it prints, is an end that is cut off.

@@ -13,10 +13,10 @@ ghost use Rattle.jn_schedule.specs.declared.Event.{Event};
 ghost use Rattle.jn_schedule.specs.Ranges.{EventInRange};
 ghost use Rattle.jn_report.specs.declared.line.Line.{Line};
 ghost use Rattle.jn_aside.specs.Aside.{plain};
-ghost use Rattle.jn_system.specs.WholeSystem.World.{opening};
+ghost use Rattle.jn_system.specs.WholeSystem.World.{opening, AreFilesOf};
 ghost use Rattle.jn_system_reports.specs.Reporting.Reported.{world_of};
-ghost use Rattle.jn_system_reports.specs.Reporting.Ending.{Ending, IsWholeRun, AreFilesOf, all_lines};
-ghost use Rattle.jn_headline.specs.WholeReports.Whole.{IsSettledEnd, IsOfItsCommits};
+ghost use Rattle.jn_system_reports.specs.Reporting.Ending.{Ending, IsWholeRun, all_lines};
+ghost use Rattle.jn_headline.specs.WholeReports.Whole.{IsSettledEnd};
 ghost use Rattle.jn_headline.specs.CutReports.Cut.{CutEnd, IsCutEnd, cut_lines};
 ghost use Rattle.jn_written.specs.Chances.{Setup};
 ghost use Rattle.jn_written.specs.Devices.{Devices};
@@ -24,7 +24,7 @@ ghost use Rattle.jn_written.specs.Tasks.{AtEnd};
 ghost use Rattle.jn_written.specs.Runs.{Moment};
 ghost use Rattle.jn_written.specs.Whole.{AreImages, IsWhole, IsLimited, IsPartOfRun};
 ghost use Rattle.jn_retold.specs.Retold.{IsRetold, IsRetoldInPart};
-ghost use Rattle.jn_headline.specs.Headline.{IsTrueOfBegun};
+ghost use Rattle.jn_headline.specs.Headline.{IsTrueOfBegun, IsOfItsCommits};
 
 pub use cut_reports::{a_run_is_cut_off, fronts_of_an_end_are_cut_ends, reports_are_true_so_far};
 pub use whole_reports::{

@@ -6,13 +6,14 @@ ghost use Rattle.jn_order.specs.Files.{AllFiles, no_files};
 ghost use Rattle.jn_serial.specs.Told.{Told};
 ghost use Rattle.jn_serial.specs.Follows.{Follows};
 ghost use Rattle.jn_serial.specs.Caused.{Caused};
-ghost use Rattle.jn_system.specs.WholeSystem.World.{opening};
+ghost use Rattle.jn_system.specs.WholeSystem.World.{opening, AreFilesOf};
 ghost use Rattle.jn_system_reports.specs.Reporting.Reported.{Item, events_of, world_of};
-ghost use Rattle.jn_system_reports.specs.Reporting.Ending.{Ending, IsWholeRun, AreFilesOf, all_lines};
+ghost use Rattle.jn_system_reports.specs.Reporting.Ending.{Ending, IsWholeRun, all_lines};
 ghost use Rattle.jn_system.specs.WholeSystem.Example.{start};
 ghost use Rattle.jn_system_reports.specs.Showing.Example.{a_commit_is_named};
 ghost use Rattle.jn_headline.specs.WholeReports.Example.{an_end_that_settles};
-ghost use Rattle.jn_headline.specs.WholeReports.Whole.{IsSettledEnd, IsOfItsCommits};
+ghost use Rattle.jn_headline.specs.WholeReports.Whole.{IsSettledEnd};
+ghost use Rattle.jn_headline.specs.Headline.{IsOfItsCommits};
 
 /// Whatever is done under the events of a schedule and at its end, stops and restarts among it: no commit is named twice, each
 /// that a client is told of is named before, and no transaction is named that a client is told is aborted, or that a broken work

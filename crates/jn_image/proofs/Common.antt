@@ -7,7 +7,7 @@ pub use Rattle.std.proofs.lemmas.Bool.Decides.{nat_tests}
 pub use Rattle.std.proofs.lemmas.List.{append-nil, take_at, drop_at, length-take-le, get_or_past, get_or-append-add, get_or-drop, length-replicate, take_rest, take_all}
 pub use Rattle.sha2.specs.Sha256.{sha256}
 pub use Rattle.jn_device.specs.declared.Half.{Half}
-pub use Rattle.jn_records.specs.StablePages.{Counts, page_count, is_used, file_in, slot_place, head_place, data_place}
+pub use Rattle.jn_records.specs.StablePages.{Counts, page_count, is_used, file_in, root_by, slot_place, head_place, data_place}
 pub use Rattle.jn_image.specs.declared.image.Image.{Image}
 pub use Rattle.jn_image.specs.Faults.{server_in, counts_in, in_range, within, statuses_fit, has_digest, bad_behind_header, TellsImage}
 unfoldable pub use Rattle.jn_image.specs.Faults.{bad_of}
@@ -16,10 +16,10 @@ unfoldable pub use Rattle.jn_image.specs.Form.{image_bytes}
 pub use Rattle.jn_image.specs.Reading.{halves_in, half_in}
 unfoldable pub use Rattle.jn_image.specs.Reading.{image_in}
 pub use Rattle.jn_base.specs.declared.names.ServerNo.{ServerNo}
-pub use Rattle.jn_records.specs.Sound.{HasRoot, HasOneHead, IsSound, IsWholeHead, Names, head_bytes_of, root_of}
+pub use Rattle.jn_records.specs.Sound.{HasRoot, HasOneHead, IsSound, PagesGood, PairsAgree, SlotsFree, HeadsWhole, AddressesOnce, TailsZeros, IsWholeHead, Names, head_bytes_of, All}
 pub use Rattle.jn_image.specs.declared.fault.Unsound.{Unsound}
 pub use Rattle.jn_image.specs.Repeats.{IsLeastFailing, Finds, StandsOnce, StandsOnceBelow, AreNoted, lesser}
-pub use Rattle.jn_image.specs.Unsound.{PagesGood, PairsAgree, SlotsFree, HeadsWhole, AddressesOnce, TailsZeros, ToRoot, ToPages, ToPairs, ToPool, ToFiles, ToHeads, ToAddresses, IsFirstFault, TellsSound, seen, All}
+pub use Rattle.jn_image.specs.Unsound.{ToRoot, ToPages, ToPairs, ToPool, ToFiles, ToHeads, ToAddresses, IsFirstFault, TellsSound, seen}
 pub use Rattle.std.specs.List.{AllByRecursion}
 pub use Rattle.jn_records.specs.declared.head.Head.{Head}
 pub use Rattle.jn_image.specs.Rules.{IsHeadAt, AreHeads, IsRead, head_file_number, address_of, addresses_of, at_epoch, RuleHolds}

@@ -1,5 +1,5 @@
 -- Whether a page is a root like another.
-use Rattle.jn_image.proofs.Common.{◌≡◌, ◌<◌, ◌^◌, ℕ, Bool, false, List, Some, None, sym, ap, ◌∙◌, IsTrue, ◌↔◌, false≢true, HasRoot, root_of, at_epoch, Root, root_page, IsRoot}
+use Rattle.jn_image.proofs.Common.{◌≡◌, ◌<◌, ◌^◌, ℕ, Bool, false, List, Some, None, sym, ap, ◌∙◌, IsTrue, ◌↔◌, false≢true, HasRoot, at_epoch, Root, root_page, IsRoot, root_by}
 use Rattle.jn_records.specs.Sound as sound
 
 same_root : (a b : Root) → Some a ≡ Some b → a ≡ b
@@ -8,8 +8,8 @@ same_root a b e = cc
 no_root : (a : Root) → None ≡ Some a → ⊥
 no_root a e = cc
 
-module _ (m : sound.Image) (page : List ℕ) (is_page : page ≡ m.bytes 0) (like : Root) (like_is : like ≡ root_of m 0) (is_root : IsRoot like) where
-  same : (epoch : ℕ) → root_of m epoch ≡ at_epoch like epoch
+module _ (m : sound.Image) (page : List ℕ) (is_page : page ≡ m.bytes 0) (like : Root) (like_is : like ≡ root_by m.server m.counts 0) (is_root : IsRoot like) where
+  same : (epoch : ℕ) → root_by m.server m.counts epoch ≡ at_epoch like epoch
   same epoch = ap (λ (r : Root). at_epoch r epoch) (sym like_is)
 
   fits : (epoch : ℕ) → epoch < 2 ^ 32 → IsRoot (at_epoch like epoch)

@@ -1,13 +1,15 @@
 -- The rules that are looked at place by place, and the heads as they are read.
-use Rattle.std.specs.Prelude.{◌≡◌, ◌<◌, ◌*◌, ◌^◌, ℕ, nat_eq, is_some, true, List, length, map, replicate, get_or, Option, Some, None, if◌then◌else◌}
+use Rattle.std.specs.Prelude.{◌≡◌, ◌<◌, ◌+◌, ◌*◌, ◌^◌, ℕ, nat_eq, is_some, true, List, length, map, drop, replicate, get_or, Option, Some, None, if◌then◌else◌}
 use Rattle.jn_base.specs.Limits.{most_blocks}
 use Rattle.jn_records.specs.declared.head.Head.{Head}
 use Rattle.jn_records.specs.declared.head.Head.TheVariants.{Free, Used}
+use Rattle.jn_records.specs.declared.record.Record.TheVariants.{Free as FreeRecord}
 use Rattle.jn_records.specs.declared.root.Root.{Root}
 use Rattle.jn_records.specs.Heads.{head_page, IsHead, FileFits}
 use Rattle.jn_records.specs.Sound as sound
-use Rattle.jn_records.specs.Sound.{IsGood, HalvesAgree, SlotIsFree, TailIsZeros, IsWholeHead, head_bytes_of}
-use Rattle.jn_records.specs.StablePages.{page_count}
+use Rattle.jn_records.specs.Sound.{IsWholeHead, head_bytes_of}
+use Rattle.jn_records.specs.Records.{record_page}
+use Rattle.jn_records.specs.StablePages.{page_count, slot_place, data_place}
 use Rattle.jn_image.specs.declared.soundness.Rule.{Rule}
 use Rattle.jn_image.specs.declared.soundness.Rule.TheVariants.{Good, Pair, Slot, Tail}
 
@@ -19,10 +21,10 @@ places m Slot = m.counts.pool
 places m Tail = m.counts.leaves
 
 abbrev pub RuleHolds : sound.Image → Rule → ℕ → Type 0
-RuleHolds m Good p = IsGood m p
-RuleHolds m Pair i = HalvesAgree m i
-RuleHolds m Slot i = SlotIsFree m i
-RuleHolds m Tail i = TailIsZeros m i
+RuleHolds m Good p = m.good p ≡ true
+RuleHolds m Pair i = m.bytes i ≡ m.bytes (i + page_count m.counts)
+RuleHolds m Slot i = m.bytes (slot_place m.counts i) ≡ record_page FreeRecord
+RuleHolds m Tail i = drop 448 (m.bytes (data_place m.counts i)) ≡ replicate 64 0
 
 abbrev pub HoldsWithin : sound.Image → Rule → ℕ → Type 0
 HoldsWithin m rule i = i < places m rule → RuleHolds m rule i

@@ -1,10 +1,9 @@
 -- Why an image is unsound: the first of these faults, in this order, at the least place.
-use Rattle.std.specs.Prelude.{◌≡◌, ◌≢◌, ◌<◌, ◌*◌, ℕ, Option, Some, None, Result, Ok, Err}
+use Rattle.std.specs.Prelude.{◌≡◌, ◌≢◌, ℕ, Option, Some, None, Result, Ok, Err}
 use Rattle.jn_base.specs.declared.names.ServerNo.{ServerNo}
 use Rattle.jn_disks.specs.Disks.{image_of}
 use Rattle.jn_records.specs.Sound as sound
-use Rattle.jn_records.specs.Sound.{HasRoot, IsGood, HalvesAgree, SlotIsFree, HasOneHead, IsWholeHead, IsNamedOnce, TailIsZeros, IsSound}
-use Rattle.jn_records.specs.StablePages.{page_count}
+use Rattle.jn_records.specs.Sound.{HasRoot, HasOneHead, IsSound, All, PagesGood, PairsAgree, SlotsFree, HeadsWhole, AddressesOnce, TailsZeros}
 use Rattle.jn_image.specs.declared.fault.Unsound.{Unsound}
 use Rattle.jn_image.specs.declared.fault.Unsound.TheVariants.{Server, Root, BadPage, PairDiffers, PoolInUse, SameFile, Address, AddressTwice, DataTail}
 use Rattle.jn_image.specs.declared.fault.CheckError.{CheckError}
@@ -13,58 +12,23 @@ use Rattle.jn_image.specs.declared.image.Image.{Image}
 use Rattle.jn_image.specs.Form.{image_counts}
 use Rattle.jn_image.specs.Repeats.{IsLeastFailing}
 
--- the number by which a fault is reported
-abbrev pub unsound_number : Unsound → ℕ
-unsound_number Server = 1
-unsound_number Root = 2
-unsound_number (BadPage p) = 3
-unsound_number (PairDiffers i) = 4
-unsound_number (PoolInUse i) = 5
-unsound_number (SameFile f) = 6
-unsound_number (Address i) = 7
-unsound_number (AddressTwice a) = 8
-unsound_number (DataTail i) = 9
-
--- the place or the name that is reported with it
-abbrev pub argument_of : Unsound → Option ℕ
-argument_of Server = None
-argument_of Root = None
-argument_of (BadPage p) = Some p
-argument_of (PairDiffers i) = Some i
-argument_of (PoolInUse i) = Some i
-argument_of (SameFile f) = Some f
-argument_of (Address i) = Some i
-argument_of (AddressTwice a) = Some a
-argument_of (DataTail i) = Some i
+-- the number by which a fault is reported, and the place or the name that is reported with it
+abbrev pub reported : Unsound → ℕ × Option ℕ
+reported Server = (1, None)
+reported Root = (2, None)
+reported (BadPage p) = (3, Some p)
+reported (PairDiffers i) = (4, Some i)
+reported (PoolInUse i) = (5, Some i)
+reported (SameFile f) = (6, Some f)
+reported (Address i) = (7, Some i)
+reported (AddressTwice a) = (8, Some a)
+reported (DataTail i) = (9, Some i)
 
 -- what the image says, page by page
 abbrev pub seen : Image → sound.Image
 seen m = image_of m.server (image_counts m) m.pages
 
 -- ---- what holds of each number where the image is sound
-
-abbrev pub PagesGood : sound.Image → ℕ → Type 0
-PagesGood m p = p < 2 * page_count m.counts → IsGood m p
-
-abbrev pub PairsAgree : sound.Image → ℕ → Type 0
-PairsAgree m i = i < page_count m.counts → HalvesAgree m i
-
-abbrev pub SlotsFree : sound.Image → ℕ → Type 0
-SlotsFree m i = i < m.counts.pool → SlotIsFree m i
-
-abbrev pub HeadsWhole : sound.Image → ℕ → Type 0
-HeadsWhole m i = i < m.counts.heads → IsWholeHead m i
-
-abbrev pub AddressesOnce : sound.Image → ℕ → Type 0
-AddressesOnce m a = 0 < a → IsNamedOnce m a
-
-abbrev pub TailsZeros : sound.Image → ℕ → Type 0
-TailsZeros m i = i < m.counts.leaves → TailIsZeros m i
-
-abbrev pub All : (ℕ → Type 0) → Type 0
-All P = (n : ℕ) → P n
-
--- ---- what holds before each fault is looked for
 
 abbrev pub ToRoot : ServerNo → sound.Image → Type 0
 ToRoot s m = (m.server ≡ s) × HasRoot m

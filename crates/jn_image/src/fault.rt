@@ -104,7 +104,7 @@ pub enum Unsound {
 impl Unsound {
     /// The number by which the fault is reported, 1 to 9.
     pub fn number(self) -> u8
-        ensures { result ≡ unsound.unsound_number self }
+        ensures { result ≡ (unsound.reported self).0 }
     {
         match self {
             Unsound::Server => 1,
@@ -121,7 +121,7 @@ impl Unsound {
 
     /// The place or the name that is reported with it.
     pub fn argument(self) -> Option<u32>
-        ensures { result ≡ unsound.argument_of self }
+        ensures { result ≡ (unsound.reported self).1 }
     {
         match self {
             Unsound::Server | Unsound::Root => None,

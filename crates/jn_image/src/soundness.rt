@@ -4,14 +4,14 @@ ghost use Rattle.jn_base.specs.declared.names.ServerNo.{ServerNo as AnyServer};
 ghost use Rattle.jn_base.specs.Limits.{most_blocks};
 ghost use Rattle.jn_records.specs.Pages.{IsRoot};
 ghost use Rattle.jn_records.specs.Sound as sound;
-ghost use Rattle.jn_records.specs.Sound.{HasRoot, IsSound, HasOneHead};
+ghost use Rattle.jn_records.specs.Sound.{HasRoot, IsSound, HasOneHead, All, HeadsWhole, AddressesOnce};
 ghost use Rattle.jn_records.specs.StablePages.{page_count};
 ghost use Rattle.jn_image.specs.declared.fault.CheckError.TheVariants.{Unsound as AnUnsound, Memory};
 ghost use Rattle.jn_image.specs.declared.fault.Unsound.{Unsound as AnyFault};
 ghost use Rattle.jn_image.specs.Form.{image_counts};
 ghost use Rattle.jn_image.specs.Repeats.{Finds};
 ghost use Rattle.jn_image.specs.Rules.{places, RuleHolds, HoldsWithin, AreHeads, at_epoch, IsRead, head_file_number, address_of, addresses_of};
-ghost use Rattle.jn_image.specs.Unsound.{seen, All, HeadsWhole, AddressesOnce, ToPool, ToAddresses, IsFirstFault, TellsSound};
+ghost use Rattle.jn_image.specs.Unsound.{seen, ToPool, ToAddresses, IsFirstFault, TellsSound};
 
 use crate::fault::{CheckError, Unsound};
 use crate::image::Image;

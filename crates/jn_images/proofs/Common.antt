@@ -12,11 +12,11 @@ pub use Rattle.jn_host.specs.Outside.{Contents, KeeperSaved, kept_at, Rose, foun
 pub use Rattle.jn_device.specs.declared.Half.{Half}
 pub use Rattle.jn_disks.specs.Disks.{AreSound, HasPages, IsNewStore, new_page, IsStoreOfPages}
 pub use Rattle.jn_records.specs.StablePages.{Counts, counts_of, page_count, slot_place, head_place, data_place, is_used, files_of_pages}
-pub use Rattle.jn_recovery.specs.Loading.{counts_by}
+pub use Rattle.jn_recovery.specs.Counts.{counts_by}
 pub use Rattle.jn_recovery.specs.declared.counts.PageCounts.{PageCounts}
-pub use Rattle.jn_images.specs.Kept.{Has, IsClosed, IsKept, IsSoundImage, image_name, found_at}
+pub use Rattle.jn_images.specs.Kept.{Has, IsKept, IsSoundImage, image_name}
+pub use Rattle.jn_images.specs.Opened.{IsClosed, found_at, AreStoresOf, IsStoreOf}
 pub use Rattle.jn_images.specs.Saved.{SavesOne, SavedTo, SavesAll}
 pub use Rattle.std.proofs.lemmas.List.{get_or_append_left, get_or_push, append_cancel_left, length_push}
 pub use Rattle.std.specs.declared.alloc.Global.{Global}
-pub use Rattle.jn_images.specs.Examined.{AreStoresOf, IsAccepted, IsFirstRefused, IsRefused, IsStoreOf}
 pub use Rattle.std.proofs.lemmas.Result.{err_from_is_err_and}

@@ -1,17 +1,10 @@
 -- Which images a run may begin with, and the first that it may not.
-use Rattle.std.specs.Prelude.{◌≡◌, ◌<◌, ℕ, List, slice_get, Option, Some, None}
+use Rattle.std.specs.Prelude.{◌≡◌, ◌<◌, ℕ, List, Option, Some, None}
 use Rattle.jn_base.specs.declared.names.ServerNo.{ServerNo}
-use Rattle.jn_device.specs.Device.{DeviceState}
-use Rattle.jn_disks.specs.Disks.{HasPages, IsStoreOfPages}
 use Rattle.jn_image.specs.Faults.{bad_of}
-use Rattle.jn_image.specs.Form.{HasForm, PagesFit, image_counts, image_bytes}
+use Rattle.jn_image.specs.Form.{HasForm, PagesFit, image_bytes}
 use Rattle.jn_image.specs.Unsound.{seen, IsFirstFault}
 use Rattle.jn_image.specs.declared.image.Image.{Image}
-use Rattle.jn_memdisk.specs.Disk.{IsNew}
-use Rattle.jn_records.specs.StablePages.{Counts}
-use Rattle.jn_recovery.specs.Loading.{counts_by}
-use Rattle.jn_recovery.specs.declared.counts.PageCounts.{PageCounts}
-use Rattle.jn_store.specs.Store.{StoreView}
 use Rattle.jn_images.specs.Kept.{IsSoundImage}
 use Rattle.jn_images.specs.declared.refusal.Cause.{Cause}
 use Rattle.jn_images.specs.declared.refusal.Cause.TheVariants.{Missing, Bad, Unsound}
@@ -32,22 +25,3 @@ pub record IsFirstRefused (found : ℕ → Option (List ℕ)) (servers : ℕ) (r
   pub there : r.server.0 < servers
   pub before : (n : ℕ) → n < r.server.0 → IsAccepted (record { 0 = n }) (found n)
   pub cause : IsRefused r.server (found r.server.0) r.cause
-
--- ---- the disks of images
-
--- the disk has the pages of the sound image of this server with these bytes, and no call was made to it
-pub record IsDiskOf (q : ServerNo) (content : Option (List ℕ)) (g : Counts) (d : DeviceState) : Type 0 where
-  pub image : Image
-  pub is_sound : IsSoundImage q image
-  pub bytes : content ≡ Some (image_bytes image)
-  pub counts : image_counts image ≡ g
-  pub pages : HasPages image.pages d
-  pub new : IsNew d
-
--- so does the store's, where a restart finds the image's files
-pub record IsStoreOf {S : Type 0} (look : S → StoreView) (device : S → DeviceState) (q : ServerNo) (content : Option (List ℕ)) (x : S × PageCounts) : Type 0 where
-  pub disk : IsDiskOf q content (counts_by x.1) (device x.0)
-  pub store : IsStoreOfPages q (counts_by x.1) disk.image.pages (look x.0)
-
-abbrev pub AreStoresOf : {S : Type 0} → (S → StoreView) → (S → DeviceState) → (ℕ → Option (List ℕ)) → List (S × PageCounts) → Type 0
-AreStoresOf {S} look device found stores = (n : ℕ) (x : S × PageCounts) → slice_get stores n ≡ Some x → IsStoreOf look device (record { 0 = n }) (found n) x

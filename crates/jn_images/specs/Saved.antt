@@ -6,14 +6,9 @@ use Rattle.jn_host.specs.Outside.{Contents, Rose, kept_at}
 use Rattle.jn_host.specs.declared.KeepFailure.{KeepFailure}
 use Rattle.jn_host.specs.declared.KeepFailure.TheVariants.{Failed as CallFailed}
 use Rattle.jn_records.specs.StablePages.{Counts}
-use Rattle.jn_recovery.specs.Loading.{counts_by}
+use Rattle.jn_recovery.specs.Counts.{counts_by}
 use Rattle.jn_recovery.specs.declared.counts.PageCounts.{PageCounts}
-use Rattle.jn_images.specs.Kept.{IsKept, image_name}
-
--- all but the names of the first n images hold what they held
-pub record OthersStay (kept : Option Contents) (name : List ℕ) (n : ℕ) (kept' : Option Contents) : Type 0 where
-  pub told : is_some kept' ≡ is_some kept
-  pub others : (other : List ℕ) → ((q : ℕ) → q < n → other ≢ image_name name q) → kept_at kept' other ≡ kept_at kept other
+use Rattle.jn_images.specs.Kept.{IsKept, image_name, OthersStay}
 
 -- the image of one server's disk was saved, or nothing was changed
 pub record SavesOne (name : List ℕ) (g : Counts) (q : ServerNo) (d : DeviceState) (kept : Option Contents) (faults : ℕ) (answer : Result (Unit {0}) KeepFailure) (kept' : Option Contents) (faults' : ℕ) : Type 0 where

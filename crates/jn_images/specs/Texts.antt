@@ -13,7 +13,7 @@ argument_text (Some n) = codes " " ++ decimal n
 abbrev pub cause_text : Cause → List ℕ
 cause_text Missing = codes " missing"
 cause_text (Bad fault) = codes " bad " ++ decimal (bad.image_fault_number fault)
-cause_text (Unsound fault) = codes " unsound " ++ decimal (unsound.unsound_number fault) ++ argument_text (unsound.argument_of fault)
+cause_text (Unsound fault) = codes " unsound " ++ decimal (unsound.reported fault).0 ++ argument_text (unsound.reported fault).1
 
 abbrev pub refusal_text : Refusal → List ℕ
 refusal_text r = codes "refused: image " ++ decimal r.server.0 ++ cause_text r.cause ++ 10 ∷ []

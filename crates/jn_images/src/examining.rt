@@ -3,8 +3,9 @@
 ghost use Rattle.std.specs.Prelude.{◌≡◌, ◌≤◌, Err, Ok, IfOk, IfErr, length, vec_len};
 ghost use Rattle.jn_host.specs.Outside.{found_bytes};
 ghost use Rattle.jn_image.specs.Form.{image_bytes};
-ghost use Rattle.jn_images.specs.Examined.{AreStoresOf, IsFirstRefused, IsRefused, IsStoreOf};
-ghost use Rattle.jn_images.specs.Kept.{IsSoundImage, found_at};
+ghost use Rattle.jn_images.specs.Examined.{IsFirstRefused, IsRefused};
+ghost use Rattle.jn_images.specs.Kept.{IsSoundImage};
+ghost use Rattle.jn_images.specs.Opened.{found_at, IsStoreOf, AreStoresOf};
 ghost use Rattle.jn_images.specs.declared.examining.ExamineFault.TheVariants as faults;
 ghost use Rattle.jn_images.specs.declared.refusal.Refusal.{Refusal as ARefusal};
 

@@ -3,7 +3,7 @@
 ghost use Rattle.std.specs.Prelude.{◌≡◌, ◌≢◌, ◌≤◌, Err, IfOk};
 ghost use Rattle.jn_host.specs.Outside.{Rose};
 ghost use Rattle.jn_host.specs.declared.KeepFailure.TheVariants.{Failed as CallFailed};
-ghost use Rattle.jn_images.specs.Kept.{AreLoaded};
+ghost use Rattle.jn_images.specs.Opened.{AreLoaded};
 
 use crate::names::image_name;
 use jn_base::ServerNo;

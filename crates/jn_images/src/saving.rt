@@ -1,9 +1,9 @@
 //! Disks that are saved as images.
 
 ghost use Rattle.std.specs.Prelude.{◌≡◌, ◌≤◌, length, vec_len};
-ghost use Rattle.jn_images.specs.Kept.{AreClosed, IsClosed};
+ghost use Rattle.jn_images.specs.Opened.{IsClosed, AreClosed};
 ghost use Rattle.jn_images.specs.Saved.{SavesAll, SavesOne};
-ghost use Rattle.jn_recovery.specs.Loading.{counts_by};
+ghost use Rattle.jn_recovery.specs.Counts.{counts_by};
 
 use crate::names::image_name;
 use jn_base::ServerNo;

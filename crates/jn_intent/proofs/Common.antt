@@ -13,9 +13,8 @@ pub use Rattle.jn_base.specs.declared.device.Stopped.{Stopped}
 pub use Rattle.jn_base.specs.declared.names.FileNo.{FileNo}
 pub use Rattle.jn_base.specs.declared.names.LockUnit.TheVariants.{Block, File}
 pub use Rattle.jn_base.specs.declared.names.WorkId.{WorkId}
-pub use Rattle.jn_base.specs.Names.{file_eq, work_eq, tid_eq}
+pub use Rattle.jn_base.specs.Names.{file_eq, work_eq, unit_eq, tid_eq}
 pub use Rattle.jn_base.proofs.Tells.{file_tells, work_tells, block_tells, tid_tells}
-pub use Rattle.jn_locks.specs.Locks.{unit_eq, is_unit}
 pub use Rattle.jn_order.specs.Files.{there as there_it_is, Files, change, there, Change, created, removed, cut_from, written}
 pub use Rattle.jn_files.specs.Table.{TableView, IsTable, IsFreeLeaf, exists, AreHeads, head_in, is_of, is_held, addresses, addresses_of, address_of, address_for, or_nil, IsHeadOf, fresh_head, cut_head, cut_addresses, with_leaf, is_mapped, is_touched}
 pub use Rattle.jn_files.specs.Calls.{IsChanged, SetsHead, IsPlaceOf, with_promised_heads, LetsGo, MayBecome, NextFile as NextHead, is_above as is_above_head, Touches, BlockGot, with_promised_leaves, TouchesAll, with_held, with_touched}
@@ -43,7 +42,8 @@ pub use Rattle.jn_records.specs.Records.{has_page, record_page, RecordFits, asce
 pub use Rattle.jn_storage.specs.Calls.{state, name_of, next_of, Called, CountsOn, PageTaken, PageStands, StepApplied, IsReady, MarkedGoing, NextFile, is_above, BlockRead, shortage, with_work, MayPrepare, WorkPrepared, short_of, reached, is_shortage, WorkRemoved, HasFlag, FlagDropped, TellsFlags, FlagPromised, MayPutFlag, FlagPut, PromiseReleased, IsGoing, RecordErased, TellsWorks}
 pub use Rattle.jn_storage.specs.Finding.{find_by}
 pub use Rattle.jn_storage.specs.Listing.{are_different, IsListing, total, is_in}
-pub use Rattle.jn_storage.specs.Storage.{IsServing, file_there, is_stored, intentions, list_of, needed, Accounts, IsLoadable, StorageView}
+pub use Rattle.jn_storage.specs.Storage.{IsServing, is_stored, Accounts, StorageView}
+pub use Rattle.jn_storage.specs.Orderly.{file_there, intentions, list_of, needed, IsOrderly, IsLoadable, IsPrepared, GoTogether, unit_of, unit_by, needs_file as needs_first, takes_away, first_of, unit_in_range}
 pub use Rattle.jn_storage.proofs.Finds.{find-set, keys-set, find-at, find-listed, find-add, different-add, map-add, find-kept, keys-kept, different-kept}
 pub use Rattle.jn_storage.proofs.Intended.{made_there, there-after, one_if, entry-of, unit-of}
 pub use Rattle.jn_store.specs.Store.{StoreView, IsClean, StoreLater, IsSamePage, IsServed, IsStop, HasSamePages, IsCalm, IsWholePage, StorePut}
@@ -57,7 +57,6 @@ pub use Rattle.jn_recovery.proofs.Serving.{serves_of, serving_by, called_put, Se
 pub use Rattle.jn_recovery.proofs.Standing.{finds, there_found, named_head, consistent, mapped_found, holds, files_are, standing_same}
 pub use Rattle.jn_recovery.proofs.Telling.{prepared_of, stored_pages, works_seen, listed_pages, works_told, works_by, tells_works}
 pub use Rattle.jn_base.specs.declared.names.LockUnit.{LockUnit}
-pub use Rattle.jn_storage.specs.Orderly.{IsOrderly, IsPrepared, GoTogether, unit_of, unit_by, needs_file as needs_first, takes_away, first_of, unit_in_range}
 pub use Rattle.jn_storage.proofs.Kept.{makes_file, orderly-carried, promises-carried}
 pub use Rattle.jn_storage.proofs.Listings.{but, listing-less, listing-more, listing-same, length-but, is_in-but, total-but, total-same, Tells}
 pub use Rattle.jn_base.specs.declared.names.BlockNo.{BlockNo}

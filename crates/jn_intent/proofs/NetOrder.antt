@@ -1,5 +1,6 @@
 -- Where the intentions of one file stand in a work's list.
-use Rattle.jn_intent.proofs.Common.{◌≡◌, inr, ◌<◌, ℕ, zero, suc, Bool, true, false, not, ◌&&◌, ◌||◌, if◌then◌else◌, List, [], ◌∷◌, map, Option, Some, None, refl, sym, ◌∙◌, ap, subst, true≢false, arith, nat_tests, slice_get, nat_eq, list_all, FileNo, File, Block, file_eq, file_tells, is_unit, Files, What, Fresh, Gone, Cut, Put, in_order, entry, intention_place, is_put, is_fresh, as_first, first_by, place_by, Prepared, IsPrepared, GoTogether, unit_of, unit_by, needs_first, takes_away, first_of, file_there, entry-of, unit-of, needs_file}
+use Rattle.jn_intent.proofs.Common.{◌≡◌, inr, ◌<◌, ℕ, zero, suc, Bool, true, false, not, ◌&&◌, ◌||◌, if◌then◌else◌, List, [], ◌∷◌, map, Option, Some, None, refl, sym, ◌∙◌, ap, subst, true≢false, arith, nat_tests, slice_get, nat_eq, list_all, FileNo, File, Block, file_eq, file_tells, Files, What, Fresh, Gone, Cut, Put, in_order, entry, intention_place, is_put, is_fresh, as_first, first_by, place_by, Prepared, IsPrepared, GoTogether, unit_of, unit_by, needs_first, takes_away, first_of, file_there, entry-of, unit-of, needs_file}
+use Rattle.jn_locks.specs.Locks.{is_unit}
 use Rattle.jn_locks.specs.declared.words.Mode.TheVariants.{Read, Commit}
 use Rattle.jn_records.specs.declared.intention.Intention.{Intention}
 use Rattle.jn_records.proofs.NetLemmas.{no_entry}

@@ -107,7 +107,7 @@ module _ (m : Memory) (v : StoreView) (now : Matches m v) (serving : IsServing (
     may_carry = record {
       table = now.table;
       fits = sym now.standing.held.count;
-      file_fits = its_record.fits.intention.file;
+      file_fits = its_record.fits.3.file;
       names = its_record.whole;
       promised = let e = taken_is in let less = promises (state (view_of m v)) (accounts_of m) work its_work s.next (intended (first_blocks m v) i) (serves_of m v serving) its_stands at_full in omega (arith, e, less);
       free = serving.heads_fit;

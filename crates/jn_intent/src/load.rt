@@ -3,7 +3,8 @@ ghost use Rattle.std.specs.Prelude.{◌≡◌, IfOk, IfErr};
 ghost use Rattle.jn_base.specs.declared.names.ServerNo.{ServerNo};
 ghost use Rattle.jn_found.specs.Recoverable.{IsRecoverable};
 ghost use Rattle.jn_recovery.specs.Kept.{memory_kept};
-ghost use Rattle.jn_recovery.specs.Loading.{counts_by, IsLoaded, IsDown, IsUntouched};
+ghost use Rattle.jn_recovery.specs.Loading.{IsLoaded, IsDown, IsUntouched};
+ghost use Rattle.jn_recovery.specs.Counts.{counts_by};
 ghost use Rattle.jn_recovery.specs.Matches.{Matches};
 
 use crate::Intents;

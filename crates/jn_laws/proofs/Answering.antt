@@ -1,6 +1,6 @@
 -- What becomes of a message that is handed over: it is answered, or its server is stopped, or the run is cut short.
-use Rattle.jn_laws.proofs.Common.{◌≡◌, ◌≢◌, ◌⊎◌, inl, inr, ℕ, ◌+◌, ◌<◌, Bool, true, false, List, [], ◌∷◌, ◌++◌, append-nil, length, length-append, Option, Some, None, is_some, refl, sym, ◌∙◌, ap, subst, arith, if◌then◌else◌, slice_get, ServerNo, Party, Client, Server, client_eq, server_eq, client_tells, server_tells, Message, Taken, ClientTable, take_row, RowOutcome, Sent, ignored, StableState, Pick, stable, made_all, World, Memory, Room, server_row, Deliver, handing, after, run, handed, at_memory, ends, took, taken_by, Setup, Chance, Use, Nothing, Deed, served, room, no_room, delivered_at, Devices, IsUsed, rubbish_on, deed_of, Moment, DoesStep, most_messages, CutShort, HandsOver, Answer, tells_alone, room_on, row_on, of_row, of_server, of_taken, its_answer, IsGiven, IsDone, IsTaken, IsStopped, stopped_at, IsTooLong, IsStale, Calls}
-use Rattle.jn_server.specs.Handling.{row_calls}
+use Rattle.jn_laws.proofs.Common.{◌≡◌, ◌≢◌, ℕ, Bool, true, false, List, [], ◌∷◌, ◌++◌, append-nil, length, length-append, Option, Some, None, is_some, refl, sym, ◌∙◌, ap, subst, arith, if◌then◌else◌, slice_get, ServerNo, Party, Client, Server, client_eq, server_eq, client_tells, server_tells, Message, Taken, ClientTable, take_row, RowOutcome, Sent, Pick, stable, made_all, World, Memory, Room, server_row, Deliver, handing, after, run, handed, at_memory, ends, took, Setup, Use, Nothing, Deed, room, no_room, delivered_at, IsUsed, rubbish_on, Moment, DoesStep, CutShort, HandsOver, Answer, tells_alone, room_on, row_on, of_row, of_server, of_taken, its_answer, IsGiven, IsDone, IsTaken, IsStopped, stopped_at, IsTooLong, IsStale, Calls, free_found}
+use Rattle.jn_storage.specs.DeviceCalls.{row_calls}
 use Rattle.jn_base.specs.declared.names.ClientNo.{ClientNo}
 use Rattle.jn_records.specs.declared.net_list.Need.{Need}
 use Rattle.jn_report.specs.declared.line.Text.TheVariants as says
@@ -109,7 +109,7 @@ module _ (x : Setup) (a b : Moment) (d : DoesStep x a b) (k : ℕ) where
           one n e = cc
 
           by : IsUsed x d.chance device w (run (handing k (room d.chance q) d.chance.stop ∷ []) w) a.devices b.devices → room d.chance q ≡ room_on x a q m
-          by u = ap (λ (left : Bool). with_room d.chance.free left) (d.befalls.rubbish q)
+          by u = ap (λ (left : Bool). with_room (free_found d.chance.found) left) (d.befalls.rubbish q)
               ∙ ap (λ (free : Need). with_room free (rubbish_on x a.devices q)) u.its.free
               ∙ ap (λ (n : Memory). room_on x a q n) (one u.its.memory (sym u.its.up ∙ up))
 

@@ -1,23 +1,23 @@
 -- What is found of works, from one moment of a run to a later one.
-use Rattle.jn_laws.proofs.Common.{◌≡◌, ◌⊎◌, inl, inr, ℕ, ◌≤◌, Bool, true, false, List, [], ◌∷◌, ◌++◌, Option, Some, None, is_some, refl, sym, ◌∙◌, ap, subst, ◌||◌, not, map, if◌then◌else◌, nat_lt, list_all, AllByRecursion, ServerNo, Tid, WorkId, AllFiles, Event, EventInRange, Text, Work, StableState, Prepared, Pick, work_at, World, Memory, new_memory, opening, Step, NextEvent, after, run, IsRun, always, Setup, Devices, is_up, Moment, Leads, none, IsWritten}
+use Rattle.jn_laws.proofs.Common.{◌≡◌, ◌⊎◌, inl, inr, ℕ, ◌≤◌, Bool, true, false, List, [], ◌∷◌, ◌++◌, Option, Some, None, is_some, refl, sym, ◌∙◌, ap, subst, ◌||◌, not, map, if◌then◌else◌, nat_lt, list_all, AllByRecursion, ServerNo, WorkId, AllFiles, Event, EventInRange, Text, StableState, Prepared, Pick, work_at, World, Memory, new_memory, opening, Step, NextEvent, after, run, IsRun, always, Setup, Devices, is_up, Moment, Leads, none, IsWritten}
+use Rattle.jn_rows.specs.declared.worker.Work.{Work}
 use Rattle.jn_schedule.specs.declared.Event.TheVariants as events
 use Rattle.jn_rows.specs.declared.worker.ActiveWork.{ActiveWork}
 use Rattle.jn_system_reports.specs.BetweenSteps.Sent.{HasCommitLine}
-use Rattle.jn_system_reports.specs.BetweenSteps.Parts.{IsPart}
-use Rattle.jn_system_reports.specs.BetweenSteps.Works.{IsFlagged, IsPrepared, IsCarriedOut, IsActive}
-use Rattle.jn_system_reports.specs.Reporting.Reported.{Item, steps_of, world_of}
+use Rattle.jn_system_reports.specs.BetweenSteps.Works.{IsPrepared, IsCarriedOut, IsActive}
+use Rattle.jn_system_reports.specs.Reporting.Reported.{steps_of, world_of}
 use Rattle.jn_system_reports.proofs.BetweenSteps.Standing.{stand, run-stands}
 use Rattle.jn_system_reports.proofs.BetweenSteps.Laws.{as-prepared, reads-kept}
 use Rattle.jn_between.proofs.Found.{Led, led-by}
 use Rattle.jn_headline.proofs.Came.{stuck}
 use Rattle.jn_retold.specs.Retold.{behind, IsAsIn, IsRetold, IsRetoldInPart}
 use Rattle.jn_retold.proofs.Behind.{ups-name-none, run-behind}
-use Rattle.jn_retold.proofs.Forms.{as-behind, Held, between, meeting, settling, cut, ended}
+use Rattle.jn_retold.proofs.Forms.{as-behind, between, meeting, settling, cut, ended}
 use Rattle.jn_retold.proofs.Items.{run-both, is-run-both, one_more, world-more, reported-more}
 use Rattle.jn_retold.proofs.Partly.{partly, raised}
 use Rattle.jn_retold.proofs.Seen.{may-run}
 use Rattle.jn_retold.proofs.Whole.{So, starting, held, so-written}
-use Rattle.jn_laws.specs.Works.{IsFoundWith, IsPreparedWithReads, DoWorksStandWithReads, AreTheirReads}
+use Rattle.jn_laws.specs.Works.{IsFoundWith, IsPreparedWithReads, WorksHoldReads, AreTheirReads}
 
 -- ---- over the whole system
 
@@ -189,8 +189,8 @@ module _ (x : Setup) (schedule : List Event) (images : Devices) (m : Moment) (fe
       at None e some = absurd (off (ap is_some (sym e) ∙ some))
       at (Some p) e some = record { list = p.list; reads = p.reads; found = λ c. each p e c ((r.found W.server c).works W) refl (there c) }
 
-  pub stand-with-reads : DoWorksStandWithReads m.state.course.world
-  stand-with-reads T W k = by ((always x schedule images m few ranges h).0.works.stay T W k)
+  pub hold-reads : WorksHoldReads m.state.course.world
+  hold-reads T W k = by ((always x schedule images m few ranges h).0.works.stay T W k)
     where
       by : IsPrepared r W ⊎ (HasCommitLine r T × IsCarriedOut r W) → IsPreparedWithReads r W ⊎ (HasCommitLine r T × IsCarriedOut r W)
       by (inl there) = inl (with-reads W there)

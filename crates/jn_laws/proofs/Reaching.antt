@@ -1,5 +1,5 @@
 -- Where a world stands that has started and done events.
-use Rattle.jn_laws.proofs.Common.{◌≡◌, ℕ, ◌+◌, ◌≤◌, List, [], ◌∷◌, ◌++◌, append-nil, append_assoc, length, Some, refl, sym, ◌∙◌, ap, subst, drop, Result, Ok, Err, drop-append_seam, map, AllByRecursion, ServerNo, AllFiles, Event, EventInRange, always, between-events, Setup, Devices, ending, Moment, DoesStep, Leads, Task, Begins, InSchedule, AtEnd, before, AreImages, IsWritten}
+use Rattle.jn_laws.proofs.Common.{◌≡◌, ℕ, ◌+◌, ◌≤◌, List, [], ◌∷◌, ◌++◌, append-nil, append_assoc, length, refl, sym, ◌∙◌, ap, subst, drop, Result, Ok, Err, drop-append_seam, map, AllByRecursion, ServerNo, AllFiles, Event, EventInRange, always, between-events, Setup, Devices, ending, Moment, DoesStep, Leads, Begins, InSchedule, AtEnd, before, AreImages, IsWritten}
 use Rattle.std.proofs.lemmas.List.{append_cancel_right}
 use Rattle.jn_device.specs.Device.{DeviceState}
 use Rattle.jn_recovery.specs.declared.counts.PageCounts.{PageCounts}
@@ -8,7 +8,7 @@ use Rattle.jn_store.specs.Store.{StoreView}
 use Rattle.jn_headline.specs.Headline.{IsTrueOfBegun}
 use Rattle.jn_between.specs.Between.{IsTrueBetween, IsTrueAtEnd}
 use Rattle.jn_between.proofs.Ended.{at-the-end}
-use Rattle.jn_stands.specs.Stands.{Standing, Stands}
+use Rattle.jn_stands.specs.Stands.{Stands}
 use Rattle.jn_stands.specs.Going.{IsTold, WentOn, WasCut}
 use Rattle.jn_world.specs.declared.ended.Ended.{Ended}
 use Rattle.jn_world.specs.declared.ended.Ended.TheVariants.{Messages, Epoch, Memory}

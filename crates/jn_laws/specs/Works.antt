@@ -25,8 +25,8 @@ pub record IsPreparedWithReads (r : World) (W : WorkId) : Type 0 where
 
 -- Each work of a flag that may be found, and of a named transaction's end, is prepared with its read units in whatever is found; or the
 -- transaction is named, and the work is carried out wherever it is still found.
-abbrev pub DoWorksStandWithReads : World → Type 0
-DoWorksStandWithReads r = (T : Tid) (W : WorkId) → IsFlagged r T W ⊎ (HasCommitLine r T × IsPart r T W) → IsPreparedWithReads r W ⊎ (HasCommitLine r T × IsCarriedOut r W)
+abbrev pub WorksHoldReads : World → Type 0
+WorksHoldReads r = (T : Tid) (W : WorkId) → IsFlagged r T W ⊎ (HasCommitLine r T × IsPart r T W) → IsPreparedWithReads r W ⊎ (HasCommitLine r T × IsCarriedOut r W)
 
 -- From one moment of a run to a later one: what is found of a prepared work stays, its read units too; and what a work has read while it took
 -- operations is among the read units that are found.

@@ -1,4 +1,4 @@
--- A world of servers that has started and done events, by the clauses of its calls, and the moment of a run at which it stands.
+-- A world of servers that has started and done events, by the clauses of its calls, and the moment of a run at which it is.
 use Rattle.std.specs.Prelude.{◌≡◌, ℕ, ◌+◌, Bool, List, [], ◌∷◌, ◌++◌, map, length, drop, slice_get, Some, Result, Ok}
 use Rattle.jn_device.specs.Device.{DeviceState}
 use Rattle.jn_order.specs.Files.{AllFiles}
@@ -32,7 +32,7 @@ pub data HasDone (S : Type 0) (look : S → StoreView) (device : S → DeviceSta
       → (event : Event) (done : Result (Unit {0}) Ended) (v : World S) (old lines : List Line) → done ≡ Ok tt → DoesScheduled look device (length events + 1) event (standing_of w) done (standing_of v) old lines
       → HasDone S look device stores trace (events ++ event ∷ []) (told ++ added old lines) v
 
--- The world stands at a moment of a run of these events, whatever comes behind them, and its lines are those so far. What holds between any two events
+-- The world is at a moment of a run of these events, whatever comes behind them, and its lines are those so far. What holds between any two events
 -- holds there: the system is consistent, the report is true of the events that are done, and the pages are as the commits of its lines leave them.
 pub record IsReached {S : Type 0} (look : S → StoreView) (device : S → DeviceState) (x : Setup) (files : AllFiles) (images : Devices) (events rest : List Event) (lines : List Line) (w : World S) : Type 0 where
   pub moment : Moment

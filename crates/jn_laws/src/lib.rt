@@ -1,5 +1,5 @@
-//! Laws that go over several crates below. Those of every run: a message has its answer in the event that hands it over, works of commits stand with what
-//! they have read, and a world of servers stands where its events lead. And one of texts: what a report spells is read where a schedule says it.
+//! Laws that go over several crates below. Those of every run: a message has its answer in the event that hands it over, works of commits keep what
+//! they have read, and a world of servers is at the moment to which its events lead. And one of texts: what a report spells is read where a schedule says it.
 #![tactic(auto)]
 
 mod messages;
@@ -12,5 +12,5 @@ pub use messages::{
     the_last_ready_names_its_commit,
 };
 pub use texts::hex_is_read_back;
-pub use works::works_of_commits_stand_with_their_reads;
-pub use worlds::a_world_stands_where_its_events_lead;
+pub use works::works_of_commits_keep_their_reads;
+pub use worlds::a_world_is_at_the_moment_of_its_events;

@@ -8,13 +8,13 @@ ghost use Rattle.jn_written.specs.Chances.{Setup};
 ghost use Rattle.jn_written.specs.Devices.{Devices};
 ghost use Rattle.jn_written.specs.Runs.{Moment, Leads};
 ghost use Rattle.jn_written.specs.Whole.{IsWritten};
-ghost use Rattle.jn_laws.specs.Works.{DoWorksStandWithReads, AreTheirReads};
+ghost use Rattle.jn_laws.specs.Works.{WorksHoldReads, AreTheirReads};
 
-/// At each moment of each run the works of a flag and of a commit stand with their read units, until they are carried out; and what a work has read is among
+/// At each moment of each run the works of a flag and of a commit are found with their read units, until they are carried out; and what a work has read is among
 /// the read units that are found of it.
-pub fn works_of_commits_stand_with_their_reads()
-    ensures stand { (x : Setup) (schedule : List Event) (images : Devices) (m : Moment) → x.servers ≤ 8 → AllByRecursion EventInRange schedule → IsWritten x schedule images m
-        → DoWorksStandWithReads m.state.course.world }
+pub fn works_of_commits_keep_their_reads()
+    ensures hold { (x : Setup) (schedule : List Event) (images : Devices) (m : Moment) → x.servers ≤ 8 → AllByRecursion EventInRange schedule → IsWritten x schedule images m
+        → WorksHoldReads m.state.course.world }
     ensures reads { (x : Setup) (schedule : List Event) (images : Devices) (m later : Moment) → x.servers ≤ 8 → AllByRecursion EventInRange schedule → IsWritten x schedule images m → Leads x m later
         → AreTheirReads m.state.course.world later.state.course.world }
 {}

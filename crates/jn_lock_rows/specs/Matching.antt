@@ -7,8 +7,8 @@ use Rattle.jn_locks.specs.declared.words.Standing.{Standing}
 use Rattle.jn_locks.specs.declared.words.Standing.TheVariants as standings
 use Rattle.jn_locks.specs.declared.words.Want.{Want}
 use Rattle.jn_records.specs.declared.intention.Intention.{Intention}
-use Rattle.jn_locks.specs.Locks.{Table, Wants, together, mode_eq, unit_eq, unit_before, work_before}
-use Rattle.jn_locks.specs.Asked.{rebuilt}
+use Rattle.jn_locks.specs.Locks.{Table, Wants, together, mode_eq, unit_before, work_before, rebuilt}
+use Rattle.jn_base.specs.Names.{unit_eq}
 use Rattle.jn_rows.specs.declared.worker.Work.{Work}
 use Rattle.jn_rows.specs.declared.worker.Phase.{Phase}
 use Rattle.jn_rows.specs.declared.worker.Phase.TheVariants.{Active, Broken, Prepared as Stored}

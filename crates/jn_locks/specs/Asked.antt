@@ -3,7 +3,7 @@ use Rattle.std.specs.Prelude.{◌≡◌, ◌≢◌, Bool, true, false, not, ◌&
 use Rattle.std.specs.List.{list_all}
 use Rattle.jn_base.specs.declared.names.WorkId.{WorkId}
 use Rattle.jn_base.specs.declared.names.LockUnit.{LockUnit}
-use Rattle.jn_base.specs.Names.{work_eq}
+use Rattle.jn_base.specs.Names.{work_eq, unit_eq}
 use Rattle.jn_locks.specs.declared.words.Mode.{Mode}
 use Rattle.jn_locks.specs.declared.words.Mode.TheVariants.{Read, IntentionWrite, Commit}
 use Rattle.jn_locks.specs.declared.words.Conflict.{Conflict}
@@ -13,7 +13,7 @@ use Rattle.jn_locks.specs.declared.words.Want.{Want}
 use Rattle.jn_locks.specs.declared.words.LockFault.{LockFault}
 use Rattle.jn_locks.specs.declared.words.LockFault.TheVariants.{Conflict as Conflicts, Memory}
 use Rattle.jn_locks.specs.declared.words.Broken.{Broken}
-use Rattle.jn_locks.specs.Locks.{together, mode_eq, unit_eq, is_unit, Table, Wants, holds, or_active, made_vulnerable, blocks, yields, unit_before, work_before}
+use Rattle.jn_locks.specs.Locks.{together, mode_eq, Table, Wants, holds, or_active, made_vulnerable, blocks, yields, unit_before, work_before}
 
 -- no work stands in the way
 abbrev pub NoConflict : Table → WorkId → Wants → Type 0
@@ -87,12 +87,6 @@ IsRefusal t W wants Memory = Unit {0}
 abbrev pub IsConflictFault : Table → WorkId → Wants → LockFault → Type 0
 IsConflictFault t W wants (Conflicts c) = IsConflict t W wants c
 IsConflictFault t W wants Memory = ⊥
-
--- what a restart makes of the units that a prepared work writes and reads
-abbrev pub rebuilt : List LockUnit → List LockUnit → Wants
-rebuilt commits reads u Read = is_unit reads u
-rebuilt commits reads u IntentionWrite = false
-rebuilt commits reads u Commit = is_unit commits u
 
 -- each other work's locks go with these
 abbrev pub LocksFit : Table → WorkId → Wants → Type 0

@@ -4,7 +4,7 @@ use Rattle.std.specs.Option.{option_map}
 use Rattle.jn_base.specs.declared.names.WorkId.{WorkId}
 use Rattle.jn_base.specs.declared.names.LockUnit.{LockUnit}
 use Rattle.jn_base.specs.declared.names.LockUnit.TheVariants.{File, Block}
-use Rattle.jn_base.specs.Names.{file_eq, block_eq, work_eq}
+use Rattle.jn_base.specs.Names.{unit_eq, work_eq}
 use Rattle.jn_locks.specs.declared.words.Mode.{Mode}
 use Rattle.jn_locks.specs.declared.words.Mode.TheVariants.{Read, IntentionWrite, Commit}
 use Rattle.jn_locks.specs.declared.words.Standing.{Standing}
@@ -23,11 +23,6 @@ mode_eq Read Read = true
 mode_eq IntentionWrite IntentionWrite = true
 mode_eq Commit Commit = true
 mode_eq _ _ = false
-
-abbrev pub unit_eq : LockUnit → LockUnit → Bool
-unit_eq (File f) (File g) = file_eq f g
-unit_eq (Block f p) (Block g q) = file_eq f g && block_eq p q
-unit_eq _ _ = false
 
 -- by file, the file itself before its blocks
 unfoldable pub unit_before : LockUnit → LockUnit → Bool
@@ -105,3 +100,9 @@ yields t W wants u V = collides t W wants u V && gives_way t V
 abbrev pub is_unit : List LockUnit → LockUnit → Bool
 is_unit [] u = false
 is_unit (v ∷ vs) u = unit_eq v u || is_unit vs u
+
+-- what a restart makes of the units that a prepared work writes and reads
+abbrev pub rebuilt : List LockUnit → List LockUnit → Wants
+rebuilt commits reads u Read = is_unit reads u
+rebuilt commits reads u IntentionWrite = false
+rebuilt commits reads u Commit = is_unit commits u

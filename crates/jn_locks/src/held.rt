@@ -3,7 +3,7 @@
 ghost use Rattle.std.specs.Prelude.{◌≡◌, ◌||◌, ◌&&◌, ◌+◌, ◌≤◌, ◌<◌, [], true, false, None, Some, IfOk, IfErr, OnOk, OnErr, length, if◌then◌else◌};
 ghost use Rattle.jn_base.specs.declared.names.WorkId.{WorkId};
 ghost use Rattle.jn_base.specs.declared.names.LockUnit.{LockUnit};
-ghost use Rattle.jn_base.specs.Names.{work_eq};
+ghost use Rattle.jn_base.specs.Names.{unit_eq, work_eq};
 ghost use Rattle.jn_locks.specs.declared.words.Mode.{Mode};
 ghost use Rattle.jn_locks.specs.Locks as locks;
 ghost use Rattle.jn_locks.specs.Asked as asked;
@@ -57,7 +57,7 @@ impl Held {
         requires has_place { (is_among (tables.at self.old.units want.unit) work || tables.has_room_at self.old.units want.unit) ≡ true }
         requires has_room { 0 < tables.room_of self.old.works work }
         requires sound { IsSoundTable self.old }
-        ensures holds { (V : WorkId) (u : LockUnit) (m : Mode) → (table_of self.new).holds V u m ≡ ((table_of self.old).holds V u m || (work_eq work V && (locks.unit_eq want.unit u && locks.mode_eq want.mode m))) }
+        ensures holds { (V : WorkId) (u : LockUnit) (m : Mode) → (table_of self.new).holds V u m ≡ ((table_of self.old).holds V u m || (work_eq work V && (unit_eq want.unit u && locks.mode_eq want.mode m))) }
         ensures standing { (V : WorkId) → (table_of self.new).standing V ≡ (table_of self.old).standing V }
         ensures sound_after { IsSoundTable self.new }
         ensures here { is_among (tables.at self.new.units want.unit) work ≡ true }
@@ -169,7 +169,7 @@ impl Held {
         reads: &[LockUnit],
     ) -> Result<(), AllocError>
         requires { IsSoundTable self.old }
-        ensures rebuilt { OnOk result (asked.Rebuilds (table_of self.old) work (asked.rebuilt commits.now reads.now) (table_of self.new)) }
+        ensures rebuilt { OnOk result (asked.Rebuilds (table_of self.old) work (locks.rebuilt commits.now reads.now) (table_of self.new)) }
         ensures unchanged { OnErr result (table_of self.new ≡ table_of self.old) }
         ensures sound_after { IsSoundTable self.new }
     {

@@ -31,7 +31,7 @@ pub(crate) fn mode_eq(a: Mode, b: Mode) -> bool
 }
 
 pub(crate) fn unit_eq(a: LockUnit, b: LockUnit) -> bool
-    ensures { result ≡ locks.unit_eq a b }
+    ensures { result ≡ names.unit_eq a b }
 {
     match (a, b) {
         (LockUnit::File(f), LockUnit::File(g)) => f.0 == g.0,

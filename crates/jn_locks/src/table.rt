@@ -4,8 +4,8 @@ ghost use Rattle.std.specs.Prelude.{◌≡◌, None, false, IfOk, IfErr, OnOk, O
 ghost use Rattle.jn_base.specs.declared.names.WorkId.{WorkId};
 ghost use Rattle.jn_base.specs.declared.names.LockUnit.{LockUnit};
 ghost use Rattle.jn_locks.specs.declared.words.Mode.{Mode};
-ghost use Rattle.jn_locks.specs.Locks.{wanted, commit_wants, IsCompatible};
-ghost use Rattle.jn_locks.specs.Asked.{Asks, Commits, Rebuilds, Releases, Exposes, LocksFit, NoConflict, IsRefusal, IsConflictFault, AreHolders, rebuilt};
+ghost use Rattle.jn_locks.specs.Locks.{wanted, commit_wants, IsCompatible, rebuilt};
+ghost use Rattle.jn_locks.specs.Asked.{Asks, Commits, Rebuilds, Releases, Exposes, LocksFit, NoConflict, IsRefusal, IsConflictFault, AreHolders};
 ghost use Rattle.jn_locks.specs.Tables.{table_of, IsSoundTable};
 
 use crate::held::Held;

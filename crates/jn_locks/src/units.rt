@@ -3,7 +3,8 @@
 ghost use Rattle.std.specs.Prelude.{◌≡◌, ◌||◌, [], true, false, not, IfOk, OnOk, if◌then◌else◌};
 ghost use Rattle.jn_base.specs.declared.names.LockUnit.{LockUnit};
 ghost use Rattle.jn_locks.specs.declared.words.Mode.{Mode as AnyMode};
-ghost use Rattle.jn_locks.specs.Locks.{unit_eq, mode_eq};
+ghost use Rattle.jn_locks.specs.Locks.{mode_eq};
+ghost use Rattle.jn_base.specs.Names.{unit_eq};
 ghost use Rattle.jn_locks.specs.Holders.{has, holds_in, is_among, without, with_holder};
 ghost use Rattle.jn_locks.specs.Tables as tables;
 

@@ -29,7 +29,7 @@ pub(crate) fn unit_wants(
     commits: &[LockUnit],
     reads: &[LockUnit],
 ) -> Result<Vec<Want>, AllocError>
-    ensures { IfOk result (λ v. (u : LockUnit) (m : Mode) → locks.wanted v.items u m ≡ asked.rebuilt commits.now reads.now u m) }
+    ensures { IfOk result (λ v. (u : LockUnit) (m : Mode) → locks.wanted v.items u m ≡ locks.rebuilt commits.now reads.now u m) }
 {
     let mut wants = Vec::new(alloc);
     push_units(&mut wants, commits, Mode::Commit)?;

@@ -9,13 +9,13 @@ pub use Rattle.jn_found.specs.Pages.{found_on}
 pub use Rattle.jn_found.proofs.Picking.{same_found, same_recoverable, fewer_picked}
 pub use Rattle.jn_msgs.specs.Collected.{Collected}
 pub use Rattle.jn_system.specs.WholeSystem.Servers.{server_again, server_row, of_coordinator, of_worker, of_step, storage_of, restored, Room, server_step}
-pub use Rattle.jn_records.specs.StablePages.{Counts}
+pub use Rattle.jn_records.specs.StablePages.{Counts, slot_place, head_place}
 pub use Rattle.jn_server.specs.Befalling.{Befalls}
-pub use Rattle.jn_server.specs.Handling.{TimesOut, IsDone, IsStopped, Steps, row_calls, StepLeaves}
+pub use Rattle.jn_server.specs.Handling.{TimesOut, IsDone, IsStopped, Steps, StepLeaves}
 pub use Rattle.jn_server.specs.Seen.{Parts, view_with, memory_of, ServerView, room_of}
 pub use Rattle.jn_storage.specs.Calls.{state, CountsErased}
-pub use Rattle.jn_storage.specs.Storage.{Accounts, StorageLater, intentions}
-pub use Rattle.jn_store.specs.Store.{StoreView, HasSamePages, IsCalm, StoreLater, IsClean, IsWholePage}
+pub use Rattle.jn_storage.specs.Storage.{Accounts, StorageLater}
+pub use Rattle.jn_store.specs.Store.{StoreView, HasSamePages, IsCalm, StoreLater, IsWholePage, IsClean}
 pub use Rattle.jn_transactions.specs.Telling.{added}
 pub use Rattle.jn_place.specs.declared.place.Slot.{Slot}
 pub use Rattle.jn_place.specs.declared.place.Slot.TheVariants.{Up, Down, Gone}
@@ -24,7 +24,7 @@ pub use Rattle.jn_place.specs.Exact.{AsksAgain, TimedOut, Crashed, Befell, Sends
 pub use Rattle.jn_place.specs.Inner.{SaysSame, IsAsBefore, StaysAs, Scrubs, IsRowDone, IsRowStopped, RowEnds, Handles, IsWorking, Works, Shows, Closes, told_at, Follows, IsRisen, IsCutUp, IsAtLast, StandsUp, Rises, Lifts, WhereDone, LeavesOwnImage, Idles}
 pub use Rattle.jn_place.specs.Places.{Stands, HoldsUp, NoneTold, IsPlace, IsDownAt, CountsAt, is_up, IsHeld, HasPages, is_there}
 pub use Rattle.jn_msgs.specs.declared.message.Message.{Message}
-pub use Rattle.jn_system.specs.WholeSystem.World.{Memory}
+pub use Rattle.jn_system.specs.WholeSystem.World.{Memory, with_epoch}
 pub use Rattle.jn_coord.specs.Remembered.{table_of}
 pub use Rattle.jn_intent.specs.Scrubbing.{Scrubbed, counts_in}
 pub use Rattle.jn_rows.specs.Coordinator.{close_clients_row, restored_transaction, restored_transactions}
@@ -32,8 +32,9 @@ pub use Rattle.jn_rows.specs.Outcomes.{RowOutcome, quiet}
 pub use Rattle.jn_rows.specs.Stable.{Unchanged, StableState, Pick, IsStopState, Prepared, CarryOut, RemoveWork, is_going, at_work, made_by, made_all, FlagState}
 pub use Rattle.jn_server.specs.declared.show.Shown.{Shown}
 pub use Rattle.jn_within.specs.Taking.{AllCanBeTaken}
+pub use Rattle.jn_storage.specs.DeviceCalls.{row_calls, step_calls}
 pub use Rattle.jn_found.specs.Recoverable.{IsRecoverable}
-pub use Rattle.jn_recovery.specs.Loading.{counts_by, most_calls, IsSameOrNext}
+pub use Rattle.jn_recovery.specs.Counts.{counts_by, most_calls}
 pub use Rattle.jn_recovery.specs.declared.counts.PageCounts.{PageCounts}
 pub use Rattle.jn_store.specs.Pairs.{pairs_view}
 pub use Rattle.jn_place.specs.declared.place.Place.{Place}

@@ -1,5 +1,6 @@
 -- Each background step leaves one less to make.
-use Rattle.jn_place.proofs.Common.{◌≡◌, ◌≢◌, ◌⊎◌, inl, inr, ◌≤◌, ◌<◌, ℕ, ◌+◌, Bool, true, false, true≢false, List, [], ◌∷◌, length, Option, Some, None, is_some, refl, sym, ◌∙◌, ap, subst, arith, if◌then◌else◌, not, slice_get, work_tells, work_eq, DeviceState, Collected, Files, change, of_worker, of_step, storage_of, Memory, RowOutcome, quiet, StableState, Prepared, CarryOut, RemoveWork, is_going, at_work, made_by, made_all, StepLeaves, ServerView, view_with, memory_of, room_of, state, intentions, StoreView, Slot, Up, Down, Gone, WhereUp, WorkLeaves, work_of, Works, Follows}
+use Rattle.jn_place.proofs.Common.{◌≡◌, ◌≢◌, ◌⊎◌, inl, inr, ◌≤◌, ◌<◌, ℕ, ◌+◌, Bool, true, false, true≢false, List, [], ◌∷◌, length, Option, Some, None, is_some, refl, sym, ◌∙◌, ap, subst, arith, if◌then◌else◌, not, slice_get, work_tells, work_eq, DeviceState, Collected, Files, change, of_worker, of_step, storage_of, Memory, RowOutcome, quiet, StableState, Prepared, CarryOut, RemoveWork, is_going, at_work, made_by, made_all, StepLeaves, ServerView, view_with, memory_of, room_of, state, StoreView, Slot, Up, Down, Gone, WhereUp, WorkLeaves, work_of, Works, Follows}
+use Rattle.jn_storage.specs.Orderly.{intentions}
 use Rattle.std.proofs.lemmas.Option.{slice_get_within}
 use Rattle.jn_base.specs.declared.names.WorkId.{WorkId}
 use Rattle.jn_system.proofs.WholeSystem.WorkerRows.{going-is}

@@ -1,11 +1,12 @@
 -- A restart, from the store with power to the server.
-use Rattle.jn_place.proofs.Common.{most_calls, ◌≡◌, ◌≤◌, ◌<◌, ◌+◌, ℕ, suc, Bool, true, false, true≢false, List, [], ◌∷◌, ◌++◌, map, Option, Some, None, is_some, ⊎_elim, ◌||◌, refl, sym, ◌∙◌, ap, subst, arith, Result, Ok, Err, IfOk, ServerNo, Tid, tid_eq, tid_tells, DeviceState, PowersUp, powered_off, cleared, found_on, fewer_picked, restored, Memory, Counts, Found, Transaction, restored_transaction, restored_transactions, StableState, FlagState, IsRestarted, IsNotRestarted, Parts, view_with, memory_of, StoreView, IsCalm, work_eq, IsSameOrNext, When, Line, Accounts, StoreLater, Restarted, Slot, Up, Down, Gone, lines_at, texts_of_step, IsTried, IsUpAt, IsStoppedUp, IsUsedUpAt, CameTo, IsRestart, IsCalmAt, ComesCalm, is_stopped, IsRisen, IsCutUp, IsAtLast, SaysSame, StaysAs, StandsUp, Rises, Lifts, told_at, CameUp, IsHeld}
+use Rattle.jn_place.proofs.Common.{most_calls, ◌≡◌, ◌≤◌, ◌<◌, ◌+◌, ℕ, suc, Bool, true, false, true≢false, List, [], ◌∷◌, ◌++◌, map, Option, Some, None, is_some, ⊎_elim, ◌||◌, refl, sym, ◌∙◌, ap, subst, arith, Result, Ok, Err, IfOk, ServerNo, Tid, tid_eq, tid_tells, DeviceState, PowersUp, powered_off, cleared, found_on, fewer_picked, restored, Memory, Counts, Found, Transaction, restored_transaction, restored_transactions, StableState, FlagState, IsRestarted, IsNotRestarted, Parts, view_with, memory_of, StoreView, IsCalm, work_eq, When, Line, Accounts, StoreLater, Restarted, Slot, Up, Down, Gone, lines_at, texts_of_step, IsTried, IsUpAt, IsStoppedUp, IsUsedUpAt, CameTo, IsRestart, IsCalmAt, ComesCalm, is_stopped, IsRisen, IsCutUp, IsAtLast, SaysSame, StaysAs, StandsUp, Rises, Lifts, told_at, CameUp, IsHeld, with_epoch, slot_place, head_place, pairs_view, IsWholePage}
+use Rattle.jn_recovery.specs.Loading.{IsSameOrNext}
 use Rattle.std.specs.List.{list_any}
+use Rattle.jn_found.specs.Puts.{IsFrontClean, IsFrontWhole}
 use Rattle.jn_system.specs.WholeSystem.Steps.{AreNames, tid_before}
 use Rattle.jn_recovery.specs.declared.load.DownCause.{DownCause}
 use Rattle.jn_recovery.specs.declared.load.DownCause.TheVariants.{Stopped, EpochsUsedUp}
 use Rattle.jn_locks.specs.Locks.{work_before}
-use Rattle.jn_system.specs.SmallSteps.Steps.{with_epoch}
 use Rattle.jn_place.specs.declared.place.Restarted.TheVariants as came
 use Rattle.jn_place.proofs.Ending.{Sees, spent, spent-on, calm-cleared}
 
@@ -49,6 +50,8 @@ module _ {S : Type 0} (look : S → StoreView) (device : S → DeviceState) (q :
     epoch_is = told-epoch;
     before_last = let fits = r.loaded.epoch_fits in omega (arith, told-epoch, fits);
     clean = r.loaded.recovered.rubbish;
+    front = r.loaded.front;
+    front_whole = r.loaded.front_whole;
   }
     where
       x : StableState
@@ -101,6 +104,28 @@ module _ {S : Type 0} (look : S → StoreView) (device : S → DeviceState) (see
   pub lifted : (a : Slot S) (s lit : S) (r : Restarted) (b : Slot S) → a ≡ Down s → PowersUp (device s) (device lit) → SaysSame look s lit → Rises look device q g lit r b → Lifts look device q g a r b
   lifted a s lit r b is powers same h = subst (λ (x : Slot S). Lifts look device q g x r b) (sym is) (record { lit = lit; powers = powers; same = same; rises = h })
 
+  lit-calm : (s lit : S) → PowersUp (device s) (device lit) → (look s).waiting ≡ [] → IsCalm (look lit)
+  lit-calm s lit powers quiet = record {
+    quiet = ap (λ (v : StoreView). v.waiting) (sees lit) ∙ powers.waiting ∙ sym (ap (λ (v : StoreView). v.waiting) (sees s)) ∙ quiet;
+    power = ap (λ (v : StoreView). v.power) (sees lit) ∙ powers.power_is;
+  }
+
+  -- what the device told is forgotten, and no page changes by that
+  clean-stays : (s t : S) → device t ≡ cleared (device s) → IsFrontClean g (look s) → IsFrontClean g (look t)
+  clean-stays s t after h = subst (λ (v : StoreView). IsFrontClean g v) (sym (sees t)) (subst (λ (d : DeviceState). IsFrontClean g (pairs_view d)) (sym after) (by (subst (λ (v : StoreView). IsFrontClean g v) (sees s) h)))
+    where
+      by : IsFrontClean g (pairs_view (device s)) → IsFrontClean g (pairs_view (cleared (device s)))
+      by f = record { root = f.root; pool = f.pool; heads = f.heads }
+
+  whole-stays : (s t : S) → device t ≡ cleared (device s) → IsFrontWhole g (look s) → IsFrontWhole g (look t)
+  whole-stays s t after h = subst (λ (v : StoreView). IsFrontWhole g v) (sym (sees t)) (subst (λ (d : DeviceState). IsFrontWhole g (pairs_view d)) (sym after) (by (subst (λ (v : StoreView). IsFrontWhole g v) (sees s) h)))
+    where
+      page : (i : ℕ) → IsWholePage (pairs_view (device s)) i → IsWholePage (pairs_view (cleared (device s))) i
+      page i w = record { both = w.both; clean = w.clean }
+
+      by : IsFrontWhole g (pairs_view (device s)) → IsFrontWhole g (pairs_view (cleared (device s)))
+      by f = record { root = page 0 f.root; pool = λ i below. page (slot_place g i) (f.pool i below); heads = λ i below. page (head_place g i) (f.heads i below) }
+
   module _ (s lit : S) (powers : PowersUp (device s) (device lit)) (same : SaysSame look s lit) where
     tried : (t u : S) (power : Bool) → StoreLater (look lit) (look t) → (look t).calls ≤ (look lit).calls + most_calls g → (look t).power ≡ power → device u ≡ cleared (device t) → IsTried g (device t).told power (device s) (device u)
     tried t u power later few lit-is after = record { powered = device lit; up = powers; spent = spent look device sees (most_calls g) lit t u power later few lit-is after }
@@ -117,6 +142,8 @@ module _ {S : Type 0} (look : S → StoreView) (device : S → DeviceState) (see
       epoch_is = subst (λ (x : StableState). epoch ≡ x.epoch + 1) at h.epoch_is;
       before_last = subst (λ (x : StableState). x.epoch < 4294967295) at h.before_last;
       clean = ap (λ (a : Accounts). a.rubbish) stays.0.accounts ∙ h.clean;
+      front = clean-stays m.storage.0 b.storage.0 stays.1 h.front;
+      front_whole = λ quiet. whole-stays m.storage.0 b.storage.0 stays.1 (h.front_whole (lit-calm s lit powers (ap (λ (v : StoreView). v.waiting) (sees s) ∙ quiet)));
     }
       where
         at : found_on g (look lit) h.pick ≡ found_on g (look s) h.pick
@@ -169,12 +196,6 @@ module _ {S : Type 0} (look : S → StoreView) (device : S → DeviceState) (see
   restarted when lines lines' Gone m b r h stays e = absurd h
 
   -- ---- while no fault waits
-
-  lit-calm : (s lit : S) → PowersUp (device s) (device lit) → (look s).waiting ≡ [] → IsCalm (look lit)
-  lit-calm s lit powers quiet = record {
-    quiet = ap (λ (v : StoreView). v.waiting) (sees lit) ∙ powers.waiting ∙ sym (ap (λ (v : StoreView). v.waiting) (sees s)) ∙ quiet;
-    power = ap (λ (v : StoreView). v.power) (sees lit) ∙ powers.power_is;
-  }
 
   used-quiet : (lit m b : S) → IsAtLast look device g lit m → device b ≡ cleared (device m) → IsCalm (look lit) → (look b).waiting ≡ []
   used-quiet lit m b h after calm =

@@ -1,6 +1,5 @@
 -- Each call of a server that is up, with what follows it.
-use Rattle.jn_place.proofs.Common.{Scrubs, ◌≡◌, ℕ, Bool, List, ◌++◌, Option, is_some, ServerNo, DeviceState, Message, Collected, server_row, of_coordinator, Counts, When, Line, close_clients_row, Shown, view_with, memory_of, room_of, state, StoreView, Slot, Up, Down, Gone, lines_at, texts_of_step, Took, WorkedBy, ScrubbedBy, Showed, Closed, StaysCalm, idle_row, Handles, Works, Idles, Shows, IsStepOf, row_calls, Parts, Closes, told_at, Follows, Stands}
-use Rattle.jn_storage.specs.DeviceCalls.{step_calls}
+use Rattle.jn_place.proofs.Common.{Scrubs, ◌≡◌, ℕ, Bool, List, ◌++◌, Option, is_some, ServerNo, DeviceState, Message, Collected, server_row, of_coordinator, Counts, When, Line, close_clients_row, Shown, view_with, memory_of, room_of, state, StoreView, Slot, Up, Down, Gone, lines_at, texts_of_step, Took, WorkedBy, ScrubbedBy, Showed, Closed, StaysCalm, idle_row, Handles, Works, Idles, Shows, IsStepOf, row_calls, Parts, Closes, told_at, Follows, Stands, step_calls}
 use Rattle.jn_place.proofs.Ending.{Sees, step-of, calm-of}
 
 module _ {S : Type 0} (look : S → StoreView) (device : S → DeviceState) (sees : Sees look device) (q : ServerNo) (g : Counts) (most : ℕ) (when : When) (lines lines' : List Line) where

@@ -14,6 +14,7 @@ use Rattle.jn_device.specs.Device.{DeviceState}
 use Rattle.jn_device.specs.Events.{PowersUp, powered_off, cleared}
 use Rattle.jn_device.specs.Happens.{Happens}
 use Rattle.jn_found.specs.Images.{IsImage}
+use Rattle.jn_found.specs.Puts.{IsFrontClean, IsFrontWhole}
 use Rattle.jn_found.specs.Pages.{found_on}
 use Rattle.jn_intent.specs.Scrubbing.{IsIdle}
 use Rattle.jn_locks.specs.Locks.{work_before}
@@ -22,25 +23,25 @@ use Rattle.jn_msgs.specs.Collected.{Collected}
 use Rattle.jn_system.specs.WholeSystem.Printing.{ArePrints, prints_in}
 use Rattle.jn_system.specs.WholeSystem.Servers.{server_row, server_step, server_again, server_timeout, of_coordinator, restored}
 use Rattle.jn_system.specs.WholeSystem.Steps.{AreNames, tid_before}
-use Rattle.jn_system.specs.WholeSystem.World.{Memory}
+use Rattle.jn_system.specs.WholeSystem.World.{Memory, with_epoch}
 use Rattle.jn_records.specs.StablePages.{Counts}
-use Rattle.jn_recovery.specs.Loading.{IsSameOrNext, most_calls}
+use Rattle.jn_recovery.specs.Loading.{IsSameOrNext}
+use Rattle.jn_recovery.specs.Counts.{most_calls}
 use Rattle.jn_report.specs.declared.line.When.{When}
 use Rattle.jn_report.specs.declared.line.Text.{Text}
 use Rattle.jn_report.specs.declared.line.Text.TheVariants as says
 use Rattle.jn_report.specs.declared.line.Line.{Line}
 use Rattle.jn_rows.specs.Coordinator.{close_clients_row}
 use Rattle.jn_rows.specs.Outcomes.{RowOutcome}
-use Rattle.jn_system.specs.SmallSteps.Steps.{with_epoch}
 use Rattle.jn_rows.specs.Stable.{Pick, IsStopState, made_all}
 use Rattle.jn_rows.specs.Worker.{timeout_row}
 use Rattle.jn_server.specs.declared.show.Shown.{Shown}
-use Rattle.jn_server.specs.Handling.{row_calls, LeavesRubbish, StepLeaves}
+use Rattle.jn_server.specs.Handling.{LeavesRubbish, StepLeaves}
 use Rattle.jn_server.specs.Seen.{Parts, ServerView, view_with, memory_of, room_of}
 use Rattle.jn_server.specs.Showing.{print_of}
 use Rattle.jn_server.specs.Reading.{IsRoomOfPages}
 use Rattle.jn_storage.specs.Calls.{state}
-use Rattle.jn_storage.specs.DeviceCalls.{step_calls}
+use Rattle.jn_storage.specs.DeviceCalls.{step_calls, row_calls}
 use Rattle.jn_store.specs.DeviceCalls.{put_calls, cleaned_get_calls}
 use Rattle.jn_store.specs.Pairs.{pairs_view}
 use Rattle.jn_store.specs.Store.{StoreView, IsCalm, IsClean, IsWholePage}
@@ -247,6 +248,9 @@ pub record IsUpAt {S : Type 0} (look : S → StoreView) (device : S → DeviceSt
   pub before_last : (found_on g (look s) pick).epoch < 4294967295
   -- no record is rubbish any more
   pub clean : (view_with look p').storage.accounts.rubbish ≡ []
+  -- and root, records and heads are clean, and whole where no fault waited
+  pub front : IsFrontClean g (look p'.storage.0)
+  pub front_whole : (device s).waiting ≡ [] → IsFrontWhole g (look p'.storage.0)
 
 -- It was stopped: each pick finds what some pick found before, in the same epoch or the next.
 pub record IsStoppedUp {S : Type 0} (look : S → StoreView) (device : S → DeviceState) (g : Counts) (told : List Outside) (s s' : S) : Type 0 where

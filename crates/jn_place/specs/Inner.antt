@@ -8,16 +8,17 @@ use Rattle.jn_base.specs.Names.{tid_eq, work_eq}
 use Rattle.jn_device.specs.Device.{DeviceState}
 use Rattle.jn_device.specs.Events.{PowersUp, powered_off, cleared}
 use Rattle.jn_found.specs.Pages.{found_on}
+use Rattle.jn_found.specs.Puts.{IsFrontClean, IsFrontWhole}
 use Rattle.jn_intent.specs.Scrubbing.{counts_in}
 use Rattle.jn_locks.specs.Locks.{work_before}
-use Rattle.jn_system.specs.SmallSteps.Steps.{with_epoch}
 use Rattle.jn_msgs.specs.declared.message.Message.{Message}
 use Rattle.jn_msgs.specs.Collected.{Collected}
 use Rattle.jn_system.specs.WholeSystem.Servers.{server_row, of_coordinator, restored}
 use Rattle.jn_system.specs.WholeSystem.Steps.{AreNames, tid_before}
-use Rattle.jn_system.specs.WholeSystem.World.{Memory}
+use Rattle.jn_system.specs.WholeSystem.World.{Memory, with_epoch}
 use Rattle.jn_records.specs.StablePages.{Counts}
-use Rattle.jn_recovery.specs.Loading.{IsSameOrNext, most_calls}
+use Rattle.jn_recovery.specs.Loading.{IsSameOrNext}
+use Rattle.jn_recovery.specs.Counts.{most_calls}
 use Rattle.jn_rows.specs.declared.coordinator.Transaction.{Transaction}
 use Rattle.jn_rows.specs.Coordinator.{close_clients_row}
 use Rattle.jn_rows.specs.Outcomes.{RowOutcome}
@@ -25,10 +26,9 @@ use Rattle.jn_rows.specs.Stable.{Pick, IsStopState, made_all}
 use Rattle.jn_server.specs.declared.show.Shown.{Shown}
 use Rattle.jn_server.specs.Seen.{Parts, ServerView, view_with, memory_of, room_of}
 use Rattle.jn_storage.specs.Calls.{state}
-use Rattle.jn_storage.specs.DeviceCalls.{step_calls}
+use Rattle.jn_storage.specs.DeviceCalls.{step_calls, row_calls}
 use Rattle.jn_storage.specs.Storage.{StorageLater}
 use Rattle.jn_store.specs.DeviceCalls.{put_calls, cleaned_get_calls}
-use Rattle.jn_server.specs.Handling.{row_calls}
 use Rattle.jn_store.specs.Store.{StoreView, StoreLater, IsCalm}
 use Rattle.jn_place.specs.declared.place.Restarted.{Restarted}
 use Rattle.jn_place.specs.declared.place.Restarted.TheVariants as came
@@ -151,6 +151,8 @@ pub record IsRisen {S : Type 0} (look : S → StoreView) (q : ServerNo) (g : Cou
   pub epoch_is : epoch ≡ (found_on g (look s) pick).epoch + 1
   pub before_last : (found_on g (look s) pick).epoch < 4294967295
   pub clean : (view_with look p').storage.accounts.rubbish ≡ []
+  pub front : IsFrontClean g (look p'.storage.0)
+  pub front_whole : IsCalm (look s) → IsFrontWhole g (look p'.storage.0)
 
 -- or it was stopped
 pub record IsCutUp {S : Type 0} (look : S → StoreView) (g : Counts) (s s' : S) : Type 0 where

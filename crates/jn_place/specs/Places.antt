@@ -4,7 +4,7 @@ use Rattle.jn_base.specs.declared.names.ServerNo.{ServerNo}
 use Rattle.jn_found.specs.Recoverable.{IsRecoverable}
 use Rattle.jn_intent.specs.Scrubbing.{counts_in}
 use Rattle.jn_records.specs.StablePages.{Counts, page_count}
-use Rattle.jn_recovery.specs.Loading.{counts_by}
+use Rattle.jn_recovery.specs.Counts.{counts_by}
 use Rattle.jn_server.specs.Reading.{StandsOnPages}
 use Rattle.jn_server.specs.Seen.{ServerView, view_with, IsServer}
 use Rattle.jn_store.specs.Store.{StoreView}

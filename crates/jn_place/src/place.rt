@@ -4,7 +4,7 @@ ghost use Rattle.jn_base.specs.declared.names.ServerNo.{ServerNo};
 ghost use Rattle.jn_device.specs.Events.{PowersUp, powered_off, Decays, Revives, Arms, is_within, disarmed, cleared};
 ghost use Rattle.jn_found.specs.Recoverable.{IsRecoverable};
 ghost use Rattle.jn_records.specs.StablePages.{Counts, page_count};
-ghost use Rattle.jn_recovery.specs.Loading.{counts_by};
+ghost use Rattle.jn_recovery.specs.Counts.{counts_by};
 ghost use Rattle.jn_rows.specs.declared.coordinator.Transaction.{Transaction};
 ghost use Rattle.jn_within.specs.Taking.{CanBeTaken, AllCanBeTaken};
 ghost use Rattle.jn_place.specs.Calls.{Serves, Called, Answered, LeavesStore, CameUp, Left, StandsOn};

@@ -36,7 +36,7 @@ pub use Rattle.jn_records.specs.Names.{tid_bytes, work_bytes, unit_bytes, TidFit
 unfoldable pub use Rattle.jn_records.specs.Names.{tid_at, work_at, unit_at}
 pub use Rattle.jn_records.specs.Intentions.{what_code, what_of, intention_bytes, IntentionFits}
 unfoldable pub use Rattle.jn_records.specs.Intentions.{intention_at}
-pub use Rattle.jn_records.specs.Records.{UnitFits, unit_has_page, prepared_bytes, record_bytes, reads_have_page, has_page, PreparedFits, FlagFits, IntentionRecordFits, RecordFits, prepared, ascends}
+pub use Rattle.jn_records.specs.Records.{UnitFits, unit_has_page, prepared_bytes, record_bytes, reads_have_page, has_page, PreparedFits, FlagFits, RecordFits, prepared, ascends}
 unfoldable pub use Rattle.jn_records.specs.Records.{record_page, intention_record_at, work_head_at, prepared_at, flag_at, record_at}
 pub use Rattle.jn_records.specs.declared.root.Root.{Root}
 pub use Rattle.jn_records.specs.Pages.{root_bytes, IsRoot}

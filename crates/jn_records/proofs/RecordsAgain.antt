@@ -1,5 +1,5 @@
 -- A record is read again from its page.
-use Rattle.jn_records.proofs.Common.{◌≡◌, ◌<◌, ◌≤◌, ◌^◌, ◌-◌, ℕ, Bool, true, false, List, [], ◌∷◌, ◌++◌, length, replicate, Some, refl, ap, ◌∙◌, arith, flat_map, list_all, AllByRecursion, nat_tests, big_bytes, LockUnit, Tid, WorkId, StoredIntention, tid_bytes, work_bytes, unit_bytes, WorkFits, work_at, unit_at, intention_bytes, prepared_bytes, record_bytes, record_page, unit_has_page, reads_have_page, has_page, UnitFits, PreparedFits, FlagFits, IntentionRecordFits, RecordFits, intention_record_at, work_head_at, prepared, prepared_at, flag_at, record_at}
+use Rattle.jn_records.proofs.Common.{◌≡◌, ◌<◌, ◌≤◌, ◌^◌, ◌-◌, ℕ, Bool, true, false, List, [], ◌∷◌, ◌++◌, length, replicate, Some, refl, ap, ◌∙◌, arith, flat_map, list_all, AllByRecursion, nat_tests, big_bytes, LockUnit, Tid, WorkId, StoredIntention, tid_bytes, work_bytes, unit_bytes, WorkFits, work_at, unit_at, intention_bytes, prepared_bytes, record_bytes, record_page, unit_has_page, reads_have_page, has_page, UnitFits, PreparedFits, FlagFits, RecordFits, intention_record_at, work_head_at, prepared, prepared_at, flag_at, record_at}
 use Rattle.jn_records.specs.declared.flag.Flag.{Flag}
 use Rattle.jn_records.specs.declared.work.WorkHead.{WorkHead}
 use Rattle.jn_records.specs.declared.record.Record.{Record}
@@ -12,14 +12,14 @@ units_are_read : (us : List LockUnit) → AllByRecursion UnitFits us → list_al
 units_are_read [] fit pages = tt
 units_are_read (u ∷ us) fit pages = ((fit.0, grind arith), units_are_read us fit.1 (grind arith))
 
-intention_record_again : (work : WorkId) (tid : Tid) (order : ℕ) (i : StoredIntention) (rest : List ℕ) → IntentionRecordFits work tid order i
+intention_record_again : (work : WorkId) (tid : Tid) (order : ℕ) (i : StoredIntention) (rest : List ℕ) → RecordFits (Intention work tid order i)
     → intention_record_at (work_bytes work ++ (tid_bytes tid ++ (big_bytes 1 order ++ (intention_bytes i ++ rest)))) ≡ Some (Intention work tid order i)
 unfolding intention_record_at
 intention_record_again work tid order i rest fits =
     let after_order = intention_bytes i ++ rest in
     let after_tid = big_bytes 1 order ++ after_order in
     let after_work = tid_bytes tid ++ after_tid in
-    rw (work_again work after_work fits.work_fits, tid_again tid after_tid fits.tid_fits, number_again 1 order after_order fits.order_fits, intention_again i rest fits.intention) refl
+    rw (work_again work after_work fits.0, tid_again tid after_tid fits.1, number_again 1 order after_order fits.2, intention_again i rest fits.3) refl
 
 work_head_again : (head : WorkHead) (intentions : ℕ) (reads : List LockUnit) (rest : List ℕ) → PreparedFits head intentions reads
     → work_head_at (work_bytes head.work ++ (tid_bytes head.tid ++ (big_bytes 1 head.client.0 ++ rest))) ≡ Some (head, rest)

@@ -96,15 +96,9 @@ pub record FlagFits (f : Flag) : Type 0 where
   pub request : f.request.0 < 2 ^ 32
   pub works : AllByRecursion WorkFits f.works
 
-pub record IntentionRecordFits (work : WorkId) (tid : Tid) (order : ℕ) (i : StoredIntention) : Type 0 where
-  pub work_fits : WorkFits work
-  pub tid_fits : TidFits tid
-  pub order_fits : order < 2 ^ 8
-  pub intention : IntentionFits i
-
 abbrev pub RecordFits : Record → Type 0
 RecordFits Free = Unit {0}
-RecordFits (Intention work tid order i) = IntentionRecordFits work tid order i
+RecordFits (Intention work tid order i) = WorkFits work × TidFits tid × (order < 2 ^ 8) × IntentionFits i
 RecordFits (Ready head intentions reads) = PreparedFits head intentions reads
 RecordFits (Going head intentions reads) = PreparedFits head intentions reads
 RecordFits (FlagRecord f) = FlagFits f

@@ -4,11 +4,10 @@ use Rattle.jn_base.specs.declared.names.ServerNo.{ServerNo}
 use Rattle.jn_base.specs.Limits.{most_blocks}
 use Rattle.jn_records.specs.declared.head.Head.{Head}
 use Rattle.jn_records.specs.declared.record.Record.TheVariants.{Free}
-use Rattle.jn_records.specs.declared.root.Root.{Root}
 use Rattle.jn_records.specs.Pages.{root_page}
 use Rattle.jn_records.specs.Heads.{head_page, IsHead, FileFits}
 use Rattle.jn_records.specs.Records.{record_page}
-use Rattle.jn_records.specs.StablePages.{Counts, Pages, page_count, slot_place, head_place, data_place, is_used, file_in, address_in}
+use Rattle.jn_records.specs.StablePages.{Counts, Pages, root_by, page_count, slot_place, head_place, data_place, is_used, file_in, address_in}
 
 -- What an image says: whose it is, how many pages there are of each kind, and of each physical page whether it
 -- is good and its bytes. The halves of stable page i are the physical pages i and i + page_count.
@@ -18,24 +17,24 @@ pub record Image : Type 0 where
   pub good : ℕ → Bool
   pub bytes : Pages
 
-abbrev pub root_of : Image → ℕ → Root
-root_of m epoch = record { server = m.server; pool = m.counts.pool; heads = m.counts.heads; leaves = m.counts.leaves; epoch = epoch }
-
 -- stable page 0 is the root of this server and these counts, at some epoch
 abbrev pub HasRoot : Image → Type 0
-HasRoot m = (epoch : ℕ) × (epoch < 2 ^ 32) × (m.bytes 0 ≡ root_page (root_of m epoch))
+HasRoot m = (epoch : ℕ) × (epoch < 2 ^ 32) × (m.bytes 0 ≡ root_page (root_by m.server m.counts epoch))
+
+abbrev pub All : (ℕ → Type 0) → Type 0
+All P = (n : ℕ) → P n
 
 -- physical page p is good
-abbrev pub IsGood : Image → ℕ → Type 0
-IsGood m p = m.good p ≡ true
+abbrev pub PagesGood : Image → ℕ → Type 0
+PagesGood m p = p < 2 * page_count m.counts → m.good p ≡ true
 
 -- both halves of stable page i have the same bytes
-abbrev pub HalvesAgree : Image → ℕ → Type 0
-HalvesAgree m i = m.bytes i ≡ m.bytes (i + page_count m.counts)
+abbrev pub PairsAgree : Image → ℕ → Type 0
+PairsAgree m i = i < page_count m.counts → m.bytes i ≡ m.bytes (i + page_count m.counts)
 
 -- slot i of the pool is free
-abbrev pub SlotIsFree : Image → ℕ → Type 0
-SlotIsFree m i = m.bytes (slot_place m.counts i) ≡ record_page Free
+abbrev pub SlotsFree : Image → ℕ → Type 0
+SlotsFree m i = i < m.counts.pool → m.bytes (slot_place m.counts i) ≡ record_page Free
 
 abbrev pub head_bytes_of : Image → ℕ → List ℕ
 head_bytes_of m i = m.bytes (head_place m.counts i)
@@ -43,6 +42,9 @@ head_bytes_of m i = m.bytes (head_place m.counts i)
 -- head i is the page of a head, with no address past the data pages
 abbrev pub IsWholeHead : Image → ℕ → Type 0
 IsWholeHead m i = (h : Head) × IsHead m.counts.leaves h × FileFits h × (head_bytes_of m i ≡ head_page h)
+
+abbrev pub HeadsWhole : Image → ℕ → Type 0
+HeadsWhole m i = i < m.counts.heads → IsWholeHead m i
 
 -- one head at most is used for file f: a page that is no head counts for none
 abbrev pub HasOneHead : Image → ℕ → Type 0
@@ -59,21 +61,21 @@ pub record Names (m : Image) (a i p : ℕ) : Type 0 where
   pub address : address_in (head_bytes_of m i) p ≡ a
 
 -- address a is named once at most
-abbrev pub IsNamedOnce : Image → ℕ → Type 0
-IsNamedOnce m a = (i j p q : ℕ) → Names m a i p → Names m a j q → (i ≡ j) × (p ≡ q)
+abbrev pub AddressesOnce : Image → ℕ → Type 0
+AddressesOnce m a = 0 < a → (i j p q : ℕ) → Names m a i p → Names m a j q → (i ≡ j) × (p ≡ q)
 
 -- data page i has zeros behind its block
-abbrev pub TailIsZeros : Image → ℕ → Type 0
-TailIsZeros m i = drop 448 (m.bytes (data_place m.counts i)) ≡ replicate 64 0
+abbrev pub TailsZeros : Image → ℕ → Type 0
+TailsZeros m i = i < m.counts.leaves → drop 448 (m.bytes (data_place m.counts i)) ≡ replicate 64 0
 
 -- The image of server s is sound. Each field is one way in which it may not be.
 pub record IsSound (s : ServerNo) (m : Image) : Type 0 where
   pub server : m.server ≡ s
   pub root : HasRoot m
-  pub good : (p : ℕ) → p < 2 * page_count m.counts → IsGood m p
-  pub pairs : (i : ℕ) → i < page_count m.counts → HalvesAgree m i
-  pub pool : (i : ℕ) → i < m.counts.pool → SlotIsFree m i
-  pub files : (f : ℕ) → HasOneHead m f
-  pub heads : (i : ℕ) → i < m.counts.heads → IsWholeHead m i
-  pub addresses : (a : ℕ) → 0 < a → IsNamedOnce m a
-  pub tails : (i : ℕ) → i < m.counts.leaves → TailIsZeros m i
+  pub good : All (PagesGood m)
+  pub pairs : All (PairsAgree m)
+  pub pool : All (SlotsFree m)
+  pub files : All (HasOneHead m)
+  pub heads : All (HeadsWhole m)
+  pub addresses : All (AddressesOnce m)
+  pub tails : All (TailsZeros m)

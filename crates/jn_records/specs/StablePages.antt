@@ -1,6 +1,7 @@
 -- Where the stable pages of each kind stand, and the files that they hold.
 use Rattle.std.specs.Prelude.{ℕ, zero, suc, ◌+◌, ◌*◌, Bool, ◌&&◌, nat_eq, nat_lt, if◌then◌else◌, List, take, drop, Option, Some, None, option_map, option_and_then, slice_index}
 use Rattle.byteorder.specs.Endian.{big_number}
+use Rattle.jn_base.specs.declared.names.ServerNo.{ServerNo}
 use Rattle.jn_base.specs.declared.names.FileNo.{FileNo}
 use Rattle.jn_base.specs.declared.names.BlockNo.{BlockNo}
 use Rattle.jn_base.specs.declared.names.LockUnit.TheVariants.{File, Block}
@@ -17,6 +18,9 @@ pub record Counts : Type 0 where
 -- those that a root names
 abbrev pub counts_of : Root → Counts
 counts_of root = record { pool = root.pool; heads = root.heads; leaves = root.leaves }
+
+abbrev pub root_by : ServerNo → Counts → ℕ → Root
+root_by server g epoch = record { server = server; pool = g.pool; heads = g.heads; leaves = g.leaves; epoch = epoch }
 
 abbrev pub Pages : Type 0
 Pages = ℕ → List ℕ

@@ -4,7 +4,8 @@ pub use Rattle.std.proofs.lemmas.Bool.{cases_eq, cases_lt}
 pub use Rattle.jn_base.specs.declared.names.ServerNo.{ServerNo}
 pub use Rattle.jn_files.specs.Table.{TableView, is_of, addresses_of, address_of, addresses, or_nil, exists, is_mapped, head_in, IsHeadOf, AreHeads, IsTable, file_of_head, is_held, is_touched, IsUnnamed}
 pub use Rattle.jn_files.specs.Calls.{IsLoaded as IsTableLoaded, with_held, StoreRead as TableRead}
-pub use Rattle.jn_found.specs.Pages.{found_on, root_by, pages_by, epoch_by, listed, head_on, head_or_free, heads_on, IsOfFormat, block_on, half_of}
+pub use Rattle.jn_found.specs.Pages.{found_on, pages_by, epoch_by, listed, head_on, head_or_free, heads_on, IsOfFormat, block_on, half_of}
+pub use Rattle.jn_records.specs.StablePages.{root_by, Counts, data_place, page_count, slot_place, head_place, counts_of}
 pub use Rattle.jn_found.specs.Puts.{RootPut, IsFewer, RecordPut}
 pub use Rattle.jn_found.specs.Standing.{IsPutStep, MakesEpoch, standing_state, IsStanding, MakesNothing, Makes}
 pub use Rattle.jn_found.proofs.CallLaws.{counts_on, idles, flags as flags_put, drops}
@@ -12,11 +13,11 @@ pub use Rattle.jn_records.specs.declared.head.Head.{Head}
 pub use Rattle.jn_records.specs.declared.record.Record.{Record}
 pub use Rattle.jn_records.specs.declared.root.Root.{Root}
 pub use Rattle.jn_records.specs.Pages.{root_page, IsRoot}
-pub use Rattle.jn_records.specs.StablePages.{Counts, data_place, page_count, slot_place, head_place, counts_of}
-pub use Rattle.jn_rows.specs.Stable.{StableState, Pick, Changed, AddFlag, DropFlag, made_by, flag_state, stable, IsUp, Prepared, MarkGoing, RemoveWork, gone_on, at_work}
+pub use Rattle.jn_rows.specs.Stable.{StableState, Pick, Changed, AddFlag, DropFlag, made_by, flag_state, stable, IsUp, ready_work, Prepared, MarkGoing, RemoveWork, gone_on, at_work}
 pub use Rattle.jn_store.specs.Store.{StoreView, StorePut, IsClean, IsWholePage, StoreCleaned, IsSamePage, IsOnly, StoreLater, IsCalm, IsStop, IsServed, HasSamePages}
 pub use Rattle.jn_store.proofs.Laws.{later_trans, same_trans, only_clean, stop_since, calm_on, later_refl, same_refl, same_shrinks}
-pub use Rattle.jn_recovery.specs.Loading.{IsSameOrNext, IsDown, front_count, reading_calls, most_calls, KeepsDataPages, Recovering, IsUsedUp, IsNotUsedUp, IsLoaded, IsUntouched, counts_by}
+pub use Rattle.jn_recovery.specs.Loading.{IsSameOrNext, IsDown, front_count, reading_calls, KeepsDataPages, Recovering, IsUsedUp, IsNotUsedUp, IsLoaded, IsUntouched}
+pub use Rattle.jn_recovery.specs.Counts.{most_calls, counts_by}
 pub use Rattle.jn_recovery.specs.Memory.{rubbish_in, Memory, accounts_of, held_in, next_in, next_by, stored_by, holds_page, rubbish_of, view_of}
 pub use Rattle.jn_recovery.specs.Opening.{next_root, Stands, IsOpened, ErasesAll, EraseStopped, IsBegun, Erases, IsRead, RootRead}
 pub use Rattle.jn_recovery.specs.declared.load.DownCause.TheVariants.{Stopped, EpochsUsedUp, Memory as NoMemory}
@@ -27,7 +28,7 @@ pub use Rattle.std.specs.List.{find, list_any, list_all, position_or_len, AllByR
 pub use Rattle.jn_base.specs.declared.names.BlockNo.{BlockNo}
 pub use Rattle.jn_base.specs.declared.names.FileNo.{FileNo}
 pub use Rattle.jn_records.specs.declared.head.Head.TheVariants.{Free as FreeHead, Used}
-pub use Rattle.jn_found.specs.Contents.{is_head_of, address_at, behind, block_in, Contents, state_in, files_in, with_first, intended, stored_list, intentions_from, intention_of, heads_name, stored_in, holds_address, flag_by, flags_in, works_name, prepared_by, has_address, prepared_as, works_in}
+pub use Rattle.jn_found.specs.Contents.{is_head_of, address_at, behind, block_in, Contents, state_in, files_in, with_first, intended, stored_list, intentions_from, intention_of, heads_name, stored_in, holds_address, flag_by, flags_in, works_name, prepared_by, has_address, works_in}
 pub use Rattle.jn_found.proofs.HeldLaws.{cleaned_fewer, fewer_trans, contents_held, front_held}
 pub use Rattle.jn_recovery.specs.Cleaning.{Cleans}
 pub use Rattle.std.proofs.lemmas.List.{get_or_past, get_or-set_same, get_or-set_other, length-set, length-map}
@@ -40,7 +41,7 @@ pub use Rattle.jn_sets.specs.Pool.{slot_page, HoldsRecords, IsReadable, IsRecord
 pub use Rattle.std.proofs.lemmas.List.Sums.{sum_by-cons, sum_by-set, count_by-le-length, passes_at_first}
 pub use Rattle.jn_base.specs.declared.names.Tid.{Tid}
 pub use Rattle.jn_base.specs.declared.names.WorkId.{WorkId}
-pub use Rattle.jn_base.specs.Names.{file_eq, work_eq, tid_eq}
+pub use Rattle.jn_base.specs.Names.{file_eq, work_eq, tid_eq, unit_eq}
 pub use Rattle.jn_base.proofs.Tells.{file_tells, work_tells, tid_tells}
 pub use Rattle.jn_records.specs.declared.intention.Intention.{Intention as FullIntention}
 pub use Rattle.jn_records.specs.declared.intention.StoredIntention.{StoredIntention}
@@ -52,7 +53,8 @@ pub use Rattle.jn_records.specs.Records.{has_page, RecordFits, record_page, Flag
 pub use Rattle.jn_storage.specs.Calls.{name_of, state, Called, RecordErased, CountsErased, tid_of, HasFlag, MayPutFlag, FlagPut, FlagDropped, FlagPromised, PromiseReleased, TellsFlags, with_promises, outline, outline_of, IsTold, TellsWorks, CountsOff}
 pub use Rattle.jn_storage.specs.Finding.{find_by}
 pub use Rattle.jn_storage.specs.Listing.{total, is_in, are_different, AtMost, IsListing}
-pub use Rattle.jn_storage.specs.Storage.{IsCounted, file_there, needed, list_of, intentions, IsServing, Accounts, is_stored}
+pub use Rattle.jn_storage.specs.Storage.{IsCounted, IsServing, Accounts, is_stored}
+pub use Rattle.jn_storage.specs.Orderly.{file_there, needed, list_of, intentions, IsGiven, IsOrderly}
 pub use Rattle.jn_storage.proofs.Listings.{Tells, but, is_in-but, different-but, total-but, listing-less, listing-more, listing-same, total-same}
 pub use Rattle.jn_recovery.specs.Gathering.{collected, state_on, works_on, IsFew, address_in, names_page, all_needed, MayHold, HoldsNamed, flags_on, MayPromise, IsGathered}
 pub use Rattle.jn_recovery.specs.Matches.{stored_work, Matches, IsKeptMemory, FlagsMatch, flag_on, IsMade, WorksMatch, work_by, StoredWork}
@@ -66,7 +68,6 @@ pub use Rattle.jn_found.specs.Changes.{IsIdlePut, IsFlagSlot, IsFlagPut}
 pub use Rattle.jn_sets.specs.Sets.{Puts, StoreRead as SetsRead}
 pub use Rattle.jn_records.specs.declared.flag.Flag.{Flag}
 pub use Rattle.jn_storage.proofs.Finds.{find-kept, find-add, find-at, find-listed, keys-kept, different-kept, different-add, map-add}
-pub use Rattle.jn_storage.specs.Orderly.{IsGiven, IsOrderly}
 pub use Rattle.jn_storage.proofs.Kept.{orderly-put, orderly-dropped, orderly-marked, orderly-removed}
 pub use Rattle.jn_files.proofs.Putting.{same_only, files_said, same_leaves, says_choice, files_first, named_below}
 pub use Rattle.jn_recovery.specs.Causes.{of_sets, of_table}

@@ -1,6 +1,6 @@
 -- What a recovery keeps in memory is what stands on the pages, and the storage serves.
 use Rattle.jn_recovery.proofs.Common.{◌≡◌, inr, ◌<◌, ◌≤◌, ◌+◌, ℕ, suc, true, false, List, [], Option, Some, None, get_or, refl, sym, ◌∙◌, ap, subst, arith, count_by-le-length, is_some, list_any, ServerNo, Tid, WorkId, work_eq, TableView, IsTable, is_held, is_touched, state_in, held_contents, found_on, pages_by, block_on, IsConsistent, IsRecoverable, Head, Record, Root, WorkState, Counts, slot_place, head_place, StableState, record_in, IsServing, state, TellsFlags, name_of, find_by, StoreView, works_on, flags_on, names_page, address_in, all_needed, MayHold, MayPromise, IsGathered, IsLoaded, IsDown, IsUntouched, Recovering, most_calls, Matches, IsMade, Memory, accounts_of, view_of, next_by, rubbish_in, Stands, IsBegun, NoMemory, Opened}
-use Rattle.jn_storage.specs.Storage.{IsLoadable}
+use Rattle.jn_storage.specs.Orderly.{IsLoadable}
 use Rattle.jn_recovery.specs.Kept.{memory_kept}
 use Rattle.jn_recovery.specs.declared.gathering.Kept.{Kept as KeptParts}
 use Rattle.jn_recovery.specs.declared.load.Found.{Found}

@@ -1,6 +1,6 @@
 -- When a storage serves, and what its calls keep.
 use Rattle.jn_recovery.proofs.Common.{◌≡◌, ◌≤◌, ℕ, Bool, true, false, List, length, sym, ◌∙◌, ap, subst, arith, ServerNo, WorkId, found_on, pages_by, IsRecoverable, state_on_pages, Counts, Pick, StableState, stable, IsOrderly, Accounts, IsServing, IsCounted, list_of, needed, state, Called, StoreView, StorePut, Memory, accounts_of, view_of}
-use Rattle.jn_storage.specs.Storage.{IsLoadable}
+use Rattle.jn_storage.specs.Orderly.{IsLoadable}
 
 -- a storage that serves, apart from its store
 pub record Serves (x : StableState) (a : Accounts) : Type 0 where

@@ -1,10 +1,10 @@
 -- The prepared works, as they are listed in memory.
-use Rattle.jn_recovery.proofs.Common.{◌≡◌, ◌<◌, ◌&&◌, ℕ, zero, suc, Bool, true, false, List, [], ◌∷◌, length, map, Option, Some, None, refl, sym, ◌∙◌, ap, subst, find_at, slice_get_within, get_or_from_slice_get, is_some, slice_index_or, option_map, option_and_then, find, list_all, position_or_len, WorkId, work_eq, work_tells, stored_in, with_first, intentions_from, intended, prepared_as, prepared_by, works_in, block_on, pages_by, StoredIntention, Record, Free, Intention, Ready, Going, FlagRecord, WorkState, intention_has_page, has_page, StableState, Prepared, record_in, is_prepared, is_intention, IsServing, state, outline, outline_of, name_of, IsTold, TellsWorks, find_by, find-at, find-listed, StoreView, Memory, view_of, next_by, Matches, StoredWork, stored_work, work_by}
+use Rattle.jn_recovery.proofs.Common.{◌≡◌, ◌<◌, ◌&&◌, ℕ, zero, suc, Bool, true, false, List, [], ◌∷◌, length, map, Option, Some, None, refl, sym, ◌∙◌, ap, subst, find_at, slice_get_within, get_or_from_slice_get, is_some, slice_index_or, option_map, option_and_then, find, list_all, position_or_len, WorkId, work_eq, work_tells, stored_in, with_first, intentions_from, intended, ready_work, prepared_by, works_in, block_on, pages_by, StoredIntention, Record, Free, Intention, Ready, Going, FlagRecord, WorkState, intention_has_page, has_page, StableState, Prepared, record_in, is_prepared, is_intention, IsServing, state, outline, outline_of, name_of, IsTold, TellsWorks, find_by, find-at, find-listed, StoreView, Memory, view_of, next_by, Matches, StoredWork, stored_work, work_by}
 use Rattle.jn_recovery.proofs.Standing.{finds}
 
 -- a work with the bytes of its puts
 abbrev pub prepared_of : (ℕ → List ℕ) → StoredWork → Prepared
-prepared_of blocks s = prepared_as s.head (map (intended blocks) s.list) s.reads s.going
+prepared_of blocks s = record (ready_work s.head (map (intended blocks) s.list) s.reads) { going = s.going }
 
 pub works_by : (pool : List Record) (blocks : ℕ → List ℕ) (w : WorkId) (o : Option Record) → prepared_by pool blocks w o ≡ option_map (prepared_of blocks) (option_and_then (work_by pool w) o)
 works_by pool blocks w None = refl

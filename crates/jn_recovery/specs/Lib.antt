@@ -3,6 +3,7 @@ pub mod Matches
 pub mod Pages
 pub mod Cleaning
 pub mod Gathering
+pub mod Counts
 pub mod Loading
 pub mod Opening
 pub mod Causes

@@ -16,11 +16,7 @@ use Rattle.jn_store.specs.Store.{StoreView, StoreLater, IsCalm, IsSamePage, IsSt
 use Rattle.jn_recovery.specs.declared.load.DownCause.{DownCause}
 use Rattle.jn_recovery.specs.declared.load.DownCause.TheVariants.{Stopped, Memory, EpochsUsedUp}
 use Rattle.jn_recovery.specs.declared.load.Found.{Found}
-use Rattle.jn_recovery.specs.declared.counts.PageCounts.{PageCounts}
-
--- the numbers that a server is given
-abbrev pub counts_by : PageCounts → Counts
-counts_by n = record { pool = n.pool; heads = n.heads; leaves = n.leaves }
+use Rattle.jn_recovery.specs.Counts.{most_calls}
 
 -- the same files, works and flags, in the same epoch or the next one
 pub record IsSameOrNext (x y : StableState) : Type 0 where
@@ -34,10 +30,6 @@ front_count g = 1 + g.pool + g.heads
 -- Each of them is cleaned and read.
 abbrev pub reading_calls : Counts → ℕ
 reading_calls g = 24 * front_count g
-
--- The root, and each record at most, are put.
-abbrev pub most_calls : Counts → ℕ
-most_calls g = reading_calls g + 16 * (1 + g.pool)
 
 -- no data page has another half: none was cleaned or put
 abbrev pub KeepsDataPages : Counts → StoreView → StoreView → Type 0

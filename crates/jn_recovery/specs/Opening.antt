@@ -2,17 +2,18 @@
 use Rattle.std.specs.Prelude.{◌≡◌, ◌≤◌, ◌<◌, ◌+◌, ◌*◌, ℕ, true, List, [], Result, Ok, Err}
 use Rattle.jn_base.specs.declared.names.ServerNo.{ServerNo}
 use Rattle.jn_files.specs.Calls.{IsLoaded as IsTableLoaded}
-use Rattle.jn_found.specs.Pages.{found_on, root_by}
+use Rattle.jn_found.specs.Pages.{found_on}
 use Rattle.jn_found.specs.Standing.{IsStanding, standing_state}
 use Rattle.jn_found.specs.Recoverable.{IsRecoverable}
 use Rattle.jn_found.specs.Puts.{IsFewer}
 use Rattle.jn_records.specs.declared.head.Head.{Head}
 use Rattle.jn_records.specs.declared.record.Record.{Record}
 use Rattle.jn_records.specs.declared.root.Root.{Root}
-use Rattle.jn_records.specs.StablePages.{Counts}
+use Rattle.jn_records.specs.StablePages.{Counts, root_by}
 use Rattle.jn_rows.specs.Stable.{Pick, Unchanged}
 use Rattle.jn_store.specs.Store.{StoreView, StoreLater, IsCalm, IsClean, IsWholePage, IsStop}
-use Rattle.jn_recovery.specs.Loading.{reading_calls, most_calls, front_count, KeepsDataPages}
+use Rattle.jn_recovery.specs.Loading.{reading_calls, front_count, KeepsDataPages}
+use Rattle.jn_recovery.specs.Counts.{most_calls}
 use Rattle.jn_recovery.specs.Memory.{rubbish_in}
 use Rattle.jn_recovery.specs.declared.load.DownCause.{DownCause}
 use Rattle.jn_recovery.specs.declared.load.DownCause.TheVariants.{Stopped, Memory, EpochsUsedUp}

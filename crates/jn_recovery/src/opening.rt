@@ -9,7 +9,8 @@ ghost use Rattle.jn_records.specs.Pages.{root_page, IsRoot};
 ghost use Rattle.jn_records.specs.StablePages.{Counts};
 ghost use Rattle.jn_sets.specs.Sets.{StoreRead};
 ghost use Rattle.jn_store.specs.Store.{IsCalm, IsOnly, IsServed, IsStop, StorePut};
-ghost use Rattle.jn_recovery.specs.Loading.{counts_by, IsDown};
+ghost use Rattle.jn_recovery.specs.Loading.{IsDown};
+ghost use Rattle.jn_recovery.specs.Counts.{counts_by};
 ghost use Rattle.jn_recovery.specs.Opening.{RootRead, next_root, IsOpened, IsBegun, ErasesAll, EraseStopped};
 ghost use Rattle.jn_recovery.specs.declared.load.DownCause.TheVariants.{Stopped as DownStopped};
 

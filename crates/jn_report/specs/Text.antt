@@ -1,6 +1,6 @@
 -- The text of a report: each line is the words of its event and of what it says, with a space between two.
 use Rattle.std.specs.Prelude.{ℕ, List, [], ◌∷◌, ◌++◌, codes, decimal}
-use Rattle.jn_base.specs.Names.{refusal_number}
+use Rattle.jn_base.specs.Names.{refusal_number, fault_word}
 use Rattle.jn_base.specs.declared.names.ServerNo.{ServerNo}
 use Rattle.jn_base.specs.declared.names.ClientNo.{ClientNo}
 use Rattle.jn_base.specs.declared.names.Tid.{Tid}
@@ -12,8 +12,6 @@ use Rattle.jn_base.specs.declared.names.Party.{Party}
 use Rattle.jn_base.specs.declared.names.Party.TheVariants.{Client, Server}
 use Rattle.jn_base.specs.declared.names.MsgKind.{MsgKind}
 use Rattle.jn_base.specs.declared.names.MsgKind.TheVariants as kinds
-use Rattle.jn_base.specs.declared.device.FaultKind.{FaultKind}
-use Rattle.jn_base.specs.declared.device.FaultKind.TheVariants as faults
 use Rattle.jn_text.specs.Words.{block_word}
 use Rattle.jn_report.specs.declared.line.When.{When}
 use Rattle.jn_report.specs.declared.line.When.TheVariants.{Event, End}
@@ -62,17 +60,6 @@ kind_word kinds.Drop = codes "drop"
 kind_word kinds.Vote = codes "vote"
 kind_word kinds.Done = codes "done"
 kind_word kinds.Inquire = codes "inquire"
-
--- a fault that was refused; those that are never refused have a word too
-abbrev pub fault_word : FaultKind → Word
-fault_word faults.Soft = codes "soft"
-fault_word faults.Null = codes "null"
-fault_word faults.Bad = codes "bad"
-fault_word (faults.Decay p) = codes "decay"
-fault_word (faults.Revive p) = codes "revive"
-fault_word faults.StopBefore = codes "stop-before"
-fault_word faults.StopTorn = codes "stop-torn"
-fault_word faults.StopAfter = codes "stop-after"
 
 -- a unit and the transaction that holds it
 abbrev pub held_words : LockUnit → Tid → List Word

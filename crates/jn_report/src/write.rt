@@ -2,7 +2,8 @@
 ghost use Rattle.std.specs.Prelude.{◌≡◌, ◌++◌, ◌∷◌, codes, decimal, OnOk, OnErr};
 ghost use Rattle.jn_text.specs.Words.{block_word};
 ghost use Rattle.jn_report.specs.Append.{IsFrontKept};
-ghost use Rattle.jn_report.specs.Text.{cause_words, client_word, event_refusal_word, fault_word, kind_word, refusal_words, spaced, text_of, when_word, words_of};
+ghost use Rattle.jn_report.specs.Text.{cause_words, client_word, event_refusal_word, kind_word, refusal_words, spaced, text_of, when_word, words_of};
+ghost use Rattle.jn_base.specs.Names.{fault_word};
 
 use crate::digits::push_digits;
 use crate::line::{EventRefusal, Line, Refusal, Text, When};

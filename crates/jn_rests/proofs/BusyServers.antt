@@ -1,12 +1,11 @@
 -- Which servers have something to do, and that an erasure changes nothing.
-use Rattle.jn_rests.proofs.Common.{◌≡◌, ◌≢◌, ◌⊎◌, inl, inr, ◌≤◌, ◌<◌, ℕ, zero, suc, ◌+◌, Bool, true, false, List, [], ◌∷◌, ◌++◌, append-nil, Option, Some, None, refl, sym, ◌∙◌, ap, subst, arith, fun_ext, nat_tests, if◌then◌else◌, is_some, slice_get, ServerNo, RowOutcome, Sent, quiet, StableState, Change, Pick, stable, made_all, World, Memory, at_server, servers_from, Room, storage_of, server_step, of_worker, of_step, Work, after, done, work, works, is_busy, first_busy}
+use Rattle.jn_rests.proofs.Common.{◌≡◌, ◌≢◌, ◌⊎◌, inl, inr, ◌≤◌, ◌<◌, ℕ, zero, suc, ◌+◌, Bool, true, false, List, [], ◌∷◌, ◌++◌, append-nil, Option, Some, None, refl, sym, ◌∙◌, ap, subst, arith, fun_ext, nat_tests, if◌then◌else◌, is_some, slice_get, ServerNo, RowOutcome, Sent, quiet, StableState, Change, Pick, stable, made_all, World, Memory, at_server, servers_from, Room, storage_of, server_step, of_worker, of_step, Work, after, done, work, works, is_busy, first_busy, changed}
 use Rattle.jn_base.specs.Names.{server_eq}
 use Rattle.jn_base.proofs.Tells.{server_tells}
 use Rattle.jn_records.specs.declared.intention.Intention.{Intention}
 use Rattle.jn_report.specs.declared.line.Text.{Text}
 use Rattle.jn_rows.specs.declared.worker.Work.{Work as WorkEntry}
 use Rattle.jn_rows.specs.Worker.{going_work, going_row, carried_row, intentions_of}
-use Rattle.jn_system.specs.SmallSteps.Steps.{changed}
 
 some : (a b : RowOutcome Memory) → Some a ≡ Some b → a ≡ b
 some a b q = cc

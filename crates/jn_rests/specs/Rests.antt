@@ -2,11 +2,11 @@
 use Rattle.std.specs.Prelude.{◌≡◌, ◌≤◌, ◌<◌, ◌⊎◌, ℕ, zero, suc, ◌+◌, false, List, [], ◌∷◌, length, Some, None}
 use Rattle.jn_base.specs.declared.names.ServerNo.{ServerNo}
 use Rattle.jn_rows.specs.Stable.{Pick}
-use Rattle.jn_system.specs.WholeSystem.World.{World, servers_from}
+use Rattle.jn_system.specs.WholeSystem.World.{World, servers_from, clients_from}
 use Rattle.jn_system.specs.WholeSystem.Servers.{Room}
 use Rattle.jn_system.specs.WholeSystem.Steps.{Step, StopWork}
 use Rattle.jn_system_settling.specs.Settling.Course.{Course, go, go_on}
-use Rattle.jn_system_settling.specs.Settling.Settle.{Chance, Chances, first_busy, next_step, clients_from, ask_again}
+use Rattle.jn_system_settling.specs.Settling.Settle.{Chance, Chances, first_busy, next_step, ask_again}
 use Rattle.jn_system_settling.specs.Settling.Bounds.{IsCourse, deliveries, settle_bound}
 
 -- this holds of each step, as the course stands in its turn

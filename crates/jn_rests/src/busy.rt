@@ -4,10 +4,10 @@ ghost use Rattle.std.specs.Prelude.{◌≡◌, ◌<◌, ℕ, true, false, List, 
 ghost use Rattle.jn_base.specs.declared.names.ServerNo.{ServerNo};
 ghost use Rattle.jn_rows.specs.Outcomes.{RowOutcome};
 ghost use Rattle.jn_rows.specs.Stable.{StableState, Change, stable};
-ghost use Rattle.jn_system.specs.WholeSystem.Servers.{Room, server_step};
+ghost use Rattle.jn_system.specs.WholeSystem.Servers.{Room, server_step, is_busy};
 ghost use Rattle.jn_system.specs.WholeSystem.Steps.{Work, after};
 ghost use Rattle.jn_system.specs.WholeSystem.World.{World, Memory, servers_from};
-ghost use Rattle.jn_system_settling.specs.Settling.Settle.{is_busy, first_busy};
+ghost use Rattle.jn_system_settling.specs.Settling.Settle.{first_busy};
 
 /// A server's background step changes what is stable where one of its works goes. Where none goes it erases rubbish, which changes
 /// nothing, or there is no step.

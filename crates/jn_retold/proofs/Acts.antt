@@ -1,5 +1,5 @@
 -- What a deed does and tells, as acts under an event.
-use Rattle.jn_retold.proofs.Common.{◌≡◌, ℕ, ◌+◌, Bool, true, false, List, [], ◌∷◌, ◌++◌, append-nil, append_assoc, length, drop, map, Option, Some, None, refl, sym, ◌∙◌, ap, subst, if◌then◌else◌, list_all, ServerNo, Outside, Event, TooManyArmed, EpochsUsedUp, Text, Line, Pick, Sent, World, Memory, Step, after, run, print_files, Act, Does, Refuses, Tells, Shows, steps_in, told_in, prints_of, is_aside, plain, plain-append, plain-none, Setup, Chance, Use, Calls, Reads, Recovers, Deed, blocks_from, is_used_up, acted, outside_texts, own_texts, message_texts, traced, texts_of, lines_at, may_tell, Adds, adds, behind, Cleans}
+use Rattle.jn_retold.proofs.Common.{◌≡◌, ℕ, ◌+◌, Bool, true, false, List, [], ◌∷◌, ◌++◌, append-nil, append_assoc, length, drop, map, Option, Some, None, refl, sym, ◌∙◌, ap, subst, if◌then◌else◌, list_all, ServerNo, Outside, Event, TooManyArmed, EpochsUsedUp, Text, Line, Pick, Sent, World, Step, after, run, Act, Does, Refuses, Tells, Shows, steps_in, told_in, is_aside, plain, plain-append, plain-none, Setup, Chance, Use, Calls, Reads, Recovers, Deed, is_used_up, acted, outside_texts, own_texts, message_texts, traced, texts_of, lines_at, may_tell, Adds, adds, behind, Cleans, allowed, prints_found, Printed}
 use Rattle.std.proofs.Math.Seq.{drop-append_seam}
 use Rattle.jn_base.specs.declared.names.Party.{Party}
 use Rattle.jn_base.specs.declared.device.FaultKind.TheVariants as faults
@@ -20,16 +20,16 @@ outside_acts device told = []
 abbrev pub all_done : List Step → List Act
 all_done steps = map (λ (step : Step). Does step) steps
 
-abbrev pub shown_acts : Chance → ServerNo → World → Option Memory → Option (Pick → ℕ) → List Act
-shown_acts h q w (Some m) None = Shows q (print_files (prints_of q w m) (λ f. blocks_from 0 120) h.files) ∷ []
-shown_acts h q w memory stop = []
+abbrev pub shown_acts : ServerNo → List Printed → Option (Pick → ℕ) → List Act
+shown_acts q prints None = Shows q prints ∷ []
+shown_acts q prints (Some made) = []
 
 -- what an event tells besides
 abbrev pub besides : Chance → Event → World → List Act
-besides h (events.Decay q p) w = if h.allows then [] else Tells q (record { kind = faults.Decay p; page = p }) ∷ []
-besides h (events.Arm q n kind) w = if h.allows then [] else Refuses TooManyArmed ∷ []
+besides h (events.Decay q p) w = if allowed h.found then [] else Tells q (record { kind = faults.Decay p; page = p }) ∷ []
+besides h (events.Arm q n kind) w = if allowed h.found then [] else Refuses TooManyArmed ∷ []
 besides h (events.Restart q) w = if is_used_up h q w then Refuses EpochsUsedUp ∷ [] else []
-besides h (events.Show q) w = shown_acts h q w (w.memory q) h.stop
+besides h (events.Show q) w = shown_acts q (prints_found h.found) h.stop
 besides h event w = []
 
 abbrev pub acts_of : Chance → Deed → List Act → List Act
@@ -128,19 +128,18 @@ besides-steps' true act e = refl
 besides-steps' false act e = e
 
 pub besides-steps : (h : Chance) (event : Event) (w : World) → steps_in (besides h event w) ≡ []
-besides-steps h (events.Decay q p) w = besides-steps' h.allows (Tells q (record { kind = faults.Decay p; page = p })) refl
-besides-steps h (events.Arm q n kind) w = besides-steps' h.allows (Refuses TooManyArmed) refl
+besides-steps h (events.Decay q p) w = besides-steps' (allowed h.found) (Tells q (record { kind = faults.Decay p; page = p })) refl
+besides-steps h (events.Arm q n kind) w = besides-steps' (allowed h.found) (Refuses TooManyArmed) refl
 besides-steps h (events.Restart q) w = by (is_used_up h q w)
   where
     by : (b : Bool) → steps_in (if b then Refuses EpochsUsedUp ∷ [] else []) ≡ []
     by true = refl
     by false = refl
-besides-steps h (events.Show q) w = by (w.memory q) h.stop
+besides-steps h (events.Show q) w = by h.stop
   where
-    by : (o : Option Memory) (stop : Option (Pick → ℕ)) → steps_in (shown_acts h q w o stop) ≡ []
-    by None stop = refl
-    by (Some m) (Some made) = refl
-    by (Some m) None = refl
+    by : (stop : Option (Pick → ℕ)) → steps_in (shown_acts q (prints_found h.found) stop) ≡ []
+    by None = refl
+    by (Some made) = refl
 besides-steps h event w = refl
 
 -- ---- lines of messages are aside

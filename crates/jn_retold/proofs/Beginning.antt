@@ -1,5 +1,5 @@
 -- An event begins, and then it is refused or done.
-use Rattle.jn_retold.proofs.Common.{◌≡◌, ◌⊎◌, inl, inr, ◌≤◌, ◌<◌, ℕ, Bool, true, false, List, [], ◌∷◌, ◌++◌, append-nil, drop, length, Option, Some, None, refl, sym, ◌∙◌, ap, subst, nat_lt, slice_get, is_some, ServerNo, FileNo, BlockNo, Block, Server, Message, AllFiles, Event, EventRefusal, Line, Text, RowOutcome, Sent, Pick, stable, Room, server_step, World, Memory, opening, NextEvent, run, after, work, works, Item, Act, Does, Refuses, Waiting, IsUnder, IsShown, AreStruck, steps_in, world_of, with_event, strike_all, told_in, at_event, lines_of, none_wait, prints_of, plain, is_show, plain-append, sent-near, Setup, Chance, Task, Begins, Meets, Rests, State, Deed, nobody, no_room, plain_deed, stopped_idle, tells, refusal_of, settling, acted, met, go_on, most_messages, is_too_much, come_to, cut_short, made, own_texts, IsUsed, Befalls, Moment, DoesStep, behind}
+use Rattle.jn_retold.proofs.Common.{◌≡◌, ◌⊎◌, inl, inr, ◌<◌, ℕ, Bool, true, false, List, [], ◌∷◌, ◌++◌, append-nil, drop, length, Option, Some, None, refl, sym, ◌∙◌, ap, subst, nat_lt, slice_get, is_some, ServerNo, Server, Message, AllFiles, Event, EventRefusal, Line, Text, RowOutcome, Sent, Pick, stable, Room, server_step, World, Memory, opening, NextEvent, run, after, work, works, Item, Act, Does, Refuses, Waiting, IsUnder, IsShown, AreStruck, steps_in, world_of, with_event, strike_all, told_in, at_event, lines_of, none_wait, plain, is_show, plain-append, sent-near, Setup, Chance, Task, Begins, Meets, Rests, State, Deed, nobody, no_room, plain_deed, stopped_idle, tells, refusal_of, settling, acted, met, go_on, most_messages, is_too_much, come_to, cut_short, made, own_texts, IsUsed, Befalls, Moment, DoesStep, behind}
 use Rattle.jn_schedule.specs.declared.Event.TheVariants as events
 use Rattle.jn_report.specs.declared.line.Text.TheVariants as says
 use Rattle.jn_retold.proofs.Behind.{ups-name-none}
@@ -8,16 +8,12 @@ use Rattle.jn_retold.proofs.Acts.{besides, acts_by, texts_by, grown-own, besides
 use Rattle.jn_retold.proofs.Seen.{told-behind, shown-behind}
 use Rattle.jn_retold.proofs.Standing.{Stands}
 use Rattle.jn_retold.proofs.Befalling.{Befell, same-stands}
-use Rattle.jn_retold.proofs.Doing.{IsReady, acted-befell, refused-befell}
+use Rattle.jn_retold.proofs.Doing.{acted-befell, refused-befell}
 use Rattle.jn_retold.proofs.May.{acts-under, is-ready, refusal-under}
 use Rattle.jn_retold.proofs.Showing.{shown-acts}
 use Rattle.jn_retold.proofs.Going.{Goes, Next, does-next, goes-or-cut, go-world, goes-on, comes, stands-behind}
 use Rattle.jn_retold.proofs.Besides.{besides-told, acted-tasks, all-settling, refused-shown}
 use Rattle.jn_retold.proofs.Forms.{left, Between, Meeting, Amid, Held, between, meeting, settling as settling_now, cut, closes, between-part, meeting-part}
-
--- the blocks of a file have numbers below 120
-abbrev pub Blocks : Setup → World → Type 0
-Blocks x w = (q : ServerNo) (memory : Memory) → q.0 < x.servers → w.memory q ≡ Some memory → (f : FileNo) (p : BlockNo) → 120 ≤ p.0 → prints_of q w memory (Block f p) ≡ None
 
 -- what a look over the pages sends
 idle-sent : (q : ServerNo) (stop : Option (Pick → ℕ)) (w : World) → (run (stopped_idle q stop) w).sent ≡ w.sent
@@ -90,7 +86,7 @@ module _ (x : Setup) (files : AllFiles) (epochs : ServerNo → ℕ) (schedule : 
 
   -- ---- an event is refused or done
 
-  module _ (items : List Item) (e : Event) (rest : List Event) (a b : Moment) (h : Meeting x files epochs schedule items e rest a) (blocks : Blocks x (after NextEvent (world_of items start))) where
+  module _ (items : List Item) (e : Event) (rest : List Event) (a b : Moment) (h : Meeting x files epochs schedule items e rest a) where
     abbrev w : World
     w = after NextEvent (world_of items start)
 
@@ -164,9 +160,9 @@ module _ (x : Setup) (files : AllFiles) (epochs : ServerNo → ℕ) (schedule : 
     no-own : own_texts v v ≡ []
     no-own = grown-own v v [] (sym (append-nil v.lines))
 
-    done-shown : (event : Event) (chance : Chance) → IsReady x.servers v event → IsUsed x chance (acted x chance event v).device v (run (acted x chance event v).steps v) a.devices b.devices → IsShown event v (acts_by x chance event v)
-    done-shown (events.Show q) chance ready used = shown-acts (x.counts q) q v chance (a.devices q) (b.devices q) used.its (λ f p l. blocks q used.its.memory ready used.its.up f p l)
-    done-shown event chance ready used = tt
+    done-shown : (event : Event) (chance : Chance) → IsUsed x chance (acted x chance event v).device v (run (acted x chance event v).steps v) a.devices b.devices → IsShown event v (acts_by x chance event v)
+    done-shown (events.Show q) chance used = shown-acts (x.counts q) q v chance (a.devices q) (b.devices q) used.its
+    done-shown event chance used = tt
 
     -- a show sends nothing
     show-quiet : (event : Event) (chance : Chance) → is_show event ≡ true → is_too_much (acted x chance event v) (go_on (acted x chance event v).steps a.state.course) ≡ false
@@ -179,7 +175,7 @@ module _ (x : Setup) (files : AllFiles) (epochs : ServerNo → ℕ) (schedule : 
         (refused-befell x chance v a.devices b.devices z st near e refusal befalls.used) (refusal-under x v e refusal k) (refused-shown e refusal v) (inl refl) (λ show. h.at.few) is
     by-cause chance None k is befalls = met-step chance (acted x chance e v) (acts_by x chance e v) (steps-of-acts chance (acted x chance e v) (besides chance e v) (besides-steps chance e v))
         (told-of-acts chance (acted x chance e v) (besides chance e v) (besides-told x chance e v) v) befalls
-        (acted-befell x chance v a.devices b.devices z st near e (is-ready x v e k) befalls.used) (acts-under x chance e v) (done-shown e chance (is-ready x v e k) befalls.used) (acted-tasks x chance e v) (show-quiet e chance) is
+        (acted-befell x chance v a.devices b.devices z st near e (is-ready x v e k) befalls.used) (acts-under x chance e v) (done-shown e chance befalls.used) (acted-tasks x chance e v) (show-quiet e chance) is
 
     pub meet-step : DoesStep x a b → Held x files epochs schedule b
     meet-step d = let n = does-next x (Meets e) (left x files epochs schedule rest) a b d h.at.stage h.tasks in

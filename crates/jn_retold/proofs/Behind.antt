@@ -1,5 +1,6 @@
 -- With lines of servers that came up before its own, a world goes the same way.
-use Rattle.jn_retold.proofs.Common.{◌≡◌, ℕ, ◌+◌, Bool, true, List, [], ◌∷◌, ◌++◌, append_assoc, Option, Some, None, refl, sym, ◌∙◌, ap, arith, ◌&&◌, if◌then◌else◌, slice_get, list_all, list_any, ServerNo, ClientNo, Tid, WorkId, Client, Server, tid_eq, Text, Taken, Pick, stable, RowOutcome, Sent, close_clients_row, World, Memory, committed_in, commits_in, has_line, Room, server_row, server_step, of_coordinator, named_now, Step, Tell, Deliver, Work, Nudge, Timeout, StopDelivery, StopWork, Crash, Narrow, StopRestart, Restart, CloseClients, after, run, ends, at_memory, handed, work, works, nudge, timeout, crash, narrow, stop_restart, restart, close_clients, commanded, took, is_up, behind}
+use Rattle.jn_retold.proofs.Common.{◌≡◌, ℕ, ◌+◌, Bool, true, List, [], ◌∷◌, ◌++◌, append_assoc, Option, Some, None, refl, sym, ◌∙◌, ap, arith, ◌&&◌, if◌then◌else◌, slice_get, list_all, list_any, ServerNo, ClientNo, Tid, WorkId, Client, Server, tid_eq, Text, Taken, Pick, stable, RowOutcome, Sent, World, Memory, committed_in, commits_in, has_line, Room, server_row, server_step, of_coordinator, named_now, Step, Tell, Deliver, Work, Nudge, Timeout, StopDelivery, StopWork, Crash, Narrow, StopRestart, Restart, CloseClients, after, run, ends, at_memory, handed, work, works, nudge, timeout, crash, narrow, stop_restart, restart, close_clients, commanded, took, is_up, behind}
+use Rattle.jn_rows.specs.Coordinator.{close_clients_row}
 use Rattle.jn_report.specs.declared.line.Text.TheVariants as says
 use Rattle.jn_rows.specs.declared.client.Taken.TheVariants as taken
 use Rattle.jn_rows.specs.Client.{ClientTable, Commanded, Refuses, Sends, command_row, take_row}

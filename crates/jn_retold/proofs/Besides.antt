@@ -1,5 +1,5 @@
 -- What an event tells besides its steps, and what it leaves to be done.
-use Rattle.jn_retold.proofs.Common.{◌≡◌, ◌⊎◌, inl, inr, ℕ, Bool, true, false, List, [], ◌∷◌, ◌++◌, append-nil, map, Option, Some, None, refl, sym, ◌∙◌, ap, ◌&&◌, if◌then◌else◌, slice_get, list_all, list_all-append, ServerNo, ClientNo, Client, Server, Event, EventRefusal, TooManyArmed, EpochsUsedUp, Pick, Sent, World, Memory, clients_from, Refuses, Tells, IsShown, told_in, Setup, Chance, Task, Acts, Rests, served, nothing, delivered, delivered_at, is_busy, working_steps, shown, crashed_at, is_used_up, given_up, recovered, servers_of, asking, settling, told_unless, acted, step_calls}
+use Rattle.jn_retold.proofs.Common.{◌≡◌, ◌⊎◌, inl, inr, ℕ, Bool, true, false, List, [], ◌∷◌, ◌++◌, append-nil, map, Option, Some, None, refl, sym, ◌∙◌, ap, ◌&&◌, if◌then◌else◌, slice_get, list_all, list_all-append, ServerNo, ClientNo, Client, Server, Event, EventRefusal, TooManyArmed, EpochsUsedUp, Pick, Sent, World, Memory, clients_from, Refuses, Tells, IsShown, told_in, Setup, Chance, Task, Acts, Rests, served, nothing, delivered, delivered_at, is_busy, working_steps, shown, crashed_at, is_used_up, given_up, recovered, servers_of, asking, settling, told_unless, acted, step_calls, allowed, prints_found}
 use Rattle.jn_base.specs.declared.device.FaultKind.TheVariants as faults
 use Rattle.jn_schedule.specs.declared.Event.TheVariants as events
 use Rattle.jn_report.specs.declared.line.Text.TheVariants as says
@@ -23,13 +23,13 @@ besides-told x h (events.Step q) w u = sym (works h q w)
 besides-told x h (events.Nudge q) w u = refl
 besides-told x h (events.Timeout q T) w u = refl
 besides-told x h (events.Scrub q) w u = refl
-besides-told x h (events.Decay q p) w u = by h.allows
+besides-told x h (events.Decay q p) w u = by (allowed h.found)
   where
     by : (b : Bool) → told_in (if b then [] else Tells q (record { kind = faults.Decay p; page = p }) ∷ []) u ≡ told_unless b (says.Outside q (record { kind = faults.Decay p; page = p }))
     by true = refl
     by false = refl
 besides-told x h (events.Revive q p) w u = refl
-besides-told x h (events.Arm q n kind) w u = by h.allows
+besides-told x h (events.Arm q n kind) w u = by (allowed h.found)
   where
     by : (b : Bool) → told_in (if b then [] else Refuses TooManyArmed ∷ []) u ≡ told_unless b (says.RefusedEvent TooManyArmed)
     by true = refl
@@ -40,12 +40,11 @@ besides-told x h (events.Restart q) w u = by (is_used_up h q w)
     by : (b : Bool) → told_in (if b then Refuses EpochsUsedUp ∷ [] else []) u ≡ (if b then record (given_up h q) { texts = says.RefusedEvent EpochsUsedUp ∷ [] } else recovered h q).texts
     by true = refl
     by false = refl
-besides-told x h (events.Show q) w u = by (w.memory q) h.stop
+besides-told x h (events.Show q) w u = by h.stop
   where
-    by : (o : Option Memory) (stop : Option (Pick → ℕ)) → told_in (shown_acts h q w o stop) u ≡ shown h q w o stop
-    by None stop = refl
-    by (Some m) (Some made) = refl
-    by (Some m) None = append-nil _
+    by : (stop : Option (Pick → ℕ)) → told_in (shown_acts q (prints_found h.found) stop) u ≡ shown q (prints_found h.found) stop
+    by None = append-nil _
+    by (Some made) = refl
 
 -- a settle alone leaves something to be done
 pub acted-tasks : (x : Setup) (h : Chance) (event : Event) (w : World) → ((acted x h event w).tasks ≡ []) ⊎ ((event ≡ events.Settle) × ((acted x h event w).tasks ≡ settling x))

@@ -1,6 +1,6 @@
 -- The names from below that these proofs cite, passed on from one place. Declares nothing.
-pub use Rattle.std.proofs.Common.{◌≡◌, ℕ, ◌+◌, Bool, true, false, List, [], ◌∷◌, ◌++◌, append-nil, append_assoc, drop, Option, Some, None, refl, sym, ◌∙◌, ap, subst, ◌≢◌, ◌⊎◌, inl, inr, ◌≤◌, ◌<◌, arith, suc, zero, ◌-◌, take}
-pub use Rattle.std.specs.Prelude.{length, map, if◌then◌else◌, ◌||◌, is_some, nat_lt, slice_get, ◌&&◌, ⊤, nat_eq, not, option_and_then, nat_le}
+pub use Rattle.std.proofs.Common.{◌≡◌, ℕ, ◌+◌, Bool, true, false, List, [], ◌∷◌, ◌++◌, append-nil, append_assoc, drop, Option, Some, None, refl, sym, ◌∙◌, ap, subst, ◌≢◌, ◌⊎◌, inl, inr, ◌≤◌, ◌<◌, arith, suc, zero, ◌-◌}
+pub use Rattle.std.specs.Prelude.{length, map, if◌then◌else◌, ◌||◌, is_some, nat_lt, slice_get, ◌&&◌, ⊤, nat_eq, not}
 pub use Rattle.std.specs.List.{list_all, list_any, AllByRecursion}
 pub use Rattle.jn_base.specs.declared.names.ServerNo.{ServerNo}
 pub use Rattle.jn_base.specs.declared.device.Outside.{Outside}
@@ -8,38 +8,34 @@ pub use Rattle.jn_schedule.specs.declared.Event.{Event}
 pub use Rattle.jn_report.specs.declared.line.EventRefusal.TheVariants.{TooManyArmed, EpochsUsedUp}
 pub use Rattle.jn_report.specs.declared.line.Text.{Text}
 pub use Rattle.jn_report.specs.declared.line.Line.{Line}
-pub use Rattle.jn_rows.specs.Stable.{Pick, stable, Change, StableState, Prepared, AddReady, MarkGoing, CarryOut, RemoveWork, AddFlag, DropFlag, gone_on, made_by, made_all}
+pub use Rattle.jn_rows.specs.Stable.{Pick, stable, StableState}
 pub use Rattle.jn_rows.specs.Outcomes.{Sent, RowOutcome}
-pub use Rattle.jn_system.specs.WholeSystem.World.{World, Memory, opening, committed_in, commits_in, has_line, new_memory, at_server, servers_from}
-pub use Rattle.jn_system.specs.WholeSystem.Steps.{Step, after, run, NextEvent, work, works, Tell, Deliver, Work, Nudge, Timeout, StopDelivery, StopWork, Crash, Narrow, StopRestart, Restart, CloseClients, ends, at_memory, handed, nudge, timeout, crash, narrow, stop_restart, restart, close_clients, commanded, took, Again, IsRun, handing, working, AreNames, IsStep, are_rising, tid_before, sent_now}
-pub use Rattle.jn_system.specs.WholeSystem.Printing.{print_files, Printed, FileThere, PageStored, UnitLocked, print_unit, print_one, print_blocks, print_file, file_before, block_before, ArePrints}
-pub use Rattle.jn_system_reports.specs.Reporting.Reported.{Act, Does, Refuses, Tells, Shows, steps_in, told_in, Waiting, one_more, armed, with_event, strikes, strike_all, AreStruck, Item, IsUnder, IsShown, world_of, at_event, lines_of, none_wait, IsReported, events_of, after_item, waiting_in, told_under, AreUnder, AreShown, FaultsWait, step_of, steps_of, told_by, may_refuse, may_act, may_do, GoesOver, IsShow, one_less, IsStruck}
-pub use Rattle.jn_system_reports.specs.Reporting.Printing.{prints_of, text_printed, IsPrinted}
+pub use Rattle.jn_system.specs.WholeSystem.World.{World, Memory, opening, committed_in, commits_in, has_line, clients_from, new_memory, at_server, with_epoch, servers_from}
+pub use Rattle.jn_system.specs.WholeSystem.Steps.{Step, after, run, NextEvent, work, works, Tell, Deliver, Work, Nudge, Timeout, StopDelivery, StopWork, Crash, Narrow, StopRestart, Restart, CloseClients, ends, at_memory, handed, nudge, timeout, crash, narrow, stop_restart, restart, close_clients, commanded, took, Again, IsRun, handing, working, AreNames, IsStep, tid_before}
+pub use Rattle.jn_system_reports.specs.Reporting.Reported.{Act, Does, Refuses, Tells, Shows, steps_in, told_in, Waiting, one_more, armed, with_event, strikes, strike_all, AreStruck, Item, IsUnder, IsShown, world_of, at_event, lines_of, none_wait, IsReported, events_of, after_item, waiting_in, told_under, AreUnder, AreShown, FaultsWait, step_of, steps_of, told_by, may_refuse, may_act, GoesOver, IsShow, one_less, IsStruck}
 pub use Rattle.jn_aside.specs.Aside.{is_aside, plain, is_show}
 pub use Rattle.jn_aside.proofs.Plain.{plain-append, plain-none}
-pub use Rattle.jn_written.specs.Chances.{Setup, Chance}
-pub use Rattle.jn_written.specs.Deeds.{Use, Calls, Reads, Recovers, Deed, blocks_from, is_used_up, Cleans, nobody, no_room, plain as plain_deed, stopped_idle, tells, served, nothing, delivered, delivered_at, is_busy, working_steps, shown, crashed_at, given_up, recovered, room, scrubbed, showing, pick_read, restarted, recovering, brought_up}
+pub use Rattle.jn_written.specs.Chances.{Setup, Chance, allowed, prints_found, works_found, tids_found, halves_found}
+pub use Rattle.jn_written.specs.Deeds.{Use, Calls, Reads, Recovers, Deed, is_used_up, Cleans, nobody, no_room, plain as plain_deed, stopped_idle, tells, served, nothing, delivered, delivered_at, is_busy, working_steps, shown, crashed_at, given_up, recovered, room, scrubbed, showing, pick_read, restarted, recovering, brought_up}
 pub use Rattle.jn_written.specs.Events.{acted, settling, met, servers_of, asking, told_unless, ending, deed_of, first_busy, next_event, resting}
 pub use Rattle.jn_written.specs.Steps.{outside_texts, own_texts, message_texts, traced, texts_of, lines_at, most_messages, is_too_much, come_to, cut_short, made}
 pub use Rattle.jn_written.specs.Kinds.{may_tell, is_up, is_answer, is_of_delivery, is_note}
 pub use Rattle.jn_written.proofs.Telling.{Adds, adds, weaker}
 pub use Rattle.jn_retold.specs.Retold.{behind, IsAsIn, IsToldBy, IsRetold, IsRetoldInPart}
+pub use Rattle.jn_system.specs.WholeSystem.Printing.{Printed, FileThere, PageStored, UnitLocked}
 pub use Rattle.jn_base.specs.declared.device.FaultKind.{FaultKind}
-pub use Rattle.jn_base.specs.Names.{server_eq, tid_eq, client_eq, file_eq, block_eq, work_eq}
-pub use Rattle.jn_base.proofs.Tells.{server_tells, block_tells}
+pub use Rattle.jn_base.specs.Names.{server_eq, tid_eq, client_eq, work_eq}
+pub use Rattle.jn_base.proofs.Tells.{server_tells}
 pub use Rattle.jn_device.specs.declared.Armed.{Armed}
 pub use Rattle.jn_device.specs.Device.{DeviceState}
 pub use Rattle.jn_device.specs.Events.{powered_off, Becomes, Decays as PageDecays, Arms as FaultArmed}
 pub use Rattle.jn_device.specs.Later.{count_kind, is_stop, count_told}
 pub use Rattle.jn_report.specs.declared.line.EventRefusal.{EventRefusal}
-pub use Rattle.jn_written.specs.Devices.{Devices, Alone, IsUsed, Befalls, AreFound, IsLookedOver, IsCalled, IsRecovery}
-pub use Rattle.jn_base.specs.declared.names.FileNo.{FileNo}
-pub use Rattle.jn_base.specs.declared.names.BlockNo.{BlockNo}
-pub use Rattle.jn_base.specs.declared.names.LockUnit.TheVariants.{Block, File}
+pub use Rattle.jn_written.specs.Devices.{Devices, Alone, IsUsed, Befalls, IsLookedOver, IsCalled, IsRecovery}
 pub use Rattle.jn_base.specs.declared.names.Party.TheVariants.{Server, Client}
 pub use Rattle.jn_msgs.specs.declared.message.Message.{Message}
 pub use Rattle.jn_order.specs.Files.{AllFiles}
-pub use Rattle.jn_system.specs.WholeSystem.Servers.{Room, server_step, server_row, of_coordinator, named_now, restored, storage_of, is_for_worker, of_worker, of_step, server_again, of_timeout, server_timeout}
+pub use Rattle.jn_system.specs.WholeSystem.Servers.{Room, server_step, server_row, of_coordinator, named_now, is_busy as has_going, restored}
 pub use Rattle.jn_within.proofs.WorldSteps.{sent-near, run-within, opening-within}
 pub use Rattle.jn_written.specs.Tasks.{Task, Begins, Meets, Rests, State, Acts, CutShort, Stage, InSchedule, when_at, when_of, next_at, begun, ComesUp, AtEnd}
 pub use Rattle.jn_written.specs.Refusals.{refusal_of, if_down}
@@ -49,29 +45,12 @@ pub use Rattle.jn_base.specs.declared.names.ClientNo.{ClientNo}
 pub use Rattle.jn_base.specs.declared.names.Tid.{Tid}
 pub use Rattle.jn_base.specs.declared.names.WorkId.{WorkId}
 pub use Rattle.jn_rows.specs.declared.client.Taken.{Taken}
-pub use Rattle.jn_rows.specs.Coordinator.{close_clients_row, CoordinatorTable, coordinator_row, flags_of_thanked}
 pub use Rattle.std.proofs.lemmas.List.Folds.{list_all-append}
-pub use Rattle.jn_system_settling.specs.Settling.Settle.{clients_from, is_busy as has_going}
 pub use Rattle.jn_storage.specs.DeviceCalls.{step_calls}
-pub use Rattle.jn_base.specs.declared.names.Tickets.{Tickets}
-pub use Rattle.jn_system.proofs.WholeSystem.CoordinatorRows.{is_of_flag, are_of_flags, closes-flags, coordinator-aside}
-pub use Rattle.jn_base.specs.declared.op.Command.{Command}
+pub use Rattle.jn_system_reports.specs.Reporting.Printing.{text_printed, IsPrinted}
 pub use Rattle.jn_report.specs.declared.line.When.TheVariants.{Event as AtEvent}
 pub use Rattle.std.proofs.lemmas.Bool.Decides.{nat_tests}
-pub use Rattle.std.proofs.lemmas.Bool.{cases_Bool}
 pub use Rattle.jn_written.specs.Whole.{closed_world, before, AreImages, IsWritten}
-pub use Rattle.jn_system.specs.SmallSteps.Steps.{with_epoch}
-pub use Rattle.jn_base.specs.declared.names.LockUnit.{LockUnit}
-pub use Rattle.jn_schedule.specs.Ranges.{EventInRange}
-pub use Rattle.jn_locks.specs.Locks.{is_unit, work_before}
-pub use Rattle.jn_locks.specs.declared.words.Mode.TheVariants.{Commit, IntentionWrite}
-pub use Rattle.jn_rows.specs.declared.worker.Phase.{Phase}
-pub use Rattle.jn_rows.specs.declared.worker.Phase.TheVariants.{Active, Broken, Prepared as Stored}
-pub use Rattle.jn_rows.specs.Worker.{WorkerTable, holds, commit_holder, WorkStorage, list_with, wants_of, is_fit, units_for, worker_row, worker_step, vulnerable, timeout_row, restored_work, restored_worker, going_work}
-pub use Rattle.jn_storage.specs.Orderly.{unit_in_range}
-pub use Rattle.jn_within.proofs.Taking.{scheduled-in-range, servers-taken, command-fits, take-fits, new-fits, over-fits}
-pub use Rattle.jn_records.specs.StablePages.{Counts, Pages, files_of_pages, head_of, block_in, block_behind, address_in}
-pub use Rattle.jn_worker.specs.Handling.{InRange}
-pub use Rattle.jn_records.specs.NetLists.{blocks_below}
+pub use Rattle.jn_records.specs.StablePages.{Counts}
 pub use Rattle.jn_written.proofs.Struck.{stop-had-waited, told-had-waited, nothing-strikes}
 pub use Rattle.jn_written.proofs.Called.{called-later}

@@ -1,5 +1,6 @@
 -- What befalls the devices in each event that is done.
-use Rattle.jn_retold.proofs.Common.{◌≡◌, ◌≢◌, ◌⊎◌, inl, inr, ◌<◌, ℕ, Bool, true, false, List, [], ◌∷◌, ◌++◌, append-nil, map, Option, Some, None, refl, sym, ◌∙◌, ap, subst, arith, ⊤, ◌&&◌, ◌||◌, if◌then◌else◌, nat_eq, slice_get, is_some, list_all, ServerNo, ClientNo, Tid, Client, Server, Command, server_eq, server_tells, Message, EventRefusal, EpochsUsedUp, TooManyArmed, Text, Event, Taken, Pick, stable, Sent, World, Memory, Printed, FileThere, PageStored, UnitLocked, print_files, Tell, Again, Deliver, Nudge, Timeout, Crash, after, run, commanded, took, at_memory, handed, nudge, timeout, crash, has_going, text_printed, prints_of, Waiting, with_event, strike_all, AreStruck, Setup, Chance, Deed, room, no_room, served, nothing, tells, delivered, delivered_at, is_busy, working_steps, scrubbed, blocks_from, shown, showing, crashed_at, pick_read, is_used_up, given_up, recovered, restarted, told_unless, acted, own_texts, Devices, IsUsed, is_answer, is_of_delivery, Adds, adds, weaker, step_calls}
+use Rattle.jn_retold.proofs.Common.{◌≡◌, ◌≢◌, ◌⊎◌, inl, inr, ◌<◌, ℕ, Bool, true, false, List, [], ◌∷◌, ◌++◌, append-nil, map, Option, Some, None, refl, sym, ◌∙◌, ap, subst, arith, ⊤, ◌&&◌, ◌||◌, if◌then◌else◌, nat_eq, slice_get, is_some, list_all, ServerNo, ClientNo, Tid, Client, Server, server_eq, server_tells, Message, EventRefusal, EpochsUsedUp, TooManyArmed, Text, Event, Taken, Pick, stable, Sent, World, Memory, Printed, FileThere, PageStored, UnitLocked, Tell, Again, Deliver, Nudge, Timeout, Crash, after, run, commanded, took, at_memory, handed, nudge, timeout, crash, has_going, text_printed, Waiting, with_event, strike_all, AreStruck, Setup, Chance, Deed, room, no_room, served, nothing, tells, delivered, delivered_at, is_busy, working_steps, scrubbed, shown, showing, crashed_at, pick_read, is_used_up, given_up, recovered, restarted, told_unless, acted, own_texts, Devices, IsUsed, is_answer, is_of_delivery, Adds, adds, weaker, step_calls, allowed, prints_found}
+use Rattle.jn_base.specs.declared.op.Command.{Command}
 use Rattle.jn_base.specs.declared.device.FaultKind.TheVariants as faults
 use Rattle.jn_report.specs.declared.line.Text.TheVariants as says
 use Rattle.jn_schedule.specs.declared.Event.TheVariants as events
@@ -143,15 +144,14 @@ module _ (x : Setup) (h : Chance) (w : World) (ds es : Devices) (z : Waiting) (s
     looks q l used = let now = run (scrubbed h q).steps w in let m = used.its.served.memory in let t = idle-turns w q (same-server q) m used.its.served.up h.stop in
         turned q l now used.others (call-spends _ h (is_some (now.memory q)) (ds q) (es q) used.its.served.called (st.power q m l used.its.served.up) (st.told q l)) [] refl h.stop refl t
 
-    shown-harmless : (q : ServerNo) (o : Option Memory) (stop : Option (Pick → ℕ)) → list_all is_harmless (shown h q w o stop) ≡ true
-    shown-harmless q None stop = refl
-    shown-harmless q (Some m) (Some made) = refl
-    shown-harmless q (Some m) None = printed-harmless q (print_files (prints_of q w m) (λ f. blocks_from 0 120) h.files)
+    shown-harmless : (q : ServerNo) (stop : Option (Pick → ℕ)) → list_all is_harmless (shown q (prints_found h.found) stop) ≡ true
+    shown-harmless q None = printed-harmless q (prints_found h.found)
+    shown-harmless q (Some made) = refl
 
-    shows : (q : ServerNo) → q.0 < x.servers → IsUsed x h (showing h q w).device w (run (showing h q w).steps w) ds es
-        → JustBefell x.servers (texts_by h (showing h q w) w (run (showing h q w).steps w)) w (run (showing h q w).steps w) es z
-    shows q l used = let now = run (showing h q w).steps w in let m = used.its.memory in let t = idle-turns w q (same-server q) m used.its.up h.stop in
-        turned q l now used.others (call-spends _ h (is_some (now.memory q)) (ds q) (es q) used.its.called (st.power q m l used.its.up) (st.told q l)) (shown h q w (w.memory q) h.stop) (shown-harmless q (w.memory q) h.stop) h.stop refl t
+    shows : (q : ServerNo) → q.0 < x.servers → IsUsed x h (showing h q).device w (run (showing h q).steps w) ds es
+        → JustBefell x.servers (texts_by h (showing h q) w (run (showing h q).steps w)) w (run (showing h q).steps w) es z
+    shows q l used = let now = run (showing h q).steps w in let m = used.its.memory in let t = idle-turns w q (same-server q) m used.its.up h.stop in
+        turned q l now used.others (call-spends _ h (is_some (now.memory q)) (ds q) (es q) used.its.called (st.power q m l used.its.up) (st.told q l)) (shown q (prints_found h.found) h.stop) (shown-harmless q h.stop) h.stop refl t
 
     -- ---- crashes and restarts
 
@@ -205,12 +205,12 @@ module _ (x : Setup) (h : Chance) (w : World) (ds es : Devices) (z : Waiting) (s
     acted-befell (events.Nudge q) r used = as-event _ _ _ refl (calm (after (Nudge q) w) (nudge-calm q) used)
     acted-befell (events.Timeout q T) r used = as-event _ _ _ refl (calm (after (Timeout q T) w) (timeout-calm q T) used)
     acted-befell (events.Scrub q) r used = as-event _ _ _ refl (looks q r used)
-    acted-befell (events.Decay q p) r used = subst (λ (own : List Text). Befell x.servers (events.Decay q p) (own ++ told_unless h.allows (says.Outside q (record { kind = faults.Decay p; page = p }))) w w es z) (sym no-own)
-        (decay-befell x.servers q r w ds es z st used.others p h.allows used.its)
+    acted-befell (events.Decay q p) r used = subst (λ (own : List Text). Befell x.servers (events.Decay q p) (own ++ told_unless (allowed h.found) (says.Outside q (record { kind = faults.Decay p; page = p }))) w w es z) (sym no-own)
+        (decay-befell x.servers q r w ds es z st used.others p (allowed h.found) used.its)
     acted-befell (events.Revive q p) r used = subst (λ (own : List Text). Befell x.servers (events.Revive q p) (own ++ []) w w es z) (sym no-own)
         (record { struck = tt; stands = becomes-stands x.servers q r w ds es z st used.others used.its; number = refl })
-    acted-befell (events.Arm q k kind) r used = subst (λ (own : List Text). Befell x.servers (events.Arm q k kind) (own ++ told_unless h.allows (says.RefusedEvent TooManyArmed)) w w es z) (sym no-own)
-        (arm-befell x.servers q r w ds es z st used.others k kind h.allows used.its)
+    acted-befell (events.Arm q k kind) r used = subst (λ (own : List Text). Befell x.servers (events.Arm q k kind) (own ++ told_unless (allowed h.found) (says.RefusedEvent TooManyArmed)) w w es z) (sym no-own)
+        (arm-befell x.servers q r w ds es z st used.others k kind (allowed h.found) used.its)
     acted-befell (events.Crash q) r used = as-event _ _ _ refl (crashes q r (w.memory q) refl used)
     acted-befell (events.Restart q) r used = as-event _ _ _ refl (restarts q r.0 r.1 (is_used_up h q w) refl (restarted h q w) refl used)
     acted-befell (events.Show q) r used = as-event _ _ _ refl (shows q r used)

@@ -1,5 +1,5 @@
 -- Where a run under its schedule stands, and how a step of it goes on.
-use Rattle.jn_retold.proofs.Common.{◌≡◌, ◌⊎◌, inl, inr, Bool, true, false, List, [], ◌∷◌, ◌++◌, length, Some, refl, sym, ◌∙◌, ap, subst, arith, ◌||◌, nat_lt, if◌then◌else◌, list_all, AtEvent, Line, Text, World, commits_in, Step, IsRun, run, Course, go, go_on, Act, Waiting, steps_in, told_in, at_event, plain, plain-append, run-within, Setup, Chance, Task, Stage, InSchedule, State, when_at, when_of, next_at, begun, Deed, deed_of, texts_of, lines_at, most_messages, is_too_much, come_to, cut_short, made, Devices, Befalls, AreFound, is_up, Moment, DoesStep, behind}
+use Rattle.jn_retold.proofs.Common.{◌≡◌, ◌⊎◌, inl, inr, Bool, true, false, List, [], ◌∷◌, ◌++◌, length, Some, refl, sym, ◌∙◌, ap, subst, arith, ◌||◌, nat_lt, if◌then◌else◌, list_all, AtEvent, Line, Text, World, commits_in, Step, IsRun, run, Course, go, go_on, Act, Waiting, steps_in, told_in, at_event, plain, plain-append, run-within, Setup, Chance, Task, Stage, InSchedule, State, when_at, when_of, next_at, begun, Deed, deed_of, texts_of, lines_at, most_messages, is_too_much, come_to, cut_short, made, Devices, Befalls, is_up, Moment, DoesStep, behind}
 use Rattle.jn_within.specs.Within.{Within}
 use Rattle.jn_retold.proofs.Behind.{ups-name-none, run-behind}
 use Rattle.jn_retold.proofs.Acts.{texts_by, plain-texts}
@@ -46,7 +46,6 @@ module _ (x : Setup) where
     pub are_up : list_all is_up ups ≡ true
     pub world : m.state.course.world ≡ behind ups w
     pub stands : Stands x.servers w m.devices z
-    pub found : AreFound x w m.devices
     pub within : Within x.servers w
     pub stage : m.state.stage ≡ InSchedule
     -- not too many messages were sent
@@ -93,7 +92,6 @@ module _ (x : Setup) where
         are_up = at.are_up;
         world = ap (λ (s : State). s.course.world) e ∙ go-world deed.steps a.state.course ∙ ap (λ (v : World). run deed.steps v) at.world ∙ comes;
         stands = stands-before at.ups _ (run (steps_in acts) w) b.devices y comes stands;
-        found = subst (λ (v : World). AreFound x v b.devices) comes befalls.found;
         within = run-within x.servers (steps_in acts) w at.within;
         stage = ap (λ (s : State). s.stage) e ∙ at.stage;
         few = ap (λ (s : State). nat_lt most_messages (length s.course.world.sent)) e ∙ neither deed.cuts (nat_lt most_messages (length (go_on deed.steps a.state.course).world.sent)) fits;

@@ -17,8 +17,4 @@ pub mod Beginning
 pub mod Settles
 pub mod Partly
 pub mod Starting
-pub mod RowRanges
-pub mod Coordinating
-pub mod WorldRanges
-pub mod Ranges
 pub mod Whole

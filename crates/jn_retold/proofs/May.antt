@@ -1,5 +1,5 @@
 -- What is done under each event is what it may have, and what is known of an event that isn't refused.
-use Rattle.jn_retold.proofs.Common.{◌≡◌, ◌<◌, ℕ, Bool, true, false, List, [], ◌∷◌, ◌++◌, map, Option, Some, None, refl, ◌∙◌, arith, ◌&&◌, if◌then◌else◌, nat_eq, slice_get, list_all, nat_tests, list_all-append, ServerNo, ClientNo, Tid, WorkId, Client, Server, Outside, client_eq, tid_eq, EventRefusal, EpochsUsedUp, TooManyArmed, Event, Pick, Sent, World, Memory, Printed, Room, Deliver, StopDelivery, Work, StopWork, Narrow, StopRestart, Restart, handing, working, Act, Does, Refuses, Tells, Shows, may_refuse, may_act, IsUnder, Setup, Chance, Deed, served, nothing, delivered, delivered_at, is_busy, no_room, working_steps, stopped_idle, scrubbed, showing, given_up, recovering, recovered, crashed_at, is_used_up, room, refusal_of, if_down, step_calls}
+use Rattle.jn_retold.proofs.Common.{◌≡◌, ◌<◌, ℕ, Bool, true, false, List, [], ◌∷◌, ◌++◌, map, Option, Some, None, refl, ◌∙◌, arith, ◌&&◌, if◌then◌else◌, nat_eq, slice_get, list_all, nat_tests, list_all-append, ServerNo, ClientNo, Tid, WorkId, Client, Server, Outside, client_eq, tid_eq, EventRefusal, EpochsUsedUp, TooManyArmed, Event, Pick, Sent, World, Memory, Printed, Room, Deliver, StopDelivery, Work, StopWork, Narrow, StopRestart, Restart, handing, working, Act, Does, Refuses, Tells, Shows, may_refuse, may_act, IsUnder, Setup, Chance, Deed, served, nothing, delivered, delivered_at, is_busy, no_room, working_steps, stopped_idle, scrubbed, showing, given_up, recovering, recovered, crashed_at, is_used_up, room, refusal_of, if_down, step_calls, allowed, prints_found}
 use Rattle.jn_base.specs.declared.device.FaultKind.TheVariants as faults
 use Rattle.jn_report.specs.declared.line.Text.TheVariants as says
 use Rattle.jn_schedule.specs.declared.Event.TheVariants as events
@@ -57,13 +57,12 @@ module _ (test : Act → Bool) where
       pub scrubbed-may : ((r : Room) (made : Pick → ℕ) → test (Does (StopWork q r made)) ≡ true) → list_all test (acts_of h (scrubbed h q) []) ≡ true
       scrubbed-may halted = parts h (scrubbed h q) [] (told-may q h.told tells) (idle-may halted h.stop) refl
 
-      shown-may : ((prints : List Printed) → test (Shows q prints) ≡ true) → (o : Option Memory) (stop : Option (Pick → ℕ)) → list_all test (shown_acts h q w o stop) ≡ true
-      shown-may shows None stop = refl
-      shown-may shows (Some m) (Some made) = refl
-      shown-may shows (Some m) None = both _ true (shows _) refl
+      shown-may : ((prints : List Printed) → test (Shows q prints) ≡ true) → (stop : Option (Pick → ℕ)) → list_all test (shown_acts q (prints_found h.found) stop) ≡ true
+      shown-may shows None = both _ true (shows _) refl
+      shown-may shows (Some made) = refl
 
-      pub showing-may : ((r : Room) (made : Pick → ℕ) → test (Does (StopWork q r made)) ≡ true) → ((prints : List Printed) → test (Shows q prints) ≡ true) → list_all test (acts_of h (showing h q w) (shown_acts h q w (w.memory q) h.stop)) ≡ true
-      showing-may halted shows = parts h (showing h q w) (shown_acts h q w (w.memory q) h.stop) (told-may q h.told tells) (idle-may halted h.stop) (shown-may shows (w.memory q) h.stop)
+      pub showing-may : ((r : Room) (made : Pick → ℕ) → test (Does (StopWork q r made)) ≡ true) → ((prints : List Printed) → test (Shows q prints) ≡ true) → list_all test (acts_of h (showing h q) (shown_acts q (prints_found h.found) h.stop)) ≡ true
+      showing-may halted shows = parts h (showing h q) (shown_acts q (prints_found h.found) h.stop) (told-may q h.told tells) (idle-may halted h.stop) (shown-may shows h.stop)
 
       module _ (narrows : (g : Pick → Pick) → test (Does (Narrow q g)) ≡ true) (halted : (raised : Pick → Bool) → test (Does (StopRestart q raised)) ≡ true) (comes : (pick : Pick) (Ws : List WorkId) (Ts : List Tid) → test (Does (Restart q pick Ws Ts)) ≡ true) (refuses : test (Refuses EpochsUsedUp) ≡ true) where
         recovering-may : (stop : Option (Pick → ℕ)) → list_all test (all_done (recovering h q stop)) ≡ true
@@ -96,9 +95,9 @@ acts-under x h (events.Step q) w = worked-may (may_act (events.Step q)) h w q (�
 acts-under x h (events.Nudge q) w = both _ true (same-server q) refl
 acts-under x h (events.Timeout q T) w = both _ true (both _ _ (same-server q) (same-tid T)) refl
 acts-under x h (events.Scrub q) w = scrubbed-may (may_act (events.Scrub q)) h w q (λ fault. same-server q) (λ r made. same-server q)
-acts-under x h (events.Decay q p) w = unless-may (may_act (events.Decay q p)) h.allows (Tells q (record { kind = faults.Decay p; page = p })) (same-server q)
+acts-under x h (events.Decay q p) w = unless-may (may_act (events.Decay q p)) (allowed h.found) (Tells q (record { kind = faults.Decay p; page = p })) (same-server q)
 acts-under x h (events.Revive q p) w = refl
-acts-under x h (events.Arm q k kind) w = unless-may (may_act (events.Arm q k kind)) h.allows (Refuses TooManyArmed) refl
+acts-under x h (events.Arm q k kind) w = unless-may (may_act (events.Arm q k kind)) (allowed h.found) (Refuses TooManyArmed) refl
 acts-under x h (events.Crash q) w = by (w.memory q)
   where
     by : (o : Option Memory) → list_all (may_act (events.Crash q)) (acts_of h (crashed_at q o) []) ≡ true

@@ -1,5 +1,6 @@
 -- The system while its servers come up, one after another.
-use Rattle.jn_retold.proofs.Common.{◌≡◌, ◌≢◌, ◌⊎◌, inl, inr, ◌<◌, ℕ, ◌+◌, Bool, true, false, List, [], ◌∷◌, ◌++◌, append-nil, Option, Some, None, refl, sym, ◌∙◌, ap, arith, not, ◌||◌, if◌then◌else◌, nat_lt, is_some, cases_Bool, nat_tests, ServerNo, server_eq, server_tells, AllFiles, Text, StableState, Pick, World, Memory, new_memory, opening, at_server, restored, Restart, AreNames, after, restart, closed_world, behind, with_epoch}
+use Rattle.jn_retold.proofs.Common.{◌≡◌, ◌≢◌, ◌⊎◌, inl, inr, ◌<◌, ℕ, ◌+◌, Bool, true, false, List, [], ◌∷◌, ◌++◌, append-nil, Option, Some, None, refl, sym, ◌∙◌, ap, arith, not, ◌||◌, if◌then◌else◌, nat_lt, is_some, nat_tests, ServerNo, server_eq, server_tells, AllFiles, Text, StableState, Pick, World, Memory, new_memory, opening, at_server, restored, Restart, AreNames, after, restart, closed_world, behind, with_epoch}
+use Rattle.std.proofs.lemmas.Bool.{cases_Bool}
 use Rattle.std.proofs.Math.Path.{fun_ext}
 use Rattle.jn_report.specs.declared.line.Text.TheVariants as says
 

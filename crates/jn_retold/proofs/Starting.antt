@@ -1,5 +1,6 @@
 -- Until every server has come up.
-use Rattle.jn_retold.proofs.Common.{◌≡◌, ◌⊎◌, inl, inr, ◌≤◌, ◌<◌, ℕ, suc, ◌+◌, Bool, true, false, List, [], ◌∷◌, ◌++◌, append-nil, map, drop, Option, Some, None, refl, sym, ◌∙◌, ap, subst, arith, length, not, ◌&&◌, ◌||◌, if◌then◌else◌, nat_lt, is_some, list_all, list_all-append, nat_tests, ServerNo, Tid, WorkId, Outside, server_eq, tid_eq, work_eq, server_tells, Armed, DeviceState, powered_off, count_kind, is_stop, AllFiles, Event, Line, Text, Pick, work_before, World, Memory, new_memory, opening, servers_from, Step, Restart, IsRun, run, after, tid_before, go_on, IsReported, plain, plain-append, opening-within, Setup, Chance, Task, Begins, ComesUp, InSchedule, State, when_at, pick_read, is_used_up, given_up, recovering, recovered, brought_up, ending, is_too_much, most_messages, own_texts, texts_of, lines_at, come_to, cut_short, made, IsRecovery, Befalls, AreFound, is_up, Moment, DoesStep, nothing-strikes, IsAsIn, IsRetoldInPart, Counts, called-later}
+use Rattle.jn_retold.proofs.Common.{◌≡◌, ◌⊎◌, inl, inr, ◌≤◌, ◌<◌, ℕ, suc, ◌+◌, Bool, true, false, List, [], ◌∷◌, ◌++◌, append-nil, map, drop, Option, Some, None, refl, sym, ◌∙◌, ap, subst, arith, length, not, ◌&&◌, ◌||◌, if◌then◌else◌, nat_lt, is_some, list_all, list_all-append, nat_tests, ServerNo, Tid, WorkId, Outside, server_eq, tid_eq, work_eq, server_tells, Armed, DeviceState, powered_off, count_kind, is_stop, AllFiles, Event, Line, Text, Pick, World, Memory, new_memory, opening, servers_from, Step, Restart, IsRun, run, after, tid_before, go_on, IsReported, plain, plain-append, opening-within, Setup, Chance, Task, Begins, ComesUp, InSchedule, State, when_at, pick_read, is_used_up, given_up, recovering, recovered, brought_up, ending, is_too_much, most_messages, own_texts, texts_of, lines_at, come_to, cut_short, made, IsRecovery, Befalls, is_up, Moment, DoesStep, nothing-strikes, IsAsIn, IsRetoldInPart, Counts, called-later, works_found, tids_found}
+use Rattle.jn_locks.specs.Locks.{work_before}
 use Rattle.jn_report.specs.declared.line.Text.TheVariants as says
 use Rattle.jn_retold.proofs.Acts.{texts_by, grown-own, plain-texts}
 use Rattle.jn_retold.proofs.Going.{does-next, goes-or-cut, go-world}
@@ -55,7 +56,6 @@ module _ (x : Setup) (files : AllFiles) (epochs : ServerNo → ℕ) (schedule : 
     pub lines : plain m.state.lines ≡ []
     pub quiet : (q : ServerNo) → q.0 < x.servers → IsQuiet (m.devices q)
     pub power : (q : ServerNo) → q.0 < k → (m.devices q).power ≡ true
-    pub found : AreFound x (partly x.servers files epochs k ups) m.devices
     pub stage : m.state.stage ≡ InSchedule
 
   -- all have come up
@@ -71,7 +71,6 @@ module _ (x : Setup) (files : AllFiles) (epochs : ServerNo → ℕ) (schedule : 
         stops = λ q l. none is_stop _ (s.quiet q l).waiting;
         faults = λ q l. none (λ kind. true) _ (s.quiet q l).waiting;
       };
-      found = s.found;
       within = opening-within x.servers files last;
       stage = s.stage;
       few = ap (λ (w : World). nat_lt most_messages (length w.sent)) s.world;
@@ -152,10 +151,10 @@ module _ (x : Setup) (files : AllFiles) (epochs : ServerNo → ℕ) (schedule : 
       re : Recovers h (b.devices q)
       re = recovers (x.counts q) h _ (a.devices q) (b.devices q) befalls.used.its (s.quiet q l)
 
-      steps-are : recovering h q h.stop ≡ Restart q (pick_read h) h.works h.tids ∷ []
+      steps-are : recovering h q h.stop ≡ Restart q (pick_read h) (works_found h.found) (tids_found h.found) ∷ []
       steps-are = ap (λ (stop : Option (Pick → ℕ)). recovering h q stop) re.stop
 
-      names : IsRun (Restart q (pick_read h) h.works h.tids ∷ []) v
+      names : IsRun (Restart q (pick_read h) (works_found h.found) (tids_found h.found) ∷ []) v
       names = subst (λ (steps : List Step). IsRun steps v) steps-are befalls.steps
 
       same-work : (W : WorkId) → work_eq W W ≡ true
@@ -164,18 +163,18 @@ module _ (x : Setup) (files : AllFiles) (epochs : ServerNo → ℕ) (schedule : 
       same-tid : (T : Tid) → tid_eq T T ≡ true
       same-tid T = grind (arith, nat_tests)
 
-      no-works : h.works ≡ []
-      no-works = none-named work_eq work_before same-work (λ W. None) (λ W. refl) h.works names.0.0
+      no-works : works_found h.found ≡ []
+      no-works = none-named work_eq work_before same-work (λ W. None) (λ W. refl) (works_found h.found) names.0.0
 
-      no-tids : h.tids ≡ []
-      no-tids = none-named tid_eq tid_before same-tid (λ T. None) (λ T. refl) h.tids names.0.1
+      no-tids : tids_found h.found ≡ []
+      no-tids = none-named tid_eq tid_before same-tid (λ T. None) (λ T. refl) (tids_found h.found) names.0.1
 
       abbrev up : Text
       up = says.Up q (raised x.servers files epochs k q + 1)
 
       now : run (recovered h q).steps v ≡ partly x.servers files epochs (k + 1) (s.ups ++ up ∷ [])
       now = ap (λ (steps : List Step). run steps v) steps-are
-          ∙ ap (λ (Ws : List WorkId). after (Restart q (pick_read h) Ws h.tids) v) no-works ∙ ap (λ (Ts : List Tid). after (Restart q (pick_read h) [] Ts) v) no-tids
+          ∙ ap (λ (Ws : List WorkId). after (Restart q (pick_read h) Ws (tids_found h.found)) v) no-works ∙ ap (λ (Ts : List Tid). after (Restart q (pick_read h) [] Ts) v) no-tids
           ∙ comes-up x.servers files epochs k l (pick_read h) s.ups
 
       one-told : texts_by h (recovered h q) v (run (recovered h q).steps v) ≡ up ∷ []
@@ -191,7 +190,6 @@ module _ (x : Setup) (files : AllFiles) (epochs : ServerNo → ℕ) (schedule : 
         lines = ap (λ (t : State). plain t.lines) e ∙ plain-append a.state.lines _ ∙ ap (λ (ls : List Line). ls ++ plain (lines_at (when_at before.stage a.state.course.world.event) (texts_of x h (recovered h q) a.state.course.world (go_on (recovered h q).steps a.state.course).world))) s.lines ∙ quiet-lines;
         quiet = λ p m. others p m (server_tells q p);
         power = λ p m. powered p m (server_tells q p);
-        found = subst (λ (w : World). AreFound x w b.devices) now befalls.found;
         stage = ap (λ (t : State). t.stage) e ∙ s.stage;
       }
         where

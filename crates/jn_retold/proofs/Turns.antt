@@ -1,5 +1,6 @@
 -- How a step with a server's device turns out: the server goes on, or is stopped.
-use Rattle.jn_retold.proofs.Common.{◌≡◌, ℕ, Bool, true, false, List, [], ◌∷◌, ◌++◌, append-nil, Option, Some, None, refl, sym, ap, subst, arith, ◌||◌, if◌then◌else◌, nat_lt, slice_get, is_some, list_all, ServerNo, Server, server_eq, Message, Text, Pick, stable, RowOutcome, Sent, going_work, World, Memory, at_server, Room, server_row, server_step, Deliver, Work, Narrow, StopRestart, Restart, after, run, ends, at_memory, handed, work, works, narrow, stop_restart, restart, handing, working, has_going, Chance, no_room, stopped_idle, pick_read, recovering, is_note, is_up, is_of_delivery, Adds, adds, weaker}
+use Rattle.jn_retold.proofs.Common.{◌≡◌, ℕ, Bool, true, false, List, [], ◌∷◌, ◌++◌, append-nil, Option, Some, None, refl, sym, ap, subst, arith, ◌||◌, if◌then◌else◌, nat_lt, slice_get, is_some, list_all, ServerNo, Server, server_eq, Message, Text, Pick, stable, RowOutcome, Sent, World, Memory, at_server, Room, server_row, server_step, Deliver, Work, Narrow, StopRestart, Restart, after, run, ends, at_memory, handed, work, works, narrow, stop_restart, restart, handing, working, has_going, Chance, no_room, stopped_idle, pick_read, recovering, is_note, is_up, is_of_delivery, Adds, adds, weaker, halves_found, works_found, tids_found}
+use Rattle.jn_rows.specs.Worker.{going_work}
 use Rattle.jn_report.specs.declared.line.Text.TheVariants as says
 use Rattle.jn_rows.specs.declared.worker.Work.{Work as WorkEntry}
 use Rattle.jn_retold.proofs.Strikes.{is_harmless}
@@ -93,15 +94,15 @@ module _ (w : World) where
   module _ (q : ServerNo) (self : server_eq q q ≡ true) (down : w.memory q ≡ None) where
     -- it comes up, or is stopped before
     pub recovering-turns : (h : Chance) (stop : Option (Pick → ℕ)) → Turns q w (run (recovering h q stop) w) stop
-    recovering-turns h None = goes-by q (λ text. is_up text || is_note text) (after (Restart q (pick_read h) h.works h.tids) w) restart-harmless (adds w (Restart q (pick_read h) h.works h.tids))
-        (λ s o. subst (λ (memory : Option Memory). (restart q (pick_read h) h.works h.tids memory w).memory s ≡ w.memory s) (sym down) (at-other w.memory q _ s o))
+    recovering-turns h None = goes-by q (λ text. is_up text || is_note text) (after (Restart q (pick_read h) (works_found h.found) (tids_found h.found)) w) restart-harmless (adds w (Restart q (pick_read h) (works_found h.found) (tids_found h.found)))
+        (λ s o. subst (λ (memory : Option Memory). (restart q (pick_read h) (works_found h.found) (tids_found h.found) memory w).memory s ≡ w.memory s) (sym down) (at-other w.memory q _ s o))
     recovering-turns h (Some made) = subst (λ (v : World). Halts q w (after (StopRestart q (λ c. nat_lt 0 (made c))) v)) (sym narrowed)
-        (subst (λ (memory : Option Memory). Halts q w (stop_restart q (λ c. nat_lt 0 (made c)) memory (narrow q h.finds None w))) (sym down)
+        (subst (λ (memory : Option Memory). Halts q w (stop_restart q (λ c. nat_lt 0 (made c)) memory (narrow q (halves_found h.found) None w))) (sym down)
         (record { lines = refl; down = down; others = λ s o. refl; number = refl }))
       where
-        narrowed : narrow q h.finds (w.memory q) w ≡ narrow q h.finds None w
-        narrowed = ap (λ (memory : Option Memory). narrow q h.finds memory w) down
+        narrowed : narrow q (halves_found h.found) (w.memory q) w ≡ narrow q (halves_found h.found) None w
+        narrowed = ap (λ (memory : Option Memory). narrow q (halves_found h.found) memory w) down
 
     -- its pages are cleaned
-    pub narrow-turns : (h : Chance) → Goes q w (run (Narrow q h.finds ∷ []) w)
-    narrow-turns h = subst (λ (memory : Option Memory). Goes q w (narrow q h.finds memory w)) (sym down) (record { texts = []; lines = sym (append-nil w.lines); harmless = refl; others = λ s o. refl; number = refl })
+    pub narrow-turns : (h : Chance) → Goes q w (run (Narrow q (halves_found h.found) ∷ []) w)
+    narrow-turns h = subst (λ (memory : Option Memory). Goes q w (narrow q (halves_found h.found) memory w)) (sym down) (record { texts = []; lines = sym (append-nil w.lines); harmless = refl; others = λ s o. refl; number = refl })

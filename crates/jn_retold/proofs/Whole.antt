@@ -1,17 +1,12 @@
 -- Every written run is retold.
-use Rattle.jn_retold.proofs.Common.{◌≡◌, ◌⊎◌, inl, inr, ◌≤◌, ◌<◌, ℕ, zero, suc, ◌+◌, List, [], ◌∷◌, ◌++◌, append-nil, Some, None, refl, sym, ◌∙◌, ap, subst, arith, AllByRecursion, ServerNo, AllFiles, Event, EventInRange, World, Item, events_of, Setup, Task, InSchedule, AtEnd, CutShort, Stage, next_at, Devices, AreFound, none, more, Moment, DoesStep, Leads, before, AreImages, IsWritten, IsRetold, IsRetoldInPart}
+use Rattle.jn_retold.proofs.Common.{◌≡◌, ◌⊎◌, inl, inr, ◌≤◌, ◌<◌, ℕ, zero, suc, ◌+◌, List, [], ◌∷◌, append-nil, Some, None, refl, sym, ◌∙◌, ap, subst, arith, AllByRecursion, ServerNo, AllFiles, Event, Item, events_of, Setup, Task, InSchedule, AtEnd, CutShort, Stage, next_at, Devices, none, more, Moment, DoesStep, Leads, before, AreImages, IsWritten, IsRetold, IsRetoldInPart}
+use Rattle.jn_schedule.specs.Ranges.{EventInRange}
 use Rattle.jn_written.proofs.Computed.{join}
 use Rattle.jn_retold.proofs.Forms.{Between, Held, between, meeting, settling, cut, ended, between-part, meeting-part, amid-part, told-by}
 use Rattle.jn_retold.proofs.Beginning.{begin-step, meet-step}
 use Rattle.jn_retold.proofs.Settles.{settle-step}
 use Rattle.jn_retold.proofs.Partly.{raised, none-up}
 use Rattle.jn_retold.proofs.Starting.{Starts, all-started, start-part, start-step}
-use Rattle.jn_retold.proofs.Ranges.{blocks-below}
-
--- what holds of all events holds of the first ones
-front-in : (a b : List Event) → AllByRecursion EventInRange (a ++ b) → AllByRecursion EventInRange a
-front-in [] b h = tt
-front-in (e ∷ a) b h = (h.0, front-in a b h.1)
 
 module _ (x : Setup) (few : x.servers ≤ 8) (files : AllFiles) (epochs : ServerNo → ℕ) (schedule : List Event) (ranges : AllByRecursion EventInRange schedule) where
   abbrev last : ServerNo → ℕ
@@ -49,8 +44,7 @@ module _ (x : Setup) (few : x.servers ≤ 8) (files : AllFiles) (epochs : Server
   held-step : (a b : Moment) → Held x files last schedule a → DoesStep x a b → Held x files last schedule b
   held-step a b (between items [] h) d = ended (end-step items a b h d)
   held-step a b (between items (e ∷ rest) h) d = begin-step x files last schedule items e rest a b h d
-  held-step a b (meeting items e rest h) d = meet-step x files last schedule items e rest a b h
-      (blocks-below x few files last items h.reported (front-in (events_of items) (e ∷ rest) (subst (λ (es : List Event). AllByRecursion EventInRange es) (sym h.events) ranges)) a.devices h.at.found) d
+  held-step a b (meeting items e rest h) d = meet-step x files last schedule items e rest a b h d
   held-step a b (settling items acts task pending rest h are) d = settle-step x files last schedule items acts task pending rest a b h are d
   held-step a b (cut c) d = absurd (no-next a.state.stage a.state.tasks d.task c.cut d.task_is)
   held-step a b (ended r) d = ended (record { epochs = r.epochs; items = r.items; events = r.events; last = r.last; told = r.told; stage = r.stage; tasks = r.tasks; leads = join Moment (DoesStep x) r.last a b r.leads (more a b b d (none b)) })
@@ -79,7 +73,6 @@ module _ (x : Setup) (few : x.servers ≤ 8) (files : AllFiles) (epochs : Server
     lines = refl;
     quiet = λ q l. let f = h.fresh q l in record { waiting = f.waiting; told = f.told };
     power = λ q l. absurd (none-below q.0 l);
-    found = subst (λ (w : World). AreFound x w images) (none-up x.servers files epochs) h.found;
     stage = refl;
   }
     where

@@ -25,8 +25,8 @@ use Rattle.jn_rows.specs.declared.client.Outstanding.{Outstanding}
 use Rattle.jn_rows.specs.declared.client.Taken.{Taken}
 use Rattle.jn_rows.specs.declared.client.Taken.TheVariants.{Ignored, Send, Told}
 
--- a client, how many servers there are, the number of its next request, its transaction with the works in the order in
--- which they were opened, and the command that it waits for
+-- a client, how many servers there are, its next request, its transaction with its works as they were opened, and the command that it
+-- waits for
 pub record ClientTable : Type 0 where
   pub client : ClientNo
   pub servers : ℕ

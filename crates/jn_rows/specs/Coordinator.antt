@@ -26,11 +26,14 @@ use Rattle.jn_rows.specs.declared.coordinator.Committed.{Committed as Commitment
 use Rattle.jn_rows.specs.Stable.{Change, FlagState, AddFlag, DropFlag, StableState}
 use Rattle.jn_rows.specs.Outcomes.{RowOutcome, Sent, quiet, ignored, sends}
 
--- its live transactions, in rising order of their names, and the number of the greatest request that it has
--- seen of each client, 0 where it has seen none
+-- its live transactions, rising, and the greatest request that it has seen of each client, 0 where it has seen none
 pub record CoordinatorTable : Type 0 where
   pub transactions : List Transaction
   pub seen : ClientNo → ℕ
+
+-- what each of its rows gives
+abbrev pub Row : Type 0
+Row = RowOutcome CoordinatorTable
 
 -- ---- the transactions of a table
 
@@ -80,7 +83,7 @@ aborted_to x cause = (Client x.client, messages.Outcome x.client x.tid (outcomes
 -- ---- to commit, to abort, to forget
 
 -- its flag is put, and then its works and its client are told
-abbrev pub commit_row : CoordinatorTable → Tickets → Transaction → RequestNo → List WorkId → RowOutcome CoordinatorTable
+abbrev pub commit_row : CoordinatorTable → Tickets → Transaction → RequestNo → List WorkId → Row
 commit_row t k x request works = record {
   table = staged t x.tid (Committed (record { works = works; done = []; thanked = false }));
   changes = AddFlag (record { tid = x.tid; client = x.client; request = request; works = works }) ∷ [];
@@ -90,11 +93,11 @@ commit_row t k x request works = record {
 }
 
 -- these works are dropped and its client is told; a promise for its flag goes with its votes
-abbrev pub abort_row : CoordinatorTable → Tickets → Transaction → Cause → List WorkId → RowOutcome CoordinatorTable
+abbrev pub abort_row : CoordinatorTable → Tickets → Transaction → Cause → List WorkId → Row
 abort_row t k x cause works = sends (staged t x.tid (Aborted cause)) k (drops x.tid works ++ aborted_to x cause ∷ [])
 
 -- a committed transaction goes with its flag once every work is done and its client knows
-abbrev pub forget_row : CoordinatorTable → Tickets → Tid → Commitment → RowOutcome CoordinatorTable
+abbrev pub forget_row : CoordinatorTable → Tickets → Tid → Commitment → Row
 forget_row t k T d = if d.thanked && all_in d.works d.done
     then record (quiet (record t { transactions = without T t.transactions }) k) { changes = DropFlag T ∷ [] }
     else quiet (staged t T (Committed d)) k
@@ -131,7 +134,7 @@ name_from k = record { server = k.server; epoch = k.epoch; ticket = k.next }
 abbrev pub seen_now : (ClientNo → ℕ) → ClientNo → RequestNo → ClientNo → ℕ
 seen_now seen c request d = if client_eq c d then request.0 else seen d
 
-abbrev pub begin_new : CoordinatorTable → List Change → Tickets → ClientNo → RequestNo → RowOutcome CoordinatorTable
+abbrev pub begin_new : CoordinatorTable → List Change → Tickets → ClientNo → RequestNo → Row
 begin_new t changes k c request = if nat_lt (length t.transactions) most_transactions
     then record (sends (record t { transactions = t.transactions ++ (record { tid = name_from k; client = c; begun = Some request; stage = Open }) ∷ [] })
     (record k { next = k.next + 1 }) ((Client c, messages.Begun c request (Some (name_from k))) ∷ [])) { changes = changes }
@@ -146,12 +149,12 @@ abbrev pub begun_by : ClientNo → RequestNo → List Transaction → Option Tra
 begun_by c request [] = None
 begun_by c request (x ∷ xs) = if client_eq x.client c && is_begun x.begun request then Some x else begun_by c request xs
 
-abbrev pub begin_again : CoordinatorTable → Tickets → ClientNo → RequestNo → Option Transaction → RowOutcome CoordinatorTable
+abbrev pub begin_again : CoordinatorTable → Tickets → ClientNo → RequestNo → Option Transaction → Row
 begin_again t k c request (Some x) = sends t k ((Client c, messages.Begun c request (Some x.tid)) ∷ [])
 begin_again t k c request None = ignored t k
 
 -- a greater request than was seen closes the client's transactions first; an equal one is answered again
-abbrev pub begin_row : CoordinatorTable → Tickets → ClientNo → RequestNo → RowOutcome CoordinatorTable
+abbrev pub begin_row : CoordinatorTable → Tickets → ClientNo → RequestNo → Row
 begin_row t k c request = if nat_lt (t.seen c) request.0
     then begin_new (record { transactions = after_closing c t.transactions; seen = seen_now t.seen c request }) (changes_of_closing c t.transactions) k c request
     else (if nat_eq (t.seen c) request.0 then begin_again t k c request (begun_by c request t.transactions) else ignored t k)
@@ -159,63 +162,63 @@ begin_row t k c request = if nat_lt (t.seen c) request.0
 -- ---- End and Abort
 
 -- the transaction isn't known here in this epoch
-abbrev pub not_known : CoordinatorTable → Tickets → ClientNo → Tid → List WorkId → RowOutcome CoordinatorTable
+abbrev pub not_known : CoordinatorTable → Tickets → ClientNo → Tid → List WorkId → Row
 not_known t k c T works = sends t k ((Client c, messages.Outcome c T (outcomes.NotKnown k.server k.epoch)) ∷ drops T works)
 
-abbrev pub end_promised : CoordinatorTable → Tickets → Transaction → RequestNo → List WorkId → RowOutcome CoordinatorTable
+abbrev pub end_promised : CoordinatorTable → Tickets → Transaction → RequestNo → List WorkId → Row
 end_promised t k x request [] = commit_row t k x request []
 end_promised t k x request (W ∷ Ws) = sends (staged t x.tid (Voting (record { request = request; works = W ∷ Ws; ready = [] }))) k (prepares x.tid x.client (W ∷ Ws))
 
 -- one record is promised for its flag; without works it commits at once
-abbrev pub end_open : CoordinatorTable → ℕ → Tickets → Transaction → RequestNo → List WorkId → RowOutcome CoordinatorTable
+abbrev pub end_open : CoordinatorTable → ℕ → Tickets → Transaction → RequestNo → List WorkId → Row
 end_open t free k x request works = if nat_lt free 1
     then abort_row t k x (FullAt k.server resources.Records free 1) works
     else end_promised t k x request works
 
-abbrev pub end_stage : CoordinatorTable → ℕ → Tickets → Transaction → RequestNo → List WorkId → Stage → RowOutcome CoordinatorTable
+abbrev pub end_stage : CoordinatorTable → ℕ → Tickets → Transaction → RequestNo → List WorkId → Stage → Row
 end_stage t free k x request works Open = end_open t free k x request works
 end_stage t free k x request works (Voting b) = sends t k (prepares x.tid x.client (besides b.works b.ready))
 end_stage t free k x request works (Committed d) = sends t k (committed_to x ∷ [])
 end_stage t free k x request works (Aborted cause) = sends t k (aborted_to x cause ∷ [])
 
-abbrev pub end_row : CoordinatorTable → ℕ → Tickets → ClientNo → RequestNo → Tid → List WorkId → Option Transaction → RowOutcome CoordinatorTable
+abbrev pub end_row : CoordinatorTable → ℕ → Tickets → ClientNo → RequestNo → Tid → List WorkId → Option Transaction → Row
 end_row t free k c request T works (Some x) = end_stage t free k x request works x.stage
 end_row t free k c request T works None = not_known t k c T works
 
-abbrev pub abort_stage : CoordinatorTable → Tickets → Transaction → List WorkId → Stage → RowOutcome CoordinatorTable
+abbrev pub abort_stage : CoordinatorTable → Tickets → Transaction → List WorkId → Stage → Row
 abort_stage t k x works Open = abort_row t k x Requested works
 abort_stage t k x works (Voting b) = abort_row t k x Requested (b.works ++ besides works b.works)
 abort_stage t k x works (Committed d) = sends t k (committed_to x ∷ [])
 abort_stage t k x works (Aborted cause) = sends t k (aborted_to x cause ∷ [])
 
-abbrev pub abort_request : CoordinatorTable → Tickets → ClientNo → Tid → List WorkId → Option Transaction → RowOutcome CoordinatorTable
+abbrev pub abort_request : CoordinatorTable → Tickets → ClientNo → Tid → List WorkId → Option Transaction → Row
 abort_request t k c T works (Some x) = abort_stage t k x works x.stage
 abort_request t k c T works None = not_known t k c T works
 
 -- ---- Vote, Inquire and Done
 
-abbrev pub dropped : CoordinatorTable → Tickets → Tid → WorkId → RowOutcome CoordinatorTable
+abbrev pub dropped : CoordinatorTable → Tickets → Tid → WorkId → Row
 dropped t k T W = sends t k (drops T (W ∷ []))
 
 -- a work that asks for the outcome
-abbrev pub told_stage : CoordinatorTable → Tickets → Tid → WorkId → Stage → RowOutcome CoordinatorTable
+abbrev pub told_stage : CoordinatorTable → Tickets → Tid → WorkId → Stage → Row
 told_stage t k T W (Committed d) = if is_work W d.works && not (is_work W d.done) then sends t k (commits T (W ∷ [])) else dropped t k T W
 told_stage t k T W (Aborted cause) = dropped t k T W
 told_stage t k T W stage = quiet t k
 
-abbrev pub inquire_row : CoordinatorTable → Tickets → Tid → WorkId → Option Transaction → RowOutcome CoordinatorTable
+abbrev pub inquire_row : CoordinatorTable → Tickets → Tid → WorkId → Option Transaction → Row
 inquire_row t k T W (Some x) = told_stage t k T W x.stage
 inquire_row t k T W None = dropped t k T W
 
 -- the work is noted, and the last one commits
-abbrev pub noted : CoordinatorTable → Tickets → Transaction → Ballot → RowOutcome CoordinatorTable
+abbrev pub noted : CoordinatorTable → Tickets → Transaction → Ballot → Row
 noted t k x b = if all_in b.works b.ready then commit_row t k x b.request b.works else quiet (staged t x.tid (Voting b)) k
 
 abbrev pub with_work : WorkId → List WorkId → List WorkId
 with_work W Ws = if is_work W Ws then Ws else Ws ++ W ∷ []
 
 -- the vote of one of its works; what a work lost needs no Drop
-abbrev pub counted_vote : CoordinatorTable → Tickets → Transaction → Ballot → WorkId → Vote → RowOutcome CoordinatorTable
+abbrev pub counted_vote : CoordinatorTable → Tickets → Transaction → Ballot → WorkId → Vote → Row
 counted_vote t k x b W votes.Ready = noted t k x (record b { ready = with_work W b.ready })
 counted_vote t k x b W (votes.Waiting u by) = if is_work W b.ready then ignored t k
     else sends t k ((Client x.client, messages.Outcome x.client x.tid (outcomes.Waiting W.server u by)) ∷ [])
@@ -223,38 +226,38 @@ counted_vote t k x b W (votes.Lost then' now) = abort_row t k x (LostAt W.server
 counted_vote t k x b W (votes.Broken u by) = abort_row t k x (BrokenAt W.server u by) b.works
 counted_vote t k x b W (votes.Full number free need) = abort_row t k x (FullAt W.server number free need) b.works
 
-abbrev pub vote_stage : CoordinatorTable → Tickets → Transaction → WorkId → Vote → Stage → RowOutcome CoordinatorTable
+abbrev pub vote_stage : CoordinatorTable → Tickets → Transaction → WorkId → Vote → Stage → Row
 vote_stage t k x W vote Open = ignored t k
 vote_stage t k x W vote (Voting b) = if is_work W b.works then counted_vote t k x b W vote else ignored t k
 vote_stage t k x W vote stage = told_stage t k x.tid W stage
 
-abbrev pub vote_row : CoordinatorTable → Tickets → Tid → WorkId → Vote → Option Transaction → RowOutcome CoordinatorTable
+abbrev pub vote_row : CoordinatorTable → Tickets → Tid → WorkId → Vote → Option Transaction → Row
 vote_row t k T W vote (Some x) = vote_stage t k x W vote x.stage
 vote_row t k T W vote None = dropped t k T W
 
-abbrev pub done_stage : CoordinatorTable → Tickets → Tid → WorkId → Stage → RowOutcome CoordinatorTable
+abbrev pub done_stage : CoordinatorTable → Tickets → Tid → WorkId → Stage → Row
 done_stage t k T W (Committed d) = if is_work W d.works && not (is_work W d.done) then forget_row t k T (record d { done = d.done ++ W ∷ [] }) else ignored t k
 done_stage t k T W stage = ignored t k
 
-abbrev pub done_row : CoordinatorTable → Tickets → Tid → WorkId → Option Transaction → RowOutcome CoordinatorTable
+abbrev pub done_row : CoordinatorTable → Tickets → Tid → WorkId → Option Transaction → Row
 done_row t k T W (Some x) = done_stage t k T W x.stage
 done_row t k T W None = ignored t k
 
 -- ---- Thanks
 
-abbrev pub thanks_stage : CoordinatorTable → Tickets → Tid → Stage → RowOutcome CoordinatorTable
+abbrev pub thanks_stage : CoordinatorTable → Tickets → Tid → Stage → Row
 thanks_stage t k T (Committed d) = if d.thanked then ignored t k else forget_row t k T (record d { thanked = true })
 thanks_stage t k T (Aborted cause) = quiet (record t { transactions = without T t.transactions }) k
 thanks_stage t k T stage = ignored t k
 
-abbrev pub thanks_row : CoordinatorTable → Tickets → Tid → Option Transaction → RowOutcome CoordinatorTable
+abbrev pub thanks_row : CoordinatorTable → Tickets → Tid → Option Transaction → Row
 thanks_row t k T (Some x) = thanks_stage t k T x.stage
 thanks_row t k T None = ignored t k
 
 -- ---- every message
 
 -- over how many records are free and not promised; a message that no coordinator takes is ignored
-abbrev pub coordinator_row : CoordinatorTable → ℕ → Tickets → Message → RowOutcome CoordinatorTable
+abbrev pub coordinator_row : CoordinatorTable → ℕ → Tickets → Message → Row
 coordinator_row t free k (messages.Begin c request) = begin_row t k c request
 coordinator_row t free k (messages.End c request T works) = end_row t free k c request T works (transaction_at T t.transactions)
 coordinator_row t free k (messages.Abort c request T works) = abort_request t k c T works (transaction_at T t.transactions)
@@ -294,7 +297,7 @@ abbrev pub flags_of_thanked : List Transaction → List Change
 flags_of_thanked [] = []
 flags_of_thanked (x ∷ xs) = thanked_changes x.stage x ++ flags_of_thanked xs
 
-abbrev pub close_clients_row : CoordinatorTable → Tickets → RowOutcome CoordinatorTable
+abbrev pub close_clients_row : CoordinatorTable → Tickets → Row
 close_clients_row t k = record (quiet (record t { transactions = all_thanked t.transactions }) k) { changes = flags_of_thanked t.transactions }
 
 -- ---- after a restart

@@ -1,6 +1,7 @@
 pub mod Stable
 pub mod Client
 pub mod Outcomes
+pub mod Performing
 pub mod Worker
 pub mod Coordinator
 pub mod Examples

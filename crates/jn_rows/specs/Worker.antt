@@ -16,7 +16,7 @@ use Rattle.jn_base.specs.declared.op.Op.TheVariants as ops
 use Rattle.jn_base.specs.declared.op.Answer.{Answer}
 use Rattle.jn_base.specs.declared.op.Answer.TheVariants.{NoFile, Exists, Locked, TooManyReads, TooManyWrites, Broken as BrokenAnswer, Lost as LostAnswer, Closing}
 use Rattle.jn_base.specs.declared.names.Resource.TheVariants as resources
-use Rattle.jn_base.specs.Names.{tid_eq, work_eq}
+use Rattle.jn_base.specs.Names.{tid_eq, work_eq, unit_eq}
 use Rattle.jn_base.specs.Limits.{most_works, most_reads, most_intentions}
 use Rattle.jn_order.specs.Files.{Files, change, answer_to, file_of}
 use Rattle.jn_records.specs.declared.intention.What.{What}
@@ -27,7 +27,7 @@ use Rattle.jn_records.specs.NetLists.{list_change, length_with, need_of}
 use Rattle.jn_records.specs.NetEdits.{intention_for, with_intention}
 use Rattle.jn_locks.specs.declared.words.Mode.{Mode}
 use Rattle.jn_locks.specs.declared.words.Mode.TheVariants.{Read, IntentionWrite, Commit}
-use Rattle.jn_locks.specs.Locks.{together, mode_eq, some_mode, is_unit, unit_eq, unit_before}
+use Rattle.jn_locks.specs.Locks.{together, mode_eq, some_mode, is_unit, unit_before}
 use Rattle.jn_msgs.specs.declared.message.Message.{Message}
 use Rattle.jn_msgs.specs.declared.message.Message.TheVariants as messages
 use Rattle.jn_msgs.specs.declared.message.Vote.{Vote}
@@ -191,8 +191,21 @@ open_row t k c request T None = if nat_lt (length t) most_works
 
 -- ---- Op
 
-abbrev pub replies : WorkerTable → Tickets → ClientNo → RequestNo → Answer → RowOutcome WorkerTable
-replies t k c request answer = sends t k ((Client c, messages.Answer c request answer) ∷ [])
+-- what a client asks of a work
+pub record Asked : Type 0 where
+  pub client : ClientNo
+  pub request : RequestNo
+  pub number : OperationNo
+  pub op : Op
+
+-- what its worker answers from
+pub record Here : Type 0 where
+  pub table : WorkerTable
+  pub files : Files
+  pub tickets : Tickets
+
+abbrev pub replies : Here → Asked → Answer → RowOutcome WorkerTable
+replies h q answer = sends h.table h.tickets ((Client q.client, messages.Answer q.client q.request answer) ∷ [])
 
 -- whether the file is as the operation needs it
 abbrev pub is_fit : Answer → Bool
@@ -234,33 +247,34 @@ refusal_of t W a op answer wants = first_of_two
     (past_limit (length (with_units (units_for Read wants) a.reads)) (if is_fit answer then length_with a.list op else length a.list))
     (locked (conflict W wants t))
 
-abbrev pub granted_row : WorkerTable → Tickets → ClientNo → RequestNo → Work → ActiveWork → Op → Answer → List Wanted → Option Answer → RowOutcome WorkerTable
-granted_row t k c request w a op answer wants (Some refusal) = replies (with_phase w.name (Active (counted a refusal)) t) k c request refusal
-granted_row t k c request w a op answer wants None = record (replies (with_phase w.name (Active (done a op answer wants)) (after_grant w.tid w.name wants t)) k c request answer) {
-  notes = break_notes w.tid w.name wants t;
+abbrev pub granted_row : Here → Asked → Work → ActiveWork → Answer → List Wanted → Option Answer → RowOutcome WorkerTable
+granted_row h q w a answer wants (Some refusal) = record (replies h q refusal) { table = with_phase w.name (Active (counted a refusal)) h.table }
+granted_row h q w a answer wants None = record (replies h q answer) {
+  table = with_phase w.name (Active (done a q.op answer wants)) (after_grant w.tid w.name wants h.table);
+  notes = break_notes w.tid w.name wants h.table;
 }
 
 -- the next operation, whose answer the work's files give
-abbrev pub performed : WorkerTable → Tickets → ClientNo → RequestNo → Work → ActiveWork → Op → Answer → RowOutcome WorkerTable
-performed t k c request w a op answer = granted_row t k c request w a op answer (wants_of op (is_fit answer)) (refusal_of t w.name a op answer (wants_of op (is_fit answer)))
+abbrev pub performed : Here → Asked → Work → ActiveWork → Answer → RowOutcome WorkerTable
+performed h q w a answer = granted_row h q w a answer (wants_of q.op (is_fit answer)) (refusal_of h.table w.name a q.op answer (wants_of q.op (is_fit answer)))
 
-abbrev pub repeated : WorkerTable → Tickets → ClientNo → RequestNo → Option Answer → RowOutcome WorkerTable
-repeated t k c request (Some answer) = replies t k c request answer
-repeated t k c request None = ignored t k
+abbrev pub repeated : Here → Asked → Option Answer → RowOutcome WorkerTable
+repeated h q (Some answer) = replies h q answer
+repeated h q None = ignored h.table h.tickets
 
-abbrev pub by_number : WorkerTable → Files → Tickets → ClientNo → RequestNo → Work → ActiveWork → OperationNo → Op → RowOutcome WorkerTable
-by_number t files k c request w a number op = if nat_eq number.0 (a.last + 1)
-    then performed t k c request w a op (answer_to op (change (list_change a.list) files))
-    else (if nat_eq number.0 a.last then repeated t k c request a.kept else ignored t k)
+abbrev pub by_number : Here → Asked → Work → ActiveWork → RowOutcome WorkerTable
+by_number h q w a = if nat_eq q.number.0 (a.last + 1)
+    then performed h q w a (answer_to q.op (change (list_change a.list) h.files))
+    else (if nat_eq q.number.0 a.last then repeated h q a.kept else ignored h.table h.tickets)
 
-abbrev pub op_phase : WorkerTable → Files → Tickets → ClientNo → RequestNo → Work → OperationNo → Op → Phase → RowOutcome WorkerTable
-op_phase t files k c request w number op (Active a) = by_number t files k c request w a number op
-op_phase t files k c request w number op (Broken u by) = replies t k c request (BrokenAnswer u by)
-op_phase t files k c request w number op (Stored p) = replies t k c request Closing
+abbrev pub op_phase : Here → Asked → Work → Phase → RowOutcome WorkerTable
+op_phase h q w (Active a) = by_number h q w a
+op_phase h q w (Broken u by) = replies h q (BrokenAnswer u by)
+op_phase h q w (Stored p) = replies h q Closing
 
-abbrev pub op_row : WorkerTable → Files → Tickets → ClientNo → RequestNo → WorkId → OperationNo → Op → Option Work → RowOutcome WorkerTable
-op_row t files k c request W number op (Some w) = op_phase t files k c request w number op w.phase
-op_row t files k c request W number op None = replies t k c request (LostAnswer W.epoch k.epoch)
+abbrev pub op_row : Here → Asked → WorkId → Option Work → RowOutcome WorkerTable
+op_row h q W (Some w) = op_phase h q w w.phase
+op_row h q W None = replies h q (LostAnswer W.epoch h.tickets.epoch)
 
 -- ---- Prepare
 
@@ -327,7 +341,7 @@ drop_row t s k W None = ignored t k
 -- one that no worker takes is ignored
 abbrev pub worker_row : WorkerTable → WorkStorage → Tickets → Message → RowOutcome WorkerTable
 worker_row t s k (messages.Open c request T) = open_row t k c request T (work_of T t)
-worker_row t s k (messages.Op c request W number op) = op_row t s.state.files k c request W number op (work_at W t)
+worker_row t s k (messages.Op c request W number op) = op_row (record { table = t; files = s.state.files; tickets = k }) (record { client = c; request = request; number = number; op = op }) W (work_at W t)
 worker_row t s k (messages.Prepare T c W) = prepare_row t s k T c W (work_at W t)
 worker_row t s k (messages.Commit T W) = commit_row t s k T W (work_at W t)
 worker_row t s k (messages.Drop T W) = drop_row t s k W (work_at W t)

@@ -4,19 +4,18 @@ pub use Rattle.jn_base.specs.declared.names.ServerNo.{ServerNo}
 pub use Rattle.jn_host.specs.Outside.{Contents, Rose}
 pub use Rattle.jn_schedule.specs.declared.Event.{Event}
 pub use Rattle.jn_schedule.specs.Grammar.{IsSchedule, word_lines}
-pub use Rattle.jn_images.specs.Kept.{Has, image_name, AreWithin, AreClosed, IsKept, found_at}
+pub use Rattle.jn_images.specs.Kept.{Has, image_name, IsKept}
 pub use Rattle.jn_options.specs.declared.asked.Geometry.{Geometry}
 pub use Rattle.jn_options.specs.declared.asked.Opening.TheVariants.{New, Images}
 pub use Rattle.jn_options.specs.declared.asked.Options.{Options}
 pub use Rattle.jn_written.specs.Chances.{Setup}
 pub use Rattle.jn_written.specs.Devices.{Devices}
 pub use Rattle.jn_options.specs.declared.asked.Command.{Command}
-pub use Rattle.jn_images.specs.Examined.{IsAccepted, IsRefused, IsStoreOf, AreStoresOf as AreStoresOfImages, AreStoresOf}
 pub use Rattle.jn_options.specs.declared.asked.Command.TheVariants.{Run, Trial}
 pub use Rattle.jn_options.specs.declared.asked.Opening.{Opening}
 pub use Rattle.jn_report.specs.Text.{report_text}
 pub use Rattle.jn_schedule.specs.Faults.{IsFirstFault}
-pub use Rattle.jn_run.specs.Outcome.{Outside, SourceState, SinkState, KeeperState, Accepted, IsCutShort, IsText, IsWholeReport, Keeps, KeepsFirst, OutcomeOf, Reads, ReadsSchedule, RefusedImage, RefusedSchedule, RunEnds, TrialEnds, WordsEnd, Writes, most_bytes, words_refused, words_not_written, words_no_memory, done, not_read, too_many_bytes, too_many_events, schedule_refused, schedule_not_written, not_loaded, image_refused, image_not_written, at_limit, not_written, not_saved, no_memory, no_memory_inside, no_memory_saving, trial_done, trial_not_written, trial_at_limit, trial_no_memory, geometry_counts, root_of, AreNew, BeginsWith, IsOpened, Opens, no_files, IsUntouched, AreKept, IsRefusedImage, LeavesFiles, most_events, Ran, refused_line, IsPart, sink_state, FailsToLoad, BeginsFromImages, FailsToGive, Gives, GivesSome, HasTooManyBytes, trial_events, trial_options, RanTrial, TrialToLimit, source_state, outside, keeper_state, FailsToWrite}
+pub use Rattle.jn_run.specs.Outcome.{Outside, SourceState, SinkState, KeeperState, Accepted, IsCutShort, IsText, IsWholeReport, Keeps, KeepsFirst, OutcomeOf, Reads, ReadsSchedule, RefusedImage, RefusedSchedule, RunEnds, TrialEnds, WordsEnd, Writes, most_bytes, words_refused, words_not_written, words_no_memory, done, not_read, too_many_bytes, too_many_events, schedule_refused, schedule_not_written, not_loaded, image_refused, image_not_written, at_limit, not_written, not_saved, no_memory, no_memory_inside, no_memory_saving, trial_done, trial_not_written, trial_at_limit, trial_no_memory, geometry_counts, AreNew, BeginsWith, IsOpened, Opens, no_files, IsUntouched, AreKept, IsRefusedImage, LeavesFiles, most_events, Ran, refused_line, IsPart, FailsToLoad, BeginsFromImages, FailsToGive, Gives, GivesSome, HasTooManyBytes, trial_options, RanTrial, TrialToLimit, outside, FailsToWrite}
 pub use Rattle.jn_run.specs.declared.status.Status.{Status}
 pub use Rattle.std.specs.Prelude.{is_ok, nat_lt, ◌*◌, option_map, take, IfSome}
 pub use Rattle.jn_report.specs.declared.line.Line.{Line}
@@ -24,15 +23,16 @@ pub use Rattle.jn_writing.specs.Reporting.{Reporting, Reports, Joins}
 pub use Rattle.jn_run.specs.Running.{ReportedLast, AreDevices, course_of, AreLeft, RunsFrom, TookWhole, IsStore, Course, HasTold, StandsBefore, TookLimited, TookPart, ToldTo, Reaches, Reported, lines_kept, is_limit}
 pub use Rattle.std.proofs.lemmas.Option.{slice_get_past, slice_get-map}
 pub use Rattle.jn_device.specs.Device.{DeviceState}
-pub use Rattle.jn_disks.specs.Disks.{IsNewStore, image_of, files_in, HasNewDevice}
+pub use Rattle.jn_disks.specs.Disks.{IsNewStore, IsNewDisk, image_of, files_in, HasNewDevice}
 pub use Rattle.jn_found.specs.Images.{IsFresh, IsImage}
 pub use Rattle.jn_image.proofs.SoundPages.{sound_pages}
+pub use Rattle.jn_images.specs.Opened.{IsStoreOf, AreStoresOf as AreStoresOfImages, AreWithin, AreClosed, AreStoresOf, found_at}
 pub use Rattle.jn_options.specs.Words.{IsOpening, command_of}
 pub use Rattle.jn_order.specs.Files.{Files, AllFiles}
 pub use Rattle.jn_records.specs.Sound.{HasRoot}
-pub use Rattle.jn_records.specs.StablePages.{Counts, page_count}
+pub use Rattle.jn_records.specs.StablePages.{Counts, root_by, page_count}
 pub use Rattle.jn_recovery.specs.declared.counts.PageCounts.{PageCounts}
-pub use Rattle.jn_recovery.specs.Loading.{counts_by}
+pub use Rattle.jn_recovery.specs.Counts.{counts_by}
 pub use Rattle.jn_rows.specs.Stable.{StableState, Pick, stable}
 pub use Rattle.jn_store.specs.Pairs.{pairs_view}
 pub use Rattle.jn_store.specs.Store.{StoreView}
@@ -40,9 +40,9 @@ pub use Rattle.jn_written.specs.Whole.{closed_world, AreImages, IsFresh as IsFre
 pub use Rattle.jn_run.specs.Opening.{AreDisks, AreOpened, IsDisk}
 pub use Rattle.std.specs.List.{AllByRecursion}
 pub use Rattle.jn_schedule.specs.Ranges.{EventInRange}
-pub use Rattle.jn_writing.specs.Writing.{writes_to, Took, TookFront}
 pub use Rattle.jn_written.specs.Runs.{Moment, Leads, MayLead, DoesStep}
 pub use Rattle.jn_run.specs.declared.running.RunFault.{RunFault}
+pub use Rattle.jn_run.specs.Seen.{sink_state, source_state, keeper_state}
 pub use Rattle.jn_run.specs.Parts.{EndsOn, Refuses}
 pub use Rattle.std.specs.declared.alloc.Global.{Global}
 pub use Rattle.std.specs.Io.KnownBytes.{prepend_known}

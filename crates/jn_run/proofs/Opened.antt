@@ -1,5 +1,5 @@
 -- What a run begins with, of the stores that were opened.
-use Rattle.jn_run.proofs.Common.{◌≡◌, ℕ, zero, suc, ◌≤◌, ◌<◌, Bool, true, false, List, [], ◌∷◌, length, slice_get, Option, Some, None, refl, sym, ◌∙◌, ap, subst, arith, slice_get_past, nat_lt, ServerNo, DeviceState, IsNewStore, image_of, files_in, IsFresh, Contents, sound_pages, IsStoreOf, AreStoresOfImages, AreWithin, Has, image_name, IsOpening, Geometry, New, Images, Options, Files, AllFiles, HasRoot, Counts, PageCounts, counts_by, StableState, Pick, pairs_view, StoreView, Setup, Devices, closed_world, AreImages, AreDisks, AreOpened, geometry_counts, root_of, AreNew, BeginsWith, IsOpened, Opens, no_files, AreDevices, ◌*◌, page_count, HasNewDevice, IsFreshDevice, Opening}
+use Rattle.jn_run.proofs.Common.{◌≡◌, ℕ, zero, suc, ◌≤◌, ◌<◌, Bool, true, false, List, [], ◌∷◌, length, slice_get, Option, Some, None, refl, sym, ◌∙◌, ap, subst, arith, slice_get_past, nat_lt, ServerNo, DeviceState, IsNewStore, IsNewDisk, image_of, files_in, IsFresh, Contents, sound_pages, IsStoreOf, AreStoresOfImages, AreWithin, Has, image_name, IsOpening, Geometry, New, Images, Options, Files, AllFiles, HasRoot, Counts, PageCounts, counts_by, StableState, Pick, pairs_view, StoreView, Setup, Devices, closed_world, AreImages, AreDisks, AreOpened, geometry_counts, root_by, AreNew, BeginsWith, IsOpened, Opens, no_files, AreDevices, ◌*◌, page_count, HasNewDevice, IsFreshDevice, Opening}
 use Rattle.jn_store.specs.DeviceCalls.{put_calls}
 use Rattle.std.proofs.Math.Path.{fun_ext}
 use Rattle.jn_base.specs.declared.names.LockUnit.{LockUnit}
@@ -62,21 +62,24 @@ module _ {S : Type 0} (look : S → StoreView) (device : S → DeviceState) (see
   -- ---- new disks
 
   module _ (g : Geometry) (disks : AreDisks look g stores) where
-    images-new : AreNew g o.servers images
-    images-new q lt =
+    disks-new : (q : ServerNo) → q.0 < o.servers → IsNewDisk (root_by q (geometry_counts g) 0) (pairs_view (images q))
+    disks-new q lt =
         let (x, at) = there q lt in
-        subst (λ (d : DeviceState). IsNewStore (root_of g q) (pairs_view d)) (sym (devices q.0 x at)) (subst (λ (v : StoreView). IsNewStore (root_of g q) v) (seen x.0) (disks q.0 x at).new)
+        subst (λ (d : DeviceState). IsNewDisk (root_by q (geometry_counts g) 0) (pairs_view d)) (sym (devices q.0 x at)) (subst (λ (v : StoreView). IsNewDisk (root_by q (geometry_counts g) 0) v) (seen x.0) (disks q.0 x at).new)
+
+    images-new : AreNew g o.servers images
+    images-new q lt = (disks-new q lt).store
 
     abbrev new_setup : Setup
     new_setup = record { servers = o.servers; counts = λ q. geometry_counts g; trace = o.trace }
 
-    found-none : (q : ServerNo) → IsNewStore (root_of g q) (pairs_view (images q)) → (c : Pick) → (closed_world o.servers no_files (λ q. 0)).found q c ≡ found_on (geometry_counts g) (pairs_view (images q)) c
+    found-none : (q : ServerNo) → IsNewDisk (root_by q (geometry_counts g) 0) (pairs_view (images q)) → (c : Pick) → (closed_world o.servers no_files (λ q. 0)).found q c ≡ found_on (geometry_counts g) (pairs_view (images q)) c
     found-none q n c = sym (n.fresh.found c)
 
     -- the device of a new store
-    fresh-new : (q : ServerNo) → (x : S × PageCounts) × (slice_get stores q.0 ≡ Some x) → IsNewStore (root_of g q) (pairs_view (images q)) → IsFreshDevice (page_count (geometry_counts g)) (images q)
+    fresh-new : (q : ServerNo) → (x : S × PageCounts) × (slice_get stores q.0 ≡ Some x) → IsNewStore (root_by q (geometry_counts g) 0) (pairs_view (images q)) → IsFreshDevice (page_count (geometry_counts g)) (images q)
     fresh-new q (x, at) n =
-        let its : HasNewDevice (root_of g q) (images q) = subst (λ (d : DeviceState). HasNewDevice (root_of g q) d) (ap (λ (v : StoreView). v.device) (seen x.0) ∙ sym (devices q.0 x at)) (disks q.0 x at).device in
+        let its : HasNewDevice (root_by q (geometry_counts g) 0) (images q) = subst (λ (d : DeviceState). HasNewDevice (root_by q (geometry_counts g) 0) d) (ap (λ (v : StoreView). v.device) (seen x.0) ∙ sym (devices q.0 x at)) (disks q.0 x at).device in
         record { count = its.count; waiting = n.untouched.calm.quiet; told = n.untouched.told; calls = its.calls }
 
     new-opened : o.opening ≡ New g → Opened device o kept stores
@@ -90,8 +93,8 @@ module _ {S : Type 0} (look : S → StoreView) (device : S → DeviceState) (see
       are_images = record {
         its = λ q u far. refl;
         fresh = λ q lt. fresh-new q (there q lt) (images-new q lt);
-        found = λ q c lt. found-none q (images-new q lt) c;
-        recoverable = λ q lt. (images-new q lt).fresh.recoverable;
+        found = λ q c lt. found-none q (disks-new q lt) c;
+        recoverable = λ q lt. (disks-new q lt).fresh.recoverable;
       };
     }
 

@@ -1,5 +1,6 @@
 -- A run that a summary is told.
-use Rattle.jn_run.proofs.Common.{◌≡◌, ◌∙◌, inl, inr, ℕ, ◌≤◌, List, [], length, Option, Result, Ok, Err, Vec, sym, ap, subst, true≢false, arith, is_ok, Global, AllByRecursion, DeviceState, Contents, Rose, PageCounts, Line, Event, EventInRange, Moment, trial_events, trial_options, IsCutShort, IsWholeReport, RanTrial, TrialToLimit, course_of, RunsFrom, RunFault}
+use Rattle.jn_run.proofs.Common.{◌≡◌, ◌∙◌, inl, inr, ℕ, ◌≤◌, List, [], length, Option, Result, Ok, Err, Vec, sym, ap, subst, true≢false, arith, is_ok, Global, AllByRecursion, DeviceState, Contents, Rose, PageCounts, Line, Event, EventInRange, Moment, trial_options, IsCutShort, IsWholeReport, RanTrial, TrialToLimit, course_of, RunsFrom, RunFault}
+use Rattle.jn_gen.specs.Trial.{events_from}
 use Rattle.jn_gen.proofs.Drawing.{events_count, events_in_range}
 use Rattle.jn_options.specs.declared.asked.Trial.{Trial}
 use Rattle.jn_summary.specs.Summary.{summary_text}
@@ -12,17 +13,17 @@ use Rattle.jn_run.proofs.Opened.{Opened}
 use Rattle.jn_run.proofs.Outcomes.{whole-holds, limit-holds}
 use Rattle.jn_run.proofs.Told.{fault-is, some-ok}
 
-pub drawn-few : (trial : Trial) (events : List Event) → events ≡ trial_events trial → trial.events ≤ 100000 → length events ≤ 100000
+pub drawn-few : (trial : Trial) (events : List Event) → events ≡ events_from trial.seed trial.events → trial.events ≤ 100000 → length events ≤ 100000
 drawn-few trial events same few = let count = ap (λ (es : List Event). length es) same in let drawn = events_count trial.seed trial.events in omega (arith, count, drawn, few)
 
-pub drawn-range : (trial : Trial) (events : List Event) → events ≡ trial_events trial → AllByRecursion EventInRange events
+pub drawn-range : (trial : Trial) (events : List Event) → events ≡ events_from trial.seed trial.events → AllByRecursion EventInRange events
 drawn-range trial events same = subst (λ (es : List Event). AllByRecursion EventInRange es) (sym same) (events_in_range trial.seed trial.events)
 
 never-rises : Rose 0 0 → ⊥
 never-rises (inl less) = omega (arith, less)
 never-rises (inr last) = omega (arith, last)
 
-module _ {S A : Type 0} (device : S → DeviceState) (trial : Trial) (kept : Option Contents) (stores : List (S × PageCounts)) (b : Opened device trial_options kept stores) (events : List Event) (same : events ≡ trial_events trial)
+module _ {S A : Type 0} (device : S → DeviceState) (trial : Trial) (kept : Option Contents) (stores : List (S × PageCounts)) (b : Opened device trial_options kept stores) (events : List Event) (same : events ≡ events_from trial.seed trial.events)
     (Gives : A → Moment → Type 0) (answer : Result A RunFault) (summary summary' : Summary) (ran : RunsFrom sums_up (course_of b.setup events b.images summary) Gives answer summary') where
   two : trial_options.servers ≤ 8
   two = omega arith

@@ -6,4 +6,5 @@ pub mod Outcome
 pub mod Parts
 pub mod Reading
 pub mod Running
+pub mod Seen
 pub mod Trial

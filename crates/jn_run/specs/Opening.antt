@@ -1,24 +1,25 @@
 -- The disks that a run begins with.
 use Rattle.std.specs.Prelude.{◌≡◌, ◌≢◌, ◌<◌, ℕ, List, length, slice_get, Option, Some, Result, Err}
 use Rattle.jn_device.specs.Device.{DeviceState}
-use Rattle.jn_disks.specs.Disks.{IsNewStore, HasNewDevice}
+use Rattle.jn_disks.specs.Disks.{IsNewDisk, HasNewDevice}
 use Rattle.jn_host.specs.Outside.{Contents, Rose}
-use Rattle.jn_images.specs.Examined.{AreStoresOf}
+use Rattle.jn_images.specs.Opened.{AreStoresOf}
 use Rattle.jn_images.specs.Kept.{Has, image_name}
 use Rattle.jn_options.specs.declared.asked.Geometry.{Geometry}
 use Rattle.jn_options.specs.declared.asked.Opening.{Opening}
 use Rattle.jn_options.specs.declared.asked.Opening.TheVariants.{New, Images}
 use Rattle.jn_recovery.specs.declared.counts.PageCounts.{PageCounts}
+use Rattle.jn_records.specs.StablePages.{root_by}
 use Rattle.jn_store.specs.Store.{StoreView}
-use Rattle.jn_run.specs.Outcome.{root_of}
+use Rattle.jn_run.specs.Outcome.{geometry_counts}
 use Rattle.jn_run.specs.declared.opening.OpenFault.{OpenFault}
 use Rattle.jn_run.specs.declared.opening.OpenFault.TheVariants as opens
 
 -- a new one, of so many pages as are asked for
 pub record IsDisk {S : Type 0} (look : S → StoreView) (g : Geometry) (n : ℕ) (x : S × PageCounts) : Type 0 where
   pub counts : x.1 ≡ record { pool = g.pool; heads = g.heads; leaves = g.leaves }
-  pub new : IsNewStore (root_of g (record { 0 = n })) (look x.0)
-  pub device : HasNewDevice (root_of g (record { 0 = n })) (look x.0).device
+  pub new : IsNewDisk (root_by (record { 0 = n }) (geometry_counts g) 0) (look x.0)
+  pub device : HasNewDevice (root_by (record { 0 = n }) (geometry_counts g) 0) (look x.0).device
 
 abbrev pub AreDisks : {S : Type 0} → (S → StoreView) → Geometry → List (S × PageCounts) → Type 0
 AreDisks {S} look g stores = (n : ℕ) (x : S × PageCounts) → slice_get stores n ≡ Some x → IsDisk look g n x

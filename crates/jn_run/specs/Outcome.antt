@@ -13,14 +13,12 @@ use Rattle.jn_base.specs.declared.names.ServerNo.{ServerNo}
 use Rattle.jn_device.specs.Device.{DeviceState}
 use Rattle.jn_order.specs.Files.{Files, AllFiles}
 use Rattle.jn_memdisk.specs.Disk.{IsNew}
-use Rattle.jn_records.specs.StablePages.{Counts}
-use Rattle.jn_records.specs.declared.root.Root.{Root}
+use Rattle.jn_records.specs.StablePages.{Counts, root_by}
 use Rattle.jn_store.specs.Pairs.{pairs_view}
 use Rattle.jn_disks.specs.Disks.{IsNewStore, files_in}
 use Rattle.jn_images.specs.declared.refusal.Refusal.{Refusal}
 use Rattle.jn_images.specs.Examined.{IsFirstRefused}
-use Rattle.jn_images.specs.Kept.{Has, IsKept, image_name}
-use Rattle.jn_images.specs.Saved.{OthersStay}
+use Rattle.jn_images.specs.Kept.{Has, IsKept, image_name, OthersStay}
 use Rattle.jn_images.specs.Texts.{refusal_text}
 use Rattle.jn_options.specs.declared.asked.Command.{Command}
 use Rattle.jn_options.specs.declared.asked.Command.TheVariants.{Run, Trial}
@@ -29,11 +27,10 @@ use Rattle.jn_options.specs.declared.asked.Opening.{Opening}
 use Rattle.jn_options.specs.declared.asked.Opening.TheVariants.{New, Images}
 use Rattle.jn_options.specs.declared.asked.Options.{Options}
 use Rattle.jn_options.specs.declared.asked.Trial.{Trial as ATrial}
-use Rattle.jn_headline.specs.WholeReports.Whole.{IsOfItsCommits}
 use Rattle.jn_gen.specs.Trial.{events_from}
 use Rattle.jn_found.specs.Pages.{found_on}
-use Rattle.jn_headline.specs.Headline.{IsTrueOfBegun}
-use Rattle.jn_system_reports.specs.Reporting.Ending.{AreFilesOf}
+use Rattle.jn_headline.specs.Headline.{IsTrueOfBegun, IsOfItsCommits}
+use Rattle.jn_system.specs.WholeSystem.World.{AreFilesOf}
 use Rattle.jn_rows.specs.Stable.{Pick}
 use Rattle.jn_serial.specs.Lines.{history_of}
 use Rattle.jn_serial.specs.Order.{replay}
@@ -46,8 +43,7 @@ use Rattle.jn_run.specs.declared.status.Status.TheVariants as statuses
 
 -- ---- the outside at one moment
 
--- of a source the bytes that it has left, of a sink those that it took, and of a keeper what each name holds, where they tell it; and how often a call of
--- each has failed
+-- the bytes that a source has left and that a sink took, and what a keeper holds under each name, where they tell it; and how often a call of each failed
 pub record SourceState : Type 0 where
   pub left : Option (List ℕ)
   pub faults : ℕ
@@ -66,30 +62,21 @@ pub record Outside : Type 0 where
   pub keeper : KeeperState
 
 -- what is seen of the three that a program has
-abbrev pub source_state : {S : Type 0} → (S → Option (List ℕ)) → (S → ℕ) → S → SourceState
-source_state left faults source = record { left = left source; faults = faults source }
-
-abbrev pub sink_state : {K : Type 0} → (K → Option (List ℕ)) → (K → ℕ) → K → SinkState
-sink_state taken faults sink = record { taken = taken sink; faults = faults sink }
-
-abbrev pub keeper_state : {I : Type 0} → (I → Option Contents) → (I → ℕ) → I → KeeperState
-keeper_state kept faults keeper = record { kept = kept keeper; faults = faults keeper }
-
 abbrev pub outside : {S K I : Type 0} → (S → Option (List ℕ)) → (S → ℕ) → (K → Option (List ℕ)) → (K → ℕ) → (I → Option Contents) → (I → ℕ) → S → K → I → Outside
-outside left read_faults taken write_faults kept keep_faults source sink keeper =
-    record { source = source_state left read_faults source; sink = sink_state taken write_faults sink; keeper = keeper_state kept keep_faults keeper }
+outside left read_faults taken write_faults kept keep_faults source sink keeper = record {
+  source = record { left = left source; faults = read_faults source };
+  sink = record { taken = taken sink; faults = write_faults sink };
+  keeper = record { kept = kept keeper; faults = keep_faults keeper };
+}
 
 -- ---- what a run begins with
 
 abbrev pub geometry_counts : Geometry → Counts
 geometry_counts g = record { pool = g.pool; heads = g.heads; leaves = g.leaves }
 
-abbrev pub root_of : Geometry → ServerNo → Root
-root_of g q = record { server = q; pool = g.pool; heads = g.heads; leaves = g.leaves; epoch = 0 }
-
 -- each server's disk is new: good pages of zeros behind a root of epoch 0, with power, and no fault waits
 abbrev pub AreNew : Geometry → ℕ → Devices → Type 0
-AreNew g servers images = (q : ServerNo) → q.0 < servers → IsNewStore (root_of g q) (pairs_view (images q))
+AreNew g servers images = (q : ServerNo) → q.0 < servers → IsNewStore (root_by q (geometry_counts g) 0) (pairs_view (images q))
 
 abbrev pub no_files : AllFiles
 no_files s u = None
@@ -114,13 +101,11 @@ pub record Opens (options : Options) (kept : Option Contents) (x : Setup) (files
 
 -- ---- what holds of the lines
 
--- The disks that are left hold, by every pick of halves, the files that all commits leave: those that the run began with, and then the commits that the
--- lines name, one after another.
+-- The disks that are left hold, by every pick of halves, the files that the run began with and the commits that the lines name leave.
 abbrev pub LeavesFiles : Setup → AllFiles → List Event → List Line → Devices → Type 0
 LeavesFiles x files events lines closing = (q : ServerNo) (u : LockUnit) (c : Pick) → q.0 < x.servers → (found_on (x.counts q) (pairs_view (closing q)) c).files u ≡ replay files events lines (history_of lines) q u
 
--- The lines are those of a run of the written machine over all events, from these disks to others; and they are those of its commits, one
--- after another.
+-- The lines are those of a run of the written machine over all events, from these disks to others, and those of its commits.
 pub record IsWholeReport (options : Options) (kept : Option Contents) (events : List Event) (lines : List Line) : Type 0 where
   pub setup : Setup
   pub files : AllFiles
@@ -177,7 +162,6 @@ pub record FailsToLoad (before after : KeeperState) : Type 0 where
 abbrev pub most_bytes : ℕ
 most_bytes = 4194304
 
--- the most events
 abbrev pub most_events : ℕ
 most_events = 100000
 
@@ -266,21 +250,10 @@ pub record Ran (before after : Outside) (Holds : List Event → List Line → Ty
   pub holds : Holds read.events lines
   pub written : Written (report_text lines) before.sink after.sink
 
--- the run was done, and its disks are kept, or only the first of them
-abbrev pub RanWhole : Options → Outside → Outside → Type 0
-RanWhole options before after = Ran before after
-    (λ events lines. (w : IsWholeReport options before.keeper.kept events lines) × Keeps options.closing w.setup w.closing before.keeper after.keeper) Writes
-
-abbrev pub RanUnkept : Options → Outside → Outside → Type 0
-RanUnkept options before after = Ran before after
-    (λ events lines. (w : IsWholeReport options before.keeper.kept events lines) × KeepsFirst options.closing w.setup w.closing before.keeper after.keeper) Writes
-
--- it was cut off, or cut short by a limit
-abbrev pub RanInPart : Options → Outside → Outside → (List ℕ → SinkState → SinkState → Type 0) → Type 0
-RanInPart options before after Written = Ran before after (IsPart options before.keeper.kept) Written
-
-abbrev pub RanToLimit : Options → Outside → Outside → Type 0
-RanToLimit options before after = Ran before after (IsCutShort options before.keeper.kept) Writes
+-- the run was done, and this holds of how its disks are kept
+abbrev pub RanWhole : Options → Outside → Outside → (Option (List ℕ) → Setup → Devices → KeeperState → KeeperState → Type 0) → Type 0
+RanWhole options before after Saves = Ran before after
+    (λ events lines. (w : IsWholeReport options before.keeper.kept events lines) × Saves options.closing w.setup w.closing before.keeper after.keeper) Writes
 
 -- the source's text was refused, and so much of the text that says so was written
 pub record RefusedSchedule (before after : Outside) (Written : List ℕ → SinkState → SinkState → Type 0) : Type 0 where
@@ -314,7 +287,7 @@ BeginsFromImages options = (name : List ℕ) × (options.opening ≡ Images name
 
 -- ---- each way to end
 
--- where the words are no command: they are refused, or the text that says so couldn't be written, or there was no memory for them
+-- where the words are no command
 pub data WordsEnd (before after : SinkState) : Status → Type 0 where
   words_refused : Writes refused_words before after → WordsEnd before after statuses.Words
   words_not_written : FailsToWrite refused_words before after → WordsEnd before after statuses.Write
@@ -322,26 +295,23 @@ pub data WordsEnd (before after : SinkState) : Status → Type 0 where
 
 -- where they ask for a run
 pub data RunEnds (options : Options) (before after : Outside) : Status → Type 0 where
-  done : RanWhole options before after → RunEnds options before after statuses.Done
-  -- the source failed, or the schedule is too long
+  done : RanWhole options before after Keeps → RunEnds options before after statuses.Done
   not_read : FailsToGive before.source after.source → after.sink ≡ before.sink → after.keeper ≡ before.keeper → RunEnds options before after statuses.Read
   too_many_bytes : HasTooManyBytes before.source after.source → after.sink ≡ before.sink → after.keeper ≡ before.keeper → RunEnds options before after statuses.Limit
   too_many_events : HasTooManyEvents before.source after.source → after.sink ≡ before.sink → after.keeper ≡ before.keeper → RunEnds options before after statuses.Limit
-  -- the schedule is refused
   schedule_refused : RefusedSchedule before after Writes → after.keeper ≡ before.keeper → RunEnds options before after statuses.Schedule
   schedule_not_written : RefusedSchedule before after FailsToWrite → after.keeper ≡ before.keeper → RunEnds options before after statuses.Write
-  -- an image isn't loaded, or is refused
   not_loaded : BeginsFromImages options → ReadsSchedule before.source after.source → after.sink ≡ before.sink → FailsToLoad before.keeper after.keeper → RunEnds options before after statuses.Keep
   image_refused : RefusedImage options before after Writes → after.keeper ≡ before.keeper → RunEnds options before after statuses.Image
   image_not_written : RefusedImage options before after FailsToWrite → after.keeper ≡ before.keeper → RunEnds options before after statuses.Write
   -- the run is cut short by a limit, or its report isn't written, or its disks aren't kept
-  at_limit : RanToLimit options before after → after.keeper ≡ before.keeper → RunEnds options before after statuses.Limit
-  not_written : RanInPart options before after FailsToWrite → after.keeper ≡ before.keeper → RunEnds options before after statuses.Write
-  not_saved : RanUnkept options before after → Rose before.keeper.faults after.keeper.faults → RunEnds options before after statuses.Keep
+  at_limit : Ran before after (IsCutShort options before.keeper.kept) Writes → after.keeper ≡ before.keeper → RunEnds options before after statuses.Limit
+  not_written : Ran before after (IsPart options before.keeper.kept) FailsToWrite → after.keeper ≡ before.keeper → RunEnds options before after statuses.Write
+  not_saved : RanWhole options before after KeepsFirst → Rose before.keeper.faults after.keeper.faults → RunEnds options before after statuses.Keep
   -- memory runs out before the run, in it, or while its disks are kept
   no_memory : GivesSome before.source after.source → after.sink ≡ before.sink → after.keeper ≡ before.keeper → RunEnds options before after statuses.Memory
-  no_memory_inside : RanInPart options before after WritesFront → after.keeper ≡ before.keeper → RunEnds options before after statuses.Memory
-  no_memory_saving : RanUnkept options before after → after.keeper.faults ≡ before.keeper.faults → RunEnds options before after statuses.Memory
+  no_memory_inside : Ran before after (IsPart options before.keeper.kept) WritesFront → after.keeper ≡ before.keeper → RunEnds options before after statuses.Memory
+  no_memory_saving : RanWhole options before after KeepsFirst → after.keeper.faults ≡ before.keeper.faults → RunEnds options before after statuses.Memory
 
 -- ---- the same of a trial
 
@@ -349,22 +319,17 @@ pub data RunEnds (options : Options) (before after : Outside) : Status → Type 
 abbrev pub trial_options : Options
 trial_options = record { servers = 2; opening = New (record { pool = 32; heads = 16; leaves = 128 }); closing = None; trace = false }
 
--- the events that the seed gives, as many as are asked for
-abbrev pub trial_events : ATrial → List Event
-trial_events trial = events_from trial.seed trial.events
-
--- The lines are those of a whole run of these events, and this holds of the one line that sums them up.
+-- The lines are those of a whole run of the events that the seed gives, and this holds of the one line that sums them up.
 pub record RanTrial (trial : ATrial) (kept : Option Contents) (Holds : List ℕ → Type 0) : Type 0 where
   pub lines : List Line
-  pub whole : IsWholeReport trial_options kept (trial_events trial) lines
+  pub whole : IsWholeReport trial_options kept (events_from trial.seed trial.events) lines
   pub told : Holds (summary_text trial.seed trial.events lines)
 
 -- a limit cut the run of these events short
 pub record TrialToLimit (trial : ATrial) (kept : Option Contents) : Type 0 where
   pub lines : List Line
-  pub cut : IsCutShort trial_options kept (trial_events trial) lines
+  pub cut : IsCutShort trial_options kept (events_from trial.seed trial.events) lines
 
--- Where a limit cuts it short or memory runs out, nothing is told of it.
 pub data TrialEnds (trial : ATrial) (kept : Option Contents) (before after : SinkState) : Status → Type 0 where
   trial_done : RanTrial trial kept (λ text. Writes text before after) → TrialEnds trial kept before after statuses.Done
   trial_not_written : RanTrial trial kept (λ text. FailsToWrite text before after) → TrialEnds trial kept before after statuses.Write

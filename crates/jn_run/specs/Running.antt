@@ -4,7 +4,7 @@ use Rattle.jn_device.specs.Device.{DeviceState}
 use Rattle.jn_found.specs.Recoverable.{IsRecoverable}
 use Rattle.jn_host.specs.Outside.{Rose}
 use Rattle.jn_recovery.specs.declared.counts.PageCounts.{PageCounts}
-use Rattle.jn_recovery.specs.Loading.{counts_by}
+use Rattle.jn_recovery.specs.Counts.{counts_by}
 use Rattle.jn_store.specs.Store.{StoreView}
 use Rattle.jn_schedule.specs.declared.Event.{Event}
 use Rattle.jn_report.specs.declared.line.Line.{Line}

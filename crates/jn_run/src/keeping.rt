@@ -1,9 +1,9 @@
 //! The disks that a run leaves, as images.
 
 ghost use Rattle.std.specs.Prelude.{◌≡◌, ◌≤◌, length};
-ghost use Rattle.jn_images.specs.Kept.{AreClosed};
+ghost use Rattle.jn_images.specs.Opened.{AreClosed};
 ghost use Rattle.jn_run.specs.Keeping.{KeptAs, KeptWith};
-ghost use Rattle.jn_run.specs.Outcome.{keeper_state};
+ghost use Rattle.jn_run.specs.Seen.{keeper_state};
 
 use crate::running::Disks;
 use crate::status::Status;

@@ -10,7 +10,8 @@ ghost use Rattle.jn_schedule.specs.Grammar.{IsSchedule};
 ghost use Rattle.jn_schedule.specs.Ranges.{EventInRange};
 ghost use Rattle.jn_world.specs.Standing.{AreStores};
 ghost use Rattle.jn_run.specs.Opening.{AreOpened};
-ghost use Rattle.jn_run.specs.Outcome.{OutcomeOf, RunEnds, TrialEnds, WordsEnd, keeper_state, outside, refused_line, sink_state};
+ghost use Rattle.jn_run.specs.Outcome.{OutcomeOf, RunEnds, TrialEnds, WordsEnd, outside, refused_line};
+ghost use Rattle.jn_run.specs.Seen.{sink_state, keeper_state};
 ghost use Rattle.jn_run.specs.Parts.{EndsOn, Refuses};
 ghost use Rattle.jn_run.specs.declared.status.Status.TheVariants as statuses;
 

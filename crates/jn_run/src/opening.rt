@@ -1,7 +1,7 @@
 //! The disks that a run begins with, in memory: new ones, or those of images.
 
 ghost use Rattle.std.specs.Prelude.{◌≡◌, ◌≤◌, Err, IfOk, length, map};
-ghost use Rattle.jn_disks.specs.Disks.{IsNewStore, HasNewDevice};
+ghost use Rattle.jn_disks.specs.Disks.{IsNewDisk, HasNewDevice};
 ghost use Rattle.jn_images.specs.declared.refusal.Refusal.{Refusal as ARefusal};
 ghost use Rattle.jn_options.specs.Words.{AreWithinLimits};
 ghost use Rattle.jn_options.specs.declared.asked.Opening.TheVariants.{Images};
@@ -113,7 +113,7 @@ pub fn new_stores(
 /// The store of a new server.
 fn new_disk(alloc: Global, server: ServerNo, counts: PageCounts) -> Result<Disks, AllocError>
     ensures store { IfOk result (λ store. IsStore (⟦<Pairs<MemDisk> as StableStore>⟧.view) server.0 (store, counts)) }
-    ensures new { IfOk result (λ store. IsNewStore (record { server = server; pool = counts.pool; heads = counts.heads; leaves = counts.leaves; epoch = 0 }) (⟦<Pairs<MemDisk> as StableStore>⟧.view store)) }
+    ensures new { IfOk result (λ store. IsNewDisk (record { server = server; pool = counts.pool; heads = counts.heads; leaves = counts.leaves; epoch = 0 }) (⟦<Pairs<MemDisk> as StableStore>⟧.view store)) }
     ensures device { IfOk result (λ store. HasNewDevice (record { server = server; pool = counts.pool; heads = counts.heads; leaves = counts.leaves; epoch = 0 }) (⟦<Pairs<MemDisk> as StableStore>⟧.view store).device) }
 {
     let root = Root {

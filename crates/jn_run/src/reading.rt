@@ -1,7 +1,7 @@
 //! The bytes that come in.
 
 ghost use Rattle.std.specs.Prelude.{◌≡◌};
-ghost use Rattle.jn_run.specs.Outcome.{source_state};
+ghost use Rattle.jn_run.specs.Seen.{source_state};
 ghost use Rattle.jn_run.specs.Reading.{ReadsAll};
 ghost use Rattle.jn_run.specs.declared.reading.ReadFault.TheVariants as reads;
 

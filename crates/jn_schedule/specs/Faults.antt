@@ -129,7 +129,7 @@ line_fault_number faults.Count = 2
 line_fault_number faults.Value = 3
 line_fault_number faults.Bytes = 4
 
--- of lines of which the first has a number, the first line at fault, and what is wrong with it; the lines before it are passed over or are events
+-- of lines of which the first has a number, the first line at fault, and what is wrong with it
 abbrev pub LinesFault : ℕ → List (List (List ℕ)) → ℕ → LineFault → Type 0
 LinesFault first [] line fault = ⊥
 LinesFault first (ws ∷ lines) line fault = ((is_passed ws ≡ false) × (line ≡ first) × HasFault ws fault)

@@ -3,6 +3,7 @@ use Rattle.std.specs.Prelude.{◌≡◌, ℕ, ◌+◌, ◌-◌, ◌^◌, ◌≤�
 use Rattle.std.specs.List.{AllByRecursion, slice_split}
 use Rattle.jn_base.specs.declared.device.FaultKind.{FaultKind}
 use Rattle.jn_base.specs.declared.device.FaultKind.TheVariants as kinds
+use Rattle.jn_base.specs.Names.{fault_word}
 use Rattle.jn_base.specs.declared.names.ServerNo.{ServerNo}
 use Rattle.jn_base.specs.declared.names.Tid.{Tid}
 use Rattle.jn_base.specs.declared.op.Command.{Command}
@@ -100,29 +101,28 @@ block_part p = Number 0 119 p
 abbrev pub page_part : ℕ → Part
 page_part g = Number 0 20001 g
 
+-- a keyword and a server, and what follows them
+abbrev pub at_server : List ℕ → ServerNo → List Part → List Part
+at_server word s parts = Keyword word ∷ server_part s.0 ∷ parts
+
 abbrev pub op_parts : ServerNo → Op → List Part
-op_parts s (ops.Create f) = Keyword (codes "create") ∷ server_part s.0 ∷ file_part f.0 ∷ []
-op_parts s (ops.Remove f) = Keyword (codes "remove") ∷ server_part s.0 ∷ file_part f.0 ∷ []
-op_parts s (ops.Cut f p) = Keyword (codes "cut") ∷ server_part s.0 ∷ file_part f.0 ∷ block_part p.0 ∷ []
-op_parts s (ops.Read f p) = Keyword (codes "read") ∷ server_part s.0 ∷ file_part f.0 ∷ block_part p.0 ∷ []
-op_parts s (ops.Write f p stored) = Keyword (codes "write") ∷ server_part s.0 ∷ file_part f.0 ∷ block_part p.0 ∷ Bytes stored ∷ []
+op_parts s (ops.Create f) = at_server (codes "create") s (file_part f.0 ∷ [])
+op_parts s (ops.Remove f) = at_server (codes "remove") s (file_part f.0 ∷ [])
+op_parts s (ops.Cut f p) = at_server (codes "cut") s (file_part f.0 ∷ block_part p.0 ∷ [])
+op_parts s (ops.Read f p) = at_server (codes "read") s (file_part f.0 ∷ block_part p.0 ∷ [])
+op_parts s (ops.Write f p stored) = at_server (codes "write") s (file_part f.0 ∷ block_part p.0 ∷ Bytes stored ∷ [])
 
 abbrev pub command_parts : Command → List Part
-command_parts (commands.Begin s) = Keyword (codes "begin") ∷ server_part s.0 ∷ []
-command_parts (commands.Open s) = Keyword (codes "open") ∷ server_part s.0 ∷ []
+command_parts (commands.Begin s) = at_server (codes "begin") s []
+command_parts (commands.Open s) = at_server (codes "open") s []
 command_parts (commands.Do s op) = op_parts s op
 command_parts commands.End = Keyword (codes "end") ∷ []
 command_parts commands.Abort = Keyword (codes "abort") ∷ []
 
 abbrev pub kind_parts : FaultKind → List Part
-kind_parts kinds.Soft = Keyword (codes "soft") ∷ []
-kind_parts kinds.Null = Keyword (codes "null") ∷ []
-kind_parts kinds.Bad = Keyword (codes "bad") ∷ []
 kind_parts (kinds.Decay g) = Keyword (codes "decay") ∷ page_part g ∷ []
 kind_parts (kinds.Revive g) = Keyword (codes "revive") ∷ page_part g ∷ []
-kind_parts kinds.StopBefore = Keyword (codes "stop-before") ∷ []
-kind_parts kinds.StopTorn = Keyword (codes "stop-torn") ∷ []
-kind_parts kinds.StopAfter = Keyword (codes "stop-after") ∷ []
+kind_parts kind = Keyword (fault_word kind) ∷ []
 
 -- the words of each event
 abbrev pub parts_of : Event → List Part
@@ -130,16 +130,16 @@ parts_of (events.Command c command) = Client c.0 ∷ command_parts command
 parts_of (events.Again c) = Client c.0 ∷ Keyword (codes "again") ∷ []
 parts_of (events.Deliver k) = Keyword (codes "deliver") ∷ Number 0 999999 k ∷ []
 parts_of events.Settle = Keyword (codes "settle") ∷ []
-parts_of (events.Step s) = Keyword (codes "step") ∷ server_part s.0 ∷ []
-parts_of (events.Nudge s) = Keyword (codes "nudge") ∷ server_part s.0 ∷ []
-parts_of (events.Timeout s t) = Keyword (codes "timeout") ∷ server_part s.0 ∷ Name t ∷ []
-parts_of (events.Scrub s) = Keyword (codes "scrub") ∷ server_part s.0 ∷ []
-parts_of (events.Decay s g) = Keyword (codes "decay") ∷ server_part s.0 ∷ page_part g ∷ []
-parts_of (events.Revive s g) = Keyword (codes "revive") ∷ server_part s.0 ∷ page_part g ∷ []
-parts_of (events.Arm s n kind) = Keyword (codes "arm") ∷ server_part s.0 ∷ Number 1 1000000 n ∷ kind_parts kind
-parts_of (events.Crash s) = Keyword (codes "crash") ∷ server_part s.0 ∷ []
-parts_of (events.Restart s) = Keyword (codes "restart") ∷ server_part s.0 ∷ []
-parts_of (events.Show s) = Keyword (codes "show") ∷ server_part s.0 ∷ []
+parts_of (events.Step s) = at_server (codes "step") s []
+parts_of (events.Nudge s) = at_server (codes "nudge") s []
+parts_of (events.Timeout s t) = at_server (codes "timeout") s (Name t ∷ [])
+parts_of (events.Scrub s) = at_server (codes "scrub") s []
+parts_of (events.Decay s g) = at_server (codes "decay") s (page_part g ∷ [])
+parts_of (events.Revive s g) = at_server (codes "revive") s (page_part g ∷ [])
+parts_of (events.Arm s n kind) = at_server (codes "arm") s (Number 1 1000000 n ∷ kind_parts kind)
+parts_of (events.Crash s) = at_server (codes "crash") s []
+parts_of (events.Restart s) = at_server (codes "restart") s []
+parts_of (events.Show s) = at_server (codes "show") s []
 
 -- the words of a line spell the event
 abbrev pub Spells : Event → List (List ℕ) → Type 0

@@ -1,5 +1,6 @@
 -- Where each answer follows its command, what a transaction did by its lines is what it did by its commands.
-use Rattle.jn_serial.proofs.Common.{◌≡◌, ◌≢◌, ◌⊎◌, inl, inr, ℕ, zero, suc, ◌+◌, ◌<◌, ◌≤◌, nat_eq, nat_lt, Bool, true, false, ◌&&◌, if◌then◌else◌, List, [], ◌∷◌, ◌++◌, length, Option, Some, None, refl, sym, ◌∙◌, ap, subst, arith, append_assoc, append-nil, length-append, true≢false, nat_tests, ClientNo, Tid, Answer, client_eq, client_tells, Performed, Event, When, AtEvent, End, Text, Line, when_eq, is_before, lines_at, lines_before, says, event_at, begun_after, begun_then, last_begun, is_tid, is_in, answer_told, or_later, first_told, performed, op_in, ops_from, ops_of, performed_in, answered, answered_by, is_its_client, ops_told, Outstanding, Asked, nothing_asked, with_asked, answers_command, answer_in, fits, fits_asked, after_answer, AllFit, after_answers, after_event, refuses_own, AllOwnInPlace, own_in_place, FollowsEvent, after_one, FollowsFrom, is_answer, IsOfEvent, AllOfEvents, Follows}
+use Rattle.jn_serial.proofs.Common.{◌≡◌, ◌≢◌, ◌⊎◌, inl, inr, ℕ, zero, suc, ◌+◌, ◌<◌, ◌≤◌, nat_eq, nat_lt, Bool, true, false, ◌&&◌, if◌then◌else◌, List, [], ◌∷◌, ◌++◌, length, Option, Some, None, refl, sym, ◌∙◌, ap, subst, arith, append_assoc, append-nil, length-append, true≢false, nat_tests, ClientNo, Tid, Answer, client_eq, client_tells, Performed, Event, When, AtEvent, End, Text, Line, when_eq, is_before, lines_at, lines_before, says, event_at, begun_after, begun_then, last_begun, is_tid, is_in, answer_told, first_told, performed, op_in, ops_from, ops_of, performed_in, answered, answered_by, is_its_client, ops_told, Outstanding, Asked, nothing_asked, with_asked, answers_command, answer_in, fits, fits_asked, after_answer, AllFit, after_answers, after_event, refuses_own, AllOwnInPlace, own_in_place, FollowsEvent, after_one, FollowsFrom, is_answer, IsOfEvent, AllOfEvents, Follows}
+use Rattle.jn_order.specs.Changes.{or_also}
 use Rattle.jn_base.specs.declared.names.ServerNo.{ServerNo}
 use Rattle.jn_base.specs.declared.op.Op.{Op}
 use Rattle.jn_base.specs.declared.op.Answer.TheVariants as answers
@@ -15,15 +16,15 @@ use Rattle.jn_serial.proofs.Beginners.{HasOneClient, one-front, owner-is, in-say
 
 -- ---- the lines so far
 
-first_told-more : (c : ClientNo) (j : ℕ) (ls : List Line) (l : Line) → first_told c j (ls ++ l ∷ []) ≡ or_later (first_told c j ls) (answer_told c j l.text)
+first_told-more : (c : ClientNo) (j : ℕ) (ls : List Line) (l : Line) → first_told c j (ls ++ l ∷ []) ≡ or_also (first_told c j ls) (answer_told c j l.text)
 first_told-more c j [] l = last (answer_told c j l.text)
   where
-    last : (o : Option Answer) → or_later o None ≡ o
+    last : (o : Option Answer) → or_also o None ≡ o
     last None = refl
     last (Some a) = refl
 first_told-more c j (x ∷ ls) l = by (answer_told c j x.text) (first_told-more c j ls l)
   where
-    by : (o : Option Answer) → first_told c j (ls ++ l ∷ []) ≡ or_later (first_told c j ls) (answer_told c j l.text) → or_later o (first_told c j (ls ++ l ∷ [])) ≡ or_later (or_later o (first_told c j ls)) (answer_told c j l.text)
+    by : (o : Option Answer) → first_told c j (ls ++ l ∷ []) ≡ or_also (first_told c j ls) (answer_told c j l.text) → or_also o (first_told c j (ls ++ l ∷ [])) ≡ or_also (or_also o (first_told c j ls)) (answer_told c j l.text)
     by None on = on
     by (Some a) on = refl
 
@@ -40,7 +41,7 @@ told-later n c j _ l h = refl
 
 untold-later : (n : ℕ) (c : ClientNo) (j : ℕ) (ls : List Line) → n < j → AllAnswerWithin n ls → first_told c j ls ≡ None
 untold-later n c j [] l h = refl
-untold-later n c j (x ∷ ls) l h = ap (λ o. or_later o (first_told c j ls)) (told-later n c j x.text l h.0) ∙ untold-later n c j ls l h.1
+untold-later n c j (x ∷ ls) l h = ap (λ o. or_also o (first_told c j ls)) (told-later n c j x.text l h.0) ∙ untold-later n c j ls l h.1
 
 before-all : (n : ℕ) (ls : List Line) → AreWithin 0 n ls → lines_before (AtEvent n) ls ≡ ls
 before-all n [] h = refl
@@ -137,10 +138,10 @@ module _ (t : Tid) (n : ℕ) (ls : List Line) (l : Line) (w : (i : ℕ) → i �
   -- a line that answers no command from the files
   ops-quiet : (j : ℕ) (es : List Event) → j + length es ≤ n + 1 → ((c : ClientNo) (i : ℕ) → answer_told c i l.text ≡ None) → ops_from t (ls ++ l ∷ []) j es ≡ ops_from t ls j es
   ops-quiet j [] h none = refl
-  ops-quiet j (e ∷ es) h none = ap (λ z. z ++ ops_from t (ls ++ l ∷ []) (j + 1) es) (op-same t ls (ls ++ l ∷ []) j e (λ c. in-more c t n j ls l (omega (arith, h)) w) (λ c. first_told-more c j ls l ∙ ap (λ o. or_later (first_told c j ls) o) (none c j) ∙ last (first_told c j ls)))
+  ops-quiet j (e ∷ es) h none = ap (λ z. z ++ ops_from t (ls ++ l ∷ []) (j + 1) es) (op-same t ls (ls ++ l ∷ []) j e (λ c. in-more c t n j ls l (omega (arith, h)) w) (λ c. first_told-more c j ls l ∙ ap (λ o. or_also (first_told c j ls) o) (none c j) ∙ last (first_told c j ls)))
       ∙ ap (λ z. op_in t ls j e ++ z) (ops-quiet (j + 1) es (omega (arith, h)) none)
     where
-      last : (o : Option Answer) → or_later o None ≡ o
+      last : (o : Option Answer) → or_also o None ≡ o
       last None = refl
       last (Some a) = refl
 
@@ -151,9 +152,9 @@ module _ (t : Tid) (n : ℕ) (ls : List Line) (l : Line) (w : (i : ℕ) → i �
     more = if is_in d t k ls then performed s op (Some a) else []
 
     told-same : (i : ℕ) (c : ClientNo) → (c ≢ d) ⊎ (i ≢ k) → first_told c i (ls ++ l ∷ []) ≡ first_told c i ls
-    told-same i c ne = first_told-more c i ls l ∙ ap (λ o. or_later (first_told c i ls) o) (others c i ne) ∙ last (first_told c i ls)
+    told-same i c ne = first_told-more c i ls l ∙ ap (λ o. or_also (first_told c i ls) o) (others c i ne) ∙ last (first_told c i ls)
       where
-        last : (o : Option Answer) → or_later o None ≡ o
+        last : (o : Option Answer) → or_also o None ≡ o
         last None = refl
         last (Some x) = refl
 
@@ -170,7 +171,7 @@ module _ (t : Tid) (n : ℕ) (ls : List Line) (l : Line) (w : (i : ℕ) → i �
         new : op_in t (ls ++ l ∷ []) j e ≡ more
         new = ap (λ i. op_in t (ls ++ l ∷ []) i e) st.0 ∙ ap (λ z. op_in t (ls ++ l ∷ []) k z) st.1
             ∙ ap (λ (b : Bool). if b then performed s op (first_told d k (ls ++ l ∷ [])) else []) (in-more d t n k ls l (let p = st.0 in omega (arith, h, p)) w)
-            ∙ ap (λ o. if is_in d t k ls then performed s op o else []) (first_told-more d k ls l ∙ ap (λ o. or_later o (answer_told d k l.text)) untold ∙ its)
+            ∙ ap (λ o. if is_in d t k ls then performed s op o else []) (first_told-more d k ls l ∙ ap (λ o. or_also o (answer_told d k l.text)) untold ∙ its)
 
         old : op_in t ls j e ≡ []
         old = ap (λ i. op_in t ls i e) st.0 ∙ ap (λ z. op_in t ls k z) st.1 ∙ ap (λ o. if is_in d t k ls then performed s op o else []) untold ∙ none (is_in d t k ls)
@@ -263,7 +264,7 @@ line-so-far es ls out out' l h w at adds = record {
   below = AllAnswerWithin-append (length es) ls (l ∷ []) h.below (adds.within, tt);
   waits = λ c a k. let n = adds.waits c a k in let o = h.waits c a n.0 in let low = stands-from 1 es a.number (events.Command c a.command) o.stands in let most = low.1 in record {
     stands = o.stands;
-    untold = λ j b. first_told-more c j ls l ∙ ap (λ x. or_later x (answer_told c j l.text)) (o.untold j b) ∙ n.1.0 j;
+    untold = λ j b. first_told-more c j ls l ∙ ap (λ x. or_also x (answer_told c j l.text)) (o.untold j b) ∙ n.1.0 j;
     begun = ap (λ m. last_begun c m) (before-more (length es) a.number ls l (omega (arith, most)) w) ∙ o.begun ∙ sym (begun_then-more c None ls l ∙ n.1.1 (last_begun c ls));
   };
   same = adds.same;
@@ -322,12 +323,23 @@ asked-is : (o : Option Asked) (j : ℕ) (text : Text) → fits_asked o j text �
 asked-is None j text h = absurd (true≢false (sym h))
 asked-is (Some x) j text h = (x, (refl, (grind (arith, nat_tests, h), grind (arith, h))))
 
+-- whatever server a client begins at or opens, the same lines answer it
+begin-any : (s r : ServerNo) (text : Text) → answers_command (commands.Begin s) text ≡ answers_command (commands.Begin r) text
+begin-any s r (says.Refused c j refusals.TooManyTransactions) = refl
+begin-any s r (says.Refused c j refusal) = refl
+begin-any s r text = refl
+
+open-any : (s r : ServerNo) (text : Text) → answers_command (commands.Open s) text ≡ answers_command (commands.Open r) text
+open-any s r (says.Refused c j refusals.TooManyWorks) = refl
+open-any s r (says.Refused c j refusal) = refl
+open-any s r text = refl
+
 -- where it answers no other command it answers an operation
 op-is : (command : Command) (text : Text) → answers_command (commands.Begin (record { 0 = 0 })) text ≡ false → answers_command (commands.Open (record { 0 = 0 })) text ≡ false → answers_command commands.End text ≡ false → answers_command commands.Abort text ≡ false
     → answers_command command text ≡ true → (s : ServerNo) × ((op : Op) × (command ≡ commands.Do s op))
 op-is (commands.Do s op) text a b c d h = (s, (op, refl))
-op-is (commands.Begin s) text a b c d h = absurd (not-both _ h a)
-op-is (commands.Open s) text a b c d h = absurd (not-both _ h b)
+op-is (commands.Begin s) text a b c d h = absurd (not-both (answers_command (commands.Begin s) text) h (begin-any s (record { 0 = 0 }) text ∙ a))
+op-is (commands.Open s) text a b c d h = absurd (not-both (answers_command (commands.Open s) text) h (open-any s (record { 0 = 0 }) text ∙ b))
 op-is commands.End text a b c d h = absurd (not-both _ h c)
 op-is commands.Abort text a b c d h = absurd (not-both _ h d)
 

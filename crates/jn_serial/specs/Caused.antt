@@ -3,14 +3,13 @@ use Rattle.std.specs.Prelude.{◌≡◌, ℕ, ◌+◌, Bool, true, false, nat_eq
 use Rattle.jn_base.specs.declared.names.ServerNo.{ServerNo}
 use Rattle.jn_base.specs.declared.names.ClientNo.{ClientNo}
 use Rattle.jn_base.specs.declared.names.LockUnit.{LockUnit}
-use Rattle.jn_base.specs.declared.names.LockUnit.TheVariants as units
 use Rattle.jn_base.specs.declared.names.Tid.{Tid}
 use Rattle.jn_base.specs.declared.names.Cause.{Cause}
 use Rattle.jn_base.specs.declared.names.Cause.TheVariants as causes
 use Rattle.jn_base.specs.declared.op.Command.TheVariants as commands
 use Rattle.jn_base.specs.declared.device.FaultKind.{FaultKind}
 use Rattle.jn_base.specs.declared.device.FaultKind.TheVariants.{StopBefore, StopTorn, StopAfter}
-use Rattle.jn_base.specs.Names.{server_eq, client_eq, file_eq, block_eq, tid_eq}
+use Rattle.jn_base.specs.Names.{server_eq, client_eq, unit_eq, tid_eq}
 use Rattle.jn_schedule.specs.declared.Event.{Event}
 use Rattle.jn_schedule.specs.declared.Event.TheVariants as events
 use Rattle.jn_report.specs.declared.line.When.{When}
@@ -35,11 +34,6 @@ count_events test number (e ∷ es) = (if test number e then 1 else 0) + count_e
 -- the lines of later events
 abbrev pub lines_after : When → List Line → List Line
 lines_after w lines = filter (λ (l : Line). is_before w l.when) lines
-
-abbrev pub unit_eq : LockUnit → LockUnit → Bool
-unit_eq (units.File f) (units.File g) = file_eq f g
-unit_eq (units.Block f p) (units.Block g q) = file_eq f g && block_eq p q
-unit_eq _ _ = false
 
 -- the event is an `abort` of the client, in T
 abbrev pub aborts : ClientNo → Tid → List Line → ℕ → Event → Bool
@@ -114,7 +108,7 @@ gives_fault s lines w number (events.Arm r n kind) = server_eq r s && is_accepte
 gives_fault s lines w number (events.Decay r page) = server_eq r s && says (refuses_fault s) (lines_at (AtEvent number) lines)
 gives_fault s lines w number _ = false
 
--- what a line needs, by the lines up to it: an abort its cause, and each stop and each refused fault an event of its own
+-- what a line needs, by the lines up to it
 abbrev pub is_caused : List Event → List Line → When → Text → Bool
 is_caused es lines w (says.Aborted c j t cause) = is_caused_by es lines w c t cause
 is_caused es lines w (says.Stopped s) = nat_le (count_lines (stops s) lines) (count_events (arms_stop s lines w) 1 es)

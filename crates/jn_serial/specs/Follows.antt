@@ -1,6 +1,6 @@
 -- Each answer to a client answers its outstanding command, in a form of that command, and a command that its client refuses is
 -- refused once.
-use Rattle.std.specs.Prelude.{◌≡◌, ℕ, ◌+◌, ◌≤◌, Bool, true, false, nat_eq, ◌&&◌, ◌||◌, not, if◌then◌else◌, List, [], ◌∷◌, length, Option, Some, None}
+use Rattle.std.specs.Prelude.{◌≡◌, ℕ, ◌+◌, ◌≤◌, Bool, true, false, nat_eq, ◌&&◌, ◌||◌, not, if◌then◌else◌, List, [], ◌∷◌, length, Option, Some, None, is_some}
 use Rattle.jn_base.specs.declared.names.ClientNo.{ClientNo}
 use Rattle.jn_base.specs.declared.op.Op.{Op}
 use Rattle.jn_base.specs.declared.op.Op.TheVariants as ops
@@ -60,54 +60,44 @@ is_read (ops.Read f p) = true
 is_read _ = false
 
 -- which texts answer a command
-abbrev pub answers_begin : Text → Bool
-answers_begin (says.Begun c j t) = true
-answers_begin (says.Refused c j refusals.TooManyTransactions) = true
-answers_begin _ = false
-
-abbrev pub answers_open : Text → Bool
-answers_open (says.Opened c j s) = true
-answers_open (says.Refused c j refusals.TooManyWorks) = true
-answers_open _ = false
-
-abbrev pub answers_op : Op → Text → Bool
-answers_op op (says.Did c j) = not (is_read op)
-answers_op op (says.Read c j bytes) = is_read op
-answers_op op (says.Refused c j refusal) = can_have refusal op
-answers_op op _ = false
-
-abbrev pub answers_end : Text → Bool
-answers_end (says.Waiting c j s u t) = true
-answers_end (says.Committed c j t) = true
-answers_end (says.Aborted c j t cause) = true
-answers_end _ = false
-
-abbrev pub answers_abort : Text → Bool
-answers_abort (says.Committed c j t) = true
-answers_abort (says.Aborted c j t cause) = true
-answers_abort _ = false
-
 abbrev pub answers_command : Command → Text → Bool
-answers_command (commands.Begin s) text = answers_begin text
-answers_command (commands.Open s) text = answers_open text
-answers_command (commands.Do s op) text = answers_op op text
-answers_command commands.End text = answers_end text
-answers_command commands.Abort text = answers_abort text
+answers_command (commands.Begin s) (says.Begun c j t) = true
+answers_command (commands.Begin s) (says.Refused c j refusals.TooManyTransactions) = true
+answers_command (commands.Open s) (says.Opened c j r) = true
+answers_command (commands.Open s) (says.Refused c j refusals.TooManyWorks) = true
+answers_command (commands.Do s op) (says.Did c j) = not (is_read op)
+answers_command (commands.Do s op) (says.Read c j bytes) = is_read op
+answers_command (commands.Do s op) (says.Refused c j refusal) = can_have refusal op
+answers_command commands.End (says.Waiting c j s u t) = true
+answers_command commands.End (says.Committed c j t) = true
+answers_command commands.End (says.Aborted c j t cause) = true
+answers_command commands.Abort (says.Committed c j t) = true
+answers_command commands.Abort (says.Aborted c j t cause) = true
+answers_command command text = false
+
+-- a refusal by a client itself
+abbrev pub is_own_refusal : Text → Bool
+is_own_refusal (says.Refused c j refusal) = is_own refusal
+is_own_refusal _ = false
 
 abbrev pub addressed : ClientNo → ℕ → Option Addressed
 addressed c j = Some (record { client = c; number = j })
 
--- whom a line answers, and which command, by the number of its event
+-- to whom a line speaks of a command, and of which, by the number of its event
+abbrev pub speaks_to : Text → Option Addressed
+speaks_to (says.Begun c j t) = addressed c j
+speaks_to (says.Opened c j s) = addressed c j
+speaks_to (says.Did c j) = addressed c j
+speaks_to (says.Read c j bytes) = addressed c j
+speaks_to (says.Refused c j refusal) = addressed c j
+speaks_to (says.Waiting c j s u t) = addressed c j
+speaks_to (says.Committed c j t) = addressed c j
+speaks_to (says.Aborted c j t cause) = addressed c j
+speaks_to _ = None
+
+-- and whose command it answers
 abbrev pub answer_in : Text → Option Addressed
-answer_in (says.Begun c j t) = addressed c j
-answer_in (says.Opened c j s) = addressed c j
-answer_in (says.Did c j) = addressed c j
-answer_in (says.Read c j bytes) = addressed c j
-answer_in (says.Refused c j refusal) = if is_own refusal then None else addressed c j
-answer_in (says.Waiting c j s u t) = addressed c j
-answer_in (says.Committed c j t) = addressed c j
-answer_in (says.Aborted c j t cause) = addressed c j
-answer_in _ = None
+answer_in text = if is_own_refusal text then None else speaks_to text
 
 -- whether it is the last answer
 abbrev pub is_last : Text → Bool
@@ -159,19 +149,11 @@ abbrev pub AllOwnInPlace : ℕ → Event → List Line → Type 0
 AllOwnInPlace number e [] = Unit {0}
 AllOwnInPlace number e (l ∷ ls) = (own_in_place number e l.text ≡ true) × AllOwnInPlace number e ls
 
--- a refusal by a client itself
-abbrev pub is_own_refusal : Text → Bool
-is_own_refusal (says.Refused c j refusal) = is_own refusal
-is_own_refusal _ = false
-
-abbrev pub own_refusals : List Line → ℕ
-own_refusals lines = count_lines is_own_refusal lines
-
 -- a client's own refusals in an event are of this event's command, so it is refused once at most
 pub record FollowsEvent (out : Outstanding) (number : ℕ) (e : Event) (lines : List Line) : Type 0 where
   pub fit : AllFit (after_event out number e lines) lines
   pub own : AllOwnInPlace number e lines
-  pub once : own_refusals lines ≤ 1
+  pub once : count_lines is_own_refusal lines ≤ 1
 
 -- what is outstanding after an event and its lines
 abbrev pub after_one : Outstanding → ℕ → Event → List Line → Outstanding
@@ -184,15 +166,7 @@ FollowsFrom out number (e ∷ es) lines =
     × FollowsFrom (after_one out number e (lines_at (AtEvent number) lines)) (number + 1) es lines
 
 abbrev pub is_answer : Text → Bool
-is_answer (says.Begun c j t) = true
-is_answer (says.Opened c j s) = true
-is_answer (says.Did c j) = true
-is_answer (says.Read c j bytes) = true
-is_answer (says.Refused c j refusal) = true
-is_answer (says.Waiting c j s u t) = true
-is_answer (says.Committed c j t) = true
-is_answer (says.Aborted c j t cause) = true
-is_answer _ = false
+is_answer text = is_some (speaks_to text)
 
 abbrev pub IsOfEvent : ℕ → When → Type 0
 IsOfEvent count (AtEvent i) = (1 ≤ i) × (i ≤ count)

@@ -9,6 +9,7 @@ use Rattle.jn_base.specs.declared.op.Answer.TheVariants as answers
 use Rattle.jn_base.specs.declared.op.Command.TheVariants.{Do}
 use Rattle.jn_base.specs.Names.{client_eq}
 use Rattle.jn_order.specs.Files.{AllFiles}
+use Rattle.jn_order.specs.Changes.{or_also}
 use Rattle.jn_replay.specs.declared.files.Performed.{Performed}
 use Rattle.jn_replay.specs.Operations.{files_then, GivesAnswers}
 use Rattle.jn_schedule.specs.declared.Event.{Event}
@@ -28,14 +29,10 @@ answer_told c j (says.Refused d k refusals.NoFile) = if client_eq c d && nat_eq 
 answer_told c j (says.Refused d k refusals.Exists) = if client_eq c d && nat_eq j k then Some answers.Exists else None
 answer_told c j _ = None
 
-abbrev pub or_later : Option Answer → Option Answer → Option Answer
-or_later (Some a) later = Some a
-or_later None later = later
-
 -- the first line that gives one counts
 abbrev pub first_told : ClientNo → ℕ → List Line → Option Answer
 first_told c j [] = None
-first_told c j (l ∷ ls) = or_later (answer_told c j l.text) (first_told c j ls)
+first_told c j (l ∷ ls) = or_also (answer_told c j l.text) (first_told c j ls)
 
 abbrev pub performed : ServerNo → Op → Option Answer → List Performed
 performed s op None = []

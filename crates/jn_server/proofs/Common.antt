@@ -5,8 +5,8 @@ pub use Rattle.std.specs.Result.{IsErr, IsErrAnd}
 pub use Rattle.std.proofs.lemmas.Bool.Decides.{nat_tests}
 pub use Rattle.jn_base.specs.declared.names.Tickets.{Tickets}
 pub use Rattle.jn_base.specs.declared.names.WorkId.{WorkId}
-pub use Rattle.jn_base.specs.Names.{work_eq, file_eq, block_eq, tid_eq}
-pub use Rattle.jn_locks.specs.Locks.{unit_eq, is_unit}
+pub use Rattle.jn_base.specs.Names.{work_eq, file_eq, block_eq, unit_eq, tid_eq}
+pub use Rattle.jn_locks.specs.Locks.{is_unit}
 unfoldable pub use Rattle.jn_locks.specs.Locks.{work_before}
 pub use Rattle.jn_lock_rows.specs.Matching.{is_after, is_before}
 pub use Rattle.jn_msgs.specs.Collected.{Collected}
@@ -16,7 +16,7 @@ pub use Rattle.jn_rows.specs.Outcomes.{RowOutcome}
 pub use Rattle.jn_rows.specs.declared.worker.Work.{Work}
 pub use Rattle.jn_rows.specs.Worker.{work_at, name_from as work_from, commit_holder, WorkerTable, WorkStorage, is_fit, wants_of, units_for, worker_row, worker_step, vulnerable, timeout_row, restored_work, restored_worker, intentions_of, need_in, holds, worker_again}
 pub use Rattle.jn_rows.specs.Coordinator.{CoordinatorTable, restored_coordinator, restored_transactions, restored_transaction, name_from as tid_from, seen_in_flags, seen_in_flag, promised, coordinator_again, name_from, close_clients_row, coordinator_row}
-pub use Rattle.jn_storage.specs.Storage.{Accounts, StorageView, is_stored, IsCounted, needed, intentions, list_of, IsServing, file_there}
+pub use Rattle.jn_storage.specs.Storage.{Accounts, StorageView, is_stored, IsCounted, IsServing}
 pub use Rattle.jn_storage.specs.Calls.{state, BlockRead, is_above, NextFile}
 pub use Rattle.jn_storage.specs.Listing.{is_in, IsListing, are_different, total}
 pub use Rattle.jn_store.proofs.Laws.{calm_on, stop_since}
@@ -30,7 +30,8 @@ pub use Rattle.jn_system.proofs.WholeSystem.CoordinatorRows.{Aside, is_of_flag, 
 pub use Rattle.jn_system.proofs.WholeSystem.WorkerChanges.{DrawsOne, step-aside, works-flags, worker-aside}
 pub use Rattle.jn_server.specs.declared.fault.ServerFault.{ServerFault}
 pub use Rattle.jn_server.specs.Seen.{ServerView, memory_of, IsServer, room_of, Parts, view_with}
-pub use Rattle.jn_server.specs.Handling.{IsDone, IsStopped, Does, LeavesRubbish, row_calls, TimesOut, Steps}
+pub use Rattle.jn_server.specs.Handling.{IsDone, IsStopped, Does, LeavesRubbish, TimesOut, Steps}
+pub use Rattle.jn_storage.specs.DeviceCalls.{row_calls, prepare_calls}
 pub use Rattle.jn_server.specs.Faults.{of_worker as fault_of}
 pub use Rattle.std.specs.List.{list_any, list_all}
 pub use Rattle.jn_system.specs.WholeSystem.Steps.{are_rising, AreNames, tid_before}
@@ -50,13 +51,12 @@ unfoldable pub use Rattle.jn_server.specs.Pieces.{blocks_below}
 pub use Rattle.jn_rows.specs.declared.worker.Phase.{Phase}
 pub use Rattle.jn_rows.specs.declared.worker.Phase.TheVariants.{Active, Broken, Prepared as Stored}
 pub use Rattle.jn_locks.specs.declared.words.Mode.TheVariants.{IntentionWrite, Commit}
-pub use Rattle.jn_storage.specs.Orderly.{IsPrepared, IsGiven, unit_in_range}
+pub use Rattle.jn_storage.specs.Orderly.{IsPrepared, needed, intentions, list_of, IsGiven, unit_in_range, file_there}
 pub use Rattle.jn_server.specs.Ranges.{IsInRange, AreInRange}
 pub use Rattle.jn_base.specs.declared.names.ServerNo.{ServerNo}
 pub use Rattle.jn_records.specs.StablePages.{Counts, Pages, address_in, block_behind, block_in, head_of}
 pub use Rattle.jn_store.specs.Store.{StoreView}
 pub use Rattle.jn_found.specs.Pages.{found_on, pool_on, heads_on, listed, pages_by}
-pub use Rattle.jn_recovery.specs.Loading.{IsLoaded, IsDown, Recovering, IsSameOrNext, counts_by}
 pub use Rattle.jn_server.specs.Restarting.{AreTables, IsRestarted, IsNotRestarted, IsWithin, Composes, IsLeft}
 pub use Rattle.jn_recovery.specs.Memory.{Memory as Kept, view_of, rubbish_in}
 pub use Rattle.jn_server.specs.Reading.{IsRoomOfPages, CountsPages, StandsOnPages}

@@ -17,10 +17,6 @@ use Rattle.jn_server.specs.declared.fault.ServerFault.{ServerFault}
 use Rattle.jn_server.specs.declared.fault.ServerFault.TheVariants.{Stopped, Memory as NoMemory}
 use Rattle.jn_server.specs.Seen.{ServerView, memory_of, IsServer}
 
--- how many calls of the device a message, or the clients' dismissal, makes at most: 16 for the flag of each of 64 transactions
-abbrev pub row_calls : ℕ
-row_calls = 1024
-
 -- nothing but a work that is removed leaves rubbish
 abbrev pub LeavesRubbish : ServerView → RowOutcome Memory → ServerView → Type 0
 LeavesRubbish v row w = length w.storage.accounts.rubbish ≡ length v.storage.accounts.rubbish + left_over (state v.storage) row.changes

@@ -4,9 +4,8 @@ use Rattle.jn_base.specs.declared.names.FileNo.{FileNo}
 use Rattle.jn_base.specs.declared.names.BlockNo.{BlockNo}
 use Rattle.jn_base.specs.declared.names.LockUnit.{LockUnit}
 use Rattle.jn_base.specs.declared.names.LockUnit.TheVariants.{File, Block}
-use Rattle.jn_base.specs.Names.{file_eq}
+use Rattle.jn_base.specs.Names.{file_eq, unit_eq}
 use Rattle.jn_base.specs.Limits.{most_blocks}
-use Rattle.jn_locks.specs.Locks.{unit_eq}
 use Rattle.jn_storage.specs.Listing.{IsListing}
 use Rattle.jn_storage.specs.Storage.{StorageLater, is_stored}
 use Rattle.jn_storage.specs.Calls.{state}

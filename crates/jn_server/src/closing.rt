@@ -5,7 +5,8 @@ ghost use Rattle.jn_intent.specs.Scrubbing.{Scrubbed};
 ghost use Rattle.jn_msgs.specs.Collected.{Collected};
 ghost use Rattle.jn_system.specs.WholeSystem.Servers.{of_coordinator};
 ghost use Rattle.jn_rows.specs.Coordinator.{close_clients_row};
-ghost use Rattle.jn_server.specs.Handling.{Does, row_calls};
+ghost use Rattle.jn_server.specs.Handling.{Does};
+ghost use Rattle.jn_storage.specs.DeviceCalls.{row_calls};
 ghost use Rattle.jn_server.specs.Seen.{view_with, memory_of, IsServer};
 
 use crate::fault::ServerFault;

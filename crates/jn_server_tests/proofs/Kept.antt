@@ -19,14 +19,15 @@ use Rattle.jn_store.specs.Store.{StoreView}
 use Rattle.jn_intent.specs.Scrubbing.{Scrubbed}
 use Rattle.jn_recovery.specs.declared.counts.PageCounts.{PageCounts}
 use Rattle.jn_recovery.specs.declared.load.Found.{Found}
-use Rattle.jn_recovery.specs.Loading.{counts_by}
+use Rattle.jn_recovery.specs.Counts.{counts_by}
 use Rattle.jn_records.specs.StablePages.{page_count}
 use Rattle.jn_server_tests.specs.Restarts.{MayBegin, IsOf}
 use Rattle.jn_server_tests.proofs.Starts.{later_of, loaded_started, may_begin}
 use Rattle.jn_server.specs.declared.fault.ServerFault.{ServerFault}
 use Rattle.jn_server.specs.declared.fault.ServerFault.TheVariants.{Stopped, Memory as NoMemory}
 use Rattle.jn_server.specs.declared.show.Shown.{Shown}
-use Rattle.jn_server.specs.Handling.{Does, Steps, TimesOut, row_calls}
+use Rattle.jn_server.specs.Handling.{Does, Steps, TimesOut}
+use Rattle.jn_storage.specs.DeviceCalls.{row_calls}
 use Rattle.jn_server.specs.Restarting.{IsRestarted, IsLeft}
 use Rattle.jn_server.specs.Seen.{ServerView, memory_of, room_of, IsServer}
 use Rattle.jn_server.specs.Showing.{IsShown}

@@ -4,7 +4,8 @@ use Rattle.jn_base.specs.declared.names.ServerNo.{ServerNo}
 use Rattle.jn_found.specs.Recoverable.{IsRecoverable}
 use Rattle.jn_recovery.specs.declared.counts.PageCounts.{PageCounts}
 use Rattle.jn_recovery.specs.declared.load.Found.{Found}
-use Rattle.jn_recovery.specs.Loading.{counts_by, IsLoaded}
+use Rattle.jn_recovery.specs.Loading.{IsLoaded}
+use Rattle.jn_recovery.specs.Counts.{counts_by}
 use Rattle.jn_records.specs.StablePages.{Counts}
 use Rattle.jn_storage.specs.Storage.{StorageView, StorageLater}
 use Rattle.jn_store.specs.Store.{StoreView}

@@ -2,7 +2,7 @@
 use Rattle.std.specs.Prelude.{◌≡◌, ◌≤◌, ℕ, ⊤, Result, Ok, Err}
 use Rattle.jn_base.specs.declared.names.ServerNo.{ServerNo}
 use Rattle.jn_recovery.specs.declared.counts.PageCounts.{PageCounts}
-use Rattle.jn_recovery.specs.Loading.{counts_by}
+use Rattle.jn_recovery.specs.Counts.{counts_by}
 use Rattle.jn_records.specs.StablePages.{page_count}
 use Rattle.jn_server_tests.specs.Restarts.{IsOf}
 use Rattle.jn_server.specs.declared.fault.ServerFault.{ServerFault}

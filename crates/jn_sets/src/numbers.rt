@@ -3,7 +3,7 @@ ghost use Rattle.std.specs.Prelude.{◌≡◌};
 ghost use Rattle.std.specs.List.{AllByRecursion};
 ghost use Rattle.jn_records.specs.Names.{TidFits, WorkFits};
 ghost use Rattle.jn_records.specs.Intentions.{IntentionFits};
-ghost use Rattle.jn_records.specs.Records.{UnitFits, PreparedFits, FlagFits, IntentionRecordFits, RecordFits};
+ghost use Rattle.jn_records.specs.Records.{UnitFits, PreparedFits, FlagFits, RecordFits};
 
 use jn_base::{LockUnit, Tid, WorkId};
 use jn_records::{Flag, Record, StoredIntention, WorkHead};

@@ -1,5 +1,6 @@
 -- A world whose call settled is within the bound of a settle.
-use Rattle.jn_settles.proofs.Common.{◌≡◌, ℕ, zero, suc, ◌+◌, ◌*◌, ◌-◌, ◌≤◌, List, [], ◌∷◌, length, Option, Some, None, refl, sym, ◌∙◌, ap, subst, arith, slice_get, ServerNo, DeviceState, Carried, Place, Slot, Up, Down, Gone, Counts, counts_by, StableState, Pick, stable, view_with, memory_of, StoreView, World, Memory, servers_from, settle_bound, Setup, Moment, Standing, StandsAt, Stands}
+use Rattle.jn_settles.proofs.Common.{◌≡◌, ℕ, suc, ◌+◌, ◌*◌, ◌-◌, ◌≤◌, List, [], ◌∷◌, length, Option, Some, refl, sym, ◌∙◌, ap, arith, slice_get, ServerNo, DeviceState, Carried, Place, Slot, Up, Down, Gone, Counts, counts_by, StableState, Pick, stable, view_with, memory_of, StoreView, Memory, servers_from, Setup, Moment, Standing, StandsAt, Stands}
+use Rattle.jn_system_settling.specs.Settling.Bounds.{settle_bound}
 use Rattle.std.proofs.lemmas.List.{length-map}
 use Rattle.jn_net.specs.declared.Sent.{Sent as Posted}
 use Rattle.jn_rests.specs.Waiting.{Carries}
@@ -7,7 +8,7 @@ use Rattle.jn_rows.specs.Outcomes.{Sent}
 use Rattle.jn_system_settling.specs.Settling.Course.{Course}
 use Rattle.jn_system_settling.specs.Settling.Weights.{goings, goings_at, sum_over, going_works}
 use Rattle.jn_bounds.specs.Settles.{IsWithinBound, over as over_course}
-use Rattle.jn_settles.specs.Bounded.{how_many_wait, over, goings_on, goings_of, most, IsBoundedWorld}
+use Rattle.jn_settles.specs.Bounded.{how_many_wait, how_many_wait_no_more, goings_on, goings_of, most_messages_of_a_settle, IsBoundedWorld}
 
 -- ---- the network
 
@@ -18,7 +19,7 @@ module _ (net : Carried) (c : Course) (h : Carries net c) where
   wait-length : length c.waiting ≡ how_many_wait net
   wait-length = ap (λ (ks : List ℕ). length ks) h.waiting
 
-  over-same : over_course c ≡ over net
+  over-same : over_course c ≡ how_many_wait_no_more net
   over-same = ap (λ (n : ℕ). n - length c.waiting) sent-length ∙ ap (λ (n : ℕ). length net.sent - n) wait-length
 
 -- ---- the works that go
@@ -51,7 +52,7 @@ module _ {S : Type 0} (look : S → StoreView) where
         none : (i : ℕ) → 0 + i ≡ i
         none i = omega arith
 
-    pub bound-same : settle_bound x.servers m.state.course ≡ most look w
+    pub bound-same : settle_bound x.servers m.state.course ≡ most_messages_of_a_settle look w
     bound-same = ap (λ (k : ℕ). 161 * (k + 8 + 640 * x.servers) + going_works m.state.course.world (servers_from 0 x.servers)) (wait-length w.net m.state.course h.net)
         ∙ ap (λ (k : ℕ). 161 * (how_many_wait w.net + 8 + 640 * k) + going_works m.state.course.world (servers_from 0 x.servers)) (sym h.servers)
         ∙ ap (λ (k : ℕ). 161 * (how_many_wait w.net + 8 + 640 * length w.places) + k) goings-same
@@ -61,9 +62,9 @@ module _ {S : Type 0} (look : S → StoreView) where
 module _ {S : Type 0} (look : S → StoreView) (device : S → DeviceState) (x : Setup) (before after : Standing S) (m last : Moment) (stood : Stands look device x before m) (stands : Stands look device x after last) where
   pub bounded-world : IsWithinBound x.servers m.state.course last.state.course → IsBoundedWorld look before after
   bounded-world b = record {
-    handed = least (over_course last.state.course) (over after.net) (over_course m.state.course) (over before.net) (settle_bound x.servers m.state.course) (most look before) b.no_longer_waiting
+    handed = least (over_course last.state.course) (how_many_wait_no_more after.net) (over_course m.state.course) (how_many_wait_no_more before.net) (settle_bound x.servers m.state.course) (most_messages_of_a_settle look before) b.no_longer_waiting
         (over-same after.net last.state.course stands.net) (over-same before.net m.state.course stood.net) (bound-same look device x before m stood);
-    sent = both (length last.state.course.world.sent) (length after.net.sent) (length m.state.course.waiting) (how_many_wait before.net) (length m.state.course.world.sent) (length before.net.sent) (settle_bound x.servers m.state.course) (most look before) b.sent
+    sent = both (length last.state.course.world.sent) (length after.net.sent) (length m.state.course.waiting) (how_many_wait before.net) (length m.state.course.world.sent) (length before.net.sent) (settle_bound x.servers m.state.course) (most_messages_of_a_settle look before) b.sent
         (sent-length after.net last.state.course stands.net) (wait-length before.net m.state.course stood.net) (sent-length before.net m.state.course stood.net) (bound-same look device x before m stood);
   }
     where

@@ -1,5 +1,5 @@
 -- Where the world is closed nothing but files is left, so each store is that of a sound image.
-use Rattle.jn_settles.proofs.Common.{◌≡◌, ◌≤◌, ◌<◌, ℕ, false, List, ◌++◌, length, Some, sym, ◌∙◌, ap, subst, slice_get, Result, Ok, AllByRecursion, slice_get_within, DeviceState, found_on, page_count, Line, StableState, stable, Setup, Devices, Moment, DoesStep, Ended, IsClosed, Closes}
+use Rattle.jn_settles.proofs.Common.{◌≡◌, ◌≤◌, ◌<◌, ℕ, false, List, ◌++◌, Some, sym, ◌∙◌, ap, subst, slice_get, Result, Ok, AllByRecursion, slice_get_within, DeviceState, found_on, page_count, Line, StableState, stable, Setup, Devices, Moment, DoesStep, Ended, IsClosed, Closes}
 use Rattle.std.proofs.Math.Path.{fun_ext}
 use Rattle.jn_found.specs.Images.{IsImage}
 use Rattle.jn_order.specs.Files.{Files}

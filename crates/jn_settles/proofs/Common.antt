@@ -1,5 +1,5 @@
 -- The names from below that these proofs cite, passed on from one place. Declares nothing.
-pub use Rattle.std.proofs.Common.{◌≡◌, ℕ, zero, suc, ◌+◌, ◌*◌, ◌-◌, ◌≤◌, List, [], ◌∷◌, length, Option, Some, None, refl, sym, ◌∙◌, ap, subst, arith, ◌<◌, false, ◌++◌, true, drop, Bool, is_some, true≢false, ◌⊎◌, inl, inr}
+pub use Rattle.std.proofs.Common.{◌≡◌, ℕ, suc, ◌+◌, ◌*◌, ◌-◌, ◌≤◌, List, [], ◌∷◌, length, Option, Some, refl, sym, ◌∙◌, ap, arith, ◌<◌, false, ◌++◌, subst, true, drop, zero, Bool, None, is_some, true≢false, ◌⊎◌, inl, inr}
 pub use Rattle.std.specs.Prelude.{slice_get, Result, Ok, map, nat_lt, if◌then◌else◌, ◌&&◌}
 pub use Rattle.jn_base.specs.declared.names.ServerNo.{ServerNo}
 pub use Rattle.jn_device.specs.Device.{DeviceState}
@@ -8,29 +8,27 @@ pub use Rattle.jn_place.specs.declared.place.Place.{Place}
 pub use Rattle.jn_place.specs.declared.place.Slot.{Slot}
 pub use Rattle.jn_place.specs.declared.place.Slot.TheVariants.{Up, Down, Gone}
 pub use Rattle.jn_records.specs.StablePages.{Counts, page_count}
-pub use Rattle.jn_recovery.specs.Loading.{counts_by}
+pub use Rattle.jn_recovery.specs.Counts.{counts_by}
 pub use Rattle.jn_rows.specs.Stable.{StableState, Pick, stable}
 pub use Rattle.jn_server.specs.Seen.{view_with, memory_of}
 pub use Rattle.jn_store.specs.Store.{StoreView}
-pub use Rattle.jn_system.specs.WholeSystem.World.{World, Memory, servers_from}
-pub use Rattle.jn_system_settling.specs.Settling.Bounds.{settle_bound, NothingGoes}
+pub use Rattle.jn_system.specs.WholeSystem.World.{Memory, servers_from, World}
 pub use Rattle.jn_written.specs.Chances.{Setup}
 pub use Rattle.jn_written.specs.Runs.{Moment, DoesStep}
-pub use Rattle.jn_stands.specs.Stands.{Standing, StandsAt, Stands, PlaceStands}
+pub use Rattle.jn_stands.specs.Stands.{Standing, StandsAt, Stands}
 pub use Rattle.std.specs.List.{AllByRecursion, list_any}
 pub use Rattle.std.proofs.lemmas.Option.{slice_get_within}
 pub use Rattle.jn_found.specs.Pages.{found_on, pool_on}
 pub use Rattle.jn_report.specs.declared.line.Line.{Line}
-pub use Rattle.jn_written.specs.Devices.{Devices, pages_of, rubbish_on}
+pub use Rattle.jn_written.specs.Devices.{Devices, pages_of}
 pub use Rattle.jn_world.specs.declared.ended.Ended.{Ended}
 pub use Rattle.jn_world.specs.Written.{IsClosed, Closes, GoesTo, DoesTasks, DoesScheduled, is_going}
-pub use Rattle.jn_report.specs.declared.line.Text.{Text}
 pub use Rattle.jn_written.specs.Events.{settling}
-pub use Rattle.jn_written.specs.Tasks.{Task, Begins, Rests, Stage, InSchedule, CutShort, first_of_tasks, when_of}
+pub use Rattle.jn_written.specs.Tasks.{Task, Begins, Rests, InSchedule, first_of_tasks, when_of}
 pub use Rattle.jn_stands.specs.Going.{IsTold, WentOn}
 pub use Rattle.jn_at_rest.specs.Settled.{texts_since, ComesThrough, LeavesSettled}
 pub use Rattle.jn_base.specs.declared.names.WorkId.{WorkId}
 pub use Rattle.jn_place.specs.Places.{is_up}
 pub use Rattle.jn_rows.specs.declared.worker.Work.{Work}
-pub use Rattle.jn_system_settling.specs.AtRest.Settled.{AreUp, entry_in, live_at, AreForgotten, told_since, tells_waiting, tells_outcome, holds_undecided}
+pub use Rattle.jn_system_settling.specs.AtRest.Settled.{AreUp, entry_in, live_at, told_since, tells_waiting, tells_outcome, holds_undecided}
 pub use Rattle.jn_settles.specs.Tables.{memory_on, memory_in, memory_at, live_in, AllUp}

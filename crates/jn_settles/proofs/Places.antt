@@ -1,5 +1,5 @@
 -- The servers at their places are as the written machine has them.
-use Rattle.jn_settles.proofs.Common.{◌≡◌, ℕ, zero, suc, ◌+◌, ◌≤◌, ◌<◌, Bool, true, false, List, [], ◌∷◌, length, Option, Some, None, is_some, true≢false, refl, sym, ◌∙◌, ap, subst, arith, slice_get, nat_lt, if◌then◌else◌, ◌&&◌, slice_get_within, ServerNo, WorkId, DeviceState, Place, Slot, Up, Down, Gone, is_up, Counts, counts_by, Work, StableState, Pick, StoreView, World, Memory, AreUp, entry_in, live_at, Setup, Moment, Standing, StandsAt, PlaceStands, Stands, memory_on, memory_in, memory_at, live_in, AllUp}
+use Rattle.jn_settles.proofs.Common.{◌≡◌, ℕ, zero, suc, ◌<◌, Bool, true, false, List, [], ◌∷◌, length, Option, Some, None, is_some, true≢false, refl, sym, ◌∙◌, ap, subst, arith, slice_get, nat_lt, if◌then◌else◌, ◌&&◌, slice_get_within, ServerNo, WorkId, DeviceState, Place, Slot, Up, Down, Gone, is_up, Counts, counts_by, Work, StableState, Pick, StoreView, Memory, AreUp, entry_in, live_at, Setup, Moment, Standing, StandsAt, Stands, memory_on, memory_in, memory_at, live_in, AllUp}
 use Rattle.std.proofs.lemmas.Bool.Decides.{nat_tests}
 use Rattle.jn_base.specs.Names.{work_eq}
 use Rattle.jn_rows.specs.Worker.{WorkerTable, work_at}

@@ -1,6 +1,6 @@
 -- A world whose call settled is settled.
-use Rattle.jn_settles.proofs.Common.{◌≡◌, ◌⊎◌, inl, inr, ℕ, suc, ◌+◌, ◌≤◌, ◌<◌, Bool, true, false, List, [], ◌∷◌, length, Option, Some, None, is_some, true≢false, refl, sym, ◌∙◌, ap, subst, arith, slice_get, list_any, slice_get_within, ServerNo, WorkId, DeviceState, pool_on, waiting, Place, Slot, Up, Down, Gone, is_up, Counts, counts_by, Line, Text, Work, StableState, Pick, view_with, memory_of, StoreView, World, Memory, NothingGoes, AreForgotten, told_since, tells_waiting, tells_outcome, holds_undecided, live_at, Setup, pages_of, rubbish_on, Moment, IsTold, Standing, StandsAt, Stands, texts_since, LeavesSettled, memory_at, live_in, AllUp}
-use Rattle.jn_base.specs.declared.names.ClientNo.{ClientNo}
+use Rattle.jn_settles.proofs.Common.{◌≡◌, ◌⊎◌, inl, inr, ℕ, suc, ◌≤◌, ◌<◌, Bool, true, false, List, Option, Some, None, true≢false, sym, ◌∙◌, ap, subst, arith, slice_get, list_any, slice_get_within, WorkId, DeviceState, pool_on, waiting, Place, Slot, Up, Down, Gone, is_up, Counts, counts_by, Line, Work, StableState, Pick, view_with, memory_of, StoreView, World, Memory, told_since, tells_waiting, tells_outcome, holds_undecided, live_at, Setup, pages_of, Moment, IsTold, Standing, StandsAt, Stands, texts_since, LeavesSettled, memory_at, live_in, AllUp}
+use Rattle.jn_report.specs.declared.line.Text.{Text}
 use Rattle.jn_base.specs.declared.op.Command.TheVariants.{End}
 use Rattle.jn_rows.specs.declared.client.Outstanding.{Outstanding}
 use Rattle.jn_rows.specs.Client.{ClientTable}

@@ -1,5 +1,5 @@
 -- What befalls a server's device by an event: a page goes bad or good, or a fault is to wait.
-use Rattle.jn_stands.proofs.Common.{◌≡◌, ℕ, Bool, true, false, List, [], ◌++◌, append-nil, drop, slice_get, slice_set, Some, refl, sym, ap, subst, length, ServerNo, DeviceState, PageDecays, PageRevives, FaultArmed, Place, Slot, Befell, WhereUp, KeepsRubbish, commits_in, counts_by, TooManyArmed, Line, Text, Event, pairs_view, StoreView, Setup, Chance, Use, Decays, Revives, Arms, uses, Devices, Alone, IsUsed, told_unless, acted, Moment, outside_texts, lines_at, Task, when_of, Standing, StandsAt, Stands, HasCounts, ActsNext, IsStepTo, WorkId, Up, Down}
+use Rattle.jn_stands.proofs.Common.{◌≡◌, ℕ, Bool, true, false, List, [], ◌++◌, append-nil, drop, slice_get, slice_set, Some, refl, sym, ap, subst, length, ServerNo, DeviceState, PageDecays, PageRevives, FaultArmed, Place, Slot, Befell, WhereUp, KeepsRubbish, commits_in, counts_by, TooManyArmed, Line, Text, Event, pairs_view, StoreView, Setup, Chance, Use, Decays, Revives, Arms, uses, Devices, Alone, IsUsed, told_unless, acted, Moment, outside_texts, lines_at, Task, when_of, Standing, StandsAt, Stands, HasCounts, ActsNext, IsStepTo, WorkId, Up, Down, Allows}
 use Rattle.jn_base.specs.declared.device.FaultKind.{FaultKind}
 use Rattle.jn_base.specs.declared.device.FaultKind.TheVariants as faults
 use Rattle.jn_report.specs.declared.line.Text.TheVariants as says
@@ -13,7 +13,7 @@ module _ {S : Type 0} (look : S → StoreView) (device : S → DeviceState) (see
     (q : ServerNo) (place : Place S) (at : slice_get w.places q.0 ≡ Some place) (slot : Slot S) (counts : HasCounts look q (counts_by place.counts) slot)
     (kept : WhereUp look KeepsRubbish place.slot slot) (lines : List Line) (more : List Task) where
   abbrev allowing : Bool → Chance
-  allowing answer = record (quiet_chance x m.devices) { allows = answer }
+  allowing answer = record (quiet_chance x m.devices) { found = Allows answer }
 
   -- the place with what stands there now
   abbrev now : Standing S

@@ -59,7 +59,7 @@ module _ {S : Type 0} (look : S → StoreView) (device : S → DeviceState) (see
         (net-quiet look device x w m stand (go_on (CloseClients q ∷ []) m.state.course) [] (carries-on w.net m.state.course (CloseClients q) refl sent-is stand.net) (ap (λ (u : World). u.lines) after-is) refl)
         (ap (λ (u : World). u.lines) after-is) sent-is (all-idle idle, tt)
         (record {
-          its = record { memory = memory_of (view_with look p); up = memory-is; free = refl; called = calling look device seen x w m stand q place at p is told row_calls None [] true (device p'.storage.0) refl e.spent };
+          its = record { memory = memory_of (view_with look p); up = memory-is; free = refl; called = calling look device seen x w m stand q place at p is told row_calls _ None true (device p'.storage.0) refl e.spent };
           others = λ r o. device-there look device x w m stand seen q place at (device p'.storage.0) r o;
         })
         (λ r o n. refl) (leaves-from look world q (CloseClients q ∷ []) place.slot (Up p) (Up p') is (ap (λ (names : List WorkId). length names) kept))
@@ -69,7 +69,7 @@ module _ {S : Type 0} (look : S → StoreView) (device : S → DeviceState) (see
         row = of_coordinator (memory_of (view_with look p)) (close_clients_row (memory_of (view_with look p)).coordinator (memory_of (view_with look p)).tickets)
 
         h : Chance
-        h = idling look device seen x w m stand q place at p is told None []
+        h = idling look device seen x w m stand q place at p is told None
 
         memory-is : world.memory q ≡ Some (memory_of (view_with look p))
         memory-is = let at-here = here look device seen x w m stand q place at p is told in at-here.0

@@ -7,16 +7,16 @@ pub use Rattle.jn_device.specs.Events.{Decays as PageDecays, Revives as PageRevi
 pub use Rattle.jn_place.specs.declared.place.Place.{Place}
 pub use Rattle.jn_place.specs.declared.place.Slot.{Slot}
 pub use Rattle.jn_place.specs.Exact.{Befell, WhereUp, KeepsRubbish, IsDoneAt, Closed, texts_of_step, Crashed, IsSpent, IsStoppedAt, idle_row, PrintsInRange, IsStepOf, ScrubbedBy, Prints, Showed, LeavesClean, AsksAgain, TimedOut, IsTimedOut, has_work_at, IsTried, IsUpAt, CameTo, IsRestart, Sends, IsStoppedUp, IsUsedUpAt, Took, TakeLeaves, work_of, WorkedBy, WorkLeaves}
-pub use Rattle.jn_system.specs.WholeSystem.World.{commits_in, World, at_client, Memory, has_line, at_server, committed_in, servers_from, new_memory}
-pub use Rattle.jn_recovery.specs.Loading.{counts_by}
+pub use Rattle.jn_system.specs.WholeSystem.World.{commits_in, World, at_client, Memory, has_line, at_server, committed_in, clients_from, servers_from, with_epoch, new_memory, changed}
+pub use Rattle.jn_recovery.specs.Counts.{counts_by}
 pub use Rattle.jn_report.specs.declared.line.EventRefusal.TheVariants.{TooManyArmed, EpochsUsedUp}
 pub use Rattle.jn_report.specs.declared.line.Line.{Line}
 pub use Rattle.jn_report.specs.declared.line.Text.{Text}
 pub use Rattle.jn_schedule.specs.declared.Event.{Event}
 pub use Rattle.jn_store.specs.Pairs.{pairs_view}
 pub use Rattle.jn_store.specs.Store.{StoreView, IsCalm, IsClean, IsWholePage}
-pub use Rattle.jn_written.specs.Chances.{Setup, Chance}
-pub use Rattle.jn_written.specs.Deeds.{Use, Decays, Revives, Arms, uses, plain, delivered, no_room, served, Deed, PowersOff, nothing, crashed_at, Reads, blocks_from, shown, Cleans, room, delivered_at, Nothing, is_busy, working_steps, worked, is_used_up, given_up, recovered, restarted, stopped_idle, recovering, brought_up, last_epoch, Calls, nobody, is_busy_with}
+pub use Rattle.jn_written.specs.Chances.{Setup, Chance, Allows, Free, Finding, Prints as HasPrints, none_free, free_found, Recovered}
+pub use Rattle.jn_written.specs.Deeds.{Use, Decays, Revives, Arms, uses, plain, delivered, no_room, served, Deed, PowersOff, nothing, crashed_at, Reads, Cleans, shown, room, delivered_at, Nothing, is_busy, working_steps, worked, is_used_up, given_up, recovered, restarted, stopped_idle, recovering, brought_up, last_epoch, Calls, nobody, is_busy_with}
 pub use Rattle.jn_written.specs.Devices.{Devices, Alone, IsUsed, AreFound, rubbish_on, AreRecoverable, IsCalled, pages_of, IsServed, IsLookedOver, IsScrubbed, Befalls, IsRecovery}
 pub use Rattle.jn_written.specs.Events.{told_unless, acted, deed_of, dismissing, met, servers_of, asking, settling, next_in, resting, first_busy, next_event}
 pub use Rattle.jn_written.specs.Runs.{Moment, Leads, DoesStep, none, more}
@@ -30,10 +30,10 @@ pub use Rattle.jn_place.specs.declared.place.Slot.TheVariants.{Up, Down, Gone}
 pub use Rattle.std.proofs.lemmas.Bool.Decides.{nat_tests}
 pub use Rattle.jn_base.specs.declared.names.ClientNo.{ClientNo}
 pub use Rattle.jn_base.specs.declared.names.Party.TheVariants.{Client, Server}
-pub use Rattle.jn_base.specs.Names.{client_eq, server_eq, tid_eq, file_eq, block_eq, work_eq}
+pub use Rattle.jn_base.specs.Names.{client_eq, server_eq, tid_eq, block_eq, work_eq}
 pub use Rattle.jn_net.specs.declared.Sent.{Sent as Posted}
 pub use Rattle.jn_net.specs.Carried.{with_delivered, Carried, waiting}
-pub use Rattle.jn_system.specs.WholeSystem.Steps.{Deliver, after, took, taken_by, handed, CloseClients, IsIdle, done, close_clients, Tell, Again, commanded, sent_now, Step, run, IsRun, Crash, crash, Dismiss, StopWork, work, works, AreNames, at_memory, are_rising, tid_before, Nudge, Timeout, nudge, timeout, NextEvent, handing, working, IsStep, Restart, restart, restart_with, stopped, ends, Narrow, StopRestart, narrow, stop_restart}
+pub use Rattle.jn_system.specs.WholeSystem.Steps.{Deliver, after, took, taken_by, handed, CloseClients, IsIdle, done, close_clients, Tell, Again, commanded, sent_now, Step, run, IsRun, Crash, crash, Dismiss, StopWork, work, works, at_memory, are_rising, tid_before, Nudge, Timeout, nudge, timeout, NextEvent, handing, working, IsStep, AreNames, Restart, restart, restart_with, stopped, ends, Narrow, StopRestart, narrow, stop_restart}
 pub use Rattle.jn_rows.specs.declared.client.Taken.{Taken}
 pub use Rattle.jn_rows.specs.Client.{ClientTable, new_table, take_row, if_waits, ignored, begun_row, opened_row, answer_line, is_current, decided_row, outcome_row, Commanded, Refuses, command_row, again_row, over}
 pub use Rattle.jn_rows.specs.Outcomes.{Sent, RowOutcome, quiet as quiet_row}
@@ -46,12 +46,12 @@ pub use Rattle.jn_msgs.specs.declared.message.Message.{Message}
 pub use Rattle.std.proofs.Math.Path.{fun_ext}
 pub use Rattle.jn_base.specs.declared.device.Outside.{Outside}
 pub use Rattle.jn_place.specs.Places.{is_up}
-pub use Rattle.jn_system.specs.WholeSystem.Servers.{of_coordinator, Room, server_step, of_step, named_now, server_again, server_timeout, restored, lines_of, server_row, storage_of, of_worker}
+pub use Rattle.jn_system.specs.WholeSystem.Servers.{of_coordinator, Room, server_step, of_step, named_now, server_again, server_timeout, restored, lines_of, server_row, storage_of, of_worker, is_busy as has_going}
 pub use Rattle.jn_rows.specs.Stable.{StableState, Pick, made_all, IsUp, Change, stable}
 pub use Rattle.jn_server.specs.Seen.{Parts, view_with, memory_of, ServerView, room_of}
 pub use Rattle.jn_system_settling.specs.Settling.Course.{go_on, Course, go}
 pub use Rattle.jn_storage.specs.Calls.{state}
-pub use Rattle.jn_server.specs.Handling.{row_calls, StepLeaves}
+pub use Rattle.jn_storage.specs.DeviceCalls.{row_calls, step_calls}
 pub use Rattle.jn_rests.specs.Waiting.{Carries, sent_of, delivered_by, are_new, waiting_numbers}
 pub use Rattle.jn_within.specs.Within.{Within}
 pub use Rattle.jn_within.proofs.WorldSteps.{run-within, sent-near, opening-within}
@@ -68,17 +68,14 @@ pub use Rattle.jn_rows.specs.Worker.{going_work, going_row, WorkerTable, commit_
 pub use Rattle.std.specs.List.{list_any, list_all}
 pub use Rattle.jn_report.specs.declared.line.When.{When}
 pub use Rattle.jn_serial.specs.Lines.{commit_in, history_of}
-pub use Rattle.jn_base.specs.declared.names.LockUnit.TheVariants.{File, Block}
-pub use Rattle.jn_system.specs.WholeSystem.Printing.{prints_in, print_files, file_before, ArePrints, Printed, FileThere, print_unit, print_one, print_blocks, print_file, block_before}
+pub use Rattle.jn_system.specs.WholeSystem.Printing.{prints_in, ArePrints, Printed, FileThere, print_unit, print_one, print_blocks, print_file, print_files, block_before}
+pub use Rattle.jn_stands.specs.Showing.{text_shown, texts_shown, blocks_from}
 pub use Rattle.std.proofs.Math.Seq.{drop-length, drop-append_seam}
 pub use Rattle.jn_written.specs.Refusals.{refusal_of}
 pub use Rattle.jn_stands.specs.Meeting.{is_settle, begun_by, begins_in}
-pub use Rattle.jn_storage.specs.DeviceCalls.{step_calls}
 pub use Rattle.jn_stands.specs.Naming.{with_name, named_by, names_told}
 pub use Rattle.jn_msgs.specs.Collected.{Collected}
 pub use Rattle.jn_report.specs.declared.line.EventRefusal.{EventRefusal}
-pub use Rattle.jn_system_settling.specs.Settling.Settle.{clients_from, is_busy as has_going}
 pub use Rattle.jn_base.specs.declared.names.Party.{Party}
 pub use Rattle.jn_order.specs.Files.{Files, AllFiles}
 pub use Rattle.jn_written.specs.Whole.{before, AreImages, IsWhole, IsLimited, IsPartOfRun, closed_world}
-pub use Rattle.jn_system.specs.SmallSteps.Steps.{with_epoch, changed}

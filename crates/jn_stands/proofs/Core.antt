@@ -1,15 +1,12 @@
 -- From the next task to where the code stands once it is done.
-use Rattle.jn_stands.proofs.Common.{◌≡◌, ◌≤◌, ℕ, suc, Bool, true, false, List, [], ◌∷◌, ◌++◌, length, slice_get, drop, append-nil, Option, Some, refl, sym, ◌∙◌, ap, subst, ServerNo, ClientNo, Tid, Outside, DeviceState, Carried, Place, World, commits_in, has_line, Step, run, IsRun, Line, Carries, ClientTable, new_table, Pick, Event, Course, go, go_on, StoreView, Within, run-within, Setup, Chance, Deed, Devices, IsUsed, AreFound, rubbish_on, acted, deed_of, AreLeft, AreAllCounted, Moment, Leads, texts_of, lines_at, come_to, cut_short, Task, State, when_of, next_task, begun, may-lead, Standing, is_client_number, PlaceStands, Stands, ActsNext, IsStepTo, AreRecoverable}
+use Rattle.jn_stands.proofs.Common.{◌≡◌, ◌≤◌, ℕ, suc, Bool, true, false, List, [], ◌∷◌, ◌++◌, length, slice_get, drop, append-nil, Option, Some, refl, sym, ◌∙◌, ap, subst, ServerNo, ClientNo, Tid, Outside, DeviceState, Carried, Place, World, commits_in, has_line, Step, run, IsRun, Line, Carries, ClientTable, new_table, Pick, Event, Course, go, go_on, StoreView, Within, run-within, Setup, Chance, Deed, Devices, IsUsed, AreFound, rubbish_on, acted, deed_of, AreLeft, AreAllCounted, Moment, Leads, texts_of, lines_at, come_to, cut_short, Task, State, when_of, next_task, begun, may-lead, Standing, is_client_number, PlaceStands, Stands, ActsNext, IsStepTo, AreRecoverable, Free}
 use Rattle.jn_records.specs.declared.net_list.Need.{Need}
 use Rattle.jn_written.proofs.Named.{names}
 use Rattle.jn_stands.proofs.Made.{Makes, made-leads, made-cuts, carried-length, not-too-much, too-much}
 
 -- a chance of a step that tells these faults, and perhaps is stopped
 abbrev pub chance-of : Setup → Devices → Need → List Outside → Option (Pick → ℕ) → Chance
-chance-of x ds free told stop = record { free = free; rubbish = rubbish_on x ds; stop = stop; told = told; allows = true; finds = λ c. c; works = []; tids = []; files = [] }
-
-abbrev pub no-need : Need
-no-need = record { records = 0; heads = 0; pages = 0 }
+chance-of x ds free told stop = record { rubbish = rubbish_on x ds; found = Free free; stop = stop; told = told }
 
 pub run-is : (steps : List Step) (c : Course) → (go_on steps c).world ≡ run steps c.world
 run-is [] c = refl

@@ -1,5 +1,5 @@
 -- A server cleans its pages, or shows its files, and nothing else changes.
-use Rattle.jn_stands.proofs.Common.{◌≡◌, ℕ, zero, suc, Bool, true, false, not, List, [], ◌∷◌, ◌++◌, slice_get, take, Option, Some, None, is_some, refl, sym, ◌∙◌, ap, subst, if◌then◌else◌, fun_ext, ServerNo, FileNo, Outside, server_eq, DeviceState, found_on, Place, Slot, Up, Down, IsSpent, IsDoneAt, IsStoppedAt, idle_row, World, Memory, at_server, Room, server_step, of_step, Step, StopWork, after, work, works, counts_by, Carries, Work, RowOutcome, StableState, Pick, Change, stable, made_all, going_work, going_row, Parts, view_with, memory_of, go_on, state, pairs_view, StoreView, Setup, Chance, no_room, free_on, Devices, IsCalled, rubbish_on, pages_of, Moment, HasCounts, Standing, StandsAt, Stands}
+use Rattle.jn_stands.proofs.Common.{◌≡◌, ℕ, zero, suc, Bool, true, false, not, List, [], ◌∷◌, ◌++◌, slice_get, take, Option, Some, None, is_some, refl, sym, ◌∙◌, ap, subst, if◌then◌else◌, fun_ext, ServerNo, FileNo, Outside, server_eq, DeviceState, found_on, Place, Slot, Up, Down, IsSpent, IsDoneAt, IsStoppedAt, idle_row, World, Memory, at_server, Room, server_step, of_step, Step, StopWork, after, work, works, counts_by, Carries, Work, RowOutcome, StableState, Pick, Change, stable, made_all, going_work, going_row, Parts, view_with, memory_of, go_on, state, pairs_view, StoreView, Setup, Chance, no_room, free_on, Devices, IsCalled, rubbish_on, pages_of, Moment, HasCounts, Standing, StandsAt, Stands, Finding, Free}
 use Rattle.jn_report.specs.declared.line.Text.TheVariants as says
 use Rattle.jn_stands.proofs.Servers.{IsAlone}
 use Rattle.jn_stands.proofs.Moving.{same-server, carries-on, devices-now, device-here, device-there}
@@ -43,13 +43,16 @@ module _ {S : Type 0} (look : S → StoreView) (device : S → DeviceState) (see
   abbrev mem : Memory
   mem = memory_of (view_with look p)
 
-  -- what is free, where the step is stopped, and the files that are printed
-  abbrev pub idling : Option (Pick → ℕ) → List FileNo → Chance
-  idling stop files = record { free = free_on (x.counts q) (pages_of (m.devices q)) (stable (world.found q)) mem; rubbish = rubbish_on x m.devices; stop = stop; told = told; allows = true; finds = λ c. c; works = []; tids = []; files = files }
+  -- what is found, and where the step is stopped
+  abbrev pub finding : Finding → Option (Pick → ℕ) → Chance
+  finding found stop = record { rubbish = rubbish_on x m.devices; found = found; stop = stop; told = told }
 
-  pub calling : (calls : ℕ) (stop : Option (Pick → ℕ)) (files : List FileNo) (power : Bool) (e : DeviceState) → is_some stop ≡ not power → IsSpent calls told power (device p.storage.0) e
-      → IsCalled calls (idling stop files) (m.devices q) (devices-now look device x w m stand seen q place at e q)
-  calling calls stop files power e stops spent = subst (λ (d : DeviceState). IsCalled calls (idling stop files) d (devices-now look device x w m stand seen q place at e q)) (sym here.2)
+  abbrev pub idling : Option (Pick → ℕ) → Chance
+  idling stop = finding (Free (free_on (x.counts q) (pages_of (m.devices q)) (stable (world.found q)) mem)) stop
+
+  pub calling : (calls : ℕ) (found : Finding) (stop : Option (Pick → ℕ)) (power : Bool) (e : DeviceState) → is_some stop ≡ not power → IsSpent calls told power (device p.storage.0) e
+      → IsCalled calls (finding found stop) (m.devices q) (devices-now look device x w m stand seen q place at e q)
+  calling calls found stop power e stops spent = subst (λ (d : DeviceState). IsCalled calls (finding found stop) d (devices-now look device x w m stand seen q place at e q)) (sym here.2)
       (record { last = spent.last; happens = spent.happens; few = spent.few; whole = spent.whole; told = spent.told_is; stop = stops ∙ ap not (sym spent.power_is); after = device-here look device x w m stand seen q place at e ∙ spent.after })
 
   -- ---- it is done

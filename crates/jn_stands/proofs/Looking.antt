@@ -1,5 +1,5 @@
 -- A scrub and a show.
-use Rattle.jn_stands.proofs.Common.{◌≡◌, ℕ, Bool, true, false, List, [], ◌∷◌, ◌++◌, append-nil, drop, map, slice_get, slice_set, Option, Some, None, is_some, not, refl, sym, ◌∙◌, ap, subst, length, ServerNo, FileNo, File, Outside, file_eq, DeviceState, Place, Slot, Up, Down, Gone, IsSpent, PrintsInRange, IsDoneAt, IsStoppedAt, IsStepOf, idle_row, ScrubbedBy, Prints, Showed, texts_of_step, WhereUp, KeepsRubbish, World, Memory, AreNames, prints_in, print_files, file_before, ArePrints, counts_by, Line, Text, StableState, Pick, stable, Parts, view_with, memory_of, go_on, state, pairs_view, StoreView, Setup, Chance, Reads, Deed, served, blocks_from, shown, Alone, IsServed, IsLookedOver, Moment, lines_at, Task, when_of, Standing, Stands, HasCounts, ActsNext, IsStepTo, WorkId, ◌*◌, Server, Counts, page_count, LeavesClean, IsCalm, IsClean, IsWholePage, Step, Cleans, plain, IsScrubbed, IsCalled}
+use Rattle.jn_stands.proofs.Common.{◌≡◌, ℕ, Bool, true, false, List, [], ◌∷◌, ◌++◌, append-nil, drop, map, slice_get, slice_set, Option, Some, None, is_some, not, refl, sym, ◌∙◌, ap, subst, length, ServerNo, Outside, DeviceState, Place, Slot, Up, Down, Gone, IsSpent, PrintsInRange, IsDoneAt, IsStoppedAt, IsStepOf, idle_row, ScrubbedBy, Prints, Showed, texts_of_step, WhereUp, KeepsRubbish, World, Memory, prints_in, ArePrints, counts_by, Line, Text, StableState, Pick, stable, Parts, view_with, memory_of, go_on, state, pairs_view, StoreView, Setup, Chance, Reads, Deed, served, Alone, IsServed, IsLookedOver, Moment, lines_at, Task, when_of, Standing, Stands, HasCounts, ActsNext, IsStepTo, WorkId, ◌*◌, Server, Counts, page_count, LeavesClean, IsCalm, IsClean, IsWholePage, Step, Cleans, plain, IsScrubbed, IsCalled, Printed, text_shown, texts_shown, HasPrints, shown}
 use Rattle.std.specs.Prelude.{◌<◌}
 use Rattle.jn_store.specs.DeviceCalls.{put_calls, cleaned_get_calls}
 use Rattle.jn_stands.proofs.Moving.{device-here}
@@ -8,11 +8,9 @@ use Rattle.jn_system_reports.specs.Reporting.Printing.{text_printed}
 use Rattle.jn_schedule.specs.declared.Event.TheVariants as events
 use Rattle.jn_server.specs.declared.show.Shown.{Shown}
 use Rattle.jn_server.specs.Showing.{print_of}
-use Rattle.jn_stands.specs.Showing.{text_shown, texts_shown}
 use Rattle.jn_stands.proofs.Posted.{lines-in-two}
-use Rattle.jn_stands.proofs.Printed.{prints-all}
 use Rattle.jn_stands.proofs.Moving.{does-next, led-to, net-quiet, devices-now, device-there, moved-step}
-use Rattle.jn_stands.proofs.Idle.{here, idling, calling, done-alone, stopping, after-stop, stopped-alone, stop-carries}
+use Rattle.jn_stands.proofs.Idle.{here, finding, idling, calling, done-alone, stopping, after-stop, stopped-alone, stop-carries}
 use Rattle.jn_stands.proofs.Left.{leaves-from}
 
 shown-texts : (q : ServerNo) (list : List Shown) → map (text_printed q) (map print_of list) ≡ map (text_shown q) list
@@ -32,8 +30,8 @@ module _ {S : Type 0} (look : S → StoreView) (device : S → DeviceState) (see
     mem = memory_of (view_with look p)
 
     called : (calls : ℕ) (told : List Outside) (stop : Option (Pick → ℕ)) (power : Bool) (e : DeviceState) → is_some stop ≡ not power → IsSpent calls told power (device p.storage.0) e
-        → IsServed (x.counts q) calls (idling look device seen x w m stand q place at p is told stop []) world q (m.devices q) (devices-now look device x w m stand seen q place at e q)
-    called calls told stop power e stops spent = record { memory = mem; up = let h = here look device seen x w m stand q place at p is told in h.0; free = refl; called = calling look device seen x w m stand q place at p is told calls stop [] power e stops spent }
+        → IsServed (x.counts q) calls (idling look device seen x w m stand q place at p is told stop) world q (m.devices q) (devices-now look device x w m stand seen q place at e q)
+    called calls told stop power e stops spent = record { memory = mem; up = let h = here look device seen x w m stand q place at p is told in h.0; free = refl; called = calling look device seen x w m stand q place at p is told calls _ stop power e stops spent }
 
     its-counts : x.counts q ≡ counts_by place.counts
     its-counts = let there = stand.places q.0 place at in there.counts
@@ -54,10 +52,10 @@ module _ {S : Type 0} (look : S → StoreView) (device : S → DeviceState) (see
     -- what a scrub leaves, done or stopped
     cleaned : (told : List Outside) (stop : Option (Pick → ℕ)) (power : Bool) (t : S) → is_some stop ≡ not power → IsSpent (put_calls * (look p.storage.0).count) told power (device p.storage.0) (device t)
         → (stop ≡ None → (i : ℕ) → i < (look p.storage.0).count → IsClean (look t) i) → (stop ≡ None → IsCalm (look p.storage.0) → (i : ℕ) → i < (look p.storage.0).count → IsWholePage (look t) i)
-        → Alone q (IsScrubbed (x.counts q) (idling look device seen x w m stand q place at p is told stop []) world q) m.devices (devices-now look device x w m stand seen q place at (device t))
+        → Alone q (IsScrubbed (x.counts q) (idling look device seen x w m stand q place at p is told stop) world q) m.devices (devices-now look device x w m stand seen q place at (device t))
     cleaned told stop power t stops spent clean whole = record {
       its = record {
-        served = subst (λ (n : ℕ). IsServed (x.counts q) (put_calls * n) (idling look device seen x w m stand q place at p is told stop []) world q (m.devices q) (devices-now look device x w m stand seen q place at (device t) q)) size-is
+        served = subst (λ (n : ℕ). IsServed (x.counts q) (put_calls * n) (idling look device seen x w m stand q place at p is told stop) world q (m.devices q) (devices-now look device x w m stand seen q place at (device t) q)) size-is
             (called (put_calls * (look p.storage.0).count) told stop power (device t) stops spent);
         clean = λ none i below. subst (λ (v : StoreView). IsClean v i) now-is (clean none i (subst (λ (n : ℕ). i < n) (sym size-is) below));
         whole = λ none calm i below. subst (λ (v : StoreView). IsWholePage v i) now-is (whole none (subst (λ (v : StoreView). IsCalm v) (ap (λ (d : DeviceState). pairs_view d) device-was ∙ sym (seen p.storage.0)) calm) i (subst (λ (n : ℕ). i < n) (sym size-is) below));
@@ -76,10 +74,10 @@ module _ {S : Type 0} (look : S → StoreView) (device : S → DeviceState) (see
     scrub-done : (told : List Outside) (p' : Parts S) → IsDoneAt look device (put_calls * (look p.storage.0).count) told (idle_row mem) p p' → HasCounts look q (counts_by place.counts) (Up p') → KeepsRubbish (view_with look p) (view_with look p')
         → LeavesClean (view_with look p) (view_with look p') → ActsNext x m (events.Scrub q) more
         → IsStepTo look device x m (more ++ drop 1 m.state.tasks) (standing (Up p')) lines (lines ++ lines_at (when_of m.state) (texts_of_step q told true))
-    scrub-done told p' e counts kept clean next = moved-step look device x w m stand seen q place at (idling look device seen x w m stand q place at p is told None []) (λ r. refl) (record (scrubs []) { tasks = more })
-        (does-next x m (events.Scrub q) more next (idling look device seen x w m stand q place at p is told None []) (λ r. refl) (scrubs []) refl) refl
+    scrub-done told p' e counts kept clean next = moved-step look device x w m stand seen q place at (idling look device seen x w m stand q place at p is told None) (λ r. refl) (record (scrubs []) { tasks = more })
+        (does-next x m (events.Scrub q) more next (idling look device seen x w m stand q place at p is told None) (λ r. refl) (scrubs []) refl) refl
         (Up p') (device p'.storage.0) [] w.named w.commits
-        (done-alone look device seen x w m stand q place at p is told _ p' e counts (led-to x m (idling look device seen x w m stand q place at p is told None []) (record (scrubs []) { tasks = more }) (devices-now look device x w m stand seen q place at (device p'.storage.0))) refl refl)
+        (done-alone look device seen x w m stand q place at p is told _ p' e counts (led-to x m (idling look device seen x w m stand q place at p is told None) (record (scrubs []) { tasks = more }) (devices-now look device x w m stand seen q place at (device p'.storage.0))) refl refl)
         refl (record { net = stand.net; named = stand.named; commits = stand.commits }) (sym (append-nil world.lines)) refl tt
         (cleaned told None true p'.storage.0 refl e.spent (λ none. clean.clean) (λ none. clean.whole))
         (λ r o n. refl) (leaves-from look world q [] place.slot (Up p) (Up p') is (ap (λ (names : List WorkId). length names) kept))
@@ -87,12 +85,12 @@ module _ {S : Type 0} (look : S → StoreView) (device : S → DeviceState) (see
 
     scrub-stopped : (told : List Outside) (s : S) → IsStoppedAt look device (counts_by place.counts) (put_calls * (look p.storage.0).count) told (idle_row mem) p s → HasCounts look q (counts_by place.counts) (Down s) → ActsNext x m (events.Scrub q) more
         → IsStepTo look device x m (more ++ drop 1 m.state.tasks) (standing (Down s)) lines (lines ++ lines_at (when_of m.state) (texts_of_step q told false))
-    scrub-stopped told s e counts next = moved-step look device x w m stand seen q place at (idling look device seen x w m stand q place at p is told (Some (λ c. 0)) []) (λ r. refl)
+    scrub-stopped told s e counts next = moved-step look device x w m stand seen q place at (idling look device seen x w m stand q place at p is told (Some (λ c. 0))) (λ r. refl)
         (record (scrubs (stopping look device seen x w m stand q place at p is told ∷ [])) { tasks = more })
-        (does-next x m (events.Scrub q) more next (idling look device seen x w m stand q place at p is told (Some (λ c. 0)) []) (λ r. refl) (scrubs (stopping look device seen x w m stand q place at p is told ∷ [])) refl) refl
+        (does-next x m (events.Scrub q) more next (idling look device seen x w m stand q place at p is told (Some (λ c. 0))) (λ r. refl) (scrubs (stopping look device seen x w m stand q place at p is told ∷ [])) refl) refl
         (Down s) (device s) (says.Stopped q ∷ []) w.named w.commits
         (stopped-alone look device seen x w m stand q place at p is told _ s e counts
-        (led-to x m (idling look device seen x w m stand q place at p is told (Some (λ c. 0)) []) (record (scrubs (stopping look device seen x w m stand q place at p is told ∷ [])) { tasks = more }) (devices-now look device x w m stand seen q place at (device s))) refl refl)
+        (led-to x m (idling look device seen x w m stand q place at p is told (Some (λ c. 0))) (record (scrubs (stopping look device seen x w m stand q place at p is told ∷ [])) { tasks = more }) (devices-now look device x w m stand seen q place at (device s))) refl refl)
         (ap (λ (u : World). u.clients) (after-stop look device seen x w m stand q place at p is told))
         (net-quiet look device x w m stand (go_on (stopping look device seen x w m stand q place at p is told ∷ []) m.state.course) (says.Stopped q ∷ []) (stop-carries look device seen x w m stand q place at p is told)
         (ap (λ (u : World). u.lines) (after-stop look device seen x w m stand q place at p is told)) refl)
@@ -108,16 +106,16 @@ module _ {S : Type 0} (look : S → StoreView) (device : S → DeviceState) (see
     abbrev looks : List Step → Deed
     looks steps = record (plain (Server q) steps) { device = Reads q }
 
-    reading : (told : List Outside) (stop : Option (Pick → ℕ)) (files : List FileNo) (power : Bool) (e : DeviceState) → is_some stop ≡ not power → IsSpent look_calls told power (device p.storage.0) e
-        → (stop ≡ None → AreNames file_eq file_before (λ f. prints_in mem.worker (stable (world.found q)).files (File f)) files)
-        → Alone q (IsLookedOver (x.counts q) (idling look device seen x w m stand q place at p is told stop files) world q) m.devices (devices-now look device x w m stand seen q place at e)
-    reading told stop files power e stops spent names = record {
+    reading : (told : List Outside) (stop : Option (Pick → ℕ)) (prints : List Printed) (power : Bool) (e : DeviceState) → is_some stop ≡ not power → IsSpent look_calls told power (device p.storage.0) e
+        → (stop ≡ None → ArePrints (prints_in mem.worker (stable (world.found q)).files) prints)
+        → Alone q (IsLookedOver (x.counts q) (finding look device seen x w m stand q place at p is told (HasPrints prints) stop) world q) m.devices (devices-now look device x w m stand seen q place at e)
+    reading told stop prints power e stops spent are = record {
       its = record {
         memory = mem;
         up = let h = here look device seen x w m stand q place at p is told in h.0;
-        files = names;
-        called = subst (λ (n : ℕ). IsCalled (cleaned_get_calls * n) (idling look device seen x w m stand q place at p is told stop files) (m.devices q) (devices-now look device x w m stand seen q place at e q)) leaves-are
-            (calling look device seen x w m stand q place at p is told look_calls stop files power e stops spent);
+        prints = are;
+        called = subst (λ (n : ℕ). IsCalled (cleaned_get_calls * n) (finding look device seen x w m stand q place at p is told (HasPrints prints) stop) (m.devices q) (devices-now look device x w m stand seen q place at e q)) leaves-are
+            (calling look device seen x w m stand q place at p is told look_calls (HasPrints prints) stop power e stops spent);
       };
       others = λ r o. device-there look device x w m stand seen q place at e r o;
     }
@@ -130,13 +128,13 @@ module _ {S : Type 0} (look : S → StoreView) (device : S → DeviceState) (see
         (Up p') (device p'.storage.0) [] w.named w.commits
         (done-alone look device seen x w m stand q place at p is told _ p' e counts (led-to x m h (record deed { tasks = more }) (devices-now look device x w m stand seen q place at (device p'.storage.0))) refl refl)
         refl (record { net = stand.net; named = stand.named; commits = stand.commits }) (sym (append-nil world.lines)) refl tt
-        (reading told None prints.files true (device p'.storage.0) refl e.spent
-        (λ z. subst (λ (f : Pick → StableState). AreNames file_eq file_before (λ g. prints_in mem.worker (stable f).files (File g)) prints.files) (sym found-is) prints.are_files))
+        (reading told None (map print_of list) true (device p'.storage.0) refl e.spent
+        (λ z. subst (λ (f : Pick → StableState). ArePrints (prints_in mem.worker (stable f).files) (map print_of list)) (sym found-is) prints))
         (λ r o n. refl) (leaves-from look world q [] place.slot (Up p) (Up p') is (ap (λ (names : List WorkId). length names) kept))
         lines (lines ++ lines_at (when_of m.state) (texts_of_step q told true) ++ lines_at (when_of m.state) (map (text_shown q) list)) (lines-in-two (when_of m.state) lines (texts_of_step q told true) (map (text_shown q) list))
       where
         h : Chance
-        h = idling look device seen x w m stand q place at p is told None prints.files
+        h = finding look device seen x w m stand q place at p is told (HasPrints (map print_of list)) None
 
         deed : Deed
         deed = record (looks []) { texts = map (text_shown q) list }
@@ -147,16 +145,13 @@ module _ {S : Type 0} (look : S → StoreView) (device : S → DeviceState) (see
         found-is : world.found q ≡ (view_with look p).storage.found
         found-is = let at-here = here look device seen x w m stand q place at p is told in at-here.1
 
-        texts-are : shown h q world (world.memory q) None ≡ map (text_shown q) list
-        texts-are = ap (λ (o : Option Memory). shown h q world o None) memory-is
-            ∙ ap (λ (f : Pick → StableState). map (text_printed q) (print_files (prints_in mem.worker (stable f).files) (λ g. blocks_from 0 120) prints.files)) found-is
-            ∙ ap (map (text_printed q)) (sym (prints-all mem.worker (state (view_with look p).storage).files 120 below (map print_of list) prints))
-            ∙ shown-texts q list
+        texts-are : shown q (map print_of list) None ≡ map (text_shown q) list
+        texts-are = shown-texts q list
 
     show-stopped : (told : List Outside) (s : S) → IsStoppedAt look device (counts_by place.counts) look_calls told (idle_row mem) p s → HasCounts look q (counts_by place.counts) (Down s) → ActsNext x m (events.Show q) more
         → IsStepTo look device x m (more ++ drop 1 m.state.tasks) (standing (Down s)) lines (lines ++ lines_at (when_of m.state) (texts_of_step q told false))
     show-stopped told s e counts next = moved-step look device x w m stand seen q place at h (λ r. refl) (record deed { tasks = more })
-        (does-next x m (events.Show q) more next h (λ r. refl) deed (ap (λ (o : Option Memory). record (looks (stopping look device seen x w m stand q place at p is told ∷ [])) { texts = shown h q world o (Some (λ c. 0)) }) memory-is)) refl
+        (does-next x m (events.Show q) more next h (λ r. refl) deed refl) refl
         (Down s) (device s) (says.Stopped q ∷ []) w.named w.commits
         (stopped-alone look device seen x w m stand q place at p is told _ s e counts (led-to x m h (record deed { tasks = more }) (devices-now look device x w m stand seen q place at (device s))) refl refl)
         (ap (λ (u : World). u.clients) (after-stop look device seen x w m stand q place at p is told))
@@ -167,7 +162,7 @@ module _ {S : Type 0} (look : S → StoreView) (device : S → DeviceState) (see
         lines (lines ++ lines_at (when_of m.state) (texts_of_step q told false)) (ap (λ (ts : List Text). lines ++ lines_at (when_of m.state) ts) (sym (append-nil (texts_of_step q told false))))
       where
         h : Chance
-        h = idling look device seen x w m stand q place at p is told (Some (λ c. 0)) []
+        h = finding look device seen x w m stand q place at p is told (HasPrints []) (Some (λ c. 0))
 
         deed : Deed
         deed = looks (stopping look device seen x w m stand q place at p is told ∷ [])

@@ -1,5 +1,6 @@
 -- A server comes up, or is stopped while it does.
-use Rattle.jn_stands.proofs.Common.{◌≡◌, ◌<◌, ℕ, ◌+◌, Bool, true, false, not, List, [], ◌∷◌, ◌++◌, append-nil, drop, length, map, slice_get, slice_set, Option, Some, None, is_some, refl, sym, ◌∙◌, ap, subst, arith, ◌||◌, if◌then◌else◌, nat_eq, fun_ext, nat_tests, ServerNo, Tid, WorkId, Outside, tid_eq, work_eq, DeviceState, powered_off, found_on, with_epoch, Place, Slot, Up, Down, IsTried, IsUpAt, texts_of_step, World, Memory, commits_in, has_line, restored, named_now, Restart, AreNames, tid_before, restart, restart_with, counts_by, Line, Text, StableState, Pick, Parts, go_on, pairs_view, StoreView, Setup, Chance, Deed, recovered, last_epoch, is_used_up, IsRecovery, rubbish_on, Moment, lines_at, when_of, names_told, HasCounts, Standing, StandsAt, Stands, with_named, IsStepTo, left_by_restart, left_by_step, Counts}
+use Rattle.jn_stands.proofs.Common.{◌≡◌, ◌<◌, ℕ, ◌+◌, Bool, true, false, not, List, [], ◌∷◌, ◌++◌, append-nil, drop, length, map, slice_get, slice_set, Option, Some, None, is_some, refl, sym, ◌∙◌, ap, subst, arith, ◌||◌, if◌then◌else◌, nat_eq, fun_ext, nat_tests, ServerNo, Tid, WorkId, Outside, tid_eq, work_eq, DeviceState, powered_off, found_on, with_epoch, Place, Slot, Up, Down, IsTried, IsUpAt, texts_of_step, World, Memory, commits_in, has_line, restored, named_now, Restart, AreNames, tid_before, restart, restart_with, counts_by, Line, Text, StableState, Pick, Parts, go_on, pairs_view, StoreView, Setup, Chance, Deed, recovered, last_epoch, is_used_up, IsRecovery, rubbish_on, Moment, lines_at, when_of, names_told, HasCounts, Standing, StandsAt, Stands, with_named, IsStepTo, left_by_restart, left_by_step, Counts, Recovered}
+use Rattle.jn_found.specs.Puts.{IsFrontClean, IsFrontWhole}
 use Rattle.jn_locks.specs.Locks.{work_before}
 use Rattle.jn_report.specs.declared.line.Text.TheVariants as says
 use Rattle.jn_stands.proofs.Naming.{told-names}
@@ -8,13 +9,16 @@ use Rattle.jn_stands.proofs.Moving.{same-server, carries-on, Does, net-named, de
 use Rattle.jn_stands.proofs.Left.{counted, leaves-from}
 
 -- what a restart tells its device
-pub recovery : (g : Counts) (h : Chance) (up : Bool) (told : List Outside) (power : Bool) (d e f : DeviceState) → h.told ≡ told → is_some h.stop ≡ not power → IsTried g told power d e → f ≡ (if up then e else powered_off e) → IsRecovery g h up d f
-recovery g h up told power d e f told-is stop tried f-is = record {
+pub recovery : (g : Counts) (h : Chance) (up : Bool) (told : List Outside) (power : Bool) (d e f : DeviceState) → h.told ≡ told → is_some h.stop ≡ not power → IsTried g told power d e → f ≡ (if up then e else powered_off e)
+    → (up ≡ true → IsFrontClean g (pairs_view f)) → (up ≡ true → d.waiting ≡ [] → IsFrontWhole g (pairs_view f)) → IsRecovery g h up d f
+recovery g h up told power d e f told-is stop tried f-is front whole = record {
   powered = tried.powered;
   last = e;
   power = tried.up;
   called = record { last = tried.spent.last; happens = tried.spent.happens; few = tried.spent.few; whole = tried.spent.whole; told = told-is ∙ tried.spent.told_is; stop = stop ∙ ap not (sym tried.spent.power_is); after = tried.spent.after };
   after = f-is;
+  front = front;
+  front_whole = whole;
 }
 
 module _ {S : Type 0} (look : S → StoreView) (device : S → DeviceState) (seen : (s : S) → look s ≡ pairs_view (device s)) (x : Setup) (w : Standing S) (m : Moment) (stand : Stands look device x w m)
@@ -33,7 +37,7 @@ module _ {S : Type 0} (look : S → StoreView) (device : S → DeviceState) (see
   old = found_on (counts_by place.counts) (look s)
 
   abbrev pub trying : (Pick → Pick) → Option (Pick → ℕ) → List WorkId → List Tid → Chance
-  trying finds stop works tids = record { free = record { records = 0; heads = 0; pages = 0 }; rubbish = rubbish_on x m.devices; stop = stop; told = told; allows = true; finds = finds; works = works; tids = tids; files = [] }
+  trying finds stop works tids = record { rubbish = rubbish_on x m.devices; found = Recovered finds works tids; stop = stop; told = told }
 
   -- ---- it comes up
 
@@ -89,7 +93,9 @@ module _ {S : Type 0} (look : S → StoreView) (device : S → DeviceState) (see
           its = subst (λ (o : Option Memory). IsRecovery (x.counts q) up-chance (is_some o) (m.devices q) (devices-now look device x w m stand seen q place at (device p.storage.0) q))
               (sym (ap (λ (u : World). u.memory q) after-up ∙ ap (λ (b : Bool). if b then Some (restored q (old up.pick) up.works tids) else world.memory q) (same-server q)))
               (recovery (x.counts q) up-chance true told true (m.devices q) (device p.storage.0) (devices-now look device x w m stand seen q place at (device p.storage.0) q) refl refl
-              (subst (λ (d : DeviceState). IsTried (x.counts q) told true d (device p.storage.0)) (sym here.2) (subst (λ (g : Counts). IsTried g told true (device s) (device p.storage.0)) (sym its-counts) up.tried)) (device-here look device x w m stand seen q place at (device p.storage.0)));
+              (subst (λ (d : DeviceState). IsTried (x.counts q) told true d (device p.storage.0)) (sym here.2) (subst (λ (g : Counts). IsTried g told true (device s) (device p.storage.0)) (sym its-counts) up.tried)) (device-here look device x w m stand seen q place at (device p.storage.0))
+              (λ e. subst (λ (v : StoreView). IsFrontClean (x.counts q) v) now-is (subst (λ (g : Counts). IsFrontClean g (look p.storage.0)) (sym its-counts) up.front))
+              (λ e quiet. subst (λ (v : StoreView). IsFrontWhole (x.counts q) v) now-is (subst (λ (g : Counts). IsFrontWhole g (look p.storage.0)) (sym its-counts) (up.front_whole (ap (λ (d : DeviceState). d.waiting) (sym here.2) ∙ quiet)))));
           others = λ r o. device-there look device x w m stand seen q place at (device p.storage.0) r o;
         })
         (λ r o n. ap (λ (b : Bool). if b then left_by_restart (world.memory r) n else n) o)
@@ -97,6 +103,9 @@ module _ {S : Type 0} (look : S → StoreView) (device : S → DeviceState) (see
         lines lines' (lines-are ∙ ap (λ (ts : List Text). lines ++ lines_at (when_of m.state) (texts_of_step q told true) ++ lines_at (when_of m.state) (says.Up q epoch ∷ ts)) names-are
         ∙ lines-in-two (when_of m.state) lines (texts_of_step q told true) own ∙ ap (λ (ts : List Text). lines ++ lines_at (when_of m.state) ts) (texts own)))
       where
+        now-is : look p.storage.0 ≡ pairs_view (devices-now look device x w m stand seen q place at (device p.storage.0) q)
+        now-is = seen p.storage.0 ∙ ap (λ (d : DeviceState). pairs_view d) (sym (device-here look device x w m stand seen q place at (device p.storage.0)))
+
         none-left : (n : ℕ) → counted look p ≡ left_by_step world q (Restart q up.pick up.works tids) n
         none-left n = ap (λ (names : List WorkId). length names) up.clean
             ∙ sym (ap (λ (b : Bool). if b then left_by_restart (world.memory q) n else n) (same-server q) ∙ ap (λ (o : Option Memory). left_by_restart o n) here.0)

@@ -8,7 +8,7 @@ ghost use Rattle.jn_device.specs.Events.{Decays, Revives, Arms};
 ghost use Rattle.jn_place.specs.declared.place.Place.{Place};
 ghost use Rattle.jn_place.specs.declared.place.Slot.{Slot};
 ghost use Rattle.jn_place.specs.Exact.{Befell, WhereUp, KeepsRubbish};
-ghost use Rattle.jn_recovery.specs.Loading.{counts_by};
+ghost use Rattle.jn_recovery.specs.Counts.{counts_by};
 ghost use Rattle.jn_report.specs.declared.line.EventRefusal.TheVariants.{TooManyArmed};
 ghost use Rattle.jn_report.specs.declared.line.Line.{Line};
 ghost use Rattle.jn_report.specs.declared.line.Text.TheVariants as says;

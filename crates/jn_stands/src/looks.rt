@@ -7,7 +7,7 @@ ghost use Rattle.jn_place.specs.declared.place.Slot.{Slot};
 ghost use Rattle.jn_place.specs.Exact.{ScrubbedBy, Showed, Closed, WhereUp, KeepsRubbish, LeavesClean};
 ghost use Rattle.jn_place.specs.Places.{is_up};
 ghost use Rattle.jn_system.specs.WholeSystem.Steps.{IsIdle};
-ghost use Rattle.jn_recovery.specs.Loading.{counts_by};
+ghost use Rattle.jn_recovery.specs.Counts.{counts_by};
 ghost use Rattle.jn_report.specs.declared.line.Line.{Line};
 ghost use Rattle.jn_rows.specs.Client.{ClientTable};
 ghost use Rattle.jn_schedule.specs.declared.Event.TheVariants as events;

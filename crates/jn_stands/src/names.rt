@@ -14,8 +14,8 @@ ghost use Rattle.jn_system.specs.WholeSystem.Steps.{are_rising, tid_before};
 ghost use Rattle.jn_system.specs.WholeSystem.World.{has_line};
 ghost use Rattle.jn_report.specs.declared.line.Text.{Text};
 ghost use Rattle.jn_rows.specs.Worker.{WorkerTable};
-ghost use Rattle.jn_written.specs.Deeds.{blocks_from};
 ghost use Rattle.jn_stands.specs.Naming.{named_by, names_told};
+ghost use Rattle.jn_stands.specs.Showing.{blocks_from};
 
 /// A loop over rising names that names each one that isn't named yet tells what a restart of the system tells, and then these are named
 /// besides.

@@ -7,7 +7,7 @@ ghost use Rattle.jn_place.specs.declared.place.Restarted.{Restarted};
 ghost use Rattle.jn_place.specs.declared.place.Slot.{Slot};
 ghost use Rattle.jn_place.specs.Exact.{Crashed, IsRestart};
 ghost use Rattle.jn_place.specs.Places.{is_up};
-ghost use Rattle.jn_recovery.specs.Loading.{counts_by};
+ghost use Rattle.jn_recovery.specs.Counts.{counts_by};
 ghost use Rattle.jn_report.specs.declared.line.Line.{Line};
 ghost use Rattle.jn_report.specs.declared.line.Text.TheVariants as says;
 ghost use Rattle.jn_schedule.specs.declared.Event.TheVariants as events;

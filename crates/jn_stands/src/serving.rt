@@ -11,7 +11,7 @@ ghost use Rattle.jn_place.specs.declared.place.Place.{Place};
 ghost use Rattle.jn_place.specs.declared.place.Slot.{Slot};
 ghost use Rattle.jn_place.specs.declared.place.Slot.TheVariants.{Down};
 ghost use Rattle.jn_place.specs.Exact.{Took, WorkedBy, AsksAgain, TimedOut, has_work_at, WhereUp, TakeLeaves, WorkLeaves};
-ghost use Rattle.jn_recovery.specs.Loading.{counts_by};
+ghost use Rattle.jn_recovery.specs.Counts.{counts_by};
 ghost use Rattle.jn_report.specs.declared.line.Text.TheVariants as says;
 ghost use Rattle.jn_report.specs.declared.line.Line.{Line};
 ghost use Rattle.jn_schedule.specs.declared.Event.TheVariants as events;

@@ -5,7 +5,7 @@ ghost use Rattle.jn_base.specs.declared.names.ServerNo.{ServerNo};
 ghost use Rattle.jn_net.specs.Carried.{waiting};
 ghost use Rattle.jn_place.specs.declared.place.Place.{Place};
 ghost use Rattle.jn_place.specs.Exact.{has_work_at};
-ghost use Rattle.jn_recovery.specs.Loading.{counts_by};
+ghost use Rattle.jn_recovery.specs.Counts.{counts_by};
 ghost use Rattle.jn_report.specs.declared.line.Line.{Line};
 ghost use Rattle.jn_schedule.specs.declared.Event.TheVariants as events;
 ghost use Rattle.jn_written.specs.Chances.{Setup};

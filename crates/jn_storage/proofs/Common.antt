@@ -6,7 +6,7 @@ pub use Rattle.std.specs.List.{list_all}
 pub use Rattle.jn_base.specs.declared.names.FileNo.{FileNo}
 pub use Rattle.jn_base.specs.declared.names.LockUnit.{LockUnit}
 pub use Rattle.jn_base.specs.declared.names.LockUnit.TheVariants.{File, Block}
-pub use Rattle.jn_base.specs.Names.{file_eq, tid_eq, work_eq}
+pub use Rattle.jn_base.specs.Names.{file_eq, unit_eq, tid_eq, work_eq}
 pub use Rattle.jn_order.specs.Files.{Files, change, answer_to, file_of}
 unfoldable pub use Rattle.jn_order.specs.Files.{zeros}
 pub use Rattle.jn_records.specs.declared.intention.What.{What}
@@ -15,9 +15,8 @@ pub use Rattle.jn_records.specs.declared.intention.Intention.{Intention}
 pub use Rattle.jn_records.specs.NetLists.{intention_change, intention_place, in_order, entry, is_fresh, needs_a_head, first_by, as_first, net_of, is_put, list_change, answered, block_of}
 pub use Rattle.jn_locks.specs.declared.words.Mode.{Mode}
 pub use Rattle.jn_locks.specs.declared.words.Mode.TheVariants.{Read, Commit, IntentionWrite}
-pub use Rattle.jn_locks.specs.Locks.{unit_eq, together, is_unit}
-pub use Rattle.jn_locks.specs.Asked.{rebuilt}
-pub use Rattle.jn_storage.specs.Orderly.{unit_of, IsOrderly, IsPrepared, IsGiven, GoTogether, unit_by, held_by, needs_file, first_of}
-pub use Rattle.jn_storage.specs.Storage.{file_there, needed, intentions, list_of, StorageView, StorageLater, IsLoadable, IsServing}
+pub use Rattle.jn_locks.specs.Locks.{together, rebuilt, is_unit}
+pub use Rattle.jn_storage.specs.Orderly.{unit_of, file_there, IsOrderly, IsPrepared, IsGiven, GoTogether, unit_by, held_by, needs_file, first_of, needed, intentions, list_of, IsLoadable}
 pub use Rattle.jn_rows.specs.Stable.{StableState, Prepared, MarkGoing, CarryOut, RemoveWork, AddFlag, DropFlag, made_by, at_work, gone_on, Pick}
+pub use Rattle.jn_storage.specs.Storage.{StorageView, StorageLater, IsServing}
 pub use Rattle.jn_storage.specs.Calls.{state, Called}

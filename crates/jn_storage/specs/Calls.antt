@@ -28,8 +28,8 @@ use Rattle.jn_storage.specs.declared.faults.PrepareFault.TheVariants.{Records, P
 use Rattle.jn_storage.specs.declared.faults.PromiseFault.{PromiseFault}
 use Rattle.jn_storage.specs.declared.faults.PromiseFault.TheVariants.{Short as Shortage}
 use Rattle.jn_storage.specs.Listing.{is_in, IsListing, AtMost}
-use Rattle.jn_storage.specs.Orderly.{IsOrderly, IsGiven}
-use Rattle.jn_storage.specs.Storage.{Accounts, StorageView, StorageLater, IsLoadable, IsServing, file_there, is_stored, needed, list_of}
+use Rattle.jn_storage.specs.Orderly.{IsOrderly, IsGiven, file_there, needed, list_of, IsLoadable}
+use Rattle.jn_storage.specs.Storage.{Accounts, StorageView, StorageLater, IsServing, is_stored}
 use Rattle.jn_storage.specs.DeviceCalls.{prepare_calls, step_calls}
 
 -- the state, while no call has been stopped

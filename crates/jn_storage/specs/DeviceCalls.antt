@@ -8,3 +8,7 @@ step_calls = 40
 -- a preparation: for each intention a data page and a record are put, and then the ready record
 abbrev pub prepare_calls : ℕ
 prepare_calls = 784
+
+-- how many calls of the device a message, or the clients' dismissal, makes at most: 16 for the flag of each of 64 transactions
+abbrev pub row_calls : ℕ
+row_calls = 1024

@@ -1,5 +1,5 @@
 -- What holds of the stable state of a server at every moment, and what a recovery may ask of it.
-use Rattle.std.specs.Prelude.{◌≡◌, ◌≢◌, ◌≤◌, ℕ, Bool, true, false, not, nat_lt, ◌&&◌, ◌||◌, List, map, length, Some, None, is_some}
+use Rattle.std.specs.Prelude.{◌≡◌, ◌≢◌, ◌≤◌, ℕ, zero, Bool, true, false, not, nat_lt, ◌&&◌, ◌||◌, List, map, length, Some, None, is_some, Option, ◌+◌, []}
 use Rattle.std.specs.List.{list_all}
 use Rattle.jn_base.specs.declared.names.ServerNo.{ServerNo}
 use Rattle.jn_base.specs.declared.names.FileNo.{FileNo}
@@ -8,20 +8,19 @@ use Rattle.jn_base.specs.declared.names.LockUnit.{LockUnit}
 use Rattle.jn_base.specs.declared.names.LockUnit.TheVariants.{File, Block}
 use Rattle.jn_base.specs.declared.names.Tid.{Tid}
 use Rattle.jn_base.specs.declared.names.WorkId.{WorkId}
-use Rattle.jn_base.specs.Names.{tid_eq, work_eq}
+use Rattle.jn_base.specs.Names.{tid_eq, work_eq, file_eq}
 use Rattle.jn_base.specs.Limits.{most_blocks, most_intentions, most_reads, most_works, most_transactions}
 use Rattle.jn_order.specs.Files.{Files}
 use Rattle.jn_records.specs.Records.{ascends}
 use Rattle.jn_records.specs.declared.intention.Intention.{Intention}
 use Rattle.jn_records.specs.declared.intention.What.{What}
 use Rattle.jn_records.specs.declared.intention.What.TheVariants.{Put}
-use Rattle.jn_records.specs.NetLists.{InOrder, First, Kept, TakenAway, CutFrom, net_of, is_put}
+use Rattle.jn_records.specs.NetLists.{InOrder, First, Kept, TakenAway, CutFrom, as_first, entry, is_put, need_of}
 use Rattle.jn_locks.specs.declared.words.Mode.{Mode}
-use Rattle.jn_locks.specs.Locks.{Wants, together}
-use Rattle.jn_locks.specs.Asked.{rebuilt}
-use Rattle.jn_locks.specs.Locks.{is_unit}
+use Rattle.jn_locks.specs.Locks.{Wants, together, is_unit, rebuilt}
 use Rattle.jn_rows.specs.Stable.{StableState, Prepared}
-use Rattle.jn_storage.specs.Listing.{AtMost}
+use Rattle.jn_storage.specs.Listing.{AtMost, IsListing, total}
+use Rattle.jn_records.specs.declared.net_list.Need.{Need}
 
 -- ---- one prepared work
 
@@ -52,7 +51,7 @@ takes_away TakenAway = true
 takes_away _ = false
 
 abbrev pub first_of : List Intention → Intention → First
-first_of list i = (net_of list i.file).first
+first_of list i = as_first (entry list i.file zero)
 
 -- a prepared work with this list and these read units, over these files
 pub record IsPrepared (files : Files) (list : List Intention) (reads : List LockUnit) : Type 0 where
@@ -82,8 +81,7 @@ pub record IsGiven (server : ServerNo) (epoch : ℕ) (of : ServerNo) (at : ℕ) 
 abbrev pub GoTogether : Prepared → Prepared → Type 0
 GoTogether p q = (u : LockUnit) (m n : Mode) → held_by p u m ≡ true → held_by q u n ≡ true → together m n ≡ true
 
--- What a recovery asks of the state, apart from what is free. The names of works and flags differ, since
--- the state is a function of them.
+-- What a recovery asks of the state, apart from what is free.
 pub record IsOrderly (server : ServerNo) (x : StableState) : Type 0 where
   pub works_few : AtMost most_works work_eq (λ w. is_some (x.works w))
   pub flags_few : AtMost most_transactions tid_eq (λ t. is_some (x.flags t))
@@ -91,3 +89,27 @@ pub record IsOrderly (server : ServerNo) (x : StableState) : Type 0 where
   pub flags_given : (t : Tid) → is_some (x.flags t) ≡ true → IsGiven server x.epoch t.server t.epoch
   pub prepared : (w : WorkId) (p : Prepared) → x.works w ≡ Some p → IsPrepared x.files p.list p.reads
   pub apart : (v w : WorkId) (p q : Prepared) → v ≢ w → x.works v ≡ Some p → x.works w ≡ Some q → GoTogether p q
+
+abbrev pub file_there : Files → FileNo → Bool
+file_there files f = is_some (files (File f))
+
+-- what a list needs where it is prepared
+abbrev pub needed : StableState → List Intention → Need
+needed x list = need_of list (file_there x.files)
+
+-- the intentions of a prepared work
+abbrev pub intentions : Option Prepared → List Intention
+intentions None = []
+intentions (Some p) = p.list
+
+abbrev pub list_of : StableState → WorkId → List Intention
+list_of x w = intentions (x.works w)
+
+-- So many heads are enough for the files that are there and for those that prepared works will make.
+pub record IsLoadable (server : ServerNo) (heads : ℕ) (x : StableState) : Type 0 where
+  pub orderly : IsOrderly server x
+  pub works : List WorkId
+  pub files : List FileNo
+  pub works_all : IsListing work_eq (λ w. is_some (x.works w)) works
+  pub files_all : IsListing file_eq (file_there x.files) files
+  pub fits : length files + total (λ w. (needed x (list_of x w)).heads) works ≤ heads

@@ -1,21 +1,17 @@
 -- What the layers above see of a server's storage.
-use Rattle.std.specs.Prelude.{◌≡◌, ◌≤◌, ◌+◌, ℕ, Bool, true, false, List, [], length, Option, Some, None, is_some}
+use Rattle.std.specs.Prelude.{◌≡◌, ◌≤◌, ◌+◌, ℕ, Bool, true, false, List, [], length, is_some}
 use Rattle.jn_base.specs.declared.names.ServerNo.{ServerNo}
 use Rattle.jn_base.specs.declared.names.FileNo.{FileNo}
 use Rattle.jn_base.specs.declared.names.LockUnit.{LockUnit}
 use Rattle.jn_base.specs.declared.names.LockUnit.TheVariants.{File, Block}
 use Rattle.jn_base.specs.declared.names.Tid.{Tid}
 use Rattle.jn_base.specs.declared.names.WorkId.{WorkId}
-use Rattle.jn_base.specs.Names.{file_eq, tid_eq, work_eq}
+use Rattle.jn_base.specs.Names.{file_eq, tid_eq, work_eq, unit_eq}
 use Rattle.jn_order.specs.Files.{Files}
-use Rattle.jn_records.specs.declared.intention.Intention.{Intention}
-use Rattle.jn_records.specs.declared.net_list.Need.{Need}
-use Rattle.jn_records.specs.NetLists.{need_of}
-use Rattle.jn_locks.specs.Locks.{unit_eq}
 use Rattle.jn_store.specs.Store.{StoreView, StoreLater}
-use Rattle.jn_rows.specs.Stable.{StableState, Prepared, Pick, stable, IsUp}
+use Rattle.jn_rows.specs.Stable.{StableState, Pick, stable, IsUp}
 use Rattle.jn_storage.specs.Listing.{IsListing, total}
-use Rattle.jn_storage.specs.Orderly.{IsOrderly}
+use Rattle.jn_storage.specs.Orderly.{IsOrderly, file_there, needed, list_of}
 
 -- what is free and promised, what is rubbish, and how far works were carried out
 pub record Accounts : Type 0 where
@@ -53,25 +49,10 @@ pub record StorageLater (v w : StorageView) : Type 0 where
   pub leaves : w.accounts.leaves ≡ v.accounts.leaves
   pub store : StoreLater v.store w.store
 
-abbrev pub file_there : Files → FileNo → Bool
-file_there files f = is_some (files (File f))
-
 -- whether a register is that of a stored block
 abbrev pub is_stored : Files → LockUnit → Bool
 is_stored files (File f) = false
 is_stored files (Block f p) = is_some (files (Block f p))
-
--- what a list needs where it is prepared
-abbrev pub needed : StableState → List Intention → Need
-needed x list = need_of list (file_there x.files)
-
--- the intentions of a prepared work
-abbrev pub intentions : Option Prepared → List Intention
-intentions None = []
-intentions (Some p) = p.list
-
-abbrev pub list_of : StableState → WorkId → List Intention
-list_of x w = intentions (x.works w)
 
 -- Everything is counted. No number is of anything else: what isn't in use is free.
 pub record IsCounted (x : StableState) (a : Accounts) : Type 0 where
@@ -90,16 +71,6 @@ pub record IsCounted (x : StableState) (a : Accounts) : Type 0 where
   pub pages : a.free_pages + length blocks + total a.held works ≡ a.leaves
   -- the promise of a work is its need of heads by the files as they are now
   pub promises : a.promised_heads ≡ total (λ w. (needed x (list_of x w)).heads) works
-
--- What a recovery asks of a state that it may find: it is orderly, and so many heads are enough for the files
--- that are there and for those that prepared works will make.
-pub record IsLoadable (server : ServerNo) (heads : ℕ) (x : StableState) : Type 0 where
-  pub orderly : IsOrderly server x
-  pub works : List WorkId
-  pub files : List FileNo
-  pub works_all : IsListing work_eq (λ w. is_some (x.works w)) works
-  pub files_all : IsListing file_eq (file_there x.files) files
-  pub fits : length files + total (λ w. (needed x (list_of x w)).heads) works ≤ heads
 
 -- between two calls, none of which was stopped
 pub record IsServing (v : StorageView) : Type 0 where

@@ -3,7 +3,8 @@ ghost use Rattle.std.specs.Prelude.{◌≡◌, ◌<◌, ◌+◌, ◌^◌, length
 ghost use Rattle.jn_base.specs.Limits.{most_blocks};
 ghost use Rattle.jn_order.specs.Files.{file_of, zeros};
 ghost use Rattle.jn_records.specs.NetLists.{needs_a_head, block_of};
-ghost use Rattle.jn_storage.specs.Storage.{IsServing, file_there, needed};
+ghost use Rattle.jn_storage.specs.Storage.{IsServing};
+ghost use Rattle.jn_storage.specs.Orderly.{file_there, needed};
 ghost use Rattle.jn_storage.specs.Calls.{state};
 ghost use Rattle.jn_storage.specs.Viewing.{BlockInRange, Viewed, ReadOrZeros};
 

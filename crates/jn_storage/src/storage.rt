@@ -2,7 +2,8 @@
 ghost use Rattle.std.specs.Prelude.{◌≡◌, ◌<◌, is_ok, is_some};
 ghost use Rattle.jn_base.specs.declared.names.LockUnit.TheVariants.{File, Block};
 ghost use Rattle.jn_base.specs.Limits.{most_blocks};
-ghost use Rattle.jn_storage.specs.Storage.{StorageView, IsServing, file_there};
+ghost use Rattle.jn_storage.specs.Storage.{StorageView, IsServing};
+ghost use Rattle.jn_storage.specs.Orderly.{file_there};
 ghost use Rattle.jn_storage.specs.Calls.{state, NextFile, BlockRead, TellsWorks, TellsFlags, WorkPrepared, MarkedGoing, StepApplied, WorkRemoved, RecordErased, FlagPromised, PromiseReleased, MayPutFlag, FlagPut, FlagDropped, MayPrepare, IsReady, IsGoing, IsCarriedOut, HasFlag};
 
 use crate::{PrepareFault, PromiseFault};

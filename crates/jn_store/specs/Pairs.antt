@@ -3,13 +3,13 @@ use Rattle.std.specs.Prelude.{ℕ, ◌+◌, ◌/◌, ◌&&◌}
 use Rattle.jn_device.specs.Device.{DeviceState}
 use Rattle.jn_store.specs.Store.{StoreView}
 
-abbrev pub view_at : ℕ → DeviceState → StoreView
-view_at half s = record {
-  count = half;
+abbrev pub pairs_view : DeviceState → StoreView
+pairs_view s = record {
+  count = s.count / 2;
   device = s;
   first = λ i. (s.pages i).bytes;
-  second = λ i. (s.pages (i + half)).bytes;
-  both = λ i. (s.pages i).good && (s.pages (i + half)).good;
+  second = λ i. (s.pages (i + s.count / 2)).bytes;
+  both = λ i. (s.pages i).good && (s.pages (i + s.count / 2)).good;
   power = s.power;
   waiting = s.waiting;
   told = s.told;
@@ -17,6 +17,3 @@ view_at half s = record {
   puts = s.puts;
   stops = s.stops;
 }
-
-abbrev pub pairs_view : DeviceState → StoreView
-pairs_view s = view_at (s.count / 2) s

@@ -16,13 +16,13 @@ pub use Rattle.jn_rows.specs.Outcomes.{RowOutcome, Sent}
 pub use Rattle.jn_rows.specs.Coordinator.{CoordinatorTable, transaction_at, after_closing, changes_of_closing, seen_now, name_from, begin_again, begun_by, begin_row, is_begun, is_work, all_in, close_clients_row, besides, with_work, drops, commits, prepares, committed_to, aborted_to, staged, without, commit_row, abort_row, forget_row, not_known, end_promised, end_stage, end_row, abort_stage, abort_request, told_stage, inquire_row, counted_vote, vote_stage, vote_row, done_stage, done_row, thanks_stage, thanks_row, told_again, coordinator_again, restored_transaction, restored_transactions, with_stage, coordinator_row}
 pub use Rattle.jn_system.specs.SmallSteps.World.{World as Machine, Begun, Knowledge, Unknown, Voting as Notes, Committed as Finishes, Working, replay}
 pub use Rattle.jn_system.specs.SmallSteps.Invariant.{Invariant}
-pub use Rattle.jn_system.specs.SmallSteps.Steps.{Atom, begin_it, run, Count, Make, NoteOver, always, Close, Learn, Decide, after, Lose, lose, crash, Perform, perform, Prepare, NoteReady, open_work, Name, with_epoch, name_it, found_of, Narrow, Restart, narrow, Crash, Crash as Crashes, Narrow as Narrows, RaiseEpoch, opening_world, End as Ends, end_it, run as run_atoms}
+pub use Rattle.jn_system.specs.SmallSteps.Steps.{Atom, begin_it, run, Count, Make, NoteOver, always, Close, Learn, Decide, Lose, lose, crash, Perform, perform, Prepare, NoteReady, open_work, Name, name_it, found_of, Narrow, Restart, narrow, Crash, Crash as Crashes, Narrow as Narrows, RaiseEpoch, opening_world, End as Ends, end_it, run as run_atoms}
 pub use Rattle.jn_system.specs.SmallSteps.Premises.{MayRun, MayBegin, MayCount, MayCarryOut, MayRemove, MayBeOver, MayGoOn, MayLearn, MayPerform, MayPrepare, MayName, MayRestart, May, MayFlag, MayEnd}
 pub use Rattle.jn_system.specs.SmallSteps.Messages.{Says, IsWorkOf, AreWorksOf, IsPartOf, DropSays, VoteSays, OutcomeSays}
 pub use Rattle.jn_system.proofs.SmallSteps.Runs.{run_kept, opening_kept}
 pub use Rattle.jn_system.proofs.SmallSteps.NameLemmas.{fresh_tid}
 pub use Rattle.jn_system.proofs.SmallSteps.Updates.{at_tid_here, not_both, at_tid_other, some_of, some_is, false_unless, at_tid_cases}
-pub use Rattle.jn_system.specs.WholeSystem.World.{World, Memory, at_client, commits_in, committed_in, at_server, has_line, opening, new_memory}
+pub use Rattle.jn_system.specs.WholeSystem.World.{World, Memory, at_client, commits_in, committed_in, at_server, with_epoch, has_line, opening, new_memory}
 pub use Rattle.jn_system.specs.WholeSystem.Servers.{of_coordinator, Room, storage_of, of_worker, line_of, lines_of, server_again, restored, named_now, server_row, of_timeout, server_timeout}
 pub use Rattle.jn_system.specs.WholeSystem.LockFacts.{UpFact, TableFact, IsSoundWork, IsSoundActive, StoredFact, LockFacts, ServerFact, IsSoundPrepared}
 pub use Rattle.jn_system_order.specs.Mirroring.Mirrors.{Mirrors, IsTrue, IsAddressed, AreTransactions, commits_of, knowledge_of, working_of, next_in, is_shown, MovesTo, IsOutstanding, IsClient, AreOpen, IsCurrent, IsStage, IsTransaction, knowledge_in, working_in, active_in, known_in}
@@ -41,8 +41,8 @@ pub use Rattle.jn_system.specs.SmallSteps.FoundStates.{IsPrepared, AllOver, AllR
 pub use Rattle.jn_system.proofs.SmallSteps.TraceLemmas.{take_zero}
 pub use Rattle.jn_system.proofs.WholeSystem.WorkerRows.{going-is, no-lock, no-conflict}
 pub use Rattle.jn_system.proofs.WholeSystem.Restored.{stored-fact, Entry, entry-of, restored-is}
-pub use Rattle.jn_system.proofs.WholeSystem.WorkerCases.{WorkerStep, carries_out, is_over, erases_rubbish, worker-step-case, WorkerCase, none_done, replies_only, opens_anew, refuses_next, performs_next, prepares_it, marks_it, drops_it, removes_it, Replies, is_open_already, votes_against, votes_broken, votes_again, votes_lost, is_done_already, its_answer, its_wants, its_vote, is_ready, worker-case}
-pub use Rattle.jn_system.specs.WholeSystem.Steps.{Step, again, sent_now, done, stopped, AreNames, are_rising, tid_before, restart_with, works, IsStep, commanded, tell, dismiss, Tell, IsRun}
+pub use Rattle.jn_system.proofs.WholeSystem.WorkerCases.{WorkerStep, carries_out, is_over, erases_rubbish, worker-step-case, asked_for, asked_here, WorkerCase, none_done, replies_only, opens_anew, refuses_next, performs_next, prepares_it, marks_it, drops_it, removes_it, Replies, is_open_already, votes_against, votes_broken, votes_again, votes_lost, is_done_already, its_answer, its_wants, its_vote, is_ready, worker-case}
+pub use Rattle.jn_system.specs.WholeSystem.Steps.{Step, again, sent_now, done, stopped, AreNames, are_rising, tid_before, restart_with, works, IsStep, after, commanded, Tell, Dismiss, IsRun}
 pub use Rattle.jn_report.specs.declared.line.Text.{Text}
 pub use Rattle.jn_rows.specs.declared.client.Outstanding.{Outstanding}
 pub use Rattle.jn_rows.specs.declared.client.Taken.{Taken}
@@ -74,6 +74,7 @@ pub use Rattle.jn_system.specs.SmallSteps.Held.{HoldsForCommit, HasRead, file_un
 pub use Rattle.jn_system.specs.SmallSteps.Traces.{Answered, asks, effect_of}
 pub use Rattle.jn_system.proofs.WholeSystem.Rows.{done-keeps, prepared-keeps, by-name}
 pub use Rattle.jn_system.proofs.WholeSystem.Units.{with_units-is, reads-file}
+pub use Rattle.jn_base.specs.declared.names.OperationNo.{OperationNo}
 pub use Rattle.std.specs.List.{list_any, list_all}
 pub use Rattle.std.proofs.lemmas.Bool.Decides.{nat_tests}
 pub use Rattle.jn_system.proofs.SmallSteps.History.{run_told, opening_told, in_order}

@@ -10,10 +10,10 @@ ghost use Rattle.jn_rows.specs.Stable.{stable};
 ghost use Rattle.jn_serial.specs.Lines.{lines_at, says, history_of};
 ghost use Rattle.jn_serial.specs.Order.{replay, Agrees};
 ghost use Rattle.jn_serial.specs.Shown.{is_locked, ShowsFiles, ShownSoFar, Shown};
-ghost use Rattle.jn_system.specs.WholeSystem.World.{opening};
+ghost use Rattle.jn_system.specs.WholeSystem.World.{opening, AreFilesOf};
 ghost use Rattle.jn_system.specs.WholeSystem.Example.{the_server, the_file, the_transaction, start};
 ghost use Rattle.jn_system_reports.specs.Reporting.Reported.{Item, events_of, lines_of, world_of, IsReported};
-ghost use Rattle.jn_system_reports.specs.Reporting.Ending.{Ending, IsWholeRun, all_lines, AreFilesOf};
+ghost use Rattle.jn_system_reports.specs.Reporting.Ending.{Ending, IsWholeRun, all_lines};
 ghost use Rattle.jn_system_reports.specs.Showing.Example.{a_commit_is_named, a_file_is_shown, locks_are_passed, an_end};
 
 /// Whatever is done under the events of a schedule, stops and restarts among it: each show that isn't refused or stopped

@@ -29,7 +29,7 @@ pub use Rattle.jn_system.proofs.WholeSystem.CoordinatorCases.{IsListed, WantsEnd
 pub use Rattle.jn_rows.specs.Worker.{WorkerTable, WorkStorage, Wanted, work_of, with_phase, after_grant, commit_wants, worker_row, going_work, worker_step, worker_again, timed_out, vulnerable, new_work, name_from, restored_work, restored_worker}
 pub use Rattle.jn_system.proofs.WholeSystem.WorkerCases.{its_wants, Replies, is_open_already, is_full, votes_against, votes_broken, votes_again, votes_lost, is_done_already, WorkerCase, none_done, replies_only, opens_anew, refuses_next, performs_next, prepares_it, marks_it, drops_it, removes_it, WorkerStep, carries_out, is_over, erases_rubbish, worker-case, worker-step-case}
 pub use Rattle.jn_within.specs.Drawing.{AreDrawn, DrawsOne, AreCovered}
-pub use Rattle.jn_system.specs.WholeSystem.World.{Memory, World, at_server, new_memory, opening}
+pub use Rattle.jn_system.specs.WholeSystem.World.{Memory, World, at_server, new_memory, opening, with_epoch}
 pub use Rattle.jn_system.specs.WholeSystem.Servers.{Room, storage_of, server_row, server_step, server_again, server_timeout, of_worker, of_coordinator, of_step, of_timeout, is_for_worker, restored}
 pub use Rattle.jn_within.specs.Within.{MemoryWithin, RowWithin, Within}
 pub use Rattle.jn_system.specs.WholeSystem.Steps.{sent_now, Step, after, run}

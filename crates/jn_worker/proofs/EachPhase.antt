@@ -1,6 +1,6 @@
 -- Each row of a worker keeps what holds of each work's phase, and its changes are allowed, whatever these are.
-use Rattle.jn_worker.proofs.Common.{◌≡◌, ℕ, Bool, true, false, List, [], ◌∷◌, ◌++◌, length, Option, Some, None, refl, subst, arith, AllByRecursion, list_all, ClientNo, LockUnit, Tid, Tickets, WorkId, Answer, Op, tid_eq, work_eq, Message, Vote, answer_to, change, Intention, list_change, ActiveWork, Phase, Active, Broken, Stored, Work, RowOutcome, Change, AddReady, MarkGoing, CarryOut, RemoveWork, is_going, WorkerTable, WorkStorage, Wanted, work_at, work_of, with_phase, without, wants_of, is_fit, counted, done, breaks_at, broken_by, after_grant, name_from, new_work, open_row, granted_row, refusal_of, repeated, op_phase, op_row, conflict, commit_wants, vote_of, shortage, need_in, prepared_row, prepare_phase, prepare_row, commit_phase, commit_row, drop_phase, drop_row, worker_row, going_work, intentions_of, carried_row, going_row, worker_step, vulnerable, timed_out, timeout_row, BlockInRange, OperationNo, RequestNo}
-use Rattle.std.proofs.Common.{◌+◌, if◌then◌else◌, ◌&&◌, nat_eq, nat_lt, slice_get}
+use Rattle.jn_worker.proofs.Common.{◌≡◌, Bool, true, false, List, [], ◌∷◌, ◌++◌, length, Option, Some, None, refl, subst, arith, AllByRecursion, list_all, ClientNo, LockUnit, Tid, Tickets, WorkId, Answer, Op, tid_eq, work_eq, Message, Vote, answer_to, change, Intention, list_change, ActiveWork, Phase, Active, Broken, Stored, Work, RowOutcome, Change, AddReady, MarkGoing, CarryOut, RemoveWork, is_going, WorkerTable, WorkStorage, Wanted, work_at, work_of, with_phase, without, wants_of, is_fit, counted, done, breaks_at, broken_by, after_grant, name_from, new_work, open_row, granted_row, refusal_of, repeated, op_phase, Asked, Here, op_row, conflict, commit_wants, vote_of, shortage, need_in, prepared_row, prepare_phase, prepare_row, commit_phase, commit_row, drop_phase, drop_row, worker_row, going_work, intentions_of, carried_row, going_row, worker_step, vulnerable, timed_out, timeout_row, BlockInRange, RequestNo}
+use Rattle.std.proofs.Common.{◌+◌, if◌then◌else◌, nat_eq, nat_lt, slice_get}
 use Rattle.jn_base.specs.Limits.{most_works}
 use Rattle.jn_msgs.specs.declared.message.Message.TheVariants as messages
 use Rattle.jn_msgs.specs.declared.message.Vote.TheVariants as votes
@@ -98,26 +98,29 @@ module _ (IsSo : Phase → Type 0) (may : Change → Bool) (rules : Rules IsSo m
     opens c request T (Some w) = (h, refl)
     opens c request T None = either (nat_lt (length t) most_works) _ _ (joined t (new_work (name_from k) T ∷ []) h (rules.new (name_from k) T, tt), refl) (h, refl)
 
-    grants : (c : ClientNo) (request : RequestNo) (w : Work) (a : ActiveWork) (op : Op) (answer : Answer) → BlockInRange op → IsSo (Active a) → (o : Option Answer)
-        → Keeps (granted_row t k c request w a op answer (wants_of op (is_fit answer)) o)
-    grants c request w a op answer r i (Some refusal) = (with-phase w.name _ t (rules.refused a refusal i) h, refl)
-    grants c request w a op answer r i None =
-        (with-phase w.name _ (after_grant w.tid w.name (wants_of op (is_fit answer)) t) (rules.done a op answer r i) (granted w.tid w.name (wants_of op (is_fit answer)) t h), refl)
+    module _ (q : Asked) (r : BlockInRange q.op) where
+      abbrev here : Here
+      here = record { table = t; files = s.state.files; tickets = k }
 
-    repeats : (c : ClientNo) (request : RequestNo) (o : Option Answer) → Keeps (repeated t k c request o)
-    repeats c request (Some answer) = (h, refl)
-    repeats c request None = (h, refl)
+      grants : (w : Work) (a : ActiveWork) (answer : Answer) → IsSo (Active a) → (o : Option Answer) → Keeps (granted_row here q w a answer (wants_of q.op (is_fit answer)) o)
+      grants w a answer i (Some refusal) = (with-phase w.name _ t (rules.refused a refusal i) h, refl)
+      grants w a answer i None =
+          (with-phase w.name _ (after_grant w.tid w.name (wants_of q.op (is_fit answer)) t) (rules.done a q.op answer r i) (granted w.tid w.name (wants_of q.op (is_fit answer)) t h), refl)
 
-    operates : (c : ClientNo) (request : RequestNo) (w : Work) (number : OperationNo) (op : Op) → BlockInRange op → (p : Phase) → IsSo p → Keeps (op_phase t s.state.files k c request w number op p)
-    operates c request w number op r (Active a) i = let answer = answer_to op (change (list_change a.list) s.state.files) in
-        either (nat_eq number.0 (a.last + 1)) _ _ (grants c request w a op answer r i (refusal_of t w.name a op answer (wants_of op (is_fit answer))))
-        (either (nat_eq number.0 a.last) _ _ (repeats c request a.kept) (h, refl))
-    operates c request w number op r (Broken u by) i = (h, refl)
-    operates c request w number op r (Stored p) i = (h, refl)
+      repeats : (o : Option Answer) → Keeps (repeated here q o)
+      repeats (Some answer) = (h, refl)
+      repeats None = (h, refl)
 
-    all-operate : (c : ClientNo) (request : RequestNo) (W : WorkId) (number : OperationNo) (op : Op) → BlockInRange op → (o : Option Work) → work_at W t ≡ o → Keeps (op_row t s.state.files k c request W number op o)
-    all-operate c request W number op r (Some w) e = operates c request w number op r w.phase (at-name W t w e h)
-    all-operate c request W number op r None e = (h, refl)
+      operates : (w : Work) (p : Phase) → IsSo p → Keeps (op_phase here q w p)
+      operates w (Active a) i = let answer = answer_to q.op (change (list_change a.list) s.state.files) in
+          either (nat_eq q.number.0 (a.last + 1)) _ _ (grants w a answer i (refusal_of t w.name a q.op answer (wants_of q.op (is_fit answer))))
+          (either (nat_eq q.number.0 a.last) _ _ (repeats a.kept) (h, refl))
+      operates w (Broken u by) i = (h, refl)
+      operates w (Stored p) i = (h, refl)
+
+      all-operate : (W : WorkId) (o : Option Work) → work_at W t ≡ o → Keeps (op_row here q W o)
+      all-operate W (Some w) e = operates w w.phase (at-name W t w e h)
+      all-operate W None e = (h, refl)
 
     votes-on : (T : Tid) (c : ClientNo) (w : Work) (a : ActiveWork) → IsSo (Active a) → (v : Vote) → Keeps (prepared_row t k T c w a v)
     votes-on T c w a i votes.Ready =
@@ -156,7 +159,7 @@ module _ (IsSo : Phase → Type 0) (may : Change → Bool) (rules : Rules IsSo m
 
     pub row-keeps : (m : Message) → InRange m → Keeps (worker_row t s k m)
     row-keeps (messages.Open c request T) r = opens c request T (work_of T t)
-    row-keeps (messages.Op c request W number op) r = all-operate c request W number op r (work_at W t) refl
+    row-keeps (messages.Op c request W number op) r = all-operate (record { client = c; request = request; number = number; op = op }) r W (work_at W t) refl
     row-keeps (messages.Prepare T c W) r = all-prepare T c W (work_at W t) refl
     row-keeps (messages.Commit T W) r = all-commit T W (work_at W t)
     row-keeps (messages.Drop T W) r = all-drop W (work_at W t)

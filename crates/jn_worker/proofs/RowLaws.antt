@@ -1,5 +1,5 @@
 -- What a worker's rows never do.
-use Rattle.jn_worker.proofs.Common.{◌≡◌, ◌+◌, ℕ, Bool, true, false, not, List, [], ◌∷◌, ◌++◌, length, Option, Some, None, if◌then◌else◌, refl, sym, ◌∙◌, ap, subst, arith, true≢false, inl, inr, ◌⊎◌, ◌&&◌, nat_eq, nat_lt, nat_tests, ClientNo, Client, Tickets, Tid, WorkId, Answer, AnyOp, work_eq, Files, answer_to, change, list_change, Vote, ActiveWork, Phase, Active, Broken, Stored, Work, ignored, quiet, sends, MarkGoing, RemoveWork, is_going, WorkerTable, WorkStorage, Wanted, wants_of, is_fit, counted, done, commit_wants, conflict, vote_of, shortage, need_in, work_at, work_of, with_phase, without, after_grant, broken_by, collision, gives_way, name_from, new_work, open_row, op_row, op_phase, performed, repeated, granted_row, refusal_of, prepare_row, prepare_phase, prepared_row, voted, commit_row, commit_phase, drop_row, drop_phase, worker_row, timed_out, vulnerable, are_rising, work_is, found-name, at-less, at-phase, in_phase, at-grant, once_granted, is_stored, Message, OperationNo, RequestNo}
+use Rattle.jn_worker.proofs.Common.{◌≡◌, ◌+◌, Bool, true, false, not, List, [], ◌∷◌, ◌++◌, length, Option, Some, None, if◌then◌else◌, refl, sym, ◌∙◌, ap, subst, arith, true≢false, inl, inr, ◌⊎◌, ◌&&◌, nat_eq, nat_lt, nat_tests, ClientNo, Client, Tickets, Tid, WorkId, Answer, work_eq, Files, answer_to, change, list_change, Vote, ActiveWork, Phase, Active, Broken, Stored, Work, ignored, quiet, sends, MarkGoing, RemoveWork, is_going, WorkerTable, WorkStorage, Wanted, wants_of, is_fit, counted, done, commit_wants, conflict, vote_of, shortage, need_in, work_at, work_of, with_phase, without, after_grant, broken_by, collision, gives_way, name_from, new_work, open_row, Asked, Here, op_row, op_phase, performed, repeated, granted_row, refusal_of, prepare_row, prepare_phase, prepared_row, voted, commit_row, commit_phase, drop_row, drop_phase, worker_row, timed_out, vulnerable, are_rising, work_is, found-name, at-less, at-phase, in_phase, at-grant, once_granted, is_stored, Message, RequestNo}
 use Rattle.jn_msgs.specs.declared.message.Message.TheVariants as messages
 use Rattle.jn_msgs.specs.declared.message.Vote.TheVariants as votes
 use Rattle.jn_worker.proofs.Does.{nat_same}
@@ -54,24 +54,27 @@ module _ (t : WorkerTable) (W : WorkId) (w : Work) (at : work_at W t ≡ Some w)
       by true = inl (found-more W t (new_work (name_from k) T) w at)
       by false = inl at
 
-  op_stays : (files : Files) (k : Tickets) (c : ClientNo) (request : RequestNo) (V : WorkId) (number : OperationNo) (op : AnyOp) (o : Option Work) → work_at V t ≡ o → Stays (op_row t files k c request V number op o).table
-  op_stays files k c request V number op None there = inl at
-  op_stays files k c request V number op (Some x) there = by x.phase refl
+  op_stays : (files : Files) (k : Tickets) (q : Asked) (V : WorkId) (o : Option Work) → work_at V t ≡ o → Stays (op_row (record { table = t; files = files; tickets = k }) q V o).table
+  op_stays files k q V None there = inl at
+  op_stays files k q V (Some x) there = by x.phase refl
     where
-      by : (phase : Phase) → x.phase ≡ phase → Stays (op_phase t files k c request x number op phase).table
+      here : Here
+      here = record { table = t; files = files; tickets = k }
+
+      by : (phase : Phase) → x.phase ≡ phase → Stays (op_phase here q x phase).table
       by (Broken u S) e = inl at
       by (Stored q) e = inl at
-      by (Active a) e = number_is (nat_eq number.0 (a.last + 1)) (nat_eq number.0 a.last) a.kept
+      by (Active a) e = number_is (nat_eq q.number.0 (a.last + 1)) (nat_eq q.number.0 a.last) a.kept
         where
           differs : work_eq x.name W ≡ false
           differs = other V x there (ap is_stored e)
 
-          done_stays : (answer : Answer) (wants : List Wanted) (refusal : Option Answer) → Stays (granted_row t k c request x a op answer wants refusal).table
+          done_stays : (answer : Answer) (wants : List Wanted) (refusal : Option Answer) → Stays (granted_row here q x a answer wants refusal).table
           done_stays answer wants (Some refusal) = inl (rephased x (Active (counted a refusal)) t differs at)
-          done_stays answer wants None = inl (rephased x (Active (done a op answer wants)) (after_grant x.tid x.name wants t) differs (granted x.tid x.name wants))
+          done_stays answer wants None = inl (rephased x (Active (done a q.op answer wants)) (after_grant x.tid x.name wants t) differs (granted x.tid x.name wants))
 
-          number_is : (b last : Bool) (kept : Option Answer) → Stays (if b then performed t k c request x a op (answer_to op (change (list_change a.list) files)) else (if last then repeated t k c request kept else ignored t k)).table
-          number_is true last kept = let answer = answer_to op (change (list_change a.list) files) in done_stays answer (wants_of op (is_fit answer)) (refusal_of t x.name a op answer (wants_of op (is_fit answer)))
+          number_is : (b last : Bool) (kept : Option Answer) → Stays (if b then performed here q x a (answer_to q.op (change (list_change a.list) files)) else (if last then repeated here q kept else ignored t k)).table
+          number_is true last kept = let answer = answer_to q.op (change (list_change a.list) files) in done_stays answer (wants_of q.op (is_fit answer)) (refusal_of t x.name a q.op answer (wants_of q.op (is_fit answer)))
           number_is false true (Some answer) = inl at
           number_is false true None = inl at
           number_is false false kept = inl at
@@ -132,7 +135,7 @@ module _ (t : WorkerTable) (W : WorkId) (w : Work) (at : work_at W t ≡ Some w)
 
   message_stays : (s : WorkStorage) (k : Tickets) (m : Message) → are_rising t ≡ true → Stays (worker_row t s k m).table
   message_stays s k (messages.Open c request T) rising = open_stays k c request T (work_of T t)
-  message_stays s k (messages.Op c request V number op) rising = op_stays s.state.files k c request V number op (work_at V t) refl
+  message_stays s k (messages.Op c request V number op) rising = op_stays s.state.files k (record { client = c; request = request; number = number; op = op }) V (work_at V t) refl
   message_stays s k (messages.Prepare T c V) rising = prepare_stays s k T c V (work_at V t) refl
   message_stays s k (messages.Commit T V) rising = commit_stays s k T V (work_at V t)
   message_stays s k (messages.Drop T V) rising = drop_stays s k V (work_at V t) rising
@@ -166,29 +169,35 @@ timeouts_keep_prepared t u T rising e W w at stored = timeout_stays t W w at sto
 
 -- ---- operations that were done
 
-says_kept : (t : WorkerTable) (k : Tickets) (c : ClientNo) (request : RequestNo) (a : ActiveWork) (number : OperationNo) (b : Bool) (kept : Option Answer) → nat_eq number.0 a.last ≡ b → a.kept ≡ kept → SaysAgain t k c request a number (if b then repeated t k c request kept else ignored t k)
-says_kept t k c request a number true (Some x) e m = record {
+says_kept : (h : Here) (q : Asked) (a : ActiveWork) (b : Bool) (kept : Option Answer) → nat_eq q.number.0 a.last ≡ b → a.kept ≡ kept → SaysAgain h.table h.tickets q.client q.request a q.number (if b then repeated h q kept else ignored h.table h.tickets)
+says_kept h q a true (Some x) e m = record {
   table = refl;
   changes = refl;
   tickets = refl;
-  again = λ answer is said. ap (λ y. (Client c, messages.Answer c request y) ∷ []) (told x answer (sym m ∙ said));
+  again = λ answer is said. ap (λ y. (Client q.client, messages.Answer q.client q.request y) ∷ []) (told x answer (sym m ∙ said));
   silent = λ other. absurd (other (grind (arith, nat_tests, e)));
 }
   where
     told : (x y : Answer) → Some x ≡ Some y → x ≡ y
     told x y e = cc e
-says_kept t k c request a number true None e m = record { table = refl; changes = refl; tickets = refl; again = λ answer is said. absurd (none answer (sym m ∙ said)); silent = λ other. refl }
+says_kept h q a true None e m = record { table = refl; changes = refl; tickets = refl; again = λ answer is said. absurd (none answer (sym m ∙ said)); silent = λ other. refl }
   where
     none : (x : Answer) → None ≡ Some x → ⊥
     none x e = cc e
-says_kept t k c request a number false kept e m = record { table = refl; changes = refl; tickets = refl; again = λ answer is said. absurd (true≢false (sym (nat_same number.0 a.last is) ∙ e)); silent = λ other. refl }
+says_kept h q a false kept e m = record { table = refl; changes = refl; tickets = refl; again = λ answer is said. absurd (true≢false (sym (nat_same q.number.0 a.last is) ∙ e)); silent = λ other. refl }
 
 pub old_operations_do_nothing : OldOperationsDoNothing
 old_operations_do_nothing t s k c request W number op T a i other = subst (λ row. SaysAgain t k c request a number row)
-    (sym (ap (λ o. op_row t s.state.files k c request W number op o) i.found ∙ (ap (λ phase. op_phase t s.state.files k c request i.work number op phase) i.phase
-    ∙ ap (λ b. if b then performed t k c request i.work a op (answer_to op (change (list_change a.list) s.state.files)) else (if nat_eq number.0 a.last then repeated t k c request a.kept else ignored t k)) (differs (nat_eq number.0 (a.last + 1)) refl))))
-    (says_kept t k c request a number (nat_eq number.0 a.last) a.kept refl refl)
+    (sym (ap (λ o. op_row here asked W o) i.found ∙ (ap (λ phase. op_phase here asked i.work phase) i.phase
+    ∙ ap (λ b. if b then performed here asked i.work a (answer_to op (change (list_change a.list) s.state.files)) else (if nat_eq number.0 a.last then repeated here asked a.kept else ignored t k)) (differs (nat_eq number.0 (a.last + 1)) refl))))
+    (says_kept here asked a (nat_eq number.0 a.last) a.kept refl refl)
   where
+    here : Here
+    here = record { table = t; files = s.state.files; tickets = k }
+
+    asked : Asked
+    asked = record { client = c; request = request; number = number; op = op }
+
     differs : (b : Bool) → nat_eq number.0 (a.last + 1) ≡ b → b ≡ false
     differs false e = refl
     differs true e = absurd (other (grind (arith, nat_tests, e)))

@@ -26,7 +26,8 @@ use Rattle.jn_storage.specs.declared.faults.PrepareFault.{PrepareFault}
 use Rattle.jn_storage.specs.declared.faults.PrepareFault.TheVariants.{Records, Pages, Heads, Stopped as NotServed, Memory as NoMemory}
 use Rattle.jn_storage.specs.declared.faults.ViewFault.{ViewFault}
 use Rattle.jn_storage.specs.declared.faults.ViewFault.TheVariants.{Stopped as NotSeen, Memory as NoBytes}
-use Rattle.jn_rows.specs.Outcomes.{RowOutcome, Sent, Performs}
+use Rattle.jn_rows.specs.Outcomes.{RowOutcome, Sent}
+use Rattle.jn_rows.specs.Performing.{Performs}
 use Rattle.jn_rows.specs.Stable.{Change, RemoveWork, StableState, next_after}
 use Rattle.jn_rows.specs.Worker.{WorkerTable, worker_again, timeout_row, with_phase, after_grant, break_notes, commit_wants, conflict, locked, counted, done, wants_of, is_fit, refusal_of as refusal_of_row}
 use Rattle.jn_storage.specs.Listing.{is_in}

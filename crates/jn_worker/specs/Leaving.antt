@@ -1,7 +1,7 @@
 -- How many records the changes of a row leave as rubbish.
 use Rattle.std.specs.Prelude.{ℕ, ◌+◌, List, [], ◌∷◌, length}
 use Rattle.jn_rows.specs.Stable.{Change, RemoveWork, StableState}
-use Rattle.jn_storage.specs.Storage.{list_of}
+use Rattle.jn_storage.specs.Orderly.{list_of}
 
 -- those of a removed work's intentions
 abbrev pub left_by : StableState → Change → ℕ

@@ -10,6 +10,7 @@ ghost use Rattle.jn_storage.specs.Calls.{state};
 ghost use Rattle.jn_storage.specs.Viewing.{BlockInRange};
 ghost use Rattle.jn_storage.specs.DeviceCalls.{prepare_calls};
 ghost use Rattle.jn_locks.specs.declared.words.Mode.TheVariants as modes;
+ghost use Rattle.jn_msgs.specs.declared.message.Message.TheVariants as messages;
 ghost use Rattle.jn_records.specs.NetLists.{length_with};
 ghost use Rattle.jn_records.specs.Reading.{Gives};
 ghost use Rattle.jn_rows.specs.declared.worker.ActiveWork.{ActiveWork};
@@ -210,7 +211,7 @@ impl Worker {
     ) -> Result<(), WorkerFault>
         requires active { is_active (rows.work_at name self.old.table) ≡ true }
         requires next { (T : Tid) (a : ActiveWork) → IsActive self.old.table T name a → number.0 ≡ a.last + 1 }
-        ensures takes { (v : StorageView) (k : Tickets) → Fits self.old v → BlockInRange op.now → ((T : Tid) (a : ActiveWork) → IsActive self.old.table T name a → answer ≡ answer_to op.now (change (list_change a.list) (state v).files)) → Takes prepare_calls (rows.op_row self.old.table (state v).files k client request name number op.now (rows.work_at name self.old.table)) self.old v out.old k result self.new v out.new k }
+        ensures takes { (v : StorageView) (k : Tickets) → Fits self.old v → BlockInRange op.now → ((T : Tid) (a : ActiveWork) → IsActive self.old.table T name a → answer ≡ answer_to op.now (change (list_change a.list) (state v).files)) → Takes prepare_calls (rows.worker_row self.old.table (seen v) k (messages.Op client request name number op.now)) self.old v out.old k result self.new v out.new k }
     {
         let kept = answer.copy()?;
         let refusal = self.settle(name, number, op, kept, out)?;
@@ -230,7 +231,7 @@ impl Worker {
     ) -> Result<(), WorkerFault>
         requires active { is_active (rows.work_at name self.now.table) ≡ true }
         requires other { (T : Tid) (a : ActiveWork) → IsActive self.now.table T name a → nat_eq number.0 (a.last + 1) ≡ false }
-        ensures takes { (v : StorageView) (k : Tickets) (op : AnyOp) → Fits self.now v → Takes prepare_calls (rows.op_row self.now.table (state v).files k client request name number op (rows.work_at name self.now.table)) self.now v out.old k result self.now v out.new k }
+        ensures takes { (v : StorageView) (k : Tickets) (op : AnyOp) → Fits self.now v → Takes prepare_calls (rows.worker_row self.now.table (seen v) k (messages.Op client request name number op)) self.now v out.old k result self.now v out.new k }
     {
         if let Some(answer) = self.kept_answer(name, number) {
             let again = answer.copy()?;

@@ -2,6 +2,7 @@
 ghost use Rattle.std.specs.Prelude.{◌≡◌, ◌+◌, true, false, not, nat_eq, is_ok, IfOk};
 ghost use Rattle.jn_base.specs.declared.names.Tickets.{Tickets};
 ghost use Rattle.jn_base.specs.declared.names.Tid.{Tid};
+ghost use Rattle.jn_msgs.specs.declared.message.Message.TheVariants as messages;
 ghost use Rattle.jn_order.specs.Files.{answer_to, change, file_of};
 ghost use Rattle.jn_records.specs.NetLists.{list_change, answered};
 ghost use Rattle.jn_rows.specs.declared.worker.ActiveWork.{ActiveWork};
@@ -14,7 +15,7 @@ ghost use Rattle.jn_storage.specs.DeviceCalls.{prepare_calls};
 ghost use Rattle.jn_worker.specs.Calls.{Takes, has_stopped};
 ghost use Rattle.jn_works.specs.Changing.{tallied};
 ghost use Rattle.jn_worker.specs.Reading.{ReadSettles, OnlyReads, asks_now, asks_for, is_unknown};
-ghost use Rattle.jn_worker.specs.Fitting.{Fits, is_active};
+ghost use Rattle.jn_worker.specs.Fitting.{Fits, seen, is_active};
 
 use crate::words::WorkerFault;
 use crate::worker::Worker;
@@ -145,7 +146,7 @@ impl Worker {
         requires active { is_active (rows.work_at name self.old.table) ≡ true }
         requires next { (T : Tid) (a : ActiveWork) → IsActive self.old.table T name a → number.0 ≡ a.last + 1 }
         requires unknown { (T : Tid) (a : ActiveWork) → IsActive self.old.table T name a → is_unknown a op.now (W.view store.old) }
-        ensures takes { (k : Tickets) → Takes prepare_calls (rows.op_row self.old.table (state (W.view store.old)).files k client request name number op.now (rows.work_at name self.old.table)) self.old (W.view store.old) out.old k result self.new (W.view store.new) out.new k }
+        ensures takes { (k : Tickets) → Takes prepare_calls (rows.worker_row self.old.table (seen (W.view store.old)) k (messages.Op client request name number op.now)) self.old (W.view store.old) out.old k result self.new (W.view store.new) out.new k }
         ensures asks { asks_for self.old.table (W.view store.old) name number op.now (rows.work_at name self.old.table) ≡ false → W.view store.new ≡ W.view store.old }
         ensures same { is_ok result ≡ true → (W.view store.new).accounts ≡ (W.view store.old).accounts }
     {
@@ -168,7 +169,7 @@ impl Worker {
     ) -> Result<(), WorkerFault>
         requires fits { Fits self.old (W.view store.old) }
         requires range { BlockInRange op.now }
-        ensures takes { Takes prepare_calls (rows.op_row self.old.table (state (W.view store.old)).files tickets.now client request name number op.now (rows.work_at name self.old.table)) self.old (W.view store.old) out.old tickets.now result self.new (W.view store.new) out.new tickets.now }
+        ensures takes { Takes prepare_calls (rows.worker_row self.old.table (seen (W.view store.old)) tickets.now (messages.Op client request name number op.now)) self.old (W.view store.old) out.old tickets.now result self.new (W.view store.new) out.new tickets.now }
         ensures asks { asks_for self.old.table (W.view store.old) name number op.now (rows.work_at name self.old.table) ≡ false → W.view store.new ≡ W.view store.old }
         ensures same { is_ok result ≡ true → (W.view store.new).accounts ≡ (W.view store.old).accounts }
     {

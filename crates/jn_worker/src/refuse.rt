@@ -3,9 +3,9 @@ ghost use Rattle.std.specs.Prelude.{◌≡◌, false, ℕ};
 ghost use Rattle.jn_base.specs.declared.names.ClientNo.{ClientNo};
 ghost use Rattle.jn_base.specs.declared.names.OperationNo.{OperationNo};
 ghost use Rattle.jn_base.specs.declared.op.Op.{Op};
+ghost use Rattle.jn_msgs.specs.declared.message.Message.TheVariants as messages;
 ghost use Rattle.jn_rows.specs.Worker as rows;
 ghost use Rattle.jn_storage.specs.Storage.{StorageView};
-ghost use Rattle.jn_storage.specs.Calls.{state};
 ghost use Rattle.jn_storage.specs.DeviceCalls.{prepare_calls};
 ghost use Rattle.jn_worker.specs.Calls.{Takes, vote_inactive, answer_inactive};
 ghost use Rattle.jn_worker.specs.Fitting.{Fits, seen, is_active};
@@ -71,7 +71,7 @@ impl Worker {
         out: &mut Out,
     ) -> Result<(), WorkerFault>
         requires inactive { is_active (rows.work_at name self.now.table) ≡ false }
-        ensures takes { (v : StorageView) (number : OperationNo) (op : Op) → Fits self.now v → Takes prepare_calls (rows.op_row self.now.table (state v).files tickets.now client request name number op (rows.work_at name self.now.table)) self.now v out.old tickets.now result self.now v out.new tickets.now }
+        ensures takes { (v : StorageView) (number : OperationNo) (op : Op) → Fits self.now v → Takes prepare_calls (rows.worker_row self.now.table (seen v) tickets.now (messages.Op client request name number op)) self.now v out.old tickets.now result self.now v out.new tickets.now }
     {
         let answer = match work_at(&self.works, name) {
             None => Answer::Lost(name.epoch, tickets.epoch),

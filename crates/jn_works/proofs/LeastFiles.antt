@@ -5,10 +5,10 @@ use Rattle.jn_base.specs.declared.names.FileNo.{FileNo}
 use Rattle.jn_base.specs.declared.names.LockUnit.{LockUnit}
 use Rattle.jn_base.specs.declared.names.LockUnit.TheVariants.{File, Block}
 use Rattle.jn_base.specs.declared.names.Tid.{Tid}
-use Rattle.jn_base.specs.Names.{file_eq}
+use Rattle.jn_base.specs.Names.{file_eq, unit_eq}
 use Rattle.jn_base.proofs.Tells.{file_tells}
 use Rattle.jn_locks.specs.declared.words.Mode.TheVariants.{Commit}
-use Rattle.jn_locks.specs.Locks.{is_unit, unit_eq}
+use Rattle.jn_locks.specs.Locks.{is_unit}
 use Rattle.jn_rows.specs.declared.worker.Phase.{Phase}
 use Rattle.jn_rows.specs.declared.worker.Phase.TheVariants.{Active, Broken, Prepared as Stored}
 use Rattle.jn_rows.specs.Worker.{WorkerTable, commit_holder, holds}

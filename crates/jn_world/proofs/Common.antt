@@ -14,9 +14,9 @@ pub use Rattle.jn_place.specs.declared.place.Slot.{Slot}
 pub use Rattle.jn_place.specs.declared.place.Slot.TheVariants.{Up, Down, Gone}
 pub use Rattle.jn_place.specs.Exact.{IsRestart, Took, WorkedBy, AsksAgain, TimedOut, IsTimedOut, has_work_at, ReadsPages as PlaceReads, WhereUp, TakeLeaves, WorkLeaves, StaysCalm, ComesCalm, IsCalmAt, Befell, Crashed, Closed, KeepsRubbish, ScrubbedBy, LeavesImage, work_of, Showed, LeavesClean, items_of}
 pub use Rattle.jn_place.specs.Places.{IsPlace, Stands as StandsThere, CountsAt, is_up}
-pub use Rattle.jn_system.specs.WholeSystem.World.{commits_in, has_line, Memory as ServerMemory, servers_from, World as Protocol}
+pub use Rattle.jn_system.specs.WholeSystem.World.{commits_in, has_line, Memory as ServerMemory, servers_from, clients_from, World as Protocol}
 pub use Rattle.jn_records.specs.StablePages.{Counts, Pages, page_count}
-pub use Rattle.jn_recovery.specs.Loading.{counts_by}
+pub use Rattle.jn_recovery.specs.Counts.{counts_by}
 pub use Rattle.jn_report.specs.declared.line.Line.{Line}
 pub use Rattle.jn_report.specs.declared.line.Text.{Text}
 pub use Rattle.jn_report.specs.declared.line.When.{When}
@@ -61,7 +61,6 @@ pub use Rattle.jn_written.specs.Devices.{rubbish_on, Devices}
 pub use Rattle.jn_written.specs.Events.{next_in, servers_of, ending, coming_up, settling, printing, acted, met, resting, deed_of, asking, told_unless}
 pub use Rattle.jn_written.specs.Refusals.{has_work, refusal_of, unless, if_there, if_up, if_down}
 pub use Rattle.jn_base.specs.declared.names.ClientNo.{ClientNo}
-pub use Rattle.jn_system_settling.specs.Settling.Settle.{clients_from}
 pub use Rattle.jn_written.proofs.Computed.{join}
 pub use Rattle.std.proofs.lemmas.List.Elements.{All-nil, All-set, All-get_or, All-from_get_or, All-append, All-map, All-cons, All-weaker, All-from_recursion, recursion_from_All, All-push}
 pub use Rattle.jn_device.specs.Events.{disarmed, is_within, Decays as PageDecays, Revives as PageRevives, Arms as FaultArmed}

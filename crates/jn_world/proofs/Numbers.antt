@@ -127,7 +127,7 @@ module _ (n : ℕ) where
   acted-counts x h (events.Arm q a kind) w = plain-counts (acted x h (events.Arm q a kind) w) refl refl
   acted-counts x h (events.Crash q) w = crashed-counts q (w.memory q)
   acted-counts x h (events.Restart q) w = restarted-counts h q w
-  acted-counts x h (events.Show q) w = plain-counts (showing h q w) (stopped-same q h.stop) refl
+  acted-counts x h (events.Show q) w = plain-counts (showing h q) (stopped-same q h.stop) refl
 
   met-counts : (x : Setup) (h : Chance) (event : Event) (w : World) (o : Option EventRefusal) → Counts n n (met x h event w o)
   met-counts x h event w None = acted-counts x h event w

@@ -8,7 +8,7 @@ use Rattle.jn_place.specs.declared.place.Restarted.{Restarted}
 use Rattle.jn_place.specs.declared.place.Restarted.TheVariants as came
 use Rattle.jn_place.specs.declared.place.Slot.{Slot}
 use Rattle.jn_place.specs.Exact.{IsRestart}
-use Rattle.jn_recovery.specs.Loading.{counts_by}
+use Rattle.jn_recovery.specs.Counts.{counts_by}
 use Rattle.jn_report.specs.declared.line.Line.{Line}
 use Rattle.jn_report.specs.declared.line.EventRefusal.TheVariants.{EpochsUsedUp}
 use Rattle.jn_report.specs.declared.line.Text.{Text}

@@ -7,9 +7,9 @@ use Rattle.jn_net.specs.Carried.{Carried, waiting}
 use Rattle.jn_net.specs.declared.Sent.{Sent as Posted}
 use Rattle.jn_place.specs.declared.place.Place.{Place}
 use Rattle.jn_place.specs.Remaining.{steps_at}
-use Rattle.jn_recovery.specs.Loading.{counts_by}
+use Rattle.jn_recovery.specs.Counts.{counts_by}
 use Rattle.jn_schedule.specs.declared.Event.TheVariants.{Again, Nudge}
-use Rattle.jn_system_settling.specs.Settling.Settle.{clients_from}
+use Rattle.jn_system.specs.WholeSystem.World.{clients_from}
 use Rattle.jn_stands.specs.Pages.{ReadsPages, IsIdleAt}
 use Rattle.jn_store.specs.Store.{StoreView}
 use Rattle.jn_world.specs.Standing.{is_up_at, works_at}

@@ -3,7 +3,7 @@ use Rattle.std.specs.Prelude.{◌≡◌, ◌≤◌, ◌<◌, ◌+◌, ⊤, ℕ, 
 use Rattle.jn_base.specs.declared.names.ServerNo.{ServerNo}
 use Rattle.jn_order.specs.Files.{AllFiles}
 use Rattle.jn_recovery.specs.declared.counts.PageCounts.{PageCounts}
-use Rattle.jn_recovery.specs.Loading.{counts_by}
+use Rattle.jn_recovery.specs.Counts.{counts_by}
 use Rattle.jn_written.specs.Devices.{Devices}
 use Rattle.jn_written.specs.Events.{ending}
 use Rattle.jn_written.specs.Whole.{AreImages, before}
@@ -12,8 +12,7 @@ use Rattle.jn_base.specs.declared.names.Party.{Party}
 use Rattle.jn_net.specs.declared.Sent.{Sent as Posted}
 use Rattle.jn_report.specs.declared.line.When.{When}
 use Rattle.jn_report.specs.declared.line.Line.{Line}
-use Rattle.jn_schedule.specs.declared.Event.{Event}
-use Rattle.jn_schedule.specs.declared.Event.{Event as AnEvent}
+use Rattle.jn_schedule.specs.declared.Event.{Event, Event as AnEvent}
 use Rattle.jn_stands.specs.Stands.{Standing, Stands}
 use Rattle.jn_stands.specs.Going.{WentOn, WasCut, IsTold, ActsNext}
 use Rattle.jn_found.specs.Images.{IsImage}

@@ -6,7 +6,8 @@ use Rattle.jn_host.proofs.Writing.{append_twice}
 use Rattle.jn_report.specs.declared.line.Line.{Line}
 use Rattle.jn_report.specs.Text.{text_of, report_text}
 use Rattle.jn_writing.specs.Reporting.{Joins}
-use Rattle.jn_writing.specs.Writing.{Took, TookFront, writes_to}
+use Rattle.jn_writing.specs.Writing.{Took, TookFront}
+use Rattle.jn_writing.specs.Calls.{writes_to}
 
 pub report_text-append : (xs ys : List Line) → report_text (xs ++ ys) ≡ report_text xs ++ report_text ys
 report_text-append [] ys = refl

@@ -1,3 +1,4 @@
+pub mod Calls
 pub mod Joined
 pub mod Reporting
 pub mod Writing

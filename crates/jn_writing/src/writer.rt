@@ -1,6 +1,6 @@
 //! Bytes and lines written to a sink.
 ghost use Rattle.std.specs.Prelude.{◌≡◌, ◌≤◌, ◌<◌, is_ok};
-ghost use Rattle.jn_writing.specs.Writing.{WritesAll, writes_to};
+ghost use Rattle.jn_writing.specs.Calls.{WritesAll, writes_to};
 ghost use Rattle.jn_writing.specs.Joined.{writes_join};
 
 use crate::fault::ReportFault;

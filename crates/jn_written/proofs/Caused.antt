@@ -1,5 +1,5 @@
 -- A refusal is told only where its cause holds.
-use Rattle.jn_written.proofs.Common.{◌≡◌, ℕ, Bool, true, false, List, [], ◌∷◌, map, Option, Some, None, refl, sym, subst, arith, if◌then◌else◌, slice_get, list_all, ServerNo, Event, EventRefusal, TooManyArmed, EpochsUsedUp, Text, Pick, World, Memory, Printed, FileThere, PageStored, UnitLocked, print_files, go_on, text_printed, prints_of, Setup, Chance, Task, Begins, Meets, Acts, Rests, ComesUp, Dismisses, GoesDown, ClosesClients, CountsCommits, State, Deed, delivered, worked, blocks_from, shown, crashed_at, is_used_up, brought_up, given_up, recovered, refusal_of, servers_of, first_busy, next_event, told_unless, acted, met, resting, deed_of, texts_of, no_refusal, refused_while, or_else, cause_of}
+use Rattle.jn_written.proofs.Common.{◌≡◌, ℕ, Bool, true, false, List, [], ◌∷◌, map, Option, Some, None, refl, sym, subst, arith, if◌then◌else◌, slice_get, list_all, ServerNo, Event, EventRefusal, TooManyArmed, EpochsUsedUp, Text, Pick, World, Memory, Printed, FileThere, PageStored, UnitLocked, go_on, text_printed, Setup, Chance, prints_found, allowed, Task, Begins, Meets, Acts, Rests, ComesUp, Dismisses, GoesDown, ClosesClients, CountsCommits, State, Deed, delivered, worked, shown, crashed_at, is_used_up, brought_up, given_up, recovered, refusal_of, servers_of, first_busy, next_event, told_unless, acted, met, resting, deed_of, texts_of, no_refusal, refused_while, or_else, cause_of}
 use Rattle.jn_base.specs.declared.device.FaultKind.TheVariants as faults
 use Rattle.jn_schedule.specs.declared.Event.TheVariants as events
 use Rattle.jn_report.specs.declared.line.Text.TheVariants as says
@@ -15,10 +15,9 @@ printed q (FileThere f ∷ prints) = printed q prints
 printed q (PageStored f p bytes ∷ prints) = printed q prints
 printed q (UnitLocked u T ∷ prints) = printed q prints
 
-shows : (h : Chance) (q : ServerNo) (w : World) (o : Option Memory) (stop : Option (Pick → ℕ)) → list_all no_refusal (shown h q w o stop) ≡ true
-shows h q w None stop = refl
-shows h q w (Some m) (Some made) = refl
-shows h q w (Some m) None = printed q (print_files (prints_of q w m) (λ f. blocks_from 0 120) h.files)
+shows : (q : ServerNo) (prints : List Printed) (stop : Option (Pick → ℕ)) → list_all no_refusal (shown q prints stop) ≡ true
+shows q prints None = printed q prints
+shows q prints (Some made) = refl
 
 silent : (deed : Deed) → deed.texts ≡ [] → list_all no_refusal deed.texts ≡ true
 silent deed e = subst (λ (ls : List Text). list_all no_refusal ls ≡ true) (sym e) refl
@@ -32,13 +31,13 @@ acts x h (events.Step q) w e = silent (worked h q w) (works h q w)
 acts x h (events.Nudge q) w e = refl
 acts x h (events.Timeout q T) w e = refl
 acts x h (events.Scrub q) w e = refl
-acts x h (events.Decay q p) w e = by h.allows
+acts x h (events.Decay q p) w e = by (allowed h.found)
   where
     by : (b : Bool) → list_all no_refusal (told_unless b (says.Outside q (record { kind = faults.Decay p; page = p }))) ≡ true
     by true = refl
     by false = refl
 acts x h (events.Revive q p) w e = refl
-acts x h (events.Arm q n kind) w e = by h.allows e
+acts x h (events.Arm q n kind) w e = by (allowed h.found) e
   where
     by : (b : Bool) → (if b then None else Some TooManyArmed) ≡ None → list_all no_refusal (told_unless b (says.RefusedEvent TooManyArmed)) ≡ true
     by true k = refl
@@ -55,7 +54,7 @@ acts x h (events.Restart q) w e = by (is_used_up h q w) e
         clash : Some EpochsUsedUp ≡ None → ⊥
         clash z = cc
     by false k = refl
-acts x h (events.Show q) w e = shows h q w (w.memory q) h.stop
+acts x h (events.Show q) w e = shows q (prints_found h.found) h.stop
 
 meets : (x : Setup) (h : Chance) (event : Event) (w : World) (o : Option EventRefusal) → or_else o (refused_while h event w) ≡ None → list_all no_refusal (met x h event w o).texts ≡ true
 meets x h event w (Some refusal) e = absurd (clash e)

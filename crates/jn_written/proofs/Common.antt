@@ -1,6 +1,6 @@
 -- The names from below that these proofs cite, passed on from one place. Declares nothing.
 pub use Rattle.std.proofs.Common.{ap, ◌≡◌, ℕ, Bool, true, false, List, [], ◌∷◌, map, Option, Some, None, refl, sym, subst, arith, zero, suc, ◌+◌, ◌++◌, length, ◌∙◌, append-nil, append_assoc, ◌≤◌, ◌<◌, ◌≢◌}
-pub use Rattle.jn_written.specs.Chances.{Chance, Setup}
+pub use Rattle.jn_written.specs.Chances.{Chance, Setup, prints_found, allowed, Allows, Recovered}
 pub use Rattle.std.specs.Prelude.{◌/◌, if◌then◌else◌, slice_get, drop, not, nat_lt, is_some, ◌&&◌, ◌||◌}
 pub use Rattle.jn_device.specs.Device.{DeviceState}
 pub use Rattle.jn_device.specs.Later.{Later, count_kind, count_told, is_stop, darkness}
@@ -12,12 +12,12 @@ pub use Rattle.jn_report.specs.declared.line.EventRefusal.{EventRefusal}
 pub use Rattle.jn_report.specs.declared.line.EventRefusal.TheVariants.{TooManyArmed, EpochsUsedUp}
 pub use Rattle.jn_report.specs.declared.line.Text.{Text}
 pub use Rattle.jn_rows.specs.Stable.{Pick, stable, StableState}
-pub use Rattle.jn_system.specs.WholeSystem.World.{World, Memory, committed_in, commits_in, servers_from, has_line}
-pub use Rattle.jn_system.specs.WholeSystem.Printing.{Printed, FileThere, PageStored, UnitLocked, print_files}
+pub use Rattle.jn_system.specs.WholeSystem.World.{World, Memory, clients_from, committed_in, commits_in, servers_from, has_line}
+pub use Rattle.jn_system.specs.WholeSystem.Printing.{Printed, FileThere, PageStored, UnitLocked}
 pub use Rattle.jn_system_settling.specs.Settling.Course.{go_on, Course, go, newly_sent}
-pub use Rattle.jn_system_reports.specs.Reporting.Printing.{text_printed, prints_of}
+pub use Rattle.jn_system_reports.specs.Reporting.Printing.{text_printed}
 pub use Rattle.jn_written.specs.Tasks.{Task, Begins, Meets, Acts, Rests, ComesUp, Dismisses, GoesDown, ClosesClients, CountsCommits, State, next_task, Stage, InSchedule, AtEnd, CutShort, next_at, begun, when_of, when_at}
-pub use Rattle.jn_written.specs.Deeds.{Deed, delivered, worked, blocks_from, shown, crashed_at, is_used_up, brought_up, given_up, recovered, delivered_at, is_busy, working_steps, served, nothing, stopped_idle, restarted, recovering, Use, Calls, Reads, Recovers, Cleans, nobody, tells}
+pub use Rattle.jn_written.specs.Deeds.{Deed, delivered, worked, shown, crashed_at, is_used_up, brought_up, given_up, recovered, delivered_at, is_busy, working_steps, served, nothing, stopped_idle, restarted, recovering, Use, Calls, Reads, Recovers, Cleans, nobody, tells}
 pub use Rattle.jn_written.specs.Refusals.{refusal_of}
 pub use Rattle.jn_written.specs.Events.{servers_of, first_busy, next_event, told_unless, acted, met, resting, deed_of, asking, settling, next_in, printing, coming_up, ending, tasks_of}
 pub use Rattle.jn_written.specs.Steps.{texts_of, done, next_by, is_too_much, come_to, cut_short, made_to, made, outside_texts, own_texts, message_texts, traced, lines_at, most_messages}

@@ -2,14 +2,14 @@
 use Rattle.jn_written.proofs.Common.{◌≡◌, ℕ, zero, suc, ◌+◌, Option, Some, None, refl, Setup, Chance, Task, State, next_task, done, next_by, Steps, none, more, MayLead, Moment, Leads}
 use Rattle.jn_written.specs.Steps.{after}
 
-module _ (x : Setup) (chances : ℕ → Chance) where
+module _ (x : Setup) (chances : ℕ → State → Chance) where
   pub computed : (n steps : ℕ) (s : State) → MayLead x s (after x chances n steps s)
   computed n zero s = none s
   computed n (suc steps) s = by (next_task s) refl (λ t. computed (n + 1) steps t)
     where
-      by : (o : Option Task) → next_task s ≡ o → ((t : State) → MayLead x t (after x chances (n + 1) steps t)) → MayLead x s (after x chances (n + 1) steps (next_by x (chances n) o s))
+      by : (o : Option Task) → next_task s ≡ o → ((t : State) → MayLead x t (after x chances (n + 1) steps t)) → MayLead x s (after x chances (n + 1) steps (next_by x (chances n s) o s))
       by None e rest = rest s
-      by (Some task) e rest = more s (done x (chances n) task s) _ (record { chance = chances n; task = task; task_is = e; state_is = refl }) (rest (done x (chances n) task s))
+      by (Some task) e rest = more s (done x (chances n s) task s) _ (record { chance = chances n s; task = task; task_is = e; state_is = refl }) (rest (done x (chances n s) task s))
 
 -- steps after steps
 pub join : (A : Type 0) (IsOne : A → A → Type 0) (a b c : A) → Steps A IsOne a b → Steps A IsOne b c → Steps A IsOne a c

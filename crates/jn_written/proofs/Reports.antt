@@ -1,5 +1,5 @@
 -- What the runs report, computed.
-use Rattle.std.proofs.Common.{◌≡◌, true, false, [], ◌∷◌, Some, refl}
+use Rattle.jn_written.proofs.Common.{◌≡◌, true, false, [], ◌∷◌, Some, refl, Allows, Recovered}
 use Rattle.jn_base.specs.declared.device.FaultKind.TheVariants as faults
 use Rattle.jn_locks.specs.Locks as locks
 use Rattle.jn_schedule.specs.declared.Event.TheVariants as events
@@ -43,7 +43,7 @@ pub restarts_stop_late : report 1 (at_step 102 (stopped (λ c. 0)) (at_step 106 
 unfolding locks.unit_before
 restarts_stop_late = refl
 
-pub failing_pages_are_told : report 1 (at_step 4 (record calm { allows = false }) (at_step 71 (record calm { told = record { kind = faults.Null; page = 1 } ∷ [] }) calmly)) 200 pages_fail ≡ failing_pages_are_told_report
+pub failing_pages_are_told : report 1 (at_step 4 (record calm { found = Allows false }) (at_step 71 (record calm { told = record { kind = faults.Null; page = 1 } ∷ [] }) calmly)) 200 pages_fail ≡ failing_pages_are_told_report
 unfolding locks.unit_before
 failing_pages_are_told = refl
 
@@ -51,6 +51,6 @@ pub a_reader_is_broken : report 1 calmly 290 a_reader_gives_way ≡ a_reader_is_
 unfolding locks.unit_before
 a_reader_is_broken = refl
 
-pub a_coordinator_is_stopped_twice : report 2 (at_step 66 (stopped half_made) (at_step 84 (record calm { stop = Some (λ c. 0); finds = λ c n. true }) (at_step 86 (finding true [] (tid s1 0 ∷ [])) calmly))) 220 (half_committed (events.Arm s1 9 faults.StopAfter ∷ events.Restart s1 ∷ events.Restart s1 ∷ events.Settle ∷ [])) ≡ a_coordinator_is_stopped_twice_report
+pub a_coordinator_is_stopped_twice : report 2 (at_step 66 (stopped half_made) (at_step 84 (record calm { stop = Some (λ c. 0); found = Recovered (λ c n. true) [] [] }) (at_step 86 (finding true [] (tid s1 0 ∷ [])) calmly))) 220 (half_committed (events.Arm s1 9 faults.StopAfter ∷ events.Restart s1 ∷ events.Restart s1 ∷ events.Settle ∷ [])) ≡ a_coordinator_is_stopped_twice_report
 unfolding locks.unit_before
 a_coordinator_is_stopped_twice = refl

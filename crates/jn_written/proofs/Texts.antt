@@ -1,5 +1,5 @@
 -- What holds of all that is told, where it holds of what each step of the system may tell and of what deeds tell besides.
-use Rattle.jn_written.proofs.Common.{◌≡◌, ℕ, ◌+◌, Bool, true, false, List, [], ◌∷◌, ◌++◌, append-nil, append_assoc, map, length, drop, Option, Some, None, refl, sym, ◌∙◌, ap, subst, if◌then◌else◌, slice_get, list_all, drop-append_seam, list_all-append, ServerNo, Tid, Party, Client, Server, Outside, Event, EventRefusal, EpochsUsedUp, Text, Pick, Sent, World, Memory, Step, after, Printed, FileThere, PageStored, UnitLocked, Course, go, go_on, newly_sent, text_printed, Setup, Chance, Task, Begins, Meets, Acts, Rests, ComesUp, Dismisses, GoesDown, ClosesClients, CountsCommits, State, Use, Calls, Reads, Recovers, Deed, delivered, delivered_at, is_busy, worked, shown, crashed_at, is_used_up, restarted, brought_up, given_up, recovered, served, nothing, working_steps, refusal_of, told_unless, acted, met, next_in, resting, deed_of, outside_texts, own_texts, message_texts, traced, texts_of, may_tell, event_after, Cleans, step_calls}
+use Rattle.jn_written.proofs.Common.{◌≡◌, ℕ, ◌+◌, Bool, true, false, List, [], ◌∷◌, ◌++◌, append-nil, append_assoc, map, length, drop, Option, Some, None, refl, sym, ◌∙◌, ap, subst, if◌then◌else◌, slice_get, list_all, drop-append_seam, list_all-append, ServerNo, Tid, Party, Client, Server, Outside, Event, EventRefusal, EpochsUsedUp, Text, Pick, Sent, World, Memory, Step, after, Printed, FileThere, PageStored, UnitLocked, Course, go, go_on, newly_sent, text_printed, Setup, Chance, prints_found, allowed, Task, Begins, Meets, Acts, Rests, ComesUp, Dismisses, GoesDown, ClosesClients, CountsCommits, State, Use, Calls, Reads, Recovers, Deed, delivered, delivered_at, is_busy, worked, shown, crashed_at, is_used_up, restarted, brought_up, given_up, recovered, served, nothing, working_steps, refusal_of, told_unless, acted, met, next_in, resting, deed_of, outside_texts, own_texts, message_texts, traced, texts_of, may_tell, event_after, Cleans, step_calls}
 use Rattle.jn_base.specs.declared.names.FileNo.{FileNo}
 use Rattle.jn_base.specs.declared.names.BlockNo.{BlockNo}
 use Rattle.jn_base.specs.declared.names.LockUnit.{LockUnit}
@@ -105,10 +105,9 @@ module _ (test : Text → Bool) (b : Besides test) where
   printed q (PageStored f p bytes ∷ prints) = both _ _ (b.page q f p bytes) (printed q prints)
   printed q (UnitLocked u T ∷ prints) = both _ _ (b.locked q u T) (printed q prints)
 
-  shows : (h : Chance) (q : ServerNo) (w : World) (o : Option Memory) (stop : Option (Pick → ℕ)) → list_all test (shown h q w o stop) ≡ true
-  shows h q w None stop = refl
-  shows h q w (Some m) (Some made) = refl
-  shows h q w (Some m) None = printed q _
+  shows : (q : ServerNo) (prints : List Printed) (stop : Option (Pick → ℕ)) → list_all test (shown q prints stop) ≡ true
+  shows q prints None = printed q prints
+  shows q prints (Some made) = refl
 
   silent : (deed : Deed) → deed.texts ≡ [] → list_all test deed.texts ≡ true
   silent deed e = subst (λ (ls : List Text). list_all test ls ≡ true) (sym e) refl
@@ -133,12 +132,12 @@ module _ (test : Text → Bool) (b : Besides test) where
   acts x h (events.Nudge q) w = refl
   acts x h (events.Timeout q T) w = refl
   acts x h (events.Scrub q) w = refl
-  acts x h (events.Decay q p) w = unless-so h.allows _ (b.outside q _)
+  acts x h (events.Decay q p) w = unless-so (allowed h.found) _ (b.outside q _)
   acts x h (events.Revive q p) w = refl
-  acts x h (events.Arm q n kind) w = unless-so h.allows _ (b.refused _)
+  acts x h (events.Arm q n kind) w = unless-so (allowed h.found) _ (b.refused _)
   acts x h (events.Crash q) w = silent (crashed_at q (w.memory q)) (crashes q (w.memory q))
   acts x h (events.Restart q) w = restarts h q w
-  acts x h (events.Show q) w = shows h q w (w.memory q) h.stop
+  acts x h (events.Show q) w = shows q (prints_found h.found) h.stop
 
   meets : (x : Setup) (h : Chance) (event : Event) (w : World) (o : Option EventRefusal) → list_all test (met x h event w o).texts ≡ true
   meets x h event w (Some refusal) = both _ true (b.refused refusal) refl

@@ -1,7 +1,6 @@
 -- What a step does: with a device, in the system, and what it tells.
-use Rattle.std.specs.Prelude.{ℕ, zero, suc, ◌+◌, Bool, true, false, nat_eq, nat_lt, ◌&&◌, ◌||◌, if◌then◌else◌, List, [], ◌∷◌, map, Option, Some, None, is_some}
+use Rattle.std.specs.Prelude.{ℕ, Bool, true, false, nat_eq, nat_lt, ◌&&◌, ◌||◌, if◌then◌else◌, List, [], ◌∷◌, map, Option, Some, None, is_some}
 use Rattle.jn_base.specs.declared.names.ServerNo.{ServerNo}
-use Rattle.jn_base.specs.declared.names.BlockNo.{BlockNo}
 use Rattle.jn_base.specs.declared.names.Party.{Party}
 use Rattle.jn_base.specs.declared.names.Party.TheVariants.{Client, Server}
 use Rattle.jn_base.specs.declared.device.FaultKind.{FaultKind}
@@ -11,14 +10,12 @@ use Rattle.jn_report.specs.declared.line.Text.TheVariants as says
 use Rattle.jn_rows.specs.Stable.{StableState, Pick, stable}
 use Rattle.jn_rows.specs.Outcomes.{Sent}
 use Rattle.jn_system.specs.WholeSystem.World.{World, Memory}
-use Rattle.jn_system.specs.WholeSystem.Servers.{Room}
+use Rattle.jn_system.specs.WholeSystem.Servers.{Room, is_busy as has_going}
 use Rattle.jn_system.specs.WholeSystem.Steps.{Step, Deliver, StopWork, Crash, Narrow, StopRestart, Restart, handing, working}
-use Rattle.jn_system.specs.WholeSystem.Printing.{print_files}
-use Rattle.jn_system_settling.specs.Settling.Settle.{is_busy as has_going}
-use Rattle.jn_system_reports.specs.Reporting.Printing.{text_printed, prints_of}
-use Rattle.jn_storage.specs.DeviceCalls.{step_calls}
-use Rattle.jn_server.specs.Handling.{row_calls}
-use Rattle.jn_written.specs.Chances.{Chance}
+use Rattle.jn_system.specs.WholeSystem.Printing.{Printed}
+use Rattle.jn_system_reports.specs.Reporting.Printing.{text_printed}
+use Rattle.jn_storage.specs.DeviceCalls.{step_calls, row_calls}
+use Rattle.jn_written.specs.Chances.{Chance, none_free, free_found, prints_found, halves_found, works_found, tids_found}
 use Rattle.jn_written.specs.Tasks.{Task}
 
 -- what a step does with a server's device
@@ -35,14 +32,12 @@ pub data Use : Type 0 where
   Revives : ServerNo → ℕ → Use
   -- a fault is to wait for the call of this number from now
   Arms : ServerNo → ℕ → FaultKind → Use
-  -- no fault waits at any server any more
   Disarms : Use
 
 pub record Deed : Type 0 where
   -- who sends its messages
   pub actor : Party
   pub device : Use
-  -- its steps of the system
   pub steps : List Step
   -- what it tells behind what these tell
   pub texts : List Text
@@ -78,7 +73,7 @@ uses q device texts = record (plain (Server q) []) { device = device; texts = te
 -- ---- messages and background steps
 
 abbrev pub room : Chance → ServerNo → Room
-room h q = record { free = h.free; rubbish = h.rubbish q }
+room h q = record { free = free_found h.found; rubbish = h.rubbish q }
 
 -- a server that is down loses the message, and its device isn't called
 abbrev pub delivered_at : Chance → ℕ → ServerNo → Option Memory → Deed
@@ -86,7 +81,7 @@ delivered_at h k q None = plain (Server q) (Deliver k (room h q) ∷ [])
 delivered_at h k q (Some m) = served q row_calls (handing k (room h q) h.stop ∷ [])
 
 abbrev pub no_room : Room
-no_room = record { free = record { records = 0; heads = 0; pages = 0 }; rubbish = false }
+no_room = record { free = none_free; rubbish = false }
 
 -- the message of this number is handed over
 abbrev pub delivered : Chance → ℕ → World → Option Sent → Deed
@@ -118,18 +113,13 @@ stopped_idle q (Some made) = StopWork q (record no_room { rubbish = true }) (λ 
 abbrev pub scrubbed : Chance → ServerNo → Deed
 scrubbed h q = record (plain (Server q) (stopped_idle q h.stop)) { device = Cleans q }
 
--- so many blocks from this number on
-abbrev pub blocks_from : ℕ → ℕ → List BlockNo
-blocks_from p zero = []
-blocks_from p (suc n) = record { 0 = p } ∷ blocks_from (p + 1) n
+-- what is printed of a server's files; where it is stopped, nothing
+abbrev pub shown : ServerNo → List Printed → Option (Pick → ℕ) → List Text
+shown q prints None = map (text_printed q) prints
+shown q prints (Some made) = []
 
--- what is printed of a server's files, block by block; of one that is stopped nothing
-abbrev pub shown : Chance → ServerNo → World → Option Memory → Option (Pick → ℕ) → List Text
-shown h q w (Some m) None = map (text_printed q) (print_files (prints_of q w m) (λ f. blocks_from 0 120) h.files)
-shown h q w memory stop = []
-
-abbrev pub showing : Chance → ServerNo → World → Deed
-showing h q w = record (plain (Server q) (stopped_idle q h.stop)) { device = Reads q; texts = shown h q w (w.memory q) h.stop }
+abbrev pub showing : Chance → ServerNo → Deed
+showing h q = record (plain (Server q) (stopped_idle q h.stop)) { device = Reads q; texts = shown q (prints_found h.found) h.stop }
 
 -- ---- crashes and restarts
 
@@ -140,11 +130,11 @@ crashed_at q (Some m) = record (plain (Server q) (Crash q ∷ [])) { device = Po
 
 -- what the restart reads, by the pick that finds it
 abbrev pub pick_read : Chance → Pick
-pick_read h = h.finds (λ n. false)
+pick_read h = halves_found h.found (λ n. false)
 
 abbrev pub recovering : Chance → ServerNo → Option (Pick → ℕ) → List Step
-recovering h q None = Restart q (pick_read h) h.works h.tids ∷ []
-recovering h q (Some made) = Narrow q h.finds ∷ StopRestart q (λ c. nat_lt 0 (made c)) ∷ []
+recovering h q None = Restart q (pick_read h) (works_found h.found) (tids_found h.found) ∷ []
+recovering h q (Some made) = Narrow q (halves_found h.found) ∷ StopRestart q (λ c. nat_lt 0 (made c)) ∷ []
 
 abbrev pub recovers : ServerNo → List Step → Deed
 recovers q steps = record (plain (Server q) steps) { device = Recovers q }
@@ -161,7 +151,7 @@ is_used_up h q w = if is_some h.stop then false else nat_eq (w.found q (pick_rea
 
 -- pages were cleaned, and nothing more is done
 abbrev pub given_up : Chance → ServerNo → Deed
-given_up h q = recovers q (Narrow q h.finds ∷ [])
+given_up h q = recovers q (Narrow q (halves_found h.found) ∷ [])
 
 -- a restart of a schedule
 abbrev pub restarted : Chance → ServerNo → World → Deed

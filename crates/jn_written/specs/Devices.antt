@@ -1,8 +1,7 @@
 -- What befalls a step is what its server's device does.
-use Rattle.std.specs.Prelude.{◌≡◌, ◌≤◌, ◌<◌, ◌+◌, ◌*◌, ℕ, Bool, false, not, if◌then◌else◌, Some, None, is_some}
+use Rattle.std.specs.Prelude.{◌≡◌, ◌≤◌, ◌<◌, ◌+◌, ◌*◌, ℕ, Bool, true, false, not, if◌then◌else◌, [], Some, None, is_some}
 use Rattle.jn_base.specs.declared.names.ServerNo.{ServerNo}
-use Rattle.jn_base.specs.declared.names.LockUnit.TheVariants.{File}
-use Rattle.jn_base.specs.Names.{server_eq, file_eq}
+use Rattle.jn_base.specs.Names.{server_eq}
 use Rattle.jn_device.specs.Device.{DeviceState}
 use Rattle.jn_device.specs.Events.{PowersUp, powered_off, disarmed, cleared, Decays as PageDecays, Revives as PageRevives, Arms as FaultArmed}
 use Rattle.jn_device.specs.Happens.{Happens}
@@ -11,15 +10,16 @@ use Rattle.jn_store.specs.DeviceCalls.{put_calls, cleaned_get_calls}
 use Rattle.jn_store.specs.Pairs.{pairs_view}
 use Rattle.jn_store.specs.Store.{IsCalm, IsClean, IsWholePage}
 use Rattle.jn_found.specs.Pages.{pool_on, found_on}
+use Rattle.jn_found.specs.Puts.{IsFrontClean, IsFrontWhole}
 use Rattle.jn_found.specs.Recoverable.{IsRecoverable}
-use Rattle.jn_recovery.specs.Loading.{most_calls}
+use Rattle.jn_recovery.specs.Counts.{most_calls}
 use Rattle.jn_rows.specs.Stable.{Pick, stable}
 use Rattle.jn_system.specs.WholeSystem.World.{World, Memory}
-use Rattle.jn_system.specs.WholeSystem.Steps.{AreNames, run, IsRun}
-use Rattle.jn_system.specs.WholeSystem.Printing.{file_before}
+use Rattle.jn_system.specs.WholeSystem.Steps.{run, IsRun}
+use Rattle.jn_system.specs.WholeSystem.Printing.{ArePrints}
 use Rattle.jn_system_reports.specs.Reporting.Printing.{prints_of}
 use Rattle.jn_server.specs.Standing.{standing_pages, free_on, has_rubbish}
-use Rattle.jn_written.specs.Chances.{Setup, Chance}
+use Rattle.jn_written.specs.Chances.{Setup, Chance, free_found, prints_found, allowed}
 use Rattle.jn_written.specs.Rubbish.{AreLeft, AreAllCounted}
 use Rattle.jn_written.specs.Deeds.{Use, Nothing, Calls, Cleans, Reads, Recovers, PowersOff, Decays, Revives, Arms, Disarms, Deed}
 
@@ -41,16 +41,18 @@ pub record IsCalled (most : ℕ) (h : Chance) (d e : DeviceState) : Type 0 where
   pub whole : KeepsWhole d last
   pub told : h.told ≡ last.told
   pub stop : is_some h.stop ≡ not last.power
-  -- what was told is forgotten
   pub after : e ≡ cleared last
 
--- the power comes first, and goes where the server doesn't come up
+-- The power comes first, and goes where the server doesn't come up. Where it does, root, records and heads are clean then, and whole where no fault
+-- waited.
 pub record IsRecovery (g : Counts) (h : Chance) (up : Bool) (d e : DeviceState) : Type 0 where
   pub powered : DeviceState
   pub last : DeviceState
   pub power : PowersUp d powered
   pub called : IsCalled (most_calls g) h powered last
   pub after : e ≡ (if up then last else powered_off last)
+  pub front : up ≡ true → IsFrontClean g (pairs_view e)
+  pub front_whole : up ≡ true → d.waiting ≡ [] → IsFrontWhole g (pairs_view e)
 
 -- one server's device becomes another, and all others stay
 pub record Alone (q : ServerNo) (becomes : DeviceState → DeviceState → Type 0) (ds es : Devices) : Type 0 where
@@ -72,7 +74,7 @@ rubbish_on x ds q = has_rubbish (pool_on (x.counts q) (pages_of (ds q)))
 pub record IsServed (g : Counts) (most : ℕ) (h : Chance) (w : World) (q : ServerNo) (d e : DeviceState) : Type 0 where
   pub memory : Memory
   pub up : w.memory q ≡ Some memory
-  pub free : h.free ≡ free_on g (pages_of d) (stable (w.found q)) memory
+  pub free : free_found h.found ≡ free_on g (pages_of d) (stable (w.found q)) memory
   pub called : IsCalled most h d e
 
 -- where it isn't stopped, each pair of pages is clean then, and whole where no fault waits
@@ -81,11 +83,11 @@ pub record IsScrubbed (g : Counts) (h : Chance) (w : World) (q : ServerNo) (d e 
   pub clean : h.stop ≡ None → (i : ℕ) → i < page_count g → IsClean (pairs_view e) i
   pub whole : h.stop ≡ None → IsCalm (pairs_view d) → (i : ℕ) → i < page_count g → IsWholePage (pairs_view e) i
 
--- where it isn't stopped, these are the files of which a server that is up has something to print
+-- where it isn't stopped, a server that is up prints all that it has to print
 pub record IsLookedOver (g : Counts) (h : Chance) (w : World) (q : ServerNo) (d e : DeviceState) : Type 0 where
   pub memory : Memory
   pub up : w.memory q ≡ Some memory
-  pub files : h.stop ≡ None → AreNames file_eq file_before (λ f. prints_of q w memory (File f)) h.files
+  pub prints : h.stop ≡ None → ArePrints (prints_of q w memory) (prints_found h.found)
   pub called : IsCalled (cleaned_get_calls * g.leaves) h d e
 
 -- in a step from one world to another
@@ -96,9 +98,9 @@ IsUsed x h (Cleans q) w now ds es = Alone q (IsScrubbed (x.counts q) h w q) ds e
 IsUsed x h (Reads q) w now ds es = Alone q (IsLookedOver (x.counts q) h w q) ds es
 IsUsed x h (Recovers q) w now ds es = Alone q (IsRecovery (x.counts q) h (is_some (now.memory q))) ds es
 IsUsed x h (PowersOff q) w now ds es = Alone q (λ d e. e ≡ powered_off d) ds es
-IsUsed x h (Decays q p) w now ds es = Alone q (λ d e. PageDecays d p h.allows e) ds es
+IsUsed x h (Decays q p) w now ds es = Alone q (λ d e. PageDecays d p (allowed h.found) e) ds es
 IsUsed x h (Revives q p) w now ds es = Alone q (λ d e. PageRevives d p e) ds es
-IsUsed x h (Arms q n kind) w now ds es = Alone q (λ d e. FaultArmed d n kind h.allows e) ds es
+IsUsed x h (Arms q n kind) w now ds es = Alone q (λ d e. FaultArmed d n kind (allowed h.found) e) ds es
 IsUsed x h Disarms w now ds es = (q : ServerNo) → es q ≡ disarmed (ds q)
 
 -- ---- a step

@@ -12,12 +12,11 @@ use Rattle.jn_report.specs.declared.line.Line.{Line}
 use Rattle.jn_report.specs.declared.line.Text.{Text}
 use Rattle.jn_report.specs.declared.line.Text.TheVariants as says
 use Rattle.jn_serial.specs.Lines.{history_of}
-use Rattle.jn_system.specs.WholeSystem.World.{World, servers_from}
+use Rattle.jn_system.specs.WholeSystem.World.{World, servers_from, clients_from}
 use Rattle.jn_system.specs.WholeSystem.Steps.{NextEvent, Tell, Again, Nudge, Timeout, Dismiss, CloseClients}
 use Rattle.jn_system_settling.specs.Settling.Course.{Course}
-use Rattle.jn_system_settling.specs.Settling.Settle.{clients_from}
-use Rattle.jn_server.specs.Handling.{row_calls}
-use Rattle.jn_written.specs.Chances.{Setup, Chance}
+use Rattle.jn_storage.specs.DeviceCalls.{row_calls}
+use Rattle.jn_written.specs.Chances.{Setup, Chance, allowed}
 use Rattle.jn_written.specs.Tasks.{Task, Begins, Meets, Acts, Rests, ComesUp, Dismisses, GoesDown, ClosesClients, CountsCommits, State}
 use Rattle.jn_written.specs.Deeds.{Decays, Revives, Arms, Disarms, Deed, plain, served, nobody, nothing, tells, leaves, uses, delivered, is_busy, worked, scrubbed, showing, crashed_at, restarted, brought_up}
 use Rattle.jn_written.specs.Refusals.{refusal_of}
@@ -64,12 +63,12 @@ acted x h (events.Step q) w = worked h q w
 acted x h (events.Nudge q) w = plain (Server q) (Nudge q ∷ [])
 acted x h (events.Timeout q T) w = plain (Server q) (Timeout q T ∷ [])
 acted x h (events.Scrub q) w = scrubbed h q
-acted x h (events.Decay q p) w = uses q (Decays q p) (told_unless h.allows (says.Outside q (record { kind = faults.Decay p; page = p })))
+acted x h (events.Decay q p) w = uses q (Decays q p) (told_unless (allowed h.found) (says.Outside q (record { kind = faults.Decay p; page = p })))
 acted x h (events.Revive q p) w = uses q (Revives q p) []
-acted x h (events.Arm q n kind) w = uses q (Arms q n kind) (told_unless h.allows (says.RefusedEvent TooManyArmed))
+acted x h (events.Arm q n kind) w = uses q (Arms q n kind) (told_unless (allowed h.found) (says.RefusedEvent TooManyArmed))
 acted x h (events.Crash q) w = crashed_at q (w.memory q)
 acted x h (events.Restart q) w = restarted h q w
-acted x h (events.Show q) w = showing h q w
+acted x h (events.Show q) w = showing h q
 
 -- it is refused, or done
 abbrev pub met : Setup → Chance → Event → World → Option EventRefusal → Deed
@@ -109,8 +108,7 @@ coming_up x = map ComesUp (servers_of x)
 abbrev pub printing : List ServerNo → List Task
 printing servers = map (λ (q : ServerNo). Acts (events.Show q)) servers ++ map (λ (q : ServerNo). Acts (events.Scrub q)) servers
 
--- the clients are dismissed, all servers that are up go down, all come up, each outcome counts as thanked, all settles, the
--- files are printed, and the commits are counted
+-- what the end of a run does, in order
 abbrev pub ending : Setup → List Task
 ending x = Dismisses ∷ map GoesDown (servers_of x) ++ coming_up x ++ map ClosesClients (servers_of x) ++ settling x ++ printing (servers_of x) ++ CountsCommits ∷ []
 

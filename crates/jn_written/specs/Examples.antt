@@ -1,5 +1,5 @@
 -- Runs as schedules give them, with their chances written by hand.
-use Rattle.std.specs.Prelude.{ℕ, ◌-◌, Bool, true, false, nat_eq, if◌then◌else◌, List, [], ◌∷◌, ◌++◌, length, replicate, Some, None}
+use Rattle.std.specs.Prelude.{ℕ, ◌-◌, Bool, true, false, nat_eq, if◌then◌else◌, List, [], ◌∷◌, ◌++◌, length, replicate, Option, Some, None}
 use Rattle.jn_base.specs.declared.names.ServerNo.{ServerNo}
 use Rattle.jn_base.specs.declared.names.ClientNo.{ClientNo}
 use Rattle.jn_base.specs.declared.names.Tid.{Tid}
@@ -15,9 +15,12 @@ use Rattle.jn_report.specs.declared.line.When.TheVariants.{Event as AtEvent, End
 use Rattle.jn_report.specs.declared.line.Text.{Text}
 use Rattle.jn_report.specs.declared.line.Line.{Line}
 use Rattle.jn_rows.specs.Stable.{Pick}
+use Rattle.jn_system.specs.WholeSystem.World.{World, Memory}
+use Rattle.jn_system.specs.WholeSystem.Printing.{Printed, print_files}
+use Rattle.jn_system_reports.specs.Reporting.Printing.{prints_of}
 use Rattle.jn_system_settling.specs.Settling.Rows.{s0, s1, c1, c2, tid, file, block}
-use Rattle.jn_written.specs.Chances.{Setup, Chance}
-use Rattle.jn_written.specs.Tasks.{State}
+use Rattle.jn_written.specs.Chances.{Setup, Chance, Free, Prints, Recovered}
+use Rattle.jn_written.specs.Tasks.{Task, Acts, State, next_task}
 use Rattle.jn_written.specs.Steps.{after}
 use Rattle.jn_written.specs.Whole.{before}
 
@@ -26,39 +29,39 @@ use Rattle.jn_written.specs.Whole.{before}
 abbrev pub setup : ℕ → Setup
 setup servers = record { servers = servers; counts = λ q. record { pool = 32; heads = 16; leaves = 128 }; trace = false }
 
--- there is room, nothing is stopped and no fault is told; restarts find no work and no flag, and shows file 7
+-- there is room, nothing is stopped and no fault is told; restarts find no work and no flag
 abbrev pub calm : Chance
-calm = record {
-  free = record { records = 32; heads = 16; pages = 128 };
-  rubbish = λ q. false;
-  stop = None;
-  told = [];
-  allows = true;
-  finds = λ c. c;
-  works = [];
-  tids = [];
-  files = file 7 ∷ [];
-}
+calm = record { rubbish = λ q. false; found = Free (record { records = 32; heads = 16; pages = 128 }); stop = None; told = [] }
 
-abbrev pub calmly : ℕ → Chance
-calmly n = calm
+-- of file 7 and its block 0
+abbrev pub prints_at : ServerNo → World → Option Memory → List Printed
+prints_at q w None = []
+prints_at q w (Some m) = print_files (prints_of q w m) (λ f. block 0 ∷ []) (file 7 ∷ [])
+
+-- a show finds what there is to print
+abbrev pub calm_at : State → Option Task → Chance
+calm_at s (Some (Acts (events.Show q))) = record calm { found = Prints (prints_at q s.course.world (s.course.world.memory q)) }
+calm_at s task = calm
+
+abbrev pub calmly : ℕ → State → Chance
+calmly n s = calm_at s (next_task s)
 
 -- another chance at the step of this number
-abbrev pub at_step : ℕ → Chance → (ℕ → Chance) → ℕ → Chance
-at_step k chance chances n = if nat_eq n k then chance else chances n
+abbrev pub at_step : ℕ → Chance → (ℕ → State → Chance) → ℕ → State → Chance
+at_step k chance chances n s = if nat_eq n k then chance else chances n s
 
 abbrev pub stopped : (Pick → ℕ) → Chance
 stopped made = record calm { stop = Some made }
 
 -- a restart reads first halves, or second ones
 abbrev pub finding : Bool → List WorkId → List Tid → Chance
-finding first works tids = record calm { finds = λ c n. first; works = works; tids = tids }
+finding first works tids = record calm { found = Recovered (λ c n. first) works tids }
 
-abbrev pub last_of : ℕ → (ℕ → Chance) → ℕ → List Event → State
+abbrev pub last_of : ℕ → (ℕ → State → Chance) → ℕ → List Event → State
 last_of servers chances steps schedule = after (setup servers) chances 0 steps (before (setup servers) schedule no_files (λ q. 0))
 
 -- the report of so many servers, after so many steps
-abbrev pub report : ℕ → (ℕ → Chance) → ℕ → List Event → List Line
+abbrev pub report : ℕ → (ℕ → State → Chance) → ℕ → List Event → List Line
 report servers chances steps schedule = (last_of servers chances steps schedule).lines
 
 abbrev pub line : ℕ → Text → Line

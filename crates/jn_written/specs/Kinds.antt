@@ -12,7 +12,7 @@ use Rattle.jn_report.specs.declared.line.Line.{Line}
 use Rattle.jn_serial.specs.Lines.{is_before, history_of}
 use Rattle.jn_system.specs.WholeSystem.World.{World}
 use Rattle.jn_system.specs.WholeSystem.Steps.{Step, NextEvent, Tell, Deliver, Work, StopDelivery, StopWork, Crash, StopRestart, Restart, CloseClients}
-use Rattle.jn_written.specs.Chances.{Setup, Chance}
+use Rattle.jn_written.specs.Chances.{Setup, Chance, allowed}
 use Rattle.jn_written.specs.Tasks.{Task, Begins, Meets, Acts}
 use Rattle.jn_written.specs.Deeds.{is_used_up}
 use Rattle.jn_written.specs.Refusals.{refusal_of}
@@ -113,7 +113,7 @@ no_refusal text = true
 
 -- why an event is refused while it is done
 abbrev pub refused_while : Chance → Event → World → Option EventRefusal
-refused_while h (events.Arm q n kind) w = if h.allows then None else Some TooManyArmed
+refused_while h (events.Arm q n kind) w = if allowed h.found then None else Some TooManyArmed
 refused_while h (events.Restart q) w = if is_used_up h q w then Some EpochsUsedUp else None
 refused_while h event w = None
 

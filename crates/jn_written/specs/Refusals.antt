@@ -32,8 +32,7 @@ abbrev pub has_work : Tid → Option Memory → Bool
 has_work T None = false
 has_work T (Some m) = is_some (timeout_row m.worker T)
 
--- In this order: no such server, it is down or up, no such message, no such work, no such page. That epochs are used up or that
--- too many faults wait is found while the event is done.
+-- The first cause that holds. That epochs are used up or that too many faults wait is found while the event is done.
 abbrev pub refusal_of : Setup → World → Event → Option EventRefusal
 refusal_of x w (events.Deliver k) = unless (nat_lt k (length w.sent)) refusals.NoSuchMessage None
 refusal_of x w (events.Step q) = if_up x q w None

@@ -18,7 +18,7 @@ use Rattle.jn_worker.specs.Leaving.{left_over}
 use Rattle.jn_server.specs.Standing.{standing_pages, is_free_head}
 use Rattle.jn_sets.specs.Pool.{free_count, rubbish_count}
 use Rattle.jn_storage.specs.Listing.{IsListing, total}
-use Rattle.jn_storage.specs.Storage.{file_there, list_of}
+use Rattle.jn_storage.specs.Orderly.{file_there, list_of}
 use Rattle.jn_store.specs.Pairs.{pairs_view}
 use Rattle.jn_system.specs.WholeSystem.World.{World, Memory}
 use Rattle.jn_system.specs.WholeSystem.Servers.{Room, server_row, server_step}

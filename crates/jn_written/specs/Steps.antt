@@ -53,7 +53,6 @@ most_messages = 1000000
 abbrev pub is_too_much : Deed → Course → Bool
 is_too_much deed c = deed.cuts || nat_lt most_messages (length c.world.sent)
 
--- the system has come so far
 abbrev pub come_to : Setup → Chance → Deed → Course → State → State
 come_to x h deed c s = record {
   course = c;
@@ -86,6 +85,6 @@ abbrev pub next : Setup → Chance → State → State
 next x h s = next_by x h (next_task s) s
 
 -- so many steps at most, with the chances from this number on
-abbrev pub after : Setup → (ℕ → Chance) → ℕ → ℕ → State → State
+abbrev pub after : Setup → (ℕ → State → Chance) → ℕ → ℕ → State → State
 after x chances n zero s = s
-after x chances n (suc steps) s = after x chances (n + 1) steps (next x (chances n) s)
+after x chances n (suc steps) s = after x chances (n + 1) steps (next x (chances n s) s)

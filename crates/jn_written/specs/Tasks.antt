@@ -11,15 +11,13 @@ pub data Task : Type 0 where
   -- the next event of the schedule begins, then it is refused or done
   Begins : Event → Task
   Meets : Event → Task
-  -- it is done
   Acts : Event → Task
   -- messages are handed over and servers make steps, until nothing is left to do
   Rests : Task
-  -- a server comes up, at the start or at the end
+  -- at the start or at the end
   ComesUp : ServerNo → Task
   -- the end begins: no fault and no message waits any more, and the clients are dismissed
   Dismisses : Task
-  -- a server that is up goes down
   GoesDown : ServerNo → Task
   -- each outcome at a server counts as thanked
   ClosesClients : ServerNo → Task
@@ -37,7 +35,6 @@ pub record State : Type 0 where
   pub course : Course
   -- what is left to do, the next task first
   pub tasks : List Task
-  -- the report so far
   pub lines : List Line
   pub stage : Stage
 

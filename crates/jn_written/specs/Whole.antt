@@ -7,8 +7,7 @@ use Rattle.jn_records.specs.StablePages.{page_count}
 use Rattle.jn_store.specs.DeviceCalls.{put_calls}
 use Rattle.jn_schedule.specs.declared.Event.{Event}
 use Rattle.jn_report.specs.declared.line.Line.{Line}
-use Rattle.jn_system.specs.WholeSystem.World.{World, new_memory, opening}
-use Rattle.jn_system_reports.specs.Reporting.Ending.{AreFilesOf}
+use Rattle.jn_system.specs.WholeSystem.World.{World, new_memory, opening, AreFilesOf}
 use Rattle.jn_written.specs.Chances.{Setup}
 use Rattle.jn_written.specs.Tasks.{InSchedule, CutShort, AtEnd, State}
 use Rattle.jn_written.specs.Events.{tasks_of}
@@ -36,7 +35,6 @@ pub record IsFresh (pages : ℕ) (d : DeviceState) : Type 0 where
 
 -- no work and no flag stands on the pages of the images, and what files and epochs do
 pub record AreImages (x : Setup) (files : AllFiles) (epochs : ServerNo → ℕ) (images : Devices) : Type 0 where
-  -- there are no files of other servers
   pub its : AreFilesOf x.servers files
   pub fresh : (q : ServerNo) → q.0 < x.servers → IsFresh (page_count (x.counts q)) (images q)
   pub found : AreFound x (closed_world x.servers files epochs) images

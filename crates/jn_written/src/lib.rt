@@ -42,7 +42,7 @@ pub use wrong::{
 
 /// What is computed with chances is a run by steps.
 pub fn runs_are_computed()
-    ensures { (x : Setup) (chances : ℕ → Chance) (n steps : ℕ) (s : State) → MayLead x s (after x chances n steps s) }
+    ensures { (x : Setup) (chances : ℕ → State → Chance) (n steps : ℕ) (s : State) → MayLead x s (after x chances n steps s) }
 {}
 
 /// No line is taken back, whatever befalls a run.

@@ -42,6 +42,29 @@ put-spares q s t p new stopped below step h = record {
 pub calls-spare : (q : ℕ) (s t : DeviceState) → Happens s t → IsSpared q s → IsSpared q t
 calls-spare q s t = carried (IsSpared q) (get-spares q) (put-spares q) s t
 
+-- a page that hasn't failed, be it good or bad
+pub record IsUnfailed (q : ℕ) (d : DeviceState) : Type 0 where
+  pub waiting : d.waiting ≡ []
+  pub power : d.power ≡ true
+  pub fails : (d.pages q).fails ≡ 0
+
+get-unfailed : (q : ℕ) (s t : DeviceState) (p : ℕ) (answer : Result Look Stopped) → p < s.count → GetStep s p answer t → IsUnfailed q s → IsUnfailed q t
+get-unfailed q s t p answer below step h = record {
+  waiting = grind (arith, h.waiting, h.power);
+  power = grind (arith, h.waiting, h.power);
+  fails = grind (arith, nat_tests, h.waiting, h.power, h.fails);
+}
+
+put-unfailed : (q : ℕ) (s t : DeviceState) (p : ℕ) (new : List ℕ) (stopped : Bool) → p < s.count → PutStep s p new stopped t → IsUnfailed q s → IsUnfailed q t
+put-unfailed q s t p new stopped below step h = record {
+  waiting = grind (arith, h.waiting, h.power);
+  power = grind (arith, h.waiting, h.power);
+  fails = grind (arith, nat_tests, h.waiting, h.power, h.fails);
+}
+
+pub calls-unfailed : (q : ℕ) (s t : DeviceState) → Happens s t → IsUnfailed q s → IsUnfailed q t
+calls-unfailed q s t = carried (IsUnfailed q) (get-unfailed q) (put-unfailed q) s t
+
 -- ---- a stop that waits
 
 -- a stop waits for the next call, and none was made; or it has struck

@@ -1,5 +1,5 @@
 -- A restart, a show and a settle where nothing strikes: what is found and what is free doesn't matter.
-use Rattle.jn_wrong.proofs.Common.{◌≡◌, ℕ, Bool, true, false, List, [], ◌∷◌, Option, Some, None, is_some, refl, sym, ◌∙◌, ap, subst, if◌then◌else◌, nat_eq, map, drop, ServerNo, FileNo, Tid, WorkId, File, file_eq, tid_eq, work_eq, file_tells, tid_tells, work_tells, Text, StableState, Pick, work_before, World, Memory, print_files, file_before, Step, Restart, tid_before, after, run, IsRun, restart, restart_with, text_printed, prints_of, go_on, course_to, Setup, Chance, Meets, Acts, ComesUp, State, begun, Deed, Reads, last_epoch, stopped_idle, blocks_from, shown, showing, pick_read, recovering, recovered, given_up, is_used_up, brought_up, Devices, IsLookedOver, IsRecovery, Alone, Befalls, EventRefusal, NoSuchServer, ServerDown, unless, met, deed_of, made, IsQuiet, Raised, called-calm, recovered-calm, quiet-alone, quiet-called, restarted-up, still, IsBlank, PrintsNothing, no-faults, DeviceState, plain, Server}
+use Rattle.jn_wrong.proofs.Common.{◌≡◌, ℕ, Bool, true, false, List, [], ◌∷◌, Option, Some, None, is_some, refl, sym, ◌∙◌, ap, subst, if◌then◌else◌, nat_eq, drop, ServerNo, FileNo, Tid, WorkId, File, file_eq, tid_eq, work_eq, file_tells, tid_tells, work_tells, Text, StableState, Pick, work_before, World, Memory, Printed, ArePrints, print_files, file_before, Step, Restart, tid_before, after, run, IsRun, restart, restart_with, prints_of, go_on, course_to, Setup, Chance, prints_found, works_found, tids_found, Meets, Acts, ComesUp, State, begun, Deed, Reads, last_epoch, stopped_idle, shown, showing, pick_read, recovering, recovered, given_up, is_used_up, brought_up, Devices, IsLookedOver, IsRecovery, Alone, Befalls, EventRefusal, NoSuchServer, ServerDown, unless, met, deed_of, made, IsQuiet, Raised, called-calm, recovered-calm, quiet-alone, quiet-called, restarted-up, still, IsBlank, PrintsNothing, no-faults, DeviceState, plain, Server}
 use Rattle.jn_schedule.specs.declared.Event.TheVariants as events
 use Rattle.jn_wrong.proofs.Bare.{bare_course, bare, made-same}
 use Rattle.jn_wrong.proofs.Doing.{Follows, below, none-named, itself}
@@ -29,25 +29,21 @@ module _ (x : Setup) (h : Chance) (s : State) (q : ServerNo) (is : PrintsNothing
       one : Some is.memory ≡ Some m → is.memory ≡ m
       one k = cc
 
-  abbrev pub asked : List Text → Deed
+  abbrev asked : List Text → Deed
   asked texts = record (plain (Server q) (stopped_idle q h.stop)) { device = Reads q; texts = texts }
 
-  abbrev pub asked-still : List Text → Deed
-  asked-still texts = record (plain (Server q) []) { device = Reads q; texts = texts }
-
-  shows-none : (g : Chance) (o : Option (Pick → ℕ)) → o ≡ None → g.files ≡ [] → shown g q here (here.memory q) o ≡ []
-  shows-none g o e none = ap (λ (k : Option (Pick → ℕ)). shown g q here (here.memory q) k) e ∙ ap (λ (k : Option Memory). shown g q here k None) is.up
-      ∙ ap (λ (fs : List FileNo). map (text_printed q) (print_files (prints_of q here is.memory) (λ f. blocks_from 0 120) fs)) none
+  prints-none : (m : Memory) (list : List Printed) → here.memory q ≡ Some m → ArePrints (prints_of q here m) list → list ≡ []
+  prints-none m list up are = are.printed
+      ∙ ap (λ (fs : List FileNo). print_files (prints_of q here m) are.blocks fs) (none-named file_eq file_before (λ f. prints_of q here m (File f)) are.files are.are_files same-file (λ f. prints m up f))
 
   -- with no stop and no fault told there is nothing to tell
   pub looks-same : (d e : DeviceState) → h.stop ≡ None → h.told ≡ [] → IsLookedOver (x.counts q) h here q d e
-      → bare (made x h (asked (shown h q here (here.memory q) h.stop)) begun_here) ≡ bare (made x still (asked-still (shown still q here (here.memory q) None)) begun_here)
+      → bare (made x h (showing h q) begun_here) ≡ bare (made x still (showing still q) begun_here)
   looks-same d e stop untold looked = ap (λ (texts : List Text). bare (made x h (asked texts) begun_here))
-      (shows-none h h.stop stop (none-named file_eq file_before (λ f. prints_of q here looked.memory (File f)) h.files (looked.files stop) same-file (λ f. prints looked.memory looked.up f)))
+      (ap (shown q (prints_found h.found)) stop ∙ ap (λ (list : List Printed). shown q list None) (prints-none looked.memory (prints_found h.found) looked.up (looked.prints stop)))
       ∙ made-same x h (asked []) [] begun_here (no-faults q h.told untold) refl (ap (λ (o : Option (Pick → ℕ)). bare_course (go_on (stopped_idle q o) s.course)) stop)
-      ∙ ap (λ (texts : List Text). bare (made x still (asked-still texts) begun_here)) (sym (shows-none still None refl refl))
 
-  pub is-met : (g : Chance) → deed_of x g (Meets (events.Show q)) s ≡ showing g q here
+  pub is-met : (g : Chance) → deed_of x g (Meets (events.Show q)) s ≡ showing g q
   is-met g = ap (λ (o : Option EventRefusal). met x g (events.Show q) here o) (ap (λ (b : Bool). unless b NoSuchServer (unless (is_some (here.memory q)) ServerDown None)) is.below
       ∙ ap (λ (o : Option Memory). unless (is_some o) ServerDown None) is.up)
 
@@ -96,27 +92,27 @@ module _ (x : Setup) (h : Chance) (s : State) (ds es : Devices) (quiet : IsQuiet
                 read : Pick
                 read = pick_read h
 
-                steps : recovering h q h.stop ≡ Restarts (pick_read h) h.works h.tids ∷ []
+                steps : recovering h q h.stop ≡ Restarts (pick_read h) (works_found h.found) (tids_found h.found) ∷ []
                 steps = ap (λ (o : Option (Pick → ℕ)). recovering h q o) r.stop
 
-                names : IsRun (Restarts (pick_read h) h.works h.tids ∷ []) w
+                names : IsRun (Restarts (pick_read h) (works_found h.found) (tids_found h.found) ∷ []) w
                 names = subst (λ (ss : List Step). IsRun ss w) steps b.steps
 
-                no-works : h.works ≡ []
-                no-works = none-named work_eq work_before (w.found q (pick_read h)).works h.works names.0.0 same-work (λ W. ap (λ (y : StableState). y.works W) (is.found (pick_read h)))
+                no-works : works_found h.found ≡ []
+                no-works = none-named work_eq work_before (w.found q (pick_read h)).works (works_found h.found) names.0.0 same-work (λ W. ap (λ (y : StableState). y.works W) (is.found (pick_read h)))
 
-                no-flags : h.tids ≡ []
-                no-flags = none-named tid_eq tid_before (w.found q (pick_read h)).flags h.tids names.0.1 same-tid (λ T. ap (λ (y : StableState). y.flags T) (is.found (pick_read h)))
+                no-flags : tids_found h.found ≡ []
+                no-flags = none-named tid_eq tid_before (w.found q (pick_read h)).flags (tids_found h.found) names.0.1 same-tid (λ T. ap (λ (y : StableState). y.flags T) (is.found (pick_read h)))
 
                 steps-now : recovering h q h.stop ≡ Restarts (pick_read h) [] [] ∷ []
-                steps-now = steps ∙ ap (λ (Ws : List WorkId). Restarts (pick_read h) Ws h.tids ∷ []) no-works ∙ ap (λ (Ts : List Tid). Restarts (pick_read h) [] Ts ∷ []) no-flags
+                steps-now = steps ∙ ap (λ (Ws : List WorkId). Restarts (pick_read h) Ws (tids_found h.found) ∷ []) no-works ∙ ap (λ (Ts : List Tid). Restarts (pick_read h) [] Ts ∷ []) no-flags
 
                 course : bare_course (go_on (recovering h q h.stop) s.course) ≡ bare_course (go_on (Restarts (pick_read still) [] [] ∷ []) s.course)
                 course = ap (λ (ss : List Step). bare_course (go_on ss s.course)) steps-now
                     ∙ ap (λ (now : World). bare_course (course_to now (Restarts (pick_read still) [] []) s.course)) (finds-same (pick_read h) (pick_read still))
 
-                calm : IsQuiet x (after (Restarts (pick_read h) h.works h.tids) w) es
-                calm = quiet-alone x w (after (Restarts (pick_read h) h.works h.tids) w) ds es quiet q (λ p k. restarted-up w p q (pick_read h) h.works h.tids k) a.others
+                calm : IsQuiet x (after (Restarts (pick_read h) (works_found h.found) (tids_found h.found)) w) es
+                calm = quiet-alone x w (after (Restarts (pick_read h) (works_found h.found) (tids_found h.found)) w) ds es quiet q (λ p k. restarted-up w p q (pick_read h) (works_found h.found) (tids_found h.found) k) a.others
                     (λ z. r.power (ap (λ (ss : List Step). is_some ((run ss w).memory q)) steps ∙ z)) r.nothing_told r.nothing_waits
 
     pub comes-up : Befalls x h (deed_of x h (ComesUp q) s) w ds es → Follows x h (ComesUp q) s es

@@ -1,5 +1,5 @@
 -- A run of one server whose events are faults and crashes, step by step to its end.
-use Rattle.jn_wrong.proofs.Common.{◌≡◌, inl, ℕ, ◌<◌, Bool, true, false, List, [], drop, Option, Some, None, is_some, refl, sym, ◌∙◌, ap, subst, arith, ServerNo, DeviceState, Outside, Event, EventRefusal, Text, Pick, World, Memory, run, go_on, Setup, Chance, Task, Begins, Meets, Dismisses, State, next_task, begun, Deed, Use, Devices, Alone, Befalls, IsRecovery, IsLookedOver, IsCalled, PrintsNothing, showing, deed_of, met, acted, outside_texts, made, done, none, more, Moment, Leads, IsQuiet, IsBlank, still, goes, GoesSo, recovered, is_used_up, crashed_at, refusal_of, ◌*◌, cleaned_get_calls, s0, uses, IsUsed, disarmed, powered_off, recovered-calm, called-calm, Raised, no-faults, scrubbed, stopped_idle, IsScrubbed, found_on, pairs_view}
+use Rattle.jn_wrong.proofs.Common.{◌≡◌, inl, ℕ, ◌<◌, Bool, true, false, List, [], drop, Option, Some, None, is_some, refl, sym, ◌∙◌, ap, subst, arith, ServerNo, DeviceState, Outside, Event, EventRefusal, Text, Pick, World, Memory, run, go_on, Setup, Chance, allowed, Task, Begins, Meets, Dismisses, State, next_task, begun, Deed, Use, Devices, Alone, Befalls, IsRecovery, IsLookedOver, IsCalled, PrintsNothing, showing, deed_of, met, acted, outside_texts, made, done, none, more, Moment, Leads, IsQuiet, IsBlank, still, goes, GoesSo, recovered, is_used_up, crashed_at, refusal_of, ◌*◌, cleaned_get_calls, s0, uses, IsUsed, disarmed, powered_off, recovered-calm, called-calm, Raised, no-faults, scrubbed, stopped_idle, IsScrubbed, found_on, pairs_view}
 use Rattle.jn_schedule.specs.declared.Event.TheVariants as events
 use Rattle.jn_wrong.proofs.Bare.{bare, bare_course, done-bare, made-same}
 use Rattle.jn_wrong.proofs.Chanced.{comes-so, not-used, looks-same, is-met}
@@ -79,23 +79,23 @@ module _ (x : Setup) (one : x.servers ≡ 1) (last : Moment) (over : next_task l
 
   -- what befalls the device between its calls is done
   pub answers-one : (s : State) (e : Event) (device : Use) (texts : Bool → List Text) (answer : Bool) (P P' : DeviceState → Type 0) → next_task s ≡ Some (Meets e) → refusal_of x s.course.world e ≡ None
-      → ((h : Chance) → acted x h e s.course.world ≡ uses s0 device (texts h.allows)) → ((told : List Outside) → outside_texts device told ≡ [])
-      → ((h : Chance) (ds es : Devices) → IsUsed x h device s.course.world s.course.world ds es → P (ds s0) → (h.allows ≡ answer) × P' (es s0))
+      → ((h : Chance) → acted x h e s.course.world ≡ uses s0 device (texts (allowed h.found))) → ((told : List Outside) → outside_texts device told ≡ [])
+      → ((h : Chance) (ds es : Devices) → IsUsed x h device s.course.world s.course.world ds es → P (ds s0) → (allowed h.found ≡ answer) × P' (es s0))
       → Stand x last s P → Stand x last (answered x s e device (texts answer)) P'
   answers-one s e device texts answer P P' n unrefused acts silent tells h = by (drive s (Meets e) h.moment h.leads h.state n)
     where
-      deed-is : (g : Chance) → deed_of x g (Meets e) s ≡ uses s0 device (texts g.allows)
+      deed-is : (g : Chance) → deed_of x g (Meets e) s ≡ uses s0 device (texts (allowed g.found))
       deed-is g = ap (λ (o : Option EventRefusal). met x g e s.course.world o) unrefused ∙ acts g
 
       by : Driven s (Meets e) h.moment → Stand x last (answered x s e device (texts answer)) P'
       by d = at (subst (λ (deed : Deed). Befalls x d.chance deed s.course.world h.moment.devices d.next.devices) (deed-is d.chance) d.befalls)
         where
-          at : Befalls x d.chance (uses s0 device (texts d.chance.allows)) s.course.world h.moment.devices d.next.devices → Stand x last (answered x s e device (texts answer)) P'
+          at : Befalls x d.chance (uses s0 device (texts (allowed d.chance.found))) s.course.world h.moment.devices d.next.devices → Stand x last (answered x s e device (texts answer)) P'
           at b = let t = tells d.chance h.moment.devices d.next.devices b.used h.device in record {
             moment = d.next;
             leads = d.leads;
             state = d.state ∙ ap (λ (deed : Deed). bare (made x d.chance deed (begun (Meets e) s))) (deed-is d.chance)
-                ∙ made-same x d.chance (uses s0 device (texts d.chance.allows)) [] (begun (Meets e) s) (silent d.chance.told) (silent []) refl
+                ∙ made-same x d.chance (uses s0 device (texts (allowed d.chance.found))) [] (begun (Meets e) s) (silent d.chance.told) (silent []) refl
                 ∙ ap (λ (c : Bool). bare (made x still (uses s0 device (texts c)) (begun (Meets e) s))) t.0;
             device = t.1;
           }
@@ -178,10 +178,10 @@ module _ (x : Setup) (one : x.servers ≡ 1) (last : Moment) (over : next_task l
       by : Driven s (Meets (events.Show s0)) h.moment → Stand x last (done x still (Meets (events.Show s0)) s) P'
       by d = at (subst (λ (deed : Deed). Befalls x d.chance deed s.course.world h.moment.devices d.next.devices) (met-so d.chance) d.befalls)
         where
-          met-so : (g : Chance) → deed_of x g (Meets (events.Show s0)) s ≡ showing g s0 s.course.world
+          met-so : (g : Chance) → deed_of x g (Meets (events.Show s0)) s ≡ showing g s0
           met-so g = is-met x g s s0 is g
 
-          at : Befalls x d.chance (showing d.chance s0 s.course.world) s.course.world h.moment.devices d.next.devices → Stand x last (done x still (Meets (events.Show s0)) s) P'
+          at : Befalls x d.chance (showing d.chance s0) s.course.world h.moment.devices d.next.devices → Stand x last (done x still (Meets (events.Show s0)) s) P'
           at b = its b.used
             where
               its : Alone s0 (IsLookedOver (x.counts s0) d.chance s.course.world s0) h.moment.devices d.next.devices → Stand x last (done x still (Meets (events.Show s0)) s) P'
@@ -199,7 +199,7 @@ module _ (x : Setup) (one : x.servers ≡ 1) (last : Moment) (over : next_task l
       → ((h : Chance) → is_used_up h s0 s.course.world ≡ false → deed_of x h task s ≡ recovered h s0) → s.course.world.memory s0 ≡ None
       → ((d : DeviceState) → P d → (d.told ≡ []) × (d.waiting ≡ []))
       → ((h : Chance) → h.stop ≡ None → is_some ((run (recovered h s0).steps s.course.world).memory s0) ≡ true)
-      → ((h : Chance) (b : Bool) (d e : DeviceState) → IsRecovery (x.counts s0) h b d e → P d → e.power ≡ true → h.stop ≡ None
+      → ((h : Chance) (d e : DeviceState) → IsRecovery (x.counts s0) h true d e → P d → e.power ≡ true → h.stop ≡ None
       → ((c : Pick) → (run (recovered h s0).steps s.course.world).found s0 c ≡ found_on (x.counts s0) (pairs_view e) c) → P' e)
       → Stand x last s P → Stand x last (made x still (recovered still s0) (begun task s)) P'
   recovers-one s task P P' is n same acts down quiet rises comes h = by (drive s task h.moment h.leads h.state n)
@@ -232,11 +232,14 @@ module _ (x : Setup) (one : x.servers ≡ 1) (last : Moment) (over : next_task l
           }
             where
               its : Alone s0 (IsRecovery (x.counts s0) d.chance (is_some ((run (recovered d.chance s0).steps s.course.world).memory s0))) h.moment.devices d.next.devices → P' (d.next.devices s0)
-              its a = comes d.chance _ (h.moment.devices s0) (d.next.devices s0) a.its h.device
-                  (calm.power (rises d.chance calm.stop)) calm.stop (λ c. b.found s0 c (subst (λ (n : ℕ). 0 < n) (sym one) (omega arith)))
+              its a = comes d.chance (h.moment.devices s0) (d.next.devices s0) (subst (λ (c : Bool). IsRecovery (x.counts s0) d.chance c (h.moment.devices s0) (d.next.devices s0)) is-up a.its) h.device
+                  (calm.power is-up) calm.stop (λ c. b.found s0 c (subst (λ (n : ℕ). 0 < n) (sym one) (omega arith)))
                 where
                   calm : Raised d.chance (is_some ((run (recovered d.chance s0).steps s.course.world).memory s0)) (d.next.devices s0)
                   calm = let z = quiet (h.moment.devices s0) h.device in recovered-calm (x.counts s0) d.chance _ (h.moment.devices s0) (d.next.devices s0) a.its z.0 z.1
+
+                  is-up : is_some ((run (recovered d.chance s0).steps s.course.world).memory s0) ≡ true
+                  is-up = rises d.chance calm.stop
 
   -- no fault waits any more
   pub dismisses-one : (s : State) (P P' : DeviceState → Type 0) → next_task s ≡ Some Dismisses → ((d : DeviceState) → P d → P' (disarmed d)) → Stand x last s P → Stand x last (done x still Dismisses s) P'

@@ -1,7 +1,6 @@
 -- A server comes up in a later epoch each time.
-use Rattle.jn_wrong.proofs.Common.{◌≡◌, ◌≢◌, ◌⊎◌, inl, inr, ℕ, ◌+◌, ◌≤◌, Bool, true, false, List, [], ◌∷◌, refl, sym, ◌∙◌, subst, arith, ◌&&◌, ◌||◌, not, if◌then◌else◌, nat_lt, take, nat_tests, ServerNo, server_eq, server_tells, AllFiles, Event, Text, StableState, Change, AddReady, MarkGoing, CarryOut, RemoveWork, AddFlag, DropFlag, Pick, made_by, made_all, World, named_now, Step, after, Setup, State, MayLead, before, epoch_after, may_rise, epochs_rise, restart_with, one-found, FoundThen, by_narrowing, by_raising, StepCase, client_row, row_done, row_stopped, gone_late, gone_down, come_up, found_anew, dismissed, quietly, step-case}
+use Rattle.jn_wrong.proofs.Common.{◌≡◌, ◌≢◌, ◌⊎◌, inl, inr, ℕ, ◌+◌, ◌≤◌, Bool, true, false, List, [], ◌∷◌, refl, sym, ◌∙◌, subst, arith, ◌&&◌, ◌||◌, not, if◌then◌else◌, nat_lt, take, nat_tests, ServerNo, server_eq, server_tells, AllFiles, Event, Text, StableState, Change, AddReady, MarkGoing, CarryOut, RemoveWork, AddFlag, DropFlag, Pick, made_by, made_all, World, named_now, Step, after, Setup, State, MayLead, before, epoch_after, may_rise, epochs_rise, restart_with, one-found, FoundThen, by_narrowing, by_raising, StepCase, client_row, row_done, row_stopped, gone_late, gone_down, come_up, found_anew, dismissed, quietly, step-case, with_epoch}
 use Rattle.jn_report.specs.declared.line.Text.TheVariants as says
-use Rattle.jn_system.specs.SmallSteps.Steps.{with_epoch}
 use Rattle.jn_wrong.proofs.Turns.{Aside, no-lines, client-aside, row-aside, quiet-aside}
 use Rattle.jn_wrong.proofs.Reading.{no_turn, named-quiet, reads, quiet-reads, quiet-behind, Reading, run-read}
 

@@ -189,8 +189,8 @@ pub record IsRunOf (n : ℕ) (trace : Bool) (schedule : List Event) (steps : ℕ
   pub end : next_task (goes (setup_of n trace counts) steps (before (setup_of n trace counts) schedule no_files (new_epochs n epochs))) ≡ None
   pub tells : (goes (setup_of n trace counts) steps (before (setup_of n trace counts) schedule no_files (new_epochs n epochs))).lines ≡ report
 
-module _ (n : ℕ) (trace : Bool) (schedule : List Event) (steps : ℕ) (report : List Line) (runs : (counts : ServerNo → Counts) (epochs : ServerNo → ℕ) → IsRunOf n trace schedule steps report counts epochs) where
-  module _ (counts : ServerNo → Counts) (images : Devices) (new : AreNew (setup_of n trace counts) images) where
+module _ (n : ℕ) (trace : Bool) (schedule : List Event) (steps : ℕ) (report : List Line) where
+  module _ (counts : ServerNo → Counts) (runs : (epochs : ServerNo → ℕ) → IsRunOf n trace schedule steps report counts epochs) (images : Devices) (new : AreNew (setup_of n trace counts) images) where
     abbrev the_setup : Setup
     the_setup = setup_of n trace counts
 
@@ -199,14 +199,15 @@ module _ (n : ℕ) (trace : Bool) (schedule : List Event) (steps : ℕ) (report 
       told last leads over = ap (λ (t : State). t.lines) (sim the_setup steps (before the_setup schedule no_files (new_epochs n epochs)) r.so r.end (record { state = before the_setup schedule files epochs; devices = images }) last leads (ap bare (start n trace schedule counts images new files epochs are)) (inl (quiet n trace schedule counts images new files epochs are)) over) ∙ r.tells
         where
           r : IsRunOf n trace schedule steps report counts epochs
-          r = runs counts epochs
+          r = runs epochs
 
-    is-only : (closing : Devices) (lines : List Line) → IsWhole the_setup schedule images closing lines → lines ≡ report
+    pub is-only : (closing : Devices) (lines : List Line) → IsWhole the_setup schedule images closing lines → lines ≡ report
     is-only closing lines h = sym h.lines_are ∙ told h.written.files h.written.epochs h.written.are_images h.last h.written.leads
         (ap (λ (stage : Stage). next_at stage h.last.state.tasks) h.stage ∙ ap (λ (tasks : List Task). next_at AtEnd tasks) h.tasks)
 
-  pub only : IsOnly n trace schedule report
-  only x images closing lines servers traces new whole = subst (λ (y : Setup). AreNew y images → IsWhole y schedule images closing lines → lines ≡ report) (sym is) (λ a h. is-only x.counts images a closing lines h) new whole
+  pub only : ((counts : ServerNo → Counts) (epochs : ServerNo → ℕ) → IsRunOf n trace schedule steps report counts epochs) → IsOnly n trace schedule report
+  only runs x images closing lines servers traces new whole = subst (λ (y : Setup). AreNew y images → IsWhole y schedule images closing lines → lines ≡ report) (sym is)
+      (λ a h. is-only x.counts (runs x.counts) images a closing lines h) new whole
     where
       is : x ≡ setup_of n trace x.counts
       is = ap (λ (m : ℕ). record x { servers = m }) servers ∙ ap (λ (b : Bool). record x { servers = n; trace = b }) traces

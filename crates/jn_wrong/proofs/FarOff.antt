@@ -1,5 +1,5 @@
 -- A show makes too few calls to come to a stop that waits for call 1,000,000.
-use Rattle.jn_wrong.proofs.Common.{◌≡◌, ◌≤◌, ℕ, ◌+◌, ◌++◌, Bool, true, false, not, List, [], ◌∷◌, Option, Some, None, is_some, refl, sym, ◌∙◌, ap, subst, arith, if◌then◌else◌, ServerNo, Chance, Begins, Meets, ComesUp, Dismisses, State, next_task, TooManyArmed, Arms, Pick, IsCalled, IsRecovery, given_up, recovered, recovering, told_unless, done, made, run, Moment, still, ◌*◌, Armed, DeviceState, may_arm, powered_off, FaultArmed, cleaned_get_calls, s0, IsOnlyOfGood, arms_far, quiet_report}
+use Rattle.jn_wrong.proofs.Common.{◌≡◌, ◌≤◌, ℕ, ◌+◌, ◌++◌, Bool, true, false, not, List, [], ◌∷◌, Option, Some, None, is_some, refl, sym, ◌∙◌, ap, subst, arith, if◌then◌else◌, ServerNo, Chance, allowed, Begins, Meets, ComesUp, Dismisses, State, next_task, TooManyArmed, Arms, Pick, IsCalled, IsRecovery, given_up, recovered, recovering, told_unless, done, made, run, Moment, still, ◌*◌, Armed, DeviceState, may_arm, FaultArmed, cleaned_get_calls, s0, IsOnlyOfGood, arms_far, quiet_report}
 use Rattle.jn_base.specs.declared.device.FaultKind.TheVariants as faults
 use Rattle.jn_schedule.specs.declared.Event.TheVariants as events
 use Rattle.jn_report.specs.declared.line.Text.TheVariants as says
@@ -19,21 +19,14 @@ record WaitsEarly (wait : List Armed) (d : DeviceState) : Type 0 where
   power : d.power ≡ true
   calls : d.calls ≤ 10000
 
-recovery-early : (b : Bool) (h : Chance) (d e : DeviceState) → IsRecovery (x1.counts s0) h b d e → IsWhole d → e.power ≡ true → WaitsEarly [] e
-recovery-early b h d e r w lit = let p = recovery-pairs (x1.counts s0) h b d e r (both-good d w) lit in record {
+recovery-early : (h : Chance) (d e : DeviceState) → IsRecovery (x1.counts s0) h true d e → IsWhole d → e.power ≡ true → WaitsEarly [] e
+recovery-early h d e r w lit = let p = recovery-pairs (x1.counts s0) h d e r (both-good d w) lit in record {
   waiting = p.waiting;
   told = p.told;
   power = lit;
-  calls = few (ap (λ (f : DeviceState). f.calls) (r.after ∙ ap (λ (f : DeviceState). if b then f else powered_off f) r.called.after) ∙ either b) r.called.few r.power.calls w.calls;
+  calls = few (ap (λ (f : DeviceState). f.calls) (r.after ∙ r.called.after)) r.called.few r.power.calls w.calls;
 }
   where
-    called : DeviceState
-    called = record r.called.last { told = [] }
-
-    either : (c : Bool) → (if c then called else powered_off called).calls ≡ r.called.last.calls
-    either true = refl
-    either false = refl
-
     few : {a b c n : ℕ} → a ≡ b → b ≤ c + 1704 → c ≡ n → n ≤ 16 → a ≤ 10000
     few i j k l = omega (arith, i, j, k, l)
 
@@ -44,7 +37,7 @@ module _ (epochs : ServerNo → ℕ) (last : Moment) (over : next_task last.stat
       (λ g e. ap (λ (b : Bool). if b then record (given_up g s0) { cuts = true } else recovered g s0) e) refl
       (λ d p. (p.told, p.waiting))
       (λ g e. ap (λ stop. is_some ((run (recovering g s0 stop) (at_first arms_far epochs).course.world).memory s0)) e)
-      (λ g b d e r p lit stop found. recovery-early b g d e r p lit) h
+      (λ g d e r p lit stop found. recovery-early g d e r p lit) h
 
   abbrev first : State
   first = done x1 still (Begins (events.Arm s0 1000000 faults.StopBefore)) (at_up arms_far epochs)
@@ -63,11 +56,11 @@ module _ (epochs : ServerNo → ℕ) (last : Moment) (over : next_task last.stat
 
   arms-far : Stand x1 last first (WaitsEarly []) → Stand x1 last armed (WaitsEarly (far ∷ []))
   arms-far h = answers-one x1 refl last over first (events.Arm s0 1000000 faults.StopBefore) (Arms s0 1000000 faults.StopBefore) (λ b. told_unless b (says.RefusedEvent TooManyArmed)) true (WaitsEarly []) (WaitsEarly (far ∷ []))
-      refl refl (λ g. refl) (λ told. refl) (λ g ds es used p. by (ds s0) (es s0) g.allows used.its p) h
+      refl refl (λ g. refl) (λ told. refl) (λ g ds es used p. by (ds s0) (es s0) (allowed g.found) used.its p) h
     where
       by : (d e : DeviceState) (answer : Bool) → FaultArmed d 1000000 faults.StopBefore answer e → WaitsEarly [] d → (answer ≡ true) × WaitsEarly (far ∷ []) e
       by d e answer a p = (
-        allowed,
+        permitted,
         record {
           waiting = ap (λ (f : DeviceState). f.waiting) is ∙ ap (λ (ws : List Armed). ws ++ far ∷ []) p.waiting;
           told = ap (λ (f : DeviceState). f.told) is ∙ p.told;
@@ -76,11 +69,11 @@ module _ (epochs : ServerNo → ℕ) (last : Moment) (over : next_task last.stat
         },
       )
         where
-          allowed : answer ≡ true
-          allowed = a.answers ∙ ap (may_arm 1000000) p.waiting
+          permitted : answer ≡ true
+          permitted = a.answers ∙ ap (may_arm 1000000) p.waiting
 
           is : e ≡ record d { waiting = d.waiting ++ far ∷ [] }
-          is = a.armed ∙ ap (λ (b : Bool). record d { waiting = if b then d.waiting ++ far ∷ [] else d.waiting }) allowed
+          is = a.armed ∙ ap (λ (b : Bool). record d { waiting = if b then d.waiting ++ far ∷ [] else d.waiting }) permitted
 
   -- what is left of what waited goes at the end
   record IsLit (d : DeviceState) : Type 0 where

@@ -65,7 +65,7 @@ module _ (last : Moment) (over : next_task last.state ≡ None) where
         (λ g e. ap (λ (b : Bool). if b then record (given_up g s0) { texts = says.RefusedEvent EpochsUsedUp ∷ [] } else recovered g s0) e) refl
         (λ d p. (p.told, p.waiting))
         (λ g e. ap (λ stop. is_some ((run (recovering g s0 stop) (begun_by (events.Restart s0) down).course.world).memory s0)) e)
-        (λ g b d e r p lit stop found. recovery-pairs (x1.counts s0) g b d e r (pair-good false 3 d p) lit)
+        (λ g d e r p lit stop found. recovery-pairs (x1.counts s0) g d e r (pair-good false 3 d p) lit)
         (begins-one x1 refl last over down (events.Restart s0) (Pair false true 3) refl h)
 
     pub forgiven : Stand x1 last up_once (Pair true true 0) → last.state.lines ≡ forgiven_report

@@ -29,9 +29,12 @@ pub mod Driving
 pub mod Pairs
 pub mod OneServer
 pub mod Forgiven
+pub mod Restarted
 pub mod Waiting
 pub mod FarOff
 pub mod Struck
 pub mod Misreported
+pub mod Rightly
 pub mod Told
 pub mod Scrubbed
+pub mod Mended

@@ -1,5 +1,5 @@
 -- What runs with faults and crashes tell, each the only report that its schedule has.
-use Rattle.jn_wrong.proofs.Common.{◌≡◌, ℕ, Bool, true, false, List, [], ◌∷◌, Some, None, is_some, refl, sym, ◌∙◌, ap, not, if◌then◌else◌, nat_lt, ◌+◌, ◌<◌, arith, refusal_of, ServerNo, no_files, AllFiles, Event, Text, Line, Setup, Task, Begins, Meets, ComesUp, State, Stage, AtEnd, next_at, next_task, Devices, told_unless, recovered, recovering, begun, done, made, run, Moment, Leads, before, AreImages, AreNew, still, given_up, Decays, Revives, DeviceState, PageDecays, s0, setup, AreGood, IsOnlyOfGood, IsNoneOfGood, quiet_report, decays_once, decays_both, both_report, decays_behind_scrub}
+use Rattle.jn_wrong.proofs.Common.{◌≡◌, ℕ, Bool, true, false, List, [], ◌∷◌, Some, None, is_some, refl, sym, ◌∙◌, ap, not, if◌then◌else◌, nat_lt, ◌+◌, ◌<◌, arith, refusal_of, ServerNo, no_files, AllFiles, Event, Text, Line, Setup, allowed, Task, Begins, Meets, ComesUp, State, Stage, AtEnd, next_at, next_task, Devices, told_unless, recovered, recovering, begun, done, made, run, Moment, Leads, before, AreImages, AreNew, still, given_up, Decays, Revives, DeviceState, PageDecays, s0, setup, AreGood, IsOnlyOfGood, IsNoneOfGood, quiet_report, decays_once, decays_both, both_report, decays_behind_scrub}
 use Rattle.jn_base.specs.declared.device.FaultKind.TheVariants as faults
 use Rattle.jn_schedule.specs.declared.Event.TheVariants as events
 use Rattle.jn_report.specs.declared.line.Text.TheVariants as says
@@ -62,14 +62,14 @@ module _ (schedule : List Event) (epochs : ServerNo → ℕ) (last : Moment) (ov
       (λ g e. ap (λ (b : Bool). if b then record (given_up g s0) { cuts = true } else recovered g s0) e) refl
       (λ d p. (p.told, p.waiting))
       (λ g e. ap (λ stop. is_some ((run (recovering g s0 stop) (at_first schedule epochs).course.world).memory s0)) e)
-      (λ g b d e r p lit stop found. recovery-pairs (x1.counts s0) g b d e r (both-good d p) lit) h
+      (λ g d e r p lit stop found. recovery-pairs (x1.counts s0) g d e r (both-good d p) lit) h
 
 module _ (last : Moment) (over : next_task last.state ≡ None) where
   -- half 5 decays, which is allowed
   pub decays-one : (s : State) (k : ℕ) → nat_lt k 3 ≡ true → next_task s ≡ Some (Meets (events.Decay s0 5)) → refusal_of x1 s.course.world (events.Decay s0 5) ≡ None
       → Stand x1 last s (Pair true true k) → Stand x1 last (answered x1 s (events.Decay s0 5) (Decays s0 5) []) (Pair true false (k + 1))
   decays-one s k few n unrefused h = answers-one x1 refl last over s (events.Decay s0 5) (Decays s0 5) (λ b. told_unless b (says.Outside s0 (record { kind = faults.Decay 5; page = 5 }))) true (Pair true true k) (Pair true false (k + 1))
-      n unrefused (λ g. refl) (λ told. refl) (λ g ds es used p. by (ds s0) (es s0) g.allows used.its p) h
+      n unrefused (λ g. refl) (λ told. refl) (λ g ds es used p. by (ds s0) (es s0) (allowed g.found) used.its p) h
     where
       by : (d e : DeviceState) (answer : Bool) → PageDecays d 5 answer e → Pair true true k d → (answer ≡ true) × Pair true false (k + 1) e
       by d e answer b p = (b.answers ∙ ap not (decay-allowed true k few d p), decay-pairs true k few d p answer e b)
@@ -151,7 +151,7 @@ both-only = only-of-good decays_both both_report (λ epochs last over h. by epoc
 
         second : Stand x1 last now IsStill
         second = answers-one x1 refl last over other (events.Decay s0 182) (Decays s0 182) told false (Pair true false 1) IsStill refl refl (λ g. refl) (λ untold. refl)
-            (λ g ds es used p. refused (ds s0) (es s0) g.allows used.its p) (begins-one x1 refl last over decayed (events.Decay s0 182) (Pair true false 1) refl one)
+            (λ g ds es used p. refused (ds s0) (es s0) (allowed g.found) used.its p) (begins-one x1 refl last over decayed (events.Decay s0 182) (Pair true false 1) refl one)
           where
             refused : (d e : DeviceState) (answer : Bool) → PageDecays d 182 answer e → Pair true false 1 d → (answer ≡ false) × IsStill e
             refused d e answer b p = (b.answers ∙ ap not (other-outside true 1 d p), decay-still false 1 182 answer d e p b)
@@ -206,7 +206,7 @@ scrubbed-only = only-of-good decays_behind_scrub quiet_report (λ epochs last ov
 
         third : Stand x1 last now IsStill
         third = answers-one x1 refl last over other (events.Decay s0 182) (Decays s0 182) told true IsRestored IsStill refl refl (λ g. refl) (λ untold. refl)
-            (λ g ds es used p. allowed (ds s0) (es s0) g.allows used.its p) (begins-one x1 refl last over clean (events.Decay s0 182) IsRestored refl two)
+            (λ g ds es used p. permitted (ds s0) (es s0) (allowed g.found) used.its p) (begins-one x1 refl last over clean (events.Decay s0 182) IsRestored refl two)
           where
-            allowed : (d e : DeviceState) (answer : Bool) → PageDecays d 182 answer e → IsRestored d → (answer ≡ true) × IsStill e
-            allowed d e answer b p = (b.answers ∙ ap not (other-allowed d p), record { waiting = b.becomes.waiting ∙ p.waiting; told = b.becomes.told ∙ p.told; power = b.becomes.power_is ∙ p.power_is })
+            permitted : (d e : DeviceState) (answer : Bool) → PageDecays d 182 answer e → IsRestored d → (answer ≡ true) × IsStill e
+            permitted d e answer b p = (b.answers ∙ ap not (other-allowed d p), record { waiting = b.becomes.waiting ∙ p.waiting; told = b.becomes.told ∙ p.told; power = b.becomes.power_is ∙ p.power_is })

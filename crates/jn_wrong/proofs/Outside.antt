@@ -1,10 +1,9 @@
 -- The lines of a step that tell of refused faults are those that its device told.
-use Rattle.jn_wrong.proofs.Common.{◌≡◌, ◌≢◌, ◌⊎◌, inl, inr, ℕ, ◌+◌, Bool, true, false, List, [], ◌∷◌, ◌++◌, append-nil, map, length, Option, Some, None, is_some, refl, ◌∙◌, ap, arith, not, filter, if◌then◌else◌, slice_get, ServerNo, Party, Client, Server, Outside, DeviceState, Event, EventRefusal, TooManyArmed, EpochsUsedUp, Text, Line, Sent, Pick, World, Memory, Printed, FileThere, PageStored, UnitLocked, print_files, Step, run, Course, go_on, newly_sent, text_printed, prints_of, Setup, Chance, Task, Begins, Meets, Acts, Rests, ComesUp, Dismisses, GoesDown, ClosesClients, CountsCommits, CutShort, State, when_of, begun, Use, Nothing, Calls, Reads, Recovers, PowersOff, Decays, Revives, Arms, Disarms, Deed, blocks_from, delivered, delivered_at, is_busy, worked, served, working_steps, nothing, shown, crashed_at, is_used_up, restarted, recovered, given_up, brought_up, Devices, IsCalled, IsRecovery, IsUsed, refusal_of, told_unless, acted, met, next_in, resting, deed_of, outside_texts, own_texts, message_texts, traced, texts_of, lines_at, is_too_much, come_to, cut_short, Moment, DoesStep, may_tell, begun-lines, powered_off, Cleans, step_calls}
+use Rattle.jn_wrong.proofs.Common.{◌≡◌, ◌≢◌, ◌⊎◌, inl, inr, ℕ, ◌+◌, Bool, true, false, List, [], ◌∷◌, ◌++◌, append-nil, map, length, Option, Some, None, is_some, refl, ◌∙◌, ap, arith, not, filter, if◌then◌else◌, slice_get, ServerNo, Party, Client, Server, Outside, DeviceState, Event, EventRefusal, TooManyArmed, EpochsUsedUp, Text, Line, Sent, Pick, World, Memory, Printed, FileThere, PageStored, UnitLocked, Step, run, Course, go_on, newly_sent, text_printed, Setup, Chance, prints_found, allowed, Task, Begins, Meets, Acts, Rests, ComesUp, Dismisses, GoesDown, ClosesClients, CountsCommits, CutShort, State, when_of, begun, Use, Nothing, Calls, Reads, Recovers, PowersOff, Decays, Revives, Arms, Disarms, Deed, delivered, delivered_at, is_busy, worked, served, working_steps, nothing, shown, crashed_at, is_used_up, restarted, recovered, given_up, brought_up, Devices, IsCalled, IsRecovery, IsUsed, refusal_of, told_unless, acted, met, next_in, resting, deed_of, outside_texts, own_texts, message_texts, traced, texts_of, lines_at, is_too_much, come_to, cut_short, Moment, DoesStep, may_tell, begun-lines, powered_off, Cleans, step_calls, is_outside, outside_lines, outside_at, TellsOf, TellsRaised, AreToldBy, TellsFaults}
 use Rattle.jn_base.specs.declared.device.FaultKind.TheVariants as faults
 use Rattle.jn_schedule.specs.declared.Event.TheVariants as events
 use Rattle.jn_report.specs.declared.line.Text.TheVariants as says
 use Rattle.jn_wrong.proofs.Filtered.{filter-both, lines-left, is_of_step, step-tells, own-filtered}
-use Rattle.jn_wrong.specs.Telling.{is_outside, outside_lines, outside_at, TellsOf, TellsRaised, AreToldBy, TellsFaults}
 
 abbrev no_fault : Text → Bool
 no_fault text = not (is_outside text)
@@ -32,16 +31,15 @@ printed-none q (FileThere f ∷ prints) = printed-none q prints
 printed-none q (PageStored f p bytes ∷ prints) = printed-none q prints
 printed-none q (UnitLocked u T ∷ prints) = printed-none q prints
 
-shown-none : (h : Chance) (q : ServerNo) (w : World) (o : Option Memory) (stop : Option (Pick → ℕ)) → filter is_outside (shown h q w o stop) ≡ []
-shown-none h q w None stop = refl
-shown-none h q w (Some m) (Some made) = refl
-shown-none h q w (Some m) None = printed-none q (print_files (prints_of q w m) (λ f. blocks_from 0 120) h.files)
+shown-none : (q : ServerNo) (prints : List Printed) (stop : Option (Pick → ℕ)) → filter is_outside (shown q prints stop) ≡ []
+shown-none q prints None = printed-none q prints
+shown-none q prints (Some made) = refl
 
 -- ---- what is told of one
 
 -- a decay that the device didn't allow
 abbrev of_decay : Use → Chance → List Text
-of_decay (Decays q p) h = told_unless h.allows (says.Outside q (record { kind = faults.Decay p; page = p }))
+of_decay (Decays q p) h = told_unless (allowed h.found) (says.Outside q (record { kind = faults.Decay p; page = p }))
 of_decay device h = []
 
 abbrev Tells_just : Chance → Deed → Type 0
@@ -90,7 +88,7 @@ acts-just x h (events.Step q) w = worked-just h q w
 acts-just x h (events.Nudge q) w = refl
 acts-just x h (events.Timeout q T) w = refl
 acts-just x h (events.Scrub q) w = refl
-acts-just x h (events.Decay q p) w = by h.allows
+acts-just x h (events.Decay q p) w = by (allowed h.found)
   where
     fault : Text
     fault = says.Outside q (record { kind = faults.Decay p; page = p })
@@ -99,14 +97,14 @@ acts-just x h (events.Decay q p) w = by h.allows
     by true = refl
     by false = refl
 acts-just x h (events.Revive q p) w = refl
-acts-just x h (events.Arm q n kind) w = by h.allows
+acts-just x h (events.Arm q n kind) w = by (allowed h.found)
   where
     by : (b : Bool) → filter is_outside (told_unless b (says.RefusedEvent TooManyArmed)) ≡ []
     by true = refl
     by false = refl
 acts-just x h (events.Crash q) w = crashed-just h q (w.memory q)
 acts-just x h (events.Restart q) w = restarted-just h q w
-acts-just x h (events.Show q) w = shown-none h q w (w.memory q) h.stop
+acts-just x h (events.Show q) w = shown-none q (prints_found h.found) h.stop
 
 meets-just : (x : Setup) (h : Chance) (event : Event) (w : World) (o : Option EventRefusal) → Tells_just h (met x h event w o)
 meets-just x h event w (Some refusal) = refl

@@ -1,5 +1,5 @@
 -- What decays, revivals and restarts do to the two halves of a page, of 177: physical pages 5 and 182.
-use Rattle.jn_wrong.proofs.Common.{◌≡◌, ◌≤◌, ℕ, ◌+◌, Bool, true, false, List, [], ◌∷◌, ◌++◌, refl, ◌∙◌, ap, not, ◌&&◌, if◌then◌else◌, nat_lt, DeviceState, Counts, Chance, IsRecovery, IsCalled, World, None, arith, ◌*◌, FaultKind, Armed, PageState, decayed, may_decay_at, decay_outside, powered_off, page_count, put_calls, pairs_view, IsWholePage, s0, IsScrubbed}
+use Rattle.jn_wrong.proofs.Common.{◌≡◌, ◌≤◌, ℕ, ◌+◌, Bool, true, false, List, [], ◌∷◌, ◌++◌, refl, ◌∙◌, ap, not, ◌&&◌, if◌then◌else◌, nat_lt, DeviceState, Counts, Chance, IsRecovery, IsCalled, World, None, arith, ◌*◌, FaultKind, Armed, PageState, decayed, may_decay_at, decay_outside, page_count, put_calls, pairs_view, IsWholePage, s0, IsScrubbed}
 use Rattle.std.specs.Prelude.{◌/◌}
 use Rattle.jn_device.specs.Events.{Decays, Revives, Arms}
 use Rattle.jn_written.proofs.Called.{called-later}
@@ -44,36 +44,32 @@ both-good d h = record { count = h.count; waiting = h.waiting; told = h.told; fi
 pub pair-good : (power : Bool) (k : ℕ) (d : DeviceState) → Pair power true k d → AreBothGood d
 pair-good power k d h = record { count = h.count; waiting = h.waiting; told = h.told; first = h.first; second = h.second }
 
-pub recovery-pairs : (g : Counts) (h : Chance) (b : Bool) (d e : DeviceState) → IsRecovery g h b d e → AreBothGood d → e.power ≡ true → Pair true true 0 e
-recovery-pairs g h b d e r a lit = record {
-  count = ap (λ (f : DeviceState). f.count) is ∙ either b (λ (f : DeviceState). f.count) refl ∙ (let later = called-later _ h r.powered r.last r.called in later.count) ∙ r.power.count ∙ a.count;
-  waiting = ap (λ (f : DeviceState). f.waiting) is ∙ either b (λ (f : DeviceState). f.waiting) refl ∙ (spared 5 a.first).waiting;
-  told = ap (λ (f : DeviceState). f.told) is ∙ either b (λ (f : DeviceState). f.told) refl;
+-- a half that is good stays so in a restart that brings the server up, and hasn't failed then
+recovery-spares : (g : Counts) (h : Chance) (d e : DeviceState) (r : IsRecovery g h true d e) → d.waiting ≡ [] → (q : ℕ) → (d.pages q).good ≡ true → IsSpared q r.called.last
+recovery-spares g h d e r quiet q good = calls-spare q r.powered r.called.last r.called.happens (record {
+  waiting = r.power.waiting ∙ quiet;
+  power = r.power.power_is;
+  good = ap (λ (y : PageState). y.good) (r.power.pages_are q) ∙ good;
+  fails = ap (λ (y : PageState). y.fails) (r.power.pages_are q);
+})
+
+pub recovery-pairs : (g : Counts) (h : Chance) (d e : DeviceState) → IsRecovery g h true d e → AreBothGood d → e.power ≡ true → Pair true true 0 e
+recovery-pairs g h d e r a lit = record {
+  count = ap (λ (f : DeviceState). f.count) is ∙ (let later = called-later _ h r.powered r.last r.called in later.count) ∙ r.power.count ∙ a.count;
+  waiting = ap (λ (f : DeviceState). f.waiting) is ∙ (spared 5 a.first).waiting;
+  told = ap (λ (f : DeviceState). f.told) is;
   power_is = lit;
-  first = ap (λ (f : DeviceState). (f.pages 5).good) is ∙ either b (λ (f : DeviceState). (f.pages 5).good) refl ∙ (spared 5 a.first).good;
-  failed = ap (λ (f : DeviceState). (f.pages 5).fails) is ∙ either b (λ (f : DeviceState). (f.pages 5).fails) refl ∙ (spared 5 a.first).fails;
-  second = ap (λ (f : DeviceState). (f.pages 182).good) is ∙ either b (λ (f : DeviceState). (f.pages 182).good) refl ∙ (spared 182 a.second).good;
-  unfailed = ap (λ (f : DeviceState). (f.pages 182).fails) is ∙ either b (λ (f : DeviceState). (f.pages 182).fails) refl ∙ (spared 182 a.second).fails;
+  first = ap (λ (f : DeviceState). (f.pages 5).good) is ∙ (spared 5 a.first).good;
+  failed = ap (λ (f : DeviceState). (f.pages 5).fails) is ∙ (spared 5 a.first).fails;
+  second = ap (λ (f : DeviceState). (f.pages 182).good) is ∙ (spared 182 a.second).good;
+  unfailed = ap (λ (f : DeviceState). (f.pages 182).fails) is ∙ (spared 182 a.second).fails;
 }
   where
-    called : DeviceState
-    called = record r.called.last { told = [] }
-
-    is : e ≡ (if b then called else powered_off called)
-    is = r.after ∙ ap (λ (f : DeviceState). if b then f else powered_off f) r.called.after
-
-    -- what doesn't look at the power is the same
-    either : {A : Type 0} (c : Bool) (look : DeviceState → A) → look (powered_off called) ≡ look called → look (if c then called else powered_off called) ≡ look called
-    either true look same = refl
-    either false look same = same
+    is : e ≡ record r.called.last { told = [] }
+    is = r.after ∙ r.called.after
 
     spared : (q : ℕ) → (d.pages q).good ≡ true → IsSpared q r.called.last
-    spared q good = calls-spare q r.powered r.called.last r.called.happens (record {
-      waiting = r.power.waiting ∙ a.waiting;
-      power = r.power.power_is;
-      good = ap (λ (y : PageState). y.good) (r.power.pages_are q) ∙ good;
-      fails = ap (λ (y : PageState). y.fails) (r.power.pages_are q);
-    })
+    spared q good = recovery-spares g h d e r a.waiting q good
 
 -- ---- decays and revivals
 
@@ -126,7 +122,7 @@ other-outside power k d h = ap (λ (n : ℕ). decay_outside (n / 2) d.pages 182)
 pub decay-still : (good : Bool) (k : ℕ) (p : ℕ) (answer : Bool) (d e : DeviceState) → Pair true good k d → Decays d p answer e → IsStill e
 decay-still good k p answer d e h b = record { waiting = b.becomes.waiting ∙ h.waiting; told = b.becomes.told ∙ h.told; power = b.becomes.power_is ∙ h.power_is }
 
--- ---- scrubs
+-- ---- scrubs and restarts
 
 -- both halves are good, and the second one hasn't failed
 pub record IsRestored (d : DeviceState) : Type 0 where
@@ -138,13 +134,18 @@ pub record IsRestored (d : DeviceState) : Type 0 where
   pub second : (d.pages 182).good ≡ true
   pub unfailed : (d.pages 182).fails ≡ 0
 
+pub each-good : (a b : Bool) → (a && b) ≡ true → (a ≡ true) × (b ≡ true)
+each-good true true k = (refl, refl)
+each-good true false k = absurd (cc k)
+each-good false b k = absurd (cc k)
+
 pub scrub-restores : (h : Chance) (w : World) (d e : DeviceState) → IsScrubbed the_counts h w s0 d e → Pair true false 1 d → h.stop ≡ None → IsRestored e
 scrub-restores h w d e c p unstopped = record {
   count = count;
   waiting = ap (λ (f : DeviceState). f.waiting) called.after ∙ spared.waiting;
   told = ap (λ (f : DeviceState). f.told) called.after;
   power_is = ap (λ (f : DeviceState). f.power) called.after ∙ spared.power;
-  first = (both _ _ whole.both).0;
+  first = (each-good _ _ whole.both).0;
   second = ap (λ (f : DeviceState). (f.pages 182).good) called.after ∙ spared.good;
   unfailed = ap (λ (f : DeviceState). (f.pages 182).fails) called.after ∙ spared.fails;
 }
@@ -161,10 +162,26 @@ scrub-restores h w d e c p unstopped = record {
     whole : IsWholePage (pairs_view e) 5
     whole = c.whole unstopped (record { quiet = p.waiting; power = p.power_is }) 5 (omega arith)
 
-    both : (a b : Bool) → (a && b) ≡ true → (a ≡ true) × (b ≡ true)
-    both true true k = (refl, refl)
-    both true false k = absurd (cc k)
-    both false b k = absurd (cc k)
+-- page 5 is that of a record
+pub restart-restores : (h : Chance) (d e : DeviceState) → IsRecovery the_counts h true d e → Pair false false 1 d → e.power ≡ true → IsRestored e
+restart-restores h d e r p lit = record {
+  count = ap (λ (f : DeviceState). f.count) is ∙ (let later = called-later _ h r.powered r.last r.called in later.count) ∙ r.power.count ∙ p.count;
+  waiting = ap (λ (f : DeviceState). f.waiting) is ∙ spared.waiting;
+  told = ap (λ (f : DeviceState). f.told) is;
+  power_is = lit;
+  first = (each-good _ _ whole.both).0;
+  second = ap (λ (f : DeviceState). (f.pages 182).good) is ∙ spared.good;
+  unfailed = ap (λ (f : DeviceState). (f.pages 182).fails) is ∙ spared.fails;
+}
+  where
+    is : e ≡ record r.called.last { told = [] }
+    is = r.after ∙ r.called.after
+
+    spared : IsSpared 182 r.called.last
+    spared = recovery-spares the_counts h d e r p.waiting 182 p.second
+
+    whole : IsWholePage (pairs_view e) 5
+    whole = let front = r.front_whole refl p.waiting in front.pool 4 (omega arith)
 
 -- so the other half may go bad
 pub other-allowed : (d : DeviceState) → IsRestored d → decay_outside (d.count / 2) d.pages 182 ≡ false

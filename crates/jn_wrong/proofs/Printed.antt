@@ -1,5 +1,5 @@
 -- A show prints each file and each of its blocks once, in order, as they are there.
-use Rattle.jn_wrong.proofs.Common.{◌≡◌, ◌≢◌, ◌≤◌, ◌<◌, ◌⊎◌, inl, inr, ℕ, zero, suc, ◌+◌, Bool, true, false, List, [], ◌∷◌, ◌++◌, map, Option, Some, None, is_some, refl, sym, ◌∙◌, ap, subst, arith, ◌&&◌, ◌||◌, nat_lt, nat_eq, list_all, list_any, nat_tests, FileNo, Tid, LockUnit, File, Block, file_eq, file_tells, unit_eq, unit_before, are_rising, AreNames, Printed, FileThere, PageStored, UnitLocked, print_unit, print_one, print_blocks, print_file, print_files, file_before, blocks_from, unit_printed, prints_unit, AreThere, PrintsAll}
+use Rattle.jn_wrong.proofs.Common.{◌≡◌, ◌≢◌, ◌⊎◌, inl, inr, ℕ, Bool, true, false, List, [], ◌∷◌, ◌++◌, map, Option, Some, None, is_some, refl, sym, ◌∙◌, ap, subst, arith, ◌&&◌, ◌||◌, nat_lt, nat_eq, list_all, list_any, nat_tests, FileNo, Tid, LockUnit, File, Block, file_eq, block_eq, file_tells, block_tells, unit_eq, unit_before, are_rising, AreNames, Printed, FileThere, PageStored, UnitLocked, print_unit, print_one, print_blocks, print_file, print_files, file_before, block_before, ArePrints, unit_printed, prints_unit, AreThere, PrintsAll}
 use Rattle.jn_base.specs.declared.names.BlockNo.{BlockNo}
 use Rattle.jn_locks.specs.Locks as locks
 use Rattle.jn_locks.proofs.Orders.{unit_tells}
@@ -101,100 +101,106 @@ module _ (there : LockUnit → Option Printed) (of-unit : (u : LockUnit) (y : Pr
   -- ---- blocks
 
   module _ (f : FileNo) where
-    abbrev its : ℕ → ℕ → List Printed
-    its k n = print_blocks there f (blocks_from k n)
+    abbrev its : List BlockNo → List Printed
+    its ps = print_blocks there f ps
 
     abbrev with_one : Option Printed → List Printed → List Printed
     with_one o more = print_one o ++ more
 
-    blocks-behind : (u : LockUnit) (k n : ℕ) → ((p : BlockNo) → k ≤ p.0 → unit_before u (Block f p) ≡ true) → are_behind u (its k n) ≡ true
-    blocks-behind u k zero h = refl
-    blocks-behind u k (suc n) h = by (there (Block f (record { 0 = k }))) refl (blocks-behind u (k + 1) n (λ p l. h p (omega (arith, l))))
+    blocks-behind : (u : LockUnit) (ps : List BlockNo) → list_all (λ (p : BlockNo). unit_before u (Block f p)) ps ≡ true → are_behind u (its ps) ≡ true
+    blocks-behind u [] h = refl
+    blocks-behind u (p ∷ ps) h = by (there (Block f p)) refl (blocks-behind u ps (second (unit_before u (Block f p)) (list_all (λ (r : BlockNo). unit_before u (Block f r)) ps) h))
       where
-        by : (o : Option Printed) → there (Block f (record { 0 = k })) ≡ o → are_behind u (its (k + 1) n) ≡ true → are_behind u (with_one o (its (k + 1) n)) ≡ true
+        by : (o : Option Printed) → there (Block f p) ≡ o → are_behind u (its ps) ≡ true → are_behind u (with_one o (its ps)) ≡ true
         by None e again = again
-        by (Some y) e again = both (unit_before u (unit_printed y)) (are_behind u (its (k + 1) n)) (ap (λ (v : LockUnit). unit_before u v) (of-unit (Block f (record { 0 = k })) y e) ∙ h (record { 0 = k }) (omega arith)) again
+        by (Some y) e again = both (unit_before u (unit_printed y)) (are_behind u (its ps))
+            (ap (λ (v : LockUnit). unit_before u v) (of-unit (Block f p) y e) ∙ first (unit_before u (Block f p)) (list_all (λ (r : BlockNo). unit_before u (Block f r)) ps) h) again
 
-    blocks-risen : (k n : ℕ) → are_risen (its k n) ≡ true
-    blocks-risen k zero = refl
-    blocks-risen k (suc n) = by (there (Block f (record { 0 = k }))) refl (blocks-risen (k + 1) n)
+    -- all blocks of the file come after what comes before each
+    all-behind : (u : LockUnit) → ((p : BlockNo) → unit_before u (Block f p) ≡ true) → (ps : List BlockNo) → list_all (λ (p : BlockNo). unit_before u (Block f p)) ps ≡ true
+    all-behind u h [] = refl
+    all-behind u h (p ∷ ps) = both (unit_before u (Block f p)) (list_all (λ (r : BlockNo). unit_before u (Block f r)) ps) (h p) (all-behind u h ps)
+
+    later-blocks : (p : BlockNo) (ps : List BlockNo) → list_all (λ (r : BlockNo). block_before p r) ps ≡ true → list_all (λ (r : BlockNo). unit_before (Block f p) (Block f r)) ps ≡ true
+    later-blocks p [] h = refl
+    later-blocks p (r ∷ ps) h = both (unit_before (Block f p) (Block f r)) (list_all (λ (z : BlockNo). unit_before (Block f p) (Block f z)) ps)
+        (block-first f p r (first (block_before p r) (list_all (λ (z : BlockNo). block_before p z) ps) h)) (later-blocks p ps (second (block_before p r) (list_all (λ (z : BlockNo). block_before p z) ps) h))
+
+    blocks-risen : (ps : List BlockNo) → are_rising block_before ps ≡ true → are_risen (its ps) ≡ true
+    blocks-risen [] h = refl
+    blocks-risen (p ∷ ps) h = by (there (Block f p)) refl (blocks-risen ps (second (list_all (λ (r : BlockNo). block_before p r) ps) (are_rising block_before ps) h))
       where
-        here : BlockNo
-        here = record { 0 = k }
-
-        less : (p : BlockNo) → k + 1 ≤ p.0 → nat_lt k p.0 ≡ true
-        less p l = grind (arith, nat_tests, l)
-
-        by : (o : Option Printed) → there (Block f (record { 0 = k })) ≡ o → are_risen (its (k + 1) n) ≡ true → are_risen (with_one o (its (k + 1) n)) ≡ true
+        by : (o : Option Printed) → there (Block f p) ≡ o → are_risen (its ps) ≡ true → are_risen (with_one o (its ps)) ≡ true
         by None e again = again
-        by (Some y) e again = both (are_behind (unit_printed y) (its (k + 1) n)) (are_risen (its (k + 1) n))
-            (ap (λ (v : LockUnit). are_behind v (its (k + 1) n)) (of-unit (Block f (record { 0 = k })) y e) ∙ blocks-behind (Block f (record { 0 = k })) (k + 1) n (λ p l. block-first f (record { 0 = k }) p (less p l))) again
+        by (Some y) e again = both (are_behind (unit_printed y) (its ps)) (are_risen (its ps))
+            (ap (λ (v : LockUnit). are_behind v (its ps)) (of-unit (Block f p) y e)
+            ∙ blocks-behind (Block f p) ps (later-blocks p ps (first (list_all (λ (r : BlockNo). block_before p r) ps) (are_rising block_before ps) h))) again
 
-    blocks-there : (ps : List BlockNo) → AreThere there (print_blocks there f ps)
+    blocks-there : (ps : List BlockNo) → AreThere there (its ps)
     blocks-there [] = tt
     blocks-there (p ∷ ps) = by (there (Block f p)) refl (blocks-there ps)
       where
-        by : (o : Option Printed) → there (Block f p) ≡ o → AreThere there (print_blocks there f ps) → AreThere there (with_one o (print_blocks there f ps))
+        by : (o : Option Printed) → there (Block f p) ≡ o → AreThere there (its ps) → AreThere there (with_one o (its ps))
         by None e again = again
         by (Some y) e again = (is-there (Block f p) y e, again)
 
-    blocks-before : (ps : List BlockNo) (ys : List Printed) → ((u : LockUnit) → file_in u ≡ f → are_behind u ys ≡ true) → AllBefore (print_blocks there f ps) ys
+    blocks-before : (ps : List BlockNo) (ys : List Printed) → ((u : LockUnit) → file_in u ≡ f → are_behind u ys ≡ true) → AllBefore (its ps) ys
     blocks-before [] ys h = tt
     blocks-before (p ∷ ps) ys h = by (there (Block f p)) refl (blocks-before ps ys h)
       where
-        by : (o : Option Printed) → there (Block f p) ≡ o → AllBefore (print_blocks there f ps) ys → AllBefore (with_one o (print_blocks there f ps)) ys
+        by : (o : Option Printed) → there (Block f p) ≡ o → AllBefore (its ps) ys → AllBefore (with_one o (its ps)) ys
         by None e again = again
         by (Some y) e again = (h (unit_printed y) (ap file_in (of-unit (Block f p) y e)), again)
 
-    blocks-printed : (p : BlockNo) (k n : ℕ) → k ≤ p.0 → p.0 < k + n → is_some (there (Block f p)) ≡ true → prints_unit (Block f p) (its k n) ≡ true
-    blocks-printed p k zero l m s = absurd (omega (arith, l, m))
-    blocks-printed p k (suc n) l m s = by (nat_eq k p.0) refl (λ j. blocks-printed p (k + 1) n j (omega (arith, m)) s)
+    blocks-printed : (p : BlockNo) (ps : List BlockNo) → list_any (λ (r : BlockNo). block_eq r p) ps ≡ true → is_some (there (Block f p)) ≡ true → prints_unit (Block f p) (its ps) ≡ true
+    blocks-printed p [] k s = absurd (clash k)
       where
-        there-so : (o : Option Printed) → there (Block f p) ≡ o → is_some o ≡ true → prints_unit (Block f p) (with_one o (its (k + 1) n)) ≡ true
+        clash : false ≡ true → ⊥
+        clash z = cc
+    blocks-printed p (r ∷ ps) k s = by (block_tells r p) k (λ z. blocks-printed p ps z s)
+      where
+        there-so : (o : Option Printed) → there (Block f p) ≡ o → is_some o ≡ true → prints_unit (Block f p) (with_one o (its ps)) ≡ true
         there-so None e z = absurd (clash z)
           where
             clash : false ≡ true → ⊥
             clash y = cc
-        there-so (Some y) e z = prints-it (Block f p) y (its (k + 1) n) e
+        there-so (Some y) e z = prints-it (Block f p) y (its ps) e
 
-        same : k ≡ p.0 → prints_unit (Block f p) (with_one (there (Block f (record { 0 = k }))) (its (k + 1) n)) ≡ true
-        same e = subst (λ (i : ℕ). prints_unit (Block f p) (with_one (there (Block f (record { 0 = i }))) (its (k + 1) n)) ≡ true) (sym e) (there-so (there (Block f p)) refl s)
-
-        by : (b : Bool) → nat_eq k p.0 ≡ b → (k + 1 ≤ p.0 → prints_unit (Block f p) (its (k + 1) n) ≡ true) → prints_unit (Block f p) (with_one (there (Block f (record { 0 = k }))) (its (k + 1) n)) ≡ true
-        by true e again = same (equal k p.0 e)
-          where
-            equal : (i j : ℕ) → nat_eq i j ≡ true → i ≡ j
-            equal i j z = grind (arith, nat_tests, z)
-        by false e again = prints-right (Block f p) (print_one (there (Block f (record { 0 = k })))) (its (k + 1) n) (again (greater k p.0 e l))
-          where
-            greater : (i j : ℕ) → nat_eq i j ≡ false → i ≤ j → i + 1 ≤ j
-            greater i j z y = grind (arith, nat_tests, z, y)
+        by : ((block_eq r p ≡ true) × (r ≡ p)) ⊎ ((block_eq r p ≡ false) × (r ≢ p)) → (block_eq r p || list_any (λ (z : BlockNo). block_eq z p) ps) ≡ true
+            → (list_any (λ (z : BlockNo). block_eq z p) ps ≡ true → prints_unit (Block f p) (its ps) ≡ true) → prints_unit (Block f p) (with_one (there (Block f r)) (its ps)) ≡ true
+        by (inl t) z again = ap (λ (i : BlockNo). prints_unit (Block f p) (with_one (there (Block f i)) (its ps))) t.1 ∙ there-so (there (Block f p)) refl s
+        by (inr t) z again = prints-right (Block f p) (print_one (there (Block f r))) (its ps) (again (ap (λ (b : Bool). b || list_any (λ (y : BlockNo). block_eq y p) ps) (sym t.0) ∙ z))
 
   -- ---- files
 
-  module _ (n : ℕ) where
+  module _ (blocks : FileNo → List BlockNo) (are-blocks : (f : FileNo) → there (File f) ≡ Some (FileThere f) → AreNames block_eq block_before (λ p. there (Block f p)) (blocks f)) where
     abbrev one : FileNo → List Printed
-    one f = print_file (there (File f)) (print_blocks there f (blocks_from 0 n))
+    one f = print_file (there (File f)) (its f (blocks f))
 
     abbrev all : List FileNo → List Printed
-    all fs = print_files there (λ f. blocks_from 0 n) fs
+    all fs = print_files there blocks fs
+
+    -- a file that is printed is the one that was asked for
+    is-file : (f g : FileNo) → there (File f) ≡ Some (FileThere g) → there (File f) ≡ Some (FileThere f)
+    is-file f g e = e ∙ ap (λ (h : FileNo). Some (FileThere h)) (ap file_in (of-unit (File f) (FileThere g) e))
 
     file-risen : (f : FileNo) → are_risen (one f) ≡ true
     file-risen f = by (there (File f)) refl
       where
-        by : (o : Option Printed) → there (File f) ≡ o → are_risen (print_file o (its f 0 n)) ≡ true
+        by : (o : Option Printed) → there (File f) ≡ o → are_risen (print_file o (its f (blocks f))) ≡ true
         by None e = refl
-        by (Some (FileThere g)) e = both (are_behind (File g) (its f 0 n)) (are_risen (its f 0 n))
-            (ap (λ (u : LockUnit). are_behind u (its f 0 n)) (of-unit (File f) (FileThere g) e) ∙ blocks-behind f (File f) 0 n (λ p l. file-first f p)) (blocks-risen f 0 n)
+        by (Some (FileThere g)) e = both (are_behind (File g) (its f (blocks f))) (are_risen (its f (blocks f)))
+            (ap (λ (u : LockUnit). are_behind u (its f (blocks f))) (of-unit (File f) (FileThere g) e) ∙ blocks-behind f (File f) (blocks f) (all-behind f (File f) (λ p. file-first f p) (blocks f)))
+            (blocks-risen f (blocks f) (are-blocks f (is-file f g e)).rising)
         by (Some (PageStored g p bytes)) e = refl
         by (Some (UnitLocked u T)) e = refl
 
     file-there : (f : FileNo) → AreThere there (one f)
     file-there f = by (there (File f)) refl
       where
-        by : (o : Option Printed) → there (File f) ≡ o → AreThere there (print_file o (its f 0 n))
+        by : (o : Option Printed) → there (File f) ≡ o → AreThere there (print_file o (its f (blocks f)))
         by None e = tt
-        by (Some (FileThere g)) e = (is-there (File f) (FileThere g) e, blocks-there f (blocks_from 0 n))
+        by (Some (FileThere g)) e = (is-there (File f) (FileThere g) e, blocks-there f (blocks f))
         by (Some (PageStored g p bytes)) e = (is-there (File f) (PageStored g p bytes) e, tt)
         by (Some (UnitLocked u T)) e = (is-there (File f) (UnitLocked u T) e, tt)
 
@@ -204,18 +210,19 @@ module _ (there : LockUnit → Option Printed) (of-unit : (u : LockUnit) (y : Pr
         of-file : (v : LockUnit) → v ≡ File f → unit_before u v ≡ true
         of-file v e = earlier-file u v (ap (λ (w : LockUnit). nat_lt (file_in u).0 (file_in w).0) e ∙ h)
 
-        by : (o : Option Printed) → there (File f) ≡ o → are_behind u (print_file o (its f 0 n)) ≡ true
+        by : (o : Option Printed) → there (File f) ≡ o → are_behind u (print_file o (its f (blocks f))) ≡ true
         by None e = refl
-        by (Some (FileThere g)) e = both (unit_before u (File g)) (are_behind u (its f 0 n)) (of-file (File g) (of-unit (File f) (FileThere g) e)) (blocks-behind f u 0 n (λ p l. earlier-file u (Block f p) h))
+        by (Some (FileThere g)) e = both (unit_before u (File g)) (are_behind u (its f (blocks f))) (of-file (File g) (of-unit (File f) (FileThere g) e))
+            (blocks-behind f u (blocks f) (all-behind f u (λ p. earlier-file u (Block f p) h) (blocks f)))
         by (Some (PageStored g p bytes)) e = both (unit_before u (Block g p)) true (of-file (Block g p) (of-unit (File f) (PageStored g p bytes) e)) refl
         by (Some (UnitLocked v T)) e = both (unit_before u v) true (of-file v (of-unit (File f) (UnitLocked v T) e)) refl
 
     file-before-all : (f : FileNo) (ys : List Printed) → ((u : LockUnit) → file_in u ≡ f → are_behind u ys ≡ true) → AllBefore (one f) ys
     file-before-all f ys h = by (there (File f)) refl
       where
-        by : (o : Option Printed) → there (File f) ≡ o → AllBefore (print_file o (its f 0 n)) ys
+        by : (o : Option Printed) → there (File f) ≡ o → AllBefore (print_file o (its f (blocks f))) ys
         by None e = tt
-        by (Some (FileThere g)) e = (h (File g) (ap file_in (of-unit (File f) (FileThere g) e)), blocks-before f (blocks_from 0 n) ys h)
+        by (Some (FileThere g)) e = (h (File g) (ap file_in (of-unit (File f) (FileThere g) e)), blocks-before f (blocks f) ys h)
         by (Some (PageStored g p bytes)) e = (h (Block g p) (ap file_in (of-unit (File f) (PageStored g p bytes) e)), tt)
         by (Some (UnitLocked u T)) e = (h u (ap file_in (of-unit (File f) (UnitLocked u T) e)), tt)
 
@@ -249,26 +256,29 @@ module _ (there : LockUnit → Option Printed) (of-unit : (u : LockUnit) (y : Pr
     file-printed : (f : FileNo) → is_some (there (File f)) ≡ true → prints_unit (File f) (one f) ≡ true
     file-printed f h = by (there (File f)) refl h
       where
-        by : (o : Option Printed) → there (File f) ≡ o → is_some o ≡ true → prints_unit (File f) (print_file o (its f 0 n)) ≡ true
+        by : (o : Option Printed) → there (File f) ≡ o → is_some o ≡ true → prints_unit (File f) (print_file o (its f (blocks f))) ≡ true
         by None e z = absurd (clash z)
           where
             clash : false ≡ true → ⊥
             clash y = cc
-        by (Some (FileThere g)) e z = prints-it (File f) (FileThere g) (its f 0 n) e
+        by (Some (FileThere g)) e z = prints-it (File f) (FileThere g) (its f (blocks f)) e
         by (Some (PageStored g p bytes)) e z = prints-it (File f) (PageStored g p bytes) [] e
         by (Some (UnitLocked u T)) e z = prints-it (File f) (UnitLocked u T) [] e
 
-    block-printed : (f : FileNo) (p : BlockNo) → p.0 < n → there (File f) ≡ Some (FileThere f) → is_some (there (Block f p)) ≡ true → prints_unit (Block f p) (one f) ≡ true
-    block-printed f p l e h = ap (λ (o : Option Printed). prints_unit (Block f p) (print_file o (its f 0 n))) e
-        ∙ prints-right (Block f p) (FileThere f ∷ []) (its f 0 n) (blocks-printed f p 0 n (omega arith) (omega (arith, l)) h)
+    block-printed : (f : FileNo) (p : BlockNo) → there (File f) ≡ Some (FileThere f) → is_some (there (Block f p)) ≡ true → prints_unit (Block f p) (one f) ≡ true
+    block-printed f p e h = ap (λ (o : Option Printed). prints_unit (Block f p) (print_file o (its f (blocks f)))) e
+        ∙ prints-right (Block f p) (FileThere f ∷ []) (its f (blocks f)) (blocks-printed f p (blocks f) ((are-blocks f e).each p ∙ h) h)
 
-    pub all-printed : (fs : List FileNo) → AreNames file_eq file_before (λ f. there (File f)) fs → PrintsAll n there (all fs)
-    all-printed fs names = record {
+    files-printed : (fs : List FileNo) → AreNames file_eq file_before (λ f. there (File f)) fs → PrintsAll there (all fs)
+    files-printed fs names = record {
       rising = files-risen fs names.rising;
       each = files-there fs;
       files = λ f h. among (File f) f (file-printed f h) fs (names.each f ∙ h);
-      blocks = λ f p l e h. among (Block f p) f (block-printed f p l e h) fs (names.each f ∙ ap is_some e);
+      blocks = λ f p e h. among (Block f p) f (block-printed f p e h) fs (names.each f ∙ ap is_some e);
     }
+
+  pub all-printed : (prints : List Printed) → ArePrints there prints → PrintsAll there prints
+  all-printed prints are = subst (PrintsAll there) (sym are.printed) (files-printed are.blocks are.are_blocks are.files are.are_files)
 
 -- ---- a server's files
 

@@ -1,10 +1,10 @@
 -- Reports that aren't those of their commits.
-use Rattle.jn_wrong.proofs.Common.{◌≡◌, ℕ, Bool, true, false, List, [], ◌∷◌, refl, sym, ◌∙◌, ap, arith, Option, Some, None, is_some, if◌then◌else◌, slice_get, nat_eq, nat_lt, File, Block, block_of, AllByRecursion, AllFiles, Files, change, effect, answer_to, files_after, is_did, zeros, ServerNo, Event, Line, AreImages, IsNone, begins, makes_one, makes_and_reads, opens_and_loses, answered_too_soon, stopped_by_nothing, fault_of_nothing, lost_without_opening, file_left_out, file_locked, page_unwritten, other_bytes, named_again, full_of, s0, file, block}
+use Rattle.jn_wrong.proofs.Common.{◌≡◌, ℕ, Bool, true, false, List, [], ◌∷◌, refl, sym, ◌∙◌, ap, arith, Option, Some, None, is_some, if◌then◌else◌, slice_get, nat_eq, nat_lt, File, Block, block_of, AllByRecursion, AllFiles, Files, change, effect, answer_to, files_after, is_did, zeros, ServerNo, Event, Line, AreImages, IsNone, begins, makes_one, makes_and_reads, opens_and_loses, answered_too_soon, stopped_by_nothing, fault_of_nothing, lost_without_opening, file_left_out, file_locked, page_unwritten, other_bytes, named_again, full_of, Resource, s0, file, block}
 use Rattle.jn_base.specs.declared.op.Op.{Op}
 use Rattle.jn_base.specs.declared.op.Op.TheVariants as ops
 use Rattle.jn_base.specs.declared.op.Answer.TheVariants.{Did, Exists, Read as Found}
 use Rattle.jn_schedule.specs.Ranges.{EventInRange}
-use Rattle.jn_headline.specs.WholeReports.Whole.{IsOfItsCommits}
+use Rattle.jn_headline.specs.Headline.{IsOfItsCommits}
 use Rattle.jn_headline.proofs.Joined.{whole-report}
 
 -- a report that isn't that of its commits, from whatever files
@@ -21,19 +21,19 @@ begins-in-range : AllByRecursion EventInRange begins
 begins-in-range = grind arith
 
 pub too-soon : IsNone begins answered_too_soon
-too-soon = by-clause begins answered_too_soon begins-in-range (λ files r. clash r.follows.answers.0.fit.0)
+too-soon = by-clause begins answered_too_soon begins-in-range (λ files r. clash r.so_far.follows.answers.0.fit.0)
 
 pub no-stop : IsNone begins stopped_by_nothing
-no-stop = by-clause begins stopped_by_nothing begins-in-range (λ files r. clash r.caused.1.0)
+no-stop = by-clause begins stopped_by_nothing begins-in-range (λ files r. clash r.so_far.caused.1.0)
 
 pub no-fault : IsNone begins fault_of_nothing
-no-fault = by-clause begins fault_of_nothing begins-in-range (λ files r. clash r.caused.1.0)
+no-fault = by-clause begins fault_of_nothing begins-in-range (λ files r. clash r.so_far.caused.1.0)
 
 loses-in-range : AllByRecursion EventInRange opens_and_loses
 loses-in-range = grind arith
 
 pub no-loss : IsNone opens_and_loses lost_without_opening
-no-loss = by-clause opens_and_loses lost_without_opening loses-in-range (λ files r. clash r.caused.1.1.1.1.1.0)
+no-loss = by-clause opens_and_loses lost_without_opening loses-in-range (λ files r. clash r.so_far.caused.1.1.1.1.1.0)
 
 -- ---- what files have once one is made
 
@@ -71,13 +71,13 @@ module _ (f : Files) where
   read-new e = ap (answer_to (ops.Read (file 7) (block 0))) (after e)
 
 pub left-out : IsNone makes_one file_left_out
-left-out = by-clause makes_one file_left_out makes-in-range (λ files r. is-there (files s0) r.agrees.0.0 ((r.shown.at_end.all s0).no_other_file (file 7) refl))
+left-out = by-clause makes_one file_left_out makes-in-range (λ files r. is-there (files s0) r.so_far.agrees.0.0 ((r.at_end.all s0).no_other_file (file 7) refl))
 
 pub as-locked : IsNone makes_one file_locked
-as-locked = by-clause makes_one file_locked makes-in-range (λ files r. clash (sym r.shown.at_end.unlocked))
+as-locked = by-clause makes_one file_locked makes-in-range (λ files r. clash (sym r.at_end.unlocked))
 
 pub unwritten : IsNone makes_one page_unwritten
-unwritten = by-clause makes_one page_unwritten makes-in-range (λ files r. no' (sym (not-stored (files s0) r.agrees.0.0) ∙ (r.shown.at_end.all s0).printed.1.1.1.0))
+unwritten = by-clause makes_one page_unwritten makes-in-range (λ files r. no' (sym (not-stored (files s0) r.so_far.agrees.0.0) ∙ (r.at_end.all s0).printed.1.1.1.0))
   where
     no' : None ≡ Some (block_of (104 ∷ [])) → ⊥
     no' z = cc
@@ -98,13 +98,13 @@ differ : zeros ≡ block_of (104 ∷ []) → ⊥
 differ e = clash (sym other-first ∙ ap (λ (bytes : List ℕ). is_zero (slice_get bytes 0)) (sym e) ∙ zeros-first)
 
 pub bytes : IsNone makes_and_reads other_bytes
-bytes = by-clause makes_and_reads other_bytes reads-in-range (λ files r. differ (same (sym (read-new (files s0) r.agrees.0.0) ∙ r.agrees.0.1.0)))
+bytes = by-clause makes_and_reads other_bytes reads-in-range (λ files r. differ (same (sym (read-new (files s0) r.so_far.agrees.0.0) ∙ r.so_far.agrees.0.1.0)))
   where
     same : {a b : List ℕ} → Found a ≡ Found b → a ≡ b
     same e = cc
 
 pub again : IsNone makes_one named_again
-again = by-clause makes_one named_again makes-in-range (λ files r. clash (sym r.told.once.0))
+again = by-clause makes_one named_again makes-in-range (λ files r. clash (sym r.so_far.told.once.0))
 
-pub not-full : (free need : ℕ) → nat_lt free need ≡ false → IsNone makes_one (full_of free need)
-not-full free need e = by-clause makes_one (full_of free need) makes-in-range (λ files r. clash (sym e ∙ r.caused.1.1.1.1.0))
+pub not-full : (resource : Resource) (free need : ℕ) → nat_lt free need ≡ false → IsNone makes_one (full_of resource free need)
+not-full resource free need e = by-clause makes_one (full_of resource free need) makes-in-range (λ files r. clash (sym e ∙ r.so_far.caused.1.1.1.1.0))

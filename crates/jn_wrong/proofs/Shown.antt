@@ -1,5 +1,5 @@
 -- The lines of a show are those of what there is to print.
-use Rattle.jn_wrong.proofs.Common.{◌≡◌, ◌≢◌, ℕ, ◌+◌, Bool, true, false, List, [], ◌∷◌, ◌++◌, append-nil, map, length, Option, None, refl, ◌∙◌, ap, subst, arith, not, filter, if◌then◌else◌, ServerNo, Party, Outside, EventRefusal, Text, Line, Sent, Pick, stable, commit_holder, World, Memory, Printed, FileThere, PageStored, UnitLocked, print_files, Step, Course, go_on, newly_sent, text_printed, prints_of, Setup, Chance, Task, Meets, Acts, CutShort, State, when_of, begun, Deed, Reads, stopped_idle, blocks_from, shown, showing, IsLookedOver, Alone, Befalls, refusal_of, met, deed_of, own_texts, message_texts, traced, texts_of, lines_at, is_too_much, come_to, cut_short, Moment, DoesStep, may_tell, begun-lines, is_printed, printed_lines, Shows, plain, Server}
+use Rattle.jn_wrong.proofs.Common.{◌≡◌, ◌≢◌, ℕ, ◌+◌, Bool, true, false, List, [], ◌∷◌, ◌++◌, append-nil, map, length, Option, None, refl, ◌∙◌, ap, subst, arith, not, filter, if◌then◌else◌, ServerNo, Party, Outside, EventRefusal, Text, Line, Sent, Pick, stable, commit_holder, World, Printed, FileThere, PageStored, UnitLocked, Step, Course, go_on, newly_sent, text_printed, prints_of, Setup, Chance, prints_found, Task, Meets, Acts, CutShort, State, when_of, begun, Deed, Reads, stopped_idle, shown, showing, IsLookedOver, Alone, Befalls, refusal_of, met, deed_of, own_texts, message_texts, traced, texts_of, lines_at, is_too_much, come_to, cut_short, Moment, DoesStep, may_tell, begun-lines, is_printed, printed_lines, Shows, plain, Server}
 use Rattle.jn_schedule.specs.declared.Event.TheVariants as events
 use Rattle.jn_report.specs.declared.line.Text.TheVariants as says
 use Rattle.jn_wrong.proofs.Filtered.{filter-both, lines-left, is_of_step, step-tells, own-filtered}
@@ -57,7 +57,7 @@ module _ (x : Setup) (q : ServerNo) (h : Chance) where
       before : filter is_printed (told ++ own) ≡ []
       before = filter-both is_printed told own ∙ ap (λ (front : List Text). front ++ filter is_printed own) (outside-none q h.told) ∙ own-filtered is_printed of-step steps c
 
-module _ (x : Setup) (q : ServerNo) (a b : Moment) (d : DoesStep x a b) (goes : b.state.stage ≢ CutShort) (unstopped : d.chance.stop ≡ None) (is : deed_of x d.chance d.task a.state ≡ showing d.chance q a.state.course.world) where
+module _ (x : Setup) (q : ServerNo) (a b : Moment) (d : DoesStep x a b) (goes : b.state.stage ≢ CutShort) (unstopped : d.chance.stop ≡ None) (is : deed_of x d.chance d.task a.state ≡ showing d.chance q) where
   abbrev w : World
   w = a.state.course.world
 
@@ -67,23 +67,17 @@ module _ (x : Setup) (q : ServerNo) (a b : Moment) (d : DoesStep x a b) (goes : 
   looked : IsLookedOver (x.counts q) d.chance w q (a.devices q) (b.devices q)
   looked = by (subst (λ (deed : Deed). Befalls x d.chance deed w a.devices b.devices) is d.befalls)
     where
-      by : Befalls x d.chance (showing d.chance q w) w a.devices b.devices → IsLookedOver (x.counts q) d.chance w q (a.devices q) (b.devices q)
+      by : Befalls x d.chance (showing d.chance q) w a.devices b.devices → IsLookedOver (x.counts q) d.chance w q (a.devices q) (b.devices q)
       by f = at f.used
         where
           at : Alone q (IsLookedOver (x.counts q) d.chance w q) a.devices b.devices → IsLookedOver (x.counts q) d.chance w q (a.devices q) (b.devices q)
           at alone = alone.its
 
-  there : Option Memory → Option (Pick → ℕ) → List Text
-  there o stop = shown d.chance q w o stop
-
-  texts-are : shown d.chance q w (w.memory q) d.chance.stop ≡ map (text_printed q) (print_files (prints_of q w looked.memory) (λ f. blocks_from 0 120) d.chance.files)
-  texts-are = ap (λ (stop : Option (Pick → ℕ)). shown d.chance q w (w.memory q) stop) unstopped ∙ ap (λ (o : Option Memory). shown d.chance q w o None) looked.up
-
   abbrev printed : List Printed
-  printed = print_files (prints_of q w looked.memory) (λ f. blocks_from 0 120) d.chance.files
+  printed = prints_found d.chance.found
 
   deed-is : deed_of x d.chance d.task a.state ≡ looks x q d.chance (stopped_idle q d.chance.stop) (map (text_printed q) printed)
-  deed-is = is ∙ ap (λ (texts : List Text). looks x q d.chance (stopped_idle q d.chance.stop) texts) texts-are
+  deed-is = is ∙ ap (λ (stop : Option (Pick → ℕ)). looks x q d.chance (stopped_idle q d.chance.stop) (shown q printed stop)) unstopped
 
   lines-are : printed_lines b.state.lines ≡ printed_lines a.state.lines ++ lines_at (when_of u) (map (text_printed q) printed)
   lines-are = ap (λ (s : State). printed_lines s.lines) d.state_is ∙ by (is_too_much deed (go_on deed.steps u.course)) (λ e. goes (ap (λ (s : State). s.stage) d.state_is ∙ e))
@@ -109,7 +103,7 @@ module _ (x : Setup) (q : ServerNo) (a b : Moment) (d : DoesStep x a b) (goes : 
     memory = looked.memory;
     up = looked.up;
     prints = printed;
-    all = all-printed (prints_of q w looked.memory) (λ v y e. unit-of v (commit_holder v looked.memory.worker) ((stable (w.found q)).files v) y e) 120 d.chance.files (looked.files unstopped);
+    all = all-printed (prints_of q w looked.memory) (λ v y e. unit-of v (commit_holder v looked.memory.worker) ((stable (w.found q)).files v) y e) printed (looked.prints unstopped);
     lines = lines-are;
   }
 

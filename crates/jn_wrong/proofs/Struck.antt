@@ -1,5 +1,5 @@
 -- A restart that faults wait for: what it tells, and that a stop at its first call isn't passed by.
-use Rattle.jn_wrong.proofs.Common.{◌≡◌, ◌⊎◌, inl, inr, ℕ, ◌+◌, Bool, true, false, not, ◌||◌, List, [], ◌∷◌, ◌++◌, map, Option, Some, None, is_some, refl, sym, ◌∙◌, ap, subst, arith, if◌then◌else◌, nat_eq, list_any, ServerNo, Event, Line, When, Text, Chance, Counts, Begins, Meets, ComesUp, State, next_task, EpochsUsedUp, TooManyArmed, Arms, Pick, StableState, World, Deed, Alone, Befalls, IsRecovery, last_epoch, given_up, recovered, recovering, pick_read, told_unless, refusal_of, begun, done, made, lines_at, when_of, own_texts, go_on, append-nil, run, Moment, still, FaultKind, Outside, Armed, DeviceState, PageState, may_arm, powered_off, FaultArmed, found_on, pairs_view, s0, recovers, is_stopped, may-lead, Longer, longer, IsNoneOfGood, arms_first, stop_passed_by}
+use Rattle.jn_wrong.proofs.Common.{◌≡◌, ◌⊎◌, inl, inr, ℕ, ◌+◌, Bool, true, false, not, ◌||◌, List, [], ◌∷◌, ◌++◌, map, Option, Some, None, is_some, refl, sym, ◌∙◌, ap, subst, arith, if◌then◌else◌, nat_eq, list_any, ServerNo, Event, Line, When, Text, Chance, allowed, Counts, Begins, Meets, ComesUp, State, next_task, EpochsUsedUp, TooManyArmed, Arms, Pick, StableState, World, Deed, Alone, Befalls, IsRecovery, last_epoch, given_up, recovered, recovering, pick_read, told_unless, refusal_of, begun, done, made, lines_at, when_of, own_texts, go_on, append-nil, run, Moment, still, FaultKind, Outside, Armed, DeviceState, PageState, may_arm, powered_off, FaultArmed, found_on, pairs_view, s0, recovers, is_stopped, may-lead, Longer, longer, IsNoneOfGood, arms_first, stop_passed_by}
 use Rattle.std.specs.Prelude.{◌/◌}
 use Rattle.jn_base.specs.declared.device.FaultKind.TheVariants as faults
 use Rattle.jn_found.proofs.Picking.{same_found}
@@ -27,7 +27,7 @@ module _ (schedule : List Event) (epochs : ServerNo → ℕ) (last : Moment) (ov
       (λ g e. ap (λ (b : Bool). if b then record (given_up g s0) { cuts = true } else recovered g s0) e) refl
       (λ d p. (p.told, p.waiting))
       (λ g e. ap (λ stop. is_some ((run (recovering g s0 stop) (at_first schedule epochs).course.world).memory s0)) e)
-      (λ g b d e r p lit stop found. let k = recovery-pairs (x1.counts s0) g b d e r (both-good d p) lit in record {
+      (λ g d e r p lit stop found. let k = recovery-pairs (x1.counts s0) g d e r (both-good d p) lit in record {
         count = k.count;
         waiting = k.waiting;
         told = k.told;
@@ -48,12 +48,12 @@ module _ (last : Moment) (over : next_task last.state ≡ None) where
   pub arms-dark : (s : State) (n : ℕ) (kind : FaultKind) (wait : List Armed) → may_arm n wait ≡ true → next_task s ≡ Some (Begins (events.Arm s0 n kind)) → next_task (begun_by (events.Arm s0 n kind) s) ≡ Some (Meets (events.Arm s0 n kind))
       → refusal_of x1 (begun_by (events.Arm s0 n kind) s).course.world (events.Arm s0 n kind) ≡ None → Stand x1 last s (Armed_so false wait) → Stand x1 last (armed_by n kind s) (Armed_so false (wait ++ (record { after = n; kind = kind }) ∷ []))
   arms-dark s n kind wait may k m unrefused h = answers-one x1 refl last over (begun_by (events.Arm s0 n kind) s) (events.Arm s0 n kind) (Arms s0 n kind) (λ b. told_unless b (says.RefusedEvent TooManyArmed)) true
-      (Armed_so false wait) (Armed_so false (wait ++ (record { after = n; kind = kind }) ∷ [])) m unrefused (λ g. refl) (λ told. refl) (λ g ds es used p. by (ds s0) (es s0) g.allows used.its p)
+      (Armed_so false wait) (Armed_so false (wait ++ (record { after = n; kind = kind }) ∷ [])) m unrefused (λ g. refl) (λ told. refl) (λ g ds es used p. by (ds s0) (es s0) (allowed g.found) used.its p)
       (begins-one x1 refl last over s (events.Arm s0 n kind) (Armed_so false wait) k h)
     where
       by : (d e : DeviceState) (answer : Bool) → FaultArmed d n kind answer e → Armed_so false wait d → (answer ≡ true) × Armed_so false (wait ++ (record { after = n; kind = kind }) ∷ []) e
       by d e answer a p = (
-        allowed,
+        permitted,
         record {
           count = ap (λ (f : DeviceState). f.count) is ∙ p.count;
           waiting = ap (λ (f : DeviceState). f.waiting) is ∙ ap (λ (ws : List Armed). ws ++ (record { after = n; kind = kind }) ∷ []) p.waiting;
@@ -63,11 +63,11 @@ module _ (last : Moment) (over : next_task last.state ≡ None) where
         },
       )
         where
-          allowed : answer ≡ true
-          allowed = a.answers ∙ ap (may_arm n) p.waiting ∙ may
+          permitted : answer ≡ true
+          permitted = a.answers ∙ ap (may_arm n) p.waiting ∙ may
 
           is : e ≡ record d { waiting = d.waiting ++ (record { after = n; kind = kind }) ∷ [] }
-          is = a.armed ∙ ap (λ (b : Bool). record d { waiting = if b then d.waiting ++ (record { after = n; kind = kind }) ∷ [] else d.waiting }) allowed
+          is = a.armed ∙ ap (λ (b : Bool). record d { waiting = if b then d.waiting ++ (record { after = n; kind = kind }) ∷ [] else d.waiting }) permitted
 
   pub off : (wait : List Armed) (d : DeviceState) → Armed_so true wait d → Armed_so false wait (powered_off d)
   off wait d p = record { count = p.count; waiting = p.waiting; told = p.told; power_is = refl; epoch = p.epoch }

@@ -1,5 +1,5 @@
 -- Faults that wait for calls that aren't made: two for two calls, and a stop far off.
-use Rattle.jn_wrong.proofs.Common.{◌≡◌, ℕ, ◌++◌, Bool, true, List, [], ◌∷◌, Some, None, refl, ◌∙◌, ap, ServerNo, Begins, Meets, Dismisses, State, next_task, TooManyArmed, Arms, told_unless, refusal_of, done, Moment, still, FaultKind, Armed, DeviceState, may_arm, disarmed, FaultArmed, s0, IsOnlyOfGood, arms_two, quiet_report}
+use Rattle.jn_wrong.proofs.Common.{◌≡◌, ℕ, ◌++◌, Bool, true, List, [], ◌∷◌, Some, None, refl, ◌∙◌, ap, ServerNo, allowed, Begins, Meets, Dismisses, State, next_task, TooManyArmed, Arms, told_unless, refusal_of, done, Moment, still, FaultKind, Armed, DeviceState, may_arm, disarmed, FaultArmed, s0, IsOnlyOfGood, arms_two, quiet_report}
 use Rattle.jn_base.specs.declared.device.FaultKind.TheVariants as faults
 use Rattle.jn_schedule.specs.declared.Event.TheVariants as events
 use Rattle.jn_report.specs.declared.line.Text.TheVariants as says
@@ -19,10 +19,10 @@ module _ (last : Moment) (over : next_task last.state ≡ None) where
   pub arms-one : (s : State) (n : ℕ) (kind : FaultKind) (wait : List Armed) → may_arm n wait ≡ true → next_task s ≡ Some (Meets (events.Arm s0 n kind)) → refusal_of x1 s.course.world (events.Arm s0 n kind) ≡ None
       → Stand x1 last s (Waits wait) → Stand x1 last (answered x1 s (events.Arm s0 n kind) (Arms s0 n kind) []) (Waits (wait ++ (record { after = n; kind = kind }) ∷ []))
   arms-one s n kind wait may k unrefused h = answers-one x1 refl last over s (events.Arm s0 n kind) (Arms s0 n kind) (λ b. told_unless b (says.RefusedEvent TooManyArmed)) true (Waits wait) (Waits (wait ++ (record { after = n; kind = kind }) ∷ []))
-      k unrefused (λ g. refl) (λ told. refl) (λ g ds es used p. by (ds s0) (es s0) g.allows used.its p) h
+      k unrefused (λ g. refl) (λ told. refl) (λ g ds es used p. by (ds s0) (es s0) (allowed g.found) used.its p) h
     where
       by : (d e : DeviceState) (answer : Bool) → FaultArmed d n kind answer e → Waits wait d → (answer ≡ true) × Waits (wait ++ (record { after = n; kind = kind }) ∷ []) e
-      by d e answer a p = let allowed = a.answers ∙ ap (may_arm n) p.waiting ∙ may in (allowed, arm-waits n kind wait answer d e p allowed a)
+      by d e answer a p = let permitted = a.answers ∙ ap (may_arm n) p.waiting ∙ may in (permitted, arm-waits n kind wait answer d e p permitted a)
 
   dismissed-still : (wait : List Armed) (d : DeviceState) → Waits wait d → IsStill (disarmed d)
   dismissed-still wait d p = record { waiting = refl; told = p.told; power = p.power }

@@ -77,6 +77,16 @@ forgiven_report = up ∷ line 7 (says.Down s0) ∷ line 8 (says.Up s0 2) ∷ twi
 abbrev pub nothing_forgiven : List Line
 nothing_forgiven = up ∷ line 7 (says.Down s0) ∷ line 8 (says.Up s0 2) ∷ decay_told 9 5 ∷ twice_up
 
+-- a half decays, a restart mends it, and the other one decays
+abbrev pub decays_behind_restart : List Event
+decays_behind_restart = events.Decay s0 5 ∷ events.Crash s0 ∷ events.Restart s0 ∷ events.Decay s0 182 ∷ []
+
+abbrev pub restarted_report : List Line
+restarted_report = up ∷ line 2 (says.Down s0) ∷ line 3 (says.Up s0 2) ∷ twice_up
+
+abbrev pub left_unmended : List Line
+left_unmended = up ∷ line 2 (says.Down s0) ∷ line 3 (says.Up s0 2) ∷ decay_told 4 182 ∷ twice_up
+
 -- ---- faults that wait
 
 -- two faults for two calls
@@ -97,6 +107,10 @@ show_stopped = up ∷ line 2 (says.Stopped s0) ∷ at_end (says.Up s0 2) ∷ at_
 abbrev pub arms_first : List Event
 arms_first = events.Crash s0 ∷ events.Arm s0 1 faults.StopBefore ∷ events.Restart s0 ∷ []
 
+-- the restart is stopped, so the end's restart is the next one that raises it
+abbrev pub stop_met : List Line
+stop_met = up ∷ line 1 (says.Down s0) ∷ line 3 (says.Stopped s0) ∷ at_end (says.Up s0 2) ∷ at_end (says.Commits 0) ∷ []
+
 abbrev pub stop_passed_by : List Line
 stop_passed_by = up ∷ line 1 (says.Down s0) ∷ line 3 (says.Up s0 2) ∷ twice_up
 
@@ -106,6 +120,9 @@ arms_in_order = events.Crash s0 ∷ events.Arm s0 1 faults.Null ∷ events.Arm s
 
 abbrev told_at : FaultKind → ℕ → Line
 told_at kind page = line 4 (says.Outside s0 (record { kind = kind; page = page }))
+
+abbrev pub outside_in_order : ℕ → ℕ → List Line
+outside_in_order p r = up ∷ line 1 (says.Down s0) ∷ told_at faults.Null p ∷ told_at faults.Bad r ∷ line 4 (says.Up s0 2) ∷ twice_up
 
 abbrev pub outside_swapped : ℕ → ℕ → List Line
 outside_swapped p r = up ∷ line 1 (says.Down s0) ∷ told_at faults.Bad p ∷ told_at faults.Null r ∷ line 4 (says.Up s0 2) ∷ twice_up

@@ -1,5 +1,5 @@
--- What a step tells of refused faults, and what a show prints, in any run.
-use Rattle.std.specs.Prelude.{◌≡◌, ◌⊎◌, ◌/◌, Bool, true, false, not, filter, List, [], ◌++◌, map}
+-- What a step tells of refused faults, and what a restart mends, in any run.
+use Rattle.std.specs.Prelude.{◌≡◌, ◌<◌, ◌⊎◌, ◌+◌, ◌/◌, ℕ, Bool, true, false, not, filter, List, [], ◌++◌, map}
 use Rattle.jn_base.specs.declared.names.ServerNo.{ServerNo}
 use Rattle.jn_base.specs.declared.device.FaultKind.TheVariants as faults
 use Rattle.jn_base.specs.declared.device.Outside.{Outside}
@@ -7,9 +7,12 @@ use Rattle.jn_device.specs.Device.{DeviceState}
 use Rattle.jn_device.specs.Calls.{decay_outside}
 use Rattle.jn_device.specs.Events.{PowersUp, cleared, powered_off}
 use Rattle.jn_device.specs.Happens.{Happens}
+use Rattle.jn_found.specs.Puts.{IsFrontClean}
+use Rattle.jn_records.specs.StablePages.{Counts, slot_place, head_place}
 use Rattle.jn_report.specs.declared.line.Text.{Text}
 use Rattle.jn_report.specs.declared.line.Text.TheVariants as says
 use Rattle.jn_report.specs.declared.line.Line.{Line}
+use Rattle.jn_store.specs.Pairs.{pairs_view}
 use Rattle.jn_written.specs.Deeds.{Use, Calls, Cleans, Reads, Recovers, Decays}
 use Rattle.jn_written.specs.Devices.{Devices, KeepsWhole}
 use Rattle.jn_written.specs.Events.{told_unless, deed_of}
@@ -66,3 +69,17 @@ pub record TellsFaults (x : Setup) (a b : Moment) (d : DoesStep x a b) : Type 0 
   pub texts : List Text
   pub told : AreToldBy (deed_of x d.chance d.task a.state).device a.devices b.devices texts
   pub lines : outside_lines b.state.lines ≡ outside_lines a.state.lines ++ lines_at (when_of (begun d.task a.state)) texts
+
+-- ---- restarts
+
+-- either half of the page may go bad
+pub record MayDecay (d : DeviceState) (i : ℕ) : Type 0 where
+  pub first : decay_outside (d.count / 2) d.pages i ≡ false
+  pub second : decay_outside (d.count / 2) d.pages (i + d.count / 2) ≡ false
+
+-- The pages of root, records and heads have one candidate each. Where no fault had waited, either half of each may go bad.
+pub record AreMended (g : Counts) (d e : DeviceState) : Type 0 where
+  pub clean : IsFrontClean g (pairs_view e)
+  pub root : d.waiting ≡ [] → MayDecay e 0
+  pub pool : d.waiting ≡ [] → (i : ℕ) → i < g.pool → MayDecay e (slot_place g i)
+  pub heads : d.waiting ≡ [] → (i : ℕ) → i < g.heads → MayDecay e (head_place g i)

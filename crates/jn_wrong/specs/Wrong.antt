@@ -5,7 +5,7 @@ use Rattle.jn_base.specs.declared.names.LockUnit.TheVariants as units
 use Rattle.jn_base.specs.declared.device.FaultKind.TheVariants as faults
 use Rattle.jn_base.specs.declared.op.Op.TheVariants as ops
 use Rattle.jn_base.specs.declared.op.Command.TheVariants as commands
-use Rattle.jn_base.specs.declared.names.Resource.TheVariants as resources
+use Rattle.jn_base.specs.declared.names.Resource.{Resource}
 use Rattle.jn_schedule.specs.declared.Event.{Event}
 use Rattle.jn_schedule.specs.declared.Event.TheVariants as events
 use Rattle.jn_report.specs.declared.line.Refusal.TheVariants as refusals
@@ -69,9 +69,9 @@ file_left_out = a_file_made ++ at_end (says.Commits 1) ∷ []
 abbrev pub named_again : List Line
 named_again = a_file_made ++ at_end (says.Commit (tid s0 0)) ∷ at_end (says.File s0 (file 7)) ∷ at_end (says.Commits 2) ∷ []
 
--- it aborts for want of records, of which so many are free and so many are needed
-abbrev pub full_of : ℕ → ℕ → List Line
-full_of free need = line 0 (says.Up s0 1) ∷ line 2 (says.Begun c1 1 (tid s0 0)) ∷ line 4 (says.Opened c1 3 s0) ∷ line 6 (says.Did c1 5) ∷ line 8 (says.Aborted c1 7 (tid s0 0) (causes.Full s0 resources.Records free need)) ∷ the_end
+-- it aborts for want of these, of which so many are free and so many are needed
+abbrev pub full_of : Resource → ℕ → ℕ → List Line
+full_of resource free need = line 0 (says.Up s0 1) ∷ line 2 (says.Begun c1 1 (tid s0 0)) ∷ line 4 (says.Opened c1 3 s0) ∷ line 6 (says.Did c1 5) ∷ line 8 (says.Aborted c1 7 (tid s0 0) (causes.Full s0 resource free need)) ∷ the_end
 
 -- it shows the file as locked
 abbrev pub file_locked : List Line

@@ -1,9 +1,10 @@
-//! Reports of one server with faults and crashes, from new images on good pages: six schedules with the only report that each has, and what is told by none.
+//! Reports of one server with faults and crashes, from new images on good pages: seven schedules with the only report that each has, and what is told by none.
 
-ghost use Rattle.std.specs.Prelude.{◌≡◌, ◌≢◌, ℕ, nat_lt, false};
+ghost use Rattle.std.specs.Prelude.{◌≡◌, ◌≢◌, ℕ, nat_lt, false, [], ◌∷◌};
 ghost use Rattle.jn_base.specs.declared.device.FaultKind.{FaultKind};
-ghost use Rattle.jn_base.specs.declared.device.FaultKind.TheVariants.{Null};
-ghost use Rattle.jn_wrong.specs.Faults.{IsOnlyOfGood, IsNoneOfGood, quiet_report, decays_once, first_decay_told, decays_both, both_report, decays_behind_scrub, nothing_mended, decays_with_power, forgiven_report, nothing_forgiven, arms_two, armed_too_many, arms_far, show_stopped, arms_first, stop_passed_by, arms_in_order, outside_swapped, arms_null, null_told};
+ghost use Rattle.jn_base.specs.declared.device.FaultKind.TheVariants.{Null, Bad};
+ghost use Rattle.jn_written.specs.Examples.{calm, calmly, at_step, stopped, report};
+ghost use Rattle.jn_wrong.specs.Faults.{IsOnlyOfGood, IsNoneOfGood, quiet_report, decays_once, first_decay_told, decays_both, both_report, decays_behind_scrub, nothing_mended, decays_with_power, forgiven_report, nothing_forgiven, decays_behind_restart, restarted_report, left_unmended, arms_two, armed_too_many, arms_far, show_stopped, arms_first, stop_met, stop_passed_by, arms_in_order, outside_in_order, outside_swapped, arms_null, null_told};
 
 /// Each whole run of these schedules tells exactly this, whatever befalls it.
 pub fn reports_with_faults_are_the_only_ones()
@@ -11,6 +12,7 @@ pub fn reports_with_faults_are_the_only_ones()
     ensures both_halves { IsOnlyOfGood decays_both both_report }
     ensures scrub { IsOnlyOfGood decays_behind_scrub quiet_report }
     ensures power { IsOnlyOfGood decays_with_power forgiven_report }
+    ensures restart { IsOnlyOfGood decays_behind_restart restarted_report }
     ensures two_faults { IsOnlyOfGood arms_two quiet_report }
     ensures far_off { IsOnlyOfGood arms_far quiet_report }
 {}
@@ -35,6 +37,11 @@ pub fn a_power_up_that_forgives_nothing_is_none()
     ensures { IsNoneOfGood decays_with_power nothing_forgiven }
 {}
 
+/// A half that had gone bad before a restart which nothing disturbs is bad behind it, so that the other one may not decay.
+pub fn a_restart_that_mends_nothing_is_none()
+    ensures { IsNoneOfGood decays_behind_restart left_unmended }
+{}
+
 /// A fault is refused as one too many for a call for which none can wait.
 pub fn a_fault_refused_for_a_free_call_is_none()
     ensures { IsNoneOfGood arms_two armed_too_many }
@@ -50,9 +57,19 @@ pub fn a_stop_passed_by_is_none()
     ensures { IsNoneOfGood arms_first stop_passed_by }
 {}
 
+/// The right report of the same schedule, computed: there the restart is stopped.
+pub fn a_stop_at_a_first_call_is_met()
+    ensures { report 1 (at_step 6 (stopped (λ c. 0)) calmly) 60 arms_first ≡ stop_met }
+{}
+
 /// Of two faults that a restart tells, the one that met the later call stands first.
 pub fn faults_told_in_another_order_are_none()
     ensures { (p r : ℕ) → IsNoneOfGood arms_in_order (outside_swapped p r) }
+{}
+
+/// The right report of the same schedule, computed: the two lines stand the other way round.
+pub fn faults_are_told_in_the_order_of_their_calls()
+    ensures { (p r : ℕ) → report 1 (at_step 8 (record calm { told = (record { kind = Null; page = p }) ∷ (record { kind = Bad; page = r }) ∷ [] }) calmly) 60 arms_in_order ≡ outside_in_order p r }
 {}
 
 /// A fault is told at a page that isn't there.
@@ -63,4 +80,9 @@ pub fn a_fault_at_a_page_that_is_not_there_is_none()
 /// Another fault is told than the one that was to wait.
 pub fn a_fault_that_was_never_armed_is_none()
     ensures { (kind : FaultKind) → kind ≢ Null → (page : ℕ) → IsNoneOfGood arms_null (null_told kind page) }
+{}
+
+/// The right report of the same schedule, computed: that one line tells the fault that waited, at whichever page the call met.
+pub fn a_fault_that_waited_is_told()
+    ensures { (page : ℕ) → report 1 (at_step 6 (record calm { told = (record { kind = Null; page = page }) ∷ [] }) calmly) 60 arms_null ≡ null_told Null page }
 {}

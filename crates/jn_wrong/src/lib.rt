@@ -9,14 +9,17 @@ mod telling;
 mod wanting;
 
 ghost use Rattle.std.specs.Prelude.{◌≡◌, ℕ, nat_lt, false};
+ghost use Rattle.jn_base.specs.declared.names.Resource.{Resource};
 ghost use Rattle.jn_wrong.specs.Wrong.{IsNone, begins, makes_one, makes_and_reads, opens_and_loses, answered_too_soon, stopped_by_nothing, fault_of_nothing, lost_without_opening, file_left_out, file_locked, page_unwritten, other_bytes, named_again, full_of};
 
 pub use faulty::{
     a_decay_passed_over_is_none, a_fault_at_a_page_that_is_not_there_is_none,
-    a_fault_refused_for_a_free_call_is_none, a_fault_that_was_never_armed_is_none,
-    a_first_decay_told_as_refused_is_none, a_power_up_that_forgives_nothing_is_none,
+    a_fault_refused_for_a_free_call_is_none, a_fault_that_waited_is_told,
+    a_fault_that_was_never_armed_is_none, a_first_decay_told_as_refused_is_none,
+    a_power_up_that_forgives_nothing_is_none, a_restart_that_mends_nothing_is_none,
     a_scrub_that_mends_nothing_is_none, a_show_that_meets_a_stop_far_off_is_none,
-    a_stop_passed_by_is_none, faults_told_in_another_order_are_none,
+    a_stop_at_a_first_call_is_met, a_stop_passed_by_is_none,
+    faults_are_told_in_the_order_of_their_calls, faults_told_in_another_order_are_none,
     reports_with_faults_are_the_only_ones,
 };
 pub use leaving::{a_record_that_nothing_names_is_left_by_no_step, each_step_leaves_its_rubbish};
@@ -24,15 +27,16 @@ pub use new::{
     a_commit_of_nobody_is_none, a_refusal_without_a_cause_is_none,
     a_report_that_answers_nothing_is_none, a_settle_that_leaves_a_message_is_none,
     a_show_of_what_is_not_there_is_none, a_skipped_epoch_is_none, a_stray_line_is_none,
-    an_answer_before_a_settle_is_none, an_answer_for_another_is_none,
-    an_end_in_another_order_is_none, messages_out_of_place_are_none,
+    an_abort_for_want_of_pages_that_are_free_is_none, an_answer_before_a_settle_is_none,
+    an_answer_for_another_is_none, an_end_in_another_order_is_none, messages_out_of_place_are_none,
     other_bytes_before_an_abort_are_none, reports_are_the_only_ones,
 };
 pub use settling::{a_message_is_handed_over_once, a_settle_leaves_nothing_to_do};
 pub use telling::{
-    a_scrub_leaves_no_old_half, a_server_comes_up_and_goes_down_by_turns,
-    a_show_prints_what_is_there_once, each_refused_fault_is_told,
-    epochs_rise_from_those_of_the_images, no_line_stands_at_an_event_that_has_not_begun,
+    a_restart_mends_root_records_and_heads, a_scrub_leaves_no_old_half,
+    a_server_comes_up_and_goes_down_by_turns, a_show_prints_what_is_there_once,
+    each_refused_fault_is_told, epochs_rise_from_those_of_the_images,
+    no_line_stands_at_an_event_that_has_not_begun,
 };
 pub use wanting::an_abort_for_want_of_room_was_short;
 
@@ -73,7 +77,7 @@ pub fn a_commit_named_again_is_none()
     ensures { IsNone makes_one named_again }
 {}
 
-/// A transaction is aborted for want of records where no more are needed than are said to be free.
+/// A transaction is aborted for want of records, heads or data pages where no more are needed than are said to be free.
 pub fn an_abort_for_want_of_nothing_is_none()
-    ensures { (free need : ℕ) → nat_lt free need ≡ false → IsNone makes_one (full_of free need) }
+    ensures { (resource : Resource) (free need : ℕ) → nat_lt free need ≡ false → IsNone makes_one (full_of resource free need) }
 {}

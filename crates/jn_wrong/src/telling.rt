@@ -1,20 +1,22 @@
-//! What is told of servers and their devices, in any run: each fault that is refused, at a show the files that are there, and who comes up and goes down.
+//! What is told of servers and their devices, in any run: each fault that is refused, what a scrub and a restart mend, at a show the files that are there, and
+//! who comes up and goes down.
 
 ghost use Rattle.std.specs.Prelude.{◌≡◌, ◌≢◌, ◌<◌, ℕ, true, false, List, length, None};
 ghost use Rattle.jn_base.specs.declared.names.ServerNo.{ServerNo};
 ghost use Rattle.jn_order.specs.Files.{AllFiles};
 ghost use Rattle.jn_schedule.specs.declared.Event.{Event};
-ghost use Rattle.jn_schedule.specs.declared.Event.TheVariants.{Scrub, Show};
+ghost use Rattle.jn_schedule.specs.declared.Event.TheVariants.{Scrub, Restart, Show};
 ghost use Rattle.jn_found.specs.Pages.{found_on};
 ghost use Rattle.jn_rows.specs.Stable.{Pick};
 ghost use Rattle.jn_store.specs.Pairs.{pairs_view};
 ghost use Rattle.jn_written.specs.Chances.{Setup};
 ghost use Rattle.jn_written.specs.Refusals.{refusal_of};
 ghost use Rattle.jn_written.specs.Runs.{Moment, DoesStep, MayLead};
-ghost use Rattle.jn_written.specs.Tasks.{Meets, Acts, CutShort, State};
+ghost use Rattle.jn_written.specs.Tasks.{Meets, Acts, ComesUp, CutShort, State};
 ghost use Rattle.jn_written.specs.Whole.{before};
+ghost use Rattle.jn_wrong.specs.Leaving.{IsUpBehind};
 ghost use Rattle.jn_wrong.specs.Showing.{Shows};
-ghost use Rattle.jn_wrong.specs.Telling.{TellsFaults};
+ghost use Rattle.jn_wrong.specs.Telling.{TellsFaults, AreMended};
 ghost use Rattle.jn_wrong.specs.Turns.{takes_turns, epochs_rise, are_by};
 
 /// The lines of a step that tell of a refused fault are one for each that its device told in the step's calls, in their order, or for a decay that the
@@ -29,6 +31,15 @@ pub fn a_scrub_leaves_no_old_half()
         → (c r : Pick) → found_on (x.counts q) (pairs_view (b.devices q)) c ≡ found_on (x.counts q) (pairs_view (b.devices q)) r }
     ensures at_the_end { (x : Setup) (q : ServerNo) (a b : Moment) (d : DoesStep x a b) → q.0 < x.servers → d.task ≡ Acts (Scrub q) → d.chance.stop ≡ None
         → (c r : Pick) → found_on (x.counts q) (pairs_view (b.devices q)) c ≡ found_on (x.counts q) (pairs_view (b.devices q)) r }
+{}
+
+/// Behind a restart that brings its server up, the two halves of the root, of each record and of each head hold the same bytes. Where no fault had waited,
+/// either half of each may go bad, so that no line tells of its decay as refused.
+pub fn a_restart_mends_root_records_and_heads()
+    ensures in_the_schedule { (x : Setup) (q : ServerNo) (a b : Moment) (d : DoesStep x a b) → q.0 < x.servers → d.task ≡ Meets (Restart q) → refusal_of x a.state.course.world (Restart q) ≡ None → IsUpBehind x a b d q
+        → AreMended (x.counts q) (a.devices q) (b.devices q) }
+    ensures at_start_and_end { (x : Setup) (q : ServerNo) (a b : Moment) (d : DoesStep x a b) → q.0 < x.servers → d.task ≡ ComesUp q → IsUpBehind x a b d q
+        → AreMended (x.counts q) (a.devices q) (b.devices q) }
 {}
 
 /// A show that isn't refused or stopped, and each of the end, prints each file and each of its blocks that is there, once, in order, each file

@@ -105,7 +105,7 @@ module _ (servers : ℕ) (files : AllFiles) (epochs : ServerNo → ℕ) (items :
       (λ before later q. subst (λ l. (g : IsReported l start) (j : IsRun steps (world_of l start)) → texts_of lines ≡ texts_of (lines_of l start) ++ (told_by_steps steps (world_of l start) ++ e.printed) → AreInTurn 1 (events_of l) lines → Follows (events_of l) lines → AreAsTold files (events_of l) lines (lines_of before start) (world_of before start)) (sym q)
       (λ g j x t f. beginning-told servers files epochs before later g steps j calm e.printed prints.dumb prints.names lines x t f) h k.steps same-texts turn follows)
 
-  pub cut-true : IsTrueSoFar files (events_of items) (cut_lines items e (opening servers files epochs))
+  pub cut-true : IsTrueSoFar files (events_of items) (events_of items) (cut_lines items e (opening servers files epochs))
   cut-true = record {
     agrees = as-told.agrees;
     shown = shown;
@@ -116,7 +116,7 @@ module _ (servers : ℕ) (files : AllFiles) (epochs : ServerNo → ℕ) (items :
 
 -- ---- and within its events
 
-pub run-true : (servers : ℕ) (files : AllFiles) (epochs : ServerNo → ℕ) (items : List Item) → IsReported items (opening servers files epochs) → IsTrueSoFar files (events_of items) (lines_of items (opening servers files epochs))
+pub run-true : (servers : ℕ) (files : AllFiles) (epochs : ServerNo → ℕ) (items : List Item) → IsReported items (opening servers files epochs) → IsTrueSoFar files (events_of items) (events_of items) (lines_of items (opening servers files epochs))
 run-true servers files epochs items h = record {
   agrees = (run-as-told servers files epochs items h).agrees;
   shown = run-shown servers files epochs items h;
@@ -136,7 +136,7 @@ module _ (servers : ℕ) (files : AllFiles) (epochs : ServerNo → ℕ) (items :
       past n m q = omega (arith, q)
 
   -- where nothing is told of the event that comes next
-  pub next-true : IsTrueSoFar files (events_of items ++ e ∷ []) (lines_of items (opening servers files epochs))
+  pub next-true : IsTrueSoFar files (events_of items ++ e ∷ []) (events_of items ++ e ∷ []) (lines_of items (opening servers files epochs))
   next-true = let t = run-true servers files epochs items h in record {
     agrees = silent-agrees (events_of items) e ls t.follows files t.agrees;
     shown = silent-shown (events_of items) e ls t.follows files other t.shown;

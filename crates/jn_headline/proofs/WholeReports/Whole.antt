@@ -145,7 +145,7 @@ module _ (n : ℕ) (at_most : n ≤ 8) where
   on-stands w (step ∷ steps) c h = on-stands w steps (go step c) (steps-append c.steps (step ∷ []) w ∙ ap (after step) h)
 
 -- each server that prints is up
-printed-up : (first : ℕ) (w : World) (prints : List (List Printed)) → ArePrinted first w prints → (s : ServerNo) → first ≤ s.0 → s.0 < first + length prints → is_some (w.memory s) ≡ true
+pub printed-up : (first : ℕ) (w : World) (prints : List (List Printed)) → ArePrinted first w prints → (s : ServerNo) → first ≤ s.0 → s.0 < first + length prints → is_some (w.memory s) ≡ true
 printed-up first w [] h s low high = absurd (none first s.0 low high)
   where
     none : (a b : ℕ) → a ≤ b → b < a + 0 → ⊥

@@ -1,16 +1,9 @@
 -- A run that is cut off in its end.
 use Rattle.std.specs.Prelude.{◌≡◌, Bool, true, false, List, ◌∷◌, ◌++◌}
 use Rattle.std.specs.List.{list_all}
-use Rattle.jn_order.specs.Files.{AllFiles}
-use Rattle.jn_schedule.specs.declared.Event.{Event}
 use Rattle.jn_report.specs.declared.line.Text.{Text}
 use Rattle.jn_report.specs.declared.line.Text.TheVariants as says
 use Rattle.jn_report.specs.declared.line.Line.{Line}
-use Rattle.jn_serial.specs.Order.{Agrees}
-use Rattle.jn_serial.specs.Shown.{ShownSoFar}
-use Rattle.jn_serial.specs.Told.{Told}
-use Rattle.jn_serial.specs.Caused.{Caused}
-use Rattle.jn_serial.specs.Follows.{Follows}
 use Rattle.jn_system.specs.WholeSystem.World.{World}
 use Rattle.jn_system.specs.WholeSystem.Steps.{Step, NextEvent, Tell, StopDelivery, StopWork, StopRestart, Dismiss, IsRun}
 use Rattle.jn_system_reports.specs.Reporting.Reported.{Item, lines_of, world_of}
@@ -46,12 +39,3 @@ pub record IsCutEnd (e : CutEnd) (w : World) : Type 0 where
 -- the lines of a run up to where its end is cut off
 abbrev pub cut_lines : List Item → CutEnd → World → List Line
 cut_lines items e w = lines_of items w ++ at_end (told_by_steps (Dismiss ∷ e.steps) (world_of items w) ++ e.printed)
-
--- What committed transactions are answered, and what each show prints, is what the commits leave, one after another; what
--- clients are told of outcomes is so; each abort, stop and refused fault has its cause; each answer is that of its command.
-pub record IsTrueSoFar (files : AllFiles) (events : List Event) (lines : List Line) : Type 0 where
-  pub agrees : Agrees files events lines
-  pub shown : ShownSoFar files events lines
-  pub told : Told lines
-  pub caused : Caused events lines
-  pub follows : Follows events lines

@@ -1,13 +1,5 @@
 -- The report of a whole run is that of its commits.
-use Rattle.std.specs.Prelude.{◌≡◌, ◌≤◌, ℕ, List, []}
-use Rattle.jn_order.specs.Files.{AllFiles}
-use Rattle.jn_schedule.specs.declared.Event.{Event}
-use Rattle.jn_report.specs.declared.line.Line.{Line}
-use Rattle.jn_serial.specs.Order.{Agrees}
-use Rattle.jn_serial.specs.Shown.{Shown}
-use Rattle.jn_serial.specs.Told.{Told}
-use Rattle.jn_serial.specs.Caused.{Caused}
-use Rattle.jn_serial.specs.Follows.{Follows}
+use Rattle.std.specs.Prelude.{◌≡◌, ◌≤◌, ℕ, []}
 use Rattle.jn_system.specs.WholeSystem.World.{World}
 use Rattle.jn_system_settling.specs.Settling.Course.{Course, go_on}
 use Rattle.jn_system_settling.specs.Settling.Settle.{Chance, settled}
@@ -25,14 +17,3 @@ pub record IsSettledEnd (servers : ℕ) (e : Ending) (w : World) : Type 0 where
   pub second : ℕ → Chance
   pub enough : ℕ
   pub each : (n : ℕ) → enough ≤ n → (settled servers (record { first = first; second = second; steps = n }) (course_at_end servers e w)).steps ≡ steps_at_end servers e
-
--- ---- a report
-
--- What committed transactions are answered, and what is printed, is what the commits leave, one after another; what clients are
--- told of outcomes is so; each abort, stop and refused fault has its cause; each answer is that of its command.
-pub record IsOfItsCommits (files : AllFiles) (events : List Event) (lines : List Line) : Type 0 where
-  pub agrees : Agrees files events lines
-  pub shown : Shown files events lines
-  pub told : Told lines
-  pub caused : Caused events lines
-  pub follows : Follows events lines

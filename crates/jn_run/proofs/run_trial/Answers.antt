@@ -1,4 +1,5 @@
-use Rattle.jn_run.proofs.Common.{◌∙◌, ℕ, List, Err, None, ap, refl, subst, is_ok, Took, TookFront, FailsToWrite, Writes, sink_state, trial_at_limit, trial_done, trial_no_memory, trial_not_written}
+use Rattle.jn_run.proofs.Common.{◌∙◌, ℕ, List, Err, None, ap, refl, subst, is_ok, FailsToWrite, Writes, sink_state, trial_at_limit, trial_done, trial_no_memory, trial_not_written}
+use Rattle.jn_writing.specs.Writing.{Took, TookFront}
 use Rattle.jn_run.proofs.Summed.{written-so}
 use Rattle.jn_run.proofs.run_trial.Goals as goal
 

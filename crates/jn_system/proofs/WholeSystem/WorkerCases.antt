@@ -1,5 +1,5 @@
 -- What a worker's row does with each message, in nine cases, and without one, in three.
-use Rattle.jn_system.proofs.Common.{◌≡◌, ◌+◌, Bool, true, false, List, [], ◌∷◌, ◌++◌, Option, Some, None, refl, sym, ap, subst, if◌then◌else◌, nat_lt, nat_eq, length, slice_get, Tid, WorkId, LockUnit, ClientNo, Tickets, Op, Answer, change, answer_to, list_change, Intention, Message, Vote, RowOutcome, Sent, is_going, Work, Phase, Active, Broken, Stored, ActiveWork, WorkerTable, WorkStorage, Wanted, work_at, work_of, with_phase, without, name_from, open_row, granted_row, repeated, op_phase, op_row, refusal_of, wants_of, is_fit, counted, vote_of, shortage, need_in, conflict, commit_wants, prepared_row, prepare_phase, prepare_row, commit_phase, work_commit_row, drop_phase, drop_row, worker_row, worker_step, going_work, going_row, intentions_of, carried_row, CarryOut, RemoveWork, MarkGoing, RequestNo, Client, Server, BrokenAnswer, LostAnswer, Closing, PreparedWork, quiet, ignored, sends, new_work, replies}
+use Rattle.jn_system.proofs.Common.{◌≡◌, ◌+◌, Bool, true, false, List, [], ◌∷◌, ◌++◌, Option, Some, None, refl, sym, ap, subst, if◌then◌else◌, nat_lt, nat_eq, length, slice_get, Tid, WorkId, LockUnit, ClientNo, Tickets, Op, Answer, Files, change, answer_to, list_change, Intention, Message, Vote, RowOutcome, Sent, is_going, Work, Phase, Active, Broken, Stored, ActiveWork, WorkerTable, WorkStorage, Wanted, work_at, work_of, with_phase, without, name_from, open_row, Asked, Here, granted_row, repeated, op_phase, op_row, refusal_of, wants_of, is_fit, counted, vote_of, shortage, need_in, conflict, commit_wants, prepared_row, prepare_phase, prepare_row, commit_phase, work_commit_row, drop_phase, drop_row, worker_row, worker_step, going_work, going_row, intentions_of, carried_row, CarryOut, RemoveWork, MarkGoing, RequestNo, Client, Server, BrokenAnswer, LostAnswer, Closing, PreparedWork, quiet, ignored, sends, new_work}
 use Rattle.jn_base.specs.declared.names.OperationNo.{OperationNo}
 use Rattle.jn_base.specs.Limits.{most_works}
 use Rattle.jn_msgs.specs.declared.message.Message.TheVariants as messages
@@ -15,6 +15,13 @@ its_answer s a op = answer_to op (change (list_change a.list) s.state.files)
 
 abbrev pub its_wants : WorkStorage → ActiveWork → Op → List Wanted
 its_wants s a op = wants_of op (is_fit (its_answer s a op))
+
+-- an operation that a client asks for, and what the worker has that answers it
+abbrev pub asked_for : ClientNo → RequestNo → OperationNo → Op → Asked
+asked_for c q n op = record { client = c; request = q; number = n; op = op }
+
+abbrev pub asked_here : WorkerTable → Files → Tickets → Here
+asked_here t files k = record { table = t; files = files; tickets = k }
 
 abbrev pub is_stored : Phase → Bool
 is_stored (Stored p) = true
@@ -50,9 +57,9 @@ pub data WorkerCase (t : WorkerTable) (s : WorkStorage) (k : Tickets) : Message 
   opens_anew : (c : ClientNo) (q : RequestNo) (T : Tid) → work_of T t ≡ None → nat_lt (length t) most_works ≡ true
       → WorkerCase t s k (messages.Open c q T) (sends (t ++ new_work (name_from k) T ∷ []) (record k { next = k.next + 1 }) ((Client c, messages.Opened c q T (Some (name_from k))) ∷ []))
   refuses_next : (c : ClientNo) (q : RequestNo) (W : WorkId) (n : OperationNo) (op : Op) (w : Work) (a : ActiveWork) (refusal : Answer) → work_at W t ≡ Some w → w.phase ≡ Active a → nat_eq n.0 (a.last + 1) ≡ true
-      → refusal_of t w.name a op (its_answer s a op) (its_wants s a op) ≡ Some refusal → WorkerCase t s k (messages.Op c q W n op) (replies (with_phase w.name (Active (counted a refusal)) t) k c q refusal)
+      → refusal_of t w.name a op (its_answer s a op) (its_wants s a op) ≡ Some refusal → WorkerCase t s k (messages.Op c q W n op) (sends (with_phase w.name (Active (counted a refusal)) t) k ((Client c, messages.Answer c q refusal) ∷ []))
   performs_next : (c : ClientNo) (q : RequestNo) (W : WorkId) (n : OperationNo) (op : Op) (w : Work) (a : ActiveWork) → work_at W t ≡ Some w → w.phase ≡ Active a → nat_eq n.0 (a.last + 1) ≡ true
-      → refusal_of t w.name a op (its_answer s a op) (its_wants s a op) ≡ None → WorkerCase t s k (messages.Op c q W n op) (granted_row t k c q w a op (its_answer s a op) (its_wants s a op) None)
+      → refusal_of t w.name a op (its_answer s a op) (its_wants s a op) ≡ None → WorkerCase t s k (messages.Op c q W n op) (granted_row (asked_here t s.state.files k) (asked_for c q n op) w a (its_answer s a op) (its_wants s a op) None)
   prepares_it : (T : Tid) (c : ClientNo) (W : WorkId) (w : Work) (a : ActiveWork) → work_at W t ≡ Some w → w.phase ≡ Active a → its_vote t s w a ≡ votes.Ready → WorkerCase t s k (messages.Prepare T c W) (prepared_row t k T c w a votes.Ready)
   marks_it : (T : Tid) (W : WorkId) (w : Work) (p : PreparedWork) → work_at W t ≡ Some w → w.phase ≡ Stored p → is_going (s.state.works W) ≡ false → WorkerCase t s k (messages.Commit T W) (record (quiet t k) { changes = MarkGoing W ∷ [] })
   drops_it : (T : Tid) (W : WorkId) (w : Work) → work_at W t ≡ Some w → is_stored w.phase ≡ false → WorkerCase t s k (messages.Drop T W) (quiet (without W t) k)
@@ -79,27 +86,33 @@ module _ (t : WorkerTable) (s : WorkStorage) (k : Tickets) where
     abbrev OpCase : RowOutcome WorkerTable → Type 0
     OpCase row = WorkerCase t s k (messages.Op c q W n op) row
 
+    abbrev here : Here
+    here = asked_here t s.state.files k
+
+    abbrev asked : Asked
+    asked = asked_for c q n op
+
     next-case : (w : Work) (a : ActiveWork) → work_at W t ≡ Some w → w.phase ≡ Active a → nat_eq n.0 (a.last + 1) ≡ true → (o : Option Answer) → refusal_of t w.name a op (its_answer s a op) (its_wants s a op) ≡ o
-        → OpCase (granted_row t k c q w a op (its_answer s a op) (its_wants s a op) o)
+        → OpCase (granted_row here asked w a (its_answer s a op) (its_wants s a op) o)
     next-case w a e f l (Some refusal) r = refuses_next c q W n op w a refusal e f l r
     next-case w a e f l None r = performs_next c q W n op w a e f l r
 
-    last-case : (w : Work) (a : ActiveWork) → work_at W t ≡ Some w → w.phase ≡ Active a → nat_eq n.0 a.last ≡ true → (o : Option Answer) → a.kept ≡ o → OpCase (repeated t k c q o)
+    last-case : (w : Work) (a : ActiveWork) → work_at W t ≡ Some w → w.phase ≡ Active a → nat_eq n.0 a.last ≡ true → (o : Option Answer) → a.kept ≡ o → OpCase (repeated here asked o)
     last-case w a e f l (Some answer) r = replies_only _ _ (is_repeated c q W n op w a answer e f l r)
     last-case w a e f l None r = none_done _
 
-    phase-case : (w : Work) → work_at W t ≡ Some w → (p : Phase) → w.phase ≡ p → OpCase (op_phase t s.state.files k c q w n op p)
+    phase-case : (w : Work) → work_at W t ≡ Some w → (p : Phase) → w.phase ≡ p → OpCase (op_phase here asked w p)
     phase-case w e (Active a) f = by (nat_eq n.0 (a.last + 1)) refl (nat_eq n.0 a.last) refl
       where
         by : (b : Bool) → nat_eq n.0 (a.last + 1) ≡ b → (d : Bool) → nat_eq n.0 a.last ≡ d
-            → OpCase (if b then granted_row t k c q w a op (its_answer s a op) (its_wants s a op) (refusal_of t w.name a op (its_answer s a op) (its_wants s a op)) else (if d then repeated t k c q a.kept else ignored t k))
+            → OpCase (if b then granted_row here asked w a (its_answer s a op) (its_wants s a op) (refusal_of t w.name a op (its_answer s a op) (its_wants s a op)) else (if d then repeated here asked a.kept else ignored t k))
         by true l d m = next-case w a e f l (refusal_of t w.name a op (its_answer s a op) (its_wants s a op)) refl
         by false l true m = last-case w a e f m a.kept refl
         by false l false m = none_done _
     phase-case w e (Broken u by) f = replies_only _ _ (is_broken_for c q W n op w u by e f)
     phase-case w e (Stored p) f = replies_only _ _ (is_closing_for c q W n op w p e f)
 
-    op-case : (o : Option Work) → work_at W t ≡ o → OpCase (op_row t s.state.files k c q W n op o)
+    op-case : (o : Option Work) → work_at W t ≡ o → OpCase (op_row here asked W o)
     op-case (Some w) e = phase-case w e w.phase refl
     op-case None e = replies_only _ _ (is_gone_for c q W n op e)
 

@@ -13,6 +13,7 @@ use Rattle.jn_records.specs.declared.work.WorkHead.{WorkHead}
 use Rattle.jn_rows.specs.Stable.{StableState, Pick, Change, AddReady, MarkGoing, CarryOut, RemoveWork, AddFlag, DropFlag, at_work, at_tid, made_by}
 use Rattle.jn_system.specs.SmallSteps.Traces.{Answered}
 use Rattle.jn_system.specs.SmallSteps.World.{World, Working, Knowledge, Unknown, Begun, Committed, at_server}
+use Rattle.jn_system.specs.WholeSystem.World.{changed, with_epoch}
 
 pub data Atom : Type 0 where
   -- a coordinator begins a transaction
@@ -64,14 +65,8 @@ server_of (RemoveWork W) = W.server
 server_of (AddFlag flag) = flag.tid.server
 server_of (DropFlag T) = T.server
 
-abbrev pub changed : (ServerNo → Pick → StableState) → ServerNo → (Pick → Bool) → (StableState → StableState) → ServerNo → Pick → StableState
-changed found s done f q c = if server_eq s q then (if done c then f (found s c) else found s c) else found q c
-
 abbrev pub put : ServerNo → (Pick → Bool) → (StableState → StableState) → World → World
 put s done f w = record w { found = changed w.found s done f }
-
-abbrev pub with_epoch : StableState → StableState
-with_epoch x = record x { epoch = x.epoch + 1 }
 
 abbrev pub always : Pick → Bool
 always c = true

@@ -1,5 +1,5 @@
 -- What a server does, as one row over both its tables.
-use Rattle.std.specs.Prelude.{ℕ, ◌+◌, Bool, true, false, if◌then◌else◌, List, [], ◌∷◌, ◌++◌, Option, Some, None}
+use Rattle.std.specs.Prelude.{ℕ, ◌+◌, Bool, true, false, if◌then◌else◌, List, [], ◌∷◌, ◌++◌, Option, Some, None, is_some}
 use Rattle.jn_base.specs.declared.names.ServerNo.{ServerNo}
 use Rattle.jn_base.specs.declared.names.Tid.{Tid}
 use Rattle.jn_base.specs.declared.names.WorkId.{WorkId}
@@ -12,7 +12,7 @@ use Rattle.jn_report.specs.declared.line.Text.{Text}
 use Rattle.jn_report.specs.declared.line.Text.TheVariants as says
 use Rattle.jn_rows.specs.Stable.{StableState, next_after}
 use Rattle.jn_rows.specs.Outcomes.{RowOutcome, Sent}
-use Rattle.jn_rows.specs.Worker.{WorkerTable, WorkStorage, worker_row, worker_step, worker_again, timeout_row, restored_worker}
+use Rattle.jn_rows.specs.Worker.{WorkerTable, WorkStorage, worker_row, worker_step, worker_again, timeout_row, restored_worker, going_work}
 use Rattle.jn_rows.specs.Coordinator.{CoordinatorTable, coordinator_row, coordinator_again, restored_coordinator}
 use Rattle.jn_system.specs.WholeSystem.World.{Memory, has_line}
 
@@ -111,3 +111,8 @@ lines_of s message (note ∷ notes) = line_of s message note ++ lines_of s messa
 abbrev pub named_now : List Tid → List Text → List Text
 named_now [] lines = []
 named_now (T ∷ Ts) lines = if has_line T lines then named_now Ts lines else says.Commit T ∷ named_now Ts lines
+
+-- A server that is up has something to do where one of its works goes. Erasing a rubbish record changes nothing that is stable.
+abbrev pub is_busy : StableState → Option Memory → Bool
+is_busy x None = false
+is_busy x (Some m) = is_some (going_work x m.worker)

@@ -18,14 +18,11 @@ use Rattle.jn_rows.specs.Stable.{StableState, Pick, made_all, stable}
 use Rattle.jn_rows.specs.Outcomes.{RowOutcome, Sent}
 use Rattle.jn_rows.specs.Client.{ClientTable, Commanded, Refuses, Sends, command_row, take_row, again_row, over}
 use Rattle.jn_rows.specs.Coordinator.{close_clients_row}
-use Rattle.jn_system.specs.SmallSteps.Steps.{changed, with_epoch}
-use Rattle.jn_system.specs.WholeSystem.World.{World, Memory, at_server, at_client}
+use Rattle.jn_system.specs.WholeSystem.World.{World, Memory, at_server, at_client, changed, with_epoch}
 use Rattle.jn_system.specs.WholeSystem.Servers.{Room, server_row, server_step, server_again, server_timeout, restored, of_coordinator, lines_of, named_now}
 
 pub data Step : Type 0 where
-  -- the next event begins
   NextEvent : Step
-  -- a client is told to do something
   Tell : ClientNo → Command → Step
   -- a client sends its outstanding message once more
   Again : ClientNo → Step
@@ -67,9 +64,6 @@ working s room (Some made) = StopWork s room made
 abbrev pub commanded : ClientNo → Commanded → World → World
 commanded c (Refuses refusal) w = record w { lines = w.lines ++ says.Refused c w.event refusal ∷ [] }
 commanded c (Sends t to message) w = record w { clients = at_client w.clients c t; sent = w.sent ++ (to, message) ∷ [] }
-
-abbrev pub tell : ClientNo → Command → World → World
-tell c command w = commanded c (command_row (w.clients c) w.event command) w
 
 abbrev pub sent_now : Option Sent → List Sent
 sent_now None = []
@@ -168,9 +162,6 @@ restart s pick works tids (Some m) w = w
 
 -- ---- the end
 
-abbrev pub dismiss : World → World
-dismiss w = record w { clients = λ c. over (w.clients c) }
-
 abbrev pub close_clients : ServerNo → Option Memory → World → World
 close_clients s None w = w
 close_clients s (Some m) w = done s None (of_coordinator m (close_clients_row m.coordinator m.tickets)) w
@@ -179,7 +170,7 @@ close_clients s (Some m) w = done s None (of_coordinator m (close_clients_row m.
 
 abbrev pub after : Step → World → World
 after NextEvent w = record w { event = w.event + 1 }
-after (Tell c command) w = tell c command w
+after (Tell c command) w = commanded c (command_row (w.clients c) w.event command) w
 after (Again c) w = again c w
 after (Deliver k room) w = handed k room None (slice_get w.sent k) w
 after (Work s room) w = work s room None (w.memory s) w
@@ -191,7 +182,7 @@ after (Crash s) w = crash s (w.memory s) w
 after (Narrow s g) w = narrow s g (w.memory s) w
 after (StopRestart s raised) w = stop_restart s raised (w.memory s) w
 after (Restart s pick works tids) w = restart s pick works tids (w.memory s) w
-after Dismiss w = dismiss w
+after Dismiss w = record w { clients = λ c. over (w.clients c) }
 after (CloseClients s) w = close_clients s (w.memory s) w
 
 -- ---- what a restart reads

@@ -1,6 +1,6 @@
 -- The whole system between two steps: what each server and client remembers, what is stable at each server, every message
 -- that was sent, and every line that was told.
-use Rattle.std.specs.Prelude.{ℕ, zero, suc, ◌+◌, Bool, if◌then◌else◌, List, [], ◌∷◌, ◌++◌, Option, Some, None}
+use Rattle.std.specs.Prelude.{ℕ, zero, suc, ◌+◌, Bool, if◌then◌else◌, List, [], ◌∷◌, ◌++◌, Option, Some, None, ◌≡◌, ◌≤◌}
 use Rattle.std.specs.List.{list_any}
 use Rattle.jn_base.specs.declared.names.ServerNo.{ServerNo}
 use Rattle.jn_base.specs.declared.names.ClientNo.{ClientNo}
@@ -16,6 +16,7 @@ use Rattle.jn_rows.specs.Outcomes.{Sent}
 use Rattle.jn_rows.specs.Worker.{WorkerTable}
 use Rattle.jn_rows.specs.Coordinator.{CoordinatorTable}
 use Rattle.jn_rows.specs.Client.{ClientTable, new_table}
+use Rattle.jn_base.specs.declared.names.LockUnit.{LockUnit}
 
 -- what a server that is up remembers
 pub record Memory : Type 0 where
@@ -31,9 +32,9 @@ pub record World : Type 0 where
   -- the stable state that is found at a server by each pick of halves of its pages
   pub found : ServerNo → Pick → StableState
   pub clients : ClientNo → ClientTable
-  -- every message that was ever sent, the first one first: each may be delivered at any time, any number of times
+  -- every message that was sent, in order: each may be delivered at any time, any number of times
   pub sent : List Sent
-  -- every line, the first one first
+  -- every line, in order
   pub lines : List Text
   -- the number of the event under way
   pub event : ℕ
@@ -44,10 +45,21 @@ at_server f s x q = if server_eq s q then x else f q
 abbrev pub at_client : {A : Type 0} → (ClientNo → A) → ClientNo → A → ClientNo → A
 at_client f c x d = if client_eq c d then x else f d
 
+abbrev pub changed : (ServerNo → Pick → StableState) → ServerNo → (Pick → Bool) → (StableState → StableState) → ServerNo → Pick → StableState
+changed found s done f q c = if server_eq s q then (if done c then f (found s c) else found s c) else found q c
+
+abbrev pub with_epoch : StableState → StableState
+with_epoch x = record x { epoch = x.epoch + 1 }
+
 -- so many servers from this number on
 abbrev pub servers_from : ℕ → ℕ → List ServerNo
 servers_from first zero = []
 servers_from first (suc count) = record { 0 = first } ∷ servers_from (first + 1) count
+
+-- so many clients from this number on
+abbrev pub clients_from : ℕ → ℕ → List ClientNo
+clients_from c zero = []
+clients_from c (suc n) = record { 0 = c } ∷ clients_from (c + 1) n
 
 -- ---- what the lines say
 
@@ -83,3 +95,7 @@ opening servers files epochs = record {
   lines = [];
   event = 0;
 }
+
+-- the files are of so many servers
+abbrev pub AreFilesOf : ℕ → AllFiles → Type 0
+AreFilesOf servers files = (s : ServerNo) (u : LockUnit) → servers ≤ s.0 → files s u ≡ None

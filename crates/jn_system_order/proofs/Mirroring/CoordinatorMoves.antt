@@ -1,5 +1,6 @@
 -- What a coordinator does with a message of one of its transactions, as steps of the machine.
-use Rattle.jn_system_order.proofs.Common.{◌≡◌, ◌≢◌, ◌⊎◌, inl, inr, ℕ, Bool, true, false, List, [], ◌∷◌, ◌++◌, Option, Some, None, refl, sym, ap, subst, arith, ◌&&◌, not, nat_lt, if◌then◌else◌, All, All-nil, All-cons, All-append, ServerNo, ClientNo, Tid, WorkId, Client, Server, work_tells, work_eq, Flag, Message, Vote, Transaction, Stage, Open, Voting, Committed, Aborted, Commitment, DropFlag, RowOutcome, Sent, CoordinatorTable, transaction_at, is_work, besides, all_in, with_work, drops, commits, prepares, committed_to, aborted_to, staged, without, commit_row, abort_row, forget_row, not_known, end_promised, end_stage, end_row, abort_stage, abort_request, told_stage, inquire_row, counted_vote, vote_stage, vote_row, done_stage, done_row, thanks_stage, thanks_row, Machine, Unknown, Notes, Finishes, AllReady, AllOver, AreParts, Knows, Invariant, Atom, Learn, Decide, after, run, MayRun, MayLearn, Says, IsPartOf, IsWorkOf, AreWorksOf, DropSays, VoteSays, at_tid_here, World, Memory, of_coordinator, UpFact, Mirrors, IsTrue, IsAddressed, IsStage, knowledge_of, knowledge_in, RequestNo}
+use Rattle.jn_system_order.proofs.Common.{◌≡◌, ◌≢◌, ◌⊎◌, inl, inr, ℕ, Bool, true, false, List, [], ◌∷◌, ◌++◌, Option, Some, None, refl, sym, ap, subst, arith, ◌&&◌, not, nat_lt, if◌then◌else◌, All, All-nil, All-cons, All-append, ServerNo, ClientNo, Tid, WorkId, Client, Server, work_tells, work_eq, Flag, Message, Vote, Transaction, Stage, Open, Voting, Committed, Aborted, Commitment, DropFlag, RowOutcome, Sent, CoordinatorTable, transaction_at, is_work, besides, all_in, with_work, drops, commits, prepares, committed_to, aborted_to, staged, without, commit_row, abort_row, forget_row, not_known, end_promised, end_stage, end_row, abort_stage, abort_request, told_stage, inquire_row, counted_vote, vote_stage, vote_row, done_stage, done_row, thanks_stage, thanks_row, Machine, Unknown, Notes, Finishes, AllReady, AllOver, AreParts, Knows, Invariant, Atom, Learn, Decide, run, MayRun, MayLearn, Says, IsPartOf, IsWorkOf, AreWorksOf, DropSays, VoteSays, at_tid_here, World, Memory, of_coordinator, UpFact, Mirrors, IsTrue, IsAddressed, IsStage, knowledge_of, knowledge_in, RequestNo}
+use Rattle.jn_system.specs.SmallSteps.Steps.{after}
 use Rattle.jn_base.specs.declared.names.Cause.{Cause}
 use Rattle.jn_msgs.specs.declared.message.Note.TheVariants.{Ignored}
 use Rattle.jn_rows.specs.declared.coordinator.Voting.{Voting as Ballot}

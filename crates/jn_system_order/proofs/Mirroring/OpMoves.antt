@@ -1,5 +1,5 @@
 -- An operation that is granted, as steps of the machine: the works that break are lost, and the operation is performed.
-use Rattle.jn_system_order.proofs.Common.{◌≡◌, ◌≢◌, ◌⊎◌, inl, inr, Bool, true, false, List, [], ◌∷◌, ◌++◌, Option, Some, None, refl, sym, ◌∙◌, ap, subst, arith, ◌||◌, if◌then◌else◌, All-nil, All-cons, ServerNo, ClientNo, WorkId, LockUnit, Client, Op, Answer, work_eq, work_tells, change, answer_to, list_change, Read, Commit, is_unit, Message, Work, Phase, Active, ActiveWork, StableState, Prepared, at_work, stable, WorkerTable, work_at, wants_of, units_for, is_fit, after_grant, with_phase, granted_row, conflict, holds, HoldsForCommit, HasRead, file_unit, Answered, Machine, Working, Atom, Perform, perform, run, MayRun, MayPerform, Says, World, Memory, UpFact, TableFact, IsSoundWork, IsSoundActive, Mirrors, IsTrue, IsAddressed, working_of, working_in, next_in, Regrants, granted, done-keeps, Entry, entry-of, with_units-is, RequestNo}
+use Rattle.jn_system_order.proofs.Common.{◌≡◌, ◌≢◌, ◌⊎◌, inl, inr, Bool, true, false, List, [], ◌∷◌, ◌++◌, Option, Some, None, refl, sym, ◌∙◌, ap, subst, arith, ◌||◌, if◌then◌else◌, All-nil, All-cons, ServerNo, ClientNo, WorkId, LockUnit, Client, Op, Answer, work_eq, work_tells, change, answer_to, list_change, Read, Commit, is_unit, Message, Work, Phase, Active, ActiveWork, StableState, Prepared, at_work, stable, WorkerTable, work_at, wants_of, units_for, is_fit, after_grant, with_phase, granted_row, conflict, holds, HoldsForCommit, HasRead, file_unit, Answered, Machine, Working, Atom, Perform, perform, run, MayRun, MayPerform, Says, World, Memory, UpFact, TableFact, IsSoundWork, IsSoundActive, Mirrors, IsTrue, IsAddressed, working_of, working_in, next_in, Regrants, granted, done-keeps, Entry, entry-of, with_units-is, RequestNo, OperationNo, asked_for, asked_here}
 use Rattle.jn_msgs.specs.declared.message.Message.TheVariants as messages
 use Rattle.jn_rows.specs.Worker.{done}
 use Rattle.jn_system_order.proofs.Mirroring.Performed.{done-changes, wants-asked}
@@ -131,8 +131,8 @@ module _ (r : World) (w : Machine) (s : ServerNo) (m : Memory) (mirrors : Mirror
     grown : (message : Message) → Says w message → Says performed-world message
     grown message h = subst (λ (v : Machine). Says v message) ran (grow atoms may-op message h)
 
-    pub op-does : (c : ClientNo) (request : RequestNo) → DoesRow s m (granted_row m.worker m.tickets c request x a op its-answer (wants_of op (is_fit its-answer)) None) w performed-world
-    op-does c request = record {
+    pub op-does : (c : ClientNo) (request : RequestNo) (number : OperationNo) → DoesRow s m (granted_row (asked_here m.worker (stable (r.found s)).files m.tickets) (asked_for c request number op) x a its-answer (wants_of op (is_fit its-answer)) None) w performed-world
+    op-does c request number = record {
       up = λ q. refl;
       found = λ q p. found-same r w s m mirrors is up q p;
       here = performed-here;

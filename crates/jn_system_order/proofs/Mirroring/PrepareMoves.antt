@@ -1,5 +1,6 @@
 -- A work that is prepared, as steps of the machine: the works that break are lost, and the work goes to the stable state.
-use Rattle.jn_system_order.proofs.Common.{◌≡◌, ◌≢◌, ◌⊎◌, inl, inr, ℕ, Bool, true, false, List, [], ◌∷◌, ◌++◌, Option, Some, None, is_some, refl, sym, ◌∙◌, ap, subst, arith, if◌then◌else◌, All-nil, All-cons, ServerNo, ClientNo, Tid, WorkId, LockUnit, Server, server_eq, work_eq, server_tells, work_tells, Read, Commit, is_unit, Message, Work, Phase, Active, Broken, Stored, ActiveWork, StableState, Prepared, Pick, AddReady, made_by, at_work, stable, ready_work, WorkerTable, work_at, commit_wants, after_grant, with_phase, prepared_row, conflict, commit_units, HoldsForCommit, Machine, Working, PartFact, Atom, Prepare, NoteReady, after, always, run, MayRun, MayPrepare, Says, IsPartOf, World, Memory, UpFact, TableFact, StoredFact, IsSoundWork, IsSoundActive, Mirrors, IsTrue, IsAddressed, working_of, working_in, next_in, Regrants, granted, prepared-keeps, stored-fact}
+use Rattle.jn_system_order.proofs.Common.{◌≡◌, ◌≢◌, ◌⊎◌, inl, inr, ℕ, Bool, true, false, List, [], ◌∷◌, ◌++◌, Option, Some, None, is_some, refl, sym, ◌∙◌, ap, subst, arith, if◌then◌else◌, All-nil, All-cons, ServerNo, ClientNo, Tid, WorkId, LockUnit, Server, server_eq, work_eq, server_tells, work_tells, Read, Commit, is_unit, Message, Work, Phase, Active, Broken, Stored, ActiveWork, StableState, Prepared, Pick, AddReady, made_by, at_work, stable, ready_work, WorkerTable, work_at, commit_wants, after_grant, with_phase, prepared_row, conflict, commit_units, HoldsForCommit, Machine, Working, PartFact, Atom, Prepare, NoteReady, always, run, MayRun, MayPrepare, Says, IsPartOf, World, Memory, UpFact, TableFact, StoredFact, IsSoundWork, IsSoundActive, Mirrors, IsTrue, IsAddressed, working_of, working_in, next_in, Regrants, granted, prepared-keeps, stored-fact}
+use Rattle.jn_system.specs.SmallSteps.Steps.{after}
 use Rattle.jn_records.specs.declared.work.WorkHead.{WorkHead}
 use Rattle.jn_msgs.specs.declared.message.Message.TheVariants as messages
 use Rattle.jn_msgs.specs.declared.message.Vote.TheVariants as votes

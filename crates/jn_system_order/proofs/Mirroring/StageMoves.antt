@@ -1,5 +1,6 @@
 -- What a coordinator does to one transaction, as steps of the machine: nothing, a new stage, a commit, or its end.
-use Rattle.jn_system_order.proofs.Common.{◌≡◌, ◌≢◌, ◌⊎◌, inl, inr, ℕ, zero, suc, Bool, true, false, List, [], ◌∷◌, ◌++◌, append-nil, Some, None, is_some, refl, sym, ◌∙◌, ap, subst, if◌then◌else◌, take, All, All-nil, ServerNo, Tid, WorkId, server_eq, tid_eq, server_tells, tid_tells, Flag, Message, Note, Transaction, Stage, Committed, StableState, Pick, AddFlag, DropFlag, made_by, made_all, at_tid, RowOutcome, Sent, CoordinatorTable, transaction_at, staged, with_stage, without, Machine, Knowledge, Unknown, Finishes, AllOver, AreParts, Knows, Invariant, Atom, Learn, Make, Decide, always, after, run, MayRun, May, MayFlag, Says, World, Memory, of_coordinator, UpFact, Mirrors, IsTrue, IsAddressed, IsStage, IsTransaction, AreTransactions, commits_of, knowledge_of, knowledge_in, known_in, next_in, Crash, crash}
+use Rattle.jn_system_order.proofs.Common.{◌≡◌, ◌≢◌, ◌⊎◌, inl, inr, ℕ, zero, suc, Bool, true, false, List, [], ◌∷◌, ◌++◌, append-nil, Some, None, is_some, refl, sym, ◌∙◌, ap, subst, if◌then◌else◌, take, All, All-nil, ServerNo, Tid, WorkId, server_eq, tid_eq, server_tells, tid_tells, Flag, Message, Note, Transaction, Stage, Committed, StableState, Pick, AddFlag, DropFlag, made_by, made_all, at_tid, RowOutcome, Sent, CoordinatorTable, transaction_at, staged, with_stage, without, Machine, Knowledge, Unknown, Finishes, AllOver, AreParts, Knows, Invariant, Atom, Learn, Make, Decide, always, run, MayRun, May, MayFlag, Says, World, Memory, of_coordinator, UpFact, Mirrors, IsTrue, IsAddressed, IsStage, IsTransaction, AreTransactions, commits_of, knowledge_of, knowledge_in, known_in, next_in, Crash, crash}
+use Rattle.jn_system.specs.SmallSteps.Steps.{after}
 use Rattle.jn_msgs.specs.declared.message.Message.TheVariants as messages
 use Rattle.jn_msgs.specs.declared.message.Note.TheVariants as notes
 use Rattle.jn_system_order.proofs.Mirroring.GrantMoves.{active-here, found-same}

@@ -1,12 +1,11 @@
 -- Steps of the whole system as steps of the machine.
-use Rattle.jn_system_order.proofs.Common.{◌≡◌, ◌⊎◌, ◌<◌, ◌≤◌, inl, inr, Bool, true, List, [], ◌∷◌, ◌++◌, Option, Some, None, is_some, refl, sym, ◌∙◌, ap, subst, arith, ◌||◌, if◌then◌else◌, slice_get, All, get_or, list_any, All-get_or, All-nil, ServerNo, Tid, Client, Server, server_eq, tid_eq, AllFiles, Message, Work, Phase, Active, Broken, Stored, Outstanding, StableState, Pick, stable, RowOutcome, Sent, transaction_at, over, worker_row, WorkerTable, work_at, work_of, timed_out, vulnerable, Text, Machine, PartFact, Atom, Crashes, Narrows, RaiseEpoch, with_epoch, run, opening_world, MayRun, Says, run_kept, opening_kept, Invariant, run_told, opening_told, still_true, grows, says_still, World, Memory, at_server, opening, new_memory, commits_in, storage_of, Room, of_worker, server_row, of_timeout, works, Step, done, stopped, IsStep, LockFacts, ServerFact, UpFact, Mirrors, AreTransactions, IsClient, commits_of, MovesTo, IsTrue, IsAddressed, is_shown, active_in, next_in, known_in, working_in, of-found, append-nil, fun_ext, one-found, ServerRow, of_message, of_work, of_closing, FoundThen, by_narrowing, by_raising, Quiet, event_begins, none_changes, is_refused, client_repeats, server_repeats, is_lost, StepCase, client_row, row_done, row_stopped, gone_late, gone_down, come_up, found_anew, dismissed, quietly, step-case, some-memory, row-of-step}
+use Rattle.jn_system_order.proofs.Common.{◌≡◌, ◌⊎◌, ◌<◌, ◌≤◌, inl, inr, Bool, true, List, [], ◌∷◌, ◌++◌, Option, Some, None, is_some, refl, sym, ◌∙◌, ap, subst, arith, ◌||◌, if◌then◌else◌, slice_get, All, get_or, list_any, All-get_or, All-nil, ServerNo, Tid, Client, Server, server_eq, tid_eq, AllFiles, Message, Work, Phase, Active, Broken, Stored, Outstanding, StableState, Pick, stable, RowOutcome, Sent, transaction_at, over, worker_row, WorkerTable, work_at, work_of, timed_out, vulnerable, Text, Machine, PartFact, Atom, Crashes, Narrows, RaiseEpoch, with_epoch, run, opening_world, MayRun, Says, run_kept, opening_kept, Invariant, run_told, opening_told, still_true, grows, says_still, World, Memory, at_server, opening, new_memory, commits_in, storage_of, Room, of_worker, server_row, of_timeout, works, Step, done, stopped, IsStep, LockFacts, ServerFact, UpFact, Mirrors, AreTransactions, IsClient, commits_of, MovesTo, IsTrue, IsAddressed, is_shown, active_in, next_in, known_in, working_in, of-found, append-nil, fun_ext, one-found, ServerRow, of_message, of_work, of_closing, FoundThen, by_narrowing, by_raising, Quiet, event_begins, none_changes, is_refused, client_repeats, server_repeats, is_lost, StepCase, client_row, row_done, row_stopped, gone_late, gone_down, come_up, found_anew, dismissed, quietly, step-case, some-memory, row-of-step, after}
 use Rattle.std.proofs.Common.{ℕ, length}
 use Rattle.std.proofs.lemmas.Option.{slice_get_cases}
 use Rattle.jn_msgs.specs.declared.message.Message.TheVariants as messages
 use Rattle.jn_report.specs.declared.line.Text.TheVariants as says
 use Rattle.jn_system.specs.SmallSteps.World.{Commit}
 use Rattle.jn_system.specs.SmallSteps.Order.{has_committed}
-use Rattle.jn_system.specs.WholeSystem.Steps.{after}
 use Rattle.jn_system_order.proofs.Mirroring.Mirrored.{All-grows, mirrored, stop-mirrored, transactions-still, client-still}
 use Rattle.jn_system_order.proofs.Mirroring.WorkerNotes.{worker-none, step-none}
 use Rattle.jn_system_order.proofs.Mirroring.QuietMoves.{sends-moves, RowMoves, ServerMoves, ServerStops, worker-moves, phase-moves}

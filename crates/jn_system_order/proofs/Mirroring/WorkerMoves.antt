@@ -1,5 +1,5 @@
 -- What a worker does with each message, as steps of the machine.
-use Rattle.jn_system_order.proofs.Common.{◌≡◌, ◌≢◌, ◌⊎◌, inl, inr, Bool, true, false, List, [], ◌∷◌, Some, None, is_some, refl, sym, ◌∙◌, ap, subst, arith, if◌then◌else◌, All, All-nil, All-cons, ServerNo, ClientNo, Tid, WorkId, Client, Server, Op, work_eq, tid_tells, work_tells, Message, Vote, Work, Phase, Active, ActiveWork, StableState, stable, at_work, RowOutcome, Sent, WorkerTable, work_at, work_of, granted_row, conflict, counted, Machine, PartFact, Atom, NoteReady, run, MayRun, Says, IsPartOf, found-name, World, Memory, Room, storage_of, UpFact, IsSoundWork, IsSoundPrepared, Mirrors, IsTrue, IsAddressed, working_in, next_in, by-name, of-found, no-lock, RequestNo, no-conflict, WorkerCase, none_done, replies_only, opens_anew, refuses_next, performs_next, prepares_it, marks_it, drops_it, removes_it, Replies, is_open_already, votes_against, votes_broken, votes_again, votes_lost, is_done_already, its_answer, its_wants, its_vote, is_ready, worker-case, VoteSays, Invariant, WorkStorage, worker_row}
+use Rattle.jn_system_order.proofs.Common.{◌≡◌, ◌≢◌, ◌⊎◌, inl, inr, Bool, true, false, List, [], ◌∷◌, Some, None, is_some, refl, sym, ◌∙◌, ap, subst, arith, if◌then◌else◌, All, All-nil, All-cons, ServerNo, ClientNo, Tid, WorkId, Client, Server, Op, work_eq, tid_tells, work_tells, Message, Vote, Work, Phase, Active, ActiveWork, StableState, stable, at_work, RowOutcome, Sent, WorkerTable, work_at, work_of, granted_row, conflict, counted, Machine, PartFact, Atom, NoteReady, run, MayRun, Says, IsPartOf, found-name, World, Memory, Room, storage_of, UpFact, IsSoundWork, IsSoundPrepared, Mirrors, IsTrue, IsAddressed, working_in, next_in, by-name, of-found, no-lock, RequestNo, no-conflict, WorkerCase, none_done, replies_only, opens_anew, refuses_next, performs_next, prepares_it, marks_it, drops_it, removes_it, Replies, is_open_already, votes_against, votes_broken, votes_again, votes_lost, is_done_already, its_answer, its_wants, its_vote, is_ready, worker-case, VoteSays, Invariant, WorkStorage, worker_row, OperationNo, asked_for, asked_here}
 use Rattle.jn_msgs.specs.declared.message.Message.TheVariants as messages
 use Rattle.jn_msgs.specs.declared.message.Vote.TheVariants as votes
 use Rattle.jn_rows.specs.declared.worker.PreparedWork.{PreparedWork}
@@ -85,13 +85,13 @@ module _ (r : World) (w : Machine) (s : ServerNo) (m : Memory) (mirrors : Mirror
   -- ---- every row
 
   -- the next operation is performed
-  performs : (x : Work) (a : ActiveWork) (op : Op) (c : ClientNo) (q : RequestNo) → work_at x.name m.worker ≡ Some x → x.phase ≡ Active a → conflict x.name (its_wants storage a op) m.worker ≡ None
-      → RowMoves s m (granted_row m.worker m.tickets c q x a op (its_answer storage a op) (its_wants storage a op) None) w
-  performs x a op c q found e free = record {
+  performs : (x : Work) (a : ActiveWork) (op : Op) (c : ClientNo) (q : RequestNo) (n : OperationNo) → work_at x.name m.worker ≡ Some x → x.phase ≡ Active a → conflict x.name (its_wants storage a op) m.worker ≡ None
+      → RowMoves s m (granted_row (asked_here m.worker storage.state.files m.tickets) (asked_for c q n op) x a (its_answer storage a op) (its_wants storage a op) None) w
+  performs x a op c q n found e free = record {
     atoms = atoms r w s m mirrors is up grow x a found e op free;
     may = may-op r w s m mirrors is up grow x a found e op free;
-    does = subst (λ (v : Machine). DoesRow s m (granted_row m.worker m.tickets c q x a op (its_answer storage a op) (its_wants storage a op) None) w v)
-        (sym (op-ran r w s m mirrors is up grow x a found e op free)) (op-does r w s m mirrors is up grow x a found e op free c q);
+    does = subst (λ (v : Machine). DoesRow s m (granted_row (asked_here m.worker storage.state.files m.tickets) (asked_for c q n op) x a (its_answer storage a op) (its_wants storage a op) None) w v)
+        (sym (op-ran r w s m mirrors is up grow x a found e op free)) (op-does r w s m mirrors is up grow x a found e op free c q n);
     stops = still-stops r w s m mirrors is up _ refl;
   }
 
@@ -103,7 +103,7 @@ module _ (r : World) (w : Machine) (s : ServerNo) (m : Memory) (mirrors : Mirror
       by _ _ (replies_only message x reply) said to = replied message x reply said to
       by _ _ (opens_anew c q T none free) said to = open-moves r w s m mirrors is up T said grow c q
       by _ _ (refuses_next c q W n op x a refusal e f l k) said to = phase-moves r w s m mirrors is up x (Active (counted a refusal)) _ [] (by-name W m.worker x e) (sym (ap working_in f)) (one (Client c, messages.Answer c q refusal) tt tt)
-      by _ _ (performs_next c q W n op x a e f l k) said to = performs x a op c q (by-name W m.worker x e) f (no-lock _ _ k)
+      by _ _ (performs_next c q W n op x a e f l k) said to = performs x a op c q n (by-name W m.worker x e) f (no-lock _ _ k)
       by _ _ (prepares_it T c W x a e f v) said to = prepare-moves r w s m mirrors is up grow parts x a (by-name W m.worker x e) f T c (is-part T W x e said) (no-conflict _ _ v)
       by _ _ (marks_it T W x p e f g) said to = mark-moves r w s m mirrors is up grow parts T W said to g
       by _ _ (drops_it T W x e f) said to = lose-moves r w s m mirrors is up grow inv T W said to

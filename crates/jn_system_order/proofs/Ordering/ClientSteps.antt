@@ -1,5 +1,5 @@
 -- A client's steps: what holds of the openings stays, and an End is a step of the machine.
-use Rattle.jn_system_order.proofs.Common.{Step, Text, ◌≡◌, ◌≢◌, ◌⊎◌, inl, inr, ◌<◌, ℕ, ◌+◌, Bool, true, false, List, [], ◌∷◌, ◌++◌, append-nil, Option, Some, None, refl, sym, ◌∙◌, ap, subst, arith, ◌||◌, if◌then◌else◌, slice_get, All-nil, All-cons, All-append, ServerNo, ClientNo, Tid, WorkId, Client, Server, server_eq, tid_eq, work_eq, server_tells, tid_tells, work_tells, Message, OpenWork, Outstanding, Taken, Sent, is_work, ClientTable, Refuses, Sends, names_of, if_idle, if_transaction, take_row, sends, is_begin, sent_again, Machine, Invariant, Atom, Ends, end_it, run, MayRun, MayEnd, Says, IsWorkOf, at_tid_here, at_tid_other, at_tid_cases, World, at_client, commanded, tell, again, sent_now, dismiss, Mirrors, IsTrue, IsAddressed, AreOpen, IsCurrent, IsClient, request_of, RequestNo, one-client, ClientRow, by_command, by_ignoring, by_answering, by_telling}
+use Rattle.jn_system_order.proofs.Common.{Step, Text, ◌≡◌, ◌≢◌, ◌⊎◌, inl, inr, ◌<◌, ℕ, ◌+◌, Bool, true, false, List, [], ◌∷◌, ◌++◌, append-nil, Option, Some, None, refl, sym, ◌∙◌, ap, subst, arith, ◌||◌, if◌then◌else◌, slice_get, All-nil, All-cons, All-append, ServerNo, ClientNo, Tid, WorkId, Client, Server, server_eq, tid_eq, work_eq, server_tells, tid_tells, work_tells, Message, OpenWork, Outstanding, Taken, Sent, is_work, ClientTable, Refuses, Sends, names_of, if_idle, if_transaction, take_row, sends, is_begin, sent_again, Machine, Invariant, Atom, Ends, end_it, run, MayRun, MayEnd, Says, IsWorkOf, at_tid_here, at_tid_other, at_tid_cases, World, at_client, commanded, again, sent_now, Mirrors, IsTrue, IsAddressed, AreOpen, IsCurrent, IsClient, request_of, RequestNo, one-client, ClientRow, by_command, by_ignoring, by_answering, by_telling, after, Tell, Dismiss}
 use Rattle.jn_base.specs.declared.op.Command.TheVariants.{Open, End}
 use Rattle.jn_msgs.specs.declared.message.Message.TheVariants as messages
 use Rattle.jn_report.specs.declared.line.Refusal.{Refusal}
@@ -86,7 +86,7 @@ module _ (r : World) (w v : Machine) (mirrors : Mirrors r w) (facts : Facts r w)
   row-facts c _ _ _ _ (by_telling k room stop message u line None is e) = let h = so-takes c k message _ is e in client-changes c u _ refl refl (ap openings (append-nil r.sent)) h.0 (λ n l. subst (λ z. n < z) (sym h.1) l)
   row-facts c _ _ _ _ (by_telling k room stop message u line (Some sent) is e) = let h = so-takes c k message _ is e in client-changes c u _ refl refl (quiet-more r.sent sent h.2) h.0 (λ n l. subst (λ z. n < z) (sym h.1) l)
 
-  pub dismiss-facts : Facts (dismiss r) v
+  pub dismiss-facts : Facts (after Dismiss r) v
   dismiss-facts = record {
     unique = facts.unique;
     tables = facts.tables;
@@ -326,7 +326,7 @@ module _ (r : World) (w : Machine) (mirrors : Mirrors r w) (facts : Facts r w) (
       ends = λ U e. ends-now U (at_tid_cases w.ended T true U true e);
     }
 
-  pub end-next : Next (tell c End r) w
+  pub end-next : Next (after (Tell c End) r) w
   end-next = by t.outstanding t.transaction refl refl
     where
       by : (o : Option Outstanding) (x : Option Tid) → t.outstanding ≡ o → t.transaction ≡ x → Next (commanded c (if_idle o (if_transaction x (λ T. sends t r.event End (Server T.server) (messages.End t.client (request_of t.next) T (names_of t.works))))) r) w

@@ -1,12 +1,11 @@
 -- Each step keeps that a client is told of a commit only once its line was told.
-use Rattle.jn_system_order.proofs.Common.{◌≡◌, ℕ, ◌+◌, Bool, true, false, List, [], ◌∷◌, ◌++◌, append-nil, Option, Some, None, refl, sym, ◌∙◌, ap, subst, if◌then◌else◌, ServerNo, ClientNo, Tid, WorkId, Client, Answer, client_eq, Message, Note, Outcome, Text, Outstanding, Taken, StableState, Pick, Sent, ClientTable, take_row, if_waits, is_current, begun_row, opened_row, answer_line, decided_row, outcome_row, Machine, Says, OutcomeSays, World, has_line, line_of, lines_of, named_now, Step, Mirrors, IsTrue, IsNamedBefore, AreNamed, ClientRow, by_command, by_ignoring, by_answering, by_telling, FoundThen, by_narrowing, by_raising, Quiet, is_refused, is_lost, StepCase, client_row, row_done, row_stopped, gone_late, gone_down, come_up, found_anew, dismissed, quietly, step-case}
+use Rattle.jn_system_order.proofs.Common.{◌≡◌, ℕ, ◌+◌, Bool, true, false, List, [], ◌∷◌, ◌++◌, append-nil, Option, Some, None, refl, sym, ◌∙◌, ap, subst, if◌then◌else◌, ServerNo, ClientNo, Tid, WorkId, Client, Answer, client_eq, Message, Note, Outcome, Text, Outstanding, Taken, StableState, Pick, Sent, ClientTable, take_row, if_waits, is_current, begun_row, opened_row, answer_line, decided_row, outcome_row, Machine, Says, OutcomeSays, World, has_line, line_of, lines_of, named_now, Step, Mirrors, IsTrue, IsNamedBefore, AreNamed, ClientRow, by_command, by_ignoring, by_answering, by_telling, FoundThen, by_narrowing, by_raising, Quiet, is_refused, is_lost, StepCase, client_row, row_done, row_stopped, gone_late, gone_down, come_up, found_anew, dismissed, quietly, step-case, after}
 use Rattle.jn_base.specs.declared.op.Answer.TheVariants as answers
 use Rattle.jn_msgs.specs.declared.message.Message.TheVariants as messages
 use Rattle.jn_msgs.specs.declared.message.Note.TheVariants as notes
 use Rattle.jn_msgs.specs.declared.message.Outcome.TheVariants as outcomes
 use Rattle.jn_report.specs.declared.line.Text.TheVariants as says
 use Rattle.jn_rows.specs.declared.client.Taken.TheVariants as taken
-use Rattle.jn_system.specs.WholeSystem.Steps.{after}
 use Rattle.jn_system_order.proofs.Mirroring.StepMoves.{holds-of}
 
 append-append : (a b c : List Text) → (a ++ b) ++ c ≡ a ++ (b ++ c)

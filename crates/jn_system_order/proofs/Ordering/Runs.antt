@@ -1,8 +1,8 @@
 -- Each run of the whole system is a run of the machine, and so its commits are in order.
-use Rattle.jn_system_order.proofs.Common.{Text, restored, ◌≡◌, inl, ℕ, true, false, List, [], ◌∷◌, ◌++◌, Some, None, refl, sym, ◌∙◌, ap, subst, arith, list_any, ServerNo, LockUnit, Tid, tid_eq, AllFiles, Message, Outstanding, Pick, stable, Sent, Machine, replay, Invariant, Atom, run_atoms, opening_world, MayRun, Says, run_kept, opening_kept, run_grows, says_still, in_order, run_told, opening_told, World, Memory, opening, new_memory, Step, Tell, IsStep, IsRun, LockFacts, ServerFact, Mirrors, is_shown, locks-keep, opening-keeps, IsMoves, IsDone, IsInOrder, AreNamed, Quiet, client_repeats, server_repeats, StepCase, client_row, row_done, row_stopped, gone_late, gone_down, come_up, found_anew, dismissed, quietly, step-case, some-memory}
+use Rattle.jn_system_order.proofs.Common.{Text, restored, ◌≡◌, inl, ℕ, true, false, List, [], ◌∷◌, ◌++◌, Some, None, refl, sym, ◌∙◌, ap, subst, arith, list_any, ServerNo, LockUnit, Tid, tid_eq, AllFiles, Message, Outstanding, Pick, stable, Sent, Machine, replay, Invariant, Atom, run_atoms, opening_world, MayRun, Says, run_kept, opening_kept, run_grows, says_still, in_order, run_told, opening_told, World, Memory, opening, new_memory, Step, Tell, IsStep, IsRun, LockFacts, ServerFact, Mirrors, is_shown, locks-keep, opening-keeps, IsMoves, IsDone, IsInOrder, AreNamed, Quiet, client_repeats, server_repeats, StepCase, client_row, row_done, row_stopped, gone_late, gone_down, come_up, found_anew, dismissed, quietly, step-case, some-memory, after}
 use Rattle.jn_base.specs.declared.op.Command.TheVariants.{End}
 use Rattle.jn_msgs.specs.declared.message.Message.TheVariants as messages
-use Rattle.jn_system.specs.WholeSystem.Steps.{after, run}
+use Rattle.jn_system.specs.WholeSystem.Steps.{run}
 use Rattle.jn_system_order.proofs.Mirroring.Losing.{run-append, may-append}
 use Rattle.jn_system_order.proofs.Mirroring.StepMoves.{step-moves, opening-mirrors, committed-any}
 use Rattle.jn_system_order.proofs.Ordering.Named.{step-names}

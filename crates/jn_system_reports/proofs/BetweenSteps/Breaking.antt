@@ -1,5 +1,5 @@
 -- A broken work of a table was broken there before a step, or active; where a step names a commit, it breaks none.
-use Rattle.jn_system_reports.proofs.Common.{◌≡◌, ◌⊎◌, inl, inr, ℕ, ◌+◌, Bool, true, false, List, [], ◌∷◌, ◌++◌, append-nil, Option, Some, None, refl, sym, ◌∙◌, ap, subst, if◌then◌else◌, nat_eq, nat_lt, length, slice_get, ServerNo, ClientNo, Tid, WorkId, Tickets, Op, Answer, work_eq, Files, change, answer_to, list_change, length_with, Read, Intention, Message, Vote, Work, Phase, Active, Broken, Stored, ActiveWork, is_going, stable, RowOutcome, WorkerTable, WorkStorage, Wanted, Held, gives_way, work_at, work_of, without, new_work, name_from, open_row, conflict, commit_wants, wants_of, is_fit, past_limit, units_for, with_units, refusal_of, counted, performed-work, granted_row, performed, repeated, op_phase, op_row, vote_of, shortage, need_in, prepared_row, prepare_phase, prepare_row, commit_phase, drop_phase, drop_row, worker_row, going_work, intentions_of, carried_row, going_row, worker_step, vulnerable, timed_out, timeout_row, coordinator_row, close_clients_row, are_rising, is_after, at-more, at-less, some_is, none_some, not_both, World, Memory, at_server, commits_in, storage_of, of_worker, of_coordinator, of_timeout, lines_of, restored, Step, after, LockFacts, ServerFact, UpFact, Regrants, Origin, Mine, Kept, Broke, granted, phase_changed, restored-is, of-found, no-lock, named_by, commits-more, lines-commit, worker-none, step-none, done, OperationNo, RequestNo, one-server, ServerRow, of_message, of_work, of_closing, StepCase, client_row, row_done, row_stopped, gone_late, gone_down, come_up, found_anew, dismissed, quietly, step-case, row-either, row-of-step}
+use Rattle.jn_system_reports.proofs.Common.{◌≡◌, ◌⊎◌, inl, inr, ℕ, ◌+◌, Bool, true, false, List, [], ◌∷◌, ◌++◌, append-nil, Option, Some, None, refl, sym, ◌∙◌, ap, subst, if◌then◌else◌, nat_eq, nat_lt, length, slice_get, ServerNo, ClientNo, Tid, WorkId, Tickets, Answer, work_eq, Files, change, answer_to, list_change, length_with, Read, Intention, Message, Vote, Work, Phase, Active, Broken, Stored, ActiveWork, is_going, stable, RowOutcome, WorkerTable, WorkStorage, Wanted, Held, gives_way, work_at, work_of, without, new_work, name_from, open_row, conflict, commit_wants, wants_of, is_fit, past_limit, units_for, with_units, refusal_of, counted, performed-work, granted_row, performed, repeated, op_phase, op_row, vote_of, shortage, need_in, prepared_row, prepare_phase, prepare_row, commit_phase, drop_phase, drop_row, worker_row, going_work, intentions_of, carried_row, going_row, worker_step, vulnerable, timed_out, timeout_row, coordinator_row, close_clients_row, are_rising, is_after, at-more, at-less, some_is, none_some, not_both, World, Memory, at_server, commits_in, storage_of, of_worker, of_coordinator, of_timeout, lines_of, restored, Step, after, LockFacts, ServerFact, UpFact, Regrants, Origin, Mine, Kept, Broke, granted, phase_changed, restored-is, of-found, no-lock, named_by, commits-more, lines-commit, worker-none, step-none, done, RequestNo, one-server, ServerRow, of_message, of_work, of_closing, StepCase, client_row, row_done, row_stopped, gone_late, gone_down, come_up, found_anew, dismissed, quietly, step-case, row-either, row-of-step, Asked, Here, asked_for, asked_here}
 use Rattle.jn_msgs.specs.declared.message.Message.TheVariants as messages
 use Rattle.jn_msgs.specs.declared.message.Vote.TheVariants as votes
 use Rattle.jn_rows.specs.Worker.{commit_row}
@@ -82,25 +82,29 @@ module _ (t : WorkerTable) (k : Tickets) (rising : are_rising t ≡ true) (befor
   opens c request T (Some w) = same-from t
   opens c request T None = either (nat_lt (length t) 64) _ _ (from-none t _ (more-none (name_from k) T t before)) (same-from t)
 
-  grants : (c : ClientNo) (request : RequestNo) (w : Work) (a : ActiveWork) (op : Op) (answer : Answer) (wants : List Wanted) (o : Option Answer) → (o ≡ None → conflict w.name wants t ≡ None) → Ok (granted_row t k c request w a op answer wants o)
-  grants c request w a op answer wants (Some refusal) free = regrants-from w.name [] (Active (counted a refusal)) t _ (phase_changed w.name (Active (counted a refusal)) t) (λ v l b. never false refl b)
-  grants c request w a op answer wants None free = regrants-from w.name wants (Active (performed-work a op answer wants)) t _ (granted w.tid w.name wants (Active (performed-work a op answer wants)) t (free refl)) (λ v l b. never false refl b)
+  module _ (files : Files) (q : Asked) where
+    abbrev op-here : Here
+    op-here = asked_here t files k
 
-  repeats : (c : ClientNo) (request : RequestNo) (o : Option Answer) → Ok (repeated t k c request o)
-  repeats c request (Some answer) = same-from t
-  repeats c request None = same-from t
+    grants : (w : Work) (a : ActiveWork) (answer : Answer) (wants : List Wanted) (o : Option Answer) → (o ≡ None → conflict w.name wants t ≡ None) → Ok (granted_row op-here q w a answer wants o)
+    grants w a answer wants (Some refusal) free = regrants-from w.name [] (Active (counted a refusal)) t _ (phase_changed w.name (Active (counted a refusal)) t) (λ v l b. never false refl b)
+    grants w a answer wants None free = regrants-from w.name wants (Active (performed-work a q.op answer wants)) t _ (granted w.tid w.name wants (Active (performed-work a q.op answer wants)) t (free refl)) (λ v l b. never false refl b)
 
-  performs : (c : ClientNo) (request : RequestNo) (w : Work) (a : ActiveWork) (op : Op) (answer : Answer) → Ok (performed t k c request w a op answer)
-  performs c request w a op answer = let wants = wants_of op (is_fit answer) in grants c request w a op answer wants (refusal_of t w.name a op answer wants) (λ e. no-lock (past_limit (length (with_units (units_for Read wants) a.reads)) (if is_fit answer then length_with a.list op else length a.list)) (conflict w.name wants t) e)
+    repeats : (o : Option Answer) → Ok (repeated op-here q o)
+    repeats (Some answer) = same-from t
+    repeats None = same-from t
 
-  op-phases : (files : Files) (c : ClientNo) (request : RequestNo) (w : Work) (number : OperationNo) (op : Op) (p : Phase) → Ok (op_phase t files k c request w number op p)
-  op-phases files c request w number op (Active a) = either (nat_eq number.0 (a.last + 1)) _ _ (performs c request w a op (answer_to op (change (list_change a.list) files))) (either (nat_eq number.0 a.last) _ _ (repeats c request a.kept) (same-from t))
-  op-phases files c request w number op (Broken u by) = same-from t
-  op-phases files c request w number op (Stored p) = same-from t
+    performs : (w : Work) (a : ActiveWork) (answer : Answer) → Ok (performed op-here q w a answer)
+    performs w a answer = let wants = wants_of q.op (is_fit answer) in grants w a answer wants (refusal_of t w.name a q.op answer wants) (λ e. no-lock (past_limit (length (with_units (units_for Read wants) a.reads)) (if is_fit answer then length_with a.list q.op else length a.list)) (conflict w.name wants t) e)
 
-  ops : (files : Files) (c : ClientNo) (request : RequestNo) (W : WorkId) (number : OperationNo) (op : Op) (o : Option Work) → Ok (op_row t files k c request W number op o)
-  ops files c request W number op (Some w) = op-phases files c request w number op w.phase
-  ops files c request W number op None = same-from t
+    op-phases : (w : Work) (p : Phase) → Ok (op_phase op-here q w p)
+    op-phases w (Active a) = either (nat_eq q.number.0 (a.last + 1)) _ _ (performs w a (answer_to q.op (change (list_change a.list) files))) (either (nat_eq q.number.0 a.last) _ _ (repeats a.kept) (same-from t))
+    op-phases w (Broken u by) = same-from t
+    op-phases w (Stored p) = same-from t
+
+    ops : (W : WorkId) (o : Option Work) → Ok (op_row op-here q W o)
+    ops W (Some w) = op-phases w w.phase
+    ops W None = same-from t
 
   ready : (T : Tid) (c : ClientNo) (w : Work) (a : ActiveWork) → conflict w.name (commit_wants a.writes) t ≡ None → Ok (prepared_row t k T c w a votes.Ready)
   ready T c w a free = regrants-from w.name (commit_wants a.writes) _ t _ (granted w.tid w.name (commit_wants a.writes) (Stored (record { reads = a.reads; writes = a.writes })) t free) (λ v l b. never false refl b)
@@ -143,7 +147,7 @@ module _ (t : WorkerTable) (k : Tickets) (rising : are_rising t ≡ true) (befor
 
   takes : (s : WorkStorage) (message : Message) → Ok (worker_row t s k message)
   takes s (messages.Open c q T) = opens c q T (work_of T t)
-  takes s (messages.Op c q W n op) = ops s.state.files c q W n op (work_at W t)
+  takes s (messages.Op c q W n op) = ops s.state.files (asked_for c q n op) W (work_at W t)
   takes s (messages.Prepare T c W) = prepares s T c W (work_at W t)
   takes s (messages.Commit T W) = commits s T W (work_at W t)
   takes s (messages.Drop T W) = drops s W (work_at W t)

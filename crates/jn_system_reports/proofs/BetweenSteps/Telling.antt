@@ -1,5 +1,5 @@
 -- A step tells an answer of a transaction only to its client, which goes on in it, and only such a client sends an operation.
-use Rattle.jn_system_reports.proofs.Common.{◌≡◌, ◌≢◌, ◌⊎◌, inl, inr, ℕ, Bool, true, false, List, [], ◌∷◌, ◌++◌, append-nil, Option, Some, None, refl, sym, ◌∙◌, ap, subst, arith, ◌&&◌, ◌||◌, if◌then◌else◌, nat_lt, ServerNo, ClientNo, Tid, WorkId, Client, Server, Answer, Command, Begin, Open, Do, End, Abort, client_eq, client_tells, Event, event_at, performed_in, answered, answered_by, is_own, Message, Outcome, Refusal, Text, OpenWork, Outstanding, Taken, stable, Sent, ClientTable, Commanded, Refuses, Sends, if_server, if_idle, if_transaction, if_no_transaction, if_open, if_not_open, command_row, is_operation, is_end_or_abort, is_current, if_waits, idle, begun_row, opened_row, answer_line, outcome_row, take_row, sent_again, Machine, not_both, World, at_client, lines_of, Step, after, commanded, sent_now, took, LockFacts, Mirrors, IsTrue, IsCurrent, found-open, IsThanks, Takes, takes, holds-of, Facts, is_closing, work_is, ops_in, owner_in}
+use Rattle.jn_system_reports.proofs.Common.{◌≡◌, ◌≢◌, ◌⊎◌, inl, inr, ℕ, Bool, true, false, List, [], ◌∷◌, ◌++◌, append-nil, Option, Some, None, refl, sym, ◌∙◌, ap, subst, arith, ◌&&◌, ◌||◌, if◌then◌else◌, nat_lt, ServerNo, ClientNo, Tid, WorkId, Client, Server, Answer, Command, Begin, Open, Do, End, Abort, client_eq, client_tells, Event, event_at, performed_in, answered, answered_by, is_own, Message, Outcome, Refusal, Text, OpenWork, Outstanding, Taken, stable, Sent, ClientTable, Commanded, Refuses, Sends, if_server, if_idle, if_transaction, if_no_transaction, if_open, if_not_open, command_row, is_operation, is_end_or_abort, is_current, if_waits, idle, begun_row, opened_row, answer_line, outcome_row, take_row, sent_again, Machine, not_both, World, at_client, lines_of, Step, after, commanded, sent_now, took, LockFacts, Mirrors, IsTrue, IsCurrent, found-open, IsThanks, Takes, takes, holds-of, Facts, is_closing, work_is, ops_in, owner_in, asked_for, asked_here}
 use Rattle.jn_base.specs.declared.op.Answer.TheVariants as answers
 use Rattle.jn_msgs.specs.declared.message.Message.TheVariants as messages
 use Rattle.jn_msgs.specs.declared.message.Outcome.TheVariants as outcomes
@@ -276,9 +276,9 @@ module _ (events : List Event) (r : World) (w : Machine) (mirrors : Mirrors r w)
       (subst (λ x. Takes w x.0 x.1) e (takes w (r.clients c) (mirrors.clients c) message (holds-of (IsTrue w) r.sent k (Client c, message) mirrors.says is)))
   by-case _ _ (client_asks_again c) = agains c (r.clients c).outstanding refl
   by-case _ _ clients_dismissed = record { ops = λ T. inl refl; asked = λ W e. inl e }
-  by-case _ _ (server_operates step s m k d request W number op e is) = let row = worker.op_row m.worker (stable (r.found s)).files m.tickets d request W number op (worker.work_at W m.worker) in record {
+  by-case _ _ (server_operates step s m k d request W number op e is) = let row = worker.op_row (asked_here m.worker (stable (r.found s)).files m.tickets) (asked_for d request number op) W (worker.work_at W m.worker) in record {
     ops = λ T. inl ((same-told r.lines (lines_of s (Some k) row.notes) (lines-dumb s (Some k) row.notes)).ops events T);
-    asked = λ V f. inl (sym (same-sent V r.sent row.messages (op-plain m.worker (stable (r.found s)).files m.tickets d request number op W (worker.work_at W m.worker)).1) ∙ f);
+    asked = λ V f. inl (sym (same-sent V r.sent row.messages (op-plain (asked_here m.worker (stable (r.found s)).files m.tickets) (asked_for d request number op) W (worker.work_at W m.worker)).1) ∙ f);
   }
 
   pub step-tells : (step : Step) → Ok (after step r)

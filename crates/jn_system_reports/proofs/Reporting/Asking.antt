@@ -1,5 +1,5 @@
 -- What clients ask of works, and what such an operation can be answered.
-use Rattle.jn_system_reports.proofs.Common.{◌≡◌, ◌⊎◌, inl, inr, ◌≤◌, ℕ, Bool, true, List, [], ◌++◌, Option, Some, None, refl, not, length, ClientNo, WorkId, Party, Op, Answer, Work, Phase, Active, Sent, answer_line, answers_op, can_have, is_read, OperationNo, RequestNo}
+use Rattle.jn_system_reports.proofs.Common.{◌≡◌, ◌⊎◌, inl, inr, ◌≤◌, ℕ, Bool, true, List, [], ◌++◌, Option, Some, None, refl, not, length, ClientNo, WorkId, Party, Op, Answer, Work, Phase, Active, Sent, answer_line, answers_command, can_have, is_read, OperationNo, RequestNo, ServerNo, Do}
 use Rattle.jn_base.specs.declared.op.Answer.TheVariants as answers
 use Rattle.jn_msgs.specs.declared.message.Message.TheVariants as messages
 use Rattle.jn_report.specs.declared.line.Refusal.TheVariants as refusals
@@ -26,17 +26,17 @@ can_answer op answers.Exists = can_have refusals.Exists op
 can_answer op answers.TooManyWrites = can_have refusals.TooManyWrites op
 can_answer op _ = true
 
-pub fits-op : (op : Op) (c : ClientNo) (j : ℕ) (answer : Answer) → can_answer op answer ≡ true → answers_op op (answer_line c j answer) ≡ true
-fits-op op c j answers.Did h = h
-fits-op op c j (answers.Read bytes) h = h
-fits-op op c j answers.NoFile h = h
-fits-op op c j answers.Exists h = h
-fits-op op c j (answers.Locked u T) h = refl
-fits-op op c j answers.TooManyReads h = refl
-fits-op op c j answers.TooManyWrites h = h
-fits-op op c j (answers.Broken u T) h = refl
-fits-op op c j (answers.Lost m n) h = refl
-fits-op op c j answers.Closing h = refl
+pub fits-op : (s : ServerNo) (op : Op) (c : ClientNo) (j : ℕ) (answer : Answer) → can_answer op answer ≡ true → answers_command (Do s op) (answer_line c j answer) ≡ true
+fits-op s op c j answers.Did h = h
+fits-op s op c j (answers.Read bytes) h = h
+fits-op s op c j answers.NoFile h = h
+fits-op s op c j answers.Exists h = h
+fits-op s op c j (answers.Locked u T) h = refl
+fits-op s op c j answers.TooManyReads h = refl
+fits-op s op c j answers.TooManyWrites h = h
+fits-op s op c j (answers.Broken u T) h = refl
+fits-op s op c j (answers.Lost m n) h = refl
+fits-op s op c j answers.Closing h = refl
 
 -- this operation was asked for, and can be answered so
 pub record Answers (sent : List Sent) (answer : Answer) : Type 0 where

@@ -1,5 +1,6 @@
 -- What each step tells a client answers the command that it waits for.
-use Rattle.jn_system_reports.proofs.Common.{◌≡◌, ℕ, Bool, true, false, List, [], ◌∷◌, ◌++◌, Option, Some, None, refl, sym, ◌∙◌, ap, subst, arith, ◌&&◌, if◌then◌else◌, ServerNo, ClientNo, Tid, WorkId, Op, Answer, Command, Begin, Open, Do, End, Abort, client_eq, Message, Note, Outcome, Text, Outstanding, Taken, ClientTable, take_row, if_waits, is_begin, is_operation, is_end, is_end_or_abort, is_current, opens, begun_row, opened_row, answer_line, outcome_row, Asked, Waited, is_own, answers_command, addressed, answer_in, is_last, fits, after_answer, has_line, line_of, lines_of, named_now, after, ends, request_eq}
+use Rattle.jn_system_reports.proofs.Common.{◌≡◌, ℕ, Bool, true, false, List, [], ◌∷◌, ◌++◌, Option, Some, None, refl, sym, ◌∙◌, ap, subst, arith, ◌&&◌, if◌then◌else◌, ServerNo, ClientNo, Tid, WorkId, Op, Answer, Command, Begin, Open, Do, End, Abort, client_eq, Message, Note, Outcome, Text, Outstanding, Taken, ClientTable, take_row, if_waits, is_begin, is_operation, is_end, is_end_or_abort, is_current, opens, begun_row, opened_row, answer_line, outcome_row, Waited, is_own, answers_command, addressed, answer_in, is_last, fits, after_answer, has_line, line_of, lines_of, named_now, after, ends, request_eq}
+use Rattle.jn_serial.specs.declared.following.Asked.{Asked}
 use Rattle.jn_base.specs.declared.op.Answer.TheVariants as answers
 use Rattle.jn_msgs.specs.declared.message.Message.TheVariants as messages
 use Rattle.jn_msgs.specs.declared.message.Note.TheVariants as notes
@@ -209,7 +210,7 @@ module _ (t : ClientTable) where
     outstanding = x;
     was = e;
     addressed_it = answer-addressed x.event answer;
-    fits_it = ap (λ (command : Command). answers_command command (answer_line t.client x.event answer)) k.1.0.1 ∙ fits-op k.0 t.client x.event answer k.1.1;
+    fits_it = ap (λ (command : Command). answers_command command (answer_line t.client x.event answer)) k.1.0.1 ∙ fits-op k.1.0.0 k.0 t.client x.event answer k.1.1;
     then_is = ap (λ (b : Bool). if b then None else Some x) (sym (answer-last x.event answer));
     other = answer-other x.event answer;
   }

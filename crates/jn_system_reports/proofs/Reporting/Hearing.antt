@@ -1,5 +1,6 @@
 -- The lines that a step adds answer what its clients wait for.
-use Rattle.jn_system_reports.proofs.Common.{◌≡◌, ℕ, ◌+◌, Bool, true, false, List, [], ◌∷◌, ◌++◌, append-nil, Option, Some, None, refl, sym, ◌∙◌, ap, subst, arith, length, drop, ◌&&◌, if◌then◌else◌, nat_eq, nat_lt, slice_get, nat_tests, drop-append_seam, ServerNo, ClientNo, Tid, Client, Op, Answer, Command, Begin, Open, Do, End, Abort, client_eq, client_tells, Message, Text, OpenWork, Outstanding, Taken, Sent, ClientTable, Commanded, Refuses, Sends, if_server, if_idle, if_transaction, if_no_transaction, if_open, if_not_open, command_row, take_row, Asked, Waited, with_asked, is_own, addressed, answer_in, is_last, fits_asked, fits, after_answer, World, at_client, lines_of, named_now, Step, NextEvent, Tell, Dismiss, after, Machine, Facts, told_by, Done, request_eq, RequestNo, one-client, ClientRow, by_command, by_ignoring, by_answering, by_telling, by_narrowing, by_raising, Quiet, event_begins, none_changes, is_refused, client_repeats, server_repeats, is_lost, StepCase, client_row, row_done, row_stopped, gone_late, gone_down, come_up, found_anew, dismissed, quietly, step-case}
+use Rattle.jn_system_reports.proofs.Common.{◌≡◌, ℕ, ◌+◌, Bool, true, false, List, [], ◌∷◌, ◌++◌, append-nil, Option, Some, None, refl, sym, ◌∙◌, ap, subst, arith, length, drop, ◌&&◌, if◌then◌else◌, nat_eq, nat_lt, slice_get, nat_tests, drop-append_seam, ServerNo, ClientNo, Tid, Client, Op, Answer, Command, Begin, Open, Do, End, Abort, client_eq, client_tells, Message, Text, OpenWork, Outstanding, Taken, Sent, ClientTable, Commanded, Refuses, Sends, if_server, if_idle, if_transaction, if_no_transaction, if_open, if_not_open, command_row, take_row, Waited, with_asked, is_own, addressed, answer_in, is_last, fits_asked, fits, after_answer, World, at_client, lines_of, named_now, Step, NextEvent, Tell, Dismiss, after, Machine, Facts, told_by, Done, request_eq, RequestNo, one-client, ClientRow, by_command, by_ignoring, by_answering, by_telling, by_narrowing, by_raising, Quiet, event_begins, none_changes, is_refused, client_repeats, server_repeats, is_lost, StepCase, client_row, row_done, row_stopped, gone_late, gone_down, come_up, found_anew, dismissed, quietly, step-case}
+use Rattle.jn_serial.specs.declared.following.Asked.{Asked}
 use Rattle.jn_msgs.specs.declared.message.Message.TheVariants as messages
 use Rattle.jn_report.specs.declared.line.Refusal.TheVariants as refusals
 use Rattle.jn_report.specs.declared.line.Text.TheVariants as says

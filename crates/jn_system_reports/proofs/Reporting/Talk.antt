@@ -1,5 +1,5 @@
 -- Each step keeps what holds of the operations that clients ask for, and of their answers.
-use Rattle.jn_system_reports.proofs.Common.{◌≡◌, ◌⊎◌, inl, inr, ◌≤◌, ℕ, ◌+◌, List, [], ◌∷◌, ◌++◌, append-nil, Option, Some, None, refl, sym, ◌∙◌, ap, subst, arith, slice_get, ServerNo, ClientNo, Tid, WorkId, Party, Client, Server, Message, OpenWork, Outstanding, Taken, Pick, stable, RowOutcome, Sent, WorkerTable, worker_row, worker_again, timeout_row, coordinator_again, ClientTable, Commanded, Sends, take_row, sent_again, over, Machine, IsWorkOf, World, Memory, at_server, at_client, new_memory, AllFiles, storage_of, of_timeout, restored, Step, after, sent_now, works, dismiss, Mirrors, IsCurrent, AreOpen, found-open, Opening, opening_in, openings, openings-more, Has, has-first, Began, Facts, all-have-theirs, holds-of, OperationNo, RequestNo, one-client, ClientRow, by_command, by_ignoring, by_answering, by_telling, ServerRow, of_message, of_work, of_closing, Quiet, event_begins, none_changes, is_refused, client_repeats, server_repeats, is_lost, StepCase, client_row, row_done, row_stopped, gone_late, gone_down, come_up, found_anew, dismissed, quietly, step-case, server_timeout, row-either, row-of-step, Text, some-memory, memory-now, memory-gone}
+use Rattle.jn_system_reports.proofs.Common.{◌≡◌, ◌⊎◌, inl, inr, ◌≤◌, ℕ, ◌+◌, List, [], ◌∷◌, ◌++◌, append-nil, Option, Some, None, refl, sym, ◌∙◌, ap, subst, arith, slice_get, ServerNo, ClientNo, Tid, WorkId, Party, Client, Server, Message, OpenWork, Outstanding, Taken, Pick, stable, RowOutcome, Sent, WorkerTable, worker_row, worker_again, timeout_row, coordinator_again, ClientTable, Commanded, Sends, take_row, sent_again, over, Machine, IsWorkOf, World, Memory, at_server, at_client, new_memory, AllFiles, storage_of, of_timeout, restored, Step, after, sent_now, works, Mirrors, IsCurrent, AreOpen, found-open, Opening, opening_in, openings, openings-more, Has, has-first, Began, Facts, all-have-theirs, holds-of, OperationNo, RequestNo, one-client, ClientRow, by_command, by_ignoring, by_answering, by_telling, ServerRow, of_message, of_work, of_closing, Quiet, event_begins, none_changes, is_refused, client_repeats, server_repeats, is_lost, StepCase, client_row, row_done, row_stopped, gone_late, gone_down, come_up, found_anew, dismissed, quietly, step-case, server_timeout, row-either, row-of-step, Text, some-memory, memory-now, memory-gone, Dismiss}
 use Rattle.jn_msgs.specs.declared.message.Message.TheVariants as messages
 use Rattle.jn_rows.specs.declared.client.Taken.TheVariants as taken
 use Rattle.jn_rows.specs.Client.{work_at}
@@ -261,7 +261,7 @@ module _ (r : World) (w v : Machine) (mirrors : Mirrors r w) (facts : Facts r w)
       by None e = talk.works s m is
       by (Some t) e = timeout-talks r.sent talk.once m.worker m.tickets (talk.works s m is) T t e
 
-  dismiss-talk : Talk (dismiss r) v
+  dismiss-talk : Talk (after Dismiss r) v
   dismiss-talk = record {
     once = talk.once;
     asked = λ a h. known-grows (openings r.sent) (openings r.sent) w v (over (r.clients a.client)) a (λ o k. k) grow

@@ -1,5 +1,5 @@
 -- A client does a command, or sends its outstanding message once more.
-use Rattle.jn_system_reports.proofs.Common.{nat_lt, ◌≡◌, ◌≢◌, ◌⊎◌, inl, inr, ◌<◌, ◌≤◌, ℕ, ◌+◌, Bool, true, false, List, [], ◌∷◌, ◌++◌, append-nil, Option, Some, None, refl, sym, ◌∙◌, ap, subst, arith, if◌then◌else◌, ◌||◌, All, All-nil, All-cons, All-append, ServerNo, ClientNo, Tid, WorkId, Party, Server, Op, Command, Begin, Open, Do, End, Abort, server_eq, work_eq, server_tells, work_tells, Event, CommandOf, Message, Refusal, ActiveWork, OpenWork, Outstanding, Sent, ClientTable, Commanded, if_server, if_idle, if_transaction, if_no_transaction, if_open, if_not_open, Refuses, open_at, with_operation, sent_again, is_end_or_abort, sends, event_at, work_same, Machine, Invariant, IsWorkOf, not_both, some_is, none_some, World, at_client, tell, again, commanded, sent_now, Mirrors, IsCurrent, found-open, are-counted, openings, openings-more, Has, has-first, is_closing, Facts, owner_in, is_begun, request_of, operation_of, one-client}
+use Rattle.jn_system_reports.proofs.Common.{nat_lt, ◌≡◌, ◌≢◌, ◌⊎◌, inl, inr, ◌<◌, ◌≤◌, ℕ, ◌+◌, Bool, true, false, List, [], ◌∷◌, ◌++◌, append-nil, Option, Some, None, refl, sym, ◌∙◌, ap, subst, arith, if◌then◌else◌, ◌||◌, All, All-nil, All-cons, All-append, ServerNo, ClientNo, Tid, WorkId, Party, Server, Op, Command, Begin, Open, Do, End, Abort, server_eq, work_eq, server_tells, work_tells, Event, CommandOf, Message, Refusal, ActiveWork, OpenWork, Outstanding, Sent, ClientTable, Commanded, if_server, if_idle, if_transaction, if_no_transaction, if_open, if_not_open, Refuses, open_at, with_operation, sent_again, is_end_or_abort, sends, event_at, work_same, Machine, Invariant, IsWorkOf, not_both, some_is, none_some, World, at_client, again, commanded, sent_now, Mirrors, IsCurrent, found-open, are-counted, openings, openings-more, Has, has-first, is_closing, Facts, owner_in, is_begun, request_of, operation_of, one-client, after, Tell}
 use Rattle.jn_msgs.specs.declared.message.Message.TheVariants as messages
 use Rattle.jn_report.specs.declared.line.Refusal.TheVariants as refusals
 use Rattle.jn_report.specs.declared.line.Text.TheVariants as says
@@ -320,7 +320,7 @@ module _ (events : List Event) (r : World) (w : Machine) (mirrors : Mirrors r w)
   closes : {A : Type 0} → true ≡ false → A
   closes q = absurd (grind arith)
 
-  pub tell-talks : (command : Command) → event_at events r.event ≡ Some (CommandOf c command) → Talk events (tell c command r) w
+  pub tell-talks : (command : Command) → event_at events r.event ≡ Some (CommandOf c command) → Talk events (after (Tell c command) r) w
   tell-talks (Begin s) told = guard-server s _ (guard-idle t.outstanding _ (λ e. guard-none t.transaction _ (λ f. sends-plain r.event (Begin s) _ _ tt tt (λ k T g. absurd (none_some T (sym f ∙ g))))))
   tell-talks (Open s) told = guard-server s _ (guard-idle t.outstanding _ (λ e. guard-one t.transaction _ (λ T f. guard-closed (open_at s t.works) _ (sends-plain r.event (Open s) _ _ tt tt (λ k U g. e)))))
   tell-talks (Do s op) told = guard-server s _ (guard-idle t.outstanding _ (λ e. guard-one t.transaction _ (λ T f. guard-open (open_at s t.works) _ (λ v g. does-talks s op e T f v g told))))

@@ -1,5 +1,5 @@
 -- One client changes, and perhaps something is told: what keeps the talk.
-use Rattle.jn_system_reports.proofs.Common.{◌≡◌, ◌≢◌, ◌⊎◌, inl, inr, ◌<◌, ◌≤◌, ℕ, true, false, List, ◌++◌, Option, Some, None, refl, sym, ◌∙◌, ap, subst, arith, fun_ext, All, All-append, ServerNo, ClientNo, Tid, WorkId, Event, Message, Text, OpenWork, Outstanding, Sent, ClientTable, is_begin, open_at, Machine, some_is, none_some, World, at_client, dismiss, openings, openings-more, Has, has-first, is_closing, owner_in, is_begun, begun_by, RequestNo, one-client}
+use Rattle.jn_system_reports.proofs.Common.{◌≡◌, ◌≢◌, ◌⊎◌, inl, inr, ◌<◌, ◌≤◌, ℕ, true, false, List, ◌++◌, Option, Some, None, refl, sym, ◌∙◌, ap, subst, arith, fun_ext, All, All-append, ServerNo, ClientNo, Tid, WorkId, Event, Message, Text, OpenWork, Outstanding, Sent, ClientTable, is_begin, open_at, Machine, some_is, none_some, World, at_client, openings, openings-more, Has, has-first, is_closing, owner_in, is_begun, begun_by, RequestNo, one-client, after, Dismiss}
 use Rattle.jn_msgs.specs.declared.message.Message.TheVariants as messages
 use Rattle.jn_system_order.proofs.Ordering.Facts.{opening}
 use Rattle.jn_system_reports.proofs.Telling.Tellings.{SaysAs}
@@ -186,18 +186,18 @@ module _ (events : List Event) (r : World) (v : Machine) (c : ClientNo) (more : 
   no-client-talks = subst (λ f. Talk events (record r { clients = f; sent = r.sent ++ more; lines = r.lines ++ texts }) v) (fun_ext (one-client (λ d t. t ≡ r.clients d) r.clients c (r.clients c) refl (λ d other. refl))) same-client-talks
 
 -- no client waits for anything or has a transaction any more
-pub dismiss-talks : (events : List Event) (r : World) (v : Machine) → Talk events r v → Talk events (dismiss r) v
+pub dismiss-talks : (events : List Event) (r : World) (v : Machine) → Talk events r v → Talk events (after Dismiss r) v
 dismiss-talks events r v talk = record {
   clients = λ c. record { asking = λ o e. absurd (none_some o e); owner = λ T e. absurd (none_some T e); running = λ T e. absurd (none_some T e) };
   ended = talk.ended;
   owners = λ T c e. inl refl;
-  drawn = map-all (IsDrawn r) (IsDrawn (dismiss r)) r.sent still talk.drawn;
+  drawn = map-all (IsDrawn r) (IsDrawn (after Dismiss r)) r.sent still talk.drawn;
   known = λ W e. let k = talk.known W e in record { opened = k.opened; begun = k.begun; its = λ c f. absurd (none_some (v.owner W) f) };
   unasked = talk.unasked;
   started = λ T e. let k = talk.started T e in record { client = k.client; request = k.request; has = k.has; drawn = k.drawn; before = λ o f. absurd (none_some o f); its = k.its };
 }
   where
-    still : (x : Sent) → IsDrawn r x → IsDrawn (dismiss r) x
+    still : (x : Sent) → IsDrawn r x → IsDrawn (after Dismiss r) x
     still (to, messages.Op d request W number op) h = (h.0, λ o e. absurd (none_some o e))
     still (to, messages.Answer d request answer) h = (h.0, λ o e. absurd (none_some o e))
     still (to, _) h = tt

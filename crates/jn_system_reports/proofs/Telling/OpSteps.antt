@@ -1,5 +1,5 @@
 -- A server takes an operation: it performs the next one, or answers the last one again.
-use Rattle.jn_system_reports.proofs.Common.{◌≡◌, ◌⊎◌, inl, inr, ℕ, ◌+◌, Bool, true, false, List, [], ◌∷◌, ◌++◌, append-nil, Option, Some, None, is_some, refl, sym, ◌∙◌, ap, subst, arith, if◌then◌else◌, nat_eq, nat_lt, length, slice_get, nat_tests, All-nil, All-cons, ServerNo, ClientNo, Tid, WorkId, LockUnit, Client, Server, Op, Answer, Files, change, answer_to, list_change, length_with, Read, Message, Note, Work, Phase, Active, Broken, Stored, ActiveWork, stable, RowOutcome, ignored, WorkerTable, Wanted, Held, work_at, with_phase, break_notes, wants_of, is_fit, units_for, with_units, refusal_of, past_limit, locked, first_of_two, conflict, counted, performed-work, granted_row, repeated, performed, op_phase, op_row, found-name, at-phase, in_phase, work_same, Answered, Machine, Atom, run_atoms, MayRun, Says, Invariant, has_committed, some_is, none_some, at_work_here, World, Memory, commits_in, has_line, of_worker, lines_of, done, LockFacts, UpFact, Regrants, Origin, Mine, Kept, Broke, phase_changed, by-name, no-lock, Mirrors, MovesTo, DoesRow, named_by, commits-more, lines-commit, mirrored, worker-does, committed-any, at_server, OperationNo, RequestNo, one-server, breaks-none}
+use Rattle.jn_system_reports.proofs.Common.{◌≡◌, ◌⊎◌, inl, inr, ℕ, ◌+◌, Bool, true, false, List, [], ◌∷◌, ◌++◌, append-nil, Option, Some, None, is_some, refl, sym, ◌∙◌, ap, subst, arith, if◌then◌else◌, nat_eq, nat_lt, length, slice_get, nat_tests, All-nil, All-cons, ServerNo, ClientNo, Tid, WorkId, LockUnit, Client, Server, Op, Answer, Files, change, answer_to, list_change, length_with, Read, Message, Note, Work, Phase, Active, Broken, Stored, ActiveWork, stable, RowOutcome, ignored, WorkerTable, Wanted, Held, work_at, with_phase, break_notes, wants_of, is_fit, units_for, with_units, refusal_of, past_limit, locked, first_of_two, conflict, counted, performed-work, granted_row, repeated, performed, op_phase, op_row, found-name, at-phase, in_phase, work_same, Answered, Machine, Atom, run_atoms, MayRun, Says, Invariant, has_committed, some_is, none_some, at_work_here, World, Memory, commits_in, has_line, of_worker, lines_of, done, LockFacts, UpFact, Regrants, Origin, Mine, Kept, Broke, phase_changed, by-name, no-lock, Mirrors, MovesTo, DoesRow, named_by, commits-more, lines-commit, mirrored, worker-does, committed-any, at_server, OperationNo, RequestNo, one-server, breaks-none, Asked, Here, asked_for, asked_here}
 use Rattle.jn_base.specs.declared.op.Op.TheVariants as ops
 use Rattle.jn_base.specs.declared.op.Answer.TheVariants as answers
 use Rattle.jn_msgs.specs.declared.message.Message.TheVariants as messages
@@ -85,6 +85,12 @@ module _ (r : World) (w : Machine) (mirrors : Mirrors r w) (locks : LockFacts r)
       (sent : slice_get r.sent k ≡ Some (Server s, messages.Op d request W number op)) (place : W.server ≡ s) (drawn : IsDrawn r (Server s, messages.Op d request W number op)) where
     here : (V : WorkId) → acting_at (r.memory s) V ≡ acting_of (work_at V m.worker)
     here V = ap (λ z. acting_at z V) is
+
+    abbrev op-here : Here
+    op-here = asked_here m.worker (stable (r.found s)).files m.tickets
+
+    abbrev op-asked : Asked
+    op-asked = asked_for d request number op
 
     at-its : (o : Option Memory) → at_server r.memory s o W.server ≡ o
     at-its o = one-server (λ q z. q ≡ W.server → z ≡ o) r.memory s o (λ e. refl) (λ q other e. absurd (other (sym (e ∙ place)))) W.server refl
@@ -230,7 +236,7 @@ module _ (r : World) (w : Machine) (mirrors : Mirrors r w) (locks : LockFacts r)
               (acting-says r _ w (run_atoms moves.atoms w) (moved-by _ moves.atoms moves.may moves.mirrors) W a (counted a refusal) told here-acting acting-now refl h)
 
       -- it is performed
-      granted : number.0 ≡ a.last + 1 → refusal_of m.worker x.name a op (answer-of a) (wants-of a) ≡ None → Serves r (after-row (granted_row m.worker m.tickets d request x a op (answer-of a) (wants-of a) None)) w
+      granted : number.0 ≡ a.last + 1 → refusal_of m.worker x.name a op (answer-of a) (wants-of a) ≡ None → Serves r (after-row (granted_row op-here op-asked x a (answer-of a) (wants-of a) None)) w
       granted next e = record {
         atoms = its-atoms;
         may = may-op r w s m mirrors is up grow x a found active op free;
@@ -252,7 +258,7 @@ module _ (r : World) (w : Machine) (mirrors : Mirrors r w) (locks : LockFacts r)
           b = performed-work a op (answer-of a) (wants-of a)
 
           row : RowOutcome WorkerTable
-          row = granted_row m.worker m.tickets d request x a op (answer-of a) (wants-of a) None
+          row = granted_row op-here op-asked x a (answer-of a) (wants-of a) None
 
           none : named_by (break_notes x.tid x.name (wants-of a) m.worker) ≡ []
           none = breaks-none x.tid x.name (wants-of a) m.worker
@@ -260,8 +266,8 @@ module _ (r : World) (w : Machine) (mirrors : Mirrors r w) (locks : LockFacts r)
           ran : run_atoms (atoms r w s m mirrors is up grow x a found active op free) w ≡ performed-world r w s m mirrors is up grow x a found active op free
           ran = op-ran r w s m mirrors is up grow x a found active op free
 
-          does : DoesRow s m (granted_row m.worker m.tickets d request x a op (answer-of a) (wants-of a) None) w (run_atoms (atoms r w s m mirrors is up grow x a found active op free) w)
-          does = subst (λ (z : Machine). DoesRow s m (granted_row m.worker m.tickets d request x a op (answer-of a) (wants-of a) None) w z) (sym ran) (op-does r w s m mirrors is up grow x a found active op free d request)
+          does : DoesRow s m (granted_row op-here op-asked x a (answer-of a) (wants-of a) None) w (run_atoms (atoms r w s m mirrors is up grow x a found active op free) w)
+          does = subst (λ (z : Machine). DoesRow s m (granted_row op-here op-asked x a (answer-of a) (wants-of a) None) w z) (sym ran) (op-does r w s m mirrors is up grow x a found active op free d request number)
 
           says : (told : List Answered) → SaysAs told (w.trace W) → SaysAs (told ++ counts op (answer-of a)) (v.trace W)
           says told h = subst (λ z. SaysAs (told ++ counts op (answer-of a)) z) (sym its-trace) (subst (λ z. SaysAs (told ++ z) (w.trace W ++ record { op = op; answer = (answer-of a) } ∷ [])) (sym (files-count op _)) (both-more told (w.trace W) (record { op = op; answer = (answer-of a) }) h))
@@ -271,34 +277,31 @@ module _ (r : World) (w : Machine) (mirrors : Mirrors r w) (locks : LockFacts r)
 
     -- ---- by the work's phase and the operation's number
 
-    abbrev files-here : Files
-    files-here = (stable (r.found s)).files
-
     module _ (x : Work) (found : work_at x.name m.worker ≡ Some x) (name : x.name ≡ W) where
       its-phase : acting_of (work_at W m.worker) ≡ acting_in x.phase
       its-phase = subst (λ (U : WorkId). acting_of (work_at U m.worker) ≡ acting_in x.phase) name (ap acting_of found)
 
       performs : (a : ActiveWork) → x.phase ≡ Active a → number.0 ≡ a.last + 1 → (o : Option Answer) → refusal_of m.worker x.name a op (answer-of a) (wants-of a) ≡ o
-          → MovesTo (after-row (granted_row m.worker m.tickets d request x a op (answer-of a) (wants-of a) o)) w → Serves r (after-row (granted_row m.worker m.tickets d request x a op (answer-of a) (wants-of a) o)) w
+          → MovesTo (after-row (granted_row op-here op-asked x a (answer-of a) (wants-of a) o)) w → Serves r (after-row (granted_row op-here op-asked x a (answer-of a) (wants-of a) o)) w
       performs a e next (Some refusal) k moves = refused x a found e name refusal next k moves
       performs a e next None k moves = granted x a found e name next k
 
-      repeats : (a : ActiveWork) → x.phase ≡ Active a → number.0 ≡ a.last → (o : Option Answer) → a.kept ≡ o → MovesTo (after-row (repeated m.worker m.tickets d request o)) w → Serves r (after-row (repeated m.worker m.tickets d request o)) w
+      repeats : (a : ActiveWork) → x.phase ≡ Active a → number.0 ≡ a.last → (o : Option Answer) → a.kept ≡ o → MovesTo (after-row (repeated op-here op-asked o)) w → Serves r (after-row (repeated op-here op-asked o)) w
       repeats a e same (Some answer) k moves = replied answer (λ b f. subst (λ (z : ActiveWork). (z.last ≡ number.0) × (z.kept ≡ Some answer)) (some_is a b (sym (its-phase ∙ ap acting_in e) ∙ f)) (sym same, k)) moves
       repeats a e same None k moves = ignored-serves (notes.Ignored ∷ []) refl moves
 
       numbered : (a : ActiveWork) → x.phase ≡ Active a → (b c : Bool) → nat_eq number.0 (a.last + 1) ≡ b → nat_eq number.0 a.last ≡ c
-          → MovesTo (after-row (if b then performed m.worker m.tickets d request x a op (answer-of a) else (if c then repeated m.worker m.tickets d request a.kept else ignored m.worker m.tickets))) w
-          → Serves r (after-row (if b then performed m.worker m.tickets d request x a op (answer-of a) else (if c then repeated m.worker m.tickets d request a.kept else ignored m.worker m.tickets))) w
+          → MovesTo (after-row (if b then performed op-here op-asked x a (answer-of a) else (if c then repeated op-here op-asked a.kept else ignored m.worker m.tickets))) w
+          → Serves r (after-row (if b then performed op-here op-asked x a (answer-of a) else (if c then repeated op-here op-asked a.kept else ignored m.worker m.tickets))) w
       numbered a e true c k l moves = performs a e (same-number number.0 (a.last + 1) k) (refusal_of m.worker x.name a op (answer-of a) (wants-of a)) refl moves
       numbered a e false true k l moves = repeats a e (same-number number.0 a.last l) a.kept refl moves
       numbered a e false false k l moves = ignored-serves (notes.Ignored ∷ []) refl moves
 
-      by-phase : (p : Phase) → x.phase ≡ p → MovesTo (after-row (op_phase m.worker files-here m.tickets d request x number op p)) w → Serves r (after-row (op_phase m.worker files-here m.tickets d request x number op p)) w
+      by-phase : (p : Phase) → x.phase ≡ p → MovesTo (after-row (op_phase op-here op-asked x p)) w → Serves r (after-row (op_phase op-here op-asked x p)) w
       by-phase (Active a) e moves = numbered a e (nat_eq number.0 (a.last + 1)) (nat_eq number.0 a.last) refl refl moves
       by-phase (Broken u by) e moves = replied _ (λ b f. absurd (none_some b (sym (its-phase ∙ ap acting_in e) ∙ f))) moves
       by-phase (Stored p) e moves = replied _ (λ b f. absurd (none_some b (sym (its-phase ∙ ap acting_in e) ∙ f))) moves
 
-    pub op-serves : (o : Option Work) → work_at W m.worker ≡ o → MovesTo (after-row (op_row m.worker files-here m.tickets d request W number op o)) w → Serves r (after-row (op_row m.worker files-here m.tickets d request W number op o)) w
+    pub op-serves : (o : Option Work) → work_at W m.worker ≡ o → MovesTo (after-row (op_row op-here op-asked W o)) w → Serves r (after-row (op_row op-here op-asked W o)) w
     op-serves (Some x) h moves = by-phase x (by-name W m.worker x h) (found-name W m.worker x h) x.phase refl moves
     op-serves None h moves = replied _ (λ b f. absurd (none_some b (sym (ap acting_of h) ∙ f))) moves

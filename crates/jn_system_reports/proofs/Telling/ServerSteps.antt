@@ -1,5 +1,5 @@
 -- Each step is quiet, but a client's, and that in which a server takes an operation.
-use Rattle.jn_system_reports.proofs.Common.{◌≡◌, ◌⊎◌, inl, inr, ℕ, ◌+◌, Bool, true, false, List, [], ◌∷◌, ◌++◌, append-nil, Option, Some, None, refl, sym, ◌∙◌, ap, subst, if◌then◌else◌, take, ServerNo, Tid, WorkId, server_eq, Message, Note, Text, Work, Phase, ActiveWork, StableState, Prepared, Pick, Change, stable, made_all, RowOutcome, WorkerTable, work_at, timeout_row, restored_worker, with_epoch, some_is, none_some, World, Memory, at_server, commits_in, has_line, storage_of, of_worker, of_timeout, server_again, line_of, lines_of, named_now, restored, done, LockFacts, ServerFact, UpFact, IsSoundWork, restored-is, named_by, commits-more, lines-commit, step-none, quiet-line, slice_get, Client, Server, Files, Tickets, ClientNo, Op, Answer, Wanted, Active, Broken, Stored, op_row, granted_row, repeated, op_phase, answer_to, change, list_change, wants_of, is_fit, refusal_of, nat_eq, Step, Command, Commanded, command_row, Tell, Again, Dismiss, commanded, taken_by, again, dismiss, ClientTable, Taken, take_row, Sent, after, at_client, Sends, Refuses, OperationNo, RequestNo, restart_with, one-server, one-found, ClientRow, by_command, by_ignoring, by_answering, by_telling, ServerRow, of_message, of_work, of_closing, FoundThen, by_narrowing, by_raising, Quiet, event_begins, none_changes, is_refused, client_repeats, server_repeats, is_lost, StepCase, client_row, row_done, row_stopped, gone_late, gone_down, come_up, found_anew, dismissed, quietly, step-case, row-of-step}
+use Rattle.jn_system_reports.proofs.Common.{◌≡◌, ◌⊎◌, inl, inr, ℕ, ◌+◌, Bool, true, false, List, [], ◌∷◌, ◌++◌, append-nil, Option, Some, None, refl, sym, ◌∙◌, ap, subst, if◌then◌else◌, take, ServerNo, Tid, WorkId, server_eq, Message, Note, Text, Work, Phase, ActiveWork, StableState, Prepared, Pick, Change, stable, made_all, RowOutcome, WorkerTable, work_at, timeout_row, restored_worker, with_epoch, some_is, none_some, World, Memory, at_server, commits_in, has_line, storage_of, of_worker, of_timeout, server_again, line_of, lines_of, named_now, restored, done, LockFacts, ServerFact, UpFact, IsSoundWork, restored-is, named_by, commits-more, lines-commit, step-none, quiet-line, slice_get, Client, Server, ClientNo, Op, Answer, Wanted, Active, Broken, Stored, op_row, granted_row, repeated, op_phase, answer_to, change, list_change, wants_of, is_fit, refusal_of, nat_eq, Step, Command, Commanded, command_row, Tell, Again, Dismiss, commanded, taken_by, again, ClientTable, Taken, take_row, Sent, after, at_client, Sends, Refuses, OperationNo, RequestNo, restart_with, one-server, one-found, ClientRow, by_command, by_ignoring, by_answering, by_telling, ServerRow, of_message, of_work, of_closing, FoundThen, by_narrowing, by_raising, Quiet, event_begins, none_changes, is_refused, client_repeats, server_repeats, is_lost, StepCase, client_row, row_done, row_stopped, gone_late, gone_down, come_up, found_anew, dismissed, quietly, step-case, row-of-step, Asked, Here, asked_for, asked_here}
 use Rattle.jn_msgs.specs.declared.message.Message.TheVariants as messages
 use Rattle.jn_msgs.specs.declared.message.Note.TheVariants as notes
 use Rattle.jn_report.specs.declared.line.Text.TheVariants as says
@@ -43,29 +43,29 @@ memory-gone o = (λ W a b e f. absurd (none_some b f), λ W b e f. absurd (none_
 -- ---- an operation's row
 
 -- it changes nothing that is stable, and sends no operation
-module _ (t : WorkerTable) (files : Files) (k : Tickets) (d : ClientNo) (request : RequestNo) (number : OperationNo) (op : Op) where
+module _ (h : Here) (q : Asked) where
   abbrev IsPlain : RowOutcome WorkerTable → Type 0
-  IsPlain row = Adds t row.changes × HaveNoOp row.messages
+  IsPlain row = Adds h.table row.changes × HaveNoOp row.messages
 
-  either : (b : Bool) (p q : RowOutcome WorkerTable) → IsPlain p → IsPlain q → IsPlain (if b then p else q)
-  either true p q h l = h
-  either false p q h l = l
+  either : (b : Bool) (x y : RowOutcome WorkerTable) → IsPlain x → IsPlain y → IsPlain (if b then x else y)
+  either true x y k l = k
+  either false x y k l = l
 
-  pub op-plain : (W : WorkId) (o : Option Work) → IsPlain (op_row t files k d request W number op o)
+  pub op-plain : (W : WorkId) (o : Option Work) → IsPlain (op_row h q W o)
   op-plain W None = (tt, (tt, tt))
   op-plain W (Some x) = by x.phase
     where
-      granted : (a : ActiveWork) (answer : Answer) (wants : List Wanted) (o : Option Answer) → IsPlain (granted_row t k d request x a op answer wants o)
+      granted : (a : ActiveWork) (answer : Answer) (wants : List Wanted) (o : Option Answer) → IsPlain (granted_row h q x a answer wants o)
       granted a answer wants None = (tt, (tt, tt))
       granted a answer wants (Some refusal) = (tt, (tt, tt))
 
-      again : (o : Option Answer) → IsPlain (repeated t k d request o)
+      again : (o : Option Answer) → IsPlain (repeated h q o)
       again (Some answer) = (tt, (tt, tt))
       again None = (tt, tt)
 
-      by : (p : Phase) → IsPlain (op_phase t files k d request x number op p)
-      by (Active a) = let answer = answer_to op (change (list_change a.list) files) in
-          either (nat_eq number.0 (a.last + 1)) _ _ (granted a answer (wants_of op (is_fit answer)) (refusal_of t x.name a op answer (wants_of op (is_fit answer)))) (either (nat_eq number.0 a.last) _ _ (again a.kept) (tt, tt))
+      by : (p : Phase) → IsPlain (op_phase h q x p)
+      by (Active a) = let answer = answer_to q.op (change (list_change a.list) h.files) in
+          either (nat_eq q.number.0 (a.last + 1)) _ _ (granted a answer (wants_of q.op (is_fit answer)) (refusal_of h.table x.name a q.op answer (wants_of q.op (is_fit answer)))) (either (nat_eq q.number.0 a.last) _ _ (again a.kept) (tt, tt))
       by (Broken u T) = (tt, (tt, tt))
       by (Stored p) = (tt, (tt, tt))
 
@@ -73,7 +73,7 @@ module _ (t : WorkerTable) (files : Files) (k : Tickets) (d : ClientNo) (request
 data RowCase (r : World) (s : ServerNo) (m : Memory) : Option ℕ → RowOutcome Memory → Type 0 where
   row_stays : (k : Option ℕ) (row : RowOutcome Memory) → ServerStays m row → RowCase r s m k row
   row_operates : (k : ℕ) (d : ClientNo) (request : RequestNo) (W : WorkId) (number : OperationNo) (op : Op) → slice_get r.sent k ≡ Some (Server s, messages.Op d request W number op)
-      → RowCase r s m (Some k) (of_worker m (op_row m.worker (stable (r.found s)).files m.tickets d request W number op (work_at W m.worker)))
+      → RowCase r s m (Some k) (of_worker m (op_row (asked_here m.worker (stable (r.found s)).files m.tickets) (asked_for d request number op) W (work_at W m.worker)))
 
 -- each step is quiet, but a client's, and that in which a server takes an operation
 pub data TellCase (r : World) : Step → World → Type 0 where
@@ -81,9 +81,9 @@ pub data TellCase (r : World) : Step → World → Type 0 where
   client_is_told : (c : ClientNo) (command : Command) (row : Commanded) → command_row (r.clients c) r.event command ≡ row → TellCase r (Tell c command) (commanded c row r)
   client_takes : (step : Step) (c : ClientNo) (k : ℕ) (message : Message) (row : ClientTable × Taken) → slice_get r.sent k ≡ Some (Client c, message) → take_row (r.clients c) message ≡ row → TellCase r step (taken_by c k row r)
   client_asks_again : (c : ClientNo) → TellCase r (Again c) (again c r)
-  clients_dismissed : TellCase r Dismiss (dismiss r)
+  clients_dismissed : TellCase r Dismiss (after Dismiss r)
   server_operates : (step : Step) (s : ServerNo) (m : Memory) (k : ℕ) (d : ClientNo) (request : RequestNo) (W : WorkId) (number : OperationNo) (op : Op) → r.memory s ≡ Some m → slice_get r.sent k ≡ Some (Server s, messages.Op d request W number op)
-      → TellCase r step (done s (Some k) (of_worker m (op_row m.worker (stable (r.found s)).files m.tickets d request W number op (work_at W m.worker))) r)
+      → TellCase r step (done s (Some k) (of_worker m (op_row (asked_here m.worker (stable (r.found s)).files m.tickets) (asked_for d request number op) W (work_at W m.worker))) r)
 
 module _ (r : World) (locks : LockFacts r) where
   -- a work that takes operations isn't stored
@@ -189,7 +189,7 @@ module _ (r : World) (locks : LockFacts r) where
 
     row-adds : (k : Option ℕ) (row : RowOutcome Memory) → RowCase r s m k row → Adds m.worker row.changes
     row-adds _ _ (row_stays k row h) = h.adds
-    row-adds _ _ (row_operates k d request W number op is) = (op-plain m.worker (stable (r.found s)).files m.tickets d request number op W (work_at W m.worker)).0
+    row-adds _ _ (row_operates k d request W number op is) = (op-plain (asked_here m.worker (stable (r.found s)).files m.tickets) (asked_for d request number op) W (work_at W m.worker)).0
 
     row-tells : (step : Step) (k : Option ℕ) (row : RowOutcome Memory) → RowCase r s m k row → TellCase r step (done s k row r)
     row-tells step _ _ (row_stays k row h) = is_quiet step _ (done-quiet k row h)

@@ -1,10 +1,9 @@
 -- The end of a run: the servers come up once more, the world settles, and each server's files are printed.
-use Rattle.std.specs.Prelude.{◌≡◌, ◌≤◌, ℕ, ◌+◌, Bool, true, false, List, [], ◌∷◌, ◌++◌, length, map, None}
+use Rattle.std.specs.Prelude.{◌≡◌, ℕ, ◌+◌, Bool, true, false, List, [], ◌∷◌, ◌++◌, length, map}
 use Rattle.std.specs.List.{list_all}
 use Rattle.jn_base.specs.declared.names.ServerNo.{ServerNo}
 use Rattle.jn_base.specs.declared.names.Tid.{Tid}
 use Rattle.jn_base.specs.declared.names.WorkId.{WorkId}
-use Rattle.jn_base.specs.declared.names.LockUnit.{LockUnit}
 use Rattle.jn_order.specs.Files.{AllFiles}
 use Rattle.jn_report.specs.declared.line.When.TheVariants.{End}
 use Rattle.jn_report.specs.declared.line.Text.{Text}
@@ -93,7 +92,3 @@ pub record IsWholeRun (servers : ℕ) (files : AllFiles) (epochs : ServerNo → 
 
 abbrev pub all_lines : ℕ → AllFiles → (ServerNo → ℕ) → List Item → Ending → List Line
 all_lines servers files epochs items e = lines_to_end servers items e (opening servers files epochs)
-
--- the files are of so many servers
-abbrev pub AreFilesOf : ℕ → AllFiles → Type 0
-AreFilesOf servers files = (s : ServerNo) (u : LockUnit) → servers ≤ s.0 → files s u ≡ None

@@ -1,5 +1,5 @@
 -- Each broken work has its line.
-use Rattle.jn_system_settling.proofs.Common.{at_server, server_timeout, LockFacts, ◌≡◌, ◌≢◌, ◌⊎◌, inl, inr, ℕ, ◌+◌, Bool, true, false, List, [], ◌∷◌, ◌++◌, length, Option, Some, None, refl, sym, ◌∙◌, ap, subst, map, if◌then◌else◌, nat_lt, nat_eq, slice_get, ServerNo, ClientNo, Tid, WorkId, Tickets, LockUnit, Op, Answer, work_eq, work_tells, AllFiles, change, answer_to, list_change, Intention, Message, Vote, Note, Text, Work, Phase, Active, Broken, Stored, ActiveWork, StableState, Prepared, stable, is_going, RowOutcome, quiet, WorkerTable, WorkStorage, Wanted, work_at, work_of, with_phase, without, new_work, open_row, break_notes, breaks_at, broken_by, note_of, after_grant, granted_row, repeated, op_phase, op_row, refusal_of, wants_of, is_fit, commit_wants, conflict, vote_of, shortage, need_in, prepared_row, prepare_phase, prepare_row, commit_phase, drop_phase, drop_row, worker_row, worker_step, going_work, going_row, carried_row, intentions_of, timed_out, timeout_row, vulnerable, written_unit, restored_work, restored_worker, are_rising, is_after, in_phase, at-phase, at-grant, once_granted, at-less, at-more, World, Memory, storage_of, of_timeout, restored, line_of, lines_of, Step, IsRun, after, run, UpFact, ServerFact, of-found, In, in-first, in-second, Reached, next-reached, OperationNo, RequestNo, one-server, some-memory, ServerRow, of_message, of_work, of_closing, StepCase, row_done, row_stopped, gone_late, gone_down, come_up, step-case, row-either, row-of-step, none-memory}
+use Rattle.jn_system_settling.proofs.Common.{at_server, server_timeout, LockFacts, ◌≡◌, ◌≢◌, ◌⊎◌, inl, inr, ℕ, ◌+◌, Bool, true, false, List, [], ◌∷◌, ◌++◌, length, Option, Some, None, refl, sym, ◌∙◌, ap, subst, map, if◌then◌else◌, nat_lt, nat_eq, slice_get, ServerNo, ClientNo, Tid, WorkId, Tickets, LockUnit, Answer, work_eq, work_tells, AllFiles, change, answer_to, list_change, Intention, Message, Vote, Note, Text, Work, Phase, Active, Broken, Stored, ActiveWork, StableState, Prepared, stable, is_going, RowOutcome, quiet, WorkerTable, WorkStorage, Wanted, work_at, work_of, with_phase, without, new_work, open_row, break_notes, breaks_at, broken_by, note_of, after_grant, granted_row, repeated, op_phase, op_row, refusal_of, wants_of, is_fit, commit_wants, conflict, vote_of, shortage, need_in, prepared_row, prepare_phase, prepare_row, commit_phase, drop_phase, drop_row, worker_row, worker_step, going_work, going_row, carried_row, intentions_of, timed_out, timeout_row, vulnerable, written_unit, restored_work, restored_worker, are_rising, is_after, in_phase, at-phase, at-grant, once_granted, at-less, at-more, World, Memory, storage_of, of_timeout, restored, line_of, lines_of, Step, IsRun, after, run, UpFact, ServerFact, of-found, In, in-first, in-second, Reached, next-reached, one-server, some-memory, ServerRow, of_message, of_work, of_closing, StepCase, row_done, row_stopped, gone_late, gone_down, come_up, step-case, row-either, row-of-step, none-memory, Files, Asked, asked_for, asked_here}
 use Rattle.jn_msgs.specs.declared.message.Message.TheVariants as messages
 use Rattle.jn_msgs.specs.declared.message.Vote.TheVariants as votes
 use Rattle.jn_msgs.specs.declared.message.Note.TheVariants as notes
@@ -107,20 +107,20 @@ module _ (t : WorkerTable) (k : Tickets) (rising : are_rising t ≡ true) (next 
   choose true p q h l = h
   choose false p q h l = l
 
-  granted-breaks : (c : ClientNo) (request : RequestNo) (w : Work) (a : ActiveWork) (op : Op) (answer : Answer) (wants : List Wanted) (o : Option Answer) → Row (granted_row t k c request w a op answer wants o)
-  granted-breaks c request w a op answer wants (Some refusal) = record { each = phase-breaks w.name _ t t [] (active-whole _) (same-breaks t []) }
-  granted-breaks c request w a op answer wants None = record { each = phase-breaks w.name _ t (after_grant w.tid w.name wants t) (break_notes w.tid w.name wants t) (active-whole _) (grant-breaks w.tid w.name wants t) }
+  granted-breaks : (files : Files) (q : Asked) (w : Work) (a : ActiveWork) (answer : Answer) (wants : List Wanted) (o : Option Answer) → Row (granted_row (asked_here t files k) q w a answer wants o)
+  granted-breaks files q w a answer wants (Some refusal) = record { each = phase-breaks w.name _ t t [] (active-whole _) (same-breaks t []) }
+  granted-breaks files q w a answer wants None = record { each = phase-breaks w.name _ t (after_grant w.tid w.name wants t) (break_notes w.tid w.name wants t) (active-whole _) (grant-breaks w.tid w.name wants t) }
 
-  op-breaks : (x : StableState) (c : ClientNo) (request : RequestNo) (w : Work) (number : OperationNo) (op : Op) (p : Phase) → Row (op_phase t x.files k c request w number op p)
-  op-breaks x c request w number op (Active a) = let answer = answer_to op (change (list_change a.list) x.files) in
-      choose (nat_eq number.0 (a.last + 1)) _ _ (granted-breaks c request w a op answer (wants_of op (is_fit answer)) (refusal_of t w.name a op answer (wants_of op (is_fit answer))))
-      (choose (nat_eq number.0 a.last) _ _ (repeats a.kept) (same _ refl))
+  op-breaks : (files : Files) (q : Asked) (w : Work) (p : Phase) → Row (op_phase (asked_here t files k) q w p)
+  op-breaks files q w (Active a) = let answer = answer_to q.op (change (list_change a.list) files) in
+      choose (nat_eq q.number.0 (a.last + 1)) _ _ (granted-breaks files q w a answer (wants_of q.op (is_fit answer)) (refusal_of t w.name a q.op answer (wants_of q.op (is_fit answer))))
+      (choose (nat_eq q.number.0 a.last) _ _ (repeats a.kept) (same _ refl))
     where
-      repeats : (o : Option Answer) → Row (repeated t k c request o)
+      repeats : (o : Option Answer) → Row (repeated (asked_here t files k) q o)
       repeats (Some answer) = same _ refl
       repeats None = same _ refl
-  op-breaks x c request w number op (Broken u by) = same _ refl
-  op-breaks x c request w number op (Stored p) = same _ refl
+  op-breaks files q w (Broken u by) = same _ refl
+  op-breaks files q w (Stored p) = same _ refl
 
   prepared-breaks : (T : Tid) (c : ClientNo) (w : Work) (a : ActiveWork) (vote : Vote) → Row (prepared_row t k T c w a vote)
   prepared-breaks T c w a votes.Ready = record { each = phase-breaks w.name _ t (after_grant w.tid w.name (commit_wants a.writes) t) (break_notes w.tid w.name (commit_wants a.writes) t) (stored-whole _) (grant-breaks w.tid w.name (commit_wants a.writes) t) }
@@ -137,8 +137,8 @@ module _ (t : WorkerTable) (k : Tickets) (rising : are_rising t ≡ true) (next 
       by None = choose (nat_lt (length t) 64) _ _ (more T _ refl) (same _ refl)
   worker-breaks s (messages.Op c request W number op) = by (work_at W t)
     where
-      by : (o : Option Work) → Row (op_row t s.state.files k c request W number op o)
-      by (Some w) = op-breaks s.state c request w number op w.phase
+      by : (o : Option Work) → Row (op_row (asked_here t s.state.files k) (asked_for c request number op) W o)
+      by (Some w) = op-breaks s.state.files (asked_for c request number op) w w.phase
       by None = same _ refl
   worker-breaks s (messages.Prepare T c W) = by (work_at W t)
     where

@@ -1,5 +1,5 @@
 -- An operation that a client waits for is answered: its work performs it next, has performed it last, or is closed for operations.
-use Rattle.jn_system_settling.proofs.Common.{◌≡◌, ◌⊎◌, inl, inr, ℕ, ◌+◌, Bool, true, false, List, [], ◌∷◌, Option, Some, None, refl, sym, ◌∙◌, ap, subst, arith, ◌&&◌, if◌then◌else◌, nat_eq, nat_tests, ServerNo, ClientNo, WorkId, Client, Op, Answer, Command, Do, client_eq, work_eq, work_tells, Message, Files, AllFiles, change, answer_to, list_change, Work, Phase, Active, Broken, Stored, ActiveWork, OpenWork, Outstanding, Taken, Ignored, stable, RowOutcome, ignored, WorkerTable, Wanted, work_at, granted_row, performed, repeated, by_number, op_phase, op_row, refusal_of, wants_of, is_fit, ClientTable, open_at, is_operation, is_end_or_abort, if_waits, told, idle, answer_line, Machine, run_atoms, opening_world, World, Memory, Room, server_row, IsCurrent, is_closing, operation_of, request_eq, OperationNo, RequestNo}
+use Rattle.jn_system_settling.proofs.Common.{◌≡◌, ◌⊎◌, inl, inr, ℕ, ◌+◌, Bool, true, false, List, [], ◌∷◌, Option, Some, None, refl, sym, ◌∙◌, ap, subst, arith, ◌&&◌, if◌then◌else◌, nat_eq, nat_tests, ServerNo, ClientNo, WorkId, Client, Op, Answer, Command, Do, client_eq, work_eq, work_tells, Message, AllFiles, change, answer_to, list_change, Work, Phase, Active, Broken, Stored, ActiveWork, OpenWork, Outstanding, Taken, Ignored, stable, RowOutcome, ignored, WorkerTable, Wanted, work_at, granted_row, performed, repeated, by_number, op_phase, op_row, refusal_of, wants_of, is_fit, ClientTable, open_at, is_operation, is_end_or_abort, if_waits, told, idle, answer_line, Machine, run_atoms, opening_world, World, Memory, Room, server_row, IsCurrent, is_closing, operation_of, request_eq, RequestNo, AskedOp, Here, asked_for, asked_here}
 use Rattle.jn_base.specs.declared.op.Answer.TheVariants.{Broken as BrokenAnswer, Lost as LostAnswer, Closing}
 use Rattle.jn_msgs.specs.declared.message.Message.TheVariants as messages
 use Rattle.jn_system_order.proofs.Mirroring.ClientRows.{found-open}
@@ -57,41 +57,46 @@ answer-ends t o answer e does = ap (λ z. (if_waits t z test row).0.outstanding)
 abbrev Answers : ClientNo → RequestNo → RowOutcome WorkerTable → Type 0
 Answers c q row = (answer : Answer) × (row.messages ≡ (Client c, messages.Answer c q answer) ∷ [])
 
-module _ (m : Memory) (files : Files) (c : ClientNo) (q : RequestNo) (W : WorkId) (op : Op) where
-  granted-answers : (x : Work) (a : ActiveWork) (answer : Answer) (wants : List Wanted) (refusal : Option Answer) → Answers c q (granted_row m.worker m.tickets c q x a op answer wants refusal)
+module _ (h : Here) (q : AskedOp) (W : WorkId) where
+  abbrev IsAnswered : RowOutcome WorkerTable → Type 0
+  IsAnswered row = Answers q.client q.request row
+
+  granted-answers : (x : Work) (a : ActiveWork) (answer : Answer) (wants : List Wanted) (refusal : Option Answer) → IsAnswered (granted_row h q x a answer wants refusal)
   granted-answers x a answer wants (Some refusal) = (refusal, refl)
   granted-answers x a answer wants None = (answer, refl)
 
-  numbered-answers : (x : Work) (a : ActiveWork) (number : OperationNo) → (number.0 ≡ a.last + 1) ⊎ ((number.0 ≡ a.last) × ((answer : Answer) × (a.kept ≡ Some answer))) → Answers c q (by_number m.worker files m.tickets c q x a number op)
-  numbered-answers x a number h = by (nat_eq number.0 (a.last + 1)) refl (nat_eq number.0 a.last) refl h
+  -- its number is the next one, or that of the last one, whose answer is kept
+  abbrev Fits : ActiveWork → Type 0
+  Fits a = (q.number.0 ≡ a.last + 1) ⊎ ((q.number.0 ≡ a.last) × ((answer : Answer) × (a.kept ≡ Some answer)))
+
+  numbered-answers : (x : Work) (a : ActiveWork) → Fits a → IsAnswered (by_number h q x a)
+  numbered-answers x a f = by (nat_eq q.number.0 (a.last + 1)) refl (nat_eq q.number.0 a.last) refl f
     where
       answer : Answer
-      answer = answer_to op (change (list_change a.list) files)
+      answer = answer_to q.op (change (list_change a.list) h.files)
 
-      repeats : (o : Option Answer) → (k : Answer) → o ≡ Some k → Answers c q (repeated m.worker m.tickets c q o)
+      repeats : (o : Option Answer) → (k : Answer) → o ≡ Some k → IsAnswered (repeated h q o)
       repeats (Some x) k e = (x, refl)
       repeats None k e = absurd (cc e)
 
-      by : (b : Bool) → nat_eq number.0 (a.last + 1) ≡ b → (d : Bool) → nat_eq number.0 a.last ≡ d → (number.0 ≡ a.last + 1) ⊎ ((number.0 ≡ a.last) × ((answer : Answer) × (a.kept ≡ Some answer)))
-          → Answers c q (if b then performed m.worker m.tickets c q x a op answer else (if d then repeated m.worker m.tickets c q a.kept else ignored m.worker m.tickets))
-      by true e d f h = granted-answers x a answer (wants_of op (is_fit answer)) (refusal_of m.worker x.name a op answer (wants_of op (is_fit answer)))
+      by : (b : Bool) → nat_eq q.number.0 (a.last + 1) ≡ b → (d : Bool) → nat_eq q.number.0 a.last ≡ d → Fits a → IsAnswered (if b then performed h q x a answer else (if d then repeated h q a.kept else ignored h.table h.tickets))
+      by true e d f g = granted-answers x a answer (wants_of q.op (is_fit answer)) (refusal_of h.table x.name a q.op answer (wants_of q.op (is_fit answer)))
       by false e true f (inr k) = repeats a.kept k.1.0 k.1.1
       by false e d f (inl k) = absurd (grind (arith, nat_tests, k, e))
       by false e false f (inr k) = absurd (grind (arith, nat_tests, k.0, f))
 
-  row-answers : (number : OperationNo) (o : Option Work) → ((a : ActiveWork) → acting_of o ≡ Some a → (number.0 ≡ a.last + 1) ⊎ ((number.0 ≡ a.last) × ((answer : Answer) × (a.kept ≡ Some answer))))
-      → Answers c q (op_row m.worker files m.tickets c q W number op o)
-  row-answers number None h = (LostAnswer W.epoch m.tickets.epoch, refl)
-  row-answers number (Some x) h = by x.phase h
+  row-answers : (o : Option Work) → ((a : ActiveWork) → acting_of o ≡ Some a → Fits a) → IsAnswered (op_row h q W o)
+  row-answers None f = (LostAnswer W.epoch h.tickets.epoch, refl)
+  row-answers (Some x) f = by x.phase f
     where
-      by : (p : Phase) → ((a : ActiveWork) → acting_in p ≡ Some a → (number.0 ≡ a.last + 1) ⊎ ((number.0 ≡ a.last) × ((answer : Answer) × (a.kept ≡ Some answer)))) → Answers c q (op_phase m.worker files m.tickets c q x number op p)
-      by (Active a) h = numbered-answers x a number (h a refl)
-      by (Broken u T) h = (BrokenAnswer u T, refl)
-      by (Stored p) h = (Closing, refl)
+      by : (p : Phase) → ((a : ActiveWork) → acting_in p ≡ Some a → Fits a) → IsAnswered (op_phase h q x p)
+      by (Active a) f = numbered-answers x a (f a refl)
+      by (Broken u T) f = (BrokenAnswer u T, refl)
+      by (Stored p) f = (Closing, refl)
 
 pub op-reply : (files : AllFiles) (epochs : ServerNo → ℕ) (r : World) → HasTwin files epochs r → (c : ClientNo) (o : Outstanding) (s : ServerNo) (op : Op) (m : Memory) (room : Room) → (r.clients c).client ≡ c
     → (r.clients c).outstanding ≡ Some o → o.command ≡ Do s op → r.memory s ≡ Some m → Reply c (r.clients c) (server_row m (stable (r.found s)) room o.message).messages
-op-reply files epochs r has c o s op m room name e does up = subst (λ (z : Message). Reply c (r.clients c) (server_row m (stable (r.found s)) room z).messages) (sym message) (replied (row-answers m (stable (r.found s)).files c o.request v.work op (operation_of v.last) (work_at v.work m.worker) numbers))
+op-reply files epochs r has c o s op m room name e does up = subst (λ (z : Message). Reply c (r.clients c) (server_row m (stable (r.found s)) room z).messages) (sym message) (replied (row-answers here asks v.work (work_at v.work m.worker) numbers))
   where
     q : World
     q = has.is.twin
@@ -113,6 +118,12 @@ op-reply files epochs r has c o s op m room name e does up = subst (λ (z : Mess
 
     v : OpenWork
     v = is.work
+
+    here : Here
+    here = asked_here m.worker (stable (r.found s)).files m.tickets
+
+    asks : AskedOp
+    asks = asked_for c o.request (operation_of v.last) op
 
     message : o.message ≡ messages.Op c o.request v.work (operation_of v.last) op
     message = sym twin-waits.same.message ∙ is.message ∙ ap (λ k. messages.Op c k v.work (operation_of v.last) op) twin-waits.same.request
@@ -140,7 +151,7 @@ op-reply files epochs r has c o s op m room name e does up = subst (λ (z : Mess
         by (inl h) = inl (sym h.0)
         by (inr h) = inr (sym h.0, (h.1.0, h.1.1.0))
 
-    replied : Answers c o.request (op_row m.worker (stable (r.found s)).files m.tickets c o.request v.work (operation_of v.last) op (work_at v.work m.worker)) → Reply c (r.clients c) (server_row m (stable (r.found s)) room (messages.Op c o.request v.work (operation_of v.last) op)).messages
+    replied : Answers c o.request (op_row here asks v.work (work_at v.work m.worker)) → Reply c (r.clients c) (server_row m (stable (r.found s)) room (messages.Op c o.request v.work (operation_of v.last) op)).messages
     replied x = record {
       message = messages.Answer c o.request x.0;
       has = subst (λ l. Has (Client c, messages.Answer c o.request x.0) l) (sym x.1) (inl refl);

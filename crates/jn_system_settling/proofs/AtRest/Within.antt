@@ -1,5 +1,5 @@
 -- Whatever is named is at one of so many servers, and each message to a server is for one of these.
-use Rattle.jn_system_settling.proofs.Common.{◌≡◌, ◌≤◌, ◌<◌, ℕ, zero, suc, ◌+◌, Bool, true, false, List, [], ◌∷◌, ◌++◌, take, Option, Some, None, true≢false, refl, sym, ◌∙◌, ap, subst, arith, if◌then◌else◌, slice_get, ◌&&◌, not, nat_lt, nat_eq, length, nat_tests, ServerNo, ClientNo, Tid, WorkId, Tickets, Cause, Party, Client, Server, Op, Answer, Command, client_eq, tid_tells, work_tells, AllFiles, change, answer_to, list_change, Intention, Message, Vote, Outstanding, Taken, WorkEntry, Phase, Transaction, Stage, Open, Voting, Committed, Aborted, StableState, Prepared, FlagState, Pick, Change, AddReady, MarkGoing, RemoveWork, made_by, made_all, stable, RowOutcome, Sent, ClientTable, Commanded, Refuses, Sends, command_row, take_row, if_waits, is_current, opens, opened_row, sent_again, WorkerTable, WorkStorage, Wanted, work_at, work_of, with_phase, without, after_grant, wants_of, is_fit, refusal_of, granted_row, repeated, op_phase, op_row, prepare_phase, prepare_row, commit_phase, drop_phase, drop_row, worker_row, going_work, going_row, carried_row, intentions_of, worker_step, worker_again, timed_out, restored_worker, CoordinatorTable, transaction_at, is_work, all_in, besides, drops, commits, prepares, end_stage, end_row, abort_stage, abort_request, told_stage, inquire_row, with_work, counted_vote, vote_stage, vote_row, begin_again, begun_by, after_closing, coordinator_row, commit_row, abort_row, told_again, coordinator_again, close_clients_row, with_epoch, World, Memory, new_memory, opening, Room, storage_of, server_row, of_timeout, server_timeout, restored, Step, IsStep, after, works, sent_now, LockFacts, are_of_flags, coordinator-aside, close-aside, are_near, is_few, IsSmall, is_small, is_small_stage, are_small_stages, Sizes, openings, request_eq, OperationNo, RequestNo, Text, ClientRow, by_command, by_ignoring, by_answering, by_telling, ServerRow, of_message, of_work, of_closing, Quiet, event_begins, none_changes, is_refused, client_repeats, server_repeats, is_lost, StepCase, client_row, row_done, row_stopped, gone_late, gone_down, come_up, found_anew, dismissed, quietly, step-case, one-client, some-memory, memory-now, memory-gone, found-now, found-then, row-either, row-of-step, holds-of}
+use Rattle.jn_system_settling.proofs.Common.{◌≡◌, ◌≤◌, ◌<◌, ℕ, zero, suc, ◌+◌, Bool, true, false, List, [], ◌∷◌, ◌++◌, take, Option, Some, None, true≢false, refl, sym, ◌∙◌, ap, subst, arith, if◌then◌else◌, slice_get, ◌&&◌, not, nat_lt, nat_eq, length, nat_tests, ServerNo, ClientNo, Tid, WorkId, Tickets, Cause, Party, Client, Server, Answer, Command, client_eq, tid_tells, work_tells, AllFiles, change, answer_to, list_change, Intention, Message, Vote, Outstanding, Taken, WorkEntry, Phase, Transaction, Stage, Open, Voting, Committed, Aborted, StableState, Prepared, FlagState, Pick, Change, AddReady, MarkGoing, RemoveWork, made_by, made_all, stable, RowOutcome, Sent, ClientTable, Commanded, Refuses, Sends, command_row, take_row, if_waits, is_current, opens, opened_row, sent_again, WorkerTable, WorkStorage, Wanted, work_at, work_of, with_phase, without, after_grant, wants_of, is_fit, refusal_of, granted_row, repeated, op_phase, op_row, prepare_phase, prepare_row, commit_phase, drop_phase, drop_row, worker_row, going_work, going_row, carried_row, intentions_of, worker_step, worker_again, timed_out, restored_worker, CoordinatorTable, transaction_at, is_work, all_in, besides, drops, commits, prepares, end_stage, end_row, abort_stage, abort_request, told_stage, inquire_row, with_work, counted_vote, vote_stage, vote_row, begin_again, begun_by, after_closing, coordinator_row, commit_row, abort_row, told_again, coordinator_again, close_clients_row, with_epoch, World, Memory, new_memory, opening, Room, storage_of, server_row, of_timeout, server_timeout, restored, Step, IsStep, after, works, sent_now, LockFacts, are_of_flags, coordinator-aside, close-aside, are_near, is_few, IsSmall, is_small, is_small_stage, are_small_stages, Sizes, openings, request_eq, RequestNo, Text, ClientRow, by_command, by_ignoring, by_answering, by_telling, ServerRow, of_message, of_work, of_closing, Quiet, event_begins, none_changes, is_refused, client_repeats, server_repeats, is_lost, StepCase, client_row, row_done, row_stopped, gone_late, gone_down, come_up, found_anew, dismissed, quietly, step-case, one-client, some-memory, memory-now, memory-gone, found-now, found-then, row-either, row-of-step, holds-of, Asked, Here, asked_for, asked_here}
 use Rattle.jn_base.specs.declared.op.Command.TheVariants as commands
 use Rattle.jn_msgs.specs.declared.message.Message.TheVariants as messages
 use Rattle.jn_msgs.specs.declared.message.Vote.TheVariants as votes
@@ -280,16 +280,19 @@ module _ (n : ℕ) (t : WorkerTable) (s : WorkStorage) (k : Tickets) (h : table_
   still : (sent : List Sent) → are_inside n sent ≡ true → IsNear n t [] sent
   still sent l = record { table = h; changes_are = refl; sent_are = l }
 
-  op-near : (c : ClientNo) (request : RequestNo) (w : WorkEntry) (number : OperationNo) (op : Op) (p : Phase) → RowNear n (op_phase t s.state.files k c request w number op p)
-  op-near c request w number op (phases.Active a) = let answer = answer_to op (change (list_change a.list) s.state.files) in
-      choose (nat_eq number.0 (a.last + 1)) _ _ (grants answer (wants_of op (is_fit answer)) (refusal_of t w.name a op answer (wants_of op (is_fit answer)))) (choose (nat_eq number.0 a.last) _ _ (repeats a.kept) (still _ refl))
+  abbrev here : Here
+  here = asked_here t s.state.files k
+
+  op-near : (q : Asked) (w : WorkEntry) (p : Phase) → RowNear n (op_phase here q w p)
+  op-near q w (phases.Active a) = let answer = answer_to q.op (change (list_change a.list) s.state.files) in
+      choose (nat_eq q.number.0 (a.last + 1)) _ _ (grants answer (wants_of q.op (is_fit answer)) (refusal_of t w.name a q.op answer (wants_of q.op (is_fit answer)))) (choose (nat_eq q.number.0 a.last) _ _ (repeats a.kept) (still _ refl))
     where
-      grants : (answer : Answer) (wants : List Wanted) (o : Option Answer) → RowNear n (granted_row t k c request w a op answer wants o)
+      grants : (answer : Answer) (wants : List Wanted) (o : Option Answer) → RowNear n (granted_row here q w a answer wants o)
       grants answer wants o = grind (arith, phase-near n, grant-near n, h)
 
-      repeats : (o : Option Answer) → RowNear n (repeated t k c request o)
+      repeats : (o : Option Answer) → RowNear n (repeated here q o)
       repeats o = grind (arith, h)
-  op-near c request w number op _ = still _ refl
+  op-near q w _ = still _ refl
 
   prepare-near : (T : Tid) (c : ClientNo) (w : WorkEntry) (p : Phase) → near n T ≡ true → entry_near n w ≡ true → RowNear n (prepare_phase t s k T c w p)
   prepare-near T c w p l e = grind (arith, phase-near n, grant-near n, h, l, e)
@@ -310,7 +313,7 @@ module _ (n : ℕ) (t : WorkerTable) (s : WorkStorage) (k : Tickets) (h : table_
 
   worker-near : (m : Message) → nat_lt k.server.0 n ≡ true → is_named n m ≡ true → RowNear n (worker_row t s k m)
   worker-near (messages.Open c request T) mine l = grind (arith, more-near n t, h, mine, l)
-  worker-near (messages.Op c request W number op) mine l = on-work W (op_row t s.state.files k c request W number op) (still _ refl) (λ w e. op-near c request w number op w.phase)
+  worker-near (messages.Op c request W number op) mine l = on-work W (op_row here (asked_for c request number op) W) (still _ refl) (λ w e. op-near (asked_for c request number op) w w.phase)
   worker-near (messages.Prepare T c W) mine l = on-work W (prepare_row t s k T c W) (still _ (grind (arith, l))) (λ w e. prepare-near T c w w.phase (first-of _ _ l) e)
   worker-near (messages.Commit T W) mine l = on-work W (worker.commit_row t s k T W) (still _ (grind (arith, l))) (λ w e. commit-near W w.phase)
   worker-near (messages.Drop T W) mine l = on-work W (worker.drop_row t s k W) (still _ refl) (λ w e. drop-near W w.phase)

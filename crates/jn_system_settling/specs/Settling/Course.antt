@@ -11,7 +11,7 @@ pub record Course : Type 0 where
   pub world : World
   -- the numbers of the messages that wait, rising
   pub waiting : List ℕ
-  -- every step so far, the first one first
+  -- every step so far, in order
   pub steps : List Step
 
 -- so many servers that are up with these files and epochs, and nothing has happened

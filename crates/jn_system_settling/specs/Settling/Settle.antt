@@ -1,12 +1,11 @@
 -- Settling: what waits is handed over and what goes is carried out, until nothing is left to do; then clients and servers
 -- send once more what they wait for, and it goes on in the same way.
-use Rattle.std.specs.Prelude.{ℕ, zero, suc, ◌+◌, Bool, false, if◌then◌else◌, List, [], ◌∷◌, ◌++◌, map, Option, Some, None, is_some}
+use Rattle.std.specs.Prelude.{ℕ, zero, suc, ◌+◌, if◌then◌else◌, List, [], ◌∷◌, ◌++◌, map, Option, Some, None}
 use Rattle.jn_base.specs.declared.names.ServerNo.{ServerNo}
 use Rattle.jn_base.specs.declared.names.ClientNo.{ClientNo}
-use Rattle.jn_rows.specs.Stable.{StableState, Pick, stable}
-use Rattle.jn_rows.specs.Worker.{going_work}
-use Rattle.jn_system.specs.WholeSystem.World.{World, Memory, servers_from}
-use Rattle.jn_system.specs.WholeSystem.Servers.{Room}
+use Rattle.jn_rows.specs.Stable.{Pick, stable}
+use Rattle.jn_system.specs.WholeSystem.World.{World, servers_from, clients_from}
+use Rattle.jn_system.specs.WholeSystem.Servers.{Room, is_busy}
 use Rattle.jn_system.specs.WholeSystem.Steps.{Step, Again, Nudge, handing, working}
 use Rattle.jn_system_settling.specs.Settling.Course.{Course, go, go_on}
 
@@ -17,17 +16,6 @@ pub record Chance : Type 0 where
   pub stop : Option (Pick → ℕ)
 
 -- ---- what comes next
-
--- so many clients from this number on
-abbrev pub clients_from : ℕ → ℕ → List ClientNo
-clients_from c zero = []
-clients_from c (suc n) = record { 0 = c } ∷ clients_from (c + 1) n
-
--- A server that is up has something to do where one of its works goes. The erasing of a rubbish record sends and tells
--- nothing and changes nothing of what is stable, so it is no step here.
-abbrev pub is_busy : StableState → Option Memory → Bool
-is_busy x None = false
-is_busy x (Some m) = is_some (going_work x m.worker)
 
 -- the first of these servers that has something to do
 abbrev pub first_busy : World → List ServerNo → Option ServerNo

@@ -1,4 +1,5 @@
-use Rattle.jn_server.proofs.Common.{ap, subst, sym, counts_by, view_of, StoreView, IsRestarted, IsNotRestarted}
+use Rattle.jn_server.proofs.Common.{ap, subst, sym, view_of, StoreView, IsRestarted, IsNotRestarted}
+use Rattle.jn_recovery.specs.Counts.{counts_by}
 use Rattle.jn_server.proofs.Restarted.{restarted, not_restarted, no_tables}
 use Rattle.jn_server.proofs.restarting.restart.Goals as goal
 

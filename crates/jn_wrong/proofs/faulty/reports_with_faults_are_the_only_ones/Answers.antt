@@ -1,6 +1,7 @@
 use Rattle.jn_wrong.proofs.FarOff.{far-only}
 use Rattle.jn_wrong.proofs.OneServer.{once-only, both-only, scrubbed-only}
 use Rattle.jn_wrong.proofs.Forgiven.{power-only}
+use Rattle.jn_wrong.proofs.Restarted.{restarted-only}
 use Rattle.jn_wrong.proofs.Waiting.{two-only}
 use Rattle.jn_wrong.proofs.faulty.reports_with_faults_are_the_only_ones.Goals as goal
 
@@ -15,6 +16,9 @@ returns-clause-scrub c = scrubbed-only
 
 pub returns-clause-power : goal.returns-clause-power
 returns-clause-power c = power-only
+
+pub returns-clause-restart : goal.returns-clause-restart
+returns-clause-restart c = restarted-only
 
 pub returns-clause-two_faults : goal.returns-clause-two_faults
 returns-clause-two_faults c = two-only

@@ -1,5 +1,6 @@
 use Rattle.jn_intent.proofs.Common.{sym, subst, view_of}
-use Rattle.jn_recovery.specs.Loading.{counts_by, IsLoaded, IsUntouched}
+use Rattle.jn_recovery.specs.Loading.{IsLoaded, IsUntouched}
+use Rattle.jn_recovery.specs.Counts.{counts_by}
 use Rattle.jn_intent.proofs.intents.Intents.load.Goals as goal
 
 pub returns-in-Ok-clause-loaded : goal.returns-in-Ok-clause-loaded

@@ -1,5 +1,4 @@
-use Rattle.jn_server.proofs.Common.{arith, refl, subst, sym, view_of, seen, worker_row, of_worker, worker-aside, Parts, view_with, memory_of, IsServer, IsDone, Does, LeavesRubbish, row_calls}
-use Rattle.jn_storage.specs.DeviceCalls.{prepare_calls}
+use Rattle.jn_server.proofs.Common.{arith, refl, subst, sym, view_of, seen, worker_row, of_worker, worker-aside, Parts, view_with, memory_of, IsServer, IsDone, Does, LeavesRubbish, row_calls, prepare_calls}
 use Rattle.jn_server.proofs.Ranges.{row-in-range}
 use Rattle.jn_server.proofs.Working.{worked, works-leave, worker_failed}
 use Rattle.jn_server.proofs.server.Server.work_on.Goals as goal

@@ -22,7 +22,7 @@ returns-in_err-send g c = let f = found_active c.args.self.now.table c.args.name
 
 pub returns : goal.returns
 returns g c = let f = found_active c.args.self.now.table c.args.name c.requires.active in record {
-  takes = λ k. read_told c.args.self.now c.settle_read.new.self (g.W.Storage.view c.args.store.now) (g.W.Storage.view c.settle_read.new.store) k c.args.client c.args.request f.0 c.args.name f.1 c.args.number c.args.op.now c.in_ok-answer.answer c.args.out.now c.settle_read.new.out c.send.new.self _ f.2
+  takes = λ k. read_told c.args.self.now c.settle_read.new.self (g.W.Storage.view c.args.store.now) (g.W.Storage.view c.settle_read.new.store) k (record { client = c.args.client; request = c.args.request; number = c.args.number; op = c.args.op.now }) f.0 c.args.name f.1 c.in_ok-answer.answer c.args.out.now c.settle_read.new.out c.send.new.self _ f.2
       c.requires.fits c.requires.range (c.requires.next f.0 f.1 f.2) (c.in_ok-answer.ensures.settled f.0 f.1 f.2) (c.in_ok-answer.ensures.reads f.0 f.1 f.2) c.in_ok-send.ensures;
   asks = quiet_read c.args.self.now.table (g.W.Storage.view c.args.store.now) (g.W.Storage.view c.settle_read.new.store) f.0 c.args.name f.1 c.args.op.now c.args.number _ f.2 (c.requires.next f.0 f.1 f.2) (c.in_ok-answer.ensures.reads f.0 f.1 f.2);
   same = λ _. (c.in_ok-answer.ensures.reads f.0 f.1 f.2).same refl;

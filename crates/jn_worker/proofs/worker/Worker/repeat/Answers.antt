@@ -4,10 +4,10 @@ use Rattle.jn_worker.proofs.worker.Worker.repeat.Goals as goal
 
 pub returns-in-Some : goal.returns-in-Some
 returns-in-Some c = record {
-  takes = λ v k op h. repeat_told c.args.self.now v c.args.out.now c.send.new.self k c.args.client c.args.request c.args.name c.args.number op (Some c.in_ok-again.again) h c.requires.active c.requires.other (λ T a i. ap Some c.in_ok-again.ensures ∙ sym (c.in-Some.ensures T a i)) c.in_ok-again.again refl c.in_ok-send.ensures;
+  takes = λ v k op h. repeat_told c.args.self.now v c.args.out.now c.send.new.self k (record { client = c.args.client; request = c.args.request; number = c.args.number; op = op }) c.args.name (Some c.in_ok-again.again) h c.requires.active c.requires.other (λ T a i. ap Some c.in_ok-again.ensures ∙ sym (c.in-Some.ensures T a i)) c.in_ok-again.again refl c.in_ok-send.ensures;
 }
 
 pub returns : goal.returns
 returns c = record {
-  takes = λ v k op h. repeat_ignored c.args.self.now v c.args.out.now c.note.new.self k c.args.client c.args.request c.args.name c.args.number op None h c.requires.active c.requires.other (λ T a i. sym ((rw c.in_default.is at c.kept_answer.ensures) T a i)) refl c.in_ok-note.ensures;
+  takes = λ v k op h. repeat_ignored c.args.self.now v c.args.out.now c.note.new.self k (record { client = c.args.client; request = c.args.request; number = c.args.number; op = op }) c.args.name None h c.requires.active c.requires.other (λ T a i. sym ((rw c.in_default.is at c.kept_answer.ensures) T a i)) refl c.in_ok-note.ensures;
 }

@@ -1,5 +1,5 @@
 use Rattle.jn_laws.proofs.Reaching.{reached, ended-so, closed-so}
-use Rattle.jn_laws.proofs.worlds.a_world_stands_where_its_events_lead.Goals as goal
+use Rattle.jn_laws.proofs.worlds.a_world_is_at_the_moment_of_its_events.Goals as goal
 
 pub returns-clause-reached : goal.returns-clause-reached
 returns-clause-reached g c = λ x files epochs images stores events rest lines w few theirs are ranges has. reached _ _ x files epochs images stores few theirs are events lines w has rest ranges
