@@ -9,7 +9,8 @@ use Rattle.jn_headline.specs.Headline.{IsTrueOfBegun}
 use Rattle.jn_between.specs.Between.{IsTrueBetween, IsTrueAtEnd}
 use Rattle.jn_between.proofs.Ended.{at-the-end}
 use Rattle.jn_stands.specs.Stands.{Stands}
-use Rattle.jn_stands.specs.Going.{IsTold, WentOn, WasCut}
+use Rattle.jn_stands.proofs.Joined.{cut-leads}
+use Rattle.jn_stands.specs.Going.{IsTold, Limit, NoMessageLeft, NoEpochLeft, WentOn, WasCut}
 use Rattle.jn_world.specs.declared.ended.Ended.{Ended}
 use Rattle.jn_world.specs.declared.ended.Ended.TheVariants.{Messages, Epoch, Memory}
 use Rattle.jn_world.specs.declared.world.World.{World}
@@ -106,12 +107,12 @@ module _ {S : Type 0} (look : S → StoreView) (device : S → DeviceState) (x :
       r : IsReached look device x files images events (event ∷ []) told w
       r = reached events told w has (event ∷ []) ranges
 
-      of-cut : WasCut x r.moment old lines → IsTrueWhereEnded files (events ++ event ∷ []) (told ++ added old lines)
-      of-cut c = record {
+      of-cut : (limit : Limit) → WasCut x r.moment limit old lines → IsTrueWhereEnded files (events ++ event ∷ []) (told ++ added old lines)
+      of-cut limit c = record {
         begun = c.last.state.course.world.event;
         true_of_begun = subst (λ (f : AllFiles). IsTrueOfBegun f (events ++ event ∷ []) c.last.state.course.world.event (told ++ added old lines)) r.files_are
             (subst (λ (ls : List Line). IsTrueOfBegun r.written.files (events ++ event ∷ []) c.last.state.course.world.event ls) (lines-then r.moment c.last told old lines r.lines_are c.told)
-            (always x (events ++ event ∷ []) images c.last few ranges (further x (events ++ event ∷ []) images r.moment c.last r.written c.leads)).1);
+            (always x (events ++ event ∷ []) images c.last few ranges (further x (events ++ event ∷ []) images r.moment c.last r.written (cut-leads x r.moment limit old lines c))).1);
       }
 
       is-err : (a : Unit {0}) → Path (Result (Unit {0}) Ended) (Ok a) (Err e) → ⊥
@@ -126,8 +127,8 @@ module _ {S : Type 0} (look : S → StoreView) (device : S → DeviceState) (x :
       by : (d : Result (Unit {0}) Ended) → d ≡ Err e → GoesTo look device x r.moment (ending x) d (standing_of v) old lines → IsTrueWhereEnded files (events ++ event ∷ []) (told ++ added old lines)
       by (Ok a) z g = absurd (is-err a z)
       by (Err Memory) z g = absurd (no-memory z)
-      by (Err Messages) z g = of-cut g
-      by (Err (Epoch q)) z g = of-cut g
+      by (Err Messages) z g = of-cut NoMessageLeft g
+      by (Err (Epoch q)) z g = of-cut (NoEpochLeft q) g
 
   -- ---- it is closed
 

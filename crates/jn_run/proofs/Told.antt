@@ -7,7 +7,8 @@ use Rattle.jn_written.specs.Tasks.{Task, Begins, InSchedule, CutShort}
 use Rattle.jn_world.specs.declared.world.World.{World}
 use Rattle.jn_written.proofs.Computed.{join, may-lead}
 use Rattle.jn_stands.specs.Stands.{Standing, Stands}
-use Rattle.jn_stands.specs.Going.{WentOn}
+use Rattle.jn_stands.specs.Going.{Limit, NoMessageLeft, NoEpochLeft, WasCut, WentOn}
+use Rattle.jn_stands.proofs.Joined.{cut-leads}
 use Rattle.jn_world.specs.declared.ended.Ended.{Ended}
 use Rattle.jn_world.specs.declared.ended.Ended.TheVariants.{Messages, Epoch, Memory}
 use Rattle.jn_world.specs.Written.{standing_of, GoesTo, StartsAt, Closes, IsClosed}
@@ -49,6 +50,17 @@ module _ {O : Type 0} (r : Reporting O) (j : Joins r) (c : Course O) (m : Moment
     took = all-taken last lines is took;
   }
 
+  -- a call of the world that was cut short
+  pub cut-came : {A : Type 0} (done : Result A Ended) (limit : Limit) (lines : List Line) → lines_kept done lines ≡ lines → WasCut c.setup m limit [] lines → Came done lines
+  cut-came done limit lines kept cut = record {
+    last = cut.last;
+    leads = cut-leads c.setup m limit [] lines cut;
+    lines_are = new-lines m.state.lines cut.told.new lines cut.last.state.lines cut.told.here cut.told.there ∙ ap (λ (ls : List Line). m.state.lines ++ ls) (sym kept);
+  }
+
+  pub cut-taken : (limit : Limit) (lines : List Line) → WasCut c.setup m limit [] lines → r.took out out' lines → TookLimited r c out'
+  cut-taken limit lines cut took = limit-taken cut.last lines (cut-leads c.setup m limit [] lines cut) cut.stage (new-lines m.state.lines cut.told.new lines cut.last.state.lines cut.told.here cut.told.there) took
+
   told-to : (Then : Moment → Type 0) (last : Moment) (lines : List Line) → r.faults out' ≡ r.faults out → Leads c.setup m last → last.state.lines ≡ m.state.lines ++ lines → r.took out out' lines → Then last → ToldTo r c Then out'
   told-to Then last lines count leads is took there = record {
     now = last;
@@ -60,8 +72,8 @@ module _ {O : Type 0} (r : Reporting O) (j : Joins r) (c : Course O) (m : Moment
     -- where a call of the world came to
     pub came-to : {A : Type 0} (done : Result A Ended) (w' : Standing S) (lines : List Line) → GoesTo look device c.setup m rest done w' [] lines → Came done lines
     came-to (Ok a) w' lines went = record { last = went.last; leads = went.leads; lines_are = new-lines m.state.lines went.told.new lines went.last.state.lines went.told.here went.told.there }
-    came-to (Err Messages) w' lines cut = record { last = cut.last; leads = cut.leads; lines_are = new-lines m.state.lines cut.told.new lines cut.last.state.lines cut.told.here cut.told.there }
-    came-to (Err (Epoch q)) w' lines cut = record { last = cut.last; leads = cut.leads; lines_are = new-lines m.state.lines cut.told.new lines cut.last.state.lines cut.told.here cut.told.there }
+    came-to (Err Messages) w' lines cut = cut-came (Err Messages) NoMessageLeft lines refl cut
+    came-to (Err (Epoch q)) w' lines cut = cut-came (Err (Epoch q)) (NoEpochLeft q) lines refl cut
     came-to (Err Memory) w' lines cut = record { last = m; leads = Rattle.jn_written.specs.Runs.none m; lines_are = sym (append-nil m.state.lines) }
 
     -- a call of the world that is reported
@@ -74,8 +86,8 @@ module _ {O : Type 0} (r : Reporting O) (j : Joins r) (c : Course O) (m : Moment
       limit-of : (done : Result A Ended) → GoesTo look device c.setup m rest done w' [] lines → is_limit done → r.took out out' lines → TookLimited r c out'
       limit-of (Ok b) went limit took = absurd limit
       limit-of (Err Memory) went limit took = absurd limit
-      limit-of (Err Messages) cut limit took = limit-taken cut.last lines cut.leads cut.stage (new-lines m.state.lines cut.told.new lines cut.last.state.lines cut.told.here cut.told.there) took
-      limit-of (Err (Epoch q)) cut limit took = limit-taken cut.last lines cut.leads cut.stage (new-lines m.state.lines cut.told.new lines cut.last.state.lines cut.told.here cut.told.there) took
+      limit-of (Err Messages) cut limit took = cut-taken NoMessageLeft lines cut took
+      limit-of (Err (Epoch q)) cut limit took = cut-taken (NoEpochLeft q) lines cut took
 
       pub reaches : (done : Result A Ended) → GoesTo look device c.setup m rest done w' [] lines → Reported r done lines out answer out' → ((a : A) → done ≡ Ok a → (went : WentOn look device c.setup m rest w' [] lines) → Then a went.last) → Reaches r c Then answer out'
       reaches done went one there = record {
@@ -162,8 +174,8 @@ module _ {O : Type 0} (r : Reporting O) (c : Course O) where
 module _ {O S A : Type 0} (r : Reporting O) (j : Joins r) (device : S → DeviceState) (items_of : A → List S) (c : Course O) (m : Moment) (out out' : O) (told : HasTold r c m out) (lines : List Line) where
   closed-came : (done : Result A Ended) → Closes device items_of c.setup m done [] lines → Came r j c m out out' told done lines
   closed-came (Ok stores) closed = record { last = closed.last; leads = closed.leads; lines_are = new-lines m.state.lines closed.told.new lines closed.last.state.lines closed.told.here closed.told.there }
-  closed-came (Err Messages) cut = record { last = cut.last; leads = cut.leads; lines_are = new-lines m.state.lines cut.told.new lines cut.last.state.lines cut.told.here cut.told.there }
-  closed-came (Err (Epoch q)) cut = record { last = cut.last; leads = cut.leads; lines_are = new-lines m.state.lines cut.told.new lines cut.last.state.lines cut.told.here cut.told.there }
+  closed-came (Err Messages) cut = cut-came r j c m out out' told (Err Messages) NoMessageLeft lines refl cut
+  closed-came (Err (Epoch q)) cut = cut-came r j c m out out' told (Err (Epoch q)) (NoEpochLeft q) lines refl cut
   closed-came (Err Memory) none = record { last = m; leads = Rattle.jn_written.specs.Runs.none m; lines_are = sym (append-nil m.state.lines) }
 
   closed-whole : (stores : A) → IsClosed device c.setup m (items_of stores) [] lines → r.took out out' lines → TookWhole r c (AreLeft device c.setup (items_of stores)) out'
@@ -184,8 +196,8 @@ module _ {O S A : Type 0} (r : Reporting O) (j : Joins r) (device : S → Device
   closed-limit : (done : Result A Ended) → Closes device items_of c.setup m done [] lines → is_limit done → r.took out out' lines → TookLimited r c out'
   closed-limit (Ok stores) closed limit took = absurd limit
   closed-limit (Err Memory) closed limit took = absurd limit
-  closed-limit (Err Messages) cut limit took = limit-taken r j c m out out' told cut.last lines cut.leads cut.stage (new-lines m.state.lines cut.told.new lines cut.last.state.lines cut.told.here cut.told.there) took
-  closed-limit (Err (Epoch q)) cut limit took = limit-taken r j c m out out' told cut.last lines cut.leads cut.stage (new-lines m.state.lines cut.told.new lines cut.last.state.lines cut.told.here cut.told.there) took
+  closed-limit (Err Messages) cut limit took = cut-taken r j c m out out' told NoMessageLeft lines cut took
+  closed-limit (Err (Epoch q)) cut limit took = cut-taken r j c m out out' told (NoEpochLeft q) lines cut took
 
   pub closed-ends : (done : Result A Ended) (answer : Result A RunFault) → Closes device items_of c.setup m done [] lines → Reported r done lines out answer out' → RunsFrom r c (λ (a : A). AreLeft device c.setup (items_of a)) answer out'
   closed-ends done answer closed one = record {

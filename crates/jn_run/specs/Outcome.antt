@@ -39,7 +39,7 @@ use Rattle.jn_written.specs.Devices.{Devices}
 use Rattle.jn_written.specs.Whole.{IsWhole as IsWholeRun, IsLimited, IsPartOfRun}
 use Rattle.jn_summary.specs.Summary.{summary_text}
 use Rattle.jn_run.specs.declared.status.Status.{Status}
-use Rattle.jn_run.specs.declared.status.Status.TheVariants as statuses
+use Rattle.jn_run.specs.declared.status.Status.TheVariants.{Done, Words, Schedule, Image, Read, Write, Keep, Limit, Memory}
 
 -- ---- the outside at one moment
 
@@ -289,29 +289,32 @@ BeginsFromImages options = (name : List ℕ) × (options.opening ≡ Images name
 
 -- where the words are no command
 pub data WordsEnd (before after : SinkState) : Status → Type 0 where
-  words_refused : Writes refused_words before after → WordsEnd before after statuses.Words
-  words_not_written : FailsToWrite refused_words before after → WordsEnd before after statuses.Write
-  words_no_memory : after ≡ before → WordsEnd before after statuses.Memory
+  words_refused : Writes refused_words before after → WordsEnd before after Words
+  words_not_written : FailsToWrite refused_words before after → WordsEnd before after Write
+  words_no_memory : after ≡ before → WordsEnd before after Memory
 
 -- where they ask for a run
 pub data RunEnds (options : Options) (before after : Outside) : Status → Type 0 where
-  done : RanWhole options before after Keeps → RunEnds options before after statuses.Done
-  not_read : FailsToGive before.source after.source → after.sink ≡ before.sink → after.keeper ≡ before.keeper → RunEnds options before after statuses.Read
-  too_many_bytes : HasTooManyBytes before.source after.source → after.sink ≡ before.sink → after.keeper ≡ before.keeper → RunEnds options before after statuses.Limit
-  too_many_events : HasTooManyEvents before.source after.source → after.sink ≡ before.sink → after.keeper ≡ before.keeper → RunEnds options before after statuses.Limit
-  schedule_refused : RefusedSchedule before after Writes → after.keeper ≡ before.keeper → RunEnds options before after statuses.Schedule
-  schedule_not_written : RefusedSchedule before after FailsToWrite → after.keeper ≡ before.keeper → RunEnds options before after statuses.Write
-  not_loaded : BeginsFromImages options → ReadsSchedule before.source after.source → after.sink ≡ before.sink → FailsToLoad before.keeper after.keeper → RunEnds options before after statuses.Keep
-  image_refused : RefusedImage options before after Writes → after.keeper ≡ before.keeper → RunEnds options before after statuses.Image
-  image_not_written : RefusedImage options before after FailsToWrite → after.keeper ≡ before.keeper → RunEnds options before after statuses.Write
+  done : RanWhole options before after Keeps → RunEnds options before after Done
+  -- the source failed, or the schedule is too long
+  not_read : FailsToGive before.source after.source → after.sink ≡ before.sink → after.keeper ≡ before.keeper → RunEnds options before after Read
+  too_many_bytes : HasTooManyBytes before.source after.source → after.sink ≡ before.sink → after.keeper ≡ before.keeper → RunEnds options before after Limit
+  too_many_events : HasTooManyEvents before.source after.source → after.sink ≡ before.sink → after.keeper ≡ before.keeper → RunEnds options before after Limit
+  -- the schedule is refused
+  schedule_refused : RefusedSchedule before after Writes → after.keeper ≡ before.keeper → RunEnds options before after Schedule
+  schedule_not_written : RefusedSchedule before after FailsToWrite → after.keeper ≡ before.keeper → RunEnds options before after Write
+  -- an image isn't loaded, or is refused
+  not_loaded : BeginsFromImages options → ReadsSchedule before.source after.source → after.sink ≡ before.sink → FailsToLoad before.keeper after.keeper → RunEnds options before after Keep
+  image_refused : RefusedImage options before after Writes → after.keeper ≡ before.keeper → RunEnds options before after Image
+  image_not_written : RefusedImage options before after FailsToWrite → after.keeper ≡ before.keeper → RunEnds options before after Write
   -- the run is cut short by a limit, or its report isn't written, or its disks aren't kept
-  at_limit : Ran before after (IsCutShort options before.keeper.kept) Writes → after.keeper ≡ before.keeper → RunEnds options before after statuses.Limit
-  not_written : Ran before after (IsPart options before.keeper.kept) FailsToWrite → after.keeper ≡ before.keeper → RunEnds options before after statuses.Write
-  not_saved : RanWhole options before after KeepsFirst → Rose before.keeper.faults after.keeper.faults → RunEnds options before after statuses.Keep
+  at_limit : Ran before after (IsCutShort options before.keeper.kept) Writes → after.keeper ≡ before.keeper → RunEnds options before after Limit
+  not_written : Ran before after (IsPart options before.keeper.kept) FailsToWrite → after.keeper ≡ before.keeper → RunEnds options before after Write
+  not_saved : RanWhole options before after KeepsFirst → Rose before.keeper.faults after.keeper.faults → RunEnds options before after Keep
   -- memory runs out before the run, in it, or while its disks are kept
-  no_memory : GivesSome before.source after.source → after.sink ≡ before.sink → after.keeper ≡ before.keeper → RunEnds options before after statuses.Memory
-  no_memory_inside : Ran before after (IsPart options before.keeper.kept) WritesFront → after.keeper ≡ before.keeper → RunEnds options before after statuses.Memory
-  no_memory_saving : RanWhole options before after KeepsFirst → after.keeper.faults ≡ before.keeper.faults → RunEnds options before after statuses.Memory
+  no_memory : GivesSome before.source after.source → after.sink ≡ before.sink → after.keeper ≡ before.keeper → RunEnds options before after Memory
+  no_memory_inside : Ran before after (IsPart options before.keeper.kept) WritesFront → after.keeper ≡ before.keeper → RunEnds options before after Memory
+  no_memory_saving : RanWhole options before after KeepsFirst → after.keeper.faults ≡ before.keeper.faults → RunEnds options before after Memory
 
 -- ---- the same of a trial
 
@@ -330,11 +333,12 @@ pub record TrialToLimit (trial : ATrial) (kept : Option Contents) : Type 0 where
   pub lines : List Line
   pub cut : IsCutShort trial_options kept (events_from trial.seed trial.events) lines
 
+-- where a limit cuts it short or memory runs out, nothing is told of it
 pub data TrialEnds (trial : ATrial) (kept : Option Contents) (before after : SinkState) : Status → Type 0 where
-  trial_done : RanTrial trial kept (λ text. Writes text before after) → TrialEnds trial kept before after statuses.Done
-  trial_not_written : RanTrial trial kept (λ text. FailsToWrite text before after) → TrialEnds trial kept before after statuses.Write
-  trial_at_limit : TrialToLimit trial kept → after ≡ before → TrialEnds trial kept before after statuses.Limit
-  trial_no_memory : after ≡ before → TrialEnds trial kept before after statuses.Memory
+  trial_done : RanTrial trial kept (λ text. Writes text before after) → TrialEnds trial kept before after Done
+  trial_not_written : RanTrial trial kept (λ text. FailsToWrite text before after) → TrialEnds trial kept before after Write
+  trial_at_limit : TrialToLimit trial kept → after ≡ before → TrialEnds trial kept before after Limit
+  trial_no_memory : after ≡ before → TrialEnds trial kept before after Memory
 
 -- ---- what a call leaves, by the command that its words are
 

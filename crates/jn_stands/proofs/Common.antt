@@ -24,7 +24,7 @@ pub use Rattle.jn_written.specs.Steps.{outside_texts, lines_at, message_texts, t
 pub use Rattle.jn_written.specs.Tasks.{Task, when_of, ClosesClients, next_task, State, begun, Dismisses, AtEnd, Meets, Acts, GoesDown, Begins, Rests, ComesUp, CountsCommits, Stage, InSchedule, CutShort, when_at, next_at}
 pub use Rattle.jn_stands.specs.Stands.{Standing, StandsAt, Stands, is_client_number, posted_by, with_sent, PlaceStands, texts_sent, with_answer, with_named}
 pub use Rattle.jn_stands.specs.Pages.{HasCounts, ReadsPages, IsIdleAt}
-pub use Rattle.jn_stands.specs.Going.{ActsNext, IsStepTo, IsTold, WentOn, WasCut}
+pub use Rattle.jn_stands.specs.Going.{ActsNext, IsStepTo, IsTold, Limit, WentOn, WasCut, NoMessageLeft, NoEpochLeft}
 pub use Rattle.jn_base.specs.declared.names.WorkId.{WorkId}
 pub use Rattle.jn_place.specs.declared.place.Slot.TheVariants.{Up, Down, Gone}
 pub use Rattle.std.proofs.lemmas.Bool.Decides.{nat_tests}

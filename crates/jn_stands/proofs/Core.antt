@@ -2,7 +2,7 @@
 use Rattle.jn_stands.proofs.Common.{◌≡◌, ◌≤◌, ℕ, suc, Bool, true, false, List, [], ◌∷◌, ◌++◌, length, slice_get, drop, append-nil, Option, Some, refl, sym, ◌∙◌, ap, subst, ServerNo, ClientNo, Tid, Outside, DeviceState, Carried, Place, World, commits_in, has_line, Step, run, IsRun, Line, Carries, ClientTable, new_table, Pick, Event, Course, go, go_on, StoreView, Within, run-within, Setup, Chance, Deed, Devices, IsUsed, AreFound, rubbish_on, acted, deed_of, AreLeft, AreAllCounted, Moment, Leads, texts_of, lines_at, come_to, cut_short, Task, State, when_of, next_task, begun, may-lead, Standing, is_client_number, PlaceStands, Stands, ActsNext, IsStepTo, AreRecoverable, Free}
 use Rattle.jn_records.specs.declared.net_list.Need.{Need}
 use Rattle.jn_written.proofs.Named.{names}
-use Rattle.jn_stands.proofs.Made.{Makes, made-leads, made-cuts, carried-length, not-too-much, too-much}
+use Rattle.jn_stands.proofs.Made.{Makes, made-leads, made-cut, carried-length, not-too-much}
 
 -- a chance of a step that tells these faults, and perhaps is stopped
 abbrev pub chance-of : Setup → Devices → Need → List Outside → Option (Pick → ℕ) → Chance
@@ -85,12 +85,7 @@ module _ {S : Type 0} (look : S → StoreView) (device : S → DeviceState) (x :
       stage = refl;
       told = record { new = lines_at (when_of m.state) (texts_of x h deed m.state.course.world c.world); here = told; there = refl };
     };
-    cut = λ many. record {
-      last = record { state = cut_short left; devices = es };
-      leads = made-cuts x m h deed left c es makes (too-much deed c (length w'.net.sent) cuts (carried-length w'.net.sent c parts.net.net.sent) many);
-      stage = refl;
-      told = record { new = []; here = sym (append-nil lines); there = sym (append-nil m.state.lines) };
-    };
+    cut = λ many. made-cut x m h deed left c es makes cuts refl w'.net.sent parts.net.net.sent many lines;
   }
     where
       c : Course

@@ -3,7 +3,7 @@ use Rattle.jn_stands.proofs.Common.{◌≡◌, ◌<◌, ℕ, zero, suc, List, []
 use Rattle.std.specs.Option.{option_map}
 use Rattle.jn_stands.specs.Ending.{AreDisarmed, dismissed, BeginsEnd}
 use Rattle.jn_stands.proofs.Lines.{history-same}
-use Rattle.jn_stands.proofs.Made.{quiet_chance, Makes, made-leads, made-cuts, carried-length, not-too-much, too-much, quiet-texts}
+use Rattle.jn_stands.proofs.Made.{quiet_chance, Makes, made-leads, made-cut, carried-length, not-too-much, quiet-texts}
 
 pub there-is : {A : Type 0} (xs : List A) (n : ℕ) → n < length xs → (x : A) × (slice_get xs n ≡ Some x)
 there-is [] n h = absurd (omega (arith, h))
@@ -111,10 +111,5 @@ module _ {S : Type 0} (look : S → StoreView) (device : S → DeviceState) (x :
         there = ap (λ (ts : List Text). m.state.lines ++ lines_at (when_of begun_state) ts) same-texts;
       };
     };
-    cut = λ many. record {
-      last = record { state = cut_short begun_state; devices = es };
-      leads = made-cuts x m (quiet_chance x m.devices) dismissing begun_state (go Dismiss begun_course) es (makes next) (too-much dismissing (go Dismiss begun_course) (length w.net.sent) refl (carried-length w.net.sent (go Dismiss begun_course) stands.net.sent) many);
-      stage = refl;
-      told = record { new = []; here = sym (append-nil lines); there = sym (append-nil m.state.lines) };
-    };
+    cut = λ many. made-cut x m (quiet_chance x m.devices) dismissing begun_state (go Dismiss begun_course) es (makes next) refl refl w.net.sent stands.net.sent many lines;
   }

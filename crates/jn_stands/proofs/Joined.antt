@@ -1,5 +1,5 @@
 -- Calls of the code one after another.
-use Rattle.jn_stands.proofs.Common.{List, [], ◌++◌, append-nil, append_assoc, refl, sym, ◌∙◌, ap, DeviceState, Line, StoreView, Setup, Moment, DoesStep, none, Task, join, Standing, Stands, IsTold, WentOn, WasCut}
+use Rattle.jn_stands.proofs.Common.{List, [], ◌++◌, append-nil, append_assoc, refl, sym, ◌∙◌, ap, DeviceState, Line, StoreView, Setup, Moment, Leads, DoesStep, none, more, Task, join, Standing, Stands, IsTold, Limit, WentOn, WasCut}
 
 told-both : (m n last : Moment) (a b c : List Line) → IsTold m n a b → IsTold n last b c → IsTold m last a c
 told-both m n last a b c first second = record {
@@ -7,6 +7,10 @@ told-both m n last a b c first second = record {
   here = second.here ∙ ap (λ (ls : List Line). ls ++ second.new) first.here ∙ append_assoc a first.new second.new;
   there = second.there ∙ ap (λ (ls : List Line). ls ++ second.new) first.there ∙ append_assoc m.state.lines first.new second.new;
 }
+
+-- the steps to where a run is cut short
+pub cut-leads : (x : Setup) (m : Moment) (limit : Limit) (lines lines' : List Line) (cut : WasCut x m limit lines lines') → Leads x m cut.last
+cut-leads x m limit lines lines' cut = join Moment (DoesStep x) m cut.before cut.last cut.leads (more cut.before cut.last cut.last cut.step (none cut.last))
 
 module _ {S : Type 0} (look : S → StoreView) (device : S → DeviceState) (x : Setup) (m : Moment) where
   -- no task is done yet
@@ -26,10 +30,13 @@ module _ {S : Type 0} (look : S → StoreView) (device : S → DeviceState) (x :
     }
 
     -- or the run is cut short there
-    pub went-to-cut : WasCut x first.last b c → WasCut x m a c
-    went-to-cut second = record {
+    pub went-to-cut : (limit : Limit) → WasCut x first.last limit b c → WasCut x m limit a c
+    went-to-cut limit second = record {
+      before = second.before;
+      leads = join Moment (DoesStep x) m first.last second.before first.leads second.leads;
       last = second.last;
-      leads = join Moment (DoesStep x) m first.last second.last first.leads second.leads;
+      step = second.step;
+      comes = second.comes;
       stage = second.stage;
       told = told-both m first.last second.last a b c first.told second.told;
     }

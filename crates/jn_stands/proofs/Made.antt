@@ -1,5 +1,5 @@
 -- A step that is made, or that cuts the run short.
-use Rattle.jn_stands.proofs.Common.{◌≡◌, ◌≤◌, ◌<◌, ℕ, Bool, true, false, List, [], ◌++◌, length, append-nil, drop, Some, None, refl, sym, ◌∙◌, ap, subst, arith, ◌||◌, nat_lt, if◌then◌else◌, drop-length, length-map, nat_tests, DeviceState, Posted, Line, Text, StoreView, World, Course, go_on, sent_of, Setup, Chance, Task, State, when_of, next_task, begun, Sent, Nothing, Deed, deed_of, message_texts, traced, texts_of, lines_at, is_too_much, come_to, cut_short, made_to, Devices, Befalls, rubbish_on, Moment, Leads, none, more, Standing, Stands, IsStepTo, Free, none_free}
+use Rattle.jn_stands.proofs.Common.{◌≡◌, ◌≤◌, ◌<◌, ℕ, Bool, true, false, List, [], ◌++◌, length, append-nil, drop, Some, None, refl, sym, ◌∙◌, ap, subst, arith, ◌||◌, nat_lt, if◌then◌else◌, drop-length, length-map, nat_tests, DeviceState, Posted, Line, Text, StoreView, World, Course, go_on, sent_of, Setup, Chance, Task, State, when_of, next_task, begun, Sent, Nothing, Deed, deed_of, message_texts, traced, texts_of, lines_at, is_too_much, come_to, cut_short, made_to, Devices, Befalls, rubbish_on, Moment, Leads, DoesStep, none, more, Standing, Stands, NoMessageLeft, WasCut, IsStepTo, Free, none_free}
 
 -- a chance of which no step asks anything more
 abbrev pub quiet_chance : Setup → Devices → Chance
@@ -16,21 +16,23 @@ pub record Makes (x : Setup) (m : Moment) (h : Chance) (deed : Deed) (s : State)
   pub course : go_on deed.steps s.course ≡ c
   pub befalls : Befalls x h deed m.state.course.world m.devices es
 
-pub one-step : (x : Setup) (m : Moment) (h : Chance) (deed : Deed) (s : State) (c : Course) (es : Devices) → Makes x m h deed s c es → Leads x m (record { state = made_to x h deed c s; devices = es })
-one-step x m h deed s c es k = more m (record { state = made_to x h deed c s; devices = es }) (record { state = made_to x h deed c s; devices = es }) (record {
+unfoldable pub one-step : (x : Setup) (m : Moment) (h : Chance) (deed : Deed) (s : State) (c : Course) (es : Devices) → Makes x m h deed s c es → (b : Bool) → is_too_much deed c ≡ b
+    → DoesStep x m (record { state = if b then cut_short s else come_to x h deed c s; devices = es })
+one-step x m h deed s c es k b e = record {
   chance = h;
   task = k.task;
   task_is = k.next;
   state_is = sym (ap (λ (d : Deed). made_to x h d (go_on d.steps (begun k.task m.state).course) (begun k.task m.state)) k.deed_is
-      ∙ ap (λ (t : State). made_to x h deed (go_on deed.steps t.course) t) k.begun_is ∙ ap (λ (d : Course). made_to x h deed d s) k.course);
+      ∙ ap (λ (t : State). made_to x h deed (go_on deed.steps t.course) t) k.begun_is ∙ ap (λ (d : Course). made_to x h deed d s) k.course
+      ∙ ap (λ (b : Bool). if b then cut_short s else come_to x h deed c s) e);
   befalls = subst (λ (d : Deed). Befalls x h d m.state.course.world m.devices es) (sym k.deed_is) k.befalls;
-}) (none (record { state = made_to x h deed c s; devices = es }))
+}
 
 pub made-leads : (x : Setup) (m : Moment) (h : Chance) (deed : Deed) (s : State) (c : Course) (es : Devices) → Makes x m h deed s c es → is_too_much deed c ≡ false → Leads x m (record { state = come_to x h deed c s; devices = es })
-made-leads x m h deed s c es k e = subst (λ (b : Bool). Leads x m (record { state = if b then cut_short s else come_to x h deed c s; devices = es })) e (one-step x m h deed s c es k)
-
-pub made-cuts : (x : Setup) (m : Moment) (h : Chance) (deed : Deed) (s : State) (c : Course) (es : Devices) → Makes x m h deed s c es → is_too_much deed c ≡ true → Leads x m (record { state = cut_short s; devices = es })
-made-cuts x m h deed s c es k e = subst (λ (b : Bool). Leads x m (record { state = if b then cut_short s else come_to x h deed c s; devices = es })) e (one-step x m h deed s c es k)
+made-leads x m h deed s c es k e = more m after after (one-step x m h deed s c es k false e) (none after)
+  where
+    after : Moment
+    after = record { state = come_to x h deed c s; devices = es }
 
 -- ---- how much was sent
 
@@ -48,6 +50,22 @@ too-much deed c n e l h = ap (λ (b : Bool). b || nat_lt 1000000 (length c.world
   where
     large : (n : ℕ) → 1000000 < n → nat_lt 1000000 n ≡ true
     large n h = grind (arith, nat_tests)
+
+-- the run is cut short by what it would send
+pub made-cut : (x : Setup) (m : Moment) (h : Chance) (deed : Deed) (s : State) (c : Course) (es : Devices) → Makes x m h deed s c es → deed.cuts ≡ false → s.lines ≡ m.state.lines
+    → (sent : List Posted) → c.world.sent ≡ sent_of sent → 1000000 < length sent → (lines : List Line) → WasCut x m NoMessageLeft lines lines
+unfolding one-step
+made-cut x m h deed s c es k cuts same sent sent-are many lines = record {
+  before = m;
+  leads = none m;
+  last = record { state = cut_short s; devices = es };
+  step = one-step x m h deed s c es k true (too-much deed c (length sent) cuts (carried-length sent c sent-are) many);
+  comes = subst (λ (d : Course). 1000000 < length d.world.sent)
+      (sym (ap (λ (d : Deed). go_on d.steps (begun k.task m.state).course) k.deed_is ∙ ap (λ (t : State). go_on deed.steps t.course) k.begun_is ∙ k.course))
+      (subst (λ (n : ℕ). 1000000 < n) (sym (carried-length sent c sent-are)) many);
+  stage = refl;
+  told = record { new = []; here = sym (append-nil lines); there = same ∙ sym (append-nil m.state.lines) };
+}
 
 -- ---- where the code stands afterwards
 
@@ -67,12 +85,7 @@ module _ {S : Type 0} (look : S → StoreView) (device : S → DeviceState) wher
       stage = refl;
       told = record { new = lines_at (when_of m.state) (texts_of x h deed m.state.course.world c.world); here = told; there = refl };
     };
-    cut = λ many. record {
-      last = record { state = cut_short s; devices = es };
-      leads = made-cuts x m h deed s c es k (too-much deed c (length w'.net.sent) cuts (carried-length w'.net.sent c stands.net.sent) many);
-      stage = refl;
-      told = record { new = []; here = sym (append-nil lines); there = sym (append-nil m.state.lines) };
-    };
+    cut = λ many. made-cut x m h deed s c es k cuts refl w'.net.sent stands.net.sent many lines;
   }
     where
       s : State

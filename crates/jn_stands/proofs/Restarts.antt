@@ -98,7 +98,7 @@ module _ {S : Type 0} (look : S → StoreView) (device : S → DeviceState) (see
           deed_is = ap (λ (b : Bool). if b then record (given_up (used-chance look device seen x w m stand q place at s is told t used) q) { cuts = true } else recovered (used-chance look device seen x w m stand q place at s is told t used) q)
               (used-up look device seen x w m stand q place at s is told t used);
           begun_is = refl;
-        }) counts lines
+        }) refl counts lines
     came-by told (Down s) Gone (came.Up epoch tids) is h counts e f = absurd h
     came-by told (Down s) Gone came.Stopped is h counts e f = absurd h
     came-by told (Down s) Gone came.UsedUp is h counts e f = absurd h

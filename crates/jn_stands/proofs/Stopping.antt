@@ -1,7 +1,7 @@
 -- A server that is stopped while it comes up, and one whose epochs are used up.
-use Rattle.jn_stands.proofs.Common.{◌≡◌, ◌⊎◌, inl, inr, ℕ, suc, ◌+◌, Bool, true, false, List, [], ◌∷◌, ◌++◌, append-nil, drop, map, slice_get, slice_set, Option, Some, None, is_some, refl, sym, ◌∙◌, ap, subst, arith, if◌then◌else◌, nat_eq, nat_lt, fun_ext, ServerNo, Outside, server_eq, DeviceState, powered_off, cleared, found_on, changed, with_epoch, Place, Down, IsTried, IsStoppedUp, IsUsedUpAt, texts_of_step, World, Memory, Narrow, StopRestart, after, narrow, stop_restart, counts_by, EpochsUsedUp, Line, Text, Carries, StableState, Pick, go, go_on, pairs_view, StoreView, Setup, Chance, Deed, recovered, given_up, last_epoch, is_used_up, Devices, Alone, IsRecovery, AreFound, Moment, lines_at, cut_short, when_of, Standing, StandsAt, Stands, WasCut, IsStepTo, AreLeft, Counts, HasCounts}
+use Rattle.jn_stands.proofs.Common.{◌≡◌, ◌⊎◌, inl, inr, ℕ, suc, ◌+◌, Bool, true, false, List, [], ◌∷◌, ◌++◌, append-nil, drop, map, slice_get, slice_set, Option, Some, None, is_some, refl, sym, ◌∙◌, ap, subst, arith, if◌then◌else◌, nat_eq, nat_lt, fun_ext, ServerNo, Outside, server_eq, DeviceState, powered_off, cleared, found_on, changed, with_epoch, Place, Down, IsTried, IsStoppedUp, IsUsedUpAt, texts_of_step, World, Memory, Narrow, StopRestart, after, narrow, stop_restart, counts_by, EpochsUsedUp, Line, Text, Carries, StableState, Pick, go, go_on, pairs_view, StoreView, Setup, Chance, Deed, recovered, given_up, last_epoch, is_used_up, Devices, Alone, IsRecovery, AreFound, Moment, lines_at, cut_short, when_of, Standing, StandsAt, Stands, WasCut, IsStepTo, AreLeft, Counts, HasCounts, ComesUp, none, NoEpochLeft}
 use Rattle.jn_report.specs.declared.line.Text.TheVariants as says
-use Rattle.jn_stands.proofs.Made.{made-cuts}
+use Rattle.jn_stands.proofs.Made.{one-step}
 use Rattle.jn_stands.proofs.Servers.{IsAlone, server-moved}
 use Rattle.jn_stands.proofs.Posted.{lines-in-two}
 use Rattle.jn_stands.proofs.Moving.{same-server, carries-on, Does, led-to, net-quiet, devices-now, device-here, device-there, moved-step}
@@ -165,10 +165,14 @@ module _ {S : Type 0} (look : S → StoreView) (device : S → DeviceState) (see
         lines lines' (lines-are ∙ lines-in-two (when_of m.state) lines (texts_of_step q told true) (says.RefusedEvent EpochsUsedUp ∷ []))
 
     -- at the start or the end the run can't go on
-    pub used-cut : Does x m used-chance (record (given_up used-chance q) { cuts = true }) → HasCounts look q (counts_by place.counts) (Down t) → (lines : List Line) → WasCut x m lines lines
-    used-cut does counts lines = record {
+    pub used-cut : (does : Does x m used-chance (record (given_up used-chance q) { cuts = true })) → does.task ≡ ComesUp q → HasCounts look q (counts_by place.counts) (Down t) → (lines : List Line)
+        → WasCut x m (NoEpochLeft q) lines lines
+    unfolding one-step
+    used-cut does task-is counts lines = record {
+      before = m;
+      leads = none m;
       last = record { state = cut_short (record m.state { tasks = drop 1 m.state.tasks }); devices = devices-now look device x w m stand seen q place at (device t) };
-      leads = made-cuts x m used-chance (record (given_up used-chance q) { cuts = true }) (record m.state { tasks = drop 1 m.state.tasks }) (go_on (Narrow q reads ∷ []) m.state.course) (devices-now look device x w m stand seen q place at (device t))
+      step = one-step x m used-chance (record (given_up used-chance q) { cuts = true }) (record m.state { tasks = drop 1 m.state.tasks }) (go_on (Narrow q reads ∷ []) m.state.course) (devices-now look device x w m stand seen q place at (device t))
           (record {
             task = does.task;
             next = does.next;
@@ -176,7 +180,8 @@ module _ {S : Type 0} (look : S → StoreView) (device : S → DeviceState) (see
             begun_is = does.begun_is;
             course = refl;
             befalls = record { rubbish = λ r. refl; steps = (tt, tt); used = used-device; found = found-after; left = left-after; counted = servers-after.counted; recoverable = servers-after.recoverable };
-          }) refl;
+          }) true refl;
+      comes = (task-is, used-up);
       stage = refl;
       told = record { new = []; here = sym (append-nil lines); there = sym (append-nil m.state.lines) };
     }

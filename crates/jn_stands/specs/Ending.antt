@@ -13,7 +13,7 @@ use Rattle.jn_written.specs.Runs.{Moment, Leads}
 use Rattle.jn_written.specs.Tasks.{AtEnd}
 use Rattle.jn_stands.specs.Pages.{HasCounts}
 use Rattle.jn_stands.specs.Stands.{Standing, Stands}
-use Rattle.jn_stands.specs.Going.{IsTold, WasCut}
+use Rattle.jn_stands.specs.Going.{NoMessageLeft, IsTold, WasCut}
 
 -- no fault waits at a server any more
 pub record IsDisarmed {S : Type 0} (look : S → StoreView) (device : S → DeviceState) (n : ℕ) (p p' : Place S) : Type 0 where
@@ -40,4 +40,4 @@ pub record BeganEnd {S : Type 0} (look : S → StoreView) (device : S → Device
 
 pub record BeginsEnd {S : Type 0} (look : S → StoreView) (device : S → DeviceState) (x : Setup) (m : Moment) (w' : Standing S) (lines : List Line) : Type 0 where
   pub done : length w'.net.sent ≤ 1000000 → BeganEnd look device x m w' lines
-  pub cut : 1000000 < length w'.net.sent → WasCut x m lines lines
+  pub cut : 1000000 < length w'.net.sent → WasCut x m NoMessageLeft lines lines

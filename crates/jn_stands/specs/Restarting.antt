@@ -12,7 +12,7 @@ use Rattle.jn_report.specs.declared.line.Line.{Line}
 use Rattle.jn_store.specs.Store.{StoreView}
 use Rattle.jn_written.specs.Chances.{Setup}
 use Rattle.jn_written.specs.Runs.{Moment}
-use Rattle.jn_stands.specs.Going.{WasCut, IsStepTo}
+use Rattle.jn_stands.specs.Going.{NoEpochLeft, WasCut, IsStepTo}
 use Rattle.jn_stands.specs.Stands.{Standing, with_named}
 use Rattle.jn_stands.specs.Naming.{names_told}
 
@@ -25,5 +25,5 @@ texts_restarted q named came.UsedUp = says.RefusedEvent EpochsUsedUp ∷ []
 -- At the start and the end: the server came up or was stopped, or its epochs are used up and the run is cut short. The lines of that
 -- restart aren't told then.
 abbrev pub ComesTo : {S : Type 0} → (S → StoreView) → (S → DeviceState) → Setup → Moment → ServerNo → Standing S → Restarted → Standing S → List Line → List Line → Type 0
-ComesTo look device x m q w came.UsedUp w' lines lines' = WasCut x m lines lines
+ComesTo look device x m q w came.UsedUp w' lines lines' = WasCut x m (NoEpochLeft q) lines lines
 ComesTo look device x m q w restarted w' lines lines' = IsStepTo look device x m (drop 1 m.state.tasks) (with_named (texts_restarted q w.named restarted) w') lines lines'

@@ -10,9 +10,9 @@ ghost use Rattle.jn_schedule.specs.declared.Event.TheVariants as events;
 ghost use Rattle.jn_written.specs.Chances.{Setup};
 ghost use Rattle.jn_written.specs.Events.{settling};
 ghost use Rattle.jn_written.specs.Refusals.{refusal_of};
-ghost use Rattle.jn_written.specs.Runs.{Moment};
+ghost use Rattle.jn_written.specs.Runs.{Moment, Leads};
 ghost use Rattle.jn_written.specs.Tasks.{Task, Begins, Meets, Acts, GoesDown, CountsCommits, when_of, next_task};
-ghost use Rattle.jn_stands.specs.Going.{ActsNext, WentOn, WasCut, IsStepTo};
+ghost use Rattle.jn_stands.specs.Going.{ActsNext, Limit, WentOn, WasCut, IsStepTo};
 ghost use Rattle.jn_stands.specs.Meeting.{is_settle, begun_by, begins_in};
 ghost use Rattle.jn_stands.specs.Stands.{Standing, Stands};
 
@@ -51,5 +51,6 @@ pub fn calls_go_on_one_after_another<S: Powered>()
     ensures nowhere { (x : Setup) (m : Moment) (w : Standing S) → Stands (λ s. S.view s) (λ s. S.device s) x w m → (lines : List Line) → WentOn (λ s. S.view s) (λ s. S.device s) x m m.state.tasks w lines lines }
     ensures further { (x : Setup) (m : Moment) (rest : List Task) (w : Standing S) (a b c : List Line) (first : WentOn (λ s. S.view s) (λ s. S.device s) x m rest w a b) (less : List Task) (w' : Standing S)
         → WentOn (λ s. S.view s) (λ s. S.device s) x first.last less w' b c → WentOn (λ s. S.view s) (λ s. S.device s) x m less w' a c }
-    ensures cut { (x : Setup) (m : Moment) (rest : List Task) (w : Standing S) (a b c : List Line) (first : WentOn (λ s. S.view s) (λ s. S.device s) x m rest w a b) → WasCut x first.last b c → WasCut x m a c }
+    ensures cut { (x : Setup) (m : Moment) (rest : List Task) (w : Standing S) (a b c : List Line) (first : WentOn (λ s. S.view s) (λ s. S.device s) x m rest w a b) (limit : Limit) → WasCut x first.last limit b c → WasCut x m limit a c }
+    ensures cut_leads { (x : Setup) (m : Moment) (limit : Limit) (a b : List Line) (short : WasCut x m limit a b) → Leads x m short.last }
 {}

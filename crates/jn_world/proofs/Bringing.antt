@@ -1,5 +1,5 @@
 -- A server that is down comes up, as the written machine has it.
-use Rattle.jn_world.proofs.Common.{◌≡◌, ◌≤◌, ◌<◌, ℕ, zero, suc, Bool, true, false, [], ◌∷◌, ◌++◌, get_or, length, length-append, append-nil, append_assoc, slice_set, Some, Ok, Err, true≢false, refl, sym, ◌∙◌, ap, subst, arith, ◌+◌, ◌||◌, if◌then◌else◌, IsErrAnd, count_by, list_any, with_item, fun_ext, ServerNo, Tid, tid_eq, DeviceState, Place, Restarted, Slot, Up, Down, Gone, IsRestart, IsPlace, StandsThere, CountsAt, commits_in, has_line, Counts, Pages, counts_by, Line, Text, When, EpochsUsedUp, pool_on, heads_on, standing_pages, is_free_head, free_count, rubbish_count, view_with, IsServer, state, WentOn, WasCut, HasCounts, Standing, Stands, with_named, pairs_view, StoreView, Ended, Epoch, Memory, World, BroughtUp, texts_so_far, left_to_tell, is_among, newly_named, restart_texts, has_come, standing_of, DoesEvent, DoesTasks, is_going, Setup, Moment, lines_at, Task, ComesUp, when_of, IsRecoverable}
+use Rattle.jn_world.proofs.Common.{◌≡◌, ◌≤◌, ◌<◌, ℕ, zero, suc, Bool, true, false, [], ◌∷◌, ◌++◌, get_or, length, length-append, append-nil, append_assoc, slice_set, Some, Ok, Err, true≢false, refl, sym, ◌∙◌, ap, subst, arith, ◌+◌, ◌||◌, if◌then◌else◌, IsErrAnd, count_by, list_any, with_item, fun_ext, ServerNo, Tid, tid_eq, DeviceState, Place, Restarted, Slot, Up, Down, Gone, IsRestart, IsPlace, StandsThere, CountsAt, commits_in, has_line, Counts, Pages, counts_by, Line, Text, When, EpochsUsedUp, pool_on, heads_on, standing_pages, is_free_head, free_count, rubbish_count, view_with, IsServer, state, WentOn, NoEpochLeft, WasCut, HasCounts, Standing, Stands, with_named, pairs_view, StoreView, Ended, Epoch, Memory, World, BroughtUp, texts_so_far, left_to_tell, is_among, newly_named, restart_texts, has_come, standing_of, DoesEvent, DoesTasks, is_going, Setup, Moment, lines_at, Task, ComesUp, when_of, IsRecoverable}
 use Rattle.std.proofs.Common.{List, drop, slice_get, Result}
 use Rattle.jn_place.specs.declared.place.Restarted.TheVariants as came
 use Rattle.jn_report.specs.declared.line.Text.TheVariants as says
@@ -173,7 +173,7 @@ module _ {S : Type 0} (look : S → StoreView) (device : S → DeviceState) wher
   came-went q w v x m came.Stopped lines later e step few = step.done few
   came-went q w v x m came.UsedUp lines later e step few = absurd (true≢false e)
 
-  came-cut : (q : ServerNo) (w v : Standing S) (x : Setup) (m : Moment) (r : Restarted) (lines later : List Line) → false ≡ has_come r → ComesTo look device x m q w r v lines later → WasCut x m lines lines
+  came-cut : (q : ServerNo) (w v : Standing S) (x : Setup) (m : Moment) (r : Restarted) (lines later : List Line) → false ≡ has_come r → ComesTo look device x m q w r v lines later → WasCut x m (NoEpochLeft q) lines lines
   came-cut q w v x m (came.Up epoch tids) lines later e step = absurd (true≢false (sym e))
   came-cut q w v x m came.Stopped lines later e step = absurd (true≢false (sym e))
   came-cut q w v x m came.UsedUp lines later e step = step

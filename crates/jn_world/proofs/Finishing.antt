@@ -1,5 +1,5 @@
 -- The start and the end of a run, as the written machine has them.
-use Rattle.jn_world.proofs.Common.{◌≡◌, ◌≤◌, ◌<◌, ℕ, zero, suc, ◌+◌, Bool, true, List, [], ◌∷◌, ◌++◌, map, drop, length, append_assoc, append-nil, slice_get, Some, Result, Ok, Err, inl, inr, true≢false, refl, sym, ◌∙◌, ap, subst, arith, set, ◌⊎◌, IsErr, IsErrAnd, ServerNo, DeviceState, AllFiles, Place, PageCounts, Line, AtEvent, End, AnEvent, dismissed-step, IsDisarmed, AreDisarmed, dismissed, BeganEnd, WentOn, WasCut, Standing, Stands, IsFirst, pairs_view, StoreView, Ended, Messages, Epoch, Memory, World, Carried, ClientTable, over, Show, Scrub, AreTheirs, going_down, closing_clients, showing_all, scrubbing_all, turning, thanking, telling, finishing, standing_of, GoesTo, DoesTasks, Starts, AreStoresOf, GivesImage, IsClosed, Closes, is_going, join, Setup, Devices, ending, coming_up, settling, printing, servers_of, Moment, DoesStep, Task, Acts, Begins, GoesDown, ComesUp, ClosesClients, Dismisses, CountsCommits, Stage, InSchedule, AtEnd, when_at, next_at}
+use Rattle.jn_world.proofs.Common.{◌≡◌, ◌≤◌, ◌<◌, ℕ, zero, suc, ◌+◌, Bool, true, List, [], ◌∷◌, ◌++◌, map, drop, length, append_assoc, append-nil, slice_get, Some, Result, Ok, Err, inl, inr, true≢false, refl, sym, ◌∙◌, ap, subst, arith, set, ◌⊎◌, IsErr, IsErrAnd, ServerNo, DeviceState, AllFiles, Place, PageCounts, Line, AtEvent, End, AnEvent, dismissed-step, IsDisarmed, AreDisarmed, dismissed, BeganEnd, WentOn, Limit, NoMessageLeft, NoEpochLeft, WasCut, Standing, Stands, IsFirst, pairs_view, StoreView, Ended, Messages, Epoch, Memory, World, Carried, ClientTable, over, Show, Scrub, AreTheirs, going_down, closing_clients, showing_all, scrubbing_all, turning, thanking, telling, finishing, standing_of, GoesTo, DoesTasks, Starts, AreStoresOf, GivesImage, IsClosed, Closes, is_going, join, Setup, Devices, ending, coming_up, settling, printing, servers_of, Moment, DoesStep, Task, Acts, Begins, GoesDown, ComesUp, ClosesClients, Dismisses, CountsCommits, Stage, InSchedule, AtEnd, when_at, next_at}
 use Rattle.jn_stands.proofs.Starting.{first-stands, closed-stores}
 use Rattle.jn_world.proofs.Calls.{told-then, servers-quiet}
 use Rattle.jn_world.proofs.Numbers.{count_begins, begins-append, settling-begins}
@@ -122,8 +122,16 @@ module _ {S : Type 0} (look : S → StoreView) (device : S → DeviceState) wher
         images = images h.last h.stands;
       }
 
-      cut-by : (b : BeganEnd look device x m (dismissed v.places w) first) → WasCut x b.last first later → WasCut x m first later
-      cut-by b h = record { last = h.last; leads = join Moment (DoesStep x) m b.last h.last b.leads h.leads; stage = h.stage; told = told-then m b.last h.last first first later b.told h.told }
+      cut-by : (b : BeganEnd look device x m (dismissed v.places w) first) (limit : Limit) → WasCut x b.last limit first later → WasCut x m limit first later
+      cut-by b limit h = record {
+        before = h.before;
+        leads = join Moment (DoesStep x) m b.last h.before b.leads h.leads;
+        last = h.last;
+        step = h.step;
+        comes = h.comes;
+        stage = h.stage;
+        told = told-then m b.last h.last first first later b.told h.told;
+      }
 
       pub closes : {B : Type 0} (A : Type 0) (a : A) (items_of : B → List S) (b : B) → AreTheirs u.places (items_of b) → length (items_of b) ≡ length u.places
           → ((last : Moment) → Stands look device x u last → (n : ℕ) (s : S) → slice_get (items_of b) n ≡ Some s → GivesImage x last (record { 0 = n }) (device s)) → Stands look device x w m → m.state.tasks ≡ ending x → m.state.stage ≡ InSchedule
@@ -139,8 +147,8 @@ module _ {S : Type 0} (look : S → StoreView) (device : S → DeviceState) wher
           subst (λ (g : Ended). Closes {S = S} {A = B} device items_of x m (Err g) first later) (sym which) (by e (ends {A = A} (Err e) stands tasks stage disarms is few does))
         where
           by : (e : Ended) → Ends x v u w m {A = A} (Err e) first later → Closes {S = S} {A = B} device items_of x m (Err e) first later
-          by Messages h = cut-by h.began h.then_goes
-          by (Epoch q) h = cut-by h.began h.then_goes
+          by Messages h = cut-by h.began NoMessageLeft h.then_goes
+          by (Epoch q) h = cut-by h.began (NoEpochLeft q) h.then_goes
           by Memory h = tt
 
     pub closes-without : {B : Type 0} (items_of : B → List S) (x : Setup) (m : Moment) (r : Result B Ended) (first later : List Line) → IsErr r → IsErrAnd r (λ f. f ≡ Memory) → Closes device items_of x m r first later

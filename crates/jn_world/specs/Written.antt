@@ -14,7 +14,7 @@ use Rattle.jn_report.specs.declared.line.When.{When}
 use Rattle.jn_report.specs.declared.line.Line.{Line}
 use Rattle.jn_schedule.specs.declared.Event.{Event, Event as AnEvent}
 use Rattle.jn_stands.specs.Stands.{Standing, Stands}
-use Rattle.jn_stands.specs.Going.{WentOn, WasCut, IsTold, ActsNext}
+use Rattle.jn_stands.specs.Going.{NoMessageLeft, NoEpochLeft, WentOn, WasCut, IsTold, ActsNext}
 use Rattle.jn_found.specs.Images.{IsImage}
 use Rattle.jn_rows.specs.Stable.{stable}
 use Rattle.jn_store.specs.Pairs.{pairs_view}
@@ -39,11 +39,11 @@ standing_of w = record {
   trace = w.trace;
 }
 
--- The machine went on to where these tasks are left and the world stands there, or the run was cut short where the call ended so.
+-- The machine went on to where these tasks are left and the world stands there, or the run was cut short there, by the limit that the call's end names.
 abbrev pub GoesTo : {S A : Type 0} → (S → StoreView) → (S → DeviceState) → Setup → Moment → List Task → Result A Ended → Standing S → List Line → List Line → Type 0
 GoesTo look device x m rest (Ok a) w' lines lines' = WentOn look device x m rest w' lines lines'
-GoesTo look device x m rest (Err Messages) w' lines lines' = WasCut x m lines lines'
-GoesTo look device x m rest (Err (Epoch q)) w' lines lines' = WasCut x m lines lines'
+GoesTo look device x m rest (Err Messages) w' lines lines' = WasCut x m NoMessageLeft lines lines'
+GoesTo look device x m rest (Err (Epoch q)) w' lines lines' = WasCut x m (NoEpochLeft q) lines lines'
 GoesTo look device x m rest (Err Memory) w' lines lines' = ⊤
 
 -- A call does this event, in whichever task: from any moment at which the world stands and the next task does the event.
@@ -80,8 +80,8 @@ IsSentTo party (Some m) = m.to ≡ party
 abbrev pub GoesTurn : {S : Type 0} → (S → StoreView) → (S → DeviceState) → Setup → Moment → List Task → Result Bool Ended → Standing S → List Line → List Line → Type 0
 GoesTurn look device x m rest (Ok true) w' lines lines' = WentOn look device x m (Rests ∷ rest) w' lines lines'
 GoesTurn look device x m rest (Ok false) w' lines lines' = WentOn look device x m rest w' lines lines'
-GoesTurn look device x m rest (Err Messages) w' lines lines' = WasCut x m lines lines'
-GoesTurn look device x m rest (Err (Epoch q)) w' lines lines' = WasCut x m lines lines'
+GoesTurn look device x m rest (Err Messages) w' lines lines' = WasCut x m NoMessageLeft lines lines'
+GoesTurn look device x m rest (Err (Epoch q)) w' lines lines' = WasCut x m (NoEpochLeft q) lines lines'
 GoesTurn look device x m rest (Err Memory) w' lines lines' = ⊤
 
 abbrev pub TakesTurn : {S : Type 0} → (S → StoreView) → (S → DeviceState) → When → Standing S → Result Bool Ended → Standing S → List Line → List Line → Type 0
@@ -116,8 +116,8 @@ EndsPart (Err Memory) w' now wanted lines' = ⊤
 -- a world begins as the machine does before a run
 abbrev pub StartsAt : {S : Type 0} → (S → StoreView) → (S → DeviceState) → Setup → List AnEvent → Moment → Result (World S) Ended → List Line → List Line → Type 0
 StartsAt look device x schedule m (Ok w) lines lines' = WentOn look device x m (map (λ (e : AnEvent). Begins e) schedule ++ ending x) (standing_of w) lines lines'
-StartsAt look device x schedule m (Err Messages) lines lines' = WasCut x m lines lines'
-StartsAt look device x schedule m (Err (Epoch q)) lines lines' = WasCut x m lines lines'
+StartsAt look device x schedule m (Err Messages) lines lines' = WasCut x m NoMessageLeft lines lines'
+StartsAt look device x schedule m (Err (Epoch q)) lines lines' = WasCut x m (NoEpochLeft q) lines lines'
 StartsAt look device x schedule m (Err Memory) lines lines' = ⊤
 
 -- these are the stores of its servers
@@ -135,7 +135,7 @@ Starts look device stores trace result lines lines' =
 abbrev pub GivesImage : Setup → Moment → ServerNo → DeviceState → Type 0
 GivesImage x m q d = let y = stable (m.state.course.world.found q) in HasFilesAlone y → IsImage q (x.counts q) y.files (pairs_view d)
 
--- The end was done, and these stores are left, one of each server; or the run was cut short.
+-- The end was done, and these stores are left, one of each server.
 pub record IsClosed {S : Type 0} (device : S → DeviceState) (x : Setup) (m : Moment) (stores : List S) (lines lines' : List Line) : Type 0 where
   pub last : Moment
   pub leads : Leads x m last
@@ -148,6 +148,6 @@ pub record IsClosed {S : Type 0} (device : S → DeviceState) (x : Setup) (m : M
 
 abbrev pub Closes : {S A : Type 0} → (S → DeviceState) → (A → List S) → Setup → Moment → Result A Ended → List Line → List Line → Type 0
 Closes device items_of x m (Ok stores) lines lines' = IsClosed device x m (items_of stores) lines lines'
-Closes device items_of x m (Err Messages) lines lines' = WasCut x m lines lines'
-Closes device items_of x m (Err (Epoch q)) lines lines' = WasCut x m lines lines'
+Closes device items_of x m (Err Messages) lines lines' = WasCut x m NoMessageLeft lines lines'
+Closes device items_of x m (Err (Epoch q)) lines lines' = WasCut x m (NoEpochLeft q) lines lines'
 Closes device items_of x m (Err Memory) lines lines' = ⊤
