@@ -1,5 +1,5 @@
--- A store of zeros with a root, as a new server has it.
-use Rattle.jn_disks.proofs.Common.{◌≡◌, ℕ, zero, suc, ◌+◌, ◌<◌, ◌^◌, ◌||◌, ◌&&◌, ◌≤◌, nat_eq, Bool, true, false, true≢false, if◌then◌else◌, List, [], ◌∷◌, Some, None, drop, replicate, refl, sym, ◌∙◌, ap, subst, arith, option_map, option_and_then, ServerNo, there, blank_page, IsNewStore, IsNewDisk, new_page, no_files, CountsFit, IsFresh, image_fresh, Image, IsSound, Counts, page_count, slot_place, head_place, data_place, is_used, file_in, is_head_of, head_from, block_in, files_of_pages, StoreView, StorePut, IsBlank, IsOnly, StoreLater}
+-- A store of zeros with a root, as a new server has it: its pages fix what a recovery finds there.
+use Rattle.jn_disks.proofs.Common.{◌≡◌, ℕ, zero, suc, ◌+◌, ◌<◌, ◌^◌, ◌||◌, ◌&&◌, ◌≤◌, nat_eq, nat_lt, ◌*◌, ◌-◌, Bool, true, false, true≢false, if◌then◌else◌, List, [], ◌∷◌, Some, None, drop, replicate, refl, sym, ◌∙◌, ap, subst, arith, option_map, option_and_then, ServerNo, there, blank_page, IsNewStore, IsNewDisk, new_page, no_files, CountsFit, IsFresh, IsImage, image_on, counts_of, image_fresh, Image, IsSound, Counts, page_count, slot_place, head_place, data_place, is_used, file_in, is_head_of, head_from, block_in, files_of_pages, StoreView, StorePut, IsBlank, IsOnly, StoreLater, nat_tests, place_in}
 use Rattle.std.proofs.Math.Path.{fun_ext}
 use Rattle.jn_base.specs.declared.device.Outside.{Outside}
 use Rattle.jn_base.specs.declared.names.FileNo.{FileNo}
@@ -33,7 +33,106 @@ blank_tail : drop 448 blank_page ≡ replicate 64 0
 unfolding blank_page
 blank_tail = refl
 
--- ---- the image
+-- ---- what a store like that of a new server is
+
+below : (a b : ℕ) → a < b → nat_lt a b ≡ true
+below a b h = grind (arith, nat_tests)
+
+past : (a b : ℕ) → nat_lt (a + b) b ≡ false
+past a b = grind (arith, nat_tests)
+
+back : (a b : ℕ) → a + b - b ≡ a
+back a b = omega arith
+
+behind : (root : Root) (p : ℕ) → 0 < p → new_page root p ≡ blank_page
+behind root p least = ap (λ b. if b then root_page root else blank_page) (not_first p least)
+  where
+    not_first : (a : ℕ) → 0 < a → nat_eq a 0 ≡ false
+    not_first a l = grind (arith, nat_tests, l)
+
+module _ (root : Root) (epoch_fits : root.epoch < 2 ^ 32) (fit : CountsFit root.server (counts_of root)) (v : StoreView) (new : IsNewStore root v) where
+  abbrev g : Counts
+  g = counts_of root
+
+  abbrev image : Image
+  image = image_on root.server (counts_of root) v
+
+  inside : (p : ℕ) → p < page_count (counts_of root) → p < v.count
+  inside p lt = subst (λ (n : ℕ). p < n) (sym new.count) lt
+
+  -- both halves are what is kept there
+  first : (p : ℕ) → p < page_count (counts_of root) → image.bytes p ≡ new_page root p
+  first p lt = ap (λ b. if b then v.first p else v.second (p - v.count)) (below p v.count (inside p lt)) ∙ (new.pages p (inside p lt)).first
+
+  second : (p : ℕ) → p < page_count (counts_of root) → image.bytes (p + page_count (counts_of root)) ≡ new_page root p
+  second p lt = ap (λ (n : ℕ). image.bytes (p + n)) (sym new.count)
+      ∙ ap (λ b. if b then v.first (p + v.count) else v.second (p + v.count - v.count)) (past p v.count)
+      ∙ ap v.second (back p v.count) ∙ (new.pages p (inside p lt)).second
+
+  good : (p : ℕ) → p < 2 * page_count (counts_of root) → v.both (place_in v.count p) ≡ true
+  good p lt = by (nat_lt p v.count) refl
+    where
+      within : (a n : ℕ) → nat_lt a n ≡ true → a < n
+      within a n e = grind (arith, nat_tests, e)
+
+      beyond : (a n k : ℕ) → nat_lt a n ≡ false → n ≡ k → a < 2 * k → a - n < n
+      beyond a n k e s l = grind (arith, nat_tests, e, s, l)
+
+      by : (b : Bool) → nat_lt p v.count ≡ b → v.both (if b then p else p - v.count) ≡ true
+      by true e = (new.untouched.whole p (within p v.count e)).both
+      by false e = (new.untouched.whole (p - v.count) (beyond p v.count (page_count (counts_of root)) e new.count lt)).both
+
+  blank : (p : ℕ) → 0 < p → p < page_count (counts_of root) → image.bytes p ≡ blank_page
+  blank p least lt = first p lt ∙ behind root p least
+
+  unused : (i : ℕ) → i < root.heads → is_used (image.bytes (head_place (counts_of root) i)) ≡ true → ⊥
+  unused i lt used = true≢false (sym used ∙ ap is_used (blank (head_place (counts_of root) i) (omega arith) (omega (arith, lt))) ∙ blank_unused)
+
+  sound : IsSound root.server (image_on root.server (counts_of root) v)
+  sound = record {
+    server = refl;
+    root = (root.epoch, epoch_fits, first 0 (omega arith));
+    good = good;
+    pairs = λ i lt. first i lt ∙ sym (second i lt);
+    pool = λ i lt. blank (slot_place (counts_of root) i) (omega arith) (omega (arith, lt)) ∙ blank_record;
+    files = λ f i j lt less here there used e. absurd (unused i lt used);
+    heads = λ i lt. (FreeHead, record { whole = refl; within_leaves = refl }, tt, blank (head_place (counts_of root) i) (omega arith) (omega (arith, lt)) ∙ blank_head);
+    addresses = λ a least i j p q at other. absurd (unused i at.head at.used);
+    tails = λ i lt. ap (drop 448) (blank (data_place (counts_of root) i) (omega arith) (omega (arith, lt))) ∙ blank_tail;
+  }
+
+  unused_page : (f : FileNo) (i : ℕ) → i < root.heads → is_head_of f (image.bytes (head_place (counts_of root) i)) ≡ false
+  unused_page f i lt = by (is_used (image.bytes (head_place (counts_of root) i))) refl
+    where
+      by : (b : Bool) → is_used (image.bytes (head_place (counts_of root) i)) ≡ b → (b && nat_eq (file_in (image.bytes (head_place (counts_of root) i))) f.0) ≡ false
+      by false e = refl
+      by true e = absurd (unused i lt e)
+
+  no_head : (f : FileNo) (i n : ℕ) → i + n ≤ root.heads → head_from (counts_of root) image.bytes f i n ≡ None
+  no_head f i zero fits = refl
+  no_head f i (suc n) fits = ap (λ b. if b then Some (image.bytes (head_place (counts_of root) i)) else head_from (counts_of root) image.bytes f (i + 1) n) (unused_page f i (omega (arith, fits))) ∙ no_head f (i + 1) n (omega (arith, fits))
+
+  files_none : files_of_pages (counts_of root) image.bytes ≡ no_files
+  files_none = fun_ext (λ u. at u)
+    where
+      at : (u : LockUnit) → files_of_pages (counts_of root) image.bytes u ≡ None
+      at (File f) = ap (λ o. option_map (λ head. there) o) (no_head f 0 root.heads (omega arith))
+      at (Block f p) = ap (λ o. option_and_then (block_in (counts_of root) image.bytes p) o) (no_head f 0 root.heads (omega arith))
+
+  pub is_image : IsImage root.server (counts_of root) no_files v
+  is_image = record { sound = sound; fit = fit; same_files = files_none }
+
+  only : (i : ℕ) → i < page_count (counts_of root) → IsOnly v i (image.bytes i)
+  only i lt = subst (λ page. IsOnly v i page) (sym (first i lt)) (new.pages i (inside i lt))
+
+  pub is_new_disk : IsNewDisk root v
+  is_new_disk = record {
+    store = new;
+    fresh = subst (λ f. IsFresh root.server (counts_of root) root.epoch f v) files_none
+        (image_fresh root.server image v sound fit (record { count = sym new.count; pages = only }) root.epoch epoch_fits (first 0 (omega arith)));
+  }
+
+-- ---- a put of the root
 
 -- calls keep how many pages a store's device has
 pub same_device : (v w : StoreView) → StoreLater v w → w.device.count ≡ v.device.count
@@ -43,104 +142,32 @@ none_told : (told : List Outside) → count_told (λ k. true) told ≤ 0 → tol
 none_told [] few = refl
 none_told (o ∷ os) few = absurd (omega (arith, few))
 
-module _ (server : ServerNo) (g : Counts) (epoch : ℕ) (epoch_fits : epoch < 2 ^ 32) where
-  abbrev pub root : Root
-  root = record { server = server; pool = g.pool; heads = g.heads; leaves = g.leaves; epoch = epoch }
+module _ (root : Root) (v w : StoreView) (blank : IsBlank (page_count (counts_of root)) v) (put : StorePut v 0 (root_page root) true w) where
+  count : w.count ≡ page_count (counts_of root)
+  count = put.later.count ∙ blank.count_is
 
-  abbrev is_root : ℕ → Bool
-  is_root p = nat_eq p 0 || nat_eq p (page_count g)
+  within : (i : ℕ) → i < w.count → i < page_count (counts_of root)
+  within i lt = subst (λ (n : ℕ). i < n) count lt
 
-  abbrev bytes : ℕ → List ℕ
-  bytes p = if is_root p then root_page root else blank_page
+  pages : (i : ℕ) → i < page_count (counts_of root) → IsOnly w i (new_page root i)
+  pages zero lt = put.done refl
+  pages (suc i) lt =
+      let same = put.others (suc i) (omega (arith, lt, blank.count_is)) (λ e. absurd (cc e)) in
+      let was = blank.pages (suc i) lt in
+      let is = sym (behind root (suc i) (omega arith)) in
+      record { first = same.first ∙ was.first ∙ is; second = same.second ∙ was.second ∙ is }
 
-  abbrev image : Image
-  image = record { server = server; counts = g; good = λ p. true; bytes = bytes }
-
-  behind : (p : ℕ) → 0 < p → p < page_count g → bytes p ≡ blank_page
-  behind p least lt = at (is_root p) (grind (arith, least, lt))
-    where
-      at : (b : Bool) → b ≡ false → (if b then root_page root else blank_page) ≡ blank_page
-      at b e = rw e refl
-
-  unused : (i : ℕ) → i < g.heads → is_used (bytes (head_place g i)) ≡ true → ⊥
-  unused i lt used = true≢false (sym used ∙ ap is_used (behind (head_place g i) (omega arith) (omega (arith, lt))) ∙ blank_unused)
-
-  halves : (i : ℕ) → i < page_count g → bytes i ≡ bytes (i + page_count g)
-  halves i lt = ap (λ b. if b then root_page root else blank_page) (same i lt)
-    where
-      same : (i : ℕ) → i < page_count g → is_root i ≡ is_root (i + page_count g)
-      same i lt = grind (arith, lt)
-
-  sound : IsSound server image
-  sound = record {
-    server = refl;
-    root = (epoch, epoch_fits, refl);
-    good = λ p lt. refl;
-    pairs = halves;
-    pool = λ i lt. behind (slot_place g i) (omega arith) (omega (arith, lt)) ∙ blank_record;
-    files = λ f i j lt less here there used e. absurd (unused i lt used);
-    heads = λ i lt. (FreeHead, record { whole = refl; within_leaves = refl }, tt, behind (head_place g i) (omega arith) (omega (arith, lt)) ∙ blank_head);
-    addresses = λ a least i j p q at other. absurd (unused i at.head at.used);
-    tails = λ i lt. ap (drop 448) (behind (data_place g i) (omega arith) (omega (arith, lt))) ∙ blank_tail;
+  new_store : IsNewStore root w
+  new_store = record {
+    count = count;
+    pages = λ i lt. pages i (within i lt);
+    untouched = record {
+      calm = put.later.calm blank.calm;
+      told = none_told w.told (let spent = put.later.spends.told_of (λ k. true) in
+          let one = ap (count_kind (λ k. true)) blank.calm.quiet in let two = ap (count_told (λ k. true)) blank.told in omega (arith, spent, one, two));
+      whole = λ i lt. put.later.whole blank.calm i (subst (λ (n : ℕ). i < n) (sym blank.count_is) (within i lt)) (blank.whole i (within i lt));
+    };
   }
 
-  unused_page : (f : FileNo) (i : ℕ) → i < g.heads → is_head_of f (bytes (head_place g i)) ≡ false
-  unused_page f i lt = by (is_used (bytes (head_place g i))) refl
-    where
-      by : (b : Bool) → is_used (bytes (head_place g i)) ≡ b → (b && nat_eq (file_in (bytes (head_place g i))) f.0) ≡ false
-      by false e = refl
-      by true e = absurd (unused i lt e)
-
-  no_head : (f : FileNo) (i n : ℕ) → i + n ≤ g.heads → head_from g bytes f i n ≡ None
-  no_head f i zero fits = refl
-  no_head f i (suc n) fits = ap (λ b. if b then Some (bytes (head_place g i)) else head_from g bytes f (i + 1) n) (unused_page f i (omega (arith, fits))) ∙ no_head f (i + 1) n (omega (arith, fits))
-
-  files_none : files_of_pages g bytes ≡ no_files
-  files_none = fun_ext (λ u. at u)
-    where
-      at : (u : LockUnit) → files_of_pages g bytes u ≡ None
-      at (File f) = ap (λ o. option_map (λ head. there) o) (no_head f 0 g.heads (omega arith))
-      at (Block f p) = ap (λ o. option_and_then (block_in g bytes p) o) (no_head f 0 g.heads (omega arith))
-
-  module _ (fit : CountsFit server g) (v w : StoreView) (blank : IsBlank (page_count g) v) (put : StorePut v 0 (root_page root) true w) where
-    only : (i : ℕ) → i < page_count g → IsOnly w i (bytes i)
-    only zero lt = put.done refl
-    only (suc i) lt =
-        let same = put.others (suc i) (omega (arith, lt, blank.count_is)) (λ e. absurd (cc e)) in
-        let was = blank.pages (suc i) lt in
-        let is = behind (suc i) (omega arith) lt in
-        record { first = same.first ∙ was.first ∙ sym is; second = same.second ∙ was.second ∙ sym is }
-
-    found : IsFresh server g epoch no_files w
-    found = subst (λ f. IsFresh server g epoch f w) files_none
-        (image_fresh server image w sound fit (record { count = sym (put.later.count ∙ blank.count_is); pages = only }) epoch epoch_fits refl)
-
-    count : w.count ≡ page_count g
-    count = put.later.count ∙ blank.count_is
-
-    behind_root : (i : ℕ) → i < page_count g → bytes i ≡ new_page root i
-    behind_root i lt = ap (λ b. if b then root_page root else blank_page) (same i lt)
-      where
-        same : (i : ℕ) → i < page_count g → is_root i ≡ nat_eq i 0
-        same i lt = grind (arith, lt)
-
-    new_pages : (i : ℕ) → i < w.count → IsOnly w i (new_page root i)
-    new_pages i lt =
-        let at : i < page_count g = subst (λ n. i < n) count lt in
-        subst (λ page. IsOnly w i page) (behind_root i at) (only i at)
-
-    new_store : IsNewStore root w
-    new_store = record {
-      count = count;
-      pages = new_pages;
-      untouched = record {
-        calm = put.later.calm blank.calm;
-        told = none_told w.told (let spent = put.later.spends.told_of (λ k. true) in
-            let one = ap (count_kind (λ k. true)) blank.calm.quiet in let two = ap (count_told (λ k. true)) blank.told in omega (arith, spent, one, two));
-        whole = λ i lt. let at : i < page_count g = subst (λ n. i < n) (put.later.count ∙ blank.count_is) lt in
-            put.later.whole blank.calm i (subst (λ n. i < n) (sym blank.count_is) at) (blank.whole i at);
-      };
-    }
-
-    pub new_is : IsNewDisk root w
-    new_is = record { store = new_store; fresh = found }
+  pub new_is : root.epoch < 2 ^ 32 → CountsFit root.server (counts_of root) → IsNewDisk root w
+  new_is epoch_fits fit = is_new_disk root epoch_fits fit w new_store

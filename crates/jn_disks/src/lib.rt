@@ -1,15 +1,16 @@
 //! A server's store in memory: a new one, one of the pages of a server that was closed, and the pages of a store.
 #![tactic(auto)]
 
-ghost use Rattle.std.specs.Prelude.{◌≡◌, ◌≤◌, ◌+◌, ℕ, IfOk};
+ghost use Rattle.std.specs.Prelude.{◌≡◌, ◌≤◌, ◌<◌, ◌+◌, ◌^◌, ℕ, IfOk};
 ghost use Rattle.jn_base.specs.declared.names.ServerNo.{ServerNo};
-ghost use Rattle.jn_disks.specs.Disks.{IsNewDisk, HasNewDevice, AreSound, HasPages, IsStoreOfPages, files_in};
-ghost use Rattle.jn_found.specs.Images.{IsImage};
+ghost use Rattle.jn_disks.specs.Disks.{IsNewStore, IsNewDisk, HasNewDevice, AreSound, HasPages, IsStoreOfPages, no_files, files_in};
+ghost use Rattle.jn_found.specs.Images.{CountsFit, IsImage};
 ghost use Rattle.jn_memdisk.specs.Disk.{IsNew};
 ghost use Rattle.jn_order.specs.Files.{Files};
-ghost use Rattle.jn_records.specs.StablePages.{Counts, page_count};
+ghost use Rattle.jn_records.specs.declared.root.Root.{Root as RootOf};
+ghost use Rattle.jn_records.specs.StablePages.{Counts, counts_of, page_count};
 ghost use Rattle.jn_store.specs.DeviceCalls.{put_calls};
-ghost use Rattle.jn_store.specs.Store.{IsBlank};
+ghost use Rattle.jn_store.specs.Store.{StoreView, IsBlank};
 
 use jn_device::Half;
 use jn_memdisk::MemDisk;
@@ -28,6 +29,13 @@ pub fn new_store(alloc: Global, root: Root) -> Result<Pairs<MemDisk>, AllocError
     put_root(&mut store, root);
     Ok(store)
 }
+
+/// A new store is fixed by its pages. A recovery may begin there and finds the root's epoch alone, and the pages are a sound image
+/// without files.
+pub fn a_new_store_is_a_new_disk()
+    ensures disk { (root : RootOf) (v : StoreView) → root.epoch < 2 ^ 32 → CountsFit root.server (counts_of root) → IsNewStore root v → IsNewDisk root v }
+    ensures image { (root : RootOf) (v : StoreView) → root.epoch < 2 ^ 32 → CountsFit root.server (counts_of root) → IsNewStore root v → IsImage root.server (counts_of root) no_files v }
+{}
 
 /// Puts the root of a new server to a store of zeros.
 pub fn put_root<S: StableStore>(store: &mut S, root: Root)

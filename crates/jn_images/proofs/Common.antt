@@ -1,17 +1,15 @@
 -- The names from below that these proofs cite, passed on from one place. Declares nothing.
-pub use Rattle.std.proofs.Common.{◌≡◌, ℕ, List, Option, Some, None, sym, ◌∙◌, ap, subst, refl, ◌≢◌, zero, suc, ◌+◌, ◌<◌, ◌≤◌, Bool, true, false, [], ◌∷◌, length, slice_get, Result, Err, arith, true≢false, ◌++◌, Vec, ◌*◌, ◌-◌, ◌^◌, if◌then◌else◌, drop, replicate}
+pub use Rattle.std.proofs.Common.{◌≡◌, ℕ, List, Option, Some, None, sym, ◌∙◌, ap, subst, refl, ◌≢◌, zero, suc, ◌+◌, ◌<◌, ◌≤◌, Bool, true, false, [], ◌∷◌, length, slice_get, Result, Err, arith, true≢false, ◌++◌, Vec}
 pub use Rattle.jn_device.specs.Device.{DeviceState}
-unfoldable pub use Rattle.jn_device.specs.Device.{blank_page}
 pub use Rattle.jn_store.specs.Store.{StoreView}
 pub use Rattle.jn_image.specs.declared.image.Image.{Image}
 pub use Rattle.jn_image.specs.Form.{image_bytes, HasForm, PagesFit, image_counts}
 pub use Rattle.std.proofs.lemmas.Bool.Decides.{nat_tests}
-pub use Rattle.std.specs.Prelude.{nat_lt, is_some, is_ok, get_or, codes, decimal, nat_eq}
+pub use Rattle.std.specs.Prelude.{nat_lt, is_some, is_ok, get_or, codes, decimal}
 pub use Rattle.jn_base.specs.declared.names.ServerNo.{ServerNo}
 pub use Rattle.jn_host.specs.Outside.{Contents, KeeperSaved, kept_at, Rose, found_bytes}
 pub use Rattle.jn_device.specs.declared.Half.{Half}
-pub use Rattle.jn_disks.specs.Disks.{AreSound, HasPages, IsNewStore, new_page, IsStoreOfPages}
-pub use Rattle.jn_records.specs.StablePages.{Counts, counts_of, page_count, slot_place, head_place, data_place, is_used, files_of_pages}
+pub use Rattle.jn_disks.specs.Disks.{AreSound, HasPages, IsStoreOfPages}
 pub use Rattle.jn_recovery.specs.Counts.{counts_by}
 pub use Rattle.jn_recovery.specs.declared.counts.PageCounts.{PageCounts}
 pub use Rattle.jn_images.specs.Kept.{Has, IsKept, IsSoundImage, image_name}

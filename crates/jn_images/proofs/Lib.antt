@@ -4,5 +4,4 @@ pub mod Loaded
 pub mod Kept
 pub mod Stores
 pub mod Disks
-pub mod NewDisks
 pub mod Exclusive
