@@ -1,6 +1,5 @@
 -- A message is told as ignored only where it is stale.
-use Rattle.jn_laws.proofs.Common.{◌≡◌, ℕ, Bool, true, false, List, [], ◌∷◌, ◌++◌, Option, Some, None, refl, sym, ◌∙◌, ap, ◌||◌, if◌then◌else◌, list_any, ServerNo, Tid, WorkId, Party, Client, Server, client_eq, Message, Text, Taken, RowOutcome, ignored, stable, ClientTable, take_row, if_waits, begun_row, opened_row, outcome_row, decided_row, is_current, CoordinatorTable, WorkerTable, WorkStorage, Wanted, break_notes, note_of, breaks_at, commit_wants, Memory, storage_of, of_worker, of_coordinator, lines_of, CoordinatorCase, is_ignored_by, coordinator-case, Setup, is_answer, Moment, tells_ignored, room_on, of_server, of_taken, its_answer, IsStale}
-use Rattle.jn_base.specs.declared.names.LockUnit.{LockUnit}
+use Rattle.jn_laws.proofs.Common.{◌≡◌, ℕ, Bool, true, false, List, [], ◌∷◌, ◌++◌, Option, Some, None, refl, sym, ◌∙◌, ap, ◌||◌, if◌then◌else◌, list_any, ServerNo, Tid, WorkId, Party, Client, Server, client_eq, Message, Text, Taken, RowOutcome, ignored, stable, ClientTable, take_row, if_waits, begun_row, opened_row, outcome_row, decided_row, is_current, CoordinatorTable, WorkerTable, WorkStorage, Wanted, break_notes, note_of, breaks_at, commit_wants, Memory, storage_of, of_worker, of_coordinator, lines_of, CoordinatorCase, is_ignored_by, coordinator-case, Setup, is_answer, Moment, tells_ignored, room_on, of_server, of_taken, its_answer, IsStale, LockUnit, its_wants, WorkerCase, none_done, performs_next, prepares_it, worker-case}
 use Rattle.jn_msgs.specs.declared.message.Message.TheVariants as messages
 use Rattle.jn_msgs.specs.declared.message.Outcome.{Outcome}
 use Rattle.jn_msgs.specs.declared.message.Outcome.TheVariants.{Committed, Aborted, Waiting, NotKnown}
@@ -9,7 +8,6 @@ use Rattle.jn_report.specs.declared.line.Text.TheVariants as says
 use Rattle.jn_rows.specs.declared.client.Outstanding.{Outstanding}
 use Rattle.jn_rows.specs.declared.client.Taken.TheVariants as taken
 use Rattle.jn_system.proofs.WholeSystem.ServerRows.{row-either}
-use Rattle.jn_system.proofs.WholeSystem.WorkerCases.{its_wants, WorkerCase, none_done, performs_next, prepares_it, worker-case}
 use Rattle.jn_written.proofs.Telling.{Tells, take-tells}
 
 off : false ≡ true → ⊥

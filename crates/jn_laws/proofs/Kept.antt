@@ -1,8 +1,6 @@
 -- What is found of works, from one moment of a run to a later one.
-use Rattle.jn_laws.proofs.Common.{◌≡◌, ◌⊎◌, inl, inr, ℕ, ◌≤◌, Bool, true, false, List, [], ◌∷◌, ◌++◌, Option, Some, None, is_some, refl, sym, ◌∙◌, ap, subst, ◌||◌, not, map, if◌then◌else◌, nat_lt, list_all, AllByRecursion, ServerNo, WorkId, AllFiles, Event, EventInRange, Text, StableState, Prepared, Pick, work_at, World, Memory, new_memory, opening, Step, NextEvent, after, run, IsRun, always, Setup, Devices, is_up, Moment, Leads, none, IsWritten}
-use Rattle.jn_rows.specs.declared.worker.Work.{Work}
+use Rattle.jn_laws.proofs.Common.{◌≡◌, ◌⊎◌, inl, inr, ℕ, ◌≤◌, Bool, true, false, List, [], ◌∷◌, ◌++◌, Option, Some, None, is_some, refl, sym, ◌∙◌, ap, subst, ◌||◌, not, map, if◌then◌else◌, nat_lt, list_all, AllByRecursion, ServerNo, WorkId, AllFiles, Event, EventInRange, Text, StableState, Prepared, Pick, work_at, World, Memory, new_memory, opening, Step, NextEvent, after, run, IsRun, always, Setup, Devices, is_up, Moment, Leads, none, IsWritten, Work, ActiveWork}
 use Rattle.jn_schedule.specs.declared.Event.TheVariants as events
-use Rattle.jn_rows.specs.declared.worker.ActiveWork.{ActiveWork}
 use Rattle.jn_system_reports.specs.BetweenSteps.Sent.{HasCommitLine}
 use Rattle.jn_system_reports.specs.BetweenSteps.Works.{IsPrepared, IsCarriedOut, IsActive}
 use Rattle.jn_system_reports.specs.Reporting.Reported.{steps_of, world_of}

@@ -1,8 +1,7 @@
 -- The vote that is the last Ready of its transaction commits it.
-use Rattle.jn_laws.proofs.Common.{◌≡◌, ◌≢◌, ◌⊎◌, inl, inr, ℕ, Bool, true, false, List, [], ◌∷◌, ◌++◌, Option, Some, refl, sym, ◌∙◌, ap, subst, arith, ◌||◌, ◌&&◌, if◌then◌else◌, ServerNo, Tid, WorkId, Server, work_eq, work_tells, RowOutcome, ignored, quiet, CoordinatorTable, is_work, all_in, with_work, vote_row, vote_stage, counted_vote, commit_row, staged, Memory, of_coordinator, transaction-named, Setup, Moment, DoesStep, CutShort, HandsOver, Answer, of_row, of_server, its_answer, IsGiven, IsStopped, IsVoting, IsLast, commits_with}
+use Rattle.jn_laws.proofs.Common.{◌≡◌, ◌≢◌, ◌⊎◌, inl, inr, ℕ, Bool, true, false, List, [], ◌∷◌, ◌++◌, Option, Some, refl, sym, ◌∙◌, ap, subst, arith, ◌||◌, ◌&&◌, if◌then◌else◌, ServerNo, Tid, WorkId, Server, work_eq, work_tells, RowOutcome, ignored, quiet, CoordinatorTable, is_work, all_in, with_work, vote_row, vote_stage, counted_vote, commit_row, staged, Memory, of_coordinator, transaction-named, Setup, Moment, DoesStep, CutShort, HandsOver, Answer, of_row, of_server, its_answer, IsGiven, IsStopped, IsVoting, IsLast, commits_with, Transaction}
 use Rattle.jn_msgs.specs.declared.message.Message.TheVariants.{Vote}
 use Rattle.jn_msgs.specs.declared.message.Vote.TheVariants.{Ready}
-use Rattle.jn_rows.specs.declared.coordinator.Transaction.{Transaction}
 use Rattle.jn_rows.specs.declared.coordinator.Stage.{Stage}
 use Rattle.jn_rows.specs.declared.coordinator.Stage.TheVariants.{Voting}
 use Rattle.jn_rows.specs.declared.coordinator.Voting.{Voting as Ballot}

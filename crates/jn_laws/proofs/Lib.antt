@@ -6,4 +6,6 @@ pub mod Last
 pub mod Example
 pub mod Kept
 pub mod Reaching
+pub mod Ranged
+pub mod Printed
 pub mod ReadBack

@@ -1,4 +1,5 @@
 pub mod Handing
 pub mod Example
+pub mod Shows
 pub mod Works
 pub mod Worlds

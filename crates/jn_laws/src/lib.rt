@@ -1,8 +1,10 @@
 //! Laws that go over several crates below. Those of every run: a message has its answer in the event that hands it over, works of commits keep what
-//! they have read, and a world of servers is at the moment to which its events lead. And one of texts: what a report spells is read where a schedule says it.
+//! they have read, no block from 120 on is printed, and a world of servers is at the moment to which its events lead. And one of texts: what a report
+//! spells is read where a schedule says it.
 #![tactic(auto)]
 
 mod messages;
+mod shows;
 mod texts;
 mod works;
 mod worlds;
@@ -11,6 +13,7 @@ pub use messages::{
     a_last_ready_comes, a_message_has_its_answer_in_its_event, only_stale_messages_are_ignored,
     the_last_ready_names_its_commit,
 };
+pub use shows::{a_show_prints_the_blocks_of_its_files, printed_blocks_are_in_range};
 pub use texts::hex_is_read_back;
 pub use works::works_of_commits_keep_their_reads;
 pub use worlds::a_world_is_at_the_moment_of_its_events;
