@@ -13,18 +13,6 @@ Agree count c d = (i : ℕ) → i < count → c i ≡ d i
 abbrev pub with_page : (ℕ → List ℕ) → ℕ → List ℕ → ℕ → List ℕ
 with_page c i page j = if nat_eq i j then page else c j
 
--- a change of contents that reads no more than the first pages
-abbrev pub Respects : ℕ → ((ℕ → List ℕ) → ℕ → List ℕ) → Type 0
-Respects count change = (c d : ℕ → List ℕ) → Agree count c d → Agree count (change c) (change d)
-
 -- contents d are those of a choice, under this change
 abbrev pub Leads : StoreView → ((ℕ → List ℕ) → ℕ → List ℕ) → (ℕ → List ℕ) → Type 0
 Leads v change d = (c : ℕ → List ℕ) × IsChoice v c × Agree v.count d (change c)
-
--- whatever choice is read
-abbrev pub Everywhere : StoreView → ((ℕ → List ℕ) → Type 0) → Type 0
-Everywhere v P = (d : ℕ → List ℕ) → IsChoice v d → P d
-
--- P reads no more than the first pages
-abbrev pub Reads : ℕ → ((ℕ → List ℕ) → Type 0) → Type 0
-Reads count P = (c d : ℕ → List ℕ) → Agree count c d → P c → P d

@@ -26,7 +26,7 @@ pub use Rattle.jn_server.specs.Standing.{standing_pages, is_free_head}
 pub use Rattle.jn_sets.specs.Pool.{free_count, rubbish_count}
 pub use Rattle.jn_server.specs.Seen.{view_with, IsServer, Parts, memory_of, room_of}
 pub use Rattle.jn_storage.specs.Calls.{state}
-pub use Rattle.jn_stands.specs.Going.{Limit, NoMessageLeft, NoEpochLeft, WentOn, WasCut, IsTold, IsStepTo}
+pub use Rattle.jn_stands.specs.Going.{WentOn, NoEpochLeft, WasCut, IsTold, Limit, NoMessageLeft, IsStepTo}
 pub use Rattle.jn_stands.specs.Pages.{HasCounts, ReadsPages, IsIdleAt}
 pub use Rattle.jn_stands.specs.Stands.{Standing, Stands, with_named, StandsAt, PlaceStands, with_answer, texts_sent, posted_by, is_client_number, with_sent}
 pub use Rattle.jn_store.specs.Pairs.{pairs_view}
