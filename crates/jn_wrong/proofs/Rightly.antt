@@ -1,6 +1,29 @@
 -- The right reports of schedules with faults of which wrong ones are refuted, computed.
-use Rattle.jn_wrong.proofs.Common.{◌≡◌, ℕ, [], ◌∷◌, refl, arms_first, arms_in_order, arms_null, null_told, calm, calmly, at_step, stopped, report, stop_met, outside_in_order}
+use Rattle.jn_wrong.proofs.Common.{◌≡◌, ℕ, false, [], ◌∷◌, refl, arms_first, arms_in_order, arms_null, null_told, calm, calmly, at_step, stopped, report, stop_met, outside_in_order, quiet_report, decays_once, decays_both, both_report, decays_behind_scrub, decays_with_power, forgiven_report, decays_behind_restart, restarted_report, arms_two, arms_far}
 use Rattle.jn_base.specs.declared.device.FaultKind.TheVariants as faults
+use Rattle.jn_written.specs.Chances.{Allows}
+use Rattle.jn_wrong.specs.Faults.{Computes}
+
+pub once-computed : Computes calmly decays_once quiet_report
+once-computed = record { lines_are = refl; stage = refl; tasks = refl }
+
+pub both-computed : Computes (at_step 4 (record calm { found = Allows false }) calmly) decays_both both_report
+both-computed = record { lines_are = refl; stage = refl; tasks = refl }
+
+pub scrubbed-computed : Computes calmly decays_behind_scrub quiet_report
+scrubbed-computed = record { lines_are = refl; stage = refl; tasks = refl }
+
+pub power-computed : Computes calmly decays_with_power forgiven_report
+power-computed = record { lines_are = refl; stage = refl; tasks = refl }
+
+pub restarted-computed : Computes calmly decays_behind_restart restarted_report
+restarted-computed = record { lines_are = refl; stage = refl; tasks = refl }
+
+pub two-computed : Computes calmly arms_two quiet_report
+two-computed = record { lines_are = refl; stage = refl; tasks = refl }
+
+pub far-computed : Computes calmly arms_far quiet_report
+far-computed = record { lines_are = refl; stage = refl; tasks = refl }
 
 pub met-stop : report 1 (at_step 6 (stopped (λ c. 0)) calmly) 60 arms_first ≡ stop_met
 met-stop = refl

@@ -8,9 +8,11 @@ use Rattle.jn_report.specs.declared.line.EventRefusal.TheVariants.{TooManyArmed}
 use Rattle.jn_report.specs.declared.line.Text.TheVariants as says
 use Rattle.jn_report.specs.declared.line.Line.{Line}
 use Rattle.jn_system_settling.specs.Settling.Rows.{s0}
+use Rattle.jn_written.specs.Chances.{Chance}
+use Rattle.jn_written.specs.Tasks.{AtEnd, State}
 use Rattle.jn_written.specs.Devices.{Devices}
 use Rattle.jn_written.specs.Whole.{IsWhole}
-use Rattle.jn_written.specs.Examples.{setup, line, at_end}
+use Rattle.jn_written.specs.Examples.{setup, last_of, line, at_end}
 use Rattle.jn_wrong.specs.Still.{AreNew}
 use Rattle.jn_wrong.specs.Wrong.{the_end}
 
@@ -27,6 +29,12 @@ IsOnlyOfGood schedule report = (images closing : Devices) (lines : List Line) �
 -- and none tells these
 abbrev pub IsNoneOfGood : List Event → List Line → Type 0
 IsNoneOfGood schedule wrong = (images closing : Devices) → AreNew (setup 1) images → AreGood images → IsWhole (setup 1) schedule images closing wrong → ⊥
+
+-- with these chances, sixty steps at most are a run to its end, and these are its lines
+pub record Computes (chances : ℕ → State → Chance) (schedule : List Event) (report : List Line) : Type 0 where
+  pub lines_are : (last_of 1 chances 60 schedule).lines ≡ report
+  pub stage : (last_of 1 chances 60 schedule).stage ≡ AtEnd
+  pub tasks : (last_of 1 chances 60 schedule).tasks ≡ []
 
 abbrev up : Line
 up = line 0 (says.Up s0 1)

@@ -3,8 +3,9 @@
 ghost use Rattle.std.specs.Prelude.{◌≡◌, ◌≢◌, ℕ, nat_lt, false, [], ◌∷◌};
 ghost use Rattle.jn_base.specs.declared.device.FaultKind.{FaultKind};
 ghost use Rattle.jn_base.specs.declared.device.FaultKind.TheVariants.{Null, Bad};
+ghost use Rattle.jn_written.specs.Chances.{Allows};
 ghost use Rattle.jn_written.specs.Examples.{calm, calmly, at_step, stopped, report};
-ghost use Rattle.jn_wrong.specs.Faults.{IsOnlyOfGood, IsNoneOfGood, quiet_report, decays_once, first_decay_told, decays_both, both_report, decays_behind_scrub, nothing_mended, decays_with_power, forgiven_report, nothing_forgiven, decays_behind_restart, restarted_report, left_unmended, arms_two, armed_too_many, arms_far, show_stopped, arms_first, stop_met, stop_passed_by, arms_in_order, outside_in_order, outside_swapped, arms_null, null_told};
+ghost use Rattle.jn_wrong.specs.Faults.{IsOnlyOfGood, IsNoneOfGood, Computes, quiet_report, decays_once, first_decay_told, decays_both, both_report, decays_behind_scrub, nothing_mended, decays_with_power, forgiven_report, nothing_forgiven, decays_behind_restart, restarted_report, left_unmended, arms_two, armed_too_many, arms_far, show_stopped, arms_first, stop_met, stop_passed_by, arms_in_order, outside_in_order, outside_swapped, arms_null, null_told};
 
 /// Each whole run of these schedules tells exactly this, whatever befalls it.
 pub fn reports_with_faults_are_the_only_ones()
@@ -15,6 +16,17 @@ pub fn reports_with_faults_are_the_only_ones()
     ensures restart { IsOnlyOfGood decays_behind_restart restarted_report }
     ensures two_faults { IsOnlyOfGood arms_two quiet_report }
     ensures far_off { IsOnlyOfGood arms_far quiet_report }
+{}
+
+/// The right reports of the same schedules, each computed as a run to its end, with chances that are written by hand: only the second decay isn't allowed.
+pub fn reports_with_faults_are_computed()
+    ensures decay { Computes calmly decays_once quiet_report }
+    ensures both_halves { Computes (at_step 4 (record calm { found = Allows false }) calmly) decays_both both_report }
+    ensures scrub { Computes calmly decays_behind_scrub quiet_report }
+    ensures power { Computes calmly decays_with_power forgiven_report }
+    ensures restart { Computes calmly decays_behind_restart restarted_report }
+    ensures two_faults { Computes calmly arms_two quiet_report }
+    ensures far_off { Computes calmly arms_far quiet_report }
 {}
 
 /// The first decay of a page is told as refused.

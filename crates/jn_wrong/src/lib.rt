@@ -20,7 +20,7 @@ pub use faulty::{
     a_scrub_that_mends_nothing_is_none, a_show_that_meets_a_stop_far_off_is_none,
     a_stop_at_a_first_call_is_met, a_stop_passed_by_is_none,
     faults_are_told_in_the_order_of_their_calls, faults_told_in_another_order_are_none,
-    reports_with_faults_are_the_only_ones,
+    reports_with_faults_are_computed, reports_with_faults_are_the_only_ones,
 };
 pub use leaving::{a_record_that_nothing_names_is_left_by_no_step, each_step_leaves_its_rubbish};
 pub use new::{
