@@ -1,8 +1,7 @@
 -- How many rubbish records a step leaves.
-use Rattle.jn_wrong.proofs.Common.{◌≡◌, ◌<◌, ◌+◌, ◌-◌, ℕ, Bool, true, List, [], ◌∷◌, Option, Some, None, true≢false, refl, sym, ◌∙◌, ap, arith, if◌then◌else◌, slice_get, nat_tests, Server, ServerNo, Tid, WorkId, server_eq, Message, RowOutcome, Sent, StableState, Change, AddReady, MarkGoing, CarryOut, RemoveWork, AddFlag, DropFlag, Pick, stable, Room, server_row, server_step, Step, Deliver, Restart, World, Memory, Setup, Moment, DoesStep, steps_in, IsUpBehind, removes_none}
+use Rattle.jn_wrong.proofs.Common.{◌≡◌, ◌<◌, ◌+◌, ◌-◌, ℕ, Bool, true, List, [], ◌∷◌, Option, Some, None, true≢false, refl, sym, ◌∙◌, ap, arith, if◌then◌else◌, slice_get, nat_tests, Server, ServerNo, Tid, WorkId, server_eq, Message, RowOutcome, Sent, StableState, Change, AddReady, MarkGoing, CarryOut, RemoveWork, AddFlag, DropFlag, Pick, stable, Room, server_row, server_step, Step, Deliver, Restart, World, Memory, Setup, Moment, DoesStep, steps_in, IsUpBehind, removes_none, rubbish_records, left_by_changes, left_by_work, left_by_message, left_at_work, left_by_restart, left_by_sent, left_by_steps}
 use Rattle.jn_worker.specs.Leaving.{left_over}
 use Rattle.jn_system.specs.WholeSystem.Steps.{Work}
-use Rattle.jn_written.specs.Rubbish.{rubbish_records, left_by_changes, left_by_work, left_by_message, left_at_work, left_by_restart, left_by_sent, left_by_steps}
 
 same-server : (q : ServerNo) → server_eq q q ≡ true
 same-server q = grind (arith, nat_tests)

@@ -38,3 +38,6 @@ pub mod Rightly
 pub mod Told
 pub mod Scrubbed
 pub mod Mended
+pub mod NewDevice
+pub mod OnDevices
+pub mod OneRun

@@ -1,9 +1,8 @@
 -- One step of a settle where nothing strikes: the message that a calm run hands over, or an erasure, which changes nothing.
-use Rattle.jn_wrong.proofs.Common.{◌≡◌, ◌⊎◌, inl, inr, ℕ, ◌<◌, Bool, true, false, List, [], ◌∷◌, ◌++◌, append-nil, length, drop, Option, Some, None, is_some, refl, sym, ◌∙◌, ap, subst, arith, drop-append_seam, ◌&&◌, not, if◌then◌else◌, nat_lt, slice_get, ServerNo, Client, Server, Message, StableState, Pick, stable, RowOutcome, Sent, Work, WorkId, drop_row, drop_phase, work_at, World, Memory, Room, server_row, storage_of, of_worker, Deliver, Works, after, at_memory, handed, handing, working, go_on, course_to, newly_sent, numbered, Setup, Chance, Rests, State, begun, Deed, room, no_room, nothing, served, delivered, delivered_at, is_busy, is_busy_with, worked, working_steps, Devices, IsServed, Alone, Befalls, servers_of, first_busy, next_event, resting, deed_of, most_messages, made, done, IsQuiet, Calm, quiet-same, quiet-called, delivered-up, still, is_fixed, is_sent_so, rests_so, no-faults, step_calls, row_calls, has_going, nat_eq, nat_tests, ◌-◌, Counts, Need, of_coordinator, coordinator_row, free_found, promised, pages_of}
+use Rattle.jn_wrong.proofs.Common.{◌≡◌, ◌⊎◌, inl, inr, ℕ, ◌<◌, Bool, true, false, List, [], ◌∷◌, ◌++◌, append-nil, length, drop, Option, Some, None, is_some, refl, sym, ◌∙◌, ap, subst, arith, drop-append_seam, ◌&&◌, not, if◌then◌else◌, nat_lt, slice_get, ServerNo, Client, Server, Message, StableState, Pick, stable, RowOutcome, Sent, Work, WorkId, drop_row, drop_phase, work_at, World, Memory, Room, server_row, storage_of, of_worker, Deliver, Works, after, at_memory, handed, handing, working, go_on, course_to, newly_sent, numbered, Setup, Chance, Rests, State, begun, Deed, room, no_room, nothing, served, delivered, delivered_at, is_busy, is_busy_with, worked, working_steps, Devices, IsServed, Alone, Befalls, servers_of, first_busy, next_event, resting, deed_of, most_messages, made, done, IsQuiet, Calm, quiet-same, quiet-called, delivered-up, still, is_fixed, is_sent_so, rests_so, no-faults, step_calls, row_calls, has_going, nat_eq, nat_tests, ◌-◌, Counts, Need, of_coordinator, coordinator_row, free_found, promised, pages_of, free_on}
 use Rattle.jn_rows.specs.declared.worker.Phase.TheVariants.{Active, Broken, Prepared as Stored}
 use Rattle.jn_rows.specs.declared.worker.Phase.{Phase}
 use Rattle.jn_records.specs.StablePages.{Pages}
-use Rattle.jn_server.specs.Standing.{free_on}
 use Rattle.jn_msgs.specs.declared.message.Message.TheVariants as messages
 use Rattle.jn_system.specs.WholeSystem.Steps as steps
 use Rattle.jn_headline.proofs.Busy.{IsFirst, first-busy-is, none-busy, idle-goes-not, erases}

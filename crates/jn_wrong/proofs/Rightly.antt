@@ -1,8 +1,6 @@
 -- The right reports of schedules with faults of which wrong ones are refuted, computed.
-use Rattle.jn_wrong.proofs.Common.{◌≡◌, ℕ, false, [], ◌∷◌, refl, arms_first, arms_in_order, arms_null, null_told, calm, calmly, at_step, stopped, report, stop_met, outside_in_order, quiet_report, decays_once, decays_both, both_report, decays_behind_scrub, decays_with_power, forgiven_report, decays_behind_restart, restarted_report, arms_two, arms_far}
+use Rattle.jn_wrong.proofs.Common.{◌≡◌, ℕ, false, [], ◌∷◌, refl, arms_first, arms_in_order, arms_null, null_told, calm, calmly, at_step, stopped, report, stop_met, outside_in_order, quiet_report, decays_once, decays_both, both_report, decays_behind_scrub, decays_with_power, forgiven_report, decays_behind_restart, restarted_report, arms_two, arms_far, Allows, Computes}
 use Rattle.jn_base.specs.declared.device.FaultKind.TheVariants as faults
-use Rattle.jn_written.specs.Chances.{Allows}
-use Rattle.jn_wrong.specs.Faults.{Computes}
 
 pub once-computed : Computes calmly decays_once quiet_report
 once-computed = record { lines_are = refl; stage = refl; tasks = refl }

@@ -30,6 +30,14 @@ IsOnlyOfGood schedule report = (images closing : Devices) (lines : List Line) �
 abbrev pub IsNoneOfGood : List Event → List Line → Type 0
 IsNoneOfGood schedule wrong = (images closing : Devices) → AreNew (setup 1) images → AreGood images → IsWhole (setup 1) schedule images closing wrong → ⊥
 
+-- one whole run of the schedule tells exactly these lines: there are images and devices for it
+pub record IsOneOfGood (schedule : List Event) (report : List Line) : Type 0 where
+  pub images : Devices
+  pub closing : Devices
+  pub new : AreNew (setup 1) images
+  pub good : AreGood images
+  pub whole : IsWhole (setup 1) schedule images closing report
+
 -- with these chances, sixty steps at most are a run to its end, and these are its lines
 pub record Computes (chances : ℕ → State → Chance) (schedule : List Event) (report : List Line) : Type 0 where
   pub lines_are : (last_of 1 chances 60 schedule).lines ≡ report

@@ -1,0 +1,243 @@
+-- The device of a server on which nothing is stored: zeros behind the root, whatever befell its halves.
+use Rattle.jn_wrong.proofs.Common.{◌≡◌, ◌-◌, subst, Some, Option, ◌≤◌, ◌<◌, ◌+◌, ◌/◌, ◌||◌, ℕ, Bool, true, false, true≢false, nat_eq, nat_lt, if◌then◌else◌, List, [], refl, sym, ◌∙◌, ap, inl, arith, inr, fun_ext, blank, DeviceState, PageState, bumped, Armed, Happens, put, joined, pairs_view, found_on, Pick, s0, pages_of, ◌^◌, replicate, blank_page, pool_on, heads_on, record_or_free, head_or_free, IsRecoverable, Head, FreeHead, Record, Free, root_by, Candidate, IsClean, IsWholePage, StorePut, StoreLater}
+use Rattle.jn_device.proofs.Happening.{happens_later}
+use Rattle.jn_disks.specs.Disks.{no_files as nothing_there}
+use Rattle.jn_disks.proofs.NewStores.{new_is}
+use Rattle.jn_found.specs.Images.{CountsFit, IsFresh}
+use Rattle.jn_records.specs.Heads.{head_at}
+use Rattle.jn_records.specs.Pages.{root_page}
+use Rattle.jn_records.specs.Reading as reading
+use Rattle.jn_records.specs.Records.{record_at}
+use Rattle.jn_store.specs.Store.{IsBlank}
+use Rattle.jn_wrong.proofs.Pairs.{the_counts}
+
+-- ---- pages
+
+abbrev pub root_at : ℕ → List ℕ
+root_at epoch = root_page (root_by s0 the_counts epoch)
+
+abbrev pub is_root : ℕ → Bool
+is_root q = nat_eq q 0 || nat_eq q 177
+
+abbrev pub bytes_at : ℕ → ℕ → List ℕ
+bytes_at epoch q = if is_root q then root_at epoch else blank_page
+
+-- zeros behind the root; halves are good or bad and have failed so often
+abbrev pub pages_at : ℕ → (ℕ → Bool) → (ℕ → ℕ) → ℕ → PageState
+pages_at epoch good fails q = record { good = good q; bytes = bytes_at epoch q; missed = false; fails = fails q }
+
+abbrev pub device : (ℕ → PageState) → Bool → List Armed → ℕ → ℕ → DeviceState
+device pages power waiting calls puts = record { count = 354; pages = pages; power = power; waiting = waiting; told = []; calls = calls; puts = puts; stops = 0 }
+
+-- ---- puts
+
+-- a good half that has not failed
+abbrev pub sound : List ℕ → PageState
+sound bytes = record { good = true; bytes = bytes; missed = false; fails = 0 }
+
+abbrev pub put_at : ℕ → List ℕ → (ℕ → PageState) → ℕ → PageState
+put_at p page pages q = if nat_eq q p then sound page else pages q
+
+abbrev pub Unfailed : (ℕ → PageState) → Type 0
+Unfailed pages = (q : ℕ) → (pages q).fails ≡ 0
+
+put-unfailed : (p : ℕ) (page : List ℕ) (pages : ℕ → PageState) → Unfailed pages → Unfailed (put_at p page pages)
+put-unfailed p page pages h q = by (nat_eq q p)
+  where
+    by : (b : Bool) → (if b then sound page else pages q).fails ≡ 0
+    by true = refl
+    by false = h q
+
+pub put-one : (pages : ℕ → PageState) (calls puts p : ℕ) (page : List ℕ) → p < 354 → Unfailed pages → Happens (device pages true [] calls puts) (device (put_at p page pages) true [] (bumped calls) (bumped puts))
+put-one pages calls puts p page lt unfailed = put (device pages true [] calls puts) (device (put_at p page pages) true [] (bumped calls) (bumped puts)) p page false lt (record {
+  call = record { count = refl; power = refl; waiting = refl; told_is = refl; calls = refl; stops_are = refl };
+  answers = refl;
+  page = ap (λ (b : Bool). if b then sound page else pages p) (same p) ∙ ap (λ (n : ℕ). record { good = true; bytes = page; missed = false; fails = n }) (sym (unfailed p));
+  others = λ q ne. ap (λ (b : Bool). if b then sound page else pages q) (other q ne);
+  puts = refl;
+})
+  where
+    same : (p : ℕ) → nat_eq p p ≡ true
+    same p = grind arith
+
+    other : (q : ℕ) → (q ≡ p → ⊥) → nat_eq q p ≡ false
+    other q ne = grind (arith, ne)
+
+-- both halves of the root
+abbrev pub renewed : ℕ → (ℕ → PageState) → ℕ → PageState
+renewed epoch pages = put_at 177 (root_at epoch) (put_at 0 (root_at epoch) pages)
+
+pub put-root : (epoch : ℕ) (pages : ℕ → PageState) (calls puts : ℕ) → Unfailed pages → Happens (device pages true [] calls puts) (device (renewed epoch pages) true [] (bumped (bumped calls)) (bumped (bumped puts)))
+put-root epoch pages calls puts unfailed = joined _ (device (put_at 0 (root_at epoch) pages) true [] (bumped calls) (bumped puts)) _
+    (put-one pages calls puts 0 (root_at epoch) (omega arith) unfailed)
+    (put-one (put_at 0 (root_at epoch) pages) (bumped calls) (bumped puts) 177 (root_at epoch) (omega arith) (put-unfailed 0 (root_at epoch) pages unfailed))
+
+pub bumped-least : (n : ℕ) → bumped n ≤ n + 1
+bumped-least n = by (nat_lt n (2 ^ 64 - 1))
+  where
+    by : (b : Bool) → (if b then n + 1 else n) ≤ n + 1
+    by true = omega arith
+    by false = omega arith
+
+-- all halves are good
+abbrev pub good_at : ℕ → ℕ → PageState
+good_at epoch = pages_at epoch (λ q. true) (λ q. 0)
+
+abbrev blank_pages : ℕ → PageState
+blank_pages q = sound blank_page
+
+root-of-blank : (epoch : ℕ) → renewed epoch blank_pages ≡ good_at epoch
+root-of-blank epoch = fun_ext (λ q. by (nat_eq q 0) (nat_eq q 177))
+  where
+    by : (first second : Bool) → (if second then sound (root_at epoch) else (if first then sound (root_at epoch) else sound blank_page)) ≡ sound (if first || second then root_at epoch else blank_page)
+    by true true = refl
+    by true false = refl
+    by false true = refl
+    by false false = refl
+
+-- ---- a half that has gone bad is put anew, and then the root
+
+-- all halves but this one are good
+abbrev pub OthersGood : ℕ → (ℕ → Bool) → Type 0
+OthersGood p good = (q : ℕ) → nat_eq q p ≡ false → good q ≡ true
+
+abbrev mended : ℕ → ℕ → ℕ → (ℕ → Bool) → ℕ → PageState
+mended old epoch p good = renewed epoch (put_at p blank_page (pages_at old good (λ q. 0)))
+
+-- a page where the root was put behind it
+abbrev behind : ℕ → ℕ → PageState → PageState
+behind epoch q page = if nat_eq q 177 then sound (root_at epoch) else (if nat_eq q 0 then sound (root_at epoch) else page)
+
+mended-good : (old epoch p : ℕ) (good : ℕ → Bool) → OthersGood p good → mended old epoch p good ≡ good_at epoch
+mended-good old epoch p good others = fun_ext (λ q. at q (nat_eq q p) refl)
+  where
+    put_new : (first second : Bool) → (if second then sound (root_at epoch) else (if first then sound (root_at epoch) else sound blank_page)) ≡ sound (if first || second then root_at epoch else blank_page)
+    put_new true true = refl
+    put_new true false = refl
+    put_new false true = refl
+    put_new false false = refl
+
+    as_old : (first second : Bool) → (if second then sound (root_at epoch) else (if first then sound (root_at epoch) else sound (if first || second then root_at old else blank_page))) ≡ sound (if first || second then root_at epoch else blank_page)
+    as_old true true = refl
+    as_old true false = refl
+    as_old false true = refl
+    as_old false false = refl
+
+    at : (q : ℕ) (same : Bool) → nat_eq q p ≡ same → mended old epoch p good q ≡ good_at epoch q
+    at q true e = ap (λ (b : Bool). behind epoch q (if b then sound blank_page else pages_at old good (λ q. 0) q)) e ∙ put_new (nat_eq q 0) (nat_eq q 177)
+    at q false e = ap (λ (b : Bool). behind epoch q (if b then sound blank_page else pages_at old good (λ q. 0) q)) e
+        ∙ ap (λ (b : Bool). behind epoch q (record { good = b; bytes = bytes_at old q; missed = false; fails = 0 })) (others q e) ∙ as_old (nat_eq q 0) (nat_eq q 177)
+
+-- three puts
+abbrev pub thrice : ℕ → ℕ
+thrice n = bumped (bumped (bumped n))
+
+pub thrice-least : (n : ℕ) → thrice n ≤ n + 3
+thrice-least n = let one = bumped-least n in let two = bumped-least (bumped n) in let three = bumped-least (bumped (bumped n)) in omega (arith, one, two, three)
+
+pub mends : (old epoch p : ℕ) (good : ℕ → Bool) (calls puts : ℕ) → p < 354 → OthersGood p good → Happens (device (pages_at old good (λ q. 0)) true [] calls puts) (device (good_at epoch) true [] (thrice calls) (thrice puts))
+mends old epoch p good calls puts lt others = subst (λ (pages : ℕ → PageState). Happens (device (pages_at old good (λ q. 0)) true [] calls puts) (device pages true [] (thrice calls) (thrice puts))) (mended-good old epoch p good others)
+    (joined _ (device (put_at p blank_page (pages_at old good (λ q. 0))) true [] (bumped calls) (bumped puts)) _
+    (put-one (pages_at old good (λ q. 0)) calls puts p blank_page lt (λ q. refl))
+    (put-root epoch (put_at p blank_page (pages_at old good (λ q. 0))) (bumped calls) (bumped puts) (put-unfailed p blank_page (pages_at old good (λ q. 0)) (λ q. refl))))
+
+-- ---- the halves of a page are equal
+
+pub halves-equal : (epoch i : ℕ) → i < 177 → bytes_at epoch i ≡ bytes_at epoch (i + 177)
+halves-equal epoch i lt = ap (λ (b : Bool). if b then root_at epoch else blank_page) (same i lt)
+  where
+    same : (i : ℕ) → i < 177 → is_root i ≡ is_root (i + 177)
+    same i lt = grind (arith, lt)
+
+behind-root : (epoch i : ℕ) → is_root i ≡ false → bytes_at epoch i ≡ blank_page
+behind-root epoch i e = ap (λ (b : Bool). if b then root_at epoch else blank_page) e
+
+-- ---- what is found
+
+zeros-record : record_at blank_page ≡ Some Free
+unfolding record_at blank_page reading.number_at
+zeros-record = refl
+
+zeros-head : head_at blank_page ≡ Some FreeHead
+unfolding head_at blank_page reading.number_at
+zeros-head = refl
+
+-- a recovery may begin, and finds nothing but the epoch
+pub record IsBlankOn (epoch : ℕ) (d : DeviceState) : Type 0 where
+  pub recoverable : IsRecoverable s0 the_counts (pairs_view d)
+  pub found : (c : Pick) → found_on the_counts (pairs_view d) c ≡ blank epoch
+  pub pool : pool_on the_counts (pages_of d) ≡ replicate 32 Free
+  pub heads : heads_on the_counts (pages_of d) ≡ replicate 16 FreeHead
+
+module _ (epoch : ℕ) (fits : epoch < 2 ^ 32) where
+  abbrev empty : DeviceState
+  empty = device blank_pages true [] 0 0
+
+  abbrev rooted : DeviceState
+  rooted = device (good_at epoch) true [] (bumped (bumped 0)) (bumped (bumped 0))
+
+  path : Happens empty rooted
+  path = subst (λ (pages : ℕ → PageState). Happens empty (device pages true [] (bumped (bumped 0)) (bumped (bumped 0)))) (root-of-blank epoch) (put-root epoch blank_pages 0 0 (λ q. refl))
+
+  later : StoreLater (pairs_view empty) (pairs_view rooted)
+  later = let l = happens_later empty rooted path in record {
+    happens = λ from h. joined from empty rooted h path;
+    count = refl;
+    calls = l.calls;
+    puts = l.puts;
+    stops = l.stops;
+    spends = l.spends;
+    quiet = λ q. refl;
+    calm = λ c. record { quiet = refl; power = refl };
+    no_stop = λ c. refl;
+    whole = λ c i lt h. record { both = refl; clean = halves-equal epoch i lt };
+  }
+
+  stored : StorePut (pairs_view empty) 0 (root_at epoch) true (pairs_view rooted)
+  stored = record {
+    later = later;
+    calls = let one = bumped-least 0 in let two = bumped-least (bumped 0) in omega (arith, one, two);
+    done = λ e. record { first = refl; second = refl };
+    part = λ x o. inl (either x o);
+    others = λ j lt ne. record { first = behind-root epoch j (before j lt ne); second = behind-root epoch (j + 177) (past j lt ne) };
+    served = λ e. record { power = refl; stops = refl };
+    stop = λ e. absurd (true≢false e);
+    calm = λ c. (refl, record { both = refl; clean = refl });
+  }
+    where
+      either : (x : List ℕ) → Candidate (pairs_view rooted) 0 x → x ≡ root_at epoch
+      either x (inl e) = e
+      either x (inr e) = e
+
+      before : (j : ℕ) → j < 177 → (j ≡ 0 → ⊥) → is_root j ≡ false
+      before j lt ne = grind (arith, lt, ne)
+
+      past : (j : ℕ) → j < 177 → (j ≡ 0 → ⊥) → is_root (j + 177) ≡ false
+      past j lt ne = grind (arith, lt, ne)
+
+  zeros : IsBlank 177 (pairs_view empty)
+  zeros = record {
+    count_is = refl;
+    pages = λ i lt. record { first = refl; second = refl };
+    whole = λ i lt. record { both = refl; clean = refl };
+    calm = record { quiet = refl; power = refl };
+    told = refl;
+    calls = refl;
+    puts = refl;
+    stops = refl;
+  }
+
+  fit : CountsFit s0 the_counts
+  fit = record { server_fits = omega arith; pool = omega arith; heads = omega arith; leaves = omega arith }
+
+  fresh : IsFresh s0 the_counts epoch nothing_there (pairs_view rooted)
+  fresh = let new = new_is s0 the_counts epoch fits fit (pairs_view empty) (pairs_view rooted) zeros stored in new.fresh
+
+  -- whichever halves are good, whether or not it has power, and whatever waits
+  pub blank-on : (good : ℕ → Bool) (fails : ℕ → ℕ) (power : Bool) (waiting : List Armed) (calls puts : ℕ) → IsBlankOn epoch (device (pages_at epoch good fails) power waiting calls puts)
+  blank-on good fails power waiting calls puts = record {
+    recoverable = let r = fresh.recoverable in record { count = r.count; each = r.each; clean = r.clean };
+    found = fresh.found;
+    pool = ap (λ (o : Option Record). replicate 32 (record_or_free o)) zeros-record;
+    heads = ap (λ (o : Option Head). replicate 16 (head_or_free o)) zeros-head;
+  }

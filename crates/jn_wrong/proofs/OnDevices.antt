@@ -1,0 +1,156 @@
+-- Steps of one server on which nothing is stored, over its device.
+use Rattle.jn_wrong.proofs.Common.{◌≡◌, ◌≤◌, ◌<◌, ◌+◌, ◌-◌, ◌||◌, ℕ, Bool, true, false, not, if◌then◌else◌, List, [], refl, sym, ◌∙◌, ap, subst, arith, is_some, server_eq, ServerNo, no_files, World, Memory, run, IsRun, Chance, Deed, Devices, Alone, Befalls, IsCalled, IsRecovery, IsUsed, rubbish_on, pages_of, setup, s0, blank, DeviceState, PageState, Armed, disarmed, found_on, pairs_view, Pick, stable, StableState, closed_world, AreImages, replicate, count_by, pool_on, heads_on, listed, IsRecoverable, Head, FreeHead, Need, Record, Free, page_count, promised, is_free_head, promised_heads, free_on, has_rubbish, rubbish_records, left_by_steps, AreCounted, CountsAll, IsFreshDevice}
+use Rattle.jn_device.specs.Happens.{none}
+use Rattle.jn_found.specs.Contents.{heads_name, works_name}
+use Rattle.jn_sets.specs.Pool.{free_count, rubbish_count}
+use Rattle.jn_wrong.proofs.NewDevice.{device, good_at, pages_at, OthersGood, IsBlankOn, blank-on, halves-equal, thrice, thrice-least, mends}
+use Rattle.jn_wrong.proofs.Pairs.{the_counts}
+
+-- ---- devices
+
+-- what the run begins with, and stays at servers that aren't there
+abbrev pub new_device : DeviceState
+new_device = device (good_at 0) true [] 2 2
+
+abbrev pub at_s0 : DeviceState → Devices
+at_s0 d q = if server_eq s0 q then d else new_device
+
+pub new-blank : IsBlankOn 0 new_device
+new-blank = blank-on 0 (omega arith) (λ q. true) (λ q. 0) true [] 2 2
+
+abbrev numbered : ℕ → ServerNo
+numbered n = record { 0 = n }
+
+-- of one server
+pub one-there : (P : ServerNo → Type 0) → P s0 → (q : ServerNo) → q.0 < 1 → P q
+one-there P p q lt = subst P (ap numbered (first q.0 lt)) p
+  where
+    first : (n : ℕ) → n < 1 → 0 ≡ n
+    first n lt = omega (arith, lt)
+
+no-rubbish : (d : DeviceState) (a : ℕ) → IsBlankOn a d → (q : ServerNo) → rubbish_on (setup 1) (at_s0 d) q ≡ false
+no-rubbish d a is q = by (server_eq s0 q)
+  where
+    by : (b : Bool) → has_rubbish (pool_on the_counts (pages_of (if b then d else new_device))) ≡ false
+    by true = ap (λ (l : List Record). has_rubbish l) is.pool
+    by false = ap (λ (l : List Record). has_rubbish l) new-blank.pool
+
+pub new-images : AreImages (setup 1) no_files (λ q. 0) (at_s0 new_device)
+new-images = record {
+  its = λ q u far. refl;
+  fresh = λ q lt. one-there (λ q. IsFreshDevice (page_count the_counts) (at_s0 new_device q)) (record { count = refl; waiting = refl; told = refl; calls = omega arith }) q lt;
+  found = λ q c lt. one-there (λ q. (closed_world 1 no_files (λ q. 0)).found q c ≡ found_on the_counts (pairs_view (at_s0 new_device q)) c) (sym (new-blank.found c)) q lt;
+  recoverable = λ q lt. one-there (λ q. IsRecoverable q the_counts (pairs_view (at_s0 new_device q))) new-blank.recoverable q lt;
+}
+
+-- ---- any step
+
+counted-blank : (epoch : ℕ) → AreCounted the_counts (blank epoch) (replicate 32 Free) (replicate 16 FreeHead)
+counted-blank epoch = record {
+  works = [];
+  flags = [];
+  files = [];
+  works_all = record { different = refl; all = λ W. refl };
+  flags_all = record { different = refl; all = λ T. refl };
+  files_all = record { different = refl; all = λ f. refl };
+  records_all = refl;
+  heads_all = refl;
+}
+
+counted : (epoch : ℕ) (d : DeviceState) (y : StableState) → IsBlankOn epoch d → y ≡ blank epoch → CountsAll the_counts y (pages_of d)
+counted epoch d y is e =
+    subst (λ (z : StableState). AreCounted the_counts z (pool_on the_counts (pages_of d)) (heads_on the_counts (pages_of d))) (sym e)
+    (subst (λ (l : List Record). AreCounted the_counts (blank epoch) l (heads_on the_counts (pages_of d))) (sym is.pool)
+    (subst (λ (l : List Head). AreCounted the_counts (blank epoch) (replicate 32 Free) l) (sym is.heads) (counted-blank epoch)))
+
+module _ (h : Chance) (deed : Deed) (w : World) (d e : DeviceState) (a b : ℕ) (was : IsBlankOn a d) (is : IsBlankOn b e) (rubbish : (q : ServerNo) → h.rubbish q ≡ false) (steps : IsRun deed.steps w) (used : IsUsed (setup 1) h deed.device w (run deed.steps w) (at_s0 d) (at_s0 e))
+    (found : (c : Pick) → (run deed.steps w).found s0 c ≡ blank b) (left : left_by_steps w s0 deed.steps 0 ≡ 0) where
+  no-records : (f : DeviceState) (epoch : ℕ) → IsBlankOn epoch f → rubbish_records (setup 1) (at_s0 f) s0 ≡ 0
+  no-records f epoch is = ap (λ (l : List Record). rubbish_count l) is.pool
+
+  as-left : rubbish_records (setup 1) (at_s0 e) s0 ≡ left_by_steps w s0 deed.steps (rubbish_records (setup 1) (at_s0 d) s0)
+  as-left = no-records e b is ∙ sym (ap (λ (n : ℕ). left_by_steps w s0 deed.steps n) (no-records d a was) ∙ left)
+
+  pub befalls : Befalls (setup 1) h deed w (at_s0 d) (at_s0 e)
+  befalls = record {
+    rubbish = λ q. rubbish q ∙ sym (no-rubbish d a was q);
+    steps = steps;
+    used = used;
+    found = λ q c lt. one-there (λ q. (run deed.steps w).found q c ≡ found_on the_counts (pairs_view (at_s0 e q)) c) (found c ∙ sym (is.found c)) q lt;
+    left = λ q lt up. one-there (λ q. rubbish_records (setup 1) (at_s0 e) q ≡ left_by_steps w q deed.steps (rubbish_records (setup 1) (at_s0 d) q)) as-left q lt;
+    counted = λ q lt up. one-there (λ q. CountsAll the_counts (stable ((run deed.steps w).found q)) (pages_of (at_s0 e q))) (counted b e (stable ((run deed.steps w).found s0)) is (found (λ n. false))) q lt;
+    recoverable = λ q lt. one-there (λ q. IsRecoverable q the_counts (pairs_view (at_s0 e q))) is.recoverable q lt;
+  }
+
+-- ---- what a step does with the device
+
+pub alone : (becomes : DeviceState → DeviceState → Type 0) (d e : DeviceState) → becomes d e → Alone s0 becomes (at_s0 d) (at_s0 e)
+alone becomes d e it = record { its = it; others = λ q ne. ap (λ (b : Bool). if b then e else new_device) ne ∙ sym (ap (λ (b : Bool). if b then d else new_device) ne) }
+
+pub disarms : (d : DeviceState) (q : ServerNo) → at_s0 (disarmed d) q ≡ disarmed (at_s0 d q)
+disarms d q = by (server_eq s0 q)
+  where
+    by : (b : Bool) → (if b then disarmed d else new_device) ≡ disarmed (if b then d else new_device)
+    by true = refl
+    by false = refl
+
+-- it is called, and makes no call
+pub uncalled : (most : ℕ) (h : Chance) (pages : ℕ → PageState) (waiting : List Armed) (calls puts : ℕ) → h.told ≡ [] → is_some h.stop ≡ false → IsCalled most h (device pages true waiting calls puts) (device pages true waiting calls puts)
+uncalled most h pages waiting calls puts told stop = record {
+  last = device pages true waiting calls puts;
+  happens = none (device pages true waiting calls puts);
+  few = omega arith;
+  whole = λ c i lt whole. whole;
+  told = told;
+  stop = stop;
+  after = refl;
+}
+
+-- all is free
+abbrev pub all_free : Need
+all_free = record { records = 32; heads = 16; pages = 128 }
+
+-- what is free where so much is promised
+abbrev free_in : List Record → List Head → ℕ → ℕ → Need
+free_in pool heads records files = record {
+  records = free_count pool - records;
+  heads = count_by is_free_head heads - files;
+  pages = count_by (λ d. not (heads_name heads (d + 1) || works_name pool (d + 1))) (listed (λ d. d) 0 128);
+}
+
+pub all-free : (epoch : ℕ) (d : DeviceState) (x : StableState) (m : Memory) → IsBlankOn epoch d → promised m.coordinator.transactions ≡ 0 → promised_heads x m.worker ≡ 0 → all_free ≡ free_on the_counts (pages_of d) x m
+all-free epoch d x m is records files = sym (
+    ap (λ (l : List Record). free_in l (heads_on the_counts (pages_of d)) (promised m.coordinator.transactions) (promised_heads x m.worker)) is.pool
+    ∙ ap (λ (l : List Head). free_in (replicate 32 Free) l (promised m.coordinator.transactions) (promised_heads x m.worker)) is.heads
+    ∙ ap (λ (n : ℕ). free_in (replicate 32 Free) (replicate 16 FreeHead) n (promised_heads x m.worker)) records
+    ∙ ap (λ (n : ℕ). free_in (replicate 32 Free) (replicate 16 FreeHead) 0 n) files
+    )
+
+-- the power comes, this half is put anew, and the root with the next epoch
+pub recovers-so : (h : Chance) (old epoch p : ℕ) (good : ℕ → Bool) (power : Bool) (fails : ℕ → ℕ) (calls puts : ℕ) → p < 354 → OthersGood p good → h.told ≡ [] → is_some h.stop ≡ false
+    → IsRecovery the_counts h true (device (pages_at old good fails) power [] calls puts) (device (good_at epoch) true [] (thrice calls) (thrice puts))
+recovers-so h old epoch p good power fails calls puts lt others told stop = record {
+  powered = device (pages_at old good (λ q. 0)) true [] calls puts;
+  last = device (good_at epoch) true [] (thrice calls) (thrice puts);
+  power = record { count = refl; pages_are = λ q. refl; power_is = refl; waiting = refl; told = refl; calls = refl; puts = refl; stops = refl };
+  called = record {
+    last = device (good_at epoch) true [] (thrice calls) (thrice puts);
+    happens = mends old epoch p good calls puts lt others;
+    few = let three = thrice-least calls in omega (arith, three);
+    whole = λ c i lt whole. record { both = refl; clean = halves-equal epoch i lt };
+    told = told;
+    stop = stop;
+    after = refl;
+  };
+  after = refl;
+  front = λ up. record {
+    root = refl;
+    pool = λ i lt. halves-equal epoch (1 + i) (omega (arith, lt));
+    heads = λ i lt. halves-equal epoch (1 + 32 + i) (omega (arith, lt));
+  };
+  front_whole = λ up quiet. record {
+    root = record { both = refl; clean = refl };
+    pool = λ i lt. record { both = refl; clean = halves-equal epoch (1 + i) (omega (arith, lt)) };
+    heads = λ i lt. record { both = refl; clean = halves-equal epoch (1 + 32 + i) (omega (arith, lt)) };
+  };
+}
