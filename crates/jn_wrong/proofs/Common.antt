@@ -4,15 +4,15 @@ pub use Rattle.std.proofs.Math.Seq.{drop-append_seam}
 pub use Rattle.jn_report.specs.declared.line.Line.{Line}
 pub use Rattle.jn_rows.specs.Outcomes.{Sent, RowOutcome}
 pub use Rattle.jn_system.specs.WholeSystem.World.{World, Memory, with_epoch, new_memory, has_line, at_server}
-pub use Rattle.std.specs.Prelude.{◌||◌, if◌then◌else◌, nat_lt, nat_eq, ◌&&◌, slice_get, ◌*◌, not, take, filter, ◌^◌, replicate, count_by, map}
+pub use Rattle.std.specs.Prelude.{◌||◌, if◌then◌else◌, nat_lt, nat_eq, ◌&&◌, slice_get, ◌*◌, ◌^◌, not, take, filter, replicate, count_by, map}
 pub use Rattle.jn_base.specs.declared.names.Party.{Party}
 pub use Rattle.jn_report.specs.declared.line.Text.{Text}
 pub use Rattle.jn_system.specs.WholeSystem.Steps.{Step, Restart, tid_before, after, run, IsRun, restart, restart_with, NextEvent, Tell, Again, Nudge, Crash, CloseClients, AreNames, commanded, crash, Deliver, StopDelivery, handing, are_rising, Work as Works, at_memory, handed, working, sent_now}
 pub use Rattle.jn_system_settling.specs.Settling.Course.{Course, go, go_on, newly_sent, course_to, without_number, still_waiting, numbered}
-pub use Rattle.jn_written.specs.Chances.{Setup, Chance, prints_found, works_found, tids_found, allowed, free_found, Allows}
-pub use Rattle.jn_written.specs.Tasks.{Task, Begins, Meets, Acts, Rests, ComesUp, Dismisses, GoesDown, ClosesClients, CountsCommits, State, when_of, begun, next_task, Stage, InSchedule, AtEnd, CutShort, next_at, when_at}
-pub use Rattle.jn_written.specs.Deeds.{Deed, Reads, last_epoch, stopped_idle, shown, showing, pick_read, recovering, recovered, given_up, is_used_up, brought_up, plain, served, crashed_at, scrubbed, Use, uses, Arms, Decays, Revives, room, no_room, delivered, delivered_at, nothing, is_busy, Recovers, restarted, Nothing, Calls, PowersOff, Disarms, worked, working_steps, Cleans, is_busy_with, recovers}
-pub use Rattle.jn_written.specs.Events.{deed_of, met, acted, told_unless, servers_of, first_busy, next_event, next_in, resting, asking, settling, ending}
+pub use Rattle.jn_written.specs.Chances.{Setup, Chance, prints_found, works_found, tids_found, allowed, Allows, free_found}
+pub use Rattle.jn_written.specs.Tasks.{Task, Begins, Meets, Acts, Rests, ComesUp, Dismisses, GoesDown, ClosesClients, CountsCommits, State, when_of, begun, next_task, AtEnd, InSchedule, Stage, CutShort, next_at, when_at}
+pub use Rattle.jn_written.specs.Deeds.{Deed, Reads, last_epoch, stopped_idle, shown, showing, pick_read, recovering, recovered, given_up, is_used_up, brought_up, plain, served, crashed_at, scrubbed, Use, uses, Arms, Decays, Revives, room, no_room, delivered, delivered_at, nothing, is_busy, Recovers, restarted, Cleans, PowersOff, Nothing, Calls, Disarms, worked, working_steps, is_busy_with, recovers}
+pub use Rattle.jn_written.specs.Events.{deed_of, met, acted, ending, told_unless, servers_of, first_busy, next_event, next_in, resting, asking, settling}
 pub use Rattle.jn_written.specs.Steps.{outside_texts, own_texts, message_texts, traced, lines_at, most_messages, is_too_much, come_to, cut_short, made, done, next, next_by, texts_of}
 pub use Rattle.jn_wrong.specs.Still.{still, IsOnly, IsOnlyOf, goes, IsBlank, PrintsNothing, does_so, DoesSo, DoesNext, GoesSo, IsNoneOfNew, IsNoneOf, blank, AreNew, is_fixed, is_sent_so, rests_so}
 pub use Rattle.jn_base.specs.declared.names.ServerNo.{ServerNo}
@@ -26,8 +26,8 @@ pub use Rattle.jn_wrong.specs.Reports.{traced_report, two_begin, two_report, ope
 pub use Rattle.jn_base.specs.declared.names.Resource.TheVariants.{Records, Pages}
 pub use Rattle.std.proofs.lemmas.Bool.Decides.{nat_tests}
 pub use Rattle.jn_base.specs.declared.device.FaultKind.{FaultKind}
-pub use Rattle.jn_base.specs.declared.device.FaultKind.TheVariants.{StopBefore, StopAfter, Null, Bad}
-pub use Rattle.jn_device.specs.Device.{DeviceState, bumped, PageState, partner_at, decayed, may_decay_at}
+pub use Rattle.jn_base.specs.declared.device.FaultKind.TheVariants.{StopBefore, StopAfter, Decay, Revive, Null, Bad}
+pub use Rattle.jn_device.specs.Device.{DeviceState, bumped, PageState, partner_at, page_met, decayed, may_decay_at}
 unfoldable pub use Rattle.jn_device.specs.Device.{blank_page}
 pub use Rattle.jn_device.specs.Calls.{due, strike, GetStep, PutStep, told_of, got_outside, put_outside, decay_outside, waiting_on, CallStep, struck_page, get_stops, get_outcome, get_is_done, put_stops, put_outcome, put_is_done}
 pub use Rattle.jn_device.specs.Happens.{Happens, get, put, joined}
@@ -37,7 +37,7 @@ pub use Rattle.jn_base.specs.declared.names.WorkId.{WorkId}
 pub use Rattle.jn_base.specs.declared.names.LockUnit.TheVariants.{File, Block}
 pub use Rattle.jn_base.specs.Names.{file_eq, tid_eq, work_eq, server_eq, block_eq, unit_eq, client_eq}
 pub use Rattle.jn_base.proofs.Tells.{file_tells, tid_tells, work_tells, server_tells, block_tells}
-pub use Rattle.jn_rows.specs.Stable.{StableState, Pick, Change, AddReady, MarkGoing, CarryOut, RemoveWork, AddFlag, DropFlag, made_by, made_all, stable, FlagState, Prepared, is_going}
+pub use Rattle.jn_rows.specs.Stable.{StableState, Pick, FlagState, Prepared, Change, AddReady, MarkGoing, CarryOut, RemoveWork, AddFlag, DropFlag, made_by, made_all, stable, is_going}
 pub use Rattle.jn_locks.specs.Locks.{work_before, unit_before}
 pub use Rattle.jn_system.specs.WholeSystem.Printing.{Printed, ArePrints, print_files, file_before, FileThere, PageStored, UnitLocked, print_unit, print_one, print_blocks, print_file, block_before}
 pub use Rattle.jn_system_reports.specs.Reporting.Printing.{prints_of, text_printed}
@@ -51,37 +51,37 @@ pub use Rattle.jn_base.specs.declared.names.Party.TheVariants.{Server, Client}
 pub use Rattle.std.specs.List.{list_any, list_all, AllByRecursion}
 pub use Rattle.jn_report.specs.declared.line.When.{When}
 pub use Rattle.jn_report.specs.declared.line.When.TheVariants.{Event as AtEvent, End}
-pub use Rattle.jn_written.specs.Examples.{setup, calm, calmly, at_step, stopped, report, line}
+pub use Rattle.jn_written.specs.Examples.{calm, setup, calmly, at_step, stopped, report, line}
 unfoldable pub use Rattle.jn_written.specs.Examples.{block_of}
 pub use Rattle.jn_base.specs.declared.names.Cause.{Cause}
 pub use Rattle.jn_base.specs.declared.names.Resource.{Resource}
 pub use Rattle.jn_base.specs.declared.names.ClientNo.{ClientNo}
 pub use Rattle.jn_base.specs.declared.op.Command.{Command}
-pub use Rattle.jn_rows.specs.Client.{Commanded, Refuses, Sends, command_row, ClientTable, if_server, if_idle, if_transaction, if_no_transaction, if_open, if_not_open, work_at as open_at, take_row, again_row, sent_again, if_waits, begun_row, opened_row, answer_line, outcome_row, decided_row, is_current}
+pub use Rattle.jn_rows.specs.Client.{Commanded, Refuses, Sends, command_row, new_table, over, ClientTable, if_server, if_idle, if_transaction, if_no_transaction, if_open, if_not_open, work_at as open_at, take_row, again_row, sent_again, if_waits, begun_row, opened_row, answer_line, outcome_row, decided_row, is_current}
 pub use Rattle.jn_storage.specs.DeviceCalls.{row_calls, step_calls}
 pub use Rattle.jn_base.specs.declared.device.Outside.{Outside}
-pub use Rattle.jn_written.specs.Runs.{none, more, Moment, Leads, MayLead, DoesStep}
+pub use Rattle.jn_written.specs.Runs.{none, more, Moment, Leads, DoesStep, MayLead}
 pub use Rattle.jn_store.specs.DeviceCalls.{cleaned_get_calls, put_calls}
 pub use Rattle.jn_system_settling.specs.Settling.Rows.{s0, file, block}
-pub use Rattle.jn_device.specs.Events.{disarmed, powered_off, may_arm, Arms as FaultArmed, Decays as PageDecays}
+pub use Rattle.jn_device.specs.Events.{disarmed, powered_off, may_arm, Arms as FaultArmed, Decays as PageDecays, Revives as PageRevives}
 pub use Rattle.jn_found.specs.Pages.{found_on, pool_on, heads_on, record_or_free, head_or_free, listed, pages_by, state_of}
 pub use Rattle.jn_store.specs.Pairs.{pairs_view}
-pub use Rattle.jn_system.specs.WholeSystem.Servers.{named_now, Room, server_row, server_step, restored, storage_of, of_worker, is_busy as has_going, of_coordinator, is_for_worker, of_step, server_again, of_timeout, server_timeout, line_of, lines_of}
+pub use Rattle.jn_device.specs.declared.Armed.{Armed}
+pub use Rattle.jn_wrong.specs.Faults.{IsOneOfGood, IsOnlyOfGood, arms_far, quiet_report, decays_with_power, forgiven_report, IsNoneOfGood, decays_once, first_decay_told, decays_both, both_report, decays_behind_scrub, nothing_mended, nothing_forgiven, decays_behind_restart, restarted_report, left_unmended, arms_two, armed_too_many, show_stopped, AreGood, arms_first, arms_in_order, arms_null, null_told, stop_met, outside_in_order, Computes, stop_passed_by, outside_swapped}
+pub use Rattle.jn_system.specs.WholeSystem.Servers.{named_now, Room, server_row, server_step, storage_of, of_worker, is_busy as has_going, of_coordinator, is_for_worker, of_step, server_again, of_timeout, server_timeout, restored, line_of, lines_of}
 pub use Rattle.jn_wrong.specs.Turns.{epoch_after, may_rise, epochs_rise, is_by, are_by, are_read, is_up_after, may_be_told, takes_turns}
 pub use Rattle.jn_system.proofs.WholeSystem.OneChange.{one-found, one-server, one-client}
 pub use Rattle.jn_system.proofs.WholeSystem.StepCases.{FoundThen, by_narrowing, by_raising, StepCase, client_row, row_done, row_stopped, gone_late, gone_down, come_up, found_anew, dismissed, quietly, step-case, ClientRow, by_command, by_ignoring, by_answering, by_telling, ServerRow, of_message, of_work, of_closing, Quiet, is_refused, client_repeats, server_repeats, is_lost}
 pub use Rattle.jn_base.specs.declared.names.LockUnit.{LockUnit}
 pub use Rattle.jn_system_settling.proofs.Settling.Settling.{on-world}
 pub use Rattle.std.proofs.Math.Path.{fun_ext}
-pub use Rattle.jn_device.specs.declared.Armed.{Armed}
-pub use Rattle.jn_wrong.specs.Faults.{IsOnlyOfGood, arms_far, quiet_report, decays_with_power, forgiven_report, IsNoneOfGood, decays_once, first_decay_told, decays_both, both_report, decays_behind_scrub, nothing_mended, nothing_forgiven, decays_behind_restart, restarted_report, left_unmended, arms_two, armed_too_many, show_stopped, IsOneOfGood, AreGood, arms_first, arms_in_order, arms_null, null_told, stop_met, outside_in_order, Computes, stop_passed_by, outside_swapped}
 pub use Rattle.jn_written.specs.Kinds.{may_tell, is_of_delivery, is_up, is_down, is_stopped, events_left, is_note, is_answer}
 pub use Rattle.jn_written.proofs.Texts.{More, gone-on, task-texts, Besides}
 pub use Rattle.jn_wrong.specs.Settles.{HandsOver, ComesToRest}
 pub use Rattle.jn_msgs.specs.declared.message.Message.{Message}
 pub use Rattle.jn_wrong.specs.Leaving.{steps_in, IsUpBehind, removes_none}
 pub use Rattle.jn_written.specs.Rubbish.{rubbish_records, left_by_changes, left_by_work, left_by_message, left_at_work, left_by_restart, left_by_sent, left_by_steps, AreCounted, CountsAll}
-pub use Rattle.jn_store.specs.Store.{IsWholePage, Candidate, IsClean, StorePut, StoreLater, StoreView}
+pub use Rattle.jn_store.specs.Store.{IsWholePage, Candidate, StorePut, StoreLater, StoreView, IsClean}
 pub use Rattle.jn_wrong.specs.Telling.{MayDecay, AreMended, is_outside, outside_lines, outside_at, TellsOf, TellsRaised, AreToldBy, TellsFaults}
 pub use Rattle.jn_found.specs.Recoverable.{IsRecoverable}
 pub use Rattle.jn_records.specs.declared.head.Head.{Head}

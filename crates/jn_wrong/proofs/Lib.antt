@@ -40,4 +40,7 @@ pub mod Scrubbed
 pub mod Mended
 pub mod NewDevice
 pub mod OnDevices
+pub mod OnSteps
+pub mod OnEvents
+pub mod Endings
 pub mod OneRun

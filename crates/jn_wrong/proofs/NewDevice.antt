@@ -1,5 +1,5 @@
 -- The device of a server on which nothing is stored: zeros behind the root, whatever befell its halves.
-use Rattle.jn_wrong.proofs.Common.{◌≡◌, ◌-◌, subst, Some, Option, ◌≤◌, ◌<◌, ◌+◌, ◌/◌, ◌||◌, ℕ, Bool, true, false, true≢false, nat_eq, nat_lt, if◌then◌else◌, List, [], refl, sym, ◌∙◌, ap, inl, arith, inr, fun_ext, blank, DeviceState, PageState, bumped, Armed, Happens, put, joined, pairs_view, found_on, Pick, s0, pages_of, ◌^◌, replicate, blank_page, pool_on, heads_on, record_or_free, head_or_free, IsRecoverable, Head, FreeHead, Record, Free, root_by, Candidate, IsClean, IsWholePage, StorePut, StoreLater}
+use Rattle.jn_wrong.proofs.Common.{not, ◌&&◌, PageDecays, ◌≡◌, ◌-◌, subst, Some, Option, ◌≤◌, ◌<◌, ◌+◌, ◌/◌, ◌||◌, ℕ, Bool, true, false, true≢false, nat_eq, nat_lt, if◌then◌else◌, List, [], refl, sym, ◌∙◌, ap, inl, arith, inr, fun_ext, blank, DeviceState, PageState, bumped, Armed, Happens, put, joined, pairs_view, found_on, Pick, s0, pages_of, ◌^◌, replicate, blank_page, pool_on, heads_on, record_or_free, head_or_free, IsRecoverable, Head, FreeHead, Record, Free, root_by, Candidate, StorePut, StoreLater, Decay, Revive, page_met, PageRevives}
 use Rattle.jn_device.proofs.Happening.{happens_later}
 use Rattle.jn_disks.specs.Disks.{no_files as nothing_there}
 use Rattle.jn_disks.proofs.NewStores.{new_is}
@@ -26,8 +26,18 @@ bytes_at epoch q = if is_root q then root_at epoch else blank_page
 abbrev pub pages_at : ℕ → (ℕ → Bool) → (ℕ → ℕ) → ℕ → PageState
 pages_at epoch good fails q = record { good = good q; bytes = bytes_at epoch q; missed = false; fails = fails q }
 
-abbrev pub device : (ℕ → PageState) → Bool → List Armed → ℕ → ℕ → DeviceState
-device pages power waiting calls puts = record { count = 354; pages = pages; power = power; waiting = waiting; told = []; calls = calls; puts = puts; stops = 0 }
+-- what a device has counted
+pub record Tally : Type 0 where
+  pub calls : ℕ
+  pub puts : ℕ
+  pub stops : ℕ
+
+abbrev pub device : (ℕ → PageState) → Bool → List Armed → Tally → DeviceState
+device pages power waiting t = record { count = 354; pages = pages; power = power; waiting = waiting; told = []; calls = t.calls; puts = t.puts; stops = t.stops }
+
+-- behind a put
+abbrev pub put_on : Tally → Tally
+put_on t = record { calls = bumped t.calls; puts = bumped t.puts; stops = t.stops }
 
 -- ---- puts
 
@@ -48,8 +58,8 @@ put-unfailed p page pages h q = by (nat_eq q p)
     by true = refl
     by false = h q
 
-pub put-one : (pages : ℕ → PageState) (calls puts p : ℕ) (page : List ℕ) → p < 354 → Unfailed pages → Happens (device pages true [] calls puts) (device (put_at p page pages) true [] (bumped calls) (bumped puts))
-put-one pages calls puts p page lt unfailed = put (device pages true [] calls puts) (device (put_at p page pages) true [] (bumped calls) (bumped puts)) p page false lt (record {
+pub put-one : (pages : ℕ → PageState) (t : Tally) (p : ℕ) (page : List ℕ) → p < 354 → Unfailed pages → Happens (device pages true [] t) (device (put_at p page pages) true [] (put_on t))
+put-one pages t p page lt unfailed = put (device pages true [] t) (device (put_at p page pages) true [] (put_on t)) p page false lt (record {
   call = record { count = refl; power = refl; waiting = refl; told_is = refl; calls = refl; stops_are = refl };
   answers = refl;
   page = ap (λ (b : Bool). if b then sound page else pages p) (same p) ∙ ap (λ (n : ℕ). record { good = true; bytes = page; missed = false; fails = n }) (sym (unfailed p));
@@ -67,10 +77,10 @@ put-one pages calls puts p page lt unfailed = put (device pages true [] calls pu
 abbrev pub renewed : ℕ → (ℕ → PageState) → ℕ → PageState
 renewed epoch pages = put_at 177 (root_at epoch) (put_at 0 (root_at epoch) pages)
 
-pub put-root : (epoch : ℕ) (pages : ℕ → PageState) (calls puts : ℕ) → Unfailed pages → Happens (device pages true [] calls puts) (device (renewed epoch pages) true [] (bumped (bumped calls)) (bumped (bumped puts)))
-put-root epoch pages calls puts unfailed = joined _ (device (put_at 0 (root_at epoch) pages) true [] (bumped calls) (bumped puts)) _
-    (put-one pages calls puts 0 (root_at epoch) (omega arith) unfailed)
-    (put-one (put_at 0 (root_at epoch) pages) (bumped calls) (bumped puts) 177 (root_at epoch) (omega arith) (put-unfailed 0 (root_at epoch) pages unfailed))
+pub put-root : (epoch : ℕ) (pages : ℕ → PageState) (t : Tally) → Unfailed pages → Happens (device pages true [] t) (device (renewed epoch pages) true [] (put_on (put_on t)))
+put-root epoch pages t unfailed = joined _ (device (put_at 0 (root_at epoch) pages) true [] (put_on t)) _
+    (put-one pages t 0 (root_at epoch) (omega arith) unfailed)
+    (put-one (put_at 0 (root_at epoch) pages) (put_on t) 177 (root_at epoch) (omega arith) (put-unfailed 0 (root_at epoch) pages unfailed))
 
 pub bumped-least : (n : ℕ) → bumped n ≤ n + 1
 bumped-least n = by (nat_lt n (2 ^ 64 - 1))
@@ -129,17 +139,69 @@ mended-good old epoch p good others = fun_ext (λ q. at q (nat_eq q p) refl)
         ∙ ap (λ (b : Bool). behind epoch q (record { good = b; bytes = bytes_at old q; missed = false; fails = 0 })) (others q e) ∙ as_old (nat_eq q 0) (nat_eq q 177)
 
 -- three puts
-abbrev pub thrice : ℕ → ℕ
-thrice n = bumped (bumped (bumped n))
+abbrev pub thrice : Tally → Tally
+thrice t = put_on (put_on (put_on t))
 
-pub thrice-least : (n : ℕ) → thrice n ≤ n + 3
-thrice-least n = let one = bumped-least n in let two = bumped-least (bumped n) in let three = bumped-least (bumped (bumped n)) in omega (arith, one, two, three)
+pub thrice-least : (t : Tally) → (thrice t).calls ≤ t.calls + 3
+thrice-least t = let one = bumped-least t.calls in let two = bumped-least (bumped t.calls) in let three = bumped-least (bumped (bumped t.calls)) in omega (arith, one, two, three)
 
-pub mends : (old epoch p : ℕ) (good : ℕ → Bool) (calls puts : ℕ) → p < 354 → OthersGood p good → Happens (device (pages_at old good (λ q. 0)) true [] calls puts) (device (good_at epoch) true [] (thrice calls) (thrice puts))
-mends old epoch p good calls puts lt others = subst (λ (pages : ℕ → PageState). Happens (device (pages_at old good (λ q. 0)) true [] calls puts) (device pages true [] (thrice calls) (thrice puts))) (mended-good old epoch p good others)
-    (joined _ (device (put_at p blank_page (pages_at old good (λ q. 0))) true [] (bumped calls) (bumped puts)) _
-    (put-one (pages_at old good (λ q. 0)) calls puts p blank_page lt (λ q. refl))
-    (put-root epoch (put_at p blank_page (pages_at old good (λ q. 0))) (bumped calls) (bumped puts) (put-unfailed p blank_page (pages_at old good (λ q. 0)) (λ q. refl))))
+pub mends : (old epoch p : ℕ) (good : ℕ → Bool) (t : Tally) → p < 354 → OthersGood p good → Happens (device (pages_at old good (λ q. 0)) true [] t) (device (good_at epoch) true [] (thrice t))
+mends old epoch p good t lt others = subst (λ (pages : ℕ → PageState). Happens (device (pages_at old good (λ q. 0)) true [] t) (device pages true [] (thrice t))) (mended-good old epoch p good others)
+    (joined _ (device (put_at p blank_page (pages_at old good (λ q. 0))) true [] (put_on t)) _
+    (put-one (pages_at old good (λ q. 0)) t p blank_page lt (λ q. refl))
+    (put-root epoch (put_at p blank_page (pages_at old good (λ q. 0))) (put_on t) (put-unfailed p blank_page (pages_at old good (λ q. 0)) (λ q. refl))))
+
+-- ---- one half that goes bad, and is put or revived
+
+abbrev pub all_but : ℕ → ℕ → Bool
+all_but p q = if nat_eq q p then false else true
+
+-- and failed once more
+abbrev pub failed_at : ℕ → (ℕ → ℕ) → ℕ → ℕ
+failed_at p fails q = if nat_eq q p then fails q + 1 else fails q
+
+pub all-but-good : (p : ℕ) → OthersGood p (all_but p)
+all-but-good p q e = ap (λ (b : Bool). if b then false else true) e
+
+is-same : (p q : ℕ) (b : Bool) → nat_eq p q ≡ b → nat_eq q p ≡ b
+is-same p q b e = grind (arith, e)
+
+pub at-same : (p q : ℕ) → nat_eq p q ≡ true → p ≡ q
+at-same p q e = grind (arith, e)
+
+pub decays-at : (epoch p : ℕ) (fails : ℕ → ℕ) (waiting : List Armed) (t : Tally) → nat_lt (fails p) 3 ≡ true
+    → PageDecays (device (pages_at epoch (λ q. true) fails) true waiting t) p true (device (pages_at epoch (all_but p) (failed_at p fails)) true waiting t)
+decays-at epoch p fails waiting t few = record {
+  answers = ap (λ (b : Bool). not (true && not (b && true))) (sym few);
+  becomes = record { count = refl; pages_are = λ q. at q (nat_eq p q) refl; power_is = refl; waiting = refl; told = refl; calls = refl; puts = refl; stops = refl };
+}
+  where
+    at : (q : ℕ) (b : Bool) → nat_eq p q ≡ b → pages_at epoch (all_but p) (failed_at p fails) q ≡ page_met (device (pages_at epoch (λ q. true) fails) true waiting t) (Some (Decay p)) q
+    at q true e =
+        let other : nat_eq q p ≡ true = is-same p q true e in
+        let here : nat_lt (fails q) 3 ≡ true = subst (λ (k : ℕ). nat_lt (fails k) 3 ≡ true) (at-same p q e) few in
+        rw (e, other, here) refl
+    at q false e = let other : nat_eq q p ≡ false = is-same p q false e in rw (e, other) refl
+
+pub revives-at : (epoch p : ℕ) (fails : ℕ → ℕ) (waiting : List Armed) (t : Tally) → PageRevives (device (pages_at epoch (all_but p) fails) true waiting t) p (device (pages_at epoch (λ q. true) fails) true waiting t)
+revives-at epoch p fails waiting t = record { count = refl; pages_are = λ q. at q (nat_eq p q) refl; power_is = refl; waiting = refl; told = refl; calls = refl; puts = refl; stops = refl }
+  where
+    at : (q : ℕ) (b : Bool) → nat_eq p q ≡ b → pages_at epoch (λ q. true) fails q ≡ page_met (device (pages_at epoch (all_but p) fails) true waiting t) (Some (Revive p)) q
+    at q true e = rw e refl
+    at q false e = let other : nat_eq q p ≡ false = is-same p q false e in rw (e, other) refl
+
+-- a put brings it back
+pub put-back : (epoch p : ℕ) (fails : ℕ → ℕ) (t : Tally) → p < 354 → is_root p ≡ false → Happens (device (pages_at epoch (all_but p) fails) true [] t) (device (pages_at epoch (λ q. true) fails) true [] (put_on t))
+put-back epoch p fails t lt behind = put (device (pages_at epoch (all_but p) fails) true [] t) (device (pages_at epoch (λ q. true) fails) true [] (put_on t)) p blank_page false lt (record {
+  call = record { count = refl; power = refl; waiting = refl; told_is = refl; calls = refl; stops_are = refl };
+  answers = refl;
+  page = ap (λ (b : Bool). record { good = true; bytes = if b then root_at epoch else blank_page; missed = false; fails = fails p }) behind;
+  others = λ q ne. ap (λ (b : Bool). record { good = b; bytes = bytes_at epoch q; missed = false; fails = fails q }) (sym (all-but-good p q (other q ne)));
+  puts = refl;
+})
+  where
+    other : (q : ℕ) → (q ≡ p → ⊥) → nat_eq q p ≡ false
+    other q ne = grind (arith, ne)
 
 -- ---- the halves of a page are equal
 
@@ -171,13 +233,13 @@ pub record IsBlankOn (epoch : ℕ) (d : DeviceState) : Type 0 where
 
 module _ (epoch : ℕ) (fits : epoch < 2 ^ 32) where
   abbrev empty : DeviceState
-  empty = device blank_pages true [] 0 0
+  empty = device blank_pages true [] (record { calls = 0; puts = 0; stops = 0 })
 
   abbrev rooted : DeviceState
-  rooted = device (good_at epoch) true [] (bumped (bumped 0)) (bumped (bumped 0))
+  rooted = device (good_at epoch) true [] (put_on (put_on (record { calls = 0; puts = 0; stops = 0 })))
 
   path : Happens empty rooted
-  path = subst (λ (pages : ℕ → PageState). Happens empty (device pages true [] (bumped (bumped 0)) (bumped (bumped 0)))) (root-of-blank epoch) (put-root epoch blank_pages 0 0 (λ q. refl))
+  path = subst (λ (pages : ℕ → PageState). Happens empty (device pages true [] (put_on (put_on (record { calls = 0; puts = 0; stops = 0 }))))) (root-of-blank epoch) (put-root epoch blank_pages (record { calls = 0; puts = 0; stops = 0 }) (λ q. refl))
 
   later : StoreLater (pairs_view empty) (pairs_view rooted)
   later = let l = happens_later empty rooted path in record {
@@ -234,8 +296,8 @@ module _ (epoch : ℕ) (fits : epoch < 2 ^ 32) where
   fresh = let new = new_is s0 the_counts epoch fits fit (pairs_view empty) (pairs_view rooted) zeros stored in new.fresh
 
   -- whichever halves are good, whether or not it has power, and whatever waits
-  pub blank-on : (good : ℕ → Bool) (fails : ℕ → ℕ) (power : Bool) (waiting : List Armed) (calls puts : ℕ) → IsBlankOn epoch (device (pages_at epoch good fails) power waiting calls puts)
-  blank-on good fails power waiting calls puts = record {
+  pub blank-on : (good : ℕ → Bool) (fails : ℕ → ℕ) (power : Bool) (waiting : List Armed) (t : Tally) → IsBlankOn epoch (device (pages_at epoch good fails) power waiting t)
+  blank-on good fails power waiting t = record {
     recoverable = let r = fresh.recoverable in record { count = r.count; each = r.each; clean = r.clean };
     found = fresh.found;
     pool = ap (λ (o : Option Record). replicate 32 (record_or_free o)) zeros-record;

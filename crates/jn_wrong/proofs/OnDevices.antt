@@ -3,20 +3,20 @@ use Rattle.jn_wrong.proofs.Common.{◌≡◌, ◌≤◌, ◌<◌, ◌+◌, ◌-�
 use Rattle.jn_device.specs.Happens.{none}
 use Rattle.jn_found.specs.Contents.{heads_name, works_name}
 use Rattle.jn_sets.specs.Pool.{free_count, rubbish_count}
-use Rattle.jn_wrong.proofs.NewDevice.{device, good_at, pages_at, OthersGood, IsBlankOn, blank-on, halves-equal, thrice, thrice-least, mends}
+use Rattle.jn_wrong.proofs.NewDevice.{Tally, device, good_at, pages_at, OthersGood, IsBlankOn, blank-on, halves-equal, thrice, thrice-least, mends}
 use Rattle.jn_wrong.proofs.Pairs.{the_counts}
 
 -- ---- devices
 
 -- what the run begins with, and stays at servers that aren't there
 abbrev pub new_device : DeviceState
-new_device = device (good_at 0) true [] 2 2
+new_device = device (good_at 0) true [] (record { calls = 2; puts = 2; stops = 0 })
 
 abbrev pub at_s0 : DeviceState → Devices
 at_s0 d q = if server_eq s0 q then d else new_device
 
 pub new-blank : IsBlankOn 0 new_device
-new-blank = blank-on 0 (omega arith) (λ q. true) (λ q. 0) true [] 2 2
+new-blank = blank-on 0 (omega arith) (λ q. true) (λ q. 0) true [] (record { calls = 2; puts = 2; stops = 0 })
 
 abbrev numbered : ℕ → ServerNo
 numbered n = record { 0 = n }
@@ -95,10 +95,10 @@ disarms d q = by (server_eq s0 q)
     by false = refl
 
 -- it is called, and makes no call
-pub uncalled : (most : ℕ) (h : Chance) (pages : ℕ → PageState) (waiting : List Armed) (calls puts : ℕ) → h.told ≡ [] → is_some h.stop ≡ false → IsCalled most h (device pages true waiting calls puts) (device pages true waiting calls puts)
-uncalled most h pages waiting calls puts told stop = record {
-  last = device pages true waiting calls puts;
-  happens = none (device pages true waiting calls puts);
+pub uncalled : (most : ℕ) (h : Chance) (pages : ℕ → PageState) (waiting : List Armed) (t : Tally) → h.told ≡ [] → is_some h.stop ≡ false → IsCalled most h (device pages true waiting t) (device pages true waiting t)
+uncalled most h pages waiting t told stop = record {
+  last = device pages true waiting t;
+  happens = none (device pages true waiting t);
   few = omega arith;
   whole = λ c i lt whole. whole;
   told = told;
@@ -127,16 +127,16 @@ all-free epoch d x m is records files = sym (
     )
 
 -- the power comes, this half is put anew, and the root with the next epoch
-pub recovers-so : (h : Chance) (old epoch p : ℕ) (good : ℕ → Bool) (power : Bool) (fails : ℕ → ℕ) (calls puts : ℕ) → p < 354 → OthersGood p good → h.told ≡ [] → is_some h.stop ≡ false
-    → IsRecovery the_counts h true (device (pages_at old good fails) power [] calls puts) (device (good_at epoch) true [] (thrice calls) (thrice puts))
-recovers-so h old epoch p good power fails calls puts lt others told stop = record {
-  powered = device (pages_at old good (λ q. 0)) true [] calls puts;
-  last = device (good_at epoch) true [] (thrice calls) (thrice puts);
+pub recovers-so : (h : Chance) (old epoch p : ℕ) (good : ℕ → Bool) (power : Bool) (fails : ℕ → ℕ) (t : Tally) → p < 354 → OthersGood p good → h.told ≡ [] → is_some h.stop ≡ false
+    → IsRecovery the_counts h true (device (pages_at old good fails) power [] t) (device (good_at epoch) true [] (thrice t))
+recovers-so h old epoch p good power fails t lt others told stop = record {
+  powered = device (pages_at old good (λ q. 0)) true [] t;
+  last = device (good_at epoch) true [] (thrice t);
   power = record { count = refl; pages_are = λ q. refl; power_is = refl; waiting = refl; told = refl; calls = refl; puts = refl; stops = refl };
   called = record {
-    last = device (good_at epoch) true [] (thrice calls) (thrice puts);
-    happens = mends old epoch p good calls puts lt others;
-    few = let three = thrice-least calls in omega (arith, three);
+    last = device (good_at epoch) true [] (thrice t);
+    happens = mends old epoch p good t lt others;
+    few = let three = thrice-least t in omega (arith, three);
     whole = λ c i lt whole. record { both = refl; clean = halves-equal epoch i lt };
     told = told;
     stop = stop;
