@@ -171,3 +171,46 @@ module _ (a : ℕ) (few : a < 1000) (memory : Memory) (rest : ServerNo → Optio
 
   pub from-up : Leads (setup 1) (at at_last (as_left waiting)) (at (at_close a few (λ q. if server_eq s0 q then Some memory else rest q) others n crashed.course.world.lines crashed.course.steps crashed.lines p lt good fine fails t) (device (good_at (a + 1)) true [] (thrice t)))
   from-up = more _ _ _ dismisses (more _ _ _ goes-down (from-down a few (λ q. if server_eq s0 q then Some memory else rest q) others n crashed.course.world.lines crashed.course.steps crashed.lines p lt good fine fails t))
+
+-- ---- and of one whose server is down before the end
+
+module _ (a : ℕ) (few : a < 1000) (rest : ServerNo → Option Memory) (others : ServerNo → Pick → StableState) (n : ℕ) (texts : List Text) (steps : List Step) (lines : List Line)
+    (p : ℕ) (lt : p < 354) (good : ℕ → Bool) (fine : OthersGood p good) (fails : ℕ → ℕ) (waiting : List Armed) (t : Tally) where
+  abbrev pub at_off : State
+  at_off = record {
+    course = record {
+      world = record {
+        memory = λ q. if server_eq s0 q then None else rest q;
+        found = λ q c. if server_eq s0 q then blank a else others q c;
+        clients = λ c. new_table c 1;
+        sent = [];
+        lines = texts;
+        event = n;
+      };
+      waiting = [];
+      steps = steps;
+    };
+    tasks = ending (setup 1);
+    lines = lines;
+    stage = InSchedule;
+  }
+
+  off-blank : (waiting : List Armed) → IsBlankOn a (device (pages_at a good fails) false waiting t)
+  off-blank waiting = blank-on a (omega (arith, few)) good fails false waiting t
+
+  abbrev as_off : List Armed → DeviceState
+  as_off waiting = device (pages_at a good fails) false waiting t
+
+  abbrev disarmed_off : State
+  disarmed_off = then_done Dismisses at_off
+
+  disarms-off : DoesStep (setup 1) (at at_off (as_off waiting)) (at disarmed_off (as_off []))
+  disarms-off = does calm Dismisses (calm_deed Dismisses at_off) at_off (as_off waiting) (as_off []) a a refl refl (off-blank waiting) (off-blank []) (λ q. refl) (tt, tt) (λ c. refl) refl (disarms (as_off waiting))
+
+  -- it goes down no more
+  abbrev stays_off : State
+  stays_off = idled 1 disarmed_off
+
+  pub from-off : Leads (setup 1) (at at_off (as_off waiting)) (at (at_close a few rest others n stays_off.course.world.lines stays_off.course.steps stays_off.lines p lt good fine fails t) (device (good_at (a + 1)) true [] (thrice t)))
+  from-off = more _ _ _ disarms-off (idle-steps 1 disarmed_off (as_off []) a _ (off-blank []) ((tt, (λ c. refl), refl, refl), tt)
+      (from-down a few rest others n stays_off.course.world.lines stays_off.course.steps stays_off.lines p lt good fine fails t))

@@ -44,3 +44,4 @@ pub mod OnSteps
 pub mod OnEvents
 pub mod Endings
 pub mod OneRun
+pub mod StruckRuns

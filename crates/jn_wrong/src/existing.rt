@@ -1,7 +1,8 @@
 //! Whole runs that are there: images of a new server, and a device of which each step is what the machine asks of it.
 
 ghost use Rattle.std.specs.Prelude.{[]};
-ghost use Rattle.jn_wrong.specs.Faults.{IsOneOfGood, quiet_report, decays_once, decays_both, both_report, decays_behind_scrub, decays_with_power, forgiven_report, decays_behind_restart, restarted_report, arms_two, arms_far};
+ghost use Rattle.jn_base.specs.declared.device.FaultKind.TheVariants.{Null};
+ghost use Rattle.jn_wrong.specs.Faults.{IsOneOfGood, quiet_report, decays_once, decays_both, both_report, decays_behind_scrub, decays_with_power, forgiven_report, decays_behind_restart, restarted_report, arms_two, arms_far, arms_first, stop_met, arms_in_order, outside_in_order, arms_null, null_told};
 
 /// A run without events comes to its end.
 pub fn a_run_without_events_is_there()
@@ -17,4 +18,11 @@ pub fn runs_with_faults_are_there()
     ensures restart { IsOneOfGood decays_behind_restart restarted_report }
     ensures two_faults { IsOneOfGood arms_two quiet_report }
     ensures far_off { IsOneOfGood arms_far quiet_report }
+{}
+
+/// And so where a stop or a fault waits for a restart: the faults are told at the halves of the root, which are read first.
+pub fn runs_struck_at_a_restart_are_there()
+    ensures stop { IsOneOfGood arms_first stop_met }
+    ensures one_fault { IsOneOfGood arms_null (null_told Null 0) }
+    ensures two_faults { IsOneOfGood arms_in_order (outside_in_order 0 177) }
 {}

@@ -13,7 +13,9 @@ ghost use Rattle.std.specs.Prelude.{◌≡◌, ℕ, nat_lt, false};
 ghost use Rattle.jn_base.specs.declared.names.Resource.{Resource};
 ghost use Rattle.jn_wrong.specs.Wrong.{IsNone, begins, makes_one, makes_and_reads, opens_and_loses, answered_too_soon, stopped_by_nothing, fault_of_nothing, lost_without_opening, file_left_out, file_locked, page_unwritten, other_bytes, named_again, full_of};
 
-pub use existing::{a_run_without_events_is_there, runs_with_faults_are_there};
+pub use existing::{
+    a_run_without_events_is_there, runs_struck_at_a_restart_are_there, runs_with_faults_are_there,
+};
 pub use faulty::{
     a_decay_passed_over_is_none, a_fault_at_a_page_that_is_not_there_is_none,
     a_fault_refused_for_a_free_call_is_none, a_fault_that_waited_is_told,
