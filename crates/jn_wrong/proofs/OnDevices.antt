@@ -1,5 +1,6 @@
 -- Steps of one server on which nothing is stored, over its device.
-use Rattle.jn_wrong.proofs.Common.{◌≡◌, ◌≤◌, ◌<◌, ◌+◌, ◌-◌, ◌||◌, ℕ, Bool, true, false, not, if◌then◌else◌, List, [], refl, sym, ◌∙◌, ap, subst, arith, is_some, server_eq, ServerNo, no_files, World, Memory, run, IsRun, Chance, Deed, Devices, Alone, Befalls, IsCalled, IsRecovery, IsUsed, rubbish_on, pages_of, setup, s0, blank, DeviceState, PageState, Armed, disarmed, found_on, pairs_view, Pick, stable, StableState, closed_world, AreImages, replicate, count_by, pool_on, heads_on, listed, IsRecoverable, Head, FreeHead, Need, Record, Free, page_count, promised, is_free_head, promised_heads, free_on, has_rubbish, rubbish_records, left_by_steps, AreCounted, CountsAll, IsFreshDevice}
+use Rattle.jn_found.specs.Puts.{IsFrontClean, IsFrontWhole}
+use Rattle.jn_wrong.proofs.Common.{◌≡◌, ◌<◌, ◌+◌, ◌-◌, ◌||◌, ℕ, Bool, true, false, not, if◌then◌else◌, List, [], refl, sym, ◌∙◌, ap, subst, arith, is_some, server_eq, ServerNo, no_files, World, Memory, run, IsRun, Chance, Deed, Devices, Alone, Befalls, IsCalled, IsRecovery, IsUsed, rubbish_on, pages_of, setup, s0, blank, DeviceState, PageState, Armed, disarmed, found_on, pairs_view, Pick, stable, StableState, closed_world, AreImages, replicate, count_by, pool_on, heads_on, listed, IsRecoverable, Head, FreeHead, Need, Record, Free, page_count, promised, is_free_head, promised_heads, free_on, has_rubbish, rubbish_records, left_by_steps, AreCounted, CountsAll, IsFreshDevice}
 use Rattle.jn_device.specs.Happens.{none}
 use Rattle.jn_found.specs.Contents.{heads_name, works_name}
 use Rattle.jn_sets.specs.Pool.{free_count, rubbish_count}
@@ -126,6 +127,21 @@ all-free epoch d x m is records files = sym (
     ∙ ap (λ (n : ℕ). free_in (replicate 32 Free) (replicate 16 FreeHead) 0 n) files
     )
 
+-- root, records and heads are clean, and whole where all halves are good
+pub front-clean : (epoch : ℕ) (good : ℕ → Bool) (fails : ℕ → ℕ) (power : Bool) (waiting : List Armed) (t : Tally) → IsFrontClean the_counts (pairs_view (device (pages_at epoch good fails) power waiting t))
+front-clean epoch good fails power waiting t = record {
+  root = refl;
+  pool = λ i lt. halves-equal epoch (1 + i) (omega (arith, lt));
+  heads = λ i lt. halves-equal epoch (1 + 32 + i) (omega (arith, lt));
+}
+
+pub front-whole : (epoch : ℕ) (power : Bool) (waiting : List Armed) (t : Tally) → IsFrontWhole the_counts (pairs_view (device (good_at epoch) power waiting t))
+front-whole epoch power waiting t = record {
+  root = record { both = refl; clean = refl };
+  pool = λ i lt. record { both = refl; clean = halves-equal epoch (1 + i) (omega (arith, lt)) };
+  heads = λ i lt. record { both = refl; clean = halves-equal epoch (1 + 32 + i) (omega (arith, lt)) };
+}
+
 -- the power comes, this half is put anew, and the root with the next epoch
 pub recovers-so : (h : Chance) (old epoch p : ℕ) (good : ℕ → Bool) (power : Bool) (fails : ℕ → ℕ) (t : Tally) → p < 354 → OthersGood p good → h.told ≡ [] → is_some h.stop ≡ false
     → IsRecovery the_counts h true (device (pages_at old good fails) power [] t) (device (good_at epoch) true [] (thrice t))
@@ -143,14 +159,6 @@ recovers-so h old epoch p good power fails t lt others told stop = record {
     after = refl;
   };
   after = refl;
-  front = λ up. record {
-    root = refl;
-    pool = λ i lt. halves-equal epoch (1 + i) (omega (arith, lt));
-    heads = λ i lt. halves-equal epoch (1 + 32 + i) (omega (arith, lt));
-  };
-  front_whole = λ up quiet. record {
-    root = record { both = refl; clean = refl };
-    pool = λ i lt. record { both = refl; clean = halves-equal epoch (1 + i) (omega (arith, lt)) };
-    heads = λ i lt. record { both = refl; clean = halves-equal epoch (1 + 32 + i) (omega (arith, lt)) };
-  };
+  front = λ up. front-clean epoch (λ q. true) (λ q. 0) true [] (thrice t);
+  front_whole = λ up quiet. front-whole epoch true [] (thrice t);
 }

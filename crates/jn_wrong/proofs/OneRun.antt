@@ -1,29 +1,13 @@
--- Whole runs over devices that are written out.
-use Rattle.jn_wrong.proofs.Common.{◌≡◌, ◌+◌, ℕ, Bool, true, false, [], ◌∷◌, refl, subst, arith, nat_eq, Some, Event, Text, Meets, State, Chance, FaultKind, StopBefore, Null, Decays, Revives, Arms, Cleans, recovered, PageDecays, calm, s0, quiet_report, decays_once, decays_both, both_report, decays_behind_scrub, decays_with_power, forgiven_report, decays_behind_restart, restarted_report, arms_two, arms_far, more, Deed, DeviceState, page_met, Allows, IsOneOfGood}
+-- Whole runs over devices that are written out: without events, with decays, with faults that wait and with restarts.
+use Rattle.jn_wrong.proofs.Common.{◌≡◌, ℕ, Bool, true, false, [], ◌∷◌, refl, subst, arith, nat_eq, Some, Meets, State, Chance, StopBefore, Null, Decays, PageDecays, calm, s0, quiet_report, decays_once, decays_both, both_report, decays_behind_scrub, decays_with_power, forgiven_report, decays_behind_restart, restarted_report, arms_two, arms_far, more, DeviceState, page_met, Allows, IsOneOfGood}
 use Rattle.jn_base.specs.declared.device.FaultKind.TheVariants as faults
 use Rattle.jn_report.specs.declared.line.Text.TheVariants as says
 use Rattle.jn_schedule.specs.declared.Event.TheVariants as events
-use Rattle.jn_wrong.proofs.NewDevice.{Tally, device, good_at, pages_at, put_on, thrice, all_but, failed_at, all-but-good, at-same, blank-on}
+use Rattle.jn_wrong.proofs.NewDevice.{device, pages_at, put_on, thrice, all_but, failed_at, all-but-good, at-same, blank-on}
 use Rattle.jn_wrong.proofs.OnDevices.{alone}
-use Rattle.jn_wrong.proofs.OnSteps.{made_so, use_deed, does-use, idled}
-use Rattle.jn_wrong.proofs.OnEvents.{IsMet, met_so, crash_deed, begins-then, decays-then, revives-then, arms-then, shows-then, scrubs-then, crashes-then, restarts-then}
+use Rattle.jn_wrong.proofs.OnSteps.{use_deed, does-use, idled}
+use Rattle.jn_wrong.proofs.OnEvents.{decayed, revived, armed, scrubbed, crashed, restarted, begins-then, decays-then, revives-then, arms-then, shows-then, scrubs-then, crashes-then, restarts-then}
 use Rattle.jn_wrong.proofs.Endings.{one-so, names-nothing, at_up, first_tally, from-up}
-
--- what was done
-abbrev decayed : ℕ → State → State
-decayed p s = met_so (events.Decay s0 p) (use_deed (Decays s0 p) []) s
-
-abbrev revived : ℕ → State → State
-revived p s = met_so (events.Revive s0 p) (use_deed (Revives s0 p) []) s
-
-abbrev crashed : State → State
-crashed s = met_so (events.Crash s0) crash_deed s
-
-abbrev restarted : State → State
-restarted s = met_so (events.Restart s0) (recovered calm s0) s
-
-abbrev armed : ℕ → FaultKind → State → State
-armed n kind s = met_so (events.Arm s0 n kind) (use_deed (Arms s0 n kind) []) s
 
 -- how often half 5 has failed
 abbrev once : ℕ → ℕ
@@ -44,7 +28,7 @@ none-one = one-so [] quiet_report _ _ (from-up 1 (omega arith) _ _ _ 0 _ _ _ 5 (
 
 pub once-one : IsOneOfGood decays_once quiet_report
 once-one = one-so decays_once quiet_report _ _
-    (decays-then 1 (omega arith) (at_up decays_once) _ 5 (λ q. 0) [] first_tally refl (record { begins = ((tt, tt), (λ c. refl), refl, refl); next = refl; is = refl; found = λ c. refl })
+    (decays-then 1 (omega arith) (at_up decays_once) _ 5 (λ q. 0) [] first_tally refl (record { begins = refl; next = refl; is = refl; found = λ c. refl })
     (from-up 1 (omega arith) _ _ _ 1 _ _ _ 5 (omega arith) (all_but 5) (all-but-good 5) once [] first_tally)) refl refl refl
 
 -- the other half may not decay
@@ -64,39 +48,33 @@ kept = record {
 abbrev refusing : Chance
 refusing = record calm { found = Allows false }
 
-abbrev outside_182 : Deed
-outside_182 = use_deed (Decays s0 182) (says.Outside s0 (record { kind = faults.Decay 182; page = 182 }) ∷ [])
-
 pub both-one : IsOneOfGood decays_both both_report
 both-one = one-so decays_both both_report _ _
-    (decays-then 1 (omega arith) (at_up decays_both) _ 5 (λ q. 0) [] first_tally refl (record { begins = ((tt, tt), (λ c. refl), refl, refl); next = refl; is = refl; found = λ c. refl })
-    (begins-then 1 (omega arith) (decayed 5 (at_up decays_both)) _ (events.Decay s0 182) (use_deed (Decays s0 182) []) (record { begins = ((tt, tt), (λ c. refl), refl, refl); next = refl; is = refl; found = λ c. refl }) (all_but 5) once true [] first_tally
+    (decays-then 1 (omega arith) (at_up decays_both) _ 5 (λ q. 0) [] first_tally refl (record { begins = refl; next = refl; is = refl; found = λ c. refl })
+    (begins-then 1 (omega arith) (decayed 5 (at_up decays_both)) _ (events.Decay s0 182) (use_deed (Decays s0 182) []) (record { begins = refl; next = refl; is = refl; found = λ c. refl }) (all_but 5) once true [] first_tally
     (more _ _ _ (does-use refusing (Meets (events.Decay s0 182)) (Decays s0 182) (says.Outside s0 (record { kind = faults.Decay 182; page = 182 }) ∷ []) (idled 1 (decayed 5 (at_up decays_both))) half_bad half_bad 1 refl refl
     (blank-on 1 (omega arith) (all_but 5) once true [] first_tally) (blank-on 1 (omega arith) (all_but 5) once true [] first_tally) (λ q. refl) (λ c. refl) (alone (λ d e. PageDecays d 182 false e) half_bad half_bad kept))
     (from-up 1 (omega arith) _ _ _ 2 _ _ _ 5 (omega arith) (all_but 5) (all-but-good 5) once [] first_tally)))) refl refl refl
 
-abbrev scrubbed : State → State
-scrubbed s = met_so (events.Scrub s0) (use_deed (Cleans s0) []) s
-
 pub scrubbed-one : IsOneOfGood decays_behind_scrub quiet_report
 scrubbed-one = one-so decays_behind_scrub quiet_report _ _
-    (decays-then 1 (omega arith) (at_up decays_behind_scrub) _ 5 (λ q. 0) [] first_tally refl (record { begins = ((tt, tt), (λ c. refl), refl, refl); next = refl; is = refl; found = λ c. refl })
-    (scrubs-then 1 (omega arith) (decayed 5 (at_up decays_behind_scrub)) _ 1 5 once first_tally (omega arith) refl (record { begins = ((tt, tt), (λ c. refl), refl, refl); next = refl; is = refl; found = λ c. refl }) refl
-    (decays-then 1 (omega arith) (scrubbed (decayed 5 (at_up decays_behind_scrub))) _ 182 once [] (put_on first_tally) refl (record { begins = ((tt, tt), (λ c. refl), refl, refl); next = refl; is = refl; found = λ c. refl })
+    (decays-then 1 (omega arith) (at_up decays_behind_scrub) _ 5 (λ q. 0) [] first_tally refl (record { begins = refl; next = refl; is = refl; found = λ c. refl })
+    (scrubs-then 1 (omega arith) (decayed 5 (at_up decays_behind_scrub)) _ 1 5 once first_tally (omega arith) refl (record { begins = refl; next = refl; is = refl; found = λ c. refl }) refl
+    (decays-then 1 (omega arith) (scrubbed (decayed 5 (at_up decays_behind_scrub))) _ 182 once [] (put_on first_tally) refl (record { begins = refl; next = refl; is = refl; found = λ c. refl })
     (from-up 1 (omega arith) _ _ _ 3 _ _ _ 182 (omega arith) (all_but 182) (all-but-good 182) (failed_at 182 once) [] (put_on first_tally))))) refl refl refl
 
 -- ---- faults that wait
 
 pub two-one : IsOneOfGood arms_two quiet_report
 two-one = one-so arms_two quiet_report _ _
-    (arms-then 1 (omega arith) (at_up arms_two) _ 5 Null (λ q. true) (λ q. 0) true [] first_tally refl (record { begins = ((tt, tt), (λ c. refl), refl, refl); next = refl; is = refl; found = λ c. refl })
-    (arms-then 1 (omega arith) (armed 5 Null (at_up arms_two)) _ 3 Null (λ q. true) (λ q. 0) true ((record { after = 5; kind = Null }) ∷ []) first_tally refl (record { begins = ((tt, tt), (λ c. refl), refl, refl); next = refl; is = refl; found = λ c. refl })
+    (arms-then 1 (omega arith) (at_up arms_two) _ 5 Null (λ q. true) (λ q. 0) true [] first_tally refl (record { begins = refl; next = refl; is = refl; found = λ c. refl })
+    (arms-then 1 (omega arith) (armed 5 Null (at_up arms_two)) _ 3 Null (λ q. true) (λ q. 0) true ((record { after = 5; kind = Null }) ∷ []) first_tally refl (record { begins = refl; next = refl; is = refl; found = λ c. refl })
     (from-up 1 (omega arith) _ _ _ 2 _ _ _ 5 (omega arith) (λ q. true) (λ q other. refl) (λ q. 0) ((record { after = 5; kind = Null }) ∷ (record { after = 3; kind = Null }) ∷ []) first_tally))) refl refl refl
 
 pub far-one : IsOneOfGood arms_far quiet_report
 far-one = one-so arms_far quiet_report _ _
-    (arms-then 1 (omega arith) (at_up arms_far) _ 1000000 StopBefore (λ q. true) (λ q. 0) true [] first_tally refl (record { begins = ((tt, tt), (λ c. refl), refl, refl); next = refl; is = refl; found = λ c. refl })
-    (shows-then 1 (omega arith) (armed 1000000 StopBefore (at_up arms_far)) _ 1 (λ q. true) (λ q. 0) ((record { after = 1000000; kind = StopBefore }) ∷ []) first_tally (record { begins = ((tt, tt), (λ c. refl), refl, refl); next = refl; is = refl; found = λ c. refl }) refl (λ f. refl)
+    (arms-then 1 (omega arith) (at_up arms_far) _ 1000000 StopBefore (λ q. true) (λ q. 0) true [] first_tally refl (record { begins = refl; next = refl; is = refl; found = λ c. refl })
+    (shows-then 1 (omega arith) (armed 1000000 StopBefore (at_up arms_far)) _ 1 (λ q. true) (λ q. 0) ((record { after = 1000000; kind = StopBefore }) ∷ []) first_tally (record { begins = refl; next = refl; is = refl; found = λ c. refl }) refl (λ f. refl)
     (from-up 1 (omega arith) _ _ _ 2 _ _ _ 5 (omega arith) (λ q. true) (λ q other. refl) (λ q. 0) ((record { after = 1000000; kind = StopBefore }) ∷ []) first_tally))) refl refl refl
 
 -- ---- restarts
@@ -112,15 +90,15 @@ failed_thrice = revived 5 (decayed 5 failed_twice)
 
 pub power-one : IsOneOfGood decays_with_power forgiven_report
 power-one = one-so decays_with_power forgiven_report _ _
-    (decays-then 1 (omega arith) (at_up decays_with_power) _ 5 (λ q. 0) [] first_tally refl (record { begins = ((tt, tt), (λ c. refl), refl, refl); next = refl; is = refl; found = λ c. refl })
-    (revives-then 1 (omega arith) (decayed 5 (at_up decays_with_power)) _ 5 once [] first_tally (record { begins = ((tt, tt), (λ c. refl), refl, refl); next = refl; is = refl; found = λ c. refl })
-    (decays-then 1 (omega arith) failed_once _ 5 once [] first_tally refl (record { begins = ((tt, tt), (λ c. refl), refl, refl); next = refl; is = refl; found = λ c. refl })
-    (revives-then 1 (omega arith) (decayed 5 failed_once) _ 5 twice [] first_tally (record { begins = ((tt, tt), (λ c. refl), refl, refl); next = refl; is = refl; found = λ c. refl })
-    (decays-then 1 (omega arith) failed_twice _ 5 twice [] first_tally refl (record { begins = ((tt, tt), (λ c. refl), refl, refl); next = refl; is = refl; found = λ c. refl })
-    (revives-then 1 (omega arith) (decayed 5 failed_twice) _ 5 three_times [] first_tally (record { begins = ((tt, tt), (λ c. refl), refl, refl); next = refl; is = refl; found = λ c. refl })
-    (crashes-then 1 (omega arith) failed_thrice _ (λ q. true) three_times [] first_tally (record { begins = ((tt, tt), (λ c. refl), refl, refl); next = refl; is = refl; found = λ c. refl }) (λ c. refl)
-    (restarts-then 1 (omega arith) (crashed failed_thrice) _ 5 (λ q. true) three_times first_tally (omega arith) (λ q other. refl) (record { begins = ((tt, tt), (λ c. refl), refl, refl); next = refl; is = refl; found = λ c. refl }) (names-nothing, tt) (λ c. refl) refl refl
-    (decays-then 2 (omega arith) (restarted (crashed failed_thrice)) _ 5 (λ q. 0) [] (thrice first_tally) refl (record { begins = ((tt, tt), (λ c. refl), refl, refl); next = refl; is = refl; found = λ c. refl })
+    (decays-then 1 (omega arith) (at_up decays_with_power) _ 5 (λ q. 0) [] first_tally refl (record { begins = refl; next = refl; is = refl; found = λ c. refl })
+    (revives-then 1 (omega arith) (decayed 5 (at_up decays_with_power)) _ 5 once [] first_tally (record { begins = refl; next = refl; is = refl; found = λ c. refl })
+    (decays-then 1 (omega arith) failed_once _ 5 once [] first_tally refl (record { begins = refl; next = refl; is = refl; found = λ c. refl })
+    (revives-then 1 (omega arith) (decayed 5 failed_once) _ 5 twice [] first_tally (record { begins = refl; next = refl; is = refl; found = λ c. refl })
+    (decays-then 1 (omega arith) failed_twice _ 5 twice [] first_tally refl (record { begins = refl; next = refl; is = refl; found = λ c. refl })
+    (revives-then 1 (omega arith) (decayed 5 failed_twice) _ 5 three_times [] first_tally (record { begins = refl; next = refl; is = refl; found = λ c. refl })
+    (crashes-then 1 (omega arith) failed_thrice _ (λ q. true) three_times [] first_tally (record { begins = refl; next = refl; is = refl; found = λ c. refl }) (λ c. refl)
+    (restarts-then 1 (omega arith) (crashed failed_thrice) _ 5 (λ q. true) three_times first_tally (omega arith) (λ q other. refl) (record { begins = refl; next = refl; is = refl; found = λ c. refl }) (names-nothing, tt) (λ c. refl) refl refl
+    (decays-then 2 (omega arith) (restarted (crashed failed_thrice)) _ 5 (λ q. 0) [] (thrice first_tally) refl (record { begins = refl; next = refl; is = refl; found = λ c. refl })
     (from-up 2 (omega arith) _ _ _ 9 _ _ _ 5 (omega arith) (all_but 5) (all-but-good 5) once [] (thrice first_tally))))))))))) refl refl refl
 
 abbrev up_again : State
@@ -128,8 +106,8 @@ up_again = restarted (crashed (decayed 5 (at_up decays_behind_restart)))
 
 pub restarted-one : IsOneOfGood decays_behind_restart restarted_report
 restarted-one = one-so decays_behind_restart restarted_report _ _
-    (decays-then 1 (omega arith) (at_up decays_behind_restart) _ 5 (λ q. 0) [] first_tally refl (record { begins = ((tt, tt), (λ c. refl), refl, refl); next = refl; is = refl; found = λ c. refl })
-    (crashes-then 1 (omega arith) (decayed 5 (at_up decays_behind_restart)) _ (all_but 5) once [] first_tally (record { begins = ((tt, tt), (λ c. refl), refl, refl); next = refl; is = refl; found = λ c. refl }) (λ c. refl)
-    (restarts-then 1 (omega arith) (crashed (decayed 5 (at_up decays_behind_restart))) _ 5 (all_but 5) once first_tally (omega arith) (all-but-good 5) (record { begins = ((tt, tt), (λ c. refl), refl, refl); next = refl; is = refl; found = λ c. refl }) (names-nothing, tt) (λ c. refl) refl refl
-    (decays-then 2 (omega arith) up_again _ 182 (λ q. 0) [] (thrice first_tally) refl (record { begins = ((tt, tt), (λ c. refl), refl, refl); next = refl; is = refl; found = λ c. refl })
+    (decays-then 1 (omega arith) (at_up decays_behind_restart) _ 5 (λ q. 0) [] first_tally refl (record { begins = refl; next = refl; is = refl; found = λ c. refl })
+    (crashes-then 1 (omega arith) (decayed 5 (at_up decays_behind_restart)) _ (all_but 5) once [] first_tally (record { begins = refl; next = refl; is = refl; found = λ c. refl }) (λ c. refl)
+    (restarts-then 1 (omega arith) (crashed (decayed 5 (at_up decays_behind_restart))) _ 5 (all_but 5) once first_tally (omega arith) (all-but-good 5) (record { begins = refl; next = refl; is = refl; found = λ c. refl }) (names-nothing, tt) (λ c. refl) refl refl
+    (decays-then 2 (omega arith) up_again _ 182 (λ q. 0) [] (thrice first_tally) refl (record { begins = refl; next = refl; is = refl; found = λ c. refl })
     (from-up 2 (omega arith) _ _ _ 4 _ _ _ 182 (omega arith) (all_but 182) (all-but-good 182) (failed_at 182 (λ q. 0)) [] (thrice first_tally)))))) refl refl refl

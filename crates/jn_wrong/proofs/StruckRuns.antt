@@ -1,14 +1,12 @@
 -- Whole runs over devices at whose restart a fault strikes that waited.
-use Rattle.jn_wrong.proofs.Common.{◌≡◌, ◌≤◌, ◌+◌, ◌<◌, ◌++◌, ℕ, true, false, true≢false, List, [], ◌∷◌, append_assoc, refl, sym, ◌∙◌, ap, arith, Meets, State, Chance, FaultKind, StopBefore, Null, Bad, Arms, Outside, recovered, IsRecovery, Happens, get, put, joined, GetStep, PutStep, CallStep, more, calm, stopped, s0, DeviceState, Armed, bumped, arms_first, arms_in_order, arms_null, null_told, stop_met, outside_in_order}
-use Rattle.std.specs.Prelude.{Ok, Err}
+use Rattle.jn_wrong.proofs.Common.{◌≡◌, ◌≤◌, ◌+◌, ◌++◌, ℕ, true, false, true≢false, List, [], ◌∷◌, append_assoc, refl, sym, ◌∙◌, ap, arith, Meets, State, Chance, FaultKind, StopBefore, Null, Bad, Outside, recovered, IsRecovery, Happens, get, put, joined, more, calm, stopped, s0, DeviceState, Armed, bumped, arms_first, arms_in_order, arms_null, null_told, stop_met, outside_in_order, Ok, Err, IsOneOfGood}
 use Rattle.jn_device.specs.declared.Look.TheVariants.{Good}
 use Rattle.jn_device.specs.Happens.{none}
 use Rattle.jn_schedule.specs.declared.Event.TheVariants as events
-use Rattle.jn_wrong.specs.Faults.{IsOneOfGood}
 use Rattle.jn_wrong.proofs.NewDevice.{Tally, device, good_at, bytes_at, thrice, thrice-least, bumped-least, mends, halves-equal, blank-on}
-use Rattle.jn_wrong.proofs.OnDevices.{alone}
-use Rattle.jn_wrong.proofs.OnSteps.{made_so, use_deed, does, idled}
-use Rattle.jn_wrong.proofs.OnEvents.{IsMet, met_so, crash_deed, begins-then, arms-then, crashes-then}
+use Rattle.jn_wrong.proofs.OnDevices.{alone, front-clean, front-whole}
+use Rattle.jn_wrong.proofs.OnSteps.{does, idled}
+use Rattle.jn_wrong.proofs.OnEvents.{armed, crashed, begins-then, arms-then, crashes-then}
 use Rattle.jn_wrong.proofs.Endings.{one-so, names-nothing, at_up, first_tally, from-up, from-off}
 use Rattle.jn_wrong.proofs.Pairs.{the_counts}
 
@@ -36,12 +34,6 @@ tells-on told d e (put _ _ p new stopped lt step) = put (telling told d) (tellin
 tells-on told d e (joined _ u _ a b) = joined (telling told d) (telling told u) (telling told e) (tells-on told d u a) (tells-on told u e b)
 
 -- ---- a crash, and a fault that waits for the restart
-
-abbrev crashed : State → State
-crashed s = met_so (events.Crash s0) crash_deed s
-
-abbrev armed : ℕ → FaultKind → State → State
-armed n kind s = met_so (events.Arm s0 n kind) (use_deed (Arms s0 n kind) []) s
 
 abbrev waits : ℕ → FaultKind → Armed
 waits n kind = record { after = n; kind = kind }
@@ -95,9 +87,9 @@ stop_armed = armed 1 StopBefore (crashed (at_up arms_first))
 
 pub stop-one : IsOneOfGood arms_first stop_met
 stop-one = one-so arms_first stop_met _ _
-    (crashes-then 1 (omega arith) (at_up arms_first) _ (λ q. true) (λ q. 0) [] first_tally (record { begins = ((tt, tt), (λ c. refl), refl, refl); next = refl; is = refl; found = λ c. refl }) (λ c. refl)
-    (arms-then 1 (omega arith) (crashed (at_up arms_first)) _ 1 StopBefore (λ q. true) (λ q. 0) false [] first_tally refl (record { begins = ((tt, tt), (λ c. refl), refl, refl); next = refl; is = refl; found = λ c. refl })
-    (begins-then 1 (omega arith) stop_armed _ (events.Restart s0) (recovered calm s0) (record { begins = ((tt, tt), (λ c. refl), refl, refl); next = refl; is = refl; found = λ c. refl }) (λ q. true) (λ q. 0) false (waits 1 StopBefore ∷ []) first_tally
+    (crashes-then 1 (omega arith) (at_up arms_first) _ (λ q. true) (λ q. 0) [] first_tally (record { begins = refl; next = refl; is = refl; found = λ c. refl }) (λ c. refl)
+    (arms-then 1 (omega arith) (crashed (at_up arms_first)) _ 1 StopBefore (λ q. true) (λ q. 0) false [] first_tally refl (record { begins = refl; next = refl; is = refl; found = λ c. refl })
+    (begins-then 1 (omega arith) stop_armed _ (events.Restart s0) (recovered calm s0) (record { begins = refl; next = refl; is = refl; found = λ c. refl }) (λ q. true) (λ q. 0) false (waits 1 StopBefore ∷ []) first_tally
     (more _ _ _ (does stop_now (Meets (events.Restart s0)) (recovered stop_now s0) (idled 1 stop_armed) (off_with (waits 1 StopBefore ∷ [])) as_stopped 1 1 refl refl
     (blank-on 1 (omega arith) (λ q. true) (λ q. 0) false (waits 1 StopBefore ∷ []) first_tally) (blank-on 1 (omega arith) (λ q. true) (λ q. 0) false [] stopped_tally) (λ q. refl) (tt, (tt, tt)) (λ c. refl) refl
     (alone (λ d e. IsRecovery the_counts stop_now false d e) (off_with (waits 1 StopBefore ∷ [])) as_stopped is-stopped))
@@ -160,16 +152,8 @@ recovers-told told waiting t same near gets = record {
     after = refl;
   };
   after = refl;
-  front = λ up. record {
-    root = refl;
-    pool = λ i lt. halves-equal 2 (1 + i) (omega (arith, lt));
-    heads = λ i lt. halves-equal 2 (1 + 32 + i) (omega (arith, lt));
-  };
-  front_whole = λ up quiet. record {
-    root = record { both = refl; clean = refl };
-    pool = λ i lt. record { both = refl; clean = halves-equal 2 (1 + i) (omega (arith, lt)) };
-    heads = λ i lt. record { both = refl; clean = halves-equal 2 (1 + 32 + i) (omega (arith, lt)) };
-  };
+  front = λ up. front-clean 2 (λ q. true) (λ q. 0) true [] (thrice t);
+  front_whole = λ up quiet. front-whole 2 true [] (thrice t);
 }
 
 abbrev null_armed : State
@@ -177,9 +161,9 @@ null_armed = armed 1 Null (crashed (at_up arms_null))
 
 pub null-one : IsOneOfGood arms_null (null_told Null 0)
 null-one = one-so arms_null (null_told Null 0) _ _
-    (crashes-then 1 (omega arith) (at_up arms_null) _ (λ q. true) (λ q. 0) [] first_tally (record { begins = ((tt, tt), (λ c. refl), refl, refl); next = refl; is = refl; found = λ c. refl }) (λ c. refl)
-    (arms-then 1 (omega arith) (crashed (at_up arms_null)) _ 1 Null (λ q. true) (λ q. 0) false [] first_tally refl (record { begins = ((tt, tt), (λ c. refl), refl, refl); next = refl; is = refl; found = λ c. refl })
-    (begins-then 1 (omega arith) null_armed _ (events.Restart s0) (recovered calm s0) (record { begins = ((tt, tt), (λ c. refl), refl, refl); next = refl; is = refl; found = λ c. refl }) (λ q. true) (λ q. 0) false (waits 1 Null ∷ []) first_tally
+    (crashes-then 1 (omega arith) (at_up arms_null) _ (λ q. true) (λ q. 0) [] first_tally (record { begins = refl; next = refl; is = refl; found = λ c. refl }) (λ c. refl)
+    (arms-then 1 (omega arith) (crashed (at_up arms_null)) _ 1 Null (λ q. true) (λ q. 0) false [] first_tally refl (record { begins = refl; next = refl; is = refl; found = λ c. refl })
+    (begins-then 1 (omega arith) null_armed _ (events.Restart s0) (recovered calm s0) (record { begins = refl; next = refl; is = refl; found = λ c. refl }) (λ q. true) (λ q. 0) false (waits 1 Null ∷ []) first_tally
     (more _ _ _ (does (telling_chance (refused Null 0 ∷ [])) (Meets (events.Restart s0)) (recovered (telling_chance (refused Null 0 ∷ [])) s0) (idled 1 null_armed) (off_with (waits 1 Null ∷ [])) (device (good_at 2) true [] (thrice (got_on first_tally))) 1 2 refl refl
     (blank-on 1 (omega arith) (λ q. true) (λ q. 0) false (waits 1 Null ∷ []) first_tally) (blank-on 2 (omega arith) (λ q. true) (λ q. 0) true [] (thrice (got_on first_tally))) (λ q. refl) (names-nothing, tt) (λ c. refl) refl
     (alone (λ d e. IsRecovery the_counts (telling_chance (refused Null 0 ∷ [])) true d e) (off_with (waits 1 Null ∷ [])) (device (good_at 2) true [] (thrice (got_on first_tally)))
@@ -194,10 +178,10 @@ two_told = refused Null 0 ∷ refused Bad 177 ∷ []
 
 pub in-order-one : IsOneOfGood arms_in_order (outside_in_order 0 177)
 in-order-one = one-so arms_in_order (outside_in_order 0 177) _ _
-    (crashes-then 1 (omega arith) (at_up arms_in_order) _ (λ q. true) (λ q. 0) [] first_tally (record { begins = ((tt, tt), (λ c. refl), refl, refl); next = refl; is = refl; found = λ c. refl }) (λ c. refl)
-    (arms-then 1 (omega arith) (crashed (at_up arms_in_order)) _ 1 Null (λ q. true) (λ q. 0) false [] first_tally refl (record { begins = ((tt, tt), (λ c. refl), refl, refl); next = refl; is = refl; found = λ c. refl })
-    (arms-then 1 (omega arith) (armed 1 Null (crashed (at_up arms_in_order))) _ 2 Bad (λ q. true) (λ q. 0) false (waits 1 Null ∷ []) first_tally refl (record { begins = ((tt, tt), (λ c. refl), refl, refl); next = refl; is = refl; found = λ c. refl })
-    (begins-then 1 (omega arith) both_armed _ (events.Restart s0) (recovered calm s0) (record { begins = ((tt, tt), (λ c. refl), refl, refl); next = refl; is = refl; found = λ c. refl }) (λ q. true) (λ q. 0) false (waits 1 Null ∷ waits 2 Bad ∷ []) first_tally
+    (crashes-then 1 (omega arith) (at_up arms_in_order) _ (λ q. true) (λ q. 0) [] first_tally (record { begins = refl; next = refl; is = refl; found = λ c. refl }) (λ c. refl)
+    (arms-then 1 (omega arith) (crashed (at_up arms_in_order)) _ 1 Null (λ q. true) (λ q. 0) false [] first_tally refl (record { begins = refl; next = refl; is = refl; found = λ c. refl })
+    (arms-then 1 (omega arith) (armed 1 Null (crashed (at_up arms_in_order))) _ 2 Bad (λ q. true) (λ q. 0) false (waits 1 Null ∷ []) first_tally refl (record { begins = refl; next = refl; is = refl; found = λ c. refl })
+    (begins-then 1 (omega arith) both_armed _ (events.Restart s0) (recovered calm s0) (record { begins = refl; next = refl; is = refl; found = λ c. refl }) (λ q. true) (λ q. 0) false (waits 1 Null ∷ waits 2 Bad ∷ []) first_tally
     (more _ _ _ (does (telling_chance two_told) (Meets (events.Restart s0)) (recovered (telling_chance two_told) s0) (idled 1 both_armed) (off_with (waits 1 Null ∷ waits 2 Bad ∷ [])) (device (good_at 2) true [] (thrice (got_on (got_on first_tally)))) 1 2 refl refl
     (blank-on 1 (omega arith) (λ q. true) (λ q. 0) false (waits 1 Null ∷ waits 2 Bad ∷ []) first_tally) (blank-on 2 (omega arith) (λ q. true) (λ q. 0) true [] (thrice (got_on (got_on first_tally)))) (λ q. refl) (names-nothing, tt) (λ c. refl) refl
     (alone (λ d e. IsRecovery the_counts (telling_chance two_told) true d e) (off_with (waits 1 Null ∷ waits 2 Bad ∷ [])) (device (good_at 2) true [] (thrice (got_on (got_on first_tally))))

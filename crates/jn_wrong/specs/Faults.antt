@@ -30,7 +30,7 @@ IsOnlyOfGood schedule report = (images closing : Devices) (lines : List Line) �
 abbrev pub IsNoneOfGood : List Event → List Line → Type 0
 IsNoneOfGood schedule wrong = (images closing : Devices) → AreNew (setup 1) images → AreGood images → IsWhole (setup 1) schedule images closing wrong → ⊥
 
--- one whole run of the schedule tells exactly these lines: there are images and devices for it
+-- one whole run of the schedule tells exactly these lines, from images and with devices that are there
 pub record IsOneOfGood (schedule : List Event) (report : List Line) : Type 0 where
   pub images : Devices
   pub closing : Devices

@@ -18,7 +18,7 @@ pub fn reports_with_faults_are_the_only_ones()
     ensures far_off { IsOnlyOfGood arms_far quiet_report }
 {}
 
-/// The right reports of the same schedules, each computed as a run to its end, with chances that are written by hand: only the second decay isn't allowed.
+/// The right reports of the same schedules, each computed as a run to its end. Its chances are written by hand: nothing strikes, and the one decay that isn't allowed is that of a half whose other one is bad.
 pub fn reports_with_faults_are_computed()
     ensures decay { Computes calmly decays_once quiet_report }
     ensures both_halves { Computes (at_step 4 (record calm { found = Allows false }) calmly) decays_both both_report }
