@@ -1,5 +1,5 @@
 //! Whole runs that are there: images of a new server, and a device whose calls are such as the written machine allows at each step.
-//! They need not be the calls that the code makes: each restart puts a half of one record anew, good or bad, and then the root.
+//! They need not be those of the code: each restart that isn't stopped puts one half of a record anew, and then the root.
 
 ghost use Rattle.std.specs.Prelude.{[]};
 ghost use Rattle.jn_base.specs.declared.device.FaultKind.TheVariants.{Null};
