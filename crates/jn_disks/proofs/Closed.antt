@@ -1,5 +1,6 @@
 -- The pages of a server that was closed, as a store, and a store's as those of a server that is closed.
-use Rattle.jn_disks.proofs.Common.{◌≡◌, ⊎_elim, ◌<◌, ◌≤◌, ◌+◌, ◌*◌, ◌/◌, ◌-◌, ◌^◌, ◌||◌, ◌&&◌, ℕ, Bool, true, false, if◌then◌else◌, List, [], length, sym, ◌∙◌, ap, subst, arith, nat_lt, take, drop, ServerNo, Half, DeviceState, IsSoundDevice, HasHalves, IsNew, Files, Image, IsSound, Names, Counts, Pages, page_count, slot_place, head_place, data_place, is_used, file_in, address_in, pairs_view, IsStoreOf, IsImage, image_on, files_agree, image_fresh, AreSound, HasPages, image_of, files_in, IsStoreOfPages, nat_tests}
+use Rattle.jn_disks.proofs.Common.{◌≡◌, ⊎_elim, ◌<◌, ◌≤◌, ◌+◌, ◌*◌, ◌/◌, ◌-◌, ◌^◌, ◌||◌, ◌&&◌, ℕ, Bool, true, false, if◌then◌else◌, List, [], length, sym, ◌∙◌, ap, subst, arith, nat_lt, take, drop, Half, DeviceState, IsSoundDevice, HasHalves, IsNew, Files, Image, IsSound, Names, Counts, Pages, page_count, slot_place, head_place, data_place, is_used, file_in, address_in, pairs_view, IsStoreOf, IsImage, image_on, files_agree, image_fresh, AreSound, HasPages, image_of, files_in, IsStoreOfPages, nat_tests}
+use Rattle.jn_base.specs.declared.names.ServerNo.{ServerNo}
 use Rattle.std.proofs.lemmas.Bool.{cases_lt}
 use Rattle.std.proofs.lemmas.List.{get_or-take, length-take-le}
 use Rattle.jn_memdisk.specs.Pages.{half_at}

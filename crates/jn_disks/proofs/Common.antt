@@ -1,7 +1,6 @@
 -- The names from below that these proofs cite, passed on from one place. Declares nothing.
 pub use Rattle.std.proofs.Common.{◌≡◌, ⊎_elim, ◌<◌, ◌≤◌, ◌+◌, ◌*◌, ◌/◌, ◌-◌, ◌^◌, ◌||◌, ◌&&◌, ℕ, Bool, true, false, if◌then◌else◌, List, [], length, sym, ◌∙◌, ap, subst, arith, zero, suc, nat_eq, true≢false, ◌∷◌, Some, None, replicate, refl}
 pub use Rattle.std.specs.Prelude.{nat_lt, take, drop, option_map, option_and_then}
-pub use Rattle.jn_base.specs.declared.names.ServerNo.{ServerNo}
 pub use Rattle.jn_device.specs.declared.Half.{Half}
 pub use Rattle.jn_device.specs.Device.{DeviceState, IsSoundDevice}
 unfoldable pub use Rattle.jn_device.specs.Device.{blank_page}

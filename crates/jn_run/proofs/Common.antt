@@ -1,5 +1,5 @@
 -- The names from below that these proofs cite, passed on from one place. Declares nothing.
-pub use Rattle.std.proofs.Common.{◌≡◌, ◌≢◌, ◌≤◌, ◌<◌, ℕ, List, length, Option, Some, None, refl, sym, ◌∙◌, ap, subst, arith, true≢false, true, Result, zero, suc, Bool, false, [], ◌∷◌, slice_get, map, Ok, Err, ◌+◌, drop, ◌++◌, Vec, ◌-◌, inl, inr, drop-cons, get_or, append-nil, rules, lit<}
+pub use Rattle.std.proofs.Common.{◌≡◌, ◌≤◌, ◌<◌, ℕ, List, length, Option, Some, None, refl, ap, subst, arith, ◌∙◌, sym, true≢false, true, Result, zero, suc, Bool, false, [], ◌∷◌, slice_get, map, Ok, Err, ◌≢◌, drop, ◌++◌, Vec, ◌+◌, inl, inr, drop-cons, get_or, append-nil, ◌-◌, rules, lit<}
 pub use Rattle.jn_base.specs.declared.names.ServerNo.{ServerNo}
 pub use Rattle.jn_host.specs.Outside.{Contents, Rose}
 pub use Rattle.jn_schedule.specs.declared.Event.{Event}
@@ -13,9 +13,8 @@ pub use Rattle.jn_written.specs.Devices.{Devices}
 pub use Rattle.jn_options.specs.declared.asked.Command.{Command}
 pub use Rattle.jn_options.specs.declared.asked.Command.TheVariants.{Run, Trial}
 pub use Rattle.jn_options.specs.declared.asked.Opening.{Opening}
-pub use Rattle.jn_report.specs.Text.{report_text}
 pub use Rattle.jn_schedule.specs.Faults.{IsFirstFault}
-pub use Rattle.jn_run.specs.Outcome.{Outside, SourceState, SinkState, KeeperState, Accepted, IsCutShort, IsText, IsWholeReport, Keeps, KeepsFirst, OutcomeOf, Reads, ReadsSchedule, RefusedImage, RefusedSchedule, RunEnds, TrialEnds, WordsEnd, Writes, most_bytes, words_refused, words_not_written, words_no_memory, done, not_read, too_many_bytes, too_many_events, schedule_refused, schedule_not_written, not_loaded, image_refused, image_not_written, at_limit, not_written, not_saved, no_memory, no_memory_inside, no_memory_saving, trial_done, trial_not_written, trial_at_limit, trial_no_memory, geometry_counts, AreNew, BeginsWith, IsOpened, Opens, no_files, IsUntouched, AreKept, IsRefusedImage, LeavesFiles, most_events, Ran, refused_line, IsPart, FailsToLoad, BeginsFromImages, FailsToGive, Gives, GivesSome, HasTooManyBytes, trial_options, RanTrial, TrialToLimit, outside, FailsToWrite}
+pub use Rattle.jn_run.specs.Outcome.{Outside, SourceState, SinkState, KeeperState, IsCutShort, IsText, IsWholeReport, Keeps, KeepsFirst, OutcomeOf, ReadsSchedule, RefusedImage, RefusedSchedule, RunEnds, TrialEnds, WordsEnd, most_bytes, words_refused, words_not_written, words_no_memory, done, not_read, too_many_bytes, too_many_events, schedule_refused, schedule_not_written, not_loaded, image_refused, image_not_written, at_limit, not_written, not_saved, no_memory, no_memory_inside, no_memory_saving, trial_done, trial_not_written, trial_at_limit, trial_no_memory, geometry_counts, AreNew, BeginsWith, IsOpened, Opens, no_files, IsUntouched, Accepted, AreKept, IsRefusedImage, LeavesFiles, most_events, Ran, Reads, refused_line, IsPart, Writes, FailsToLoad, BeginsFromImages, FailsToGive, Gives, GivesSome, HasTooManyBytes, trial_options, RanTrial, TrialToLimit, outside, FailsToWrite}
 pub use Rattle.jn_run.specs.declared.status.Status.{Status}
 pub use Rattle.std.specs.Prelude.{is_ok, nat_lt, ◌*◌, option_map, take, IfSome}
 pub use Rattle.jn_report.specs.declared.line.Line.{Line}

@@ -1,5 +1,5 @@
 -- Lists that are gone through a stretch at a time.
-use Rattle.jn_run.proofs.Common.{◌≡◌, ◌∙◌, ℕ, zero, suc, ◌+◌, ◌-◌, ◌<◌, List, [], ◌∷◌, ◌++◌, length, drop, ap, sym, subst, arith, length-drop, length-take, take-append-drop, AllByRecursion, take}
+use Rattle.jn_run.proofs.Common.{◌≡◌, ◌∙◌, ℕ, zero, suc, ◌+◌, ◌<◌, List, [], ◌∷◌, ◌++◌, length, drop, ap, sym, subst, arith, length-drop, length-take, take-append-drop, AllByRecursion, take}
 
 module _ {A : Type 0} (P : A → Type 0) where
   all-take : (n : ℕ) (xs : List A) → AllByRecursion P xs → AllByRecursion P (take n xs)

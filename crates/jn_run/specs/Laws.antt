@@ -1,6 +1,5 @@
 -- What follows from what a call leaves: which counts rise, when the keeper stays as it was, and that what can be done is done.
 use Rattle.std.specs.Prelude.{◌≡◌, ◌≢◌, ◌≤◌, ◌<◌, ℕ, List, length, Option, Some, None}
-use Rattle.jn_base.specs.declared.names.ServerNo.{ServerNo}
 use Rattle.jn_host.specs.Outside.{Contents, Rose}
 use Rattle.jn_images.specs.Examined.{IsAccepted}
 use Rattle.jn_images.specs.Kept.{image_name}

@@ -3,7 +3,7 @@ use Rattle.std.specs.Prelude.{◌≡◌, List, ℕ}
 use Rattle.jn_options.specs.declared.asked.Options.{Options}
 use Rattle.jn_run.specs.declared.status.Status.{Status}
 use Rattle.jn_run.specs.declared.status.Status.TheVariants as statuses
-use Rattle.jn_run.specs.Outcome.{SourceState, SinkState, KeeperState, Reads, Writes, FailsToWrite, RunEnds, WordsEnd}
+use Rattle.jn_run.specs.Outcome.{SourceState, SinkState, KeeperState, Reads, Writes, FailsToWrite, RunEnds}
 
 -- what a call leaves that has read this text, whole, for a run with these options
 abbrev pub EndsOn : Options → List ℕ → SinkState → KeeperState → Status → SinkState → KeeperState → Type 0

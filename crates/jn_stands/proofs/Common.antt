@@ -20,7 +20,7 @@ pub use Rattle.jn_written.specs.Deeds.{Use, Decays, Revives, Arms, uses, plain, 
 pub use Rattle.jn_written.specs.Devices.{Devices, Alone, IsUsed, AreFound, rubbish_on, AreRecoverable, IsCalled, pages_of, IsServed, IsLookedOver, IsScrubbed, Befalls, IsRecovery}
 pub use Rattle.jn_written.specs.Events.{told_unless, acted, deed_of, dismissing, met, servers_of, asking, settling, next_in, resting, first_busy, next_event}
 pub use Rattle.jn_written.specs.Runs.{Moment, Leads, DoesStep, none, more}
-pub use Rattle.jn_written.specs.Steps.{outside_texts, lines_at, message_texts, traced, texts_of, come_to, cut_short, is_too_much, made_to}
+pub use Rattle.jn_written.specs.Steps.{outside_texts, lines_at, message_texts, traced, texts_of, come_to, is_too_much, cut_short, made_to}
 pub use Rattle.jn_written.specs.Tasks.{Task, when_of, ClosesClients, next_task, State, begun, Dismisses, AtEnd, Meets, Acts, GoesDown, Begins, Rests, ComesUp, CountsCommits, Stage, InSchedule, CutShort, when_at, next_at}
 pub use Rattle.jn_stands.specs.Stands.{Standing, StandsAt, Stands, is_client_number, posted_by, with_sent, PlaceStands, texts_sent, with_answer, with_named}
 pub use Rattle.jn_stands.specs.Pages.{HasCounts, ReadsPages, IsIdleAt}
@@ -62,7 +62,6 @@ pub use Rattle.jn_records.specs.StablePages.{Counts, page_count}
 pub use Rattle.jn_rests.proofs.Numbers.{carries-step, carries-forgotten, least-waits, none-waits}
 pub use Rattle.jn_found.specs.Pages.{pool_on, found_on}
 pub use Rattle.jn_server.specs.Standing.{standing_pages, free_on, has_rubbish}
-pub use Rattle.jn_base.specs.declared.names.FileNo.{FileNo}
 pub use Rattle.jn_rows.specs.declared.worker.Work.{Work, Work as WorkEntry}
 pub use Rattle.jn_rows.specs.Worker.{going_work, going_row, WorkerTable, commit_holder, carried_row, intentions_of}
 pub use Rattle.std.specs.List.{list_any, list_all}

@@ -1,5 +1,5 @@
 -- A server cleans its pages, or shows its files, and nothing else changes.
-use Rattle.jn_stands.proofs.Common.{◌≡◌, ℕ, zero, suc, Bool, true, false, not, List, [], ◌∷◌, ◌++◌, slice_get, take, Option, Some, None, is_some, refl, sym, ◌∙◌, ap, subst, if◌then◌else◌, fun_ext, ServerNo, FileNo, Outside, server_eq, DeviceState, found_on, Place, Slot, Up, Down, IsSpent, IsDoneAt, IsStoppedAt, idle_row, World, Memory, at_server, Room, server_step, of_step, Step, StopWork, after, work, works, counts_by, Carries, Work, RowOutcome, StableState, Pick, Change, stable, made_all, going_work, going_row, Parts, view_with, memory_of, go_on, state, pairs_view, StoreView, Setup, Chance, no_room, free_on, Devices, IsCalled, rubbish_on, pages_of, Moment, HasCounts, Standing, StandsAt, Stands, Finding, Free}
+use Rattle.jn_stands.proofs.Common.{◌≡◌, ℕ, zero, suc, Bool, true, false, not, List, [], ◌∷◌, ◌++◌, slice_get, take, Option, Some, None, is_some, refl, sym, ◌∙◌, ap, subst, if◌then◌else◌, fun_ext, ServerNo, Outside, server_eq, DeviceState, found_on, Place, Slot, Up, Down, IsSpent, IsDoneAt, IsStoppedAt, idle_row, World, Memory, at_server, Room, server_step, of_step, Step, StopWork, after, work, works, counts_by, Carries, Work, RowOutcome, StableState, Pick, Change, stable, made_all, going_work, going_row, Parts, view_with, memory_of, go_on, state, pairs_view, StoreView, Setup, Chance, no_room, free_on, Devices, IsCalled, rubbish_on, pages_of, Moment, HasCounts, Standing, StandsAt, Stands, Finding, Free}
 use Rattle.jn_report.specs.declared.line.Text.TheVariants as says
 use Rattle.jn_stands.proofs.Servers.{IsAlone}
 use Rattle.jn_stands.proofs.Moving.{same-server, carries-on, devices-now, device-here, device-there}

@@ -1,5 +1,6 @@
 -- What a show prints of the blocks that there are is what is printed block by block, from the first number on.
-use Rattle.jn_stands.proofs.Common.{◌≡◌, ◌≢◌, ◌≤◌, ◌<◌, ◌⊎◌, inl, inr, ℕ, zero, suc, ◌+◌, Bool, true, false, List, [], ◌∷◌, ◌++◌, Option, Some, None, is_some, refl, sym, ◌∙◌, ap, subst, arith, ◌||◌, list_any, list_all, nat_tests, FileNo, Tid, block_eq, block_tells, Files, WorkerTable, commit_holder, are_rising, AreNames, Printed, FileThere, print_unit, prints_in, print_one, print_blocks, print_file, print_files, block_before, ArePrints, blocks_from}
+use Rattle.jn_stands.proofs.Common.{◌≡◌, ◌≢◌, ◌≤◌, ◌<◌, ◌⊎◌, inl, inr, ℕ, zero, suc, ◌+◌, Bool, true, false, List, [], ◌∷◌, ◌++◌, Option, Some, None, is_some, refl, sym, ◌∙◌, ap, subst, arith, ◌||◌, list_any, list_all, nat_tests, Tid, block_eq, block_tells, Files, WorkerTable, commit_holder, are_rising, AreNames, Printed, FileThere, print_unit, prints_in, print_one, print_blocks, print_file, print_files, block_before, ArePrints, blocks_from}
+use Rattle.jn_base.specs.declared.names.FileNo.{FileNo}
 use Rattle.jn_base.specs.declared.names.LockUnit.TheVariants.{File, Block}
 use Rattle.jn_base.specs.declared.names.BlockNo.{BlockNo}
 use Rattle.jn_base.specs.declared.names.LockUnit.{LockUnit}

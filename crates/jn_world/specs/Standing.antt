@@ -1,5 +1,5 @@
 -- When the world stands so that every event can be done.
-use Rattle.std.specs.Prelude.{◌≡◌, ◌≤◌, ◌+◌, ℕ, Bool, false, List, [], ◌∷◌, map, length, slice_get, All, vec_len, Option, Some, None}
+use Rattle.std.specs.Prelude.{◌≡◌, ◌≤◌, ◌+◌, ℕ, Bool, false, List, [], ◌∷◌, length, slice_get, All, vec_len, Option, Some, None}
 use Rattle.jn_found.specs.Recoverable.{IsRecoverable}
 use Rattle.jn_msgs.specs.Collected.{Collected}
 use Rattle.jn_net.specs.declared.Sent.{Sent as Posted}

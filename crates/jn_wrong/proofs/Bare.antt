@@ -7,7 +7,7 @@ bare_course c = record c { steps = [] }
 abbrev pub bare : State → State
 bare s = record s { course = bare_course s.course }
 
-abbrev came_of : List Text → List Text → Party → List Task → Bool → Course → State → State
+abbrev pub came_of : List Text → List Text → Party → List Task → Bool → Course → State → State
 came_of out texts actor tasks trace c s = record {
   course = c;
   tasks = tasks ++ s.tasks;
@@ -15,10 +15,10 @@ came_of out texts actor tasks trace c s = record {
   stage = s.stage;
 }
 
-abbrev made_of : List Text → List Text → Party → List Task → Bool → Bool → Course → State → State
+abbrev pub made_of : List Text → List Text → Party → List Task → Bool → Bool → Course → State → State
 made_of out texts actor tasks cuts trace c s = if cuts || nat_lt most_messages (length c.world.sent) then bare (cut_short s) else came_of out texts actor tasks trace c s
 
-bare-made : (x : Setup) (h : Chance) (deed : Deed) (s : State) → bare (made x h deed s) ≡ made_of (outside_texts deed.device h.told) deed.texts deed.actor deed.tasks deed.cuts x.trace (bare_course (go_on deed.steps s.course)) (bare s)
+pub bare-made : (x : Setup) (h : Chance) (deed : Deed) (s : State) → bare (made x h deed s) ≡ made_of (outside_texts deed.device h.told) deed.texts deed.actor deed.tasks deed.cuts x.trace (bare_course (go_on deed.steps s.course)) (bare s)
 bare-made x h deed s = by (is_too_much deed (go_on deed.steps s.course))
   where
     by : (b : Bool) → bare (if b then cut_short s else come_to x h deed (go_on deed.steps s.course) s)

@@ -1,7 +1,7 @@
 -- What runs tell, computed: of one server and of two.
-use Rattle.jn_wrong.proofs.Common.{◌≡◌, ℕ, Bool, true, false, List, [], ◌∷◌, None, refl, ServerNo, no_files, Counts, Event, Line, Setup, State, next_task, before, begins, begun_report, traced_report, two_begin, two_report, opens_other, opened_report, settles_twice, settled_report, reads_and_aborts, read_report, shows_unmade, shown_report, begins_and_aborts, aborted_report, no_record, makes_one, full_of, IsOnly, IsOnlyOf, goes, Records}
+use Rattle.jn_wrong.proofs.Common.{◌≡◌, ℕ, Bool, true, false, List, [], ◌∷◌, None, refl, ServerNo, no_files, Counts, Event, Line, Setup, State, next_task, before, begins, begun_report, traced_report, two_begin, two_report, opens_other, opened_report, settles_twice, settled_report, reads_and_aborts, read_report, shows_unmade, shown_report, begins_and_aborts, aborted_report, IsOnly, goes}
 use Rattle.jn_locks.specs.Locks as locks
-use Rattle.jn_wrong.proofs.Exact.{new_epochs, setup_of, IsRunOf, only, is-only}
+use Rattle.jn_wrong.proofs.Exact.{new_epochs, setup_of, IsRunOf, only}
 use Rattle.jn_wrong.proofs.Computed.{Pieces, total, pieces-so}
 
 module _ (n : ℕ) (trace : Bool) (schedule : List Event) (pieces : List ℕ) (report : List Line) (counts : ServerNo → Counts) (epochs : ServerNo → ℕ) where
@@ -154,28 +154,6 @@ shown-only = only 1 false shows_unmade 74 shown_report (λ counts epochs. is-run
     ),
   ),
 ) refl refl)
-
--- ---- a server that has no record
-
-pub full-only : IsOnlyOf no_record makes_one (full_of Records 0 1)
-unfolding locks.unit_before
-full-only images closing lines new whole = is-only 1 false makes_one 91 (full_of Records 0 1) no_record.counts (λ epochs. is-run 1 false makes_one (0 ∷ 74 ∷ 12 ∷ 1 ∷ []) (full_of Records 0 1) no_record.counts epochs (
-  refl,
-  record { epoch = 0; below = refl; found = λ c. refl; not_last = refl },
-  (
-    refl,
-    record { epoch = 1; below = refl; found = λ c. refl; not_last = refl },
-    (
-      refl,
-      record { memory = _; below = refl; up = refl; nothing = λ f. refl },
-      (
-        refl,
-        refl,
-        tt,
-      ),
-    ),
-  ),
-) refl refl) images new closing lines whole
 
 -- ---- two servers
 

@@ -1,11 +1,10 @@
 -- Reports that differ from the only one.
-use Rattle.jn_wrong.proofs.Common.{◌≡◌, ℕ, Bool, true, false, List, length, Option, Some, None, refl, sym, ◌∙◌, ap, ◌&&◌, nat_eq, slice_get, list_any, zeros, Event, EventRefusal, When, AtEvent, Text, Line, block_of, IsOnly, IsNoneOfNew, begins, begun_report, traced_report, settles_twice, settled_report, two_begin, two_report, reads_and_aborts, read_report, opens_other, opened_report, shows_unmade, shown_report, begins_and_aborts, aborted_report, IsNoneOf, no_record, makes_one, full_of, Cause, Resource, Records, Pages}
-use Rattle.jn_base.specs.declared.names.Cause.TheVariants.{Full}
+use Rattle.jn_wrong.proofs.Common.{◌≡◌, ℕ, Bool, true, false, List, length, Option, Some, None, refl, sym, ◌∙◌, ap, ◌&&◌, nat_eq, slice_get, list_any, zeros, Event, EventRefusal, When, AtEvent, Text, Line, block_of, IsOnly, IsNoneOfNew, begins, begun_report, traced_report, settles_twice, settled_report, two_begin, two_report, reads_and_aborts, read_report, opens_other, opened_report, shows_unmade, shown_report, begins_and_aborts, aborted_report}
 use Rattle.jn_report.specs.declared.line.Refusal.{Refusal}
 use Rattle.jn_report.specs.declared.line.Text.TheVariants as says
 use Rattle.jn_wrong.specs.Others.{nothing_answered, refused_by_client, refused_as_event, with_another, ended_with_another, commit_of_nobody, answered_later, one_for_two, aborted_for_another, committed_for_another, opened_another, answered_at_once, epoch_skipped, downs_swapped, ups_swapped, read_otherwise, show_tells, messages_swapped, thanked_too_soon}
 use Rattle.jn_wrong.proofs.Exact.{differs}
-use Rattle.jn_wrong.proofs.Begun.{begun-only, traced-only, settled-only, two-only, read-only, opened-only, shown-only, aborted-only, full-only}
+use Rattle.jn_wrong.proofs.Begun.{begun-only, traced-only, settled-only, two-only, read-only, opened-only, shown-only, aborted-only}
 
 -- a test tells them apart
 by-test : (n : ℕ) (trace : Bool) (schedule : List Event) (report wrong : List Line) → IsOnly n trace schedule report → (test : List Line → Bool) → test report ≡ true → test wrong ≡ false → IsNoneOfNew n trace schedule wrong
@@ -38,18 +37,6 @@ aborts_at k text = false
 abbrev opens_at : ℕ → Text → Bool
 opens_at k (says.Opened c j q) = nat_eq q.0 k
 opens_at k text = false
-
-abbrev is_records : Resource → Bool
-is_records Records = true
-is_records resource = false
-
-abbrev wants_records : Cause → Bool
-wants_records (Full s resource free need) = is_records resource
-wants_records cause = false
-
-abbrev aborts_for_records : Text → Bool
-aborts_for_records (says.Aborted c j T cause) = wants_records cause
-aborts_for_records text = false
 
 abbrev is_zero : Option ℕ → Bool
 is_zero None = false
@@ -142,9 +129,3 @@ swapped = by-test 1 true begins traced_report messages_swapped traced-only (λ l
 
 pub too-soon-thanked : IsNoneOfNew 1 true begins_and_aborts thanked_too_soon
 too-soon-thanked = by-test 1 true begins_and_aborts aborted_report thanked_too_soon aborted-only (λ lines. says_at (aborts_at 0) (slice_get lines 6)) refl refl
-
-pub not-pages : (free need : ℕ) → IsNoneOf no_record makes_one (full_of Pages free need)
-not-pages free need images closing new whole = clash (ap (some_text aborts_for_records) (full-only images closing (full_of Pages free need) new whole))
-  where
-    clash : false ≡ true → ⊥
-    clash k = cc

@@ -39,7 +39,7 @@ module _ (x : Setup) (one : x.servers ≡ 1) (last : Moment) (over : next_task l
     pub befalls : Befalls x chance (deed_of x chance task s) s.course.world a.devices next.devices
     pub leads : Leads x next last
 
-  pub drive : (s : State) (task : Task) (a : Moment) → Leads x a last → bare a.state ≡ bare s → next_task s ≡ Some task → Driven s task a
+  unfoldable pub drive : (s : State) (task : Task) (a : Moment) → Leads x a last → bare a.state ≡ bare s → next_task s ≡ Some task → Driven s task a
   drive s task a (none m) e n = no-task task (sym over ∙ ap next_task e ∙ n)
   drive s task a (more u c v d rest) e n = record {
     chance = d.chance;
@@ -58,7 +58,7 @@ module _ (x : Setup) (one : x.servers ≡ 1) (last : Moment) (over : next_task l
       same : d.task ≡ task
       same = some (sym d.task_is ∙ ap next_task e ∙ n)
 
-  quiet-one : (w : World) (ds : Devices) → (ds s0).told ≡ [] → (ds s0).waiting ≡ [] → (is_some (w.memory s0) ≡ true → (ds s0).power ≡ true) → IsQuiet x w ds
+  pub quiet-one : (w : World) (ds : Devices) → (ds s0).told ≡ [] → (ds s0).waiting ≡ [] → (is_some (w.memory s0) ≡ true → (ds s0).power ≡ true) → IsQuiet x w ds
   quiet-one w ds untold still' lit = record {
     power = λ q l. subst (λ (z : ServerNo). is_some (w.memory z) ≡ true → (ds z).power ≡ true) (at q l) lit;
     told = λ q l. subst (λ (z : ServerNo). (ds z).told ≡ []) (at q l) untold;

@@ -27,7 +27,7 @@ tasks-are s task e = by s.stage s.tasks e
     by InSchedule (t ∷ tasks) k = ap (λ (z : Task). z ∷ tasks) (some k)
     by AtEnd (t ∷ tasks) k = ap (λ (z : Task). z ∷ tasks) (some k)
 
-abbrev Result : Setup → Chance → Task → State → Devices → Type 0
+abbrev pub Result : Setup → Chance → Task → State → Devices → Type 0
 Result x h task s es = Follows x h task s es ⊎ ((bare (done x h task s) ≡ bare s) × IsQuiet x s.course.world es)
 
 module _ (x : Setup) (h : Chance) (s : State) (ds es : Devices) (quiet : IsQuiet x s.course.world ds) where
@@ -38,7 +38,7 @@ module _ (x : Setup) (h : Chance) (s : State) (ds es : Devices) (quiet : IsQuiet
       by (inl r) = inl (record { same = r.0; quiet = r.1 })
       by (inr r) = inr r
 
-  one-step : (task : Task) → next_task s ≡ Some task → DoesSo x task s → Befalls x h (deed_of x h task s) s.course.world ds es → Result x h task s es
+  pub one-step : (task : Task) → next_task s ≡ Some task → DoesSo x task s → Befalls x h (deed_of x h task s) s.course.world ds es → Result x h task s es
   one-step (Begins e) n so b = inl (begins x h s ds es quiet e b)
   one-step (Meets (events.Command c command)) n so b = inl (tells-client x h s ds es quiet c command b)
   one-step (Meets events.Settle) n so b = inl (settles x h s ds es quiet b)
@@ -72,10 +72,10 @@ world-begun Dismisses s = refl
 world-begun task s = refl
 
 -- nothing strikes any more, or nothing is left to do
-abbrev Well : Setup → State → Devices → Type 0
+abbrev pub Well : Setup → State → Devices → Type 0
 Well x s ds = IsQuiet x s.course.world ds ⊎ (next_task s ≡ None)
 
-well-after : (x : Setup) (h : Chance) (task : Task) (s : State) (es : Devices) → IsQuiet x (go_on (deed_of x h task s).steps s.course).world es → Well x (done x h task s) es
+pub well-after : (x : Setup) (h : Chance) (task : Task) (s : State) (es : Devices) → IsQuiet x (go_on (deed_of x h task s).steps s.course).world es → Well x (done x h task s) es
 well-after x h task s es quiet = by (is_too_much deed (go_on deed.steps u.course))
   where
     deed : Deed

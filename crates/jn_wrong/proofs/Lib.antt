@@ -38,6 +38,11 @@ pub mod Rightly
 pub mod Told
 pub mod Scrubbed
 pub mod Mended
+pub mod Unused
+pub mod Settled
+pub mod Granted
+pub mod Lacking
+pub mod Lacked
 pub mod NewDevice
 pub mod OnDevices
 pub mod OnSteps

@@ -293,7 +293,7 @@ module _ (epoch : ℕ) (fits : epoch < 2 ^ 32) where
   fit = record { server_fits = omega arith; pool = omega arith; heads = omega arith; leaves = omega arith }
 
   fresh : IsFresh s0 the_counts epoch nothing_there (pairs_view rooted)
-  fresh = let new = new_is s0 the_counts epoch fits fit (pairs_view empty) (pairs_view rooted) zeros stored in new.fresh
+  fresh = let new = new_is (root_by s0 the_counts epoch) (pairs_view empty) (pairs_view rooted) zeros stored fits fit in new.fresh
 
   -- whichever halves are good, whether or not it has power, and whatever waits
   pub blank-on : (good : ℕ → Bool) (fails : ℕ → ℕ) (power : Bool) (waiting : List Armed) (t : Tally) → IsBlankOn epoch (device (pages_at epoch good fails) power waiting t)

@@ -1,8 +1,7 @@
 -- Reports that aren't those of their commits.
-use Rattle.jn_wrong.proofs.Common.{◌≡◌, ℕ, Bool, true, false, List, [], ◌∷◌, refl, sym, ◌∙◌, ap, arith, Option, Some, None, is_some, if◌then◌else◌, slice_get, nat_eq, nat_lt, File, Block, block_of, AllByRecursion, AllFiles, Files, change, effect, answer_to, files_after, is_did, zeros, ServerNo, Event, Line, AreImages, IsNone, begins, makes_one, makes_and_reads, opens_and_loses, answered_too_soon, stopped_by_nothing, fault_of_nothing, lost_without_opening, file_left_out, file_locked, page_unwritten, other_bytes, named_again, full_of, Resource, s0, file, block}
+use Rattle.jn_wrong.proofs.Common.{◌≡◌, ℕ, Bool, true, false, List, [], ◌∷◌, refl, sym, ◌∙◌, ap, arith, Option, Some, None, is_some, if◌then◌else◌, slice_get, nat_eq, nat_lt, File, Block, block_of, AllByRecursion, AllFiles, Files, change, effect, answer_to, files_after, is_did, zeros, ServerNo, Event, Line, AreImages, IsNone, begins, makes_one, makes_and_reads, opens_and_loses, answered_too_soon, stopped_by_nothing, fault_of_nothing, lost_without_opening, file_left_out, file_locked, page_unwritten, other_bytes, named_again, full_of, Resource, s0, file, block, Did, Exists, Found}
 use Rattle.jn_base.specs.declared.op.Op.{Op}
 use Rattle.jn_base.specs.declared.op.Op.TheVariants as ops
-use Rattle.jn_base.specs.declared.op.Answer.TheVariants.{Did, Exists, Read as Found}
 use Rattle.jn_schedule.specs.Ranges.{EventInRange}
 use Rattle.jn_headline.specs.Headline.{IsOfItsCommits}
 use Rattle.jn_headline.proofs.Joined.{whole-report}

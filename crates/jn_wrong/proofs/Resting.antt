@@ -1,8 +1,5 @@
 -- One step of a settle where nothing strikes: the message that a calm run hands over, or an erasure, which changes nothing.
-use Rattle.jn_wrong.proofs.Common.{◌≡◌, ◌⊎◌, inl, inr, ℕ, ◌<◌, Bool, true, false, List, [], ◌∷◌, ◌++◌, append-nil, length, drop, Option, Some, None, is_some, refl, sym, ◌∙◌, ap, subst, arith, drop-append_seam, ◌&&◌, not, if◌then◌else◌, nat_lt, slice_get, ServerNo, Client, Server, Message, StableState, Pick, stable, RowOutcome, Sent, Work, WorkId, drop_row, drop_phase, work_at, World, Memory, Room, server_row, storage_of, of_worker, Deliver, Works, after, at_memory, handed, handing, working, go_on, course_to, newly_sent, numbered, Setup, Chance, Rests, State, begun, Deed, room, no_room, nothing, served, delivered, delivered_at, is_busy, is_busy_with, worked, working_steps, Devices, IsServed, Alone, Befalls, servers_of, first_busy, next_event, resting, deed_of, most_messages, made, done, IsQuiet, Calm, quiet-same, quiet-called, delivered-up, still, is_fixed, is_sent_so, rests_so, no-faults, step_calls, row_calls, has_going, nat_eq, nat_tests, ◌-◌, Counts, Need, of_coordinator, coordinator_row, free_found, promised, pages_of, free_on}
-use Rattle.jn_rows.specs.declared.worker.Phase.TheVariants.{Active, Broken, Prepared as Stored}
-use Rattle.jn_rows.specs.declared.worker.Phase.{Phase}
-use Rattle.jn_records.specs.StablePages.{Pages}
+use Rattle.jn_wrong.proofs.Common.{◌≡◌, ◌⊎◌, inl, inr, ℕ, ◌<◌, Bool, true, false, List, [], ◌∷◌, ◌++◌, append-nil, length, drop, Option, Some, None, is_some, refl, sym, ◌∙◌, ap, subst, arith, drop-append_seam, ◌&&◌, not, if◌then◌else◌, nat_lt, slice_get, ServerNo, Client, Server, Message, StableState, Pick, stable, RowOutcome, Sent, Work, WorkId, drop_row, drop_phase, work_at, World, Memory, Room, server_row, storage_of, of_worker, Deliver, Works, after, at_memory, handed, handing, working, go_on, course_to, newly_sent, numbered, Setup, Chance, Rests, State, begun, Deed, room, no_room, nothing, served, delivered, delivered_at, is_busy, is_busy_with, worked, working_steps, Devices, IsServed, Alone, Befalls, servers_of, first_busy, next_event, resting, deed_of, most_messages, made, done, IsQuiet, Calm, quiet-same, quiet-called, delivered-up, still, is_fixed, is_sent_so, rests_so, no-faults, step_calls, row_calls, has_going, Active, Broken, Stored, Phase}
 use Rattle.jn_msgs.specs.declared.message.Message.TheVariants as messages
 use Rattle.jn_system.specs.WholeSystem.Steps as steps
 use Rattle.jn_headline.proofs.Busy.{IsFirst, first-busy-is, none-busy, idle-goes-not, erases}
@@ -26,33 +23,22 @@ drop-same m y r t W (Some v) = by v.phase
     by (Broken u b) = refl
     by (Stored p) = refl
 
--- both rooms have as many records free where there are none
-module _ (pool : ℕ) (r t : Room) (same : nat_eq pool 0 ≡ true → r.free.records ≡ t.free.records) where
-  row-fixed : (m : Memory) (y : StableState) (message : Message) → is_fixed pool message ≡ true → server_row m y r message ≡ server_row m y t message
+module _ (r t : Room) where
+  row-fixed : (m : Memory) (y : StableState) (message : Message) → is_fixed message ≡ true → server_row m y r message ≡ server_row m y t message
   row-fixed m y (messages.Open c request T) e = refl
   row-fixed m y (messages.Op c request W number op) e = refl
   row-fixed m y (messages.Drop T W) e = ap (of_worker m) (drop-same m y r t W (work_at W m.worker))
   row-fixed m y (messages.Begin c request) e = refl
-  row-fixed m y (messages.End c request T works) e = ap (λ (free : ℕ). of_coordinator m (coordinator_row m.coordinator free m.tickets (messages.End c request T works))) (same e)
   row-fixed m y (messages.Abort c request T works) e = refl
   row-fixed m y (messages.Thanks c T) e = refl
   row-fixed m y (messages.Inquire T W) e = refl
   row-fixed m y message e = never e
 
-  after-fixed : (w : World) (k : ℕ) (q : ServerNo) (message : Message) (m : Memory) → slice_get w.sent k ≡ Some (Server q, message) → w.memory q ≡ Some m → is_fixed pool message ≡ true → after (Deliver k r) w ≡ after (Deliver k t) w
+  after-fixed : (w : World) (k : ℕ) (q : ServerNo) (message : Message) (m : Memory) → slice_get w.sent k ≡ Some (Server q, message) → w.memory q ≡ Some m → is_fixed message ≡ true → after (Deliver k r) w ≡ after (Deliver k t) w
   after-fixed w k q message m e up fixed = at r ∙ ap (λ (row : RowOutcome Memory). steps.done q (Some k) row w) (row-fixed m (stable (w.found q)) message fixed) ∙ sym (at t)
     where
       at : (z : Room) → after (Deliver k z) w ≡ steps.done q (Some k) (server_row m (stable (w.found q)) z message) w
       at z = ap (λ (o : Option Sent). handed k z None o w) e ∙ ap (λ (o : Option Memory). at_memory q k z None message o w) up
-
-none-free : (g : Counts) (pages : Pages) (y : StableState) (m : Memory) → nat_eq g.pool 0 ≡ true → (free_on g pages y m).records ≡ 0
-none-free g pages y m e = ap (λ (n : ℕ). (free_on (record g { pool = n }) pages y m).records) (zero-is g.pool e) ∙ nothing (promised m.coordinator.transactions)
-  where
-    zero-is : (n : ℕ) → nat_eq n 0 ≡ true → n ≡ 0
-    zero-is n k = grind (arith, nat_tests, k)
-
-    nothing : (n : ℕ) → 0 - n ≡ 0
-    nothing n = omega arith
 
 three : (a b c : Bool) → (a && (b && c)) ≡ true → (a ≡ true) × (b ≡ true) × (c ≡ true)
 three true true true e = (refl, refl, refl)
@@ -84,25 +70,22 @@ module _ (x : Setup) (h : Chance) (s : State) (ds es : Devices) (quiet : IsQuiet
 
   -- ---- a message
 
-  handed-over : (k : ℕ) (q : ServerNo) (message : Message) (o : Option Memory) → slice_get w.sent k ≡ Some (Server q, message) → w.memory q ≡ o → (nat_lt q.0 x.servers && (is_some o && is_fixed (x.counts q).pool message)) ≡ true
+  handed-over : (k : ℕ) (q : ServerNo) (message : Message) (o : Option Memory) → slice_get w.sent k ≡ Some (Server q, message) → w.memory q ≡ o → (nat_lt q.0 x.servers && (is_some o && is_fixed message)) ≡ true
       → Befalls x h (on (delivered_at h k q o)) w ds es → Same (on (delivered_at h k q o)) (on (delivered_at still k q o))
-  handed-over k q message None e up so b = never (three (nat_lt q.0 x.servers) false (is_fixed (x.counts q).pool message) so).1
+  handed-over k q message None e up so b = never (three (nat_lt q.0 x.servers) false (is_fixed message) so).1
   handed-over k q message (Some m) e up so b = by b.used
     where
-      is : (nat_lt q.0 x.servers ≡ true) × (true ≡ true) × (is_fixed (x.counts q).pool message ≡ true)
-      is = three (nat_lt q.0 x.servers) true (is_fixed (x.counts q).pool message) so
+      is : (nat_lt q.0 x.servers ≡ true) × (true ≡ true) × (is_fixed message ≡ true)
+      is = three (nat_lt q.0 x.servers) true (is_fixed message) so
 
       by : Alone q (IsServed (x.counts q) row_calls h w q) ds es → Same (on (served q row_calls (handing k (room h q) h.stop ∷ []))) (on (served q row_calls (Deliver k (room still q) ∷ [])))
       by a = at (is-calm x h s ds es quiet row_calls q (below q.0 x.servers is.0) a)
         where
-          as-free : nat_eq (x.counts q).pool 0 ≡ true → (free_found h.found).records ≡ 0
-          as-free none = ap (λ (free : Need). free.records) a.its.free ∙ none-free (x.counts q) (pages_of (ds q)) (stable (w.found q)) a.its.memory none
-
           at : Calm h (es q) → Same (on (served q row_calls (handing k (room h q) h.stop ∷ []))) (on (served q row_calls (Deliver k (room still q) ∷ [])))
           at calm = (
             made-same x h (on (served q row_calls (handing k (room h q) h.stop ∷ []))) (Deliver k (room still q) ∷ []) s' (no-faults q h.told calm.told) refl
                 (ap (λ (o : Option (Pick → ℕ)). bare_course (go_on (handing k (room h q) o ∷ []) s.course)) calm.stop
-                ∙ ap (λ (now : World). bare_course (course_to now (Deliver k (room still q)) s.course)) (after-fixed (x.counts q).pool (room h q) (room still q) as-free w k q message m e up is.2)),
+                ∙ ap (λ (now : World). bare_course (course_to now (Deliver k (room still q)) s.course)) (after-fixed (room h q) (room still q) w k q message m e up is.2)),
             subst (λ (o : Option (Pick → ℕ)). IsQuiet x (go_on (handing k (room h q) o ∷ []) s.course).world es) (sym calm.stop)
                 (quiet-called x w (after (Deliver k (room h q)) w) ds es quiet h q (λ p. delivered-up w p k (room h q)) a.others calm),
           )

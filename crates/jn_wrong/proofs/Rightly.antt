@@ -1,6 +1,8 @@
--- The right reports of schedules with faults of which wrong ones are refuted, computed.
-use Rattle.jn_wrong.proofs.Common.{◌≡◌, ℕ, false, [], ◌∷◌, refl, arms_first, arms_in_order, arms_null, null_told, calm, calmly, at_step, stopped, report, stop_met, outside_in_order, quiet_report, decays_once, decays_both, both_report, decays_behind_scrub, decays_with_power, forgiven_report, decays_behind_restart, restarted_report, arms_two, arms_far, Allows, Computes}
+-- The right reports of schedules of which wrong ones are refuted, computed.
+use Rattle.jn_wrong.proofs.Common.{◌≡◌, ℕ, List, [], ◌∷◌, refl, arms_first, arms_in_order, arms_null, null_told, makes_one, calm, calmly, at_step, stopped, report, stop_met, outside_in_order, made_report, one_write, full_at_block, FreeRoom, false, quiet_report, decays_once, decays_both, both_report, decays_behind_scrub, decays_with_power, forgiven_report, decays_behind_restart, restarted_report, arms_two, arms_far, Allows, Computes}
+use Rattle.jn_base.specs.declared.names.Resource.TheVariants.{Pages}
 use Rattle.jn_base.specs.declared.device.FaultKind.TheVariants as faults
+use Rattle.jn_locks.specs.Locks as locks
 
 pub once-computed : Computes calmly decays_once quiet_report
 once-computed = record { lines_are = refl; stage = refl; tasks = refl }
@@ -31,3 +33,11 @@ told-in-turn p r = refl
 
 pub told-null : (page : ℕ) → report 1 (at_step 6 (record calm { told = (record { kind = faults.Null; page = page }) ∷ [] }) calmly) 60 arms_null ≡ null_told faults.Null page
 told-null page = refl
+
+pub makes-file : report 1 calmly 200 makes_one ≡ made_report
+unfolding locks.unit_before
+makes-file = refl
+
+pub lacks-page : (bytes : List ℕ) → report 1 (at_step 77 (record calm { found = FreeRoom (record { records = 31; heads = 16; pages = 0 }) }) calmly) 200 (one_write bytes []) ≡ full_at_block Pages 0 1
+unfolding locks.unit_before
+lacks-page bytes = refl

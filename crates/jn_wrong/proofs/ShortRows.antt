@@ -1,11 +1,9 @@
 -- Whatever holds where a server is short of room holds of all that a coordinator's rows say of it.
-use Rattle.jn_wrong.proofs.Common.{◌≡◌, ℕ, zero, suc, Bool, true, false, List, [], ◌∷◌, ◌++◌, Option, Some, None, subst, if◌then◌else◌, nat_lt, slice_get, ServerNo, ClientNo, Tid, WorkId, Tickets, Resource, tid_eq, Message, Outcome, StableState, FlagState, Change, RowOutcome, Sent, CoordinatorTable, transaction_at, with_stage, without, besides, drops, commits, prepares, committed_to, aborted_to, after_closing, coordinator_row, told_again, coordinator_again, all_thanked, restored_transaction, restored_transactions, OfCause, Cause}
-use Rattle.jn_msgs.specs.declared.message.Vote.{Vote}
+use Rattle.jn_wrong.proofs.Common.{◌≡◌, ℕ, zero, suc, Bool, true, false, List, [], ◌∷◌, ◌++◌, Option, Some, None, subst, if◌then◌else◌, nat_lt, slice_get, ServerNo, ClientNo, Tid, WorkId, Tickets, Resource, tid_eq, Message, Outcome, StableState, FlagState, Change, RowOutcome, Sent, CoordinatorTable, transaction_at, with_stage, without, besides, drops, commits, prepares, committed_to, aborted_to, after_closing, coordinator_row, told_again, coordinator_again, all_thanked, restored_transaction, restored_transactions, OfCause, Cause, Vote, Transaction}
 use Rattle.jn_base.specs.declared.names.Resource.TheVariants as resources
 use Rattle.jn_msgs.specs.declared.message.Message.TheVariants as messages
 use Rattle.jn_msgs.specs.declared.message.Outcome.TheVariants as outcomes
 use Rattle.jn_msgs.specs.declared.message.Vote.TheVariants as votes
-use Rattle.jn_rows.specs.declared.coordinator.Transaction.{Transaction}
 use Rattle.jn_rows.specs.declared.coordinator.Stage.{Stage}
 use Rattle.jn_rows.specs.declared.coordinator.Stage.TheVariants.{Open, Voting, Committed, Aborted}
 use Rattle.jn_system.proofs.WholeSystem.Closes.{Closes, Empty, Stays, Goes, Waits, Forgets, client-closes, outcomes-close}

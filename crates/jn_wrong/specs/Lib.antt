@@ -9,3 +9,4 @@ pub mod Turns
 pub mod Wanting
 pub mod Leaving
 pub mod Faults
+pub mod Room

@@ -11,8 +11,7 @@ use Rattle.jn_schedule.specs.declared.Event.TheVariants as events
 use Rattle.jn_report.specs.declared.line.Text.TheVariants as says
 use Rattle.jn_report.specs.declared.line.Line.{Line}
 use Rattle.jn_system_settling.specs.Settling.Rows.{s0, s1, c1, c2, tid, file, block}
-use Rattle.jn_written.specs.Chances.{Setup}
-use Rattle.jn_written.specs.Examples.{setup, line, at_end, then_settle, makes_file}
+use Rattle.jn_written.specs.Examples.{line, at_end, then_settle, makes_file}
 use Rattle.jn_wrong.specs.Wrong.{begins, the_end}
 
 -- a client begins, and each message has a line
@@ -54,10 +53,6 @@ shows_unmade = makes_file s0 (events.Show s0 ∷ [])
 
 abbrev pub shown_report : List Line
 shown_report = line 0 (says.Up s0 1) ∷ line 2 (says.Begun c1 1 (tid s0 0)) ∷ line 4 (says.Opened c1 3 s0) ∷ line 6 (says.Did c1 5) ∷ the_end
-
--- one server whose pages are heads and data pages alone, so that no transaction finds a record free
-abbrev pub no_record : Setup
-no_record = record (setup 1) { counts = λ q. record { pool = 0; heads = 16; leaves = 128 } }
 
 -- a client begins and aborts, and each message has a line
 abbrev pub begins_and_aborts : List Event

@@ -43,9 +43,6 @@ abbrev pub IsNoneOfNew : ℕ → Bool → List Event → List Line → Type 0
 IsNoneOfNew servers trace schedule wrong = (x : Setup) (images closing : Devices) → x.servers ≡ servers → x.trace ≡ trace → AreNew x images → IsWhole x schedule images closing wrong → ⊥
 
 -- and so of one setup
-abbrev pub IsOnlyOf : Setup → List Event → List Line → Type 0
-IsOnlyOf x schedule report = (images closing : Devices) (lines : List Line) → AreNew x images → IsWhole x schedule images closing lines → lines ≡ report
-
 abbrev pub IsNoneOf : Setup → List Event → List Line → Type 0
 IsNoneOf x schedule wrong = (images closing : Devices) → AreNew x images → IsWhole x schedule images closing wrong → ⊥
 
@@ -60,23 +57,22 @@ abbrev pub goes : Setup → ℕ → State → State
 goes x zero s = s
 goes x (suc n) s = goes x n (next x still s)
 
--- what the message does hangs on no room; an end asks whether a record is free, and in a pool of none there is none
-abbrev pub is_fixed : ℕ → Message → Bool
-is_fixed pool (messages.Open c request T) = true
-is_fixed pool (messages.Op c request W number op) = true
-is_fixed pool (messages.Drop T W) = true
-is_fixed pool (messages.Begin c request) = true
-is_fixed pool (messages.End c request T works) = nat_eq pool 0
-is_fixed pool (messages.Abort c request T works) = true
-is_fixed pool (messages.Thanks c T) = true
-is_fixed pool (messages.Inquire T W) = true
-is_fixed pool message = false
+-- what the message does hangs on no room
+abbrev pub is_fixed : Message → Bool
+is_fixed (messages.Open c request T) = true
+is_fixed (messages.Op c request W number op) = true
+is_fixed (messages.Drop T W) = true
+is_fixed (messages.Begin c request) = true
+is_fixed (messages.Abort c request T works) = true
+is_fixed (messages.Thanks c T) = true
+is_fixed (messages.Inquire T W) = true
+is_fixed message = false
 
 -- a server that is up takes such a message
 abbrev pub is_sent_so : Setup → World → Option Sent → Bool
 is_sent_so x w None = false
 is_sent_so x w (Some (Client c, message)) = true
-is_sent_so x w (Some (Server q, message)) = nat_lt q.0 x.servers && (is_some (w.memory q) && is_fixed (x.counts q).pool message)
+is_sent_so x w (Some (Server q, message)) = nat_lt q.0 x.servers && (is_some (w.memory q) && is_fixed message)
 
 abbrev pub rests_so : Setup → World → List ℕ → Bool
 rests_so x w [] = not (is_some (first_busy (λ q. false) w (servers_of x))) && not (nat_lt most_messages (length w.sent))

@@ -5,6 +5,7 @@ mod existing;
 mod faulty;
 mod leaving;
 mod new;
+mod room;
 mod settling;
 mod telling;
 mod wanting;
@@ -31,9 +32,13 @@ pub use new::{
     a_commit_of_nobody_is_none, a_refusal_without_a_cause_is_none,
     a_report_that_answers_nothing_is_none, a_settle_that_leaves_a_message_is_none,
     a_show_of_what_is_not_there_is_none, a_skipped_epoch_is_none, a_stray_line_is_none,
-    an_abort_for_want_of_pages_that_are_free_is_none, an_answer_before_a_settle_is_none,
-    an_answer_for_another_is_none, an_end_in_another_order_is_none, messages_out_of_place_are_none,
+    an_answer_before_a_settle_is_none, an_answer_for_another_is_none,
+    an_end_in_another_order_is_none, messages_out_of_place_are_none,
     other_bytes_before_an_abort_are_none, reports_are_the_only_ones,
+};
+pub use room::{
+    a_transaction_that_finds_room_commits, a_transaction_that_lacks_a_page_is_told_so,
+    an_abort_for_want_of_what_is_free_is_none, an_abort_tells_what_is_lacking,
 };
 pub use settling::{a_message_is_handed_over_once, a_settle_leaves_nothing_to_do};
 pub use telling::{

@@ -1,14 +1,13 @@
 //! Reports from new images: eight schedules with the only report that each has, whatever befalls it, and what is told by none.
 
-ghost use Rattle.std.specs.Prelude.{ℕ, true, false};
-ghost use Rattle.jn_base.specs.declared.names.Resource.TheVariants.{Records, Pages};
+ghost use Rattle.std.specs.Prelude.{true, false};
 ghost use Rattle.jn_report.specs.declared.line.EventRefusal.{EventRefusal};
 ghost use Rattle.jn_report.specs.declared.line.Refusal.{Refusal};
 ghost use Rattle.jn_report.specs.declared.line.Text.{Text};
 ghost use Rattle.jn_report.specs.declared.line.Text.TheVariants.{RefusedEvent};
-ghost use Rattle.jn_wrong.specs.Still.{IsOnly, IsOnlyOf, IsNoneOf, IsNoneOfNew};
-ghost use Rattle.jn_wrong.specs.Wrong.{begins, begun_report, makes_one, full_of};
-ghost use Rattle.jn_wrong.specs.Reports.{traced_report, settles_twice, settled_report, two_begin, two_report, reads_and_aborts, read_report, opens_other, opened_report, shows_unmade, shown_report, begins_and_aborts, aborted_report, no_record};
+ghost use Rattle.jn_wrong.specs.Still.{IsOnly, IsNoneOfNew};
+ghost use Rattle.jn_wrong.specs.Wrong.{begins, begun_report};
+ghost use Rattle.jn_wrong.specs.Reports.{traced_report, settles_twice, settled_report, two_begin, two_report, reads_and_aborts, read_report, opens_other, opened_report, shows_unmade, shown_report, begins_and_aborts, aborted_report};
 ghost use Rattle.jn_wrong.specs.Others.{nothing_answered, refused_by_client, refused_as_event, with_another, ended_with_another, commit_of_nobody, answered_later, one_for_two, aborted_for_another, committed_for_another, opened_another, answered_at_once, epoch_skipped, downs_swapped, ups_swapped, read_otherwise, show_tells, messages_swapped, thanked_too_soon};
 
 /// From new images each whole run of these schedules tells exactly this, whatever befalls it.
@@ -21,7 +20,6 @@ pub fn reports_are_the_only_ones()
     ensures two_servers { IsOnly 2 false opens_other opened_report }
     ensures traced { IsOnly 1 true begins traced_report }
     ensures aborts { IsOnly 1 true begins_and_aborts aborted_report }
-    ensures no_record { IsOnlyOf no_record makes_one (full_of Records 0 1) }
 {}
 
 /// Nothing is answered, although all settles.
@@ -64,11 +62,6 @@ pub fn a_show_of_what_is_not_there_is_none()
 pub fn a_stray_line_is_none()
     ensures in_a_settle { (text : Text) → IsNoneOfNew 1 false begins (with_another text) }
     ensures at_the_end { (text : Text) → IsNoneOfNew 1 false begins (ended_with_another text) }
-{}
-
-/// A transaction that is aborted for want of records is told to abort for want of data pages, of which all are free.
-pub fn an_abort_for_want_of_pages_that_are_free_is_none()
-    ensures { (free need : ℕ) → IsNoneOf no_record makes_one (full_of Pages free need) }
 {}
 
 /// A settle leaves a message waiting.

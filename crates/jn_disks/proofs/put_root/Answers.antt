@@ -1,4 +1,4 @@
-use Rattle.jn_disks.proofs.Common.{true, subst, arith, List, ℕ, StorePut, counts_of}
+use Rattle.jn_disks.proofs.Common.{true, subst, arith, List, ℕ, StorePut}
 use Rattle.jn_disks.proofs.NewStores.{new_is, same_device}
 use Rattle.jn_disks.proofs.put_root.Goals as goal
 

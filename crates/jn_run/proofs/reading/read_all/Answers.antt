@@ -1,4 +1,4 @@
-use Rattle.jn_run.proofs.Common.{◌≡◌, ◌∙◌, ◌++◌, [], ℕ, ◌<◌, ◌≤◌, ◌+◌, length, take, List, Option, Some, None, Ok, Err, Vec, Rose, append-nil, arith, refl, sym, ap, subst, is_ok, common_steps, err_from_is_err_and, IsText, IfSome, SourceState, most_bytes, source_state, prepend_known}
+use Rattle.jn_run.proofs.Common.{◌≡◌, ◌∙◌, ◌++◌, ℕ, ◌<◌, ◌+◌, length, take, List, Option, Some, None, Ok, Err, Rose, append-nil, arith, refl, sym, ap, subst, is_ok, common_steps, err_from_is_err_and, IsText, IfSome, most_bytes, source_state, prepend_known}
 use Rattle.jn_host.proofs.Reading.{reads_join, reads_end}
 use Rattle.jn_run.proofs.ReadBytes.{failed-so, gives-of, left-of, long-so, memory-so, whole-so}
 use Rattle.jn_run.proofs.reading.read_all.Goals as goal

@@ -1,4 +1,4 @@
-use Rattle.jn_wrong.proofs.Begun.{begun-only, settled-only, two-only, read-only, shown-only, opened-only, traced-only, aborted-only, full-only}
+use Rattle.jn_wrong.proofs.Begun.{begun-only, settled-only, two-only, read-only, shown-only, opened-only, traced-only, aborted-only}
 use Rattle.jn_wrong.proofs.new.reports_are_the_only_ones.Goals as goal
 
 pub returns-clause-begins : goal.returns-clause-begins
@@ -24,6 +24,3 @@ returns-clause-traced c = traced-only
 
 pub returns-clause-aborts : goal.returns-clause-aborts
 returns-clause-aborts c = aborted-only
-
-pub returns-clause-no_record : goal.returns-clause-no_record
-returns-clause-no_record c = full-only

@@ -1,0 +1,123 @@
+-- The schedules that make a file, and write a block of it, computed up to where their transaction ends, and from there.
+use Rattle.jn_wrong.proofs.Common.{◌≡◌, ℕ, false, List, [], ◌∷◌, Some, None, refl, ServerNo, no_files, before, Counts, Resource, setup, makes_one, full_of, file, block, File, Block, zeros, block_of, IsNoneOf, Did, IsOnlyOfLacking, for_a_file, Full, ActiveWork, one_write, for_a_block, full_at_block}
+use Rattle.jn_locks.specs.Locks as locks
+use Rattle.jn_records.specs.declared.intention.What.TheVariants.{Fresh, Put}
+use Rattle.jn_wrong.proofs.Computed.{pieces-so}
+use Rattle.jn_wrong.proofs.Exact.{new_epochs, setup_of}
+use Rattle.jn_wrong.proofs.Lacking.{IsSo, only-lacking}
+
+-- ---- a file is made
+
+abbrev makes_file_7 : ActiveWork
+makes_file_7 = record { list = (record { what = Fresh; file = file 7; block = block 0; bytes = zeros }) ∷ []; reads = File (file 7) ∷ []; writes = File (file 7) ∷ []; last = 1; kept = Some Did; vulnerable = false }
+
+made-so : (counts : ServerNo → Counts) (epochs : ServerNo → ℕ) → IsSo makes_one 53 makes_file_7 (record { 0 = 4 }) 8 for_a_file counts epochs
+unfolding locks.unit_before
+made-so counts epochs = record {
+  so = pieces-so (setup_of 1 false counts) (0 ∷ 51 ∷ []) (before (setup_of 1 false counts) makes_one no_files (new_epochs 1 epochs)) (
+    refl,
+    record { epoch = 0; below = refl; found = λ c. refl; not_last = refl },
+    (
+      refl,
+      refl,
+      tt,
+    ),
+  );
+  rests = refl;
+  tasks = refl;
+  waits = refl;
+  rests_on = refl;
+  busy = λ r. refl;
+  up = refl;
+  empty = refl;
+  begins = refl;
+  meets = refl;
+  then_settles = refl;
+  settles = refl;
+  still_empty = refl;
+  asks = record { rests = refl; waits = refl; sent = refl; up = refl };
+  refuses = record { rests = refl; waits = refl; sent = refl; up = refl };
+  tells_so = record { outcome = _; rests = refl; waits = refl; sent = refl };
+  is_told = λ new. refl;
+  empty_on = refl;
+  prepares = record { rests = refl; waits = refl; sent = refl; up = refl };
+  alone = refl;
+  needs_are = refl;
+  votes = record { rests = refl; waits = refl; sent = refl; up = refl };
+  commits = refl;
+  refuses_work = λ resource free need. record { rests = refl; waits = refl; sent = refl; up = refl };
+  drops = λ resource free need. record { rests = refl; waits = refl; sent = refl; up = refl };
+  tells_outcome = λ resource free need. record { outcome = _; rests = refl; waits = refl; sent = refl };
+  outcome_told = λ resource free need new. refl;
+}
+
+pub made-lacking : IsOnlyOfLacking for_a_file makes_one full_of
+made-lacking = only-lacking makes_one 53 makes_file_7 (record { 0 = 4 }) 8 for_a_file made-so full_of (λ resource free need. (refl, refl))
+
+-- where 32 records, 16 heads and 128 data pages are free, nothing is lacking
+pub none-full : (resource : Resource) (free need : ℕ) → IsNoneOf (setup 1) makes_one (full_of resource free need)
+none-full resource free need images closing new whole = clash (made-lacking (setup 1) images closing resource free need refl refl new whole)
+  where
+    clash : None ≡ Some (Full resource free need) → ⊥
+    clash k = cc
+
+-- ---- and a block of it written
+
+abbrev writes_block_0 : List ℕ → ActiveWork
+writes_block_0 bytes = record {
+  list = (record { what = Fresh; file = file 7; block = block 0; bytes = zeros }) ∷ (record { what = Put; file = file 7; block = block 0; bytes = block_of bytes }) ∷ [];
+  reads = File (file 7) ∷ [];
+  writes = File (file 7) ∷ Block (file 7) (block 0) ∷ [];
+  last = 2;
+  kept = Some Did;
+  vulnerable = false;
+}
+
+written-so : (bytes : List ℕ) (counts : ServerNo → Counts) (epochs : ServerNo → ℕ) → IsSo (one_write bytes []) 71 (writes_block_0 bytes) (record { 0 = 5 }) 11 for_a_block counts epochs
+unfolding locks.unit_before
+written-so bytes counts epochs = record {
+  so = pieces-so (setup_of 1 false counts) (0 ∷ 69 ∷ []) (before (setup_of 1 false counts) (one_write bytes []) no_files (new_epochs 1 epochs)) (
+    refl,
+    record { epoch = 0; below = refl; found = λ c. refl; not_last = refl },
+    (
+      refl,
+      refl,
+      tt,
+    ),
+  );
+  rests = refl;
+  tasks = refl;
+  waits = refl;
+  rests_on = refl;
+  busy = λ r. refl;
+  up = refl;
+  empty = refl;
+  begins = refl;
+  meets = refl;
+  then_settles = refl;
+  settles = refl;
+  still_empty = refl;
+  asks = record { rests = refl; waits = refl; sent = refl; up = refl };
+  refuses = record { rests = refl; waits = refl; sent = refl; up = refl };
+  tells_so = record { outcome = _; rests = refl; waits = refl; sent = refl };
+  is_told = λ new. refl;
+  empty_on = refl;
+  prepares = record { rests = refl; waits = refl; sent = refl; up = refl };
+  alone = refl;
+  needs_are = refl;
+  votes = record { rests = refl; waits = refl; sent = refl; up = refl };
+  commits = refl;
+  refuses_work = λ resource free need. record { rests = refl; waits = refl; sent = refl; up = refl };
+  drops = λ resource free need. record { rests = refl; waits = refl; sent = refl; up = refl };
+  tells_outcome = λ resource free need. record { outcome = _; rests = refl; waits = refl; sent = refl };
+  outcome_told = λ resource free need new. refl;
+}
+
+pub written-lacking : (bytes : List ℕ) → IsOnlyOfLacking for_a_block (one_write bytes []) full_at_block
+written-lacking bytes = only-lacking (one_write bytes []) 71 (writes_block_0 bytes) (record { 0 = 5 }) 11 for_a_block (written-so bytes) full_at_block (λ resource free need. (refl, refl))
+
+pub none-full-written : (bytes : List ℕ) (resource : Resource) (free need : ℕ) → IsNoneOf (setup 1) (one_write bytes []) (full_at_block resource free need)
+none-full-written bytes resource free need images closing new whole = clash (written-lacking bytes (setup 1) images closing resource free need refl refl new whole)
+  where
+    clash : None ≡ Some (Full resource free need) → ⊥
+    clash k = cc

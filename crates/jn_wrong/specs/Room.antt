@@ -1,0 +1,46 @@
+-- What a transaction lacks at one server on whose pages nothing is stored, and reports that tell of it.
+use Rattle.std.specs.Prelude.{◌≡◌, ◌-◌, ℕ, false, nat_lt, if◌then◌else◌, List, [], ◌∷◌, ◌++◌, Option, Some}
+use Rattle.jn_base.specs.declared.names.Cause.TheVariants.{Full as FullAt}
+use Rattle.jn_base.specs.declared.names.Resource.{Resource}
+use Rattle.jn_base.specs.declared.names.Resource.TheVariants.{Records}
+use Rattle.jn_msgs.specs.declared.message.Vote.{Vote}
+use Rattle.jn_msgs.specs.declared.message.Vote.TheVariants.{Full}
+use Rattle.jn_records.specs.declared.net_list.Need.{Need}
+use Rattle.jn_records.specs.StablePages.{Counts}
+use Rattle.jn_rows.specs.Worker.{shortage}
+use Rattle.jn_schedule.specs.declared.Event.{Event}
+use Rattle.jn_report.specs.declared.line.Line.{Line}
+use Rattle.jn_report.specs.declared.line.Text.TheVariants as says
+use Rattle.jn_system_settling.specs.Settling.Rows.{s0, c1, tid, file}
+use Rattle.jn_written.specs.Chances.{Setup}
+use Rattle.jn_written.specs.Devices.{Devices}
+use Rattle.jn_written.specs.Whole.{IsWhole}
+use Rattle.jn_written.specs.Examples.{line, at_end}
+use Rattle.jn_wrong.specs.Still.{AreNew}
+use Rattle.jn_wrong.specs.Wrong.{a_file_made, the_end}
+
+-- what a transaction lacks first whose one work needs so much: a record for its flag, and then what the work needs of the rest
+abbrev pub lacking : Need → Counts → Option Vote
+lacking need g = if nat_lt g.pool 1 then Some (Full Records g.pool 1) else shortage (record { records = g.pool - 1; heads = g.heads; pages = g.leaves }) need
+
+-- from new images a whole run of the schedule on one server tells want of this only where it is lacking, with these numbers
+abbrev pub IsOnlyOfLacking : Need → List Event → (Resource → ℕ → ℕ → List Line) → Type 0
+IsOnlyOfLacking needs schedule report = (x : Setup) (images closing : Devices) (resource : Resource) (free need : ℕ) → x.servers ≡ 1 → x.trace ≡ false → AreNew x images
+    → IsWhole x schedule images closing (report resource free need) → lacking needs (x.counts s0) ≡ Some (Full resource free need)
+
+-- a record for the intention that makes the file, one for the work that is ready, and a head
+abbrev pub for_a_file : Need
+for_a_file = record { records = 2; heads = 1; pages = 0 }
+
+-- and with a block that is written: one more intention, and the block's data page
+abbrev pub for_a_block : Need
+for_a_block = record { records = 3; heads = 1; pages = 1 }
+
+-- where a block was written: it aborts for want of these, of which so many are free and so many are needed
+abbrev pub full_at_block : Resource → ℕ → ℕ → List Line
+full_at_block resource free need = line 0 (says.Up s0 1) ∷ line 2 (says.Begun c1 1 (tid s0 0)) ∷ line 4 (says.Opened c1 3 s0) ∷ line 6 (says.Did c1 5) ∷ line 8 (says.Did c1 7)
+    ∷ line 10 (says.Aborted c1 9 (tid s0 0) (FullAt s0 resource free need)) ∷ the_end
+
+-- where a file is made, and nothing is lacking
+abbrev pub made_report : List Line
+made_report = a_file_made ++ at_end (says.File s0 (file 7)) ∷ at_end (says.Commits 1) ∷ []
