@@ -1,7 +1,7 @@
 -- How a run over devices begins and how it ends, where nothing is stored.
 use Rattle.jn_wrong.proofs.Common.{◌≡◌, ◌+◌, ◌<◌, ℕ, Bool, true, false, List, [], if◌then◌else◌, drop, refl, ap, arith, None, Some, Option, nat_eq, server_eq, ServerNo, WorkId, Tid, work_eq, work_before, tid_eq, tid_before, FlagState, no_files, Memory, Step, AreNames, Event, Text, Line, ComesUp, Dismisses, GoesDown, ClosesClients, Acts, State, AtEnd, InSchedule, given_up, recovered, last_epoch, IsServed, IsRecovery, Leads, DoesStep, more, none, before, calm, setup, s0, blank, StableState, Pick, DeviceState, Armed, powered_off, found_on, pairs_view, row_calls, put_calls, ◌*◌, new_table, over, Prepared, ending, IsOneOfGood}
 use Rattle.jn_schedule.specs.declared.Event.TheVariants as events
-use Rattle.jn_wrong.proofs.NewDevice.{Tally, device, good_at, pages_at, OthersGood, IsBlankOn, blank-on, thrice}
+use Rattle.jn_wrong.proofs.NewDevice.{Tally, device, good_at, pages_at, OthersGood, IsBlankOn, blank-on, new-on, thrice}
 use Rattle.jn_wrong.proofs.OnDevices.{new_device, at_s0, one-there, new-blank, new-images, alone, disarms, uncalled, recovers-so}
 use Rattle.jn_wrong.proofs.OnSteps.{at, made_so, calm_deed, then_done, does, idled, idle-steps, serves, shows, scrubs}
 use Rattle.jn_wrong.proofs.Pairs.{the_counts}
@@ -37,6 +37,7 @@ pub one-so : (schedule : List Event) (report : List Line) (last : State) (d : De
 one-so schedule report last d leads stage tasks lines = record {
   images = at_s0 new_device;
   closing = at_s0 d;
+  store = new-on 0 (omega arith) (record { calls = 2; puts = 2; stops = 0 });
   new = λ q c lt. one-there (λ q. found_on the_counts (pairs_view (at_s0 new_device q)) c ≡ blank 0) (new-blank.found c) q lt;
   good = λ p. refl;
   whole = record {

@@ -1,7 +1,7 @@
 -- The device of a server on which nothing is stored: zeros behind the root, whatever befell its halves.
 use Rattle.jn_wrong.proofs.Common.{not, ◌&&◌, PageDecays, ◌≡◌, ◌-◌, subst, Some, Option, ◌≤◌, ◌<◌, ◌+◌, ◌||◌, ℕ, Bool, true, false, true≢false, nat_eq, nat_lt, if◌then◌else◌, List, [], refl, sym, ◌∙◌, ap, inl, arith, inr, fun_ext, blank, DeviceState, PageState, bumped, Armed, Happens, put, joined, pairs_view, found_on, Pick, s0, pages_of, ◌^◌, replicate, blank_page, pool_on, heads_on, record_or_free, head_or_free, IsRecoverable, Head, FreeHead, Record, Free, root_by, Candidate, StorePut, StoreLater, Decay, Revive, page_met, PageRevives}
 use Rattle.jn_device.proofs.Happening.{happens_later}
-use Rattle.jn_disks.specs.Disks.{no_files as nothing_there}
+use Rattle.jn_disks.specs.Disks.{no_files as nothing_there, IsNewStore, IsNewDisk}
 use Rattle.jn_disks.proofs.NewStores.{new_is}
 use Rattle.jn_found.specs.Images.{CountsFit, IsFresh}
 use Rattle.jn_records.specs.Heads.{head_at}
@@ -292,8 +292,23 @@ module _ (epoch : ℕ) (fits : epoch < 2 ^ 32) where
   fit : CountsFit s0 the_counts
   fit = record { server_fits = omega arith; pool = omega arith; heads = omega arith; leaves = omega arith }
 
+  made : IsNewDisk (root_by s0 the_counts epoch) (pairs_view rooted)
+  made = new_is (root_by s0 the_counts epoch) (pairs_view empty) (pairs_view rooted) zeros stored fits fit
+
   fresh : IsFresh s0 the_counts epoch nothing_there (pairs_view rooted)
-  fresh = let new = new_is (root_by s0 the_counts epoch) (pairs_view empty) (pairs_view rooted) zeros stored fits fit in new.fresh
+  fresh = made.fresh
+
+  -- whatever it has counted
+  pub new-on : (t : Tally) → IsNewStore (root_by s0 the_counts epoch) (pairs_view (device (good_at epoch) true [] t))
+  new-on t = let store = made.store in record {
+    count = store.count;
+    pages = λ i lt. let page = store.pages i lt in record { first = page.first; second = page.second };
+    untouched = record {
+      calm = record { quiet = refl; power = refl };
+      told = refl;
+      whole = λ i lt. record { both = refl; clean = halves-equal epoch i lt };
+    };
+  }
 
   -- whichever halves are good, whether or not it has power, and whatever waits
   pub blank-on : (good : ℕ → Bool) (fails : ℕ → ℕ) (power : Bool) (waiting : List Armed) (t : Tally) → IsBlankOn epoch (device (pages_at epoch good fails) power waiting t)

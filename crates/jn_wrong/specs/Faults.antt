@@ -7,6 +7,9 @@ use Rattle.jn_schedule.specs.declared.Event.TheVariants as events
 use Rattle.jn_report.specs.declared.line.EventRefusal.TheVariants.{TooManyArmed}
 use Rattle.jn_report.specs.declared.line.Text.TheVariants as says
 use Rattle.jn_report.specs.declared.line.Line.{Line}
+use Rattle.jn_records.specs.StablePages.{root_by}
+use Rattle.jn_store.specs.Pairs.{pairs_view}
+use Rattle.jn_disks.specs.Disks.{IsNewStore}
 use Rattle.jn_system_settling.specs.Settling.Rows.{s0}
 use Rattle.jn_written.specs.Chances.{Chance}
 use Rattle.jn_written.specs.Tasks.{AtEnd, State}
@@ -34,6 +37,8 @@ IsNoneOfGood schedule wrong = (images closing : Devices) → AreNew (setup 1) im
 pub record IsOneOfGood (schedule : List Event) (report : List Line) : Type 0 where
   pub images : Devices
   pub closing : Devices
+  -- as a run begins with it: pages of zeros behind a root of epoch 0, with power, and no fault waits
+  pub store : IsNewStore (root_by s0 ((setup 1).counts s0) 0) (pairs_view (images s0))
   pub new : AreNew (setup 1) images
   pub good : AreGood images
   pub whole : IsWhole (setup 1) schedule images closing report
