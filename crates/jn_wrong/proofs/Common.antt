@@ -9,16 +9,16 @@ pub use Rattle.jn_base.specs.declared.names.Party.{Party}
 pub use Rattle.jn_report.specs.declared.line.Text.{Text}
 pub use Rattle.jn_system.specs.WholeSystem.Steps.{Step, Restart, tid_before, after, run, IsRun, restart, restart_with, NextEvent, Tell, Again, Nudge, Crash, CloseClients, AreNames, commanded, crash, Deliver, at_memory, handed, handing, StopDelivery, are_rising, Work as Works, working, sent_now}
 pub use Rattle.jn_system_settling.specs.Settling.Course.{Course, go, go_on, newly_sent, course_to, without_number, still_waiting, numbered}
-pub use Rattle.jn_written.specs.Chances.{Setup, Chance, prints_found, works_found, tids_found, allowed, none_free, Allows, Free as FreeRoom}
+pub use Rattle.jn_written.specs.Chances.{Setup, Chance, prints_found, works_found, tids_found, allowed, none_free, Allows}
 pub use Rattle.jn_written.specs.Tasks.{Task, Begins, Meets, Acts, Rests, ComesUp, Dismisses, GoesDown, ClosesClients, CountsCommits, State, when_of, begun, next_task, AtEnd, InSchedule, Stage, CutShort, next_at, when_at}
 pub use Rattle.jn_written.specs.Deeds.{Deed, Reads, last_epoch, stopped_idle, shown, showing, pick_read, recovering, recovered, given_up, is_used_up, brought_up, plain, served, crashed_at, scrubbed, Use, uses, Arms, Decays, Revives, room, no_room, delivered, delivered_at, nothing, is_busy, Recovers, restarted, Cleans, PowersOff, Nothing, Calls, Disarms, worked, working_steps, is_busy_with, recovers}
 pub use Rattle.jn_written.specs.Events.{deed_of, met, acted, ending, told_unless, first_busy, servers_of, next_event, resting, next_in, asking, settling}
 pub use Rattle.jn_written.specs.Steps.{outside_texts, own_texts, message_texts, traced, lines_at, most_messages, is_too_much, come_to, cut_short, made, done, next, next_by, texts_of}
-pub use Rattle.jn_wrong.specs.Still.{still, IsOnly, goes, IsBlank, PrintsNothing, does_so, DoesSo, DoesNext, GoesSo, IsNoneOfNew, blank, AreNew, IsNoneOf, rests_so, is_fixed, is_sent_so}
+pub use Rattle.jn_wrong.specs.Still.{still, IsOnly, goes, IsBlank, PrintsNothing, does_so, DoesSo, DoesNext, GoesSo, IsNoneOfNew, blank, AreNew, IsNoneOf, IsOnlyOf, rests_so, is_fixed, is_sent_so}
 pub use Rattle.jn_base.specs.declared.names.ServerNo.{ServerNo}
 pub use Rattle.jn_order.specs.Files.{no_files, AllFiles, Files, change, effect, answer_to, files_after, is_did}
 unfoldable pub use Rattle.jn_order.specs.Files.{zeros}
-pub use Rattle.jn_records.specs.StablePages.{Counts, slot_place, head_place, root_by, page_count, Pages}
+pub use Rattle.jn_records.specs.StablePages.{Counts, slot_place, head_place, root_by, page_count}
 pub use Rattle.jn_schedule.specs.declared.Event.{Event}
 pub use Rattle.jn_written.specs.Whole.{before, AreImages, IsWhole, closed_world, IsFresh as IsFreshDevice, IsWritten}
 pub use Rattle.jn_wrong.specs.Wrong.{begins, begun_report, makes_one, full_of, IsNone, makes_and_reads, opens_and_loses, answered_too_soon, stopped_by_nothing, fault_of_nothing, lost_without_opening, file_left_out, file_locked, page_unwritten, other_bytes, named_again}
@@ -64,7 +64,7 @@ pub use Rattle.jn_device.specs.Events.{disarmed, powered_off, may_arm, Arms as F
 pub use Rattle.jn_found.specs.Pages.{found_on, pool_on, heads_on, record_or_free, head_or_free, listed, pages_by, state_of, record_on, head_on}
 pub use Rattle.jn_store.specs.Pairs.{pairs_view}
 pub use Rattle.jn_device.specs.declared.Armed.{Armed}
-pub use Rattle.jn_wrong.specs.Faults.{IsOneOfGood, IsOnlyOfGood, arms_far, quiet_report, decays_with_power, forgiven_report, IsNoneOfGood, decays_once, first_decay_told, decays_both, both_report, decays_behind_scrub, nothing_mended, nothing_forgiven, decays_behind_restart, restarted_report, left_unmended, arms_two, armed_too_many, show_stopped, AreGood, arms_first, arms_in_order, arms_null, null_told, stop_met, outside_in_order, Computes, stop_passed_by, outside_swapped}
+pub use Rattle.jn_wrong.specs.Faults.{IsOneOfGood, IsOnlyOfGood, arms_far, quiet_report, decays_with_power, forgiven_report, IsNoneOfGood, decays_once, first_decay_told, decays_both, both_report, decays_behind_scrub, nothing_mended, nothing_forgiven, decays_behind_restart, restarted_report, left_unmended, arms_two, armed_too_many, show_stopped, AreGood, arms_first, arms_in_order, arms_null, null_told, stop_met, outside_in_order, Computes, IsComputed, stop_passed_by, outside_swapped}
 pub use Rattle.jn_system.specs.WholeSystem.Servers.{named_now, Room, server_row, of_worker, of_coordinator, server_step, storage_of, is_busy as has_going, is_for_worker, of_step, server_again, of_timeout, server_timeout, restored, line_of, lines_of}
 pub use Rattle.jn_wrong.specs.Turns.{epoch_after, may_rise, epochs_rise, is_by, are_by, are_read, is_up_after, may_be_told, takes_turns}
 pub use Rattle.jn_system.proofs.WholeSystem.OneChange.{one-found, one-server, one-client}
@@ -80,12 +80,15 @@ pub use Rattle.jn_sets.specs.Pool.{rubbish_count, free_count, is_free, is_rubbis
 pub use Rattle.jn_server.specs.Standing.{free_on, is_free_head, promised_heads, has_rubbish, is_free_page}
 pub use Rattle.jn_written.specs.Rubbish.{AreLeft, AreAllCounted, CountsAll, left_by_row, left_by_message, left_by_sent, rubbish_records, left_by_changes, left_by_work, left_at_work, left_by_restart, left_by_steps, AreCounted}
 pub use Rattle.jn_wrong.specs.Settles.{HandsOver, ComesToRest}
+pub use Rattle.jn_base.specs.declared.names.Cause.{Cause}
 pub use Rattle.jn_base.specs.declared.names.Resource.{Resource}
 pub use Rattle.jn_base.specs.declared.op.Answer.TheVariants.{Did, Exists, Read as Found}
-pub use Rattle.jn_wrong.specs.Room.{IsOnlyOfLacking, for_a_file, for_a_block, full_at_block, lacking, made_report}
+pub use Rattle.jn_wrong.specs.Room.{IsOnlyOfLacking, for_a_file, for_a_block, full_at_block, IsOnlyWhereLacking, one_record, lacking, made_report, in_room}
 pub use Rattle.jn_msgs.specs.declared.message.Vote.TheVariants.{Full, Ready}
 pub use Rattle.jn_rows.specs.declared.worker.ActiveWork.{ActiveWork}
-pub use Rattle.jn_base.specs.declared.names.Cause.{Cause}
+pub use Rattle.jn_base.specs.declared.names.Cause.TheVariants.{Full as FullAt}
+pub use Rattle.jn_base.specs.declared.names.Resource.TheVariants.{Records, Pages}
+pub use Rattle.jn_report.specs.declared.line.Text.TheVariants.{Aborted, RefusedEvent}
 pub use Rattle.jn_rows.specs.Worker.{shortage, vote_of, Held, conflict, commit_wants, need_in, prepared_row, drop_row, drop_phase, work_at, WorkerTable, worker_row, worker_step, timeout_row, WorkStorage, worker_again, commit_holder}
 pub use Rattle.jn_rows.specs.declared.worker.Work.{Work}
 pub use Rattle.jn_written.proofs.Ordered.{longer, Longer, begun-lines, events-rise}

@@ -1,6 +1,5 @@
 -- A transaction of one work ends: it commits, or its client is told what was lacking.
-use Rattle.jn_wrong.proofs.Common.{◌≡◌, ◌⊎◌, ◌+◌, ◌-◌, inl, inr, ℕ, Bool, true, false, List, [], ◌∷◌, ◌++◌, drop, Option, Some, None, is_some, true≢false, refl, sym, ◌∙◌, ap, subst, arith, nat_lt, if◌then◌else◌, slice_get, list_any, ServerNo, AllFiles, no_files, Client, Server, Counts, Need, DeviceState, Event, Line, Text, Message, Cause, Resource, RowOutcome, StableState, stable, made_all, shortage, vote_of, Held, conflict, commit_wants, need_in, Work, Memory, server_row, of_worker, of_coordinator, Setup, Task, Begins, Meets, Rests, State, Stage, AtEnd, next_at, next_task, done, first_busy, servers_of, Moment, Leads, pages_of, before, AreImages, IsWhole, AreNew, still, goes, GoesSo, rests_so, s0, WorkId, client_eq, blank, longer, Longer, may-lead, Phase, Active, Stored, c1, tid, left_by_row, rubbish_count, pool_on, free_on, CountsAll, lacking, IsOnlyOfLacking, Vote, abort_row, end_promised, prepared_row, Transaction, none_free, Ready, Full, ActiveWork}
-use Rattle.jn_base.specs.declared.names.Cause.TheVariants.{Full as FullAt}
+use Rattle.jn_wrong.proofs.Common.{Devices, ◌≡◌, ◌⊎◌, ◌+◌, ◌-◌, inl, inr, ℕ, Bool, true, false, List, [], ◌∷◌, ◌++◌, drop, Option, Some, None, is_some, true≢false, refl, sym, ◌∙◌, ap, subst, arith, nat_lt, if◌then◌else◌, slice_get, list_any, ServerNo, AllFiles, no_files, Client, Server, Counts, Need, DeviceState, Event, Line, Text, Message, Cause, Resource, RowOutcome, StableState, stable, made_all, shortage, vote_of, Held, conflict, commit_wants, need_in, Work, Memory, server_row, of_worker, of_coordinator, Setup, Task, Begins, Meets, Rests, State, Stage, AtEnd, next_at, next_task, done, first_busy, servers_of, Moment, Leads, pages_of, before, AreImages, IsWhole, AreNew, still, goes, GoesSo, rests_so, s0, WorkId, client_eq, blank, longer, Longer, may-lead, Phase, Active, Stored, c1, tid, left_by_row, rubbish_count, pool_on, free_on, CountsAll, lacking, IsOnlyOfLacking, Vote, abort_row, end_promised, prepared_row, Transaction, none_free, Ready, Full, ActiveWork, FullAt, IsOnlyWhereLacking}
 use Rattle.jn_base.specs.declared.names.RequestNo.{RequestNo}
 use Rattle.jn_base.specs.declared.names.Resource.TheVariants as resources
 use Rattle.jn_base.specs.declared.op.Command.TheVariants as commands
@@ -10,7 +9,7 @@ use Rattle.jn_rows.specs.declared.coordinator.Stage.{Stage as Stage'}
 use Rattle.jn_rows.specs.declared.coordinator.Stage.TheVariants as stages
 use Rattle.jn_schedule.specs.declared.Event.TheVariants as events
 use Rattle.jn_wrong.proofs.Bare.{bare}
-use Rattle.jn_wrong.proofs.Driving.{Stand, IsStill, begins-one}
+use Rattle.jn_wrong.proofs.Driving.{Stand, IsStill, begins-one, finishes}
 use Rattle.jn_wrong.proofs.Exact.{new_epochs, setup_of, quiet, start}
 use Rattle.jn_wrong.proofs.Granted.{with_room, by_row, hands-one, told-one}
 use Rattle.jn_wrong.proofs.OneServer.{weaker}
@@ -132,6 +131,12 @@ pub record WaitsToTell (s : State) (k : ℕ) : Type 0 where
   pub waits : s.course.waiting ≡ k ∷ []
   pub sent : slice_get s.course.world.sent k ≡ Some (Client c1, outcome)
 
+-- so many steps more, at which nothing can strike, are the rest of the run, which tells these lines
+pub record GoesOn (x : Setup) (s : State) (steps : ℕ) (told : List Line) : Type 0 where
+  pub so : GoesSo x steps s
+  pub end : next_task (goes x steps s) ≡ None
+  pub tells : (goes x steps s).lines ≡ told
+
 -- After so many steps of the schedule a settle is about to end, behind which the transaction ends. Its work stands so, its end is this request and has message k, and
 -- it needs so much.
 module _ (schedule : List Event) (n : ℕ) (work : ActiveWork) (request : RequestNo) (k : ℕ) (needs : Need) where
@@ -243,6 +248,11 @@ module _ (schedule : List Event) (n : ℕ) (work : ActiveWork) (request : Reques
       pub tells_outcome : (resource : Resource) (free need : ℕ) → WaitsToTell (aborted resource free need) (k + 4)
       pub outcome_told : (resource : Resource) (free need : ℕ) (new : List Line) → wanted_in ((done x still Rests (aborted resource free need)).lines ++ new) ≡ Some (Full resource free need)
 
+    -- and where something is lacking, which report the run tells to its end
+    pub record TellsSo (steps : ℕ) (report : Resource → ℕ → ℕ → List Line) : Type 0 where
+      pub no_flag : GoesOn x (done x still Rests refused) steps (report resources.Records g.pool 1)
+      pub no_work : (resource : Resource) (free need : ℕ) → GoesOn x (done x still Rests (aborted resource free need)) steps (report resource free need)
+
     module _ (is : IsSo) (last : Moment) (over : next_task last.state ≡ None) where
       pub record IsReady (d : DeviceState) : Type 0 where
         pub still : IsStill d
@@ -349,44 +359,74 @@ module _ (schedule : List Event) (n : ℕ) (work : ActiveWork) (request : Reques
       abbrev Told : Type 0
       Told = (list_any tells_commit last.state.lines ≡ true) ⊎ (wanted_in last.state.lines ≡ lacking needs g)
 
+      to-end : Reached x refl last over began → Stand x last asked IsReady
+      to-end h = to-asked (to-rested (reaches x refl last over n began is.so h))
+
       pub ends : Reached x refl last over began → Told
       ends h = by (nat_lt g.pool 1) refl
         where
-          to-end : Stand x last asked IsReady
-          to-end = to-asked (to-rested (reaches x refl last over n began is.so h))
-
           by : (short : Bool) → nat_lt g.pool 1 ≡ short → Told
-          by true e = inr (tells-wanted (done x still Rests refused) (Some (Full resources.Records g.pool 1)) (to-refused e to-end) is.is_told ∙ sym (ap lacking_by e))
+          by true e = inr (tells-wanted (done x still Rests refused) (Some (Full resources.Records g.pool 1)) (to-refused e (to-end h)) is.is_told ∙ sym (ap lacking_by e))
           by false e = at (short-or (so_many (g.pool - 1) g.heads g.leaves) needs)
             where
               at : (shortage (so_many (g.pool - 1) g.heads g.leaves) needs ≡ None) ⊎ IsFull (so_many (g.pool - 1) g.heads g.leaves) needs → Told
-              at (inl enough) = inl (tells-commit (to-committed enough (to-promised e to-end)))
+              at (inl enough) = inl (tells-commit (to-committed enough (to-promised e (to-end h))))
               at (inr f) = inr (tells-wanted (done x still Rests (aborted f.resource f.has f.wants)) (Some (Full f.resource f.has f.wants))
-                  (to-aborted f.resource f.has f.wants f.is (to-promised e to-end)) (is.outcome_told f.resource f.has f.wants) ∙ sym f.is ∙ sym (ap lacking_by e))
+                  (to-aborted f.resource f.has f.wants f.is (to-promised e (to-end h))) (is.outcome_told f.resource f.has f.wants) ∙ sym f.is ∙ sym (ap lacking_by e))
 
-  -- so of each report that tells of want of room
-  pub only-lacking : ((counts : ServerNo → Counts) (epochs : ServerNo → ℕ) → IsSo counts epochs) → (report : Resource → ℕ → ℕ → List Line)
-      → ((resource : Resource) (free need : ℕ) → (list_any tells_commit (report resource free need) ≡ false) × (wanted_in (report resource free need) ≡ Some (Full resource free need))) → IsOnlyOfLacking needs schedule report
-  only-lacking is report reads setup images closing resource free need servers traces new whole = subst (λ (y : Setup). AreNew y images → IsWhole y schedule images closing (report resource free need) → lacking needs (y.counts s0) ≡ Some (Full resource free need)) (sym same) (tells setup.counts) new whole
-    where
-      same : setup ≡ setup_of 1 false setup.counts
-      same = ap (λ (m : ℕ). record setup { servers = m }) servers ∙ ap (λ (b : Bool). record setup { servers = 1; trace = b }) traces
+      goes-on : (s : State) (steps : ℕ) (told : List Line) → GoesOn x s steps told → Stand x last s IsStill → last.state.lines ≡ told
+      goes-on s steps told r h = finishes x refl last over steps s r.so r.end h ∙ r.tells
 
-      tells : (counts : ServerNo → Counts) → AreNew (setup_of 1 false counts) images → IsWhole (setup_of 1 false counts) schedule images closing (report resource free need) → lacking needs (counts s0) ≡ Some (Full resource free need)
-      tells counts new h = by h.written.files h.written.epochs h.written.are_images h.written.leads
+      pub ends-lacking : (steps : ℕ) (report : Resource → ℕ → ℕ → List Line) → TellsSo steps report → (resource : Resource) (free need : ℕ) → lacking needs g ≡ Some (Full resource free need)
+          → Reached x refl last over began → last.state.lines ≡ report resource free need
+      ends-lacking steps report tells resource free need lacks h = by (nat_lt g.pool 1) refl
         where
-          over : next_task h.last.state ≡ None
-          over = ap (λ (stage : Stage). next_at stage h.last.state.tasks) h.stage ∙ ap (λ (tasks : List Task). next_at AtEnd tasks) h.tasks
+          same : Some (Full resources.Records g.pool 1) ≡ Some (Full resource free need) → report resources.Records g.pool 1 ≡ report resource free need
+          same k = cc
 
-          by : (files : AllFiles) (epochs : ServerNo → ℕ) → AreImages (setup_of 1 false counts) files epochs images → Leads (setup_of 1 false counts) (record { state = before (setup_of 1 false counts) schedule files epochs; devices = images }) h.last
-              → lacking needs (counts s0) ≡ Some (Full resource free need)
-          by files epochs are leads = from (ends counts epochs (is counts epochs) h.last over (record {
-            moment = record { state = before (setup_of 1 false counts) schedule files epochs; devices = images };
-            leads = leads;
-            state = ap bare (start 1 false schedule counts images new files epochs are);
-            well = inl (quiet 1 false schedule counts images new files epochs are);
-          }))
-            where
-              from : (list_any tells_commit h.last.state.lines ≡ true) ⊎ (wanted_in h.last.state.lines ≡ lacking needs (counts s0)) → lacking needs (counts s0) ≡ Some (Full resource free need)
-              from (inl c) = absurd (true≢false (sym c ∙ ap (λ (ls : List Line). list_any tells_commit ls) h.lines_are ∙ (reads resource free need).0))
-              from (inr c) = sym c ∙ ap wanted_in h.lines_are ∙ (reads resource free need).1
+          by : (short : Bool) → nat_lt g.pool 1 ≡ short → last.state.lines ≡ report resource free need
+          by true e = goes-on (done x still Rests refused) steps (report resources.Records g.pool 1) tells.no_flag (to-refused e (to-end h)) ∙ same (sym (ap lacking_by e) ∙ lacks)
+          by false e = goes-on (done x still Rests (aborted resource free need)) steps (report resource free need) (tells.no_work resource free need)
+              (to-aborted resource free need (sym (ap lacking_by e) ∙ lacks) (to-promised e (to-end h)))
+
+  -- ---- whole runs from new images
+
+  one-setup : (setup : Setup) → setup.servers ≡ 1 → setup.trace ≡ false → setup ≡ setup_of 1 false setup.counts
+  one-setup setup servers traces = ap (λ (m : ℕ). record setup { servers = m }) servers ∙ ap (λ (b : Bool). record setup { servers = 1; trace = b }) traces
+
+  module _ (counts : ServerNo → Counts) (images closing : Devices) (lines : List Line) (new : AreNew (setup_of 1 false counts) images) (h : IsWhole (setup_of 1 false counts) schedule images closing lines) where
+    is-over : next_task h.last.state ≡ None
+    is-over = ap (λ (stage : Stage). next_at stage h.last.state.tasks) h.stage ∙ ap (λ (tasks : List Task). next_at AtEnd tasks) h.tasks
+
+    begun-so : (A : Type 0) → ((epochs : ServerNo → ℕ) → Reached (setup_of 1 false counts) refl h.last is-over (began counts epochs) → A) → A
+    begun-so A holds = by h.written.files h.written.epochs h.written.are_images h.written.leads
+      where
+        by : (files : AllFiles) (epochs : ServerNo → ℕ) → AreImages (setup_of 1 false counts) files epochs images → Leads (setup_of 1 false counts) (record { state = before (setup_of 1 false counts) schedule files epochs; devices = images }) h.last → A
+        by files epochs are leads = holds epochs (record {
+          moment = record { state = before (setup_of 1 false counts) schedule files epochs; devices = images };
+          leads = leads;
+          state = ap bare (start 1 false schedule counts images new files epochs are);
+          well = inl (quiet 1 false schedule counts images new files epochs are);
+        })
+
+  module _ (is : (counts : ServerNo → Counts) (epochs : ServerNo → ℕ) → IsSo counts epochs) (report : Resource → ℕ → ℕ → List Line) where
+    -- a report that tells of want of room
+    pub only-lacking : ((resource : Resource) (free need : ℕ) → (list_any tells_commit (report resource free need) ≡ false) × (wanted_in (report resource free need) ≡ Some (Full resource free need))) → IsOnlyOfLacking needs schedule report
+    only-lacking reads setup images closing resource free need servers traces new whole = subst (λ (y : Setup). AreNew y images → IsWhole y schedule images closing (report resource free need) → lacking needs (y.counts s0) ≡ Some (Full resource free need))
+        (sym (one-setup setup servers traces)) (tells setup.counts) new whole
+      where
+        tells : (counts : ServerNo → Counts) → AreNew (setup_of 1 false counts) images → IsWhole (setup_of 1 false counts) schedule images closing (report resource free need) → lacking needs (counts s0) ≡ Some (Full resource free need)
+        tells counts new h = begun-so counts images closing (report resource free need) new h (lacking needs (counts s0) ≡ Some (Full resource free need)) (λ epochs r. from (ends counts epochs (is counts epochs) h.last (is-over counts images closing (report resource free need) new h) r))
+          where
+            from : (list_any tells_commit h.last.state.lines ≡ true) ⊎ (wanted_in h.last.state.lines ≡ lacking needs (counts s0)) → lacking needs (counts s0) ≡ Some (Full resource free need)
+            from (inl c) = absurd (true≢false (sym c ∙ ap (λ (ls : List Line). list_any tells_commit ls) h.lines_are ∙ (reads resource free need).0))
+            from (inr c) = sym c ∙ ap wanted_in h.lines_are ∙ (reads resource free need).1
+
+    -- and a run where something is lacking
+    pub only-where-lacking : (steps : ℕ) → ((counts : ServerNo → Counts) (epochs : ServerNo → ℕ) → TellsSo counts epochs steps report) → IsOnlyWhereLacking needs schedule report
+    only-where-lacking steps tells-so setup images closing lines resource free need servers traces new lacks whole = subst (λ (y : Setup). AreNew y images → lacking needs (y.counts s0) ≡ Some (Full resource free need) → IsWhole y schedule images closing lines → lines ≡ report resource free need)
+        (sym (one-setup setup servers traces)) (tells setup.counts) new lacks whole
+      where
+        tells : (counts : ServerNo → Counts) → AreNew (setup_of 1 false counts) images → lacking needs (counts s0) ≡ Some (Full resource free need) → IsWhole (setup_of 1 false counts) schedule images closing lines → lines ≡ report resource free need
+        tells counts new lacks h = sym h.lines_are ∙ begun-so counts images closing lines new h (h.last.state.lines ≡ report resource free need)
+            (λ epochs r. ends-lacking counts epochs (is counts epochs) h.last (is-over counts images closing lines new h) steps report (tells-so counts epochs) resource free need lacks r)

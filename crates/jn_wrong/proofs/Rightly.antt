@@ -1,6 +1,5 @@
 -- The right reports of schedules of which wrong ones are refuted, computed.
-use Rattle.jn_wrong.proofs.Common.{◌≡◌, ℕ, List, [], ◌∷◌, refl, arms_first, arms_in_order, arms_null, null_told, makes_one, calm, calmly, at_step, stopped, report, stop_met, outside_in_order, made_report, one_write, full_at_block, FreeRoom, false, quiet_report, decays_once, decays_both, both_report, decays_behind_scrub, decays_with_power, forgiven_report, decays_behind_restart, restarted_report, arms_two, arms_far, Allows, Computes}
-use Rattle.jn_base.specs.declared.names.Resource.TheVariants.{Pages}
+use Rattle.jn_wrong.proofs.Common.{◌≡◌, ℕ, [], ◌∷◌, refl, arms_first, arms_in_order, arms_null, null_told, makes_one, calm, calmly, at_step, stopped, report, stop_met, outside_in_order, made_report, full_of, false, quiet_report, decays_once, decays_both, both_report, decays_behind_scrub, decays_with_power, forgiven_report, decays_behind_restart, restarted_report, arms_two, arms_far, Allows, Computes, Records, IsComputed, one_record, in_room}
 use Rattle.jn_base.specs.declared.device.FaultKind.TheVariants as faults
 use Rattle.jn_locks.specs.Locks as locks
 
@@ -38,6 +37,6 @@ pub makes-file : report 1 calmly 200 makes_one ≡ made_report
 unfolding locks.unit_before
 makes-file = refl
 
-pub lacks-page : (bytes : List ℕ) → report 1 (at_step 77 (record calm { found = FreeRoom (record { records = 31; heads = 16; pages = 0 }) }) calmly) 200 (one_write bytes []) ≡ full_at_block Pages 0 1
+pub lacks-records : IsComputed one_record (in_room one_record) 100 makes_one (full_of Records 0 2)
 unfolding locks.unit_before
-lacks-page bytes = refl
+lacks-records = record { lines_are = refl; stage = refl; tasks = refl }

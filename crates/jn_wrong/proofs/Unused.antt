@@ -1,5 +1,6 @@
 -- What is free on pages on which nothing is stored.
-use Rattle.jn_wrong.proofs.Common.{◌≡◌, ◌+◌, ◌-◌, ◌||◌, ℕ, Bool, true, false, not, if◌then◌else◌, List, [], ◌∷◌, length, is_some, list_any, true≢false, refl, sym, ◌∙◌, ap, arith, FileNo, WorkId, Tid, work_eq, tid_eq, file_eq, work_tells, tid_tells, file_tells, Counts, Need, StableState, Memory, promised, count_by, Pages, is_free, free_count, is_rubbish, rubbish_count, pool_on, heads_on, record_on, head_on, listed, is_free_head, is_free_page, promised_heads, free_on, has_rubbish, CountsAll, Head, FreeHead, Used, Record, Free, Intention, Going, Flag, heads_name, works_name, has_address, holds_address}
+use Rattle.jn_wrong.proofs.Common.{◌≡◌, ◌+◌, ◌-◌, ◌||◌, ℕ, Bool, true, false, not, if◌then◌else◌, List, [], ◌∷◌, length, is_some, list_any, true≢false, refl, sym, ◌∙◌, ap, arith, FileNo, WorkId, Tid, work_eq, tid_eq, file_eq, work_tells, tid_tells, file_tells, Counts, Need, StableState, Memory, promised, count_by, is_free, free_count, is_rubbish, rubbish_count, pool_on, heads_on, record_on, head_on, listed, is_free_head, is_free_page, promised_heads, free_on, has_rubbish, CountsAll, Head, FreeHead, Used, Record, Free, Intention, Going, Flag, heads_name, works_name, has_address, holds_address}
+use Rattle.jn_records.specs.StablePages.{Pages}
 use Rattle.std.proofs.lemmas.List.Sums.{sum_by-cons, count_by-le-length}
 use Rattle.jn_records.specs.declared.record.Record.TheVariants.{Ready}
 use Rattle.jn_storage.specs.Listing.{is_in, IsListing, total}

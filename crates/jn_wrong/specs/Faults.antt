@@ -7,15 +7,17 @@ use Rattle.jn_schedule.specs.declared.Event.TheVariants as events
 use Rattle.jn_report.specs.declared.line.EventRefusal.TheVariants.{TooManyArmed}
 use Rattle.jn_report.specs.declared.line.Text.TheVariants as says
 use Rattle.jn_report.specs.declared.line.Line.{Line}
+use Rattle.jn_order.specs.Files.{no_files}
 use Rattle.jn_records.specs.StablePages.{root_by}
 use Rattle.jn_store.specs.Pairs.{pairs_view}
 use Rattle.jn_disks.specs.Disks.{IsNewStore}
 use Rattle.jn_system_settling.specs.Settling.Rows.{s0}
-use Rattle.jn_written.specs.Chances.{Chance}
+use Rattle.jn_written.specs.Chances.{Setup, Chance}
 use Rattle.jn_written.specs.Tasks.{AtEnd, State}
 use Rattle.jn_written.specs.Devices.{Devices}
-use Rattle.jn_written.specs.Whole.{IsWhole}
-use Rattle.jn_written.specs.Examples.{setup, last_of, line, at_end}
+use Rattle.jn_written.specs.Steps.{after}
+use Rattle.jn_written.specs.Whole.{before, IsWhole}
+use Rattle.jn_written.specs.Examples.{setup, line, at_end}
 use Rattle.jn_wrong.specs.Still.{AreNew}
 use Rattle.jn_wrong.specs.Wrong.{the_end}
 
@@ -43,11 +45,17 @@ pub record IsOneOfGood (schedule : List Event) (report : List Line) : Type 0 whe
   pub good : AreGood images
   pub whole : IsWhole (setup 1) schedule images closing report
 
--- with these chances, sixty steps at most are a run to its end, and these are its lines
-pub record Computes (chances : ℕ → State → Chance) (schedule : List Event) (report : List Line) : Type 0 where
-  pub lines_are : (last_of 1 chances 60 schedule).lines ≡ report
-  pub stage : (last_of 1 chances 60 schedule).stage ≡ AtEnd
-  pub tasks : (last_of 1 chances 60 schedule).tasks ≡ []
+abbrev last_in : Setup → (ℕ → State → Chance) → ℕ → List Event → State
+last_in x chances steps schedule = after x chances 0 steps (before x schedule no_files (λ q. 0))
+
+-- with these chances, so many steps at most are a run to its end, and these are its lines
+pub record IsComputed (x : Setup) (chances : ℕ → State → Chance) (steps : ℕ) (schedule : List Event) (report : List Line) : Type 0 where
+  pub lines_are : (last_in x chances steps schedule).lines ≡ report
+  pub stage : (last_in x chances steps schedule).stage ≡ AtEnd
+  pub tasks : (last_in x chances steps schedule).tasks ≡ []
+
+abbrev pub Computes : (ℕ → State → Chance) → List Event → List Line → Type 0
+Computes chances schedule report = IsComputed (setup 1) chances 60 schedule report
 
 abbrev up : Line
 up = line 0 (says.Up s0 1)

@@ -1,5 +1,5 @@
 -- What a transaction lacks at one server on whose pages nothing is stored, and reports that tell of it.
-use Rattle.std.specs.Prelude.{◌≡◌, ◌-◌, ℕ, false, nat_lt, if◌then◌else◌, List, [], ◌∷◌, ◌++◌, Option, Some}
+use Rattle.std.specs.Prelude.{◌≡◌, ◌-◌, ℕ, false, nat_lt, if◌then◌else◌, List, [], ◌∷◌, ◌++◌, Option, Some, None}
 use Rattle.jn_base.specs.declared.names.Cause.TheVariants.{Full as FullAt}
 use Rattle.jn_base.specs.declared.names.Resource.{Resource}
 use Rattle.jn_base.specs.declared.names.Resource.TheVariants.{Records}
@@ -12,10 +12,13 @@ use Rattle.jn_schedule.specs.declared.Event.{Event}
 use Rattle.jn_report.specs.declared.line.Line.{Line}
 use Rattle.jn_report.specs.declared.line.Text.TheVariants as says
 use Rattle.jn_system_settling.specs.Settling.Rows.{s0, c1, tid, file}
-use Rattle.jn_written.specs.Chances.{Setup}
+use Rattle.jn_rows.specs.Coordinator.{promised}
+use Rattle.jn_system.specs.WholeSystem.World.{Memory}
+use Rattle.jn_written.specs.Chances.{Setup, Chance, Free, none_free}
+use Rattle.jn_written.specs.Tasks.{Task, Rests, State, next_task}
 use Rattle.jn_written.specs.Devices.{Devices}
 use Rattle.jn_written.specs.Whole.{IsWhole}
-use Rattle.jn_written.specs.Examples.{line, at_end}
+use Rattle.jn_written.specs.Examples.{setup, calm, calm_at, line, at_end}
 use Rattle.jn_wrong.specs.Still.{AreNew}
 use Rattle.jn_wrong.specs.Wrong.{a_file_made, the_end}
 
@@ -27,6 +30,11 @@ lacking need g = if nat_lt g.pool 1 then Some (Full Records g.pool 1) else short
 abbrev pub IsOnlyOfLacking : Need → List Event → (Resource → ℕ → ℕ → List Line) → Type 0
 IsOnlyOfLacking needs schedule report = (x : Setup) (images closing : Devices) (resource : Resource) (free need : ℕ) → x.servers ≡ 1 → x.trace ≡ false → AreNew x images
     → IsWhole x schedule images closing (report resource free need) → lacking needs (x.counts s0) ≡ Some (Full resource free need)
+
+-- and where it is lacking each of them tells exactly this
+abbrev pub IsOnlyWhereLacking : Need → List Event → (Resource → ℕ → ℕ → List Line) → Type 0
+IsOnlyWhereLacking needs schedule report = (x : Setup) (images closing : Devices) (lines : List Line) (resource : Resource) (free need : ℕ) → x.servers ≡ 1 → x.trace ≡ false → AreNew x images
+    → lacking needs (x.counts s0) ≡ Some (Full resource free need) → IsWhole x schedule images closing lines → lines ≡ report resource free need
 
 -- a record for the intention that makes the file, one for the work that is ready, and a head
 abbrev pub for_a_file : Need
@@ -44,3 +52,21 @@ full_at_block resource free need = line 0 (says.Up s0 1) ∷ line 2 (says.Begun 
 -- where a file is made, and nothing is lacking
 abbrev pub made_report : List Line
 made_report = a_file_made ++ at_end (says.File s0 (file 7)) ∷ at_end (says.Commits 1) ∷ []
+
+-- ---- one server with one record, which it promises to a transaction's flag
+
+abbrev pub one_record : Setup
+one_record = record (setup 1) { counts = λ q. record { pool = 1; heads = 16; leaves = 128 } }
+
+-- where nothing is stored, all is free but the records that are promised
+abbrev unpromised : Counts → Option Memory → Need
+unpromised g None = none_free
+unpromised g (Some m) = record { records = g.pool - promised m.coordinator.transactions; heads = g.heads; pages = g.leaves }
+
+abbrev in_room_at : Counts → State → Option Task → Chance
+in_room_at g s (Some Rests) = record calm { found = Free (unpromised g (s.course.world.memory s0)) }
+in_room_at g s task = calm_at s task
+
+-- a message finds that free
+abbrev pub in_room : Setup → ℕ → State → Chance
+in_room x n s = in_room_at (x.counts s0) s (next_task s)

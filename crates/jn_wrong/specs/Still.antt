@@ -43,6 +43,9 @@ abbrev pub IsNoneOfNew : ℕ → Bool → List Event → List Line → Type 0
 IsNoneOfNew servers trace schedule wrong = (x : Setup) (images closing : Devices) → x.servers ≡ servers → x.trace ≡ trace → AreNew x images → IsWhole x schedule images closing wrong → ⊥
 
 -- and so of one setup
+abbrev pub IsOnlyOf : Setup → List Event → List Line → Type 0
+IsOnlyOf x schedule report = (images closing : Devices) (lines : List Line) → AreNew x images → IsWhole x schedule images closing lines → lines ≡ report
+
 abbrev pub IsNoneOf : Setup → List Event → List Line → Type 0
 IsNoneOf x schedule wrong = (images closing : Devices) → AreNew x images → IsWhole x schedule images closing wrong → ⊥
 

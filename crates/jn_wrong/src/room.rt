@@ -2,18 +2,31 @@
 
 ghost use Rattle.std.specs.Prelude.{◌≡◌, ℕ, List, []};
 ghost use Rattle.jn_base.specs.declared.names.Resource.{Resource};
-ghost use Rattle.jn_base.specs.declared.names.Resource.TheVariants.{Pages};
-ghost use Rattle.jn_written.specs.Chances.{Free};
-ghost use Rattle.jn_written.specs.Examples.{calm, calmly, at_step, report, setup, one_write};
-ghost use Rattle.jn_wrong.specs.Still.{IsNoneOf};
+ghost use Rattle.jn_base.specs.declared.names.Resource.TheVariants.{Records, Pages};
+ghost use Rattle.jn_written.specs.Examples.{calmly, report, setup, one_write};
+ghost use Rattle.jn_wrong.specs.Still.{IsOnlyOf, IsNoneOf};
 ghost use Rattle.jn_wrong.specs.Wrong.{makes_one, full_of};
-ghost use Rattle.jn_wrong.specs.Room.{IsOnlyOfLacking, for_a_file, for_a_block, full_at_block, made_report};
+ghost use Rattle.jn_wrong.specs.Faults.{IsComputed};
+ghost use Rattle.jn_wrong.specs.Room.{IsOnlyOfLacking, IsOnlyWhereLacking, one_record, in_room, for_a_file, for_a_block, full_at_block, made_report};
 
 /// A client is told that its transaction aborted for want of room only where room is lacking, whatever befalls the run. It is told what is lacking first, with
 /// the numbers that are so. This holds of a server with any count of records, heads and data pages.
 pub fn an_abort_tells_what_is_lacking()
     ensures for_a_file { IsOnlyOfLacking for_a_file makes_one full_of }
     ensures for_a_block { (bytes : List ℕ) → IsOnlyOfLacking for_a_block (one_write bytes []) full_at_block }
+{}
+
+/// Where room is lacking the abort comes: each whole run tells exactly this report. So where the server has one record, which the transaction's flag is promised:
+/// of the two that its work needs none is free.
+pub fn an_abort_comes_where_room_is_lacking()
+    ensures for_a_file { IsOnlyWhereLacking for_a_file makes_one full_of }
+    ensures for_a_block { (bytes : List ℕ) → IsOnlyWhereLacking for_a_block (one_write bytes []) full_at_block }
+    ensures with_one_record { IsOnlyOf one_record makes_one (full_of Records 0 2) }
+{}
+
+/// A transaction that aborts for want of records is told to abort for want of data pages, of which all are free.
+pub fn an_abort_for_want_of_pages_that_are_free_is_none()
+    ensures { (free need : ℕ) → IsNoneOf one_record makes_one (full_of Pages free need) }
 {}
 
 /// A transaction for which all is free is told to abort for want of records, heads or data pages, whatever is said to be free and needed.
@@ -27,7 +40,7 @@ pub fn a_transaction_that_finds_room_commits()
     ensures { report 1 calmly 200 makes_one ≡ made_report }
 {}
 
-/// And one where a data page is lacking as its work is prepared: its client is told that one is needed, and none free.
-pub fn a_transaction_that_lacks_a_page_is_told_so()
-    ensures { (bytes : List ℕ) → report 1 (at_step 77 (record calm { found = Free (record { records = 31; heads = 16; pages = 0 }) }) calmly) 200 (one_write bytes []) ≡ full_at_block Pages 0 1 }
+/// And where its server has one record, computed to its end: there it aborts. Each message finds the records free that aren't promised.
+pub fn a_transaction_that_lacks_records_is_told_so()
+    ensures { IsComputed one_record (in_room one_record) 100 makes_one (full_of Records 0 2) }
 {}

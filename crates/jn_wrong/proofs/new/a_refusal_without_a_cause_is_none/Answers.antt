@@ -1,5 +1,5 @@
 use Rattle.jn_wrong.proofs.Differing.{by-client, as-event, shown-more}
-use Rattle.jn_report.specs.declared.line.Text.TheVariants.{RefusedEvent}
+use Rattle.jn_wrong.proofs.Common.{RefusedEvent}
 use Rattle.jn_wrong.proofs.new.a_refusal_without_a_cause_is_none.Goals as goal
 
 pub returns-clause-by_its_client : goal.returns-clause-by_its_client

@@ -1,5 +1,0 @@
-use Rattle.jn_wrong.proofs.Rightly.{lacks-page}
-use Rattle.jn_wrong.proofs.room.a_transaction_that_lacks_a_page_is_told_so.Goals as goal
-
-pub returns : goal.returns
-returns c = lacks-page
