@@ -5,9 +5,9 @@ pub use Rattle.std.proofs.lemmas.List.{map-append}
 pub use Rattle.jn_base.specs.declared.names.ServerNo.{ServerNo}
 pub use Rattle.jn_base.specs.declared.names.ClientNo.{ClientNo}
 pub use Rattle.jn_system.specs.WholeSystem.Steps.{Step, NextEvent, Again, Nudge, Crash, IsRun, after, crash, Restart, run, handing, working, Dismiss, CloseClients, IsStep, Deliver, Work, StopWork, work, works}
-pub use Rattle.jn_system_settling.specs.Settling.Course.{go, go_on, Course, opening_course, numbered, newly_sent, still_waiting}
+pub use Rattle.jn_system.specs.WholeSystem.Course.{go, go_on, Course, opening_course, numbered, newly_sent, still_waiting}
 pub use Rattle.jn_system.specs.WholeSystem.World.{clients_from, World, Memory, opening, new_memory, servers_from, at_server, commits_in}
-pub use Rattle.jn_system_settling.specs.Settling.Settle.{ask_again, first_busy as first_going, next_step, Chance as Befalling, until_rest, settled}
+pub use Rattle.jn_system.specs.WholeSystem.Settle.{ask_again, first_busy as first_going, next_step, Chance as Befalling, until_rest, settled}
 pub use Rattle.jn_written.specs.Chances.{Setup, Chance}
 pub use Rattle.jn_written.specs.Tasks.{Task, Acts, CutShort, Begins, Rests, CountsCommits, first_of_tasks, AtEnd, Stage, State, begun, next_at, InSchedule, Dismisses, Meets, ComesUp, GoesDown, ClosesClients, when_of}
 pub use Rattle.jn_written.specs.Events.{servers_of, asking, ending, printing, settling, deed_of, resting, next_event, first_busy, next_in, acted, met}
@@ -36,6 +36,6 @@ pub use Rattle.jn_storage.specs.DeviceCalls.{step_calls}
 pub use Rattle.std.proofs.Math.Seq.{drop-length, drop-append_seam}
 pub use Rattle.jn_written.specs.Steps.{is_too_much, come_to, cut_short, outside_texts, message_texts, traced, own_texts, texts_of, lines_at}
 pub use Rattle.jn_retold.specs.Retold.{behind}
-pub use Rattle.jn_rests.specs.Rests.{ComesNext, AreNext, ComeToRest, chances_of, asked}
-pub use Rattle.jn_rests.proofs.Loops.{in-turn, reached}
+pub use Rattle.jn_system_settling.specs.Settling.Rests.{ComesNext, AreNext, ComeToRest, chances_of, asked}
+pub use Rattle.jn_system_settling.proofs.Settling.Loops.{in-turn, reached}
 pub use Rattle.jn_system_settling.specs.Settling.Bounds.{NothingGoes, deliveries, settle_bound}

@@ -3,7 +3,7 @@ use Rattle.jn_at_rest.proofs.Common.{◌≡◌, ◌≢◌, ◌⊎◌, inl, inr, 
 use Rattle.jn_device.specs.Device.{DeviceState}
 use Rattle.jn_server.specs.Standing.{has_rubbish}
 use Rattle.jn_found.specs.Pages.{pool_on}
-use Rattle.jn_rests.proofs.BusyServers.{nothing as nothing-left, first-is, first-none}
+use Rattle.jn_system.proofs.WholeSystem.BusyServers.{nothing as nothing-left, first-is, first-none}
 use Rattle.jn_headline.proofs.Came.{on-append}
 use Rattle.jn_headline.proofs.Busy.{IsFirst, first-busy-is, none-busy, idle-goes-not, erases}
 use Rattle.jn_at_rest.proofs.Lined.{IsLined, go-lined}

@@ -15,7 +15,7 @@ pub use Rattle.jn_aside.specs.Aside.{plain}
 pub use Rattle.jn_aside.proofs.Showing.{history-aside, replay-aside, ops-aside}
 pub use Rattle.jn_system.specs.WholeSystem.World.{World, Memory, opening, commits_in}
 pub use Rattle.jn_system_reports.specs.Reporting.Reported.{events_of, steps_of, world_of, IsReported, Item, lines_of}
-pub use Rattle.jn_system_settling.specs.Settling.Course.{go_on}
+pub use Rattle.jn_system.specs.WholeSystem.Course.{go_on}
 pub use Rattle.jn_system_reports.specs.Telling.Agreement.{AreAsTold}
 pub use Rattle.jn_written.specs.Chances.{Setup, Chance, allowed}
 pub use Rattle.jn_written.specs.Devices.{Devices, AreFound, Alone, IsServed, IsLookedOver, IsRecovery, IsUsed, IsScrubbed, IsCalled}

@@ -5,7 +5,7 @@ pub use Rattle.jn_base.specs.declared.names.ServerNo.{ServerNo}
 pub use Rattle.jn_base.specs.declared.names.ClientNo.{ClientNo}
 pub use Rattle.jn_schedule.specs.declared.Event.{Event}
 pub use Rattle.jn_system.specs.WholeSystem.World.{World, servers_from, clients_from, Memory, new_memory}
-pub use Rattle.jn_system_settling.specs.Settling.Course.{Course, go_on, go}
+pub use Rattle.jn_system.specs.WholeSystem.Course.{Course, go_on, go}
 pub use Rattle.jn_system_settling.proofs.Settling.Courses.{Sound, IsBalanced, go-sound, go-balance, burden-after, deliveries-more, go-on-sound}
 pub use Rattle.jn_system_settling.proofs.Settling.Parts.{Bounded}
 pub use Rattle.jn_system_settling.proofs.Settling.Asking.{Asked, servers-length, waiting-light, waiting-weighs, asked}

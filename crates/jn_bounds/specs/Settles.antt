@@ -2,7 +2,7 @@
 use Rattle.std.specs.Prelude.{◌≡◌, ◌≤◌, ◌<◌, ◌⊎◌, ℕ, ◌+◌, ◌-◌, List, [], ◌∷◌, ◌++◌, map, length}
 use Rattle.jn_schedule.specs.declared.Event.{Event}
 use Rattle.jn_schedule.specs.declared.Event.TheVariants as events
-use Rattle.jn_system_settling.specs.Settling.Course.{Course}
+use Rattle.jn_system.specs.WholeSystem.Course.{Course}
 use Rattle.jn_system_settling.specs.Settling.Bounds.{deliveries, settle_bound}
 use Rattle.jn_written.specs.Chances.{Setup}
 use Rattle.jn_written.specs.Tasks.{Task, Begins, CountsCommits, CutShort}

@@ -1,5 +1,5 @@
 -- The pages of a server that was closed, as a store, and a store's as those of a server that is closed.
-use Rattle.jn_disks.proofs.Common.{◌≡◌, ⊎_elim, ◌<◌, ◌≤◌, ◌+◌, ◌*◌, ◌/◌, ◌-◌, ◌^◌, ◌||◌, ◌&&◌, ℕ, Bool, true, false, if◌then◌else◌, List, [], length, sym, ◌∙◌, ap, subst, arith, nat_lt, take, drop, Half, DeviceState, IsSoundDevice, HasHalves, IsNew, Files, Image, IsSound, Names, Counts, Pages, page_count, slot_place, head_place, data_place, is_used, file_in, address_in, pairs_view, IsStoreOf, IsImage, image_on, files_agree, image_fresh, AreSound, HasPages, image_of, files_in, IsStoreOfPages, nat_tests}
+use Rattle.jn_disks.proofs.Common.{◌≡◌, ⊎_elim, ◌<◌, ◌≤◌, ◌+◌, ◌*◌, ◌/◌, ◌-◌, ◌^◌, ◌&&◌, ℕ, Bool, true, false, if◌then◌else◌, List, [], length, sym, ◌∙◌, ap, subst, arith, nat_lt, take, drop, Half, DeviceState, HasHalves, IsNew, Files, Image, IsSound, Names, Counts, Pages, page_count, slot_place, head_place, data_place, is_used, file_in, address_in, pairs_view, IsStoreOf, IsImage, image_on, files_agree, image_fresh, AreSound, HasPages, image_of, files_in, IsStoreOfPages, nat_tests}
 use Rattle.jn_base.specs.declared.names.ServerNo.{ServerNo}
 use Rattle.std.proofs.lemmas.Bool.{cases_lt}
 use Rattle.std.proofs.lemmas.List.{get_or-take, length-take-le}
@@ -62,12 +62,6 @@ module _ (server : ServerNo) (g : Counts) (halves : List Half) (are : AreSound s
 
     other : (i : ℕ) → i < page_count g → i + s.count / 2 < 2 * page_count g
     other i lt = omega (arith, lt, half)
-
-    pub even_device : 2 * (s.count / 2) ≡ s.count
-    even_device = let size = are.size in let count = holds.count in omega (arith, size, count)
-
-    pub sound_device : IsSoundDevice s
-    sound_device i lt = ap (λ b. b || (s.pages (i + s.count / 2)).good) (good i (omega (arith, lt, half)))
 
     store_of : IsStoreOf (image_of server g halves) (pairs_view s)
     store_of = record {

@@ -1,7 +1,7 @@
 //! A server's store in memory: a new one, one of the pages of a server that was closed, and the pages of a store.
 #![tactic(auto)]
 
-ghost use Rattle.std.specs.Prelude.{◌≡◌, ◌≤◌, ◌<◌, ◌+◌, ◌^◌, ℕ, IfOk};
+ghost use Rattle.std.specs.Prelude.{◌≡◌, ◌≤◌, ◌<◌, ◌+◌, ◌^◌, IfOk};
 ghost use Rattle.jn_base.specs.declared.names.ServerNo.{ServerNo};
 ghost use Rattle.jn_disks.specs.Disks.{IsNewStore, IsNewDisk, HasNewDevice, AreSound, HasPages, IsStoreOfPages, no_files, files_in};
 ghost use Rattle.jn_found.specs.Images.{CountsFit, IsImage};

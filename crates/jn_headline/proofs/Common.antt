@@ -11,7 +11,7 @@ pub use Rattle.jn_report.specs.declared.line.Line.{Line}
 pub use Rattle.jn_aside.specs.Aside.{plain, is_show, is_aside}
 pub use Rattle.jn_system.specs.WholeSystem.World.{World, Memory, opening, commits_in, servers_from, AreFilesOf, at_server, clients_from, committed_in}
 pub use Rattle.jn_system.specs.WholeSystem.Steps.{Step, Dismiss, after, run, IsStep, Work, IsRun, NextEvent, Tell, StopDelivery, StopWork, StopRestart, Deliver, Nudge, Again, Crash, CloseClients, Restart, at_memory, handed, work, works, nudge, crash, close_clients, restart, took, handing, working, Narrow, narrow, AreNames, tid_before}
-pub use Rattle.jn_system_settling.specs.Settling.Course.{Course, go, go_on, newly_sent, numbered, still_waiting, opening_course}
+pub use Rattle.jn_system.specs.WholeSystem.Course.{Course, go, go_on, newly_sent, numbered, still_waiting, opening_course}
 pub use Rattle.jn_system_reports.specs.Reporting.Reported.{Item, steps_of, world_of, lines_of, Does, told_by, events_of, IsReported, Act, Refuses, Tells, Shows, steps_in, may_do, may_act, IsUnder, AreUnder, at_event}
 pub use Rattle.jn_system_reports.specs.Reporting.Ending.{at_end, told_by_steps, Comeback, Ending, restarts_from, steps_at_end, settles, IsEnding, texts_from, world_at_end, ArePrinted, counted, IsWholeRun, all_lines, lines_to_end}
 pub use Rattle.jn_written.specs.Chances.{Setup, Chance, prints_found, works_found, tids_found}
@@ -27,7 +27,7 @@ pub use Rattle.std.proofs.lemmas.Bool.Decides.{nat_tests}
 pub use Rattle.jn_rows.specs.Outcomes.{RowOutcome, Sent}
 pub use Rattle.jn_rows.specs.Stable.{StableState, Change, stable, Pick, Prepared, FlagState, at_work, at_tid}
 pub use Rattle.jn_system.specs.WholeSystem.Servers.{Room, server_step, is_busy as has_going, server_row, of_coordinator, restored}
-pub use Rattle.jn_rests.proofs.BusyServers.{goes, nothing, erased-same, first-is, first-none}
+pub use Rattle.jn_system.proofs.WholeSystem.BusyServers.{goes, nothing, erased-same, first-is, first-none}
 pub use Rattle.jn_written.specs.Deeds.{is_busy, is_busy_with, Deed, served, room, no_room, delivered, delivered_at, worked, working_steps, Reads, stopped_idle, shown, showing, scrubbed, Cleans, crashed_at, recovers, recovering, recovered, given_up, is_used_up, pick_read, tells}
 pub use Rattle.jn_system_settling.proofs.Settling.Settling.{on-world}
 pub use Rattle.jn_headline.specs.CutReports.Cut.{is_of_end, is_print, CutEnd, IsCutEnd, cut_lines}
@@ -50,15 +50,15 @@ pub use Rattle.jn_system_reports.proofs.Showing.Follows.{follows-to-end, counted
 pub use Rattle.jn_aside.proofs.Silent.{silent-agrees, silent-shown, silent-follows}
 pub use Rattle.jn_headline.specs.Headline.{IsTrueSoFar, IsOfItsCommits, IsTrueOfBegun, but_shows}
 pub use Rattle.jn_system.specs.WholeSystem.Printing.{Printed, FileThere, PageStored, UnitLocked}
-pub use Rattle.jn_system_reports.specs.Reporting.Printing.{text_printed, IsPrinted}
+pub use Rattle.jn_system.specs.WholeSystem.PrintedLines.{text_printed, IsPrinted}
 pub use Rattle.jn_base.specs.declared.names.ClientNo.{ClientNo}
 pub use Rattle.jn_base.specs.declared.names.LockUnit.{LockUnit}
 pub use Rattle.jn_rows.specs.Worker.{commit_holder}
-pub use Rattle.jn_system_settling.specs.Settling.Settle.{settled, until_rest, ask_again, first_busy as first_going, next_step, Chances, onward}
+pub use Rattle.jn_system.specs.WholeSystem.Settle.{settled, until_rest, ask_again, first_busy as first_going, next_step, Chances, onward}
 pub use Rattle.jn_system_settling.specs.AtRest.Settled.{AreUp}
 pub use Rattle.jn_system_settling.specs.Closing.Ending.{IsEmpty, Start, restarts, end_steps, without_messages, ended, IsClosed, Leaves}
-pub use Rattle.jn_rests.specs.Rests.{ComeToRest, chances_of, asked, ComesNext, AreNext}
-pub use Rattle.jn_rests.proofs.Loops.{reached, in-turn}
+pub use Rattle.jn_system_settling.specs.Settling.Rests.{ComeToRest, chances_of, asked, ComesNext, AreNext}
+pub use Rattle.jn_system_settling.proofs.Settling.Loops.{reached, in-turn}
 pub use Rattle.jn_headline.specs.WholeReports.Whole.{IsSettledEnd, course_at_end}
 pub use Rattle.jn_base.specs.declared.names.Tid.{Tid}
 pub use Rattle.jn_base.specs.Names.{server_eq, tid_eq, work_eq, file_eq}

@@ -30,7 +30,7 @@ pub use Rattle.jn_written.specs.Events.{acted, met, resting, next_in, deed_of, n
 pub use Rattle.std.proofs.lemmas.Bool.Decides.{nat_tests}
 pub use Rattle.jn_written.specs.Steps.{outside_texts, own_texts, message_texts, traced, texts_of, lines_at, most_messages, come_to, cut_short, made, is_too_much}
 pub use Rattle.jn_report.specs.declared.line.EventRefusal.TheVariants.{NoSuchMessage, EpochsUsedUp}
-pub use Rattle.jn_system_settling.specs.Settling.Course.{Course, go, newly_sent, go_on}
+pub use Rattle.jn_system.specs.WholeSystem.Course.{Course, go, newly_sent, go_on}
 pub use Rattle.jn_written.specs.Refusals.{unless, refusal_of}
 pub use Rattle.std.specs.List.{list_any, list_all, AllByRecursion}
 pub use Rattle.jn_base.specs.declared.names.Tid.{Tid}

@@ -1,7 +1,7 @@
 -- The last Ready of a run that is computed.
 use Rattle.jn_laws.proofs.Common.{◌≡◌, ◌≢◌, ◌⊎◌, inl, inr, ℕ, Bool, true, false, refl, sym, subst, arith, ◌||◌, WorkId, work_eq, work_tells}
 use Rattle.jn_locks.specs.Locks as locks
-use Rattle.jn_system_settling.specs.Settling.Rows.{the_work}
+use Rattle.jn_system.specs.WholeSystem.ExampleNames.{the_work}
 use Rattle.jn_laws.specs.Example.{all_prepared, HandsOverTheLast}
 
 -- there is no other work

@@ -3,7 +3,6 @@ use Rattle.jn_laws.proofs.Common.{◌≡◌, ℕ, Bool, true, false, List, [], �
 use Rattle.jn_msgs.specs.declared.message.Message.TheVariants as messages
 use Rattle.jn_msgs.specs.declared.message.Outcome.{Outcome}
 use Rattle.jn_msgs.specs.declared.message.Outcome.TheVariants.{Committed, Aborted, Waiting, NotKnown}
-use Rattle.jn_msgs.specs.declared.message.Note.{Note}
 use Rattle.jn_report.specs.declared.line.Text.TheVariants as says
 use Rattle.jn_rows.specs.declared.client.Outstanding.{Outstanding}
 use Rattle.jn_rows.specs.declared.client.Taken.TheVariants as taken
@@ -16,9 +15,6 @@ off e = cc
 -- ---- servers
 
 module _ (q : ServerNo) (k : ℕ) where
-  abbrev TellsSo : List Note → Type 0
-  TellsSo told = list_any tells_ignored (lines_of q (Some k) told) ≡ true
-
   breaks : (T : Tid) (W : WorkId) (wants : List Wanted) (t : WorkerTable) → list_any tells_ignored (lines_of q (Some k) (break_notes T W wants t)) ≡ false
   breaks T W wants [] = refl
   breaks T W wants (v ∷ vs) = by (breaks_at W wants v) (breaks T W wants vs)

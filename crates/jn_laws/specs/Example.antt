@@ -3,7 +3,7 @@ use Rattle.std.specs.Prelude.{◌≡◌, ℕ, [], slice_get, Some}
 use Rattle.jn_base.specs.declared.names.Party.TheVariants.{Server}
 use Rattle.jn_msgs.specs.declared.message.Message.TheVariants.{Vote}
 use Rattle.jn_msgs.specs.declared.message.Vote.TheVariants.{Ready}
-use Rattle.jn_system_settling.specs.Settling.Rows.{s1, tid, the_work}
+use Rattle.jn_system.specs.WholeSystem.ExampleNames.{s1, tid, the_work}
 use Rattle.jn_written.specs.Examples.{setup, calm, calmly, last_of, half_committed}
 use Rattle.jn_written.specs.Tasks.{Rests, State, next_task}
 use Rattle.jn_laws.specs.Handing.{number_by, IsVoting, IsLast}

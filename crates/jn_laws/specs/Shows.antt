@@ -9,7 +9,7 @@ use Rattle.jn_base.specs.Names.{file_eq}
 use Rattle.jn_system.specs.WholeSystem.Printing.{Printed, print_files, file_before}
 use Rattle.jn_system.specs.WholeSystem.Steps.{AreNames}
 use Rattle.jn_system.specs.WholeSystem.World.{World, Memory}
-use Rattle.jn_system_reports.specs.Reporting.Printing.{prints_of}
+use Rattle.jn_system.specs.WholeSystem.PrintedLines.{prints_of}
 use Rattle.jn_stands.specs.Showing.{blocks_from}
 
 -- each block of which there is something to print is one of the 120

@@ -39,7 +39,7 @@ pub use Rattle.jn_system.specs.WholeSystem.Servers.{Room, server_step, server_ro
 pub use Rattle.jn_within.proofs.WorldSteps.{sent-near, run-within, opening-within}
 pub use Rattle.jn_written.specs.Tasks.{Task, Begins, Meets, Rests, State, Acts, CutShort, Stage, InSchedule, when_at, when_of, next_at, begun, ComesUp, AtEnd}
 pub use Rattle.jn_written.specs.Refusals.{refusal_of, if_down}
-pub use Rattle.jn_system_settling.specs.Settling.Course.{go_on, Course, go}
+pub use Rattle.jn_system.specs.WholeSystem.Course.{go_on, Course, go}
 pub use Rattle.jn_written.specs.Runs.{Moment, DoesStep, none, more, Leads}
 pub use Rattle.jn_base.specs.declared.names.ClientNo.{ClientNo}
 pub use Rattle.jn_base.specs.declared.names.Tid.{Tid}
@@ -47,7 +47,7 @@ pub use Rattle.jn_base.specs.declared.names.WorkId.{WorkId}
 pub use Rattle.jn_rows.specs.declared.client.Taken.{Taken}
 pub use Rattle.std.proofs.lemmas.List.Folds.{list_all-append}
 pub use Rattle.jn_storage.specs.DeviceCalls.{step_calls}
-pub use Rattle.jn_system_reports.specs.Reporting.Printing.{text_printed, IsPrinted}
+pub use Rattle.jn_system.specs.WholeSystem.PrintedLines.{text_printed, IsPrinted}
 pub use Rattle.jn_report.specs.declared.line.When.TheVariants.{Event as AtEvent}
 pub use Rattle.std.proofs.lemmas.Bool.Decides.{nat_tests}
 pub use Rattle.jn_written.specs.Whole.{closed_world, before, AreImages, IsWritten}

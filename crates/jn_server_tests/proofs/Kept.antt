@@ -1,5 +1,5 @@
 -- What the calls of a server keep of what the tests know of it.
-use Rattle.std.proofs.Common.{◌≡◌, ◌⊎◌, ℕ, ◌≤◌, ◌+◌, Bool, true, false, List, Option, Some, None, Result, Ok, Err, refl, sym, ◌∙◌, subst, ap, arith, inl, inr}
+use Rattle.std.proofs.Common.{◌≡◌, ◌⊎◌, ℕ, ◌≤◌, ◌+◌, Bool, true, false, Option, Some, None, Result, Ok, Err, refl, sym, ◌∙◌, subst, ap, arith, inl, inr}
 use Rattle.std.specs.Prelude.{if◌then◌else◌}
 use Rattle.jn_base.specs.declared.names.Tickets.{Tickets}
 use Rattle.jn_base.specs.declared.names.Tid.{Tid}
@@ -16,7 +16,6 @@ use Rattle.jn_system.proofs.WholeSystem.CoordinatorRows.{coordinator-aside}
 use Rattle.jn_storage.specs.Storage.{StorageLater}
 use Rattle.jn_storage.specs.Calls.{state}
 use Rattle.jn_store.specs.Store.{StoreView}
-use Rattle.jn_intent.specs.Scrubbing.{Scrubbed}
 use Rattle.jn_recovery.specs.declared.counts.PageCounts.{PageCounts}
 use Rattle.jn_recovery.specs.declared.load.Found.{Found}
 use Rattle.jn_recovery.specs.Counts.{counts_by}
@@ -25,12 +24,10 @@ use Rattle.jn_server_tests.specs.Restarts.{MayBegin, IsOf}
 use Rattle.jn_server_tests.proofs.Starts.{later_of, loaded_started, may_begin}
 use Rattle.jn_server.specs.declared.fault.ServerFault.{ServerFault}
 use Rattle.jn_server.specs.declared.fault.ServerFault.TheVariants.{Stopped, Memory as NoMemory}
-use Rattle.jn_server.specs.declared.show.Shown.{Shown}
 use Rattle.jn_server.specs.Handling.{Does, Steps, TimesOut}
 use Rattle.jn_storage.specs.DeviceCalls.{row_calls}
 use Rattle.jn_server.specs.Restarting.{IsRestarted, IsLeft}
-use Rattle.jn_server.specs.Seen.{ServerView, memory_of, room_of, IsServer}
-use Rattle.jn_server.specs.Showing.{IsShown}
+use Rattle.jn_server.specs.Seen.{ServerView, memory_of, room_of}
 use Rattle.jn_server_tests.specs.Trial.{the_server, IsOn, LeavesServer}
 
 -- ---- names
@@ -104,15 +101,3 @@ module _ (n : PageCounts) (k : ℕ) (v w : ServerView) (on : IsOn n k v) where
     count = subst (λ (u : ServerView). u.storage.store.count ≡ page_count (counts_by n)) (sym t.others) on.count;
     drawn = subst (λ (u : ServerView). u.tickets.next ≤ k) (sym t.others) on.drawn;
   }
-
-  tables-kept : w ≡ record v { storage = w.storage } → w.tickets.next ≤ k
-  tables-kept e = subst (λ (u : ServerView). u.tickets.next ≤ k) (sym e) on.drawn
-
-  pub scrubbed-on : (ok : Bool) → Scrubbed v.storage ok w.storage → w ≡ record v { storage = w.storage } → IsServer w → IsOn n k w
-  scrubbed-on ok s tables serves = record { serves = serves; of = kept s.called.later; count = pages s.called.later; drawn = tables-kept tables }
-
-  pub scrubbed-of : (ok : Bool) → Scrubbed v.storage ok w.storage → IsOf the_server n w.storage
-  scrubbed-of ok s = kept s.called.later
-
-  pub shown-on : {list : List Shown} → IsShown v list w → IsOn n k w
-  shown-on s = record { serves = s.serves; of = kept s.looks.later; count = pages s.looks.later; drawn = tables-kept s.looks.tables }

@@ -6,7 +6,7 @@ use Rattle.jn_rows.specs.declared.client.Outstanding.{Outstanding}
 use Rattle.jn_rows.specs.Client.{ClientTable}
 use Rattle.jn_rows.specs.Stable.{is_going}
 use Rattle.jn_server.specs.Standing.{has_rubbish}
-use Rattle.jn_rests.proofs.Numbers.{least-waits}
+use Rattle.jn_stands.proofs.WaitingNumbers.{least-waits}
 use Rattle.jn_settles.specs.Settled.{HasNothingLeft, IsSettledWorld}
 use Rattle.jn_settles.proofs.Places.{below-of, memory-there, live-near, live-there, tid-near}
 use Rattle.jn_settles.proofs.Going.{same-texts}

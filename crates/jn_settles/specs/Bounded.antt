@@ -4,7 +4,7 @@ use Rattle.jn_net.specs.Carried.{Carried}
 use Rattle.jn_place.specs.declared.place.Place.{Place}
 use Rattle.jn_place.specs.declared.place.Slot.{Slot}
 use Rattle.jn_place.specs.declared.place.Slot.TheVariants.{Up, Down, Gone}
-use Rattle.jn_rests.specs.Waiting.{waiting_numbers}
+use Rattle.jn_stands.specs.Waiting.{waiting_numbers}
 use Rattle.jn_rows.specs.Stable.{stable}
 use Rattle.jn_server.specs.Seen.{view_with, memory_of}
 use Rattle.jn_stands.specs.Stands.{Standing}

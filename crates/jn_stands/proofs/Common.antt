@@ -1,5 +1,5 @@
 -- The names from below that these proofs cite, passed on from one place. Declares nothing.
-pub use Rattle.std.proofs.Common.{◌≡◌, ℕ, Bool, true, false, List, [], ◌++◌, append-nil, drop, slice_set, Some, refl, sym, ap, subst, length, ◌-◌, ◌∷◌, Option, None, ◌∙◌, arith, ◌⊎◌, inl, inr, ◌≢◌, suc, ◌<◌, zero, true≢false, ◌≤◌, not, take, append_assoc, ◌+◌, length-append}
+pub use Rattle.std.proofs.Common.{◌≡◌, ℕ, Bool, true, false, List, [], ◌++◌, append-nil, drop, slice_set, Some, refl, sym, ap, subst, length, ◌-◌, ◌∷◌, Option, None, ◌∙◌, arith, ◌⊎◌, inl, inr, ◌≢◌, suc, ◌<◌, zero, true≢false, ◌≤◌, not, take, append_assoc, ◌+◌, length-append, length-drop}
 pub use Rattle.std.specs.Prelude.{slice_get, if◌then◌else◌, ◌&&◌, nat_lt, map, is_some, ⊤, ◌||◌, ◌*◌, nat_eq}
 pub use Rattle.jn_base.specs.declared.names.ServerNo.{ServerNo}
 pub use Rattle.jn_device.specs.Device.{DeviceState}
@@ -33,13 +33,13 @@ pub use Rattle.jn_base.specs.declared.names.Party.TheVariants.{Client, Server}
 pub use Rattle.jn_base.specs.Names.{client_eq, server_eq, tid_eq, block_eq, work_eq}
 pub use Rattle.jn_net.specs.declared.Sent.{Sent as Posted}
 pub use Rattle.jn_net.specs.Carried.{with_delivered, Carried, waiting}
-pub use Rattle.jn_system.specs.WholeSystem.Steps.{Deliver, after, took, taken_by, handed, CloseClients, IsIdle, done, close_clients, Tell, Again, commanded, sent_now, Step, run, IsRun, Crash, crash, Dismiss, StopWork, work, works, at_memory, are_rising, tid_before, Nudge, Timeout, nudge, timeout, NextEvent, handing, working, IsStep, AreNames, Restart, restart, restart_with, stopped, ends, Narrow, StopRestart, narrow, stop_restart}
+pub use Rattle.jn_system.specs.WholeSystem.Steps.{Deliver, after, took, taken_by, handed, CloseClients, IsIdle, done, close_clients, Tell, Again, commanded, sent_now, Step, run, IsRun, Crash, crash, Dismiss, StopWork, work, works, at_memory, are_rising, tid_before, Nudge, Timeout, nudge, timeout, NextEvent, handing, working, IsStep, AreNames, Restart, restart, restart_with, stopped, ends, Narrow, StopRestart, narrow, stop_restart, StopDelivery}
 pub use Rattle.jn_rows.specs.declared.client.Taken.{Taken}
 pub use Rattle.jn_rows.specs.Client.{ClientTable, new_table, take_row, if_waits, ignored, begun_row, opened_row, answer_line, is_current, decided_row, outcome_row, Commanded, Refuses, command_row, again_row, over}
 pub use Rattle.jn_rows.specs.Outcomes.{Sent, RowOutcome, quiet as quiet_row}
 pub use Rattle.jn_stands.specs.Clients.{with_client, texts_taken, texts_commanded, sent_commanded, table_commanded}
 pub use Rattle.jn_written.specs.Rubbish.{left_by_sent, AreLeft, AreAllCounted, rubbish_records, left_by_message, left_by_steps, left_by_step, left_by_restart, CountsAll, left_by_row, left_by_changes, left_by_work, left_at_work}
-pub use Rattle.std.proofs.lemmas.List.{length-set, length-map, map-append}
+pub use Rattle.std.proofs.lemmas.List.{length-set, length-map, map-append, drop-append-le}
 pub use Rattle.jn_base.specs.declared.names.Tid.{Tid}
 pub use Rattle.jn_base.proofs.Tells.{client_tells, server_tells, tid_tells, block_tells}
 pub use Rattle.jn_msgs.specs.declared.message.Message.{Message}
@@ -49,22 +49,21 @@ pub use Rattle.jn_place.specs.Places.{is_up}
 pub use Rattle.jn_system.specs.WholeSystem.Servers.{of_coordinator, Room, server_step, of_step, named_now, server_again, server_timeout, restored, lines_of, server_row, storage_of, of_worker, is_busy as has_going}
 pub use Rattle.jn_rows.specs.Stable.{StableState, Pick, made_all, IsUp, Change, stable}
 pub use Rattle.jn_server.specs.Seen.{Parts, view_with, memory_of, ServerView, room_of}
-pub use Rattle.jn_system_settling.specs.Settling.Course.{go_on, Course, go}
+pub use Rattle.jn_system.specs.WholeSystem.Course.{go_on, Course, go, opening_course, without_number, still_waiting, numbered}
 pub use Rattle.jn_storage.specs.Calls.{state}
 pub use Rattle.jn_storage.specs.DeviceCalls.{row_calls, step_calls}
-pub use Rattle.jn_rests.specs.Waiting.{Carries, sent_of, delivered_by, are_new, waiting_numbers}
+pub use Rattle.jn_stands.specs.Waiting.{Carries, sent_of, delivered_by, are_new, waiting_numbers, undelivered}
 pub use Rattle.jn_within.specs.Within.{Within}
 pub use Rattle.jn_within.proofs.WorldSteps.{run-within, sent-near, opening-within}
 pub use Rattle.jn_written.proofs.Computed.{may-lead, join}
 pub use Rattle.jn_found.specs.Recoverable.{IsRecoverable}
 pub use Rattle.std.proofs.lemmas.Option.{slice_get_within, slice_get-map}
 pub use Rattle.jn_records.specs.StablePages.{Counts, page_count}
-pub use Rattle.jn_rests.proofs.Numbers.{carries-step, carries-forgotten, least-waits, none-waits}
 pub use Rattle.jn_found.specs.Pages.{pool_on, found_on}
 pub use Rattle.jn_server.specs.Standing.{standing_pages, free_on, has_rubbish}
 pub use Rattle.jn_rows.specs.declared.worker.Work.{Work, Work as WorkEntry}
 pub use Rattle.jn_rows.specs.Worker.{going_work, going_row, WorkerTable, commit_holder, carried_row, intentions_of}
-pub use Rattle.std.specs.List.{list_any, list_all}
+pub use Rattle.std.specs.List.{list_any, list_all, position_from}
 pub use Rattle.jn_report.specs.declared.line.When.{When}
 pub use Rattle.jn_serial.specs.Lines.{commit_in, history_of}
 pub use Rattle.jn_system.specs.WholeSystem.Printing.{prints_in, ArePrints, Printed, FileThere, print_unit, print_one, print_blocks, print_file, print_files, block_before}

@@ -1,5 +1,6 @@
 -- The end begins.
-use Rattle.jn_stands.proofs.Common.{◌≡◌, ◌<◌, ℕ, zero, suc, List, [], ◌∷◌, ◌++◌, length, append-nil, drop, Option, Some, None, refl, sym, ◌∙◌, ap, subst, arith, map, slice_get, length-map, slice_get_within, slice_get-map, DeviceState, disarmed, Posted, Place, Slot, Up, Down, Befell, Memory, commits_in, Dismiss, Counts, counts_by, Line, Text, Carries, carries-step, carries-forgotten, ClientTable, over, StableState, Pick, IsUp, Course, go, StoreView, run-within, Setup, Dismisses, AtEnd, State, when_of, next_task, Devices, dismissing, Moment, texts_of, lines_at, come_to, Standing, StandsAt, PlaceStands, Stands, HasCounts, AreRecoverable}
+use Rattle.jn_stands.proofs.Common.{◌≡◌, ◌<◌, ℕ, zero, suc, List, [], ◌∷◌, ◌++◌, length, append-nil, drop, Option, Some, None, refl, sym, ◌∙◌, ap, subst, arith, map, slice_get, length-map, slice_get_within, slice_get-map, DeviceState, disarmed, Posted, Place, Slot, Up, Down, Befell, Memory, commits_in, Dismiss, Counts, counts_by, Line, Text, Carries, ClientTable, over, StableState, Pick, IsUp, Course, go, StoreView, run-within, Setup, Dismisses, AtEnd, State, when_of, next_task, Devices, dismissing, Moment, texts_of, lines_at, come_to, Standing, StandsAt, PlaceStands, Stands, HasCounts, AreRecoverable}
+use Rattle.jn_stands.proofs.WaitingNumbers.{carries-step, carries-forgotten}
 use Rattle.std.specs.Option.{option_map}
 use Rattle.jn_stands.specs.Ending.{AreDisarmed, dismissed, BeginsEnd}
 use Rattle.jn_stands.proofs.Lines.{history-same}

@@ -36,3 +36,4 @@ pub mod RestNext
 pub mod Joined
 pub mod Held
 pub mod Reported
+pub mod WaitingNumbers

@@ -2,14 +2,13 @@
 use Rattle.jn_stands.proofs.Common.{◌≡◌, ℕ, Bool, true, false, List, [], ◌∷◌, ◌++◌, append-nil, drop, map, slice_get, slice_set, Option, Some, None, is_some, not, refl, sym, ◌∙◌, ap, subst, length, ServerNo, Outside, DeviceState, Place, Slot, Up, Down, Gone, IsSpent, PrintsInRange, IsDoneAt, IsStoppedAt, IsStepOf, idle_row, ScrubbedBy, Prints, Showed, texts_of_step, WhereUp, KeepsRubbish, World, Memory, prints_in, ArePrints, counts_by, Line, Text, StableState, Pick, stable, Parts, view_with, memory_of, go_on, state, pairs_view, StoreView, Setup, Chance, Reads, Deed, Alone, IsServed, IsLookedOver, Moment, lines_at, Task, when_of, Standing, Stands, HasCounts, ActsNext, IsStepTo, WorkId, ◌*◌, Server, Counts, page_count, LeavesClean, IsCalm, IsClean, IsWholePage, Step, Cleans, plain, IsScrubbed, IsCalled, Printed, text_shown, texts_shown, HasPrints, shown}
 use Rattle.std.specs.Prelude.{◌<◌}
 use Rattle.jn_store.specs.DeviceCalls.{put_calls, cleaned_get_calls}
-use Rattle.jn_stands.proofs.Moving.{device-here}
+use Rattle.jn_stands.proofs.Moving.{device-here, does-next, led-to, net-quiet, devices-now, device-there, moved-step}
 use Rattle.jn_report.specs.declared.line.Text.TheVariants as says
-use Rattle.jn_system_reports.specs.Reporting.Printing.{text_printed}
+use Rattle.jn_system.specs.WholeSystem.PrintedLines.{text_printed}
 use Rattle.jn_schedule.specs.declared.Event.TheVariants as events
 use Rattle.jn_server.specs.declared.show.Shown.{Shown}
 use Rattle.jn_server.specs.Showing.{print_of}
 use Rattle.jn_stands.proofs.Posted.{lines-in-two}
-use Rattle.jn_stands.proofs.Moving.{does-next, led-to, net-quiet, devices-now, device-there, moved-step}
 use Rattle.jn_stands.proofs.Idle.{here, finding, idling, calling, done-alone, stopping, after-stop, stopped-alone, stop-carries}
 use Rattle.jn_stands.proofs.Left.{leaves-from}
 

@@ -1,5 +1,6 @@
 -- What a rest does next.
-use Rattle.jn_stands.proofs.Common.{◌≡◌, ◌<◌, ◌≤◌, ℕ, zero, suc, ◌+◌, Bool, true, false, List, [], ◌∷◌, length, slice_get, drop, Option, Some, None, refl, sym, ◌∙◌, ap, subst, arith, if◌then◌else◌, fun_ext, ServerNo, DeviceState, waiting, Place, has_work_at, World, servers_from, counts_by, Line, waiting_numbers, least-waits, none-waits, Event, pairs_view, StoreView, Setup, is_busy, rubbish_on, servers_of, first_busy, next_event, next_in, resting, Moment, Rests, next_task, Standing, Stands, ReadsPages, IsIdleAt, ActsNext, IsStepTo}
+use Rattle.jn_stands.proofs.Common.{◌≡◌, ◌<◌, ◌≤◌, ℕ, zero, suc, ◌+◌, Bool, true, false, List, [], ◌∷◌, length, slice_get, drop, Option, Some, None, refl, sym, ◌∙◌, ap, subst, arith, if◌then◌else◌, fun_ext, ServerNo, DeviceState, waiting, Place, has_work_at, World, servers_from, counts_by, Line, waiting_numbers, Event, pairs_view, StoreView, Setup, is_busy, rubbish_on, servers_of, first_busy, next_event, next_in, resting, Moment, Rests, next_task, Standing, Stands, ReadsPages, IsIdleAt, ActsNext, IsStepTo}
+use Rattle.jn_stands.proofs.WaitingNumbers.{least-waits, none-waits}
 use Rattle.jn_schedule.specs.declared.Event.TheVariants as events
 use Rattle.jn_stands.proofs.Placed.{get-below, get-there}
 use Rattle.jn_stands.proofs.Working.{busy-here}

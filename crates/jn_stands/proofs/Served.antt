@@ -20,9 +20,6 @@ module _ {S : Type 0} (look : S → StoreView) (device : S → DeviceState) (see
   devices-with slot = at_server m.devices q (device-at slot)
 
   module _ (p : Parts S) (is : place.slot ≡ Up p) (reads : ReadsPages look device (counts_by place.counts) place.slot) where
-    abbrev v-found : Pick → StableState
-    v-found = (view_with look p).storage.found
-
     pub here : StandsAt look device (counts_by place.counts) (Up p) (m.state.course.world.memory q) (m.state.course.world.found q) (m.devices q)
     here = let there = stand.places q.0 place at in subst (λ (slot : Slot S). StandsAt look device (counts_by place.counts) slot (m.state.course.world.memory q) (m.state.course.world.found q) (m.devices q)) is there.stands
 

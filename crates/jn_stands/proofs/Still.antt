@@ -1,5 +1,6 @@
 -- Steps in which no server and no client does anything.
-use Rattle.jn_stands.proofs.Common.{◌≡◌, ℕ, List, [], ◌∷◌, ◌++◌, length, append-nil, drop, Some, refl, sym, ◌∙◌, ap, subst, DeviceState, Posted, EventRefusal, Line, Text, Event, history_of, StoreView, commits_in, NextEvent, go, Carries, carries-step, run-within, Setup, Task, Begins, Meets, CountsCommits, Stage, when_of, next_task, begun, Deed, plain, nobody, nothing, settling, met, deed_of, refusal_of, texts_of, lines_at, Moment, Standing, Stands, IsStepTo}
+use Rattle.jn_stands.proofs.Common.{◌≡◌, ℕ, List, [], ◌∷◌, ◌++◌, length, append-nil, drop, Some, refl, sym, ◌∙◌, ap, subst, DeviceState, Posted, EventRefusal, Line, Text, Event, history_of, StoreView, commits_in, NextEvent, go, Carries, run-within, Setup, Task, Begins, Meets, CountsCommits, Stage, when_of, next_task, begun, Deed, plain, nobody, nothing, settling, met, deed_of, refusal_of, texts_of, lines_at, Moment, Standing, Stands, IsStepTo}
+use Rattle.jn_stands.proofs.WaitingNumbers.{carries-step}
 use Rattle.jn_report.specs.declared.line.Text.TheVariants as says
 use Rattle.jn_schedule.specs.declared.Event.TheVariants as events
 use Rattle.jn_stands.proofs.Lines.{history-same}

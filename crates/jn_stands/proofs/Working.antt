@@ -2,7 +2,7 @@
 use Rattle.jn_stands.proofs.Common.{◌≡◌, ℕ, Bool, true, false, List, [], ◌∷◌, ◌++◌, length, slice_get, slice_set, drop, Option, Some, None, is_some, refl, sym, ◌∙◌, ap, subst, ◌+◌, ◌-◌, arith, ◌||◌, if◌then◌else◌, ServerNo, Outside, DeviceState, Collected, Place, Slot, Up, Down, Gone, has_work_at, work_of, WorkedBy, WhereUp, WorkLeaves, Room, server_step, storage_of, of_step, of_worker, IsStep, after, ends, work, works, World, Memory, counts_by, Line, delivered_by, RowOutcome, quiet_row, StableState, Change, Pick, stable, Parts, view_with, memory_of, room_of, ServerView, working, has_going, state, pairs_view, StoreView, Setup, served, nothing, is_busy, is_busy_with, working_steps, worked, rubbish_on, Moment, lines_at, Task, when_of, Standing, StandsAt, Stands, texts_sent, with_answer, HasCounts, ReadsPages, ActsNext, IsStepTo, left_by_changes, left_by_work, left_at_work, left_by_step, WorkEntry, going_work, going_row, carried_row, intentions_of, server_eq, step_calls}
 use Rattle.jn_server.specs.Handling.{StepLeaves}
 use Rattle.jn_system.specs.WholeSystem.Steps.{Work}
-use Rattle.jn_rests.proofs.BusyServers.{goes, erases, nothing as none-to-do}
+use Rattle.jn_system.proofs.WholeSystem.BusyServers.{goes, erases, nothing as none-to-do}
 use Rattle.jn_schedule.specs.declared.Event.TheVariants as events
 use Rattle.jn_stands.proofs.Served.{chance, room-is, rubbish-is, here, same-server}
 use Rattle.jn_stands.proofs.ServedSteps.{IsRowStep, row-step}

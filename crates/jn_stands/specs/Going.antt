@@ -5,7 +5,7 @@ use Rattle.jn_device.specs.Device.{DeviceState}
 use Rattle.jn_report.specs.declared.line.Line.{Line}
 use Rattle.jn_schedule.specs.declared.Event.{Event}
 use Rattle.jn_store.specs.Store.{StoreView}
-use Rattle.jn_system_settling.specs.Settling.Course.{go_on}
+use Rattle.jn_system.specs.WholeSystem.Course.{go_on}
 use Rattle.jn_written.specs.Chances.{Setup, Chance}
 use Rattle.jn_written.specs.Deeds.{is_used_up}
 use Rattle.jn_written.specs.Devices.{rubbish_on}

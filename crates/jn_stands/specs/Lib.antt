@@ -9,3 +9,4 @@ pub mod Restarting
 pub mod Clients
 pub mod Showing
 pub mod Written
+pub mod Waiting

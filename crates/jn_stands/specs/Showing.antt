@@ -3,7 +3,7 @@ use Rattle.std.specs.Prelude.{ℕ, zero, suc, ◌+◌, List, [], ◌∷◌, map,
 use Rattle.jn_base.specs.declared.names.ServerNo.{ServerNo}
 use Rattle.jn_base.specs.declared.names.BlockNo.{BlockNo}
 use Rattle.jn_report.specs.declared.line.Text.{Text}
-use Rattle.jn_system_reports.specs.Reporting.Printing.{text_printed}
+use Rattle.jn_system.specs.WholeSystem.PrintedLines.{text_printed}
 use Rattle.jn_server.specs.declared.show.Shown.{Shown}
 use Rattle.jn_server.specs.Showing.{print_of}
 

@@ -18,7 +18,7 @@ use Rattle.jn_system.specs.WholeSystem.World.{Memory, commits_in, has_line}
 use Rattle.jn_records.specs.StablePages.{Counts}
 use Rattle.jn_recovery.specs.Counts.{counts_by}
 use Rattle.jn_report.specs.declared.line.Text.{Text}
-use Rattle.jn_rests.specs.Waiting.{Carries}
+use Rattle.jn_stands.specs.Waiting.{Carries}
 use Rattle.jn_rows.specs.Client.{ClientTable, new_table}
 use Rattle.jn_rows.specs.Outcomes.{Sent}
 use Rattle.jn_rows.specs.Stable.{StableState, Pick, IsUp}

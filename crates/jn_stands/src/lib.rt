@@ -11,6 +11,7 @@ mod power;
 mod serving;
 mod settling;
 mod tasks;
+mod waiting;
 
 pub use asking::{a_command_is_a_step, a_message_at_a_client_is_a_step};
 pub use ends::{a_report_is_of_a_run, a_run_starts_and_ends_on_its_stores, the_end_begins};
@@ -27,3 +28,4 @@ pub use tasks::{
     an_event_is_what_comes_next, calls_go_on_one_after_another, steps_without_servers,
     the_event_under_way_stays,
 };
+pub use waiting::{a_network_goes_with_its_course, the_least_that_waits_is_next};

@@ -16,4 +16,6 @@ pub mod Restored
 pub mod OneChange
 pub mod StepCases
 pub mod Steps
+pub mod Grows
+pub mod BusyServers
 pub mod LostCommits

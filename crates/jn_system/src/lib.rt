@@ -2,9 +2,13 @@
 //! stops, crashes and restarts.
 #![tactic(auto)]
 
+mod busy;
 mod machine;
 mod protocol;
 
+pub use busy::{
+    a_step_is_of_a_going_work_or_erases, an_erasure_changes_nothing, the_least_busy_server_is_first,
+};
 pub use machine::{
     a_commit_outlives_stops, commits_are_in_order, messages_stay_true, names_are_given_once,
 };

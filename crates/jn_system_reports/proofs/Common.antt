@@ -98,7 +98,7 @@ pub use Rattle.jn_report.specs.declared.line.When.TheVariants.{Event as AtEvent,
 pub use Rattle.jn_serial.specs.Caused.{is_caused_by, is_caused, CausedFrom, Caused, begins, any_event, lines_after, aborts, asks, joins, goes_down, loses, breaks, count_events, is_stop, refuses_event, stops, arms_stop, refuses_fault, gives_fault, is_accepted}
 pub use Rattle.jn_system_reports.specs.Reporting.Armed.{is_fault, ArmedFrom, AreArmed}
 pub use Rattle.jn_system.specs.WholeSystem.Printing.{Printed, FileThere, PageStored, UnitLocked, print_unit, print_one, print_blocks, print_file, print_files}
-pub use Rattle.jn_system_reports.specs.Reporting.Printing.{text_printed, IsPrinted, prints_of}
+pub use Rattle.jn_system.specs.WholeSystem.PrintedLines.{text_printed, IsPrinted, prints_of}
 pub use Rattle.std.proofs.lemmas.Bool.Decides.{nat_tests}
 pub use Rattle.jn_serial.specs.Begun.{last_begun, is_in, begun_then}
 pub use Rattle.jn_serial.proofs.CausedGrowth.{begun_then-append, Caused-lines, needs_cause, NeedNoCause, CausedFrom-plain, lines_before-later, lines_before-whole}

@@ -1,5 +1,4 @@
 -- A run with its events, its end and its lines.
-pub mod Printing
 pub mod Reported
 pub mod Armed
 pub mod Ending

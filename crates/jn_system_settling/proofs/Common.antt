@@ -32,8 +32,8 @@ pub use Rattle.jn_system.specs.WholeSystem.Servers.{Room, server_row, server_tim
 pub use Rattle.jn_system.specs.WholeSystem.Steps.{Step, Again, Deliver, Nudge, StopDelivery, StopWork, IsStep, after, handed, works, handing, working, IsRun, run, sent_now, taken_by, done, at_memory, work, nudge, took, Tell, commanded, NextEvent, Timeout, Crash, Narrow, StopRestart, Restart, Dismiss, CloseClients, AreNames, tid_before, ends, timeout, crash, narrow, stop_restart, restart, close_clients, Work as WorkStep, stopped}
 pub use Rattle.jn_system.specs.WholeSystem.LockFacts.{UpFact, ServerFact, LockFacts, TableFact, IsSoundWork}
 pub use Rattle.jn_system.proofs.WholeSystem.Tables.{of-found}
-pub use Rattle.jn_system_settling.specs.Settling.Course.{Course, go, go_on, numbered, without_number, still_waiting, opening_course}
-pub use Rattle.jn_system_settling.specs.Settling.Settle.{Chance, first_busy, next_step, onward, until_rest, ask_again, settled, Chances}
+pub use Rattle.jn_system.specs.WholeSystem.Course.{Course, go, go_on, numbered, without_number, still_waiting, opening_course}
+pub use Rattle.jn_system.specs.WholeSystem.Settle.{Chance, first_busy, next_step, onward, until_rest, ask_again, settled, Chances}
 pub use Rattle.jn_order.specs.Files.{AllFiles, change, answer_to, Files, there}
 pub use Rattle.jn_base.specs.declared.names.Cause.TheVariants.{Requested, Full}
 pub use Rattle.jn_msgs.specs.declared.message.Outcome.{Outcome}
@@ -48,6 +48,7 @@ pub use Rattle.jn_base.specs.declared.op.Op.{Op}
 pub use Rattle.jn_system_settling.specs.AtRest.Settled.{AreUp, AreAnswered, entry_in, live_at, holds_undecided, tells_outcome, told_since, AreDecided, IsSettled, LeavesBetween, is_undecided, is_held, tells_waiting, EndsWait, AreForgotten}
 pub use Rattle.std.proofs.lemmas.Option.{slice_get_within}
 pub use Rattle.jn_base.specs.declared.names.RequestNo.{RequestNo}
+pub use Rattle.jn_system.proofs.WholeSystem.Grows.{Grows, grows}
 pub use Rattle.jn_base.specs.declared.names.LockUnit.{LockUnit}
 pub use Rattle.jn_base.specs.declared.op.Answer.{Answer}
 pub use Rattle.jn_records.specs.NetLists.{list_change, intention_change}
@@ -74,7 +75,8 @@ pub use Rattle.jn_system.specs.SmallSteps.Transactions.{Knows}
 pub use Rattle.jn_rows.specs.declared.coordinator.Voting.{Voting as Ballot}
 pub use Rattle.jn_rows.specs.declared.coordinator.Committed.{Committed as Commitment}
 pub use Rattle.jn_system_order.proofs.Mirroring.Transactions.{in_stage, at-stage, none-staged, none-less, found-is}
-pub use Rattle.jn_system_settling.specs.Settling.Sizes.{is_few, are_near, is_small_stage, is_committed, committed_at, TableSizes, ServerSizes, Sizes, IsSmall, is_small, are_small_stages, sends_small, ClientSizes, AreFlagsOf, AreSmallFlags, AreAtMost64, StoredSizes}
+pub use Rattle.jn_system.specs.WholeSystem.Near.{is_few, are_near, is_small_stage}
+pub use Rattle.jn_system_settling.specs.Settling.Sizes.{is_committed, committed_at, TableSizes, ServerSizes, Sizes, IsSmall, is_small, are_small_stages, sends_small, ClientSizes, AreFlagsOf, AreSmallFlags, AreAtMost64, StoredSizes}
 pub use Rattle.jn_system.proofs.WholeSystem.WorkerRows.{going-is, worker-keeps, step-keeps}
 pub use Rattle.jn_rows.specs.declared.client.OpenWork.{OpenWork}
 pub use Rattle.jn_system.specs.SmallSteps.Steps.{run as run_atoms, opening_world}
@@ -83,6 +85,8 @@ pub use Rattle.jn_base.specs.declared.names.Party.{Party}
 pub use Rattle.jn_system_settling.specs.Settling.Weights.{burden, weight_at, weigh_all, weigh, weight, goings_at, sum_over, going_works, goings}
 pub use Rattle.jn_system.specs.SmallSteps.Invariant.{Invariant}
 pub use Rattle.jn_locks.specs.Locks.{work_before}
+pub use Rattle.std.proofs.Math.Path.{fun_ext}
 pub use Rattle.jn_system_order.proofs.Mirroring.StepMoves.{holds-of}
+pub use Rattle.jn_system_settling.specs.Settling.Rests.{ComesNext, IsHalt, EachComes, IsBounded, in_two, asked as asked_again, EachInTurn, AreNext, NothingIsLeft, ComeToRest, chances_of, asked, both_parts}
 pub use Rattle.jn_system.proofs.WholeSystem.Steps.{locks-keep, opening-keeps}
 pub use Rattle.jn_system_settling.specs.Settling.Events.{line, AreSteps, Event, Does, Settles, Told, after_events}

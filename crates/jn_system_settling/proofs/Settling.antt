@@ -11,3 +11,5 @@ pub mod Parts
 pub mod Asking
 pub mod Resting
 pub mod Settling
+pub mod Loops
+pub mod BoundedLoops

@@ -1,9 +1,8 @@
 -- Settling as a plain function, its end and its bound.
-pub mod Course
-pub mod Settle
 pub mod Events
 pub mod Rows
 pub mod Weights
 pub mod Sizes
 pub mod Bounds
+pub mod Rests
 pub mod RowReports

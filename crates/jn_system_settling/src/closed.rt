@@ -9,8 +9,8 @@ ghost use Rattle.jn_rows.specs.Stable.{Pick};
 ghost use Rattle.jn_system.specs.WholeSystem.World.{opening, servers_from};
 ghost use Rattle.jn_system.specs.WholeSystem.Steps.{Step, run, IsRun};
 ghost use Rattle.jn_system.specs.WholeSystem.Example.{the_server, the_file, start};
-ghost use Rattle.jn_system_settling.specs.Settling.Course.{Course, opening_course, go_on};
-ghost use Rattle.jn_system_settling.specs.Settling.Settle.{Chance};
+ghost use Rattle.jn_system.specs.WholeSystem.Course.{Course, opening_course, go_on};
+ghost use Rattle.jn_system.specs.WholeSystem.Settle.{Chance};
 ghost use Rattle.jn_system_settling.specs.Closing.Example.{with_a_flag, finds_both, the_last};
 ghost use Rattle.jn_system_settling.specs.Closing.Ending.{Start, end_steps, ended, IsClosed, IsAsCommitted, Leaves};
 

@@ -3,6 +3,7 @@
 
 mod closed;
 mod courses;
+mod rests;
 mod settled;
 
 pub use closed::{a_stopped_commit_ends, an_end_leaves_nothing, an_end_leaves_what_was_committed};
@@ -11,5 +12,8 @@ pub use courses::{
     a_stopped_commit_is_found_or_not, a_stopped_prepare_is_found_or_not,
     a_write_waits_for_a_reader, courses_are_runs, deliveries_lighten, events_are_runs,
     one_client_writes, settling_ends, settling_is_bounded, tables_stay_small, two_clients_wait,
+};
+pub use rests::{
+    a_rest_is_reached, a_settle_is_made, settling_is_bounded_anyhow, steps_come_in_turn,
 };
 pub use settled::{a_forgotten_work_is_not_settled, a_settle_settles};

@@ -5,8 +5,8 @@ ghost use Rattle.jn_base.specs.declared.names.ServerNo.{ServerNo};
 ghost use Rattle.jn_order.specs.Files.{AllFiles};
 ghost use Rattle.jn_system.specs.WholeSystem.World.{opening};
 ghost use Rattle.jn_system.specs.WholeSystem.Steps.{Step, IsRun};
-ghost use Rattle.jn_system_settling.specs.Settling.Course.{opening_course, go_on};
-ghost use Rattle.jn_system_settling.specs.Settling.Settle.{Chance};
+ghost use Rattle.jn_system.specs.WholeSystem.Course.{opening_course, go_on};
+ghost use Rattle.jn_system.specs.WholeSystem.Settle.{Chance};
 ghost use Rattle.jn_system_settling.specs.AtRest.Settled.{AreDecided, IsSettled, LeavesBetween};
 ghost use Rattle.jn_system_settling.specs.AtRest.Example.{forgotten_work};
 

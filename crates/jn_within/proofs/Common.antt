@@ -15,7 +15,7 @@ pub use Rattle.jn_rows.specs.Client.{ClientTable, Commanded, Refuses, Sends, new
 pub use Rattle.jn_rows.specs.ClientLaws.{IsClient, are_apart, after_command}
 pub use Rattle.jn_rows.proofs.ClientKeeps.{command_keeps, take_keeps, names_are_few}
 pub use Rattle.jn_within.specs.Taking.{sent_for, is_from_server, are_from_server, CanBeTaken, AllCanBeTaken, CommandInRange, ClientFits, CommandFits}
-pub use Rattle.jn_system_settling.specs.Settling.Sizes.{are_near, is_few, is_small_stage}
+pub use Rattle.jn_system.specs.WholeSystem.Near.{are_near, is_few, is_small_stage}
 pub use Rattle.jn_within.specs.Naming.{is_near, is_any_near, names_near, is_within, are_within, is_again_within, ClientWithin, CommandWithin, are_both_near, is_transaction_within, are_transactions_within, are_changes_within, are_works_within, is_change_within, StateWithin}
 pub use Rattle.jn_base.specs.declared.names.Tid.{Tid}
 pub use Rattle.jn_base.specs.declared.names.Tickets.{Tickets}

@@ -1,7 +1,7 @@
 -- Each step of the whole system sends a message for each name and each number that it draws.
 use Rattle.jn_within.proofs.Common.{◌≡◌, ◌∙◌, sym, ◌≤◌, ℕ, ◌+◌, List, [], ◌∷◌, length, length-append, Option, Some, None, ap, subst, arith, ServerNo, ClientNo, Tickets, AllFiles, Taken, ClientTable, take_row, RowOutcome, Sent, Pick, stable, World, Memory, at_server, new_memory, opening, server_timeout, restored, Step, after, run, DrawsOne, AreCovered, Text, Message, one-server, one-client, ClientRow, by_command, by_ignoring, by_answering, by_telling, ServerRow, of_message, of_work, of_closing, StepCase, client_row, row_done, row_stopped, gone_late, gone_down, come_up, found_anew, dismissed, quietly, step-case}
 use Rattle.jn_rows.specs.declared.client.Taken.TheVariants as taken
-use Rattle.jn_system_settling.proofs.Settling.Courses.{Grows, grows}
+use Rattle.jn_system.proofs.WholeSystem.Grows.{Grows, grows}
 use Rattle.jn_within.proofs.Taking.{command-draws, take-number}
 use Rattle.jn_within.proofs.ServerRows.{row-drawn, step-tickets, timeout-tickets}
 

@@ -14,7 +14,7 @@ use Rattle.jn_rows.specs.ClientLaws.{IsClient}
 use Rattle.jn_rows.specs.Outcomes.{Sent}
 use Rattle.jn_rows.specs.Stable.{StableState, Prepared, FlagState, Change, AddReady, AddFlag}
 use Rattle.jn_rows.specs.Worker.{WorkerTable}
-use Rattle.jn_system_settling.specs.Settling.Sizes.{is_few, is_small_stage}
+use Rattle.jn_system.specs.WholeSystem.Near.{is_few, is_small_stage}
 
 -- ---- names
 

@@ -1,5 +1,5 @@
 -- A server that is up takes a message, or makes a step where it has something to do, and which one is first.
-use Rattle.jn_world.proofs.Common.{inl, inr, append-nil, ◌≡◌, ◌≤◌, ◌<◌, ℕ, zero, suc, ◌+◌, Bool, true, false, List, [], ◌∷◌, ◌++◌, length, Option, Some, None, Result, Ok, Err, true≢false, refl, sym, ◌∙◌, ap, subst, arith, set, nat_tests, length-set, slice_get_within, ◌⊎◌, nat_lt, slice_get, IsErr, IsErrAnd, IfErr, OnOk, drop, is_some, Server, ServerNo, Tid, DeviceState, Collected, Carried, with_delivered, waiting, Posted, Left, Place, Slot, Up, Down, Gone, Took, WorkedBy, AsksAgain, TimedOut, IsTimedOut, has_work_at, PlaceReads, WhereUp, TakeLeaves, WorkLeaves, StandsThere, IsPlace, is_up, server_timeout, of_timeout, ServerMemory, Counts, counts_by, NoSuchWork, Line, When, StableState, Pick, IsUp, Parts, view_with, memory_of, pool_on, standing_pages, rubbish_count, next-works, next-none, refused-step, WentOn, HasCounts, ReadsPages, IsIdleAt, Standing, Stands, StandsAt, PlaceStands, with_answer, texts_sent, state, pairs_view, StoreView, Ended, Messages, Epoch, Memory, AreIdleBelow, IsBusyAt, IsFirstBusy, ReadsAt, TellsBusy, is_up_at, is_up_in, works_at, works_in, DoesEvent, DoesTasks, EndsStep, GoesTo, TakesTurn, Setup, rubbish_on, next_in, has_work, refusal_of, unless, Moment, lines_at, Task, Meets, when_of, IsRecoverable}
+use Rattle.jn_world.proofs.Common.{inl, inr, append-nil, ◌≡◌, ◌≤◌, ◌<◌, ℕ, zero, suc, ◌+◌, Bool, true, false, List, [], ◌∷◌, ◌++◌, length, Option, Some, None, Result, Ok, Err, true≢false, refl, sym, ◌∙◌, ap, subst, arith, set, nat_tests, length-set, slice_get_within, ◌⊎◌, nat_lt, slice_get, IsErr, IsErrAnd, IfErr, OnOk, drop, is_some, Server, ServerNo, Tid, DeviceState, Collected, Carried, with_delivered, waiting, Posted, Left, Place, Slot, Up, Down, Gone, Took, WorkedBy, AsksAgain, TimedOut, IsTimedOut, has_work_at, PlaceReads, WhereUp, TakeLeaves, WorkLeaves, StandsThere, IsPlace, is_up, server_timeout, of_timeout, ServerMemory, Counts, counts_by, NoSuchWork, Line, When, StableState, Pick, IsUp, Parts, view_with, memory_of, pool_on, standing_pages, rubbish_count, next-works, next-none, refused-step, WentOn, HasCounts, ReadsPages, IsIdleAt, Standing, Stands, StandsAt, PlaceStands, with_answer, texts_sent, state, pairs_view, StoreView, Ended, Messages, Epoch, Memory, AreIdleBelow, IsFirstBusy, ReadsAt, TellsBusy, is_up_at, is_up_in, works_at, works_in, DoesEvent, DoesTasks, EndsStep, GoesTo, TakesTurn, Setup, rubbish_on, next_in, has_work, refusal_of, unless, Moment, lines_at, Task, Meets, when_of, IsRecoverable}
 use Rattle.jn_recovery.specs.Memory.{Memory as Kept, view_of}
 use Rattle.jn_report.specs.declared.line.Text.TheVariants as says
 use Rattle.jn_rows.specs.Worker.{WorkerTable, timeout_row}
@@ -91,10 +91,6 @@ module _ {S : Type 0} (look : S → StoreView) (device : S → DeviceState) (see
   up-tells q ps p true at up reads is = record { up = up; works = works-here look ps q p at ∙ sym is; reads = same-reads q ps p at reads }
   up-tells q ps p false at up reads is = λ other e. subst (λ (x : Place S). IsIdleAt look device x) (some-of p other (sym at ∙ e)) (record { reads = reads; idle = sym is })
 
-  pub tells-true : (q : ServerNo) (ps : List (Place S)) (b : Bool) → b ≡ true → TellsBusy look device q ps b → IsBusyAt look device q ps
-  tells-true q ps true is h = h
-  tells-true q ps false is h = absurd (true≢false (sym is))
-
   pub tells-false : (q : ServerNo) (ps : List (Place S)) (b : Bool) → b ≡ false → TellsBusy look device q ps b → (p : Place S) → slice_get ps q.0 ≡ Some p → IsIdleAt look device p
   tells-false q ps true is h = absurd (true≢false is)
   tells-false q ps false is h = h
@@ -119,9 +115,6 @@ module _ {S : Type 0} (look : S → StoreView) (device : S → DeviceState) (see
       by : (i < n) ⊎ (i ≡ n) → IsIdleAt look device p
       by (inl l) = before i p l at
       by (inr e) = here p (subst (λ (j : ℕ). slice_get ps j ≡ Some p) e at)
-
-  pub idle-all : (n m : ℕ) (ps : List (Place S)) → n ≡ m → AreIdleBelow look device n ps → AreIdleBelow look device m ps
-  idle-all n m ps e h i p less at = h i p (omega (arith, less, e)) at
 
   -- what a rest does next
   pub works-next : (w : Standing S) → waiting w.net ≡ None → (q : ServerNo) → IsFirstBusy look device q w.places → (x : Setup) (m : Moment) → Stands look device x w m → next_in x (rubbish_on x m.devices) m.state.course ≡ Some (events.Step q)

@@ -1,5 +1,6 @@
 -- Calls one after another, each from where the machine stands.
-use Rattle.jn_world.proofs.Common.{◌≡◌, ◌≤◌, ℕ, zero, suc, ◌+◌, ◌-◌, true, List, [], ◌∷◌, ◌++◌, map, length, append-nil, append_assoc, Result, Ok, Err, refl, sym, ◌∙◌, ap, subst, arith, map-append, ServerNo, ClientNo, DeviceState, servers_from, Line, When, clients_from, IsTold, Limit, NoMessageLeft, NoEpochLeft, WentOn, WasCut, IsStepTo, Standing, Stands, StoreView, Ended, Messages, Epoch, Memory, GoesTo, DoesTasks, EndsStep, is_going, join, Setup, servers_of, none, Moment, DoesStep, Task, Stage, when_at, when_of}
+use Rattle.jn_world.proofs.Common.{◌≡◌, ◌≤◌, ℕ, zero, suc, ◌+◌, ◌-◌, true, List, [], ◌∷◌, ◌++◌, map, length, append-nil, append_assoc, Result, Ok, Err, refl, sym, ◌∙◌, ap, subst, arith, map-append, ServerNo, ClientNo, DeviceState, servers_from, Line, When, clients_from, IsTold, NoMessageLeft, NoEpochLeft, WentOn, WasCut, IsStepTo, Standing, Stands, StoreView, Ended, Messages, Epoch, Memory, GoesTo, DoesTasks, EndsStep, is_going, Setup, servers_of, none, Moment, Task, Stage, when_at, when_of}
+use Rattle.jn_stands.proofs.Joined.{went-further, went-to-cut}
 use Rattle.jn_world.proofs.Numbers.{count_begins, begins-append, same-number}
 
 -- ---- lines and steps
@@ -19,28 +20,10 @@ module _ {S : Type 0} (look : S → StoreView) (device : S → DeviceState) (x :
   pub went-nowhere : (m : Moment) (w : Standing S) (lines : List Line) → Stands look device x w m → WentOn look device x m m.state.tasks w lines lines
   went-nowhere m w lines stands = record { last = m; leads = none m; stands = stands; tasks = refl; stage = refl; told = told-none m lines }
 
-  cut-then : (m : Moment) (tasks : List Task) (w : Standing S) (first now later : List Line) (h : WentOn look device x m tasks w first now) (limit : Limit) → WasCut x h.last limit now later → WasCut x m limit first later
-  cut-then m tasks w first now later h limit k = record {
-    before = k.before;
-    leads = join Moment (DoesStep x) m h.last k.before h.leads k.leads;
-    last = k.last;
-    step = k.step;
-    comes = k.comes;
-    stage = k.stage;
-    told = told-then m h.last k.last first now later h.told k.told;
-  }
-
   pub goes-then : {A : Type 0} (m : Moment) (tasks rest : List Task) (w w' : Standing S) (first now later : List Line) (r : Result A Ended) (h : WentOn look device x m tasks w first now) → GoesTo look device x h.last rest r w' now later → GoesTo look device x m rest r w' first later
-  goes-then m tasks rest w w' first now later (Ok a) h k = record {
-    last = k.last;
-    leads = join Moment (DoesStep x) m h.last k.last h.leads k.leads;
-    stands = k.stands;
-    tasks = k.tasks;
-    stage = k.stage ∙ h.stage;
-    told = told-then m h.last k.last first now later h.told k.told;
-  }
-  goes-then m tasks rest w w' first now later (Err Messages) h k = cut-then m tasks w first now later h NoMessageLeft k
-  goes-then m tasks rest w w' first now later (Err (Epoch q)) h k = cut-then m tasks w first now later h (NoEpochLeft q) k
+  goes-then m tasks rest w w' first now later (Ok a) h k = went-further look device x m tasks w first now later h rest w' k
+  goes-then m tasks rest w w' first now later (Err Messages) h k = went-to-cut look device x m tasks w first now later h NoMessageLeft k
+  goes-then m tasks rest w w' first now later (Err (Epoch q)) h k = went-to-cut look device x m tasks w first now later h (NoEpochLeft q) k
   goes-then m tasks rest w w' first now later (Err Memory) h k = tt
 
   -- where the call fails it doesn't matter what would have been left
@@ -97,10 +80,6 @@ module _ {S : Type 0} (look : S → StoreView) (device : S → DeviceState) (whe
       → DoesTasks look device one when w r u first later → DoesTasks look device two when w r u first later
   does-as one two r w u first later same h x m rest stands tasks going is =
       h x m rest stands (tasks ∙ ap (λ (ts : List Task). ts ++ rest) (sym (same x (sym stands.servers)))) going is
-
-  -- the result is another one of the same kind
-  pub does-ok : {A B : Type 0} (tasks : Setup → List Task) (a : A) (b : B) (w u : Standing S) (first later : List Line) → DoesTasks look device tasks when w (Ok a) u first later → DoesTasks look device tasks when w (Ok b) u first later
-  does-ok tasks a b w u first later h = h
 
 -- ---- servers in turn
 

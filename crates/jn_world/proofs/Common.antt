@@ -26,7 +26,7 @@ pub use Rattle.jn_server.specs.Standing.{standing_pages, is_free_head}
 pub use Rattle.jn_sets.specs.Pool.{free_count, rubbish_count}
 pub use Rattle.jn_server.specs.Seen.{view_with, IsServer, Parts, memory_of, room_of}
 pub use Rattle.jn_storage.specs.Calls.{state}
-pub use Rattle.jn_stands.specs.Going.{WentOn, NoEpochLeft, WasCut, IsTold, Limit, NoMessageLeft, IsStepTo}
+pub use Rattle.jn_stands.specs.Going.{WentOn, NoEpochLeft, WasCut, IsTold, NoMessageLeft, IsStepTo, Limit}
 pub use Rattle.jn_stands.specs.Pages.{HasCounts, ReadsPages, IsIdleAt}
 pub use Rattle.jn_stands.specs.Stands.{Standing, Stands, with_named, StandsAt, PlaceStands, with_answer, texts_sent, posted_by, is_client_number, with_sent}
 pub use Rattle.jn_store.specs.Pairs.{pairs_view}
@@ -55,13 +55,12 @@ pub use Rattle.jn_system.specs.WholeSystem.Servers.{server_timeout, of_timeout, 
 pub use Rattle.jn_rows.specs.Stable.{StableState, Pick, IsUp, stable}
 pub use Rattle.jn_stands.proofs.RestNext.{next-works, next-none, rest-next, rest-over-step, next-delivers}
 pub use Rattle.jn_stands.proofs.Still.{refused-step, counts-step, begins-step, settles-step}
-pub use Rattle.jn_world.specs.Settling.{AreIdleBelow, IsBusyAt, IsFirstBusy, ReadsAt, TellsBusy, IsAtRest, handed, steps_of_all, asking_clients, asking_servers, TellsFirst}
+pub use Rattle.jn_world.specs.Settling.{AreIdleBelow, IsFirstBusy, ReadsAt, TellsBusy, IsAtRest, handed, steps_of_all, asking_clients, asking_servers, TellsFirst}
 pub use Rattle.jn_world.specs.Standing.{is_up_at, is_up_in, works_at, works_in, IsWorld, IsClientOf, ArePlaces, ArePosted, messages_in, AreStores, AreClosed}
 pub use Rattle.jn_written.specs.Devices.{rubbish_on, Devices}
 pub use Rattle.jn_written.specs.Events.{next_in, servers_of, ending, coming_up, settling, printing, acted, met, resting, deed_of, asking, told_unless}
 pub use Rattle.jn_written.specs.Refusals.{has_work, refusal_of, unless, if_there, if_up, if_down}
 pub use Rattle.jn_base.specs.declared.names.ClientNo.{ClientNo}
-pub use Rattle.jn_written.proofs.Computed.{join}
 pub use Rattle.std.proofs.lemmas.List.Elements.{All-nil, All-set, All-get_or, All-from_get_or, All-append, All-map, All-cons, All-weaker, All-from_recursion, recursion_from_All, All-push}
 pub use Rattle.jn_device.specs.Events.{disarmed, is_within, Decays as PageDecays, Revives as PageRevives, Arms as FaultArmed}
 pub use Rattle.jn_recovery.specs.declared.counts.PageCounts.{PageCounts}

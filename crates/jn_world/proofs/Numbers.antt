@@ -4,7 +4,7 @@ use Rattle.jn_storage.specs.DeviceCalls.{step_calls}
 use Rattle.jn_system.specs.WholeSystem.Steps.{Step}
 use Rattle.jn_system.specs.WholeSystem.World.{World, Memory}
 use Rattle.jn_schedule.specs.declared.Event.TheVariants as events
-use Rattle.jn_system_settling.specs.Settling.Course.{Course, go, go_on}
+use Rattle.jn_system.specs.WholeSystem.Course.{Course, go, go_on}
 use Rattle.jn_report.specs.declared.line.Text.TheVariants as says
 use Rattle.jn_written.specs.Deeds.{Deed, nothing, served, working_steps, given_up, delivered, delivered_at, worked, is_busy, room, stopped_idle, scrubbed, showing, crashed_at, recovering, recovered, is_used_up, restarted, brought_up}
 use Rattle.jn_written.specs.Kinds.{event_after}

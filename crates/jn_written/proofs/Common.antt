@@ -14,8 +14,8 @@ pub use Rattle.jn_report.specs.declared.line.Text.{Text}
 pub use Rattle.jn_rows.specs.Stable.{Pick, stable, StableState}
 pub use Rattle.jn_system.specs.WholeSystem.World.{World, Memory, clients_from, committed_in, commits_in, servers_from, has_line}
 pub use Rattle.jn_system.specs.WholeSystem.Printing.{Printed, FileThere, PageStored, UnitLocked}
-pub use Rattle.jn_system_settling.specs.Settling.Course.{go_on, Course, go, newly_sent}
-pub use Rattle.jn_system_reports.specs.Reporting.Printing.{text_printed}
+pub use Rattle.jn_system.specs.WholeSystem.Course.{go_on, Course, go, newly_sent}
+pub use Rattle.jn_system.specs.WholeSystem.PrintedLines.{text_printed}
 pub use Rattle.jn_written.specs.Tasks.{Task, Begins, Meets, Acts, Rests, ComesUp, Dismisses, GoesDown, ClosesClients, CountsCommits, State, next_task, Stage, InSchedule, AtEnd, CutShort, next_at, begun, when_of, when_at}
 pub use Rattle.jn_written.specs.Deeds.{Deed, delivered, worked, shown, crashed_at, is_used_up, brought_up, given_up, recovered, delivered_at, is_busy, working_steps, served, nothing, stopped_idle, restarted, recovering, Use, Calls, Reads, Recovers, Cleans, nobody, tells}
 pub use Rattle.jn_written.specs.Refusals.{refusal_of}

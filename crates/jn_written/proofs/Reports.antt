@@ -3,7 +3,7 @@ use Rattle.jn_written.proofs.Common.{◌≡◌, true, false, [], ◌∷◌, Some
 use Rattle.jn_base.specs.declared.device.FaultKind.TheVariants as faults
 use Rattle.jn_locks.specs.Locks as locks
 use Rattle.jn_schedule.specs.declared.Event.TheVariants as events
-use Rattle.jn_system_settling.specs.Settling.Rows.{s0, s1, tid, half_made, the_work}
+use Rattle.jn_system.specs.WholeSystem.ExampleNames.{s0, s1, tid, half_made, the_work}
 use Rattle.jn_written.specs.Examples.{calm, calmly, at_step, stopped, finding, report, a_reader_gives_way, a_prepare_is_stopped, restarts_are_stopped, pages_fail, events_are_refused, half_prepared, half_committed}
 use Rattle.jn_written.specs.ExampleReports.{nothing_happens_report, refusals_are_told_report, a_prepare_stops_report, a_half_prepared_work_is_found_report, a_half_prepared_work_decays_report, a_half_written_flag_is_found_report, a_half_written_flag_decays_report, restarts_stop_early_report, restarts_stop_late_report, failing_pages_are_told_report, a_reader_is_broken_report, a_coordinator_is_stopped_twice_report}
 

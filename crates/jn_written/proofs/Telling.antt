@@ -16,7 +16,6 @@ use Rattle.jn_rows.specs.declared.client.Taken.{Taken}
 use Rattle.jn_rows.specs.declared.client.Taken.TheVariants as taken
 use Rattle.jn_rows.specs.Client.{ClientTable, take_row, if_waits, begun_row, opened_row, answer_line, outcome_row, is_current, decided_row}
 use Rattle.jn_rows.specs.Coordinator.{close_clients_row}
-use Rattle.jn_rows.specs.Client.{decided_row}
 use Rattle.jn_system.proofs.WholeSystem.StepCases.{ClientRow, by_command, by_ignoring, by_answering, by_telling, ServerRow, of_message, of_work, of_closing, FoundThen, by_narrowing, by_raising, Quiet, event_begins, is_refused, is_lost, StepCase, client_row, row_done, row_stopped, gone_late, gone_down, come_up, found_anew, dismissed, quietly, step-case, handing}
 
 pub record Adds (test : Text → Bool) (event : ℕ) (w now : World) : Type 0 where

@@ -13,7 +13,7 @@ use Rattle.jn_system.specs.WholeSystem.World.{World, Memory}
 use Rattle.jn_system.specs.WholeSystem.Servers.{Room, is_busy as has_going}
 use Rattle.jn_system.specs.WholeSystem.Steps.{Step, Deliver, StopWork, Crash, Narrow, StopRestart, Restart, handing, working}
 use Rattle.jn_system.specs.WholeSystem.Printing.{Printed}
-use Rattle.jn_system_reports.specs.Reporting.Printing.{text_printed}
+use Rattle.jn_system.specs.WholeSystem.PrintedLines.{text_printed}
 use Rattle.jn_storage.specs.DeviceCalls.{step_calls, row_calls}
 use Rattle.jn_written.specs.Chances.{Chance, none_free, free_found, prints_found, halves_found, works_found, tids_found}
 use Rattle.jn_written.specs.Tasks.{Task}

@@ -17,7 +17,7 @@ use Rattle.jn_rows.specs.Stable.{Pick, stable}
 use Rattle.jn_system.specs.WholeSystem.World.{World, Memory}
 use Rattle.jn_system.specs.WholeSystem.Steps.{run, IsRun}
 use Rattle.jn_system.specs.WholeSystem.Printing.{ArePrints}
-use Rattle.jn_system_reports.specs.Reporting.Printing.{prints_of}
+use Rattle.jn_system.specs.WholeSystem.PrintedLines.{prints_of}
 use Rattle.jn_server.specs.Standing.{standing_pages, free_on, has_rubbish}
 use Rattle.jn_written.specs.Chances.{Setup, Chance, free_found, prints_found, allowed}
 use Rattle.jn_written.specs.Rubbish.{AreLeft, AreAllCounted}

@@ -14,7 +14,7 @@ use Rattle.jn_report.specs.declared.line.Text.TheVariants as says
 use Rattle.jn_serial.specs.Lines.{history_of}
 use Rattle.jn_system.specs.WholeSystem.World.{World, servers_from, clients_from}
 use Rattle.jn_system.specs.WholeSystem.Steps.{NextEvent, Tell, Again, Nudge, Timeout, Dismiss, CloseClients}
-use Rattle.jn_system_settling.specs.Settling.Course.{Course}
+use Rattle.jn_system.specs.WholeSystem.Course.{Course}
 use Rattle.jn_storage.specs.DeviceCalls.{row_calls}
 use Rattle.jn_written.specs.Chances.{Setup, Chance, allowed}
 use Rattle.jn_written.specs.Tasks.{Task, Begins, Meets, Acts, Rests, ComesUp, Dismisses, GoesDown, ClosesClients, CountsCommits, State}

@@ -5,7 +5,7 @@ use Rattle.jn_base.specs.declared.names.Cause.TheVariants.{Lost, Broken}
 use Rattle.jn_base.specs.declared.names.LockUnit.TheVariants.{Block}
 use Rattle.jn_report.specs.declared.line.EventRefusal.TheVariants as refusals
 use Rattle.jn_report.specs.declared.line.Text.TheVariants as says
-use Rattle.jn_system_settling.specs.Settling.Rows.{s0, s1, c1, c2, tid, file, block}
+use Rattle.jn_system.specs.WholeSystem.ExampleNames.{s0, s1, c1, c2, tid, file, block}
 use Rattle.jn_written.specs.Examples.{block_of, line, at_end}
 use Rattle.jn_report.specs.declared.line.Line.{Line}
 

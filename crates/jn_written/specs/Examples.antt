@@ -17,8 +17,8 @@ use Rattle.jn_report.specs.declared.line.Line.{Line}
 use Rattle.jn_rows.specs.Stable.{Pick}
 use Rattle.jn_system.specs.WholeSystem.World.{World, Memory}
 use Rattle.jn_system.specs.WholeSystem.Printing.{Printed, print_files}
-use Rattle.jn_system_reports.specs.Reporting.Printing.{prints_of}
-use Rattle.jn_system_settling.specs.Settling.Rows.{s0, s1, c1, c2, tid, file, block}
+use Rattle.jn_system.specs.WholeSystem.PrintedLines.{prints_of}
+use Rattle.jn_system.specs.WholeSystem.ExampleNames.{s0, s1, c1, c2, tid, file, block}
 use Rattle.jn_written.specs.Chances.{Setup, Chance, Free, Prints, Recovered}
 use Rattle.jn_written.specs.Tasks.{Task, Acts, State, next_task}
 use Rattle.jn_written.specs.Steps.{after}

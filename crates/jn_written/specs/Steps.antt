@@ -9,7 +9,7 @@ use Rattle.jn_report.specs.declared.line.Text.TheVariants as says
 use Rattle.jn_report.specs.declared.line.Line.{Line}
 use Rattle.jn_rows.specs.Outcomes.{Sent}
 use Rattle.jn_system.specs.WholeSystem.World.{World}
-use Rattle.jn_system_settling.specs.Settling.Course.{Course, go_on, newly_sent}
+use Rattle.jn_system.specs.WholeSystem.Course.{Course, go_on, newly_sent}
 use Rattle.jn_written.specs.Chances.{Setup, Chance}
 use Rattle.jn_written.specs.Tasks.{Task, CutShort, State, when_of, next_task, begun}
 use Rattle.jn_written.specs.Deeds.{Use, Calls, Cleans, Reads, Recovers, Deed}

@@ -5,7 +5,7 @@ use Rattle.jn_schedule.specs.declared.Event.{Event}
 use Rattle.jn_report.specs.declared.line.When.{When}
 use Rattle.jn_report.specs.declared.line.When.TheVariants.{Event as AtEvent, End}
 use Rattle.jn_report.specs.declared.line.Line.{Line}
-use Rattle.jn_system_settling.specs.Settling.Course.{Course}
+use Rattle.jn_system.specs.WholeSystem.Course.{Course}
 
 pub data Task : Type 0 where
   -- the next event of the schedule begins, then it is refused or done

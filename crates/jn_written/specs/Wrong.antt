@@ -7,8 +7,8 @@ use Rattle.jn_order.specs.Files.{AllFiles}
 use Rattle.jn_schedule.specs.declared.Event.{Event}
 use Rattle.jn_report.specs.declared.line.Text.TheVariants as says
 use Rattle.jn_report.specs.declared.line.Line.{Line}
-use Rattle.jn_system_settling.specs.Settling.Rows.{s0, c1, tid, file, block}
-use Rattle.jn_system_settling.specs.Settling.Course.{Course}
+use Rattle.jn_system.specs.WholeSystem.ExampleNames.{s0, c1, tid, file, block}
+use Rattle.jn_system.specs.WholeSystem.Course.{Course}
 use Rattle.jn_written.specs.Chances.{Setup}
 use Rattle.jn_written.specs.Tasks.{State}
 use Rattle.jn_written.specs.Deeds.{is_busy}

@@ -5,7 +5,7 @@ ghost use Rattle.std.specs.List.{list_all};
 ghost use Rattle.jn_schedule.specs.declared.Event.{Event};
 ghost use Rattle.jn_report.specs.declared.line.EventRefusal.{EventRefusal};
 ghost use Rattle.jn_report.specs.declared.line.Text.TheVariants.{RefusedEvent};
-ghost use Rattle.jn_system_settling.specs.Settling.Course.{go_on};
+ghost use Rattle.jn_system.specs.WholeSystem.Course.{go_on};
 ghost use Rattle.jn_written.specs.Chances.{Setup, Chance};
 ghost use Rattle.jn_written.specs.Tasks.{Task, State, Meets, Rests, CutShort, begun};
 ghost use Rattle.jn_written.specs.Deeds.{tells};

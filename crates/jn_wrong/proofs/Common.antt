@@ -8,7 +8,7 @@ pub use Rattle.std.specs.Prelude.{◌||◌, if◌then◌else◌, nat_lt, nat_eq,
 pub use Rattle.jn_base.specs.declared.names.Party.{Party}
 pub use Rattle.jn_report.specs.declared.line.Text.{Text}
 pub use Rattle.jn_system.specs.WholeSystem.Steps.{Step, Restart, tid_before, after, run, IsRun, restart, restart_with, NextEvent, Tell, Again, Nudge, Crash, CloseClients, AreNames, commanded, crash, Deliver, at_memory, handed, handing, StopDelivery, are_rising, Work as Works, working, sent_now}
-pub use Rattle.jn_system_settling.specs.Settling.Course.{Course, go, go_on, newly_sent, course_to, without_number, still_waiting, numbered}
+pub use Rattle.jn_system.specs.WholeSystem.Course.{Course, go, go_on, newly_sent, course_to, without_number, still_waiting, numbered}
 pub use Rattle.jn_written.specs.Chances.{Setup, Chance, prints_found, works_found, tids_found, allowed, none_free, Allows}
 pub use Rattle.jn_written.specs.Tasks.{Task, Begins, Meets, Acts, Rests, ComesUp, Dismisses, GoesDown, ClosesClients, CountsCommits, State, when_of, begun, next_task, AtEnd, InSchedule, Stage, CutShort, next_at, when_at}
 pub use Rattle.jn_written.specs.Deeds.{Deed, Reads, last_epoch, stopped_idle, shown, showing, pick_read, recovering, recovered, given_up, is_used_up, brought_up, plain, served, crashed_at, scrubbed, Use, uses, Arms, Decays, Revives, room, no_room, delivered, delivered_at, nothing, is_busy, Recovers, restarted, Cleans, PowersOff, Nothing, Calls, Disarms, worked, working_steps, is_busy_with, recovers}
@@ -39,7 +39,7 @@ pub use Rattle.jn_base.proofs.Tells.{file_tells, tid_tells, work_tells, server_t
 pub use Rattle.jn_rows.specs.Stable.{StableState, Pick, FlagState, Prepared, Change, AddReady, MarkGoing, CarryOut, RemoveWork, AddFlag, DropFlag, made_by, made_all, stable, is_going}
 pub use Rattle.jn_locks.specs.Locks.{work_before, unit_before}
 pub use Rattle.jn_system.specs.WholeSystem.Printing.{Printed, ArePrints, print_files, file_before, FileThere, PageStored, UnitLocked, print_unit, print_one, print_blocks, print_file, block_before}
-pub use Rattle.jn_system_reports.specs.Reporting.Printing.{prints_of, text_printed}
+pub use Rattle.jn_system.specs.WholeSystem.PrintedLines.{prints_of, text_printed}
 pub use Rattle.jn_written.specs.Devices.{Devices, IsLookedOver, IsRecovery, Alone, Befalls, IsServed, IsScrubbed, IsCalled, IsUsed, pages_of, rubbish_on}
 pub use Rattle.jn_report.specs.declared.line.EventRefusal.{EventRefusal}
 pub use Rattle.jn_report.specs.declared.line.EventRefusal.TheVariants.{NoSuchServer, ServerDown, TooManyArmed, EpochsUsedUp}
@@ -59,7 +59,7 @@ pub use Rattle.jn_storage.specs.DeviceCalls.{row_calls, step_calls}
 pub use Rattle.jn_base.specs.declared.device.Outside.{Outside}
 pub use Rattle.jn_written.specs.Runs.{none, more, Moment, Leads, DoesStep, MayLead}
 pub use Rattle.jn_store.specs.DeviceCalls.{cleaned_get_calls, put_calls}
-pub use Rattle.jn_system_settling.specs.Settling.Rows.{s0, file, block, c1, tid}
+pub use Rattle.jn_system.specs.WholeSystem.ExampleNames.{s0, file, block, c1, tid}
 pub use Rattle.jn_device.specs.Events.{disarmed, powered_off, may_arm, Arms as FaultArmed, Decays as PageDecays, Revives as PageRevives}
 pub use Rattle.jn_found.specs.Pages.{found_on, pool_on, heads_on, record_or_free, head_or_free, listed, pages_by, state_of, record_on, head_on}
 pub use Rattle.jn_store.specs.Pairs.{pairs_view}

@@ -2,7 +2,8 @@
 use Rattle.jn_wrong.proofs.Common.{◌≡◌, ◌<◌, ℕ, ◌+◌, Bool, true, false, List, [], ◌∷◌, ◌++◌, length, length-append, drop, Option, Some, None, refl, sym, ◌∙◌, ap, subst, arith, ◌&&◌, not, nat_eq, nat_lt, if◌then◌else◌, slice_get, drop-append_seam, nat_tests, ServerNo, Client, Server, AllFiles, Event, Sent, Pick, World, Memory, Room, Step, Deliver, StopDelivery, after, Course, without_number, still_waiting, numbered, go, go_on, handing, Setup, Chance, Task, Rests, Dismisses, Stage, CutShort, State, next_at, next_task, begun, Deed, room, no_room, delivered, delivered_at, servers_of, first_busy, next_event, next_in, resting, deed_of, is_too_much, come_to, cut_short, made, done, none, more, MayLead, before, HandsOver}
 use Rattle.jn_schedule.specs.declared.Event.TheVariants as events
 use Rattle.jn_system_settling.proofs.Settling.Burdens.{are_below, below-both, below-more, below-new}
-use Rattle.jn_system_settling.proofs.Settling.Courses.{Grows, grows, below-still}
+use Rattle.jn_system_settling.proofs.Settling.Courses.{below-still}
+use Rattle.jn_system.proofs.WholeSystem.Grows.{Grows, grows}
 use Rattle.jn_system_settling.proofs.Settling.Parts.{get-some}
 
 -- ---- numbers that wait

@@ -11,7 +11,7 @@ use Rattle.jn_order.specs.Files.{no_files}
 use Rattle.jn_records.specs.StablePages.{root_by}
 use Rattle.jn_store.specs.Pairs.{pairs_view}
 use Rattle.jn_disks.specs.Disks.{IsNewStore}
-use Rattle.jn_system_settling.specs.Settling.Rows.{s0}
+use Rattle.jn_system.specs.WholeSystem.ExampleNames.{s0}
 use Rattle.jn_written.specs.Chances.{Setup, Chance}
 use Rattle.jn_written.specs.Tasks.{AtEnd, State}
 use Rattle.jn_written.specs.Devices.{Devices}

@@ -9,7 +9,7 @@ use Rattle.jn_report.specs.declared.line.Refusal.{Refusal}
 use Rattle.jn_report.specs.declared.line.Text.{Text}
 use Rattle.jn_report.specs.declared.line.Text.TheVariants as says
 use Rattle.jn_report.specs.declared.line.Line.{Line}
-use Rattle.jn_system_settling.specs.Settling.Rows.{s0, s1, c1, c2, tid}
+use Rattle.jn_system.specs.WholeSystem.ExampleNames.{s0, s1, c1, c2, tid}
 use Rattle.jn_written.specs.Examples.{block_of, line, at_end}
 use Rattle.jn_wrong.specs.Wrong.{the_end}
 

@@ -11,7 +11,7 @@ use Rattle.jn_rows.specs.Worker.{shortage}
 use Rattle.jn_schedule.specs.declared.Event.{Event}
 use Rattle.jn_report.specs.declared.line.Line.{Line}
 use Rattle.jn_report.specs.declared.line.Text.TheVariants as says
-use Rattle.jn_system_settling.specs.Settling.Rows.{s0, c1, tid, file}
+use Rattle.jn_system.specs.WholeSystem.ExampleNames.{s0, c1, tid, file}
 use Rattle.jn_rows.specs.Coordinator.{promised}
 use Rattle.jn_system.specs.WholeSystem.World.{Memory}
 use Rattle.jn_written.specs.Chances.{Setup, Chance, Free, none_free}

@@ -14,7 +14,7 @@ use Rattle.jn_report.specs.declared.line.Line.{Line}
 use Rattle.jn_system.specs.WholeSystem.World.{Memory}
 use Rattle.jn_system.specs.WholeSystem.Steps.{are_rising}
 use Rattle.jn_system.specs.WholeSystem.Printing.{Printed, FileThere, PageStored, UnitLocked}
-use Rattle.jn_system_reports.specs.Reporting.Printing.{text_printed, prints_of}
+use Rattle.jn_system.specs.WholeSystem.PrintedLines.{text_printed, prints_of}
 use Rattle.jn_written.specs.Chances.{Setup}
 use Rattle.jn_written.specs.Tasks.{when_of, begun}
 use Rattle.jn_written.specs.Steps.{lines_at}

@@ -14,7 +14,7 @@ use Rattle.jn_msgs.specs.declared.message.Message.TheVariants as messages
 use Rattle.jn_rows.specs.Stable.{StableState, Pick}
 use Rattle.jn_rows.specs.Outcomes.{Sent}
 use Rattle.jn_system.specs.WholeSystem.World.{World, Memory}
-use Rattle.jn_system_reports.specs.Reporting.Printing.{prints_of}
+use Rattle.jn_system.specs.WholeSystem.PrintedLines.{prints_of}
 use Rattle.jn_written.specs.Chances.{Setup, Chance, Free, none_free}
 use Rattle.jn_written.specs.Tasks.{Task, Begins, Meets, Acts, Rests, ComesUp, Dismisses, GoesDown, ClosesClients, CountsCommits, State, next_task}
 use Rattle.jn_written.specs.Deeds.{last_epoch}

@@ -11,7 +11,7 @@ use Rattle.jn_schedule.specs.declared.Event.TheVariants as events
 use Rattle.jn_report.specs.declared.line.Refusal.TheVariants as refusals
 use Rattle.jn_report.specs.declared.line.Text.TheVariants as says
 use Rattle.jn_report.specs.declared.line.Line.{Line}
-use Rattle.jn_system_settling.specs.Settling.Rows.{s0, s1, c1, tid, file, block}
+use Rattle.jn_system.specs.WholeSystem.ExampleNames.{s0, s1, c1, tid, file, block}
 use Rattle.jn_written.specs.Chances.{Setup}
 use Rattle.jn_written.specs.Devices.{Devices}
 use Rattle.jn_written.specs.Whole.{IsWhole}

@@ -1,7 +1,7 @@
 -- After an end that settles until nothing is left to do, nothing is left at a server, so nothing is held for commit.
 use Rattle.jn_headline.proofs.Common.{◌≡◌, ◌≢◌, ◌⊎◌, inl, inr, ◌≤◌, ◌<◌, ℕ, zero, suc, ◌+◌, Bool, true, false, List, [], ◌∷◌, ◌++◌, append-nil, append_assoc, length, Option, Some, None, is_some, refl, sym, ◌∙◌, ap, subst, arith, if◌then◌else◌, map, nat_tests, ServerNo, LockUnit, server_eq, server_tells, AllFiles, StableState, Pick, commit_holder, World, Memory, opening, servers_from, Step, Dismiss, Crash, Narrow, Restart, CloseClients, IsStep, after, narrow, run, IsRun, Printed, Item, steps_of, world_of, IsReported, Comeback, Ending, restarts_from, steps_at_end, world_at_end, ArePrinted, IsEnding, Course, opening_course, go, go_on, Chances, clients_from, next_step, onward, until_rest, ask_again, settled, steps-append, on-world, AreUp, Start, restarts, end_steps, without_messages, ended, IsClosed, IsEmpty, Leaves, course_at_end, IsSettledEnd}
 use Rattle.std.proofs.Math.Path.{fun_ext}
-use Rattle.jn_system_settling.specs.Settling.Settle.{Chance, first_busy}
+use Rattle.jn_system.specs.WholeSystem.Settle.{Chance, first_busy}
 use Rattle.jn_system_settling.proofs.Settling.Courses.{waiting-is}
 use Rattle.jn_system_settling.proofs.AtRest.Answered.{rest-keeps, ask-keeps}
 use Rattle.jn_system_settling.proofs.Closing.Ends.{end-leaves-nothing}

@@ -3,7 +3,7 @@ use Rattle.std.specs.Prelude.{[], ◌∷◌, ◌++◌}
 use Rattle.jn_system.specs.WholeSystem.World.{servers_from, clients_from}
 use Rattle.jn_system.specs.WholeSystem.Steps.{Work}
 use Rattle.jn_system.specs.WholeSystem.Example.{the_server, much, delivered}
-use Rattle.jn_system_settling.specs.Settling.Settle.{ask_again}
+use Rattle.jn_system.specs.WholeSystem.Settle.{ask_again}
 use Rattle.jn_system_reports.specs.Reporting.Ending.{Ending}
 use Rattle.jn_system_reports.specs.Showing.Example.{an_end}
 

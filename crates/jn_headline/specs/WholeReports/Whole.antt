@@ -1,8 +1,8 @@
 -- The report of a whole run is that of its commits.
 use Rattle.std.specs.Prelude.{◌≡◌, ◌≤◌, ℕ, []}
 use Rattle.jn_system.specs.WholeSystem.World.{World}
-use Rattle.jn_system_settling.specs.Settling.Course.{Course, go_on}
-use Rattle.jn_system_settling.specs.Settling.Settle.{Chance, settled}
+use Rattle.jn_system.specs.WholeSystem.Course.{Course, go_on}
+use Rattle.jn_system.specs.WholeSystem.Settle.{Chance, settled}
 use Rattle.jn_system_reports.specs.Reporting.Ending.{Ending, steps_at_end}
 
 -- ---- an end that settles until nothing is left to do

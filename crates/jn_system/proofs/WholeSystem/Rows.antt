@@ -1,5 +1,6 @@
 -- Each row of a worker keeps what holds of its works and locks.
-use Rattle.jn_system.proofs.Common.{◌≡◌, ◌≢◌, ◌⊎◌, inl, inr, ℕ, zero, suc, Bool, true, false, List, [], ◌∷◌, take, Option, Some, None, refl, sym, ◌∙◌, subst, arith, ◌||◌, if◌then◌else◌, WorkId, Tickets, LockUnit, Op, Answer, Intention, InOrder, intention_for, Mode, Read, IntentionWrite, Commit, is_unit, Work, Phase, Active, Stored, ActiveWork, StableState, Prepared, Change, made_all, is_going, next_after, RowOutcome, WorkerTable, Wanted, units_for, with_units, wants_of, commit_wants, holds, work_at, with_phase, after_grant, conflict, done, list_with, is_fit, written_unit, HoldsForCommit, HasRead, file_unit, found-name, IsSoundWork, IsSoundActive, IsSoundPrepared, ReadFiles, TableFact}
+use Rattle.jn_system.proofs.Common.{◌≡◌, ◌≢◌, ◌⊎◌, inl, inr, ℕ, zero, suc, Bool, true, false, List, [], ◌∷◌, take, Option, Some, None, refl, sym, ◌∙◌, subst, arith, ◌||◌, if◌then◌else◌, WorkId, Tickets, LockUnit, Op, Answer, Intention, InOrder, intention_for, Mode, Read, IntentionWrite, Commit, is_unit, Work, Phase, Active, Stored, ActiveWork, StableState, Prepared, Change, made_all, is_going, next_after, RowOutcome, WorkerTable, Wanted, units_for, with_units, wants_of, commit_wants, holds, work_at, with_phase, after_grant, conflict, list_with, is_fit, written_unit, HoldsForCommit, HasRead, file_unit, found-name, IsSoundWork, IsSoundActive, IsSoundPrepared, ReadFiles, TableFact}
+use Rattle.jn_rows.specs.Worker.{done}
 use Rattle.jn_records.proofs.EditLemmas.{edited-in_order}
 use Rattle.jn_system.proofs.WholeSystem.Granted.{phase_changed, granted}
 use Rattle.jn_system.proofs.WholeSystem.Keeping.{kept}

@@ -159,9 +159,6 @@ module _ (os : List Opening) (w : Machine) (ended : Tid → Bool) (sent : List S
   where-open s None row e k = tt
   where-open s (Some v) row e k = k v e
 
-  not-begin : true ≡ false → {B : Type 0} → B
-  not-begin e = absurd (grind arith)
-
   abbrev sent-table : List OpenWork → ℕ → Command → Party → Message → ClientTable
   sent-table works j command to message = record t { works = works; next = t.next + 1; outstanding = Some (record { event = j; request = request_of t.next; command = command; to = to; message = message }) }
 

@@ -136,11 +136,6 @@ module _ (os os' : List Opening) (clients clients' : ClientNo → ClientTable) (
   pub entry-goes : (seen : ClientNo → ℕ) (x : Transaction) → EntryFact os clients w Caused seen x → EntryFact os' clients' v Caused' seen x
   entry-goes seen x h = record { request = h.request; has = g.opened _ h.has; seen_it = h.seen_it; stage = stage-goes x.client x.tid x.stage h.stage }
 
-  pub change-goes : (change : Change) → ChangeFact os clients w Caused change → ChangeFact os' clients' v Caused' change
-  change-goes (AddFlag flag) h = g.had flag.client flag.tid flag.request h
-  change-goes (DropFlag T) h = (h.0, g.past h.0 T h.1)
-  change-goes _ h = tt
-
   pub flag-goes : (T : Tid) (o : Option FlagState) → FlagPast os clients w Caused T o → FlagPast os' clients' v Caused' T o
   flag-goes T None h = tt
   flag-goes T (Some flag) h = g.had flag.client T flag.request h

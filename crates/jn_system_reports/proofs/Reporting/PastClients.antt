@@ -28,9 +28,6 @@ module _ (os : List Opening) (c : ClientNo) (t u : ClientTable) (g : TableGoes o
       by (inl f) = h o f
       by (inr l) = not-new o.request q k l
 
-  had-on : (T : Tid) → WasHad os c t T → WasHad os c u T
-  had-on T h = record { request = h.request; has = h.has; drawn = drawn-on h.request.0 h.drawn; answered = answered-on h.request h.drawn h.answered }
-
   pub ended-on : (T : Tid) (q : RequestNo) → EndedBy os c t T q → EndedBy os c u T q
   ended-on T q h = record { had = record { request = h.had.request; has = h.had.has; drawn = drawn-on h.had.request.0 h.had.drawn; answered = answered-on h.had.request h.had.drawn h.had.answered }; later = h.later }
 

@@ -146,9 +146,6 @@ module _ (os : List Opening) (clients : ClientNo → ClientTable) (w : Machine) 
   one-client : (c d : ClientNo) (p q : RequestNo) (T U : Tid) → Has (opening c p T) os → Has (opening d q U) os → T ≡ U → c ≡ d
   one-client c d p q T U h k e = ap (λ (a : Opening). a.client) (unique (opening c p T) (opening d q U) h k e)
 
-  one-request : (c d : ClientNo) (p q : RequestNo) (T U : Tid) → Has (opening c p T) os → Has (opening d q U) os → T ≡ U → p ≡ q
-  one-request c d p q T U h k e = ap (λ (a : Opening). a.request) (unique (opening c p T) (opening d q U) h k e)
-
   past-had : (c : ClientNo) (T : Tid) → Past os clients w Caused c T → Had os clients w Caused c T
   past-had c T p = record { request = p.request; has = p.has; drawn = p.drawn; answered = p.answered }
 

@@ -2,7 +2,7 @@
 use Rattle.jn_system_reports.proofs.Common.{◌≡◌, ◌⊎◌, inl, inr, ℕ, Bool, true, false, List, [], ◌∷◌, ◌++◌, Some, None, is_some, sym, ◌∙◌, ap, subst, arith, list_any, ServerNo, Tid, tid_eq, AllFiles, Machine, Invariant, Atom, run_atoms, opening_world, MayRun, run_kept, opening_kept, still-says, run-append, may-append, opening-mirrors, committed-any, run_told, opening_told, AreNamed, Mirrors, World, opening, new_memory, has_line, Step, IsStep, after, LockFacts, locks-keep, opening-keeps, Facts, step-next, opening-facts, Next, ◌||◌, if◌then◌else◌, All, All-head, All-tail, ClientNo, WorkId, LockUnit, Cause, Server, server_eq, work_eq, work_tells, Message, Vote, Text, OpenWork, Outstanding, Pick, stable, Sent, worker_row, is_work, coordinator_row, ClientTable, names_of, IsWorkOf, Grows, run_grows, not_both, some_of, Memory, Room, storage_of, of_worker, done, ServerFact, UpFact, IsAddressed, worker-none, Opening, openings, Has, began_by, is_closing, EndsNow, RequestNo, some-memory}
 use Rattle.jn_msgs.specs.declared.message.Message.TheVariants as messages
 use Rattle.jn_system_order.proofs.Ordering.Named.{step-names}
-use Rattle.jn_system_reports.proofs.Reporting.Talk.{Talk, step-talk, opening-talk}
+use Rattle.jn_system_reports.proofs.Reporting.Talk.{Talk, step-talk, opening-talk, step-asks, IsFresh}
 use Rattle.jn_msgs.specs.declared.message.Note.TheVariants as notes
 use Rattle.jn_msgs.specs.declared.message.Vote.TheVariants as votes
 use Rattle.jn_report.specs.declared.line.Text.TheVariants as says
@@ -13,7 +13,6 @@ use Rattle.jn_system_reports.proofs.Reporting.WorkerTalk.{worker-talks}
 use Rattle.jn_system_reports.proofs.Reporting.Known.{IsPast, IsOpen, IsKnown}
 use Rattle.jn_system_reports.proofs.Reporting.Gone.{run-gone}
 use Rattle.jn_system_reports.proofs.Reporting.Breaking.{worker-breaks}
-use Rattle.jn_system_reports.proofs.Reporting.Talk.{step-asks, IsFresh}
 use Rattle.jn_system_reports.proofs.Reporting.Past.{SaysPast, VoteFact, EntryFact}
 use Rattle.jn_system_reports.proofs.Reporting.PastRows.{is_broke}
 use Rattle.jn_system_reports.proofs.Reporting.PastSteps.{PastFacts}

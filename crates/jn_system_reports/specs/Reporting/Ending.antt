@@ -14,7 +14,7 @@ use Rattle.jn_rows.specs.Stable.{Pick}
 use Rattle.jn_system.specs.WholeSystem.World.{World, opening, servers_from}
 use Rattle.jn_system.specs.WholeSystem.Steps.{Step, Dismiss, Crash, Restart, CloseClients, Deliver, Work, Nudge, Again, after, run, IsRun}
 use Rattle.jn_system.specs.WholeSystem.Printing.{Printed}
-use Rattle.jn_system_reports.specs.Reporting.Printing.{text_printed, IsPrinted}
+use Rattle.jn_system.specs.WholeSystem.PrintedLines.{text_printed, IsPrinted}
 use Rattle.jn_system_reports.specs.Reporting.Reported.{Does, Item, told_by, world_of, lines_of, IsReported}
 
 -- what a restart finds, and the names of the works and flags in it

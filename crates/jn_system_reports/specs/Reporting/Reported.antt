@@ -17,7 +17,7 @@ use Rattle.jn_serial.specs.Caused.{is_stop, refuses_event, refuses_fault}
 use Rattle.jn_system.specs.WholeSystem.World.{World, at_server}
 use Rattle.jn_system.specs.WholeSystem.Steps.{Step, NextEvent, Tell, Again, Deliver, Work, Nudge, Timeout, StopDelivery, StopWork, Crash, Narrow, StopRestart, Restart, after, run, IsRun}
 use Rattle.jn_system.specs.WholeSystem.Printing.{Printed}
-use Rattle.jn_system_reports.specs.Reporting.Printing.{text_printed, IsPrinted}
+use Rattle.jn_system.specs.WholeSystem.PrintedLines.{text_printed, IsPrinted}
 
 -- what is done under an event: a step of the whole system, a refusal of the event, a server's fault that is refused, or a
 -- server's printing of its files

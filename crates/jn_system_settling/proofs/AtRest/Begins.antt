@@ -1,8 +1,8 @@
 -- A Begin is answered: its request was not seen before, or the reply to it still waits.
-use Rattle.jn_system_settling.proofs.Common.{Text, Message, ◌≡◌, ◌⊎◌, inl, inr, ◌≤◌, ◌<◌, ℕ, suc, ◌+◌, Bool, true, false, List, [], ◌∷◌, ◌++◌, length, length-append, Option, Some, None, true≢false, refl, sym, ◌∙◌, ap, subst, arith, ◌&&◌, if◌then◌else◌, nat_lt, nat_eq, slice_get, list_any, nat_tests, slice_get_within, ServerNo, ClientNo, Tid, Client, client_eq, AllFiles, Outstanding, Taken, Ignored, Transaction, Open, Pick, stable, RowOutcome, Sent, ignored_row, CoordinatorTable, after_closing, changes_of_closing, begin_new, begin_again, begun_by, seen_now, name_from, ClientTable, take_row, is_begin, if_waits, begun_row, over, World, Memory, Room, server_row, Step, Deliver, StopDelivery, IsStep, after, handed, Course, numbered, without_number, still_waiting, go, RequestNo, request_eq, request_of, one-client, ClientRow, by_command, by_ignoring, by_answering, by_telling, StepCase, client_row, dismissed, step-case}
+use Rattle.jn_system_settling.proofs.Common.{Text, Message, ◌≡◌, ◌⊎◌, inl, inr, ◌≤◌, ◌<◌, ℕ, suc, ◌+◌, Bool, true, false, List, [], ◌∷◌, ◌++◌, length, length-append, Option, Some, None, true≢false, refl, sym, ◌∙◌, ap, subst, arith, ◌&&◌, if◌then◌else◌, nat_lt, nat_eq, slice_get, list_any, nat_tests, slice_get_within, ServerNo, ClientNo, Tid, Client, client_eq, AllFiles, Outstanding, Taken, Ignored, Transaction, Open, Pick, stable, RowOutcome, Sent, ignored_row, CoordinatorTable, after_closing, changes_of_closing, begin_new, begin_again, begun_by, seen_now, name_from, ClientTable, take_row, is_begin, if_waits, begun_row, over, World, Memory, Room, server_row, Step, Deliver, StopDelivery, IsStep, after, handed, Course, numbered, without_number, still_waiting, go, RequestNo, request_eq, request_of, one-client, ClientRow, by_command, by_ignoring, by_answering, by_telling, StepCase, client_row, dismissed, step-case, Grows, grows}
 use Rattle.jn_msgs.specs.declared.message.Message.TheVariants as messages
 use Rattle.jn_system_settling.proofs.Settling.Burdens.{get-more}
-use Rattle.jn_system_settling.proofs.Settling.Courses.{Grows, grows, waiting-is}
+use Rattle.jn_system_settling.proofs.Settling.Courses.{waiting-is}
 use Rattle.jn_system_settling.proofs.AtRest.Talk.{take-still}
 use Rattle.jn_system_settling.proofs.AtRest.Ways.{any-left, any-right, Has, IsEnd, Reply, Answering, any-without, handed-taken}
 use Rattle.jn_system_settling.proofs.AtRest.Requests.{Past, SeenFits, GoesOn, waits_on, waits_not, waits_anew, stays}

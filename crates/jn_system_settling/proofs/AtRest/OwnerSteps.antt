@@ -1,7 +1,6 @@
 -- Each step of the whole system keeps each transaction with the client that began it.
-use Rattle.jn_system_settling.proofs.Common.{◌≡◌, ◌≤◌, ℕ, true, List, [], ◌∷◌, ◌++◌, take, Option, Some, None, true≢false, refl, sym, subst, ServerNo, Message, StableState, Pick, Change, AddReady, MarkGoing, CarryOut, RemoveWork, AddFlag, DropFlag, stable, made_all, RowOutcome, Sent, WorkerTable, work_of, timed_out, with_epoch, World, Memory, Room, storage_of, server_row, of_worker, of_timeout, server_timeout, restored, Step, IsStep, after, UpFact, ServerFact, LockFacts, Opening, openings, openings-more, Sizes, outcomes-close, ServerRow, of_message, of_work, of_closing, StepCase, client_row, row_done, row_stopped, gone_late, gone_down, come_up, found_anew, dismissed, quietly, step-case, memory-now, memory-gone, found-now, found-then, row-either, row-of-step}
+use Rattle.jn_system_settling.proofs.Common.{◌≡◌, ◌≤◌, ℕ, true, List, [], ◌∷◌, ◌++◌, take, Option, Some, None, true≢false, refl, sym, subst, ServerNo, Message, StableState, Pick, Change, AddReady, MarkGoing, CarryOut, RemoveWork, AddFlag, DropFlag, stable, made_all, RowOutcome, Sent, WorkerTable, work_of, timed_out, with_epoch, World, Memory, Room, storage_of, server_row, of_worker, of_timeout, server_timeout, restored, Step, IsStep, after, UpFact, ServerFact, LockFacts, Opening, openings, openings-more, Sizes, outcomes-close, ServerRow, of_message, of_work, of_closing, StepCase, client_row, row_done, row_stopped, gone_late, gone_down, come_up, found_anew, dismissed, quietly, step-case, memory-now, memory-gone, found-now, found-then, row-either, row-of-step, grows}
 use Rattle.jn_system_settling.proofs.Settling.WorkerFits.{keep_flags, worker-fits, step-fits}
-use Rattle.jn_system_settling.proofs.Settling.Courses.{grows}
 use Rattle.jn_system_settling.proofs.Settling.WorldSizes.{up-sizes}
 use Rattle.jn_system_settling.proofs.AtRest.Owners.{Owner, owner_in, owner-more, all_owned, FlagsOwned, flags_owned, grown, coordinator-owned, coordinator-flags, prefix-owned, all-changed-owned, restored-owned, closes-owned, closes-flags-owned}
 

@@ -1,9 +1,9 @@
 -- What a client waits for when a settle asks again is on its way until it is answered: its message waits, or a reply to it.
-use Rattle.jn_system_settling.proofs.Common.{Text, at_server, server_timeout, ◌≡◌, ◌≢◌, ◌⊎◌, inl, inr, ◌≤◌, ◌<◌, ℕ, zero, suc, ◌+◌, Bool, true, false, List, [], ◌∷◌, ◌++◌, length, length-append, Option, Some, None, is_some, true≢false, append_assoc, refl, sym, ◌∙◌, ap, subst, arith, if◌then◌else◌, slice_get, nat_eq, map, list_any, nat_tests, ServerNo, ClientNo, Party, Client, Server, server_eq, client_eq, client_tells, Message, Taken, Pick, stable, Sent, ClientTable, take_row, again_row, World, Memory, at_client, servers_from, Room, server_row, Step, Tell, Again, Deliver, Nudge, StopDelivery, StopWork, Restart, Dismiss, IsStep, after, at_memory, handed, took, taken_by, sent_now, Course, numbered, still_waiting, without_number, go, go_on, Chance, first_busy, handing, working, next_step, onward, until_rest, ask_again, one-server, one-client, ClientRow, by_command, by_ignoring, by_answering, by_telling, StepCase, client_row, row_done, row_stopped, gone_late, gone_down, come_up, dismissed, step-case}
+use Rattle.jn_system_settling.proofs.Common.{Text, at_server, server_timeout, ◌≡◌, ◌≢◌, ◌⊎◌, inl, inr, ◌≤◌, ◌<◌, ℕ, zero, suc, ◌+◌, Bool, true, false, List, [], ◌∷◌, ◌++◌, length, length-append, Option, Some, None, is_some, true≢false, append_assoc, refl, sym, ◌∙◌, ap, subst, arith, if◌then◌else◌, slice_get, nat_eq, map, list_any, nat_tests, ServerNo, ClientNo, Party, Client, Server, server_eq, client_eq, client_tells, Message, Taken, Pick, stable, Sent, ClientTable, take_row, again_row, World, Memory, at_client, servers_from, Room, server_row, Step, Tell, Again, Deliver, Nudge, StopDelivery, StopWork, Restart, Dismiss, IsStep, after, at_memory, handed, took, taken_by, sent_now, Course, numbered, still_waiting, without_number, go, go_on, Chance, first_busy, handing, working, next_step, onward, until_rest, ask_again, one-server, one-client, ClientRow, by_command, by_ignoring, by_answering, by_telling, StepCase, client_row, row_done, row_stopped, gone_late, gone_down, come_up, dismissed, step-case, Grows, grows}
 use Rattle.jn_rows.specs.declared.client.Taken.TheVariants as taken
 use Rattle.jn_system.specs.WholeSystem.Steps.{Work}
 use Rattle.jn_system_settling.proofs.Settling.Burdens.{are_below, get-more, get-next}
-use Rattle.jn_system_settling.proofs.Settling.Courses.{Grows, Sound, grows, waiting-is}
+use Rattle.jn_system_settling.proofs.Settling.Courses.{Sound, waiting-is}
 use Rattle.jn_system_settling.proofs.Settling.Parts.{get-some}
 use Rattle.jn_system_settling.proofs.AtRest.Talk.{IsStill, take-still}
 

@@ -1,35 +1,8 @@
 -- What holds of a course after each of its steps, and what a step does to its burden.
-use Rattle.jn_system_settling.proofs.Common.{Text, ◌≡◌, ◌≤◌, ℕ, ◌+◌, true, List, [], ◌∷◌, ◌++◌, length, length-append, append-nil, drop, refl, sym, ◌∙◌, ap, subst, arith, ClientNo, stable, Sent, ClientTable, again_row, World, servers_from, server_again, Step, Deliver, StopDelivery, IsStep, IsRun, after, run, sent_now, LockFacts, locks-keep, Course, numbered, without_number, still_waiting, go, go_on, weigh, going_works, burden, Sizes, one_if_delivery, deliveries, IsCourse, ClientRow, by_command, by_ignoring, by_answering, by_telling, Quiet, client_repeats, server_repeats, StepCase, client_row, row_done, quietly, step-case}
+use Rattle.jn_system_settling.proofs.Common.{◌≡◌, ◌≤◌, ℕ, true, List, [], ◌∷◌, ◌++◌, length-append, refl, sym, ◌∙◌, ap, subst, arith, ◌+◌, length, drop, Sent, World, servers_from, Step, Deliver, StopDelivery, IsStep, IsRun, after, run, LockFacts, locks-keep, Course, numbered, without_number, still_waiting, go, go_on, weigh, going_works, burden, Sizes, one_if_delivery, deliveries, IsCourse, Grows, grows}
 use Rattle.std.proofs.Math.Seq.{drop-append_seam}
 use Rattle.jn_system_settling.proofs.Settling.WorldSizes.{sizes-keep}
 use Rattle.jn_system_settling.proofs.Settling.Burdens.{are_below, weigh-more, weigh-both, weigh-new, below-both, below-more, below-new, Leads}
-
--- ---- nothing that was sent is forgotten
-
-pub record Grows (w now : World) : Type 0 where
-  pub new : List Sent
-  pub sent : now.sent ≡ w.sent ++ new
-
-module _ (w : World) where
-  client-sent : (step : Step) (c : ClientNo) (t : ClientTable) (sent : List Sent) (lines : List Text) → ClientRow w c step t sent lines → (new : List Sent) × (sent ≡ w.sent ++ new)
-  client-sent _ c _ _ _ (by_command command t to message is) = ((to, message) ∷ [], refl)
-  client-sent _ c _ _ _ (by_ignoring k room stop message t e is) = ([], sym (append-nil w.sent))
-  client-sent _ c _ _ _ (by_answering k room stop message t to answer e is) = ((to, answer) ∷ [], refl)
-  client-sent _ c _ _ _ (by_telling k room stop message t line answer e is) = (sent_now answer, refl)
-
-  quiet-sent : (step : Step) (event : ℕ) (sent : List Sent) (lines : List Text) → Quiet w step event sent lines → (new : List Sent) × (sent ≡ w.sent ++ new)
-  quiet-sent _ _ _ _ (client_repeats c) = (sent_now (again_row (w.clients c)), refl)
-  quiet-sent _ _ _ _ (server_repeats s m e) = (server_again m (stable (w.found s)), refl)
-  quiet-sent _ _ _ _ is = ([], sym (append-nil w.sent))
-
-  by-case : (step : Step) (now : World) → StepCase w step now → Grows w now
-  by-case step _ (client_row _ c t sent lines row) = let new = client-sent step c t sent lines row in record { new = new.0; sent = new.1 }
-  by-case step _ (row_done _ s m k row e is) = record { new = row.messages; sent = refl }
-  by-case step _ (quietly _ event sent lines is) = let new = quiet-sent step event sent lines is in record { new = new.0; sent = new.1 }
-  by-case _ _ is = record { new = []; sent = sym (append-nil w.sent) }
-
-  pub grows : (step : Step) → Grows w (after step w)
-  grows step = by-case step (after step w) (step-case w step)
 
 -- ---- runs
 

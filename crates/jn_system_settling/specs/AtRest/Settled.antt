@@ -19,8 +19,8 @@ use Rattle.jn_rows.specs.declared.coordinator.Stage.TheVariants.{Open, Voting}
 use Rattle.jn_rows.specs.Worker.{work_at}
 use Rattle.jn_rows.specs.Coordinator.{transaction_at}
 use Rattle.jn_system.specs.WholeSystem.World.{World, Memory}
-use Rattle.jn_system_settling.specs.Settling.Course.{Course}
-use Rattle.jn_system_settling.specs.Settling.Settle.{Chance, settled}
+use Rattle.jn_system.specs.WholeSystem.Course.{Course}
+use Rattle.jn_system.specs.WholeSystem.Settle.{Chance, settled}
 use Rattle.jn_system_settling.specs.Settling.Bounds.{NothingGoes}
 
 abbrev pub AreUp : ℕ → World → Type 0

@@ -11,8 +11,8 @@ use Rattle.jn_system.specs.SmallSteps.Order.{CommitsOnce}
 use Rattle.jn_system.specs.WholeSystem.World.{World, Memory, commits_in, servers_from}
 use Rattle.jn_system.specs.WholeSystem.Steps.{Step, Crash, Narrow, Restart, Dismiss, CloseClients}
 use Rattle.jn_system_order.specs.Mirroring.Mirrors.{commits_of}
-use Rattle.jn_system_settling.specs.Settling.Course.{Course, go_on}
-use Rattle.jn_system_settling.specs.Settling.Settle.{Chance, settled}
+use Rattle.jn_system.specs.WholeSystem.Course.{Course, go_on}
+use Rattle.jn_system.specs.WholeSystem.Settle.{Chance, settled}
 use Rattle.jn_system_settling.specs.AtRest.Settled.{AreUp}
 
 -- ---- the end

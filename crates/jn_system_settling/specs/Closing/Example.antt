@@ -4,8 +4,8 @@ use Rattle.jn_base.specs.declared.names.ServerNo.{ServerNo}
 use Rattle.jn_order.specs.Files.{no_files}
 use Rattle.jn_system.specs.WholeSystem.Steps.{Step, StopDelivery}
 use Rattle.jn_system.specs.WholeSystem.Example.{the_transaction, the_work, much, to_the_vote}
-use Rattle.jn_system_settling.specs.Settling.Course.{Course, opening_course, go_on}
-use Rattle.jn_system_settling.specs.Settling.Settle.{settled}
+use Rattle.jn_system.specs.WholeSystem.Course.{Course, opening_course, go_on}
+use Rattle.jn_system.specs.WholeSystem.Settle.{settled}
 use Rattle.jn_system_settling.specs.Settling.Rows.{calm, enough}
 use Rattle.jn_system_settling.specs.Closing.Ending.{Start, ended}
 

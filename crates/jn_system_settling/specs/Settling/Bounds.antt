@@ -2,8 +2,8 @@
 use Rattle.std.specs.Prelude.{◌≡◌, ◌≤◌, ◌<◌, ℕ, ◌+◌, ◌*◌, false, List, [], ◌∷◌, length, Some, None}
 use Rattle.jn_system.specs.WholeSystem.World.{World, Memory, servers_from}
 use Rattle.jn_system.specs.WholeSystem.Steps.{Step, Deliver, StopDelivery, run, IsRun}
-use Rattle.jn_system_settling.specs.Settling.Course.{Course}
-use Rattle.jn_system_settling.specs.Settling.Settle.{Chance, Chances, first_busy, settled}
+use Rattle.jn_system.specs.WholeSystem.Course.{Course}
+use Rattle.jn_system.specs.WholeSystem.Settle.{Chance, Chances, first_busy, settled}
 use Rattle.jn_system_settling.specs.Settling.Weights.{going_works}
 use Rattle.jn_base.specs.declared.names.ServerNo.{ServerNo}
 use Rattle.jn_rows.specs.Stable.{Pick, is_going}

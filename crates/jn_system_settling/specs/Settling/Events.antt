@@ -5,8 +5,8 @@ use Rattle.jn_report.specs.declared.line.Line.{Line}
 use Rattle.jn_report.specs.declared.line.When.TheVariants as when
 use Rattle.jn_system.specs.WholeSystem.World.{World}
 use Rattle.jn_system.specs.WholeSystem.Steps.{Step, NextEvent, IsRun}
-use Rattle.jn_system_settling.specs.Settling.Course.{Course, go_on}
-use Rattle.jn_system_settling.specs.Settling.Settle.{Chances, settled}
+use Rattle.jn_system.specs.WholeSystem.Course.{Course, go_on}
+use Rattle.jn_system.specs.WholeSystem.Settle.{Chances, settled}
 
 pub data Event : Type 0 where
   -- these steps, none for a fault that waits for its call

@@ -5,7 +5,8 @@ use Rattle.jn_base.specs.declared.names.Cause.TheVariants.{Requested, Lost, Brok
 use Rattle.jn_report.specs.declared.line.Refusal.TheVariants.{NoFile}
 use Rattle.jn_report.specs.declared.line.Text.TheVariants as says
 use Rattle.jn_system_settling.specs.Settling.Events.{line}
-use Rattle.jn_system_settling.specs.Settling.Rows.{s0, s1, c1, c2, tid, file, block, padded}
+use Rattle.jn_system_settling.specs.Settling.Rows.{padded}
+use Rattle.jn_system.specs.WholeSystem.ExampleNames.{s0, s1, c1, c2, tid, file, block}
 use Rattle.jn_report.specs.declared.line.Line.{Line}
 
 abbrev pub one_client_writes_report : List Line

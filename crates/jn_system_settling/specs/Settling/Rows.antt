@@ -2,8 +2,6 @@
 use Rattle.std.specs.Prelude.{ℕ, ◌-◌, Bool, true, false, nat_eq, if◌then◌else◌, List, [], ◌∷◌, ◌++◌, replicate, length, filter, Some, None}
 use Rattle.jn_base.specs.declared.names.ServerNo.{ServerNo}
 use Rattle.jn_base.specs.declared.names.ClientNo.{ClientNo}
-use Rattle.jn_base.specs.declared.names.FileNo.{FileNo}
-use Rattle.jn_base.specs.declared.names.BlockNo.{BlockNo}
 use Rattle.jn_base.specs.declared.names.Tid.{Tid}
 use Rattle.jn_base.specs.declared.names.WorkId.{WorkId}
 use Rattle.jn_base.specs.declared.op.Op.TheVariants as ops
@@ -16,32 +14,12 @@ use Rattle.jn_report.specs.declared.line.Text.TheVariants as says
 use Rattle.jn_rows.specs.Stable.{Pick}
 use Rattle.jn_system.specs.WholeSystem.Servers.{Room}
 use Rattle.jn_system.specs.WholeSystem.Steps.{Tell, Again, Restart, Timeout}
-use Rattle.jn_system_settling.specs.Settling.Course.{opening_course, Course}
-use Rattle.jn_system_settling.specs.Settling.Settle.{Chance}
+use Rattle.jn_system.specs.WholeSystem.Course.{opening_course, Course}
+use Rattle.jn_system.specs.WholeSystem.Settle.{Chance}
 use Rattle.jn_system_settling.specs.Settling.Events.{Event, Does, Settles, Told, told_by}
+use Rattle.jn_system.specs.WholeSystem.ExampleNames.{s0, s1, c1, c2, tid, file, block, the_work, half_made}
 
 -- ---- names
-
-abbrev pub s0 : ServerNo
-s0 = record { 0 = 0 }
-
-abbrev pub s1 : ServerNo
-s1 = record { 0 = 1 }
-
-abbrev pub c1 : ClientNo
-c1 = record { 0 = 1 }
-
-abbrev pub c2 : ClientNo
-c2 = record { 0 = 2 }
-
-abbrev pub tid : ServerNo → ℕ → Tid
-tid s ticket = record { server = s; epoch = 1; ticket = ticket }
-
-abbrev pub file : ℕ → FileNo
-file n = record { 0 = n }
-
-abbrev pub block : ℕ → BlockNo
-block n = record { 0 = n }
 
 -- the bytes of a block, with zeros behind these
 abbrev pub padded : List ℕ → List ℕ
@@ -138,16 +116,9 @@ abbrev pub made_apart : List Event → List Event
 made_apart events =
     then_settle c1 (Begin s1) (then_settle c1 (Open s0) (then_settle c1 (Do s0 (ops.Create (file 7))) (no_event ∷ tells c1 End ∷ events)))
 
--- each pick that reads the first half of page 3 finds the change at which the server was stopped
-abbrev pub half_made : Pick → ℕ
-half_made c = if c 3 then 1 else 0
-
 -- While that half is bad a restart reads the other one, and doesn't find it. A decay and a revival change nothing that is kept.
 abbrev pub restarts_without : ServerNo → List WorkId → List Tid → Event
 restarts_without s works tids = restarts_by (λ n. false) s works tids
-
-abbrev pub the_work : WorkId
-the_work = record { server = s0; epoch = 1; ticket = 0 }
 
 abbrev pub half_prepared : List Event
 half_prepared = made_apart (settle_with_stop 1 half_made ∷ restarts s0 (the_work ∷ []) [] ∷ settle ∷ [])

@@ -1,31 +1,22 @@
 -- What holds of the sizes of tables and messages between any two steps.
-use Rattle.std.specs.Prelude.{◌≡◌, ◌≤◌, ℕ, Bool, true, false, not, nat_lt, ◌&&◌, if◌then◌else◌, List, [], ◌∷◌, length, Option, Some, None, is_some, All}
+use Rattle.std.specs.Prelude.{◌≡◌, ◌≤◌, ℕ, Bool, true, false, ◌&&◌, if◌then◌else◌, List, [], ◌∷◌, length, Option, Some, None, is_some, All}
 use Rattle.std.specs.List.{list_any}
 use Rattle.jn_base.specs.declared.names.ClientNo.{ClientNo}
 use Rattle.jn_base.specs.declared.names.ServerNo.{ServerNo}
 use Rattle.jn_base.specs.declared.names.Tid.{Tid}
-use Rattle.jn_base.specs.declared.names.WorkId.{WorkId}
 use Rattle.jn_base.specs.Names.{tid_eq, work_eq}
 use Rattle.jn_msgs.specs.declared.message.Message.{Message}
 use Rattle.jn_msgs.specs.declared.message.Message.TheVariants.{End, Abort}
 use Rattle.jn_rows.specs.declared.client.Outstanding.{Outstanding}
 use Rattle.jn_rows.specs.declared.coordinator.Transaction.{Transaction}
 use Rattle.jn_rows.specs.declared.coordinator.Stage.{Stage}
-use Rattle.jn_rows.specs.declared.coordinator.Stage.TheVariants.{Voting, Committed}
+use Rattle.jn_rows.specs.declared.coordinator.Stage.TheVariants.{Committed}
 use Rattle.jn_rows.specs.Client.{ClientTable}
 use Rattle.jn_rows.specs.ClientLaws.{IsClient}
 use Rattle.jn_rows.specs.Outcomes.{Sent}
 use Rattle.jn_rows.specs.Stable.{StableState, FlagState, Pick, stable}
 use Rattle.jn_system.specs.WholeSystem.World.{World, Memory}
-
--- each at one of so many servers
-abbrev pub are_near : ℕ → List WorkId → Bool
-are_near servers [] = true
-are_near servers (W ∷ works) = nat_lt W.server.0 servers && are_near servers works
-
--- no more works than there are servers, at these
-abbrev pub is_few : ℕ → List WorkId → Bool
-is_few servers works = not (nat_lt servers (length works)) && are_near servers works
+use Rattle.jn_system.specs.WholeSystem.Near.{is_few, is_small_stage}
 
 -- ---- messages and clients
 
@@ -47,11 +38,6 @@ pub record ClientSizes (servers : ℕ) (t : ClientTable) : Type 0 where
   pub again : sends_small servers t.outstanding ≡ true
 
 -- ---- a coordinator's transactions
-
-abbrev pub is_small_stage : ℕ → Stage → Bool
-is_small_stage servers (Voting b) = is_few servers b.works
-is_small_stage servers (Committed d) = is_few servers d.works
-is_small_stage servers stage = true
 
 abbrev pub are_small_stages : ℕ → List Transaction → Bool
 are_small_stages servers [] = true

@@ -8,7 +8,7 @@ use Rattle.jn_rows.specs.Stable.{Prepared, StableState, is_going, stable}
 use Rattle.jn_rows.specs.Outcomes.{Sent}
 use Rattle.jn_rows.specs.Worker.{WorkerTable}
 use Rattle.jn_system.specs.WholeSystem.World.{World, Memory}
-use Rattle.jn_system_settling.specs.Settling.Course.{Course}
+use Rattle.jn_system.specs.WholeSystem.Course.{Course}
 
 -- an end leads to eight prepares, a prepare to a vote, a vote to eight commits and an outcome, a commit to a going work,
 -- which leads to a Done; an abort and an end may lead to drops too

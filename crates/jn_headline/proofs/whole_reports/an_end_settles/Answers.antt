@@ -3,7 +3,7 @@ use Rattle.jn_locks.specs.Locks.{work_before}
 use Rattle.jn_system.specs.WholeSystem.Example.{the_server, the_file, the_transaction, the_work, much, start}
 use Rattle.jn_system_reports.specs.Showing.Example.{a_commit_is_named}
 use Rattle.jn_headline.specs.WholeReports.Example.{an_end_that_settles}
-use Rattle.jn_system_settling.specs.Settling.Settle.{Chance}
+use Rattle.jn_system.specs.WholeSystem.Settle.{Chance}
 use Rattle.jn_system_reports.proofs.Showing.Examples.{memory_in, is-up, once_there, no_block}
 use Rattle.jn_headline.proofs.whole_reports.an_end_settles.Goals as goal
 

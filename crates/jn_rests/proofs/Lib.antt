@@ -1,5 +1,0 @@
-mod Common
-pub mod Loops
-pub mod Bounded
-pub mod Numbers
-pub mod BusyServers
