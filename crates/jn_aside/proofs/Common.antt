@@ -6,8 +6,9 @@ pub use Rattle.jn_schedule.specs.declared.Event.{Event}
 pub use Rattle.jn_report.specs.declared.line.When.TheVariants.{Event as AtEvent, End}
 pub use Rattle.jn_report.specs.declared.line.Text.{Text}
 pub use Rattle.jn_report.specs.declared.line.Line.{Line}
-pub use Rattle.jn_serial.specs.Lines.{when_eq, lines_at, count_lines, is_before, says as says_it, lines_before, commit_in, history_of, event_at}
-pub use Rattle.jn_serial.specs.Follows.{Outstanding, nothing_asked, with_asked, answer_in, fits, after_answer, AllFit, after_answers, refuses_own, after_event, own_in_place, AllOwnInPlace, is_own_refusal, FollowsEvent, after_one, FollowsFrom, is_answer, IsOfEvent, AllOfEvents, Follows, is_last, fits_asked}
+pub use Rattle.jn_serial.specs.Lines.{when_eq, lines_at, count_lines, is_before, says as says_it, lines_before, history_of, event_at}
+pub use Rattle.jn_serial.specs.Follows.{Outstanding, nothing_asked, with_asked, fits, after_answer, AllFit, after_answers, refuses_own, after_event, own_in_place, AllOwnInPlace, FollowsEvent, after_one, FollowsFrom, IsOfEvent, AllOfEvents, Follows, is_last, fits_asked}
+pub use Rattle.jn_report.specs.Kinds.{answer_in, is_own_refusal, is_answer, begins, goes_down, breaks, refuses_event, stops, refuses_fault, commit_in, is_no_show, is_locked}
 pub use Rattle.jn_aside.specs.Aside.{is_aside, plain, is_show}
 pub use Rattle.jn_base.specs.declared.names.ServerNo.{ServerNo}
 pub use Rattle.jn_base.specs.declared.names.ClientNo.{ClientNo}
@@ -18,4 +19,4 @@ pub use Rattle.jn_serial.specs.Begun.{is_in, begun_after, begun_then, is_tid}
 pub use Rattle.jn_order.specs.Files.{AllFiles}
 pub use Rattle.jn_serial.specs.Order.{answer_told, first_told, performed, op_in, ops_from, ops_of, replay, AgreesFrom, Agrees}
 pub use Rattle.jn_order.specs.Changes.{or_also}
-pub use Rattle.jn_serial.specs.Shown.{IsAsIn, AllAsIn, prints_file, accounts_file, accounts_block, ShowsFiles, is_no_show, is_locked, ShownSoFar, ShownAtEnd}
+pub use Rattle.jn_serial.specs.Shown.{IsAsIn, AllAsIn, prints_file, accounts_file, accounts_block, ShowsFiles, ShownSoFar, ShownAtEnd}

@@ -1,4 +1,4 @@
--- One more event, of which no line tells.
+-- One more event, that no line reports.
 use Rattle.jn_aside.proofs.Common.{◌≡◌, ◌⊎◌, inl, inr, ℕ, zero, suc, ◌+◌, ◌<◌, ◌≤◌, Bool, true, false, nat_eq, ◌&&◌, if◌then◌else◌, List, [], ◌∷◌, ◌++◌, append-nil, length, Option, Some, None, refl, sym, ◌∙◌, ap, subst, arith, cases_Bool, ServerNo, ClientNo, Tid, client_eq, AllFiles, Event, When, AtEvent, End, Text, Line, when_eq, lines_at, lines_before, event_at, says_it, history_of, is_in, answer_told, or_also, first_told, performed, op_in, ops_from, ops_of, Agrees, ShowsFiles, ShownSoFar, Outstanding, nothing_asked, with_asked, answer_in, is_last, fits_asked, fits, after_answer, AllFit, after_answers, refuses_own, after_event, FollowsEvent, after_one, FollowsFrom, is_answer, IsOfEvent, AllOfEvents, Follows, is_show}
 use Rattle.std.proofs.lemmas.Bool.Decides.{nat_tests}
 use Rattle.jn_base.specs.declared.op.Answer.{Answer}
@@ -8,7 +8,7 @@ use Rattle.jn_schedule.specs.declared.Event.TheVariants as events
 use Rattle.jn_report.specs.declared.line.Refusal.TheVariants as refusals
 use Rattle.jn_report.specs.declared.line.Text.TheVariants as says
 use Rattle.jn_serial.specs.declared.following.Asked.{Asked}
-use Rattle.jn_serial.specs.declared.following.Addressed.{Addressed}
+use Rattle.jn_report.specs.declared.kinds.Addressed.{Addressed}
 use Rattle.jn_serial.proofs.Growth.{outstanding_after, follows-more}
 use Rattle.jn_serial.proofs.Ops.{DidTheSame, replay-by_ops, AgreesFrom-by_ops}
 

@@ -1,4 +1,4 @@
-//! Lines that tell of a server that came up, or of a message that was sent, change nothing of what a report promises: where two
+//! Lines that report a server that came up, or a message that was sent, change nothing of what a report promises: where two
 //! reports are one but for such lines, wherever these stand, each promise holds of both or of neither.
 #![tactic(auto)]
 
@@ -27,7 +27,7 @@ pub fn files_are_shown_aside()
     ensures at_end { (files : AllFiles) (events : List Event) (a b : List Line) → plain a ≡ plain b → ShownAtEnd files events a → ShownAtEnd files events b }
 {}
 
-/// Each acknowledged commit is named once, before, and none that is told aborted or broken is named.
+/// Each acknowledged commit is named once, before, and none that is reported aborted or broken is named.
 pub fn outcomes_are_told_aside()
     ensures { (a b : List Line) → plain a ≡ plain b → Told a → Told b }
 {}
@@ -48,7 +48,7 @@ pub fn parts_are_plain()
     ensures aside { (lines : List Line) → list_all (λ (l : Line). is_aside l.text) lines ≡ true → plain lines ≡ [] }
 {}
 
-/// With one more event, that is no show and of which no line tells, as it may be where a run is cut off in its last event, each
+/// With one more event, that is no show and that no line reports, as it may be where a run is cut off in its last event, each
 /// promise still holds.
 pub fn a_silent_event_changes_nothing()
     ensures agrees { (files : AllFiles) (events : List Event) (e : Event) (lines : List Line) → Follows events lines → Agrees files events lines → Agrees files (events ++ e ∷ []) lines }

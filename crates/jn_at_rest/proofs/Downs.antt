@@ -1,4 +1,4 @@
--- The world in which a run begins, with all its servers down, is the opening with all servers up once each has crashed, but for the lines that tell of it.
+-- The world in which a run begins, with all its servers down, is the opening with all servers up once each has crashed, but for the lines that report it.
 use Rattle.jn_at_rest.proofs.Common.{◌≡◌, ◌≢◌, ◌⊎◌, inl, inr, ℕ, zero, suc, ◌+◌, Bool, true, false, List, [], ◌∷◌, ◌++◌, append_assoc, append-nil, length, drop, Option, Some, None, refl, sym, ◌∙◌, ap, arith, if◌then◌else◌, nat_lt, map, ServerNo, server_eq, server_tells, AllFiles, Text, World, Memory, opening, new_memory, servers_from, at_server, commits_in, Step, Crash, IsRun, after, crash, Course, opening_course, go, go_on, numbered, closed_world}
 use Rattle.std.proofs.Math.Path.{fun_ext}
 use Rattle.std.proofs.lemmas.Bool.Decides.{nat_tests}

@@ -1,5 +1,5 @@
 -- The end of a whole run settles: all servers are up in it.
-use Rattle.jn_at_rest.proofs.Common.{refl, is_some, true≢false, AllByRecursion, list_all, ◌≡◌, ◌⊎◌, inl, inr, ◌≤◌, ℕ, true, List, [], ◌∷◌, ◌++◌, map, Option, Some, None, sym, ◌∙◌, ap, ServerNo, Event, Pick, World, Memory, Course, go_on, AreUp, on-world, Setup, Chance, Task, Acts, CountsCommits, Stage, State, begun, next_at, Devices, deed_of, servers_of, printing, none, more, Moment, DoesStep, Leads, GoesOn, IsCut, does, Line, stopped_idle, InSchedule, AtEnd, CutShort, before, IsWhole, SettlesAtEnd}
+use Rattle.jn_at_rest.proofs.Common.{refl, is_some, true≢false, AllByRecursion, list_all, ◌≡◌, ◌⊎◌, inl, inr, ◌≤◌, true, List, [], ◌∷◌, ◌++◌, map, Option, Some, None, sym, ◌∙◌, ap, ServerNo, Event, Pick, World, Memory, Course, go_on, AreUp, on-world, Setup, Chance, Task, Acts, CountsCommits, Stage, State, begun, next_at, Devices, deed_of, servers_of, printing, none, more, Moment, DoesStep, Leads, GoesOn, IsCut, does, Line, stopped_idle, InSchedule, AtEnd, CutShort, before, IsWhole, SettlesAtEnd, Left}
 use Rattle.jn_schedule.specs.declared.Event.TheVariants as events
 use Rattle.jn_schedule.specs.Ranges.{EventInRange}
 use Rattle.jn_between.proofs.Ended.{at-the-end}
@@ -32,7 +32,7 @@ prints-in : (servers : List ServerNo) → AllInEnd (printing servers ++ CountsCo
 prints-in servers = both-in (printing servers) (CountsCommits ∷ []) (both-in (map (λ (q : ServerNo). Acts (events.Show q)) servers) (map (λ (q : ServerNo). Acts (events.Scrub q)) servers) (shows-in servers) (scrubs-in servers)) (a_count, tt)
 
 module _ (x : Setup) where
-  idle-starts : (q : ServerNo) (stop : Option (Pick → ℕ)) → list_all starts_none (stopped_idle q stop) ≡ true
+  idle-starts : (q : ServerNo) (stop : Option (Pick → Left)) → list_all starts_none (stopped_idle q stop) ≡ true
   idle-starts q None = refl
   idle-starts q (Some made) = refl
 

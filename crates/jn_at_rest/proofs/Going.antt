@@ -1,5 +1,5 @@
 -- The tasks of a settle one after another: what comes between two of them, and that a server that is down stays down.
-use Rattle.jn_at_rest.proofs.Common.{◌≡◌, ◌⊎◌, inl, inr, ℕ, suc, ◌+◌, ◌<◌, Bool, true, false, List, [], ◌∷◌, ◌++◌, append_assoc, length, length-append, Option, Some, None, is_some, true≢false, refl, sym, ◌∙◌, ap, subst, arith, ◌&&◌, if◌then◌else◌, slice_get, list_all, ServerNo, ClientNo, Client, Server, Sent, Pick, Event, World, Memory, at_server, Step, Restart, after, run, handing, working, Room, server_timeout, Course, go_on, AreUp, on-world, Setup, Chance, Task, Acts, Rests, CutShort, State, begun, room, nothing, served, delivered, delivered_at, is_busy, working_steps, deed_of, resting, next_event, first_busy, next_in, servers_of, none, more, Steps, Moment, DoesStep, DoesEarlier, GoesOn, IsCut, does, stays, longer, forget, step_calls}
+use Rattle.jn_at_rest.proofs.Common.{◌≡◌, ◌⊎◌, inl, inr, ℕ, suc, ◌+◌, ◌<◌, Bool, true, false, List, [], ◌∷◌, ◌++◌, append_assoc, length, length-append, Option, Some, None, is_some, true≢false, refl, sym, ◌∙◌, ap, subst, arith, ◌&&◌, if◌then◌else◌, slice_get, list_all, ServerNo, ClientNo, Client, Server, Sent, Pick, Event, World, Memory, at_server, Step, Restart, after, run, handing, working, Room, server_timeout, Course, go_on, AreUp, on-world, Setup, Chance, Task, Acts, Rests, CutShort, State, begun, room, nothing, served, delivered, delivered_at, is_busy, working_steps, deed_of, resting, next_event, first_busy, next_in, servers_of, none, more, Steps, Moment, DoesStep, DoesEarlier, GoesOn, IsCut, does, stays, longer, forget, step_calls, Left}
 use Rattle.jn_schedule.specs.declared.Event.TheVariants as events
 use Rattle.jn_system.proofs.WholeSystem.OneChange.{one-server}
 use Rattle.jn_system.proofs.WholeSystem.StepCases.{StepCase, row_done, row_stopped, gone_late, gone_down, come_up, step-case}
@@ -59,11 +59,11 @@ down-run q (step ∷ steps) w h down = down-run q steps (after step w) (second (
 
 module _ (x : Setup) where
   module _ (h : Chance) (w : World) where
-    handing-starts : (k : ℕ) (r : Room) (stop : Option (Pick → ℕ)) → starts_none (handing k r stop) ≡ true
+    handing-starts : (k : ℕ) (r : Room) (stop : Option (Pick → Left)) → starts_none (handing k r stop) ≡ true
     handing-starts k r None = refl
     handing-starts k r (Some made) = refl
 
-    working-starts : (q : ServerNo) (r : Room) (stop : Option (Pick → ℕ)) → starts_none (working q r stop) ≡ true
+    working-starts : (q : ServerNo) (r : Room) (stop : Option (Pick → Left)) → starts_none (working q r stop) ≡ true
     working-starts q r None = refl
     working-starts q r (Some made) = refl
 

@@ -1,6 +1,6 @@
 -- A course with lines before its own goes as it does without them.
 use Rattle.jn_at_rest.proofs.Common.{◌≡◌, ℕ, List, [], ◌∷◌, ◌++◌, length, drop, sym, ◌∙◌, ap, subst, Text, World, commits_in, Step, Restart, CloseClients, IsStep, IsRun, after, Course, go, go_on, numbered, newly_sent, still_waiting, behind}
-use Rattle.jn_retold.proofs.Behind.{step-behind}
+use Rattle.jn_machine_refines.proofs.Behind.{step-behind}
 
 -- the second course is the first one, with these lines before its own, but for the steps so far
 pub record IsLined (texts : List Text) (c d : Course) : Type 0 where

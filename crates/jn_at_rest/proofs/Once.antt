@@ -4,7 +4,7 @@ use Rattle.jn_report.specs.declared.line.EventRefusal.{EventRefusal}
 use Rattle.jn_report.specs.declared.line.EventRefusal.TheVariants.{EpochsUsedUp}
 use Rattle.jn_report.specs.declared.line.Text.TheVariants as says
 use Rattle.jn_schedule.specs.declared.Event.TheVariants as events
-use Rattle.jn_written.specs.Refusals.{refusal_of}
+use Rattle.jn_machine.specs.Refusals.{refusal_of}
 use Rattle.jn_at_rest.proofs.Going.{InSettle, a_rest, a_client, a_server, AllInSettle, all-both}
 use Rattle.jn_at_rest.proofs.Asking.{asking-in}
 

@@ -1,8 +1,8 @@
 -- A rest of a settle: its steps, but for erasures, are each what comes next, and where all servers are up at its end none is stopped while it erases.
-use Rattle.jn_at_rest.proofs.Common.{◌≡◌, ◌≢◌, ◌⊎◌, inl, inr, ℕ, suc, ◌+◌, ◌<◌, ◌≤◌, Bool, true, false, List, [], ◌∷◌, ◌++◌, append-nil, length, drop, Option, Some, None, is_some, true≢false, refl, sym, ◌∙◌, ap, subst, arith, ◌&&◌, ◌||◌, if◌then◌else◌, slice_get, drop-length, ServerNo, Client, Server, server_eq, server_tells, Text, RowOutcome, Sent, Pick, stable, World, Memory, servers_from, commits_in, Room, server_step, Step, Deliver, Work, StopWork, after, work, works, handing, working, Course, go, go_on, numbered, still_waiting, newly_sent, has_going, first_going, next_step, AreUp, ComesNext, AreNext, ComeToRest, in-turn, Setup, Chance, Task, Rests, CutShort, Deed, room, no_room, nothing, served, delivered, delivered_at, is_busy_with, worked, working_steps, Befalls, pages_of, rubbish_on, deed_of, first_busy, next_event, resting, none, more, Steps, Moment, behind, DoesEarlier, GoesOn, IsCut, does, its-task, step_calls}
+use Rattle.jn_at_rest.proofs.Common.{◌≡◌, ◌≢◌, ◌⊎◌, inl, inr, ℕ, suc, ◌+◌, ◌<◌, ◌≤◌, Bool, true, false, List, [], ◌∷◌, ◌++◌, append-nil, length, drop, Option, Some, None, is_some, true≢false, refl, sym, ◌∙◌, ap, subst, arith, ◌&&◌, ◌||◌, if◌then◌else◌, slice_get, drop-length, ServerNo, Client, Server, server_eq, server_tells, Text, RowOutcome, Sent, Pick, stable, World, Memory, servers_from, commits_in, Room, server_step, Step, Deliver, Work, StopWork, after, work, works, handing, working, Course, go, go_on, numbered, still_waiting, newly_sent, has_going, first_going, next_step, AreUp, ComesNext, AreNext, ComeToRest, in-turn, Setup, Chance, Task, Rests, CutShort, Deed, room, no_room, nothing, served, delivered, delivered_at, is_busy_with, worked, working_steps, Befalls, pages_of, rubbish_on, deed_of, first_busy, next_event, resting, none, more, Steps, Moment, behind, DoesEarlier, GoesOn, IsCut, does, its-task, step_calls, Left}
 use Rattle.jn_device.specs.Device.{DeviceState}
 use Rattle.jn_server.specs.Standing.{has_rubbish}
-use Rattle.jn_found.specs.Pages.{pool_on}
+use Rattle.jn_page_state.specs.Pages.{pool_on}
 use Rattle.jn_system.proofs.WholeSystem.BusyServers.{nothing as nothing-left, first-is, first-none}
 use Rattle.jn_headline.proofs.Came.{on-append}
 use Rattle.jn_headline.proofs.Busy.{IsFirst, first-busy-is, none-busy, idle-goes-not, erases}
@@ -15,7 +15,7 @@ busy-with : (w : World) (q : ServerNo) (memory : Memory) (rubbish : Bool) → w.
 busy-with w q memory rubbish is_up busy = subst (λ (o : Option Memory). is_busy_with (stable (w.found q)) o rubbish ≡ true) is_up busy
 
 -- a stop takes it down where it has rubbish
-taken-down : (w : World) (q : ServerNo) (memory : Memory) (r : Room) (made : Pick → ℕ) → w.memory q ≡ Some memory → is_busy_with (stable (w.found q)) (Some memory) r.rubbish ≡ true → has_going (stable (w.found q)) (Some memory) ≡ false
+taken-down : (w : World) (q : ServerNo) (memory : Memory) (r : Room) (made : Pick → Left) → w.memory q ≡ Some memory → is_busy_with (stable (w.found q)) (Some memory) r.rubbish ≡ true → has_going (stable (w.found q)) (Some memory) ≡ false
     → (after (StopWork q r made) w).memory q ≡ None
 taken-down w q memory r made is_up busy idle = ap (λ (o : Option Memory). (work q r (Some made) o w).memory q) is_up ∙ at (server_step memory (stable (w.found q)) r) refl
   where
@@ -77,7 +77,7 @@ module _ (x : Setup) (texts : List Text) (mute : commits_in texts ≡ []) (d : C
     -- ---- a message is handed over
 
     module _ (k : ℕ) (ks : List ℕ) (waits : m.state.course.waiting ≡ k ∷ ks) where
-      comes : (r : Room) (stop : Option (Pick → ℕ)) → ComesNext (servers_from 0 x.servers) here (handing k r stop)
+      comes : (r : Room) (stop : Option (Pick → Left)) → ComesNext (servers_from 0 x.servers) here (handing k r stop)
       comes r stop = record { chance = record { room = r; stop = stop }; is_next = ap (λ (js : List ℕ). next_step (record { room = r; stop = stop }) js (first_going here.world (servers_from 0 x.servers))) (lined.waiting ∙ waits) }
 
       handed : (q : ServerNo) (o : Option Memory) → Does (on (delivered_at h k q o)) → Rested e
@@ -119,7 +119,7 @@ module _ (x : Setup) (texts : List Text) (mute : commits_in texts ≡ []) (d : C
           }
 
           -- nothing goes, so a rubbish record is erased
-          erased : (memory : Memory) → w.memory q ≡ Some memory → has_going (stable (w.found q)) (Some memory) ≡ false → (stop : Option (Pick → ℕ)) → c.state.course ≡ go (working q (room h q) stop) m.state.course → Rested e
+          erased : (memory : Memory) → w.memory q ≡ Some memory → has_going (stable (w.found q)) (Some memory) ≡ false → (stop : Option (Pick → Left)) → c.state.course ≡ go (working q (room h q) stop) m.state.course → Rested e
           erased memory is_up idle None course = stays-on (subst (λ (k : Course). IsLined texts k here) (sym course)
               (unmoved (Work q (room h q)) m.state.course here refl (erases w q memory (room h q) is_up (busy-with w q memory (h.rubbish q) is_up is.busy) idle) lined)) its.0
           erased memory is_up idle (Some made) course = absurd (true≢false (sym (up-before x rest (Rests ∷ []) c e its.0 (a_rest, tt) left up q below) ∙ ap (λ (k : Course). is_some (k.world.memory q)) course

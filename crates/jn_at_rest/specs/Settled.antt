@@ -7,11 +7,11 @@ use Rattle.jn_report.specs.declared.line.Text.{Text}
 use Rattle.jn_schedule.specs.declared.Event.{Event}
 use Rattle.jn_schedule.specs.declared.Event.TheVariants as events
 use Rattle.jn_system_settling.specs.AtRest.Settled.{AreUp, told_since, IsSettled}
-use Rattle.jn_written.specs.Chances.{Setup}
-use Rattle.jn_written.specs.Devices.{rubbish_on}
-use Rattle.jn_written.specs.Events.{servers_of, settling, ending, printing}
-use Rattle.jn_written.specs.Runs.{Moment, Leads}
-use Rattle.jn_written.specs.Tasks.{Task, Begins, Rests, CountsCommits, CutShort, first_of_tasks}
+use Rattle.jn_machine.specs.Chances.{Setup}
+use Rattle.jn_machine.specs.Devices.{rubbish_on}
+use Rattle.jn_machine.specs.Events.{servers_of, settling, ending, printing}
+use Rattle.jn_machine.specs.Runs.{Moment, Leads}
+use Rattle.jn_machine.specs.Tasks.{Task, Begins, Rests, CountsCommits, CutShort, first_of_tasks}
 
 -- the texts of the lines that were added
 abbrev pub texts_since : List Line → List Line → List Text
@@ -25,11 +25,11 @@ pub record ComesThrough (x : Setup) (tasks behind : List Task) (a b : Moment) : 
   pub no_rest : first_of_tasks behind ≡ Some Rests → ⊥
   pub whole : b.state.stage ≡ CutShort → ⊥
 
--- What is left then: no message waits, no work goes, and there is no flag. Each command that a client waits for is an end that was told to wait in this
--- settle, and each live work is of a transaction that its coordinator holds undecided or whose outcome was told in it, or it wasn't live before.
+-- What is left then: no message waits, no work goes, and there is no flag. Each command that a client waits for is an end that was reported to wait in this
+-- settle, and each live work is of a transaction that its coordinator holds undecided or whose outcome was reported in it, or it wasn't live before.
 pub record LeavesSettled (x : Setup) (a b : Moment) : Type 0 where
   pub settled : IsSettled x.servers a.state.course b.state.course
-  -- whatever the system told in this settle is in a line of it
+  -- whatever the system reported in this settle is in a line of it
   pub told : (is : Text → Bool) → list_any is (told_since a.state.course.world b.state.course.world) ≡ true → list_any is (texts_since a.state.lines b.state.lines) ≡ true
   -- and no record on a server's pages is rubbish
   pub rubbish : (q : ServerNo) → q.0 < x.servers → rubbish_on x b.devices q ≡ false

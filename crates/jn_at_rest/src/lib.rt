@@ -10,12 +10,12 @@ ghost use Rattle.jn_schedule.specs.declared.Event.{Event};
 ghost use Rattle.jn_schedule.specs.declared.Event.TheVariants as events;
 ghost use Rattle.jn_schedule.specs.Ranges.{EventInRange};
 ghost use Rattle.jn_system_settling.specs.AtRest.Settled.{AreUp};
-ghost use Rattle.jn_written.specs.Chances.{Setup};
-ghost use Rattle.jn_written.specs.Devices.{Devices};
-ghost use Rattle.jn_written.specs.Events.{servers_of, settling, ending, printing};
-ghost use Rattle.jn_written.specs.Runs.{Moment};
-ghost use Rattle.jn_written.specs.Tasks.{Task, Begins, Meets, Rests, CountsCommits, first_of_tasks};
-ghost use Rattle.jn_written.specs.Whole.{before, IsWritten, IsWhole};
+ghost use Rattle.jn_machine.specs.Chances.{Setup};
+ghost use Rattle.jn_machine.specs.Devices.{Devices};
+ghost use Rattle.jn_machine.specs.Events.{servers_of, settling, ending, printing};
+ghost use Rattle.jn_machine.specs.Runs.{Moment};
+ghost use Rattle.jn_machine.specs.Tasks.{Task, Begins, Meets, Rests, CountsCommits, first_of_tasks};
+ghost use Rattle.jn_machine.specs.Whole.{before, IsWritten, IsWhole};
 
 /// A settle of any run settles where it isn't cut short and all servers are up as it ends, whatever ran before and whatever befalls its devices, for at most 8
 /// servers: as tasks of an event or of the end, and as an event that begins, or that has begun.

@@ -5,10 +5,9 @@ use Rattle.jn_base.specs.declared.names.ServerNo.{ServerNo}
 use Rattle.jn_base.specs.declared.names.ClientNo.{ClientNo}
 use Rattle.jn_base.specs.declared.names.FileNo.{FileNo}
 use Rattle.jn_base.specs.declared.names.BlockNo.{BlockNo}
-use Rattle.jn_base.specs.declared.names.RequestNo.{RequestNo}
 use Rattle.jn_base.specs.declared.names.Tid.{Tid}
 use Rattle.jn_base.specs.declared.names.WorkId.{WorkId}
-use Rattle.jn_base.specs.Names.{server_eq, client_eq, file_eq, block_eq, request_eq, tid_eq, work_eq}
+use Rattle.jn_base.specs.Names.{server_eq, client_eq, file_eq, block_eq, tid_eq, work_eq}
 
 pub server_tells : (a b : ServerNo) → ((server_eq a b ≡ true) × (a ≡ b)) ⊎ ((server_eq a b ≡ false) × (a ≢ b))
 server_tells a b = grind (arith, nat_tests)
@@ -21,9 +20,6 @@ file_tells a b = grind (arith, nat_tests)
 
 pub block_tells : (a b : BlockNo) → ((block_eq a b ≡ true) × (a ≡ b)) ⊎ ((block_eq a b ≡ false) × (a ≢ b))
 block_tells a b = grind (arith, nat_tests)
-
-pub request_tells : (a b : RequestNo) → ((request_eq a b ≡ true) × (a ≡ b)) ⊎ ((request_eq a b ≡ false) × (a ≢ b))
-request_tells a b = grind (arith, nat_tests)
 
 pub tid_tells : (a b : Tid) → ((tid_eq a b ≡ true) × (a ≡ b)) ⊎ ((tid_eq a b ≡ false) × (a ≢ b))
 tid_tells a b = grind (arith, nat_tests)

@@ -5,6 +5,10 @@ use Rattle.std.specs.Prelude.{ℕ}
 abbrev pub most_blocks : ℕ
 most_blocks = 120
 
+-- the blocks whose addresses stand in a head
+abbrev pub head_blocks : ℕ
+head_blocks = 120
+
 -- the live works of a server
 abbrev pub most_works : ℕ
 most_works = 64

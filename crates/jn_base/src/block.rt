@@ -52,6 +52,13 @@ impl BlockContent {
         block
     }
 
+    /// The first bytes, behind which all others are zeros.
+    pub fn first_bytes(&self) -> &[u8]
+        ensures { self.now ≡ result.now ++ replicate (448 - length result.now) 0 }
+    {
+        self.bytes.as_ref().as_slice()
+    }
+
     /// The same bytes once more.
     pub fn copy(&self) -> Result<BlockContent, AllocError>
         ensures { IfOk result (λ content. content ≡ self.now) }

@@ -1,5 +1,11 @@
 //! How much there may be of each thing.
 
+/// The blocks of a file.
+pub const MOST_BLOCKS: u16 = 120;
+
+/// The blocks whose addresses stand in a head.
+pub const HEAD_BLOCKS: usize = 120;
+
 /// The live works of a server.
 pub const MOST_WORKS: usize = 64;
 

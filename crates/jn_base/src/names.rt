@@ -14,7 +14,7 @@ pub struct ClientNo(pub u8);
 #[derive(Clone, Copy, Debug, PartialEq, Eq)]
 pub struct FileNo(pub u32);
 
-/// A block of a file, 0 to 119.
+/// A block of a file, below `MOST_BLOCKS`.
 #[derive(Clone, Copy, Debug, PartialEq, Eq)]
 pub struct BlockNo(pub u16);
 

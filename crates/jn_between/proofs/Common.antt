@@ -17,20 +17,20 @@ pub use Rattle.jn_system.specs.WholeSystem.World.{World, Memory, opening, commit
 pub use Rattle.jn_system_reports.specs.Reporting.Reported.{events_of, steps_of, world_of, IsReported, Item, lines_of}
 pub use Rattle.jn_system.specs.WholeSystem.Course.{go_on}
 pub use Rattle.jn_system_reports.specs.Telling.Agreement.{AreAsTold}
-pub use Rattle.jn_written.specs.Chances.{Setup, Chance, allowed}
-pub use Rattle.jn_written.specs.Devices.{Devices, AreFound, Alone, IsServed, IsLookedOver, IsRecovery, IsUsed, IsScrubbed, IsCalled}
-pub use Rattle.jn_written.specs.Runs.{Moment, none, more, DoesStep, Leads}
-pub use Rattle.jn_written.specs.Tasks.{AtEnd, CutShort, Task, Dismisses, InSchedule, State, begun, Begins, Stage, first_of_tasks}
-pub use Rattle.jn_written.specs.Whole.{before, IsWritten, IsFresh}
-pub use Rattle.jn_retold.specs.Retold.{behind, IsAsIn, IsRetold, IsToldBy, IsRetoldInPart}
-pub use Rattle.jn_retold.proofs.Forms.{as-behind, Between, between, meeting, settling, cut, ended, between-part, meeting-part, amid-part}
-pub use Rattle.jn_retold.proofs.Items.{run-both, is-run-both}
+pub use Rattle.jn_machine.specs.Chances.{Setup, Chance, allowed}
+pub use Rattle.jn_machine.specs.Devices.{Devices, AreFound, Alone, IsServed, IsLookedOver, IsRecovery, IsUsed, IsScrubbed, IsCalled}
+pub use Rattle.jn_machine.specs.Runs.{Moment, none, more, DoesStep, Leads}
+pub use Rattle.jn_machine.specs.Tasks.{AtEnd, CutShort, Task, Dismisses, InSchedule, State, begun, Begins, Stage, first_of_tasks}
+pub use Rattle.jn_machine.specs.Whole.{before, IsWritten, IsFresh}
+pub use Rattle.jn_machine_refines.specs.Retold.{behind, IsAsIn, IsRetold, IsToldBy, IsRetoldInPart}
+pub use Rattle.jn_machine_refines.proofs.Forms.{as-behind, Between, between, meeting, settling, cut, ended, between-part, meeting-part, amid-part}
+pub use Rattle.jn_machine_refines.proofs.Items.{run-both, is-run-both}
 pub use Rattle.jn_headline.proofs.Headline.{whole-run, part-so-far, run-so-far}
 pub use Rattle.jn_between.specs.Between.{IsConsistent, state_on, files_told, IsTrueAtEnd, AreOnPages, IsTrueBetween}
 pub use Rattle.jn_base.specs.Names.{server_eq, tid_eq}
 pub use Rattle.jn_system.specs.WholeSystem.Steps.{Step, IsRun, run, NextEvent, after}
-pub use Rattle.jn_written.specs.Events.{deed_of, ending, dismissing}
-pub use Rattle.jn_written.specs.Steps.{is_too_much, come_to, cut_short}
-pub use Rattle.jn_retold.proofs.Going.{goes-or-cut, go-world, Next, does-next}
+pub use Rattle.jn_machine.specs.Events.{deed_of, ending, dismissing}
+pub use Rattle.jn_machine.specs.Steps.{is_too_much, come_to, cut_short}
+pub use Rattle.jn_machine_refines.proofs.Going.{goes-or-cut, go-world, Next, does-next}
 pub use Rattle.std.specs.Prelude.{◌&&◌, slice_get}
-pub use Rattle.jn_retold.proofs.Behind.{ups-name-none, run-behind}
+pub use Rattle.jn_machine_refines.proofs.Behind.{ups-name-none, run-behind}

@@ -5,9 +5,9 @@ use Rattle.jn_base.proofs.Tells.{server_tells}
 use Rattle.jn_device.specs.Device.{DeviceState}
 use Rattle.jn_device.specs.Events.{powered_off, Decays as PageDecays, Revives as PageRevives, Arms as FaultArmed}
 use Rattle.jn_store.specs.Pairs.{pairs_view}
-use Rattle.jn_written.specs.Deeds.{Use, Nothing, Calls, Reads, Recovers, PowersOff, Decays, Revives, Arms, Disarms, Deed, Cleans}
+use Rattle.jn_machine.specs.Deeds.{Use, Nothing, Calls, Reads, Recovers, PowersOff, Decays, Revives, Arms, Disarms, Deed, Cleans}
 use Rattle.jn_headline.proofs.Came.{stuck}
-use Rattle.jn_written.proofs.Called.{called-store}
+use Rattle.jn_machine.proofs.Called.{called-store}
 
 -- a task is begun in the same world
 same-world : (task : Task) (s : State) → (begun task s).course.world ≡ s.course.world

@@ -8,11 +8,11 @@ use Rattle.jn_system_reports.proofs.BetweenSteps.Dropping.{dropped}
 use Rattle.jn_system_reports.proofs.BetweenSteps.Passing.{reached, unknown}
 use Rattle.jn_system_reports.proofs.BetweenSteps.Lined.{run-lines-stand}
 use Rattle.jn_headline.proofs.CutReports.Cut.{run-true}
-use Rattle.jn_retold.proofs.Besides.{is_settling}
-use Rattle.jn_retold.proofs.Partly.{raised}
-use Rattle.jn_retold.proofs.Seen.{may-run}
-use Rattle.jn_retold.proofs.Starting.{start-part}
-use Rattle.jn_retold.proofs.Whole.{So, starting, held, so-written}
+use Rattle.jn_machine_refines.proofs.Besides.{is_settling}
+use Rattle.jn_machine_refines.proofs.Partly.{raised}
+use Rattle.jn_machine_refines.proofs.Seen.{may-run}
+use Rattle.jn_machine_refines.proofs.Starting.{start-part}
+use Rattle.jn_machine_refines.proofs.Whole.{So, starting, held, so-written}
 use Rattle.jn_headline.specs.Headline.{IsTrueOfBegun}
 use Rattle.jn_headline.proofs.Numbered.{items-begin}
 use Rattle.jn_headline.proofs.SoFar.{true-aside}

@@ -158,7 +158,7 @@ module _ (w v : World) (k : IsAsIn w v) where
     up = λ q m e. subst (λ (f : ServerNo → Pick → StableState). IsUp (f q)) (sym k.found) (h.up q m (k.memory q m e));
   }
 
-  -- ---- what the lines tell
+  -- ---- what the lines report
 
   -- where the lines are the same but for those aside
   pub lines-seen : (files : AllFiles) (events : List Event) (a b : List Line) → plain a ≡ plain b → DoLinesStand files events a w → DoLinesStand files events b v

@@ -16,7 +16,7 @@ use Rattle.jn_serial.specs.Order.{replay}
 use Rattle.jn_rows.specs.Stable.{StableState, Pick, IsUp}
 use Rattle.jn_rows.specs.Worker.{WorkerTable, commit_holder}
 use Rattle.jn_system.specs.SmallSteps.Held.{file_unit}
-use Rattle.jn_found.specs.Pages.{found_on}
+use Rattle.jn_page_state.specs.Pages.{found_on}
 use Rattle.jn_system.specs.WholeSystem.World.{World, Memory}
 use Rattle.jn_system_order.specs.Ordering.Runs.{IsDone}
 use Rattle.jn_system_reports.specs.BetweenSteps.Names.{AreMadeOnce}
@@ -27,9 +27,9 @@ use Rattle.jn_system_reports.specs.BetweenSteps.Drops.{AreOfThePast}
 use Rattle.jn_system_reports.specs.BetweenSteps.Answers.{DoAnswersStand}
 use Rattle.jn_system_reports.specs.BetweenSteps.Lines.{DoLinesStand}
 use Rattle.jn_headline.specs.Headline.{IsOfItsCommits, IsTrueSoFar}
-use Rattle.jn_written.specs.Chances.{Setup}
-use Rattle.jn_written.specs.Devices.{Devices, AreFound}
-use Rattle.jn_written.specs.Runs.{Moment}
+use Rattle.jn_machine.specs.Chances.{Setup}
+use Rattle.jn_machine.specs.Devices.{Devices, AreFound}
+use Rattle.jn_machine.specs.Runs.{Moment}
 
 -- ---- the whole system
 
@@ -68,7 +68,7 @@ pub record AreOnPages (x : Setup) (files : AllFiles) (w : World) (ds : Devices) 
 
 -- ---- between two events
 
--- These events are done, and no other has begun. The report so far is true of them; what its lines tell of works that may yet commit stands
+-- These events are done, and no other has begun. The report so far is true of them; what its lines report of works that may yet commit stands
 -- in the files that the commits so far leave; and so do the pages.
 pub record IsTrueBetween (x : Setup) (files : AllFiles) (done : List Event) (m : Moment) : Type 0 where
   pub number : m.state.course.world.event ≡ length done

@@ -7,12 +7,12 @@ ghost use Rattle.std.specs.List.{AllByRecursion};
 ghost use Rattle.jn_schedule.specs.declared.Event.{Event};
 ghost use Rattle.jn_schedule.specs.Ranges.{EventInRange};
 ghost use Rattle.jn_headline.specs.Headline.{IsTrueOfBegun};
-ghost use Rattle.jn_written.specs.Chances.{Setup};
-ghost use Rattle.jn_written.specs.Devices.{Devices};
-ghost use Rattle.jn_written.specs.Events.{ending};
-ghost use Rattle.jn_written.specs.Runs.{Moment};
-ghost use Rattle.jn_written.specs.Tasks.{Begins, InSchedule, AtEnd};
-ghost use Rattle.jn_written.specs.Whole.{IsWritten};
+ghost use Rattle.jn_machine.specs.Chances.{Setup};
+ghost use Rattle.jn_machine.specs.Devices.{Devices};
+ghost use Rattle.jn_machine.specs.Events.{ending};
+ghost use Rattle.jn_machine.specs.Runs.{Moment};
+ghost use Rattle.jn_machine.specs.Tasks.{Begins, InSchedule, AtEnd};
+ghost use Rattle.jn_machine.specs.Whole.{IsWritten};
 ghost use Rattle.jn_between.specs.Between.{IsConsistent, IsTrueBetween, IsTrueAtEnd};
 
 /// At each moment of each run of the written machine, from its start on, whatever befalls its devices, the system is consistent, and the report

@@ -2,7 +2,7 @@
 use Rattle.jn_bounds.proofs.Common.{◌≡◌, inl, inr, ◌≤◌, ◌<◌, ℕ, zero, suc, ◌+◌, Bool, true, false, List, [], ◌∷◌, append-nil, Option, Some, None, refl, sym, ap, arith, if◌then◌else◌, slice_get, ServerNo, ClientNo, World, Memory, servers_from, Again, Nudge, Work, StopWork, after, work, works, Course, go, go_on, handing, working, Sound, go-sound, go-balance, burden-after, deliveries-more, Bounded, Asked, asked, Setup, Chance, Deed, room, no_room, nothing, served, delivered, delivered_at, is_busy, working_steps, servers_of, first_busy, next_event, next_in, resting}
 use Rattle.jn_system.specs.WholeSystem.Settle.{Chance as Befalling, first_busy as first_going, next_step}
 use Rattle.jn_base.specs.declared.names.Party.TheVariants.{Client, Server}
-use Rattle.jn_rows.specs.Stable.{Pick, stable}
+use Rattle.jn_rows.specs.Stable.{Pick, stable, Left}
 use Rattle.jn_rows.specs.Outcomes.{RowOutcome, Sent}
 use Rattle.jn_system.specs.WholeSystem.Servers.{Room, server_step}
 use Rattle.jn_system_settling.proofs.Settling.Burdens.{Leads, work-leads}
@@ -33,7 +33,7 @@ module _ (n : ℕ) (at_most : n ≤ 8) (start : World) where
 
   -- ---- a message is handed over
 
-  hands : (c : Course) → Sound n start c → (k : ℕ) (ks : List ℕ) → c.waiting ≡ k ∷ ks → (r : Room) (stop : Option (Pick → ℕ)) → Within c (go (handing k r stop) c)
+  hands : (c : Course) → Sound n start c → (k : ℕ) (ks : List ℕ) → c.waiting ≡ k ∷ ks → (r : Room) (stop : Option (Pick → Left)) → Within c (go (handing k r stop) c)
   hands c h k ks waits r stop = list-bounded n at_most start (handing k r stop ∷ []) c h (inl (record { chance = chance; is_next = ap (λ (js : List ℕ). next_step chance js (first_going c.world (servers_from 0 n))) waits }), tt)
     where
       chance : Befalling
@@ -65,7 +65,7 @@ module _ (n : ℕ) (at_most : n ≤ 8) (start : World) where
         by None e = stays
         by (Some m) e = at m e (server_step m (stable (c.world.found s)) r) refl
 
-    pub works-on : (stop : Option (Pick → ℕ)) → Within c (go (working s r stop) c)
+    pub works-on : (stop : Option (Pick → Left)) → Within c (go (working s r stop) c)
     works-on None = record {
       sound = go-sound n at_most start c (Work s r) h tt;
       few = let more = deliveries-more c.steps (Work s r) in let lower = burden-after n at_most start c (Work s r) 0 0 h work-weighs in omega (arith, more, lower);

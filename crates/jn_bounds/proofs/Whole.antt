@@ -3,7 +3,7 @@ use Rattle.jn_bounds.proofs.Common.{◌≡◌, ◌⊎◌, inl, inr, ◌≤◌, L
 use Rattle.std.proofs.lemmas.List.{map-append}
 use Rattle.jn_schedule.specs.declared.Event.TheVariants as events
 use Rattle.jn_report.specs.declared.line.Line.{Line}
-use Rattle.jn_written.proofs.Computed.{join}
+use Rattle.jn_machine.proofs.Computed.{join}
 use Rattle.jn_bounds.proofs.Doing.{GoesOn, IsCut, does, stays}
 use Rattle.jn_bounds.proofs.Passing.{comes-to, forget}
 use Rattle.jn_bounds.proofs.Sounds.{all-steps, closed-sound}

@@ -4,10 +4,10 @@ use Rattle.jn_schedule.specs.declared.Event.{Event}
 use Rattle.jn_schedule.specs.declared.Event.TheVariants as events
 use Rattle.jn_system.specs.WholeSystem.Course.{Course}
 use Rattle.jn_system_settling.specs.Settling.Bounds.{deliveries, settle_bound}
-use Rattle.jn_written.specs.Chances.{Setup}
-use Rattle.jn_written.specs.Tasks.{Task, Begins, CountsCommits, CutShort}
-use Rattle.jn_written.specs.Events.{servers_of, settling, ending, printing}
-use Rattle.jn_written.specs.Runs.{Steps, Moment, DoesStep, Leads}
+use Rattle.jn_machine.specs.Chances.{Setup}
+use Rattle.jn_machine.specs.Tasks.{Task, Begins, CountsCommits, CutShort}
+use Rattle.jn_machine.specs.Events.{servers_of, settling, ending, printing}
+use Rattle.jn_machine.specs.Runs.{Steps, Moment, DoesStep, Leads}
 
 -- ---- where a settle stands in a run
 

@@ -5,12 +5,12 @@
 ghost use Rattle.std.specs.Prelude.{◌≡◌, ◌≤◌, ◌⊎◌, List, ◌++◌};
 ghost use Rattle.jn_schedule.specs.declared.Event.{Event};
 ghost use Rattle.jn_report.specs.declared.line.Line.{Line};
-ghost use Rattle.jn_written.specs.Chances.{Setup};
-ghost use Rattle.jn_written.specs.Tasks.{Task};
-ghost use Rattle.jn_written.specs.Events.{settling};
-ghost use Rattle.jn_written.specs.Devices.{Devices};
-ghost use Rattle.jn_written.specs.Runs.{Moment, Leads};
-ghost use Rattle.jn_written.specs.Whole.{before, IsWritten, IsWhole};
+ghost use Rattle.jn_machine.specs.Chances.{Setup};
+ghost use Rattle.jn_machine.specs.Tasks.{Task};
+ghost use Rattle.jn_machine.specs.Events.{settling};
+ghost use Rattle.jn_machine.specs.Devices.{Devices};
+ghost use Rattle.jn_machine.specs.Runs.{Moment, Leads};
+ghost use Rattle.jn_machine.specs.Whole.{before, IsWritten, IsWhole};
 ghost use Rattle.jn_bounds.specs.Settles.{Settles, IsWithinBound, IsOver, IsUnderWay, HasItsSettles};
 
 /// A settle of any run, as far as it has come, is within its bound, whatever befalls its devices: for at most 8 servers.

@@ -2,7 +2,7 @@
 
 ghost use Rattle.std.specs.Prelude.{◌≡◌, ◌↔◌, ◌&&◌, not, IsTrue};
 ghost use Rattle.jn_base.specs.declared.names.Cause.TheVariants as reasons;
-ghost use Rattle.jn_base.specs.Names as names;
+ghost use Rattle.jn_report.specs.Kinds.{begins, breaks, goes_down, refuses_event, refuses_fault, stops};
 ghost use Rattle.jn_report.specs.declared.line.When.TheVariants.{Event as AtEvent};
 ghost use Rattle.jn_serial.specs.Begun.{is_in as is_in_tid};
 ghost use Rattle.jn_serial.specs.Caused as caused;
@@ -10,7 +10,7 @@ ghost use Rattle.jn_serial.specs.Follows.{refuses_own};
 ghost use Rattle.jn_serial.specs.Lines.{count_lines, lines_at, says};
 
 use jn_base::{Cause, ClientNo, Command, FaultKind, LockUnit, ServerNo, Tid};
-use jn_report::{Line, Text, When};
+use jn_report::{Line, Text, When, begins, breaks, goes_down, refuses_event, refuses_fault, stops};
 use jn_schedule::Event;
 use jn_serial::{is_after_event, is_at, is_in, refuses_own};
 
@@ -41,20 +41,9 @@ fn is_requested(events: &[Event], lines: &[Line], when: When, client: ClientNo, 
     false
 }
 
-fn begins(client: ClientNo, number: usize, t: Tid, text: &Text) -> bool
-    ensures { result ≡ caused.begins client number t text.now }
-{
-    match text {
-        Text::Begun(by, begin, begun) => {
-            client == *by && (number == *begin as usize && *begun == t)
-        }
-        _ => false,
-    }
-}
-
 /// Whether a line says that the command began the transaction.
 fn is_begun(client: ClientNo, number: usize, t: Tid, lines: &[Line]) -> bool
-    ensures { result ≡ says (caused.begins client number t) lines.now }
+    ensures { result ≡ says (begins client number t) lines.now }
 {
     lines.iter().any(|l| begins(client, number, t, &l.text))
 }
@@ -99,19 +88,9 @@ fn joins(
     }
 }
 
-fn goes_down(server: ServerNo, text: &Text) -> bool
-    ensures { result ≡ caused.goes_down server text.now }
-{
-    match text {
-        Text::Down(at) => *at == server,
-        Text::Stopped(at) => *at == server,
-        _ => false,
-    }
-}
-
 /// Whether a line after the event says that the server went down.
 fn goes_down_after(server: ServerNo, number: usize, lines: &[Line]) -> bool
-    ensures { result ≡ says (caused.goes_down server) (caused.lines_after (AtEvent number) lines.now) }
+    ensures { result ≡ says (goes_down server) (caused.lines_after (AtEvent number) lines.now) }
 {
     lines
         .iter()
@@ -131,30 +110,9 @@ fn is_lost(events: &[Event], lines: &[Line], client: ClientNo, t: Tid, server: S
     false
 }
 
-fn is_same_unit(a: LockUnit, b: LockUnit) -> bool
-    ensures { result ≡ names.unit_eq a b }
-{
-    match (a, b) {
-        (LockUnit::File(f), LockUnit::File(g)) => f == g,
-        (LockUnit::Block(f, p), LockUnit::Block(g, q)) => f == g && p == q,
-        _ => false,
-    }
-}
-
-fn breaks(server: ServerNo, t: Tid, unit: LockUnit, by: Tid, text: &Text) -> bool
-    ensures { result ≡ caused.breaks server t unit by text.now }
-{
-    match text {
-        Text::Broke(at, broken, on, breaker) => {
-            *at == server && (*broken == t && (is_same_unit(*on, unit) && *breaker == by))
-        }
-        _ => false,
-    }
-}
-
 /// Whether a line says that the transaction's work was broken so.
 fn is_broken(lines: &[Line], server: ServerNo, t: Tid, unit: LockUnit, by: Tid) -> bool
-    ensures { result ≡ says (caused.breaks server t unit by) lines.now }
+    ensures { result ≡ says (breaks server t unit by) lines.now }
 {
     lines.iter().any(|l| breaks(server, t, unit, by, &l.text))
 }
@@ -187,15 +145,9 @@ fn is_stop(kind: FaultKind) -> bool
     )
 }
 
-fn refuses_event(text: &Text) -> bool
-    ensures { result ≡ caused.refuses_event text.now }
-{
-    matches!(text, Text::RefusedEvent(_))
-}
-
 /// Whether a line says that the event was refused.
 fn is_refused(lines: &[Line], number: usize) -> bool
-    ensures { result ≡ says caused.refuses_event (lines_at (AtEvent number) lines.now) }
+    ensures { result ≡ says refuses_event (lines_at (AtEvent number) lines.now) }
 {
     lines
         .iter()
@@ -208,12 +160,6 @@ fn is_accepted(lines: &[Line], when: When, number: usize) -> bool
     ensures { result ≡ caused.is_accepted lines.now when number }
 {
     is_after_event(when, number) && !is_refused(lines, number)
-}
-
-fn stops(server: ServerNo, text: &Text) -> bool
-    ensures { result ≡ caused.stops server text.now }
-{
-    matches!(text, Text::Stopped(at) if *at == server)
 }
 
 fn arms_stop(server: ServerNo, lines: &[Line], when: When, number: usize, event: &Event) -> bool
@@ -240,15 +186,9 @@ fn count_stops(events: &[Event], lines: &[Line], when: When, server: ServerNo) -
     count
 }
 
-fn refuses_fault(server: ServerNo, text: &Text) -> bool
-    ensures { result ≡ caused.refuses_fault server text.now }
-{
-    matches!(text, Text::Outside(at, _) if *at == server)
-}
-
 /// Whether the server refused a fault in the event.
 fn is_fault_refused(server: ServerNo, lines: &[Line], number: usize) -> bool
-    ensures { result ≡ says (caused.refuses_fault server) (lines_at (AtEvent number) lines.now) }
+    ensures { result ≡ says (refuses_fault server) (lines_at (AtEvent number) lines.now) }
 {
     lines
         .iter()
@@ -280,13 +220,13 @@ fn count_faults(events: &[Event], lines: &[Line], when: When, server: ServerNo) 
 }
 
 fn count_stopped(lines: &[Line], server: ServerNo) -> usize
-    ensures { result ≡ count_lines (caused.stops server) lines.now }
+    ensures { result ≡ count_lines (stops server) lines.now }
 {
     lines.iter().filter(|l| stops(server, &l.text)).count()
 }
 
 fn count_refused(lines: &[Line], server: ServerNo) -> usize
-    ensures { result ≡ count_lines (caused.refuses_fault server) lines.now }
+    ensures { result ≡ count_lines (refuses_fault server) lines.now }
 {
     lines
         .iter()

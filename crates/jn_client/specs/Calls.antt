@@ -1,5 +1,5 @@
 -- What the calls of a client give.
-use Rattle.std.specs.Prelude.{◌≡◌, ℕ, Bool, true, nat_eq, nat_lt, ◌+◌, ◌&&◌, if◌then◌else◌, List, [], ◌∷◌, Option, Some, None, Result, Ok, Err}
+use Rattle.std.specs.Prelude.{◌≡◌, ℕ, Bool, true, false, nat_eq, nat_lt, ◌+◌, ◌&&◌, if◌then◌else◌, List, [], ◌∷◌, Option, Some, None, Result, Ok, Err}
 use Rattle.jn_base.specs.declared.names.RequestNo.{RequestNo}
 use Rattle.jn_base.specs.declared.names.ClientNo.{ClientNo}
 use Rattle.jn_base.specs.declared.names.Party.{Party}
@@ -12,6 +12,10 @@ use Rattle.jn_msgs.specs.declared.message.Outcome.{Outcome}
 use Rattle.jn_msgs.specs.declared.message.Outcome.TheVariants.{Committed, Aborted}
 use Rattle.jn_rows.specs.declared.client.OpenWork.{OpenWork}
 use Rattle.jn_rows.specs.declared.client.Outstanding.{Outstanding}
+use Rattle.jn_rows.specs.declared.client.Taken.{Taken}
+use Rattle.jn_rows.specs.declared.client.Taken.TheVariants.{Told}
+use Rattle.jn_report.specs.declared.line.Text.{Text}
+use Rattle.jn_report.specs.declared.line.Text.TheVariants as says
 use Rattle.jn_rows.specs.Client.{ClientTable, Commanded, Refuses, Sends, with_operation}
 use Rattle.jn_client.specs.declared.words.CommandFault.{CommandFault}
 use Rattle.jn_client.specs.declared.words.CommandFault.TheVariants.{Refused, Memory}
@@ -54,3 +58,12 @@ are_below n (w ∷ ws) = nat_lt w.last n && are_below n ws
 abbrev pub decision : Option Cause → Outcome
 decision None = Committed
 decision (Some cause) = Aborted cause
+
+-- a line with the bytes of a block, which is all that a client wants memory for
+abbrev pub has_block : Text → Bool
+has_block (says.Read c j bytes) = true
+has_block line = false
+
+abbrev pub tells_block : Taken → Bool
+tells_block (Told line sent) = has_block line
+tells_block taken = false

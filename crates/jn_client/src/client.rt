@@ -1,26 +1,19 @@
 //! A client's table: what it does with commands and messages.
 
-ghost use Rattle.std.specs.Prelude.{◌≡◌, ◌+◌, ◌<◌, ◌^◌, ℕ, true, is_some, option_map, IfOk, IfErr, OnOk, OnErr, IfSome, MatchResult, None};
-ghost use Rattle.jn_base.specs.declared.names.ClientNo.{ClientNo};
+ghost use Rattle.std.specs.Prelude.{◌≡◌, ◌+◌, ◌<◌, ◌^◌, ℕ, true, is_some, option_map, IfOk, OnOk, OnErr, IfSome};
 ghost use Rattle.jn_base.specs.declared.op.Command.TheVariants.{Begin, Open, Do, End, Abort};
-ghost use Rattle.jn_client.specs.declared.words.CommandFault.TheVariants.{Memory};
-ghost use Rattle.jn_client.specs.Calls.{Gives, sent_table, replied_to, event_where, are_below, works_after, decision};
-ghost use Rattle.jn_client.specs.Effects.{taken_of};
+ghost use Rattle.jn_client.specs.Calls.{Gives, sent_table, replied_to, event_where, are_below, works_after, decision, has_block, tells_block};
 ghost use Rattle.jn_msgs.specs.declared.message.Message.TheVariants as messages;
 ghost use Rattle.jn_msgs.specs.declared.message.Outcome.TheVariants as outcomes;
-ghost use Rattle.jn_rows.specs.declared.client.Taken.TheVariants.{Told};
 ghost use Rattle.jn_rows.specs.Client as rows;
 
 use crate::copies::{copy_of, copy_of_works, names_of};
-use crate::effect::{
-    Effect, aborted, begun, committed, did, forgotten, opened, read, refused, thanks, waiting,
-};
 use crate::words::CommandFault;
 use jn_base::{
     Answer, Cause, ClientNo, Command, Op, OperationNo, Party, RequestNo, ServerNo, Tid, WorkId,
 };
 use jn_msgs::{Message, Outcome};
-use jn_report::Refusal;
+use jn_report::{Refusal, Text};
 use jn_rows::{OpenWork, Outstanding, Taken};
 use std::alloc::{AllocError, Global};
 use std::marker::Model;
@@ -92,13 +85,14 @@ fn count(works: &mut [OpenWork], command: &Command, limit: u32)
     }
 }
 
-/// What an answer does, to the operation that this event gave.
-fn answer_effect<'a>(event: u32, answer: &'a Answer) -> Effect<'a>
-    ensures { (client : ClientNo) → taken_of client result ≡ Told (rows.answer_line client event answer.now) None }
+/// What a client reports of an answer to the operation that this event gave.
+fn answer_line(client: ClientNo, event: u32, answer: &Answer) -> Result<Text, AllocError>
+    ensures line { IfOk result (λ line. line ≡ rows.answer_line client event answer.now) }
+    ensures memory { OnErr result (has_block (rows.answer_line client event answer.now) ≡ true) }
 {
     let refusal = match answer {
-        Answer::Did => return Effect::Did(event),
-        Answer::Read(content) => return Effect::Read(event, content),
+        Answer::Did => return Ok(Text::Did(client, event)),
+        Answer::Read(content) => return Ok(Text::Read(client, event, content.copy()?)),
         Answer::NoFile => Refusal::NoFile,
         Answer::Exists => Refusal::Exists,
         Answer::Locked(unit, holder) => Refusal::Locked(*unit, *holder),
@@ -108,7 +102,7 @@ fn answer_effect<'a>(event: u32, answer: &'a Answer) -> Effect<'a>
         Answer::Lost(then, now) => Refusal::Lost(*then, *now),
         Answer::Closing => Refusal::Closing,
     };
-    Effect::Refused(event, refusal)
+    Ok(Text::Refused(client, event, refusal))
 }
 
 fn is_end(command: &Command) -> bool
@@ -190,25 +184,20 @@ impl Client {
         }
     }
 
-    /// Does what a message asks for.
-    pub fn take(&mut self, message: &Message) -> Taken
-        ensures { (self.new, result) ≡ rows.take_row self.old message.now }
+    /// Does what a message asks for. Only a line with a block wants memory, and without memory nothing changes.
+    pub fn take(&mut self, message: &Message) -> Result<Taken, AllocError>
+        ensures ok { IfOk result (λ taken. (self.new, taken) ≡ rows.take_row self.old message.now) }
+        ensures err { OnErr result (self.new ≡ self.old) }
+        ensures memory { OnErr result (tells_block (rows.take_row self.old message.now).1 ≡ true) }
     {
-        let client = self.client;
-        let effect = self.effect(message);
-        // Each line is returned where it is made, so that it is written once, to the caller's place.
-        match effect {
-            Effect::Ignored => return Taken::Ignored,
-            Effect::Over(tid) => return thanks(client, tid),
-            Effect::Begun(j, tid) => return begun(client, j, tid),
-            Effect::Opened(j, server) => return opened(client, j, server),
-            Effect::Did(j) => return did(client, j),
-            Effect::Read(j, content) => return read(client, j, content),
-            Effect::Refused(j, refusal) => return refused(client, j, refusal),
-            Effect::Waiting(j, server, unit, by) => return waiting(client, j, server, unit, by),
-            Effect::Committed(j, tid) => return committed(client, j, tid),
-            Effect::Aborted(j, tid, cause) => return aborted(client, j, tid, cause),
-            Effect::Forgotten(j, tid, server) => return forgotten(client, j, tid, server),
+        match message {
+            Message::Begun(client, request, answer) => Ok(self.begun(*client, *request, *answer)),
+            Message::Opened(client, request, tid, answer) => {
+                Ok(self.opened(*client, *request, *tid, *answer))
+            }
+            Message::Answer(client, request, answer) => self.answered(*client, *request, answer),
+            Message::Outcome(client, tid, outcome) => Ok(self.told(*client, *tid, *outcome)),
+            _ => Ok(Taken::Ignored),
         }
     }
 
@@ -389,38 +378,20 @@ impl Client {
 
     // What messages do.
 
-    fn effect<'a>(&mut self, message: &'a Message) -> Effect<'a>
-        ensures { (self.new, taken_of self.old.client result) ≡ rows.take_row self.old message.now }
-    {
-        match message {
-            Message::Begun(client, request, answer) => self.begun(*client, *request, *answer),
-            Message::Opened(client, request, tid, answer) => {
-                self.opened(*client, *request, *tid, *answer)
-            }
-            Message::Answer(client, request, answer) => self.answered(*client, *request, answer),
-            Message::Outcome(client, tid, outcome) => self.told(*client, *tid, *outcome),
-            _ => Effect::Ignored,
-        }
-    }
-
-    fn begun(
-        &mut self,
-        client: ClientNo,
-        request: RequestNo,
-        answer: Option<Tid>,
-    ) -> Effect<'static>
-        ensures { (self.new, taken_of self.old.client result) ≡ rows.take_row self.old (messages.Begun client request answer) }
+    fn begun(&mut self, client: ClientNo, request: RequestNo, answer: Option<Tid>) -> Taken
+        ensures { (self.new, result) ≡ rows.take_row self.old (messages.Begun client request answer) }
     {
         let Some((j, Command::Begin(_))) = self.replied_to(client, request) else {
-            return Effect::Ignored;
+            return Taken::Ignored;
         };
         self.outstanding = None;
         let Some(tid) = answer else {
-            return Effect::Refused(j, Refusal::TooManyTransactions);
+            let refused = Text::Refused(self.client, j, Refusal::TooManyTransactions);
+            return Taken::Told(refused, None);
         };
         self.transaction = Some(tid);
         self.works.clear();
-        Effect::Begun(j, tid)
+        Taken::Told(Text::Begun(self.client, j, tid), None)
     }
 
     #[tactic(auto, using(crate::proofs::Counts::below_pushed))]
@@ -430,94 +401,106 @@ impl Client {
         request: RequestNo,
         tid: Tid,
         answer: Option<WorkId>,
-    ) -> Effect<'static>
-        ensures { (self.new, taken_of self.old.client result) ≡ rows.take_row self.old (messages.Opened client request tid answer) }
+    ) -> Taken
+        ensures { (self.new, result) ≡ rows.take_row self.old (messages.Opened client request tid answer) }
     {
         let Some((j, Command::Open(server))) = self.replied_to(client, request) else {
-            return Effect::Ignored;
+            return Taken::Ignored;
         };
         let asked = *server;
         if !self.is_current(tid) {
-            return Effect::Ignored;
+            return Taken::Ignored;
         }
         let Some(work) = answer else {
             self.outstanding = None;
-            return Effect::Refused(j, Refusal::TooManyWorks);
+            let refused = Text::Refused(self.client, j, Refusal::TooManyWorks);
+            return Taken::Told(refused, None);
         };
         if work.server.0 != asked.0 {
-            return Effect::Ignored;
+            return Taken::Ignored;
         }
         self.outstanding = None;
         self.works.push_reserved(OpenWork { work, last: 0 });
-        Effect::Opened(j, work.server)
+        Taken::Told(Text::Opened(self.client, j, work.server), None)
     }
 
-    fn answered<'a>(
+    /// Its line is made first, since that alone may want memory.
+    fn answered(
         &mut self,
         client: ClientNo,
         request: RequestNo,
-        answer: &'a Answer,
-    ) -> Effect<'a>
-        ensures { (self.new, taken_of self.old.client result) ≡ rows.take_row self.old (messages.Answer client request answer.now) }
+        answer: &Answer,
+    ) -> Result<Taken, AllocError>
+        ensures ok { IfOk result (λ taken. (self.new, taken) ≡ rows.take_row self.old (messages.Answer client request answer.now)) }
+        ensures err { OnErr result (self.new ≡ self.old) }
+        ensures memory { OnErr result (tells_block (rows.take_row self.old (messages.Answer client request answer.now)).1 ≡ true) }
     {
         let Some((j, Command::Do(_, _))) = self.replied_to(client, request) else {
-            return Effect::Ignored;
+            return Ok(Taken::Ignored);
         };
+        let line = answer_line(self.client, j, answer)?;
         self.outstanding = None;
-        answer_effect(j, answer)
+        Ok(Taken::Told(line, None))
     }
 
-    fn told(&mut self, client: ClientNo, tid: Tid, outcome: Outcome) -> Effect<'static>
-        ensures { (self.new, taken_of self.old.client result) ≡ rows.take_row self.old (messages.Outcome client tid outcome) }
+    fn told(&mut self, client: ClientNo, tid: Tid, outcome: Outcome) -> Taken
+        ensures { (self.new, result) ≡ rows.take_row self.old (messages.Outcome client tid outcome) }
     {
         if client.0 != self.client.0 {
-            return Effect::Ignored;
+            return Taken::Ignored;
         }
         match outcome {
             Outcome::Committed => self.decided(tid, None),
             Outcome::Aborted(cause) => self.decided(tid, Some(cause)),
             Outcome::Waiting(server, unit, holder) => {
                 let Some(j) = self.end_event() else {
-                    return Effect::Ignored;
+                    return Taken::Ignored;
                 };
                 if !self.is_current(tid) {
-                    return Effect::Ignored;
+                    return Taken::Ignored;
                 }
-                Effect::Waiting(j, server, unit, holder)
+                Taken::Told(Text::Waiting(self.client, j, server, unit, holder), None)
             }
             Outcome::NotKnown(server, _) => self.not_known(tid, server),
         }
     }
 
     /// The transaction committed, or was aborted for a cause.
-    fn decided(&mut self, tid: Tid, cause: Option<Cause>) -> Effect<'static>
-        ensures { (self.new, taken_of self.old.client result) ≡ rows.outcome_row self.old tid (decision cause) }
+    fn decided(&mut self, tid: Tid, cause: Option<Cause>) -> Taken
+        ensures { (self.new, result) ≡ rows.outcome_row self.old tid (decision cause) }
     {
+        let client = self.client;
+        let server = Party::Server(tid.server);
+        let thanks = Message::Thanks(client, tid);
         if !self.is_current(tid) {
-            return Effect::Over(tid);
+            return Taken::Send(server, thanks);
         }
         let Some(j) = self.decision_event() else {
-            return Effect::Ignored;
+            return Taken::Ignored;
         };
         self.finish();
+        let thanks = Some((server, thanks));
         match cause {
-            None => Effect::Committed(j, tid),
-            Some(cause) => Effect::Aborted(j, tid, cause),
+            None => Taken::Told(Text::Committed(client, j, tid), thanks),
+            Some(cause) => Taken::Told(Text::Aborted(client, j, tid, cause), thanks),
         }
     }
 
     /// The transaction's server has forgotten it.
-    fn not_known(&mut self, tid: Tid, server: ServerNo) -> Effect<'static>
-        ensures { (self.new, taken_of self.old.client result) ≡ rows.outcome_row self.old tid (outcomes.NotKnown server 0) }
+    fn not_known(&mut self, tid: Tid, server: ServerNo) -> Taken
+        ensures { (self.new, result) ≡ rows.outcome_row self.old tid (outcomes.NotKnown server 0) }
     {
         if !self.is_current(tid) {
-            return Effect::Ignored;
+            return Taken::Ignored;
         }
         let Some(j) = self.decision_event() else {
-            return Effect::Ignored;
+            return Taken::Ignored;
         };
         self.finish();
-        Effect::Forgotten(j, tid, server)
+        Taken::Told(
+            Text::Aborted(self.client, j, tid, Cause::Lost(server)),
+            None,
+        )
     }
 
     /// Its transaction is over.

@@ -3,7 +3,6 @@
 
 mod client;
 mod copies;
-mod effect;
 mod words;
 
 pub use client::Client;

@@ -1,5 +1,5 @@
 -- A client's new transaction.
-use Rattle.jn_coord.proofs.Common.{◌≡◌, ◌⊎◌, inl, inr, ⊎_elim, ℕ, Bool, true, false, nat_eq, nat_lt, ◌+◌, ◌≤◌, ◌<◌, ◌&&◌, if◌then◌else◌, List, [], ◌∷◌, ◌++◌, Option, Some, None, Result, Ok, Err, length, length-append, slice_set, refl, sym, true≢false, ◌∙◌, ap, subst, arith, fun_ext, is_some, is_ok, OnOk, nat_tests, length-set, ClientNo, Tid, Tickets, Client, client_eq, tid_eq, tid_tells, Collected, Transaction, Stage, Open, Voting, Committed, Aborted, Change, DropFlag, StableState, made_by, made_all, ignored, CoordinatorTable, transaction_at, is_voting, promised, all_in, closed, thanked_changes, after_closing, changes_of_closing, name_from, seen_now, begun_by, begin_again, begin_row, IsGiven, StorageView, state, name_below, Remembered, table_of, seen_by, are_above, rises, added, committed_as, committed_at, ballot_fits, ballots_fit, FitsStorage, IsDone, CoordFault, goes, ClientClosed, ClosesClient, count_left, are_before, TicketsFit, new_transaction, with_request, with_begun, RequestNo}
+use Rattle.jn_coord.proofs.Common.{◌≡◌, ◌⊎◌, inl, inr, ⊎_elim, ℕ, Bool, true, false, nat_eq, nat_lt, ◌+◌, ◌≤◌, ◌<◌, ◌&&◌, if◌then◌else◌, List, [], ◌∷◌, ◌++◌, Option, Some, None, Result, Ok, Err, length, length-append, slice_set, refl, sym, true≢false, ◌∙◌, ap, subst, arith, fun_ext, is_some, is_ok, OnOk, nat_tests, length-set, ClientNo, Tid, Tickets, Client, client_eq, tid_eq, tid_tells, Collected, Transaction, Stage, Open, Voting, Committed, Aborted, Change, DropFlag, StableState, made_by, made_all, ignored, CoordinatorTable, transaction_at, is_voting, promised, all_in, closed, thanked_changes, after_closing, changes_of_closing, name_from, seen_now, begun_by, begin_again, begin_row, IsGiven, StorageView, state, name_below, Remembered, table_of, seen_by, are_above, rises, added, committed_as, committed_at, ballot_fits, ballots_fit, FitsStorage, IsDone, CallFault, goes, ClientClosed, ClosesClient, count_left, are_before, TicketsFit, new_transaction, with_request, with_begun, RequestNo}
 use Rattle.jn_msgs.specs.declared.message.Message.TheVariants as messages
 use Rattle.jn_coord.proofs.Restart.{both-of, seen-set}
 
@@ -152,7 +152,7 @@ begun r s r' v w k c q before after fits tickets new room few closed is sent = r
       past = let e = tickets.epoch in let f = ap (λ x. x.epoch) closed.made ∙ closing-epoch c r.transactions (state v) in omega (arith, e, f);
     }
 
-pub client-closed-of : (c : Option ClientNo) (r s : Remembered) (v w : StorageView) (a : Result (Unit {0}) CoordFault) → ClosesClient c r v a s w → is_ok a ≡ true → ClientClosed c r v s w
+pub client-closed-of : (c : Option ClientNo) (r s : Remembered) (v w : StorageView) (a : Result (Unit {0}) CallFault) → ClosesClient c r v a s w → is_ok a ≡ true → ClientClosed c r v s w
 client-closed-of c r s v w (Ok x) h e = h
 client-closed-of c r s v w (Err f) h e = absurd (cc e)
 
@@ -174,7 +174,7 @@ full-row : (r : Remembered) (k : Tickets) (c : ClientNo) (q : RequestNo) → nat
     }
 full-row r k c q new full = rw new (let few : nat_lt (length (after_closing c r.transactions)) 64 ≡ false = rw (sym (counted_left c r.transactions)) (grind (arith, nat_tests, full)) in rw few refl)
 
-pub full-tickets : {A : Type 0} (a : Result A CoordFault) (r : Remembered) (k : Tickets) (c : ClientNo) (q : RequestNo) → nat_lt (seen_by r.requests c) q.0 ≡ true → 64 ≤ count_left c r.transactions → OnOk a (k ≡ (begin_row (table_of r) k c q).tickets)
+pub full-tickets : {A : Type 0} (a : Result A CallFault) (r : Remembered) (k : Tickets) (c : ClientNo) (q : RequestNo) → nat_lt (seen_by r.requests c) q.0 ≡ true → 64 ≤ count_left c r.transactions → OnOk a (k ≡ (begin_row (table_of r) k c q).tickets)
 full-tickets (Ok x) r k c q new full = sym (ap (λ row. row.tickets) (full-row r k c q new full))
 full-tickets (Err f) r k c q new full = tt
 

@@ -1,5 +1,6 @@
 -- A client's transactions are closed one by one.
-use Rattle.jn_coord.proofs.Common.{◌≡◌, ⊎_elim, ℕ, suc, Bool, true, false, ◌+◌, ◌≤◌, ◌&&◌, if◌then◌else◌, List, [], ◌∷◌, ◌++◌, Option, Some, None, Result, Ok, Err, length, take, refl, sym, ◌∙◌, ap, subst, arith, length-append, append_assoc, ClientNo, Tid, tid_eq, tid_tells, Transaction, Stage, Open, Voting, Committed, Aborted, Change, DropFlag, StableState, made_all, made_by, transaction_at, without, is_voting, all_in, closed, thanked, thanked_changes, StorageView, IsLoadable, state, FlagDropped, storage_refl, storage_trans, Remembered, are_above, rises, is_ok, CoordFault, Memory, Stopped, flag_told, committed_as, FitsStorage, Releases, goes, is_committed, is_decided, takes_part, next_closing, tid_in, left_by, changes_by, going_in, LetsGo, GoneFrom, StaysOrGoes, ClosesOn, ClosesNext, ClosingStopped, ClosesAll}
+use Rattle.jn_coord.proofs.Common.{◌≡◌, ℕ, Bool, true, false, ◌+◌, ◌≤◌, ◌&&◌, if◌then◌else◌, List, [], ◌∷◌, ◌++◌, Option, Some, None, Result, Ok, Err, length, refl, sym, ◌∙◌, ap, subst, arith, length-append, append_assoc, ClientNo, Tid, tid_eq, tid_tells, Transaction, Stage, Open, Voting, Committed, Aborted, Change, DropFlag, StableState, made_all, made_by, transaction_at, without, is_voting, all_in, closed, thanked, thanked_changes, StorageView, IsLoadable, state, FlagDropped, storage_refl, storage_trans, Remembered, are_above, rises, is_ok, CallFault, Memory, Stopped, flag_told, committed_as, FitsStorage, Releases, goes, is_committed, is_decided, takes_part, next_closing, tid_in, left_by, changes_by, going_in, LetsGo, GoneFrom, StaysOrGoes, ClosesOn, ClosesNext, ClosingStopped, ClosesAll, left_of}
+use Rattle.jn_rows.proofs.Left.{stop-first, left-past}
 use Rattle.jn_store.proofs.Laws.{stop_since}
 use Rattle.jn_coord.proofs.Tables.{at-named, for-found, counted, counted-then}
 use Rattle.jn_coord.proofs.Fitting.{below-not, flags-without, no-votes, promise_held, fits-without}
@@ -168,7 +169,7 @@ closes-next c r r' v w x fits next gone ts = subst (λ q. ClosesOn c r v q w × 
 
 pub closing-stopped : (c : Option ClientNo) (r : Remembered) (v w : StorageView) (x : Transaction) → FitsStorage r v → next_closing c r.transactions ≡ Some x → StaysOrGoes x v w → ClosingStopped c r v w
 closing-stopped c r v w x fits next s = record {
-  some = λ p. rw first (⊎_elim (λ e. record { made = 0; is_after = e }) (λ e. record { made = 1; is_after = e ∙ sym (one-made (state v)) }) (s.dropped.change.stop refl p));
+  some = λ p. rw first (stop-first (state v) (DropFlag x.tid) rest (w.found p) (s.dropped.change.stop refl p));
   loadable = s.dropped.called.loadable;
   calls = rw first (let few = s.dropped.called.calls in omega (arith, few));
   later = s.dropped.called.later;
@@ -180,9 +181,6 @@ closing-stopped c r v w x fits next s = record {
 
     first : changes_by c r.transactions ≡ DropFlag x.tid ∷ rest
     first = changes-first c x r.transactions fits.rising next ∙ ap (λ cs. cs ++ rest) s.one
-
-    one-made : (z : StableState) → made_all (take 1 (DropFlag x.tid ∷ rest)) z ≡ made_by (DropFlag x.tid) z
-    one-made z = refl
 
 -- ---- by their names
 
@@ -201,22 +199,22 @@ next-goes c x (y ∷ ys) e = let again = next-goes c x ys in let goes-too = take
 pub going-next : (c : Option ClientNo) (T : Tid) (xs : List Transaction) → rises xs ≡ true → tid_in (next_closing c xs) ≡ Some T → going_in (transaction_at T xs) ≡ true
 going-next c T xs h e = let n = next-named (next_closing c xs) T e in subst (λ U. going_in (transaction_at U xs) ≡ true) n.2 (ap going_in (next-at c n.0 xs h n.1) ∙ next-goes c n.0 xs n.1)
 
-gone-of : (x : Transaction) (v w : StorageView) (a : Result (Unit {0}) CoordFault) → LetsGo x v a w → is_ok a ≡ true → GoneFrom x v w
+gone-of : (x : Transaction) (v w : StorageView) (a : Result (Unit {0}) CallFault) → LetsGo x v a w → is_ok a ≡ true → GoneFrom x v w
 gone-of x v w (Ok y) g e = g
 gone-of x v w (Err f) g e = absurd (cc e)
 
-stays-of : (x : Transaction) (v w : StorageView) (a : Result (Unit {0}) CoordFault) → LetsGo x v a w → is_ok a ≡ false → StaysOrGoes x v w
+stays-of : (x : Transaction) (v w : StorageView) (a : Result (Unit {0}) CallFault) → LetsGo x v a w → is_ok a ≡ false → StaysOrGoes x v w
 stays-of x v w (Ok y) g e = absurd (cc e)
 stays-of x v w (Err Memory) g e = absurd g
 stays-of x v w (Err Stopped) g e = g
 
-pub next-closed : (c : Option ClientNo) (r r' : Remembered) (v w : StorageView) (T : Tid) (a : Result (Unit {0}) CoordFault) → FitsStorage r v → tid_in (next_closing c r.transactions) ≡ Some T
+pub next-closed : (c : Option ClientNo) (r r' : Remembered) (v w : StorageView) (T : Tid) (a : Result (Unit {0}) CallFault) → FitsStorage r v → tid_in (next_closing c r.transactions) ≡ Some T
     → ((x : Transaction) → transaction_at T r.transactions ≡ Some x → LetsGo x v a w) → is_ok a ≡ true → r' ≡ record r { transactions = without T r.transactions }
     → ClosesOn c r v r' w × (length r'.transactions + 1 ≤ length r.transactions)
 next-closed c r r' v w T a fits e goes ok ts = let n = next-named (next_closing c r.transactions) T e in let at = next-at c n.0 r.transactions fits.rising n.1 in
     closes-next c r r' v w n.0 fits n.1 (gone-of n.0 v w a (goes n.0 (subst (λ U. transaction_at U r.transactions ≡ Some n.0) n.2 at)) ok) (ts ∙ ap (λ U. record r { transactions = without U r.transactions }) (sym n.2))
 
-pub next-stopped : (c : Option ClientNo) (r : Remembered) (v w : StorageView) (T : Tid) (a : Result (Unit {0}) CoordFault) → FitsStorage r v → tid_in (next_closing c r.transactions) ≡ Some T
+pub next-stopped : (c : Option ClientNo) (r : Remembered) (v w : StorageView) (T : Tid) (a : Result (Unit {0}) CallFault) → FitsStorage r v → tid_in (next_closing c r.transactions) ≡ Some T
     → ((x : Transaction) → transaction_at T r.transactions ≡ Some x → LetsGo x v a w) → is_ok a ≡ false → ClosingStopped c r v w
 next-stopped c r v w T a fits e goes fell = let n = next-named (next_closing c r.transactions) T e in let at = next-at c n.0 r.transactions fits.rising n.1 in
     closing-stopped c r v w n.0 fits n.1 (stays-of n.0 v w a (goes n.0 (subst (λ U. transaction_at U r.transactions ≡ Some n.0) n.2 at)) fell)
@@ -240,15 +238,12 @@ closes-more c r s t u v w f g = record {
   no_stop = g.no_stop ∙ f.no_stop;
 }
 
-take-past : (cs ds : List Change) (n : ℕ) → take (length cs + n) (cs ++ ds) ≡ cs ++ take n ds
-take-past [] ds n = ap (λ m. take m ds) (let m : 0 + n ≡ n = omega arith in m)
-take-past (c ∷ cs) ds n = let m : suc (length cs) + n ≡ suc (length cs + n) = omega arith in rw m (ap (λ es. c ∷ es) (take-past cs ds n))
-
 pub stopped-after : (c : Option ClientNo) (r s : Remembered) (u v w : StorageView) → ClosesOn c r u s v → ClosingStopped c s v w → ClosingStopped c r u w
 stopped-after c r s u v w f g = record {
   some = λ p. let q = g.some p in record {
-    made = length f.first + q.made;
-    is_after = q.is_after ∙ ap (made_all (take q.made (changes_by c s.transactions))) f.made ∙ sym (made-then f.first _ (state u)) ∙ ap (λ cs. made_all cs (state u)) (sym (take-past f.first (changes_by c s.transactions) q.made)) ∙ ap (λ cs. made_all (take (length f.first + q.made) cs) (state u)) (sym f.split);
+    left = record { whole = length f.first + q.left.whole; gone = q.left.gone };
+    is_after = q.is_after ∙ ap (left_of q.left (changes_by c s.transactions)) f.made ∙ sym (left-past f.first (changes_by c s.transactions) q.left (state u))
+        ∙ ap (λ cs. left_of (record { whole = length f.first + q.left.whole; gone = q.left.gone }) cs (state u)) (sym f.split);
   };
   loadable = λ p. subst (λ n. IsLoadable n u.accounts.heads (w.found p)) f.later.server (subst (λ n. IsLoadable v.accounts.server n (w.found p)) f.later.heads (g.loadable p));
   calls = let more = length-append f.first (changes_by c s.transactions) in let all = ap (λ cs. length cs) f.split in let calls = f.calls in let again = g.calls in omega (arith, more, all, calls, again);
@@ -261,22 +256,22 @@ none-left c [] n h = refl
 none-left c (x ∷ xs) n h = absurd (omega (arith, h))
 
 -- where s is the table before the step
-pub step-on : (c : Option ClientNo) (r s t : Remembered) (u v w : StorageView) (a : Result Bool CoordFault) (b : Bool) → ClosesOn c r u s v → ClosesNext c s v a t w → a ≡ Ok b → b ≡ true → ClosesOn c r u t w × (length t.transactions + 1 ≤ length s.transactions)
+pub step-on : (c : Option ClientNo) (r s t : Remembered) (u v w : StorageView) (a : Result Bool CallFault) (b : Bool) → ClosesOn c r u s v → ClosesNext c s v a t w → a ≡ Ok b → b ≡ true → ClosesOn c r u t w × (length t.transactions + 1 ≤ length s.transactions)
 step-on c r s t u v w a b f g e go = let h = subst (λ d. ClosesNext c s v (Ok d) t w) go (subst (λ d. ClosesNext c s v d t w) e g) in (closes-more c r s t u v w f h.0, h.1)
 
-pub step-ends : (c : Option ClientNo) (r s t : Remembered) (u v w : StorageView) (a : Result Bool CoordFault) (b : Bool) → ClosesOn c r u s v → ClosesNext c s v a t w → a ≡ Ok b → b ≡ false → ClosesOn c r u t w × (next_closing c t.transactions ≡ None)
+pub step-ends : (c : Option ClientNo) (r s t : Remembered) (u v w : StorageView) (a : Result Bool CallFault) (b : Bool) → ClosesOn c r u s v → ClosesNext c s v a t w → a ≡ Ok b → b ≡ false → ClosesOn c r u t w × (next_closing c t.transactions ≡ None)
 step-ends c r s t u v w a b f g e stop = let h = subst (λ d. ClosesNext c s v (Ok d) t w) stop (subst (λ d. ClosesNext c s v d t w) e g) in
     (subst (λ z. ClosesOn c r u t z) (sym h.2) (subst (λ z. ClosesOn c r u z v) (sym h.1) f), subst (λ z. next_closing c z.transactions ≡ None) (sym h.1) h.0)
 
-pub step-stopped : (c : Option ClientNo) (r s t : Remembered) (u v w : StorageView) (a : Result Bool CoordFault) (fault : CoordFault) → ClosesOn c r u s v → ClosesNext c s v a t w → a ≡ Err fault → ClosingStopped c r u w
+pub step-stopped : (c : Option ClientNo) (r s t : Remembered) (u v w : StorageView) (a : Result Bool CallFault) (fault : CallFault) → ClosesOn c r u s v → ClosesNext c s v a t w → a ≡ Err fault → ClosingStopped c r u w
 step-stopped c r s t u v w a Memory f g e = absurd (subst (λ d. ClosesNext c s v d t w) e g)
 step-stopped c r s t u v w a Stopped f g e = stopped-after c r s u v w f (subst (λ d. ClosesNext c s v d t w) e g)
 
-pub all-stopped : (c : Option ClientNo) (r s : Remembered) (v w : StorageView) (a : Result (Unit {0}) CoordFault) → ClosesAll c r v a s w → is_ok a ≡ false → ClosingStopped c r v w
+pub all-stopped : (c : Option ClientNo) (r s : Remembered) (v w : StorageView) (a : Result (Unit {0}) CallFault) → ClosesAll c r v a s w → is_ok a ≡ false → ClosingStopped c r v w
 all-stopped c r s v w (Ok x) h e = absurd (cc e)
 all-stopped c r s v w (Err Memory) h e = absurd h
 all-stopped c r s v w (Err Stopped) h e = h
 
-pub all-closed : (c : Option ClientNo) (r s : Remembered) (v w : StorageView) (a : Result (Unit {0}) CoordFault) → ClosesAll c r v a s w → is_ok a ≡ true → ClosesOn c r v s w × (next_closing c s.transactions ≡ None)
+pub all-closed : (c : Option ClientNo) (r s : Remembered) (v w : StorageView) (a : Result (Unit {0}) CallFault) → ClosesAll c r v a s w → is_ok a ≡ true → ClosesOn c r v s w × (next_closing c s.transactions ≡ None)
 all-closed c r s v w (Ok x) h e = h
 all-closed c r s v w (Err f) h e = absurd (cc e)

@@ -1,5 +1,5 @@
 -- How a transaction ends that was open.
-use Rattle.jn_coord.proofs.Common.{◌≡◌, ℕ, true, false, not, nat_lt, nat_eq, ◌+◌, ◌-◌, ◌≤◌, ◌<◌, List, [], ◌∷◌, Option, Some, None, Result, Ok, Err, length, refl, sym, ◌∙◌, ap, subst, arith, nat_tests, Tid, WorkId, Tickets, Collected, Transaction, Open, Voting, Ballot, RowOutcome, CoordinatorTable, transaction_at, with_stage, prepares, end_promised, StorageView, with_promises, CoordFault, Memory, Stopped, Remembered, table_of, added, FitsWith, stage_in, committed_at, Releases, Reaches, IsDone, IsStopped, Does, IsPromised, is_memory, ballot_row, RequestNo}
+use Rattle.jn_coord.proofs.Common.{◌≡◌, ℕ, true, false, not, nat_lt, nat_eq, ◌+◌, ◌-◌, ◌≤◌, ◌<◌, List, [], ◌∷◌, Option, Some, None, Result, Ok, Err, length, refl, sym, ◌∙◌, ap, subst, arith, nat_tests, Tid, WorkId, Tickets, Collected, Transaction, Open, Voting, Ballot, RowOutcome, CoordinatorTable, transaction_at, with_stage, prepares, end_promised, StorageView, with_promises, CallFault, Memory, Stopped, Remembered, table_of, added, FitsWith, stage_in, committed_at, Releases, Reaches, IsDone, IsStopped, Does, IsPromised, is_memory, ballot_row, RequestNo}
 use Rattle.jn_coord.proofs.Tables.{at-named, for-found}
 use Rattle.jn_coord.proofs.Fitting.{fits-staged, same-flags, committed-found}
 use Rattle.jn_coord.proofs.Rows.{stays}
@@ -50,7 +50,7 @@ ballot-opened r r' v T k y x b before after fits found at open' few sent ts = fo
 pub some-tickets : Tickets
 some-tickets = record { server = record { 0 = 0 }; epoch = 0; next = 0 }
 
-pub memory-kept : (row : RowOutcome CoordinatorTable) (r : Remembered) (v : StorageView) (before : Collected) (a : Result (Unit {0}) CoordFault) (r' : Remembered) (w : StorageView) (after : Collected)
+pub memory-kept : (row : RowOutcome CoordinatorTable) (r : Remembered) (v : StorageView) (before : Collected) (a : Result (Unit {0}) CallFault) (r' : Remembered) (w : StorageView) (after : Collected)
     → Does row r v before a r' w after → is_memory a ≡ true → w ≡ v
 memory-kept row r v before (Ok x) r' w after d e = absurd (cc e)
 memory-kept row r v before (Err Memory) r' w after d e = d.1
@@ -65,7 +65,7 @@ promising v = record v { accounts = with_promises v.accounts (v.accounts.promise
 reaches-promised : (v w : StorageView) (n : ℕ) → Reaches (promising v) n w → Reaches v n w
 reaches-promised v w n p = record { later = record { server = p.later.server; pool = p.later.pool; heads = p.later.heads; leaves = p.later.leaves; store = p.later.store }; calls = p.calls }
 
-pub with-promise : (row : RowOutcome CoordinatorTable) (r : Remembered) (v u : StorageView) (before : Collected) (a : Result (Unit {0}) CoordFault) (r' : Remembered) (w w' : StorageView) (after : Collected)
+pub with-promise : (row : RowOutcome CoordinatorTable) (r : Remembered) (v u : StorageView) (before : Collected) (a : Result (Unit {0}) CallFault) (r' : Remembered) (w w' : StorageView) (after : Collected)
     → IsPromised v u → Does row r u before a r' w after → Releases (is_memory a) w w' → Does row r v before a r' w' after
 with-promise row r v u before (Ok x) r' w w' after p d e = subst (λ z. IsDone row v before r' z after) (sym e) (by (subst (λ z. IsDone row z before r' w after) p d))
   where

@@ -1,5 +1,5 @@
 -- A client that knows of its transactions.
-use Rattle.jn_coord.proofs.Common.{◌≡◌, Bool, true, false, ◌&&◌, if◌then◌else◌, List, [], ◌∷◌, ◌++◌, Option, Some, None, Result, Ok, Err, length, refl, sym, ◌∙◌, ap, subst, arith, append-nil, is_some, is_ok, ClientNo, Tid, Tickets, tid_eq, Collected, Transaction, Stage, Open, Voting, Committed, Aborted, transaction_at, is_voting, promised, all_in, closed, thanked, close_clients_row, StorageView, CoordFault, Memory, Stopped, Remembered, table_of, are_above, rises, Longer, committed_as, committed_at, ballot_fits, ballots_fit, FitsStorage, IsStopped, goes, is_decided, is_of, next_closing, known_stage, known, knowing, left_by, changes_by, ClosesOn, ClientClosed, ClosesClient, longer_same}
+use Rattle.jn_coord.proofs.Common.{◌≡◌, Bool, true, false, ◌&&◌, if◌then◌else◌, List, [], ◌∷◌, ◌++◌, Option, Some, None, Result, Ok, Err, length, refl, sym, ◌∙◌, ap, subst, arith, append-nil, is_some, is_ok, ClientNo, Tid, Tickets, tid_eq, Collected, Transaction, Stage, Open, Voting, Committed, Aborted, transaction_at, is_voting, promised, all_in, closed, thanked, close_clients_row, StorageView, CallFault, Memory, Stopped, Remembered, table_of, are_above, rises, Longer, committed_as, committed_at, ballot_fits, ballots_fit, FitsStorage, IsStopped, goes, is_decided, is_of, next_closing, known_stage, known, knowing, left_by, changes_by, ClosesOn, ClientClosed, ClosesClient, longer_same}
 use Rattle.jn_coord.proofs.ClosingLemmas.{changes-none}
 
 -- what is the same of a transaction that is known of
@@ -101,7 +101,7 @@ client-closed c r s t v w f none ts = subst (λ q. ClientClosed c r v q w) (sym 
 
 -- ---- every client knows
 
-pub clients-stopped : (r s : Remembered) (v w : StorageView) (a : Result (Unit {0}) CoordFault) → ClosesClient None r v a s w → is_ok a ≡ false → (k : Tickets) (before : Collected) → IsStopped (close_clients_row (table_of r) k) v w × Longer before before
+pub clients-stopped : (r s : Remembered) (v w : StorageView) (a : Result (Unit {0}) CallFault) → ClosesClient None r v a s w → is_ok a ≡ false → (k : Tickets) (before : Collected) → IsStopped (close_clients_row (table_of r) k) v w × Longer before before
 clients-stopped r s v w (Ok x) f e k before = absurd (cc e)
 clients-stopped r s v w (Err Memory) f e k before = absurd f
 clients-stopped r s v w (Err Stopped) f e k before = (record { some = f.some; loadable = f.loadable; reaches = record { later = f.later; calls = f.calls }; stop = f.stop }, longer_same before before refl)

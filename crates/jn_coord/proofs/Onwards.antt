@@ -1,5 +1,5 @@
 -- The next name comes after all that are live, row by row.
-use Rattle.jn_coord.proofs.Common.{◌≡◌, ℕ, Bool, true, false, not, nat_eq, nat_lt, ◌+◌, ◌&&◌, if◌then◌else◌, List, [], ◌∷◌, ◌++◌, Option, Some, None, Result, Ok, Err, length, refl, sym, ◌∙◌, ap, arith, is_ok, nat_tests, ClientNo, Tid, WorkId, Tickets, tid_eq, Collected, Message, Vote, Transaction, Stage, Open, Voting, Committed, Aborted, Commitment, Ballot, Change, AddReady, MarkGoing, CarryOut, RemoveWork, AddFlag, DropFlag, StableState, made_by, made_all, RowOutcome, CoordinatorTable, transaction_at, with_stage, without, is_work, with_work, all_in, changes_of_closing, name_from, begun_by, begin_new, begin_again, begin_row, end_promised, end_stage, end_row, abort_stage, abort_request, forget_row, thanks_stage, thanks_row, told_stage, inquire_row, counted_vote, vote_stage, vote_row, done_stage, done_row, coordinator_row, thanked, all_thanked, flags_of_thanked, StorageView, state, name_below, Remembered, table_of, CoordFault, IsDone, ClosesClient, are_before, TicketsFit, RequestNo}
+use Rattle.jn_coord.proofs.Common.{◌≡◌, ℕ, Bool, true, false, not, nat_eq, nat_lt, ◌+◌, ◌&&◌, if◌then◌else◌, List, [], ◌∷◌, ◌++◌, Option, Some, None, Result, Ok, Err, length, refl, sym, ◌∙◌, ap, arith, is_ok, nat_tests, ClientNo, Tid, WorkId, Tickets, tid_eq, Collected, Message, Vote, Transaction, Stage, Open, Voting, Committed, Aborted, Commitment, Ballot, Change, AddReady, MarkGoing, CarryOut, RemoveWork, AddFlag, DropFlag, StableState, made_by, made_all, RowOutcome, CoordinatorTable, transaction_at, with_stage, without, is_work, with_work, all_in, changes_of_closing, name_from, begun_by, begin_new, begin_again, begin_row, end_promised, end_stage, end_row, abort_stage, abort_request, forget_row, thanks_stage, thanks_row, told_stage, inquire_row, counted_vote, vote_stage, vote_row, done_stage, done_row, coordinator_row, thanked, all_thanked, flags_of_thanked, StorageView, state, name_below, Remembered, table_of, CallFault, IsDone, ClosesClient, are_before, TicketsFit, RequestNo}
 use Rattle.jn_msgs.specs.declared.message.Message.TheVariants as messages
 use Rattle.jn_msgs.specs.declared.message.Vote.TheVariants as votes
 use Rattle.jn_coord.proofs.Restart.{both-of}
@@ -178,7 +178,7 @@ before-thanked : (T : Tid) (xs : List Transaction) → are_before xs T ≡ true 
 before-thanked T [] h = refl
 before-thanked T (x ∷ xs) h = let p = both-of (name_below x.tid T) (are_before xs T) h in thanked-before x x.stage T (all_thanked xs) p.0 (before-thanked T xs p.1)
 
-pub clients-kept : (r r' : Remembered) (v w : StorageView) (a : Result (Unit {0}) CoordFault) → ClosesClient None r v a r' w → is_ok a ≡ true → (k : Tickets) → TicketsFit r v k → TicketsFit r' w k
+pub clients-kept : (r r' : Remembered) (v w : StorageView) (a : Result (Unit {0}) CallFault) → ClosesClient None r v a r' w → is_ok a ≡ true → (k : Tickets) → TicketsFit r v k → TicketsFit r' w k
 clients-kept r r' v w (Ok x) f e k fit = record {
   server = fit.server ∙ sym f.later.server;
   epoch = fit.epoch ∙ sym (ap (λ x. x.epoch) f.made ∙ same-epoch (flags_of_thanked r.transactions) (state v));

@@ -1,5 +1,5 @@
 -- What a step of a coordinator comes to, row by row.
-use Rattle.jn_coord.proofs.Common.{⊎_elim, ◌≢◌, not, nat_lt, ◌&&◌, ◌-◌, Result, Ok, Err, ◌≡◌, ℕ, Bool, true, false, ◌+◌, ◌≤◌, if◌then◌else◌, List, [], ◌∷◌, ◌++◌, Option, Some, None, length, refl, sym, ◌∙◌, ap, subst, arith, nat_tests, ClientNo, Tid, tid_eq, Cause, WorkId, Tickets, Client, Vote, Collected, Transaction, Stage, Open, Voting, Committed, Aborted, Commitment, Ballot, FlagState, Change, Changed, AddFlag, DropFlag, made_by, RowOutcome, ignored, sends, CoordinatorTable, transaction_at, with_stage, without, is_voting, drops, commits, all_in, abort_row, commit_row, forget_row, noted, thanks_row, thanks_stage, vote_stage, told_stage, inquire_row, dropped, is_work, StorageView, state, PromiseReleased, Called, FlagPut, FlagDropped, storage_refl, is_aborted, Remembered, table_of, CoordFault, Memory, Stopped, added, Adds, Longer, flag_told, committed_as, committed_at, works_in, voting_in, spare_of, FitsStorage, FitsWith, ballot_in, ballot_of, ballot_fits, ballots_fit, waiting_row, Releases, Reaches, IsDone, IsStopped, Does, added_none, longer_same, RequestNo}
+use Rattle.jn_coord.proofs.Common.{◌≢◌, not, nat_lt, ◌&&◌, ◌-◌, Result, Ok, Err, ◌≡◌, ℕ, Bool, true, false, ◌+◌, ◌≤◌, if◌then◌else◌, List, [], ◌∷◌, ◌++◌, Option, Some, None, length, refl, sym, ◌∙◌, ap, subst, arith, nat_tests, ClientNo, Tid, tid_eq, Cause, WorkId, Tickets, Client, Vote, Collected, Transaction, Stage, Open, Voting, Committed, Aborted, Commitment, Ballot, FlagState, Change, Changed, AddFlag, DropFlag, made_by, RowOutcome, ignored, sends, CoordinatorTable, transaction_at, with_stage, without, is_voting, drops, commits, all_in, abort_row, commit_row, forget_row, noted, thanks_row, thanks_stage, vote_stage, told_stage, inquire_row, dropped, is_work, StorageView, state, PromiseReleased, Called, FlagPut, FlagDropped, storage_refl, is_aborted, Remembered, table_of, CallFault, Memory, Stopped, added, Adds, Longer, flag_told, committed_as, committed_at, works_in, voting_in, spare_of, FitsStorage, FitsWith, ballot_in, ballot_of, ballot_fits, ballots_fit, waiting_row, Releases, Reaches, IsDone, IsStopped, Does, added_none, longer_same, RequestNo}
 use Rattle.jn_msgs.specs.declared.message.Message.TheVariants as messages
 use Rattle.jn_msgs.specs.declared.message.Outcome.{Outcome}
 use Rattle.jn_msgs.specs.declared.message.Outcome.TheVariants as outcomes
@@ -55,14 +55,14 @@ aborted-found r r' v w T k y x cause works before after fits found at undecided 
 
 -- ---- calls that change nothing
 
-pub gave_up : (row : RowOutcome CoordinatorTable) (r : Remembered) (v : StorageView) (before : Collected) (a : Result (Unit {0}) CoordFault) → a ≡ Err Memory → Does row r v before a r v before
+pub gave_up : (row : RowOutcome CoordinatorTable) (r : Remembered) (v : StorageView) (before : Collected) (a : Result (Unit {0}) CallFault) → a ≡ Err Memory → Does row r v before a r v before
 gave_up row r v before a e = subst (λ b. Does row r v before b r v before) (sym e) (refl, refl, longer_same before before refl)
 
 -- ---- calls of the store with one change
 
 stopped-at : (row : RowOutcome CoordinatorTable) (v w : StorageView) (step : Change) → row.changes ≡ step ∷ [] → Called v 16 false w → Changed (state v) step false w.found → IsStopped row v w
 stopped-at row v w step one called changed = record {
-  some = λ c. rw one (⊎_elim (λ e. record { made = 0; is_after = e }) (λ e. record { made = 1; is_after = e }) (changed.stop refl c));
+  some = λ c. rw one (changed.stop refl c);
   loadable = called.loadable;
   reaches = record { later = called.later; calls = rw one called.calls };
   stop = called.stop refl;
@@ -258,7 +258,7 @@ known-now t T k o y d at is not-yet = rw (at, is, not-yet) refl
 
 -- ---- what is only told
 
-pub tells : (row : RowOutcome CoordinatorTable) (r : Remembered) (v : StorageView) (before after : Collected) (a : Result (Unit {0}) CoordFault) → row.table ≡ table_of r → row.changes ≡ [] → FitsStorage r v → Adds row.messages row.notes before a after → Does row r v before a r v after
+pub tells : (row : RowOutcome CoordinatorTable) (r : Remembered) (v : StorageView) (before after : Collected) (a : Result (Unit {0}) CallFault) → row.table ≡ table_of r → row.changes ≡ [] → FitsStorage r v → Adds row.messages row.notes before a after → Does row r v before a r v after
 tells row r v before after (Ok x) table changes fits sent = record {
   table = sym table;
   sent = sent;

@@ -21,8 +21,8 @@ use Rattle.jn_rows.specs.Coordinator.{CoordinatorTable, transaction_at, is_work,
 use Rattle.jn_storage.specs.Orderly.{IsGiven, IsLoadable}
 use Rattle.jn_storage.specs.Storage.{Accounts, StorageView, StorageLater, IsServing}
 use Rattle.jn_storage.specs.Calls.{state, PromiseReleased, with_promises}
-use Rattle.jn_transactions.specs.declared.faults.CoordFault.{CoordFault}
-use Rattle.jn_transactions.specs.declared.faults.CoordFault.TheVariants.{Stopped, Memory}
+use Rattle.jn_base.specs.declared.fault.CallFault.{CallFault}
+use Rattle.jn_base.specs.declared.fault.CallFault.TheVariants.{Stopped, Memory}
 use Rattle.jn_transactions.specs.Telling.{added, Longer}
 use Rattle.jn_coord.specs.Remembered.{Remembered, table_of, rises}
 
@@ -122,8 +122,8 @@ pub record IsStopped (row : RowOutcome CoordinatorTable) (v : StorageView) (w : 
   pub reaches : Reaches v (length row.changes) w
   pub stop : IsStop v.store w.store
 
--- A call whose row this is, where what is sent and told may have to be taken back.
-abbrev pub Does : {A : Type 0} → RowOutcome CoordinatorTable → Remembered → StorageView → Collected → Result A CoordFault → Remembered → StorageView → Collected → Type 0
+-- A call whose row this is, where what is sent and reported may have to be taken back.
+abbrev pub Does : {A : Type 0} → RowOutcome CoordinatorTable → Remembered → StorageView → Collected → Result A CallFault → Remembered → StorageView → Collected → Type 0
 Does row r v before (Ok x) r' w after = IsDone row v before r' w after
 Does row r v before (Err Memory) r' w after = (r' ≡ r) × (w ≡ v) × Longer before after
 Does row r v before (Err Stopped) r' w after = IsStopped row v w × Longer before after
@@ -144,6 +144,6 @@ free_of v = v.accounts.free_records - v.accounts.promised_records
 abbrev pub IsPromised : StorageView → StorageView → Type 0
 IsPromised v w = w ≡ record v { accounts = with_promises v.accounts (v.accounts.promised_records + 1) }
 
-abbrev pub is_memory : {A : Type 0} → Result A CoordFault → Bool
+abbrev pub is_memory : {A : Type 0} → Result A CallFault → Bool
 is_memory (Err Memory) = true
 is_memory r = false

@@ -10,8 +10,8 @@ use Rattle.jn_storage.specs.Storage.{StorageView, StorageLater, IsServing}
 use Rattle.jn_storage.specs.Orderly.{IsLoadable}
 use Rattle.jn_storage.specs.Calls.{state, FlagDropped}
 use Rattle.jn_store.specs.Store.{IsStop}
-use Rattle.jn_transactions.specs.declared.faults.CoordFault.{CoordFault}
-use Rattle.jn_transactions.specs.declared.faults.CoordFault.TheVariants.{Stopped, Memory}
+use Rattle.jn_base.specs.declared.fault.CallFault.{CallFault}
+use Rattle.jn_base.specs.declared.fault.CallFault.TheVariants.{Stopped, Memory}
 use Rattle.jn_transactions.specs.Stages.{goes}
 use Rattle.jn_transactions.specs.Closing.{next_closing}
 use Rattle.jn_coord.specs.Remembered.{Remembered}
@@ -42,7 +42,7 @@ pub record StaysOrGoes (x : Transaction) (v w : StorageView) : Type 0 where
   pub one : thanked_changes x.stage x ≡ DropFlag x.tid ∷ []
   pub dropped : FlagDropped v x.tid false w
 
-abbrev pub LetsGo : {A : Type 0} → Transaction → StorageView → Result A CoordFault → StorageView → Type 0
+abbrev pub LetsGo : {A : Type 0} → Transaction → StorageView → Result A CallFault → StorageView → Type 0
 LetsGo x v (Ok y) w = GoneFrom x v w
 LetsGo x v (Err Stopped) w = StaysOrGoes x v w
 LetsGo x v (Err Memory) w = ⊥
@@ -74,14 +74,14 @@ pub record ClosingStopped (who : Option ClientNo) (r : Remembered) (v : StorageV
   pub stop : IsStop v.store w.store
 
 -- one transaction more is closed; false where none is left
-abbrev pub ClosesNext : Option ClientNo → Remembered → StorageView → Result Bool CoordFault → Remembered → StorageView → Type 0
+abbrev pub ClosesNext : Option ClientNo → Remembered → StorageView → Result Bool CallFault → Remembered → StorageView → Type 0
 ClosesNext who r v (Ok true) r' w = ClosesOn who r v r' w × (length r'.transactions + 1 ≤ length r.transactions)
 ClosesNext who r v (Ok false) r' w = (next_closing who r.transactions ≡ None) × (r' ≡ r) × (w ≡ v)
 ClosesNext who r v (Err Stopped) r' w = ClosingStopped who r v w
 ClosesNext who r v (Err Memory) r' w = ⊥
 
 -- every transaction that goes is closed
-abbrev pub ClosesAll : {A : Type 0} → Option ClientNo → Remembered → StorageView → Result A CoordFault → Remembered → StorageView → Type 0
+abbrev pub ClosesAll : {A : Type 0} → Option ClientNo → Remembered → StorageView → Result A CallFault → Remembered → StorageView → Type 0
 ClosesAll who r v (Ok x) r' w = ClosesOn who r v r' w × (next_closing who r'.transactions ≡ None)
 ClosesAll who r v (Err Stopped) r' w = ClosingStopped who r v w
 ClosesAll who r v (Err Memory) r' w = ⊥
@@ -98,7 +98,7 @@ pub record ClientClosed (who : Option ClientNo) (r : Remembered) (v : StorageVie
   pub later : StorageLater v w
   pub no_stop : w.store.stops ≡ v.store.stops
 
-abbrev pub ClosesClient : {A : Type 0} → Option ClientNo → Remembered → StorageView → Result A CoordFault → Remembered → StorageView → Type 0
+abbrev pub ClosesClient : {A : Type 0} → Option ClientNo → Remembered → StorageView → Result A CallFault → Remembered → StorageView → Type 0
 ClosesClient who r v (Ok x) r' w = ClientClosed who r v r' w
 ClosesClient who r v (Err Stopped) r' w = ClosingStopped who r v w
 ClosesClient who r v (Err Memory) r' w = ⊥

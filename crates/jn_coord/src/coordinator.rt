@@ -17,7 +17,7 @@ ghost use Rattle.jn_rows.specs.Coordinator.{CoordinatorTable};
 ghost use Rattle.jn_rows.specs.Outcomes as outcomes;
 ghost use Rattle.jn_storage.specs.Storage.{StorageView, IsServing};
 ghost use Rattle.jn_storage.specs.Calls.{state};
-ghost use Rattle.jn_transactions.specs.declared.faults.CoordFault.TheVariants.{Stopped};
+ghost use Rattle.jn_base.specs.declared.fault.CallFault.TheVariants.{Stopped};
 ghost use Rattle.jn_coord.specs.Remembered.{table_of};
 ghost use Rattle.jn_coord.specs.Beginning.{TicketsFit};
 ghost use Rattle.jn_transactions.specs.Closing.{tid_in, next_closing, knowing};

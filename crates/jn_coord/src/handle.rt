@@ -6,7 +6,8 @@ ghost use Rattle.jn_rows.specs.Coordinator as rows;
 ghost use Rattle.jn_coord.specs.Remembered.{table_of};
 ghost use Rattle.jn_coord.specs.Calls.{FitsStorage, Does, free_of};
 ghost use Rattle.jn_coord.specs.Beginning.{TicketsFit};
-ghost use Rattle.jn_coord.specs.Handling.{FewWorks, Handles, is_begin};
+ghost use Rattle.jn_coord.specs.Handling.{Handles, is_begin};
+ghost use Rattle.jn_msgs.specs.Ranges.{CanBeTaken};
 
 use crate::coordinator::Coordinator;
 use jn_base::Tickets;
@@ -24,7 +25,7 @@ impl Coordinator {
         out: &mut Out,
     ) -> Result<(), CoordFault>
         requires fits { FitsStorage self.old (F.view store.old) }
-        requires few { FewWorks message.now }
+        requires taken { CanBeTaken message.now }
         requires other { is_begin message.now ≡ false }
         ensures { Does (rows.coordinator_row (table_of self.old) (free_of (F.view store.old)) tickets message.now) self.old (F.view store.old) out.old result self.new (F.view store.new) out.new }
     {
@@ -43,7 +44,7 @@ impl Coordinator {
         }
     }
 
-    /// Takes a message; what is sent and told may have to be taken back.
+    /// Takes a message; what is sent and reported may have to be taken back.
     fn take_any<F: FlagStore>(
         &mut self,
         store: &mut F,
@@ -52,7 +53,7 @@ impl Coordinator {
         out: &mut Out,
     ) -> Result<(), CoordFault>
         requires fits { FitsStorage self.old (F.view store.old) }
-        requires few { FewWorks message.now }
+        requires taken { CanBeTaken message.now }
         requires tickets { TicketsFit self.old (F.view store.old) tickets.old }
         requires next { tickets.old.next + 1 < 2 ^ 32 }
         ensures does { Does (rows.coordinator_row (table_of self.old) (free_of (F.view store.old)) tickets.old message.now) self.old (F.view store.old) out.old result self.new (F.view store.new) out.new }
@@ -75,7 +76,7 @@ impl Coordinator {
         out: &mut Out,
     ) -> Result<(), CoordFault>
         requires fits { FitsStorage self.old (F.view store.old) }
-        requires few { FewWorks message.now }
+        requires taken { CanBeTaken message.now }
         requires tickets { TicketsFit self.old (F.view store.old) tickets.old }
         requires next { tickets.old.next + 1 < 2 ^ 32 }
         ensures handles { Handles (rows.coordinator_row (table_of self.old) (free_of (F.view store.old)) tickets.old message.now) self.old (F.view store.old) out.old tickets.old result self.new (F.view store.new) out.new tickets.new }

@@ -27,7 +27,7 @@ count_told-append : (f : FaultKind → Bool) (xs ys : List Outside) → count_to
 count_told-append f [] ys = omega arith
 count_told-append f (x ∷ xs) ys = grind (arith, count_told-append f xs ys)
 
--- no more is told than the fault that struck
+-- no more is reported than the fault that struck
 told_one : (f : FaultKind → Bool) (g : FaultKind → Bool) (p : ℕ) (k : Option FaultKind) → count_told f (told_of g p k) ≤ struck_count f k
 told_one f g p None = omega arith
 told_one f g p (Some k) = grind arith
@@ -53,7 +53,7 @@ met_sound s (Some StopAfter) i below had = had
 met_struck : (s : DeviceState) (k : Option FaultKind) (q : ℕ) → ((page_met s k q).good ≡ (s.pages q).good) ⊎ (struck_count (touches q) k ≡ 1)
 met_struck s k q = grind (arith, nat_tests)
 
--- what each call does to the faults, whatever it tells
+-- what each call does to the faults, whatever it reports
 module _ (s : DeviceState) (stops is_done : Bool) (g : FaultKind → Bool) (p : ℕ) (t : DeviceState) (call : CallStep s stops is_done (told_of g p (strike s)) t) where
   call_used : (f : FaultKind → Bool) → count_kind f t.waiting ≤ count_kind f s.waiting
   call_used f = grind (arith, spent_on f s.waiting, ap (count_kind f) call.waiting)

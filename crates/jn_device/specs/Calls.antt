@@ -1,4 +1,4 @@
--- One call of the device: what it meets, what it does to its page, what it answers and what it tells.
+-- One call of the device: what it meets, what it does to its page, what it answers and what it reports.
 use Rattle.std.specs.Prelude.{◌≡◌, ◌≢◌, ℕ, ◌-◌, ◌+◌, ◌/◌, nat_lt, Bool, true, false, not, ◌&&◌, if◌then◌else◌, List, [], ◌∷◌, ◌++◌, Option, Some, None, Result, Ok, Err}
 use Rattle.jn_base.specs.declared.device.FaultKind.{FaultKind}
 use Rattle.jn_base.specs.declared.device.FaultKind.TheVariants.{Soft, Null, Bad, Decay, StopBefore, StopTorn, StopAfter}
@@ -123,7 +123,7 @@ abbrev pub struck_page : ℕ → FaultKind → ℕ
 struck_page p (Decay d) = d
 struck_page p _ = p
 
--- what is told of the fault that met a call at page p
+-- what is reported of the fault that met a call at page p
 abbrev pub told_of : (FaultKind → Bool) → ℕ → Option FaultKind → List Outside
 told_of is_outside p None = []
 told_of is_outside p (Some k) = if is_outside k then (record { kind = k; page = struck_page p k }) ∷ [] else []

@@ -62,6 +62,6 @@ pub record Arms (s : DeviceState) (n : ℕ) (kind : FaultKind) (answer : Bool) (
 abbrev pub disarmed : DeviceState → DeviceState
 disarmed s = record s { waiting = [] }
 
--- what was told is forgotten
+-- what was reported is forgotten
 abbrev pub cleared : DeviceState → DeviceState
 cleared s = record s { told = [] }

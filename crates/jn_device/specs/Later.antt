@@ -11,7 +11,7 @@ abbrev pub count_kind : (FaultKind → Bool) → List Armed → ℕ
 count_kind f [] = 0
 count_kind f (w ∷ ws) = (if f w.kind then 1 else 0) + count_kind f ws
 
--- how many of those that were told
+-- how many of those that were reported
 abbrev pub count_told : (FaultKind → Bool) → List Outside → ℕ
 count_told f [] = 0
 count_told f (o ∷ os) = (if f o.kind then 1 else 0) + count_told f os
@@ -36,7 +36,7 @@ darkness power = if power then 0 else 1
 pub record Spends (waiting waiting' : List Armed) (told told' : List Outside) (power power' : Bool) : Type 0 where
   -- none was added
   pub used : (f : FaultKind → Bool) → count_kind f waiting' ≤ count_kind f waiting
-  -- each that was told used up one that waited
+  -- each that was reported used up one that waited
   pub told_of : (f : FaultKind → Bool) → count_kind f waiting' + count_told f told' ≤ count_kind f waiting + count_told f told
   -- and so did a stop that took the power
   pub stop_of : count_kind is_stop waiting' + darkness power' ≤ count_kind is_stop waiting + darkness power

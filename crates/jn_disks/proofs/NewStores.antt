@@ -1,5 +1,5 @@
 -- A store of zeros with a root, as a new server has it: its pages fix what a recovery finds there.
-use Rattle.jn_disks.proofs.Common.{◌≡◌, ℕ, zero, suc, ◌+◌, ◌<◌, ◌^◌, ◌&&◌, ◌≤◌, nat_eq, nat_lt, ◌*◌, ◌-◌, Bool, true, false, true≢false, if◌then◌else◌, List, [], ◌∷◌, Some, None, drop, replicate, refl, sym, ◌∙◌, ap, subst, arith, option_map, option_and_then, there, blank_page, IsNewStore, IsNewDisk, new_page, no_files, CountsFit, IsFresh, IsImage, image_on, counts_of, image_fresh, Image, IsSound, Counts, page_count, slot_place, head_place, data_place, is_used, file_in, is_head_of, head_from, block_in, files_of_pages, StoreView, StorePut, IsBlank, IsOnly, StoreLater, nat_tests, place_in}
+use Rattle.jn_disks.proofs.Common.{◌≡◌, ℕ, zero, suc, ◌+◌, ◌<◌, ◌^◌, ◌&&◌, ◌≤◌, nat_eq, nat_lt, ◌*◌, ◌-◌, Bool, true, false, true≢false, if◌then◌else◌, List, [], ◌∷◌, Some, None, drop, replicate, refl, sym, ◌∙◌, ap, subst, arith, option_map, option_and_then, there, blank_page, IsNewStore, IsNewDisk, new_page, no_files, CountsFit, IsFresh, IsImage, image_on, counts_of, image_fresh, Image, IsSound, Counts, page_count, slot_place, head_place, data_place, is_used, file_in, is_head_of, head_from, block_in, files_of_pages, StoreView, StorePut, IsBlank, IsOnly, StoreLater, nat_tests, place_in, root_by}
 use Rattle.std.proofs.Math.Path.{fun_ext}
 use Rattle.jn_base.specs.declared.device.Outside.{Outside}
 use Rattle.jn_base.specs.declared.names.FileNo.{FileNo}
@@ -12,7 +12,7 @@ use Rattle.jn_records.specs.declared.head.Head.TheVariants.{Free as FreeHead}
 use Rattle.jn_records.specs.declared.record.Record.TheVariants.{Free}
 use Rattle.jn_records.specs.declared.root.Root.{Root}
 use Rattle.jn_records.specs.Heads.{head_page}
-use Rattle.jn_records.specs.Pages.{root_page}
+use Rattle.jn_records.specs.Pages.{format_version, root_page}
 use Rattle.jn_records.specs.Records.{record_page}
 
 -- ---- the page of zeros
@@ -50,7 +50,7 @@ behind root p least = ap (λ b. if b then root_page root else blank_page) (not_f
     not_first : (a : ℕ) → 0 < a → nat_eq a 0 ≡ false
     not_first a l = grind (arith, nat_tests, l)
 
-module _ (root : Root) (epoch_fits : root.epoch < 2 ^ 32) (fit : CountsFit root.server (counts_of root)) (v : StoreView) (new : IsNewStore root v) where
+module _ (root : Root) (version : root.version ≡ format_version) (epoch_fits : root.epoch < 2 ^ 32) (fit : CountsFit root.server (counts_of root)) (v : StoreView) (new : IsNewStore root v) where
   abbrev g : Counts
   g = counts_of root
 
@@ -85,13 +85,16 @@ module _ (root : Root) (epoch_fits : root.epoch < 2 ^ 32) (fit : CountsFit root.
   blank : (p : ℕ) → 0 < p → p < page_count (counts_of root) → image.bytes p ≡ blank_page
   blank p least lt = first p lt ∙ behind root p least
 
+  root_stands : image.bytes 0 ≡ root_page (root_by root.server (counts_of root) root.epoch)
+  root_stands = first 0 (omega arith) ∙ ap (λ (n : ℕ). root_page (record root { version = n })) version
+
   unused : (i : ℕ) → i < root.heads → is_used (image.bytes (head_place (counts_of root) i)) ≡ true → ⊥
   unused i lt used = true≢false (sym used ∙ ap is_used (blank (head_place (counts_of root) i) (omega arith) (omega (arith, lt))) ∙ blank_unused)
 
   sound : IsSound root.server (image_on root.server (counts_of root) v)
   sound = record {
     server = refl;
-    root = (root.epoch, epoch_fits, first 0 (omega arith));
+    root = (root.epoch, epoch_fits, root_stands);
     good = good;
     pairs = λ i lt. first i lt ∙ sym (second i lt);
     pool = λ i lt. blank (slot_place (counts_of root) i) (omega arith) (omega (arith, lt)) ∙ blank_record;
@@ -129,7 +132,7 @@ module _ (root : Root) (epoch_fits : root.epoch < 2 ^ 32) (fit : CountsFit root.
   is_new_disk = record {
     store = new;
     fresh = subst (λ f. IsFresh root.server (counts_of root) root.epoch f v) files_none
-        (image_fresh root.server image v sound fit (record { count = sym new.count; pages = only }) root.epoch epoch_fits (first 0 (omega arith)));
+        (image_fresh root.server image v sound fit (record { count = sym new.count; pages = only }) root.epoch epoch_fits root_stands);
   }
 
 -- ---- a put of the root
@@ -169,5 +172,5 @@ module _ (root : Root) (v w : StoreView) (blank : IsBlank (page_count (counts_of
     };
   }
 
-  pub new_is : root.epoch < 2 ^ 32 → CountsFit root.server (counts_of root) → IsNewDisk root w
-  new_is epoch_fits fit = is_new_disk root epoch_fits fit w new_store
+  pub new_is : root.version ≡ format_version → root.epoch < 2 ^ 32 → CountsFit root.server (counts_of root) → IsNewDisk root w
+  new_is version epoch_fits fit = is_new_disk root version epoch_fits fit w new_store

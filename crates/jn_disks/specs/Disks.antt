@@ -11,9 +11,9 @@ use Rattle.jn_records.specs.Sound.{Image, IsSound}
 use Rattle.jn_records.specs.StablePages.{root_by, Counts, counts_of, page_count, files_of_pages}
 use Rattle.jn_store.specs.DeviceCalls.{put_calls}
 use Rattle.jn_store.specs.Store.{StoreView, IsCalm, IsWholePage, IsOnly}
-use Rattle.jn_found.specs.Images.{CountsFit, IsFresh}
+use Rattle.jn_page_state.specs.Images.{CountsFit, IsFresh}
 
--- no fault waits, none was told, and both halves of each page are good and equal
+-- no fault waits, none was reported, and both halves of each page are good and equal
 pub record IsUntouched (v : StoreView) : Type 0 where
   pub calm : IsCalm v
   pub told : v.told ≡ []

@@ -4,10 +4,11 @@
 ghost use Rattle.std.specs.Prelude.{◌≡◌, ◌≤◌, ◌<◌, ◌+◌, ◌^◌, IfOk};
 ghost use Rattle.jn_base.specs.declared.names.ServerNo.{ServerNo};
 ghost use Rattle.jn_disks.specs.Disks.{IsNewStore, IsNewDisk, HasNewDevice, AreSound, HasPages, IsStoreOfPages, no_files, files_in};
-ghost use Rattle.jn_found.specs.Images.{CountsFit, IsImage};
+ghost use Rattle.jn_page_state.specs.Images.{CountsFit, IsImage};
 ghost use Rattle.jn_memdisk.specs.Disk.{IsNew};
 ghost use Rattle.jn_order.specs.Files.{Files};
 ghost use Rattle.jn_records.specs.declared.root.Root.{Root as RootOf};
+ghost use Rattle.jn_records.specs.Pages.{format_version};
 ghost use Rattle.jn_records.specs.StablePages.{Counts, counts_of, page_count};
 ghost use Rattle.jn_store.specs.DeviceCalls.{put_calls};
 ghost use Rattle.jn_store.specs.Store.{StoreView, IsBlank};
@@ -21,6 +22,7 @@ use std::alloc::{AllocError, Global};
 
 /// The store of a new server: zeros behind its root.
 pub fn new_store(alloc: Global, root: Root) -> Result<Pairs<MemDisk>, AllocError>
+    requires { root.version ≡ format_version }
     ensures new { IfOk result (λ store. IsNewDisk root (⟦<Pairs<MemDisk> as StableStore>⟧.view store)) }
     ensures device { IfOk result (λ store. HasNewDevice root (⟦<Pairs<MemDisk> as Powered>⟧.device store)) }
 {
@@ -33,13 +35,14 @@ pub fn new_store(alloc: Global, root: Root) -> Result<Pairs<MemDisk>, AllocError
 /// A new store is fixed by its pages. A recovery may begin there and finds the root's epoch alone, and the pages are a sound image
 /// without files.
 pub fn a_new_store_is_a_new_disk()
-    ensures disk { (root : RootOf) (v : StoreView) → root.epoch < 2 ^ 32 → CountsFit root.server (counts_of root) → IsNewStore root v → IsNewDisk root v }
-    ensures image { (root : RootOf) (v : StoreView) → root.epoch < 2 ^ 32 → CountsFit root.server (counts_of root) → IsNewStore root v → IsImage root.server (counts_of root) no_files v }
+    ensures disk { (root : RootOf) (v : StoreView) → root.version ≡ format_version → root.epoch < 2 ^ 32 → CountsFit root.server (counts_of root) → IsNewStore root v → IsNewDisk root v }
+    ensures image { (root : RootOf) (v : StoreView) → root.version ≡ format_version → root.epoch < 2 ^ 32 → CountsFit root.server (counts_of root) → IsNewStore root v → IsImage root.server (counts_of root) no_files v }
 {}
 
 /// Puts the root of a new server to a store of zeros.
 pub fn put_root<S: StableStore>(store: &mut S, root: Root)
-    requires { IsBlank (1 + root.pool + root.heads + root.leaves) (S.view store.old) }
+    requires version { root.version ≡ format_version }
+    requires blank { IsBlank (1 + root.pool + root.heads + root.leaves) (S.view store.old) }
     ensures new { IsNewDisk root (S.view store.new) }
     ensures device { (S.view store.new).device.count ≡ (S.view store.old).device.count }
     ensures calls { (S.view store.new).calls ≤ put_calls }

@@ -18,10 +18,10 @@ pub use Rattle.jn_records.specs.Heads.{has_page, within, FileFits, IsHead, head_
 unfoldable pub use Rattle.jn_records.specs.Heads.{head_page}
 pub use Rattle.jn_index.specs.Numbers.{number_at, is_above as is_number_above, IsSlotFrom, IsNumberAbove}
 pub use Rattle.jn_files.specs.Calls.{is_above, NextFile, HasPagesOfTable, Fills, with_touched, StoreRead, IsLoaded, IsChanged, PutsHead, IsPlaceOf, MayBecome, SetsHead, Touches, BlockGot}
-pub use Rattle.jn_files.specs.Inside.{AreIndexed, head_number, file_number, ChangesBlocks, MayDrop, IsDropped, DropsAmong, Drops, freed_one, table_view, IsNamedPage, IsHeadAt, AreFreeHeads, AreFreeLeaves, MayTakeNamed, TakesNamed, taken_one, ReadTo, AreNamed, NamesAmong, NamedBefore, Marks, marked_one, IsChange, AreLeaves, MayStand}
+pub use Rattle.jn_files.specs.Inside.{AreIndexed, head_number, file_number, ChangesBlocks, MayDrop, IsDropped, DropsAmong, Drops, freed_one, table_view, IsNamedPage, IsHeadAt, AreFreeHeads, AreFreeLeaves, MayTakeNamed, TakesNamed, taken_one, AreNamed, NamesAmong, Marks, marked_one, IsChange, AreLeaves, MayStand}
 pub use Rattle.jn_alloc.specs.Free.{FreeNumbers, with_free, count_of, is_free as is_free_number, free_count, IsLeastFree}
-pub use Rattle.jn_records.specs.StablePages.{Pages, head_place, data_place, files_of_pages, counts_of, Counts, page_count, is_head_of, head_from, head_of, address_in, block_behind, block_in, Counts as PageCounts}
+pub use Rattle.jn_records.specs.StablePages.{Pages, head_place, data_place, files_of_pages, counts_of, Counts, Counts as PageCounts, page_count, is_head_of, head_from, head_of, address_in, block_behind, block_in}
 pub use Rattle.jn_store.specs.Store.{StoreView, StorePut, IsServed, IsOnly, IsSamePage, StoreLater, StoreGot, StoreCleaned, Candidate, IsStop, IsCalm, IsWholePage}
-pub use Rattle.jn_store.specs.Choices.{IsChoice, Leads, with_page}
+pub use Rattle.jn_store.specs.Choices.{IsChoice, with_page}
 pub use Rattle.jn_files.specs.Pages.{leaves_in, leaf_page, IsLeaf, HoldsTable, files_in, IsLoadable, Says, HoldsHeads}
 pub use Rattle.jn_store.proofs.Laws.{later_refl, later_trans, same_refl, same_trans, shrinks_only, stop_since}

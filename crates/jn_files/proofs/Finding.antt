@@ -38,9 +38,6 @@ module _ (files : List (Option ℕ)) (heads : List Head) (are : AreIndexed files
         | inr le ↦ absurd (let none : number_at files slot ≡ None = get_or_past files slot None (let same = are.slots in omega arith) in let some = found.here in cc (none, some))
       ]
 
-  pub slot_lowest : (f : FileNo) (slot : ℕ) → IsSlotFrom files f.0 0 slot → (k : ℕ) → is_of f (head_in heads k) ≡ true → slot ≤ k
-  slot_lowest f slot found k e = found.lowest k (omega arith) (are.each k ∙ its_number f (head_in heads k) e)
-
   pub slot_there : (f : FileNo) (slot : ℕ) → IsSlotFrom files f.0 0 slot → exists heads f ≡ true
   slot_there f slot found = has_file f heads slot (slot_found f slot found).1
 

@@ -1,9 +1,16 @@
 -- A table is loaded, head by head, and what is free is counted out.
-use Rattle.jn_files.proofs.Common.{◌≡◌, ◌≢◌, inl, inr, ◌<◌, ◌+◌, ◌-◌, ◌^◌, ℕ, zero, suc, Bool, true, false, List, [], ◌∷◌, ◌++◌, length, refl, sym, ap, subst, ◌∙◌, arith, cases_eq, cases_lt, nat_tests, get_or-set_same, get_or-set_other, length-set, get_or_past, slice_index_or, take, nat_eq, if◌then◌else◌, FreeNumbers, is_free_number, with_free, Head, Free, head_page, counts_of, Counts, head_place, StoreView, IsServed, later_refl, later_trans, same_refl, same_trans, head_in, address_of, AreHeads, IsTable, IsLoadable, StoreRead, IsLoaded, table_view, IsHeadAt, AreFreeHeads, AreFreeLeaves, MayTakeNamed, TakesNamed, taken_one, ReadTo}
+use Rattle.jn_files.proofs.Common.{◌≡◌, ◌≢◌, inl, inr, ◌<◌, ◌+◌, ◌-◌, ◌^◌, ℕ, zero, suc, Bool, true, false, List, [], ◌∷◌, ◌++◌, length, refl, sym, ap, subst, ◌∙◌, arith, cases_eq, cases_lt, nat_tests, get_or-set_same, get_or-set_other, length-set, get_or_past, slice_index_or, take, nat_eq, if◌then◌else◌, FreeNumbers, is_free_number, with_free, Head, Free, head_page, counts_of, Counts, head_place, StoreView, IsServed, later_refl, later_trans, same_refl, same_trans, head_in, address_of, AreHeads, IsTable, IsLoadable, StoreRead, IsLoaded, table_view, IsHeadAt, AreFreeHeads, AreFreeLeaves, MayTakeNamed, TakesNamed, taken_one, PageCounts}
 use Rattle.jn_records.specs.declared.root.Root.{Root}
 use Rattle.jn_files.proofs.Cutting.{address_below}
 use Rattle.jn_files.proofs.Putting.{named_below, same_only}
 use Rattle.jn_files.proofs.Setting.{set_below}
+
+-- the first slots are read
+pub record ReadTo (g : PageCounts) (v : StoreView) (n : ℕ) (slots : List Head) (w : StoreView) : Type 0 where
+  pub front : (heads : List Head) → IsLoadable g heads v → slots ≡ take n heads
+  pub read : StoreRead v n w
+  pub power : 0 < n → w.power ≡ true
+  pub stops : w.stops ≡ v.stops
 
 -- ---- what a head names is taken
 

@@ -1,8 +1,13 @@
 -- The flags of the data pages that heads name.
-use Rattle.jn_files.proofs.Common.{◌≡◌, ◌≢◌, ◌⊎◌, inl, inr, ⊎_elim, ℕ, zero, suc, ◌+◌, ◌-◌, ◌≤◌, ◌<◌, Bool, true, false, List, length, refl, sym, ap, subst, ◌∙◌, arith, cases_eq, cases_lt, nat_tests, get_or-set_same, get_or-set_other, length-set, nat_eq, not, slice_index_or, slice_set, Head, head_in, address_of, AreHeads, IsHeadOf, IsUnnamed, IsNamedPage, AreNamed, NamesAmong, NamedBefore, Marks, ChangesBlocks, marked_one}
+use Rattle.jn_files.proofs.Common.{◌≡◌, ◌≢◌, ◌⊎◌, inl, inr, ⊎_elim, ℕ, zero, suc, ◌+◌, ◌-◌, ◌≤◌, ◌<◌, Bool, true, false, List, length, refl, sym, ap, subst, ◌∙◌, arith, cases_eq, cases_lt, nat_tests, get_or-set_same, get_or-set_other, length-set, nat_eq, not, slice_index_or, slice_set, Head, head_in, address_of, AreHeads, IsHeadOf, IsUnnamed, IsNamedPage, AreNamed, NamesAmong, Marks, ChangesBlocks, marked_one}
 use Rattle.jn_files.proofs.Cutting.{address_within, address_below}
 use Rattle.jn_files.proofs.Lookup.{when_false}
 use Rattle.jn_files.proofs.Standing.{head_at_slot, head_off_slot}
+
+-- flags of data pages say which of them the first heads name
+pub record NamedBefore (heads : List Head) (n : ℕ) (named : List Bool) : Type 0 where
+  pub set : (a : ℕ) → a < length named → slice_index_or named a false ≡ true → IsNamedPage heads a
+  pub clear : (a : ℕ) → a < length named → slice_index_or named a false ≡ false → (slot p : ℕ) → slot < n → address_of (head_in heads slot) p ≢ suc a
 
 one_less : (b : ℕ) → suc b - 1 ≡ b
 one_less b = omega arith

@@ -1,5 +1,6 @@
 -- What a store holds over the put of a head.
-use Rattle.jn_files.proofs.Common.{◌≡◌, ◌≢◌, ◌⊎◌, inl, inr, ⊎_elim, ◌<◌, ◌+◌, ◌^◌, ℕ, zero, suc, Bool, true, false, List, [], ◌∷◌, length, drop, Option, Some, None, refl, sym, ap, subst, ◌∙◌, arith, fun_ext, cases_eq, cases_lt, nat_tests, length-set, slice_set, slice_index, take, nat_lt, option_map, option_and_then, FileNo, BlockNo, LockUnit, File, Block, Change, change, there, Head, Used, head_page, FileFits, IsHead, Counts, Pages, head_place, data_place, page_count, is_head_of, head_from, head_of, address_in, block_behind, block_in, files_of_pages, StoreView, IsOnly, IsSamePage, StorePut, IsChoice, Leads, with_page, TableView, head_in, is_of, addresses_of, address_of, addresses, address_for, or_nil, behind, files_of, AreHeads, IsTable, Says, leaves_in, IsLeaf, HoldsHeads, HoldsTable, files_in, HasPagesOfTable, IsChanged, PutsHead, IsChange, AreLeaves}
+use Rattle.jn_files.proofs.Common.{◌≡◌, ◌≢◌, ◌⊎◌, inl, inr, ⊎_elim, ◌<◌, ◌+◌, ◌^◌, ℕ, zero, suc, Bool, true, false, List, [], ◌∷◌, length, drop, Option, Some, None, refl, sym, ap, subst, ◌∙◌, arith, fun_ext, cases_eq, cases_lt, nat_tests, length-set, slice_set, slice_index, take, nat_lt, option_map, option_and_then, FileNo, BlockNo, LockUnit, File, Block, Change, change, there, Head, Used, head_page, FileFits, IsHead, Counts, Pages, head_place, data_place, page_count, is_head_of, head_from, head_of, address_in, block_behind, block_in, files_of_pages, StoreView, IsOnly, IsSamePage, StorePut, IsChoice, with_page, TableView, head_in, is_of, addresses_of, address_of, addresses, address_for, or_nil, behind, files_of, AreHeads, IsTable, Says, leaves_in, IsLeaf, HoldsHeads, HoldsTable, files_in, HasPagesOfTable, IsChanged, PutsHead, IsChange, AreLeaves}
+use Rattle.jn_store.proofs.Choices.{Leads}
 use Rattle.jn_store.proofs.Choices.{choice_only, put_leads, done_leads, with_same, with_other, some_choice}
 use Rattle.jn_files.proofs.Cutting.{address_within, address_past}
 use Rattle.jn_files.proofs.Lookup.{when_true, when_false, named_by, of_used}
@@ -9,9 +10,6 @@ use Rattle.jn_files.proofs.Spelled.{page_is_of, page_address}
 -- ---- the files that pages hold are those of the heads that they say
 
 module _ (g : Counts) (pages : Pages) (f : FileNo) where
-  found_head : (xs : List ℕ) → Option (List ℕ)
-  found_head xs = Some (head_page (Used f xs))
-
   abbrev page_of : Option (List ℕ) → Option (List ℕ)
   page_of o = option_map (λ xs. head_page (Used f xs)) o
 
@@ -114,9 +112,6 @@ same_only v w i page same only = record { first = same.first ∙ only.first; sec
 module _ (t : TableView) (v : StoreView) (slot : ℕ) (h : Head) (ok : Bool) (w : StoreView) (put : StorePut v (head_place t.counts slot) (head_page h) ok w)
     (is : IsTable t) (new : AreHeads t.counts.leaves (slice_set t.heads slot h)) (below : slot < t.counts.heads) (fits : HasPagesOfTable t v)
     (holds : HoldsTable t v) (leaf : (p a : ℕ) → address_of h p ≡ suc a → IsLeaf v (data_place t.counts a)) where
-  abbrev hs2 : List Head
-  hs2 = slice_set t.heads slot h
-
   there_is : slot < length t.heads
   there_is = let s = is.slots in omega arith
 

@@ -1,5 +1,5 @@
 -- A head takes the place of a slot's, and the table stays one.
-use Rattle.jn_files.proofs.Common.{◌≡◌, ◌≢◌, inl, inr, ⊎_elim, ℕ, suc, ◌<◌, Bool, true, false, List, length, refl, sym, ap, subst, ◌∙◌, arith, cases_eq, cases_Bool, false_from_ne_true, get_or-set_same, get_or-set_other, length-set, slice_set, slice_index_or, FreeNumbers, is_free_number, Head, Free, PageCounts, TableView, head_in, is_free, is_of, address_of, AreHeads, IsHeadOf, IsFreeLeaf, IsTable, IsUnnamed, IsChanged, table_view, MayStand, MayDrop, DropsAmong, Drops}
+use Rattle.jn_files.proofs.Common.{◌≡◌, ◌≢◌, inl, inr, ⊎_elim, ℕ, suc, ◌<◌, Bool, true, false, List, length, refl, sym, ap, subst, ◌∙◌, arith, cases_eq, cases_Bool, false_from_ne_true, get_or-set_same, get_or-set_other, length-set, slice_set, slice_index_or, FreeNumbers, is_free_number, Head, Free, PageCounts, head_in, is_free, is_of, address_of, AreHeads, IsHeadOf, IsFreeLeaf, IsTable, IsUnnamed, IsChanged, table_view, MayStand, MayDrop, DropsAmong, Drops}
 use Rattle.jn_files.specs.Inside.{Counts}
 use Rattle.jn_files.proofs.Cutting.{address_within, address_below}
 
@@ -54,9 +54,6 @@ module _ (pool : ℕ) (heads : List Head) (held touched : List Bool) (fh fl : Fr
   }
 
   module _ (fh2 fl2 : FreeNumbers) (counts : Counts fh slot (is_free h) fh2) (drops : Drops held (head_in heads slot) h 120 fl fl2) where
-    new_view : TableView
-    new_view = table_view pool (slice_set heads slot h) held touched fh2 fl2
-
     same_length : length (slice_set heads slot h) ≡ length heads
     same_length = length-set heads slot h
 

@@ -1,18 +1,17 @@
 -- How the table keeps its parts.
-use Rattle.std.specs.Prelude.{◌≡◌, ◌≢◌, ◌⊎◌, ℕ, suc, ◌-◌, ◌^◌, ◌<◌, ◌≤◌, Bool, true, false, nat_eq, if◌then◌else◌, not, List, length, slice_set, slice_index_or, take, ◌↔◌, ◌≢◌, Some, None, Option}
+use Rattle.std.specs.Prelude.{◌≡◌, ◌≢◌, ◌⊎◌, ℕ, suc, ◌-◌, ◌^◌, ◌<◌, ◌≤◌, Bool, true, false, nat_eq, if◌then◌else◌, not, List, length, slice_set, slice_index_or, ◌↔◌, ◌≢◌, Some, None, Option}
 use Rattle.jn_alloc.specs.Free.{FreeNumbers, count_of, free_count, is_free as is_free_number, with_free, IsLeastFree}
 use Rattle.jn_base.specs.declared.names.FileNo.{FileNo}
-use Rattle.jn_base.specs.Limits.{most_blocks}
+use Rattle.jn_base.specs.Limits.{head_blocks}
 use Rattle.jn_index.specs.Numbers.{number_at}
 use Rattle.jn_order.specs.Files.{Change, change}
 use Rattle.jn_records.specs.declared.head.Head.{Head}
 use Rattle.jn_records.specs.declared.head.Head.TheVariants.{Free, Used}
-use Rattle.jn_records.specs.StablePages.{Counts as PageCounts, data_place}
+use Rattle.jn_records.specs.StablePages.{data_place}
 use Rattle.jn_records.specs.Heads.{head_page, has_page}
 use Rattle.jn_store.specs.Store.{StoreView, IsOnly}
 use Rattle.jn_files.specs.Table.{TableView, IsTable, IsUnnamed, head_in, is_free, is_of, exists, address_of, files_of, IsHeadOf}
-use Rattle.jn_files.specs.Pages.{IsLeaf, HoldsTable, IsLoadable}
-use Rattle.jn_files.specs.Calls.{StoreRead}
+use Rattle.jn_files.specs.Pages.{IsLeaf, HoldsTable}
 
 abbrev pub table_view : ℕ → List Head → List Bool → List Bool → FreeNumbers → FreeNumbers → TableView
 table_view pool heads held touched free_heads free_leaves = record {
@@ -55,16 +54,11 @@ pub record AreNamed (heads : List Head) (named : List Bool) : Type 0 where
   pub set : (a : ℕ) → a < length named → slice_index_or named a false ≡ true → IsNamedPage heads a
   pub clear : (a : ℕ) → a < length named → slice_index_or named a false ≡ false → IsUnnamed heads a
 
--- so do they of the first heads
-pub record NamedBefore (heads : List Head) (n : ℕ) (named : List Bool) : Type 0 where
-  pub set : (a : ℕ) → a < length named → slice_index_or named a false ≡ true → IsNamedPage heads a
-  pub clear : (a : ℕ) → a < length named → slice_index_or named a false ≡ false → (slot p : ℕ) → slot < n → address_of (head_in heads slot) p ≢ suc a
-
 -- none but these blocks have another data page
 pub record ChangesBlocks (old new : Head) (first end : ℕ) : Type 0 where
   pub range : first ≤ end
-  pub within : end ≤ most_blocks
-  pub same : (p : ℕ) → p < most_blocks → (p < first) ⊎ (end ≤ p) → address_of new p ≡ address_of old p
+  pub within : end ≤ head_blocks
+  pub same : (p : ℕ) → p < head_blocks → (p < first) ⊎ (end ≤ p) → address_of new p ≡ address_of old p
 
 pub record NamesAmong (h : Head) (first n a : ℕ) : Type 0 where
   pub block : ℕ
@@ -161,13 +155,6 @@ pub record TakesNamed (h : Head) (n : ℕ) (v w : FreeNumbers) : Type 0 where
 
 abbrev pub taken_one : ℕ → FreeNumbers → FreeNumbers
 taken_one address v = if nat_eq address 0 then v else with_free v (address - 1) false
-
--- the first slots are read
-pub record ReadTo (g : PageCounts) (v : StoreView) (n : ℕ) (slots : List Head) (w : StoreView) : Type 0 where
-  pub front : (heads : List Head) → IsLoadable g heads v → slots ≡ take n heads
-  pub read : StoreRead v n w
-  pub power : 0 < n → w.power ≡ true
-  pub stops : w.stops ≡ v.stops
 
 -- ---- finding
 

@@ -4,7 +4,7 @@ use Rattle.jn_alloc.specs.Free.{FreeNumbers, count_of, is_free as is_free_number
 use Rattle.jn_base.specs.declared.names.FileNo.{FileNo}
 use Rattle.jn_base.specs.declared.names.LockUnit.TheVariants.{File, Block}
 use Rattle.jn_base.specs.Names.{file_eq}
-use Rattle.jn_base.specs.Limits.{most_blocks}
+use Rattle.jn_base.specs.Limits.{head_blocks}
 use Rattle.jn_order.specs.Files.{Files, there}
 use Rattle.jn_records.specs.declared.head.Head.{Head}
 use Rattle.jn_records.specs.declared.head.Head.TheVariants.{Free, Used}
@@ -33,10 +33,6 @@ head_in heads slot = slice_index_or heads slot Free
 abbrev pub is_free : Head → Bool
 is_free Free = true
 is_free (Used f xs) = false
-
-abbrev pub file_of_head : Head → Option FileNo
-file_of_head Free = None
-file_of_head (Used f xs) = Some f
 
 abbrev pub is_of : FileNo → Head → Bool
 is_of f Free = false
@@ -135,7 +131,7 @@ is_mapped heads f p = nat_lt 0 (address_for heads f p)
 
 -- a file's head without blocks
 abbrev pub fresh_head : FileNo → Head
-fresh_head f = Used f (replicate most_blocks 0)
+fresh_head f = Used f (replicate head_blocks 0)
 
 -- addresses, without those from a block on
 abbrev pub cut_addresses : ℕ → List ℕ → List ℕ

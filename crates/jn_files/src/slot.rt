@@ -1,20 +1,17 @@
 //! A head as the table keeps it.
 ghost use Rattle.std.specs.Prelude.{◌≡◌, ◌^◌, ◌<◌, ◌≤◌, ◌≢◌, ℕ, suc, true, false, length};
-ghost use Rattle.jn_base.specs.Limits.{most_blocks};
+ghost use Rattle.jn_base.specs.Limits.{head_blocks};
 ghost use Rattle.jn_records.specs.declared.head.Head.TheVariants.{Free};
 ghost use Rattle.jn_records.specs.Heads.{head_page, has_page};
 ghost use Rattle.jn_files.specs.Table as table;
 ghost use Rattle.jn_files.specs.Inside as inside;
 
-use jn_base::{FileNo, Page, PageWriter};
+use jn_base::{FileNo, HEAD_BLOCKS, Page, PageWriter};
 use jn_records::{Head, used_page};
 use std::marker::Model;
 
-/// How many blocks a file may have.
-pub const BLOCKS: u16 = 120;
-
 /// Of each block its address: 0 for none, else its data page's index and 1.
-type Addresses = [u16; 120];
+type Addresses = [u16; HEAD_BLOCKS];
 
 /// A head with room for all its addresses, so that none of its changes takes memory. Contracts see the head.
 #[derive(Drop)]
@@ -39,7 +36,7 @@ impl Slot {
     {
         Slot {
             file: None,
-            addresses: [0; 120],
+            addresses: [0; HEAD_BLOCKS],
         }
     }
 
@@ -50,7 +47,7 @@ impl Slot {
     {
         Slot {
             file: Some(file),
-            addresses: [0; 120],
+            addresses: [0; HEAD_BLOCKS],
         }
     }
 
@@ -96,7 +93,7 @@ impl Slot {
 
     /// A block's address, 0 where there is none.
     pub fn address(&self, p: u16) -> u16
-        requires { p < most_blocks }
+        requires { p < head_blocks }
         ensures { result ≡ table.address_of self.now p }
     {
         match self.file {
@@ -117,7 +114,7 @@ impl Slot {
 
     /// The head with a data page for a block.
     pub fn with_leaf(&self, p: u16, a: u16) -> Self
-        requires block { p < most_blocks }
+        requires block { p < head_blocks }
         requires leaf { a < 65535 }
         ensures { result ≡ table.with_leaf p a self.now }
     {
@@ -131,10 +128,10 @@ impl Slot {
 }
 
 fn array_of(list: &[u16]) -> Addresses
-    requires { length list.now ≡ most_blocks }
+    requires { length list.now ≡ head_blocks }
     ensures { result ≡ list.now }
 {
-    let mut addresses = [0; 120];
+    let mut addresses = [0; HEAD_BLOCKS];
     addresses.copy_from_slice(list);
     addresses
 }
@@ -143,7 +140,7 @@ fn cut_addresses(old: &Addresses, n: u16) -> Addresses
     ensures { result ≡ table.cut_addresses n old.now }
 {
     let mut addresses = *old;
-    for block in n..BLOCKS {
+    for block in n..HEAD_BLOCKS as u16 {
         addresses[block as usize] = 0;
     }
     addresses

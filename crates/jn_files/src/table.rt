@@ -1,13 +1,13 @@
 //! The table of files.
 ghost use Rattle.std.specs.Prelude.{◌≡◌, ◌^◌, ◌≢◌, ◌↔◌, ◌<◌, ◌≤◌, ◌+◌, ◌-◌, ℕ, suc, true, false, length, List, slice_set, slice_index_or, Option, Some, None, Ok, Err, is_ok, is_some, IfOk, IfSome, IfNone, IfErr, IsOk, IsSome, OnOk, OnErr, take};
-ghost use Rattle.jn_base.specs.Limits.{most_blocks};
+ghost use Rattle.jn_base.specs.Limits.{most_blocks, head_blocks};
 ghost use Rattle.jn_alloc.specs.Free.{free_count, with_free, is_free as is_free_number, count_of, IsLeastFree};
 ghost use Rattle.jn_order.specs.Files.{Change, created, removed, cut_from, written};
 ghost use Rattle.jn_records.specs.declared.head.Head.{Head as HeadOf};
 ghost use Rattle.jn_records.specs.declared.head.Head.TheVariants.{Free};
 ghost use Rattle.jn_records.specs.StablePages.{counts_of, head_place, data_place, page_count};
 ghost use Rattle.jn_store.specs.Store.{IsCalm, IsServed, IsStop, StorePut};
-ghost use Rattle.jn_files.specs.declared.fault.LoadFault.TheVariants.{Stopped as LoadStopped};
+ghost use Rattle.jn_base.specs.declared.fault.CallFault.TheVariants.{Stopped as LoadStopped};
 ghost use Rattle.jn_files.specs.Table as table;
 ghost use Rattle.jn_files.specs.Pages as pages;
 ghost use Rattle.jn_files.specs.Calls as calls;
@@ -15,9 +15,9 @@ ghost use Rattle.jn_files.specs.Inside as inside;
 
 use crate::fault::LoadFault;
 use crate::heads::Heads;
-use crate::slot::{BLOCKS, Slot};
+use crate::slot::Slot;
 use jn_alloc::FreeList;
-use jn_base::{Block, BlockNo, FileNo, Page, PageWriter, Short, Stopped};
+use jn_base::{Block, BlockNo, FileNo, HEAD_BLOCKS, Page, PageWriter, Short, Stopped};
 use jn_records::{Head, Root};
 use jn_store::StableStore;
 use std::alloc::{AllocError, Global};
@@ -189,7 +189,7 @@ impl FileTable {
         ensures { calls.SetsHead self.old (S.view store.old) f (λ h. table.fresh_head f) (λ leaves. created f) (is_ok result) self.new (S.view store.new) }
     {
         let slot = place_of(&self.heads, &self.free_heads, f);
-        self.put_head(store, slot, Slot::fresh(f), 0, BLOCKS)
+        self.put_head(store, slot, Slot::fresh(f), 0, HEAD_BLOCKS as u16)
     }
 
     /// Makes a file gone. Where it isn't there nothing is done.
@@ -201,7 +201,7 @@ impl FileTable {
         let Some(slot) = self.heads.slot_of(f) else {
             return Ok(());
         };
-        self.put_head(store, slot, Slot::free(), 0, BLOCKS)
+        self.put_head(store, slot, Slot::free(), 0, HEAD_BLOCKS as u16)
     }
 
     /// Takes the blocks of a file from one on away.
@@ -220,7 +220,7 @@ impl FileTable {
             unreachable!()
         };
         let head = self.heads.slot(slot).cut(n.0);
-        self.put_head(store, slot, head, n.0, BLOCKS)
+        self.put_head(store, slot, head, n.0, HEAD_BLOCKS as u16)
     }
 
     /// Makes a data page that is held a file's block.
@@ -489,9 +489,9 @@ fn free_leaves(alloc: Global, leaves: u16, slots: &[Slot]) -> Result<FreeList, A
 /// Takes the data pages that a head names.
 fn take_named(free: &mut FreeList, head: &Slot)
     requires { inside.MayTakeNamed head.now free.old }
-    ensures { inside.TakesNamed head.now most_blocks free.old free.new }
+    ensures { inside.TakesNamed head.now head_blocks free.old free.new }
 {
-    for p in 0..BLOCKS {
+    for p in 0..HEAD_BLOCKS as u16 {
         take_one(free, head.address(p));
     }
 }
@@ -558,7 +558,7 @@ fn named_pages(alloc: Global, leaves: u16, slots: &[Slot]) -> Result<Vec<bool>, 
 {
     let mut named = none_set(alloc, leaves)?;
     for head in slots {
-        mark(&mut named, head, 0, BLOCKS, true);
+        mark(&mut named, head, 0, HEAD_BLOCKS as u16, true);
     }
     Ok(named)
 }
@@ -566,7 +566,7 @@ fn named_pages(alloc: Global, leaves: u16, slots: &[Slot]) -> Result<Vec<bool>, 
 /// Sets the flags of the data pages that a head names for its blocks from `first` to `end`.
 fn mark(flags: &mut Vec<bool>, head: &Slot, first: u16, end: u16, is: bool)
     requires range { first ≤ end }
-    requires within { end ≤ most_blocks }
+    requires within { end ≤ head_blocks }
     requires below { (p a : ℕ) → table.address_of head.now p ≡ suc a → a < length flags.old.items }
     ensures { inside.Marks head.now is first end flags.old.items flags.new.items }
 {
@@ -603,7 +603,7 @@ fn count_head(free_heads: &mut FreeList, slot: u16, was: bool, is: bool)
 fn free_dropped(free: &mut FreeList, held: &[bool], old: &Slot, new: &Slot, first: u16, end: u16)
     requires may { inside.MayDrop held.now old.now free.old }
     requires blocks { inside.ChangesBlocks old.now new.now first end }
-    ensures { inside.Drops held.now old.now new.now most_blocks free.old free.new }
+    ensures { inside.Drops held.now old.now new.now head_blocks free.old free.new }
 {
     for p in first..end {
         free_one(free, held, old.address(p), new.address(p));

@@ -4,13 +4,14 @@ ghost use Rattle.std.specs.Prelude.{◌≡◌, ◌↔◌, true, IfOk, OnOk, IsTr
 ghost use Rattle.jn_base.specs.declared.names.ServerNo.{ServerNo};
 ghost use Rattle.jn_base.specs.declared.op.Command.TheVariants as commands;
 ghost use Rattle.jn_following.specs.Asked.{outstanding_of};
+ghost use Rattle.jn_report.specs.Kinds.{answer_in, is_own_refusal};
 ghost use Rattle.jn_serial.specs.Follows as follows;
 ghost use Rattle.jn_serial.specs.Lines.{count_lines, says};
 
 use jn_base::{ClientNo, Command, Op};
-use jn_report::{Line, Refusal, Text, When};
+use jn_report::{Line, Refusal, Text, When, answer_in, is_answer, is_own, is_own_refusal};
 use jn_schedule::Event;
-use jn_serial::{Addressed, Asked, is_own, lines_at_event, refuses_own};
+use jn_serial::{Asked, lines_at_event, refuses_own};
 use std::alloc::{AllocError, Global};
 
 /// A command that a client waits for from now on, or none.
@@ -100,35 +101,6 @@ fn answers_command(command: &Command, text: &Text) -> bool
     }
 }
 
-fn to_client(client: ClientNo, number: u32) -> Option<Addressed>
-    ensures { result ≡ follows.addressed client number }
-{
-    Some(Addressed { client, number })
-}
-
-/// Whom a line answers, if it answers a client.
-fn answer_in(text: &Text) -> Option<Addressed>
-    ensures { result ≡ follows.answer_in text.now }
-{
-    match text {
-        Text::Begun(client, number, _) => to_client(*client, *number),
-        Text::Opened(client, number, _) => to_client(*client, *number),
-        Text::Did(client, number) => to_client(*client, *number),
-        Text::Read(client, number, _) => to_client(*client, *number),
-        Text::Refused(client, number, refusal) => {
-            if is_own(*refusal) {
-                None
-            } else {
-                to_client(*client, *number)
-            }
-        }
-        Text::Waiting(client, number, _, _, _) => to_client(*client, *number),
-        Text::Committed(client, number, _) => to_client(*client, *number),
-        Text::Aborted(client, number, _, _) => to_client(*client, *number),
-        _ => None,
-    }
-}
-
 /// Whether it is the last answer to its command.
 fn is_last(text: &Text) -> bool
     ensures { result ≡ follows.is_last text.now }
@@ -160,7 +132,7 @@ fn fits_entries(entries: &[Entry], client: ClientNo, number: u32, text: &Text) -
 
 /// Whether the text answers no client, or what the client waits for.
 fn fits(entries: &[Entry], text: &Text) -> bool
-    ensures { result ≡ follows.fits (outstanding_of entries.now) (follows.answer_in text.now) text.now }
+    ensures { result ≡ follows.fits (outstanding_of entries.now) (answer_in text.now) text.now }
 {
     match answer_in(text) {
         Some(to) => fits_entries(entries, to.client, to.number, text),
@@ -172,7 +144,7 @@ fn fits(entries: &[Entry], text: &Text) -> bool
 /// After its last answer a client waits for nothing.
 fn take_answer(entries: &mut Vec<Entry>, text: &Text) -> Result<(), AllocError>
     ensures { OnOk result (outstanding_of entries.new.items
-        ≡ follows.after_answer (outstanding_of entries.old.items) (follows.answer_in text.now) text.now) }
+        ≡ follows.after_answer (outstanding_of entries.old.items) (answer_in text.now) text.now) }
 {
     let Some(to) = answer_in(text) else {
         return Ok(());
@@ -266,19 +238,9 @@ fn all_own_in_place(number: usize, event: &Event, here: &[Line]) -> bool
     true
 }
 
-/// Whether a client itself refuses a command.
-fn is_own_refusal(text: &Text) -> bool
-    ensures { result ≡ follows.is_own_refusal text.now }
-{
-    match text {
-        Text::Refused(_, _, refusal) => is_own(*refusal),
-        _ => false,
-    }
-}
-
 /// How many refusals by clients themselves these lines are.
 fn own_refusals(here: &[Line]) -> usize
-    ensures { result ≡ count_lines follows.is_own_refusal here.now }
+    ensures { result ≡ count_lines is_own_refusal here.now }
 {
     let mut count = 0;
     for line in here {
@@ -319,22 +281,6 @@ fn follow_events(alloc: Global, events: &[Event], lines: &[Line]) -> Result<bool
         }
     }
     Ok(true)
-}
-
-fn is_answer(text: &Text) -> bool
-    ensures { result ≡ follows.is_answer text.now }
-{
-    matches!(
-        text,
-        Text::Begun(_, _, _)
-            | Text::Opened(_, _, _)
-            | Text::Did(_, _)
-            | Text::Read(_, _, _)
-            | Text::Refused(_, _, _)
-            | Text::Waiting(_, _, _, _, _)
-            | Text::Committed(_, _, _)
-            | Text::Aborted(_, _, _, _)
-    )
 }
 
 fn is_of_event(count: usize, when: When) -> bool

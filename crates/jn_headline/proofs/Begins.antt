@@ -1,6 +1,6 @@
 -- The end of a run begins: what it comes to from there.
 use Rattle.jn_headline.proofs.Common.{◌≡◌, ◌⊎◌, inl, ℕ, ◌<◌, Bool, true, false, List, [], ◌∷◌, ◌++◌, append-nil, length, drop, Option, Some, None, is_some, refl, sym, ◌∙◌, ap, subst, slice_get, if◌then◌else◌, ServerNo, Server, Message, AllFiles, DeviceState, Text, Line, plain, World, Memory, opening, Step, Dismiss, after, run, Course, go, go_on, newly_sent, Item, steps_of, world_of, lines_of, at_end, Setup, Chance, Task, Dismisses, InSchedule, AtEnd, CutShort, Stage, State, next_at, begun, Befalls, ending, deed_of, dismissing, own_texts, is_too_much, come_to, cut_short, made, done, none, more, Moment, Leads, IsToldBy}
-use Rattle.jn_within.proofs.WorldSteps.{run-within, opening-within, sent-near}
+use Rattle.jn_row_ranges.proofs.WorldSteps.{run-within, opening-within, sent-near}
 use Rattle.jn_headline.proofs.Behind.{GoesWith, go-behind}
 use Rattle.jn_headline.proofs.Texts.{no-messages, lines-left, lines-more}
 use Rattle.jn_headline.proofs.Quiet.{IsQuiet}
@@ -23,7 +23,7 @@ module _ (x : Setup) (files : AllFiles) (epochs : ServerNo → ℕ) (items : Lis
   near : (steps : List Step) (k : ℕ) (q : ServerNo) (message : Message) → slice_get (run steps start.world).sent k ≡ Some (Server q, message) → q.0 < x.servers
   near steps k q message e = sent-near x.servers (run steps start.world) (run-within x.servers (Dismiss ∷ steps) w (run-within x.servers (steps_of items) (opening x.servers files epochs) (opening-within x.servers files epochs))) k q message e
 
-  -- nothing of the end was told
+  -- nothing of the end was reported
   untold : (last now : Moment) → IsToldBy x files epochs items last → now.state.lines ≡ last.state.lines → now.state.course.world.event ≡ last.state.course.world.event → (now.state.stage ≡ AtEnd → ⊥) → Part start before now
   untold last now told same numbered other = record {
     steps = [];

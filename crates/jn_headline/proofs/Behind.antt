@@ -1,7 +1,7 @@
 -- A course with lines of servers that came up before its own goes as it does without them.
 use Rattle.jn_headline.proofs.Common.{◌≡◌, ℕ, true, List, [], ◌∷◌, ◌++◌, append-nil, length, drop, sym, ◌∙◌, ap, list_all, Text, World, commits_in, Step, IsStep, after, Course, go, numbered, newly_sent, still_waiting, Does, told_by, is_up, own_texts, behind}
-use Rattle.jn_retold.proofs.Behind.{ups-name-none, step-behind}
-use Rattle.jn_retold.proofs.Seen.{told-behind, may-run}
+use Rattle.jn_machine_refines.proofs.Behind.{ups-name-none, step-behind}
+use Rattle.jn_machine_refines.proofs.Seen.{told-behind, may-run}
 
 -- the first course is the second one, but for the lines of those that came up and for the steps so far
 pub record GoesWith (ups : List Text) (c d : Course) : Type 0 where

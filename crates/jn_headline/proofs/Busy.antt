@@ -1,5 +1,6 @@
 -- Which server works next, where rubbish counts and where it doesn't.
-use Rattle.jn_headline.proofs.Common.{◌≡◌, ℕ, zero, suc, ◌+◌, ◌<◌, ◌≤◌, Bool, true, false, List, [], ◌∷◌, Option, Some, None, refl, sym, subst, arith, nat_tests, ◌&&◌, ◌||◌, if◌then◌else◌, nat_lt, ServerNo, RowOutcome, StableState, Change, stable, World, Memory, servers_from, Room, server_step, Work, after, has_going, goes, nothing, erased-same, is_busy, is_busy_with, first_busy}
+use Rattle.jn_headline.proofs.Common.{◌≡◌, ℕ, zero, suc, ◌+◌, ◌<◌, ◌≤◌, Bool, true, false, List, [], ◌∷◌, Option, Some, None, refl, sym, subst, arith, nat_tests, ◌&&◌, ◌||◌, if◌then◌else◌, nat_lt, ServerNo, RowOutcome, StableState, Change, stable, World, Memory, servers_from, Room, server_step, Work, after, has_going, is_busy, is_busy_with, first_busy}
+use Rattle.jn_system.proofs.WholeSystem.BusyServers.{goes, nothing, erased-same}
 
 -- ---- the first of them
 

@@ -1,8 +1,8 @@
 -- A run that has come so far within its end, step by step.
 use Rattle.jn_headline.proofs.Common.{◌≡◌, ◌⊎◌, inl, inr, ℕ, Bool, true, false, List, [], ◌∷◌, ◌++◌, append_assoc, append-nil, length, drop, Some, None, refl, sym, ◌∙◌, ap, subst, arith, ◌&&◌, if◌then◌else◌, list_all, Text, Line, plain, Sent, World, Step, IsStep, IsRun, after, run, Course, numbered, newly_sent, still_waiting, go, go_on, on-world, Does, told_by, told_by_steps, at_end, is_of_end, is_print, Setup, Chance, Task, AtEnd, CutShort, Stage, State, when_at, next_at, begun, is_up, Deed, Befalls, deed_of, outside_texts, own_texts, texts_of, is_too_much, come_to, cut_short, made, done, none, more, Moment, DoesStep, Leads, both, behind}
 use Rattle.std.proofs.Math.Seq.{drop-append_seam}
-use Rattle.jn_written.specs.Steps.{lines_at}
-use Rattle.jn_retold.proofs.Items.{is-run-both}
+use Rattle.jn_machine.specs.Steps.{lines_at}
+use Rattle.jn_machine_refines.proofs.Items.{is-run-both}
 use Rattle.jn_headline.proofs.Behind.{GoesWith, go-behind, may-behind, own-behind}
 use Rattle.jn_headline.proofs.Texts.{told-append, no-messages, lines-left, lines-more}
 use Rattle.jn_headline.proofs.Quiet.{IsQuiet}
@@ -69,7 +69,7 @@ stuck x a b (more u v t d rest) e = absurd (never (ap (λ (s : Stage). next_at s
 
 -- ---- how far it has come
 
--- Since this course began, whose lines stood before, it did these steps, which tell these lines but for those aside, and then printed.
+-- Since this course began, whose lines stood before, it did these steps, which report these lines but for those aside, and then printed.
 pub record Came (x : Setup) (ups : List Text) (start : Course) (before : List Line) (m : Moment) (steps : List Step) (printed : List Text) : Type 0 where
   pub stage : m.state.stage ≡ AtEnd
   pub goes : GoesWith ups m.state.course (go_on steps start)
@@ -87,7 +87,7 @@ module _ (x : Setup) (ups : List Text) (are_up : list_all is_up ups ≡ true) (s
     abbrev model : Course
     model = go_on steps start
 
-    -- whatever its steps are, with no fault told
+    -- whatever its steps are, with no fault reported
     pub lines-then : (texts : List Text) → outside_texts deed.device h.told ≡ [] → own_texts old.world (go_on deed.steps old).world ++ deed.texts ≡ texts
         → plain n.state.lines ≡ plain (before ++ at_end (told_by_steps steps start.world ++ printed ++ texts))
     lines-then texts silent same = ap (λ (s : State). plain s.lines) state_is ∙ ap (λ (s : Stage). plain (m.state.lines ++ lines_at (when_at s old.world.event) new)) came.stage

@@ -9,34 +9,33 @@ pub use Rattle.jn_device.specs.Device.{DeviceState}
 pub use Rattle.jn_report.specs.declared.line.Text.{Text}
 pub use Rattle.jn_report.specs.declared.line.Line.{Line}
 pub use Rattle.jn_aside.specs.Aside.{plain, is_show, is_aside}
-pub use Rattle.jn_system.specs.WholeSystem.World.{World, Memory, opening, commits_in, servers_from, AreFilesOf, at_server, clients_from, committed_in}
+pub use Rattle.jn_system.specs.WholeSystem.World.{World, Memory, opening, commits_in, servers_from, AreFilesOf, at_server, clients_from}
 pub use Rattle.jn_system.specs.WholeSystem.Steps.{Step, Dismiss, after, run, IsStep, Work, IsRun, NextEvent, Tell, StopDelivery, StopWork, StopRestart, Deliver, Nudge, Again, Crash, CloseClients, Restart, at_memory, handed, work, works, nudge, crash, close_clients, restart, took, handing, working, Narrow, narrow, AreNames, tid_before}
 pub use Rattle.jn_system.specs.WholeSystem.Course.{Course, go, go_on, newly_sent, numbered, still_waiting, opening_course}
 pub use Rattle.jn_system_reports.specs.Reporting.Reported.{Item, steps_of, world_of, lines_of, Does, told_by, events_of, IsReported, Act, Refuses, Tells, Shows, steps_in, may_do, may_act, IsUnder, AreUnder, at_event}
 pub use Rattle.jn_system_reports.specs.Reporting.Ending.{at_end, told_by_steps, Comeback, Ending, restarts_from, steps_at_end, settles, IsEnding, texts_from, world_at_end, ArePrinted, counted, IsWholeRun, all_lines, lines_to_end}
-pub use Rattle.jn_written.specs.Chances.{Setup, Chance, prints_found, works_found, tids_found}
-pub use Rattle.jn_written.specs.Tasks.{Task, Dismisses, InSchedule, AtEnd, CutShort, Stage, State, next_at, begun, when_at, Rests, Acts, ComesUp, GoesDown, ClosesClients, CountsCommits}
-pub use Rattle.jn_written.specs.Devices.{Befalls, Devices, IsCalled, IsRecovery, IsServed, Alone, IsLookedOver, IsScrubbed}
-pub use Rattle.jn_written.specs.Events.{ending, deed_of, dismissing, first_busy, next_event, resting, servers_of, settling, coming_up, printing, counting}
-pub use Rattle.jn_written.specs.Steps.{own_texts, is_too_much, come_to, cut_short, made, done, outside_texts, texts_of, message_texts, traced}
-pub use Rattle.jn_written.specs.Runs.{none, more, Moment, Leads, DoesStep}
-pub use Rattle.jn_retold.specs.Retold.{IsToldBy, behind, IsRetold, IsRetoldInPart}
+pub use Rattle.jn_machine.specs.Chances.{Setup, Chance, prints_found, works_found, tids_found}
+pub use Rattle.jn_machine.specs.Tasks.{Task, Dismisses, InSchedule, AtEnd, CutShort, Stage, State, next_at, begun, when_at, Rests, Acts, ComesUp, GoesDown, ClosesClients, CountsCommits}
+pub use Rattle.jn_machine.specs.Devices.{Befalls, Devices, IsCalled, IsRecovery, IsServed, Alone, IsLookedOver, IsScrubbed}
+pub use Rattle.jn_machine.specs.Events.{ending, deed_of, dismissing, first_busy, next_event, resting, servers_of, settling, coming_up, printing, counting}
+pub use Rattle.jn_machine.specs.Steps.{own_texts, is_too_much, come_to, cut_short, made, done, outside_texts, texts_of, message_texts, traced}
+pub use Rattle.jn_machine.specs.Runs.{none, more, Moment, Leads, DoesStep}
+pub use Rattle.jn_machine_refines.specs.Retold.{IsToldBy, behind, IsRetold, IsRetoldInPart}
 pub use Rattle.std.specs.List.{list_all, AllByRecursion}
-pub use Rattle.jn_written.specs.Kinds.{is_up, event_after}
+pub use Rattle.jn_report.specs.Kinds.{is_up, is_print, commit_in, is_answer, commit_in as committed_in}
 pub use Rattle.std.proofs.lemmas.Bool.Decides.{nat_tests}
 pub use Rattle.jn_rows.specs.Outcomes.{RowOutcome, Sent}
-pub use Rattle.jn_rows.specs.Stable.{StableState, Change, stable, Pick, Prepared, FlagState, at_work, at_tid}
+pub use Rattle.jn_rows.specs.Stable.{StableState, Change, stable, Pick, Left, Prepared, FlagState, at_work, at_tid}
 pub use Rattle.jn_system.specs.WholeSystem.Servers.{Room, server_step, is_busy as has_going, server_row, of_coordinator, restored}
-pub use Rattle.jn_system.proofs.WholeSystem.BusyServers.{goes, nothing, erased-same, first-is, first-none}
-pub use Rattle.jn_written.specs.Deeds.{is_busy, is_busy_with, Deed, served, room, no_room, delivered, delivered_at, worked, working_steps, Reads, stopped_idle, shown, showing, scrubbed, Cleans, crashed_at, recovers, recovering, recovered, given_up, is_used_up, pick_read, tells}
+pub use Rattle.jn_machine.specs.Deeds.{is_busy, is_busy_with, Deed, served, room, no_room, delivered, delivered_at, worked, working_steps, nothing, Reads, stopped_idle, shown, showing, scrubbed, Cleans, crashed_at, recovers, recovering, recovered, given_up, is_used_up, pick_read, tells}
 pub use Rattle.jn_system_settling.proofs.Settling.Settling.{on-world}
-pub use Rattle.jn_headline.specs.CutReports.Cut.{is_of_end, is_print, CutEnd, IsCutEnd, cut_lines}
-pub use Rattle.jn_written.proofs.Telling.{both, adds, first, second}
+pub use Rattle.jn_headline.specs.CutReports.Cut.{is_of_end, CutEnd, IsCutEnd, cut_lines}
+pub use Rattle.jn_machine.proofs.Telling.{both, adds, first, second, event_after}
 pub use Rattle.std.proofs.lemmas.List.{length-map, map-append}
 pub use Rattle.jn_schedule.specs.declared.Event.{Event}
 pub use Rattle.jn_report.specs.declared.line.When.TheVariants.{Event as AtEvent, End}
-pub use Rattle.jn_serial.specs.Lines.{lines_at, when_eq, history_of, commit_in, has_tid}
-pub use Rattle.jn_serial.specs.Follows.{nothing_asked, Follows, is_answer}
+pub use Rattle.jn_serial.specs.Lines.{lines_at, when_eq, history_of, has_tid}
+pub use Rattle.jn_serial.specs.Follows.{nothing_asked, Follows}
 pub use Rattle.jn_serial.specs.Shown.{ShownSoFar, Shown}
 pub use Rattle.jn_serial.proofs.CausedGrowth.{Caused-events}
 pub use Rattle.jn_serial.proofs.Growth.{lines_at-outside}

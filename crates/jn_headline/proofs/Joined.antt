@@ -1,8 +1,8 @@
 -- Runs of the written machine have reports of their commits.
 use Rattle.jn_headline.proofs.Common.{◌≡◌, ◌⊎◌, inl, inr, ℕ, ◌≤◌, List, subst, AllByRecursion, ServerNo, AllFiles, Event, Line, IsOfItsCommits, Setup, Devices, Moment, IsRetold, IsRetoldInPart, IsTrueOfBegun}
 use Rattle.jn_schedule.specs.Ranges.{EventInRange}
-use Rattle.jn_written.specs.Whole.{AreImages, IsWritten, IsWhole, IsLimited, IsPartOfRun}
-use Rattle.jn_retold.proofs.Whole.{run-retold, done-retold}
+use Rattle.jn_machine.specs.Whole.{AreImages, IsWritten, IsWhole, IsLimited, IsPartOfRun}
+use Rattle.jn_machine_refines.proofs.Whole.{run-retold, done-retold}
 use Rattle.jn_headline.proofs.Headline.{whole-run, run-so-far, part-so-far}
 
 module _ (x : Setup) (schedule : List Event) (images : Devices) (few : x.servers ≤ 8) (ranges : AllByRecursion EventInRange schedule) where

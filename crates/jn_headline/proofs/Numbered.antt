@@ -1,5 +1,5 @@
 -- How many events have begun.
-use Rattle.jn_headline.proofs.Common.{◌≡◌, ℕ, suc, ◌+◌, true, false, List, [], ◌∷◌, length, refl, sym, ◌∙◌, ap, arith, list_all, Event, World, Step, NextEvent, Tell, after, run, steps-append, Act, Does, Refuses, Tells, Shows, Item, steps_in, steps_of, world_of, may_do, may_act, IsUnder, AreUnder, is_of_end, event_after, adds, first, second}
+use Rattle.jn_headline.proofs.Common.{◌≡◌, ℕ, suc, ◌+◌, true, false, List, [], ◌∷◌, length, refl, sym, ◌∙◌, ap, arith, list_all, Event, World, Step, NextEvent, Tell, after, run, steps-append, Act, Does, Refuses, Tells, Shows, Item, steps_in, steps_of, world_of, may_do, may_act, IsUnder, AreUnder, is_of_end, adds, first, second, event_after}
 use Rattle.jn_schedule.specs.declared.Event.TheVariants as events
 
 -- ---- steps of an end begin none

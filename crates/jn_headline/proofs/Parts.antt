@@ -3,7 +3,7 @@ use Rattle.jn_headline.proofs.Common.{◌≡◌, ◌⊎◌, inl, inr, true, List
 use Rattle.jn_headline.proofs.Numbered.{end-begins-none}
 use Rattle.jn_headline.proofs.Came.{Came, Makes, IsOrdinary, one-step, stuck}
 
--- it told the lines of these steps and this printing and then was cut off
+-- it reported the lines of these steps and this printing and then was cut off
 pub record Part (start : Course) (before : List Line) (now : Moment) : Type 0 where
   pub steps : List Step
   pub printed : List Text

@@ -7,10 +7,10 @@ use Rattle.jn_rows.specs.declared.client.Taken.{Taken}
 use Rattle.jn_rows.specs.declared.client.Taken.TheVariants as taken
 use Rattle.jn_rows.specs.Client.{ClientTable, take_row}
 use Rattle.jn_rows.specs.Coordinator.{close_clients_row}
-use Rattle.jn_written.proofs.Struck.{nothing-strikes}
-use Rattle.jn_written.proofs.Called.{called-later}
+use Rattle.jn_machine.proofs.Struck.{nothing-strikes}
+use Rattle.jn_machine.proofs.Called.{called-later}
 
--- each server that is up has power, and no device has told a fault or lets one wait
+-- each server that is up has power, and no device has reported a fault or lets one wait
 pub record IsQuiet (x : Setup) (w : World) (ds : Devices) : Type 0 where
   pub power : (q : ServerNo) → q.0 < x.servers → is_some (w.memory q) ≡ true → (ds q).power ≡ true
   pub told : (q : ServerNo) → q.0 < x.servers → (ds q).told ≡ []

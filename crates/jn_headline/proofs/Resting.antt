@@ -1,6 +1,7 @@
 -- A rest within the end: its steps, but for erasures, are each what comes next.
-use Rattle.jn_headline.proofs.Common.{◌≡◌, ◌⊎◌, inl, inr, ℕ, ◌+◌, ◌<◌, ◌≤◌, Bool, true, false, List, [], ◌∷◌, ◌++◌, append_assoc, append-nil, Option, Some, None, is_some, refl, sym, ◌∙◌, ap, subst, arith, ◌&&◌, slice_get, if◌then◌else◌, list_all, ServerNo, Client, Server, server_eq, Message, Text, Line, Sent, Pick, stable, World, Memory, servers_from, Room, Step, Deliver, Work, after, run, Course, go_on, first_going, has_going, handing, working, next_step, on-world, ComesNext, AreNext, ComeToRest, in-turn, first-is, first-none, settles, Setup, Chance, Task, Rests, Deed, served, room, no_room, delivered, delivered_at, is_busy_with, worked, working_steps, Befalls, IsServed, Alone, first_busy, next_event, resting, is_up, come_to, cut_short, none, more, Moment, Leads}
-use Rattle.jn_written.specs.Deeds.{plain, nothing}
+use Rattle.jn_headline.proofs.Common.{◌≡◌, ◌⊎◌, inl, inr, ℕ, ◌+◌, ◌<◌, ◌≤◌, Bool, true, false, List, [], ◌∷◌, ◌++◌, append_assoc, append-nil, Option, Some, None, is_some, refl, sym, ◌∙◌, ap, subst, arith, ◌&&◌, slice_get, if◌then◌else◌, list_all, ServerNo, Client, Server, server_eq, Message, Text, Line, Sent, Pick, stable, World, Memory, servers_from, Room, Step, Deliver, Work, after, run, Course, go_on, first_going, has_going, handing, working, next_step, on-world, ComesNext, AreNext, ComeToRest, in-turn, settles, Setup, Chance, Task, Rests, Deed, served, room, no_room, delivered, delivered_at, is_busy_with, worked, working_steps, Befalls, IsServed, Alone, first_busy, next_event, resting, is_up, come_to, cut_short, none, more, Moment, Leads, Left, nothing}
+use Rattle.jn_system.proofs.WholeSystem.BusyServers.{first-is, first-none}
+use Rattle.jn_machine.specs.Deeds.{plain}
 use Rattle.jn_headline.proofs.Quiet.{Calm, called-calm, quiet-same, quiet-called, delivered-up, worked-up}
 use Rattle.jn_headline.proofs.Came.{Came, Makes, all-append, on-append, one-step, came-none, came-same, came-one, tasks-then}
 use Rattle.jn_headline.proofs.Parts.{Part, Past, left, cut-off}
@@ -65,7 +66,7 @@ module _ (x : Setup) (ups : List Text) (are_up : list_all is_up ups ≡ true) (s
           (tasks-then x ups are_up start before m n h (on (delivered_at h k q None)) rest d.0 (steps ++ these) [] came)
       handed q message below (Some mm) e d = served-by _ d
         where
-          calmly : (most : ℕ) → Calm h (n.devices q) → ((s : ServerNo) → server_eq q s ≡ false → n.devices s ≡ m.devices s) → (stop : Option (Pick → ℕ)) → h.stop ≡ stop → Does (on (served q most (handing k (room h q) stop ∷ []))) → Result now steps rest
+          calmly : (most : ℕ) → Calm h (n.devices q) → ((s : ServerNo) → server_eq q s ≡ false → n.devices s ≡ m.devices s) → (stop : Option (Pick → Left)) → h.stop ≡ stop → Does (on (served q most (handing k (room h q) stop ∷ []))) → Result now steps rest
           calmly most calm others None z f = steps-on (Deliver k (room h q)) refl (comes (room h q))
               (came-one x ups are_up start before m n h (on (served q most (Deliver k (room h q) ∷ []))) rest f.0 (steps ++ these) came (Deliver k (room h q)) refl refl (no-faults q h.told calm.told) tt refl
               (quiet-called x w (after (Deliver k (room h q)) w) m.devices n.devices came.quiet h q (λ s. delivered-up w s k (room h q)) others calm))
@@ -134,7 +135,7 @@ module _ (x : Setup) (ups : List Text) (are_up : list_all is_up ups ≡ true) (s
 
           served-by : Alone q (IsServed (x.counts q) step_calls h w q) m.devices n.devices → Result now steps rest
           served-by a = let calm = called-calm _ h (m.devices q) (n.devices q) a.its.called (came.quiet.power q below (ap is_some a.its.up)) (came.quiet.told q below) (came.quiet.waiting q below) in
-              goes a.its.memory a.its.up calm a.others (has_going (stable (w.found q)) (Some a.its.memory)) refl (subst (λ (stop : Option (Pick → ℕ)). Calls (on (served q step_calls (working q (room h q) stop ∷ [])))) calm.stop d'.0)
+              goes a.its.memory a.its.up calm a.others (has_going (stable (w.found q)) (Some a.its.memory)) refl (subst (λ (stop : Option (Pick → Left)). Calls (on (served q step_calls (working q (room h q) stop ∷ [])))) calm.stop d'.0)
 
       -- nothing is left to do
       over : first_busy h.rubbish w (servers_from 0 x.servers) ≡ None → Does nothing → Result now steps rest

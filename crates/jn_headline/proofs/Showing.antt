@@ -1,11 +1,11 @@
 -- Shows and scrubs at the end: what each server prints, and that nothing else happens.
-use Rattle.jn_headline.proofs.Common.{◌≡◌, ◌⊎◌, inl, inr, ℕ, zero, suc, ◌+◌, ◌<◌, ◌≤◌, true, false, List, [], ◌∷◌, ◌++◌, append_assoc, append-nil, length, Option, is_some, refl, sym, ap, subst, arith, map, list_all, ServerNo, server_eq, Text, Line, Pick, World, servers_from, Printed, FileThere, PageStored, UnitLocked, Step, Course, go_on, text_printed, is_print, Setup, Chance, Task, Acts, Deed, Reads, stopped_idle, shown, showing, scrubbed, IsLookedOver, Alone, is_up, come_to, Moment, Leads, both, Server, Cleans, IsScrubbed, prints_found, behind, IsPrinted, ArePrinted, texts_from}
+use Rattle.jn_headline.proofs.Common.{◌≡◌, ◌⊎◌, inl, inr, ℕ, zero, suc, ◌+◌, ◌<◌, ◌≤◌, true, false, List, [], ◌∷◌, ◌++◌, append_assoc, append-nil, length, Option, is_some, refl, sym, ap, subst, arith, map, list_all, ServerNo, server_eq, Text, Line, Pick, World, servers_from, Printed, FileThere, PageStored, UnitLocked, Step, Course, go_on, text_printed, is_print, Setup, Chance, Task, Acts, Deed, Reads, stopped_idle, shown, showing, scrubbed, IsLookedOver, Alone, is_up, come_to, Moment, Leads, both, Server, Cleans, IsScrubbed, prints_found, behind, IsPrinted, ArePrinted, texts_from, Left}
 use Rattle.jn_schedule.specs.declared.Event.TheVariants as events
 use Rattle.jn_headline.proofs.Quiet.{Calm, called-calm, quiet-called}
 use Rattle.jn_headline.proofs.Came.{Came, came-none, tasks-then}
 use Rattle.jn_headline.proofs.Parts.{Part, Past, Onward, drive}
 use Rattle.jn_headline.proofs.Tasks.{no-faults}
-use Rattle.jn_written.specs.Deeds.{plain}
+use Rattle.jn_machine.specs.Deeds.{plain}
 
 one-prints : (q : ServerNo) (y : Printed) → is_print (text_printed q y) ≡ true
 one-prints q (FileThere f) = refl
@@ -59,7 +59,7 @@ module _ (x : Setup) (ups : List Text) (are_up : list_all is_up ups ≡ true) (s
     looks : ShowsBy (showing h q) → Alone q (IsLookedOver (x.counts q) h was q) m.devices n.devices → Shows now printed q rest
     looks d a = let calm = called-calm _ h (m.devices q) (n.devices q) a.its.called (came.quiet.power q below (ap is_some a.its.up)) (came.quiet.told q below) (came.quiet.waiting q below) in
         goes-over (record { memory = a.its.memory; up = a.its.up; prints_are = a.its.prints calm.stop }) calm a.others
-        (subst (λ (stop : Option (Pick → ℕ)). ShowsBy (deed (stopped_idle q stop) (shown q found stop))) calm.stop d)
+        (subst (λ (stop : Option (Pick → Left)). ShowsBy (deed (stopped_idle q stop) (shown q found stop))) calm.stop d)
 
   shows : (q : ServerNo) → q.0 < x.servers → (m now : Moment) (printed : List Text) (rest : List Task) → Came x ups start before m steps printed → m.state.tasks ≡ Acts (events.Show q) ∷ rest → Leads x m now
       → Part start before now ⊎ Shows now printed q rest
@@ -127,7 +127,7 @@ module _ (x : Setup) (ups : List Text) (are_up : list_all is_up ups ≡ true) (s
 
     calls : ScrubsBy (scrubbed h q) → Alone q (IsScrubbed (x.counts q) h m.state.course.world q) m.devices n.devices → Past x ups start before now steps printed rest
     calls d a = let calm = called-calm _ h (m.devices q) (n.devices q) a.its.served.called (came.quiet.power q below (ap is_some a.its.served.up)) (came.quiet.told q below) (came.quiet.waiting q below) in
-        idles calm a.others (subst (λ (stop : Option (Pick → ℕ)). ScrubsBy (cleans (stopped_idle q stop))) calm.stop d)
+        idles calm a.others (subst (λ (stop : Option (Pick → Left)). ScrubsBy (cleans (stopped_idle q stop))) calm.stop d)
 
   scrubs : (q : ServerNo) → q.0 < x.servers → (m now : Moment) (printed : List Text) (rest : List Task) → Came x ups start before m steps printed → m.state.tasks ≡ Acts (events.Scrub q) ∷ rest → Leads x m now
       → Part start before now ⊎ Past x ups start before now steps printed rest

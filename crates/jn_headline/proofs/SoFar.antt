@@ -23,7 +23,7 @@ true-aside files events shows a b same t = record {
 pub whole-aside : (files : AllFiles) (events : List Event) (a b : List Line) → plain a ≡ plain b → IsOfItsCommits files events a → IsOfItsCommits files events b
 whole-aside files events a b same t = record { so_far = true-aside files events events a b same t.so_far; at_end = at-end-aside files events a b same t.at_end }
 
--- ---- all that began is told
+-- ---- all that began is reported
 
 pub none-silent : (files : AllFiles) (begun rest schedule : List Event) (count : ℕ) (lines : List Line) → begun ++ rest ≡ schedule → length begun ≡ count → IsTrueSoFar files begun begun lines → IsTrueOfBegun files schedule count lines
 none-silent files begun rest schedule count lines e n t = record {
@@ -80,7 +80,7 @@ module _ (servers : ℕ) (files : AllFiles) (epochs : ServerNo → ℕ) (items :
       other-way : (a : ℕ) → a + 1 ≡ 1 + a
       other-way a = omega arith
 
-  -- of the last event nothing is told
+  -- of the last event nothing is reported
   last-silent : (e : Event) (rest schedule : List Event) (count : ℕ) → (events_of items ++ (e ∷ [])) ++ rest ≡ schedule → count ≡ length items + 1 → (b : Bool) → is_show e ≡ b → IsTrueOfBegun files schedule count (lines_of items (opening servers files epochs))
   last-silent e rest schedule count is n false other = let t = next-true servers files epochs items e reported other in record {
     told_of = events_of items;

@@ -1,9 +1,9 @@
 -- What each of an end's tasks does that makes a step.
-use Rattle.jn_headline.proofs.Common.{◌≡◌, ◌≢◌, ◌⊎◌, inl, inr, ℕ, zero, suc, ◌+◌, ◌<◌, ◌≤◌, Bool, true, false, List, [], ◌∷◌, ◌++◌, append_assoc, append-nil, length, Option, Some, None, is_some, refl, sym, ◌∙◌, ap, subst, arith, map, if◌then◌else◌, list_all, ServerNo, ClientNo, Client, Server, server_eq, server_tells, DeviceState, Text, Line, Pick, World, Memory, servers_from, Step, Again, Nudge, Crash, Restart, CloseClients, after, run, crash, Course, go_on, Comeback, restarts_from, Setup, Chance, Task, Acts, ComesUp, GoesDown, ClosesClients, Deed, crashed_at, recovers, recovering, recovered, given_up, is_used_up, pick_read, Befalls, IsServed, IsRecovery, Alone, is_up, is_too_much, come_to, Moment, Leads, deed_of, works_found, tids_found}
+use Rattle.jn_headline.proofs.Common.{◌≡◌, ◌≢◌, ◌⊎◌, inl, inr, ℕ, zero, suc, ◌+◌, ◌<◌, ◌≤◌, Bool, true, false, List, [], ◌∷◌, ◌++◌, append_assoc, append-nil, length, Option, Some, None, is_some, refl, sym, ◌∙◌, ap, subst, arith, map, if◌then◌else◌, list_all, ServerNo, ClientNo, Client, Server, server_eq, server_tells, DeviceState, Text, Line, Pick, World, Memory, servers_from, Step, Again, Nudge, Crash, Restart, CloseClients, after, run, crash, Course, go_on, Comeback, restarts_from, Setup, Chance, Task, Acts, ComesUp, GoesDown, ClosesClients, Deed, crashed_at, recovers, recovering, recovered, given_up, is_used_up, pick_read, Befalls, IsServed, IsRecovery, Alone, is_up, is_too_much, come_to, Moment, Leads, deed_of, works_found, tids_found, Left}
 use Rattle.jn_base.specs.declared.device.Outside.{Outside}
 use Rattle.jn_schedule.specs.declared.Event.TheVariants as events
 use Rattle.jn_report.specs.declared.line.Text.TheVariants as says
-use Rattle.jn_written.specs.Deeds.{plain}
+use Rattle.jn_machine.specs.Deeds.{plain}
 use Rattle.jn_headline.proofs.Quiet.{called-calm, recovered-calm, quiet-same, quiet-alone, quiet-called, nudged-up, closed-up, crashed-up, restarted-up}
 use Rattle.jn_headline.proofs.Came.{Came, came-none, came-one, came-extra, tasks-then}
 use Rattle.jn_headline.proofs.Parts.{Part, Past, Onward, drive, MakesOne}
@@ -137,7 +137,7 @@ module _ (x : Setup) (ups : List Text) (are_up : list_all is_up ups ≡ true) (s
     abbrev ComesUpBy : Deed → Type 0
     ComesUpBy deed = (is_too_much deed (go_on deed.steps m.state.course) ≡ false) × (n.state ≡ come_to x h deed (go_on deed.steps m.state.course) (record m.state { tasks = rest })) × Befalls x h deed was m.devices n.devices
 
-    up-calmly : (stop : Option (Pick → ℕ)) → h.stop ≡ stop → ComesUpBy (recovers q (recovering h q stop)) → CameUp now steps q rest
+    up-calmly : (stop : Option (Pick → Left)) → h.stop ≡ stop → ComesUpBy (recovers q (recovering h q stop)) → CameUp now steps q rest
     up-calmly None e d = restarts d.1 d.2
     up-calmly (Some made) e d = absurd (strikes (let b = d.2 in b.used))
       where

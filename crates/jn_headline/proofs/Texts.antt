@@ -1,4 +1,4 @@
--- What steps tell at the end, and which lines are left of it without those aside.
+-- What steps report at the end, and which lines are left of it without those aside.
 use Rattle.jn_headline.proofs.Common.{◌≡◌, ℕ, ◌+◌, Bool, true, false, List, [], ◌∷◌, ◌++◌, append_assoc, append-nil, refl, sym, ◌∙◌, ap, map-append, list_all, End, Text, Line, Sent, is_aside, plain, plain-append, plain-none, World, Step, after, run, Does, told_by, told_by_steps, at_end, message_texts, traced}
 use Rattle.jn_base.specs.declared.names.Party.{Party}
 
@@ -21,7 +21,7 @@ no-messages true from k sent = plain-none (at_end (message_texts from k sent)) (
 
 -- ---- the lines of one step more
 
--- with no fault told, and without messages
+-- with no fault reported, and without messages
 pub lines-left : (outside own besides messages : List Text) → outside ≡ [] → plain (at_end messages) ≡ [] → plain (at_end (outside ++ own ++ besides ++ messages)) ≡ plain (at_end (own ++ besides))
 lines-left outside own besides messages e none = ap (λ (texts : List Text). plain (at_end (texts ++ own ++ besides ++ messages))) e
     ∙ ap plain (at-end-append (own ++ besides) messages) ∙ plain-append (at_end (own ++ besides)) (at_end messages) ∙ ap (λ (ls : List Line). plain (at_end (own ++ besides)) ++ ls) none ∙ append-nil (plain (at_end (own ++ besides)))

@@ -12,7 +12,7 @@ use Rattle.jn_serial.specs.Caused.{Caused}
 use Rattle.jn_serial.specs.Follows.{Follows}
 use Rattle.jn_aside.specs.Aside.{is_show, plain}
 
--- What committed transactions are answered, and what these shows print, is what the commits leave, one after another; outcomes are told as they are; each
+-- What committed transactions are answered, and what these shows print, is what the commits leave, one after another; outcomes are reported as they are; each
 -- abort, stop and refused fault has its cause; each answer is its command's.
 pub record IsTrueSoFar (files : AllFiles) (events shows : List Event) (lines : List Line) : Type 0 where
   pub agrees : Agrees files events lines
@@ -30,7 +30,7 @@ pub record IsOfItsCommits (files : AllFiles) (events : List Event) (lines : List
 abbrev pub but_shows : List Event → List Event
 but_shows events = filter (λ (e : Event). not (is_show e)) events
 
--- A run has begun so many events of its schedule, of the last one perhaps with no line yet but those aside. Of a show that has begun and told nothing yet
+-- A run has begun so many events of its schedule, of the last one perhaps with no line yet but those aside. Of a show that has begun and reported nothing yet
 -- nothing is said.
 pub record IsTrueOfBegun (files : AllFiles) (schedule : List Event) (count : ℕ) (lines : List Line) : Type 0 where
   pub told_of : List Event

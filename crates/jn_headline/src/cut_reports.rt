@@ -15,9 +15,9 @@ ghost use Rattle.jn_headline.specs.CutReports.Cut.{CutEnd, IsCutEnd, cut_lines};
 ghost use Rattle.jn_headline.specs.Headline.{IsTrueSoFar};
 ghost use Rattle.jn_headline.specs.CutReports.Example.{a_server_is_down, its_lines};
 
-/// Whatever is done under the events of a schedule, with one more event that is no show and of which nothing is told, or with an end
+/// Whatever is done under the events of a schedule, with one more event that is no show and of which nothing is reported, or with an end
 /// that goes on as far as it may: what committed transactions are answered, and what each show prints, is what the commits leave, one
-/// after another; outcomes are told as they are; each abort, stop and refused fault has its cause before it; and each answer
+/// after another; outcomes are reported as they are; each abort, stop and refused fault has its cause before it; and each answer
 /// answers its client's outstanding command. Of what the end itself prints nothing is said.
 pub fn reports_are_true_so_far()
     ensures within_its_events { (servers : ℕ) (files : AllFiles) (epochs : ServerNo → ℕ) (items : List Item) → IsReported items (opening servers files epochs)

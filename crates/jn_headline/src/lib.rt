@@ -18,12 +18,12 @@ ghost use Rattle.jn_system_reports.specs.Reporting.Reported.{world_of};
 ghost use Rattle.jn_system_reports.specs.Reporting.Ending.{Ending, IsWholeRun, all_lines};
 ghost use Rattle.jn_headline.specs.WholeReports.Whole.{IsSettledEnd};
 ghost use Rattle.jn_headline.specs.CutReports.Cut.{CutEnd, IsCutEnd, cut_lines};
-ghost use Rattle.jn_written.specs.Chances.{Setup};
-ghost use Rattle.jn_written.specs.Devices.{Devices};
-ghost use Rattle.jn_written.specs.Tasks.{AtEnd};
-ghost use Rattle.jn_written.specs.Runs.{Moment};
-ghost use Rattle.jn_written.specs.Whole.{AreImages, IsWhole, IsLimited, IsPartOfRun};
-ghost use Rattle.jn_retold.specs.Retold.{IsRetold, IsRetoldInPart};
+ghost use Rattle.jn_machine.specs.Chances.{Setup};
+ghost use Rattle.jn_machine.specs.Devices.{Devices};
+ghost use Rattle.jn_machine.specs.Tasks.{AtEnd};
+ghost use Rattle.jn_machine.specs.Runs.{Moment};
+ghost use Rattle.jn_machine.specs.Whole.{AreImages, IsWhole, IsLimited, IsPartOfRun};
+ghost use Rattle.jn_machine_refines.specs.Retold.{IsRetold, IsRetoldInPart};
 ghost use Rattle.jn_headline.specs.Headline.{IsTrueOfBegun, IsOfItsCommits};
 
 pub use cut_reports::{a_run_is_cut_off, fronts_of_an_end_are_cut_ends, reports_are_true_so_far};

@@ -2,7 +2,7 @@
 use Rattle.jn_image.proofs.Common.{◌≡◌, ⊎_elim, ◌<◌, ◌+◌, ◌*◌, ◌/◌, ◌%◌, ℕ, zero, suc, Bool, true, false, List, [], ◌∷◌, ◌++◌, length, get_or, replicate, map, Option, Some, None, refl, sym, ap, ◌∙◌, arith, nat_eq, is_some, flat_map, if◌then◌else◌, AllByRecursion, cases_lt, false≢true, nat_tests, get_or_past, get_or-append-add, Head, HasOneHead, IsWholeHead, Names, head_bytes_of, is_used, file_in, Finds, StandsOnce, IsHeadAt, AreHeads, IsRead, head_file_number, address_of, addresses_of, HeadsWhole, AddressesOnce, Free, Used}
 use Rattle.std.proofs.Math.ListN.{get_or-map, get_or-append}
 use Rattle.jn_records.specs.Sound as sound
-use Rattle.jn_found.proofs.HeadPages.{free_unused, used_kind, used_file, used_address, whole}
+use Rattle.jn_page_state.proofs.HeadPages.{free_unused, used_kind, used_file, used_address, whole}
 
 -- what is found for one rule is found for another that says the same
 pub finds_same : (P Q : ℕ → Type 0) → ((n : ℕ) → P n → Q n) → ((n : ℕ) → Q n → P n) → (r : Option ℕ) → Finds P r → Finds Q r

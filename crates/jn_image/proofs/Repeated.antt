@@ -1,5 +1,5 @@
 -- One more value, and whether it stood before.
-use Rattle.jn_image.proofs.Common.{◌≡◌, ◌⊎◌, inl, inr, ⊎_elim, ◌<◌, ◌≤◌, ◌+◌, ℕ, Bool, true, false, cond, List, length, get_or, Option, Some, None, refl, sym, ap, ◌∙◌, subst, arith, nat_lt, if◌then◌else◌, cases_lt, false≢true, nat_tests, get_or_past, Finds, StandsOnce, StandsOnceBelow, AreNoted, lesser}
+use Rattle.jn_image.proofs.Common.{◌≡◌, ◌⊎◌, inl, inr, ⊎_elim, ◌<◌, ◌≤◌, ◌+◌, ℕ, Bool, true, false, cond, List, length, get_or, Option, Some, None, refl, sym, ap, ◌∙◌, subst, arith, nat_lt, if◌then◌else◌, cases_lt, nat_tests, get_or_past, Finds, StandsOnce, StandsOnceBelow, AreNoted, lesser}
 use Rattle.std.specs.BTreeSet.{BTreeSet, contains, Updates}
 use Rattle.std.specs.Ordering.{nat_cmp, is_eq}
 
@@ -24,20 +24,6 @@ module _ (xs : List (Option ℕ)) (n : ℕ) where
   -- what stood twice does so still
   earlier : (a : ℕ) → StandsOnceBelow xs (n + 1) a → StandsOnceBelow xs n a
   earlier a once i j below beneath at too = once i j (omega (arith, below)) (omega (arith, beneath)) at too
-
-  -- none of the first n is the value at place n
-  first_time : (x : ℕ) → get_or xs n None ≡ Some x → ((k : ℕ) → k < n → get_or xs k None ≡ Some x → ⊥) → (a : ℕ) → StandsOnceBelow xs n a → StandsOnceBelow xs (n + 1) a
-  first_time x here new a once i j below beneath at too = ⊎_elim
-      (λ lt. ⊎_elim (λ less. once i j lt less at too) (λ is. absurd (new i lt (at ∙ ap Some (sym (value j is too))))) (last j n beneath))
-      (λ is. ⊎_elim (λ less. absurd (new j less (too ∙ ap Some (sym (value i is at))))) (λ same. is ∙ sym same) (last j n beneath))
-      (last i n below)
-    where
-      value : (k : ℕ) → k ≡ n → get_or xs k None ≡ Some a → x ≡ a
-      value k is at = same_value x a (sym here ∙ ap (λ q. get_or xs q None) (sym is) ∙ at)
-
-  all_kept : ((a : ℕ) → StandsOnceBelow xs n a → StandsOnceBelow xs (n + 1) a) → (least : Option ℕ) → Finds (StandsOnceBelow xs n) least → Finds (StandsOnceBelow xs (n + 1)) least
-  all_kept keep None found = λ a. keep a (found a)
-  all_kept keep (Some l) found = record { fails = λ once. found.fails (earlier l once); below = λ k lt. keep k (found.below k lt) }
 
   twice : (x k : ℕ) → get_or xs n None ≡ Some x → k < n → get_or xs k None ≡ Some x → StandsOnceBelow xs (n + 1) x → ⊥
   twice x k here lt there once = apart (once k n (omega (arith, lt)) (omega arith) there here) lt
@@ -78,13 +64,6 @@ module _ (xs : List (Option ℕ)) (n : ℕ) where
 -- ---- a value is noted
 
 module _ (xs : List (Option ℕ)) (n : ℕ) (old new : BTreeSet ℕ) (least : Option ℕ) (noted : AreNoted xs n old least) where
-  pub no_value : get_or xs n None ≡ None → AreNoted xs (n + 1) old least
-  no_value here = record {
-    kept = λ k a below at. ⊎_elim (λ lt. noted.kept k a lt at) (λ is. absurd (none_some a (sym here ∙ ap (λ q. get_or xs q None) (sym is) ∙ at))) (last k n below);
-    stands = λ a has. let s = noted.stands a has in (s.0, omega (arith, s.1), s.2);
-    least_is = all_kept xs n (λ a once. stays xs n a (λ at. none_some a (sym here ∙ at)) once) least noted.least_is;
-  }
-
   module _ (x : ℕ) (here : get_or xs n None ≡ Some x) (updates : Updates nat_cmp old new x true) where
     same_key : (q : ℕ) → is_eq (nat_cmp x q) ≡ true → x ≡ q
     same_key q e = grind (arith, nat_tests, e)
@@ -114,13 +93,6 @@ module _ (xs : List (Option ℕ)) (n : ℕ) (old new : BTreeSet ℕ) (least : Op
         (λ was. let s = noted.stands a was in (s.0, omega (arith, s.1), s.2))
         (λ is. (n, omega arith, here ∙ ap Some is))
         (held a has)
-
-    pub new_value : contains nat_cmp old x ≡ false → AreNoted xs (n + 1) new least
-    new_value first = record {
-      kept = now_kept;
-      stands = now_stands;
-      least_is = all_kept xs n (first_time xs n x here (λ k lt at. false≢true (sym first ∙ noted.kept k x lt at))) least noted.least_is;
-    }
 
     pub old_value : contains nat_cmp old x ≡ true → AreNoted xs (n + 1) new (lesser least x)
     old_value has = let s = noted.stands x has in record {

@@ -13,7 +13,7 @@ module _ (m : sound.Image) (page : List ℕ) (is_page : page ≡ m.bytes 0) (lik
   same epoch = ap (λ (r : Root). at_epoch r epoch) (sym like_is)
 
   fits : (epoch : ℕ) → epoch < 2 ^ 32 → IsRoot (at_epoch like epoch)
-  fits epoch small = record { server = is_root.server; pool = is_root.pool; heads = is_root.heads; leaves = is_root.leaves; epoch = small }
+  fits epoch small = record { version = is_root.version; server = is_root.server; pool = is_root.pool; heads = is_root.heads; leaves = is_root.leaves; epoch = small }
 
   spelled : (h : HasRoot m) → page ≡ root_page (at_epoch like h.0)
   spelled h = is_page ∙ h.2 ∙ ap root_page (same h.0)
@@ -24,10 +24,10 @@ module _ (m : sound.Image) (page : List ℕ) (is_page : page ≡ m.bytes 0) (lik
     (λ h. absurd (no_root (at_epoch like h.0) (only (at_epoch like h.0) (fits h.0 h.1) (spelled h)))),
   )
 
-  pub one_found : (root : Root) → root.epoch < 2 ^ 32 → page ≡ root_page root → ((q : Root) → IsRoot q → page ≡ root_page q → Some root ≡ Some q)
+  pub one_found : (root : Root) → IsRoot root × (page ≡ root_page root) → ((q : Root) → IsRoot q → page ≡ root_page q → Some root ≡ Some q)
       → (r : Bool) → (IsTrue r ↔ (root ≡ at_epoch like root.epoch)) → IsTrue r ↔ HasRoot m
-  one_found root small found only r says = (
-    (λ t. (root.epoch, small, sym is_page ∙ found ∙ ap root_page (says.0 t ∙ sym (same root.epoch)))),
+  one_found root found only r says = (
+    (λ t. (root.epoch, found.0.epoch, sym is_page ∙ found.1 ∙ ap root_page (says.0 t ∙ sym (same root.epoch)))),
     (λ h. says.1 (let e = same_root root (at_epoch like h.0) (only (at_epoch like h.0) (fits h.0 h.1) (spelled h)) in
         e ∙ ap (at_epoch like) (sym (ap (λ (q : Root). q.epoch) e)))),
   )

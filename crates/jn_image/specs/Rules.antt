@@ -1,6 +1,6 @@
 -- The rules that are looked at place by place, and the heads as they are read.
 use Rattle.std.specs.Prelude.{◌≡◌, ◌<◌, ◌+◌, ◌*◌, ◌^◌, ℕ, nat_eq, is_some, true, List, length, map, drop, replicate, get_or, Option, Some, None, if◌then◌else◌}
-use Rattle.jn_base.specs.Limits.{most_blocks}
+use Rattle.jn_base.specs.Limits.{head_blocks}
 use Rattle.jn_records.specs.declared.head.Head.{Head}
 use Rattle.jn_records.specs.declared.head.Head.TheVariants.{Free, Used}
 use Rattle.jn_records.specs.declared.record.Record.TheVariants.{Free as FreeRecord}
@@ -31,7 +31,7 @@ HoldsWithin m rule i = i < places m rule → RuleHolds m rule i
 
 -- a root at another epoch
 abbrev pub at_epoch : Root → ℕ → Root
-at_epoch r epoch = record { server = r.server; pool = r.pool; heads = r.heads; leaves = r.leaves; epoch = epoch }
+at_epoch r epoch = record { version = r.version; server = r.server; pool = r.pool; heads = r.heads; leaves = r.leaves; epoch = epoch }
 
 -- what was read of a head's page
 abbrev pub IsHeadAt : sound.Image → ℕ → Option Head → Type 0
@@ -57,8 +57,8 @@ address_of a = if nat_eq a 0 then None else Some a
 -- what each block of a head is named by
 abbrev pub addresses_of : Option Head → List (Option ℕ)
 addresses_of (Some (Used file addresses)) = map (λ a. address_of a) addresses
-addresses_of (Some Free) = replicate most_blocks None
-addresses_of None = replicate most_blocks None
+addresses_of (Some Free) = replicate head_blocks None
+addresses_of None = replicate head_blocks None
 
 -- head i was read as one
 abbrev pub IsRead : List (Option Head) → ℕ → Type 0

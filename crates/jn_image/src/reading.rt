@@ -30,9 +30,9 @@ pub fn decode(alloc: Global, bytes: &[u8]) -> Result<Image, DecodeError>
     ensures found { IfOk result (λ m. HasForm m × PagesFit m × (bytes.now ≡ image_bytes m)) }
     // The bytes of an image are read, unless memory runs out.
     ensures only { (m : AnyImage) → HasForm m → PagesFit m → bytes.now ≡ image_bytes m → MatchResult result (λ v. v ≡ m) (λ e. e ≡ Memory) }
-    // A fault that is told is the first one.
+    // A fault that is reported is the first one.
     ensures fault { (f : AnyFault) → result ≡ Err (Bad f) → bad_of bytes.now ≡ Some f }
-    // The first fault is told, unless memory runs out.
+    // The first fault is reported, unless memory runs out.
     ensures first { (f : AnyFault) → bad_of bytes.now ≡ Some f → (result ≡ Err (Bad f)) ⊎ (result ≡ Err Memory) }
 {
     read(alloc, bytes)

@@ -1,8 +1,8 @@
 //! Whether an image is sound.
 ghost use Rattle.std.specs.Prelude.{◌≡◌, ◌⊎◌, ◌<◌, ◌*◌, ◌^◌, ◌↔◌, ◌++◌, ℕ, length, drop, map, flat_map, replicate, Err, IfOk, IfErr, OnOk, IsTrue, MatchOption};
 ghost use Rattle.jn_base.specs.declared.names.ServerNo.{ServerNo as AnyServer};
-ghost use Rattle.jn_base.specs.Limits.{most_blocks};
-ghost use Rattle.jn_records.specs.Pages.{IsRoot};
+ghost use Rattle.jn_base.specs.Limits.{head_blocks};
+ghost use Rattle.jn_records.specs.Pages.{format_version, IsRoot};
 ghost use Rattle.jn_records.specs.Sound as sound;
 ghost use Rattle.jn_records.specs.Sound.{HasRoot, IsSound, HasOneHead, All, HeadsWhole, AddressesOnce};
 ghost use Rattle.jn_records.specs.StablePages.{page_count};
@@ -16,8 +16,8 @@ ghost use Rattle.jn_image.specs.Unsound.{seen, ToPool, ToAddresses, IsFirstFault
 use crate::fault::{CheckError, Unsound};
 use crate::image::Image;
 use crate::repeats::least_repeated;
-use jn_base::{Page, ServerNo};
-use jn_records::{BLOCKS, Head, Record, Root};
+use jn_base::{HEAD_BLOCKS, Page, ServerNo};
+use jn_records::{FORMAT_VERSION, Head, Record, Root};
 use std::alloc::{AllocError, Global};
 
 /// Whether the image is a sound one of this server, from whose pages a recovery may begin.
@@ -27,9 +27,9 @@ pub fn check(alloc: Global, image: &Image, server: ServerNo) -> Result<(), Check
     ensures sound { IfOk result (λ _. IsSound server (seen image.now)) }
     // A sound image is found so, unless memory runs out.
     ensures only { IsSound server (seen image.now) → IfErr result (λ e. e ≡ Memory) }
-    // A fault that is told is the first one.
+    // A fault that is reported is the first one.
     ensures fault { (f : AnyFault) → result ≡ Err (AnUnsound f) → IsFirstFault server (seen image.now) f }
-    // The first fault is told, unless memory runs out.
+    // The first fault is reported, unless memory runs out.
     ensures first { (f : AnyFault) → IsFirstFault server (seen image.now) f → (result ≡ Err (AnUnsound f)) ⊎ (result ≡ Err Memory) }
 {
     look(alloc, image, server)
@@ -107,10 +107,11 @@ fn has_root(image: &Image) -> bool
 
 /// The root of a server with so many pages of each kind, at epoch 0.
 fn first_root(server: ServerNo, pool: u16, heads: u16, leaves: u16) -> Root
-    ensures root { result ≡ record { server = server; pool = pool; heads = heads; leaves = leaves; epoch = 0 } }
+    ensures root { result ≡ record { version = format_version; server = server; pool = pool; heads = heads; leaves = leaves; epoch = 0 } }
     ensures fits { IsRoot result }
 {
     Root {
+        version: FORMAT_VERSION,
         server,
         pool,
         heads,
@@ -121,10 +122,10 @@ fn first_root(server: ServerNo, pool: u16, heads: u16, leaves: u16) -> Root
 
 /// Whether a root is another but for its epoch.
 fn is_like(root: Root, like: Root) -> bool
-    ensures same { IsTrue result ↔ (root ≡ at_epoch like root.epoch) }
-    ensures fits { root.epoch < 2 ^ 32 }
+    ensures { IsTrue result ↔ (root ≡ at_epoch like root.epoch) }
 {
-    root.server.0 == like.server.0
+    root.version == like.version
+        && root.server.0 == like.server.0
         && root.pool == like.pool
         && root.heads == like.heads
         && root.leaves == like.leaves
@@ -324,9 +325,9 @@ fn address_of(address: u16) -> Option<u32>
 
 /// No address for each block that a head may have.
 fn push_none(out: &mut Vec<Option<u32>>) -> Result<(), AllocError>
-    ensures { OnOk result (out.new.items ≡ out.old.items ++ replicate most_blocks None) }
+    ensures { OnOk result (out.new.items ≡ out.old.items ++ replicate head_blocks None) }
 {
-    for _ in 0..BLOCKS {
+    for _ in 0..HEAD_BLOCKS {
         out.push(None)?;
     }
     Ok(())

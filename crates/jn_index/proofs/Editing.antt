@@ -1,5 +1,5 @@
 -- An entry is taken out, or put in.
-use Rattle.jn_index.proofs.Common.{◌≡◌, ◌≢◌, inl, inr, ◌<◌, ◌≤◌, ◌+◌, ◌-◌, ℕ, Bool, true, false, List, length, Option, Some, None, refl, sym, ap, subst, ◌∙◌, arith, ◌^◌, cases_eq, cases_lt, nat_tests, get_or-set_same, get_or-set_other, get_or_past, length-remove, get_or-insert_at, get_or-insert_below, get_or-insert_above, get_or-remove_below, get_or-remove_above, insert, remove, slice_set, nat_lt, if◌then◌else◌, Entry, number_at, is_above, IsNumberAbove, entry, entry_at, is_before, AreEntries}
+use Rattle.jn_index.proofs.Common.{◌≡◌, ◌≢◌, inl, inr, ◌<◌, ◌≤◌, ◌+◌, ◌-◌, ℕ, Bool, true, false, List, length, Option, Some, None, refl, sym, ap, ◌∙◌, arith, ◌^◌, cases_eq, cases_lt, nat_tests, get_or-set_same, get_or-set_other, get_or_past, length-remove, get_or-insert_at, get_or-insert_below, get_or-insert_above, get_or-remove_below, get_or-remove_above, insert, remove, slice_set, nat_lt, if◌then◌else◌, Entry, number_at, is_above, IsNumberAbove, entry, entry_at, is_before, AreEntries}
 use Rattle.jn_index.proofs.Order.{not_itself, before_or_same}
 
 pub has_slot : (numbers : List (Option ℕ)) (slot number : ℕ) → number_at numbers slot ≡ Some number → slot < length numbers
@@ -102,9 +102,6 @@ module _ (list : List Entry) (out : ℕ) (here : out < length list) (sought : En
     pub behind_later : out < place → (i : ℕ) → place - 1 ≤ i → i < length (remove list out) → is_before (entry_at (remove list out) i) sought ≡ false
     behind_later lt i le in_i = at_other i (behind (skip out i) (skip_behind out i place lt le) (in_list i in_i))
 
-    pub before_earlier : place ≤ out → (i : ℕ) → i < place → is_before (entry_at (remove list out) i) sought ≡ true
-    before_earlier le i up = at_other i (before (skip out i) (skip_still_before out i place le up))
-
     pub behind_earlier : (i : ℕ) → place ≤ i → i < length (remove list out) → is_before (entry_at (remove list out) i) sought ≡ false
     behind_earlier i le in_i = at_other i (behind (skip out i) (skip_still_behind out i place le) (in_list i in_i))
 
@@ -130,9 +127,9 @@ module _ (numbers : List (Option ℕ)) (list : List Entry) (are : AreEntries num
 
   pub cleared : (i : ℕ) (old : Entry) → old.slot < length numbers → i < length list → entry_at list i ≡ old → length (remove list i) + 1 ≡ length list → AreEntries (slice_set numbers old.slot None) (remove list i)
   cleared i old below here is shorter = record {
-    rising = λ a b lt in_b. subst (λ (e : Entry). is_before e (entry_at (remove list i) b) ≡ true) (sym (at_removed list i a here))
-        (subst (λ (e : Entry). is_before (entry_at list (skip i a)) e ≡ true) (sym (at_removed list i b here)) (are.rising (skip i a) (skip i b) (skip_rises i a b lt) (skip_below i b (length list) (omega arith))));
-    right = λ k in_k. subst (λ (e : Entry). number_at (slice_set numbers old.slot None) e.slot ≡ Some e.number) (sym (at_removed list i k here))
+    rising = λ a b lt in_b. rw (at_removed list i a here)
+        (rw (at_removed list i b here) (are.rising (skip i a) (skip i b) (skip_rises i a b lt) (skip_below i b (length list) (omega arith))));
+    right = λ k in_k. rw (at_removed list i k here)
         (get_or-set_other numbers old.slot (entry_at list (skip i k)).slot None None
         (λ same. skip_misses i k (slot_once (skip i k) i (skip_below i k (length list) (omega arith)) here (same ∙ ap (λ (e : Entry). e.slot) (sym is))))
         ∙ are.right (skip i k) (skip_below i k (length list) (omega arith)));
@@ -164,13 +161,13 @@ module _ (numbers : List (Option ℕ)) (list : List Entry) (are : AreEntries num
     up a b lt in_b = elim (cases_eq a i) [
       | inl same ↦
           let ne : b ≢ i = λ e. let no_way : ⊥ = omega arith in no_way in
-          subst (λ (e : Entry). is_before e (entry_at (insert list i new) b) ≡ true) (sym (ap (entry_at (insert list i new)) same ∙ at_new))
-          (subst (λ (e : Entry). is_before new e ≡ true) (sym (at_old b ne)) (new_first (back i b) (back_behind i b (omega arith)) (back_below i b (length list) ne in_b end)))
+          rw (ap (entry_at (insert list i new)) same ∙ at_new)
+          (rw (at_old b ne) (new_first (back i b) (back_behind i b (omega arith)) (back_below i b (length list) ne in_b end)))
       | inr ne ↦ elim (cases_eq b i) [
-        | inl at ↦ subst (λ (e : Entry). is_before e (entry_at (insert list i new) b) ≡ true) (sym (at_old a ne))
-            (subst (λ (e : Entry). is_before (entry_at list (back i a)) e ≡ true) (sym (ap (entry_at (insert list i new)) at ∙ at_new)) (before (back i a) (back_in_front i a (omega arith))))
-        | inr nb ↦ subst (λ (e : Entry). is_before e (entry_at (insert list i new) b) ≡ true) (sym (at_old a ne))
-            (subst (λ (e : Entry). is_before (entry_at list (back i a)) e ≡ true) (sym (at_old b nb)) (are.rising (back i a) (back i b) (back_rises i a b ne nb lt) (back_below i b (length list) nb in_b end)))
+        | inl at ↦ rw (at_old a ne)
+            (rw (ap (entry_at (insert list i new)) at ∙ at_new) (before (back i a) (back_in_front i a (omega arith))))
+        | inr nb ↦ rw (at_old a ne)
+            (rw (at_old b nb) (are.rising (back i a) (back i b) (back_rises i a b ne nb lt) (back_below i b (length list) nb in_b end)))
       ]
     ]
       where
@@ -184,10 +181,10 @@ module _ (numbers : List (Option ℕ)) (list : List Entry) (are : AreEntries num
     filled = record {
       rising = λ a b lt in_b. up a b lt (omega arith);
       right = λ k in_k. elim (cases_eq k i) [
-        | inl same ↦ subst (λ (e : Entry). number_at (slice_set numbers new.slot (Some new.number)) e.slot ≡ Some e.number) (sym (ap (entry_at (insert list i new)) same ∙ at_new)) (get_or-set_same numbers new.slot (Some new.number) None below)
+        | inl same ↦ rw (ap (entry_at (insert list i new)) same ∙ at_new) (get_or-set_same numbers new.slot (Some new.number) None below)
         | inr ne ↦
             let in_back : back i k < length list = back_below i k (length list) ne (omega arith) end in
-            subst (λ (e : Entry). number_at (slice_set numbers new.slot (Some new.number)) e.slot ≡ Some e.number) (sym (at_old k ne))
+            rw (at_old k ne)
             (get_or-set_other numbers new.slot (entry_at list (back i k)).slot (Some new.number) None (another (back i k) in_back) ∙ are.right (back i k) in_back)
       ];
       all = λ slot number e. elim (cases_eq slot new.slot) [
@@ -210,7 +207,7 @@ module _ (numbers : List (Option ℕ)) (list : List Entry) (are : AreEntries num
       let not_below : (lt : found.0 < place) → ⊥ = λ lt. let up = before found.0 lt in let none = not_itself sought in cc (ap (λ (e : Entry). is_before e sought) found.2, up, none) in
       let not_above : (lt : place < found.0) → ⊥ = λ lt. let up = are.rising place found.0 lt found.1 in let none = after place (omega arith) (let below = found.1 in omega arith) in cc (ap (is_before (entry_at list place)) found.2, up, none) in
       let same : found.0 ≡ place = elim (cases_eq found.0 place) [ inl e ↦ e | inr ne ↦ absurd (elim (cases_lt found.0 place) [ inl lt ↦ not_below lt | inr le ↦ not_above (omega arith) ]) ] in
-      (subst (λ (k : ℕ). k < length list) same found.1, ap (entry_at list) (sym same) ∙ found.2)
+      (rw (← same) found.1, ap (entry_at list) (sym same) ∙ found.2)
 
 -- the least number above another stands at the place of the first that is
 module _ (numbers : List (Option ℕ)) (list : List Entry) (are : AreEntries numbers list) where
@@ -222,7 +219,7 @@ module _ (numbers : List (Option ℕ)) (list : List Entry) (are : AreEntries num
         → IsNumberAbove numbers after e.number
     least_above e here is behind = record {
       slot = e.slot;
-      here = subst (λ (x : Entry). number_at numbers x.slot ≡ Some x.number) is (are.right place here);
+      here = rw (← is) (are.right place here);
       above = ap (λ (x : Entry). is_above after x.number) (sym is) ∙ behind place (omega arith) here;
       least = λ k n has up. let found = are.all k n has in
           elim (cases_eq place found.0) [

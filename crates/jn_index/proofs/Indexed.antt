@@ -1,5 +1,5 @@
 -- An index in memory, as it is changed.
-use Rattle.jn_index.proofs.Common.{◌≡◌, ◌<◌, ◌≤◌, ◌+◌, ℕ, true, false, List, length, Option, Some, None, refl, sym, ap, subst, ◌∙◌, arith, length-set, set-set, get_or-set_same, length-insert, length-remove, insert, remove, slice_set, count_by, cond, Entry, number_at, is_none, entry_at, is_before, IsIndex}
+use Rattle.jn_index.proofs.Common.{◌≡◌, ◌<◌, ◌≤◌, ◌+◌, ℕ, true, false, List, length, Option, Some, None, refl, ap, ◌∙◌, arith, length-set, set-set, get_or-set_same, length-insert, length-remove, insert, remove, slice_set, count_by, cond, Entry, number_at, is_none, entry_at, is_before, IsIndex}
 use Rattle.std.proofs.lemmas.List.Sums.{sum_by-set}
 use Rattle.jn_index.proofs.Editing.{cleared, filled, has_slot}
 
@@ -15,7 +15,7 @@ module _ (numbers : List (Option ℕ)) (list : List Entry) (capacity : ℕ) (ind
   is_cleared old i after room some here is same more =
       let shorter = length-remove list i here in
       let below = has_slot numbers old.slot old.number some in
-      subst (λ (l : List Entry). IsIndex (slice_set numbers old.slot None) l room) (sym same) (record {
+      rw same (record {
         few = simp length-set index.few;
         entries = cleared numbers list index.entries i old below here is shorter;
         room =
@@ -36,7 +36,7 @@ module _ (numbers : List (Option ℕ)) (list : List Entry) (capacity : ℕ) (ind
       → after ≡ insert list i new → capacity ≤ room → IsIndex (slice_set numbers new.slot (Some new.number)) after room
   is_filled new i after room below none end before behind same more =
       let longer = length-insert list i new end in
-      subst (λ (l : List Entry). IsIndex (slice_set numbers new.slot (Some new.number)) l room) (sym same) (record {
+      rw same (record {
         few = simp length-set index.few;
         entries = filled numbers list index.entries new i end below none before behind longer;
         room =
@@ -60,8 +60,8 @@ module _ (numbers : List (Option ℕ)) (list : List Entry) (capacity : ℕ) (ind
       let shorter = length-remove list i here in
       let below = has_slot numbers old.slot old.number some in
       let gone = slice_set numbers old.slot None in
-      let below_too : new.slot < length gone = simp length-set (subst (λ (slot : ℕ). slot < length numbers) (sym its) below) in
-      let none : number_at gone new.slot ≡ None = subst (λ (slot : ℕ). number_at gone slot ≡ None) (sym its) (get_or-set_same numbers old.slot None None below) in
+      let below_too : new.slot < length gone = simp length-set (rw its below) in
+      let none : number_at gone new.slot ≡ None = rw its (get_or-set_same numbers old.slot None None below) in
       let twice : slice_set gone new.slot (Some new.number) ≡ slice_set numbers old.slot (Some new.number) = ap (λ (slot : ℕ). slice_set gone slot (Some new.number)) its ∙ set-set numbers old.slot None (Some new.number) in
-      subst (λ (n : List (Option ℕ)). IsIndex n after room) twice
+      rw (← twice)
       (is_filled gone (remove list i) capacity (is_cleared numbers list capacity index old i (remove list i) capacity some here is refl (omega arith)) new j after room below_too none (omega (arith, end, shorter)) before behind same more)

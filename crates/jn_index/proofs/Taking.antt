@@ -77,7 +77,7 @@ module _ (numbers : List (Option ℕ)) (pairs : List (ℕ × ℕ)) (are : AreOf 
   }
     where
       right : number_at numbers pair.1 ≡ Some pair.0
-      right = subst (λ (p : ℕ × ℕ). number_at numbers p.1 ≡ Some p.0) (sym is) (right_at n below)
+      right = rw is (right_at n below)
 
       now : number_at (slice_set index pair.1 (Some pair.0)) pair.1 ≡ Some pair.0
       now = get_or-set_same index pair.1 (Some pair.0) None (slot_within n pair below is taken)

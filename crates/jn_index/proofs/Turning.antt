@@ -1,5 +1,5 @@
 -- An entry that is taken out, and one that is inserted, where only the entries between both places move.
-use Rattle.jn_index.proofs.Common.{◌≡◌, ◌<◌, ◌+◌, ℕ, zero, suc, List, [], ◌∷◌, length, refl, sym, ap, subst, ◌∙◌, arith, get_or-set_other, get_or-insert_below, get_or-insert_above, insert, remove, slice_set, Entry, entry, entry_at}
+use Rattle.jn_index.proofs.Common.{◌≡◌, ◌<◌, ◌+◌, ℕ, zero, suc, List, [], ◌∷◌, length, refl, sym, ap, ◌∙◌, arith, get_or-set_other, get_or-insert_below, get_or-insert_above, insert, remove, slice_set, Entry, entry, entry_at}
 
 pub turned_here : (xs : List Entry) (i : ℕ) (x : Entry) → i < length xs → slice_set xs i x ≡ insert (remove xs i) i x
 turned_here [] i x lt = absurd (let no_way : ⊥ = omega (arith, lt) in no_way)
@@ -27,7 +27,7 @@ hole_up list rest hole y here is has x =
     let same : entry_at rest hole ≡ y = sym (get_or-insert_above rest hole y (entry 0 0) hole (omega arith) (omega (arith, here)))
     ∙ ap (λ (l : List Entry). entry_at l (hole + 1)) (sym (has y)) ∙ get_or-set_other list hole (hole + 1) y (entry 0 0) (λ e. let no_way : ⊥ = omega (arith, e) in no_way) ∙ is in
     let next : suc hole ≡ hole + 1 = omega arith in
-    subst (λ (k : ℕ). slice_set (slice_set list hole y) k x ≡ insert rest k x) next
+    rw (← next)
     (ap (λ (l : List Entry). slice_set l (suc hole) x) (has y ∙ ap (insert rest hole) (sym same)) ∙ up_by_one rest hole x here)
 
 pub hole_down : (list rest : List Entry) (hole : ℕ) (y : Entry) → hole < length rest → entry_at list hole ≡ y → HasHole list rest (hole + 1) → HasHole (slice_set list (hole + 1) y) rest hole
@@ -36,4 +36,4 @@ hole_down list rest hole y here is has x =
     ∙ ap (λ (l : List Entry). entry_at l hole) (sym (has y)) ∙ get_or-set_other list (hole + 1) hole y (entry 0 0) (λ e. let no_way : ⊥ = omega (arith, e) in no_way) ∙ is in
     let next : suc hole ≡ hole + 1 = omega arith in
     ap (λ (l : List Entry). slice_set l hole x) (has y ∙ ap (insert rest (hole + 1)) (sym same))
-    ∙ subst (λ (k : ℕ). slice_set (insert rest k (entry_at rest hole)) hole x ≡ insert rest hole x) next (down_by_one rest hole x here)
+    ∙ rw (← next) (down_by_one rest hole x here)

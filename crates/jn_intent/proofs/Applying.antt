@@ -1,6 +1,6 @@
 -- A work's next intention is carried out, by one put of one head or by none.
 use Rattle.jn_intent.proofs.Common.{◌≡◌, ◌≢◌, ◌⊎◌, inl, inr, ⊎_elim, ◌<◌, ◌≤◌, ◌+◌, ℕ, suc, Bool, true, false, not, ◌&&◌, ◌||◌, if◌then◌else◌, List, [], ◌∷◌, length, map, Option, Some, None, Result, Ok, refl, sym, ◌∙◌, ap, subst, true≢false, arith, fun_ext, cases_eq, nat_tests, get_or_read, sum_by-cons, slice_get-map, slice_get_within, nat_lt, nat_eq, is_ok, is_some, count_by, slice_get, slice_set, slice_index_or, option_map, find, list_all, list_any, free_numbers, is_free_number, Stopped, FileNo, Block, WorkId, file_eq, work_eq, file_tells, work_tells, unit_eq, there_it_is, TableView, IsTable, IsFreeLeaf, exists, IsChanged, intended, heads_name, works_name, is_head_of, held_contents, found_on, HeadPut, IsRecoverable, IsStanding, Makes, carries, head_named, named_addresses, Head, FullIntention, StoredIntention, What, Fresh, Gone, Cut, Put, WorkState, intention_has_page, names_what_it_needs, is_fresh, is_put, is_put_intention, Counts, head_place, StableState, Pick, Changed, CarryOut, made_by, at_work, is_prepared, record_in, has_page, state, name_of, next_of, Called, CountsOn, PageTaken, PageStands, StepApplied, find_by, are_different, IsListing, IsServing, file_there, is_stored, intentions, list_of, needed, find-set, keys-set, made_there, there-after, StoreView, Carries, PutsOne, MayCarry, heads_taken, without_promise, is_gone, is_gone_already, counted_on, Matches, IsKeptMemory, IsMade, AreMade, stored_work, Memory, accounts_of, view_of, next_by, next_in, stored_by, holds_page, held_in, same_there, same_address, one, listed_length, none_any, serves_of, serving_by, called_put, finds, there_found, named_head, prepared_of, stored_pages}
-use Rattle.jn_found.proofs.HeadLaws.{gone_law}
+use Rattle.jn_page_state.proofs.HeadLaws.{gone_law}
 use Rattle.jn_records.specs.Heads.{head_page}
 use Rattle.jn_storage.proofs.Laws.{called_not}
 use Rattle.jn_intent.proofs.CarryStates.{IsCountedOn, carried_loadable, serves_carried}

@@ -18,15 +18,15 @@ pub use Rattle.jn_base.proofs.Tells.{file_tells, work_tells, block_tells, tid_te
 pub use Rattle.jn_order.specs.Files.{there as there_it_is, Files, change, there, Change, created, removed, cut_from, written}
 pub use Rattle.jn_files.specs.Table.{TableView, IsTable, IsFreeLeaf, exists, AreHeads, head_in, is_of, is_held, addresses, addresses_of, address_of, address_for, or_nil, IsHeadOf, fresh_head, cut_head, cut_addresses, with_leaf, is_mapped, is_touched}
 pub use Rattle.jn_files.specs.Calls.{IsChanged, SetsHead, IsPlaceOf, with_promised_heads, LetsGo, MayBecome, NextFile as NextHead, is_above as is_above_head, Touches, BlockGot, with_promised_leaves, TouchesAll, with_held, with_touched}
-pub use Rattle.jn_found.specs.Contents.{intended, heads_name, works_name, is_head_of, address_at, Contents, bytes_by, behind, block_in, stored_in, with_first, intentions_from, prepared_by, stored_list, holds_address, intention_of}
-pub use Rattle.jn_found.specs.Held.{held_contents}
-pub use Rattle.jn_found.specs.Pages.{found_on, block_on, pages_by}
-pub use Rattle.jn_found.specs.Puts.{HeadPut, RecordPut, IsFewer, BlockPut}
-pub use Rattle.jn_found.specs.Recoverable.{IsRecoverable, Addresses, Intends, IsConsistent, PassesOnce, HasIntentions, AddressesDiffer, is_named, HasAt, AreFresh, IsWholeWork, IsCompleteBy, HasNone}
-pub use Rattle.jn_found.specs.Standing.{IsStanding, Makes, MakesNothing, standing_state}
-pub use Rattle.jn_found.proofs.CallLaws.{carries, marks, readies, removes, fills, idles}
-pub use Rattle.jn_found.proofs.HeadKept.{head_named, one_file, split}
-pub use Rattle.jn_found.proofs.Naming.{named_addresses, addresses_named, intends_named, named_intends}
+pub use Rattle.jn_page_state.specs.Contents.{intended, heads_name, works_name, is_head_of, address_at, Contents, bytes_by, behind, block_in, stored_in, with_first, intentions_from, prepared_by, stored_list, holds_address, intention_of}
+pub use Rattle.jn_page_state.specs.Held.{held_contents}
+pub use Rattle.jn_page_state.specs.Pages.{found_on, block_on, pages_by}
+pub use Rattle.jn_page_state.specs.Puts.{HeadPut, RecordPut, IsFewer, BlockPut}
+pub use Rattle.jn_page_state.specs.Recoverable.{IsRecoverable, Addresses, Intends, IsConsistent, PassesOnce, HasIntentions, AddressesDiffer, is_named, HasAt, AreFresh, IsWholeWork, IsCompleteBy, HasNone}
+pub use Rattle.jn_page_state.specs.Standing.{IsStanding, Makes, MakesNothing, standing_state}
+pub use Rattle.jn_page_state.proofs.CallLaws.{carries, marks, readies, removes, fills, idles}
+pub use Rattle.jn_page_state.proofs.HeadKept.{head_named, one_file, split}
+pub use Rattle.jn_page_state.proofs.Naming.{named_addresses, addresses_named, intends_named, named_intends}
 pub use Rattle.jn_records.specs.declared.head.Head.{Head}
 pub use Rattle.jn_records.specs.declared.intention.Intention.{Intention as FullIntention}
 pub use Rattle.jn_records.specs.declared.intention.StoredIntention.{StoredIntention}
@@ -62,23 +62,23 @@ pub use Rattle.jn_storage.proofs.Listings.{but, listing-less, listing-more, list
 pub use Rattle.jn_base.specs.declared.names.BlockNo.{BlockNo}
 pub use Rattle.jn_files.proofs.Lookup.{of_one, addresses_at, absent_none, of_used}
 pub use Rattle.jn_files.proofs.Putting.{named_below}
-pub use Rattle.jn_found.proofs.Images.{listed_files, files_listing}
+pub use Rattle.jn_page_state.proofs.Images.{listed_files, files_listing}
 pub use Rattle.jn_records.specs.declared.head.Head.TheVariants.{Free as FreeHead, Used}
-pub use Rattle.jn_found.specs.Changes.{serves_for, is_head_after, address_after, IsHeadPut, IsReadySlot, IsReadyPut, IsIdlePut}
+pub use Rattle.jn_page_state.specs.Changes.{serves_for, is_head_after, address_after, IsHeadPut, IsReadySlot, IsReadyPut, IsIdlePut}
 pub use Rattle.jn_base.specs.declared.names.Tid.{Tid}
-pub use Rattle.jn_found.proofs.Found.{found_once, found_written, none_passes, any_same, none_at, found_passes, found_any}
-pub use Rattle.jn_found.proofs.Slots.{at_set, passes_any}
+pub use Rattle.jn_page_state.proofs.Found.{found_once, found_written, none_passes, any_same, none_at, found_passes, found_any}
+pub use Rattle.jn_page_state.proofs.Slots.{at_set, passes_any}
 pub use Rattle.jn_records.specs.declared.record.Record.{Record}
 pub use Rattle.jn_records.specs.declared.record.Record.TheVariants.{Intention, Free, Ready, Going, Flag as FlagRecord, Intention as IntentionRecord}
 pub use Rattle.jn_recovery.specs.Pages.{is_at, page_let_go, pages_let_go, IsHeldAt, MayLetGo, ArePagesApart, heads_needed}
 pub use Rattle.jn_intent.specs.Scrubbing.{IsIdle, Scrubbed}
-pub use Rattle.jn_found.proofs.PoolLemmas.{intentions_kept}
+pub use Rattle.jn_page_state.proofs.PoolLemmas.{intentions_kept}
 pub use Rattle.jn_records.specs.declared.work.WorkHead.{WorkHead}
 pub use Rattle.jn_sets.specs.Sets.{Puts}
 pub use Rattle.jn_recovery.proofs.Pool.{position_at, none_position, step_of, free_same, names_kept, rubbish_kept, work_stays, flags_stay, free_more, free_less, idle_same, idle_works, free_is, rubbish_moves}
 pub use Rattle.jn_recovery.proofs.WorkStates.{serves_marked, IsRemoved, serves_removed}
 pub use Rattle.jn_files.specs.Pages.{HoldsTable, files_in, leaf_page}
-pub use Rattle.jn_found.proofs.Picking.{fewer_found, fewer_recoverable, same_found, same_recoverable}
+pub use Rattle.jn_page_state.proofs.Picking.{fewer_found, fewer_recoverable, same_found, same_recoverable}
 pub use Rattle.jn_store.proofs.Laws.{later_refl, same_refl, same_shrinks, later_trans, stop_since, shrinks_only}
 pub use Rattle.std.proofs.lemmas.List.Elements.{filter-append}
 pub use Rattle.jn_intent.specs.Preparing.{PoolPreparing, IsPreparing, StopsUnchanged, Begins, ListStored, stored_as, BlockStored, RecordStored, IntentionStored, MayStore, PagesPreparing, StorePreparing, IsOwnPage}
@@ -88,7 +88,7 @@ pub use Rattle.jn_storage.specs.declared.faults.PrepareFault.TheVariants.{Record
 pub use Rattle.jn_recovery.proofs.Erasing.{rubbish_one, in_both, erase_done, erase_kept, erase_recovers}
 pub use Rattle.jn_device.specs.Device.{DeviceState}
 pub use Rattle.jn_intent.specs.Events.{Befalls}
-pub use Rattle.jn_recovery.specs.Cleaning.{CleansAll, Cleans}
+pub use Rattle.jn_recovery.specs.Cleaning.{Cleans}
 pub use Rattle.jn_intent.specs.Inside.{memory_of, IsRoom}
 pub use Rattle.std.proofs.lemmas.Result.{err_from_is_err_and}
 pub use Rattle.std.proofs.lemmas.Fn.{filter_same}

@@ -1,6 +1,6 @@
 -- What works hold, and what is free, once an intention is carried out by one put of one head.
 use Rattle.jn_intent.proofs.Common.{◌≡◌, ◌≢◌, ◌⊎◌, inl, inr, ⊎_elim, ◌<◌, ◌+◌, ℕ, zero, suc, Bool, true, false, not, ◌&&◌, ◌||◌, if◌then◌else◌, List, [], ◌∷◌, length, Option, Some, None, refl, sym, ◌∙◌, ap, subst, true≢false, arith, cases_eq, false_from_ne_true, nat_tests, slice_get-map, nat_lt, nat_eq, is_some, count_by, slice_get, slice_set, slice_index_or, option_map, option_and_then, find, list_any, free_numbers, BlockNo, FileNo, Block, Tid, WorkId, work_eq, work_tells, block_tells, TableView, IsTable, is_held, named_below, IsHeadPut, address_after, is_head_after, serves_for, Contents, intended, bytes_by, behind, block_in, heads_name, works_name, is_head_of, address_at, held_contents, Addresses, Intends, IsConsistent, found_once, one_file, split, addresses_named, intends_named, named_addresses, at_set, Head, FreeHead, Used, FullIntention, StoredIntention, What, Fresh, Gone, Cut, Put, Record, Intention, WorkState, intention_has_page, names_what_it_needs, is_put, in_order, place_by, has_page, Counts, StableState, record_in, is_prepared, state, name_of, find_by, is_in, IsListing, IsServing, is_stored, but, is_in-but, total-but, total-same, StoreView, Matches, stored_work, Memory, view_of, stored_by, holds_page, is_at, same_address, one, serves_of, finds, consistent, prepared_of, stored_pages}
-use Rattle.jn_found.specs.Contents.{head_in}
+use Rattle.jn_page_state.specs.Contents.{head_in}
 use Rattle.jn_intent.proofs.Census.{pages_counted}
 use Rattle.jn_intent.proofs.NetOrder.{all_at, one_index, not_both_put, not_whole}
 use Rattle.jn_intent.proofs.NextIntention.{its_slot}

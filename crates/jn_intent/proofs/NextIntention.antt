@@ -1,6 +1,6 @@
 -- What is asked to carry out a work's next intention holds while the storage serves.
 use Rattle.jn_intent.proofs.Common.{◌≡◌, ◌<◌, ℕ, zero, suc, Bool, true, false, not, ◌&&◌, ◌||◌, if◌then◌else◌, List, [], length, map, drop, Option, Some, None, refl, sym, ◌∙◌, ap, subst, arith, nat_tests, slice_get-map, nat_lt, slice_get, option_map, take, BlockNo, FileNo, Tid, WorkId, file_eq, work_eq, head_in, is_of, exists, address_of, MayBecome, intended, bytes_by, heads_name, works_name, is_head_of, address_at, held_contents, block_on, pages_by, IsConsistent, Intends, is_named, intends_named, Head, FreeHead, Used, FullIntention, StoredIntention, What, Fresh, Gone, Cut, Put, Intention, WorkState, is_fresh, data_place, Prepared, Pick, record_in, IsRecord, state, name_of, next_of, find_by, IsPrepared, IsServing, file_there, intentions, one_if, makes_file, StoreView, IsClean, Memory, accounts_of, view_of, next_by, Matches, IsMade, stored_work, MayCarry, heads_taken, serves_of, there_found, consistent, prepared_of}
-use Rattle.jn_found.proofs.HeldLaws.{contents_held}
+use Rattle.jn_page_state.proofs.HeldLaws.{contents_held}
 use Rattle.jn_intent.proofs.CarryStates.{promises}
 use Rattle.jn_intent.proofs.NetOrder.{all_at, file_needed}
 use Rattle.jn_intent.proofs.WorkPages.{first_blocks, IsStored, its_list, work_told, stands_listed}

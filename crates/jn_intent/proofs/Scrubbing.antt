@@ -1,7 +1,7 @@
 -- What a scrub of a storage leaves, and what befalls its device.
-use Rattle.jn_intent.proofs.Common.{◌≡◌, ◌<◌, ◌≤◌, ◌+◌, ◌*◌, ℕ, Bool, true, false, refl, sym, ◌∙◌, ap, subst, arith, DeviceState, TableView, IsTable, TouchesAll, found_on, IsFewer, IsRecoverable, IsStanding, fewer_found, fewer_recoverable, same_found, same_recoverable, Pick, StableState, Unchanged, IsServing, state, StoreView, StoreLater, HasSamePages, IsCalm, IsWholePage, IsStop, shrinks_only, Memory, view_of, Matches, IsKeptMemory, Befalls, CleansAll, Scrubbed, serves_of, serving_by, loadable_found, standing_same}
-use Rattle.jn_found.specs.Images.{IsImage}
-use Rattle.jn_found.proofs.ImageEnds.{is_image}
+use Rattle.jn_intent.proofs.Common.{◌≡◌, ◌<◌, ◌≤◌, ◌+◌, ◌*◌, ℕ, Bool, true, false, refl, sym, ◌∙◌, ap, subst, arith, DeviceState, TableView, IsTable, TouchesAll, found_on, IsFewer, IsRecoverable, IsStanding, fewer_found, fewer_recoverable, same_found, same_recoverable, Pick, StableState, Unchanged, IsServing, state, StoreView, StoreLater, HasSamePages, IsCalm, IsWholePage, IsStop, shrinks_only, Memory, view_of, Matches, IsKeptMemory, Befalls, Cleans, Scrubbed, serves_of, serving_by, loadable_found, standing_same}
+use Rattle.jn_page_state.specs.Images.{IsImage}
+use Rattle.jn_page_state.proofs.ImageEnds.{is_image}
 use Rattle.jn_store.specs.Pairs.{pairs_view}
 use Rattle.jn_intent.proofs.Idle.{idle_free}
 
@@ -30,7 +30,7 @@ module _ (m : Memory) (v w : StoreView) (kept : IsKeptMemory m v) (fewer : IsFew
   touched_kept power u touches table = let now = fewer_kept power in subst (λ k. Matches (record m { table = k }) w) (sym touches.rest)
       (record { standing = now.standing; table = subst IsTable touches.rest table; works = now.works; made = now.made; flags = now.flags; held = now.held })
 
-  module _ (serving : IsServing (view_of m v)) (ok : Bool) (later : StoreLater v w) (calls : w.calls ≤ v.calls + 16 * v.count) (done : ok ≡ true → CleansAll v w) (stopped : ok ≡ false → IsStop v w) (calm : IsCalm v → ok ≡ true) where
+  module _ (serving : IsServing (view_of m v)) (ok : Bool) (later : StoreLater v w) (calls : w.calls ≤ v.calls + 16 * v.count) (done : ok ≡ true → Cleans v 0 v.count w) (stopped : ok ≡ false → IsStop v w) (calm : IsCalm v → ok ≡ true) where
     same : Unchanged (state (view_of m v)) (found_on m.table.counts w)
     same = fewer_found v w fewer m.table.counts (state (view_of m v)) serving.up
 

@@ -1,6 +1,6 @@
 -- The records of a work that is being prepared: intentions that count for nothing, and then its ready record.
 use Rattle.jn_intent.proofs.Common.{◌≡◌, ◌<◌, ℕ, zero, suc, Bool, true, false, not, ◌&&◌, ◌||◌, if◌then◌else◌, List, [], ◌∷◌, ◌++◌, length, Option, Some, None, refl, sym, ◌∙◌, ap, subst, true≢false, arith, length-append, filter-append, nat_eq, filter, position, slice_set, list_any, Tid, WorkId, work_eq, work_tells, IsIdlePut, holds_address, HasNone, any_same, StoredIntention, Record, Free, Intention, Ready, Going, FlagRecord, record_in, is_free, free_count, is_prepared, is_intention, is_flag, is_rubbish, is_in, Memory, rubbish_of, rubbish_in, WorksMatch, FlagsMatch, PoolPreparing, in_both, idle_same, idle_works, position_at, free_is, free_more, flags_stay, names_kept, rubbish_moves}
-use Rattle.jn_found.proofs.Behind.{none_first, next_first}
+use Rattle.jn_page_state.proofs.Behind.{none_first, next_first}
 use Rattle.jn_sets.proofs.Slots.{none_counted}
 
 -- ---- rubbish of other works

@@ -5,7 +5,7 @@ use Rattle.jn_base.specs.declared.names.FileNo.{FileNo}
 use Rattle.jn_base.specs.Limits.{most_blocks}
 use Rattle.jn_files.specs.Table.{TableView, IsTable, IsHeadOf, exists}
 use Rattle.jn_files.specs.Calls.{HasPagesOfTable, IsChanged, MayBecome, with_promised_heads}
-use Rattle.jn_found.specs.Changes.{IsHeadPut}
+use Rattle.jn_page_state.specs.Changes.{IsHeadPut}
 use Rattle.jn_records.specs.declared.head.Head.{Head}
 use Rattle.jn_records.specs.declared.intention.StoredIntention.{StoredIntention}
 use Rattle.jn_records.specs.declared.intention.What.{What}

@@ -2,7 +2,7 @@
 use Rattle.std.specs.Prelude.{◌≡◌, ◌≤◌, ◌+◌, ℕ, List, [], vec_len, vec_capacity}
 use Rattle.std.specs.List.{AllByRecursion}
 use Rattle.jn_base.specs.declared.names.WorkId.{WorkId}
-use Rattle.jn_found.specs.Recoverable.{IsRecoverable}
+use Rattle.jn_page_state.specs.Recoverable.{IsRecoverable}
 use Rattle.jn_store.specs.Store.{StoreView}
 use Rattle.jn_recovery.specs.Memory.{Memory}
 use Rattle.jn_recovery.specs.Matches.{IsKeptMemory}

@@ -8,10 +8,10 @@ use Rattle.jn_base.specs.Names.{work_eq}
 use Rattle.jn_base.specs.Limits.{most_intentions}
 use Rattle.jn_files.specs.Table.{TableView, IsTable, is_held}
 use Rattle.jn_files.specs.Calls.{Fills, with_held}
-use Rattle.jn_found.specs.Contents.{intended, heads_name, works_name}
-use Rattle.jn_found.specs.Pages.{found_on, block_on, pages_by}
-use Rattle.jn_found.specs.Recoverable.{IsRecoverable, HasFirst}
-use Rattle.jn_found.specs.Standing.{IsStanding}
+use Rattle.jn_page_state.specs.Contents.{intended, heads_name, works_name}
+use Rattle.jn_page_state.specs.Pages.{found_on, block_on, pages_by}
+use Rattle.jn_page_state.specs.Recoverable.{IsRecoverable, HasFirst}
+use Rattle.jn_page_state.specs.Standing.{IsStanding}
 use Rattle.jn_records.specs.declared.intention.Intention.{Intention}
 use Rattle.jn_records.specs.declared.intention.StoredIntention.{StoredIntention}
 use Rattle.jn_records.specs.declared.record.Record.{Record}

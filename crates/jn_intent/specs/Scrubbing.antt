@@ -2,7 +2,7 @@
 use Rattle.std.specs.Prelude.{◌≡◌, ℕ, ◌*◌, ◌<◌, Bool, true, [], None}
 use Rattle.jn_base.specs.declared.names.Tid.{Tid}
 use Rattle.jn_base.specs.declared.names.WorkId.{WorkId}
-use Rattle.jn_found.specs.Images.{IsImage}
+use Rattle.jn_page_state.specs.Images.{IsImage}
 use Rattle.jn_records.specs.StablePages.{Counts}
 use Rattle.jn_rows.specs.Stable.{Unchanged}
 use Rattle.jn_storage.specs.Storage.{Accounts, StorageView}

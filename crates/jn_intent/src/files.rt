@@ -23,7 +23,7 @@ impl<S: StableStore> StoredFiles for Intents<S> {
         self.table.mapped(f, p)
     }
 
-    /// A block that isn't stored is told without a device call. The page of one that is stored is cleaned before its first get.
+    /// A block that isn't stored is reported without a device call. The page of one that is stored is cleaned before its first get.
     fn read_block(&mut self, f: FileNo, p: BlockNo) -> Result<Option<Block>, Stopped>
         requires serving { IsServing (⟦<Intents<S> as Storage>⟧.view self.old) }
         requires range { p.0 < most_blocks }

@@ -1,7 +1,7 @@
 //! How a server's storage comes up on its store.
 ghost use Rattle.std.specs.Prelude.{◌≡◌, IfOk, IfErr};
 ghost use Rattle.jn_base.specs.declared.names.ServerNo.{ServerNo};
-ghost use Rattle.jn_found.specs.Recoverable.{IsRecoverable};
+ghost use Rattle.jn_page_state.specs.Recoverable.{IsRecoverable};
 ghost use Rattle.jn_recovery.specs.Kept.{memory_kept};
 ghost use Rattle.jn_recovery.specs.Loading.{IsLoaded, IsDown, IsUntouched};
 ghost use Rattle.jn_recovery.specs.Counts.{counts_by};

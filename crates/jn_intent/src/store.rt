@@ -2,8 +2,8 @@
 ghost use Rattle.std.specs.Prelude.{◌≡◌, ◌≤◌, ◌<◌, ◌+◌, ◌-◌, ◌*◌, [], true, length, nat_lt, is_ok, OnErr, OnOk};
 ghost use Rattle.jn_device.specs.Events.{Decays, Revives, Arms, is_within, disarmed, cleared};
 ghost use Rattle.jn_files.specs.Calls.{TouchesAll};
-ghost use Rattle.jn_found.specs.Puts.{IsFewer};
-ghost use Rattle.jn_found.specs.Recoverable.{IsRecoverable};
+ghost use Rattle.jn_page_state.specs.Puts.{IsFewer};
+ghost use Rattle.jn_page_state.specs.Recoverable.{IsRecoverable};
 ghost use Rattle.jn_recovery.specs.Matches.{IsKeptMemory};
 ghost use Rattle.jn_storage.specs.Storage.{IsServing};
 ghost use Rattle.jn_store.specs.Store.{IsCalm, IsStop, StoreLater};

@@ -1,5 +1,5 @@
 -- What becomes of a message that is handed over: it is answered, or its server is stopped, or the run is cut short.
-use Rattle.jn_laws.proofs.Common.{◌≡◌, ◌≢◌, ℕ, Bool, true, false, List, [], ◌∷◌, ◌++◌, append-nil, length, length-append, Option, Some, None, is_some, refl, sym, ◌∙◌, ap, subst, arith, if◌then◌else◌, slice_get, ServerNo, Party, Client, Server, client_eq, server_eq, client_tells, server_tells, Message, Taken, ClientTable, take_row, RowOutcome, Sent, Pick, stable, made_all, World, Memory, Room, server_row, Deliver, handing, after, run, handed, at_memory, ends, took, Setup, Use, Nothing, Deed, room, no_room, delivered_at, IsUsed, rubbish_on, Moment, DoesStep, CutShort, HandsOver, Answer, tells_alone, room_on, row_on, of_row, of_server, of_taken, its_answer, IsGiven, IsDone, IsTaken, IsStopped, stopped_at, IsTooLong, IsStale, Calls, free_found, row_calls, ClientNo}
+use Rattle.jn_laws.proofs.Common.{◌≡◌, ◌≢◌, ℕ, Bool, true, false, List, [], ◌∷◌, ◌++◌, append-nil, length, length-append, Option, Some, None, is_some, refl, sym, ◌∙◌, ap, subst, arith, if◌then◌else◌, slice_get, ServerNo, Party, Client, Server, client_eq, server_eq, client_tells, server_tells, Message, Taken, ClientTable, take_row, RowOutcome, Sent, Pick, stable, made_all, World, Memory, Room, server_row, Deliver, handing, after, run, handed, at_memory, ends, took, Setup, Use, Nothing, Deed, room, no_room, delivered_at, IsUsed, rubbish_on, Moment, DoesStep, CutShort, HandsOver, Answer, tells_alone, room_on, row_on, of_row, of_server, of_taken, its_answer, IsGiven, IsDone, IsTaken, IsStopped, stopped_at, IsTooLong, IsStale, Calls, free_found, row_calls, ClientNo, Left}
 use Rattle.jn_records.specs.declared.net_list.Need.{Need}
 use Rattle.jn_report.specs.declared.line.Text.TheVariants as says
 use Rattle.jn_rows.specs.declared.client.Taken.TheVariants as taken
@@ -114,16 +114,16 @@ module _ (x : Setup) (a b : Moment) (d : DoesStep x a b) (k : ℕ) where
       abbrev its-row : RowOutcome Memory
       its-row = row_on x a q m message
 
-      handing-is : (stop : Option (Pick → ℕ)) → after (handing k (room d.chance q) stop) w ≡ ends q (Some k) stop its-row w
+      handing-is : (stop : Option (Pick → Left)) → after (handing k (room d.chance q) stop) w ≡ ends q (Some k) stop its-row w
       handing-is stop = same stop ∙ ap (λ (o : Option Sent). handed k (room d.chance q) stop o w) hands.is ∙ ap (λ (o : Option Memory). at_memory q k (room d.chance q) stop message o w) up
           ∙ ap (λ (r : Room). ends q (Some k) stop (server_row m (stable (w.found q)) r message) w) room-is
         where
-          same : (stop : Option (Pick → ℕ)) → after (handing k (room d.chance q) stop) w ≡ handed k (room d.chance q) stop (slice_get w.sent k) w
+          same : (stop : Option (Pick → Left)) → after (handing k (room d.chance q) stop) w ≡ handed k (room d.chance q) stop (slice_get w.sent k) w
           same None = refl
           same (Some made) = refl
 
-      up-after : (stop : Option (Pick → ℕ)) → d.chance.stop ≡ stop → after (handing k (room d.chance q) d.chance.stop) w ≡ ends q (Some k) stop its-row w
-      up-after stop e = ap (λ (o : Option (Pick → ℕ)). after (handing k (room d.chance q) o) w) e ∙ handing-is stop
+      up-after : (stop : Option (Pick → Left)) → d.chance.stop ≡ stop → after (handing k (room d.chance q) d.chance.stop) w ≡ ends q (Some k) stop its-row w
+      up-after stop e = ap (λ (o : Option (Pick → Left)). after (handing k (room d.chance q) o) w) e ∙ handing-is stop
 
       -- it isn't stopped
       module _ (whole : d.chance.stop ≡ None) where
@@ -143,7 +143,7 @@ module _ (x : Setup) (a b : Moment) (d : DoesStep x a b) (k : ℕ) where
         }
 
       -- it is
-      module _ (made : Pick → ℕ) (stop : d.chance.stop ≡ Some made) where
+      module _ (made : Pick → Left) (stop : d.chance.stop ≡ Some made) where
         halt-gives : b.state.stage ≢ CutShort → IsGiven x a b d (Server q) (tells_alone (says.Stopped q))
         halt-gives = gives x a b d (Server q) device (handing k (room d.chance q) d.chance.stop) at-up (tells_alone (says.Stopped q)) (ap (λ (v : World). v.lines) (up-after (Some made) stop)) (ap (λ (v : World). v.sent) (up-after (Some made) stop) ∙ sym (append-nil w.sent))
 
@@ -162,7 +162,7 @@ module _ (x : Setup) (a b : Moment) (d : DoesStep x a b) (k : ℕ) where
         at : (o : Option Memory) → w.memory q ≡ o → IsGiven x a b d (Server q) (of_server x a k q message o) → IsGiven x a b d (Server q) (its_answer x a k (Server q) message)
         at o e g = subst (λ (o : Option Memory). IsGiven x a b d (Server q) (of_server x a k q message o)) (sym e) g
 
-        by : (o : Option Memory) → w.memory q ≡ o → (stop : Option (Pick → ℕ)) → d.chance.stop ≡ stop → IsGiven x a b d (Server q) (its_answer x a k (Server q) message)
+        by : (o : Option Memory) → w.memory q ≡ o → (stop : Option (Pick → Left)) → d.chance.stop ≡ stop → IsGiven x a b d (Server q) (its_answer x a k (Server q) message)
         by None e stop f = at None e (down-gives e goes)
         by (Some m) e None f = at (Some m) e (up-gives m e f goes)
         by (Some m) e (Some made) f = absurd (whole (ap is_some e, is-down m e made f goes))
@@ -170,7 +170,7 @@ module _ (x : Setup) (a b : Moment) (d : DoesStep x a b) (k : ℕ) where
     server-done : b.state.stage ≢ CutShort → (IsStopped a b (Server q) → ⊥) → (m : Memory) → w.memory q ≡ Some m → IsDone a b q (row_on x a q m message)
     server-done goes whole m e = by d.chance.stop refl
       where
-        by : (stop : Option (Pick → ℕ)) → d.chance.stop ≡ stop → IsDone a b q (row_on x a q m message)
+        by : (stop : Option (Pick → Left)) → d.chance.stop ≡ stop → IsDone a b q (row_on x a q m message)
         by None f = up-done m e f goes
         by (Some made) f = absurd (whole (ap is_some e, is-down m e made f goes))
 
@@ -180,7 +180,7 @@ module _ (x : Setup) (a b : Moment) (d : DoesStep x a b) (k : ℕ) where
         off : false ≡ true → ⊥
         off e = cc
 
-        by : (o : Option Memory) → w.memory q ≡ o → (stop : Option (Pick → ℕ)) → d.chance.stop ≡ stop → IsGiven x a b d (Server q) (tells_alone (says.Stopped q))
+        by : (o : Option Memory) → w.memory q ≡ o → (stop : Option (Pick → Left)) → d.chance.stop ≡ stop → IsGiven x a b d (Server q) (tells_alone (says.Stopped q))
         by None e stop f = absurd (off (sym (ap is_some e) ∙ stops.0))
         by (Some m) e None f = absurd (none-some (row_on x a q m message).table (sym stops.1 ∙ (up-done m e f goes).table))
         by (Some m) e (Some made) f = halt-gives m e made f goes
@@ -191,7 +191,7 @@ module _ (x : Setup) (a b : Moment) (d : DoesStep x a b) (k : ℕ) where
         at : (o : Option Memory) → w.memory q ≡ o → IsTooLong a b (of_server x a k q message o) → IsTooLong a b (its_answer x a k (Server q) message)
         at o e g = subst (λ (o : Option Memory). IsTooLong a b (of_server x a k q message o)) (sym e) g
 
-        by : (o : Option Memory) → w.memory q ≡ o → (stop : Option (Pick → ℕ)) → d.chance.stop ≡ stop → IsTooLong a b (its_answer x a k (Server q) message)
+        by : (o : Option Memory) → w.memory q ≡ o → (stop : Option (Pick → Left)) → d.chance.stop ≡ stop → IsTooLong a b (its_answer x a k (Server q) message)
         by None e stop f = at None e (down-long e cut)
         by (Some m) e None f = at (Some m) e (up-long m e f cut)
         by (Some m) e (Some made) f = longer a b (tells_alone (says.Stopped q)) (its_answer x a k (Server q) message) refl (halt-long m e made f cut)

@@ -10,15 +10,15 @@ pub use Rattle.jn_msgs.specs.declared.message.Message.{Message}
 pub use Rattle.jn_rows.specs.declared.client.Taken.{Taken}
 pub use Rattle.jn_rows.specs.Client.{ClientTable, take_row, if_waits, begun_row, opened_row, outcome_row, decided_row, is_current}
 pub use Rattle.jn_rows.specs.Outcomes.{RowOutcome, Sent, ignored, quiet}
-pub use Rattle.jn_rows.specs.Stable.{Pick, stable, made_all, StableState, Prepared, Change, AddReady, MarkGoing, CarryOut, RemoveWork, AddFlag, DropFlag, gone_on, ready_work, made_by}
+pub use Rattle.jn_rows.specs.Stable.{Pick, stable, made_all, Left, StableState, Prepared, Change, AddReady, MarkGoing, CarryOut, RemoveWork, AddFlag, DropFlag, gone_on, ready_work, made_by, left_of}
 pub use Rattle.jn_system.specs.WholeSystem.World.{World, Memory, new_memory, opening, clients_from, with_epoch}
 pub use Rattle.jn_system.specs.WholeSystem.Servers.{Room, server_row, storage_of, of_worker, of_coordinator, lines_of, server_step, server_again, server_timeout, of_step, of_timeout, is_for_worker, restored}
 pub use Rattle.jn_system.specs.WholeSystem.Steps.{Deliver, handing, after, run, handed, at_memory, ends, took, Step, NextEvent, IsRun, working, Tell, sent_now}
-pub use Rattle.jn_written.specs.Chances.{Setup, free_found, Chance, prints_found}
-pub use Rattle.jn_written.specs.Deeds.{Use, Nothing, Deed, room, no_room, delivered_at, Calls, delivered, Reads, is_busy, worked, served, nothing, working_steps, stopped_idle, crashed_at, recovering, recovered, given_up, restarted, brought_up, is_used_up}
-pub use Rattle.jn_written.specs.Devices.{IsUsed, rubbish_on, Devices, IsLookedOver}
-pub use Rattle.jn_written.specs.Runs.{Moment, DoesStep, Leads, none, more}
-pub use Rattle.jn_written.specs.Tasks.{CutShort, Task, Meets, Acts, Rests, Stage, State, next_at, when_of, begun, Begins, ComesUp, Dismisses, GoesDown, ClosesClients, CountsCommits, InSchedule, AtEnd}
+pub use Rattle.jn_machine.specs.Chances.{Setup, free_found, Chance, prints_found}
+pub use Rattle.jn_machine.specs.Deeds.{Use, Nothing, Deed, room, no_room, delivered_at, Calls, delivered, Reads, is_busy, worked, served, nothing, working_steps, stopped_idle, crashed_at, recovering, recovered, given_up, restarted, brought_up, is_used_up}
+pub use Rattle.jn_machine.specs.Devices.{IsUsed, rubbish_on, Devices, IsLookedOver}
+pub use Rattle.jn_machine.specs.Runs.{Moment, DoesStep, Leads, none, more}
+pub use Rattle.jn_machine.specs.Tasks.{CutShort, Task, Meets, Acts, Rests, Stage, State, next_at, when_of, begun, Begins, ComesUp, Dismisses, GoesDown, ClosesClients, CountsCommits, InSchedule, AtEnd}
 pub use Rattle.jn_laws.specs.Handing.{HandsOver, Answer, tells_alone, room_on, row_on, of_row, of_server, of_taken, its_answer, IsGiven, IsDone, IsTaken, IsStopped, stopped_at, IsTooLong, IsStale, number_in, number_by, faults_in, tells_ignored, IsVoting, IsLast, commits_with}
 pub use Rattle.jn_storage.specs.DeviceCalls.{row_calls, step_calls}
 pub use Rattle.jn_base.specs.declared.names.ClientNo.{ClientNo}
@@ -26,24 +26,24 @@ pub use Rattle.jn_base.specs.declared.names.WorkId.{WorkId}
 pub use Rattle.std.proofs.Math.Seq.{drop-append_seam, take-length, take-append_seam, drop-append-add}
 pub use Rattle.jn_schedule.specs.declared.Event.{Event}
 pub use Rattle.jn_report.specs.declared.line.Text.{Text}
-pub use Rattle.jn_written.specs.Events.{acted, met, resting, next_in, deed_of, next_event, first_busy, servers_of, asking, settling, coming_up, printing, ending}
+pub use Rattle.jn_machine.specs.Events.{acted, met, resting, next_in, deed_of, next_event, first_busy, servers_of, asking, settling, coming_up, printing, ending}
 pub use Rattle.std.proofs.lemmas.Bool.Decides.{nat_tests}
-pub use Rattle.jn_written.specs.Steps.{outside_texts, own_texts, message_texts, traced, texts_of, lines_at, most_messages, come_to, cut_short, made, is_too_much}
+pub use Rattle.jn_machine.specs.Steps.{outside_texts, own_texts, message_texts, traced, texts_of, lines_at, most_messages, come_to, cut_short, made, is_too_much}
 pub use Rattle.jn_report.specs.declared.line.EventRefusal.TheVariants.{NoSuchMessage, EpochsUsedUp}
 pub use Rattle.jn_system.specs.WholeSystem.Course.{Course, go, newly_sent, go_on}
-pub use Rattle.jn_written.specs.Refusals.{unless, refusal_of}
+pub use Rattle.jn_machine.specs.Refusals.{unless, refusal_of}
 pub use Rattle.std.specs.List.{list_any, list_all, AllByRecursion}
 pub use Rattle.jn_base.specs.declared.names.Tid.{Tid}
 pub use Rattle.jn_rows.specs.Coordinator.{CoordinatorTable, is_work, all_in, with_work, vote_row, vote_stage, counted_vote, commit_row, staged, coordinator_row, close_clients_row}
 pub use Rattle.jn_rows.specs.Worker.{WorkerTable, WorkStorage, Wanted, break_notes, note_of, breaks_at, commit_wants, work_at, commit_holder, holds, is_fit, list_with, intentions_of, restored_work, restored_worker, timeout_row, units_for, vulnerable, wants_of, worker_row, worker_step}
 pub use Rattle.jn_system.proofs.WholeSystem.CoordinatorCases.{CoordinatorCase, is_ignored_by, coordinator-case, transaction-named, begins_anew, finds_no_room}
-pub use Rattle.jn_written.specs.Kinds.{is_answer, is_up}
+pub use Rattle.jn_report.specs.Kinds.{is_answer, is_up}
 pub use Rattle.jn_base.specs.declared.names.LockUnit.{LockUnit}
 pub use Rattle.jn_system.proofs.WholeSystem.WorkerCases.{its_wants, WorkerCase, none_done, performs_next, prepares_it, worker-case, WorkerStep, carries_out, worker-step-case}
 pub use Rattle.jn_order.specs.Files.{AllFiles, Files, change, or_else}
 pub use Rattle.jn_schedule.specs.Ranges.{EventInRange}
 pub use Rattle.jn_between.proofs.Moments.{always, between-events}
-pub use Rattle.jn_written.specs.Whole.{IsWritten, closed_world, AreImages, before}
+pub use Rattle.jn_machine.specs.Whole.{IsWritten, closed_world, AreImages, before}
 pub use Rattle.jn_rows.specs.declared.worker.Work.{Work}
 pub use Rattle.jn_rows.specs.declared.worker.ActiveWork.{ActiveWork}
 pub use Rattle.jn_rows.specs.declared.coordinator.Transaction.{Transaction}
@@ -56,6 +56,7 @@ pub use Rattle.jn_locks.specs.declared.words.Mode.TheVariants.{Commit, Intention
 pub use Rattle.jn_rows.specs.declared.worker.Phase.{Phase}
 pub use Rattle.jn_rows.specs.declared.worker.Phase.TheVariants.{Active, Broken, Prepared as Stored}
 pub use Rattle.jn_storage.specs.Orderly.{unit_in_range}
-pub use Rattle.jn_within.specs.Taking.{CanBeTaken, CommandInRange, AllCanBeTaken, ClientFits, CommandFits, sent_for}
-pub use Rattle.jn_within.proofs.Taking.{new-fits, scheduled-in-range, command-fits, take-fits, over-fits, servers-taken}
+pub use Rattle.jn_msgs.specs.Ranges.{CanBeTaken, InRange}
+pub use Rattle.jn_base.specs.Ops.{CommandInRange, BlockInRange}
+pub use Rattle.jn_row_ranges.proofs.Taking.{new-fits, scheduled-in-range, command-fits, take-fits, over-fits, servers-taken}
 pub use Rattle.jn_worker.proofs.UnitRanges.{first-of, second-of, both, some-more, wants-in-range, list-in-range}

@@ -1,4 +1,4 @@
--- What a step that hands over a message does: one step of the system, and what it tells and sends.
+-- What a step that hands over a message does: one step of the system, and what it reports and sends.
 use Rattle.jn_laws.proofs.Common.{◌≡◌, ◌≢◌, ◌⊎◌, inl, inr, ℕ, Bool, true, false, List, [], ◌∷◌, ◌++◌, append-nil, length, drop, Option, Some, None, refl, sym, ◌∙◌, ap, subst, arith, drop-append_seam, if◌then◌else◌, nat_lt, slice_get, Party, Message, Event, Text, Sent, World, Step, after, Setup, Chance, Use, Deed, delivered, acted, met, resting, next_in, deed_of, Moment, DoesStep, Task, Meets, Acts, Rests, Stage, CutShort, State, next_at, when_of, begun, number_in, number_by, Answer, faults_in, IsGiven, IsTooLong, nat_tests, outside_texts, own_texts, message_texts, traced, texts_of, lines_at, most_messages, come_to, cut_short, made, NoSuchMessage, Course, go, newly_sent, unless}
 use Rattle.std.proofs.lemmas.Option.{slice_get_within}
 use Rattle.jn_schedule.specs.declared.Event.TheVariants as events
@@ -48,7 +48,7 @@ module _ (x : Setup) (h : Chance) (s : State) (k : ℕ) (to : Party) (message : 
   does-one Rests e = record { tasks = Rests ∷ []; deed = rests-so (next_in x h.rubbish s.course) e; begun_is = refl }
   does-one task e = absurd (no-number k e)
 
--- ---- what it tells and sends
+-- ---- what it reports and sends
 
 module _ (x : Setup) (a b : Moment) (d : DoesStep x a b) (to : Party) (device : Use) (step : Step) (one : DoesOne x d.chance d.task a.state to device step) where
   abbrev world : World

@@ -1,4 +1,4 @@
--- A message is told as ignored only where it is stale.
+-- A message is reported as ignored only where it is stale.
 use Rattle.jn_laws.proofs.Common.{◌≡◌, ℕ, Bool, true, false, List, [], ◌∷◌, ◌++◌, Option, Some, None, refl, sym, ◌∙◌, ap, ◌||◌, if◌then◌else◌, list_any, ServerNo, Tid, WorkId, Party, Client, Server, client_eq, Message, Text, Taken, RowOutcome, ignored, stable, ClientTable, take_row, if_waits, begun_row, opened_row, outcome_row, decided_row, is_current, CoordinatorTable, WorkerTable, WorkStorage, Wanted, break_notes, note_of, breaks_at, commit_wants, Memory, storage_of, of_worker, of_coordinator, lines_of, CoordinatorCase, is_ignored_by, coordinator-case, Setup, is_answer, Moment, tells_ignored, room_on, of_server, of_taken, its_answer, IsStale, LockUnit, its_wants, WorkerCase, none_done, performs_next, prepares_it, worker-case}
 use Rattle.jn_msgs.specs.declared.message.Message.TheVariants as messages
 use Rattle.jn_msgs.specs.declared.message.Outcome.{Outcome}
@@ -7,7 +7,7 @@ use Rattle.jn_report.specs.declared.line.Text.TheVariants as says
 use Rattle.jn_rows.specs.declared.client.Outstanding.{Outstanding}
 use Rattle.jn_rows.specs.declared.client.Taken.TheVariants as taken
 use Rattle.jn_system.proofs.WholeSystem.ServerRows.{row-either}
-use Rattle.jn_written.proofs.Telling.{Tells, take-tells}
+use Rattle.jn_machine.proofs.Telling.{Tells, take-tells}
 
 off : false ≡ true → ⊥
 off e = cc

@@ -8,13 +8,13 @@ use Rattle.jn_system_reports.proofs.BetweenSteps.Standing.{stand, run-stands}
 use Rattle.jn_system_reports.proofs.BetweenSteps.Laws.{as-prepared, reads-kept}
 use Rattle.jn_between.proofs.Found.{Led, led-by}
 use Rattle.jn_headline.proofs.Came.{stuck}
-use Rattle.jn_retold.specs.Retold.{behind, IsAsIn, IsRetold, IsRetoldInPart}
-use Rattle.jn_retold.proofs.Behind.{ups-name-none, run-behind}
-use Rattle.jn_retold.proofs.Forms.{as-behind, between, meeting, settling, cut, ended}
-use Rattle.jn_retold.proofs.Items.{run-both, is-run-both, one_more, world-more, reported-more}
-use Rattle.jn_retold.proofs.Partly.{partly, raised}
-use Rattle.jn_retold.proofs.Seen.{may-run}
-use Rattle.jn_retold.proofs.Whole.{So, starting, held, so-written}
+use Rattle.jn_machine_refines.specs.Retold.{behind, IsAsIn, IsRetold, IsRetoldInPart}
+use Rattle.jn_machine_refines.proofs.Behind.{ups-name-none, run-behind}
+use Rattle.jn_machine_refines.proofs.Forms.{as-behind, between, meeting, settling, cut, ended}
+use Rattle.jn_machine_refines.proofs.Items.{run-both, is-run-both, one_more, world-more, reported-more}
+use Rattle.jn_machine_refines.proofs.Partly.{partly, raised}
+use Rattle.jn_machine_refines.proofs.Seen.{may-run}
+use Rattle.jn_machine_refines.proofs.Whole.{So, starting, held, so-written}
 use Rattle.jn_laws.specs.Works.{IsFoundWith, IsPreparedWithReads, WorksHoldReads, AreTheirReads}
 
 -- ---- over the whole system

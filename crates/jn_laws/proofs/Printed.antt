@@ -1,5 +1,5 @@
 -- What is printed at each moment of a run.
-use Rattle.jn_laws.proofs.Common.{◌≡◌, ◌≢◌, ◌⊎◌, inl, inr, ℕ, ◌≤◌, ◌<◌, Bool, true, false, true≢false, List, [], ◌∷◌, ◌++◌, Option, Some, None, refl, sym, ◌∙◌, ap, subst, arith, ◌||◌, if◌then◌else◌, nat_lt, slice_get, map, option_and_then, ⊤, list_all, AllByRecursion, nat_tests, All-nil, ServerNo, ClientNo, FileNo, BlockNo, Tid, LockUnit, Block, Client, Server, most_blocks, unit_eq, Commit, AllFiles, Event, EventInRange, EpochsUsedUp, Phase, Active, Broken, Stored, Sent, Pick, StableState, stable, WorkerTable, commit_holder, holds, step_calls, unit_in_range, Room, handing, working, run, World, Memory, new_memory, clients_from, go_on, CanBeTaken, CommandInRange, new-fits, scheduled-in-range, Setup, Chance, prints_found, Use, Reads, Deed, room, delivered, delivered_at, is_busy, worked, served, nothing, working_steps, stopped_idle, crashed_at, recovering, recovered, given_up, restarted, brought_up, is_used_up, Devices, IsUsed, IsLookedOver, acted, met, resting, next_event, first_busy, servers_of, asking, settling, coming_up, printing, ending, deed_of, refusal_of, none, more, Moment, DoesStep, Leads, is_too_much, come_to, cut_short, Task, Begins, Meets, Acts, Rests, ComesUp, Dismisses, GoesDown, ClosesClients, CountsCommits, InSchedule, AtEnd, CutShort, Stage, State, next_at, begun, closed_world, AreImages, IsWritten, first-of, second-of}
+use Rattle.jn_laws.proofs.Common.{◌≡◌, ◌≢◌, ◌⊎◌, inl, inr, ℕ, ◌≤◌, ◌<◌, Bool, true, false, true≢false, List, [], ◌∷◌, ◌++◌, Option, Some, None, refl, sym, ◌∙◌, ap, subst, arith, ◌||◌, if◌then◌else◌, nat_lt, slice_get, map, option_and_then, ⊤, list_all, AllByRecursion, nat_tests, All-nil, ServerNo, ClientNo, FileNo, BlockNo, Tid, LockUnit, Block, Client, Server, most_blocks, unit_eq, Commit, AllFiles, Event, EventInRange, EpochsUsedUp, Phase, Active, Broken, Stored, Sent, Pick, StableState, stable, WorkerTable, commit_holder, holds, step_calls, unit_in_range, Room, handing, working, run, World, Memory, new_memory, clients_from, go_on, CanBeTaken, CommandInRange, new-fits, scheduled-in-range, Setup, Chance, prints_found, Use, Reads, Deed, room, delivered, delivered_at, is_busy, worked, served, nothing, working_steps, stopped_idle, crashed_at, recovering, recovered, given_up, restarted, brought_up, is_used_up, Devices, IsUsed, IsLookedOver, acted, met, resting, next_event, first_busy, servers_of, asking, settling, coming_up, printing, ending, deed_of, refusal_of, none, more, Moment, DoesStep, Leads, is_too_much, come_to, cut_short, Task, Begins, Meets, Acts, Rests, ComesUp, Dismisses, GoesDown, ClosesClients, CountsCommits, InSchedule, AtEnd, CutShort, Stage, State, next_at, begun, closed_world, AreImages, IsWritten, first-of, second-of, Left}
 use Rattle.std.specs.Prelude.{drop, is_some}
 use Rattle.jn_locks.proofs.Orders.{unit_tells}
 use Rattle.jn_locks.specs.Locks.{is_unit}
@@ -7,12 +7,12 @@ use Rattle.jn_records.specs.StablePages.{Counts, Pages, block_in, block_behind, 
 use Rattle.jn_schedule.specs.declared.Event.TheVariants as events
 use Rattle.jn_report.specs.declared.line.EventRefusal.{EventRefusal}
 use Rattle.jn_report.specs.declared.line.Text.TheVariants as says
-use Rattle.jn_found.specs.Pages.{pages_by}
+use Rattle.jn_page_state.specs.Pages.{pages_by}
 use Rattle.jn_store.specs.Pairs.{pairs_view}
 use Rattle.jn_system.specs.WholeSystem.Printing.{print_unit}
-use Rattle.jn_stands.proofs.Printed.{prints-all}
+use Rattle.jn_world_refines.proofs.Printed.{prints-all}
 use Rattle.jn_laws.specs.Shows.{ArePrintsInRange, IsPrintedByBlocks}
-use Rattle.jn_retold.proofs.Going.{goes-or-cut, go-world}
+use Rattle.jn_machine_refines.proofs.Going.{goes-or-cut, go-world}
 use Rattle.jn_laws.proofs.Ranged.{PhaseInRange, WorksInRange, FilesInRange, WorldInRange, StepInRange, run-in-range}
 
 -- ---- tasks
@@ -78,11 +78,11 @@ module _ (x : Setup) where
   -- ---- what they do
 
   module _ (h : Chance) where
-    handing-fits : (k : ℕ) (r : Room) (stop : Option (Pick → ℕ)) → StepInRange (handing k r stop)
+    handing-fits : (k : ℕ) (r : Room) (stop : Option (Pick → Left)) → StepInRange (handing k r stop)
     handing-fits k r None = tt
     handing-fits k r (Some made) = tt
 
-    working-fits : (q : ServerNo) (r : Room) (stop : Option (Pick → ℕ)) → StepInRange (working q r stop)
+    working-fits : (q : ServerNo) (r : Room) (stop : Option (Pick → Left)) → StepInRange (working q r stop)
     working-fits q r None = tt
     working-fits q r (Some made) = tt
 
@@ -102,7 +102,7 @@ module _ (x : Setup) where
         by true = ((working-fits q (room h q) h.stop, tt), tt)
         by false = (tt, tt)
 
-    stopped-fits : (q : ServerNo) (stop : Option (Pick → ℕ)) → AllByRecursion StepInRange (stopped_idle q stop)
+    stopped-fits : (q : ServerNo) (stop : Option (Pick → Left)) → AllByRecursion StepInRange (stopped_idle q stop)
     stopped-fits q None = tt
     stopped-fits q (Some made) = (tt, tt)
 
@@ -110,7 +110,7 @@ module _ (x : Setup) where
     crashed-fits q None = (tt, tt)
     crashed-fits q (Some m) = ((tt, tt), tt)
 
-    recovering-fits : (q : ServerNo) (stop : Option (Pick → ℕ)) → AllByRecursion StepInRange (recovering h q stop)
+    recovering-fits : (q : ServerNo) (stop : Option (Pick → Left)) → AllByRecursion StepInRange (recovering h q stop)
     recovering-fits q None = (tt, tt)
     recovering-fits q (Some made) = (tt, (tt, tt))
 

@@ -1,5 +1,6 @@
 -- No work, no message and no stable state has a block from 120 on, whatever steps come one after another.
-use Rattle.jn_laws.proofs.Common.{◌≡◌, ◌≢◌, ◌⊎◌, inl, inr, ℕ, Bool, true, false, true≢false, List, [], ◌∷◌, ◌++◌, length, take, zero, suc, Option, Some, None, refl, sym, ◌∙◌, ap, subst, ◌&&◌, if◌then◌else◌, nat_lt, nat_le, slice_get, ⊤, list_all, AllByRecursion, take-length, All-nil, All-cons, All-append, ServerNo, ClientNo, FileNo, BlockNo, WorkId, Tid, Block, Party, Server, most_blocks, file_eq, block_eq, work_eq, block_tells, Files, change, or_else, IntentionWrite, Message, Text, Taken, Transaction, ActiveWork, Phase, Active, Broken, Stored, Work, ClientTable, take_row, CoordinatorTable, coordinator_row, close_clients_row, RowOutcome, Sent, StableState, Prepared, Pick, Change, AddReady, MarkGoing, CarryOut, RemoveWork, AddFlag, DropFlag, gone_on, ready_work, made_by, made_all, stable, WorkerTable, WorkStorage, is_fit, list_with, intentions_of, restored_work, restored_worker, timeout_row, units_for, vulnerable, wants_of, worker_row, worker_step, unit_in_range, World, Memory, with_epoch, Room, storage_of, server_row, server_step, server_again, server_timeout, of_worker, of_coordinator, of_step, of_timeout, is_for_worker, restored, Step, Tell, after, run, sent_now, CoordinatorCase, begins_anew, finds_no_room, coordinator-case, WorkerCase, prepares_it, WorkerStep, carries_out, worker-case, worker-step-case, CanBeTaken, AllCanBeTaken, ClientFits, CommandFits, CommandInRange, sent_for, command-fits, take-fits, over-fits, servers-taken, both, first-of, second-of, some-more, wants-in-range, list-in-range}
+use Rattle.jn_laws.proofs.Common.{◌≡◌, ◌≢◌, ◌⊎◌, inl, inr, ℕ, Bool, true, false, true≢false, List, [], ◌∷◌, ◌++◌, length, take, zero, suc, Option, Some, None, refl, sym, ◌∙◌, ap, subst, ◌&&◌, if◌then◌else◌, nat_lt, nat_le, slice_get, ⊤, list_all, AllByRecursion, take-length, All-nil, All-cons, All-append, ServerNo, ClientNo, FileNo, BlockNo, WorkId, Tid, Block, Party, Server, most_blocks, file_eq, block_eq, work_eq, block_tells, Files, change, or_else, IntentionWrite, Message, Text, Taken, Transaction, ActiveWork, Phase, Active, Broken, Stored, Work, ClientTable, take_row, CoordinatorTable, coordinator_row, close_clients_row, RowOutcome, Sent, StableState, Prepared, Pick, Change, AddReady, MarkGoing, CarryOut, RemoveWork, AddFlag, DropFlag, gone_on, ready_work, made_by, made_all, stable, WorkerTable, WorkStorage, is_fit, list_with, intentions_of, restored_work, restored_worker, timeout_row, units_for, vulnerable, wants_of, worker_row, worker_step, unit_in_range, World, Memory, with_epoch, Room, storage_of, server_row, server_step, server_again, server_timeout, of_worker, of_coordinator, of_step, of_timeout, is_for_worker, restored, Step, Tell, after, run, sent_now, CoordinatorCase, begins_anew, finds_no_room, coordinator-case, WorkerCase, prepares_it, WorkerStep, carries_out, worker-case, worker-step-case, CanBeTaken, CommandInRange, command-fits, take-fits, over-fits, servers-taken, both, first-of, second-of, some-more, wants-in-range, list-in-range, BlockInRange, InRange, Left, left_of}
+use Rattle.jn_row_ranges.specs.Taking.{AllCanBeTaken, ClientFits, CommandFits, sent_for}
 use Rattle.jn_base.specs.declared.names.Tickets.{Tickets}
 use Rattle.jn_base.specs.declared.op.Op.{Op}
 use Rattle.jn_records.specs.declared.intention.Intention.{Intention}
@@ -8,8 +9,7 @@ use Rattle.jn_records.specs.declared.intention.What.TheVariants.{Fresh, Gone, Cu
 use Rattle.jn_records.specs.NetLists.{change_by}
 use Rattle.jn_records.specs.NetEdits.{intention_for}
 use Rattle.jn_rows.specs.declared.client.Taken.TheVariants as taken
-use Rattle.jn_storage.specs.Viewing.{BlockInRange}
-use Rattle.jn_worker.specs.Handling.{InRange}
+use Rattle.jn_rows.proofs.Left.{left-whole}
 use Rattle.jn_worker.proofs.EachPhase.{Rules, joined, row-keeps, step-keeps, timeout-keeps}
 use Rattle.jn_worker.proofs.Listed.{all_after, new_in_range}
 use Rattle.jn_intent.proofs.NetOrder.{all_at}
@@ -17,7 +17,7 @@ use Rattle.jn_system.proofs.WholeSystem.Closes.{Closes, Empty, Stays, Goes, Wait
 use Rattle.jn_system.proofs.WholeSystem.OneChange.{one-client, memory-now, memory-gone}
 use Rattle.jn_system.proofs.WholeSystem.StepCases.{ClientRow, by_command, by_ignoring, by_answering, by_telling, ServerRow, of_message, of_work, of_closing, Quiet, client_repeats, server_repeats, StepCase, client_row, row_done, row_stopped, gone_late, gone_down, come_up, found_anew, dismissed, quietly, step-case, found-now, found-then}
 use Rattle.jn_system_order.proofs.Mirroring.StepMoves.{holds-of}
-use Rattle.jn_within.proofs.ServerRows.{row-requests, step-requests, again-requests}
+use Rattle.jn_row_ranges.proofs.ServerRows.{row-requests, step-requests, again-requests}
 
 -- ---- what is in range
 
@@ -265,7 +265,7 @@ module _ (w : World) (h : WorldInRange w) where
   client-fits _ c _ _ _ r (by_answering k room stop message t to answer e is) = let fits = taken-fits c message t (taken.Send to answer) is in (fits.0, more ((to, answer) ∷ []) fits.1)
   client-fits _ c _ _ _ r (by_telling k room stop message t line answer e is) = let fits = taken-fits c message t (taken.Told line answer) is in (fits.0, more (sent_now answer) fits.1)
 
-  its-row : (s : ServerNo) (m : Memory) (stop : Option (Pick → ℕ)) (step : Step) (k : Option ℕ) (row : RowOutcome Memory) → w.memory s ≡ Some m → ServerRow w s m stop step k row → RowInRange row
+  its-row : (s : ServerNo) (m : Memory) (stop : Option (Pick → Left)) (step : Step) (k : Option ℕ) (row : RowOutcome Memory) → w.memory s ≡ Some m → ServerRow w s m stop step k row → RowInRange row
   its-row s m _ _ _ _ e (of_message stop k room message is) = message-row m (h.memory s m e) (stable (w.found s)) room message (at-sent k (Server s, message) is).in_range
   its-row s m _ _ _ _ e (of_work stop room row is) = work-row m (h.memory s m e) (stable (w.found s)) room row (h.found s (λ n. false)) is
   its-row s m _ _ _ _ e of_closing = closing-row m (h.memory s m e)
@@ -295,7 +295,8 @@ module _ (w : World) (h : WorldInRange w) where
     sent = h.sent;
     clients = h.clients;
     memory = memory-gone (λ (z : Memory). WorksInRange z.worker) w.memory h.memory s;
-    found = found-now StateInRange w h.found s (λ c. made_all (take (made c) row.changes) (w.found s c)) (λ c. made-some (made c) row.changes (w.found s c) its.changes (h.found s c));
+    found = found-now StateInRange w h.found s (λ c. left_of (made c) row.changes (w.found s c))
+        (λ c. subst StateInRange (sym (left-whole (made c) row.changes (w.found s c))) (made-some (made c).whole row.changes (w.found s c) its.changes (h.found s c)));
   }
   by-case _ _ r (gone_late s m T e) = record { sent = h.sent; clients = h.clients; memory = memory-now (λ (z : Memory). WorksInRange z.worker) w.memory h.memory s (server_timeout m T) (late m (h.memory s m e) T); found = h.found }
   by-case _ _ r (gone_down s m e) = record { sent = h.sent; clients = h.clients; memory = memory-gone (λ (z : Memory). WorksInRange z.worker) w.memory h.memory s; found = h.found }

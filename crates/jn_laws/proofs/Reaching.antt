@@ -8,14 +8,14 @@ use Rattle.jn_store.specs.Store.{StoreView}
 use Rattle.jn_headline.specs.Headline.{IsTrueOfBegun}
 use Rattle.jn_between.specs.Between.{IsTrueBetween, IsTrueAtEnd}
 use Rattle.jn_between.proofs.Ended.{at-the-end}
-use Rattle.jn_stands.specs.Stands.{Stands}
-use Rattle.jn_stands.proofs.Joined.{cut-leads}
-use Rattle.jn_stands.specs.Going.{IsTold, Limit, NoMessageLeft, NoEpochLeft, WentOn, WasCut}
+use Rattle.jn_world_refines.specs.Stands.{Stands}
+use Rattle.jn_world_refines.proofs.Joined.{cut-leads}
+use Rattle.jn_world_refines.specs.Going.{IsTold, Limit, NoMessageLeft, NoEpochLeft, WentOn, WasCut}
 use Rattle.jn_world.specs.declared.ended.Ended.{Ended}
 use Rattle.jn_world.specs.declared.ended.Ended.TheVariants.{Messages, Epoch, Memory}
 use Rattle.jn_world.specs.declared.world.World.{World}
 use Rattle.jn_world.specs.Written.{standing_of, GoesTo, DoesScheduled, AreStoresOf, IsClosed}
-use Rattle.jn_written.proofs.Computed.{join}
+use Rattle.jn_machine.proofs.Computed.{join}
 use Rattle.jn_laws.specs.Worlds.{added, HasDone, started, did, IsReached, is_limit, IsTrueWhereEnded, Gives, IsTrueWhereClosed}
 
 -- ---- runs

@@ -4,8 +4,8 @@ use Rattle.jn_base.specs.declared.names.Party.TheVariants.{Server}
 use Rattle.jn_msgs.specs.declared.message.Message.TheVariants.{Vote}
 use Rattle.jn_msgs.specs.declared.message.Vote.TheVariants.{Ready}
 use Rattle.jn_system.specs.WholeSystem.ExampleNames.{s1, tid, the_work}
-use Rattle.jn_written.specs.Examples.{setup, calm, calmly, last_of, half_committed}
-use Rattle.jn_written.specs.Tasks.{Rests, State, next_task}
+use Rattle.jn_machine.specs.Examples.{setup, calm, calmly, last_of, half_committed}
+use Rattle.jn_machine.specs.Tasks.{Rests, State, next_task}
 use Rattle.jn_laws.specs.Handing.{number_by, IsVoting, IsLast}
 
 -- once a client has ended its transaction, and all its works are prepared

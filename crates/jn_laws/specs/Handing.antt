@@ -24,12 +24,12 @@ use Rattle.jn_server.specs.Standing.{free_on}
 use Rattle.jn_system.specs.WholeSystem.World.{World, Memory}
 use Rattle.jn_system.specs.WholeSystem.Servers.{Room, server_row, lines_of}
 use Rattle.jn_system.specs.WholeSystem.Steps.{sent_now}
-use Rattle.jn_written.specs.Chances.{Setup, Chance}
-use Rattle.jn_written.specs.Devices.{pages_of, rubbish_on}
-use Rattle.jn_written.specs.Events.{next_in, deed_of}
-use Rattle.jn_written.specs.Runs.{Moment, DoesStep}
-use Rattle.jn_written.specs.Steps.{outside_texts, message_texts, traced, lines_at, most_messages}
-use Rattle.jn_written.specs.Tasks.{Task, Meets, Acts, Rests, State, when_of}
+use Rattle.jn_machine.specs.Chances.{Setup, Chance}
+use Rattle.jn_machine.specs.Devices.{pages_of, rubbish_on}
+use Rattle.jn_machine.specs.Events.{next_in, deed_of}
+use Rattle.jn_machine.specs.Runs.{Moment, DoesStep}
+use Rattle.jn_machine.specs.Steps.{outside_texts, message_texts, traced, lines_at, most_messages}
+use Rattle.jn_machine.specs.Tasks.{Task, Meets, Acts, Rests, State, when_of}
 
 -- ---- which message a step hands over
 
@@ -87,11 +87,11 @@ its_answer x m k (Server q) message = of_server x m k q message (m.state.course.
 
 -- ---- in the event
 
--- the faults that the step's device tells while it is called
+-- the faults that the step's device reports while it is called
 abbrev pub faults_in : (x : Setup) (a b : Moment) → DoesStep x a b → List Text
 faults_in x a b d = outside_texts (deed_of x d.chance d.task a.state).device d.chance.told
 
--- The step gives just this answer, in the event under way: behind the faults that its device tells stand the answer's lines, and those of its
+-- The step gives just this answer, in the event under way: behind the faults that its device reports stand the answer's lines, and those of its
 -- messages where they are asked for; and just its messages are sent.
 pub record IsGiven (x : Setup) (a b : Moment) (d : DoesStep x a b) (from : Party) (answer : Answer) : Type 0 where
   pub lines : b.state.lines ≡ a.state.lines ++ lines_at (when_of a.state) (faults_in x a b d ++ answer.texts ++ traced x.trace (message_texts from (length a.state.course.world.sent) answer.messages))
@@ -112,7 +112,7 @@ abbrev pub IsStopped : Moment → Moment → Party → Type 0
 IsStopped a b (Client c) = ⊥
 IsStopped a b (Server q) = (is_some (a.state.course.world.memory q) ≡ true) × (b.state.course.world.memory q ≡ None)
 
--- then nothing is told but that, and nothing is sent
+-- then nothing is reported but that, and nothing is sent
 abbrev pub stopped_at : Party → Answer
 stopped_at (Client c) = record { texts = []; messages = [] }
 stopped_at (Server q) = tells_alone (says.Stopped q)
@@ -130,7 +130,7 @@ abbrev pub IsStale : Setup → Moment → Party → Message → Type 0
 IsStale x m (Client c) message = take_row (m.state.course.world.clients c) message ≡ (m.state.course.world.clients c, taken.Ignored)
 IsStale x m (Server q) message = (memory : Memory) × (m.state.course.world.memory q ≡ Some memory) × (row_on x m q memory message ≡ ignored memory memory.tickets)
 
--- a message is told as ignored
+-- a message is reported as ignored
 abbrev pub tells_ignored : Text → Bool
 tells_ignored (says.Ignored k) = true
 tells_ignored text = false

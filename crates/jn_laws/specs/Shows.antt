@@ -10,13 +10,13 @@ use Rattle.jn_system.specs.WholeSystem.Printing.{Printed, print_files, file_befo
 use Rattle.jn_system.specs.WholeSystem.Steps.{AreNames}
 use Rattle.jn_system.specs.WholeSystem.World.{World, Memory}
 use Rattle.jn_system.specs.WholeSystem.PrintedLines.{prints_of}
-use Rattle.jn_stands.specs.Showing.{blocks_from}
+use Rattle.jn_world_refines.specs.Showing.{blocks_from}
 
--- each block of which there is something to print is one of the 120
+-- each block of which there is something to print is one of a file's
 abbrev pub ArePrintsInRange : World → Type 0
 ArePrintsInRange w = (q : ServerNo) (memory : Memory) → w.memory q ≡ Some memory → (f : FileNo) (b : BlockNo) → is_some (prints_of q w memory (Block f b)) ≡ true → b.0 < most_blocks
 
--- These are the files of which there is something to print, in order, and behind each one that is there what there is of its blocks 0 to 119.
+-- These are the files of which there is something to print, in order, and behind each one that is there what there is of its blocks below `most_blocks`.
 pub record IsPrintedByBlocks (w : World) (q : ServerNo) (prints : List Printed) : Type 0 where
   pub memory : Memory
   pub up : w.memory q ≡ Some memory

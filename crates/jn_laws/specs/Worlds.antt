@@ -8,23 +8,23 @@ use Rattle.jn_schedule.specs.declared.Event.{Event}
 use Rattle.jn_store.specs.Store.{StoreView}
 use Rattle.jn_headline.specs.Headline.{IsTrueOfBegun}
 use Rattle.jn_between.specs.Between.{IsTrueBetween, IsTrueAtEnd}
-use Rattle.jn_stands.specs.Stands.{Stands}
+use Rattle.jn_world_refines.specs.Stands.{Stands}
 use Rattle.jn_world.specs.declared.ended.Ended.{Ended}
 use Rattle.jn_world.specs.declared.ended.Ended.TheVariants.{Memory}
 use Rattle.jn_world.specs.declared.world.World.{World}
 use Rattle.jn_world.specs.Written.{standing_of, Starts, DoesScheduled, IsClosed}
-use Rattle.jn_written.specs.Chances.{Setup}
-use Rattle.jn_written.specs.Devices.{Devices}
-use Rattle.jn_written.specs.Events.{ending}
-use Rattle.jn_written.specs.Runs.{Moment}
-use Rattle.jn_written.specs.Tasks.{Begins, InSchedule}
-use Rattle.jn_written.specs.Whole.{IsWritten}
+use Rattle.jn_machine.specs.Chances.{Setup}
+use Rattle.jn_machine.specs.Devices.{Devices}
+use Rattle.jn_machine.specs.Events.{ending}
+use Rattle.jn_machine.specs.Runs.{Moment}
+use Rattle.jn_machine.specs.Tasks.{Begins, InSchedule}
+use Rattle.jn_machine.specs.Whole.{IsWritten}
 
 -- the lines that a call added to these
 abbrev pub added : List Line → List Line → List Line
 added old lines = drop (length old) lines
 
--- A world started on these stores and did these events one after another, the first one first, and told these lines: by what `start` and `event` say of
+-- A world started on these stores and did these events one after another, the first one first, and reported these lines: by what `start` and `event` say of
 -- themselves. Each call adds its lines to any that its caller has kept.
 pub data HasDone (S : Type 0) (look : S → StoreView) (device : S → DeviceState) (stores : List (S × PageCounts)) (trace : Bool) : List Event → List Line → World S → Type 0 where
   started : (w : World S) (old lines : List Line) → Starts look device stores trace (Ok w) old lines → HasDone S look device stores trace [] (added old lines) w

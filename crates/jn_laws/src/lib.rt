@@ -1,5 +1,5 @@
 //! Laws that go over several crates below. Those of every run: a message has its answer in the event that hands it over, works of commits keep what
-//! they have read, no block from 120 on is printed, and a world of servers is at the moment to which its events lead. And one of texts: what a report
+//! they have read, no block from `most_blocks` on is printed, and a world of servers is at the moment to which its events lead. And one of texts: what a report
 //! spells is read where a schedule says it.
 #![tactic(auto)]
 

@@ -12,15 +12,15 @@ ghost use Rattle.jn_msgs.specs.declared.message.Message.TheVariants.{Vote};
 ghost use Rattle.jn_msgs.specs.declared.message.Vote.TheVariants.{Ready};
 ghost use Rattle.jn_report.specs.declared.line.Text.TheVariants as says;
 ghost use Rattle.jn_system.specs.WholeSystem.World.{Memory};
-ghost use Rattle.jn_written.specs.Chances.{Setup};
-ghost use Rattle.jn_written.specs.Runs.{Moment, DoesStep};
-ghost use Rattle.jn_written.specs.Tasks.{CutShort};
+ghost use Rattle.jn_machine.specs.Chances.{Setup};
+ghost use Rattle.jn_machine.specs.Runs.{Moment, DoesStep};
+ghost use Rattle.jn_machine.specs.Tasks.{CutShort};
 ghost use Rattle.jn_laws.specs.Example.{all_prepared, HandsOverTheLast};
 ghost use Rattle.jn_laws.specs.Handing.{HandsOver, its_answer, row_on, IsGiven, IsDone, IsTaken, IsStopped, IsTooLong, IsStale, stopped_at, tells_alone, tells_ignored, IsVoting, IsLast, commits_with};
 
 /// A message that is handed over has the answer of its row in that event, and no other: its lines, its messages, and what a server or client
-/// remembers then. One that the tables call stale is told as ignored. A stop in the step, or a message too many, takes the answer away: then nothing
-/// is told but the stop, or nothing at all.
+/// remembers then. One that the tables call stale is reported as ignored. A stop in the step, or a message too many, takes the answer away: then nothing
+/// is reported but the stop, or nothing at all.
 pub fn a_message_has_its_answer_in_its_event()
     ensures answer { (x : Setup) (a b : Moment) (d : DoesStep x a b) (k : ℕ) (to : Party) (message : Message) → HandsOver x a b d k to message → b.state.stage ≢ CutShort → (IsStopped a b to → ⊥)
         → IsGiven x a b d to (its_answer x a k to message) × IsTaken a b to message }
@@ -34,7 +34,7 @@ pub fn a_message_has_its_answer_in_its_event()
         → IsTooLong a b (its_answer x a k to message) }
 {}
 
-/// A message is told as ignored only where the tables call it stale.
+/// A message is reported as ignored only where the tables call it stale.
 pub fn only_stale_messages_are_ignored()
     ensures { (x : Setup) (m : Moment) (k : ℕ) (to : Party) (message : Message) → list_any tells_ignored (its_answer x m k to message).texts ≡ true → IsStale x m to message }
 {}

@@ -4,10 +4,10 @@ ghost use Rattle.std.specs.Prelude.{◌≤◌, List};
 ghost use Rattle.std.specs.List.{AllByRecursion};
 ghost use Rattle.jn_schedule.specs.declared.Event.{Event};
 ghost use Rattle.jn_schedule.specs.Ranges.{EventInRange};
-ghost use Rattle.jn_written.specs.Chances.{Setup};
-ghost use Rattle.jn_written.specs.Devices.{Devices};
-ghost use Rattle.jn_written.specs.Runs.{Moment, Leads};
-ghost use Rattle.jn_written.specs.Whole.{IsWritten};
+ghost use Rattle.jn_machine.specs.Chances.{Setup};
+ghost use Rattle.jn_machine.specs.Devices.{Devices};
+ghost use Rattle.jn_machine.specs.Runs.{Moment, Leads};
+ghost use Rattle.jn_machine.specs.Whole.{IsWritten};
 ghost use Rattle.jn_laws.specs.Works.{WorksHoldReads, AreTheirReads};
 
 /// At each moment of each run the works of a flag and of a commit are found with their read units, until they are carried out; and what a work has read is among

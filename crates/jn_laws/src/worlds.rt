@@ -11,9 +11,9 @@ ghost use Rattle.jn_schedule.specs.Ranges.{EventInRange};
 ghost use Rattle.jn_world.specs.declared.ended.Ended.{Ended};
 ghost use Rattle.jn_world.specs.declared.world.World.{World};
 ghost use Rattle.jn_world.specs.Written.{standing_of, AreStoresOf, DoesScheduled};
-ghost use Rattle.jn_written.specs.Chances.{Setup};
-ghost use Rattle.jn_written.specs.Devices.{Devices};
-ghost use Rattle.jn_written.specs.Whole.{AreImages};
+ghost use Rattle.jn_machine.specs.Chances.{Setup};
+ghost use Rattle.jn_machine.specs.Devices.{Devices};
+ghost use Rattle.jn_machine.specs.Whole.{AreImages};
 ghost use Rattle.jn_laws.specs.Worlds.{HasDone, IsReached, IsTrueWhereEnded, Gives, IsTrueWhereClosed, is_limit, added};
 
 use jn_store::Powered;

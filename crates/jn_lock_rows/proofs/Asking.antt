@@ -1,6 +1,15 @@
 -- What is wanted: units with their modes, in order of units, and where a phase collides with it.
-use Rattle.jn_lock_rows.proofs.Common.{◌≡◌, ◌⊎◌, inl, inr, Bool, true, false, List, [], ◌∷◌, ◌++◌, Some, None, refl, sym, ◌∙◌, ap, subst, arith, fun_ext, ◌&&◌, ◌||◌, not, if◌then◌else◌, LockUnit, Mode, Read, IntentionWrite, Commit, Want, together, mode_eq, some_mode, unit_eq, unit_before, is_unit, wanted_by, unit_tells, unit_before-irreflexive, unit_before-transitive, unit_same, unit_is, Phase, Wanted, has_mode, holds, collides_at, collision, wants_in, units_in, wants_at, want_list, units_rise, is_unit_before}
+use Rattle.jn_lock_rows.proofs.Common.{◌≡◌, ◌⊎◌, inl, inr, Bool, true, false, List, [], ◌∷◌, ◌++◌, Some, None, refl, sym, ◌∙◌, ap, subst, arith, fun_ext, ◌&&◌, ◌||◌, not, if◌then◌else◌, LockUnit, Mode, Read, IntentionWrite, Commit, Want, together, mode_eq, some_mode, unit_eq, unit_before, is_unit, wanted_by, unit_tells, unit_before-irreflexive, unit_before-transitive, unit_same, unit_is, Phase, Wanted, has_mode, holds, collides_at, collision, wants_at, want_list, units_rise, is_unit_before, Wants}
 use Rattle.jn_lock_rows.proofs.Works.{not_both}
+
+-- whether a unit is wanted in a mode
+abbrev pub wants_in : List Wanted → Wants
+wants_in [] u m = false
+wants_in (want ∷ wants) u m = (unit_eq want.unit u && has_mode m want.modes) || wants_in wants u m
+
+abbrev pub units_in : List Wanted → List LockUnit
+units_in [] = []
+units_in (want ∷ wants) = want.unit ∷ units_in wants
 
 -- ---- the wants as a list
 

@@ -1,7 +1,11 @@
 -- The lock table's conflict is the first of the rows'.
-use Rattle.jn_lock_rows.proofs.Common.{◌≡◌, ◌⊎◌, inl, inr, Bool, true, false, List, [], ◌∷◌, Option, Some, None, refl, sym, ◌∙◌, ap, subst, arith, fun_ext, ◌&&◌, not, if◌then◌else◌, WorkId, LockUnit, work_eq, Conflict, Table, unit_before, work_before, is_vulnerable, blocks, NoConflict, IsConflict, unit_before-irreflexive, unit_before-total, work_before-irreflexive, work_before-total, Work, Phase, Active, Broken, Stored, Wanted, Held, holds, gives_way, work_at, collides_at, holder_at, held_by, conflict, LocksMatch, locks_of, held_in, standing_in, standing_of, are_rising, is_before, wants_in, units_in, units_rise, is_unit_before, FindsConflict}
+use Rattle.jn_lock_rows.proofs.Common.{◌≡◌, ◌⊎◌, inl, inr, Bool, true, false, List, [], ◌∷◌, Option, Some, None, refl, sym, ◌∙◌, ap, subst, arith, fun_ext, ◌&&◌, not, if◌then◌else◌, WorkId, LockUnit, work_eq, Conflict, Table, unit_before, work_before, is_vulnerable, blocks, NoConflict, IsConflict, unit_before-irreflexive, unit_before-total, work_before-irreflexive, work_before-total, Work, Phase, Active, Broken, Stored, Wanted, Held, holds, gives_way, work_at, collides_at, holder_at, held_by, conflict, LocksMatch, held_in, standing_in, standing_of, are_rising, is_before, units_rise, is_unit_before, FindsConflict}
+use Rattle.jn_lock_rows.proofs.Asking.{wants_in, units_in, clash, clash-free, clash-none, clash-wants, clash-first, clash-split, clash-more, apart-behind, unit-asymmetric}
 use Rattle.jn_lock_rows.proofs.Works.{not_both, work_same, work_is, asymmetric, not-before, found-name, found-behind}
-use Rattle.jn_lock_rows.proofs.Asking.{clash, clash-free, clash-none, clash-wants, clash-first, clash-split, clash-more, apart-behind, unit-asymmetric}
+
+-- the lock table of these works
+abbrev pub locks_of : List Work → Table
+locks_of works = record { holds = λ V u m. held_in (work_at V works) u m; standing = λ V. standing_of (work_at V works) }
 
 pub matched : (works : List Work) (t : Table) → LocksMatch works t → t ≡ locks_of works
 matched works t h = λ i. record { holds = fun_ext (λ V. fun_ext (λ u. fun_ext (λ m. h.locks V u m))) i; standing = fun_ext h.standing i }

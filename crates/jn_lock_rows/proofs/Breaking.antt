@@ -1,9 +1,9 @@
 -- The works that a grant breaks are those of the rows.
-use Rattle.jn_lock_rows.proofs.Common.{◌≡◌, Bool, true, false, List, [], ◌∷◌, ◌++◌, Option, Some, None, refl, sym, ◌∙◌, ap, subst, arith, ◌&&◌, ◌||◌, not, if◌then◌else◌, is_some, MatchOption, list_all, Tid, WorkId, LockUnit, work_eq, BrokenAt, Table, unit_before, work_before, is_vulnerable, AreBroken, broken_at, is_broken, is_rising, unit_before-total, work_before-transitive, work_before-total, Work, Phase, Broken, Wanted, holds, gives_way, work_at, with_phase, collision, breaks_at, broken_by, note_of, after_grant, break_notes, conflict, LocksMatch, held_in, standing_in, standing_of, are_rising, is_before, wants_in, units_in, units_rise, BreaksAs, broken_if, broken_list, after_breaks, notes_of, note_if}
+use Rattle.jn_lock_rows.proofs.Common.{◌≡◌, Bool, true, false, List, [], ◌∷◌, ◌++◌, Option, Some, None, refl, sym, ◌∙◌, ap, subst, arith, ◌&&◌, ◌||◌, not, if◌then◌else◌, is_some, MatchOption, list_all, Tid, WorkId, LockUnit, work_eq, BrokenAt, Table, unit_before, work_before, is_vulnerable, AreBroken, broken_at, is_broken, is_rising, unit_before-total, work_before-transitive, work_before-total, Work, Phase, Broken, Wanted, holds, gives_way, work_at, with_phase, collision, breaks_at, broken_by, note_of, after_grant, break_notes, conflict, LocksMatch, held_in, standing_in, standing_of, are_rising, is_before, units_rise, BreaksAs, broken_if, broken_list, after_breaks, notes_of, note_if}
+use Rattle.jn_lock_rows.proofs.Asking.{wants_in, units_in, clash, clash-free, no_collision, collision-first}
 use Rattle.jn_msgs.specs.declared.message.Note.{Note}
 use Rattle.jn_msgs.specs.declared.message.Note.TheVariants.{Broke}
 use Rattle.jn_lock_rows.proofs.Works.{not_both, work_same, work_is, not-before, work_eq-sym, found-name, none-behind, in_phase, at-phase, once_granted, at-grant}
-use Rattle.jn_lock_rows.proofs.Asking.{clash, clash-free, no_collision, collision-first}
 use Rattle.jn_lock_rows.proofs.Blocking.{matched, vulnerable-is}
 use Rattle.jn_lock_rows.proofs.Keeping.{breaks_of}
 

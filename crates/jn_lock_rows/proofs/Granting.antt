@@ -1,11 +1,11 @@
 -- What a grant leaves is what its row says.
-use Rattle.jn_lock_rows.proofs.Common.{◌≡◌, Bool, true, false, List, [], ◌∷◌, ◌++◌, Some, None, refl, sym, ◌∙◌, ap, subst, arith, fun_ext, nat_tests, ◌&&◌, ◌||◌, not, if◌then◌else◌, Tid, WorkId, LockUnit, Op, work_eq, Mode, Read, IntentionWrite, Commit, Want, Conflict, BrokenAt, Table, Wants, is_unit, unit_eq, unit_before, or_active, wanted, table_wants, NoConflict, IsConflict, AreBroken, Asks, Commits, also, committed, is_broken, unit_before-transitive, unit_before-total, unit_same, unit_is, Work, ActiveWork, Phase, Active, Stored, Wanted, has_mode, holds, gives_way, work_at, with_phase, with_unit, with_units, units_for, wants_of, commit_wants, counted, new_work, conflict, LocksMatch, held_in, standing_in, standing_of, is_ordered, is_after, wants_in, units_in, want_list, units_of_mode, units_rise, is_unit_before, FindsConflict, BreaksAs, broken_if, broken_list, granted}
+use Rattle.jn_lock_rows.proofs.Common.{◌≡◌, Bool, true, false, List, [], ◌∷◌, ◌++◌, Some, None, refl, sym, ◌∙◌, ap, subst, arith, fun_ext, nat_tests, ◌&&◌, ◌||◌, not, if◌then◌else◌, Tid, WorkId, LockUnit, Op, work_eq, Mode, Read, IntentionWrite, Commit, Want, Conflict, BrokenAt, Table, Wants, is_unit, unit_eq, unit_before, or_active, wanted, table_wants, NoConflict, IsConflict, AreBroken, Asks, Commits, also, committed, is_broken, unit_before-transitive, unit_before-total, unit_same, unit_is, Work, ActiveWork, Phase, Active, Stored, Wanted, has_mode, holds, gives_way, work_at, with_phase, with_unit, with_units, units_for, wants_of, commit_wants, counted, new_work, conflict, LocksMatch, held_in, standing_in, standing_of, is_ordered, is_after, want_list, units_of_mode, units_rise, is_unit_before, FindsConflict, BreaksAs, broken_if, broken_list, granted}
+use Rattle.jn_lock_rows.proofs.Asking.{wants_in, units_in, wanted-same}
 use Rattle.jn_base.specs.declared.op.Op.TheVariants as ops
 use Rattle.jn_base.specs.declared.op.Answer.{Answer}
 use Rattle.jn_locks.specs.declared.words.Standing.TheVariants as standings
 use Rattle.jn_lock_rows.proofs.Works.{none-front}
 use Rattle.jn_lock_rows.proofs.Keeping.{match-more, match_kept, match-granted, found-ordered}
-use Rattle.jn_lock_rows.proofs.Asking.{wanted-same}
 use Rattle.jn_lock_rows.proofs.Blocking.{no_conflict, finds_conflict}
 use Rattle.jn_lock_rows.proofs.Breaking.{breaks_as, broken-is, list-is}
 

@@ -55,7 +55,7 @@ pub record BreaksAs (works : List Work) (T : Tid) (W : WorkId) (wants : List Wan
   pub broken : bs ≡ broken_list W wants works
   pub after : after_breaks T bs works ≡ after_grant T W wants works
   pub notes : notes_of T bs works ≡ break_notes T W wants works
-  -- the works may be told of once they are broken
+  -- the works may be reported once they are broken
   pub notes_after : (phase : Phase) → notes_of T bs (with_phase W phase (after_grant T W wants works)) ≡ break_notes T W wants works
 
 -- What a grant to T's work did to the works, and the notes of it.
@@ -69,7 +69,7 @@ abbrev pub IsRefused : List Work → WorkId → List Wanted → Refused → Type
 IsRefused works W wants (Held u T) = conflict W wants works ≡ Some (u, T)
 IsRefused works W wants Memory = Unit {0}
 
--- what a fault of the lock table is told as
+-- what a fault of the lock table is reported as
 abbrev pub held_as : LockUnit → Option Work → Refused
 held_as u (Some v) = Held u v.tid
 held_as u None = Memory

@@ -1,5 +1,5 @@
 -- How a lock table says what a worker's works hold.
-use Rattle.std.specs.Prelude.{◌≡◌, ◌≢◌, Bool, true, false, ◌&&◌, ◌||◌, if◌then◌else◌, List, [], ◌∷◌, ◌++◌, map, Option, Some, None}
+use Rattle.std.specs.Prelude.{◌≡◌, ◌≢◌, Bool, true, false, ◌&&◌, if◌then◌else◌, List, [], ◌∷◌, ◌++◌, map, Option, Some, None}
 use Rattle.jn_base.specs.declared.names.WorkId.{WorkId}
 use Rattle.jn_base.specs.declared.names.LockUnit.{LockUnit}
 use Rattle.jn_locks.specs.declared.words.Mode.{Mode}
@@ -8,12 +8,11 @@ use Rattle.jn_locks.specs.declared.words.Standing.TheVariants as standings
 use Rattle.jn_locks.specs.declared.words.Want.{Want}
 use Rattle.jn_records.specs.declared.intention.Intention.{Intention}
 use Rattle.jn_locks.specs.Locks.{Table, Wants, together, mode_eq, unit_before, work_before, rebuilt}
-use Rattle.jn_base.specs.Names.{unit_eq}
 use Rattle.jn_rows.specs.declared.worker.Work.{Work}
 use Rattle.jn_rows.specs.declared.worker.Phase.{Phase}
 use Rattle.jn_rows.specs.declared.worker.Phase.TheVariants.{Active, Broken, Prepared as Stored}
 use Rattle.jn_rows.specs.Stable.{Prepared}
-use Rattle.jn_rows.specs.Worker.{Wanted, has_mode, holds, work_at, written_unit}
+use Rattle.jn_rows.specs.Worker.{Wanted, holds, work_at, written_unit}
 
 -- what a work holds that was looked for
 abbrev pub held_in : Option Work → LockUnit → Mode → Bool
@@ -29,10 +28,6 @@ standing_in (Stored p) = Some standings.Prepared
 abbrev pub standing_of : Option Work → Option Standing
 standing_of None = None
 standing_of (Some w) = standing_in w.phase
-
--- the lock table of these works
-abbrev pub locks_of : List Work → Table
-locks_of works = record { holds = λ V u m. held_in (work_at V works) u m; standing = λ V. standing_of (work_at V works) }
 
 -- whether this name comes before those of all the works
 abbrev pub is_before : WorkId → List Work → Bool
@@ -74,15 +69,6 @@ pub record LocksMatch (works : List Work) (t : Table) : Type 0 where
   pub ordered : are_ordered works ≡ true
 
 -- ---- what is wanted
-
--- whether a unit is wanted in a mode
-abbrev pub wants_in : List Wanted → Wants
-wants_in [] u m = false
-wants_in (want ∷ wants) u m = (unit_eq want.unit u && has_mode m want.modes) || wants_in wants u m
-
-abbrev pub units_in : List Wanted → List LockUnit
-units_in [] = []
-units_in (want ∷ wants) = want.unit ∷ units_in wants
 
 abbrev pub wants_at : LockUnit → List Mode → List Want
 wants_at u [] = []

@@ -19,7 +19,7 @@ pub fn break_works(works: &mut [Work], broken: &[Broken], by: Tid)
     }
 }
 
-/// Tells of one broken work.
+/// Reports one broken work.
 fn note_break(out: &mut Out, works: &[Work], broken: Broken, by: Tid) -> Result<(), AllocError>
     ensures messages { out.new.messages ≡ out.old.messages }
     ensures notes { IfOk result (λ _. out.new.notes ≡ out.old.notes ++ calls.note_if by broken.unit (rows.work_at broken.work works.now)) }
@@ -30,7 +30,7 @@ fn note_break(out: &mut Out, works: &[Work], broken: Broken, by: Tid) -> Result<
     Ok(())
 }
 
-/// Tells of these broken works.
+/// Reports these broken works.
 pub fn note_breaks(
     out: &mut Out,
     works: &[Work],

@@ -88,7 +88,7 @@ collision_tells W w (h ∷ hs) b k = by (holder_collides W w.mode h) refl k (col
   where
     by : (c : Bool) → holder_collides W w.mode h ≡ c → Among b (if c then (record { work = h.work; unit = w.unit }) ∷ collisions_at W w hs else collisions_at W w hs)
         → (Among b (collisions_at W w hs) → (b.unit ≡ w.unit) × (in_way_at W w hs b.work ≡ true)) → (b.unit ≡ w.unit) × (in_way_at W w (h ∷ hs) b.work ≡ true)
-    by true e (inl is) rest = subst (λ (z : Broken). (z.unit ≡ w.unit) × (in_way_at W w (h ∷ hs) z.work ≡ true)) (sym is) (refl, first_in_way W w h hs e)
+    by true e (inl is) rest = rw is (refl, first_in_way W w h hs e)
     by true e (inr l) rest = ((rest l).0, more_in_way W w h hs b.work (rest l).1)
     by false e l rest = ((rest l).0, more_in_way W w h hs b.work (rest l).1)
 
@@ -106,7 +106,7 @@ collision_of W w (h ∷ hs) V n apart held odd = by (either_true (work_eq h.work
 
     here : h.work ≡ V → has h.modes n ≡ true → Among (record { work = V; unit = w.unit }) (collisions_at W w (h ∷ hs))
     here is k = subst (λ (c : Bool). Among (record { work = V; unit = w.unit }) (if c then (record { work = h.work; unit = w.unit }) ∷ collisions_at W w hs else collisions_at W w hs))
-        (sym (and_true (not (work_eq h.work W)) (clashes w.mode h.modes) (subst (λ (z : WorkId). not (work_eq z W) ≡ true) (sym is) apart) (clashes_of w.mode n h.modes k odd)))
+        (sym (and_true (not (work_eq h.work W)) (clashes w.mode h.modes) (rw is apart) (clashes_of w.mode n h.modes k odd)))
         (inl (sym (ap (λ (z : WorkId). broken_of z w.unit) is)))
 
     by : (((work_eq h.work V && has h.modes n) ≡ true) ⊎ (holds_in hs V n ≡ true)) → (holds_in hs V n ≡ true → Among (record { work = V; unit = w.unit }) (collisions_at W w hs)) → Among (record { work = V; unit = w.unit }) (collisions_at W w (h ∷ hs))
@@ -176,8 +176,8 @@ module _ (at : LockUnit → List Holder) (W : WorkId) where
           let p = both_true (unit_eq w.unit u) (mode_eq w.mode m) k in
           let is = unit_is w.unit u p.0 in
           among_front (record { work = V; unit = u }) (collisions_at W w (at w.unit)) (collisions at W ws)
-          (subst (λ (z : LockUnit). Among (record { work = V; unit = z }) (collisions_at W w (at w.unit))) is
-          (collision_of W w (at w.unit) V n c.apart (subst (λ (z : LockUnit). holds_in (at z) V n ≡ true) (sym is) c.held) (subst (λ (z : Mode). not (together z n) ≡ true) (sym (mode_is w.mode m p.1)) c.odd)))
+          (rw (← is)
+          (collision_of W w (at w.unit) V n c.apart (rw is c.held) (rw (mode_is w.mode m p.1) c.odd)))
       by (inr k) rest = among_back (record { work = V; unit = u }) (collisions_at W w (at w.unit)) (collisions at W ws) (rest k)
 
 -- between the collisions and what is said of works and units, with what else is known of the work

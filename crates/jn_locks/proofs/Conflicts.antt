@@ -1,5 +1,5 @@
 -- The least conflict is the first wanted unit's least holder.
-use Rattle.jn_locks.proofs.Common.{◌≡◌, ◌⊎◌, inl, inr, ℕ, suc, ◌+◌, ◌<◌, length, get_or, drop, drop-cons, add-one, Bool, true, false, List, [], ◌∷◌, ◌++◌, Option, Some, None, ap, refl, sym, ◌∙◌, subst, arith, not, ◌&&◌, ◌||◌, if◌then◌else◌, WorkId, LockUnit, IntentionWrite, Commit, Conflict, holds_in, Want, Broken, Held, unit_eq, unit_before, work_before, wanted, gives_way, blocks, NoConflict, IsConflict, at, table_of, collisions_at, collisions, intentions, intended_at, stays_in_way, least_conflict, conflict_at, conflict_before}
+use Rattle.jn_locks.proofs.Common.{◌≡◌, ◌⊎◌, inl, inr, ℕ, suc, ◌+◌, ◌<◌, length, get_or, drop, drop-cons, add-one, Bool, true, false, List, [], ◌∷◌, ◌++◌, Option, Some, None, ap, refl, sym, ◌∙◌, arith, not, ◌&&◌, ◌||◌, if◌then◌else◌, WorkId, LockUnit, IntentionWrite, Commit, Conflict, holds_in, Want, Broken, Held, unit_eq, unit_before, work_before, wanted, gives_way, blocks, NoConflict, IsConflict, at, table_of, collisions_at, collisions, intentions, intended_at, stays_in_way, least_conflict, conflict_at, conflict_before}
 use Rattle.jn_locks.proofs.Orders.{unit_before-irreflexive, work_before-irreflexive, conflict_before-transitive, conflict_before-total, onward}
 use Rattle.jn_locks.proofs.Collisions.{Among, every_among, by_collision, collision_by, unit_same}
 use Rattle.jn_locks.proofs.Least.{IsLeast, none_passes, least_is, least_of-append}
@@ -40,7 +40,7 @@ module _ (h : Held) (W : WorkId) (ws : List Want) where
 
       from : ((None ≡ Some c) ⊎ ((b : Broken) × Among b (collisions (at h.units) W ws) × (stays_in_way (table_of h) b ≡ true) × (conflict_at b ≡ c))) → blocks (table_of h) W (wanted ws) c.unit c.holder ≡ true
       from (inl e) = absurd (cc e)
-      from (inr q) = subst (λ (d : Conflict). blocks (table_of h) W (wanted ws) d.unit d.holder ≡ true) q.3 (by_collision h W ws (λ V. not (gives_way (table_of h) V)) q.0 q.1 q.2)
+      from (inr q) = rw (← q.3) (by_collision h W ws (λ V. not (gives_way (table_of h) V)) q.0 q.1 q.2)
 
       not_before : (b : Broken) → Among b (collisions (at h.units) W ws) → stays_in_way (table_of h) b ≡ true → (unit_before b.unit c.unit ≡ false) × (unit_eq b.unit c.unit ≡ true → work_before b.work c.holder ≡ false)
       not_before b here pass = not_earlier (unit_before b.unit c.unit) (unit_eq b.unit c.unit) (work_before b.work c.holder)

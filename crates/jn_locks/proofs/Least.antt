@@ -41,7 +41,7 @@ module _ {A : Type 0} (test : Broken → Bool) (key : Broken → A) (before : A 
       }
       choose d is pass false e r = record {
         from = elim r.from [ inl q ↦ inl (is ∙ q) | inr q ↦ inr (q.0, inr q.1, q.2, q.3) ];
-        best_not = λ x p. subst (λ (z : A). before z c ≡ false) (sym (same x d (sym p ∙ is))) (r.best_not d refl);
+        best_not = λ x p. rw (same x d (sym p ∙ is)) (r.best_not d refl);
         none = (λ _. unless (before (key l) c) (λ k. not_both (sym (onward (key l) d c k (r.best_not d refl)) ∙ e)), r.none);
       }
 

@@ -1,7 +1,11 @@
 -- The locks of a unit, each once.
-use Rattle.jn_locks.proofs.Common.{◌≡◌, ◌≢◌, ◌⊎◌, inl, inr, Bool, true, false, List, [], ◌∷◌, ◌++◌, refl, sym, ◌∙◌, ap, subst, arith, ◌&&◌, ◌||◌, WorkId, LockUnit, work_eq, work_tells, Mode, Read, IntentionWrite, Commit, Holder, Held, mode_eq, is_lock, stands_in, stand_once, AreHolders, has, holds_in, is_among, each_once, at, table_of, IsSoundTable, lock_if, locks_of, all_locks}
+use Rattle.jn_locks.proofs.Common.{◌≡◌, ◌≢◌, ◌⊎◌, inl, inr, Bool, true, false, List, [], ◌∷◌, ◌++◌, refl, sym, ◌∙◌, ap, arith, ◌&&◌, ◌||◌, WorkId, LockUnit, work_eq, work_tells, Mode, Read, IntentionWrite, Commit, Holder, Held, mode_eq, is_lock, stands_in, stand_once, AreHolders, has, holds_in, is_among, each_once, at, table_of, IsSoundTable, lock_if, locks_of}
 use Rattle.jn_locks.proofs.Collisions.{work_same, mode_same}
 use Rattle.jn_locks.proofs.Holding.{among_if_held}
+
+abbrev pub all_locks : List Holder → List (WorkId × Mode)
+all_locks [] = []
+all_locks (h ∷ hs) = locks_of h ++ all_locks hs
 
 stands_in-append : (xs ys : List (WorkId × Mode)) (V : WorkId) (m : Mode) → stands_in (xs ++ ys) V m ≡ (stands_in xs V m || stands_in ys V m)
 stands_in-append [] ys V m = refl
@@ -58,4 +62,4 @@ stand_once-all_locks (h ∷ hs) k = stand_once-append (locks_of h) (all_locks hs
     by V m (inr p) j = grind (arith, p.0, j)
 
 pub holders_are : (h : Held) (u : LockUnit) (ls : List (WorkId × Mode)) → IsSoundTable h → ls ≡ all_locks (at h.units u) → AreHolders (table_of h) u ls
-holders_are h u ls sound e = subst (λ (xs : List (WorkId × Mode)). AreHolders (table_of h) u xs) (sym e) (record { exactly = stands_in-all_locks (at h.units u); once = stand_once-all_locks (at h.units u) (sound.once u) })
+holders_are h u ls sound e = rw e (record { exactly = stands_in-all_locks (at h.units u); once = stand_once-all_locks (at h.units u) (sound.once u) })

@@ -1,5 +1,5 @@
 -- What a change of one entry makes of the maps.
-use Rattle.jn_locks.proofs.Common.{◌≡◌, ◌≢◌, ◌⊎◌, inl, inr, ℕ, Bool, true, false, Option, Result, Ok, Err, refl, sym, ◌∙◌, ap, subst, arith, if◌then◌else◌, OnErr, Vec, WorkId, LockUnit, File, Block, work_eq, work_tells, Holder, unit_eq, unit_place, place_eq, name_of, name_eq}
+use Rattle.jn_locks.proofs.Common.{◌≡◌, ◌≢◌, ◌⊎◌, inl, inr, ℕ, Bool, true, false, Option, Result, Ok, Err, refl, sym, ◌∙◌, ap, arith, if◌then◌else◌, OnErr, Vec, WorkId, LockUnit, File, Block, work_eq, work_tells, Holder, unit_eq, unit_place, place_eq, name_of, name_eq}
 use Rattle.std.specs.HashMap.{HashMap, get, Updates}
 use Rattle.jn_locks.proofs.Orders.{unit_tells}
 use Rattle.jn_locks.specs.declared.works.Work.{Work}
@@ -26,11 +26,11 @@ module _ {K A X : Type 0} (eq : K → K → Bool) (at : A → K) (same : A → A
     (tells : (a b : A) → ((same a b ≡ true) × (a ≡ b)) ⊎ ((same a b ≡ false) × (a ≢ b))) where
   pub entry_after : {S Y : Type 0} (f : Option X → Y) (m n : HashMap K X S) (a : A) (k : K) → k ≡ at a → (o : Option X) → Updates eq m n k o
       → (b : A) → f (get eq n (at b)) ≡ (if same a b then f o else f (get eq m (at b)))
-  entry_after {Y = Y} f m n a k is_name o h b = ap f (h.0 (at b)) ∙ by (eq k (at b)) (subst (λ (z : K). eq z (at b) ≡ same a b) (sym is_name) (is_same a b))
+  entry_after {Y = Y} f m n a k is_name o h b = ap f (h.0 (at b)) ∙ by (eq k (at b)) (rw is_name (is_same a b))
     where
       by : (c : Bool) → c ≡ same a b → f (if c then o else get eq m (at b)) ≡ (if same a b then f o else f (get eq m (at b)))
-      by true e = subst (λ (c : Bool). f o ≡ (if c then f o else f (get eq m (at b)))) e refl
-      by false e = subst (λ (c : Bool). f (get eq m (at b)) ≡ (if c then f o else f (get eq m (at b)))) e refl
+      by true e = rw (← e) refl
+      by false e = rw (← e) refl
 
   -- what is the same of the old entry and the new
   pub entry_kept : {S Y : Type 0} (f : Option X → Y) (m n : HashMap K X S) (a : A) (k : K) → k ≡ at a → (o : Option X) → Updates eq m n k o
@@ -38,12 +38,12 @@ module _ {K A X : Type 0} (eq : K → K → Bool) (at : A → K) (same : A → A
   entry_kept f m n a k is_name o h e b = entry_after f m n a k is_name o h b ∙ by (tells a b)
     where
       by : (((same a b ≡ true) × (a ≡ b)) ⊎ ((same a b ≡ false) × (a ≢ b))) → (if same a b then f o else f (get eq m (at b))) ≡ f (get eq m (at b))
-      by (inl p) = subst (λ (c : Bool). (if c then f o else f (get eq m (at b))) ≡ f (get eq m (at b))) (sym p.0) (e ∙ ap (λ (x : A). f (get eq m (at x))) p.1)
-      by (inr p) = subst (λ (c : Bool). (if c then f o else f (get eq m (at b))) ≡ f (get eq m (at b))) (sym p.0) refl
+      by (inl p) = rw p.0 (e ∙ ap (λ (x : A). f (get eq m (at x))) p.1)
+      by (inr p) = rw p.0 refl
 
   -- an entry that was found by its name
   pub entry_at : {S : Type 0} (m : HashMap K X S) (a : A) (k : K) → k ≡ at a → (o : Option X) → o ≡ get eq m k → get eq m (at a) ≡ o
-  entry_at m a k is_name o h = subst (λ (z : K). get eq m z ≡ o) is_name (sym h)
+  entry_at m a k is_name o h = rw (← is_name) (sym h)
 
 -- the entries of works
 module _ {S : Type 0} (m : HashMap (ℕ × ℕ × ℕ) Work S) (W : WorkId) (k : ℕ × ℕ × ℕ) (is_name : k ≡ name_of W) where
@@ -52,7 +52,7 @@ module _ {S : Type 0} (m : HashMap (ℕ × ℕ × ℕ) Work S) (W : WorkId) (k :
 
   module _ {Y : Type 0} (f : Option Work → Y) (n : HashMap (ℕ × ℕ × ℕ) Work S) (o : Option Work) (h : Updates name_eq m n k o) where
     pub work_after : (x : Y) → f o ≡ x → (V : WorkId) → f (get name_eq n (name_of V)) ≡ (if work_eq W V then x else f (get name_eq m (name_of V)))
-    work_after x e V = subst (λ (z : Y). f (get name_eq n (name_of V)) ≡ (if work_eq W V then z else f (get name_eq m (name_of V)))) e (entry_after name_eq name_of work_eq name_eq_is work_tells f m n W k is_name o h V)
+    work_after x e V = rw (← e) (entry_after name_eq name_of work_eq name_eq_is work_tells f m n W k is_name o h V)
 
     pub work_kept : f o ≡ f (get name_eq m (name_of W)) → (V : WorkId) → f (get name_eq n (name_of V)) ≡ f (get name_eq m (name_of V))
     work_kept = entry_kept name_eq name_of work_eq name_eq_is work_tells f m n W k is_name o h
@@ -64,7 +64,7 @@ module _ {S : Type 0} (m : HashMap (ℕ × Option ℕ) (Vec Holder) S) (u : Lock
 
   module _ {Y : Type 0} (f : Option (Vec Holder) → Y) (n : HashMap (ℕ × Option ℕ) (Vec Holder) S) (o : Option (Vec Holder)) (h : Updates place_eq m n k o) where
     pub unit_after : (x : Y) → f o ≡ x → (v : LockUnit) → f (get place_eq n (unit_place v)) ≡ (if unit_eq u v then x else f (get place_eq m (unit_place v)))
-    unit_after x e v = subst (λ (z : Y). f (get place_eq n (unit_place v)) ≡ (if unit_eq u v then z else f (get place_eq m (unit_place v)))) e (entry_after place_eq unit_place unit_eq place_eq_is unit_tells f m n u k is_place o h v)
+    unit_after x e v = rw (← e) (entry_after place_eq unit_place unit_eq place_eq_is unit_tells f m n u k is_place o h v)
 
     pub unit_kept : f o ≡ f (get place_eq m (unit_place u)) → (v : LockUnit) → f (get place_eq n (unit_place v)) ≡ f (get place_eq m (unit_place v))
     unit_kept = entry_kept place_eq unit_place unit_eq place_eq_is unit_tells f m n u k is_place o h
@@ -75,5 +75,5 @@ module _ {S : Type 0} (test : Option (Vec Holder) → Bool) (m n : HashMap (ℕ 
   unit_stays e v held = entry_after place_eq unit_place unit_eq place_eq_is unit_tells test m n u k is_place o h v ∙ by (unit_tells u v)
     where
       by : (((unit_eq u v ≡ true) × (u ≡ v)) ⊎ ((unit_eq u v ≡ false) × (u ≢ v))) → (if unit_eq u v then test o else test (get place_eq m (unit_place v))) ≡ true
-      by (inl p) = subst (λ (c : Bool). (if c then test o else test (get place_eq m (unit_place v))) ≡ true) (sym p.0) (e (subst (λ (x : LockUnit). test (get place_eq m (unit_place x)) ≡ true) (sym p.1) held))
-      by (inr p) = subst (λ (c : Bool). (if c then test o else test (get place_eq m (unit_place v))) ≡ true) (sym p.0) held
+      by (inl p) = rw p.0 (e (rw p.1 held))
+      by (inr p) = rw p.0 held

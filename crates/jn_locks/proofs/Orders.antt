@@ -1,5 +1,5 @@
 -- The orders of works, units and conflicts.
-use Rattle.jn_locks.proofs.Common.{◌≡◌, ◌≢◌, ◌⊎◌, Bool, true, false, arith, refl, sym, subst, nat_tests, WorkId, LockUnit, File, Block, Conflict, unit_eq, unit_before, work_before, conflict_before}
+use Rattle.jn_locks.proofs.Common.{◌≡◌, ◌≢◌, ◌⊎◌, Bool, true, false, arith, refl, nat_tests, WorkId, LockUnit, File, Block, Conflict, unit_eq, unit_before, work_before, conflict_before}
 
 pub unit_tells : (a b : LockUnit) → ((unit_eq a b ≡ true) × (a ≡ b)) ⊎ ((unit_eq a b ≡ false) × (a ≢ b))
 unit_tells (File f) (File g) = grind (arith, nat_tests)
@@ -58,4 +58,4 @@ module _ {A : Type 0} (before : A → A → Bool) (transitive : (a b c : A) → 
     where
       by : (t : Bool) → before c b ≡ t → before a b ≡ true
       by true e = transitive a c b h e
-      by false e = subst (λ (z : A). before a z ≡ true) (sym (total b c k e)) h
+      by false e = rw (total b c k e) h

@@ -12,7 +12,7 @@ use jn_device::Half;
 use jn_phys::{Found, PhysDisk, PhysPower};
 use std::alloc::{AllocError, Global};
 
-/// Pages in memory, with power, and room for sixteen faults that wait and sixteen that were told.
+/// Pages in memory, with power, and room for sixteen faults that wait and sixteen that were reported.
 #[derive(Drop)]
 pub struct MemDisk {
     pages: Pages,

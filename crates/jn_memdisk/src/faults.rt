@@ -8,10 +8,10 @@ use jn_base::{FaultKind, Outside};
 use jn_device::Armed;
 use std::alloc::{AllocError, Global};
 
-/// How many faults may wait, and how many of them may be told.
+/// How many faults may wait, and how many of them may be reported.
 const ROOM: usize = 16;
 
-/// Each fault that was told is one that waited, so the room that `arm` asks for is never exceeded.
+/// Each fault that was reported is one that waited, so the room that `arm` asks for is never exceeded.
 #[derive(Drop)]
 pub(crate) struct Faults {
     pub(crate) waiting: Vec<Armed>,
@@ -90,7 +90,7 @@ impl Faults {
         self.waiting.clear();
     }
 
-    /// Forgets what was told.
+    /// Forgets what was reported.
     pub(crate) fn clear_told(&mut self)
         ensures told { self.new.told.items ≡ [] }
         ensures waiting { self.new.waiting.items ≡ self.old.waiting.items }

@@ -160,7 +160,7 @@ impl Pages {
         }
     }
 
-    /// What is told of the fault that meets a get of page p.
+    /// What is reported of the fault that meets a get of page p.
     pub(crate) fn told_got(&self, p: u32, kind: Option<FaultKind>) -> Option<Outside>
         requires here { p < vec_len self.now.halves }
         requires within { Within (vec_len self.now.halves) kind }
@@ -285,7 +285,7 @@ impl Pages {
     }
 }
 
-/// A fault as it is told, with the page that it strikes.
+/// A fault as it is reported, with the page that it strikes.
 fn outside(p: u32, kind: FaultKind) -> Outside
     ensures { result ≡ record { kind = kind; page = calls.struck_page p kind } }
 {

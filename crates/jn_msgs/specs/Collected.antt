@@ -1,4 +1,4 @@
--- What a step sends and tells.
+-- What a step sends and reports.
 use Rattle.std.specs.Prelude.{List}
 use Rattle.jn_base.specs.declared.names.Party.{Party}
 use Rattle.jn_msgs.specs.declared.message.Message.{Message}

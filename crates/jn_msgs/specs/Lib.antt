@@ -1,2 +1,4 @@
 pub mod Kinds
+pub mod Weights
+pub mod Ranges
 pub mod Collected

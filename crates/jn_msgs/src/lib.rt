@@ -1,4 +1,4 @@
-//! What clients and servers say to one another, and what a step sends and tells.
+//! What clients and servers say to one another, and what a step sends and reports.
 #![tactic(auto)]
 
 mod message;

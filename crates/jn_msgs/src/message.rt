@@ -35,7 +35,7 @@ pub enum Outcome {
     NotKnown(ServerNo, u32),
 }
 
-/// What a step tells beside its messages.
+/// What a step reports beside its messages.
 #[derive(Clone, Copy, Debug, PartialEq, Eq, Drop)]
 pub enum Note {
     /// The transaction committed.

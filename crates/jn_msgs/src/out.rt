@@ -1,4 +1,4 @@
-//! What a step sends and tells.
+//! What a step sends and reports.
 
 ghost use Rattle.std.specs.Prelude.{◌≡◌, [], ◌∷◌, ◌++◌, take, is_ok, if◌then◌else◌};
 

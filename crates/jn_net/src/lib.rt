@@ -99,7 +99,7 @@ impl Net {
         }
     }
 
-    /// Gives the room that was kept last to what a step sends and tells.
+    /// Gives the room that was kept last to what a step sends and reports.
     pub fn lend_room(&mut self, alloc: Global) -> Out
         ensures same { self.new ≡ self.old }
         ensures empty { result ≡ record { messages = []; notes = [] } }

@@ -22,7 +22,7 @@ pub struct Options {
     pub opening: Opening,
     /// The name of the images that are kept of the disks at the end, where one is given.
     pub closing: Option<Name>,
-    /// Whether the report tells each message that is sent.
+    /// Whether each message that is sent is reported.
     pub trace: bool,
 }
 

@@ -95,7 +95,7 @@ pub trait PhysPower: PhysDisk {
     fn disarm(&mut self)
         ensures disarmed { Self.state self.new ≡ disarmed (Self.state self.old) };
 
-    /// The faults that gets and puts told as outside the allowed ones, the oldest first.
+    /// The faults that gets and puts reported as outside the allowed ones, the oldest first.
     fn outside(&self) -> &[Outside]
         ensures { result.now ≡ (Self.state self.now).told };
 

@@ -1,6 +1,7 @@
 -- What a server's call does, by its row.
-use Rattle.jn_place.proofs.Common.{Scrubs, ◌≡◌, ◌≤◌, ◌+◌, ℕ, Bool, true, false, length, Option, Some, None, Ok, Err, is_some, true≢false, refl, sym, ◌∙◌, ap, subst, arith, List, Message, Collected, server_row, of_coordinator, Memory, table_of, Scrubbed, close_clients_row, RowOutcome, Unchanged, IsDone, IsStopped, Steps, Shown, ServerView, Parts, view_with, memory_of, room_of, state, Accounts, StorageLater, StoreView, IsCalm, added, AllCanBeTaken, Slot, Up, Answered, Sends, work_of, has_work_at, idle_row, IsRowDone, IsRowStopped, RowEnds, Handles, IsWorking, Works, Shows, Closes, row_calls}
-use Rattle.jn_server.specs.declared.fault.ServerFault.TheVariants.{Stopped}
+use Rattle.jn_place.proofs.Common.{[], Scrubs, ◌≡◌, ◌≤◌, ◌+◌, ℕ, Bool, true, false, length, Option, Some, None, Ok, Err, is_some, true≢false, refl, sym, ◌∙◌, ap, subst, arith, List, Message, Collected, server_row, of_coordinator, Memory, table_of, Scrubbed, close_clients_row, RowOutcome, Unchanged, IsDone, IsStopped, Steps, Shown, ServerView, Parts, view_with, memory_of, room_of, state, Accounts, StorageLater, StoreView, IsCalm, added, AllCanBeTaken, Slot, Up, Answered, Sends, work_of, has_work_at, idle_row, IsRowDone, IsRowStopped, RowEnds, Handles, IsWorking, Works, Shows, Closes, row_calls}
+use Rattle.jn_base.specs.declared.fault.CallFault.TheVariants.{Stopped}
+use Rattle.jn_rows.proofs.Left.{whole-stop}
 use Rattle.jn_server.specs.Showing.{IsShown, IsCutShort}
 use Rattle.jn_place.proofs.Rows.{step-taken, step-draws}
 use Rattle.jn_place.proofs.Served.{nothing}
@@ -83,7 +84,7 @@ module _ {S : Type 0} (look : S → StoreView) where
 
   idle-stopped : (most : ℕ) (p q : Parts S) → Unchanged (state (view_with look p).storage) (view_with look q).storage.found → StorageLater (view_with look p).storage (view_with look q).storage → (look q.storage.0).calls ≤ (look p.storage.0).calls + most → (look q.storage.0).power ≡ false
       → (IsCalm (look p.storage.0) → ⊥) → IsRowStopped look most (idle_row (memory_of (view_with look p))) p q
-  idle-stopped most p q found later few dark not_calm = record { some = λ c. record { made = 0; is_after = found c }; later = later; few = few; dark = dark; not_calm = not_calm }
+  idle-stopped most p q found later few dark not_calm = record { some = λ c. whole-stop (state (view_with look p).storage) [] ((view_with look q).storage.found c) 0 (found c); later = later; few = few; dark = dark; not_calm = not_calm }
 
   pub shows-done : (a : Slot S) (p q : Parts S) (list : List Shown) → a ≡ Up p → IsShown (view_with look p) list (view_with look q) → Shows look a (Some list) (Up q)
   shows-done a p q list is h = subst (λ (x : Slot S). Shows look x (Some list) (Up q)) (sym is)

@@ -5,8 +5,8 @@ pub use Rattle.jn_base.specs.declared.names.ServerNo.{ServerNo}
 pub use Rattle.jn_base.specs.declared.names.Tid.{Tid}
 pub use Rattle.jn_device.specs.Device.{DeviceState}
 pub use Rattle.jn_device.specs.Events.{powered_off, cleared, PowersUp, Arms, Decays, disarmed, Revives}
-pub use Rattle.jn_found.specs.Pages.{found_on}
-pub use Rattle.jn_found.proofs.Picking.{same_found, same_recoverable, fewer_picked}
+pub use Rattle.jn_page_state.specs.Pages.{found_on}
+pub use Rattle.jn_page_state.proofs.Picking.{same_found, same_recoverable, fewer_picked}
 pub use Rattle.jn_msgs.specs.Collected.{Collected}
 pub use Rattle.jn_system.specs.WholeSystem.Servers.{server_again, server_row, of_coordinator, of_worker, of_step, storage_of, restored, Room, server_step}
 pub use Rattle.jn_records.specs.StablePages.{Counts, slot_place, head_place}
@@ -19,7 +19,7 @@ pub use Rattle.jn_store.specs.Store.{StoreView, HasSamePages, IsCalm, StoreLater
 pub use Rattle.jn_transactions.specs.Telling.{added}
 pub use Rattle.jn_place.specs.declared.place.Slot.{Slot}
 pub use Rattle.jn_place.specs.declared.place.Slot.TheVariants.{Up, Down, Gone}
-pub use Rattle.jn_place.specs.Calls.{LeavesStore, Answered, CameUp, IsCalled, Serves, Called, Left}
+pub use Rattle.jn_place.specs.Calls.{LeavesStore, Answered, CameUp, IsCalled, Serves, Called, LeavesPlace}
 pub use Rattle.jn_place.specs.Exact.{AsksAgain, TimedOut, Crashed, Befell, Sends, work_of, has_work_at, idle_row, IsSpent, lines_at, texts_of_step, IsStepOf, StaysCalm, WhereUp, WorkLeaves, IsTried, IsUpAt, IsStoppedUp, IsUsedUpAt, CameTo, IsRestart, IsCalmAt, ComesCalm, is_stopped, TakeLeaves, KeepsRubbish, LeavesImage, LeavesClean, Took, WorkedBy, ScrubbedBy, Showed, Closed, items_of}
 pub use Rattle.jn_place.specs.Inner.{SaysSame, IsAsBefore, StaysAs, Scrubs, IsRowDone, IsRowStopped, RowEnds, Handles, IsWorking, Works, Shows, Closes, told_at, Follows, IsRisen, IsCutUp, IsAtLast, StandsUp, Rises, Lifts, WhereDone, LeavesOwnImage, Idles}
 pub use Rattle.jn_place.specs.Places.{Stands, HoldsUp, NoneTold, IsPlace, IsDownAt, CountsAt, is_up, IsHeld, HasPages, is_there}
@@ -31,9 +31,9 @@ pub use Rattle.jn_rows.specs.Coordinator.{close_clients_row, restored_transactio
 pub use Rattle.jn_rows.specs.Outcomes.{RowOutcome, quiet}
 pub use Rattle.jn_rows.specs.Stable.{Unchanged, StableState, Pick, IsStopState, Prepared, CarryOut, RemoveWork, is_going, at_work, made_by, made_all, FlagState}
 pub use Rattle.jn_server.specs.declared.show.Shown.{Shown}
-pub use Rattle.jn_within.specs.Taking.{AllCanBeTaken}
+pub use Rattle.jn_row_ranges.specs.Taking.{AllCanBeTaken}
 pub use Rattle.jn_storage.specs.DeviceCalls.{row_calls, step_calls}
-pub use Rattle.jn_found.specs.Recoverable.{IsRecoverable}
+pub use Rattle.jn_page_state.specs.Recoverable.{IsRecoverable}
 pub use Rattle.jn_recovery.specs.Counts.{counts_by, most_calls}
 pub use Rattle.jn_recovery.specs.declared.counts.PageCounts.{PageCounts}
 pub use Rattle.jn_store.specs.Pairs.{pairs_view}

@@ -2,7 +2,7 @@
 use Rattle.jn_place.proofs.Common.{◌≡◌, ℕ, true, [], sym, ◌∙◌, ap, subst, ServerNo, DeviceState, same_recoverable, IsRecoverable, Counts, counts_by, PageCounts, pairs_view, StoreView, HasSamePages, Place, Slot, Up, Down, Gone, LeavesStore, HoldsUp, Stands, NoneTold, IsPlace, IsDownAt, CountsAt}
 use Rattle.jn_place.proofs.Steps.{down-stands}
 
--- what a device has told is what its store has
+-- what a device has reported is what its store has
 pub told-still : {S : Type 0} (look : S → StoreView) (device : S → DeviceState) (s t : S) → look s ≡ pairs_view (device s) → look t ≡ pairs_view (device t) → (device t).told ≡ (device s).told → (look t).told ≡ (look s).told
 told-still look device s t at-s at-t same = ap (λ (v : StoreView). v.told) at-t ∙ same ∙ sym (ap (λ (v : StoreView). v.told) at-s)
 
@@ -23,7 +23,7 @@ befallen-down look server most p s t is pages told h = record {
   counted = tt;
 }
 
--- what was told is forgotten
+-- what was reported is forgotten
 pub cleared-down : {S : Type 0} (look : S → StoreView) (server : ServerNo) (most : ℕ) (p : Place S) (s t : S) → p.slot ≡ Down s → HasSamePages (look s) (look t) → (look t).told ≡ []
     → Stands look server (counts_by p.counts) most p.slot → IsPlace look server most (record { counts = p.counts; slot = Down t })
 cleared-down look server most p s t is pages told h = record {

@@ -2,7 +2,7 @@
 use Rattle.jn_place.proofs.Common.{most_calls, ◌≡◌, ◌≤◌, ◌<◌, ◌+◌, ℕ, suc, Bool, true, false, true≢false, List, [], ◌∷◌, ◌++◌, map, Option, Some, None, is_some, ⊎_elim, ◌||◌, refl, sym, ◌∙◌, ap, subst, arith, Result, Ok, Err, IfOk, ServerNo, Tid, tid_eq, tid_tells, DeviceState, PowersUp, powered_off, cleared, found_on, fewer_picked, restored, Memory, Counts, Found, Transaction, restored_transaction, restored_transactions, StableState, FlagState, IsRestarted, IsNotRestarted, Parts, view_with, memory_of, StoreView, IsCalm, work_eq, When, Line, Accounts, StoreLater, Restarted, Slot, Up, Down, Gone, lines_at, texts_of_step, IsTried, IsUpAt, IsStoppedUp, IsUsedUpAt, CameTo, IsRestart, IsCalmAt, ComesCalm, is_stopped, IsRisen, IsCutUp, IsAtLast, SaysSame, StaysAs, StandsUp, Rises, Lifts, told_at, CameUp, IsHeld, with_epoch, slot_place, head_place, pairs_view, IsWholePage}
 use Rattle.jn_recovery.specs.Loading.{IsSameOrNext}
 use Rattle.std.specs.List.{list_any}
-use Rattle.jn_found.specs.Puts.{IsFrontClean, IsFrontWhole}
+use Rattle.jn_page_state.specs.Puts.{IsFrontClean, IsFrontWhole}
 use Rattle.jn_system.specs.WholeSystem.Steps.{AreNames, tid_before}
 use Rattle.jn_recovery.specs.declared.load.DownCause.{DownCause}
 use Rattle.jn_recovery.specs.declared.load.DownCause.TheVariants.{Stopped, EpochsUsedUp}
@@ -110,7 +110,7 @@ module _ {S : Type 0} (look : S → StoreView) (device : S → DeviceState) (see
     power = ap (λ (v : StoreView). v.power) (sees lit) ∙ powers.power_is;
   }
 
-  -- what the device told is forgotten, and no page changes by that
+  -- what the device reported is forgotten, and no page changes by that
   clean-stays : (s t : S) → device t ≡ cleared (device s) → IsFrontClean g (look s) → IsFrontClean g (look t)
   clean-stays s t after h = subst (λ (v : StoreView). IsFrontClean g v) (sym (sees t)) (subst (λ (d : DeviceState). IsFrontClean g (pairs_view d)) (sym after) (by (subst (λ (v : StoreView). IsFrontClean g v) (sees s) h)))
     where

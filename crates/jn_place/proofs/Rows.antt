@@ -1,7 +1,7 @@
 -- What holds of each row by itself.
 use Rattle.jn_place.proofs.Common.{◌≡◌, ◌≤◌, ◌+◌, length, Some, ap, arith, Tickets, Message, close_clients_row, RowOutcome, StableState, Room, server_row, server_step, server_again, of_coordinator, Memory, AllCanBeTaken}
-use Rattle.jn_within.proofs.Taking.{servers-taken}
-use Rattle.jn_within.proofs.ServerRows.{row-requests, row-drawn, step-requests, step-tickets, again-requests}
+use Rattle.jn_row_ranges.proofs.Taking.{servers-taken}
+use Rattle.jn_row_ranges.proofs.ServerRows.{row-requests, row-drawn, step-requests, step-tickets, again-requests}
 
 pub row-taken : (m : Memory) (x : StableState) (room : Room) (message : Message) → AllCanBeTaken (server_row m x room message).messages
 row-taken m x room message = servers-taken (server_row m x room message).messages (row-requests m x room message)

@@ -1,9 +1,9 @@
 -- What calls of a server leave as rubbish, and that a scrub leaves an image.
 use Rattle.jn_place.proofs.Common.{◌≡◌, ℕ, Bool, true, false, length, Option, Ok, refl, sym, ◌∙◌, ap, subst, ServerNo, DeviceState, cleared, Scrubbed, counts_in, Message, Collected, Files, Memory, Counts, RowOutcome, Befalls, Steps, ServerView, Parts, view_with, state, CountsErased, Accounts, pairs_view, StoreView, Slot, Up, Down, Gone, WhereUp, TakeLeaves, WorkLeaves, KeepsRubbish, LeavesImage, work_of, WhereDone, IsAsBefore, Follows, LeavesOwnImage, Stands, IsClean, IsWholePage, LeavesClean}
-use Rattle.jn_found.specs.Images.{IsImage}
+use Rattle.jn_page_state.specs.Images.{IsImage}
 use Rattle.jn_place.proofs.Ending.{Sees}
 
--- what holds before and after a call holds once its faults are told
+-- what holds before and after a call holds once its faults are reported
 abbrev pub Outlasts : {S : Type 0} → (S → StoreView) → (S → DeviceState) → (ServerView → ServerView → Type 0) → Type 0
 Outlasts {S} look device so = (v : ServerView) (m b : Parts S) → IsAsBefore look m b → device b.storage.0 ≡ cleared (device m.storage.0) → so v (view_with look m) → so v (view_with look b)
 

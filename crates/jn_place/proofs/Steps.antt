@@ -1,5 +1,5 @@
 -- A step at a server's place: a call, and what follows it.
-use Rattle.jn_place.proofs.Common.{◌≡◌, ℕ, ◌+◌, Bool, true, false, length, Option, Some, None, Ok, Err, is_some, true≢false, refl, sym, subst, arith, Result, OnOk, ServerNo, Collected, Counts, counts_by, PageCounts, StoreView, Place, Restarted, Slot, Up, Down, Gone, Called, Answered, CameUp, Left, HoldsUp, Stands, IsPlace, IsDownAt, is_up, is_there}
+use Rattle.jn_place.proofs.Common.{◌≡◌, ℕ, ◌+◌, Bool, true, false, length, Option, Some, None, Ok, Err, is_some, true≢false, refl, sym, subst, arith, Result, OnOk, ServerNo, Collected, Counts, counts_by, PageCounts, StoreView, Place, Restarted, Slot, Up, Down, Gone, Called, Answered, CameUp, LeavesPlace, HoldsUp, Stands, IsPlace, IsDownAt, is_up, is_there}
 use Rattle.jn_place.specs.declared.place.Restarted.TheVariants as came
 use Rattle.jn_place.proofs.Slots.{stepped-slot}
 
@@ -28,7 +28,7 @@ pub follows-as : {S : Type 0} (look : S → StoreView) (server : ServerNo) (done
 follows-as look server done said q after same follows = λ most h. follows most (subst (λ (b : Bool). HoldsUp look server (counts_by q.counts) most b q.slot) (sym same) h)
 
 -- a message
-pub taken-left : {S : Type 0} (look : S → StoreView) (server : ServerNo) (most : ℕ) (p q r : Place S) (answer : Option Collected) → IsPlace look server most p → Answered look p.slot q.slot answer → q.counts ≡ p.counts → Follows look server (is_some answer) q (λ m. IsPlace look server m r) → Left look server most r answer
+pub taken-left : {S : Type 0} (look : S → StoreView) (server : ServerNo) (most : ℕ) (p q r : Place S) (answer : Option Collected) → IsPlace look server most p → Answered look p.slot q.slot answer → q.counts ≡ p.counts → Follows look server (is_some answer) q (λ m. IsPlace look server m r) → LeavesPlace look server most r answer
 taken-left look server most p q r None h called same follows = quiet-left look server most false p q (λ m. IsPlace look server m r) h called same follows
 taken-left look server most p q r (Some out) h called same follows = (called-left look server most (length out.messages) true p q (λ m. IsPlace look server m r) h called.0 same follows, called.1)
 

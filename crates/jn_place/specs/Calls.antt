@@ -11,7 +11,7 @@ use Rattle.jn_place.specs.declared.place.Restarted.{Restarted}
 use Rattle.jn_place.specs.declared.place.Restarted.TheVariants as came
 use Rattle.jn_place.specs.declared.place.Slot.{Slot}
 use Rattle.jn_place.specs.declared.place.Slot.TheVariants.{Up, Down, Gone}
-use Rattle.jn_within.specs.Taking.{AllCanBeTaken}
+use Rattle.jn_row_ranges.specs.Taking.{AllCanBeTaken}
 use Rattle.jn_place.specs.Places.{IsPlace, HoldsUp, IsDownAt}
 
 -- the server is up and serves, and has drawn no more names than this
@@ -30,7 +30,7 @@ abbrev pub Called : {S : Type 0} → (S → StoreView) → ℕ → Bool → Slot
 Called look names done (Up p) (Up q) = IsCalled names done (view_with look p) (view_with look q)
 Called look names done a b = ⊥
 
--- a call that was done with what it sent and told, or stopped
+-- a call that was done with what it sent and reported, or stopped
 abbrev pub Answered : {S : Type 0} → (S → StoreView) → Slot S → Slot S → Option Collected → Type 0
 Answered look before after (Some out) = Called look (length out.messages) true before after × AllCanBeTaken out.messages
 Answered look before after None = Called look 0 false before after
@@ -52,7 +52,7 @@ CameUp look server g after (came.Up epoch tids) = HoldsUp look server g 0 true a
 CameUp look server g after came.Stopped = IsDownAt look server g after
 CameUp look server g after came.UsedUp = IsDownAt look server g after
 
--- a step that was done with what it sent and told, or stopped
-abbrev pub Left : {S : Type 0} → (S → StoreView) → ServerNo → ℕ → Place S → Option Collected → Type 0
-Left look server most p (Some out) = IsPlace look server (most + length out.messages) p × AllCanBeTaken out.messages
-Left look server most p None = IsPlace look server most p
+-- a step that was done with what it sent and reported, or stopped
+abbrev pub LeavesPlace : {S : Type 0} → (S → StoreView) → ServerNo → ℕ → Place S → Option Collected → Type 0
+LeavesPlace look server most p (Some out) = IsPlace look server (most + length out.messages) p × AllCanBeTaken out.messages
+LeavesPlace look server most p None = IsPlace look server most p

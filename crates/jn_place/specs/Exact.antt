@@ -13,9 +13,9 @@ use Rattle.jn_base.specs.Limits.{most_blocks}
 use Rattle.jn_device.specs.Device.{DeviceState}
 use Rattle.jn_device.specs.Events.{PowersUp, powered_off, cleared}
 use Rattle.jn_device.specs.Happens.{Happens}
-use Rattle.jn_found.specs.Images.{IsImage}
-use Rattle.jn_found.specs.Puts.{IsFrontClean, IsFrontWhole}
-use Rattle.jn_found.specs.Pages.{found_on}
+use Rattle.jn_page_state.specs.Images.{IsImage}
+use Rattle.jn_page_state.specs.Puts.{IsFrontClean, IsFrontWhole}
+use Rattle.jn_page_state.specs.Pages.{found_on}
 use Rattle.jn_intent.specs.Scrubbing.{IsIdle}
 use Rattle.jn_locks.specs.Locks.{work_before}
 use Rattle.jn_msgs.specs.declared.message.Message.{Message}
@@ -53,7 +53,7 @@ use Rattle.jn_place.specs.Places.{is_up}
 
 -- ---- the device
 
--- A device was called so many times at most. These faults were told, and then forgotten, and it has power or none.
+-- A device was called so many times at most. These faults were reported, and then forgotten, and it has power or none.
 pub record IsSpent (most : ℕ) (told : List Outside) (power : Bool) (d e : DeviceState) : Type 0 where
   pub last : DeviceState
   pub happens : Happens d last
@@ -151,16 +151,16 @@ ScrubbedBy look device q g when (Up p) done after lines lines' =
     IsStepOf look device q g (put_calls * (look p.storage.0).count) when (idle_row (memory_of (view_with look p))) (Up p) done after lines lines'
 ScrubbedBy look device q g when before done after lines lines' = ⊥
 
--- each block of which there is something to print is one of the 120
+-- each block of which there is something to print is one of a file's
 abbrev pub PrintsInRange : ServerView → Type 0
 PrintsInRange v = (f : FileNo) (b : BlockNo) → is_some (prints_in v.worker.table (state v.storage).files (Block f b)) ≡ true → b.0 < most_blocks
 
--- what it told of its files
+-- what it reported of its files
 abbrev pub Prints : ServerView → Option (List Shown) → Type 0
 Prints v None = ⊤
 Prints v (Some list) = ArePrints (prints_in v.worker.table (state v.storage).files) (map print_of list) × PrintsInRange v
 
--- the items of a list that was told
+-- the items of a list that was reported
 abbrev pub items_of : Option (Vec Shown) → Option (List Shown)
 items_of None = None
 items_of (Some list) = Some list.items
@@ -235,7 +235,7 @@ pub record IsTried (g : Counts) (told : List Outside) (power : Bool) (d e : Devi
   pub spent : IsSpent (most_calls g) told power powered e
 
 -- It came up with what this pick found, in the next epoch: it remembers its works and flags, and nothing else. The transactions of the flags
--- are told in rising order.
+-- are reported in rising order.
 pub record IsUpAt {S : Type 0} (look : S → StoreView) (device : S → DeviceState) (q : ServerNo) (g : Counts) (told : List Outside) (s : S) (epoch : ℕ) (tids : List Tid) (p' : Parts S) : Type 0 where
   pub tried : IsTried g told true (device s) (device p'.storage.0)
   pub pick : Pick

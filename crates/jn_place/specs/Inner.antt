@@ -7,8 +7,8 @@ use Rattle.jn_base.specs.declared.device.Outside.{Outside}
 use Rattle.jn_base.specs.Names.{tid_eq, work_eq}
 use Rattle.jn_device.specs.Device.{DeviceState}
 use Rattle.jn_device.specs.Events.{PowersUp, powered_off, cleared}
-use Rattle.jn_found.specs.Pages.{found_on}
-use Rattle.jn_found.specs.Puts.{IsFrontClean, IsFrontWhole}
+use Rattle.jn_page_state.specs.Pages.{found_on}
+use Rattle.jn_page_state.specs.Puts.{IsFrontClean, IsFrontWhole}
 use Rattle.jn_intent.specs.Scrubbing.{counts_in}
 use Rattle.jn_locks.specs.Locks.{work_before}
 use Rattle.jn_msgs.specs.declared.message.Message.{Message}
@@ -108,7 +108,7 @@ LeavesOwnImage v w = LeavesImage v.storage.accounts.server (counts_in v.storage.
 
 -- ---- what follows
 
--- what the device below has told
+-- what the device below has reported
 abbrev pub told_at : {S : Type 0} → (S → DeviceState) → Slot S → List Outside
 told_at device (Up p) = (device p.storage.0).told
 told_at device (Down s) = (device s).told
@@ -129,7 +129,7 @@ StaysAs look device f (Up p) (Up p') = IsAsBefore look p p' × (device p'.storag
 StaysAs look device f (Down s) (Down s') = SaysSame look s s' × (device s' ≡ f (device s))
 StaysAs look device f before after = ⊥
 
--- what follows a call: what the device told is forgotten, and a server that was stopped is down
+-- what follows a call: what the device reported is forgotten, and a server that was stopped is down
 abbrev pub Follows : {S : Type 0} → (S → StoreView) → (S → DeviceState) → Slot S → Bool → Slot S → Type 0
 Follows look device (Up p) true (Up p') = StaysAs look device cleared (Up p) (Up p')
 Follows look device (Up p) false (Down s) = StaysAs look device cleared (Down p.storage.0) (Down s)

@@ -1,7 +1,7 @@
 -- When a server stands at its place, up or down, so that each of its calls may come.
 use Rattle.std.specs.Prelude.{◌≡◌, ◌≤◌, ℕ, Bool, true, false, ⊤, []}
 use Rattle.jn_base.specs.declared.names.ServerNo.{ServerNo}
-use Rattle.jn_found.specs.Recoverable.{IsRecoverable}
+use Rattle.jn_page_state.specs.Recoverable.{IsRecoverable}
 use Rattle.jn_intent.specs.Scrubbing.{counts_in}
 use Rattle.jn_records.specs.StablePages.{Counts, page_count}
 use Rattle.jn_recovery.specs.Counts.{counts_by}
@@ -33,7 +33,7 @@ Stands look server g most (Up p) = IsHeld server g most true (view_with look p)
 Stands look server g most (Down s) = IsRecoverable server g (look s)
 Stands look server g most Gone = ⊥
 
--- its device has told no fault that was outside
+-- its device has reported no fault that was outside
 abbrev pub NoneTold : {S : Type 0} → (S → StoreView) → Slot S → Type 0
 NoneTold look (Up p) = (look p.storage.0).told ≡ []
 NoneTold look (Down s) = (look s).told ≡ []

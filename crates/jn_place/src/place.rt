@@ -2,12 +2,13 @@
 ghost use Rattle.std.specs.Prelude.{◌≡◌, ◌<◌, ◌+◌, ◌++◌, ℕ, map, [], Bool, true, false, is_some, IfOk, OnOk};
 ghost use Rattle.jn_base.specs.declared.names.ServerNo.{ServerNo};
 ghost use Rattle.jn_device.specs.Events.{PowersUp, powered_off, Decays, Revives, Arms, is_within, disarmed, cleared};
-ghost use Rattle.jn_found.specs.Recoverable.{IsRecoverable};
+ghost use Rattle.jn_page_state.specs.Recoverable.{IsRecoverable};
 ghost use Rattle.jn_records.specs.StablePages.{Counts, page_count};
 ghost use Rattle.jn_recovery.specs.Counts.{counts_by};
 ghost use Rattle.jn_rows.specs.declared.coordinator.Transaction.{Transaction};
-ghost use Rattle.jn_within.specs.Taking.{CanBeTaken, AllCanBeTaken};
-ghost use Rattle.jn_place.specs.Calls.{Serves, Called, Answered, LeavesStore, CameUp, Left, StandsOn};
+ghost use Rattle.jn_row_ranges.specs.Taking.{AllCanBeTaken};
+ghost use Rattle.jn_msgs.specs.Ranges.{CanBeTaken};
+ghost use Rattle.jn_place.specs.Calls.{Serves, Called, Answered, LeavesStore, CameUp, LeavesPlace, StandsOn};
 ghost use Rattle.jn_place.specs.Exact.{lines_at, texts_of_step, has_work_at, ReadsPages, items_of, Took, WorkedBy, ScrubbedBy, Showed, Closed, AsksAgain, TimedOut, Crashed, IsRestart, Befell, StaysCalm, ComesCalm, WhereUp, TakeLeaves, WorkLeaves, KeepsRubbish, LeavesClean, LeavesImage};
 ghost use Rattle.jn_place.specs.Inner.{Handles, Works, Scrubs, Shows, Closes, told_at, SaysSame, StaysAs, Follows, StandsUp, Rises, Lifts, WhereDone, LeavesOwnImage};
 ghost use Rattle.jn_place.specs.Remaining.{steps_at};
@@ -67,7 +68,7 @@ impl<S: Powered + Drop> Place<S> {
 
     // Steps of a server that is up. Where it is stopped it is down then.
 
-    /// The server takes a message. What it sends and tells, or none where it was stopped.
+    /// The server takes a message. What it sends and reports, or none where it was stopped.
     pub fn take(
         &mut self,
         out: Out,
@@ -80,7 +81,7 @@ impl<S: Powered + Drop> Place<S> {
         requires empty { out ≡ record { messages = []; notes = [] } }
         requires up { is_up self.old.slot ≡ true }
         requires message { CanBeTaken message.now }
-        ensures left { (most : ℕ) → IsPlace (λ s. S.view s) server most self.old → IfOk result (λ answer. Left (λ s. S.view s) server most self.new answer) }
+        ensures left { (most : ℕ) → IsPlace (λ s. S.view s) server most self.old → IfOk result (λ answer. LeavesPlace (λ s. S.view s) server most self.new answer) }
         ensures took { IfOk result (λ answer. Took (λ s. S.view s) (λ s. S.device s) server (counts_by self.old.counts) when message.now self.old.slot answer self.new.slot told.old.items told.new.items) }
         ensures calm { IfOk result (λ answer. StaysCalm (λ s. S.view s) self.old.slot (is_some answer) self.new.slot) }
         ensures rubbish { OnOk result (WhereUp (λ s. S.view s) (TakeLeaves message.now) self.old.slot self.new.slot) }
@@ -104,7 +105,7 @@ impl<S: Powered + Drop> Place<S> {
         server.has_work()
     }
 
-    /// One background step, of which there is one. What it sends and tells, or none where it was stopped.
+    /// One background step, of which there is one. What it sends and reports, or none where it was stopped.
     pub fn step(
         &mut self,
         out: Out,
@@ -116,7 +117,7 @@ impl<S: Powered + Drop> Place<S> {
         requires empty { out ≡ record { messages = []; notes = [] } }
         requires up { is_up self.old.slot ≡ true }
         requires work { has_work_at (λ s. S.view s) self.old.slot ≡ true }
-        ensures left { (most : ℕ) → IsPlace (λ s. S.view s) server most self.old → IfOk result (λ answer. Left (λ s. S.view s) server most self.new answer) }
+        ensures left { (most : ℕ) → IsPlace (λ s. S.view s) server most self.old → IfOk result (λ answer. LeavesPlace (λ s. S.view s) server most self.new answer) }
         ensures worked { IfOk result (λ answer. WorkedBy (λ s. S.view s) (λ s. S.device s) server (counts_by self.old.counts) when self.old.slot answer self.new.slot told.old.items told.new.items) }
         ensures calm { IfOk result (λ answer. StaysCalm (λ s. S.view s) self.old.slot (is_some answer) self.new.slot) }
         ensures rubbish { OnOk result (WhereUp (λ s. S.view s) WorkLeaves self.old.slot self.new.slot) }
@@ -129,7 +130,7 @@ impl<S: Powered + Drop> Place<S> {
         Ok(answer)
     }
 
-    /// The server's files are told, or none where it was stopped.
+    /// The server's files are reported, or none where it was stopped.
     pub fn show(
         &mut self,
         alloc: Global,
@@ -316,7 +317,7 @@ impl<S: Powered + Drop> Place<S> {
         }
     }
 
-    /// What follows a call: a server that was stopped goes down, and the faults that its device refused are told.
+    /// What follows a call: a server that was stopped goes down, and the faults that its device refused are reported.
     fn after_step(
         &mut self,
         server: ServerNo,
@@ -338,7 +339,7 @@ impl<S: Powered + Drop> Place<S> {
         tell(told, when, Text::Stopped(server))
     }
 
-    /// Tells the faults that the device refused, and forgets them.
+    /// Reports the faults that the device refused, and forgets them.
     fn tell_outside(
         &mut self,
         server: ServerNo,
@@ -420,7 +421,7 @@ impl<S: Powered + Drop> Place<S> {
         }
     }
 
-    /// A server that is down is to come up, and the faults that its device refused are told. Where it has no epoch left its power
+    /// A server that is down is to come up, and the faults that its device refused are reported. Where it has no epoch left its power
     /// goes again.
     pub fn come_up(
         &mut self,

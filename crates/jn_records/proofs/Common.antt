@@ -9,7 +9,7 @@ pub use Rattle.jn_order.specs.Files.{Files, change, effect, answer_to, is_did, f
 unfoldable pub use Rattle.jn_order.specs.Files.{zeros}
 pub use Rattle.jn_order.specs.Changes.{files_then, all_did, or_also, and_then}
 pub use Rattle.jn_records.specs.declared.intention.Intention.{Intention}
-pub use Rattle.jn_records.specs.NetLists.{intention_change, list_change, carried_out, after_turns, in_order, Net, net_of, no_net, added, added_all, net_change, block_of, blocks_below, comes_behind, adds, length_with, intention_place, stands_before, InOrder, Plain, AllPlain, entry, First, Kept, MadeFresh, TakenAway, CutFrom, FileNet, as_first, as_put, stays_at, stays, seen_block, names_file, finds_file, files_there, file_added, first_file, cut_first, first_block, put_or, is_put_intention}
+pub use Rattle.jn_records.specs.NetLists.{intention_change, list_change, carried_out, after_turns, in_order, Net, net_of, no_net, added, added_all, net_change, blocks_below, comes_behind, adds, length_with, intention_place, stands_before, InOrder, Plain, AllPlain, entry, First, Kept, MadeFresh, TakenAway, CutFrom, FileNet, as_first, as_put, stays_at, stays, seen_block, names_file, finds_file, files_there, file_added, first_file, cut_first, first_block, put_or, is_put_intention}
 pub use Rattle.std.proofs.lemmas.Bool.Decides.{nat_tests}
 pub use Rattle.jn_base.specs.declared.names.FileNo.{FileNo}
 pub use Rattle.jn_base.specs.declared.names.BlockNo.{BlockNo}

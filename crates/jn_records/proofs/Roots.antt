@@ -1,5 +1,5 @@
 -- A root is read again from its page.
-use Rattle.jn_records.proofs.Common.{◌≡◌, ℕ, List, ◌++◌, Some, refl, ap, ◌∙◌, replicate, codes, big_bytes, Root, root_bytes, root_page, IsRoot, root_at}
+use Rattle.jn_records.proofs.Common.{◌≡◌, ℕ, List, ◌++◌, Some, refl, ap, ◌∙◌, arith, replicate, codes, big_bytes, Root, root_bytes, root_page, IsRoot, root_at}
 use Rattle.jn_records.proofs.Fields.{number_again, bytes_again}
 
 root_again : (r : Root) (rest : List ℕ) → IsRoot r → root_at (root_bytes r ++ rest) ≡ Some (r, rest)
@@ -9,11 +9,13 @@ root_again r rest is =
     let after_heads = big_bytes 2 r.leaves ++ after_leaves in
     let after_pool = big_bytes 2 r.heads ++ after_heads in
     let after_server = big_bytes 2 r.pool ++ after_pool in
-    let after_begin = big_bytes 1 r.server.0 ++ after_server in
-    let regrouped : root_bytes r ++ rest ≡ (codes "JUN1" ++ big_bytes 1 1) ++ after_begin = refl in
+    let after_version = big_bytes 1 r.server.0 ++ after_server in
+    let after_name = big_bytes 1 r.version ++ after_version in
+    let regrouped : root_bytes r ++ rest ≡ codes "JUN1" ++ after_name = refl in
     ap root_at regrouped
     ∙ rw (
-      bytes_again 5 (codes "JUN1" ++ big_bytes 1 1) after_begin refl,
+      bytes_again 4 (codes "JUN1") after_name refl,
+      number_again 1 r.version after_version (omega (arith, is.version)),
       number_again 1 r.server.0 after_server is.server,
       number_again 2 r.pool after_pool is.pool,
       number_again 2 r.heads after_heads is.heads,

@@ -1,7 +1,7 @@
 -- The heads of files: their bytes, and how they are read.
 use Rattle.std.specs.Prelude.{◌≡◌, ◌<◌, ◌^◌, ◌++◌, ℕ, List, [], length, Option, Some, None, nat_eq, nat_le, Bool, true, flat_map, if◌then◌else◌}
 use Rattle.std.specs.List.{list_all}
-use Rattle.jn_base.specs.Limits.{most_blocks}
+use Rattle.jn_base.specs.Limits.{head_blocks}
 use Rattle.byteorder.specs.Endian.{big_bytes}
 use Rattle.jn_records.specs.declared.head.Head.{Head}
 use Rattle.jn_records.specs.declared.head.Head.TheVariants.{Free, Used}
@@ -19,7 +19,7 @@ head_page h = padded (head_bytes h)
 -- a head has an address for each block that there may be
 abbrev pub has_page : Head → Bool
 has_page Free = true
-has_page (Used file addresses) = nat_eq (length addresses) most_blocks
+has_page (Used file addresses) = nat_eq (length addresses) head_blocks
 
 -- no address is past the data pages: 0 is none, and a page's is its index and 1
 abbrev pub within : ℕ → Head → Bool
@@ -39,7 +39,7 @@ FileFits (Used file addresses) = file.0 < 2 ^ 32
 unfoldable pub used_at : List ℕ → Option Head
 used_at bytes = do
   file ← number_at 4 bytes
-  addresses ← list_at (λ b. number_at 2 b) most_blocks file.1
+  addresses ← list_at (λ b. number_at 2 b) head_blocks file.1
   Some (Used (record { 0 = file.0 }) addresses.0)
 
 unfoldable pub head_at : List ℕ → Option Head

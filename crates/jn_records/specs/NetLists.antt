@@ -17,6 +17,7 @@ use Rattle.jn_records.specs.declared.intention.Intention.{Intention}
 use Rattle.jn_records.specs.declared.net_list.Seen.{Seen}
 use Rattle.jn_records.specs.declared.net_list.Seen.TheVariants.{Put as PutBytes, Zeros, Stored}
 use Rattle.jn_records.specs.declared.net_list.Need.{Need}
+use Rattle.jn_base.specs.Ops.{block_of}
 
 -- ---- carrying out
 
@@ -233,13 +234,6 @@ abbrev pub seen_block : Seen → Option (List ℕ) → Option (List ℕ)
 seen_block (PutBytes bytes) stored = Some bytes
 seen_block Zeros stored = None
 seen_block Stored stored = stored
-
-abbrev pub block_of : Op → BlockNo
-block_of (Create f) = record { 0 = 0 }
-block_of (Remove f) = record { 0 = 0 }
-block_of (CutBlocks f n) = n
-block_of (Read f p) = p
-block_of (Write f p bytes) = p
 
 -- an answer that is known, or that of the stored block
 abbrev pub answered : Option Answer → Op → Files → Answer

@@ -8,6 +8,7 @@ use Rattle.jn_base.specs.declared.names.LockUnit.TheVariants.{File, Block}
 use Rattle.jn_base.specs.Limits.{most_blocks}
 use Rattle.jn_order.specs.Files.{Files, there}
 use Rattle.jn_records.specs.declared.root.Root.{Root}
+use Rattle.jn_records.specs.Pages.{format_version}
 
 -- how many stable pages there are of each kind, behind the root at 0: the pool, the heads, the data pages
 pub record Counts : Type 0 where
@@ -19,8 +20,9 @@ pub record Counts : Type 0 where
 abbrev pub counts_of : Root → Counts
 counts_of root = record { pool = root.pool; heads = root.heads; leaves = root.leaves }
 
+-- the root of a server with so many, at an epoch
 abbrev pub root_by : ServerNo → Counts → ℕ → Root
-root_by server g epoch = record { server = server; pool = g.pool; heads = g.heads; leaves = g.leaves; epoch = epoch }
+root_by server g epoch = record { version = format_version; server = server; pool = g.pool; heads = g.heads; leaves = g.leaves; epoch = epoch }
 
 abbrev pub Pages : Type 0
 Pages = ℕ → List ℕ

@@ -1,7 +1,7 @@
 //! The heads of files.
 ghost use Rattle.std.specs.Prelude.{◌≡◌, ◌≤◌, ◌^◌, ◌<◌, true, List, length, nat_le, Option, Some, IfOk, IfSome, IsTrue, ◌↔◌};
 ghost use Rattle.std.specs.List.{list_all};
-ghost use Rattle.jn_base.specs.Limits.{most_blocks};
+ghost use Rattle.jn_base.specs.Limits.{head_blocks};
 ghost use Rattle.jn_records.specs.declared.head.Head.{Head};
 ghost use Rattle.jn_records.specs.declared.head.Head.TheVariants.{Used};
 ghost use Rattle.jn_records.specs.Heads.{head_page, has_page, within, IsHead, FileFits, used_at, head_at};
@@ -9,7 +9,7 @@ ghost use Rattle.jn_records.specs.Heads.{head_page, has_page, within, IsHead, Fi
 use crate::field::{same_page, u8_at, u32_at};
 use crate::list::{ListOf, list_at};
 use byteorder::{BigEndian, ByteOrder};
-use jn_base::{FileNo, Page, PageWriter};
+use jn_base::{FileNo, HEAD_BLOCKS, Page, PageWriter};
 use std::alloc::{AllocError, Global};
 
 /// The first byte of a head that no file has: its page is zeros.
@@ -17,9 +17,6 @@ const FREE: u8 = 0;
 
 /// The first byte of a file's head.
 const USED: u8 = 1;
-
-/// How many blocks a file may have: a head has an address for each.
-pub const BLOCKS: u8 = 120;
 
 /// A head: which file has it, and where the file's blocks are.
 #[derive(Drop)]
@@ -61,13 +58,13 @@ impl Head {
         self.has_page() && self.within(leaves) && same_page(&self.encode(), page)
     }
 
-    /// Whether the head has a page: a used one has 120 addresses.
+    /// Whether the head has a page: a used one has `HEAD_BLOCKS` addresses.
     pub fn has_page(&self) -> bool
         ensures { result ≡ has_page self.now }
     {
         match self {
             Head::Free => true,
-            Head::Used { addresses, .. } => addresses.as_slice().len() == BLOCKS as usize,
+            Head::Used { addresses, .. } => addresses.as_slice().len() == HEAD_BLOCKS,
         }
     }
 
@@ -102,7 +99,7 @@ fn all_within(addresses: &[u16], leaves: u16) -> bool
 /// The page of a file's head with these addresses. It takes no memory.
 #[tactic(auto, unfolding(crate::specs::Heads::head_page))]
 pub fn used_page(file: FileNo, addresses: &[u16]) -> Page
-    requires { length addresses.now ≡ most_blocks }
+    requires { length addresses.now ≡ head_blocks }
     ensures { result ≡ head_page (Used file addresses.now) }
 {
     let mut bytes = [0; 240];
@@ -121,7 +118,7 @@ fn used_at(alloc: Global, bytes: &[u8]) -> Result<Option<Head>, AllocError>
     let Some((file, rest)) = u32_at(bytes) else {
         return Ok(None);
     };
-    let Some((addresses, _)) = list_at(alloc, BLOCKS, rest)? else {
+    let Some((addresses, _)) = list_at(alloc, HEAD_BLOCKS as u8, rest)? else {
         return Ok(None);
     };
     Ok(Some(Head::Used {

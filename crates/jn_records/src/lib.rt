@@ -11,7 +11,7 @@
 //! | intention | kind 1, the work's and the transaction's name, its place in the work (1), 1 fresh, 2 gone, 3 cut or 4 put (1), the file (4), the block (2), the put's data page as its index and 1 (2) |
 //! | ready, going work | kind 2, 3, the work's and the transaction's name, the client (1), how many intentions and read units (1 each), of each unit its file (4) and block (2; 65,535 for the file itself), ascending |
 //! | flag | kind 4, the transaction's name, the client (1), the request that ended it (4), how many works (1) and their names |
-//! | head | kind 1, the file (4), of 120 blocks the data page as its index and 1, or 0 for none (2 each) |
+//! | head | kind 1, the file (4), of `HEAD_BLOCKS` blocks the data page as its index and 1, or 0 for none (2 each) |
 //!
 //! A page that isn't exactly the page of a value is no page of the format. So each decoder reads the
 //! fields and then compares the page with the value's own; `no_page_is_two_values` is the law behind it.
@@ -36,7 +36,7 @@ mod work;
 
 pub use distinct::no_page_is_two_values;
 pub use flag::Flag;
-pub use head::{BLOCKS, Head, used_page};
+pub use head::{Head, used_page};
 pub use intention::{Intention, StoredIntention, What};
 pub use list::ListOf;
 pub use net_laws::{
@@ -46,6 +46,6 @@ pub use net_laws::{
 };
 pub use net_list::{Need, NetList, Seen, needs_head, puts_in};
 pub use record::{READS, Record, WORKS};
-pub use root::Root;
+pub use root::{FORMAT_VERSION, Root};
 pub use sound_laws::a_malformed_page_is_no_second_head;
 pub use work::{WorkHead, WorkState};

@@ -1,5 +1,5 @@
 //! The root of a server's pages.
-ghost use Rattle.std.specs.Prelude.{◌≡◌, Some, IfSome};
+ghost use Rattle.std.specs.Prelude.{◌≡◌, ◌↔◌, Some, IfSome, IsTrue};
 ghost use Rattle.jn_records.specs.declared.root.Root.{Root};
 ghost use Rattle.jn_records.specs.Pages.{root_page, IsRoot};
 ghost use Rattle.jn_records.specs.Reading.{Gives, root_at};
@@ -10,12 +10,14 @@ use jn_base::{Page, PageWriter, ServerNo};
 /// The name of the format, at the front of the root.
 const NAME: [u8; 4] = *b"JUN1";
 
-/// The version of the format.
-const VERSION: u8 = 1;
+/// The version of the format: no other is read.
+pub const FORMAT_VERSION: u8 = 1;
 
 /// The root: whose pages these are, how many there are of each kind, and the epoch.
 #[derive(Clone, Copy, Debug, PartialEq, Eq)]
 pub struct Root {
+    /// The version of the format: 1.
+    pub version: u8,
     pub server: ServerNo,
     /// Pages of the pool of records.
     pub pool: u16,
@@ -35,7 +37,7 @@ impl Root {
     {
         let mut page = PageWriter::new();
         page.put_bytes(&NAME);
-        page.put_u8(VERSION);
+        page.put_u8(self.version);
         page.put_u8(self.server.0);
         page.put_u16(self.pool);
         page.put_u16(self.heads);
@@ -44,17 +46,20 @@ impl Root {
         page.finish()
     }
 
-    /// The root whose page this is, where there is one.
+    /// The root whose page this is, where there is one, and its version is the format's.
     pub fn decode(page: &Page) -> Option<Self>
-        ensures found { IfSome result (λ root. page.now ≡ root_page root) }
+        ensures found { IfSome result (λ root. IsRoot root × (page.now ≡ root_page root)) }
         ensures only { (root : Root) → IsRoot root → page.now ≡ root_page root → result ≡ Some root }
     {
         let (root, _) = root_at(page)?;
-        if same_page(&root.encode(), page) {
-            Some(root)
-        } else {
-            None
-        }
+        if root.is_of(page) { Some(root) } else { None }
+    }
+
+    /// Whether this is the root's page, and its version is the format's.
+    fn is_of(self, page: &Page) -> bool
+        ensures { IsTrue result ↔ (IsRoot self × (page.now ≡ root_page self)) }
+    {
+        self.version == FORMAT_VERSION && same_page(&self.encode(), page)
     }
 }
 
@@ -62,13 +67,15 @@ impl Root {
 fn root_at(page: &[u8]) -> Option<(Root, &[u8])>
     ensures { Gives (λ r. (r.0, r.1.now)) result (root_at page.now) }
 {
-    let (_begin, rest) = bytes_at(page, 5)?;
+    let (_name, rest) = bytes_at(page, 4)?;
+    let (version, rest) = u8_at(rest)?;
     let (server, rest) = u8_at(rest)?;
     let (pool, rest) = u16_at(rest)?;
     let (heads, rest) = u16_at(rest)?;
     let (leaves, rest) = u16_at(rest)?;
     let (epoch, rest) = u32_at(rest)?;
     let root = Root {
+        version,
         server: ServerNo(server),
         pool,
         heads,

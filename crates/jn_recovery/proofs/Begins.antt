@@ -21,7 +21,7 @@ module _ (server : ServerNo) (g : Counts) (v : StoreView) (o : Opened) (u : Stor
 
     step : IsPutStep server g u (RootPut (o.root.epoch + 1)) ok x
     step = record {
-      page = let fits = at.stands.standing.held.root_fits in record { server = fits.server; pool = fits.pool; heads = fits.heads; leaves = fits.leaves; epoch = let last = at.last in omega (arith, last) };
+      page = let fits = at.stands.standing.held.root_fits in record { version = fits.version; server = fits.server; pool = fits.pool; heads = fits.heads; leaves = fits.leaves; epoch = let last = at.last in omega (arith, last) };
       step = subst (λ (r : Root). StorePut u 0 (root_page r) ok x) next_is put;
     }
 

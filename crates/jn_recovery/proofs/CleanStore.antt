@@ -1,6 +1,6 @@
 -- What stands on a store of which root, records and heads are clean.
 use Rattle.jn_recovery.proofs.Common.{◌≡◌, ⊎_elim, ◌<◌, ◌+◌, ℕ, zero, suc, true, false, if◌then◌else◌, List, [], length, get_or, refl, sym, ◌∙◌, ap, subst, arith, cases_lt, nat_tests, get_or_past, nat_lt, BlockNo, FileNo, ServerNo, address_of, head_in, IsHeadOf, AreHeads, IsLoadable, is_head_of, IsHeadStored, held_contents, found_on, pages_by, root_by, epoch_by, listed, head_on, head_or_free, heads_on, IsOfFormat, IsRecoverable, IsConsistent, IsStanding, Head, FreeHead, Used, Record, head_page, root_page, IsRoot, Counts, page_count, slot_place, head_place, root_is_read, slot_page, HoldsRecords, IsReadable, IsRecordPage, StoreView, IsClean, IsOnly, front_count}
-use Rattle.jn_found.proofs.PageChanges.{length-listed}
+use Rattle.jn_page_state.proofs.PageChanges.{length-listed}
 use Rattle.jn_records.proofs.Heads.{head_is_read}
 use Rattle.jn_recovery.proofs.Bridge.{same_test, same_address}
 use Rattle.jn_recovery.proofs.Standing.{consistent, holds}

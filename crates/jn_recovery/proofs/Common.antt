@@ -2,13 +2,13 @@
 pub use Rattle.std.proofs.Common.{◌≡◌, ◌⊎◌, inl, inr, ⊎_elim, ◌<◌, ◌≤◌, ◌+◌, ◌*◌, ℕ, suc, Bool, true, false, List, [], refl, sym, ◌∙◌, ap, subst, true≢false, arith, zero, if◌then◌else◌, ◌∷◌, Option, Some, None, ◌≢◌, length, get_or, ◌^◌, not, ◌||◌, map, ◌++◌, length-append, ◌-◌, rules}
 pub use Rattle.std.proofs.lemmas.Bool.{cases_eq, cases_lt}
 pub use Rattle.jn_base.specs.declared.names.ServerNo.{ServerNo}
-pub use Rattle.jn_files.specs.Table.{TableView, is_of, addresses_of, address_of, addresses, or_nil, exists, is_mapped, head_in, IsHeadOf, AreHeads, IsTable, file_of_head, is_held, is_touched, IsUnnamed}
+pub use Rattle.jn_files.specs.Table.{TableView, is_of, addresses_of, address_of, addresses, or_nil, exists, is_mapped, head_in, IsHeadOf, AreHeads, IsTable, is_held, is_touched, IsUnnamed}
 pub use Rattle.jn_files.specs.Calls.{IsLoaded as IsTableLoaded, with_held, StoreRead as TableRead}
-pub use Rattle.jn_found.specs.Pages.{found_on, pages_by, epoch_by, listed, head_on, head_or_free, heads_on, IsOfFormat, block_on, half_of}
+pub use Rattle.jn_page_state.specs.Pages.{found_on, pages_by, epoch_by, listed, head_on, head_or_free, heads_on, IsOfFormat, block_on, half_of}
 pub use Rattle.jn_records.specs.StablePages.{root_by, Counts, data_place, page_count, slot_place, head_place, counts_of}
-pub use Rattle.jn_found.specs.Puts.{RootPut, IsFewer, RecordPut}
-pub use Rattle.jn_found.specs.Standing.{IsPutStep, MakesEpoch, standing_state, IsStanding, MakesNothing, Makes}
-pub use Rattle.jn_found.proofs.CallLaws.{counts_on, idles, flags as flags_put, drops}
+pub use Rattle.jn_page_state.specs.Puts.{RootPut, IsFewer, RecordPut}
+pub use Rattle.jn_page_state.specs.Standing.{IsPutStep, MakesEpoch, standing_state, IsStanding, MakesNothing, Makes}
+pub use Rattle.jn_page_state.proofs.CallLaws.{counts_on, idles, flags as flags_put, drops}
 pub use Rattle.jn_records.specs.declared.head.Head.{Head}
 pub use Rattle.jn_records.specs.declared.record.Record.{Record}
 pub use Rattle.jn_records.specs.declared.root.Root.{Root}
@@ -19,7 +19,7 @@ pub use Rattle.jn_store.proofs.Laws.{later_trans, same_trans, only_clean, stop_s
 pub use Rattle.jn_recovery.specs.Loading.{IsSameOrNext, IsDown, front_count, reading_calls, KeepsDataPages, Recovering, IsUsedUp, IsNotUsedUp, IsLoaded, IsUntouched}
 pub use Rattle.jn_recovery.specs.Counts.{most_calls, counts_by}
 pub use Rattle.jn_recovery.specs.Memory.{rubbish_in, Memory, accounts_of, held_in, next_in, next_by, stored_by, holds_page, rubbish_of, view_of}
-pub use Rattle.jn_recovery.specs.Opening.{next_root, Stands, IsOpened, ErasesAll, EraseStopped, IsBegun, Erases, IsRead, RootRead}
+pub use Rattle.jn_recovery.specs.Opening.{next_root, Stands, IsOpened, ErasesAll, EraseStopped, IsBegun, Erases, RootRead}
 pub use Rattle.jn_recovery.specs.declared.load.DownCause.TheVariants.{Stopped, EpochsUsedUp, Memory as NoMemory}
 pub use Rattle.jn_recovery.specs.declared.opening.Opened.{Opened}
 pub use Rattle.std.proofs.lemmas.Bool.Decides.{nat_tests}
@@ -28,13 +28,13 @@ pub use Rattle.std.specs.List.{find, list_any, list_all, position_or_len, AllByR
 pub use Rattle.jn_base.specs.declared.names.BlockNo.{BlockNo}
 pub use Rattle.jn_base.specs.declared.names.FileNo.{FileNo}
 pub use Rattle.jn_records.specs.declared.head.Head.TheVariants.{Free as FreeHead, Used}
-pub use Rattle.jn_found.specs.Contents.{is_head_of, address_at, behind, block_in, Contents, state_in, files_in, with_first, intended, stored_list, intentions_from, intention_of, heads_name, stored_in, holds_address, flag_by, flags_in, works_name, prepared_by, has_address, works_in}
-pub use Rattle.jn_found.proofs.HeldLaws.{cleaned_fewer, fewer_trans, contents_held, front_held}
+pub use Rattle.jn_page_state.specs.Contents.{is_head_of, address_at, behind, block_in, Contents, state_in, files_in, with_first, intended, stored_list, intentions_from, intention_of, heads_name, stored_in, holds_address, flag_by, flags_in, works_name, prepared_by, has_address, works_in}
+pub use Rattle.jn_page_state.proofs.HeldLaws.{cleaned_fewer, fewer_trans, contents_held, front_held}
 pub use Rattle.jn_recovery.specs.Cleaning.{Cleans}
 pub use Rattle.std.proofs.lemmas.List.{get_or_past, get_or-set_same, get_or-set_other, length-set, length-map}
 pub use Rattle.jn_files.specs.Pages.{IsLoadable, HoldsHeads, leaves_in}
-pub use Rattle.jn_found.specs.Held.{IsHeadStored, held_contents}
-pub use Rattle.jn_found.specs.Recoverable.{IsRecoverable, IsConsistent, Intends, PassesOnce, HasIntentions, IsCompleteBy, is_named}
+pub use Rattle.jn_page_state.specs.Held.{IsHeadStored, held_contents}
+pub use Rattle.jn_page_state.specs.Recoverable.{IsRecoverable, IsConsistent, Intends, PassesOnce, HasIntentions, IsCompleteBy, is_named}
 pub use Rattle.jn_records.specs.Heads.{head_page}
 pub use Rattle.jn_records.proofs.Roots.{root_is_read}
 pub use Rattle.jn_sets.specs.Pool.{slot_page, HoldsRecords, IsReadable, IsRecordPage, record_in, is_prepared, is_intention, is_rubbish, is_free, is_flag, IsRecord, free_count}
@@ -61,16 +61,16 @@ pub use Rattle.jn_recovery.specs.Matches.{stored_work, Matches, IsKeptMemory, Fl
 pub use Rattle.jn_recovery.specs.Pages.{heads_needed}
 pub use Rattle.std.proofs.lemmas.List.Folds.{find_at, find_past}
 pub use Rattle.std.proofs.lemmas.Option.{slice_get_within, get_or_from_slice_get, slice_get_past, slice_get-get_or}
-pub use Rattle.jn_found.proofs.Found.{none_found, found_passes, any_same, found_written, none_at, none_passes, found_once, found_any}
-pub use Rattle.jn_found.proofs.Slots.{at_set, passes_at, passes_any}
-pub use Rattle.jn_found.proofs.Picking.{fewer_picked, fewer_recoverable, same_recoverable}
-pub use Rattle.jn_found.specs.Changes.{IsIdlePut, IsFlagSlot, IsFlagPut}
+pub use Rattle.jn_page_state.proofs.Found.{none_found, found_passes, any_same, found_written, none_at, none_passes, found_once, found_any}
+pub use Rattle.jn_page_state.proofs.Slots.{at_set, passes_at, passes_any}
+pub use Rattle.jn_page_state.proofs.Picking.{fewer_picked, fewer_recoverable, same_recoverable}
+pub use Rattle.jn_page_state.specs.Changes.{IsIdlePut, IsFlagSlot, IsFlagPut}
 pub use Rattle.jn_sets.specs.Sets.{Puts, StoreRead as SetsRead}
 pub use Rattle.jn_records.specs.declared.flag.Flag.{Flag}
 pub use Rattle.jn_storage.proofs.Finds.{find-kept, find-add, find-at, find-listed, keys-kept, different-kept, different-add, map-add}
 pub use Rattle.jn_storage.proofs.Kept.{orderly-put, orderly-dropped, orderly-marked, orderly-removed}
 pub use Rattle.jn_files.proofs.Putting.{same_only, files_said, same_leaves, says_choice, files_first, named_below}
-pub use Rattle.jn_recovery.specs.Causes.{of_sets, of_table}
+pub use Rattle.jn_recovery.specs.Causes.{down_of}
 pub use Rattle.std.proofs.Math.Path.{fun_ext}
-pub use Rattle.jn_found.proofs.FilesOnPages.{state_on_pages}
+pub use Rattle.jn_page_state.proofs.FilesOnPages.{state_on_pages}
 pub use Rattle.jn_base.specs.declared.names.LockUnit.TheVariants.{File, Block}

@@ -1,5 +1,6 @@
 -- Everything is counted: of what a recovery finds, and of what it keeps in memory.
-use Rattle.jn_recovery.proofs.Common.{◌≡◌, inl, inr, ◌⊎◌, ⊎_elim, ◌<◌, ◌≤◌, ◌^◌, ℕ, zero, suc, Bool, true, false, not, ◌||◌, ◌&&◌, if◌then◌else◌, List, [], ◌∷◌, length, map, Option, Some, None, refl, sym, ◌∙◌, ap, subst, true≢false, arith, cases_lt, nat_tests, get_or_past, sum_by-cons, All, nat_eq, nat_lt, count_by, option_map, find, list_any, list_all, ServerNo, Tid, WorkId, file_eq, work_eq, file_tells, work_tells, TableView, IsTable, file_of_head, is_held, Contents, state_in, files_in, with_first, intended, stored_list, intentions_from, intention_of, heads_name, IsConsistent, Intends, PassesOnce, FullIntention, StoredIntention, Record, Free, Intention, Ready, Going, FlagRecord, WorkState, intention_has_page, needs_a_head, is_put, is_put_intention, has_page, RecordFits, Counts, record_in, is_prepared, name_of, find_by, total, is_in, are_different, IsCounted, file_there, needed, list_of, intentions, Tells, but, is_in-but, different-but, total-but, collected, state_on, works_on, IsFew, address_in, names_page, all_needed, stored_work, Memory, accounts_of, held_in, next_in, next_by, stored_by, holds_page, rubbish_in, heads_needed}
+use Rattle.jn_recovery.proofs.Common.{◌≡◌, inl, inr, ◌⊎◌, ⊎_elim, ◌<◌, ◌≤◌, ◌^◌, ℕ, zero, suc, Bool, true, false, not, ◌||◌, ◌&&◌, if◌then◌else◌, List, [], ◌∷◌, length, map, Option, Some, None, refl, sym, ◌∙◌, ap, subst, true≢false, arith, cases_lt, nat_tests, get_or_past, sum_by-cons, All, nat_eq, nat_lt, count_by, option_map, find, list_any, list_all, ServerNo, Tid, WorkId, file_eq, work_eq, file_tells, work_tells, TableView, IsTable, is_held, Contents, state_in, files_in, with_first, intended, stored_list, intentions_from, intention_of, heads_name, IsConsistent, Intends, PassesOnce, FullIntention, StoredIntention, Record, Free, Intention, Ready, Going, FlagRecord, WorkState, intention_has_page, needs_a_head, is_put, is_put_intention, has_page, RecordFits, Counts, record_in, is_prepared, name_of, find_by, total, is_in, are_different, IsCounted, file_there, needed, list_of, intentions, Tells, but, is_in-but, different-but, total-but, collected, state_on, works_on, IsFew, address_in, names_page, all_needed, stored_work, Memory, accounts_of, held_in, next_in, next_by, stored_by, holds_page, rubbish_in, heads_needed}
+use Rattle.jn_recovery.proofs.TableCounted.{file_of_head, files_listed, heads_counted, all_units, blocks_listed, pages_counted}
 use Rattle.std.proofs.lemmas.List.Elements.{All-nil, All-cons}
 use Rattle.jn_alloc.specs.Free.{free_count}
 use Rattle.jn_records.specs.declared.intention.What.{What}
@@ -8,7 +9,6 @@ use Rattle.jn_recovery.proofs.Counting.{one, is_of_work}
 use Rattle.jn_recovery.proofs.Keys.{on_key, keys_total, keys_same}
 use Rattle.jn_recovery.proofs.PoolCounted.{named, flagged, on_intention, counts_listed, works_match, prepared_for, IsPreparedAt, prepared_at, works_listed, flags_listed, tested_intentions, records_counted}
 use Rattle.jn_recovery.proofs.HeadsNeeded.{heads_are}
-use Rattle.jn_recovery.proofs.TableCounted.{files_listed, heads_counted, all_units, blocks_listed, pages_counted}
 use Rattle.jn_recovery.proofs.Telling.{prepared_of, works_by, stored_pages}
 use Rattle.jn_recovery.proofs.Totals.{total_same, total_ones}
 use Rattle.jn_recovery.proofs.Bridge.{same_there}

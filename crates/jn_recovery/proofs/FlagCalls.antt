@@ -298,9 +298,6 @@ module _ (m : Memory) (v : StoreView) (kept : IsKeptMemory m v) (serving : IsSer
   with_promises_still : (n : ℕ) → n ≤ free_count m.records → IsServing (view_of (record m { promised = n }) v)
   with_promises_still n fits = serving_by (record m { promised = n }) v (state (view_of m v)) serving.up serving.power (serves_promised (state (view_of m v)) (accounts_of m) n (serves_of m v serving) fits)
 
-  pub promised_kept : (n : ℕ) → IsKeptMemory (record m { promised = n }) v
-  promised_kept n power = let now = kept power in record { standing = now.standing; table = now.table; works = now.works; made = now.made; flags = now.flags; held = now.held }
-
   pub promises : (n : ℕ) → n ≡ m.promised + 1 → m.promised < free_count m.records → FlagPromised {A = Unit {0}} (view_of m v) (Ok tt) (view_of (record m { promised = n }) v)
   promises n e fits = record {
     enough = λ _. fits;

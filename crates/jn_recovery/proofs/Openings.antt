@@ -1,14 +1,22 @@
 -- A store is cleaned and read.
-use Rattle.jn_recovery.proofs.Common.{◌≡◌, ◌≢◌, inr, ◌<◌, ◌≤◌, ◌+◌, ◌*◌, ℕ, Bool, true, false, if◌then◌else◌, List, [], length, Result, Ok, Err, refl, sym, ◌∙◌, ap, subst, true≢false, arith, nat_tests, nat_lt, ServerNo, TableView, IsTableLoaded, TableRead, IsLoadable, same_only, root_page, IsRoot, IsReadable, HoldsRecords, SetsRead, found_on, root_by, epoch_by, heads_on, half_of, pages_by, IsFewer, IsRecoverable, IsStanding, fewer_trans, fewer_picked, fewer_recoverable, Head, Record, Root, counts_of, Counts, data_place, root_is_read, StableState, Pick, StoreView, StoreLater, IsSamePage, IsCalm, IsStop, IsServed, IsOnly, later_trans, same_shrinks, same_trans, stop_since, of_sets, of_table, Recovering, IsDown, IsNotUsedUp, front_count, reading_calls, most_calls, IsRead, Stands, RootRead, IsOpened, Cleans, Opened, Stopped, EpochsUsedUp}
-use Rattle.jn_files.specs.declared.fault.LoadFault.{LoadFault as TableFault}
-use Rattle.jn_files.specs.declared.fault.LoadFault.TheVariants.{Stopped as TableStopped, Memory as TableMemory}
-use Rattle.jn_sets.specs.declared.fault.LoadFault.{LoadFault as SetsFault}
-use Rattle.jn_sets.specs.declared.fault.LoadFault.TheVariants.{Stopped as SetsStopped, Memory as SetsMemory}
+use Rattle.jn_recovery.proofs.Common.{◌≡◌, ◌≢◌, inr, ◌<◌, ◌≤◌, ◌+◌, ◌*◌, ℕ, Bool, true, false, if◌then◌else◌, List, [], length, Result, Ok, Err, refl, sym, ◌∙◌, ap, subst, true≢false, arith, nat_tests, nat_lt, ServerNo, TableView, IsTableLoaded, TableRead, IsLoadable, same_only, root_page, IsRoot, IsReadable, HoldsRecords, SetsRead, found_on, root_by, epoch_by, heads_on, half_of, pages_by, IsFewer, IsRecoverable, IsStanding, fewer_trans, fewer_picked, fewer_recoverable, Head, Record, Root, counts_of, Counts, data_place, root_is_read, StableState, Pick, StoreView, StoreLater, IsSamePage, IsCalm, IsStop, IsServed, IsOnly, later_trans, same_shrinks, same_trans, stop_since, down_of, Recovering, IsDown, IsNotUsedUp, front_count, reading_calls, most_calls, Stands, RootRead, IsOpened, Cleans, Opened, Stopped, EpochsUsedUp, IsClean, IsWholePage, KeepsDataPages}
+use Rattle.jn_base.specs.declared.fault.CallFault.{CallFault}
+use Rattle.jn_base.specs.declared.fault.CallFault.TheVariants as faults
 use Rattle.jn_recovery.specs.declared.load.DownCause.{DownCause}
 use Rattle.jn_recovery.specs.declared.load.DownCause.TheVariants.{Memory}
 use Rattle.jn_recovery.proofs.CleanStore.{root_epoch, root_is, root_only, root_found, slots_readable, standing, loadable}
 use Rattle.jn_recovery.proofs.Downs.{recovering_fewer, stopped_down, memory_down, used_down}
 use Rattle.jn_recovery.proofs.Standing.{up, finds, standing_same}
+
+-- root, records and heads were cleaned, and pages were read
+pub record IsRead (server : ServerNo) (g : Counts) (v : StoreView) (most : ℕ) (w : StoreView) : Type 0 where
+  pub later : StoreLater v w
+  pub calls : w.calls ≤ v.calls + most
+  pub fewer : IsFewer v w
+  pub recoverable : IsRecoverable server g w
+  pub clean : (i : ℕ) → i < front_count g → IsClean w i
+  pub whole : IsCalm v → (i : ℕ) → i < front_count g → IsWholePage w i
+  pub data_pages : KeepsDataPages g v w
 
 module _ (server : ServerNo) (g : Counts) (v : StoreView) where
   pub reads_none : (u : StoreView) → IsRecoverable server g v → Cleans v 0 (front_count g) u → IsRead server g v (16 * front_count g) u
@@ -70,13 +78,9 @@ module _ (server : ServerNo) (g : Counts) (v : StoreView) where
       root_down Memory read stop calm served = absurd read
       root_down EpochsUsedUp read stop calm served = used_down server g v w recovering (record { read = root_pick.0; last = root_pick.1 ∙ read; fewer = (reads_more k w later calls same).fewer; all = λ c. root_by_each w later same c ∙ read; power = served refl })
 
-      sets_down : IsNotUsedUp g v → (fault : SetsFault) → (fault ≡ SetsStopped → IsStop u w) → (IsCalm u → fault ≡ SetsStopped → ⊥) → IsDown server g v (of_sets fault) w
-      sets_down left SetsStopped stop calm = stop_down (stop refl) (λ quiet. calm quiet refl)
-      sets_down left SetsMemory stop calm = memory_down server g v w recovering left
-
-      table_down : IsNotUsedUp g v → (fault : TableFault) → (fault ≡ TableStopped → IsStop u w) → (IsCalm u → fault ≡ TableStopped → ⊥) → IsDown server g v (of_table fault) w
-      table_down left TableStopped stop calm = stop_down (stop refl) (λ quiet. calm quiet refl)
-      table_down left TableMemory stop calm = memory_down server g v w recovering left
+      load_down : IsNotUsedUp g v → (fault : CallFault) → (fault ≡ faults.Stopped → IsStop u w) → (IsCalm u → fault ≡ faults.Stopped → ⊥) → IsDown server g v (down_of fault) w
+      load_down left faults.Stopped stop calm = stop_down (stop refl) (λ quiet. calm quiet refl)
+      load_down left faults.Memory stop calm = memory_down server g v w recovering left
 
     -- where root, records and heads are known
     module _ (epoch : ℕ) (records : List Record) (heads : List Head) (standing : IsStanding server g u epoch records heads) where
@@ -144,8 +148,8 @@ module _ (server : ServerNo) (g : Counts) (v : StoreView) (before : IsRecoverabl
     readable slot lt = slots_readable server g x with_root.recoverable with_root.clean slot (subst (λ n. slot < n) pool_is lt)
 
     module _ (y : StoreView) (more : SetsRead x o.pool y) where
-      pub sets_exit : (fault : SetsFault) → (fault ≡ SetsStopped → IsStop x y) → (IsCalm x → fault ≡ SetsStopped → ⊥) → IsDown server g v (of_sets fault) y
-      sets_exit fault stop calm = sets_down server g v (16 * front_count g + 8 * 1) x with_root (8 * o.pool) y more.later more.calls more.same (let e = pool_is in omega (arith, e)) before left fault stop calm
+      pub sets_exit : (fault : CallFault) → (fault ≡ faults.Stopped → IsStop x y) → (IsCalm x → fault ≡ faults.Stopped → ⊥) → IsDown server g v (down_of fault) y
+      sets_exit fault stop calm = load_down server g v (16 * front_count g + 8 * 1) x with_root (8 * o.pool) y more.later more.calls more.same (let e = pool_is in omega (arith, e)) before left fault stop calm
 
       with_pool : IsRead server g v (16 * front_count g + 8 * 1 + 8 * o.pool) y
       with_pool = reads_more server g v (16 * front_count g + 8 * 1) x with_root (8 * o.pool) y more.later more.calls more.same
@@ -165,8 +169,8 @@ module _ (server : ServerNo) (g : Counts) (v : StoreView) (before : IsRecoverabl
           few : 16 * front_count g + 8 * 1 + 8 * o.pool + 8 * o.heads ≤ most_calls g
           few = let e = pool_is in let f = heads_is in omega (arith, e, f)
 
-          pub table_exit : (fault : TableFault) → (fault ≡ TableStopped → IsStop y z) → (IsCalm y → fault ≡ TableStopped → ⊥) → IsDown server g v (of_table fault) z
-          table_exit fault stop calm = table_down server g v (16 * front_count g + 8 * 1 + 8 * o.pool) y with_pool (8 * o.heads) z last.later last.calls last.same few before left fault stop calm
+          pub table_exit : (fault : CallFault) → (fault ≡ faults.Stopped → IsStop y z) → (IsCalm y → fault ≡ faults.Stopped → ⊥) → IsDown server g v (down_of fault) z
+          table_exit fault stop calm = load_down server g v (16 * front_count g + 8 * 1 + 8 * o.pool) y with_pool (8 * o.heads) z last.later last.calls last.same few before left fault stop calm
 
           with_heads : IsRead server g v (reading_calls g) z
           with_heads = subst (λ n. IsRead server g v n z) (let e = pool_is in let f = heads_is in omega (arith, e, f))

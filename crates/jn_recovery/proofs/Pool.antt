@@ -1,6 +1,6 @@
 -- One record of the pool gives way to another.
 use Rattle.jn_recovery.proofs.Common.{◌≡◌, ◌<◌, ◌+◌, ℕ, zero, suc, Bool, true, false, if◌then◌else◌, List, [], ◌∷◌, ◌++◌, length, Option, Some, None, get_or, refl, sym, ◌∙◌, ap, subst, true≢false, arith, fun_ext, nat_tests, find_at, find_past, passes_at_first, sum_by-set, slice_get_past, slice_get-get_or, nat_eq, ◌&&◌, nat_lt, position, slice_set, option_and_then, position_or_len, find, list_any, ServerNo, Tid, WorkId, holds_address, works_name, stored_list, RecordPut, IsPutStep, IsIdlePut, any_same, none_passes, Flag, Record, Free, Intention, Ready, Going, FlagRecord, WorkState, record_page, Counts, IsRecord, record_in, slot_page, is_free, free_count, is_prepared, is_intention, is_flag, StoreView, StorePut, rubbish_of, rubbish_in, WorksMatch, FlagsMatch, work_by, flag_on}
-use Rattle.jn_found.proofs.PoolLemmas.{intentions_kept, idle_kept, idle_list}
+use Rattle.jn_page_state.proofs.PoolLemmas.{intentions_kept, idle_kept, idle_list}
 
 -- ---- the first that passes
 

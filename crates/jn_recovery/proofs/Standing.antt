@@ -1,10 +1,10 @@
 -- What is found on a store that stands, and what it holds in the words of the table of files.
 use Rattle.jn_recovery.proofs.Common.{◌≡◌, ◌<◌, ◌||◌, ℕ, suc, true, false, if◌then◌else◌, List, [], refl, sym, ◌∙◌, ap, subst, get_or, arith, nat_tests, is_some, drop, nat_lt, nat_eq, BlockNo, FileNo, File, Block, ServerNo, exists, is_mapped, address_of, AreHeads, HoldsHeads, leaves_in, files_said, same_leaves, says_choice, files_first, named_below, same_only, state_in, has_address, heads_name, works_name, held_contents, found_on, pages_by, block_on, is_named, IsConsistent, IsStanding, state_on_pages, contents_held, front_held, same_recoverable, passes_any, Head, FreeHead, Used, Record, head_page, record_page, Counts, page_count, head_place, data_place, Pick, IsUp, stable, slot_page, record_in, file_there, StoreView, HasSamePages}
 use Rattle.jn_files.specs.Pages.{files_in}
-use Rattle.jn_found.specs.Contents.{head_in}
-use Rattle.jn_found.specs.Puts.{IsReadable}
-use Rattle.jn_found.proofs.Choosing.{pick_chooses}
-use Rattle.jn_found.proofs.CleanPages.{one_state}
+use Rattle.jn_page_state.specs.Contents.{head_in}
+use Rattle.jn_page_state.specs.Puts.{IsReadable}
+use Rattle.jn_page_state.proofs.Choosing.{pick_chooses}
+use Rattle.jn_page_state.proofs.CleanPages.{one_state}
 use Rattle.jn_recovery.proofs.Bridge.{same_there, same_mapped}
 
 -- a data page that a head has at a block is named by the heads

@@ -1,5 +1,5 @@
 -- What is counted of the heads and the data pages.
-use Rattle.jn_recovery.proofs.Common.{◌≡◌, ◌<◌, ◌≤◌, ◌+◌, ℕ, zero, suc, Bool, true, false, not, ◌||◌, ◌&&◌, if◌then◌else◌, List, [], ◌∷◌, ◌++◌, length, get_or, Option, Some, None, refl, sym, ◌∙◌, ap, true≢false, arith, nat_tests, sum_by-cons, nat_eq, nat_lt, is_some, count_by, slice_index, slice_index_or, list_any, BlockNo, FileNo, File, Block, file_eq, file_tells, TableView, IsTable, is_held, is_of, file_of_head, head_in, exists, is_mapped, address_of, addresses, addresses_of, or_nil, IsUnnamed, named_below, files_in, with_first, has_address, heads_name, PassesOnce, passes_at, Head, FreeHead, Used, Record, Free, Intention, Ready, Going, FlagRecord, record_in, total, is_in, are_different, IsListing, file_there, is_stored, collected, address_in, names_page, holds_page, unit_eq}
+use Rattle.jn_recovery.proofs.Common.{◌≡◌, ◌<◌, ◌≤◌, ◌+◌, ℕ, zero, suc, Bool, true, false, not, ◌||◌, ◌&&◌, if◌then◌else◌, List, [], ◌∷◌, ◌++◌, length, get_or, Option, Some, None, refl, sym, ◌∙◌, ap, true≢false, arith, nat_tests, sum_by-cons, nat_eq, nat_lt, is_some, count_by, slice_index, slice_index_or, list_any, BlockNo, FileNo, File, Block, file_eq, file_tells, TableView, IsTable, is_held, is_of, head_in, exists, is_mapped, address_of, addresses, addresses_of, or_nil, IsUnnamed, named_below, files_in, with_first, has_address, heads_name, PassesOnce, passes_at, Head, FreeHead, Used, Record, Free, Intention, Ready, Going, FlagRecord, record_in, total, is_in, are_different, IsListing, file_there, is_stored, collected, address_in, names_page, holds_page, unit_eq}
 use Rattle.std.proofs.lemmas.List.{length-append}
 use Rattle.jn_alloc.specs.Free.{free_count, is_free as is_free_number}
 use Rattle.jn_base.specs.declared.names.LockUnit.{LockUnit}
@@ -10,6 +10,11 @@ use Rattle.jn_recovery.proofs.Keys.{is_key, on_key, keys_length, keys_in, keys_d
 use Rattle.jn_recovery.proofs.PoolCounted.{on_intention}
 use Rattle.jn_recovery.proofs.Standing.{named_head}
 use Rattle.jn_recovery.proofs.Totals.{total_same, total_plus, total_ones, count_total, any_total, any_total_if, none_later, below, below_same, below_plus, below_ones, below_total, below_flags, below_address}
+
+-- the file that has a head
+abbrev pub file_of_head : Head → Option FileNo
+file_of_head FreeHead = None
+file_of_head (Used f xs) = Some f
 
 link_file : (f : FileNo) (h : Head) → is_of f h ≡ is_key file_eq f (file_of_head h)
 link_file f FreeHead = refl

@@ -1,6 +1,6 @@
 -- What cleaning a store's pages does.
 use Rattle.std.specs.Prelude.{◌≡◌, ◌⊎◌, ℕ, ◌+◌, ◌-◌, ◌*◌, ◌≤◌, ◌<◌, true}
-use Rattle.jn_found.specs.Puts.{IsFewer}
+use Rattle.jn_page_state.specs.Puts.{IsFewer}
 use Rattle.jn_store.specs.Store.{StoreView, StoreLater, IsCalm, IsClean, IsSamePage, IsWholePage}
 
 -- so many pages of a store are cleaned, from one on
@@ -16,7 +16,3 @@ pub record Cleans (v : StoreView) (from to : ℕ) (w : StoreView) : Type 0 where
   pub power : v.power ≡ true → w.power ≡ true
   -- the first cleanup is done only under power
   pub powered : from < to → w.power ≡ true
-
--- all of them
-abbrev pub CleansAll : StoreView → StoreView → Type 0
-CleansAll v w = Cleans v 0 v.count w

@@ -4,8 +4,8 @@ use Rattle.std.specs.List.{list_any}
 use Rattle.jn_alloc.specs.Free.{free_count}
 use Rattle.jn_files.specs.Table.{TableView, is_held}
 use Rattle.jn_files.specs.Calls.{with_promised_heads}
-use Rattle.jn_found.specs.Contents.{stored_list, with_first}
-use Rattle.jn_found.specs.Recoverable.{PassesOnce}
+use Rattle.jn_page_state.specs.Contents.{stored_list, with_first}
+use Rattle.jn_page_state.specs.Recoverable.{PassesOnce}
 use Rattle.jn_records.specs.declared.flag.Flag.{Flag}
 use Rattle.jn_records.specs.declared.head.Head.{Head}
 use Rattle.jn_records.specs.declared.record.Record.{Record}

@@ -3,10 +3,10 @@ use Rattle.std.specs.Prelude.{◌≡◌, ◌≢◌, ◌⊎◌, ◌≤◌, ◌<�
 use Rattle.jn_base.specs.declared.names.ServerNo.{ServerNo}
 use Rattle.jn_base.specs.declared.names.Tid.{Tid}
 use Rattle.jn_base.specs.declared.names.WorkId.{WorkId}
-use Rattle.jn_found.specs.Pages.{found_on}
-use Rattle.jn_found.specs.Puts.{IsFewer, IsFrontClean, IsFrontWhole}
-use Rattle.jn_found.specs.Recoverable.{IsRecoverable, NamedAreClean}
-use Rattle.jn_found.specs.Recovery.{FindsSame}
+use Rattle.jn_page_state.specs.Pages.{found_on}
+use Rattle.jn_page_state.specs.Puts.{IsFewer, IsFrontClean, IsFrontWhole}
+use Rattle.jn_page_state.specs.Recoverable.{IsRecoverable, NamedAreClean}
+use Rattle.jn_page_state.specs.Recovery.{FindsSame}
 use Rattle.jn_files.specs.Table.{TableView, is_touched}
 use Rattle.jn_records.specs.StablePages.{Counts, data_place}
 use Rattle.jn_rows.specs.Stable.{StableState, Pick}

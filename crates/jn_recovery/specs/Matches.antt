@@ -6,8 +6,8 @@ use Rattle.jn_base.specs.declared.names.Tid.{Tid}
 use Rattle.jn_base.specs.declared.names.WorkId.{WorkId}
 use Rattle.jn_base.specs.Names.{tid_eq, work_eq}
 use Rattle.jn_files.specs.Table.{IsTable, is_held, exists}
-use Rattle.jn_found.specs.Contents.{stored_list, works_name}
-use Rattle.jn_found.specs.Standing.{IsStanding}
+use Rattle.jn_page_state.specs.Contents.{stored_list, works_name}
+use Rattle.jn_page_state.specs.Standing.{IsStanding}
 use Rattle.jn_records.specs.declared.flag.Flag.{Flag}
 use Rattle.jn_records.specs.declared.head.Head.{Head}
 use Rattle.jn_records.specs.declared.intention.StoredIntention.{StoredIntention}

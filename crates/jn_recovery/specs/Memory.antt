@@ -6,8 +6,8 @@ use Rattle.jn_base.specs.declared.names.ServerNo.{ServerNo}
 use Rattle.jn_base.specs.declared.names.WorkId.{WorkId}
 use Rattle.jn_base.specs.Names.{work_eq}
 use Rattle.jn_files.specs.Table.{TableView}
-use Rattle.jn_found.specs.Contents.{heads_name}
-use Rattle.jn_found.specs.Pages.{found_on}
+use Rattle.jn_page_state.specs.Contents.{heads_name}
+use Rattle.jn_page_state.specs.Pages.{found_on}
 use Rattle.jn_records.specs.declared.flag.Flag.{Flag}
 use Rattle.jn_records.specs.declared.head.Head.{Head}
 use Rattle.jn_records.specs.declared.intention.StoredIntention.{StoredIntention}

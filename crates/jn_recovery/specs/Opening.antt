@@ -2,10 +2,9 @@
 use Rattle.std.specs.Prelude.{◌≡◌, ◌≤◌, ◌<◌, ◌+◌, ◌*◌, ℕ, true, List, [], Result, Ok, Err}
 use Rattle.jn_base.specs.declared.names.ServerNo.{ServerNo}
 use Rattle.jn_files.specs.Calls.{IsLoaded as IsTableLoaded}
-use Rattle.jn_found.specs.Pages.{found_on}
-use Rattle.jn_found.specs.Standing.{IsStanding, standing_state}
-use Rattle.jn_found.specs.Recoverable.{IsRecoverable}
-use Rattle.jn_found.specs.Puts.{IsFewer}
+use Rattle.jn_page_state.specs.Pages.{found_on}
+use Rattle.jn_page_state.specs.Standing.{IsStanding, standing_state}
+use Rattle.jn_page_state.specs.Recoverable.{IsRecoverable}
 use Rattle.jn_records.specs.declared.head.Head.{Head}
 use Rattle.jn_records.specs.declared.record.Record.{Record}
 use Rattle.jn_records.specs.declared.root.Root.{Root}
@@ -32,16 +31,6 @@ abbrev pub next_root : Root → Root
 next_root r = record r { epoch = r.epoch + 1 }
 
 -- ---- the store
-
--- root, records and heads were cleaned, and pages were read
-pub record IsRead (server : ServerNo) (g : Counts) (v : StoreView) (most : ℕ) (w : StoreView) : Type 0 where
-  pub later : StoreLater v w
-  pub calls : w.calls ≤ v.calls + most
-  pub fewer : IsFewer v w
-  pub recoverable : IsRecoverable server g w
-  pub clean : (i : ℕ) → i < front_count g → IsClean w i
-  pub whole : IsCalm v → (i : ℕ) → i < front_count g → IsWholePage w i
-  pub data_pages : KeepsDataPages g v w
 
 -- The store stands, and each pick finds what one pick found before, which had one epoch, with another.
 pub record Stands (server : ServerNo) (g : Counts) (v : StoreView) (most was epoch : ℕ) (records : List Record) (heads : List Head) (w : StoreView) : Type 0 where

@@ -3,7 +3,7 @@ use Rattle.std.specs.Prelude.{◌≡◌, ℕ, zero, suc, nat_eq, Bool, true, fal
 use Rattle.std.specs.List.{list_any}
 use Rattle.jn_alloc.specs.Free.{with_free}
 use Rattle.jn_files.specs.Table.{TableView, is_held, exists}
-use Rattle.jn_found.specs.Contents.{heads_name}
+use Rattle.jn_page_state.specs.Contents.{heads_name}
 use Rattle.jn_records.specs.declared.head.Head.{Head}
 use Rattle.jn_records.specs.NetLists.{is_fresh}
 use Rattle.jn_records.specs.declared.intention.StoredIntention.{StoredIntention}

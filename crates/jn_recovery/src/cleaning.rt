@@ -1,6 +1,6 @@
 //! A store is cleaned, page by page.
 ghost use Rattle.std.specs.Prelude.{◌≡◌, ◌≤◌, ◌+◌, ◌-◌, ◌*◌, ◌<◌, ◌⊎◌, ℕ, true, is_ok, OnErr, OnOk};
-ghost use Rattle.jn_found.specs.Puts.{IsFewer};
+ghost use Rattle.jn_page_state.specs.Puts.{IsFewer};
 ghost use Rattle.jn_recovery.specs.Cleaning.{Cleans};
 ghost use Rattle.jn_store.specs.Store.{IsCalm, IsSamePage, IsStop, StoreLater};
 

@@ -2,7 +2,7 @@
 ghost use Rattle.std.specs.Prelude.{◌≡◌, ◌<◌, ◌^◌, All, IfOk, length};
 ghost use Rattle.jn_files.specs.Calls.{with_promised_heads};
 ghost use Rattle.jn_files.specs.Table.{IsTable};
-ghost use Rattle.jn_found.specs.Contents as contents;
+ghost use Rattle.jn_page_state.specs.Contents as contents;
 ghost use Rattle.jn_recovery.specs.Gathering.{state_on, works_on, flags_on, address_in, IsFew, MayHold, HoldsNamed, all_needed, MayPromise, IsGathered};
 ghost use Rattle.jn_recovery.specs.Pages.{heads_needed};
 ghost use Rattle.jn_recovery.specs.Matches.{flag_on};

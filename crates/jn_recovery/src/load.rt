@@ -1,7 +1,7 @@
 //! What a recovery finds, or why it finds nothing.
 ghost use Rattle.std.specs.Prelude.{◌≡◌, IfOk, IfErr};
 ghost use Rattle.jn_base.specs.declared.names.ServerNo.{ServerNo};
-ghost use Rattle.jn_found.specs.Recoverable.{IsRecoverable};
+ghost use Rattle.jn_page_state.specs.Recoverable.{IsRecoverable};
 ghost use Rattle.jn_recovery.specs.Loading.{IsLoaded, IsDown, IsUntouched};
 ghost use Rattle.jn_recovery.specs.Counts.{counts_by};
 ghost use Rattle.jn_recovery.specs.Matches.{Matches};
@@ -12,10 +12,8 @@ ghost use Rattle.jn_recovery.specs.declared.load.DownCause.TheVariants.{Stopped 
 use crate::PageCounts;
 use crate::gathering::{Kept, collect_flags, gather};
 use crate::opening::begin_epoch;
-use jn_base::Stopped;
-use jn_files::LoadFault as TableFault;
+use jn_base::{CallFault, Stopped};
 use jn_records::{Flag, ListOf};
-use jn_sets::LoadFault as SetsFault;
 use jn_store::StableStore;
 use std::alloc::{AllocError, Global};
 
@@ -74,28 +72,15 @@ impl From<AllocError> for DownCause {
     }
 }
 
-impl From<SetsFault> for DownCause {
-    ghost use Rattle.jn_recovery.specs.Causes.{of_sets};
+impl From<CallFault> for DownCause {
+    ghost use Rattle.jn_recovery.specs.Causes.{down_of};
 
-    ghost from_gives = { λ fault e. e ≡ of_sets fault };
+    ghost from_gives = { λ fault e. e ≡ down_of fault };
 
-    fn from(e: SetsFault) -> DownCause {
+    fn from(e: CallFault) -> DownCause {
         match e {
-            SetsFault::Stopped => DownCause::Stopped,
-            SetsFault::Memory => DownCause::Memory,
-        }
-    }
-}
-
-impl From<TableFault> for DownCause {
-    ghost use Rattle.jn_recovery.specs.Causes.{of_table};
-
-    ghost from_gives = { λ fault e. e ≡ of_table fault };
-
-    fn from(e: TableFault) -> DownCause {
-        match e {
-            TableFault::Stopped => DownCause::Stopped,
-            TableFault::Memory => DownCause::Memory,
+            CallFault::Stopped => DownCause::Stopped,
+            CallFault::Memory => DownCause::Memory,
         }
     }
 }

@@ -1,8 +1,8 @@
 //! What a recovery reads of its store, and puts there.
 ghost use Rattle.std.specs.Prelude.{◌≡◌, ◌≢◌, ◌<◌, ◌+◌, ℕ, true, List, Err, IfOk, IfErr, OnOk, OnErr, is_ok};
 ghost use Rattle.jn_base.specs.declared.names.ServerNo.{ServerNo};
-ghost use Rattle.jn_found.specs.Recoverable.{IsRecoverable};
-ghost use Rattle.jn_found.specs.Standing.{IsStanding};
+ghost use Rattle.jn_page_state.specs.Recoverable.{IsRecoverable};
+ghost use Rattle.jn_page_state.specs.Standing.{IsStanding};
 ghost use Rattle.jn_records.specs.declared.head.Head.{Head};
 ghost use Rattle.jn_records.specs.declared.root.Root.{Root as RootOf};
 ghost use Rattle.jn_records.specs.Pages.{root_page, IsRoot};
@@ -95,6 +95,7 @@ fn count_restart<S: StableStore>(store: &mut S, root: &Root) -> Result<u32, Stop
 {
     let epoch = root.epoch + 1;
     let next = Root {
+        version: root.version,
         server: root.server,
         pool: root.pool,
         heads: root.heads,

@@ -16,6 +16,6 @@ pub use Rattle.jn_order.proofs.FilesLemmas.{server_eq-true, server_eq-refl, all_
 pub use Rattle.jn_replay.specs.declared.files.StoredBlock.{StoredBlock}
 pub use Rattle.jn_replay.specs.declared.files.StoredFile.{StoredFile}
 pub use Rattle.jn_replay.specs.Stored.{stored_file, stored_block, registers, AreSame, block_count, files_of}
-pub use Rattle.jn_replay.specs.Edits.{is_file, Does, Keeps, Contents, contents, is_block}
+pub use Rattle.jn_replay.specs.Edits.{is_file, Does, Keeps, is_block}
 pub use Rattle.jn_replay.specs.Operations.{files_then, GivesAnswers}
 pub use Rattle.std.proofs.lemmas.Fn.{filter_same}

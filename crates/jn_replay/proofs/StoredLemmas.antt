@@ -1,8 +1,17 @@
 -- The stored files and blocks, read by name after an edit of the list.
-use Rattle.jn_replay.proofs.Common.{sym, map, ◌≡◌, ℕ, zero, suc, ◌+◌, ◌<◌, ◌≤◌, nat_lt, Bool, true, not, ◌&&◌, if◌then◌else◌, List, [], ◌∷◌, ◌++◌, length, filter, position, set, get_or, Option, Some, None, refl, ap, ◌∙◌, subst, inl, inr, arith, option_map, is_some, cases_Bool, false≢true, nat_tests, ServerNo, FileNo, BlockNo, server_eq, file_eq, block_eq, StoredBlock, StoredFile, LockUnit, File, Block, there, registers, AreSame, stored_file, stored_block, block_count, Contents, contents, is_file, is_block}
+use Rattle.jn_replay.proofs.Common.{sym, map, ◌≡◌, ℕ, zero, suc, ◌+◌, ◌<◌, ◌≤◌, nat_lt, Bool, true, not, ◌&&◌, if◌then◌else◌, List, [], ◌∷◌, ◌++◌, length, filter, position, set, get_or, Option, Some, None, refl, ap, ◌∙◌, subst, inl, inr, arith, option_map, is_some, cases_Bool, false≢true, nat_tests, ServerNo, FileNo, BlockNo, server_eq, file_eq, block_eq, StoredBlock, StoredFile, LockUnit, File, Block, there, registers, AreSame, stored_file, stored_block, block_count, is_file, is_block}
 use Rattle.std.specs.List.{position_or_len, find}
 use Rattle.std.proofs.lemmas.Option.{slice_get_read, slice_get_past, same_Some}
 use Rattle.std.proofs.lemmas.List.Folds.{find_at}
+
+-- a file as a client sees it, wherever its blocks lie in memory
+pub record Contents : Type 0 where
+  pub server : ServerNo
+  pub file : FileNo
+  pub blocks : List StoredBlock
+
+abbrev pub contents : StoredFile → Contents
+contents x = record { server = x.server; file = x.file; blocks = x.blocks.items }
 
 -- the first file of a name, after another was put in its place
 pub stored_file-set : (s : ServerNo) (f : FileNo) (xs : List StoredFile) (i : ℕ) (y : StoredFile) → position_or_len (is_file s f) xs ≡ i → i < length xs → is_file s f y ≡ true → (q : ServerNo) (g : FileNo) → stored_file q g (set xs i y) ≡ (if server_eq s q && file_eq f g then Some y else stored_file q g xs)

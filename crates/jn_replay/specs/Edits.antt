@@ -29,12 +29,3 @@ pub record Keeps (before after : List StoredFile) : Type 0 where
   pub files : AreSame (registers after) (registers before)
   pub room : length after ≤ length before + 1
   pub blocks : block_count after ≤ block_count before + 1
-
--- a file as a client sees it, wherever its blocks lie in memory
-pub record Contents : Type 0 where
-  pub server : ServerNo
-  pub file : FileNo
-  pub blocks : List StoredBlock
-
-abbrev pub contents : StoredFile → Contents
-contents x = record { server = x.server; file = x.file; blocks = x.blocks.items }

@@ -1,4 +1,4 @@
--- Operations done one after another: the files after them, and whether the files give the answers that were told.
+-- Operations done one after another: the files after them, and whether the files give the answers that were reported.
 use Rattle.std.specs.Prelude.{◌≡◌, List, [], ◌∷◌}
 use Rattle.jn_order.specs.Files.{AllFiles, answer_to, all_files_after}
 use Rattle.jn_replay.specs.declared.files.Performed.{Performed}

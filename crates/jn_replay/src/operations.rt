@@ -1,4 +1,4 @@
-//! Operations done one after another, and whether they are answered as told.
+//! Operations done one after another, and whether they are answered as reported.
 
 ghost use Rattle.std.specs.Prelude.{◌≡◌, ◌↔◌, true, IfOk, OnOk, IsTrue, length};
 ghost use Rattle.jn_replay.specs.Operations.{files_then, GivesAnswers};
@@ -36,7 +36,7 @@ pub fn do_all(alloc: Global, files: &mut Files, ops: &[Performed]) -> Result<(),
     Ok(())
 }
 
-/// Does operations one after another, until the files give another answer than the one told.
+/// Does operations one after another, until the files give another answer than the one reported.
 pub fn gives_answers(
     alloc: Global,
     files: &mut Files,

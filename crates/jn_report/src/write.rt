@@ -8,7 +8,9 @@ ghost use Rattle.jn_base.specs.Names.{fault_word};
 use crate::digits::push_digits;
 use crate::line::{EventRefusal, Line, Refusal, Text, When};
 use crate::word::{push_byte, push_held, push_name, push_number, push_route, push_tid};
-use jn_base::{BlockNo, Cause, ClientNo, FaultKind, FileNo, MsgKind, Outside, Party, ServerNo};
+use jn_base::{
+    BlockContent, BlockNo, Cause, ClientNo, FaultKind, FileNo, MsgKind, Outside, Party, ServerNo,
+};
 use jn_text::push_hex;
 use std::alloc::AllocError;
 
@@ -76,9 +78,9 @@ fn push_text(out: &mut Vec<u8>, text: &Text) -> Result<(), AllocError>
             push_number(out, " s", u32::from(server.0))
         }
         Text::Did(client, at) => push_told(out, client, " did ", at),
-        Text::Read(client, at, ref bytes) => {
+        Text::Read(client, at, ref content) => {
             push_told(out, client, " read ", at)?;
-            push_block(out, bytes)
+            push_block(out, content)
         }
         Text::Refused(client, at, refusal) => {
             push_told(out, client, " refused ", at)?;
@@ -103,7 +105,9 @@ fn push_text(out: &mut Vec<u8>, text: &Text) -> Result<(), AllocError>
             push_number(out, " s", u32::from(server.0))?;
             push_number(out, " file ", file.0)
         }
-        Text::Page(server, file, block, ref bytes) => push_page(out, server, file, block, bytes),
+        Text::Page(server, file, block, ref content) => {
+            push_page(out, server, file, block, content)
+        }
         Text::Locked(server, unit, tid) => {
             push_number(out, " s", u32::from(server.0))?;
             push_name(out, " locked")?;
@@ -125,12 +129,12 @@ fn push_told(out: &mut Vec<u8>, client: ClientNo, name: &str, at: u32) -> Result
 }
 
 /// Appends a block, with a space before it.
-fn push_block(out: &mut Vec<u8>, bytes: &[u8; 448]) -> Result<(), AllocError>
-    ensures ok { OnOk result (out.new.items ≡ out.old.items ++ (codes " " ++ block_word bytes.now)) }
+fn push_block(out: &mut Vec<u8>, content: &BlockContent) -> Result<(), AllocError>
+    ensures ok { OnOk result (out.new.items ≡ out.old.items ++ (codes " " ++ block_word content.now)) }
     ensures err { OnErr result (IsFrontKept out.old.items out.new.items) }
 {
     push_byte(out, b' ')?;
-    push_hex(out, &bytes[..])
+    push_hex(out, content.first_bytes())
 }
 
 /// Appends that a fault was refused.
@@ -159,15 +163,15 @@ fn push_page(
     server: ServerNo,
     file: FileNo,
     block: BlockNo,
-    bytes: &[u8; 448],
+    content: &BlockContent,
 ) -> Result<(), AllocError>
-    ensures ok { OnOk result (out.new.items ≡ out.old.items ++ spaced (words_of (Text.Page server file block bytes.now))) }
+    ensures ok { OnOk result (out.new.items ≡ out.old.items ++ spaced (words_of (Text.Page server file block content.now))) }
     ensures err { OnErr result (IsFrontKept out.old.items out.new.items) }
 {
     push_number(out, " s", u32::from(server.0))?;
     push_number(out, " page ", file.0)?;
     push_number(out, " ", u32::from(block.0))?;
-    push_block(out, bytes)
+    push_block(out, content)
 }
 
 /// Appends that a message was sent.

@@ -1,4 +1,4 @@
--- What a row gives: the new table, the changes of the stable state in order, what is sent and told, and the tickets.
+-- What a row gives: the new table, the changes of the stable state in order, what is sent and reported, and the tickets.
 use Rattle.std.specs.Prelude.{List, [], ◌∷◌}
 use Rattle.jn_base.specs.declared.names.Party.{Party}
 use Rattle.jn_base.specs.declared.names.Tickets.{Tickets}

@@ -6,7 +6,7 @@ use Rattle.jn_rows.specs.Stable.{StableState, ChangedAll, Pick}
 use Rattle.jn_rows.specs.Outcomes.{RowOutcome}
 
 -- A call whose row this is, from the messages and notes of its step before it to those after it. One that is stopped has
--- made some of the changes, from the first one on, and its step sends and tells nothing.
+-- made some of the changes, from the first one on, and its step sends and reports nothing.
 pub record Performs {Table : Type 0} (row : RowOutcome Table) (x : StableState) (before : Collected) (ok : Bool) (table : Table) (found : Pick → StableState) (after : Collected) (tickets : Tickets) : Type 0 where
   pub changes : ChangedAll x row.changes ok found
   pub becomes : ok ≡ true → table ≡ row.table

@@ -1,13 +1,15 @@
 -- What is stable at one server, how it changes, and what may be found of it after a stop.
-use Rattle.std.specs.Prelude.{◌≡◌, ◌⊎◌, ℕ, ◌+◌, Bool, true, false, List, [], ◌∷◌, take, Option, Some, None, if◌then◌else◌}
+use Rattle.std.specs.Prelude.{◌≡◌, ℕ, ◌+◌, Bool, true, false, List, [], ◌∷◌, take, slice_get, Option, Some, None, nat_lt, if◌then◌else◌}
+use Rattle.jn_base.specs.declared.names.BlockNo.{BlockNo}
 use Rattle.jn_base.specs.declared.names.ClientNo.{ClientNo}
 use Rattle.jn_base.specs.declared.names.LockUnit.{LockUnit}
 use Rattle.jn_base.specs.declared.names.RequestNo.{RequestNo}
 use Rattle.jn_base.specs.declared.names.Tid.{Tid}
 use Rattle.jn_base.specs.declared.names.WorkId.{WorkId}
 use Rattle.jn_base.specs.Names.{tid_eq, work_eq}
-use Rattle.jn_order.specs.Files.{Files, change}
+use Rattle.jn_order.specs.Files.{Files, Change as FilesChange, change, nothing}
 use Rattle.jn_records.specs.declared.intention.Intention.{Intention}
+use Rattle.jn_records.specs.declared.intention.What.{What}
 use Rattle.jn_records.specs.declared.work.WorkHead.{WorkHead}
 use Rattle.jn_records.specs.declared.flag.Flag.{Flag}
 use Rattle.jn_records.specs.NetLists.{intention_change}
@@ -97,10 +99,41 @@ abbrev pub next_after : List Change → (WorkId → ℕ) → WorkId → ℕ
 next_after [] next = next
 next_after (c ∷ cs) next = next_after cs (next_by c next)
 
--- what a stop may leave: the state after some of the changes, from the first on, none in part
+-- What a stop has left of changes: how many are made whole, from the first on, and which blocks are gone of the next one.
+pub record Left : Type 0 where
+  pub whole : ℕ
+  pub gone : Option (BlockNo → Bool)
+
+abbrev pub whole_only : ℕ → Left
+whole_only n = record { whole = n; gone = None }
+
+-- no change is found in part yet, as each is one put of a page
+abbrev pub part_of : (BlockNo → Bool) → Option Change → FilesChange
+part_of gone step = nothing
+
+abbrev pub parted : Option (BlockNo → Bool) → Option Change → Files → Files
+parted None step files = files
+parted (Some gone) step files = change (part_of gone step) files
+
+-- works, flags and epoch are those after the whole changes
+abbrev pub left_of : Left → List Change → StableState → StableState
+left_of l changes x = record (made_all (take l.whole changes) x) { files = parted l.gone (slice_get changes l.whole) (made_all (take l.whole changes) x).files }
+
+-- what a stop may leave
 pub record IsStopState (x : StableState) (changes : List Change) (y : StableState) : Type 0 where
-  pub made : ℕ
-  pub is_after : y ≡ made_all (take made changes) x
+  pub left : Left
+  pub is_after : y ≡ left_of left changes x
+
+-- whether a part of an intention has written a register: no part is there yet
+abbrev pub gone_at : Option (BlockNo → Bool) → What → LockUnit → Bool
+gone_at blocks what u = false
+
+-- whether an intention has written a register where a stop has left this of it
+abbrev pub is_written : Left → Intention → LockUnit → Bool
+is_written l i u = if nat_lt 0 l.whole then true else gone_at l.gone i.what u
+
+abbrev pub carried_at : (LockUnit → Bool) → Intention → StableState → StableState
+carried_at is i x = record x { files = λ u. if is u then change (intention_change i) x.files u else x.files u }
 
 -- ---- what may be found
 
@@ -119,7 +152,7 @@ IsUp found = (c : Pick) → found c ≡ stable found
 -- a call with one change: it is done, and at a stop it is whole or not at all, by each pick
 pub record Changed (x : StableState) (step : Change) (ok : Bool) (found : Pick → StableState) : Type 0 where
   pub done : ok ≡ true → (c : Pick) → found c ≡ made_by step x
-  pub stop : ok ≡ false → (c : Pick) → (found c ≡ x) ⊎ (found c ≡ made_by step x)
+  pub stop : ok ≡ false → (c : Pick) → IsStopState x (step ∷ []) (found c)
 
 -- a call with these changes in turn: they are done, and at a stop some of them, by each pick
 pub record ChangedAll (x : StableState) (steps : List Change) (ok : Bool) (found : Pick → StableState) : Type 0 where

@@ -16,5 +16,5 @@ pub use examples::{
     a_work_may_be_over, an_abort_drops_each_work_once, operations_go_by_number,
     the_last_vote_commits,
 };
-pub use laws::{a_client_has_few_works, a_clients_works_stand_apart};
+pub use laws::{a_client_has_few_works, a_clients_works_stand_apart, a_stop_leaves_whole_changes};
 pub use worker::{ActiveWork, Phase, PreparedWork, Work};

@@ -4,12 +4,12 @@ pub use Rattle.jn_base.specs.declared.names.ServerNo.{ServerNo}
 pub use Rattle.jn_host.specs.Outside.{Contents, Rose}
 pub use Rattle.jn_schedule.specs.declared.Event.{Event}
 pub use Rattle.jn_schedule.specs.Grammar.{IsSchedule, word_lines}
-pub use Rattle.jn_images.specs.Kept.{Has, image_name, IsKept}
+pub use Rattle.jn_image_files.specs.Kept.{Has, image_name, IsKept}
 pub use Rattle.jn_options.specs.declared.asked.Geometry.{Geometry}
 pub use Rattle.jn_options.specs.declared.asked.Opening.TheVariants.{New, Images}
 pub use Rattle.jn_options.specs.declared.asked.Options.{Options}
-pub use Rattle.jn_written.specs.Chances.{Setup}
-pub use Rattle.jn_written.specs.Devices.{Devices}
+pub use Rattle.jn_machine.specs.Chances.{Setup}
+pub use Rattle.jn_machine.specs.Devices.{Devices}
 pub use Rattle.jn_options.specs.declared.asked.Command.{Command}
 pub use Rattle.jn_options.specs.declared.asked.Command.TheVariants.{Run, Trial}
 pub use Rattle.jn_options.specs.declared.asked.Opening.{Opening}
@@ -19,13 +19,13 @@ pub use Rattle.jn_run.specs.declared.status.Status.{Status}
 pub use Rattle.std.specs.Prelude.{is_ok, nat_lt, ◌*◌, option_map, take, IfSome}
 pub use Rattle.jn_report.specs.declared.line.Line.{Line}
 pub use Rattle.jn_writing.specs.Reporting.{Reporting, Reports, Joins}
-pub use Rattle.jn_run.specs.Running.{ReportedLast, AreDevices, course_of, AreLeft, RunsFrom, TookWhole, IsStore, Course, HasTold, StandsBefore, TookLimited, TookPart, ToldTo, Reaches, Reported, lines_kept, is_limit}
+pub use Rattle.jn_run.specs.Running.{ReportedLast, course_of, AreLeft, RunsFrom, TookWhole, IsStore, Course, HasTold, StandsBefore, TookLimited, TookPart, ToldTo, Reaches, Reported, lines_kept, is_limit}
 pub use Rattle.std.proofs.lemmas.Option.{slice_get_past, slice_get-map}
 pub use Rattle.jn_device.specs.Device.{DeviceState}
 pub use Rattle.jn_disks.specs.Disks.{IsNewStore, IsNewDisk, image_of, files_in, HasNewDevice}
-pub use Rattle.jn_found.specs.Images.{IsFresh, IsImage}
+pub use Rattle.jn_page_state.specs.Images.{IsFresh, IsImage}
 pub use Rattle.jn_image.proofs.SoundPages.{sound_pages}
-pub use Rattle.jn_images.specs.Opened.{IsStoreOf, AreStoresOf as AreStoresOfImages, AreWithin, AreClosed, AreStoresOf, found_at}
+pub use Rattle.jn_image_files.specs.Opened.{IsStoreOf, AreStoresOf as AreStoresOfImages, AreWithin, AreClosed, AreStoresOf, found_at}
 pub use Rattle.jn_options.specs.Words.{IsOpening, command_of}
 pub use Rattle.jn_order.specs.Files.{Files, AllFiles}
 pub use Rattle.jn_records.specs.Sound.{HasRoot}
@@ -35,11 +35,11 @@ pub use Rattle.jn_recovery.specs.Counts.{counts_by}
 pub use Rattle.jn_rows.specs.Stable.{StableState, Pick, stable}
 pub use Rattle.jn_store.specs.Pairs.{pairs_view}
 pub use Rattle.jn_store.specs.Store.{StoreView}
-pub use Rattle.jn_written.specs.Whole.{closed_world, AreImages, IsFresh as IsFreshDevice, IsWhole as IsWholeRun, IsLimited, IsPartOfRun, before, IsWritten}
+pub use Rattle.jn_machine.specs.Whole.{closed_world, AreImages, IsFresh as IsFreshDevice, IsWhole as IsWholeRun, IsLimited, IsPartOfRun, before, IsWritten}
 pub use Rattle.jn_run.specs.Opening.{AreDisks, AreOpened, IsDisk}
 pub use Rattle.std.specs.List.{AllByRecursion}
 pub use Rattle.jn_schedule.specs.Ranges.{EventInRange}
-pub use Rattle.jn_written.specs.Runs.{Moment, Leads, MayLead, DoesStep}
+pub use Rattle.jn_machine.specs.Runs.{Moment, Leads, MayLead, DoesStep}
 pub use Rattle.jn_run.specs.declared.running.RunFault.{RunFault}
 pub use Rattle.jn_run.specs.Seen.{sink_state, source_state, keeper_state}
 pub use Rattle.jn_run.specs.Parts.{EndsOn, Refuses}

@@ -1,7 +1,7 @@
 -- What follows from what a call leaves.
 use Rattle.jn_run.proofs.Common.{◌≡◌, ◌≤◌, ◌<◌, ℕ, List, length, Option, Some, None, refl, ap, subst, arith, ServerNo, Contents, Event, IsSchedule, Has, image_name, Geometry, New, Images, Options, Setup, Devices, Command, Run, Trial, Opening, IsFirstFault, Outside, SourceState, SinkState, KeeperState, IsCutShort, IsText, IsWholeReport, Keeps, KeepsFirst, OutcomeOf, ReadsSchedule, RefusedImage, RefusedSchedule, RunEnds, TrialEnds, WordsEnd, most_bytes, words_refused, words_not_written, words_no_memory, done, not_read, too_many_bytes, too_many_events, schedule_refused, schedule_not_written, not_loaded, image_refused, image_not_written, at_limit, not_written, not_saved, no_memory, no_memory_inside, no_memory_saving, trial_done, trial_not_written, trial_at_limit, trial_no_memory, Status}
-use Rattle.jn_images.specs.Examined.{IsAccepted, IsRefused}
-use Rattle.jn_images.specs.declared.refusal.Cause.{Cause}
+use Rattle.jn_image_files.specs.Examined.{IsAccepted, IsRefused}
+use Rattle.jn_image_files.specs.declared.refusal.Cause.{Cause}
 use Rattle.jn_options.specs.declared.asked.Trial.{Trial as ATrial}
 use Rattle.jn_run.specs.Laws.{NoneFails, HasImages, CanRun, OnlyItsCountRises, RunCompletes, run_done, run_at_limit, run_out_of_memory, TrialCompletes, trial_whole, trial_cut_short, trial_out_of_memory}
 use Rattle.jn_run.specs.declared.status.Status.TheVariants as statuses

@@ -2,9 +2,9 @@
 use Rattle.jn_run.proofs.Common.{◌≡◌, ℕ, ◌≤◌, ◌<◌, List, length, map, slice_get, Option, Some, None, Result, Ok, Err, refl, sym, ap, subst, false, ◌∙◌, arith, slice_get-map, is_ok, option_map, AllByRecursion, ServerNo, DeviceState, Contents, IsImage, AreClosed, AreWithin, IsKept, Counts, page_count, counts_by, PageCounts, StableState, stable, Event, EventInRange, IsSchedule, Command, Options, AllFiles, pairs_view, Devices, Moment, AreImages, IsWholeRun, IsLimited, IsPartOfRun, Line, RunFault, course_of, AreLeft, RunsFrom, TookWhole, ◌≢◌, drop, true≢false, OutcomeOf, IsUntouched, Outside, Accepted, AreKept, IsRefusedImage, Keeps, KeepsFirst, LeavesFiles, most_events, Ran, Reads, refused_line, IsWholeReport, IsPart, IsCutShort, SourceState, SinkState, KeeperState, sink_state, ReadsSchedule, Writes, FailsToLoad, BeginsFromImages, words_no_memory, trial_no_memory, done, too_many_events, schedule_refused, schedule_not_written, not_loaded, image_refused, image_not_written, at_limit, not_written, not_saved, no_memory, no_memory_inside, no_memory_saving, Setup, EndsOn, Refuses, IsFirstFault, Run, Trial, Status}
 use Rattle.jn_writing.specs.Calls.{writes_to}
 use Rattle.jn_run.proofs.Told.{fault-is}
-use Rattle.jn_images.specs.Saved.{SavedTo}
-use Rattle.jn_images.specs.Texts.{refusal_text}
-use Rattle.jn_images.specs.declared.refusal.Refusal.{Refusal}
+use Rattle.jn_image_files.specs.Saved.{SavedTo}
+use Rattle.jn_image_files.specs.Texts.{refusal_text}
+use Rattle.jn_image_files.specs.declared.refusal.Refusal.{Refusal}
 use Rattle.jn_between.proofs.Ended.{at-the-end}
 use Rattle.jn_headline.proofs.Joined.{whole-report, part-report, limited-report}
 use Rattle.jn_headline.specs.Headline.{IsTrueOfBegun, IsOfItsCommits}

@@ -1,14 +1,14 @@
 -- A run that is reported, call by call.
 use Rattle.jn_run.proofs.Common.{◌≡◌, ℕ, zero, suc, ◌≤◌, ◌<◌, false, List, [], ◌∷◌, ◌++◌, ◌+◌, map, length, drop, drop-cons, get_or, append-nil, Result, Ok, Err, refl, sym, ◌∙◌, ap, subst, arith, true≢false, is_ok, length-append, DeviceState, StoreView, Line, Rose, Reporting, Joins, Moment, Leads, MayLead, DoesStep, Setup, Event, ServerNo, AllFiles, before, AreImages, IsWritten, RunFault, Course, AreLeft, HasTold, StandsBefore, TookLimited, TookPart, ToldTo, Reaches, RunsFrom, TookWhole, Reported, lines_kept, is_limit}
-use Rattle.jn_written.specs.Kinds.{events_left}
-use Rattle.jn_written.proofs.Counted.{events-counted, left-of}
-use Rattle.jn_written.specs.Events.{ending}
-use Rattle.jn_written.specs.Tasks.{Task, Begins, InSchedule, CutShort}
+use Rattle.jn_machine.specs.Kinds.{events_left}
+use Rattle.jn_machine.proofs.Counted.{events-counted, left-of}
+use Rattle.jn_machine.specs.Events.{ending}
+use Rattle.jn_machine.specs.Tasks.{Task, Begins, InSchedule, CutShort}
 use Rattle.jn_world.specs.declared.world.World.{World}
-use Rattle.jn_written.proofs.Computed.{join, may-lead}
-use Rattle.jn_stands.specs.Stands.{Standing, Stands}
-use Rattle.jn_stands.specs.Going.{Limit, NoMessageLeft, NoEpochLeft, WasCut, WentOn}
-use Rattle.jn_stands.proofs.Joined.{cut-leads}
+use Rattle.jn_machine.proofs.Computed.{join, may-lead}
+use Rattle.jn_world_refines.specs.Stands.{Standing, Stands}
+use Rattle.jn_world_refines.specs.Going.{Limit, NoMessageLeft, NoEpochLeft, WasCut, WentOn}
+use Rattle.jn_world_refines.proofs.Joined.{cut-leads}
 use Rattle.jn_world.specs.declared.ended.Ended.{Ended}
 use Rattle.jn_world.specs.declared.ended.Ended.TheVariants.{Messages, Epoch, Memory}
 use Rattle.jn_world.specs.Written.{standing_of, GoesTo, StartsAt, Closes, IsClosed}
@@ -74,7 +74,7 @@ module _ {O : Type 0} (r : Reporting O) (j : Joins r) (c : Course O) (m : Moment
     came-to (Ok a) w' lines went = record { last = went.last; leads = went.leads; lines_are = new-lines m.state.lines went.told.new lines went.last.state.lines went.told.here went.told.there }
     came-to (Err Messages) w' lines cut = cut-came (Err Messages) NoMessageLeft lines refl cut
     came-to (Err (Epoch q)) w' lines cut = cut-came (Err (Epoch q)) (NoEpochLeft q) lines refl cut
-    came-to (Err Memory) w' lines cut = record { last = m; leads = Rattle.jn_written.specs.Runs.none m; lines_are = sym (append-nil m.state.lines) }
+    came-to (Err Memory) w' lines cut = record { last = m; leads = Rattle.jn_machine.specs.Runs.none m; lines_are = sym (append-nil m.state.lines) }
 
     -- a call of the world that is reported
     module _ {A : Type 0} (Then : A → Moment → Type 0) (w' : Standing S) (lines : List Line) (answer : Result A RunFault) where
@@ -158,7 +158,7 @@ module _ {O : Type 0} (r : Reporting O) (c : Course O) where
     no_fault = λ well. one.no_fault (λ write. well (same ∙ ap (λ x. Err x) (fault-is x e is runs.Write write)));
   }
 
-  -- nothing more is told where all is done
+  -- nothing more is reported where all is done
   pub there-reaches : (Then : Unit {0} → Moment → Type 0) (u : Unit {0}) (out : O) → ToldTo r c (Then u) out → Reaches r c Then (Ok u) out
   there-reaches Then u out to = record {
     count = omega (arith, to.told.no_fault);
@@ -176,7 +176,7 @@ module _ {O S A : Type 0} (r : Reporting O) (j : Joins r) (device : S → Device
   closed-came (Ok stores) closed = record { last = closed.last; leads = closed.leads; lines_are = new-lines m.state.lines closed.told.new lines closed.last.state.lines closed.told.here closed.told.there }
   closed-came (Err Messages) cut = cut-came r j c m out out' told (Err Messages) NoMessageLeft lines refl cut
   closed-came (Err (Epoch q)) cut = cut-came r j c m out out' told (Err (Epoch q)) (NoEpochLeft q) lines refl cut
-  closed-came (Err Memory) none = record { last = m; leads = Rattle.jn_written.specs.Runs.none m; lines_are = sym (append-nil m.state.lines) }
+  closed-came (Err Memory) none = record { last = m; leads = Rattle.jn_machine.specs.Runs.none m; lines_are = sym (append-nil m.state.lines) }
 
   closed-whole : (stores : A) → IsClosed device c.setup m (items_of stores) [] lines → r.took out out' lines → TookWhole r c (AreLeft device c.setup (items_of stores)) out'
   closed-whole stores closed took =
@@ -225,7 +225,7 @@ module _ {O S : Type 0} (r : Reporting O) (j : Joins r) (look : S → StoreView)
   first-told : HasTold r c first c.output
   first-told = record {
     no_fault = refl;
-    written = record { files = files; epochs = epochs; are_images = are; leads = Rattle.jn_written.specs.Runs.none first };
+    written = record { files = files; epochs = epochs; are_images = are; leads = Rattle.jn_machine.specs.Runs.none first };
     took = j.nothing c.output;
   }
 

@@ -2,7 +2,7 @@
 use Rattle.std.specs.Prelude.{◌≡◌, ◌<◌, ℕ, List, length, Option, Some, None}
 use Rattle.jn_device.specs.Device.{DeviceState}
 use Rattle.jn_host.specs.Outside.{Rose}
-use Rattle.jn_images.specs.Saved.{SavedTo}
+use Rattle.jn_image_files.specs.Saved.{SavedTo}
 use Rattle.jn_recovery.specs.declared.counts.PageCounts.{PageCounts}
 use Rattle.jn_run.specs.Outcome.{KeeperState}
 use Rattle.jn_run.specs.declared.status.Status.{Status}

@@ -3,8 +3,8 @@ use Rattle.std.specs.Prelude.{◌≡◌, ◌≢◌, ◌<◌, ℕ, List, length, 
 use Rattle.jn_device.specs.Device.{DeviceState}
 use Rattle.jn_disks.specs.Disks.{IsNewDisk, HasNewDevice}
 use Rattle.jn_host.specs.Outside.{Contents, Rose}
-use Rattle.jn_images.specs.Opened.{AreStoresOf}
-use Rattle.jn_images.specs.Kept.{Has, image_name}
+use Rattle.jn_image_files.specs.Opened.{AreStoresOf}
+use Rattle.jn_image_files.specs.Kept.{Has, image_name}
 use Rattle.jn_options.specs.declared.asked.Geometry.{Geometry}
 use Rattle.jn_options.specs.declared.asked.Opening.{Opening}
 use Rattle.jn_options.specs.declared.asked.Opening.TheVariants.{New, Images}

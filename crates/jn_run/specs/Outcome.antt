@@ -16,10 +16,10 @@ use Rattle.jn_memdisk.specs.Disk.{IsNew}
 use Rattle.jn_records.specs.StablePages.{Counts, root_by}
 use Rattle.jn_store.specs.Pairs.{pairs_view}
 use Rattle.jn_disks.specs.Disks.{IsNewStore, files_in}
-use Rattle.jn_images.specs.declared.refusal.Refusal.{Refusal}
-use Rattle.jn_images.specs.Examined.{IsFirstRefused}
-use Rattle.jn_images.specs.Kept.{Has, IsKept, image_name, OthersStay}
-use Rattle.jn_images.specs.Texts.{refusal_text}
+use Rattle.jn_image_files.specs.declared.refusal.Refusal.{Refusal}
+use Rattle.jn_image_files.specs.Examined.{IsFirstRefused}
+use Rattle.jn_image_files.specs.Kept.{Has, IsKept, image_name, OthersStay}
+use Rattle.jn_image_files.specs.Texts.{refusal_text}
 use Rattle.jn_options.specs.declared.asked.Command.{Command}
 use Rattle.jn_options.specs.declared.asked.Command.TheVariants.{Run, Trial}
 use Rattle.jn_options.specs.declared.asked.Geometry.{Geometry}
@@ -28,15 +28,15 @@ use Rattle.jn_options.specs.declared.asked.Opening.TheVariants.{New, Images}
 use Rattle.jn_options.specs.declared.asked.Options.{Options}
 use Rattle.jn_options.specs.declared.asked.Trial.{Trial as ATrial}
 use Rattle.jn_gen.specs.Trial.{events_from}
-use Rattle.jn_found.specs.Pages.{found_on}
+use Rattle.jn_page_state.specs.Pages.{found_on}
 use Rattle.jn_headline.specs.Headline.{IsTrueOfBegun, IsOfItsCommits}
 use Rattle.jn_system.specs.WholeSystem.World.{AreFilesOf}
 use Rattle.jn_rows.specs.Stable.{Pick}
 use Rattle.jn_serial.specs.Lines.{history_of}
 use Rattle.jn_serial.specs.Order.{replay}
-use Rattle.jn_written.specs.Chances.{Setup}
-use Rattle.jn_written.specs.Devices.{Devices}
-use Rattle.jn_written.specs.Whole.{IsWhole as IsWholeRun, IsLimited, IsPartOfRun}
+use Rattle.jn_machine.specs.Chances.{Setup}
+use Rattle.jn_machine.specs.Devices.{Devices}
+use Rattle.jn_machine.specs.Whole.{IsWhole as IsWholeRun, IsLimited, IsPartOfRun}
 use Rattle.jn_summary.specs.Summary.{summary_text}
 use Rattle.jn_run.specs.declared.status.Status.{Status}
 use Rattle.jn_run.specs.declared.status.Status.TheVariants.{Done, Words, Schedule, Image, Read, Write, Keep, Limit, Memory}
@@ -333,7 +333,7 @@ pub record TrialToLimit (trial : ATrial) (kept : Option Contents) : Type 0 where
   pub lines : List Line
   pub cut : IsCutShort trial_options kept (events_from trial.seed trial.events) lines
 
--- where a limit cuts it short or memory runs out, nothing is told of it
+-- where a limit cuts it short or memory runs out, nothing is reported of it
 pub data TrialEnds (trial : ATrial) (kept : Option Contents) (before after : SinkState) : Status → Type 0 where
   trial_done : RanTrial trial kept (λ text. Writes text before after) → TrialEnds trial kept before after Done
   trial_not_written : RanTrial trial kept (λ text. FailsToWrite text before after) → TrialEnds trial kept before after Write

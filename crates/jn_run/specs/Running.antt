@@ -1,7 +1,7 @@
 -- How far a run has come, and what the output of its report took of it.
 use Rattle.std.specs.Prelude.{◌≡◌, ◌≢◌, ◌≤◌, ℕ, false, List, [], ◌++◌, map, length, slice_get, Some, Result, Ok, Err, is_ok}
 use Rattle.jn_device.specs.Device.{DeviceState}
-use Rattle.jn_found.specs.Recoverable.{IsRecoverable}
+use Rattle.jn_page_state.specs.Recoverable.{IsRecoverable}
 use Rattle.jn_host.specs.Outside.{Rose}
 use Rattle.jn_recovery.specs.declared.counts.PageCounts.{PageCounts}
 use Rattle.jn_recovery.specs.Counts.{counts_by}
@@ -9,13 +9,13 @@ use Rattle.jn_store.specs.Store.{StoreView}
 use Rattle.jn_schedule.specs.declared.Event.{Event}
 use Rattle.jn_report.specs.declared.line.Line.{Line}
 use Rattle.jn_writing.specs.Reporting.{Reporting}
-use Rattle.jn_written.specs.Chances.{Setup}
-use Rattle.jn_written.specs.Devices.{Devices}
-use Rattle.jn_written.specs.Events.{ending}
-use Rattle.jn_written.specs.Runs.{Moment}
-use Rattle.jn_written.specs.Tasks.{Begins, InSchedule}
-use Rattle.jn_written.specs.Whole.{IsWritten, IsWhole, IsLimited, IsPartOfRun}
-use Rattle.jn_stands.specs.Stands.{Stands}
+use Rattle.jn_machine.specs.Chances.{Setup}
+use Rattle.jn_machine.specs.Devices.{Devices}
+use Rattle.jn_machine.specs.Events.{ending}
+use Rattle.jn_machine.specs.Runs.{Moment}
+use Rattle.jn_machine.specs.Tasks.{Begins, InSchedule}
+use Rattle.jn_machine.specs.Whole.{IsWritten, IsWhole, IsLimited, IsPartOfRun}
+use Rattle.jn_world_refines.specs.Stands.{Stands}
 use Rattle.jn_world.specs.declared.ended.Ended.{Ended}
 use Rattle.jn_world.specs.declared.ended.Ended.TheVariants as ends
 use Rattle.jn_world.specs.declared.world.World.{World}
@@ -25,13 +25,9 @@ use Rattle.jn_run.specs.declared.running.RunFault.TheVariants as runs
 
 -- ---- the disks
 
--- a store of the server of this number, with its counts of pages: a restart may begin there, and no fault that was outside is told
+-- a store of the server of this number, with its counts of pages: a restart may begin there, and no fault that was outside is reported
 abbrev pub IsStore : {S : Type 0} → (S → StoreView) → ℕ → S × PageCounts → Type 0
 IsStore look n x = IsRecoverable (record { 0 = n }) (counts_by x.1) (look x.0) × ((look x.0).told ≡ [])
-
--- these are their devices
-abbrev pub AreDevices : {S : Type 0} → (S → DeviceState) → List (S × PageCounts) → Devices → Type 0
-AreDevices {S} device stores images = (n : ℕ) (x : S × PageCounts) → slice_get stores n ≡ Some x → images (record { 0 = n }) ≡ device x.0
 
 -- ---- how far a run has come
 

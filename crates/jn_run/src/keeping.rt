@@ -1,14 +1,14 @@
 //! The disks that a run leaves, as images.
 
 ghost use Rattle.std.specs.Prelude.{◌≡◌, ◌≤◌, length};
-ghost use Rattle.jn_images.specs.Opened.{AreClosed};
+ghost use Rattle.jn_image_files.specs.Opened.{AreClosed};
 ghost use Rattle.jn_run.specs.Keeping.{KeptAs, KeptWith};
 ghost use Rattle.jn_run.specs.Seen.{keeper_state};
 
 use crate::running::Disks;
 use crate::status::Status;
 use jn_host::{KeepFailure, Keeper};
-use jn_images::save_images;
+use jn_image_files::save_images;
 use jn_intent::PageCounts;
 use jn_memdisk::MemDisk;
 use jn_options::Options;

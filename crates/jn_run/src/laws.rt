@@ -2,7 +2,7 @@
 
 ghost use Rattle.jn_run.specs.Laws.{CountsTellTheStatus, KeeperIsLeftAlone, RunsComplete, TrialsComplete};
 
-use jn_images::an_accepted_image_is_not_refused;
+use jn_image_files::an_accepted_image_is_not_refused;
 use jn_schedule::{a_schedule_has_one_list_of_events, a_text_with_a_fault_is_no_schedule};
 
 /// The source, the sink and the keeper fail with a status of their own each: with any other the count of their faults stays.

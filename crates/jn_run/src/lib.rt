@@ -4,7 +4,7 @@
 ghost use Rattle.std.specs.Prelude.{◌≡◌, ◌≤◌, ℕ, Option, List, length, IfOk};
 ghost use Rattle.std.specs.List.{AllByRecursion};
 ghost use Rattle.jn_host.specs.Outside.{Contents};
-ghost use Rattle.jn_images.specs.Texts.{refusal_text};
+ghost use Rattle.jn_image_files.specs.Texts.{refusal_text};
 ghost use Rattle.jn_options.specs.Words.{AreWithinLimits, IsTrialInRange, command_of};
 ghost use Rattle.jn_schedule.specs.Grammar.{IsSchedule};
 ghost use Rattle.jn_schedule.specs.Ranges.{EventInRange};
@@ -26,7 +26,7 @@ mod running;
 mod status;
 mod trial;
 
-use jn_images::Refusal;
+use jn_image_files::Refusal;
 use jn_intent::PageCounts;
 use jn_memdisk::MemDisk;
 use jn_options::{Command, Options, Trial, read_command};
@@ -53,14 +53,14 @@ const MOST_EVENTS: usize = 100_000;
 /// Does all that the program does: reads the words and the schedule, runs it, writes the report and keeps the disks.
 ///
 /// The words are the program's name, and `run` with options or `trial` with a seed and how many events there are. A run begins with
-/// new disks, or with those of the images that the keeper has under a name. The report tells what each event of the schedule led to
+/// new disks, or with those of the images that the keeper has under a name. The report says what each event of the schedule led to
 /// and, at the end, prints the files from the servers' pages. Each event's lines are written as the event ends. Once the whole
 /// report was taken, the disks are saved as images where a name for them is given. Other words are refused in one line of text, as
 /// are bytes that aren't a schedule, by the line and the number of the first fault, and images, by the first that is missing, is
 /// none or is unsound: then nothing is run. A schedule of more than 4,194,304 bytes or 100,000 events, a run that would send a
 /// message too many or has no epoch left, a source, a sink or a keeper that fails and want of memory have a status of their own.
 ///
-/// A trial makes its schedule of the seed, runs it on two servers with new disks, and tells its whole report in one line, which is
+/// A trial makes its schedule of the seed, runs it on two servers with new disks, and gives its whole report in one line, which is
 /// written once the run is done. It reads no source and keeps no disks, and writes nothing where a limit is reached or memory runs
 /// out.
 pub fn run<S: Source, K: Sink, I: Keeper>(

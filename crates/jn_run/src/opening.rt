@@ -2,9 +2,10 @@
 
 ghost use Rattle.std.specs.Prelude.{◌≡◌, ◌≤◌, Err, IfOk, length, map};
 ghost use Rattle.jn_disks.specs.Disks.{IsNewDisk, HasNewDevice};
-ghost use Rattle.jn_images.specs.declared.refusal.Refusal.{Refusal as ARefusal};
+ghost use Rattle.jn_image_files.specs.declared.refusal.Refusal.{Refusal as ARefusal};
 ghost use Rattle.jn_options.specs.Words.{AreWithinLimits};
 ghost use Rattle.jn_options.specs.declared.asked.Opening.TheVariants.{Images};
+ghost use Rattle.jn_records.specs.Pages.{format_version};
 ghost use Rattle.jn_world.specs.Standing.{AreStores};
 ghost use Rattle.jn_run.specs.Opening.{AreDisks, AreOpened, FailsToOpen};
 ghost use Rattle.jn_run.specs.Outcome.{IsRefusedImage, IsRefusedOf};
@@ -15,11 +16,11 @@ use crate::running::Disks;
 use jn_base::ServerNo;
 use jn_disks::new_store;
 use jn_host::{KeepFailure, Keeper};
-use jn_images::{ExamineFault, Refusal, examine, load_images};
+use jn_image_files::{ExamineFault, Refusal, examine, load_images};
 use jn_intent::PageCounts;
 use jn_memdisk::MemDisk;
 use jn_options::{Geometry, Opening, Options};
-use jn_records::Root;
+use jn_records::{FORMAT_VERSION, Root};
 use jn_stable::Pairs;
 use jn_store::{Powered, StableStore};
 use std::alloc::{AllocError, Global};
@@ -113,10 +114,11 @@ pub fn new_stores(
 /// The store of a new server.
 fn new_disk(alloc: Global, server: ServerNo, counts: PageCounts) -> Result<Disks, AllocError>
     ensures store { IfOk result (λ store. IsStore (⟦<Pairs<MemDisk> as StableStore>⟧.view) server.0 (store, counts)) }
-    ensures new { IfOk result (λ store. IsNewDisk (record { server = server; pool = counts.pool; heads = counts.heads; leaves = counts.leaves; epoch = 0 }) (⟦<Pairs<MemDisk> as StableStore>⟧.view store)) }
-    ensures device { IfOk result (λ store. HasNewDevice (record { server = server; pool = counts.pool; heads = counts.heads; leaves = counts.leaves; epoch = 0 }) (⟦<Pairs<MemDisk> as StableStore>⟧.view store).device) }
+    ensures new { IfOk result (λ store. IsNewDisk (record { version = format_version; server = server; pool = counts.pool; heads = counts.heads; leaves = counts.leaves; epoch = 0 }) (⟦<Pairs<MemDisk> as StableStore>⟧.view store)) }
+    ensures device { IfOk result (λ store. HasNewDevice (record { version = format_version; server = server; pool = counts.pool; heads = counts.heads; leaves = counts.leaves; epoch = 0 }) (⟦<Pairs<MemDisk> as StableStore>⟧.view store).device) }
 {
     let root = Root {
+        version: FORMAT_VERSION,
         server,
         pool: counts.pool,
         heads: counts.heads,

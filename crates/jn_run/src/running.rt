@@ -4,10 +4,10 @@ ghost use Rattle.std.specs.Prelude.{◌≡◌, ◌≤◌, ◌+◌, ◌++◌, ◌
 ghost use Rattle.std.specs.List.{AllByRecursion};
 ghost use Rattle.jn_schedule.specs.Ranges.{EventInRange};
 ghost use Rattle.jn_schedule.specs.declared.Event.{Event as AnEvent};
-ghost use Rattle.jn_written.specs.Devices.{Devices};
-ghost use Rattle.jn_written.specs.Runs.{Moment};
-ghost use Rattle.jn_written.specs.Chances.{Setup};
-ghost use Rattle.jn_written.specs.Whole.{AreImages};
+ghost use Rattle.jn_machine.specs.Devices.{Devices};
+ghost use Rattle.jn_machine.specs.Runs.{Moment};
+ghost use Rattle.jn_machine.specs.Chances.{Setup};
+ghost use Rattle.jn_machine.specs.Whole.{AreImages};
 ghost use Rattle.jn_base.specs.declared.names.ServerNo.{ServerNo as AnyServer};
 ghost use Rattle.jn_order.specs.Files.{AllFiles};
 ghost use Rattle.jn_world.specs.Standing.{IsWorld, AreStores};
@@ -95,7 +95,7 @@ pub fn run_events<O, R: Reporter<O>>(
     Ok(())
 }
 
-/// The world of these stores, all of whose servers come up. The lines that tell it are reported, also where a server doesn't.
+/// The world of these stores, all of whose servers come up. The lines that say so are reported, also where a server doesn't.
 pub fn open_world<O, R: Reporter<O>>(
     alloc: Global,
     trace: bool,

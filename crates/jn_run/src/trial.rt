@@ -1,4 +1,4 @@
-//! A trial: a run of the schedule that a seed makes, told in one line.
+//! A trial: a run of the schedule that a seed makes, reported in one line.
 
 ghost use Rattle.std.specs.Prelude.{◌≡◌, ◌≤◌, [], ℕ, false, Option, OnOk, length, vec_len};
 ghost use Rattle.std.specs.List.{AllByRecursion};
@@ -9,10 +9,10 @@ ghost use Rattle.jn_order.specs.Files.{AllFiles};
 ghost use Rattle.jn_schedule.specs.Ranges.{EventInRange};
 ghost use Rattle.jn_world.specs.Standing.{IsWorld, AreStores};
 ghost use Rattle.jn_world.specs.Written.{AreStoresOf};
-ghost use Rattle.jn_written.specs.Chances.{Setup};
-ghost use Rattle.jn_written.specs.Devices.{Devices};
-ghost use Rattle.jn_written.specs.Runs.{Moment};
-ghost use Rattle.jn_written.specs.Whole.{AreImages};
+ghost use Rattle.jn_machine.specs.Chances.{Setup};
+ghost use Rattle.jn_machine.specs.Devices.{Devices};
+ghost use Rattle.jn_machine.specs.Runs.{Moment};
+ghost use Rattle.jn_machine.specs.Whole.{AreImages};
 ghost use Rattle.jn_run.specs.Running.{Course, course_of, AreLeft, HasTold, StandsBefore, Reaches, RunsFrom};
 ghost use Rattle.jn_run.specs.Trial.{SumsUp};
 

@@ -8,7 +8,7 @@ use jn_base::ServerNo;
 use jn_disks::new_store;
 use jn_intent::PageCounts;
 use jn_memdisk::MemDisk;
-use jn_records::Root;
+use jn_records::{FORMAT_VERSION, Root};
 use jn_report::Line;
 use jn_schedule::{Event, ParseFault, parse, words_are_in_range};
 use jn_stable::Pairs;
@@ -35,6 +35,7 @@ fn new_disk(alloc: Global, server: ServerNo, pages: PageCounts) -> Result<Disk, 
     ensures { IfOk result (λ disk. AreStores (⟦<Pairs<MemDisk> as StableStore>⟧.view) server.0 (disk ∷ [])) }
 {
     let root = Root {
+        version: FORMAT_VERSION,
         server,
         pool: pages.pool,
         heads: pages.heads,

@@ -292,7 +292,7 @@ no_client_told w ws = go (same w (codes "arm")) refl
     go true is = arm_told w ws ((bytes_eq-Decides w (codes "arm")).0 is)
     go false is = table_told opening_places (places.Keyword ∷ []) (λ opening. other_event opening ws) (λ x. Spells x (w ∷ ws)) w (w ∷ ws) opening_words (others_told w ws)
 
--- the words of a line spell the event that is read, or have the fault that is told
+-- the words of a line spell the event that is read, or have the fault that is reported
 pub event_told : (ws : List (List ℕ)) → MatchResult (event_of ws) (λ e. Spells e ws) (λ f. HasFault ws f)
 unfolding event_of by_client
 event_told [] = refl

@@ -1,4 +1,4 @@
--- Reading lines one after the other: what is told, and that what is there is told.
+-- Reading lines one after the other: what is reported, and that what is there is reported.
 use Rattle.jn_schedule.proofs.Common.{◌≡◌, ℕ, ◌+◌, ◌<◌, ◌≤◌, ◌++◌, ◌⊎◌, inl, inr, Bool, true, false, cond, List, [], ◌∷◌, length, Option, Some, None, Result, Ok, Err, IfOk, MatchOption, MatchResult, MatchBool, refl, sym, ap, ◌∙◌, subst, append_assoc, arith, append-nil, length-append, Event, LineFault, AreLines, IsSchedule, Spells, is_passed, word_lines, HasFault, IsFirstFault, LinesFault, line_fault_number, ◌>>=◌, AddsLine, Fails, GivesUpTo, event_of, in_front, read_line, read_lines, then_lines}
 use Rattle.std.specs.Global.{Vec}
 use Rattle.jn_schedule.specs.declared.fault.ParseFault.{ParseFault}
@@ -21,7 +21,7 @@ line_told ws = go (is_passed ws) refl (event_of ws) (event_told ws)
     go false is (Ok e) h = record { good = inr (e, h); before = λ lines more are. inr (e, more, refl, h, are) }
     go false is (Err f) h = (refl, h)
 
--- lines that are read are these events, and a fault that is told is the first one
+-- lines that are read are these events, and a fault that is reported is the first one
 pub lines_told : (n : ℕ) (lines : List (List (List ℕ))) → MatchResult (read_lines n lines) (λ es. AreLines lines es) (λ x. LinesFault n lines x.0 x.1)
 unfolding read_lines
 lines_told n [] = refl
@@ -58,7 +58,7 @@ lines_again n (ws ∷ lines) es (inl passed) = rw (line_passed ws passed.0, line
 lines_again n (ws ∷ lines) es (inr event) =
     rw (line_event ws event.0 event.3, lines_again (n + 1) lines event.1 event.4) (ap (λ (l : List Event). Ok l) (sym event.2))
 
--- the first fault is told
+-- the first fault is reported
 pub fault_again : (n : ℕ) (lines : List (List (List ℕ))) (line : ℕ) (f : LineFault) → LinesFault n lines line f → read_lines n lines ≡ Err (line, f)
 unfolding read_lines
 fault_again n [] line f fault = absurd fault

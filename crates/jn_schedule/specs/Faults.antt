@@ -6,6 +6,7 @@ use Rattle.jn_schedule.specs.declared.Event.{Event}
 use Rattle.jn_schedule.specs.declared.fault.LineFault.{LineFault}
 use Rattle.jn_schedule.specs.declared.fault.LineFault.TheVariants as faults
 use Rattle.jn_schedule.specs.Grammar.{SpellsNumber, SpellsName, SpellsBlock, Spells, is_passed, word_lines}
+use Rattle.jn_base.specs.Limits.{most_blocks}
 
 -- what has to stand in a place of a line
 pub data Place : Type 0 where
@@ -37,7 +38,7 @@ abbrev pub file_place : Place
 file_place = Number 0 (2 ^ 32 - 1)
 
 abbrev pub block_place : Place
-block_place = Number 0 119
+block_place = Number 0 (most_blocks - 1)
 
 abbrev pub page_place : Place
 page_place = Number 0 20001

@@ -13,6 +13,7 @@ use Rattle.jn_base.specs.declared.op.Op.TheVariants as ops
 use Rattle.jn_schedule.specs.declared.Event.{Event}
 use Rattle.jn_schedule.specs.declared.Event.TheVariants as events
 use Rattle.jn_text.specs.Words.{hex_word}
+use Rattle.jn_base.specs.Limits.{most_blocks}
 
 -- the lines of a text, cut at line feeds; behind the last line feed stands a line that may have no bytes
 abbrev pub lines_of : List ℕ → List (List ℕ)
@@ -95,7 +96,7 @@ abbrev pub file_part : ℕ → Part
 file_part f = Number 0 (2 ^ 32 - 1) f
 
 abbrev pub block_part : ℕ → Part
-block_part p = Number 0 119 p
+block_part p = Number 0 (most_blocks - 1) p
 
 -- a physical page
 abbrev pub page_part : ℕ → Part

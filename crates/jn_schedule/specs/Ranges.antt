@@ -14,6 +14,6 @@ abbrev pub PartsInRange : List Part → Type 0
 PartsInRange [] = Unit {0}
 PartsInRange (p ∷ ps) = PartInRange p × PartsInRange ps
 
--- clients are 1 to 8, servers 0 to 7, blocks 0 to 119, pages 0 to 20001, calls 1 to 1000000, messages 0 to 999999
+-- clients are 1 to 8, servers 0 to 7, blocks below `most_blocks`, pages 0 to 20001, calls 1 to 1000000, messages 0 to 999999
 abbrev pub EventInRange : Event → Type 0
 EventInRange e = PartsInRange (parts_of e)

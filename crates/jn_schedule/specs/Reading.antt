@@ -31,6 +31,7 @@ use Rattle.jn_schedule.specs.declared.fault.ParseFault.TheVariants as parse
 use Rattle.std.specs.Global.{Vec}
 use Rattle.jn_schedule.specs.Faults.{same, line_fault_number}
 use Rattle.jn_schedule.specs.Grammar.{filled, is_passed, lines_of}
+use Rattle.jn_base.specs.Limits.{most_blocks}
 
 abbrev pub texts : List (Bor (List ℕ)) → List (List ℕ)
 texts ws = map (λ w. w.now) ws
@@ -72,7 +73,7 @@ unfoldable pub file_of : List ℕ → Result FileNo LineFault
 file_of w = value_of 0 (2 ^ 32 - 1) w >>= λ n. Ok (record { 0 = n })
 
 unfoldable pub block_no_of : List ℕ → Result BlockNo LineFault
-block_no_of w = value_of 0 119 w >>= λ n. Ok (record { 0 = n })
+block_no_of w = value_of 0 (most_blocks - 1) w >>= λ n. Ok (record { 0 = n })
 
 unfoldable pub page_of : List ℕ → Result ℕ LineFault
 page_of w = value_of 0 20001 w
@@ -260,7 +261,7 @@ TellsRead (Ok x) read = read ≡ Ok x
 TellsRead (Err readings.Memory) read = Unit {0}
 TellsRead (Err (readings.Line fault)) read = read ≡ Err fault
 
--- what reading told, unless memory ran out
+-- what reading reported, unless memory ran out
 abbrev pub Fails : ParseFault → Result (List Event) (ℕ × LineFault) → Type 0
 Fails parse.Memory read = Unit {0}
 Fails (parse.Syntax line number) read = (fault : LineFault) × (number ≡ line_fault_number fault) × (read ≡ Err (line, fault))
@@ -271,7 +272,7 @@ GivesUpTo most (Ok (Some v)) read = (read ≡ Ok v.items) × (length v.items ≤
 GivesUpTo most (Ok None) read = (es : List Event) × (read ≡ Ok es) × (most < length es)
 GivesUpTo most (Err e) read = Fails e read
 
--- the events of a line of this number are added, or its fault is told, unless memory ran out
+-- the events of a line of this number are added, or its fault is reported, unless memory ran out
 abbrev pub AddsLine : Result (Unit {0}) ParseFault → ℕ → Result (List Event) LineFault → List Event → List Event → Type 0
 AddsLine (Ok x) at read before after = (es : List Event) × (read ≡ Ok es) × (after ≡ before ++ es)
 AddsLine (Err parse.Memory) at read before after = Unit {0}

@@ -26,9 +26,9 @@ pub fn parse(alloc: Global, text: &[u8]) -> Result<Vec<Event>, ParseFault>
     ensures found { IfOk result (λ v. IsSchedule text.now v.items) }
     // A schedule is read, unless memory runs out.
     ensures only { (es : List AnEvent) → IsSchedule text.now es → MatchResult result (λ v. v.items ≡ es) (λ e. e ≡ Memory) }
-    // A fault that is told is the first one.
+    // A fault that is reported is the first one.
     ensures fault { (line number : ℕ) → result ≡ Err (Syntax line number) → IsFirstFault text.now line number }
-    // The first fault is told, unless memory runs out.
+    // The first fault is reported, unless memory runs out.
     ensures first { (line number : ℕ) → IsFirstFault text.now line number → (result ≡ Err (Syntax line number)) ⊎ (result ≡ Err Memory) }
 {
     match parse_up_to(alloc, text, usize::MAX) {

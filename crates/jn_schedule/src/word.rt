@@ -7,7 +7,7 @@ ghost use Rattle.jn_schedule.specs.Grammar.{IsByte, SpellsBlock};
 ghost use Rattle.jn_schedule.specs.Reading.{Reads, TellsRead, block_no_of, bytes_of, client_of, cut_at_stop, file_of, name_in, name_of, number_in, page_of, server_of, server_in, value_of};
 
 use crate::fault::{LineFault, ReadFault};
-use jn_base::{BlockContent, BlockNo, ClientNo, FileNo, ServerNo, Tid};
+use jn_base::{BlockContent, BlockNo, ClientNo, FileNo, MOST_BLOCKS, ServerNo, Tid};
 use jn_text::read_number;
 use std::alloc::Global;
 
@@ -15,7 +15,7 @@ use std::alloc::Global;
 const LAST_SERVER: u32 = 7;
 
 /// The last block of a file.
-const LAST_BLOCK: u32 = 119;
+const LAST_BLOCK: u32 = MOST_BLOCKS as u32 - 1;
 
 /// The bytes of a block.
 const MOST_BYTES: usize = 448;
@@ -37,7 +37,7 @@ fn number_in(word: &[u8], low: u32, high: u32) -> Option<u32>
     }
 }
 
-/// The same, as it is told of a line.
+/// The same, as it is reported of a line.
 #[tactic(auto, unfolding(crate::specs::Reading::value_of))]
 pub fn value_of(word: &[u8], low: u32, high: u32) -> Result<u32, LineFault>
     ensures value { result ≡ value_of low high word.now }

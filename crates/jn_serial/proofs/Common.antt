@@ -15,10 +15,11 @@ pub use Rattle.jn_serial.specs.Lines.{is_before, lines_before, says, event_at, w
 pub use Rattle.jn_serial.specs.Begun.{begun_after, begun_then, last_begun, is_tid, is_in}
 pub use Rattle.jn_serial.specs.InTurn.{begins_for, is_its_client, owner_after, performed_in, answered, answered_by, ops_told, told_from}
 pub use Rattle.jn_schedule.specs.declared.Event.{Event}
-pub use Rattle.jn_serial.specs.Follows.{Outstanding, FollowsEvent, FollowsFrom, after_one, Asked, nothing_asked, with_asked, answers_command, answer_in, fits, fits_asked, after_answer, AllFit, after_answers, after_event, refuses_own, AllOwnInPlace, own_in_place, is_answer, IsOfEvent, AllOfEvents, Follows, is_own, is_command_of, is_own_refusal}
+pub use Rattle.jn_serial.specs.Follows.{Outstanding, FollowsEvent, FollowsFrom, after_one, Asked, nothing_asked, with_asked, answers_command, fits, fits_asked, after_answer, AllFit, after_answers, after_event, refuses_own, AllOwnInPlace, own_in_place, IsOfEvent, AllOfEvents, Follows, is_command_of}
 pub use Rattle.jn_base.specs.declared.op.Answer.{Answer}
 pub use Rattle.jn_replay.specs.declared.files.Performed.{Performed}
 pub use Rattle.jn_serial.specs.Order.{answer_told, first_told, performed, op_in, ops_from, ops_of, replay, AgreesFrom, Agrees}
+pub use Rattle.jn_report.specs.Kinds.{answer_in, is_answer, is_own, is_own_refusal}
 pub use Rattle.jn_order.specs.Files.{AllFiles}
 pub use Rattle.jn_replay.specs.Operations.{files_then, GivesAnswers}
 pub use Rattle.jn_replay.specs.Stored.{AreSame, files_of}

@@ -209,7 +209,7 @@ some-asked a b e = cc
 none-asked : (a : Asked) → None ≡ Some a → ⊥
 none-asked a e = cc
 
--- one more event, of which nothing is told yet
+-- one more event, of which nothing is reported yet
 event-so-far : (es : List Event) (ls : List Line) (out : Outstanding) (e : Event) (here : List Line) → InTurnSoFar es ls out → InTurnSoFar (es ++ e ∷ []) ls (after_event out (length es + 1) e here)
 event-so-far es ls out e here h = record {
   within = subst (λ n. AreWithin 0 (n + 1) ls) (sym (length-more es e)) (AreWithin-wider 0 (length es + 1) 0 (length es + 1 + 1) ls (omega arith) (omega arith) h.within);
@@ -539,7 +539,7 @@ all-in-turn count t es (e ∷ rest) ls later out h (here, (after, (is, (within, 
         (subst (λ n. AreWithin n (n + 1) here) (sym (length-more es e)) within) event.fit (subst (λ n. AllOwnInPlace n e here) (sym (length-more es e)) event.own)
 
 -- Where the lines stand in turn and answer what clients were told to do, a transaction that no two clients have did by its
--- commands what its lines tell, one after another.
+-- commands what its lines report, one after another.
 pub ops-in-turn : (events : List Event) (lines : List Line) (t : Tid) → AreInTurn 1 events lines → Follows events lines → HasOneClient t lines → ops_of events lines t ≡ ops_told events lines t
 ops-in-turn events lines t turn follows one = all-in-turn (length events) t [] events [] lines nothing_asked (record {
   within = tt;

@@ -1,5 +1,5 @@
 -- Where clients refuse commands themselves.
-use Rattle.jn_serial.proofs.Common.{◌≡◌, ℕ, ◌+◌, ◌≤◌, Bool, true, false, ◌&&◌, ◌||◌, not, if◌then◌else◌, List, [], ◌∷◌, fold, refl, sym, ◌∙◌, ap, arith, true≢false, nat_eq, ClientNo, Event, Text, Line, is_own, is_command_of, own_in_place, AllOwnInPlace, is_own_refusal, count_lines}
+use Rattle.jn_serial.proofs.Common.{◌≡◌, ℕ, ◌+◌, ◌≤◌, Bool, true, false, ◌&&◌, ◌||◌, not, if◌then◌else◌, List, [], ◌∷◌, fold, refl, sym, ◌∙◌, ap, arith, true≢false, nat_eq, ClientNo, Event, Text, Line, is_command_of, own_in_place, AllOwnInPlace, count_lines, is_own, is_own_refusal}
 use Rattle.jn_report.specs.declared.line.Text.TheVariants as says
 
 not-in-place : (number : ℕ) (e : Event) (text : Text) → ((c : ClientNo) → is_command_of e c ≡ false) → own_in_place number e text ≡ true → is_own_refusal text ≡ false

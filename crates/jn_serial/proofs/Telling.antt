@@ -1,4 +1,4 @@
--- What is told of outcomes, with more lines.
+-- What is reported of outcomes, with more lines.
 use Rattle.jn_serial.proofs.Common.{◌≡◌, Bool, true, false, ◌||◌, List, [], ◌∷◌, ◌++◌, refl, ◌∙◌, arith, Tid, tid_eq, has_tid, NamesOnce, tid_tells}
 use Rattle.jn_serial.proofs.Orders.{has_tid-append}
 

@@ -1,15 +1,14 @@
 -- What stands before an abort, a stop and a refused fault.
-use Rattle.std.specs.Prelude.{◌≡◌, ℕ, ◌+◌, Bool, true, false, nat_eq, nat_lt, nat_le, ◌&&◌, ◌||◌, not, if◌then◌else◌, List, [], ◌∷◌, ◌++◌, filter}
+use Rattle.std.specs.Prelude.{◌≡◌, ℕ, ◌+◌, Bool, true, false, nat_lt, nat_le, ◌&&◌, ◌||◌, not, if◌then◌else◌, List, [], ◌∷◌, ◌++◌, filter}
 use Rattle.jn_base.specs.declared.names.ServerNo.{ServerNo}
 use Rattle.jn_base.specs.declared.names.ClientNo.{ClientNo}
-use Rattle.jn_base.specs.declared.names.LockUnit.{LockUnit}
 use Rattle.jn_base.specs.declared.names.Tid.{Tid}
 use Rattle.jn_base.specs.declared.names.Cause.{Cause}
 use Rattle.jn_base.specs.declared.names.Cause.TheVariants as causes
 use Rattle.jn_base.specs.declared.op.Command.TheVariants as commands
 use Rattle.jn_base.specs.declared.device.FaultKind.{FaultKind}
 use Rattle.jn_base.specs.declared.device.FaultKind.TheVariants.{StopBefore, StopTorn, StopAfter}
-use Rattle.jn_base.specs.Names.{server_eq, client_eq, unit_eq, tid_eq}
+use Rattle.jn_base.specs.Names.{server_eq, client_eq}
 use Rattle.jn_schedule.specs.declared.Event.{Event}
 use Rattle.jn_schedule.specs.declared.Event.TheVariants as events
 use Rattle.jn_report.specs.declared.line.When.{When}
@@ -20,6 +19,7 @@ use Rattle.jn_report.specs.declared.line.Line.{Line}
 use Rattle.jn_serial.specs.Lines.{is_before, lines_at, says, count_lines}
 use Rattle.jn_serial.specs.Begun.{is_in}
 use Rattle.jn_serial.specs.Follows.{refuses_own}
+use Rattle.jn_report.specs.Kinds.{begins, goes_down, breaks, refuses_event, stops, refuses_fault}
 
 -- whether some event, told with its number, passes a test
 abbrev pub any_event : (ℕ → Event → Bool) → ℕ → List Event → Bool
@@ -40,10 +40,6 @@ abbrev pub aborts : ClientNo → Tid → List Line → ℕ → Event → Bool
 aborts c t lines number (events.Command d commands.Abort) = client_eq c d && is_in c t number lines
 aborts c t lines number _ = false
 
-abbrev pub begins : ClientNo → ℕ → Tid → Text → Bool
-begins c number t (says.Begun d j u) = client_eq c d && (nat_eq number j && tid_eq u t)
-begins c number t _ = false
-
 -- the event is before, and an abort of the client in T
 abbrev pub asks : ClientNo → Tid → List Line → When → ℕ → Event → Bool
 asks c t lines w number e = is_before (AtEvent number) w && aborts c t lines number e
@@ -55,18 +51,9 @@ joins c t s lines number (events.Command d (commands.Open r)) =
     client_eq c d && (server_eq r s && (is_in c t number lines && not (says (refuses_own c number) (lines_at (AtEvent number) lines))))
 joins c t s lines number _ = false
 
-abbrev pub goes_down : ServerNo → Text → Bool
-goes_down s (says.Down r) = server_eq r s
-goes_down s (says.Stopped r) = server_eq r s
-goes_down s _ = false
-
 -- the event is a command by which T came to the server, which went down after it
 abbrev pub loses : ClientNo → Tid → ServerNo → List Line → ℕ → Event → Bool
 loses c t s lines number e = joins c t s lines number e && says (goes_down s) (lines_after (AtEvent number) lines)
-
-abbrev pub breaks : ServerNo → Tid → LockUnit → Tid → Text → Bool
-breaks s t u by (says.Broke r v w x) = server_eq r s && (tid_eq v t && (unit_eq w u && tid_eq x by))
-breaks s t u by _ = false
 
 -- the cause of an abort of the client's T stands before it: in the events before its own, and in the lines so far
 abbrev pub is_caused_by : List Event → List Line → When → ClientNo → Tid → Cause → Bool
@@ -81,26 +68,14 @@ is_stop StopTorn = true
 is_stop StopAfter = true
 is_stop _ = false
 
-abbrev pub refuses_event : Text → Bool
-refuses_event (says.RefusedEvent refusal) = true
-refuses_event _ = false
-
 -- the event was before, and was not refused
 abbrev pub is_accepted : List Line → When → ℕ → Bool
 is_accepted lines w number = is_before (AtEvent number) w && not (says refuses_event (lines_at (AtEvent number) lines))
-
-abbrev pub stops : ServerNo → Text → Bool
-stops s (says.Stopped r) = server_eq r s
-stops s _ = false
 
 -- the event can have stopped the server
 abbrev pub arms_stop : ServerNo → List Line → When → ℕ → Event → Bool
 arms_stop s lines w number (events.Arm r n kind) = server_eq r s && (is_stop kind && is_accepted lines w number)
 arms_stop s lines w number _ = false
-
-abbrev pub refuses_fault : ServerNo → Text → Bool
-refuses_fault s (says.Outside r fault) = server_eq r s
-refuses_fault s _ = false
 
 -- the event can have given a fault that was refused: a decay gives one of its own event alone
 abbrev pub gives_fault : ServerNo → List Line → When → ℕ → Event → Bool

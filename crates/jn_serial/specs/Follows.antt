@@ -1,6 +1,6 @@
 -- Each answer to a client answers its outstanding command, in a form of that command, and a command that its client refuses is
 -- refused once.
-use Rattle.std.specs.Prelude.{◌≡◌, ℕ, ◌+◌, ◌≤◌, Bool, true, false, nat_eq, ◌&&◌, ◌||◌, not, if◌then◌else◌, List, [], ◌∷◌, length, Option, Some, None, is_some}
+use Rattle.std.specs.Prelude.{◌≡◌, ℕ, ◌+◌, ◌≤◌, Bool, true, false, nat_eq, ◌&&◌, ◌||◌, not, if◌then◌else◌, List, [], ◌∷◌, length, Option, Some, None}
 use Rattle.jn_base.specs.declared.names.ClientNo.{ClientNo}
 use Rattle.jn_base.specs.declared.op.Op.{Op}
 use Rattle.jn_base.specs.declared.op.Op.TheVariants as ops
@@ -17,8 +17,9 @@ use Rattle.jn_report.specs.declared.line.Text.{Text}
 use Rattle.jn_report.specs.declared.line.Text.TheVariants as says
 use Rattle.jn_report.specs.declared.line.Line.{Line}
 pub use Rattle.jn_serial.specs.declared.following.Asked.{Asked}
-pub use Rattle.jn_serial.specs.declared.following.Addressed.{Addressed}
+use Rattle.jn_report.specs.declared.kinds.Addressed.{Addressed}
 use Rattle.jn_serial.specs.Lines.{lines_at, says, count_lines}
+use Rattle.jn_report.specs.Kinds.{is_answer, is_own, is_own_refusal, answer_in}
 
 -- what each client waits for
 abbrev pub Outstanding : Type 0
@@ -29,16 +30,6 @@ nothing_asked c = None
 
 abbrev pub with_asked : Outstanding → ClientNo → Option Asked → Outstanding
 with_asked out c x d = if client_eq c d then x else out d
-
--- the refusals of a command by the client itself, in the command's own event
-abbrev pub is_own : Refusal → Bool
-is_own refusals.ClientBusy = true
-is_own refusals.NoTransaction = true
-is_own refusals.HasTransaction = true
-is_own refusals.NotOpen = true
-is_own refusals.AlreadyOpen = true
-is_own refusals.NoSuchServer = true
-is_own _ = false
 
 -- which operations a refusal can answer
 abbrev pub can_have : Refusal → Op → Bool
@@ -74,30 +65,6 @@ answers_command commands.End (says.Aborted c j t cause) = true
 answers_command commands.Abort (says.Committed c j t) = true
 answers_command commands.Abort (says.Aborted c j t cause) = true
 answers_command command text = false
-
--- a refusal by a client itself
-abbrev pub is_own_refusal : Text → Bool
-is_own_refusal (says.Refused c j refusal) = is_own refusal
-is_own_refusal _ = false
-
-abbrev pub addressed : ClientNo → ℕ → Option Addressed
-addressed c j = Some (record { client = c; number = j })
-
--- to whom a line speaks of a command, and of which, by the number of its event
-abbrev pub speaks_to : Text → Option Addressed
-speaks_to (says.Begun c j t) = addressed c j
-speaks_to (says.Opened c j s) = addressed c j
-speaks_to (says.Did c j) = addressed c j
-speaks_to (says.Read c j bytes) = addressed c j
-speaks_to (says.Refused c j refusal) = addressed c j
-speaks_to (says.Waiting c j s u t) = addressed c j
-speaks_to (says.Committed c j t) = addressed c j
-speaks_to (says.Aborted c j t cause) = addressed c j
-speaks_to _ = None
-
--- and whose command it answers
-abbrev pub answer_in : Text → Option Addressed
-answer_in text = if is_own_refusal text then None else speaks_to text
 
 -- whether it is the last answer
 abbrev pub is_last : Text → Bool
@@ -164,9 +131,6 @@ FollowsFrom out number [] lines = Unit {0}
 FollowsFrom out number (e ∷ es) lines =
     FollowsEvent out number e (lines_at (AtEvent number) lines)
     × FollowsFrom (after_one out number e (lines_at (AtEvent number) lines)) (number + 1) es lines
-
-abbrev pub is_answer : Text → Bool
-is_answer text = is_some (speaks_to text)
 
 abbrev pub IsOfEvent : ℕ → When → Type 0
 IsOfEvent count (AtEvent i) = (1 ≤ i) × (i ≤ count)

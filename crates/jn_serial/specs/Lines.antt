@@ -7,8 +7,8 @@ use Rattle.jn_schedule.specs.declared.Event.{Event}
 use Rattle.jn_report.specs.declared.line.When.{When}
 use Rattle.jn_report.specs.declared.line.When.TheVariants.{Event as AtEvent, End}
 use Rattle.jn_report.specs.declared.line.Text.{Text}
-use Rattle.jn_report.specs.declared.line.Text.TheVariants.{Commit}
 use Rattle.jn_report.specs.declared.line.Line.{Line}
+use Rattle.jn_report.specs.Kinds.{commit_in}
 
 abbrev pub when_eq : When → When → Bool
 when_eq (AtEvent i) (AtEvent j) = nat_eq i j
@@ -45,10 +45,6 @@ event_at (e ∷ es) (suc (suc n)) = event_at es (suc n)
 
 abbrev pub has_tid : List Tid → Tid → Bool
 has_tid ts t = list_any (λ u. tid_eq u t) ts
-
-abbrev pub commit_in : Text → List Tid
-commit_in (Commit t) = t ∷ []
-commit_in _ = []
 
 -- the transactions that a report names as committed, in order
 abbrev pub history_of : List Line → List Tid

@@ -14,6 +14,7 @@ use Rattle.jn_report.specs.declared.line.Text.TheVariants as says
 use Rattle.jn_report.specs.declared.line.Line.{Line}
 use Rattle.jn_serial.specs.Lines.{lines_at, lines_before, says, event_at, history_of}
 use Rattle.jn_serial.specs.Order.{replay}
+use Rattle.jn_report.specs.Kinds.{is_locked, is_no_show}
 
 -- a line that prints a file or a page prints what is there
 abbrev pub IsAsIn : AllFiles → Text → Type 0
@@ -46,16 +47,6 @@ pub record ShowsFiles (files : AllFiles) (s : ServerNo) (lines : List Line) : Ty
   pub printed : AllAsIn files lines
   pub no_other_file : (f : FileNo) → says (accounts_file s f) lines ≡ false → files s (File f) ≡ None
   pub no_other_block : (f : FileNo) (p : BlockNo) → says (prints_file s f) lines ≡ true → says (accounts_block s f p) lines ≡ false → files s (Block f p) ≡ None
-
--- a show that was refused or stopped
-abbrev pub is_no_show : Text → Bool
-is_no_show (says.RefusedEvent refusal) = true
-is_no_show (says.Stopped s) = true
-is_no_show _ = false
-
-abbrev pub is_locked : Text → Bool
-is_locked (says.Locked s u t) = true
-is_locked _ = false
 
 -- each show that printed shows the files after the commits before it
 abbrev pub ShownSoFar : AllFiles → List Event → List Line → Type 0

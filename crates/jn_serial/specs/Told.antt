@@ -1,10 +1,11 @@
--- What clients are told of outcomes.
+-- What is reported of outcomes.
 use Rattle.std.specs.Prelude.{◌≡◌, true, false, List, [], ◌∷◌, ◌++◌}
 use Rattle.jn_base.specs.declared.names.Tid.{Tid}
 use Rattle.jn_report.specs.declared.line.Text.{Text}
 use Rattle.jn_report.specs.declared.line.Text.TheVariants.{Committed, Aborted, Broke}
 use Rattle.jn_report.specs.declared.line.Line.{Line}
-use Rattle.jn_serial.specs.Lines.{has_tid, commit_in, history_of}
+use Rattle.jn_serial.specs.Lines.{has_tid, history_of}
+use Rattle.jn_report.specs.Kinds.{commit_in}
 
 -- a line that acknowledges a commit has it named before
 abbrev pub IsNamedWhere : List Tid → Text → Type 0

@@ -4,35 +4,13 @@ ghost use Rattle.std.specs.Prelude.{◌≡◌};
 ghost use Rattle.jn_serial.specs.Follows as follows;
 
 use jn_base::{ClientNo, Command};
-use jn_report::{Refusal, Text};
+use jn_report::{Text, is_own};
 
 /// A command with the number of its event.
 #[derive(Drop)]
 pub struct Asked {
     pub number: usize,
     pub command: Command,
-}
-
-/// Whom a line answers, and the number of the command's event.
-#[derive(Clone, Copy)]
-pub struct Addressed {
-    pub client: ClientNo,
-    pub number: u32,
-}
-
-/// Whether the client itself refuses a command so.
-pub fn is_own(refusal: Refusal) -> bool
-    ensures { result ≡ follows.is_own refusal }
-{
-    matches!(
-        refusal,
-        Refusal::ClientBusy
-            | Refusal::NoTransaction
-            | Refusal::HasTransaction
-            | Refusal::NotOpen
-            | Refusal::AlreadyOpen
-            | Refusal::NoSuchServer
-    )
 }
 
 /// Whether the text says that the client itself refused its command of the event.

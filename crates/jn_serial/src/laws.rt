@@ -18,7 +18,7 @@ pub fn a_refused_opening_loses_nothing()
     ensures refused { Caused opened_and_down (lost_after refused_line) → ⊥ }
 {}
 
-/// A command that its client refuses is refused once. A report that tells it twice doesn't follow its commands.
+/// A command that its client refuses is refused once. A report that has it twice doesn't follow its commands.
 pub fn a_command_is_refused_once()
     ensures once { Follows opened_again (begun_line ∷ refused_line ∷ []) }
     ensures twice { Follows opened_again (begun_line ∷ refused_line ∷ refused_line ∷ []) → ⊥ }

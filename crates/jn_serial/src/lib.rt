@@ -1,5 +1,5 @@
-//! What a report says of a schedule: the order of the commits, whether the answers are that order's, and what clients are
-//! told of outcomes. The definitions of what a report shows, causes and follows stand here too.
+//! What a report says of a schedule: the order of the commits, whether the answers are that order's, and what is
+//! reported of outcomes. The definitions of what a report shows, causes and follows stand here too.
 #![tactic(auto)]
 
 mod begun;
@@ -11,7 +11,7 @@ mod outcomes;
 mod transactions;
 
 pub use begun::is_in;
-pub use following::{Addressed, Asked, is_own, refuses_own};
+pub use following::{Asked, refuses_own};
 pub use laws::{
     a_command_is_refused_once, a_refused_opening_loses_nothing, an_operation_counts_once,
 };

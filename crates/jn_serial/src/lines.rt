@@ -1,6 +1,7 @@
 //! The lines of a report, and the commits that they name.
 
 ghost use Rattle.std.specs.Prelude.{◌≡◌, ◌++◌, IfOk, OnOk};
+ghost use Rattle.jn_report.specs.Kinds.{commit_in};
 ghost use Rattle.jn_report.specs.declared.line.When.TheVariants.{Event as AtEvent, End};
 ghost use Rattle.jn_serial.specs.Lines as lines_of;
 
@@ -46,7 +47,7 @@ pub(crate) fn has_tid(named: &[Tid], t: Tid) -> bool
 
 /// Appends the commit that the text names, if it names one.
 pub(crate) fn push_commit(named: &mut Vec<Tid>, text: &Text) -> Result<(), AllocError>
-    ensures { OnOk result (named.new.items ≡ named.old.items ++ lines_of.commit_in text.now) }
+    ensures { OnOk result (named.new.items ≡ named.old.items ++ commit_in text.now) }
 {
     if let Text::Commit(t) = text {
         named.push(*t)?;
@@ -61,7 +62,7 @@ pub fn lines_at_event(alloc: Global, lines: &[Line], number: usize) -> Result<Ve
     let mut here = Vec::new(alloc);
     for line in lines {
         if is_at(line.when, number) {
-            here.push(*line)?;
+            here.push(line.copy()?)?;
         }
     }
     Ok(here)
@@ -78,7 +79,7 @@ pub fn lines_before_event(
     let mut before = Vec::new(alloc);
     for line in lines {
         if is_before_event(line.when, number) {
-            before.push(*line)?;
+            before.push(line.copy()?)?;
         }
     }
     Ok(before)
@@ -91,7 +92,7 @@ pub fn lines_at_end(alloc: Global, lines: &[Line]) -> Result<Vec<Line>, AllocErr
     let mut here = Vec::new(alloc);
     for line in lines {
         if matches!(line.when, When::End) {
-            here.push(*line)?;
+            here.push(line.copy()?)?;
         }
     }
     Ok(here)

@@ -5,7 +5,7 @@ ghost use Rattle.jn_base.specs.Names.{client_eq};
 ghost use Rattle.jn_serial.specs.Order as order;
 
 use crate::begun::is_in;
-use jn_base::{Answer, BlockContent, ClientNo, Command, Tid};
+use jn_base::{Answer, ClientNo, Command, Tid};
 use jn_replay::Performed;
 use jn_report::{Line, Refusal, Text};
 use jn_schedule::Event;
@@ -29,18 +29,13 @@ fn if_asked(
 }
 
 /// The answer from the files that a line gives to the client's command of an event.
-fn answer_told(
-    alloc: Global,
-    client: ClientNo,
-    number: usize,
-    text: &Text,
-) -> Result<Option<Answer>, AllocError>
+fn answer_told(client: ClientNo, number: usize, text: &Text) -> Result<Option<Answer>, AllocError>
     ensures { IfOk result (λ a. a ≡ order.answer_told client number text.now) }
 {
     match text {
         Text::Did(to, event) => Ok(if_asked(client, number, *to, *event, Answer::Did)),
-        Text::Read(to, event, bytes) => {
-            let content = BlockContent::from_block(alloc, bytes)?;
+        Text::Read(to, event, content) => {
+            let content = content.copy()?;
             Ok(if_asked(client, number, *to, *event, Answer::Read(content)))
         }
         Text::Refused(to, event, Refusal::NoFile) => {
@@ -54,16 +49,11 @@ fn answer_told(
 }
 
 /// The answer of the first line that gives one.
-fn first_told(
-    alloc: Global,
-    client: ClientNo,
-    number: usize,
-    lines: &[Line],
-) -> Result<Option<Answer>, AllocError>
+fn first_told(client: ClientNo, number: usize, lines: &[Line]) -> Result<Option<Answer>, AllocError>
     ensures { IfOk result (λ a. a ≡ order.first_told client number lines.now) }
 {
     for line in lines {
-        let answer = answer_told(alloc, client, number, &line.text)?;
+        let answer = answer_told(client, number, &line.text)?;
         if answer.is_some() {
             return Ok(answer);
         }
@@ -73,7 +63,6 @@ fn first_told(
 
 /// What the transaction did in an event, if it did anything.
 fn op_in(
-    alloc: Global,
     t: Tid,
     lines: &[Line],
     number: usize,
@@ -87,7 +76,7 @@ fn op_in(
     if !is_in(*client, t, number, lines) {
         return Ok(None);
     }
-    let Some(answer) = first_told(alloc, *client, number, lines)? else {
+    let Some(answer) = first_told(*client, number, lines)? else {
         return Ok(None);
     };
     let op = op.copy()?;
@@ -108,7 +97,7 @@ fn push_performed(performed: &mut Vec<Performed>, one: Option<Performed>) -> Res
 }
 
 /// The operations of a transaction that the files answered, each once, in the order of their
-/// events, each with the first answer told. They are those of a client between the line that says
+/// events, each with the first answer reported. They are those of a client between the line that says
 /// that it began the transaction and the client's next such line.
 pub fn ops_of(
     alloc: Global,
@@ -120,7 +109,7 @@ pub fn ops_of(
 {
     let mut performed = Vec::new(alloc);
     for (i, event) in events.iter().enumerate() {
-        let one = op_in(alloc, t, lines, i + 1, event)?;
+        let one = op_in(t, lines, i + 1, event)?;
         push_performed(&mut performed, one)?;
     }
     Ok(performed)

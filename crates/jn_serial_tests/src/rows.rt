@@ -1,8 +1,8 @@
 //! Whole reports by hand, and forged ones.
 
 use jn_base::{
-    Block, BlockContent, BlockNo, Cause, ClientNo, Command, FaultKind, FileNo, LockUnit, Op,
-    Resource, ServerNo, Tid,
+    BlockContent, BlockNo, Cause, ClientNo, Command, FaultKind, FileNo, LockUnit, Op, Resource,
+    ServerNo, Tid,
 };
 use jn_causing::caused;
 use jn_following::follows;
@@ -36,11 +36,8 @@ fn tid(ticket: u32) -> Tid {
 }
 
 /// A block that begins with these two bytes.
-fn block(first: u8, second: u8) -> Block {
-    let mut bytes = [0; 448];
-    bytes[0] = first;
-    bytes[1] = second;
-    bytes
+fn block(alloc: Global, first: u8, second: u8) -> Result<BlockContent, AllocError> {
+    BlockContent::new(alloc, &[first, second])
 }
 
 /// What the definitions say of a report.
@@ -99,7 +96,7 @@ fn judged(alloc: Global, events: &[Event], lines: &[Line]) -> Result<Verdict, Al
 }
 
 /// What is forged in a report.
-#[derive(Clone, Copy)]
+#[derive(Drop)]
 enum Forgery {
     Nothing,
     /// The line at this place has another text.
@@ -109,11 +106,11 @@ enum Forgery {
 }
 
 /// The report with what is forged in it.
-fn forged(alloc: Global, lines: &[Line], forgery: Forgery) -> Result<Vec<Line>, AllocError> {
-    let mut forged = Vec::from_slice(alloc, lines)?;
+fn forged(alloc: Global, lines: &[Line], forgery: &Forgery) -> Result<Vec<Line>, AllocError> {
+    let mut forged = joined(alloc, &[lines])?;
     match forgery {
-        Forgery::Text(at, text) if at < forged.len() => forged[at].text = text,
-        Forgery::Inserted(at, line) if at < forged.len() => forged.insert(at, line)?,
+        Forgery::Text(at, text) if *at < forged.len() => forged[*at].text = text.copy()?,
+        Forgery::Inserted(at, line) if *at < forged.len() => forged.insert(*at, line.copy()?)?,
         _ => {}
     }
     Ok(forged)
@@ -127,7 +124,7 @@ fn first_misjudged(
     expected: &[(Forgery, Verdict)],
 ) -> Result<Option<usize>, AllocError> {
     for (i, (forgery, verdict)) in expected.iter().enumerate() {
-        let lines = forged(alloc, lines, *forgery)?;
+        let lines = forged(alloc, lines, forgery)?;
         if judged(alloc, events, &lines)? != *verdict {
             return Ok(Some(i));
         }
@@ -155,8 +152,7 @@ fn told_to(client: ClientNo, command: Command) -> Event {
 }
 
 /// A transaction that creates file 7 and writes its first block.
-fn written(alloc: Global, bytes: Block) -> Result<Vec<Event>, AllocError> {
-    let content = BlockContent::from_block(alloc, &bytes)?;
+fn written(alloc: Global, content: BlockContent) -> Result<Vec<Event>, AllocError> {
     let listed = vec![in alloc;
         told_to(C1, Command::Begin(S0)),
         Event::Settle,
@@ -186,12 +182,12 @@ fn written_lines() -> [Line; 7] {
 }
 
 /// The lines of the end, where the file's block is this one.
-fn end_lines(bytes: Block, commits: u32) -> [Line; 5] {
+fn end_lines(content: BlockContent, commits: u32) -> [Line; 5] {
     [
         at_end(Text::Down(S0)),
         at_end(Text::Up(S0, 2)),
         at_end(Text::File(S0, SEVEN)),
-        at_end(Text::Page(S0, SEVEN, BlockNo(0), bytes)),
+        at_end(Text::Page(S0, SEVEN, BlockNo(0), content)),
         at_end(Text::Commits(commits)),
     ]
 }
@@ -199,18 +195,25 @@ fn end_lines(bytes: Block, commits: u32) -> [Line; 5] {
 fn joined(alloc: Global, parts: &[&[Line]]) -> Result<Vec<Line>, AllocError> {
     let mut lines = Vec::new(alloc);
     for part in parts {
-        lines.extend_from_slice(part)?;
+        push_copies(&mut lines, part)?;
     }
     Ok(lines)
+}
+
+fn push_copies(lines: &mut Vec<Line>, part: &[Line]) -> Result<(), AllocError> {
+    for line in part {
+        lines.push(line.copy()?)?;
+    }
+    Ok(())
 }
 
 #[test]
 fn a_commit(rt: HostRuntime) -> Result<(), Fail> {
     let alloc = rt.alloc();
-    let bytes = block(0x68, 0x69);
-    let events = written(alloc, bytes)?;
-    let lines = joined(alloc, &[&written_lines(), &end_lines(bytes, 1)])?;
-    let other = Text::Page(S0, SEVEN, BlockNo(0), block(0x68, 0x68));
+    let content = block(alloc, 0x68, 0x69)?;
+    let events = written(alloc, content.copy()?)?;
+    let lines = joined(alloc, &[&written_lines(), &end_lines(content, 1)])?;
+    let other = Text::Page(S0, SEVEN, BlockNo(0), block(alloc, 0x68, 0x68)?);
     let locked = Text::Locked(S0, PAGE, tid(0));
     let refused = Text::Refused(C1, 7, Refusal::NoFile);
     let expected = [
@@ -227,9 +230,8 @@ fn a_commit(rt: HostRuntime) -> Result<(), Fail> {
 
 /// A commit, a second writer of the block, a reader that is made vulnerable, and the writer's end.
 fn broken_events(alloc: Global) -> Result<Vec<Event>, AllocError> {
-    let mut events = written(alloc, block(0x61, 0))?;
-    let content = BlockContent::from_block(alloc, &block(0x62, 0))?;
-    let write = Op::Write(SEVEN, BlockNo(0), content);
+    let mut events = written(alloc, block(alloc, 0x61, 0)?)?;
+    let write = Op::Write(SEVEN, BlockNo(0), block(alloc, 0x62, 0)?);
     let more = vec![in alloc;
         told_to(C1, Command::Begin(S0)),
         Event::Settle,
@@ -257,14 +259,15 @@ fn broken_events(alloc: Global) -> Result<Vec<Event>, AllocError> {
     Ok(events)
 }
 
-fn broken_lines() -> [Line; 12] {
+/// The lines of that, where the second transaction reads this.
+fn broken_lines(read: BlockContent) -> [Line; 12] {
     [
         at(12, Text::Begun(C1, 11, tid(2))),
         at(14, Text::Opened(C1, 13, S0)),
         at(16, Text::Did(C1, 15)),
         at(18, Text::Begun(C2, 17, tid(4))),
         at(20, Text::Opened(C2, 19, S0)),
-        at(22, Text::Read(C2, 21, block(0x61, 0))),
+        at(22, Text::Read(C2, 21, read)),
         at(24, Text::Waiting(C1, 23, S0, PAGE, tid(4))),
         at(24, Text::Waiting(C1, 23, S0, PAGE, tid(4))),
         at(27, Text::Broke(S0, tid(4), PAGE, tid(2))),
@@ -281,8 +284,9 @@ fn broken_lines() -> [Line; 12] {
 fn a_broken_transaction(rt: HostRuntime) -> Result<(), Fail> {
     let alloc = rt.alloc();
     let events = broken_events(alloc)?;
-    let end = end_lines(block(0x62, 0), 2);
-    let lines = joined(alloc, &[&written_lines(), &broken_lines(), &end])?;
+    let broken = broken_lines(block(alloc, 0x61, 0)?);
+    let end = end_lines(block(alloc, 0x62, 0)?, 2);
+    let lines = joined(alloc, &[&written_lines(), &broken, &end])?;
     let elsewhere = Cause::Broken(S0, LockUnit::File(SEVEN), tid(2));
     let elsewhere = Text::Aborted(C2, 28, tid(4), elsewhere);
     let requested = Text::Aborted(C2, 28, tid(4), Cause::Requested);
@@ -433,14 +437,14 @@ fn an_abort_that_was_asked_for(rt: HostRuntime) -> Result<(), Fail> {
 #[test]
 fn shows(rt: HostRuntime) -> Result<(), Fail> {
     let alloc = rt.alloc();
-    let bytes = block(0x68, 0x69);
-    let mut events = written(alloc, bytes)?;
+    let content = block(alloc, 0x68, 0x69)?;
+    let mut events = written(alloc, content.copy()?)?;
     events.push(Event::Show(S0))?;
     let shown = [
         at(11, Text::File(S0, SEVEN)),
-        at(11, Text::Page(S0, SEVEN, BlockNo(0), bytes)),
+        at(11, Text::Page(S0, SEVEN, BlockNo(0), content.copy()?)),
     ];
-    let lines = joined(alloc, &[&written_lines(), &shown, &end_lines(bytes, 1)])?;
+    let lines = joined(alloc, &[&written_lines(), &shown, &end_lines(content, 1)])?;
     let locked = Text::Locked(S0, PAGE, tid(0));
     let expected = [
         (Forgery::Nothing, RIGHT),

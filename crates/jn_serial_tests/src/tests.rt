@@ -142,13 +142,11 @@ fn verdicts(alloc: Global, write: Text, commits: u8) -> Result<(bool, bool), All
 
 #[test]
 fn reports(rt: HostRuntime) -> Result<(), Fail> {
-    let wrote = Text::Did(CLIENT, 7);
-    let refused = Text::Refused(CLIENT, 7, Refusal::NoFile);
     for (write, commits, want) in [
-        (wrote, 1, (true, true)),
-        (refused, 1, (false, true)),
-        (wrote, 0, (true, false)),
-        (wrote, 2, (false, false)),
+        (Text::Did(CLIENT, 7), 1, (true, true)),
+        (Text::Refused(CLIENT, 7, Refusal::NoFile), 1, (false, true)),
+        (Text::Did(CLIENT, 7), 0, (true, false)),
+        (Text::Did(CLIENT, 7), 2, (false, false)),
     ] {
         let said = verdicts(rt.alloc(), write, commits)?;
         assert!(rt; said == want);

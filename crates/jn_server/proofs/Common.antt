@@ -28,11 +28,10 @@ pub use Rattle.jn_coord.specs.Beginning.{TicketsFit as CoordinatorTickets, are_b
 pub use Rattle.jn_system.specs.WholeSystem.Servers.{of_coordinator, restored, of_timeout, of_step, server_step, server_again, of_worker}
 pub use Rattle.jn_system.proofs.WholeSystem.CoordinatorRows.{Aside, is_of_flag, are_of_flags, first-of, second-of, flags-all, epoch-all, close-aside, coordinator-aside}
 pub use Rattle.jn_system.proofs.WholeSystem.WorkerChanges.{DrawsOne, step-aside, works-flags, worker-aside}
-pub use Rattle.jn_server.specs.declared.fault.ServerFault.{ServerFault}
+pub use Rattle.jn_base.specs.declared.fault.CallFault.{CallFault}
 pub use Rattle.jn_server.specs.Seen.{ServerView, memory_of, IsServer, room_of, Parts, view_with}
 pub use Rattle.jn_server.specs.Handling.{IsDone, IsStopped, Does, LeavesRubbish, TimesOut, Steps}
 pub use Rattle.jn_storage.specs.DeviceCalls.{row_calls, prepare_calls}
-pub use Rattle.jn_server.specs.Faults.{of_worker as fault_of}
 pub use Rattle.std.specs.List.{list_any, list_all}
 pub use Rattle.jn_system.specs.WholeSystem.Steps.{are_rising, AreNames, tid_before}
 pub use Rattle.std.proofs.lemmas.List.{append-nil, map-append}
@@ -43,10 +42,10 @@ pub use Rattle.jn_base.specs.declared.names.LockUnit.TheVariants.{File, Block}
 pub use Rattle.jn_base.specs.declared.names.Tid.{Tid}
 pub use Rattle.jn_base.proofs.Tells.{file_tells, tid_tells, work_tells, block_tells}
 pub use Rattle.jn_system.specs.WholeSystem.Printing.{Printed, print_unit, prints_in, print_one, print_blocks, FileThere, print_file, print_files, block_before}
-pub use Rattle.jn_server.specs.declared.fault.ServerFault.TheVariants.{Stopped, Memory as NoMemory}
+pub use Rattle.jn_base.specs.declared.fault.CallFault.TheVariants.{Stopped, Memory as NoMemory}
 pub use Rattle.jn_server.specs.declared.show.Shown.{Shown}
 pub use Rattle.jn_server.specs.Showing.{print_of, Looks, IsShown, CutsShort}
-pub use Rattle.jn_server.specs.Pieces.{one_if, count_of, is_at, is_of_first, is_of_lesser, to_print, name_if, block_at, prints_of_blocks, LooksOver, TellsPiece, CutsPiece, blocks_of, prints_of_file, number_after, IsNextShown, NextShown}
+pub use Rattle.jn_server.specs.Pieces.{one_if, count_of, is_at, is_of_first, to_print, name_if, block_at, prints_of_blocks, LooksOver, TellsPiece, CutsPiece, prints_of_file, number_after, IsNextShown, NextShown}
 unfoldable pub use Rattle.jn_server.specs.Pieces.{blocks_below}
 pub use Rattle.jn_rows.specs.declared.worker.Phase.{Phase}
 pub use Rattle.jn_rows.specs.declared.worker.Phase.TheVariants.{Active, Broken, Prepared as Stored}
@@ -56,7 +55,7 @@ pub use Rattle.jn_server.specs.Ranges.{IsInRange, AreInRange}
 pub use Rattle.jn_base.specs.declared.names.ServerNo.{ServerNo}
 pub use Rattle.jn_records.specs.StablePages.{Counts, Pages, address_in, block_behind, block_in, head_of}
 pub use Rattle.jn_store.specs.Store.{StoreView}
-pub use Rattle.jn_found.specs.Pages.{found_on, pool_on, heads_on, listed, pages_by}
+pub use Rattle.jn_page_state.specs.Pages.{found_on, pool_on, heads_on, listed, pages_by}
 pub use Rattle.jn_server.specs.Restarting.{AreTables, IsRestarted, IsNotRestarted, IsWithin, Composes, IsLeft}
 pub use Rattle.jn_recovery.specs.Memory.{Memory as Kept, view_of, rubbish_in}
 pub use Rattle.jn_server.specs.Reading.{IsRoomOfPages, CountsPages, StandsOnPages}
@@ -64,4 +63,3 @@ pub use Rattle.jn_worker.specs.Calls.{TimesOut as WorkerTimesOut, Steps as Worke
 pub use Rattle.jn_intent.specs.Scrubbing.{Scrubbed, counts_in}
 pub use Rattle.jn_server.specs.Befalling.{Befalls}
 pub use Rattle.jn_transactions.specs.Telling.{added}
-pub use Rattle.jn_worker.specs.declared.words.WorkerFault.{WorkerFault}

@@ -1,9 +1,7 @@
 -- What the coordinator does by its row, the whole server does.
-use Rattle.jn_server.proofs.Common.{◌≡◌, ◌⊎◌, inl, inr, ℕ, ◌+◌, ◌*◌, ◌≤◌, Bool, true, false, List, [], ◌∷◌, Option, Result, Ok, Err, refl, sym, ◌∙◌, ap, subst, arith, true≢false, length, ◌&&◌, IsErr, IsErrAnd, nat_tests, Tickets, WorkId, work_eq, work_before, is_after, Collected, Files, StableState, Prepared, Change, AddReady, MarkGoing, CarryOut, RemoveWork, AddFlag, DropFlag, is_going, made_by, made_all, RowOutcome, Work, work_at, work_from, CoordinatorTable, Accounts, StorageView, state, is_in, calm_on, left_by, left_over, WorkFits, WorkListFits, Remembered, CoordinatorDone, CoordinatorStopped, CoordinatorDoes, CoordinatorTickets, of_coordinator, Aside, is_of_flag, are_of_flags, first-of, second-of, flags-all, epoch-all, DrawsOne, ServerFault, ServerView, memory_of, IsServer, IsDone, IsStopped, Does, LeavesRubbish, row_calls}
+use Rattle.jn_server.proofs.Common.{◌≡◌, ◌⊎◌, inl, inr, ℕ, ◌+◌, ◌*◌, ◌≤◌, Bool, true, false, List, [], ◌∷◌, Option, Result, Ok, Err, refl, sym, ◌∙◌, ap, subst, arith, true≢false, length, ◌&&◌, IsErr, IsErrAnd, nat_tests, Tickets, WorkId, work_eq, work_before, is_after, Collected, Files, StableState, Prepared, Change, AddReady, MarkGoing, CarryOut, RemoveWork, AddFlag, DropFlag, is_going, made_by, made_all, RowOutcome, Work, work_at, work_from, CoordinatorTable, Accounts, StorageView, state, is_in, calm_on, left_by, left_over, WorkFits, WorkListFits, Remembered, CoordinatorDone, CoordinatorStopped, CoordinatorDoes, CoordinatorTickets, of_coordinator, Aside, is_of_flag, are_of_flags, first-of, second-of, flags-all, epoch-all, DrawsOne, CallFault, ServerView, memory_of, IsServer, IsDone, IsStopped, Does, LeavesRubbish, row_calls}
 use Rattle.jn_coord.specs.Handling.{Handles}
-use Rattle.jn_transactions.specs.declared.faults.CoordFault.{CoordFault}
-use Rattle.jn_transactions.specs.declared.faults.CoordFault.TheVariants as faults
-use Rattle.jn_server.specs.Faults.{of_coordinator as fault_of}
+use Rattle.jn_base.specs.declared.fault.CallFault.TheVariants as faults
 
 -- changes of flags leave the files
 flags-files : (changes : List Change) (x : StableState) → are_of_flags changes ≡ true → (made_all changes x).files ≡ x.files
@@ -131,18 +129,18 @@ module _ (v : ServerView) (serves : IsServer v) (row : RowOutcome CoordinatorTab
     }
 
     -- why it wasn't done
-    pub coordinator_failed : {A : Type 0} (B : Type 0) (fault : CoordFault) (answer : Result A ServerFault) → IsErr answer → IsErrAnd answer (λ e. e ≡ fault_of fault)
+    pub coordinator_failed : {A : Type 0} (B : Type 0) (fault : CallFault) (answer : Result A CallFault) → IsErr answer → IsErrAnd answer (λ e. e ≡ fault)
         → Handles {A = B} row v.coordinator v.storage before v.tickets (Err fault) r w after l → Does row_calls (of_coordinator (memory_of v) row) v before answer now after
     coordinator_failed B fault (Ok x) h is t = absurd (cc h)
-    coordinator_failed {A} B faults.Stopped (Err e) h is t = subst (λ (z : ServerFault). Does {A = A} row_calls (of_coordinator (memory_of v) row) v before (Err z) now after) (sym is) (coordinator_stopped t.0 t.1)
-    coordinator_failed {A} B faults.Memory (Err e) h is t = subst (λ (z : ServerFault). Does {A = A} row_calls (of_coordinator (memory_of v) row) v before (Err z) now after) (sym is) tt
+    coordinator_failed {A} B faults.Stopped (Err e) h is t = subst (λ (z : CallFault). Does {A = A} row_calls (of_coordinator (memory_of v) row) v before (Err z) now after) (sym is) (coordinator_stopped t.0 t.1)
+    coordinator_failed {A} B faults.Memory (Err e) h is t = subst (λ (z : CallFault). Does {A = A} row_calls (of_coordinator (memory_of v) row) v before (Err z) now after) (sym is) tt
 
     -- a closing fails by a stop alone
-    pub closing_failed : {A : Type 0} (B : Type 0) (fault : CoordFault) (answer : Result A ServerFault) → IsErr answer → IsErrAnd answer (λ e. e ≡ fault_of fault) → fault ≡ faults.Stopped
+    pub closing_failed : {A : Type 0} (B : Type 0) (fault : CallFault) (answer : Result A CallFault) → IsErr answer → IsErrAnd answer (λ e. e ≡ fault) → fault ≡ faults.Stopped
         → after ≡ before → CoordinatorDoes {A = B} row v.coordinator v.storage before (Err fault) r w after → Does row_calls (of_coordinator (memory_of v) row) v before answer now after
     closing_failed B faults.Memory answer h is only silent t = absurd (cc only)
     closing_failed B faults.Stopped answer h is only silent t = stops answer h is
       where
-        stops : {A : Type 0} (answer : Result A ServerFault) → IsErr answer → IsErrAnd answer (λ e. e ≡ fault_of faults.Stopped) → Does row_calls (of_coordinator (memory_of v) row) v before answer now after
+        stops : {A : Type 0} (answer : Result A CallFault) → IsErr answer → IsErrAnd answer (λ e. e ≡ faults.Stopped) → Does row_calls (of_coordinator (memory_of v) row) v before answer now after
         stops (Ok x) h is = absurd (cc h)
-        stops {A} (Err e) h is = subst (λ (z : ServerFault). Does {A = A} row_calls (of_coordinator (memory_of v) row) v before (Err z) now after) (sym is) (coordinator_stopped t.0 silent)
+        stops {A} (Err e) h is = subst (λ (z : CallFault). Does {A = A} row_calls (of_coordinator (memory_of v) row) v before (Err z) now after) (sym is) (coordinator_stopped t.0 silent)

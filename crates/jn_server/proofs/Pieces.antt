@@ -1,9 +1,14 @@
 -- Pieces of a show, one after another.
-use Rattle.jn_server.proofs.Common.{◌≡◌, ◌≢◌, ◌⊎◌, inl, inr, ℕ, suc, ◌+◌, ◌*◌, ◌<◌, ◌≤◌, Bool, true, false, ◌&&◌, ◌||◌, List, [], ◌∷◌, ◌++◌, Option, Some, None, is_some, refl, sym, ◌∙◌, ap, subst, arith, true≢false, append_assoc, nat_lt, length, map, Result, Ok, Err, is_ok, IfErr, OnOk, IsErr, IsErrAnd, nat_tests, append-nil, map-append, FileNo, BlockNo, LockUnit, File, Block, Tid, file_eq, block_eq, file_tells, unit_eq, StableState, commit_holder, IsListing, is_in, StorageView, is_stored, state, BlockRead, stop_since, Printed, print_unit, prints_in, print_one, print_blocks, ServerFault, Stopped, NoMemory, Shown, ServerView, IsServer, print_of, one_if, count_of, is_at, is_of_first, is_of_lesser, to_print, name_if, block_at, blocks_below, prints_of_blocks, LooksOver, TellsPiece, CutsPiece}
+use Rattle.jn_server.proofs.Common.{◌≡◌, ◌≢◌, ◌⊎◌, inl, inr, ℕ, suc, ◌+◌, ◌*◌, ◌<◌, ◌≤◌, Bool, true, false, ◌&&◌, ◌||◌, List, [], ◌∷◌, ◌++◌, Option, Some, None, is_some, refl, sym, ◌∙◌, ap, subst, arith, true≢false, append_assoc, nat_lt, length, map, Result, Ok, Err, is_ok, IfErr, OnOk, IsErr, IsErrAnd, nat_tests, append-nil, map-append, FileNo, BlockNo, LockUnit, File, Block, Tid, file_eq, block_eq, file_tells, unit_eq, StableState, commit_holder, IsListing, is_in, StorageView, is_stored, state, BlockRead, stop_since, Printed, print_unit, prints_in, print_one, print_blocks, CallFault, Stopped, NoMemory, Shown, ServerView, IsServer, print_of, one_if, count_of, is_at, is_of_first, to_print, name_if, block_at, blocks_below, prints_of_blocks, LooksOver, TellsPiece, CutsPiece}
 use Rattle.jn_base.specs.declared.device.Stopped.{Stopped as Stop}
 use Rattle.jn_storage.proofs.Laws.{storage_refl, storage_trans}
 use Rattle.jn_server.specs.declared.show.Shown.TheVariants as shown
 use Rattle.jn_server.proofs.Serving.{still-serves}
+
+-- what is of files with lesser numbers
+abbrev pub is_of_lesser : ℕ → LockUnit → Bool
+is_of_lesser n (File g) = nat_lt g.0 n
+is_of_lesser n (Block g p) = nat_lt g.0 n
 
 -- ---- counts
 
@@ -103,7 +108,7 @@ module _ (p q r : LockUnit → Bool) (join : Joins p q r) where
   }
 
   pub cut-then : (v : ServerView) (old : List Shown) (a : List Printed) (w : ServerView) (mid : List Shown) (x : ServerView)
-      → TellsPiece p v old a w mid → (fault : ServerFault) → CutsPiece fault q w x → CutsPiece fault r v x
+      → TellsPiece p v old a w mid → (fault : CallFault) → CutsPiece fault q w x → CutsPiece fault r v x
   cut-then v old a w mid x f Stopped g = record {
     looks = looks-then v w x f.looks g.looks;
     stop = stop_since v.storage.store w.storage.store x.storage.store f.looks.later.store g.looks.later.store g.stop;
@@ -126,14 +131,14 @@ pub not-ok : {A E : Type 0} (answer : Result A E) (e : E) → answer ≡ Err e �
 not-ok answer e h = ap is_ok h
 
 -- a fault that is handed on
-pub handed-on : {A : Type 0} (test : LockUnit → Bool) (v w : ServerView) (fault : ServerFault) (answer : Result A ServerFault) → IsErr answer → IsErrAnd answer (λ e. e ≡ fault) → CutsPiece fault test v w → IfErr answer (λ e. CutsPiece e test v w)
+pub handed-on : {A : Type 0} (test : LockUnit → Bool) (v w : ServerView) (fault : CallFault) (answer : Result A CallFault) → IsErr answer → IsErrAnd answer (λ e. e ≡ fault) → CutsPiece fault test v w → IfErr answer (λ e. CutsPiece e test v w)
 handed-on test v w fault (Ok x) h is k = tt
-handed-on test v w fault (Err e) h is k = subst (λ (z : ServerFault). CutsPiece z test v w) (sym is) k
+handed-on test v w fault (Err e) h is k = subst (λ (z : CallFault). CutsPiece z test v w) (sym is) k
 
 -- without memory
-pub no-memory : {A : Type 0} (test : LockUnit → Bool) (v w : ServerView) (answer : Result A ServerFault) → IsErr answer → IsErrAnd answer (λ e. e ≡ NoMemory) → IfErr answer (λ fault. CutsPiece fault test v w)
+pub no-memory : {A : Type 0} (test : LockUnit → Bool) (v w : ServerView) (answer : Result A CallFault) → IsErr answer → IsErrAnd answer (λ e. e ≡ NoMemory) → IfErr answer (λ fault. CutsPiece fault test v w)
 no-memory test v w (Ok x) h is = tt
-no-memory test v w (Err e) h is = subst (λ (z : ServerFault). CutsPiece z test v w) (sym is) tt
+no-memory test v w (Err e) h is = subst (λ (z : CallFault). CutsPiece z test v w) (sym is) tt
 
 -- ---- a block
 
@@ -166,9 +171,9 @@ module _ (v w : ServerView) (serves : IsServer v) (f : FileNo) (p : BlockNo) (an
     no_stop = h.called.no_stop (ap is_ok is);
   }
 
-  pub read-cut : {A : Type 0} (result : Result A ServerFault) → is_ok answer ≡ false → IsErr result → IsErrAnd result (λ e. e ≡ Stopped) → IfErr result (λ fault. CutsPiece fault (is_at (Block f p)) v w)
+  pub read-cut : {A : Type 0} (result : Result A CallFault) → is_ok answer ≡ false → IsErr result → IsErrAnd result (λ e. e ≡ Stopped) → IfErr result (λ fault. CutsPiece fault (is_at (Block f p)) v w)
   read-cut (Ok x) stops e is = tt
-  read-cut (Err z) stops e is = subst (λ (y : ServerFault). CutsPiece y (is_at (Block f p)) v w) (sym is) (record { looks = read-looks; stop = h.called.stop stops })
+  read-cut (Err z) stops e is = subst (λ (y : CallFault). CutsPiece y (is_at (Block f p)) v w) (sym is) (record { looks = read-looks; stop = h.called.stop stops })
 
 -- a block that isn't stored
 pub tells-unstored : (v : ServerView) → IsServer v → (f : FileNo) (p : BlockNo) → is_some ((state v.storage).files (Block f p)) ≡ false → commit_holder (Block f p) v.worker.table ≡ None → (old : List Shown)
@@ -237,7 +242,7 @@ wider f n m le (Block g p) = by (file_eq g f)
     by true = one p.0
     by false = omega arith
 
-pub cut-blocks : (f : FileNo) (n : ℕ) → n < 120 → (v : ServerView) (old : List Shown) (a : List Printed) (w : ServerView) (mid : List Shown) (x : ServerView) (fault : ServerFault)
+pub cut-blocks : (f : FileNo) (n : ℕ) → n < 120 → (v : ServerView) (old : List Shown) (a : List Printed) (w : ServerView) (mid : List Shown) (x : ServerView) (fault : CallFault)
     → TellsPiece (is_of_first f n) v old a w mid → CutsPiece fault (is_at (Block f (block_at n))) w x → CutsPiece fault (is_of_first f 120) v x
 cut-blocks f n below v old a w mid x fault h k = cut-then (is_of_first f n) (is_at (Block f (block_at n))) (is_of_first f 120) join v old a w mid x h fault k
   where

@@ -1,7 +1,7 @@
 -- Each row of a worker keeps what it has written in range.
 use Rattle.jn_server.proofs.Common.{◌≡◌, true, List, [], ◌∷◌, Option, Some, None, refl, LockUnit, Tid, Tickets, WorkId, Work, Phase, Active, Broken, Stored, RowOutcome, StableState, Prepared, WorkerTable, WorkStorage, is_fit, wants_of, units_for, worker_row, worker_step, vulnerable, timeout_row, restored_work, restored_worker, IntentionWrite, IsPrepared, IsInRange, AreInRange, Change}
 use Rattle.jn_msgs.specs.declared.message.Message.{Message}
-use Rattle.jn_worker.specs.Handling.{InRange}
+use Rattle.jn_msgs.specs.Ranges.{InRange}
 use Rattle.jn_worker.proofs.EachPhase.{Rules, joined, row-keeps, step-keeps, timeout-keeps}
 use Rattle.jn_worker.proofs.UnitRanges.{some-more, wants-in-range, list-in-range}
 

@@ -13,7 +13,7 @@ use Rattle.jn_server.proofs.Ranges.{restored-in-range}
 
 -- the same state in the same epoch or the next
 within-next : (x : StableState) (changes : List Change) (y z : StableState) → IsSameOrNext y z → IsWithin x changes y → IsWithin x changes z
-within-next x changes y z s h = record { made = h.made; is_after = s.same ∙ ap (λ (u : StableState). record u { epoch = z.epoch }) h.is_after }
+within-next x changes y z s h = record { left = h.left; is_after = s.same ∙ ap (λ (u : StableState). record u { epoch = z.epoch }) h.is_after }
 
 next-least : (low : ℕ) (y z : StableState) → IsSameOrNext y z → low ≤ y.epoch → low ≤ z.epoch
 next-least low y z s h = by s.epoch

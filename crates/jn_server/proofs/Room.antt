@@ -11,11 +11,11 @@ use Rattle.jn_lock_rows.specs.Matching.{are_rising}
 use Rattle.jn_lock_rows.proofs.Works.{none-behind}
 use Rattle.jn_storage.proofs.Listings.{but, is_in-but, different-but, total-but}
 use Rattle.jn_sets.specs.Pool.{free_count, is_rubbish, rubbish_count}
-use Rattle.jn_found.specs.Contents.{Contents, has_address, heads_name, works_name}
-use Rattle.jn_found.specs.Held.{held_contents}
-use Rattle.jn_found.specs.Puts.{contents_by}
-use Rattle.jn_found.proofs.HeldLaws.{contents_held}
-use Rattle.jn_found.proofs.Slots.{passes_at}
+use Rattle.jn_page_state.specs.Contents.{Contents, has_address, heads_name, works_name}
+use Rattle.jn_page_state.specs.Held.{held_contents}
+use Rattle.jn_page_state.specs.Puts.{contents_by}
+use Rattle.jn_page_state.proofs.HeldLaws.{contents_held}
+use Rattle.jn_page_state.proofs.Slots.{passes_at}
 use Rattle.jn_recovery.specs.Matches.{Matches, IsKeptMemory}
 use Rattle.jn_recovery.proofs.Erasing.{rubbish_length}
 use Rattle.jn_recovery.proofs.Standing.{named_head}

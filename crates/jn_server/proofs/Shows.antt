@@ -1,11 +1,16 @@
 -- A whole show, file after file.
-use Rattle.jn_server.proofs.Common.{◌≡◌, ◌≢◌, ◌⊎◌, inl, inr, ℕ, zero, suc, ◌+◌, ◌<◌, ◌≤◌, Bool, true, false, ◌&&◌, ◌||◌, List, [], ◌∷◌, ◌++◌, Option, Some, None, is_some, refl, sym, ◌∙◌, ap, subst, arith, true≢false, append_assoc, nat_lt, map, if◌then◌else◌, option_and_then, Result, Ok, Err, IfErr, IsErr, IsErrAnd, list_all, nat_tests, append-nil, map-append, FileNo, BlockNo, LockUnit, File, Block, Tid, file_eq, block_eq, file_tells, block_tells, Commit, unit_eq, is_unit, Files, address_in, block_behind, block_in, head_of, Phase, Active, Broken, Stored, WorkerTable, commit_holder, holds, Kept, view_of, pages_by, unit_in_range, file_there, state, is_above, NextFile, StoreView, calm_on, Printed, FileThere, print_unit, print_blocks, print_file, print_files, block_before, AreNames, first-of, second-of, ServerFault, Stopped, NoMemory, Shown, IsInRange, AreInRange, ServerView, IsServer, print_of, Looks, IsShown, CutsShort, is_of_first, is_of_lesser, to_print, name_if, block_at, blocks_below, blocks_of, prints_of_blocks, prints_of_file, number_after, IsNextShown, NextShown, LooksOver, TellsPiece, CutsPiece}
+use Rattle.jn_server.proofs.Common.{◌≡◌, ◌≢◌, ◌⊎◌, inl, inr, ℕ, zero, suc, ◌+◌, ◌<◌, ◌≤◌, Bool, true, false, ◌&&◌, ◌||◌, List, [], ◌∷◌, ◌++◌, Option, Some, None, is_some, refl, sym, ◌∙◌, ap, subst, arith, true≢false, append_assoc, nat_lt, map, if◌then◌else◌, option_and_then, Result, Ok, Err, IfErr, IsErr, IsErrAnd, list_all, nat_tests, append-nil, map-append, FileNo, BlockNo, LockUnit, File, Block, Tid, file_eq, block_eq, file_tells, block_tells, Commit, unit_eq, is_unit, Files, address_in, block_behind, block_in, head_of, Phase, Active, Broken, Stored, WorkerTable, commit_holder, holds, Kept, view_of, pages_by, unit_in_range, file_there, state, is_above, NextFile, StoreView, calm_on, Printed, FileThere, print_unit, print_blocks, print_file, print_files, block_before, AreNames, first-of, second-of, CallFault, Stopped, NoMemory, Shown, IsInRange, AreInRange, ServerView, IsServer, print_of, Looks, IsShown, CutsShort, is_of_first, to_print, name_if, block_at, blocks_below, prints_of_blocks, prints_of_file, number_after, IsNextShown, NextShown, LooksOver, TellsPiece, CutsPiece}
+use Rattle.jn_server.proofs.Pieces.{is_of_lesser, next-number, count-all, files-join, same-prints, tells-then, cut-then, tells-nothing, tells-one}
 use Rattle.std.proofs.lemmas.Bool.{cases_lt}
 use Rattle.jn_works.specs.Locked.{lesser, next_locked, is_held, LeastOf}
 use Rattle.jn_works.proofs.LeastFiles.{next_is_least}
 use Rattle.jn_server.specs.declared.show.Shown.TheVariants as shown
 use Rattle.jn_server.proofs.Listed.{ListsBelow, lists-nothing, lists-on, lists-more, lists-all}
-use Rattle.jn_server.proofs.Pieces.{next-number, count-all, files-join, same-prints, tells-then, cut-then, tells-nothing, tells-one}
+use Rattle.jn_base.specs.Limits.{most_blocks}
+
+-- the blocks of a file of which there is something to print
+abbrev pub blocks_of : (LockUnit → Option Printed) → FileNo → List BlockNo
+blocks_of prints f = blocks_below (λ p. prints (Block f p)) most_blocks
 
 -- ---- the next file
 
@@ -98,7 +103,7 @@ tells-locked-file v serves f T held old new e =
     subst (λ (o : Option Tid). TellsPiece (is_of_first f 120) v old (print_file (print_unit (File f) o ((state v.storage).files (File f))) (prints_of_blocks (to_print v) f 120)) v new) (sym held)
     (tells-one (is_of_first f 120) v serves old (shown.Locked (File f) T) new e)
 
--- what a file tells that isn't held
+-- what is reported of a file that isn't held
 file-prints : (v : ServerView) (f : FileNo) → commit_holder (File f) v.worker.table ≡ None → is_some (to_print v (File f)) ≡ true → (blocks : List Printed) → FileThere f ∷ blocks ≡ print_file (to_print v (File f)) blocks
 file-prints v f free there blocks = by (commit_holder (File f) v.worker.table) ((state v.storage).files (File f)) free there
   where
@@ -149,7 +154,7 @@ blocks-listed there (suc n) = subst (λ (m : ℕ). ListsBelow block_eq (λ p. p.
     by None e h = subst (ListsBelow block_eq (λ p. p.0) there (n + 1)) (sym (append-nil (blocks_below there n)))
         (lists-on block_eq (λ p. p.0) block_tells same-block there n (n + 1) (blocks_below there n) h (omega arith) (λ p stands le. past p stands e (cases_lt n p.0) le))
 
--- the files below a number are told
+-- the files below a number are reported
 pub record ToldBelow (v : ServerView) (n : ℕ) (w : ServerView) (list : List Shown) : Type 0 where
   pub files : List FileNo
   pub lists : ListsBelow file_eq (λ f. f.0) (λ f. to_print v (File f)) n files
@@ -183,7 +188,7 @@ module _ (v : ServerView) where
             (subst (λ (prints : LockUnit → Option Printed). TellsPiece (is_of_first f 120) w mid (prints_of_file prints f) x new) prints-on k));
       }
 
-      pub told-cut : (x : ServerView) (fault : ServerFault) → CutsPiece fault (is_of_first f 120) w x → CutsPiece fault (is_of_lesser (f.0 + 1)) v x
+      pub told-cut : (x : ServerView) (fault : CallFault) → CutsPiece fault (is_of_first f 120) w x → CutsPiece fault (is_of_lesser (f.0 + 1)) v x
       told-cut x fault k = cut-then (is_of_lesser n) (is_of_first f 120) (is_of_lesser (f.0 + 1)) (files-join n f next-on.from_there) v [] (print_files (to_print v) (blocks_of (to_print v)) h.files) w mid x h.tells fault k
 
 -- ---- the whole show
@@ -201,7 +206,7 @@ module _ (v : ServerView) (serves : IsServer v) where
     tables = h.tables;
   }
 
-  pub show-cut : (test : LockUnit → Bool) (w : ServerView) (fault : ServerFault) → CutsPiece fault test v w → CutsShort fault v w
+  pub show-cut : (test : LockUnit → Bool) (w : ServerView) (fault : CallFault) → CutsPiece fault test v w → CutsShort fault v w
   show-cut test w Stopped h = record {
     looks = looks-whole test w h.looks;
     stop = h.stop;
@@ -209,9 +214,9 @@ module _ (v : ServerView) (serves : IsServer v) where
   }
   show-cut test w NoMemory h = tt
 
-  pub shown-cut : {A : Type 0} (test : LockUnit → Bool) (w : ServerView) (fault : ServerFault) (answer : Result A ServerFault) → IsErr answer → IsErrAnd answer (λ e. e ≡ fault) → CutsPiece fault test v w → IfErr answer (λ e. CutsShort e v w)
+  pub shown-cut : {A : Type 0} (test : LockUnit → Bool) (w : ServerView) (fault : CallFault) (answer : Result A CallFault) → IsErr answer → IsErrAnd answer (λ e. e ≡ fault) → CutsPiece fault test v w → IfErr answer (λ e. CutsShort e v w)
   shown-cut test w fault (Ok x) h is k = tt
-  shown-cut test w fault (Err e) h is k = subst (λ (z : ServerFault). CutsShort z v w) (sym is) (show-cut test w fault k)
+  shown-cut test w fault (Err e) h is k = subst (λ (z : CallFault). CutsShort z v w) (sym is) (show-cut test w fault k)
 
   module _ (past : (f : FileNo) (p : BlockNo) → nat_lt p.0 120 ≡ false → (state v.storage).files (Block f p) ≡ None) where
     not-held : (f : FileNo) (p : BlockNo) → nat_lt p.0 120 ≡ false → (t : WorkerTable) → AreInRange t → commit_holder (Block f p) t ≡ None

@@ -1,5 +1,5 @@
 -- A background step of the worker, and what is sent again, as the whole server's.
-use Rattle.jn_server.proofs.Common.{◌≡◌, Bool, true, false, ◌||◌, [], ◌++◌, length, append_assoc, Option, Some, None, refl, sym, ◌∙◌, ap, arith, Result, Ok, Err, OnOk, is_ok, is_some, nat_lt, IsErr, IsErrAnd, Collected, RowOutcome, WorkerTable, worker_step, worker_again, coordinator_again, StorageView, state, added, WorkerFault, WorkerSteps, AsksAgain, WorkerView, seen, of_step, server_step, server_again, step-aside, ServerFault, fault_of, Steps, ServerView, memory_of, room_of, IsServer}
+use Rattle.jn_server.proofs.Common.{◌≡◌, Bool, true, false, ◌||◌, [], ◌++◌, length, append_assoc, Option, Some, None, refl, sym, ◌∙◌, ap, arith, Result, Ok, Err, OnOk, is_ok, is_some, nat_lt, IsErr, IsErrAnd, Collected, RowOutcome, WorkerTable, worker_step, worker_again, coordinator_again, StorageView, state, added, CallFault, WorkerSteps, AsksAgain, WorkerView, seen, of_step, server_step, server_again, step-aside, Steps, ServerView, memory_of, room_of, IsServer}
 use Rattle.jn_server.proofs.Room.{not_none}
 use Rattle.jn_server.proofs.Ranges.{step-in-range}
 use Rattle.jn_server.proofs.Working.{worked, one-leaves, worker_failed}
@@ -28,7 +28,7 @@ module _ (v : ServerView) (serves : IsServer v) (before : Collected) (u : Worker
   pub stepped : (b : Bool) → WorkerSteps step v.worker v.storage before v.tickets (Ok b) u w after v.tickets → Steps (of_step (memory_of v) step) v before (Ok b) now after
   stepped b h = stepped-by b step refl h
 
-  failed-by : (fault : WorkerFault) (answer : Result Bool ServerFault) → IsErr answer → IsErrAnd answer (λ e. e ≡ fault_of fault) → (o : Option (RowOutcome WorkerTable)) → step ≡ o
+  failed-by : (fault : CallFault) (answer : Result Bool CallFault) → IsErr answer → IsErrAnd answer (λ e. e ≡ fault) → (o : Option (RowOutcome WorkerTable)) → step ≡ o
       → WorkerSteps o v.worker v.storage before v.tickets (Err fault) u w after v.tickets → Steps (of_step (memory_of v) o) v before answer now after
   failed-by fault answer is why None e h = absurd (no-ok (Err fault) fault false refl h.0)
   failed-by fault answer is why (Some row) e h = (
@@ -37,11 +37,11 @@ module _ (v : ServerView) (serves : IsServer v) (before : Collected) (u : Worker
     (λ ok. absurd (never answer is ok)),
   )
     where
-      never : (answer : Result Bool ServerFault) → IsErr answer → is_ok answer ≡ true → ⊥
+      never : (answer : Result Bool CallFault) → IsErr answer → is_ok answer ≡ true → ⊥
       never (Ok x) i ok = cc i
       never (Err x) i ok = cc ok
 
-  pub step-failed : (fault : WorkerFault) (answer : Result Bool ServerFault) → IsErr answer → IsErrAnd answer (λ e. e ≡ fault_of fault)
+  pub step-failed : (fault : CallFault) (answer : Result Bool CallFault) → IsErr answer → IsErrAnd answer (λ e. e ≡ fault)
       → WorkerSteps step v.worker v.storage before v.tickets (Err fault) u w after v.tickets → Steps (of_step (memory_of v) step) v before answer now after
   step-failed fault answer is why h = failed-by fault answer is why step refl h
 

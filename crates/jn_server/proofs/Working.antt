@@ -1,7 +1,7 @@
 -- What the worker does by its row, the whole server does.
-use Rattle.jn_server.proofs.Common.{◌≡◌, inl, inr, ℕ, ◌+◌, ◌≤◌, true, false, List, [], ◌∷◌, Result, Ok, Err, refl, sym, ◌∙◌, ap, subst, arith, length, IsErr, IsErrAnd, nat_tests, Tickets, Collected, StableState, Change, RowOutcome, WorkerTable, name_from, Accounts, StorageView, state, calm_on, WorkerFault, Takes, CountsBy, WorkerView, flag_told, are_before, added, of_worker, epoch-all, DrawsOne, works-flags, ServerFault, fault_of, ServerView, memory_of, IsServer, AreInRange, IsDone, IsStopped, Does, LeavesRubbish, left_over}
+use Rattle.jn_server.proofs.Common.{◌≡◌, inl, inr, ℕ, ◌+◌, ◌≤◌, true, false, List, [], ◌∷◌, Result, Ok, Err, refl, sym, ◌∙◌, ap, subst, arith, length, IsErr, IsErrAnd, nat_tests, Tickets, Collected, StableState, Change, RowOutcome, WorkerTable, name_from, Accounts, StorageView, state, calm_on, CallFault, Takes, CountsBy, WorkerView, flag_told, are_before, added, of_worker, epoch-all, DrawsOne, works-flags, ServerView, memory_of, IsServer, AreInRange, IsDone, IsStopped, Does, LeavesRubbish, left_over}
 use Rattle.jn_rows.specs.declared.coordinator.Transaction.{Transaction}
-use Rattle.jn_worker.specs.declared.words.WorkerFault.TheVariants as faults
+use Rattle.jn_base.specs.declared.fault.CallFault.TheVariants as faults
 use Rattle.jn_system.proofs.WholeSystem.WorkerChanges.{Aside}
 
 -- a later ticket comes after the same names
@@ -71,8 +71,8 @@ module _ (most bound : ℕ) (within : most ≤ bound) (v : ServerView) (serves :
     }
 
     -- why it wasn't done
-    pub worker_failed : {A : Type 0} (B : Type 0) (fault : WorkerFault) (answer : Result A ServerFault) → IsErr answer → IsErrAnd answer (λ e. e ≡ fault_of fault)
+    pub worker_failed : {A : Type 0} (B : Type 0) (fault : CallFault) (answer : Result A CallFault) → IsErr answer → IsErrAnd answer (λ e. e ≡ fault)
         → Takes {A = B} most row v.worker v.storage before v.tickets (Err fault) u w after l → Does bound (of_worker (memory_of v) row) v before answer now after
     worker_failed B fault (Ok x) h is t = absurd (cc h)
-    worker_failed {A} B faults.Stopped (Err e) h is t = subst (λ (z : ServerFault). Does {A = A} bound (of_worker (memory_of v) row) v before (Err z) now after) (sym is) (worker_stopped t)
-    worker_failed {A} B faults.Memory (Err e) h is t = subst (λ (z : ServerFault). Does {A = A} bound (of_worker (memory_of v) row) v before (Err z) now after) (sym is) tt
+    worker_failed {A} B faults.Stopped (Err e) h is t = subst (λ (z : CallFault). Does {A = A} bound (of_worker (memory_of v) row) v before (Err z) now after) (sym is) (worker_stopped t)
+    worker_failed {A} B faults.Memory (Err e) h is t = subst (λ (z : CallFault). Does {A = A} bound (of_worker (memory_of v) row) v before (Err z) now after) (sym is) tt

@@ -13,15 +13,15 @@ use Rattle.jn_transactions.specs.Telling.{added}
 use Rattle.jn_worker.specs.Leaving.{left_over}
 use Rattle.jn_system.specs.WholeSystem.World.{Memory}
 use Rattle.jn_system.specs.WholeSystem.Servers.{server_timeout}
-use Rattle.jn_server.specs.declared.fault.ServerFault.{ServerFault}
-use Rattle.jn_server.specs.declared.fault.ServerFault.TheVariants.{Stopped, Memory as NoMemory}
+use Rattle.jn_base.specs.declared.fault.CallFault.{CallFault}
+use Rattle.jn_base.specs.declared.fault.CallFault.TheVariants.{Stopped, Memory as NoMemory}
 use Rattle.jn_server.specs.Seen.{ServerView, memory_of, IsServer}
 
 -- nothing but a work that is removed leaves rubbish
 abbrev pub LeavesRubbish : ServerView → RowOutcome Memory → ServerView → Type 0
 LeavesRubbish v row w = length w.storage.accounts.rubbish ≡ length v.storage.accounts.rubbish + left_over (state v.storage) row.changes
 
--- It is done: all the row's changes are made, whichever halves are read, and its messages and notes are told.
+-- It is done: all the row's changes are made, whichever halves are read, and its messages and notes are reported.
 pub record IsDone (most : ℕ) (row : RowOutcome Memory) (v : ServerView) (before : Collected) (w : ServerView) (after : Collected) : Type 0 where
   pub memory : memory_of w ≡ row.table
   pub found : (c : Pick) → w.storage.found c ≡ made_all row.changes (state v.storage)
@@ -31,7 +31,7 @@ pub record IsDone (most : ℕ) (row : RowOutcome Memory) (v : ServerView) (befor
   pub calls : w.storage.store.calls ≤ v.storage.store.calls + most
   pub no_stop : w.storage.store.stops ≡ v.storage.store.stops
 
--- It is stopped: by each pick some of the row's changes are made, from the first one on, and nothing is sent or told. While no
+-- It is stopped: by each pick some of the row's changes are made, from the first one on, and nothing is sent or reported. While no
 -- fault waits that doesn't happen.
 pub record IsStopped (most : ℕ) (row : RowOutcome Memory) (v : ServerView) (before : Collected) (w : ServerView) (after : Collected) : Type 0 where
   pub some : (c : Pick) → IsStopState (state v.storage) row.changes (w.storage.found c)
@@ -42,7 +42,7 @@ pub record IsStopped (most : ℕ) (row : RowOutcome Memory) (v : ServerView) (be
   pub not_calm : IsCalm v.storage.store → ⊥
 
 -- without memory the server is of no use any more
-abbrev pub Does : {A : Type 0} → ℕ → RowOutcome Memory → ServerView → Collected → Result A ServerFault → ServerView → Collected → Type 0
+abbrev pub Does : {A : Type 0} → ℕ → RowOutcome Memory → ServerView → Collected → Result A CallFault → ServerView → Collected → Type 0
 Does most row v before (Ok x) w after = IsDone most row v before w after
 Does most row v before (Err Stopped) w after = IsStopped most row v before w after
 Does most row v before (Err NoMemory) w after = ⊤
@@ -52,7 +52,7 @@ abbrev pub StepLeaves : ServerView → RowOutcome Memory → ServerView → Type
 StepLeaves v row w = (row.changes ≡ [] → CountsErased v.storage.accounts w.storage.accounts) × ((c : Change) → row.changes ≡ c ∷ [] → LeavesRubbish v row w)
 
 -- A background step whose row this is: it is answered true, and false where there is none and nothing is done.
-abbrev pub Steps : Option (RowOutcome Memory) → ServerView → Collected → Result Bool ServerFault → ServerView → Collected → Type 0
+abbrev pub Steps : Option (RowOutcome Memory) → ServerView → Collected → Result Bool CallFault → ServerView → Collected → Type 0
 Steps None v before answer w after = (answer ≡ Ok false) × (w ≡ v) × (after ≡ before)
 Steps (Some row) v before answer w after =
     Does step_calls row v before answer w after × (is_ok answer ≡ true → answer ≡ Ok true) × (is_ok answer ≡ true → StepLeaves v row w)

@@ -3,7 +3,6 @@ pub mod Standing
 pub mod Reading
 pub mod Ranges
 pub mod Handling
-pub mod Faults
 pub mod Restarting
 pub mod Befalling
 pub mod Showing

@@ -1,4 +1,4 @@
--- A piece of a show: what it tells, and which blocks it reads.
+-- A piece of a show: what it reports, and which blocks it reads.
 use Rattle.std.specs.Prelude.{◌≡◌, ◌≤◌, ◌<◌, ◌+◌, ◌*◌, ⊤, ℕ, zero, suc, Bool, true, false, nat_lt, ◌&&◌, List, [], ◌∷◌, ◌++◌, map, Option, Some, None}
 use Rattle.jn_base.specs.declared.names.FileNo.{FileNo}
 use Rattle.jn_base.specs.declared.names.BlockNo.{BlockNo}
@@ -14,8 +14,8 @@ use Rattle.jn_store.specs.Store.{IsStop}
 use Rattle.jn_store.specs.DeviceCalls.{cleaned_get_calls}
 use Rattle.jn_system.specs.WholeSystem.Printing.{Printed, prints_in, print_file, print_blocks}
 use Rattle.jn_server.specs.declared.show.Shown.{Shown}
-use Rattle.jn_server.specs.declared.fault.ServerFault.{ServerFault}
-use Rattle.jn_server.specs.declared.fault.ServerFault.TheVariants.{Stopped, Memory as NoMemory}
+use Rattle.jn_base.specs.declared.fault.CallFault.{CallFault}
+use Rattle.jn_base.specs.declared.fault.CallFault.TheVariants.{Stopped, Memory as NoMemory}
 use Rattle.jn_server.specs.Seen.{ServerView, IsServer}
 use Rattle.jn_server.specs.Showing.{print_of}
 
@@ -30,17 +30,13 @@ abbrev pub count_of : (LockUnit → Bool) → List LockUnit → ℕ
 count_of test [] = 0
 count_of test (u ∷ us) = one_if (test u) + count_of test us
 
--- this unit alone, the first blocks of a file, what is of files with lesser numbers
+-- this unit alone, and the first blocks of a file
 abbrev pub is_at : LockUnit → LockUnit → Bool
 is_at u x = unit_eq x u
 
 abbrev pub is_of_first : FileNo → ℕ → LockUnit → Bool
 is_of_first f n (File g) = false
 is_of_first f n (Block g p) = file_eq g f && nat_lt p.0 n
-
-abbrev pub is_of_lesser : ℕ → LockUnit → Bool
-is_of_lesser n (File g) = nat_lt g.0 n
-is_of_lesser n (Block g p) = nat_lt g.0 n
 
 -- ---- what there is to print
 
@@ -58,9 +54,6 @@ block_at n = record { 0 = n }
 unfoldable pub blocks_below : (BlockNo → Option Printed) → ℕ → List BlockNo
 blocks_below there zero = []
 blocks_below there (suc n) = blocks_below there n ++ name_if (block_at n) (there (block_at n))
-
-abbrev pub blocks_of : (LockUnit → Option Printed) → FileNo → List BlockNo
-blocks_of prints f = blocks_below (λ p. prints (Block f p)) most_blocks
 
 abbrev pub prints_of_blocks : (LockUnit → Option Printed) → FileNo → ℕ → List Printed
 prints_of_blocks prints f n = print_blocks prints f (blocks_below (λ p. prints (Block f p)) n)
@@ -92,7 +85,7 @@ pub record LooksOver (test : LockUnit → Bool) (v w : ServerView) : Type 0 wher
   pub calls : (blocks : List LockUnit) → IsListing unit_eq (is_stored (state v.storage).files) blocks → w.storage.store.calls ≤ v.storage.store.calls + cleaned_get_calls * count_of test blocks
   pub tables : w ≡ record v { storage = w.storage }
 
--- it has told this at the list's end
+-- it has reported this at the list's end
 pub record TellsPiece (test : LockUnit → Bool) (v : ServerView) (old : List Shown) (prints : List Printed) (w : ServerView) (new : List Shown) : Type 0 where
   pub looks : LooksOver test v w
   pub told : map print_of new ≡ map print_of old ++ prints
@@ -104,6 +97,6 @@ pub record IsPieceCut (test : LockUnit → Bool) (v w : ServerView) : Type 0 whe
   pub looks : LooksOver test v w
   pub stop : IsStop v.storage.store w.storage.store
 
-abbrev pub CutsPiece : ServerFault → (LockUnit → Bool) → ServerView → ServerView → Type 0
+abbrev pub CutsPiece : CallFault → (LockUnit → Bool) → ServerView → ServerView → Type 0
 CutsPiece Stopped test v w = IsPieceCut test v w
 CutsPiece NoMemory test v w = ⊤

@@ -1,4 +1,4 @@
--- A block that is written is one of the 120 of its file.
+-- A block that is written is one of those of its file.
 use Rattle.std.specs.Prelude.{◌≡◌, true, List, []}
 use Rattle.std.specs.List.{AllByRecursion, list_all}
 use Rattle.jn_base.specs.declared.names.LockUnit.{LockUnit}

@@ -1,7 +1,7 @@
 -- What the rows of a server read of its storage, as it stands on the pages.
 use Rattle.std.specs.Prelude.{◌≡◌, true, length, count_by}
-use Rattle.jn_found.specs.Pages.{pool_on, heads_on}
-use Rattle.jn_found.specs.Recoverable.{IsRecoverable}
+use Rattle.jn_page_state.specs.Pages.{pool_on, heads_on}
+use Rattle.jn_page_state.specs.Recoverable.{IsRecoverable}
 use Rattle.jn_intent.specs.Scrubbing.{counts_in}
 use Rattle.jn_sets.specs.Pool.{free_count, rubbish_count}
 use Rattle.jn_server.specs.Seen.{ServerView, memory_of, room_of}

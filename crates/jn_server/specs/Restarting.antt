@@ -1,14 +1,14 @@
 -- How a server comes up, and what a restart that doesn't leaves.
-use Rattle.std.specs.Prelude.{◌≡◌, ◌≤◌, ◌+◌, ℕ, List, take}
+use Rattle.std.specs.Prelude.{◌≡◌, ◌≤◌, ◌+◌, ℕ, List}
 use Rattle.jn_base.specs.declared.names.ServerNo.{ServerNo}
 use Rattle.jn_base.specs.declared.names.Tid.{Tid}
 use Rattle.jn_base.specs.declared.names.WorkId.{WorkId}
 use Rattle.jn_base.specs.Names.{tid_eq, work_eq}
 use Rattle.jn_locks.specs.Locks.{work_before}
 use Rattle.jn_records.specs.StablePages.{Counts}
-use Rattle.jn_rows.specs.Stable.{StableState, Change, Pick, made_all}
-use Rattle.jn_found.specs.Pages.{found_on}
-use Rattle.jn_found.specs.Recoverable.{IsRecoverable}
+use Rattle.jn_rows.specs.Stable.{StableState, Change, Pick, Left, left_of}
+use Rattle.jn_page_state.specs.Pages.{found_on}
+use Rattle.jn_page_state.specs.Recoverable.{IsRecoverable}
 use Rattle.jn_store.specs.Store.{StoreView}
 use Rattle.jn_storage.specs.Storage.{StorageView}
 use Rattle.jn_recovery.specs.declared.load.DownCause.{DownCause}
@@ -31,8 +31,8 @@ pub record AreTables (v : StorageView) (t : WorkerView) (r : Remembered) : Type 
 
 -- a state that a stop within these changes may have left, in whatever epoch
 pub record IsWithin (x : StableState) (changes : List Change) (y : StableState) : Type 0 where
-  pub made : ℕ
-  pub is_after : y ≡ record (made_all (take made changes) x) { epoch = y.epoch }
+  pub left : Left
+  pub is_after : y ≡ record (left_of left changes x) { epoch = y.epoch }
 
 -- by each pick such a state is found
 abbrev pub AreWithin : StableState → List Change → (Pick → StableState) → Type 0

@@ -12,8 +12,8 @@ use Rattle.jn_store.specs.DeviceCalls.{cleaned_get_calls}
 use Rattle.jn_system.specs.WholeSystem.Printing.{Printed, FileThere, PageStored, UnitLocked, prints_in, ArePrints}
 use Rattle.jn_server.specs.declared.show.Shown.{Shown}
 use Rattle.jn_server.specs.declared.show.Shown.TheVariants as shown
-use Rattle.jn_server.specs.declared.fault.ServerFault.{ServerFault}
-use Rattle.jn_server.specs.declared.fault.ServerFault.TheVariants.{Stopped, Memory as NoMemory}
+use Rattle.jn_base.specs.declared.fault.CallFault.{CallFault}
+use Rattle.jn_base.specs.declared.fault.CallFault.TheVariants.{Stopped, Memory as NoMemory}
 use Rattle.jn_server.specs.Seen.{ServerView, IsServer}
 
 -- as the whole system prints it
@@ -30,11 +30,11 @@ pub record Looks (v w : ServerView) : Type 0 where
   pub calls : w.storage.store.calls ≤ v.storage.store.calls + cleaned_get_calls * v.storage.accounts.leaves
   pub tables : w ≡ record v { storage = w.storage }
 
--- It tells of each file what is stored, or who holds it for commit, in rising order, and of each file that is there so of each block.
+-- It reports of each file what is stored, or who holds it for commit, in rising order, and of each file that is there so of each block.
 pub record IsShown (v : ServerView) (list : List Shown) (w : ServerView) : Type 0 where
   pub looks : Looks v w
   pub prints : ArePrints (prints_in v.worker.table (state v.storage).files) (map print_of list)
-  -- a block of which there is something to print is one of the 120
+  -- a block of which there is something to print is one of a file's
   pub in_range : (f : FileNo) (p : BlockNo) → is_some (prints_in v.worker.table (state v.storage).files (Block f p)) ≡ true → p.0 < most_blocks
   pub accounts : w.storage.accounts ≡ v.storage.accounts
   pub serves : IsServer w
@@ -46,6 +46,6 @@ pub record IsCutShort (v w : ServerView) : Type 0 where
   pub not_calm : IsCalm v.storage.store → ⊥
 
 -- without memory the server is of no use any more
-abbrev pub CutsShort : ServerFault → ServerView → ServerView → Type 0
+abbrev pub CutsShort : CallFault → ServerView → ServerView → Type 0
 CutsShort Stopped v w = IsCutShort v w
 CutsShort NoMemory v w = ⊤

@@ -8,8 +8,8 @@ use Rattle.jn_records.specs.declared.record.Record.{Record}
 use Rattle.jn_records.specs.StablePages.{Counts, Pages}
 use Rattle.jn_sets.specs.Pool.{free_count, is_rubbish}
 use Rattle.jn_store.specs.Store.{StoreView}
-use Rattle.jn_found.specs.Contents.{heads_name, works_name}
-use Rattle.jn_found.specs.Pages.{pool_on, heads_on, listed, pages_by}
+use Rattle.jn_page_state.specs.Contents.{heads_name, works_name}
+use Rattle.jn_page_state.specs.Pages.{pool_on, heads_on, listed, pages_by}
 use Rattle.jn_rows.specs.Stable.{StableState}
 use Rattle.jn_rows.specs.Worker.{WorkerTable, intentions_of, need_in}
 use Rattle.jn_rows.specs.Coordinator.{promised}

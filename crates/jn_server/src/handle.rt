@@ -1,7 +1,7 @@
 //! What a server does with a message.
 ghost use Rattle.std.specs.Prelude.{◌≡◌, ◌<◌, ◌+◌, ◌^◌, true, false, OnOk};
 ghost use Rattle.jn_coord.specs.Calls.{free_of};
-ghost use Rattle.jn_coord.specs.Handling.{FewWorks};
+ghost use Rattle.jn_msgs.specs.Ranges.{CanBeTaken};
 ghost use Rattle.jn_coord.specs.Remembered.{table_of};
 ghost use Rattle.jn_system.specs.WholeSystem.Servers.{of_worker, of_coordinator, server_row, is_for_worker};
 ghost use Rattle.jn_rows.specs.Coordinator.{coordinator_row};
@@ -12,7 +12,6 @@ ghost use Rattle.jn_server.specs.Seen.{view_with, memory_of, room_of, IsServer};
 ghost use Rattle.jn_server.specs.Reading.{IsRoomOfPages};
 ghost use Rattle.jn_storage.specs.Calls.{state};
 ghost use Rattle.jn_worker.specs.Fitting.{seen};
-ghost use Rattle.jn_worker.specs.Handling.{InRange};
 
 use crate::fault::ServerFault;
 use crate::server::Server;
@@ -24,7 +23,7 @@ impl<S: StableStore> Server<S> {
     fn work_on(&mut self, message: &Message, out: &mut Out) -> Result<(), ServerFault>
         requires serves { IsServer (view_with (λ s. S.view s) self.old) }
         requires next { self.old.tickets.next + 1 < 2 ^ 32 }
-        requires range { InRange message.now }
+        requires taken { CanBeTaken message.now }
         ensures does { let v = view_with (λ s. S.view s) self.old in Does row_calls (of_worker (memory_of v) (worker_row v.worker.table (seen v.storage) v.tickets message.now)) v out.old result (view_with (λ s. S.view s) self.new) out.new }
         ensures rubbish { let v = view_with (λ s. S.view s) self.old in OnOk result (LeavesRubbish v (of_worker (memory_of v) (worker_row v.worker.table (seen v.storage) v.tickets message.now)) (view_with (λ s. S.view s) self.new)) }
     {
@@ -37,7 +36,7 @@ impl<S: StableStore> Server<S> {
     fn coordinate(&mut self, message: &Message, out: &mut Out) -> Result<(), ServerFault>
         requires serves { IsServer (view_with (λ s. S.view s) self.old) }
         requires next { self.old.tickets.next + 1 < 2 ^ 32 }
-        requires few { FewWorks message.now }
+        requires taken { CanBeTaken message.now }
         ensures does { let v = view_with (λ s. S.view s) self.old in Does row_calls (of_coordinator (memory_of v) (coordinator_row (table_of v.coordinator) (free_of v.storage) v.tickets message.now)) v out.old result (view_with (λ s. S.view s) self.new) out.new }
         ensures rubbish { let v = view_with (λ s. S.view s) self.old in OnOk result (LeavesRubbish v (of_coordinator (memory_of v) (coordinator_row (table_of v.coordinator) (free_of v.storage) v.tickets message.now)) (view_with (λ s. S.view s) self.new)) }
     {
@@ -51,8 +50,7 @@ impl<S: StableStore> Server<S> {
     pub fn handle(&mut self, message: &Message, out: &mut Out) -> Result<(), ServerFault>
         requires serves { IsServer (view_with (λ s. S.view s) self.old) }
         requires next { self.old.tickets.next + 1 < 2 ^ 32 }
-        requires range { InRange message.now }
-        requires few { FewWorks message.now }
+        requires taken { CanBeTaken message.now }
         ensures does { let v = view_with (λ s. S.view s) self.old in Does row_calls (server_row (memory_of v) (state v.storage) (room_of v.storage) message.now) v out.old result (view_with (λ s. S.view s) self.new) out.new }
         ensures rubbish { let v = view_with (λ s. S.view s) self.old in OnOk result (LeavesRubbish v (server_row (memory_of v) (state v.storage) (room_of v.storage) message.now) (view_with (λ s. S.view s) self.new)) }
         ensures room { IsRoomOfPages (view_with (λ s. S.view s) self.old) }

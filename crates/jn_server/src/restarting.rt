@@ -2,7 +2,7 @@
 ghost use Rattle.std.specs.Prelude.{◌≡◌, ◌<◌, ◌^◌, IfOk, IfErr};
 ghost use Rattle.jn_base.specs.declared.names.ServerNo.{ServerNo};
 ghost use Rattle.jn_coord.specs.Restoring.{Restored};
-ghost use Rattle.jn_found.specs.Recoverable.{IsRecoverable};
+ghost use Rattle.jn_page_state.specs.Recoverable.{IsRecoverable};
 ghost use Rattle.jn_recovery.specs.Counts.{counts_by};
 ghost use Rattle.jn_recovery.specs.Memory.{view_of};
 ghost use Rattle.jn_recovery.specs.declared.load.DownCause.TheVariants.{Memory};

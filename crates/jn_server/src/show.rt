@@ -5,6 +5,7 @@ ghost use Rattle.jn_base.specs.Limits.{most_blocks};
 ghost use Rattle.jn_system.specs.WholeSystem.Printing.{print_one};
 ghost use Rattle.jn_recovery.specs.Memory.{view_of};
 ghost use Rattle.jn_rows.specs.Worker.{commit_holder};
+ghost use Rattle.jn_server.specs.declared.show.Shown.TheVariants.{Page};
 ghost use Rattle.jn_server.specs.Pieces.{is_at, is_of_first, to_print, prints_of_blocks, prints_of_file, number_after, NextShown, TellsPiece, CutsPiece};
 ghost use Rattle.jn_server.specs.Seen.{view_with, IsServer};
 ghost use Rattle.jn_server.specs.Showing.{IsShown, CutsShort};
@@ -13,25 +14,25 @@ ghost use Rattle.jn_works.specs.Locked.{lesser};
 
 use crate::fault::ServerFault;
 use crate::server::Server;
-use jn_base::{Block, BlockNo, FileNo, LockUnit, Stopped, Tid};
+use jn_base::{Block, BlockContent, BlockNo, FileNo, LockUnit, MOST_BLOCKS, Stopped, Tid};
 use jn_storage::StoredFiles;
 use jn_store::StableStore;
 use std::alloc::{AllocError, Global};
 
-/// What is told of a file or a block.
-#[derive(Clone, Copy, Debug, PartialEq, Eq, Drop)]
+/// What is reported of a file or a block.
+#[derive(Drop)]
 pub enum Shown {
     /// The file is there.
     File(FileNo),
     /// A prepared work of the transaction holds the file or the block for commit.
     Locked(LockUnit, Tid),
     /// The block is stored, with these bytes.
-    Page(FileNo, BlockNo, Block),
+    Page(FileNo, BlockNo, BlockContent),
 }
 
 impl<S: StableStore> Server<S> {
-    /// Tells of the files, in rising order: one that a prepared work holds for commit is told as locked, alone; any other that is
-    /// there with its blocks after it, each as locked or as it is stored. A show that is stopped tells nothing. Each stored block is
+    /// Reports the files, in rising order: one that a prepared work holds for commit is reported as locked, alone; any other that is
+    /// there with its blocks after it, each as locked or as it is stored. A show that is stopped reports nothing. Each stored block is
     /// read once.
     pub fn show(&mut self, alloc: Global) -> Result<Vec<Shown>, ServerFault>
         requires serves { IsServer (view_with (λ s. S.view s) self.old) }
@@ -41,7 +42,7 @@ impl<S: StableStore> Server<S> {
         let mut list = Vec::new(alloc);
         let mut after = None;
         while let Some(file) = self.next_shown(after) {
-            self.show_file(file, &mut list)?;
+            self.show_file(alloc, file, &mut list)?;
             after = Some(file);
         }
         Ok(list)
@@ -58,7 +59,12 @@ impl<S: StableStore> Server<S> {
     }
 
     /// The file is there or held for commit.
-    fn show_file(&mut self, file: FileNo, list: &mut Vec<Shown>) -> Result<(), ServerFault>
+    fn show_file(
+        &mut self,
+        alloc: Global,
+        file: FileNo,
+        list: &mut Vec<Shown>,
+    ) -> Result<(), ServerFault>
         requires serves { IsServer (view_with (λ s. S.view s) self.old) }
         requires there { is_some (to_print (view_with (λ s. S.view s) self.old) (File file)) ≡ true }
         ensures shown { let v = view_with (λ s. S.view s) self.old in OnOk result (TellsPiece (is_of_first file most_blocks) v list.old.items (prints_of_file (to_print v) file) (view_with (λ s. S.view s) self.new) list.new.items) }
@@ -69,11 +75,16 @@ impl<S: StableStore> Server<S> {
             tell(list, Shown::Locked(unit, tid))?;
             return Ok(());
         }
-        self.show_stored(file, list)
+        self.show_stored(alloc, file, list)
     }
 
     /// The file is there and isn't held for commit.
-    fn show_stored(&mut self, file: FileNo, list: &mut Vec<Shown>) -> Result<(), ServerFault>
+    fn show_stored(
+        &mut self,
+        alloc: Global,
+        file: FileNo,
+        list: &mut Vec<Shown>,
+    ) -> Result<(), ServerFault>
         requires serves { IsServer (view_with (λ s. S.view s) self.old) }
         requires there { is_some (to_print (view_with (λ s. S.view s) self.old) (File file)) ≡ true }
         requires free { commit_holder (File file) self.old.worker.table ≡ None }
@@ -81,22 +92,28 @@ impl<S: StableStore> Server<S> {
         ensures cut { IfErr result (λ fault. CutsPiece fault (is_of_first file most_blocks) (view_with (λ s. S.view s) self.old) (view_with (λ s. S.view s) self.new)) }
     {
         tell(list, Shown::File(file))?;
-        self.show_blocks(file, list)
+        self.show_blocks(alloc, file, list)
     }
 
-    fn show_blocks(&mut self, file: FileNo, list: &mut Vec<Shown>) -> Result<(), ServerFault>
+    fn show_blocks(
+        &mut self,
+        alloc: Global,
+        file: FileNo,
+        list: &mut Vec<Shown>,
+    ) -> Result<(), ServerFault>
         requires serves { IsServer (view_with (λ s. S.view s) self.old) }
         ensures shown { let v = view_with (λ s. S.view s) self.old in OnOk result (TellsPiece (is_of_first file most_blocks) v list.old.items (prints_of_blocks (to_print v) file most_blocks) (view_with (λ s. S.view s) self.new) list.new.items) }
         ensures cut { IfErr result (λ fault. CutsPiece fault (is_of_first file most_blocks) (view_with (λ s. S.view s) self.old) (view_with (λ s. S.view s) self.new)) }
     {
-        for block in 0..120 {
-            self.show_block(file, BlockNo(block), list)?;
+        for block in 0..MOST_BLOCKS {
+            self.show_block(alloc, file, BlockNo(block), list)?;
         }
         Ok(())
     }
 
     fn show_block(
         &mut self,
+        alloc: Global,
         file: FileNo,
         block: BlockNo,
         list: &mut Vec<Shown>,
@@ -111,12 +128,13 @@ impl<S: StableStore> Server<S> {
             tell(list, Shown::Locked(unit, tid))?;
             return Ok(());
         }
-        self.show_page(file, block, list)
+        self.show_page(alloc, file, block, list)
     }
 
     /// The block isn't held for commit.
     fn show_page(
         &mut self,
+        alloc: Global,
         file: FileNo,
         block: BlockNo,
         list: &mut Vec<Shown>,
@@ -133,7 +151,7 @@ impl<S: StableStore> Server<S> {
         let Some(bytes) = self.read(file, block)? else {
             unreachable!()
         };
-        tell(list, Shown::Page(file, block, bytes))?;
+        tell_page(alloc, list, file, block, &bytes)?;
         Ok(())
     }
 
@@ -174,6 +192,21 @@ fn lesser(a: Option<FileNo>, b: Option<FileNo>) -> Option<FileNo>
         (Some(f), None) => Some(f),
         (None, g) => g,
     }
+}
+
+/// Adds a block with these bytes to the list.
+fn tell_page(
+    alloc: Global,
+    list: &mut Vec<Shown>,
+    file: FileNo,
+    block: BlockNo,
+    bytes: &Block,
+) -> Result<(), AllocError>
+    ensures { OnOk result (list.new.items ≡ list.old.items ++ Page file block bytes.now ∷ []) }
+{
+    let content = BlockContent::from_block(alloc, bytes)?;
+    tell(list, Shown::Page(file, block, content))?;
+    Ok(())
 }
 
 /// Adds one to the list.

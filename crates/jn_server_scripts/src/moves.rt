@@ -1,18 +1,19 @@
 //! What a test makes a server do.
 ghost use Rattle.std.specs.Prelude.{◌<◌, ◌≤◌, length, IfOk, IfSome};
-ghost use Rattle.jn_coord.specs.Handling.{FewWorks};
-ghost use Rattle.jn_storage.specs.Viewing.{BlockInRange};
-ghost use Rattle.jn_worker.specs.Handling.{InRange};
+ghost use Rattle.jn_msgs.specs.Ranges.{CanBeTaken};
+ghost use Rattle.jn_base.specs.Ops.{BlockInRange};
+ghost use Rattle.jn_base.specs.Limits.{most_blocks};
 
 use jn_base::{
-    BlockContent, BlockNo, ClientNo, FileNo, Op, OperationNo, RequestNo, ServerNo, Tid, WorkId,
+    BlockContent, BlockNo, ClientNo, FileNo, MOST_BLOCKS, Op, OperationNo, RequestNo, ServerNo,
+    Tid, WorkId,
 };
 use jn_msgs::{Message, Vote, Works};
 use std::alloc::{AllocError, Global};
 
 pub const SERVER: ServerNo = ServerNo(0);
 
-/// An operation of a file and one of its 120 blocks; a write is of nines.
+/// An operation of a file and one of its blocks; a write is of nines.
 #[derive(Clone, Copy)]
 pub enum Task {
     Create(u32),
@@ -64,9 +65,9 @@ pub enum Move {
 }
 
 fn block(p: u8) -> BlockNo
-    ensures { result.0 < 120 }
+    ensures { result.0 < most_blocks }
 {
-    BlockNo(u16::from(p % 120))
+    BlockNo(u16::from(p) % MOST_BLOCKS)
 }
 
 fn op_of(alloc: Global, task: Task) -> Result<Op, AllocError>
@@ -97,8 +98,7 @@ fn works_of(alloc: Global, named: Named) -> Result<Works, AllocError>
 
 /// The message that makes the server do this, where it is one.
 pub fn message_of(alloc: Global, step: Move) -> Result<Option<Message>, AllocError>
-    ensures range { IfOk result (λ message. IfSome message InRange) }
-    ensures few { IfOk result (λ message. IfSome message FewWorks) }
+    ensures { IfOk result (λ message. IfSome message CanBeTaken) }
 {
     let message = match step {
         Move::Begin(c, request) => Message::Begin(ClientNo(c), RequestNo(request)),

@@ -304,10 +304,10 @@ impl Words {
                 self.word("locked")?;
                 self.held(*unit, *by)
             }
-            Shown::Page(f, p, block) => {
+            Shown::Page(f, p, content) => {
                 self.word("page")?;
                 self.unit(LockUnit::Block(*f, *p))?;
-                self.block(block)
+                self.block(&content.to_block())
             }
         }
     }

@@ -21,9 +21,9 @@ use Rattle.jn_recovery.specs.declared.load.Found.{Found}
 use Rattle.jn_recovery.specs.Counts.{counts_by}
 use Rattle.jn_records.specs.StablePages.{page_count}
 use Rattle.jn_server_tests.specs.Restarts.{MayBegin, IsOf}
-use Rattle.jn_server_tests.proofs.Starts.{later_of, loaded_started, may_begin}
-use Rattle.jn_server.specs.declared.fault.ServerFault.{ServerFault}
-use Rattle.jn_server.specs.declared.fault.ServerFault.TheVariants.{Stopped, Memory as NoMemory}
+use Rattle.jn_server_tests.proofs.Starts.{later_of, loaded_of, may_begin}
+use Rattle.jn_base.specs.declared.fault.CallFault.{CallFault}
+use Rattle.jn_base.specs.declared.fault.CallFault.TheVariants.{Stopped, Memory as NoMemory}
 use Rattle.jn_server.specs.Handling.{Does, Steps, TimesOut}
 use Rattle.jn_storage.specs.DeviceCalls.{row_calls}
 use Rattle.jn_server.specs.Restarting.{IsRestarted, IsLeft}
@@ -51,7 +51,7 @@ row-names m x room message = by (is_for_worker message)
 pub restarted-on : (n : PageCounts) (v : StoreView) (told : Found) (w : ServerView) → MayBegin the_server n v → IsRestarted the_server (counts_by n) v told w → IsOn n 0 w
 restarted-on n v told w begin r = record {
   serves = r.serves;
-  of = (loaded_started the_server n v told w.storage r.loaded).of;
+  of = loaded_of the_server n v told w.storage r.loaded;
   count = r.loaded.recovering.later.count ∙ sym begin.count;
   drawn = let none = ap (λ (m : Memory). m.tickets.next) r.remembers in omega (arith, none);
 }
@@ -68,7 +68,7 @@ module _ (n : PageCounts) (k : ℕ) (v w : ServerView) (on : IsOn n k v) where
   pages : StorageLater v.storage w.storage → w.storage.store.count ≡ page_count (counts_by n)
   pages later = later.store.count ∙ on.count
 
-  done : {A : Type 0} (most names : ℕ) (row : RowOutcome Memory) (answer : Result A ServerFault) (before after : Collected) → row.table.tickets.next ≤ names → Does most row v before answer w after → LeavesServer n names answer w
+  done : {A : Type 0} (most names : ℕ) (row : RowOutcome Memory) (answer : Result A CallFault) (before after : Collected) → row.table.tickets.next ≤ names → Does most row v before answer w after → LeavesServer n names answer w
   done most names row (Ok x) before after few does = record {
     serves = does.serves;
     of = kept does.later;
@@ -78,20 +78,20 @@ module _ (n : PageCounts) (k : ℕ) (v w : ServerView) (on : IsOn n k v) where
   done most names row (Err Stopped) before after few does = kept does.later
   done most names row (Err NoMemory) before after few does = tt
 
-  pub told : {A : Type 0} (message : Message) (answer : Result A ServerFault) (before after : Collected) → Does row_calls (server_row (memory_of v) (state v.storage) (room_of v.storage) message) v before answer w after → LeavesServer n (k + 1) answer w
+  pub told : {A : Type 0} (message : Message) (answer : Result A CallFault) (before after : Collected) → Does row_calls (server_row (memory_of v) (state v.storage) (room_of v.storage) message) v before answer w after → LeavesServer n (k + 1) answer w
   told message answer before after does = done row_calls (k + 1) _ answer before after (let few = row-names (memory_of v) (state v.storage) (room_of v.storage) message in let drawn = on.drawn in omega (arith, few, drawn)) does
 
-  pub closed : {A : Type 0} (answer : Result A ServerFault) (before after : Collected) → Does row_calls (of_coordinator (memory_of v) (close_clients_row (memory_of v).coordinator v.tickets)) v before answer w after → LeavesServer n k answer w
+  pub closed : {A : Type 0} (answer : Result A CallFault) (before after : Collected) → Does row_calls (of_coordinator (memory_of v) (close_clients_row (memory_of v).coordinator v.tickets)) v before answer w after → LeavesServer n k answer w
   closed answer before after does = done row_calls k _ answer before after on.drawn does
 
   same : w ≡ v → IsOn n k w
   same e = subst (IsOn n k) (sym e) on
 
-  pub stepped : (answer : Result Bool ServerFault) (before after : Collected) → Steps (server_step (memory_of v) (state v.storage) (room_of v.storage)) v before answer w after → LeavesServer n (k + 1) answer w
+  pub stepped : (answer : Result Bool CallFault) (before after : Collected) → Steps (server_step (memory_of v) (state v.storage) (room_of v.storage)) v before answer w after → LeavesServer n (k + 1) answer w
   stepped answer before after steps = by (worker_step v.worker.table (storage_of (memory_of v) (state v.storage) (room_of v.storage)) v.tickets) refl steps
     where
       by : (o : Option (RowOutcome WorkerTable)) → worker_step v.worker.table (storage_of (memory_of v) (state v.storage) (room_of v.storage)) v.tickets ≡ o → Steps (of_step (memory_of v) o) v before answer w after → LeavesServer n (k + 1) answer w
-      by None e h = subst (λ (a : Result Bool ServerFault). LeavesServer n (k + 1) a w) (sym h.0) (let on = same h.1 in record { serves = on.serves; of = on.of; count = on.count; drawn = let d = on.drawn in omega (arith, d) })
+      by None e h = subst (λ (a : Result Bool CallFault). LeavesServer n (k + 1) a w) (sym h.0) (let on = same h.1 in record { serves = on.serves; of = on.of; count = on.count; drawn = let d = on.drawn in omega (arith, d) })
       by (Some row) e h = done 40 (k + 1) _ answer before after (let few = one-more v.tickets row.tickets (step-aside v.worker.table (storage_of (memory_of v) (state v.storage) (room_of v.storage)) v.tickets row e).tickets in let drawn = on.drawn in omega (arith, few, drawn)) h.0
 
   pub timed-out : (T : Tid) (answer : Bool) → TimesOut T v answer w → IsOn n k w

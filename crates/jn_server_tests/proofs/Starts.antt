@@ -1,7 +1,7 @@
 -- What a recovery finds, and what stays of a store that is stopped.
-use Rattle.std.proofs.Common.{◌≡◌, ℕ, ◌<◌, sym, ◌∙◌, ap, subst}
+use Rattle.std.proofs.Common.{◌≡◌, ◌∙◌, ap, subst}
 use Rattle.jn_base.specs.declared.names.ServerNo.{ServerNo}
-use Rattle.jn_found.specs.Recoverable.{IsRecoverable}
+use Rattle.jn_page_state.specs.Recoverable.{IsRecoverable}
 use Rattle.jn_recovery.specs.declared.counts.PageCounts.{PageCounts}
 use Rattle.jn_recovery.specs.declared.load.Found.{Found}
 use Rattle.jn_recovery.specs.Loading.{IsLoaded}
@@ -9,16 +9,10 @@ use Rattle.jn_recovery.specs.Counts.{counts_by}
 use Rattle.jn_records.specs.StablePages.{Counts}
 use Rattle.jn_storage.specs.Storage.{StorageView, StorageLater}
 use Rattle.jn_store.specs.Store.{StoreView}
-use Rattle.jn_server_tests.specs.Restarts.{MayBegin, IsOf, IsStarted}
+use Rattle.jn_server_tests.specs.Restarts.{MayBegin, IsOf}
 
-pub loaded_started : (server : ServerNo) (n : PageCounts) (v : StoreView) (told : Found) (w : StorageView) → IsLoaded server (counts_by n) v told w → IsStarted server n told.epoch w
-loaded_started server n v told w l = record {
-  of = record { server_is = l.server_is; pool = l.pool; heads = l.heads; leaves = l.leaves };
-  recovered = l.recovered;
-  epoch_is = sym l.epoch;
-  works_past = λ W h. subst (λ (e : ℕ). W.epoch < e) (sym l.epoch) (l.works_earlier W h);
-  flags_past = λ T h. subst (λ (e : ℕ). T.epoch < e) (sym l.epoch) (l.flags_earlier T h);
-}
+pub loaded_of : (server : ServerNo) (n : PageCounts) (v : StoreView) (told : Found) (w : StorageView) → IsLoaded server (counts_by n) v told w → IsOf server n w
+loaded_of server n v told w l = record { server_is = l.server_is; pool = l.pool; heads = l.heads; leaves = l.leaves }
 
 -- every call keeps whose storage it is
 pub later_of : (server : ServerNo) (n : PageCounts) (v w : StorageView) → StorageLater v w → IsOf server n v → IsOf server n w

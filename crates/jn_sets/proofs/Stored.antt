@@ -1,8 +1,8 @@
 -- How what a store's pool holds goes on over a put.
 use Rattle.jn_sets.proofs.Common.{◌≡◌, ◌≢◌, ◌⊎◌, inl, inr, ⊎_elim, ℕ, ◌^◌, ◌<◌, Bool, true, false, List, length, None, Some, refl, sym, ◌∙◌, ap, subst, arith, cases_eq, cases_lt, get_or_past, get_or-set_same, get_or-set_other, length-set, set-set, set-get_or, get_or_from_slice_get, slice_get-get_or, slice_get, slice_set, enumerate_from, values_of, set_value_at, Record, Free, Ready, Going, record_page, has_page, record_at, StoreView, IsOnly, IsSamePage, StorePut, slot_page, is_free, is_ready, prepares, record_number, going_of, ready_of, marked, record_in, members_in, IsRecord, IsStored, HoldsRecords, Says, IsIndex, Puts}
 use Rattle.jn_records.proofs.RecordsAgain.{record_is_read}
-use Rattle.jn_store.specs.Choices.{IsChoice, Leads, with_page}
-use Rattle.jn_store.proofs.Choices.{choice_only, put_leads, with_same, with_other}
+use Rattle.jn_store.specs.Choices.{IsChoice, with_page}
+use Rattle.jn_store.proofs.Choices.{Leads, choice_only, put_leads, with_same, with_other}
 use Rattle.jn_sets.proofs.Slots.{set_numbered, values_set}
 
 -- a record is read again from its page

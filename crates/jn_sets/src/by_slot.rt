@@ -4,7 +4,7 @@ ghost use Rattle.std.specs.List.{list_any};
 ghost use Rattle.jn_records.specs.declared.record.Record.TheVariants.{Free};
 ghost use Rattle.jn_records.specs.Records.{has_page, record_page};
 ghost use Rattle.jn_store.specs.Store.{IsCalm, IsServed, IsStop, StorePut};
-ghost use Rattle.jn_sets.specs.declared.fault.LoadFault.TheVariants.{Stopped as LoadStopped};
+ghost use Rattle.jn_base.specs.declared.fault.CallFault.TheVariants.{Stopped as LoadStopped};
 ghost use Rattle.jn_sets.specs.Pool as pool;
 ghost use Rattle.jn_sets.specs.Sets.{StoreRead};
 

@@ -3,7 +3,7 @@ use Rattle.jn_settles.proofs.Common.{◌≡◌, ℕ, suc, ◌+◌, ◌*◌, ◌-
 use Rattle.jn_system_settling.specs.Settling.Bounds.{settle_bound}
 use Rattle.std.proofs.lemmas.List.{length-map}
 use Rattle.jn_net.specs.declared.Sent.{Sent as Posted}
-use Rattle.jn_stands.specs.Waiting.{Carries}
+use Rattle.jn_world_refines.specs.Waiting.{Carries}
 use Rattle.jn_rows.specs.Outcomes.{Sent}
 use Rattle.jn_system.specs.WholeSystem.Course.{Course}
 use Rattle.jn_system_settling.specs.Settling.Weights.{goings, goings_at, sum_over, going_works}

@@ -1,13 +1,13 @@
 -- Where the world is closed nothing but files is left, so each store is that of a sound image.
 use Rattle.jn_settles.proofs.Common.{◌≡◌, ◌≤◌, ◌<◌, ℕ, false, List, ◌++◌, Some, sym, ◌∙◌, ap, subst, slice_get, Result, Ok, AllByRecursion, slice_get_within, DeviceState, found_on, page_count, Line, StableState, stable, Setup, Devices, Moment, DoesStep, Ended, IsClosed, Closes}
 use Rattle.std.proofs.Math.Path.{fun_ext}
-use Rattle.jn_found.specs.Images.{IsImage}
+use Rattle.jn_page_state.specs.Images.{IsImage}
 use Rattle.jn_order.specs.Files.{Files}
 use Rattle.jn_schedule.specs.declared.Event.{Event}
 use Rattle.jn_schedule.specs.Ranges.{EventInRange}
 use Rattle.jn_store.specs.Pairs.{pairs_view}
-use Rattle.jn_written.specs.Whole.{IsWritten}
-use Rattle.jn_written.proofs.Computed.{join}
+use Rattle.jn_machine.specs.Whole.{IsWritten}
+use Rattle.jn_machine.proofs.Computed.{join}
 use Rattle.jn_between.specs.Between.{files_told, IsTrueAtEnd}
 use Rattle.jn_between.proofs.Ended.{at-the-end}
 use Rattle.jn_world.specs.Images.{HasFilesAlone}

@@ -13,19 +13,19 @@ pub use Rattle.jn_rows.specs.Stable.{StableState, Pick, stable}
 pub use Rattle.jn_server.specs.Seen.{view_with, memory_of}
 pub use Rattle.jn_store.specs.Store.{StoreView}
 pub use Rattle.jn_system.specs.WholeSystem.World.{Memory, servers_from, World}
-pub use Rattle.jn_written.specs.Chances.{Setup}
-pub use Rattle.jn_written.specs.Runs.{Moment, DoesStep}
-pub use Rattle.jn_stands.specs.Stands.{Standing, StandsAt, Stands}
+pub use Rattle.jn_machine.specs.Chances.{Setup}
+pub use Rattle.jn_machine.specs.Runs.{Moment, DoesStep}
+pub use Rattle.jn_world_refines.specs.Stands.{Standing, StandsAt, Stands}
 pub use Rattle.std.specs.List.{AllByRecursion, list_any}
 pub use Rattle.std.proofs.lemmas.Option.{slice_get_within}
-pub use Rattle.jn_found.specs.Pages.{found_on, pool_on}
+pub use Rattle.jn_page_state.specs.Pages.{found_on, pool_on}
 pub use Rattle.jn_report.specs.declared.line.Line.{Line}
-pub use Rattle.jn_written.specs.Devices.{Devices, pages_of}
+pub use Rattle.jn_machine.specs.Devices.{Devices, pages_of}
 pub use Rattle.jn_world.specs.declared.ended.Ended.{Ended}
 pub use Rattle.jn_world.specs.Written.{IsClosed, Closes, GoesTo, DoesTasks, DoesScheduled, is_going}
-pub use Rattle.jn_written.specs.Events.{settling}
-pub use Rattle.jn_written.specs.Tasks.{Task, Begins, Rests, InSchedule, first_of_tasks, when_of}
-pub use Rattle.jn_stands.specs.Going.{IsTold, WentOn}
+pub use Rattle.jn_machine.specs.Events.{settling}
+pub use Rattle.jn_machine.specs.Tasks.{Task, Begins, Rests, InSchedule, first_of_tasks, when_of}
+pub use Rattle.jn_world_refines.specs.Going.{IsTold, WentOn}
 pub use Rattle.jn_at_rest.specs.Settled.{texts_since, ComesThrough, LeavesSettled}
 pub use Rattle.jn_base.specs.declared.names.WorkId.{WorkId}
 pub use Rattle.jn_place.specs.Places.{is_up}

@@ -6,7 +6,7 @@ use Rattle.jn_rows.specs.declared.client.Outstanding.{Outstanding}
 use Rattle.jn_rows.specs.Client.{ClientTable}
 use Rattle.jn_rows.specs.Stable.{is_going}
 use Rattle.jn_server.specs.Standing.{has_rubbish}
-use Rattle.jn_stands.proofs.WaitingNumbers.{least-waits}
+use Rattle.jn_world_refines.proofs.WaitingNumbers.{least-waits}
 use Rattle.jn_settles.specs.Settled.{HasNothingLeft, IsSettledWorld}
 use Rattle.jn_settles.proofs.Places.{below-of, memory-there, live-near, live-there, tid-near}
 use Rattle.jn_settles.proofs.Going.{same-texts}
@@ -16,7 +16,7 @@ module _ {S : Type 0} (look : S → StoreView) (device : S → DeviceState) (x :
   abbrev now : World
   now = last.state.course.world
 
-  -- what was told is in the lines
+  -- what was reported is in the lines
   in-lines : (is : Text → Bool) → list_any is (told_since m.state.course.world last.state.course.world) ≡ true → list_any is (texts_since lines lines') ≡ true
   in-lines is e = ap (list_any is) (sym (same-texts m last lines lines' told)) ∙ l.told is e
 

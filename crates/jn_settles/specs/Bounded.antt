@@ -4,10 +4,10 @@ use Rattle.jn_net.specs.Carried.{Carried}
 use Rattle.jn_place.specs.declared.place.Place.{Place}
 use Rattle.jn_place.specs.declared.place.Slot.{Slot}
 use Rattle.jn_place.specs.declared.place.Slot.TheVariants.{Up, Down, Gone}
-use Rattle.jn_stands.specs.Waiting.{waiting_numbers}
+use Rattle.jn_world_refines.specs.Waiting.{waiting_numbers}
 use Rattle.jn_rows.specs.Stable.{stable}
 use Rattle.jn_server.specs.Seen.{view_with, memory_of}
-use Rattle.jn_stands.specs.Stands.{Standing}
+use Rattle.jn_world_refines.specs.Stands.{Standing}
 use Rattle.jn_store.specs.Store.{StoreView}
 use Rattle.jn_system_settling.specs.Settling.Weights.{goings}
 

@@ -12,15 +12,15 @@ ghost use Rattle.jn_settles.specs.Bounded.{IsBoundedWorld};
 ghost use Rattle.jn_settles.specs.Closed.{LeavesImages};
 ghost use Rattle.jn_settles.specs.Settled.{IsSettledWorld};
 ghost use Rattle.jn_settles.specs.Tables.{AllUp};
-ghost use Rattle.jn_stands.specs.Stands.{Standing, Stands};
+ghost use Rattle.jn_world_refines.specs.Stands.{Standing, Stands};
 ghost use Rattle.jn_world.specs.declared.ended.Ended.{Ended};
 ghost use Rattle.jn_world.specs.Written.{DoesTasks, DoesScheduled, Closes, is_going};
-ghost use Rattle.jn_written.specs.Chances.{Setup};
-ghost use Rattle.jn_written.specs.Devices.{Devices};
-ghost use Rattle.jn_written.specs.Events.{settling, ending};
-ghost use Rattle.jn_written.specs.Runs.{Moment};
-ghost use Rattle.jn_written.specs.Tasks.{Task, Begins, Rests, InSchedule, first_of_tasks, when_of};
-ghost use Rattle.jn_written.specs.Whole.{IsWritten};
+ghost use Rattle.jn_machine.specs.Chances.{Setup};
+ghost use Rattle.jn_machine.specs.Devices.{Devices};
+ghost use Rattle.jn_machine.specs.Events.{settling, ending};
+ghost use Rattle.jn_machine.specs.Runs.{Moment};
+ghost use Rattle.jn_machine.specs.Tasks.{Task, Begins, Rests, InSchedule, first_of_tasks, when_of};
+ghost use Rattle.jn_machine.specs.Whole.{IsWritten};
 
 use jn_store::Powered;
 

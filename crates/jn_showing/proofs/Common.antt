@@ -6,7 +6,8 @@ pub use Rattle.jn_base.specs.declared.names.ServerNo.{ServerNo}
 pub use Rattle.jn_replay.specs.declared.files.StoredFile.{StoredFile}
 pub use Rattle.jn_replay.specs.Stored.{registers, AreSame, stored_file, stored_block, files_of}
 pub use Rattle.jn_serial.specs.Lines.{says, event_at, lines_at, lines_before, history_of}
-pub use Rattle.jn_serial.specs.Shown.{AllAsIn, prints_file, accounts_file, accounts_block, is_no_show, is_locked, ShowsFiles, ShownSoFar, ShownAtEnd, Shown}
+pub use Rattle.jn_serial.specs.Shown.{AllAsIn, prints_file, accounts_file, accounts_block, ShowsFiles, ShownSoFar, ShownAtEnd, Shown}
+pub use Rattle.jn_report.specs.Kinds.{is_no_show, is_locked}
 pub use Rattle.jn_replay.proofs.StoredLemmas.{some_file_place, no_file_place, file_place, block_place, no_block_place}
 pub use Rattle.jn_showing.specs.Accounts.{file_accounted, block_accounted, blocks_accounted, line_accounted, is_accounted, ShowsServer, ShowsEvent, ShowsFrom}
 pub use Rattle.jn_replay.proofs.Same.{↔-trans}

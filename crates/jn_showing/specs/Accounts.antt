@@ -16,7 +16,8 @@ use Rattle.jn_replay.specs.declared.files.StoredFile.{StoredFile}
 use Rattle.jn_replay.specs.Stored.{stored_file}
 use Rattle.jn_serial.specs.Lines.{lines_at, lines_before, says, history_of}
 use Rattle.jn_serial.specs.Order.{replay}
-use Rattle.jn_serial.specs.Shown.{accounts_file, accounts_block, is_no_show, ShowsFiles}
+use Rattle.jn_serial.specs.Shown.{accounts_file, accounts_block, ShowsFiles}
+use Rattle.jn_report.specs.Kinds.{is_no_show}
 
 -- a stored file of the server is printed or locked
 abbrev pub file_accounted : ServerNo → List Line → StoredFile → Bool

@@ -4,6 +4,7 @@ ghost use Rattle.std.specs.Prelude.{◌≡◌, ◌↔◌, false, IfOk, IsTrue, i
 ghost use Rattle.std.specs.List.{list_all};
 ghost use Rattle.jn_base.specs.declared.names.LockUnit.TheVariants.{File, Block as OneBlock};
 ghost use Rattle.jn_base.specs.declared.names.ServerNo.{ServerNo as AServer};
+ghost use Rattle.jn_report.specs.Kinds.{is_locked, is_no_show};
 ghost use Rattle.jn_showing.specs.Accounts as accounts;
 ghost use Rattle.jn_serial.specs.Lines.{says};
 ghost use Rattle.jn_serial.specs.Shown as shown;
@@ -11,7 +12,7 @@ ghost use Rattle.jn_replay.specs.Stored as stored_of;
 
 use jn_base::{Block, BlockNo, FileNo, LockUnit, ServerNo};
 use jn_replay::{Files, StoredBlock, StoredFile, place_of_block, place_of_file};
-use jn_report::{Line, Text};
+use jn_report::{Line, Text, is_locked, is_no_show};
 use jn_schedule::Event;
 use jn_serial::{history, lines_at_end, lines_at_event, lines_before_event, replay};
 use std::alloc::{AllocError, Global};
@@ -52,8 +53,9 @@ fn is_as_in(stored: &Vec<StoredFile>, text: &Text) -> bool
 {
     match text {
         Text::File(server, file) => is_file_there(stored, *server, *file),
-        Text::Page(server, file, block, bytes) => {
-            matches!(block_at(stored, *server, *file, *block), Some(x) if x == *bytes)
+        Text::Page(server, file, block, content) => {
+            let bytes = content.to_block();
+            matches!(block_at(stored, *server, *file, *block), Some(x) if x == bytes)
         }
         _ => true,
     }
@@ -193,27 +195,15 @@ fn shows_all(files: &Files, lines: &[Line]) -> bool
     all_as_in(&files.stored, lines) && is_accounted_everywhere(&files.stored, lines)
 }
 
-fn is_no_show(text: &Text) -> bool
-    ensures { result ≡ shown.is_no_show text.now }
-{
-    matches!(text, Text::RefusedEvent(_) | Text::Stopped(_))
-}
-
 /// Whether the show was refused or stopped.
 fn is_not_printed(here: &[Line]) -> bool
-    ensures { result ≡ says shown.is_no_show here.now }
+    ensures { result ≡ says is_no_show here.now }
 {
     here.iter().any(|l| is_no_show(&l.text))
 }
 
-fn is_locked(text: &Text) -> bool
-    ensures { result ≡ shown.is_locked text.now }
-{
-    matches!(text, Text::Locked(_, _, _))
-}
-
 fn shows_locked(here: &[Line]) -> bool
-    ensures { result ≡ says shown.is_locked here.now }
+    ensures { result ≡ says is_locked here.now }
 {
     here.iter().any(|l| is_locked(&l.text))
 }
@@ -279,7 +269,7 @@ fn shown_so_far(
 /// Whether the lines print the files of every server, and nothing locked.
 fn shows_end(files: &Files, lines: &[Line]) -> bool
     ensures { IsTrue result ↔ (((s : AServer) → shown.ShowsFiles (stored_of.files_of files.now) s lines.now)
-        × (says shown.is_locked lines.now ≡ false)) }
+        × (says is_locked lines.now ≡ false)) }
 {
     shows_all(files, lines) && !shows_locked(lines)
 }

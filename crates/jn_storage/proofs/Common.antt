@@ -12,7 +12,7 @@ unfoldable pub use Rattle.jn_order.specs.Files.{zeros}
 pub use Rattle.jn_records.specs.declared.intention.What.{What}
 pub use Rattle.jn_records.specs.declared.intention.What.TheVariants.{Fresh, Gone, Cut, Put}
 pub use Rattle.jn_records.specs.declared.intention.Intention.{Intention}
-pub use Rattle.jn_records.specs.NetLists.{intention_change, intention_place, in_order, entry, is_fresh, needs_a_head, first_by, as_first, net_of, is_put, list_change, answered, block_of}
+pub use Rattle.jn_records.specs.NetLists.{intention_change, intention_place, in_order, entry, is_fresh, needs_a_head, first_by, as_first, net_of, is_put, list_change, answered}
 pub use Rattle.jn_locks.specs.declared.words.Mode.{Mode}
 pub use Rattle.jn_locks.specs.declared.words.Mode.TheVariants.{Read, Commit, IntentionWrite}
 pub use Rattle.jn_locks.specs.Locks.{together, rebuilt, is_unit}

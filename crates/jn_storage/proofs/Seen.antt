@@ -1,5 +1,6 @@
 -- What is known where the answer is the stored block's.
-use Rattle.jn_storage.proofs.Common.{◌≡◌, ℕ, false, List, [], ◌∷◌, Option, Some, None, Result, Ok, Err, refl, sym, ◌∙◌, ap, subst, arith, is_some, is_ok, FileNo, File, Block, Files, change, answer_to, file_of, Intention, list_change, answered, block_of, StorageView, state, Called}
+use Rattle.jn_storage.proofs.Common.{◌≡◌, ℕ, false, List, [], ◌∷◌, Option, Some, None, Result, Ok, Err, refl, sym, ◌∙◌, ap, subst, arith, is_some, is_ok, FileNo, File, Block, Files, change, answer_to, file_of, Intention, list_change, answered, StorageView, state, Called}
+use Rattle.jn_base.specs.Ops.{block_of}
 use Rattle.jn_base.specs.declared.device.Stopped.{Stopped}
 use Rattle.std.specs.Result.{IsErrAnd}
 use Rattle.std.proofs.lemmas.Result.{err_from_is_err_and}
@@ -8,8 +9,8 @@ use Rattle.jn_base.specs.declared.op.Answer.{Answer}
 use Rattle.jn_base.specs.declared.op.Answer.TheVariants.{Read as Found}
 use Rattle.jn_base.specs.declared.op.Op.{Op}
 use Rattle.jn_base.specs.declared.op.Op.TheVariants.{Create, Remove, Cut, Read, Write}
-use Rattle.jn_storage.specs.declared.faults.ViewFault.{ViewFault}
-use Rattle.jn_storage.specs.declared.faults.ViewFault.TheVariants.{Stopped as Stops, Memory}
+use Rattle.jn_base.specs.declared.fault.CallFault.{CallFault}
+use Rattle.jn_base.specs.declared.fault.CallFault.TheVariants.{Stopped as Stops, Memory}
 use Rattle.jn_storage.specs.Viewing.{reads_stored, Viewed, ReadOrZeros, served}
 
 -- files with these bytes in every block
@@ -31,7 +32,7 @@ says-nothing list (Read f p) files h e = by (list_change list (Block f p)) refl
     by (Some y) q = absurd (let a = h (filled files []) refl in let b = h (filled files (1 ∷ [])) refl in grind (arith, q))
 
 -- the answer that a block read gives, or there is no memory for it
-pub viewed-block : (list : List Intention) (op : Op) (v w : StorageView) (r : Result (List ℕ) Stopped) (a : Result Answer ViewFault) → ReadOrZeros v (file_of op) (block_of op) r w
+pub viewed-block : (list : List Intention) (op : Op) (v w : StorageView) (r : Result (List ℕ) Stopped) (a : Result Answer CallFault) → ReadOrZeros v (file_of op) (block_of op) r w
     → ((other : Files) → is_some (other (File (file_of op))) ≡ is_some ((state v).files (File (file_of op))) → answer_to op (change (list_change list) other) ≡ answered None op other)
     → served a ≡ is_ok r → ((x : Answer) → a ≡ Ok x → (block : List ℕ) × (r ≡ Ok block) × (x ≡ Found block)) → Viewed list v op a w
 viewed-block list op v w r a read none same gives = record {
@@ -55,12 +56,12 @@ ok_same x y (Err z) e f = absurd (cc e)
 read-as : (op : Op) (v w : StorageView) (f : FileNo) (p : BlockNo) (r : Result (List ℕ) Stopped) → f ≡ file_of op → p ≡ block_of op → ReadOrZeros v f p r w → ReadOrZeros v (file_of op) (block_of op) r w
 read-as op v w f p r same_f same_p read = subst (λ q. ReadOrZeros v (file_of op) q r w) same_p (subst (λ g. ReadOrZeros v g p r w) same_f read)
 
-pub viewed-stopped : (list : List Intention) (op : Op) (v w : StorageView) (f : FileNo) (p : BlockNo) (e : Stopped) (a : Result Answer ViewFault) → f ≡ file_of op → p ≡ block_of op → ReadOrZeros v f p (Err e) w
+pub viewed-stopped : (list : List Intention) (op : Op) (v w : StorageView) (f : FileNo) (p : BlockNo) (e : Stopped) (a : Result Answer CallFault) → f ≡ file_of op → p ≡ block_of op → ReadOrZeros v f p (Err e) w
     → ((other : Files) → is_some (other (File (file_of op))) ≡ is_some ((state v).files (File (file_of op))) → answer_to op (change (list_change list) other) ≡ answered None op other)
     → IsErrAnd a (λ fault. fault ≡ Stops) → Viewed list v op a w
 viewed-stopped list op v w f p e a same_f same_p read none err = viewed-block list op v w (Err e) a (read-as op v w f p (Err e) same_f same_p read) none (ap served (error-is a Stops err)) (λ x g. absurd (not_ok_is a Stops x (error-is a Stops err) g))
 
-pub viewed-without : (list : List Intention) (op : Op) (v w : StorageView) (f : FileNo) (p : BlockNo) (block : List ℕ) (a : Result Answer ViewFault) → f ≡ file_of op → p ≡ block_of op → ReadOrZeros v f p (Ok block) w
+pub viewed-without : (list : List Intention) (op : Op) (v w : StorageView) (f : FileNo) (p : BlockNo) (block : List ℕ) (a : Result Answer CallFault) → f ≡ file_of op → p ≡ block_of op → ReadOrZeros v f p (Ok block) w
     → ((other : Files) → is_some (other (File (file_of op))) ≡ is_some ((state v).files (File (file_of op))) → answer_to op (change (list_change list) other) ≡ answered None op other)
     → IsErrAnd a (λ fault. fault ≡ Memory) → Viewed list v op a w
 viewed-without list op v w f p block a same_f same_p read none err = viewed-block list op v w (Ok block) a (read-as op v w f p (Ok block) same_f same_p read) none (ap served (error-is a Memory err)) (λ x g. absurd (not_ok_is a Memory x (error-is a Memory err) g))

@@ -55,7 +55,7 @@ first_of list i = as_first (entry list i.file zero)
 
 -- a prepared work with this list and these read units, over these files
 pub record IsPrepared (files : Files) (list : List Intention) (reads : List LockUnit) : Type 0 where
-  -- a net list of at most 24 intentions, each block one of the 120
+  -- a net list of at most 24 intentions, each block one of a file's
   pub order : InOrder list
   pub length_fits : length list ≤ most_intentions
   pub in_range : list_all (λ i. nat_lt i.block.0 most_blocks) list ≡ true

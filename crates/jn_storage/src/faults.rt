@@ -2,7 +2,7 @@
 
 ghost use Rattle.std.specs.Prelude.{◌≡◌};
 
-use jn_base::{Short, Stopped};
+use jn_base::{CallFault, Short};
 use std::alloc::AllocError;
 use thiserror::Error;
 
@@ -37,16 +37,8 @@ pub enum PromiseFault {
     Memory,
 }
 
-/// Why a file isn't seen.
-#[derive(Clone, Copy, Debug, PartialEq, Eq, Drop, Error)]
-pub enum ViewFault {
-    /// The device has no power.
-    #[error("the device has no power")]
-    Stopped,
-    /// There is no memory for the bytes of the block.
-    #[error("there is no memory")]
-    Memory,
-}
+/// Why a file isn't seen. `Memory` is for want of room for the bytes of the block.
+pub type ViewFault = CallFault;
 
 impl From<AllocError> for PrepareFault {
     ghost use Rattle.jn_storage.specs.declared.faults.PrepareFault.TheVariants.{Memory};
@@ -65,25 +57,5 @@ impl From<AllocError> for PromiseFault {
 
     fn from(_e: AllocError) -> PromiseFault {
         PromiseFault::Memory
-    }
-}
-
-impl From<AllocError> for ViewFault {
-    ghost use Rattle.jn_storage.specs.declared.faults.ViewFault.TheVariants.{Memory};
-
-    ghost from_gives = { λ _ e. e ≡ Memory };
-
-    fn from(_e: AllocError) -> ViewFault {
-        ViewFault::Memory
-    }
-}
-
-impl From<Stopped> for ViewFault {
-    ghost use Rattle.jn_storage.specs.declared.faults.ViewFault.TheVariants.{Stopped as Stops};
-
-    ghost from_gives = { λ _ e. e ≡ Stops };
-
-    fn from(_e: Stopped) -> ViewFault {
-        ViewFault::Stopped
     }
 }

@@ -2,11 +2,12 @@
 ghost use Rattle.std.specs.Prelude.{◌≡◌, ◌<◌, ◌+◌, ◌^◌, length, count_by};
 ghost use Rattle.jn_base.specs.Limits.{most_blocks};
 ghost use Rattle.jn_order.specs.Files.{file_of, zeros};
-ghost use Rattle.jn_records.specs.NetLists.{needs_a_head, block_of};
+ghost use Rattle.jn_records.specs.NetLists.{needs_a_head};
+ghost use Rattle.jn_base.specs.Ops.{block_of, BlockInRange};
 ghost use Rattle.jn_storage.specs.Storage.{IsServing};
 ghost use Rattle.jn_storage.specs.Orderly.{file_there, needed};
 ghost use Rattle.jn_storage.specs.Calls.{state};
-ghost use Rattle.jn_storage.specs.Viewing.{BlockInRange, Viewed, ReadOrZeros};
+ghost use Rattle.jn_storage.specs.Viewing.{Viewed, ReadOrZeros};
 
 use crate::{StoredFiles, ViewFault};
 use jn_base::{Answer, Block, BlockContent, BlockNo, FileNo, Op, Stopped};

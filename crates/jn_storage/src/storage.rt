@@ -18,7 +18,7 @@ pub trait Storage {
     ghost view: { Self → StorageView };
 }
 
-/// The files of a server, as they are stored. A block's number is below 120.
+/// The files of a server, as they are stored. A block's number is below `most_blocks`.
 pub trait StoredFiles: Storage {
     fn file_there(&self, f: FileNo) -> bool
         requires serving { IsServing (Self.view self.now) }

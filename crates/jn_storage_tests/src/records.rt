@@ -1,9 +1,9 @@
-//! Pages of records written out by hand.
+//! Pages of records and of a root written out by hand.
 
 use jn_base::{
     BlockNo, ClientNo, FileNo, LockUnit, Page, PageWriter, RequestNo, ServerNo, Tid, WorkId,
 };
-use jn_records::{Record, StoredIntention, What, WorkHead};
+use jn_records::{Record, Root, StoredIntention, What, WorkHead};
 use std::alloc::{AllocError, Global};
 use std::test::Fail;
 
@@ -28,6 +28,9 @@ const GOING: [u8; 34] = [
 const FLAG: [u8; 25] = [
     4, 0, 0, 0, 0, 5, 0, 0, 0, 6, 8, 0, 0, 1, 0, 1, 1, 0, 0, 0, 2, 0, 0, 0, 3,
 ];
+
+/// The root of server 5 in epoch 7, with 300 records, 2 heads and 513 data pages.
+const ROOT: [u8; 16] = [74, 85, 78, 49, 1, 5, 1, 44, 0, 2, 2, 1, 0, 0, 0, 7];
 
 const WORK: WorkId = WorkId {
     server: ServerNo(1),
@@ -178,6 +181,35 @@ fn a_changed_ready_work_is_another_or_none(rt: HostRuntime) -> Result<(), Fail> 
     ] {
         let decoded = Record::decode(rt.alloc(), &changed(&page, at, byte))?;
         assert_eq!(rt; decoded.is_some(), same);
+    }
+    Ok(())
+}
+
+fn is_the_root(root: Root) -> bool {
+    let expected = Root {
+        version: 1,
+        server: ServerNo(5),
+        pool: 300,
+        heads: 2,
+        leaves: 513,
+        epoch: 7,
+    };
+    root == expected && root.encode() == page_of(&ROOT)
+}
+
+#[test]
+fn the_parts_of_a_root_are_read(rt: HostRuntime) -> Result<(), Fail> {
+    let root = Root::decode(&page_of(&ROOT)).ok_or("no root")?;
+    assert!(rt; is_the_root(root));
+    Ok(())
+}
+
+#[test]
+fn only_a_root_of_version_1_is_read(rt: HostRuntime) -> Result<(), Fail> {
+    let page = page_of(&ROOT);
+    for version in [0, 1, 2, 3] {
+        let decoded = Root::decode(&changed(&page, 4, version));
+        assert_eq!(rt; decoded.is_some(), version == 1);
     }
     Ok(())
 }

@@ -4,8 +4,12 @@ use Rattle.std.proofs.lemmas.Bool.{cases_eq}
 use Rattle.std.proofs.lemmas.Bool.Decides.{nat_tests}
 use Rattle.std.specs.Prelude.{nat_eq, if◌then◌else◌}
 use Rattle.jn_store.specs.Store.{StoreView, Candidate, IsOnly, StorePut}
-use Rattle.jn_store.specs.Choices.{IsChoice, with_page, Leads}
+use Rattle.jn_store.specs.Choices.{IsChoice, with_page, Agree}
 use Rattle.jn_store.proofs.Laws.{same_shrinks, only_is}
+
+-- contents d are those of a choice, under this change
+abbrev pub Leads : StoreView → ((ℕ → List ℕ) → ℕ → List ℕ) → (ℕ → List ℕ) → Type 0
+Leads v change d = (c : ℕ → List ℕ) × IsChoice v c × Agree v.count d (change c)
 
 pub with_same : (c : ℕ → List ℕ) (i : ℕ) (page : List ℕ) (j : ℕ) → i ≡ j → with_page c i page j ≡ page
 with_same c i page j e = let t : nat_eq i j ≡ true = grind (arith, nat_tests) in ap (λ b. if b then page else c j) t

@@ -12,7 +12,3 @@ Agree count c d = (i : ℕ) → i < count → c i ≡ d i
 
 abbrev pub with_page : (ℕ → List ℕ) → ℕ → List ℕ → ℕ → List ℕ
 with_page c i page j = if nat_eq i j then page else c j
-
--- contents d are those of a choice, under this change
-abbrev pub Leads : StoreView → ((ℕ → List ℕ) → ℕ → List ℕ) → (ℕ → List ℕ) → Type 0
-Leads v change d = (c : ℕ → List ℕ) × IsChoice v c × Agree v.count d (change c)

@@ -18,7 +18,7 @@ pub record StoreView : Type 0 where
   -- whether both halves are good
   pub both : ℕ → Bool
   pub power : Bool
-  -- the faults that wait, and those that were told as outside the allowed ones
+  -- the faults that wait, and those that were reported as outside the allowed ones
   pub waiting : List Armed
   pub told : List Outside
   -- the device's calls done, the puts among them, and the answers Stopped

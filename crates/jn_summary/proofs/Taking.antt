@@ -10,7 +10,8 @@ use Rattle.jn_report.specs.declared.line.Text.{Text}
 use Rattle.jn_report.specs.Text.{report_text, text_of}
 use Rattle.jn_summary.specs.declared.counts.Counts.{Counts}
 use Rattle.jn_summary.specs.declared.summary.Summary.{Summary}
-use Rattle.jn_summary.specs.Summary.{count_of, counted, line_counts, is_aborted, is_commit, is_outside, is_refused, is_stopped, more, summary_text, told}
+use Rattle.jn_summary.specs.Summary.{count_of, counted, line_counts, more, summary_text, told}
+use Rattle.jn_report.specs.Kinds.{is_stopped, is_aborted, is_commit, is_outside, is_refused}
 use Rattle.jn_summary.specs.Taken.{HasTaken}
 
 capped : (n : ℕ) (one : Bool) → min (n + cond one 1 0) (2 ^ 64 - 1) ≡ more one (min n (2 ^ 64 - 1))
@@ -49,7 +50,7 @@ taken s s' l text counts line more_text ls has = record {
   text = subst (Holds256 s'.hasher) (ap (λ (t : List ℕ). report_text ls ++ t) line ∙ sym (report_more ls l)) (more_text (report_text ls) has.text);
 }
 
--- what is told of the lines
+-- what is reported of the lines
 pub told_of : (s : Summary) (seed events : ℕ) (digest hash : List ℕ) → ((m : List ℕ) → Holds256 s.hasher m → hash ≡ sha256 m) → digest ≡ encode_lower hash
     → (ls : List Line) → HasTaken s ls → told seed events s.counts digest ≡ summary_text seed events ls
 told_of s seed events digest hash hashed spelled ls has =

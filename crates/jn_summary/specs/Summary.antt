@@ -1,36 +1,14 @@
--- What a summary tells of a report's lines.
-use Rattle.std.specs.Prelude.{ℕ, ◌+◌, ◌-◌, ◌^◌, ◌++◌, Bool, true, false, List, [], ◌∷◌, codes, count_by, decimal, min, if◌then◌else◌}
+-- What a summary reports of a report's lines.
+use Rattle.std.specs.Prelude.{ℕ, ◌+◌, ◌-◌, ◌^◌, ◌++◌, Bool, List, [], ◌∷◌, codes, count_by, decimal, min, if◌then◌else◌}
 use Rattle.hex.specs.Hex.{encode_lower}
 use Rattle.sha2.specs.Sha256.{sha256}
 use Rattle.jn_report.specs.declared.line.Line.{Line}
 use Rattle.jn_report.specs.declared.line.Text.{Text}
-use Rattle.jn_report.specs.declared.line.Text.TheVariants as says
 use Rattle.jn_report.specs.Text.{report_text, spaced}
 use Rattle.jn_summary.specs.declared.counts.Counts.{Counts}
+use Rattle.jn_report.specs.Kinds.{is_commit, is_aborted, is_refused, is_outside, is_stopped}
 
 -- ---- the kinds of lines that are counted
-
-abbrev pub is_commit : Text → Bool
-is_commit (says.Commit t) = true
-is_commit _ = false
-
-abbrev pub is_aborted : Text → Bool
-is_aborted (says.Aborted c j t cause) = true
-is_aborted _ = false
-
--- a command of a client, or an event
-abbrev pub is_refused : Text → Bool
-is_refused (says.Refused c j refusal) = true
-is_refused (says.RefusedEvent refusal) = true
-is_refused _ = false
-
-abbrev pub is_stopped : Text → Bool
-is_stopped (says.Stopped s) = true
-is_stopped _ = false
-
-abbrev pub is_outside : Text → Bool
-is_outside (says.Outside s fault) = true
-is_outside _ = false
 
 -- how many lines are of a kind; the last number of 64 bits where there are more
 abbrev pub count_of : (Text → Bool) → List Line → ℕ
@@ -45,7 +23,7 @@ line_counts ls = record {
   outside = count_of is_outside ls;
 }
 
--- ---- the line that is told
+-- ---- the line that is reported
 
 abbrev pub count_words : Counts → List (List ℕ)
 count_words c =

@@ -1,8 +1,8 @@
 //! How many lines of each kind a report has.
 ghost use Rattle.std.specs.Prelude.{◌≡◌, []};
-ghost use Rattle.jn_summary.specs.Summary.{counted, line_counts, is_aborted, is_commit, is_outside, is_refused, is_stopped, more};
+ghost use Rattle.jn_summary.specs.Summary.{counted, line_counts, more};
 
-use jn_report::Text;
+use jn_report::{Text, is_aborted, is_commit, is_outside, is_refused, is_stopped};
 
 /// How many lines of each kind there were. A count stands still at its type's last number.
 #[derive(Clone, Copy)]
@@ -46,35 +46,4 @@ fn more(one: bool, count: u64) -> u64
     ensures { result ≡ more one count }
 {
     if one { count.saturating_add(1) } else { count }
-}
-
-fn is_commit(text: &Text) -> bool
-    ensures { result ≡ is_commit text.now }
-{
-    matches!(text, Text::Commit(_))
-}
-
-fn is_aborted(text: &Text) -> bool
-    ensures { result ≡ is_aborted text.now }
-{
-    matches!(text, Text::Aborted(..))
-}
-
-/// Whether a command of a client or an event was refused.
-fn is_refused(text: &Text) -> bool
-    ensures { result ≡ is_refused text.now }
-{
-    matches!(text, Text::Refused(..) | Text::RefusedEvent(_))
-}
-
-fn is_stopped(text: &Text) -> bool
-    ensures { result ≡ is_stopped text.now }
-{
-    matches!(text, Text::Stopped(_))
-}
-
-fn is_outside(text: &Text) -> bool
-    ensures { result ≡ is_outside text.now }
-{
-    matches!(text, Text::Outside(..))
 }

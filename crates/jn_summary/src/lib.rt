@@ -1,4 +1,4 @@
-//! What is told of a long run in one line: how many lines of some kinds its report has, and the digest of its text.
+//! What is reported of a long run in one line: how many lines of some kinds its report has, and the digest of its text.
 #![tactic(auto)]
 
 mod counts;

@@ -44,7 +44,7 @@ impl Summary {
         Ok(())
     }
 
-    /// The line that tells of the trial of a seed and so many events, whose report are the lines taken.
+    /// The line that reports the trial of a seed and so many events, whose report are the lines taken.
     pub fn text(self, alloc: Global, seed: u64, events: u32) -> Result<Vec<u8>, AllocError>
         ensures { (lines : List ALine) → HasTaken self lines → IfOk result (λ v. v.items ≡ summary_text seed events lines) }
     {

@@ -1,4 +1,4 @@
-//! The line that is told of a trial.
+//! The line that is reported of a trial.
 ghost use Rattle.std.specs.Prelude.{◌≡◌, ◌++◌, map, IfOk, OnOk};
 ghost use Rattle.jn_report.specs.Text.{spaced};
 ghost use Rattle.jn_summary.specs.Spell.{spelled};

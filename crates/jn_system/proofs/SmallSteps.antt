@@ -14,3 +14,4 @@ pub mod Runs
 pub mod History
 pub mod MessageLemmas
 pub mod ExampleRun
+pub mod Invariant

@@ -2,12 +2,7 @@
 pub mod Traces
 pub mod Held
 pub mod World
-pub mod FoundStates
-pub mod Works
 pub mod Transactions
-pub mod NameFacts
-pub mod FlagFacts
-pub mod Invariant
 pub mod Steps
 pub mod Premises
 pub mod Order

@@ -14,7 +14,7 @@ pub fn runs_are_moves()
         → IsMoves files epochs (run steps (opening servers files epochs)) }
 {}
 
-/// Whatever steps come one after another, the commits that the lines tell are in order: they have a history in which each is
+/// Whatever steps come one after another, the commits that the lines report are in order: they have a history in which each is
 /// answered what those before it left, and each unit of a running server that no work holds for commit is as they leave it.
 pub fn commits_are_in_order()
     ensures { (servers : ℕ) (files : AllFiles) (epochs : ServerNo → ℕ) (steps : List Step) → IsRun steps (opening servers files epochs)

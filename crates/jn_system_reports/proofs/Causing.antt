@@ -1,4 +1,4 @@
--- Each abort that is told has its cause.
+-- Each abort that is reported has its cause.
 pub mod Evidence
 pub mod WorkerKeeps
 pub mod CoordinatorKeeps

@@ -18,14 +18,14 @@ pub use Rattle.jn_rows.specs.declared.worker.Work.{Work}
 pub use Rattle.jn_rows.specs.declared.worker.Phase.{Phase}
 pub use Rattle.jn_rows.specs.declared.worker.Phase.TheVariants.{Active, Broken, Prepared as Stored}
 pub use Rattle.jn_rows.specs.declared.worker.ActiveWork.{ActiveWork}
-pub use Rattle.jn_rows.specs.Stable.{is_going, stable, StableState, Pick, Prepared, Change, AddReady, MarkGoing, CarryOut, RemoveWork, AddFlag, DropFlag, at_work, gone_on, ready_work, made_by, FlagState, at_tid, made_all}
+pub use Rattle.jn_rows.specs.Stable.{is_going, stable, StableState, Pick, Prepared, Change, AddReady, MarkGoing, CarryOut, RemoveWork, AddFlag, DropFlag, at_work, gone_on, ready_work, made_by, carried_at, Left, FlagState, at_tid, made_all, left_of}
 pub use Rattle.jn_rows.specs.Outcomes.{RowOutcome, Sent, ignored}
 pub use Rattle.jn_rows.specs.Worker.{WorkerTable, WorkStorage, Wanted, Held, gives_way, work_at, work_of, without, new_work, name_from, open_row, conflict, commit_wants, wants_of, is_fit, past_limit, units_for, with_units, refusal_of, counted, done as performed-work, granted_row, performed, repeated, op_phase, op_row, vote_of, shortage, need_in, prepared_row, prepare_phase, prepare_row, commit_phase, drop_phase, drop_row, worker_row, going_work, intentions_of, carried_row, going_row, worker_step, vulnerable, timed_out, timeout_row, Asked, Here, worker_again, with_phase, after_grant, breaks_at, broken_by, note_of, break_notes, restored_work, restored_worker, collision, has_mode, list_with, locked, first_of_two, commit_holder}
-pub use Rattle.jn_rows.specs.Coordinator.{coordinator_row, close_clients_row, is_work, CoordinatorTable, transaction_at, with_stage, all_in, besides, drops, commits, prepares, aborted_to, committed_to, closed, after_closing, coordinator_again, told_again, with_work, commit_row, changes_of_closing, all_thanked, seen_now, seen_in_flag, seen_in_flags, restored_transaction, restored_transactions, abort_row, forget_row, begin_again, begin_row, end_promised, end_stage, end_row, abort_stage, abort_request, not_known, told_stage, inquire_row, noted, counted_vote, vote_stage, vote_row, done_stage, done_row, thanks_stage, thanks_row}
+pub use Rattle.jn_rows.specs.Coordinator.{coordinator_row, close_clients_row, is_work, CoordinatorTable, transaction_at, with_stage, all_in, besides, drops, commits, prepares, aborted_to, committed_to, closed, after_closing, begun_by, is_begun, coordinator_again, told_again, with_work, commit_row, changes_of_closing, all_thanked, seen_now, seen_in_flag, seen_in_flags, restored_transaction, restored_transactions, abort_row, forget_row, begin_again, begin_row, end_promised, end_stage, end_row, abort_stage, abort_request, not_known, told_stage, inquire_row, noted, counted_vote, vote_stage, vote_row, done_stage, done_row, thanks_stage, thanks_row}
 pub use Rattle.jn_lock_rows.specs.Matching.{are_rising, is_after, is_before}
 pub use Rattle.jn_lock_rows.proofs.Works.{at-more, at-less, work_same, work_is, found-name, at-phase, in_phase, at-grant, once_granted, found-behind, not-before, none-front}
 pub use Rattle.jn_system.proofs.SmallSteps.Updates.{some_is, none_some, not_both, false_unless, some_none, clash, at_tid_cases, at_work_cases, some_of, none_of, at_work_other, at_tid_here, at_tid_other, at_work_here}
-pub use Rattle.jn_system.specs.WholeSystem.World.{World, Memory, at_server, commits_in, has_line, opening, committed_in, new_memory, changed, with_epoch, at_client, servers_from, AreFilesOf}
+pub use Rattle.jn_system.specs.WholeSystem.World.{World, Memory, at_server, commits_in, has_line, opening, new_memory, changed, with_epoch, at_client, servers_from, AreFilesOf}
 pub use Rattle.jn_system.specs.WholeSystem.Servers.{storage_of, of_worker, of_coordinator, of_timeout, lines_of, restored, server_again, line_of, named_now, Room, server_timeout, server_row}
 pub use Rattle.jn_system.specs.WholeSystem.Steps.{Step, after, done, Tell, IsStep, commanded, sent_now, NextEvent, IsRun, run, took, StopDelivery, StopWork, StopRestart, Dismiss, CloseClients, IsIdle, restart_with, ends, AreNames, tid_before, stopped, works, taken_by, again, Again}
 pub use Rattle.jn_system.specs.WholeSystem.LockFacts.{LockFacts, ServerFact, UpFact, IsSoundWork, TableFact}
@@ -42,8 +42,8 @@ pub use Rattle.jn_system.proofs.WholeSystem.ServerRows.{row-either, row-of-step}
 pub use Rattle.jn_system.proofs.WholeSystem.WorkerCases.{asked_for, asked_here, WorkerCase, replies_only, opens_anew, refuses_next, performs_next, prepares_it, drops_it, removes_it, Replies, is_open_already, votes_against, votes_broken, votes_lost, WorkerStep, is_over, its_wants, worker-case, worker-step-case, none_done, is_repeated, is_broken_for, is_closing_for, is_gone_for, its_answer, marks_it, carries_out, erases_rubbish}
 pub use Rattle.std.specs.List.{list_any, list_all, fold, AllByRecursion}
 pub use Rattle.jn_system.specs.SmallSteps.World.{World as Machine, Working, Unknown, Commit, IsSerial}
-pub use Rattle.jn_system.specs.SmallSteps.Invariant.{Invariant}
-pub use Rattle.jn_system.specs.SmallSteps.Steps.{Atom, run as run_atoms, opening_world, End as Ends, Perform, Lose, Prepare, NoteReady, Make, Decide, RaiseEpoch, server_of, Crash, Narrow, Restart, Learn, NoteOver, Close, Count, Name, trace_of, end_it}
+pub use Rattle.jn_system.proofs.SmallSteps.Invariant.{Invariant, IsGiven, NamesFact, IsPart}
+pub use Rattle.jn_system.specs.SmallSteps.Steps.{Atom, run as run_atoms, opening_world, End as Ends, Perform, Lose, Prepare, NoteReady, Make, Decide, RaiseEpoch, server_of, Crash, Narrow, Restart, CarryPart, Learn, NoteOver, Close, Count, Name, trace_of, end_it}
 pub use Rattle.jn_system.specs.SmallSteps.Premises.{MayRun, MayCarryOut, MayRemove, MayMake, May}
 pub use Rattle.jn_system.specs.SmallSteps.Messages.{IsWorkOf, Says, OutcomeSays}
 pub use Rattle.jn_system.proofs.SmallSteps.MessageLemmas.{Grows, run_grows, says_still, grows}
@@ -67,36 +67,35 @@ pub use Rattle.jn_system_order.proofs.Ordering.ClientSteps.{parts_of, end-may, e
 pub use Rattle.jn_report.specs.declared.line.Text.{Text}
 pub use Rattle.jn_base.specs.declared.op.Op.{Op}
 pub use Rattle.jn_schedule.specs.declared.Event.{Event}
-pub use Rattle.jn_serial.specs.Lines.{event_at, commit_in, history_of, says, lines_at, lines_before, count_lines, has_tid, says as says_it, says as says_of}
+pub use Rattle.jn_serial.specs.Lines.{event_at, history_of, says, lines_at, lines_before, count_lines, has_tid, says as says_it, says as says_of}
 pub use Rattle.jn_serial.proofs.Growth.{event_at-next, AreWithin, AreWithin-wider, AreWithin-append, lines_at-earlier, lines_at-outside, lines_at-newest, IsWithin, follows-same}
 pub use Rattle.jn_rows.specs.declared.client.OpenWork.{OpenWork}
 pub use Rattle.jn_system.specs.SmallSteps.Traces.{Answered, effect_of, Agrees, effects}
 pub use Rattle.jn_system.proofs.WholeSystem.Steps.{locks-keep, opening-keeps}
 pub use Rattle.jn_system_order.proofs.Mirroring.Losing.{run-append, may-append}
 pub use Rattle.jn_system_reports.specs.Reporting.Reported.{Act, Does, Refuses as Refused, Tells as Faults, Shows, Item, events_of, steps_in, steps_of, after_item, IsUnder, AreUnder, world_of, IsReported, Tells, told_by, told_in, told_under, at_event, lines_of as lines_of_items, may_act, Waiting, none_wait, one_more, armed, with_event, strike_all, AreStruck, FaultsWait, strikes, IsStruck, may_do, Does as Done, GoesOver, IsShow, IsShown, AreShown}
-pub use Rattle.jn_system_reports.specs.Telling.Told.{ops_in, at_place, owner_in, begins_it, is_begun, begun_by}
+pub use Rattle.jn_system_reports.specs.Telling.Told.{at_place}
 pub use Rattle.jn_base.specs.declared.names.LockUnit.{LockUnit}
 pub use Rattle.jn_system.specs.SmallSteps.Held.{HasRead, Writes, file_unit}
-pub use Rattle.jn_system.specs.SmallSteps.NameFacts.{IsGiven, NamesFact}
 pub use Rattle.jn_system.proofs.SmallSteps.History.{run_told, opening_told, IsTold, in_order}
 pub use Rattle.jn_system_order.proofs.Mirroring.ClientRows.{found-open, IsThanks, Takes, takes, are-counted}
 pub use Rattle.jn_system_order.proofs.Ordering.Openings.{Opening, opening_in, openings, Has, has-either, openings-more, has-first, has-second}
 pub use Rattle.jn_system_order.proofs.Ordering.ClientFacts.{all-have-theirs, CommandFacts, command-facts}
 pub use Rattle.jn_system_reports.specs.BetweenSteps.Works.{IsFlagged, IsPrepared, IsCarriedOut, DoWorksStay, IsActive, AreAsPrepared, AreReadsKept, AreCarriedOut}
 pub use Rattle.jn_report.specs.declared.line.Line.{Line}
+pub use Rattle.jn_report.specs.Kinds.{commit_in, commit_in as committed_in, is_own, is_fault, begins, is_answer, goes_down, breaks, refuses_event, stops, refuses_fault, addressed, answer_in, is_locked, is_no_show}
 pub use Rattle.jn_serial.specs.Order.{ops_of, replay as replay-lines, replay, AgreesFrom}
 pub use Rattle.jn_system.specs.SmallSteps.Order.{IsInOrder, CommitsOnce, has_committed, HasTraces, IsInOrder as InOrder}
 pub use Rattle.jn_base.specs.declared.names.Party.{Party}
 pub use Rattle.jn_system.proofs.SmallSteps.NameLemmas.{fresh_work}
 pub use Rattle.jn_base.specs.declared.op.Command.{Command}
 pub use Rattle.jn_serial.specs.InTurn.{performed_in, answered, answered_by, owner_after, begins_for, is_its_client, told_from}
-pub use Rattle.jn_serial.specs.Follows.{is_own, is_answer, refuses_own, answers_command, can_have, is_read, Outstanding as Waited, addressed, answer_in, is_last, fits, after_answer, nothing_asked, with_asked, AllFit, after_answers, after_event, own_in_place, is_command_of, AllOwnInPlace, FollowsEvent, after_one, FollowsFrom, IsOfEvent, AllOfEvents, Follows, fits_asked}
 pub use Rattle.jn_msgs.specs.declared.message.Outcome.{Outcome}
 pub use Rattle.jn_rows.specs.declared.client.Taken.{Taken}
 pub use Rattle.jn_report.specs.declared.line.When.{When}
 pub use Rattle.jn_report.specs.declared.line.When.TheVariants.{Event as AtEvent, End as AtEnd}
-pub use Rattle.jn_serial.specs.Caused.{is_caused_by, is_caused, CausedFrom, Caused, begins, any_event, lines_after, aborts, asks, joins, goes_down, loses, breaks, count_events, is_stop, refuses_event, stops, arms_stop, refuses_fault, gives_fault, is_accepted}
-pub use Rattle.jn_system_reports.specs.Reporting.Armed.{is_fault, ArmedFrom, AreArmed}
+pub use Rattle.jn_serial.specs.Caused.{is_caused_by, is_caused, CausedFrom, Caused, any_event, lines_after, aborts, asks, joins, loses, count_events, is_stop, arms_stop, gives_fault, is_accepted}
+pub use Rattle.jn_system_reports.specs.Reporting.Armed.{ArmedFrom, AreArmed}
 pub use Rattle.jn_system.specs.WholeSystem.Printing.{Printed, FileThere, PageStored, UnitLocked, print_unit, print_one, print_blocks, print_file, print_files}
 pub use Rattle.jn_system.specs.WholeSystem.PrintedLines.{text_printed, IsPrinted, prints_of}
 pub use Rattle.std.proofs.lemmas.Bool.Decides.{nat_tests}
@@ -111,9 +110,10 @@ pub use Rattle.jn_rows.specs.declared.coordinator.Stage.{Stage}
 pub use Rattle.jn_rows.specs.declared.coordinator.Committed.{Committed as Commitment}
 pub use Rattle.jn_system.proofs.WholeSystem.CoordinatorCases.{IsListed, wants_to_commit, wants_to_abort, WantsOutcome, wants_outcome, votes_late, Unneeded, is_not_here, is_carried_out, has_aborted, Saying, says_nothing, says_begun, says_unknown, prepares_again, says_drop, Noting, work_is_done, client_thanks, CoordinatorCase, is_ignored_by, is_left_by, begins_anew, finds_no_room, starts_voting, counts_vote, is_committed_by, is_aborted_by, notes_commit, forgets_commit, forgets_abort, coordinator-case, says_committed, says_aborted, Committing, has_no_works, is_last_vote, Aborting, finds_no_record, stops_open, stops_voting, work_is_lost, work_is_broken, work_has_no_room}
 pub use Rattle.jn_system_reports.specs.Reporting.Ending.{Comeback, Ending, restarts_from, steps_at_end, settles, IsEnding, told_by_steps, texts_from, at_end, lines_to_end, world_at_end, ArePrinted}
+pub use Rattle.jn_serial.specs.Follows.{refuses_own, answers_command, can_have, is_read, Outstanding as Waited, is_last, fits, after_answer, nothing_asked, with_asked, AllFit, after_answers, after_event, own_in_place, is_command_of, AllOwnInPlace, FollowsEvent, after_one, FollowsFrom, IsOfEvent, AllOfEvents, Follows, fits_asked}
 pub use Rattle.jn_serial.proofs.Orders.{lines_before-append, lines_at-append, any-append}
 pub use Rattle.jn_system_order.proofs.Mirroring.Closing.{still-says, same-server}
-pub use Rattle.jn_system.specs.SmallSteps.Transactions.{Knows, IsPart}
+pub use Rattle.jn_system.specs.SmallSteps.Transactions.{Knows}
 pub use Rattle.jn_system_order.proofs.Mirroring.StageMoves.{knows, stage-is, stage-known}
 pub use Rattle.jn_base.specs.declared.names.OperationNo.{OperationNo}
 pub use Rattle.jn_locks.specs.Locks.{is_unit, work_before}
@@ -127,7 +127,7 @@ pub use Rattle.std.proofs.Math.Path.{fun_ext}
 pub use Rattle.std.proofs.lemmas.List.Elements.{All-head, All-tail, All-nil, All-cons, All-append}
 pub use Rattle.jn_base.specs.declared.names.LockUnit.TheVariants.{File, Block}
 pub use Rattle.jn_base.specs.declared.names.FileNo.{FileNo}
-pub use Rattle.jn_serial.specs.Shown.{IsAsIn, AllAsIn, prints_file, is_locked, ShowsFiles, ShownSoFar, Shown, accounts_file, accounts_block, is_no_show}
+pub use Rattle.jn_serial.specs.Shown.{IsAsIn, AllAsIn, prints_file, ShowsFiles, ShownSoFar, Shown, accounts_file, accounts_block}
 pub use Rattle.jn_system_reports.specs.Telling.Agreement.{AreAsTold}
 pub use Rattle.jn_base.specs.declared.names.BlockNo.{BlockNo}
 pub use Rattle.jn_system.specs.WholeSystem.Example.{the_server, the_transaction, the_work, the_file, start}

@@ -1,4 +1,4 @@
--- What the lines tell of a transaction.
+-- What the lines report of a transaction.
 pub mod Tellings
 pub mod Atoms
 pub mod Acting
@@ -14,3 +14,4 @@ pub mod Ends
 pub mod Runs
 pub mod Agreeing
 pub mod Reports
+pub mod TransactionLines

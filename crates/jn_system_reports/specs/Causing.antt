@@ -1,2 +1,2 @@
--- Each abort that is told has its cause.
+-- Each abort that is reported has its cause.
 pub mod Example

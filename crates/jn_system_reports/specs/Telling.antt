@@ -1,4 +1,4 @@
--- What the lines tell of a transaction.
+-- What the lines report of a transaction.
 pub mod Told
 pub mod Agreement
 pub mod Example

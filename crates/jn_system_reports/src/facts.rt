@@ -56,7 +56,7 @@ pub fn drops_are_of_works_that_are_over()
 {}
 
 /// Whatever steps come one after another: each work that is active, or that may be found prepared while its transaction's commit
-/// has no line, would be answered by the files that the commits so far leave as it was. So what the lines of a report tell of such
+/// has no line, would be answered by the files that the commits so far leave as it was. So what the lines of a report say of such
 /// a work's operations is what those files answer.
 pub fn answers_stand_until_the_commit()
     ensures did { (servers : ℕ) (files : AllFiles) (epochs : ServerNo → ℕ) (steps : List Step) → IsRun steps (opening servers files epochs)

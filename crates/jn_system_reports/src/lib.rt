@@ -1,4 +1,4 @@
-//! What the reports of the whole system tell: lines and events of a run, what transactions did, why they aborted, what is shown, and
+//! What the reports of the whole system say: lines and events of a run, what transactions did, why they aborted, what is shown, and
 //! what holds between any two steps.
 #![tactic(auto)]
 

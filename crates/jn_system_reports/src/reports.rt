@@ -1,4 +1,4 @@
-//! What the lines of each run of the whole system say of its schedule: each answer answers a command, outcomes are told as
+//! What the lines of each run of the whole system say of its schedule: each answer answers a command, outcomes are reported as
 //! they are, and each stop and refused fault has an event that can have given it.
 
 ghost use Rattle.std.specs.Prelude.{◌≡◌, ℕ, List};

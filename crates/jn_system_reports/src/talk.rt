@@ -1,5 +1,5 @@
-//! What the lines of each run of the whole system tell of its transactions is what their works did, so the order of commits
-//! gives each committed transaction the answers that it was told.
+//! What the lines of each run of the whole system report of its transactions is what their works did, so the order of commits
+//! gives each committed transaction the answers that were reported.
 
 ghost use Rattle.std.specs.Prelude.{◌≡◌, ℕ, List, [], ◌∷◌, ◌++◌};
 ghost use Rattle.jn_base.specs.declared.names.ServerNo.{ServerNo};
@@ -17,8 +17,8 @@ ghost use Rattle.jn_system_reports.specs.Telling.WrongRuns.{lines_in, gives, two
 
 /// Whatever is done under the events of a schedule, stops and restarts among it: the transactions that the lines name as
 /// committed, run one after another from the opening files, give each of them the answers from the files that its lines
-/// tell, and the files that are found at each server, but for what is still to be carried out. So it is after each event of
-/// the run, and no later line changes what was told of those commits.
+/// report, and the files that are found at each server, but for what is still to be carried out. So it is after each event of
+/// the run, and no later line changes what was reported of those commits.
 pub fn commits_are_as_told()
     ensures agrees { (servers : ℕ) (files : AllFiles) (epochs : ServerNo → ℕ) (items : List Item) → IsReported items (opening servers files epochs)
         → Agrees files (events_of items) (lines_of items (opening servers files epochs)) }
@@ -36,8 +36,8 @@ pub fn a_transaction_is_told()
         ≡ record { server = the_server; op = ops.Create the_file; answer = answers.Did } ∷ [] }
 {}
 
-/// Wrong rows tell otherwise: where a client takes the answer to an earlier request there is a run whose committed
-/// transaction is told what no files give, and where a worker answers without keeping what it did, one whose files are lost.
+/// Wrong rows report otherwise: where a client takes the answer to an earlier request there is a run whose committed
+/// transaction is reported with what no files give, and where a worker answers without keeping what it did, one whose files are lost.
 pub fn wrong_rows_tell_otherwise()
     ensures old_answer { Agrees no_files (gives two_operations) (lines_in told_an_old_answer) → ⊥ }
     ensures lost { AreAsTold no_files (gives one_operation) (lines_in answered_and_lost) (lines_in answered_and_lost) answered_and_lost → ⊥ }

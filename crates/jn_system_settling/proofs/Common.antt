@@ -24,7 +24,7 @@ pub use Rattle.jn_rows.specs.declared.worker.Work.{Work as WorkEntry, Work}
 pub use Rattle.jn_rows.specs.declared.client.Taken.{Taken}
 pub use Rattle.jn_rows.specs.declared.client.Taken.TheVariants.{Ignored}
 pub use Rattle.jn_rows.specs.declared.client.Outstanding.{Outstanding}
-pub use Rattle.jn_rows.specs.Stable.{Pick, stable, StableState, Prepared, is_going, MarkGoing, at_work, gone_on, made_all, DropFlag, FlagState, RemoveWork, Change, AddReady, CarryOut, AddFlag, made_by, at_tid, is_ready, ready_work}
+pub use Rattle.jn_rows.specs.Stable.{Pick, stable, Left, StableState, Prepared, is_going, MarkGoing, at_work, gone_on, made_all, DropFlag, FlagState, RemoveWork, Change, AddReady, CarryOut, AddFlag, left_of, made_by, at_tid, is_ready, ready_work}
 pub use Rattle.jn_rows.specs.Client.{ClientTable, command_row, take_row, is_current, is_tid, opens, opened_row, if_waits, outcome_row, is_end_or_abort, over, sent_again, is_begin, names_of, begun_row, again_row, is_end, told, work_at as open_at, is_operation, idle, answer_line, if_server, if_idle, if_transaction, if_no_transaction, if_open, if_not_open, with_operation, sends as sends_command, Commanded, Refuses, Sends, new_table, decided_row, sends}
 pub use Rattle.jn_rows.specs.ClientLaws.{after_command, are_apart, IsClient}
 pub use Rattle.jn_system.specs.WholeSystem.World.{World, Memory, servers_from, clients_from, at_server, opening, has_line, commits_in, at_client, new_memory, with_epoch}
@@ -82,11 +82,12 @@ pub use Rattle.jn_rows.specs.declared.client.OpenWork.{OpenWork}
 pub use Rattle.jn_system.specs.SmallSteps.Steps.{run as run_atoms, opening_world}
 pub use Rattle.jn_system.proofs.WholeSystem.Closes.{outcomes-close, Closes, Empty, Stays, Goes, Waits, Forgets, client-closes}
 pub use Rattle.jn_base.specs.declared.names.Party.{Party}
-pub use Rattle.jn_system_settling.specs.Settling.Weights.{burden, weight_at, weigh_all, weigh, weight, goings_at, sum_over, going_works, goings}
-pub use Rattle.jn_system.specs.SmallSteps.Invariant.{Invariant}
+pub use Rattle.jn_system_settling.specs.Settling.Weights.{burden, weight_at, weigh, goings_at, sum_over, going_works, goings}
+pub use Rattle.jn_system.proofs.SmallSteps.Invariant.{Invariant, MayBeFound}
 pub use Rattle.jn_locks.specs.Locks.{work_before}
 pub use Rattle.std.proofs.Math.Path.{fun_ext}
 pub use Rattle.jn_system_order.proofs.Mirroring.StepMoves.{holds-of}
 pub use Rattle.jn_system_settling.specs.Settling.Rests.{ComesNext, IsHalt, EachComes, IsBounded, in_two, asked as asked_again, EachInTurn, AreNext, NothingIsLeft, ComeToRest, chances_of, asked, both_parts}
+pub use Rattle.jn_msgs.specs.Weights.{weight}
 pub use Rattle.jn_system.proofs.WholeSystem.Steps.{locks-keep, opening-keeps}
 pub use Rattle.jn_system_settling.specs.Settling.Events.{line, AreSteps, Event, Does, Settles, Told, after_events}

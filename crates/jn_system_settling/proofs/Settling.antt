@@ -13,3 +13,4 @@ pub mod Resting
 pub mod Settling
 pub mod Loops
 pub mod BoundedLoops
+pub mod MessageWeights

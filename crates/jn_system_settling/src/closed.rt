@@ -22,7 +22,7 @@ pub fn an_end_leaves_nothing()
         → (first second : ℕ → Chance) → Leaves IsClosed servers first second (ended servers starts (go_on steps (opening_course servers files epochs))) }
 {}
 
-/// And each register of each state that may be found at a server is as the commits that the lines tell leave it, one after
+/// And each register of each state that may be found at a server is as the commits that the lines report leave it, one after
 /// another, none of it still to be carried out.
 pub fn an_end_leaves_what_was_committed()
     ensures { (servers : ℕ) (files : AllFiles) (epochs : ServerNo → ℕ) (steps : List Step) → servers ≤ 8 → IsRun steps (opening servers files epochs)

@@ -166,7 +166,7 @@ hex_is_run bytes start (b ∷ rest) end at other =
       omega arith,
     )
 
--- ---- an error that is told otherwise
+-- ---- an error that is reported otherwise
 
 if_no_error : {V D : Type 0} (m : Result V D) (P : D → Type 0) (Q : V → Type 0) → IsErrAnd m P → IfOk m Q
 if_no_error (Ok x) P Q err = absurd err

@@ -5,8 +5,8 @@ use Rattle.jn_msgs.specs.declared.message.Note.{Note}
 use Rattle.jn_rows.specs.declared.coordinator.Transaction.{Transaction}
 use Rattle.jn_rows.specs.Coordinator.{told_again, coordinator_again}
 use Rattle.jn_rows.specs.Outcomes.{Sent}
-use Rattle.jn_transactions.specs.declared.faults.CoordFault.{CoordFault}
-use Rattle.jn_transactions.specs.declared.faults.CoordFault.TheVariants.{Memory}
+use Rattle.jn_base.specs.declared.fault.CallFault.{CallFault}
+use Rattle.jn_base.specs.declared.fault.CallFault.TheVariants.{Memory}
 use Rattle.jn_transactions.specs.Telling.{Adds, added, Longer}
 
 pub added_none : (before : Collected) → before ≡ added before [] []
@@ -23,7 +23,7 @@ longer_same before after e = record {
   is = e ∙ added_none before;
 }
 
-pub adds_gave_up : (ms : List Sent) (ns : List Note) (before : Collected) (a : Result (Unit {0}) CoordFault) → a ≡ Err Memory → Adds ms ns before a before
+pub adds_gave_up : (ms : List Sent) (ns : List Note) (before : Collected) (a : Result (Unit {0}) CallFault) → a ≡ Err Memory → Adds ms ns before a before
 adds_gave_up ms ns before a e = subst (λ b. Adds ms ns before b before) (sym e) (longer_same before before refl)
 
 -- ---- of several transactions

@@ -45,7 +45,7 @@ pub fn send_outcome(
     )
 }
 
-/// Tells that a message is stale.
+/// Reports that a message is stale.
 #[tactic(auto, using(crate::proofs::Sends::longer_same))]
 pub fn note(out: &mut Out, note: Note) -> Result<(), CoordFault>
     ensures { Adds [] (note ∷ []) out.old result out.new }

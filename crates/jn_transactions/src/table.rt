@@ -3,7 +3,7 @@
 ghost use Rattle.std.specs.Prelude.{◌≡◌, not, true, ◌&&◌, [], ◌∷◌, ◌++◌, IfOk, IfErr, vec_capacity};
 ghost use Rattle.std.specs.Option.{option_copied};
 ghost use Rattle.jn_rows.specs.Coordinator as rows;
-ghost use Rattle.jn_transactions.specs.declared.faults.CoordFault.TheVariants.{Memory};
+ghost use Rattle.jn_base.specs.declared.fault.CallFault.TheVariants.{Memory};
 ghost use Rattle.jn_transactions.specs.Listed.{transaction_place};
 ghost use Rattle.jn_transactions.specs.Stages.{is_aborted, ready_in};
 

@@ -1,5 +1,5 @@
 -- A going work is carried on.
-use Rattle.jn_worker.proofs.Common.{◌≡◌, ◌≢◌, Bool, true, false, List, [], ◌∷◌, ◌++◌, Option, Some, None, map, refl, sym, ◌∙◌, ap, subst, arith, true≢false, Result, Ok, Err, is_some, not, ◌&&◌, ◌||◌, filter, slice_get, if◌then◌else◌, append-nil, Stopped, Tid, Tickets, WorkId, LockUnit, Server, work_eq, work_tells, change, Intention, intention_change, Read, Commit, Table, IsCompatible, is_unit, unit_eq, unit_tells, Collected, Work, Phase, ActiveWork, Active, Broken, Stored, Prepared, CarryOut, RemoveWork, made_by, is_going, WorkerTable, work_at, without, new_work, carried_row, holds, LocksMatch, are_rising, held_in, is_in, unit_of, StorageView, intentions, state, IsGoing, next_of, StepApplied, CountsOn, WorkRemoved, WorkerFault, Stops, Memory, WorkerView, Fits, TicketsFit, WorkFits, PhaseFits, WorkListFits, ListFits, are_written, Takes}
+use Rattle.jn_worker.proofs.Common.{◌≡◌, ◌≢◌, Bool, true, false, List, [], ◌∷◌, ◌++◌, Option, Some, None, map, refl, sym, ◌∙◌, ap, subst, arith, true≢false, Result, Ok, Err, is_some, not, ◌&&◌, ◌||◌, filter, slice_get, if◌then◌else◌, append-nil, Stopped, Tid, Tickets, WorkId, LockUnit, Server, work_eq, work_tells, change, Intention, intention_change, Read, Commit, Table, IsCompatible, is_unit, unit_eq, unit_tells, Collected, Work, Phase, ActiveWork, Active, Broken, Stored, Prepared, CarryOut, RemoveWork, made_by, is_going, WorkerTable, work_at, without, new_work, carried_row, holds, LocksMatch, are_rising, held_in, is_in, unit_of, StorageView, intentions, state, IsGoing, next_of, StepApplied, CountsOn, WorkRemoved, CallFault, Stops, Memory, WorkerView, Fits, TicketsFit, WorkFits, PhaseFits, WorkListFits, ListFits, are_written, Takes}
 use Rattle.jn_msgs.specs.declared.message.Message.TheVariants as messages
 use Rattle.jn_storage.proofs.Kept.{AreApart, prepared-carried}
 use Rattle.jn_worker.proofs.Counts.{counts_on, counts_off}
@@ -100,7 +100,7 @@ wrong : answer_of true ≡ answer_of false → ⊥
 wrong e = true≢false (ap told e)
 
 -- stopped while an intention is carried out
-pub carry_stopped : (t : WorkerView) (v w : StorageView) (before : Collected) (k : Tickets) (W : WorkId) (T : Tid) (answer : Result (Unit {0}) WorkerFault) (e : Stopped) → answer ≡ Err Stops → StepApplied v W (Err e) w
+pub carry_stopped : (t : WorkerView) (v w : StorageView) (before : Collected) (k : Tickets) (W : WorkId) (T : Tid) (answer : Result (Unit {0}) CallFault) (e : Stopped) → answer ≡ Err Stops → StepApplied v W (Err e) w
     → Takes 40 (carried_row t.table k (new_work W T) (next_of v W)) t v before k answer t w before k
 carry_stopped t v w before k W T answer e is s = subst (λ answer. Takes 40 (carried_row t.table k (new_work W T) (next_of v W)) t v before k answer t w before k) (sym is) (by (next_of v W) refl)
   where
@@ -135,7 +135,7 @@ over-row : (t : WorkerTable) (v : StorageView) (k : Tickets) (W : WorkId) (T : T
 over-row t v k W T n = ap (λ o. carried_row t k (new_work W T) o) n
 
 -- stopped while the work is forgotten
-pub over_stopped : (t u : WorkerView) (v x w : StorageView) (before : Collected) (k : Tickets) (W : WorkId) (T : Tid) (answer : Result (Unit {0}) WorkerFault) → answer ≡ Err Stops → StepApplied v W (Ok false) x → WorkRemoved x W false w
+pub over_stopped : (t u : WorkerView) (v x w : StorageView) (before : Collected) (k : Tickets) (W : WorkId) (T : Tid) (answer : Result (Unit {0}) CallFault) → answer ≡ Err Stops → StepApplied v W (Ok false) x → WorkRemoved x W false w
     → Takes 40 (carried_row t.table k (new_work W T) (next_of v W)) t v before k answer u w before k
 over_stopped t u v x w before k W T answer is s m = let left = nothing_left v x W s in
     subst (λ row. Takes 40 row t v before k answer u w before k) (sym (over-row t.table v k W T left.0)) (subst (λ answer. Takes {A = Unit {0}} 40 (carried_row t.table k (new_work W T) None) t v before k answer u w before k) (sym is)
@@ -143,7 +143,7 @@ over_stopped t u v x w before k W T answer is s m = let left = nothing_left v x 
     (λ m. one_stopped _ t u v w before before k k (RemoveWork W) 16 refl (omega arith) m.called m.change refl) m))
 
 -- without memory for its message
-pub over_untold : (t u : WorkerView) (v x w : StorageView) (before after : Collected) (k : Tickets) (W : WorkId) (T : Tid) (answer : Result (Unit {0}) WorkerFault) → answer ≡ Err Memory → StepApplied v W (Ok false) x → WorkRemoved x W true w
+pub over_untold : (t u : WorkerView) (v x w : StorageView) (before after : Collected) (k : Tickets) (W : WorkId) (T : Tid) (answer : Result (Unit {0}) CallFault) → answer ≡ Err Memory → StepApplied v W (Ok false) x → WorkRemoved x W true w
     → Takes 40 (carried_row t.table k (new_work W T) (next_of v W)) t v before k answer u w after k
 over_untold t u v x w before after k W T answer is s m = let left = nothing_left v x W s in
     subst (λ row. Takes 40 row t v before k answer u w after k) (sym (over-row t.table v k W T left.0)) (subst (λ answer. Takes {A = Unit {0}} 40 (carried_row t.table k (new_work W T) None) t v before k answer u w after k) (sym is)

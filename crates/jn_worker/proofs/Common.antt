@@ -11,7 +11,7 @@ pub use Rattle.jn_storage.specs.Listing.{is_in, are_different, AtMost}
 pub use Rattle.jn_storage.specs.Storage.{StorageView, Accounts, IsServing, IsRecovered}
 pub use Rattle.jn_storage.specs.Calls.{state, MayPrepare, IsGoing, next_of, StepApplied, CountsOn, WorkRemoved, with_work, CountsOff, CountsErased, MarkedGoing, Called, IsReady, name_of, outline, outline_of, IsTold, TellsWorks, RecordErased, WorkPrepared, reached, first_short, shortage as storage_shortage}
 pub use Rattle.jn_worker.specs.Fitting.{WorkerView, Fits, WorkFits, PhaseFits, WorkListFits, ListFits, is_stored, TicketsFit, are_written, is_none, seen, ActiveFits, is_active, is_active_phase, NameFits}
-pub use Rattle.jn_worker.specs.Calls.{asked_again, AsksAgain, Takes, CountsBy, Settles, settled, told_breaks, told_of, has_stopped, unseen, Granted, locked_by, vote_inactive, Steps, head_of, TimesOut, Stores}
+pub use Rattle.jn_worker.specs.Calls.{asked_again, AsksAgain, Takes, CountsBy, Settles, settled, told_breaks, told_of, has_stopped, Granted, locked_by, vote_inactive, Steps, head_of, TimesOut, Stores}
 pub use Rattle.std.specs.Prelude.{◌+◌, not, if◌then◌else◌, ◌&&◌, ◌||◌, is_some, Result, Ok, Err, filter, slice_get, ◌⊎◌, nat_eq, nat_lt, All, is_ok}
 pub use Rattle.jn_base.specs.declared.names.LockUnit.{LockUnit}
 pub use Rattle.jn_base.proofs.Tells.{work_tells, file_tells}
@@ -35,27 +35,30 @@ pub use Rattle.jn_base.specs.declared.names.Tickets.{Tickets}
 pub use Rattle.jn_base.specs.declared.names.Party.TheVariants.{Server, Client}
 pub use Rattle.jn_order.specs.Files.{change, answer_to, Files, file_of}
 pub use Rattle.jn_records.specs.declared.intention.Intention.{Intention}
-pub use Rattle.jn_records.specs.NetLists.{intention_change, list_change, length_with, block_of, answered, InOrder, First, Kept, MadeFresh, TakenAway, CutFrom, FileNet, as_first, entry, net_of, added, file_added, stays, stands_before, is_put}
-pub use Rattle.jn_worker.specs.declared.words.WorkerFault.{WorkerFault}
-pub use Rattle.jn_worker.specs.declared.words.WorkerFault.TheVariants.{Stopped as Stops, Memory}
+pub use Rattle.jn_records.specs.NetLists.{intention_change, list_change, length_with, answered, InOrder, First, Kept, MadeFresh, TakenAway, CutFrom, FileNet, as_first, entry, net_of, added, file_added, stays, stands_before, is_put}
+pub use Rattle.jn_base.specs.declared.fault.CallFault.{CallFault}
+pub use Rattle.jn_base.specs.declared.fault.CallFault.TheVariants.{Stopped as Stops, Memory}
 pub use Rattle.jn_records.specs.declared.net_list.Need.{Need}
 pub use Rattle.jn_lock_rows.specs.Calls.{IsActive, rephased, Becomes, Grants, IsRefused, note_if, notes_of, stored}
 pub use Rattle.jn_rows.specs.Outcomes.{RowOutcome, quiet, ignored, sends}
 pub use Rattle.std.proofs.lemmas.Bool.Decides.{nat_tests}
 pub use Rattle.jn_base.specs.declared.op.Answer.{Answer}
+pub use Rattle.jn_base.specs.Ops.{block_of, BlockInRange}
 pub use Rattle.std.specs.List.{AllByRecursion, list_all}
 pub use Rattle.jn_base.specs.declared.names.ClientNo.{ClientNo}
 pub use Rattle.jn_base.specs.declared.op.Op.{Op}
 pub use Rattle.jn_msgs.specs.declared.message.Message.{Message}
 pub use Rattle.jn_msgs.specs.declared.message.Vote.{Vote}
-pub use Rattle.jn_storage.specs.Viewing.{BlockInRange, Viewed, reads_stored, served}
 pub use Rattle.jn_base.specs.declared.names.RequestNo.{RequestNo}
+pub use Rattle.jn_msgs.specs.Ranges.{InRange}
 pub use Rattle.jn_works.specs.Changing.{going_in, tallied, relisted}
 pub use Rattle.std.specs.Result.{IsErr, IsErrAnd}
 pub use Rattle.std.proofs.lemmas.Result.{err_from_is_err_and}
+pub use Rattle.jn_rows.proofs.Left.{whole-stop}
 pub use Rattle.jn_base.specs.declared.op.Answer.TheVariants.{Did, TooManyReads, TooManyWrites, Locked}
 pub use Rattle.jn_base.specs.declared.op.Op.TheVariants.{Create, Remove, Cut as CutBlocks, Read as ReadOp, Write as WriteOp, Write}
 pub use Rattle.jn_records.specs.NetEdits.{intention_for, there_by, cut_again, front, in_its_place, list_after}
+pub use Rattle.jn_storage.specs.Viewing.{Viewed, reads_stored, served}
 pub use Rattle.jn_worker.specs.Reading.{ReadSettles, OnlyReads, answer_now, asks_now, asks_in, asks_for, is_unknown}
 pub use Rattle.jn_lock_rows.proofs.Edits.{rephased-is}
 pub use Rattle.jn_base.specs.declared.names.OperationNo.{OperationNo}

@@ -1,11 +1,11 @@
 -- The exits of a call that does one message.
-use Rattle.jn_worker.proofs.Common.{◌≡◌, ◌≤◌, ℕ, Bool, true, false, List, [], ◌∷◌, ◌++◌, refl, sym, ◌∙◌, ap, subst, arith, inl, inr, Result, Ok, Err, not, IsErr, IsErrAnd, err_from_is_err_and, Tickets, Collected, RowOutcome, StableState, Change, Changed, ChangedAll, Pick, WorkerTable, StorageView, IsServing, state, Called, WorkerFault, Memory, WorkerView, Fits, TicketsFit, Takes, CountsBy, has_stopped}
+use Rattle.jn_worker.proofs.Common.{◌≡◌, ◌≤◌, ℕ, Bool, true, false, List, [], ◌∷◌, ◌++◌, refl, sym, ◌∙◌, ap, subst, arith, Result, Ok, Err, not, IsErr, IsErrAnd, err_from_is_err_and, Tickets, Collected, RowOutcome, StableState, Change, Changed, ChangedAll, Pick, WorkerTable, StorageView, IsServing, state, Called, CallFault, Memory, WorkerView, Fits, TicketsFit, Takes, CountsBy, has_stopped, whole-stop}
 use Rattle.jn_storage.proofs.Laws.{called_not}
-use Rattle.jn_worker.specs.declared.words.WorkerFault.TheVariants.{Stopped}
+use Rattle.jn_base.specs.declared.fault.CallFault.TheVariants.{Stopped}
 use Rattle.jn_worker.proofs.Counts.{counts_kept}
 
 pub none-made : (x : StableState) (changes : List Change) (found : Pick → StableState) → ((c : Pick) → found c ≡ x) → ChangedAll x changes false found
-none-made x changes found h = record { done = λ e. absurd (cc e); stop = λ _ c. record { made = 0; is_after = h c } }
+none-made x changes found h = record { done = λ e. absurd (cc e); stop = λ _ c. whole-stop x changes (found c) 0 (h c) }
 
 -- without memory, where nothing has been done
 pub without_memory : {A : Type 0} {most : ℕ} (row : RowOutcome WorkerTable) (t u : WorkerView) (v : StorageView) (before after : Collected) (k l : Tickets) → IsServing v → Takes {A = A} most row t v before k (Err Memory) u v after l
@@ -17,6 +17,10 @@ without_memory {most = most} row t u v before after k l serving = record {
   tickets_fit = λ e. absurd (cc e);
   counts = λ e. absurd (cc e);
 }
+
+-- where an answer says so
+pub nothing_done : {A : Type 0} {most : ℕ} (a : Result A CallFault) (row : RowOutcome WorkerTable) (t u : WorkerView) (v : StorageView) (before after : Collected) (k l : Tickets) → a ≡ Err Memory → IsServing v → Takes {A = A} most row t v before k a u v after l
+nothing_done {A = A} {most = most} a row t u v before after k l e serving = subst (λ b. Takes {A = A} most row t v before k b u v after l) (sym e) (without_memory row t u v before after k l serving)
 
 -- done, without a change of what is stable
 pub without_change : {A : Type 0} {most : ℕ} (x : A) (row : RowOutcome WorkerTable) (t u : WorkerView) (v : StorageView) (before after : Collected) (k l : Tickets) → row.changes ≡ [] → u.table ≡ row.table → after.messages ≡ before.messages ++ row.messages
@@ -40,7 +44,7 @@ pub called-within : {most : ℕ} (v w : StorageView) (n : ℕ) (ok : Bool) → n
 called-within v w n ok le c = record { later = c.later; calls = omega (arith, le, c.calls); loadable = c.loadable; no_stop = c.no_stop; serving = c.serving; stop = c.stop }
 
 -- a bound of device calls may be raised
-pub raised : {A : Type 0} (row : RowOutcome WorkerTable) (t u : WorkerView) (v w : StorageView) (before after : Collected) (k l : Tickets) (answer : Result A WorkerFault) → Takes 16 row t v before k answer u w after l → Takes 784 row t v before k answer u w after l
+pub raised : {A : Type 0} (row : RowOutcome WorkerTable) (t u : WorkerView) (v w : StorageView) (before after : Collected) (k l : Tickets) (answer : Result A CallFault) → Takes 16 row t v before k answer u w after l → Takes 784 row t v before k answer u w after l
 raised row t u v w before after k l answer h = record { performs = h.performs; called = called-within v w 16 (not (has_stopped answer)) (omega arith) h.called; silent = h.silent; fits = h.fits; tickets_fit = h.tickets_fit; counts = h.counts }
 
 -- stopped within the row's one change
@@ -48,7 +52,7 @@ pub one_stopped : {A : Type 0} {most : ℕ} (row : RowOutcome WorkerTable) (t u 
     → Called v n false w → Changed (state v) change false w.found → after ≡ before → Takes {A = A} most row t v before k (Err Stopped) u w after l
 one_stopped row t u v w before after k l change n one le called changed same = record {
   performs = record {
-    changes = subst (λ changes. ChangedAll (state v) changes false w.found) (sym one) (record { done = λ e. absurd (cc e); stop = λ _ c. elim (changed.stop refl c) [ inl p ↦ record { made = 0; is_after = p } | inr p ↦ record { made = 1; is_after = p } ] });
+    changes = subst (λ changes. ChangedAll (state v) changes false w.found) (sym one) (record { done = λ e. absurd (cc e); stop = changed.stop });
     becomes = λ e. absurd (cc e);
     sent = λ e. absurd (cc e);
     noted = λ e. absurd (cc e);
@@ -66,7 +70,7 @@ pub one_untold : {A : Type 0} {most : ℕ} (row : RowOutcome WorkerTable) (t u :
     → Called v n true w → Changed (state v) change true w.found → Takes {A = A} most row t v before k (Err Memory) u w after l
 one_untold row t u v w before after k l change n one le called changed = record {
   performs = record {
-    changes = subst (λ changes. ChangedAll (state v) changes false w.found) (sym one) (record { done = λ e. absurd (cc e); stop = λ _ c. record { made = 1; is_after = changed.done refl c } });
+    changes = subst (λ changes. ChangedAll (state v) changes false w.found) (sym one) (record { done = λ e. absurd (cc e); stop = λ _ c. whole-stop (state v) (change ∷ []) (w.found c) 1 (changed.done refl c) });
     becomes = λ e. absurd (cc e);
     sent = λ e. absurd (cc e);
     noted = λ e. absurd (cc e);
@@ -99,5 +103,5 @@ one_made x row t u v w before after k l change n one le called changed table mes
 }
 
 -- the fault that a call hands on
-pub handed_on : {A : Type 0} (r : Result A WorkerFault) (f : WorkerFault) → IsErr r × IsErrAnd r (λ e. e ≡ f) → r ≡ Err f
+pub handed_on : {A : Type 0} (r : Result A CallFault) (f : CallFault) → IsErr r × IsErrAnd r (λ e. e ≡ f) → r ≡ Err f
 handed_on r f h = let p = err_from_is_err_and r h.1 in p.1 ∙ ap (λ e. Err e) p.2

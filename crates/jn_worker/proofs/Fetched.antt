@@ -1,8 +1,6 @@
 -- An operation whose answer is a stored block.
-use Rattle.jn_worker.proofs.Common.{◌≡◌, ◌<◌, ◌+◌, ℕ, Bool, true, false, not, List, [], ◌∷◌, ◌++◌, length, take, Option, Some, None, Result, Ok, Err, if◌then◌else◌, refl, sym, ◌∙◌, ap, subst, arith, true≢false, ◌&&◌, is_some, IsErrAnd, err_from_is_err_and, take_at, Client, Tid, Tickets, WorkId, Answer, Did, Op, Create, Remove, CutBlocks, ReadOp, WriteOp, work_eq, Collected, Files, answer_to, change, Intention, list_change, length_with, block_of, answered, intention_for, Read, IntentionWrite, Active, ActiveWork, RowOutcome, WorkerTable, work_at, with_phase, after_grant, break_notes, Asked, op_row, conflict, locked, wants_of, with_units, units_for, is_fit, past_limit, first_of_two, refusal_of, list_with, counted, done, IsActive, rephased, is_in, StorageView, IsServing, state, Viewed, reads_stored, served, WorkerFault, Stops, Memory, WorkerView, Fits, is_active, is_active_phase, tallied, Takes, CountsBy, Settles, has_stopped, unseen, ReadSettles, OnlyReads, answer_now, asks_now, asks_in, asks_for, is_unknown, rephased-is, OperationNo}
+use Rattle.jn_worker.proofs.Common.{◌≡◌, ◌<◌, ◌+◌, ℕ, Bool, true, false, not, List, [], ◌∷◌, ◌++◌, length, take, Option, Some, None, Result, Ok, Err, if◌then◌else◌, refl, sym, ◌∙◌, ap, subst, arith, true≢false, ◌&&◌, is_some, IsErrAnd, err_from_is_err_and, take_at, Client, Tid, Tickets, WorkId, Answer, Did, Op, Create, Remove, CutBlocks, ReadOp, WriteOp, work_eq, Collected, Files, answer_to, change, Intention, list_change, length_with, block_of, answered, intention_for, Read, IntentionWrite, Active, ActiveWork, RowOutcome, WorkerTable, work_at, with_phase, after_grant, break_notes, Asked, op_row, conflict, locked, wants_of, with_units, units_for, is_fit, past_limit, first_of_two, refusal_of, list_with, counted, done, IsActive, rephased, is_in, StorageView, IsServing, state, Viewed, reads_stored, served, CallFault, Stops, Memory, WorkerView, Fits, is_active, is_active_phase, tallied, Takes, CountsBy, Settles, has_stopped, ReadSettles, OnlyReads, answer_now, asks_now, asks_in, asks_for, is_unknown, rephased-is, OperationNo}
 use Rattle.std.proofs.Math.Seq.{take-length}
-use Rattle.jn_storage.specs.declared.faults.ViewFault.{ViewFault}
-use Rattle.jn_storage.specs.declared.faults.ViewFault.TheVariants.{Stopped as NotSeen, Memory as NoBytes}
 use Rattle.jn_msgs.specs.declared.message.Message.TheVariants as messages
 use Rattle.jn_msgs.specs.declared.message.Note.{Note}
 use Rattle.jn_worker.proofs.Exits.{none-made, called-within}
@@ -72,12 +70,12 @@ granted_active t u T W a op o before after i none settles =
 -- ---- what was asked of the device
 
 -- the block of a granted read
-viewed-list : (t u : WorkerView) (v w : StorageView) (T : Tid) (W : WorkId) (a : ActiveWork) (op : Op) (r : Result Answer ViewFault) (before after : Collected) → IsActive t.table T W a → is_unknown a op v → Settles t T W a op Did None before u after
+viewed-list : (t u : WorkerView) (v w : StorageView) (T : Tid) (W : WorkId) (a : ActiveWork) (op : Op) (r : Result Answer CallFault) (before after : Collected) → IsActive t.table T W a → is_unknown a op v → Settles t T W a op Did None before u after
     → ((T : Tid) (a : ActiveWork) → IsActive u.table T W a → Viewed a.list v op r w) → Viewed a.list v op r w
 viewed-list t u v w T W a op r before after i unknown s viewed = subst (λ o. Viewed (list_with o op a.list) v op r w) (unknown-none a.list op (change (list_change a.list) (state v).files) (state v).files unknown)
     (viewed T (done a op Did (wants_of op true)) (still-active t u T W a op before after i s))
 
-pub granted_reads : (t u : WorkerView) (v w : StorageView) (T : Tid) (W : WorkId) (a : ActiveWork) (op : Op) (o : Option Answer) (r : Result Answer ViewFault) (before after : Collected) → IsActive t.table T W a → is_unknown a op v → o ≡ None → Settles t T W a op Did o before u after
+pub granted_reads : (t u : WorkerView) (v w : StorageView) (T : Tid) (W : WorkId) (a : ActiveWork) (op : Op) (o : Option Answer) (r : Result Answer CallFault) (before after : Collected) → IsActive t.table T W a → is_unknown a op v → o ≡ None → Settles t T W a op Did o before u after
     → ((T : Tid) (a : ActiveWork) → IsActive u.table T W a → Viewed a.list v op r w) → OnlyReads (asks_now t.table v W a op) v (served r) w
 granted_reads t u v w T W a op o r before after i unknown none settles viewed = record { called = h.called; unchanged = h.unchanged; same = h.same; quiet = λ e. (h.others (only (reads_stored a.list op (state v).files) e)).1 }
   where
@@ -94,13 +92,13 @@ granted_reads t u v w T W a op o r before after i unknown none settles viewed = 
     only false e = refl
     only true e = absurd (true≢false (ap (λ o. not (is_some o)) (s.refused ∙ refusal-same t u T W a op (answer_now a op v) before after fit) ∙ e))
 
--- a call that isn't done since a file isn't seen
-pub unseen-stops : (f : ViewFault) → served {A = Answer} (Err f) ≡ not (has_stopped {A = Answer} (Err (unseen f)))
-unseen-stops NotSeen = refl
-unseen-stops NoBytes = refl
+-- a call that fails was served unless the device stopped
+pub served-unless-stopped : (f : CallFault) → served {A = Answer} (Err f) ≡ not (has_stopped {A = Answer} (Err f))
+served-unless-stopped Stops = refl
+served-unless-stopped Memory = refl
 
 -- there is no memory for what was seen
-pub viewed_lost : (list : List Intention) (op : Op) (v w : StorageView) (answer : Answer) (r : Result Answer ViewFault) → Viewed list v op (Ok answer) w → IsErrAnd r (λ fault. fault ≡ NoBytes) → Viewed list v op r w
+pub viewed_lost : (list : List Intention) (op : Op) (v w : StorageView) (answer : Answer) (r : Result Answer CallFault) → Viewed list v op (Ok answer) w → IsErrAnd r (λ fault. fault ≡ Memory) → Viewed list v op r w
 viewed_lost list op v w answer r h err = let x = err_from_is_err_and r err in subst (λ r. Viewed list v op r w) (sym (x.1 ∙ ap (λ f. error f) x.2)) (record {
   answered = λ a e. absurd (cc e);
   called = h.called;
@@ -109,7 +107,7 @@ viewed_lost list op v w answer r h err = let x = err_from_is_err_and r err in su
   others = h.others;
 })
   where
-    error : ViewFault → Result Answer ViewFault
+    error : CallFault → Result Answer CallFault
     error f = Err f
 
 -- a read that is granted
@@ -138,7 +136,7 @@ refused_settles t u v T W a op o refusal before after unknown some s = record {
   answer = refl;
 }
 
--- what was told is taken back
+-- what was reported is taken back
 pub taken_back : (before mid after : Collected) (more : List Note) (m n : ℕ) → mid.messages ≡ before.messages → mid.notes ≡ before.notes ++ more → m ≡ length before.messages → n ≡ length before.notes → after ≡ record { messages = take m mid.messages; notes = take n mid.notes } → after ≡ before
 taken_back before mid after more m n sent noted is_m is_n is = is ∙ λ j. record { messages = messages j; notes = notes j }
   where
@@ -170,11 +168,11 @@ read_on x row t u v w before after k l asks serving h o = record {
   counts = λ e. subst (λ b. CountsBy (state v) row.changes v.accounts b) (sym (o.same refl)) (h.counts e);
 }
 
-pub read_failed : (A : Type 0) {B : Type 0} (answer : Result B WorkerFault) (f : WorkerFault) (row : RowOutcome WorkerTable) (t u : WorkerView) (v w : StorageView) (before after : Collected) (k l : Tickets) (asks : Bool) → answer ≡ Err f → OnlyReads asks v (not (has_stopped {A = A} (Err f))) w → (has_stopped {A = A} (Err f) ≡ true → after ≡ before)
+pub read_failed : (A : Type 0) {B : Type 0} (answer : Result B CallFault) (f : CallFault) (row : RowOutcome WorkerTable) (t u : WorkerView) (v w : StorageView) (before after : Collected) (k l : Tickets) (asks : Bool) → answer ≡ Err f → OnlyReads asks v (not (has_stopped {A = A} (Err f))) w → (has_stopped {A = A} (Err f) ≡ true → after ≡ before)
     → Takes 784 row t v before k answer u w after l
 read_failed A {B} answer f row t u v w before after k l asks is o silent = subst (λ r. Takes 784 row t v before k r u w after l) (sym is) (by f o silent)
   where
-    by : (f : WorkerFault) → OnlyReads asks v (not (has_stopped {A = A} (Err f))) w → (has_stopped {A = A} (Err f) ≡ true → after ≡ before) → Takes {A = B} 784 row t v before k (Err f) u w after l
+    by : (f : CallFault) → OnlyReads asks v (not (has_stopped {A = A} (Err f))) w → (has_stopped {A = A} (Err f) ≡ true → after ≡ before) → Takes {A = B} 784 row t v before k (Err f) u w after l
     by Stops o silent = record {
       performs = record { changes = none-made (state v) row.changes w.found o.unchanged; becomes = λ e. absurd (cc e); sent = λ e. absurd (cc e); noted = λ e. absurd (cc e); drawn = λ e. absurd (cc e) };
       called = called-within v w 24 false (omega arith) o.called;

@@ -1,5 +1,5 @@
 -- An operation is granted, or refused.
-use Rattle.jn_worker.proofs.Common.{◌≡◌, ◌+◌, ℕ, Bool, true, false, List, [], ◌∷◌, ◌++◌, Option, Some, None, if◌then◌else◌, refl, sym, ◌∙◌, ap, subst, Ok, Result, append-nil, Tid, WorkId, LockUnit, Answer, Locked, Op, work_eq, Collected, Broke, Intention, intention_for, list_after, BrokenAt, Read, IntentionWrite, Work, Phase, ActiveWork, Active, work_at, with_phase, after_grant, break_notes, conflict, locked, counted, done, wants_of, with_units, units_for, is_fit, list_with, IsActive, Becomes, Grants, IsRefused, note_if, notes_of, rephased, at-phase, in_phase, work_same, WorkerFault, WorkerView, relisted, tallied, Granted, locked_by, rephased-is, OperationNo}
+use Rattle.jn_worker.proofs.Common.{◌≡◌, ◌+◌, ℕ, Bool, true, false, List, [], ◌∷◌, ◌++◌, Option, Some, None, if◌then◌else◌, refl, sym, ◌∙◌, ap, subst, Ok, Result, append-nil, Tid, WorkId, LockUnit, Answer, Locked, Op, work_eq, Collected, Broke, Intention, intention_for, list_after, BrokenAt, Read, IntentionWrite, Work, Phase, ActiveWork, Active, work_at, with_phase, after_grant, break_notes, conflict, locked, counted, done, wants_of, with_units, units_for, is_fit, list_with, IsActive, Becomes, Grants, IsRefused, note_if, notes_of, rephased, at-phase, in_phase, work_same, CallFault, WorkerView, relisted, tallied, Granted, locked_by, rephased-is, OperationNo}
 use Rattle.jn_lock_rows.specs.declared.grants.Refused.{Refused}
 use Rattle.jn_lock_rows.specs.declared.grants.Refused.TheVariants.{Held as HeldBy, Memory as NotGranted}
 use Rattle.jn_works.specs.Changing.{list_of}
@@ -39,7 +39,7 @@ is_work x y e = cc e
 is_phase : (x y : ActiveWork) → Active x ≡ Active y → x ≡ y
 is_phase x y e = cc e
 
-abbrev told_ok : Answer → Result Answer WorkerFault
+abbrev told_ok : Answer → Result Answer CallFault
 told_ok answer = Ok answer
 
 -- another work stands in the way

@@ -1,5 +1,5 @@
 -- A step without a message.
-use Rattle.jn_worker.proofs.Common.{◌≡◌, ℕ, Bool, true, false, List, [], ◌∷◌, Option, Some, None, refl, sym, ◌∙◌, ap, subst, arith, true≢false, Result, Ok, Err, is_ok, is_some, not, ◌||◌, slice_get, if◌then◌else◌, append-nil, Stopped, Tickets, WorkId, work_eq, Intention, Collected, Work, RowOutcome, quiet, StableState, Prepared, is_going, WorkerTable, work_at, new_work, carried_row, going_work, going_row, worker_step, intentions_of, are_rising, is_in, StorageView, intentions, state, next_of, Called, RecordErased, CountsErased, IsGoing, WorkerFault, Stops, Memory, WorkerView, Fits, TicketsFit, WorkFits, WorkListFits, seen, is_none, going_in, Takes, Steps, has_stopped}
+use Rattle.jn_worker.proofs.Common.{◌≡◌, ℕ, Bool, true, false, List, [], ◌∷◌, Option, Some, None, refl, sym, ◌∙◌, ap, subst, arith, true≢false, Result, Ok, Err, is_ok, is_some, not, ◌||◌, slice_get, if◌then◌else◌, append-nil, Stopped, Tickets, WorkId, work_eq, Intention, Collected, Work, RowOutcome, quiet, StableState, Prepared, is_going, WorkerTable, work_at, new_work, carried_row, going_work, going_row, worker_step, intentions_of, are_rising, is_in, StorageView, intentions, state, next_of, Called, RecordErased, CountsErased, IsGoing, CallFault, Stops, Memory, WorkerView, Fits, TicketsFit, WorkFits, WorkListFits, seen, is_none, going_in, Takes, Steps, has_stopped, whole-stop}
 use Rattle.jn_rows.specs.Performing.{Performs}
 use Rattle.jn_records.specs.Reading.{Gives}
 use Rattle.jn_worker.proofs.Edits.{going_by_name}
@@ -18,7 +18,7 @@ none-going : (t : WorkerView) (v : StorageView) (k : Tickets) → Fits t v → g
 none-going t v k h none = ap (λ o. going_row t.table (seen v) k o) (sym (going-same t.going (state v) t.table h.going) ∙ none)
 
 -- stopped while a rubbish record is erased
-pub erase_stopped : (t : WorkerView) (v w : StorageView) (before : Collected) (k : Tickets) (answer : Result Bool WorkerFault) (e : Stopped) → answer ≡ Err Stops → Fits t v → going_in t.going t.table ≡ None → RecordErased v (Err e) w
+pub erase_stopped : (t : WorkerView) (v w : StorageView) (before : Collected) (k : Tickets) (answer : Result Bool CallFault) (e : Stopped) → answer ≡ Err Stops → Fits t v → going_in t.going t.table ≡ None → RecordErased v (Err e) w
     → Steps (worker_step t.table (seen v) k) t v before k answer t w before k
 erase_stopped t v w before k answer e is h none r = subst (λ row. Steps row t v before k answer t w before k) (sym (none-going t v k h none)) (subst (λ answer. Steps (erase_row v.accounts.rubbish t.table k) t v before k answer t w before k) (sym is) (by v.accounts.rubbish refl))
   where
@@ -29,7 +29,7 @@ erase_stopped t v w before k answer e is h none r = subst (λ row. Steps row t v
     by [] m = absurd (not_ok (Err e) refl (r.none m).0)
     by (x ∷ xs) m = (
       record {
-        performs = record { changes = record { done = λ e. absurd (cc e); stop = λ _ c. record { made = 0; is_after = r.unchanged c } }; becomes = λ e. absurd (cc e); sent = λ e. absurd (cc e); noted = λ e. absurd (cc e); drawn = λ e. absurd (cc e) };
+        performs = record { changes = record { done = λ e. absurd (cc e); stop = λ _ c. whole-stop (state v) [] (w.found c) 0 (r.unchanged c) }; becomes = λ e. absurd (cc e); sent = λ e. absurd (cc e); noted = λ e. absurd (cc e); drawn = λ e. absurd (cc e) };
         called = called-within v w 16 false (omega arith) r.called;
         silent = λ _. refl;
         fits = λ e. absurd (cc e);
@@ -65,7 +65,7 @@ told (Err e) = false
 abbrev old_answer : Bool → Result Bool Stopped
 old_answer b = Ok b
 
-abbrev new_answer : Bool → Result Bool WorkerFault
+abbrev new_answer : Bool → Result Bool CallFault
 new_answer b = Ok b
 
 -- a rubbish record is erased, if there is one
@@ -129,7 +129,7 @@ step_left t v k h = by (going_in t.going t.table) refl
     by None e = ap is_some (none-going t v k h e) ∙ left v.accounts.rubbish
     by (Some w) e = ap is_some (one-going t v k w h e)
 
-retold : {A B : Type 0} (row : RowOutcome WorkerTable) (t u : WorkerView) (v w : StorageView) (before after : Collected) (k l : Tickets) (a : Result A WorkerFault) (b : Result B WorkerFault) → is_ok a ≡ is_ok b → has_stopped a ≡ has_stopped b
+retold : {A B : Type 0} (row : RowOutcome WorkerTable) (t u : WorkerView) (v w : StorageView) (before after : Collected) (k l : Tickets) (a : Result A CallFault) (b : Result B CallFault) → is_ok a ≡ is_ok b → has_stopped a ≡ has_stopped b
     → Takes 40 row t v before k a u w after l → Takes 40 row t v before k b u w after l
 retold row t u v w before after k l a b ok stopped h = record {
   performs = subst (λ ok. Performs row (state v) before ok u.table w.found after l) ok h.performs;
@@ -148,11 +148,11 @@ pub going_made : (t u : WorkerView) (v w : StorageView) (before after : Collecte
     → Steps (worker_step t.table (seen v) k) t v before k (Ok true) u w after k
 going_made t u v w before after k g h found takes = subst (λ row. Steps row t v before k (Ok true) u w after k) (sym (one-going t v k g h found)) (retold _ t u v w before after k k _ _ refl refl takes, λ _. refl, λ e _. absurd (some-change t.table k (new_work g.name g.tid) (next_of v g.name) e))
 
-pub going_failed : (t u : WorkerView) (v w : StorageView) (before after : Collected) (k : Tickets) (g : Work) (answer : Result Bool WorkerFault) (f : WorkerFault) → answer ≡ Err f → Fits t v → going_in t.going t.table ≡ Some g
+pub going_failed : (t u : WorkerView) (v w : StorageView) (before after : Collected) (k : Tickets) (g : Work) (answer : Result Bool CallFault) (f : CallFault) → answer ≡ Err f → Fits t v → going_in t.going t.table ≡ Some g
     → Takes {A = Unit {0}} 40 (carried_row t.table k (new_work g.name g.tid) (next_of v g.name)) t v before k (Err f) u w after k → Steps (worker_step t.table (seen v) k) t v before k answer u w after k
 going_failed t u v w before after k g answer f is h found takes = subst (λ row. Steps row t v before k answer u w after k) (sym (one-going t v k g h found)) (subst (λ answer. Steps (Some (carried_row t.table k (new_work g.name g.tid) (next_of v g.name))) t v before k answer u w after k) (sym is)
     (retold _ t u v w before after k k _ (Err f) refl (same f) takes, λ e. absurd (cc e), λ _ e. absurd (cc e)))
   where
-    same : (f : WorkerFault) → has_stopped {A = Unit {0}} (Err f) ≡ has_stopped {A = Bool} (Err f)
+    same : (f : CallFault) → has_stopped {A = Unit {0}} (Err f) ≡ has_stopped {A = Bool} (Err f)
     same Stops = refl
     same Memory = refl

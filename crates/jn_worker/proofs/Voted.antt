@@ -1,11 +1,11 @@
 -- The exits of a call that prepares an active work.
-use Rattle.jn_worker.proofs.Common.{◌≡◌, ℕ, Bool, true, false, List, [], ◌∷◌, ◌++◌, Option, Some, None, refl, sym, ◌∙◌, ap, subst, arith, Result, Ok, Err, nat_lt, if◌then◌else◌, append-nil, ClientNo, Server, Tid, Tickets, WorkId, Need, BrokenAt, Collected, Vote, Work, Phase, ActiveWork, Active, Broken, Stored, RowOutcome, AddReady, WorkerTable, Held, work_at, with_phase, after_grant, break_notes, commit_wants, conflict, prepare_row, prepare_phase, prepared_row, voted, vote_of, need_in, shortage, IsActive, Grants, notes_of, stored, found-name, StorageView, needed, state, WorkPrepared, reached, first_short, storage_shortage, WorkerFault, Memory, WorkerView, Fits, seen, is_active, Takes, Stores, head_of}
+use Rattle.jn_worker.proofs.Common.{◌≡◌, ℕ, Bool, true, false, List, [], ◌∷◌, ◌++◌, Option, Some, None, refl, sym, ◌∙◌, ap, subst, arith, Result, Ok, Err, nat_lt, if◌then◌else◌, append-nil, ClientNo, Server, Tid, Tickets, WorkId, Need, BrokenAt, Collected, Vote, Work, Phase, ActiveWork, Active, Broken, Stored, RowOutcome, AddReady, WorkerTable, Held, work_at, with_phase, after_grant, break_notes, commit_wants, conflict, prepare_row, prepare_phase, prepared_row, voted, vote_of, need_in, shortage, IsActive, Grants, notes_of, stored, found-name, StorageView, needed, state, WorkPrepared, reached, first_short, storage_shortage, CallFault, Memory, WorkerView, Fits, seen, is_active, Takes, Stores, head_of}
 use Rattle.jn_base.specs.declared.names.Resource.TheVariants as resources
 use Rattle.jn_msgs.specs.declared.message.Message.TheVariants as messages
 use Rattle.jn_msgs.specs.declared.message.Vote.TheVariants as votes
 use Rattle.jn_storage.specs.declared.faults.PrepareFault.{PrepareFault}
 use Rattle.jn_storage.specs.declared.faults.PrepareFault.TheVariants.{Records, Pages, Heads, Stopped as NotServed, Memory as NoMemory}
-use Rattle.jn_worker.specs.declared.words.WorkerFault.TheVariants.{Stopped}
+use Rattle.jn_base.specs.declared.fault.CallFault.TheVariants.{Stopped}
 use Rattle.jn_worker.specs.Calls.{refusal_of}
 use Rattle.jn_worker.proofs.Counts.{counts_ready, none_carried, filled}
 use Rattle.jn_worker.proofs.Exits.{without_memory, without_change, one_stopped, one_untold, one_made}
@@ -98,10 +98,10 @@ short-same r p h need = by (nat_lt r need.records) (nat_lt p need.pages) (nat_lt
 short-here : (v : StorageView) (a : ActiveWork) (o : Option PrepareFault) → storage_shortage v.accounts (needed (state v) a.list) ≡ o → shortage (seen v).free (need_in (state v).files a.list) ≡ short_vote o
 short-here v a o e = short-same _ _ _ (needed (state v) a.list) ∙ ap short_vote e
 
-abbrev refusal_ok : Vote → Result Vote WorkerFault
+abbrev refusal_ok : Vote → Result Vote CallFault
 refusal_ok vote = Ok vote
 
-abbrev refusal_err : WorkerFault → Result Vote WorkerFault
+abbrev refusal_err : CallFault → Result Vote CallFault
 refusal_err fault = Err fault
 
 -- where nothing changes, the storage was left alone
@@ -176,7 +176,7 @@ full_sent t v w before after k T c W fault vote h active free prepared told sent
     by NoMemory p e = absurd (cc e)
 
 -- without memory for the vote
-pub full_untold : (t u : WorkerView) (row : RowOutcome WorkerTable) (v w : StorageView) (before after : Collected) (k : Tickets) (c : ClientNo) (W : WorkId) (fault : PrepareFault) (vote : Vote) (answer : Result (Unit {0}) WorkerFault) → Fits t v → is_active (work_at W t.table) ≡ true
+pub full_untold : (t u : WorkerView) (row : RowOutcome WorkerTable) (v w : StorageView) (before after : Collected) (k : Tickets) (c : ClientNo) (W : WorkId) (fault : PrepareFault) (vote : Vote) (answer : Result (Unit {0}) CallFault) → Fits t v → is_active (work_at W t.table) ≡ true
     → ((S : Tid) (a : ActiveWork) → IsActive t.table S W a → WorkPrepared {A = Unit {0}} v (head_of W S c) a.list a.reads (Err fault) w) → refusal_of fault ≡ Ok vote → answer ≡ Err Memory → Takes 784 row t v before k answer u w after k
 full_untold t u row v w before after k c W fault vote answer h active prepared told same = subst (λ answer. Takes 784 row t v before k answer u w after k) (sym same)
     (subst (λ w. Takes {A = Unit {0}} 784 row t v before k (Err Memory) u w after k) (sym (by fault (prepared f.0 f.1 f.2) told)) (without_memory row t u v before after k k h.serving))
@@ -192,7 +192,7 @@ full_untold t u row v w before after k c W fault vote answer h active prepared t
     by NoMemory p e = absurd (cc e)
 
 -- stopped, or without memory, before anything else happens
-pub not_stored : (t : WorkerView) (v w : StorageView) (before : Collected) (k : Tickets) (T : Tid) (c : ClientNo) (W : WorkId) (fault : PrepareFault) (told : WorkerFault) (answer : Result (Unit {0}) WorkerFault) → Fits t v → is_active (work_at W t.table) ≡ true → ((S : Tid) (a : ActiveWork) → IsActive t.table S W a → conflict W (commit_wants a.writes) t.table ≡ None)
+pub not_stored : (t : WorkerView) (v w : StorageView) (before : Collected) (k : Tickets) (T : Tid) (c : ClientNo) (W : WorkId) (fault : PrepareFault) (told : CallFault) (answer : Result (Unit {0}) CallFault) → Fits t v → is_active (work_at W t.table) ≡ true → ((S : Tid) (a : ActiveWork) → IsActive t.table S W a → conflict W (commit_wants a.writes) t.table ≡ None)
     → ((S : Tid) (a : ActiveWork) → IsActive t.table S W a → WorkPrepared {A = Unit {0}} v (head_of W S c) a.list a.reads (Err fault) w) → refusal_of fault ≡ Err told → answer ≡ Err told
     → Takes 784 (prepare_row t.table (seen v) k T c W (work_at W t.table)) t v before k answer t w before k
 not_stored t v w before k T c W fault told answer h active free prepared is same = subst (λ answer. Takes 784 (prepare_row t.table (seen v) k T c W (work_at W t.table)) t v before k answer t w before k) (sym same) (by fault (prepared f.0 f.1 i) is)
@@ -203,7 +203,7 @@ not_stored t v w before k T c W fault told answer h active free prepared is same
     i : IsActive t.table f.0 W f.1
     i = f.2
 
-    is_fault : (x y : WorkerFault) → refusal_err x ≡ refusal_err y → x ≡ y
+    is_fault : (x y : CallFault) → refusal_err x ≡ refusal_err y → x ≡ y
     is_fault x y e = cc e
 
     by : (fault : PrepareFault) → WorkPrepared {A = Unit {0}} v (head_of W f.0 c) f.1.list f.1.reads (Err fault) w → refusal_of fault ≡ Err told → Takes {A = Unit {0}} 784 (prepare_row t.table (seen v) k T c W (work_at W t.table)) t v before k (Err told) t w before k
@@ -217,7 +217,7 @@ not_stored t v w before k T c W fault told answer h active free prepared is same
         (subst (λ w. Takes {A = Unit {0}} 784 (prepare_row t.table (seen v) k T c W (work_at W t.table)) t v before k (Err Memory) t w before k) (sym (p.kept refl)) (without_memory _ t t v before before k k h.serving))
 
 -- stored, but without memory for the rest
-pub ready_untold : (t u : WorkerView) (v w : StorageView) (before after : Collected) (k : Tickets) (T : Tid) (c : ClientNo) (W : WorkId) (answer : Result (Unit {0}) WorkerFault) → is_active (work_at W t.table) ≡ true → ((S : Tid) (a : ActiveWork) → IsActive t.table S W a → conflict W (commit_wants a.writes) t.table ≡ None)
+pub ready_untold : (t u : WorkerView) (v w : StorageView) (before after : Collected) (k : Tickets) (T : Tid) (c : ClientNo) (W : WorkId) (answer : Result (Unit {0}) CallFault) → is_active (work_at W t.table) ≡ true → ((S : Tid) (a : ActiveWork) → IsActive t.table S W a → conflict W (commit_wants a.writes) t.table ≡ None)
     → ((S : Tid) (a : ActiveWork) → IsActive t.table S W a → WorkPrepared {A = Unit {0}} v (head_of W S c) a.list a.reads (Ok (tt {0})) w) → answer ≡ Err Memory → Takes 784 (prepare_row t.table (seen v) k T c W (work_at W t.table)) t v before k answer u w after k
 ready_untold t u v w before after k T c W answer active free prepared same = let f = found_active t.table W active in let i = f.2 in let p = prepared f.0 f.1 i in
     subst (λ answer. Takes 784 (prepare_row t.table (seen v) k T c W (work_at W t.table)) t v before k answer u w after k) (sym same)

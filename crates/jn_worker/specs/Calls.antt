@@ -24,8 +24,8 @@ use Rattle.jn_lock_rows.specs.Calls.{stored}
 use Rattle.jn_records.specs.declared.work.WorkHead.{WorkHead}
 use Rattle.jn_storage.specs.declared.faults.PrepareFault.{PrepareFault}
 use Rattle.jn_storage.specs.declared.faults.PrepareFault.TheVariants.{Records, Pages, Heads, Stopped as NotServed, Memory as NoMemory}
-use Rattle.jn_storage.specs.declared.faults.ViewFault.{ViewFault}
-use Rattle.jn_storage.specs.declared.faults.ViewFault.TheVariants.{Stopped as NotSeen, Memory as NoBytes}
+use Rattle.jn_base.specs.declared.fault.CallFault.{CallFault}
+use Rattle.jn_base.specs.declared.fault.CallFault.TheVariants.{Stopped, Memory}
 use Rattle.jn_rows.specs.Outcomes.{RowOutcome, Sent}
 use Rattle.jn_rows.specs.Performing.{Performs}
 use Rattle.jn_rows.specs.Stable.{Change, RemoveWork, StableState, next_after}
@@ -34,19 +34,12 @@ use Rattle.jn_storage.specs.Listing.{is_in}
 use Rattle.jn_storage.specs.Storage.{Accounts, StorageView}
 use Rattle.jn_storage.specs.Calls.{state, Called, CountsErased}
 use Rattle.jn_storage.specs.DeviceCalls.{step_calls}
-use Rattle.jn_worker.specs.declared.words.WorkerFault.{WorkerFault}
-use Rattle.jn_worker.specs.declared.words.WorkerFault.TheVariants.{Stopped, Memory}
 use Rattle.jn_worker.specs.Leaving.{left_by}
 use Rattle.jn_worker.specs.Fitting.{WorkerView, Fits, TicketsFit}
 
-abbrev pub has_stopped : {A : Type 0} → Result A WorkerFault → Bool
+abbrev pub has_stopped : {A : Type 0} → Result A CallFault → Bool
 has_stopped (Err Stopped) = true
 has_stopped _ = false
-
--- why an operation isn't answered whose file isn't seen
-abbrev pub unseen : ViewFault → WorkerFault
-unseen NotSeen = Stopped
-unseen NoBytes = Memory
 
 -- whether one of the changes removes this work
 abbrev pub is_removed : WorkId → List Change → Bool
@@ -64,9 +57,9 @@ pub record CountsBy (x : StableState) (changes : List Change) (a b : Accounts) :
   pub rubbish_more : (c : Change) → changes ≡ c ∷ [] → length b.rubbish ≡ length a.rubbish + left_by x c
 
 -- A call whose row this is, with so many device calls at most. One that is stopped adds nothing to what its step sends
--- and tells; one that has no memory has made some of the row's changes, from the first one on. While no call was stopped
+-- and reports; one that has no memory has made some of the row's changes, from the first one on. While no call was stopped
 -- or without memory, worker and storage fit, and so do the tickets, and the accounts have counted the row's changes.
-pub record Takes {A : Type 0} (most : ℕ) (row : RowOutcome WorkerTable) (t : WorkerView) (v : StorageView) (before : Collected) (k : Tickets) (answer : Result A WorkerFault) (u : WorkerView) (w : StorageView) (after : Collected) (l : Tickets) : Type 0 where
+pub record Takes {A : Type 0} (most : ℕ) (row : RowOutcome WorkerTable) (t : WorkerView) (v : StorageView) (before : Collected) (k : Tickets) (answer : Result A CallFault) (u : WorkerView) (w : StorageView) (after : Collected) (l : Tickets) : Type 0 where
   pub performs : Performs row (state v) before (is_ok answer) u.table w.found after l
   pub called : Called v most (not (has_stopped answer)) w
   pub silent : has_stopped answer ≡ true → after ≡ before
@@ -87,7 +80,7 @@ pub record AsksAgain (t : WorkerView) (before : Collected) (ok : Bool) (after : 
 
 -- A step whose row this is: it is answered true, and false where there is none and nothing is done. A row without
 -- changes is the erasing of one rubbish record.
-abbrev pub Steps : Option (RowOutcome WorkerTable) → WorkerView → StorageView → Collected → Tickets → Result Bool WorkerFault → WorkerView → StorageView → Collected → Tickets → Type 0
+abbrev pub Steps : Option (RowOutcome WorkerTable) → WorkerView → StorageView → Collected → Tickets → Result Bool CallFault → WorkerView → StorageView → Collected → Tickets → Type 0
 Steps None t v before k answer u w after l = (answer ≡ Ok false) × (u ≡ t) × (w ≡ v) × (after ≡ before)
 Steps (Some row) t v before k answer u w after l = Takes step_calls row t v before k answer u w after l × (is_ok answer ≡ true → answer ≡ Ok true) × (row.changes ≡ [] → is_ok answer ≡ true → CountsErased v.accounts w.accounts)
 
@@ -112,7 +105,7 @@ abbrev pub head_of : WorkId → Tid → ClientNo → WorkHead
 head_of W T c = record { work = W; tid = T; client = c }
 
 -- the vote where something is short
-abbrev pub refusal_of : PrepareFault → Result Vote WorkerFault
+abbrev pub refusal_of : PrepareFault → Result Vote CallFault
 refusal_of (Records short) = Ok (votes.Full resources.Records short.free short.need)
 refusal_of (Pages short) = Ok (votes.Full resources.Pages short.free short.need)
 refusal_of (Heads short) = Ok (votes.Full resources.Heads short.free short.need)
@@ -126,7 +119,7 @@ pub record Stores (t : WorkerView) (T : Tid) (W : WorkId) (a : ActiveWork) (S : 
   pub noted : after.notes ≡ before.notes ++ break_notes T W (commit_wants a.writes) t.table
 
 -- what an operation is answered whose wants aren't granted
-abbrev pub locked_by : Refused → Result Answer WorkerFault
+abbrev pub locked_by : Refused → Result Answer CallFault
 locked_by (Held u T) = Ok (Locked u T)
 locked_by NotGranted = Err Memory
 

@@ -1,19 +1,13 @@
 -- What a worker does with a message.
-use Rattle.std.specs.Prelude.{Bool, false, not, ⊤}
+use Rattle.std.specs.Prelude.{Bool, false, not}
 use Rattle.jn_base.specs.declared.names.Tickets.{Tickets}
 use Rattle.jn_msgs.specs.declared.message.Message.{Message}
 use Rattle.jn_msgs.specs.declared.message.Message.TheVariants.{Op, Prepare, Commit, Drop}
 use Rattle.jn_rows.specs.Outcomes.{RowOutcome}
 use Rattle.jn_rows.specs.Worker.{WorkerTable, work_at, prepare_row, commit_row, drop_row}
 use Rattle.jn_storage.specs.Storage.{StorageView}
-use Rattle.jn_storage.specs.Viewing.{BlockInRange}
 use Rattle.jn_worker.specs.Fitting.{is_none, seen}
 use Rattle.jn_worker.specs.Reading.{asks_for}
-
--- an operation's block is one of the 120
-abbrev pub InRange : Message → Type 0
-InRange (Op c request W number op) = BlockInRange op
-InRange m = ⊤
 
 -- whether a row changes what is stable
 abbrev pub has_changes : RowOutcome WorkerTable → Bool

@@ -3,7 +3,8 @@ ghost use Rattle.std.specs.Prelude.{◌≡◌, ◌+◌, ◌<◌, ◌^◌, true, 
 ghost use Rattle.jn_storage.specs.DeviceCalls.{prepare_calls};
 ghost use Rattle.jn_rows.specs.Worker as rows;
 ghost use Rattle.jn_worker.specs.Calls.{Takes};
-ghost use Rattle.jn_worker.specs.Handling.{InRange, asks_device};
+ghost use Rattle.jn_worker.specs.Handling.{asks_device};
+ghost use Rattle.jn_msgs.specs.Ranges.{CanBeTaken};
 ghost use Rattle.jn_worker.specs.Fitting.{Fits, TicketsFit, seen};
 
 use crate::words::WorkerFault;
@@ -26,7 +27,7 @@ impl Worker {
         requires fits { Fits self.old (W.view store.old) }
         requires tickets { TicketsFit self.old.table (W.view store.old) tickets.old }
         requires next { tickets.old.next + 1 < 2 ^ 32 }
-        requires range { InRange message.now }
+        requires taken { CanBeTaken message.now }
         ensures takes { Takes prepare_calls (rows.worker_row self.old.table (seen (W.view store.old)) tickets.old message.now) self.old (W.view store.old) out.old tickets.old result self.new (W.view store.new) out.new tickets.new }
         ensures asks { asks_device self.old.table (W.view store.old) tickets.old message.now ≡ false → W.view store.new ≡ W.view store.old }
         ensures same { (rows.worker_row self.old.table (seen (W.view store.old)) tickets.old message.now).changes ≡ [] → is_ok result ≡ true → (W.view store.new).accounts ≡ (W.view store.old).accounts }

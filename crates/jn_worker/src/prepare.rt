@@ -8,7 +8,7 @@ ghost use Rattle.jn_lock_rows.specs.Calls.{IsActive};
 ghost use Rattle.jn_storage.specs.Calls.{WorkPrepared};
 ghost use Rattle.jn_storage.specs.DeviceCalls.{prepare_calls};
 ghost use Rattle.jn_worker.specs.Calls.{Takes, Stores, head_of, refusal_of};
-ghost use Rattle.jn_worker.specs.declared.words.WorkerFault.TheVariants.{Memory};
+ghost use Rattle.jn_base.specs.declared.fault.CallFault.TheVariants.{Memory};
 ghost use Rattle.jn_worker.specs.Fitting.{Fits, seen, is_active};
 
 use crate::words::WorkerFault;

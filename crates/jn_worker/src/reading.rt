@@ -10,7 +10,8 @@ ghost use Rattle.jn_rows.specs.Worker as rows;
 ghost use Rattle.jn_lock_rows.specs.Calls.{IsActive, rephased};
 ghost use Rattle.jn_storage.specs.Calls.{state};
 ghost use Rattle.jn_storage.specs.Storage.{IsServing};
-ghost use Rattle.jn_storage.specs.Viewing.{BlockInRange, Viewed};
+ghost use Rattle.jn_storage.specs.Viewing.{Viewed};
+ghost use Rattle.jn_base.specs.Ops.{BlockInRange};
 ghost use Rattle.jn_storage.specs.DeviceCalls.{prepare_calls};
 ghost use Rattle.jn_worker.specs.Calls.{Takes, has_stopped};
 ghost use Rattle.jn_works.specs.Changing.{tallied};
@@ -23,7 +24,7 @@ use jn_base::{Answer, ClientNo, FileNo, Op, OperationNo, Party, RequestNo, Ticke
 use jn_lock_rows::work_at;
 use jn_msgs::{Message, Out};
 use jn_rows::Phase;
-use jn_storage::{StoredFiles, ViewFault, WorkStore, view};
+use jn_storage::{StoredFiles, WorkStore, view};
 use jn_works::tally;
 use std::alloc::AllocError;
 
@@ -79,7 +80,7 @@ impl Worker {
         name: WorkId,
         number: OperationNo,
         op: &Op,
-    ) -> Result<Answer, ViewFault>
+    ) -> Result<Answer, WorkerFault>
         requires serving { IsServing (W.view store.old) }
         requires range { BlockInRange op.now }
         requires active { is_active (rows.work_at name self.old.table) ≡ true }
@@ -125,7 +126,7 @@ impl Worker {
             Ok(answer) => Ok(answer),
             Err(fault) => {
                 out.truncate(messages, notes);
-                Err(WorkerFault::from(fault))
+                Err(fault)
             }
         }
     }

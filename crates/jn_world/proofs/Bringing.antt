@@ -6,9 +6,9 @@ use Rattle.jn_report.specs.declared.line.Text.TheVariants as says
 use Rattle.jn_schedule.specs.declared.Event.TheVariants as events
 use Rattle.jn_server.specs.Reading.{AreCountsOfPages}
 use Rattle.jn_storage.specs.Storage.{IsCounted}
-use Rattle.jn_stands.proofs.Restarts.{restarted-step, came-up-step}
-use Rattle.jn_stands.specs.Naming.{with_name, names_told}
-use Rattle.jn_stands.specs.Restarting.{texts_restarted, ComesTo}
+use Rattle.jn_world_refines.proofs.Restarts.{restarted-step, came-up-step}
+use Rattle.jn_world_refines.specs.Naming.{with_name, names_told}
+use Rattle.jn_world_refines.specs.Restarting.{texts_restarted, ComesTo}
 use Rattle.jn_world.proofs.Turns.{next-first}
 
 -- ---- names

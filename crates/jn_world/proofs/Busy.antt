@@ -1,24 +1,24 @@
 -- A server that is up takes a message, or makes a step where it has something to do, and which one is first.
-use Rattle.jn_world.proofs.Common.{inl, inr, append-nil, ◌≡◌, ◌≤◌, ◌<◌, ℕ, zero, suc, ◌+◌, Bool, true, false, List, [], ◌∷◌, ◌++◌, length, Option, Some, None, Result, Ok, Err, true≢false, refl, sym, ◌∙◌, ap, subst, arith, set, nat_tests, length-set, slice_get_within, ◌⊎◌, nat_lt, slice_get, IsErr, IsErrAnd, IfErr, OnOk, drop, is_some, Server, ServerNo, Tid, DeviceState, Collected, Carried, with_delivered, waiting, Posted, Left, Place, Slot, Up, Down, Gone, Took, WorkedBy, AsksAgain, TimedOut, IsTimedOut, has_work_at, PlaceReads, WhereUp, TakeLeaves, WorkLeaves, StandsThere, IsPlace, is_up, server_timeout, of_timeout, ServerMemory, Counts, counts_by, NoSuchWork, Line, When, StableState, Pick, IsUp, Parts, view_with, memory_of, pool_on, standing_pages, rubbish_count, next-works, next-none, refused-step, WentOn, HasCounts, ReadsPages, IsIdleAt, Standing, Stands, StandsAt, PlaceStands, with_answer, texts_sent, state, pairs_view, StoreView, Ended, Messages, Epoch, Memory, AreIdleBelow, IsFirstBusy, ReadsAt, TellsBusy, is_up_at, is_up_in, works_at, works_in, DoesEvent, DoesTasks, EndsStep, GoesTo, TakesTurn, Setup, rubbish_on, next_in, has_work, refusal_of, unless, Moment, lines_at, Task, Meets, when_of, IsRecoverable}
+use Rattle.jn_world.proofs.Common.{inl, inr, append-nil, ◌≡◌, ◌≤◌, ◌<◌, ℕ, zero, suc, ◌+◌, Bool, true, false, List, [], ◌∷◌, ◌++◌, length, Option, Some, None, Result, Ok, Err, true≢false, refl, sym, ◌∙◌, ap, subst, arith, set, nat_tests, length-set, slice_get_within, ◌⊎◌, nat_lt, slice_get, IsErr, IsErrAnd, IfErr, OnOk, drop, is_some, Server, ServerNo, Tid, DeviceState, Collected, Carried, with_delivered, waiting, Posted, LeavesPlace, Place, Slot, Up, Down, Gone, Took, WorkedBy, AsksAgain, TimedOut, IsTimedOut, has_work_at, PlaceReads, WhereUp, TakeLeaves, WorkLeaves, StandsThere, IsPlace, is_up, server_timeout, of_timeout, ServerMemory, Counts, counts_by, NoSuchWork, Line, When, StableState, Pick, IsUp, Parts, view_with, memory_of, pool_on, standing_pages, rubbish_count, next-works, next-none, refused-step, WentOn, HasCounts, ReadsPages, IsIdleAt, Standing, Stands, StandsAt, PlaceStands, with_answer, texts_sent, state, pairs_view, StoreView, Ended, Messages, Epoch, Memory, AreIdleBelow, IsFirstBusy, ReadsAt, TellsBusy, is_up_at, is_up_in, works_at, works_in, DoesEvent, DoesTasks, EndsStep, GoesTo, TakesTurn, Setup, rubbish_on, next_in, has_work, refusal_of, unless, Moment, lines_at, Task, Meets, when_of, IsRecoverable}
 use Rattle.jn_recovery.specs.Memory.{Memory as Kept, view_of}
 use Rattle.jn_report.specs.declared.line.Text.TheVariants as says
 use Rattle.jn_rows.specs.Worker.{WorkerTable, timeout_row}
 use Rattle.jn_schedule.specs.declared.Event.TheVariants as events
-use Rattle.jn_stands.proofs.Held.{reads-pages}
-use Rattle.jn_stands.proofs.Placed.{each-set}
+use Rattle.jn_world_refines.proofs.Held.{reads-pages}
+use Rattle.jn_world_refines.proofs.Placed.{each-set}
 use Rattle.jn_world.proofs.Bringing.{has-counts}
 use Rattle.jn_world.proofs.LostCalls.{as-many}
 use Rattle.jn_world.proofs.Places.{up-within}
 use Rattle.jn_world.proofs.Refusing.{place-there, refused-up, meets-done}
 use Rattle.jn_world.proofs.ServerCalls.{took-does, worked-does, nudged-does, timed-out-does}
 use Rattle.jn_world.proofs.Turns.{next-first}
-use Rattle.jn_written.specs.Rubbish.{CountsAll}
+use Rattle.jn_machine.specs.Rubbish.{CountsAll}
 
 some-of : {X : Type 0} (a b : X) → Some a ≡ Some b → a ≡ b
 some-of a b e = cc
 
 -- a step leaves a place with as many pages
-pub left-counts : {S : Type 0} (look : S → StoreView) (q : ServerNo) (most : ℕ) (p p' : Place S) (answer : Option Collected) → p'.counts ≡ p.counts → Left look q most p' answer → HasCounts look q (counts_by p.counts) p'.slot
+pub left-counts : {S : Type 0} (look : S → StoreView) (q : ServerNo) (most : ℕ) (p p' : Place S) (answer : Option Collected) → p'.counts ≡ p.counts → LeavesPlace look q most p' answer → HasCounts look q (counts_by p.counts) p'.slot
 left-counts look q most p p' None e h = has-counts look q most p p' e h
 left-counts look q most p p' (Some out) e h = has-counts look q (most + length out.messages) p p' e h.0
 

@@ -1,6 +1,6 @@
 -- Calls one after another, each from where the machine stands.
 use Rattle.jn_world.proofs.Common.{◌≡◌, ◌≤◌, ℕ, zero, suc, ◌+◌, ◌-◌, true, List, [], ◌∷◌, ◌++◌, map, length, append-nil, append_assoc, Result, Ok, Err, refl, sym, ◌∙◌, ap, subst, arith, map-append, ServerNo, ClientNo, DeviceState, servers_from, Line, When, clients_from, IsTold, NoMessageLeft, NoEpochLeft, WentOn, WasCut, IsStepTo, Standing, Stands, StoreView, Ended, Messages, Epoch, Memory, GoesTo, DoesTasks, EndsStep, is_going, Setup, servers_of, none, Moment, Task, Stage, when_at, when_of}
-use Rattle.jn_stands.proofs.Joined.{went-further, went-to-cut}
+use Rattle.jn_world_refines.proofs.Joined.{went-further, went-to-cut}
 use Rattle.jn_world.proofs.Numbers.{count_begins, begins-append, same-number}
 
 -- ---- lines and steps

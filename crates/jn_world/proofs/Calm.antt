@@ -1,5 +1,6 @@
 -- While no fault waits: servers stay up, go down and come up.
-use Rattle.jn_world.proofs.Common.{◌≡◌, ◌≤◌, ◌<◌, ℕ, zero, suc, ◌+◌, Bool, true, false, [], ◌∷◌, get_or, length, Option, Some, None, Ok, Err, inl, inr, true≢false, refl, sym, ◌∙◌, ap, subst, arith, set, All-nil, All-set, All-get_or, All-from_get_or, slice_get_within, get_or_from_slice_get, ◌⊎◌, All, OnOk, with_item, ServerNo, DeviceState, disarmed, Place, Restarted, Slot, Up, Down, Gone, StaysCalm, ComesCalm, IsCalmAt, IsRestart, Befell, Crashed, is_up, Counts, counts_by, PageCounts, Line, When, AreDisarmed, pairs_view, StoreView, World, IsQuietAt, AreQuiet, IsUpAndCalm, AreUpAndCalm, StayUp, AreDown, IsTakenDown, IsRisen, has_come, StandFor, is_up_at, is_up_in}
+use Rattle.jn_world.proofs.Common.{◌≡◌, ◌≤◌, ◌<◌, ℕ, zero, suc, ◌+◌, Bool, true, false, [], ◌∷◌, get_or, length, Option, Some, None, Ok, Err, inl, inr, true≢false, refl, sym, ◌∙◌, ap, subst, arith, set, All-nil, All-set, All-get_or, All-from_get_or, slice_get_within, get_or_from_slice_get, ◌⊎◌, All, OnOk, with_item, ServerNo, DeviceState, disarmed, Place, Restarted, Slot, Up, Down, Gone, StaysCalm, ComesCalm, IsCalmAt, IsRestart, Befell, Crashed, is_up, Counts, counts_by, PageCounts, Line, When, AreDisarmed, pairs_view, StoreView, World, IsQuietAt, AreQuiet, IsUpAndCalm, AreUpAndCalm, StayUp, AreDown, IsTakenDown, IsRisen, has_come, is_up_at, is_up_in}
+use Rattle.jn_world.proofs.Pushed.{StandFor}
 use Rattle.std.proofs.Common.{List, slice_get, Result}
 use Rattle.jn_place.specs.declared.place.Restarted.TheVariants as came
 use Rattle.jn_world.proofs.Bringing.{get-slice}

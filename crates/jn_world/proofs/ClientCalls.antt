@@ -3,9 +3,9 @@ use Rattle.jn_world.proofs.Common.{posted_by, ◌≡◌, ◌<◌, ℕ, zero, suc
 use Rattle.std.proofs.Math.ListN.{get_or}
 use Rattle.jn_report.specs.declared.line.Text.TheVariants as says
 use Rattle.jn_schedule.specs.declared.Event.TheVariants as events
-use Rattle.jn_stands.specs.Clients.{with_client, texts_taken, texts_commanded, sent_commanded, table_commanded}
-use Rattle.jn_stands.proofs.ClientSteps.{client-took-step, other-took-step}
-use Rattle.jn_stands.proofs.Commands.{told-step, asked-step}
+use Rattle.jn_world_refines.specs.Clients.{with_client, texts_taken, texts_commanded, sent_commanded, table_commanded}
+use Rattle.jn_world_refines.proofs.ClientSteps.{client-took-step, other-took-step}
+use Rattle.jn_world_refines.proofs.Commands.{told-step, asked-step}
 use Rattle.jn_report.specs.declared.line.Refusal.{Refusal}
 use Rattle.jn_world.proofs.Calls.{step-ends}
 

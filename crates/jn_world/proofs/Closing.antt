@@ -4,7 +4,7 @@ use Rattle.std.proofs.Common.{List, drop, slice_get}
 use Rattle.std.specs.Option.{option_map}
 use Rattle.jn_report.specs.declared.line.Text.TheVariants as says
 use Rattle.jn_schedule.specs.declared.Event.TheVariants as events
-use Rattle.jn_stands.proofs.Closing.{closed-step}
+use Rattle.jn_world_refines.proofs.Closing.{closed-step}
 use Rattle.jn_world.proofs.Bringing.{get-slice, same-place}
 use Rattle.jn_world.proofs.Places.{place-at}
 use Rattle.jn_world.proofs.Turns.{next-first}

@@ -21,14 +21,14 @@ pub use Rattle.jn_report.specs.declared.line.Line.{Line}
 pub use Rattle.jn_report.specs.declared.line.Text.{Text}
 pub use Rattle.jn_report.specs.declared.line.When.{When}
 pub use Rattle.jn_report.specs.declared.line.EventRefusal.TheVariants.{EpochsUsedUp, NoSuchWork, TooManyArmed, NoSuchServer, ServerDown, NoSuchMessage, ServerUp}
-pub use Rattle.jn_found.specs.Pages.{pool_on, heads_on}
+pub use Rattle.jn_page_state.specs.Pages.{pool_on, heads_on}
 pub use Rattle.jn_server.specs.Standing.{standing_pages, is_free_head}
 pub use Rattle.jn_sets.specs.Pool.{free_count, rubbish_count}
 pub use Rattle.jn_server.specs.Seen.{view_with, IsServer, Parts, memory_of, room_of}
 pub use Rattle.jn_storage.specs.Calls.{state}
-pub use Rattle.jn_stands.specs.Going.{WentOn, NoEpochLeft, WasCut, IsTold, NoMessageLeft, IsStepTo, Limit}
-pub use Rattle.jn_stands.specs.Pages.{HasCounts, ReadsPages, IsIdleAt}
-pub use Rattle.jn_stands.specs.Stands.{Standing, Stands, with_named, StandsAt, PlaceStands, with_answer, texts_sent, posted_by, is_client_number, with_sent}
+pub use Rattle.jn_world_refines.specs.Going.{WentOn, NoEpochLeft, WasCut, IsTold, NoMessageLeft, IsStepTo, Limit}
+pub use Rattle.jn_world_refines.specs.Pages.{HasCounts, ReadsPages, IsIdleAt}
+pub use Rattle.jn_world_refines.specs.Stands.{Standing, Stands, with_named, StandsAt, PlaceStands, with_answer, texts_sent, posted_by, is_client_number, with_sent}
 pub use Rattle.jn_store.specs.Pairs.{pairs_view}
 pub use Rattle.jn_store.specs.Store.{StoreView}
 pub use Rattle.jn_world.specs.declared.ended.Ended.{Ended}
@@ -37,11 +37,11 @@ pub use Rattle.jn_world.specs.declared.world.World.{World}
 pub use Rattle.jn_world.specs.Bringing.{BroughtUp, texts_so_far, left_to_tell}
 pub use Rattle.jn_world.specs.Naming.{is_among, newly_named, restart_texts, has_come}
 pub use Rattle.jn_world.specs.Written.{standing_of, DoesEvent, DoesTasks, is_going, EndsStep, GoesTo, TakesTurn, IsSentTo, EndsPart, Starts, AreStoresOf, GivesImage, IsClosed, Closes, KeepsOn, DoesScheduled, GoesTurn}
-pub use Rattle.jn_written.specs.Chances.{Setup, Chance, physical_pages}
-pub use Rattle.jn_written.specs.Runs.{Moment, none, DoesStep, more, Leads}
-pub use Rattle.jn_written.specs.Steps.{lines_at, message_texts, traced, is_too_much, come_to, cut_short, made_to}
-pub use Rattle.jn_written.specs.Tasks.{Task, ComesUp, when_of, Meets, Stage, when_at, InSchedule, AtEnd, CutShort, ClosesClients, CountsCommits, Acts, Begins, GoesDown, Dismisses, next_at, Rests, State, begun, next_task}
-pub use Rattle.jn_found.specs.Recoverable.{IsRecoverable}
+pub use Rattle.jn_machine.specs.Chances.{Setup, Chance, physical_pages}
+pub use Rattle.jn_machine.specs.Runs.{Moment, none, DoesStep, more, Leads}
+pub use Rattle.jn_machine.specs.Steps.{lines_at, message_texts, traced, is_too_much, come_to, cut_short, made_to}
+pub use Rattle.jn_machine.specs.Tasks.{Task, ComesUp, when_of, Meets, Stage, when_at, InSchedule, AtEnd, CutShort, ClosesClients, CountsCommits, Acts, Begins, GoesDown, Dismisses, next_at, Rests, State, begun, next_task}
+pub use Rattle.jn_page_state.specs.Recoverable.{IsRecoverable}
 pub use Rattle.std.proofs.Math.ListN.{set}
 pub use Rattle.std.proofs.lemmas.Bool.Decides.{nat_tests}
 pub use Rattle.std.proofs.lemmas.List.{length-set, map-append, length_push}
@@ -50,48 +50,48 @@ pub use Rattle.jn_base.specs.declared.names.Party.TheVariants.{Server, Client}
 pub use Rattle.jn_msgs.specs.Collected.{Collected}
 pub use Rattle.jn_net.specs.Carried.{Carried, with_delivered, waiting}
 pub use Rattle.jn_net.specs.declared.Sent.{Sent as Posted}
-pub use Rattle.jn_place.specs.Calls.{Left, StandsOn}
+pub use Rattle.jn_place.specs.Calls.{LeavesPlace, StandsOn}
 pub use Rattle.jn_system.specs.WholeSystem.Servers.{server_timeout, of_timeout, lines_of}
-pub use Rattle.jn_rows.specs.Stable.{StableState, Pick, IsUp, stable}
-pub use Rattle.jn_stands.proofs.RestNext.{next-works, next-none, rest-next, rest-over-step, next-delivers}
-pub use Rattle.jn_stands.proofs.Still.{refused-step, counts-step, begins-step, settles-step}
+pub use Rattle.jn_rows.specs.Stable.{StableState, Pick, IsUp, stable, Left}
+pub use Rattle.jn_world_refines.proofs.RestNext.{next-works, next-none, rest-next, rest-over-step, next-delivers}
+pub use Rattle.jn_world_refines.proofs.Still.{refused-step, counts-step, begins-step, settles-step}
 pub use Rattle.jn_world.specs.Settling.{AreIdleBelow, IsFirstBusy, ReadsAt, TellsBusy, IsAtRest, handed, steps_of_all, asking_clients, asking_servers, TellsFirst}
 pub use Rattle.jn_world.specs.Standing.{is_up_at, is_up_in, works_at, works_in, IsWorld, IsClientOf, ArePlaces, ArePosted, messages_in, AreStores, AreClosed}
-pub use Rattle.jn_written.specs.Devices.{rubbish_on, Devices}
-pub use Rattle.jn_written.specs.Events.{next_in, servers_of, ending, coming_up, settling, printing, acted, met, resting, deed_of, asking, told_unless}
-pub use Rattle.jn_written.specs.Refusals.{has_work, refusal_of, unless, if_there, if_up, if_down}
+pub use Rattle.jn_machine.specs.Devices.{rubbish_on, Devices}
+pub use Rattle.jn_machine.specs.Events.{next_in, servers_of, ending, coming_up, settling, printing, acted, met, resting, deed_of, asking, told_unless}
+pub use Rattle.jn_machine.specs.Refusals.{has_work, refusal_of, unless, if_there, if_up, if_down}
 pub use Rattle.jn_base.specs.declared.names.ClientNo.{ClientNo}
 pub use Rattle.std.proofs.lemmas.List.Elements.{All-nil, All-set, All-get_or, All-from_get_or, All-append, All-map, All-cons, All-weaker, All-from_recursion, recursion_from_All, All-push}
 pub use Rattle.jn_device.specs.Events.{disarmed, is_within, Decays as PageDecays, Revives as PageRevives, Arms as FaultArmed}
 pub use Rattle.jn_recovery.specs.declared.counts.PageCounts.{PageCounts}
-pub use Rattle.jn_stands.specs.Ending.{AreDisarmed, IsDisarmed, dismissed, BeganEnd}
+pub use Rattle.jn_world_refines.specs.Ending.{AreDisarmed, IsDisarmed, dismissed, BeganEnd}
 pub use Rattle.jn_world.specs.Calm.{IsQuietAt, AreQuiet, IsUpAndCalm, AreUpAndCalm, StayUp, AreDown, IsTakenDown, IsRisen}
-pub use Rattle.jn_world.specs.Opening.{StandFor, AreNew, StandsFor, Opens}
 pub use Rattle.jn_base.specs.declared.op.Command.{Command}
 pub use Rattle.jn_rows.specs.declared.client.Taken.{Taken}
 pub use Rattle.jn_system.specs.WholeSystem.Steps.{sent_now, IsIdle, handing, working}
 pub use Rattle.jn_report.specs.declared.line.When.TheVariants.{Event as AtEvent, End}
 pub use Rattle.jn_rows.specs.Client.{ClientTable, Commanded, Refuses, command_row, take_row, again_row, new_table, over, Sends, sent_again}
 pub use Rattle.jn_rows.specs.Outcomes.{Sent}
-pub use Rattle.jn_within.specs.Taking.{sent_for, CanBeTaken, AllCanBeTaken, ClientFits, CommandInRange, CommandFits}
-pub use Rattle.jn_stands.proofs.Posted.{none-traced, lines-append}
-pub use Rattle.jn_within.proofs.Taking.{over-fits, command-fits, command-draws, take-fits, take-number, new-fits}
-pub use Rattle.jn_stands.proofs.Crashing.{down-already-step, crashed-step}
-pub use Rattle.jn_stands.proofs.Dismissing.{there-is, dismissed-step}
+pub use Rattle.jn_row_ranges.specs.Taking.{sent_for, AllCanBeTaken, ClientFits, CommandFits}
+pub use Rattle.jn_world_refines.proofs.Posted.{none-traced, lines-append}
+pub use Rattle.jn_row_ranges.proofs.Taking.{over-fits, command-fits, command-draws, take-fits, take-number, new-fits}
+pub use Rattle.jn_world_refines.proofs.Crashing.{down-already-step, crashed-step}
+pub use Rattle.jn_world_refines.proofs.Dismissing.{there-is, dismissed-step}
 pub use Rattle.jn_world.specs.Closing.{AreIdle, AreTheirs, going_down, closing_clients, showing_all, scrubbing_all, turning, thanking, telling, finishing, HasStore}
 pub use Rattle.jn_order.specs.Files.{AllFiles, Files}
 pub use Rattle.jn_schedule.specs.declared.Event.{Event as AnEvent, Event}
-pub use Rattle.jn_stands.specs.Starting.{IsFirst, IsStoreOf}
+pub use Rattle.jn_world_refines.specs.Starting.{IsFirst, IsStoreOf}
 pub use Rattle.jn_schedule.specs.declared.Event.TheVariants.{Show, Scrub, Restart, Again, Nudge, Step, Crash, Timeout, Deliver}
 pub use Rattle.jn_world.specs.Images.{HasFilesAlone, HasNoRubbish, AreClean, StayClean, HoldsImage, HoldsImageAt, HoldImages, IsScrubbedAt}
 pub use Rattle.jn_base.specs.declared.names.Party.{Party}
-pub use Rattle.jn_stands.proofs.Losing.{never-sent, lost-step}
+pub use Rattle.jn_world_refines.proofs.Losing.{never-sent, lost-step}
 pub use Rattle.jn_report.specs.declared.line.EventRefusal.{EventRefusal}
 pub use Rattle.jn_base.specs.declared.device.FaultKind.{FaultKind}
-pub use Rattle.jn_world.specs.Meeting.{IsBefalling, IsAtUp, refusal_up}
-pub use Rattle.jn_stands.proofs.Meeting.{meets-acts, acts-acts, down-acts}
-pub use Rattle.jn_stands.specs.Meeting.{is_settle}
-pub use Rattle.jn_stands.specs.Showing.{texts_shown, text_shown}
+pub use Rattle.jn_world.specs.Meeting.{IsBefalling, IsAtUp}
+pub use Rattle.jn_world.specs.Opening.{AreNew, Opens}
+pub use Rattle.jn_world_refines.proofs.Meeting.{meets-acts, acts-acts, down-acts}
+pub use Rattle.jn_world_refines.specs.Meeting.{is_settle}
+pub use Rattle.jn_world_refines.specs.Showing.{texts_shown, text_shown}
 pub use Rattle.std.proofs.lemmas.Iterator.Adapters.{YieldsList-from_vec}
 pub use Rattle.std.proofs.lemmas.Iterator.Consumers.{YieldsList-turn, YieldsList-end}
 pub use Rattle.jn_place.proofs.Slots.{has-pages, stands-there, serves-here}

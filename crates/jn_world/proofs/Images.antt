@@ -1,6 +1,6 @@
 -- What a settle, a show and a scrub leave of images.
 use Rattle.jn_world.proofs.Common.{◌≡◌, ◌<◌, ◌≤◌, ℕ, ◌+◌, Bool, true, false, List, [], ◌∷◌, length, slice_get, Option, Some, None, Result, Ok, Err, is_some, inl, inr, true≢false, refl, sym, ◌∙◌, ap, subst, arith, set, All-set, slice_get_within, ◌⊎◌, not, OnOk, ServerNo, DeviceState, Carried, Files, Place, Slot, Up, Down, Gone, ScrubbedBy, WhereUp, KeepsRubbish, LeavesImage, IsCalmAt, has_work_at, work_of, is_up, Counts, counts_by, Line, When, StableState, stable, view_with, memory_of, room_of, IsStoreOf, Standing, Stands, StandsAt, state, pairs_view, StoreView, IsUpAndCalm, AreUpAndCalm, HasFilesAlone, HasNoRubbish, AreClean, StayClean, HoldsImage, HoldsImageAt, HoldImages, IsScrubbedAt, IsAtRest, Setup, Moment}
-use Rattle.jn_found.specs.Images.{IsImage}
+use Rattle.jn_page_state.specs.Images.{IsImage}
 use Rattle.jn_system.proofs.WholeSystem.BusyServers.{nothing}
 use Rattle.jn_world.proofs.Calm.{all-at, all-by}
 use Rattle.jn_world.proofs.Finishing.{get-other, get-same, either}

@@ -3,7 +3,7 @@ use Rattle.jn_world.proofs.Common.{◌≡◌, ◌≤◌, ◌<◌, ℕ, zero, suc
 use Rattle.jn_report.specs.declared.line.Text.TheVariants as says
 use Rattle.jn_schedule.specs.declared.Event.TheVariants as events
 use Rattle.jn_report.specs.declared.line.EventRefusal.TheVariants as refusals
-use Rattle.jn_stands.specs.Waiting.{sent_of}
+use Rattle.jn_world_refines.specs.Waiting.{sent_of}
 use Rattle.jn_world.proofs.Refusing.{place-there}
 use Rattle.jn_world.proofs.ServerCalls.{lost-does, nudged-down-does}
 

@@ -14,7 +14,7 @@ set-got (x ∷ xs) (suc n) d = ap (λ (ys : List _). x ∷ ys) (set-got xs n d)
 pub written-again : {S : Type 0} (ps : List (Place S)) (i : ℕ) (p : Place S) → p ≡ get_or ps i p → ps ≡ set ps i p
 written-again {S} ps i p read = sym (ap (λ (q : Place S). set ps i q) read ∙ set-got ps i p)
 
--- a call that was refused last tells that alone
+-- a call that was refused last reports that alone
 pub ends-refused : {S A : Type 0} (r : Result A Ended) (w : Standing S) (lines wanted later : List Line) → OnOk r (later ≡ wanted) → IfErr r (λ e. e ≡ Memory) → length w.net.sent ≤ 1000000 → EndsStep r w w lines wanted later
 ends-refused (Ok a) w lines wanted later told memory few = (refl, told, few)
 ends-refused {S} {A} (Err e) w lines wanted later told memory few = subst (λ (f : Ended). EndsStep {S = S} {A = A} (Err f) w w lines wanted later) (sym memory) tt

@@ -1,8 +1,10 @@
 -- The places of a list of servers, and the world whose places they are.
-use Rattle.jn_world.proofs.Common.{◌≡◌, ◌≤◌, ◌<◌, ℕ, zero, suc, ◌+◌, true, false, length, length-append, append-nil, [], ◌∷◌, ◌++◌, get_or, Option, Some, None, Ok, Err, true≢false, refl, sym, ◌∙◌, ap, subst, arith, set, nat_tests, All-append, All-map, All-nil, All-cons, All-set, All-weaker, All-get_or, All-from_recursion, recursion_from_All, slice_get_within, slice_get-get_or, get_or_from_slice_get, ByRecursion, All, Result, OnOk, slice_get, with_item, ClientNo, Party, Server, ServerNo, Command, Collected, Carried, with_delivered, Posted, sent_now, Counts, counts_by, PageCounts, ClientTable, Sends, command_row, take_row, again_row, new_table, Taken, Sent, StoreView, command-fits, command-draws, take-fits, take-number, new-fits, CanBeTaken, AllCanBeTaken, ClientFits, CommandInRange, CommandFits, sent_for, Left, Place, Slot, Up, Down, Gone, World, IsPlace, is_up, is_client_number, ArePlaces, IsClientOf, ArePosted, IsWorld, posted_by, messages_in, is_up_at, AreStores, AreClosed, IsRecoverable}
+use Rattle.jn_world.proofs.Common.{◌≡◌, ◌≤◌, ◌<◌, ℕ, zero, suc, ◌+◌, true, false, length, length-append, append-nil, [], ◌∷◌, ◌++◌, get_or, Option, Some, None, Ok, Err, true≢false, refl, sym, ◌∙◌, ap, subst, arith, set, nat_tests, All-append, All-map, All-nil, All-cons, All-set, All-weaker, All-get_or, All-from_recursion, recursion_from_All, slice_get_within, slice_get-get_or, get_or_from_slice_get, ByRecursion, All, Result, OnOk, slice_get, with_item, ClientNo, Party, Server, ServerNo, Command, Collected, Carried, with_delivered, Posted, sent_now, Counts, counts_by, PageCounts, ClientTable, Sends, command_row, take_row, again_row, new_table, Taken, Sent, StoreView, command-fits, command-draws, take-fits, take-number, new-fits, AllCanBeTaken, ClientFits, CommandFits, sent_for, LeavesPlace, Place, Slot, Up, Down, Gone, World, IsPlace, is_up, is_client_number, ArePlaces, IsClientOf, ArePosted, IsWorld, posted_by, messages_in, is_up_at, AreStores, AreClosed, IsRecoverable}
+use Rattle.jn_msgs.specs.Ranges.{CanBeTaken}
+use Rattle.jn_base.specs.Ops.{CommandInRange}
 use Rattle.std.proofs.Common.{List, vec_len}
 use Rattle.jn_msgs.specs.declared.message.Message.{Message}
-use Rattle.jn_within.specs.Drawing.{DrawsOne}
+use Rattle.jn_row_ranges.specs.Drawing.{DrawsOne}
 use Rattle.jn_place.specs.Places.{Stands}
 
 -- ---- one place
@@ -166,7 +168,7 @@ moved-quiet {S} look a b server i q at h place places clients net =
     (ap (λ (n : Carried). n.sent) net ∙ sym (append-nil a.net.sent)) (subst (λ (n : Carried). length n.sent ≤ 1000000) (sym net) h.limit)
 
 -- a place is written, and what its step sends is sent
-pub moved-sent : {S A E : Type 0} (look : S → StoreView) (a b : World S) (server : ServerNo) (i : ℕ) (q : Place S) (answer : Option Collected) (r : Result A E) → i ≡ server.0 → IsWorld look a → Left look server (length a.net.sent) q answer
+pub moved-sent : {S A E : Type 0} (look : S → StoreView) (a b : World S) (server : ServerNo) (i : ℕ) (q : Place S) (answer : Option Collected) (r : Result A E) → i ≡ server.0 → IsWorld look a → LeavesPlace look server (length a.net.sent) q answer
     → b.places ≡ with_item a.places i q → b.clients ≡ a.clients
     → OnOk r (b.net.sent ≡ a.net.sent ++ posted_by (Server server) (messages_in answer)) → OnOk r (length b.net.sent ≤ 1000000) → OnOk r (IsWorld look b)
 moved-sent look a b server i q answer (Err e) at h left places clients sent limit = tt

@@ -1,5 +1,14 @@
 -- Lists that are built one by one.
-use Rattle.jn_world.proofs.Common.{◌≡◌, ℕ, false, zero, suc, ◌+◌, List, [], ◌∷◌, ◌++◌, map, length, slice_get, Some, refl, sym, ◌∙◌, ap, subst, arith, Tid, DeviceState, Place, Slot, Up, Down, Gone, StandsOn, PageCounts, ClientTable, new_table, Standing, IsStoreOf, HasStore, AreTheirs, AreNew, StandsFor, StandFor, Opens, counts_by}
+use Rattle.jn_world.proofs.Common.{◌≡◌, ℕ, false, zero, suc, ◌+◌, List, [], ◌∷◌, ◌++◌, map, length, slice_get, Some, refl, sym, ◌∙◌, ap, subst, arith, Tid, DeviceState, Place, Slot, Up, Down, Gone, StandsOn, PageCounts, ClientTable, new_table, Standing, IsStoreOf, HasStore, AreTheirs, AreNew, Opens, counts_by}
+
+-- the server is down on its store
+pub record StandsFor {S : Type 0} (stores : List (S × PageCounts)) (n : ℕ) (p : Place S) : Type 0 where
+  pub store : S × PageCounts
+  pub at : slice_get stores n ≡ Some store
+  pub is : p ≡ record { counts = store.1; slot = Down store.0 }
+
+abbrev pub StandFor : {S : Type 0} → List (S × PageCounts) → List (Place S) → Type 0
+StandFor stores places = (n : ℕ) (p : Place _) → slice_get places n ≡ Some p → StandsFor stores n p
 
 some-same : {A : Type 0} (a b : A) → Some a ≡ Some b → a ≡ b
 some-same a b e = cc

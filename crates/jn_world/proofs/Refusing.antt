@@ -1,10 +1,16 @@
 -- Events of the schedule that are refused, or done.
-use Rattle.jn_world.proofs.Common.{◌≡◌, ◌<◌, ◌≤◌, ℕ, zero, suc, Bool, true, false, List, [], ◌∷◌, ◌++◌, length, Option, Some, None, is_some, Result, Ok, Err, refl, sym, ◌∙◌, ap, subst, arith, nat_tests, vec_len, drop, nat_lt, slice_get, IfErr, OnOk, ServerNo, DeviceState, Place, Slot, Up, Down, Gone, is_up, Protocol, ServerMemory, counts_by, EventRefusal, Line, When, StableState, Pick, Event, meets-acts, refused-step, WentOn, is_settle, Standing, Stands, StandsAt, StoreView, Ended, Memory, is_up_at, is_up_in, IsAtUp, refusal_up, GoesTo, DoesEvent, DoesTasks, Setup, refusal_of, if_there, if_up, unless, Moment, Task, Meets, when_of}
+use Rattle.jn_world.proofs.Common.{◌≡◌, ◌<◌, ◌≤◌, ℕ, zero, suc, Bool, true, false, List, [], ◌∷◌, ◌++◌, length, Option, Some, None, is_some, Result, Ok, Err, refl, sym, ◌∙◌, ap, subst, arith, nat_tests, vec_len, drop, nat_lt, slice_get, IfErr, OnOk, ServerNo, DeviceState, Place, Slot, Up, Down, Gone, is_up, Protocol, ServerMemory, counts_by, EventRefusal, Line, When, StableState, Pick, Event, meets-acts, refused-step, WentOn, is_settle, Standing, Stands, StandsAt, StoreView, Ended, Memory, is_up_at, is_up_in, IsAtUp, GoesTo, DoesEvent, DoesTasks, Setup, refusal_of, if_there, if_up, unless, Moment, Task, Meets, when_of, NoSuchWork, has_work}
 use Rattle.std.specs.Global.{Vec}
 use Rattle.jn_report.specs.declared.line.EventRefusal.TheVariants as refusals
 use Rattle.jn_report.specs.declared.line.Text.TheVariants as says
 use Rattle.jn_schedule.specs.declared.Event.TheVariants as events
 use Rattle.jn_world.proofs.Turns.{next-first}
+use Rattle.jn_system.specs.WholeSystem.World.{World}
+
+-- why such an event is refused where the server is up
+abbrev pub refusal_up : World → Event → Option EventRefusal
+refusal_up w (events.Timeout q T) = unless (has_work T (w.memory q)) NoSuchWork None
+refusal_up w event = None
 
 pub lt-none : {A : Type 0} (n : ℕ) (v : Vec A) → nat_lt n (vec_len v) ≡ false → nat_lt n (length v.items) ≡ false
 lt-none n v h = let same = v.ok.0 in grind (arith, nat_tests)
@@ -81,7 +87,7 @@ module _ {S : Type 0} (look : S → StoreView) (device : S → DeviceState) wher
   -- ---- refused, or done
 
   module _ (when : When) (event : Event) where
-    -- the call tells the refusal and does nothing more
+    -- the call reports the refusal and does nothing more
     pub meets-refused : {A : Type 0} (refusal : EventRefusal) (r : Result A Ended) (w : Standing S) (first later : List Line)
         → ((x : Setup) (m : Moment) → Stands look device x w m → refusal_of x m.state.course.world event ≡ Some refusal) → length w.net.sent ≤ 1000000
         → OnOk r (later ≡ first ++ record { when = when; text = says.RefusedEvent refusal } ∷ []) → IfErr r (λ e. e ≡ Memory)

@@ -30,7 +30,7 @@ posted-append from a b = map-append (λ (m : Sent). record { from = from; to = m
 pub among-append : (a b : List Tid) (T : Tid) → is_among (a ++ b) T ≡ (is_among b T || is_among a T)
 among-append a b T = list_any-append (λ U. tid_eq U T) a b ∙ or_comm (is_among a T) (is_among b T)
 
--- these lines were told
+-- these lines were reported
 pub named-so : {S : Type 0} (a b : World S) (texts : List Text) → b ≡ record a { named = b.named } → b.named.names.items ≡ a.named.names.items ++ commits_in texts → standing_of b ≡ with_named texts (standing_of a)
 named-so {S} a b texts others names =
     let rest : standing_of b ≡ record (standing_of a) { named = is_among b.named.names.items; commits = length b.named.names.items } = ap (λ (w : World S). standing_of w) others in
@@ -67,7 +67,7 @@ texts-then {S} when from trace a b told now later xs ys e first then' =
     ∙ lines-then when told (traced trace one) (traced trace two)
     ∙ ap (λ (texts : List Text). told ++ lines_at when texts) (sym (traced-append trace one two) ∙ ap (λ (texts : List Text). traced trace texts) (sym (messages-append from n xs ys)))
 
--- what a step of a server tells and sends
+-- what a step of a server reports and sends
 pub sends-out : {S A : Type 0} (q : ServerNo) (k : Option ℕ) (when : When) (out : Collected) (a b : World S) (notes : List Note) (messages : List Sent) (new : Standing S) (told now later : List Line) (r : Result A Ended)
     → notes ≡ out.notes → messages ≡ out.messages → b ≡ record a { named = b.named } → b.named.names.items ≡ a.named.names.items ++ commits_in (lines_of q k notes)
     → now ≡ told ++ lines_at when (lines_of q k notes)

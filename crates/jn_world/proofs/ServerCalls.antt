@@ -5,11 +5,11 @@ use Rattle.jn_base.specs.declared.device.FaultKind.TheVariants as faults
 use Rattle.jn_report.specs.declared.line.Text.TheVariants as says
 use Rattle.jn_schedule.specs.declared.Event.TheVariants as events
 use Rattle.jn_server.specs.declared.show.Shown.{Shown}
-use Rattle.jn_stands.proofs.Took.{took-step}
-use Rattle.jn_stands.proofs.Working.{idle-step, worked-step}
-use Rattle.jn_stands.proofs.Nudging.{nudged-step, nudged-down-step, timed-out-step}
-use Rattle.jn_stands.proofs.Looking.{scrubbed-step, showed-step}
-use Rattle.jn_stands.proofs.Befalling.{decayed-step, revived-step, armed-step}
+use Rattle.jn_world_refines.proofs.Took.{took-step}
+use Rattle.jn_world_refines.proofs.Working.{idle-step, worked-step}
+use Rattle.jn_world_refines.proofs.Nudging.{nudged-step, nudged-down-step, timed-out-step}
+use Rattle.jn_world_refines.proofs.Looking.{scrubbed-step, showed-step}
+use Rattle.jn_world_refines.proofs.Befalling.{decayed-step, revived-step, armed-step}
 use Rattle.jn_world.proofs.Calls.{step-ends}
 
 module _ {S : Type 0} (look : S → StoreView) (device : S → DeviceState) (seen : (s : S) → look s ≡ pairs_view (device s)) where

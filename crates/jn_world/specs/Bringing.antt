@@ -14,14 +14,14 @@ use Rattle.jn_report.specs.declared.line.EventRefusal.TheVariants.{EpochsUsedUp}
 use Rattle.jn_report.specs.declared.line.Text.{Text}
 use Rattle.jn_report.specs.declared.line.Text.TheVariants.{RefusedEvent}
 use Rattle.jn_report.specs.declared.line.When.{When}
-use Rattle.jn_stands.specs.Pages.{HasCounts}
-use Rattle.jn_stands.specs.Restarting.{texts_restarted}
-use Rattle.jn_stands.specs.Stands.{Standing, with_named}
+use Rattle.jn_world_refines.specs.Pages.{HasCounts}
+use Rattle.jn_world_refines.specs.Restarting.{texts_restarted}
+use Rattle.jn_world_refines.specs.Stands.{Standing, with_named}
 use Rattle.jn_store.specs.Store.{StoreView}
 use Rattle.jn_world.specs.Naming.{has_come}
-use Rattle.jn_written.specs.Steps.{lines_at}
+use Rattle.jn_machine.specs.Steps.{lines_at}
 
--- where no epoch is left nothing is told yet
+-- where no epoch is left nothing is reported yet
 abbrev pub texts_so_far : ServerNo → (Tid → Bool) → Restarted → List Text
 texts_so_far q named came.UsedUp = []
 texts_so_far q named restarted = texts_restarted q named restarted

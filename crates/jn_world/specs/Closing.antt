@@ -5,10 +5,10 @@ use Rattle.jn_place.specs.declared.place.Place.{Place}
 use Rattle.jn_system.specs.WholeSystem.Steps.{IsIdle}
 use Rattle.jn_rows.specs.Client.{ClientTable}
 use Rattle.jn_schedule.specs.declared.Event.TheVariants.{Scrub, Show}
-use Rattle.jn_stands.specs.Starting.{IsStoreOf}
-use Rattle.jn_written.specs.Chances.{Setup}
-use Rattle.jn_written.specs.Events.{servers_of, coming_up, settling, printing}
-use Rattle.jn_written.specs.Tasks.{Task, Acts, GoesDown, ClosesClients, CountsCommits}
+use Rattle.jn_world_refines.specs.Starting.{IsStoreOf}
+use Rattle.jn_machine.specs.Chances.{Setup}
+use Rattle.jn_machine.specs.Events.{servers_of, coming_up, settling, printing}
+use Rattle.jn_machine.specs.Tasks.{Task, Acts, GoesDown, ClosesClients, CountsCommits}
 
 abbrev pub going_down : Setup → List Task
 going_down x = map GoesDown (servers_of x)

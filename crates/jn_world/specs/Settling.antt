@@ -10,12 +10,12 @@ use Rattle.jn_place.specs.Remaining.{steps_at}
 use Rattle.jn_recovery.specs.Counts.{counts_by}
 use Rattle.jn_schedule.specs.declared.Event.TheVariants.{Again, Nudge}
 use Rattle.jn_system.specs.WholeSystem.World.{clients_from}
-use Rattle.jn_stands.specs.Pages.{ReadsPages, IsIdleAt}
+use Rattle.jn_world_refines.specs.Pages.{ReadsPages, IsIdleAt}
 use Rattle.jn_store.specs.Store.{StoreView}
 use Rattle.jn_world.specs.Standing.{is_up_at, works_at}
-use Rattle.jn_written.specs.Chances.{Setup}
-use Rattle.jn_written.specs.Events.{servers_of}
-use Rattle.jn_written.specs.Tasks.{Task, Acts}
+use Rattle.jn_machine.specs.Chances.{Setup}
+use Rattle.jn_machine.specs.Events.{servers_of}
+use Rattle.jn_machine.specs.Tasks.{Task, Acts}
 
 -- each client, and each server, sends once more what waits for an answer
 abbrev pub asking_clients : Setup → List Task

@@ -1,6 +1,6 @@
 -- When the world stands so that every event can be done.
 use Rattle.std.specs.Prelude.{◌≡◌, ◌≤◌, ◌+◌, ℕ, Bool, false, List, [], ◌∷◌, length, slice_get, All, vec_len, Option, Some, None}
-use Rattle.jn_found.specs.Recoverable.{IsRecoverable}
+use Rattle.jn_page_state.specs.Recoverable.{IsRecoverable}
 use Rattle.jn_msgs.specs.Collected.{Collected}
 use Rattle.jn_net.specs.declared.Sent.{Sent as Posted}
 use Rattle.jn_records.specs.StablePages.{Counts}
@@ -11,9 +11,11 @@ use Rattle.jn_rows.specs.Outcomes.{Sent}
 use Rattle.jn_store.specs.Store.{StoreView}
 use Rattle.jn_place.specs.declared.place.Place.{Place}
 use Rattle.jn_world.specs.declared.world.World.{World}
-use Rattle.jn_within.specs.Taking.{CanBeTaken, ClientFits}
+use Rattle.jn_row_ranges.specs.Taking.{ClientFits}
+use Rattle.jn_msgs.specs.Ranges.{CanBeTaken}
 use Rattle.jn_place.specs.Places.{IsPlace, is_up}
 use Rattle.jn_place.specs.Exact.{has_work_at}
+use Rattle.jn_machine.specs.Steps.{most_messages}
 
 -- the places of the servers from this number on
 abbrev pub ArePlaces : {S : Type 0} → (S → StoreView) → ℕ → ℕ → List (Place S) → Type 0
@@ -36,7 +38,7 @@ pub record IsWorldUpTo {S : Type 0} (look : S → StoreView) (most : ℕ) (w : W
   pub eight : vec_len w.clients ≡ 8
   pub clients : All (IsClientOf most) w.clients.items
   pub posted : ArePosted w.net.sent
-  pub limit : length w.net.sent ≤ 1000000
+  pub limit : length w.net.sent ≤ most_messages
 
 -- Between two steps. A name is drawn, and a number given, only with a message.
 abbrev pub IsWorld : {S : Type 0} → (S → StoreView) → World S → Type 0
@@ -65,7 +67,7 @@ works_at look n ps = works_in look (slice_get ps n)
 
 -- ---- the start and the end
 
--- the stores of the servers from this number on: from each a restart may begin, and no fault that was outside is told
+-- the stores of the servers from this number on: from each a restart may begin, and no fault that was outside is reported
 abbrev pub AreStores : {S : Type 0} → (S → StoreView) → ℕ → List (S × PageCounts) → Type 0
 AreStores look n [] = Unit {0}
 AreStores look n (x ∷ xs) = IsRecoverable (record { 0 = n }) (counts_by x.1) (look x.0) × ((look x.0).told ≡ []) × AreStores look (n + 1) xs

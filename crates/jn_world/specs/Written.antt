@@ -4,18 +4,18 @@ use Rattle.jn_base.specs.declared.names.ServerNo.{ServerNo}
 use Rattle.jn_order.specs.Files.{AllFiles}
 use Rattle.jn_recovery.specs.declared.counts.PageCounts.{PageCounts}
 use Rattle.jn_recovery.specs.Counts.{counts_by}
-use Rattle.jn_written.specs.Devices.{Devices}
-use Rattle.jn_written.specs.Events.{ending}
-use Rattle.jn_written.specs.Whole.{AreImages, before}
+use Rattle.jn_machine.specs.Devices.{Devices}
+use Rattle.jn_machine.specs.Events.{ending}
+use Rattle.jn_machine.specs.Whole.{AreImages, before}
 use Rattle.jn_device.specs.Device.{DeviceState}
 use Rattle.jn_base.specs.declared.names.Party.{Party}
 use Rattle.jn_net.specs.declared.Sent.{Sent as Posted}
 use Rattle.jn_report.specs.declared.line.When.{When}
 use Rattle.jn_report.specs.declared.line.Line.{Line}
 use Rattle.jn_schedule.specs.declared.Event.{Event, Event as AnEvent}
-use Rattle.jn_stands.specs.Stands.{Standing, Stands}
-use Rattle.jn_stands.specs.Going.{NoMessageLeft, NoEpochLeft, WentOn, WasCut, IsTold, ActsNext}
-use Rattle.jn_found.specs.Images.{IsImage}
+use Rattle.jn_world_refines.specs.Stands.{Standing, Stands}
+use Rattle.jn_world_refines.specs.Going.{NoMessageLeft, NoEpochLeft, WentOn, WasCut, IsTold, ActsNext}
+use Rattle.jn_page_state.specs.Images.{IsImage}
 use Rattle.jn_rows.specs.Stable.{stable}
 use Rattle.jn_store.specs.Pairs.{pairs_view}
 use Rattle.jn_store.specs.Store.{StoreView}
@@ -24,9 +24,10 @@ use Rattle.jn_world.specs.declared.ended.Ended.{Ended}
 use Rattle.jn_world.specs.declared.ended.Ended.TheVariants.{Messages, Epoch, Memory}
 use Rattle.jn_world.specs.declared.world.World.{World}
 use Rattle.jn_world.specs.Naming.{is_among}
-use Rattle.jn_written.specs.Chances.{Setup}
-use Rattle.jn_written.specs.Runs.{Moment, Leads}
-use Rattle.jn_written.specs.Tasks.{Task, Begins, Rests, Stage, InSchedule, CutShort, AtEnd, when_of}
+use Rattle.jn_machine.specs.Chances.{Setup}
+use Rattle.jn_machine.specs.Runs.{Moment, Leads}
+use Rattle.jn_machine.specs.Tasks.{Task, Begins, Rests, Stage, InSchedule, CutShort, AtEnd, when_of}
+use Rattle.jn_machine.specs.Steps.{most_messages}
 
 -- what the world has, as it is compared with the machine
 abbrev pub standing_of : {S : Type 0} → World S → Standing S
@@ -99,15 +100,15 @@ KeepsOn look device when w result w' lines lines' =
 
 -- It is over so, or one message too many would have been sent, and then no line was added.
 abbrev pub EndsStep : {S A : Type 0} → Result A Ended → Standing S → Standing S → List Line → List Line → List Line → Type 0
-EndsStep (Ok a) w' now lines wanted lines' = (now ≡ w') × (lines' ≡ wanted) × (length w'.net.sent ≤ 1000000)
-EndsStep (Err Messages) w' now lines wanted lines' = (1000000 < length w'.net.sent) × (lines' ≡ lines)
+EndsStep (Ok a) w' now lines wanted lines' = (now ≡ w') × (lines' ≡ wanted) × (length w'.net.sent ≤ most_messages)
+EndsStep (Err Messages) w' now lines wanted lines' = (most_messages < length w'.net.sent) × (lines' ≡ lines)
 EndsStep (Err (Epoch q)) w' now lines wanted lines' = ⊥
 EndsStep (Err Memory) w' now lines wanted lines' = ⊤
 
 -- the same of lines that are kept only where all is sent
 abbrev pub EndsPart : {S A : Type 0} → Result A Ended → Standing S → Standing S → List Line → List Line → Type 0
-EndsPart (Ok a) w' now wanted lines' = (now ≡ w') × (lines' ≡ wanted) × (length w'.net.sent ≤ 1000000)
-EndsPart (Err Messages) w' now wanted lines' = 1000000 < length w'.net.sent
+EndsPart (Ok a) w' now wanted lines' = (now ≡ w') × (lines' ≡ wanted) × (length w'.net.sent ≤ most_messages)
+EndsPart (Err Messages) w' now wanted lines' = most_messages < length w'.net.sent
 EndsPart (Err (Epoch q)) w' now wanted lines' = ⊥
 EndsPart (Err Memory) w' now wanted lines' = ⊤
 

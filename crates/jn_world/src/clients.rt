@@ -5,15 +5,16 @@ ghost use Rattle.jn_net.specs.Carried.{with_delivered};
 ghost use Rattle.jn_report.specs.declared.line.When.TheVariants.{Event as AtEvent};
 ghost use Rattle.jn_rows.specs.Client.{new_table, take_row};
 ghost use Rattle.jn_schedule.specs.declared.Event.TheVariants as events;
-ghost use Rattle.jn_stands.specs.Clients.{texts_taken};
-ghost use Rattle.jn_stands.specs.Stands.{is_client_number, posted_by, with_sent};
-ghost use Rattle.jn_within.specs.Taking.{sent_for, AllCanBeTaken, CommandInRange};
+ghost use Rattle.jn_world_refines.specs.Clients.{texts_taken};
+ghost use Rattle.jn_world_refines.specs.Stands.{is_client_number, posted_by, with_sent};
+ghost use Rattle.jn_row_ranges.specs.Taking.{sent_for, AllCanBeTaken};
+ghost use Rattle.jn_base.specs.Ops.{CommandInRange};
 ghost use Rattle.jn_world.specs.Calm.{StayUp};
 ghost use Rattle.jn_world.specs.Opening.{AreNew};
 ghost use Rattle.jn_world.specs.Settling.{handed};
 ghost use Rattle.jn_world.specs.Standing.{IsWorld, IsClientOf};
 ghost use Rattle.jn_world.specs.Written.{DoesEvent, EndsStep, IsSentTo, standing_of};
-ghost use Rattle.jn_written.specs.Steps.{lines_at, message_texts, traced};
+ghost use Rattle.jn_machine.specs.Steps.{lines_at, message_texts, traced, most_messages};
 
 use crate::ended::Ended;
 use crate::world::{CLIENTS, World, is_client_number};
@@ -47,10 +48,15 @@ fn index_of(client: ClientNo) -> usize
 }
 
 /// What a client does with a message that has given no command yet.
-fn take_as_new(alloc: Global, client: ClientNo, servers: u8, message: &Message) -> Taken
+fn take_as_new(
+    alloc: Global,
+    client: ClientNo,
+    servers: u8,
+    message: &Message,
+) -> Result<Taken, AllocError>
     requires { servers ≤ 8 }
-    ensures can { AllCanBeTaken (sent_for result) }
-    ensures row { result ≡ (take_row (new_table client servers) message.now).1 }
+    ensures can { IfOk result (λ taken. AllCanBeTaken (sent_for taken)) }
+    ensures row { IfOk result (λ taken. taken ≡ (take_row (new_table client servers) message.now).1) }
 {
     let mut new = Client::new(alloc, client, servers);
     new.take(message)
@@ -92,10 +98,10 @@ impl<S: Powered + Drop> World<S> {
         when: When,
         lines: &mut Vec<Line>,
     ) -> Result<(), Ended>
-        requires few { length self.old.net.sent ≤ 1000000 }
+        requires few { length self.old.net.sent ≤ most_messages }
         ensures others { self.new ≡ record self.old { net = self.new.net } }
         ensures sent { OnOk result (self.new.net.sent ≡ self.old.net.sent ++ posted_by (AClient client) ((to, message) ∷ [])) }
-        ensures limit { OnOk result (length self.new.net.sent ≤ 1000000) }
+        ensures limit { OnOk result (length self.new.net.sent ≤ most_messages) }
         ensures ends { EndsStep result (with_sent (posted_by (AClient client) ((to, message) ∷ [])) (standing_of self.old)) (standing_of self.new) lines.old.items
             (lines.old.items ++ lines_at when (traced self.old.trace (message_texts (AClient client) (length self.old.net.sent) ((to, message) ∷ [])))) lines.new.items }
     {
@@ -167,7 +173,7 @@ impl<S: Powered + Drop> World<S> {
         let Some(sent) = self.net.message(k) else {
             unreachable!()
         };
-        let taken = self.clients[index_of(client)].take(&sent.message);
+        let taken = self.clients[index_of(client)].take(&sent.message)?;
         self.net.delivered(k);
         self.tell_taken(client, k, taken, when, lines)
     }
@@ -193,7 +199,7 @@ impl<S: Powered + Drop> World<S> {
         let Some(sent) = self.net.message(k) else {
             unreachable!()
         };
-        let taken = take_as_new(self.alloc, client, servers, &sent.message);
+        let taken = take_as_new(self.alloc, client, servers, &sent.message)?;
         self.net.delivered(k);
         self.tell_taken(client, k, taken, when, lines)
     }
@@ -206,10 +212,10 @@ impl<S: Powered + Drop> World<S> {
         when: When,
         lines: &mut Vec<Line>,
     ) -> Result<(), Ended>
-        requires few { length self.old.net.sent ≤ 1000000 }
+        requires few { length self.old.net.sent ≤ most_messages }
         ensures others { self.new ≡ record self.old { net = self.new.net } }
         ensures sent { OnOk result (self.new.net.sent ≡ self.old.net.sent ++ posted_by (AClient client) (sent_for taken)) }
-        ensures limit { OnOk result (length self.new.net.sent ≤ 1000000) }
+        ensures limit { OnOk result (length self.new.net.sent ≤ most_messages) }
         ensures ends { EndsStep result (with_sent (posted_by (AClient client) (sent_for taken)) (standing_of self.old)) (standing_of self.new) lines.old.items
             (lines.old.items ++ lines_at when (texts_taken k taken ++ traced self.old.trace (message_texts (AClient client) (length self.old.net.sent) (sent_for taken)))) lines.new.items }
     {
@@ -219,13 +225,15 @@ impl<S: Powered + Drop> World<S> {
                 Ok(())
             }
             Taken::Send(to, message) => self.send(client, to, message, when, lines),
-            Taken::Told(text, None) => {
-                tell(lines, when, text)?;
-                Ok(())
-            }
-            Taken::Told(text, Some((to, message))) => {
-                self.tell_and_send(client, text, to, message, when, lines)
-            }
+            Taken::Told(text, sent) => match sent {
+                None => {
+                    tell(lines, when, text)?;
+                    Ok(())
+                }
+                Some((to, message)) => {
+                    self.tell_and_send(client, text, to, message, when, lines)
+                }
+            },
         }
     }
 
@@ -239,17 +247,17 @@ impl<S: Powered + Drop> World<S> {
         when: When,
         lines: &mut Vec<Line>,
     ) -> Result<(), Ended>
-        requires few { length self.old.net.sent ≤ 1000000 }
+        requires few { length self.old.net.sent ≤ most_messages }
         ensures others { self.new ≡ record self.old { net = self.new.net } }
         ensures sent { OnOk result (self.new.net.sent ≡ self.old.net.sent ++ posted_by (AClient client) ((to, message) ∷ [])) }
-        ensures limit { OnOk result (length self.new.net.sent ≤ 1000000) }
+        ensures limit { OnOk result (length self.new.net.sent ≤ most_messages) }
         ensures ends { EndsStep result (with_sent (posted_by (AClient client) ((to, message) ∷ [])) (standing_of self.old)) (standing_of self.new) lines.old.items
             (lines.old.items ++ lines_at when (text ∷ traced self.old.trace (message_texts (AClient client) (length self.old.net.sent) ((to, message) ∷ [])))) lines.new.items }
     {
         let mut told = Vec::new(self.alloc);
         tell(&mut told, when, text)?;
         self.send(client, to, message, when, &mut told)?;
-        lines.extend_from_slice(&told)?;
+        lines.append(&mut told)?;
         Ok(())
     }
 }

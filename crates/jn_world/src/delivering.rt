@@ -7,7 +7,7 @@ ghost use Rattle.jn_world.specs.Calm.{StayUp};
 ghost use Rattle.jn_world.specs.Settling.{handed};
 ghost use Rattle.jn_world.specs.Standing.{IsWorld, is_up_at};
 ghost use Rattle.jn_world.specs.Written.{DoesEvent, DoesTasks, IsSentTo, standing_of};
-ghost use Rattle.jn_written.specs.Tasks.{Meets};
+ghost use Rattle.jn_machine.specs.Tasks.{Meets};
 
 use crate::ended::Ended;
 use crate::world::{World, refuse};
@@ -98,7 +98,7 @@ impl<S: Powered + Drop> World<S> {
         Ok(())
     }
 
-    /// A server that is up takes a message, with the room for what it sends and tells.
+    /// A server that is up takes a message, with the room for what it sends and reports.
     fn take_at_up(
         &mut self,
         out: Out,

@@ -3,17 +3,18 @@ ghost use Rattle.std.specs.Prelude.{◌≡◌, ◌<◌, ◌≤◌, ◌∷◌, []
 ghost use Rattle.jn_report.specs.declared.line.When.TheVariants.{End};
 ghost use Rattle.jn_rows.specs.Client.{over};
 ghost use Rattle.jn_schedule.specs.declared.Event.TheVariants.{Crash};
-ghost use Rattle.jn_stands.specs.Ending.{AreDisarmed, dismissed};
-ghost use Rattle.jn_stands.specs.Stands.{Stands};
+ghost use Rattle.jn_world_refines.specs.Ending.{AreDisarmed, dismissed};
+ghost use Rattle.jn_world_refines.specs.Stands.{Stands};
 ghost use Rattle.jn_world.specs.Calm.{AreDown, AreQuiet, AreUpAndCalm, IsTakenDown};
 ghost use Rattle.jn_world.specs.Closing.{AreIdle, AreTheirs, going_down, closing_clients, showing_all, scrubbing_all, turning, thanking, telling, finishing};
 ghost use Rattle.jn_world.specs.Images.{AreClean, HoldImages};
 ghost use Rattle.jn_world.specs.Standing.{AreClosed, IsWorld};
 ghost use Rattle.jn_world.specs.Written.{Closes, DoesEvent, DoesTasks, standing_of};
-ghost use Rattle.jn_written.specs.Chances.{Setup};
-ghost use Rattle.jn_written.specs.Events.{ending};
-ghost use Rattle.jn_written.specs.Runs.{Moment};
-ghost use Rattle.jn_written.specs.Tasks.{CountsCommits, InSchedule};
+ghost use Rattle.jn_machine.specs.Chances.{Setup};
+ghost use Rattle.jn_machine.specs.Events.{ending};
+ghost use Rattle.jn_machine.specs.Runs.{Moment};
+ghost use Rattle.jn_machine.specs.Tasks.{CountsCommits, InSchedule};
+ghost use Rattle.jn_machine.specs.Steps.{most_messages};
 
 use crate::ended::Ended;
 use crate::world::{CLIENTS, World};
@@ -96,7 +97,7 @@ impl<S: Powered + Drop> World<S> {
 
     /// The last line counts the commits.
     fn tell_count(&self, lines: &mut Vec<Line>) -> Result<(), Ended>
-        requires few { length self.now.net.sent ≤ 1000000 }
+        requires few { length self.now.net.sent ≤ most_messages }
         ensures does { DoesTasks (λ s. S.view s) (λ s. S.device s) (λ x. CountsCommits ∷ []) End (standing_of self.now) result (standing_of self.now) lines.old.items lines.new.items }
     {
         tell(lines, When::End, Text::Commits(self.named.count()))?;

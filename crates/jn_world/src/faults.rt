@@ -6,7 +6,7 @@ ghost use Rattle.jn_schedule.specs.declared.Event.TheVariants as events;
 ghost use Rattle.jn_world.specs.Meeting.{IsBefalling};
 ghost use Rattle.jn_world.specs.Standing.{IsWorld};
 ghost use Rattle.jn_world.specs.Written.{DoesTasks, standing_of};
-ghost use Rattle.jn_written.specs.Tasks.{Meets};
+ghost use Rattle.jn_machine.specs.Tasks.{Meets};
 
 use crate::ended::Ended;
 use crate::world::{World, refuse};
@@ -52,7 +52,7 @@ impl<S: Powered + Drop> World<S> {
         }
     }
 
-    /// A page goes bad, or that is told as outside of what is allowed.
+    /// A page goes bad, or that is reported as outside of what is allowed.
     fn decay(
         &mut self,
         server: ServerNo,

@@ -1,12 +1,12 @@
-//! What a step sends and tells.
+//! What a step sends and reports.
 ghost use Rattle.std.specs.Prelude.{◌≡◌, ◌≤◌, ◌++◌, ◌∷◌, [], false, length, OnOk, Some};
 ghost use Rattle.jn_base.specs.declared.names.Party.TheVariants.{Server};
 ghost use Rattle.jn_system.specs.WholeSystem.Servers.{line_of, lines_of};
 ghost use Rattle.jn_system.specs.WholeSystem.World.{commits_in};
-ghost use Rattle.jn_stands.specs.Stands.{posted_by, texts_sent, with_answer, with_sent};
+ghost use Rattle.jn_world_refines.specs.Stands.{posted_by, texts_sent, with_answer, with_sent};
 ghost use Rattle.jn_world.specs.Standing.{messages_in};
 ghost use Rattle.jn_world.specs.Written.{EndsPart, EndsStep, standing_of};
-ghost use Rattle.jn_written.specs.Steps.{lines_at, message_texts, traced};
+ghost use Rattle.jn_machine.specs.Steps.{lines_at, message_texts, traced, most_messages};
 
 use crate::ended::Ended;
 use crate::world::World;
@@ -18,7 +18,7 @@ use jn_store::Powered;
 use std::alloc::AllocError;
 
 impl<S: Powered + Drop> World<S> {
-    /// A step of a server ends: unless it was stopped its notes are told and its messages sent. Its lines are added.
+    /// A step of a server ends: unless it was stopped its notes are reported and its messages sent. Its lines are added.
     pub(crate) fn end_step(
         &mut self,
         server: ServerNo,
@@ -28,10 +28,10 @@ impl<S: Powered + Drop> World<S> {
         told: Vec<Line>,
         lines: &mut Vec<Line>,
     ) -> Result<(), Ended>
-        requires few { length self.old.net.sent ≤ 1000000 }
+        requires few { length self.old.net.sent ≤ most_messages }
         ensures others { self.new ≡ record self.old { net = self.new.net; named = self.new.named } }
         ensures sent { OnOk result (self.new.net.sent ≡ self.old.net.sent ++ posted_by (Server server) (messages_in answer)) }
-        ensures limit { OnOk result (length self.new.net.sent ≤ 1000000) }
+        ensures limit { OnOk result (length self.new.net.sent ≤ most_messages) }
         ensures ends { EndsStep result (with_answer server message answer (standing_of self.old)) (standing_of self.new) lines.old.items
             (lines.old.items ++ told.items ++ lines_at when (texts_sent server message self.old.trace (length self.old.net.sent) answer)) lines.new.items }
     {
@@ -42,11 +42,11 @@ impl<S: Powered + Drop> World<S> {
         if told.is_empty() {
             return Ok(());
         }
-        lines.extend_from_slice(&told)?;
+        lines.append(&mut told)?;
         Ok(())
     }
 
-    /// The notes of a server's step are told, and its messages sent.
+    /// The notes of a server's step are reported, and its messages sent.
     fn send_out(
         &mut self,
         server: ServerNo,
@@ -55,10 +55,10 @@ impl<S: Powered + Drop> World<S> {
         when: When,
         told: &mut Vec<Line>,
     ) -> Result<(), Ended>
-        requires few { length self.old.net.sent ≤ 1000000 }
+        requires few { length self.old.net.sent ≤ most_messages }
         ensures others { self.new ≡ record self.old { net = self.new.net; named = self.new.named } }
         ensures sent { OnOk result (self.new.net.sent ≡ self.old.net.sent ++ posted_by (Server server) out.messages) }
-        ensures limit { OnOk result (length self.new.net.sent ≤ 1000000) }
+        ensures limit { OnOk result (length self.new.net.sent ≤ most_messages) }
         ensures ends { EndsPart result (with_answer server message (Some out) (standing_of self.old)) (standing_of self.new)
             (told.old.items ++ lines_at when (texts_sent server message self.old.trace (length self.old.net.sent) (Some out))) told.new.items }
     {
@@ -75,10 +75,10 @@ impl<S: Powered + Drop> World<S> {
         when: When,
         told: &mut Vec<Line>,
     ) -> Result<(), Ended>
-        requires few { length self.old.net.sent ≤ 1000000 }
+        requires few { length self.old.net.sent ≤ most_messages }
         ensures others { self.new ≡ record self.old { net = self.new.net } }
         ensures sent { OnOk result (self.new.net.sent ≡ self.old.net.sent ++ posted_by from messages.items) }
-        ensures limit { OnOk result (length self.new.net.sent ≤ 1000000) }
+        ensures limit { OnOk result (length self.new.net.sent ≤ most_messages) }
         ensures ends { EndsPart result (with_sent (posted_by from messages.items) (standing_of self.old)) (standing_of self.new)
             (told.old.items ++ lines_at when (traced self.old.trace (message_texts from (length self.old.net.sent) messages.items))) told.new.items }
     {
@@ -101,7 +101,7 @@ impl<S: Powered + Drop> World<S> {
     ) -> Result<(), Ended>
         ensures others { self.new ≡ record self.old { net = self.new.net } }
         ensures sent { OnOk result (self.new.net.sent ≡ self.old.net.sent ++ posted_by from ((to, message) ∷ [])) }
-        ensures limit { OnOk result (length self.new.net.sent ≤ 1000000) }
+        ensures limit { OnOk result (length self.new.net.sent ≤ most_messages) }
         ensures ends { EndsStep result (with_sent (posted_by from ((to, message) ∷ [])) (standing_of self.old)) (standing_of self.new) told.old.items
             (told.old.items ++ lines_at when (traced self.old.trace (message_texts from (length self.old.net.sent) ((to, message) ∷ [])))) told.new.items }
     {
@@ -113,7 +113,7 @@ impl<S: Powered + Drop> World<S> {
         Ok(())
     }
 
-    /// Tells the notes of a server's step, in which this message was handed over.
+    /// Reports the notes of a server's step, in which this message was handed over.
     fn tell_notes(
         &mut self,
         server: ServerNo,

@@ -1,16 +1,16 @@
 //! What servers that are up do without a message.
-ghost use Rattle.std.specs.Prelude.{◌≡◌, ◌<◌, ◌∷◌, ◌++◌, [], true, map, vec_len, OnOk};
+ghost use Rattle.std.specs.Prelude.{◌≡◌, ◌<◌, ◌∷◌, ◌++◌, [], true, map, vec_len, OnOk, IfOk};
 ghost use Rattle.jn_place.specs.Exact.{items_of};
 ghost use Rattle.jn_schedule.specs.declared.Event.TheVariants as events;
-ghost use Rattle.jn_stands.specs.Showing.{text_shown, texts_shown};
+ghost use Rattle.jn_world_refines.specs.Showing.{text_shown, texts_shown};
 ghost use Rattle.jn_world.specs.Calm.{AreQuiet, AreUpAndCalm, IsTakenDown, StayUp};
 ghost use Rattle.jn_world.specs.Closing.{AreIdle};
 ghost use Rattle.jn_world.specs.Images.{AreClean, IsScrubbedAt, StayClean};
 ghost use Rattle.jn_world.specs.Settling.{handed, steps_of_all};
 ghost use Rattle.jn_world.specs.Standing.{IsWorld, is_up_at, works_at};
 ghost use Rattle.jn_world.specs.Written.{DoesEvent, DoesTasks, standing_of};
-ghost use Rattle.jn_written.specs.Steps.{lines_at};
-ghost use Rattle.jn_written.specs.Tasks.{ClosesClients, Meets};
+ghost use Rattle.jn_machine.specs.Steps.{lines_at};
+ghost use Rattle.jn_machine.specs.Tasks.{ClosesClients, Meets};
 
 use crate::ended::Ended;
 use crate::world::{World, refuse};
@@ -23,14 +23,14 @@ use jn_store::Powered;
 use std::alloc::AllocError;
 
 /// A line of a show.
-fn text_of(server: ServerNo, shown: Shown) -> Text
-    ensures { result ≡ text_shown server shown }
+fn text_of(server: ServerNo, shown: &Shown) -> Result<Text, AllocError>
+    ensures { IfOk result (λ text. text ≡ text_shown server shown.now) }
 {
-    match shown {
-        Shown::File(file) => Text::File(server, file),
-        Shown::Locked(unit, tid) => Text::Locked(server, unit, tid),
-        Shown::Page(file, block, bytes) => Text::Page(server, file, block, bytes),
-    }
+    Ok(match shown {
+        Shown::File(file) => Text::File(server, *file),
+        Shown::Locked(unit, tid) => Text::Locked(server, *unit, *tid),
+        Shown::Page(file, block, content) => Text::Page(server, *file, *block, content.copy()?),
+    })
 }
 
 /// The lines of a show.
@@ -43,7 +43,8 @@ fn tell_shown(
     ensures { OnOk result (lines.new.items ≡ lines.old.items ++ lines_at when (map (text_shown server) list.now)) }
 {
     for shown in list {
-        tell(lines, when, text_of(server, *shown))?;
+        let text = text_of(server, shown)?;
+        tell(lines, when, text)?;
     }
     Ok(())
 }
@@ -103,7 +104,7 @@ impl<S: Powered + Drop> World<S> {
         self.step_into(out, server, when, lines)
     }
 
-    /// The same, with the room for what the step sends and tells.
+    /// The same, with the room for what the step sends and reports.
     fn step_into(
         &mut self,
         out: Out,

@@ -5,8 +5,8 @@ ghost use Rattle.jn_world.specs.Calm.{StayUp};
 ghost use Rattle.jn_world.specs.Settling.{IsAtRest, RestsUnlessWaiting, TellsBusy, TellsFirst, asking_clients, asking_servers, handed, steps_of_all};
 ghost use Rattle.jn_world.specs.Standing.{IsWorld};
 ghost use Rattle.jn_world.specs.Written.{DoesEvent, DoesTasks, KeepsOn, TakesTurn, standing_of};
-ghost use Rattle.jn_written.specs.Events.{asking, settling};
-ghost use Rattle.jn_written.specs.Tasks.{Rests};
+ghost use Rattle.jn_machine.specs.Events.{asking, settling};
+ghost use Rattle.jn_machine.specs.Tasks.{Rests};
 
 use crate::ended::Ended;
 use crate::world::{CLIENTS, World};

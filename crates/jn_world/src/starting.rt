@@ -9,9 +9,9 @@ ghost use Rattle.jn_world.specs.Opening.{Opens};
 ghost use Rattle.jn_world.specs.Standing.{AreStores, IsWorld, is_up_at};
 ghost use Rattle.jn_world.specs.Written.{DoesEvent, DoesTasks, Starts, standing_of};
 ghost use Rattle.jn_world.specs.declared.ended.Ended.TheVariants.{Memory};
-ghost use Rattle.jn_written.specs.Events.{coming_up};
-ghost use Rattle.jn_written.specs.Steps.{lines_at};
-ghost use Rattle.jn_written.specs.Tasks.{ComesUp, Meets};
+ghost use Rattle.jn_machine.specs.Events.{coming_up};
+ghost use Rattle.jn_machine.specs.Steps.{lines_at};
+ghost use Rattle.jn_machine.specs.Tasks.{ComesUp, Meets};
 
 use crate::clients::new_clients;
 use crate::ended::Ended;
@@ -107,7 +107,7 @@ impl<S: Powered + Drop> World<S> {
         let mut told = Vec::new(self.alloc);
         let came = self.bring_up(server, when, &mut told)?;
         tell_refusal(came, when, &mut told)?;
-        lines.extend_from_slice(&told)?;
+        lines.append(&mut told)?;
         Ok(())
     }
 
@@ -148,7 +148,7 @@ impl<S: Powered + Drop> World<S> {
         if !came {
             return Err(Ended::Epoch(server));
         }
-        lines.extend_from_slice(&told)?;
+        lines.append(&mut told)?;
         Ok(())
     }
 
@@ -175,7 +175,7 @@ impl<S: Powered + Drop> World<S> {
         Ok(came)
     }
 
-    /// Tells how a restart ended. False exactly where the server has no epoch left.
+    /// Reports how a restart ended. False exactly where the server has no epoch left.
     fn tell_restarted(
         &mut self,
         server: ServerNo,

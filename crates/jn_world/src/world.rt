@@ -4,13 +4,13 @@ ghost use Rattle.jn_report.specs.declared.line.Text.TheVariants.{RefusedEvent};
 ghost use Rattle.jn_report.specs.declared.line.When.TheVariants.{Event as AtEvent};
 ghost use Rattle.jn_schedule.specs.Ranges.{EventInRange};
 ghost use Rattle.jn_world.specs.declared.ended.Ended.TheVariants.{Memory};
-ghost use Rattle.jn_stands.specs.Stands.{is_client_number};
+ghost use Rattle.jn_world_refines.specs.Stands.{is_client_number};
 ghost use Rattle.jn_world.specs.Standing.{IsWorld, is_up_at};
 ghost use Rattle.jn_world.specs.Meeting.{IsAtUp};
 ghost use Rattle.jn_world.specs.Settling.{IsAtRest};
 ghost use Rattle.jn_world.specs.Written.{DoesScheduled, DoesTasks, standing_of};
-ghost use Rattle.jn_written.specs.Events.{settling};
-ghost use Rattle.jn_written.specs.Tasks.{Meets};
+ghost use Rattle.jn_machine.specs.Events.{settling};
+ghost use Rattle.jn_machine.specs.Tasks.{Meets};
 
 use crate::ended::Ended;
 use crate::named::Named;

@@ -1,5 +1,6 @@
 -- States but for the steps so far, which nothing looks at.
-use Rattle.jn_wrong.proofs.Common.{◌≡◌, ℕ, Bool, true, false, List, [], ◌∷◌, ◌++◌, append-nil, length, drop, refl, sym, ◌∙◌, ap, subst, drop-append_seam, Line, Sent, World, ◌||◌, if◌then◌else◌, nat_lt, Party, Text, Step, Course, go, go_on, newly_sent, Setup, Chance, Task, Begins, Meets, Acts, Rests, ComesUp, Dismisses, GoesDown, ClosesClients, CountsCommits, State, when_of, begun, Deed, deed_of, outside_texts, own_texts, message_texts, traced, lines_at, most_messages, is_too_much, come_to, cut_short, made, done, still}
+use Rattle.jn_wrong.proofs.Common.{◌≡◌, ℕ, Bool, true, false, List, [], ◌∷◌, ◌++◌, append-nil, length, drop, refl, sym, ◌∙◌, ap, subst, drop-append_seam, Line, Sent, World, ◌||◌, if◌then◌else◌, nat_lt, Party, Text, Step, Course, go, go_on, newly_sent, Setup, Chance, Task, Begins, Meets, Acts, Rests, ComesUp, Dismisses, GoesDown, ClosesClients, CountsCommits, State, when_of, begun, Deed, deed_of, outside_texts, own_texts, message_texts, traced, lines_at, most_messages, is_too_much, come_to, cut_short, made, done}
+use Rattle.jn_wrong.proofs.StillRuns.{still}
 
 abbrev pub bare_course : Course → Course
 bare_course c = record c { steps = [] }
@@ -46,7 +47,7 @@ done-bare x h (GoesDown q) s = made-bare x h (deed_of x h (GoesDown q) s) (begun
 done-bare x h (ClosesClients q) s = made-bare x h (deed_of x h (ClosesClients q) s) (begun (ClosesClients q) s)
 done-bare x h CountsCommits s = made-bare x h (deed_of x h CountsCommits s) (begun CountsCommits s)
 
--- other steps, which lead to the same world, with no fault told
+-- other steps, which lead to the same world, with no fault reported
 pub made-same : (x : Setup) (h : Chance) (deed : Deed) (steps : List Step) (s : State) → outside_texts deed.device h.told ≡ [] → outside_texts deed.device [] ≡ []
     → bare_course (go_on deed.steps s.course) ≡ bare_course (go_on steps s.course) → bare (made x h deed s) ≡ bare (made x still (record deed { steps = steps }) s)
 made-same x h deed steps s silent quiet same = bare-made x h deed s

@@ -1,5 +1,6 @@
--- What runs tell, computed: of one server and of two.
-use Rattle.jn_wrong.proofs.Common.{◌≡◌, ℕ, Bool, true, false, List, [], ◌∷◌, None, refl, ServerNo, no_files, Counts, Event, Line, Setup, State, next_task, before, begins, begun_report, traced_report, two_begin, two_report, opens_other, opened_report, settles_twice, settled_report, reads_and_aborts, read_report, shows_unmade, shown_report, begins_and_aborts, aborted_report, IsOnly, goes}
+-- What runs report, computed: of one server and of two.
+use Rattle.jn_wrong.proofs.Common.{◌≡◌, ℕ, Bool, true, false, List, [], ◌∷◌, None, refl, ServerNo, no_files, Counts, Event, Line, Setup, State, next_task, before, begins, begun_report, traced_report, two_begin, two_report, opens_other, opened_report, settles_twice, settled_report, reads_and_aborts, read_report, shows_unmade, shown_report, begins_and_aborts, aborted_report, IsOnly}
+use Rattle.jn_wrong.proofs.StillRuns.{goes}
 use Rattle.jn_locks.specs.Locks as locks
 use Rattle.jn_wrong.proofs.Exact.{new_epochs, setup_of, IsRunOf, only}
 use Rattle.jn_wrong.proofs.Computed.{Pieces, total, pieces-so}

@@ -107,7 +107,7 @@ data Nears (n first : ℕ) (d : DeviceState) : Type 0 where
 unstruck : (t : DeviceState) (left : ℕ) → t.power ≡ true → t.waiting ≡ (record { after = left; kind = StopBefore }) ∷ [] → nat_lt left 2 ≡ false → strike t ≡ None
 unstruck t left lit is e = ap (λ (b : Bool). if b then due t.waiting else None) lit ∙ ap due is ∙ ap (λ (b : Bool). if b then Some StopBefore else None) e
 
--- it waits on, and nothing was told
+-- it waits on, and nothing was reported
 pub record StillFar (d : DeviceState) : Type 0 where
   pub power : d.power ≡ true
   pub told : d.told ≡ []

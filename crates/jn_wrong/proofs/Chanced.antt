@@ -1,5 +1,6 @@
 -- A restart, a show and a settle where nothing strikes: what is found and what is free doesn't matter.
-use Rattle.jn_wrong.proofs.Common.{◌≡◌, ℕ, Bool, true, false, List, [], ◌∷◌, Option, Some, None, is_some, refl, sym, ◌∙◌, ap, subst, if◌then◌else◌, nat_eq, drop, ServerNo, FileNo, Tid, WorkId, File, file_eq, tid_eq, work_eq, file_tells, tid_tells, work_tells, Text, StableState, Pick, work_before, World, Memory, Printed, ArePrints, print_files, file_before, Step, Restart, tid_before, after, run, IsRun, restart, restart_with, prints_of, go_on, course_to, Setup, Chance, prints_found, works_found, tids_found, Meets, Acts, ComesUp, State, begun, Deed, Reads, last_epoch, stopped_idle, shown, showing, pick_read, recovering, recovered, given_up, is_used_up, brought_up, Devices, IsLookedOver, IsRecovery, Alone, Befalls, EventRefusal, NoSuchServer, ServerDown, unless, met, deed_of, made, IsQuiet, Raised, called-calm, recovered-calm, quiet-alone, quiet-called, restarted-up, still, IsBlank, PrintsNothing, no-faults, DeviceState, plain, Server}
+use Rattle.jn_wrong.proofs.Common.{◌≡◌, Bool, true, false, List, [], ◌∷◌, Option, Some, None, is_some, refl, sym, ◌∙◌, ap, subst, if◌then◌else◌, nat_eq, drop, ServerNo, FileNo, Tid, WorkId, File, file_eq, tid_eq, work_eq, file_tells, tid_tells, work_tells, Text, StableState, Pick, work_before, World, Memory, Printed, ArePrints, print_files, file_before, Step, Restart, tid_before, after, run, IsRun, restart, restart_with, prints_of, go_on, course_to, Setup, Chance, prints_found, works_found, tids_found, Meets, Acts, ComesUp, State, begun, Deed, Reads, last_epoch, stopped_idle, shown, showing, pick_read, recovering, recovered, given_up, is_used_up, brought_up, Devices, IsLookedOver, IsRecovery, Alone, Befalls, EventRefusal, NoSuchServer, ServerDown, unless, met, deed_of, made, IsQuiet, Raised, called-calm, recovered-calm, quiet-alone, quiet-called, restarted-up, no-faults, DeviceState, plain, Server, Left}
+use Rattle.jn_wrong.proofs.StillRuns.{still, IsBlank, PrintsNothing}
 use Rattle.jn_schedule.specs.declared.Event.TheVariants as events
 use Rattle.jn_wrong.proofs.Bare.{bare_course, bare, made-same}
 use Rattle.jn_wrong.proofs.Doing.{Follows, below, none-named, itself}
@@ -36,12 +37,12 @@ module _ (x : Setup) (h : Chance) (s : State) (q : ServerNo) (is : PrintsNothing
   prints-none m list up are = are.printed
       ∙ ap (λ (fs : List FileNo). print_files (prints_of q here m) are.blocks fs) (none-named file_eq file_before (λ f. prints_of q here m (File f)) are.files are.are_files same-file (λ f. prints m up f))
 
-  -- with no stop and no fault told there is nothing to tell
+  -- with no stop and no fault reported there is nothing to report
   pub looks-same : (d e : DeviceState) → h.stop ≡ None → h.told ≡ [] → IsLookedOver (x.counts q) h here q d e
       → bare (made x h (showing h q) begun_here) ≡ bare (made x still (showing still q) begun_here)
   looks-same d e stop untold looked = ap (λ (texts : List Text). bare (made x h (asked texts) begun_here))
       (ap (shown q (prints_found h.found)) stop ∙ ap (λ (list : List Printed). shown q list None) (prints-none looked.memory (prints_found h.found) looked.up (looked.prints stop)))
-      ∙ made-same x h (asked []) [] begun_here (no-faults q h.told untold) refl (ap (λ (o : Option (Pick → ℕ)). bare_course (go_on (stopped_idle q o) s.course)) stop)
+      ∙ made-same x h (asked []) [] begun_here (no-faults q h.told untold) refl (ap (λ (o : Option (Pick → Left)). bare_course (go_on (stopped_idle q o) s.course)) stop)
 
   pub is-met : (g : Chance) → deed_of x g (Meets (events.Show q)) s ≡ showing g q
   is-met g = ap (λ (o : Option EventRefusal). met x g (events.Show q) here o) (ap (λ (b : Bool). unless b NoSuchServer (unless (is_some (here.memory q)) ServerDown None)) is.below
@@ -61,7 +62,7 @@ module _ (x : Setup) (h : Chance) (s : State) (ds es : Devices) (quiet : IsQuiet
     pub not-used : (g : Chance) → is_used_up g q w ≡ false
     not-used g = by g.stop
       where
-        by : (o : Option (Pick → ℕ)) → (if is_some o then false else nat_eq (w.found q (pick_read g)).epoch last_epoch) ≡ false
+        by : (o : Option (Pick → Left)) → (if is_some o then false else nat_eq (w.found q (pick_read g)).epoch last_epoch) ≡ false
         by None = ap (λ (y : StableState). nat_eq y.epoch last_epoch) (is.found (pick_read g)) ∙ is.not_last
         by (Some made) = refl
 
@@ -93,7 +94,7 @@ module _ (x : Setup) (h : Chance) (s : State) (ds es : Devices) (quiet : IsQuiet
                 read = pick_read h
 
                 steps : recovering h q h.stop ≡ Restarts (pick_read h) (works_found h.found) (tids_found h.found) ∷ []
-                steps = ap (λ (o : Option (Pick → ℕ)). recovering h q o) r.stop
+                steps = ap (λ (o : Option (Pick → Left)). recovering h q o) r.stop
 
                 names : IsRun (Restarts (pick_read h) (works_found h.found) (tids_found h.found) ∷ []) w
                 names = subst (λ (ss : List Step). IsRun ss w) steps b.steps
@@ -130,7 +131,7 @@ module _ (x : Setup) (h : Chance) (s : State) (ds es : Devices) (quiet : IsQuiet
         by : Alone q (IsLookedOver (x.counts q) h w q) ds es → Follows x h (Acts (events.Show q)) s es
         by a = let calm = called-calm _ h (ds q) (es q) a.its.called (quiet.power q (below q.0 x.servers is.below) (ap is_some is.up)) (quiet.told q (below q.0 x.servers is.below)) (quiet.waiting q (below q.0 x.servers is.below)) in record {
           same = looks-same x h s q is (ds q) (es q) calm.stop calm.told a.its;
-          quiet = subst (λ (o : Option (Pick → ℕ)). IsQuiet x (go_on (stopped_idle q o) s.course).world es) (sym calm.stop) (quiet-called x w w ds es quiet h q (λ p z. z) a.others calm);
+          quiet = subst (λ (o : Option (Pick → Left)). IsQuiet x (go_on (stopped_idle q o) s.course).world es) (sym calm.stop) (quiet-called x w w ds es quiet h q (λ p z. z) a.others calm);
         }
 
     pub meets : Befalls x h (deed_of x h (Meets (events.Show q)) s) w ds es → Follows x h (Meets (events.Show q)) s es

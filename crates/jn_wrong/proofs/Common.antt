@@ -9,20 +9,20 @@ pub use Rattle.jn_base.specs.declared.names.Party.{Party}
 pub use Rattle.jn_report.specs.declared.line.Text.{Text}
 pub use Rattle.jn_system.specs.WholeSystem.Steps.{Step, Restart, tid_before, after, run, IsRun, restart, restart_with, NextEvent, Tell, Again, Nudge, Crash, CloseClients, AreNames, commanded, crash, Deliver, at_memory, handed, handing, StopDelivery, are_rising, Work as Works, working, sent_now}
 pub use Rattle.jn_system.specs.WholeSystem.Course.{Course, go, go_on, newly_sent, course_to, without_number, still_waiting, numbered}
-pub use Rattle.jn_written.specs.Chances.{Setup, Chance, prints_found, works_found, tids_found, allowed, none_free, Allows}
-pub use Rattle.jn_written.specs.Tasks.{Task, Begins, Meets, Acts, Rests, ComesUp, Dismisses, GoesDown, ClosesClients, CountsCommits, State, when_of, begun, next_task, AtEnd, InSchedule, Stage, CutShort, next_at, when_at}
-pub use Rattle.jn_written.specs.Deeds.{Deed, Reads, last_epoch, stopped_idle, shown, showing, pick_read, recovering, recovered, given_up, is_used_up, brought_up, plain, served, crashed_at, scrubbed, Use, uses, Arms, Decays, Revives, room, no_room, delivered, delivered_at, nothing, is_busy, Recovers, restarted, Cleans, PowersOff, Nothing, Calls, Disarms, worked, working_steps, is_busy_with, recovers}
-pub use Rattle.jn_written.specs.Events.{deed_of, met, acted, ending, told_unless, first_busy, servers_of, next_event, resting, next_in, asking, settling}
-pub use Rattle.jn_written.specs.Steps.{outside_texts, own_texts, message_texts, traced, lines_at, most_messages, is_too_much, come_to, cut_short, made, done, next, next_by, texts_of}
-pub use Rattle.jn_wrong.specs.Still.{still, IsOnly, goes, IsBlank, PrintsNothing, does_so, DoesSo, DoesNext, GoesSo, IsNoneOfNew, blank, AreNew, IsNoneOf, IsOnlyOf, rests_so, is_fixed, is_sent_so}
+pub use Rattle.jn_machine.specs.Chances.{Setup, Chance, prints_found, works_found, tids_found, allowed, none_free, Allows}
+pub use Rattle.jn_machine.specs.Tasks.{Task, Begins, Meets, Acts, Rests, ComesUp, Dismisses, GoesDown, ClosesClients, CountsCommits, State, when_of, begun, next_task, AtEnd, InSchedule, Stage, CutShort, next_at, when_at}
+pub use Rattle.jn_machine.specs.Deeds.{Deed, Reads, last_epoch, stopped_idle, shown, showing, pick_read, recovering, recovered, given_up, is_used_up, brought_up, plain, served, crashed_at, scrubbed, Use, uses, Arms, Decays, Revives, room, no_room, delivered, delivered_at, nothing, is_busy, Recovers, restarted, Cleans, PowersOff, Nothing, Calls, Disarms, worked, working_steps, is_busy_with, recovers}
+pub use Rattle.jn_machine.specs.Events.{deed_of, met, acted, ending, told_unless, first_busy, servers_of, next_event, resting, next_in, asking, settling}
+pub use Rattle.jn_machine.specs.Steps.{outside_texts, own_texts, message_texts, traced, lines_at, most_messages, is_too_much, come_to, cut_short, made, done, next, next_by, texts_of}
 pub use Rattle.jn_base.specs.declared.names.ServerNo.{ServerNo}
 pub use Rattle.jn_order.specs.Files.{no_files, AllFiles, Files, change, effect, answer_to, files_after, is_did}
 unfoldable pub use Rattle.jn_order.specs.Files.{zeros}
 pub use Rattle.jn_records.specs.StablePages.{Counts, slot_place, head_place, root_by, page_count}
 pub use Rattle.jn_schedule.specs.declared.Event.{Event}
-pub use Rattle.jn_written.specs.Whole.{before, AreImages, IsWhole, closed_world, IsFresh as IsFreshDevice, IsWritten}
+pub use Rattle.jn_machine.specs.Whole.{before, AreImages, IsWhole, closed_world, IsFresh as IsFreshDevice, IsWritten}
 pub use Rattle.jn_wrong.specs.Wrong.{begins, begun_report, makes_one, full_of, IsNone, makes_and_reads, opens_and_loses, answered_too_soon, stopped_by_nothing, fault_of_nothing, lost_without_opening, file_left_out, file_locked, page_unwritten, other_bytes, named_again}
 pub use Rattle.jn_wrong.specs.Reports.{traced_report, two_begin, two_report, opens_other, opened_report, settles_twice, settled_report, reads_and_aborts, read_report, shows_unmade, shown_report, begins_and_aborts, aborted_report}
+pub use Rattle.jn_wrong.specs.NewImages.{IsOnly, IsNoneOfNew, blank, AreNew, IsNoneOf, IsOnlyOf}
 pub use Rattle.std.proofs.lemmas.Bool.Decides.{nat_tests}
 pub use Rattle.jn_base.specs.declared.device.FaultKind.{FaultKind}
 pub use Rattle.jn_base.specs.declared.device.FaultKind.TheVariants.{StopBefore, StopAfter, Decay, Revive, Null, Bad}
@@ -36,32 +36,32 @@ pub use Rattle.jn_base.specs.declared.names.WorkId.{WorkId}
 pub use Rattle.jn_base.specs.declared.names.LockUnit.TheVariants.{File, Block}
 pub use Rattle.jn_base.specs.Names.{file_eq, tid_eq, work_eq, server_eq, client_eq, block_eq, unit_eq}
 pub use Rattle.jn_base.proofs.Tells.{file_tells, tid_tells, work_tells, server_tells, block_tells}
-pub use Rattle.jn_rows.specs.Stable.{StableState, Pick, FlagState, Prepared, Change, AddReady, MarkGoing, CarryOut, RemoveWork, AddFlag, DropFlag, made_by, made_all, stable, is_going}
+pub use Rattle.jn_rows.specs.Stable.{StableState, Pick, Left, FlagState, Prepared, Change, AddReady, MarkGoing, CarryOut, RemoveWork, AddFlag, DropFlag, made_by, made_all, left_of, stable, whole_only, is_going}
 pub use Rattle.jn_locks.specs.Locks.{work_before, unit_before}
 pub use Rattle.jn_system.specs.WholeSystem.Printing.{Printed, ArePrints, print_files, file_before, FileThere, PageStored, UnitLocked, print_unit, print_one, print_blocks, print_file, block_before}
 pub use Rattle.jn_system.specs.WholeSystem.PrintedLines.{prints_of, text_printed}
-pub use Rattle.jn_written.specs.Devices.{Devices, IsLookedOver, IsRecovery, Alone, Befalls, IsServed, IsScrubbed, IsCalled, IsUsed, pages_of, rubbish_on}
+pub use Rattle.jn_machine.specs.Devices.{Devices, IsLookedOver, IsRecovery, Alone, Befalls, IsServed, IsScrubbed, IsCalled, IsUsed, pages_of, rubbish_on}
 pub use Rattle.jn_report.specs.declared.line.EventRefusal.{EventRefusal}
 pub use Rattle.jn_report.specs.declared.line.EventRefusal.TheVariants.{NoSuchServer, ServerDown, TooManyArmed, EpochsUsedUp}
-pub use Rattle.jn_written.specs.Refusals.{unless, refusal_of}
+pub use Rattle.jn_machine.specs.Refusals.{unless, refusal_of}
 pub use Rattle.jn_headline.proofs.Quiet.{IsQuiet, Raised, called-calm, recovered-calm, quiet-alone, quiet-called, restarted-up, Calm, quiet-same, nudged-up, closed-up, crashed-up, delivered-up}
 pub use Rattle.jn_headline.proofs.Tasks.{no-faults}
 pub use Rattle.jn_base.specs.declared.names.Party.TheVariants.{Server, Client}
 pub use Rattle.std.specs.List.{list_any, list_all, AllByRecursion}
 pub use Rattle.jn_report.specs.declared.line.When.{When}
 pub use Rattle.jn_report.specs.declared.line.When.TheVariants.{Event as AtEvent, End}
-pub use Rattle.jn_written.specs.Examples.{calm, setup, one_write, calmly, at_step, stopped, report, line}
-unfoldable pub use Rattle.jn_written.specs.Examples.{block_of}
+pub use Rattle.jn_machine.specs.Examples.{calm, setup, one_write, calmly, at_step, stopped, report, line}
+unfoldable pub use Rattle.jn_machine.specs.Examples.{block_of}
 pub use Rattle.jn_base.specs.declared.names.ClientNo.{ClientNo}
 pub use Rattle.jn_base.specs.declared.op.Command.{Command}
 pub use Rattle.jn_rows.specs.Client.{Commanded, Refuses, Sends, command_row, new_table, over, ClientTable, if_server, if_idle, if_transaction, if_no_transaction, if_open, if_not_open, work_at as open_at, take_row, again_row, sent_again, if_waits, begun_row, opened_row, answer_line, outcome_row, decided_row, is_current}
 pub use Rattle.jn_storage.specs.DeviceCalls.{row_calls, step_calls}
 pub use Rattle.jn_base.specs.declared.device.Outside.{Outside}
-pub use Rattle.jn_written.specs.Runs.{none, more, Moment, Leads, DoesStep, MayLead}
+pub use Rattle.jn_machine.specs.Runs.{none, more, Moment, Leads, DoesStep, MayLead}
 pub use Rattle.jn_store.specs.DeviceCalls.{cleaned_get_calls, put_calls}
 pub use Rattle.jn_system.specs.WholeSystem.ExampleNames.{s0, file, block, c1, tid}
 pub use Rattle.jn_device.specs.Events.{disarmed, powered_off, may_arm, Arms as FaultArmed, Decays as PageDecays, Revives as PageRevives}
-pub use Rattle.jn_found.specs.Pages.{found_on, pool_on, heads_on, record_or_free, head_or_free, listed, pages_by, state_of, record_on, head_on}
+pub use Rattle.jn_page_state.specs.Pages.{found_on, pool_on, heads_on, record_or_free, head_or_free, listed, pages_by, state_of, record_on, head_on}
 pub use Rattle.jn_store.specs.Pairs.{pairs_view}
 pub use Rattle.jn_device.specs.declared.Armed.{Armed}
 pub use Rattle.jn_wrong.specs.Faults.{IsOneOfGood, IsOnlyOfGood, arms_far, quiet_report, decays_with_power, forgiven_report, IsNoneOfGood, decays_once, first_decay_told, decays_both, both_report, decays_behind_scrub, nothing_mended, nothing_forgiven, decays_behind_restart, restarted_report, left_unmended, arms_two, armed_too_many, show_stopped, AreGood, arms_first, arms_in_order, arms_null, null_told, stop_met, outside_in_order, Computes, IsComputed, stop_passed_by, outside_swapped}
@@ -72,13 +72,14 @@ pub use Rattle.jn_system.proofs.WholeSystem.StepCases.{FoundThen, by_narrowing, 
 pub use Rattle.jn_base.specs.declared.names.LockUnit.{LockUnit}
 pub use Rattle.jn_system_settling.proofs.Settling.Settling.{on-world}
 pub use Rattle.std.proofs.Math.Path.{fun_ext}
-pub use Rattle.jn_written.specs.Kinds.{may_tell, is_of_delivery, is_up, is_down, is_stopped, events_left, is_note, is_answer}
-pub use Rattle.jn_written.proofs.Texts.{More, gone-on, task-texts, Besides}
+pub use Rattle.jn_machine.proofs.Telling.{may_tell, is_of_delivery, weaker, Tells, take-tells, noted, noted-with}
+pub use Rattle.jn_report.specs.Kinds.{is_up, is_down, is_stopped, is_outside, is_note, is_answer, is_print as is_printed}
+pub use Rattle.jn_machine.proofs.Texts.{More, gone-on, task-texts, Besides}
 pub use Rattle.jn_msgs.specs.declared.message.Message.{Message}
 pub use Rattle.jn_records.specs.declared.net_list.Need.{Need}
 pub use Rattle.jn_sets.specs.Pool.{rubbish_count, free_count, is_free, is_rubbish}
 pub use Rattle.jn_server.specs.Standing.{free_on, is_free_head, promised_heads, has_rubbish, is_free_page}
-pub use Rattle.jn_written.specs.Rubbish.{AreLeft, AreAllCounted, CountsAll, left_by_row, left_by_message, left_by_sent, rubbish_records, left_by_changes, left_by_work, left_at_work, left_by_restart, left_by_steps, AreCounted}
+pub use Rattle.jn_machine.specs.Rubbish.{AreLeft, AreAllCounted, CountsAll, left_by_row, left_by_message, left_by_sent, rubbish_records, left_by_changes, left_by_work, left_at_work, left_by_restart, left_by_steps, AreCounted}
 pub use Rattle.jn_wrong.specs.Settles.{HandsOver, ComesToRest}
 pub use Rattle.jn_base.specs.declared.names.Cause.{Cause}
 pub use Rattle.jn_base.specs.declared.names.Resource.{Resource}
@@ -91,23 +92,23 @@ pub use Rattle.jn_base.specs.declared.names.Resource.TheVariants.{Records, Pages
 pub use Rattle.jn_report.specs.declared.line.Text.TheVariants.{Aborted, RefusedEvent}
 pub use Rattle.jn_rows.specs.Worker.{shortage, vote_of, Held, conflict, commit_wants, need_in, prepared_row, drop_row, drop_phase, work_at, WorkerTable, worker_row, worker_step, timeout_row, WorkStorage, worker_again, commit_holder}
 pub use Rattle.jn_rows.specs.declared.worker.Work.{Work}
-pub use Rattle.jn_written.proofs.Ordered.{longer, Longer, begun-lines, events-rise}
-pub use Rattle.jn_written.proofs.Computed.{may-lead, join}
+pub use Rattle.jn_machine.proofs.Ordered.{longer, Longer, begun-lines, events-rise}
+pub use Rattle.jn_machine.proofs.Computed.{may-lead, join}
 pub use Rattle.jn_rows.specs.declared.worker.Phase.{Phase}
 pub use Rattle.jn_rows.specs.declared.worker.Phase.TheVariants.{Active, Prepared as Stored, Broken}
 pub use Rattle.jn_msgs.specs.declared.message.Vote.{Vote}
 pub use Rattle.jn_rows.specs.Coordinator.{abort_row, end_promised, promised, CoordinatorTable, transaction_at, with_stage, without, besides, drops, commits, prepares, committed_to, aborted_to, after_closing, coordinator_row, told_again, coordinator_again, all_thanked, restored_transaction, restored_transactions}
 pub use Rattle.jn_rows.specs.declared.coordinator.Transaction.{Transaction}
 pub use Rattle.jn_wrong.specs.Leaving.{steps_in, IsUpBehind, removes_none}
-pub use Rattle.jn_store.specs.Store.{IsWholePage, Candidate, StorePut, StoreLater, StoreView, IsClean}
-pub use Rattle.jn_wrong.specs.Telling.{MayDecay, AreMended, is_outside, outside_lines, outside_at, TellsOf, TellsRaised, AreToldBy, TellsFaults}
-pub use Rattle.jn_found.specs.Recoverable.{IsRecoverable}
+pub use Rattle.jn_store.specs.Store.{IsWholePage, Candidate, StorePut, StoreLater, IsBlank, StoreView, IsClean}
+pub use Rattle.jn_wrong.specs.Telling.{MayDecay, AreMended, outside_lines, outside_at, TellsOf, TellsRaised, AreToldBy, TellsFaults}
+pub use Rattle.jn_page_state.specs.Recoverable.{IsRecoverable}
 pub use Rattle.jn_records.specs.declared.head.Head.{Head}
 pub use Rattle.jn_records.specs.declared.head.Head.TheVariants.{Free as FreeHead, Used}
 pub use Rattle.jn_records.specs.declared.record.Record.{Record}
 pub use Rattle.jn_records.specs.declared.record.Record.TheVariants.{Free, Intention, Going, Flag}
-pub use Rattle.jn_found.specs.Contents.{heads_name, works_name, has_address, holds_address}
-pub use Rattle.jn_wrong.specs.Showing.{unit_printed, prints_unit, AreThere, PrintsAll, is_printed, printed_lines, Shows}
+pub use Rattle.jn_page_state.specs.Contents.{heads_name, works_name, has_address, holds_address}
+pub use Rattle.jn_wrong.specs.Showing.{unit_printed, prints_unit, AreThere, PrintsAll, printed_lines, Shows}
 pub use Rattle.jn_system.specs.WholeSystem.LockFacts.{LockFacts, ServerFact, UpFact}
 pub use Rattle.jn_wrong.specs.Wanting.{IsShort, WasShort, OfText, OfLines, OfCause}
 pub use Rattle.jn_base.specs.declared.names.Tickets.{Tickets}

@@ -1,5 +1,6 @@
 -- Runs without chances, computed.
-use Rattle.jn_wrong.proofs.Common.{◌≡◌, ℕ, zero, suc, Bool, true, false, List, [], ◌∷◌, Option, Some, None, refl, ◌&&◌, Setup, Task, Begins, Meets, Acts, Rests, ComesUp, Dismisses, GoesDown, ClosesClients, CountsCommits, State, next_task, next, still, goes, does_so, DoesSo, DoesNext, GoesSo}
+use Rattle.jn_wrong.proofs.Common.{◌≡◌, ℕ, zero, suc, Bool, true, false, List, [], ◌∷◌, Option, Some, None, refl, ◌&&◌, Setup, Task, Begins, Meets, Acts, Rests, ComesUp, Dismisses, GoesDown, ClosesClients, CountsCommits, State, next_task, next}
+use Rattle.jn_wrong.proofs.StillRuns.{still, goes, does_so, DoesSo, DoesNext, GoesSo}
 use Rattle.jn_schedule.specs.declared.Event.TheVariants as events
 use Rattle.jn_wrong.proofs.Resting.{never}
 

@@ -1,5 +1,6 @@
 -- What each task does where nothing strikes: the same as without chances.
-use Rattle.jn_wrong.proofs.Common.{◌≡◌, ◌≢◌, ◌⊎◌, inl, inr, ℕ, ◌<◌, Bool, true, false, List, [], ◌∷◌, Option, Some, None, is_some, refl, sym, ◌∙◌, ap, subst, arith, nat_tests, ◌||◌, if◌then◌else◌, nat_lt, list_any, ServerNo, ClientNo, Command, server_eq, server_tells, DeviceState, Event, Pick, Commanded, Refuses, Sends, command_row, World, Memory, NextEvent, Tell, Again, Nudge, Crash, CloseClients, AreNames, after, commanded, crash, go_on, Setup, Chance, Task, Begins, Meets, Acts, Dismisses, GoesDown, ClosesClients, CountsCommits, State, begun, served, stopped_idle, crashed_at, Devices, IsServed, Alone, Befalls, deed_of, made, done, IsQuiet, Calm, called-calm, quiet-same, quiet-alone, quiet-called, nudged-up, closed-up, crashed-up, still, no-faults, row_calls, IsScrubbed, scrubbed}
+use Rattle.jn_wrong.proofs.Common.{◌≡◌, ◌≢◌, ◌⊎◌, inl, inr, ℕ, ◌<◌, Bool, true, false, List, [], ◌∷◌, Option, Some, None, is_some, refl, sym, ◌∙◌, ap, subst, arith, nat_tests, ◌||◌, if◌then◌else◌, nat_lt, list_any, ServerNo, ClientNo, Command, server_eq, server_tells, DeviceState, Event, Pick, Commanded, Refuses, Sends, command_row, World, Memory, NextEvent, Tell, Again, Nudge, Crash, CloseClients, AreNames, after, commanded, crash, go_on, Setup, Chance, Task, Begins, Meets, Acts, Dismisses, GoesDown, ClosesClients, CountsCommits, State, begun, served, stopped_idle, crashed_at, Devices, IsServed, Alone, Befalls, deed_of, made, done, IsQuiet, Calm, called-calm, quiet-same, quiet-alone, quiet-called, nudged-up, closed-up, crashed-up, no-faults, row_calls, IsScrubbed, scrubbed, Left}
+use Rattle.jn_wrong.proofs.StillRuns.{still}
 use Rattle.jn_schedule.specs.declared.Event.TheVariants as events
 use Rattle.jn_wrong.proofs.Bare.{bare_course, bare, made-same}
 
@@ -88,8 +89,8 @@ module _ (x : Setup) (h : Chance) (s : State) (ds es : Devices) (quiet : IsQuiet
     where
       by : Alone q (IsScrubbed (x.counts q) h w q) ds es → Follows x h (Acts (events.Scrub q)) s es
       by a = let calm = called-calm _ h (ds q) (es q) a.its.served.called (quiet.power q l (ap is_some a.its.served.up)) (quiet.told q l) (quiet.waiting q l) in record {
-        same = made-same x h (scrubbed h q) [] (begun (Acts (events.Scrub q)) s) (no-faults q h.told calm.told) refl (ap (λ (o : Option (Pick → ℕ)). bare_course (go_on (stopped_idle q o) s.course)) calm.stop);
-        quiet = subst (λ (o : Option (Pick → ℕ)). IsQuiet x (go_on (stopped_idle q o) s.course).world es) (sym calm.stop) (quiet-called x w w ds es quiet h q (λ p z. z) a.others calm);
+        same = made-same x h (scrubbed h q) [] (begun (Acts (events.Scrub q)) s) (no-faults q h.told calm.told) refl (ap (λ (o : Option (Pick → Left)). bare_course (go_on (stopped_idle q o) s.course)) calm.stop);
+        quiet = subst (λ (o : Option (Pick → Left)). IsQuiet x (go_on (stopped_idle q o) s.course).world es) (sym calm.stop) (quiet-called x w w ds es quiet h q (λ p z. z) a.others calm);
       }
 
   -- ---- a server goes down

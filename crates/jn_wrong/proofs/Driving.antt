@@ -1,5 +1,6 @@
 -- A run of one server whose events are faults and crashes, step by step to its end.
-use Rattle.jn_wrong.proofs.Common.{◌≡◌, inl, ℕ, ◌<◌, Bool, true, false, List, [], drop, Option, Some, None, is_some, refl, sym, ◌∙◌, ap, subst, arith, ServerNo, DeviceState, Outside, Event, EventRefusal, Text, Pick, World, Memory, run, go_on, Setup, Chance, allowed, Task, Begins, Meets, Dismisses, State, next_task, begun, Deed, Use, Devices, Alone, Befalls, IsRecovery, IsLookedOver, IsCalled, PrintsNothing, showing, deed_of, met, acted, outside_texts, made, done, none, more, Moment, Leads, IsQuiet, IsBlank, still, goes, GoesSo, recovered, is_used_up, crashed_at, refusal_of, ◌*◌, cleaned_get_calls, s0, uses, IsUsed, disarmed, powered_off, recovered-calm, called-calm, Raised, no-faults, scrubbed, stopped_idle, IsScrubbed, found_on, pairs_view}
+use Rattle.jn_wrong.proofs.Common.{◌≡◌, inl, ℕ, ◌<◌, Bool, true, false, List, [], drop, Option, Some, None, is_some, refl, sym, ◌∙◌, ap, subst, arith, ServerNo, DeviceState, Outside, Event, EventRefusal, Text, Pick, World, Memory, run, go_on, Setup, Chance, allowed, Task, Begins, Meets, Dismisses, State, next_task, begun, Deed, Use, Devices, Alone, Befalls, IsRecovery, IsLookedOver, IsCalled, showing, deed_of, met, acted, outside_texts, made, done, none, more, Moment, Leads, IsQuiet, recovered, is_used_up, crashed_at, refusal_of, ◌*◌, cleaned_get_calls, s0, uses, IsUsed, disarmed, powered_off, recovered-calm, called-calm, Raised, no-faults, scrubbed, stopped_idle, IsScrubbed, found_on, pairs_view, Left}
+use Rattle.jn_wrong.proofs.StillRuns.{PrintsNothing, IsBlank, still, goes, GoesSo}
 use Rattle.jn_schedule.specs.declared.Event.TheVariants as events
 use Rattle.jn_wrong.proofs.Bare.{bare, bare_course, done-bare, made-same}
 use Rattle.jn_wrong.proofs.Chanced.{comes-so, not-used, looks-same, is-met}
@@ -25,7 +26,7 @@ pub record IsStill (d : DeviceState) : Type 0 where
   pub told : d.told ≡ []
   pub power : d.power ≡ true
 
--- what befalls the device between its calls was done, and this told
+-- what befalls the device between its calls was done, and this reported
 abbrev pub answered : Setup → State → Event → Use → List Text → State
 answered x s e device texts = made x still (uses s0 device texts) (begun (Meets e) s)
 
@@ -164,7 +165,7 @@ module _ (x : Setup) (one : x.servers ≡ 1) (last : Moment) (over : next_task l
                 moment = d.next;
                 leads = d.leads;
                 state = d.state ∙ ap (λ (deed : Deed). bare (made x d.chance deed (begun (Meets (events.Scrub s0)) s))) (deed-is d.chance)
-                    ∙ made-same x d.chance (scrubbed d.chance s0) [] (begun (Meets (events.Scrub s0)) s) (no-faults s0 d.chance.told c.told) refl (ap (λ (o : Option (Pick → ℕ)). bare_course (go_on (stopped_idle s0 o) s.course)) c.stop)
+                    ∙ made-same x d.chance (scrubbed d.chance s0) [] (begun (Meets (events.Scrub s0)) s) (no-faults s0 d.chance.told c.told) refl (ap (λ (o : Option (Pick → Left)). bare_course (go_on (stopped_idle s0 o) s.course)) c.stop)
                     ∙ sym (ap (λ (deed : Deed). bare (made x still deed (begun (Meets (events.Scrub s0)) s))) (deed-is still));
                 device = cleans d.chance (h.moment.devices s0) (d.next.devices s0) a.its h.device c.stop;
               }

@@ -1,5 +1,5 @@
 -- A server comes up in a later epoch each time.
-use Rattle.jn_wrong.proofs.Common.{◌≡◌, ◌≢◌, ◌⊎◌, inl, inr, ℕ, ◌+◌, ◌≤◌, Bool, true, false, List, [], ◌∷◌, refl, sym, ◌∙◌, subst, arith, ◌&&◌, ◌||◌, not, if◌then◌else◌, nat_lt, take, nat_tests, ServerNo, server_eq, server_tells, AllFiles, Event, Text, StableState, Change, AddReady, MarkGoing, CarryOut, RemoveWork, AddFlag, DropFlag, Pick, made_by, made_all, World, named_now, Step, after, Setup, State, MayLead, before, epoch_after, may_rise, epochs_rise, restart_with, one-found, FoundThen, by_narrowing, by_raising, StepCase, client_row, row_done, row_stopped, gone_late, gone_down, come_up, found_anew, dismissed, quietly, step-case, with_epoch}
+use Rattle.jn_wrong.proofs.Common.{◌≡◌, ◌≢◌, ◌⊎◌, inl, inr, ℕ, ◌+◌, ◌≤◌, Bool, true, false, List, [], ◌∷◌, refl, sym, ◌∙◌, subst, arith, ◌&&◌, ◌||◌, not, if◌then◌else◌, nat_lt, take, nat_tests, ServerNo, server_eq, server_tells, AllFiles, Event, Text, StableState, Change, AddReady, MarkGoing, CarryOut, RemoveWork, AddFlag, DropFlag, Pick, made_by, made_all, World, named_now, Step, after, Setup, State, MayLead, before, epoch_after, may_rise, epochs_rise, restart_with, one-found, FoundThen, by_narrowing, by_raising, StepCase, client_row, row_done, row_stopped, gone_late, gone_down, come_up, found_anew, dismissed, quietly, step-case, with_epoch, left_of}
 use Rattle.jn_report.specs.declared.line.Text.TheVariants as says
 use Rattle.jn_wrong.proofs.Turns.{Aside, no-lines, client-aside, row-aside, quiet-aside}
 use Rattle.jn_wrong.proofs.Reading.{no_turn, named-quiet, reads, quiet-reads, quiet-behind, Reading, run-read}
@@ -49,8 +49,8 @@ module _ (q : ServerNo) where
     at-least s found here c = one-found (λ p d x. p ≡ q → last ≤ x.epoch) w.found s found (λ d e. here d (subst (λ (p : ServerNo). (b : Pick) → last ≤ (w.found p b).epoch) (sym e) h))
         (λ p other d e. subst (λ (z : ServerNo). last ≤ (w.found z d).epoch) (sym e) (h d)) q c refl
 
-    changed-least : (s : ServerNo) (changes : Pick → List Change) (c : Pick) → last ≤ (if server_eq s q then made_all (changes c) (w.found s c) else w.found q c).epoch
-    changed-least s changes = at-least s (λ c. made_all (changes c) (w.found s c)) (λ c all. subst (λ (e : ℕ). last ≤ e) (sym (made-epoch (changes c) (w.found s c))) (all c))
+    changed-least : (s : ServerNo) (changes : Pick → List Change) (found : Pick → StableState) → ((c : Pick) → (found c).epoch ≡ (made_all (changes c) (w.found s c)).epoch) → (c : Pick) → last ≤ (if server_eq s q then found c else w.found q c).epoch
+    changed-least s changes found same = at-least s found (λ c all. subst (λ (e : ℕ). last ≤ e) (sym (same c ∙ made-epoch (changes c) (w.found s c))) (all c))
 
     found-rises : (s : ServerNo) (step : Step) (found : Pick → StableState) (lines : List Text) → FoundThen w s step found lines → Rises last w (record w { found = λ p c. if server_eq s p then found c else w.found p c; lines = lines })
     found-rises s _ _ _ (by_narrowing g) = stays _ (no-lines w) (at-least s (λ c. w.found s (g c)) (λ c all. all (g c)))
@@ -65,8 +65,8 @@ module _ (q : ServerNo) where
 
     by-case : (step : Step) (now : World) → StepCase w step now → Rises last w now
     by-case step _ (client_row _ c t sent lines row) = stays _ (client-aside w c step t sent lines row) h
-    by-case step _ (row_done _ s m k row e is) = stays _ (row-aside w s k row.notes) (changed-least s (λ c. row.changes))
-    by-case step _ (row_stopped _ s m k row made e is) = record { texts = says.Stopped s ∷ []; lines = refl; read = refl; stands = changed-least s (λ c. take (made c) row.changes) }
+    by-case step _ (row_done _ s m k row e is) = stays _ (row-aside w s k row.notes) (changed-least s (λ c. row.changes) (λ c. made_all row.changes (w.found s c)) (λ c. refl))
+    by-case step _ (row_stopped _ s m k row made e is) = record { texts = says.Stopped s ∷ []; lines = refl; read = refl; stands = changed-least s (λ c. take (made c).whole row.changes) (λ c. left_of (made c) row.changes (w.found s c)) (λ c. refl) }
     by-case _ _ (gone_late s m T e) = stays _ (no-lines w) h
     by-case _ _ (gone_down s m e) = record { texts = says.Down s ∷ []; lines = refl; read = refl; stands = h }
     by-case _ _ (come_up s pick Ws Ts e) = record {

@@ -1,5 +1,6 @@
 -- A whole run at which nothing can strike is the one without chances, whatever befalls it.
-use Rattle.jn_wrong.proofs.Common.{◌≡◌, ◌⊎◌, inl, inr, ℕ, zero, suc, ◌≤◌, ◌<◌, Bool, true, false, List, [], ◌∷◌, drop, Option, Some, None, is_some, refl, sym, ◌∙◌, ap, subst, arith, nat_tests, if◌then◌else◌, nat_lt, ServerNo, LockUnit, AllFiles, no_files, Counts, Event, Line, StableState, World, new_memory, run, go_on, on-world, Setup, Chance, Task, Begins, Meets, Acts, Rests, ComesUp, Dismisses, GoesDown, ClosesClients, CountsCommits, Stage, InSchedule, AtEnd, CutShort, State, next_at, next_task, begun, Deed, Devices, Befalls, deed_of, is_too_much, come_to, cut_short, done, next, next_by, none, more, Moment, Leads, before, AreImages, IsWhole, IsQuiet, blank, AreNew, IsOnly, IsNoneOfNew, still, goes, DoesSo, DoesNext, GoesSo, fun_ext}
+use Rattle.jn_wrong.proofs.Common.{◌≡◌, ◌⊎◌, inl, inr, ℕ, zero, suc, ◌≤◌, ◌<◌, Bool, true, false, List, [], ◌∷◌, drop, Option, Some, None, is_some, refl, sym, ◌∙◌, ap, subst, arith, nat_tests, if◌then◌else◌, nat_lt, ServerNo, LockUnit, AllFiles, no_files, Counts, Event, Line, StableState, World, new_memory, run, go_on, on-world, Setup, Chance, Task, Begins, Meets, Acts, Rests, ComesUp, Dismisses, GoesDown, ClosesClients, CountsCommits, Stage, InSchedule, AtEnd, CutShort, State, next_at, next_task, begun, Deed, Devices, Befalls, deed_of, is_too_much, come_to, cut_short, done, next, next_by, none, more, Moment, Leads, before, AreImages, IsWhole, IsQuiet, blank, AreNew, IsOnly, IsNoneOfNew, fun_ext}
+use Rattle.jn_wrong.proofs.StillRuns.{still, goes, DoesSo, DoesNext, GoesSo}
 use Rattle.jn_schedule.specs.declared.Event.TheVariants as events
 use Rattle.jn_wrong.proofs.Bare.{bare, done-bare}
 use Rattle.jn_wrong.proofs.Doing.{Follows, below, begins, tells-client, settles, asks, nudges, dismisses, counts, closes, scrubs, goes-down}
@@ -183,7 +184,7 @@ module _ (n : ℕ) (trace : Bool) (schedule : List Event) (counts : ServerNo →
   pub start : before x schedule files epochs ≡ before x schedule no_files (new_epochs n epochs)
   start = ap (λ (fs : AllFiles). before x schedule fs epochs) no-files ∙ ap (λ (es : ServerNo → ℕ). before x schedule no_files es) no-epochs
 
--- so many steps without chances are the run, and tell this
+-- so many steps without chances are the run, and report this
 pub record IsRunOf (n : ℕ) (trace : Bool) (schedule : List Event) (steps : ℕ) (report : List Line) (counts : ServerNo → Counts) (epochs : ServerNo → ℕ) : Type 0 where
   pub so : GoesSo (setup_of n trace counts) steps (before (setup_of n trace counts) schedule no_files (new_epochs n epochs))
   pub end : next_task (goes (setup_of n trace counts) steps (before (setup_of n trace counts) schedule no_files (new_epochs n epochs))) ≡ None

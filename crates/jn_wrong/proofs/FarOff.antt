@@ -1,5 +1,6 @@
 -- A show makes too few calls to come to a stop that waits for call 1,000,000.
-use Rattle.jn_wrong.proofs.Common.{◌≡◌, ◌≤◌, ℕ, ◌+◌, ◌++◌, Bool, true, false, not, List, [], ◌∷◌, Option, Some, None, is_some, refl, sym, ◌∙◌, ap, subst, arith, if◌then◌else◌, ServerNo, Chance, allowed, Begins, Meets, ComesUp, Dismisses, State, next_task, TooManyArmed, Arms, Pick, IsCalled, IsRecovery, given_up, recovered, recovering, told_unless, done, made, run, Moment, still, ◌*◌, Armed, DeviceState, may_arm, FaultArmed, cleaned_get_calls, s0, IsOnlyOfGood, arms_far, quiet_report}
+use Rattle.jn_wrong.proofs.Common.{◌≡◌, ◌≤◌, ℕ, ◌+◌, ◌++◌, Bool, true, false, not, List, [], ◌∷◌, Option, Some, None, is_some, refl, sym, ◌∙◌, ap, subst, arith, if◌then◌else◌, ServerNo, Chance, allowed, Begins, Meets, ComesUp, Dismisses, State, next_task, TooManyArmed, Arms, Pick, IsCalled, IsRecovery, given_up, recovered, recovering, told_unless, done, made, run, Moment, ◌*◌, Armed, DeviceState, may_arm, FaultArmed, cleaned_get_calls, s0, IsOnlyOfGood, arms_far, quiet_report, Left}
+use Rattle.jn_wrong.proofs.StillRuns.{still}
 use Rattle.jn_base.specs.declared.device.FaultKind.TheVariants as faults
 use Rattle.jn_schedule.specs.declared.Event.TheVariants as events
 use Rattle.jn_report.specs.declared.line.Text.TheVariants as says
@@ -89,9 +90,9 @@ module _ (epochs : ServerNo → ℕ) (last : Moment) (over : next_task last.stat
           room : (n : ℕ) → n ≤ 10000 → n + 1000000 ≤ 18446744073709551615
           room n l = omega (arith, l)
 
-      unstopped : (stop : Option (Pick → ℕ)) → h.stop ≡ stop → h.stop ≡ None
+      unstopped : (stop : Option (Pick → Left)) → h.stop ≡ stop → h.stop ≡ None
       unstopped None k = k
-      unstopped (Some made) k = absurd (clash (sym (ap (λ (o : Option (Pick → ℕ)). is_some o) k) ∙ c.stop ∙ ap not waits.power))
+      unstopped (Some made) k = absurd (clash (sym (ap (λ (o : Option (Pick → Left)). is_some o) k) ∙ c.stop ∙ ap not waits.power))
         where
           clash : true ≡ false → ⊥
           clash z = cc

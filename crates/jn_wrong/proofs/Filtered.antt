@@ -1,4 +1,4 @@
--- The lines of one kind among those that a step tells.
+-- The lines of one kind among those that a step reports.
 use Rattle.jn_wrong.proofs.Common.{◌≡◌, Bool, true, false, List, [], ◌∷◌, ◌++◌, length, drop, refl, ◌∙◌, ap, arith, ◌||◌, ◌&&◌, not, filter, if◌then◌else◌, list_all, drop-append_seam, When, Text, Line, Step, Course, go_on, own_texts, lines_at, may_tell, is_of_delivery, is_up, is_down, is_stopped, More, gone-on, NextEvent}
 
 pub filter-both : {A : Type 0} (test : A → Bool) (xs ys : List A) → filter test (xs ++ ys) ≡ filter test xs ++ filter test ys
@@ -36,14 +36,14 @@ module _ (test : Text → Bool) where
           clash : false ≡ true → ⊥
           clash z = cc
 
-  -- of what the steps of the system tell none is of a kind that no step tells
+  -- of what the steps of the system report none is of a kind that no step reports
   pub own-filtered : ((step : Step) (text : Text) → may_tell step text ≡ true → not (test text) ≡ true) → (steps : List Step) (c : Course) → filter test (own_texts c.world (go_on steps c).world) ≡ []
   own-filtered system steps c = by (gone-on (λ (text : Text). not (test text)) system steps c)
     where
       by : More (λ (text : Text). not (test text)) c.world (go_on steps c).world → filter test (own_texts c.world (go_on steps c).world) ≡ []
       by m = ap (λ (ls : List Text). filter test (drop (length c.world.lines) ls)) m.lines ∙ ap (λ (ls : List Text). filter test ls) (drop-append_seam c.world.lines m.texts) ∙ none-left m.texts m.kinds
 
--- ---- what steps of the system tell
+-- ---- what steps of the system report
 
 abbrev pub is_of_step : Text → Bool
 is_of_step text = is_of_delivery text || (is_up text || (is_down text || is_stopped text))

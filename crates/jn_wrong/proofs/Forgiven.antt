@@ -1,5 +1,6 @@
 -- A half that has failed three times may fail again once the power came.
-use Rattle.jn_wrong.proofs.Common.{◌≡◌, ℕ, ◌+◌, Bool, true, false, [], ◌∷◌, Some, None, is_some, refl, ap, if◌then◌else◌, nat_lt, ServerNo, Event, Begins, Meets, State, next_task, EpochsUsedUp, Decays, Revives, given_up, recovered, recovering, begun, done, made, run, Moment, still, s0, IsOnlyOfGood, decays_with_power, forgiven_report}
+use Rattle.jn_wrong.proofs.Common.{◌≡◌, ℕ, ◌+◌, Bool, true, false, [], ◌∷◌, Some, None, is_some, refl, ap, if◌then◌else◌, nat_lt, ServerNo, Event, Begins, Meets, State, next_task, EpochsUsedUp, Decays, Revives, given_up, recovered, recovering, begun, done, made, run, Moment, s0, IsOnlyOfGood, decays_with_power, forgiven_report}
+use Rattle.jn_wrong.proofs.StillRuns.{still}
 use Rattle.jn_schedule.specs.declared.Event.TheVariants as events
 use Rattle.jn_report.specs.declared.line.Text.TheVariants as says
 use Rattle.jn_wrong.proofs.Computed.{pieces-so}

@@ -1,5 +1,6 @@
 -- A run of one server, step by step, while messages are handed over.
-use Rattle.jn_wrong.proofs.Common.{◌≡◌, ℕ, ◌<◌, Bool, true, false, List, [], ◌∷◌, length, Option, Some, None, is_some, refl, sym, ◌∙◌, ap, subst, arith, if◌then◌else◌, nat_lt, slice_get, ClientNo, Client, Server, DeviceState, Message, Need, Counts, StableState, Pick, stable, RowOutcome, Sent, Text, Memory, World, Room, server_row, Deliver, after, at_memory, handed, handing, run, go_on, course_to, Course, Setup, Chance, Task, Rests, State, next_task, begun, Deed, room, no_room, served, delivered, delivered_at, first_busy, servers_of, next_event, resting, deed_of, most_messages, cut_short, made, done, Moment, Devices, IsServed, Alone, Befalls, pages_of, Calm, called-calm, still, no-faults, row_calls, s0, rubbish_count, pool_on, free_on, AreLeft, AreAllCounted, CountsAll, left_by_row, left_by_message, left_by_sent}
+use Rattle.jn_wrong.proofs.Common.{◌≡◌, ℕ, ◌<◌, Bool, true, false, List, [], ◌∷◌, length, Option, Some, None, is_some, refl, sym, ◌∙◌, ap, subst, arith, if◌then◌else◌, nat_lt, slice_get, ClientNo, Client, Server, DeviceState, Message, Need, Counts, StableState, Pick, stable, RowOutcome, Sent, Text, Memory, World, Room, server_row, Deliver, after, at_memory, handed, handing, run, go_on, course_to, Course, Setup, Chance, Task, Rests, State, next_task, begun, Deed, room, no_room, served, delivered, delivered_at, first_busy, servers_of, next_event, resting, deed_of, most_messages, cut_short, made, done, Moment, Devices, IsServed, Alone, Befalls, pages_of, Calm, called-calm, no-faults, row_calls, s0, rubbish_count, pool_on, free_on, AreLeft, AreAllCounted, CountsAll, left_by_row, left_by_message, left_by_sent, Left}
+use Rattle.jn_wrong.proofs.StillRuns.{still}
 use Rattle.jn_system.specs.WholeSystem.Steps as steps
 use Rattle.jn_wrong.proofs.Bare.{bare, bare_course, made_of, came_of, bare-made}
 use Rattle.jn_wrong.proofs.Driving.{Stand, IsStill, Driven, drive}
@@ -39,7 +40,7 @@ module _ (x : Setup) (one : x.servers ≡ 1) (last : Moment) (over : next_task l
     abbrev g : Counts
     g = x.counts s0
 
-    abbrev step_with : Room → Option (Pick → ℕ) → Deed
+    abbrev step_with : Room → Option (Pick → Left) → Deed
     step_with r stop = record (served s0 row_calls (handing k r stop ∷ [])) { tasks = Rests ∷ [] }
 
     deed-is : (h : Chance) → deed_of x h Rests s ≡ step_with (room h s0) h.stop
@@ -100,7 +101,7 @@ module _ (x : Setup) (one : x.servers ≡ 1) (last : Moment) (over : next_task l
                       same = after-is (room f s0) ∙ ap (λ (r : RowOutcome Memory). steps.done s0 (Some k) r w) row-is
 
                       course : bare_course (go_on (handing k (room f s0) f.stop ∷ []) s.course) ≡ bare_course (course_to now (Deliver k no_room) s.course)
-                      course = ap (λ (o : Option (Pick → ℕ)). bare_course (go_on (handing k (room f s0) o ∷ []) s.course)) quietly.stop
+                      course = ap (λ (o : Option (Pick → Left)). bare_course (go_on (handing k (room f s0) o ∷ []) s.course)) quietly.stop
                           ∙ ap (λ (v : World). bare_course (course_to v (Deliver k no_room) s.course)) same
 
                       rises : is_some ((after (Deliver k (room f s0)) w).memory s0) ≡ true
@@ -108,10 +109,10 @@ module _ (x : Setup) (one : x.servers ≡ 1) (last : Moment) (over : next_task l
 
                       counted : CountsAll g (stable (now.found s0)) (pages_of (es s0))
                       counted = subst (λ (v : World). CountsAll g (stable (v.found s0)) (pages_of (es s0))) same
-                          (subst (λ (o : Option (Pick → ℕ)). AreAllCounted x (run (handing k (room f s0) o ∷ []) w) es) quietly.stop b.counted s0 first rises)
+                          (subst (λ (o : Option (Pick → Left)). AreAllCounted x (run (handing k (room f s0) o ∷ []) w) es) quietly.stop b.counted s0 first rises)
 
                       left : rubbish_count (pool_on g (pages_of (es s0))) ≡ left_by_row y row (rubbish_count (pool_on g (pages_of d)))
-                      left = subst (λ (o : Option (Pick → ℕ)). AreLeft x (handing k (room f s0) o ∷ []) w h.moment.devices es) quietly.stop b.left s0 first rises
+                      left = subst (λ (o : Option (Pick → Left)). AreLeft x (handing k (room f s0) o ∷ []) w h.moment.devices es) quietly.stop b.left s0 first rises
                           ∙ ap (λ (o : Option Sent). left_by_sent w s0 (room f s0) o (rubbish_count (pool_on g (pages_of d)))) sent
                           ∙ ap (λ (o : Option Memory). left_by_message y o (room f s0) message (rubbish_count (pool_on g (pages_of d)))) up
                           ∙ ap (λ (r : RowOutcome Memory). left_by_row y r (rubbish_count (pool_on g (pages_of d)))) row-is

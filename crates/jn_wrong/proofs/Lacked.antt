@@ -1,5 +1,6 @@
 -- The schedules that make a file, and write a block of it, computed up to where their transaction ends, and from there.
-use Rattle.jn_wrong.proofs.Common.{Bool, true, ap, list_any, Cause, Line, Text, Setup, State, next_task, goes, ◌≡◌, ℕ, false, List, [], ◌∷◌, Some, None, refl, ServerNo, no_files, before, Counts, Resource, setup, makes_one, full_of, file, block, File, Block, zeros, block_of, IsNoneOf, Did, IsOnlyOfLacking, for_a_file, Full, ActiveWork, one_write, for_a_block, full_at_block, FullAt, Records, Pages, Aborted, IsOnlyOf, IsOnlyWhereLacking, one_record}
+use Rattle.jn_wrong.proofs.Common.{Bool, true, ap, list_any, Cause, Line, Text, Setup, State, next_task, ◌≡◌, ℕ, false, List, [], ◌∷◌, Some, None, refl, ServerNo, no_files, before, Counts, Resource, setup, makes_one, full_of, file, block, File, Block, zeros, block_of, IsNoneOf, Did, IsOnlyOfLacking, for_a_file, Full, ActiveWork, one_write, for_a_block, full_at_block, FullAt, Records, Pages, Aborted, IsOnlyOf, IsOnlyWhereLacking, one_record}
+use Rattle.jn_wrong.proofs.StillRuns.{goes}
 use Rattle.jn_locks.specs.Locks as locks
 use Rattle.jn_records.specs.declared.intention.What.TheVariants.{Fresh, Put}
 use Rattle.jn_wrong.proofs.Computed.{Pieces, pieces-so}
@@ -72,7 +73,7 @@ made-where-lacking = only-where-lacking makes_one 53 makes_file_7 (record { 0 = 
 pub made-by-one : IsOnlyOf one_record makes_one (full_of Records 0 2)
 made-by-one images closing lines new whole = made-where-lacking one_record images closing lines Records 0 2 refl refl new refl whole
 
--- so it isn't told that data pages are lacking
+-- so it isn't reported that data pages are lacking
 pub not-pages : (free need : ℕ) → IsNoneOf one_record makes_one (full_of Pages free need)
 not-pages free need images closing new whole = clash (ap names_records (made-by-one images closing (full_of Pages free need) new whole))
   where

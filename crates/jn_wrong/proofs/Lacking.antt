@@ -1,5 +1,6 @@
 -- A transaction of one work ends: it commits, or its client is told what was lacking.
-use Rattle.jn_wrong.proofs.Common.{Devices, ◌≡◌, ◌⊎◌, ◌+◌, ◌-◌, inl, inr, ℕ, Bool, true, false, List, [], ◌∷◌, ◌++◌, drop, Option, Some, None, is_some, true≢false, refl, sym, ◌∙◌, ap, subst, arith, nat_lt, if◌then◌else◌, slice_get, list_any, ServerNo, AllFiles, no_files, Client, Server, Counts, Need, DeviceState, Event, Line, Text, Message, Cause, Resource, RowOutcome, StableState, stable, made_all, shortage, vote_of, Held, conflict, commit_wants, need_in, Work, Memory, server_row, of_worker, of_coordinator, Setup, Task, Begins, Meets, Rests, State, Stage, AtEnd, next_at, next_task, done, first_busy, servers_of, Moment, Leads, pages_of, before, AreImages, IsWhole, AreNew, still, goes, GoesSo, rests_so, s0, WorkId, client_eq, blank, longer, Longer, may-lead, Phase, Active, Stored, c1, tid, left_by_row, rubbish_count, pool_on, free_on, CountsAll, lacking, IsOnlyOfLacking, Vote, abort_row, end_promised, prepared_row, Transaction, none_free, Ready, Full, ActiveWork, FullAt, IsOnlyWhereLacking}
+use Rattle.jn_wrong.proofs.Common.{Devices, ◌≡◌, ◌⊎◌, ◌+◌, ◌-◌, inl, inr, ℕ, Bool, true, false, List, [], ◌∷◌, ◌++◌, drop, Option, Some, None, is_some, true≢false, refl, sym, ◌∙◌, ap, subst, arith, nat_lt, if◌then◌else◌, slice_get, list_any, ServerNo, AllFiles, no_files, Client, Server, Counts, Need, DeviceState, Event, Line, Text, Message, Cause, Resource, RowOutcome, StableState, stable, made_all, shortage, vote_of, Held, conflict, commit_wants, need_in, Work, Memory, server_row, of_worker, of_coordinator, Setup, Task, Begins, Meets, Rests, State, Stage, AtEnd, next_at, next_task, done, first_busy, servers_of, Moment, Leads, pages_of, before, AreImages, IsWhole, AreNew, s0, WorkId, client_eq, blank, longer, Longer, may-lead, Phase, Active, Stored, c1, tid, left_by_row, rubbish_count, pool_on, free_on, CountsAll, lacking, IsOnlyOfLacking, Vote, abort_row, end_promised, prepared_row, Transaction, none_free, Ready, Full, ActiveWork, FullAt, IsOnlyWhereLacking}
+use Rattle.jn_wrong.proofs.StillRuns.{still, goes, GoesSo, rests_so}
 use Rattle.jn_base.specs.declared.names.RequestNo.{RequestNo}
 use Rattle.jn_base.specs.declared.names.Resource.TheVariants as resources
 use Rattle.jn_base.specs.declared.op.Command.TheVariants as commands
@@ -89,7 +90,7 @@ short-or free need = by (nat_lt free.records need.records) (nat_lt free.pages ne
     by false false true e = inr (record { resource = resources.Heads; has = free.heads; wants = need.heads; is = e })
     by false false false e = inl e
 
--- ---- what lines tell
+-- ---- what lines report
 
 abbrev is_commit : Text → Bool
 is_commit (says.Commit T) = true
@@ -110,7 +111,7 @@ abbrev or_later : Option Vote → Option Vote → Option Vote
 or_later None later = later
 or_later (Some vote) later = Some vote
 
--- what the first abort for want of room tells
+-- what the first abort for want of room reports
 abbrev pub wanted_in : List Line → Option Vote
 wanted_in [] = None
 wanted_in (l ∷ lines) = or_later (wanted_of l.text) (wanted_in lines)
@@ -131,7 +132,7 @@ pub record WaitsToTell (s : State) (k : ℕ) : Type 0 where
   pub waits : s.course.waiting ≡ k ∷ []
   pub sent : slice_get s.course.world.sent k ≡ Some (Client c1, outcome)
 
--- so many steps more, at which nothing can strike, are the rest of the run, which tells these lines
+-- so many steps more, at which nothing can strike, are the rest of the run, which reports these lines
 pub record GoesOn (x : Setup) (s : State) (steps : ℕ) (told : List Line) : Type 0 where
   pub so : GoesSo x steps s
   pub end : next_task (goes x steps s) ≡ None
@@ -248,7 +249,7 @@ module _ (schedule : List Event) (n : ℕ) (work : ActiveWork) (request : Reques
       pub tells_outcome : (resource : Resource) (free need : ℕ) → WaitsToTell (aborted resource free need) (k + 4)
       pub outcome_told : (resource : Resource) (free need : ℕ) (new : List Line) → wanted_in ((done x still Rests (aborted resource free need)).lines ++ new) ≡ Some (Full resource free need)
 
-    -- and where something is lacking, which report the run tells to its end
+    -- and where something is lacking, which report the run gives to its end
     pub record TellsSo (steps : ℕ) (report : Resource → ℕ → ℕ → List Line) : Type 0 where
       pub no_flag : GoesOn x (done x still Rests refused) steps (report resources.Records g.pool 1)
       pub no_work : (resource : Resource) (free need : ℕ) → GoesOn x (done x still Rests (aborted resource free need)) steps (report resource free need)
@@ -333,7 +334,7 @@ module _ (schedule : List Event) (n : ℕ) (work : ActiveWork) (request : Reques
           (hands-ready promised (k + 1) [] prepare_sent preparing (preparing_row (Some (Full resource free need))) IsStill is.prepares is.empty_on (prepares-so (Some (Full resource free need)) short)
           (λ d e p still counted left. still) h)))
 
-      -- ---- what its last lines tell
+      -- ---- what its last lines report
 
       lines-grow : (s : State) → Stand x last s IsStill → (new : List Line) × (last.state.lines ≡ s.lines ++ new)
       lines-grow s h = by (longer x h.moment.state last.state (may-lead x h.moment last h.leads))
@@ -410,7 +411,7 @@ module _ (schedule : List Event) (n : ℕ) (work : ActiveWork) (request : Reques
         })
 
   module _ (is : (counts : ServerNo → Counts) (epochs : ServerNo → ℕ) → IsSo counts epochs) (report : Resource → ℕ → ℕ → List Line) where
-    -- a report that tells of want of room
+    -- a report of want of room
     pub only-lacking : ((resource : Resource) (free need : ℕ) → (list_any tells_commit (report resource free need) ≡ false) × (wanted_in (report resource free need) ≡ Some (Full resource free need))) → IsOnlyOfLacking needs schedule report
     only-lacking reads setup images closing resource free need servers traces new whole = subst (λ (y : Setup). AreNew y images → IsWhole y schedule images closing (report resource free need) → lacking needs (y.counts s0) ≡ Some (Full resource free need))
         (sym (one-setup setup servers traces)) (tells setup.counts) new whole

@@ -1,8 +1,8 @@
 -- A settle is over only where nothing is left to do.
 use Rattle.jn_wrong.proofs.Common.{◌≡◌, ◌≢◌, ◌⊎◌, inl, inr, ℕ, suc, ◌+◌, Bool, List, [], ◌∷◌, ◌++◌, append_assoc, length, length-append, drop, Option, Some, None, refl, sym, ◌∙◌, ap, subst, arith, ServerNo, Event, Course, go_on, Setup, Task, Meets, Rests, CutShort, State, Deed, nothing, is_busy, Befalls, rubbish_on, asking, settling, next_in, resting, deed_of, done, none, more, Moment, DoesStep, Leads, ComesToRest}
 use Rattle.jn_schedule.specs.declared.Event.TheVariants as events
-use Rattle.jn_written.specs.Wrong.{IsAtRest}
-use Rattle.jn_written.proofs.Resting.{rest-ends}
+use Rattle.jn_machine.specs.Wrong.{IsAtRest}
+use Rattle.jn_machine.proofs.Resting.{rest-ends}
 use Rattle.jn_bounds.proofs.Doing.{GoesOn, IsCut, its-task, its-state, does, stays}
 
 -- no list is longer than itself

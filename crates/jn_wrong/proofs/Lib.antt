@@ -1,5 +1,6 @@
 mod Common
 pub mod Refuted
+pub mod StillRuns
 pub mod Bare
 pub mod Doing
 pub mod Chanced

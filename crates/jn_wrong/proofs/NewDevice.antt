@@ -1,14 +1,13 @@
 -- The device of a server on which nothing is stored: zeros behind the root, whatever befell its halves.
-use Rattle.jn_wrong.proofs.Common.{not, ◌&&◌, PageDecays, ◌≡◌, ◌-◌, subst, Some, Option, ◌≤◌, ◌<◌, ◌+◌, ◌||◌, ℕ, Bool, true, false, true≢false, nat_eq, nat_lt, if◌then◌else◌, List, [], refl, sym, ◌∙◌, ap, inl, arith, inr, fun_ext, blank, DeviceState, PageState, bumped, Armed, Happens, put, joined, pairs_view, found_on, Pick, s0, pages_of, ◌^◌, replicate, blank_page, pool_on, heads_on, record_or_free, head_or_free, IsRecoverable, Head, FreeHead, Record, Free, root_by, Candidate, StorePut, StoreLater, Decay, Revive, page_met, PageRevives}
+use Rattle.jn_wrong.proofs.Common.{not, ◌&&◌, PageDecays, ◌≡◌, ◌-◌, subst, Some, Option, ◌≤◌, ◌<◌, ◌+◌, ◌||◌, ℕ, Bool, true, false, true≢false, nat_eq, nat_lt, if◌then◌else◌, List, [], refl, sym, ◌∙◌, ap, inl, arith, inr, fun_ext, blank, DeviceState, PageState, bumped, Armed, Happens, put, joined, pairs_view, found_on, Pick, s0, pages_of, ◌^◌, replicate, blank_page, pool_on, heads_on, record_or_free, head_or_free, IsRecoverable, Head, FreeHead, Record, Free, root_by, Candidate, StorePut, StoreLater, Decay, Revive, page_met, PageRevives, IsBlank}
 use Rattle.jn_device.proofs.Happening.{happens_later}
 use Rattle.jn_disks.specs.Disks.{no_files as nothing_there, IsNewStore, IsNewDisk}
 use Rattle.jn_disks.proofs.NewStores.{new_is}
-use Rattle.jn_found.specs.Images.{CountsFit, IsFresh}
+use Rattle.jn_page_state.specs.Images.{CountsFit, IsFresh}
 use Rattle.jn_records.specs.Heads.{head_at}
 use Rattle.jn_records.specs.Pages.{root_page}
 use Rattle.jn_records.specs.Reading as reading
 use Rattle.jn_records.specs.Records.{record_at}
-use Rattle.jn_store.specs.Store.{IsBlank}
 use Rattle.jn_wrong.proofs.Pairs.{the_counts}
 
 -- ---- pages
@@ -293,7 +292,7 @@ module _ (epoch : ℕ) (fits : epoch < 2 ^ 32) where
   fit = record { server_fits = omega arith; pool = omega arith; heads = omega arith; leaves = omega arith }
 
   made : IsNewDisk (root_by s0 the_counts epoch) (pairs_view rooted)
-  made = new_is (root_by s0 the_counts epoch) (pairs_view empty) (pairs_view rooted) zeros stored fits fit
+  made = new_is (root_by s0 the_counts epoch) (pairs_view empty) (pairs_view rooted) zeros stored refl fits fit
 
   fresh : IsFresh s0 the_counts epoch nothing_there (pairs_view rooted)
   fresh = made.fresh

@@ -1,7 +1,8 @@
 -- No line stands at an event that has not begun.
-use Rattle.jn_wrong.proofs.Common.{◌≡◌, ◌≤◌, ℕ, ◌+◌, Bool, true, false, List, [], ◌∷◌, length, refl, sym, ◌∙◌, ap, subst, arith, ◌&&◌, if◌then◌else◌, nat_tests, ServerNo, AllFiles, Event, When, AtEvent, End, Text, Line, World, go_on, Setup, Chance, Task, Dismisses, Stage, InSchedule, AtEnd, CutShort, State, when_at, when_of, begun, Deed, deed_of, texts_of, lines_at, is_too_much, come_to, cut_short, done, none, more, MayLead, before, events_left, begun-lines, events-rise, is_by, are_by}
+use Rattle.jn_wrong.proofs.Common.{◌≡◌, ◌≤◌, ℕ, ◌+◌, Bool, true, false, List, [], ◌∷◌, length, refl, sym, ◌∙◌, ap, subst, arith, ◌&&◌, if◌then◌else◌, nat_tests, ServerNo, AllFiles, Event, When, AtEvent, End, Text, Line, World, go_on, Setup, Chance, Task, Dismisses, Stage, InSchedule, AtEnd, CutShort, State, when_at, when_of, begun, Deed, deed_of, texts_of, lines_at, is_too_much, come_to, cut_short, done, none, more, MayLead, before, begun-lines, events-rise, is_by, are_by}
+use Rattle.jn_machine.specs.Kinds.{events_left}
 use Rattle.std.proofs.lemmas.List.Folds.{list_all-append}
-use Rattle.jn_written.proofs.Counted.{events-counted}
+use Rattle.jn_machine.proofs.Counted.{events-counted}
 
 both : (a b : Bool) → a ≡ true → b ≡ true → (a && b) ≡ true
 both a b h k = grind arith

@@ -1,5 +1,5 @@
 -- Steps of one server on which nothing is stored, over its device.
-use Rattle.jn_found.specs.Puts.{IsFrontClean, IsFrontWhole}
+use Rattle.jn_page_state.specs.Puts.{IsFrontClean, IsFrontWhole}
 use Rattle.jn_wrong.proofs.Common.{◌≡◌, ◌<◌, ◌+◌, ◌-◌, ◌||◌, ℕ, Bool, true, false, not, if◌then◌else◌, List, [], refl, sym, ◌∙◌, ap, subst, arith, is_some, server_eq, ServerNo, no_files, World, Memory, run, IsRun, Chance, Deed, Devices, Alone, Befalls, IsCalled, IsRecovery, IsUsed, rubbish_on, pages_of, setup, s0, blank, DeviceState, PageState, Armed, disarmed, found_on, pairs_view, Pick, stable, StableState, closed_world, AreImages, replicate, count_by, pool_on, heads_on, listed, IsRecoverable, Head, FreeHead, Need, Record, Free, page_count, promised, is_free_head, promised_heads, free_on, has_rubbish, rubbish_records, left_by_steps, AreCounted, CountsAll, IsFreshDevice, heads_name, works_name, free_count, rubbish_count}
 use Rattle.jn_device.specs.Happens.{none}
 use Rattle.jn_wrong.proofs.NewDevice.{Tally, device, good_at, pages_at, OthersGood, IsBlankOn, blank-on, halves-equal, thrice, thrice-least, mends}

@@ -1,5 +1,6 @@
--- What runs with faults and crashes tell, each the only report that its schedule has.
-use Rattle.jn_wrong.proofs.Common.{◌≡◌, ℕ, Bool, true, false, List, [], ◌∷◌, Some, None, is_some, refl, sym, ◌∙◌, ap, not, if◌then◌else◌, nat_lt, ◌+◌, ◌<◌, arith, refusal_of, ServerNo, no_files, AllFiles, Event, Text, Line, Setup, allowed, Task, Begins, Meets, ComesUp, State, Stage, AtEnd, next_at, next_task, Devices, told_unless, recovered, recovering, begun, done, made, run, Moment, Leads, before, AreImages, AreNew, still, given_up, Decays, Revives, DeviceState, PageDecays, s0, setup, AreGood, IsOnlyOfGood, IsNoneOfGood, quiet_report, decays_once, decays_both, both_report, decays_behind_scrub}
+-- What runs with faults and crashes report, each the only report that its schedule has.
+use Rattle.jn_wrong.proofs.Common.{◌≡◌, ℕ, Bool, true, false, List, [], ◌∷◌, Some, None, is_some, refl, sym, ◌∙◌, ap, not, if◌then◌else◌, nat_lt, ◌+◌, ◌<◌, arith, refusal_of, ServerNo, no_files, AllFiles, Event, Text, Line, Setup, allowed, Task, Begins, Meets, ComesUp, State, Stage, AtEnd, next_at, next_task, Devices, told_unless, recovered, recovering, begun, done, made, run, Moment, Leads, before, AreImages, AreNew, given_up, Decays, Revives, DeviceState, PageDecays, s0, setup, AreGood, IsOnlyOfGood, IsNoneOfGood, quiet_report, decays_once, decays_both, both_report, decays_behind_scrub}
+use Rattle.jn_wrong.proofs.StillRuns.{still}
 use Rattle.jn_base.specs.declared.device.FaultKind.TheVariants as faults
 use Rattle.jn_schedule.specs.declared.Event.TheVariants as events
 use Rattle.jn_report.specs.declared.line.Text.TheVariants as says
@@ -29,7 +30,7 @@ begin-stand schedule images last new good files epochs are leads = record {
     first = omega arith
 
 module _ (schedule : List Event) (report : List Line) where
-  -- no run tells other lines
+  -- no run reports other lines
   pub none-of-good : ((epochs : ServerNo → ℕ) (last : Moment) (over : next_task last.state ≡ None) → Stand x1 last (at_first schedule epochs) IsWhole → last.state.lines ≡ report → ⊥) → IsNoneOfGood schedule report
   none-of-good never images closing new good h = from h.written.files h.written.epochs h.written.are_images h.written.leads
     where

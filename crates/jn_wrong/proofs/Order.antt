@@ -1,4 +1,4 @@
--- What waits and what is told, while a device is called.
+-- What waits and what is reported, while a device is called.
 use Rattle.jn_wrong.proofs.Common.{◌≡◌, ℕ, ◌-◌, ◌<◌, ◌/◌, Bool, true, false, List, [], ◌∷◌, ◌++◌, Option, Some, None, refl, sym, ◌∙◌, ap, subst, append-nil, ◌||◌, ◌&&◌, not, nat_lt, if◌then◌else◌, FaultKind, Null, Bad, Outside, Armed, DeviceState, due, waiting_on, strike, CallStep, told_of, struck_page, got_outside, put_outside, get_stops, get_outcome, get_is_done, put_stops, put_outcome, put_is_done, Happens}
 use Rattle.jn_wrong.proofs.Calls.{carried}
 
@@ -48,7 +48,7 @@ module _ (P : FaultKind → Type 0) where
         by true = (q k (h k refl), tt)
         by false = tt
 
-    -- the device has so many pages, and this holds of what waits and of what is told
+    -- the device has so many pages, and this holds of what waits and of what is reported
     pub record Holds (n : ℕ) (d : DeviceState) : Type 0 where
       pub count : d.count ≡ n
       pub waits : AllWait P d.waiting
@@ -78,7 +78,7 @@ module _ (P : FaultKind → Type 0) where
           (λ s t p answer below step. call-holds s t p (get_stops (get_outcome s p)) (get_is_done (get_outcome s p)) (got_outside (s.count / 2) s.pages p) below step.call)
           (λ s t p new stopped below step. call-holds s t p (put_stops (put_outcome s p)) (put_is_done (put_outcome s p)) (put_outside (s.count / 2) s.pages p) below step.call)
 
--- ---- the order in which faults are told
+-- ---- the order in which faults are reported
 
 abbrev is_null : FaultKind → Bool
 is_null Null = true
@@ -93,7 +93,7 @@ abbrev pub are_swapped : Bool → List Outside → Bool
 are_swapped seen [] = false
 are_swapped seen (o ∷ os) = (seen && is_null o.kind) || are_swapped (seen || is_bad o.kind) os
 
--- no spoilt one is told
+-- no spoilt one is reported
 abbrev none_bad : List Outside → Bool
 none_bad [] = true
 none_bad (o ∷ os) = not (is_bad o.kind) && none_bad os
@@ -125,14 +125,6 @@ null-behind (t ∷ told) o h b = by (is_bad t.kind) h (λ z. null-behind told o 
         clash z = cc
     by false h later = later h
 
-no-bad : (told : List Outside) (o : Outside) → none_bad told ≡ true → o.kind ≡ Null → none_bad (told ++ o ∷ []) ≡ true
-no-bad [] o h e = ap (λ (k : FaultKind). not (is_bad k) && true) e
-no-bad (t ∷ told) o h e = by (is_bad t.kind) h (λ z. no-bad told o z e)
-  where
-    by : (c : Bool) → (not c && none_bad told) ≡ true → (none_bad told ≡ true → none_bad (told ++ o ∷ []) ≡ true) → (not c && none_bad (told ++ o ∷ [])) ≡ true
-    by true h later = h
-    by false h later = later h
-
 call-orders : (s t : DeviceState) (p : ℕ) (stops is_done : Bool) (g : FaultKind → Bool) → CallStep s stops is_done (told_of g p (strike s)) t → Orders s → Orders t
 call-orders s t p stops is_done g c (both_wait w untold) = by s.power c.waiting c.told_is
   where
@@ -158,7 +150,7 @@ call-orders s t p stops is_done g c (none_waits w right) = by s.power c.waiting 
     by false e f = none_waits (e ∙ w) (ap (are_swapped false) (f ∙ append-nil s.told) ∙ right)
     by true e f = none_waits (e ∙ ap waiting_on w) (ap (are_swapped false) (f ∙ ap (λ (ws : List Armed). s.told ++ told_of g p (due ws)) w ∙ append-nil s.told) ∙ right)
 
--- a missed put that waits for the first call is told before a spoilt one that waits for the second
+-- a missed put that waits for the first call is reported before a spoilt one that waits for the second
 pub told-in-order : (s t : DeviceState) → Happens s t → s.waiting ≡ (record { after = 1; kind = Null }) ∷ (record { after = 2; kind = Bad }) ∷ [] → s.told ≡ [] → are_swapped false t.told ≡ false
 told-in-order s t happens waits untold = by (carried Orders
     (λ s t p answer below step. call-orders s t p (get_stops (get_outcome s p)) (get_is_done (get_outcome s p)) (got_outside (s.count / 2) s.pages p) step.call)

@@ -2,7 +2,7 @@
 use Rattle.jn_wrong.proofs.Common.{◌≡◌, ◌≤◌, ℕ, ◌+◌, Bool, true, false, List, [], ◌∷◌, ◌++◌, refl, ◌∙◌, ap, not, ◌&&◌, if◌then◌else◌, nat_lt, DeviceState, Counts, Chance, IsRecovery, IsCalled, World, None, arith, ◌*◌, FaultKind, Armed, PageState, decayed, may_decay_at, decay_outside, page_count, put_calls, pairs_view, IsWholePage, s0, IsScrubbed}
 use Rattle.std.specs.Prelude.{◌/◌}
 use Rattle.jn_device.specs.Events.{Decays, Revives, Arms}
-use Rattle.jn_written.proofs.Called.{called-later}
+use Rattle.jn_machine.proofs.Called.{called-later}
 use Rattle.jn_wrong.proofs.Calls.{IsSpared, calls-spare}
 use Rattle.jn_wrong.proofs.Driving.{IsStill}
 
@@ -190,7 +190,7 @@ other-allowed d h = ap (λ (n : ℕ). decay_outside (n / 2) d.pages 182) h.count
 
 -- ---- faults that are to wait
 
--- these wait, and none was told
+-- these wait, and none was reported
 pub record Waits (faults : List Armed) (d : DeviceState) : Type 0 where
   pub waiting : d.waiting ≡ faults
   pub told : d.told ≡ []

@@ -1,4 +1,4 @@
--- What the lines of a run tell, read one after another: what holds of it at each step of the system holds of the run.
+-- What the lines of a run report, read one after another: what holds of it at each step of the system holds of the run.
 use Rattle.jn_wrong.proofs.Common.{◌≡◌, ℕ, ◌+◌, Bool, true, false, List, [], ◌∷◌, ◌++◌, append-nil, append_assoc, map, length, drop, refl, sym, ◌∙◌, ap, subst, arith, ◌&&◌, if◌then◌else◌, list_all, drop-append_seam, ServerNo, Tid, Party, Outside, When, Text, Line, Sent, World, has_line, named_now, Step, after, Course, go, go_on, newly_sent, Setup, Chance, Task, Begins, Meets, Acts, Rests, ComesUp, Dismisses, GoesDown, ClosesClients, CountsCommits, State, when_of, begun, Use, Nothing, Calls, Reads, Recovers, PowersOff, Decays, Revives, Arms, Disarms, Deed, deed_of, outside_texts, own_texts, message_texts, traced, texts_of, lines_at, is_too_much, come_to, cut_short, done, none, more, MayLead, is_note, is_of_delivery, is_answer, begun-lines, task-texts, Besides, are_read, Cleans}
 use Rattle.jn_report.specs.declared.line.Text.TheVariants as says
 
@@ -11,7 +11,7 @@ first a b h = grind arith
 second : (a b : Bool) → (a && b) ≡ true → b ≡ true
 second a b h = grind arith
 
--- what servers tell of power: that one comes up, or goes down
+-- what servers report of power: that one comes up, or goes down
 abbrev pub no_turn : Text → Bool
 no_turn (says.Up s epoch) = false
 no_turn (says.Down s) = false
@@ -141,7 +141,7 @@ module _ (A : Type 0) (next : A → Text → A) (may : A → Text → Bool) (asi
       deed-tells x h (GoesDown p) s = task-texts no_turn besides x h (GoesDown p) s (λ e. cc)
       deed-tells x h (ClosesClients p) s = task-texts no_turn besides x h (ClosesClients p) s (λ e. cc)
 
-      -- texts that tell no turn, before or behind others
+      -- texts that report no turn, before or behind others
       quiet-first : (was : A) (now : World) (xs ys : List Text) → list_all no_turn xs ≡ true → Tells was now ys → Tells was now (xs ++ ys)
       quiet-first was now xs ys h k = record {
         read = reads-both was xs ys (quiet-reads was xs h) (subst (λ (z : A). reads z ys ≡ true) (sym (quiet-behind was xs h)) k.read);

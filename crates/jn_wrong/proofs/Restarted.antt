@@ -1,5 +1,6 @@
 -- A restart that nothing disturbs mends a half of a record that had gone bad, so that the other half may go bad after it.
-use Rattle.jn_wrong.proofs.Common.{◌≡◌, ℕ, Bool, true, false, List, [], ◌∷◌, None, is_some, refl, ◌∙◌, ap, not, if◌then◌else◌, allowed, ServerNo, Text, Begins, Meets, State, next_task, EpochsUsedUp, Decays, given_up, recovered, recovering, told_unless, begun, done, made, run, Moment, still, DeviceState, PageDecays, s0, IsOnlyOfGood, decays_behind_restart, restarted_report}
+use Rattle.jn_wrong.proofs.Common.{◌≡◌, ℕ, Bool, true, false, List, [], ◌∷◌, None, is_some, refl, ◌∙◌, ap, not, if◌then◌else◌, allowed, ServerNo, Text, Begins, Meets, State, next_task, EpochsUsedUp, Decays, given_up, recovered, recovering, told_unless, begun, done, made, run, Moment, DeviceState, PageDecays, s0, IsOnlyOfGood, decays_behind_restart, restarted_report}
+use Rattle.jn_wrong.proofs.StillRuns.{still}
 use Rattle.jn_base.specs.declared.device.FaultKind.TheVariants as faults
 use Rattle.jn_schedule.specs.declared.Event.TheVariants as events
 use Rattle.jn_report.specs.declared.line.Text.TheVariants as says

@@ -1,5 +1,6 @@
 -- One step of a settle where nothing strikes: the message that a calm run hands over, or an erasure, which changes nothing.
-use Rattle.jn_wrong.proofs.Common.{◌≡◌, ◌⊎◌, inl, inr, ℕ, ◌<◌, Bool, true, false, List, [], ◌∷◌, ◌++◌, append-nil, length, drop, Option, Some, None, is_some, refl, sym, ◌∙◌, ap, subst, arith, drop-append_seam, ◌&&◌, not, if◌then◌else◌, nat_lt, slice_get, ServerNo, Client, Server, Message, StableState, Pick, stable, RowOutcome, Sent, Work, WorkId, drop_row, drop_phase, work_at, World, Memory, Room, server_row, storage_of, of_worker, Deliver, Works, after, at_memory, handed, handing, working, go_on, course_to, newly_sent, numbered, Setup, Chance, Rests, State, begun, Deed, room, no_room, nothing, served, delivered, delivered_at, is_busy, is_busy_with, worked, working_steps, Devices, IsServed, Alone, Befalls, servers_of, first_busy, next_event, resting, deed_of, most_messages, made, done, IsQuiet, Calm, quiet-same, quiet-called, delivered-up, still, is_fixed, is_sent_so, rests_so, no-faults, step_calls, row_calls, has_going, Active, Broken, Stored, Phase}
+use Rattle.jn_wrong.proofs.Common.{◌≡◌, ◌⊎◌, inl, inr, ℕ, ◌<◌, Bool, true, false, List, [], ◌∷◌, ◌++◌, append-nil, length, drop, Option, Some, None, is_some, refl, sym, ◌∙◌, ap, subst, arith, drop-append_seam, ◌&&◌, not, if◌then◌else◌, nat_lt, slice_get, ServerNo, Client, Server, Message, StableState, Pick, stable, RowOutcome, Sent, Work, WorkId, drop_row, drop_phase, work_at, World, Memory, Room, server_row, storage_of, of_worker, Deliver, Works, after, at_memory, handed, handing, working, go_on, course_to, newly_sent, numbered, Setup, Chance, Rests, State, begun, Deed, room, no_room, nothing, served, delivered, delivered_at, is_busy, is_busy_with, worked, working_steps, Devices, IsServed, Alone, Befalls, servers_of, first_busy, next_event, resting, deed_of, most_messages, made, done, IsQuiet, Calm, quiet-same, quiet-called, delivered-up, no-faults, step_calls, row_calls, has_going, Active, Broken, Stored, Phase, Left}
+use Rattle.jn_wrong.proofs.StillRuns.{still, is_fixed, is_sent_so, rests_so}
 use Rattle.jn_msgs.specs.declared.message.Message.TheVariants as messages
 use Rattle.jn_system.specs.WholeSystem.Steps as steps
 use Rattle.jn_headline.proofs.Busy.{IsFirst, first-busy-is, none-busy, idle-goes-not, erases}
@@ -84,9 +85,9 @@ module _ (x : Setup) (h : Chance) (s : State) (ds es : Devices) (quiet : IsQuiet
           at : Calm h (es q) → Same (on (served q row_calls (handing k (room h q) h.stop ∷ []))) (on (served q row_calls (Deliver k (room still q) ∷ [])))
           at calm = (
             made-same x h (on (served q row_calls (handing k (room h q) h.stop ∷ []))) (Deliver k (room still q) ∷ []) s' (no-faults q h.told calm.told) refl
-                (ap (λ (o : Option (Pick → ℕ)). bare_course (go_on (handing k (room h q) o ∷ []) s.course)) calm.stop
+                (ap (λ (o : Option (Pick → Left)). bare_course (go_on (handing k (room h q) o ∷ []) s.course)) calm.stop
                 ∙ ap (λ (now : World). bare_course (course_to now (Deliver k (room still q)) s.course)) (after-fixed (room h q) (room still q) w k q message m e up is.2)),
-            subst (λ (o : Option (Pick → ℕ)). IsQuiet x (go_on (handing k (room h q) o ∷ []) s.course).world es) (sym calm.stop)
+            subst (λ (o : Option (Pick → Left)). IsQuiet x (go_on (handing k (room h q) o ∷ []) s.course).world es) (sym calm.stop)
                 (quiet-called x w (after (Deliver k (room h q)) w) ds es quiet h q (λ p. delivered-up w p k (room h q)) a.others calm),
           )
 
@@ -114,7 +115,7 @@ module _ (x : Setup) (h : Chance) (s : State) (ds es : Devices) (quiet : IsQuiet
             at : Calm h (es q) → Stays (on (served q step_calls (working_steps h q)))
             at calm = (
               made-same x h (on (served q step_calls (working_steps h q))) [] s' (no-faults q h.told calm.told) refl
-                  (ap (λ (o : Option (Pick → ℕ)). bare_course (go_on (working q (room h q) o ∷ []) s.course)) calm.stop
+                  (ap (λ (o : Option (Pick → Left)). bare_course (go_on (working q (room h q) o ∷ []) s.course)) calm.stop
                   ∙ ap (λ (now : World). bare_course (course_to now (Works q (room h q)) s.course)) still-so ∙ idle-course)
                   ∙ idles x (on (served q step_calls [])) s s' few refl refl refl refl refl (sym tasks),
               quiet-called x w w ds es quiet h q (λ p z. z) a.others calm,

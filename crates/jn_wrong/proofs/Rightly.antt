@@ -1,5 +1,5 @@
 -- The right reports of schedules of which wrong ones are refuted, computed.
-use Rattle.jn_wrong.proofs.Common.{◌≡◌, ℕ, [], ◌∷◌, refl, arms_first, arms_in_order, arms_null, null_told, makes_one, calm, calmly, at_step, stopped, report, stop_met, outside_in_order, made_report, full_of, false, quiet_report, decays_once, decays_both, both_report, decays_behind_scrub, decays_with_power, forgiven_report, decays_behind_restart, restarted_report, arms_two, arms_far, Allows, Computes, Records, IsComputed, one_record, in_room}
+use Rattle.jn_wrong.proofs.Common.{◌≡◌, ℕ, [], ◌∷◌, refl, arms_first, arms_in_order, arms_null, null_told, makes_one, calm, calmly, at_step, stopped, report, stop_met, outside_in_order, made_report, full_of, false, quiet_report, decays_once, decays_both, both_report, decays_behind_scrub, decays_with_power, forgiven_report, decays_behind_restart, restarted_report, arms_two, arms_far, Allows, Computes, Records, IsComputed, one_record, in_room, whole_only}
 use Rattle.jn_base.specs.declared.device.FaultKind.TheVariants as faults
 use Rattle.jn_locks.specs.Locks as locks
 
@@ -24,7 +24,7 @@ two-computed = record { lines_are = refl; stage = refl; tasks = refl }
 pub far-computed : Computes calmly arms_far quiet_report
 far-computed = record { lines_are = refl; stage = refl; tasks = refl }
 
-pub met-stop : report 1 (at_step 6 (stopped (λ c. 0)) calmly) 60 arms_first ≡ stop_met
+pub met-stop : report 1 (at_step 6 (stopped (λ c. whole_only 0)) calmly) 60 arms_first ≡ stop_met
 met-stop = refl
 
 pub told-in-turn : (p r : ℕ) → report 1 (at_step 8 (record calm { told = (record { kind = faults.Null; page = p }) ∷ (record { kind = faults.Bad; page = r }) ∷ [] }) calmly) 60 arms_in_order ≡ outside_in_order p r

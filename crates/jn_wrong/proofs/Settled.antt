@@ -1,5 +1,6 @@
 -- A run of one server, step by step up to where a settle ends.
-use Rattle.jn_wrong.proofs.Common.{◌≡◌, ◌⊎◌, inl, inr, ℕ, zero, suc, ◌<◌, Bool, true, false, List, [], ◌∷◌, drop, Option, Some, None, is_some, refl, sym, ◌∙◌, ap, subst, arith, if◌then◌else◌, ServerNo, ClientNo, Command, DeviceState, Event, stable, World, go_on, Setup, Chance, Task, Begins, Meets, Rests, State, Stage, InSchedule, AtEnd, CutShort, next_at, next_task, begun, Deed, nothing, first_busy, servers_of, next_event, resting, deed_of, is_too_much, cut_short, come_to, made, done, next, next_by, none, more, Moment, Leads, Befalls, rubbish_on, pages_of, IsQuiet, still, goes, GoesSo, DoesSo, DoesNext, rests_so, s0, rubbish_count, pool_on, CountsAll}
+use Rattle.jn_wrong.proofs.Common.{◌≡◌, ◌⊎◌, inl, inr, ℕ, zero, suc, ◌<◌, Bool, true, false, List, [], ◌∷◌, drop, Option, Some, None, is_some, refl, sym, ◌∙◌, ap, subst, arith, if◌then◌else◌, ServerNo, ClientNo, Command, DeviceState, Event, stable, World, go_on, Setup, Chance, Task, Begins, Meets, Rests, State, Stage, InSchedule, AtEnd, CutShort, next_at, next_task, begun, Deed, nothing, first_busy, servers_of, next_event, resting, deed_of, is_too_much, cut_short, come_to, made, done, next, next_by, none, more, Moment, Leads, Befalls, rubbish_on, pages_of, IsQuiet, s0, rubbish_count, pool_on, CountsAll}
+use Rattle.jn_wrong.proofs.StillRuns.{still, goes, GoesSo, DoesSo, DoesNext, rests_so}
 use Rattle.jn_schedule.specs.declared.Event.TheVariants as events
 use Rattle.jn_wrong.proofs.Bare.{bare}
 use Rattle.jn_wrong.proofs.Driving.{Stand, IsStill, Driven, drive, quiet-one}

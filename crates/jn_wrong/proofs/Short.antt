@@ -1,5 +1,5 @@
--- In any run, each abort that is told for want of room was short of it at a step.
-use Rattle.jn_wrong.proofs.Common.{◌≡◌, ℕ, zero, suc, ◌+◌, Bool, true, false, List, [], ◌∷◌, ◌++◌, map, length, drop, Option, Some, None, refl, sym, ◌∙◌, ap, subst, arith, if◌then◌else◌, ◌&&◌, nat_lt, slice_get, list_all, ServerNo, ClientNo, Party, Client, Server, Resource, Outside, AllFiles, Need, Message, Event, EventRefusal, EpochsUsedUp, When, Text, Line, Sent, Pick, World, Memory, new_memory, Room, Step, Deliver, IsRun, run, after, LockFacts, ServerFact, Course, go, go_on, handing, working, on-world, Setup, Chance, Task, Begins, Meets, Acts, Rests, ComesUp, Dismisses, GoesDown, ClosesClients, CountsCommits, State, when_of, begun, Use, Nothing, Calls, Reads, Recovers, PowersOff, Decays, Revives, Arms, Disarms, Deed, room, delivered, delivered_at, is_busy, worked, working_steps, served, nothing, stopped_idle, crashed_at, recovering, recovered, restarted, given_up, brought_up, is_used_up, Devices, IsServed, Alone, IsUsed, refusal_of, acted, met, next_in, resting, deed_of, outside_texts, message_texts, traced, texts_of, lines_at, is_too_much, come_to, cut_short, none, more, Moment, DoesStep, Leads, before, closed_world, IsWritten, begun-lines, task-texts, Besides, IsShort, WasShort, OfText, OfLines, join, Cleans, step_calls}
+-- In any run, each abort that is reported for want of room was short of it at a step.
+use Rattle.jn_wrong.proofs.Common.{◌≡◌, ℕ, zero, suc, ◌+◌, Bool, true, false, List, [], ◌∷◌, ◌++◌, map, length, drop, Option, Some, None, refl, sym, ◌∙◌, ap, subst, arith, if◌then◌else◌, ◌&&◌, nat_lt, slice_get, list_all, ServerNo, ClientNo, Party, Client, Server, Resource, Outside, AllFiles, Need, Message, Event, EventRefusal, EpochsUsedUp, When, Text, Line, Sent, Pick, World, Memory, new_memory, Room, Step, Deliver, IsRun, run, after, LockFacts, ServerFact, Course, go, go_on, handing, working, on-world, Setup, Chance, Task, Begins, Meets, Acts, Rests, ComesUp, Dismisses, GoesDown, ClosesClients, CountsCommits, State, when_of, begun, Use, Nothing, Calls, Reads, Recovers, PowersOff, Decays, Revives, Arms, Disarms, Deed, room, delivered, delivered_at, is_busy, worked, working_steps, served, nothing, stopped_idle, crashed_at, recovering, recovered, restarted, given_up, brought_up, is_used_up, Devices, IsServed, Alone, IsUsed, refusal_of, acted, met, next_in, resting, deed_of, outside_texts, message_texts, traced, texts_of, lines_at, is_too_much, come_to, cut_short, none, more, Moment, DoesStep, Leads, before, closed_world, IsWritten, begun-lines, task-texts, Besides, IsShort, WasShort, OfText, OfLines, join, Cleans, step_calls, Left}
 use Rattle.jn_schedule.specs.declared.Event.TheVariants as events
 use Rattle.jn_report.specs.declared.line.Text.TheVariants as says
 use Rattle.jn_system.proofs.WholeSystem.Steps.{locks-keep, run-keeps, opening-keeps}
@@ -47,15 +47,15 @@ second a b h = grind arith
 abbrev HandsNothing : Deed → Type 0
 HandsNothing deed = list_all hands_nothing deed.steps ≡ true
 
-works-none : (q : ServerNo) (r : Room) (stop : Option (Pick → ℕ)) → list_all hands_nothing (working q r stop ∷ []) ≡ true
+works-none : (q : ServerNo) (r : Room) (stop : Option (Pick → Left)) → list_all hands_nothing (working q r stop ∷ []) ≡ true
 works-none q r None = refl
 works-none q r (Some made) = refl
 
-idle-none : (q : ServerNo) (stop : Option (Pick → ℕ)) → list_all hands_nothing (stopped_idle q stop) ≡ true
+idle-none : (q : ServerNo) (stop : Option (Pick → Left)) → list_all hands_nothing (stopped_idle q stop) ≡ true
 idle-none q None = refl
 idle-none q (Some made) = refl
 
-recovers-none : (h : Chance) (q : ServerNo) (stop : Option (Pick → ℕ)) → list_all hands_nothing (recovering h q stop) ≡ true
+recovers-none : (h : Chance) (q : ServerNo) (stop : Option (Pick → Left)) → list_all hands_nothing (recovering h q stop) ≡ true
 recovers-none h q None = refl
 recovers-none h q (Some made) = refl
 
@@ -208,7 +208,7 @@ module _ (x : Setup) (start now : Moment) where
           short = subst (λ (free : Need). IsShort free number has need) a.its.free short;
         })
 
-    handing-finds : (most k : ℕ) (q : ServerNo) (message : Message) → slice_get w.sent k ≡ Some (Server q, message) → Alone q (IsServed (x.counts q) most h w q) m.devices n.devices → (stop : Option (Pick → ℕ)) → AllFind (handing k (room h q) stop ∷ []) w
+    handing-finds : (most k : ℕ) (q : ServerNo) (message : Message) → slice_get w.sent k ≡ Some (Server q, message) → Alone q (IsServed (x.counts q) most h w q) m.devices n.devices → (stop : Option (Pick → Left)) → AllFind (handing k (room h q) stop ∷ []) w
     handing-finds most k q message e a None = (served-finds most k q message e a, tt)
     handing-finds most k q message e a (Some made) = (tt, tt)
 

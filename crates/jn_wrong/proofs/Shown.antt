@@ -1,5 +1,5 @@
 -- The lines of a show are those of what there is to print.
-use Rattle.jn_wrong.proofs.Common.{◌≡◌, ◌≢◌, ℕ, ◌+◌, Bool, true, false, List, [], ◌∷◌, ◌++◌, append-nil, map, length, Option, None, refl, ◌∙◌, ap, subst, arith, not, filter, if◌then◌else◌, ServerNo, Party, Outside, EventRefusal, Text, Line, Sent, Pick, stable, commit_holder, World, Printed, FileThere, PageStored, UnitLocked, Step, Course, go_on, newly_sent, text_printed, prints_of, Setup, Chance, prints_found, Task, Meets, Acts, CutShort, State, when_of, begun, Deed, Reads, stopped_idle, shown, showing, IsLookedOver, Alone, Befalls, refusal_of, met, deed_of, own_texts, message_texts, traced, texts_of, lines_at, is_too_much, come_to, cut_short, Moment, DoesStep, may_tell, begun-lines, is_printed, printed_lines, Shows, plain, Server}
+use Rattle.jn_wrong.proofs.Common.{◌≡◌, ◌≢◌, ℕ, ◌+◌, Bool, true, false, List, [], ◌∷◌, ◌++◌, append-nil, map, length, Option, None, refl, ◌∙◌, ap, subst, arith, not, filter, if◌then◌else◌, ServerNo, Party, Outside, EventRefusal, Text, Line, Sent, Pick, stable, commit_holder, World, Printed, FileThere, PageStored, UnitLocked, Step, Course, go_on, newly_sent, text_printed, prints_of, Setup, Chance, prints_found, Task, Meets, Acts, CutShort, State, when_of, begun, Deed, Reads, stopped_idle, shown, showing, IsLookedOver, Alone, Befalls, refusal_of, met, deed_of, own_texts, message_texts, traced, texts_of, lines_at, is_too_much, come_to, cut_short, Moment, DoesStep, may_tell, begun-lines, is_printed, printed_lines, Shows, plain, Server, Left}
 use Rattle.jn_schedule.specs.declared.Event.TheVariants as events
 use Rattle.jn_report.specs.declared.line.Text.TheVariants as says
 use Rattle.jn_wrong.proofs.Filtered.{filter-both, lines-left, is_of_step, step-tells, own-filtered}
@@ -77,7 +77,7 @@ module _ (x : Setup) (q : ServerNo) (a b : Moment) (d : DoesStep x a b) (goes : 
   printed = prints_found d.chance.found
 
   deed-is : deed_of x d.chance d.task a.state ≡ looks x q d.chance (stopped_idle q d.chance.stop) (map (text_printed q) printed)
-  deed-is = is ∙ ap (λ (stop : Option (Pick → ℕ)). looks x q d.chance (stopped_idle q d.chance.stop) (shown q printed stop)) unstopped
+  deed-is = is ∙ ap (λ (stop : Option (Pick → Left)). looks x q d.chance (stopped_idle q d.chance.stop) (shown q printed stop)) unstopped
 
   lines-are : printed_lines b.state.lines ≡ printed_lines a.state.lines ++ lines_at (when_of u) (map (text_printed q) printed)
   lines-are = ap (λ (s : State). printed_lines s.lines) d.state_is ∙ by (is_too_much deed (go_on deed.steps u.course)) (λ e. goes (ap (λ (s : State). s.stage) d.state_is ∙ e))

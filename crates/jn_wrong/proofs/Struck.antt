@@ -1,8 +1,9 @@
--- A restart that faults wait for: what it tells, and that a stop at its first call isn't passed by.
-use Rattle.jn_wrong.proofs.Common.{◌≡◌, ◌⊎◌, inl, inr, ℕ, ◌+◌, Bool, true, false, not, ◌||◌, List, [], ◌∷◌, ◌++◌, map, Option, Some, None, is_some, refl, sym, ◌∙◌, ap, subst, arith, if◌then◌else◌, nat_eq, list_any, ServerNo, Event, Line, When, Text, Chance, allowed, Counts, Begins, Meets, ComesUp, State, next_task, EpochsUsedUp, TooManyArmed, Arms, Pick, StableState, World, Deed, Alone, Befalls, IsRecovery, last_epoch, given_up, recovered, recovering, pick_read, told_unless, refusal_of, begun, done, made, lines_at, when_of, own_texts, go_on, append-nil, run, Moment, still, FaultKind, Outside, Armed, DeviceState, PageState, may_arm, powered_off, FaultArmed, found_on, pairs_view, s0, recovers, is_stopped, may-lead, Longer, longer, IsNoneOfGood, arms_first, stop_passed_by}
+-- A restart that faults wait for: what it reports, and that a stop at its first call isn't passed by.
+use Rattle.jn_wrong.proofs.Common.{◌≡◌, ◌⊎◌, inl, inr, ℕ, ◌+◌, Bool, true, false, not, ◌||◌, List, [], ◌∷◌, ◌++◌, map, Option, Some, None, is_some, refl, sym, ◌∙◌, ap, subst, arith, if◌then◌else◌, nat_eq, list_any, ServerNo, Event, Line, When, Text, Chance, allowed, Counts, Begins, Meets, ComesUp, State, next_task, EpochsUsedUp, TooManyArmed, Arms, Pick, StableState, World, Deed, Alone, Befalls, IsRecovery, last_epoch, given_up, recovered, recovering, pick_read, told_unless, refusal_of, begun, done, made, lines_at, when_of, own_texts, go_on, append-nil, run, Moment, FaultKind, Outside, Armed, DeviceState, PageState, may_arm, powered_off, FaultArmed, found_on, pairs_view, s0, recovers, is_stopped, may-lead, Longer, longer, IsNoneOfGood, arms_first, stop_passed_by, Left}
+use Rattle.jn_wrong.proofs.StillRuns.{still}
 use Rattle.std.specs.Prelude.{◌/◌}
 use Rattle.jn_base.specs.declared.device.FaultKind.TheVariants as faults
-use Rattle.jn_found.proofs.Picking.{same_found}
+use Rattle.jn_page_state.proofs.Picking.{same_found}
 use Rattle.jn_schedule.specs.declared.Event.TheVariants as events
 use Rattle.jn_report.specs.declared.line.Text.TheVariants as says
 use Rattle.jn_wrong.proofs.Calls.{first-call-stops}
@@ -125,7 +126,7 @@ any-told : (when : When) (told : List Outside) (more : List Text) → list_any t
 any-told when [] more h = h
 any-told when (fault ∷ told) more h = any-told when told more h
 
--- with nothing told behind them
+-- with nothing reported behind them
 pub texts-plain : (a b : List Text) → a ++ b ++ [] ++ [] ≡ a ++ b
 texts-plain a b = append-nil (a ++ b ++ []) ∙ append-nil (a ++ b)
 
@@ -133,7 +134,7 @@ abbrev pub outside_of : Text → Option Outside
 outside_of (says.Outside q fault) = Some fault
 outside_of text = None
 
--- the fault that the third line tells, and the fourth
+-- the fault that the third line reports, and the fourth
 abbrev pub third_fault : List Line → Option Outside
 third_fault (a ∷ b ∷ l ∷ lines) = outside_of l.text
 third_fault lines = None
@@ -145,7 +146,7 @@ fourth_fault lines = None
 -- ---- what it does
 
 -- by whether it is stopped
-abbrev pub restarting : Chance → World → Option (Pick → ℕ) → Deed
+abbrev pub restarting : Chance → World → Option (Pick → Left) → Deed
 restarting h w stop = if (if is_some stop then false else nat_eq (w.found s0 (pick_read h)).epoch last_epoch) then record (given_up h s0) { texts = says.RefusedEvent EpochsUsedUp ∷ [] } else recovers s0 (recovering h s0 stop)
 
 clash : true ≡ false → ⊥
@@ -195,7 +196,7 @@ module _ (epochs : ServerNo → ℕ) (last : Moment) (over : next_task last.stat
               from r = either (first-call-stops r.powered r.power.power_is faults.StopBefore (r.power.waiting ∙ (let p = h.device in p.waiting)) (inl refl) r.called.last r.called.happens)
                 where
                   lit : r.called.last.power ≡ true
-                  lit = on r.called.last.power (sym (ap (λ (o : Option (Pick → ℕ)). is_some o) none) ∙ r.called.stop)
+                  lit = on r.called.last.power (sym (ap (λ (o : Option (Pick → Left)). is_some o) none) ∙ r.called.stop)
                     where
                       on : (c : Bool) → false ≡ not c → c ≡ true
                       on true k = refl
@@ -208,16 +209,16 @@ module _ (epochs : ServerNo → ℕ) (last : Moment) (over : next_task last.stat
                       two : ◌≡◌ {A = ℕ} 2 1 → ⊥
                       two z = cc
 
-          at : (stop : Option (Pick → ℕ)) → g.stop ≡ stop → Befalls x1 g (restarting g w g.stop) w h.moment.devices d.next.devices
+          at : (stop : Option (Pick → Left)) → g.stop ≡ stop → Befalls x1 g (restarting g w g.stop) w h.moment.devices d.next.devices
               → d.next.state.lines ≡ (made x1 g (restarting g w g.stop) (begun (Meets (events.Restart s0)) restarts_first)).lines → list_any tells_stop last.state.lines ≡ true
-          at None k b e = absurd (not-passed k (subst (λ (o : Option (Pick → ℕ)). Befalls x1 g (restarting g w o) w h.moment.devices d.next.devices) k b))
+          at None k b e = absurd (not-passed k (subst (λ (o : Option (Pick → Left)). Befalls x1 g (restarting g w o) w h.moment.devices d.next.devices) k b))
           at (Some made') k b e = from (longer x1 d.next.state last.state (may-lead x1 d.next last d.leads))
             where
               own : List Text
               own = own_texts w (go_on (recovering g s0 (Some made')) restarts_first.course).world
 
               told : list_any tells_stop d.next.state.lines ≡ true
-              told = ap (λ (ls : List Line). list_any tells_stop ls) (e ∙ ap (λ (o : Option (Pick → ℕ)). (made x1 g (restarting g w o) (begun (Meets (events.Restart s0)) restarts_first)).lines) k
+              told = ap (λ (ls : List Line). list_any tells_stop ls) (e ∙ ap (λ (o : Option (Pick → Left)). (made x1 g (restarting g w o) (begun (Meets (events.Restart s0)) restarts_first)).lines) k
                   ∙ ap (λ (texts : List Text). restarts_first.lines ++ lines_at (when_of restarts_first) texts) (texts-plain (outside_texts_of g.told) own))
                   ∙ any-behind tells_stop restarts_first.lines (lines_at (when_of restarts_first) (outside_texts_of g.told ++ own)) (any-told (when_of restarts_first) g.told own refl)
 

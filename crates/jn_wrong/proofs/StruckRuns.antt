@@ -1,5 +1,5 @@
 -- Whole runs over devices at whose restart a fault strikes that waited.
-use Rattle.jn_wrong.proofs.Common.{◌≡◌, ◌≤◌, ◌+◌, ◌++◌, ℕ, true, false, true≢false, List, [], ◌∷◌, append_assoc, refl, sym, ◌∙◌, ap, arith, Meets, State, Chance, FaultKind, StopBefore, Null, Bad, Outside, recovered, IsRecovery, Happens, get, put, joined, more, calm, stopped, s0, DeviceState, Armed, bumped, arms_first, arms_in_order, arms_null, null_told, stop_met, outside_in_order, Ok, Err, IsOneOfGood}
+use Rattle.jn_wrong.proofs.Common.{◌≡◌, ◌≤◌, ◌+◌, ◌++◌, ℕ, true, false, true≢false, List, [], ◌∷◌, append_assoc, refl, sym, ◌∙◌, ap, arith, Meets, State, Chance, FaultKind, StopBefore, Null, Bad, Outside, recovered, IsRecovery, Happens, get, put, joined, more, calm, stopped, s0, DeviceState, Armed, bumped, arms_first, arms_in_order, arms_null, null_told, stop_met, outside_in_order, Ok, Err, IsOneOfGood, whole_only}
 use Rattle.jn_device.specs.declared.Look.TheVariants.{Good}
 use Rattle.jn_device.specs.Happens.{none}
 use Rattle.jn_schedule.specs.declared.Event.TheVariants as events
@@ -10,7 +10,7 @@ use Rattle.jn_wrong.proofs.OnEvents.{armed, crashed, begins-then, arms-then, cra
 use Rattle.jn_wrong.proofs.Endings.{one-so, names-nothing, at_up, first_tally, from-up, from-off}
 use Rattle.jn_wrong.proofs.Pairs.{the_counts}
 
--- ---- a device that has told faults goes on as one that hasn't
+-- ---- a device that has reported faults goes on as one that hasn't
 
 abbrev telling : List Outside → DeviceState → DeviceState
 telling told d = record d { told = told ++ d.told }
@@ -49,7 +49,7 @@ got_on t = record { calls = bumped t.calls; puts = t.puts; stops = t.stops }
 -- ---- a stop before the first call
 
 abbrev stop_now : Chance
-stop_now = stopped (λ c. 0)
+stop_now = stopped (λ c. whole_only 0)
 
 abbrev stopped_tally : Tally
 stopped_tally = record { calls = first_tally.calls; puts = first_tally.puts; stops = bumped first_tally.stops }

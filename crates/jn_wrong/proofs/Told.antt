@@ -1,5 +1,5 @@
--- The faults that a restart tells: of pages that there are, armed before, and in the order of the calls that they met.
-use Rattle.jn_wrong.proofs.Common.{◌≡◌, ◌≢◌, ◌<◌, ℕ, Bool, true, false, not, List, [], ◌∷◌, ◌++◌, Option, Some, None, is_some, refl, sym, ◌∙◌, ap, subst, arith, nat_tests, nat_lt, ServerNo, Line, When, Text, Chance, Meets, State, next_task, Pick, World, Alone, Befalls, IsRecovery, begun, made, when_of, lines_at, own_texts, go_on, recovering, Moment, FaultKind, Outside, Armed, DeviceState, struck_page, Happens, s0, line, may-lead, Longer, longer, IsNoneOfGood, arms_in_order, outside_swapped, arms_null, null_told}
+-- The faults that a restart reports: of pages that there are, armed before, and in the order of the calls that they met.
+use Rattle.jn_wrong.proofs.Common.{◌≡◌, ◌≢◌, ◌<◌, ℕ, Bool, true, false, not, List, [], ◌∷◌, ◌++◌, Option, Some, None, is_some, refl, sym, ◌∙◌, ap, subst, arith, nat_tests, nat_lt, ServerNo, Line, When, Text, Chance, Meets, State, next_task, Pick, World, Alone, Befalls, IsRecovery, begun, made, when_of, lines_at, own_texts, go_on, recovering, Moment, FaultKind, Outside, Armed, DeviceState, struck_page, Happens, s0, line, may-lead, Longer, longer, IsNoneOfGood, arms_in_order, outside_swapped, arms_null, null_told, Left}
 use Rattle.jn_base.specs.declared.device.FaultKind.TheVariants as faults
 use Rattle.jn_schedule.specs.declared.Event.TheVariants as events
 use Rattle.jn_report.specs.declared.line.Text.TheVariants as says
@@ -11,7 +11,7 @@ use Rattle.jn_wrong.proofs.Struck.{Armed_so, comes-armed, begun_by, armed_by, cr
 
 -- ---- lines
 
--- there is a text, and the first one tells no fault
+-- there is a text, and the first one reports no fault
 abbrev starts_plain : List Text → Bool
 starts_plain [] = false
 starts_plain (text ∷ texts) = not (is_some (outside_of text))
@@ -61,9 +61,9 @@ module _ (when : When) (a b : Line) (rest : List Text) (new : List Line) (plain 
   one-told Q fault [] h e = some-none fault (sym third-plain ∙ e)
   one-told Q fault (o ∷ told) h e = subst Q (the-same e) h.0
 
--- ---- what a restart tells
+-- ---- what a restart reports
 
--- it tells these faults, then something else
+-- it reports these faults, then something else
 record TellsThese (s : State) (told : List Outside) (lines : List Line) : Type 0 where
   rest : List Text
   plain : starts_plain rest ≡ true
@@ -136,23 +136,23 @@ module _ (epochs : ServerNo → ℕ) (last : Moment) (over : next_task last.stat
           its : {up : Bool} → Alone s0 (IsRecovery (x1.counts s0) g up) h.moment.devices d.next.devices → CalledSo (null_waits ∷ bad_waits ∷ []) g.told
           its {up} a = called-so g up (null_waits ∷ bad_waits ∷ []) (h.moment.devices s0) (d.next.devices s0) a.its h.device
 
-          befalls-by : (stop : Option (Pick → ℕ)) → g.stop ≡ stop → Befalls x1 g (restarting g w stop) w h.moment.devices d.next.devices
-          befalls-by stop k = subst (λ (o : Option (Pick → ℕ)). Befalls x1 g (restarting g w o) w h.moment.devices d.next.devices) k d.befalls
+          befalls-by : (stop : Option (Pick → Left)) → g.stop ≡ stop → Befalls x1 g (restarting g w stop) w h.moment.devices d.next.devices
+          befalls-by stop k = subst (λ (o : Option (Pick → Left)). Befalls x1 g (restarting g w o) w h.moment.devices d.next.devices) k d.befalls
 
-          called : (stop : Option (Pick → ℕ)) → g.stop ≡ stop → CalledSo (null_waits ∷ bad_waits ∷ []) g.told
+          called : (stop : Option (Pick → Left)) → g.stop ≡ stop → CalledSo (null_waits ∷ bad_waits ∷ []) g.told
           called None k = let b = befalls-by None k in its b.used
           called (Some made') k = let b = befalls-by (Some made') k in its b.used
 
-          lines-by : (stop : Option (Pick → ℕ)) → g.stop ≡ stop → d.next.state.lines ≡ (made x1 g (restarting g w stop) (begun (Meets (events.Restart s0)) restarts_two)).lines
-          lines-by stop k = ap (λ (t : State). t.lines) d.state ∙ ap (λ (o : Option (Pick → ℕ)). (made x1 g (restarting g w o) (begun (Meets (events.Restart s0)) restarts_two)).lines) k
+          lines-by : (stop : Option (Pick → Left)) → g.stop ≡ stop → d.next.state.lines ≡ (made x1 g (restarting g w stop) (begun (Meets (events.Restart s0)) restarts_two)).lines
+          lines-by stop k = ap (λ (t : State). t.lines) d.state ∙ ap (λ (o : Option (Pick → Left)). (made x1 g (restarting g w o) (begun (Meets (events.Restart s0)) restarts_two)).lines) k
 
-          own : Option (Pick → ℕ) → List Text
+          own : Option (Pick → Left) → List Text
           own stop = own_texts w (go_on (recovering g s0 stop) restarts_two.course).world
 
           plainly : (texts : List Text) → restarts_two.lines ++ lines_at (when_of restarts_two) (outside_texts_of g.told ++ texts ++ [] ++ []) ≡ restarts_two.lines ++ lines_at (when_of restarts_two) (outside_texts_of g.told ++ texts)
           plainly texts = ap (λ (ts : List Text). restarts_two.lines ++ lines_at (when_of restarts_two) ts) (texts-plain (outside_texts_of g.told) texts)
 
-          by-stop : (stop : Option (Pick → ℕ)) → g.stop ≡ stop → TellsThese restarts_two g.told d.next.state.lines
+          by-stop : (stop : Option (Pick → Left)) → g.stop ≡ stop → TellsThese restarts_two g.told d.next.state.lines
           by-stop None k = record { rest = own None; plain = refl; lines_are = lines-by None k ∙ plainly (own None) }
           by-stop (Some made') k = record { rest = own (Some made'); plain = refl; lines_are = lines-by (Some made') k ∙ plainly (own (Some made')) }
 
@@ -181,7 +181,7 @@ module _ (epochs : ServerNo → ℕ) (last : Moment) (over : next_task last.stat
       (crashes-one x1 refl last over (begun_by last over (events.Crash s0) (at_up arms_null epochs)) _ (Armed_so true []) (Armed_so false []) refl refl refl (off last over [])
       (begins-one x1 refl last over (at_up arms_null epochs) (events.Crash s0) (Armed_so true []) refl (comes-armed arms_null epochs last over h))))
 
-  -- it tells a fault of this kind at a page that there is
+  -- it reports a fault of this kind at a page that there is
   abbrev IsNullThere : Outside → Type 0
   IsNullThere fault = (fault.kind ≡ faults.Null) × (fault.page < 354)
 
@@ -200,23 +200,23 @@ module _ (epochs : ServerNo → ℕ) (last : Moment) (over : next_task last.stat
           its : {up : Bool} → Alone s0 (IsRecovery (x1.counts s0) g up) h.moment.devices d.next.devices → CalledSo ((record { after = 1; kind = faults.Null }) ∷ []) g.told
           its {up} a = called-so g up ((record { after = 1; kind = faults.Null }) ∷ []) (h.moment.devices s0) (d.next.devices s0) a.its h.device
 
-          befalls-by : (stop : Option (Pick → ℕ)) → g.stop ≡ stop → Befalls x1 g (restarting g w stop) w h.moment.devices d.next.devices
-          befalls-by stop k = subst (λ (o : Option (Pick → ℕ)). Befalls x1 g (restarting g w o) w h.moment.devices d.next.devices) k d.befalls
+          befalls-by : (stop : Option (Pick → Left)) → g.stop ≡ stop → Befalls x1 g (restarting g w stop) w h.moment.devices d.next.devices
+          befalls-by stop k = subst (λ (o : Option (Pick → Left)). Befalls x1 g (restarting g w o) w h.moment.devices d.next.devices) k d.befalls
 
-          called : (stop : Option (Pick → ℕ)) → g.stop ≡ stop → CalledSo ((record { after = 1; kind = faults.Null }) ∷ []) g.told
+          called : (stop : Option (Pick → Left)) → g.stop ≡ stop → CalledSo ((record { after = 1; kind = faults.Null }) ∷ []) g.told
           called None k = let b = befalls-by None k in its b.used
           called (Some made') k = let b = befalls-by (Some made') k in its b.used
 
-          lines-by : (stop : Option (Pick → ℕ)) → g.stop ≡ stop → d.next.state.lines ≡ (made x1 g (restarting g w stop) (begun (Meets (events.Restart s0)) restarts_one)).lines
-          lines-by stop k = ap (λ (t : State). t.lines) d.state ∙ ap (λ (o : Option (Pick → ℕ)). (made x1 g (restarting g w o) (begun (Meets (events.Restart s0)) restarts_one)).lines) k
+          lines-by : (stop : Option (Pick → Left)) → g.stop ≡ stop → d.next.state.lines ≡ (made x1 g (restarting g w stop) (begun (Meets (events.Restart s0)) restarts_one)).lines
+          lines-by stop k = ap (λ (t : State). t.lines) d.state ∙ ap (λ (o : Option (Pick → Left)). (made x1 g (restarting g w o) (begun (Meets (events.Restart s0)) restarts_one)).lines) k
 
-          own : Option (Pick → ℕ) → List Text
+          own : Option (Pick → Left) → List Text
           own stop = own_texts w (go_on (recovering g s0 stop) restarts_one.course).world
 
           plainly : (texts : List Text) → restarts_one.lines ++ lines_at (when_of restarts_one) (outside_texts_of g.told ++ texts ++ [] ++ []) ≡ restarts_one.lines ++ lines_at (when_of restarts_one) (outside_texts_of g.told ++ texts)
           plainly texts = ap (λ (ts : List Text). restarts_one.lines ++ lines_at (when_of restarts_one) ts) (texts-plain (outside_texts_of g.told) texts)
 
-          by-stop : (stop : Option (Pick → ℕ)) → g.stop ≡ stop → TellsThese restarts_one g.told d.next.state.lines
+          by-stop : (stop : Option (Pick → Left)) → g.stop ≡ stop → TellsThese restarts_one g.told d.next.state.lines
           by-stop None k = record { rest = own None; plain = refl; lines_are = lines-by None k ∙ plainly (own None) }
           by-stop (Some made') k = record { rest = own (Some made'); plain = refl; lines_are = lines-by (Some made') k ∙ plainly (own (Some made')) }
 

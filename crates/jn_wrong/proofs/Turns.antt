@@ -1,13 +1,12 @@
--- A server comes up and goes down by turns, as the lines tell it.
-use Rattle.jn_wrong.proofs.Common.{◌≡◌, ◌≢◌, ◌⊎◌, inl, inr, ℕ, ◌+◌, ◌<◌, Bool, true, false, List, [], ◌∷◌, ◌++◌, append-nil, Option, Some, None, is_some, refl, sym, ◌∙◌, ap, subst, arith, ◌&&◌, ◌||◌, not, if◌then◌else◌, nat_lt, list_all, nat_tests, ServerNo, ClientNo, server_eq, server_tells, AllFiles, Event, Text, ClientTable, Sent, Pick, World, Memory, at_server, new_memory, server_timeout, restored, named_now, Step, after, Setup, State, MayLead, before, is_note, is_of_delivery, is_up_after, may_be_told, takes_turns, Note, StableState, lines_of, ClientRow, by_command, by_ignoring, by_answering, by_telling, FoundThen, by_narrowing, by_raising, Quiet, is_refused, is_lost, StepCase, client_row, row_done, row_stopped, gone_late, gone_down, come_up, found_anew, dismissed, quietly, step-case, one-server}
-use Rattle.jn_written.proofs.Telling.{weaker, Tells, take-tells, noted, noted-with}
+-- A server comes up and goes down by turns, as the lines report it.
+use Rattle.jn_wrong.proofs.Common.{◌≡◌, ◌≢◌, ◌⊎◌, inl, inr, ℕ, ◌+◌, ◌<◌, Bool, true, false, List, [], ◌∷◌, ◌++◌, append-nil, Option, Some, None, is_some, refl, sym, ◌∙◌, ap, subst, arith, ◌&&◌, ◌||◌, not, if◌then◌else◌, nat_lt, list_all, nat_tests, ServerNo, ClientNo, server_eq, server_tells, AllFiles, Event, Text, ClientTable, Sent, Pick, World, Memory, at_server, new_memory, server_timeout, restored, named_now, Step, after, Setup, State, MayLead, before, is_note, is_of_delivery, is_up_after, may_be_told, takes_turns, Note, StableState, lines_of, ClientRow, by_command, by_ignoring, by_answering, by_telling, FoundThen, by_narrowing, by_raising, Quiet, is_refused, is_lost, StepCase, client_row, row_done, row_stopped, gone_late, gone_down, come_up, found_anew, dismissed, quietly, step-case, one-server, weaker, Tells, take-tells, noted, noted-with}
 use Rattle.jn_report.specs.declared.line.Text.TheVariants as says
 use Rattle.jn_wrong.proofs.Reading.{no_turn, of-answer, of-note, of-delivery, named-quiet, reads, behind, quiet-reads, quiet-behind as still-behind, Reading, run-read}
 
 both : (a b : Bool) → a ≡ true → b ≡ true → (a && b) ≡ true
 both a b h k = grind arith
 
--- ---- what a step tells that turns no server on or off
+-- ---- what a step reports that turns no server on or off
 
 abbrev pub Aside : World → List Text → Type 0
 Aside w lines = (texts : List Text) × (lines ≡ w.lines ++ texts) × (list_all no_turn texts ≡ true)

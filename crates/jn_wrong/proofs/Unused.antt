@@ -5,7 +5,7 @@ use Rattle.std.proofs.lemmas.List.Sums.{sum_by-cons, count_by-le-length}
 use Rattle.jn_records.specs.declared.record.Record.TheVariants.{Ready}
 use Rattle.jn_storage.specs.Listing.{is_in, IsListing, total}
 use Rattle.jn_storage.specs.Orderly.{file_there, list_of}
-use Rattle.jn_found.proofs.PageChanges.{length-listed}
+use Rattle.jn_page_state.proofs.PageChanges.{length-listed}
 use Rattle.jn_wrong.proofs.Doing.{itself}
 
 -- ---- counts

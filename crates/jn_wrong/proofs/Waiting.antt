@@ -1,5 +1,6 @@
 -- Faults that wait for calls that aren't made: two for two calls, and a stop far off.
-use Rattle.jn_wrong.proofs.Common.{◌≡◌, ℕ, ◌++◌, Bool, true, List, [], ◌∷◌, Some, None, refl, ◌∙◌, ap, ServerNo, allowed, Begins, Meets, Dismisses, State, next_task, TooManyArmed, Arms, told_unless, refusal_of, done, Moment, still, FaultKind, Armed, DeviceState, may_arm, disarmed, FaultArmed, s0, IsOnlyOfGood, arms_two, quiet_report}
+use Rattle.jn_wrong.proofs.Common.{◌≡◌, ℕ, ◌++◌, Bool, true, List, [], ◌∷◌, Some, None, refl, ◌∙◌, ap, ServerNo, allowed, Begins, Meets, Dismisses, State, next_task, TooManyArmed, Arms, told_unless, refusal_of, done, Moment, FaultKind, Armed, DeviceState, may_arm, disarmed, FaultArmed, s0, IsOnlyOfGood, arms_two, quiet_report}
+use Rattle.jn_wrong.proofs.StillRuns.{still}
 use Rattle.jn_base.specs.declared.device.FaultKind.TheVariants as faults
 use Rattle.jn_schedule.specs.declared.Event.TheVariants as events
 use Rattle.jn_report.specs.declared.line.Text.TheVariants as says

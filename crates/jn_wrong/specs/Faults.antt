@@ -12,13 +12,13 @@ use Rattle.jn_records.specs.StablePages.{root_by}
 use Rattle.jn_store.specs.Pairs.{pairs_view}
 use Rattle.jn_disks.specs.Disks.{IsNewStore}
 use Rattle.jn_system.specs.WholeSystem.ExampleNames.{s0}
-use Rattle.jn_written.specs.Chances.{Setup, Chance}
-use Rattle.jn_written.specs.Tasks.{AtEnd, State}
-use Rattle.jn_written.specs.Devices.{Devices}
-use Rattle.jn_written.specs.Steps.{after}
-use Rattle.jn_written.specs.Whole.{before, IsWhole}
-use Rattle.jn_written.specs.Examples.{setup, line, at_end}
-use Rattle.jn_wrong.specs.Still.{AreNew}
+use Rattle.jn_machine.specs.Chances.{Setup, Chance}
+use Rattle.jn_machine.specs.Tasks.{AtEnd, State}
+use Rattle.jn_machine.specs.Devices.{Devices}
+use Rattle.jn_machine.specs.Steps.{after}
+use Rattle.jn_machine.specs.Whole.{before, IsWhole}
+use Rattle.jn_machine.specs.Examples.{setup, line, at_end}
+use Rattle.jn_wrong.specs.NewImages.{AreNew}
 use Rattle.jn_wrong.specs.Wrong.{the_end}
 
 -- ---- one server of 177 stable pages
@@ -27,15 +27,15 @@ use Rattle.jn_wrong.specs.Wrong.{the_end}
 abbrev pub AreGood : Devices → Type 0
 AreGood images = (p : ℕ) → ((images s0).pages p).good ≡ true
 
--- every whole run of the schedule tells exactly these lines, whatever befalls it
+-- every whole run of the schedule reports exactly these lines, whatever befalls it
 abbrev pub IsOnlyOfGood : List Event → List Line → Type 0
 IsOnlyOfGood schedule report = (images closing : Devices) (lines : List Line) → AreNew (setup 1) images → AreGood images → IsWhole (setup 1) schedule images closing lines → lines ≡ report
 
--- and none tells these
+-- and none reports these
 abbrev pub IsNoneOfGood : List Event → List Line → Type 0
 IsNoneOfGood schedule wrong = (images closing : Devices) → AreNew (setup 1) images → AreGood images → IsWhole (setup 1) schedule images closing wrong → ⊥
 
--- one whole run of the schedule tells exactly these lines, from images and with devices that are there
+-- one whole run of the schedule reports exactly these lines, from images and with devices that are there
 pub record IsOneOfGood (schedule : List Event) (report : List Line) : Type 0 where
   pub images : Devices
   pub closing : Devices
@@ -63,7 +63,7 @@ up = line 0 (says.Up s0 1)
 abbrev pub quiet_report : List Line
 quiet_report = up ∷ the_end
 
--- a fault is told at its own page
+-- a fault is reported at its own page
 abbrev pub decay_told : ℕ → ℕ → Line
 decay_told event page = line event (says.Outside s0 (record { kind = faults.Decay page; page = page }))
 
@@ -143,7 +143,7 @@ stop_met = up ∷ line 1 (says.Down s0) ∷ line 3 (says.Stopped s0) ∷ at_end 
 abbrev pub stop_passed_by : List Line
 stop_passed_by = up ∷ line 1 (says.Down s0) ∷ line 3 (says.Up s0 2) ∷ twice_up
 
--- two faults for the first two calls of a restart, each told where it meets a get
+-- two faults for the first two calls of a restart, each reported where it meets a get
 abbrev pub arms_in_order : List Event
 arms_in_order = events.Crash s0 ∷ events.Arm s0 1 faults.Null ∷ events.Arm s0 2 faults.Bad ∷ events.Restart s0 ∷ []
 
@@ -156,7 +156,7 @@ outside_in_order p r = up ∷ line 1 (says.Down s0) ∷ told_at faults.Null p �
 abbrev pub outside_swapped : ℕ → ℕ → List Line
 outside_swapped p r = up ∷ line 1 (says.Down s0) ∷ told_at faults.Bad p ∷ told_at faults.Null r ∷ line 4 (says.Up s0 2) ∷ twice_up
 
--- a fault that is told has a page that isn't there, or is another one
+-- a fault that is reported has a page that isn't there, or is another one
 abbrev pub arms_null : List Event
 arms_null = events.Crash s0 ∷ events.Arm s0 1 faults.Null ∷ events.Restart s0 ∷ []
 

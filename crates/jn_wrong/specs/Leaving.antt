@@ -3,9 +3,9 @@ use Rattle.std.specs.Prelude.{◌≡◌, Bool, true, false, List, [], ◌∷◌,
 use Rattle.jn_base.specs.declared.names.ServerNo.{ServerNo}
 use Rattle.jn_rows.specs.Stable.{Change, RemoveWork}
 use Rattle.jn_system.specs.WholeSystem.Steps.{Step, run}
-use Rattle.jn_written.specs.Chances.{Setup}
-use Rattle.jn_written.specs.Events.{deed_of}
-use Rattle.jn_written.specs.Runs.{Moment, DoesStep}
+use Rattle.jn_machine.specs.Chances.{Setup}
+use Rattle.jn_machine.specs.Events.{deed_of}
+use Rattle.jn_machine.specs.Runs.{Moment, DoesStep}
 
 -- what a step does in the system
 abbrev pub steps_in : (x : Setup) (a b : Moment) → DoesStep x a b → List Step

@@ -1,7 +1,7 @@
 pub mod Wrong
 pub mod Reports
 pub mod Others
-pub mod Still
+pub mod NewImages
 pub mod Settles
 pub mod Telling
 pub mod Showing

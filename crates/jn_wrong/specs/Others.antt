@@ -10,7 +10,7 @@ use Rattle.jn_report.specs.declared.line.Text.{Text}
 use Rattle.jn_report.specs.declared.line.Text.TheVariants as says
 use Rattle.jn_report.specs.declared.line.Line.{Line}
 use Rattle.jn_system.specs.WholeSystem.ExampleNames.{s0, s1, c1, c2, tid}
-use Rattle.jn_written.specs.Examples.{block_of, line, at_end}
+use Rattle.jn_machine.specs.Examples.{block_of, line, at_end}
 use Rattle.jn_wrong.specs.Wrong.{the_end}
 
 abbrev up : Line
@@ -103,7 +103,7 @@ read_otherwise = up ∷ begun ∷ line 4 (says.Opened c1 3 s0) ∷ line 6 (says.
 
 -- ---- a show before anything commits
 
--- it tells this
+-- it reports this
 abbrev pub show_tells : Text → List Line
 show_tells text = up ∷ begun ∷ line 4 (says.Opened c1 3 s0) ∷ line 6 (says.Did c1 5) ∷ line 7 text ∷ the_end
 

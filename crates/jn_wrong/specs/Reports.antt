@@ -11,7 +11,7 @@ use Rattle.jn_schedule.specs.declared.Event.TheVariants as events
 use Rattle.jn_report.specs.declared.line.Text.TheVariants as says
 use Rattle.jn_report.specs.declared.line.Line.{Line}
 use Rattle.jn_system.specs.WholeSystem.ExampleNames.{s0, s1, c1, c2, tid, file, block}
-use Rattle.jn_written.specs.Examples.{line, at_end, then_settle, makes_file}
+use Rattle.jn_machine.specs.Examples.{line, at_end, then_settle, makes_file}
 use Rattle.jn_wrong.specs.Wrong.{begins, the_end}
 
 -- a client begins, and each message has a line

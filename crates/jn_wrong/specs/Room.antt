@@ -1,4 +1,4 @@
--- What a transaction lacks at one server on whose pages nothing is stored, and reports that tell of it.
+-- What a transaction lacks at one server on whose pages nothing is stored, and reports of it.
 use Rattle.std.specs.Prelude.{◌≡◌, ◌-◌, ℕ, false, nat_lt, if◌then◌else◌, List, [], ◌∷◌, ◌++◌, Option, Some, None}
 use Rattle.jn_base.specs.declared.names.Cause.TheVariants.{Full as FullAt}
 use Rattle.jn_base.specs.declared.names.Resource.{Resource}
@@ -14,24 +14,24 @@ use Rattle.jn_report.specs.declared.line.Text.TheVariants as says
 use Rattle.jn_system.specs.WholeSystem.ExampleNames.{s0, c1, tid, file}
 use Rattle.jn_rows.specs.Coordinator.{promised}
 use Rattle.jn_system.specs.WholeSystem.World.{Memory}
-use Rattle.jn_written.specs.Chances.{Setup, Chance, Free, none_free}
-use Rattle.jn_written.specs.Tasks.{Task, Rests, State, next_task}
-use Rattle.jn_written.specs.Devices.{Devices}
-use Rattle.jn_written.specs.Whole.{IsWhole}
-use Rattle.jn_written.specs.Examples.{setup, calm, calm_at, line, at_end}
-use Rattle.jn_wrong.specs.Still.{AreNew}
+use Rattle.jn_machine.specs.Chances.{Setup, Chance, Free, none_free}
+use Rattle.jn_machine.specs.Tasks.{Task, Rests, State, next_task}
+use Rattle.jn_machine.specs.Devices.{Devices}
+use Rattle.jn_machine.specs.Whole.{IsWhole}
+use Rattle.jn_machine.specs.Examples.{setup, calm, calm_at, line, at_end}
+use Rattle.jn_wrong.specs.NewImages.{AreNew}
 use Rattle.jn_wrong.specs.Wrong.{a_file_made, the_end}
 
 -- what a transaction lacks first whose one work needs so much: a record for its flag, and then what the work needs of the rest
 abbrev pub lacking : Need → Counts → Option Vote
 lacking need g = if nat_lt g.pool 1 then Some (Full Records g.pool 1) else shortage (record { records = g.pool - 1; heads = g.heads; pages = g.leaves }) need
 
--- from new images a whole run of the schedule on one server tells want of this only where it is lacking, with these numbers
+-- from new images a whole run of the schedule on one server reports want of this only where it is lacking, with these numbers
 abbrev pub IsOnlyOfLacking : Need → List Event → (Resource → ℕ → ℕ → List Line) → Type 0
 IsOnlyOfLacking needs schedule report = (x : Setup) (images closing : Devices) (resource : Resource) (free need : ℕ) → x.servers ≡ 1 → x.trace ≡ false → AreNew x images
     → IsWhole x schedule images closing (report resource free need) → lacking needs (x.counts s0) ≡ Some (Full resource free need)
 
--- and where it is lacking each of them tells exactly this
+-- and where it is lacking each of them reports exactly this
 abbrev pub IsOnlyWhereLacking : Need → List Event → (Resource → ℕ → ℕ → List Line) → Type 0
 IsOnlyWhereLacking needs schedule report = (x : Setup) (images closing : Devices) (lines : List Line) (resource : Resource) (free need : ℕ) → x.servers ≡ 1 → x.trace ≡ false → AreNew x images
     → lacking needs (x.counts s0) ≡ Some (Full resource free need) → IsWhole x schedule images closing lines → lines ≡ report resource free need

@@ -1,13 +1,13 @@
 -- What a settle does, in any run.
 use Rattle.std.specs.Prelude.{◌≡◌, ℕ, List, Some}
 use Rattle.jn_schedule.specs.declared.Event.TheVariants as events
-use Rattle.jn_written.specs.Chances.{Setup, Chance}
-use Rattle.jn_written.specs.Tasks.{Task, Rests, State, next_task}
-use Rattle.jn_written.specs.Devices.{rubbish_on}
-use Rattle.jn_written.specs.Events.{next_in}
-use Rattle.jn_written.specs.Steps.{done}
-use Rattle.jn_written.specs.Runs.{Moment, Leads}
-use Rattle.jn_written.specs.Wrong.{IsAtRest}
+use Rattle.jn_machine.specs.Chances.{Setup, Chance}
+use Rattle.jn_machine.specs.Tasks.{Task, Rests, State, next_task}
+use Rattle.jn_machine.specs.Devices.{rubbish_on}
+use Rattle.jn_machine.specs.Events.{next_in}
+use Rattle.jn_machine.specs.Steps.{done}
+use Rattle.jn_machine.specs.Runs.{Moment, Leads}
+use Rattle.jn_machine.specs.Wrong.{IsAtRest}
 
 -- a settle hands over the message of this number
 pub record HandsOver (x : Setup) (k : ℕ) (s t : State) : Type 0 where

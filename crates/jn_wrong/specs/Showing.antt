@@ -1,5 +1,5 @@
 -- What a show prints, in any run.
-use Rattle.std.specs.Prelude.{◌≡◌, Bool, true, false, filter, List, [], ◌∷◌, ◌++◌, map, Option, Some, is_some}
+use Rattle.std.specs.Prelude.{◌≡◌, Bool, true, filter, List, [], ◌∷◌, ◌++◌, map, Option, Some, is_some}
 use Rattle.std.specs.List.{list_any}
 use Rattle.jn_base.specs.declared.names.ServerNo.{ServerNo}
 use Rattle.jn_base.specs.declared.names.FileNo.{FileNo}
@@ -8,28 +8,21 @@ use Rattle.jn_base.specs.declared.names.LockUnit.{LockUnit}
 use Rattle.jn_base.specs.declared.names.LockUnit.TheVariants.{File, Block}
 use Rattle.jn_locks.specs.Locks.{unit_before}
 use Rattle.jn_base.specs.Names.{unit_eq}
-use Rattle.jn_report.specs.declared.line.Text.{Text}
-use Rattle.jn_report.specs.declared.line.Text.TheVariants as says
 use Rattle.jn_report.specs.declared.line.Line.{Line}
 use Rattle.jn_system.specs.WholeSystem.World.{Memory}
 use Rattle.jn_system.specs.WholeSystem.Steps.{are_rising}
 use Rattle.jn_system.specs.WholeSystem.Printing.{Printed, FileThere, PageStored, UnitLocked}
 use Rattle.jn_system.specs.WholeSystem.PrintedLines.{text_printed, prints_of}
-use Rattle.jn_written.specs.Chances.{Setup}
-use Rattle.jn_written.specs.Tasks.{when_of, begun}
-use Rattle.jn_written.specs.Steps.{lines_at}
-use Rattle.jn_written.specs.Runs.{Moment, DoesStep}
-
-abbrev pub is_printed : Text → Bool
-is_printed (says.File q f) = true
-is_printed (says.Page q f p bytes) = true
-is_printed (says.Locked q u T) = true
-is_printed text = false
+use Rattle.jn_machine.specs.Chances.{Setup}
+use Rattle.jn_machine.specs.Tasks.{when_of, begun}
+use Rattle.jn_machine.specs.Steps.{lines_at}
+use Rattle.jn_machine.specs.Runs.{Moment, DoesStep}
+use Rattle.jn_report.specs.Kinds.{is_print as is_printed}
 
 abbrev pub printed_lines : List Line → List Line
 printed_lines lines = filter (λ (l : Line). is_printed l.text) lines
 
--- the file or block that is printed, or of which it is told who holds it
+-- the file or block that is printed, or of which it is reported who holds it
 abbrev pub unit_printed : Printed → LockUnit
 unit_printed (FileThere f) = File f
 unit_printed (PageStored f p bytes) = Block f p

@@ -1,5 +1,5 @@
--- What a step tells of refused faults, and what a restart mends, in any run.
-use Rattle.std.specs.Prelude.{◌≡◌, ◌<◌, ◌⊎◌, ◌+◌, ◌/◌, ℕ, Bool, true, false, not, filter, List, [], ◌++◌, map}
+-- What a step reports of refused faults, and what a restart mends, in any run.
+use Rattle.std.specs.Prelude.{◌≡◌, ◌<◌, ◌⊎◌, ◌+◌, ◌/◌, ℕ, false, not, filter, List, [], ◌++◌, map}
 use Rattle.jn_base.specs.declared.names.ServerNo.{ServerNo}
 use Rattle.jn_base.specs.declared.device.FaultKind.TheVariants as faults
 use Rattle.jn_base.specs.declared.device.Outside.{Outside}
@@ -7,25 +7,22 @@ use Rattle.jn_device.specs.Device.{DeviceState}
 use Rattle.jn_device.specs.Calls.{decay_outside}
 use Rattle.jn_device.specs.Events.{PowersUp, cleared, powered_off}
 use Rattle.jn_device.specs.Happens.{Happens}
-use Rattle.jn_found.specs.Puts.{IsFrontClean}
+use Rattle.jn_page_state.specs.Puts.{IsFrontClean}
 use Rattle.jn_records.specs.StablePages.{Counts, slot_place, head_place}
 use Rattle.jn_report.specs.declared.line.Text.{Text}
 use Rattle.jn_report.specs.declared.line.Text.TheVariants as says
 use Rattle.jn_report.specs.declared.line.Line.{Line}
 use Rattle.jn_store.specs.Pairs.{pairs_view}
-use Rattle.jn_written.specs.Deeds.{Use, Calls, Cleans, Reads, Recovers, Decays}
-use Rattle.jn_written.specs.Devices.{Devices, KeepsWhole}
-use Rattle.jn_written.specs.Events.{told_unless, deed_of}
-use Rattle.jn_written.specs.Chances.{Setup}
-use Rattle.jn_written.specs.Steps.{lines_at}
-use Rattle.jn_written.specs.Tasks.{when_of, begun}
-use Rattle.jn_written.specs.Runs.{Moment, DoesStep}
+use Rattle.jn_machine.specs.Deeds.{Use, Calls, Cleans, Reads, Recovers, Decays}
+use Rattle.jn_machine.specs.Devices.{Devices, KeepsWhole}
+use Rattle.jn_machine.specs.Events.{told_unless, deed_of}
+use Rattle.jn_machine.specs.Chances.{Setup}
+use Rattle.jn_machine.specs.Steps.{lines_at}
+use Rattle.jn_machine.specs.Tasks.{when_of, begun}
+use Rattle.jn_machine.specs.Runs.{Moment, DoesStep}
+use Rattle.jn_report.specs.Kinds.{is_outside}
 
 -- ---- refused faults
-
-abbrev pub is_outside : Text → Bool
-is_outside (says.Outside q fault) = true
-is_outside text = false
 
 abbrev pub outside_lines : List Line → List Line
 outside_lines lines = filter (λ (l : Line). is_outside l.text) lines
@@ -33,7 +30,7 @@ outside_lines lines = filter (λ (l : Line). is_outside l.text) lines
 abbrev pub outside_at : ServerNo → List Outside → List Text
 outside_at q told = map (λ (fault : Outside). says.Outside q fault) told
 
--- the device is called, each call a step of its own, and tells these faults meanwhile
+-- the device is called, each call a step of its own, and reports these faults meanwhile
 pub record TellsMeanwhile (told : List Outside) (d e : DeviceState) : Type 0 where
   pub last : DeviceState
   pub happens : Happens d last
@@ -41,7 +38,7 @@ pub record TellsMeanwhile (told : List Outside) (d e : DeviceState) : Type 0 whe
   pub told_is : told ≡ last.told
   pub after : e ≡ cleared last
 
--- a server's device tells these faults
+-- a server's device reports these faults
 pub record TellsOf (q : ServerNo) (d e : DeviceState) (texts : List Text) : Type 0 where
   pub told : List Outside
   pub tells : TellsMeanwhile told d e
@@ -55,7 +52,7 @@ pub record TellsRaised (q : ServerNo) (d e : DeviceState) (texts : List Text) : 
   pub tells : TellsOf q powered last texts
   pub after : (e ≡ last) ⊎ (e ≡ powered_off last)
 
--- what is told of refused faults where devices are used so: each that the device told, and a decay that isn't allowed
+-- what is reported of refused faults where devices are used so: each that the device reported, and a decay that isn't allowed
 abbrev pub AreToldBy : Use → Devices → Devices → List Text → Type 0
 AreToldBy (Calls q most) ds es texts = TellsOf q (ds q) (es q) texts
 AreToldBy (Cleans q) ds es texts = TellsOf q (ds q) (es q) texts

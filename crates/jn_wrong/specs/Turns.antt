@@ -1,4 +1,4 @@
--- How the lines of any run tell of a server that comes up and goes down, and at which events they stand.
+-- How the lines of any run report a server that comes up and goes down, and at which events they stand.
 use Rattle.std.specs.Prelude.{ℕ, Bool, true, false, not, nat_le, nat_lt, ◌&&◌, ◌||◌, if◌then◌else◌, List, [], ◌∷◌}
 use Rattle.std.specs.List.{list_all}
 use Rattle.jn_base.specs.declared.names.ServerNo.{ServerNo}
@@ -9,14 +9,14 @@ use Rattle.jn_report.specs.declared.line.Text.{Text}
 use Rattle.jn_report.specs.declared.line.Text.TheVariants as says
 use Rattle.jn_report.specs.declared.line.Line.{Line}
 
--- what lines tell one after another: each may stand where it does, by what the lines before it told
+-- what lines report one after another: each may stand where it does, by what the lines before it reported
 abbrev pub are_read : {A : Type 0} → (A → Text → A) → (A → Text → Bool) → A → List Line → Bool
 are_read next may was [] = true
 are_read next may was (l ∷ lines) = may was l.text && are_read next may (next was l.text) lines
 
 -- ---- servers that come up and go down
 
--- whether the server is up once this is told
+-- whether the server is up once this is reported
 abbrev pub is_up_after : ServerNo → Bool → Text → Bool
 is_up_after q was (says.Up s epoch) = if server_eq s q then true else was
 is_up_after q was (says.Down s) = if server_eq s q then false else was

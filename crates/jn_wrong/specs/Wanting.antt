@@ -12,9 +12,9 @@ use Rattle.jn_report.specs.declared.line.Line.{Line}
 use Rattle.jn_rows.specs.Stable.{stable}
 use Rattle.jn_system.specs.WholeSystem.World.{Memory}
 use Rattle.jn_server.specs.Standing.{free_on}
-use Rattle.jn_written.specs.Chances.{Setup}
-use Rattle.jn_written.specs.Devices.{pages_of}
-use Rattle.jn_written.specs.Runs.{Moment, DoesStep, Leads}
+use Rattle.jn_machine.specs.Chances.{Setup}
+use Rattle.jn_machine.specs.Devices.{pages_of}
+use Rattle.jn_machine.specs.Runs.{Moment, DoesStep, Leads}
 
 -- how much is free of it
 abbrev pub free_of : Resource → Need → ℕ

@@ -12,12 +12,12 @@ use Rattle.jn_report.specs.declared.line.Refusal.TheVariants as refusals
 use Rattle.jn_report.specs.declared.line.Text.TheVariants as says
 use Rattle.jn_report.specs.declared.line.Line.{Line}
 use Rattle.jn_system.specs.WholeSystem.ExampleNames.{s0, s1, c1, tid, file, block}
-use Rattle.jn_written.specs.Chances.{Setup}
-use Rattle.jn_written.specs.Devices.{Devices}
-use Rattle.jn_written.specs.Whole.{IsWhole}
-use Rattle.jn_written.specs.Examples.{block_of, line, at_end, then_settle, makes_file}
+use Rattle.jn_machine.specs.Chances.{Setup}
+use Rattle.jn_machine.specs.Devices.{Devices}
+use Rattle.jn_machine.specs.Whole.{IsWhole}
+use Rattle.jn_machine.specs.Examples.{block_of, line, at_end, then_settle, makes_file}
 
--- no whole run of the schedule tells these lines, whatever stands on the images and whatever befalls it
+-- no whole run of the schedule reports these lines, whatever stands on the images and whatever befalls it
 abbrev pub IsNone : List Event → List Line → Type 0
 IsNone schedule lines = (x : Setup) (images closing : Devices) → x.servers ≤ 8 → IsWhole x schedule images closing lines → ⊥
 
@@ -44,7 +44,7 @@ makes_and_reads = makes_file s0 (then_settle c1 (commands.Do s0 (ops.Read (file 
 abbrev pub the_end : List Line
 the_end = at_end (says.Down s0) ∷ at_end (says.Up s0 2) ∷ at_end (says.Commits 0) ∷ []
 
--- what a run of one server tells in which a client begins
+-- what a run of one server reports in which a client begins
 abbrev pub begun_report : List Line
 begun_report = line 0 (says.Up s0 1) ∷ line 2 (says.Begun c1 1 (tid s0 0)) ∷ the_end
 
@@ -86,7 +86,7 @@ abbrev pub other_bytes : List Line
 other_bytes = line 0 (says.Up s0 1) ∷ line 2 (says.Begun c1 1 (tid s0 0)) ∷ line 4 (says.Opened c1 3 s0) ∷ line 6 (says.Did c1 5) ∷ line 8 (says.Read c1 7 (block_of (104 ∷ [])))
     ∷ line 10 (says.Commit (tid s0 0)) ∷ line 10 (says.Committed c1 9 (tid s0 0)) ∷ at_end (says.Down s0) ∷ at_end (says.Up s0 2) ∷ at_end (says.File s0 (file 7)) ∷ at_end (says.Commits 1) ∷ []
 
--- a fault is told as refused though none waited
+-- a fault is reported as refused though none waited
 abbrev pub fault_of_nothing : List Line
 fault_of_nothing = line 0 (says.Up s0 1) ∷ line 2 (says.Outside s0 (record { kind = faults.Null; page = 1 })) ∷ line 2 (says.Begun c1 1 (tid s0 0)) ∷ the_end
 

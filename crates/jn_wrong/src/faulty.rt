@@ -1,13 +1,14 @@
-//! Reports of one server with faults and crashes, from new images on good pages: seven schedules with the only report that each has, and what is told by none.
+//! Reports of one server with faults and crashes, from new images on good pages: seven schedules with the only report that each has, and what is reported by none.
 
 ghost use Rattle.std.specs.Prelude.{◌≡◌, ◌≢◌, ℕ, nat_lt, false, [], ◌∷◌};
 ghost use Rattle.jn_base.specs.declared.device.FaultKind.{FaultKind};
 ghost use Rattle.jn_base.specs.declared.device.FaultKind.TheVariants.{Null, Bad};
-ghost use Rattle.jn_written.specs.Chances.{Allows};
-ghost use Rattle.jn_written.specs.Examples.{calm, calmly, at_step, stopped, report};
+ghost use Rattle.jn_machine.specs.Chances.{Allows};
+ghost use Rattle.jn_machine.specs.Examples.{calm, calmly, at_step, stopped, report};
 ghost use Rattle.jn_wrong.specs.Faults.{IsOnlyOfGood, IsNoneOfGood, Computes, quiet_report, decays_once, first_decay_told, decays_both, both_report, decays_behind_scrub, nothing_mended, decays_with_power, forgiven_report, nothing_forgiven, decays_behind_restart, restarted_report, left_unmended, arms_two, armed_too_many, arms_far, show_stopped, arms_first, stop_met, stop_passed_by, arms_in_order, outside_in_order, outside_swapped, arms_null, null_told};
+ghost use Rattle.jn_rows.specs.Stable.{whole_only};
 
-/// Each whole run of these schedules tells exactly this, whatever befalls it.
+/// Each whole run of these schedules reports exactly this, whatever befalls it.
 pub fn reports_with_faults_are_the_only_ones()
     ensures decay { IsOnlyOfGood decays_once quiet_report }
     ensures both_halves { IsOnlyOfGood decays_both both_report }
@@ -29,7 +30,7 @@ pub fn reports_with_faults_are_computed()
     ensures far_off { Computes calmly arms_far quiet_report }
 {}
 
-/// The first decay of a page is told as refused.
+/// The first decay of a page is reported as refused.
 pub fn a_first_decay_told_as_refused_is_none()
     ensures { IsNoneOfGood decays_once first_decay_told }
 {}
@@ -71,10 +72,10 @@ pub fn a_stop_passed_by_is_none()
 
 /// The right report of the same schedule, computed: there the restart is stopped.
 pub fn a_stop_at_a_first_call_is_met()
-    ensures { report 1 (at_step 6 (stopped (λ c. 0)) calmly) 60 arms_first ≡ stop_met }
+    ensures { report 1 (at_step 6 (stopped (λ c. whole_only 0)) calmly) 60 arms_first ≡ stop_met }
 {}
 
-/// Of two faults that a restart tells, the one that met the later call stands first.
+/// Of two faults that a restart reports, the one that met the later call stands first.
 pub fn faults_told_in_another_order_are_none()
     ensures { (p r : ℕ) → IsNoneOfGood arms_in_order (outside_swapped p r) }
 {}
@@ -84,17 +85,17 @@ pub fn faults_are_told_in_the_order_of_their_calls()
     ensures { (p r : ℕ) → report 1 (at_step 8 (record calm { told = (record { kind = Null; page = p }) ∷ (record { kind = Bad; page = r }) ∷ [] }) calmly) 60 arms_in_order ≡ outside_in_order p r }
 {}
 
-/// A fault is told at a page that isn't there.
+/// A fault is reported at a page that isn't there.
 pub fn a_fault_at_a_page_that_is_not_there_is_none()
     ensures { (page : ℕ) → nat_lt page 354 ≡ false → IsNoneOfGood arms_null (null_told Null page) }
 {}
 
-/// Another fault is told than the one that was to wait.
+/// Another fault is reported than the one that was to wait.
 pub fn a_fault_that_was_never_armed_is_none()
     ensures { (kind : FaultKind) → kind ≢ Null → (page : ℕ) → IsNoneOfGood arms_null (null_told kind page) }
 {}
 
-/// The right report of the same schedule, computed: that one line tells the fault that waited, at whichever page the call met.
+/// The right report of the same schedule, computed: that one line reports the fault that waited, at whichever page the call met.
 pub fn a_fault_that_waited_is_told()
     ensures { (page : ℕ) → report 1 (at_step 6 (record calm { told = (record { kind = Null; page = page }) ∷ [] }) calmly) 60 arms_null ≡ null_told Null page }
 {}

@@ -11,9 +11,9 @@ ghost use Rattle.jn_rows.specs.Stable.{Pick, stable};
 ghost use Rattle.jn_system.specs.WholeSystem.Servers.{Room, server_row, server_step};
 ghost use Rattle.jn_system.specs.WholeSystem.Steps.{Deliver, Work, Restart};
 ghost use Rattle.jn_system.specs.WholeSystem.World.{Memory};
-ghost use Rattle.jn_written.specs.Chances.{Setup};
-ghost use Rattle.jn_written.specs.Rubbish.{rubbish_records, left_by_steps};
-ghost use Rattle.jn_written.specs.Runs.{Moment, DoesStep};
+ghost use Rattle.jn_machine.specs.Chances.{Setup};
+ghost use Rattle.jn_machine.specs.Rubbish.{rubbish_records, left_by_steps};
+ghost use Rattle.jn_machine.specs.Runs.{Moment, DoesStep};
 ghost use Rattle.jn_wrong.specs.Leaving.{steps_in, IsUpBehind, removes_none};
 
 /// A step that leaves a rubbish record more than it may at a server that is up behind it, as one that nothing names, is none; nor is one that leaves fewer.

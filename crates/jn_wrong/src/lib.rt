@@ -1,4 +1,4 @@
-//! Wrong reports, which no run of the written machine tells; and laws over all its runs, which refuse more of them.
+//! Wrong reports, which no run of the written machine gives; and laws over all its runs, which refuse more of them.
 #![tactic(auto)]
 
 mod existing;
@@ -60,7 +60,7 @@ pub fn a_stop_without_a_cause_is_none()
     ensures { IsNone begins stopped_by_nothing }
 {}
 
-/// A fault is told as refused though none waited.
+/// A fault is reported as refused though none waited.
 pub fn a_refused_fault_without_a_cause_is_none()
     ensures { IsNone begins fault_of_nothing }
 {}

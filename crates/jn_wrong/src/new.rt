@@ -1,16 +1,16 @@
-//! Reports from new images: eight schedules with the only report that each has, whatever befalls it, and what is told by none.
+//! Reports from new images: eight schedules with the only report that each has, whatever befalls it, and what is reported by none.
 
 ghost use Rattle.std.specs.Prelude.{true, false};
 ghost use Rattle.jn_report.specs.declared.line.EventRefusal.{EventRefusal};
 ghost use Rattle.jn_report.specs.declared.line.Refusal.{Refusal};
 ghost use Rattle.jn_report.specs.declared.line.Text.{Text};
 ghost use Rattle.jn_report.specs.declared.line.Text.TheVariants.{RefusedEvent};
-ghost use Rattle.jn_wrong.specs.Still.{IsOnly, IsNoneOfNew};
+ghost use Rattle.jn_wrong.specs.NewImages.{IsOnly, IsNoneOfNew};
 ghost use Rattle.jn_wrong.specs.Wrong.{begins, begun_report};
 ghost use Rattle.jn_wrong.specs.Reports.{traced_report, settles_twice, settled_report, two_begin, two_report, reads_and_aborts, read_report, opens_other, opened_report, shows_unmade, shown_report, begins_and_aborts, aborted_report};
 ghost use Rattle.jn_wrong.specs.Others.{nothing_answered, refused_by_client, refused_as_event, with_another, ended_with_another, commit_of_nobody, answered_later, one_for_two, aborted_for_another, committed_for_another, opened_another, answered_at_once, epoch_skipped, downs_swapped, ups_swapped, read_otherwise, show_tells, messages_swapped, thanked_too_soon};
 
-/// From new images each whole run of these schedules tells exactly this, whatever befalls it.
+/// From new images each whole run of these schedules reports exactly this, whatever befalls it.
 pub fn reports_are_the_only_ones()
     ensures begins { IsOnly 1 false begins begun_report }
     ensures settles_twice { IsOnly 1 false settles_twice settled_report }
@@ -69,7 +69,7 @@ pub fn a_settle_that_leaves_a_message_is_none()
     ensures { IsNoneOfNew 1 false settles_twice answered_later }
 {}
 
-/// Messages have their lines out of order, or before what their step tells.
+/// Messages have their lines out of order, or before what their step reports.
 pub fn messages_out_of_place_are_none()
     ensures swapped { IsNoneOfNew 1 true begins messages_swapped }
     ensures too_soon { IsNoneOfNew 1 true begins_and_aborts thanked_too_soon }

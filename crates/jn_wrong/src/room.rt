@@ -3,8 +3,8 @@
 ghost use Rattle.std.specs.Prelude.{◌≡◌, ℕ, List, []};
 ghost use Rattle.jn_base.specs.declared.names.Resource.{Resource};
 ghost use Rattle.jn_base.specs.declared.names.Resource.TheVariants.{Records, Pages};
-ghost use Rattle.jn_written.specs.Examples.{calmly, report, setup, one_write};
-ghost use Rattle.jn_wrong.specs.Still.{IsOnlyOf, IsNoneOf};
+ghost use Rattle.jn_machine.specs.Examples.{calmly, report, setup, one_write};
+ghost use Rattle.jn_wrong.specs.NewImages.{IsOnlyOf, IsNoneOf};
 ghost use Rattle.jn_wrong.specs.Wrong.{makes_one, full_of};
 ghost use Rattle.jn_wrong.specs.Faults.{IsComputed};
 ghost use Rattle.jn_wrong.specs.Room.{IsOnlyOfLacking, IsOnlyWhereLacking, one_record, in_room, for_a_file, for_a_block, full_at_block, made_report};
@@ -16,7 +16,7 @@ pub fn an_abort_tells_what_is_lacking()
     ensures for_a_block { (bytes : List ℕ) → IsOnlyOfLacking for_a_block (one_write bytes []) full_at_block }
 {}
 
-/// Where room is lacking the abort comes: each whole run tells exactly this report. So where the server has one record, which the transaction's flag is promised:
+/// Where room is lacking the abort comes: each whole run gives exactly this report. So where the server has one record, which the transaction's flag is promised:
 /// of the two that its work needs none is free.
 pub fn an_abort_comes_where_room_is_lacking()
     ensures for_a_file { IsOnlyWhereLacking for_a_file makes_one full_of }
@@ -24,12 +24,12 @@ pub fn an_abort_comes_where_room_is_lacking()
     ensures with_one_record { IsOnlyOf one_record makes_one (full_of Records 0 2) }
 {}
 
-/// A transaction that aborts for want of records is told to abort for want of data pages, of which all are free.
+/// A transaction that aborts for want of records is reported to abort for want of data pages, of which all are free.
 pub fn an_abort_for_want_of_pages_that_are_free_is_none()
     ensures { (free need : ℕ) → IsNoneOf one_record makes_one (full_of Pages free need) }
 {}
 
-/// A transaction for which all is free is told to abort for want of records, heads or data pages, whatever is said to be free and needed.
+/// A transaction for which all is free is reported to abort for want of records, heads or data pages, whatever is said to be free and needed.
 pub fn an_abort_for_want_of_what_is_free_is_none()
     ensures of_a_file { (resource : Resource) (free need : ℕ) → IsNoneOf (setup 1) makes_one (full_of resource free need) }
     ensures of_a_block { (bytes : List ℕ) (resource : Resource) (free need : ℕ) → IsNoneOf (setup 1) (one_write bytes []) (full_at_block resource free need) }

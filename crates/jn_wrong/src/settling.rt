@@ -5,11 +5,11 @@ ghost use Rattle.jn_base.specs.declared.names.ServerNo.{ServerNo};
 ghost use Rattle.jn_order.specs.Files.{AllFiles};
 ghost use Rattle.jn_schedule.specs.declared.Event.{Event};
 ghost use Rattle.jn_schedule.specs.declared.Event.TheVariants.{Settle};
-ghost use Rattle.jn_written.specs.Chances.{Setup};
-ghost use Rattle.jn_written.specs.Events.{settling};
-ghost use Rattle.jn_written.specs.Runs.{Moment, MayLead, Leads};
-ghost use Rattle.jn_written.specs.Tasks.{Task, Meets, CutShort, State};
-ghost use Rattle.jn_written.specs.Whole.{before};
+ghost use Rattle.jn_machine.specs.Chances.{Setup};
+ghost use Rattle.jn_machine.specs.Events.{settling};
+ghost use Rattle.jn_machine.specs.Runs.{Moment, MayLead, Leads};
+ghost use Rattle.jn_machine.specs.Tasks.{Task, Meets, CutShort, State};
+ghost use Rattle.jn_machine.specs.Whole.{before};
 ghost use Rattle.jn_wrong.specs.Settles.{HandsOver, ComesToRest};
 
 /// A message that a settle has handed over is handed over by no settle again, that one or a later one, whatever befalls the run.

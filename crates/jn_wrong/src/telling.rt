@@ -1,4 +1,4 @@
-//! What is told of servers and their devices, in any run: each fault that is refused, what a scrub and a restart mend, at a show the files that are there, and
+//! What is reported of servers and their devices, in any run: each fault that is refused, what a scrub and a restart mend, at a show the files that are there, and
 //! who comes up and goes down.
 
 ghost use Rattle.std.specs.Prelude.{◌≡◌, ◌≢◌, ◌<◌, ℕ, true, false, List, length, None};
@@ -6,21 +6,21 @@ ghost use Rattle.jn_base.specs.declared.names.ServerNo.{ServerNo};
 ghost use Rattle.jn_order.specs.Files.{AllFiles};
 ghost use Rattle.jn_schedule.specs.declared.Event.{Event};
 ghost use Rattle.jn_schedule.specs.declared.Event.TheVariants.{Scrub, Restart, Show};
-ghost use Rattle.jn_found.specs.Pages.{found_on};
+ghost use Rattle.jn_page_state.specs.Pages.{found_on};
 ghost use Rattle.jn_rows.specs.Stable.{Pick};
 ghost use Rattle.jn_store.specs.Pairs.{pairs_view};
-ghost use Rattle.jn_written.specs.Chances.{Setup};
-ghost use Rattle.jn_written.specs.Refusals.{refusal_of};
-ghost use Rattle.jn_written.specs.Runs.{Moment, DoesStep, MayLead};
-ghost use Rattle.jn_written.specs.Tasks.{Meets, Acts, ComesUp, CutShort, State};
-ghost use Rattle.jn_written.specs.Whole.{before};
+ghost use Rattle.jn_machine.specs.Chances.{Setup};
+ghost use Rattle.jn_machine.specs.Refusals.{refusal_of};
+ghost use Rattle.jn_machine.specs.Runs.{Moment, DoesStep, MayLead};
+ghost use Rattle.jn_machine.specs.Tasks.{Meets, Acts, ComesUp, CutShort, State};
+ghost use Rattle.jn_machine.specs.Whole.{before};
 ghost use Rattle.jn_wrong.specs.Leaving.{IsUpBehind};
 ghost use Rattle.jn_wrong.specs.Showing.{Shows};
 ghost use Rattle.jn_wrong.specs.Telling.{TellsFaults, AreMended};
 ghost use Rattle.jn_wrong.specs.Turns.{takes_turns, epochs_rise, are_by};
 
-/// The lines of a step that tell of a refused fault are one for each that its device told in the step's calls, in their order, or for a decay that the
-/// device doesn't allow: none is left out, and none is told besides.
+/// The lines of a step that report a refused fault are one for each that its device reported in the step's calls, in their order, or for a decay that the
+/// device doesn't allow: none is left out, and none is reported besides.
 pub fn each_refused_fault_is_told()
     ensures { (x : Setup) (a b : Moment) (d : DoesStep x a b) → b.state.stage ≢ CutShort → TellsFaults x a b d }
 {}
@@ -34,7 +34,7 @@ pub fn a_scrub_leaves_no_old_half()
 {}
 
 /// Behind a restart that brings its server up, the two halves of the root, of each record and of each head hold the same bytes. Where no fault had waited,
-/// either half of each may go bad, so that no line tells of its decay as refused.
+/// either half of each may go bad, so that no line reports its decay as refused.
 pub fn a_restart_mends_root_records_and_heads()
     ensures in_the_schedule { (x : Setup) (q : ServerNo) (a b : Moment) (d : DoesStep x a b) → q.0 < x.servers → d.task ≡ Meets (Restart q) → refusal_of x a.state.course.world (Restart q) ≡ None → IsUpBehind x a b d q
         → AreMended (x.counts q) (a.devices q) (b.devices q) }
@@ -49,7 +49,7 @@ pub fn a_show_prints_what_is_there_once()
     ensures at_the_end { (x : Setup) (q : ServerNo) (a b : Moment) (d : DoesStep x a b) → d.task ≡ Acts (Show q) → d.chance.stop ≡ None → b.state.stage ≢ CutShort → Shows x q a b d }
 {}
 
-/// Each server is told to come up only where it is down, first at the start, and to go down only where it is up.
+/// Each server is reported to come up only where it is down, first at the start, and to go down only where it is up.
 pub fn a_server_comes_up_and_goes_down_by_turns()
     ensures { (q : ServerNo) (x : Setup) (schedule : List Event) (files : AllFiles) (epochs : ServerNo → ℕ) (t : State) → q.0 < x.servers → MayLead x (before x schedule files epochs) t
         → takes_turns q t.lines ≡ true }

@@ -2,10 +2,10 @@
 
 ghost use Rattle.std.specs.Prelude.{List};
 ghost use Rattle.jn_schedule.specs.declared.Event.{Event};
-ghost use Rattle.jn_written.specs.Chances.{Setup};
-ghost use Rattle.jn_written.specs.Devices.{Devices};
-ghost use Rattle.jn_written.specs.Runs.{Moment};
-ghost use Rattle.jn_written.specs.Whole.{before, IsWritten};
+ghost use Rattle.jn_machine.specs.Chances.{Setup};
+ghost use Rattle.jn_machine.specs.Devices.{Devices};
+ghost use Rattle.jn_machine.specs.Runs.{Moment};
+ghost use Rattle.jn_machine.specs.Whole.{before, IsWritten};
 ghost use Rattle.jn_wrong.specs.Wanting.{WasShort, OfLines};
 
 /// Where a client is told that its transaction aborted for want of room, the server that the line names had, in a step of the run, just so much

@@ -1,7 +1,9 @@
 //! A random schedule. Most commands are those that a client would give next, if all that it asked for went well.
 ghost use Rattle.std.specs.Prelude.{◌<◌};
 
-use jn_base::{BlockContent, BlockNo, ClientNo, Command, FaultKind, FileNo, Op, ServerNo, Tid};
+use jn_base::{
+    BlockContent, BlockNo, ClientNo, Command, FaultKind, FileNo, MOST_BLOCKS, Op, ServerNo, Tid,
+};
 use jn_intent::PageCounts;
 use jn_run_tests::Servers;
 use jn_schedule::Event;
@@ -179,7 +181,7 @@ impl Drawing {
     /// A block, one in twenty of which is the last one.
     fn block(&mut self) -> BlockNo {
         match self.draw(20) {
-            19 => BlockNo(119),
+            19 => BlockNo(MOST_BLOCKS - 1),
             drawn => BlockNo((drawn % 5) as u16),
         }
     }

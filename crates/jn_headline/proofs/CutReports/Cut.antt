@@ -135,7 +135,7 @@ module _ (servers : ℕ) (files : AllFiles) (epochs : ServerNo → ℕ) (items :
       past : (n m : ℕ) → m ≡ n → 1 + n ≤ 1 + m
       past n m q = omega (arith, q)
 
-  -- where nothing is told of the event that comes next
+  -- where nothing is reported of the event that comes next
   pub next-true : IsTrueSoFar files (events_of items ++ e ∷ []) (events_of items ++ e ∷ []) (lines_of items (opening servers files epochs))
   next-true = let t = run-true servers files epochs items h in record {
     agrees = silent-agrees (events_of items) e ls t.follows files t.agrees;

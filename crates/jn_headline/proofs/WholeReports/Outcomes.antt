@@ -1,4 +1,4 @@
--- What is told of outcomes, by all lines of a run: its last world says what is named.
+-- What is reported of outcomes, by all lines of a run: its last world says what is named.
 use Rattle.jn_headline.proofs.Common.{◌≡◌, ◌⊎◌, inl, inr, ℕ, ◌+◌, false, List, [], ◌∷◌, ◌++◌, append-nil, append_assoc, length, refl, sym, ◌∙◌, ap, subst, arith, map, ServerNo, Tid, AllFiles, Text, Line, commit_in, has_tid, history_of, is_answer, World, opening, committed_in, commits_in, Step, after, run, IsRun, Printed, FileThere, PageStored, UnitLocked, text_printed, Does, Item, told_by, at_event, lines_of, world_of, IsReported, Ending, IsEnding, steps_at_end, told_by_steps, texts_from, at_end, counted, lines_to_end, In, Each, in-first, in-second, in-either, each-in, each-append, Reached, LineFact, named-is, invariant, next-reached, opening-reached, IsApart, lines-in, IsOfEnd, end-told}
 use Rattle.jn_report.specs.declared.line.Text.TheVariants as says
 use Rattle.jn_serial.proofs.Orders.{NamesNone-append}
@@ -82,7 +82,7 @@ module _ (files : AllFiles) (epochs : ServerNo → ℕ) where
     then_lines = k.then_lines ∙ ap (λ l. l ++ told_by_steps steps (after step r)) (adds files epochs r h step) ∙ append_assoc r.lines (told_by (Does step) r) (told_by_steps steps (after step r));
   }
 
-  -- the lines of a run, with those of steps after it and more that no step tells
+  -- the lines of a run, with those of steps after it and more that no step reports
   module _ (servers : ℕ) (items : List Item) (h : IsReported items (opening servers files epochs)) (steps : List Step) (i : IsRun steps (world_of items (opening servers files epochs)))
       (more : List Text) (apart : Each IsApart more) (ends : Each IsOfEnd (told_by_steps steps (world_of items (opening servers files epochs)) ++ more)) where
     abbrev start : World
@@ -118,7 +118,7 @@ module _ (files : AllFiles) (epochs : ServerNo → ℕ) where
         ∙ ap (λ l. history_of ls ++ l) (history-at-end (told ++ more) ∙ commits-more told more ∙ ap (λ l. commits_in told ++ l) (apart-names more apart) ∙ append-nil (commits_in told))
         ∙ ap (λ l. l ++ commits_in told) (sym t.commits) ∙ sym (commits-more w.lines told) ∙ ap commits_in (sym z.then_lines)
 
-    -- what is told aborted or broken isn't among them
+    -- what is reported aborted or broken isn't among them
     unnamed : (T : Tid) → NeverNamed q.sent machine T → has_tid named T ≡ false
     unnamed T n = ap (λ l. has_tid l T) history ∙ sym (named-is files epochs q z.reached T) ∙ not-named q.sent machine T (invariant files epochs q z.reached) z.reached.ends n
 

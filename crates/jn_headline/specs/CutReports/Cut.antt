@@ -2,12 +2,12 @@
 use Rattle.std.specs.Prelude.{◌≡◌, Bool, true, false, List, ◌∷◌, ◌++◌}
 use Rattle.std.specs.List.{list_all}
 use Rattle.jn_report.specs.declared.line.Text.{Text}
-use Rattle.jn_report.specs.declared.line.Text.TheVariants as says
 use Rattle.jn_report.specs.declared.line.Line.{Line}
 use Rattle.jn_system.specs.WholeSystem.World.{World}
 use Rattle.jn_system.specs.WholeSystem.Steps.{Step, NextEvent, Tell, StopDelivery, StopWork, StopRestart, Dismiss, IsRun}
 use Rattle.jn_system_reports.specs.Reporting.Reported.{Item, lines_of, world_of}
 use Rattle.jn_system_reports.specs.Reporting.Ending.{told_by_steps, at_end}
+use Rattle.jn_report.specs.Kinds.{is_print}
 
 -- neither the beginning of an event, a command nor a stop
 abbrev pub is_of_end : Step → Bool
@@ -17,13 +17,6 @@ is_of_end (StopDelivery k room made) = false
 is_of_end (StopWork s room made) = false
 is_of_end (StopRestart s raised) = false
 is_of_end step = true
-
--- a line by which a server shows its files
-abbrev pub is_print : Text → Bool
-is_print (says.File s f) = true
-is_print (says.Page s f p bytes) = true
-is_print (says.Locked s u t) = true
-is_print text = false
 
 -- how far an end came: its steps once the clients were dismissed, and what was printed
 pub record CutEnd : Type 0 where

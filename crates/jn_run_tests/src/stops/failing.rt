@@ -75,7 +75,7 @@ impl Part {
     }
 }
 
-/// Runs whose outside fails, and what one tells that ends well.
+/// Runs whose outside fails, and what one reports that ends well.
 #[derive(Drop)]
 pub(crate) struct Honest {
     images: Images,

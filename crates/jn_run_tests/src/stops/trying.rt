@@ -6,7 +6,7 @@ use crate::{
 };
 use jn_base::Cause;
 use jn_intent::PageCounts;
-use jn_report::{Line, Text, When};
+use jn_report::{Line, Text, When, is_stopped};
 use jn_run::Status;
 use jn_schedule::Event;
 use std::alloc::{AllocError, Global};
@@ -185,7 +185,7 @@ fn wrong_in_call(alloc: Global, schedule: &str, lines: &[Line]) -> Result<Option
     Ok(None)
 }
 
-/// What a line tells the client of the transaction's end, where it does.
+/// What a line reports to the client of the transaction's end, where it does.
 fn told_by(text: &Text) -> Option<Outcome> {
     match text {
         Text::Committed(..) => Some(Outcome::Committed),
@@ -233,7 +233,7 @@ fn stops_in(events: &[Event], lines: &[Line]) -> Stops {
         elsewhere: 0,
     };
     for line in lines {
-        if let Text::Stopped(_) = line.text {
+        if is_stopped(&line.text) {
             if is_at_restart(events, line.when) {
                 stops.in_restarts = stops.in_restarts.saturating_add(1);
             } else {

@@ -1,10 +1,9 @@
 //! A server as the tests drive it.
 ghost use Rattle.std.specs.Prelude.{IfOk, IfErr};
-ghost use Rattle.jn_coord.specs.Handling.{FewWorks};
+ghost use Rattle.jn_msgs.specs.Ranges.{CanBeTaken};
 ghost use Rattle.jn_server_tests.specs.Restarts.{MayBegin, IsOf};
 ghost use Rattle.jn_server.specs.Seen.{view_with};
 ghost use Rattle.jn_server_tests.specs.Trial.{IsOn, LeavesServer};
-ghost use Rattle.jn_worker.specs.Handling.{InRange};
 
 use super::store::new_array;
 use jn_base::{Stopped, Tid};
@@ -135,8 +134,7 @@ impl<S: StableStore> Bench<S> {
     /// The server takes a message.
     fn tell(&mut self, message: &Message) -> Result<(), ServerFault>
         requires on { IsOn self.old.counts self.old.names (view_with (λ s. S.view s) self.old.server) }
-        requires range { InRange message.now }
-        requires few { FewWorks message.now }
+        requires taken { CanBeTaken message.now }
         ensures leaves { LeavesServer self.new.counts self.new.names result (view_with (λ s. S.view s) self.new.server) }
     {
         if self.names > 1000 {

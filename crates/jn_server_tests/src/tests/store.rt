@@ -1,19 +1,21 @@
 //! The store of a new server.
 
 ghost use Rattle.std.specs.Prelude.{◌≡◌, IfOk};
+ghost use Rattle.jn_records.specs.Pages.{format_version};
 ghost use Rattle.jn_server_tests.specs.Restarts.{MayBegin};
 
 use jn_base::ServerNo;
 use jn_disks::put_root;
 use jn_intent::PageCounts;
-use jn_records::Root;
+use jn_records::{FORMAT_VERSION, Root};
 use jn_store::{ArrayStore, StableStore};
 use std::alloc::{AllocError, Global};
 
 fn root_of(server: ServerNo, counts: PageCounts) -> Root
-    ensures { result ≡ record { server = server; pool = counts.pool; heads = counts.heads; leaves = counts.leaves; epoch = 0 } }
+    ensures { result ≡ record { version = format_version; server = server; pool = counts.pool; heads = counts.heads; leaves = counts.leaves; epoch = 0 } }
 {
     Root {
+        version: FORMAT_VERSION,
         server,
         pool: counts.pool,
         heads: counts.heads,

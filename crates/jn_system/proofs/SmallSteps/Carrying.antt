@@ -1,5 +1,6 @@
 -- A named work is carried out, and goes.
-use Rattle.jn_system.proofs.Common.{◌≡◌, ◌≢◌, ◌⊎◌, inl, inr, ℕ, Bool, true, false, List, take, Option, Some, None, is_some, refl, sym, ◌∙◌, ap, subst, arith, ServerNo, LockUnit, WorkId, work_eq, work_tells, Files, or_else, change, Intention, intention_change, list_change, StableState, Prepared, Pick, MarkGoing, CarryOut, RemoveWork, made_by, gone_on, is_unit, commit_units, HoldsForCommit, Writes, World, base, IsPrepared, MayBeFound, CoreFacts, count_to, MayGoOn, MayCarryOut, MayRemove, MayCount}
+use Rattle.jn_system.proofs.Common.{◌≡◌, ◌≢◌, ◌⊎◌, inl, inr, ℕ, Bool, true, false, List, take, Option, Some, None, is_some, refl, sym, ◌∙◌, ap, subst, arith, ServerNo, LockUnit, WorkId, work_eq, work_tells, Files, or_else, change, Intention, intention_change, list_change, StableState, Prepared, Pick, MarkGoing, CarryOut, RemoveWork, made_by, gone_on, is_unit, commit_units, HoldsForCommit, Writes, World, count_to, MayGoOn, MayCarryOut, MayRemove, MayCount, carried_at, if◌then◌else◌}
+use Rattle.jn_system.proofs.SmallSteps.Invariant.{CoreFacts, IsPrepared, MayBeFound, base}
 use Rattle.jn_system.proofs.SmallSteps.TraceLemmas.{take_zero, take_writes}
 use Rattle.jn_system.proofs.SmallSteps.HeldLemmas.{writes_apart}
 use Rattle.jn_system.proofs.SmallSteps.Updates.{false_unless, not_both, at_work_other, at_work_cases, some_is, none_some, clash}
@@ -122,23 +123,23 @@ module _ (w : World) (x : StableState) (W : WorkId) (may : MayGoOn w W) (f : May
     named = f.named;
   }
 
--- An intention is carried out.
-kept_where : (i : Intention) (fs : Files) (u : LockUnit) → is_some (intention_change i u) ≡ false → change (intention_change i) fs u ≡ fs u
-kept_where i fs u h = by (intention_change i u) (fs u) h
+-- Of the registers that an intention writes, some are written.
+kept_where : (i : Intention) (is : LockUnit → Bool) (fs : Files) (u : LockUnit) → is_some (intention_change i u) ≡ false → (if is u then change (intention_change i) fs u else fs u) ≡ fs u
+kept_where i is fs u h = by (is u) (intention_change i u) (fs u) h
   where
-    by : (o : Option (Option (List ℕ))) (y : Option (List ℕ)) → is_some o ≡ false → or_else o y ≡ y
-    by o y h = grind arith
+    by : (b : Bool) (o : Option (Option (List ℕ))) (y : Option (List ℕ)) → is_some o ≡ false → (if b then or_else o y else y) ≡ y
+    by b o y h = grind arith
 
-module _ (w : World) (x : StableState) (W : WorkId) (i : Intention) (may : MayCarryOut w x W i) (f : MayBeFound w W.server x) where
+module _ (w : World) (x : StableState) (W : WorkId) (i : Intention) (is_there : LockUnit → Bool) (may : MayCarryOut w x W i) (f : MayBeFound w W.server x) where
   apart_from : (V : WorkId) (q : Prepared) → x.works V ≡ Some q → W ≢ V → (u : LockUnit) → Writes q.list u → is_some (intention_change i u) ≡ false
   apart_from V q is ne u h = false_unless (is_some (intention_change i u)) (λ t. not_both (is_some (list_change q.list u)) h (writes_apart may.work.list q.list may.work.reads q.reads (f.apart W V may.work q may.is is ne) (λ v c. (f.apart V W q may.work is may.is (λ e. ne (sym e)) v c).1) (f.prepared W may.work may.is).reads_files (f.prepared V q is).reads_files u (may.writes u t)))
 
   some_writes : (l : List Intention) (u : LockUnit) (v : Option (List ℕ)) → list_change l u ≡ Some v → Writes l u
   some_writes l u v e = subst (λ o. is_some o ≡ true) (sym e) refl
 
-  next_by : (V : WorkId) (q : Prepared) → x.works V ≡ Some q → ((W ≡ V) ⊎ (W ≢ V)) → q.going ≡ true → (u : LockUnit) (v : Option (List ℕ)) → list_change (take (w.next V) q.list) u ≡ Some v → change (intention_change i) x.files u ≡ v
+  next_by : (V : WorkId) (q : Prepared) → x.works V ≡ Some q → ((W ≡ V) ⊎ (W ≢ V)) → q.going ≡ true → (u : LockUnit) (v : Option (List ℕ)) → list_change (take (w.next V) q.list) u ≡ Some v → (carried_at is_there i x).files u ≡ v
   next_by V q is (inl e) g u v k = absurd (none_by q.list u v (subst (λ m. list_change (take m q.list) u ≡ Some v) (ap w.next (sym e) ∙ may.none) k))
-  next_by V q is (inr ne) g u v k = kept_where i x.files u (apart_from V q is ne u (take_writes q.list (w.next V) u (some_writes (take (w.next V) q.list) u v k))) ∙ (f.prepared V q is).next g u v k
+  next_by V q is (inr ne) g u v k = kept_where i is_there x.files u (apart_from V q is ne u (take_writes q.list (w.next V) u (some_writes (take (w.next V) q.list) u v k))) ∙ (f.prepared V q is).next g u v k
 
   same_or : (V : WorkId) → (W ≡ V) ⊎ (W ≢ V)
   same_or V = by (work_tells W V)
@@ -147,8 +148,8 @@ module _ (w : World) (x : StableState) (W : WorkId) (i : Intention) (may : MayCa
       by (inl h) = inl h.1
       by (inr h) = inr h.1
 
-  pub carry_found : MayBeFound w W.server (made_by (CarryOut W i) x)
-  carry_found = record {
+  pub part_found : MayBeFound w W.server (carried_at is_there i x)
+  part_found = record {
     prepared = λ V q is. let h = f.prepared V q is in record {
       place = h.place;
       opened = h.opened;
@@ -165,13 +166,17 @@ module _ (w : World) (x : StableState) (W : WorkId) (i : Intention) (may : MayCa
       written = h.written;
     };
     apart = f.apart;
-    disk = λ u free. f.disk u free ∙ sym (kept_where i x.files u (false_unless (is_some (intention_change i u)) (λ t. not_both (is_some (list_change may.work.list u)) (may.writes u t) (free W may.work may.is ((f.prepared W may.work may.is).going may.going)))));
+    disk = λ u free. f.disk u free ∙ sym (kept_where i is_there x.files u (false_unless (is_some (intention_change i u)) (λ t. not_both (is_some (list_change may.work.list u)) (may.writes u t) (free W may.work may.is ((f.prepared W may.work may.is).going may.going)))));
     no_reader = f.no_reader;
     ready = f.ready;
     flag = f.flag;
     aborted = f.aborted;
     named = f.named;
   }
+
+-- an intention is carried out
+pub carry_found : (w : World) (x : StableState) (W : WorkId) (i : Intention) → MayCarryOut w x W i → MayBeFound w W.server x → MayBeFound w W.server (made_by (CarryOut W i) x)
+carry_found w x W i may f = part_found w x W i (λ u. true) may f
 
 module _ (w : World) (x : StableState) (W : WorkId) (may : MayRemove w x W) (f : MayBeFound w W.server x) where
   was_there : (V : WorkId) (q : Prepared) → (((W ≡ V) × (None ≡ Some q)) ⊎ ((W ≢ V) × (x.works V ≡ Some q))) → x.works V ≡ Some q

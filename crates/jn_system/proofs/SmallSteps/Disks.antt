@@ -1,5 +1,6 @@
 -- Stable states change, or fewer may be found.
-use Rattle.jn_system.proofs.Common.{◌≡◌, ◌≢◌, ◌⊎◌, inl, inr, Bool, true, false, List, Option, Some, None, is_some, if◌then◌else◌, refl, sym, ◌∙◌, subst, arith, ServerNo, LockUnit, Tid, WorkId, server_eq, server_tells, tid_tells, work_tells, Intention, Flag, list_change, StableState, Prepared, FlagState, Pick, AddReady, AddFlag, DropFlag, at_work, made_by, ready_work, flag_state, is_unit, asked, effects, Agrees, commit_units, HoldsForCommit, HasRead, ReadsFiles, World, Working, base, AllOver, IsPrepared, HasFlag, MayBeFound, IsActive, CoreFacts, changed, put, narrow, lose, MayPrepare, MayFlag}
+use Rattle.jn_system.proofs.Common.{◌≡◌, ◌≢◌, ◌⊎◌, inl, inr, Bool, true, false, List, Option, Some, None, is_some, if◌then◌else◌, refl, sym, ◌∙◌, subst, arith, ServerNo, LockUnit, Tid, WorkId, server_eq, server_tells, tid_tells, work_tells, Intention, Flag, list_change, StableState, Prepared, FlagState, Pick, AddReady, AddFlag, DropFlag, at_work, made_by, ready_work, flag_state, is_unit, asked, effects, Agrees, commit_units, HoldsForCommit, HasRead, ReadsFiles, World, Working, AllOver, changed, put, narrow, lose, MayPrepare, MayFlag}
+use Rattle.jn_system.proofs.SmallSteps.Invariant.{CoreFacts, IsActive, IsPrepared, HasFlag, MayBeFound, base}
 use Rattle.jn_records.specs.declared.work.WorkHead.{WorkHead}
 use Rattle.jn_system.proofs.SmallSteps.Updates.{none_unless, false_unless, not_both, at_work_here, at_work_other, at_work_cases, at_tid_other, at_tid_cases, some_is, none_some}
 
@@ -18,6 +19,24 @@ module _ (w : World) (s : ServerNo) (done : Pick → Bool) (f : StableState → 
   put_kept = record {
     serial = inv.serial;
     states = λ q c. put_at q c (server_tells s q);
+    active = inv.active;
+    parts = inv.parts;
+    aborted = inv.aborted;
+    named = inv.named;
+    knowledge = inv.knowledge;
+    rest = inv.rest;
+  }
+
+-- Each pick finds another state at a server.
+module _ (w : World) (s : ServerNo) (g : Pick → StableState) (each : (c : Pick) → MayBeFound w s (g c)) (inv : CoreFacts w) where
+  part_at : (q : ServerNo) (c : Pick) → (((server_eq s q ≡ true) × (s ≡ q)) ⊎ ((server_eq s q ≡ false) × (s ≢ q))) → MayBeFound w q (if server_eq s q then g c else w.found q c)
+  part_at q c (inl (t, e)) = subst (λ b. MayBeFound w q (if b then g c else w.found q c)) (sym t) (subst (λ q. MayBeFound w q (g c)) e (each c))
+  part_at q c (inr (t, ne)) = subst (λ b. MayBeFound w q (if b then g c else w.found q c)) (sym t) (inv.states q c)
+
+  pub part_kept : CoreFacts (record w { found = λ q c. if server_eq s q then g c else w.found q c })
+  part_kept = record {
+    serial = inv.serial;
+    states = λ q c. part_at q c (server_tells s q);
     active = inv.active;
     parts = inv.parts;
     aborted = inv.aborted;

@@ -1,5 +1,6 @@
 -- At a server that is up each flag is of a transaction that has committed.
-use Rattle.jn_system.proofs.Common.{◌≡◌, ◌≢◌, ◌⊎◌, inl, inr, Bool, true, false, Some, is_some, if◌then◌else◌, sym, ◌∙◌, ap, subst, arith, ServerNo, Tid, server_eq, tid_eq, server_tells, tid_tells, Flag, Change, StableState, Pick, AddReady, MarkGoing, CarryOut, RemoveWork, AddFlag, DropFlag, at_tid, made_by, flag_state, World, Prepare, lose, Atom, Make, Name, Decide, Narrow, RaiseEpoch, Crash, Restart, server_of, put, with_epoch, always, name_it, restart, after, MayMake, MayRestart, May, FlagFact}
+use Rattle.jn_system.proofs.Common.{◌≡◌, ◌≢◌, ◌⊎◌, inl, inr, Bool, true, false, Some, is_some, if◌then◌else◌, sym, ◌∙◌, ap, subst, arith, ServerNo, Tid, server_eq, tid_eq, server_tells, tid_tells, Flag, Change, StableState, Pick, AddReady, MarkGoing, CarryOut, RemoveWork, AddFlag, DropFlag, at_tid, made_by, flag_state, World, Prepare, lose, Atom, Make, Name, Decide, Narrow, RaiseEpoch, Crash, Restart, server_of, put, with_epoch, always, name_it, restart, after, MayMake, MayRestart, May, carried_at, CarryPart}
+use Rattle.jn_system.proofs.SmallSteps.Invariant.{FlagFact}
 use Rattle.jn_system.proofs.SmallSteps.Updates.{TellsServer, not_both, at_tid_here, at_tid_other}
 
 -- a change that adds no flag
@@ -62,6 +63,11 @@ flags_kept (Narrow s g) w may raised h = λ q c T u e. by q c T u e (server_tell
     by : (q : ServerNo) (c : Pick) (T : Tid) → w.up q ≡ true → is_some ((if server_eq s q then w.found s (g c) else w.found q c).flags T) ≡ true → TellsServer s q → w.named T ≡ true
     by q c T u e (inl (t, p)) = h q (g c) T u (subst (λ z. is_some ((w.found z (g c)).flags T) ≡ true) p (subst (λ b. is_some ((if b then w.found s (g c) else w.found q c).flags T) ≡ true) t e))
     by q c T u e (inr (t, n)) = h q c T u (subst (λ b. is_some ((if b then w.found s (g c) else w.found q c).flags T) ≡ true) t e)
+flags_kept (CarryPart W i is) w may raised h = λ q c T u e. by q c T u e (server_tells W.server q)
+  where
+    by : (q : ServerNo) (c : Pick) (T : Tid) → w.up q ≡ true → is_some ((if server_eq W.server q then carried_at (is c) i (w.found W.server c) else w.found q c).flags T) ≡ true → TellsServer W.server q → w.named T ≡ true
+    by q c T u e (inl (t, p)) = h q c T u (subst (λ z. is_some ((w.found z c).flags T) ≡ true) p (subst (λ b. is_some ((if b then carried_at (is c) i (w.found W.server c) else w.found q c).flags T) ≡ true) t e))
+    by q c T u e (inr (t, n)) = h q c T u (subst (λ b. is_some ((if b then carried_at (is c) i (w.found W.server c) else w.found q c).flags T) ≡ true) t e)
 flags_kept (RaiseEpoch s done) w may raised h = put_same w s done with_epoch (λ x T k. k) h
 flags_kept (Crash s) w may raised h = λ q c T u e. h q c T (grind (arith, server_tells)) e
 flags_kept (Restart s x) w may raised h = restart_flags (put s always with_epoch w) s (with_epoch x) (raised s x may) (put_same w s always with_epoch (λ y T k. k) h)

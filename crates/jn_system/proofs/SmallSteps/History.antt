@@ -1,5 +1,6 @@
 -- What the history says stays so, and the theorem.
-use Rattle.jn_system.proofs.Common.{◌≡◌, ◌≢◌, ℕ, true, false, List, [], ◌∷◌, ◌++◌, Option, Some, None, refl, sym, ◌∙◌, ap, subst, arith, ServerNo, LockUnit, Tid, WorkId, tid_tells, AllFiles, StableState, at_work, at_tid, Answered, World, Working, replay, IsSerial, MayBeFound, CoreFacts, Invariant, Atom, Perform, End, Name, Decide, perform, end_it, trace_of, name_it, after, run, opening_world, MayPerform, MayEnd, May, MayRun, has_committed, CommitsOnce, HasTraces, IsDone, IsInOrder}
+use Rattle.jn_system.proofs.Common.{◌≡◌, ◌≢◌, ℕ, true, false, List, [], ◌∷◌, ◌++◌, Option, Some, None, refl, sym, ◌∙◌, ap, subst, arith, ServerNo, LockUnit, Tid, WorkId, tid_tells, AllFiles, StableState, at_work, at_tid, Answered, World, Working, replay, IsSerial, Atom, Perform, End, Name, Decide, perform, end_it, trace_of, name_it, after, run, opening_world, MayPerform, MayEnd, May, MayRun, has_committed, CommitsOnce, HasTraces, IsDone, IsInOrder}
+use Rattle.jn_system.proofs.SmallSteps.Invariant.{CoreFacts, Invariant, MayBeFound}
 use Rattle.jn_system.specs.SmallSteps.World.{Commit}
 use Rattle.jn_system.proofs.SmallSteps.Updates.{not_both, at_work_other, at_tid_other}
 use Rattle.jn_system.proofs.SmallSteps.Runs.{step_kept, opening_kept}

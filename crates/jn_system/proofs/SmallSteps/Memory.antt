@@ -1,5 +1,6 @@
 -- Steps in memory: works lost, ready and over, transactions begun, ended, aborted and closed, what coordinators learn.
-use Rattle.jn_system.proofs.Common.{◌≡◌, ◌≢◌, ◌⊎◌, inl, inr, true, false, Option, Some, None, is_some, refl, sym, ◌∙◌, subst, arith, ServerNo, Tid, WorkId, tid_tells, work_tells, Pick, World, Knowledge, Unknown, Begun, Voting, Committed, AllReady, AllOver, IsPrepared, MayBeFound, IsPart, IsAborted, Knows, KnowledgeFact, CoreFacts, begin_it, lose, end_it, learn, note_ready, note_over, abort, close, MayEnd, MayLearn, MayBeOver, MayAbort}
+use Rattle.jn_system.proofs.Common.{◌≡◌, ◌≢◌, ◌⊎◌, inl, inr, true, false, Option, Some, None, is_some, refl, sym, ◌∙◌, subst, arith, ServerNo, Tid, WorkId, tid_tells, work_tells, Pick, World, Knowledge, Unknown, Begun, Voting, Committed, AllReady, AllOver, Knows, begin_it, lose, end_it, learn, note_ready, note_over, abort, close, MayEnd, MayLearn, MayBeOver, MayAbort}
+use Rattle.jn_system.proofs.SmallSteps.Invariant.{CoreFacts, IsPart, IsAborted, KnowledgeFact, IsPrepared, MayBeFound}
 use Rattle.jn_system.proofs.SmallSteps.Updates.{not_both, at_work_other, at_work_cases, at_tid_here, at_tid_other, at_tid_cases, some_of, none_some, clash}
 
 -- A work is lost.

@@ -1,5 +1,6 @@
 -- Names are given once.
-use Rattle.jn_system.proofs.Common.{◌≡◌, ◌≢◌, ◌⊎◌, inl, inr, ℕ, ◌+◌, ◌≤◌, ◌<◌, Bool, true, false, if◌then◌else◌, refl, sym, ◌∙◌, ap, subst, arith, ServerNo, Tid, WorkId, server_eq, server_tells, Change, StableState, Pick, AddReady, MarkGoing, CarryOut, RemoveWork, AddFlag, DropFlag, made_by, World, Prepare, lose, Atom, Begin, Open, Make, Decide, Narrow, RaiseEpoch, Crash, Restart, server_of, put, with_epoch, always, restart, after, MayBegin, MayOpen, MayRestart, May, IsGiven, NamesFact}
+use Rattle.jn_system.proofs.Common.{◌≡◌, ◌≢◌, ◌⊎◌, inl, inr, ℕ, ◌+◌, ◌≤◌, ◌<◌, Bool, true, false, if◌then◌else◌, refl, sym, ◌∙◌, ap, subst, arith, ServerNo, Tid, WorkId, server_eq, server_tells, Change, StableState, Pick, AddReady, MarkGoing, CarryOut, RemoveWork, AddFlag, DropFlag, made_by, World, Prepare, lose, Atom, Begin, Open, Make, Decide, Narrow, RaiseEpoch, Crash, Restart, server_of, put, with_epoch, always, restart, after, MayBegin, MayOpen, MayRestart, May, carried_at, CarryPart}
+use Rattle.jn_system.proofs.SmallSteps.Invariant.{IsGiven, NamesFact}
 use Rattle.jn_system.specs.SmallSteps.World.{at_server}
 use Rattle.jn_system.proofs.SmallSteps.Updates.{TellsServer, not_both, false_unless, at_work_cases, at_tid_cases}
 
@@ -98,6 +99,11 @@ names_kept (Narrow s g) w may raised h = record { works = λ W c b. at W.server 
     at : (q : ServerNo) (c : Pick) (epoch ticket : ℕ) → ((d : Pick) → IsGiven (w.up q) (w.ticket q) (w.found q d).epoch epoch ticket) → TellsServer s q → IsGiven (w.up q) (w.ticket q) (if server_eq s q then w.found s (g c) else w.found q c).epoch epoch ticket
     at q c epoch ticket k (inl (t, e)) = subst (λ b. IsGiven (w.up q) (w.ticket q) (if b then w.found s (g c) else w.found q c).epoch epoch ticket) (sym t) (subst (λ z. IsGiven (w.up q) (w.ticket q) (w.found z (g c)).epoch epoch ticket) (sym e) (k (g c)))
     at q c epoch ticket k (inr (t, ne)) = subst (λ b. IsGiven (w.up q) (w.ticket q) (if b then w.found s (g c) else w.found q c).epoch epoch ticket) (sym t) (k c)
+names_kept (CarryPart W i is) w may raised h = record { works = λ V c b. at V.server c V.epoch V.ticket (h.works V c b) (server_tells W.server V.server); tids = λ T c b. at T.server c T.epoch T.ticket (h.tids T c b) (server_tells W.server T.server) }
+  where
+    at : (q : ServerNo) (c : Pick) (epoch ticket : ℕ) → IsGiven (w.up q) (w.ticket q) (w.found q c).epoch epoch ticket → TellsServer W.server q → IsGiven (w.up q) (w.ticket q) (if server_eq W.server q then carried_at (is c) i (w.found W.server c) else w.found q c).epoch epoch ticket
+    at q c epoch ticket k (inl (t, e)) = subst (λ b. IsGiven (w.up q) (w.ticket q) (if b then carried_at (is c) i (w.found W.server c) else w.found q c).epoch epoch ticket) (sym t) (subst (λ z. IsGiven (w.up q) (w.ticket q) (w.found z c).epoch epoch ticket) (sym e) k)
+    at q c epoch ticket k (inr (t, ne)) = subst (λ b. IsGiven (w.up q) (w.ticket q) (if b then carried_at (is c) i (w.found W.server c) else w.found q c).epoch epoch ticket) (sym t) k
 names_kept (Crash s) w may raised h = record { works = λ W c b. let k = h.works W c b in (k.0, λ u. k.1 (still W.server u)); tids = λ T c b. let k = h.tids T c b in (k.0, λ u. k.1 (still T.server u)) }
   where
     still : (q : ServerNo) → at_server w.up s false q ≡ true → w.up q ≡ true

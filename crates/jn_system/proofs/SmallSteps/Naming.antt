@@ -1,5 +1,6 @@
 -- The commit point: a transaction is named.
-use Rattle.jn_system.proofs.Common.{◌≡◌, ◌≢◌, ◌⊎◌, inl, inr, ℕ, Bool, true, false, List, Option, Some, None, is_some, if◌then◌else◌, refl, sym, ◌∙◌, ap, subst, arith, ServerNo, LockUnit, Tid, WorkId, tid_eq, tid_tells, Files, or_else, change, list_change, Prepared, FlagState, Pick, is_unit, Answered, asked, effects, Agrees, Writes, World, Working, Knowledge, Unknown, Begun, Voting, Committed, IsSerial, base, AllOver, HasFlag, MayBeFound, IsNamed, Knows, CoreFacts, trace_of, name_it, MayName}
+use Rattle.jn_system.proofs.Common.{◌≡◌, ◌≢◌, ◌⊎◌, inl, inr, ℕ, Bool, true, false, List, Option, Some, None, is_some, if◌then◌else◌, refl, sym, ◌∙◌, ap, subst, arith, ServerNo, LockUnit, Tid, WorkId, tid_eq, tid_tells, Files, or_else, change, list_change, Prepared, FlagState, Pick, is_unit, Answered, asked, effects, Agrees, Writes, World, Working, Knowledge, Unknown, Begun, Voting, Committed, IsSerial, AllOver, Knows, trace_of, name_it, MayName}
+use Rattle.jn_system.proofs.SmallSteps.Invariant.{CoreFacts, IsNamed, HasFlag, MayBeFound, base}
 use Rattle.jn_system.proofs.SmallSteps.TraceLemmas.{agrees_local}
 use Rattle.jn_system.proofs.SmallSteps.HeldLemmas.{reads_apart, writes_apart}
 use Rattle.jn_system.proofs.SmallSteps.Updates.{false_unless, not_both, at_tid_here, at_tid_other, at_tid_cases, some_of, some_none}

@@ -1,5 +1,6 @@
 -- A work is opened, and an operation is answered.
-use Rattle.jn_system.proofs.Common.{◌≡◌, ◌≢◌, ◌⊎◌, inl, inr, ℕ, Bool, true, false, List, [], ◌∷◌, ◌++◌, Option, Some, None, is_some, refl, sym, ◌∙◌, ap, subst, arith, ServerNo, LockUnit, Tid, WorkId, work_tells, Files, change, answer_to, or_also, list_change, Prepared, Pick, at_work, is_unit, Answered, asks, asked, effect_of, effects, Agrees, HoldsForCommit, HasRead, file_unit, World, Working, base, MayBeFound, IsActive, CoreFacts, open_work, perform, MayPerform}
+use Rattle.jn_system.proofs.Common.{◌≡◌, ◌≢◌, ◌⊎◌, inl, inr, ℕ, Bool, true, false, List, [], ◌∷◌, ◌++◌, Option, Some, None, is_some, refl, sym, ◌∙◌, ap, subst, arith, ServerNo, LockUnit, Tid, WorkId, work_tells, Files, change, answer_to, or_also, list_change, Prepared, Pick, at_work, is_unit, Answered, asks, asked, effect_of, effects, Agrees, HoldsForCommit, HasRead, file_unit, World, Working, open_work, perform, MayPerform}
+use Rattle.jn_system.proofs.SmallSteps.Invariant.{CoreFacts, IsActive, MayBeFound, base}
 use Rattle.jn_system.specs.SmallSteps.Steps.{new_work}
 use Rattle.jn_order.specs.Files.{Change}
 use Rattle.jn_system.proofs.SmallSteps.TraceLemmas.{effects_more, asked_more, agrees_more, answer_local}

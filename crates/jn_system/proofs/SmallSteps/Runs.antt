@@ -1,12 +1,13 @@
 -- Every step keeps the invariant, and so does every run.
-use Rattle.jn_system.proofs.Common.{◌≡◌, inl, inr, ℕ, true, false, List, [], ◌∷◌, Some, None, is_some, if◌then◌else◌, refl, sym, ◌∙◌, ap, ServerNo, Tid, server_tells, AllFiles, Flag, Change, StableState, Pick, AddReady, MarkGoing, CarryOut, RemoveWork, AddFlag, DropFlag, made_by, flag_state, World, MayBeFound, CoreFacts, Invariant, Prepare, lose, Atom, Begin, Open, Perform, Lose, End, Learn, NoteReady, NoteOver, Abort, Close, Make, Count, Name, Decide, Narrow, RaiseEpoch, Crash, Restart, server_of, put, with_epoch, always, after, run, opening_world, MayAbort, MayMake, MayRestart, May, MayRun, NamesFact, FlagFact}
+use Rattle.jn_system.proofs.Common.{◌≡◌, inl, inr, ℕ, true, false, List, [], ◌∷◌, Some, None, is_some, if◌then◌else◌, refl, sym, ◌∙◌, ap, ServerNo, Tid, server_tells, AllFiles, Flag, Change, StableState, Pick, AddReady, MarkGoing, CarryOut, RemoveWork, AddFlag, DropFlag, made_by, flag_state, World, Prepare, lose, Atom, Begin, Open, Perform, Lose, End, Learn, NoteReady, NoteOver, Abort, Close, Make, Count, Name, Decide, Narrow, RaiseEpoch, Crash, Restart, server_of, put, with_epoch, always, after, run, opening_world, MayAbort, MayMake, MayRestart, May, MayRun, carried_at, CarryPart}
+use Rattle.jn_system.proofs.SmallSteps.Invariant.{CoreFacts, Invariant, FlagFact, NamesFact, MayBeFound}
 use Rattle.jn_system.proofs.SmallSteps.NameLemmas.{fresh_work, fresh_tid, names_kept}
 use Rattle.jn_system.proofs.SmallSteps.FlagLemmas.{flags_kept}
 use Rattle.jn_system.proofs.SmallSteps.Updates.{TellsServer, none_of, false_unless, not_both, none_some, at_tid_here}
 use Rattle.jn_system.proofs.SmallSteps.Memory.{lose_kept, begin_kept, end_kept, learn_kept, ready_kept, over_kept, abort_kept, close_kept}
 use Rattle.jn_system.proofs.SmallSteps.Performing.{open_kept, perform_kept}
-use Rattle.jn_system.proofs.SmallSteps.Disks.{put_kept, narrow_kept, prepared_found, flag_found, drop_found}
-use Rattle.jn_system.proofs.SmallSteps.Carrying.{count_kept, going_found, carry_found, remove_found}
+use Rattle.jn_system.proofs.SmallSteps.Disks.{put_kept, part_kept, narrow_kept, prepared_found, flag_found, drop_found}
+use Rattle.jn_system.proofs.SmallSteps.Carrying.{count_kept, going_found, carry_found, part_found, remove_found}
 use Rattle.jn_system.proofs.SmallSteps.Crashes.{crash_kept, restart_kept}
 use Rattle.jn_system.proofs.SmallSteps.Naming.{name_kept}
 
@@ -53,6 +54,7 @@ core_kept (NoteOver W) w may names flags inv = over_kept w W may inv
 core_kept (Abort T) w may names flags inv = abort_kept w T may (no_flag w T flags may) inv
 core_kept (Close T) w may names flags inv = close_kept w T inv
 core_kept (Make done step) w may names flags inv = put_kept w (server_of step) done (made_by step) (λ c. made_found w step (w.found (server_of step) c) (may c) (inv.states (server_of step) c)) inv
+core_kept (CarryPart W i is) w may names flags inv = part_kept w W.server (λ c. carried_at (is c) i (w.found W.server c)) (λ c. part_found w (w.found W.server c) W i (is c) (may c) (inv.states W.server c)) inv
 core_kept (Count W n) w may names flags inv = count_kept w W n may inv
 core_kept (Name T) w may names flags inv = name_kept w T may inv
 core_kept (Decide flag) w may names flags inv = name_kept (put flag.tid.server always (made_by (AddFlag flag)) w) flag.tid (record { flagged = λ c. flag_put w flag c; not_named = may.1 })

@@ -1,7 +1,7 @@
 -- What each step of the whole system changes, in nine cases: a client's row, a server's row that is done or stopped, a late
 -- transaction, a server that goes down or comes up, what is found of a server that is down, the clients dismissed, and steps that
 -- leave every table and state.
-use Rattle.jn_system.proofs.Common.{Bool, ◌≡◌, ℕ, ◌+◌, List, [], ◌∷◌, ◌++◌, Option, Some, None, refl, if◌then◌else◌, slice_get, ServerNo, ClientNo, Tid, WorkId, server_eq, Message, StableState, Pick, stable, RowOutcome, Sent, close_clients_row, with_epoch, Step, NextEvent, Tell, Again, Deliver, Nudge, Timeout, StopDelivery, StopWork, StopRestart, Dismiss, CloseClients, at_memory, handed, work, works, nudge, timeout, stop_restart, close_clients, commanded, took, Text, Memory, at_server, at_client, Room, server_row, server_step, server_again, server_timeout, of_coordinator, sent_now, stopped, restart_with, true, false, Client, Server, Commanded, Refuses, Sends, ClientTable, command_row, take_row, again_row, over, done}
+use Rattle.jn_system.proofs.Common.{Bool, ◌≡◌, ℕ, ◌+◌, List, [], ◌∷◌, ◌++◌, Option, Some, None, refl, if◌then◌else◌, slice_get, ServerNo, ClientNo, Tid, WorkId, server_eq, Message, StableState, Pick, stable, RowOutcome, Sent, close_clients_row, with_epoch, Step, NextEvent, Tell, Again, Deliver, Nudge, Timeout, StopDelivery, StopWork, StopRestart, Dismiss, CloseClients, at_memory, handed, work, works, nudge, timeout, stop_restart, close_clients, commanded, took, Text, Memory, at_server, at_client, Room, server_row, server_step, server_again, server_timeout, of_coordinator, sent_now, stopped, restart_with, true, false, Client, Server, Commanded, Refuses, Sends, ClientTable, command_row, take_row, again_row, over, done, Left}
 use Rattle.jn_base.specs.declared.names.Party.{Party}
 use Rattle.jn_base.specs.declared.op.Command.{Command}
 use Rattle.jn_report.specs.declared.line.Refusal.{Refusal}
@@ -13,22 +13,22 @@ pub use Rattle.jn_system.specs.WholeSystem.Steps.{handing, working}
 use Rattle.jn_system.specs.WholeSystem.Steps.{Work, Crash, Narrow, Restart, after, crash, narrow, restart}
 use Rattle.jn_system.proofs.WholeSystem.OneChange.{one-found}
 
--- a client's row: its table then, and all that was sent and told then
+-- a client's row: its table then, and all that was sent and reported then
 pub data ClientRow (w : World) (c : ClientNo) : Step → ClientTable → List Sent → List Text → Type 0 where
   by_command : (command : Command) (t : ClientTable) (to : Party) (message : Message) → command_row (w.clients c) w.event command ≡ Sends t to message
       → ClientRow w c (Tell c command) t (w.sent ++ (to, message) ∷ []) w.lines
-  by_ignoring : (k : ℕ) (room : Room) (stop : Option (Pick → ℕ)) (message : Message) (t : ClientTable) → slice_get w.sent k ≡ Some (Client c, message) → take_row (w.clients c) message ≡ (t, taken.Ignored)
+  by_ignoring : (k : ℕ) (room : Room) (stop : Option (Pick → Left)) (message : Message) (t : ClientTable) → slice_get w.sent k ≡ Some (Client c, message) → take_row (w.clients c) message ≡ (t, taken.Ignored)
       → ClientRow w c (handing k room stop) t w.sent (w.lines ++ says.Ignored k ∷ [])
-  by_answering : (k : ℕ) (room : Room) (stop : Option (Pick → ℕ)) (message : Message) (t : ClientTable) (to : Party) (answer : Message) → slice_get w.sent k ≡ Some (Client c, message)
+  by_answering : (k : ℕ) (room : Room) (stop : Option (Pick → Left)) (message : Message) (t : ClientTable) (to : Party) (answer : Message) → slice_get w.sent k ≡ Some (Client c, message)
       → take_row (w.clients c) message ≡ (t, taken.Send to answer) → ClientRow w c (handing k room stop) t (w.sent ++ (to, answer) ∷ []) w.lines
-  by_telling : (k : ℕ) (room : Room) (stop : Option (Pick → ℕ)) (message : Message) (t : ClientTable) (line : Text) (answer : Option Sent) → slice_get w.sent k ≡ Some (Client c, message)
+  by_telling : (k : ℕ) (room : Room) (stop : Option (Pick → Left)) (message : Message) (t : ClientTable) (line : Text) (answer : Option Sent) → slice_get w.sent k ≡ Some (Client c, message)
       → take_row (w.clients c) message ≡ (t, taken.Told line answer) → ClientRow w c (handing k room stop) t (w.sent ++ sent_now answer) (w.lines ++ line ∷ [])
 
 -- a server's row, and the number of the message that it is of
-pub data ServerRow (w : World) (s : ServerNo) (m : Memory) : Option (Pick → ℕ) → Step → Option ℕ → RowOutcome Memory → Type 0 where
-  of_message : (stop : Option (Pick → ℕ)) (k : ℕ) (room : Room) (message : Message) → slice_get w.sent k ≡ Some (Server s, message)
+pub data ServerRow (w : World) (s : ServerNo) (m : Memory) : Option (Pick → Left) → Step → Option ℕ → RowOutcome Memory → Type 0 where
+  of_message : (stop : Option (Pick → Left)) (k : ℕ) (room : Room) (message : Message) → slice_get w.sent k ≡ Some (Server s, message)
       → ServerRow w s m stop (handing k room stop) (Some k) (server_row m (stable (w.found s)) room message)
-  of_work : (stop : Option (Pick → ℕ)) (room : Room) (row : RowOutcome Memory) → server_step m (stable (w.found s)) room ≡ Some row → ServerRow w s m stop (working s room stop) None row
+  of_work : (stop : Option (Pick → Left)) (room : Room) (row : RowOutcome Memory) → server_step m (stable (w.found s)) room ≡ Some row → ServerRow w s m stop (working s room stop) None row
   of_closing : ServerRow w s m None (CloseClients s) None (of_coordinator m (close_clients_row m.coordinator m.tickets))
 
 -- what may be found of a server that is down, and all lines then
@@ -36,21 +36,21 @@ pub data FoundThen (w : World) (s : ServerNo) : Step → (Pick → StableState) 
   by_narrowing : (g : Pick → Pick) → FoundThen w s (Narrow s g) (λ c. w.found s (g c)) w.lines
   by_raising : (raise : Pick → Bool) → FoundThen w s (StopRestart s raise) (λ c. if raise c then with_epoch (w.found s c) else w.found s c) (w.lines ++ says.Stopped s ∷ [])
 
--- a step that leaves every table and state: the event's number, and all that was sent and told then
+-- a step that leaves every table and state: the event's number, and all that was sent and reported then
 pub data Quiet (w : World) : Step → ℕ → List Sent → List Text → Type 0 where
   event_begins : Quiet w NextEvent (w.event + 1) w.sent w.lines
   none_changes : (step : Step) → Quiet w step w.event w.sent w.lines
   is_refused : (c : ClientNo) (command : Command) (refusal : Refusal) → command_row (w.clients c) w.event command ≡ Refuses refusal → Quiet w (Tell c command) w.event w.sent (w.lines ++ says.Refused c w.event refusal ∷ [])
   client_repeats : (c : ClientNo) → Quiet w (Again c) w.event (w.sent ++ sent_now (again_row (w.clients c))) w.lines
   server_repeats : (s : ServerNo) (m : Memory) → w.memory s ≡ Some m → Quiet w (Nudge s) w.event (w.sent ++ server_again m (stable (w.found s))) w.lines
-  is_lost : (k : ℕ) (room : Room) (stop : Option (Pick → ℕ)) (s : ServerNo) (message : Message) → slice_get w.sent k ≡ Some (Server s, message) → w.memory s ≡ None
+  is_lost : (k : ℕ) (room : Room) (stop : Option (Pick → Left)) (s : ServerNo) (message : Message) → slice_get w.sent k ≡ Some (Server s, message) → w.memory s ≡ None
       → Quiet w (handing k room stop) w.event w.sent (w.lines ++ says.Lost k ∷ [])
 
 pub data StepCase (w : World) : Step → World → Type 0 where
   client_row : (step : Step) (c : ClientNo) (t : ClientTable) (sent : List Sent) (lines : List Text) → ClientRow w c step t sent lines
       → StepCase w step (record w { clients = at_client w.clients c t; sent = sent; lines = lines })
   row_done : (step : Step) (s : ServerNo) (m : Memory) (k : Option ℕ) (row : RowOutcome Memory) → w.memory s ≡ Some m → ServerRow w s m None step k row → StepCase w step (done s k row w)
-  row_stopped : (step : Step) (s : ServerNo) (m : Memory) (k : Option ℕ) (row : RowOutcome Memory) (made : Pick → ℕ) → w.memory s ≡ Some m → ServerRow w s m (Some made) step k row → StepCase w step (stopped s made row w)
+  row_stopped : (step : Step) (s : ServerNo) (m : Memory) (k : Option ℕ) (row : RowOutcome Memory) (made : Pick → Left) → w.memory s ≡ Some m → ServerRow w s m (Some made) step k row → StepCase w step (stopped s made row w)
   gone_late : (s : ServerNo) (m : Memory) (T : Tid) → w.memory s ≡ Some m → StepCase w (Timeout s T) (record w { memory = at_server w.memory s (Some (server_timeout m T)) })
   gone_down : (s : ServerNo) (m : Memory) → w.memory s ≡ Some m → StepCase w (Crash s) (record w { memory = at_server w.memory s None; lines = w.lines ++ says.Down s ∷ [] })
   come_up : (s : ServerNo) (pick : Pick) (Ws : List WorkId) (Ts : List Tid) → w.memory s ≡ None → StepCase w (Restart s pick Ws Ts) (restart_with s (w.found s pick) Ws Ts w)
@@ -67,30 +67,30 @@ module _ (w : World) where
   tell-case c command (Refuses refusal) e = quietly _ _ _ _ (is_refused c command refusal e)
   tell-case c command (Sends t to message) e = client_row _ c t _ _ (by_command command t to message e)
 
-  took-case : (k : ℕ) (room : Room) (stop : Option (Pick → ℕ)) (c : ClientNo) (message : Message) → slice_get w.sent k ≡ Some (Client c, message) → (t : ClientTable) (what : Taken)
+  took-case : (k : ℕ) (room : Room) (stop : Option (Pick → Left)) (c : ClientNo) (message : Message) → slice_get w.sent k ≡ Some (Client c, message) → (t : ClientTable) (what : Taken)
       → take_row (w.clients c) message ≡ (t, what) → StepCase w (handing k room stop) (took c k t what w)
   took-case k room stop c message is t taken.Ignored e = client_row _ c t _ _ (by_ignoring k room stop message t is e)
   took-case k room stop c message is t (taken.Send to answer) e = client_row _ c t _ _ (by_answering k room stop message t to answer is e)
   took-case k room stop c message is t (taken.Told line answer) e = client_row _ c t _ _ (by_telling k room stop message t line answer is e)
 
-  memory-case : (k : ℕ) (room : Room) (stop : Option (Pick → ℕ)) (s : ServerNo) (message : Message) → slice_get w.sent k ≡ Some (Server s, message) → (o : Option Memory) → w.memory s ≡ o
+  memory-case : (k : ℕ) (room : Room) (stop : Option (Pick → Left)) (s : ServerNo) (message : Message) → slice_get w.sent k ≡ Some (Server s, message) → (o : Option Memory) → w.memory s ≡ o
       → StepCase w (handing k room stop) (at_memory s k room stop message o w)
   memory-case k room stop s message is None e = quietly _ _ _ _ (is_lost k room stop s message is e)
   memory-case k room None s message is (Some m) e = row_done _ s m (Some k) _ e (of_message None k room message is)
   memory-case k room (Some made) s message is (Some m) e = row_stopped _ s m (Some k) _ made e (of_message (Some made) k room message is)
 
-  handed-case : (k : ℕ) (room : Room) (stop : Option (Pick → ℕ)) (o : Option Sent) → slice_get w.sent k ≡ o → StepCase w (handing k room stop) (handed k room stop o w)
+  handed-case : (k : ℕ) (room : Room) (stop : Option (Pick → Left)) (o : Option Sent) → slice_get w.sent k ≡ o → StepCase w (handing k room stop) (handed k room stop o w)
   handed-case k room stop None is = nothing (handing k room stop)
   handed-case k room stop (Some (Client c, message)) is = took-case k room stop c message is _ _ refl
   handed-case k room stop (Some (Server s, message)) is = memory-case k room stop s message is (w.memory s) refl
 
-  works-case : (s : ServerNo) (room : Room) (stop : Option (Pick → ℕ)) (m : Memory) → w.memory s ≡ Some m → (o : Option (RowOutcome Memory)) → server_step m (stable (w.found s)) room ≡ o
+  works-case : (s : ServerNo) (room : Room) (stop : Option (Pick → Left)) (m : Memory) → w.memory s ≡ Some m → (o : Option (RowOutcome Memory)) → server_step m (stable (w.found s)) room ≡ o
       → StepCase w (working s room stop) (works s stop o w)
   works-case s room stop m e None f = nothing (working s room stop)
   works-case s room None m e (Some x) f = row_done _ s m None x e (of_work None room x f)
   works-case s room (Some made) m e (Some x) f = row_stopped _ s m None x made e (of_work (Some made) room x f)
 
-  work-case : (s : ServerNo) (room : Room) (stop : Option (Pick → ℕ)) (o : Option Memory) → w.memory s ≡ o → StepCase w (working s room stop) (work s room stop o w)
+  work-case : (s : ServerNo) (room : Room) (stop : Option (Pick → Left)) (o : Option Memory) → w.memory s ≡ o → StepCase w (working s room stop) (work s room stop o w)
   work-case s room stop None e = nothing (working s room stop)
   work-case s room stop (Some m) e = works-case s room stop m e (server_step m (stable (w.found s)) room) refl
 

@@ -1,5 +1,5 @@
 -- Each step of the whole system keeps what holds of the works and locks of each server.
-use Rattle.jn_system.proofs.Common.{◌≡◌, ◌≢◌, ◌⊎◌, ◌≤◌, inl, inr, ℕ, ◌+◌, Bool, true, false, List, [], ◌∷◌, take, Option, Some, None, refl, sym, ◌∙◌, ap, subst, arith, if◌then◌else◌, length, ServerNo, Tid, WorkId, Tickets, server_eq, server_tells, AllFiles, Message, StableState, Pick, Change, stable, made_all, is_going, RowOutcome, WorkerTable, worker_row, timeout_row, CoordinatorTable, coordinator_row, close_clients_row, with_epoch, Step, IsStep, IsRun, TableFact, StoredFact, UpFact, ServerFact, LockFacts, Memory, opening, at_server, Room, server_row, server_step, of_worker, of_coordinator, storage_of, server_timeout, of_timeout, restored, Text}
+use Rattle.jn_system.proofs.Common.{◌≡◌, ◌≢◌, ◌⊎◌, ◌≤◌, inl, inr, ℕ, ◌+◌, Bool, true, false, List, [], ◌∷◌, take, Option, Some, None, refl, sym, ◌∙◌, ap, subst, arith, if◌then◌else◌, length, ServerNo, Tid, WorkId, Tickets, server_eq, server_tells, AllFiles, Message, StableState, Pick, Change, stable, made_all, is_going, RowOutcome, WorkerTable, worker_row, timeout_row, CoordinatorTable, coordinator_row, close_clients_row, with_epoch, Step, IsStep, IsRun, TableFact, StoredFact, UpFact, ServerFact, LockFacts, Memory, opening, at_server, Room, server_row, server_step, of_worker, of_coordinator, storage_of, server_timeout, of_timeout, restored, Text, Left, left_of}
 use Rattle.jn_system.specs.WholeSystem.World.{World}
 use Rattle.jn_system.specs.WholeSystem.Steps.{after, run}
 use Rattle.jn_system.proofs.WholeSystem.Rows.{RowKeeps}
@@ -100,7 +100,7 @@ raised s x h = record { place = h.place; no_later = λ W p e. more W.epoch x.epo
 -- ---- every step
 
 module _ (w : World) (h : LockFacts w) where
-  leaves : (s : ServerNo) (m : Memory) (stop : Option (Pick → ℕ)) (step : Step) (k : Option ℕ) (row : RowOutcome Memory) → UpFact s m (w.found s) → ServerRow w s m stop step k row → Leaves s (stable (w.found s)) row
+  leaves : (s : ServerNo) (m : Memory) (stop : Option (Pick → Left)) (step : Step) (k : Option ℕ) (row : RowOutcome Memory) → UpFact s m (w.found s) → ServerRow w s m stop step k row → Leaves s (stable (w.found s)) row
   leaves s m _ _ _ _ up (of_message stop k room message is) = row-leaves s m (stable (w.found s)) up.table up.server up.epoch up.idle room message
   leaves s m _ _ _ _ up (of_work stop room row is) = step-leaves s m (stable (w.found s)) up.table up.server up.epoch up.idle room row is
   leaves s m _ _ _ _ up of_closing = of-coordinator s m (stable (w.found s)) up.table up.server up.epoch up.idle (close_clients_row m.coordinator m.tickets) (close-aside m.coordinator m.tickets)
@@ -130,8 +130,8 @@ module _ (w : World) (h : LockFacts w) where
   by-case step _ (row_done _ s m k row e is) may = let up = is-up s w m h e in let l = leaves s m None step k row up is in
       one s (Some row.table) (λ c. made_all row.changes (w.found s c)) (record { same = λ c. ap (λ x. made_all row.changes x) (up.same c); server = l.server; epoch = l.epoch; idle = l.idle; table = l.table })
   by-case step _ (row_stopped _ s m k row made e is) may = let up = is-up s w m h e in let l = leaves s m (Some made) step k row up is in
-      one s None (λ c. made_all (take (made c) row.changes) (w.found s c))
-      (λ c. subst (λ x. StoredFact s (made_all (take (made c) row.changes) x).epoch (made_all (take (made c) row.changes) x).works) (sym (up.same c)) (l.stops (made c)))
+      one s None (λ c. left_of (made c) row.changes (w.found s c))
+      (λ c. subst (λ x. StoredFact s (left_of (made c) row.changes x).epoch (left_of (made c) row.changes x).works) (sym (up.same c)) (l.stops (made c).whole))
   by-case _ _ (gone_late s m T e) may = one-memory s (Some (server_timeout m T)) (late-keeps s m T (w.found s) (is-up s w m h e))
   by-case _ _ (gone_down s m e) may = one-memory s None (up-stored s m (w.found s) (is-up s w m h e))
   by-case _ _ (come_up s pick Ws Ts e) may = one s (Some (restored s (w.found s pick) Ws Ts)) (λ c. with_epoch (w.found s pick))

@@ -10,7 +10,7 @@ use Rattle.jn_msgs.specs.declared.message.Vote.{Vote}
 use Rattle.jn_msgs.specs.declared.message.Vote.TheVariants as votes
 use Rattle.jn_rows.specs.Coordinator.{is_work}
 use Rattle.jn_system.specs.SmallSteps.World.{World}
-use Rattle.jn_system.specs.SmallSteps.FoundStates.{AreParts}
+use Rattle.jn_system.specs.SmallSteps.Transactions.{AreParts}
 
 abbrev pub IsPartOf : World → Tid → WorkId → Type 0
 IsPartOf w T W = (w.ended T ≡ true) × (w.part T W.server ≡ Some W)

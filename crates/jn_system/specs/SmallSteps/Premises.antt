@@ -15,9 +15,8 @@ use Rattle.jn_locks.specs.Locks.{is_unit}
 use Rattle.jn_system.specs.SmallSteps.Traces.{Answered, effect_of, asks}
 use Rattle.jn_system.specs.SmallSteps.Held.{commit_units, HoldsForCommit, HasRead, Writes, ReadsFiles}
 use Rattle.jn_system.specs.SmallSteps.World.{World, Working, Knowledge}
-use Rattle.jn_system.specs.SmallSteps.FoundStates.{AllReady, AllOver, AreParts}
-use Rattle.jn_system.specs.SmallSteps.Transactions.{Knows}
-use Rattle.jn_system.specs.SmallSteps.Steps.{Atom, Prepare, Begin, Open, Perform, Lose, End, Learn, NoteReady, NoteOver, Abort, Close, Make, Count, Name, Decide, Narrow, RaiseEpoch, Crash, Restart, server_of, after}
+use Rattle.jn_system.specs.SmallSteps.Transactions.{AllReady, AllOver, AreParts, Knows}
+use Rattle.jn_system.specs.SmallSteps.Steps.{Atom, Prepare, Begin, Open, Perform, Lose, End, Learn, NoteReady, NoteOver, Abort, Close, Make, CarryPart, Count, Name, Decide, Narrow, RaiseEpoch, Crash, Restart, server_of, after}
 
 -- ---- in memory
 
@@ -147,6 +146,7 @@ May (NoteOver W) w = MayBeOver w W
 May (Abort T) w = MayAbort w T
 May (Close T) w = Unit {0}
 May (Make done step) w = (c : Pick) → MayMake w (w.found (server_of step) c) step
+May (CarryPart W i is) w = (c : Pick) → MayCarryOut w (w.found W.server c) W i
 May (Count W n) w = MayCount w W n
 May (Name T) w = MayName w T
 May (Decide flag) w = MayFlag w flag × (w.named flag.tid ≡ false)

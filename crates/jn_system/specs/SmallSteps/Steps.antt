@@ -10,7 +10,7 @@ use Rattle.jn_order.specs.Files.{AllFiles}
 use Rattle.jn_records.specs.declared.flag.Flag.{Flag}
 use Rattle.jn_records.specs.declared.intention.Intention.{Intention}
 use Rattle.jn_records.specs.declared.work.WorkHead.{WorkHead}
-use Rattle.jn_rows.specs.Stable.{StableState, Pick, Change, AddReady, MarkGoing, CarryOut, RemoveWork, AddFlag, DropFlag, at_work, at_tid, made_by}
+use Rattle.jn_rows.specs.Stable.{StableState, Pick, Change, AddReady, MarkGoing, CarryOut, RemoveWork, AddFlag, DropFlag, at_work, at_tid, made_by, carried_at}
 use Rattle.jn_system.specs.SmallSteps.Traces.{Answered}
 use Rattle.jn_system.specs.SmallSteps.World.{World, Working, Knowledge, Unknown, Begun, Committed, at_server}
 use Rattle.jn_system.specs.WholeSystem.World.{changed, with_epoch}
@@ -40,6 +40,8 @@ pub data Atom : Type 0 where
   Close : Tid → Atom
   -- another change of the stable states, which only some picks may find yet
   Make : (Pick → Bool) → Change → Atom
+  -- of the registers that an intention of a going work writes, each pick finds these written
+  CarryPart : WorkId → Intention → (Pick → LockUnit → Bool) → Atom
   -- so many intentions of a work have been carried out
   Count : WorkId → ℕ → Atom
   -- the commit of a transaction whose flag is found
@@ -70,6 +72,10 @@ put s done f w = record w { found = changed w.found s done f }
 
 abbrev pub always : Pick → Bool
 always c = true
+
+-- an intention is carried out in part
+abbrev pub carry_part : ServerNo → (Pick → LockUnit → Bool) → Intention → World → World
+carry_part s is i w = record w { found = λ q c. if server_eq s q then carried_at (is c) i (w.found s c) else w.found q c }
 
 abbrev pub narrow : ServerNo → (Pick → Pick) → World → World
 narrow s g w = record w { found = λ q c. if server_eq s q then w.found s (g c) else w.found q c }
@@ -171,6 +177,7 @@ after (NoteOver W) w = note_over W w
 after (Abort T) w = abort T w
 after (Close T) w = close T w
 after (Make done step) w = put (server_of step) done (made_by step) w
+after (CarryPart W i is) w = carry_part W.server is i w
 after (Count W n) w = count_to W n w
 after (Name T) w = name_it T w
 after (Decide flag) w = name_it flag.tid (put flag.tid.server always (made_by (AddFlag flag)) w)

@@ -5,7 +5,7 @@ use Rattle.jn_base.specs.declared.names.LockUnit.{LockUnit}
 use Rattle.jn_base.specs.declared.names.Tid.{Tid}
 use Rattle.jn_base.specs.declared.names.WorkId.{WorkId}
 use Rattle.jn_base.specs.Names.{server_eq}
-use Rattle.jn_order.specs.Files.{Files, AllFiles, change}
+use Rattle.jn_order.specs.Files.{AllFiles, change}
 use Rattle.jn_records.specs.declared.intention.Intention.{Intention}
 use Rattle.jn_rows.specs.Stable.{StableState, Pick}
 use Rattle.jn_system.specs.SmallSteps.Traces.{Answered, effects, Agrees}
@@ -71,10 +71,6 @@ replay files (c ∷ history) = λ s. change (effects (c.traces s)) (replay files
 abbrev pub IsSerial : AllFiles → List Commit → Type 0
 IsSerial files [] = Unit {0}
 IsSerial files (c ∷ history) = ((s : ServerNo) → Agrees (replay files history s) (c.traces s)) × IsSerial files history
-
--- the files of a server after the commits so far
-abbrev pub base : World → ServerNo → Files
-base w s = replay w.opening w.history s
 
 abbrev pub at_server : {A : Type 0} → (ServerNo → A) → ServerNo → A → ServerNo → A
 at_server f s x q = if server_eq s q then x else f q

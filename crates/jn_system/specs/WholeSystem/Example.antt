@@ -1,5 +1,6 @@
 -- A run in which a client makes a file at one server and commits, without and with stops.
 use Rattle.std.specs.Prelude.{ℕ, true, false, if◌then◌else◌, List, [], ◌∷◌}
+use Rattle.jn_rows.specs.Stable.{whole_only}
 use Rattle.jn_base.specs.declared.names.ServerNo.{ServerNo}
 use Rattle.jn_base.specs.declared.names.ClientNo.{ClientNo}
 use Rattle.jn_base.specs.declared.names.FileNo.{FileNo}
@@ -60,7 +61,7 @@ to_the_end =
 -- the server stops while it puts the flag, which is found by the picks that read the first half of page 3
 abbrev pub with_a_stop : List Step
 with_a_stop =
-    StopDelivery 8 much (λ c. if c 3 then 1 else 0)
+    StopDelivery 8 much (λ c. if c 3 then whole_only 1 else whole_only 0)
     ∷ Restart the_server (λ n. true) (the_work ∷ []) (the_transaction ∷ [])
     ∷ Nudge the_server
     ∷ delivered 10

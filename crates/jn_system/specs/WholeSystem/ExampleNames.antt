@@ -6,7 +6,7 @@ use Rattle.jn_base.specs.declared.names.FileNo.{FileNo}
 use Rattle.jn_base.specs.declared.names.BlockNo.{BlockNo}
 use Rattle.jn_base.specs.declared.names.Tid.{Tid}
 use Rattle.jn_base.specs.declared.names.WorkId.{WorkId}
-use Rattle.jn_rows.specs.Stable.{Pick}
+use Rattle.jn_rows.specs.Stable.{Pick, Left, whole_only}
 
 abbrev pub s0 : ServerNo
 s0 = record { 0 = 0 }
@@ -33,5 +33,5 @@ abbrev pub the_work : WorkId
 the_work = record { server = s0; epoch = 1; ticket = 0 }
 
 -- each pick that reads the first half of page 3 finds the change at which the server was stopped
-abbrev pub half_made : Pick → ℕ
-half_made c = if c 3 then 1 else 0
+abbrev pub half_made : Pick → Left
+half_made c = if c 3 then whole_only 1 else whole_only 0

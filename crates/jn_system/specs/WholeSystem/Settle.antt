@@ -3,7 +3,7 @@
 use Rattle.std.specs.Prelude.{ℕ, zero, suc, ◌+◌, if◌then◌else◌, List, [], ◌∷◌, ◌++◌, map, Option, Some, None}
 use Rattle.jn_base.specs.declared.names.ServerNo.{ServerNo}
 use Rattle.jn_base.specs.declared.names.ClientNo.{ClientNo}
-use Rattle.jn_rows.specs.Stable.{Pick, stable}
+use Rattle.jn_rows.specs.Stable.{Pick, stable, Left}
 use Rattle.jn_system.specs.WholeSystem.World.{World, servers_from, clients_from}
 use Rattle.jn_system.specs.WholeSystem.Servers.{Room, is_busy}
 use Rattle.jn_system.specs.WholeSystem.Steps.{Step, Again, Nudge, handing, working}
@@ -13,7 +13,7 @@ use Rattle.jn_system.specs.WholeSystem.Course.{Course, go, go_on}
 -- stopped. Nothing is said of it here, so whatever holds of all settles holds whatever befalls them.
 pub record Chance : Type 0 where
   pub room : Room
-  pub stop : Option (Pick → ℕ)
+  pub stop : Option (Pick → Left)
 
 -- ---- what comes next
 

@@ -1,6 +1,6 @@
 -- The steps of the whole system. Each is what one client or one server does by its row, a stop, a crash or a restart, or that
 -- all clients are dismissed.
-use Rattle.std.specs.Prelude.{◌≡◌, ℕ, ◌+◌, Bool, true, nat_eq, nat_lt, ◌&&◌, ◌||◌, if◌then◌else◌, List, [], ◌∷◌, ◌++◌, take, slice_get, Option, Some, None, is_some}
+use Rattle.std.specs.Prelude.{◌≡◌, ℕ, ◌+◌, Bool, true, nat_eq, nat_lt, ◌&&◌, ◌||◌, if◌then◌else◌, List, [], ◌∷◌, ◌++◌, slice_get, Option, Some, None, is_some}
 use Rattle.std.specs.List.{list_any, list_all}
 use Rattle.jn_base.specs.declared.names.ServerNo.{ServerNo}
 use Rattle.jn_base.specs.declared.names.ClientNo.{ClientNo}
@@ -14,7 +14,7 @@ use Rattle.jn_msgs.specs.declared.message.Message.{Message}
 use Rattle.jn_report.specs.declared.line.Text.TheVariants as says
 use Rattle.jn_rows.specs.declared.client.Taken.{Taken}
 use Rattle.jn_rows.specs.declared.client.Taken.TheVariants as taken
-use Rattle.jn_rows.specs.Stable.{StableState, Pick, made_all, stable}
+use Rattle.jn_rows.specs.Stable.{StableState, Pick, Left, left_of, made_all, stable}
 use Rattle.jn_rows.specs.Outcomes.{RowOutcome, Sent}
 use Rattle.jn_rows.specs.Client.{ClientTable, Commanded, Refuses, Sends, command_row, take_row, again_row, over}
 use Rattle.jn_rows.specs.Coordinator.{close_clients_row}
@@ -34,9 +34,9 @@ pub data Step : Type 0 where
   Nudge : ServerNo → Step
   -- the transaction's work at the server may be broken from now on
   Timeout : ServerNo → Tid → Step
-  -- a server is stopped while it takes a message, or while it works: each pick finds so many of the changes made
-  StopDelivery : ℕ → Room → (Pick → ℕ) → Step
-  StopWork : ServerNo → Room → (Pick → ℕ) → Step
+  -- a server is stopped while it takes a message, or while it works: this is left of the changes by each pick
+  StopDelivery : ℕ → Room → (Pick → Left) → Step
+  StopWork : ServerNo → Room → (Pick → Left) → Step
   Crash : ServerNo → Step
   -- fewer states may be found, as once a restart, perhaps one that is stopped, has cleaned pages: each pick finds what this
   -- other one found. A decay and a revival are no step: what a bad half keeps may be found again
@@ -51,11 +51,11 @@ pub data Step : Type 0 where
   CloseClients : ServerNo → Step
 
 -- a message is handed over, or a server does one background step, perhaps with a stop
-abbrev pub handing : ℕ → Room → Option (Pick → ℕ) → Step
+abbrev pub handing : ℕ → Room → Option (Pick → Left) → Step
 handing k room None = Deliver k room
 handing k room (Some made) = StopDelivery k room made
 
-abbrev pub working : ServerNo → Room → Option (Pick → ℕ) → Step
+abbrev pub working : ServerNo → Room → Option (Pick → Left) → Step
 working s room None = Work s room
 working s room (Some made) = StopWork s room made
 
@@ -95,34 +95,34 @@ done s k row w = record w {
   lines = w.lines ++ lines_of s k row.notes;
 }
 
--- a row is stopped: some of its changes are made, from the first one on, and nothing is sent or told
-abbrev pub stopped : ServerNo → (Pick → ℕ) → RowOutcome Memory → World → World
+-- a row is stopped: some of its changes are made, from the first one on, and nothing is sent or reported
+abbrev pub stopped : ServerNo → (Pick → Left) → RowOutcome Memory → World → World
 stopped s made row w = record w {
   memory = at_server w.memory s None;
-  found = λ q c. if server_eq s q then made_all (take (made c) row.changes) (w.found s c) else w.found q c;
+  found = λ q c. if server_eq s q then left_of (made c) row.changes (w.found s c) else w.found q c;
   lines = w.lines ++ says.Stopped s ∷ [];
 }
 
 -- where a row may be stopped, and how
-abbrev pub ends : ServerNo → Option ℕ → Option (Pick → ℕ) → RowOutcome Memory → World → World
+abbrev pub ends : ServerNo → Option ℕ → Option (Pick → Left) → RowOutcome Memory → World → World
 ends s k None row w = done s k row w
 ends s k (Some made) row w = stopped s made row w
 
-abbrev pub at_memory : ServerNo → ℕ → Room → Option (Pick → ℕ) → Message → Option Memory → World → World
+abbrev pub at_memory : ServerNo → ℕ → Room → Option (Pick → Left) → Message → Option Memory → World → World
 at_memory s k room stop message None w = record w { lines = w.lines ++ says.Lost k ∷ [] }
 at_memory s k room stop message (Some m) w = ends s (Some k) stop (server_row m (stable (w.found s)) room message) w
 
 -- a message is handed over, at a server perhaps with a stop
-abbrev pub handed : ℕ → Room → Option (Pick → ℕ) → Option Sent → World → World
+abbrev pub handed : ℕ → Room → Option (Pick → Left) → Option Sent → World → World
 handed k room stop None w = w
 handed k room stop (Some (Client c, message)) w = taken_by c k (take_row (w.clients c) message) w
 handed k room stop (Some (Server s, message)) w = at_memory s k room stop message (w.memory s) w
 
-abbrev pub works : ServerNo → Option (Pick → ℕ) → Option (RowOutcome Memory) → World → World
+abbrev pub works : ServerNo → Option (Pick → Left) → Option (RowOutcome Memory) → World → World
 works s stop None w = w
 works s stop (Some row) w = ends s None stop row w
 
-abbrev pub work : ServerNo → Room → Option (Pick → ℕ) → Option Memory → World → World
+abbrev pub work : ServerNo → Room → Option (Pick → Left) → Option Memory → World → World
 work s room stop None w = w
 work s room stop (Some m) w = works s stop (server_step m (stable (w.found s)) room) w
 

@@ -1,5 +1,5 @@
 -- The whole system between two steps: what each server and client remembers, what is stable at each server, every message
--- that was sent, and every line that was told.
+-- that was sent, and every line that was reported.
 use Rattle.std.specs.Prelude.{ℕ, zero, suc, ◌+◌, Bool, if◌then◌else◌, List, [], ◌∷◌, ◌++◌, Option, Some, None, ◌≡◌, ◌≤◌}
 use Rattle.std.specs.List.{list_any}
 use Rattle.jn_base.specs.declared.names.ServerNo.{ServerNo}
@@ -10,13 +10,13 @@ use Rattle.jn_base.specs.declared.names.Tickets.{Tickets}
 use Rattle.jn_base.specs.Names.{server_eq, client_eq, tid_eq}
 use Rattle.jn_order.specs.Files.{AllFiles}
 use Rattle.jn_report.specs.declared.line.Text.{Text}
-use Rattle.jn_report.specs.declared.line.Text.TheVariants as says
 use Rattle.jn_rows.specs.Stable.{StableState, Pick}
 use Rattle.jn_rows.specs.Outcomes.{Sent}
 use Rattle.jn_rows.specs.Worker.{WorkerTable}
 use Rattle.jn_rows.specs.Coordinator.{CoordinatorTable}
 use Rattle.jn_rows.specs.Client.{ClientTable, new_table}
 use Rattle.jn_base.specs.declared.names.LockUnit.{LockUnit}
+use Rattle.jn_report.specs.Kinds.{commit_in as committed_in}
 
 -- what a server that is up remembers
 pub record Memory : Type 0 where
@@ -62,10 +62,6 @@ clients_from c zero = []
 clients_from c (suc n) = record { 0 = c } ∷ clients_from (c + 1) n
 
 -- ---- what the lines say
-
-abbrev pub committed_in : Text → List Tid
-committed_in (says.Commit T) = T ∷ []
-committed_in text = []
 
 -- the transactions that have committed, in order
 abbrev pub commits_in : List Text → List Tid

@@ -1,14 +1,27 @@
 -- What a worker does with a prepared work, as steps of the machine: its next intention is carried out, or it goes.
-use Rattle.jn_system_order.proofs.Common.{◌≡◌, ◌≢◌, ◌⊎◌, inl, inr, ℕ, suc, ◌+◌, Bool, true, false, List, [], ◌∷◌, take, Option, Some, None, is_some, refl, sym, ◌∙◌, ap, subst, arith, if◌then◌else◌, slice_get, All, All-nil, All-cons, ServerNo, Tid, WorkId, LockUnit, Server, server_eq, work_eq, server_tells, work_tells, change, or_else, or_also, Intention, intention_change, list_change, Message, Work, StableState, Prepared, Pick, CarryOut, RemoveWork, is_going, made_by, at_work, stable, RowOutcome, Sent, WorkerTable, work_at, carried_row, intentions_of, worker_step, at-less, Machine, Invariant, Atom, Count, Make, NoteOver, always, run, MayRun, MayCount, MayCarryOut, MayRemove, MayBeOver, IsPrepared, Says, take_zero, World, Memory, UpFact, Mirrors, IsTrue, IsAddressed, working_of, next_in, Room, storage_of, going-is, stored-fact, WorkerStep, carries_out, is_over, erases_rubbish, worker-step-case}
+use Rattle.jn_system_order.proofs.Common.{nat_lt, nat_tests, BlockNo, ◌≡◌, ◌≢◌, ◌⊎◌, inl, inr, ℕ, suc, ◌+◌, Bool, true, false, List, [], ◌∷◌, take, Option, Some, None, is_some, refl, sym, ◌∙◌, ap, subst, arith, if◌then◌else◌, slice_get, All, All-nil, All-cons, ServerNo, Tid, WorkId, LockUnit, Server, server_eq, work_eq, server_tells, work_tells, change, or_else, or_also, Intention, intention_change, list_change, Message, Work, StableState, Prepared, Pick, CarryOut, RemoveWork, is_going, made_by, at_work, stable, RowOutcome, Sent, WorkerTable, work_at, carried_row, intentions_of, worker_step, at-less, Machine, Invariant, Atom, Count, Make, NoteOver, always, run, MayRun, MayCount, MayCarryOut, MayRemove, MayBeOver, IsPrepared, Says, take_zero, World, Memory, UpFact, Mirrors, IsTrue, IsAddressed, working_of, next_in, Room, storage_of, going-is, stored-fact, WorkerStep, carries_out, is_over, erases_rubbish, worker-step-case, Left, left_of, CarryPart, is_written, carried_at, gone_at, fun_ext, zero, part-is}
 use Rattle.jn_msgs.specs.declared.message.Message.TheVariants as messages
 use Rattle.jn_rows.specs.Worker.{without}
 use Rattle.jn_system_order.proofs.Mirroring.GrantMoves.{active-here, found-here}
-use Rattle.jn_system_order.proofs.Mirroring.Mirrored.{some_made, made-one, DoesStop}
+use Rattle.jn_system_order.proofs.Mirroring.Mirrored.{some_made, left-one, DoesStop}
 use Rattle.jn_system_order.proofs.Mirroring.QuietMoves.{RowMoves, sends-moves}
 use Rattle.jn_system_order.proofs.Mirroring.Intended.{step-writes, step-more, take-end}
 
 one-more : (n : ℕ) → suc n ≡ n + 1
 one-more n = omega arith
+
+left-written : (N : WorkId) (i : Intention) (l : Left) (x : StableState) → left_of l (CarryOut N i ∷ []) x ≡ carried_at (is_written l i) i x
+left-written N i l x = by l.whole l.gone
+  where
+    by : (n : ℕ) (gone : Option (BlockNo → Bool)) → left_of (record { whole = n; gone = gone }) (CarryOut N i ∷ []) x ≡ carried_at (is_written (record { whole = n; gone = gone }) i) i x
+    by (suc zero) gone = ap (λ f. record x { files = f }) (part-is gone None (change (intention_change i) x.files) (λ g u. refl))
+    by (suc (suc n)) gone = ap (λ f. record x { files = f }) (part-is gone None (change (intention_change i) x.files) (λ g u. refl)
+        ∙ fun_ext (λ u. sym (ap (λ (b : Bool). if (if b then true else gone_at gone i.what u) then or_else (intention_change i u) (x.files u) else x.files u) more)))
+      where
+        more : nat_lt 0 (suc (suc n)) ≡ true
+        more = grind (arith, nat_tests)
+    by zero None = ap (λ f. record x { files = f }) (fun_ext (λ u. refl))
+    by zero (Some gone) = ap (λ f. record x { files = f }) (fun_ext (λ u. refl))
 
 module _ (r : World) (w : Machine) (s : ServerNo) (m : Memory) (mirrors : Mirrors r w) (is : r.memory s ≡ Some m) (up : UpFact s m (r.found s))
     (grow : (atoms : List Atom) → MayRun atoms w → (message : Message) → Says w message → Says (run atoms w) message) (inv : Invariant w)
@@ -98,10 +111,10 @@ module _ (r : World) (w : Machine) (s : ServerNo) (m : Memory) (mirrors : Mirror
         by (inl f) = absurd (ne (sym at ∙ ap (λ (U : WorkId). U.server) f.1))
         by (inr f) = ap (λ (b : Bool). if b then n else (if b then 0 else w.next V)) f.0
 
-    abbrev stop-atoms : (Pick → ℕ) → List Atom
-    stop-atoms made = Count N 0 ∷ Make (λ c. some_made (made c)) (CarryOut N i) ∷ []
+    abbrev stop-atoms : (Pick → Left) → List Atom
+    stop-atoms made = Count N 0 ∷ CarryPart N i (λ c. is_written (made c) i) ∷ []
 
-    may-stop : (made : Pick → ℕ) → MayRun (stop-atoms made) w
+    may-stop : (made : Pick → Left) → MayRun (stop-atoms made) w
     may-stop made = (none-yet w is-up, (may-carry, tt))
 
     stop-next : (V : WorkId) → s ≢ V.server → at_work w.next N 0 V ≡ w.next V
@@ -111,11 +124,11 @@ module _ (r : World) (w : Machine) (s : ServerNo) (m : Memory) (mirrors : Mirror
         by (inl f) = absurd (ne (sym at ∙ ap (λ (U : WorkId). U.server) f.1))
         by (inr f) = ap (λ (b : Bool). if b then 0 else w.next V) f.0
 
-    stop-does : (made : Pick → ℕ) → DoesStop s (record { table = m.worker; changes = CarryOut N i ∷ []; messages = []; notes = []; tickets = m.tickets }) made w (run (stop-atoms made) w)
+    stop-does : (made : Pick → Left) → DoesStop s (record { table = m.worker; changes = CarryOut N i ∷ []; messages = []; notes = []; tickets = m.tickets }) made w (run (stop-atoms made) w)
     stop-does made = record {
       up = λ q. refl;
-      found = λ q c. ap (λ (z : ServerNo). if server_eq z q then (if some_made (made c) then made_by (CarryOut N i) (w.found z c) else w.found z c) else w.found q c) at
-          ∙ ap (λ z. if server_eq s q then z else w.found q c) (made-one (CarryOut N i) (made c) (w.found s c));
+      found = λ q c. ap (λ (z : ServerNo). if server_eq z q then carried_at (is_written (made c) i) i (w.found z c) else w.found q c) at
+          ∙ ap (λ z. if server_eq s q then z else w.found q c) (sym (left-written N i (made c) (w.found s c)));
       elsewhere = λ V ne. refl;
       next = stop-next;
       ticket = λ q ne. refl;
@@ -202,20 +215,20 @@ module _ (r : World) (w : Machine) (s : ServerNo) (m : Memory) (mirrors : Mirror
         no q = cc
     owner-left V v (inr f) h = mirrors.owner s m V v is (subst (λ (b : Bool). (if b then None else work_at V m.worker) ≡ Some v) f.0 h)
 
-    abbrev over-stops : (Pick → ℕ) → List Atom
-    over-stops made = Count N 0 ∷ Make (λ c. some_made (made c)) (RemoveWork N) ∷ []
+    abbrev over-stops : (Pick → Left) → List Atom
+    over-stops made = Count N 0 ∷ Make (λ c. some_made (made c).whole) (RemoveWork N) ∷ []
 
-    may-end-stop : (made : Pick → ℕ) → MayRun (over-stops made) w
+    may-end-stop : (made : Pick → Left) → MayRun (over-stops made) w
     may-end-stop made = (none-yet w is-up, (may-remove, tt))
 
     abbrev over-row : List Sent → RowOutcome WorkerTable
     over-row sent = record { table = without N m.worker; changes = RemoveWork N ∷ []; messages = sent; notes = []; tickets = m.tickets }
 
-    over-stop-does : (sent : List Sent) (made : Pick → ℕ) → DoesStop s (over-row sent) made w (run (over-stops made) w)
+    over-stop-does : (sent : List Sent) (made : Pick → Left) → DoesStop s (over-row sent) made w (run (over-stops made) w)
     over-stop-does sent made = record {
       up = λ q. refl;
-      found = λ q c. ap (λ (z : ServerNo). if server_eq z q then (if some_made (made c) then made_by (RemoveWork N) (w.found z c) else w.found z c) else w.found q c) at
-          ∙ ap (λ z. if server_eq s q then z else w.found q c) (made-one (RemoveWork N) (made c) (w.found s c));
+      found = λ q c. ap (λ (z : ServerNo). if server_eq z q then (if some_made (made c).whole then made_by (RemoveWork N) (w.found z c) else w.found z c) else w.found q c) at
+          ∙ ap (λ z. if server_eq s q then z else w.found q c) (left-one (RemoveWork N) (made c) (w.found s c) refl);
       elsewhere = λ V ne. refl;
       next = λ V ne. zero-there V ne (work_tells N V);
       ticket = λ q ne. refl;

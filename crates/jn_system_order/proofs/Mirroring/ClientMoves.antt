@@ -18,7 +18,7 @@ pub record SameServers (w v : Machine) : Type 0 where
 same-servers : (w : Machine) → SameServers w w
 same-servers w = record { up = refl; found = refl; active = refl; next = refl; ticket = refl; knowledge = refl; history = refl }
 
--- a line that tells of no commit
+-- a line that reports no commit
 pub quiet-line : (lines : List Text) (line : Text) → committed_in line ≡ [] → commits_in (lines ++ line ∷ []) ≡ commits_in lines
 quiet-line lines line h = commits-more lines (line ∷ []) ∙ ap (λ z. commits_in lines ++ (z ++ [])) h ∙ append-nil (commits_in lines)
 
@@ -55,7 +55,7 @@ module _ (r : World) (w : Machine) (h : Mirrors r w) (grow : (atoms : List Atom)
       → MovesTo (record r { clients = clients; sent = sent; lines = lines }) w
   stays-with clients are sent says addressed lines quiet = record { atoms = []; may = tt; ended = refl; mirrors = mirrors-still w (same-servers w) (λ message k. k) clients are sent says addressed lines quiet }
 
-  -- a line is told
+  -- a line is reported
   pub line-moves : (line : Text) → committed_in line ≡ [] → MovesTo (record r { lines = r.lines ++ line ∷ [] }) w
   line-moves line none = stays-with r.clients h.clients r.sent h.says h.addressed (r.lines ++ line ∷ []) (quiet-line r.lines line none)
 

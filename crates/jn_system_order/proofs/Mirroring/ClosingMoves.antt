@@ -1,5 +1,5 @@
 -- A coordinator closes transactions of its table, one after another, as steps of the machine.
-use Rattle.jn_system_order.proofs.Common.{◌≡◌, ◌≢◌, ◌⊎◌, inl, inr, ℕ, zero, suc, Bool, true, false, List, [], ◌∷◌, ◌++◌, append-nil, Option, Some, None, refl, sym, ◌∙◌, ap, subst, if◌then◌else◌, take, All, All-nil, ServerNo, ClientNo, Tid, server_eq, tid_eq, tid_tells, Message, Transaction, StableState, Change, DropFlag, Pick, made_all, at_tid, RowOutcome, Sent, CoordinatorTable, transaction_at, close_clients_row, Machine, Knowledge, Invariant, Atom, run, MayRun, Says, run_kept, World, Memory, of_coordinator, UpFact, Mirrors, IsTrue, IsAddressed, IsTransaction, AreTransactions, commits_of, knowledge_in, knowledge_of, Closes, Empty, Stays, Goes, Waits, Forgets, outcomes-close}
+use Rattle.jn_system_order.proofs.Common.{BlockNo, ◌≡◌, ◌≢◌, ◌⊎◌, inl, inr, ℕ, zero, suc, Bool, true, false, List, [], ◌∷◌, ◌++◌, append-nil, Option, Some, None, refl, sym, ◌∙◌, ap, subst, if◌then◌else◌, take, All, All-nil, ServerNo, ClientNo, Tid, server_eq, tid_eq, tid_tells, Message, Transaction, StableState, Change, DropFlag, Pick, made_all, at_tid, RowOutcome, Sent, CoordinatorTable, transaction_at, close_clients_row, Machine, Knowledge, Invariant, Atom, run, MayRun, Says, run_kept, World, Memory, of_coordinator, UpFact, Mirrors, IsTrue, IsAddressed, IsTransaction, AreTransactions, commits_of, knowledge_in, knowledge_of, Closes, Empty, Stays, Goes, Waits, Forgets, outcomes-close, Left, left_of, part_of, slice_get, LockUnit, left-is}
 use Rattle.jn_system_order.proofs.Mirroring.Losing.{run-append, may-append}
 use Rattle.jn_system_order.proofs.Mirroring.Mirrored.{StopsServer, transaction-still, transactions-still}
 use Rattle.jn_system_order.proofs.Mirroring.QuietMoves.{ServerMoves, ServerStops}
@@ -202,6 +202,16 @@ stops-all (Waits {xs = xs} x d p e h) s made w inv up are known = stops-all h s 
 stops-all (Forgets {xs = xs} {cs = cs} x d p e g h) s made w inv up are known =
     stops-more s x xs w inv up are known made (DropFlag x.tid ∷ []) cs (forgets-stops s x w inv up are.0 (first s x xs w inv up are known) d e g made) (λ v. stops-all h s (λ p. less (DropFlag x.tid ∷ []) (made p)) v)
 
+-- none of these changes is found in part
+closes-whole : {P : Transaction → Type 0} {xs ys : List Transaction} {cs : List Change} → Closes P xs ys cs → (n : ℕ) (gone : BlockNo → Bool) (u : LockUnit) → part_of gone (slice_get cs n) u ≡ None
+closes-whole Empty zero gone u = refl
+closes-whole Empty (suc n) gone u = refl
+closes-whole (Stays x h) n gone u = closes-whole h n gone u
+closes-whole (Goes x p e h) n gone u = closes-whole h n gone u
+closes-whole (Waits x d p e h) n gone u = closes-whole h n gone u
+closes-whole (Forgets x d p e g h) zero gone u = refl
+closes-whole (Forgets x d p e g h) (suc n) gone u = closes-whole h n gone u
+
 -- ---- the row
 
 module _ (r : World) (w : Machine) (s : ServerNo) (m : Memory) (mirrors : Mirrors r w) (is : r.memory s ≡ Some m) (up : UpFact s m (r.found s))
@@ -219,13 +229,13 @@ module _ (r : World) (w : Machine) (s : ServerNo) (m : Memory) (mirrors : Mirror
     pub closing : AllClose s xs ys cs w
     closing = closes-all h s w inv (is-up r w s m mirrors is up grow inv s refl) are all-known
 
-    pub closing-stops : (row : RowOutcome CoordinatorTable) → row.changes ≡ cs → (made : Pick → ℕ) → ServerStops s (of_coordinator m row) made w
-    closing-stops row same made = let stop = stops-all h s made w inv (is-up r w s m mirrors is up grow inv s refl) are all-known in record {
+    pub closing-stops : (row : RowOutcome CoordinatorTable) → row.changes ≡ cs → (made : Pick → Left) → ServerStops s (of_coordinator m row) made w
+    closing-stops row same made = let stop = stops-all h s (λ p. (made p).whole) w inv (is-up r w s m mirrors is up grow inv s refl) are all-known in record {
       atoms = stop.atoms;
       may = stop.may;
       does = subst (λ (v : Machine). StopsServer s (of_coordinator m row) made w v) (sym stop.ran) (record {
         up = λ q ne. ap (λ f. f q) stop.keeps.up;
-        found = λ q p. stop.found q p ∙ ap (λ cs. if server_eq s q then made_all (take (made p) cs) (w.found s p) else w.found q p) (sym same);
+        found = λ q p. stop.found q p ∙ ap (λ z. if server_eq s q then z else w.found q p) (sym (left-is (made p) cs (w.found s p) (λ g u. closes-whole h (made p).whole g u))) ∙ ap (λ cs. if server_eq s q then left_of (made p) cs (w.found s p) else w.found q p) (sym same);
         elsewhere = λ W ne. ap (λ f. f W) stop.keeps.active;
         next = λ W ne. ap (λ f. f W) stop.keeps.next;
         ticket = λ q ne. ap (λ f. f q) stop.keeps.ticket;

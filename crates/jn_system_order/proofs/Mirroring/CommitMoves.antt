@@ -1,8 +1,8 @@
 -- What a worker does with a Commit, as steps of the machine: its work goes on, or is over.
-use Rattle.jn_system_order.proofs.Common.{◌≡◌, ◌≢◌, ◌⊎◌, inl, inr, ℕ, Bool, true, false, List, [], ◌∷◌, Option, Some, None, is_some, refl, sym, ◌∙◌, ap, subst, arith, if◌then◌else◌, All-nil, All-cons, ServerNo, Tid, WorkId, Server, server_eq, work_eq, work_tells, Message, StableState, Prepared, Pick, MarkGoing, made_by, at_work, stable, is_going, work_at, Machine, PartFact, Atom, NoteOver, Make, always, run, MayRun, MayGoOn, Says, World, Memory, UpFact, Mirrors, IsTrue, IsAddressed, working_of, next_in}
+use Rattle.jn_system_order.proofs.Common.{◌≡◌, ◌≢◌, ◌⊎◌, inl, inr, Bool, true, false, List, [], ◌∷◌, Option, Some, None, is_some, refl, sym, ◌∙◌, ap, subst, arith, if◌then◌else◌, All-nil, All-cons, ServerNo, Tid, WorkId, Server, server_eq, work_eq, work_tells, Message, StableState, Prepared, Pick, MarkGoing, made_by, at_work, stable, is_going, work_at, Machine, PartFact, Atom, NoteOver, Make, always, run, MayRun, MayGoOn, Says, World, Memory, UpFact, Mirrors, IsTrue, IsAddressed, working_of, next_in, Left}
 use Rattle.jn_msgs.specs.declared.message.Message.TheVariants as messages
 use Rattle.jn_system_order.proofs.Mirroring.GrantMoves.{active-here, found-here, found-same}
-use Rattle.jn_system_order.proofs.Mirroring.Mirrored.{some_made, made-one, DoesStop}
+use Rattle.jn_system_order.proofs.Mirroring.Mirrored.{some_made, left-one, DoesStop}
 use Rattle.jn_system_order.proofs.Mirroring.QuietMoves.{RowMoves, still-stops}
 
 module _ (r : World) (w : Machine) (s : ServerNo) (m : Memory) (mirrors : Mirrors r w) (is : r.memory s ≡ Some m) (up : UpFact s m (r.found s))
@@ -74,18 +74,18 @@ module _ (r : World) (w : Machine) (s : ServerNo) (m : Memory) (mirrors : Mirror
     may-mark : (done : Pick → Bool) → MayRun (Make done (MarkGoing W) ∷ []) w
     may-mark done = (λ c. may-go, tt)
 
-    mark-stops : (made : Pick → ℕ) → DoesStop s (record { table = m.worker; changes = MarkGoing W ∷ []; messages = []; notes = []; tickets = m.tickets }) made w (run (Make (λ p. some_made (made p)) (MarkGoing W) ∷ []) w)
+    mark-stops : (made : Pick → Left) → DoesStop s (record { table = m.worker; changes = MarkGoing W ∷ []; messages = []; notes = []; tickets = m.tickets }) made w (run (Make (λ p. some_made (made p).whole) (MarkGoing W) ∷ []) w)
     mark-stops made = record {
       up = λ q. refl;
-      found = λ q p. ap (λ (z : ServerNo). if server_eq z q then (if some_made (made p) then made_by (MarkGoing W) (w.found z p) else w.found z p) else w.found q p) at
-          ∙ ap (λ z. if server_eq s q then z else w.found q p) (made-one (MarkGoing W) (made p) (w.found s p));
+      found = λ q p. ap (λ (z : ServerNo). if server_eq z q then (if some_made (made p).whole then made_by (MarkGoing W) (w.found z p) else w.found z p) else w.found q p) at
+          ∙ ap (λ z. if server_eq s q then z else w.found q p) (left-one (MarkGoing W) (made p) (w.found s p) refl);
       elsewhere = λ V ne. refl;
       next = λ V ne. refl;
       ticket = λ q ne. refl;
       knowledge = λ U ne. refl;
       history = refl;
       ended = refl;
-      grows = λ message h. grow (Make (λ p. some_made (made p)) (MarkGoing W) ∷ []) (may-mark (λ p. some_made (made p))) message h;
+      grows = λ message h. grow (Make (λ p. some_made (made p).whole) (MarkGoing W) ∷ []) (may-mark (λ p. some_made (made p).whole)) message h;
     }
 
     pub mark-moves : RowMoves s m (record { table = m.worker; changes = MarkGoing W ∷ []; messages = []; notes = []; tickets = m.tickets }) w
@@ -109,5 +109,5 @@ module _ (r : World) (w : Machine) (s : ServerNo) (m : Memory) (mirrors : Mirror
         says = All-nil (IsTrue (run (Make always (MarkGoing W) ∷ []) w));
         addressed = All-nil IsAddressed;
       };
-      stops = λ made. record { atoms = Make (λ p. some_made (made p)) (MarkGoing W) ∷ []; may = may-mark (λ p. some_made (made p)); does = mark-stops made };
+      stops = λ made. record { atoms = Make (λ p. some_made (made p).whole) (MarkGoing W) ∷ []; may = may-mark (λ p. some_made (made p).whole); does = mark-stops made };
     }

@@ -1,13 +1,12 @@
 -- What a coordinator does with a message of one of its transactions, as steps of the machine.
 use Rattle.jn_system_order.proofs.Common.{◌≡◌, ◌≢◌, ◌⊎◌, inl, inr, ℕ, Bool, true, false, List, [], ◌∷◌, ◌++◌, Option, Some, None, refl, sym, ap, subst, arith, ◌&&◌, not, nat_lt, if◌then◌else◌, All, All-nil, All-cons, All-append, ServerNo, ClientNo, Tid, WorkId, Client, Server, work_tells, work_eq, Flag, Message, Vote, Transaction, Stage, Open, Voting, Committed, Aborted, Commitment, DropFlag, RowOutcome, Sent, CoordinatorTable, transaction_at, is_work, besides, all_in, with_work, drops, commits, prepares, committed_to, aborted_to, staged, without, commit_row, abort_row, forget_row, not_known, end_promised, end_stage, end_row, abort_stage, abort_request, told_stage, inquire_row, counted_vote, vote_stage, vote_row, done_stage, done_row, thanks_stage, thanks_row, Machine, Unknown, Notes, Finishes, AllReady, AllOver, AreParts, Knows, Invariant, Atom, Learn, Decide, run, MayRun, MayLearn, Says, IsPartOf, IsWorkOf, AreWorksOf, DropSays, VoteSays, at_tid_here, World, Memory, of_coordinator, UpFact, Mirrors, IsTrue, IsAddressed, IsStage, knowledge_of, knowledge_in, RequestNo}
-use Rattle.jn_system.specs.SmallSteps.Steps.{after}
+use Rattle.jn_system.specs.SmallSteps.Steps.{after, Abort}
 use Rattle.jn_base.specs.declared.names.Cause.{Cause}
 use Rattle.jn_msgs.specs.declared.message.Note.TheVariants.{Ignored}
 use Rattle.jn_rows.specs.declared.coordinator.Voting.{Voting as Ballot}
 use Rattle.jn_msgs.specs.declared.message.Message.TheVariants as messages
 use Rattle.jn_msgs.specs.declared.message.Outcome.TheVariants as outcomes
 use Rattle.jn_msgs.specs.declared.message.Vote.TheVariants as votes
-use Rattle.jn_system.specs.SmallSteps.Steps.{Abort}
 use Rattle.jn_system_order.proofs.Mirroring.QuietMoves.{ServerMoves}
 use Rattle.jn_system_order.proofs.Mirroring.Transactions.{is-work-one, in-besides, in-either, in-with, in-all, All-works}
 use Rattle.jn_system_order.proofs.Mirroring.StageMoves.{knows, is-up, tells-moves, its, place, begun, stage-is, stage-known, stage-moves, decide-moves, forget-moves, leave-moves}
@@ -70,7 +69,7 @@ module _ (r : World) (w : Machine) (s : ServerNo) (m : Memory) (mirrors : Mirror
   abbrev xs : List Transaction
   xs = m.coordinator.transactions
 
-  -- nothing is told, or a message alone
+  -- nothing is reported, or a message alone
   pub ignores : Moves (record { table = m.coordinator; changes = []; messages = []; notes = Ignored ∷ []; tickets = m.tickets })
   ignores = tells-moves r w s m mirrors is up grow inv [] (Ignored ∷ []) refl (All-nil (IsTrue w)) (All-nil IsAddressed)
 

@@ -1,5 +1,5 @@
 -- Where the machine's steps do what a row does, the machine stands again where the whole system does.
-use Rattle.jn_system_order.proofs.Common.{◌≡◌, ◌≢◌, ◌⊎◌, inl, inr, ℕ, zero, suc, Bool, true, false, List, [], ◌∷◌, ◌++◌, append-nil, Option, Some, None, is_some, refl, sym, ◌∙◌, ap, subst, if◌then◌else◌, take, All, All-append, ServerNo, Tid, WorkId, server_eq, server_tells, Message, Inquire, Note, Text, Transaction, Stage, Open, Voting, Committed, Aborted, transaction_at, Work, OpenWork, Outstanding, ClientTable, StableState, Change, Pick, made_by, made_all, next_after, RowOutcome, Sent, WorkerTable, work_at, Machine, Unknown, AreParts, Says, World, Memory, at_server, commits_in, committed_in, of_worker, line_of, lines_of, done, stopped, Mirrors, IsTrue, IsAddressed, AreOpen, IsCurrent, IsOutstanding, IsClient, IsStage, IsTransaction, AreTransactions, commits_of, working_of, active_in, next_in, knowledge_of, known_in, crash, some-memory, none-memory}
+use Rattle.jn_system_order.proofs.Common.{◌≡◌, ◌≢◌, ◌⊎◌, inl, inr, ℕ, zero, suc, Bool, true, false, List, [], ◌∷◌, ◌++◌, append-nil, Option, Some, None, is_some, refl, sym, ◌∙◌, ap, subst, if◌then◌else◌, take, All, All-append, ServerNo, Tid, WorkId, server_eq, server_tells, Message, Inquire, Note, Text, Transaction, Stage, Open, Voting, Committed, Aborted, transaction_at, Work, OpenWork, Outstanding, ClientTable, StableState, Change, Pick, made_by, made_all, next_after, RowOutcome, Sent, WorkerTable, work_at, Machine, Unknown, AreParts, Says, World, Memory, at_server, commits_in, committed_in, of_worker, line_of, lines_of, done, stopped, Mirrors, IsTrue, IsAddressed, AreOpen, IsCurrent, IsOutstanding, IsClient, IsStage, IsTransaction, AreTransactions, commits_of, working_of, active_in, next_in, knowledge_of, known_in, crash, some-memory, none-memory, Left, left_of, part_of, slice_get, LockUnit, AddReady, MarkGoing, RemoveWork, AddFlag, DropFlag, CarryOut, true≢false, left-is, BlockNo}
 use Rattle.jn_msgs.specs.declared.message.Message.TheVariants as messages
 use Rattle.jn_msgs.specs.declared.message.Outcome.TheVariants as outcomes
 use Rattle.jn_msgs.specs.declared.message.Note.TheVariants as notes
@@ -207,10 +207,28 @@ made-one step zero z = refl
 made-one step (suc zero) z = refl
 made-one step (suc (suc n)) z = refl
 
+abbrev pub is_carrying : Change → Bool
+is_carrying (CarryOut W i) = true
+is_carrying _ = false
+
+-- of one change that carries out no intention, none or all is made
+pub left-one : (step : Change) (l : Left) (z : StableState) → is_carrying step ≡ false → (if some_made l.whole then made_by step z else z) ≡ left_of l (step ∷ []) z
+left-one step l z h = made-one step l.whole z ∙ sym (left-is l (step ∷ []) z (λ g u. none l.whole g step h u))
+  where
+    none : (n : ℕ) (gone : BlockNo → Bool) (step : Change) → is_carrying step ≡ false → (u : LockUnit) → part_of gone (slice_get (step ∷ []) n) u ≡ None
+    none zero gone (AddReady head list reads) e u = refl
+    none zero gone (MarkGoing W) e u = refl
+    none zero gone (RemoveWork W) e u = refl
+    none zero gone (AddFlag flag) e u = refl
+    none zero gone (DropFlag T) e u = refl
+    none zero gone (CarryOut W i) e u = absurd (true≢false e)
+    none (suc zero) gone step e u = refl
+    none (suc (suc n)) gone step e u = refl
+
 -- what the machine's steps have changed of the stable states when a worker's row stops
-pub record DoesStop (s : ServerNo) (row : RowOutcome WorkerTable) (made : Pick → ℕ) (w v : Machine) : Type 0 where
+pub record DoesStop (s : ServerNo) (row : RowOutcome WorkerTable) (made : Pick → Left) (w v : Machine) : Type 0 where
   pub up : (q : ServerNo) → v.up q ≡ w.up q
-  pub found : (q : ServerNo) (c : Pick) → v.found q c ≡ (if server_eq s q then made_all (take (made c) row.changes) (w.found s c) else w.found q c)
+  pub found : (q : ServerNo) (c : Pick) → v.found q c ≡ (if server_eq s q then left_of (made c) row.changes (w.found s c) else w.found q c)
   pub elsewhere : (W : WorkId) → s ≢ W.server → v.active W ≡ w.active W
   pub next : (W : WorkId) → s ≢ W.server → v.next W ≡ w.next W
   pub ticket : (q : ServerNo) → s ≢ q → v.ticket q ≡ w.ticket q
@@ -220,9 +238,9 @@ pub record DoesStop (s : ServerNo) (row : RowOutcome WorkerTable) (made : Pick �
   pub grows : (message : Message) → Says w message → Says v message
 
 -- when any row's server stops
-pub record StopsServer (s : ServerNo) (row : RowOutcome Memory) (made : Pick → ℕ) (w v : Machine) : Type 0 where
+pub record StopsServer (s : ServerNo) (row : RowOutcome Memory) (made : Pick → Left) (w v : Machine) : Type 0 where
   pub up : (q : ServerNo) → s ≢ q → v.up q ≡ w.up q
-  pub found : (q : ServerNo) (c : Pick) → v.found q c ≡ (if server_eq s q then made_all (take (made c) row.changes) (w.found s c) else w.found q c)
+  pub found : (q : ServerNo) (c : Pick) → v.found q c ≡ (if server_eq s q then left_of (made c) row.changes (w.found s c) else w.found q c)
   pub elsewhere : (W : WorkId) → s ≢ W.server → v.active W ≡ w.active W
   pub next : (W : WorkId) → s ≢ W.server → v.next W ≡ w.next W
   pub ticket : (q : ServerNo) → s ≢ q → v.ticket q ≡ w.ticket q
@@ -231,7 +249,7 @@ pub record StopsServer (s : ServerNo) (row : RowOutcome Memory) (made : Pick →
   pub ended : v.ended ≡ w.ended
   pub grows : (message : Message) → Says w message → Says v message
 
-pub worker-stops : (s : ServerNo) (m : Memory) (row : RowOutcome WorkerTable) (made : Pick → ℕ) (w v : Machine) → DoesStop s row made w v → StopsServer s (of_worker m row) made w v
+pub worker-stops : (s : ServerNo) (m : Memory) (row : RowOutcome WorkerTable) (made : Pick → Left) (w v : Machine) → DoesStop s row made w v → StopsServer s (of_worker m row) made w v
 worker-stops s m row made w v does = record {
   up = λ q ne. does.up q;
   found = does.found;
@@ -244,7 +262,7 @@ worker-stops s m row made w v does = record {
   grows = does.grows;
 }
 
-module _ (r : World) (w v : Machine) (s : ServerNo) (row : RowOutcome Memory) (made : Pick → ℕ) (mirrors : Mirrors r w) (does : StopsServer s row made w v)
+module _ (r : World) (w v : Machine) (s : ServerNo) (row : RowOutcome Memory) (made : Pick → Left) (mirrors : Mirrors r w) (does : StopsServer s row made w v)
     (grow : (message : Message) → Says v message → Says (crash s v) message) where
   abbrev Either : ServerNo → Type 0
   Either q = ((server_eq s q ≡ true) × (s ≡ q)) ⊎ ((server_eq s q ≡ false) × (s ≢ q))
@@ -277,8 +295,8 @@ module _ (r : World) (w v : Machine) (s : ServerNo) (row : RowOutcome Memory) (m
   gone-transactions q n (inl p) e = absurd (none-memory n (subst (λ (b : Bool). (if b then None else r.memory q) ≡ Some n) p.0 e))
   gone-transactions q n (inr p) e = transactions-still w (crash s v) (λ message h. grow message (does.grows message h)) q n.coordinator.transactions (mirrors.transactions q n (subst (λ (b : Bool). (if b then None else r.memory q) ≡ Some n) p.0 e))
 
-  gone-found : (q : ServerNo) (c : Pick) (b : Bool) → (if b then made_all (take (made c) row.changes) (w.found s c) else w.found q c) ≡ (if b then made_all (take (made c) row.changes) (r.found s c) else r.found q c)
-  gone-found q c true = ap (λ x. made_all (take (made c) row.changes) x) (mirrors.found s c)
+  gone-found : (q : ServerNo) (c : Pick) (b : Bool) → (if b then left_of (made c) row.changes (w.found s c) else w.found q c) ≡ (if b then left_of (made c) row.changes (r.found s c) else r.found q c)
+  gone-found q c true = ap (λ x. left_of (made c) row.changes x) (mirrors.found s c)
   gone-found q c false = mirrors.found q c
 
   pub stop-mirrored : Mirrors (stopped s made row r) (crash s v)

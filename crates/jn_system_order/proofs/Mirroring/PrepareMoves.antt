@@ -1,5 +1,5 @@
 -- A work that is prepared, as steps of the machine: the works that break are lost, and the work goes to the stable state.
-use Rattle.jn_system_order.proofs.Common.{◌≡◌, ◌≢◌, ◌⊎◌, inl, inr, ℕ, Bool, true, false, List, [], ◌∷◌, ◌++◌, Option, Some, None, is_some, refl, sym, ◌∙◌, ap, subst, arith, if◌then◌else◌, All-nil, All-cons, ServerNo, ClientNo, Tid, WorkId, LockUnit, Server, server_eq, work_eq, server_tells, work_tells, Read, Commit, is_unit, Message, Work, Phase, Active, Broken, Stored, ActiveWork, StableState, Prepared, Pick, AddReady, made_by, at_work, stable, ready_work, WorkerTable, work_at, commit_wants, after_grant, with_phase, prepared_row, conflict, commit_units, HoldsForCommit, Machine, Working, PartFact, Atom, Prepare, NoteReady, always, run, MayRun, MayPrepare, Says, IsPartOf, World, Memory, UpFact, TableFact, StoredFact, IsSoundWork, IsSoundActive, Mirrors, IsTrue, IsAddressed, working_of, working_in, next_in, Regrants, granted, prepared-keeps, stored-fact}
+use Rattle.jn_system_order.proofs.Common.{◌≡◌, ◌≢◌, ◌⊎◌, inl, inr, Bool, true, false, List, [], ◌∷◌, ◌++◌, Option, Some, None, is_some, refl, sym, ◌∙◌, ap, subst, arith, if◌then◌else◌, All-nil, All-cons, ServerNo, ClientNo, Tid, WorkId, LockUnit, Server, server_eq, work_eq, server_tells, work_tells, Read, Commit, is_unit, Message, Work, Phase, Active, Broken, Stored, ActiveWork, StableState, Prepared, Pick, AddReady, made_by, at_work, stable, ready_work, WorkerTable, work_at, commit_wants, after_grant, with_phase, prepared_row, conflict, commit_units, HoldsForCommit, Machine, Working, PartFact, Atom, Prepare, NoteReady, always, run, MayRun, MayPrepare, Says, IsPartOf, World, Memory, UpFact, TableFact, StoredFact, IsSoundWork, IsSoundActive, Mirrors, IsTrue, IsAddressed, working_of, working_in, next_in, Regrants, granted, prepared-keeps, stored-fact, Left}
 use Rattle.jn_system.specs.SmallSteps.Steps.{after}
 use Rattle.jn_records.specs.declared.work.WorkHead.{WorkHead}
 use Rattle.jn_msgs.specs.declared.message.Message.TheVariants as messages
@@ -7,7 +7,7 @@ use Rattle.jn_msgs.specs.declared.message.Vote.TheVariants as votes
 use Rattle.jn_system_order.proofs.Mirroring.Losing.{loses, lost, lose_all, run-loses, run-append, may-lose}
 use Rattle.jn_system_order.proofs.Mirroring.GrantMoves.{found-here, broken, its-server, own-now, left-own, left-here, left-elsewhere, elsewhere-other, owner-now}
 use Rattle.jn_system_order.proofs.Mirroring.OpMoves.{reads-free}
-use Rattle.jn_system_order.proofs.Mirroring.Mirrored.{some_made, made-one, DoesRow, DoesStop}
+use Rattle.jn_system_order.proofs.Mirroring.Mirrored.{some_made, left-one, DoesRow, DoesStop}
 use Rattle.jn_system_order.proofs.Mirroring.QuietMoves.{RowMoves}
 
 false-unless : (b : Bool) → (b ≡ true → ⊥) → b ≡ false
@@ -203,26 +203,26 @@ module _ (r : World) (w : Machine) (s : ServerNo) (m : Memory) (mirrors : Mirror
 
   -- ---- where it is stopped
 
-  module _ (made : Pick → ℕ) where
+  module _ (made : Pick → Left) where
     abbrev stop-atoms : List Atom
-    stop-atoms = loses breaks ++ Prepare (λ p. some_made (made p)) head a.list a.reads ∷ []
+    stop-atoms = loses breaks ++ Prepare (λ p. some_made (made p).whole) head a.list a.reads ∷ []
 
     abbrev stopped-world : Machine
-    stopped-world = after (Prepare (λ p. some_made (made p)) head a.list a.reads) (lose_all breaks w)
+    stopped-world = after (Prepare (λ p. some_made (made p).whole) head a.list a.reads) (lose_all breaks w)
 
     stop-ran : run stop-atoms w ≡ stopped-world
-    stop-ran = run-append (loses breaks) (Prepare (λ p. some_made (made p)) head a.list a.reads ∷ []) w
-        ∙ ap (λ (v : Machine). after (Prepare (λ p. some_made (made p)) head a.list a.reads) v) (run-loses breaks w)
+    stop-ran = run-append (loses breaks) (Prepare (λ p. some_made (made p).whole) head a.list a.reads ∷ []) w
+        ∙ ap (λ (v : Machine). after (Prepare (λ p. some_made (made p).whole) head a.list a.reads) v) (run-loses breaks w)
 
     may-stop : MayRun stop-atoms w
-    may-stop = may-lose breaks (Prepare (λ p. some_made (made p)) head a.list a.reads ∷ []) w
-        (subst (λ (v : Machine). MayRun (Prepare (λ p. some_made (made p)) head a.list a.reads ∷ []) v) (sym (run-loses breaks w)) (may-prepare, tt))
+    may-stop = may-lose breaks (Prepare (λ p. some_made (made p).whole) head a.list a.reads ∷ []) w
+        (subst (λ (v : Machine). MayRun (Prepare (λ p. some_made (made p).whole) head a.list a.reads ∷ []) v) (sym (run-loses breaks w)) (may-prepare, tt))
 
     stop-does : DoesStop s (prepared_row m.worker m.tickets T c x a votes.Ready) made w stopped-world
     stop-does = record {
       up = λ q. refl;
-      found = λ q p. ap (λ (z : ServerNo). if server_eq z q then (if some_made (made p) then made_by (AddReady head a.list a.reads) (w.found z p) else w.found z p) else w.found q p) server
-          ∙ ap (λ z. if server_eq s q then z else w.found q p) (made-one (AddReady head a.list a.reads) (made p) (w.found s p));
+      found = λ q p. ap (λ (z : ServerNo). if server_eq z q then (if some_made (made p).whole then made_by (AddReady head a.list a.reads) (w.found z p) else w.found z p) else w.found q p) server
+          ∙ ap (λ z. if server_eq s q then z else w.found q p) (left-one (AddReady head a.list a.reads) (made p) (w.found s p) refl);
       elsewhere = is-elsewhere;
       next = λ W ne. refl;
       ticket = λ q ne. refl;

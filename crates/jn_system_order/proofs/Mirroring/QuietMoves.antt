@@ -1,5 +1,5 @@
 -- Rows that change no stable state and no active work, and the opening of a work, as steps of the machine.
-use Rattle.jn_system_order.proofs.Common.{◌≡◌, ◌≢◌, ◌⊎◌, inl, inr, ℕ, zero, suc, ◌+◌, Bool, true, false, List, [], ◌∷◌, ◌++◌, Some, is_some, refl, sym, ◌∙◌, ap, subst, if◌then◌else◌, take, All, All-nil, All-cons, ServerNo, ClientNo, Tid, WorkId, Client, server_eq, work_eq, server_tells, work_tells, Message, Note, Work, Phase, StableState, Pick, at_work, made_all, RowOutcome, Sent, WorkerTable, work_at, with_phase, new_work, at-more, at-phase, in_phase, work_is, Machine, Atom, open_work, run, MayRun, Says, World, Memory, UpFact, of_worker, Mirrors, IsTrue, IsAddressed, working_of, working_in, next_in, RequestNo}
+use Rattle.jn_system_order.proofs.Common.{◌≡◌, ◌≢◌, ◌⊎◌, inl, inr, ◌+◌, Bool, true, false, List, [], ◌∷◌, ◌++◌, Some, is_some, refl, sym, ◌∙◌, ap, subst, if◌then◌else◌, All, All-nil, All-cons, ServerNo, ClientNo, Tid, WorkId, Client, server_eq, work_eq, server_tells, work_tells, Message, Note, Work, Phase, StableState, Pick, at_work, RowOutcome, Sent, WorkerTable, work_at, with_phase, new_work, at-more, at-phase, in_phase, work_is, Machine, Atom, open_work, run, MayRun, Says, World, Memory, UpFact, of_worker, Mirrors, IsTrue, IsAddressed, working_of, working_in, next_in, RequestNo, Left, left_of, left-none}
 use Rattle.jn_msgs.specs.declared.message.Message.TheVariants as messages
 use Rattle.jn_rows.specs.Worker.{name_from}
 use Rattle.jn_system.specs.SmallSteps.Steps.{Open}
@@ -7,7 +7,7 @@ use Rattle.jn_system_order.proofs.Mirroring.GrantMoves.{active-here, found-here,
 use Rattle.jn_system_order.proofs.Mirroring.Mirrored.{DoesRow, DoesStop, DoesServer, StopsServer, named_by, worker-does, worker-stops}
 
 -- steps of the machine that may come, and change what a stopped row has changed
-pub record StopMoves (s : ServerNo) (row : RowOutcome WorkerTable) (made : Pick → ℕ) (w : Machine) : Type 0 where
+pub record StopMoves (s : ServerNo) (row : RowOutcome WorkerTable) (made : Pick → Left) (w : Machine) : Type 0 where
   pub atoms : List Atom
   pub may : MayRun atoms w
   pub does : DoesStop s row made w (run atoms w)
@@ -18,10 +18,10 @@ pub record RowMoves (s : ServerNo) (m : Memory) (row : RowOutcome WorkerTable) (
   pub may : MayRun atoms w
   pub does : DoesRow s m row w (run atoms w)
   -- and where it is stopped
-  pub stops : (made : Pick → ℕ) → StopMoves s row made w
+  pub stops : (made : Pick → Left) → StopMoves s row made w
 
 -- the same of a row of both tables
-pub record ServerStops (s : ServerNo) (row : RowOutcome Memory) (made : Pick → ℕ) (w : Machine) : Type 0 where
+pub record ServerStops (s : ServerNo) (row : RowOutcome Memory) (made : Pick → Left) (w : Machine) : Type 0 where
   pub atoms : List Atom
   pub may : MayRun atoms w
   pub does : StopsServer s row made w (run atoms w)
@@ -30,7 +30,7 @@ pub record ServerMoves (s : ServerNo) (row : RowOutcome Memory) (w : Machine) : 
   pub atoms : List Atom
   pub may : MayRun atoms w
   pub does : DoesServer s row w (run atoms w)
-  pub stops : (made : Pick → ℕ) → ServerStops s row made w
+  pub stops : (made : Pick → Left) → ServerStops s row made w
 
 pub worker-moves : (r : World) (w : Machine) (s : ServerNo) (m : Memory) (row : RowOutcome WorkerTable) → Mirrors r w → r.memory s ≡ Some m → named_by row.notes ≡ [] → RowMoves s m row w → ServerMoves s (of_worker m row) w
 worker-moves r w s m row mirrors is none moves = record {
@@ -48,18 +48,17 @@ module _ (r : World) (w : Machine) (s : ServerNo) (m : Memory) (mirrors : Mirror
   abbrev pub AllGood : List Sent → Type 0
   AllGood sent = All (IsTrue w) sent × All IsAddressed sent
 
-  none-made : (n : ℕ) (x : StableState) → x ≡ made_all (take n []) x
-  none-made zero x = refl
-  none-made (suc n) x = refl
+  none-made : (l : Left) (x : StableState) → x ≡ left_of l [] x
+  none-made l x = sym (left-none l x)
 
   -- a row without a change that is stopped
-  pub still-stops : (row : RowOutcome WorkerTable) → row.changes ≡ [] → (made : Pick → ℕ) → StopMoves s row made w
+  pub still-stops : (row : RowOutcome WorkerTable) → row.changes ≡ [] → (made : Pick → Left) → StopMoves s row made w
   still-stops row e made = record {
     atoms = [];
     may = tt;
     does = record {
       up = λ q. refl;
-      found = λ q c. found-same r w s m mirrors is up q c ∙ ap (λ x. if server_eq s q then x else w.found q c) (none-made (made c) (w.found s c) ∙ ap (λ cs. made_all (take (made c) cs) (w.found s c)) (sym e));
+      found = λ q c. found-same r w s m mirrors is up q c ∙ ap (λ x. if server_eq s q then x else w.found q c) (none-made (made c) (w.found s c) ∙ ap (λ cs. left_of (made c) cs (w.found s c)) (sym e));
       elsewhere = λ W ne. refl;
       next = λ W ne. refl;
       ticket = λ q ne. refl;

@@ -1,10 +1,10 @@
 -- What a coordinator does to one transaction, as steps of the machine: nothing, a new stage, a commit, or its end.
-use Rattle.jn_system_order.proofs.Common.{◌≡◌, ◌≢◌, ◌⊎◌, inl, inr, ℕ, zero, suc, Bool, true, false, List, [], ◌∷◌, ◌++◌, append-nil, Some, None, is_some, refl, sym, ◌∙◌, ap, subst, if◌then◌else◌, take, All, All-nil, ServerNo, Tid, WorkId, server_eq, tid_eq, server_tells, tid_tells, Flag, Message, Note, Transaction, Stage, Committed, StableState, Pick, AddFlag, DropFlag, made_by, made_all, at_tid, RowOutcome, Sent, CoordinatorTable, transaction_at, staged, with_stage, without, Machine, Knowledge, Unknown, Finishes, AllOver, AreParts, Knows, Invariant, Atom, Learn, Make, Decide, always, run, MayRun, May, MayFlag, Says, World, Memory, of_coordinator, UpFact, Mirrors, IsTrue, IsAddressed, IsStage, IsTransaction, AreTransactions, commits_of, knowledge_of, knowledge_in, known_in, next_in, Crash, crash}
+use Rattle.jn_system_order.proofs.Common.{◌≡◌, ◌≢◌, ◌⊎◌, inl, inr, Bool, true, false, List, [], ◌∷◌, ◌++◌, append-nil, Some, None, is_some, refl, sym, ◌∙◌, ap, subst, if◌then◌else◌, All, All-nil, ServerNo, Tid, WorkId, server_eq, tid_eq, server_tells, tid_tells, Flag, Message, Note, Transaction, Stage, Committed, StableState, Pick, AddFlag, DropFlag, made_by, made_all, at_tid, RowOutcome, Sent, CoordinatorTable, transaction_at, staged, with_stage, without, Machine, Knowledge, Unknown, Finishes, AllOver, AreParts, Knows, Invariant, Atom, Learn, Make, Decide, always, run, MayRun, May, MayFlag, Says, World, Memory, of_coordinator, UpFact, Mirrors, IsTrue, IsAddressed, IsStage, IsTransaction, AreTransactions, commits_of, knowledge_of, knowledge_in, known_in, next_in, Crash, crash, Left, left_of, left-none}
 use Rattle.jn_system.specs.SmallSteps.Steps.{after}
 use Rattle.jn_msgs.specs.declared.message.Message.TheVariants as messages
 use Rattle.jn_msgs.specs.declared.message.Note.TheVariants as notes
 use Rattle.jn_system_order.proofs.Mirroring.GrantMoves.{active-here, found-same}
-use Rattle.jn_system_order.proofs.Mirroring.Mirrored.{DoesServer, named_by, some_made, made-one, transactions-still}
+use Rattle.jn_system_order.proofs.Mirroring.Mirrored.{left-one, DoesServer, named_by, some_made, transactions-still}
 use Rattle.jn_system_order.proofs.Mirroring.QuietMoves.{ServerMoves, ServerStops}
 use Rattle.jn_system_order.proofs.Mirroring.Transactions.{found-is, in_stage, at-stage, are-staged, are-less, at-less}
 
@@ -42,9 +42,8 @@ IsTid T U = ((tid_eq T U ≡ true) × (T ≡ U)) ⊎ ((tid_eq T U ≡ false) × 
 abbrev IsServer : ServerNo → ServerNo → Type 0
 IsServer s q = ((server_eq s q ≡ true) × (s ≡ q)) ⊎ ((server_eq s q ≡ false) × (s ≢ q))
 
-none-made : (n : ℕ) (x : StableState) → x ≡ made_all (take n []) x
-none-made zero x = refl
-none-made (suc n) x = refl
+none-made : (l : Left) (x : StableState) → x ≡ left_of l [] x
+none-made l x = sym (left-none l x)
 
 module _ (r : World) (w : Machine) (s : ServerNo) (m : Memory) (mirrors : Mirrors r w) (is : r.memory s ≡ Some m) (up : UpFact s m (r.found s))
     (grow : (atoms : List Atom) → MayRun atoms w → (message : Message) → Says w message → Says (run atoms w) message) (inv : Invariant w) where
@@ -85,13 +84,13 @@ module _ (r : World) (w : Machine) (s : ServerNo) (m : Memory) (mirrors : Mirror
     addressed = does.addressed;
   }
 
-  pub still : (row : RowOutcome CoordinatorTable) → row.changes ≡ [] → (made : Pick → ℕ) → ServerStops s (of_coordinator m row) made w
+  pub still : (row : RowOutcome CoordinatorTable) → row.changes ≡ [] → (made : Pick → Left) → ServerStops s (of_coordinator m row) made w
   still row e made = record {
     atoms = [];
     may = tt;
     does = record {
       up = λ q ne. refl;
-      found = λ q c. found-same r w s m mirrors is up q c ∙ ap (λ x. if server_eq s q then x else w.found q c) (none-made (made c) (w.found s c) ∙ ap (λ cs. made_all (take (made c) cs) (w.found s c)) (sym e));
+      found = λ q c. found-same r w s m mirrors is up q c ∙ ap (λ x. if server_eq s q then x else w.found q c) (none-made (made c) (w.found s c) ∙ ap (λ cs. left_of (made c) cs (w.found s c)) (sym e));
       elsewhere = λ W ne. refl;
       next = λ W ne. refl;
       ticket = λ q ne. refl;
@@ -200,10 +199,10 @@ module _ (r : World) (w : Machine) (s : ServerNo) (m : Memory) (mirrors : Mirror
           no : false ≡ true → ⊥
           no e = cc
 
-      abbrev stop-atoms : (Pick → ℕ) → List Atom
-      stop-atoms made = Crash s ∷ Make (λ c. some_made (made c)) (AddFlag flag) ∷ []
+      abbrev stop-atoms : (Pick → Left) → List Atom
+      stop-atoms made = Crash s ∷ Make (λ c. some_made (made c).whole) (AddFlag flag) ∷ []
 
-      may-stop : (made : Pick → ℕ) → MayRun (stop-atoms made) w
+      may-stop : (made : Pick → Left) → MayRun (stop-atoms made) w
       may-stop made = (tt, (λ c. (record { begun = may.begun; ended = may.ended; not_aborted = may.not_aborted; ready = may.ready; works = may.works }, down (server_tells s flag.tid.server)), tt))
         where
           down : IsServer s flag.tid.server → (if server_eq s flag.tid.server then false else w.up flag.tid.server) ≡ false
@@ -252,8 +251,8 @@ module _ (r : World) (w : Machine) (s : ServerNo) (m : Memory) (mirrors : Mirror
           may = may-stop made;
           does = record {
             up = λ q ne. off-up q ne (server_tells s q);
-            found = λ q c. ap (λ (z : ServerNo). if server_eq z q then (if some_made (made c) then made_by (AddFlag flag) (w.found z c) else w.found z c) else w.found q c) flag-place
-                ∙ ap (λ z. if server_eq s q then z else w.found q c) (made-one (AddFlag flag) (made c) (w.found s c));
+            found = λ q c. ap (λ (z : ServerNo). if server_eq z q then (if some_made (made c).whole then made_by (AddFlag flag) (w.found z c) else w.found z c) else w.found q c) flag-place
+                ∙ ap (λ z. if server_eq s q then z else w.found q c) (left-one (AddFlag flag) (made c) (w.found s c) refl);
             elsewhere = λ W ne. off-active W ne (server_tells s W.server);
             next = λ W ne. off-next W ne (server_tells s W.server);
             ticket = λ q ne. refl;
@@ -283,7 +282,7 @@ module _ (r : World) (w : Machine) (s : ServerNo) (m : Memory) (mirrors : Mirror
       may-forget : MayRun forget-atoms w
       may-forget = (λ c. over, (record { up = is-up T.server place; begun = begun; not_aborted = not-aborted; knows = inr (named, over) }, tt))
 
-      may-forget-stop : (made : Pick → ℕ) → MayRun (Make (λ c. some_made (made c)) (DropFlag T) ∷ []) w
+      may-forget-stop : (made : Pick → Left) → MayRun (Make (λ c. some_made (made c).whole) (DropFlag T) ∷ []) w
       may-forget-stop made = (λ c. over, tt)
 
       pub forget-moves : ServerMoves s (of_coordinator m (record { table = less; changes = DropFlag T ∷ []; messages = []; notes = []; tickets = m.tickets })) w
@@ -307,19 +306,19 @@ module _ (r : World) (w : Machine) (s : ServerNo) (m : Memory) (mirrors : Mirror
           addressed = All-nil IsAddressed;
         };
         stops = λ made. record {
-          atoms = Make (λ c. some_made (made c)) (DropFlag T) ∷ [];
+          atoms = Make (λ c. some_made (made c).whole) (DropFlag T) ∷ [];
           may = may-forget-stop made;
           does = record {
             up = λ q ne. refl;
-            found = λ q c. ap (λ (z : ServerNo). if server_eq z q then (if some_made (made c) then made_by (DropFlag T) (w.found z c) else w.found z c) else w.found q c) place
-                ∙ ap (λ z. if server_eq s q then z else w.found q c) (made-one (DropFlag T) (made c) (w.found s c));
+            found = λ q c. ap (λ (z : ServerNo). if server_eq z q then (if some_made (made c).whole then made_by (DropFlag T) (w.found z c) else w.found z c) else w.found q c) place
+                ∙ ap (λ z. if server_eq s q then z else w.found q c) (left-one (DropFlag T) (made c) (w.found s c) refl);
             elsewhere = λ W ne. refl;
             next = λ W ne. refl;
             ticket = λ q ne. refl;
             knowledge = λ U ne. refl;
             history = refl;
             ended = refl;
-            grows = grow (Make (λ c. some_made (made c)) (DropFlag T) ∷ []) (may-forget-stop made);
+            grows = grow (Make (λ c. some_made (made c).whole) (DropFlag T) ∷ []) (may-forget-stop made);
           };
         };
       }

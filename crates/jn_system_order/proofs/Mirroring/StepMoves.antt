@@ -1,5 +1,5 @@
 -- Steps of the whole system as steps of the machine.
-use Rattle.jn_system_order.proofs.Common.{◌≡◌, ◌⊎◌, ◌<◌, ◌≤◌, inl, inr, Bool, true, List, [], ◌∷◌, ◌++◌, Option, Some, None, is_some, refl, sym, ◌∙◌, ap, subst, arith, ◌||◌, if◌then◌else◌, slice_get, All, get_or, list_any, All-get_or, All-nil, ServerNo, Tid, Client, Server, server_eq, tid_eq, AllFiles, Message, Work, Phase, Active, Broken, Stored, Outstanding, StableState, Pick, stable, RowOutcome, Sent, transaction_at, over, worker_row, WorkerTable, work_at, work_of, timed_out, vulnerable, Text, Machine, PartFact, Atom, Crashes, Narrows, RaiseEpoch, with_epoch, run, opening_world, MayRun, Says, run_kept, opening_kept, Invariant, run_told, opening_told, still_true, grows, says_still, World, Memory, at_server, opening, new_memory, commits_in, storage_of, Room, of_worker, server_row, of_timeout, works, Step, done, stopped, IsStep, LockFacts, ServerFact, UpFact, Mirrors, AreTransactions, IsClient, commits_of, MovesTo, IsTrue, IsAddressed, is_shown, active_in, next_in, known_in, working_in, of-found, append-nil, fun_ext, one-found, ServerRow, of_message, of_work, of_closing, FoundThen, by_narrowing, by_raising, Quiet, event_begins, none_changes, is_refused, client_repeats, server_repeats, is_lost, StepCase, client_row, row_done, row_stopped, gone_late, gone_down, come_up, found_anew, dismissed, quietly, step-case, some-memory, row-of-step, after}
+use Rattle.jn_system_order.proofs.Common.{◌≡◌, ◌⊎◌, ◌<◌, ◌≤◌, inl, inr, Bool, true, List, [], ◌∷◌, ◌++◌, Option, Some, None, is_some, refl, sym, ◌∙◌, ap, subst, arith, ◌||◌, if◌then◌else◌, slice_get, All, get_or, list_any, All-get_or, All-nil, ServerNo, Tid, Client, Server, server_eq, tid_eq, AllFiles, Message, Work, Phase, Active, Broken, Stored, Outstanding, StableState, Pick, stable, RowOutcome, Sent, transaction_at, over, worker_row, WorkerTable, work_at, work_of, timed_out, vulnerable, Text, Machine, PartFact, Atom, Crashes, Narrows, RaiseEpoch, with_epoch, run, opening_world, MayRun, Says, run_kept, opening_kept, Invariant, run_told, opening_told, still_true, grows, says_still, World, Memory, at_server, opening, new_memory, commits_in, storage_of, Room, of_worker, server_row, of_timeout, works, Step, done, stopped, IsStep, LockFacts, ServerFact, UpFact, Mirrors, AreTransactions, IsClient, commits_of, MovesTo, IsTrue, IsAddressed, is_shown, active_in, next_in, known_in, working_in, of-found, append-nil, fun_ext, one-found, ServerRow, of_message, of_work, of_closing, FoundThen, by_narrowing, by_raising, Quiet, event_begins, none_changes, is_refused, client_repeats, server_repeats, is_lost, StepCase, client_row, row_done, row_stopped, gone_late, gone_down, come_up, found_anew, dismissed, quietly, step-case, some-memory, row-of-step, after, Left, whole_only}
 use Rattle.std.proofs.Common.{ℕ, length}
 use Rattle.std.proofs.lemmas.Option.{slice_get_cases}
 use Rattle.jn_msgs.specs.declared.message.Message.TheVariants as messages
@@ -82,7 +82,7 @@ module _ (w : Machine) (grow : (atoms : List Atom) → MayRun atoms w → (messa
   of-row s m k row is moves = record { atoms = moves.atoms; may = moves.may; mirrors = mirrored r w (run moves.atoms w) s m row k h is moves.does; ended = moves.does.ended }
 
   -- or stopped
-  of-stop : (s : ServerNo) (made : Pick → ℕ) (row : RowOutcome Memory) → ServerStops s row made w → MovesTo (stopped s made row r) w
+  of-stop : (s : ServerNo) (made : Pick → Left) (row : RowOutcome Memory) → ServerStops s row made w → MovesTo (stopped s made row r) w
   of-stop s made row moves = record {
     atoms = moves.atoms ++ Crashes s ∷ [];
     may = may-append moves.atoms (Crashes s ∷ []) w moves.may (tt, tt);
@@ -114,7 +114,7 @@ module _ (w : Machine) (grow : (atoms : List Atom) → MayRun atoms w → (messa
       delivered (messages.Inquire T W) said to = inquires-move r w s m h is up grow inv T W (transaction_at T m.coordinator.transactions) refl said to
       delivered _ said to = ignores r w s m h is up grow inv
 
-    server-moves : (stop : Option (Pick → ℕ)) (step : Step) (k : Option ℕ) (row : RowOutcome Memory) → ServerRow r s m stop step k row → ServerMoves s row w
+    server-moves : (stop : Option (Pick → Left)) (step : Step) (k : Option ℕ) (row : RowOutcome Memory) → ServerRow r s m stop step k row → ServerMoves s row w
     server-moves _ _ _ _ (of_message stop k room message e) = delivered room message (holds-of (IsTrue w) r.sent k (Server s, message) h.says e) (holds-of IsAddressed r.sent k (Server s, message) h.addressed e)
     server-moves _ _ _ _ (of_work stop room row e) = row-of-step (λ z. ServerMoves s z w) m (stable (r.found s)) room row e
         (λ x i. worker-moves r w s m x h is (step-none m.worker (storage_of m (stable (r.found s)) room) m.tickets x i) (step-move r w s m h is up grow inv room x i))
@@ -145,7 +145,7 @@ module _ (w : Machine) (grow : (atoms : List Atom) → MayRun atoms w → (messa
 
     -- a crash is a stop before a change
     crash-moves : MovesTo (record r { memory = at_server r.memory s None; lines = r.lines ++ says.Down s ∷ [] }) w
-    crash-moves = as-well w _ _ (of-stop s (λ c. 0) _ ((worker-moves r w s m _ h is refl none-moves).stops (λ c. 0))) (λ q. refl) same-found refl refl (quiet-line r.lines (says.Down s) refl ∙ sym (quiet-line r.lines (says.Stopped s) refl))
+    crash-moves = as-well w _ _ (of-stop s (λ c. whole_only 0) _ ((worker-moves r w s m _ h is refl none-moves).stops (λ c. whole_only 0))) (λ q. refl) same-found refl refl (quiet-line r.lines (says.Down s) refl ∙ sym (quiet-line r.lines (says.Stopped s) refl))
 
   -- ---- what is found of a server that is down
 

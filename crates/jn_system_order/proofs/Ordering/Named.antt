@@ -1,4 +1,4 @@
--- Each step keeps that a client is told of a commit only once its line was told.
+-- Each step keeps that a client is told of a commit only once its line was reported.
 use Rattle.jn_system_order.proofs.Common.{◌≡◌, ℕ, ◌+◌, Bool, true, false, List, [], ◌∷◌, ◌++◌, append-nil, Option, Some, None, refl, sym, ◌∙◌, ap, subst, if◌then◌else◌, ServerNo, ClientNo, Tid, WorkId, Client, Answer, client_eq, Message, Note, Outcome, Text, Outstanding, Taken, StableState, Pick, Sent, ClientTable, take_row, if_waits, is_current, begun_row, opened_row, answer_line, decided_row, outcome_row, Machine, Says, OutcomeSays, World, has_line, line_of, lines_of, named_now, Step, Mirrors, IsTrue, IsNamedBefore, AreNamed, ClientRow, by_command, by_ignoring, by_answering, by_telling, FoundThen, by_narrowing, by_raising, Quiet, is_refused, is_lost, StepCase, client_row, row_done, row_stopped, gone_late, gone_down, come_up, found_anew, dismissed, quietly, step-case, after}
 use Rattle.jn_base.specs.declared.op.Answer.TheVariants as answers
 use Rattle.jn_msgs.specs.declared.message.Message.TheVariants as messages
@@ -68,7 +68,7 @@ answer-plain c j (answers.Broken u T) = tt
 answer-plain c j (answers.Lost m n) = tt
 answer-plain c j answers.Closing = tt
 
--- ---- what a client tells
+-- ---- what a client reports
 
 module _ (w : Machine) (lines : List Text) (named : (T : Tid) → w.named T ≡ has_line T lines) (t : ClientTable) where
   abbrev TellsNamed : Taken → Type 0

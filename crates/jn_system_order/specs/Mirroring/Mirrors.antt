@@ -21,7 +21,7 @@ use Rattle.jn_rows.specs.Outcomes.{Sent}
 use Rattle.jn_rows.specs.Worker.{work_at}
 use Rattle.jn_rows.specs.Coordinator.{transaction_at, is_work}
 use Rattle.jn_system.specs.SmallSteps.World.{Working, Commit, Knowledge, Unknown, Begun, Voting as Notes, Committed as Finishes, World as Machine}
-use Rattle.jn_system.specs.SmallSteps.FoundStates.{AreParts}
+use Rattle.jn_system.specs.SmallSteps.Transactions.{AreParts}
 use Rattle.jn_system.specs.SmallSteps.Steps.{Atom, run}
 use Rattle.jn_system.specs.SmallSteps.Premises.{MayRun}
 use Rattle.jn_system.specs.SmallSteps.Messages.{Says, IsWorkOf}

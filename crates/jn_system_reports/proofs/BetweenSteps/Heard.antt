@@ -1,5 +1,6 @@
--- Whatever files give a work's operations the answers that it gave give those that the lines tell of them.
-use Rattle.jn_system_reports.proofs.Common.{◌≡◌, ◌⊎◌, inl, inr, ℕ, suc, ◌+◌, true, false, List, [], ◌∷◌, ◌++◌, append_assoc, length, Option, Some, None, refl, sym, ◌∙◌, ap, subst, arith, ServerNo, Tid, WorkId, Op, Files, AllFiles, change, Event, event_at, event_at-next, ActiveWork, OpenWork, Commanded, Refuses, Sends, command_row, open_at, Machine, Answered, effect_of, Agrees, Invariant, Atom, run_atoms, opening_world, MayRun, run_grows, run_kept, opening_kept, clash, World, opening, Step, NextEvent, Tell, IsStep, IsRun, after, run, commanded, LockFacts, locks-keep, opening-keeps, Mirrors, run-append, may-append, opening-mirrors, Facts, opening-facts, Act, Does, Refused, Faults, Shows, Item, events_of, steps_in, steps_of, after_item, IsUnder, AreUnder, ops_in, at_place}
+-- Whatever files give a work's operations the answers that it gave give those that the lines report of them.
+use Rattle.jn_system_reports.proofs.Common.{◌≡◌, ◌⊎◌, inl, inr, ℕ, suc, ◌+◌, true, false, List, [], ◌∷◌, ◌++◌, append_assoc, length, Option, Some, None, refl, sym, ◌∙◌, ap, subst, arith, ServerNo, Tid, WorkId, Op, Files, AllFiles, change, Event, event_at, event_at-next, ActiveWork, OpenWork, Commanded, Refuses, Sends, command_row, open_at, Machine, Answered, effect_of, Agrees, Invariant, Atom, run_atoms, opening_world, MayRun, run_grows, run_kept, opening_kept, clash, World, opening, Step, NextEvent, Tell, IsStep, IsRun, after, run, commanded, LockFacts, locks-keep, opening-keeps, Mirrors, run-append, may-append, opening-mirrors, Facts, opening-facts, Act, Does, Refused, Faults, Shows, Item, events_of, steps_in, steps_of, after_item, IsUnder, AreUnder, at_place}
+use Rattle.jn_system_reports.proofs.Telling.TransactionLines.{ops_in}
 use Rattle.jn_schedule.specs.declared.Event.TheVariants as kinds
 use Rattle.jn_system_reports.proofs.Reporting.Lists.{Each}
 use Rattle.jn_system_reports.proofs.Reporting.Following.{IsQuietAct, under-quiet, run-split}

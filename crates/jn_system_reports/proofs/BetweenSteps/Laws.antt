@@ -4,7 +4,7 @@ use Rattle.jn_msgs.specs.declared.message.Message.TheVariants as messages
 use Rattle.jn_msgs.specs.declared.message.Outcome.TheVariants as outcomes
 use Rattle.jn_rows.specs.Client.{work_at}
 use Rattle.jn_system.specs.SmallSteps.World.{replay}
-use Rattle.jn_system.specs.SmallSteps.FoundStates as states
+use Rattle.jn_system.proofs.SmallSteps.Invariant as states
 use Rattle.jn_system_order.proofs.Ordering.Facts.{opening}
 use Rattle.jn_system_reports.specs.BetweenSteps.Names.{WasMade, AreMadeOnce}
 use Rattle.jn_system_reports.specs.BetweenSteps.Doubt.{IsDownInDoubt}

@@ -1,6 +1,6 @@
 -- What the machine's states keep of a work: where it was ready it stays prepared, or is carried out, and wherever it is found it
 -- has one list and the same reads.
-use Rattle.jn_system_reports.proofs.Common.{◌≡◌, ◌≢◌, ◌⊎◌, inl, inr, ℕ, Bool, true, false, List, [], ◌∷◌, Option, Some, None, is_some, refl, sym, ◌∙◌, ap, subst, arith, if◌then◌else◌, ServerNo, LockUnit, Tid, WorkId, server_eq, work_eq, server_tells, work_tells, Files, or_else, change, Intention, intention_change, list_change, StableState, Prepared, Pick, Change, AddReady, MarkGoing, CarryOut, RemoveWork, AddFlag, DropFlag, at_work, gone_on, ready_work, made_by, Working, HasRead, Writes, NamesFact, Invariant, Atom, Perform, Lose, Prepare, NoteReady, Make, Decide, RaiseEpoch, changed, server_of, with_epoch, MayCarryOut, MayRemove, MayMake, May, MayRun, grows, fresh_work, step_kept, not_both, false_unless, at_work_cases, some_is, none_some, clash, AreCarriedOut, Crash, Narrow, Restart}
+use Rattle.jn_system_reports.proofs.Common.{◌≡◌, ◌≢◌, ◌⊎◌, inl, inr, ℕ, Bool, true, false, List, [], ◌∷◌, Option, Some, None, is_some, refl, sym, ◌∙◌, ap, subst, arith, if◌then◌else◌, ServerNo, LockUnit, Tid, WorkId, server_eq, work_eq, server_tells, work_tells, Files, or_else, change, Intention, intention_change, list_change, StableState, Prepared, Pick, Change, AddReady, MarkGoing, CarryOut, RemoveWork, AddFlag, DropFlag, at_work, gone_on, ready_work, made_by, Working, HasRead, Writes, NamesFact, Invariant, Atom, Perform, Lose, Prepare, NoteReady, Make, Decide, RaiseEpoch, changed, server_of, with_epoch, MayCarryOut, MayRemove, MayMake, May, MayRun, grows, fresh_work, step_kept, not_both, false_unless, at_work_cases, some_is, none_some, clash, AreCarriedOut, Crash, Narrow, Restart, CarryPart, carried_at}
 use Rattle.jn_system.specs.SmallSteps.World.{World}
 use Rattle.jn_system.specs.SmallSteps.Steps.{Open, new_work, after, run}
 use Rattle.jn_system.proofs.SmallSteps.HeldLemmas.{writes_apart}
@@ -27,16 +27,25 @@ module _ (w : World) (W : WorkId) (P : StableState → Type 0) where
       by (inl p) = subst (λ (b : Bool). P (if b then w.found s (g c) else w.found W.server c)) (sym p.0) (subst (λ (q : ServerNo). P (w.found q (g c))) (sym p.1) (all (g c)))
       by (inr p) = subst (λ (b : Bool). P (if b then w.found s (g c) else w.found W.server c)) (sym p.0) (all c)
 
+  part-all : (s : ServerNo) (g : Pick → StableState) → ((c : Pick) → s ≡ W.server → P (w.found s c) → P (g c)) → ((c : Pick) → P (w.found W.server c)) → (c : Pick) → P (if server_eq s W.server then g c else w.found W.server c)
+  part-all s g h all c = by (server_tells s W.server)
+    where
+      by : ((server_eq s W.server ≡ true) × (s ≡ W.server)) ⊎ ((server_eq s W.server ≡ false) × (s ≢ W.server)) → P (if server_eq s W.server then g c else w.found W.server c)
+      by (inl p) = subst (λ (b : Bool). P (if b then g c else w.found W.server c)) (sym p.0) (h c p.1 (subst (λ (q : ServerNo). P (w.found q c)) (sym p.1) (all c)))
+      by (inr p) = subst (λ (b : Bool). P (if b then g c else w.found W.server c)) (sym p.0) (all c)
+
   -- what a step has to keep for that
   abbrev Keeps : Atom → Type 0
   Keeps (Prepare done head list reads) = (c : Pick) → head.work.server ≡ W.server → P (w.found head.work.server c) → P (made_by (AddReady head list reads) (w.found head.work.server c))
   Keeps (Make done step) = (c : Pick) → server_of step ≡ W.server → P (w.found (server_of step) c) → P (made_by step (w.found (server_of step) c))
+  Keeps (CarryPart V i is) = (c : Pick) → V.server ≡ W.server → P (w.found V.server c) → P (carried_at (is c) i (w.found V.server c))
   Keeps a = Unit {0}
 
   -- it is of works and files alone
   atom-all : ((x : StableState) (n : ℕ) → P x → P (record x { epoch = n })) → ((x : StableState) (f : Tid → _) → P x → P (record x { flags = f })) → (a : Atom) → Keeps a → ((c : Pick) → P (w.found W.server c)) → (c : Pick) → P ((after a w).found W.server c)
   atom-all epoch flags (Prepare done head list reads) k all = put-all head.work.server done (made_by (AddReady head list reads)) k all
   atom-all epoch flags (Make done step) k all = put-all (server_of step) done (made_by step) k all
+  atom-all epoch flags (CarryPart V i is) k all = part-all V.server (λ c. carried_at (is c) i (w.found V.server c)) k all
   atom-all epoch flags (Decide flag) k all = put-all flag.tid.server (λ c. true) (made_by (AddFlag flag)) (λ c e h. flags (w.found flag.tid.server c) _ h) all
   atom-all epoch flags (Narrow s g) k all = narrow-all s g all
   atom-all epoch flags (RaiseEpoch s done) k all = put-all s done with_epoch (λ c e h. epoch (w.found s c) _ h) all
@@ -63,6 +72,13 @@ same-where i fs u h = by (intention_change i u) (fs u) h
   where
     by : (o : Option (Option (List ℕ))) (y : Option (List ℕ)) → is_some o ≡ false → or_else o y ≡ y
     by o y h = grind arith
+
+same-in-part : (i : Intention) (is : LockUnit → Bool) (fs : Files) (u : LockUnit) → is_some (intention_change i u) ≡ false → (if is u then change (intention_change i) fs u else fs u) ≡ fs u
+same-in-part i is fs u h = by (is u)
+  where
+    by : (b : Bool) → (if b then change (intention_change i) fs u else fs u) ≡ fs u
+    by true = same-where i fs u h
+    by false = refl
 
 module _ (w : World) (W : WorkId) (inv : Invariant w) where
   -- a change of its server's states
@@ -182,6 +198,14 @@ module _ (w : World) (W : WorkId) (inv : Invariant w) where
   make-done done (AddFlag flag) m all = on-done (Make done (AddFlag flag)) (λ c e h. h) all
   make-done done (DropFlag T) m all = on-done (Make done (DropFlag T)) (λ c e h. h) all
 
+  -- another work's intention is carried out in part
+  part-done : (V : WorkId) (i : Intention) (is : LockUnit → Bool) (c : Pick) → MayCarryOut w (w.found V.server c) V i → V ≢ W → IsDone W (w.found V.server c) → IsDone W (carried_at is i (w.found V.server c))
+  part-done V i is c may ne h p e u v k = same-in-part i is (w.found V.server c).files u (writes-none V i c may ne p e u (subst (λ o. is_some o ≡ true) (sym k) refl)) ∙ h p e u v k
+
+  part-stays : (V : WorkId) (i : Intention) (is : Pick → LockUnit → Bool) → May (CarryPart V i is) w → ((c : Pick) → IsDone W (w.found W.server c)) → Tells V → Stays (after (CarryPart V i is) w) W
+  part-stays V i is m all (inl k) = on-there (CarryPart V i is) (λ c e h. h) (subst (λ (U : WorkId). (c : Pick) → IsThere U (w.found U.server c)) k.1 (λ c. ap is_some (m c).is))
+  part-stays V i is m all (inr k) = on-done (CarryPart V i is) (λ c e h. part-done V i (is c) c (m c) k.1 h) all
+
   atom-stays : (a : Atom) → May a w → w.was_ready W ≡ true → w.aborted (w.owner W) ≡ false → Stays w W → Stays (after a w) W
   atom-stays (Make done step) m r n (inl all) = make-there done step m n all
   atom-stays (Make done step) m r n (inr all) = make-done done step m all
@@ -197,6 +221,8 @@ module _ (w : World) (W : WorkId) (inv : Invariant w) where
       by : (c : Pick) → IsDone W (w.found head.work.server c) → (p : Prepared) → ((head.work ≡ W) × (Some (ready_work head list reads) ≡ Some p)) ⊎ ((head.work ≢ W) × ((w.found head.work.server c).works W ≡ Some p)) → AreCarriedOut p.list (w.found head.work.server c).files
       by c h p (inl q) = absurd (not-ready q.0)
       by c h p (inr q) = h p q.1
+  atom-stays (CarryPart V i is) m r n (inl all) = on-there (CarryPart V i is) (λ c e h. h) all
+  atom-stays (CarryPart V i is) m r n (inr all) = part-stays V i is m all (work_tells V W)
   atom-stays (Decide flag) m r n (inl all) = on-there (Decide flag) tt all
   atom-stays (Decide flag) m r n (inr all) = on-done (Decide flag) tt all
   atom-stays (Narrow s g) m r n (inl all) = on-there (Narrow s g) tt all
@@ -279,6 +305,7 @@ module _ (w : World) (W : WorkId) (l : List Intention) (r : List LockUnit) where
   keeps-so : (a : Atom) → May a w → PreparesSo → Keeps w W So a
   keeps-so (Make done step) m so = λ c e h. made-so step (w.found (server_of step) c) (m c) h
   keeps-so (Prepare done head list reads) m so = λ c e h. put-so head.work (Some (ready_work head list reads)) (w.found head.work.server c) (λ q. so list reads (subst (λ (U : WorkId). w.active U ≡ Some (record { list = list; reads = reads })) q (m c).active)) h
+  keeps-so (CarryPart V i is) m so = λ c e h. h
   keeps-so _ m so = tt
 
   pub atom-so : (a : Atom) → May a w → PreparesSo → IsSo w W l r → IsSo (after a w) W l r
@@ -341,6 +368,7 @@ module _ (w : World) (W : WorkId) (u : LockUnit) (opened : w.opened W ≡ true) 
       by : (c : Pick) → Reads (w.found head.work.server c) → (p : Prepared) → ((head.work ≡ W) × (Some (ready_work head list reads) ≡ Some p)) ⊎ ((head.work ≢ W) × ((w.found head.work.server c).works W ≡ Some p)) → HasRead p.reads u
       by c k p (inl q) = subst (λ (z : Prepared). HasRead z.reads u) (some_is (ready_work head list reads) p q.1) (h.0 (record { list = list; reads = reads }) (subst (λ (U : WorkId). w.active U ≡ Some (record { list = list; reads = reads })) q.0 (m c).active))
       by c k p (inr q) = k p q.1
+  keeps-reads (CarryPart V i is) m = λ c e k. k
   keeps-reads _ m = tt
 
   -- a work is lost, or goes on so

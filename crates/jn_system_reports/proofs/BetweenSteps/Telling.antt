@@ -1,5 +1,6 @@
--- A step tells an answer of a transaction only to its client, which goes on in it, and only such a client sends an operation.
-use Rattle.jn_system_reports.proofs.Common.{◌≡◌, ◌≢◌, ◌⊎◌, inl, inr, ℕ, Bool, true, false, List, [], ◌∷◌, ◌++◌, append-nil, Option, Some, None, refl, sym, ◌∙◌, ap, subst, arith, ◌&&◌, ◌||◌, if◌then◌else◌, nat_lt, ServerNo, ClientNo, Tid, WorkId, Client, Server, Answer, Command, Begin, Open, Do, End, Abort, client_eq, client_tells, Event, event_at, performed_in, answered, answered_by, is_own, Message, Outcome, Refusal, Text, OpenWork, Outstanding, Taken, stable, Sent, ClientTable, Commanded, Refuses, Sends, if_server, if_idle, if_transaction, if_no_transaction, if_open, if_not_open, command_row, is_operation, is_end_or_abort, is_current, if_waits, idle, begun_row, opened_row, answer_line, outcome_row, take_row, sent_again, Machine, not_both, World, at_client, lines_of, Step, after, commanded, sent_now, took, LockFacts, Mirrors, IsTrue, IsCurrent, found-open, IsThanks, Takes, takes, holds-of, Facts, is_closing, work_is, ops_in, owner_in, asked_for, asked_here}
+-- A step reports an answer of a transaction only to its client, which goes on in it, and only such a client sends an operation.
+use Rattle.jn_system_reports.proofs.Common.{◌≡◌, ◌≢◌, ◌⊎◌, inl, inr, ℕ, Bool, true, false, List, [], ◌∷◌, ◌++◌, append-nil, Option, Some, None, refl, sym, ◌∙◌, ap, subst, arith, ◌&&◌, ◌||◌, if◌then◌else◌, nat_lt, ServerNo, ClientNo, Tid, WorkId, Client, Server, Answer, Command, Begin, Open, Do, End, Abort, client_eq, client_tells, Event, event_at, performed_in, answered, answered_by, is_own, Message, Outcome, Refusal, Text, OpenWork, Outstanding, Taken, stable, Sent, ClientTable, Commanded, Refuses, Sends, if_server, if_idle, if_transaction, if_no_transaction, if_open, if_not_open, command_row, is_operation, is_end_or_abort, is_current, if_waits, idle, begun_row, opened_row, answer_line, outcome_row, take_row, sent_again, Machine, not_both, World, at_client, lines_of, Step, after, commanded, sent_now, took, LockFacts, Mirrors, IsTrue, IsCurrent, found-open, IsThanks, Takes, takes, holds-of, Facts, is_closing, work_is, asked_for, asked_here}
+use Rattle.jn_system_reports.proofs.Telling.TransactionLines.{ops_in, owner_in}
 use Rattle.jn_base.specs.declared.op.Answer.TheVariants as answers
 use Rattle.jn_msgs.specs.declared.message.Message.TheVariants as messages
 use Rattle.jn_msgs.specs.declared.message.Outcome.TheVariants as outcomes
@@ -24,12 +25,12 @@ pub record Tells (events : List Event) (owner : WorkId → Tid) (r q : World) : 
   pub ops : (T : Tid) → (ops_in events T None q.lines ≡ ops_in events T None r.lines) ⊎ GoesOn q T
   pub asked : (W : WorkId) → op_sent W q.sent ≡ true → (op_sent W r.sent ≡ true) ⊎ GoesOn q (owner W)
 
--- ---- what a client tells
+-- ---- what a client reports
 
 abbrev AnswersNone : Text → Type 0
 AnswersNone line = (events : List Event) (d : ClientNo) → answered events d line ≡ []
 
--- it tells the answer to its operation
+-- it reports the answer to its operation
 record TellsOwn (t u : ClientTable) (line : Text) : Type 0 where
   waits : Outstanding
   was : t.outstanding ≡ Some waits
@@ -80,7 +81,7 @@ module _ (t : ClientTable) where
   takes-so (messages.Outcome c T outcome) = one-of (client_eq c t.client) _ _ (outcome-so T outcome) tt
   takes-so _ = tt
 
--- an answer is told to its client alone
+-- an answer is reported to its client alone
 other-line : (events : List Event) (d c : ClientNo) (j : ℕ) (answer : Answer) → client_eq d c ≡ false → answered events d (answer_line c j answer) ≡ []
 other-line events d c j answers.Did h = ap (λ (b : Bool). if b then performed_in d answers.Did (event_at events j) else []) h
 other-line events d c j (answers.Read bytes) h = ap (λ (b : Bool). if b then performed_in d (answers.Read bytes) (event_at events j) else []) h

@@ -68,7 +68,7 @@ at-more : (n : ℕ) (a b : List Text) → at_event n (a ++ b) ≡ at_event n a +
 at-more n [] b = refl
 at-more n (x ∷ a) b = ap (λ (l : List Line). (record { when = AtEvent n; text = x }) ∷ l) (at-more n a b)
 
--- a print tells of no client
+-- a print reports nothing of a client
 print-servers : (s : ServerNo) (x : Printed) → IsServers (text_printed s x)
 print-servers s (FileThere f) = tt
 print-servers s (PageStored f p bytes) = tt

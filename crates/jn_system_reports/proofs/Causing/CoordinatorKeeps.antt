@@ -1,8 +1,8 @@
 -- A coordinator's row: a transaction that isn't past stays in its table, and what is dropped has its outcome.
-use Rattle.jn_system_reports.proofs.Common.{◌≡◌, ◌≢◌, ◌⊎◌, inl, inr, ℕ, ◌+◌, Bool, true, false, List, [], ◌∷◌, ◌++◌, Some, None, is_some, refl, sym, ap, subst, arith, ◌&&◌, if◌then◌else◌, nat_lt, ServerNo, ClientNo, Tid, WorkId, Tickets, Cause, FullAt, Resource, client_eq, tid_eq, client_tells, tid_tells, Message, Note, Outstanding, Transaction, Stage, Commitment, StableState, Change, RowOutcome, Sent, ClientTable, CoordinatorTable, transaction_at, with_stage, all_in, besides, drops, commits, prepares, aborted_to, committed_to, closed, after_closing, coordinator_row, Machine, IsTrue, Opening, Has, RequestNo, IsListed, wants_to_commit, wants_to_abort, WantsOutcome, wants_outcome, votes_late, Unneeded, is_not_here, is_carried_out, has_aborted, Saying, says_nothing, says_begun, says_unknown, prepares_again, says_drop, Noting, work_is_done, client_thanks, CoordinatorCase, is_ignored_by, is_left_by, begins_anew, finds_no_room, starts_voting, counts_vote, is_committed_by, is_aborted_by, notes_commit, forgets_commit, forgets_abort, coordinator-case}
+use Rattle.jn_system_reports.proofs.Common.{◌≡◌, ◌≢◌, ◌⊎◌, inl, inr, ℕ, ◌+◌, Bool, true, false, List, [], ◌∷◌, ◌++◌, Some, None, is_some, refl, sym, ap, subst, arith, ◌&&◌, if◌then◌else◌, nat_lt, ServerNo, ClientNo, Tid, WorkId, Tickets, Cause, FullAt, Resource, client_eq, tid_eq, client_tells, tid_tells, Message, Note, Outstanding, Transaction, Stage, Commitment, StableState, Change, RowOutcome, Sent, ClientTable, CoordinatorTable, transaction_at, with_stage, all_in, besides, drops, commits, prepares, aborted_to, committed_to, closed, after_closing, coordinator_row, Machine, IsTrue, Opening, Has, RequestNo, IsListed, wants_to_commit, wants_to_abort, WantsOutcome, wants_outcome, votes_late, Unneeded, is_not_here, is_carried_out, has_aborted, Saying, says_nothing, says_begun, says_unknown, prepares_again, says_drop, Noting, work_is_done, client_thanks, CoordinatorCase, is_ignored_by, is_left_by, begins_anew, finds_no_room, starts_voting, counts_vote, is_committed_by, is_aborted_by, notes_commit, forgets_commit, forgets_abort, coordinator-case, begun_by, is_begun}
 use Rattle.jn_msgs.specs.declared.message.Message.TheVariants as messages
 use Rattle.jn_rows.specs.declared.coordinator.Stage.TheVariants.{Open, Committed, Aborted}
-use Rattle.jn_rows.specs.Coordinator.{without, begun_by, is_begun, name_from}
+use Rattle.jn_rows.specs.Coordinator.{without, name_from}
 use Rattle.jn_system_reports.proofs.Reporting.Lists.{In, in-second, Each, each-append}
 use Rattle.jn_system_reports.proofs.Reporting.Past.{BeganBy, Past, StageFact, EntryFact}
 use Rattle.jn_system_reports.proofs.Reporting.PastRows.{IsThere, each-found, there-staged, there-less, there-more, begin-past}

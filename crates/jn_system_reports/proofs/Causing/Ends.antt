@@ -1,5 +1,5 @@
--- The end of a run tells nothing that needs a cause or answers a client, as no client waits for anything.
-use Rattle.jn_system_reports.proofs.Common.{◌≡◌, ℕ, ◌+◌, Bool, true, false, List, [], ◌∷◌, ◌++◌, append-nil, length, Option, Some, None, refl, sym, ◌∙◌, subst, arith, ◌&&◌, if◌then◌else◌, map, list_all, ServerNo, ClientNo, Tid, client_eq, AllFiles, Message, Note, Outcome, Event, Line, Text, Outstanding, Taken, Pick, RowOutcome, Sent, ClientTable, is_current, if_waits, decided_row, outcome_row, take_row, World, Memory, at_client, has_line, opening, servers_from, line_of, lines_of, named_now, Step, Tell, StopDelivery, StopWork, StopRestart, Dismiss, CloseClients, IsIdle, after, history_of, is_answer, Caused, Caused-lines, needs_cause, NeedNoCause, CausedFrom-plain, Printed, FileThere, PageStored, UnitLocked, text_printed, Does, Item, events_of, told_by, lines_of_items, world_of, IsReported, Comeback, Ending, restarts_from, steps_at_end, settles, IsEnding, told_by_steps, texts_from, at_end, lines_to_end, StableState, one-client, ClientRow, by_command, by_ignoring, by_answering, by_telling, ServerRow, of_message, of_work, FoundThen, by_narrowing, by_raising, Quiet, event_begins, none_changes, is_refused, client_repeats, server_repeats, is_lost, StepCase, client_row, row_done, row_stopped, gone_late, gone_down, come_up, found_anew, dismissed, quietly, step-case}
+-- The end of a run reports nothing that needs a cause or answers a client, as no client waits for anything.
+use Rattle.jn_system_reports.proofs.Common.{◌≡◌, ℕ, ◌+◌, Bool, true, false, List, [], ◌∷◌, ◌++◌, append-nil, length, Option, Some, None, refl, sym, ◌∙◌, subst, arith, ◌&&◌, if◌then◌else◌, map, list_all, ServerNo, ClientNo, Tid, client_eq, AllFiles, Message, Note, Outcome, Event, Line, Text, Outstanding, Taken, Pick, RowOutcome, Sent, ClientTable, is_current, if_waits, decided_row, outcome_row, take_row, World, Memory, at_client, has_line, opening, servers_from, line_of, lines_of, named_now, Step, Tell, StopDelivery, StopWork, StopRestart, Dismiss, CloseClients, IsIdle, after, history_of, is_answer, Caused, Caused-lines, needs_cause, NeedNoCause, CausedFrom-plain, Printed, FileThere, PageStored, UnitLocked, text_printed, Does, Item, events_of, told_by, lines_of_items, world_of, IsReported, Comeback, Ending, restarts_from, steps_at_end, settles, IsEnding, told_by_steps, texts_from, at_end, lines_to_end, StableState, one-client, ClientRow, by_command, by_ignoring, by_answering, by_telling, ServerRow, of_message, of_work, FoundThen, by_narrowing, by_raising, Quiet, event_begins, none_changes, is_refused, client_repeats, server_repeats, is_lost, StepCase, client_row, row_done, row_stopped, gone_late, gone_down, come_up, found_anew, dismissed, quietly, step-case, Left}
 use Rattle.jn_system.specs.WholeSystem.Steps.{Crash}
 use Rattle.jn_msgs.specs.declared.message.Message.TheVariants as messages
 use Rattle.jn_msgs.specs.declared.message.Note.TheVariants as notes
@@ -57,7 +57,7 @@ end-final servers e h = let ss = servers_from 0 servers in let rs = restarts_fro
       (each-append IsFinal (map Crash ss ++ rs) (map CloseClients ss) (each-append IsFinal (map Crash ss) rs (all-final Crash (λ s. tt) ss) (restarts-final 0 e.comebacks)) (all-final CloseClients (λ s. tt) ss)) (settling-final e.settling h),
 )
 
--- ---- what they tell
+-- ---- what they report
 
 pub record TellsPlainly (w q : World) : Type 0 where
   pub new : List Text
@@ -136,7 +136,7 @@ module _ (w : World) (idle : (c : ClientNo) → IsIdle (w.clients c)) where
   client-plain c _ _ _ _ (by_answering k room stop message u to answer is e) h = one-tells c u _ _ [] (sym (append-nil w.lines)) tt (took-idle c message _ e)
   client-plain c _ _ _ _ (by_telling k room stop message u line answer is e) h = absurd (took-idle c message _ e)
 
-  never-stopped : (s : ServerNo) (m : Memory) (made : Pick → ℕ) (step : Step) (k : Option ℕ) (row : RowOutcome Memory) → ServerRow w s m (Some made) step k row → IsFinal step → ⊥
+  never-stopped : (s : ServerNo) (m : Memory) (made : Pick → Left) (step : Step) (k : Option ℕ) (row : RowOutcome Memory) → ServerRow w s m (Some made) step k row → IsFinal step → ⊥
   never-stopped s m _ _ _ _ (of_message (Some made) k room message is) h = h
   never-stopped s m _ _ _ _ (of_work (Some made) room row is) h = h
 
@@ -197,7 +197,7 @@ with-end files epochs servers items texts h k = let start = opening servers file
 counted-causes : (es : List Event) (lines : List Line) → Caused es lines → Caused es (counted lines)
 counted-causes es lines h = Caused-lines es lines (at_end (says.Commits (length (history_of lines)) ∷ [])) h (CausedFrom-plain es lines (at_end (says.Commits (length (history_of lines)) ∷ [])) (refl, tt))
 
--- what is told and printed at the end
+-- what is reported and printed at the end
 pub end-told : (servers : ℕ) (e : Ending) (w : World) → list_all settles e.settling ≡ true → Each IsOfEnd (told_by_steps (steps_at_end servers e) w ++ texts_from 0 e.prints)
 end-told servers e w h = let ss = servers_from 0 servers in each-append IsOfEnd (told_by_steps (steps_at_end servers e) w) (texts_from 0 e.prints)
     (dismissed-told (map Crash ss ++ restarts_from 0 e.comebacks ++ map CloseClients ss ++ e.settling) w (end-final servers e h).1) (prints-plain 0 e.prints)

@@ -166,7 +166,7 @@ in-here n ls new c T within last = ap (λ m. is_tid (last_begun c m) T) (lines_b
     same : (T : Tid) → tid_eq T T ≡ true
     same T = grind (arith, tid_tells T T)
 
--- and nothing is told in its event
+-- and nothing is reported in its event
 pub none-here : (n : ℕ) (ls : List Line) (c : ClientNo) → AreWithin 0 n ls → not (says (refuses_own c n) (lines_at (AtEvent n) (ls ++ []))) ≡ true
 none-here n ls c within = ap (λ m. not (says (refuses_own c n) m)) (ap (λ m. lines_at (AtEvent n) m) (append-nil ls) ∙ lines_at-outside 0 n n ls within (inr (self n)))
   where

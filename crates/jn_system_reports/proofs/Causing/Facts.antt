@@ -81,7 +81,7 @@ pub record CauseFacts (es : List Event) (ls : List Line) (sent : List Sent) (cli
   pub messages : Each (MessageFact es ls (openings sent) clients memory w) sent
   pub each : (c : ClientNo) → ClientFact es ls sent memory c (clients c)
   pub broken : (s : ServerNo) (m : Memory) → memory s ≡ Some m → Each (WorkTold s lines) m.worker
-  -- what was told stands among the lines
+  -- what was reported stands among the lines
   pub told : (test : Text → Bool) → list_any test lines ≡ true → says test ls ≡ true
 
 -- ---- growth
@@ -111,7 +111,7 @@ module _ (es es' : List Event) (on : (j : ℕ) (e : Event) → Stands 1 es j e �
   down-on : (s : ServerNo) (j : ℕ) → DownAfter ls s j → DownAfter (ls ++ at_event (1 + length es) new) s j
   down-on s j h = down-more s j ls (at_event (1 + length es) new) h
 
-  -- what was told stands too
+  -- what was reported stands too
   pub told-on : (lines : List Text) → ((test : Text → Bool) → list_any test lines ≡ true → says test ls ≡ true) → (test : Text → Bool) → list_any test (lines ++ new) ≡ true → says test (ls ++ at_event (1 + length es) new) ≡ true
   told-on lines h test k = by (split lines k)
     where

@@ -94,7 +94,7 @@ module _ (files : AllFiles) (epochs : ServerNo → ℕ) where
       aborts = subst (λ l. Each (AbortStands es ls) l) (sym (told-is r step lines.texts lines.adds)) lines.each;
     }
 
-  -- ---- an event that does nothing more, and lines of it that tell of no client
+  -- ---- an event that does nothing more, and lines of it that report nothing of a client
 
   pub still-stays : (es es' : List Event) → ((j : ℕ) (e : Event) → Stands 1 es j e → Stands 1 es' j e) → (ls : List Line) (new : List Text) → ((c : ClientNo) → IsMute c new) → (r : World) → Stays files epochs es ls r → Stays files epochs es' (ls ++ at_event (1 + length es) new) r
   still-stays es es' on ls new mute r h = record {

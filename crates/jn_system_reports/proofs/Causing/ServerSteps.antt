@@ -20,7 +20,7 @@ use Rattle.jn_system_reports.proofs.Causing.Facts.{HasTransaction, HasWork, WasO
 
 -- ---- lines of servers
 
--- it begins no transaction and tells of no abort
+-- it begins no transaction and reports no abort
 abbrev pub IsServers : Text → Type 0
 IsServers (texts.Begun c j T) = ⊥
 IsServers (texts.Aborted c j T cause) = ⊥

@@ -1,4 +1,4 @@
--- After any steps, with the events that they stand under: each abort that is told has its cause.
+-- After any steps, with the events that they stand under: each abort that is reported has its cause.
 use Rattle.jn_system_reports.proofs.Common.{◌≡◌, ◌≢◌, ◌⊎◌, inl, inr, ℕ, ◌+◌, Bool, true, false, List, [], ◌∷◌, ◌++◌, append-nil, length, Option, Some, None, is_some, refl, sym, ◌∙◌, ap, subst, arith, ◌&&◌, slice_get, nat_lt, list_any, ServerNo, ClientNo, Tid, WorkId, Cause, Requested, LostAt, FullAt, Client, Server, Command, Abort, Resource, client_eq, tid_eq, client_tells, tid_tells, Message, Event, Text, Line, Outstanding, Taken, Pick, stable, Sent, worker_row, transaction_at, coordinator_row, ClientTable, Commanded, Refuses, Sends, command_row, take_row, sent_again, Machine, Invariant, Grows, not_both, World, Memory, has_line, Room, storage_of, Step, Tell, IsStep, after, commanded, sent_now, LockFacts, UpFact, ServerFact, Mirrors, AreOpen, IsCurrent, IsTrue, IsAddressed, holds-of, Opening, opening_in, openings, openings-more, Has, has-first, began_by, Began, Facts, all-have-theirs, EndsNow, is_in, AreWithin, at_event, StableState, at_client, server_eq, same-server, if◌then◌else◌, ClientRow, by_command, by_ignoring, by_answering, by_telling, FoundThen, by_narrowing, by_raising, Quiet, event_begins, none_changes, is_refused, client_repeats, server_repeats, is_lost, StepCase, client_row, row_done, row_stopped, gone_late, gone_down, come_up, found_anew, dismissed, quietly, step-case, some-memory}
 use Rattle.jn_msgs.specs.declared.message.Message.TheVariants as messages
 use Rattle.jn_schedule.specs.declared.Event.TheVariants as events

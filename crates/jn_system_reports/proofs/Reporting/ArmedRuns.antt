@@ -10,7 +10,7 @@ use Rattle.jn_system_reports.proofs.Reporting.Fitting.{asked_of}
 use Rattle.jn_system_reports.proofs.Reporting.Following.{event-follows, run-split, texts-within}
 use Rattle.jn_system_reports.proofs.Reporting.Arming.{bit, MayCount, MayAll, Armed, armed-texts, cover-done, own_stop, own_fault, stop-is, fault-is, stop-takes, fault-takes}
 
--- ---- an arm tells of nothing but its refusal
+-- ---- an arm reports nothing but its refusal
 
 abbrev IsRefusal : Text → Type 0
 IsRefusal (says.RefusedEvent refusal) = Unit {0}

@@ -93,7 +93,7 @@ now-mute (T ∷ Ts) lines = by (has_line T lines) (now-mute Ts lines)
     by true h = h
     by false h = ((refl, tt), h)
 
--- ---- what a client tells
+-- ---- what a client reports
 
 -- the line answers the outstanding command, which stays outstanding where it isn't its last answer
 pub record TellsIt (t u : ClientTable) (line : Text) : Type 0 where

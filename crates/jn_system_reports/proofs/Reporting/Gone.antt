@@ -1,5 +1,5 @@
 -- A work that is nowhere stays so, and never becomes ready.
-use Rattle.jn_system_reports.proofs.Common.{◌≡◌, ◌≢◌, ◌⊎◌, inl, inr, Bool, true, false, List, [], ◌∷◌, Option, Some, None, is_some, refl, sym, ◌∙◌, ap, subst, if◌then◌else◌, ServerNo, WorkId, server_eq, work_eq, server_tells, work_tells, StableState, Pick, Change, AddReady, MarkGoing, CarryOut, RemoveWork, AddFlag, DropFlag, at_work, gone_on, made_by, NamesFact, Invariant, Atom, Perform, Lose, Prepare, Learn, NoteReady, NoteOver, Close, Make, Count, Name, Decide, RaiseEpoch, changed, server_of, with_epoch, May, MayRun, MayMake, fresh_work, step_kept, not_both, clash, some_none, Narrow, Crash, Restart}
+use Rattle.jn_system_reports.proofs.Common.{◌≡◌, ◌≢◌, ◌⊎◌, inl, inr, Bool, true, false, List, [], ◌∷◌, Option, Some, None, is_some, refl, sym, ◌∙◌, ap, subst, if◌then◌else◌, ServerNo, WorkId, server_eq, work_eq, server_tells, work_tells, StableState, Pick, Change, AddReady, MarkGoing, CarryOut, RemoveWork, AddFlag, DropFlag, at_work, gone_on, made_by, NamesFact, Invariant, Atom, Perform, Lose, Prepare, Learn, NoteReady, NoteOver, Close, Make, Count, Name, Decide, RaiseEpoch, changed, server_of, with_epoch, May, MayRun, MayMake, fresh_work, step_kept, not_both, clash, some_none, Narrow, Crash, Restart, CarryPart, carried_at, LockUnit, Intention}
 use Rattle.jn_system.specs.SmallSteps.World.{World}
 use Rattle.jn_system.specs.SmallSteps.Steps.{Begin, Open, End, Abort, after, run}
 
@@ -37,6 +37,13 @@ module _ (w : World) (W : WorkId) (g : Gone w W) where
       by : ((server_eq s W.server ≡ true) × (s ≡ W.server)) ⊎ ((server_eq s W.server ≡ false) × (s ≢ W.server)) → (if server_eq s W.server then w.found s (n c) else w.found W.server c).works W ≡ None
       by (inl p) = ap (λ (b : Bool). (if b then w.found s (n c) else w.found W.server c).works W) p.0 ∙ subst (λ (q : ServerNo). (w.found q (n c)).works W ≡ None) (sym p.1) (g.nowhere (n c))
       by (inr p) = ap (λ (b : Bool). (if b then w.found s (n c) else w.found W.server c).works W) p.0 ∙ g.nowhere c
+
+  part-nowhere : (s : ServerNo) (i : Intention) (is : Pick → LockUnit → Bool) (c : Pick) → (if server_eq s W.server then carried_at (is c) i (w.found s c) else w.found W.server c).works W ≡ None
+  part-nowhere s i is c = by (server_tells s W.server)
+    where
+      by : ((server_eq s W.server ≡ true) × (s ≡ W.server)) ⊎ ((server_eq s W.server ≡ false) × (s ≢ W.server)) → (if server_eq s W.server then carried_at (is c) i (w.found s c) else w.found W.server c).works W ≡ None
+      by (inl p) = ap (λ (b : Bool). (if b then carried_at (is c) i (w.found s c) else w.found W.server c).works W) p.0 ∙ subst (λ (q : ServerNo). (w.found q c).works W ≡ None) (sym p.1) (g.nowhere c)
+      by (inr p) = ap (λ (b : Bool). (if b then carried_at (is c) i (w.found s c) else w.found W.server c).works W) p.0 ∙ g.nowhere c
 
   made-nowhere : (change : Change) (x : StableState) → MayMake w x change → x.works W ≡ None → (made_by change x).works W ≡ None
   made-nowhere (AddReady head list reads) x m k = absurd m
@@ -89,6 +96,7 @@ module _ (w : World) (W : WorkId) (g : Gone w W) where
   atom-gone (Abort T) m n = still _ refl refl g.nowhere refl
   atom-gone (Close T) m n = still _ refl refl g.nowhere refl
   atom-gone (Make done change) m n = still _ refl refl (put-nowhere (server_of change) done (made_by change) (λ c k. made-nowhere change (w.found (server_of change) c) (m c) k)) refl
+  atom-gone (CarryPart V i is) m n = still _ refl refl (part-nowhere V.server i is) refl
   atom-gone (Count V k) m n = still _ refl refl g.nowhere refl
   atom-gone (Name T) m n = still _ refl refl g.nowhere refl
   atom-gone (Decide flag) m n = still _ refl refl (put-nowhere flag.tid.server (λ c. true) (made_by (AddFlag flag)) (λ c k. k)) refl

@@ -70,7 +70,7 @@ module _ (r : World) (w : Machine) (facts : Facts r w) (talk : Talk r w) where
   abbrev Hears : World → Type 0
   Hears q = StepHeard r.lines r.clients r.event q
 
-  -- nothing that is told answers, and each client waits for the same
+  -- nothing that is reported answers, and each client waits for the same
   mutely : (q : World) (texts : List Text) → q.lines ≡ r.lines ++ texts → q.event ≡ r.event → Each IsMute texts → ((out : Waited) → Waits out r.clients → Waits out q.clients) → Hears q
   mutely q texts e g h same = record { same_event = g; texts = texts; adds = e; heard = λ out waits. mute-heard out texts q.clients (same out waits) h }
 

@@ -63,7 +63,7 @@ names-before number before (x ∷ texts) h = (named-one before x h.0, subst (λ 
 -- ---- runs
 
 module _ (files : AllFiles) (epochs : ServerNo → ℕ) where
-  -- acts, the world after them, and what they tell
+  -- acts, the world after them, and what they report
   pub record Told (r : World) (texts : List Text) (q : World) : Type 0 where
     pub reached : Reached files epochs q
     pub commits : commits_in q.lines ≡ commits_in r.lines ++ commits_in texts

@@ -1,4 +1,4 @@
--- What is told aborted or broken isn't named, and never will be.
+-- What is reported aborted or broken isn't named, and never will be.
 use Rattle.jn_system_reports.proofs.Common.{◌≡◌, ◌≢◌, ◌⊎◌, inl, inr, ℕ, Bool, true, false, List, [], ◌++◌, append-nil, Option, Some, None, refl, sym, ◌∙◌, ap, subst, arith, if◌then◌else◌, list_any, ServerNo, ClientNo, Tid, WorkId, LockUnit, Cause, Client, Answer, client_eq, tid_eq, client_tells, tid_tells, Message, Outcome, Text, Phase, Broken, Outstanding, Taken, Pick, RowOutcome, Sent, WorkerTable, ClientTable, is_tid, is_current, if_waits, begun_row, opened_row, answer_line, outcome_row, take_row, found-name, Machine, Invariant, IsWorkOf, OutcomeSays, Says, not_both, some_none, false_unless, World, Memory, at_server, commits_in, has_line, of_worker, lines_of, done, LockFacts, UpFact, ServerFact, Mirrors, active_in, working_in, working_of, commits-more, lines-commit, named_by, Opening, one-server}
 use Rattle.jn_base.specs.declared.op.Answer.TheVariants as answers
 use Rattle.jn_msgs.specs.declared.message.Message.TheVariants as messages
@@ -12,7 +12,7 @@ use Rattle.jn_system_reports.proofs.Reporting.Breaking.{BreaksOne}
 use Rattle.jn_system_reports.proofs.Reporting.Talk.{Talk}
 use Rattle.jn_system_reports.proofs.Reporting.Past.{OutcomeFact, SaysPast}
 
--- ---- what a client tells of an abort
+-- ---- what a client reports of an abort
 
 module _ (os : List Opening) (clients : ClientNo → ClientTable) (w : Machine) (Caused : ClientNo → Tid → Cause → Type 0) (c : ClientNo) (name : (clients c).client ≡ c) where
   abbrev t : ClientTable

@@ -227,7 +227,7 @@ module _ (os : List Opening) (clients : ClientNo → ClientTable) (w : Machine) 
       at-stage : (stage : Stage) → y.stage ≡ stage → StageFact os clients w Caused y.client y.tid stage
       at-stage stage e = subst (λ (z : Stage). StageFact os clients w Caused y.client y.tid z) e its.stage
 
-      -- it is told of by its client alone
+      -- it is reported by its client alone
       its-client : (c : ClientNo) → Had os clients w Caused c y.tid → c ≡ y.client
       its-client c h = one-client c y.client h.request its.request y.tid y.tid h.has its.has refl
 

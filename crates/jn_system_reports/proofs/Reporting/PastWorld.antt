@@ -1,5 +1,5 @@
 -- What is past after each step.
-use Rattle.jn_system_reports.proofs.Common.{◌≡◌, ◌≢◌, ◌⊎◌, inl, inr, ℕ, ◌+◌, Bool, true, false, List, [], ◌∷◌, ◌++◌, take, append-nil, Option, Some, None, is_some, refl, sym, ◌∙◌, ap, subst, arith, fun_ext, ◌||◌, if◌then◌else◌, slice_get, nat_lt, list_any, ServerNo, ClientNo, Tid, WorkId, Cause, LostAt, FullAt, Server, server_eq, tid_eq, tid_tells, Message, Text, Transaction, Stage, Ballot, StableState, FlagState, Pick, Change, AddFlag, DropFlag, made_all, stable, is_going, RowOutcome, Tickets, Resource, Intention, Work, WorkerTable, WorkStorage, going_work, carried_row, intentions_of, going_row, worker_row, worker_step, worker_again, timeout_row, ClientTable, CoordinatorTable, transaction_at, coordinator_row, coordinator_again, seen_in_flags, restored_transaction, restored_transactions, Machine, Unknown, Invariant, Knows, Atom, with_epoch, MayRun, Says, none_of, false_unless, not_both, World, Memory, at_server, commits_in, has_line, Room, storage_of, of_worker, server_again, of_timeout, restored, lines_of, named_now, AreNames, tid_before, done, stopped, works, LockFacts, ServerFact, UpFact, is_committed, Mirrors, IsAddressed, IsStage, knowledge_in, knowledge_of, knows, stage-is, stage-known, commits-more, lines-commit, named_by, worker-none, step-none, same-server, holds-of, Sent, Step, IsStep, still-says, Opening, openings, Has, Began, openings-begun, one-server, one-found, ServerRow, of_message, of_work, of_closing, FoundThen, by_narrowing, by_raising, server_timeout, restart_with, row-either, row-of-step}
+use Rattle.jn_system_reports.proofs.Common.{◌≡◌, ◌≢◌, ◌⊎◌, inl, inr, ℕ, ◌+◌, Bool, true, false, List, [], ◌∷◌, ◌++◌, take, append-nil, Option, Some, None, is_some, refl, sym, ◌∙◌, ap, subst, arith, fun_ext, ◌||◌, if◌then◌else◌, slice_get, nat_lt, list_any, ServerNo, ClientNo, Tid, WorkId, Cause, LostAt, FullAt, Server, server_eq, tid_eq, tid_tells, Message, Text, Transaction, Stage, Ballot, StableState, FlagState, Pick, Change, AddFlag, DropFlag, made_all, stable, is_going, RowOutcome, Tickets, Resource, Intention, Work, WorkerTable, WorkStorage, going_work, carried_row, intentions_of, going_row, worker_row, worker_step, worker_again, timeout_row, ClientTable, CoordinatorTable, transaction_at, coordinator_row, coordinator_again, seen_in_flags, restored_transaction, restored_transactions, Machine, Unknown, Invariant, Knows, Atom, with_epoch, MayRun, Says, none_of, false_unless, not_both, World, Memory, at_server, commits_in, has_line, Room, storage_of, of_worker, server_again, of_timeout, restored, lines_of, named_now, AreNames, tid_before, done, stopped, works, LockFacts, ServerFact, UpFact, is_committed, Mirrors, IsAddressed, IsStage, knowledge_in, knowledge_of, knows, stage-is, stage-known, commits-more, lines-commit, named_by, worker-none, step-none, same-server, holds-of, Sent, Step, IsStep, still-says, Opening, openings, Has, Began, openings-begun, one-server, one-found, ServerRow, of_message, of_work, of_closing, FoundThen, by_narrowing, by_raising, server_timeout, restart_with, row-either, row-of-step, Left, left_of}
 use Rattle.jn_msgs.specs.declared.message.Message.TheVariants as messages
 use Rattle.jn_msgs.specs.declared.message.Outcome.TheVariants as outcomes
 use Rattle.jn_report.specs.declared.line.Text.TheVariants as says
@@ -38,7 +38,7 @@ works-change os clients w Caused (AddFlag flag) h = absurd h
 works-change os clients w Caused (DropFlag T) h = absurd h
 works-change os clients w Caused _ h = tt
 
--- a worker that works tells of no transaction
+-- a worker that works reports nothing of transactions
 step-says : (os : List Opening) (clients : ClientNo → ClientTable) (w : Machine) (Caused : ClientNo → Tid → Cause → Type 0) (t : WorkerTable) (s : WorkStorage) (k : Tickets) (row : RowOutcome WorkerTable) → worker_step t s k ≡ Some row → Each (SaysPast os clients w Caused) row.messages
 step-says os clients w Caused t s k row h = by (going_work s.state t) h
   where
@@ -170,12 +170,12 @@ module _ (r : World) (w v : Machine) (Caused Caused' : ClientNo → Tid → Caus
     held : HasFlags (made_all row.changes (stable (r.found s))) row.table.coordinator
     names : (T : Tid) → In T (named_by row.notes) → is_some ((made_all row.changes (stable (r.found s))).flags T) ≡ true
 
-  stopped-past : (s : ServerNo) (made : Pick → ℕ) (row : RowOutcome Memory) → Gives s row → Later (stopped s made row r) v → Now (stopped s made row r)
-  stopped-past s made row h l = leaves-past s None (λ c. made_all (take (made c) row.changes) (r.found s c)) [] r.sent _ (append-nil r.sent) (record {
+  stopped-past : (s : ServerNo) (made : Pick → Left) (row : RowOutcome Memory) → Gives s row → Later (stopped s made row r) v → Now (stopped s made row r)
+  stopped-past s made row h l = leaves-past s None (λ c. left_of (made c) row.changes (r.found s c)) [] r.sent _ (append-nil r.sent) (record {
     says = tt;
     table = tt;
-    flags = λ c. all-flags (openings r.sent) r.clients w Caused (take (made c) row.changes) (r.found s c) (each-take _ (made c) row.changes h.changes) (past.flags s c);
-    kept = λ T c e n. after-all (take (made c) row.changes) (r.found s c) (each-take _ (made c) row.changes h.changes) T (kept-at T c s e n);
+    flags = λ c. all-flags (openings r.sent) r.clients w Caused (take (made c).whole row.changes) (r.found s c) (each-take _ (made c).whole row.changes h.changes) (past.flags s c);
+    kept = λ T c e n. after-all (take (made c).whole row.changes) (r.found s c) (each-take _ (made c).whole row.changes h.changes) T (kept-at T c s e n);
     names = λ T e. inl (same-names (says.Stopped s ∷ []) refl l.named T e);
   }) l
 
@@ -262,11 +262,11 @@ module _ (r : World) (w v : Machine) (Caused Caused' : ClientNo → Tid → Caus
           here (messages.Abort c q T Ws) h = h
           here _ h = tt
 
-      -- no coordinator tells of a broken work
+      -- no coordinator reports a broken work
       pub coordinator-quiet : (room : Room) (message : Message) → IsAddressed (Server s, message) → SaysPast (openings r.sent) r.clients w Caused (Server s, message) → list_any is_broke (coordinator_row m.coordinator room.free.records m.tickets message).notes ≡ false
       coordinator-quiet room message to said = (row-here room message to said).quiet
 
-      gives : (stop : Option (Pick → ℕ)) (step : Step) (k : Option ℕ) (row : RowOutcome Memory) → ServerRow r s m stop step k row → IsStep step r → Gives s row
+      gives : (stop : Option (Pick → Left)) (step : Step) (k : Option ℕ) (row : RowOutcome Memory) → ServerRow r s m stop step k row → IsStep step r → Gives s row
       gives _ _ _ _ (of_message stop k room message e) i = row-either (λ row. Gives s row) m (stable (r.found s)) room message
           (let a = worker-aside m.worker (storage_of m (stable (r.found s)) room) m.tickets message in by-worker s m is (worker_row m.worker (storage_of m (stable (r.found s)) room) m.tickets message) a.works (worker-none m.worker (storage_of m (stable (r.found s)) room) m.tickets message)
           (votes s m is room message (get-in r.sent k (Server s, message) e)))
@@ -310,7 +310,7 @@ module _ (r : World) (w v : Machine) (Caused Caused' : ClientNo → Tid → Caus
     pub row-done-past : (s : ServerNo) (m : Memory) (step : Step) (k : Option ℕ) (row : RowOutcome Memory) → r.memory s ≡ Some m → ServerRow r s m None step k row → IsStep step r → Later (done s k row r) v → Now (done s k row r)
     row-done-past s m step k row is how i l = let up = up-at s m is in done-past s k row up.same (gives s m is up None step k row how i) l
 
-    pub row-stopped-past : (s : ServerNo) (m : Memory) (step : Step) (k : Option ℕ) (row : RowOutcome Memory) (made : Pick → ℕ) → r.memory s ≡ Some m → ServerRow r s m (Some made) step k row → IsStep step r → Later (stopped s made row r) v → Now (stopped s made row r)
+    pub row-stopped-past : (s : ServerNo) (m : Memory) (step : Step) (k : Option ℕ) (row : RowOutcome Memory) (made : Pick → Left) → r.memory s ≡ Some m → ServerRow r s m (Some made) step k row → IsStep step r → Later (stopped s made row r) v → Now (stopped s made row r)
     row-stopped-past s m step k row made is how i l = stopped-past s made row (gives s m is (up-at s m is) (Some made) step k row how i) l
 
     pub late-past : (s : ServerNo) (m : Memory) (T : Tid) → r.memory s ≡ Some m → Later (record r { memory = at_server r.memory s (Some (server_timeout m T)) }) v → PastFacts r.sent r.clients (at_server r.memory s (Some (server_timeout m T))) r.found v Caused'

@@ -25,7 +25,7 @@ use Rattle.jn_system_reports.proofs.Reporting.StepLines.{IsPlainText, step-lines
 abbrev pub Free : ClientNo → Tid → Cause → Type 0
 Free c T cause = Unit {0}
 
--- what is told aborted or broken is never named, and no step prints files
+-- what is reported aborted or broken is never named, and no step prints files
 abbrev pub LineFact : List Sent → Machine → Text → Type 0
 LineFact sent w (says.Aborted c j T cause) = w.aborted T ≡ true
 LineFact sent w (says.Broke s T u by) = NeverNamed sent w T
@@ -96,7 +96,7 @@ in-all P [] x all i = absurd i
 in-all P (y ∷ sent) x all (inl e) = subst P e (All-head P y sent all)
 in-all P (y ∷ sent) x all (inr i) = in-all P sent x (All-tail P y sent all) i
 
--- ---- one step of what is past and of what is told
+-- ---- one step of what is past and of what is reported
 
 module _ (r : World) (w : Machine) (atoms : List Atom) (may : MayRun atoms w) (mirrors : Mirrors r w) (facts : Facts r w) (inv : Invariant w) (locks : LockFacts r) (talk : Talk r w) (past : PastFacts r.sent r.clients r.memory r.found w Free)
     (ends : EndsAsked r.sent w) (lines : Each (LineFact r.sent w) r.lines) (named : (T : Tid) → w.named T ≡ has_line T r.lines) (step : Step) (i : IsStep step r)

@@ -1,4 +1,4 @@
--- What holds of the lines that a step adds, where it holds of those that tell of an abort or of a broken work.
+-- What holds of the lines that a step adds, where it holds of those that report an abort or a broken work.
 use Rattle.jn_system_reports.proofs.Common.{◌≡◌, inl, inr, ℕ, ◌+◌, Bool, true, false, List, [], ◌∷◌, ◌++◌, append-nil, Option, Some, None, refl, sym, ◌∙◌, ap, subst, arith, ◌||◌, if◌then◌else◌, slice_get, list_any, ServerNo, ClientNo, Tid, LockUnit, Tickets, Cause, Client, Server, Intention, Message, Note, Text, Work, Taken, stable, RowOutcome, Sent, WorkerTable, WorkStorage, worker_row, worker_step, going_work, carried_row, intentions_of, going_row, coordinator_row, close_clients_row, ClientTable, Machine, World, Memory, at_client, has_line, Room, storage_of, of_worker, of_coordinator, line_of, lines_of, named_now, Step, after, done, Mirrors, IsTrue, holds-of, openings, Facts, ClientRow, by_command, by_ignoring, by_answering, by_telling, ServerRow, of_message, of_work, of_closing, by_narrowing, by_raising, Quiet, event_begins, none_changes, is_refused, client_repeats, server_repeats, is_lost, StepCase, client_row, row_done, row_stopped, gone_late, gone_down, come_up, found_anew, dismissed, quietly, step-case, row-either, row-of-step}
 use Rattle.jn_msgs.specs.declared.message.Note.TheVariants as notes
 use Rattle.jn_report.specs.declared.line.Text.TheVariants as says
@@ -8,7 +8,7 @@ use Rattle.jn_system_reports.proofs.Reporting.PastRows.{is_broke}
 use Rattle.jn_system_reports.proofs.Reporting.PastSteps.{PastFacts}
 use Rattle.jn_system_reports.proofs.Reporting.Outcomes.{IsTrueAbort, AbortsTruly, take-aborts}
 
--- lines that tell of neither, nor of a server's files
+-- lines that report neither, nor a server's files
 abbrev pub IsPlainText : Text → Type 0
 IsPlainText (says.Aborted c j T cause) = ⊥
 IsPlainText (says.Broke s T u by) = ⊥
@@ -58,7 +58,7 @@ module _ (P : Text → Type 0) (plain : (text : Text) → IsPlainText text → P
   none : (q : World) → q.lines ≡ r.lines → AddsLines P r q
   none q e = record { texts = []; adds = e ∙ sym (append-nil r.lines); each = tt }
 
-  -- a worker that works tells nothing
+  -- a worker that works reports nothing
   step-quiet : (t : WorkerTable) (s : WorkStorage) (k : Tickets) (row : RowOutcome WorkerTable) → worker_step t s k ≡ Some row → list_any is_broke row.notes ≡ false
   step-quiet t s k row h = by (going_work s.state t) h
     where
@@ -92,7 +92,7 @@ module _ (P : Text → Type 0) (plain : (text : Text) → IsPlainText text → P
     client-lines c _ _ _ _ (by_telling k room stop message u line answer i e) = one _ line refl (told c line (subst (λ (x : ClientTable × Taken). AbortsTruly (openings r.sent) r.clients w Caused c (facts.clients c).name x) e
         (take-aborts (openings r.sent) r.clients w Caused c (facts.clients c).name message (holds-of (IsTrue w) r.sent k (Client c, message) mirrors.says i) (each-in (SaysPast (openings r.sent) r.clients w Caused) r.sent (Client c, message) past.says (get-in r.sent k (Client c, message) i)))))
 
-    -- a row that tells of no broken work
+    -- a row that reports no broken work
     quiet-lines : (s : ServerNo) (k : Option ℕ) (row : RowOutcome Memory) → list_any is_broke row.notes ≡ false → AddsLines P r (done s k row r)
     quiet-lines s k row h = record { texts = lines_of s k row.notes; adds = refl; each = notes-lines s k row.notes (λ T u by i. absurd (none-broke row.notes h T u by i)) }
 

@@ -1,5 +1,5 @@
 -- Each step keeps what holds of the operations that clients ask for, and of their answers.
-use Rattle.jn_system_reports.proofs.Common.{◌≡◌, ◌⊎◌, inl, inr, ◌≤◌, ℕ, ◌+◌, List, [], ◌∷◌, ◌++◌, append-nil, Option, Some, None, refl, sym, ◌∙◌, ap, subst, arith, slice_get, ServerNo, ClientNo, Tid, WorkId, Party, Client, Server, Message, OpenWork, Outstanding, Taken, Pick, stable, RowOutcome, Sent, WorkerTable, worker_row, worker_again, timeout_row, coordinator_again, ClientTable, Commanded, Sends, take_row, sent_again, over, Machine, IsWorkOf, World, Memory, at_server, at_client, new_memory, AllFiles, storage_of, of_timeout, restored, Step, after, sent_now, works, Mirrors, IsCurrent, AreOpen, found-open, Opening, opening_in, openings, openings-more, Has, has-first, Began, Facts, all-have-theirs, holds-of, OperationNo, RequestNo, one-client, ClientRow, by_command, by_ignoring, by_answering, by_telling, ServerRow, of_message, of_work, of_closing, Quiet, event_begins, none_changes, is_refused, client_repeats, server_repeats, is_lost, StepCase, client_row, row_done, row_stopped, gone_late, gone_down, come_up, found_anew, dismissed, quietly, step-case, server_timeout, row-either, row-of-step, Text, some-memory, memory-now, memory-gone, Dismiss}
+use Rattle.jn_system_reports.proofs.Common.{◌≡◌, ◌⊎◌, inl, inr, ◌≤◌, ℕ, ◌+◌, List, [], ◌∷◌, ◌++◌, append-nil, Option, Some, None, refl, sym, ◌∙◌, ap, subst, arith, slice_get, ServerNo, ClientNo, Tid, WorkId, Party, Client, Server, Message, OpenWork, Outstanding, Taken, Pick, stable, RowOutcome, Sent, WorkerTable, worker_row, worker_again, timeout_row, coordinator_again, ClientTable, Commanded, Sends, take_row, sent_again, over, Machine, IsWorkOf, World, Memory, at_server, at_client, new_memory, AllFiles, storage_of, of_timeout, restored, Step, after, sent_now, works, Mirrors, IsCurrent, AreOpen, found-open, Opening, opening_in, openings, openings-more, Has, has-first, Began, Facts, all-have-theirs, holds-of, OperationNo, RequestNo, one-client, ClientRow, by_command, by_ignoring, by_answering, by_telling, ServerRow, of_message, of_work, of_closing, Quiet, event_begins, none_changes, is_refused, client_repeats, server_repeats, is_lost, StepCase, client_row, row_done, row_stopped, gone_late, gone_down, come_up, found_anew, dismissed, quietly, step-case, server_timeout, row-either, row-of-step, Text, some-memory, memory-now, memory-gone, Dismiss, Left}
 use Rattle.jn_msgs.specs.declared.message.Message.TheVariants as messages
 use Rattle.jn_rows.specs.declared.client.Taken.TheVariants as taken
 use Rattle.jn_rows.specs.Client.{work_at}
@@ -244,7 +244,7 @@ module _ (r : World) (w v : Machine) (mirrors : Mirrors r w) (facts : Facts r w)
   as-replies : (row : RowOutcome WorkerTable) → Talks r.sent talk.once row → Each (IsReply r.sent) row.messages × Each (KeepsWork r.sent) row.table
   as-replies row h = (each-more (IsWorkers r.sent) (IsReply r.sent) row.messages (workers-reply r.sent) h.0, h.1)
 
-  row-talks : (s : ServerNo) (m : Memory) (stop : Option (Pick → ℕ)) (step : Step) (k : Option ℕ) (row : RowOutcome Memory) → r.memory s ≡ Some m → ServerRow r s m stop step k row → RowTalks row
+  row-talks : (s : ServerNo) (m : Memory) (stop : Option (Pick → Left)) (step : Step) (k : Option ℕ) (row : RowOutcome Memory) → r.memory s ≡ Some m → ServerRow r s m stop step k row → RowTalks row
   row-talks s m _ _ _ _ is (of_message stop k room message e) = row-either (λ row. RowTalks row) m (stable (r.found s)) room message
       (as-replies (worker_row m.worker (storage_of m (stable (r.found s)) room) m.tickets message) (worker-talks r.sent talk.once m.worker m.tickets (talk.works s m is) (storage_of m (stable (r.found s)) room) message (was-sent message e))) (coordinator-silent r.sent m.coordinator m.tickets room.free.records message, talk.works s m is)
     where

@@ -1,4 +1,4 @@
--- No transaction that a run's lines tell as aborted or broken is named in them.
+-- No transaction that a run's lines report as aborted or broken is named in them.
 use Rattle.jn_system_reports.proofs.Common.{◌≡◌, ◌⊎◌, inl, inr, ℕ, ◌+◌, false, List, [], ◌∷◌, ◌++◌, refl, sym, ◌∙◌, ap, subst, map, list_any, ServerNo, Tid, tid_eq, AllFiles, Text, Line, has_tid, history_of, IsNotNamedWhere, NamesNone, Told, run_atoms, opening_world, World, opening, Step, NextEvent, after, run, IsRun, Printed, FileThere, PageStored, UnitLocked, text_printed, Act, Does, Tells, Shows, Item, steps_in, steps_of, told_by, told_in, told_under, after_item, at_event, world_of, IsReported}
 use Rattle.jn_report.specs.declared.line.Text.TheVariants as says
 use Rattle.jn_system_reports.specs.Reporting.Reported.{Refuses, lines_of}
@@ -9,7 +9,7 @@ use Rattle.jn_system_reports.proofs.Reporting.Outcomes.{NeverNamed, not-named}
 use Rattle.jn_system_reports.proofs.Reporting.Following.{run-split}
 use Rattle.jn_system_reports.proofs.Reporting.Naming.{RunTold, adds, run-told, named-once}
 
--- a text that no step tells
+-- a text that no step reports
 abbrev pub IsApart : Text → Type 0
 IsApart (says.RefusedEvent refusal) = Unit {0}
 IsApart (says.Outside s fault) = Unit {0}

@@ -55,7 +55,7 @@ end-calm servers e h = let ss = servers_from 0 servers in let rs = restarts_from
       (each-append IsCalm (map Crash ss ++ rs) (map CloseClients ss) (each-append IsCalm (map Crash ss) rs (crashes-calm ss) (restarts-calm 0 e.comebacks)) (closes-calm ss)) (settling-calm e.settling h),
 )
 
--- a text that steps may tell
+-- a text that steps may report
 abbrev IsOfStep : Text → Type 0
 IsOfStep (says.File s f) = ⊥
 IsOfStep (says.Page s f p bytes) = ⊥

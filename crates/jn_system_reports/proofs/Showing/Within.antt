@@ -1,5 +1,6 @@
--- No operation is told at a server that there isn't.
-use Rattle.jn_system_reports.proofs.Common.{◌≡◌, ◌≢◌, ◌⊎◌, inl, inr, ℕ, suc, ◌+◌, ◌≤◌, ◌<◌, Bool, true, false, List, [], ◌∷◌, ◌++◌, append_assoc, length, Option, Some, None, refl, sym, ◌∙◌, ap, subst, arith, ◌&&◌, if◌then◌else◌, nat_eq, nat_lt, nat_tests, ServerNo, ClientNo, Tid, WorkId, Op, Answer, Command, Begin, Open, Do, End, Abort, server_eq, client_eq, server_tells, AllFiles, files_after, all_files_after, Message, Outcome, Event, CommandOf, Text, Line, Outstanding, OpenWork, Taken, Sent, ClientTable, Commanded, Refuses, Sends, if_server, if_idle, if_transaction, if_no_transaction, if_open, if_not_open, command_row, is_current, is_end, is_end_or_abort, if_waits, begun_row, opened_row, decided_row, outcome_row, take_row, Performed, Waited, with_asked, answer_in, is_last, fits, fits_asked, answers_command, after_answer, event_at, files_then, ops_of, replay, performed_in, answered, answered_by, owner_after, event_at-next, World, at_client, opening, Step, NextEvent, Tell, Dismiss, after, run, IsRun, commanded, Act, Does, Refused, Tells, Shows, Item, events_of, steps_in, steps_of, after_item, IsUnder, AreUnder, ops_in, one-client, ClientRow, by_command, by_ignoring, by_answering, by_telling, StepCase, client_row, row_done, row_stopped, gone_late, gone_down, come_up, found_anew, dismissed, quietly, step-case}
+-- No operation is reported at a server that there isn't.
+use Rattle.jn_system_reports.proofs.Common.{◌≡◌, ◌≢◌, ◌⊎◌, inl, inr, ℕ, suc, ◌+◌, ◌≤◌, ◌<◌, Bool, true, false, List, [], ◌∷◌, ◌++◌, append_assoc, length, Option, Some, None, refl, sym, ◌∙◌, ap, subst, arith, ◌&&◌, if◌then◌else◌, nat_eq, nat_lt, nat_tests, ServerNo, ClientNo, Tid, WorkId, Op, Answer, Command, Begin, Open, Do, End, Abort, server_eq, client_eq, server_tells, AllFiles, files_after, all_files_after, Message, Outcome, Event, CommandOf, Text, Line, Outstanding, OpenWork, Taken, Sent, ClientTable, Commanded, Refuses, Sends, if_server, if_idle, if_transaction, if_no_transaction, if_open, if_not_open, command_row, is_current, is_end, is_end_or_abort, if_waits, begun_row, opened_row, decided_row, outcome_row, take_row, Performed, Waited, with_asked, answer_in, is_last, fits, fits_asked, answers_command, after_answer, event_at, files_then, ops_of, replay, performed_in, answered, answered_by, owner_after, event_at-next, World, at_client, opening, Step, NextEvent, Tell, Dismiss, after, run, IsRun, commanded, Act, Does, Refused, Tells, Shows, Item, events_of, steps_in, steps_of, after_item, IsUnder, AreUnder, one-client, ClientRow, by_command, by_ignoring, by_answering, by_telling, StepCase, client_row, row_done, row_stopped, gone_late, gone_down, come_up, found_anew, dismissed, quietly, step-case}
+use Rattle.jn_system_reports.proofs.Telling.TransactionLines.{ops_in}
 use Rattle.jn_serial.specs.declared.following.Asked.{Asked}
 use Rattle.jn_msgs.specs.declared.message.Message.TheVariants as messages
 use Rattle.jn_msgs.specs.declared.message.Outcome.TheVariants as outcomes
@@ -7,7 +8,7 @@ use Rattle.jn_report.specs.declared.line.Refusal.TheVariants as refusals
 use Rattle.jn_report.specs.declared.line.Text.TheVariants as says
 use Rattle.jn_rows.specs.declared.client.Taken.TheVariants as taken
 use Rattle.jn_rows.specs.Client.{work_at}
-use Rattle.jn_serial.specs.declared.following.Addressed.{Addressed}
+use Rattle.jn_report.specs.declared.kinds.Addressed.{Addressed}
 use Rattle.jn_system_reports.proofs.Reporting.Lists.{Each, each-append}
 use Rattle.jn_system_reports.proofs.Reporting.Reached.{Reached, next-reached}
 use Rattle.jn_system_reports.proofs.Reporting.Fitting.{asked_of, Fit, left}
@@ -156,7 +157,7 @@ module _ (servers : ℕ) where
   -- ---- what is answered is an operation at one of them
 
   module _ (events : List Event) where
-    -- an operation that is told under this event is at a server that there is
+    -- an operation that is reported under this event is at a server that there is
     abbrev IsFor : ℕ → Type 0
     IsFor j = (c : ClientNo) (s : ServerNo) (op : Op) → event_at events j ≡ Some (CommandOf c (Do s op)) → s.0 < servers
 

@@ -1,5 +1,6 @@
 -- The commits of the lines are those of the machine, with what its works did.
-use Rattle.jn_system_reports.proofs.Common.{◌≡◌, ◌⊎◌, inl, inr, ℕ, Bool, true, false, List, [], ◌∷◌, ◌++◌, Option, Some, None, refl, sym, ◌∙◌, ap, subst, arith, fun_ext, ◌||◌, list_any, All-nil, ServerNo, LockUnit, Tid, WorkId, tid_eq, tid_tells, AllFiles, change, Event, Line, Pick, stable, history_of, Performed, files_then, GivesAnswers, ops_of, replay-lines, AgreesFrom, Answered, effects, Agrees, Machine, Commit, IsSerial, Atom, trace_of, run_atoms, opening_world, MayRun, Invariant, has_committed, HasTraces, InOrder, not_both, false_unless, run_kept, opening_kept, run_grows, Text, IsTold, run_told, opening_told, in_order, World, commits_in, opening, Step, IsStep, after, LockFacts, ServerFact, locks-keep, opening-keeps, Mirrors, commits_of, run-append, may-append, committed-any, opening-mirrors, IsDone, Facts, opening-facts, ops_in, at_place, AreAsTold}
+use Rattle.jn_system_reports.proofs.Common.{◌≡◌, ◌⊎◌, inl, inr, ℕ, Bool, true, false, List, [], ◌∷◌, ◌++◌, Option, Some, None, refl, sym, ◌∙◌, ap, subst, arith, fun_ext, ◌||◌, list_any, All-nil, ServerNo, LockUnit, Tid, WorkId, tid_eq, tid_tells, AllFiles, change, Event, Line, Pick, stable, history_of, Performed, files_then, GivesAnswers, ops_of, replay-lines, AgreesFrom, Answered, effects, Agrees, Machine, Commit, IsSerial, Atom, trace_of, run_atoms, opening_world, MayRun, Invariant, has_committed, HasTraces, InOrder, not_both, false_unless, run_kept, opening_kept, run_grows, Text, IsTold, run_told, opening_told, in_order, World, commits_in, opening, Step, IsStep, after, LockFacts, ServerFact, locks-keep, opening-keeps, Mirrors, commits_of, run-append, may-append, committed-any, opening-mirrors, IsDone, Facts, opening-facts, at_place, AreAsTold}
+use Rattle.jn_system_reports.proofs.Telling.TransactionLines.{ops_in}
 use Rattle.jn_system.specs.SmallSteps.World.{replay}
 use Rattle.jn_system_order.proofs.Ordering.Unlocked.{writes-nothing}
 use Rattle.jn_system_reports.proofs.Telling.Tellings.{SaysAs, as-itself, all-answers}
@@ -27,7 +28,7 @@ opening-talk events servers files epochs = record {
 
 -- ---- every run
 
--- The machine stands where the whole system does, and the talk holds. What was ended before is told nothing more than by the
+-- The machine stands where the whole system does, and the talk holds. Of what was ended before nothing is reported but by the
 -- lines before.
 pub record Stands (events : List Event) (files : AllFiles) (epochs : ServerNo → ℕ) (ended : Tid → Bool) (before : List Text) (r : World) : Type 0 where
   pub atoms : List Atom
@@ -71,7 +72,7 @@ stands-from events files epochs ended before r h = record { atoms = h.atoms; may
 
 -- ---- commits
 
--- each commit of a history does what its transaction was told at each server
+-- each commit of a history does what was reported of its transaction at each server
 abbrev pub AreTold : (Tid → ServerNo → List Answered) → List Commit → Type 0
 AreTold told [] = Unit {0}
 AreTold told (c ∷ history) = ((s : ServerNo) → SaysAs (told c.tid s) (c.traces s)) × AreTold told history
@@ -110,7 +111,7 @@ module _ (events : List Event) (lines : List Line) where
   replay-last files [] T = refl
   replay-last files (t ∷ ts) T = replay-last (files_then (ops_of events lines t) files) ts T
 
-  -- where a commit more does what was told, the lines still agree, and give the same files
+  -- where a commit more does what was reported, the lines still agree, and give the same files
   told-last : (files : AllFiles) (c : Commit) (history : List Commit) → ((s : ServerNo) → SaysAs (at_place s (ops_of events lines c.tid)) (c.traces s)) → ((s : ServerNo) → Agrees (replay files history s) (c.traces s))
       → AgreesFrom files events lines (commits_of history) × (replay-lines files events lines (commits_of history) ≡ replay files history)
       → AgreesFrom files events lines (commits_of (c ∷ history)) × (replay-lines files events lines (commits_of (c ∷ history)) ≡ replay files (c ∷ history))
@@ -132,7 +133,7 @@ module _ (events : List Event) (lines : List Line) where
 
 -- ---- the commits agree with the lines
 
--- these lines tell of each transaction that was ended what the world's do
+-- these lines report of each transaction that was ended what the world's do
 pub record SaySo (events : List Event) (lines so_far : List Line) (r : World) (ended : Tid → Bool) : Type 0 where
   pub ops : (T : Tid) → ended T ≡ true → ops_of events lines T ≡ ops_in events T None r.lines
   pub commits : history_of so_far ≡ commits_in r.lines

@@ -1,5 +1,5 @@
 -- What any steps of the machine leave of a work: what it did grows at its end, and where it doesn't go on it stays as it is.
-use Rattle.jn_system_reports.proofs.Common.{◌≡◌, ◌≢◌, ◌⊎◌, inl, inr, Bool, true, false, List, [], ◌∷◌, ◌++◌, append-nil, Option, Some, None, if◌then◌else◌, refl, sym, ◌∙◌, ap, subst, ServerNo, WorkId, server_eq, work_eq, server_tells, work_tells, StableState, Prepared, Pick, Change, AddReady, MarkGoing, CarryOut, RemoveWork, AddFlag, DropFlag, at_work, gone_on, ready_work, made_by, Working, Answered, Invariant, NamesFact, Atom, Perform, Lose, Prepare, NoteReady, Make, Decide, RaiseEpoch, server_of, changed, with_epoch, MayMake, May, MayRun, not_both, at_work_other, at_work_cases, none_some, some_of, fresh_work, grows, step_kept, Narrow, Crash, Restart}
+use Rattle.jn_system_reports.proofs.Common.{◌≡◌, ◌≢◌, ◌⊎◌, inl, inr, Bool, true, false, List, [], ◌∷◌, ◌++◌, append-nil, Option, Some, None, if◌then◌else◌, refl, sym, ◌∙◌, ap, subst, ServerNo, WorkId, server_eq, work_eq, server_tells, work_tells, StableState, Prepared, Pick, Change, AddReady, MarkGoing, CarryOut, RemoveWork, AddFlag, DropFlag, at_work, gone_on, ready_work, made_by, Working, Answered, Invariant, NamesFact, Atom, Perform, Lose, Prepare, NoteReady, Make, Decide, RaiseEpoch, server_of, changed, with_epoch, MayMake, May, MayRun, not_both, at_work_other, at_work_cases, none_some, some_of, fresh_work, grows, step_kept, Narrow, Crash, Restart, CarryPart, carried_at}
 use Rattle.jn_system.specs.SmallSteps.World.{World}
 use Rattle.jn_system.specs.SmallSteps.Steps.{Open, after, run}
 
@@ -172,6 +172,14 @@ one-back (NoteReady V) w W may names opened (inr (inr h)) = by (at_work_cases w.
 one-back (Make done step) w W may names opened (inl h) = inl h
 one-back (Make done step) w W may names opened (inr (inr h)) = inr (inr h)
 one-back (Make done step) w W may names opened (inr (inl h)) = found-back w W (put-back w (server_of step) done (made_by step) W ⊥ (λ c p k. inl (make-back w W (w.found (server_of step) c) step p (may c) k)) h.pick h.work h.is)
+one-back (CarryPart V i is) w W may names opened (inl h) = inl h
+one-back (CarryPart V i is) w W may names opened (inr (inr h)) = inr (inr h)
+one-back (CarryPart V i is) w W may names opened (inr (inl h)) = inr (inl (by (server_tells V.server W.server) h.is))
+  where
+    by : ((server_eq V.server W.server ≡ true) × (V.server ≡ W.server)) ⊎ ((server_eq V.server W.server ≡ false) × (V.server ≢ W.server))
+        → (if server_eq V.server W.server then carried_at (is h.pick) i (w.found V.server h.pick) else w.found W.server h.pick).works W ≡ Some h.work → IsStored w W
+    by (inl t) k = record { pick = h.pick; work = h.work; is = subst (λ (z : ServerNo). (w.found z h.pick).works W ≡ Some h.work) t.1 (subst (λ (b : Bool). (if b then carried_at (is h.pick) i (w.found V.server h.pick) else w.found W.server h.pick).works W ≡ Some h.work) t.0 k) }
+    by (inr t) k = record { pick = h.pick; work = h.work; is = subst (λ (b : Bool). (if b then carried_at (is h.pick) i (w.found V.server h.pick) else w.found W.server h.pick).works W ≡ Some h.work) t.0 k }
 one-back (Decide flag) w W may names opened (inl h) = inl h
 one-back (Decide flag) w W may names opened (inr (inr h)) = inr (inr h)
 one-back (Decide flag) w W may names opened (inr (inl h)) = found-back w W (put-back w flag.tid.server (λ c. true) (made_by (AddFlag flag)) W ⊥ (λ c p k. inl (p, k)) h.pick h.work h.is)

@@ -1,5 +1,6 @@
 -- A client takes a message.
-use Rattle.jn_system_reports.proofs.Common.{◌≡◌, ◌≢◌, ◌⊎◌, inl, inr, ◌<◌, ◌≤◌, ℕ, ◌+◌, Bool, true, false, List, [], ◌∷◌, ◌++◌, append-nil, Option, Some, None, refl, sym, ◌∙◌, ap, subst, arith, if◌then◌else◌, ◌||◌, ◌&&◌, All, slice_get, nat_tests, All-nil, ServerNo, ClientNo, Tid, WorkId, Client, Server, Op, Answer, Command, Begin, Open, Do, End, Abort, server_eq, client_eq, tid_eq, work_eq, server_tells, client_tells, tid_tells, Event, CommandOf, Message, Outcome, Text, ActiveWork, OpenWork, Outstanding, Taken, Sent, ClientTable, open_at, is_begin, is_operation, is_end_or_abort, opens, is_current, is_tid, if_waits, idle, over, begun_row, opened_row, answer_line, decided_row, outcome_row, take_row, event_at, performed_in, answered_by, begins_for, owner_after, is_its_client, work_same, Answered, Machine, Says, IsWorkOf, not_both, false_unless, some_is, none_some, World, at_client, took, taken_by, Mirrors, IsCurrent, found-open, holds-of, Opening, opening_in, openings, Has, is_closing, Facts, all-have-theirs, any-append, ops_in, owner_in, begins_it, is_begun, begun_by, at_place, request_eq, RequestNo, one-client}
+use Rattle.jn_system_reports.proofs.Common.{◌≡◌, ◌≢◌, ◌⊎◌, inl, inr, ◌<◌, ◌≤◌, ℕ, ◌+◌, Bool, true, false, List, [], ◌∷◌, ◌++◌, append-nil, Option, Some, None, refl, sym, ◌∙◌, ap, subst, arith, if◌then◌else◌, ◌||◌, ◌&&◌, All, slice_get, nat_tests, All-nil, ServerNo, ClientNo, Tid, WorkId, Client, Server, Op, Answer, Command, Begin, Open, Do, End, Abort, server_eq, client_eq, tid_eq, work_eq, server_tells, client_tells, tid_tells, Event, CommandOf, Message, Outcome, Text, ActiveWork, OpenWork, Outstanding, Taken, Sent, ClientTable, open_at, is_begin, is_operation, is_end_or_abort, opens, is_current, is_tid, if_waits, idle, over, begun_row, opened_row, answer_line, decided_row, outcome_row, take_row, event_at, performed_in, answered_by, begins_for, owner_after, is_its_client, work_same, Answered, Machine, Says, IsWorkOf, not_both, false_unless, some_is, none_some, World, at_client, took, taken_by, Mirrors, IsCurrent, found-open, holds-of, Opening, opening_in, openings, Has, is_closing, Facts, all-have-theirs, any-append, at_place, request_eq, RequestNo, one-client}
+use Rattle.jn_system_reports.proofs.Telling.TransactionLines.{ops_in, owner_in, begins_it, is_begun, begun_by}
 use Rattle.jn_base.specs.declared.op.Answer.TheVariants as answers
 use Rattle.jn_msgs.specs.declared.message.Message.TheVariants as messages
 use Rattle.jn_msgs.specs.declared.message.Outcome.TheVariants as outcomes
@@ -31,7 +32,7 @@ said-more : (events : List Event) (T : Tid) (s : ServerNo) (lines : List Text) (
 said-more events T s lines line = ap (λ z. at_place s z) (ops-more events T None lines (line ∷ [])) ∙ place-more s (ops_in events T None lines) (answered_by events (owner_in T None lines) line ++ [])
     ∙ ap (λ z. said events T s lines ++ at_place s z) (append-nil (answered_by events (owner_in T None lines) line))
 
--- the line of an answer tells the operation's server its answer, where it counts
+-- the line of an answer reports its answer at the operation's server, where it counts
 module _ (events : List Event) (c : ClientNo) (j : ℕ) (s : ServerNo) (op : Op) (told : event_at events j ≡ Some (CommandOf c (Do s op))) where
   its-answer : (answer : Answer) (x : Answer) (q : ServerNo) → counts op answer ≡ record { op = op; answer = x } ∷ []
       → at_place q (if client_eq c c then performed_in c x (event_at events j) else []) ≡ (if server_eq s q then counts op answer else [])
@@ -57,7 +58,7 @@ module _ (events : List Event) (c : ClientNo) (j : ℕ) (s : ServerNo) (op : Op)
   answer-told (answers.Lost was is) q = nothing q
   answer-told answers.Closing q = nothing q
 
-  -- another client's line tells nothing
+  -- another client's line reports nothing
   pub other-told : (d : ClientNo) (answer : Answer) → c ≢ d → answered_by events (Some d) (answer_line c j answer) ≡ []
   other-told d answer ne = by answer (client-other d c (λ e. ne (sym e)))
     where
@@ -181,7 +182,7 @@ module _ (events : List Event) (r : World) (w : Machine) (mirrors : Mirrors r w)
     its-kept : (a : ActiveWork) → acting r its.work.work ≡ Some a → (a.last ≡ its.work.last) × (a.kept ≡ Some answer)
     its-kept = subst (λ z. IsKept r answer z) its.message kept
 
-    -- what the work has done is told now
+    -- what the work has done is reported now
     hears-now : (a : ActiveWork) (before trace : List Answered) → (a.last ≡ its.work.last) × (a.kept ≡ Some answer) → Hears (Some op) its.work a before trace → Hears None its.work a (before ++ counts op answer) trace
     hears-now a before trace g (inl h) = absurd (off g.0 h.0)
       where
@@ -450,7 +451,7 @@ module _ (events : List Event) (r : World) (w : Machine) (mirrors : Mirrors r w)
           its = one-client (λ d z. z.transaction ≡ Some (w.owner V) → IsOpenAt V (open_at V.server z.works)) r.clients c with-it (λ f. open-more V V.server (g.its c f)) (λ d ne. g.its d);
         }) (λ U e. table-started events r w c with-it [] (says.Opened c o.event W.server ∷ []) opened-draws U (λ d f. sym (told-same-so.by d U) ∙ f) (talk.started U (sym (told-same-so.begun U) ∙ e)))
 
-  -- ---- lines that tell a transaction nothing
+  -- ---- lines that report nothing of a transaction
 
   one-line : (T : Tid) (text : Text) → answered_by events (owner_in T None r.lines) text ≡ [] → ops_in events T None (r.lines ++ text ∷ []) ≡ ops_in events T None r.lines
   one-line T text e = ops-more events T None r.lines (text ∷ []) ∙ ap (λ z. ops_in events T None r.lines ++ (z ++ [])) e ∙ append-nil (ops_in events T None r.lines)
@@ -480,7 +481,7 @@ module _ (events : List Event) (r : World) (w : Machine) (mirrors : Mirrors r w)
 
   -- ---- every message
 
-  -- the talk holds, and a transaction that was ended is told nothing more
+  -- the talk holds, and of a transaction that was ended nothing more is reported
   abbrev pub TakesWell : World → Type 0
   TakesWell r' = Talk events r' w × ((T : Tid) → w.ended T ≡ true → ops_in events T None r'.lines ≡ ops_in events T None r.lines)
 
@@ -508,7 +509,7 @@ module _ (events : List Event) (r : World) (w : Machine) (mirrors : Mirrors r w)
   second-of : (a b : Bool) → (a && b) ≡ true → b ≡ true
   second-of a b h = grind arith
 
-  -- a refusal is told
+  -- a refusal is reported
   refused-talks : (o : Outstanding) (text : Text) → t.outstanding ≡ Some o → is_operation o.command ≡ false → is_end_or_abort o.command ≡ false → IsDumb text → TakeTalks (idle t, taken.Told text None)
   refused-talks o text e none stays dumb = (
     plain-talks events r w c (idle t) [] (text ∷ []) talk tt (dumb, tt) (le t.next, λ p f. absurd (none_some p f)) (λ T f. (f, refl)) (λ p f. absurd (none_some p f))

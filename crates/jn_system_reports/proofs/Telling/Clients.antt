@@ -1,5 +1,6 @@
--- One client changes, and perhaps something is told: what keeps the talk.
-use Rattle.jn_system_reports.proofs.Common.{◌≡◌, ◌≢◌, ◌⊎◌, inl, inr, ◌<◌, ◌≤◌, ℕ, true, false, List, ◌++◌, Option, Some, None, refl, sym, ◌∙◌, ap, subst, arith, fun_ext, All, All-append, ServerNo, ClientNo, Tid, WorkId, Event, Message, Text, OpenWork, Outstanding, Sent, ClientTable, is_begin, open_at, Machine, some_is, none_some, World, at_client, openings, openings-more, Has, has-first, is_closing, owner_in, is_begun, begun_by, RequestNo, one-client, after, Dismiss}
+-- One client changes, and perhaps something is reported: what keeps the talk.
+use Rattle.jn_system_reports.proofs.Common.{◌≡◌, ◌≢◌, ◌⊎◌, inl, inr, ◌<◌, ◌≤◌, ℕ, true, false, List, ◌++◌, Option, Some, None, refl, sym, ◌∙◌, ap, subst, arith, fun_ext, All, All-append, ServerNo, ClientNo, Tid, WorkId, Event, Message, Text, OpenWork, Outstanding, Sent, ClientTable, is_begin, open_at, Machine, some_is, none_some, World, at_client, openings, openings-more, Has, has-first, is_closing, RequestNo, one-client, after, Dismiss}
+use Rattle.jn_system_reports.proofs.Telling.TransactionLines.{owner_in, is_begun, begun_by}
 use Rattle.jn_msgs.specs.declared.message.Message.TheVariants as messages
 use Rattle.jn_system_order.proofs.Ordering.Facts.{opening}
 use Rattle.jn_system_reports.proofs.Telling.Tellings.{SaysAs}

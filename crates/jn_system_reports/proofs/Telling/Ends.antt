@@ -1,4 +1,4 @@
--- A client ends its transaction: what was told is what its works did.
+-- A client ends its transaction: what was reported is what its works did.
 use Rattle.jn_system_reports.proofs.Common.{◌≡◌, ◌≢◌, ◌⊎◌, inl, inr, ◌≤◌, ◌+◌, true, false, List, [], ◌∷◌, Option, Some, None, refl, sym, ◌∙◌, ap, subst, ServerNo, ClientNo, Tid, WorkId, Server, End, Event, Message, ActiveWork, OpenWork, Sent, ClientTable, Sends, names_of, Machine, Invariant, Atom, end_it, MayRun, Says, IsWorkOf, not_both, at_tid_here, at_tid_other, at_tid_cases, World, commanded, Mirrors, AreOpen, IsCurrent, found-open, is_closing, Facts, work_in, parts_of, request_of}
 use Rattle.jn_msgs.specs.declared.message.Message.TheVariants as messages
 use Rattle.jn_rows.specs.Client.{work_at}

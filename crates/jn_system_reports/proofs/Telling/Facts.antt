@@ -1,6 +1,7 @@
 -- What holds of the talk between clients and workers: which operations a client sent, which of them its work has performed,
--- and that the answers told so far are what the work did.
-use Rattle.jn_system_reports.proofs.Common.{◌≡◌, ◌⊎◌, ◌<◌, ◌≤◌, ◌+◌, Bool, true, false, List, [], ◌∷◌, ◌++◌, Option, Some, None, ◌||◌, if◌then◌else◌, All, ServerNo, ClientNo, Tid, WorkId, Op, Answer, Command, Do, work_eq, Event, CommandOf, Message, Text, ActiveWork, OpenWork, Outstanding, Sent, ClientTable, is_begin, open_at, event_at, Answered, Machine, World, openings, Has, is_closing, ops_in, owner_in, is_begun, begun_by, at_place, operation_of, RequestNo}
+-- and that the answers reported so far are what the work did.
+use Rattle.jn_system_reports.proofs.Common.{◌≡◌, ◌⊎◌, ◌<◌, ◌≤◌, ◌+◌, Bool, true, false, List, [], ◌∷◌, ◌++◌, Option, Some, None, ◌||◌, if◌then◌else◌, All, ServerNo, ClientNo, Tid, WorkId, Op, Answer, Command, Do, work_eq, Event, CommandOf, Message, Text, ActiveWork, OpenWork, Outstanding, Sent, ClientTable, is_begin, open_at, event_at, Answered, Machine, World, openings, Has, is_closing, at_place, operation_of, RequestNo}
+use Rattle.jn_system_reports.proofs.Telling.TransactionLines.{ops_in, owner_in, is_begun, begun_by}
 use Rattle.jn_base.specs.declared.op.Answer.TheVariants as answers
 use Rattle.jn_msgs.specs.declared.message.Message.TheVariants as messages
 use Rattle.jn_system_order.proofs.Ordering.Facts.{opening}
@@ -8,7 +9,7 @@ use Rattle.jn_system_reports.proofs.Telling.Tellings.{SaysAs}
 use Rattle.jn_system_reports.proofs.Telling.Atoms.{IsPresent}
 use Rattle.jn_system_reports.proofs.Telling.Acting.{acting, IsSilent}
 
--- what a transaction was told at a server
+-- what was reported of a transaction at a server
 abbrev pub said : List Event → Tid → ServerNo → List Text → List Answered
 said events T s texts = at_place s (ops_in events T None texts)
 
@@ -51,7 +52,7 @@ abbrev pub IsNumbered : OpenWork → Option Outstanding → Sent → Type 0
 IsNumbered v o (to, messages.Op d request W number op) = W ≡ v.work → (number.0 ≤ v.last) × (number.0 ≡ v.last → (p : Op) → op_asked o v.work ≡ Some p → p ≡ op)
 IsNumbered v o sent = Unit {0}
 
--- what was told is what the work did, but for an outstanding operation that it has performed
+-- what was reported is what the work did, but for an outstanding operation that it has performed
 abbrev pub Hears : Option Op → OpenWork → ActiveWork → List Answered → List Answered → Type 0
 Hears None v a told trace = (a.last ≡ v.last) × SaysAs told trace
 Hears (Some op) v a told trace = ((a.last + 1 ≡ v.last) × SaysAs told trace) ⊎ ((a.last ≡ v.last) × ((answer : Answer) × ((a.kept ≡ Some answer) × SaysAs (told ++ counts op answer) trace)))
@@ -107,7 +108,7 @@ pub record IsKnown (r : World) (w : Machine) (W : WorkId) : Type 0 where
   pub begun : is_begun (w.owner W) r.lines ≡ true
   pub its : (c : ClientNo) → (r.clients c).transaction ≡ Some (w.owner W) → IsOpenAt W (open_at W.server (r.clients c).works)
 
--- ---- what was told
+-- ---- what was reported
 
 -- one request of one client began it, before any that is still to begin one
 pub record IsStarted (r : World) (T : Tid) : Type 0 where

@@ -1,6 +1,7 @@
 -- A step keeps the talk in which no client changes and no client is told anything, and in which each work that takes operations does
 -- as much as before, or performs the operation that comes next.
-use Rattle.jn_system_reports.proofs.Common.{◌≡◌, ◌⊎◌, inl, inr, ℕ, ◌+◌, ◌≤◌, ◌<◌, Bool, true, false, List, [], ◌∷◌, ◌++◌, append-nil, Option, Some, None, refl, sym, ◌∙◌, ap, subst, arith, fun_ext, ◌||◌, if◌then◌else◌, All, get_or, slice_get, list_any, All-nil, All-cons, All-append, ServerNo, ClientNo, Tid, WorkId, Party, Command, Begin, Open, Do, End, Abort, Op, Answer, tid_eq, Event, list_change, Message, Text, ActiveWork, OpenWork, Outstanding, Prepared, Pick, Sent, is_end_or_abort, ClientTable, open_at, answered_by, begins_for, owner_after, Answered, effects, Machine, Working, Atom, run_atoms, MayRun, Invariant, Grows, run_grows, run_kept, not_both, false_unless, none_some, some_of, work_same, holds-of, World, commits_in, has_line, Mirrors, IsCurrent, IsOutstanding, found-open, Says, IsPart, openings, openings-more, Has, has-first, is_closing, any-append, ops_in, owner_in, begins_it, is_begun, at_place, begun_by, operation_of, OperationNo, RequestNo}
+use Rattle.jn_system_reports.proofs.Common.{◌≡◌, ◌⊎◌, inl, inr, ℕ, ◌+◌, ◌≤◌, ◌<◌, Bool, true, false, List, [], ◌∷◌, ◌++◌, append-nil, Option, Some, None, refl, sym, ◌∙◌, ap, subst, arith, fun_ext, ◌||◌, if◌then◌else◌, All, get_or, slice_get, list_any, All-nil, All-cons, All-append, ServerNo, ClientNo, Tid, WorkId, Party, Command, Begin, Open, Do, End, Abort, Op, Answer, tid_eq, Event, list_change, Message, Text, ActiveWork, OpenWork, Outstanding, Prepared, Pick, Sent, is_end_or_abort, ClientTable, open_at, answered_by, begins_for, owner_after, Answered, effects, Machine, Working, Atom, run_atoms, MayRun, Invariant, Grows, run_grows, run_kept, not_both, false_unless, none_some, some_of, work_same, holds-of, World, commits_in, has_line, Mirrors, IsCurrent, IsOutstanding, found-open, Says, IsPart, openings, openings-more, Has, has-first, is_closing, any-append, at_place, operation_of, OperationNo, RequestNo}
+use Rattle.jn_system_reports.proofs.Telling.TransactionLines.{ops_in, owner_in, begins_it, is_begun, begun_by}
 use Rattle.jn_msgs.specs.declared.message.Message.TheVariants as messages
 use Rattle.jn_report.specs.declared.line.Refusal.TheVariants as refusals
 use Rattle.jn_report.specs.declared.line.Text.TheVariants as says

@@ -1,5 +1,6 @@
--- What the lines of a run with its schedule tell of a transaction is what the world's lines tell.
-use Rattle.jn_system_reports.proofs.Common.{Bool, true, false, ◌≡◌, ℕ, suc, ◌+◌, List, [], ◌∷◌, ◌++◌, append-nil, append_assoc, length, Option, Some, None, refl, sym, ◌∙◌, ap, subst, arith, map, ◌||◌, ServerNo, ClientNo, Tid, Command, AllFiles, Event, Text, Line, Commanded, Refuses, Sends, command_row, commit_in, history_of, event_at, says_of, begins_for, Follows, event_at-next, ops_of, any-append, AreInTurn, ops-in-turn, run_atoms, opening_world, commits-more, World, opening, committed_in, commits_in, Step, NextEvent, Tell, Dismiss, IsStep, IsRun, after, run, commanded, Printed, FileThere, PageStored, UnitLocked, text_printed, Act, Does, Refused, Tells, Shows, Item, events_of, steps_in, steps_of, world_of, told_by, told_in, told_under, after_item, at_event, IsUnder, AreUnder, IsReported, told_by_steps, ops_in, owner_in, is_begun, begun_by, AreAsTold}
+-- What the lines of a run with its schedule report of a transaction is what the world's lines report.
+use Rattle.jn_system_reports.proofs.Common.{Bool, true, false, ◌≡◌, ℕ, suc, ◌+◌, List, [], ◌∷◌, ◌++◌, append-nil, append_assoc, length, Option, Some, None, refl, sym, ◌∙◌, ap, subst, arith, map, ◌||◌, ServerNo, ClientNo, Tid, Command, AllFiles, Event, Text, Line, Commanded, Refuses, Sends, command_row, commit_in, history_of, event_at, says_of, begins_for, Follows, event_at-next, ops_of, any-append, AreInTurn, ops-in-turn, run_atoms, opening_world, commits-more, World, opening, committed_in, commits_in, Step, NextEvent, Tell, Dismiss, IsStep, IsRun, after, run, commanded, Printed, FileThere, PageStored, UnitLocked, text_printed, Act, Does, Refused, Tells, Shows, Item, events_of, steps_in, steps_of, world_of, told_by, told_in, told_under, after_item, at_event, IsUnder, AreUnder, IsReported, told_by_steps, AreAsTold}
+use Rattle.jn_system_reports.proofs.Telling.TransactionLines.{ops_in, owner_in, is_begun, begun_by}
 use Rattle.jn_schedule.specs.declared.Event.TheVariants as kinds
 use Rattle.jn_report.specs.declared.line.Text.TheVariants as says
 use Rattle.jn_serial.proofs.Beginners.{HasOneClient}
@@ -32,7 +33,7 @@ history-texts : (lines : List Line) → history_of lines ≡ commits_in (texts_o
 history-texts [] = refl
 history-texts (l ∷ lines) = ap (λ z. z ++ history_of lines) (commit-text l.text) ∙ ap (λ z. committed_in l.text ++ z) (history-texts lines)
 
--- these lines tell of each transaction what those do
+-- these lines report of each transaction what those do
 pub record TellSame (events : List Event) (xs ys : List Text) : Type 0 where
   pub ops : (T : Tid) (o : Option ClientNo) → ops_in events T o xs ≡ ops_in events T o ys
   pub owner : (T : Tid) (o : Option ClientNo) → owner_in T o xs ≡ owner_in T o ys
@@ -72,7 +73,7 @@ IsCalm step = Unit {0}
 -- ---- acts
 
 module _ (events : List Event) (files : AllFiles) (epochs : ServerNo → ℕ) (ended : Tid → Bool) (before : List Text) where
-  -- acts, the world after them, and what they tell
+  -- acts, the world after them, and what they report
   record Told (r q : World) (texts : List Text) : Type 0 where
     reached : Reached files epochs q
     stands : Stands events files epochs ended before q
@@ -234,7 +235,7 @@ length-events (item ∷ items) = ap (λ n. suc n) (length-events items)
 none-more : (n : ℕ) → n ≡ 0 + n
 none-more n = omega arith
 
--- and steps after it that are under no event, with lines that tell of no transaction
+-- and steps after it that are under no event, with lines that report nothing of a transaction
 module _ (servers : ℕ) (files : AllFiles) (epochs : ServerNo → ℕ) (items later : List Item) (h : IsReported (items ++ later) (opening servers files epochs))
     (steps : List Step) (i : IsRun steps (world_of (items ++ later) (opening servers files epochs))) (calm : Each IsCalm steps) (more : List Text) (dumb : AreDumb more) (none : commits_in more ≡ []) where
   abbrev start : World
@@ -307,7 +308,7 @@ module _ (servers : ℕ) (files : AllFiles) (epochs : ServerNo → ℕ) (items l
     pub end-as-told : AreAsTold files all lines lines (run steps (world_of (items ++ later) start))
     end-as-told = stands-told all files epochs ended between.lines final lines lines after-all.stands (record { ops = λ T e. end-ops T; commits = history-texts lines ∙ ap commits_in is ∙ same.commits ∙ ap commits_in (sym its-lines) })
 
-    -- of the commits of the beginning the later lines tell nothing more
+    -- of the commits of the beginning the later lines report nothing more
     pub beginning-told : AreAsTold files all lines (lines_of items start) (world_of items start)
     beginning-told = stands-told all files epochs (λ T. false) [] between lines (lines_of items start) first.stands (record {
       ops = λ T e. end-ops T ∙ after-all.stands.kept T e;
@@ -327,7 +328,7 @@ module _ (servers : ℕ) (files : AllFiles) (epochs : ServerNo → ℕ) where
   run-as-told items h = end-as-told servers files epochs [] items h [] tt tt [] tt refl (lines_of items (opening servers files epochs)) (sym (append-nil (texts_of (lines_of items (opening servers files epochs)))))
       (run-in-turn files epochs servers items h) (run-follows files epochs servers items h)
 
-  -- what a transaction did by its commands is what the world's lines tell of it
+  -- what a transaction did by its commands is what the world's lines report of it
   pub run-ops : (items : List Item) → IsReported items (opening servers files epochs) → (T : Tid) → ops_of (events_of items) (lines_of items (opening servers files epochs)) T ≡ ops_in (events_of items) T None (world_of items (opening servers files epochs)).lines
   run-ops items h = end-ops servers files epochs [] items h [] tt tt [] tt refl (lines_of items (opening servers files epochs)) (sym (append-nil (texts_of (lines_of items (opening servers files epochs)))))
       (run-in-turn files epochs servers items h) (run-follows files epochs servers items h)

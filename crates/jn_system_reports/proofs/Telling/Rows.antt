@@ -1,9 +1,8 @@
 -- No row of a server but that of an operation changes what a work did, or sends an operation or an answer.
-use Rattle.jn_system_reports.proofs.Common.{◌≡◌, ◌⊎◌, inl, inr, ℕ, Bool, true, false, not, List, [], ◌∷◌, ◌++◌, Option, Some, None, refl, arith, ◌&&◌, if◌then◌else◌, nat_lt, nat_eq, length, ClientNo, Tid, WorkId, Tickets, Cause, Message, Vote, Transaction, Stage, Ballot, Commitment, StableState, Change, RowOutcome, Sent, WorkerTable, CoordinatorTable, all_in, is_work, besides, drops, commits, prepares, committed_to, commit_row, abort_row, forget_row, after_closing, close_clients_row, begin_again, begin_row, end_promised, end_stage, end_row, abort_stage, abort_request, not_known, told_stage, inquire_row, noted, counted_vote, vote_stage, vote_row, done_stage, done_row, thanks_stage, thanks_row, told_again, coordinator_again, transaction_at, with_work, Memory, storage_of, Room, of_worker, of_coordinator, server_row, server_again, TableFact, Closes, Empty, Remains, Goes, Waits, Forgets, client-closes, outcomes-close, named_by, worker-none, RequestNo, worker_row}
+use Rattle.jn_system_reports.proofs.Common.{◌≡◌, ◌⊎◌, inl, inr, ℕ, Bool, true, false, not, List, [], ◌∷◌, ◌++◌, Option, Some, None, refl, arith, ◌&&◌, if◌then◌else◌, nat_lt, nat_eq, length, ClientNo, Tid, WorkId, Tickets, Cause, Message, Vote, Transaction, Stage, Ballot, Commitment, StableState, Change, RowOutcome, Sent, WorkerTable, CoordinatorTable, all_in, is_work, besides, drops, commits, prepares, committed_to, commit_row, abort_row, forget_row, after_closing, close_clients_row, begin_again, begin_row, end_promised, end_stage, end_row, abort_stage, abort_request, not_known, told_stage, inquire_row, noted, counted_vote, vote_stage, vote_row, done_stage, done_row, thanks_stage, thanks_row, told_again, coordinator_again, transaction_at, with_work, Memory, storage_of, Room, of_worker, of_coordinator, server_row, server_again, TableFact, Closes, Empty, Remains, Goes, Waits, Forgets, client-closes, outcomes-close, named_by, worker-none, RequestNo, worker_row, begun_by}
 use Rattle.jn_msgs.specs.declared.message.Message.TheVariants as messages
 use Rattle.jn_msgs.specs.declared.message.Vote.TheVariants as votes
 use Rattle.jn_rows.specs.declared.coordinator.Stage.TheVariants.{Open, Voting, Committed, Aborted}
-use Rattle.jn_rows.specs.Coordinator.{begun_by}
 use Rattle.jn_system_reports.proofs.Telling.Acting.{TableGoes, table-same, Adds, AreSilent, silent-more, Stays, IsNoOp, worker-stays, works-again}
 
 -- ---- what a coordinator sends

@@ -1,5 +1,6 @@
 -- Every step keeps the talk, whatever steps come one after another.
-use Rattle.jn_system_reports.proofs.Common.{◌≡◌, ℕ, true, List, [], ◌∷◌, ◌++◌, append-nil, Option, Some, None, refl, sym, ◌∙◌, ap, subst, is_some, ServerNo, ClientNo, Tid, Client, Server, Command, Begin, Open, Do, End, Abort, AllFiles, Event, CommandOf, event_at, Message, Refusal, Text, Outstanding, Taken, ClientTable, Commanded, Refuses, Sends, if_idle, if_transaction, names_of, sends, Machine, Invariant, Atom, Ends, run_atoms, opening_world, MayRun, Says, has_committed, run_kept, opening_kept, run_grows, says_still, run_told, opening_told, World, commits_in, Step, Tell, IsStep, after, commanded, took, LockFacts, Mirrors, MovesTo, IsAddressed, IsTrue, is_shown, active_in, next_in, known_in, All-grows, client-still, Takes, takes, quiet-line, stays-with, step-moves, holds-of, Facts, still-facts, is_own, not_both, ops_in, parts_of, end-may, end-mirrors, end-facts, step-facts, ServerFact, work_at, taken_by, request_of}
+use Rattle.jn_system_reports.proofs.Common.{◌≡◌, ℕ, true, List, [], ◌∷◌, ◌++◌, append-nil, Option, Some, None, refl, sym, ◌∙◌, ap, subst, is_some, ServerNo, ClientNo, Tid, Client, Server, Command, Begin, Open, Do, End, Abort, AllFiles, Event, CommandOf, event_at, Message, Refusal, Text, Outstanding, Taken, ClientTable, Commanded, Refuses, Sends, if_idle, if_transaction, names_of, sends, Machine, Invariant, Atom, Ends, run_atoms, opening_world, MayRun, Says, has_committed, run_kept, opening_kept, run_grows, says_still, run_told, opening_told, World, commits_in, Step, Tell, IsStep, after, commanded, took, LockFacts, Mirrors, MovesTo, IsAddressed, IsTrue, is_shown, active_in, next_in, known_in, All-grows, client-still, Takes, takes, quiet-line, stays-with, step-moves, holds-of, Facts, still-facts, is_own, not_both, parts_of, end-may, end-mirrors, end-facts, step-facts, ServerFact, work_at, taken_by, request_of}
+use Rattle.jn_system_reports.proofs.Telling.TransactionLines.{ops_in}
 use Rattle.jn_msgs.specs.declared.message.Message.TheVariants as messages
 use Rattle.jn_report.specs.declared.line.Refusal.TheVariants as refusals
 use Rattle.jn_report.specs.declared.line.Text.TheVariants as says
@@ -26,7 +27,7 @@ pub record Goes (events : List Event) (before : List Text) (r : World) (w : Mach
   pub mirrors : Mirrors r (run_atoms atoms w)
   pub facts : Facts r (run_atoms atoms w)
   pub talk : Talk events r (run_atoms atoms w)
-  -- what was ended is told nothing more
+  -- of what was ended nothing more is reported
   pub kept : (T : Tid) → w.ended T ≡ true → ops_in events T None r.lines ≡ ops_in events T None before
 
 -- ---- a client's step changes no server
@@ -91,7 +92,7 @@ module _ (events : List Event) (files : AllFiles) (epochs : ServerNo → ℕ) (b
       kept = λ T e. s.serves.told.ops events T;
     }
 
-    -- a client's step, after which what is ended was told nothing more
+    -- a client's step, after which nothing more is reported of what is ended
     abbrev TalksOn : World → Machine → Type 0
     TalksOn r' v = Talk events r' v × ((T : Tid) → v.ended T ≡ true → ops_in events T None r'.lines ≡ ops_in events T None r.lines)
 

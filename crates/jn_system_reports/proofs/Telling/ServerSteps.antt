@@ -1,5 +1,5 @@
 -- Each step is quiet, but a client's, and that in which a server takes an operation.
-use Rattle.jn_system_reports.proofs.Common.{◌≡◌, ◌⊎◌, inl, inr, ℕ, ◌+◌, Bool, true, false, List, [], ◌∷◌, ◌++◌, append-nil, Option, Some, None, refl, sym, ◌∙◌, ap, subst, if◌then◌else◌, take, ServerNo, Tid, WorkId, server_eq, Message, Note, Text, Work, Phase, ActiveWork, StableState, Prepared, Pick, Change, stable, made_all, RowOutcome, WorkerTable, work_at, timeout_row, restored_worker, with_epoch, some_is, none_some, World, Memory, at_server, commits_in, has_line, storage_of, of_worker, of_timeout, server_again, line_of, lines_of, named_now, restored, done, LockFacts, ServerFact, UpFact, IsSoundWork, restored-is, named_by, commits-more, lines-commit, step-none, quiet-line, slice_get, Client, Server, ClientNo, Op, Answer, Wanted, Active, Broken, Stored, op_row, granted_row, repeated, op_phase, answer_to, change, list_change, wants_of, is_fit, refusal_of, nat_eq, Step, Command, Commanded, command_row, Tell, Again, Dismiss, commanded, taken_by, again, ClientTable, Taken, take_row, Sent, after, at_client, Sends, Refuses, OperationNo, RequestNo, restart_with, one-server, one-found, ClientRow, by_command, by_ignoring, by_answering, by_telling, ServerRow, of_message, of_work, of_closing, FoundThen, by_narrowing, by_raising, Quiet, event_begins, none_changes, is_refused, client_repeats, server_repeats, is_lost, StepCase, client_row, row_done, row_stopped, gone_late, gone_down, come_up, found_anew, dismissed, quietly, step-case, row-of-step, Asked, Here, asked_for, asked_here}
+use Rattle.jn_system_reports.proofs.Common.{◌≡◌, ◌⊎◌, inl, inr, ℕ, ◌+◌, Bool, true, false, List, [], ◌∷◌, ◌++◌, append-nil, Option, Some, None, refl, sym, ◌∙◌, ap, subst, if◌then◌else◌, take, ServerNo, Tid, WorkId, server_eq, Message, Note, Text, Work, Phase, ActiveWork, StableState, Prepared, Pick, Change, stable, made_all, RowOutcome, WorkerTable, work_at, timeout_row, restored_worker, with_epoch, some_is, none_some, World, Memory, at_server, commits_in, has_line, storage_of, of_worker, of_timeout, server_again, line_of, lines_of, named_now, restored, done, LockFacts, ServerFact, UpFact, IsSoundWork, restored-is, named_by, commits-more, lines-commit, step-none, quiet-line, slice_get, Client, Server, ClientNo, Op, Answer, Wanted, Active, Broken, Stored, op_row, granted_row, repeated, op_phase, answer_to, change, list_change, wants_of, is_fit, refusal_of, nat_eq, Step, Command, Commanded, command_row, Tell, Again, Dismiss, commanded, taken_by, again, ClientTable, Taken, take_row, Sent, after, at_client, Sends, Refuses, OperationNo, RequestNo, restart_with, one-server, one-found, ClientRow, by_command, by_ignoring, by_answering, by_telling, ServerRow, of_message, of_work, of_closing, FoundThen, by_narrowing, by_raising, Quiet, event_begins, none_changes, is_refused, client_repeats, server_repeats, is_lost, StepCase, client_row, row_done, row_stopped, gone_late, gone_down, come_up, found_anew, dismissed, quietly, step-case, row-of-step, Asked, Here, asked_for, asked_here, Left, left_of}
 use Rattle.jn_msgs.specs.declared.message.Message.TheVariants as messages
 use Rattle.jn_msgs.specs.declared.message.Note.TheVariants as notes
 use Rattle.jn_report.specs.declared.line.Text.TheVariants as says
@@ -155,12 +155,15 @@ module _ (r : World) (locks : LockFacts r) where
 
   module _ (s : ServerNo) (m : Memory) (is : r.memory s ≡ Some m) where
     -- what is found after some changes
+    at-back : (W : WorkId) (c : Pick) (p : Prepared) (a : ActiveWork) → acting_at (r.memory s) W ≡ Some a → FoundBack (r.found s c) m.worker W p → a.list ≡ p.list
+    at-back W c p a e (inl k) = absurd (not-stored s W a c k.0 e k.1.0)
+    at-back W c p a e (inr k) = ap (λ (z : ActiveWork). z.list) (some_is a k.0 (sym e ∙ ap (λ z. acting_at z W) is ∙ k.1.0)) ∙ k.1.1
+
     found-made : (changes : Pick → List Change) → ((c : Pick) → Adds m.worker (changes c)) → KeepsFound (λ q c. if server_eq s q then made_all (changes c) (r.found s c) else r.found q c)
-    found-made changes adds = found-at s (λ c. made_all (changes c) (r.found s c)) (λ W c p a e f. at W c p a e (all-back m.worker (changes c) (r.found s c) W p (adds c) f))
-      where
-        at : (W : WorkId) (c : Pick) (p : Prepared) (a : ActiveWork) → acting_at (r.memory s) W ≡ Some a → FoundBack (r.found s c) m.worker W p → a.list ≡ p.list
-        at W c p a e (inl k) = absurd (not-stored s W a c k.0 e k.1.0)
-        at W c p a e (inr k) = ap (λ (z : ActiveWork). z.list) (some_is a k.0 (sym e ∙ ap (λ z. acting_at z W) is ∙ k.1.0)) ∙ k.1.1
+    found-made changes adds = found-at s (λ c. made_all (changes c) (r.found s c)) (λ W c p a e f. at-back W c p a e (all-back m.worker (changes c) (r.found s c) W p (adds c) f))
+
+    found-left : (made : Pick → Left) (changes : List Change) → Adds m.worker changes → KeepsFound (λ q c. if server_eq s q then left_of (made c) changes (r.found s c) else r.found q c)
+    found-left made changes adds = found-at s (λ c. left_of (made c) changes (r.found s c)) (λ W c p a e f. at-back W c p a e (all-back m.worker (take (made c).whole changes) (r.found s c) W p (adds-take m.worker (made c).whole changes adds) f))
 
     pub done-quiet : (k : Option ℕ) (row : RowOutcome Memory) → ServerStays m row → IsQuiet r (done s k row r)
     done-quiet k row h = memory-quiet s (Some m) (Some row.table) is h.table _ _ _ (found-made (λ c. row.changes) (λ c. h.adds)) row.messages refl h.silent (same-told r.lines (lines_of s k row.notes) (lines-dumb s k row.notes)) (by h.quiet)
@@ -180,7 +183,7 @@ module _ (r : World) (locks : LockFacts r) where
         goes None e = (λ W a b e f. same-did (acting_of (work_at W m.worker)) a b e f, λ W b e f. none-new (acting_of (work_at W m.worker)) b e f)
         goes (Some t) e = timeout-stays m.worker m.tickets (stable (r.found s)).works up.table T t e
 
-    row-case : UpFact s m (r.found s) → (stop : Option (Pick → ℕ)) (step : Step) (k : Option ℕ) (row : RowOutcome Memory) → ServerRow r s m stop step k row → RowCase r s m k row
+    row-case : UpFact s m (r.found s) → (stop : Option (Pick → Left)) (step : Step) (k : Option ℕ) (row : RowOutcome Memory) → ServerRow r s m stop step k row → RowCase r s m k row
     row-case up _ _ _ _ (of_message stop k room (messages.Op d request W number op) is) = row_operates k d request W number op is
     row-case up _ _ _ _ (of_message stop k room message is) = row_stays (Some k) _ (row-stays m (stable (r.found s)) room message up.table refl)
     row-case up _ _ _ row (of_work stop room _ is) = row_stays None row (row-of-step (ServerStays m) m (stable (r.found s)) room row is
@@ -238,7 +241,7 @@ module _ (r : World) (locks : LockFacts r) where
   by-case : (step : Step) (now : World) → StepCase r step now → TellCase r step now
   by-case step _ (client_row _ c t sent lines row) = client-tells c step t sent lines row
   by-case step _ (row_done _ s m k row e is) = row-tells s m e step k row (row-case s m e (up-at s m e) None step k row is)
-  by-case step _ (row_stopped _ s m k row made e is) = is_quiet step _ (down-quiet s m e _ (found-made s m e (λ c. take (made c) row.changes) (λ c. adds-take m.worker (made c) row.changes (row-adds s m e k row (row-case s m e (up-at s m e) (Some made) step k row is))))
+  by-case step _ (row_stopped _ s m k row made e is) = is_quiet step _ (down-quiet s m e _ (found-left s m e made row.changes (row-adds s m e k row (row-case s m e (up-at s m e) (Some made) step k row is)))
       (says.Stopped s) (tt, tt) (quiet-line r.lines (says.Stopped s) refl))
   by-case _ _ (gone_late s m T e) = is_quiet _ _ (late-quiet s m e T (up-at s m e) (timeout_row m.worker T) refl)
   by-case _ _ (gone_down s m e) = is_quiet _ _ (down-quiet s m e r.found found-same (says.Down s) (tt, tt) (quiet-line r.lines (says.Down s) refl))

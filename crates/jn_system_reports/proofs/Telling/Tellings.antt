@@ -1,5 +1,6 @@
--- What the lines tell of a transaction, with more lines, and what its operations do at each server.
-use Rattle.jn_system_reports.proofs.Common.{◌≡◌, ◌≢◌, ◌⊎◌, inl, inr, Bool, true, false, List, [], ◌∷◌, ◌++◌, Option, Some, None, refl, sym, ◌∙◌, ap, subst, arith, if◌then◌else◌, map, ◌||◌, ◌&&◌, ServerNo, ClientNo, Tid, server_eq, client_eq, tid_eq, server_tells, Files, AllFiles, change, effect, answer_to, is_did, files_after, all_files_after, nothing, Event, Text, Line, Performed, files_then, GivesAnswers, answered_by, begins_for, owner_after, told_from, Answered, effect_of, effects, Agrees, says_of, ops_in, owner_in, begins_it, is_begun, begun_by, at_place}
+-- What the lines report of a transaction, with more lines, and what its operations do at each server.
+use Rattle.jn_system_reports.proofs.Common.{◌≡◌, ◌≢◌, ◌⊎◌, inl, inr, Bool, true, false, List, [], ◌∷◌, ◌++◌, Option, Some, None, refl, sym, ◌∙◌, ap, subst, arith, if◌then◌else◌, map, ◌||◌, ◌&&◌, ServerNo, ClientNo, Tid, server_eq, client_eq, tid_eq, server_tells, Files, AllFiles, change, effect, answer_to, is_did, files_after, all_files_after, nothing, Event, Text, Line, Performed, files_then, GivesAnswers, answered_by, begins_for, owner_after, told_from, Answered, effect_of, effects, Agrees, says_of, at_place}
+use Rattle.jn_system_reports.proofs.Telling.TransactionLines.{ops_in, owner_in, begins_it, is_begun, begun_by}
 use Rattle.jn_order.specs.Changes.{and_then}
 use Rattle.jn_order.proofs.ChangeLemmas.{change-then, change-nothing, and_then-assoc, nothing-then}
 use Rattle.jn_report.specs.declared.line.Text.TheVariants as says
@@ -65,7 +66,7 @@ place-more s (p ∷ a) b = by (server_eq p.server s) (place-more s a b)
     by true on = ap (λ z. (record { op = p.op; answer = p.answer }) ∷ z) on
     by false on = on
 
--- of a transaction that no client was told of nothing is told
+-- of a transaction that no client was told of nothing is reported
 not-begun-after : (T : Tid) (text : Text) → begins_it T text ≡ false → owner_after T None text ≡ None
 not-begun-after T (says.Begun c event U) h = ap (λ (b : Bool). if b then Some c else None) h
 not-begun-after T _ h = refl
@@ -82,7 +83,7 @@ none-told events T (x ∷ texts) h =
     let e = not-begun-after T x (first-false (begins_it T x) (is_begun T texts) h) in let on = none-told events T texts (second-false (begins_it T x) (is_begun T texts) h) in
     (ap (λ o. ops_in events T o texts) e ∙ on.0, ap (λ o. owner_in T o texts) e ∙ on.1)
 
--- ---- what is told says as much as what was done
+-- ---- what is reported says as much as what was done
 
 -- Operations that change as much as others, and that are answered so by whatever files answer those so.
 pub record SaysAs (told trace : List Answered) : Type 0 where

@@ -1,4 +1,4 @@
--- The answers that the lines tell of works that may yet commit.
+-- The answers that the lines report of works that may yet commit.
 use Rattle.std.specs.Prelude.{◌≡◌, List, Some}
 use Rattle.jn_base.specs.declared.names.OperationNo.{OperationNo}
 use Rattle.jn_base.specs.declared.names.RequestNo.{RequestNo}
@@ -29,7 +29,7 @@ pub record WasAsked (r : World) (W : WorkId) : Type 0 where
   pub op : Op
   pub sent : WasSent r (messages.Op client request W number op)
 
--- the files that the commits of the lines leave at the server answer what the lines tell of the transaction there as they tell it
+-- the files that the commits of the lines leave at the server answer what the lines report of the transaction there as they report it
 abbrev pub StandAt : AllFiles → List Event → List Line → Tid → ServerNo → Type 0
 StandAt files events lines T s = Agrees (replay files events lines (history_of lines) s) (at_place s (ops_of events lines T))
 

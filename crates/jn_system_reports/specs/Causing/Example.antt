@@ -36,6 +36,6 @@ was_lost = record { when = AtEvent 7; text = says.Aborted the_client 5 the_trans
 abbrev pub its_lines : List Line
 its_lines = began ∷ went_down ∷ came_up ∷ was_lost ∷ []
 
--- no run tells these: the server didn't go down
+-- no run reports these: the server didn't go down
 abbrev pub without_a_cause : List Line
 without_a_cause = began ∷ came_up ∷ was_lost ∷ []

@@ -10,6 +10,7 @@ use Rattle.jn_report.specs.declared.line.Line.{Line}
 use Rattle.jn_system.specs.WholeSystem.Steps.{Tell, StopDelivery, Restart as Restarts, Nudge as Nudges}
 use Rattle.jn_system.specs.WholeSystem.Example.{the_server, the_client, the_file, the_transaction, the_work, much, delivered}
 use Rattle.jn_system_reports.specs.Reporting.Reported.{Item, Does}
+use Rattle.jn_rows.specs.Stable.{whole_only}
 
 abbrev pub a_run : List Item
 a_run =
@@ -21,7 +22,7 @@ a_run =
     ∷ record { event = Settle; acts = Does (delivered 4) ∷ Does (delivered 5) ∷ [] }
     ∷ record { event = Arm the_server 9 StopBefore; acts = [] }
     ∷ record { event = Command the_client End; acts = Does (Tell the_client End) ∷ [] }
-    ∷ record { event = Settle; acts = Does (delivered 6) ∷ Does (delivered 7) ∷ Does (StopDelivery 8 much (λ c. if c 3 then 1 else 0)) ∷ [] }
+    ∷ record { event = Settle; acts = Does (delivered 6) ∷ Does (delivered 7) ∷ Does (StopDelivery 8 much (λ c. if c 3 then whole_only 1 else whole_only 0)) ∷ [] }
     ∷ record { event = Restart the_server; acts = Does (Restarts the_server (λ n. true) (the_work ∷ []) (the_transaction ∷ [])) ∷ [] }
     ∷ record { event = Nudge the_server; acts = Does (Nudges the_server) ∷ [] }
     ∷ record { event = Deliver 11; acts = Does (delivered 11) ∷ [] }

@@ -13,7 +13,8 @@ use Rattle.jn_report.specs.declared.line.When.TheVariants.{Event as AtEvent}
 use Rattle.jn_report.specs.declared.line.Text.{Text}
 use Rattle.jn_report.specs.declared.line.Text.TheVariants as says
 use Rattle.jn_report.specs.declared.line.Line.{Line}
-use Rattle.jn_serial.specs.Caused.{is_stop, refuses_event, refuses_fault}
+use Rattle.jn_serial.specs.Caused.{is_stop}
+use Rattle.jn_report.specs.Kinds.{refuses_event, refuses_fault}
 use Rattle.jn_system.specs.WholeSystem.World.{World, at_server}
 use Rattle.jn_system.specs.WholeSystem.Steps.{Step, NextEvent, Tell, Again, Deliver, Work, Nudge, Timeout, StopDelivery, StopWork, Crash, Narrow, StopRestart, Restart, after, run, IsRun}
 use Rattle.jn_system.specs.WholeSystem.Printing.{Printed}
@@ -62,7 +63,7 @@ abbrev pub told_in : List Act → World → List Text
 told_in [] w = []
 told_in (act ∷ acts) w = told_by act w ++ told_in acts (run (step_of act) w)
 
--- what is told under the next event
+-- what is reported under the next event
 abbrev pub told_under : Item → World → List Text
 told_under item w = told_in item.acts (after NextEvent w)
 
@@ -210,7 +211,7 @@ one_less s counts = at_server counts s (counts s - 1)
 abbrev pub armed : ServerNo → FaultKind → Waiting → Waiting
 armed s kind x = record { stops = if is_stop kind then one_more s x.stops else x.stops; faults = one_more s x.faults }
 
--- what waits once an event begins, under which this is told: an arm that isn't refused has its fault wait, and a decay that
+-- what waits once an event begins, under which this is reported: an arm that isn't refused has its fault wait, and a decay that
 -- is refused is a fault of its own event alone
 abbrev pub with_event : Event → List Text → Waiting → Waiting
 with_event (events.Arm s n kind) texts x = if list_any refuses_event texts then x else armed s kind x
@@ -226,7 +227,7 @@ abbrev pub strike_all : List Text → Waiting → Waiting
 strike_all [] x = x
 strike_all (text ∷ texts) x = strike_all texts (strikes text x)
 
--- a server stops, and tells of a fault, only where one waits
+-- a server stops, and reports a fault, only where one waits
 abbrev pub IsStruck : Waiting → Text → Type 0
 IsStruck x (says.Stopped s) = 1 ≤ x.stops s
 IsStruck x (says.Outside s fault) = 1 ≤ x.faults s

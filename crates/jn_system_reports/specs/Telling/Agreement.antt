@@ -1,4 +1,4 @@
--- What the lines of a run tell of its commits: each committed transaction is answered what the commits before it left, and
+-- What the lines of a run report of its commits: each committed transaction is answered what the commits before it left, and
 -- the stable files are as the commits leave them.
 use Rattle.std.specs.Prelude.{◌≡◌, List, Some, None}
 use Rattle.jn_base.specs.declared.names.ServerNo.{ServerNo}
@@ -14,7 +14,7 @@ use Rattle.jn_system.specs.SmallSteps.Held.{file_unit}
 use Rattle.jn_system.specs.WholeSystem.World.{World, Memory}
 use Rattle.jn_system_order.specs.Ordering.Runs.{IsDone}
 
--- of the commits that the lines so far name, and the world after them: the answers and the files are those that all lines tell
+-- of the commits that the lines so far name, and the world after them: the answers and the files are those that all lines report
 pub record AreAsTold (files : AllFiles) (events : List Event) (lines so_far : List Line) (r : World) : Type 0 where
   pub agrees : AgreesFrom files events lines (history_of so_far)
   -- each register of each state that may be found is as the commits leave it, but for what is still to be carried out

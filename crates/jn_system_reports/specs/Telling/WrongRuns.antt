@@ -1,4 +1,4 @@
--- Runs with one wrong row each, after which the lines tell what no order of the commits gives.
+-- Runs with one wrong row each, after which the lines report what no order of the commits gives.
 use Rattle.std.specs.Prelude.{ℕ, List, [], ◌∷◌, ◌++◌, slice_get, Option, Some}
 use Rattle.jn_base.specs.declared.names.ServerNo.{ServerNo}
 use Rattle.jn_base.specs.declared.names.Party.TheVariants.{Client, Server}

@@ -1,5 +1,5 @@
 -- What a settle with all servers up answers.
-use Rattle.jn_system_settling.proofs.Common.{Text, ◌≡◌, inl, inr, ◌≤◌, ◌<◌, ℕ, zero, suc, ◌+◌, Bool, true, false, List, [], ◌∷◌, ◌++◌, Option, Some, None, true≢false, refl, sym, ◌∙◌, ap, subst, arith, if◌then◌else◌, slice_get, nat_eq, nat_lt, ◌&&◌, ◌||◌, length, map, list_any, nat_tests, ServerNo, ClientNo, Tid, WorkId, Client, Command, client_eq, server_eq, tid_eq, client_tells, server_tells, Message, WorkEntry, Taken, Ignored, Outstanding, Pick, stable, Sent, sends_row, work_of, new_work, open_row, ClientTable, command_row, take_row, is_current, is_tid, opens, opened_row, if_waits, outcome_row, is_end_or_abort, over, after_command, World, Memory, servers_from, Room, server_row, Step, Again, Deliver, Nudge, StopDelivery, StopWork, IsStep, after, handed, works, UpFact, ServerFact, of-found, Course, go, go_on, Chance, clients_from, first_busy, handing, working, next_step, onward, until_rest, ask_again, AllFiles, Requested, tid_tells, Outcome, Transaction, Stage, Open, Voting, Committed, Aborted, transaction_at, abort_stage, abort_request, drops, besides, aborted_to, Opening, openings, HasOpening, Reached, next-reached, request_eq, one-client, ClientRow, by_command, by_ignoring, by_answering, by_telling, StepCase, client_row, dismissed, step-case}
+use Rattle.jn_system_settling.proofs.Common.{Text, ◌≡◌, inl, inr, ◌≤◌, ◌<◌, ℕ, zero, suc, ◌+◌, Bool, true, false, List, [], ◌∷◌, ◌++◌, Option, Some, None, true≢false, refl, sym, ◌∙◌, ap, subst, arith, if◌then◌else◌, slice_get, nat_eq, nat_lt, ◌&&◌, ◌||◌, length, map, list_any, nat_tests, ServerNo, ClientNo, Tid, WorkId, Client, Command, client_eq, server_eq, tid_eq, client_tells, server_tells, Message, WorkEntry, Taken, Ignored, Outstanding, Pick, stable, Sent, sends_row, work_of, new_work, open_row, ClientTable, command_row, take_row, is_current, is_tid, opens, opened_row, if_waits, outcome_row, is_end_or_abort, over, after_command, World, Memory, servers_from, Room, server_row, Step, Again, Deliver, Nudge, StopDelivery, StopWork, IsStep, after, handed, works, UpFact, ServerFact, of-found, Course, go, go_on, Chance, clients_from, first_busy, handing, working, next_step, onward, until_rest, ask_again, AllFiles, Requested, tid_tells, Outcome, Transaction, Stage, Open, Voting, Committed, Aborted, transaction_at, abort_stage, abort_request, drops, besides, aborted_to, Opening, openings, HasOpening, Reached, next-reached, request_eq, one-client, ClientRow, by_command, by_ignoring, by_answering, by_telling, StepCase, client_row, dismissed, step-case, Left}
 use Rattle.jn_base.specs.declared.op.Command.TheVariants as commands
 use Rattle.jn_msgs.specs.declared.message.Message.TheVariants as messages
 use Rattle.jn_rows.specs.Worker.{name_from}
@@ -202,7 +202,7 @@ module _ (n : ℕ) (at_most : n ≤ 8) (start : World) (files : AllFiles) (epoch
     rest-keeps zero chances d h = h
     rest-keeps (suc j) chances d h = by d.waiting (first_busy d.world (servers_from 0 n)) (chances 0).stop (rest-keeps j (λ i. chances (i + 1)))
       where
-        by : (waiting : List ℕ) (o : Option ServerNo) (stop : Option (Pick → ℕ)) → ((e : Course) → Good e → Good (until_rest (servers_from 0 n) (λ i. chances (i + 1)) j e))
+        by : (waiting : List ℕ) (o : Option ServerNo) (stop : Option (Pick → Left)) → ((e : Course) → Good e → Good (until_rest (servers_from 0 n) (λ i. chances (i + 1)) j e))
             → Good (onward (next_step (record { room = (chances 0).room; stop = stop }) waiting o) d (until_rest (servers_from 0 n) (λ i. chances (i + 1)) j))
         by (k ∷ ks) o None again = again _ (good d (Deliver k (chances 0).room) h tt)
         by (k ∷ ks) o (Some made) again = again _ (good d (StopDelivery k (chances 0).room made) h tt)
@@ -227,16 +227,16 @@ module _ (n : ℕ) (at_most : n ≤ 8) (start : World) (files : AllFiles) (epoch
     then-still a b (inl e) h = subst (λ (z : ClientTable). IsStill z b) e h
     then-still a b (inr e) h = inr (none-still c a b h e)
 
-    handing-on : (d : Course) (k : ℕ) (room : Room) (stop : Option (Pick → ℕ)) → On d → On (go (handing k room stop) d)
+    handing-on : (d : Course) (k : ℕ) (room : Room) (stop : Option (Pick → Left)) → On d → On (go (handing k room stop) d)
     handing-on d k room stop h = by (slice_get d.world.sent k) refl stop
       where
-        by : (o : Option Sent) → slice_get d.world.sent k ≡ o → (stop : Option (Pick → ℕ)) → On (go (handing k room stop) d)
+        by : (o : Option Sent) → slice_get d.world.sent k ≡ o → (stop : Option (Pick → Left)) → On (go (handing k room stop) d)
         by None e None = subst (λ o. IsStill t ((handed k room None o d.world).clients c)) (sym e) h
         by None e (Some made) = subst (λ o. IsStill t ((handed k room (Some made) o d.world).clients c)) (sym e) h
         by (Some y) e None = subst (λ o. IsStill t ((handed k room None o d.world).clients c)) (sym e) (then-still (d.world.clients c) _ h (handed-still c k room None y d.world))
         by (Some y) e (Some made) = subst (λ o. IsStill t ((handed k room (Some made) o d.world).clients c)) (sym e) (then-still (d.world.clients c) _ h (handed-still c k room (Some made) y d.world))
 
-    working-on : (d : Course) (s : ServerNo) (room : Room) (stop : Option (Pick → ℕ)) → On d → On (go (working s room stop) d)
+    working-on : (d : Course) (s : ServerNo) (room : Room) (stop : Option (Pick → Left)) → On d → On (go (working s room stop) d)
     working-on d s room None h = subst (λ f. IsStill t (f c)) (sym (quiet-clients (Work s room) d.world refl)) h
     working-on d s room (Some made) h = subst (λ f. IsStill t (f c)) (sym (quiet-clients (StopWork s room made) d.world refl)) h
 

@@ -1,5 +1,5 @@
 -- A Begin is answered: its request was not seen before, or the reply to it still waits.
-use Rattle.jn_system_settling.proofs.Common.{Text, Message, ◌≡◌, ◌⊎◌, inl, inr, ◌≤◌, ◌<◌, ℕ, suc, ◌+◌, Bool, true, false, List, [], ◌∷◌, ◌++◌, length, length-append, Option, Some, None, true≢false, refl, sym, ◌∙◌, ap, subst, arith, ◌&&◌, if◌then◌else◌, nat_lt, nat_eq, slice_get, list_any, nat_tests, slice_get_within, ServerNo, ClientNo, Tid, Client, client_eq, AllFiles, Outstanding, Taken, Ignored, Transaction, Open, Pick, stable, RowOutcome, Sent, ignored_row, CoordinatorTable, after_closing, changes_of_closing, begin_new, begin_again, begun_by, seen_now, name_from, ClientTable, take_row, is_begin, if_waits, begun_row, over, World, Memory, Room, server_row, Step, Deliver, StopDelivery, IsStep, after, handed, Course, numbered, without_number, still_waiting, go, RequestNo, request_eq, request_of, one-client, ClientRow, by_command, by_ignoring, by_answering, by_telling, StepCase, client_row, dismissed, step-case, Grows, grows}
+use Rattle.jn_system_settling.proofs.Common.{Text, Message, ◌≡◌, ◌⊎◌, inl, inr, ◌≤◌, ◌<◌, ℕ, suc, ◌+◌, Bool, true, false, List, [], ◌∷◌, ◌++◌, length, length-append, Option, Some, None, true≢false, refl, sym, ◌∙◌, ap, subst, arith, ◌&&◌, if◌then◌else◌, nat_lt, nat_eq, slice_get, list_any, nat_tests, slice_get_within, ServerNo, ClientNo, Tid, Client, client_eq, AllFiles, Outstanding, Taken, Ignored, Transaction, Open, Pick, stable, RowOutcome, Sent, ignored_row, CoordinatorTable, after_closing, changes_of_closing, begin_new, begin_again, begun_by, seen_now, name_from, ClientTable, take_row, is_begin, if_waits, begun_row, over, World, Memory, Room, server_row, Step, Deliver, StopDelivery, IsStep, after, handed, Course, numbered, without_number, still_waiting, go, RequestNo, request_eq, request_of, one-client, ClientRow, by_command, by_ignoring, by_answering, by_telling, StepCase, client_row, dismissed, step-case, Grows, grows, Left}
 use Rattle.jn_msgs.specs.declared.message.Message.TheVariants as messages
 use Rattle.jn_system_settling.proofs.Settling.Burdens.{get-more}
 use Rattle.jn_system_settling.proofs.Settling.Courses.{waiting-is}
@@ -117,7 +117,7 @@ module _ (n : ℕ) (at_most : n ≤ 8) (start : World) (files : AllFiles) (epoch
         same o z = cc
 
     -- a reply that is handed over
-    taken-not : (k : ℕ) (room : Room) (stop : Option (Pick → ℕ)) (c : ClientNo) (q : RequestNo) (a : Option Tid) → slice_get w.sent k ≡ Some (Client c, messages.Begun c q a) → NotWaited ((handed k room stop (slice_get w.sent k) w).clients c) q
+    taken-not : (k : ℕ) (room : Room) (stop : Option (Pick → Left)) (c : ClientNo) (q : RequestNo) (a : Option Tid) → slice_get w.sent k ≡ Some (Client c, messages.Begun c q a) → NotWaited ((handed k room stop (slice_get w.sent k) w).clients c) q
     taken-not k room stop c q a e = subst (λ o. NotWaited ((handed k room stop o w).clients c) q) (sym e) (subst (λ (z : ClientTable). NotWaited z q) (sym (handed-taken c k room stop (messages.Begun c q a) w))
         (subst (λ z. NotWaited (take_row (w.clients c) (messages.Begun z q a)).0 q) (h.talking.talks c).name (begun-taken (w.clients c) q a (subst (λ z. (o : Outstanding) → (w.clients z).outstanding ≡ Some o → o.request ≡ q → is_begin o.command ≡ true) refl past.1))))
       where
@@ -137,7 +137,7 @@ module _ (n : ℕ) (at_most : n ≤ 8) (start : World) (files : AllFiles) (epoch
         left k e = subst (λ ks. list_any (nat_eq k) ks ≡ true) (sym (waiting-is n at_most start d step (grows w step).new (grows w step).sent)) (any-left (nat_eq k) (still_waiting step d.waiting) _ e)
 
         -- one that waited waits on, or is handed over now
-        hands : (k : ℕ) (c : ClientNo) (q : RequestNo) (a : Option Tid) → slice_get w.sent k ≡ Some (Client c, messages.Begun c q a) → list_any (nat_eq k) d.waiting ≡ true → (j : ℕ) (room : Room) (stop : Option (Pick → ℕ)) (b : Bool) → nat_eq k j ≡ b
+        hands : (k : ℕ) (c : ClientNo) (q : RequestNo) (a : Option Tid) → slice_get w.sent k ≡ Some (Client c, messages.Begun c q a) → list_any (nat_eq k) d.waiting ≡ true → (j : ℕ) (room : Room) (stop : Option (Pick → Left)) (b : Bool) → nat_eq k j ≡ b
             → (list_any (nat_eq k) (without_number j d.waiting) ≡ true) ⊎ NotWaited ((handed j room stop (slice_get w.sent j) w).clients c) q
         hands k c q a e waits j room stop false ne = inl (any-without j k d.waiting waits ne)
         hands k c q a e waits j room stop true is = inr (subst (λ i. NotWaited ((handed i room stop (slice_get w.sent i) w).clients c) q) (grind (arith, nat_tests, is)) (taken-not k room stop c q a e))

@@ -1,6 +1,6 @@
 -- A part of a settle at whose end all of so many servers are up: no step of it was stopped, so that it keeps what each message handed over
 -- and each step of a server keeps.
-use Rattle.jn_system_settling.proofs.Common.{length, length-append, append_assoc, ◌≡◌, ◌≢◌, ◌⊎◌, inl, inr, ◌≤◌, ◌<◌, ℕ, zero, suc, ◌+◌, Bool, true, false, List, [], ◌∷◌, ◌++◌, append-nil, Option, Some, None, is_some, true≢false, refl, sym, ◌∙◌, ap, subst, arith, ◌||◌, if◌then◌else◌, slice_get, nat_eq, map, list_any, nat_tests, ServerNo, ClientNo, Client, Server, client_eq, server_eq, client_tells, server_tells, Message, WorkEntry, StableState, Pick, stable, RowOutcome, Sent, going_work, going_row, carried_row, intentions_of, take_row, again_row, World, Memory, servers_from, Room, storage_of, of_worker, of_step, server_row, server_again, Step, Again, Deliver, Nudge, StopDelivery, StopWork, IsStep, after, sent_now, taken_by, done, at_memory, handed, work, works, nudge, Course, numbered, still_waiting, without_number, go, go_on, Chance, is_busy, first_busy, handing, working, next_step, onward, until_rest, ask_again, AreUp}
+use Rattle.jn_system_settling.proofs.Common.{length, length-append, append_assoc, ◌≡◌, ◌≢◌, ◌⊎◌, inl, inr, ◌≤◌, ◌<◌, ℕ, zero, suc, ◌+◌, Bool, true, false, List, [], ◌∷◌, ◌++◌, append-nil, Option, Some, None, is_some, true≢false, refl, sym, ◌∙◌, ap, subst, arith, ◌||◌, if◌then◌else◌, slice_get, nat_eq, map, list_any, nat_tests, ServerNo, ClientNo, Client, Server, client_eq, server_eq, client_tells, server_tells, Message, WorkEntry, StableState, Pick, stable, RowOutcome, Sent, going_work, going_row, carried_row, intentions_of, take_row, again_row, World, Memory, servers_from, Room, storage_of, of_worker, of_step, server_row, server_again, Step, Again, Deliver, Nudge, StopDelivery, StopWork, IsStep, after, sent_now, taken_by, done, at_memory, handed, work, works, nudge, Course, numbered, still_waiting, without_number, go, go_on, Chance, is_busy, first_busy, handing, working, next_step, onward, until_rest, ask_again, AreUp, Left}
 use Rattle.jn_system.specs.WholeSystem.Steps.{Work}
 use Rattle.jn_system_settling.proofs.Settling.Burdens.{are_below, busy-within, busy-is, get-more, get-next}
 use Rattle.jn_system_settling.proofs.Settling.Courses.{Sound, waiting-is}
@@ -201,61 +201,61 @@ module _ (n : ℕ) (at_most : n ≤ 8) (start : World) where
           later : (ℕ → Chance)
           later i = chances (i + 1)
 
-          handing-world : (k : ℕ) (stop : Option (Pick → ℕ)) → after (handing k (chances 0).room stop) d.world ≡ handed k (chances 0).room stop (slice_get d.world.sent k) d.world
+          handing-world : (k : ℕ) (stop : Option (Pick → Left)) → after (handing k (chances 0).room stop) d.world ≡ handed k (chances 0).room stop (slice_get d.world.sent k) d.world
           handing-world k None = refl
           handing-world k (Some made) = refl
 
-          handing-still : (k : ℕ) (stop : Option (Pick → ℕ)) → still_waiting (handing k (chances 0).room stop) d.waiting ≡ without_number k d.waiting
+          handing-still : (k : ℕ) (stop : Option (Pick → Left)) → still_waiting (handing k (chances 0).room stop) d.waiting ≡ without_number k d.waiting
           handing-still k None = refl
           handing-still k (Some made) = refl
 
-          working-still : (s : ServerNo) (stop : Option (Pick → ℕ)) → still_waiting (working s (chances 0).room stop) d.waiting ≡ d.waiting
+          working-still : (s : ServerNo) (stop : Option (Pick → Left)) → still_waiting (working s (chances 0).room stop) d.waiting ≡ d.waiting
           working-still s None = refl
           working-still s (Some made) = refl
 
-          good-hand : (k : ℕ) (stop : Option (Pick → ℕ)) → Good (go (handing k (chances 0).room stop) d)
+          good-hand : (k : ℕ) (stop : Option (Pick → Left)) → Good (go (handing k (chances 0).room stop) d)
           good-hand k None = good d (Deliver k (chances 0).room) h tt
           good-hand k (Some made) = good d (StopDelivery k (chances 0).room made) h tt
 
-          good-work : (s : ServerNo) (stop : Option (Pick → ℕ)) → Good (go (working s (chances 0).room stop) d)
+          good-work : (s : ServerNo) (stop : Option (Pick → Left)) → Good (go (working s (chances 0).room stop) d)
           good-work s None = good d (Work s (chances 0).room) h tt
           good-work s (Some made) = good d (StopWork s (chances 0).room made) h tt
 
           -- it is the first one that waits
-          rest-waits : (k : ℕ) (ks : List ℕ) → d.waiting ≡ k ∷ ks → (stop : Option (Pick → ℕ)) → d.waiting ≡ k ∷ still_waiting (handing k (chances 0).room stop) d.waiting
+          rest-waits : (k : ℕ) (ks : List ℕ) → d.waiting ≡ k ∷ ks → (stop : Option (Pick → Left)) → d.waiting ≡ k ∷ still_waiting (handing k (chances 0).room stop) d.waiting
           rest-waits k ks e stop = e ∙ ap (λ l. k ∷ l) (sym (handing-still k stop ∙ ap (λ l. without_number k l) e ∙ ap (λ (b : Bool). if b then ks else k ∷ without_number k ks) (itself' k)))
             where
               itself' : (k : ℕ) → nat_eq k k ≡ true
               itself' k = grind (arith, nat_tests)
 
-          to-server : (k : ℕ) (ks : List ℕ) (s : ServerNo) (message : Message) → d.waiting ≡ k ∷ ks → slice_get d.world.sent k ≡ Some (Server s, message) → (stop : Option (Pick → ℕ)) → AreUp n (until_rest (servers_from 0 n) (λ i. chances (i + 1)) j (go (handing k (chances 0).room stop) d)).world
+          to-server : (k : ℕ) (ks : List ℕ) (s : ServerNo) (message : Message) → d.waiting ≡ k ∷ ks → slice_get d.world.sent k ≡ Some (Server s, message) → (stop : Option (Pick → Left)) → AreUp n (until_rest (servers_from 0 n) (λ i. chances (i + 1)) j (go (handing k (chances 0).room stop) d)).world
               → P (go (handing k (chances 0).room stop) d)
           to-server k ks s message first is stop up = on (d.world.memory s) refl stop up
             where
               near : s.0 < n
               near = let g = sound d h in to-near n at_most d.world g.sizes g.locks (inside d h) k s message is
 
-              leads : (stop : Option (Pick → ℕ)) (o : Option Memory) → d.world.memory s ≡ o → after (handing k (chances 0).room stop) d.world ≡ at_memory s k (chances 0).room stop message o d.world
+              leads : (stop : Option (Pick → Left)) (o : Option Memory) → d.world.memory s ≡ o → after (handing k (chances 0).room stop) d.world ≡ at_memory s k (chances 0).room stop message o d.world
               leads stop o e = handing-world k stop ∙ ap (λ z. handed k (chances 0).room stop z d.world) is ∙ ap (λ z. at_memory s k (chances 0).room stop message z d.world) e
 
-              on : (o : Option Memory) → d.world.memory s ≡ o → (stop : Option (Pick → ℕ)) → AreUp n (until_rest (servers_from 0 n) (λ i. chances (i + 1)) j (go (handing k (chances 0).room stop) d)).world → P (go (handing k (chances 0).room stop) d)
+              on : (o : Option Memory) → d.world.memory s ≡ o → (stop : Option (Pick → Left)) → AreUp n (until_rest (servers_from 0 n) (λ i. chances (i + 1)) j (go (handing k (chances 0).room stop) d)).world → P (go (handing k (chances 0).room stop) d)
               on None e stop up = absurd (never-down j (λ i. chances (i + 1)) (go (handing k (chances 0).room stop) d) up s near (ap (λ (z : World). z.memory s) (leads stop None e) ∙ e))
               on (Some m) e (Some made) up = absurd (never-down j (λ i. chances (i + 1)) (go (handing k (chances 0).room (Some made)) d) up s near (ap (λ (z : World). z.memory s) (leads (Some made) (Some m) e) ∙ ap (λ (b : Bool). if b then None else d.world.memory s) (itself s)))
               on (Some m) e None up = to_server d _ k (chances 0).room s message m h is e (hand-comes d (Deliver k (chances 0).room) k (Server s, message) _ (sound d h) refl is (leads None (Some m) e)) (rest-waits k ks first None) p
 
-          hand : (k : ℕ) (ks : List ℕ) (x : Sent) → d.waiting ≡ k ∷ ks → slice_get d.world.sent k ≡ Some x → (stop : Option (Pick → ℕ)) → AreUp n (until_rest (servers_from 0 n) (λ i. chances (i + 1)) j (go (handing k (chances 0).room stop) d)).world → P (go (handing k (chances 0).room stop) d)
+          hand : (k : ℕ) (ks : List ℕ) (x : Sent) → d.waiting ≡ k ∷ ks → slice_get d.world.sent k ≡ Some x → (stop : Option (Pick → Left)) → AreUp n (until_rest (servers_from 0 n) (λ i. chances (i + 1)) j (go (handing k (chances 0).room stop) d)).world → P (go (handing k (chances 0).room stop) d)
           hand k ks (Client c, message) first is stop up = to_client d _ k c message h is (hand-comes d (handing k (chances 0).room stop) k (Client c, message) _ (sound d h) (handing-still k stop) is
               (handing-world k stop ∙ ap (λ z. handed k (chances 0).room stop z d.world) is)) (rest-waits k ks first stop) p
           hand k ks (Server s, message) first is stop up = to-server k ks s message first is stop up
 
-          work-on : (s : ServerNo) → first_busy d.world (servers_from 0 n) ≡ Some s → d.waiting ≡ [] → (stop : Option (Pick → ℕ)) → AreUp n (until_rest (servers_from 0 n) (λ i. chances (i + 1)) j (go (working s (chances 0).room stop) d)).world → P (go (working s (chances 0).room stop) d)
+          work-on : (s : ServerNo) → first_busy d.world (servers_from 0 n) ≡ Some s → d.waiting ≡ [] → (stop : Option (Pick → Left)) → AreUp n (until_rest (servers_from 0 n) (λ i. chances (i + 1)) j (go (working s (chances 0).room stop) d)).world → P (go (working s (chances 0).room stop) d)
           work-on s busy none stop up = on (d.world.memory s) refl (busy-is d.world n 0 s busy)
             where
               on : (o : Option Memory) → d.world.memory s ≡ o → is_busy (stable (d.world.found s)) o ≡ true → P (go (working s (chances 0).room stop) d)
               on None e b = absurd (true≢false (sym b))
               on (Some m) e b = entry (going_work (stable (d.world.found s)) m.worker) refl b stop up
                 where
-                  entry : (o : Option WorkEntry) → going_work (stable (d.world.found s)) m.worker ≡ o → is_some o ≡ true → (stop : Option (Pick → ℕ)) → AreUp n (until_rest (servers_from 0 n) (λ i. chances (i + 1)) j (go (working s (chances 0).room stop) d)).world → P (go (working s (chances 0).room stop) d)
+                  entry : (o : Option WorkEntry) → going_work (stable (d.world.found s)) m.worker ≡ o → is_some o ≡ true → (stop : Option (Pick → Left)) → AreUp n (until_rest (servers_from 0 n) (λ i. chances (i + 1)) j (go (working s (chances 0).room stop) d)).world → P (go (working s (chances 0).room stop) d)
                   entry None f c stop up = absurd (true≢false (sym c))
                   entry (Some v) f c (Some made) up = absurd (never-down j (λ i. chances (i + 1)) (go (working s (chances 0).room (Some made)) d) up s (let near = busy-within d.world n 0 s busy in omega (arith, near))
                       (ap (λ (z : World). z.memory s) (ap (λ z. work s (chances 0).room (Some made) z d.world) e ∙ ap (λ z. works s (Some made) (of_step m (going_row m.worker (storage_of m (stable (d.world.found s)) (chances 0).room) m.tickets z)) d.world) f) ∙ ap (λ (b : Bool). if b then None else d.world.memory s) (itself s)))

@@ -1,4 +1,4 @@
--- A settle with these servers up leaves a live work only of a transaction that is undecided or was told, or that it opened; and so
+-- A settle with these servers up leaves a live work only of a transaction that is undecided or was reported, or that it opened; and so
 -- it settles.
 use Rattle.jn_system_settling.proofs.Common.{◌≡◌, ◌≢◌, ◌⊎◌, inl, inr, ◌≤◌, ◌<◌, ℕ, Bool, true, false, List, [], ◌∷◌, length, Option, Some, None, is_some, true≢false, refl, sym, ◌∙◌, ap, subst, arith, ◌&&◌, ◌||◌, if◌then◌else◌, nat_eq, list_any, ServerNo, ClientNo, Tid, WorkId, Server, Command, Begin, OpenAt, Do, End, Abort, client_eq, tid_eq, work_eq, client_tells, tid_tells, work_tells, AllFiles, Outstanding, Work, StableState, stable, is_going, Sent, WorkerTable, work_at, worker_again, coordinator_again, ClientTable, is_tid, is_current, is_end_or_abort, sent_again, again_row, World, Memory, opening, servers_from, sent_now, is_closing, Course, Chance, clients_from, until_rest, IsAtRest, get-in, AreUp, entry_in, live_at, holds_undecided, tells_outcome, told_since, AreDecided, IsSettled, LeavesBetween, some-memory}
 use Rattle.jn_msgs.specs.declared.message.Message.TheVariants as messages

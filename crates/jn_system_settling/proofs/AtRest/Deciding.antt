@@ -1,4 +1,4 @@
--- What becomes in a settle of a work that asks for its outcome: it goes, or its transaction stays undecided or is told.
+-- What becomes in a settle of a work that asks for its outcome: it goes, or its transaction stays undecided or is reported.
 use Rattle.jn_system_settling.proofs.Common.{length, length-append, ◌≡◌, ◌≢◌, ◌⊎◌, inl, inr, ◌≤◌, ◌<◌, ℕ, Bool, true, false, List, [], ◌∷◌, ◌++◌, Option, Some, None, is_some, true≢false, refl, sym, ◌∙◌, ap, subst, arith, ◌&&◌, ◌||◌, not, if◌then◌else◌, slice_get, nat_eq, drop, list_any, nat_tests, ServerNo, ClientNo, Tid, WorkId, Cause, Client, Server, client_eq, server_eq, tid_eq, work_eq, client_tells, server_tells, tid_tells, work_tells, AllFiles, Intention, Message, Note, Text, Taken, Work, Transaction, Stage, Open, Voting, Committed, Aborted, StableState, stable, is_going, made_all, RowOutcome, Sent, WorkerTable, work_at, without, carried_row, intentions_of, CoordinatorTable, transaction_at, is_work, coordinator_row, inquire_row, told_stage, commits, dropped, ClientTable, take_row, at-less, Says, IsWorkOf, Knows, not_both, World, Memory, opening, has_line, commits_in, at_client, Room, server_row, of_worker, of_coordinator, line_of, lines_of, took, taken_by, done, IsTrue, knowledge_in, Course, In, in-first, get-in, Reached, named-is, in-all, is_undecided, is_held, holds_undecided, tells_outcome, some-memory, row-either}
 use Rattle.jn_msgs.specs.declared.message.Message.TheVariants as messages
 use Rattle.jn_msgs.specs.declared.message.Note.TheVariants as notes
@@ -249,12 +249,12 @@ module _ (n : ℕ) (at_most : n ≤ 8) (files : AllFiles) (epochs : ServerNo →
       clients-are : now.world.clients ≡ at_client d.world.clients e (take_row (d.world.clients e) message).0
       clients-are = ap (λ (z : World). z.clients) comes.world ∙ took-clients e k (take_row (d.world.clients e) message).0 (take_row (d.world.clients e) message).1 d.world
 
-      -- the line that it tells
+      -- the line that it reports
       told-line : (long : before ≤ length d.world.lines) (line : Text) (answer : Option Sent) → (take_row (d.world.clients e) message).1 ≡ taken.Told line answer → tells_outcome T line ≡ true → IsTold now.world
       told-line long line answer q h = subst (λ l. list_any (tells_outcome T) (drop before l) ≡ true) (sym (ap (λ (z : World). z.lines) comes.world ∙ ap (λ (z : Taken). (took e k (take_row (d.world.clients e) message).0 z d.world).lines) q))
           (any-drop-new (tells_outcome T) before d.world.lines (line ∷ []) long (grind (arith, h)))
 
-      -- a client in the transaction stays in it, or it is told, or has committed
+      -- a client in the transaction stays in it, or it is reported, or has committed
       in-on : before ≤ length d.world.lines → (c : ClientNo) → IsIn T (d.world.clients c) → IsTold now.world ⊎ (IsIn T (now.world.clients c) ⊎ ((c ≡ e) × (message ≡ messages.Outcome e T outcomes.Committed)))
       in-on long c i = by (client_tells e c)
         where

@@ -54,7 +54,7 @@ took-longer c k t taken.Ignored w = record { more = says.Ignored k ∷ []; is = 
 took-longer c k t (taken.Send to message) w = record { more = []; is = sym (append-nil w.lines) }
 took-longer c k t (taken.Told line answer) w = record { more = line ∷ []; is = refl }
 
--- what was told after so many lines stays told, and what is new is told after them
+-- what was reported after so many lines stays reported, and what is new is reported after them
 pub any-drop-more : (f : Text → Bool) (k : ℕ) (a b : List Text) → list_any f (drop k a) ≡ true → list_any f (drop k (a ++ b)) ≡ true
 any-drop-more f zero a b h = any-left f a b h
 any-drop-more f (suc k) [] b h = absurd (true≢false (sym h))

@@ -1,4 +1,4 @@
--- Each end that a settle with these servers up leaves was told to wait.
+-- Each end that a settle with these servers up leaves was reported to wait.
 use Rattle.jn_system_settling.proofs.Common.{◌≡◌, ◌⊎◌, inl, inr, ◌≤◌, ℕ, true, length, length-append, Option, Some, None, is_some, true≢false, refl, sym, ◌∙◌, ap, subst, arith, list_any, ServerNo, Tid, Server, Command, End, AllFiles, stable, Sent, ClientTable, sent_again, take_row, World, Memory, opening, new_memory, servers_from, server_row, lines_of, Course, Chance, clients_from, until_rest, IsAtRest, Reached, AreUp, tells_waiting, told_since, EndsWait, some-memory}
 use Rattle.jn_system_settling.proofs.Settling.Courses.{Sound}
 use Rattle.jn_system_settling.proofs.AtRest.Talk.{FitsCommand}

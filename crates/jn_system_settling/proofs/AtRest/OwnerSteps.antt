@@ -1,5 +1,5 @@
 -- Each step of the whole system keeps each transaction with the client that began it.
-use Rattle.jn_system_settling.proofs.Common.{◌≡◌, ◌≤◌, ℕ, true, List, [], ◌∷◌, ◌++◌, take, Option, Some, None, true≢false, refl, sym, subst, ServerNo, Message, StableState, Pick, Change, AddReady, MarkGoing, CarryOut, RemoveWork, AddFlag, DropFlag, stable, made_all, RowOutcome, Sent, WorkerTable, work_of, timed_out, with_epoch, World, Memory, Room, storage_of, server_row, of_worker, of_timeout, server_timeout, restored, Step, IsStep, after, UpFact, ServerFact, LockFacts, Opening, openings, openings-more, Sizes, outcomes-close, ServerRow, of_message, of_work, of_closing, StepCase, client_row, row_done, row_stopped, gone_late, gone_down, come_up, found_anew, dismissed, quietly, step-case, memory-now, memory-gone, found-now, found-then, row-either, row-of-step, grows}
+use Rattle.jn_system_settling.proofs.Common.{◌≡◌, ◌≤◌, ℕ, true, List, [], ◌∷◌, ◌++◌, Option, Some, None, true≢false, refl, sym, subst, ServerNo, Message, StableState, Pick, Change, AddReady, MarkGoing, CarryOut, RemoveWork, AddFlag, DropFlag, stable, made_all, RowOutcome, Sent, WorkerTable, work_of, timed_out, with_epoch, World, Memory, Room, storage_of, server_row, of_worker, of_timeout, server_timeout, restored, Step, IsStep, after, UpFact, ServerFact, LockFacts, Opening, openings, openings-more, Sizes, outcomes-close, ServerRow, of_message, of_work, of_closing, StepCase, client_row, row_done, row_stopped, gone_late, gone_down, come_up, found_anew, dismissed, quietly, step-case, memory-now, memory-gone, found-now, found-then, row-either, row-of-step, grows, Left, left_of}
 use Rattle.jn_system_settling.proofs.Settling.WorkerFits.{keep_flags, worker-fits, step-fits}
 use Rattle.jn_system_settling.proofs.Settling.WorldSizes.{up-sizes}
 use Rattle.jn_system_settling.proofs.AtRest.Owners.{Owner, owner_in, owner-more, all_owned, FlagsOwned, flags_owned, grown, coordinator-owned, coordinator-flags, prefix-owned, all-changed-owned, restored-owned, closes-owned, closes-flags-owned}
@@ -52,7 +52,7 @@ module _ (n : ℕ) (at_most : n ≤ 8) (w : World) (sizes : Sizes n w) (locks : 
       fact : UpFact s m (w.found s)
       fact = subst (λ o. ServerFact s o (w.found s)) up (locks s)
 
-  row-of : (s : ServerNo) (m : Memory) (stop : Option (Pick → ℕ)) (step : Step) (k : Option ℕ) (row : RowOutcome Memory) → w.memory s ≡ Some m → ServerRow w s m stop step k row → MemoryOwned os row
+  row-of : (s : ServerNo) (m : Memory) (stop : Option (Pick → Left)) (step : Step) (k : Option ℕ) (row : RowOutcome Memory) → w.memory s ≡ Some m → ServerRow w s m stop step k row → MemoryOwned os row
   row-of s m _ _ _ _ up (of_message stop k room message is) = row-owned s m room message up
   row-of s m _ _ _ _ up (of_work stop room row is) = row-of-step (MemoryOwned os) m (stable (w.found s)) room row is
       (λ r e. let sizes = up-sizes n at_most w sizes locks s m up in let fits = step-fits (storage_of m (stable (w.found s)) room) m.tickets m.worker r sizes.works e in at-worker s m r up fits.flags)
@@ -93,7 +93,7 @@ module _ (n : ℕ) (at_most : n ≤ 8) (w : World) (sizes : Sizes n w) (locks : 
       now c T f at = subst (λ l. owner_in l f.client T ≡ true) (sym more) (owner-more os _ f.client T (all-changed-owned (owner_in os) row.changes (w.found s c) r.flags ((owned s).flags c) T f at))
   by-case step _ old (row_stopped _ s m k row made e is) = let r = row-of s m (Some made) step k row e is in λ q. record {
     table = memory-gone (TableOwned w.sent) w.memory (λ q. (owned q).table) s q;
-    flags = found-now (StateOwned w.sent) w (λ q. (owned q).flags) s (λ c. made_all (take (made c) row.changes) (w.found s c)) (λ c. prefix-owned (owner_in os) row.changes (made c) (w.found s c) r.flags ((owned s).flags c)) q;
+    flags = found-now (StateOwned w.sent) w (λ q. (owned q).flags) s (λ c. left_of (made c) row.changes (w.found s c)) (λ c. prefix-owned (owner_in os) row.changes (made c).whole (w.found s c) r.flags ((owned s).flags c)) q;
   }
   by-case _ _ old (gone_late s m T e) = λ q. record { table = memory-now (TableOwned w.sent) w.memory (λ q. (owned q).table) s (server_timeout m T) (same (timed_out m.worker (work_of T m.worker))) q; flags = (owned q).flags }
     where

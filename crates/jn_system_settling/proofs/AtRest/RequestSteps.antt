@@ -1,5 +1,5 @@
 -- Each step of the whole system keeps what is said of clients' requests.
-use Rattle.jn_system_settling.proofs.Common.{◌≡◌, ◌≢◌, ◌⊎◌, inl, inr, ◌≤◌, ℕ, zero, suc, ◌+◌, Bool, true, false, List, [], ◌∷◌, ◌++◌, take, Option, Some, None, true≢false, append-nil, refl, sym, ◌∙◌, ap, subst, arith, ◌&&◌, if◌then◌else◌, nat_lt, slice_get, nat_tests, ServerNo, ClientNo, Tid, Party, Server, Command, client_eq, client_tells, Message, AllFiles, OpenWork, Outstanding, Taken, Transaction, StableState, FlagState, Pick, stable, made_all, RowOutcome, Sent, WorkerTable, work_of, timed_out, transaction_at, coordinator_row, close_clients_row, seen_in_flags, seen_in_flag, ClientTable, if_server, if_idle, if_transaction, if_no_transaction, if_open, if_not_open, with_operation, names_of, sends_command, Commanded, Refuses, Sends, command_row, take_row, again_row, sent_again, is_begin, over, with_epoch, World, Memory, at_client, Room, storage_of, server_row, server_again, of_coordinator, of_timeout, server_timeout, restored, Step, Tell, after, works, commanded, sent_now, UpFact, ServerFact, Opening, openings, openings-more, HasOpening, Course, go, request_of, operation_of, Text, ClientRow, by_command, by_ignoring, by_answering, by_telling, ServerRow, of_message, of_work, of_closing, Quiet, event_begins, none_changes, is_refused, client_repeats, server_repeats, is_lost, StepCase, client_row, row_done, row_stopped, gone_late, gone_down, come_up, found_anew, dismissed, quietly, step-case, memory-now, memory-gone, found-now, found-then, one-client, row-either, row-of-step}
+use Rattle.jn_system_settling.proofs.Common.{◌≡◌, ◌≢◌, ◌⊎◌, inl, inr, ◌≤◌, ℕ, zero, suc, ◌+◌, Bool, true, false, List, [], ◌∷◌, ◌++◌, Option, Some, None, true≢false, append-nil, refl, sym, ◌∙◌, ap, subst, arith, ◌&&◌, if◌then◌else◌, nat_lt, slice_get, nat_tests, ServerNo, ClientNo, Tid, Party, Server, Command, client_eq, client_tells, Message, AllFiles, OpenWork, Outstanding, Taken, Transaction, StableState, FlagState, Pick, stable, made_all, RowOutcome, Sent, WorkerTable, work_of, timed_out, transaction_at, coordinator_row, close_clients_row, seen_in_flags, seen_in_flag, ClientTable, if_server, if_idle, if_transaction, if_no_transaction, if_open, if_not_open, with_operation, names_of, sends_command, Commanded, Refuses, Sends, command_row, take_row, again_row, sent_again, is_begin, over, with_epoch, World, Memory, at_client, Room, storage_of, server_row, server_again, of_coordinator, of_timeout, server_timeout, restored, Step, Tell, after, works, commanded, sent_now, UpFact, ServerFact, Opening, openings, openings-more, HasOpening, Course, go, request_of, operation_of, Text, ClientRow, by_command, by_ignoring, by_answering, by_telling, ServerRow, of_message, of_work, of_closing, Quiet, event_begins, none_changes, is_refused, client_repeats, server_repeats, is_lost, StepCase, client_row, row_done, row_stopped, gone_late, gone_down, come_up, found_anew, dismissed, quietly, step-case, memory-now, memory-gone, found-now, found-then, one-client, row-either, row-of-step, Left, left_of}
 use Rattle.jn_base.specs.declared.op.Command.TheVariants as commands
 use Rattle.jn_msgs.specs.declared.message.Message.TheVariants as messages
 use Rattle.jn_report.specs.declared.line.Refusal.TheVariants as refusals
@@ -219,7 +219,7 @@ module _ (n : ℕ) (at_most : n ≤ 8) (start : World) (files : AllFiles) (epoch
             begun (messages.Begin c q) e fits = begin-requests w.clients w.sent m mine seen c q fits m.tickets
             begun _ e fits = absurd (true≢false (sym e))
 
-    row-of : (s : ServerNo) (m : Memory) (stop : Option (Pick → ℕ)) (step : Step) (k : Option ℕ) (row : RowOutcome Memory) → w.memory s ≡ Some m → ServerRow w s m stop step k row → RowRequests w.clients w.sent row
+    row-of : (s : ServerNo) (m : Memory) (stop : Option (Pick → Left)) (step : Step) (k : Option ℕ) (row : RowOutcome Memory) → w.memory s ≡ Some m → ServerRow w s m stop step k row → RowRequests w.clients w.sent row
     row-of s m _ _ _ _ up (of_message stop k room message is) = row-requests s m room message up (r.sent (Server s, message) (has-at w.sent k (Server s, message) is))
     row-of s m _ _ _ _ up (of_work stop room row is) = row-of-step (RowRequests w.clients w.sent) m (stable (w.found s)) room row is
         (λ z k. let sizes = up-sizes n at_most w h.sound.sizes h.sound.locks s m up in let few = step-fits (storage_of m (stable (w.found s)) room) m.tickets m.worker z sizes.works k in
@@ -348,7 +348,7 @@ module _ (n : ℕ) (at_most : n ≤ 8) (start : World) (files : AllFiles) (epoch
       draws = r.draws;
       sent = r.sent;
       servers = λ q. server-fits _ _ _ (memory-gone (Fits w.sent) w.memory old s q)
-          (found-now StateFits w old-states s (λ c. made_all (take (made c) row.changes) (w.found s c)) (λ c. prefix-of (Past false w.clients) row.changes (made c) (w.found s c) rr.flags (old-states s c)) q);
+          (found-now StateFits w old-states s (λ c. left_of (made c) row.changes (w.found s c)) (λ c. prefix-of (Past false w.clients) row.changes (made c).whole (w.found s c) rr.flags (old-states s c)) q);
     }
     by-case _ _ (gone_late s m T e) = record { draws = r.draws; sent = r.sent; servers = λ q. server-fits _ _ _ (memory-now (Fits w.sent) w.memory old s (server_timeout m T) (kept (timed_out m.worker (work_of T m.worker))) q) (old-states q) }
       where

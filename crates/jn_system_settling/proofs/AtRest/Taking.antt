@@ -180,7 +180,7 @@ module _ (T : Tid) (t : ClientTable) (i : IsIn T t) where
       by (inr p) = same_table (ap (λ (b : Bool). (if◌then◌else◌ {A = ClientTable × Taken} b (outcome_row t U outcome) (t, taken.Ignored)).0) p.0)
   take-in m = same_table refl
 
-  -- its abort is told
+  -- its abort is reported
   pub take-aborts : (c : ClientNo) (cause : Cause) → t.client ≡ c → (line : Text) × (answer : Option Sent) × ((take_row t (messages.Outcome c T (outcomes.Aborted cause))).1 ≡ taken.Told line answer) × (tells_outcome T line ≡ true)
   take-aborts c cause name = (
     _,

@@ -1,6 +1,6 @@
 -- A run has a twin in which each command comes in an event of its own: it differs in the numbers of events and in its lines
 -- alone, so that what holds of every run with a schedule holds of every run.
-use Rattle.jn_system_settling.proofs.Common.{◌≡◌, ℕ, ◌+◌, Bool, true, false, List, [], ◌∷◌, ◌++◌, length, append_assoc, Option, Some, None, refl, sym, ◌∙◌, ap, subst, arith, if◌then◌else◌, nat_lt, slice_get, ClientNo, ServerNo, Tid, WorkId, Client, Server, Command, client_eq, tid_eq, work_eq, work_before, Message, Outcome, AllFiles, OpenWork, Outstanding, Taken, StableState, Pick, stable, RowOutcome, Sent, close_clients_row, ClientTable, Commanded, Refuses, Sends, command_row, take_row, sent_again, if_waits, if_idle, if_transaction, if_no_transaction, if_open, if_not_open, is_current, begun_row, opened_row, outcome_row, World, Memory, at_client, opening, Room, of_coordinator, server_row, server_step, Step, NextEvent, Tell, Again, Deliver, Nudge, Timeout, StopDelivery, StopWork, Crash, Narrow, StopRestart, Restart, Dismiss, CloseClients, AreNames, tid_before, IsStep, IsRun, after, run, commanded, sent_now, took, ends, at_memory, handed, work, works, nudge, timeout, crash, narrow, stop_restart, restart, close_clients, Reached, next-reached, opening-reached, fun_ext}
+use Rattle.jn_system_settling.proofs.Common.{◌≡◌, ℕ, ◌+◌, Bool, true, false, List, [], ◌∷◌, ◌++◌, length, append_assoc, Option, Some, None, refl, sym, ◌∙◌, ap, subst, arith, if◌then◌else◌, nat_lt, slice_get, ClientNo, ServerNo, Tid, WorkId, Client, Server, Command, client_eq, tid_eq, work_eq, work_before, Message, Outcome, AllFiles, OpenWork, Outstanding, Taken, StableState, Pick, stable, RowOutcome, Sent, close_clients_row, ClientTable, Commanded, Refuses, Sends, command_row, take_row, sent_again, if_waits, if_idle, if_transaction, if_no_transaction, if_open, if_not_open, is_current, begun_row, opened_row, outcome_row, World, Memory, at_client, opening, Room, of_coordinator, server_row, server_step, Step, NextEvent, Tell, Again, Deliver, Nudge, Timeout, StopDelivery, StopWork, Crash, Narrow, StopRestart, Restart, Dismiss, CloseClients, AreNames, tid_before, IsStep, IsRun, after, run, commanded, sent_now, took, ends, at_memory, handed, work, works, nudge, timeout, crash, narrow, stop_restart, restart, close_clients, Reached, next-reached, opening-reached, fun_ext, Left}
 use Rattle.jn_base.specs.declared.op.Command.TheVariants as commands
 use Rattle.jn_msgs.specs.declared.message.Message.TheVariants as messages
 use Rattle.jn_msgs.specs.declared.message.Outcome.TheVariants as outcomes
@@ -158,23 +158,23 @@ module _ (w : World) where
       by None = refl
       by (Some o) = refl
 
-  ends-alike : (s : ServerNo) (k : Option ℕ) (stop : Option (Pick → ℕ)) (row : RowOutcome Memory) → Alike (ends s k stop row w) (ends s k stop row (plain w))
+  ends-alike : (s : ServerNo) (k : Option ℕ) (stop : Option (Pick → Left)) (row : RowOutcome Memory) → Alike (ends s k stop row w) (ends s k stop row (plain w))
   ends-alike s k None row = record { memory = refl; found = refl; sent = refl; clients = λ d. twice (w.clients d) }
   ends-alike s k (Some made) row = record { memory = refl; found = refl; sent = refl; clients = λ d. twice (w.clients d) }
 
   same-alike : Alike w (plain w)
   same-alike = record { memory = refl; found = refl; sent = refl; clients = λ d. twice (w.clients d) }
 
-  memory-alike : (s : ServerNo) (k : ℕ) (room : Room) (stop : Option (Pick → ℕ)) (message : Message) (o : Option Memory) → Alike (at_memory s k room stop message o w) (at_memory s k room stop message o (plain w))
+  memory-alike : (s : ServerNo) (k : ℕ) (room : Room) (stop : Option (Pick → Left)) (message : Message) (o : Option Memory) → Alike (at_memory s k room stop message o w) (at_memory s k room stop message o (plain w))
   memory-alike s k room stop message None = record { memory = refl; found = refl; sent = refl; clients = λ d. twice (w.clients d) }
   memory-alike s k room stop message (Some m) = ends-alike s (Some k) stop (server_row m (stable (w.found s)) room message)
 
-  handed-alike : (k : ℕ) (room : Room) (stop : Option (Pick → ℕ)) (o : Option Sent) → Alike (handed k room stop o w) (handed k room stop o (plain w))
+  handed-alike : (k : ℕ) (room : Room) (stop : Option (Pick → Left)) (o : Option Sent) → Alike (handed k room stop o w) (handed k room stop o (plain w))
   handed-alike k room stop None = same-alike
   handed-alike k room stop (Some (Client c, message)) = took-alike c k (take_row (w.clients c) message) (take_row (plain_client (w.clients c)) message) (take-same (w.clients c) message)
   handed-alike k room stop (Some (Server s, message)) = memory-alike s k room stop message (w.memory s)
 
-  work-alike : (s : ServerNo) (room : Room) (stop : Option (Pick → ℕ)) (o : Option Memory) → Alike (work s room stop o w) (work s room stop o (plain w))
+  work-alike : (s : ServerNo) (room : Room) (stop : Option (Pick → Left)) (o : Option Memory) → Alike (work s room stop o w) (work s room stop o (plain w))
   work-alike s room stop None = same-alike
   work-alike s room stop (Some m) = by (server_step m (stable (w.found s)) room)
     where

@@ -1,5 +1,5 @@
 -- What a client waits for when a settle asks again is on its way until it is answered: its message waits, or a reply to it.
-use Rattle.jn_system_settling.proofs.Common.{Text, at_server, server_timeout, ◌≡◌, ◌≢◌, ◌⊎◌, inl, inr, ◌≤◌, ◌<◌, ℕ, zero, suc, ◌+◌, Bool, true, false, List, [], ◌∷◌, ◌++◌, length, length-append, Option, Some, None, is_some, true≢false, append_assoc, refl, sym, ◌∙◌, ap, subst, arith, if◌then◌else◌, slice_get, nat_eq, map, list_any, nat_tests, ServerNo, ClientNo, Party, Client, Server, server_eq, client_eq, client_tells, Message, Taken, Pick, stable, Sent, ClientTable, take_row, again_row, World, Memory, at_client, servers_from, Room, server_row, Step, Tell, Again, Deliver, Nudge, StopDelivery, StopWork, Restart, Dismiss, IsStep, after, at_memory, handed, took, taken_by, sent_now, Course, numbered, still_waiting, without_number, go, go_on, Chance, first_busy, handing, working, next_step, onward, until_rest, ask_again, one-server, one-client, ClientRow, by_command, by_ignoring, by_answering, by_telling, StepCase, client_row, row_done, row_stopped, gone_late, gone_down, come_up, dismissed, step-case, Grows, grows}
+use Rattle.jn_system_settling.proofs.Common.{Text, at_server, server_timeout, ◌≡◌, ◌≢◌, ◌⊎◌, inl, inr, ◌≤◌, ◌<◌, ℕ, zero, suc, ◌+◌, Bool, true, false, List, [], ◌∷◌, ◌++◌, length, length-append, Option, Some, None, is_some, true≢false, append_assoc, refl, sym, ◌∙◌, ap, subst, arith, if◌then◌else◌, slice_get, nat_eq, map, list_any, nat_tests, ServerNo, ClientNo, Party, Client, Server, server_eq, client_eq, client_tells, Message, Taken, Pick, stable, Sent, ClientTable, take_row, again_row, World, Memory, at_client, servers_from, Room, server_row, Step, Tell, Again, Deliver, Nudge, StopDelivery, StopWork, Restart, Dismiss, IsStep, after, at_memory, handed, took, taken_by, sent_now, Course, numbered, still_waiting, without_number, go, go_on, Chance, first_busy, handing, working, next_step, onward, until_rest, ask_again, one-server, one-client, ClientRow, by_command, by_ignoring, by_answering, by_telling, StepCase, client_row, row_done, row_stopped, gone_late, gone_down, come_up, dismissed, step-case, Grows, grows, Left}
 use Rattle.jn_rows.specs.declared.client.Taken.TheVariants as taken
 use Rattle.jn_system.specs.WholeSystem.Steps.{Work}
 use Rattle.jn_system_settling.proofs.Settling.Burdens.{are_below, get-more, get-next}
@@ -69,7 +69,7 @@ took-clients c k t taken.Ignored w = refl
 took-clients c k t (taken.Send to message) w = refl
 took-clients c k t (taken.Told line answer) w = refl
 
-pub memory-clients : (s : ServerNo) (k : ℕ) (room : Room) (stop : Option (Pick → ℕ)) (message : Message) (o : Option Memory) (w : World) → (at_memory s k room stop message o w).clients ≡ w.clients
+pub memory-clients : (s : ServerNo) (k : ℕ) (room : Room) (stop : Option (Pick → Left)) (message : Message) (o : Option Memory) (w : World) → (at_memory s k room stop message o w).clients ≡ w.clients
 memory-clients s k room stop message None w = refl
 memory-clients s k room None message (Some m) w = refl
 memory-clients s k room (Some made) message (Some m) w = refl
@@ -85,7 +85,7 @@ is_quiet step = true
 pub quiet-clients : (step : Step) (w : World) → is_quiet step ≡ true → (after step w).clients ≡ w.clients
 quiet-clients step w q = by step (after step w) (step-case w step) q
   where
-    hands : (k : ℕ) (room : Room) (stop : Option (Pick → ℕ)) → is_quiet (handing k room stop) ≡ false
+    hands : (k : ℕ) (room : Room) (stop : Option (Pick → Left)) → is_quiet (handing k room stop) ≡ false
     hands k room None = refl
     hands k room (Some made) = refl
 
@@ -105,7 +105,7 @@ pub taken-still : (c d : ClientNo) (k : ℕ) (message : Message) (w : World) →
 taken-still c d k message w = subst (λ f. IsStill (w.clients c) (f c)) (sym (took-clients d k (take_row (w.clients d) message).0 (take_row (w.clients d) message).1 w))
     (one-client (λ e z. IsStill (w.clients e) z) w.clients d (take_row (w.clients d) message).0 (take-still (w.clients d) message) (λ e other. inl refl) c)
 
-pub handed-still : (c : ClientNo) (k : ℕ) (room : Room) (stop : Option (Pick → ℕ)) (y : Sent) (w : World) → IsStill (w.clients c) ((handed k room stop (Some y) w).clients c)
+pub handed-still : (c : ClientNo) (k : ℕ) (room : Room) (stop : Option (Pick → Left)) (y : Sent) (w : World) → IsStill (w.clients c) ((handed k room stop (Some y) w).clients c)
 handed-still c k room stop (Client d, message) w = taken-still c d k message w
 handed-still c k room stop (Server s, message) w = subst (λ f. IsStill (w.clients c) (f c)) (sym (memory-clients s k room stop message (w.memory s) w)) (inl refl)
 
@@ -116,7 +116,7 @@ taken-taken c k message w = ap (λ f. f c) (took-clients c k (take_row (w.client
     itself : client_eq c c ≡ true
     itself = grind (arith, nat_tests)
 
-pub handed-taken : (c : ClientNo) (k : ℕ) (room : Room) (stop : Option (Pick → ℕ)) (message : Message) (w : World) → (handed k room stop (Some (Client c, message)) w).clients c ≡ (take_row (w.clients c) message).0
+pub handed-taken : (c : ClientNo) (k : ℕ) (room : Room) (stop : Option (Pick → Left)) (message : Message) (w : World) → (handed k room stop (Some (Client c, message)) w).clients c ≡ (take_row (w.clients c) message).0
 handed-taken c k room stop message w = taken-taken c k message w
 
 pub took-memory : (c : ClientNo) (k : ℕ) (t : ClientTable) (r : Taken) (w : World) → (took c k t r w).memory ≡ w.memory
@@ -150,13 +150,13 @@ pub rest-down : (n : ℕ) (q : ServerNo) (j : ℕ) (chances : ℕ → Chance) (d
 rest-down n q zero chances d down = down
 rest-down n q (suc j) chances d down = by d.waiting (first_busy d.world (servers_from 0 n)) (chances 0).stop (λ e. rest-down n q j (λ i. chances (i + 1)) e)
   where
-    on : (o : Option ServerNo) (stop : Option (Pick → ℕ)) → ((e : Course) → e.world.memory q ≡ None → (until_rest (servers_from 0 n) (λ i. chances (i + 1)) j e).world.memory q ≡ None)
+    on : (o : Option ServerNo) (stop : Option (Pick → Left)) → ((e : Course) → e.world.memory q ≡ None → (until_rest (servers_from 0 n) (λ i. chances (i + 1)) j e).world.memory q ≡ None)
         → (onward (next_step (record { room = (chances 0).room; stop = stop }) [] o) d (until_rest (servers_from 0 n) (λ i. chances (i + 1)) j)).world.memory q ≡ None
     on None stop again = down
     on (Some s) None again = again (go (working s (chances 0).room None) d) (down-still q (Work s (chances 0).room) d.world refl down)
     on (Some s) (Some made) again = again (go (working s (chances 0).room (Some made)) d) (down-still q (StopWork s (chances 0).room made) d.world refl down)
 
-    by : (waiting : List ℕ) (o : Option ServerNo) (stop : Option (Pick → ℕ)) → ((e : Course) → e.world.memory q ≡ None → (until_rest (servers_from 0 n) (λ i. chances (i + 1)) j e).world.memory q ≡ None)
+    by : (waiting : List ℕ) (o : Option ServerNo) (stop : Option (Pick → Left)) → ((e : Course) → e.world.memory q ≡ None → (until_rest (servers_from 0 n) (λ i. chances (i + 1)) j e).world.memory q ≡ None)
         → (onward (next_step (record { room = (chances 0).room; stop = stop }) waiting o) d (until_rest (servers_from 0 n) (λ i. chances (i + 1)) j)).world.memory q ≡ None
     by [] o stop again = on o stop again
     by (k ∷ ks) o None again = again (go (handing k (chances 0).room None) d) (down-still q (Deliver k (chances 0).room) d.world refl down)
@@ -214,14 +214,14 @@ module _ (n : ℕ) (at_most : n ≤ 8) (start : World) (c : ClientNo) (t : Clien
       → is_some ((go (handing k chance.room chance.stop) d).world.memory s) ≡ true → (go (handing k chance.room chance.stop) d).world.clients c ≡ t → It (go (handing k chance.room chance.stop) d)
   reaches chance d h same k is up still = by (d.world.memory s) refl chance.stop up still
     where
-      world : (stop : Option (Pick → ℕ)) → (after (handing k chance.room stop) d.world) ≡ at_memory s k chance.room stop message (d.world.memory s) d.world
+      world : (stop : Option (Pick → Left)) → (after (handing k chance.room stop) d.world) ≡ at_memory s k chance.room stop message (d.world.memory s) d.world
       world None = ap (λ o. handed k chance.room None o d.world) is
       world (Some made) = ap (λ o. handed k chance.room (Some made) o d.world) is
 
       itself : server_eq s s ≡ true
       itself = grind (arith, nat_tests)
 
-      by : (o : Option Memory) → d.world.memory s ≡ o → (stop : Option (Pick → ℕ)) → is_some ((go (handing k chance.room stop) d).world.memory s) ≡ true → (go (handing k chance.room stop) d).world.clients c ≡ t → It (go (handing k chance.room stop) d)
+      by : (o : Option Memory) → d.world.memory s ≡ o → (stop : Option (Pick → Left)) → is_some ((go (handing k chance.room stop) d).world.memory s) ≡ true → (go (handing k chance.room stop) d).world.clients c ≡ t → It (go (handing k chance.room stop) d)
       by None e stop up still = absurd (true≢false (sym up ∙ ap (λ (w : World). is_some (w.memory s)) (world stop ∙ ap (λ o. at_memory s k chance.room stop message o d.world) e) ∙ ap is_some e))
       by (Some m) e (Some made) up still = absurd (true≢false (sym up ∙ ap (λ (w : World). is_some (w.memory s)) (world (Some made) ∙ ap (λ o. at_memory s k chance.room (Some made) message o d.world) e) ∙ ap (λ (b : Bool). is_some (if b then None else d.world.memory s)) itself))
       by (Some m) e None up still = replied (replies d m chance.room h same e)
@@ -242,11 +242,11 @@ module _ (n : ℕ) (at_most : n ≤ 8) (start : World) (c : ClientNo) (t : Clien
       there : k < length d.world.sent
       there = let below = subst (λ l. are_below (length d.world.sent) l ≡ true) waits (sound d h).below in grind (arith, nat_tests, below)
 
-      still : (stop : Option (Pick → ℕ)) (y : Sent) → slice_get d.world.sent k ≡ Some y → IsStill (d.world.clients c) ((go (handing k chance.room stop) d).world.clients c)
+      still : (stop : Option (Pick → Left)) (y : Sent) → slice_get d.world.sent k ≡ Some y → IsStill (d.world.clients c) ((go (handing k chance.room stop) d).world.clients c)
       still None y e = subst (λ o. IsStill (d.world.clients c) ((handed k chance.room None o d.world).clients c)) (sym e) (handed-still c k chance.room None y d.world)
       still (Some made) y e = subst (λ o. IsStill (d.world.clients c) ((handed k chance.room (Some made) o d.world).clients c)) (sym e) (handed-still c k chance.room (Some made) y d.world)
 
-      takes : (stop : Option (Pick → ℕ)) (r : Message) → slice_get d.world.sent k ≡ Some (Client c, r) → ((go (handing k chance.room stop) d).world.clients c) ≡ (take_row (d.world.clients c) r).0
+      takes : (stop : Option (Pick → Left)) (r : Message) → slice_get d.world.sent k ≡ Some (Client c, r) → ((go (handing k chance.room stop) d).world.clients c) ≡ (take_row (d.world.clients c) r).0
       takes None r e = ap (λ o. (handed k chance.room None o d.world).clients c) e ∙ handed-taken c k chance.room None r d.world
       takes (Some made) r e = ap (λ o. (handed k chance.room (Some made) o d.world).clients c) e ∙ handed-taken c k chance.room (Some made) r d.world
 
@@ -257,7 +257,7 @@ module _ (n : ℕ) (at_most : n ≤ 8) (start : World) (c : ClientNo) (t : Clien
           left : list_any (nat_eq w.number) (without_number k d.waiting) ≡ true
           left = subst (λ l. list_any (nat_eq w.number) (without_number k l) ≡ true) (sym waits) (let old = subst (λ l. list_any (nat_eq w.number) l ≡ true) waits w.waits in grind (arith, nat_tests, old, ne))
 
-          kept : (stop : Option (Pick → ℕ)) → list_any (nat_eq w.number) (still_waiting (handing k chance.room stop) d.waiting) ≡ true
+          kept : (stop : Option (Pick → Left)) → list_any (nat_eq w.number) (still_waiting (handing k chance.room stop) d.waiting) ≡ true
           kept None = left
           kept (Some made) = left
 
@@ -301,21 +301,21 @@ module _ (n : ℕ) (at_most : n ≤ 8) (start : World) (c : ClientNo) (t : Clien
   handing-good : (chance : Chance) (d : Course) (k : ℕ) → Good d → Good (go (handing k chance.room chance.stop) d)
   handing-good chance d k h = by chance.stop
     where
-      by : (stop : Option (Pick → ℕ)) → Good (go (handing k chance.room stop) d)
+      by : (stop : Option (Pick → Left)) → Good (go (handing k chance.room stop) d)
       by None = good d (Deliver k chance.room) h tt
       by (Some made) = good d (StopDelivery k chance.room made) h tt
 
   working-good : (chance : Chance) (d : Course) (q : ServerNo) → Good d → Good (go (working q chance.room chance.stop) d)
   working-good chance d q h = by chance.stop
     where
-      by : (stop : Option (Pick → ℕ)) → Good (go (working q chance.room stop) d)
+      by : (stop : Option (Pick → Left)) → Good (go (working q chance.room stop) d)
       by None = good d (Work q chance.room) h tt
       by (Some made) = good d (StopWork q chance.room made) h tt
 
   working-clients : (chance : Chance) (d : Course) (q : ServerNo) → (go (working q chance.room chance.stop) d).world.clients ≡ d.world.clients
   working-clients chance d q = by chance.stop
     where
-      by : (stop : Option (Pick → ℕ)) → (go (working q chance.room stop) d).world.clients ≡ d.world.clients
+      by : (stop : Option (Pick → Left)) → (go (working q chance.room stop) d).world.clients ≡ d.world.clients
       by None = quiet-clients (Work q chance.room) d.world refl
       by (Some made) = quiet-clients (StopWork q chance.room made) d.world refl
 

@@ -1,5 +1,5 @@
 -- Whatever is named is at one of so many servers, and each message to a server is for one of these.
-use Rattle.jn_system_settling.proofs.Common.{◌≡◌, ◌≤◌, ◌<◌, ℕ, zero, suc, ◌+◌, Bool, true, false, List, [], ◌∷◌, ◌++◌, take, Option, Some, None, true≢false, refl, sym, ◌∙◌, ap, subst, arith, if◌then◌else◌, slice_get, ◌&&◌, not, nat_lt, nat_eq, length, nat_tests, ServerNo, ClientNo, Tid, WorkId, Tickets, Cause, Party, Client, Server, Answer, Command, client_eq, tid_tells, work_tells, AllFiles, change, answer_to, list_change, Intention, Message, Vote, Outstanding, Taken, WorkEntry, Phase, Transaction, Stage, Open, Voting, Committed, Aborted, StableState, Prepared, FlagState, Pick, Change, AddReady, MarkGoing, RemoveWork, made_by, made_all, stable, RowOutcome, Sent, ClientTable, Commanded, Refuses, Sends, command_row, take_row, if_waits, is_current, opens, opened_row, sent_again, WorkerTable, WorkStorage, Wanted, work_at, work_of, with_phase, without, after_grant, wants_of, is_fit, refusal_of, granted_row, repeated, op_phase, op_row, prepare_phase, prepare_row, commit_phase, drop_phase, drop_row, worker_row, going_work, going_row, carried_row, intentions_of, worker_step, worker_again, timed_out, restored_worker, CoordinatorTable, transaction_at, is_work, all_in, besides, drops, commits, prepares, end_stage, end_row, abort_stage, abort_request, told_stage, inquire_row, with_work, counted_vote, vote_stage, vote_row, begin_again, begun_by, after_closing, coordinator_row, commit_row, abort_row, told_again, coordinator_again, close_clients_row, with_epoch, World, Memory, new_memory, opening, Room, storage_of, server_row, of_timeout, server_timeout, restored, Step, IsStep, after, works, sent_now, LockFacts, are_of_flags, coordinator-aside, close-aside, are_near, is_few, IsSmall, is_small, is_small_stage, are_small_stages, Sizes, openings, request_eq, RequestNo, Text, ClientRow, by_command, by_ignoring, by_answering, by_telling, ServerRow, of_message, of_work, of_closing, Quiet, event_begins, none_changes, is_refused, client_repeats, server_repeats, is_lost, StepCase, client_row, row_done, row_stopped, gone_late, gone_down, come_up, found_anew, dismissed, quietly, step-case, one-client, some-memory, memory-now, memory-gone, found-now, found-then, row-either, row-of-step, holds-of, Asked, Here, asked_for, asked_here}
+use Rattle.jn_system_settling.proofs.Common.{◌≡◌, ◌≤◌, ◌<◌, ℕ, zero, suc, ◌+◌, Bool, true, false, List, [], ◌∷◌, ◌++◌, take, Option, Some, None, true≢false, refl, sym, ◌∙◌, ap, subst, arith, if◌then◌else◌, slice_get, ◌&&◌, not, nat_lt, nat_eq, length, nat_tests, ServerNo, ClientNo, Tid, WorkId, Tickets, Cause, Party, Client, Server, Answer, Command, client_eq, tid_tells, work_tells, AllFiles, change, answer_to, list_change, Intention, Message, Vote, Outstanding, Taken, WorkEntry, Phase, Transaction, Stage, Open, Voting, Committed, Aborted, StableState, Prepared, FlagState, Pick, Change, AddReady, MarkGoing, RemoveWork, made_by, made_all, stable, RowOutcome, Sent, ClientTable, Commanded, Refuses, Sends, command_row, take_row, if_waits, is_current, opens, opened_row, sent_again, WorkerTable, WorkStorage, Wanted, work_at, work_of, with_phase, without, after_grant, wants_of, is_fit, refusal_of, granted_row, repeated, op_phase, op_row, prepare_phase, prepare_row, commit_phase, drop_phase, drop_row, worker_row, going_work, going_row, carried_row, intentions_of, worker_step, worker_again, timed_out, restored_worker, CoordinatorTable, transaction_at, is_work, all_in, besides, drops, commits, prepares, end_stage, end_row, abort_stage, abort_request, told_stage, inquire_row, with_work, counted_vote, vote_stage, vote_row, begin_again, begun_by, after_closing, coordinator_row, commit_row, abort_row, told_again, coordinator_again, close_clients_row, with_epoch, World, Memory, new_memory, opening, Room, storage_of, server_row, of_timeout, server_timeout, restored, Step, IsStep, after, works, sent_now, LockFacts, are_of_flags, coordinator-aside, close-aside, are_near, is_few, IsSmall, is_small, is_small_stage, are_small_stages, Sizes, openings, request_eq, RequestNo, Text, ClientRow, by_command, by_ignoring, by_answering, by_telling, ServerRow, of_message, of_work, of_closing, Quiet, event_begins, none_changes, is_refused, client_repeats, server_repeats, is_lost, StepCase, client_row, row_done, row_stopped, gone_late, gone_down, come_up, found_anew, dismissed, quietly, step-case, one-client, some-memory, memory-now, memory-gone, found-now, found-then, row-either, row-of-step, holds-of, Asked, Here, asked_for, asked_here, Left, left_of}
 use Rattle.jn_base.specs.declared.op.Command.TheVariants as commands
 use Rattle.jn_msgs.specs.declared.message.Message.TheVariants as messages
 use Rattle.jn_msgs.specs.declared.message.Vote.TheVariants as votes
@@ -420,7 +420,7 @@ module _ (n : ℕ) (at_most : n ≤ 8) (w : World) (sizes : Sizes n w) (locks : 
       mine : nat_lt m.tickets.server.0 n ≡ true
       mine = let f = up-locks n at_most w sizes locks s m up in ap (λ (q : ServerNo). nat_lt q.0 n) f.server ∙ within-of n (Server s, message) (inside-at n w.sent k (Server s, message) h.sent e)
 
-  row-of : (s : ServerNo) (m : Memory) (stop : Option (Pick → ℕ)) (step : Step) (k : Option ℕ) (row : RowOutcome Memory) → w.memory s ≡ Some m → ServerRow w s m stop step k row → MemoryNear row
+  row-of : (s : ServerNo) (m : Memory) (stop : Option (Pick → Left)) (step : Step) (k : Option ℕ) (row : RowOutcome Memory) → w.memory s ≡ Some m → ServerRow w s m stop step k row → MemoryNear row
   row-of s m _ _ _ _ up (of_message stop k room message is) = row-near s m room k message up is
   row-of s m _ _ _ _ up (of_work stop room row is) = row-of-step MemoryNear m (stable (w.found s)) room row is (step-near n m.worker (storage_of m (stable (w.found s)) room) m.tickets (h.works s m up))
   row-of s m _ _ _ _ up of_closing = record {
@@ -478,7 +478,7 @@ module _ (n : ℕ) (at_most : n ≤ 8) (w : World) (sizes : Sizes n w) (locks : 
     sent = h.sent;
     clients = h.clients;
     works = memory-gone WorksNear w.memory h.works s;
-    stored = found-now (StoredNear n) w h.stored s (λ c. made_all (take (made c) row.changes) (w.found s c)) (λ c. front-near n (made c) row.changes (w.found s c) r.changes_are (h.stored s c));
+    stored = found-now (StoredNear n) w h.stored s (λ c. left_of (made c) row.changes (w.found s c)) (λ c. front-near n (made c).whole row.changes (w.found s c) r.changes_are (h.stored s c));
   }
   by-case _ _ (gone_late s m T e) = record { sent = h.sent; clients = h.clients; works = memory-now WorksNear w.memory h.works s (server_timeout m T) (late-near m (h.works s m e) (work_of T m.worker)); stored = h.stored }
   by-case _ _ (gone_down s m e) = record { sent = h.sent; clients = h.clients; works = memory-gone WorksNear w.memory h.works s; stored = h.stored }

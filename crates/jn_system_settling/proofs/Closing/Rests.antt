@@ -1,5 +1,5 @@
 -- A settle after the end, where all of so many servers are up in the end: its steps keep what holds, and none is stopped.
-use Rattle.jn_system_settling.proofs.Common.{◌≡◌, ◌≢◌, ◌⊎◌, inl, inr, ◌≤◌, ◌<◌, ℕ, zero, suc, ◌+◌, Bool, true, false, List, [], ◌∷◌, ◌++◌, length, Option, Some, None, is_some, true≢false, refl, sym, ◌∙◌, ap, subst, arith, if◌then◌else◌, slice_get, ◌&&◌, not, map, nat_eq, list_any, nat_tests, ServerNo, ClientNo, Tid, WorkId, Party, Client, Server, server_eq, tid_eq, work_eq, server_tells, tid_tells, work_tells, AllFiles, Message, Work, Transaction, Stage, Open, Voting, Committed, Aborted, StableState, Prepared, Pick, stable, is_ready, is_going, RowOutcome, Sent, sent_again, WorkerTable, work_at, worker_again, transaction_at, is_work, besides, commits_of, told_again, coordinator_again, committed_to, run_atoms, opening_world, some_of, World, Memory, servers_from, Room, server_row, server_again, Step, Again, Deliver, WorkStep, Nudge, StopDelivery, StopWork, IsStep, after, at_memory, handed, done, nudge, sent_now, IsTrue, IsAddressed, Course, numbered, still_waiting, without_number, go, go_on, Chance, first_busy, next_step, onward, until_rest, ask_again, AreUp, next-reached, some-memory, holds-of}
+use Rattle.jn_system_settling.proofs.Common.{◌≡◌, ◌≢◌, ◌⊎◌, inl, inr, ◌≤◌, ◌<◌, ℕ, zero, suc, ◌+◌, Bool, true, false, List, [], ◌∷◌, ◌++◌, length, Option, Some, None, is_some, true≢false, refl, sym, ◌∙◌, ap, subst, arith, if◌then◌else◌, slice_get, ◌&&◌, not, map, nat_eq, list_any, nat_tests, ServerNo, ClientNo, Tid, WorkId, Party, Client, Server, server_eq, tid_eq, work_eq, server_tells, tid_tells, work_tells, AllFiles, Message, Work, Transaction, Stage, Open, Voting, Committed, Aborted, StableState, Prepared, Pick, stable, is_ready, is_going, RowOutcome, Sent, sent_again, WorkerTable, work_at, worker_again, transaction_at, is_work, besides, commits_of, told_again, coordinator_again, committed_to, run_atoms, opening_world, some_of, World, Memory, servers_from, Room, server_row, server_again, Step, Again, Deliver, WorkStep, Nudge, StopDelivery, StopWork, IsStep, after, at_memory, handed, done, nudge, sent_now, IsTrue, IsAddressed, Course, numbered, still_waiting, without_number, go, go_on, Chance, first_busy, next_step, onward, until_rest, ask_again, AreUp, next-reached, some-memory, holds-of, Left}
 use Rattle.jn_msgs.specs.declared.message.Message.TheVariants as messages
 use Rattle.jn_system_settling.proofs.Settling.Burdens.{are_below, busy-within, busy-is}
 use Rattle.jn_system_settling.proofs.Settling.Courses.{go-sound, waiting-is}
@@ -149,7 +149,7 @@ module _ (n : ℕ) (at_most : n ≤ 8) (start : World) (files : AllFiles) (epoch
       its-near : (k : ℕ) (x : Hands d k) → x.server.0 < n
       its-near k x = let t = h.tends in to-near n at_most d.world t.sound.sizes t.sound.locks t.within k x.server x.message x.is
 
-      by : (waiting : List ℕ) → d.waiting ≡ waiting → (o : Option ServerNo) → first_busy d.world (servers_from 0 n) ≡ o → (stop : Option (Pick → ℕ))
+      by : (waiting : List ℕ) → d.waiting ≡ waiting → (o : Option ServerNo) → first_busy d.world (servers_from 0 n) ≡ o → (stop : Option (Pick → Left))
           → AreUp n (onward (next_step (record { room = (chances 0).room; stop = stop }) waiting o) d (until_rest (servers_from 0 n) later j)).world
           → ((e : Course) → Goes b e → AreUp n (until_rest (servers_from 0 n) later j e).world → Goes b (until_rest (servers_from 0 n) later j e))
           → Goes b (onward (next_step (record { room = (chances 0).room; stop = stop }) waiting o) d (until_rest (servers_from 0 n) later j))
@@ -160,7 +160,7 @@ module _ (n : ℕ) (at_most : n ≤ 8) (start : World) (files : AllFiles) (epoch
       by [] e (Some s) f None up again = again _ (work-goes b d h s (chances 0).room f) up
       by [] e (Some s) f (Some made) up again = absurd (no-stop s (let near = busy-within d.world n 0 s f in omega (arith, near)) (go (StopWork s (chances 0).room made) d) (down made) up)
         where
-          down : (made : Pick → ℕ) → (go (StopWork s (chances 0).room made) d).world.memory s ≡ None
+          down : (made : Pick → Left) → (go (StopWork s (chances 0).room made) d).world.memory s ≡ None
           down made = let has = busy-has n at_most start (stable (d.world.found s)) (d.world.memory s) (busy-is d.world n 0 s f) in
               ap (λ (z : World). z.memory s) (works-as n at_most start (record { room = (chances 0).room; stop = None }) d h.tends.sound s f has.memory has.up has.entry has.goes (Some made)) ∙ ap (λ (b : Bool). if b then None else d.world.memory s) (itself s)
       by [] e None f stop up again = h

@@ -1,5 +1,5 @@
 -- A settle's bound, where servers that only erase may be stopped too.
-use Rattle.jn_system_settling.proofs.Common.{◌≡◌, inl, inr, ◌≤◌, ◌<◌, ℕ, List, [], ◌∷◌, append-nil, Option, Some, None, refl, sym, subst, arith, ServerNo, Pick, stable, RowOutcome, World, Memory, servers_from, clients_from, Room, server_step, Step, StopWork, after, work, works, Course, go, go_on, onward, ask_again, ComesNext, IsHalt, EachComes, IsBounded, in_two, asked_again}
+use Rattle.jn_system_settling.proofs.Common.{◌≡◌, inl, inr, ◌≤◌, ◌<◌, ℕ, List, [], ◌∷◌, append-nil, Option, Some, None, refl, sym, subst, arith, ServerNo, Pick, stable, RowOutcome, World, Memory, servers_from, clients_from, Room, server_step, Step, StopWork, after, work, works, Course, go, go_on, onward, ask_again, ComesNext, IsHalt, EachComes, IsBounded, in_two, asked_again, Left}
 use Rattle.std.specs.Prelude.{◌⊎◌}
 use Rattle.jn_system_settling.proofs.Settling.Burdens.{Leads, stopped-leads}
 use Rattle.jn_system_settling.proofs.Settling.Courses.{Sound, go-sound, go-balance, burden-after, deliveries-more}
@@ -7,7 +7,7 @@ use Rattle.jn_system_settling.proofs.Settling.Parts.{Bounded, part-bounded}
 use Rattle.jn_system_settling.proofs.Settling.Asking.{asked, servers-length, waiting-light, waiting-weighs}
 
 module _ (n : ℕ) (at_most : n ≤ 8) (start : World) where
-  halt-weighs : (c : Course) → Sound n start c → (s : ServerNo) (room : Room) (made : Pick → ℕ) → s.0 < n → Leads n c.world (after (StopWork s room made) c.world) 0 0
+  halt-weighs : (c : Course) → Sound n start c → (s : ServerNo) (room : Room) (made : Pick → Left) → s.0 < n → Leads n c.world (after (StopWork s room made) c.world) 0 0
   halt-weighs c h s room made l = by (c.world.memory s) refl
     where
       nothing : Leads n c.world c.world 0 0
@@ -21,7 +21,7 @@ module _ (n : ℕ) (at_most : n ≤ 8) (start : World) where
       by None e = nothing
       by (Some m) e = at m e (server_step m (stable (c.world.found s)) room)
 
-  halt-bounded : (c : Course) → Sound n start c → (s : ServerNo) (room : Room) (made : Pick → ℕ) → s.0 < n → Bounded n at_most start c (go (StopWork s room made) c)
+  halt-bounded : (c : Course) → Sound n start c → (s : ServerNo) (room : Room) (made : Pick → Left) → s.0 < n → Bounded n at_most start c (go (StopWork s room made) c)
   halt-bounded c h s room made l = record {
     sound = go-sound n at_most start c (StopWork s room made) h tt;
     few = let more = deliveries-more c.steps (StopWork s room made) in let lower = burden-after n at_most start c (StopWork s room made) 0 0 h (halt-weighs c h s room made l) in omega (arith, more, lower);

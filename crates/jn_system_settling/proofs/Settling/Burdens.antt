@@ -1,5 +1,6 @@
 -- What a step does to the weight of what waits and goes.
-use Rattle.jn_system_settling.proofs.Common.{◌≡◌, ◌≢◌, ◌⊎◌, inl, inr, ◌≤◌, ◌<◌, ℕ, zero, suc, ◌+◌, Bool, true, false, List, [], ◌∷◌, ◌++◌, length, length-append, append-nil, append_assoc, take, Option, Some, None, refl, sym, ap, subst, arith, if◌then◌else◌, slice_get, nat_lt, ◌&&◌, nat_tests, ServerNo, ClientNo, Client, Server, server_eq, server_tells, Taken, Pick, stable, made_all, RowOutcome, Sent, ClientTable, take_row, World, Memory, servers_from, Room, server_row, server_step, ends, done, stopped, at_memory, handed, took, sent_now, LockFacts, is_busy, first_busy, weight, weight_at, weigh_all, weigh, goings_at, sum_over, going_works, numbered, Sizes, IsSmall, holds-of}
+use Rattle.jn_system_settling.proofs.Common.{◌≡◌, ◌≢◌, ◌⊎◌, inl, inr, ◌≤◌, ◌<◌, ℕ, zero, suc, ◌+◌, Bool, true, false, List, [], ◌∷◌, ◌++◌, length, length-append, append-nil, append_assoc, Option, Some, None, refl, sym, ap, subst, arith, if◌then◌else◌, slice_get, nat_lt, ◌&&◌, nat_tests, ServerNo, ClientNo, Client, Server, server_eq, server_tells, Taken, Pick, stable, made_all, RowOutcome, Sent, ClientTable, take_row, World, Memory, servers_from, Room, server_row, server_step, ends, done, stopped, at_memory, handed, took, sent_now, LockFacts, is_busy, first_busy, weight, weight_at, weigh, goings_at, sum_over, going_works, numbered, Sizes, IsSmall, holds-of, Left, left_of}
+use Rattle.jn_system_settling.proofs.Settling.MessageWeights.{weigh_all}
 use Rattle.jn_rows.specs.declared.client.Taken.TheVariants as taken
 use Rattle.jn_system_settling.proofs.Settling.SizeSteps.{RowSizes}
 use Rattle.jn_system_settling.proofs.Settling.WorldSizes.{row-at, step-at}
@@ -120,7 +121,7 @@ module _ (n : ℕ) (at_most : n ≤ 8) (w : World) (sizes : Sizes n w) (locks : 
           now = let here = ap (λ b. at b s) itself in let before = was in let goes = leaves.goes in omega (arith, here, before, goes)
 
     -- where it is stopped nothing goes there any more
-    pub stopped-leads : (made : Pick → ℕ) (row : RowOutcome Memory) (less : ℕ) → less ≤ goings_at (stable (w.found s)) (Some m) → (less ≡ 0) ⊎ ((0 ≤ s.0) × (s.0 < 0 + n)) → Leads n w (stopped s made row w) less 0
+    pub stopped-leads : (made : Pick → Left) (row : RowOutcome Memory) (less : ℕ) → less ≤ goings_at (stable (w.found s)) (Some m) → (less ≡ 0) ⊎ ((0 ≤ s.0) × (s.0 < 0 + n)) → Leads n w (stopped s made row w) less 0
     stopped-leads made row less some fit = record {
       new = [];
       sent = sym (append-nil w.sent);
@@ -128,7 +129,7 @@ module _ (n : ℕ) (at_most : n ≤ 8) (w : World) (sizes : Sizes n w) (locks : 
     }
       where
         at : Bool → ServerNo → ℕ
-        at b q = goings_at (stable (λ c. if b then made_all (take (made c) row.changes) (w.found s c) else w.found q c)) (if b then None else w.memory q)
+        at b q = goings_at (stable (λ c. if b then left_of (made c) row.changes (w.found s c) else w.found q c)) (if b then None else w.memory q)
 
         same : (q : ServerNo) → server_eq s q ≡ false → goings_in (stopped s made row w) q ≡ goings_in w q
         same q e = ap (λ b. at b q) e
@@ -150,7 +151,7 @@ module _ (n : ℕ) (at_most : n ≤ 8) (w : World) (sizes : Sizes n w) (locks : 
   took-leads c k t (taken.Send to message) weight_of light = record { new = (to, message) ∷ []; sent = refl; goes = omega (arith, light) }
   took-leads c k t (taken.Told line answer) weight_of light = record { new = sent_now answer; sent = refl; goes = omega (arith, light) }
 
-  pub handed-leads : (k : ℕ) (room : Room) (stop : Option (Pick → ℕ)) (x : Sent) → slice_get w.sent k ≡ Some x → Leads n w (handed k room stop (Some x) w) 1 (weight x.1)
+  pub handed-leads : (k : ℕ) (room : Room) (stop : Option (Pick → Left)) (x : Sent) → slice_get w.sent k ≡ Some x → Leads n w (handed k room stop (Some x) w) 1 (weight x.1)
   handed-leads k room stop (Client c, message) e = took-leads c k _ (take_row (w.clients c) message).1 (weight message) (take-light (w.clients c) message)
   handed-leads k room stop (Server s, message) e = by (w.memory s) refl
     where
@@ -161,7 +162,7 @@ module _ (n : ℕ) (at_most : n ≤ 8) (w : World) (sizes : Sizes n w) (locks : 
           row : RowSizes n m (stable (w.found s)) (weight message) 1 (weight message) (server_row m (stable (w.found s)) room message)
           row = row-at n at_most w sizes locks s m room message up (holds-of (IsSmall n) w.sent k (Server s, message) sizes.sent e)
 
-          ending : (stop : Option (Pick → ℕ)) → Leads n w (ends s (Some k) stop (server_row m (stable (w.found s)) room message) w) 1 (weight message)
+          ending : (stop : Option (Pick → Left)) → Leads n w (ends s (Some k) stop (server_row m (stable (w.found s)) room message) w) 1 (weight message)
           ending None = done-leads s m up (weight message) 1 (weight message) (server_row m (stable (w.found s)) room message) row (inl (refl, refl)) (Some k)
           ending (Some made) = more-weight (stopped s made (server_row m (stable (w.found s)) room message) w) (weight message) (stopped-leads s m up made (server_row m (stable (w.found s)) room message) 0 (omega arith) (inl refl)) (weighs-some message)
 
@@ -170,7 +171,7 @@ module _ (n : ℕ) (at_most : n ≤ 8) (w : World) (sizes : Sizes n w) (locks : 
   pub work-leads : (s : ServerNo) (m : Memory) (room : Room) (row : RowOutcome Memory) → w.memory s ≡ Some m → server_step m (stable (w.found s)) room ≡ Some row → s.0 < n → Leads n w (done s None row w) 0 0
   work-leads s m room row up e l = done-leads s m up _ _ _ row (step-at n at_most w sizes locks s m room row up e) (inr (omega arith, omega (arith, l))) None
 
-  pub halt-leads : (s : ServerNo) (m : Memory) (made : Pick → ℕ) (row : RowOutcome Memory) → w.memory s ≡ Some m → 1 ≤ goings_at (stable (w.found s)) (Some m) → s.0 < n → Leads n w (stopped s made row w) 1 0
+  pub halt-leads : (s : ServerNo) (m : Memory) (made : Pick → Left) (row : RowOutcome Memory) → w.memory s ≡ Some m → 1 ≤ goings_at (stable (w.found s)) (Some m) → s.0 < n → Leads n w (stopped s made row w) 1 0
   halt-leads s m made row up some l = stopped-leads s m up made row 1 some (inr (omega arith, omega (arith, l)))
 
 -- ---- the first server that is busy

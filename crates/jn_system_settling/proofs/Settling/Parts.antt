@@ -1,5 +1,5 @@
 -- A part of a settle hands over no more messages than its burden, and comes to rest.
-use Rattle.jn_system_settling.proofs.Common.{◌≡◌, ◌≤◌, ◌<◌, ℕ, zero, suc, ◌+◌, true, List, [], ◌∷◌, length, Option, Some, None, is_some, true≢false, refl, sym, ◌∙◌, ap, subst, arith, if◌then◌else◌, slice_get, nat_tests, ServerNo, Intention, WorkEntry, StableState, Pick, stable, RowOutcome, Sent, WorkerTable, going_work, going_row, carried_row, intentions_of, World, Memory, servers_from, server_step, of_worker, of_step, storage_of, Step, after, ends, handed, work, works, Course, still_waiting, go, Chance, is_busy, first_busy, handing, working, next_step, onward, until_rest, weight, weight_at, weigh, goings, goings_at, burden, one_if_delivery, deliveries}
+use Rattle.jn_system_settling.proofs.Common.{◌≡◌, ◌≤◌, ◌<◌, ℕ, zero, suc, ◌+◌, true, List, [], ◌∷◌, length, Option, Some, None, is_some, true≢false, refl, sym, ◌∙◌, ap, subst, arith, if◌then◌else◌, slice_get, nat_tests, ServerNo, Intention, WorkEntry, StableState, Pick, stable, RowOutcome, Sent, WorkerTable, going_work, going_row, carried_row, intentions_of, World, Memory, servers_from, server_step, of_worker, of_step, storage_of, Step, after, ends, handed, work, works, Course, still_waiting, go, Chance, is_busy, first_busy, handing, working, next_step, onward, until_rest, weight, weight_at, weigh, goings, goings_at, burden, one_if_delivery, deliveries, Left}
 use Rattle.jn_system_settling.proofs.Settling.Burdens.{are_below, Leads, handed-leads, work-leads, halt-leads, busy-within, busy-is}
 use Rattle.jn_system_settling.proofs.Settling.Courses.{Sound, IsBalanced, go-sound, go-balance, burden-after, deliveries-more}
 
@@ -22,18 +22,18 @@ module _ (n : ℕ) (at_most : n ≤ 8) (start : World) where
     there : k < length c.world.sent
     there = let below = subst (λ l. are_below (length c.world.sent) l ≡ true) waits h.below in grind (arith, nat_tests, below)
 
-    leads : (stop : Option (Pick → ℕ)) (x : Sent) → slice_get c.world.sent k ≡ Some x → Leads n c.world (after (handing k chance.room stop) c.world) 1 (weight x.1)
+    leads : (stop : Option (Pick → Left)) (x : Sent) → slice_get c.world.sent k ≡ Some x → Leads n c.world (after (handing k chance.room stop) c.world) 1 (weight x.1)
     leads None x e = subst (λ o. Leads n c.world (handed k chance.room None o c.world) 1 (weight x.1)) (sym e) (handed-leads n at_most c.world h.sizes h.locks k chance.room None x e)
     leads (Some made) x e = subst (λ o. Leads n c.world (handed k chance.room (Some made) o c.world) 1 (weight x.1)) (sym e) (handed-leads n at_most c.world h.sizes h.locks k chance.room (Some made) x e)
 
-    taken : (stop : Option (Pick → ℕ)) → still_waiting (handing k chance.room stop) (k ∷ ks) ≡ ks
+    taken : (stop : Option (Pick → Left)) → still_waiting (handing k chance.room stop) (k ∷ ks) ≡ ks
     taken None = grind (arith, nat_tests)
     taken (Some made) = grind (arith, nat_tests)
 
     pub handing-sound : Sound n start (go it c)
     handing-sound = by chance.stop
       where
-        by : (stop : Option (Pick → ℕ)) → Sound n start (go (handing k chance.room stop) c)
+        by : (stop : Option (Pick → Left)) → Sound n start (go (handing k chance.room stop) c)
         by None = go-sound n at_most start c _ h tt
         by (Some made) = go-sound n at_most start c _ h tt
 
@@ -47,7 +47,7 @@ module _ (n : ℕ) (at_most : n ≤ 8) (start : World) where
     pub one-handed : one_if_delivery it ≡ 1
     one-handed = by chance.stop
       where
-        by : (stop : Option (Pick → ℕ)) → one_if_delivery (handing k chance.room stop) ≡ 1
+        by : (stop : Option (Pick → Left)) → one_if_delivery (handing k chance.room stop) ≡ 1
         by None = refl
         by (Some made) = refl
 
@@ -82,7 +82,7 @@ module _ (n : ℕ) (at_most : n ≤ 8) (start : World) where
     steps = ap (λ o. of_step m (going_row m.worker (storage_of m x chance.room) m.tickets o)) goes
 
     -- the world after it
-    pub works-as : (stop : Option (Pick → ℕ)) → after (working s chance.room stop) c.world ≡ ends s None stop (row_of next_intention) c.world
+    pub works-as : (stop : Option (Pick → Left)) → after (working s chance.room stop) c.world ≡ ends s None stop (row_of next_intention) c.world
     works-as None = ap (λ o. work s chance.room None o c.world) up ∙ ap (λ o. works s None o c.world) steps
     works-as (Some made) = ap (λ o. work s chance.room (Some made) o c.world) up ∙ ap (λ o. works s (Some made) o c.world) steps
 
@@ -95,18 +95,18 @@ module _ (n : ℕ) (at_most : n ≤ 8) (start : World) where
     abbrev at_work : Step
     at_work = working s chance.room chance.stop
 
-    leads-to : (stop : Option (Pick → ℕ)) → Leads n c.world (after (working s chance.room stop) c.world) (if is_some stop then 1 else 0) 0
+    leads-to : (stop : Option (Pick → Left)) → Leads n c.world (after (working s chance.room stop) c.world) (if is_some stop then 1 else 0) 0
     leads-to None = subst (λ z. Leads n c.world z 0 0) (sym (works-as None)) (work-leads n at_most c.world h.sizes h.locks s m chance.room (row_of next_intention) up steps within)
     leads-to (Some made) = subst (λ z. Leads n c.world z 1 0) (sym (works-as (Some made))) (halt-leads n at_most c.world h.sizes h.locks s m made (row_of next_intention) up some-goes within)
 
-    still-waits : (stop : Option (Pick → ℕ)) → still_waiting (working s chance.room stop) c.waiting ≡ c.waiting
+    still-waits : (stop : Option (Pick → Left)) → still_waiting (working s chance.room stop) c.waiting ≡ c.waiting
     still-waits None = refl
     still-waits (Some made) = refl
 
     pub working-sound : Sound n start (go at_work c)
     working-sound = by chance.stop
       where
-        by : (stop : Option (Pick → ℕ)) → Sound n start (go (working s chance.room stop) c)
+        by : (stop : Option (Pick → Left)) → Sound n start (go (working s chance.room stop) c)
         by None = go-sound n at_most start c _ h tt
         by (Some made) = go-sound n at_most start c _ h tt
 
@@ -117,7 +117,7 @@ module _ (n : ℕ) (at_most : n ≤ 8) (start : World) where
     pub none-handed : one_if_delivery at_work ≡ 0
     none-handed = by chance.stop
       where
-        by : (stop : Option (Pick → ℕ)) → one_if_delivery (working s chance.room stop) ≡ 0
+        by : (stop : Option (Pick → Left)) → one_if_delivery (working s chance.room stop) ≡ 0
         by None = refl
         by (Some made) = refl
 

@@ -1,6 +1,6 @@
 -- A part of a settle comes to rest: each delivery lowers its burden, and each background step has an intention less to carry
 -- out, or leaves a message that waits.
-use Rattle.jn_system_settling.proofs.Common.{◌≡◌, ◌≢◌, ◌⊎◌, inl, inr, ◌≤◌, ◌<◌, ℕ, zero, suc, ◌+◌, Bool, true, false, List, [], ◌∷◌, ◌++◌, length, Option, Some, None, is_some, refl, sym, ◌∙◌, ap, subst, arith, if◌then◌else◌, slice_get, slice_get_within, nat_tests, ServerNo, server_eq, server_tells, work_tells, WorkId, Files, change, intention_change, Intention, WorkEntry, StableState, Pick, CarryOut, made_all, stable, at_work, WorkerTable, going_work, intentions_of, World, Memory, servers_from, Step, after, ends, done, Course, numbered, still_waiting, go, Chance, is_busy, first_busy, working, next_step, onward, until_rest, burden, IsAtRest}
+use Rattle.jn_system_settling.proofs.Common.{◌≡◌, ◌≢◌, ◌⊎◌, inl, inr, ◌≤◌, ◌<◌, ℕ, zero, suc, ◌+◌, Bool, true, false, List, [], ◌∷◌, ◌++◌, length, Option, Some, None, is_some, refl, sym, ◌∙◌, ap, subst, arith, if◌then◌else◌, slice_get, slice_get_within, nat_tests, ServerNo, server_eq, server_tells, work_tells, WorkId, Files, change, intention_change, Intention, WorkEntry, StableState, Pick, CarryOut, made_all, stable, at_work, WorkerTable, going_work, intentions_of, World, Memory, servers_from, Step, after, ends, done, Course, numbered, still_waiting, go, Chance, is_busy, first_busy, working, next_step, onward, until_rest, burden, IsAtRest, Left}
 use Rattle.jn_system_settling.proofs.Settling.Burdens.{busy-is}
 use Rattle.jn_system_settling.proofs.Settling.Courses.{Sound, waiting-is}
 use Rattle.jn_system_settling.proofs.Settling.Parts.{busy-has, row_of, works-as, handing-sound, handing-lowers, working-sound, working-lowers}
@@ -104,7 +104,7 @@ module _ (n : ℕ) (at_most : n ≤ 8) (start : World) where
         waits-now = waiting-is n at_most start c it (row_of n at_most start (chances 0) c g.sound s g.busy m g.up g.entry g.goes o).messages (ap (λ (w : World). w.sent) leads)
             ∙ ap (λ l. l ++ numbered (length c.world.sent) (row_of n at_most start (chances 0) c g.sound s g.busy m g.up g.entry g.goes o).messages) (still (chances 0).stop ∙ g.waits)
           where
-            still : (stop : Option (Pick → ℕ)) → still_waiting (working s (chances 0).room stop) c.waiting ≡ c.waiting
+            still : (stop : Option (Pick → Left)) → still_waiting (working s (chances 0).room stop) c.waiting ≡ c.waiting
             still None = refl
             still (Some made) = refl
 
@@ -168,13 +168,13 @@ module _ (n : ℕ) (at_most : n ≤ 8) (start : World) where
     going-ends : (left : ℕ) (chances : ℕ → Chance) (c : Course) (s : ServerNo) → Goes c s left → PartEnds n chances c
     going-ends zero chances c s g = by (chances 0).stop refl (slice_get (intentions_of ((stable (c.world.found s)).works g.entry.name)) (g.memory.next g.entry.name)) refl
       where
-        by : (stop : Option (Pick → ℕ)) → (chances 0).stop ≡ stop → (o : Option Intention) → slice_get (intentions_of ((stable (c.world.found s)).works g.entry.name)) (g.memory.next g.entry.name) ≡ o → PartEnds n chances c
+        by : (stop : Option (Pick → Left)) → (chances 0).stop ≡ stop → (o : Option Intention) → slice_get (intentions_of ((stable (c.world.found s)).works g.entry.name)) (g.memory.next g.entry.name) ≡ o → PartEnds n chances c
         by (Some made) e o next = stopped-ends chances c s 0 g (ap is_some e)
         by None e None next = over-ends chances c s 0 g e next
         by None e (Some i) next = let some = some-left chances c s 0 g e i next in absurd (omega (arith, some))
     going-ends (suc left) chances c s g = by (chances 0).stop refl (slice_get (intentions_of ((stable (c.world.found s)).works g.entry.name)) (g.memory.next g.entry.name)) refl (λ d k. going-ends left (shifted chances) d s k)
       where
-        by : (stop : Option (Pick → ℕ)) → (chances 0).stop ≡ stop → (o : Option Intention) → slice_get (intentions_of ((stable (c.world.found s)).works g.entry.name)) (g.memory.next g.entry.name) ≡ o
+        by : (stop : Option (Pick → Left)) → (chances 0).stop ≡ stop → (o : Option Intention) → slice_get (intentions_of ((stable (c.world.found s)).works g.entry.name)) (g.memory.next g.entry.name) ≡ o
             → ((d : Course) → Goes d s left → PartEnds n (shifted chances) d) → PartEnds n chances c
         by (Some made) e o next again = stopped-ends chances c s (suc left) g (ap is_some e)
         by None e None next again = over-ends chances c s (suc left) g e next

@@ -1,5 +1,6 @@
 -- What holds of the sizes of a server's tables and of what it has stored, after each of its steps.
-use Rattle.jn_system_settling.proofs.Common.{◌≡◌, ◌≢◌, ◌⊎◌, inl, inr, ◌≤◌, ℕ, zero, suc, ◌+◌, Bool, true, false, List, [], ◌∷◌, ◌++◌, length, take, Option, Some, None, true≢false, refl, sym, ◌∙◌, ap, subst, arith, is_some, map, list_any, list_all, IsDistinct, AllByRecursion, nat_tests, ServerNo, Tid, WorkId, tid_eq, work_eq, tid_tells, work_before, Message, Work, Transaction, StableState, Prepared, FlagState, Change, AddReady, MarkGoing, CarryOut, RemoveWork, AddFlag, DropFlag, made_by, made_all, at_tid, RowOutcome, WorkerTable, work_at, worker_row, restored_work, restored_worker, CoordinatorTable, coordinator_row, close_clients_row, restored_transaction, restored_transactions, not-before, Memory, Room, storage_of, of_worker, of_coordinator, server_row, server_step, restored, AreNames, tid_before, TableFact, worker-keeps, step-keeps, coordinator-aside, close-aside, are_of_flags, flags-keep, flags-all, weight, weigh_all, goings, goings_at, is_few, is_small, are_small_stages, committed_at, AreFlagsOf, AreSmallFlags, AreAtMost64, StoredSizes, TableSizes, row-either, row-of-step}
+use Rattle.jn_system_settling.proofs.Common.{◌≡◌, ◌≢◌, ◌⊎◌, inl, inr, ◌≤◌, ℕ, zero, suc, ◌+◌, Bool, true, false, List, [], ◌∷◌, ◌++◌, length, take, Option, Some, None, true≢false, refl, sym, ◌∙◌, ap, subst, arith, is_some, map, list_any, list_all, IsDistinct, AllByRecursion, nat_tests, ServerNo, Tid, WorkId, tid_eq, work_eq, tid_tells, work_before, Message, Work, Transaction, StableState, Prepared, FlagState, Change, AddReady, MarkGoing, CarryOut, RemoveWork, AddFlag, DropFlag, made_by, made_all, at_tid, RowOutcome, WorkerTable, work_at, worker_row, restored_work, restored_worker, CoordinatorTable, coordinator_row, close_clients_row, restored_transaction, restored_transactions, not-before, Memory, Room, storage_of, of_worker, of_coordinator, server_row, server_step, restored, AreNames, tid_before, TableFact, worker-keeps, step-keeps, coordinator-aside, close-aside, are_of_flags, flags-keep, flags-all, weight, goings, goings_at, is_few, is_small, are_small_stages, committed_at, AreFlagsOf, AreSmallFlags, AreAtMost64, StoredSizes, TableSizes, row-either, row-of-step}
+use Rattle.jn_system_settling.proofs.Settling.MessageWeights.{weigh_all}
 use Rattle.std.specs.Cmp.{IsEquivalence}
 use Rattle.std.proofs.lemmas.Map.Made.{length-le_from_is_member}
 use Rattle.jn_system.specs.WholeSystem.Steps.{are_rising}

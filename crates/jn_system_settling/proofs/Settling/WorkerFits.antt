@@ -1,5 +1,6 @@
 -- What a worker's row sends and sets going weighs less than the message, and its table stays small.
-use Rattle.jn_system_settling.proofs.Common.{◌≡◌, ◌≤◌, ℕ, ◌+◌, Bool, true, false, List, [], ◌∷◌, ◌++◌, length, length-append, Option, Some, None, true≢false, refl, sym, ◌∙◌, ap, arith, ◌&&◌, if◌then◌else◌, is_some, nat_tests, Tid, WorkId, LockUnit, Tickets, work_tells, change, Message, Work, Phase, Stored, StableState, Prepared, Change, AddFlag, DropFlag, made_all, is_going, at_work, gone_on, ready_work, RowOutcome, WorkerTable, WorkStorage, Wanted, with_phase, without, after_grant, broken_by, breaks_at, new_work, commit_wants, worker_row, going_work, worker_step, is_before, are_rising, none-front, TableFact, going-is, weight, weigh_all, goings, Sent, its_wants, Replies, is_open_already, WorkerCase, none_done, replies_only, opens_anew, refuses_next, performs_next, prepares_it, marks_it, drops_it, removes_it, worker-case, WorkerStep, is_over, worker-step-case}
+use Rattle.jn_system_settling.proofs.Common.{◌≡◌, ◌≤◌, ℕ, ◌+◌, Bool, true, false, List, [], ◌∷◌, ◌++◌, length, length-append, Option, Some, None, true≢false, refl, sym, ◌∙◌, ap, arith, ◌&&◌, if◌then◌else◌, is_some, nat_tests, Tid, WorkId, LockUnit, Tickets, work_tells, change, Message, Work, Phase, Stored, StableState, Prepared, Change, AddFlag, DropFlag, made_all, is_going, at_work, gone_on, ready_work, RowOutcome, WorkerTable, WorkStorage, Wanted, with_phase, without, after_grant, broken_by, breaks_at, new_work, commit_wants, worker_row, going_work, worker_step, is_before, are_rising, none-front, TableFact, going-is, weight, goings, Sent, its_wants, Replies, is_open_already, WorkerCase, none_done, replies_only, opens_anew, refuses_next, performs_next, prepares_it, marks_it, drops_it, removes_it, worker-case, WorkerStep, is_over, worker-step-case}
+use Rattle.jn_system_settling.proofs.Settling.MessageWeights.{weigh_all}
 use Rattle.jn_locks.proofs.Orders.{work_before-irreflexive}
 use Rattle.jn_msgs.specs.declared.message.Message.TheVariants as messages
 use Rattle.jn_rows.specs.Worker.{name_from}

@@ -1,5 +1,6 @@
 -- Each step of the whole system keeps what holds of the sizes of tables and messages.
-use Rattle.jn_system_settling.proofs.Common.{Text, ◌≡◌, ◌≢◌, ◌⊎◌, inl, inr, ◌≤◌, ℕ, ◌+◌, Bool, true, false, List, [], ◌∷◌, ◌++◌, take, Option, Some, None, refl, sym, subst, arith, if◌then◌else◌, All, ServerNo, ClientNo, Tid, WorkId, Server, server_eq, server_tells, AllFiles, Message, WorkEntry, Transaction, Stage, Open, Voting, Committed, Aborted, Outstanding, Taken, StableState, FlagState, Pick, stable, made_all, is_going, RowOutcome, Sent, WorkerTable, timed_out, work_of, vulnerable, worker_again, commits, besides, told_again, coordinator_again, committed_to, ClientTable, take_row, sent_again, with_epoch, World, Memory, opening, at_server, Room, server_row, server_step, server_again, server_timeout, of_timeout, Step, IsStep, after, works, sent_now, UpFact, ServerFact, LockFacts, weight, weigh_all, IsSmall, ClientSizes, StoredSizes, TableSizes, ServerSizes, Sizes, is_small, sends_small, one-server, one-client, ClientRow, by_command, by_ignoring, by_answering, by_telling, ServerRow, of_message, of_work, of_closing, FoundThen, by_narrowing, by_raising, Quiet, client_repeats, server_repeats, StepCase, client_row, row_done, row_stopped, gone_late, gone_down, come_up, found_anew, dismissed, quietly, step-case, holds-of}
+use Rattle.jn_system_settling.proofs.Common.{Text, ◌≡◌, ◌≢◌, ◌⊎◌, inl, inr, ◌≤◌, ℕ, ◌+◌, Bool, true, false, List, [], ◌∷◌, ◌++◌, Option, Some, None, refl, sym, subst, arith, if◌then◌else◌, All, ServerNo, ClientNo, Tid, WorkId, Server, server_eq, server_tells, AllFiles, Message, WorkEntry, Transaction, Stage, Open, Voting, Committed, Aborted, Outstanding, Taken, StableState, FlagState, Pick, stable, made_all, is_going, RowOutcome, Sent, WorkerTable, timed_out, work_of, vulnerable, worker_again, commits, besides, told_again, coordinator_again, committed_to, ClientTable, take_row, sent_again, with_epoch, World, Memory, opening, at_server, Room, server_row, server_step, server_again, server_timeout, of_timeout, Step, IsStep, after, works, sent_now, UpFact, ServerFact, LockFacts, weight, IsSmall, ClientSizes, StoredSizes, TableSizes, ServerSizes, Sizes, is_small, sends_small, one-server, one-client, ClientRow, by_command, by_ignoring, by_answering, by_telling, ServerRow, of_message, of_work, of_closing, FoundThen, by_narrowing, by_raising, Quiet, client_repeats, server_repeats, StepCase, client_row, row_done, row_stopped, gone_late, gone_down, come_up, found_anew, dismissed, quietly, step-case, holds-of, Left, left_of}
+use Rattle.jn_system_settling.proofs.Settling.MessageWeights.{weigh_all}
 use Rattle.std.proofs.lemmas.List.Elements.{All-nil, All-cons, All-append}
 use Rattle.jn_msgs.specs.declared.message.Message.TheVariants as messages
 use Rattle.jn_rows.specs.declared.client.Taken.TheVariants as taken
@@ -45,11 +46,11 @@ by-server s P here others q = by (server_tells s q)
 -- what a server's row leaves and sends
 record Leaves (n : ℕ) (x : StableState) (row : RowOutcome Memory) : Type 0 where
   now : TableSizes n row.table (made_all row.changes x)
-  stops : (j : ℕ) → StoredSizes n (made_all (take j row.changes) x)
+  stops : (l : Left) → StoredSizes n (left_of l row.changes x)
   sent : All (IsSmall n) row.messages
 
 from-sizes : (n : ℕ) (m : Memory) (x : StableState) (light less weight_of : ℕ) (row : RowOutcome Memory) → light ≤ 161 → RowSizes n m x light less weight_of row → Leaves n x row
-from-sizes n m x light less weight_of row small h = record { now = h.now; stops = h.stops; sent = light-small n row.messages (let l = h.sent in omega (arith, l, small)) }
+from-sizes n m x light less weight_of row small h = record { now = h.now; stops = λ l. let s = h.stops l.whole in record { works = s.works; flags = s.flags; small = s.small }; sent = light-small n row.messages (let l = h.sent in omega (arith, l, small)) }
 
 module _ (n : ℕ) (at_most : n ≤ 8) (w : World) (sizes : Sizes n w) (locks : LockFacts w) where
   pub up-sizes : (s : ServerNo) (m : Memory) → w.memory s ≡ Some m → TableSizes n m (stable (w.found s))
@@ -70,7 +71,7 @@ module _ (n : ℕ) (at_most : n ≤ 8) (w : World) (sizes : Sizes n w) (locks : 
   pub step-at : (s : ServerNo) (m : Memory) (room : Room) (row : RowOutcome Memory) → w.memory s ≡ Some m → server_step m (stable (w.found s)) room ≡ Some row → RowSizes n m (stable (w.found s)) 2 0 0 row
   step-at s m room row e is = step-sizes n at_most m (stable (w.found s)) (up-sizes s m e) (up-locks s m e).table room row is
 
-  row-leaves : (s : ServerNo) (m : Memory) (stop : Option (Pick → ℕ)) (step : Step) (k : Option ℕ) (row : RowOutcome Memory) → w.memory s ≡ Some m → ServerRow w s m stop step k row → Leaves n (stable (w.found s)) row
+  row-leaves : (s : ServerNo) (m : Memory) (stop : Option (Pick → Left)) (step : Step) (k : Option ℕ) (row : RowOutcome Memory) → w.memory s ≡ Some m → ServerRow w s m stop step k row → Leaves n (stable (w.found s)) row
   row-leaves s m _ _ _ _ e (of_message stop k room message is) = from-sizes n m (stable (w.found s)) _ _ _ _ (weighs message) (row-at s m room message e (holds-of (IsSmall n) w.sent k (Server s, message) sizes.sent is))
   row-leaves s m _ _ _ _ e (of_work stop room row is) = from-sizes n m (stable (w.found s)) 2 0 0 row (omega arith) (step-at s m room row e is)
   row-leaves s m _ _ _ _ e of_closing = from-sizes n m (stable (w.found s)) 1 1 1 _ (omega arith) (close-sizes n at_most m (stable (w.found s)) (up-sizes s m e) (up-locks s m e).table)
@@ -157,7 +158,7 @@ module _ (n : ℕ) (at_most : n ≤ 8) (w : World) (sizes : Sizes n w) (locks : 
   by-case step _ (row_stopped _ s m k row made e is) may = let h = row-leaves s m (Some made) step k row e is in record {
     sent = sizes.sent;
     clients = sizes.clients;
-    tables = one s None (λ c. made_all (take (made c) row.changes) (w.found s c)) (λ c. subst (λ x. StoredSizes n (made_all (take (made c) row.changes) x)) (sym ((up-locks s m e).same c)) (h.stops (made c)));
+    tables = one s None (λ c. left_of (made c) row.changes (w.found s c)) (λ c. subst (λ x. StoredSizes n (left_of (made c) row.changes x)) (sym ((up-locks s m e).same c)) (h.stops (made c)));
   }
   by-case _ _ (gone_late s m T e) may = record {
     sent = sizes.sent;

@@ -35,11 +35,11 @@ abbrev pub tells_waiting : ClientNo → ℕ → Text → Bool
 tells_waiting c j (says.Waiting d i s u by) = client_eq c d && nat_eq j i
 tells_waiting c j text = false
 
--- what was told from one world to a later one
+-- what was reported from one world to a later one
 abbrev pub told_since : World → World → List Text
 told_since before now = drop (length before.lines) now.lines
 
--- each end that a client waits for was told to wait
+-- each end that a client waits for was reported to wait
 abbrev pub EndsWait : World → World → Type 0
 EndsWait before now = (c : ClientNo) (o : Outstanding) → 1 ≤ c.0 → c.0 ≤ 8 → (now.clients c).outstanding ≡ Some o → list_any (tells_waiting c o.event) (told_since before now) ≡ true
 
@@ -77,7 +77,7 @@ tells_outcome T (says.Aborted c j U cause) = tid_eq U T
 tells_outcome T text = false
 
 -- Each live work at any of so many servers belongs to a transaction that its coordinator holds undecided, or whose commit or
--- abort was told since, or it wasn't live before.
+-- abort was reported since, or it wasn't live before.
 abbrev pub AreDecided : ℕ → World → World → Type 0
 AreDecided servers before now = (W : WorkId) (w : Work) → W.server.0 < servers → live_at now W ≡ Some w
     → (holds_undecided (now.memory w.tid.server) w.tid ≡ true) ⊎ ((list_any (tells_outcome w.tid) (told_since before now) ≡ true) ⊎ (live_at before W ≡ None))

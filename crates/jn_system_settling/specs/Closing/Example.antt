@@ -8,10 +8,11 @@ use Rattle.jn_system.specs.WholeSystem.Course.{Course, opening_course, go_on}
 use Rattle.jn_system.specs.WholeSystem.Settle.{settled}
 use Rattle.jn_system_settling.specs.Settling.Rows.{calm, enough}
 use Rattle.jn_system_settling.specs.Closing.Ending.{Start, ended}
+use Rattle.jn_rows.specs.Stable.{whole_only}
 
 -- the flag is found by the picks that read the first half of page 3
 abbrev pub with_a_flag : List Step
-with_a_flag = to_the_vote ++ StopDelivery 8 much (λ c. if c 3 then 1 else 0) ∷ []
+with_a_flag = to_the_vote ++ StopDelivery 8 much (λ c. if c 3 then whole_only 1 else whole_only 0) ∷ []
 
 -- the ready work and the flag are found
 abbrev pub finds_both : ServerNo → Start

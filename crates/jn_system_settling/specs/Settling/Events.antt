@@ -22,7 +22,7 @@ after_event servers (Settles chances) c = settled servers chances c
 abbrev pub line : ℕ → Text → Line
 line event text = record { when = when.Event event; text = text }
 
--- what the second world has told that the first one hadn't
+-- what the second world has reported that the first one hadn't
 abbrev pub newly_told : World → World → List Line
 newly_told before now = map (line now.event) (drop (length before.lines) now.lines)
 

@@ -1,7 +1,7 @@
 -- Steps of a loop, each of which is what comes next in its turn.
 use Rattle.std.specs.Prelude.{◌≡◌, ◌≤◌, ◌<◌, ◌⊎◌, ℕ, zero, suc, ◌+◌, false, List, [], ◌∷◌, length, Some, None}
 use Rattle.jn_base.specs.declared.names.ServerNo.{ServerNo}
-use Rattle.jn_rows.specs.Stable.{Pick}
+use Rattle.jn_rows.specs.Stable.{Pick, Left}
 use Rattle.jn_system.specs.WholeSystem.World.{World, servers_from, clients_from}
 use Rattle.jn_system.specs.WholeSystem.Servers.{Room}
 use Rattle.jn_system.specs.WholeSystem.Steps.{Step, StopWork}
@@ -64,7 +64,7 @@ both_parts servers one two c first second = record {
 pub record IsHalt (servers : ℕ) (step : Step) : Type 0 where
   pub server : ServerNo
   pub room : Room
-  pub made : Pick → ℕ
+  pub made : Pick → Left
   pub is : step ≡ StopWork server room made
   pub below : server.0 < servers
 

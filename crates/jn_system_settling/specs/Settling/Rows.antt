@@ -11,7 +11,7 @@ use Rattle.jn_order.specs.Files.{no_files}
 use Rattle.jn_report.specs.declared.line.Line.{Line}
 use Rattle.jn_report.specs.declared.line.Text.{Text}
 use Rattle.jn_report.specs.declared.line.Text.TheVariants as says
-use Rattle.jn_rows.specs.Stable.{Pick}
+use Rattle.jn_rows.specs.Stable.{Pick, whole_only, Left}
 use Rattle.jn_system.specs.WholeSystem.Servers.{Room}
 use Rattle.jn_system.specs.WholeSystem.Steps.{Tell, Again, Restart, Timeout}
 use Rattle.jn_system.specs.WholeSystem.Course.{opening_course, Course}
@@ -41,7 +41,7 @@ abbrev pub settle : Event
 settle = Settles (record { first = λ n. calm; second = λ n. calm; steps = enough })
 
 -- a settle whose step of this number, from 0, is stopped
-abbrev pub settle_with_stop : ℕ → (Pick → ℕ) → Event
+abbrev pub settle_with_stop : ℕ → (Pick → Left) → Event
 settle_with_stop k made = Settles (record { first = λ n. if nat_eq n k then record { room = much; stop = Some made } else calm; second = λ n. calm; steps = enough })
 
 abbrev pub tells : ClientNo → Command → Event
@@ -85,7 +85,7 @@ one_write bytes =
 abbrev pub stopped_at_prepare : List Event
 stopped_at_prepare =
     then_settle c1 (Begin s0) (then_settle c1 (Open s0) (then_settle c1 (Do s0 (ops.Create (file 7)))
-    (no_event ∷ tells c1 End ∷ settle_with_stop 1 (λ c. 0) ∷ restarts s0 [] [] ∷ settle ∷ [])))
+    (no_event ∷ tells c1 End ∷ settle_with_stop 1 (λ c. whole_only 0) ∷ restarts s0 [] [] ∷ settle ∷ [])))
 
 -- ---- two clients and one server
 
@@ -149,7 +149,7 @@ is_more (says.Lost k) = false
 is_more (says.Ignored k) = false
 is_more text = true
 
--- the lines that tell of no message that was lost or ignored
+-- the lines that report no message that was lost or ignored
 abbrev pub tells_more : Line → Bool
 tells_more line = is_more line.text
 

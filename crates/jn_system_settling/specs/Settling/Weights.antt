@@ -2,32 +2,12 @@
 use Rattle.std.specs.Prelude.{ℕ, ◌+◌, if◌then◌else◌, List, [], ◌∷◌, slice_get, Option, Some, None}
 use Rattle.jn_base.specs.declared.names.ServerNo.{ServerNo}
 use Rattle.jn_base.specs.declared.names.WorkId.{WorkId}
-use Rattle.jn_msgs.specs.declared.message.Message.{Message}
-use Rattle.jn_msgs.specs.declared.message.Message.TheVariants.{Begin, Open, Op, End, Abort, Outcome, Prepare, Commit, Vote, Inquire}
 use Rattle.jn_rows.specs.Stable.{Prepared, StableState, is_going, stable}
 use Rattle.jn_rows.specs.Outcomes.{Sent}
 use Rattle.jn_rows.specs.Worker.{WorkerTable}
 use Rattle.jn_system.specs.WholeSystem.World.{World, Memory}
 use Rattle.jn_system.specs.WholeSystem.Course.{Course}
-
--- an end leads to eight prepares, a prepare to a vote, a vote to eight commits and an outcome, a commit to a going work,
--- which leads to a Done; an abort and an end may lead to drops too
-abbrev pub weight : Message → ℕ
-weight (End c request T works) = 161
-weight (Abort c request T works) = 161
-weight (Prepare T c W) = 20
-weight (Vote T W vote) = 19
-weight (Inquire T W) = 3
-weight (Begin c request) = 2
-weight (Open c request T) = 2
-weight (Op c request W number op) = 2
-weight (Outcome c T outcome) = 2
-weight (Commit T W) = 2
-weight message = 1
-
-abbrev pub weigh_all : List Sent → ℕ
-weigh_all [] = 0
-weigh_all (message ∷ messages) = weight message.1 + weigh_all messages
+use Rattle.jn_msgs.specs.Weights.{weight}
 
 abbrev pub weight_at : Option Sent → ℕ
 weight_at None = 0

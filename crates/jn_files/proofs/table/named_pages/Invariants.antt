@@ -1,4 +1,5 @@
-use Rattle.jn_files.proofs.Common.{◌≡◌, length, NamedBefore}
+use Rattle.std.proofs.Common.{◌≡◌, length}
+use Rattle.jn_files.proofs.Naming.{NamedBefore}
 use Rattle.jn_files.proofs.table.named_pages.Given as goal
 
 abbrev pub invariant-loop-head : goal.invariant-loop-head

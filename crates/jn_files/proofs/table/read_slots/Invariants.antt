@@ -1,4 +1,5 @@
-use Rattle.jn_files.proofs.Common.{ReadTo, counts_of}
+use Rattle.jn_files.proofs.Common.{counts_of}
+use Rattle.jn_files.proofs.Loading.{ReadTo}
 use Rattle.jn_files.proofs.table.read_slots.Given as goal
 
 abbrev pub invariant-loop-slot : goal.invariant-loop-slot

@@ -1,6 +1,6 @@
 use Rattle.std.proofs.Common.{◌≡◌, ℕ, ◌+◌, ◌≤◌, if◌then◌else◌, fold, drop}
 use Rattle.jn_report.specs.declared.line.Line.{Line}
-use Rattle.jn_serial.specs.Follows.{is_own_refusal}
+use Rattle.jn_report.specs.Kinds.{is_own_refusal}
 use Rattle.jn_serial.specs.Lines.{count_lines}
 use Rattle.jn_following.proofs.following.own_refusals.Given as goal
 

@@ -1,4 +1,4 @@
-use Rattle.jn_index.proofs.Common.{◌≡◌, ◌<◌, ◌≤◌, arith, rules, subst, ℕ, List, length, true, false, Entry, entry_at, is_before}
+use Rattle.std.proofs.Common.{arith, rules}
 use Rattle.jn_index.proofs.Indexed.{is_cleared}
 use Rattle.jn_index.proofs.Editing.{place_is}
 use Rattle.jn_index.proofs.Index.clear.Goals as goal
@@ -7,7 +7,7 @@ pub invariant_of-self : goal.invariant_of-self
 invariant_of-self c =
     let its = c.deref.ensures.value in
     let place = place_is c.self.inside.numbers.items c.self.inside.entries.items c.self.invariant.entries c.args.old c.place_of-place.result (search rules)
-    (subst (λ (l : List Entry). (k : ℕ) → k < c.place_of-place.result → is_before (entry_at l k) c.args.old ≡ true) its c.place_of-place.ensures.before)
-    (subst (λ (l : List Entry). (k : ℕ) → c.place_of-place.result ≤ k → k < length l → is_before (entry_at l k) c.args.old ≡ false) its c.place_of-place.ensures.after) in
+    (rw (← its) c.place_of-place.ensures.before)
+    (rw (← its) c.place_of-place.ensures.after) in
     is_cleared c.self.inside.numbers.items c.self.inside.entries.items _ c.self.invariant c.args.old c.place_of-place.result c.remove.new.self.items _
     (search rules) place.0 place.1 c.remove.ensures.items (omega (arith, c.remove.ensures.capacity))

@@ -1,5 +1,5 @@
-use Rattle.jn_index.proofs.Common.{◌≡◌, ◌<◌, ◌+◌, length, sym, subst, ◌∙◌, arith, get_or_default}
-use Rattle.jn_index.proofs.Taking.{HasTaken, pair_at, slot_within, takes_one, has_all}
+use Rattle.jn_index.proofs.Common.{◌≡◌, ◌<◌, length, sym, ◌∙◌, arith, get_or_default}
+use Rattle.jn_index.proofs.Taking.{pair_at, slot_within, takes_one, has_all}
 use Rattle.jn_index.proofs.Index.of.Goals as goal
 
 pub set-requires : goal.set-requires
@@ -18,7 +18,7 @@ loop-i-preserved c =
     let end = c.len-i-end.ensures in
     let below : c.loop-i.i < length pairs = omega (arith, lt, end) in
     let is : c.index-in-loop-i.result.now ≡ pair_at pairs c.loop-i.i = sym (get_or_default pairs c.loop-i.i (0, 0) c.index-in-loop-i.result.now below ∙ sym c.index-in-loop-i.ensures) in
-    subst (λ index. HasTaken c.args.numbers.now pairs (c.loop-i.i + 1) index) (sym c.set.ensures)
+    rw c.set.ensures
     (takes_one c.args.numbers.now pairs c.in_ok-order.ensures c.loop-i.index c.loop-i.i c.index-in-loop-i.result.now below is c.loop-i.invariant)
 
 pub returns : goal.returns

@@ -1,4 +1,4 @@
-use Rattle.jn_recovery.proofs.Common.{◌≡◌, inr, Err, false, refl, sym, ◌∙◌, ap, true≢false, arith, rules, is_ok, root_by, heads_on, pages_by, data_place, of_sets, of_table, counts_by, IsDown, Stopped}
+use Rattle.jn_recovery.proofs.Common.{◌≡◌, inr, Err, false, refl, sym, ◌∙◌, ap, true≢false, arith, rules, is_ok, root_by, heads_on, pages_by, data_place, down_of, counts_by, IsDown, Stopped}
 use Rattle.jn_recovery.proofs.CleanStore.{root_epoch, root_is, root_only}
 use Rattle.jn_recovery.proofs.Downs.{recovering_fewer, stopped_down, if_err_is}
 use Rattle.jn_recovery.proofs.Openings.{reads_none, root_exit, counts_fit, readable, sets_exit, heads_loadable, table_exit, opened}
@@ -45,7 +45,7 @@ load-requires-clause-readable g c = let (server, before) = c.requires.recoverabl
 pub returns-in_err-sets-clause-down : goal.returns-in_err-sets-clause-down
 returns-in_err-sets-clause-down g c = λ server before. let counts = counts_by c.args.counts in
     let w = g.S.StableStore.view c.load.new.store in
-    if_err_is c.from_residual-in_err-sets.result (λ cause. IsDown server counts (g.S.StableStore.view c.args.store.now) cause w) (of_sets c.in_err-sets.field-0.0) (search rules)
+    if_err_is c.from_residual-in_err-sets.result (λ cause. IsDown server counts (g.S.StableStore.view c.args.store.now) cause w) (down_of c.in_err-sets.field-0.0) (search rules)
     (sets_exit server counts _ before (g.S.StableStore.view c.clean_pages.new.store) (front_cleaned _ _ _ _ c.front-front.ensures c.clean_pages.result c.clean_pages.ensures.cleaned (search rules)) c.read_root.result (g.S.StableStore.view c.read_root.new.store) c.read_root.ensures.read c.read_root.ensures.root
     c.in_ok-root.root c.in_ok-root.was w c.load.ensures.read c.in_err-sets.field-0.0 (λ e. c.load.ensures.stop (c.in_err-sets.was ∙ ap Err e)) (λ quiet e. c.load.ensures.calm quiet (c.in_err-sets.was ∙ ap Err e)))
 
@@ -63,7 +63,7 @@ load-requires-2-clause-loadable g c = let (server, before) = c.requires.recovera
 pub returns-in_err-table-clause-down : goal.returns-in_err-table-clause-down
 returns-in_err-table-clause-down g c = λ server before. let counts = counts_by c.args.counts in
     let w = g.S.StableStore.view c.load-2.new.store in
-    if_err_is c.from_residual-in_err-table.result (λ cause. IsDown server counts (g.S.StableStore.view c.args.store.now) cause w) (of_table c.in_err-table.field-0.0) (search rules)
+    if_err_is c.from_residual-in_err-table.result (λ cause. IsDown server counts (g.S.StableStore.view c.args.store.now) cause w) (down_of c.in_err-table.field-0.0) (search rules)
     (table_exit server counts _ before (g.S.StableStore.view c.clean_pages.new.store) (front_cleaned _ _ _ _ c.front-front.ensures c.clean_pages.result c.clean_pages.ensures.cleaned (search rules)) c.read_root.result (g.S.StableStore.view c.read_root.new.store) c.read_root.ensures.read c.read_root.ensures.root
     c.in_ok-root.root c.in_ok-root.was (g.S.StableStore.view c.load.new.store) c.load.ensures.read c.in_ok-sets.sets (search rules) (search rules) w c.load-2.ensures.read
     c.in_err-table.field-0.0 (λ e. c.load-2.ensures.stop (c.in_err-table.was ∙ ap Err e)) (λ quiet e. c.load-2.ensures.calm quiet (c.in_err-table.was ∙ ap Err e)))

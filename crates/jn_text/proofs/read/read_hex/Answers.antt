@@ -2,8 +2,7 @@ use Rattle.std.proofs.Common.{◌≢◌, ◌<◌, ◌≤◌, ◌*◌, ℕ, arith
 use Rattle.std.proofs.lemmas.List.{take_rest, get_or_past}
 use Rattle.jn_text.proofs.HexDigits.{run_is_hex, run_lower, no_hex}
 use Rattle.jn_text.proofs.read.read_hex.Goals as goal
-use Rattle.jn_text.proofs.read.read_hex.Goals.{else-at-bytes-via-then-at-bytes+else-bytes-at-eq45, else-at-bytes-via-else-at-bytes}
-use Rattle.jn_text.proofs.read.read_hex.Goals.{then-count-eq0-via-then-count-eq0, then-count-eq0-via-else-count-eq0+then-count, then-count-eq0-via-else-count-eq0+else-count+then-count-ne0}
+use Rattle.jn_text.proofs.read.read_hex.Goals.{else-at-bytes-via-then-at-bytes+else-bytes-at-eq45, else-at-bytes-via-else-at-bytes, then-count-eq0-via-then-count-eq0, then-count-eq0-via-else-count-eq0+then-count, then-count-eq0-via-else-count-eq0+else-count+then-count-ne0}
 
 pub returns-then-count-eq0-clause-none : goal.returns-then-count-eq0-clause-none
 returns-then-count-eq0-clause-none c =

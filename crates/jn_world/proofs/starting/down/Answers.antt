@@ -1,5 +1,5 @@
-use Rattle.jn_world.proofs.Common.{ℕ, ◌+◌, ◌∷◌, [], ◌++◌, length, List, sym, subst, ◌∙◌, ap, arith, Tid, DeviceState, PageCounts, World, is_among, AreNew, StandFor, standing_of, YieldsList-from_vec, YieldsList-turn, YieldsList-end, length_push, Carried, StoreView, Place, Down, ArePlaces}
-use Rattle.jn_world.proofs.Pushed.{stand-more, opens, yielded-all}
+use Rattle.jn_world.proofs.Common.{ℕ, ◌+◌, ◌∷◌, [], ◌++◌, length, List, sym, subst, ◌∙◌, ap, arith, Tid, DeviceState, PageCounts, World, is_among, AreNew, standing_of, YieldsList-from_vec, YieldsList-turn, YieldsList-end, length_push, Carried, StoreView, Place, Down, ArePlaces}
+use Rattle.jn_world.proofs.Pushed.{StandFor, stand-more, opens, yielded-all}
 use Rattle.jn_world.proofs.Places.{store-place, places-push, start-world}
 use Rattle.jn_world.proofs.Calm.{stand-down}
 use Rattle.jn_world.proofs.starting.down.Goals as goal

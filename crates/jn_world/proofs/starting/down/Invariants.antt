@@ -1,4 +1,5 @@
-use Rattle.jn_world.proofs.Common.{◌≡◌, length, StandFor, ArePlaces}
+use Rattle.jn_world.proofs.Common.{◌≡◌, length, ArePlaces}
+use Rattle.jn_world.proofs.Pushed.{StandFor}
 use Rattle.jn_world.proofs.starting.down.Given as goal
 
 abbrev pub invariant-loop-store : goal.invariant-loop-store

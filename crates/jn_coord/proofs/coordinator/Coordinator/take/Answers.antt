@@ -1,10 +1,10 @@
 use Rattle.jn_coord.proofs.Common.{subst, transaction_at, inquire_row, table_of}
-use Rattle.jn_coord.specs.Handling.{FewWorks}
+use Rattle.jn_msgs.specs.Ranges.{FewWorks}
 use Rattle.jn_coord.proofs.Rows.{tells, inquire-still}
 use Rattle.jn_coord.proofs.coordinator.Coordinator.take.Goals as goal
 
 pub end-requires-clause-few : goal.end-requires-clause-few
-end-requires-clause-few g c = subst (λ m. FewWorks m) c.in-End.is c.requires.few
+end-requires-clause-few g c = subst (λ m. FewWorks m) c.in-End.is c.requires.taken.few
 
 pub returns-in-Inquire : goal.returns-in-Inquire
 returns-in-Inquire g c = let at = transaction_at c.in-Inquire.tid c.args.self.now.transactions in let still = inquire-still (table_of c.args.self.now) c.args.tickets c.in-Inquire.tid c.in-Inquire.work at in

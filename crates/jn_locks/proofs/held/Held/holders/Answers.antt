@@ -1,6 +1,6 @@
-use Rattle.jn_locks.proofs.Common.{List, ◌++◌, length, sym, ap, ◌∙◌, arith, append-nil, Holder, at, all_locks}
+use Rattle.jn_locks.proofs.Common.{List, ◌++◌, length, sym, ap, ◌∙◌, arith, append-nil, Holder, at}
+use Rattle.jn_locks.proofs.Listing.{all_locks, holders_are}
 use Rattle.jn_locks.proofs.Steps.{drop_past}
-use Rattle.jn_locks.proofs.Listing.{holders_are}
 use Rattle.jn_locks.proofs.held.Held.holders.Goals as goal
 
 pub returns : goal.returns

@@ -1,4 +1,5 @@
-use Rattle.jn_locks.proofs.Common.{◌≡◌, ◌++◌, drop, at, all_locks}
+use Rattle.jn_locks.proofs.Common.{◌≡◌, ◌++◌, drop, at}
+use Rattle.jn_locks.proofs.Listing.{all_locks}
 use Rattle.jn_locks.proofs.held.Held.holders.Given as goal
 
 abbrev pub invariant-loop-h : goal.invariant-loop-h

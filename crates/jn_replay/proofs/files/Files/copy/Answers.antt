@@ -1,6 +1,6 @@
-use Rattle.jn_replay.proofs.Common.{◌∙◌, ap, map, contents}
+use Rattle.std.proofs.Common.{◌∙◌, ap, map}
+use Rattle.jn_replay.proofs.StoredLemmas.{contents, registers-contents}
 use Rattle.std.proofs.lemmas.List.{take_all}
-use Rattle.jn_replay.proofs.StoredLemmas.{registers-contents}
 use Rattle.jn_replay.proofs.files.Files.copy.Goals as goal
 
 pub returns : goal.returns

@@ -1,4 +1,5 @@
-use Rattle.jn_replay.proofs.Common.{◌≡◌, map, take, contents}
+use Rattle.std.proofs.Common.{◌≡◌, map, take}
+use Rattle.jn_replay.proofs.StoredLemmas.{contents}
 use Rattle.jn_replay.proofs.files.Files.copy.Given as goal
 
 abbrev pub invariant-loop-file : goal.invariant-loop-file

@@ -1,4 +1,5 @@
-use Rattle.jn_server.proofs.Common.{◌+◌, arith, rules, StoreView, is_of_lesser, number_after, ServerView, view_with, ◌<◌, ◌^◌}
+use Rattle.jn_server.proofs.Common.{◌+◌, arith, rules, StoreView, number_after, ServerView, view_with, ◌<◌, ◌^◌}
+use Rattle.jn_server.proofs.Pieces.{is_of_lesser}
 use Rattle.jn_server.proofs.Shows.{told-nothing, told-more, told-cut, shown-cut, shown-whole, none-past}
 use Rattle.jn_server.proofs.server.Server.show.Goals as goal
 

@@ -2,7 +2,7 @@ use Rattle.jn_server.proofs.Common.{◌-◌, ◌^◌, number_after, view_with}
 use Rattle.jn_server.proofs.Shows.{ToldBelow}
 use Rattle.jn_server.proofs.server.Server.show.Given as goal
 
--- the files so far are told
+-- the files so far are reported
 abbrev pub invariant-loop-file : goal.invariant-loop-file
 invariant-loop-file g l = ToldBelow (view_with (λ s. g.S.StableStore.view s) l.fn.self) (number_after l.after) (view_with (λ s. g.S.StableStore.view s) l.self) l.list.items
 

@@ -9,7 +9,7 @@ returns g c =
     let w : ServerView = view_with look c.read.new.self in
     record {
       shown = tells-page v w c.requires.serves c.args.file c.args.block c.read.result c.read.ensures.read c.read.ensures.unasked c.read.ensures.tables c.in-Some.bytes
-          (ok-with c.read.result c.in_ok-bytes.field-0 (Some c.in-Some.bytes) c.in_ok-bytes.was c.in-Some.is) c.requires.free c.args.list.now.items c.tell.new.list.items c.in_ok-tell.ensures;
+          (ok-with c.read.result c.in_ok-bytes.field-0 (Some c.in-Some.bytes) c.in_ok-bytes.was c.in-Some.is) c.requires.free c.args.list.now.items c.tell_page.new.list.items c.in_ok-tell_page.ensures;
       cut = tt;
     }
 
@@ -22,15 +22,15 @@ returns-then-not-is_stored g c =
       cut = tt;
     }
 
-pub returns-in_err-tell : goal.returns-in_err-tell
-returns-in_err-tell g c =
+pub returns-in_err-tell_page : goal.returns-in_err-tell_page
+returns-in_err-tell_page g c =
     let look : g.row.S.Denot → StoreView = λ s. g.S.StableStore.view s in
     let v : ServerView = view_with look c.args.self.now in
     let w : ServerView = view_with look c.read.new.self in
     let here = Block c.args.file c.args.block in
     record {
-      shown = no-show (TellsPiece (is_at here) v c.args.list.now.items (print_one (to_print v here)) w c.tell.new.list.items) c.from_residual-in_err-tell.result c.from_residual-in_err-tell.ensures.0;
-      cut = no-memory (is_at here) v w c.from_residual-in_err-tell.result c.from_residual-in_err-tell.ensures.0 c.from_residual-in_err-tell.ensures.1;
+      shown = no-show (TellsPiece (is_at here) v c.args.list.now.items (print_one (to_print v here)) w c.tell_page.new.list.items) c.from_residual-in_err-tell_page.result c.from_residual-in_err-tell_page.ensures.0;
+      cut = no-memory (is_at here) v w c.from_residual-in_err-tell_page.result c.from_residual-in_err-tell_page.ensures.0 c.from_residual-in_err-tell_page.ensures.1;
     }
 
 pub returns-in_err-bytes-clause-cut : goal.returns-in_err-bytes-clause-cut

@@ -7,7 +7,7 @@ use Rattle.jn_summary.proofs.Adding.{one-more}
 use Rattle.jn_summary.proofs.reporting.SummingReporterSummary.report.Goals as goal
 
 pub loop-line-preserved : goal.loop-line-preserved
-loop-line-preserved c = one-more c.args.lines.now c.loop-line.line-index _ c.args.output.now c.loop-line.output c.take.new.self c.loop-line-test.true c.loop-line.invariant c.in_ok-take.ensures.ok
+loop-line-preserved c = one-more c.args.lines.now c.loop-line.line-index c.line-item.result c.args.output.now c.loop-line.output c.take.new.self c.loop-line-test.true c.line-item.is c.loop-line.invariant c.in_ok-take.ensures.ok
 
 pub returns : goal.returns
 returns c = record {

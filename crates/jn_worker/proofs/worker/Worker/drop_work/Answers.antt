@@ -1,4 +1,5 @@
-use Rattle.jn_worker.proofs.Common.{◌≡◌, ap, subst, sym, ◌∙◌, Some, true, false, ◌⊎◌, inl, inr, work_eq, LocksMatch, match_released, table, is_in, WorkRemoved, is_stored}
+use Rattle.jn_worker.proofs.Common.{Memory, ◌≡◌, ap, subst, sym, ◌∙◌, Some, true, false, ◌⊎◌, inl, inr, work_eq, LocksMatch, match_released, table, is_in, WorkRemoved, is_stored}
+use Rattle.jn_worker.proofs.Exits.{handed_on, nothing_done}
 use Rattle.jn_rows.specs.Worker as rows
 use Rattle.jn_worker.proofs.Decided.{drop_made, drop_kept}
 use Rattle.jn_worker.proofs.worker.Worker.drop_work.Goals.{then-is_prepared+in_ok-drop_ready, else-is_prepared}
@@ -19,3 +20,9 @@ returns g c =
       kept = λ k. drop_kept _ _ c.self.inside.going.items (g.W.Storage.view c.args.store.now) (g.W.Storage.view c.if-is_prepared.store) k _ _ c.self.view_is c.requires.fits at out (elim how [ inl p ↦ inl p.0 | inr p ↦ inr p.1 ]);
       takes = λ k. drop_made _ _ _ c.self.inside.going.items _ _ _ k _ _ c.self.view_is c.requires.fits c.self.invariant.rising at out how c.remove.ensures;
     }
+
+pub returns-in_err-note-clause-takes : goal.returns-in_err-note-clause-takes
+returns-in_err-note-clause-takes g c = λ k. nothing_done _ _ _ _ _ _ _ _ _ (handed_on _ Memory c.from_residual.ensures) c.requires.fits.serving
+
+pub returns-in_err-note-2-clause-takes : goal.returns-in_err-note-2-clause-takes
+returns-in_err-note-2-clause-takes g c = λ k. nothing_done _ _ _ _ _ _ _ _ _ (handed_on _ Memory c.from_residual-in_err-note-2.ensures) c.requires.fits.serving

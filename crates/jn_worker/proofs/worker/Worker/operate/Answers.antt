@@ -1,4 +1,5 @@
-use Rattle.std.proofs.Common.{sym, ◌∙◌}
+use Rattle.jn_worker.proofs.Common.{Memory, sym, ◌∙◌}
+use Rattle.jn_worker.proofs.Exits.{handed_on, nothing_done}
 use Rattle.jn_worker.proofs.worker.Worker.operate.Goals as goal
 
 pub repeat-requires-clause-other : goal.repeat-requires-clause-other
@@ -9,3 +10,6 @@ returns-in-Some-clause-takes g c = c.perform.ensures.takes (g.W.Storage.view c.a
 
 pub read-requires-clause-unknown : goal.read-requires-clause-unknown
 read-requires-clause-unknown g c = λ T a i. (rw c.in-None.is at c.in_ok-known.ensures) T a i
+
+pub returns-in_err-known-clause-takes : goal.returns-in_err-known-clause-takes
+returns-in_err-known-clause-takes g c = nothing_done _ _ _ _ _ _ _ _ _ (handed_on _ Memory c.from_residual.ensures) c.requires.fits.serving

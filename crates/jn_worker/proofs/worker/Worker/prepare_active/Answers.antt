@@ -1,5 +1,6 @@
-use Rattle.jn_worker.proofs.Common.{refl, sym, ◌∙◌, ap, Err, Memory}
 use Rattle.jn_worker.proofs.Exits.{handed_on}
+use Rattle.jn_worker.proofs.Common.{refl, sym, ◌∙◌, ap, Err, Memory}
+use Rattle.jn_worker.proofs.Exits.{nothing_done}
 use Rattle.jn_worker.proofs.Voted.{waiting_sent, is_free, full_sent, full_untold, not_stored, ready_untold, ready_told, prepare_kept}
 use Rattle.jn_worker.proofs.worker.Worker.prepare_active.Goals as goal
 
@@ -55,3 +56,6 @@ returns g c = record {
   kept = λ k. prepare_kept c.args.self.now (g.W.Storage.view c.args.store.now) (g.W.Storage.view c.store_work.new.store) k c.args.tid c.args.client c.args.name _ c.requires.active
       (is_free c.args.self.now c.self.inside.works.items c.deref.result.now c.self.inside.going.items c.args.name c.test_storing.result c.self.view_is c.deref.ensures.value c.test_storing.ensures c.in_default.is) c.in_default-store_work.ensures.stored;
 }
+
+pub returns-in_err-send-clause-takes : goal.returns-in_err-send-clause-takes
+returns-in_err-send-clause-takes g c = λ k. nothing_done _ _ _ _ _ _ _ _ _ (handed_on _ Memory c.from_residual.ensures) c.requires.fits.serving

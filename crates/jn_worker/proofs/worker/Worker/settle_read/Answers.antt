@@ -1,5 +1,5 @@
-use Rattle.jn_worker.proofs.Common.{subst, sym, ap, ◌∙◌, length, not, Ok, Err, Answer, has_stopped, OnlyReads, asks_now}
-use Rattle.jn_worker.proofs.Fetched.{granted_active, refused_settles, granted_settles, granted_reads, unseen-stops, taken_back}
+use Rattle.jn_worker.proofs.Common.{subst, ap, length, Ok, Err, OnlyReads, asks_now}
+use Rattle.jn_worker.proofs.Fetched.{granted_active, refused_settles, granted_settles, granted_reads, served-unless-stopped, taken_back}
 use Rattle.jn_worker.proofs.Voted.{found_active}
 use Rattle.jn_worker.proofs.worker.Worker.settle_read.Goals as goal
 
@@ -19,7 +19,7 @@ returns-in-Ok-clause-reads g c = λ T a i. granted_reads c.args.self.now c.settl
     (c.in_ok-refusal.ensures.settled T a i (c.requires.next T a i)) c.in-Ok.ensures.viewed
 
 pub returns-in-Err-clause-reads : goal.returns-in-Err-clause-reads
-returns-in-Err-clause-reads g c = λ T a i. subst (λ b. OnlyReads (asks_now c.args.self.now.table (g.W.Storage.view c.args.store.now) c.args.name a c.args.op.now) (g.W.Storage.view c.args.store.now) b (g.W.Storage.view c.read_granted.new.store)) (unseen-stops c.in-Err.fault ∙ ap (λ f. not (has_stopped {A = Answer} (Err f))) (sym c.from.ensures))
+returns-in-Err-clause-reads g c = λ T a i. subst (λ b. OnlyReads (asks_now c.args.self.now.table (g.W.Storage.view c.args.store.now) c.args.name a c.args.op.now) (g.W.Storage.view c.args.store.now) b (g.W.Storage.view c.read_granted.new.store)) (served-unless-stopped c.in-Err.fault)
     (granted_reads c.args.self.now c.settle.new.self (g.W.Storage.view c.args.store.now) (g.W.Storage.view c.read_granted.new.store) T c.args.name a c.args.op.now c.in_ok-refusal.field-0 (Err c.in-Err.fault) c.args.out.now c.settle.new.out i (c.requires.unknown T a i) c.in_default.is
     (c.in_ok-refusal.ensures.settled T a i (c.requires.next T a i)) c.in-Err.ensures.viewed)
 

@@ -1,7 +1,7 @@
 use Rattle.jn_world.proofs.Exits.{ends-memory}
 use Rattle.jn_world.proofs.world.World.end_step.Goals as goal
 
-pub returns-in_err-extend_from_slice-clause-ends :
-    goal.returns-in_err-extend_from_slice-clause-ends
-returns-in_err-extend_from_slice-clause-ends g c =
-    ends-memory c.from_residual-in_err-extend_from_slice.result _ _ _ _ _ c.from_residual-in_err-extend_from_slice.ensures.0 c.from_residual-in_err-extend_from_slice.ensures.1
+pub returns-in_err-append-clause-ends :
+    goal.returns-in_err-append-clause-ends
+returns-in_err-append-clause-ends g c =
+    ends-memory c.from_residual-in_err-append.result _ _ _ _ _ c.from_residual-in_err-append.ensures.0 c.from_residual-in_err-append.ensures.1

@@ -1,4 +1,4 @@
-use Rattle.jn_world.proofs.Common.{ℕ, [], ◌++◌, ◌∙◌, ap, List, Ok, sym, subst, DeviceState, Line, Restart, StoreView, BroughtUp, DoesEvent, standing_of}
+use Rattle.jn_world.proofs.Common.{ℕ, [], List, Ok, sym, subst, DeviceState, Line, Restart, StoreView, BroughtUp, DoesEvent, standing_of}
 use Rattle.jn_world.proofs.Bringing.{restarts-does, memory-on}
 use Rattle.jn_world.proofs.ServerCalls.{event-without}
 use Rattle.jn_world.proofs.world.World.restart_down.Goals as goal
@@ -16,7 +16,7 @@ returns-clause-does g c =
     let e = c.in_ok-came.ensures in
     let limit = c.requires.world.limit in
     let now : BroughtUp look device c.args.server when w c.in_ok-came.came u [] told = subst (λ (l : List Line). BroughtUp look device c.args.server when w c.in_ok-came.came u l told) c.new-told.ensures.items e.brought in
-    subst (λ (l : List Line). DoesEvent {A = ℕ} look device (Restart c.args.server) when w (Ok 0) u first l) (sym (c.in_ok-extend_from_slice.ensures.items ∙ ap (λ (l : List Line). first ++ l) c.deref.ensures.value))
+    subst (λ (l : List Line). DoesEvent {A = ℕ} look device (Restart c.args.server) when w (Ok 0) u first l) (sym c.in_ok-append.ensures.items)
     (restarts-does look device g.met.S.Powered.seen c.args.server when w u first told {A = ℕ} 0 c.in_ok-came.came all now c.in_ok-tell_refusal.ensures.told limit)
 
 pub returns-in_err-came-clause-does : goal.returns-in_err-came-clause-does
@@ -35,9 +35,9 @@ returns-in_err-tell_refusal-clause-does g c =
     event-without look device g.met.S.Powered.seen c.from_residual-in_err-tell_refusal.result (Restart c.args.server) c.args.when (standing_of c.args.self.now) (standing_of c.bring_up.new.self) c.args.lines.now.items c.args.lines.now.items
     c.from_residual-in_err-tell_refusal.ensures.0 (memory-on c.from_residual-in_err-tell_refusal.result c.in_err-tell_refusal.field-0.0 c.from_residual-in_err-tell_refusal.ensures.1 fails.memory)
 
-pub returns-in_err-extend_from_slice-clause-does : goal.returns-in_err-extend_from_slice-clause-does
-returns-in_err-extend_from_slice-clause-does g c =
+pub returns-in_err-append-clause-does : goal.returns-in_err-append-clause-does
+returns-in_err-append-clause-does g c =
     let look : g.row.S.Denot → StoreView = λ s. g.S.StableStore.view s in
     let device : g.row.S.Denot → DeviceState = λ s. g.S.Powered.device s in
-    event-without look device g.met.S.Powered.seen c.from_residual-in_err-extend_from_slice.result (Restart c.args.server) c.args.when (standing_of c.args.self.now) (standing_of c.bring_up.new.self) c.args.lines.now.items _
-    c.from_residual-in_err-extend_from_slice.ensures.0 c.from_residual-in_err-extend_from_slice.ensures.1
+    event-without look device g.met.S.Powered.seen c.from_residual-in_err-append.result (Restart c.args.server) c.args.when (standing_of c.args.self.now) (standing_of c.bring_up.new.self) c.args.lines.now.items _
+    c.from_residual-in_err-append.ensures.0 c.from_residual-in_err-append.ensures.1

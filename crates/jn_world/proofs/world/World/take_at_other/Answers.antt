@@ -17,8 +17,8 @@ returns-clause-world g c =
     let n = c.delivered.new.self in
     let a = record w { net = n } in
     let b = c.tell_taken.new.self in
-    sent-world look a b (Client c.args.client) (sent_for c.take_as_new-taken.result) c.tell_taken.result
-    (delivered-world look w c.args.k n c.requires.world c.delivered.ensures) c.take_as_new-taken.ensures.can
+    sent-world look a b (Client c.args.client) (sent_for c.in_ok-taken.taken) c.tell_taken.result
+    (delivered-world look w c.args.k n c.requires.world c.delivered.ensures) c.in_ok-taken.ensures.can
     (net-places a b c.tell_taken.ensures.others) (net-clients a b c.tell_taken.ensures.others) c.tell_taken.ensures.sent c.tell_taken.ensures.limit
 
 pub returns-clause-does : goal.returns-clause-does
@@ -29,7 +29,7 @@ returns-clause-does g c =
     let one = c.in-Some.sent.now in
     other-took-now look device g.met.S.Powered.seen w c.args.client c.tell_taken.result (standing_of c.tell_taken.new.self) c.args.lines.now.items c.tell_taken.new.lines.items
     c.args.when c.args.k one (sym c.in-Some.ensures) (sent-to w.net.sent c.args.k one c.args.client (sym c.in-Some.ensures) c.requires.to) c.requires.other
-    c.servers-servers.result c.take_as_new-taken.result c.delivered.new.self (c.servers-servers.ensures ∙ c.args.self.now.places.ok.0) c.take_as_new-taken.ensures.row c.delivered.ensures c.tell_taken.ensures.ends
+    c.servers-servers.result c.in_ok-taken.taken c.delivered.new.self (c.servers-servers.ensures ∙ c.args.self.now.places.ok.0) c.in_ok-taken.ensures.row c.delivered.ensures c.tell_taken.ensures.ends
 
 pub returns-clause-calm : goal.returns-clause-calm
 returns-clause-calm g c =
@@ -41,4 +41,4 @@ returns-clause-calm g c =
 
 pub returns-clause-hands : goal.returns-clause-hands
 returns-clause-hands g c =
-    hands-on c.tell_taken.result c.args.self.now.net c.delivered.new.self c.args.k c.tell_taken.new.self.net.sent (Client c.args.client) (sent_for c.take_as_new-taken.result) c.delivered.ensures c.tell_taken.ensures.sent
+    hands-on c.tell_taken.result c.args.self.now.net c.delivered.new.self c.args.k c.tell_taken.new.self.net.sent (Client c.args.client) (sent_for c.in_ok-taken.taken) c.delivered.ensures c.tell_taken.ensures.sent

@@ -15,12 +15,12 @@ returns-clause-world g c =
     let look : g.row.S.Denot → StoreView = λ s. g.S.StableStore.view s in
     let w = c.args.self.now in
     let i = c.index_of.result in
-    let now = c.take-taken.new.self in
+    let now = c.take.new.self in
     let n = c.delivered.new.self in
     let a = record w { clients = with_item w.clients i now; net = n } in
     let b = c.tell_taken.new.self in
-    taken-world look (record w { net = n }) b (Client c.args.client) c.args.client.0 i c.index_mut.result.now now c.in-Some.sent.now.message c.take-taken.result c.tell_taken.result
-    (delivered-world look w c.args.k n c.requires.world c.delivered.ensures) c.requires.client c.index_of.ensures c.index_mut.ensures.value c.take-taken.ensures
+    taken-world look (record w { net = n }) b (Client c.args.client) c.args.client.0 i c.index_mut.result.now now c.in-Some.sent.now.message c.in_ok-taken.taken c.tell_taken.result
+    (delivered-world look w c.args.k n c.requires.world c.delivered.ensures) c.requires.client c.index_of.ensures c.index_mut.ensures.value c.in_ok-taken.ensures.ok
     (net-places a b c.tell_taken.ensures.others) (net-clients a b c.tell_taken.ensures.others) c.tell_taken.ensures.sent c.tell_taken.ensures.limit
 
 pub returns-clause-does : goal.returns-clause-does
@@ -34,16 +34,16 @@ returns-clause-does g c =
     client-took-now look device g.met.S.Powered.seen w c.args.client c.tell_taken.result (standing_of c.tell_taken.new.self) c.args.lines.now.items c.tell_taken.new.lines.items c.requires.client i c.index_of.ensures t
     (client-is w.clients c.args.client i t c.requires.client c.index_of.ensures (let has = c.requires.world in let eight = has.eight in omega (arith, c.args.self.now.clients.ok.0)) c.index_mut.ensures.value)
     c.args.when c.args.k one (sym c.in-Some.ensures) (sent-to w.net.sent c.args.k one c.args.client (sym c.in-Some.ensures) c.requires.to)
-    c.take-taken.new.self c.take-taken.result c.delivered.new.self c.take-taken.ensures c.delivered.ensures c.tell_taken.ensures.ends
+    c.take.new.self c.in_ok-taken.taken c.delivered.new.self c.in_ok-taken.ensures.ok c.delivered.ensures c.tell_taken.ensures.ends
 
 pub returns-clause-calm : goal.returns-clause-calm
 returns-clause-calm g c =
     let look : g.row.S.Denot → StoreView = λ s. g.S.StableStore.view s in
     let w = c.args.self.now in
-    let a = record w { clients = with_item w.clients c.index_of.result c.take-taken.new.self; net = c.delivered.new.self } in
+    let a = record w { clients = with_item w.clients c.index_of.result c.take.new.self; net = c.delivered.new.self } in
     let b = c.tell_taken.new.self in
     stay-places look w b c.tell_taken.result (net-places a b c.tell_taken.ensures.others)
 
 pub returns-clause-hands : goal.returns-clause-hands
 returns-clause-hands g c =
-    hands-on c.tell_taken.result c.args.self.now.net c.delivered.new.self c.args.k c.tell_taken.new.self.net.sent (Client c.args.client) (sent_for c.take-taken.result) c.delivered.ensures c.tell_taken.ensures.sent
+    hands-on c.tell_taken.result c.args.self.now.net c.delivered.new.self c.args.k c.tell_taken.new.self.net.sent (Client c.args.client) (sent_for c.in_ok-taken.taken) c.delivered.ensures c.tell_taken.ensures.sent

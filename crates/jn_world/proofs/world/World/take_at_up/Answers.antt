@@ -1,4 +1,4 @@
-use Rattle.jn_world.proofs.Common.{ℕ, length, subst, sym, is_some, with_item, Server, DeviceState, Left, StoreView, standing_of, messages_in}
+use Rattle.jn_world.proofs.Common.{ℕ, length, subst, sym, is_some, with_item, Server, DeviceState, LeavesPlace, StoreView, standing_of, messages_in}
 use Rattle.jn_world.proofs.Busy.{left-counts, reads-here, took-now}
 use Rattle.jn_world.proofs.LostCalls.{sent-for}
 use Rattle.jn_world.proofs.Places.{place-is, delivered-world, delivered-many, place-here, place-million, up-here, moved-sent, posted-at}
@@ -45,7 +45,7 @@ returns-clause-world g c =
     let b = c.end_step.new.self in
     moved-sent look (record w { net = n }) b server i q c.in_ok-answer.answer c.end_step.result c.from.ensures
     (delivered-world look w c.args.k n c.requires.world c.delivered.ensures)
-    (subst (λ (k : ℕ). Left look server k q c.in_ok-answer.answer) (sym (delivered-many w.net n c.args.k c.delivered.ensures)) (step.left (length w.net.sent) place))
+    (subst (λ (k : ℕ). LeavesPlace look server k q c.in_ok-answer.answer) (sym (delivered-many w.net n c.args.k c.delivered.ensures)) (step.left (length w.net.sent) place))
     (places-of a b c.end_step.ensures.others) (clients-of a b c.end_step.ensures.others) c.end_step.ensures.sent c.end_step.ensures.limit
 
 pub returns-clause-does : goal.returns-clause-does

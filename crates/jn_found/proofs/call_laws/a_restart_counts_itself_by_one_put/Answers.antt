@@ -1,5 +1,0 @@
-use Rattle.jn_found.proofs.CallLaws.{counts_on}
-use Rattle.jn_found.proofs.call_laws.a_restart_counts_itself_by_one_put.Goals as goal
-
-pub returns : goal.returns
-returns a server g v w epoch later records heads ok standing is le = counts_on server g v w epoch records heads ok standing later is le

@@ -1,5 +1,0 @@
-use Rattle.jn_found.proofs.PoolLaws.{removed_law}
-use Rattle.jn_found.proofs.pool_laws.a_freed_record_removes_its_work.Goals as goal
-
-pub returns : goal.returns
-returns a c slot work at = removed_law c slot work at

@@ -1,5 +1,0 @@
-use Rattle.jn_found.proofs.PoolLaws.{going_law}
-use Rattle.jn_found.proofs.pool_laws.a_going_record_marks_its_work.Goals as goal
-
-pub returns : goal.returns
-returns a c slot head n reads at = going_law c slot head n reads at

@@ -1,5 +1,0 @@
-use Rattle.jn_found.proofs.ImageEnds.{is_image}
-use Rattle.jn_found.proofs.start_laws.whole_pages_are_a_sound_image.Goals as goal
-
-pub returns : goal.returns
-returns a server g v epoch records heads standing free whole = is_image server g v epoch records heads standing free whole

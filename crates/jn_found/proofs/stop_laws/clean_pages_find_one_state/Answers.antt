@@ -1,5 +1,0 @@
-use Rattle.jn_found.proofs.CleanPages.{one_state}
-use Rattle.jn_found.proofs.stop_laws.clean_pages_find_one_state.Goals as goal
-
-pub returns : goal.returns
-returns a server g v readable front clean = one_state server g v readable front clean

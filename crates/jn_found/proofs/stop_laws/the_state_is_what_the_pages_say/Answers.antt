@@ -1,5 +1,0 @@
-use Rattle.jn_found.proofs.FilesOnPages.{state_on_pages}
-use Rattle.jn_found.proofs.stop_laws.the_state_is_what_the_pages_say.Goals as goal
-
-pub returns : goal.returns
-returns a server g pages format = state_on_pages g pages format.root.1.leaves format.heads

@@ -1,0 +1,12 @@
+-- Pairs of pages on a disk in memory.
+use Rattle.jn_image_files.proofs.Common.{DeviceState, StoreView}
+use Rattle.jn_memdisk.specs.declared.disk.MemDisk.{MemDisk}
+use Rattle.jn_store.specs.Pairs.{pairs_view}
+
+-- what is seen of them
+abbrev pub look : MemDisk → StoreView
+look s = pairs_view ((Rattle.jn_memdisk.specs.contracts.disk.MemDiskPhysDisk.TheImpl.ghosts).state s)
+
+-- and the device below them
+abbrev pub device : MemDisk → DeviceState
+device s = (Rattle.jn_memdisk.specs.contracts.disk.MemDiskPhysDisk.TheImpl.ghosts).state s

@@ -1,0 +1,33 @@
+//! Images that are loaded.
+
+ghost use Rattle.std.specs.Prelude.{◌≡◌, ◌≢◌, ◌≤◌, Err, IfOk};
+ghost use Rattle.jn_host.specs.Outside.{Rose};
+ghost use Rattle.jn_host.specs.declared.KeepFailure.TheVariants.{Failed as CallFailed};
+ghost use Rattle.jn_image_files.specs.Opened.{AreLoaded};
+
+use crate::names::image_name;
+use jn_base::ServerNo;
+use jn_host::{KeepFailure, Keeper};
+use std::alloc::Global;
+
+/// What the keeper holds under the names of the images of so many servers, server 0 first: all of it is loaded before any of
+/// it is looked at.
+pub fn load_images<I: Keeper>(
+    alloc: Global,
+    keeper: &mut I,
+    name: &str,
+    servers: u8,
+) -> Result<Vec<Option<Vec<u8>>>, KeepFailure>
+    ensures loaded { IfOk result (λ found. AreLoaded (I.kept keeper.old) name.now servers found.items) }
+    ensures same { I.kept keeper.new ≡ I.kept keeper.old }
+    ensures count { I.faults keeper.old ≤ I.faults keeper.new }
+    ensures rose { result ≡ Err CallFailed → Rose (I.faults keeper.old) (I.faults keeper.new) }
+    ensures no_fault { result ≢ Err CallFailed → I.faults keeper.new ≡ I.faults keeper.old }
+{
+    let mut found = Vec::new(alloc);
+    for server in 0..servers {
+        let own = image_name(alloc, name, ServerNo(server))?;
+        found.push(keeper.load(alloc, &own)?)?;
+    }
+    Ok(found)
+}

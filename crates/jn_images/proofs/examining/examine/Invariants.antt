@@ -1,9 +1,0 @@
-use Rattle.jn_images.proofs.Common.{◌≡◌, length, AreStoresOf, found_at}
-use Rattle.jn_images.proofs.Disks.{look, device}
-use Rattle.jn_images.proofs.examining.examine.Given as goal
-
-abbrev pub invariant-loop-content : goal.invariant-loop-content
-invariant-loop-content l = record {
-  count : length l.stores.items ≡ l.content-index;
-  stores : AreStoresOf look device (found_at l.fn.found) l.stores.items;
-}

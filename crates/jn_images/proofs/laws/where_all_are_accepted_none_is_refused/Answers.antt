@@ -1,5 +1,0 @@
-use Rattle.jn_images.proofs.Exclusive.{none_refused}
-use Rattle.jn_images.proofs.laws.where_all_are_accepted_none_is_refused.Goals as goal
-
-pub returns : goal.returns
-returns c = none_refused

@@ -1,0 +1,107 @@
+-- How many rubbish records each step leaves on a server's pages: records of intentions that no prepared work has. And that no record and no head is of anything else.
+use Rattle.std.specs.Prelude.{◌≡◌, ◌<◌, ℕ, ◌+◌, ◌-◌, true, if◌then◌else◌, List, [], ◌∷◌, length, slice_get, Option, Some, None, is_some, count_by}
+use Rattle.jn_base.specs.declared.names.ServerNo.{ServerNo}
+use Rattle.jn_base.specs.declared.names.Party.TheVariants.{Client, Server}
+use Rattle.jn_base.specs.declared.names.FileNo.{FileNo}
+use Rattle.jn_base.specs.declared.names.Tid.{Tid}
+use Rattle.jn_base.specs.declared.names.WorkId.{WorkId}
+use Rattle.jn_base.specs.Names.{server_eq, file_eq, tid_eq, work_eq}
+use Rattle.jn_device.specs.Device.{DeviceState}
+use Rattle.jn_page_state.specs.Pages.{pool_on, heads_on}
+use Rattle.jn_msgs.specs.declared.message.Message.{Message}
+use Rattle.jn_records.specs.declared.head.Head.{Head}
+use Rattle.jn_records.specs.declared.record.Record.{Record}
+use Rattle.jn_records.specs.StablePages.{Counts, Pages}
+use Rattle.jn_rows.specs.Outcomes.{RowOutcome, Sent}
+use Rattle.jn_rows.specs.Stable.{StableState, Change, stable}
+use Rattle.jn_worker.specs.Leaving.{left_over}
+use Rattle.jn_server.specs.Standing.{standing_pages, is_free_head}
+use Rattle.jn_sets.specs.Pool.{free_count, rubbish_count}
+use Rattle.jn_storage.specs.Listing.{IsListing, total}
+use Rattle.jn_storage.specs.Orderly.{file_there, list_of}
+use Rattle.jn_store.specs.Pairs.{pairs_view}
+use Rattle.jn_system.specs.WholeSystem.World.{World, Memory}
+use Rattle.jn_system.specs.WholeSystem.Servers.{Room, server_row, server_step}
+use Rattle.jn_system.specs.WholeSystem.Steps.{Step, Deliver, Work, Restart, after, run}
+use Rattle.jn_machine.specs.Chances.{Setup}
+
+-- those on the pages of a server that is up, by one pick: all find the same records
+abbrev pub rubbish_records : Setup → (ServerNo → DeviceState) → ServerNo → ℕ
+rubbish_records x ds q = rubbish_count (pool_on (x.counts q) (standing_pages (pairs_view (ds q))))
+
+-- ---- a server that had so many
+
+-- a row leaves the intentions of each work that it removes
+abbrev pub left_by_row : StableState → RowOutcome Memory → ℕ → ℕ
+left_by_row x row n = n + left_over x row.changes
+
+-- a background step that changes nothing erases one
+abbrev pub left_by_changes : StableState → List Change → ℕ → ℕ
+left_by_changes x [] n = n - 1
+left_by_changes x (c ∷ changes) n = n + left_over x (c ∷ changes)
+
+abbrev pub left_by_work : StableState → Option (RowOutcome Memory) → ℕ → ℕ
+left_by_work x None n = n
+left_by_work x (Some row) n = left_by_changes x row.changes n
+
+abbrev pub left_by_message : StableState → Option Memory → Room → Message → ℕ → ℕ
+left_by_message x None room message n = n
+left_by_message x (Some m) room message n = left_by_row x (server_row m x room message) n
+
+abbrev pub left_at_work : StableState → Option Memory → Room → ℕ → ℕ
+left_at_work x None room n = n
+left_at_work x (Some m) room n = left_by_work x (server_step m x room) n
+
+-- a server that comes up has none
+abbrev pub left_by_restart : Option Memory → ℕ → ℕ
+left_by_restart None n = 0
+left_by_restart (Some m) n = n
+
+-- ---- a step of the system
+
+-- at this server
+abbrev pub left_by_sent : World → ServerNo → Room → Option Sent → ℕ → ℕ
+left_by_sent w q room (Some (Server s, message)) n = if server_eq s q then left_by_message (stable (w.found q)) (w.memory q) room message n else n
+left_by_sent w q room (Some (Client c, message)) n = n
+left_by_sent w q room None n = n
+
+-- nothing but a message, a background step and a restart changes how many there are
+abbrev pub left_by_step : World → ServerNo → Step → ℕ → ℕ
+left_by_step w q (Deliver k room) n = left_by_sent w q room (slice_get w.sent k) n
+left_by_step w q (Work s room) n = if server_eq s q then left_at_work (stable (w.found q)) (w.memory q) room n else n
+left_by_step w q (Restart s pick works tids) n = if server_eq s q then left_by_restart (w.memory q) n else n
+left_by_step w q step n = n
+
+-- steps one after another
+abbrev pub left_by_steps : World → ServerNo → List Step → ℕ → ℕ
+left_by_steps w q [] n = n
+left_by_steps w q (step ∷ steps) n = left_by_steps (after step w) q steps (left_by_step w q step n)
+
+-- ---- the pages before and after
+
+-- These steps leave so many on the pages of each server that is up afterwards. What a server that is down has, as one that was stopped, is
+-- open until it comes up.
+abbrev pub AreLeft : Setup → List Step → World → (ServerNo → DeviceState) → (ServerNo → DeviceState) → Type 0
+AreLeft x steps w ds es = (q : ServerNo) → q.0 < x.servers → is_some ((run steps w).memory q) ≡ true → rubbish_records x es q ≡ left_by_steps w q steps (rubbish_records x ds q)
+
+-- ---- everything is counted
+
+-- Each record is free, that of a flag, of a prepared work or of an intention of one, or rubbish, and each head is free or that of a file that is there.
+-- There is no other, and none twice.
+pub record AreCounted (g : Counts) (y : StableState) (records : List Record) (heads : List Head) : Type 0 where
+  pub works : List WorkId
+  pub flags : List Tid
+  pub files : List FileNo
+  pub works_all : IsListing work_eq (λ W. is_some (y.works W)) works
+  pub flags_all : IsListing tid_eq (λ T. is_some (y.flags T)) flags
+  pub files_all : IsListing file_eq (file_there y.files) files
+  pub records_all : free_count records + length flags + length works + total (λ W. length (list_of y W)) works + rubbish_count records ≡ g.pool
+  pub heads_all : count_by is_free_head heads + length files ≡ g.heads
+
+-- of these pages
+abbrev pub CountsAll : Counts → StableState → Pages → Type 0
+CountsAll g y pages = AreCounted g y (pool_on g pages) (heads_on g pages)
+
+-- so on the pages of each server that is up
+abbrev pub AreAllCounted : Setup → World → (ServerNo → DeviceState) → Type 0
+AreAllCounted x w ds = (q : ServerNo) → q.0 < x.servers → is_some (w.memory q) ≡ true → CountsAll (x.counts q) (stable (w.found q)) (standing_pages (pairs_view (ds q)))

@@ -1,0 +1,88 @@
+-- What a store holds after a put that is done.
+use Rattle.jn_page_state.proofs.Common.{◌≡◌, ◌≢◌, ⊎_elim, ◌<◌, ℕ, true, List, length, refl, sym, subst, ◌∙◌, arith, slice_set, length-set, ServerNo, Head, FreeHead, Record, Free, head_page, root_page, record_page, Counts, page_count, slot_place, head_place, slot_page, record_in, IsStored, StoreView, IsOnly, head_in, root_by, PagePut, RootPut, RecordPut, HeadPut, BlockPut, put_place, IsPagePut, PutStep, IsHeadStored, IsHeld, epoch_after, records_after, heads_after}
+use Rattle.jn_page_state.proofs.Slots.{at_set}
+
+module _ (server : ServerNo) (g : Counts) (v w : StoreView) (epoch : ℕ) (records : List Record) (heads : List Head) (held : IsHeld server g v epoch records heads) where
+  abbrev count : page_count g ≡ v.count
+  count = held.count
+
+  module _ (put : PagePut) (step : PutStep server g v put true w) where
+    -- another page keeps its one candidate
+    kept : (k : ℕ) (page : List ℕ) → k < page_count g → k ≢ put_place g put → IsOnly v k page → IsOnly w k page
+    kept k page lt ne only = let same = step.others k (omega (arith, lt, count)) ne in record { first = same.first ∙ only.first; second = same.second ∙ only.second }
+
+    still_counted : page_count g ≡ w.count
+    still_counted = count ∙ sym step.later.count
+
+    root_kept : 0 ≢ put_place g put → IsOnly w 0 (root_page (root_by server g epoch))
+    root_kept ne = kept 0 (root_page (root_by server g epoch)) (omega arith) ne held.root
+
+    slot_kept : (slot : ℕ) → slot < length records → slot_place g slot ≢ put_place g put → IsStored w slot (record_in records slot)
+    slot_kept slot lt ne =
+        let stored = held.pool slot lt in
+        let size : length records ≡ g.pool = held.slots in
+        record { of_format = stored.of_format; only = kept (slot_page slot) (record_page (record_in records slot)) (omega (arith, lt, size)) (λ e. ne (omega (arith, e))) stored.only }
+
+    head_kept : (place : ℕ) → place < g.heads → head_place g place ≢ put_place g put → IsHeadStored g w place (head_in heads place)
+    head_kept place lt ne =
+        let stored = held.heads_stored place lt in
+        record { whole = stored.whole; fits = stored.fits; only = kept (head_place g place) (head_page (head_in heads place)) (omega (arith, lt)) ne stored.only }
+
+  pub held_after : (put : PagePut) → IsPagePut server g put → PutStep server g v put true w → IsHeld server g w (epoch_after put epoch) (records_after put records) (heads_after put heads)
+  held_after (RootPut later) is step = record {
+    count = still_counted (RootPut later) step;
+    root_fits = is;
+    root = step.done refl;
+    slots = held.slots;
+    pool = λ slot lt. slot_kept (RootPut later) step slot lt (λ e. omega (arith, e));
+    places = held.places;
+    heads_stored = λ place lt. head_kept (RootPut later) step place lt (λ e. omega (arith, e));
+  }
+  held_after (BlockPut d block) is step = record {
+    count = still_counted (BlockPut d block) step;
+    root_fits = held.root_fits;
+    root = root_kept (BlockPut d block) step (λ e. omega (arith, e));
+    slots = held.slots;
+    pool = λ slot lt. slot_kept (BlockPut d block) step slot lt (let size : length records ≡ g.pool = held.slots in λ e. omega (arith, e, lt, size));
+    places = held.places;
+    heads_stored = λ place lt. head_kept (BlockPut d block) step place lt (λ e. omega (arith, e, lt));
+  }
+  held_after (RecordPut slot r) is step = record {
+    count = still_counted (RecordPut slot r) step;
+    root_fits = held.root_fits;
+    root = root_kept (RecordPut slot r) step (λ e. omega (arith, e));
+    slots = length-set records slot r ∙ held.slots;
+    pool = λ i lt. ⊎_elim
+        (λ h. subst (IsStored w i) (sym h.1) (record { of_format = is.1; only = subst (λ k. IsOnly w k (record_page r)) (at i h.0) (step.done refl) }))
+        (λ h. subst (IsStored w i) (sym h.1) (slot_kept (RecordPut slot r) step i (within i lt) (λ e. h.0 (omega (arith, e)))))
+        (at_set Free records slot r below i);
+    places = held.places;
+    heads_stored = λ place lt. head_kept (RecordPut slot r) step place lt (let under = is.0 in λ e. omega (arith, e, under));
+  }
+    where
+      below : slot < length records
+      below = let under = is.0 in let size : length records ≡ g.pool = held.slots in omega (arith, under, size)
+
+      within : (i : ℕ) → i < length (slice_set records slot r) → i < length records
+      within i lt = subst (λ n. i < n) (length-set records slot r) lt
+
+      at : (i : ℕ) → i ≡ slot → slot_place g slot ≡ slot_page i
+      at i e = omega (arith, e)
+  held_after (HeadPut place h) is step = record {
+    count = still_counted (HeadPut place h) step;
+    root_fits = held.root_fits;
+    root = root_kept (HeadPut place h) step (λ e. omega (arith, e));
+    slots = held.slots;
+    pool = λ slot lt. slot_kept (HeadPut place h) step slot lt (let size : length records ≡ g.pool = held.slots in λ e. omega (arith, e, lt, size));
+    places = length-set heads place h ∙ held.places;
+    heads_stored = λ i lt. ⊎_elim
+        (λ x. subst (IsHeadStored g w i) (sym x.1) (record { whole = is.1; fits = is.2; only = subst (λ k. IsOnly w k (head_page h)) (at i x.0) (step.done refl) }))
+        (λ x. subst (IsHeadStored g w i) (sym x.1) (head_kept (HeadPut place h) step i lt (λ e. x.0 (omega (arith, e)))))
+        (at_set FreeHead heads place h below i);
+  }
+    where
+      below : place < length heads
+      below = let under = is.0 in let size : length heads ≡ g.heads = held.places in omega (arith, under, size)
+
+      at : (i : ℕ) → i ≡ place → head_place g place ≡ head_place g i
+      at i e = omega (arith, e)

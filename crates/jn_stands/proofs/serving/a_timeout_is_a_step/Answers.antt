@@ -1,5 +1,0 @@
-use Rattle.jn_stands.proofs.Nudging.{timed-out-step}
-use Rattle.jn_stands.proofs.serving.a_timeout_is_a_step.Goals as goal
-
-pub returns : goal.returns
-returns g c = λ x w m stand q place at. timed-out-step _ _ g.met.S.Powered.seen x w m stand q place at

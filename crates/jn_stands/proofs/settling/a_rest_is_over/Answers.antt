@@ -1,5 +1,0 @@
-use Rattle.jn_stands.proofs.RestNext.{next-none, rest-over-step}
-use Rattle.jn_stands.proofs.settling.a_rest_is_over.Goals as goal
-
-pub returns : goal.returns
-returns g c = λ x w m stand rests none idle. rest-over-step _ _ g.met.S.Powered.seen x w m stand rests (next-none _ _ g.met.S.Powered.seen x w m stand none idle)

@@ -1,5 +1,0 @@
-use Rattle.jn_stands.proofs.Meeting.{meets-acts, acts-acts, down-acts}
-use Rattle.jn_stands.proofs.tasks.an_event_is_what_comes_next.Goals as goal
-
-pub returns : goal.returns
-returns c = record { meets = meets-acts; acts = acts-acts; down = down-acts }

@@ -1,5 +1,0 @@
-use Rattle.jn_within.proofs.Taking.{scheduled-in-range}
-use Rattle.jn_within.proofs.clients.a_scheduled_command_is_in_range.Goals as goal
-
-pub returns : goal.returns
-returns c = scheduled-in-range

@@ -1,6 +1,0 @@
-use Rattle.jn_written.proofs.Common.{refl, before}
-use Rattle.jn_written.proofs.Named.{names}
-use Rattle.jn_written.proofs.commits_are_the_systems.Goals as goal
-
-pub returns : goal.returns
-returns c x schedule files epochs t m = names x (before x schedule files epochs) t m refl

@@ -1,5 +1,0 @@
-use Rattle.jn_written.proofs.Struck.{nothing-strikes}
-use Rattle.jn_written.proofs.devices.nothing_strikes_where_nothing_waits.Goals as goal
-
-pub returns : goal.returns
-returns c = nothing-strikes

@@ -1,5 +1,0 @@
-use Rattle.jn_written.proofs.Struck.{told-had-waited}
-use Rattle.jn_written.proofs.devices.refused_faults_had_waited.Goals as goal
-
-pub returns : goal.returns
-returns c = told-had-waited

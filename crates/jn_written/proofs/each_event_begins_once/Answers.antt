@@ -1,5 +1,0 @@
-use Rattle.jn_written.proofs.Counted.{events-counted}
-use Rattle.jn_written.proofs.each_event_begins_once.Goals as goal
-
-pub returns : goal.returns
-returns c x schedule files epochs t m not = events-counted x schedule files epochs t m not

@@ -1,6 +1,0 @@
-use Rattle.jn_written.proofs.Common.{refl, before}
-use Rattle.jn_written.proofs.Quiet.{quiet-run}
-use Rattle.jn_written.proofs.messages_are_told_where_asked.Goals as goal
-
-pub returns : goal.returns
-returns c x schedule files epochs t m quiet = quiet-run x quiet (before x schedule files epochs) t m refl

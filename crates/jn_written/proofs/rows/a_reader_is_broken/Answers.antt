@@ -1,5 +1,0 @@
-use Rattle.jn_written.proofs.Reports.{a_reader_is_broken}
-use Rattle.jn_written.proofs.rows.a_reader_is_broken.Goals as goal
-
-pub returns : goal.returns
-returns c = a_reader_is_broken

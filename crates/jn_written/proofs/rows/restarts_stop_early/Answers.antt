@@ -1,5 +1,0 @@
-use Rattle.jn_written.proofs.Reports.{restarts_stop_early}
-use Rattle.jn_written.proofs.rows.restarts_stop_early.Goals as goal
-
-pub returns : goal.returns
-returns c = restarts_stop_early

@@ -1,5 +1,0 @@
-use Rattle.jn_written.proofs.Caused.{caused}
-use Rattle.jn_written.proofs.settling.a_refusal_has_its_cause.Goals as goal
-
-pub returns : goal.returns
-returns c = caused

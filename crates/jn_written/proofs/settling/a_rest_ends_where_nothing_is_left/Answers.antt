@@ -1,5 +1,0 @@
-use Rattle.jn_written.proofs.Resting.{rest-ends}
-use Rattle.jn_written.proofs.settling.a_rest_ends_where_nothing_is_left.Goals as goal
-
-pub returns : goal.returns
-returns c = rest-ends

@@ -1,5 +1,0 @@
-use Rattle.jn_written.proofs.Resting.{is-done}
-use Rattle.jn_written.proofs.settling.an_event_without_a_cause_is_done.Goals as goal
-
-pub returns : goal.returns
-returns c = is-done

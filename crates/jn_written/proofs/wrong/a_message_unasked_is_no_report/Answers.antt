@@ -1,6 +1,0 @@
-use Rattle.jn_written.proofs.Common.{refl, a_message_told}
-use Rattle.jn_written.proofs.Refuted.{unasked}
-use Rattle.jn_written.proofs.wrong.a_message_unasked_is_no_report.Goals as goal
-
-pub returns : goal.returns
-returns c = unasked a_message_told refl
