@@ -1,5 +1,5 @@
 -- What another head in a slot makes of the files.
-use Rattle.jn_files.proofs.Common.{◌≡◌, ◌≢◌, inl, inr, ◌<◌, ℕ, zero, suc, true, false, List, length, replicate, Option, Some, None, refl, sym, ap, subst, ◌∙◌, arith, fun_ext, cases_eq, cases_lt, false_from_ne_true, eq-eqb, nat_tests, get_or-set_same, get_or-set_other, slice_set, slice_index, take, nat_le, ◌&&◌, option_map, FileNo, BlockNo, LockUnit, File, Block, Files, Change, change, or_else, there, created, removed, cut_from, written, Head, Free, Used, head_in, is_of, addresses_of, addresses, or_nil, behind, files_of, fresh_head, cut_addresses}
+use Rattle.jn_files.proofs.Common.{head_blocks, ◌≡◌, ◌≢◌, inl, inr, ◌<◌, ℕ, zero, suc, true, false, List, length, replicate, Option, Some, None, refl, sym, ap, subst, ◌∙◌, arith, fun_ext, cases_eq, cases_lt, false_from_ne_true, eq-eqb, nat_tests, get_or-set_same, get_or-set_other, slice_set, slice_index, take, nat_le, ◌&&◌, option_map, FileNo, BlockNo, LockUnit, File, Block, Files, Change, change, or_else, there, created, removed, cut_from, written, Head, Free, Used, head_in, is_of, addresses_of, addresses, or_nil, behind, files_of, fresh_head, cut_addresses}
 use Rattle.jn_base.specs.Names.{file_eq, block_eq}
 use Rattle.jn_files.proofs.Lookup.{when_true, when_false, none_has, addresses_at, addresses_other}
 use Rattle.jn_files.proofs.Cutting.{cut_kept, cut_gone}
@@ -78,12 +78,12 @@ module _ (heads : List Head) (slot : ℕ) (h : Head) (f : FileNo) (below : slot 
   pub becomes_fresh : h ≡ fresh_head f → files_of (slice_set heads slot h) leaves ≡ change (created f) (files_of heads leaves)
   becomes_fresh e =
       let is : is_of f h ≡ true = ap (is_of f) e ∙ same_file f in
-      let now : addresses f (slice_set heads slot h) ≡ Some (replicate 120 0) = new_addresses is ∙ ap (λ (x : Head). Some (addresses_of x)) e in
+      let now : addresses f (slice_set heads slot h) ≡ Some (replicate head_blocks 0) = new_addresses is ∙ ap (λ (x : Head). Some (addresses_of x)) e in
       by_file (created f) (files_of heads leaves) (files_of (slice_set heads slot h) leaves) f
       (λ g ne. (when_false (file_eq f g) (Some (Some there)) None (differ f g ne), other_file g ne))
       (λ g p ne. (when_false (file_eq f g) (Some None) None (differ f g ne), other_block g p ne))
-      (file_at (replicate 120 0) (slice_set heads slot h) now ∙ sym (ap (λ (x : Option (Option (List ℕ))). or_else x (files_of heads leaves (File f))) (when_true (file_eq f f) (Some (Some there)) None (same_file f))))
-      (λ p. block_at (replicate 120 0) (slice_set heads slot h) p now ∙ ap (behind leaves) (zeros_at 120 p.0)
+      (file_at (replicate head_blocks 0) (slice_set heads slot h) now ∙ sym (ap (λ (x : Option (Option (List ℕ))). or_else x (files_of heads leaves (File f))) (when_true (file_eq f f) (Some (Some there)) None (same_file f))))
+      (λ p. block_at (replicate head_blocks 0) (slice_set heads slot h) p now ∙ ap (behind leaves) (zeros_at head_blocks p.0)
       ∙ sym (ap (λ (x : Option (Option (List ℕ))). or_else x (files_of heads leaves (Block f p))) (when_true (file_eq f f) (Some None) None (same_file f))))
 
   pub becomes_gone : h ≡ Free → files_of (slice_set heads slot h) leaves ≡ change (removed f) (files_of heads leaves)

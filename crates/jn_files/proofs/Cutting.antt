@@ -1,5 +1,5 @@
 -- The addresses of a head, place by place.
-use Rattle.jn_files.proofs.Common.{inl, inr, ◌≡◌, ◌≤◌, ◌<◌, ℕ, zero, suc, true, List, [], ◌∷◌, length, refl, sym, ap, ◌∙◌, arith, cases_lt, nat_tests, ext_get_or, slice_index, nat_le, list_all, Head, Free, Used, has_page, within, address_of, cut_addresses}
+use Rattle.jn_files.proofs.Common.{head_blocks, inl, inr, ◌≡◌, ◌≤◌, ◌<◌, ℕ, zero, suc, true, List, [], ◌∷◌, length, refl, sym, ap, ◌∙◌, arith, cases_lt, nat_tests, ext_get_or, slice_index, nat_le, list_all, Head, Free, Used, has_page, within, address_of, cut_addresses}
 
 pub cut_length : (n : ℕ) (xs : List ℕ) → length (cut_addresses n xs) ≡ length xs
 cut_length n [] = refl
@@ -41,13 +41,13 @@ past_list [] p past = refl
 past_list (x ∷ xs) zero past = absurd (omega arith)
 past_list (x ∷ xs) (suc p) past = past_list xs p (omega arith)
 
--- and there are 120
-pub address_past : (h : Head) (p : ℕ) → has_page h ≡ true → 120 ≤ p → address_of h p ≡ 0
+-- and there are `head_blocks`
+pub address_past : (h : Head) (p : ℕ) → has_page h ≡ true → head_blocks ≤ p → address_of h p ≡ 0
 address_past Free p whole past = refl
-address_past (Used f xs) p whole past = past_list xs p (let long : length xs ≡ 120 = grind (arith, nat_tests, whole) in omega arith)
+address_past (Used f xs) p whole past = past_list xs p (let long : length xs ≡ head_blocks = grind (arith, nat_tests, whole) in omega arith)
 
-pub address_below : (h : Head) (p a : ℕ) → has_page h ≡ true → address_of h p ≡ suc a → p < 120
-address_below h p a whole e = elim (cases_lt p 120) [
+pub address_below : (h : Head) (p a : ℕ) → has_page h ≡ true → address_of h p ≡ suc a → p < head_blocks
+address_below h p a whole e = elim (cases_lt p head_blocks) [
   | inl lt ↦ lt
   | inr ge ↦ absurd (let none = address_past h p whole ge in omega arith)
 ]

@@ -1,6 +1,7 @@
 -- A file's head by the index of the files' numbers.
-use Rattle.jn_files.proofs.Common.{◌≡◌, ◌<◌, ◌≤◌, ℕ, suc, Bool, true, false, List, [], ◌∷◌, length, Option, Some, None, inl, inr, refl, sym, ap, ◌∙◌, arith, cases_lt, nat_tests, get_or_past, is_some, slice_index, IfSome, IfNone, FileNo, number_at, is_number_above, IsSlotFrom, IsNumberAbove, Head, Free, Used, head_in, is_of, exists, addresses, addresses_of, address_of, address_for, or_nil, is_above, NextFile, AreIndexed, head_number, file_number}
+use Rattle.jn_files.proofs.Common.{subst, nat_lt, ◌≡◌, ◌<◌, ◌≤◌, ℕ, suc, Bool, true, false, List, [], ◌∷◌, length, Option, Some, None, inl, inr, refl, sym, ap, ◌∙◌, arith, cases_lt, nat_tests, get_or_past, is_some, slice_index, IfSome, IfNone, FileNo, number_at, is_number_above, IsSlotFrom, IsNumberAbove, Head, Free, Used, head_in, is_of, exists, addresses, addresses_of, address_of, address_for, or_nil, NextFile, AreIndexed, head_number, file_number, BlockNo, NextAddress, NextBlock}
 use Rattle.jn_files.proofs.Lookup.{absent_none, when_false, addresses_lowest}
+use Rattle.jn_index.specs.Least.{NextAfter, number_after}
 
 -- a head that the file has
 pub has_head : (g : FileNo) (hs : List Head) → exists hs g ≡ true → (j : ℕ) × (j < length hs) × (is_of g (head_in hs j) ≡ true)
@@ -48,23 +49,27 @@ module _ (files : List (Option ℕ)) (heads : List Head) (are : AreIndexed files
       by false t = refl
       by true t = absurd (let at = has_head f heads t in none at.0 (omega arith) (are.each at.0 ∙ its_number f (head_in heads at.0) at.2))
 
-  above_too : (after : Option FileNo) (g : FileNo) (b : Bool) → is_above after g ≡ b → is_number_above (file_number after) g.0 ≡ b
-  above_too None g b e = e
-  above_too (Some f) g b e = e
+  above_from : (after : Option FileNo) (g : FileNo) → is_number_above (file_number after) g.0 ≡ true → number_after (λ (f : FileNo). f.0) after ≤ g.0
+  above_from None g h = omega arith
+  above_from (Some f) g h = grind (arith, nat_tests, h)
 
-  and_back : (after : Option FileNo) (g : FileNo) (b : Bool) → is_number_above (file_number after) g.0 ≡ b → is_above after g ≡ b
-  and_back None g b e = e
-  and_back (Some f) g b e = e
+  from_above : (after : Option FileNo) (g : FileNo) → number_after (λ (f : FileNo). f.0) after ≤ g.0 → is_number_above (file_number after) g.0 ≡ true
+  from_above None g h = refl
+  from_above (Some f) g h = grind (arith, nat_tests, h)
+
+  below_of : (after : Option FileNo) (g : FileNo) → is_number_above (file_number after) g.0 ≡ false → g.0 < number_after (λ (f : FileNo). f.0) after
+  below_of None g h = absurd (cc h)
+  below_of (Some f) g h = grind (arith, nat_tests, h)
 
   pub next_found : (after : Option FileNo) (f : FileNo) → IsNumberAbove files (file_number after) f.0 → NextFile heads after (Some f)
   next_found after f next = record {
-    stands = has_file f heads next.slot (of_number f (head_in heads next.slot) (sym (are.each next.slot) ∙ next.here));
-    above = and_back after f true next.above;
-    least = λ g e above. let at = has_head g heads e in next.least at.0 g.0 (are.each at.0 ∙ its_number g (head_in heads at.0) at.2) (above_too after g true above);
+    here = has_file f heads next.slot (of_number f (head_in heads next.slot) (sym (are.each next.slot) ∙ next.here));
+    from_there = above_from after f next.above;
+    least = λ g e le. let at = has_head g heads e in next.least at.0 g.0 (are.each at.0 ∙ its_number g (head_in heads at.0) at.2) (from_above after g le);
   }
 
   pub next_none : (after : Option FileNo) → ((slot n : ℕ) → number_at files slot ≡ Some n → is_number_above (file_number after) n ≡ false) → NextFile heads after None
-  next_none after none g e = let at = has_head g heads e in and_back after g false (none at.0 g.0 (are.each at.0 ∙ its_number g (head_in heads at.0) at.2))
+  next_none after none g e = let at = has_head g heads e in below_of after g (none at.0 g.0 (are.each at.0 ∙ its_number g (head_in heads at.0) at.2))
 
   -- as the answer of a search says it
   pub there_by : (f : FileNo) (found : Option ℕ) → IfSome found (λ slot. IsSlotFrom files f.0 0 slot) → IfNone found ((slot : ℕ) → 0 ≤ slot → number_at files slot ≡ Some f.0 → ⊥) → is_some found ≡ exists heads f
@@ -74,3 +79,14 @@ module _ (files : List (Option ℕ)) (heads : List Head) (are : AreIndexed files
 -- a file's address is that of the lowest head that it has
 pub address_there : (heads : List Head) (f : FileNo) (slot p : ℕ) → is_of f (head_in heads slot) ≡ true → ((k : ℕ) → is_of f (head_in heads k) ≡ true → slot ≤ k) → address_of (head_in heads slot) p ≡ address_for heads f p
 address_there heads f slot p here low = ap (λ (o : Option (List ℕ)). slice_index (or_nil o) p) (sym (addresses_lowest f heads slot here low))
+
+-- what is next in a file's head is next in the file, and a file without a head has no block
+pub next_in_head : (heads : List Head) (f : FileNo) (slot : ℕ) → is_of f (head_in heads slot) ≡ true → ((k : ℕ) → is_of f (head_in heads k) ≡ true → slot ≤ k) → (after next : Option BlockNo) → NextAddress (head_in heads slot) after next → NextBlock heads f after next
+next_in_head heads f slot here low after next is = subst (λ (test : BlockNo → Bool). NextAfter (λ (p : BlockNo). p.0) test after next) (λ i p. nat_lt 0 (address_there heads f slot p.0 here low i)) is
+
+pub no_block : (heads : List Head) (f : FileNo) → exists heads f ≡ false → (after : Option BlockNo) → NextBlock heads f after None
+no_block heads f absent after p e = by (addresses f heads) absent e
+  where
+    by : (o : Option (List ℕ)) → is_some o ≡ false → nat_lt 0 (slice_index (or_nil o) p.0) ≡ true → p.0 < number_after (λ (q : BlockNo). q.0) after
+    by None h k = absurd (cc k)
+    by (Some xs) h k = absurd (cc h)

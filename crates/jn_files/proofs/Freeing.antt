@@ -1,5 +1,5 @@
 -- Data pages become free one by one, as a head leads to them no more.
-use Rattle.jn_files.proofs.Common.{◌≡◌, ◌⊎◌, inl, inr, ⊎_elim, ℕ, zero, suc, ◌+◌, ◌-◌, ◌≤◌, ◌<◌, Bool, true, false, List, length, refl, sym, subst, ◌∙◌, arith, cases_eq, cases_lt, false_from_ne_true, nat_tests, get_or-set_same, get_or-set_other, length-set, nat_eq, slice_index_or, if◌then◌else◌, FreeNumbers, with_free, Head, address_of, ChangesBlocks, MayDrop, IsDropped, DropsAmong, Drops, freed_one}
+use Rattle.jn_files.proofs.Common.{head_blocks, ◌≡◌, ◌⊎◌, inl, inr, ⊎_elim, ℕ, zero, suc, ◌+◌, ◌-◌, ◌≤◌, ◌<◌, Bool, true, false, List, length, refl, sym, subst, ◌∙◌, arith, cases_eq, cases_lt, false_from_ne_true, nat_tests, get_or-set_same, get_or-set_other, length-set, nat_eq, slice_index_or, if◌then◌else◌, FreeNumbers, with_free, Head, address_of, ChangesBlocks, MayDrop, IsDropped, DropsAmong, Drops, freed_one}
 use Rattle.jn_alloc.specs.Free.{is_free}
 
 one_less : (b : ℕ) → suc b - 1 ≡ b
@@ -83,7 +83,7 @@ module _ (held : List Bool) (old new : Head) (n : ℕ) (v w : FreeNumbers) (may 
 
 -- blocks that keep their data pages drop nothing
 module _ (held : List Bool) (old new : Head) (first end : ℕ) (blocks : ChangesBlocks old new first end) where
-  not_dropped : (q a : ℕ) → q < 120 → (q < first) ⊎ (end ≤ q) → IsDropped held old new q a → ⊥
+  not_dropped : (q a : ℕ) → q < head_blocks → (q < first) ⊎ (end ≤ q) → IsDropped held old new q a → ⊥
   not_dropped q a low out d = d.changed (blocks.same q low out ∙ d.was)
 
   pub none_dropped : (v : FreeNumbers) → Drops held old new first v v
@@ -95,11 +95,11 @@ module _ (held : List Bool) (old new : Head) (first end : ℕ) (blocks : Changes
     freed = λ q a lt d. absurd (not_dropped q a (let range = blocks.range in let within = blocks.within in omega arith) (inl lt) d);
   }
 
-  among_all : (v : FreeNumbers) (a : ℕ) → (is_free v a ≡ true) ⊎ DropsAmong held old new end a → (is_free v a ≡ true) ⊎ DropsAmong held old new 120 a
+  among_all : (v : FreeNumbers) (a : ℕ) → (is_free v a ≡ true) ⊎ DropsAmong held old new end a → (is_free v a ≡ true) ⊎ DropsAmong held old new head_blocks a
   among_all v a (inl e) = inl e
   among_all v a (inr d) = inr (record { block = d.block; below = let lt = d.below in let within = blocks.within in omega arith; dropped = d.dropped })
 
-  pub all_dropped : (v w : FreeNumbers) → Drops held old new end v w → Drops held old new 120 v w
+  pub all_dropped : (v w : FreeNumbers) → Drops held old new end v w → Drops held old new head_blocks v w
   all_dropped v w so_far = record {
     count = so_far.count;
     promised = so_far.promised;

@@ -1,5 +1,5 @@
 -- A table is loaded, head by head, and what is free is counted out.
-use Rattle.jn_files.proofs.Common.{◌≡◌, ◌≢◌, inl, inr, ◌<◌, ◌+◌, ◌-◌, ◌^◌, ℕ, zero, suc, Bool, true, false, List, [], ◌∷◌, ◌++◌, length, refl, sym, ap, subst, ◌∙◌, arith, cases_eq, cases_lt, nat_tests, get_or-set_same, get_or-set_other, length-set, get_or_past, slice_index_or, take, nat_eq, if◌then◌else◌, FreeNumbers, is_free_number, with_free, Head, Free, head_page, counts_of, Counts, head_place, StoreView, IsServed, later_refl, later_trans, same_refl, same_trans, head_in, address_of, AreHeads, IsTable, IsLoadable, StoreRead, IsLoaded, table_view, IsHeadAt, AreFreeHeads, AreFreeLeaves, MayTakeNamed, TakesNamed, taken_one, PageCounts}
+use Rattle.jn_files.proofs.Common.{head_blocks, ◌≡◌, ◌≢◌, inl, inr, ◌<◌, ◌+◌, ◌-◌, ◌^◌, ℕ, zero, suc, Bool, true, false, List, [], ◌∷◌, ◌++◌, length, refl, sym, ap, subst, ◌∙◌, arith, cases_eq, cases_lt, nat_tests, get_or-set_same, get_or-set_other, length-set, get_or_past, slice_index_or, take, nat_eq, if◌then◌else◌, FreeNumbers, is_free_number, with_free, Head, Free, head_page, counts_of, Counts, head_place, StoreView, IsServed, later_refl, later_trans, same_refl, same_trans, head_in, address_of, AreHeads, IsTable, IsLoadable, StoreRead, IsLoaded, table_view, IsHeadAt, AreFreeHeads, AreFreeLeaves, MayTakeNamed, TakesNamed, taken_one, PageCounts}
 use Rattle.jn_records.specs.declared.root.Root.{Root}
 use Rattle.jn_files.proofs.Cutting.{address_below}
 use Rattle.jn_files.proofs.Putting.{named_below, same_only}
@@ -68,7 +68,7 @@ module _ (g : Counts) (heads : List Head) (n : ℕ) (v : FreeNumbers) (are : Are
     once = λ a p q e d. (are.addresses a n p n q e d).1;
   }
 
-  pub leaves_more : (w : FreeNumbers) → TakesNamed (head_in heads n) 120 v w → AreFreeLeaves g.leaves heads (n + 1) w
+  pub leaves_more : (w : FreeNumbers) → TakesNamed (head_in heads n) head_blocks v w → AreFreeLeaves g.leaves heads (n + 1) w
   leaves_more w takes = record {
     count = takes.count ∙ so_far.count;
     promised = takes.promised ∙ so_far.promised;

@@ -1,5 +1,5 @@
 -- The flags of the data pages that heads name.
-use Rattle.jn_files.proofs.Common.{◌≡◌, ◌≢◌, ◌⊎◌, inl, inr, ⊎_elim, ℕ, zero, suc, ◌+◌, ◌-◌, ◌≤◌, ◌<◌, Bool, true, false, List, length, refl, sym, ap, subst, ◌∙◌, arith, cases_eq, cases_lt, nat_tests, get_or-set_same, get_or-set_other, length-set, nat_eq, not, slice_index_or, slice_set, Head, head_in, address_of, AreHeads, IsHeadOf, IsUnnamed, IsNamedPage, AreNamed, NamesAmong, Marks, ChangesBlocks, marked_one}
+use Rattle.jn_files.proofs.Common.{head_blocks, ◌≡◌, ◌≢◌, ◌⊎◌, inl, inr, ⊎_elim, ℕ, zero, suc, ◌+◌, ◌-◌, ◌≤◌, ◌<◌, Bool, true, false, List, length, refl, sym, ap, subst, ◌∙◌, arith, cases_eq, cases_lt, nat_tests, get_or-set_same, get_or-set_other, length-set, nat_eq, not, slice_index_or, slice_set, Head, head_in, address_of, AreHeads, IsHeadOf, IsUnnamed, IsNamedPage, AreNamed, NamesAmong, Marks, ChangesBlocks, marked_one}
 use Rattle.jn_files.proofs.Cutting.{address_within, address_below}
 use Rattle.jn_files.proofs.Lookup.{when_false}
 use Rattle.jn_files.proofs.Standing.{head_at_slot, head_off_slot}
@@ -74,18 +74,18 @@ pub pages_below : (leaves : ℕ) (h : Head) → IsHeadOf leaves h → (p a : ℕ
 pages_below leaves h is p a e = let within = address_within leaves h p is.is_head.within_leaves in omega arith
 
 -- what a head doesn't name among its blocks it doesn't name
-not_named : (leaves : ℕ) (h : Head) (a : ℕ) → IsHeadOf leaves h → ((p : ℕ) → p < 120 → address_of h p ≢ suc a) → (p : ℕ) → address_of h p ≢ suc a
+not_named : (leaves : ℕ) (h : Head) (a : ℕ) → IsHeadOf leaves h → ((p : ℕ) → p < head_blocks → address_of h p ≢ suc a) → (p : ℕ) → address_of h p ≢ suc a
 not_named leaves h a is none p e = none p (address_below h p a is.is_head.whole e) e
 
 -- ---- of all heads, head by head
 
 module _ (leaves : ℕ) (heads : List Head) (are : AreHeads leaves heads) (n : ℕ) (flags new : List Bool) (long : length flags ≡ leaves) (so_far : NamedBefore heads n flags)
-    (marks : Marks (head_in heads n) true 0 120 flags new) where
+    (marks : Marks (head_in heads n) true 0 head_blocks flags new) where
   pub names_more : NamedBefore heads (n + 1) new
   names_more = record {
     set = λ a lt e. ⊎_elim
         (λ (was : slice_index_or flags a false ≡ true). so_far.set a (let same = marks.count in omega arith) was)
-        (λ (d : NamesAmong (head_in heads n) 0 120 a). record { slot = n; block = d.block; here = d.here })
+        (λ (d : NamesAmong (head_in heads n) 0 head_blocks a). record { slot = n; block = d.block; here = d.here })
         (marks.to a (let same = marks.count in omega arith) e);
     clear = λ a lt e slot p low. let was = marks.from a (let same = marks.count in omega arith) e in elim (cases_eq slot n) [
       | inl same ↦ subst (λ (k : ℕ). address_of (head_in heads k) p ≢ suc a) (sym same) (not_named leaves (head_in heads n) a (are.each n) (λ q low. was.1 q (omega arith) low) p)

@@ -1,5 +1,5 @@
 -- What a store holds over the put of a head.
-use Rattle.jn_files.proofs.Common.{◌≡◌, ◌≢◌, ◌⊎◌, inl, inr, ⊎_elim, ◌<◌, ◌+◌, ◌^◌, ℕ, zero, suc, Bool, true, false, List, [], ◌∷◌, length, drop, Option, Some, None, refl, sym, ap, subst, ◌∙◌, arith, fun_ext, cases_eq, cases_lt, nat_tests, length-set, slice_set, slice_index, take, nat_lt, option_map, option_and_then, FileNo, BlockNo, LockUnit, File, Block, Change, change, there, Head, Used, head_page, FileFits, IsHead, Counts, Pages, head_place, data_place, page_count, is_head_of, head_from, head_of, address_in, block_behind, block_in, files_of_pages, StoreView, IsOnly, IsSamePage, StorePut, IsChoice, with_page, TableView, head_in, is_of, addresses_of, address_of, addresses, address_for, or_nil, behind, files_of, AreHeads, IsTable, Says, leaves_in, IsLeaf, HoldsHeads, HoldsTable, files_in, HasPagesOfTable, IsChanged, PutsHead, IsChange, AreLeaves}
+use Rattle.jn_files.proofs.Common.{head_blocks, ◌≡◌, ◌≢◌, ◌⊎◌, inl, inr, ⊎_elim, ◌<◌, ◌+◌, ◌^◌, ℕ, zero, suc, Bool, true, false, List, [], ◌∷◌, length, drop, Option, Some, None, refl, sym, ap, subst, ◌∙◌, arith, fun_ext, cases_eq, cases_lt, nat_tests, length-set, slice_set, slice_index, take, nat_lt, option_map, option_and_then, FileNo, BlockNo, LockUnit, File, Block, Change, change, there, Head, Used, head_page, FileFits, IsHead, Counts, Pages, head_place, data_place, page_count, is_head_of, head_from, head_of, address_in, block_behind, block_in, files_of_pages, StoreView, IsOnly, IsSamePage, StorePut, IsChoice, with_page, TableView, head_in, is_of, addresses_of, address_of, addresses, address_for, or_nil, behind, files_of, AreHeads, IsTable, Says, leaves_in, IsLeaf, HoldsHeads, HoldsTable, files_in, HasPagesOfTable, IsChanged, PutsHead, IsChange, AreLeaves}
 use Rattle.jn_store.proofs.Choices.{Leads}
 use Rattle.jn_store.proofs.Choices.{choice_only, put_leads, done_leads, with_same, with_other, some_choice}
 use Rattle.jn_files.proofs.Cutting.{address_within, address_past}
@@ -58,10 +58,10 @@ module _ (g : Counts) (pages : Pages) (hs : List Head) (slots : length hs ≡ g.
   block_by f p (Some xs) e =
       let at = found_by f hs xs e in
       let is : IsHead g.leaves (Used f xs) = subst (IsHead g.leaves) at.1 (are.each at.0).is_head in
-      elim (cases_lt p.0 120) [
-        | inl lt ↦ when_true (nat_lt p.0 120) (block_behind g pages (address_in (head_page (Used f xs)) p.0)) None (grind (arith, nat_tests))
+      elim (cases_lt p.0 head_blocks) [
+        | inl lt ↦ when_true (nat_lt p.0 head_blocks) (block_behind g pages (address_in (head_page (Used f xs)) p.0)) None (grind (arith, nat_tests))
             ∙ ap (block_behind g pages) (page_address f xs p.0 g.leaves small is.within_leaves (grind (arith, nat_tests, is.whole)) lt) ∙ block_same g pages (slice_index xs p.0)
-        | inr ge ↦ when_false (nat_lt p.0 120) (block_behind g pages (address_in (head_page (Used f xs)) p.0)) None (grind (arith, nat_tests))
+        | inr ge ↦ when_false (nat_lt p.0 head_blocks) (block_behind g pages (address_in (head_page (Used f xs)) p.0)) None (grind (arith, nat_tests))
             ∙ sym (ap (behind (leaves_in g pages)) (address_past (Used f xs) p.0 is.whole ge))
       ]
 

@@ -1,5 +1,5 @@
 -- The heads that the calls put may stand in their slots, and what each makes of the files.
-use Rattle.jn_files.proofs.Common.{◌≡◌, ◌⊎◌, inl, inr, ⊎_elim, ◌<◌, ◌≤◌, ◌+◌, ◌^◌, ℕ, zero, suc, Bool, true, false, List, [], ◌∷◌, length, replicate, refl, sym, ap, subst, ◌∙◌, arith, cases_eq, cases_lt, false_from_ne_true, nat_tests, get_or_past, get_or-set_same, get_or-set_other, length-set, slice_set, slice_index, slice_index_or, take, nat_le, list_all, free_count, is_free_number, IsLeastFree, FileNo, BlockNo, Change, created, removed, cut_from, written, Head, Free, Used, StoreView, TableView, head_in, is_free, is_of, exists, address_of, IsHeadOf, IsTable, fresh_head, cut_addresses, IsLeaf, data_place, IsPlaceOf, MayBecome, PutsHead, SetsHead, MayStand, ChangesBlocks, IsChange, AreLeaves}
+use Rattle.jn_files.proofs.Common.{head_blocks, ◌≡◌, ◌⊎◌, inl, inr, ⊎_elim, ◌<◌, ◌≤◌, ◌+◌, ◌^◌, ℕ, zero, suc, Bool, true, false, List, [], ◌∷◌, length, replicate, refl, sym, ap, subst, ◌∙◌, arith, cases_eq, cases_lt, false_from_ne_true, nat_tests, get_or_past, get_or-set_same, get_or-set_other, length-set, slice_set, slice_index, slice_index_or, take, nat_le, list_all, free_count, is_free_number, IsLeastFree, FileNo, BlockNo, Change, created, removed, cut_from, written, Head, Free, Used, StoreView, TableView, head_in, is_free, is_of, exists, address_of, IsHeadOf, IsTable, fresh_head, cut_addresses, IsLeaf, data_place, IsPlaceOf, MayBecome, PutsHead, SetsHead, MayStand, ChangesBlocks, IsChange, AreLeaves}
 use Rattle.jn_files.proofs.Cutting.{cut_length, cut_kept, cut_gone}
 use Rattle.jn_files.proofs.Lookup.{absent_none, of_one}
 use Rattle.jn_files.proofs.Changing.{zeros_at, becomes_fresh, becomes_gone, becomes_cut, becomes_written}
@@ -35,21 +35,21 @@ set_within (suc p) a leaves (x ∷ xs) lt all = let rest = set_within p a leaves
 
 -- ---- which blocks have another data page
 
-pub changes_any : (old new : Head) → ChangesBlocks old new 0 120
+pub changes_any : (old new : Head) → ChangesBlocks old new 0 head_blocks
 changes_any old new = record {
   range = omega arith;
   within = omega arith;
-  same = λ p low out. absurd (⊎_elim (λ (before : p < 0). let no_way : ⊥ = omega arith in no_way) (λ (behind : 120 ≤ p). let no_way : ⊥ = omega arith in no_way) out);
+  same = λ p low out. absurd (⊎_elim (λ (before : p < 0). let no_way : ⊥ = omega arith in no_way) (λ (behind : head_blocks ≤ p). let no_way : ⊥ = omega arith in no_way) out);
 }
 
-pub cut_changes_blocks : (old : Head) (f : FileNo) (xs : List ℕ) (n : ℕ) → n < 120 → old ≡ Used f xs → ChangesBlocks old (Used f (cut_addresses n xs)) n 120
+pub cut_changes_blocks : (old : Head) (f : FileNo) (xs : List ℕ) (n : ℕ) → n < head_blocks → old ≡ Used f xs → ChangesBlocks old (Used f (cut_addresses n xs)) n head_blocks
 cut_changes_blocks old f xs n lt was = record {
   range = omega arith;
   within = omega arith;
-  same = λ p low out. ⊎_elim (λ (before : p < n). cut_kept n xs p before ∙ ap (λ (x : Head). address_of x p) (sym was)) (λ (behind : 120 ≤ p). absurd (omega arith)) out;
+  same = λ p low out. ⊎_elim (λ (before : p < n). cut_kept n xs p before ∙ ap (λ (x : Head). address_of x p) (sym was)) (λ (behind : head_blocks ≤ p). absurd (omega arith)) out;
 }
 
-pub leaf_changes_blocks : (old : Head) (f : FileNo) (xs : List ℕ) (p a : ℕ) → p < 120 → old ≡ Used f xs → ChangesBlocks old (Used f (slice_set xs p (suc a))) p (p + 1)
+pub leaf_changes_blocks : (old : Head) (f : FileNo) (xs : List ℕ) (p a : ℕ) → p < head_blocks → old ≡ Used f xs → ChangesBlocks old (Used f (slice_set xs p (suc a))) p (p + 1)
 leaf_changes_blocks old f xs p a lt was = record {
   range = omega arith;
   within = omega arith;
@@ -102,13 +102,13 @@ module _ (t : TableView) (is : IsTable t) (f : FileNo) (slot : ℕ) (place : IsP
     }
 
   pub fresh_stands : f.0 < 2 ^ 32 → (exists t.heads f ≡ false → t.free_heads.promised < free_count t.free_heads) → MayStand t slot (fresh_head f)
-  fresh_stands small room = empty_stands (fresh_head f) (λ p a e. let none = zeros_at 120 p in omega arith)
+  fresh_stands small room = empty_stands (fresh_head f) (λ p a e. let none = zeros_at head_blocks p in omega arith)
       (λ g e. of_one g f (fresh_head f) e (let same : is_of f (fresh_head f) ≡ true = grind (arith, nat_tests) in same))
-      (record { is_head = record { whole = refl; within_leaves = zeros_within 120 t.counts.leaves }; fits = small })
+      (record { is_head = record { whole = refl; within_leaves = zeros_within head_blocks t.counts.leaves }; fits = small })
       (λ free now. ⊎_elim (λ own. absurd (let taken = of_some f (head_in t.heads slot) own in cc (taken, free))) (λ other. room other.0) place)
 
   pub fresh_leaves : (v : StoreView) → AreLeaves t v (fresh_head f)
-  fresh_leaves v holds p a e = absurd (let none = zeros_at 120 p in omega arith)
+  fresh_leaves v holds p a e = absurd (let none = zeros_at head_blocks p in omega arith)
 
   pub fresh_changes : IsChange t.heads slot (fresh_head f) (λ leaves. created f)
   fresh_changes leaves = becomes_fresh t.heads slot (fresh_head f) f slot_there only old_of (λ g e. ap (λ (x : FileNo). x.0) (of_one g f (fresh_head f) e (let same : is_of f (fresh_head f) ≡ true = grind (arith, nat_tests) in same))) leaves refl
@@ -163,8 +163,8 @@ module _ (t : TableView) (is : IsTable t) (f : FileNo) (slot : ℕ) (place : IsP
     cut_changes n leaves = becomes_cut t.heads slot (Used f (cut_addresses n.0 xs)) f slot_there only old_of (λ g e. ap (λ (x : FileNo). x.0) (used_of (cut_addresses n.0 xs) g e)) leaves xs was n refl
 
     -- a data page for a block
-    module _ (v : StoreView) (p a : ℕ) (block : p < 120) (may : MayBecome t v f p a) where
-      long : length xs ≡ 120
+    module _ (v : StoreView) (p a : ℕ) (block : p < head_blocks) (may : MayBecome t v f p a) where
+      long : length xs ≡ head_blocks
       long = let whole = old_head.is_head.whole in grind (arith, nat_tests)
 
       abbrev set : List ℕ
@@ -219,9 +219,9 @@ module _ (t : TableView) (is : IsTable t) (f : FileNo) (slot : ℕ) (place : IsP
           (λ (old : slice_index xs q ≡ suc b). holds.leaves slot q b (subst (λ (x : Head). address_of x q ≡ suc b) (sym was) old))
           (either_way q b e)
 
-    pub leaf_changes : (p : BlockNo) (a : ℕ) → p.0 < 120 → IsChange t.heads slot (Used f (slice_set xs p.0 (suc a))) (λ leaves. written f p (take 448 (leaves a)))
+    pub leaf_changes : (p : BlockNo) (a : ℕ) → p.0 < head_blocks → IsChange t.heads slot (Used f (slice_set xs p.0 (suc a))) (λ leaves. written f p (take 448 (leaves a)))
     leaf_changes p a block leaves = becomes_written t.heads slot (Used f (slice_set xs p.0 (suc a))) f slot_there only old_of (λ g e. ap (λ (x : FileNo). x.0) (used_of (slice_set xs p.0 (suc a)) g e)) leaves xs was p a
-        (let whole = old_head.is_head.whole in let n : length xs ≡ 120 = grind (arith, nat_tests) in omega arith) refl
+        (let whole = old_head.is_head.whole in let n : length xs ≡ head_blocks = grind (arith, nat_tests) in omega arith) refl
 
 -- a call that found the slot and put its new head
 pub sets_head : (t : TableView) (v : StoreView) (is : IsTable t) (f : FileNo) (slot : ℕ) (place : IsPlaceOf t f slot) (new_head : Head → Head) (c : (ℕ → List ℕ) → Change) (ok : Bool) (u : TableView) (w : StoreView) (result h : Head)

@@ -1,5 +1,5 @@
 -- What the page of a head says.
-use Rattle.jn_files.proofs.Common.{◌≡◌, ◌<◌, ◌≤◌, ◌+◌, ◌*◌, ◌-◌, ◌^◌, ◌++◌, ℕ, zero, suc, true, List, [], ◌∷◌, length, replicate, drop, refl, ap, ◌∙◌, arith, slice_index, flat_map, nat_le, nat_eq, list_all, nat_tests, append_assoc, FileNo, Head, Free, Used, head_page, head_bytes, FileFits, is_head_of, address_in, is_of}
+use Rattle.jn_files.proofs.Common.{head_blocks, ◌≡◌, ◌<◌, ◌≤◌, ◌+◌, ◌*◌, ◌-◌, ◌^◌, ◌++◌, ℕ, zero, suc, true, List, [], ◌∷◌, length, replicate, drop, refl, ap, ◌∙◌, arith, slice_index, flat_map, nat_le, nat_eq, list_all, nat_tests, append_assoc, FileNo, Head, Free, Used, head_page, head_bytes, FileFits, is_head_of, address_in, is_of}
 use Rattle.byteorder.specs.Endian.{big_bytes, big_number}
 use Rattle.byteorder.specs.Numbers.{big_number-reads_back, length-bytes_high_first}
 
@@ -34,7 +34,7 @@ address_again (x ∷ xs) rest (suc p) leaves small all below =
     ∙ ap (big_number 2) (drop_past (big_bytes 2 x) (flat_map (λ a. big_bytes 2 a) xs ++ rest) (2 * suc p) (2 * p) (let two = length-bytes_high_first 2 x in omega arith))
     ∙ address_again xs rest p leaves small (grind (arith, nat_tests, all)) (omega arith)
 
-pub page_address : (f : FileNo) (xs : List ℕ) (p leaves : ℕ) → leaves < 2 ^ 16 → list_all (λ a. nat_le a leaves) xs ≡ true → length xs ≡ 120 → p < 120 → address_in (head_page (Used f xs)) p ≡ slice_index xs p
+pub page_address : (f : FileNo) (xs : List ℕ) (p leaves : ℕ) → leaves < 2 ^ 16 → list_all (λ a. nat_le a leaves) xs ≡ true → length xs ≡ head_blocks → p < head_blocks → address_in (head_page (Used f xs)) p ≡ slice_index xs p
 page_address f xs p leaves small all long below =
     let rest : List ℕ = replicate (512 - length (head_bytes (Used f xs))) 0 in
     let front : List ℕ = 1 ∷ big_bytes 4 f.0 in

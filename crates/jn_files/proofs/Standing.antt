@@ -1,5 +1,5 @@
 -- A head takes the place of a slot's, and the table stays one.
-use Rattle.jn_files.proofs.Common.{◌≡◌, ◌≢◌, inl, inr, ⊎_elim, ℕ, suc, ◌<◌, Bool, true, false, List, length, refl, sym, ap, subst, ◌∙◌, arith, cases_eq, cases_Bool, false_from_ne_true, get_or-set_same, get_or-set_other, length-set, slice_set, slice_index_or, FreeNumbers, is_free_number, Head, Free, PageCounts, head_in, is_free, is_of, address_of, AreHeads, IsHeadOf, IsFreeLeaf, IsTable, IsUnnamed, IsChanged, table_view, MayStand, MayDrop, DropsAmong, Drops}
+use Rattle.jn_files.proofs.Common.{head_blocks, ◌≡◌, ◌≢◌, inl, inr, ⊎_elim, ℕ, suc, ◌<◌, Bool, true, false, List, length, refl, sym, ap, subst, ◌∙◌, arith, cases_eq, cases_Bool, false_from_ne_true, get_or-set_same, get_or-set_other, length-set, slice_set, slice_index_or, FreeNumbers, is_free_number, Head, Free, PageCounts, head_in, is_free, is_of, address_of, AreHeads, IsHeadOf, IsFreeLeaf, IsTable, IsUnnamed, IsChanged, table_view, MayStand, MayDrop, DropsAmong, Drops}
 use Rattle.jn_files.specs.Inside.{Counts}
 use Rattle.jn_files.proofs.Cutting.{address_within, address_below}
 
@@ -53,7 +53,7 @@ module _ (pool : ℕ) (heads : List Head) (held touched : List Bool) (fh fl : Fr
     ];
   }
 
-  module _ (fh2 fl2 : FreeNumbers) (counts : Counts fh slot (is_free h) fh2) (drops : Drops held (head_in heads slot) h 120 fl fl2) where
+  module _ (fh2 fl2 : FreeNumbers) (counts : Counts fh slot (is_free h) fh2) (drops : Drops held (head_in heads slot) h head_blocks fl fl2) where
     same_length : length (slice_set heads slot h) ≡ length heads
     same_length = length-set heads slot h
 
@@ -70,7 +70,7 @@ module _ (pool : ℕ) (heads : List Head) (held touched : List Bool) (fh fl : Fr
             | inr ne ↦ old.unnamed j p (subst (λ (x : Head). address_of x p ≡ suc a) (off j ne) e)
           ];
         })
-        (λ (d : DropsAmong held (head_in heads slot) h 120 a). record {
+        (λ (d : DropsAmong held (head_in heads slot) h head_blocks a). record {
           below = may_drop.below a d.block d.dropped.was;
           loose = d.dropped.loose;
           unnamed = λ j p e. elim (cases_eq j slot) [
@@ -144,13 +144,13 @@ module _ (pool : ℕ) (heads : List Head) (held touched : List Bool) (fh fl fh2 
   pub code_may_drop : MayDrop held2 old fl
   code_may_drop = subst (λ (l : List Bool). MayDrop l old fl) (sym held_is) (subst (λ (x : Head). MayDrop held x fl) (sym old_is) (may_drop pool heads held touched fh fl slot h is may))
 
-  module _ (free_is : free ≡ is_free new) (counts : Counts fh slot free fh2) (drops : Drops held2 old new 120 fl fl2) where
+  module _ (free_is : free ≡ is_free new) (counts : Counts fh slot free fh2) (drops : Drops held2 old new head_blocks fl fl2) where
     plain_counts : Counts fh slot (is_free h) fh2
     plain_counts = subst (λ (b : Bool). Counts fh slot b fh2) (free_is ∙ ap is_free new_is) counts
 
-    plain_drops : Drops held (head_in heads slot) h 120 fl fl2
-    plain_drops = subst (λ (l : List Bool). Drops l (head_in heads slot) h 120 fl fl2) held_is
-        (subst (λ (x : Head). Drops held2 x h 120 fl fl2) old_is (subst (λ (x : Head). Drops held2 old x 120 fl fl2) new_is drops))
+    plain_drops : Drops held (head_in heads slot) h head_blocks fl fl2
+    plain_drops = subst (λ (l : List Bool). Drops l (head_in heads slot) h head_blocks fl fl2) held_is
+        (subst (λ (x : Head). Drops held2 x h head_blocks fl fl2) old_is (subst (λ (x : Head). Drops held2 old x head_blocks fl fl2) new_is drops))
 
     pub code_table : IsTable (table_view pool after held touched fh2 fl2)
     code_table = subst (λ (l : List Head). IsTable (table_view pool l held touched fh2 fl2)) (sym after_is) (table_set pool heads held touched fh fl slot h is may fh2 fl2 plain_counts plain_drops)

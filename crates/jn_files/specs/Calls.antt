@@ -1,5 +1,5 @@
 -- What the calls of a table of files do to it and to its store.
-use Rattle.std.specs.Prelude.{◌≡◌, ◌⊎◌, ℕ, suc, ◌+◌, ◌*◌, ◌≤◌, ◌<◌, Bool, true, false, List, slice_set, Option, Some, None, Result, Ok, is_ok, nat_lt}
+use Rattle.std.specs.Prelude.{◌≡◌, ◌⊎◌, ℕ, suc, ◌+◌, ◌*◌, ◌≤◌, ◌<◌, Bool, true, false, List, slice_set, Option, Result, Ok, is_ok, nat_lt}
 use Rattle.jn_alloc.specs.Free.{free_count, FreeNumbers, with_free, with_promised, IsLeastFree}
 use Rattle.jn_base.specs.declared.device.Stopped.{Stopped}
 use Rattle.jn_base.specs.declared.names.FileNo.{FileNo}
@@ -12,8 +12,9 @@ use Rattle.jn_records.specs.StablePages.{Counts, Pages, head_place, data_place, 
 use Rattle.jn_store.specs.Store.{StoreView, StoreLater, StoreGot, StorePut, StoreCleaned, IsSamePage, IsCalm, IsServed, IsStop, IsWholePage}
 use Rattle.jn_store.specs.Choices.{IsChoice}
 use Rattle.jn_store.specs.DeviceCalls.{cleaned_get_calls}
-use Rattle.jn_files.specs.Table.{TableView, IsTable, head_in, is_of, exists, is_held, is_touched, IsUnnamed, files_of, address_of}
+use Rattle.jn_files.specs.Table.{TableView, IsTable, head_in, is_of, exists, is_held, is_touched, IsUnnamed, files_of, address_of, is_mapped}
 use Rattle.jn_files.specs.Pages.{Says, IsLeaf, leaf_page, HoldsTable, files_in}
+use Rattle.jn_index.specs.Least.{NextAfter}
 
 -- the store has the pages that the table counts
 abbrev pub HasPagesOfTable : TableView → StoreView → Type 0
@@ -156,16 +157,14 @@ with_promised_leaves t n = record t { free_leaves = with_promised t.free_leaves 
 
 -- ---- listing
 
-abbrev pub is_above : Option FileNo → FileNo → Bool
-is_above None f = true
-is_above (Some after) f = nat_lt after.0 f.0
-
 -- the least file above another, or the least of all
-pub record IsNext (heads : List Head) (after : Option FileNo) (f : FileNo) : Type 0 where
-  pub stands : exists heads f ≡ true
-  pub above : is_above after f ≡ true
-  pub least : (g : FileNo) → exists heads g ≡ true → is_above after g ≡ true → f.0 ≤ g.0
-
 abbrev pub NextFile : List Head → Option FileNo → Option FileNo → Type 0
-NextFile heads after (Some f) = IsNext heads after f
-NextFile heads after None = (g : FileNo) → exists heads g ≡ true → is_above after g ≡ false
+NextFile heads after next = NextAfter (λ (f : FileNo). f.0) (exists heads) after next
+
+-- and the least block of a file that has an address
+abbrev pub NextBlock : List Head → FileNo → Option BlockNo → Option BlockNo → Type 0
+NextBlock heads f after next = NextAfter (λ (p : BlockNo). p.0) (λ p. is_mapped heads f p.0) after next
+
+-- the same of one head
+abbrev pub NextAddress : Head → Option BlockNo → Option BlockNo → Type 0
+NextAddress h after next = NextAfter (λ (p : BlockNo). p.0) (λ p. nat_lt 0 (address_of h p.0)) after next

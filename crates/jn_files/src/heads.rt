@@ -81,6 +81,16 @@ impl Heads {
         Some(FileNo(self.files.number_above(number_of(after))?))
     }
 
+    /// The least block of a file above another that has an address, or the least of all.
+    pub fn next_block(&self, f: FileNo, after: Option<BlockNo>) -> Option<BlockNo>
+        ensures { calls.NextBlock self.now f after result }
+    {
+        match self.slot_of(f) {
+            Some(slot) => self.slot(slot).next_block(after),
+            None => None,
+        }
+    }
+
     /// Puts another head in place of the slot's, which it gives back.
     pub fn replace(&mut self, slot: u16, head: Slot) -> Slot
         requires { slot < length self.old }

@@ -1,12 +1,15 @@
 //! A head as the table keeps it.
-ghost use Rattle.std.specs.Prelude.{◌≡◌, ◌^◌, ◌<◌, ◌≤◌, ◌≢◌, ℕ, suc, true, false, length};
+ghost use Rattle.std.specs.Prelude.{◌≡◌, ◌^◌, ◌<◌, ◌≤◌, ◌≢◌, ℕ, suc, true, false, length, nat_lt, slice_index};
 ghost use Rattle.jn_base.specs.Limits.{head_blocks};
 ghost use Rattle.jn_records.specs.declared.head.Head.TheVariants.{Free};
 ghost use Rattle.jn_records.specs.Heads.{head_page, has_page};
 ghost use Rattle.jn_files.specs.Table as table;
 ghost use Rattle.jn_files.specs.Inside as inside;
+ghost use Rattle.jn_files.specs.Calls as calls;
+ghost use Rattle.jn_index.specs.Least.{LeastFrom, number_after};
+ghost use Rattle.jn_base.specs.declared.names.BlockNo.{BlockNo as Block};
 
-use jn_base::{FileNo, HEAD_BLOCKS, Page, PageWriter};
+use jn_base::{BlockNo, FileNo, HEAD_BLOCKS, Page, PageWriter};
 use jn_records::{Head, used_page};
 use std::marker::Model;
 
@@ -102,6 +105,16 @@ impl Slot {
         }
     }
 
+    /// The least block above another that has an address, or the least of all.
+    pub fn next_block(&self, after: Option<BlockNo>) -> Option<BlockNo>
+        ensures { calls.NextAddress self.now after result }
+    {
+        match self.file {
+            None => None,
+            Some(_) => first_from(&self.addresses, number_after(after)),
+        }
+    }
+
     /// The head without its blocks from one on.
     pub fn cut(&self, n: u16) -> Self
         ensures { result ≡ table.cut_head n self.now }
@@ -125,6 +138,29 @@ impl Slot {
             addresses,
         }
     }
+}
+
+/// The number behind a block, and 0 behind none.
+fn number_after(after: Option<BlockNo>) -> usize
+    ensures value { result ≡ number_after (λ (p : Block). p.0) after }
+    ensures few { result ≤ 2 ^ 16 }
+{
+    match after {
+        Some(block) => usize::from(block.0) + 1,
+        None => 0,
+    }
+}
+
+/// The least block from a number on that has an address.
+fn first_from(addresses: &Addresses, from: usize) -> Option<BlockNo>
+    ensures { LeastFrom (λ (p : Block). p.0) (λ p. nat_lt 0 (slice_index addresses.now p.0)) from result }
+{
+    for block in from..HEAD_BLOCKS {
+        if addresses[block] > 0 {
+            return Some(BlockNo(block as u16));
+        }
+    }
+    None
 }
 
 fn array_of(list: &[u16]) -> Addresses

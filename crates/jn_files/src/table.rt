@@ -117,6 +117,13 @@ impl FileTable {
         self.heads.address_for(f, p) > 0
     }
 
+    /// The least stored block of a file above `after`, or the least of all.
+    pub fn next_block(&self, f: FileNo, after: Option<BlockNo>) -> Option<BlockNo>
+        ensures { calls.NextBlock self.now.heads f after result }
+    {
+        self.heads.next_block(f, after)
+    }
+
     /// The least file above `after`, or the least of all.
     pub fn next(&self, after: Option<FileNo>) -> Option<FileNo>
         ensures { calls.NextFile self.now.heads after result }

@@ -21,6 +21,7 @@ pub use Rattle.jn_image.specs.declared.fault.Unsound.{Unsound}
 pub use Rattle.jn_image.specs.Repeats.{IsLeastFailing, Finds, StandsOnce, StandsOnceBelow, AreNoted, lesser}
 pub use Rattle.jn_image.specs.Unsound.{ToRoot, ToPages, ToPairs, ToPool, ToFiles, ToHeads, ToAddresses, IsFirstFault, TellsSound, seen}
 pub use Rattle.std.specs.List.{AllByRecursion}
+pub use Rattle.jn_base.specs.Limits.{head_blocks}
 pub use Rattle.jn_records.specs.declared.head.Head.{Head}
 pub use Rattle.jn_image.specs.Rules.{IsHeadAt, AreHeads, IsRead, head_file_number, address_of, addresses_of, at_epoch, RuleHolds}
 pub use Rattle.jn_records.specs.declared.head.Head.TheVariants.{Free, Used, Free as FreeHead}

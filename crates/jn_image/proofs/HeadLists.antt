@@ -1,5 +1,5 @@
 -- What the heads that were read say of the image.
-use Rattle.jn_image.proofs.Common.{◌≡◌, ⊎_elim, ◌<◌, ◌+◌, ◌*◌, ◌/◌, ◌%◌, ℕ, zero, suc, Bool, true, false, List, [], ◌∷◌, ◌++◌, length, get_or, replicate, map, Option, Some, None, refl, sym, ap, ◌∙◌, arith, nat_eq, is_some, flat_map, if◌then◌else◌, AllByRecursion, cases_lt, false≢true, nat_tests, get_or_past, get_or-append-add, Head, HasOneHead, IsWholeHead, Names, head_bytes_of, is_used, file_in, Finds, StandsOnce, IsHeadAt, AreHeads, IsRead, head_file_number, address_of, addresses_of, HeadsWhole, AddressesOnce, Free, Used}
+use Rattle.jn_image.proofs.Common.{head_blocks, ◌≡◌, ⊎_elim, ◌<◌, ◌+◌, ◌*◌, ◌/◌, ◌%◌, ℕ, zero, suc, Bool, true, false, List, [], ◌∷◌, ◌++◌, length, get_or, replicate, map, Option, Some, None, refl, sym, ap, ◌∙◌, arith, nat_eq, is_some, flat_map, if◌then◌else◌, AllByRecursion, cases_lt, false≢true, nat_tests, get_or_past, get_or-append-add, Head, HasOneHead, IsWholeHead, Names, head_bytes_of, is_used, file_in, Finds, StandsOnce, IsHeadAt, AreHeads, IsRead, head_file_number, address_of, addresses_of, HeadsWhole, AddressesOnce, Free, Used}
 use Rattle.std.proofs.Math.ListN.{get_or-map, get_or-append}
 use Rattle.jn_records.specs.Sound as sound
 use Rattle.jn_page_state.proofs.HeadPages.{free_unused, used_kind, used_file, used_address, whole}
@@ -96,13 +96,13 @@ module _ (m : sound.Image) (heads : List (Option Head)) (are : AreHeads m heads)
   length-map [] = refl
   length-map (x ∷ xs) = let ih = length-map xs in omega (arith, ih)
 
-  size_at : (i : ℕ) (o : Option Head) → IsHeadAt m i o → length (addresses_of o) ≡ 120
+  size_at : (i : ℕ) (o : Option Head) → IsHeadAt m i o → length (addresses_of o) ≡ head_blocks
   size_at i None at = refl
   size_at i (Some Free) at = refl
   size_at i (Some (Used k xs)) at = length-map xs ∙ whole m.counts.leaves (head_bytes_of m i) are.few k xs at.0 at.1 at.2
 
-  none_there : (p : ℕ) → get_or (replicate 120 nothing) p nothing ≡ nothing
-  none_there p = nowhere 120 p
+  none_there : (p : ℕ) → get_or (replicate head_blocks nothing) p nothing ≡ nothing
+  none_there p = nowhere head_blocks p
     where
       nowhere : (n p : ℕ) → get_or (replicate n nothing) p nothing ≡ nothing
       nowhere zero p = refl
@@ -110,29 +110,29 @@ module _ (m : sound.Image) (heads : List (Option Head)) (are : AreHeads m heads)
       nowhere (suc n) (suc p) = nowhere n p
 
   -- the addresses of the i-th of these heads
-  row : (hs : List (Option Head)) → AllByRecursion (λ o. length (addresses_of o) ≡ 120) hs → (i p : ℕ) → p < 120
-      → get_or (flat_map (λ h. addresses_of h) hs) (120 * i + p) None ≡ get_or (addresses_of (head_or hs i)) p None
+  row : (hs : List (Option Head)) → AllByRecursion (λ o. length (addresses_of o) ≡ head_blocks) hs → (i p : ℕ) → p < head_blocks
+      → get_or (flat_map (λ h. addresses_of h) hs) (head_blocks * i + p) None ≡ get_or (addresses_of (head_or hs i)) p None
   row [] all i p lt = sym (none_there p)
   row (h ∷ hs) all zero p lt =
-      let size : length (addresses_of h) ≡ 120 = all.0 in
-      let at : 120 * 0 + p ≡ p = omega arith in
+      let size : length (addresses_of h) ≡ head_blocks = all.0 in
+      let at : head_blocks * 0 + p ≡ p = omega arith in
       ap (λ k. get_or (addresses_of h ++ flat_map (λ h. addresses_of h) hs) k None) at
       ∙ get_or-append (addresses_of h) (flat_map (λ h. addresses_of h) hs) None p (omega (arith, size, lt))
   row (h ∷ hs) all (suc i) p lt =
-      let size : length (addresses_of h) ≡ 120 = all.0 in
-      let at : 120 * suc i + p ≡ length (addresses_of h) + (120 * i + p) = omega (arith, size) in
+      let size : length (addresses_of h) ≡ head_blocks = all.0 in
+      let at : head_blocks * suc i + p ≡ length (addresses_of h) + (head_blocks * i + p) = omega (arith, size) in
       ap (λ k. get_or (addresses_of h ++ flat_map (λ h. addresses_of h) hs) k None) at
-      ∙ get_or-append-add (addresses_of h) (flat_map (λ h. addresses_of h) hs) (120 * i + p) None
+      ∙ get_or-append-add (addresses_of h) (flat_map (λ h. addresses_of h) hs) (head_blocks * i + p) None
       ∙ row hs all.1 i p lt
 
-  sizes : AllByRecursion (λ o. length (addresses_of o) ≡ 120) heads
+  sizes : AllByRecursion (λ o. length (addresses_of o) ≡ head_blocks) heads
   sizes = go heads (λ i lt. size_at i (head_or heads i) (are.each i (let n = are.count in omega (arith, lt, n))))
     where
-      go : (hs : List (Option Head)) → ((i : ℕ) → i < length hs → length (addresses_of (head_or hs i)) ≡ 120) → AllByRecursion (λ o. length (addresses_of o) ≡ 120) hs
+      go : (hs : List (Option Head)) → ((i : ℕ) → i < length hs → length (addresses_of (head_or hs i)) ≡ head_blocks) → AllByRecursion (λ o. length (addresses_of o) ≡ head_blocks) hs
       go [] each = tt
       go (h ∷ hs) each = (each 0 (omega arith), go hs (λ i lt. each (suc i) (omega (arith, lt))))
 
-  at_address : (i p : ℕ) → p < 120 → get_or addresses (120 * i + p) None ≡ get_or (addresses_of (head_or heads i)) p None
+  at_address : (i p : ℕ) → p < head_blocks → get_or addresses (head_blocks * i + p) None ≡ get_or (addresses_of (head_or heads i)) p None
   at_address i p lt = row heads sizes i p lt
 
   address_is : (a : ℕ) → 0 < a → address_of a ≡ Some a
@@ -151,7 +151,7 @@ module _ (m : sound.Image) (heads : List (Option Head)) (are : AreHeads m heads)
       by true z e = absurd (none_some a e)
       by false z e = let same = same_value n a e in (same, above z same)
 
-  named : (a i p : ℕ) → 0 < a → ((k : ℕ) → HeadsWhole m k) → Names m a i p → get_or addresses (120 * i + p) None ≡ Some a
+  named : (a i p : ℕ) → 0 < a → ((k : ℕ) → HeadsWhole m k) → Names m a i p → get_or addresses (head_blocks * i + p) None ≡ Some a
   named a i p least all n = at_address i p n.block ∙ by (head_or heads i) (are.each i n.head)
     where
       by : (o : Option Head) → IsHeadAt m i o → get_or (addresses_of o) p None ≡ Some a
@@ -166,7 +166,7 @@ module _ (m : sound.Image) (heads : List (Option Head)) (are : AreHeads m heads)
     names : Names m a i p
     least : 0 < a
 
-  is_named : (a i p : ℕ) → p < 120 → get_or addresses (120 * i + p) None ≡ Some a → IsNamed a i p
+  is_named : (a i p : ℕ) → p < head_blocks → get_or addresses (head_blocks * i + p) None ≡ Some a → IsNamed a i p
   is_named a i p lt at = ⊎_elim
       (λ here. by here (head_or heads i) (are.each i here) (sym (at_address i p lt) ∙ at))
       (λ past. absurd (none_some a (sym (none_there p) ∙ ap (λ h. get_or (addresses_of h) p None) (sym (get_or_past heads i None (let n = are.count in omega (arith, past, n)))) ∙ sym (at_address i p lt) ∙ at)))
@@ -189,22 +189,22 @@ module _ (m : sound.Image) (heads : List (Option Head)) (are : AreHeads m heads)
 
   named_once : ((k : ℕ) → HeadsWhole m k) → (a : ℕ) → StandsOnce addresses a → AddressesOnce m a
   named_once all a once least i j p q x y =
-      let e : 120 * i + p ≡ 120 * j + q = once (120 * i + p) (120 * j + q) (named a i p least all x) (named a j q least all y) in
+      let e : head_blocks * i + p ≡ head_blocks * j + q = once (head_blocks * i + p) (head_blocks * j + q) (named a i p least all x) (named a j q least all y) in
       let lt = x.block in
       let less = y.block in
       (omega (arith, e, lt, less), omega (arith, e, lt, less))
 
-  place_of : (k : ℕ) → 120 * (k / 120) + k % 120 ≡ k
+  place_of : (k : ℕ) → head_blocks * (k / head_blocks) + k % head_blocks ≡ k
   place_of k = omega arith
 
-  below_of : (k : ℕ) → k % 120 < 120
+  below_of : (k : ℕ) → k % head_blocks < head_blocks
   below_of k = omega arith
 
   once_named : (a : ℕ) → AddressesOnce m a → StandsOnce addresses a
   once_named a one k l at too =
-      let x = is_named a (k / 120) (k % 120) (below_of k) (ap (λ n. get_or addresses n None) (place_of k) ∙ at) in
-      let y = is_named a (l / 120) (l % 120) (below_of l) (ap (λ n. get_or addresses n None) (place_of l) ∙ too) in
-      let same = one x.least (k / 120) (l / 120) (k % 120) (l % 120) x.names y.names in
+      let x = is_named a (k / head_blocks) (k % head_blocks) (below_of k) (ap (λ n. get_or addresses n None) (place_of k) ∙ at) in
+      let y = is_named a (l / head_blocks) (l % head_blocks) (below_of l) (ap (λ n. get_or addresses n None) (place_of l) ∙ too) in
+      let same = one x.least (k / head_blocks) (l / head_blocks) (k % head_blocks) (l % head_blocks) x.names y.names in
       let whole = same.0 in
       let rest = same.1 in
       omega (arith, whole, rest, place_of k, place_of l)

@@ -1,5 +1,5 @@
 -- Each page of a sound image has 512 bytes, and such images with the same bytes are one.
-use Rattle.jn_image.proofs.Common.{◌≡◌, ◌≤◌, ◌<◌, ◌+◌, ◌*◌, ◌-◌, ℕ, suc, List, [], ◌∷◌, length, drop, replicate, sym, ap, subst, ◌∙◌, arith, length-append, length-drop, ⊎_elim, cases_lt, flat_map, nat_eq, nat_tests, true, AllByRecursion, Half, ServerNo, Head, IsSound, page_count, Image, image_counts, image_in, seen, length-replicate, big_bytes, FreeHead, Used, Root, padded, root_bytes, root_page, slot_place, head_place, data_place, SoundImagesFit, BytesTellTheImage}
+use Rattle.jn_image.proofs.Common.{head_blocks, ◌≡◌, ◌≤◌, ◌<◌, ◌+◌, ◌*◌, ◌-◌, ℕ, suc, List, [], ◌∷◌, length, drop, replicate, sym, ap, subst, ◌∙◌, arith, length-append, length-drop, ⊎_elim, cases_lt, flat_map, nat_eq, nat_tests, true, AllByRecursion, Half, ServerNo, Head, IsSound, page_count, Image, image_counts, image_in, seen, length-replicate, big_bytes, FreeHead, Used, Root, padded, root_bytes, root_page, slot_place, head_place, data_place, SoundImagesFit, BytesTellTheImage}
 use Rattle.jn_memdisk.specs.Pages.{half_at}
 use Rattle.jn_records.proofs.Lists.{length-fields}
 use Rattle.jn_records.specs.declared.record.Record.TheVariants.{Free}
@@ -25,10 +25,10 @@ unfolding head_page
 head_whole FreeHead is = padded_whole [] (omega arith)
 head_whole (Used file xs) is = padded_whole (head_bytes (Used file xs)) (size (addresses xs is))
   where
-    addresses : (xs : List ℕ) → nat_eq (length xs) 120 ≡ true → length (flat_map (λ a. big_bytes 2 a) xs) ≡ 240
+    addresses : (xs : List ℕ) → nat_eq (length xs) head_blocks ≡ true → length (flat_map (λ a. big_bytes 2 a) xs) ≡ 240
     addresses xs is =
         let each = length-fields (λ a. big_bytes 2 a) 2 (λ a. omega arith) xs in
-        let count : length xs ≡ 120 = grind (arith, nat_tests, is) in
+        let count : length xs ≡ head_blocks = grind (arith, nat_tests, is) in
         omega (arith, each, count)
 
     size : length (flat_map (λ a. big_bytes 2 a) xs) ≡ 240 → length (head_bytes (Used file xs)) ≤ 512

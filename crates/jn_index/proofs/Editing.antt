@@ -1,5 +1,5 @@
 -- An entry is taken out, or put in.
-use Rattle.jn_index.proofs.Common.{◌≡◌, ◌≢◌, inl, inr, ◌<◌, ◌≤◌, ◌+◌, ◌-◌, ℕ, Bool, true, false, List, length, Option, Some, None, refl, sym, ap, ◌∙◌, arith, ◌^◌, cases_eq, cases_lt, nat_tests, get_or-set_same, get_or-set_other, get_or_past, length-remove, get_or-insert_at, get_or-insert_below, get_or-insert_above, get_or-remove_below, get_or-remove_above, insert, remove, slice_set, nat_lt, if◌then◌else◌, Entry, number_at, is_above, IsNumberAbove, entry, entry_at, is_before, AreEntries}
+use Rattle.jn_index.proofs.Common.{◌≡◌, ◌≢◌, inl, inr, ◌<◌, ◌≤◌, ◌+◌, ◌-◌, ℕ, Bool, true, false, List, length, Option, Some, None, refl, sym, ap, ◌∙◌, arith, ◌^◌, cases_eq, cases_lt, nat_tests, get_or-set_same, get_or-set_other, get_or_past, length-remove, get_or-insert_at, get_or-insert_below, get_or-insert_above, get_or-remove_below, get_or-remove_above, insert, remove, slice_set, nat_lt, Entry, number_at, is_above, IsNumberAbove, entry, entry_at, is_before, AreEntries, if◌then◌else◌}
 use Rattle.jn_index.proofs.Order.{not_itself, before_or_same}
 
 pub has_slot : (numbers : List (Option ℕ)) (slot number : ℕ) → number_at numbers slot ≡ Some number → slot < length numbers
@@ -67,10 +67,6 @@ at_inserted list i j e here = by (nat_lt j i) refl
 skip_before : (out i place : ℕ) → out < place → i < place - 1 → skip out i < place
 unfolding skip
 skip_before out i place lt up = grind (arith, nat_tests, lt, up)
-
-skip_still_before : (out i place : ℕ) → place ≤ out → i < place → skip out i < place
-unfolding skip
-skip_still_before out i place le up = grind (arith, nat_tests, le, up)
 
 skip_behind : (out i place : ℕ) → out < place → place - 1 ≤ i → place ≤ skip out i
 unfolding skip

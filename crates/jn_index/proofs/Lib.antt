@@ -4,3 +4,4 @@ mod Editing
 mod Indexed
 mod Taking
 mod Turning
+pub mod Least

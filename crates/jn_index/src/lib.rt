@@ -2,6 +2,8 @@
 //!
 //! A server finds a file's head, or a work's record, by a number. The numbers are kept in order beside the list of them by slot,
 //! so that a search halves them. Nothing but `new` and `of` takes memory.
+//!
+//! `specs/Least.antt` says what the least of numbered things from a number on is. Files and blocks are listed by it.
 #![tactic(auto)]
 
 ghost use Rattle.std.specs.Prelude.{◌≡◌, ◌<◌, ◌≤◌, ◌+◌, ◌^◌, ℕ, true, false, length, List, slice_set, slice_index_or, vec_capacity, count_by, Option, Some, None, is_some, IfOk, IfSome, IfNone, insert, remove};

@@ -17,7 +17,7 @@ pub use Rattle.jn_base.specs.Names.{file_eq, work_eq, unit_eq, tid_eq}
 pub use Rattle.jn_base.proofs.Tells.{file_tells, work_tells, block_tells, tid_tells}
 pub use Rattle.jn_order.specs.Files.{there as there_it_is, Files, change, there, Change, created, removed, cut_from, written}
 pub use Rattle.jn_files.specs.Table.{TableView, IsTable, IsFreeLeaf, exists, AreHeads, head_in, is_of, is_held, addresses, addresses_of, address_of, address_for, or_nil, IsHeadOf, fresh_head, cut_head, cut_addresses, with_leaf, is_mapped, is_touched}
-pub use Rattle.jn_files.specs.Calls.{IsChanged, SetsHead, IsPlaceOf, with_promised_heads, LetsGo, MayBecome, NextFile as NextHead, is_above as is_above_head, Touches, BlockGot, with_promised_leaves, TouchesAll, with_held, with_touched}
+pub use Rattle.jn_files.specs.Calls.{IsChanged, SetsHead, IsPlaceOf, with_promised_heads, LetsGo, MayBecome, NextFile as NextHead, Touches, BlockGot, NextBlock as NextHeadBlock, with_promised_leaves, TouchesAll, with_held, with_touched}
 pub use Rattle.jn_page_state.specs.Contents.{intended, heads_name, works_name, is_head_of, address_at, Contents, bytes_by, behind, block_in, stored_in, with_first, intentions_from, prepared_by, stored_list, holds_address, intention_of}
 pub use Rattle.jn_page_state.specs.Held.{held_contents}
 pub use Rattle.jn_page_state.specs.Pages.{found_on, block_on, pages_by}
@@ -39,7 +39,7 @@ pub use Rattle.jn_records.specs.StablePages.{Counts, head_place, data_place, pag
 pub use Rattle.jn_rows.specs.Stable.{StableState, Pick, Changed, CarryOut, made_by, at_work, Prepared, MarkGoing, is_ready, Unchanged, AddReady, ready_work, RemoveWork, is_going}
 pub use Rattle.jn_sets.specs.Pool.{is_prepared, record_in, is_free, is_intention, IsRecord, slot_page, is_flag, is_ready as is_ready_record, going_of, free_count, is_rubbish}
 pub use Rattle.jn_records.specs.Records.{has_page, record_page, RecordFits, ascends, reads_have_page, unit_has_page}
-pub use Rattle.jn_storage.specs.Calls.{state, name_of, next_of, Called, CountsOn, PageTaken, PageStands, StepApplied, IsReady, MarkedGoing, NextFile, is_above, BlockRead, shortage, with_work, MayPrepare, WorkPrepared, short_of, reached, is_shortage, WorkRemoved, HasFlag, FlagDropped, TellsFlags, FlagPromised, MayPutFlag, FlagPut, PromiseReleased, IsGoing, RecordErased, TellsWorks}
+pub use Rattle.jn_storage.specs.Calls.{state, name_of, next_of, Called, CountsOn, PageTaken, PageStands, StepApplied, IsReady, MarkedGoing, NextFile, BlockRead, NextBlock, shortage, with_work, MayPrepare, WorkPrepared, short_of, reached, is_shortage, WorkRemoved, HasFlag, FlagDropped, TellsFlags, FlagPromised, MayPutFlag, FlagPut, PromiseReleased, IsGoing, RecordErased, TellsWorks}
 pub use Rattle.jn_storage.specs.Finding.{find_by}
 pub use Rattle.jn_storage.specs.Listing.{are_different, IsListing, total, is_in}
 pub use Rattle.jn_storage.specs.Storage.{IsServing, is_stored, Accounts, StorageView}
@@ -64,6 +64,7 @@ pub use Rattle.jn_files.proofs.Lookup.{of_one, addresses_at, absent_none, of_use
 pub use Rattle.jn_files.proofs.Putting.{named_below}
 pub use Rattle.jn_page_state.proofs.Images.{listed_files, files_listing}
 pub use Rattle.jn_records.specs.declared.head.Head.TheVariants.{Free as FreeHead, Used}
+pub use Rattle.jn_base.specs.Limits.{head_blocks, most_blocks}
 pub use Rattle.jn_page_state.specs.Changes.{serves_for, is_head_after, address_after, IsHeadPut, IsReadySlot, IsReadyPut, IsIdlePut}
 pub use Rattle.jn_base.specs.declared.names.Tid.{Tid}
 pub use Rattle.jn_page_state.proofs.Found.{found_once, found_written, none_passes, any_same, none_at, found_passes, found_any}

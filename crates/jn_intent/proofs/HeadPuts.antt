@@ -1,5 +1,5 @@
 -- The put of a head by the table of files carries out an intention.
-use Rattle.jn_intent.proofs.Common.{◌≡◌, ◌⊎◌, inl, inr, ⊎_elim, ◌<◌, ◌≤◌, ◌-◌, ℕ, zero, suc, Bool, true, false, not, ◌&&◌, if◌then◌else◌, List, length, replicate, refl, sym, ◌∙◌, ap, subst, true≢false, arith, cases_lt, nat_tests, get_or-set_same, get_or-set_other, nat_le, nat_eq, slice_set, slice_index, take, list_all, is_free_number, BlockNo, FileNo, block_tells, Change, created, removed, cut_from, written, TableView, IsTable, IsHeadOf, head_in, is_of, exists, fresh_head, cut_head, cut_addresses, with_leaf, addresses_of, SetsHead, IsPlaceOf, with_promised_heads, absent_none, of_used, serves_for, is_head_after, address_after, is_head_of, address_at, Head, Used, StoredIntention, What, Fresh, Gone, Cut, Put, names_what_it_needs, is_fresh, StoreView, MayCarry, PutsOne, Carries, without_promise, with_fresh_promise, is_gone, needs_file, same_test}
+use Rattle.jn_intent.proofs.Common.{head_blocks, ◌≡◌, ◌⊎◌, inl, inr, ⊎_elim, ◌<◌, ◌≤◌, ◌-◌, ℕ, zero, suc, Bool, true, false, not, ◌&&◌, if◌then◌else◌, List, length, replicate, refl, sym, ◌∙◌, ap, subst, true≢false, arith, cases_lt, nat_tests, get_or-set_same, get_or-set_other, nat_le, nat_eq, slice_set, slice_index, take, list_all, is_free_number, BlockNo, FileNo, block_tells, Change, created, removed, cut_from, written, TableView, IsTable, IsHeadOf, head_in, is_of, exists, fresh_head, cut_head, cut_addresses, with_leaf, addresses_of, SetsHead, IsPlaceOf, with_promised_heads, absent_none, of_used, serves_for, is_head_after, address_after, is_head_of, address_at, Head, Used, StoredIntention, What, Fresh, Gone, Cut, Put, names_what_it_needs, is_fresh, StoreView, MayCarry, PutsOne, Carries, without_promise, with_fresh_promise, is_gone, needs_file, same_test}
 use Rattle.jn_files.specs.Table.{is_free}
 use Rattle.jn_files.proofs.Changing.{zeros_at}
 use Rattle.jn_files.proofs.Cutting.{cut_kept, cut_gone}
@@ -106,11 +106,11 @@ module _ (t : TableView) (v : StoreView) (i : StoredIntention) (may : MayCarry t
 
       by : SetsHead (without_promise t i) v i.file (λ h. fresh_head i.file) (λ leaves. created i.file) ok u w → PutsOne t v i ok u w
       by s = puts_one (λ h. fresh_head i.file) (λ leaves. created i.file) s
-          (record { is_head = record { whole = refl; within_leaves = zeros_within 120 t.counts.leaves }; fits = may.file_fits }) (
+          (record { is_head = record { whole = refl; within_leaves = zeros_within head_blocks t.counts.leaves }; fits = may.file_fits }) (
             subst (λ w. serves_for w i.file (head_in t.heads s.slot) ≡ true) (sym e) (fresh_serves t may.table i.file s.slot s.below (is_at (without_promise t i) i.file s.slot s.place)),
             subst (λ w. is_head_after w i.file (fresh_head i.file) ≡ true) (sym e) own,
           )
-          (λ p. zeros_at 120 p.0 ∙ sym (ap (λ w. address_after w i.block i.address p (address_at (head_in t.heads s.slot) p)) e))
+          (λ p. zeros_at head_blocks p.0 ∙ sym (ap (λ w. address_after w i.block i.address p (address_at (head_in t.heads s.slot) p)) e))
 
   -- no head is taken but by a fresh file
   same_table : is_fresh i.what ≡ false → without_promise t i ≡ t
@@ -173,7 +173,7 @@ module _ (t : TableView) (v : StoreView) (i : StoredIntention) (may : MayCarry t
         λ p. ap (λ k. slice_index (slice_set xs i.block.0 k) p.0) (sym at) ∙ leaf_at i.block p i.address xs (below _ xs was) ∙ sym (ap (λ w. address_after w i.block i.address p (slice_index xs p.0)) e),
       ))
     where
-      long : (h : Head) (xs : List ℕ) → IsHeadOf t.counts.leaves h → h ≡ Used i.file xs → length xs ≡ 120
+      long : (h : Head) (xs : List ℕ) → IsHeadOf t.counts.leaves h → h ≡ Used i.file xs → length xs ≡ head_blocks
       long h xs is was = let whole = subst (IsHeadOf t.counts.leaves) was is in let e = whole.is_head.whole in grind (arith, nat_tests, e)
 
       below : (slot : ℕ) (xs : List ℕ) → head_in t.heads slot ≡ Used i.file xs → i.block.0 < length xs

@@ -1,5 +1,5 @@
 -- What is asked to carry out a work's next intention holds while the storage serves.
-use Rattle.jn_intent.proofs.Common.{◌≡◌, ◌<◌, ℕ, zero, suc, Bool, true, false, not, ◌&&◌, ◌||◌, if◌then◌else◌, List, [], length, map, drop, Option, Some, None, refl, sym, ◌∙◌, ap, subst, arith, nat_tests, slice_get-map, nat_lt, slice_get, option_map, take, BlockNo, FileNo, Tid, WorkId, file_eq, work_eq, head_in, is_of, exists, address_of, MayBecome, intended, bytes_by, heads_name, works_name, is_head_of, address_at, held_contents, block_on, pages_by, IsConsistent, Intends, is_named, intends_named, Head, FreeHead, Used, FullIntention, StoredIntention, What, Fresh, Gone, Cut, Put, Intention, WorkState, is_fresh, data_place, Prepared, Pick, record_in, IsRecord, state, name_of, next_of, find_by, IsPrepared, IsServing, file_there, intentions, one_if, makes_file, StoreView, IsClean, Memory, accounts_of, view_of, next_by, Matches, IsMade, stored_work, MayCarry, heads_taken, serves_of, there_found, consistent, prepared_of}
+use Rattle.jn_intent.proofs.Common.{most_blocks, ◌≡◌, ◌<◌, ℕ, zero, suc, Bool, true, false, not, ◌&&◌, ◌||◌, if◌then◌else◌, List, [], length, map, drop, Option, Some, None, refl, sym, ◌∙◌, ap, subst, arith, nat_tests, slice_get-map, nat_lt, slice_get, option_map, take, BlockNo, FileNo, Tid, WorkId, file_eq, work_eq, head_in, is_of, exists, address_of, MayBecome, intended, bytes_by, heads_name, works_name, is_head_of, address_at, held_contents, block_on, pages_by, IsConsistent, Intends, is_named, intends_named, Head, FreeHead, Used, FullIntention, StoredIntention, What, Fresh, Gone, Cut, Put, Intention, WorkState, is_fresh, data_place, Prepared, Pick, record_in, IsRecord, state, name_of, next_of, find_by, IsPrepared, IsServing, file_there, intentions, one_if, makes_file, StoreView, IsClean, Memory, accounts_of, view_of, next_by, Matches, IsMade, stored_work, MayCarry, heads_taken, serves_of, there_found, consistent, prepared_of}
 use Rattle.jn_page_state.proofs.HeldLaws.{contents_held}
 use Rattle.jn_intent.proofs.CarryStates.{promises}
 use Rattle.jn_intent.proofs.NetOrder.{all_at, file_needed}
@@ -112,11 +112,11 @@ module _ (m : Memory) (v : StoreView) (now : Matches m v) (serving : IsServing (
       promised = let e = taken_is in let less = promises (state (view_of m v)) (accounts_of m) work its_work s.next (intended (first_blocks m v) i) (serves_of m v serving) its_stands at_full in omega (arith, e, less);
       free = serving.heads_fit;
       there = λ e. there_is i.file ∙ file_needed (state (view_of m v)).files its_work s.next (intended (first_blocks m v) i) prepared at_full made e;
-      range = below i.block.0 (all_at (λ (i : FullIntention). nat_lt i.block.0 120) (map (intended (first_blocks m v)) s.list) s.next (intended (first_blocks m v) i) prepared.in_range at_full);
+      range = below i.block.0 (all_at (λ (i : FullIntention). nat_lt i.block.0 most_blocks) (map (intended (first_blocks m v)) s.list) s.next (intended (first_blocks m v) i) prepared.in_range at_full);
       leaf = λ a e. may_become a e;
     }
       where
-        below : (n : ℕ) → nat_lt n 120 ≡ true → n < 120
+        below : (n : ℕ) → nat_lt n most_blocks ≡ true → n < most_blocks
         below n h = grind (arith, nat_tests, h)
 
         made_of : (s : WorkState) → find_by work_eq name_of m.works work ≡ Some s → (q : ℕ) (t : StoredIntention) → q < s.next → slice_get s.list q ≡ Some t → is_fresh t.what ≡ true → exists m.table.heads t.file ≡ true

@@ -1,6 +1,7 @@
 -- Reading files changes nothing that is found.
-use Rattle.jn_intent.proofs.Common.{◌≡◌, ◌<◌, ◌≤◌, ◌+◌, ℕ, zero, suc, Bool, true, false, List, Option, Some, None, Result, Ok, refl, sym, ◌∙◌, ap, subst, true≢false, arith, nat_tests, is_some, is_ok, slice_set, Stopped, BlockNo, FileNo, Block, Files, TableView, IsTable, address_for, exists, is_mapped, is_touched, NextHead, is_above_head, Touches, BlockGot, HoldsTable, files_in, Unchanged, found_on, IsFewer, fewer_found, Head, IsServing, file_there, state, NextFile, is_above, BlockRead, StoreView, StoreLater, IsSamePage, IsServed, IsStop, later_refl, same_refl, same_shrinks, Memory, view_of, IsKeptMemory, Matches, serves_of, serving_by, loadable_found, there_found, mapped_found, holds, files_are}
+use Rattle.jn_intent.proofs.Common.{◌≡◌, ◌<◌, ◌≤◌, ◌+◌, ℕ, zero, suc, Bool, true, false, List, Option, Some, None, Result, Ok, refl, sym, ◌∙◌, ap, subst, true≢false, arith, nat_tests, is_some, is_ok, slice_set, Stopped, BlockNo, FileNo, Block, Files, TableView, IsTable, address_for, exists, is_mapped, is_touched, NextHead, Touches, BlockGot, HoldsTable, files_in, Unchanged, found_on, IsFewer, fewer_found, IsServing, file_there, state, NextFile, BlockRead, StoreView, StoreLater, IsSamePage, IsServed, IsStop, later_refl, same_refl, same_shrinks, Memory, view_of, IsKeptMemory, Matches, serves_of, serving_by, loadable_found, there_found, mapped_found, holds, files_are, NextHeadBlock, NextBlock}
 use Rattle.jn_intent.proofs.Scrubbing.{IsSafe, fewer_kept}
+use Rattle.jn_index.specs.Least.{NextAfter}
 
 -- what stands while it serves
 pub kept_now : (m : Memory) (v : StoreView) → IsKeptMemory m v → IsServing (view_of m v) → Matches m v
@@ -12,20 +13,11 @@ there_seen m v kept serving f = there_found m.server m.table.counts v m.epoch m.
 pub mapped_seen : (m : Memory) (v : StoreView) → IsKeptMemory m v → IsServing (view_of m v) → (f : FileNo) (p : BlockNo) → is_mapped m.table.heads f p.0 ≡ is_some ((state (view_of m v)).files (Block f p))
 mapped_seen m v kept serving f p = mapped_found m.server m.table.counts v m.epoch m.records m.table.heads (kept_now m v kept serving).standing f p
 
-above_same : (after : Option FileNo) (f : FileNo) → is_above_head after f ≡ is_above after f
-above_same None f = refl
-above_same (Some a) f = refl
-
-pub next_seen : (heads : List Head) (files : Files) → ((f : FileNo) → exists heads f ≡ file_there files f) → (after r : Option FileNo) → NextHead heads after r → NextFile files after r
-next_seen heads files same after None is = λ g h. sym (above_same after g) ∙ is g (same g ∙ h)
-next_seen heads files same after (Some f) is = record {
-  stands = sym (same f) ∙ is.stands;
-  above = sym (above_same after f) ∙ is.above;
-  least = λ g h a. is.least g (same g ∙ h) (above_same after g ∙ a);
-}
-
 pub next_of : (m : Memory) (v : StoreView) → IsKeptMemory m v → IsServing (view_of m v) → (after r : Option FileNo) → NextHead m.table.heads after r → NextFile (state (view_of m v)).files after r
-next_of m v kept serving after r is = next_seen m.table.heads (state (view_of m v)).files (there_seen m v kept serving) after r is
+next_of m v kept serving after r is = subst (λ (test : FileNo → Bool). NextAfter (λ (f : FileNo). f.0) test after r) (λ i f. there_seen m v kept serving f i) is
+
+pub next_block_of : (m : Memory) (v : StoreView) → IsKeptMemory m v → IsServing (view_of m v) → (f : FileNo) (after r : Option BlockNo) → NextHeadBlock m.table.heads f after r → NextBlock (state (view_of m v)).files f after r
+next_block_of m v kept serving f after r is = subst (λ (test : BlockNo → Bool). NextAfter (λ (p : BlockNo). p.0) test after r) (λ i p. mapped_seen m v kept serving f p i) is
 
 pub holds_seen : (m : Memory) (v : StoreView) → IsKeptMemory m v → IsServing (view_of m v) → HoldsTable m.table v
 holds_seen m v kept serving = let now = kept_now m v kept serving in holds m.server m.table.counts v m.epoch m.records m.table.heads now.standing now.table.heads

@@ -19,6 +19,10 @@ impl<S: StableStore> StoredFiles for Intents<S> {
         self.table.next(after)
     }
 
+    fn next_block(&self, f: FileNo, after: Option<BlockNo>) -> Option<BlockNo> {
+        self.table.next_block(f, after)
+    }
+
     fn mapped(&self, f: FileNo, p: BlockNo) -> bool {
         self.table.mapped(f, p)
     }

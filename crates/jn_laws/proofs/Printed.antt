@@ -10,8 +10,7 @@ use Rattle.jn_report.specs.declared.line.Text.TheVariants as says
 use Rattle.jn_page_state.specs.Pages.{pages_by}
 use Rattle.jn_store.specs.Pairs.{pairs_view}
 use Rattle.jn_system.specs.WholeSystem.Printing.{print_unit}
-use Rattle.jn_world_refines.proofs.Printed.{prints-all}
-use Rattle.jn_laws.specs.Shows.{ArePrintsInRange, IsPrintedByBlocks}
+use Rattle.jn_laws.specs.Shows.{ArePrintsInRange, ShowsInRange}
 use Rattle.jn_machine_refines.proofs.Going.{goes-or-cut, go-world}
 use Rattle.jn_laws.proofs.Ranged.{PhaseInRange, WorksInRange, FilesInRange, WorldInRange, StepInRange, run-in-range}
 
@@ -302,14 +301,10 @@ module _ (x : Setup) (schedule : List Event) (images : Devices) (m n : Moment) (
   looked-over : deed.device ≡ Reads q → IsLookedOver (x.counts q) d.chance m.state.course.world q (m.devices q) (n.devices q)
   looked-over reads = (subst (λ (does_so : Use). IsUsed x d.chance does_so m.state.course.world (run deed.steps m.state.course.world) m.devices n.devices) reads d.befalls.used).its
 
-  pub printed-by-blocks : deed.device ≡ Reads q → d.chance.stop ≡ None → IsPrintedByBlocks m.state.course.world q (prints_found d.chance.found)
-  printed-by-blocks reads whole = by (looked-over reads)
-    where
-      by : IsLookedOver (x.counts q) d.chance m.state.course.world q (m.devices q) (n.devices q) → IsPrintedByBlocks m.state.course.world q (prints_found d.chance.found)
-      by look = let prints = look.prints whole in record {
-        memory = look.memory;
-        up = look.up;
-        files = prints.files;
-        are_files = prints.are_files;
-        printed = prints-all look.memory.worker (stable (w.found q)).files most_blocks (prints-in-range w (world-in-range x few schedule images m ranges written) q look.memory look.up) (prints_found d.chance.found) prints;
-      }
+  pub shows-in-range : deed.device ≡ Reads q → d.chance.stop ≡ None → ShowsInRange m.state.course.world q (prints_found d.chance.found)
+  shows-in-range reads whole = let look = looked-over reads in record {
+    memory = look.memory;
+    up = look.up;
+    are = look.prints whole;
+    below = prints-in-range w (world-in-range x few schedule images m ranges written) q look.memory look.up;
+  }

@@ -1,6 +1,6 @@
-//! Laws that go over several crates below. Those of every run: a message has its answer in the event that hands it over, works of commits keep what
-//! they have read, no block from `most_blocks` on is printed, and a world of servers is at the moment to which its events lead. And one of texts: what a report
-//! spells is read where a schedule says it.
+//! Laws that go over several crates below. Of every run: a message has its answer in the event that hands it over. Works of commits keep what they
+//! have read. No block from `most_blocks` on is printed. A world of servers is at the moment to which its events lead. And one law is of texts: what a
+//! report spells is read where a schedule says it.
 #![tactic(auto)]
 
 mod messages;

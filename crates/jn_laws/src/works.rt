@@ -10,7 +10,7 @@ ghost use Rattle.jn_machine.specs.Runs.{Moment, Leads};
 ghost use Rattle.jn_machine.specs.Whole.{IsWritten};
 ghost use Rattle.jn_laws.specs.Works.{WorksHoldReads, AreTheirReads};
 
-/// At each moment of each run the works of a flag and of a commit are found with their read units, until they are carried out; and what a work has read is among
+/// At each moment of each run the works of a flag and of a commit are found with their read units, until they are carried out. What a work has read is among
 /// the read units that are found of it.
 pub fn works_of_commits_keep_their_reads()
     ensures hold { (x : Setup) (schedule : List Event) (images : Devices) (m : Moment) → x.servers ≤ 8 → AllByRecursion EventInRange schedule → IsWritten x schedule images m

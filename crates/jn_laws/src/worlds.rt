@@ -18,9 +18,9 @@ ghost use Rattle.jn_laws.specs.Worlds.{HasDone, IsReached, IsTrueWhereEnded, Giv
 
 use jn_store::Powered;
 
-/// A world that has started on these stores and done these events, with these lines, is at a moment of a run of them, and all that holds between two events
+/// A world that has started on these stores and done these events, with these lines, is at a moment of a run of them. All that holds between two events
 /// holds there: of its lines, of what is found on its stores, and of the system. Where the next event is cut short, its lines with those before are true of what has
-/// begun; and where the world is closed, of all events and of what lies on the stores that it gives back.
+/// begun. Where the world is closed, they are true of all events and of what lies on the stores that it gives back.
 pub fn a_world_is_at_the_moment_of_its_events<S: Powered + Drop>()
     ensures reached { (x : Setup) (files : AllFiles) (epochs : ServerNo → ℕ) (images : Devices) (stores : List (S × Counted)) (events rest : List Event) (lines : List Line) (w : World S)
         → x.servers ≤ 8 → AreStoresOf (λ s. S.device s) x stores images → AreImages x files epochs images → AllByRecursion EventInRange (events ++ rest)

@@ -11,7 +11,7 @@ pub use Rattle.jn_schedule.specs.declared.Event.{Event}
 pub use Rattle.jn_report.specs.declared.line.EventRefusal.{EventRefusal}
 pub use Rattle.jn_report.specs.declared.line.EventRefusal.TheVariants.{TooManyArmed, EpochsUsedUp}
 pub use Rattle.jn_report.specs.declared.line.Text.{Text}
-pub use Rattle.jn_rows.specs.Stable.{Pick, Left, whole_only, stable, StableState}
+pub use Rattle.jn_rows.specs.Stable.{Pick, Left, StableState, stable, whole_only}
 pub use Rattle.jn_system.specs.WholeSystem.World.{World, Memory, clients_from, commits_in, servers_from, has_line}
 pub use Rattle.jn_system.specs.WholeSystem.Printing.{Printed, FileThere, PageStored, UnitLocked}
 pub use Rattle.jn_system.specs.WholeSystem.Course.{go_on, Course, go, newly_sent}
@@ -21,17 +21,19 @@ pub use Rattle.jn_machine.specs.Deeds.{Deed, delivered, worked, shown, crashed_a
 pub use Rattle.jn_machine.specs.Refusals.{refusal_of}
 pub use Rattle.jn_machine.specs.Events.{servers_of, first_busy, next_event, told_unless, acted, met, resting, deed_of, asking, settling, next_in, printing, coming_up, ending, tasks_of}
 pub use Rattle.jn_machine.specs.Steps.{texts_of, done, next_by, is_too_much, come_to, cut_short, made_to, made, outside_texts, own_texts, message_texts, traced, lines_at, most_messages}
-pub use Rattle.jn_report.specs.Kinds.{no_refusal, commit_in, commit_in as committed_in, no_message, is_answer, is_note, is_up, is_stopped, is_down}
+pub use Rattle.jn_report.specs.Kinds.{no_refusal, commit_in, commit_in as committed_in, no_message, is_answer, is_up, is_stopped, is_down}
 pub use Rattle.jn_machine.specs.Kinds.{refused_while, or_else, cause_of, events_left, none_before, are_in_order, are_quiet, counts_right, count_right}
 pub use Rattle.jn_machine.specs.Runs.{Steps, none, more, MayLead, Moment, Leads, MayStep, DoesStep, IsOnCourse}
 pub use Rattle.jn_order.specs.Files.{AllFiles}
 pub use Rattle.jn_base.specs.declared.names.ClientNo.{ClientNo}
 pub use Rattle.jn_base.specs.declared.names.Party.TheVariants.{Client, Server}
 pub use Rattle.jn_rows.specs.Outcomes.{Sent, RowOutcome}
-pub use Rattle.jn_system.specs.WholeSystem.Servers.{Room, server_row, of_coordinator, lines_of, named_now}
-pub use Rattle.jn_system.specs.WholeSystem.Steps.{Step, NextEvent, handing, working, IsStep, IsRun, after, run, Deliver, StopDelivery, Tell, Work, StopWork, Crash, StopRestart, Restart, CloseClients}
+pub use Rattle.jn_system.specs.WholeSystem.Servers.{Room, server_row, server_step, of_coordinator, lines_of, named_now}
+pub use Rattle.jn_system.specs.WholeSystem.Steps.{Step, NextEvent, handing, working, IsStep, IsRun, after, run, Deliver, Work, StopDelivery, Tell, StopWork, Crash, StopRestart, Restart, CloseClients}
 pub use Rattle.jn_machine.specs.Whole.{before, closed_world}
 pub use Rattle.jn_storage.specs.DeviceCalls.{step_calls}
+pub use Rattle.jn_base.specs.Names.{server_eq, client_eq}
+pub use Rattle.jn_msgs.specs.declared.message.Message.{Message}
 pub use Rattle.std.proofs.Math.Seq.{drop-append_seam}
 pub use Rattle.jn_base.specs.declared.names.Tid.{Tid}
 pub use Rattle.jn_base.specs.declared.names.Party.{Party}

@@ -13,3 +13,4 @@ pub mod Struck
 pub mod Caused
 pub mod Coursed
 pub mod Named
+pub mod LeftBy

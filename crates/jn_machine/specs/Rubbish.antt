@@ -1,14 +1,14 @@
--- How many rubbish records each step leaves on a server's pages: records of intentions that no prepared work has. And that no record and no head is of anything else.
-use Rattle.std.specs.Prelude.{◌≡◌, ◌<◌, ℕ, ◌+◌, ◌-◌, true, if◌then◌else◌, List, [], ◌∷◌, length, slice_get, Option, Some, None, is_some, count_by}
+-- How many rubbish records each step leaves on a server's pages: records of intentions that no prepared work has. All else is counted.
+use Rattle.std.specs.Prelude.{◌≡◌, ◌<◌, ℕ, ◌+◌, ◌-◌, true, ◌&&◌, if◌then◌else◌, List, [], ◌∷◌, length, slice_get, Option, Some, None, is_some, is_none, count_by}
+use Rattle.std.specs.Option.{option_map, option_and_then, option_map_or}
 use Rattle.jn_base.specs.declared.names.ServerNo.{ServerNo}
-use Rattle.jn_base.specs.declared.names.Party.TheVariants.{Client, Server}
+use Rattle.jn_base.specs.declared.names.Party.TheVariants.{Server}
 use Rattle.jn_base.specs.declared.names.FileNo.{FileNo}
 use Rattle.jn_base.specs.declared.names.Tid.{Tid}
 use Rattle.jn_base.specs.declared.names.WorkId.{WorkId}
 use Rattle.jn_base.specs.Names.{server_eq, file_eq, tid_eq, work_eq}
 use Rattle.jn_device.specs.Device.{DeviceState}
 use Rattle.jn_page_state.specs.Pages.{pool_on, heads_on}
-use Rattle.jn_msgs.specs.declared.message.Message.{Message}
 use Rattle.jn_records.specs.declared.head.Head.{Head}
 use Rattle.jn_records.specs.declared.record.Record.{Record}
 use Rattle.jn_records.specs.StablePages.{Counts, Pages}
@@ -29,48 +29,26 @@ use Rattle.jn_machine.specs.Chances.{Setup}
 abbrev pub rubbish_records : Setup → (ServerNo → DeviceState) → ServerNo → ℕ
 rubbish_records x ds q = rubbish_count (pool_on (x.counts q) (standing_pages (pairs_view (ds q))))
 
--- ---- a server that had so many
+-- the row of a server that is up, where this is sent to it
+abbrev pub row_for : World → ServerNo → Room → Option Sent → Option (RowOutcome Memory)
+row_for w q room (Some (Server s, message)) = if server_eq s q then option_map (λ m. server_row m (stable (w.found q)) room message) (w.memory q) else None
+row_for w q room sent = None
 
--- a row leaves the intentions of each work that it removes
-abbrev pub left_by_row : StableState → RowOutcome Memory → ℕ → ℕ
-left_by_row x row n = n + left_over x row.changes
+-- its row in a step
+abbrev pub row_at : World → ServerNo → Step → Option (RowOutcome Memory)
+row_at w q (Deliver k room) = row_for w q room (slice_get w.sent k)
+row_at w q (Work s room) = if server_eq s q then option_and_then (λ m. server_step m (stable (w.found q)) room) (w.memory q) else None
+row_at w q step = None
 
--- a background step that changes nothing erases one
-abbrev pub left_by_changes : StableState → List Change → ℕ → ℕ
-left_by_changes x [] n = n - 1
-left_by_changes x (c ∷ changes) n = n + left_over x (c ∷ changes)
+-- A row adds the intentions of each work that it removes; a background step without changes erases one.
+abbrev pub left_by_row : Step → StableState → List Change → ℕ → ℕ
+left_by_row (Work s room) x [] n = n - 1
+left_by_row step x changes n = n + left_over x changes
 
-abbrev pub left_by_work : StableState → Option (RowOutcome Memory) → ℕ → ℕ
-left_by_work x None n = n
-left_by_work x (Some row) n = left_by_changes x row.changes n
-
-abbrev pub left_by_message : StableState → Option Memory → Room → Message → ℕ → ℕ
-left_by_message x None room message n = n
-left_by_message x (Some m) room message n = left_by_row x (server_row m x room message) n
-
-abbrev pub left_at_work : StableState → Option Memory → Room → ℕ → ℕ
-left_at_work x None room n = n
-left_at_work x (Some m) room n = left_by_work x (server_step m x room) n
-
--- a server that comes up has none
-abbrev pub left_by_restart : Option Memory → ℕ → ℕ
-left_by_restart None n = 0
-left_by_restart (Some m) n = n
-
--- ---- a step of the system
-
--- at this server
-abbrev pub left_by_sent : World → ServerNo → Room → Option Sent → ℕ → ℕ
-left_by_sent w q room (Some (Server s, message)) n = if server_eq s q then left_by_message (stable (w.found q)) (w.memory q) room message n else n
-left_by_sent w q room (Some (Client c, message)) n = n
-left_by_sent w q room None n = n
-
--- nothing but a message, a background step and a restart changes how many there are
+-- without a row there are as many, or none where it comes up
 abbrev pub left_by_step : World → ServerNo → Step → ℕ → ℕ
-left_by_step w q (Deliver k room) n = left_by_sent w q room (slice_get w.sent k) n
-left_by_step w q (Work s room) n = if server_eq s q then left_at_work (stable (w.found q)) (w.memory q) room n else n
-left_by_step w q (Restart s pick works tids) n = if server_eq s q then left_by_restart (w.memory q) n else n
-left_by_step w q step n = n
+left_by_step w q (Restart s pick works tids) n = if server_eq s q && is_none (w.memory q) then 0 else n
+left_by_step w q step n = option_map_or (λ row. left_by_row step (stable (w.found q)) row.changes n) (row_at w q step) n
 
 -- steps one after another
 abbrev pub left_by_steps : World → ServerNo → List Step → ℕ → ℕ

@@ -19,7 +19,7 @@ pub use Rattle.jn_machine.specs.Chances.{Setup, Chance, allowed, prints_found, w
 pub use Rattle.jn_machine.specs.Deeds.{Use, Calls, Reads, Recovers, Deed, is_used_up, Cleans, nobody, no_room, plain as plain_deed, stopped_idle, tells, served, nothing, delivered, delivered_at, is_busy, working_steps, shown, crashed_at, given_up, recovered, room, scrubbed, showing, pick_read, restarted, recovering, brought_up}
 pub use Rattle.jn_machine.specs.Events.{acted, settling, met, servers_of, asking, told_unless, ending, deed_of, first_busy, next_event, resting}
 pub use Rattle.jn_machine.specs.Steps.{outside_texts, own_texts, message_texts, traced, texts_of, lines_at, most_messages, is_too_much, come_to, cut_short, made}
-pub use Rattle.jn_machine.proofs.Telling.{may_tell, Adds, adds, is_of_delivery, weaker}
+pub use Rattle.jn_machine.proofs.Telling.{may_tell, Adds, adds, is_of_delivery, weaker, is_note}
 pub use Rattle.jn_machine_refines.specs.Retold.{behind, IsAsIn, IsToldBy, IsRetold, IsRetoldInPart}
 pub use Rattle.jn_system.specs.WholeSystem.Printing.{Printed, FileThere, PageStored, UnitLocked}
 pub use Rattle.jn_base.specs.declared.device.FaultKind.{FaultKind}
@@ -44,7 +44,7 @@ pub use Rattle.jn_base.specs.declared.names.ClientNo.{ClientNo}
 pub use Rattle.jn_base.specs.declared.names.Tid.{Tid}
 pub use Rattle.jn_base.specs.declared.names.WorkId.{WorkId}
 pub use Rattle.jn_rows.specs.declared.client.Taken.{Taken}
-pub use Rattle.jn_report.specs.Kinds.{commit_in as committed_in, is_up, is_answer, is_note}
+pub use Rattle.jn_report.specs.Kinds.{commit_in as committed_in, is_up, is_answer}
 pub use Rattle.std.proofs.lemmas.List.Folds.{list_all-append}
 pub use Rattle.jn_storage.specs.DeviceCalls.{step_calls}
 pub use Rattle.jn_system.specs.WholeSystem.PrintedLines.{text_printed, IsPrinted}

@@ -38,6 +38,7 @@ pub use Rattle.jn_records.specs.Heads.{head_at, IsHead, FileFits, head_bytes}
 unfoldable pub use Rattle.jn_records.specs.Heads.{head_page}
 pub use Rattle.jn_records.specs.Reading.{root_at}
 pub use Rattle.jn_records.specs.Records.{record_at, record_page}
+pub use Rattle.jn_base.specs.Limits.{most_blocks, head_blocks}
 pub use Rattle.std.proofs.Math.Path.{fun_ext}
 pub use Rattle.jn_base.specs.declared.names.FileNo.{FileNo}
 pub use Rattle.jn_base.specs.declared.names.BlockNo.{BlockNo}

@@ -1,5 +1,5 @@
 -- The files of pages are those of the heads that stand on them.
-use Rattle.jn_page_state.proofs.Common.{◌≡◌, ⊎_elim, ◌<◌, ◌≤◌, ◌+◌, ◌^◌, ℕ, zero, suc, Bool, true, false, if◌then◌else◌, List, Option, Some, None, refl, sym, ap, subst, ◌∙◌, true≢false, arith, fun_ext, slice_index_or, nat_lt, option_map, option_and_then, find, cases_lt, nat_tests, get_or_past, FileNo, BlockNo, LockUnit, File, Block, there, Head, FreeHead, Used, head_page, IsHead, FileFits, Counts, Pages, head_place, address_in, is_page_of, head_from, head_of, block_behind, block_on_page, files_of_pages, head_is_read, is_head_of, behind, block_in, files_in, state_in, head_or_free, head_on, heads_on, block_on, listed, IsHeadPage, state_of, contents_of}
+use Rattle.jn_page_state.proofs.Common.{most_blocks, ◌≡◌, ⊎_elim, ◌<◌, ◌≤◌, ◌+◌, ◌^◌, ℕ, zero, suc, Bool, true, false, if◌then◌else◌, List, Option, Some, None, refl, sym, ap, subst, ◌∙◌, true≢false, arith, fun_ext, slice_index_or, nat_lt, option_map, option_and_then, find, cases_lt, nat_tests, get_or_past, FileNo, BlockNo, LockUnit, File, Block, there, Head, FreeHead, Used, head_page, IsHead, FileFits, Counts, Pages, head_place, address_in, is_page_of, head_from, head_of, block_behind, block_on_page, files_of_pages, head_is_read, is_head_of, behind, block_in, files_in, state_in, head_or_free, head_on, heads_on, block_on, listed, IsHeadPage, state_of, contents_of}
 use Rattle.jn_page_state.proofs.HeadPages.{free_unused, used_kind, used_file, used_address, whole}
 
 module _ (g : Counts) (pages : Pages) (few : g.leaves < 2 ^ 16) where
@@ -13,11 +13,11 @@ module _ (g : Counts) (pages : Pages) (few : g.leaves < 2 ^ 16) where
 
   same_blocks : (page : List ℕ) (f : FileNo) (xs : List ℕ) → IsHead g.leaves (Used f xs) → FileFits (Used f xs) → page ≡ head_page (Used f xs) → SameBlocks page (Used f xs)
   same_blocks page f xs is fits e p = ⊎_elim
-      (λ below. let t : nat_lt p.0 120 ≡ true = grind (arith, nat_tests, below) in
+      (λ below. let t : nat_lt p.0 most_blocks ≡ true = grind (arith, nat_tests, below) in
       ap (λ b. if b then block_behind g pages (address_in page p.0) else None) t ∙ ap (block_behind g pages) (used_address g.leaves page few f xs is fits e p.0 below) ∙ behind_same (slice_index_or xs p.0 0))
-      (λ past. let t : nat_lt p.0 120 ≡ false = grind (arith, nat_tests, past) in
+      (λ past. let t : nat_lt p.0 most_blocks ≡ false = grind (arith, nat_tests, past) in
       ap (λ b. if b then block_behind g pages (address_in page p.0) else None) t ∙ sym (ap (behind (block_on g pages)) (get_or_past xs p.0 0 (omega (arith, past, whole g.leaves page few f xs is fits e)))))
-      (cases_lt p.0 120)
+      (cases_lt p.0 most_blocks)
 
   -- a head stands on its page
   pub stands : (page : List ℕ) (h : Head) (is : IsHead g.leaves h) (fits : FileFits h) (e : page ≡ head_page h) (f : FileNo) → is_page_of f page ≡ is_head_of f h

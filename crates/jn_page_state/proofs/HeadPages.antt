@@ -1,5 +1,5 @@
 -- A head's page, field by field.
-use Rattle.jn_page_state.proofs.Common.{◌≡◌, ◌<◌, ◌+◌, ◌*◌, ◌^◌, ◌++◌, ◌-◌, ℕ, zero, suc, true, false, List, [], ◌∷◌, length, drop, replicate, refl, sym, ap, ◌∙◌, arith, slice_index, nat_le, flat_map, list_all, AllByRecursion, nat_tests, append_assoc, drop_at, length-append, FileNo, FreeHead, Used, head_bytes, head_page, IsHead, FileFits, is_used, file_in, address_in}
+use Rattle.jn_page_state.proofs.Common.{head_blocks, ◌≡◌, ◌<◌, ◌+◌, ◌*◌, ◌^◌, ◌++◌, ◌-◌, ℕ, zero, suc, true, false, List, [], ◌∷◌, length, drop, replicate, refl, sym, ap, ◌∙◌, arith, slice_index, nat_le, flat_map, list_all, AllByRecursion, nat_tests, append_assoc, drop_at, length-append, FileNo, FreeHead, Used, head_bytes, head_page, IsHead, FileFits, is_used, file_in, address_in}
 use Rattle.byteorder.specs.Endian.{big_bytes, big_number}
 use Rattle.byteorder.specs.Numbers.{big_number-reads_back, length-bytes_high_first}
 
@@ -45,9 +45,9 @@ module _ (leaves : ℕ) (page : List ℕ) (few : leaves < 2 ^ 16) where
     pub used_file : file_in page ≡ f.0
     used_file = ap file_in regrouped ∙ big_number-reads_back 4 f.0 (flat_map (λ a. two a) xs ++ replicate (512 - length (head_bytes (Used f xs))) 0) (omega (arith, fits))
 
-    pub whole : length xs ≡ 120
+    pub whole : length xs ≡ head_blocks
     whole = grind (arith, nat_tests, is.whole)
 
-    pub used_address : (p : ℕ) → p < 120 → address_in page p ≡ slice_index xs p
+    pub used_address : (p : ℕ) → p < head_blocks → address_in page p ≡ slice_index xs p
     used_address p below = ap (λ (l : List ℕ). address_in l p) regrouped
         ∙ address_again (1 ∷ big_bytes 4 f.0) 5 xs (replicate (512 - length (head_bytes (Used f xs))) 0) p refl (omega (arith, below, whole)) (fits_all leaves xs few is.within_leaves)

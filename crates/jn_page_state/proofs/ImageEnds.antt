@@ -1,5 +1,5 @@
 -- A store without records, each page of which is whole, is one of a sound image.
-use Rattle.jn_page_state.proofs.Common.{◌≡◌, ◌<◌, ◌≤◌, ◌+◌, ◌*◌, ◌-◌, ◌^◌, ℕ, zero, suc, Bool, true, false, if◌then◌else◌, List, [], refl, sym, ◌∙◌, ap, subst, true≢false, arith, nat_tests, nat_lt, drop, BlockNo, FileNo, ServerNo, Head, FreeHead, Used, Record, Free, head_page, IsHead, FileFits, record_page, Image, IsSound, Names, Counts, page_count, slot_place, head_place, data_place, is_used, file_in, address_in, record_in, slot_page, StoreView, IsWholePage, head_in, is_head_of, address_at, held_contents, image_on, place_in, IsImage, pages_by, IsConsistent, Addresses, IsStanding, standing_state}
+use Rattle.jn_page_state.proofs.Common.{most_blocks, ◌≡◌, ◌<◌, ◌≤◌, ◌+◌, ◌*◌, ◌-◌, ◌^◌, ℕ, zero, suc, Bool, true, false, if◌then◌else◌, List, [], refl, sym, ◌∙◌, ap, subst, true≢false, arith, nat_tests, nat_lt, drop, BlockNo, FileNo, ServerNo, Head, FreeHead, Used, Record, Free, head_page, IsHead, FileFits, record_page, Image, IsSound, Names, Counts, page_count, slot_place, head_place, data_place, is_used, file_in, address_in, record_in, slot_page, StoreView, IsWholePage, head_in, is_head_of, address_at, held_contents, image_on, place_in, IsImage, pages_by, IsConsistent, Addresses, IsStanding, standing_state}
 use Rattle.jn_page_state.proofs.FilesOnPages.{stands}
 use Rattle.jn_page_state.proofs.HeadPages.{free_unused, used_address}
 use Rattle.jn_page_state.proofs.HeldLaws.{contents_held}
@@ -16,7 +16,7 @@ head_file : (leaves : ℕ) (page : List ℕ) (few : leaves < 2 ^ 16) (h : Head) 
 head_file leaves page few FreeHead e used = absurd (true≢false (sym used ∙ free_unused leaves page few e))
 head_file leaves page few (Used f xs) e used = (f, grind (arith, nat_tests))
 
-head_address : (leaves : ℕ) (page : List ℕ) (few : leaves < 2 ^ 16) (h : Head) → IsHead leaves h → FileFits h → page ≡ head_page h → is_used page ≡ true → (p : ℕ) → p < 120 → address_at h (record { 0 = p }) ≡ address_in page p
+head_address : (leaves : ℕ) (page : List ℕ) (few : leaves < 2 ^ 16) (h : Head) → IsHead leaves h → FileFits h → page ≡ head_page h → is_used page ≡ true → (p : ℕ) → p < most_blocks → address_at h (record { 0 = p }) ≡ address_in page p
 head_address leaves page few FreeHead is fits e used p lt = absurd (true≢false (sym used ∙ free_unused leaves page few e))
 head_address leaves page few (Used f xs) is fits e used p lt = sym (used_address leaves page few f xs is fits e p lt)
 

@@ -1,5 +1,5 @@
 -- A store of a sound image is one from which a recovery may begin.
-use Rattle.jn_page_state.proofs.Common.{◌≡◌, ⊎_elim, ◌<◌, ◌≤◌, ◌+◌, ℕ, zero, suc, Bool, true, false, if◌then◌else◌, List, [], length, Option, Some, None, get_or, refl, sym, ap, subst, ◌∙◌, true≢false, arith, nat_lt, is_some, drop, cases_lt, nat_tests, get_or_past, BlockNo, FileNo, ServerNo, Tid, WorkId, file_eq, Head, FreeHead, Used, StoredIntention, Free, Intention, head_page, IsHead, FileFits, root_page, Image, IsSound, Names, Counts, Pages, page_count, slot_place, head_place, data_place, is_used, file_in, address_in, head_is_read, record_is_read, Pick, record_in, is_prepared, is_flag, IsLoadable, StoreView, IsOnly, Contents, head_in, is_head_of, address_at, state_in, works_in, flags_in, flag_by, prepared_by, CountsFit, IsStoreOf, listed, record_or_free, head_or_free, record_on, head_on, pool_on, heads_on, contents_of, pages_by, half_of, root_by, IsOfFormat, PassesOnce, IsCompleteBy, Intends, Addresses, AddressesDiffer, IsConsistent, IsRecoverable}
+use Rattle.jn_page_state.proofs.Common.{most_blocks, ◌≡◌, ⊎_elim, ◌<◌, ◌≤◌, ◌+◌, ℕ, zero, suc, Bool, true, false, if◌then◌else◌, List, [], length, Option, Some, None, get_or, refl, sym, ap, subst, ◌∙◌, true≢false, arith, nat_lt, is_some, drop, cases_lt, nat_tests, get_or_past, BlockNo, FileNo, ServerNo, Tid, WorkId, file_eq, Head, FreeHead, Used, StoredIntention, Free, Intention, head_page, IsHead, FileFits, root_page, Image, IsSound, Names, Counts, Pages, page_count, slot_place, head_place, data_place, is_used, file_in, address_in, head_is_read, record_is_read, Pick, record_in, is_prepared, is_flag, IsLoadable, StoreView, IsOnly, Contents, head_in, is_head_of, address_at, state_in, works_in, flags_in, flag_by, prepared_by, CountsFit, IsStoreOf, listed, record_or_free, head_or_free, record_on, head_on, pool_on, heads_on, contents_of, pages_by, half_of, root_by, IsOfFormat, PassesOnce, IsCompleteBy, Intends, Addresses, AddressesDiffer, IsConsistent, IsRecoverable}
 use Rattle.jn_page_state.proofs.Found.{none_found}
 use Rattle.jn_page_state.proofs.HeadPages.{used_kind, used_file, used_address, whole}
 use Rattle.jn_page_state.proofs.HeadKept.{one_file}
@@ -114,7 +114,7 @@ module _ (s : ServerNo) (m : Image) (sound : IsSound s m) (fit : CountsFit s m.c
   record HeadFacts (bytes : List ℕ) (f : FileNo) (h : Head) : Type 0 where
     used : is_used bytes ≡ true
     file : file_in bytes ≡ f.0
-    address : (p : BlockNo) (a : ℕ) → address_at h p ≡ suc a → (p.0 < 120) × (address_in bytes p.0 ≡ suc a)
+    address : (p : BlockNo) (a : ℕ) → address_at h p ≡ suc a → (p.0 < most_blocks) × (address_in bytes p.0 ≡ suc a)
 
   facts_by : (bytes : List ℕ) (f : FileNo) (h : Head) → IsHead m.counts.leaves h → FileFits h → bytes ≡ head_page h → is_head_of f h ≡ true → HeadFacts bytes f h
   facts_by bytes f FreeHead is fits e t = absurd (true≢false (sym t))
@@ -124,7 +124,7 @@ module _ (s : ServerNo) (m : Image) (sound : IsSound s m) (fit : CountsFit s m.c
     address = λ p a at. ⊎_elim
         (λ lt. (lt, used_address m.counts.leaves bytes fit.leaves k xs is fits e p.0 lt ∙ at))
         (λ past. let long = whole m.counts.leaves bytes fit.leaves k xs is fits e in let none = get_or_past xs p.0 0 (omega (arith, past, long)) in absurd (zero_is a (sym none ∙ at)))
-        (cases_lt p.0 120);
+        (cases_lt p.0 most_blocks);
   }
     where
       same : file_eq k f ≡ true → k.0 ≡ f.0

@@ -88,7 +88,7 @@ module _ {S : Type 0} (look : S → StoreView) where
 
   pub shows-done : (a : Slot S) (p q : Parts S) (list : List Shown) → a ≡ Up p → IsShown (view_with look p) list (view_with look q) → Shows look a (Some list) (Up q)
   shows-done a p q list is h = subst (λ (x : Slot S). Shows look x (Some list) (Up q)) (sym is)
-      (idle-done _ p q h.looks.tables h.accounts h.looks.found h.looks.later h.looks.calls h.serves.works.serving.power, (h.prints, h.in_range))
+      (idle-done _ p q h.looks.tables h.accounts h.looks.found h.looks.later h.looks.calls h.serves.works.serving.power, h.prints)
 
   pub shows-stopped : (a : Slot S) (p q : Parts S) → a ≡ Up p → IsCutShort (view_with look p) (view_with look q) → Shows look a None (Up q)
   shows-stopped a p q is h = subst (λ (x : Slot S). Shows look x None (Up q)) (sym is) (idle-stopped _ p q h.looks.found h.looks.later h.looks.calls h.stop.dark h.not_calm, tt)

@@ -1,15 +1,11 @@
 -- What each call of a place does, exactly: to the server, to its device, and in lines.
 use Rattle.std.specs.Prelude.{◌≡◌, ◌≤◌, ◌<◌, ◌+◌, ◌*◌, ℕ, Bool, true, false, ⊤, if◌then◌else◌, List, [], ◌∷◌, ◌++◌, map, Option, Some, None, is_some}
 use Rattle.std.specs.Global.{Vec}
-use Rattle.jn_base.specs.declared.names.BlockNo.{BlockNo}
-use Rattle.jn_base.specs.declared.names.FileNo.{FileNo}
-use Rattle.jn_base.specs.declared.names.LockUnit.TheVariants.{Block}
 use Rattle.jn_base.specs.declared.names.ServerNo.{ServerNo}
 use Rattle.jn_base.specs.declared.names.Tid.{Tid}
 use Rattle.jn_base.specs.declared.names.WorkId.{WorkId}
 use Rattle.jn_base.specs.declared.device.Outside.{Outside}
 use Rattle.jn_base.specs.Names.{tid_eq, work_eq}
-use Rattle.jn_base.specs.Limits.{most_blocks}
 use Rattle.jn_device.specs.Device.{DeviceState}
 use Rattle.jn_device.specs.Events.{PowersUp, powered_off, cleared}
 use Rattle.jn_device.specs.Happens.{Happens}
@@ -151,14 +147,10 @@ ScrubbedBy look device q g when (Up p) done after lines lines' =
     IsStepOf look device q g (put_calls * (look p.storage.0).count) when (idle_row (memory_of (view_with look p))) (Up p) done after lines lines'
 ScrubbedBy look device q g when before done after lines lines' = ⊥
 
--- each block of which there is something to print is one of a file's
-abbrev pub PrintsInRange : ServerView → Type 0
-PrintsInRange v = (f : FileNo) (b : BlockNo) → is_some (prints_in v.worker.table (state v.storage).files (Block f b)) ≡ true → b.0 < most_blocks
-
 -- what it reported of its files
 abbrev pub Prints : ServerView → Option (List Shown) → Type 0
 Prints v None = ⊤
-Prints v (Some list) = ArePrints (prints_in v.worker.table (state v.storage).files) (map print_of list) × PrintsInRange v
+Prints v (Some list) = ArePrints (prints_in v.worker.table (state v.storage).files) (map print_of list)
 
 -- the items of a list that was reported
 abbrev pub items_of : Option (Vec Shown) → Option (List Shown)

@@ -1,4 +1,5 @@
 -- A head is read again from its page.
+use Rattle.jn_base.specs.Limits.{head_blocks}
 use Rattle.jn_records.proofs.Common.{◌≡◌, ◌<◌, ◌^◌, ◌-◌, ℕ, true, List, [], ◌∷◌, ◌++◌, length, replicate, Some, refl, ap, subst, ◌∙◌, arith, flat_map, nat_le, list_all, AllByRecursion, nat_tests, big_bytes, FileNo, Head, Free, Used, number_at, list_at, head_bytes, head_page, IsHead, FileFits, used_at, head_at}
 use Rattle.jn_records.proofs.Fields.{number_again}
 use Rattle.jn_records.proofs.Lists.{list_again}
@@ -12,10 +13,10 @@ addresses_again n xs rest e all =
     subst (λ (k : ℕ). list_at (λ b. number_at 2 b) k (flat_map (λ a. big_bytes 2 a) xs ++ rest) ≡ Some (xs, rest)) e
     (list_again (λ (a : ℕ). big_bytes 2 a) (λ b. number_at 2 b) (λ a. a < 256 ^ 2) (λ a after small. number_again 2 a after small) xs rest all)
 
-used_again : (file : FileNo) (xs rest : List ℕ) → file.0 < 2 ^ 32 → length xs ≡ 120 → AllByRecursion (λ a. a < 256 ^ 2) xs → used_at (big_bytes 4 file.0 ++ (flat_map (λ a. big_bytes 2 a) xs ++ rest)) ≡ Some (Used file xs)
+used_again : (file : FileNo) (xs rest : List ℕ) → file.0 < 2 ^ 32 → length xs ≡ head_blocks → AllByRecursion (λ a. a < 256 ^ 2) xs → used_at (big_bytes 4 file.0 ++ (flat_map (λ a. big_bytes 2 a) xs ++ rest)) ≡ Some (Used file xs)
 unfolding used_at
 used_again file xs rest small whole all =
-    rw (number_again 4 file.0 (flat_map (λ a. big_bytes 2 a) xs ++ rest) small, addresses_again 120 xs rest whole all) refl
+    rw (number_again 4 file.0 (flat_map (λ a. big_bytes 2 a) xs ++ rest) small, addresses_again head_blocks xs rest whole all) refl
 
 pub head_is_read : (leaves : ℕ) (page : List ℕ) (h : Head) → leaves < 2 ^ 16 → IsHead leaves h → FileFits h → page ≡ head_page h → head_at page ≡ Some h
 unfolding head_at head_page

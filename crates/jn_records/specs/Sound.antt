@@ -1,7 +1,7 @@
 -- Sound images: the pages of a server that was closed, each pair good and equal, with nothing under way.
 use Rattle.std.specs.Prelude.{◌≡◌, ◌<◌, ◌^◌, ◌+◌, ◌*◌, ℕ, Bool, true, List, drop, replicate}
 use Rattle.jn_base.specs.declared.names.ServerNo.{ServerNo}
-use Rattle.jn_base.specs.Limits.{most_blocks}
+use Rattle.jn_base.specs.Limits.{head_blocks}
 use Rattle.jn_records.specs.declared.head.Head.{Head}
 use Rattle.jn_records.specs.declared.record.Record.TheVariants.{Free}
 use Rattle.jn_records.specs.Pages.{root_page}
@@ -56,7 +56,7 @@ HasOneHead m f =
 -- head i is used and has address a at block p
 pub record Names (m : Image) (a i p : ℕ) : Type 0 where
   pub head : i < m.counts.heads
-  pub block : p < most_blocks
+  pub block : p < head_blocks
   pub used : is_used (head_bytes_of m i) ≡ true
   pub address : address_in (head_bytes_of m i) p ≡ a
 

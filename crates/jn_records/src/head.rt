@@ -102,7 +102,7 @@ pub fn used_page(file: FileNo, addresses: &[u16]) -> Page
     requires { length addresses.now ≡ head_blocks }
     ensures { result ≡ head_page (Used file addresses.now) }
 {
-    let mut bytes = [0; 240];
+    let mut bytes = [0; 2 * HEAD_BLOCKS];
     BigEndian::write_u16_into(addresses, &mut bytes);
     let mut page = PageWriter::new();
     page.put_u8(USED);

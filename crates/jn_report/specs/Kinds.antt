@@ -1,5 +1,5 @@
 -- What a text says: which kind of line it is, of whom, and of what.
-use Rattle.std.specs.Prelude.{Bool, true, false, not, List, [], ◌∷◌, ℕ, nat_eq, ◌&&◌, if◌then◌else◌, Option, Some, None}
+use Rattle.std.specs.Prelude.{Bool, true, false, not, List, [], ◌∷◌, ℕ, nat_eq, ◌&&◌, if◌then◌else◌, Option, Some, None, is_some}
 use Rattle.jn_report.specs.declared.line.Text.{Text}
 use Rattle.jn_report.specs.declared.line.Text.TheVariants as says
 use Rattle.jn_base.specs.declared.names.Tid.{Tid}
@@ -11,24 +11,6 @@ use Rattle.jn_base.specs.Names.{server_eq, client_eq, unit_eq, tid_eq}
 use Rattle.jn_report.specs.declared.line.Refusal.{Refusal}
 use Rattle.jn_report.specs.declared.line.Refusal.TheVariants as refusals
 use Rattle.jn_report.specs.declared.kinds.Addressed.{Addressed}
-
--- what a client is told of its command
-abbrev pub is_answer : Text → Bool
-is_answer (says.Begun c j T) = true
-is_answer (says.Opened c j s) = true
-is_answer (says.Did c j) = true
-is_answer (says.Read c j bytes) = true
-is_answer (says.Refused c j refusal) = true
-is_answer (says.Waiting c j s u by) = true
-is_answer (says.Committed c j T) = true
-is_answer (says.Aborted c j T cause) = true
-is_answer text = false
-
--- what a server notes in a step
-abbrev pub is_note : Text → Bool
-is_note (says.Commit T) = true
-is_note (says.Broke s T u by) = true
-is_note text = false
 
 abbrev pub is_up : Text → Bool
 is_up (says.Up s epoch) = true
@@ -46,7 +28,7 @@ abbrev pub is_message : Text → Bool
 is_message (says.Message k a b kind) = true
 is_message text = false
 
--- no line tells of a message
+-- it is no message's line
 abbrev pub no_message : Text → Bool
 no_message text = not (is_message text)
 
@@ -153,6 +135,10 @@ speaks_to (says.Waiting c j s u t) = addressed c j
 speaks_to (says.Committed c j t) = addressed c j
 speaks_to (says.Aborted c j t cause) = addressed c j
 speaks_to _ = None
+
+-- what a client is told of its command
+abbrev pub is_answer : Text → Bool
+is_answer text = is_some (speaks_to text)
 
 -- and whose command it answers
 abbrev pub answer_in : Text → Option Addressed

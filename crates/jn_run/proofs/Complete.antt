@@ -48,7 +48,7 @@ module _ (before after : Outside) where
   trial-count trial kept status source keeper (trial_no_memory same) = none-rose statuses.Memory source (sink-same before.sink after.sink same) keeper
 
   run-count : (options : Options) (status : Status) → RunEnds options before after status → OnlyItsCountRises before after status
-  run-count options status (done r) = none-rose statuses.Done r.read.reads.gave.faults r.written.faults (keeps-same options.closing r.holds.0.setup r.holds.0.closing before.keeper after.keeper r.holds.1)
+  run-count options status (done r) = none-rose statuses.Done r.read.reads.gave.faults r.written.faults (keeps-same options.closing r.holds.0.opens.setup r.holds.0.closing before.keeper after.keeper r.holds.1)
   run-count options status (not_read fails sink keeper) = source-rose (sink-same before.sink after.sink sink) (keeper-same before.keeper after.keeper keeper)
   run-count options status (too_many_bytes many sink keeper) = none-rose statuses.Limit many.gave.faults (sink-same before.sink after.sink sink) (keeper-same before.keeper after.keeper keeper)
   run-count options status (too_many_events many sink keeper) = none-rose statuses.Limit many.reads.gave.faults (sink-same before.sink after.sink sink) (keeper-same before.keeper after.keeper keeper)
@@ -81,7 +81,7 @@ first-none : (closing : Option (List ℕ)) (x : Setup) (left : Devices) (before 
 first-none closing x left before after none kept = subst (λ (c : Option (List ℕ)). KeepsFirst c x left before after) none kept
 
 pub keeper-left : (options : Options) (g : Geometry) (before after : Outside) (status : Status) → options.opening ≡ New g → options.closing ≡ None → RunEnds options before after status → after.keeper ≡ before.keeper
-keeper-left options g before after status new none (done r) = keeper-none options.closing r.holds.0.setup r.holds.0.closing before.keeper after.keeper none r.holds.1
+keeper-left options g before after status new none (done r) = keeper-none options.closing r.holds.0.opens.setup r.holds.0.closing before.keeper after.keeper none r.holds.1
 keeper-left options g before after status new none (not_read fails sink keeper) = keeper
 keeper-left options g before after status new none (too_many_bytes many sink keeper) = keeper
 keeper-left options g before after status new none (too_many_events many sink keeper) = keeper
@@ -92,10 +92,10 @@ keeper-left options g before after status new none (image_refused r keeper) = ke
 keeper-left options g before after status new none (image_not_written r keeper) = keeper
 keeper-left options g before after status new none (at_limit r keeper) = keeper
 keeper-left options g before after status new none (not_written r keeper) = keeper
-keeper-left options g before after status new none (not_saved r rose) = absurd (first-none options.closing r.holds.0.setup r.holds.0.closing before.keeper after.keeper none r.holds.1)
+keeper-left options g before after status new none (not_saved r rose) = absurd (first-none options.closing r.holds.0.opens.setup r.holds.0.closing before.keeper after.keeper none r.holds.1)
 keeper-left options g before after status new none (no_memory gives sink keeper) = keeper
 keeper-left options g before after status new none (no_memory_inside r keeper) = keeper
-keeper-left options g before after status new none (no_memory_saving r keeper) = absurd (first-none options.closing r.holds.0.setup r.holds.0.closing before.keeper after.keeper none r.holds.1)
+keeper-left options g before after status new none (no_memory_saving r keeper) = absurd (first-none options.closing r.holds.0.opens.setup r.holds.0.closing before.keeper after.keeper none r.holds.1)
 
 -- ---- what can be done is done
 

@@ -45,13 +45,10 @@ images-of device stores n x at = ap (device_in device) at
 -- ---- what a run begins with
 
 pub record Opened {S : Type 0} (device : S → DeviceState) (o : Options) (kept : Option Contents) (stores : List (S × PageCounts)) : Type 0 where
-  pub setup : Setup
-  pub files : AllFiles
+  pub opens : Opens o kept
   pub epochs : ServerNo → ℕ
-  pub images : Devices
-  pub opens : Opens o kept setup files images
-  pub stores_are : AreStoresOf device setup stores images
-  pub are_images : AreImages setup files epochs images
+  pub stores_are : AreStoresOf device opens.setup stores opens.images
+  pub are_images : AreImages opens.setup opens.files epochs opens.images
 
 module _ {S : Type 0} (look : S → StoreView) (device : S → DeviceState) (seen : (s : S) → look s ≡ pairs_view (device s)) (o : Options) (kept : Option Contents) (stores : List (S × PageCounts)) (count : length stores ≡ o.servers) where
   abbrev images : Devices
@@ -88,11 +85,15 @@ module _ {S : Type 0} (look : S → StoreView) (device : S → DeviceState) (see
 
     new-opened : o.opening ≡ New g → Opened device o kept stores
     new-opened is = record {
-      setup = new_setup;
-      files = no_files;
+      opens = record {
+        setup = new_setup;
+        files = no_files;
+        images = images;
+        servers = refl;
+        trace = refl;
+        disks = subst (λ (a : Opening). BeginsWith a kept new_setup no_files images) (sym is) ((λ q. refl), refl, images-new);
+      };
       epochs = λ q. 0;
-      images = images;
-      opens = record { servers = refl; trace = refl; disks = subst (λ (a : Opening). BeginsWith a kept new_setup no_files images) (sym is) ((λ q. refl), refl, images-new) };
       stores_are = record { servers = count; counts = λ n x at. sym (ap counts_by (disks n x at).counts); devices = devices };
       are_images = record {
         its = λ q u far. refl;
@@ -191,11 +192,15 @@ module _ {S : Type 0} (look : S → StoreView) (device : S → DeviceState) (see
 
     images-opened : o.opening ≡ Images name → Opened device o kept stores
     images-opened is = record {
-      setup = its_setup;
-      files = its_files;
+      opens = record {
+        setup = its_setup;
+        files = its_files;
+        images = images;
+        servers = refl;
+        trace = refl;
+        disks = subst (λ (a : Opening). BeginsWith a kept its_setup its_files images) (sym is) (none-past, its-opened);
+      };
       epochs = its_epochs;
-      images = images;
-      opens = record { servers = refl; trace = refl; disks = subst (λ (a : Opening). BeginsWith a kept its_setup its_files images) (sym is) (none-past, its-opened) };
       stores_are = record { servers = count; counts = λ n x at. ((began (record { 0 = n })).its x at).counts_are; devices = devices };
       are_images = record {
         its = none-past;

@@ -6,7 +6,7 @@ use Rattle.jn_image_files.specs.Saved.{SavedTo}
 use Rattle.jn_image_files.specs.Texts.{refusal_text}
 use Rattle.jn_image_files.specs.declared.refusal.Refusal.{Refusal}
 use Rattle.jn_between.proofs.Ended.{at-the-end}
-use Rattle.jn_headline.proofs.Joined.{whole-report, part-report, limited-report}
+use Rattle.jn_headline.proofs.Joined.{whole-report, part-report}
 use Rattle.jn_headline.specs.Headline.{IsTrueOfBegun, IsOfItsCommits}
 use Rattle.jn_world.specs.Images.{HasFilesAlone}
 use Rattle.jn_run.specs.declared.status.Status.TheVariants as statuses
@@ -83,45 +83,41 @@ load-ends options text events sink keeper keeper' a fails from = λ source sourc
 -- ---- a run from its disks
 
 module _ {S : Type 0} (device : S → DeviceState) (options : Options) (kept : Option Contents) (stores : List (S × PageCounts)) (b : Opened device options kept stores) (few : options.servers ≤ 8) (events : List Event) (range : AllByRecursion EventInRange events) where
-  pub less : b.setup.servers ≤ 8
+  pub less : b.opens.setup.servers ≤ 8
   less = subst (λ (n : ℕ). n ≤ 8) (sym b.opens.servers) few
 
   -- the files of the images are those that it begins with: both are found on the same pages
   module _ (files : AllFiles) (epochs : ServerNo → ℕ) where
-    pub same-files : AreImages b.setup files epochs b.images → files ≡ b.files
-    same-files are = one-files b.setup files epochs b.files b.epochs b.images are b.are_images
+    pub same-files : AreImages b.opens.setup files epochs b.opens.images → files ≡ b.opens.files
+    same-files are = one-files b.opens.setup files epochs b.opens.files b.epochs b.opens.images are b.are_images
 
   -- the end's moment has them on its pages
-  pub left-holds : (closing : Devices) (lines : List Line) → IsWholeRun b.setup events b.images closing lines → LeavesFiles b.setup b.files events lines closing
+  pub left-holds : (closing : Devices) (lines : List Line) → IsWholeRun b.opens.setup events b.opens.images closing lines → LeavesFiles b.opens.setup b.opens.files events lines closing
   left-holds closing lines run =
-      let end = at-the-end b.setup events b.images run.last less range run.written run.stage run.tasks in
-      subst (λ (files : AllFiles). LeavesFiles b.setup files events lines closing) (same-files run.written.files run.written.epochs run.written.are_images)
-      (subst (λ (ls : List Line). LeavesFiles b.setup run.written.files events ls closing) run.lines_are
-      (subst (λ (ds : Devices). LeavesFiles b.setup run.written.files events run.last.state.lines ds) run.closing_is end.pages))
+      let end = at-the-end b.opens.setup events b.opens.images run.last less range run.written run.stage run.tasks in
+      subst (λ (files : AllFiles). LeavesFiles b.opens.setup files events lines closing) (same-files run.written.files run.written.epochs run.written.are_images)
+      (subst (λ (ls : List Line). LeavesFiles b.opens.setup run.written.files events ls closing) run.lines_are
+      (subst (λ (ds : Devices). LeavesFiles b.opens.setup run.written.files events run.last.state.lines ds) run.closing_is end.pages))
 
-  abbrev pub whole-holds : (closing : Devices) (lines : List Line) → IsWholeRun b.setup events b.images closing lines → IsWholeReport options kept events lines
+  abbrev pub whole-holds : (closing : Devices) (lines : List Line) → IsWholeRun b.opens.setup events b.opens.images closing lines → IsWholeReport options kept events lines
   whole-holds closing lines run =
-      let of = whole-report b.setup events b.images less range closing lines run in
+      let of = whole-report b.opens.setup events b.opens.images less range closing lines run in
       record {
-        setup = b.setup;
-        files = b.files;
-        images = b.images;
-        closing = closing;
         opens = b.opens;
+        closing = closing;
         run = run;
         commits = subst (λ (files : AllFiles). IsOfItsCommits files events lines) (same-files of.0 of.1 of.2) of.3;
         left = left-holds closing lines run;
       }
 
-  part-holds : (lines : List Line) → IsPartOfRun b.setup events b.images lines → IsPart options kept events lines
+  abbrev part-holds : (lines : List Line) → IsPartOfRun b.opens.setup events b.opens.images lines → IsPart options kept events lines
   part-holds lines run =
-      let of = part-report b.setup events b.images less range lines run in
-      record { setup = b.setup; files = b.files; images = b.images; opens = b.opens; run = run; commits = subst (λ (files : AllFiles). IsTrueOfBegun files events run.now.state.course.world.event lines) (same-files of.0 of.1 of.2) of.3 }
+      let of = part-report b.opens.setup events b.opens.images less range lines run in
+      record { opens = b.opens; run = run; commits = subst (λ (files : AllFiles). IsTrueOfBegun files events run.now.state.course.world.event lines) (same-files of.0 of.1 of.2) of.3 }
 
-  pub limit-holds : (lines : List Line) → IsLimited b.setup events b.images lines → IsCutShort options kept events lines
-  limit-holds lines run =
-      let of = limited-report b.setup events b.images less range lines run in
-      record { setup = b.setup; files = b.files; images = b.images; opens = b.opens; run = run; commits = subst (λ (files : AllFiles). IsTrueOfBegun files events run.last.state.course.world.event lines) (same-files of.0 of.1 of.2) of.3 }
+  -- a run that a limit cut short is a part of one, at its last moment
+  pub limit-holds : (lines : List Line) → IsLimited b.opens.setup events b.opens.images lines → IsCutShort options kept events lines
+  limit-holds lines run = record { part = part-holds lines (record { now = run.last; written = run.written; lines_are = run.lines_are }); stage = run.stage }
 
   -- ---- what is kept of it
 
@@ -131,14 +127,14 @@ module _ {S : Type 0} (device : S → DeviceState) (options : Options) (kept : O
     its-counts q x there = ap (λ (xs : List PageCounts). slice_get xs q.0) counts_are ∙ slice_get-map (λ (x : S × PageCounts). x.1) stores q.0 ∙ ap (λ (y : Option (S × PageCounts)). option_map (λ (x : S × PageCounts). x.1) y) there
 
     -- nothing but files is left at any server, so its store is that of an image
-    pub left-closed : (closing : Devices) (lines : List Line) (run : IsWholeRun b.setup events b.images closing lines) → AreLeft device b.setup left run.last
+    pub left-closed : (closing : Devices) (lines : List Line) (run : IsWholeRun b.opens.setup events b.opens.images closing lines) → AreLeft device b.opens.setup left run.last
         → ((n : ℕ) (x : S × PageCounts) → slice_get stores n ≡ Some x → AreWithin (counts_by x.1)) → AreClosed device left counts
     left-closed closing lines run theirs within q s g at its =
-        let end = at-the-end b.setup events b.images run.last less range run.written run.stage run.tasks in
+        let end = at-the-end b.opens.setup events b.opens.images run.last less range run.written run.stage run.tasks in
         let below = get-below left q.0 s at in
-        let lt : q.0 < b.setup.servers = subst (λ (n : ℕ). q.0 < n) theirs.count below in
+        let lt : q.0 < b.opens.setup.servers = subst (λ (n : ℕ). q.0 < n) theirs.count below in
         let (x, there) = some-at stores q.0 (subst (λ (n : ℕ). q.0 < n) (sym b.stores_are.servers) lt) in
-        let same : b.setup.counts q ≡ counts_by g = b.stores_are.counts q.0 x there ∙ ap (λ (h : PageCounts). counts_by h) (some-is x.1 g (sym (its-counts q x there) ∙ its)) in
+        let same : b.opens.setup.counts q ≡ counts_by g = b.stores_are.counts q.0 x there ∙ ap (λ (h : PageCounts). counts_by h) (some-is x.1 g (sym (its-counts q x there) ∙ its)) in
         let found = end.found q (λ n. false) lt in
         let alone : HasFilesAlone (stable (run.last.state.course.world.found q)) = record {
           works = λ W. ap (λ (y : StableState). y.works W) found ∙ end.works q (λ n. false) W lt;
@@ -148,35 +144,35 @@ module _ {S : Type 0} (device : S → DeviceState) (options : Options) (kept : O
           within = subst (λ (h : PageCounts). AreWithin (counts_by h)) (some-is x.1 g (sym (its-counts q x there) ∙ its)) (within q.0 x there);
           files = (stable (run.last.state.course.world.found q)).files;
           image = subst (λ (h : Counts). IsImage q h (stable (run.last.state.course.world.found q)).files (pairs_view (device s))) same (theirs.images q.0 s at alone);
-          count = subst (λ (h : Counts). page_count h ≡ (pairs_view (device s)).count) same (subst (λ (d : DeviceState). page_count (b.setup.counts q) ≡ (pairs_view d).count) (theirs.each q.0 s at) (end.count q lt));
+          count = subst (λ (h : Counts). page_count h ≡ (pairs_view (device s)).count) same (subst (λ (d : DeviceState). page_count (b.opens.setup.counts q) ≡ (pairs_view d).count) (theirs.each q.0 s at) (end.count q lt));
         }
       where
         some-is : (a c : PageCounts) → Some a ≡ Some c → a ≡ c
         some-is a c h = cc
 
-  module _ (closing : Devices) (last : Moment) (closing_is : last.devices ≡ closing) (left : List S) (counts : List PageCounts) (theirs : AreLeft device b.setup left last) (counts_are : counts ≡ map (λ (x : S × PageCounts). x.1) stores) where
+  module _ (closing : Devices) (last : Moment) (closing_is : last.devices ≡ closing) (left : List S) (counts : List PageCounts) (theirs : AreLeft device b.opens.setup left last) (counts_are : counts ≡ map (λ (x : S × PageCounts). x.1) stores) where
     as_many : length left ≡ length stores
     as_many = theirs.count ∙ sym b.stores_are.servers
 
     -- the first n stores are kept, so the first n disks are
-    disks-kept : (name : List ℕ) (n : ℕ) (kept' : Option Contents) → n ≤ length left → SavedTo device name left counts n kept kept' → AreKept kept name n b.setup closing kept'
+    disks-kept : (name : List ℕ) (n : ℕ) (kept' : Option Contents) → n ≤ length left → SavedTo device name left counts n kept kept' → AreKept kept name n b.opens.setup closing kept'
     disks-kept name n kept' fit saved = record {
       disks = λ q lt.
           let (s, at) = some-at left q.0 (omega (arith, lt, fit)) in
           let (x, there) = some-at stores q.0 (subst (λ (k : ℕ). q.0 < k) as_many (omega (arith, lt, fit))) in
           let is = saved.are_kept q s x.1 lt at (its-counts left counts counts_are q x there) in
-          subst (λ (d : DeviceState). IsKept kept' name (b.setup.counts q) q d) (sym (ap (λ (ds : Devices). ds q) (sym closing_is) ∙ theirs.each q.0 s at))
+          subst (λ (d : DeviceState). IsKept kept' name (b.opens.setup.counts q) q d) (sym (ap (λ (ds : Devices). ds q) (sym closing_is) ∙ theirs.each q.0 s at))
           (subst (λ (g : Counts). IsKept kept' name g q (device s)) (sym (b.stores_are.counts q.0 x there)) is);
       others = saved.stay;
     }
 
-    servers-are : b.setup.servers ≡ length left
+    servers-are : b.opens.setup.servers ≡ length left
     servers-are = sym (as_many ∙ b.stores_are.servers)
 
-    all-kept : (name : List ℕ) (kept' : Option Contents) → SavedTo device name left counts (length left) kept kept' → AreKept kept name b.setup.servers b.setup closing kept'
-    all-kept name kept' h = subst (λ (n : ℕ). AreKept kept name n b.setup closing kept') (sym servers-are) (disks-kept name (length left) kept' (omega arith) h)
+    all-kept : (name : List ℕ) (kept' : Option Contents) → SavedTo device name left counts (length left) kept kept' → AreKept kept name b.opens.setup.servers b.opens.setup closing kept'
+    all-kept name kept' h = subst (λ (n : ℕ). AreKept kept name n b.opens.setup closing kept') (sym servers-are) (disks-kept name (length left) kept' (omega arith) h)
 
-    first-kept : (name : List ℕ) (kept' : Option Contents) → (n : ℕ) × (n < length left) × SavedTo device name left counts n kept kept' → (n : ℕ) × (n < b.setup.servers) × AreKept kept name n b.setup closing kept'
+    first-kept : (name : List ℕ) (kept' : Option Contents) → (n : ℕ) × (n < length left) × SavedTo device name left counts n kept kept' → (n : ℕ) × (n < b.opens.setup.servers) × AreKept kept name n b.opens.setup closing kept'
     first-kept name kept' h = (h.0, subst (λ (k : ℕ). h.0 < k) (sym servers-are) h.1, disks-kept name h.0 kept' (omega (arith, h.1)) h.2)
 
 -- ---- how it ends
@@ -196,7 +192,7 @@ memory-no-write h = cc
 
 module _ {S K A : Type 0} (device : S → DeviceState) (options : Options) (text : List ℕ) (events : List Event) (taken_of : K → Option (List ℕ)) (faults_of : K → ℕ) (sink sink' : K) (keeper : KeeperState) (stores : List (S × PageCounts))
     (b : Opened device options keeper.kept stores) (a : Accepted text events) (few : options.servers ≤ 8) (range : AllByRecursion EventInRange events)
-    (items_of : A → List S) (r : Result A RunFault) (ran : RunsFrom (writes_to taken_of faults_of) (course_of b.setup events b.images sink) (λ (left : A). AreLeft device b.setup (items_of left)) r sink') where
+    (items_of : A → List S) (r : Result A RunFault) (ran : RunsFrom (writes_to taken_of faults_of) (course_of b.opens.setup events b.opens.images sink) (λ (left : A). AreLeft device b.opens.setup (items_of left)) r sink') where
   abbrev now : SinkState
   now = sink_state taken_of faults_of sink
 
@@ -215,7 +211,7 @@ module _ {S K A : Type 0} (device : S → DeviceState) (options : Options) (text
   run-write is = λ source source' reads. not_written (record {
     read = read-so text events a source source' reads;
     lines = (ran.part (ap is_ok is)).lines;
-    holds = part-holds device options keeper.kept stores b few events range _ (ran.part (ap is_ok is)).part;
+    holds = part-holds device options keeper.kept stores b few events range (ran.part (ap is_ok is)).lines (ran.part (ap is_ok is)).part;
     written = record { took = (ran.part (ap is_ok is)).took; rose = ran.rose is };
   }) refl
 
@@ -223,19 +219,19 @@ module _ {S K A : Type 0} (device : S → DeviceState) (options : Options) (text
   run-memory is = λ source source' reads. no_memory_inside (record {
     read = read-so text events a source source' reads;
     lines = (ran.part (ap is_ok is)).lines;
-    holds = part-holds device options keeper.kept stores b few events range _ (ran.part (ap is_ok is)).part;
+    holds = part-holds device options keeper.kept stores b few events range (ran.part (ap is_ok is)).lines (ran.part (ap is_ok is)).part;
     written = record { took = (ran.part (ap is_ok is)).took; faults = ran.no_fault (err-no-write r runs.Memory is memory-no-write) };
   }) refl
 
   module _ (left : A) (is : r ≡ Ok left) (counts : List PageCounts) (counts_are : counts ≡ map (λ (x : S × PageCounts). x.1) stores) (keeper' : KeeperState) where
-    abbrev whole : TookWhole (writes_to taken_of faults_of) (course_of b.setup events b.images sink) (AreLeft device b.setup (items_of left)) sink'
+    abbrev whole : TookWhole (writes_to taken_of faults_of) (course_of b.opens.setup events b.opens.images sink) (AreLeft device b.opens.setup (items_of left)) sink'
     whole = ran.whole left is
 
     abbrev w : IsWholeReport options keeper.kept events whole.lines
     w = whole-holds device options keeper.kept stores b few events range whole.closing whole.lines whole.whole
 
-    told : (Kept : Setup → Devices → Type 0) → Kept b.setup whole.closing → (source source' : SourceState) → Reads text source source'
-        → Ran (record { source = source; sink = now; keeper = keeper }) (record { source = source'; sink = later; keeper = keeper' }) (λ events lines. (v : IsWholeReport options keeper.kept events lines) × Kept v.setup v.closing) Writes
+    told : (Kept : Setup → Devices → Type 0) → Kept b.opens.setup whole.closing → (source source' : SourceState) → Reads text source source'
+        → Ran (record { source = source; sink = now; keeper = keeper }) (record { source = source'; sink = later; keeper = keeper' }) (λ events lines. (v : IsWholeReport options keeper.kept events lines) × Kept v.opens.setup v.closing) Writes
     told Kept kept source source' reads = record {
       read = read-so text events a source source' reads;
       lines = whole.lines;
@@ -243,15 +239,15 @@ module _ {S K A : Type 0} (device : S → DeviceState) (options : Options) (text
       written = record { took = whole.took; faults = ran.no_fault (ok-no-write r left is) };
     }
 
-    all : (name : List ℕ) → SavedTo device name (items_of left) counts (length (items_of left)) keeper.kept keeper'.kept → AreKept keeper.kept name b.setup.servers b.setup whole.closing keeper'.kept
+    all : (name : List ℕ) → SavedTo device name (items_of left) counts (length (items_of left)) keeper.kept keeper'.kept → AreKept keeper.kept name b.opens.setup.servers b.opens.setup whole.closing keeper'.kept
     all name h = all-kept device options keeper.kept stores b few events range whole.closing whole.whole.last whole.whole.closing_is (items_of left) counts whole.gives counts_are name keeper'.kept h
 
-    first : (name : List ℕ) → options.closing ≡ Some name → (n : ℕ) × (n < length (items_of left)) × SavedTo device name (items_of left) counts n keeper.kept keeper'.kept → KeepsFirst options.closing b.setup whole.closing keeper keeper'
-    first name e h = subst (λ (c : Option (List ℕ)). KeepsFirst c b.setup whole.closing keeper keeper') (sym e)
+    first : (name : List ℕ) → options.closing ≡ Some name → (n : ℕ) × (n < length (items_of left)) × SavedTo device name (items_of left) counts n keeper.kept keeper'.kept → KeepsFirst options.closing b.opens.setup whole.closing keeper keeper'
+    first name e h = subst (λ (c : Option (List ℕ)). KeepsFirst c b.opens.setup whole.closing keeper keeper') (sym e)
         (first-kept device options keeper.kept stores b few events range whole.closing whole.whole.last whole.whole.closing_is (items_of left) counts whole.gives counts_are name keeper'.kept h)
 
-    keeps : (c : Option (List ℕ)) → options.closing ≡ c → Keeps c b.setup whole.closing keeper keeper' → EndsOn options text now keeper statuses.Done later keeper'
-    keeps c e h = λ source source' reads. done (told (λ x closing. Keeps options.closing x closing keeper keeper') (subst (λ (d : Option (List ℕ)). Keeps d b.setup whole.closing keeper keeper') (sym e) h) source source' reads)
+    keeps : (c : Option (List ℕ)) → options.closing ≡ c → Keeps c b.opens.setup whole.closing keeper keeper' → EndsOn options text now keeper statuses.Done later keeper'
+    keeps c e h = λ source source' reads. done (told (λ x closing. Keeps options.closing x closing keeper keeper') (subst (λ (d : Option (List ℕ)). Keeps d b.opens.setup whole.closing keeper keeper') (sym e) h) source source' reads)
 
     by : (c : Option (List ℕ)) → options.closing ≡ c → (status : Status) → KeptWith device (items_of left) counts c keeper status keeper' → EndsOn options text now keeper status later keeper'
     by None e status k = subst (λ (s : Status). EndsOn options text now keeper s later keeper') (sym k.0) (keeps None e k.1)

@@ -24,7 +24,7 @@ never-rises (inl less) = omega (arith, less)
 never-rises (inr last) = omega (arith, last)
 
 module _ {S A : Type 0} (device : S → DeviceState) (trial : Trial) (kept : Option Contents) (stores : List (S × PageCounts)) (b : Opened device trial_options kept stores) (events : List Event) (same : events ≡ events_from trial.seed trial.events)
-    (Gives : A → Moment → Type 0) (answer : Result A RunFault) (summary summary' : Summary) (ran : RunsFrom sums_up (course_of b.setup events b.images summary) Gives answer summary') where
+    (Gives : A → Moment → Type 0) (answer : Result A RunFault) (summary summary' : Summary) (ran : RunsFrom sums_up (course_of b.opens.setup events b.opens.images summary) Gives answer summary') where
   two : trial_options.servers ≤ 8
   two = omega arith
 

@@ -36,7 +36,8 @@ use Rattle.jn_serial.specs.Lines.{history_of}
 use Rattle.jn_serial.specs.Order.{replay}
 use Rattle.jn_machine.specs.Chances.{Setup}
 use Rattle.jn_machine.specs.Devices.{Devices}
-use Rattle.jn_machine.specs.Whole.{IsWhole as IsWholeRun, IsLimited, IsPartOfRun}
+use Rattle.jn_machine.specs.Tasks.{CutShort}
+use Rattle.jn_machine.specs.Whole.{IsWhole as IsWholeRun, IsPartOfRun}
 use Rattle.jn_summary.specs.Summary.{summary_text}
 use Rattle.jn_run.specs.declared.status.Status.{Status}
 use Rattle.jn_run.specs.declared.status.Status.TheVariants.{Done, Words, Schedule, Image, Read, Write, Keep, Limit, Memory}
@@ -74,15 +75,14 @@ outside left read_faults taken write_faults kept keep_faults source sink keeper 
 abbrev pub geometry_counts : Geometry → Counts
 geometry_counts g = record { pool = g.pool; heads = g.heads; leaves = g.leaves }
 
--- each server's disk is new: good pages of zeros behind a root of epoch 0, with power, and no fault waits
+-- each server's disk is new, with a root of epoch 0
 abbrev pub AreNew : Geometry → ℕ → Devices → Type 0
 AreNew g servers images = (q : ServerNo) → q.0 < servers → IsNewStore (root_by q (geometry_counts g) 0) (pairs_view (images q))
 
 abbrev pub no_files : AllFiles
 no_files s u = None
 
--- A server's disk has the pages of an image, with these files, that the keeper had under the server's name, sound for it. No call was made to the
--- disk yet.
+-- a server's disk is that of a kept image with these files, and no call was made to it yet
 pub record IsOpened (kept : Option Contents) (name : List ℕ) (g : Counts) (files : Files) (q : ServerNo) (d : DeviceState) : Type 0 where
   pub disk : IsKept kept name g q d
   pub files_are : files_in g disk.image.pages ≡ files
@@ -93,11 +93,14 @@ abbrev pub BeginsWith : Opening → Option Contents → Setup → AllFiles → D
 BeginsWith (New g) kept x files images = ((q : ServerNo) → x.counts q ≡ geometry_counts g) × (files ≡ no_files) × AreNew g x.servers images
 BeginsWith (Images name) kept x files images = AreFilesOf x.servers files × ((q : ServerNo) → q.0 < x.servers → IsOpened kept name (x.counts q) (files q) q (images q))
 
--- The servers, their counts of pages, their files and their disks are those that the options ask for.
-pub record Opens (options : Options) (kept : Option Contents) (x : Setup) (files : AllFiles) (images : Devices) : Type 0 where
-  pub servers : x.servers ≡ options.servers
-  pub trace : x.trace ≡ options.trace
-  pub disks : BeginsWith options.opening kept x files images
+-- the servers, their counts of pages, their files and their disks that a run begins with, as the options ask
+pub record Opens (options : Options) (kept : Option Contents) : Type 0 where
+  pub setup : Setup
+  pub files : AllFiles
+  pub images : Devices
+  pub servers : setup.servers ≡ options.servers
+  pub trace : setup.trace ≡ options.trace
+  pub disks : BeginsWith options.opening kept setup files images
 
 -- ---- what holds of the lines
 
@@ -107,32 +110,22 @@ LeavesFiles x files events lines closing = (q : ServerNo) (u : LockUnit) (c : Pi
 
 -- The lines are those of a run of the written machine over all events, from these disks to others, and those of its commits.
 pub record IsWholeReport (options : Options) (kept : Option Contents) (events : List Event) (lines : List Line) : Type 0 where
-  pub setup : Setup
-  pub files : AllFiles
-  pub images : Devices
+  pub opens : Opens options kept
   pub closing : Devices
-  pub opens : Opens options kept setup files images
-  pub run : IsWholeRun setup events images closing lines
-  pub commits : IsOfItsCommits files events lines
-  pub left : LeavesFiles setup files events lines closing
+  pub run : IsWholeRun opens.setup events opens.images closing lines
+  pub commits : IsOfItsCommits opens.files events lines
+  pub left : LeavesFiles opens.setup opens.files events lines closing
 
 -- the lines of such a run up to some step, true of the events that have begun
 pub record IsPart (options : Options) (kept : Option Contents) (events : List Event) (lines : List Line) : Type 0 where
-  pub setup : Setup
-  pub files : AllFiles
-  pub images : Devices
-  pub opens : Opens options kept setup files images
-  pub run : IsPartOfRun setup events images lines
-  pub commits : IsTrueOfBegun files events run.now.state.course.world.event lines
+  pub opens : Opens options kept
+  pub run : IsPartOfRun opens.setup events opens.images lines
+  pub commits : IsTrueOfBegun opens.files events run.now.state.course.world.event lines
 
--- the lines of such a run that a limit cut short
+-- the same where a limit cut the run short
 pub record IsCutShort (options : Options) (kept : Option Contents) (events : List Event) (lines : List Line) : Type 0 where
-  pub setup : Setup
-  pub files : AllFiles
-  pub images : Devices
-  pub opens : Opens options kept setup files images
-  pub run : IsLimited setup events images lines
-  pub commits : IsTrueOfBegun files events run.last.state.course.world.event lines
+  pub part : IsPart options kept events lines
+  pub stage : part.run.now.state.stage ≡ CutShort
 
 -- ---- what is kept
 
@@ -253,7 +246,7 @@ pub record Ran (before after : Outside) (Holds : List Event → List Line → Ty
 -- the run was done, and this holds of how its disks are kept
 abbrev pub RanWhole : Options → Outside → Outside → (Option (List ℕ) → Setup → Devices → KeeperState → KeeperState → Type 0) → Type 0
 RanWhole options before after Saves = Ran before after
-    (λ events lines. (w : IsWholeReport options before.keeper.kept events lines) × Saves options.closing w.setup w.closing before.keeper after.keeper) Writes
+    (λ events lines. (w : IsWholeReport options before.keeper.kept events lines) × Saves options.closing w.opens.setup w.closing before.keeper after.keeper) Writes
 
 -- the source's text was refused, and so much of the text that says so was written
 pub record RefusedSchedule (before after : Outside) (Written : List ℕ → SinkState → SinkState → Type 0) : Type 0 where
@@ -281,7 +274,6 @@ pub record RefusedImage (options : Options) (before after : Outside) (Written : 
   pub refused : IsRefusedImage options before.keeper.kept refusal
   pub written : Written (refusal_text refusal) before.sink after.sink
 
--- a run from images was asked for
 abbrev pub BeginsFromImages : Options → Type 0
 BeginsFromImages options = (name : List ℕ) × (options.opening ≡ Images name)
 

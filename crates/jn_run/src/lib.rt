@@ -55,10 +55,12 @@ const MOST_EVENTS: usize = 100_000;
 /// The words are the program's name, and `run` with options or `trial` with a seed and how many events there are. A run begins with
 /// new disks, or with those of the images that the keeper has under a name. The report says what each event of the schedule led to
 /// and, at the end, prints the files from the servers' pages. Each event's lines are written as the event ends. Once the whole
-/// report was taken, the disks are saved as images where a name for them is given. Other words are refused in one line of text, as
-/// are bytes that aren't a schedule, by the line and the number of the first fault, and images, by the first that is missing, is
-/// none or is unsound: then nothing is run. A schedule of more than 4,194,304 bytes or 100,000 events, a run that would send a
-/// message too many or has no epoch left, a source, a sink or a keeper that fails and want of memory have a status of their own.
+/// report was taken, the disks are saved as images where a name for them is given.
+///
+/// Other words are refused in one line of text, and then nothing is run. Bytes that aren't a schedule are refused so, by the line
+/// and the number of the first fault. Images are refused so, by the first that is missing, is none or is unsound. A limit has a
+/// status of its own: that of a schedule of more than 4,194,304 bytes or 100,000 events, and of a run that would send a message
+/// too many or has no epoch left. So have a source, a sink and a keeper that fail, and want of memory.
 ///
 /// A trial makes its schedule of the seed, runs it on two servers with new disks, and gives its whole report in one line, which is
 /// written once the run is done. It reads no source and keeps no disks, and writes nothing where a limit is reached or memory runs

@@ -1,5 +1,6 @@
 -- Whose a transaction is, by the lines of a report: line by line, and by what a client began last.
-use Rattle.jn_serial.proofs.Common.{◌≡◌, ◌≢◌, ◌⊎◌, inl, inr, ℕ, Bool, true, false, ◌&&◌, ◌||◌, if◌then◌else◌, List, [], ◌∷◌, ◌++◌, Option, Some, None, refl, sym, ◌∙◌, ap, subst, arith, cases_Bool, true≢false, nat_tests, ClientNo, Tid, client_eq, tid_eq, client_tells, tid_tells, When, AtEvent, Text, Line, is_before, lines_before, says, begun_after, begun_then, last_begun, is_tid, is_in, begins_for, is_its_client, owner_after}
+use Rattle.jn_serial.proofs.Common.{◌≡◌, ◌≢◌, ◌⊎◌, inl, inr, ℕ, Bool, true, false, ◌&&◌, ◌||◌, if◌then◌else◌, List, [], ◌∷◌, ◌++◌, Option, Some, None, refl, sym, ◌∙◌, ap, subst, arith, cases_Bool, true≢false, nat_tests, ClientNo, Tid, client_eq, tid_eq, client_tells, tid_tells, When, AtEvent, Text, Line, is_before, lines_before, says, begun_after, begun_then, last_begun, is_tid, is_in}
+use Rattle.jn_serial.proofs.LineByLine.{begins_for, is_its_client, owner_after}
 use Rattle.jn_report.specs.declared.line.Text.TheVariants as says
 use Rattle.jn_serial.proofs.Orders.{owner_then, says-append}
 

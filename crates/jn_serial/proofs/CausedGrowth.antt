@@ -1,9 +1,7 @@
 -- One more event, with its lines: what stands before an abort, a stop and a refused fault is kept.
-use Rattle.jn_serial.proofs.Common.{◌≡◌, ℕ, ◌+◌, ◌<◌, ◌≤◌, Bool, true, false, nat_le, List, [], ◌∷◌, ◌++◌, Option, Some, refl, ap, arith, inl, inr, append_assoc, append-nil, cases_Bool, nat_tests, ClientNo, Tid, Event, When, AtEvent, End, Text, Line, is_before, lines_before, event_at, begun_after, begun_then, is_in}
+use Rattle.jn_serial.proofs.Common.{◌≡◌, ℕ, ◌+◌, ◌<◌, ◌≤◌, Bool, true, false, nat_le, List, [], ◌∷◌, ◌++◌, Option, Some, refl, ap, arith, inl, inr, append_assoc, append-nil, cases_Bool, nat_tests, ClientNo, Tid, Event, When, AtEvent, End, Text, Line, is_before, lines_before, event_at, begun_after, begun_then, is_in, Abort, Command}
 use Rattle.jn_base.specs.declared.names.Cause.{Cause}
 use Rattle.jn_base.specs.declared.names.Cause.TheVariants as causes
-use Rattle.jn_base.specs.declared.op.Command.TheVariants.{Abort}
-use Rattle.jn_schedule.specs.declared.Event.TheVariants.{Command}
 use Rattle.jn_report.specs.declared.line.Text.TheVariants as says
 use Rattle.jn_serial.specs.Caused.{any_event, count_events, is_caused_by, is_caused, CausedFrom, Caused}
 use Rattle.jn_serial.proofs.Growth.{IsWithin, AreWithin}

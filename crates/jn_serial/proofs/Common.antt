@@ -13,8 +13,9 @@ pub use Rattle.jn_report.specs.declared.line.Text.{Text}
 pub use Rattle.jn_report.specs.declared.line.Line.{Line}
 pub use Rattle.jn_serial.specs.Lines.{is_before, lines_before, says, event_at, when_eq, lines_at, has_tid, count_lines, history_of}
 pub use Rattle.jn_serial.specs.Begun.{begun_after, begun_then, last_begun, is_tid, is_in}
-pub use Rattle.jn_serial.specs.InTurn.{begins_for, is_its_client, owner_after, performed_in, answered, answered_by, ops_told, told_from}
 pub use Rattle.jn_schedule.specs.declared.Event.{Event}
+pub use Rattle.jn_base.specs.declared.op.Command.TheVariants.{Abort, Do}
+pub use Rattle.jn_schedule.specs.declared.Event.TheVariants.{Command}
 pub use Rattle.jn_serial.specs.Follows.{Outstanding, FollowsEvent, FollowsFrom, after_one, Asked, nothing_asked, with_asked, answers_command, fits, fits_asked, after_answer, AllFit, after_answers, after_event, refuses_own, AllOwnInPlace, own_in_place, IsOfEvent, AllOfEvents, Follows, is_command_of}
 pub use Rattle.jn_base.specs.declared.op.Answer.{Answer}
 pub use Rattle.jn_replay.specs.declared.files.Performed.{Performed}

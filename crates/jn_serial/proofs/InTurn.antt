@@ -1,5 +1,6 @@
 -- Where each answer follows its command, what a transaction did by its lines is what it did by its commands.
-use Rattle.jn_serial.proofs.Common.{◌≡◌, ◌≢◌, ◌⊎◌, inl, inr, ℕ, zero, suc, ◌+◌, ◌<◌, ◌≤◌, nat_eq, nat_lt, Bool, true, false, ◌&&◌, if◌then◌else◌, List, [], ◌∷◌, ◌++◌, length, Option, Some, None, refl, sym, ◌∙◌, ap, subst, arith, append_assoc, append-nil, length-append, true≢false, nat_tests, ClientNo, Tid, Answer, client_eq, client_tells, Performed, Event, When, AtEvent, End, Text, Line, when_eq, is_before, lines_at, lines_before, says, event_at, begun_after, begun_then, last_begun, is_tid, is_in, answer_told, first_told, performed, op_in, ops_from, ops_of, performed_in, answered, answered_by, is_its_client, ops_told, Outstanding, Asked, nothing_asked, with_asked, answers_command, answer_in, fits, fits_asked, after_answer, AllFit, after_answers, after_event, refuses_own, AllOwnInPlace, own_in_place, FollowsEvent, after_one, FollowsFrom, is_answer, IsOfEvent, AllOfEvents, Follows}
+use Rattle.jn_serial.proofs.Common.{◌≡◌, ◌≢◌, ◌⊎◌, inl, inr, ℕ, zero, suc, ◌+◌, ◌<◌, ◌≤◌, nat_eq, nat_lt, Bool, true, false, ◌&&◌, if◌then◌else◌, List, [], ◌∷◌, ◌++◌, length, Option, Some, None, refl, sym, ◌∙◌, ap, subst, arith, append_assoc, append-nil, length-append, true≢false, nat_tests, ClientNo, Tid, Answer, client_eq, client_tells, Performed, Event, When, AtEvent, End, Text, Line, when_eq, is_before, lines_at, lines_before, says, event_at, begun_after, begun_then, last_begun, is_tid, is_in, answer_told, first_told, performed, op_in, ops_from, ops_of, Outstanding, Asked, nothing_asked, with_asked, answers_command, answer_in, fits, fits_asked, after_answer, AllFit, after_answers, after_event, refuses_own, AllOwnInPlace, own_in_place, FollowsEvent, after_one, FollowsFrom, is_answer, IsOfEvent, AllOfEvents, Follows}
+use Rattle.jn_serial.proofs.LineByLine.{performed_in, answered, answered_by, is_its_client, ops_told}
 use Rattle.jn_order.specs.Changes.{or_also}
 use Rattle.jn_base.specs.declared.names.ServerNo.{ServerNo}
 use Rattle.jn_base.specs.declared.op.Op.{Op}

@@ -3,6 +3,7 @@ pub mod Growth
 pub mod Refused
 pub mod Ops
 pub mod Beginners
+pub mod LineByLine
 pub mod InTurn
 pub mod CausedGrowth
 pub mod Telling

@@ -1,5 +1,6 @@
 -- What a transaction did, and what the commits give, with more events and more lines.
-use Rattle.jn_serial.proofs.Common.{◌≡◌, ℕ, ◌≤◌, cond, List, [], ◌∷◌, ◌++◌, length, Option, Some, None, refl, sym, ◌∙◌, ap, subst, arith, ClientNo, Tid, Answer, client_eq, AllFiles, files_then, GivesAnswers, Event, Text, Line, Performed, event_at, ops_of, replay, AgreesFrom, performed_in, answered, answered_by, owner_after, told_from}
+use Rattle.jn_serial.proofs.Common.{◌≡◌, ℕ, ◌≤◌, cond, List, [], ◌∷◌, ◌++◌, length, Option, Some, None, refl, sym, ◌∙◌, ap, subst, arith, ClientNo, Tid, Answer, client_eq, AllFiles, files_then, GivesAnswers, Event, Text, Line, Performed, event_at, ops_of, replay, AgreesFrom}
+use Rattle.jn_serial.proofs.LineByLine.{performed_in, answered, answered_by, owner_after, told_from}
 use Rattle.jn_report.specs.declared.line.Refusal.TheVariants as refusals
 use Rattle.jn_report.specs.declared.line.Text.TheVariants as says
 use Rattle.jn_serial.proofs.Growth.{event_at-front}

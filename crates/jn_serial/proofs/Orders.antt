@@ -1,5 +1,6 @@
 -- The order of commits, on the same files and on lists joined end to end.
-use Rattle.jn_serial.proofs.Common.{ℕ, length, ◌≡◌, Bool, ◌||◌, List, [], ◌∷◌, ◌++◌, filter, refl, sym, ap, ◌∙◌, inl, inr, append_assoc, ◌+◌, ◌<◌, ◌↔◌, drop, get_or, Option, None, cases_Bool, ClientNo, Tid, tid_eq, AllFiles, Performed, AreSame, files_then, GivesAnswers, AreSame-from_equal, drop_here, Event, When, Text, Line, when_eq, is_before, lines_at, lines_before, says, has_tid, ops_of, replay, AgreesFrom, answered_by, owner_after, told_from, ops_told, NamesNone}
+use Rattle.jn_serial.proofs.Common.{ℕ, length, ◌≡◌, Bool, ◌||◌, List, [], ◌∷◌, ◌++◌, filter, refl, sym, ap, ◌∙◌, inl, inr, append_assoc, ◌+◌, ◌<◌, ◌↔◌, drop, get_or, Option, None, cases_Bool, ClientNo, Tid, tid_eq, AllFiles, Performed, AreSame, files_then, GivesAnswers, AreSame-from_equal, drop_here, Event, When, Text, Line, when_eq, is_before, lines_at, lines_before, says, has_tid, ops_of, replay, AgreesFrom, NamesNone}
+use Rattle.jn_serial.proofs.LineByLine.{answered_by, owner_after, told_from, ops_told}
 use Rattle.std.specs.List.{list_any}
 use Rattle.jn_order.proofs.FilesLemmas.{same_files}
 

@@ -1,7 +1,6 @@
 pub mod Lines
 pub mod Begun
 pub mod Order
-pub mod InTurn
 pub mod Told
 pub mod Caused
 pub mod Shown

@@ -1,23 +1,21 @@
 -- The names from below that these proofs cite, passed on from one place. Declares nothing.
-pub use Rattle.std.proofs.Common.{◌≡◌, ◌⊎◌, inl, inr, ◌+◌, ◌*◌, ◌≤◌, Bool, true, false, List, [], ◌∷◌, Option, refl, sym, ◌∙◌, ap, subst, arith, true≢false, ◌≢◌, ◌++◌, suc, Some, append_assoc, ⊎_elim, ◌-◌, not, get_or, zero, rules}
+pub use Rattle.std.proofs.Common.{◌≡◌, ◌⊎◌, inl, inr, ◌+◌, ◌*◌, ◌≤◌, Bool, true, false, List, [], ◌∷◌, Option, refl, sym, ◌∙◌, ap, subst, arith, true≢false, ◌≢◌, ◌++◌, Some, append_assoc, suc, ⊎_elim, ◌-◌, not, get_or, rules}
 pub use Rattle.std.specs.Prelude.{ℕ, Result, Ok, Err, length, ◌&&◌, ◌<◌, ◌||◌, is_some, nat_lt, None, map, is_ok, IfErr, OnOk, ◌^◌, if◌then◌else◌, count_by, nat_eq, slice_index_or, option_and_then}
 pub use Rattle.std.specs.Result.{IsErr, IsErrAnd}
 pub use Rattle.std.proofs.lemmas.Bool.Decides.{nat_tests}
 pub use Rattle.jn_base.specs.declared.names.Tickets.{Tickets}
 pub use Rattle.jn_base.specs.declared.names.WorkId.{WorkId}
 pub use Rattle.jn_base.specs.Names.{work_eq, file_eq, block_eq, unit_eq, tid_eq}
-pub use Rattle.jn_locks.specs.Locks.{is_unit}
 unfoldable pub use Rattle.jn_locks.specs.Locks.{work_before}
 pub use Rattle.jn_lock_rows.specs.Matching.{is_after, is_before}
 pub use Rattle.jn_msgs.specs.Collected.{Collected}
-pub use Rattle.jn_order.specs.Files.{Files}
 pub use Rattle.jn_rows.specs.Stable.{StableState, Prepared, Change, AddReady, MarkGoing, CarryOut, RemoveWork, AddFlag, DropFlag, is_going, made_by, made_all, FlagState, Pick}
 pub use Rattle.jn_rows.specs.Outcomes.{RowOutcome}
 pub use Rattle.jn_rows.specs.declared.worker.Work.{Work}
-pub use Rattle.jn_rows.specs.Worker.{work_at, name_from as work_from, commit_holder, WorkerTable, WorkStorage, is_fit, wants_of, units_for, worker_row, worker_step, vulnerable, timeout_row, restored_work, restored_worker, intentions_of, need_in, holds, worker_again}
+pub use Rattle.jn_rows.specs.Worker.{work_at, name_from as work_from, commit_holder, restored_worker, restored_work, WorkerTable, intentions_of, need_in, timeout_row, worker_step, worker_again, worker_row}
 pub use Rattle.jn_rows.specs.Coordinator.{CoordinatorTable, restored_coordinator, restored_transactions, restored_transaction, name_from as tid_from, seen_in_flags, seen_in_flag, promised, coordinator_again, name_from, close_clients_row, coordinator_row}
 pub use Rattle.jn_storage.specs.Storage.{Accounts, StorageView, is_stored, IsCounted, IsServing}
-pub use Rattle.jn_storage.specs.Calls.{state, BlockRead, is_above, NextFile}
+pub use Rattle.jn_storage.specs.Calls.{state, BlockRead, NextFile, NextBlock}
 pub use Rattle.jn_storage.specs.Listing.{is_in, IsListing, are_different, total}
 pub use Rattle.jn_store.proofs.Laws.{calm_on, stop_since}
 pub use Rattle.jn_worker.specs.Leaving.{left_by, left_over}
@@ -40,23 +38,19 @@ pub use Rattle.jn_base.specs.declared.names.BlockNo.{BlockNo}
 pub use Rattle.jn_base.specs.declared.names.LockUnit.{LockUnit}
 pub use Rattle.jn_base.specs.declared.names.LockUnit.TheVariants.{File, Block}
 pub use Rattle.jn_base.specs.declared.names.Tid.{Tid}
-pub use Rattle.jn_base.proofs.Tells.{file_tells, tid_tells, work_tells, block_tells}
-pub use Rattle.jn_system.specs.WholeSystem.Printing.{Printed, print_unit, prints_in, print_one, print_blocks, FileThere, print_file, print_files, block_before}
+pub use Rattle.jn_base.proofs.Tells.{file_tells, block_tells, tid_tells, work_tells}
+pub use Rattle.jn_system.specs.WholeSystem.Printing.{Printed, print_unit, prints_in, print_one, print_blocks, FileThere, print_file, print_files, block_before, UnitLocked}
 pub use Rattle.jn_base.specs.declared.fault.CallFault.TheVariants.{Stopped, Memory as NoMemory}
 pub use Rattle.jn_server.specs.declared.show.Shown.{Shown}
 pub use Rattle.jn_server.specs.Showing.{print_of, Looks, IsShown, CutsShort}
-pub use Rattle.jn_server.specs.Pieces.{one_if, count_of, is_at, is_of_first, to_print, name_if, block_at, prints_of_blocks, LooksOver, TellsPiece, CutsPiece, prints_of_file, number_after, IsNextShown, NextShown}
-unfoldable pub use Rattle.jn_server.specs.Pieces.{blocks_below}
-pub use Rattle.jn_rows.specs.declared.worker.Phase.{Phase}
-pub use Rattle.jn_rows.specs.declared.worker.Phase.TheVariants.{Active, Broken, Prepared as Stored}
-pub use Rattle.jn_locks.specs.declared.words.Mode.TheVariants.{IntentionWrite, Commit}
-pub use Rattle.jn_storage.specs.Orderly.{IsPrepared, needed, intentions, list_of, IsGiven, unit_in_range, file_there}
-pub use Rattle.jn_server.specs.Ranges.{IsInRange, AreInRange}
+pub use Rattle.jn_server.specs.Pieces.{one_if, count_of, is_at, to_print, LooksOver, TellsPiece, CutsPiece, is_of, TellsBlocks, TellsFile}
+pub use Rattle.jn_index.specs.Least.{IsLeastFrom, lesser, LeastFrom, NextAfter, number_after}
 pub use Rattle.jn_base.specs.declared.names.ServerNo.{ServerNo}
 pub use Rattle.jn_records.specs.StablePages.{Counts, Pages, address_in, block_behind, block_in, head_of}
 pub use Rattle.jn_store.specs.Store.{StoreView}
 pub use Rattle.jn_page_state.specs.Pages.{found_on, pool_on, heads_on, listed, pages_by}
 pub use Rattle.jn_server.specs.Restarting.{AreTables, IsRestarted, IsNotRestarted, IsWithin, Composes, IsLeft}
+pub use Rattle.jn_storage.specs.Orderly.{needed, intentions, list_of, IsGiven}
 pub use Rattle.jn_recovery.specs.Memory.{Memory as Kept, view_of, rubbish_in}
 pub use Rattle.jn_server.specs.Reading.{IsRoomOfPages, CountsPages, StandsOnPages}
 pub use Rattle.jn_worker.specs.Calls.{TimesOut as WorkerTimesOut, Steps as WorkerSteps, AsksAgain, Takes, CountsBy}

@@ -1,5 +1,4 @@
 mod Common
-mod Ranges
 mod Working
 mod Coordinating
 mod Stepping

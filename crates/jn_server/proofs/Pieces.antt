@@ -1,9 +1,15 @@
 -- Pieces of a show, one after another.
-use Rattle.jn_server.proofs.Common.{◌≡◌, ◌≢◌, ◌⊎◌, inl, inr, ℕ, suc, ◌+◌, ◌*◌, ◌<◌, ◌≤◌, Bool, true, false, ◌&&◌, ◌||◌, List, [], ◌∷◌, ◌++◌, Option, Some, None, is_some, refl, sym, ◌∙◌, ap, subst, arith, true≢false, append_assoc, nat_lt, length, map, Result, Ok, Err, is_ok, IfErr, OnOk, IsErr, IsErrAnd, nat_tests, append-nil, map-append, FileNo, BlockNo, LockUnit, File, Block, Tid, file_eq, block_eq, file_tells, unit_eq, StableState, commit_holder, IsListing, is_in, StorageView, is_stored, state, BlockRead, stop_since, Printed, print_unit, prints_in, print_one, print_blocks, CallFault, Stopped, NoMemory, Shown, ServerView, IsServer, print_of, one_if, count_of, is_at, is_of_first, to_print, name_if, block_at, blocks_below, prints_of_blocks, LooksOver, TellsPiece, CutsPiece}
+use Rattle.jn_server.proofs.Common.{◌≡◌, ◌≢◌, ◌⊎◌, inl, inr, ℕ, ◌+◌, ◌*◌, ◌<◌, ◌≤◌, Bool, true, false, ◌&&◌, ◌||◌, List, [], ◌∷◌, ◌++◌, Option, Some, None, is_some, refl, sym, ◌∙◌, ap, subst, arith, true≢false, append_assoc, nat_lt, length, map, Result, Ok, Err, is_ok, IfErr, OnOk, IsErr, IsErrAnd, nat_tests, append-nil, map-append, FileNo, BlockNo, LockUnit, File, Block, Tid, file_eq, block_eq, file_tells, unit_eq, StableState, commit_holder, IsListing, is_in, StorageView, is_stored, state, BlockRead, stop_since, Printed, print_unit, prints_in, print_one, print_blocks, CallFault, Stopped, NoMemory, Shown, ServerView, IsServer, print_of, one_if, count_of, is_at, to_print, LooksOver, TellsPiece, CutsPiece, block_tells, IsLeastFrom, is_of, TellsBlocks}
 use Rattle.jn_base.specs.declared.device.Stopped.{Stopped as Stop}
 use Rattle.jn_storage.proofs.Laws.{storage_refl, storage_trans}
 use Rattle.jn_server.specs.declared.show.Shown.TheVariants as shown
 use Rattle.jn_server.proofs.Serving.{still-serves}
+use Rattle.jn_server.proofs.Listed.{ListsBelow, lists-nothing, lists-on, lists-more, lists-all}
+
+-- the first blocks of a file
+abbrev pub is_of_first : FileNo → ℕ → LockUnit → Bool
+is_of_first f n (File g) = false
+is_of_first f n (Block g p) = file_eq g f && nat_lt p.0 n
 
 -- what is of files with lesser numbers
 abbrev pub is_of_lesser : ℕ → LockUnit → Bool
@@ -36,34 +42,43 @@ count-in u (x ∷ us) h = by (unit_eq x u) h (count-in u us)
     by true e on = omega arith
     by false e on = let k = on e in omega (arith, k)
 
-pub blocks-join : (f : FileNo) (n : ℕ) → Joins (is_of_first f n) (is_at (Block f (block_at n))) (is_of_first f (n + 1))
-blocks-join f n (File g) = omega arith
-blocks-join f n (Block g p) = by (file_eq g f)
+pub blocks-join : (f : FileNo) (n : ℕ) (p : BlockNo) → n ≤ p.0 → Joins (is_of_first f n) (is_at (Block f p)) (is_of_first f (p.0 + 1))
+blocks-join f n p le (File g) = omega arith
+blocks-join f n p le (Block g q) = by (file_eq g f)
   where
-    one : (m : ℕ) → one_if (nat_lt m n) + one_if (block_eq (record { 0 = m }) (block_at n)) ≤ one_if (nat_lt m (n + 1))
-    one m = grind (arith, nat_tests)
+    one : (m : ℕ) → one_if (nat_lt m n) + one_if (block_eq (record { 0 = m }) p) ≤ one_if (nat_lt m (p.0 + 1))
+    one m = grind (arith, nat_tests, le)
 
-    by : (b : Bool) → one_if (b && nat_lt p.0 n) + one_if (b && block_eq p (block_at n)) ≤ one_if (b && nat_lt p.0 (n + 1))
-    by true = one p.0
+    by : (b : Bool) → one_if (b && nat_lt q.0 n) + one_if (b && block_eq q p) ≤ one_if (b && nat_lt q.0 (p.0 + 1))
+    by true = one q.0
     by false = omega arith
 
-pub files-join : (n : ℕ) (f : FileNo) → n ≤ f.0 → Joins (is_of_lesser n) (is_of_first f 120) (is_of_lesser (f.0 + 1))
+-- the first blocks of a file are some of its blocks
+pub wider : (f : FileNo) (n : ℕ) (u : LockUnit) → one_if (is_of_first f n u) ≤ one_if (is_of f u)
+wider f n (File g) = omega arith
+wider f n (Block g p) = by (file_eq g f)
+  where
+    by : (b : Bool) → one_if (b && nat_lt p.0 n) ≤ one_if b
+    by true = one-at-most (nat_lt p.0 n)
+    by false = omega arith
+
+pub files-join : (n : ℕ) (f : FileNo) → n ≤ f.0 → Joins (is_of_lesser n) (is_of f) (is_of_lesser (f.0 + 1))
 files-join n f le (File g) = one g.0
   where
     one : (m : ℕ) → one_if (nat_lt m n) + 0 ≤ one_if (nat_lt m (f.0 + 1))
     one m = grind (arith, nat_tests, le)
-files-join n f le (Block g p) = by (nat_lt p.0 120) (file_tells g f)
+files-join n f le (Block g p) = by (file_tells g f)
   where
-    here : (b : Bool) → one_if (nat_lt f.0 n) + one_if (true && b) ≤ one_if (nat_lt f.0 (f.0 + 1))
-    here b = grind (arith, nat_tests, le, one-at-most b)
+    here : one_if (nat_lt f.0 n) + one_if true ≤ one_if (nat_lt f.0 (f.0 + 1))
+    here = grind (arith, nat_tests, le)
 
-    apart : (m : ℕ) (b : Bool) → one_if (nat_lt m n) + one_if (false && b) ≤ one_if (nat_lt m (f.0 + 1))
-    apart m b = grind (arith, nat_tests, le)
+    apart : (m : ℕ) → one_if (nat_lt m n) + one_if false ≤ one_if (nat_lt m (f.0 + 1))
+    apart m = grind (arith, nat_tests, le)
 
-    by : (b : Bool) → ((file_eq g f ≡ true) × (g ≡ f)) ⊎ ((file_eq g f ≡ false) × (g ≢ f)) → one_if (nat_lt g.0 n) + one_if (file_eq g f && b) ≤ one_if (nat_lt g.0 (f.0 + 1))
-    by b (inl t) = subst (λ (c : Bool). one_if (nat_lt g.0 n) + one_if (c && b) ≤ one_if (nat_lt g.0 (f.0 + 1))) (sym t.0)
-        (subst (λ (h : FileNo). one_if (nat_lt h.0 n) + one_if (true && b) ≤ one_if (nat_lt h.0 (f.0 + 1))) (sym t.1) (here b))
-    by b (inr t) = subst (λ (c : Bool). one_if (nat_lt g.0 n) + one_if (c && b) ≤ one_if (nat_lt g.0 (f.0 + 1))) (sym t.0) (apart g.0 b)
+    by : ((file_eq g f ≡ true) × (g ≡ f)) ⊎ ((file_eq g f ≡ false) × (g ≢ f)) → one_if (nat_lt g.0 n) + one_if (file_eq g f) ≤ one_if (nat_lt g.0 (f.0 + 1))
+    by (inl t) = subst (λ (c : Bool). one_if (nat_lt g.0 n) + one_if c ≤ one_if (nat_lt g.0 (f.0 + 1))) (sym t.0)
+        (subst (λ (h : FileNo). one_if (nat_lt h.0 n) + one_if true ≤ one_if (nat_lt h.0 (f.0 + 1))) (sym t.1) here)
+    by (inr t) = subst (λ (c : Bool). one_if (nat_lt g.0 n) + one_if c ≤ one_if (nat_lt g.0 (f.0 + 1))) (sym t.0) (apart g.0)
 
 -- ---- what pieces look at
 
@@ -175,19 +190,6 @@ module _ (v w : ServerView) (serves : IsServer v) (f : FileNo) (p : BlockNo) (an
   read-cut (Ok x) stops e is = tt
   read-cut (Err z) stops e is = subst (λ (y : CallFault). CutsPiece y (is_at (Block f p)) v w) (sym is) (record { looks = read-looks; stop = h.called.stop stops })
 
--- a block that isn't stored
-pub tells-unstored : (v : ServerView) → IsServer v → (f : FileNo) (p : BlockNo) → is_some ((state v.storage).files (Block f p)) ≡ false → commit_holder (Block f p) v.worker.table ≡ None → (old : List Shown)
-    → TellsPiece (is_at (Block f p)) v old (print_one (to_print v (Block f p))) v old
-tells-unstored v serves f p unstored free old = subst (λ (l : List Printed). TellsPiece (is_at (Block f p)) v old l v old) (sym nothing) (tells-nothing (is_at (Block f p)) v serves old)
-  where
-    none : (o : Option (List ℕ)) → is_some o ≡ false → o ≡ None
-    none None e = refl
-    none (Some x) e = absurd (cc e)
-
-    nothing : print_one (to_print v (Block f p)) ≡ []
-    nothing = ap (λ (o : Option Tid). print_one (print_unit (Block f p) o ((state v.storage).files (Block f p)))) free
-        ∙ ap (λ (o : Option (List ℕ)). print_one (print_unit (Block f p) None o)) (none ((state v.storage).files (Block f p)) unstored)
-
 -- a unit that is held for commit
 pub tells-locked : (test : LockUnit → Bool) (v : ServerView) → IsServer v → (u : LockUnit) (T : Tid) → commit_holder u v.worker.table ≡ Some T → (old new : List Shown) → new ≡ old ++ shown.Locked u T ∷ []
     → TellsPiece test v old (print_one (to_print v u)) v new
@@ -195,56 +197,56 @@ tells-locked test v serves u T held old new e = subst (λ (o : Option Tid). Tell
 
 -- ---- blocks
 
-print_blocks-append : (prints : LockUnit → Option Printed) (f : FileNo) (xs ys : List BlockNo) → print_blocks prints f (xs ++ ys) ≡ print_blocks prints f xs ++ print_blocks prints f ys
-print_blocks-append prints f [] ys = refl
-print_blocks-append prints f (x ∷ xs) ys = ap (λ (l : List Printed). print_one (prints (Block f x)) ++ l) (print_blocks-append prints f xs ys) ∙ sym (append_assoc (print_one (prints (Block f x))) (print_blocks prints f xs) (print_blocks prints f ys))
+pub print_blocks-more : (prints : LockUnit → Option Printed) (f : FileNo) (ps : List BlockNo) (p : BlockNo) → print_blocks prints f (ps ++ p ∷ []) ≡ print_blocks prints f ps ++ print_one (prints (Block f p))
+print_blocks-more prints f [] p = append-nil (print_one (prints (Block f p)))
+print_blocks-more prints f (q ∷ ps) p = ap (λ (l : List Printed). print_one (prints (Block f q)) ++ l) (print_blocks-more prints f ps p) ∙ sym (append_assoc (print_one (prints (Block f q))) (print_blocks prints f ps) (print_one (prints (Block f p))))
 
-named-print : (prints : LockUnit → Option Printed) (f : FileNo) (p : BlockNo) → print_blocks prints f (name_if p (prints (Block f p))) ≡ print_one (prints (Block f p))
-named-print prints f p = by (prints (Block f p)) refl
-  where
-    by : (o : Option Printed) → prints (Block f p) ≡ o → print_blocks prints f (name_if p o) ≡ print_one o
-    by None e = refl
-    by (Some x) e = append-nil (print_one (prints (Block f p))) ∙ ap print_one e
+-- the blocks of a file below a number are told
+pub record BlocksTold (v : ServerView) (f : FileNo) (old : List Shown) (n : ℕ) (w : ServerView) (new : List Shown) : Type 0 where
+  pub blocks : List BlockNo
+  pub lists : ListsBelow block_eq (λ p. p.0) (λ p. to_print v (Block f p)) n blocks
+  pub tells : TellsPiece (is_of_first f n) v old (print_blocks (to_print v) f blocks) w new
 
-no-blocks : (prints : LockUnit → Option Printed) (f : FileNo) → prints_of_blocks prints f 0 ≡ []
-unfolding blocks_below
-no-blocks prints f = refl
+same-block : (p q : BlockNo) → p.0 ≡ q.0 → p ≡ q
+same-block p q e = ap (λ (n : ℕ). let h : BlockNo = record { 0 = n } in h) e
 
-more-blocks : (prints : LockUnit → Option Printed) (f : FileNo) (n : ℕ) → prints_of_blocks prints f (suc n) ≡ prints_of_blocks prints f n ++ print_one (prints (Block f (block_at n)))
-unfolding blocks_below
-more-blocks prints f n = print_blocks-append prints f (blocks_below (λ p. prints (Block f p)) n) (name_if (block_at n) (prints (Block f (block_at n)))) ∙ ap (λ (l : List Printed). prints_of_blocks prints f n ++ l) (named-print prints f (block_at n))
+module _ (v : ServerView) (f : FileNo) (old : List Shown) where
+  abbrev its : BlockNo → Option Printed
+  its p = to_print v (Block f p)
 
-pub next-number : (n : ℕ) → suc n ≡ n + 1
-next-number n = omega arith
+  pub no-blocks : IsServer v → BlocksTold v f old 0 v old
+  no-blocks serves = record { blocks = []; lists = lists-nothing block_eq (λ p. p.0) block_tells same-block its; tells = tells-nothing (is_of_first f 0) v serves old }
 
-pub tells-no-blocks : (f : FileNo) (v : ServerView) → IsServer v → (old : List Shown) → TellsPiece (is_of_first f 0) v old (prints_of_blocks (to_print v) f 0) v old
-tells-no-blocks f v serves old = subst (λ (l : List Printed). TellsPiece (is_of_first f 0) v old l v old) (sym (no-blocks (to_print v) f)) (tells-nothing (is_of_first f 0) v serves old)
+  module _ (n : ℕ) (w : ServerView) (mid : List Shown) (h : BlocksTold v f old n w mid) where
+    blocks-on : to_print w ≡ to_print v
+    blocks-on = same-prints (is_of_first f n) v w h.tells.looks
 
-pub tells-more-blocks : (f : FileNo) (n : ℕ) (v : ServerView) (old : List Shown) (w : ServerView) (mid : List Shown) (x : ServerView) (new : List Shown)
-    → TellsPiece (is_of_first f n) v old (prints_of_blocks (to_print v) f n) w mid
-    → TellsPiece (is_at (Block f (block_at n))) w mid (print_one (to_print w (Block f (block_at n)))) x new
-    → TellsPiece (is_of_first f (n + 1)) v old (prints_of_blocks (to_print v) f (n + 1)) x new
-tells-more-blocks f n v old w mid x new h k =
-    let here : LockUnit = Block f (block_at n) in
-    subst (λ (l : List Printed). TellsPiece (is_of_first f (n + 1)) v old l x new) (sym (more-blocks (to_print v) f n) ∙ ap (prints_of_blocks (to_print v) f) (next-number n))
-    (tells-then (is_of_first f n) (is_at here) (is_of_first f (n + 1)) (blocks-join f n) v old (prints_of_blocks (to_print v) f n) w mid (print_one (to_print v here)) x new h
-    (subst (λ (prints : LockUnit → Option Printed). TellsPiece (is_at here) w mid (print_one (prints here)) x new) (same-prints (is_of_first f n) v w h.looks) k))
+    module _ (p : BlockNo) (next : IsLeastFrom (λ (q : BlockNo). q.0) (λ q. is_some (to_print w (Block f q))) n p) where
+      next-block : IsLeastFrom (λ (q : BlockNo). q.0) (λ q. is_some (its q)) n p
+      next-block = subst (λ (prints : LockUnit → Option Printed). IsLeastFrom (λ (q : BlockNo). q.0) (λ q. is_some (prints (Block f q))) n p) blocks-on next
 
--- fewer blocks
-wider : (f : FileNo) (n m : ℕ) → n ≤ m → (u : LockUnit) → one_if (is_of_first f n u) ≤ one_if (is_of_first f m u)
-wider f n m le (File g) = omega arith
-wider f n m le (Block g p) = by (file_eq g f)
-  where
-    one : (k : ℕ) → one_if (nat_lt k n) ≤ one_if (nat_lt k m)
-    one k = grind (arith, nat_tests, le)
+      pub more-blocks : (x : ServerView) (new : List Shown) → TellsPiece (is_at (Block f p)) w mid (print_one (to_print w (Block f p))) x new → BlocksTold v f old (p.0 + 1) x new
+      more-blocks x new k = record {
+        blocks = h.blocks ++ p ∷ [];
+        lists = lists-more block_eq (λ q. q.0) block_tells same-block its p h.blocks (lists-on block_eq (λ q. q.0) block_tells same-block its n p.0 h.blocks h.lists next-block.from_there next-block.least) next-block.here;
+        tells = subst (λ (l : List Printed). TellsPiece (is_of_first f (p.0 + 1)) v old l x new) (sym (print_blocks-more (to_print v) f h.blocks p))
+            (tells-then (is_of_first f n) (is_at (Block f p)) (is_of_first f (p.0 + 1)) (blocks-join f n p next-block.from_there) v old (print_blocks (to_print v) f h.blocks) w mid (print_one (its p)) x new h.tells
+            (subst (λ (prints : LockUnit → Option Printed). TellsPiece (is_at (Block f p)) w mid (print_one (prints (Block f p))) x new) blocks-on k));
+      }
 
-    by : (b : Bool) → one_if (b && nat_lt p.0 n) ≤ one_if (b && nat_lt p.0 m)
-    by true = one p.0
-    by false = omega arith
+      pub cut-blocks : (x : ServerView) (fault : CallFault) → CutsPiece fault (is_at (Block f p)) w x → CutsPiece fault (is_of f) v x
+      cut-blocks x fault k = cut-then (is_of_first f n) (is_at (Block f p)) (is_of f) join v old (print_blocks (to_print v) f h.blocks) w mid x h.tells fault k
+        where
+          join : Joins (is_of_first f n) (is_at (Block f p)) (is_of f)
+          join u = let a = blocks-join f n p next-block.from_there u in let b = wider f (p.0 + 1) u in omega (arith, a, b)
 
-pub cut-blocks : (f : FileNo) (n : ℕ) → n < 120 → (v : ServerView) (old : List Shown) (a : List Printed) (w : ServerView) (mid : List Shown) (x : ServerView) (fault : CallFault)
-    → TellsPiece (is_of_first f n) v old a w mid → CutsPiece fault (is_at (Block f (block_at n))) w x → CutsPiece fault (is_of_first f 120) v x
-cut-blocks f n below v old a w mid x fault h k = cut-then (is_of_first f n) (is_at (Block f (block_at n))) (is_of_first f 120) join v old a w mid x h fault k
-  where
-    join : Joins (is_of_first f n) (is_at (Block f (block_at n))) (is_of_first f 120)
-    join u = let b = blocks-join f n u in let c = wider f (n + 1) 120 (omega arith) u in omega (arith, b, c)
+    pub all-blocks : ((p : BlockNo) → is_some (to_print w (Block f p)) ≡ true → p.0 < n) → TellsBlocks v f old w mid
+    all-blocks end = record {
+      blocks = h.blocks;
+      are = lists-all block_eq (λ p. p.0) block_tells same-block its n h.blocks h.lists (subst (λ (prints : LockUnit → Option Printed). (p : BlockNo) → is_some (prints (Block f p)) ≡ true → p.0 < n) blocks-on end);
+      tells = subst (λ (l : List Printed). TellsPiece (is_of f) v old l w mid) (append-nil (print_blocks (to_print v) f h.blocks))
+          (tells-then (is_of_first f n) (λ u. false) (is_of f) join v old (print_blocks (to_print v) f h.blocks) w mid [] w mid h.tells (tells-nothing (λ u. false) w h.tells.serves mid));
+    }
+      where
+        join : Joins (is_of_first f n) (λ u. false) (is_of f)
+        join u = let b = wider f n u in omega (arith, b)

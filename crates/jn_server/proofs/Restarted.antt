@@ -1,5 +1,5 @@
 -- A server that comes up is the restarted one of the whole system.
-use Rattle.jn_server.proofs.Common.{◌≡◌, ◌⊎◌, inl, inr, ℕ, suc, ◌+◌, ◌≤◌, ◌<◌, ◌^◌, Bool, true, false, List, [], ◌∷◌, ◌++◌, Option, Some, None, is_some, refl, sym, ◌∙◌, ap, subst, arith, true≢false, ◌&&◌, ◌||◌, list_all, list_any, nat_tests, ServerNo, Tickets, Tid, WorkId, tid_eq, work_eq, tid_tells, work_before, is_after, Counts, StableState, Prepared, FlagState, Change, Pick, restored_worker, restored_work, work_from, restored_coordinator, restored_transactions, restored_transaction, tid_from, seen_in_flags, seen_in_flag, is_in, StorageView, state, StoreView, found_on, WorkerView, Remembered, table_of, rises, are_above, are_before, restored, are_rising, tid_before, ServerView, memory_of, AreInRange, AreTables, IsRestarted, IsNotRestarted, IsWithin, Composes}
+use Rattle.jn_server.proofs.Common.{◌≡◌, ◌⊎◌, inl, inr, ℕ, suc, ◌+◌, ◌≤◌, ◌<◌, ◌^◌, Bool, true, false, List, [], ◌∷◌, ◌++◌, Option, Some, None, is_some, refl, sym, ◌∙◌, ap, subst, arith, true≢false, ◌&&◌, ◌||◌, list_all, list_any, nat_tests, ServerNo, Tickets, Tid, WorkId, tid_eq, work_eq, tid_tells, work_before, is_after, Counts, StableState, Prepared, FlagState, Change, Pick, restored_worker, restored_work, work_from, restored_coordinator, restored_transactions, restored_transaction, tid_from, seen_in_flags, seen_in_flag, is_in, StorageView, state, StoreView, found_on, WorkerView, Remembered, table_of, rises, are_above, are_before, restored, are_rising, tid_before, ServerView, memory_of, AreTables, IsRestarted, IsNotRestarted, IsWithin, Composes}
 use Rattle.jn_recovery.specs.Loading.{IsLoaded, IsDown, Recovering, IsSameOrNext}
 use Rattle.std.proofs.Math.Path.{fun_ext}
 use Rattle.jn_recovery.specs.declared.load.Found.{Found}
@@ -7,7 +7,6 @@ use Rattle.jn_recovery.specs.declared.load.DownCause.{DownCause}
 use Rattle.jn_recovery.specs.declared.load.DownCause.TheVariants.{Stopped, Memory, EpochsUsedUp}
 use Rattle.jn_worker.specs.Restoring.{comes_before, names_rise}
 use Rattle.jn_transactions.specs.Listed.{name_below}
-use Rattle.jn_server.proofs.Ranges.{restored-in-range}
 
 -- ---- any number of restarts
 
@@ -231,7 +230,6 @@ module _ (server : ServerNo) (g : Counts) (v : StoreView) (told : Found) (w : St
         epoch = l.epoch;
         after = subst (λ z. are_before z (tid_from k) ≡ true) (sym transactions-are) (after-tids x (tid_from k) tables.flags.names (λ T h. tid-first T (there-flag T h)));
       };
-      ranges = subst AreInRange (sym tables.works.row) (restored-in-range (state w) tables.works.names l.recovered.serving.orderly.prepared);
     };
     composes = composed (found_on g v) w.found (λ c. (l.before, record { same = l.found c ∙ sym (ap (λ n. record x { epoch = n }) (ap (λ (z : StableState). z.epoch) (l.found c))); epoch = inr (ap (λ (z : StableState). z.epoch) (l.found c)) }));
   }

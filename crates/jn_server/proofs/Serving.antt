@@ -1,7 +1,6 @@
 -- A server whose storage finds and counts the same still serves, and so does one whose work times out.
-use Rattle.jn_server.proofs.Common.{◌≡◌, ℕ, Bool, true, false, Option, Some, None, is_some, refl, sym, ◌∙◌, ap, subst, arith, if◌then◌else◌, Result, Ok, Err, is_ok, OnOk, ServerNo, Tid, work_eq, StableState, Pick, is_going, is_in, IsGiven, flag_told, of_timeout, WorkerTable, work_at, timeout_row, Accounts, StorageView, IsServing, state, WorkerTimesOut, WorkerView, WorkFits, WorkListFits, Scrubbed, Befalls, AreInRange, TimesOut, ServerView, memory_of, IsServer}
+use Rattle.jn_server.proofs.Common.{◌≡◌, ℕ, Bool, true, false, Option, Some, None, is_some, refl, sym, ◌∙◌, ap, subst, arith, if◌then◌else◌, Result, Ok, Err, is_ok, OnOk, ServerNo, Tid, work_eq, StableState, Pick, is_going, is_in, IsGiven, flag_told, of_timeout, WorkerTable, work_at, timeout_row, Accounts, StorageView, IsServing, state, WorkerTimesOut, WorkerView, WorkFits, WorkListFits, Scrubbed, Befalls, TimesOut, ServerView, memory_of, IsServer}
 use Rattle.jn_intent.specs.Events.{Befalls as StorageBefalls}
-use Rattle.jn_server.proofs.Ranges.{timeout-in-range}
 
 pub still-serves : (v : ServerView) (w : StorageView) → state w ≡ state v.storage → w.accounts ≡ v.storage.accounts → IsServing w → IsServer v → IsServer (record v { storage = w })
 still-serves v w found same serving h = record {
@@ -33,7 +32,6 @@ still-serves v w found same serving h = record {
     rubbish = λ W e. h.works_before.rubbish W (sym (ap (λ (a : Accounts). is_in work_eq W a.rubbish) same) ∙ e);
   };
   transactions_before = record { server = h.transactions_before.server ∙ sym server-same; epoch = h.transactions_before.epoch ∙ sym epoch-same; after = h.transactions_before.after };
-  ranges = h.ranges;
 }
   where
     server-same : w.accounts.server ≡ v.storage.accounts.server
@@ -57,14 +55,9 @@ timed-out T v answer u h t = record {
     transactions = h.transactions;
     works_before = t.tickets_fit v.storage v.tickets h.works_before;
     transactions_before = h.transactions_before;
-    ranges = ranges answer (timeout_row v.worker.table T) refl t.row (λ e. ap (λ (x : WorkerView). x.table) (t.same e));
   };
 }
   where
-    ranges : (b : Bool) (o : Option WorkerTable) → timeout_row v.worker.table T ≡ o → o ≡ (if b then Some u.table else None) → (b ≡ false → u.table ≡ v.worker.table) → AreInRange u.table
-    ranges true o f e same = timeout-in-range v.worker.table T u.table h.ranges (f ∙ e)
-    ranges false o f e same = subst AreInRange (sym (same refl)) h.ranges
-
     live : (b : Bool) (o : Option WorkerTable) → o ≡ (if b then Some u.table else None) → b ≡ is_some o
     live true o e = sym (ap is_some e)
     live false o e = sym (ap is_some e)

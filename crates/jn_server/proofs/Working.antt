@@ -1,5 +1,5 @@
 -- What the worker does by its row, the whole server does.
-use Rattle.jn_server.proofs.Common.{◌≡◌, inl, inr, ℕ, ◌+◌, ◌≤◌, true, false, List, [], ◌∷◌, Result, Ok, Err, refl, sym, ◌∙◌, ap, subst, arith, length, IsErr, IsErrAnd, nat_tests, Tickets, Collected, StableState, Change, RowOutcome, WorkerTable, name_from, Accounts, StorageView, state, calm_on, CallFault, Takes, CountsBy, WorkerView, flag_told, are_before, added, of_worker, epoch-all, DrawsOne, works-flags, ServerView, memory_of, IsServer, AreInRange, IsDone, IsStopped, Does, LeavesRubbish, left_over}
+use Rattle.jn_server.proofs.Common.{◌≡◌, inl, inr, ℕ, ◌+◌, ◌≤◌, true, false, List, [], ◌∷◌, Result, Ok, Err, refl, sym, ◌∙◌, ap, subst, arith, length, IsErr, IsErrAnd, nat_tests, Tickets, Collected, StableState, Change, RowOutcome, WorkerTable, name_from, Accounts, StorageView, state, calm_on, CallFault, Takes, CountsBy, WorkerView, flag_told, are_before, added, of_worker, epoch-all, DrawsOne, works-flags, ServerView, memory_of, IsServer, IsDone, IsStopped, Does, LeavesRubbish, left_over}
 use Rattle.jn_rows.specs.declared.coordinator.Transaction.{Transaction}
 use Rattle.jn_base.specs.declared.fault.CallFault.TheVariants as faults
 use Rattle.jn_system.proofs.WholeSystem.WorkerChanges.{Aside}
@@ -13,7 +13,7 @@ later-name xs k l (inr e) h = subst (λ (z : Tickets). are_before xs (name_from 
     by [] h = refl
     by (x ∷ xs) h = let again = by xs in grind (arith, nat_tests, h)
 
-module _ (most bound : ℕ) (within : most ≤ bound) (v : ServerView) (serves : IsServer v) (row : RowOutcome WorkerTable) (aside : Aside v.tickets row) (ranges : AreInRange row.table) (before : Collected) where
+module _ (most bound : ℕ) (within : most ≤ bound) (v : ServerView) (serves : IsServer v) (row : RowOutcome WorkerTable) (aside : Aside v.tickets row) (before : Collected) where
   module _ (u : WorkerView) (w : StorageView) (after : Collected) (l : Tickets) where
     abbrev now : ServerView
     now = record { storage = w; worker = u; coordinator = v.coordinator; tickets = l }
@@ -41,7 +41,6 @@ module _ (most bound : ℕ) (within : most ≤ bound) (v : ServerView) (serves :
             };
             works_before = before_works;
             transactions_before = record { server = before_works.server; epoch = before_works.epoch; after = later-name v.coordinator.transactions v.tickets l (subst (DrawsOne v.tickets) (sym (h.performs.drawn refl)) aside.tickets) serves.transactions_before.after };
-            ranges = subst AreInRange (sym (h.performs.becomes refl)) ranges;
           };
           later = h.called.later;
           calls = let c = h.called.calls in omega (arith, c, within);

@@ -1,7 +1,6 @@
 pub mod Seen
 pub mod Standing
 pub mod Reading
-pub mod Ranges
 pub mod Handling
 pub mod Restarting
 pub mod Befalling

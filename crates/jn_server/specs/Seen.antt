@@ -9,7 +9,6 @@ use Rattle.jn_coord.specs.Calls.{FitsStorage as CoordinatorFits}
 use Rattle.jn_coord.specs.Beginning.{TicketsFit as CoordinatorTickets}
 use Rattle.jn_system.specs.WholeSystem.World.{Memory}
 use Rattle.jn_system.specs.WholeSystem.Servers.{Room}
-use Rattle.jn_server.specs.Ranges.{AreInRange}
 
 -- its storage with what that keeps in memory, its tables, and its next name
 pub record Parts (S : Type 0) : Type 0 where
@@ -35,10 +34,9 @@ memory_of v = record { worker = v.worker.table; coordinator = table_of v.coordin
 abbrev pub room_of : StorageView → Room
 room_of v = let s = seen v in record { free = s.free; rubbish = s.rubbish }
 
--- between two calls, none of which was stopped: tables, storage and names fit, and what was written is in range
+-- between two calls, none of which was stopped: tables, storage and names fit
 pub record IsServer (v : ServerView) : Type 0 where
   pub works : WorkerFits v.worker v.storage
   pub transactions : CoordinatorFits v.coordinator v.storage
   pub works_before : WorkerTickets v.worker.table v.storage v.tickets
   pub transactions_before : CoordinatorTickets v.coordinator v.storage v.tickets
-  pub ranges : AreInRange v.worker.table

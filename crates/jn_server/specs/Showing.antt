@@ -1,9 +1,5 @@
 -- What a server shows of its files.
-use Rattle.std.specs.Prelude.{◌≡◌, ◌≤◌, ◌<◌, ◌+◌, ◌*◌, ⊤, true, List, map, is_some}
-use Rattle.jn_base.specs.declared.names.FileNo.{FileNo}
-use Rattle.jn_base.specs.declared.names.BlockNo.{BlockNo}
-use Rattle.jn_base.specs.declared.names.LockUnit.TheVariants.{Block}
-use Rattle.jn_base.specs.Limits.{most_blocks}
+use Rattle.std.specs.Prelude.{◌≡◌, ◌≤◌, ◌+◌, ◌*◌, ⊤, List, map}
 use Rattle.jn_storage.specs.Storage.{StorageLater}
 use Rattle.jn_storage.specs.Calls.{state}
 use Rattle.jn_rows.specs.Stable.{Unchanged}
@@ -34,8 +30,6 @@ pub record Looks (v w : ServerView) : Type 0 where
 pub record IsShown (v : ServerView) (list : List Shown) (w : ServerView) : Type 0 where
   pub looks : Looks v w
   pub prints : ArePrints (prints_in v.worker.table (state v.storage).files) (map print_of list)
-  -- a block of which there is something to print is one of a file's
-  pub in_range : (f : FileNo) (p : BlockNo) → is_some (prints_in v.worker.table (state v.storage).files (Block f p)) ≡ true → p.0 < most_blocks
   pub accounts : w.storage.accounts ≡ v.storage.accounts
   pub serves : IsServer w
   pub no_stop : w.storage.store.stops ≡ v.storage.store.stops

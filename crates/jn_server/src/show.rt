@@ -3,20 +3,22 @@ ghost use Rattle.std.specs.Prelude.{◌≡◌, ◌<◌, [], ◌∷◌, ◌++◌,
 ghost use Rattle.jn_base.specs.declared.names.LockUnit.TheVariants.{File, Block as BlockUnit};
 ghost use Rattle.jn_base.specs.Limits.{most_blocks};
 ghost use Rattle.jn_system.specs.WholeSystem.Printing.{print_one};
-ghost use Rattle.jn_recovery.specs.Memory.{view_of};
 ghost use Rattle.jn_rows.specs.Worker.{commit_holder};
 ghost use Rattle.jn_server.specs.declared.show.Shown.TheVariants.{Page};
-ghost use Rattle.jn_server.specs.Pieces.{is_at, is_of_first, to_print, prints_of_blocks, prints_of_file, number_after, NextShown, TellsPiece, CutsPiece};
+ghost use Rattle.jn_server.specs.Pieces.{is_at, to_print, TellsPiece, CutsPiece, is_of, TellsBlocks, TellsFile};
 ghost use Rattle.jn_server.specs.Seen.{view_with, IsServer};
 ghost use Rattle.jn_server.specs.Showing.{IsShown, CutsShort};
 ghost use Rattle.jn_storage.specs.Calls.{state, BlockRead};
-ghost use Rattle.jn_works.specs.Locked.{lesser};
+ghost use Rattle.jn_base.specs.declared.names.BlockNo.{BlockNo as ABlock};
+ghost use Rattle.jn_base.specs.declared.names.FileNo.{FileNo as AFile};
+ghost use Rattle.jn_index.specs.Least.{NextAfter};
 
 use crate::fault::ServerFault;
 use crate::server::Server;
-use jn_base::{Block, BlockContent, BlockNo, FileNo, LockUnit, MOST_BLOCKS, Stopped, Tid};
+use jn_base::{Block, BlockContent, BlockNo, FileNo, LockUnit, Stopped, Tid};
 use jn_storage::StoredFiles;
 use jn_store::StableStore;
+use jn_works::{lesser_block, lesser_file};
 use std::alloc::{AllocError, Global};
 
 /// What is reported of a file or a block.
@@ -51,11 +53,11 @@ impl<S: StableStore> Server<S> {
     /// The least file above `after` that is there or held for commit.
     fn next_shown(&self, after: Option<FileNo>) -> Option<FileNo>
         requires serves { IsServer (view_with (λ s. S.view s) self.now) }
-        ensures { NextShown (λ f. is_some (to_print (view_with (λ s. S.view s) self.now) (File f))) (number_after after) result }
+        ensures { NextAfter (λ (f : AFile). f.0) (λ f. is_some (to_print (view_with (λ s. S.view s) self.now) (File f))) after result }
     {
         let stored = self.storage.next_file(after);
         let locked = self.worker.next_locked(after);
-        lesser(stored, locked)
+        lesser_file(stored, locked)
     }
 
     /// The file is there or held for commit.
@@ -67,8 +69,8 @@ impl<S: StableStore> Server<S> {
     ) -> Result<(), ServerFault>
         requires serves { IsServer (view_with (λ s. S.view s) self.old) }
         requires there { is_some (to_print (view_with (λ s. S.view s) self.old) (File file)) ≡ true }
-        ensures shown { let v = view_with (λ s. S.view s) self.old in OnOk result (TellsPiece (is_of_first file most_blocks) v list.old.items (prints_of_file (to_print v) file) (view_with (λ s. S.view s) self.new) list.new.items) }
-        ensures cut { IfErr result (λ fault. CutsPiece fault (is_of_first file most_blocks) (view_with (λ s. S.view s) self.old) (view_with (λ s. S.view s) self.new)) }
+        ensures shown { OnOk result (TellsFile (view_with (λ s. S.view s) self.old) file list.old.items (view_with (λ s. S.view s) self.new) list.new.items) }
+        ensures cut { IfErr result (λ fault. CutsPiece fault (is_of file) (view_with (λ s. S.view s) self.old) (view_with (λ s. S.view s) self.new)) }
     {
         let unit = LockUnit::File(file);
         if let Some(tid) = self.holder(unit) {
@@ -88,8 +90,8 @@ impl<S: StableStore> Server<S> {
         requires serves { IsServer (view_with (λ s. S.view s) self.old) }
         requires there { is_some (to_print (view_with (λ s. S.view s) self.old) (File file)) ≡ true }
         requires free { commit_holder (File file) self.old.worker.table ≡ None }
-        ensures shown { let v = view_with (λ s. S.view s) self.old in OnOk result (TellsPiece (is_of_first file most_blocks) v list.old.items (prints_of_file (to_print v) file) (view_with (λ s. S.view s) self.new) list.new.items) }
-        ensures cut { IfErr result (λ fault. CutsPiece fault (is_of_first file most_blocks) (view_with (λ s. S.view s) self.old) (view_with (λ s. S.view s) self.new)) }
+        ensures shown { OnOk result (TellsFile (view_with (λ s. S.view s) self.old) file list.old.items (view_with (λ s. S.view s) self.new) list.new.items) }
+        ensures cut { IfErr result (λ fault. CutsPiece fault (is_of file) (view_with (λ s. S.view s) self.old) (view_with (λ s. S.view s) self.new)) }
     {
         tell(list, Shown::File(file))?;
         self.show_blocks(alloc, file, list)
@@ -102,15 +104,28 @@ impl<S: StableStore> Server<S> {
         list: &mut Vec<Shown>,
     ) -> Result<(), ServerFault>
         requires serves { IsServer (view_with (λ s. S.view s) self.old) }
-        ensures shown { let v = view_with (λ s. S.view s) self.old in OnOk result (TellsPiece (is_of_first file most_blocks) v list.old.items (prints_of_blocks (to_print v) file most_blocks) (view_with (λ s. S.view s) self.new) list.new.items) }
-        ensures cut { IfErr result (λ fault. CutsPiece fault (is_of_first file most_blocks) (view_with (λ s. S.view s) self.old) (view_with (λ s. S.view s) self.new)) }
+        ensures shown { OnOk result (TellsBlocks (view_with (λ s. S.view s) self.old) file list.old.items (view_with (λ s. S.view s) self.new) list.new.items) }
+        ensures cut { IfErr result (λ fault. CutsPiece fault (is_of file) (view_with (λ s. S.view s) self.old) (view_with (λ s. S.view s) self.new)) }
     {
-        for block in 0..MOST_BLOCKS {
-            self.show_block(alloc, file, BlockNo(block), list)?;
+        let mut after = None;
+        while let Some(block) = self.next_block(file, after) {
+            self.show_block(alloc, file, block, list)?;
+            after = Some(block);
         }
         Ok(())
     }
 
+    /// The least block of the file above `after` that is stored or held for commit.
+    fn next_block(&self, file: FileNo, after: Option<BlockNo>) -> Option<BlockNo>
+        requires serves { IsServer (view_with (λ s. S.view s) self.now) }
+        ensures { NextAfter (λ (p : ABlock). p.0) (λ p. is_some (to_print (view_with (λ s. S.view s) self.now) (BlockUnit file p))) after result }
+    {
+        let stored = self.storage.next_block(file, after);
+        let locked = self.worker.next_locked_block(file, after);
+        lesser_block(stored, locked)
+    }
+
+    /// The block is stored or held for commit.
     fn show_block(
         &mut self,
         alloc: Global,
@@ -119,7 +134,7 @@ impl<S: StableStore> Server<S> {
         list: &mut Vec<Shown>,
     ) -> Result<(), ServerFault>
         requires serves { IsServer (view_with (λ s. S.view s) self.old) }
-        requires range { block.0 < most_blocks }
+        requires there { is_some (to_print (view_with (λ s. S.view s) self.old) (BlockUnit file block)) ≡ true }
         ensures shown { let v = view_with (λ s. S.view s) self.old in OnOk result (TellsPiece (is_at (BlockUnit file block)) v list.old.items (print_one (to_print v (BlockUnit file block))) (view_with (λ s. S.view s) self.new) list.new.items) }
         ensures cut { IfErr result (λ fault. CutsPiece fault (is_at (BlockUnit file block)) (view_with (λ s. S.view s) self.old) (view_with (λ s. S.view s) self.new)) }
     {
@@ -131,7 +146,7 @@ impl<S: StableStore> Server<S> {
         self.show_page(alloc, file, block, list)
     }
 
-    /// The block isn't held for commit.
+    /// The block is stored and isn't held for commit.
     fn show_page(
         &mut self,
         alloc: Global,
@@ -140,28 +155,16 @@ impl<S: StableStore> Server<S> {
         list: &mut Vec<Shown>,
     ) -> Result<(), ServerFault>
         requires serves { IsServer (view_with (λ s. S.view s) self.old) }
-        requires range { block.0 < most_blocks }
+        requires there { is_some (to_print (view_with (λ s. S.view s) self.old) (BlockUnit file block)) ≡ true }
         requires free { commit_holder (BlockUnit file block) self.old.worker.table ≡ None }
         ensures shown { let v = view_with (λ s. S.view s) self.old in OnOk result (TellsPiece (is_at (BlockUnit file block)) v list.old.items (print_one (to_print v (BlockUnit file block))) (view_with (λ s. S.view s) self.new) list.new.items) }
         ensures cut { IfErr result (λ fault. CutsPiece fault (is_at (BlockUnit file block)) (view_with (λ s. S.view s) self.old) (view_with (λ s. S.view s) self.new)) }
     {
-        if !self.is_stored(file, block) {
-            return Ok(());
-        }
         let Some(bytes) = self.read(file, block)? else {
             unreachable!()
         };
         tell_page(alloc, list, file, block, &bytes)?;
         Ok(())
-    }
-
-    /// Whether the block is stored. Most blocks aren't, and an answer without a block costs less than one with room for it.
-    fn is_stored(&self, file: FileNo, block: BlockNo) -> bool
-        requires serves { IsServer (view_with (λ s. S.view s) self.now) }
-        requires range { block.0 < most_blocks }
-        ensures { result ≡ is_some ((state (view_with (λ s. S.view s) self.now).storage).files (BlockUnit file block)) }
-    {
-        self.storage.mapped(file, block)
     }
 
     /// The transaction that holds the unit for commit.
@@ -180,17 +183,6 @@ impl<S: StableStore> Server<S> {
         ensures tables { view_with (λ s. S.view s) self.new ≡ record (view_with (λ s. S.view s) self.old) { storage = (view_with (λ s. S.view s) self.new).storage } }
     {
         self.storage.read_block(file, block)
-    }
-}
-
-/// The lesser of two files.
-fn lesser(a: Option<FileNo>, b: Option<FileNo>) -> Option<FileNo>
-    ensures { result ≡ lesser a b }
-{
-    match (a, b) {
-        (Some(f), Some(g)) => Some(if g.0 < f.0 { g } else { f }),
-        (Some(f), None) => Some(f),
-        (None, g) => g,
     }
 }
 

@@ -31,6 +31,7 @@ use Rattle.jn_storage.specs.Listing.{is_in, IsListing, AtMost}
 use Rattle.jn_storage.specs.Orderly.{IsOrderly, IsGiven, file_there, needed, list_of, IsLoadable}
 use Rattle.jn_storage.specs.Storage.{Accounts, StorageView, StorageLater, IsServing, is_stored}
 use Rattle.jn_storage.specs.DeviceCalls.{prepare_calls, step_calls}
+use Rattle.jn_index.specs.Least.{NextAfter}
 
 -- the state, while no call has been stopped
 abbrev pub state : StorageView → StableState
@@ -49,18 +50,12 @@ pub record Called (v : StorageView) (most : ℕ) (ok : Bool) (w : StorageView) :
 -- ---- reading
 
 -- the least file above another, or the least of all
-abbrev pub is_above : Option FileNo → FileNo → Bool
-is_above None f = true
-is_above (Some after) f = nat_lt after.0 f.0
-
-pub record IsNext (files : Files) (after : Option FileNo) (f : FileNo) : Type 0 where
-  pub stands : file_there files f ≡ true
-  pub above : is_above after f ≡ true
-  pub least : (g : FileNo) → file_there files g ≡ true → is_above after g ≡ true → f.0 ≤ g.0
-
 abbrev pub NextFile : Files → Option FileNo → Option FileNo → Type 0
-NextFile files after (Some f) = IsNext files after f
-NextFile files after None = (g : FileNo) → file_there files g ≡ true → is_above after g ≡ false
+NextFile files after next = NextAfter (λ (f : FileNo). f.0) (file_there files) after next
+
+-- and the least stored block of a file
+abbrev pub NextBlock : Files → FileNo → Option BlockNo → Option BlockNo → Type 0
+NextBlock files f after next = NextAfter (λ (p : BlockNo). p.0) (λ p. is_stored files (Block f p)) after next
 
 -- a block is read, or none is stored there
 pub record BlockRead (v : StorageView) (f : FileNo) (p : BlockNo) (answer : Result (Option (List ℕ)) Stopped) (w : StorageView) : Type 0 where

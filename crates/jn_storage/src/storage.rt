@@ -4,7 +4,7 @@ ghost use Rattle.jn_base.specs.declared.names.LockUnit.TheVariants.{File, Block}
 ghost use Rattle.jn_base.specs.Limits.{most_blocks};
 ghost use Rattle.jn_storage.specs.Storage.{StorageView, IsServing};
 ghost use Rattle.jn_storage.specs.Orderly.{file_there};
-ghost use Rattle.jn_storage.specs.Calls.{state, NextFile, BlockRead, TellsWorks, TellsFlags, WorkPrepared, MarkedGoing, StepApplied, WorkRemoved, RecordErased, FlagPromised, PromiseReleased, MayPutFlag, FlagPut, FlagDropped, MayPrepare, IsReady, IsGoing, IsCarriedOut, HasFlag};
+ghost use Rattle.jn_storage.specs.Calls.{state, NextFile, BlockRead, TellsWorks, TellsFlags, WorkPrepared, MarkedGoing, StepApplied, WorkRemoved, RecordErased, FlagPromised, PromiseReleased, MayPutFlag, FlagPut, FlagDropped, MayPrepare, IsReady, IsGoing, IsCarriedOut, HasFlag, NextBlock};
 
 use crate::{PrepareFault, PromiseFault};
 use jn_base::{Block, BlockNo, FileNo, LockUnit, Stopped, Tid, WorkId};
@@ -28,6 +28,11 @@ pub trait StoredFiles: Storage {
     fn next_file(&self, after: Option<FileNo>) -> Option<FileNo>
         requires serving { IsServing (Self.view self.now) }
         ensures { NextFile (state (Self.view self.now)).files after result };
+
+    /// The least stored block of a file above `after`, or the least of all. It makes no device call.
+    fn next_block(&self, f: FileNo, after: Option<BlockNo>) -> Option<BlockNo>
+        requires serving { IsServing (Self.view self.now) }
+        ensures { NextBlock (state (Self.view self.now)).files f after result };
 
     /// Whether the block is stored.
     fn mapped(&self, f: FileNo, p: BlockNo) -> bool

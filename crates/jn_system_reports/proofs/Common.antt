@@ -89,7 +89,7 @@ pub use Rattle.jn_system.specs.SmallSteps.Order.{IsInOrder, CommitsOnce, has_com
 pub use Rattle.jn_base.specs.declared.names.Party.{Party}
 pub use Rattle.jn_system.proofs.SmallSteps.NameLemmas.{fresh_work}
 pub use Rattle.jn_base.specs.declared.op.Command.{Command}
-pub use Rattle.jn_serial.specs.InTurn.{performed_in, answered, answered_by, owner_after, begins_for, is_its_client, told_from}
+pub use Rattle.jn_serial.proofs.LineByLine.{performed_in, answered, answered_by, owner_after, begins_for, is_its_client, told_from}
 pub use Rattle.jn_msgs.specs.declared.message.Outcome.{Outcome}
 pub use Rattle.jn_rows.specs.declared.client.Taken.{Taken}
 pub use Rattle.jn_report.specs.declared.line.When.{When}

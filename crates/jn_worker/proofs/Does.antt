@@ -1,5 +1,5 @@
 -- An operation that is performed meets its row.
-use Rattle.jn_worker.proofs.Common.{◌≡◌, ◌<◌, ◌+◌, ℕ, true, [], ◌∷◌, ◌++◌, length, Option, Some, None, if◌then◌else◌, refl, sym, ◌∙◌, ap, subst, arith, nat_tests, Ok, nat_eq, Client, Tid, Tickets, WorkId, Answer, Collected, answer_to, change, list_change, length_with, block_of, Read, ActiveWork, Active, ignored, Prepared, work_at, with_phase, after_grant, Asked, Here, op_row, op_phase, performed, repeated, granted_row, refusal_of, past_limit, first_of_two, locked, conflict, wants_of, with_units, units_for, is_fit, counted, done, IsActive, found-name, StorageView, state, WorkerView, Fits, TicketsFit, WorkFits, PhaseFits, WorkListFits, ListFits, ActiveFits, Takes, Settles, settled, told_breaks, told_of}
+use Rattle.jn_worker.proofs.Common.{most_blocks, ◌≡◌, ◌<◌, ◌+◌, ℕ, true, [], ◌∷◌, ◌++◌, length, Option, Some, None, if◌then◌else◌, refl, sym, ◌∙◌, ap, subst, arith, nat_tests, Ok, nat_eq, Client, Tid, Tickets, WorkId, Answer, Collected, answer_to, change, list_change, length_with, block_of, Read, ActiveWork, Active, ignored, Prepared, work_at, with_phase, after_grant, Asked, Here, op_row, op_phase, performed, repeated, granted_row, refusal_of, past_limit, first_of_two, locked, conflict, wants_of, with_units, units_for, is_fit, counted, done, IsActive, found-name, StorageView, state, WorkerView, Fits, TicketsFit, WorkFits, PhaseFits, WorkListFits, ListFits, ActiveFits, Takes, Settles, settled, told_breaks, told_of}
 use Rattle.jn_msgs.specs.declared.message.Message.TheVariants as messages
 use Rattle.jn_worker.proofs.Exits.{without_change}
 use Rattle.jn_worker.proofs.Fit.{fits_phase, tickets_phase}
@@ -35,7 +35,7 @@ module _ (t : WorkerView) (v : StorageView) (k : Tickets) (q : Asked) (W : WorkI
   row-tickets None = refl
 
   -- the works fit once the operation is settled
-  fits_settled : (o : Option Answer) → Fits t v → (block_of q.op).0 < 120 → answer ≡ answer_to q.op (change (list_change a.list) (state v).files) → o ≡ refusal_of t.table W a q.op answer (wants_of q.op (is_fit answer)) → Fits (record { table = settled t.table S W a q.op answer o; going = t.going }) v
+  fits_settled : (o : Option Answer) → Fits t v → (block_of q.op).0 < most_blocks → answer ≡ answer_to q.op (change (list_change a.list) (state v).files) → o ≡ refusal_of t.table W a q.op answer (wants_of q.op (is_fit answer)) → Fits (record { table = settled t.table S W a q.op answer o; going = t.going }) v
   fits_settled o h range is refused = by o refused
     where
       own : ActiveFits (state v).files a
@@ -70,7 +70,7 @@ module _ (t : WorkerView) (v : StorageView) (k : Tickets) (q : Asked) (W : WorkI
       ∙ (ap (λ x. performed here q i.work a x) (sym is)
       ∙ ap (λ n. granted_row here q i.work a answer (wants_of q.op (is_fit answer)) (refusal_of t.table n a q.op answer (wants_of q.op (is_fit answer)))) (found-name W t.table i.work i.found))))
 
-  pub perform_told : (u : WorkerView) (before mid last : Collected) (refusal : Option Answer) (told : Answer) → Fits t v → (block_of q.op).0 < 120 → q.number.0 ≡ a.last + 1 → nat_eq q.number.0 (a.last + 1) ≡ true → answer ≡ answer_to q.op (change (list_change a.list) (state v).files) → Settles t S W a q.op answer refusal before u mid
+  pub perform_told : (u : WorkerView) (before mid last : Collected) (refusal : Option Answer) (told : Answer) → Fits t v → (block_of q.op).0 < most_blocks → q.number.0 ≡ a.last + 1 → nat_eq q.number.0 (a.last + 1) ≡ true → answer ≡ answer_to q.op (change (list_change a.list) (state v).files) → Settles t S W a q.op answer refusal before u mid
       → told ≡ told_of answer refusal → last ≡ record { messages = mid.messages ++ (Client q.client, messages.Answer q.client q.request told) ∷ []; notes = mid.notes } → Takes 784 (op_row here q W (work_at W t.table)) t v before k (Ok (tt {0})) u v last k
   perform_told u before mid last refusal told h range count test is s told_is sent = subst (λ row. Takes 784 row t v before k (Ok (tt {0})) u v last k)
       (sym (next-row count test is ∙ ap (λ o. granted_row here q i.work a answer (wants_of q.op (is_fit answer)) o) (sym s.refused)))

@@ -1,5 +1,5 @@
 -- An operation whose answer is a stored block.
-use Rattle.jn_worker.proofs.Common.{◌≡◌, ◌<◌, ◌+◌, ℕ, Bool, true, false, not, List, [], ◌∷◌, ◌++◌, length, take, Option, Some, None, Result, Ok, Err, if◌then◌else◌, refl, sym, ◌∙◌, ap, subst, arith, true≢false, ◌&&◌, is_some, IsErrAnd, err_from_is_err_and, take_at, Client, Tid, Tickets, WorkId, Answer, Did, Op, Create, Remove, CutBlocks, ReadOp, WriteOp, work_eq, Collected, Files, answer_to, change, Intention, list_change, length_with, block_of, answered, intention_for, Read, IntentionWrite, Active, ActiveWork, RowOutcome, WorkerTable, work_at, with_phase, after_grant, break_notes, Asked, op_row, conflict, locked, wants_of, with_units, units_for, is_fit, past_limit, first_of_two, refusal_of, list_with, counted, done, IsActive, rephased, is_in, StorageView, IsServing, state, Viewed, reads_stored, served, CallFault, Stops, Memory, WorkerView, Fits, is_active, is_active_phase, tallied, Takes, CountsBy, Settles, has_stopped, ReadSettles, OnlyReads, answer_now, asks_now, asks_in, asks_for, is_unknown, rephased-is, OperationNo}
+use Rattle.jn_worker.proofs.Common.{most_blocks, ◌≡◌, ◌<◌, ◌+◌, ℕ, Bool, true, false, not, List, [], ◌∷◌, ◌++◌, length, take, Option, Some, None, Result, Ok, Err, if◌then◌else◌, refl, sym, ◌∙◌, ap, subst, arith, true≢false, ◌&&◌, is_some, IsErrAnd, err_from_is_err_and, take_at, Client, Tid, Tickets, WorkId, Answer, Did, Op, Create, Remove, CutBlocks, ReadOp, WriteOp, work_eq, Collected, Files, answer_to, change, Intention, list_change, length_with, block_of, answered, intention_for, Read, IntentionWrite, Active, ActiveWork, RowOutcome, WorkerTable, work_at, with_phase, after_grant, break_notes, Asked, op_row, conflict, locked, wants_of, with_units, units_for, is_fit, past_limit, first_of_two, refusal_of, list_with, counted, done, IsActive, rephased, is_in, StorageView, IsServing, state, Viewed, reads_stored, served, CallFault, Stops, Memory, WorkerView, Fits, is_active, is_active_phase, tallied, Takes, CountsBy, Settles, has_stopped, ReadSettles, OnlyReads, answer_now, asks_now, asks_in, asks_for, is_unknown, rephased-is, OperationNo}
 use Rattle.std.proofs.Math.Seq.{take-length}
 use Rattle.jn_msgs.specs.declared.message.Message.TheVariants as messages
 use Rattle.jn_msgs.specs.declared.message.Note.{Note}
@@ -191,7 +191,7 @@ read_failed A {B} answer f row t u v w before after k l asks is o silent = subst
     }
 
 -- the client is answered
-pub read_told : (t u : WorkerView) (v w : StorageView) (k : Tickets) (q : Asked) (T : Tid) (W : WorkId) (a : ActiveWork) (told : Answer) (before mid last : Collected) (asks : Bool) → IsActive t.table T W a → Fits t v → (block_of q.op).0 < 120 → q.number.0 ≡ a.last + 1
+pub read_told : (t u : WorkerView) (v w : StorageView) (k : Tickets) (q : Asked) (T : Tid) (W : WorkId) (a : ActiveWork) (told : Answer) (before mid last : Collected) (asks : Bool) → IsActive t.table T W a → Fits t v → (block_of q.op).0 < most_blocks → q.number.0 ≡ a.last + 1
     → ReadSettles t v T W a q.op told before u mid → OnlyReads asks v true w → last ≡ record { messages = mid.messages ++ (Client q.client, messages.Answer q.client q.request told) ∷ []; notes = mid.notes } → Takes 784 (op_row (record { table = t.table; files = (state v).files; tickets = k }) q W (work_at W t.table)) t v before k (Ok (tt {0})) u w last k
 read_told t u v w k q T W a told before mid last asks i h range count r o sent = read_on (tt {0}) (op_row (record { table = t.table; files = (state v).files; tickets = k }) q W (work_at W t.table)) t u v w before last k k asks h.serving
     (perform_told t v k q W (answer_now a q.op v) T a i u before mid last r.refusal told h range count (nat_same q.number.0 (a.last + 1) count) refl r.settles r.answer sent) o

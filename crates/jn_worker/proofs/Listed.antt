@@ -1,5 +1,5 @@
 -- An active work could still be prepared after one more operation.
-use Rattle.jn_worker.proofs.Common.{◌≡◌, ◌<◌, zero, suc, Bool, true, false, not, List, [], ◌∷◌, ◌++◌, take, drop, length, Option, Some, None, if◌then◌else◌, refl, sym, ◌∙◌, ap, subst, arith, ◌&&◌, ◌||◌, is_some, filter, nat_lt, list_all, nat_tests, FileNo, LockUnit, File, Block, Op, Create, Remove, CutBlocks, Write, file_eq, file_tells, Files, change, answer_to, file_of, Intention, InOrder, First, Kept, MadeFresh, TakenAway, CutFrom, FileNet, as_first, entry, net_of, added, file_added, stays, stands_before, is_put, list_change, length_with, block_of, there_by, cut_again, intention_for, front, in_its_place, is_fit, list_with, needs_file, takes_away, first_of, unit_of}
+use Rattle.jn_worker.proofs.Common.{most_blocks, ◌≡◌, ◌<◌, zero, suc, Bool, true, false, not, List, [], ◌∷◌, ◌++◌, take, drop, length, Option, Some, None, if◌then◌else◌, refl, sym, ◌∙◌, ap, subst, arith, ◌&&◌, ◌||◌, is_some, filter, nat_lt, list_all, nat_tests, FileNo, LockUnit, File, Block, Op, Create, Remove, CutBlocks, Write, file_eq, file_tells, Files, change, answer_to, file_of, Intention, InOrder, First, Kept, MadeFresh, TakenAway, CutFrom, FileNet, as_first, entry, net_of, added, file_added, stays, stands_before, is_put, list_change, length_with, block_of, there_by, cut_again, intention_for, front, in_its_place, is_fit, list_with, needs_file, takes_away, first_of, unit_of}
 use Rattle.jn_base.specs.declared.op.Op.TheVariants.{Read}
 use Rattle.jn_records.proofs.EditLemmas.{list-there, edited-in_order, edited-length, unchanged-length, unchanged-net, edited-net}
 
@@ -79,18 +79,18 @@ new_file list (CutBlocks f n) new e = ap (λ (i : Intention). i.file) (sym (is_s
 new_file list (Read f p) new e = absurd (cc e)
 new_file list (Write f p bytes) new e = ap (λ (i : Intention). i.file) (sym (is_same _ new e))
 
-pub new_in_range : (list : List Intention) (op : Op) (new : Intention) → intention_for list op ≡ Some new → (block_of op).0 < 120 → nat_lt new.block.0 120 ≡ true
-new_in_range list (Create f) new e b = subst (λ (i : Intention). nat_lt i.block.0 120 ≡ true) (is_same _ new e) refl
-new_in_range list (Remove f) new e b = subst (λ (i : Intention). nat_lt i.block.0 120 ≡ true) (is_same _ new e) refl
-new_in_range list (CutBlocks f n) new e b = subst (λ (i : Intention). nat_lt i.block.0 120 ≡ true) (is_same _ new e) (by (as_first (entry list f zero)))
+pub new_in_range : (list : List Intention) (op : Op) (new : Intention) → intention_for list op ≡ Some new → (block_of op).0 < most_blocks → nat_lt new.block.0 most_blocks ≡ true
+new_in_range list (Create f) new e b = subst (λ (i : Intention). nat_lt i.block.0 most_blocks ≡ true) (is_same _ new e) refl
+new_in_range list (Remove f) new e b = subst (λ (i : Intention). nat_lt i.block.0 most_blocks ≡ true) (is_same _ new e) refl
+new_in_range list (CutBlocks f n) new e b = subst (λ (i : Intention). nat_lt i.block.0 most_blocks ≡ true) (is_same _ new e) (by (as_first (entry list f zero)))
   where
-    by : (x : First) → nat_lt (cut_again x f n).block.0 120 ≡ true
+    by : (x : First) → nat_lt (cut_again x f n).block.0 most_blocks ≡ true
     by Kept = grind (arith, nat_tests)
     by MadeFresh = grind (arith, nat_tests)
     by TakenAway = grind (arith, nat_tests)
     by (CutFrom m) = grind (arith, nat_tests)
 new_in_range list (Read f p) new e b = absurd (cc e)
-new_in_range list (Write f p bytes) new e b = subst (λ (i : Intention). nat_lt i.block.0 120 ≡ true) (is_same _ new e) (grind (arith, nat_tests))
+new_in_range list (Write f p bytes) new e b = subst (λ (i : Intention). nat_lt i.block.0 most_blocks ≡ true) (is_same _ new e) (grind (arith, nat_tests))
 
 -- the unit that it writes
 abbrev pub target : Op → LockUnit

@@ -1,5 +1,5 @@
 -- An active work after one more operation, and after a change that its locks don't see.
-use Rattle.jn_worker.proofs.Common.{◌≡◌, ◌≤◌, ◌<◌, ◌+◌, ℕ, Bool, true, false, List, [], ◌∷◌, length, Option, Some, None, if◌then◌else◌, refl, sym, ap, subst, arith, nat_lt, list_all, nat_tests, LockUnit, File, Block, Answer, TooManyReads, TooManyWrites, Op, Create, Remove, CutBlocks, ReadOp, WriteOp, Files, change, answer_to, file_of, Intention, list_change, length_with, block_of, intention_for, Read, IntentionWrite, is_unit, ActiveWork, with_units, units_for, wants_of, is_fit, list_with, done, past_limit, unit_of, unit_in_range, ActiveFits}
+use Rattle.jn_worker.proofs.Common.{most_blocks, ◌≡◌, ◌≤◌, ◌<◌, ◌+◌, ℕ, Bool, true, false, List, [], ◌∷◌, length, Option, Some, None, if◌then◌else◌, refl, sym, ap, subst, arith, nat_lt, list_all, nat_tests, LockUnit, File, Block, Answer, TooManyReads, TooManyWrites, Op, Create, Remove, CutBlocks, ReadOp, WriteOp, Files, change, answer_to, file_of, Intention, list_change, length_with, block_of, intention_for, Read, IntentionWrite, is_unit, ActiveWork, with_units, units_for, wants_of, is_fit, list_with, done, past_limit, unit_of, unit_in_range, ActiveFits}
 use Rattle.jn_worker.proofs.Units.{ascends_more, all_more, kept_more, there_one}
 use Rattle.jn_worker.proofs.Listed.{all_after, order_after, length_after, new_file, new_in_range, target, new_unit, there_after, lost_after}
 
@@ -26,7 +26,7 @@ writes_target (CutBlocks f n) new list writes e = there_one (File f) writes
 writes_target (ReadOp f p) new list writes e = absurd (cc e)
 writes_target (WriteOp f p bytes) new list writes e = there_one (Block f p) writes
 
-units-in-range : (op : Op) (fit : Bool) → (block_of op).0 < 120 → list_all (λ u. unit_in_range u) (units_for Read (wants_of op fit)) ≡ true
+units-in-range : (op : Op) (fit : Bool) → (block_of op).0 < most_blocks → list_all (λ u. unit_in_range u) (units_for Read (wants_of op fit)) ≡ true
 units-in-range op false b = refl
 units-in-range (Create f) true b = refl
 units-in-range (Remove f) true b = refl
@@ -49,7 +49,7 @@ all-same : (P Q : Intention → Bool) (list : List Intention) → ((i : Intentio
 all-same P Q [] f h = refl
 all-same P Q (i ∷ list) f h = let here = f i in let again = all-same P Q list f in grind (arith, h)
 
-module _ (files : Files) (a : ActiveWork) (op : Op) (f : ActiveFits files a) (range : (block_of op).0 < 120) where
+module _ (files : Files) (a : ActiveWork) (op : Op) (f : ActiveFits files a) (range : (block_of op).0 < most_blocks) where
   -- where the file isn't as the operation needs it
   unfit_after : length (reads_with a op false) ≤ 40 → length a.list ≤ 24 → ActiveFits files (record a { reads = reads_with a op false; writes = writes_with a op false })
   unfit_after reads intentions = record {

@@ -1,5 +1,5 @@
 -- What works write stays in range.
-use Rattle.jn_worker.proofs.Common.{◌≡◌, ℕ, ◌<◌, Bool, true, false, List, [], ◌∷◌, map, refl, arith, list_all, nat_tests, LockUnit, Op, IntentionWrite, unit_eq, unit_before, Intention, with_unit, with_units, units_for, wants_of, written_unit, unit_in_range, BlockInRange}
+use Rattle.jn_worker.proofs.Common.{most_blocks, ◌≡◌, ℕ, ◌<◌, Bool, true, false, List, [], ◌∷◌, map, refl, arith, list_all, nat_tests, LockUnit, Op, IntentionWrite, unit_eq, unit_before, Intention, with_unit, with_units, units_for, wants_of, written_unit, unit_in_range, BlockInRange}
 use Rattle.std.proofs.Common.{if◌then◌else◌, ◌&&◌, nat_lt}
 use Rattle.jn_base.specs.declared.op.Op.TheVariants as ops
 use Rattle.jn_records.specs.declared.intention.What.TheVariants as whats
@@ -29,7 +29,7 @@ pub some-more : (us vs : List LockUnit) → Are us → Are vs → Are (with_unit
 some-more [] vs h k = k
 some-more (u ∷ us) vs h k = some-more us (with_unit u vs) (second-of (unit_in_range u) (list_all unit_in_range us) h) (one-more u vs (first-of (unit_in_range u) (list_all unit_in_range us) h) k)
 
-block-within : (n : ℕ) → n < 120 → nat_lt n 120 ≡ true
+block-within : (n : ℕ) → n < most_blocks → nat_lt n most_blocks ≡ true
 block-within n h = grind (arith, nat_tests, h)
 
 -- what an operation writes
@@ -42,11 +42,11 @@ wants-in-range (ops.Read f p) true h = refl
 wants-in-range (ops.Write f p bytes) true h = both (block-within p.0 h) refl
 
 -- what a list of intentions writes
-pub list-in-range : (list : List Intention) → list_all (λ (i : Intention). nat_lt i.block.0 120) list ≡ true → Are (map (λ (i : Intention). written_unit i.what i.file i.block) list)
+pub list-in-range : (list : List Intention) → list_all (λ (i : Intention). nat_lt i.block.0 most_blocks) list ≡ true → Are (map (λ (i : Intention). written_unit i.what i.file i.block) list)
 list-in-range [] h = refl
-list-in-range (i ∷ is) h = both (one i.what (first-of (nat_lt i.block.0 120) _ h)) (list-in-range is (second-of (nat_lt i.block.0 120) _ h))
+list-in-range (i ∷ is) h = both (one i.what (first-of (nat_lt i.block.0 most_blocks) _ h)) (list-in-range is (second-of (nat_lt i.block.0 most_blocks) _ h))
   where
-    one : (w : _) → nat_lt i.block.0 120 ≡ true → unit_in_range (written_unit w i.file i.block) ≡ true
+    one : (w : _) → nat_lt i.block.0 most_blocks ≡ true → unit_in_range (written_unit w i.file i.block) ≡ true
     one whats.Put k = k
     one whats.Fresh k = refl
     one whats.Gone k = refl

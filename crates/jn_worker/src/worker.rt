@@ -2,14 +2,14 @@
 ghost use Rattle.std.specs.Prelude.{◌≡◌, true, is_ok};
 ghost use Rattle.jn_lock_rows.specs.Matching.{are_rising};
 ghost use Rattle.jn_rows.specs.Worker as rows;
-ghost use Rattle.jn_works.specs.Locked.{next_locked};
+ghost use Rattle.jn_works.specs.Locked.{next_locked, next_locked_block};
 ghost use Rattle.jn_worker.specs.Calls.{AsksAgain, TimesOut};
 
-use jn_base::{FileNo, LockUnit, Party, Tid, WorkId};
+use jn_base::{BlockNo, FileNo, LockUnit, Party, Tid, WorkId};
 use jn_locks::LockTable;
 use jn_msgs::{Message, Out};
 use jn_rows::Work;
-use jn_works::{commit_holder, expose, is_in, next_locked, work_of};
+use jn_works::{commit_holder, expose, is_in, next_locked, next_locked_block, work_of};
 use std::alloc::{AllocError, Global};
 use std::marker::Model;
 
@@ -49,6 +49,13 @@ impl Worker {
         ensures { result ≡ next_locked after self.now.table }
     {
         next_locked(&self.works, after)
+    }
+
+    /// The least block of a file above `after`, or the least of all, that a prepared work holds for commit.
+    pub fn next_locked_block(&self, file: FileNo, after: Option<BlockNo>) -> Option<BlockNo>
+        ensures { result ≡ next_locked_block file after self.now.table }
+    {
+        next_locked_block(&self.works, file, after)
     }
 
     /// For proofs alone: the works stand in rising order of their names.

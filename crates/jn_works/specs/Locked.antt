@@ -1,47 +1,47 @@
--- The files that prepared works hold for commit as files.
-use Rattle.std.specs.Prelude.{◌≡◌, ◌≤◌, Bool, true, false, nat_lt, if◌then◌else◌, List, [], ◌∷◌, Option, Some, None, is_some}
+-- What prepared works hold for commit: files as files, and the blocks of a file.
+use Rattle.std.specs.Prelude.{Bool, if◌then◌else◌, List, [], ◌∷◌, Option, Some, None, is_some, ℕ, nat_le, ◌&&◌}
 use Rattle.jn_base.specs.declared.names.FileNo.{FileNo}
 use Rattle.jn_base.specs.declared.names.LockUnit.{LockUnit}
 use Rattle.jn_base.specs.declared.names.LockUnit.TheVariants.{File, Block}
 use Rattle.jn_rows.specs.declared.worker.Phase.{Phase}
 use Rattle.jn_rows.specs.declared.worker.Phase.TheVariants.{Prepared as Stored}
 use Rattle.jn_rows.specs.Worker.{WorkerTable, commit_holder}
-use Rattle.jn_storage.specs.Calls.{is_above}
+use Rattle.jn_base.specs.declared.names.BlockNo.{BlockNo}
+use Rattle.jn_base.specs.Names.{file_eq}
+use Rattle.jn_index.specs.Least.{lesser, number_after}
 
--- the lesser of two files
-abbrev pub lesser : Option FileNo → Option FileNo → Option FileNo
-lesser None g = g
-lesser (Some f) None = Some f
-lesser (Some f) (Some g) = if nat_lt g.0 f.0 then Some g else Some f
+-- the least of what these units give
+abbrev pub least_in : {A : Type 0} → (A → ℕ) → (LockUnit → Option A) → List LockUnit → Option A
+least_in number of [] = None
+least_in number of (u ∷ us) = lesser number (of u) (least_in number of us)
 
--- the file of a unit that is a file above another
-abbrev pub file_above : Option FileNo → LockUnit → Option FileNo
-file_above after (File f) = if is_above after f then Some f else None
-file_above after (Block f p) = None
+-- the units that a work holds for commit
+abbrev pub held_by : Phase → List LockUnit
+held_by (Stored p) = p.writes
+held_by phase = []
 
-abbrev pub least_in : Option FileNo → List LockUnit → Option FileNo
-least_in after [] = None
-least_in after (u ∷ us) = lesser (file_above after u) (least_in after us)
+-- of all units that a prepared work holds for commit
+abbrev pub least_locked : {A : Type 0} → (A → ℕ) → (LockUnit → Option A) → WorkerTable → Option A
+least_locked number of [] = None
+least_locked number of (w ∷ ws) = lesser number (least_in number of (held_by w.phase)) (least_locked number of ws)
 
-abbrev pub least_held : Option FileNo → Phase → Option FileNo
-least_held after (Stored p) = least_in after p.writes
-least_held after phase = None
+-- the file of a unit that is a file from a number on, and the block of one that is a block of a file
+abbrev pub file_from : ℕ → LockUnit → Option FileNo
+file_from from (File f) = if nat_le from f.0 then Some f else None
+file_from from (Block f p) = None
+
+abbrev pub block_from : FileNo → ℕ → LockUnit → Option BlockNo
+block_from f from (File g) = None
+block_from f from (Block g p) = if file_eq g f && nat_le from p.0 then Some p else None
 
 -- the least file above another, or the least of all, that a prepared work holds for commit as a file
 abbrev pub next_locked : Option FileNo → WorkerTable → Option FileNo
-next_locked after [] = None
-next_locked after (w ∷ ws) = lesser (least_held after w.phase) (next_locked after ws)
+next_locked after t = least_locked (λ (f : FileNo). f.0) (file_from (number_after (λ (f : FileNo). f.0) after)) t
 
--- whether a prepared work holds a file for commit
-abbrev pub is_held : WorkerTable → FileNo → Bool
-is_held t f = is_some (commit_holder (File f) t)
+-- and the least block of a file
+abbrev pub next_locked_block : FileNo → Option BlockNo → WorkerTable → Option BlockNo
+next_locked_block f after t = least_locked (λ (p : BlockNo). p.0) (block_from f (number_after (λ (p : BlockNo). p.0) after)) t
 
-pub record IsLeast (held : FileNo → Bool) (after : Option FileNo) (f : FileNo) : Type 0 where
-  pub stands : held f ≡ true
-  pub above : is_above after f ≡ true
-  pub least : (g : FileNo) → held g ≡ true → is_above after g ≡ true → f.0 ≤ g.0
-
--- it is the least of those, and none where there are none
-abbrev pub LeastOf : (FileNo → Bool) → Option FileNo → Option FileNo → Type 0
-LeastOf held after (Some f) = IsLeast held after f
-LeastOf held after None = (g : FileNo) → held g ≡ true → is_above after g ≡ false
+-- whether a prepared work holds a unit for commit
+abbrev pub is_held : WorkerTable → LockUnit → Bool
+is_held t u = is_some (commit_holder u t)

@@ -74,7 +74,7 @@ impl<S: Powered + Drop> World<S> {
         }
     }
 
-    /// Settles: what waits is handed over and what is begun is carried out, until nothing is left to do; then each client
+    /// Settles: what waits is handed over and what is begun is carried out, until nothing is left to do. Then each client
     /// and each server that is up sends once more what waits for an answer, and it goes on in the same way.
     pub fn settle(&mut self, number: u32, lines: &mut Vec<Line>) -> Result<(), Ended>
         requires world { IsWorld (λ s. S.view s) self.old }

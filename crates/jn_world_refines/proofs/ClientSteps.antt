@@ -1,5 +1,5 @@
 -- Steps of clients: each takes a message, is told a command, or sends once more.
-use Rattle.jn_world_refines.proofs.Common.{◌≡◌, ◌-◌, ℕ, Bool, true, false, List, [], ◌∷◌, ◌++◌, append-nil, length, drop, Option, Some, None, refl, sym, ◌∙◌, ap, subst, if◌then◌else◌, nat_tests, ClientNo, Client, client_eq, DeviceState, Posted, with_delivered, Deliver, after, took, taken_by, handed, World, at_client, Line, Taken, ClientTable, new_table, take_row, Sent, pairs_view, StoreView, Setup, plain, delivered, no_room, Moment, message_texts, traced, lines_at, Task, when_of, Standing, is_client_number, Stands, posted_by, with_sent, with_client, texts_taken, ActsNext, IsStepTo, left_by_sent, arith}
+use Rattle.jn_world_refines.proofs.Common.{◌≡◌, ◌-◌, ℕ, Bool, true, false, List, [], ◌∷◌, ◌++◌, append-nil, length, drop, Option, Some, None, refl, sym, ◌∙◌, ap, subst, if◌then◌else◌, nat_tests, ClientNo, Client, client_eq, DeviceState, Posted, with_delivered, Deliver, after, took, taken_by, handed, World, at_client, Line, Taken, ClientTable, new_table, take_row, Sent, pairs_view, StoreView, Setup, plain, delivered, no_room, Moment, message_texts, traced, lines_at, Task, when_of, Standing, is_client_number, Stands, posted_by, with_sent, with_client, texts_taken, ActsNext, IsStepTo, arith, left-told}
 use Rattle.std.proofs.Common.{slice_get}
 use Rattle.jn_rows.specs.declared.client.Taken.TheVariants as taken
 use Rattle.jn_schedule.specs.declared.Event.TheVariants as events
@@ -59,7 +59,7 @@ module _ {S : Type 0} (look : S → StoreView) (device : S → DeviceState) (see
         → IsStepTo look device x m (more ++ drop 1 m.state.tasks) (with_sent (posted_by (Client c) (sent_for what)) (record w { clients = ts; net = record w.net { sent = with_delivered k w.net.sent } }))
         lines (lines ++ lines_at (when_of m.state) (texts_taken k what ++ traced w.trace (message_texts (Client c) (length w.net.sent) (sent_for what))))
     takes ts clients lines = plain-step look device seen x w m stand (events.Deliver k) more next (Client c) (Deliver k no_room) acts tt
-        (λ s n. ap (λ (o : Option Sent). left_by_sent v s no_room o n) (is-sent look device seen x w m stand k one posted (Client c) to)) (sent_for what) (texts_taken k what) (taken-none k t one.message) so.sent so.lines
+        (λ s. left-told v s k no_room c one.message (is-sent look device seen x w m stand k one posted (Client c) to)) (sent_for what) (texts_taken k what) (taken-none k t one.message) so.sent so.lines
         w.places (servers-same look device seen x w m stand _ (record { memory = λ q. ap (λ f. f q) so.memory; found = λ q. ap (λ f. f q) so.found; devices = λ q. refl })) ts clients (with_delivered k w.net.sent) refl lines
 
   here-of : (c : ClientNo) → is_client_number c.0 ≡ true → (t : ClientTable) → slice_get w.clients (c.0 - 1) ≡ Some t → v.clients c ≡ t

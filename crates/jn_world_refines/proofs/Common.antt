@@ -1,12 +1,12 @@
 -- The names from below that these proofs cite, passed on from one place. Declares nothing.
 pub use Rattle.std.proofs.Common.{◌≡◌, ℕ, Bool, true, false, List, [], ◌++◌, append-nil, drop, slice_set, Some, refl, sym, ap, subst, length, ◌-◌, ◌∷◌, Option, None, ◌∙◌, arith, ◌⊎◌, inl, inr, ◌≢◌, suc, ◌<◌, zero, true≢false, ◌≤◌, not, append_assoc, ◌+◌, length-append, length-drop}
-pub use Rattle.std.specs.Prelude.{slice_get, if◌then◌else◌, ◌&&◌, nat_lt, map, is_some, ⊤, ◌||◌, ◌*◌, nat_eq}
+pub use Rattle.std.specs.Prelude.{slice_get, if◌then◌else◌, ◌&&◌, nat_lt, map, is_some, ⊤, ◌||◌, ◌*◌, is_none, nat_eq}
 pub use Rattle.jn_base.specs.declared.names.ServerNo.{ServerNo}
 pub use Rattle.jn_device.specs.Device.{DeviceState}
 pub use Rattle.jn_device.specs.Events.{Decays as PageDecays, Revives as PageRevives, Arms as FaultArmed, powered_off, disarmed, cleared}
 pub use Rattle.jn_place.specs.declared.place.Place.{Place}
 pub use Rattle.jn_place.specs.declared.place.Slot.{Slot}
-pub use Rattle.jn_place.specs.Exact.{Befell, WhereUp, KeepsRubbish, IsDoneAt, Closed, texts_of_step, Crashed, IsSpent, IsStoppedAt, idle_row, PrintsInRange, IsStepOf, ScrubbedBy, Prints, Showed, LeavesClean, AsksAgain, TimedOut, IsTimedOut, has_work_at, IsTried, IsUpAt, CameTo, IsRestart, Sends, IsStoppedUp, IsUsedUpAt, Took, TakeLeaves, work_of, WorkedBy, WorkLeaves}
+pub use Rattle.jn_place.specs.Exact.{Befell, WhereUp, KeepsRubbish, IsDoneAt, Closed, texts_of_step, Crashed, IsSpent, IsStoppedAt, idle_row, IsStepOf, ScrubbedBy, Prints, Showed, LeavesClean, AsksAgain, TimedOut, IsTimedOut, has_work_at, IsTried, IsUpAt, CameTo, IsRestart, Sends, IsStoppedUp, IsUsedUpAt, Took, TakeLeaves, work_of, WorkedBy, WorkLeaves}
 pub use Rattle.jn_system.specs.WholeSystem.World.{commits_in, World, at_client, Memory, has_line, at_server, clients_from, servers_from, with_epoch, new_memory, changed}
 pub use Rattle.jn_recovery.specs.Counts.{counts_by}
 pub use Rattle.jn_report.specs.declared.line.EventRefusal.TheVariants.{TooManyArmed, EpochsUsedUp}
@@ -30,18 +30,18 @@ pub use Rattle.jn_place.specs.declared.place.Slot.TheVariants.{Up, Down, Gone}
 pub use Rattle.std.proofs.lemmas.Bool.Decides.{nat_tests}
 pub use Rattle.jn_base.specs.declared.names.ClientNo.{ClientNo}
 pub use Rattle.jn_base.specs.declared.names.Party.TheVariants.{Client, Server}
-pub use Rattle.jn_base.specs.Names.{client_eq, server_eq, tid_eq, block_eq, work_eq}
+pub use Rattle.jn_base.specs.Names.{client_eq, server_eq, tid_eq, work_eq}
 pub use Rattle.jn_net.specs.declared.Sent.{Sent as Posted}
 pub use Rattle.jn_net.specs.Carried.{with_delivered, Carried, waiting}
-pub use Rattle.jn_system.specs.WholeSystem.Steps.{Deliver, after, took, taken_by, handed, CloseClients, IsIdle, done, close_clients, Tell, Again, commanded, sent_now, Step, run, IsRun, Crash, crash, Dismiss, StopWork, work, works, at_memory, are_rising, tid_before, Nudge, Timeout, nudge, timeout, NextEvent, handing, working, IsStep, AreNames, Restart, restart, restart_with, stopped, ends, Narrow, StopRestart, narrow, stop_restart, StopDelivery}
+pub use Rattle.jn_system.specs.WholeSystem.Steps.{Deliver, after, took, taken_by, handed, CloseClients, IsIdle, done, close_clients, Tell, Again, commanded, sent_now, Step, run, IsRun, Crash, crash, Dismiss, StopWork, work, works, at_memory, are_rising, tid_before, Nudge, Timeout, nudge, timeout, NextEvent, handing, working, IsStep, Restart, AreNames, restart, restart_with, stopped, ends, Narrow, StopRestart, narrow, stop_restart, StopDelivery}
 pub use Rattle.jn_rows.specs.declared.client.Taken.{Taken}
 pub use Rattle.jn_rows.specs.Client.{ClientTable, new_table, take_row, if_waits, ignored, begun_row, opened_row, answer_line, is_current, decided_row, outcome_row, Commanded, Refuses, command_row, again_row, over}
 pub use Rattle.jn_rows.specs.Outcomes.{Sent, RowOutcome, quiet as quiet_row}
 pub use Rattle.jn_world_refines.specs.Clients.{with_client, texts_taken, texts_commanded, sent_commanded, table_commanded}
-pub use Rattle.jn_machine.specs.Rubbish.{left_by_sent, AreLeft, AreAllCounted, rubbish_records, left_by_message, left_by_steps, left_by_step, left_by_restart, CountsAll, left_by_row, left_by_changes, left_by_work, left_at_work}
+pub use Rattle.jn_machine.proofs.LeftBy.{left-told, left-sent, left_with, left-work}
 pub use Rattle.std.proofs.lemmas.List.{length-set, length-map, map-append, drop-append-le}
 pub use Rattle.jn_base.specs.declared.names.Tid.{Tid}
-pub use Rattle.jn_base.proofs.Tells.{client_tells, server_tells, tid_tells, block_tells}
+pub use Rattle.jn_base.proofs.Tells.{client_tells, server_tells, tid_tells}
 pub use Rattle.jn_msgs.specs.declared.message.Message.{Message}
 pub use Rattle.std.proofs.Math.Path.{fun_ext}
 pub use Rattle.jn_base.specs.declared.device.Outside.{Outside}
@@ -55,6 +55,7 @@ pub use Rattle.jn_storage.specs.DeviceCalls.{row_calls, step_calls}
 pub use Rattle.jn_world_refines.specs.Waiting.{Carries, sent_of, delivered_by, are_new, waiting_numbers, undelivered}
 pub use Rattle.jn_row_ranges.specs.Within.{Within}
 pub use Rattle.jn_row_ranges.proofs.WorldSteps.{run-within, sent-near, opening-within}
+pub use Rattle.jn_machine.specs.Rubbish.{AreLeft, AreAllCounted, rubbish_records, left_by_step, left_by_steps, CountsAll, left_by_row}
 pub use Rattle.jn_machine.proofs.Computed.{may-lead, join}
 pub use Rattle.jn_page_state.specs.Recoverable.{IsRecoverable}
 pub use Rattle.std.proofs.lemmas.Option.{slice_get_within, slice_get-map}
@@ -62,12 +63,10 @@ pub use Rattle.jn_records.specs.StablePages.{Counts, page_count}
 pub use Rattle.jn_page_state.specs.Pages.{pool_on, found_on}
 pub use Rattle.jn_server.specs.Standing.{standing_pages, free_on, has_rubbish}
 pub use Rattle.jn_rows.specs.declared.worker.Work.{Work, Work as WorkEntry}
-pub use Rattle.jn_rows.specs.Worker.{going_work, going_row, WorkerTable, commit_holder, carried_row, intentions_of}
+pub use Rattle.jn_rows.specs.Worker.{going_work, going_row, carried_row, intentions_of}
 pub use Rattle.std.specs.List.{list_any, list_all, position_from}
 pub use Rattle.jn_report.specs.declared.line.When.{When}
 pub use Rattle.jn_serial.specs.Lines.{history_of}
-pub use Rattle.jn_system.specs.WholeSystem.Printing.{prints_in, ArePrints, Printed, FileThere, print_unit, print_one, print_blocks, print_file, print_files, block_before}
-pub use Rattle.jn_world_refines.specs.Showing.{text_shown, texts_shown, blocks_from}
 pub use Rattle.std.proofs.Math.Seq.{drop-length, drop-append_seam}
 pub use Rattle.jn_machine.specs.Refusals.{refusal_of}
 pub use Rattle.jn_world_refines.specs.Meeting.{is_settle, begun_by, begins_in}
@@ -75,5 +74,6 @@ pub use Rattle.jn_world_refines.specs.Naming.{with_name, named_by, names_told}
 pub use Rattle.jn_msgs.specs.Collected.{Collected}
 pub use Rattle.jn_report.specs.declared.line.EventRefusal.{EventRefusal}
 pub use Rattle.jn_base.specs.declared.names.Party.{Party}
-pub use Rattle.jn_order.specs.Files.{Files, AllFiles}
+pub use Rattle.jn_order.specs.Files.{AllFiles}
 pub use Rattle.jn_machine.specs.Whole.{before, AreImages, IsWhole, IsLimited, IsPartOfRun, closed_world}
+pub use Rattle.jn_worker.specs.Leaving.{left_over}

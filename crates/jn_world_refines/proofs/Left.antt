@@ -1,5 +1,5 @@
 -- How many rubbish records a step leaves on the pages of each server that is up afterwards.
-use Rattle.jn_world_refines.proofs.Common.{◌≡◌, ◌⊎◌, inl, inr, ◌≢◌, ℕ, Bool, true, false, List, length, slice_get, Option, Some, None, is_some, true≢false, sym, ◌∙◌, ap, subst, ⊤, if◌then◌else◌, ServerNo, Server, server_eq, server_tells, DeviceState, pool_on, Message, Place, Slot, Up, Down, Gone, WhereUp, Counts, counts_by, StableState, Pick, stable, Parts, ServerView, view_with, standing_pages, pairs_view, StoreView, Room, World, Memory, Step, run, Setup, Devices, rubbish_records, left_by_message, left_by_sent, left_by_steps, AreLeft, Moment, Standing, StandsAt, Stands, HasCounts}
+use Rattle.jn_world_refines.proofs.Common.{◌≡◌, ◌⊎◌, inl, inr, ◌≢◌, ℕ, true, false, List, length, slice_get, Option, Some, None, is_some, true≢false, refl, sym, ◌∙◌, ap, subst, ⊤, ServerNo, Server, server_eq, server_tells, DeviceState, pool_on, Message, Place, Slot, Up, Down, Gone, WhereUp, Counts, counts_by, StableState, Pick, Parts, ServerView, view_with, standing_pages, pairs_view, StoreView, Room, World, Memory, Step, Deliver, run, Setup, Devices, rubbish_records, left_by_step, left_by_steps, AreLeft, Moment, Standing, StandsAt, Stands, HasCounts, left-sent}
 use Rattle.jn_sets.specs.Pool.{rubbish_count}
 use Rattle.jn_world_refines.proofs.Servers.{IsAlone}
 
@@ -12,13 +12,12 @@ pub left-same : (x : Setup) (v : World) (steps : List Step) (ds es : Devices) �
 left-same x v steps ds es same quiet = λ q l up. ap (λ (d : DeviceState). rubbish_count (pool_on (x.counts q) (standing_pages (pairs_view d)))) (same q) ∙ sym (quiet q (rubbish_records x ds q))
 
 -- a server that is down loses a message
-pub lost-quiet : (v : World) (q : ServerNo) (room : Room) (message : Message) → v.memory q ≡ None → (s : ServerNo) (n : ℕ) → left_by_sent v s room (Some (Server q, message)) n ≡ n
-lost-quiet v q room message none s n = by (server_tells q s)
+pub lost-quiet : (v : World) (q : ServerNo) (k : ℕ) (room : Room) (message : Message) → slice_get v.sent k ≡ Some (Server q, message) → v.memory q ≡ None → (s : ServerNo) (n : ℕ) → left_by_step v s (Deliver k room) n ≡ n
+lost-quiet v q k room message sent none s n = by (server_tells q s)
   where
-    by : ((server_eq q s ≡ true) × (q ≡ s)) ⊎ ((server_eq q s ≡ false) × (q ≢ s)) → (if server_eq q s then left_by_message (stable (v.found s)) (v.memory s) room message n else n) ≡ n
-    by (inl t) = ap (λ (b : Bool). if b then left_by_message (stable (v.found s)) (v.memory s) room message n else n) t.0
-        ∙ ap (λ (o : Option Memory). left_by_message (stable (v.found s)) o room message n) (ap (λ (r : ServerNo). v.memory r) (sym t.1) ∙ none)
-    by (inr t) = ap (λ (b : Bool). if b then left_by_message (stable (v.found s)) (v.memory s) room message n else n) t.0
+    by : ((server_eq q s ≡ true) × (q ≡ s)) ⊎ ((server_eq q s ≡ false) × (q ≢ s)) → left_by_step v s (Deliver k room) n ≡ n
+    by (inl t) = left-sent v s k room q message sent true t.0 None (ap (λ (r : ServerNo). v.memory r) (sym t.1) ∙ none) n
+    by (inr t) = left-sent v s k room q message sent false t.0 (v.memory s) refl n
 
 module _ {S : Type 0} (look : S → StoreView) where
   -- how many a server that is up counts

@@ -2,7 +2,6 @@ mod Common
 pub mod Lines
 pub mod Made
 pub mod Naming
-pub mod Printed
 pub mod Meeting
 pub mod Still
 pub mod Starting

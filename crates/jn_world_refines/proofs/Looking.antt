@@ -1,5 +1,5 @@
 -- A scrub and a show.
-use Rattle.jn_world_refines.proofs.Common.{◌≡◌, ℕ, Bool, true, false, List, [], ◌∷◌, ◌++◌, append-nil, drop, map, slice_get, slice_set, Option, Some, None, is_some, not, refl, sym, ◌∙◌, ap, subst, length, ServerNo, Outside, DeviceState, Place, Slot, Up, Down, Gone, IsSpent, PrintsInRange, IsDoneAt, IsStoppedAt, IsStepOf, idle_row, ScrubbedBy, Prints, Showed, texts_of_step, WhereUp, KeepsRubbish, World, Memory, prints_in, ArePrints, counts_by, Line, Text, StableState, Pick, stable, Parts, view_with, memory_of, go_on, state, pairs_view, StoreView, Setup, Chance, Reads, Deed, Alone, IsServed, IsLookedOver, Moment, lines_at, Task, when_of, Standing, Stands, HasCounts, ActsNext, IsStepTo, WorkId, ◌*◌, Server, Counts, page_count, LeavesClean, IsCalm, IsClean, IsWholePage, Step, Cleans, plain, IsScrubbed, IsCalled, Printed, text_shown, texts_shown, HasPrints, shown, Left, whole_only}
+use Rattle.jn_world_refines.proofs.Common.{◌≡◌, ℕ, Bool, true, false, List, [], ◌∷◌, ◌++◌, append-nil, drop, map, slice_get, slice_set, Option, Some, None, is_some, not, refl, sym, ◌∙◌, ap, subst, length, ServerNo, Outside, DeviceState, Place, Slot, Up, Down, Gone, IsSpent, IsDoneAt, IsStoppedAt, IsStepOf, idle_row, ScrubbedBy, Prints, Showed, texts_of_step, WhereUp, KeepsRubbish, World, Memory, counts_by, Line, Text, StableState, Pick, stable, Parts, view_with, memory_of, go_on, state, pairs_view, StoreView, Setup, Chance, Reads, Deed, Alone, IsServed, IsLookedOver, Moment, lines_at, Task, when_of, Standing, Stands, HasCounts, ActsNext, IsStepTo, WorkId, ◌*◌, Server, Counts, page_count, LeavesClean, IsCalm, IsClean, IsWholePage, Step, Cleans, plain, IsScrubbed, IsCalled, HasPrints, shown, Left, whole_only}
 use Rattle.std.specs.Prelude.{◌<◌}
 use Rattle.jn_store.specs.DeviceCalls.{put_calls, cleaned_get_calls}
 use Rattle.jn_world_refines.proofs.Moving.{device-here, does-next, led-to, net-quiet, devices-now, device-there, moved-step}
@@ -11,6 +11,8 @@ use Rattle.jn_server.specs.Showing.{print_of}
 use Rattle.jn_world_refines.proofs.Posted.{lines-in-two}
 use Rattle.jn_world_refines.proofs.Idle.{here, finding, idling, calling, done-alone, stopping, after-stop, stopped-alone, stop-carries}
 use Rattle.jn_world_refines.proofs.Left.{leaves-from}
+use Rattle.jn_system.specs.WholeSystem.Printing.{prints_in, ArePrints, Printed}
+use Rattle.jn_world_refines.specs.Showing.{text_shown, texts_shown}
 
 shown-texts : (q : ServerNo) (list : List Shown) → map (text_printed q) (map print_of list) ≡ map (text_shown q) list
 shown-texts q [] = refl
@@ -119,10 +121,10 @@ module _ {S : Type 0} (look : S → StoreView) (device : S → DeviceState) (see
       others = λ r o. device-there look device x w m stand seen q place at e r o;
     }
 
-    show-done : (told : List Outside) (list : List Shown) (prints : ArePrints (prints_in mem.worker (state (view_with look p).storage).files) (map print_of list)) → PrintsInRange (view_with look p)
+    show-done : (told : List Outside) (list : List Shown) (prints : ArePrints (prints_in mem.worker (state (view_with look p).storage).files) (map print_of list))
         → (p' : Parts S) → IsDoneAt look device look_calls told (idle_row mem) p p' → HasCounts look q (counts_by place.counts) (Up p') → KeepsRubbish (view_with look p) (view_with look p') → ActsNext x m (events.Show q) more
         → IsStepTo look device x m (more ++ drop 1 m.state.tasks) (standing (Up p')) lines (lines ++ lines_at (when_of m.state) (texts_of_step q told true) ++ lines_at (when_of m.state) (map (text_shown q) list))
-    show-done told list prints below p' e counts kept next = moved-step look device x w m stand seen q place at h (λ r. refl) (record deed { tasks = more })
+    show-done told list prints p' e counts kept next = moved-step look device x w m stand seen q place at h (λ r. refl) (record deed { tasks = more })
         (does-next x m (events.Show q) more next h (λ r. refl) deed (ap (λ (texts : List Text). record (looks []) { texts = texts }) texts-are)) refl
         (Up p') (device p'.storage.0) [] w.named w.commits
         (done-alone look device seen x w m stand q place at p is told _ p' e counts (led-to x m h (record deed { tasks = more }) (devices-now look device x w m stand seen q place at (device p'.storage.0))) refl refl)
@@ -199,7 +201,7 @@ module _ {S : Type 0} (look : S → StoreView) (device : S → DeviceState) (see
             → IsStepOf look device q (counts_by place.counts) (cleaned_get_calls * (view_with look p).storage.accounts.leaves) (when_of m.state) (idle_row (memory_of (view_with look p))) (Up p) (is_some list) slot lines lines'
             → IsStepTo look device x m (more ++ drop 1 m.state.tasks) (standing slot) lines (lines' ++ lines_at (when_of m.state) (texts_shown q list))
         from p is (Some list) (Up p') k l prints s = subst (λ (ls : List Line). IsStepTo look device x m (more ++ drop 1 m.state.tasks) (standing (Up p')) lines (ls ++ lines_at (when_of m.state) (map (text_shown q) list))) (sym s.lines_are)
-            (show-done p is s.told list prints.0 prints.1 p' s.ends k l next)
+            (show-done p is s.told list prints p' s.ends k l next)
         from p is None (Down t) k l prints s = subst (λ (ls : List Line). IsStepTo look device x m (more ++ drop 1 m.state.tasks) (standing (Down t)) lines ls) (sym s.lines_are ∙ sym (append-nil lines')) (show-stopped p is s.told t s.ends k next)
         from p is (Some list) (Down t) k l prints s = absurd s.ends
         from p is (Some list) Gone k l prints s = absurd s.ends

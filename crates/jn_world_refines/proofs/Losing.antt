@@ -1,5 +1,5 @@
 -- A message for a server that is down, or that isn't there.
-use Rattle.jn_world_refines.proofs.Common.{◌≡◌, ◌<◌, ℕ, List, [], ◌∷◌, ◌++◌, length, slice_get, drop, Option, Some, None, refl, sym, ◌∙◌, ap, subst, ServerNo, Server, DeviceState, Posted, with_delivered, Place, Slot, Down, Deliver, after, at_memory, handed, World, Memory, counts_by, Line, Sent, pairs_view, StoreView, sent-near, Setup, room, delivered, delivered_at, Moment, lines_at, Task, when_of, Standing, StandsAt, Stands, ActsNext, IsStepTo, left_by_sent}
+use Rattle.jn_world_refines.proofs.Common.{◌≡◌, ◌<◌, ℕ, List, [], ◌∷◌, ◌++◌, length, slice_get, drop, Option, Some, None, refl, sym, ◌∙◌, ap, subst, ServerNo, Server, DeviceState, Posted, with_delivered, Place, Slot, Down, Deliver, after, at_memory, handed, World, Memory, counts_by, Line, Sent, pairs_view, StoreView, sent-near, Setup, room, delivered, delivered_at, Moment, lines_at, Task, when_of, Standing, StandsAt, Stands, ActsNext, IsStepTo}
 use Rattle.jn_report.specs.declared.line.Text.TheVariants as says
 use Rattle.jn_schedule.specs.declared.Event.TheVariants as events
 use Rattle.jn_world_refines.proofs.Servers.{servers-same, clients-same}
@@ -24,8 +24,7 @@ module _ {S : Type 0} (look : S → StoreView) (device : S → DeviceState) (see
         → IsStepTo look device x m (more ++ drop 1 m.state.tasks) (record w { net = record w.net { sent = with_delivered k w.net.sent } }) lines (lines ++ lines_at (when_of m.state) (says.Lost k ∷ []))
     lost-step place s at is more next lines = silent-step look device seen x w m stand (events.Deliver k) more next (Server q) (Deliver k (room (no-chance look device seen x w m stand) q))
         (ap (delivered (no-chance look device seen x w m stand) k v) (is-sent look device seen x w m stand k one posted (Server q) to) ∙ ap (delivered_at (no-chance look device seen x w m stand) k q) (down-is q place s at is)) tt
-        (λ r n. ap (λ (o : Option Sent). left_by_sent v r (room (no-chance look device seen x w m stand) q) o n) (is-sent look device seen x w m stand k one posted (Server q) to)
-        ∙ lost-quiet v q (room (no-chance look device seen x w m stand) q) one.message (down-is q place s at is) r n)
+        (lost-quiet v q k (room (no-chance look device seen x w m stand) q) one.message (is-sent look device seen x w m stand k one posted (Server q) to) (down-is q place s at is))
         (says.Lost k ∷ []) refl (ap (λ (u : World). u.sent) after-is) (ap (λ (u : World). u.lines) after-is)
         w.places (servers-same look device seen x w m stand _ (record { memory = λ r. ap (λ (u : World). u.memory r) after-is; found = λ r. ap (λ (u : World). u.found r) after-is; devices = λ r. refl }))
         w.clients (clients-same look device seen x w m stand _ (ap (λ (u : World). u.clients) after-is)) (with_delivered k w.net.sent) refl lines

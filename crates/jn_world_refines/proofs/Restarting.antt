@@ -1,5 +1,5 @@
 -- A server comes up, or is stopped while it does.
-use Rattle.jn_world_refines.proofs.Common.{◌≡◌, ◌<◌, ℕ, ◌+◌, Bool, true, false, not, List, [], ◌∷◌, ◌++◌, append-nil, drop, length, map, slice_get, slice_set, Option, Some, None, is_some, refl, sym, ◌∙◌, ap, subst, arith, ◌||◌, if◌then◌else◌, nat_eq, fun_ext, nat_tests, ServerNo, Tid, WorkId, Outside, tid_eq, work_eq, DeviceState, powered_off, found_on, with_epoch, Place, Slot, Up, Down, IsTried, IsUpAt, texts_of_step, World, Memory, commits_in, has_line, restored, named_now, Restart, AreNames, tid_before, restart, restart_with, counts_by, Line, Text, StableState, Pick, Parts, go_on, pairs_view, StoreView, Setup, Chance, Deed, recovered, last_epoch, is_used_up, IsRecovery, rubbish_on, Moment, lines_at, when_of, names_told, HasCounts, Standing, StandsAt, Stands, with_named, IsStepTo, left_by_restart, left_by_step, Counts, Recovered, Left}
+use Rattle.jn_world_refines.proofs.Common.{◌≡◌, ◌<◌, ℕ, ◌+◌, Bool, true, false, not, List, [], ◌∷◌, ◌++◌, append-nil, drop, length, map, slice_get, slice_set, Option, Some, None, is_some, is_none, refl, sym, ◌∙◌, ap, subst, arith, ◌||◌, ◌&&◌, if◌then◌else◌, nat_eq, fun_ext, nat_tests, ServerNo, Tid, WorkId, Outside, tid_eq, work_eq, DeviceState, powered_off, found_on, with_epoch, Place, Slot, Up, Down, IsTried, IsUpAt, texts_of_step, World, Memory, commits_in, has_line, restored, named_now, Restart, AreNames, tid_before, restart, restart_with, counts_by, Line, Text, StableState, Pick, Parts, go_on, pairs_view, StoreView, Setup, Chance, Deed, recovered, last_epoch, is_used_up, IsRecovery, rubbish_on, Moment, lines_at, when_of, names_told, HasCounts, Standing, StandsAt, Stands, with_named, IsStepTo, left_by_step, Counts, Recovered, Left}
 use Rattle.jn_page_state.specs.Puts.{IsFrontClean, IsFrontWhole}
 use Rattle.jn_locks.specs.Locks.{work_before}
 use Rattle.jn_report.specs.declared.line.Text.TheVariants as says
@@ -98,7 +98,7 @@ module _ {S : Type 0} (look : S → StoreView) (device : S → DeviceState) (see
               (λ e quiet. subst (λ (v : StoreView). IsFrontWhole (x.counts q) v) now-is (subst (λ (g : Counts). IsFrontWhole g (look p.storage.0)) (sym its-counts) (up.front_whole (ap (λ (d : DeviceState). d.waiting) (sym here.2) ∙ quiet)))));
           others = λ r o. device-there look device x w m stand seen q place at (device p.storage.0) r o;
         })
-        (λ r o n. ap (λ (b : Bool). if b then left_by_restart (world.memory r) n else n) o)
+        (λ r o n. ap (λ (b : Bool). if b && is_none (world.memory r) then 0 else n) o)
         (leaves-from look world q (Restart q up.pick up.works tids ∷ []) place.slot (Down s) (Up p) is none-left)
         lines lines' (lines-are ∙ ap (λ (ts : List Text). lines ++ lines_at (when_of m.state) (texts_of_step q told true) ++ lines_at (when_of m.state) (says.Up q epoch ∷ ts)) names-are
         ∙ lines-in-two (when_of m.state) lines (texts_of_step q told true) own ∙ ap (λ (ts : List Text). lines ++ lines_at (when_of m.state) ts) (texts own)))
@@ -108,7 +108,7 @@ module _ {S : Type 0} (look : S → StoreView) (device : S → DeviceState) (see
 
         none-left : (n : ℕ) → counted look p ≡ left_by_step world q (Restart q up.pick up.works tids) n
         none-left n = ap (λ (names : List WorkId). length names) up.clean
-            ∙ sym (ap (λ (b : Bool). if b then left_by_restart (world.memory q) n else n) (same-server q) ∙ ap (λ (o : Option Memory). left_by_restart o n) here.0)
+            ∙ sym (ap (λ (b : Bool). if b && is_none (world.memory q) then 0 else n) (same-server q) ∙ ap (λ (o : Option Memory). if is_none o then 0 else n) here.0)
 
         texts : (more : List Text) → texts_of_step q told true ++ more ≡ map (λ (fault : Outside). says.Outside q fault) told ++ more ++ []
         texts more = ap (λ (ts : List Text). ts ++ more) (append-nil (map (λ (fault : Outside). says.Outside q fault) told)) ∙ sym (append-nil (map (λ (fault : Outside). says.Outside q fault) told ++ more))

@@ -1,5 +1,5 @@
 -- Background steps of servers that are up.
-use Rattle.jn_world_refines.proofs.Common.{◌≡◌, ℕ, Bool, true, false, List, [], ◌∷◌, ◌++◌, length, slice_get, slice_set, drop, Option, Some, None, is_some, refl, sym, ◌∙◌, ap, subst, ◌+◌, ◌-◌, arith, ◌||◌, if◌then◌else◌, ServerNo, Outside, DeviceState, Collected, Place, Slot, Up, Down, Gone, has_work_at, work_of, WorkedBy, WhereUp, WorkLeaves, Room, server_step, storage_of, of_step, of_worker, IsStep, after, ends, work, works, World, Memory, counts_by, Line, delivered_by, RowOutcome, quiet_row, StableState, Change, Pick, stable, Parts, view_with, memory_of, room_of, ServerView, working, has_going, state, pairs_view, StoreView, Setup, served, nothing, is_busy, is_busy_with, working_steps, worked, rubbish_on, Moment, lines_at, Task, when_of, Standing, StandsAt, Stands, texts_sent, with_answer, HasCounts, ReadsPages, ActsNext, IsStepTo, left_by_changes, left_by_work, left_at_work, left_by_step, WorkEntry, going_work, going_row, carried_row, intentions_of, server_eq, step_calls, Left}
+use Rattle.jn_world_refines.proofs.Common.{◌≡◌, ℕ, Bool, true, false, List, [], ◌∷◌, ◌++◌, length, slice_get, slice_set, drop, Option, Some, None, is_some, refl, sym, ◌∙◌, ap, subst, ◌+◌, ◌-◌, arith, ◌||◌, if◌then◌else◌, ServerNo, Outside, DeviceState, Collected, Place, Slot, Up, Down, Gone, has_work_at, work_of, WorkedBy, WhereUp, WorkLeaves, Room, server_step, storage_of, of_step, of_worker, IsStep, after, ends, work, works, World, Memory, counts_by, Line, delivered_by, RowOutcome, quiet_row, StableState, Change, Pick, stable, Parts, view_with, memory_of, room_of, ServerView, working, has_going, state, pairs_view, StoreView, Setup, served, nothing, is_busy, is_busy_with, working_steps, worked, rubbish_on, Moment, lines_at, Task, when_of, Standing, StandsAt, Stands, texts_sent, with_answer, HasCounts, ReadsPages, ActsNext, IsStepTo, left_by_row, left_by_step, WorkEntry, going_work, going_row, carried_row, intentions_of, server_eq, step_calls, Left, left_with, left-work, left_over}
 use Rattle.jn_server.specs.Handling.{StepLeaves}
 use Rattle.jn_system.specs.WholeSystem.Steps.{Work}
 use Rattle.jn_system.proofs.WholeSystem.BusyServers.{goes, erases, nothing as none-to-do}
@@ -10,7 +10,6 @@ use Rattle.jn_world_refines.proofs.Plain.{no-chance, nothing-step}
 use Rattle.jn_world_refines.proofs.Losing.{down-is}
 use Rattle.jn_world_refines.proofs.Left.{AreQuiet, Leaves, counted, leaves-by}
 use Rattle.jn_records.specs.declared.intention.Intention.{Intention}
-use Rattle.jn_worker.specs.Leaving.{left_over}
 
 -- a server has a background step exactly where a work of its goes or a rubbish record is left
 busy-is : (a : Memory) (y : StableState) (its : Room) → is_some (server_step a y its) ≡ (has_going y (Some a) || its.rubbish)
@@ -112,20 +111,19 @@ module _ {S : Type 0} (look : S → StoreView) (device : S → DeviceState) (see
         delivers (Some made) = refl
 
         quiet : (stop : Option (Pick → Left)) (s : ServerNo) → server_eq q s ≡ false → AreQuiet v (working q its stop ∷ []) s
-        quiet None s e n = ap (λ (b : Bool). if b then left_at_work (stable (v.found s)) (v.memory s) its n else n) e
+        quiet None s e n = left-work v s q its false e (v.memory s) refl n
         quiet (Some made) s e n = refl
 
     -- the records that the step leaves are those that the machine's leaves
-    works-leave : (n : ℕ) → left_by_step v q (Work q (room_of (view_with look p).storage)) n ≡ left_by_changes (state (view_with look p).storage) row.changes n
-    works-leave n = ap (λ (b : Bool). if b then left_at_work (stable (v.found q)) (v.memory q) its n else n) (same-server q)
-        ∙ ap (λ (o : Option Memory). left_at_work (stable (v.found q)) o its n) (let stands = here look device seen x w m stand q place at p is reads in stands.0)
-        ∙ ap (λ (f : Pick → StableState). left_by_work (stable f) (server_step (memory_of (view_with look p)) (stable f) its) n) (let stands = here look device seen x w m stand q place at p is reads in stands.1)
-        ∙ ap (λ (o : Option (RowOutcome Memory)). left_by_work (state (view_with look p).storage) o n) row-is
+    works-leave : (n : ℕ) → left_by_step v q (Work q (room_of (view_with look p).storage)) n ≡ left_by_row (Work q (room_of (view_with look p).storage)) (state (view_with look p).storage) row.changes n
+    works-leave n = left-work v q q its true (same-server q) (Some (memory_of (view_with look p))) (let stands = here look device seen x w m stand q place at p is reads in stands.0) n
+        ∙ ap (λ (f : Pick → StableState). left_with (Work q its) (stable f) (server_step (memory_of (view_with look p)) (stable f) its) n) (let stands = here look device seen x w m stand q place at p is reads in stands.1)
+        ∙ ap (λ (o : Option (RowOutcome Memory)). left_with (Work q its) (state (view_with look p).storage) o n) row-is
       where
         its : Room
         its = room_of (view_with look p).storage
 
-    leaves-so : (b : ServerView) → WorkLeaves (view_with look p) b → length b.storage.accounts.rubbish ≡ left_by_changes (state (view_with look p).storage) row.changes (counted look p)
+    leaves-so : (b : ServerView) → WorkLeaves (view_with look p) b → length b.storage.accounts.rubbish ≡ left_by_row (Work q (room_of (view_with look p).storage)) (state (view_with look p).storage) row.changes (counted look p)
     leaves-so b h = by row.changes refl
       where
         its : StepLeaves (view_with look p) row b
@@ -134,7 +132,7 @@ module _ {S : Type 0} (look : S → StoreView) (device : S → DeviceState) (see
         less : (m n : ℕ) → m + 1 ≡ n → m ≡ n - 1
         less m n e = omega (arith, e)
 
-        by : (changes : List Change) → row.changes ≡ changes → length b.storage.accounts.rubbish ≡ left_by_changes (state (view_with look p).storage) changes (counted look p)
+        by : (changes : List Change) → row.changes ≡ changes → length b.storage.accounts.rubbish ≡ left_by_row (Work q (room_of (view_with look p).storage)) (state (view_with look p).storage) changes (counted look p)
         by [] e = let one = its.0 e in less _ _ one.rubbish_less
         by (c ∷ cs) e = its.1 c (e ∙ ap (λ (l : List Change). c ∷ l) (one-change (memory_of (view_with look p)) (state (view_with look p).storage) (room_of (view_with look p).storage) row c cs row-is e))
             ∙ ap (λ (l : List Change). counted look p + left_over (state (view_with look p).storage) l) e

@@ -1,7 +1,6 @@
 -- What the code reports of what a server shows.
-use Rattle.std.specs.Prelude.{ℕ, zero, suc, ◌+◌, List, [], ◌∷◌, map, Option, Some, None}
+use Rattle.std.specs.Prelude.{List, [], map, Option, Some, None}
 use Rattle.jn_base.specs.declared.names.ServerNo.{ServerNo}
-use Rattle.jn_base.specs.declared.names.BlockNo.{BlockNo}
 use Rattle.jn_report.specs.declared.line.Text.{Text}
 use Rattle.jn_system.specs.WholeSystem.PrintedLines.{text_printed}
 use Rattle.jn_server.specs.declared.show.Shown.{Shown}
@@ -14,8 +13,3 @@ text_shown q shown = text_printed q (print_of shown)
 abbrev pub texts_shown : ServerNo → Option (List Shown) → List Text
 texts_shown q None = []
 texts_shown q (Some list) = map (text_shown q) list
-
--- so many blocks from this number on
-abbrev pub blocks_from : ℕ → ℕ → List BlockNo
-blocks_from p zero = []
-blocks_from p (suc n) = record { 0 = p } ∷ blocks_from (p + 1) n

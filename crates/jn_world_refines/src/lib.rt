@@ -17,7 +17,7 @@ pub use asking::{a_command_is_a_step, a_message_at_a_client_is_a_step};
 pub use ends::{a_report_is_of_a_run, a_run_starts_and_ends_on_its_stores, the_end_begins};
 pub use faults::faults_that_befall_are_steps;
 pub use looks::{a_closing_is_a_step, a_look_is_a_step};
-pub use names::{a_loop_names_what_a_restart_names, a_show_is_printed_block_by_block};
+pub use names::a_loop_names_what_a_restart_names;
 pub use power::{a_crash_is_a_step, a_restart_is_a_step};
 pub use serving::{
     a_background_step_is_a_step, a_message_at_a_server_is_a_step, a_message_that_is_lost_is_a_step,

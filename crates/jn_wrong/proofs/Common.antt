@@ -4,7 +4,7 @@ pub use Rattle.std.proofs.Math.Seq.{drop-append_seam}
 pub use Rattle.jn_report.specs.declared.line.Line.{Line}
 pub use Rattle.jn_rows.specs.Outcomes.{Sent, RowOutcome}
 pub use Rattle.jn_system.specs.WholeSystem.World.{World, Memory, with_epoch, new_memory, has_line, at_server}
-pub use Rattle.std.specs.Prelude.{◌||◌, if◌then◌else◌, nat_lt, nat_eq, ◌&&◌, slice_get, ◌*◌, not, take, filter, ◌^◌, replicate, count_by, map, Ok, Err}
+pub use Rattle.std.specs.Prelude.{◌||◌, if◌then◌else◌, nat_lt, nat_eq, ◌&&◌, slice_get, ◌*◌, not, take, filter, is_none, ◌^◌, replicate, count_by, map, Ok, Err}
 pub use Rattle.jn_base.specs.declared.names.Party.{Party}
 pub use Rattle.jn_report.specs.declared.line.Text.{Text}
 pub use Rattle.jn_system.specs.WholeSystem.Steps.{Step, Restart, tid_before, after, run, IsRun, restart, restart_with, NextEvent, Tell, Again, Nudge, Crash, CloseClients, AreNames, commanded, crash, Deliver, at_memory, handed, handing, StopDelivery, are_rising, Work as Works, working, sent_now}
@@ -72,14 +72,16 @@ pub use Rattle.jn_system.proofs.WholeSystem.StepCases.{FoundThen, by_narrowing, 
 pub use Rattle.jn_base.specs.declared.names.LockUnit.{LockUnit}
 pub use Rattle.jn_system_settling.proofs.Settling.Settling.{on-world}
 pub use Rattle.std.proofs.Math.Path.{fun_ext}
-pub use Rattle.jn_machine.proofs.Telling.{may_tell, is_of_delivery, weaker, Tells, take-tells, noted, noted-with}
-pub use Rattle.jn_report.specs.Kinds.{is_up, is_down, is_stopped, is_outside, is_note, is_answer, is_print as is_printed}
+pub use Rattle.jn_machine.proofs.Telling.{may_tell, is_of_delivery, is_note, weaker, Tells, take-tells, noted, noted-with}
+pub use Rattle.jn_report.specs.Kinds.{is_up, is_down, is_stopped, is_commit, is_outside, is_answer, is_print as is_printed}
 pub use Rattle.jn_machine.proofs.Texts.{More, gone-on, task-texts, Besides}
 pub use Rattle.jn_msgs.specs.declared.message.Message.{Message}
 pub use Rattle.jn_records.specs.declared.net_list.Need.{Need}
 pub use Rattle.jn_sets.specs.Pool.{rubbish_count, free_count, is_free, is_rubbish}
 pub use Rattle.jn_server.specs.Standing.{free_on, is_free_head, promised_heads, has_rubbish, is_free_page}
-pub use Rattle.jn_machine.specs.Rubbish.{AreLeft, AreAllCounted, CountsAll, left_by_row, left_by_message, left_by_sent, rubbish_records, left_by_changes, left_by_work, left_at_work, left_by_restart, left_by_steps, AreCounted}
+pub use Rattle.jn_machine.specs.Rubbish.{AreLeft, AreAllCounted, CountsAll, rubbish_records, left_by_row, left_by_steps, AreCounted}
+pub use Rattle.jn_machine.proofs.LeftBy.{left-sent, left_with, left-work}
+pub use Rattle.jn_worker.specs.Leaving.{left_over}
 pub use Rattle.jn_wrong.specs.Settles.{HandsOver, ComesToRest}
 pub use Rattle.jn_base.specs.declared.names.Cause.{Cause}
 pub use Rattle.jn_base.specs.declared.names.Resource.{Resource}

@@ -1,5 +1,5 @@
 -- A run of one server, step by step, while messages are handed over.
-use Rattle.jn_wrong.proofs.Common.{◌≡◌, ℕ, ◌<◌, Bool, true, false, List, [], ◌∷◌, length, Option, Some, None, is_some, refl, sym, ◌∙◌, ap, subst, arith, if◌then◌else◌, nat_lt, slice_get, ClientNo, Client, Server, DeviceState, Message, Need, Counts, StableState, Pick, stable, RowOutcome, Sent, Text, Memory, World, Room, server_row, Deliver, after, at_memory, handed, handing, run, go_on, course_to, Course, Setup, Chance, Task, Rests, State, next_task, begun, Deed, room, no_room, served, delivered, delivered_at, first_busy, servers_of, next_event, resting, deed_of, most_messages, cut_short, made, done, Moment, Devices, IsServed, Alone, Befalls, pages_of, Calm, called-calm, no-faults, row_calls, s0, rubbish_count, pool_on, free_on, AreLeft, AreAllCounted, CountsAll, left_by_row, left_by_message, left_by_sent, Left}
+use Rattle.jn_wrong.proofs.Common.{◌≡◌, ℕ, ◌+◌, ◌<◌, Bool, true, false, List, [], ◌∷◌, length, Option, Some, None, is_some, refl, sym, ◌∙◌, ap, subst, arith, if◌then◌else◌, nat_lt, slice_get, ClientNo, Client, Server, DeviceState, Message, Need, Counts, StableState, Pick, stable, RowOutcome, Sent, Text, Memory, World, Room, server_row, Deliver, after, at_memory, handed, handing, run, go_on, course_to, Course, Setup, Chance, Task, Rests, State, next_task, begun, Deed, room, no_room, served, delivered, delivered_at, first_busy, servers_of, next_event, resting, deed_of, most_messages, cut_short, made, done, Moment, Devices, IsServed, Alone, Befalls, pages_of, Calm, called-calm, no-faults, row_calls, s0, rubbish_count, pool_on, free_on, AreLeft, AreAllCounted, CountsAll, Left, left-sent, left_over}
 use Rattle.jn_wrong.proofs.StillRuns.{still}
 use Rattle.jn_system.specs.WholeSystem.Steps as steps
 use Rattle.jn_wrong.proofs.Bare.{bare, bare_course, made_of, came_of, bare-made}
@@ -60,7 +60,7 @@ module _ (x : Setup) (one : x.servers ≡ 1) (last : Moment) (over : next_task l
       now = steps.done s0 (Some k) row w
 
       pub hands-one : (P P' : DeviceState → Type 0) → ((d : DeviceState) → P d → IsStill d) → ((d : DeviceState) (r : Bool) → P d → server_row m y (with_room (free_on g (pages_of d) y m) r) message ≡ row) → is_some (now.memory s0) ≡ true
-          → ((d e : DeviceState) → P d → IsStill e → CountsAll g (stable (now.found s0)) (pages_of e) → rubbish_count (pool_on g (pages_of e)) ≡ left_by_row y row (rubbish_count (pool_on g (pages_of d))) → P' e)
+          → ((d e : DeviceState) → P d → IsStill e → CountsAll g (stable (now.found s0)) (pages_of e) → rubbish_count (pool_on g (pages_of e)) ≡ rubbish_count (pool_on g (pages_of d)) + left_over y row.changes → P' e)
           → Stand x last s P → Stand x last (by_row x s k row) P'
       hands-one P P' quiet rows lit becomes h = by (drive x one last over s Rests h.moment h.leads h.state rests')
         where
@@ -111,11 +111,10 @@ module _ (x : Setup) (one : x.servers ≡ 1) (last : Moment) (over : next_task l
                       counted = subst (λ (v : World). CountsAll g (stable (v.found s0)) (pages_of (es s0))) same
                           (subst (λ (o : Option (Pick → Left)). AreAllCounted x (run (handing k (room f s0) o ∷ []) w) es) quietly.stop b.counted s0 first rises)
 
-                      left : rubbish_count (pool_on g (pages_of (es s0))) ≡ left_by_row y row (rubbish_count (pool_on g (pages_of d)))
+                      left : rubbish_count (pool_on g (pages_of (es s0))) ≡ rubbish_count (pool_on g (pages_of d)) + left_over y row.changes
                       left = subst (λ (o : Option (Pick → Left)). AreLeft x (handing k (room f s0) o ∷ []) w h.moment.devices es) quietly.stop b.left s0 first rises
-                          ∙ ap (λ (o : Option Sent). left_by_sent w s0 (room f s0) o (rubbish_count (pool_on g (pages_of d)))) sent
-                          ∙ ap (λ (o : Option Memory). left_by_message y o (room f s0) message (rubbish_count (pool_on g (pages_of d)))) up
-                          ∙ ap (λ (r : RowOutcome Memory). left_by_row y r (rubbish_count (pool_on g (pages_of d)))) row-is
+                          ∙ left-sent w s0 k (room f s0) s0 message sent true refl (Some m) up (rubbish_count (pool_on g (pages_of d)))
+                          ∙ ap (λ (r : RowOutcome Memory). rubbish_count (pool_on g (pages_of d)) + left_over y r.changes) row-is
 
   -- ---- a message to a client
 

@@ -1,6 +1,5 @@
 -- How many rubbish records a step leaves.
-use Rattle.jn_wrong.proofs.Common.{◌≡◌, ◌<◌, ◌+◌, ◌-◌, ℕ, Bool, true, List, [], ◌∷◌, Option, Some, None, true≢false, refl, sym, ◌∙◌, ap, arith, if◌then◌else◌, slice_get, nat_tests, Server, ServerNo, Tid, WorkId, server_eq, Message, RowOutcome, Sent, StableState, Change, AddReady, MarkGoing, CarryOut, RemoveWork, AddFlag, DropFlag, Pick, stable, Room, server_row, server_step, Step, Deliver, Restart, World, Memory, Setup, Moment, DoesStep, steps_in, IsUpBehind, removes_none, rubbish_records, left_by_changes, left_by_work, left_by_message, left_at_work, left_by_restart, left_by_sent, left_by_steps}
-use Rattle.jn_worker.specs.Leaving.{left_over}
+use Rattle.jn_wrong.proofs.Common.{◌≡◌, ◌<◌, ◌+◌, ◌-◌, ℕ, Bool, true, List, [], ◌∷◌, Option, Some, None, is_none, true≢false, refl, sym, ◌∙◌, ap, arith, if◌then◌else◌, ◌&&◌, slice_get, nat_tests, Server, ServerNo, Tid, WorkId, server_eq, Message, RowOutcome, StableState, Change, AddReady, MarkGoing, CarryOut, RemoveWork, AddFlag, DropFlag, Pick, stable, Room, server_row, server_step, Step, Deliver, Restart, World, Memory, Setup, Moment, DoesStep, steps_in, IsUpBehind, removes_none, rubbish_records, left_by_row, left_by_steps, left_with, left-sent, left-work, left_over}
 use Rattle.jn_system.specs.WholeSystem.Steps.{Work}
 
 same-server : (q : ServerNo) → server_eq q q ≡ true
@@ -41,9 +40,7 @@ module _ (x : Setup) (a b : Moment) (d : DoesStep x a b) (q : ServerNo) (there :
   pub by-message : (k : ℕ) (room : Room) (message : Message) (m : Memory) → steps_in x a b d ≡ Deliver k room ∷ [] → slice_get w.sent k ≡ Some (Server q, message)
       → w.memory q ≡ Some m → removes_none (server_row m (stable (w.found q)) room message).changes ≡ true → rubbish_records x b.devices q ≡ old
   by-message k room message m steps sent is none = left-as (Deliver k room ∷ []) steps
-      ∙ ap (λ (o : Option Sent). left_by_sent w q room o old) sent
-      ∙ ap (λ (c : Bool). if c then left_by_message (stable (w.found q)) (w.memory q) room message old else old) (same-server q)
-      ∙ ap (λ (o : Option Memory). left_by_message (stable (w.found q)) o room message old) is
+      ∙ left-sent w q k room q message sent true (same-server q) (Some m) is old
       ∙ ap (λ (n : ℕ). old + n) (none-over (stable (w.found q)) (server_row m (stable (w.found q)) room message).changes none) ∙ no-change old
     where
       no-change : (n : ℕ) → n + 0 ≡ n
@@ -52,15 +49,14 @@ module _ (x : Setup) (a b : Moment) (d : DoesStep x a b) (q : ServerNo) (there :
   pub by-erasure : (room : Room) (m : Memory) (row : RowOutcome Memory) → steps_in x a b d ≡ Work q room ∷ [] → w.memory q ≡ Some m → server_step m (stable (w.found q)) room ≡ Some row → row.changes ≡ []
       → rubbish_records x b.devices q ≡ old - 1
   by-erasure room m row steps is row-is none = left-as (Work q room ∷ []) steps
-      ∙ ap (λ (c : Bool). if c then left_at_work (stable (w.found q)) (w.memory q) room old else old) (same-server q)
-      ∙ ap (λ (o : Option Memory). left_at_work (stable (w.found q)) o room old) is
-      ∙ ap (λ (o : Option (RowOutcome Memory)). left_by_work (stable (w.found q)) o old) row-is
-      ∙ ap (λ (changes : List Change). left_by_changes (stable (w.found q)) changes old) none
+      ∙ left-work w q q room true (same-server q) (Some m) is old
+      ∙ ap (λ (o : Option (RowOutcome Memory)). left_with (Work q room) (stable (w.found q)) o old) row-is
+      ∙ ap (λ (changes : List Change). left_by_row (Work q room) (stable (w.found q)) changes old) none
 
   pub by-restart : (pick : Pick) (works : List WorkId) (tids : List Tid) → steps_in x a b d ≡ Restart q pick works tids ∷ [] → w.memory q ≡ None → rubbish_records x b.devices q ≡ 0
   by-restart pick works tids steps down = left-as (Restart q pick works tids ∷ []) steps
-      ∙ ap (λ (c : Bool). if c then left_by_restart (w.memory q) old else old) (same-server q)
-      ∙ ap (λ (o : Option Memory). left_by_restart o old) down
+      ∙ ap (λ (c : Bool). if c && is_none (w.memory q) then 0 else old) (same-server q)
+      ∙ ap (λ (o : Option Memory). if is_none o then 0 else old) down
 
   pub by-nothing : steps_in x a b d ≡ [] → rubbish_records x b.devices q ≡ old
   by-nothing steps = left-as [] steps

@@ -1,5 +1,5 @@
-//! What a server says of scripts: each message of a worker's and of a coordinator's table, and what is prepared, waits or is short
-//! of room.
+//! What a server says of scripts: each message of a worker's and of a coordinator's table, what is prepared, waits or is short of
+//! room, and what is shown of blocks that are stored or held.
 
 use super::plays::{Play, check, play_of};
 use std::test::Fail;
@@ -226,7 +226,39 @@ prepare 1.5.3 3 0.1.2 | > s1 vote 1.5.3 0.1.2 full 31 2 3
 do 3 0.1.0 3 read 8 0 | > c3 answer c3 9 absent
 do 3 0.1.1 3 read 8 0 | > c3 answer c3 9 absent";
 
-/// The tables' messages; what each preparation needs, what is told where one kind is short, and what stands in its way.
+/// File 7 has its first block and its last one, and file 9 has none.
+const APART: &str = "\
+open 3 1.5.1 | > c3 opened c3 9 1.5.1 0.1.0
+do 3 0.1.0 1 create 9 | > c3 answer c3 9 did
+do 3 0.1.0 2 create 7 | > c3 answer c3 9 did
+do 3 0.1.0 3 nines 7 119 | > c3 answer c3 9 did
+do 3 0.1.0 4 nines 7 0 | > c3 answer c3 9 did
+prepare 1.5.1 3 0.1.0 | > s1 vote 1.5.1 0.1.0 ready
+show | locked 7 1.5.1 locked 9 1.5.1
+commit 1.5.1 0.1.0 |
+step |
+step |
+step |
+step |
+step | > s1 done 1.5.1 0.1.0
+show | file 7 page 7/0 nines page 7/119 nines file 9";
+
+/// Of two blocks that are to be written, one lies between those of file 7, and one is the only one of file 9. They are locked from the
+/// preparation on, and stored once the work is carried out.
+const BETWEEN: &str = "\
+open 3 1.5.2 | > c3 opened c3 9 1.5.2 0.1.1
+do 3 0.1.1 1 nines 7 5 | > c3 answer c3 9 did
+do 3 0.1.1 2 nines 9 118 | > c3 answer c3 9 did
+show | file 7 page 7/0 nines page 7/119 nines file 9
+prepare 1.5.2 3 0.1.1 | > s1 vote 1.5.2 0.1.1 ready
+show | file 7 page 7/0 nines locked 7/5 1.5.2 page 7/119 nines file 9 locked 9/118 1.5.2
+commit 1.5.2 0.1.1 |
+step |
+step |
+step | > s1 done 1.5.2 0.1.1
+show | file 7 page 7/0 nines page 7/5 nines page 7/119 nines file 9 page 9/118 nines";
+
+/// The tables' messages; what each preparation needs, what is reported where one kind is short, and what stands in its way; what is shown.
 fn nth_play(n: u32) -> Option<Play> {
     match n {
         0 => play_of((8, 2, 4), IDLE, COMMITS, ""),
@@ -243,6 +275,7 @@ fn nth_play(n: u32) -> Option<Play> {
         11 => play_of((4, 1, 1), NEEDS, READER_IS_READY, WAITS),
         12 => play_of((3, 2, 0), IN_THE_WAY, BREAK, ""),
         13 => play_of((2, 2, 0), IN_THE_WAY, STAY, ""),
+        14 => play_of((8, 2, 4), APART, BETWEEN, ""),
         _ => None,
     }
 }

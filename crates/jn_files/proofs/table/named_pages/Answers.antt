@@ -1,4 +1,4 @@
-use Rattle.jn_files.proofs.Common.{◌≡◌, ◌<◌, sym, ◌∙◌, subst, true, ℕ, get_or_read, Head, Free, head_in, IsHeadOf, Marks}
+use Rattle.jn_files.proofs.Common.{head_blocks, ◌≡◌, ◌<◌, sym, ◌∙◌, subst, true, ℕ, get_or_read, Head, Free, head_in, IsHeadOf, Marks}
 use Rattle.jn_files.proofs.Naming.{names_more, pages_below}
 use Rattle.jn_files.proofs.table.named_pages.Goals as goal
 
@@ -13,5 +13,5 @@ loop-head-preserved c =
     record {
       so_many = c.mark.ensures.count ∙ c.loop-head.invariant.so_many;
       before = names_more c.args.leaves c.args.slots.now c.requires c.loop-head.head-index c.loop-head.named.items c.mark.new.flags.items c.loop-head.invariant.so_many c.loop-head.invariant.before
-          (subst (λ (h : Head). Marks h true 0 120 c.loop-head.named.items c.mark.new.flags.items) at c.mark.ensures);
+          (subst (λ (h : Head). Marks h true 0 head_blocks c.loop-head.named.items c.mark.new.flags.items) at c.mark.ensures);
     }

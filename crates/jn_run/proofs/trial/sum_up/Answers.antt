@@ -15,14 +15,14 @@ returns-in_err-run_drawn c = record {
   told = λ kept.
       let b = opened-so look device (λ s. refl) trial_options kept c.in_ok-stores.stores.items c.in_ok-stores.ensures.count c.in_ok-stores.ensures.new in
       let p = err_from_is_err_and c.from_residual-in_err-run_drawn.result c.from_residual-in_err-run_drawn.ensures.1 in
-      fault-told device c.args.trial.now kept c.in_ok-stores.stores.items b c.new-drawn.result c.new-drawn.ensures (λ (left : Vec MemDisk Global). AreLeft device b.setup left.items) c.run_drawn.result c.new-summary.result c.run_drawn.new.output
-      (c.run_drawn.ensures.ran b.setup b.files b.epochs b.images b.stores_are b.opens.trace b.are_images) c.from_residual-in_err-run_drawn.result p.0 (c.in_err-run_drawn.was ∙ ap (λ e. Err e) (sym p.2)) p.1;
+      fault-told device c.args.trial.now kept c.in_ok-stores.stores.items b c.new-drawn.result c.new-drawn.ensures (λ (left : Vec MemDisk Global). AreLeft device b.opens.setup left.items) c.run_drawn.result c.new-summary.result c.run_drawn.new.output
+      (c.run_drawn.ensures.ran b.opens.setup b.opens.files b.epochs b.opens.images b.stores_are b.opens.trace b.are_images) c.from_residual-in_err-run_drawn.result p.0 (c.in_err-run_drawn.was ∙ ap (λ e. Err e) (sym p.2)) p.1;
 }
 
 pub returns : goal.returns
 returns c = record {
   told = λ kept.
       let b = opened-so look device (λ s. refl) trial_options kept c.in_ok-stores.stores.items c.in_ok-stores.ensures.count c.in_ok-stores.ensures.new in
-      sum-told device c.args.trial.now kept c.in_ok-stores.stores.items b c.new-drawn.result c.new-drawn.ensures (λ (left : Vec MemDisk Global). AreLeft device b.setup left.items) c.run_drawn.result c.new-summary.result c.run_drawn.new.output
-      (c.run_drawn.ensures.ran b.setup b.files b.epochs b.images b.stores_are b.opens.trace b.are_images) c.in_ok-run_drawn.field-0 c.in_ok-run_drawn.was c.new-summary.ensures c.in_ok-text.field-0 c.in_ok-text.ensures;
+      sum-told device c.args.trial.now kept c.in_ok-stores.stores.items b c.new-drawn.result c.new-drawn.ensures (λ (left : Vec MemDisk Global). AreLeft device b.opens.setup left.items) c.run_drawn.result c.new-summary.result c.run_drawn.new.output
+      (c.run_drawn.ensures.ran b.opens.setup b.opens.files b.epochs b.opens.images b.stores_are b.opens.trace b.are_images) c.in_ok-run_drawn.field-0 c.in_ok-run_drawn.was c.new-summary.ensures c.in_ok-text.field-0 c.in_ok-text.ensures;
 }

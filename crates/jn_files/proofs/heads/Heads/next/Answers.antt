@@ -1,5 +1,4 @@
-use Rattle.jn_files.proofs.Common.{◌≡◌, ℕ, sym, subst, false, List, Option, None, Some, FileNo, IsNumberAbove, number_at, Head, NextFile}
-use Rattle.jn_index.specs.Numbers.{is_above}
+use Rattle.jn_files.proofs.Common.{◌≡◌, ℕ, sym, subst, false, List, Option, None, Some, FileNo, IsNumberAbove, number_at, Head, NextFile, is_number_above}
 use Rattle.jn_files.proofs.Finding.{next_found, next_none}
 use Rattle.jn_files.proofs.heads.Heads.next.Goals as goal
 
@@ -8,7 +7,7 @@ returns-in_err-number_above c =
     let files = c.self.inside.files in
     subst (λ (x : Option FileNo). NextFile c.args.self.now c.args.after x) (sym c.from_residual.ensures) (subst (λ (l : List Head). NextFile l c.args.after None) c.self.view_is
     (next_none files c.self.inside.slots.items c.self.invariant c.args.after
-    (subst (λ (after : Option ℕ). (slot n : ℕ) → number_at files slot ≡ Some n → is_above after n ≡ false) c.number_of.ensures c.in_err-number_above.ensures.none)))
+    (subst (λ (after : Option ℕ). (slot n : ℕ) → number_at files slot ≡ Some n → is_number_above after n ≡ false) c.number_of.ensures c.in_err-number_above.ensures.none)))
 
 pub returns : goal.returns
 returns c =

@@ -1,4 +1,4 @@
-use Rattle.jn_files.proofs.Common.{◌≡◌, inl, true, sym, subst, ap, ◌∙◌, is_ok, cut_from, Head, Used, TableView, IsTable, head_in, is_of, addresses_of, cut_addresses, cut_head, IsPlaceOf, MayStand, ChangesBlocks}
+use Rattle.jn_files.proofs.Common.{head_blocks, ◌≡◌, inl, true, sym, subst, ap, ◌∙◌, is_ok, cut_from, Head, Used, TableView, IsTable, head_in, is_of, addresses_of, cut_addresses, cut_head, IsPlaceOf, MayStand, ChangesBlocks}
 use Rattle.jn_files.proofs.Lookup.{of_used}
 use Rattle.jn_files.proofs.Setting.{cut_changes_blocks, cut_stands, cut_leaves, cut_changes, sets_head}
 use Rattle.jn_files.proofs.table.FileTable.set_cut.Goals as goal
@@ -22,7 +22,7 @@ put_head-requires-clause-blocks g c =
     let xs = addresses_of (head_in c.args.self.now.heads c.in-Some.slot) in
     let was = of_used c.args.f (head_in c.args.self.now.heads c.in-Some.slot) own in
     let read = c.slot.ensures ∙ ap (λ (x : TableView). head_in x.heads c.in-Some.slot) c.self.view_is in
-    subst (λ (h : Head). ChangesBlocks (head_in c.args.self.now.heads c.in-Some.slot) h c.args.n.0 120) (sym (c.cut-head.ensures ∙ ap (cut_head c.args.n.0) (read ∙ was)))
+    subst (λ (h : Head). ChangesBlocks (head_in c.args.self.now.heads c.in-Some.slot) h c.args.n.0 head_blocks) (sym (c.cut-head.ensures ∙ ap (cut_head c.args.n.0) (read ∙ was)))
     (cut_changes_blocks (head_in c.args.self.now.heads c.in-Some.slot) c.args.f xs c.args.n.0 c.requires.range was)
 
 pub returns : goal.returns

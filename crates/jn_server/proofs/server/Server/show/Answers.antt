@@ -1,6 +1,6 @@
-use Rattle.jn_server.proofs.Common.{◌+◌, arith, rules, StoreView, number_after, ServerView, view_with, ◌<◌, ◌^◌}
+use Rattle.jn_server.proofs.Common.{◌+◌, arith, rules, StoreView, ServerView, view_with, ◌<◌, ◌^◌, FileNo, number_after}
 use Rattle.jn_server.proofs.Pieces.{is_of_lesser}
-use Rattle.jn_server.proofs.Shows.{told-nothing, told-more, told-cut, shown-cut, shown-whole, none-past}
+use Rattle.jn_server.proofs.Shows.{told-nothing, told-more, told-cut, shown-cut, shown-whole}
 use Rattle.jn_server.proofs.server.Server.show.Goals as goal
 
 pub loop-file-init : goal.loop-file-init
@@ -13,7 +13,7 @@ pub loop-file-preserved : goal.loop-file-preserved
 loop-file-preserved g c =
     let look : g.row.S.Denot → StoreView = λ s. g.S.StableStore.view s in
     let v : ServerView = view_with look c.args.self.now in
-    told-more v (number_after c.loop-file.after) (view_with look c.loop-file.self) c.loop-file.list.items c.loop-file.invariant c.in-Some.file c.in-Some.ensures (view_with look c.show_file.new.self) c.show_file.new.list.items c.in_ok-show_file.ensures.shown
+    told-more v (number_after (λ (f : FileNo). f.0) c.loop-file.after) (view_with look c.loop-file.self) c.loop-file.list.items c.loop-file.invariant c.in-Some.file c.in-Some.ensures (view_with look c.show_file.new.self) c.show_file.new.list.items c.in_ok-show_file.ensures.shown
 
 pub loop-file-smaller : goal.loop-file-smaller
 loop-file-smaller g c = let from = c.in-Some.ensures.from_there in let k : c.in-Some.file.0 < 2 ^ 32 = search rules in omega (arith, from, k)
@@ -24,7 +24,7 @@ returns g c =
     let v : ServerView = view_with look c.args.self.now in
     let w : ServerView = view_with look c.loop-file.self in
     record {
-      shown = shown-whole v c.requires.serves (none-past c.args.self.now.storage.1 (look c.args.self.now.storage.0)) (number_after c.loop-file.after) w c.loop-file.list.items c.loop-file.invariant c.in_default.ensures;
+      shown = shown-whole v c.requires.serves (number_after (λ (f : FileNo). f.0) c.loop-file.after) w c.loop-file.list.items c.loop-file.invariant c.in_default.ensures;
       cut_short = tt;
     }
 
@@ -32,7 +32,7 @@ pub returns-in_err-show_file-clause-cut_short : goal.returns-in_err-show_file-cl
 returns-in_err-show_file-clause-cut_short g c =
     let look : g.row.S.Denot → StoreView = λ s. g.S.StableStore.view s in
     let v : ServerView = view_with look c.args.self.now in
-    let n = number_after c.loop-file.after in
+    let n = number_after (λ (f : FileNo). f.0) c.loop-file.after in
     let w : ServerView = view_with look c.loop-file.self in
     let x : ServerView = view_with look c.show_file.new.self in
     let f = c.in-Some.file in

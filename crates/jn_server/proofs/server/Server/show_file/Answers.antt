@@ -1,4 +1,4 @@
-use Rattle.jn_server.proofs.Common.{sym, ◌∙◌, StoreView, is_of_first, to_print, prints_of_file, TellsPiece, ServerView, view_with}
+use Rattle.jn_server.proofs.Common.{sym, ◌∙◌, StoreView, ServerView, view_with, is_of, TellsFile}
 use Rattle.jn_server.proofs.Pieces.{no-memory, no-show}
 use Rattle.jn_server.proofs.Shows.{tells-locked-file}
 use Rattle.jn_server.proofs.server.Server.show_file.Goals as goal
@@ -18,6 +18,6 @@ returns-in_err-tell g c =
     let v : ServerView = view_with look c.args.self.now in
     let f = c.args.file in
     record {
-      shown = no-show (TellsPiece (is_of_first f 120) v c.args.list.now.items (prints_of_file (to_print v) f) v c.tell.new.list.items) c.from_residual.result c.from_residual.ensures.0;
-      cut = no-memory (is_of_first f 120) v v c.from_residual.result c.from_residual.ensures.0 c.from_residual.ensures.1;
+      shown = no-show (TellsFile v f c.args.list.now.items v c.tell.new.list.items) c.from_residual.result c.from_residual.ensures.0;
+      cut = no-memory (is_of f) v v c.from_residual.result c.from_residual.ensures.0 c.from_residual.ensures.1;
     }

@@ -1,6 +1,13 @@
-use Rattle.jn_server.proofs.Common.{Some, sym, ◌∙◌, Block, StoreView, is_at, to_print, TellsPiece, ServerView, view_with, print_one}
-use Rattle.jn_server.proofs.Pieces.{ok-with, not-ok, tells-page, tells-unstored, read-cut, no-memory, no-show}
+use Rattle.jn_server.proofs.Common.{Some, Block, StoreView, is_at, to_print, TellsPiece, ServerView, view_with, print_one}
+use Rattle.jn_server.proofs.Pieces.{ok-with, not-ok, tells-page, read-cut, no-memory, no-show}
 use Rattle.jn_server.proofs.server.Server.show_page.Goals as goal
+use Rattle.jn_server.proofs.Shows.{stored-below, stored-there}
+
+pub read-requires-clause-range : goal.read-requires-clause-range
+read-requires-clause-range g c =
+    let look : g.row.S.Denot → StoreView = λ s. g.S.StableStore.view s in
+    let v : ServerView = view_with look c.args.self.now in
+    stored-below c.args.self.now.storage.1 (look c.args.self.now.storage.0) c.args.file c.args.block (stored-there v c.args.file c.args.block c.requires.there c.requires.free)
 
 pub returns : goal.returns
 returns g c =
@@ -10,15 +17,6 @@ returns g c =
     record {
       shown = tells-page v w c.requires.serves c.args.file c.args.block c.read.result c.read.ensures.read c.read.ensures.unasked c.read.ensures.tables c.in-Some.bytes
           (ok-with c.read.result c.in_ok-bytes.field-0 (Some c.in-Some.bytes) c.in_ok-bytes.was c.in-Some.is) c.requires.free c.args.list.now.items c.tell_page.new.list.items c.in_ok-tell_page.ensures;
-      cut = tt;
-    }
-
-pub returns-then-not-is_stored : goal.returns-then-not-is_stored
-returns-then-not-is_stored g c =
-    let look : g.row.S.Denot → StoreView = λ s. g.S.StableStore.view s in
-    let v : ServerView = view_with look c.args.self.now in
-    record {
-      shown = tells-unstored v c.requires.serves c.args.file c.args.block (sym c.is_stored.ensures ∙ c.if-not-is_stored.true) c.requires.free c.args.list.now.items;
       cut = tt;
     }
 

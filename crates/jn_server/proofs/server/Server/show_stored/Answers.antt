@@ -1,4 +1,4 @@
-use Rattle.jn_server.proofs.Common.{StoreView, is_of_first, to_print, prints_of_blocks, prints_of_file, TellsPiece, ServerView, view_with}
+use Rattle.jn_server.proofs.Common.{StoreView, ServerView, view_with, is_of, TellsBlocks, TellsFile}
 use Rattle.jn_server.proofs.Pieces.{no-memory, no-show, on-ok}
 use Rattle.jn_server.proofs.Shows.{tells-file}
 use Rattle.jn_server.proofs.server.Server.show_stored.Goals as goal
@@ -13,7 +13,7 @@ returns g c =
     let mid = c.tell.new.list.items in
     let new = c.show_blocks.new.list.items in
     record {
-      shown = on-ok (TellsPiece (is_of_first f 120) v mid (prints_of_blocks (to_print v) f 120) w new) (TellsPiece (is_of_first f 120) v old (prints_of_file (to_print v) f) w new) c.show_blocks.result c.show_blocks.ensures.shown
+      shown = on-ok (TellsBlocks v f mid w new) (TellsFile v f old w new) c.show_blocks.result c.show_blocks.ensures.shown
           (λ h. tells-file v f c.requires.free c.requires.there old mid c.in_ok-tell.ensures w new h);
       cut = c.show_blocks.ensures.cut;
     }
@@ -24,6 +24,6 @@ returns-in_err-tell g c =
     let v : ServerView = view_with look c.args.self.now in
     let f = c.args.file in
     record {
-      shown = no-show (TellsPiece (is_of_first f 120) v c.args.list.now.items (prints_of_file (to_print v) f) v c.tell.new.list.items) c.from_residual.result c.from_residual.ensures.0;
-      cut = no-memory (is_of_first f 120) v v c.from_residual.result c.from_residual.ensures.0 c.from_residual.ensures.1;
+      shown = no-show (TellsFile v f c.args.list.now.items v c.tell.new.list.items) c.from_residual.result c.from_residual.ensures.0;
+      cut = no-memory (is_of f) v v c.from_residual.result c.from_residual.ensures.0 c.from_residual.ensures.1;
     }

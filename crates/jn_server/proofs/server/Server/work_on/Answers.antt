@@ -1,5 +1,4 @@
 use Rattle.jn_server.proofs.Common.{arith, refl, subst, sym, view_of, seen, worker_row, of_worker, worker-aside, Parts, view_with, memory_of, IsServer, IsDone, Does, LeavesRubbish, row_calls, prepare_calls}
-use Rattle.jn_server.proofs.Ranges.{row-in-range}
 use Rattle.jn_server.proofs.Working.{worked, works-leave, worker_failed}
 use Rattle.jn_server.proofs.server.Server.work_on.Goals as goal
 
@@ -12,7 +11,7 @@ returns-clause-does g c =
     let message = c.args.message.now in
     subst (λ (s : Parts g.row.S.Denot). IsDone row_calls (of_worker (memory_of (view_with look s)) (worker_row s.worker.table (seen (view_of s.storage.1 (look s.storage.0))) s.tickets message)) (view_with look s) c.args.out.now
     (view_with look (record { storage = c.handle.new.store; worker = c.handle.new.self; coordinator = c.self.inside.coordinator; tickets = c.handle.new.tickets })) c.handle.new.out) c.self.view_is
-    (worked prepare_calls row_calls (omega arith) v serves (worker_row v.worker.table (seen v.storage) v.tickets message) (worker-aside v.worker.table (seen v.storage) v.tickets message) (row-in-range v.worker.table serves.ranges (seen v.storage) v.tickets message c.requires.taken.in_range)
+    (worked prepare_calls row_calls (omega arith) v serves (worker_row v.worker.table (seen v.storage) v.tickets message) (worker-aside v.worker.table (seen v.storage) v.tickets message)
     _ _ _ _ _ c.in_ok-handle.field-0 (let t = c.in_ok-handle.ensures in t.takes))
 
 pub returns-clause-rubbish : goal.returns-clause-rubbish
@@ -26,7 +25,7 @@ returns-clause-rubbish g c =
     let t = h.takes in
     subst (λ (s : Parts g.row.S.Denot). LeavesRubbish (view_with look s) (of_worker (memory_of (view_with look s)) (worker_row s.worker.table (seen (view_of s.storage.1 (look s.storage.0))) s.tickets message))
     (view_with look (record { storage = c.handle.new.store; worker = c.handle.new.self; coordinator = c.self.inside.coordinator; tickets = c.handle.new.tickets }))) c.self.view_is
-    (works-leave prepare_calls row_calls (omega arith) v serves (worker_row v.worker.table (seen v.storage) v.tickets message) (worker-aside v.worker.table (seen v.storage) v.tickets message) (row-in-range v.worker.table serves.ranges (seen v.storage) v.tickets message c.requires.taken.in_range)
+    (works-leave prepare_calls row_calls (omega arith) v serves (worker_row v.worker.table (seen v.storage) v.tickets message) (worker-aside v.worker.table (seen v.storage) v.tickets message)
     c.args.out.now c.handle.new.self (view_of c.handle.new.store.1 (look c.handle.new.store.0)) c.handle.new.out c.handle.new.tickets (t.counts refl) (λ none. h.same none refl))
 
 pub returns-in_err-handle-clause-does : goal.returns-in_err-handle-clause-does
@@ -38,5 +37,5 @@ returns-in_err-handle-clause-does g c =
     let message = c.args.message.now in
     subst (λ (s : Parts g.row.S.Denot). Does row_calls (of_worker (memory_of (view_with look s)) (worker_row s.worker.table (seen (view_of s.storage.1 (look s.storage.0))) s.tickets message)) (view_with look s) c.args.out.now
     c.from_residual.result (view_with look (record { storage = c.handle.new.store; worker = c.handle.new.self; coordinator = c.self.inside.coordinator; tickets = c.handle.new.tickets })) c.handle.new.out) c.self.view_is
-    (worker_failed prepare_calls row_calls (omega arith) v serves (worker_row v.worker.table (seen v.storage) v.tickets message) (worker-aside v.worker.table (seen v.storage) v.tickets message) (row-in-range v.worker.table serves.ranges (seen v.storage) v.tickets message c.requires.taken.in_range)
+    (worker_failed prepare_calls row_calls (omega arith) v serves (worker_row v.worker.table (seen v.storage) v.tickets message) (worker-aside v.worker.table (seen v.storage) v.tickets message)
     _ _ _ _ _ _ c.in_err-handle.field-0.0 c.from_residual.result c.from_residual.ensures.0 c.from_residual.ensures.1 (let t = c.in_err-handle.ensures in t.takes))

@@ -1,20 +1,10 @@
 -- What a transaction did, read line by line. Where each answer follows its command, and no two clients have one transaction,
 -- that is what its commands did.
-use Rattle.std.specs.Prelude.{Bool, false, ◌&&◌, if◌then◌else◌, List, [], ◌∷◌, ◌++◌, Option, Some, None}
-use Rattle.jn_base.specs.declared.names.ClientNo.{ClientNo}
-use Rattle.jn_base.specs.declared.names.Tid.{Tid}
-use Rattle.jn_base.specs.declared.op.Answer.{Answer}
+use Rattle.jn_serial.proofs.Common.{Option, None, ClientNo, Tid, Answer, Do, client_eq, tid_eq, Event, Command, Text, Line, Performed, event_at}
+use Rattle.std.specs.Prelude.{Bool, false, ◌&&◌, if◌then◌else◌, List, [], ◌∷◌, ◌++◌, Some}
 use Rattle.jn_base.specs.declared.op.Answer.TheVariants as answers
-use Rattle.jn_base.specs.declared.op.Command.TheVariants.{Do}
-use Rattle.jn_base.specs.Names.{client_eq, tid_eq}
-use Rattle.jn_schedule.specs.declared.Event.{Event}
-use Rattle.jn_schedule.specs.declared.Event.TheVariants.{Command}
 use Rattle.jn_report.specs.declared.line.Refusal.TheVariants as refusals
-use Rattle.jn_report.specs.declared.line.Text.{Text}
 use Rattle.jn_report.specs.declared.line.Text.TheVariants as says
-use Rattle.jn_report.specs.declared.line.Line.{Line}
-use Rattle.jn_replay.specs.declared.files.Performed.{Performed}
-use Rattle.jn_serial.specs.Lines.{event_at}
 
 -- an operation that a client was told to do in an event, with the answer
 abbrev pub performed_in : ClientNo → Answer → Option Event → List Performed

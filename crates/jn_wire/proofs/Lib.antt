@@ -1,0 +1,4 @@
+mod Joining
+mod Meaning
+mod ReadBack
+mod Framing

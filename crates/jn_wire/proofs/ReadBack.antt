@@ -1,0 +1,311 @@
+-- Each field is read back, whatever follows it.
+use Rattle.std.proofs.Common.{◌≡◌, ◌≤◌, ◌<◌, ◌^◌, ℕ, suc, Bool, true, false, ◌&&◌, List, [], ◌∷◌, ◌++◌, length, take, drop, refl, sym, ◌∙◌, ap, subst, arith, append_assoc, append-nil, length-append, Ok, Option, Some, if◌then◌else◌}
+use Rattle.std.specs.Prelude.{not, nat_le, nat_eq, nat_lt}
+use Rattle.std.specs.List.{AllByRecursion}
+use Rattle.std.proofs.lemmas.Bool.Decides.{nat_tests}
+use Rattle.std.proofs.Math.Seq.{drop-append_seam, take-append_seam}
+use Rattle.byteorder.specs.Endian.{big_number, big_bytes}
+use Rattle.byteorder.specs.Numbers.{length-bytes_high_first, big_number-reads_back}
+use Rattle.jn_base.specs.Limits.{most_blocks}
+use Rattle.jn_base.specs.Names.{refusal_number}
+use Rattle.jn_base.specs.declared.names.ServerNo.{ServerNo}
+use Rattle.jn_base.specs.declared.names.ClientNo.{ClientNo}
+use Rattle.jn_base.specs.declared.names.FileNo.{FileNo}
+use Rattle.jn_base.specs.declared.names.BlockNo.{BlockNo}
+use Rattle.jn_base.specs.declared.names.Tid.{Tid}
+use Rattle.jn_base.specs.declared.names.WorkId.{WorkId}
+use Rattle.jn_base.specs.declared.names.RequestNo.{RequestNo}
+use Rattle.jn_base.specs.declared.names.OperationNo.{OperationNo}
+use Rattle.jn_base.specs.declared.names.LockUnit.{LockUnit}
+use Rattle.jn_base.specs.declared.names.LockUnit.TheVariants as units
+use Rattle.jn_base.specs.declared.names.Resource.{Resource}
+use Rattle.jn_base.specs.declared.names.Resource.TheVariants as resources
+use Rattle.jn_base.specs.declared.names.Party.{Party}
+use Rattle.jn_base.specs.declared.names.Party.TheVariants.{Client, Server}
+use Rattle.jn_base.specs.declared.op.Op.{Op}
+use Rattle.jn_base.specs.declared.op.Op.TheVariants as ops
+use Rattle.jn_msgs.specs.declared.message.Message.{Message}
+use Rattle.jn_msgs.specs.declared.message.Message.TheVariants as messages
+use Rattle.jn_msgs.specs.declared.message.Vote.{Vote}
+use Rattle.jn_msgs.specs.declared.message.Vote.TheVariants as votes
+use Rattle.jn_wire.specs.declared.frame.Body.{Body}
+use Rattle.jn_wire.specs.declared.frame.Body.TheVariants as bodies
+use Rattle.jn_wire.specs.declared.frame.Framed.{Framed}
+use Rattle.jn_wire.specs.Fields.{Reading, Got, Wrong, and_then, number, content, client, sender, request, operation, tid, tid_by, server_in, work, works, works_from, file, block, unit, unit_of, resource, out_of_range}
+use Rattle.jn_wire.specs.Spelling.{u32, tid_bytes, work_bytes, works_bytes, unit_bytes, held_bytes, op_bytes, vote_bytes, carried_bytes, body_bytes, party_bytes, Is32, ClientIn, ServerIn, TidIn, WorkIn, WorksIn, UnitIn, HeldIn, OpIn, VoteIn, IsParty, MessageIn, BodyIn, IsSent}
+use Rattle.jn_wire.specs.Decoding.{decode, op, op_of, vote, client_body, server_body, any_body, party_of, is_server, body_by, closed, framed_by, is_taken, is_of_client, is_of_server}
+
+-- the next field is read behind one that was
+onward : {A B : Type 0} {r : Reading A} {a : A} {rest : List ℕ} (next : A → List ℕ → Reading B) → r ≡ Got a rest → and_then r next ≡ next a rest
+onward next e = ap (λ r. and_then r next) e
+
+if-true : {A : Type 0} (b : Bool) (x y : A) → b ≡ true → (if b then x else y) ≡ x
+if-true b x y e = ap (λ (c : Bool). if c then x else y) e
+
+if-false : {A : Type 0} (b : Bool) (x y : A) → b ≡ false → (if b then x else y) ≡ y
+if-false b x y e = ap (λ (c : Bool). if c then x else y) e
+
+-- ---- numbers
+
+drop-front : (n : ℕ) (xs ys : List ℕ) → length xs ≡ n → drop n (xs ++ ys) ≡ ys
+drop-front n xs ys e = subst (λ (k : ℕ). drop k (xs ++ ys) ≡ ys) e (drop-append_seam xs ys)
+
+take-front : (n : ℕ) (xs ys : List ℕ) → length xs ≡ n → take n (xs ++ ys) ≡ xs
+take-front n xs ys e = subst (λ (k : ℕ). take k (xs ++ ys) ≡ xs) e (take-append_seam xs ys)
+
+long-enough : (n : ℕ) (xs ys : List ℕ) → length xs ≡ n → nat_lt (length (xs ++ ys)) n ≡ false
+long-enough n xs ys e = let more = length-append xs ys in grind (arith, more, e, nat_tests)
+
+pub number-back : (n x : ℕ) (rest : List ℕ) → x < 256 ^ n → number n (big_bytes n x ++ rest) ≡ Got x rest
+number-back n x rest small = if-false _ _ _ (long-enough n (big_bytes n x) rest (length-bytes_high_first n x))
+    ∙ ap (λ (k : ℕ). Got k (drop n (big_bytes n x ++ rest))) (big_number-reads_back n x rest small)
+    ∙ ap (λ (bytes : List ℕ). Got x bytes) (drop-front n (big_bytes n x) rest (length-bytes_high_first n x))
+
+pub u32-back : (x : ℕ) (rest : List ℕ) → Is32 x → number 4 (u32 x ++ rest) ≡ Got x rest
+u32-back x rest small = number-back 4 x rest (omega (arith, small))
+
+pub content-back : (bytes rest : List ℕ) → length bytes ≡ 448 → content (bytes ++ rest) ≡ Got bytes rest
+content-back bytes rest e = if-false _ _ _ (long-enough 448 bytes rest e)
+    ∙ ap (λ (x : List ℕ). Got x (drop 448 (bytes ++ rest))) (take-front 448 bytes rest e)
+    ∙ ap (λ (x : List ℕ). Got bytes x) (drop-front 448 bytes rest e)
+
+-- ---- names
+
+pub request-back : (r : RequestNo) (rest : List ℕ) → Is32 r.0 → request (u32 r.0 ++ rest) ≡ Got r rest
+request-back r rest small = onward (λ n bytes. Got (record { 0 = n }) bytes) (u32-back r.0 rest small)
+
+pub operation-back : (n : OperationNo) (rest : List ℕ) → Is32 n.0 → operation (u32 n.0 ++ rest) ≡ Got n rest
+operation-back r rest small = onward (λ n bytes. Got (record { 0 = n }) bytes) (u32-back r.0 rest small)
+
+pub file-back : (f : FileNo) (rest : List ℕ) → Is32 f.0 → file (u32 f.0 ++ rest) ≡ Got f rest
+file-back f rest small = onward (λ n bytes. Got (record { 0 = n }) bytes) (u32-back f.0 rest small)
+
+client-fits : (c : ClientNo) → ClientIn c → (nat_le 1 c.0 && nat_le c.0 8) ≡ true
+client-fits c h = let one = h.0 in let eight = h.1 in grind (arith, one, eight, nat_tests)
+
+equal : (n : ℕ) → nat_eq n n ≡ true
+equal n = grind (arith, nat_tests)
+
+fits-below : (n m : ℕ) → n < m → nat_lt n m ≡ true
+fits-below n m h = grind (arith, h, nat_tests)
+
+at-most : (n m : ℕ) → n ≤ m → nat_le n m ≡ true
+at-most n m h = grind (arith, h, nat_tests)
+
+no-file : (p : ℕ) → p < most_blocks → nat_eq p 65535 ≡ false
+no-file p h = grind (arith, h, nat_tests)
+
+pub client-back : (c : ClientNo) (rest : List ℕ) → ClientIn c → client (c.0 ∷ rest) ≡ Got c rest
+client-back c rest h = if-true _ _ _ (client-fits c h)
+
+pub sender-back : (c : ClientNo) (rest : List ℕ) → ClientIn c → sender c (c.0 ∷ rest) ≡ Got c rest
+sender-back c rest h = onward (λ d bytes. if nat_eq d.0 c.0 then Got d bytes else Wrong out_of_range) (client-back c rest h) ∙ if-true _ _ _ (equal c.0)
+
+server_in-back : (s : ServerNo) (rest : List ℕ) → ServerIn s → server_in (s.0 ∷ rest) ≡ Some s
+server_in-back s rest h = if-true _ _ _ (at-most s.0 7 h)
+
+abbrev both : ℕ → ℕ → List ℕ → List ℕ
+both a b rest = (u32 a ++ u32 b) ++ rest
+
+both-length : (a b : ℕ) → length (u32 a ++ u32 b) ≡ 8
+both-length a b = let one = length-append (u32 a) (u32 b) in let x = length-bytes_high_first 4 a in let y = length-bytes_high_first 4 b in omega (arith, one, x, y)
+
+first-back : (a b : ℕ) (rest : List ℕ) → Is32 a → big_number 4 (both a b rest) ≡ a
+first-back a b rest small = ap (big_number 4) (append_assoc (u32 a) (u32 b) rest) ∙ big_number-reads_back 4 a (u32 b ++ rest) (omega (arith, small))
+
+second-back : (a b : ℕ) (rest : List ℕ) → Is32 b → big_number 4 (drop 4 (both a b rest)) ≡ b
+second-back a b rest small = ap (λ (x : List ℕ). big_number 4 (drop 4 x)) (append_assoc (u32 a) (u32 b) rest)
+    ∙ ap (big_number 4) (drop-front 4 (u32 a) (u32 b ++ rest) (length-bytes_high_first 4 a)) ∙ big_number-reads_back 4 b rest (omega (arith, small))
+
+pub tid-back : (t : Tid) (rest : List ℕ) → TidIn t → tid (tid_bytes t ++ rest) ≡ Got t rest
+tid-back t rest h = if-false _ _ _ (long-enough 9 (tid_bytes t) rest (ap suc (both-length t.epoch t.ticket)))
+    ∙ ap (tid_by (tid_bytes t ++ rest)) (server_in-back t.server (both t.epoch t.ticket rest) h.server)
+    ∙ ap (λ (n : ℕ). Got (record { server = t.server; epoch = n; ticket = big_number 4 (drop 4 (both t.epoch t.ticket rest)) }) (drop 8 (both t.epoch t.ticket rest))) (first-back t.epoch t.ticket rest h.epoch)
+    ∙ ap (λ (n : ℕ). Got (record t { ticket = n }) (drop 8 (both t.epoch t.ticket rest))) (second-back t.epoch t.ticket rest h.ticket)
+    ∙ ap (λ (x : List ℕ). Got t x) (drop-front 8 (u32 t.epoch ++ u32 t.ticket) rest (both-length t.epoch t.ticket))
+
+abbrev as_tid : WorkId → Tid
+as_tid w = record { server = w.server; epoch = w.epoch; ticket = w.ticket }
+
+pub work-back : (w : WorkId) (rest : List ℕ) → WorkIn w → work (work_bytes w ++ rest) ≡ Got w rest
+work-back w rest h = onward (λ t bytes. Got (record { server = t.server; epoch = t.epoch; ticket = t.ticket }) bytes)
+    (tid-back (as_tid w) rest (record { server = h.server; epoch = h.epoch; ticket = h.ticket }))
+
+works_from-back : (ws : List WorkId) (rest : List ℕ) → AllByRecursion WorkIn ws → works_from (length ws) (works_bytes ws ++ rest) ≡ Got ws rest
+works_from-back [] rest h = refl
+works_from-back (w ∷ ws) rest h = ap (works_from (suc (length ws))) (append_assoc (work_bytes w) (works_bytes ws) rest)
+    ∙ onward (λ v bytes. and_then (works_from (length ws) bytes) (λ vs bytes. Got (v ∷ vs) bytes)) (work-back w (works_bytes ws ++ rest) h.0)
+    ∙ onward (λ vs bytes. Got (w ∷ vs) bytes) (works_from-back ws rest h.1)
+
+pub works-back : (ws : List WorkId) (rest : List ℕ) → WorksIn ws → works (length ws ∷ works_bytes ws ++ rest) ≡ Got ws rest
+works-back ws rest h = if-true _ _ _ (at-most (length ws) 8 h.0) ∙ works_from-back ws rest h.1
+
+-- ---- units and what is in the messages
+
+pub block-back : (p : BlockNo) (rest : List ℕ) → p.0 < most_blocks → block (big_bytes 2 p.0 ++ rest) ≡ Got p rest
+block-back p rest small = onward (λ n bytes. if nat_lt n most_blocks then Got (record { 0 = n }) bytes else Wrong out_of_range) (number-back 2 p.0 rest (omega (arith, small))) ∙ if-true _ _ _ (fits-below p.0 most_blocks small)
+
+pub unit-back : (u : LockUnit) (rest : List ℕ) → UnitIn u → unit (unit_bytes u ++ rest) ≡ Got u rest
+unit-back (units.File f) rest h = ap unit (append_assoc (u32 f.0) (big_bytes 2 65535) rest)
+    ∙ onward (λ g bytes. and_then (number 2 bytes) (unit_of g)) (file-back f (big_bytes 2 65535 ++ rest) h) ∙ onward (unit_of f) (number-back 2 65535 rest (omega arith))
+unit-back (units.Block f p) rest h = let small = h.1 in ap unit (append_assoc (u32 f.0) (big_bytes 2 p.0) rest)
+    ∙ onward (λ g bytes. and_then (number 2 bytes) (unit_of g)) (file-back f (big_bytes 2 p.0 ++ rest) h.0) ∙ onward (unit_of f) (number-back 2 p.0 rest (omega (arith, small)))
+    ∙ if-false _ _ _ (no-file p.0 small) ∙ if-true _ _ _ (fits-below p.0 most_blocks small)
+
+pub resource-back : (r : Resource) (rest : List ℕ) → resource (refusal_number r ∷ rest) ≡ Got r rest
+resource-back resources.Records rest = refl
+resource-back resources.Pages rest = refl
+resource-back resources.Heads rest = refl
+
+-- at the end of a frame nothing follows
+last : {A : Type 0} (read : List ℕ → Reading A) (bytes : List ℕ) (a : A) → read (bytes ++ []) ≡ Got a [] → read bytes ≡ Got a []
+last read bytes a e = ap read (sym (append-nil bytes)) ∙ e
+
+op-back : (o : Op) (rest : List ℕ) → OpIn o → op (op_bytes o ++ rest) ≡ Got o rest
+op-back (ops.Create f) rest h = onward (λ g bytes. Got (ops.Create g) bytes) (file-back f rest h)
+op-back (ops.Remove f) rest h = onward (λ g bytes. Got (ops.Remove g) bytes) (file-back f rest h)
+op-back (ops.Cut f p) rest h = ap (op_of 3) (append_assoc (u32 f.0) (big_bytes 2 p.0) rest)
+    ∙ onward (λ g bytes. and_then (block bytes) (λ q bytes. Got (ops.Cut g q) bytes)) (file-back f (big_bytes 2 p.0 ++ rest) h.0) ∙ onward (λ q bytes. Got (ops.Cut f q) bytes) (block-back p rest h.1)
+op-back (ops.Read f p) rest h = ap (op_of 4) (append_assoc (u32 f.0) (big_bytes 2 p.0) rest)
+    ∙ onward (λ g bytes. and_then (block bytes) (λ q bytes. Got (ops.Read g q) bytes)) (file-back f (big_bytes 2 p.0 ++ rest) h.0) ∙ onward (λ q bytes. Got (ops.Read f q) bytes) (block-back p rest h.1)
+op-back (ops.Write f p bytes) rest h = ap (op_of 5) (append_assoc (u32 f.0) (big_bytes 2 p.0 ++ bytes) rest ∙ ap (λ (x : List ℕ). u32 f.0 ++ x) (append_assoc (big_bytes 2 p.0) bytes rest))
+    ∙ onward (λ g xs. and_then (block xs) (λ q xs. and_then (content xs) (λ b xs. Got (ops.Write g q b) xs))) (file-back f (big_bytes 2 p.0 ++ bytes ++ rest) h.0)
+    ∙ onward (λ q xs. and_then (content xs) (λ b xs. Got (ops.Write f q b) xs)) (block-back p (bytes ++ rest) h.1) ∙ onward (λ b xs. Got (ops.Write f p b) xs) (content-back bytes rest h.2)
+
+held-back : {A : Type 0} (make : LockUnit → Tid → A) (u : LockUnit) (t : Tid) (rest : List ℕ) → HeldIn u t
+    → and_then (unit (held_bytes u t ++ rest)) (λ v bytes. and_then (tid bytes) (λ x bytes. Got (make v x) bytes)) ≡ Got (make u t) rest
+held-back make u t rest h = ap (λ (x : List ℕ). and_then (unit x) (λ v bytes. and_then (tid bytes) (λ x bytes. Got (make v x) bytes))) (append_assoc (unit_bytes u) (tid_bytes t) rest)
+    ∙ onward (λ v bytes. and_then (tid bytes) (λ x bytes. Got (make v x) bytes)) (unit-back u (tid_bytes t ++ rest) h.0) ∙ onward (λ x bytes. Got (make u x) bytes) (tid-back t rest h.1)
+
+two-back : {A : Type 0} (make : ℕ → ℕ → A) (a b : ℕ) (rest : List ℕ) → Is32 a → Is32 b
+    → and_then (number 4 ((u32 a ++ u32 b) ++ rest)) (λ n bytes. and_then (number 4 bytes) (λ m bytes. Got (make n m) bytes)) ≡ Got (make a b) rest
+two-back make a b rest h k = ap (λ (x : List ℕ). and_then (number 4 x) (λ n bytes. and_then (number 4 bytes) (λ m bytes. Got (make n m) bytes))) (append_assoc (u32 a) (u32 b) rest)
+    ∙ onward (λ n bytes. and_then (number 4 bytes) (λ m bytes. Got (make n m) bytes)) (u32-back a (u32 b ++ rest) h) ∙ onward (λ m bytes. Got (make a m) bytes) (u32-back b rest k)
+
+vote-back : (v : Vote) (rest : List ℕ) → VoteIn v → vote (vote_bytes v ++ rest) ≡ Got v rest
+vote-back votes.Ready rest h = refl
+vote-back (votes.Waiting u t) rest h = held-back votes.Waiting u t rest h
+vote-back (votes.Broken u t) rest h = held-back votes.Broken u t rest h
+vote-back (votes.Lost a b) rest h = two-back votes.Lost a b rest h.0 h.1
+vote-back (votes.Full r a b) rest h = onward (λ q bytes. and_then (number 4 bytes) (λ n bytes. and_then (number 4 bytes) (λ m bytes. Got (votes.Full q n m) bytes))) (resource-back r ((u32 a ++ u32 b) ++ rest)) ∙ two-back (votes.Full r) a b rest h.0 h.1
+
+-- ---- frames
+
+both-names : {A : Type 0} (make : Tid → WorkId → A) (t : Tid) (w : WorkId) → TidIn t → WorkIn w
+    → and_then (tid (tid_bytes t ++ work_bytes w)) (λ x bytes. and_then (work bytes) (λ v bytes. Got (make x v) bytes)) ≡ Got (make t w) []
+both-names make t w h k = onward (λ x bytes. and_then (work bytes) (λ v bytes. Got (make x v) bytes)) (tid-back t (work_bytes w) h) ∙ onward (λ v bytes. Got (make t v) bytes) (last work (work_bytes w) w (work-back w [] k))
+
+abbrev told : Message → Reading Body
+told m = Got (bodies.Message m) []
+
+began : {A : Type 0} (next : ClientNo → RequestNo → List ℕ → Reading A) (c : ClientNo) (r : RequestNo) (rest : List ℕ) → ClientIn c → Is32 r.0
+    → and_then (sender c (c.0 ∷ u32 r.0 ++ rest)) (λ d bytes. and_then (request bytes) (λ q bytes. next d q bytes)) ≡ next c r rest
+began next c r rest h k = onward (λ d bytes. and_then (request bytes) (λ q bytes. next d q bytes)) (sender-back c (u32 r.0 ++ rest) h) ∙ onward (λ q bytes. next c q bytes) (request-back r rest k)
+
+begin-back : (c : ClientNo) (r : RequestNo) → ClientIn c → Is32 r.0 → client_body c 1 (c.0 ∷ u32 r.0) ≡ told (messages.Begin c r)
+begin-back c r h k = ap (λ (x : List ℕ). client_body c 1 (c.0 ∷ x)) (sym (append-nil (u32 r.0))) ∙ began (λ d q bytes. Got (bodies.Message (messages.Begin d q)) bytes) c r [] h k
+
+open-back : (c : ClientNo) (r : RequestNo) (t : Tid) → ClientIn c → Is32 r.0 → TidIn t → client_body c 2 (c.0 ∷ u32 r.0 ++ tid_bytes t) ≡ told (messages.Open c r t)
+open-back c r t h k l = began (λ d q bytes. and_then (tid bytes) (λ x bytes. Got (bodies.Message (messages.Open d q x)) bytes)) c r (tid_bytes t) h k
+    ∙ onward (λ x bytes. Got (bodies.Message (messages.Open c r x)) bytes) (last tid (tid_bytes t) t (tid-back t [] l))
+
+operate-back : (c : ClientNo) (r : RequestNo) (w : WorkId) (n : OperationNo) (o : Op) → ClientIn c → Is32 r.0 → WorkIn w → Is32 n.0 → OpIn o
+    → client_body c 3 (c.0 ∷ u32 r.0 ++ work_bytes w ++ u32 n.0 ++ op_bytes o) ≡ told (messages.Op c r w n o)
+operate-back c r w n o h k l m i = began (λ d q bytes. and_then (work bytes) (λ x bytes. and_then (operation bytes) (λ y bytes. and_then (op bytes) (λ z bytes. Got (bodies.Message (messages.Op d q x y z)) bytes)))) c r (work_bytes w ++ u32 n.0 ++ op_bytes o) h k
+    ∙ onward (λ x bytes. and_then (operation bytes) (λ y bytes. and_then (op bytes) (λ z bytes. Got (bodies.Message (messages.Op c r x y z)) bytes))) (work-back w (u32 n.0 ++ op_bytes o) l)
+    ∙ onward (λ y bytes. and_then (op bytes) (λ z bytes. Got (bodies.Message (messages.Op c r w y z)) bytes)) (operation-back n (op_bytes o) m)
+    ∙ onward (λ z bytes. Got (bodies.Message (messages.Op c r w n z)) bytes) (last op (op_bytes o) o (op-back o [] i))
+
+named : {A : Type 0} (make : ClientNo → RequestNo → Tid → List WorkId → A) (c : ClientNo) (r : RequestNo) (t : Tid) (ws : List WorkId) → ClientIn c → Is32 r.0 → TidIn t → WorksIn ws
+    → and_then (sender c (c.0 ∷ u32 r.0 ++ tid_bytes t ++ length ws ∷ works_bytes ws)) (λ d bytes. and_then (request bytes) (λ q bytes. and_then (tid bytes) (λ x bytes. and_then (works bytes) (λ vs bytes. Got (make d q x vs) bytes)))) ≡ Got (make c r t ws) []
+named make c r t ws h k l m = began (λ d q bytes. and_then (tid bytes) (λ x bytes. and_then (works bytes) (λ vs bytes. Got (make d q x vs) bytes))) c r (tid_bytes t ++ length ws ∷ works_bytes ws) h k
+    ∙ onward (λ x bytes. and_then (works bytes) (λ vs bytes. Got (make c r x vs) bytes)) (tid-back t (length ws ∷ works_bytes ws) l)
+    ∙ onward (λ vs bytes. Got (make c r t vs) bytes) (last works (length ws ∷ works_bytes ws) ws (works-back ws [] m))
+
+thank-back : (c : ClientNo) (t : Tid) → ClientIn c → TidIn t → client_body c 6 (c.0 ∷ tid_bytes t) ≡ told (messages.Thanks c t)
+thank-back c t h l = onward (λ d bytes. and_then (tid bytes) (λ x bytes. Got (bodies.Message (messages.Thanks d x)) bytes)) (sender-back c (tid_bytes t) h)
+    ∙ onward (λ x bytes. Got (bodies.Message (messages.Thanks c x)) bytes) (last tid (tid_bytes t) t (tid-back t [] l))
+
+prepare-back : (t : Tid) (c : ClientNo) (w : WorkId) → TidIn t → ClientIn c → WorkIn w → server_body 11 (tid_bytes t ++ c.0 ∷ work_bytes w) ≡ told (messages.Prepare t c w)
+prepare-back t c w h k l = onward (λ x bytes. and_then (client bytes) (λ d bytes. and_then (work bytes) (λ v bytes. Got (bodies.Message (messages.Prepare x d v)) bytes))) (tid-back t (c.0 ∷ work_bytes w) h)
+    ∙ onward (λ d bytes. and_then (work bytes) (λ v bytes. Got (bodies.Message (messages.Prepare t d v)) bytes)) (client-back c (work_bytes w) k)
+    ∙ onward (λ v bytes. Got (bodies.Message (messages.Prepare t c v)) bytes) (last work (work_bytes w) w (work-back w [] l))
+
+voted-back : (t : Tid) (w : WorkId) (v : Vote) → TidIn t → WorkIn w → VoteIn v → server_body 14 (tid_bytes t ++ work_bytes w ++ vote_bytes v) ≡ told (messages.Vote t w v)
+voted-back t w v h k l = onward (λ x bytes. and_then (work bytes) (λ y bytes. and_then (vote bytes) (λ z bytes. Got (bodies.Message (messages.Vote x y z)) bytes))) (tid-back t (work_bytes w ++ vote_bytes v) h)
+    ∙ onward (λ y bytes. and_then (vote bytes) (λ z bytes. Got (bodies.Message (messages.Vote t y z)) bytes)) (work-back w (vote_bytes v) k)
+    ∙ onward (λ z bytes. Got (bodies.Message (messages.Vote t w z)) bytes) (last vote (vote_bytes v) v (vote-back v [] l))
+
+timeout-back : (t : Tid) → TidIn t → any_body 18 (tid_bytes t) ≡ Got (bodies.Timeout t) []
+timeout-back t h = onward (λ x bytes. Got (bodies.Timeout x) bytes) (last tid (tid_bytes t) t (tid-back t [] h))
+
+-- ---- frames
+
+abbrev IsBack : ServerNo → Party → Body → Type 0
+IsBack s from body = decode s (party_bytes from ++ (party_bytes (Server s) ++ carried_bytes body)) ≡ Ok (record { from = from; to = Server s; body = body })
+
+party-client : (c : ClientNo) → ClientIn c → party_of 1 c.0 ≡ Some (Client c)
+party-client c h = if-true _ _ _ (client-fits c h)
+
+party-server : (s : ServerNo) → ServerIn s → party_of 2 s.0 ≡ Some (Server s)
+party-server s h = if-true _ _ _ (at-most s.0 7 h)
+
+-- what is decided by the kind, then by the receiver, then by the sender
+by-parties : (s : ServerNo) (a b kind : ℕ) (fields : List ℕ) (from : Party) (body : Body) → is_taken kind ≡ true → ServerIn s → party_of a b ≡ Some from → body_by (Some from) kind fields ≡ Got body []
+    → decode s (a ∷ b ∷ 2 ∷ s.0 ∷ kind ∷ fields) ≡ Ok (record { from = from; to = Server s; body = body })
+by-parties s a b kind fields from body taken here sent e = if-false _ _ _ (ap not taken)
+    ∙ if-false _ _ _ (ap (λ (x : Option Party). not (is_server s x)) (party-server s here) ∙ ap not (equal s.0))
+    ∙ ap (λ (x : Option Party). framed_by s x (body_by x kind fields)) sent ∙ ap (closed from (Server s)) e
+
+of-client : (s : ServerNo) (c : ClientNo) (kind : ℕ) (fields : List ℕ) (m : Message) → is_of_client kind ≡ true → is_taken kind ≡ true → ServerIn s → ClientIn c → client_body c kind fields ≡ told m
+    → decode s (1 ∷ c.0 ∷ 2 ∷ s.0 ∷ kind ∷ fields) ≡ Ok (record { from = Client c; to = Server s; body = bodies.Message m })
+of-client s c kind fields m by taken here it e = by-parties s 1 c.0 kind fields (Client c) (bodies.Message m) taken here (party-client c it) (if-true _ _ _ by ∙ e)
+
+of-server : (s q : ServerNo) (kind : ℕ) (fields : List ℕ) (m : Message) → is_of_server kind ≡ true → is_taken kind ≡ true → ServerIn s → ServerIn q → server_body kind fields ≡ told m
+    → decode s (2 ∷ q.0 ∷ 2 ∷ s.0 ∷ kind ∷ fields) ≡ Ok (record { from = Server q; to = Server s; body = bodies.Message m })
+of-server s q kind fields m by taken here it e = by-parties s 2 q.0 kind fields (Server q) (bodies.Message m) taken here (party-server q it) (if-true _ _ _ by ∙ e)
+
+-- from whoever is that client
+as-client : (s : ServerNo) (from : Party) (c : ClientNo) (m : Message) → from ≡ Client c → IsBack s (Client c) (bodies.Message m) → IsBack s from (bodies.Message m)
+as-client s from c m e back = subst (λ (x : Party). IsBack s x (bodies.Message m)) (sym e) back
+
+message-back : (s : ServerNo) (from : Party) (m : Message) → ServerIn s → MessageIn from m → IsBack s from (bodies.Message m)
+message-back s from (messages.Begin c r) here h = as-client s from c (messages.Begin c r) h.0.0 (of-client s c 1 (c.0 ∷ u32 r.0) (messages.Begin c r) refl refl here h.0.1 (begin-back c r h.0.1 h.1))
+message-back s from (messages.Open c r t) here h = as-client s from c (messages.Open c r t) h.0.0 (of-client s c 2 (c.0 ∷ u32 r.0 ++ tid_bytes t) (messages.Open c r t) refl refl here h.0.1 (open-back c r t h.0.1 h.1 h.2))
+message-back s from (messages.Op c r w n o) here h = as-client s from c (messages.Op c r w n o) h.0.0 (of-client s c 3 (c.0 ∷ u32 r.0 ++ work_bytes w ++ u32 n.0 ++ op_bytes o) (messages.Op c r w n o) refl refl here h.0.1 (operate-back c r w n o h.0.1 h.1 h.2 h.3 h.4))
+message-back s from (messages.End c r t ws) here h = as-client s from c (messages.End c r t ws) h.0.0 (of-client s c 4 (c.0 ∷ u32 r.0 ++ tid_bytes t ++ length ws ∷ works_bytes ws) (messages.End c r t ws) refl refl here h.0.1 (named (λ d q x vs. bodies.Message (messages.End d q x vs)) c r t ws h.0.1 h.1 h.2 h.3))
+message-back s from (messages.Abort c r t ws) here h = as-client s from c (messages.Abort c r t ws) h.0.0 (of-client s c 5 (c.0 ∷ u32 r.0 ++ tid_bytes t ++ length ws ∷ works_bytes ws) (messages.Abort c r t ws) refl refl here h.0.1 (named (λ d q x vs. bodies.Message (messages.Abort d q x vs)) c r t ws h.0.1 h.1 h.2 h.3))
+message-back s from (messages.Thanks c t) here h = as-client s from c (messages.Thanks c t) h.0.0 (of-client s c 6 (c.0 ∷ tid_bytes t) (messages.Thanks c t) refl refl here h.0.1 (thank-back c t h.0.1 h.1))
+message-back s (Client d) (messages.Prepare t c w) here h = absurd h.0
+message-back s (Client d) (messages.Commit t w) here h = absurd h.0
+message-back s (Client d) (messages.Drop t w) here h = absurd h.0
+message-back s (Client d) (messages.Vote t w v) here h = absurd h.0
+message-back s (Client d) (messages.Done t w) here h = absurd h.0
+message-back s (Client d) (messages.Inquire t w) here h = absurd h.0
+message-back s (Server q) (messages.Prepare t c w) here h = of-server s q 11 (tid_bytes t ++ c.0 ∷ work_bytes w) (messages.Prepare t c w) refl refl here h.0 (prepare-back t c w h.1 h.2 h.3)
+message-back s (Server q) (messages.Commit t w) here h = of-server s q 12 (tid_bytes t ++ work_bytes w) (messages.Commit t w) refl refl here h.0 (both-names (λ x v. bodies.Message (messages.Commit x v)) t w h.1 h.2)
+message-back s (Server q) (messages.Drop t w) here h = of-server s q 13 (tid_bytes t ++ work_bytes w) (messages.Drop t w) refl refl here h.0 (both-names (λ x v. bodies.Message (messages.Drop x v)) t w h.1 h.2)
+message-back s (Server q) (messages.Vote t w v) here h = of-server s q 14 (tid_bytes t ++ work_bytes w ++ vote_bytes v) (messages.Vote t w v) refl refl here h.0 (voted-back t w v h.1 h.2 h.3)
+message-back s (Server q) (messages.Done t w) here h = of-server s q 15 (tid_bytes t ++ work_bytes w) (messages.Done t w) refl refl here h.0 (both-names (λ x v. bodies.Message (messages.Done x v)) t w h.1 h.2)
+message-back s (Server q) (messages.Inquire t w) here h = of-server s q 16 (tid_bytes t ++ work_bytes w) (messages.Inquire t w) refl refl here h.0 (both-names (λ x v. bodies.Message (messages.Inquire x v)) t w h.1 h.2)
+message-back s from (messages.Begun c r t) here h = absurd h
+message-back s from (messages.Opened c r t w) here h = absurd h
+message-back s from (messages.Answer c r a) here h = absurd h
+message-back s from (messages.Outcome c t o) here h = absurd h
+
+party-back : (s : ServerNo) (from : Party) (kind : ℕ) (fields : List ℕ) (body : Body) → is_taken kind ≡ true → is_of_client kind ≡ false → is_of_server kind ≡ false → ServerIn s → IsParty from → any_body kind fields ≡ Got body []
+    → decode s (party_bytes from ++ (2 ∷ s.0 ∷ kind ∷ fields)) ≡ Ok (record { from = from; to = Server s; body = body })
+party-back s (Client c) kind fields body taken one two here it e = by-parties s 1 c.0 kind fields (Client c) body taken here (party-client c it) (if-false _ _ _ one ∙ if-false _ _ _ two ∙ e)
+party-back s (Server q) kind fields body taken one two here it e = by-parties s 2 q.0 kind fields (Server q) body taken here (party-server q it) (if-false _ _ _ two ∙ if-false _ _ _ one ∙ e)
+
+told-back : (s : ServerNo) (from : Party) (body : Body) → ServerIn s → BodyIn from body → IsBack s from body
+told-back s from (bodies.Message m) here h = message-back s from m here h
+told-back s from bodies.Nudge here h = party-back s from 17 [] bodies.Nudge refl refl refl here h refl
+told-back s from (bodies.Timeout t) here h = party-back s from 18 (tid_bytes t) (bodies.Timeout t) refl refl refl here h.0 (timeout-back t h.1)
+
+in-parts : (f : Framed) → body_bytes f ≡ party_bytes f.from ++ (party_bytes f.to ++ carried_bytes f.body)
+in-parts f = refl
+
+pub frame-back : (s : ServerNo) (f : Framed) → IsSent s f → decode s (body_bytes f) ≡ Ok f
+frame-back s f h = subst (λ (x : Party). decode s (party_bytes f.from ++ (party_bytes x ++ carried_bytes f.body)) ≡ Ok (record { from = f.from; to = x; body = f.body }))
+    (sym h.to) (told-back s f.from f.body h.server h.body)
