@@ -7,6 +7,7 @@ from commands import rows_of
 
 HEADER, PAGE, BLOCK, DIGEST = 16, 512, 448, 32
 MOST_POOL, MOST_HEADS, MOST_DATA, MOST_BLOCKS = 1_000, 1_000, 8_000, 120
+VERSIONS = (1, 2)
 KINDS = {1: "an intention", 2: "a prepared work", 3: "a work that is carried out", 4: "a commit flag"}
 
 
@@ -33,8 +34,9 @@ class Head(NamedTuple):
 
 
 class Image(NamedTuple):
-    """A disk: its server, how many pages there are of each kind, and all physical pages."""
+    """A disk: its version, its server, how many pages there are of each kind, and all physical pages."""
 
+    version: int
     server: int
     pool: int
     heads: int
@@ -71,7 +73,7 @@ def read_image(data: bytes) -> Image:
         raise NoImage(1)
     if data[:8] != b"JUNIMAGE":
         raise NoImage(2)
-    if data[8] != 1:
+    if data[8] not in VERSIONS:
         raise NoImage(3)
     server, counts = data[9], [number_at(data, at, 2) for at in (10, 12, 14)]
     if server > 7 or not all(1 <= count <= most for count, most in zip(counts, (MOST_POOL, MOST_HEADS, MOST_DATA))):
@@ -87,11 +89,14 @@ def read_image(data: bytes) -> Image:
         raise NoImage(6)
     if len(data) > end + DIGEST:
         raise NoImage(7)
-    return Image(server, *counts, [Half(data[at] == 1, data[at + 1 : at + 1 + PAGE]) for at in starts])
+    return Image(data[8], server, *counts, [Half(data[at] == 1, data[at + 1 : at + 1 + PAGE]) for at in starts])
 
 
 def head_in(page: bytes, data_pages: int) -> Optional[Head]:
-    """Returns the head that a page is, where it is a used one of the format, with addresses of so many data pages."""
+    """Returns the head that a page is, where it is a used one of the format, with addresses of so many data pages.
+
+    Behind the addresses of the blocks stand those of the map pages, which are zeros so far in either version.
+    """
     addresses = [number_at(page, 5 + 2 * block, 2) for block in range(MOST_BLOCKS)]
     if page[0] != 1 or any(page[5 + 2 * MOST_BLOCKS :]) or max(addresses) > data_pages:
         return None
@@ -114,10 +119,10 @@ def files_of(image: Image) -> Dict[int, Dict[int, bytes]]:
 
 
 def root_is_right(image: Image) -> bool:
-    """Tells whether physical page 0 is a root with the server and the counts of the image."""
+    """Tells whether physical page 0 is a root with the version, the server and the counts of the image."""
     page = image.halves[0].data
     counts = b"".join(it.to_bytes(2, "big") for it in (image.pool, image.heads, image.data))
-    return page[:12] == b"JUN1\1" + bytes([image.server]) + counts and not any(page[16:])
+    return page[:12] == b"JUN1" + bytes([image.version, image.server]) + counts and not any(page[16:])
 
 
 def least_twice(items) -> Optional[int]:

@@ -9,6 +9,10 @@ most_blocks = 120
 abbrev pub head_blocks : ℕ
 head_blocks = 120
 
+-- the map pages whose addresses stand in a head
+abbrev pub most_maps : ℕ
+most_maps = 20
+
 -- the live works of a server
 abbrev pub most_works : ℕ
 most_works = 64

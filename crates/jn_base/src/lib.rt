@@ -14,7 +14,7 @@ pub use device::{FaultKind, Outside, Page, Stopped};
 pub use fault::CallFault;
 pub use fields::{PageWriter, numbers_are_read_back, take_bytes, take_u8, take_u16, take_u32};
 pub use limits::{
-    HEAD_BLOCKS, MOST_BLOCKS, MOST_INTENTIONS, MOST_READS, MOST_TRANSACTIONS, MOST_WORKS,
+    HEAD_BLOCKS, MOST_BLOCKS, MOST_INTENTIONS, MOST_MAPS, MOST_READS, MOST_TRANSACTIONS, MOST_WORKS,
 };
 pub use names::{
     BlockNo, Cause, ClientNo, FileNo, LockUnit, MsgKind, OperationNo, Party, RequestNo, Resource,

@@ -6,6 +6,9 @@ pub const MOST_BLOCKS: u16 = 120;
 /// The blocks whose addresses stand in a head.
 pub const HEAD_BLOCKS: usize = 120;
 
+/// The map pages whose addresses stand in a head.
+pub const MOST_MAPS: usize = 20;
+
 /// The live works of a server.
 pub const MOST_WORKS: usize = 64;
 

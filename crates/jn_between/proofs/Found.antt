@@ -72,13 +72,13 @@ same-pages x h Nothing w now ds es used q = ap pages (used q)
 same-pages x h (Calls p most) w now ds es used q = same-alone (IsServed (x.counts p) most h w p) p ds es used (λ d e s. called-pages most h d e s.called) q
 same-pages x h (Cleans p) w now ds es used q = same-alone (IsScrubbed (x.counts p) h w p) p ds es used (λ d e s. called-pages _ h d e s.served.called) q
 same-pages x h (Reads p) w now ds es used q = same-alone (IsLookedOver (x.counts p) h w p) p ds es used (λ d e s. called-pages _ h d e s.called) q
-same-pages x h (Recovers p) w now ds es used q = same-alone (IsRecovery (x.counts p) h (is_some (now.memory p))) p ds es used (λ d e s. recovered d e (is_some (now.memory p)) s) q
+same-pages x h (Recovers p) w now ds es used q = same-alone (IsRecovery p (x.counts p) h (is_some (now.memory p))) p ds es used (λ d e s. recovered d e (is_some (now.memory p)) s) q
   where
     either : (up : Bool) (d : DeviceState) → pages (if up then d else powered_off d) ≡ pages d
     either true d = refl
     either false d = refl
 
-    recovered : (d e : DeviceState) (up : Bool) → IsRecovery (x.counts p) h up d e → pages e ≡ pages d
+    recovered : (d e : DeviceState) (up : Bool) → IsRecovery p (x.counts p) h up d e → pages e ≡ pages d
     recovered d e up s = ap pages s.after ∙ either up s.last ∙ called-pages _ h s.powered s.last s.called ∙ ap (λ (n : ℕ). n / 2) s.power.count
 same-pages x h (PowersOff p) w now ds es used q = same-alone (λ d e. e ≡ powered_off d) p ds es used (λ d e s. ap pages s) q
 same-pages x h (Decays p n) w now ds es used q = same-alone (λ d e. PageDecays d n (allowed h.found) e) p ds es used (λ d e s. ap (λ (n : ℕ). n / 2) s.becomes.count) q

@@ -1,17 +1,17 @@
 -- The pages of a server that was closed, as a store, and a store's as those of a server that is closed.
-use Rattle.jn_disks.proofs.Common.{◌≡◌, ⊎_elim, ◌<◌, ◌≤◌, ◌+◌, ◌*◌, ◌/◌, ◌-◌, ◌^◌, ◌&&◌, ℕ, Bool, true, false, if◌then◌else◌, List, [], length, sym, ◌∙◌, ap, subst, arith, nat_lt, take, drop, Half, DeviceState, HasHalves, IsNew, Files, Image, IsSound, Names, Counts, Pages, page_count, slot_place, head_place, data_place, is_used, file_in, address_in, pairs_view, IsStoreOf, IsImage, image_on, files_agree, image_fresh, AreSound, HasPages, image_of, files_in, IsStoreOfPages, nat_tests}
+use Rattle.jn_disks.proofs.Common.{◌≡◌, ⊎_elim, ◌<◌, ◌≤◌, ◌+◌, ◌*◌, ◌/◌, ◌-◌, ◌^◌, ◌&&◌, ℕ, Bool, true, false, if◌then◌else◌, List, [], length, sym, ◌∙◌, ap, subst, arith, nat_lt, take, drop, Half, DeviceState, HasHalves, IsNew, Files, Image, IsSound, Names, Counts, Pages, page_count, slot_place, head_place, data_place, is_used, file_in, address_in, pairs_view, IsStoreOf, IsImage, image_on, files_agree, image_fresh, AreSound, HasPages, image_of, files_in, IsStoreOfPages, nat_tests, format_version}
 use Rattle.jn_base.specs.declared.names.ServerNo.{ServerNo}
 use Rattle.std.proofs.lemmas.Bool.{cases_lt}
 use Rattle.std.proofs.lemmas.List.{get_or-take, length-take-le}
 use Rattle.jn_memdisk.specs.Pages.{half_at}
 
 -- an image with the same bytes, each page of which is good
-module _ (s server : ServerNo) (g : Counts) (good_one good_two : ℕ → Bool) (one two : Pages) (same : (p : ℕ) → p < 2 * page_count g → two p ≡ one p) (good : (p : ℕ) → p < 2 * page_count g → good_two p ≡ true) where
+module _ (version : ℕ) (s server : ServerNo) (g : Counts) (good_one good_two : ℕ → Bool) (one two : Pages) (same : (p : ℕ) → p < 2 * page_count g → two p ≡ one p) (good : (p : ℕ) → p < 2 * page_count g → good_two p ≡ true) where
   abbrev first : Image
-  first = record { server = server; counts = g; good = good_one; bytes = one }
+  first = record { version = version; server = server; counts = g; good = good_one; bytes = one }
 
   abbrev second : Image
-  second = record { server = server; counts = g; good = good_two; bytes = two }
+  second = record { version = version; server = server; counts = g; good = good_two; bytes = two }
 
   head_same : (i : ℕ) → i < g.heads → two (head_place g i) ≡ one (head_place g i)
   head_same i lt = same (head_place g i) (omega (arith, lt))
@@ -27,7 +27,7 @@ module _ (s server : ServerNo) (g : Counts) (good_one good_two : ℕ → Bool) (
   pub same_sound : IsSound s first → IsSound s second
   same_sound sound = record {
     server = sound.server;
-    root = (sound.root.0, sound.root.1, same 0 (omega arith) ∙ sound.root.2);
+    root = (sound.root.0, sound.root.1, same 0 (omega arith) ∙ sound.root.2, sound.root.3);
     good = good;
     pairs = λ i lt. same i (omega (arith, lt)) ∙ sound.pairs i lt ∙ sym (same (i + page_count g) (omega (arith, lt)));
     pool = λ i lt. same (slot_place g i) (omega (arith, lt)) ∙ sound.pool i lt;
@@ -40,7 +40,7 @@ module _ (s server : ServerNo) (g : Counts) (good_one good_two : ℕ → Bool) (
 
 -- ---- a disk of the pages
 
-module _ (server : ServerNo) (g : Counts) (halves : List Half) (are : AreSound server g halves) where
+module _ (version : ℕ) (server : ServerNo) (g : Counts) (halves : List Half) (are : AreSound version server g halves) where
   pub few : length halves < 2 ^ 32
   few = let size = are.size in let pool = are.fit.pool in let heads = are.fit.heads in let leaves = are.fit.leaves in omega (arith, size, pool, heads, leaves)
 
@@ -63,7 +63,7 @@ module _ (server : ServerNo) (g : Counts) (halves : List Half) (are : AreSound s
     other : (i : ℕ) → i < page_count g → i + s.count / 2 < 2 * page_count g
     other i lt = omega (arith, lt, half)
 
-    store_of : IsStoreOf (image_of server g halves) (pairs_view s)
+    store_of : IsStoreOf (image_of version server g halves) (pairs_view s)
     store_of = record {
       count = sym half;
       pages = λ i lt. record {
@@ -73,9 +73,9 @@ module _ (server : ServerNo) (g : Counts) (halves : List Half) (are : AreSound s
     }
 
     module _ (new : IsNew s) where
-      pub is_store : IsStoreOfPages server g halves (pairs_view s)
+      pub is_store : IsStoreOfPages version server g halves (pairs_view s)
       is_store = record {
-        fresh = λ epoch fits root. image_fresh server (image_of server g halves) (pairs_view s) are.sound are.fit store_of epoch fits root;
+        fresh = λ epoch fits root. image_fresh server (image_of version server g halves) (pairs_view s) are.sound are.fit store_of epoch fits root;
         device = sym holds.count ∙ are.size;
         untouched = record {
           calm = record { quiet = new.waiting; power = new.power };
@@ -128,11 +128,11 @@ module _ (server : ServerNo) (g : Counts) (files : Files) (s : DeviceState) (ima
   same_bytes : (p : ℕ) → p < 2 * page_count g → (half_at (take (2 * (s.count / 2)) halves) p).bytes ≡ (image_on server g (pairs_view s)).bytes p
   same_bytes p lt = ap (λ (h : Half). h.bytes) (taken_at p lt) ∙ sym (holds.bytes p (inside p lt)) ∙ sym (stands p lt)
 
-  pub closed : AreSound server g (take (2 * (s.count / 2)) halves)
+  pub closed : AreSound format_version server g (take (2 * (s.count / 2)) halves)
   closed = record {
     size = length-take-le (2 * (s.count / 2)) halves (let e = holds.count in omega (arith, e)) ∙ (let e : 2 * (s.count / 2) ≡ 2 * page_count g = omega (arith, count) in e);
     fit = image.fit;
-    sound = same_sound server server g (image_on server g (pairs_view s)).good (λ p. (half_at (take (2 * (s.count / 2)) halves) p).good) (image_on server g (pairs_view s)).bytes (λ p. (half_at (take (2 * (s.count / 2)) halves) p).bytes)
+    sound = same_sound format_version server server g (image_on server g (pairs_view s)).good (λ p. (half_at (take (2 * (s.count / 2)) halves) p).good) (image_on server g (pairs_view s)).bytes (λ p. (half_at (take (2 * (s.count / 2)) halves) p).bytes)
         same_bytes (λ p lt. ap (λ (h : Half). h.good) (taken_at p lt) ∙ sym (holds.good p (inside p lt)) ∙ good_page p lt) image.sound;
   }
 

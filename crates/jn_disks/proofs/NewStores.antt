@@ -1,5 +1,5 @@
 -- A store of zeros with a root, as a new server has it: its pages fix what a recovery finds there.
-use Rattle.jn_disks.proofs.Common.{◌≡◌, ℕ, zero, suc, ◌+◌, ◌<◌, ◌^◌, ◌&&◌, ◌≤◌, nat_eq, nat_lt, ◌*◌, ◌-◌, Bool, true, false, true≢false, if◌then◌else◌, List, [], ◌∷◌, Some, None, drop, replicate, refl, sym, ◌∙◌, ap, subst, arith, option_map, option_and_then, there, blank_page, IsNewStore, IsNewDisk, new_page, no_files, CountsFit, IsFresh, IsImage, image_on, counts_of, image_fresh, Image, IsSound, Counts, page_count, slot_place, head_place, data_place, is_used, file_in, is_head_of, head_from, block_in, files_of_pages, StoreView, StorePut, IsBlank, IsOnly, StoreLater, nat_tests, place_in, root_by}
+use Rattle.jn_disks.proofs.Common.{◌≡◌, inr, ℕ, zero, suc, ◌+◌, ◌<◌, ◌^◌, ◌&&◌, ◌≤◌, nat_eq, nat_lt, ◌*◌, ◌-◌, Bool, true, false, true≢false, if◌then◌else◌, List, [], ◌∷◌, Some, None, drop, replicate, refl, sym, ◌∙◌, ap, subst, arith, option_map, option_and_then, there, blank_page, IsNewStore, IsNewDisk, new_page, no_files, CountsFit, IsFresh, IsImage, image_on, counts_of, image_fresh, Image, IsSound, Counts, page_count, slot_place, head_place, data_place, is_used, file_in, is_head_of, head_from, block_in, files_of_pages, StoreView, StorePut, IsBlank, IsOnly, StoreLater, nat_tests, place_in, root_by, format_version, root_page}
 use Rattle.std.proofs.Math.Path.{fun_ext}
 use Rattle.jn_base.specs.declared.device.Outside.{Outside}
 use Rattle.jn_base.specs.declared.names.FileNo.{FileNo}
@@ -12,7 +12,6 @@ use Rattle.jn_records.specs.declared.head.Head.TheVariants.{Free as FreeHead}
 use Rattle.jn_records.specs.declared.record.Record.TheVariants.{Free}
 use Rattle.jn_records.specs.declared.root.Root.{Root}
 use Rattle.jn_records.specs.Heads.{head_page}
-use Rattle.jn_records.specs.Pages.{format_version, root_page}
 use Rattle.jn_records.specs.Records.{record_page}
 
 -- ---- the page of zeros
@@ -94,7 +93,7 @@ module _ (root : Root) (version : root.version ≡ format_version) (epoch_fits :
   sound : IsSound root.server (image_on root.server (counts_of root) v)
   sound = record {
     server = refl;
-    root = (root.epoch, epoch_fits, root_stands);
+    root = (root.epoch, epoch_fits, root_stands, inr refl);
     good = good;
     pairs = λ i lt. first i lt ∙ sym (second i lt);
     pool = λ i lt. blank (slot_place (counts_of root) i) (omega arith) (omega (arith, lt)) ∙ blank_record;

@@ -46,21 +46,21 @@ pub record HasNewDevice (root : Root) (d : DeviceState) : Type 0 where
 
 -- ---- a server that was closed
 
-abbrev pub image_of : ServerNo → Counts → List Half → Image
-image_of server g halves = record { server = server; counts = g; good = λ p. (half_at halves p).good; bytes = λ p. (half_at halves p).bytes }
+abbrev pub image_of : ℕ → ServerNo → Counts → List Half → Image
+image_of version server g halves = record { version = version; server = server; counts = g; good = λ p. (half_at halves p).good; bytes = λ p. (half_at halves p).bytes }
 
--- these are the pages of a sound image
-pub record AreSound (server : ServerNo) (g : Counts) (halves : List Half) : Type 0 where
+-- these are the pages of a sound image of this version
+pub record AreSound (version : ℕ) (server : ServerNo) (g : Counts) (halves : List Half) : Type 0 where
   pub size : length halves ≡ 2 * page_count g
   pub fit : CountsFit server g
-  pub sound : IsSound server (image_of server g halves)
+  pub sound : IsSound server (image_of version server g halves)
 
 abbrev pub files_in : Counts → List Half → Files
 files_in g halves = files_of_pages g (λ p. (half_at halves p).bytes)
 
 -- a store of such pages, two of its device for each stable page, whose root has this epoch: the image's files are found, no work and no flag
-pub record IsStoreOfPages (server : ServerNo) (g : Counts) (halves : List Half) (v : StoreView) : Type 0 where
-  pub fresh : (epoch : ℕ) → epoch < 2 ^ 32 → (half_at halves 0).bytes ≡ root_page (root_by server g epoch) → IsFresh server g epoch (files_in g halves) v
+pub record IsStoreOfPages (version : ℕ) (server : ServerNo) (g : Counts) (halves : List Half) (v : StoreView) : Type 0 where
+  pub fresh : (epoch : ℕ) → epoch < 2 ^ 32 → (half_at halves 0).bytes ≡ root_page (record (root_by server g epoch) { version = version }) → IsFresh server g epoch (files_in g halves) v
   pub untouched : IsUntouched v
   pub device : v.device.count ≡ 2 * page_count g
 

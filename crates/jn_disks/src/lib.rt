@@ -1,7 +1,7 @@
 //! A server's store in memory: a new one, one of the pages of a server that was closed, and the pages of a store.
 #![tactic(auto)]
 
-ghost use Rattle.std.specs.Prelude.{◌≡◌, ◌≤◌, ◌<◌, ◌+◌, ◌^◌, IfOk};
+ghost use Rattle.std.specs.Prelude.{◌≡◌, ◌≤◌, ◌<◌, ◌+◌, ◌^◌, ℕ, IfOk};
 ghost use Rattle.jn_base.specs.declared.names.ServerNo.{ServerNo};
 ghost use Rattle.jn_disks.specs.Disks.{IsNewStore, IsNewDisk, HasNewDevice, AreSound, HasPages, IsStoreOfPages, no_files, files_in};
 ghost use Rattle.jn_page_state.specs.Images.{CountsFit, IsImage};
@@ -54,8 +54,8 @@ pub fn put_root<S: StableStore>(store: &mut S, root: Root)
 
 /// The store of a server that was closed, of its pages. Page p and page p + half of their number are halves of one.
 pub fn store_of_pages(alloc: Global, pages: Vec<Half>) -> Result<Pairs<MemDisk>, AllocError>
-    requires sound { (server : ServerNo) × (g : Counts) × AreSound server g pages.items }
-    ensures found { (server : ServerNo) (g : Counts) → AreSound server g pages.items → IfOk result (λ store. IsStoreOfPages server g pages.items (⟦<Pairs<MemDisk> as StableStore>⟧.view store)) }
+    requires sound { (version : ℕ) × (server : ServerNo) × (g : Counts) × AreSound version server g pages.items }
+    ensures found { (version : ℕ) (server : ServerNo) (g : Counts) → AreSound version server g pages.items → IfOk result (λ store. IsStoreOfPages version server g pages.items (⟦<Pairs<MemDisk> as StableStore>⟧.view store)) }
     ensures pages { IfOk result (λ store. HasPages pages.items (⟦<Pairs<MemDisk> as Powered>⟧.device store)) }
     ensures new { IfOk result (λ store. IsNew (⟦<Pairs<MemDisk> as Powered>⟧.device store)) }
 {
@@ -65,7 +65,7 @@ pub fn store_of_pages(alloc: Global, pages: Vec<Half>) -> Result<Pairs<MemDisk>,
 /// The pages of a store, good or bad, with the bytes that they keep.
 pub fn pages_of_store(store: Pairs<MemDisk>) -> Vec<Half>
     ensures sound { (server : ServerNo) (g : Counts) (files : Files) → IsImage server g files (⟦<Pairs<MemDisk> as StableStore>⟧.view store) → page_count g ≡ (⟦<Pairs<MemDisk> as StableStore>⟧.view store).count
-        → AreSound server g result.items × (files_in g result.items ≡ files) }
+        → AreSound format_version server g result.items × (files_in g result.items ≡ files) }
     ensures pages { HasPages result.items (⟦<Pairs<MemDisk> as Powered>⟧.device store) }
 {
     let count = 2 * store.count();

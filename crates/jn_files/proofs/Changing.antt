@@ -96,11 +96,11 @@ module _ (heads : List Head) (slot : ℕ) (h : Head) (f : FileNo) (below : slot 
       (λ p. ap (λ (o : Option (List ℕ)). behind leaves (slice_index (or_nil o) p.0)) now
       ∙ sym (ap (λ (x : Option (Option (List ℕ))). or_else x (files_of heads leaves (Block f p))) (when_true (file_eq f f) (Some None) None (same_file f))))
 
-  module _ (xs : List ℕ) (was : head_in heads slot ≡ Used f xs) where
+  module _ (xs maps : List ℕ) (was : head_in heads slot ≡ Used f xs maps) where
     before : addresses f heads ≡ Some xs
     before = old_addresses (ap (is_of f) was ∙ same_file f) ∙ ap (λ (x : Head). Some (addresses_of x)) was
 
-    pub becomes_cut : (n : BlockNo) → h ≡ Used f (cut_addresses n.0 xs) → files_of (slice_set heads slot h) leaves ≡ change (cut_from f n) (files_of heads leaves)
+    pub becomes_cut : (n : BlockNo) → h ≡ Used f (cut_addresses n.0 xs) maps → files_of (slice_set heads slot h) leaves ≡ change (cut_from f n) (files_of heads leaves)
     becomes_cut n e =
         let now : addresses f (slice_set heads slot h) ≡ Some (cut_addresses n.0 xs) = new_addresses (ap (is_of f) e ∙ same_file f) ∙ ap (λ (x : Head). Some (addresses_of x)) e in
         by_file (cut_from f n) (files_of heads leaves) (files_of (slice_set heads slot h) leaves) f
@@ -118,7 +118,7 @@ module _ (heads : List Head) (slot : ℕ) (h : Head) (f : FileNo) (below : slot 
               ∙ sym (ap (λ (x : Option (Option (List ℕ))). or_else x (files_of heads leaves (Block f p))) (when_true (file_eq f f && nat_le n.0 p.0) (Some None) None (ap (λ b. b && nat_le n.0 p.0) (same_file f) ∙ late)))
         ])
 
-    pub becomes_written : (p : BlockNo) (a : ℕ) → p.0 < length xs → h ≡ Used f (slice_set xs p.0 (suc a)) → files_of (slice_set heads slot h) leaves ≡ change (written f p (take 448 (leaves a))) (files_of heads leaves)
+    pub becomes_written : (p : BlockNo) (a : ℕ) → p.0 < length xs → h ≡ Used f (slice_set xs p.0 (suc a)) maps → files_of (slice_set heads slot h) leaves ≡ change (written f p (take 448 (leaves a))) (files_of heads leaves)
     becomes_written p a lt e =
         let ys : List ℕ = slice_set xs p.0 (suc a) in
         let now : addresses f (slice_set heads slot h) ≡ Some (slice_set xs p.0 (suc a)) = new_addresses (ap (is_of f) e ∙ same_file f) ∙ ap (λ (x : Head). Some (addresses_of x)) e in

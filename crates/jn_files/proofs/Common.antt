@@ -2,20 +2,20 @@
 pub use Rattle.std.proofs.Common.{◌≡◌, ℕ, zero, suc, length, replicate, refl, ap, ◌≢◌, inl, inr, ◌<◌, true, false, List, Option, Some, None, sym, subst, ◌∙◌, arith, ◌≤◌, [], ◌∷◌, Bool, ◌⊎◌, ⊎_elim, ◌+◌, ◌-◌, ◌↔◌, drop, ◌^◌, ◌++◌, ◌*◌, Result, Ok, true≢false, rules, Err}
 pub use Rattle.jn_records.specs.declared.head.Head.TheVariants.{Free, Used}
 pub use Rattle.jn_files.specs.Table.{head_in, is_of, addresses_of, addresses, or_nil, behind, files_of, fresh_head, cut_addresses, address_of, exists, address_for, TableView, IsUnnamed, IsFreeLeaf, IsTable, AreHeads, IsHeadOf, is_free, is_touched, with_leaf, cut_head}
-pub use Rattle.jn_base.specs.Limits.{head_blocks}
+pub use Rattle.jn_base.specs.Limits.{head_blocks, most_maps}
 pub use Rattle.std.proofs.Math.Path.{fun_ext}
-pub use Rattle.std.proofs.lemmas.Bool.{cases_eq, cases_lt, false_from_ne_true, eq-eqb, cases_Bool}
+pub use Rattle.std.proofs.lemmas.Bool.{cases_eq, cases_lt, false_from_ne_true, eq-eqb, and_parts, cases_Bool}
 pub use Rattle.std.proofs.lemmas.Bool.Decides.{nat_tests}
 pub use Rattle.std.proofs.lemmas.List.{get_or-set_same, get_or-set_other, ext_get_or, get_or_past, length-set, drop_at, append_assoc, get_or_read}
-pub use Rattle.std.specs.Prelude.{slice_set, slice_index, take, nat_le, ◌&&◌, option_map, nat_lt, is_some, IfSome, IfNone, nat_eq, slice_index_or, if◌then◌else◌, not, option_and_then, flat_map, is_ok}
+pub use Rattle.std.specs.Prelude.{slice_set, slice_index, take, nat_le, ◌&&◌, option_map, nat_eq, nat_lt, is_some, IfSome, IfNone, slice_index_or, if◌then◌else◌, not, option_and_then, flat_map, is_ok}
 pub use Rattle.jn_base.specs.declared.names.FileNo.{FileNo}
 pub use Rattle.jn_base.specs.declared.names.BlockNo.{BlockNo}
 pub use Rattle.jn_base.specs.declared.names.LockUnit.{LockUnit}
 pub use Rattle.jn_base.specs.declared.names.LockUnit.TheVariants.{File, Block}
 pub use Rattle.jn_order.specs.Files.{Files, Change, change, or_else, there, created, removed, cut_from, written}
 pub use Rattle.jn_records.specs.declared.head.Head.{Head}
-pub use Rattle.std.specs.List.{list_all}
-pub use Rattle.jn_records.specs.Heads.{has_page, within, FileFits, IsHead, head_bytes}
+pub use Rattle.std.specs.List.{list_all, find}
+pub use Rattle.jn_records.specs.Heads.{has_page, within, all_within, FileFits, IsHead, head_bytes, addresses_bytes}
 unfoldable pub use Rattle.jn_records.specs.Heads.{head_page}
 pub use Rattle.jn_index.specs.Numbers.{number_at, is_above as is_number_above, IsSlotFrom, IsNumberAbove}
 pub use Rattle.jn_files.specs.Calls.{NextFile, NextAddress, NextBlock, HasPagesOfTable, Fills, with_touched, StoreRead, IsLoaded, IsChanged, PutsHead, IsPlaceOf, MayBecome, SetsHead, Touches, BlockGot}

@@ -23,11 +23,11 @@ has_file g hs j e = by (exists hs g) refl
 
 of_number : (f : FileNo) (h : Head) → head_number h ≡ Some f.0 → is_of f h ≡ true
 of_number f Free e = absurd (cc e)
-of_number f (Used g xs) e = let same : g.0 ≡ f.0 = cc e in grind (arith, nat_tests, same)
+of_number f (Used g xs maps) e = let same : g.0 ≡ f.0 = cc e in grind (arith, nat_tests, same)
 
 its_number : (f : FileNo) (h : Head) → is_of f h ≡ true → head_number h ≡ Some f.0
 its_number f Free e = absurd (cc e)
-its_number f (Used g xs) e = ap (λ (n : ℕ). Some n) (let same : g.0 ≡ f.0 = grind (arith, nat_tests, e) in same)
+its_number f (Used g xs maps) e = ap (λ (n : ℕ). Some n) (let same : g.0 ≡ f.0 = grind (arith, nat_tests, e) in same)
 
 module _ (files : List (Option ℕ)) (heads : List Head) (are : AreIndexed files heads) where
   pub slot_found : (f : FileNo) (slot : ℕ) → IsSlotFrom files f.0 0 slot → (slot < length heads) × (is_of f (head_in heads slot) ≡ true)

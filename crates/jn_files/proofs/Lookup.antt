@@ -10,14 +10,19 @@ pub when_false : {A : Type 0} (b : Bool) (x y : A) → b ≡ false → (if b the
 when_false false x y e = refl
 when_false true x y e = absurd (cc e)
 
+-- the map addresses of a head
+abbrev pub maps_of : Head → List ℕ
+maps_of Free = []
+maps_of (Used f xs maps) = maps
+
 -- one file has a head alone
 pub of_one : (f g : FileNo) (h : Head) → is_of f h ≡ true → is_of g h ≡ true → f ≡ g
 of_one f g Free a b = absurd (cc a)
-of_one f g (Used k xs) a b = ap (λ (n : ℕ). let x : FileNo = record { 0 = n } in x) (let e : f.0 ≡ g.0 = grind (arith, nat_tests, a, b) in e)
+of_one f g (Used k xs maps) a b = ap (λ (n : ℕ). let x : FileNo = record { 0 = n } in x) (let e : f.0 ≡ g.0 = grind (arith, nat_tests, a, b) in e)
 
-pub of_used : (f : FileNo) (h : Head) → is_of f h ≡ true → h ≡ Used f (addresses_of h)
+pub of_used : (f : FileNo) (h : Head) → is_of f h ≡ true → h ≡ Used f (addresses_of h) (maps_of h)
 of_used f Free e = absurd (cc e)
-of_used f (Used g xs) e = ap (λ (n : ℕ). let x : FileNo = record { 0 = n } in Used x xs) (let same : g.0 ≡ f.0 = grind (arith, nat_tests, e) in same)
+of_used f (Used g xs maps) e = ap (λ (n : ℕ). let x : FileNo = record { 0 = n } in Used x xs maps) (let same : g.0 ≡ f.0 = grind (arith, nat_tests, e) in same)
 
 module _ (f : FileNo) where
   pub none_has : (hs : List Head) → ((j : ℕ) → is_of f (head_in hs j) ≡ false) → addresses f hs ≡ None

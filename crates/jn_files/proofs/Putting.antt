@@ -1,19 +1,25 @@
 -- What a store holds over the put of a head.
-use Rattle.jn_files.proofs.Common.{head_blocks, ◌≡◌, ◌≢◌, ◌⊎◌, inl, inr, ⊎_elim, ◌<◌, ◌+◌, ◌^◌, ℕ, zero, suc, Bool, true, false, List, [], ◌∷◌, length, drop, Option, Some, None, refl, sym, ap, subst, ◌∙◌, arith, fun_ext, cases_eq, cases_lt, nat_tests, length-set, slice_set, slice_index, take, nat_lt, option_map, option_and_then, FileNo, BlockNo, LockUnit, File, Block, Change, change, there, Head, Used, head_page, FileFits, IsHead, Counts, Pages, head_place, data_place, page_count, is_head_of, head_from, head_of, address_in, block_behind, block_in, files_of_pages, StoreView, IsOnly, IsSamePage, StorePut, IsChoice, with_page, TableView, head_in, is_of, addresses_of, address_of, addresses, address_for, or_nil, behind, files_of, AreHeads, IsTable, Says, leaves_in, IsLeaf, HoldsHeads, HoldsTable, files_in, HasPagesOfTable, IsChanged, PutsHead, IsChange, AreLeaves}
+use Rattle.jn_files.proofs.Common.{head_blocks, ◌≡◌, ◌≢◌, ◌⊎◌, inl, inr, ⊎_elim, ◌<◌, ◌+◌, ◌^◌, ℕ, zero, suc, Bool, true, false, List, [], ◌∷◌, length, drop, Option, Some, None, refl, sym, ap, subst, ◌∙◌, arith, fun_ext, cases_eq, cases_lt, nat_tests, length-set, slice_set, slice_index, take, nat_lt, option_map, option_and_then, FileNo, BlockNo, LockUnit, File, Block, Change, change, there, Head, Used, head_page, FileFits, IsHead, Counts, Pages, head_place, data_place, page_count, is_head_of, head_from, head_of, address_in, block_behind, block_in, files_of_pages, StoreView, IsOnly, IsSamePage, StorePut, IsChoice, with_page, TableView, head_in, is_of, addresses_of, address_of, addresses, address_for, or_nil, behind, files_of, AreHeads, IsTable, Says, leaves_in, IsLeaf, HoldsHeads, HoldsTable, files_in, HasPagesOfTable, IsChanged, PutsHead, IsChange, AreLeaves, find, if◌then◌else◌, Free}
 use Rattle.jn_store.proofs.Choices.{Leads}
 use Rattle.jn_store.proofs.Choices.{choice_only, put_leads, done_leads, with_same, with_other, some_choice}
-use Rattle.jn_files.proofs.Cutting.{address_within, address_past}
-use Rattle.jn_files.proofs.Lookup.{when_true, when_false, named_by, of_used}
+use Rattle.jn_files.proofs.Cutting.{address_within, address_past, whole_length, within_parts}
+use Rattle.jn_files.proofs.Lookup.{when_true, when_false, named_by}
 use Rattle.jn_files.proofs.Standing.{head_at_slot, head_off_slot}
 use Rattle.jn_files.proofs.Spelled.{page_is_of, page_address}
 
 -- ---- the files that pages hold are those of the heads that they say
 
-module _ (g : Counts) (pages : Pages) (f : FileNo) where
-  abbrev page_of : Option (List ℕ) → Option (List ℕ)
-  page_of o = option_map (λ xs. head_page (Used f xs)) o
+-- the addresses of a file are those of its head
+addresses_found : (f : FileNo) (hs : List Head) → addresses f hs ≡ option_map addresses_of (find (is_of f) hs)
+addresses_found f [] = refl
+addresses_found f (h ∷ hs) = by (is_of f h) (addresses_found f hs)
+  where
+    by : (b : Bool) → addresses f hs ≡ option_map addresses_of (find (is_of f) hs) → (if b then Some (addresses_of h) else addresses f hs) ≡ option_map addresses_of (if b then Some h else find (is_of f) hs)
+    by true rest = refl
+    by false rest = rest
 
-  head_search : (hs : List Head) (i : ℕ) → ((j : ℕ) → j < length hs → pages (head_place g (i + j)) ≡ head_page (head_in hs j)) → ((j : ℕ) → FileFits (head_in hs j)) → head_from g pages f i (length hs) ≡ page_of (addresses f hs)
+module _ (g : Counts) (pages : Pages) (f : FileNo) where
+  head_search : (hs : List Head) (i : ℕ) → ((j : ℕ) → j < length hs → pages (head_place g (i + j)) ≡ head_page (head_in hs j)) → ((j : ℕ) → FileFits (head_in hs j)) → head_from g pages f i (length hs) ≡ option_map head_page (find (is_of f) hs)
   head_search [] i says fits = refl
   head_search (h ∷ hs) i says fits = by (head_search hs (i + 1) (λ j lt. ap (λ (k : ℕ). pages (head_place g k)) (let e : i + 1 + j ≡ i + suc j = omega arith in e) ∙ says (suc j) (omega arith)) (λ j. fits (suc j))) (is_of f h) refl
     where
@@ -23,55 +29,56 @@ module _ (g : Counts) (pages : Pages) (f : FileNo) where
       test : is_head_of f (pages (head_place g i)) ≡ is_of f h
       test = ap (is_head_of f) here ∙ page_is_of f h (fits 0)
 
-      by : head_from g pages f (i + 1) (length hs) ≡ page_of (addresses f hs) → (b : Bool) → is_of f h ≡ b → head_from g pages f i (suc (length hs)) ≡ page_of (addresses f (h ∷ hs))
+      by : head_from g pages f (i + 1) (length hs) ≡ option_map head_page (find (is_of f) hs) → (b : Bool) → is_of f h ≡ b → head_from g pages f i (suc (length hs)) ≡ option_map head_page (find (is_of f) (h ∷ hs))
       by later true e =
           when_true (is_head_of f (pages (head_place g i))) (Some (pages (head_place g i))) (head_from g pages f (i + 1) (length hs)) (test ∙ e)
-          ∙ ap (λ (x : List ℕ). Some x) (here ∙ ap head_page (of_used f h e))
-          ∙ sym (ap page_of (when_true (is_of f h) (Some (addresses_of h)) (addresses f hs) e))
+          ∙ ap (λ (x : List ℕ). Some x) here
+          ∙ sym (ap (option_map head_page) (when_true (is_of f h) (Some h) (find (is_of f) hs) e))
       by later false e =
           when_false (is_head_of f (pages (head_place g i))) (Some (pages (head_place g i))) (head_from g pages f (i + 1) (length hs)) (test ∙ e)
-          ∙ later ∙ sym (ap page_of (when_false (is_of f h) (Some (addresses_of h)) (addresses f hs) e))
+          ∙ later ∙ sym (ap (option_map head_page) (when_false (is_of f h) (Some h) (find (is_of f) hs) e))
 
--- the addresses of a file are those of a head
-found_by : (f : FileNo) (hs : List Head) (xs : List ℕ) → addresses f hs ≡ Some xs → (slot : ℕ) × (head_in hs slot ≡ Used f xs)
-found_by f [] xs e = absurd (cc e)
-found_by f (h ∷ hs) xs e = by (found_by f hs xs) (is_of f h) refl
+-- the head that is found stands in a slot, and is the file's
+found_by : (f : FileNo) (hs : List Head) (h : Head) → find (is_of f) hs ≡ Some h → (slot : ℕ) × (head_in hs slot ≡ h) × (is_of f h ≡ true)
+found_by f [] h e = absurd (cc e)
+found_by f (x ∷ hs) h e = by (found_by f hs h) (is_of f x) refl
   where
-    by : (addresses f hs ≡ Some xs → (slot : ℕ) × (head_in hs slot ≡ Used f xs)) → (b : Bool) → is_of f h ≡ b → (slot : ℕ) × (head_in (h ∷ hs) slot ≡ Used f xs)
+    by : (find (is_of f) hs ≡ Some h → (slot : ℕ) × (head_in hs slot ≡ h) × (is_of f h ≡ true)) → (b : Bool) → is_of f x ≡ b → (slot : ℕ) × (head_in (x ∷ hs) slot ≡ h) × (is_of f h ≡ true)
     by later true t =
-        let some : Some (addresses_of h) ≡ Some xs = sym (when_true (is_of f h) (Some (addresses_of h)) (addresses f hs) t) ∙ e in
-        let same : addresses_of h ≡ xs = cc some in
-        (0, of_used f h t ∙ ap (λ (l : List ℕ). Used f l) same)
-    by later false t = let rest = later (sym (when_false (is_of f h) (Some (addresses_of h)) (addresses f hs) t) ∙ e) in (suc rest.0, rest.1)
+        let some : Some x ≡ Some h = sym (when_true (is_of f x) (Some x) (find (is_of f) hs) t) ∙ e in
+        let same : x ≡ h = cc some in
+        (0, same, subst (λ (k : Head). is_of f k ≡ true) same t)
+    by later false t = let rest = later (sym (when_false (is_of f x) (Some x) (find (is_of f) hs) t) ∙ e) in (suc rest.0, rest.1, rest.2)
 
 block_same : (g : Counts) (pages : Pages) (a : ℕ) → block_behind g pages a ≡ behind (leaves_in g pages) a
 block_same g pages zero = refl
 block_same g pages (suc a) = refl
 
 module _ (g : Counts) (pages : Pages) (hs : List Head) (slots : length hs ≡ g.heads) (small : g.leaves < 2 ^ 16) (are : AreHeads g.leaves hs) (says : Says g pages hs) where
-  its_head : (f : FileNo) → head_of g pages f ≡ page_of g pages f (addresses f hs)
+  its_head : (f : FileNo) → head_of g pages f ≡ option_map head_page (find (is_of f) hs)
   its_head f = ap (λ (n : ℕ). head_from g pages f 0 n) (sym slots)
       ∙ head_search g pages f hs 0 (λ j lt. ap (λ (k : ℕ). pages (head_place g k)) (let e : 0 + j ≡ j = omega arith in e) ∙ says j lt) (λ j. (are.each j).fits)
 
-  block_by : (f : FileNo) (p : BlockNo) (o : Option (List ℕ)) → addresses f hs ≡ o → option_and_then (block_in g pages p) (page_of g pages f o) ≡ behind (leaves_in g pages) (slice_index (or_nil o) p.0)
+  block_by : (f : FileNo) (p : BlockNo) (o : Option Head) → find (is_of f) hs ≡ o → option_and_then (block_in g pages p) (option_map head_page o) ≡ behind (leaves_in g pages) (slice_index (or_nil (option_map addresses_of o)) p.0)
   block_by f p None e = refl
-  block_by f p (Some xs) e =
-      let at = found_by f hs xs e in
-      let is : IsHead g.leaves (Used f xs) = subst (IsHead g.leaves) at.1 (are.each at.0).is_head in
+  block_by f p (Some Free) e = absurd (let none : is_of f Free ≡ true = (found_by f hs Free e).2 in cc none)
+  block_by f p (Some (Used k xs maps)) e =
+      let at = found_by f hs (Used k xs maps) e in
+      let is : IsHead g.leaves (Used k xs maps) = subst (IsHead g.leaves) at.1 (are.each at.0).is_head in
       elim (cases_lt p.0 head_blocks) [
-        | inl lt ↦ when_true (nat_lt p.0 head_blocks) (block_behind g pages (address_in (head_page (Used f xs)) p.0)) None (grind (arith, nat_tests))
-            ∙ ap (block_behind g pages) (page_address f xs p.0 g.leaves small is.within_leaves (grind (arith, nat_tests, is.whole)) lt) ∙ block_same g pages (slice_index xs p.0)
-        | inr ge ↦ when_false (nat_lt p.0 head_blocks) (block_behind g pages (address_in (head_page (Used f xs)) p.0)) None (grind (arith, nat_tests))
-            ∙ sym (ap (behind (leaves_in g pages)) (address_past (Used f xs) p.0 is.whole ge))
+        | inl lt ↦ when_true (nat_lt p.0 head_blocks) (block_behind g pages (address_in (head_page (Used k xs maps)) p.0)) None (grind (arith, nat_tests))
+            ∙ ap (block_behind g pages) (page_address k xs maps p.0 g.leaves small (within_parts g.leaves k xs maps is.within_leaves).0 (whole_length k xs maps is.whole) lt) ∙ block_same g pages (slice_index xs p.0)
+        | inr ge ↦ when_false (nat_lt p.0 head_blocks) (block_behind g pages (address_in (head_page (Used k xs maps)) p.0)) None (grind (arith, nat_tests))
+            ∙ sym (ap (behind (leaves_in g pages)) (address_past (Used k xs maps) p.0 is.whole ge))
       ]
 
-  file_by : (f : FileNo) (o : Option (List ℕ)) → option_map (λ (head : List ℕ). there) (page_of g pages f o) ≡ option_map (λ (xs : List ℕ). there) o
-  file_by f None = refl
-  file_by f (Some xs) = refl
+  file_by : (o : Option Head) → option_map (λ (head : List ℕ). there) (option_map head_page o) ≡ option_map (λ (xs : List ℕ). there) (option_map addresses_of o)
+  file_by None = refl
+  file_by (Some h) = refl
 
   unit_by : (u : LockUnit) → files_of_pages g pages u ≡ files_of hs (leaves_in g pages) u
-  unit_by (File f) = ap (option_map (λ (head : List ℕ). there)) (its_head f) ∙ file_by f (addresses f hs)
-  unit_by (Block f p) = ap (option_and_then (block_in g pages p)) (its_head f) ∙ block_by f p (addresses f hs) refl
+  unit_by (File f) = ap (option_map (λ (head : List ℕ). there)) (its_head f) ∙ file_by (find (is_of f) hs) ∙ sym (ap (option_map (λ (xs : List ℕ). there)) (addresses_found f hs))
+  unit_by (Block f p) = ap (option_and_then (block_in g pages p)) (its_head f) ∙ block_by f p (find (is_of f) hs) refl ∙ sym (ap (λ (o : Option (List ℕ)). behind (leaves_in g pages) (slice_index (or_nil o) p.0)) (addresses_found f hs))
 
   pub files_said : files_of_pages g pages ≡ files_of hs (leaves_in g pages)
   files_said = fun_ext unit_by

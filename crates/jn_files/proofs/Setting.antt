@@ -1,6 +1,6 @@
 -- The heads that the calls put may stand in their slots, and what each makes of the files.
-use Rattle.jn_files.proofs.Common.{head_blocks, ◌≡◌, ◌⊎◌, inl, inr, ⊎_elim, ◌<◌, ◌≤◌, ◌+◌, ◌^◌, ℕ, zero, suc, Bool, true, false, List, [], ◌∷◌, length, replicate, refl, sym, ap, subst, ◌∙◌, arith, cases_eq, cases_lt, false_from_ne_true, nat_tests, get_or_past, get_or-set_same, get_or-set_other, length-set, slice_set, slice_index, slice_index_or, take, nat_le, list_all, free_count, is_free_number, IsLeastFree, FileNo, BlockNo, Change, created, removed, cut_from, written, Head, Free, Used, StoreView, TableView, head_in, is_free, is_of, exists, address_of, IsHeadOf, IsTable, fresh_head, cut_addresses, IsLeaf, data_place, IsPlaceOf, MayBecome, PutsHead, SetsHead, MayStand, ChangesBlocks, IsChange, AreLeaves}
-use Rattle.jn_files.proofs.Cutting.{cut_length, cut_kept, cut_gone}
+use Rattle.jn_files.proofs.Common.{head_blocks, ◌≡◌, ◌⊎◌, inl, inr, ⊎_elim, ◌<◌, ◌≤◌, ◌+◌, ◌^◌, ℕ, zero, suc, Bool, true, false, List, [], ◌∷◌, length, replicate, refl, sym, ap, subst, ◌∙◌, arith, cases_eq, cases_lt, false_from_ne_true, nat_tests, get_or_past, get_or-set_same, get_or-set_other, length-set, slice_set, slice_index, slice_index_or, take, nat_le, list_all, free_count, is_free_number, IsLeastFree, FileNo, BlockNo, Change, created, removed, cut_from, written, Head, Free, Used, StoreView, TableView, head_in, is_free, is_of, exists, address_of, IsHeadOf, IsTable, fresh_head, cut_addresses, IsLeaf, data_place, IsPlaceOf, MayBecome, PutsHead, SetsHead, MayStand, ChangesBlocks, IsChange, AreLeaves, ◌&&◌, nat_eq, most_maps, all_within, IsHead}
+use Rattle.jn_files.proofs.Cutting.{cut_length, cut_kept, cut_gone, whole_length, within_parts}
 use Rattle.jn_files.proofs.Lookup.{absent_none, of_one}
 use Rattle.jn_files.proofs.Changing.{zeros_at, becomes_fresh, becomes_gone, becomes_cut, becomes_written}
 
@@ -13,11 +13,11 @@ set_below flags a e = elim (cases_lt a (length flags)) [
 
 free_is_of_none : (g : FileNo) (h : Head) → is_free h ≡ true → is_of g h ≡ false
 free_is_of_none g Free e = refl
-free_is_of_none g (Used f xs) e = absurd (cc e)
+free_is_of_none g (Used f xs maps) e = absurd (cc e)
 
 of_some : (g : FileNo) (h : Head) → is_of g h ≡ true → is_free h ≡ false
 of_some g Free e = absurd (cc e)
-of_some g (Used f xs) e = refl
+of_some g (Used f xs maps) e = refl
 
 zeros_within : (n leaves : ℕ) → list_all (λ a. nat_le a leaves) (replicate n 0) ≡ true
 zeros_within zero leaves = refl
@@ -33,6 +33,10 @@ set_within p a leaves [] lt all = refl
 set_within zero a leaves (x ∷ xs) lt all = let small : nat_le (suc a) leaves ≡ true = grind (arith, nat_tests) in grind (arith, nat_tests)
 set_within (suc p) a leaves (x ∷ xs) lt all = let rest = set_within p a leaves xs lt (grind (arith, nat_tests)) in grind (arith, nat_tests)
 
+-- a head without blocks is one
+pub fresh_is_head : (leaves : ℕ) (f : FileNo) → IsHead leaves (fresh_head f)
+fresh_is_head leaves f = record { whole = refl; within_leaves = λ i. zeros_within head_blocks leaves i && zeros_within most_maps 0 i }
+
 -- ---- which blocks have another data page
 
 pub changes_any : (old new : Head) → ChangesBlocks old new 0 head_blocks
@@ -42,15 +46,15 @@ changes_any old new = record {
   same = λ p low out. absurd (⊎_elim (λ (before : p < 0). let no_way : ⊥ = omega arith in no_way) (λ (behind : head_blocks ≤ p). let no_way : ⊥ = omega arith in no_way) out);
 }
 
-pub cut_changes_blocks : (old : Head) (f : FileNo) (xs : List ℕ) (n : ℕ) → n < head_blocks → old ≡ Used f xs → ChangesBlocks old (Used f (cut_addresses n xs)) n head_blocks
-cut_changes_blocks old f xs n lt was = record {
+pub cut_changes_blocks : (old : Head) (f : FileNo) (xs maps : List ℕ) (n : ℕ) → n < head_blocks → old ≡ Used f xs maps → ChangesBlocks old (Used f (cut_addresses n xs) maps) n head_blocks
+cut_changes_blocks old f xs maps n lt was = record {
   range = omega arith;
   within = omega arith;
   same = λ p low out. ⊎_elim (λ (before : p < n). cut_kept n xs p before ∙ ap (λ (x : Head). address_of x p) (sym was)) (λ (behind : head_blocks ≤ p). absurd (omega arith)) out;
 }
 
-pub leaf_changes_blocks : (old : Head) (f : FileNo) (xs : List ℕ) (p a : ℕ) → p < head_blocks → old ≡ Used f xs → ChangesBlocks old (Used f (slice_set xs p (suc a))) p (p + 1)
-leaf_changes_blocks old f xs p a lt was = record {
+pub leaf_changes_blocks : (old : Head) (f : FileNo) (xs maps : List ℕ) (p a : ℕ) → p < head_blocks → old ≡ Used f xs maps → ChangesBlocks old (Used f (slice_set xs p (suc a)) maps) p (p + 1)
+leaf_changes_blocks old f xs maps p a lt was = record {
   range = omega arith;
   within = omega arith;
   same = λ q low out. get_or-set_other xs p q (suc a) 0 (λ e. ⊎_elim (λ (before : q < p). let no_way : ⊥ = omega arith in no_way) (λ (behind : p + 1 ≤ q). let no_way : ⊥ = omega arith in no_way) out)
@@ -104,7 +108,7 @@ module _ (t : TableView) (is : IsTable t) (f : FileNo) (slot : ℕ) (place : IsP
   pub fresh_stands : f.0 < 2 ^ 32 → (exists t.heads f ≡ false → t.free_heads.promised < free_count t.free_heads) → MayStand t slot (fresh_head f)
   fresh_stands small room = empty_stands (fresh_head f) (λ p a e. let none = zeros_at head_blocks p in omega arith)
       (λ g e. of_one g f (fresh_head f) e (let same : is_of f (fresh_head f) ≡ true = grind (arith, nat_tests) in same))
-      (record { is_head = record { whole = refl; within_leaves = zeros_within head_blocks t.counts.leaves }; fits = small })
+      (record { is_head = fresh_is_head t.counts.leaves f; fits = small })
       (λ free now. ⊎_elim (λ own. absurd (let taken = of_some f (head_in t.heads slot) own in cc (taken, free))) (λ other. room other.0) place)
 
   pub fresh_leaves : (v : StoreView) → AreLeaves t v (fresh_head f)
@@ -123,9 +127,12 @@ module _ (t : TableView) (is : IsTable t) (f : FileNo) (slot : ℕ) (place : IsP
   gone_changes leaves = becomes_gone t.heads slot Free f slot_there only old_of (λ g e. absurd (cc e)) leaves refl
 
   -- ---- a head that keeps its file
-  module _ (xs : List ℕ) (was : head_in t.heads slot ≡ Used f xs) where
-    old_head : IsHeadOf t.counts.leaves (Used f xs)
+  module _ (xs maps : List ℕ) (was : head_in t.heads slot ≡ Used f xs maps) where
+    old_head : IsHeadOf t.counts.leaves (Used f xs maps)
     old_head = subst (IsHeadOf t.counts.leaves) was (is.heads.each slot)
+
+    old_within : (all_within t.counts.leaves xs ≡ true) × (all_within 0 maps ≡ true)
+    old_within = within_parts t.counts.leaves f xs maps old_head.is_head.within_leaves
 
     named_used : (a p : ℕ) → slice_index xs p ≡ suc a → is_free_number t.free_leaves a ≡ false
     named_used a p e = false_from_ne_true (is_free_number t.free_leaves a) (λ free. ((is.free_leaves a).0 free).unnamed slot p (subst (λ (x : Head). address_of x p ≡ suc a) (sym was) e))
@@ -133,8 +140,8 @@ module _ (t : TableView) (is : IsTable t) (f : FileNo) (slot : ℕ) (place : IsP
     old_once : (a p j q : ℕ) → slice_index xs p ≡ suc a → address_of (head_in t.heads j) q ≡ suc a → (j ≡ slot) × (q ≡ p)
     old_once a p j q e d = is.heads.addresses a j q slot p d (subst (λ (x : Head). address_of x p ≡ suc a) (sym was) e)
 
-    used_of : (ys : List ℕ) (g : FileNo) → is_of g (Used f ys) ≡ true → g ≡ f
-    used_of ys g e = of_one g f (Used f ys) e (let same : is_of f (Used f ys) ≡ true = grind (arith, nat_tests) in same)
+    used_of : (ys : List ℕ) (g : FileNo) → is_of g (Used f ys maps) ≡ true → g ≡ f
+    used_of ys g e = of_one g f (Used f ys maps) e (let same : is_of f (Used f ys maps) ≡ true = grind (arith, nat_tests) in same)
 
     not_free : is_free (head_in t.heads slot) ≡ true → ⊥
     not_free free = let used : is_free (head_in t.heads slot) ≡ false = ap is_free was in cc (used, free)
@@ -145,10 +152,16 @@ module _ (t : TableView) (is : IsTable t) (f : FileNo) (slot : ℕ) (place : IsP
       | inr ge ↦ absurd (let none = cut_gone n xs p ge in omega arith)
     ]
 
-    pub cut_stands : (n : ℕ) → MayStand t slot (Used f (cut_addresses n xs))
+    pub cut_stands : (n : ℕ) → MayStand t slot (Used f (cut_addresses n xs) maps)
     cut_stands n = record {
       below = place_below;
-      head = record { is_head = record { whole = let long = cut_length n xs in let whole = old_head.is_head.whole in grind (arith, nat_tests); within_leaves = cut_within n t.counts.leaves xs old_head.is_head.within_leaves }; fits = old_head.fits };
+      head = record {
+        is_head = record {
+          whole = ap (λ (k : ℕ). nat_eq k head_blocks && nat_eq (length maps) most_maps) (cut_length n xs) ∙ old_head.is_head.whole;
+          within_leaves = λ i. cut_within n t.counts.leaves xs old_within.0 i && old_within.1 i;
+        };
+        fits = old_head.fits;
+      };
       file = λ g j e d. only j (subst (λ (x : FileNo). is_of x (head_in t.heads j) ≡ true) (used_of (cut_addresses n xs) g e) d);
       elsewhere = λ a p j q e d. old_once a p j q (cut_named n p a e) d;
       once = λ a p q e d. (old_once a q slot p (cut_named n q a d) (subst (λ (x : Head). address_of x p ≡ suc a) (sym was) (cut_named n p a e))).1;
@@ -156,16 +169,16 @@ module _ (t : TableView) (is : IsTable t) (f : FileNo) (slot : ℕ) (place : IsP
       room = λ free now. absurd (not_free free);
     }
 
-    pub cut_leaves : (v : StoreView) (n : ℕ) → AreLeaves t v (Used f (cut_addresses n xs))
+    pub cut_leaves : (v : StoreView) (n : ℕ) → AreLeaves t v (Used f (cut_addresses n xs) maps)
     cut_leaves v n holds p a e = holds.leaves slot p a (subst (λ (x : Head). address_of x p ≡ suc a) (sym was) (cut_named n p a e))
 
-    pub cut_changes : (n : BlockNo) → IsChange t.heads slot (Used f (cut_addresses n.0 xs)) (λ leaves. cut_from f n)
-    cut_changes n leaves = becomes_cut t.heads slot (Used f (cut_addresses n.0 xs)) f slot_there only old_of (λ g e. ap (λ (x : FileNo). x.0) (used_of (cut_addresses n.0 xs) g e)) leaves xs was n refl
+    pub cut_changes : (n : BlockNo) → IsChange t.heads slot (Used f (cut_addresses n.0 xs) maps) (λ leaves. cut_from f n)
+    cut_changes n leaves = becomes_cut t.heads slot (Used f (cut_addresses n.0 xs) maps) f slot_there only old_of (λ g e. ap (λ (x : FileNo). x.0) (used_of (cut_addresses n.0 xs) g e)) leaves xs maps was n refl
 
     -- a data page for a block
     module _ (v : StoreView) (p a : ℕ) (block : p < head_blocks) (may : MayBecome t v f p a) where
       long : length xs ≡ head_blocks
-      long = let whole = old_head.is_head.whole in grind (arith, nat_tests)
+      long = whole_length f xs maps old_head.is_head.whole
 
       abbrev set : List ℕ
       set = slice_set xs p (suc a)
@@ -196,10 +209,16 @@ module _ (t : TableView) (is : IsTable t) (f : FileNo) (slot : ℕ) (place : IsP
           (λ (old : slice_index xs q ≡ suc b). (elsewhere b r slot q d (subst (λ (x : Head). address_of x q ≡ suc b) (sym was) old)).1)
           (either_way q b e)
 
-      pub leaf_stands : MayStand t slot (Used f (slice_set xs p (suc a)))
+      pub leaf_stands : MayStand t slot (Used f (slice_set xs p (suc a)) maps)
       leaf_stands = record {
         below = place_below;
-        head = record { is_head = record { whole = let n = long in let m = length-set xs p (suc a) in grind (arith, nat_tests); within_leaves = set_within p a t.counts.leaves xs leaf_below old_head.is_head.within_leaves }; fits = old_head.fits };
+        head = record {
+          is_head = record {
+            whole = ap (λ (k : ℕ). nat_eq k head_blocks && nat_eq (length maps) most_maps) (length-set xs p (suc a)) ∙ old_head.is_head.whole;
+            within_leaves = λ i. set_within p a t.counts.leaves xs leaf_below old_within.0 i && old_within.1 i;
+          };
+          fits = old_head.fits;
+        };
         file = λ g j e d. only j (subst (λ (x : FileNo). is_of x (head_in t.heads j) ≡ true) (used_of (slice_set xs p (suc a)) g e) d);
         elsewhere = λ b q j r e d. elsewhere b q j r e d;
         once = λ b q r e d. once b q r e d;
@@ -213,15 +232,15 @@ module _ (t : TableView) (is : IsTable t) (f : FileNo) (slot : ℕ) (place : IsP
         room = λ free now. absurd (not_free free);
       }
 
-      pub leaf_leaves : AreLeaves t v (Used f (slice_set xs p (suc a)))
+      pub leaf_leaves : AreLeaves t v (Used f (slice_set xs p (suc a)) maps)
       leaf_leaves holds q b e = ⊎_elim
           (λ (new : (q ≡ p) × (b ≡ a)). subst (λ (k : ℕ). IsLeaf v (data_place t.counts k)) (sym new.1) may.leaf)
           (λ (old : slice_index xs q ≡ suc b). holds.leaves slot q b (subst (λ (x : Head). address_of x q ≡ suc b) (sym was) old))
           (either_way q b e)
 
-    pub leaf_changes : (p : BlockNo) (a : ℕ) → p.0 < head_blocks → IsChange t.heads slot (Used f (slice_set xs p.0 (suc a))) (λ leaves. written f p (take 448 (leaves a)))
-    leaf_changes p a block leaves = becomes_written t.heads slot (Used f (slice_set xs p.0 (suc a))) f slot_there only old_of (λ g e. ap (λ (x : FileNo). x.0) (used_of (slice_set xs p.0 (suc a)) g e)) leaves xs was p a
-        (let whole = old_head.is_head.whole in let n : length xs ≡ head_blocks = grind (arith, nat_tests) in omega arith) refl
+    pub leaf_changes : (p : BlockNo) (a : ℕ) → p.0 < head_blocks → IsChange t.heads slot (Used f (slice_set xs p.0 (suc a)) maps) (λ leaves. written f p (take 448 (leaves a)))
+    leaf_changes p a block leaves = becomes_written t.heads slot (Used f (slice_set xs p.0 (suc a)) maps) f slot_there only old_of (λ g e. ap (λ (x : FileNo). x.0) (used_of (slice_set xs p.0 (suc a)) g e)) leaves xs maps was p a
+        (let n = whole_length f xs maps old_head.is_head.whole in omega arith) refl
 
 -- a call that found the slot and put its new head
 pub sets_head : (t : TableView) (v : StoreView) (is : IsTable t) (f : FileNo) (slot : ℕ) (place : IsPlaceOf t f slot) (new_head : Head → Head) (c : (ℕ → List ℕ) → Change) (ok : Bool) (u : TableView) (w : StoreView) (result h : Head)

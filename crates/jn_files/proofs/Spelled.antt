@@ -1,20 +1,23 @@
 -- What the page of a head says.
-use Rattle.jn_files.proofs.Common.{head_blocks, ◌≡◌, ◌<◌, ◌≤◌, ◌+◌, ◌*◌, ◌-◌, ◌^◌, ◌++◌, ℕ, zero, suc, true, List, [], ◌∷◌, length, replicate, drop, refl, ap, ◌∙◌, arith, slice_index, flat_map, nat_le, nat_eq, list_all, nat_tests, append_assoc, FileNo, Head, Free, Used, head_page, head_bytes, FileFits, is_head_of, address_in, is_of}
+use Rattle.jn_files.proofs.Common.{head_blocks, ◌≡◌, ◌<◌, ◌≤◌, ◌+◌, ◌*◌, ◌-◌, ◌^◌, ◌++◌, ℕ, zero, suc, true, List, [], ◌∷◌, length, replicate, drop, refl, ap, ◌∙◌, arith, slice_index, flat_map, nat_le, nat_eq, list_all, nat_tests, append_assoc, FileNo, Head, Free, Used, head_page, head_bytes, FileFits, is_head_of, address_in, is_of, addresses_bytes}
 use Rattle.byteorder.specs.Endian.{big_bytes, big_number}
 use Rattle.byteorder.specs.Numbers.{big_number-reads_back, length-bytes_high_first}
 
-abbrev used_page : (f : FileNo) (xs : List ℕ) → List ℕ
-used_page f xs = 1 ∷ (big_bytes 4 f.0 ++ (flat_map (λ a. big_bytes 2 a) xs ++ replicate (512 - length (head_bytes (Used f xs))) 0))
+abbrev zeros_behind : (f : FileNo) (xs maps : List ℕ) → List ℕ
+zeros_behind f xs maps = replicate (512 - length (head_bytes (Used f xs maps))) 0
 
-used_is : (f : FileNo) (xs : List ℕ) → head_page (Used f xs) ≡ used_page f xs
+abbrev used_page : (f : FileNo) (xs maps : List ℕ) → List ℕ
+used_page f xs maps = 1 ∷ (big_bytes 4 f.0 ++ ((addresses_bytes xs ++ addresses_bytes maps) ++ zeros_behind f xs maps))
+
+used_is : (f : FileNo) (xs maps : List ℕ) → head_page (Used f xs maps) ≡ used_page f xs maps
 unfolding head_page
-used_is f xs = refl
+used_is f xs maps = refl
 
 pub page_is_of : (f : FileNo) (h : Head) → FileFits h → is_head_of f (head_page h) ≡ is_of f h
 unfolding head_page
 page_is_of f Free fits = refl
-page_is_of f (Used g xs) fits =
-    let rest : List ℕ = flat_map (λ a. big_bytes 2 a) xs ++ replicate (512 - length (head_bytes (Used g xs))) 0 in
+page_is_of f (Used g xs maps) fits =
+    let rest : List ℕ = (addresses_bytes xs ++ addresses_bytes maps) ++ zeros_behind g xs maps in
     ap (λ n. nat_eq n f.0) (big_number-reads_back 4 g.0 rest (omega (arith, fits)))
 
 drop_past : (front rest : List ℕ) (m n : ℕ) → m ≡ length front + n → drop m (front ++ rest) ≡ drop n rest
@@ -34,10 +37,9 @@ address_again (x ∷ xs) rest (suc p) leaves small all below =
     ∙ ap (big_number 2) (drop_past (big_bytes 2 x) (flat_map (λ a. big_bytes 2 a) xs ++ rest) (2 * suc p) (2 * p) (let two = length-bytes_high_first 2 x in omega arith))
     ∙ address_again xs rest p leaves small (grind (arith, nat_tests, all)) (omega arith)
 
-pub page_address : (f : FileNo) (xs : List ℕ) (p leaves : ℕ) → leaves < 2 ^ 16 → list_all (λ a. nat_le a leaves) xs ≡ true → length xs ≡ head_blocks → p < head_blocks → address_in (head_page (Used f xs)) p ≡ slice_index xs p
-page_address f xs p leaves small all long below =
-    let rest : List ℕ = replicate (512 - length (head_bytes (Used f xs))) 0 in
-    let front : List ℕ = 1 ∷ big_bytes 4 f.0 in
-    ap (λ (l : List ℕ). address_in l p) (used_is f xs)
-    ∙ ap (big_number 2) (drop_past (1 ∷ big_bytes 4 f.0) (flat_map (λ a. big_bytes 2 a) xs ++ replicate (512 - length (head_bytes (Used f xs))) 0) (5 + 2 * p) (2 * p) (let four = length-bytes_high_first 4 f.0 in omega arith))
-    ∙ address_again xs (replicate (512 - length (head_bytes (Used f xs))) 0) p leaves small all (omega arith)
+pub page_address : (f : FileNo) (xs maps : List ℕ) (p leaves : ℕ) → leaves < 2 ^ 16 → list_all (λ a. nat_le a leaves) xs ≡ true → length xs ≡ head_blocks → p < head_blocks → address_in (head_page (Used f xs maps)) p ≡ slice_index xs p
+page_address f xs maps p leaves small all long below =
+    ap (λ (l : List ℕ). address_in l p) (used_is f xs maps)
+    ∙ ap (big_number 2) (drop_past (1 ∷ big_bytes 4 f.0) ((addresses_bytes xs ++ addresses_bytes maps) ++ zeros_behind f xs maps) (5 + 2 * p) (2 * p) (let four = length-bytes_high_first 4 f.0 in omega arith))
+    ∙ ap (λ (l : List ℕ). big_number 2 (drop (2 * p) l)) (append_assoc (addresses_bytes xs) (addresses_bytes maps) (zeros_behind f xs maps))
+    ∙ address_again xs (addresses_bytes maps ++ zeros_behind f xs maps) p leaves small all (omega arith)

@@ -161,7 +161,7 @@ taken_one address v = if nat_eq address 0 then v else with_free v (address - 1) 
 -- the number of the file that has a head
 abbrev pub head_number : Head → Option ℕ
 head_number Free = None
-head_number (Used f xs) = Some f.0
+head_number (Used f xs maps) = Some f.0
 
 -- an index of the heads has each file's number
 pub record AreIndexed (files : List (Option ℕ)) (heads : List Head) : Type 0 where

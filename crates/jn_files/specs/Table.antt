@@ -4,7 +4,7 @@ use Rattle.jn_alloc.specs.Free.{FreeNumbers, count_of, is_free as is_free_number
 use Rattle.jn_base.specs.declared.names.FileNo.{FileNo}
 use Rattle.jn_base.specs.declared.names.LockUnit.TheVariants.{File, Block}
 use Rattle.jn_base.specs.Names.{file_eq}
-use Rattle.jn_base.specs.Limits.{head_blocks}
+use Rattle.jn_base.specs.Limits.{head_blocks, most_maps}
 use Rattle.jn_order.specs.Files.{Files, there}
 use Rattle.jn_records.specs.declared.head.Head.{Head}
 use Rattle.jn_records.specs.declared.head.Head.TheVariants.{Free, Used}
@@ -32,15 +32,15 @@ head_in heads slot = slice_index_or heads slot Free
 
 abbrev pub is_free : Head → Bool
 is_free Free = true
-is_free (Used f xs) = false
+is_free (Used f xs maps) = false
 
 abbrev pub is_of : FileNo → Head → Bool
 is_of f Free = false
-is_of f (Used g xs) = file_eq g f
+is_of f (Used g xs maps) = file_eq g f
 
 abbrev pub addresses_of : Head → List ℕ
 addresses_of Free = []
-addresses_of (Used f xs) = xs
+addresses_of (Used f xs maps) = xs
 
 -- a block's address: 0 for none, else its data page's index and 1
 abbrev pub address_of : Head → ℕ → ℕ
@@ -131,7 +131,7 @@ is_mapped heads f p = nat_lt 0 (address_for heads f p)
 
 -- a file's head without blocks
 abbrev pub fresh_head : FileNo → Head
-fresh_head f = Used f (replicate head_blocks 0)
+fresh_head f = Used f (replicate head_blocks 0) (replicate most_maps 0)
 
 -- addresses, without those from a block on
 abbrev pub cut_addresses : ℕ → List ℕ → List ℕ
@@ -141,14 +141,14 @@ cut_addresses (suc n) (x ∷ xs) = x ∷ cut_addresses n xs
 
 abbrev pub cut_head : ℕ → Head → Head
 cut_head n Free = Free
-cut_head n (Used f xs) = Used f (cut_addresses n xs)
+cut_head n (Used f xs maps) = Used f (cut_addresses n xs) maps
 
 -- a head with data page a for block p
 abbrev pub with_leaf : ℕ → ℕ → Head → Head
 with_leaf p a Free = Free
-with_leaf p a (Used f xs) = Used f (slice_set xs p (suc a))
+with_leaf p a (Used f xs maps) = Used f (slice_set xs p (suc a)) maps
 
--- a file's head with these addresses, or a free one
-abbrev pub head_with : Option FileNo → List ℕ → Head
-head_with None xs = Free
-head_with (Some f) xs = Used f xs
+-- a file's head with these addresses and map addresses, or a free one
+abbrev pub head_with : Option FileNo → List ℕ → List ℕ → Head
+head_with None xs maps = Free
+head_with (Some f) xs maps = Used f xs maps

@@ -1,6 +1,6 @@
 //! A head as the table keeps it.
 ghost use Rattle.std.specs.Prelude.{◌≡◌, ◌^◌, ◌<◌, ◌≤◌, ◌≢◌, ℕ, suc, true, false, length, nat_lt, slice_index};
-ghost use Rattle.jn_base.specs.Limits.{head_blocks};
+ghost use Rattle.jn_base.specs.Limits.{head_blocks, most_maps};
 ghost use Rattle.jn_records.specs.declared.head.Head.TheVariants.{Free};
 ghost use Rattle.jn_records.specs.Heads.{head_page, has_page};
 ghost use Rattle.jn_files.specs.Table as table;
@@ -9,19 +9,24 @@ ghost use Rattle.jn_files.specs.Calls as calls;
 ghost use Rattle.jn_index.specs.Least.{LeastFrom, number_after};
 ghost use Rattle.jn_base.specs.declared.names.BlockNo.{BlockNo as Block};
 
-use jn_base::{BlockNo, FileNo, HEAD_BLOCKS, Page, PageWriter};
+use jn_base::{BlockNo, FileNo, HEAD_BLOCKS, MOST_MAPS, Page, PageWriter};
 use jn_records::{Head, used_page};
 use std::marker::Model;
 
 /// Of each block its address: 0 for none, else its data page's index and 1.
 type Addresses = [u16; HEAD_BLOCKS];
 
-/// A head with room for all its addresses, so that none of its changes takes memory. Contracts see the head.
+/// Of each map page its address, as it stands in the head's page: all are 0 so far.
+type Maps = [u16; MOST_MAPS];
+
+/// A head with its addresses in place, so that none of its changes takes memory. Contracts see the head.
 #[derive(Drop)]
 pub struct Slot {
     file: Option<FileNo>,
     /// Of no meaning where no file has the head.
     addresses: Addresses,
+    /// Of no meaning there either.
+    maps: Maps,
 }
 
 impl Model for Slot {
@@ -30,7 +35,7 @@ impl Model for Slot {
 
     ghost Value = { Head };
 
-    ghost view = { λ s. head_with s.file s.addresses };
+    ghost view = { λ s. head_with s.file s.addresses s.maps };
 }
 
 impl Slot {
@@ -40,6 +45,7 @@ impl Slot {
         Slot {
             file: None,
             addresses: [0; HEAD_BLOCKS],
+            maps: [0; MOST_MAPS],
         }
     }
 
@@ -51,6 +57,7 @@ impl Slot {
         Slot {
             file: Some(file),
             addresses: [0; HEAD_BLOCKS],
+            maps: [0; MOST_MAPS],
         }
     }
 
@@ -60,9 +67,14 @@ impl Slot {
     {
         match head {
             Head::Free => Slot::free(),
-            Head::Used { file, addresses } => Slot {
+            Head::Used {
+                file,
+                addresses,
+                maps,
+            } => Slot {
                 file: Some(*file),
-                addresses: array_of(addresses.as_slice()),
+                addresses: addresses_in(addresses.as_slice()),
+                maps: maps_in(maps.as_slice()),
             },
         }
     }
@@ -74,7 +86,7 @@ impl Slot {
     {
         match self.file {
             None => PageWriter::new().finish(),
-            Some(file) => used_page(file, &self.addresses),
+            Some(file) => used_page(file, &self.addresses, &self.maps),
         }
     }
 
@@ -122,6 +134,7 @@ impl Slot {
         Slot {
             file: self.file,
             addresses: cut_addresses(&self.addresses, n),
+            maps: self.maps,
         }
     }
 
@@ -136,6 +149,7 @@ impl Slot {
         Slot {
             file: self.file,
             addresses,
+            maps: self.maps,
         }
     }
 }
@@ -163,13 +177,22 @@ fn first_from(addresses: &Addresses, from: usize) -> Option<BlockNo>
     None
 }
 
-fn array_of(list: &[u16]) -> Addresses
+fn addresses_in(list: &[u16]) -> Addresses
     requires { length list.now ≡ head_blocks }
     ensures { result ≡ list.now }
 {
     let mut addresses = [0; HEAD_BLOCKS];
     addresses.copy_from_slice(list);
     addresses
+}
+
+fn maps_in(list: &[u16]) -> Maps
+    requires { length list.now ≡ most_maps }
+    ensures { result ≡ list.now }
+{
+    let mut maps = [0; MOST_MAPS];
+    maps.copy_from_slice(list);
+    maps
 }
 
 fn cut_addresses(old: &Addresses, n: u16) -> Addresses

@@ -130,7 +130,7 @@ pub record Raised (h : Chance) (up : Bool) (e : DeviceState) : Type 0 where
   pub nothing_told : e.told ≡ []
   pub nothing_waits : e.waiting ≡ []
 
-pub recovered-calm : (g : Counts) (h : Chance) (up : Bool) (d e : DeviceState) → IsRecovery g h up d e → d.told ≡ [] → d.waiting ≡ [] → Raised h up e
+pub recovered-calm : {s : ServerNo} (g : Counts) (h : Chance) (up : Bool) (d e : DeviceState) → IsRecovery s g h up d e → d.told ≡ [] → d.waiting ≡ [] → Raised h up e
 recovered-calm g h up d e r none quiet = record {
   stop = calm.stop;
   told = calm.told;

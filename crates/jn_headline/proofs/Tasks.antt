@@ -122,7 +122,7 @@ module _ (x : Setup) (ups : List Text) (are_up : list_all is_up ups ≡ true) (s
     restarts : n.state ≡ come_to x h (recovers q (raised ∷ [])) (go_on (raised ∷ []) m.state.course) (record m.state { tasks = rest }) → Befalls x h (recovers q (raised ∷ [])) was m.devices n.devices → CameUp now steps q rest
     restarts state b = goes b.used
       where
-        goes : Alone q (IsRecovery (x.counts q) h (is_some ((after raised was).memory q))) m.devices n.devices → CameUp now steps q rest
+        goes : Alone q (IsRecovery q (x.counts q) h (is_some ((after raised was).memory q))) m.devices n.devices → CameUp now steps q rest
         goes a = let r = recovered-calm (x.counts q) h (is_some ((after raised was).memory q)) (m.devices q) (n.devices q) a.its (came.quiet.told q below) (came.quiet.waiting q below) in record {
           back = record { pick = pick_read h; works = works_found h.found; tids = tids_found h.found };
           past = record {
@@ -141,7 +141,7 @@ module _ (x : Setup) (ups : List Text) (are_up : list_all is_up ups ≡ true) (s
     up-calmly None e d = restarts d.1 d.2
     up-calmly (Some made) e d = absurd (strikes (let b = d.2 in b.used))
       where
-        strikes : Alone q (IsRecovery (x.counts q) h (is_some ((run (recovering h q (Some made)) was).memory q))) m.devices n.devices → ⊥
+        strikes : Alone q (IsRecovery q (x.counts q) h (is_some ((run (recovering h q (Some made)) was).memory q))) m.devices n.devices → ⊥
         strikes a = let r = recovered-calm (x.counts q) h (is_some ((run (recovering h q (Some made)) was).memory q)) (m.devices q) (n.devices q) a.its (came.quiet.told q below) (came.quiet.waiting q below) in never (sym r.stop ∙ e)
           where
             never : None ≡ Some made → ⊥

@@ -1,9 +1,9 @@
 -- The bytes of an image are read as that image, and what was read is the image of these bytes.
-use Rattle.jn_image.proofs.Common.{◌≡◌, ◌≤◌, ◌+◌, ◌*◌, ℕ, Bool, true, false, List, [], ◌++◌, length, take, drop, None, refl, sym, ap, ap₂, subst, ◌∙◌, append_assoc, arith, length-append, length-drop, ◌&&◌, nat_eq, nat_le, slice_index, codes, bytes_eq, take-add, false≢true, nat_tests, append-nil, take_at, drop_at, sha256, Half, Counts, page_count, Image, bad_of, server_in, counts_in, in_range, within, statuses_fit, has_digest, image_counts, header_bytes, body_bytes, image_bytes, body_size, image_size, HasForm, IsWithin, PagesFit, halves_in, image_in}
+use Rattle.jn_image.proofs.Common.{◌≡◌, ◌≤◌, ◌+◌, ◌*◌, ℕ, Bool, true, false, List, [], ◌++◌, length, take, drop, None, refl, sym, ap, ap₂, subst, ◌∙◌, append_assoc, arith, length-append, length-drop, ◌&&◌, nat_le, codes, bytes_eq, take-add, false≢true, nat_tests, append-nil, take_at, drop_at, sha256, Half, Counts, page_count, Image, bad_of, version_in, server_in, counts_in, in_range, within, statuses_fit, has_digest, image_counts, header_bytes, body_bytes, image_bytes, body_size, image_size, HasForm, IsWithin, PagesFit, halves_in, image_in}
 use Rattle.std.proofs.lemmas.Slice.Eq.{bytes_eq-Decides}
 use Rattle.sha2.proofs.Facts256.{length-sha256}
 use Rattle.jn_image.proofs.Halves.{written, halves_again, statuses_again, length-written, length-halves_in, halves_fit, halves_written}
-use Rattle.jn_image.proofs.Headers.{server_again, counts_again, AreBytes, header_written}
+use Rattle.jn_image.proofs.Headers.{version_again, server_again, counts_again, AreBytes, header_written}
 use Rattle.jn_image.proofs.Passing.{Passes, PassesBehind, passes, was_passed}
 
 take_all : (xs : List ℕ) (n : ℕ) → length xs ≡ n → take n xs ≡ xs
@@ -68,6 +68,9 @@ module _ (m : Image) (form : HasForm m) (fit : PagesFit m) where
   unfolding image_bytes
   image_whole = let body = body_whole in let behind = length-sha256 (body_bytes m) in omega (arith, body, behind, length-append (body_bytes m) (sha256 (body_bytes m)))
 
+  version_is : version_in (image_bytes m) ≡ m.version
+  version_is = ap version_in regrouped ∙ version_again m form (written m.pages ++ sha256 (body_bytes m))
+
   server_is : server_in (image_bytes m) ≡ m.server.0
   server_is = ap server_in regrouped ∙ server_again m form (written m.pages ++ sha256 (body_bytes m))
 
@@ -97,7 +100,7 @@ module _ (m : Image) (form : HasForm m) (fit : PagesFit m) where
   all_passes = record {
     header = let whole = image_whole in omega (arith, whole);
     magic = ap (λ (xs : List ℕ). bytes_eq (take 8 xs) (codes "JUNIMAGE")) regrouped;
-    version = ap (λ (xs : List ℕ). nat_eq (slice_index xs 8) 1) regrouped;
+    version = ap (within 2) version_is ∙ is_within 2 m.version form.version_within;
     range = ap₂ in_range server_is counts_is ∙ in_range_is;
     behind = subst (λ h. PassesBehind h (image_bytes m)) (sym counts_is) (record { whole = image_whole; statuses = pages_fit; digest = digest_is });
   }
@@ -105,8 +108,8 @@ module _ (m : Image) (form : HasForm m) (fit : PagesFit m) where
   pub nothing_bad : bad_of (image_bytes m) ≡ None
   nothing_bad = passes (image_bytes m) all_passes
 
-  abbrev image_by : ℕ → Counts → List Half → Image
-  image_by server h pages = record { server = record { 0 = server }; pool = h.pool; heads = h.heads; leaves = h.leaves; pages = pages }
+  abbrev image_by : ℕ → ℕ → Counts → List Half → Image
+  image_by version server h pages = record { version = version; server = record { 0 = server }; pool = h.pool; heads = h.heads; leaves = h.leaves; pages = pages }
 
   pages_is : halves_in (2 * page_count (counts_in (image_bytes m))) (drop 16 (image_bytes m)) ≡ m.pages
   pages_is =
@@ -118,9 +121,10 @@ module _ (m : Image) (form : HasForm m) (fit : PagesFit m) where
   pub image_again : image_in (image_bytes m) ≡ m
   unfolding image_in
   image_again =
-      ap (λ s. image_by s (counts_in (image_bytes m)) (halves_in (2 * page_count (counts_in (image_bytes m))) (drop 16 (image_bytes m)))) server_is
-      ∙ ap (λ h. image_by m.server.0 h (halves_in (2 * page_count (counts_in (image_bytes m))) (drop 16 (image_bytes m)))) counts_is
-      ∙ ap (λ (pages : List Half). image_by m.server.0 (image_counts m) pages) pages_is
+      ap (λ v. image_by v (server_in (image_bytes m)) (counts_in (image_bytes m)) (halves_in (2 * page_count (counts_in (image_bytes m))) (drop 16 (image_bytes m)))) version_is
+      ∙ ap (λ s. image_by m.version s (counts_in (image_bytes m)) (halves_in (2 * page_count (counts_in (image_bytes m))) (drop 16 (image_bytes m)))) server_is
+      ∙ ap (λ h. image_by m.version m.server.0 h (halves_in (2 * page_count (counts_in (image_bytes m))) (drop 16 (image_bytes m)))) counts_is
+      ∙ ap (λ (pages : List Half). image_by m.version m.server.0 (image_counts m) pages) pages_is
 
 -- ---- what was read is written
 
@@ -134,6 +138,7 @@ module _ (bytes : List ℕ) (fit : AreBytes bytes) (none : bad_of bytes ≡ None
       let p = was_passed bytes none in
       let range = of_four (nat_le (server_in bytes) 7) (within 1000 (counts_in bytes).pool) (within 1000 (counts_in bytes).heads) (within 8000 (counts_in bytes).leaves) p.range in
       record {
+        version_within = within_is 2 (version_in bytes) p.version;
         server_within = most_at (server_in bytes) 7 range.0;
         pool_within = within_is 1000 (counts_in bytes).pool range.1;
         heads_within = within_is 1000 (counts_in bytes).heads range.2;
@@ -153,12 +158,9 @@ module _ (bytes : List ℕ) (fit : AreBytes bytes) (none : bad_of bytes ≡ None
       let p = was_passed bytes none in
       let n = 2 * page_count (counts_in bytes) in
       let whole : length bytes ≡ image_size (counts_in bytes) = p.behind.whole in
-      let header : header_bytes (image_in bytes) ≡ take 16 bytes = header_written bytes fit p.header (bytes_same (take 8 bytes) (codes "JUNIMAGE") p.magic) (version_is (slice_index bytes 8) p.version) (image_in bytes) refl refl in
+      let header : header_bytes (image_in bytes) ≡ take 16 bytes = header_written bytes fit p.header (bytes_same (take 8 bytes) (codes "JUNIMAGE") p.magic) (image_in bytes) refl refl refl in
       let pages : written (halves_in n (drop 16 bytes)) ≡ take (513 * n) (drop 16 bytes) = halves_written n (drop 16 bytes) (omega (arith, whole, length-drop 16 bytes)) p.behind.statuses in
       ap₂ (λ (xs ys : List ℕ). xs ++ ys) header pages ∙ sym (take-add 16 (513 * n) bytes)
-    where
-      version_is : (v : ℕ) → nat_eq v 1 ≡ true → v ≡ 1
-      version_is v e = grind (arith, nat_tests, e)
 
   pub found_bytes : bytes ≡ image_bytes (image_in bytes)
   unfolding image_bytes

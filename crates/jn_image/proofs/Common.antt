@@ -1,6 +1,6 @@
 -- The names from below that these proofs cite, passed on from one place. Declares nothing.
-pub use Rattle.std.proofs.Common.{◌≡◌, ◌≤◌, ◌+◌, ◌*◌, ℕ, Bool, true, false, List, [], ◌++◌, length, take, drop, None, refl, sym, ap, ap₂, subst, ◌∙◌, append_assoc, arith, length-append, length-drop, ◌⊎◌, inl, inr, ⊎_elim, ◌<◌, zero, suc, Result, Ok, Err, ◌∷◌, ◌/◌, ◌%◌, get_or, replicate, map, Option, Some, ◌-◌, cond, ◌^◌, vec_len}
-pub use Rattle.std.specs.Prelude.{◌&&◌, nat_eq, nat_le, slice_index, codes, bytes_eq, IfOk, IfErr, flat_map, if◌then◌else◌, is_some, not, nat_lt, IsTrue, ◌↔◌, MatchResult, MatchOption}
+pub use Rattle.std.proofs.Common.{◌≡◌, ◌≤◌, ◌+◌, ◌*◌, ℕ, Bool, true, false, List, [], ◌++◌, length, take, drop, None, refl, sym, ap, ap₂, subst, ◌∙◌, append_assoc, arith, length-append, length-drop, ◌⊎◌, inl, inr, ⊎_elim, ◌<◌, zero, suc, Result, Ok, Err, ◌∷◌, ◌/◌, ◌%◌, get_or, replicate, map, Option, Some, ◌-◌, cond, ◌^◌, vec_len, rules}
+pub use Rattle.std.specs.Prelude.{◌&&◌, nat_le, codes, bytes_eq, IfOk, IfErr, nat_eq, slice_index, flat_map, if◌then◌else◌, is_some, not, nat_lt, IsTrue, ◌↔◌, MatchResult, MatchOption}
 pub use Rattle.std.proofs.Math.Seq.{take-add, drop-cons}
 pub use Rattle.std.proofs.lemmas.Bool.{false≢true, cases_lt}
 pub use Rattle.std.proofs.lemmas.Bool.Decides.{nat_tests}
@@ -9,7 +9,7 @@ pub use Rattle.sha2.specs.Sha256.{sha256}
 pub use Rattle.jn_device.specs.declared.Half.{Half}
 pub use Rattle.jn_records.specs.StablePages.{Counts, page_count, is_used, file_in, root_by, slot_place, head_place, data_place}
 pub use Rattle.jn_image.specs.declared.image.Image.{Image}
-pub use Rattle.jn_image.specs.Faults.{server_in, counts_in, in_range, within, statuses_fit, has_digest, bad_behind_header, TellsImage}
+pub use Rattle.jn_image.specs.Faults.{version_in, server_in, counts_in, in_range, within, statuses_fit, has_digest, bad_behind_header, TellsImage}
 unfoldable pub use Rattle.jn_image.specs.Faults.{bad_of}
 pub use Rattle.jn_image.specs.Form.{image_counts, header_bytes, body_bytes, body_size, image_size, HasForm, IsWithin, PagesFit, half_bytes}
 unfoldable pub use Rattle.jn_image.specs.Form.{image_bytes}
@@ -21,14 +21,14 @@ pub use Rattle.jn_image.specs.declared.fault.Unsound.{Unsound}
 pub use Rattle.jn_image.specs.Repeats.{IsLeastFailing, Finds, StandsOnce, StandsOnceBelow, AreNoted, lesser}
 pub use Rattle.jn_image.specs.Unsound.{ToRoot, ToPages, ToPairs, ToPool, ToFiles, ToHeads, ToAddresses, IsFirstFault, TellsSound, seen}
 pub use Rattle.std.specs.List.{AllByRecursion}
-pub use Rattle.jn_base.specs.Limits.{head_blocks}
+pub use Rattle.jn_base.specs.Limits.{head_blocks, most_maps}
 pub use Rattle.jn_records.specs.declared.head.Head.{Head}
 pub use Rattle.jn_image.specs.Rules.{IsHeadAt, AreHeads, IsRead, head_file_number, address_of, addresses_of, at_epoch, RuleHolds}
 pub use Rattle.jn_records.specs.declared.head.Head.TheVariants.{Free, Used, Free as FreeHead}
 pub use Rattle.byteorder.specs.Endian.{big_bytes, big_number}
 pub use Rattle.jn_image.specs.declared.fault.BadImage.{BadImage}
 pub use Rattle.jn_records.specs.declared.root.Root.{Root}
-pub use Rattle.jn_records.specs.Pages.{IsRoot, padded, root_bytes}
+pub use Rattle.jn_records.specs.Pages.{IsRoot, IsVersion, padded, root_bytes}
 unfoldable pub use Rattle.jn_records.specs.Pages.{root_page}
 pub use Rattle.jn_image.specs.Laws.{SoundImagesFit, BytesTellTheImage, SoundImagesHaveSoundPages}
-pub use Rattle.std.proofs.lemmas.Result.{IfOk-weaker}
+pub use Rattle.std.proofs.lemmas.Result.{IfOk-weaker, on_ok_weaker}

@@ -52,7 +52,7 @@ module _ (m : sound.Image) (heads : List (Option Head)) (are : AreHeads m heads)
   some_file : (i f : ℕ) (o : Option Head) → IsHeadAt m i o → IsWholeHead m i → is_used (head_bytes_of m i) ≡ true → file_in (head_bytes_of m i) ≡ f → head_file_number o ≡ Some f
   some_file i f None at is used file = absurd (at is)
   some_file i f (Some Free) at is used file = absurd (false≢true (sym (free_unused m.counts.leaves (head_bytes_of m i) are.few at.2) ∙ used))
-  some_file i f (Some (Used k xs)) at is used file = ap (λ n. Some n) (sym (used_file m.counts.leaves (head_bytes_of m i) are.few k xs at.0 at.1 at.2) ∙ file)
+  some_file i f (Some (Used k xs maps)) at is used file = ap (λ n. Some n) (sym (used_file m.counts.leaves (head_bytes_of m i) are.few k xs maps at.0 at.1 at.2) ∙ file)
 
   record HasFile (i f : ℕ) : Type 0 where
     within : i < m.counts.heads
@@ -69,11 +69,11 @@ module _ (m : sound.Image) (heads : List (Option Head)) (are : AreHeads m heads)
       by : i < m.counts.heads → (o : Option Head) → IsHeadAt m i o → head_file_number o ≡ Some f → HasFile i f
       by lt None at e = absurd (none_some f e)
       by lt (Some Free) at e = absurd (none_some f e)
-      by lt (Some (Used k xs)) at e = record {
+      by lt (Some (Used k xs maps)) at e = record {
         within = lt;
-        is_head = (Used k xs, at.0, at.1, at.2);
-        used = used_kind m.counts.leaves (head_bytes_of m i) are.few k xs at.0 at.1 at.2;
-        file = used_file m.counts.leaves (head_bytes_of m i) are.few k xs at.0 at.1 at.2 ∙ same_value k.0 f e;
+        is_head = (Used k xs maps, at.0, at.1, at.2);
+        used = used_kind m.counts.leaves (head_bytes_of m i) are.few k xs maps at.0 at.1 at.2;
+        file = used_file m.counts.leaves (head_bytes_of m i) are.few k xs maps at.0 at.1 at.2 ∙ same_value k.0 f e;
       }
 
   one_head : (f : ℕ) → StandsOnce files f → HasOneHead m f
@@ -99,7 +99,7 @@ module _ (m : sound.Image) (heads : List (Option Head)) (are : AreHeads m heads)
   size_at : (i : ℕ) (o : Option Head) → IsHeadAt m i o → length (addresses_of o) ≡ head_blocks
   size_at i None at = refl
   size_at i (Some Free) at = refl
-  size_at i (Some (Used k xs)) at = length-map xs ∙ whole m.counts.leaves (head_bytes_of m i) are.few k xs at.0 at.1 at.2
+  size_at i (Some (Used k xs maps)) at = length-map xs ∙ whole m.counts.leaves (head_bytes_of m i) are.few k xs maps at.0 at.1 at.2
 
   none_there : (p : ℕ) → get_or (replicate head_blocks nothing) p nothing ≡ nothing
   none_there p = nowhere head_blocks p
@@ -157,9 +157,9 @@ module _ (m : sound.Image) (heads : List (Option Head)) (are : AreHeads m heads)
       by : (o : Option Head) → IsHeadAt m i o → get_or (addresses_of o) p None ≡ Some a
       by None at = absurd (at (all i n.head))
       by (Some Free) at = absurd (false≢true (sym (free_unused m.counts.leaves (head_bytes_of m i) are.few at.2) ∙ n.used))
-      by (Some (Used k xs)) at =
+      by (Some (Used k xs maps)) at =
           get_or-map (λ a. address_of a) xs p 0
-          ∙ ap (λ a. address_of a) (sym (used_address m.counts.leaves (head_bytes_of m i) are.few k xs at.0 at.1 at.2 p n.block) ∙ n.address)
+          ∙ ap (λ a. address_of a) (sym (used_address m.counts.leaves (head_bytes_of m i) are.few k xs maps at.0 at.1 at.2 p n.block) ∙ n.address)
           ∙ address_is a least
 
   record IsNamed (a i p : ℕ) : Type 0 where
@@ -175,14 +175,14 @@ module _ (m : sound.Image) (heads : List (Option Head)) (are : AreHeads m heads)
       by : i < m.counts.heads → (o : Option Head) → IsHeadAt m i o → get_or (addresses_of o) p None ≡ Some a → IsNamed a i p
       by here None at e = absurd (none_some a (sym (none_there p) ∙ e))
       by here (Some Free) at e = absurd (none_some a (sym (none_there p) ∙ e))
-      by here (Some (Used k xs)) at e =
+      by here (Some (Used k xs maps)) at e =
           let is = is_address (get_or xs p 0) a (sym (get_or-map (λ a. address_of a) xs p 0) ∙ e) in
           record {
             names = record {
               head = here;
               block = lt;
-              used = used_kind m.counts.leaves (head_bytes_of m i) are.few k xs at.0 at.1 at.2;
-              address = used_address m.counts.leaves (head_bytes_of m i) are.few k xs at.0 at.1 at.2 p lt ∙ is.0;
+              used = used_kind m.counts.leaves (head_bytes_of m i) are.few k xs maps at.0 at.1 at.2;
+              address = used_address m.counts.leaves (head_bytes_of m i) are.few k xs maps at.0 at.1 at.2 p lt ∙ is.0;
             };
             least = is.1;
           }

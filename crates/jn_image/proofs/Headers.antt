@@ -1,5 +1,5 @@
 -- A header is read as it was written, and written as it was read.
-use Rattle.jn_image.proofs.Common.{◌≡◌, ◌<◌, ◌≤◌, ◌+◌, ◌*◌, ◌/◌, ◌%◌, ℕ, List, [], ◌∷◌, ◌++◌, length, take, drop, get_or, sym, ap, ap₂, ◌∙◌, arith, length-drop, slice_index, codes, take-add, drop-cons, get_or-drop, Counts, Image, server_in, counts_in, image_counts, header_bytes, HasForm, big_bytes, big_number}
+use Rattle.jn_image.proofs.Common.{◌≡◌, ◌<◌, ◌≤◌, ◌+◌, ◌*◌, ◌/◌, ◌%◌, ℕ, List, [], ◌∷◌, ◌++◌, length, take, drop, get_or, sym, ap, ap₂, ◌∙◌, arith, length-drop, slice_index, codes, take-add, drop-cons, get_or-drop, Counts, Image, version_in, server_in, counts_in, image_counts, header_bytes, HasForm, big_bytes, big_number}
 use Rattle.byteorder.specs.Numbers.{big_number-reads_back}
 
 abbrev counts_by : ℕ → ℕ → ℕ → Counts
@@ -10,6 +10,12 @@ counts_by pool heads leaves = record { pool = pool; heads = heads; leaves = leav
 module _ (m : Image) (form : HasForm m) (rest : List ℕ) where
   abbrev two : ℕ → List ℕ
   two n = big_bytes 2 n
+
+  pub version_again : version_in (header_bytes m ++ rest) ≡ m.version
+  version_again = small m.version form.version_within.1
+    where
+      small : (v : ℕ) → v ≤ 2 → v % 256 ≡ v
+      small v few = omega (arith, few)
 
   pub server_again : server_in (header_bytes m ++ rest) ≡ m.server.0
   server_again = small m.server.0 form.server_within
@@ -60,14 +66,14 @@ two_written k bytes fit within = two_cells (drop k bytes) (λ i. let e = get_or-
 joins : (n m : ℕ) (bytes : List ℕ) (front back : List ℕ) → front ≡ take n bytes → back ≡ take m (drop n bytes) → front ++ back ≡ take (n + m) bytes
 joins n m bytes front back f b = ap₂ (λ (xs ys : List ℕ). xs ++ ys) f b ∙ sym (take-add n m bytes)
 
-pub header_written : (bytes : List ℕ) → AreBytes bytes → 16 ≤ length bytes → take 8 bytes ≡ codes "JUNIMAGE" → slice_index bytes 8 ≡ 1
-    → (m : Image) → m.server.0 ≡ server_in bytes → image_counts m ≡ counts_in bytes → header_bytes m ≡ take 16 bytes
-header_written bytes fit long magic version m server counts =
-    let named = codes "JUNIMAGE" ++ big_bytes 1 1 in
+pub header_written : (bytes : List ℕ) → AreBytes bytes → 16 ≤ length bytes → take 8 bytes ≡ codes "JUNIMAGE"
+    → (m : Image) → m.version ≡ version_in bytes → m.server.0 ≡ server_in bytes → image_counts m ≡ counts_in bytes → header_bytes m ≡ take 16 bytes
+header_written bytes fit long magic m version server counts =
+    let named = codes "JUNIMAGE" ++ big_bytes 1 m.version in
     let owned = named ++ big_bytes 1 m.server.0 in
     let pooled = owned ++ big_bytes 2 m.pool in
     let headed = pooled ++ big_bytes 2 m.heads in
-    let name = joins 8 1 bytes (codes "JUNIMAGE") (big_bytes 1 1) (sym magic) (ap (λ n. big_bytes 1 n) (sym version) ∙ one_written 8 bytes fit (omega (arith, long))) in
+    let name = joins 8 1 bytes (codes "JUNIMAGE") (big_bytes 1 m.version) (sym magic) (ap (λ n. big_bytes 1 n) version ∙ one_written 8 bytes fit (omega (arith, long))) in
     let whose = joins 9 1 bytes named (big_bytes 1 m.server.0) name (ap (λ n. big_bytes 1 n) server ∙ one_written 9 bytes fit (omega (arith, long))) in
     let pool = joins 10 2 bytes owned (big_bytes 2 m.pool) whose (ap (λ (g : Counts). big_bytes 2 g.pool) counts ∙ two_written 10 bytes fit (omega (arith, long))) in
     let heads = joins 12 2 bytes pooled (big_bytes 2 m.heads) pool (ap (λ (g : Counts). big_bytes 2 g.heads) counts ∙ two_written 12 bytes fit (omega (arith, long))) in

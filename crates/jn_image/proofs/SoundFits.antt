@@ -1,9 +1,9 @@
 -- Each page of a sound image has 512 bytes, and such images with the same bytes are one.
-use Rattle.jn_image.proofs.Common.{head_blocks, ◌≡◌, ◌≤◌, ◌<◌, ◌+◌, ◌*◌, ◌-◌, ℕ, suc, List, [], ◌∷◌, length, drop, replicate, sym, ap, subst, ◌∙◌, arith, length-append, length-drop, ⊎_elim, cases_lt, flat_map, nat_eq, nat_tests, true, AllByRecursion, Half, ServerNo, Head, IsSound, page_count, Image, image_counts, image_in, seen, length-replicate, big_bytes, FreeHead, Used, Root, padded, root_bytes, root_page, slot_place, head_place, data_place, SoundImagesFit, BytesTellTheImage}
+use Rattle.jn_image.proofs.Common.{head_blocks, ◌++◌, ◌≡◌, ◌≤◌, ◌<◌, ◌+◌, ◌*◌, ◌-◌, ℕ, suc, List, [], ◌∷◌, length, drop, replicate, sym, ap, subst, ◌∙◌, arith, length-append, length-drop, ⊎_elim, cases_lt, nat_tests, true, AllByRecursion, Half, ServerNo, Head, IsSound, page_count, Image, image_counts, image_in, seen, length-replicate, big_bytes, FreeHead, Used, Root, padded, root_bytes, root_page, slot_place, head_place, data_place, SoundImagesFit, BytesTellTheImage, most_maps}
 use Rattle.jn_memdisk.specs.Pages.{half_at}
 use Rattle.jn_records.proofs.Lists.{length-fields}
 use Rattle.jn_records.specs.declared.record.Record.TheVariants.{Free}
-use Rattle.jn_records.specs.Heads.{head_bytes, head_page, has_page}
+use Rattle.jn_records.specs.Heads.{addresses_bytes, head_bytes, head_page, has_page}
 use Rattle.jn_records.specs.Records.{record_page}
 use Rattle.jn_image.proofs.Again.{image_again}
 
@@ -23,16 +23,21 @@ free_whole = padded_whole [] (omega arith)
 head_whole : (h : Head) → has_page h ≡ true → length (head_page h) ≡ 512
 unfolding head_page
 head_whole FreeHead is = padded_whole [] (omega arith)
-head_whole (Used file xs) is = padded_whole (head_bytes (Used file xs)) (size (addresses xs is))
+head_whole (Used file xs maps) is = padded_whole (head_bytes (Used file xs maps)) (size (addresses_bytes xs) (addresses_bytes maps) (addresses xs head_blocks blocks) (addresses maps most_maps ranges))
   where
-    addresses : (xs : List ℕ) → nat_eq (length xs) head_blocks ≡ true → length (flat_map (λ a. big_bytes 2 a) xs) ≡ 240
-    addresses xs is =
-        let each = length-fields (λ a. big_bytes 2 a) 2 (λ a. omega arith) xs in
-        let count : length xs ≡ head_blocks = grind (arith, nat_tests, is) in
+    blocks : length xs ≡ head_blocks
+    blocks = grind (arith, nat_tests, is)
+
+    ranges : length maps ≡ most_maps
+    ranges = grind (arith, nat_tests, is)
+
+    addresses : (xs : List ℕ) (n : ℕ) → length xs ≡ n → length (addresses_bytes xs) ≡ 2 * n
+    addresses xs n count =
+        let each : length (addresses_bytes xs) ≡ 2 * length xs = length-fields (λ a. big_bytes 2 a) 2 (λ a. omega arith) xs in
         omega (arith, each, count)
 
-    size : length (flat_map (λ a. big_bytes 2 a) xs) ≡ 240 → length (head_bytes (Used file xs)) ≤ 512
-    size behind = omega (arith, behind)
+    size : (front back : List ℕ) → length front ≡ 2 * head_blocks → length back ≡ 2 * most_maps → length (big_bytes 1 1 ++ big_bytes 4 file.0 ++ front ++ back) ≤ 512
+    size front back f b = omega (arith, f, b, length-append front back)
 
 tail_whole : (page : List ℕ) → drop 448 page ≡ replicate 64 0 → length page ≡ 512
 tail_whole page zeros = let tail = ap length zeros in omega (arith, tail, length-drop 448 page, length-replicate {A = ℕ} 64 0)

@@ -17,5 +17,5 @@ sound_pages m s form is = record {
     heads = let most = form.heads_within.1 in omega (arith, most);
     leaves = two_bytes m.leaves form.leaves_within.1;
   };
-  sound = subst (λ (r : ServerNo). IsSound s (image_of r (image_counts m) m.pages)) is.server is;
+  sound = subst (λ (r : ServerNo). IsSound s (image_of m.version r (image_counts m) m.pages)) is.server is;
 }

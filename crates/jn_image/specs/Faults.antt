@@ -1,5 +1,5 @@
 -- What is wrong with bytes that are no image: the first of these faults, in this order.
-use Rattle.std.specs.Prelude.{◌≡◌, ◌*◌, ℕ, zero, suc, Bool, true, ◌&&◌, not, nat_eq, nat_lt, nat_le, List, length, take, drop, codes, slice_index, bytes_eq, Option, Some, None, Result, Ok, Err, if◌then◌else◌}
+use Rattle.std.specs.Prelude.{◌≡◌, ◌*◌, ℕ, zero, suc, Bool, true, ◌&&◌, not, nat_lt, nat_le, List, length, take, drop, codes, slice_index, bytes_eq, Option, Some, None, Result, Ok, Err, if◌then◌else◌}
 use Rattle.byteorder.specs.Endian.{big_number}
 use Rattle.sha2.specs.Sha256.{sha256}
 use Rattle.jn_records.specs.StablePages.{Counts, page_count}
@@ -20,6 +20,9 @@ image_fault_number Digest = 6
 image_fault_number Trailing = 7
 
 -- ---- what stands in the header
+
+abbrev pub version_in : List ℕ → ℕ
+version_in bytes = slice_index bytes 8
 
 abbrev pub server_in : List ℕ → ℕ
 server_in bytes = slice_index bytes 9
@@ -57,7 +60,7 @@ unfoldable pub bad_of : List ℕ → Option BadImage
 bad_of bytes =
     if nat_lt (length bytes) 16 then Some Short
     else if not (bytes_eq (take 8 bytes) (codes "JUNIMAGE")) then Some Magic
-    else if not (nat_eq (slice_index bytes 8) 1) then Some Version
+    else if not (within 2 (version_in bytes)) then Some Version
     else if not (in_range (server_in bytes) (counts_in bytes)) then Some Geometry
     else bad_behind_header (counts_in bytes) bytes
 

@@ -12,7 +12,7 @@ image_counts m = record { pool = m.pool; heads = m.heads; leaves = m.leaves }
 
 -- the format's name, its version, the server and the counts: 16 bytes
 abbrev pub header_bytes : Image → List ℕ
-header_bytes m = codes "JUNIMAGE" ++ big_bytes 1 1 ++ big_bytes 1 m.server.0 ++ big_bytes 2 m.pool ++ big_bytes 2 m.heads ++ big_bytes 2 m.leaves
+header_bytes m = codes "JUNIMAGE" ++ big_bytes 1 m.version ++ big_bytes 1 m.server.0 ++ big_bytes 2 m.pool ++ big_bytes 2 m.heads ++ big_bytes 2 m.leaves
 
 -- a physical page: its status, 1 where it is good, and its own bytes
 abbrev pub half_bytes : Half → List ℕ
@@ -37,6 +37,7 @@ abbrev pub IsWithin : ℕ → ℕ → Type 0
 IsWithin limit n = (1 ≤ n) × (n ≤ limit)
 
 pub record HasForm (m : Image) : Type 0 where
+  pub version_within : IsWithin 2 m.version
   pub server_within : m.server.0 ≤ 7
   pub pool_within : IsWithin 1000 m.pool
   pub heads_within : IsWithin 1000 m.heads

@@ -9,7 +9,7 @@ use Rattle.jn_image.specs.Unsound.{seen}
 
 -- a store may be made of the pages of a sound image
 abbrev pub SoundImagesHaveSoundPages : Type 0
-SoundImagesHaveSoundPages = (m : Image) (s : ServerNo) → HasForm m → IsSound s (seen m) → AreSound s (image_counts m) m.pages
+SoundImagesHaveSoundPages = (m : Image) (s : ServerNo) → HasForm m → IsSound s (seen m) → AreSound m.version s (image_counts m) m.pages
 
 -- each page of a sound image has 512 bytes
 abbrev pub SoundImagesFit : Type 0

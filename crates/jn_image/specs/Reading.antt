@@ -3,7 +3,7 @@ use Rattle.std.specs.Prelude.{◌*◌, ℕ, zero, suc, nat_eq, List, [], ◌∷�
 use Rattle.jn_device.specs.declared.Half.{Half}
 use Rattle.jn_records.specs.StablePages.{page_count}
 use Rattle.jn_image.specs.declared.image.Image.{Image}
-use Rattle.jn_image.specs.Faults.{server_in, counts_in}
+use Rattle.jn_image.specs.Faults.{version_in, server_in, counts_in}
 
 abbrev pub half_in : List ℕ → Half
 half_in bytes = record { good = nat_eq (slice_index bytes 0) 1; bytes = take 512 (drop 1 bytes) }
@@ -15,6 +15,7 @@ halves_in (suc n) bytes = half_in bytes ∷ halves_in n (drop 513 bytes)
 
 unfoldable pub image_in : List ℕ → Image
 image_in bytes = record {
+  version = version_in bytes;
   server = record { 0 = server_in bytes };
   pool = (counts_in bytes).pool;
   heads = (counts_in bytes).heads;

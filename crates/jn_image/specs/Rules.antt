@@ -47,7 +47,7 @@ pub record AreHeads (m : sound.Image) (heads : List (Option Head)) : Type 0 wher
 
 -- a head's file, where it is used
 abbrev pub head_file_number : Option Head → Option ℕ
-head_file_number (Some (Used file addresses)) = Some file.0
+head_file_number (Some (Used file addresses maps)) = Some file.0
 head_file_number (Some Free) = None
 head_file_number None = None
 
@@ -56,7 +56,7 @@ address_of a = if nat_eq a 0 then None else Some a
 
 -- what each block of a head is named by
 abbrev pub addresses_of : Option Head → List (Option ℕ)
-addresses_of (Some (Used file addresses)) = map (λ a. address_of a) addresses
+addresses_of (Some (Used file addresses maps)) = map (λ a. address_of a) addresses
 addresses_of (Some Free) = replicate head_blocks None
 addresses_of None = replicate head_blocks None
 

@@ -26,7 +26,7 @@ reported (DataTail i) = (9, Some i)
 
 -- what the image says, page by page
 abbrev pub seen : Image → sound.Image
-seen m = image_of m.server (image_counts m) m.pages
+seen m = image_of m.version m.server (image_counts m) m.pages
 
 -- ---- what holds of each number where the image is sound
 

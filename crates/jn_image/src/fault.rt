@@ -16,8 +16,8 @@ pub enum BadImage {
     /// They don't begin with `JUNIMAGE`.
     #[error("the bytes do not begin with JUNIMAGE")]
     Magic,
-    /// The version isn't 1.
-    #[error("the version is not 1")]
+    /// The version isn't 1 or 2.
+    #[error("the version is not 1 or 2")]
     Version,
     /// The server is above 7, or a count isn't in its range.
     #[error("the server or a count is not in its range")]
@@ -75,7 +75,7 @@ pub enum Unsound {
     /// It is another server's.
     #[error("the image is another server's")]
     Server,
-    /// Stable page 0 isn't a root with this server and these counts.
+    /// Stable page 0 isn't a root with the image's version and server and these counts.
     #[error("the root is none")]
     Root,
     /// This physical page is bad.
@@ -90,8 +90,8 @@ pub enum Unsound {
     /// Two heads have this file.
     #[error("two heads have file {0}")]
     SameFile(u32),
-    /// This head's page is no head, or has an address past the data pages.
-    #[error("head {0} is none, or has an address past the data pages")]
+    /// This head's page is no head, has an address past the data pages, or a map address that isn't 0.
+    #[error("head {0} is none, has an address past the data pages, or a map address")]
     Address(u32),
     /// This data page's index and 1 is named twice.
     #[error("address {0} is named twice")]

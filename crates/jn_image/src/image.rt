@@ -7,13 +7,15 @@ ghost use Rattle.jn_memdisk.specs.Pages.{half_at};
 
 use jn_base::{Page, ServerNo};
 use jn_device::Half;
-use jn_records::ListOf;
+use jn_records::{FORMAT_VERSION, ListOf};
 
-/// Whose disk it is, how many pages there are of each kind, and each physical page.
+/// Its version, whose disk it is, how many pages there are of each kind, and each physical page.
 ///
 /// With N stable pages, stable page i is the physical pages i and i + N.
 #[derive(Drop)]
 pub struct Image {
+    /// The version of the format, of the image and of its root: 1 or 2.
+    pub version: u8,
     pub server: ServerNo,
     /// Pages of the pool of records.
     pub pool: u16,
@@ -26,11 +28,12 @@ pub struct Image {
 }
 
 impl Image {
-    /// Whether the image has bytes: the server and the counts are in their ranges, and there are so many pages.
+    /// Whether the image has bytes: the version, the server and the counts are in their ranges, and there are so many pages.
     pub fn has_form(&self) -> bool
         ensures { IsTrue result ↔ HasForm self.now }
     {
-        self.server.0 <= 7
+        is_image_version(self.version)
+            && self.server.0 <= 7
             && is_within(1000, self.pool)
             && is_within(1000, self.heads)
             && is_within(8000, self.leaves)
@@ -76,6 +79,13 @@ impl Image {
     {
         &self.pages.as_slice()[p].bytes
     }
+}
+
+/// Whether images of this version are read and written.
+pub(crate) fn is_image_version(version: u8) -> bool
+    ensures { result ≡ within 2 version }
+{
+    1 <= version && version <= FORMAT_VERSION
 }
 
 /// Whether a count is in its range.

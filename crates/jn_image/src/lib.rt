@@ -3,7 +3,7 @@
 //! | bytes | what stands there |
 //! |---|---|
 //! | 0 to 7 | `JUNIMAGE` |
-//! | 8, 9 | the version, 1, and the server, 0 to 7 |
+//! | 8, 9 | the version, 1 or 2, and the server, 0 to 7 |
 //! | 10 to 15 | how many pages the pool has, how many heads and how many data pages there are (2 each) |
 //! | from 16 on | each physical page: 1 where it is good or 0 where it is bad, and its 512 bytes |
 //! | the last 32 | the SHA-256 (FIPS 180-4) of all bytes before |

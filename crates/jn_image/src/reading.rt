@@ -4,14 +4,14 @@ ghost use Rattle.jn_records.specs.StablePages.{Counts, page_count};
 ghost use Rattle.jn_image.specs.declared.fault.BadImage.{BadImage as AnyFault};
 ghost use Rattle.jn_image.specs.declared.fault.DecodeError.TheVariants.{Bad, Memory};
 ghost use Rattle.jn_image.specs.declared.image.Image.{Image as AnyImage};
-ghost use Rattle.jn_image.specs.Faults.{bad_of, bad_behind_header, server_in, counts_in, in_range, statuses_fit, has_digest, TellsImage};
+ghost use Rattle.jn_image.specs.Faults.{bad_of, bad_behind_header, version_in, server_in, counts_in, in_range, statuses_fit, has_digest, TellsImage};
 ghost use Rattle.jn_image.specs.Form.{HasForm, PagesFit, body_size, image_bytes, image_size};
 ghost use Rattle.jn_image.specs.Headers.{counts_by};
 ghost use Rattle.jn_image.specs.Reading.{half_in, halves_in, image_in};
 
 use crate::fault::{BadImage, DecodeError};
-use crate::image::{Image, is_within};
-use crate::writing::{DIGEST, NAME, VERSION, digest_of};
+use crate::image::{Image, is_image_version, is_within};
+use crate::writing::{DIGEST, NAME, digest_of};
 use byteorder::{BigEndian, ByteOrder};
 use jn_base::ServerNo;
 use jn_device::Half;
@@ -51,6 +51,7 @@ fn read(alloc: Global, bytes: &[u8]) -> Result<Image, DecodeError>
 /// What the header says.
 #[derive(Clone, Copy)]
 struct Header {
+    version: u8,
     server: u8,
     pool: u16,
     heads: u16,
@@ -60,10 +61,12 @@ struct Header {
 impl Header {
     fn of(bytes: &[u8]) -> Self
         requires { 16 ≤ length bytes.now }
+        ensures version { result.version ≡ version_in bytes.now }
         ensures server { result.server ≡ server_in bytes.now }
         ensures counts { counts_by result ≡ counts_in bytes.now }
     {
         Header {
+            version: bytes[8],
             server: bytes[9],
             pool: BigEndian::read_u16(&bytes[10..]),
             heads: BigEndian::read_u16(&bytes[12..]),
@@ -107,7 +110,7 @@ fn bad_of(bytes: &[u8]) -> Option<BadImage>
     if bytes[..8] != NAME[..] {
         return Some(BadImage::Magic);
     }
-    if bytes[8] != VERSION {
+    if !is_image_version(bytes[8]) {
         return Some(BadImage::Version);
     }
     let header = Header::of(bytes);
@@ -172,6 +175,7 @@ fn image_of(alloc: Global, bytes: &[u8]) -> Result<Image, AllocError>
     let header = Header::of(bytes);
     let pages = halves_of(alloc, header.halves(), &bytes[HEADER..])?;
     Ok(Image {
+        version: header.version,
         server: ServerNo(header.server),
         pool: header.pool,
         heads: header.heads,

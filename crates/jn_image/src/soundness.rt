@@ -2,7 +2,7 @@
 ghost use Rattle.std.specs.Prelude.{◌≡◌, ◌⊎◌, ◌<◌, ◌*◌, ◌^◌, ◌↔◌, ◌++◌, ℕ, length, drop, map, flat_map, replicate, Err, IfOk, IfErr, OnOk, IsTrue, MatchOption};
 ghost use Rattle.jn_base.specs.declared.names.ServerNo.{ServerNo as AnyServer};
 ghost use Rattle.jn_base.specs.Limits.{head_blocks};
-ghost use Rattle.jn_records.specs.Pages.{format_version, IsRoot};
+ghost use Rattle.jn_records.specs.Pages.{IsRoot, IsVersion};
 ghost use Rattle.jn_records.specs.Sound as sound;
 ghost use Rattle.jn_records.specs.Sound.{HasRoot, IsSound, HasOneHead, All, HeadsWhole, AddressesOnce};
 ghost use Rattle.jn_records.specs.StablePages.{page_count};
@@ -17,7 +17,7 @@ use crate::fault::{CheckError, Unsound};
 use crate::image::Image;
 use crate::repeats::least_repeated;
 use jn_base::{HEAD_BLOCKS, Page, ServerNo};
-use jn_records::{FORMAT_VERSION, Head, Record, Root};
+use jn_records::{Head, Record, Root};
 use std::alloc::{AllocError, Global};
 
 /// Whether the image is a sound one of this server, from whose pages a recovery may begin.
@@ -93,25 +93,31 @@ fn fault_of_heads(alloc: Global, heads: &[Option<Head>]) -> Result<Option<Unsoun
     }
 }
 
-/// Whether the first page is a root with the image's server and counts.
+/// Whether the first page is a root with the image's version, server and counts.
 fn has_root(image: &Image) -> bool
     requires { 0 < length image.now.pages }
     ensures { IsTrue result ↔ HasRoot (seen image.now) }
 {
-    let like = first_root(image.server, image.pool, image.heads, image.leaves);
+    let like = first_root(
+        image.version,
+        image.server,
+        image.pool,
+        image.heads,
+        image.leaves,
+    );
     match Root::decode(image.page(0)) {
         Some(root) => is_like(root, like),
         None => false,
     }
 }
 
-/// The root of a server with so many pages of each kind, at epoch 0.
-fn first_root(server: ServerNo, pool: u16, heads: u16, leaves: u16) -> Root
-    ensures root { result ≡ record { version = format_version; server = server; pool = pool; heads = heads; leaves = leaves; epoch = 0 } }
-    ensures fits { IsRoot result }
+/// The root of this version, of a server with so many pages of each kind, at epoch 0.
+fn first_root(version: u8, server: ServerNo, pool: u16, heads: u16, leaves: u16) -> Root
+    ensures root { result ≡ record { version = version; server = server; pool = pool; heads = heads; leaves = leaves; epoch = 0 } }
+    ensures fits { IsVersion version → IsRoot result }
 {
     Root {
-        version: FORMAT_VERSION,
+        version,
         server,
         pool,
         heads,

@@ -13,9 +13,6 @@ use std::alloc::{AllocError, Global};
 /// The name of the format, at the front of an image.
 pub(crate) const NAME: [u8; 8] = *b"JUNIMAGE";
 
-/// The version of the format.
-pub(crate) const VERSION: u8 = 1;
-
 /// How many bytes a digest has.
 pub(crate) const DIGEST: usize = 32;
 
@@ -53,7 +50,7 @@ fn push_header(out: &mut Vec<u8>, image: &Image) -> Result<(), AllocError>
     ensures { OnOk result (out.new.items ≡ out.old.items ++ header_bytes image.now) }
 {
     out.extend_from_slice(&NAME)?;
-    out.push(VERSION)?;
+    out.push(image.version)?;
     out.push(image.server.0)?;
     push_u16(out, image.pool)?;
     push_u16(out, image.heads)?;

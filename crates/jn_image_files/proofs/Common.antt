@@ -12,9 +12,10 @@ pub use Rattle.jn_device.specs.declared.Half.{Half}
 pub use Rattle.jn_disks.specs.Disks.{AreSound, HasPages, IsStoreOfPages}
 pub use Rattle.jn_recovery.specs.Counts.{counts_by}
 pub use Rattle.jn_recovery.specs.declared.counts.PageCounts.{PageCounts}
-pub use Rattle.jn_image_files.specs.Kept.{Has, IsKept, IsSoundImage, image_name}
+pub use Rattle.jn_image_files.specs.Kept.{Has, IsSoundImage, image_name, IsSaved}
 pub use Rattle.jn_image_files.specs.Opened.{IsClosed, found_at, AreStoresOf, IsStoreOf}
 pub use Rattle.jn_image_files.specs.Saved.{SavesOne, SavedTo, SavesAll}
+pub use Rattle.jn_records.specs.Pages.{format_version}
 pub use Rattle.std.proofs.lemmas.List.{get_or_append_left, get_or_push, append_cancel_left, length_push}
 pub use Rattle.std.specs.declared.alloc.Global.{Global}
 pub use Rattle.std.proofs.lemmas.Result.{err_from_is_err_and}

@@ -1,5 +1,5 @@
 -- What is kept, from save to save.
-use Rattle.jn_image_files.proofs.Common.{◌≡◌, ◌≢◌, ℕ, zero, suc, ◌+◌, ◌<◌, ◌≤◌, Bool, true, false, List, [], ◌∷◌, length, slice_get, Option, Some, None, Result, Err, refl, sym, ◌∙◌, ap, subst, arith, true≢false, nat_tests, nat_lt, is_some, is_ok, get_or, ServerNo, DeviceState, Contents, KeeperSaved, kept_at, image_counts, image_bytes, Image, Half, AreSound, HasPages, counts_by, PageCounts, Has, IsClosed, IsKept, IsSoundImage, image_name, SavesOne, SavedTo, SavesAll, Rose}
+use Rattle.jn_image_files.proofs.Common.{◌≡◌, ◌≢◌, ℕ, zero, suc, ◌+◌, ◌<◌, ◌≤◌, Bool, true, false, List, [], ◌∷◌, length, slice_get, Option, Some, None, Result, Err, refl, sym, ◌∙◌, ap, subst, arith, true≢false, nat_tests, nat_lt, is_some, is_ok, get_or, ServerNo, DeviceState, Contents, KeeperSaved, kept_at, image_counts, image_bytes, Image, Half, AreSound, HasPages, counts_by, PageCounts, Has, IsClosed, IsSoundImage, image_name, SavesOne, SavedTo, SavesAll, Rose, IsSaved, format_version}
 use Rattle.jn_records.specs.StablePages.{Counts}
 use Rattle.jn_host.specs.declared.KeepFailure.{KeepFailure}
 use Rattle.std.proofs.lemmas.Slice.Eq.{bytes_eq-Decides}
@@ -26,37 +26,43 @@ pub has-saved : (kept kept' : Option Contents) (name bytes : List ℕ) → is_so
 has-saved kept None name bytes told saved = tt
 has-saved kept (Some after) name bytes told saved = some-is (after name) (Some bytes) (saved (sym told))
 
-pub kept-still : (kept kept' : Option Contents) (name : List ℕ) (g : Counts) (q : ServerNo) (d : DeviceState) → is_some kept' ≡ is_some kept → kept_at kept' (image_name name q.0) ≡ kept_at kept (image_name name q.0) → IsKept kept name g q d → IsKept kept' name g q d
-kept-still kept kept' name g q d told same is = record {
-  image = is.image;
-  is_sound = is.is_sound;
-  counts = is.counts;
-  pages = is.pages;
-  bytes = has-still kept kept' (image_name name q.0) (Some (image_bytes is.image)) told same is.bytes;
+pub kept-still : (kept kept' : Option Contents) (name : List ℕ) (g : Counts) (q : ServerNo) (d : DeviceState) → is_some kept' ≡ is_some kept → kept_at kept' (image_name name q.0) ≡ kept_at kept (image_name name q.0) → IsSaved kept name g q d → IsSaved kept' name g q d
+kept-still kept kept' name g q d told same is = let k = is.is_kept in record {
+  is_kept = record {
+    image = k.image;
+    is_sound = k.is_sound;
+    counts = k.counts;
+    pages = k.pages;
+    bytes = has-still kept kept' (image_name name q.0) (Some (image_bytes k.image)) told same k.bytes;
+  };
+  version = is.version;
 }
 
 -- ---- what may be saved
 
 -- the pages of a closed server's disk, sound, are those of an image that has bytes
-pub image-of : (q : ServerNo) (g : Counts) (d : DeviceState) (halves : List Half) → q.0 ≤ 7 → IsClosed q g d → AreSound q g halves → IsSoundImage q (record { server = q; pool = g.pool; heads = g.heads; leaves = g.leaves; pages = halves })
+pub image-of : (q : ServerNo) (g : Counts) (d : DeviceState) (halves : List Half) → q.0 ≤ 7 → IsClosed q g d → AreSound format_version q g halves → IsSoundImage q (record { version = format_version; server = q; pool = g.pool; heads = g.heads; leaves = g.leaves; pages = halves })
 image-of q g d halves within closed are = record {
-  form = record { server_within = within; pool_within = closed.within.pool; heads_within = closed.within.heads; leaves_within = closed.within.leaves; both_halves = are.size };
+  form = record { version_within = (omega arith, omega arith); server_within = within; pool_within = closed.within.pool; heads_within = closed.within.heads; leaves_within = closed.within.leaves; both_halves = are.size };
   sound = are.sound;
 }
 
 -- ---- one save
 
 pub saves-one : (name : List ℕ) (g : Counts) (q : ServerNo) (d : DeviceState) (m : Image) (own bytes : List ℕ) (kept : Option Contents) (faults : ℕ) (answer : Result (Unit {0}) KeepFailure) (kept' : Option Contents) (faults' : ℕ)
-    → IsSoundImage q m → image_counts m ≡ g → HasPages m.pages d → own ≡ image_name name q.0 → bytes ≡ image_bytes m → KeeperSaved kept faults own bytes answer kept' faults' → SavesOne name g q d kept faults answer kept' faults'
-saves-one name g q d m own bytes kept faults answer kept' faults' sound counts pages own_is bytes_are s = record {
+    → IsSoundImage q m → m.version ≡ format_version → image_counts m ≡ g → HasPages m.pages d → own ≡ image_name name q.0 → bytes ≡ image_bytes m → KeeperSaved kept faults own bytes answer kept' faults' → SavesOne name g q d kept faults answer kept' faults'
+saves-one name g q d m own bytes kept faults answer kept' faults' sound version counts pages own_is bytes_are s = record {
   count = s.count;
   told = s.told;
   saved = λ ok. record {
-    image = m;
-    is_sound = sound;
-    counts = counts;
-    pages = pages;
-    bytes = has-saved kept kept' (image_name name q.0) (image_bytes m) s.told (λ tells. subst (λ (n : List ℕ). kept_at kept' n ≡ Some (Some (image_bytes m))) own_is (subst (λ (b : List ℕ). kept_at kept' own ≡ Some (Some b)) bytes_are (s.saved ok tells)));
+    is_kept = record {
+      image = m;
+      is_sound = sound;
+      counts = counts;
+      pages = pages;
+      bytes = has-saved kept kept' (image_name name q.0) (image_bytes m) s.told (λ tells. subst (λ (n : List ℕ). kept_at kept' n ≡ Some (Some (image_bytes m))) own_is (subst (λ (b : List ℕ). kept_at kept' own ≡ Some (Some b)) bytes_are (s.saved ok tells)));
+    };
+    version = version;
   };
   unsaved = λ failed other. by other failed (bytes_eq other own) refl;
   others = λ other differs. s.others other (λ same. differs (same ∙ own_is));
@@ -94,13 +100,13 @@ module _ {S : Type 0} (device : S → DeviceState) (name : List ℕ) (stores : L
     are_kept = all;
   }
     where
-      all : (r : ServerNo) (t : S) (h : PageCounts) → r.0 < n + 1 → slice_get stores r.0 ≡ Some t → slice_get counts r.0 ≡ Some h → IsKept kept' name (counts_by h) r (device t)
+      all : (r : ServerNo) (t : S) (h : PageCounts) → r.0 < n + 1 → slice_get stores r.0 ≡ Some t → slice_get counts r.0 ≡ Some h → IsSaved kept' name (counts_by h) r (device t)
       all r t h lt there his = by (nat_lt r.0 n) refl
         where
           differs : r.0 < n → image_name name r.0 ≢ image_name name q.0
           differs less same = let e = same-server name r.0 q.0 (omega (arith, less, few)) (omega (arith, place, few)) same in omega (arith, less, place, e)
 
-          by : (b : Bool) → nat_lt r.0 n ≡ b → IsKept kept' name (counts_by h) r (device t)
+          by : (b : Bool) → nat_lt r.0 n ≡ b → IsSaved kept' name (counts_by h) r (device t)
           by true before =
               let less : r.0 < n = grind (arith, nat_tests, before) in
               kept-still middle kept' name (counts_by h) r (device t) one.told (one.others (image_name name r.0) (differs less)) (so.are_kept r t h less there his)
@@ -108,7 +114,7 @@ module _ {S : Type 0} (device : S → DeviceState) (name : List ℕ) (stores : L
               let here : q ≡ r = same-no q r (place ∙ (let e : n ≡ r.0 = grind (arith, nat_tests, past, lt) in e)) in
               let store : s ≡ t = some-store s t (sym at ∙ ap (λ (k : ℕ). slice_get stores k) (sym place ∙ ap (λ (x : ServerNo). x.0) here) ∙ there) in
               let same_counts : g ≡ h = some-counts g h (sym its ∙ ap (λ (k : ℕ). slice_get counts k) (sym place ∙ ap (λ (x : ServerNo). x.0) here) ∙ his) in
-              subst (λ (x : ServerNo). IsKept kept' name (counts_by h) x (device t)) here (subst (λ (x : S). IsKept kept' name (counts_by h) q (device x)) store (subst (λ (x : PageCounts). IsKept kept' name (counts_by x) q (device s)) same_counts (one.saved ok)))
+              subst (λ (x : ServerNo). IsSaved kept' name (counts_by h) x (device t)) here (subst (λ (x : S). IsSaved kept' name (counts_by h) q (device x)) store (subst (λ (x : PageCounts). IsSaved kept' name (counts_by x) q (device s)) same_counts (one.saved ok)))
 
   -- a save that failed changed nothing
   pub saved-not : (n : ℕ) (g : Counts) (q : ServerNo) (d : DeviceState) (middle kept' : Option Contents) (faults faults' : ℕ) (answer : Result (Unit {0}) KeepFailure)

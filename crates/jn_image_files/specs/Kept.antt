@@ -7,6 +7,7 @@ use Rattle.jn_host.specs.Outside.{Contents, kept_at}
 use Rattle.jn_image.specs.Form.{HasForm, image_counts, image_bytes}
 use Rattle.jn_image.specs.Unsound.{seen}
 use Rattle.jn_image.specs.declared.image.Image.{Image}
+use Rattle.jn_records.specs.Pages.{format_version}
 use Rattle.jn_records.specs.Sound.{IsSound}
 use Rattle.jn_records.specs.StablePages.{Counts}
 
@@ -31,6 +32,11 @@ pub record IsKept (kept : Option Contents) (name : List ℕ) (g : Counts) (q : S
   pub counts : image_counts image ≡ g
   pub pages : HasPages image.pages d
   pub bytes : Has kept (image_name name q.0) (Some (image_bytes image))
+
+-- so it was saved, as an image of the version that is written
+pub record IsSaved (kept : Option Contents) (name : List ℕ) (g : Counts) (q : ServerNo) (d : DeviceState) : Type 0 where
+  pub is_kept : IsKept kept name g q d
+  pub version : is_kept.image.version ≡ format_version
 
 -- all but the names of the first n images hold what they held
 pub record OthersStay (kept : Option Contents) (name : List ℕ) (n : ℕ) (kept' : Option Contents) : Type 0 where

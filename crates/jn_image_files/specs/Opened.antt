@@ -53,7 +53,7 @@ pub record IsDiskOf (q : ServerNo) (content : Option (List ℕ)) (g : Counts) (d
 -- so does the store's, where a restart finds the image's files
 pub record IsStoreOf {S : Type 0} (look : S → StoreView) (device : S → DeviceState) (q : ServerNo) (content : Option (List ℕ)) (x : S × PageCounts) : Type 0 where
   pub disk : IsDiskOf q content (counts_by x.1) (device x.0)
-  pub store : IsStoreOfPages q (counts_by x.1) disk.image.pages (look x.0)
+  pub store : IsStoreOfPages disk.image.version q (counts_by x.1) disk.image.pages (look x.0)
 
 abbrev pub AreStoresOf : {S : Type 0} → (S → StoreView) → (S → DeviceState) → (ℕ → Option (List ℕ)) → List (S × PageCounts) → Type 0
 AreStoresOf {S} look device found stores = (n : ℕ) (x : S × PageCounts) → slice_get stores n ≡ Some x → IsStoreOf look device (record { 0 = n }) (found n) x

@@ -8,22 +8,22 @@ use Rattle.jn_host.specs.declared.KeepFailure.TheVariants.{Failed as CallFailed}
 use Rattle.jn_records.specs.StablePages.{Counts}
 use Rattle.jn_recovery.specs.Counts.{counts_by}
 use Rattle.jn_recovery.specs.declared.counts.PageCounts.{PageCounts}
-use Rattle.jn_image_files.specs.Kept.{IsKept, image_name, OthersStay}
+use Rattle.jn_image_files.specs.Kept.{IsSaved, image_name, OthersStay}
 
 -- the image of one server's disk was saved, or nothing was changed
 pub record SavesOne (name : List ℕ) (g : Counts) (q : ServerNo) (d : DeviceState) (kept : Option Contents) (faults : ℕ) (answer : Result (Unit {0}) KeepFailure) (kept' : Option Contents) (faults' : ℕ) : Type 0 where
   pub count : faults ≤ faults'
   pub told : is_some kept' ≡ is_some kept
-  pub saved : is_ok answer ≡ true → IsKept kept' name g q d
+  pub saved : is_ok answer ≡ true → IsSaved kept' name g q d
   pub unsaved : is_ok answer ≡ false → (other : List ℕ) → kept_at kept' other ≡ kept_at kept other
   pub others : (other : List ℕ) → other ≢ image_name name q.0 → kept_at kept' other ≡ kept_at kept other
   pub rose : answer ≡ Err CallFailed → Rose faults faults'
   pub no_fault : answer ≢ Err CallFailed → faults' ≡ faults
 
--- the first n of these stores, with their counts of pages, are kept, and nothing else was changed
+-- the first n of these stores, with their counts of pages, were saved, and nothing else was changed
 pub record SavedTo {S : Type 0} (device : S → DeviceState) (name : List ℕ) (stores : List S) (counts : List PageCounts) (n : ℕ) (kept kept' : Option Contents) : Type 0 where
   pub stay : OthersStay kept name n kept'
-  pub are_kept : (q : ServerNo) (s : S) (g : PageCounts) → q.0 < n → slice_get stores q.0 ≡ Some s → slice_get counts q.0 ≡ Some g → IsKept kept' name (counts_by g) q (device s)
+  pub are_kept : (q : ServerNo) (s : S) (g : PageCounts) → q.0 < n → slice_get stores q.0 ≡ Some s → slice_get counts q.0 ≡ Some g → IsSaved kept' name (counts_by g) q (device s)
 
 -- all were saved, or those before the one whose save failed
 pub record SavesAll {S : Type 0} (device : S → DeviceState) (name : List ℕ) (stores : List S) (counts : List PageCounts) (kept : Option Contents) (faults : ℕ) (answer : Result (Unit {0}) KeepFailure) (kept' : Option Contents) (faults' : ℕ) : Type 0 where

@@ -11,7 +11,7 @@ use jn_disks::pages_of_store;
 use jn_host::{KeepFailure, Keeper};
 use jn_image::{Image, encode};
 use jn_memdisk::MemDisk;
-use jn_records::ListOf;
+use jn_records::{FORMAT_VERSION, ListOf};
 use jn_recovery::PageCounts;
 use jn_stable::Pairs;
 use jn_store::Powered;
@@ -60,6 +60,7 @@ fn save_image<I: Keeper>(
     ensures saved { SavesOne name.now (counts_by counts) server (⟦<Pairs<MemDisk> as Powered>⟧.device store) (I.kept keeper.old) (I.faults keeper.old) result (I.kept keeper.new) (I.faults keeper.new) }
 {
     let image = Image {
+        version: FORMAT_VERSION,
         server,
         pool: counts.pool,
         heads: counts.heads,

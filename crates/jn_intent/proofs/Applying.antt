@@ -1,5 +1,5 @@
 -- A work's next intention is carried out, by one put of one head or by none.
-use Rattle.jn_intent.proofs.Common.{◌≡◌, ◌≢◌, ◌⊎◌, inl, inr, ⊎_elim, ◌<◌, ◌≤◌, ◌+◌, ℕ, suc, Bool, true, false, not, ◌&&◌, ◌||◌, if◌then◌else◌, List, [], ◌∷◌, length, map, Option, Some, None, Result, Ok, refl, sym, ◌∙◌, ap, subst, true≢false, arith, fun_ext, cases_eq, nat_tests, get_or_read, sum_by-cons, slice_get-map, slice_get_within, nat_lt, nat_eq, is_ok, is_some, count_by, slice_get, slice_set, slice_index_or, option_map, find, list_all, list_any, free_numbers, is_free_number, Stopped, FileNo, Block, WorkId, file_eq, work_eq, file_tells, work_tells, unit_eq, there_it_is, TableView, IsTable, IsFreeLeaf, exists, IsChanged, intended, heads_name, works_name, is_head_of, held_contents, found_on, HeadPut, IsRecoverable, IsStanding, Makes, carries, head_named, named_addresses, Head, FullIntention, StoredIntention, What, Fresh, Gone, Cut, Put, WorkState, intention_has_page, names_what_it_needs, is_fresh, is_put, is_put_intention, Counts, head_place, StableState, Pick, Changed, CarryOut, made_by, at_work, is_prepared, record_in, has_page, state, name_of, next_of, Called, CountsOn, PageTaken, PageStands, StepApplied, find_by, are_different, IsListing, IsServing, file_there, is_stored, intentions, list_of, needed, find-set, keys-set, made_there, there-after, StoreView, Carries, PutsOne, MayCarry, heads_taken, without_promise, is_gone, is_gone_already, counted_on, Matches, IsKeptMemory, IsMade, AreMade, stored_work, Memory, accounts_of, view_of, next_by, next_in, stored_by, holds_page, held_in, same_there, same_address, one, listed_length, none_any, serves_of, serving_by, called_put, finds, there_found, named_head, prepared_of, stored_pages}
+use Rattle.jn_intent.proofs.Common.{◌≡◌, ◌≢◌, ◌⊎◌, inl, inr, ⊎_elim, ◌<◌, ◌≤◌, ◌+◌, ℕ, suc, Bool, true, false, not, ◌&&◌, ◌||◌, if◌then◌else◌, List, [], ◌∷◌, length, map, Option, Some, None, Result, Ok, refl, sym, ◌∙◌, ap, subst, true≢false, arith, fun_ext, cases_eq, nat_tests, get_or_read, sum_by-cons, slice_get-map, slice_get_within, nat_lt, nat_eq, is_ok, is_some, count_by, slice_get, slice_set, slice_index_or, option_map, find, list_all, list_any, free_numbers, is_free_number, Stopped, FileNo, Block, WorkId, file_eq, work_eq, file_tells, work_tells, unit_eq, there_it_is, TableView, IsTable, IsFreeLeaf, exists, IsChanged, intended, heads_name, works_name, is_head_of, held_contents, found_on, HeadPut, IsRecoverable, IsStanding, Makes, carries, head_named, named_addresses, Head, FullIntention, StoredIntention, What, Fresh, Gone, Cut, Put, WorkState, intention_has_page, names_what_it_needs, is_fresh, is_put, is_put_intention, Counts, head_place, StableState, Pick, Changed, CarryOut, made_by, at_work, is_prepared, record_in, has_page, state, name_of, next_of, Called, CountsOn, PageTaken, PageStands, StepApplied, find_by, are_different, IsListing, IsServing, file_there, is_stored, intentions, list_of, find-set, keys-set, made_there, there-after, StoreView, Carries, PutsOne, MayCarry, heads_taken, without_promise, is_gone, is_gone_already, counted_on, Matches, IsKeptMemory, IsMade, AreMade, stored_work, Memory, accounts_of, view_of, next_by, next_in, stored_by, holds_page, held_in, same_there, same_address, one, listed_length, none_any, serves_of, serving_by, called_put, finds, there_found, named_head, prepared_of, stored_pages, same_only, root_page, root_by, IsOnly}
 use Rattle.jn_page_state.proofs.HeadLaws.{gone_law}
 use Rattle.jn_records.specs.Heads.{head_page}
 use Rattle.jn_storage.proofs.Laws.{called_not}
@@ -33,16 +33,16 @@ held_most heads blocks (i ∷ list) pages =
     let a = sum_by-cons (λ i. if holds_page heads i then 1 else 0) i list in
     let b = sum_by-cons (λ (i : FullIntention). if is_put_intention i then 1 else 0) (intended blocks i) (map (intended blocks) list) in
     let again = held_most heads blocks list (grind (arith, pages)) in
-    let here = by i.what i.block.0 i.address (not (heads_name heads i.address)) (grind (arith, pages)) in omega (arith, a, b, again, here)
+    let here = by i.what i.block.0 i.address i.map (not (heads_name heads i.address)) (grind (arith, pages)) in omega (arith, a, b, again, here)
   where
     none : (a : ℕ) (b : Bool) → nat_eq a 0 ≡ true → (if nat_lt 0 a && b then 1 else 0) ≤ 0
     none a b e = grind (arith, nat_tests, e)
 
-    by : (w : What) (n a : ℕ) (b : Bool) → names_what_it_needs w n a ≡ true → (if nat_lt 0 a && b then 1 else 0) ≤ (if is_put w then 1 else 0)
-    by Fresh n a b h = none a b (grind (arith, h))
-    by Gone n a b h = none a b (grind (arith, h))
-    by Cut n a b h = none a b h
-    by Put n a b h = most (nat_lt 0 a && b)
+    by : (w : What) (n a m : ℕ) (b : Bool) → names_what_it_needs w n a m ≡ true → (if nat_lt 0 a && b then 1 else 0) ≤ (if is_put w then 1 else 0)
+    by Fresh n a m b h = none a b (grind (arith, h))
+    by Gone n a m b h = none a b (grind (arith, h))
+    by Cut n a m b h = none a b (grind (arith, h))
+    by Put n a m b h = most (nat_lt 0 a && b)
       where
         most : (b : Bool) → (if b then 1 else 0) ≤ 1
         most true = omega arith
@@ -96,6 +96,7 @@ module _ (m : Memory) (v : StoreView) (now : Matches m v) (serving : IsServing (
       pub others_hold : (o : WorkId) → work ≢ o → count_by (holds_page u.heads) (stored_by (find_by work_eq name_of m.works o)) ≡ count_by (holds_page m.table.heads) (stored_by (find_by work_eq name_of m.works o))
       pub put_counts : i.what ≡ Put → PutCounts m v s i u
       pub standing : IsStanding m.server u.counts w m.epoch m.records u.heads
+      pub root : IsOnly w 0 (root_page (root_by m.server u.counts m.epoch))
       pub found : (c : Pick) → found_on u.counts w c ≡ made_by (CarryOut work full) before
       pub power : w.power ≡ true
 
@@ -145,9 +146,10 @@ module _ (m : Memory) (v : StoreView) (now : Matches m v) (serving : IsServing (
             let more = more_pass (λ a. is_free_number m.table.free_leaves a) (λ a. is_free_number u.free_leaves a) m.table.counts.leaves (still_free done) in omega (arith, old, new, long, also, more);
         others_hold = λ o ne. subst (λ hs. count_by (holds_page hs) (stored_by (find_by work_eq name_of m.works o)) ≡ count_by (holds_page m.table.heads) (stored_by (find_by work_eq name_of m.works o))) (sym is.heads)
             (other_holds m v now serving work s here i at puts.place puts.head puts.carries o ne);
-        put_counts = λ put. let named = page_of_put i.what i.block.0 i.address (may_carry m v now serving work s here i at).names put in
+        put_counts = λ put. let named = page_of_put i.what i.block.0 i.address i.map (may_carry m v now serving work s here i at).names put in
             put_counted m v now serving work s here i at puts.place puts.head puts.carries put named.0 named.1 u is.table is.counts is.heads is.held;
         standing = subst (λ g. IsStanding m.server g w m.epoch m.records u.heads) (sym is.counts) (subst (λ hs. IsStanding m.server m.table.counts w m.epoch m.records hs) (sym is.heads) (makes.standing done));
+        root = subst (λ g. IsOnly w 0 (root_page (root_by m.server g m.epoch))) (sym is.counts) (same_only v w 0 _ (puts.put.others 0 (let e = now.standing.held.count in omega (arith, e)) (λ e. omega (arith, e))) now.root);
         found = λ c. ap (λ g. found_on g w c) is.counts ∙ makes.change.done done c;
         power = (puts.put.served done).power;
       }
@@ -188,6 +190,7 @@ module _ (m : Memory) (v : StoreView) (now : Matches m v) (serving : IsServing (
       others_hold = λ o ne. refl;
       put_counts = λ put. absurd (gone_not_put i.what (exists m.table.heads i.file) gone put);
       standing = now.standing;
+      root = now.root;
       found = λ c. serving.up c ∙ gone_same gone;
       power = serving.power;
     }
@@ -297,6 +300,7 @@ module _ (m : Memory) (v : StoreView) (now : Matches m v) (serving : IsServing (
       stepped_matches : Matches (record m { table = u; works = works }) w
       stepped_matches = record {
         standing = is.standing;
+        root = is.root;
         table = is.table;
         works = record {
           differ = subst (λ ks. are_different work_eq ks ≡ true) (sym stepped.names) now.works.differ;
@@ -309,15 +313,15 @@ module _ (m : Memory) (v : StoreView) (now : Matches m v) (serving : IsServing (
 
       -- ---- what is free
 
-      its_pages : (o : WorkId) → count_by (holds_page u.heads) (stored_by (find_by work_eq name_of m.works o)) ≤ (needed before (list_of before o)).pages
+      its_pages : (o : WorkId) → count_by (holds_page u.heads) (stored_by (find_by work_eq name_of m.works o)) ≤ count_by is_put_intention (list_of before o)
       its_pages o = by (find_by work_eq name_of m.works o) refl
         where
           pages : (slot : ℕ) → slot < length m.records → has_page (record_in m.records slot) ≡ true
           pages slot lt = (now.standing.held.pool slot lt).of_format.whole
 
-          by : (t : Option WorkState) → find_by work_eq name_of m.works o ≡ t → count_by (holds_page u.heads) (stored_by t) ≤ (needed before (list_of before o)).pages
+          by : (t : Option WorkState) → find_by work_eq name_of m.works o ≡ t → count_by (holds_page u.heads) (stored_by t) ≤ count_by is_put_intention (list_of before o)
           by None e = omega arith
-          by (Some t) e = subst (λ l. count_by (holds_page u.heads) t.list ≤ (needed before l).pages)
+          by (Some t) e = subst (λ l. count_by (holds_page u.heads) t.list ≤ count_by is_put_intention l)
               (sym (ap intentions (work_told m v now o ∙ ap (λ o. option_map (prepared_of (first_blocks m v)) (option_map stored_work o)) e)))
               (held_most u.heads (first_blocks m v) t.list
               (stored_pages m.records o pages (find (is_prepared o) m.records) (stored_work t) (sym (now.works.each o) ∙ ap (option_map stored_work) e)))
@@ -353,7 +357,7 @@ module _ (m : Memory) (v : StoreView) (now : Matches m v) (serving : IsServing (
             heads_used = all.2.heads;
             blocks_all = subst (λ (y : StableState). IsListing unit_eq (is_stored y.files) all.1) new_state all.2.blocks_all;
             pages = all.2.pages;
-            held_fits = λ o. subst (λ n. n ≤ (needed before (list_of before o)).pages) (sym (same_field (λ t. count_by (holds_page u.heads) (stored_by t)) refl o)) (its_pages o);
+            held_fits = λ o. subst (λ n. n ≤ count_by is_put_intention (list_of before o)) (sym (same_field (λ t. count_by (holds_page u.heads) (stored_by t)) refl o)) (its_pages o);
           }
 
       stepped_serving : IsServing (view_of (record m { table = u; works = works }) w)

@@ -1,5 +1,5 @@
 -- A storage serves on once an intention of a work is carried out.
-use Rattle.jn_intent.proofs.Common.{◌≡◌, ⊎_elim, ◌≤◌, ◌+◌, ℕ, Bool, true, false, not, ◌&&◌, ◌||◌, if◌then◌else◌, List, ◌∷◌, length, Some, refl, sym, ◌∙◌, ap, subst, arith, slice_get_within, slice_get, FileNo, LockUnit, WorkId, file_eq, work_eq, file_tells, work_tells, unit_eq, Files, change, What, Fresh, Gone, Cut, Put, intention_change, StableState, Prepared, CarryOut, made_by, at_work, IsListing, total, IsOrderly, Accounts, IsLoadable, file_there, is_stored, intentions, list_of, needed, made_there, there-after, one_if, makes_file, orderly-carried, promises-carried, but, listing-less, listing-more, listing-same, length-but, Serves}
+use Rattle.jn_intent.proofs.Common.{◌≡◌, ⊎_elim, ◌≤◌, ◌+◌, ℕ, Bool, true, false, not, ◌&&◌, ◌||◌, if◌then◌else◌, List, ◌∷◌, length, Some, refl, sym, ◌∙◌, ap, subst, arith, slice_get_within, slice_get, FileNo, LockUnit, WorkId, file_eq, work_eq, file_tells, work_tells, unit_eq, Files, change, What, Fresh, Gone, Cut, Put, intention_change, StableState, Prepared, CarryOut, made_by, at_work, IsListing, total, IsOrderly, Accounts, IsLoadable, file_there, is_stored, intentions, list_of, made_there, there-after, one_if, makes_file, orderly-carried, promises-carried, but, listing-less, listing-more, listing-same, length-but, Serves, count_by, heads_of, is_put_intention}
 use Rattle.jn_records.specs.declared.intention.Intention.{Intention}
 use Rattle.jn_intent.proofs.Numbers.{listing_length}
 
@@ -58,7 +58,7 @@ module _ (x : StableState) (a : Accounts) (work : WorkId) (p : Prepared) (k : �
   after : (ks : List FileNo) × IsAfter i x.files (length s.counted.files + one_if (makes_file i x.files)) ks
   after = files_after i x.files s.counted.files s.counted.files_all
 
-  pub promises : total (λ v. (needed (made_by (CarryOut work i) x) (list_of (made_by (CarryOut work i) x) v)).heads) s.counted.works + one_if (makes_file i x.files) ≡ a.promised_heads
+  pub promises : total (λ v. heads_of (list_of (made_by (CarryOut work i) x) v) (file_there (made_by (CarryOut work i) x).files)) s.counted.works + one_if (makes_file i x.files) ≡ a.promised_heads
   promises = promises-carried a.server x work p k i s.counted.works s.orderly stands here s.counted.works_all ∙ sym s.counted.promises
 
   -- a recovery would take the state
@@ -88,7 +88,7 @@ module _ (x : StableState) (a : Accounts) (work : WorkId) (p : Prepared) (k : �
     pub heads_used : b.free_heads + length files ≡ b.heads
     pub blocks_all : IsListing unit_eq (is_stored (made_by (CarryOut work i) x).files) blocks
     pub pages : b.free_pages + length blocks + total b.held s.counted.works ≡ b.leaves
-    pub held_fits : (w : WorkId) → b.held w ≤ (needed x (list_of x w)).pages
+    pub held_fits : (w : WorkId) → b.held w ≤ count_by is_put_intention (list_of x w)
 
   pub serves_carried : (b : Accounts) → IsCountedOn b → Serves (made_by (CarryOut work i) x) b
   serves_carried b is = record {

@@ -9,7 +9,7 @@ use Rattle.jn_intent.proofs.Numbers.{how_many, flags_count, one_kind, numbered}
 listed_rest : (heads : List Head) → length (listed_files heads) + count_by is_free heads ≡ length heads
 listed_rest [] = refl
 listed_rest (FreeHead ∷ heads) = let again = listed_rest heads in let more = sum_by-cons (λ h. if is_free h then 1 else 0) FreeHead heads in omega (arith, again, more)
-listed_rest (Used f xs ∷ heads) = let again = listed_rest heads in let more = sum_by-cons (λ h. if is_free h then 1 else 0) (Used f xs) heads in omega (arith, again, more)
+listed_rest (Used f xs maps ∷ heads) = let again = listed_rest heads in let more = sum_by-cons (λ h. if is_free h then 1 else 0) (Used f xs maps) heads in omega (arith, again, more)
 
 -- two lists that say the same place by place
 same_count : (flags : List Bool) (heads : List Head) → length flags ≡ length heads → ((slot : ℕ) → slot < length heads → slice_index_or flags slot false ≡ is_free (head_in heads slot)) → count_by (λ free. free) flags ≡ count_by is_free heads

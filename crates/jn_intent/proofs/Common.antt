@@ -1,11 +1,11 @@
 -- The names from below that these proofs cite, passed on from one place. Declares nothing.
 pub use Rattle.std.proofs.Common.{◌≡◌, ◌≢◌, ◌⊎◌, inl, inr, ⊎_elim, ◌<◌, ◌≤◌, ◌+◌, ℕ, suc, Bool, true, false, not, ◌&&◌, ◌||◌, if◌then◌else◌, List, [], ◌∷◌, length, Option, Some, None, refl, sym, ◌∙◌, ap, subst, true≢false, arith, zero, ◌-◌, drop, ◌++◌, ◌^◌, length-append, ◌*◌, vec_capacity, rules}
-pub use Rattle.std.specs.Prelude.{map, Result, Ok, nat_lt, nat_eq, is_ok, is_some, count_by, slice_get, slice_set, slice_index_or, option_map, nat_le, slice_index, replicate, take, option_and_then, position, filter, Err, IfOk, vec_len}
+pub use Rattle.std.specs.Prelude.{map, Result, Ok, nat_lt, nat_eq, is_ok, is_some, count_by, slice_get, slice_set, slice_index_or, option_map, nat_le, slice_index, take, option_and_then, position, filter, Err, IfOk, replicate, vec_len}
 pub use Rattle.std.proofs.Math.Path.{fun_ext}
 pub use Rattle.std.proofs.lemmas.Bool.{cases_eq, cases_lt, false_from_ne_true}
 pub use Rattle.std.proofs.lemmas.Bool.Decides.{nat_tests}
 pub use Rattle.std.proofs.lemmas.List.{get_or_read, get_or-set_same, get_or-set_other, length-set, length-map, map-append}
-pub use Rattle.std.proofs.lemmas.List.Sums.{sum_by-cons, count_by-le-length, sum_by-set, sum_by-append}
+pub use Rattle.std.proofs.lemmas.List.Sums.{sum_by-cons, count_by-le-length, sum_by-set, count_by_more_yes, sum_by-take-le, sum_by-append}
 pub use Rattle.std.proofs.lemmas.Option.{slice_get-map, slice_get_within, slice_get-get_or, get_or_from_slice_get}
 pub use Rattle.std.specs.List.{find, list_all, list_any, AllByRecursion}
 pub use Rattle.jn_alloc.specs.Free.{free_count as free_numbers, is_free as is_free_number, count_of, with_free, FreeNumbers}
@@ -34,8 +34,8 @@ pub use Rattle.jn_records.specs.declared.intention.What.{What}
 pub use Rattle.jn_records.specs.declared.intention.What.TheVariants.{Fresh, Gone, Cut, Put}
 pub use Rattle.jn_records.specs.declared.work.WorkState.{WorkState}
 pub use Rattle.jn_records.specs.Intentions.{intention_has_page, names_what_it_needs}
-pub use Rattle.jn_records.specs.NetLists.{is_fresh, is_put, is_put_intention, intention_change, in_order, place_by, entry, intention_place, as_first, first_by, AllPlain, Plain}
-pub use Rattle.jn_records.specs.StablePages.{Counts, head_place, data_place, page_count}
+pub use Rattle.jn_records.specs.NetLists.{is_fresh, is_put, is_put_intention, intention_change, heads_of, in_order, place_by, entry, intention_place, as_first, first_by, AllPlain, Plain}
+pub use Rattle.jn_records.specs.StablePages.{Counts, head_place, root_by, data_place, page_count}
 pub use Rattle.jn_rows.specs.Stable.{StableState, Pick, Changed, CarryOut, made_by, at_work, Prepared, MarkGoing, is_ready, Unchanged, AddReady, ready_work, RemoveWork, is_going}
 pub use Rattle.jn_sets.specs.Pool.{is_prepared, record_in, is_free, is_intention, IsRecord, slot_page, is_flag, is_ready as is_ready_record, going_of, free_count, is_rubbish}
 pub use Rattle.jn_records.specs.Records.{has_page, record_page, RecordFits, ascends, reads_have_page, unit_has_page}
@@ -43,10 +43,10 @@ pub use Rattle.jn_storage.specs.Calls.{state, name_of, next_of, Called, CountsOn
 pub use Rattle.jn_storage.specs.Finding.{find_by}
 pub use Rattle.jn_storage.specs.Listing.{are_different, IsListing, total, is_in}
 pub use Rattle.jn_storage.specs.Storage.{IsServing, is_stored, Accounts, StorageView}
-pub use Rattle.jn_storage.specs.Orderly.{file_there, intentions, list_of, needed, IsOrderly, IsLoadable, IsPrepared, GoTogether, unit_of, unit_by, needs_file as needs_first, takes_away, first_of, unit_in_range}
+pub use Rattle.jn_storage.specs.Orderly.{file_there, intentions, list_of, IsOrderly, IsLoadable, IsPrepared, GoTogether, unit_of, unit_by, needs_file as needs_first, takes_away, first_of, needed, unit_in_range}
 pub use Rattle.jn_storage.proofs.Finds.{find-set, keys-set, find-at, find-listed, find-add, different-add, map-add, find-kept, keys-kept, different-kept}
 pub use Rattle.jn_storage.proofs.Intended.{made_there, there-after, one_if, entry-of, unit-of}
-pub use Rattle.jn_store.specs.Store.{StoreView, IsClean, StoreLater, IsSamePage, IsServed, IsStop, HasSamePages, IsCalm, IsWholePage, StorePut}
+pub use Rattle.jn_store.specs.Store.{StoreView, IsOnly, IsClean, StoreLater, IsSamePage, IsServed, IsStop, HasSamePages, IsCalm, IsWholePage, StorePut}
 pub use Rattle.jn_intent.specs.Carrying.{Carries, PutsOne, MayCarry, heads_taken, without_promise, is_gone, is_gone_already, counted_on, with_fresh_promise, needs_file}
 pub use Rattle.jn_recovery.specs.Matches.{Matches, IsKeptMemory, IsMade, AreMade, stored_work, WorksMatch, StoredWork, work_by, FlagsMatch}
 pub use Rattle.jn_recovery.specs.Memory.{Memory, accounts_of, view_of, next_by, next_in, stored_by, holds_page, held_in, rubbish_of, rubbish_in}
@@ -56,12 +56,13 @@ pub use Rattle.jn_recovery.proofs.FlagCalls.{none_any, free_record, flag_slotted
 pub use Rattle.jn_recovery.proofs.Serving.{serves_of, serving_by, called_put, Serves, may_load, loadable_found}
 pub use Rattle.jn_recovery.proofs.Standing.{finds, there_found, named_head, consistent, mapped_found, holds, files_are, standing_same}
 pub use Rattle.jn_recovery.proofs.Telling.{prepared_of, stored_pages, works_seen, listed_pages, works_told, works_by, tells_works}
+pub use Rattle.jn_files.proofs.Putting.{same_only, named_below}
+pub use Rattle.jn_records.specs.Pages.{root_page}
 pub use Rattle.jn_base.specs.declared.names.LockUnit.{LockUnit}
 pub use Rattle.jn_storage.proofs.Kept.{makes_file, orderly-carried, promises-carried}
 pub use Rattle.jn_storage.proofs.Listings.{but, listing-less, listing-more, listing-same, length-but, is_in-but, total-but, total-same, Tells}
 pub use Rattle.jn_base.specs.declared.names.BlockNo.{BlockNo}
-pub use Rattle.jn_files.proofs.Lookup.{of_one, addresses_at, absent_none, of_used}
-pub use Rattle.jn_files.proofs.Putting.{named_below}
+pub use Rattle.jn_files.proofs.Lookup.{of_one, addresses_at, absent_none, of_used, maps_of}
 pub use Rattle.jn_page_state.proofs.Images.{listed_files, files_listing}
 pub use Rattle.jn_records.specs.declared.head.Head.TheVariants.{Free as FreeHead, Used}
 pub use Rattle.jn_base.specs.Limits.{head_blocks, most_blocks}
@@ -84,6 +85,7 @@ pub use Rattle.jn_store.proofs.Laws.{later_refl, same_refl, same_shrinks, later_
 pub use Rattle.std.proofs.lemmas.List.Elements.{filter-append}
 pub use Rattle.jn_intent.specs.Preparing.{PoolPreparing, IsPreparing, StopsUnchanged, Begins, ListStored, stored_as, BlockStored, RecordStored, IntentionStored, MayStore, PagesPreparing, StorePreparing, IsOwnPage}
 pub use Rattle.jn_records.specs.declared.net_list.Need.{Need}
+pub use Rattle.jn_records.proofs.MapPlaces.{pages_for_puts}
 pub use Rattle.std.proofs.Math.Seq.{take-length, take-suc, take-append_seam}
 pub use Rattle.jn_storage.specs.declared.faults.PrepareFault.TheVariants.{Records, Pages, Heads, Stopped as Stops}
 pub use Rattle.jn_recovery.proofs.Erasing.{rubbish_one, in_both, erase_done, erase_kept, erase_recovers}

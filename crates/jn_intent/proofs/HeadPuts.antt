@@ -1,9 +1,9 @@
 -- The put of a head by the table of files carries out an intention.
-use Rattle.jn_intent.proofs.Common.{head_blocks, ◌≡◌, ◌⊎◌, inl, inr, ⊎_elim, ◌<◌, ◌≤◌, ◌-◌, ℕ, zero, suc, Bool, true, false, not, ◌&&◌, if◌then◌else◌, List, length, replicate, refl, sym, ◌∙◌, ap, subst, true≢false, arith, cases_lt, nat_tests, get_or-set_same, get_or-set_other, nat_le, nat_eq, slice_set, slice_index, take, list_all, is_free_number, BlockNo, FileNo, block_tells, Change, created, removed, cut_from, written, TableView, IsTable, IsHeadOf, head_in, is_of, exists, fresh_head, cut_head, cut_addresses, with_leaf, addresses_of, SetsHead, IsPlaceOf, with_promised_heads, absent_none, of_used, serves_for, is_head_after, address_after, is_head_of, address_at, Head, Used, StoredIntention, What, Fresh, Gone, Cut, Put, names_what_it_needs, is_fresh, StoreView, MayCarry, PutsOne, Carries, without_promise, with_fresh_promise, is_gone, needs_file, same_test}
+use Rattle.jn_intent.proofs.Common.{head_blocks, ◌≡◌, ◌⊎◌, inl, inr, ⊎_elim, ◌<◌, ◌≤◌, ◌-◌, ℕ, suc, Bool, true, false, not, ◌&&◌, if◌then◌else◌, List, length, refl, sym, ◌∙◌, ap, subst, true≢false, arith, cases_lt, nat_tests, get_or-set_same, get_or-set_other, nat_le, nat_eq, slice_set, slice_index, take, is_free_number, BlockNo, FileNo, block_tells, Change, created, removed, cut_from, written, TableView, IsTable, IsHeadOf, head_in, is_of, exists, fresh_head, cut_head, cut_addresses, with_leaf, addresses_of, SetsHead, IsPlaceOf, with_promised_heads, absent_none, of_used, serves_for, is_head_after, address_after, is_head_of, address_at, Head, Used, StoredIntention, What, Fresh, Gone, Cut, Put, names_what_it_needs, is_fresh, StoreView, MayCarry, PutsOne, Carries, without_promise, with_fresh_promise, is_gone, needs_file, same_test, maps_of}
 use Rattle.jn_files.specs.Table.{is_free}
 use Rattle.jn_files.proofs.Changing.{zeros_at}
-use Rattle.jn_files.proofs.Cutting.{cut_kept, cut_gone}
-use Rattle.jn_files.proofs.Setting.{cut_stands, leaf_stands}
+use Rattle.jn_files.proofs.Cutting.{cut_kept, cut_gone, whole_length}
+use Rattle.jn_files.proofs.Setting.{cut_stands, leaf_stands, fresh_is_head}
 use Rattle.jn_records.specs.declared.head.Head.TheVariants.{Free}
 
 -- ---- the place of a head
@@ -33,24 +33,20 @@ module _ (t : TableView) (is : IsTable t) (f : FileNo) (slot : ℕ) (below : slo
     where
       by : (h : Head) → is_head_of f h ≡ true → serves_for Fresh f h ≡ true
       by Free e = refl
-      by (Used g xs) e = e
+      by (Used g xs maps) e = e
 
       free : (h : Head) → is_free h ≡ true → serves_for Fresh f h ≡ true
       free Free e = refl
-      free (Used g xs) e = absurd (true≢false (sym e))
+      free (Used g xs maps) e = absurd (true≢false (sym e))
 
 own_serves : (f : FileNo) (w : What) (h : Head) → is_of f h ≡ true → serves_for w f h ≡ true
 own_serves f w Free e = absurd (true≢false (sym e))
-own_serves f Fresh (Used g xs) e = e
-own_serves f Gone (Used g xs) e = e
-own_serves f Cut (Used g xs) e = e
-own_serves f Put (Used g xs) e = e
+own_serves f Fresh (Used g xs maps) e = e
+own_serves f Gone (Used g xs maps) e = e
+own_serves f Cut (Used g xs maps) e = e
+own_serves f Put (Used g xs maps) e = e
 
 -- ---- the heads that are put
-
-zeros_within : (n leaves : ℕ) → list_all (λ a. nat_le a leaves) (replicate n 0) ≡ true
-zeros_within zero leaves = refl
-zeros_within (suc n) leaves = let rest = zeros_within n leaves in let small : nat_le 0 leaves ≡ true = grind (arith, nat_tests) in grind (arith, nat_tests)
 
 cut_at : (n p : BlockNo) (a : ℕ) (xs : List ℕ) → slice_index (cut_addresses n.0 xs) p.0 ≡ address_after Cut n a p (slice_index xs p.0)
 cut_at n p a xs = ⊎_elim
@@ -106,7 +102,7 @@ module _ (t : TableView) (v : StoreView) (i : StoredIntention) (may : MayCarry t
 
       by : SetsHead (without_promise t i) v i.file (λ h. fresh_head i.file) (λ leaves. created i.file) ok u w → PutsOne t v i ok u w
       by s = puts_one (λ h. fresh_head i.file) (λ leaves. created i.file) s
-          (record { is_head = record { whole = refl; within_leaves = zeros_within head_blocks t.counts.leaves }; fits = may.file_fits }) (
+          (record { is_head = fresh_is_head t.counts.leaves i.file; fits = may.file_fits }) (
             subst (λ w. serves_for w i.file (head_in t.heads s.slot) ≡ true) (sym e) (fresh_serves t may.table i.file s.slot s.below (is_at (without_promise t i) i.file s.slot s.place)),
             subst (λ w. is_head_after w i.file (fresh_head i.file) ≡ true) (sym e) own,
           )
@@ -127,61 +123,62 @@ module _ (t : TableView) (v : StoreView) (i : StoredIntention) (may : MayCarry t
     its_head : is_of i.file (head_in t.heads its.slot) ≡ true
     its_head = own_place t may.table i.file its.slot its.below (is_at (without_promise t i) i.file its.slot its.place) there
 
-    carries_there : ((xs : List ℕ) → head_in t.heads its.slot ≡ Used i.file xs → IsHeadOf t.counts.leaves (new_head (Used i.file xs)) × (is_head_after i.what i.file (new_head (Used i.file xs)) ≡ true)
-        × ((p : BlockNo) → address_at (new_head (Used i.file xs)) p ≡ address_after i.what i.block i.address p (slice_index xs p.0))) → Carries t v i ok u w
+    carries_there : ((xs maps : List ℕ) → head_in t.heads its.slot ≡ Used i.file xs maps → IsHeadOf t.counts.leaves (new_head (Used i.file xs maps)) × (is_head_after i.what i.file (new_head (Used i.file xs maps)) ≡ true)
+        × ((p : BlockNo) → address_at (new_head (Used i.file xs maps)) p ≡ address_after i.what i.block i.address p (slice_index xs p.0))) → Carries t v i ok u w
     carries_there new = record {
       put = λ here. puts_one new_head c its (subst (λ h. IsHeadOf t.counts.leaves (new_head h)) (sym was) of.0) (own_serves i.file i.what (head_in t.heads its.slot) its_head, subst (λ h. is_head_after i.what i.file (new_head h) ≡ true) (sym was) of.1)
           (λ p. subst (λ h. address_at (new_head h) p ≡ address_after i.what i.block i.address p (address_at h p)) (sym was) (of.2 p));
       nothing = λ none. absurd (gone (is_gone i.what) (exists t.heads i.file) there none);
     }
       where
-        was : head_in t.heads its.slot ≡ Used i.file (addresses_of (head_in t.heads its.slot))
+        was : head_in t.heads its.slot ≡ Used i.file (addresses_of (head_in t.heads its.slot)) (maps_of (head_in t.heads its.slot))
         was = of_used i.file (head_in t.heads its.slot) its_head
 
-        of : IsHeadOf t.counts.leaves (new_head (Used i.file (addresses_of (head_in t.heads its.slot)))) × (is_head_after i.what i.file (new_head (Used i.file (addresses_of (head_in t.heads its.slot)))) ≡ true)
-            × ((p : BlockNo) → address_at (new_head (Used i.file (addresses_of (head_in t.heads its.slot)))) p ≡ address_after i.what i.block i.address p (slice_index (addresses_of (head_in t.heads its.slot)) p.0))
-        of = new (addresses_of (head_in t.heads its.slot)) was
+        of : IsHeadOf t.counts.leaves (new_head (Used i.file (addresses_of (head_in t.heads its.slot)) (maps_of (head_in t.heads its.slot))))
+            × (is_head_after i.what i.file (new_head (Used i.file (addresses_of (head_in t.heads its.slot)) (maps_of (head_in t.heads its.slot)))) ≡ true)
+            × ((p : BlockNo) → address_at (new_head (Used i.file (addresses_of (head_in t.heads its.slot)) (maps_of (head_in t.heads its.slot)))) p ≡ address_after i.what i.block i.address p (slice_index (addresses_of (head_in t.heads its.slot)) p.0))
+        of = new (addresses_of (head_in t.heads its.slot)) (maps_of (head_in t.heads its.slot)) was
 
         gone : (a b : Bool) → b ≡ true → (a && not b) ≡ true → ⊥
         gone a b x y = grind (arith, x, y)
 
 module _ (t : TableView) (v : StoreView) (i : StoredIntention) (may : MayCarry t v i) (ok : Bool) (u : TableView) (w : StoreView) where
-  same_of : (f : FileNo) (xs : List ℕ) → is_head_of f (Used f xs) ≡ true
-  same_of f xs = grind (arith, nat_tests)
+  same_of : (f : FileNo) (xs maps : List ℕ) → is_head_of f (Used f xs maps) ≡ true
+  same_of f xs maps = grind (arith, nat_tests)
 
   pub carries_gone : i.what ≡ Gone → (exists t.heads i.file ≡ true → SetsHead t v i.file (λ h. Free) (λ leaves. removed i.file) ok u w) → (exists t.heads i.file ≡ false → (ok ≡ true) × (u ≡ t) × (w ≡ v)) → Carries t v i ok u w
   carries_gone e sets absent = by (exists t.heads i.file) refl
     where
       by : (b : Bool) → exists t.heads i.file ≡ b → Carries t v i ok u w
       by true there = carries_there t v i may ok u w (ap is_fresh e) there (λ h. Free) (λ leaves. removed i.file) (sets there)
-          (λ xs was. (record { is_head = record { whole = refl; within_leaves = refl }; fits = tt }, subst (λ w. is_head_after w i.file Free ≡ true) (sym e) refl, λ p. sym (ap (λ w. address_after w i.block i.address p (slice_index xs p.0)) e)))
+          (λ xs maps was. (record { is_head = record { whole = refl; within_leaves = refl }; fits = tt }, subst (λ w. is_head_after w i.file Free ≡ true) (sym e) refl, λ p. sym (ap (λ w. address_after w i.block i.address p (slice_index xs p.0)) e)))
       by false none = record { put = λ here. absurd (true≢false (sym (ap (λ w. is_gone w && not (exists t.heads i.file)) e ∙ ap not none) ∙ here)); nothing = λ here. absent none }
 
   pub carries_cut : i.what ≡ Cut → SetsHead t v i.file (cut_head i.block.0) (λ leaves. cut_from i.file i.block) ok u w → Carries t v i ok u w
   carries_cut e sets = carries_there t v i may ok u w (ap is_fresh e) (may.there (ap needs_file e)) (cut_head i.block.0) (λ leaves. cut_from i.file i.block) sets
-      (λ xs was. (
-        (cut_stands t may.table i.file _ (inl (ap (is_of i.file) was ∙ same_of i.file xs)) xs was i.block.0).head,
-        subst (λ w. is_head_after w i.file (cut_head i.block.0 (Used i.file xs)) ≡ true) (sym e) (same_of i.file (cut_addresses i.block.0 xs)),
+      (λ xs maps was. (
+        (cut_stands t may.table i.file _ (inl (ap (is_of i.file) was ∙ same_of i.file xs maps)) xs maps was i.block.0).head,
+        subst (λ w. is_head_after w i.file (cut_head i.block.0 (Used i.file xs maps)) ≡ true) (sym e) (same_of i.file (cut_addresses i.block.0 xs) maps),
         λ p. cut_at i.block p i.address xs ∙ sym (ap (λ w. address_after w i.block i.address p (slice_index xs p.0)) e),
       ))
 
   pub carries_put : i.what ≡ Put → (a : ℕ) → i.address ≡ suc a → SetsHead t v i.file (with_leaf i.block.0 a) (λ leaves. written i.file i.block (take 448 (leaves a))) ok u w → Carries t v i ok u w
   carries_put e a at sets = carries_there t v i may ok u w (ap is_fresh e) (may.there (ap needs_file e)) (with_leaf i.block.0 a) (λ leaves. written i.file i.block (take 448 (leaves a))) sets
-      (λ xs was. (
-        (leaf_stands t may.table i.file _ (inl (ap (is_of i.file) was ∙ same_of i.file xs)) xs was v i.block.0 a may.range (may.leaf a at)).head,
-        subst (λ w. is_head_after w i.file (with_leaf i.block.0 a (Used i.file xs)) ≡ true) (sym e) (same_of i.file (slice_set xs i.block.0 (suc a))),
-        λ p. ap (λ k. slice_index (slice_set xs i.block.0 k) p.0) (sym at) ∙ leaf_at i.block p i.address xs (below _ xs was) ∙ sym (ap (λ w. address_after w i.block i.address p (slice_index xs p.0)) e),
+      (λ xs maps was. (
+        (leaf_stands t may.table i.file _ (inl (ap (is_of i.file) was ∙ same_of i.file xs maps)) xs maps was v i.block.0 a may.range (may.leaf a at)).head,
+        subst (λ w. is_head_after w i.file (with_leaf i.block.0 a (Used i.file xs maps)) ≡ true) (sym e) (same_of i.file (slice_set xs i.block.0 (suc a)) maps),
+        λ p. ap (λ k. slice_index (slice_set xs i.block.0 k) p.0) (sym at) ∙ leaf_at i.block p i.address xs (below _ xs maps was) ∙ sym (ap (λ w. address_after w i.block i.address p (slice_index xs p.0)) e),
       ))
     where
-      long : (h : Head) (xs : List ℕ) → IsHeadOf t.counts.leaves h → h ≡ Used i.file xs → length xs ≡ head_blocks
-      long h xs is was = let whole = subst (IsHeadOf t.counts.leaves) was is in let e = whole.is_head.whole in grind (arith, nat_tests, e)
+      long : (h : Head) (xs maps : List ℕ) → IsHeadOf t.counts.leaves h → h ≡ Used i.file xs maps → length xs ≡ head_blocks
+      long h xs maps is was = let whole = subst (IsHeadOf t.counts.leaves) was is in whole_length i.file xs maps whole.is_head.whole
 
-      below : (slot : ℕ) (xs : List ℕ) → head_in t.heads slot ≡ Used i.file xs → i.block.0 < length xs
-      below slot xs was = let n = long (head_in t.heads slot) xs (may.table.heads.each slot) was in let lt = may.range in omega (arith, n, lt)
+      below : (slot : ℕ) (xs maps : List ℕ) → head_in t.heads slot ≡ Used i.file xs maps → i.block.0 < length xs
+      below slot xs maps was = let n = long (head_in t.heads slot) xs maps (may.table.heads.each slot) was in let lt = may.range in omega (arith, n, lt)
 
 -- a put names a page
 pub put_names : (t : TableView) (v : StoreView) (i : StoredIntention) → MayCarry t v i → i.what ≡ Put → i.address ≡ suc (i.address - 1)
-put_names t v i may e = by i.address (subst (λ w. names_what_it_needs w i.block.0 i.address ≡ true) e may.names)
+put_names t v i may e = by i.address i.map (subst (λ w. names_what_it_needs w i.block.0 i.address i.map ≡ true) e may.names)
   where
-    by : (n : ℕ) → not (nat_eq n 0) ≡ true → n ≡ suc (n - 1)
-    by n h = grind (arith, nat_tests, h)
+    by : (n m : ℕ) → (not (nat_eq n 0) && nat_eq m 0) ≡ true → n ≡ suc (n - 1)
+    by n m h = grind (arith, nat_tests, h)

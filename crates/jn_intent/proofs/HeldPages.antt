@@ -9,16 +9,16 @@ use Rattle.jn_intent.proofs.WorkPages.{first_blocks, its_list, work_told, stands
 
 -- ---- an intention that names a page is a put
 
-put_of : (w : What) (n a k : ℕ) → names_what_it_needs w n k ≡ true → k ≡ suc a → w ≡ Put
-put_of Put n a k h e = refl
-put_of Fresh n a k h e = absurd (omega (arith, e, (let none : k ≡ 0 = grind (arith, nat_tests, h) in none)))
-put_of Gone n a k h e = absurd (omega (arith, e, (let none : k ≡ 0 = grind (arith, nat_tests, h) in none)))
-put_of Cut n a k h e = absurd (omega (arith, e, (let none : k ≡ 0 = grind (arith, nat_tests, h) in none)))
+put_of : (w : What) (n a k m : ℕ) → names_what_it_needs w n k m ≡ true → k ≡ suc a → w ≡ Put
+put_of Put n a k m h e = refl
+put_of Fresh n a k m h e = absurd (omega (arith, e, (let none : k ≡ 0 = grind (arith, nat_tests, h) in none)))
+put_of Gone n a k m h e = absurd (omega (arith, e, (let none : k ≡ 0 = grind (arith, nat_tests, h) in none)))
+put_of Cut n a k m h e = absurd (omega (arith, e, (let none : k ≡ 0 = grind (arith, nat_tests, h) in none)))
 
 -- and a put names one
-pub page_of_put : (w : What) (n k : ℕ) → names_what_it_needs w n k ≡ true → w ≡ Put → (a : ℕ) × (k ≡ suc a)
-page_of_put w n zero h e = absurd (true≢false (sym (subst (λ w. names_what_it_needs w n 0 ≡ true) e h)))
-page_of_put w n (suc a) h e = (a, refl)
+pub page_of_put : (w : What) (n k m : ℕ) → names_what_it_needs w n k m ≡ true → w ≡ Put → (a : ℕ) × (k ≡ suc a)
+page_of_put w n zero m h e = absurd (true≢false (sym (subst (λ w. names_what_it_needs w n 0 m ≡ true) e h)))
+page_of_put w n (suc a) m h e = (a, refl)
 
 both_ways : (b c : Bool) → (b ≡ true → c ≡ true) → (c ≡ true → b ≡ true) → b ≡ c
 both_ways true true f g = refl
@@ -54,22 +54,22 @@ after_other n p a old ne = ⊎_elim (λ h. absurd (ne h.1)) (λ h. ap (λ b. if 
 -- the file of a head that has an address after the put
 new_file : (w : What) (f : FileNo) (p : BlockNo) (a : ℕ) (h : Head) → is_head_after w f h ≡ true → address_at h p ≡ suc a → is_head_of f h ≡ true
 new_file w f p a FreeHead t e = absurd (omega (arith, e))
-new_file Fresh f p a (Used g xs) t e = t
-new_file Gone f p a (Used g xs) t e = absurd (true≢false (sym t))
-new_file Cut f p a (Used g xs) t e = t
-new_file Put f p a (Used g xs) t e = t
+new_file Fresh f p a (Used g xs maps) t e = t
+new_file Gone f p a (Used g xs maps) t e = absurd (true≢false (sym t))
+new_file Cut f p a (Used g xs maps) t e = t
+new_file Put f p a (Used g xs maps) t e = t
 
 -- and of one whose address stays
 old_file : (w : What) (f : FileNo) (n p : BlockNo) (a d : ℕ) (h : Head) → serves_for w f h ≡ true → address_at h p ≡ suc d → is_head_of f h ≡ true
 old_file w f n p a d FreeHead t e = absurd (omega (arith, e))
-old_file Fresh f n p a d (Used g xs) t e = t
-old_file Gone f n p a d (Used g xs) t e = t
-old_file Cut f n p a d (Used g xs) t e = t
-old_file Put f n p a d (Used g xs) t e = t
+old_file Fresh f n p a d (Used g xs maps) t e = t
+old_file Gone f n p a d (Used g xs maps) t e = t
+old_file Cut f n p a d (Used g xs maps) t e = t
+old_file Put f n p a d (Used g xs maps) t e = t
 
 put_head : (w : What) (f : FileNo) (h : Head) → w ≡ Put → serves_for w f h ≡ true → is_head_of f h ≡ true
 put_head w f FreeHead e t = absurd (true≢false (sym (subst (λ w. serves_for w f FreeHead ≡ true) e t)))
-put_head w f (Used g xs) e t = subst (λ w. serves_for w f (Used g xs) ≡ true) e t
+put_head w f (Used g xs maps) e t = subst (λ w. serves_for w f (Used g xs maps) ≡ true) e t
 
 -- what a put counts: its page is taken, and the one that it replaces is free; or its page is in its place already
 abbrev pub PutCounts : Memory → StoreView → WorkState → StoredIntention → TableView → Type 0
@@ -119,7 +119,7 @@ module _ (m : Memory) (v : StoreView) (now : Matches m v) (serving : IsServing (
         pages slot lt = (now.standing.held.pool slot lt).of_format.whole
 
     put_there : (a : ℕ) → j.address ≡ suc a → j.what ≡ Put
-    put_there a e = put_of j.what j.block.0 a j.address names_it e
+    put_there a e = put_of j.what j.block.0 a j.address j.map names_it e
 
     -- a head that names its page does so at its block
     module _ (a : ℕ) (address : j.address ≡ suc a) where

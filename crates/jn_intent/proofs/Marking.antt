@@ -1,5 +1,5 @@
 -- A ready work goes on, by one put of its record.
-use Rattle.jn_intent.proofs.Common.{◌≡◌, ◌≢◌, ⊎_elim, ◌<◌, ℕ, zero, suc, Bool, true, false, if◌then◌else◌, List, [], ◌∷◌, length, map, Option, Some, None, refl, sym, ◌∙◌, ap, subst, true≢false, arith, fun_ext, is_some, position, slice_set, slice_index_or, count_by, option_map, option_and_then, find, LockUnit, WorkId, work_eq, work_tells, IsReadySlot, prepared_by, stored_list, holds_address, RecordPut, IsRecoverable, Makes, marks, found_written, intentions_kept, Record, Free, Intention, Ready, Going, FlagRecord, WorkHead, WorkState, record_page, MarkGoing, made_by, is_ready, IsRecord, record_in, slot_page, is_free, is_prepared, is_intention, is_flag, is_ready_record, going_of, Puts, are_different, is_in, IsServing, state, name_of, IsReady, MarkedGoing, find_by, find-set, find-at, find-listed, keys-set, StoreView, Memory, accounts_of, view_of, next_by, next_in, held_in, holds_page, stored_by, rubbish_of, rubbish_in, Matches, IsKeptMemory, IsMade, WorksMatch, StoredWork, stored_work, work_by, position_at, none_position, step_of, free_same, names_kept, rubbish_kept, work_stays, flags_stay, Serves, serves_of, serving_by, may_load, called_put, consistent, works_seen, serves_marked}
+use Rattle.jn_intent.proofs.Common.{◌≡◌, ◌≢◌, ⊎_elim, ◌<◌, ℕ, zero, suc, Bool, true, false, if◌then◌else◌, List, [], ◌∷◌, length, map, Option, Some, None, refl, sym, ◌∙◌, ap, subst, true≢false, arith, fun_ext, is_some, position, slice_set, slice_index_or, count_by, option_map, option_and_then, find, LockUnit, WorkId, work_eq, work_tells, IsReadySlot, prepared_by, stored_list, holds_address, RecordPut, IsRecoverable, Makes, marks, found_written, intentions_kept, Record, Free, Intention, Ready, Going, FlagRecord, WorkHead, WorkState, record_page, MarkGoing, made_by, is_ready, IsRecord, record_in, slot_page, is_free, is_prepared, is_intention, is_flag, is_ready_record, going_of, Puts, are_different, is_in, IsServing, state, name_of, IsReady, MarkedGoing, find_by, find-set, find-at, find-listed, keys-set, StoreView, Memory, accounts_of, view_of, next_by, next_in, held_in, holds_page, stored_by, rubbish_of, rubbish_in, Matches, IsKeptMemory, IsMade, WorksMatch, StoredWork, stored_work, work_by, position_at, none_position, step_of, free_same, names_kept, rubbish_kept, work_stays, flags_stay, Serves, serves_of, serving_by, may_load, called_put, consistent, works_seen, serves_marked, same_only}
 use Rattle.jn_intent.specs.Works.{MarksWork, going_on}
 
 -- ---- in memory
@@ -187,6 +187,7 @@ module _ (m : Memory) (v : StoreView) (now : Matches m v) (serving : IsServing (
         pub marked_matches : ok ≡ true → Matches (with_going m slot head n reads works) w
         marked_matches done = record {
           standing = (makes ok records w puts).standing done;
+          root = same_only v w 0 _ (puts.put.others 0 (let e = now.standing.held.count in omega (arith, e)) (λ e. omega (arith, e))) now.root;
           table = now.table;
           works = works_go;
           made = λ w. subst (λ o. IsMade m.table.heads o) (sym (found w)) (still (work_eq head.work w) (find_by work_eq name_of m.works w) (now.made w));

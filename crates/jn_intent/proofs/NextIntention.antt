@@ -72,7 +72,7 @@ module _ (m : Memory) (v : StoreView) (now : Matches m v) (serving : IsServing (
         where
           by : (slot q : ℕ) (h : Head) → head_in m.table.heads slot ≡ h → address_of h q ≡ suc a → (is_of i.file h ≡ true) × (q ≡ i.block.0)
           by slot q FreeHead h e = absurd (omega (arith, e))
-          by slot q (Used f xs) h e =
+          by slot q (Used f xs maps) h e =
               let block : BlockNo = record { 0 = q } in
               let same = said.addresses.carried a its_slot.0 slot i f block its_slot.1 address (record { head = ap (is_head_of f) h ∙ own f f refl; address = ap (λ h. address_at h block) h ∙ e }) in
               (own f i.file same.0, ap (λ (b : BlockNo). b.0) same.1)

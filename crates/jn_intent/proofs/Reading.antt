@@ -49,7 +49,7 @@ module _ (m : Memory) (v : StoreView) (kept : IsKeptMemory m v) (serving : IsSer
   module _ (u : TableView) (rest : u ≡ record m.table { touched = u.touched }) (table : IsTable u) where
     matches_touched : Matches (record m { table = u }) w
     matches_touched = subst (λ k. Matches (record m { table = k }) w) (sym rest)
-        (record { standing = now.standing; table = subst IsTable rest table; works = now.works; made = now.made; flags = now.flags; held = now.held })
+        (record { standing = now.standing; root = now.root; table = subst IsTable rest table; works = now.works; made = now.made; flags = now.flags; held = now.held })
 
     pub safe_touched : IsSafe (record m { table = u }) w
     safe_touched = (λ power. matches_touched, matches_touched.standing.recoverable)

@@ -1,5 +1,5 @@
 -- A storage serves on with a work that is prepared.
-use Rattle.jn_intent.proofs.Common.{◌≡◌, ◌≤◌, ◌+◌, ℕ, Bool, true, false, ◌||◌, if◌then◌else◌, List, ◌∷◌, length, Option, Some, None, refl, sym, ◌∙◌, ap, subst, true≢false, arith, is_some, LockUnit, WorkId, work_eq, work_tells, Need, WorkHead, StableState, Prepared, AddReady, made_by, ready_work, at_work, is_in, total, IsOrderly, IsPrepared, Accounts, intentions, list_of, needed, shortage, with_work, listing-more, total-same, Serves}
+use Rattle.jn_intent.proofs.Common.{◌≡◌, ◌≤◌, ◌+◌, ℕ, Bool, true, false, ◌||◌, if◌then◌else◌, List, ◌∷◌, length, Option, Some, None, refl, sym, ◌∙◌, ap, subst, true≢false, arith, is_some, LockUnit, WorkId, work_eq, work_tells, Need, WorkHead, StableState, Prepared, AddReady, made_by, ready_work, at_work, is_in, total, IsOrderly, IsPrepared, Accounts, intentions, list_of, needed, shortage, with_work, listing-more, total-same, Serves, count_by, is_put_intention, heads_of, pages_for_puts, file_there}
 use Rattle.jn_records.specs.declared.intention.Intention.{Intention}
 use Rattle.jn_intent.proofs.StoringPool.{same_work}
 
@@ -12,7 +12,7 @@ pub record HasRoom (a : Accounts) (need : Need) : Type 0 where
 pub has_room : (a : Accounts) (need : Need) → a.promised_records ≤ a.free_records → a.promised_heads ≤ a.free_heads → shortage a need ≡ None → HasRoom a need
 has_room a need records heads e = record { records = grind (arith, e, records); pages = grind (arith, e); heads = grind (arith, e, heads) }
 
-module _ (x : StableState) (a : Accounts) (head : WorkHead) (list : List Intention) (reads : List LockUnit) (s : Serves x a) (new : x.works head.work ≡ None) (orderly : IsOrderly a.server (made_by (AddReady head list reads) x)) (room : HasRoom a (needed x list)) where
+module _ (x : StableState) (a : Accounts) (head : WorkHead) (list : List Intention) (reads : List LockUnit) (s : Serves x a) (new : x.works head.work ≡ None) (orderly : IsOrderly a.server (made_by (AddReady head list reads) x)) (room : HasRoom a (needed a.maps x list)) where
   own_list : list_of (made_by (AddReady head list reads) x) head.work ≡ list
   own_list = ap (λ b. intentions (if b then Some (ready_work head list reads) else x.works head.work)) (same_work head.work)
 
@@ -45,7 +45,7 @@ module _ (x : StableState) (a : Accounts) (head : WorkHead) (list : List Intenti
   same_name : (v : WorkId) → work_eq head.work v ≡ true → head.work ≡ v
   same_name v e = let t = work_tells head.work v in grind (arith, e)
 
-  pub serves_ready : Serves (made_by (AddReady head list reads) x) (with_work a head.work (needed x list))
+  pub serves_ready : Serves (made_by (AddReady head list reads) x) (with_work a head.work (needed a.maps x list))
   serves_ready = record {
     orderly = orderly;
     counted = record {
@@ -62,10 +62,11 @@ module _ (x : StableState) (a : Accounts) (head : WorkHead) (list : List Intenti
           let before = s.counted.records in let enough = room.records in omega (arith, lists, before, enough);
       heads_used = s.counted.heads_used;
       pages =
-          let held = total_more (at_work a.held head.work (needed x list).pages) a.held (needed x list).pages (at_own a.held (needed x list).pages) (at_else a.held (needed x list).pages) in
+          let held = total_more (at_work a.held head.work (needed a.maps x list).pages) a.held (needed a.maps x list).pages (at_own a.held (needed a.maps x list).pages) (at_else a.held (needed a.maps x list).pages) in
           let before = s.counted.pages in let enough = room.pages in omega (arith, held, before, enough);
       promises =
-          let heads = total_more (λ v. (needed x (list_of (made_by (AddReady head list reads) x) v)).heads) (λ v. (needed x (list_of x v)).heads) (needed x list).heads (ap (λ l. (needed x l).heads) own_list) (λ v e. ap (λ l. (needed x l).heads) (list_else v e)) in
+          let heads = total_more (λ v. heads_of (list_of (made_by (AddReady head list reads) x) v) (file_there x.files)) (λ v. heads_of (list_of x v) (file_there x.files)) (heads_of list (file_there x.files))
+          (ap (λ l. heads_of l (file_there x.files)) own_list) (λ v e. ap (λ l. heads_of l (file_there x.files)) (list_else v e)) in
           let before = s.counted.promises in omega (arith, heads, before);
     };
     records_fit = let enough = room.records in omega (arith, enough);
@@ -82,7 +83,7 @@ module _ (x : StableState) (a : Accounts) (head : WorkHead) (list : List Intenti
       next_by v true e = subst (λ n. n ≤ length (list_of (made_by (AddReady head list reads) x) v)) (sym (ap (λ b. if b then 0 else a.next v) e)) (omega arith)
       next_by v false e = subst (λ n. n ≤ length (list_of (made_by (AddReady head list reads) x) v)) (sym (at_else a.next 0 v e)) (subst (λ l. a.next v ≤ length l) (sym (list_else v e)) (s.next_fits v))
 
-      held_by : (v : WorkId) (b : Bool) → work_eq head.work v ≡ b → at_work a.held head.work (needed x list).pages v ≤ (needed x (list_of (made_by (AddReady head list reads) x) v)).pages
-      held_by v true e = subst (λ u. at_work a.held head.work (needed x list).pages u ≤ (needed x (list_of (made_by (AddReady head list reads) x) u)).pages) (same_name v e)
-          (let one = at_own a.held (needed x list).pages in let two = ap (λ l. (needed x l).pages) own_list in omega (arith, one, two))
-      held_by v false e = subst (λ n. n ≤ (needed x (list_of (made_by (AddReady head list reads) x) v)).pages) (sym (at_else a.held (needed x list).pages v e)) (subst (λ l. a.held v ≤ (needed x l).pages) (sym (list_else v e)) (s.held_fits v))
+      held_by : (v : WorkId) (b : Bool) → work_eq head.work v ≡ b → at_work a.held head.work (needed a.maps x list).pages v ≤ count_by is_put_intention (list_of (made_by (AddReady head list reads) x) v)
+      held_by v true e = subst (λ u. at_work a.held head.work (needed a.maps x list).pages u ≤ count_by is_put_intention (list_of (made_by (AddReady head list reads) x) u)) (same_name v e)
+          (let one = at_own a.held (needed a.maps x list).pages in let two = ap (λ l. count_by is_put_intention l) own_list in let puts = pages_for_puts list (file_there x.files) a.maps its_work.in_range in omega (arith, one, two, puts))
+      held_by v false e = subst (λ n. n ≤ count_by is_put_intention (list_of (made_by (AddReady head list reads) x) v)) (sym (at_else a.held (needed a.maps x list).pages v e)) (subst (λ l. a.held v ≤ count_by is_put_intention l) (sym (list_else v e)) (s.held_fits v))

@@ -1,5 +1,6 @@
 -- A work is prepared: its intentions are stored, and then its ready record is put.
-use Rattle.jn_intent.proofs.Common.{◌≡◌, ◌<◌, ◌≤◌, ◌+◌, ◌-◌, ◌^◌, ◌&&◌, ◌||◌, ℕ, zero, suc, Bool, true, false, not, if◌then◌else◌, List, [], ◌∷◌, ◌++◌, length, map, take, Option, Some, None, refl, sym, ◌∙◌, ap, subst, true≢false, arith, fun_ext, take-length, nat_tests, sum_by-cons, Ok, Err, Result, is_ok, nat_eq, nat_lt, nat_le, position, slice_set, count_by, find, list_all, list_any, FreeNumbers, free_numbers, LockUnit, File, Block, WorkId, work_eq, TableView, IsTable, is_held, with_promised_heads, with_promised_leaves, IsReadyPut, intended, stored_list, prepared_by, heads_name, works_name, held_contents, found_on, block_on, pages_by, RecordPut, IsRecoverable, HasIntentions, IsWholeWork, IsStanding, Makes, readies, found_passes, Head, FullIntention, StoredIntention, What, Fresh, Gone, Cut, Put, Need, Record, Free, Intention, Ready, Going, FlagRecord, WorkHead, WorkState, intention_has_page, names_what_it_needs, is_put, is_put_intention, RecordFits, ascends, reads_have_page, unit_has_page, Counts, Pick, AddReady, Changed, made_by, ready_work, at_work, IsRecord, is_free, free_count, is_prepared, Puts, Records, Pages, Heads, Stops, IsPrepared, unit_in_range, Accounts, StorageView, IsServing, IsLoadable, needed, state, name_of, Called, MayPrepare, WorkPrepared, shortage, short_of, reached, with_work, is_shortage, find_by, StoreView, StoreLater, IsStop, later_refl, later_trans, stop_since, Memory, accounts_of, view_of, next_by, next_in, held_in, holds_page, stored_by, rubbish_in, Matches, IsMade, IsKeptMemory, is_at, IsPreparing, StopsUnchanged, Begins, ListStored, none_any, step_of, Serves, serves_of, serving_by, may_load, loadable_found, works_seen, listed_pages}
+use Rattle.jn_intent.proofs.Common.{◌≡◌, ◌<◌, ◌≤◌, ◌+◌, ◌-◌, ◌^◌, ◌&&◌, ◌||◌, ℕ, zero, suc, Bool, true, false, not, if◌then◌else◌, List, [], ◌∷◌, ◌++◌, length, map, take, Option, Some, None, refl, sym, ◌∙◌, ap, subst, true≢false, arith, fun_ext, take-length, nat_tests, sum_by-cons, Ok, Err, Result, is_ok, nat_eq, nat_lt, nat_le, position, slice_set, count_by, find, list_all, list_any, FreeNumbers, free_numbers, LockUnit, File, Block, WorkId, work_eq, TableView, IsTable, is_held, with_promised_heads, with_promised_leaves, IsReadyPut, intended, stored_list, prepared_by, heads_name, works_name, held_contents, found_on, block_on, pages_by, RecordPut, IsRecoverable, HasIntentions, IsWholeWork, IsStanding, Makes, readies, found_passes, Head, FullIntention, StoredIntention, What, Fresh, Gone, Cut, Put, Need, Record, Free, Intention, Ready, Going, FlagRecord, WorkHead, WorkState, intention_has_page, names_what_it_needs, is_put, is_put_intention, RecordFits, ascends, reads_have_page, unit_has_page, Counts, Pick, AddReady, Changed, made_by, ready_work, at_work, IsRecord, is_free, free_count, is_prepared, Puts, Records, Pages, Heads, Stops, IsPrepared, unit_in_range, Accounts, StorageView, IsServing, IsLoadable, needed, state, name_of, Called, MayPrepare, WorkPrepared, shortage, short_of, reached, with_work, is_shortage, find_by, StoreView, StoreLater, IsStop, later_refl, later_trans, stop_since, Memory, accounts_of, view_of, next_by, next_in, held_in, holds_page, stored_by, rubbish_in, Matches, IsMade, IsKeptMemory, is_at, IsPreparing, StopsUnchanged, Begins, ListStored, none_any, step_of, Serves, serves_of, serving_by, may_load, loadable_found, works_seen, listed_pages, same_only, root_page, root_by, IsOnly, pages_for_puts, file_there, head_blocks}
+use Rattle.jn_records.specs.MapPlaces.{maps_in}
 use Rattle.jn_storage.specs.declared.faults.PrepareFault.{PrepareFault}
 use Rattle.jn_rows.proofs.Left.{whole-stop}
 use Rattle.jn_intent.proofs.ReadyPool.{ready_state, are_fresh, listed_page, ready_flags, ready_free, ready_works, ready_rubbish, ready_names, work_found}
@@ -29,14 +30,14 @@ held_puts blocks heads (s ∷ stored) pages unnamed =
     none : (n : ℕ) (b : Bool) → n ≡ 0 → (nat_lt 0 n && b) ≡ false
     none n b e = grind (arith, nat_tests, e)
 
-    by : (what : What) (a : ℕ) → s.address ≡ a → names_what_it_needs what s.block.0 s.address ≡ true → holds_page heads s ≡ is_put what
+    by : (what : What) (a : ℕ) → s.address ≡ a → names_what_it_needs what s.block.0 s.address s.map ≡ true → holds_page heads s ≡ is_put what
     by Fresh a e h = none s.address (not (heads_name heads s.address)) (grind (arith, nat_tests, h))
     by Gone a e h = none s.address (not (heads_name heads s.address)) (grind (arith, nat_tests, h))
     by Cut a e h = none s.address (not (heads_name heads s.address)) (grind (arith, nat_tests, h))
-    by Put zero e h = absurd (zero_not s.address e h)
+    by Put zero e h = absurd (zero_not s.address s.map e h)
       where
-        zero_not : (n : ℕ) → n ≡ 0 → not (nat_eq n 0) ≡ true → ⊥
-        zero_not n e h = grind (arith, nat_tests, e, h)
+        zero_not : (n m : ℕ) → n ≡ 0 → (not (nat_eq n 0) && nat_eq m 0) ≡ true → ⊥
+        zero_not n m e h = grind (arith, nat_tests, e, h)
     by Put (suc a) e h = ap (λ n. nat_lt 0 n && not (heads_name heads n)) e ∙ both (nat_lt 0 (suc a)) (heads_name heads (suc a)) (grind (arith, nat_tests)) (unnamed a (or_first (is_at a s) (list_any (is_at a) stored) (grind (arith, nat_tests, e))))
       where
         both : (b c : Bool) → b ≡ true → c ≡ false → (b && not c) ≡ true
@@ -45,8 +46,8 @@ held_puts blocks heads (s ∷ stored) pages unnamed =
 -- ---- equal accounts
 
 same_accounts : (a b : Accounts) → a.server ≡ b.server → a.pool ≡ b.pool → a.heads ≡ b.heads → a.leaves ≡ b.leaves → a.free_records ≡ b.free_records → a.free_heads ≡ b.free_heads → a.free_pages ≡ b.free_pages → a.promised_records ≡ b.promised_records
-    → a.promised_heads ≡ b.promised_heads → a.rubbish ≡ b.rubbish → a.next ≡ b.next → a.held ≡ b.held → a ≡ b
-same_accounts a b server pool heads leaves free_records free_heads free_pages promised_records promised_heads rubbish next held = λ i. record {
+    → a.promised_heads ≡ b.promised_heads → a.rubbish ≡ b.rubbish → a.next ≡ b.next → a.held ≡ b.held → a.maps ≡ b.maps → a ≡ b
+same_accounts a b server pool heads leaves free_records free_heads free_pages promised_records promised_heads rubbish next held maps = λ i. record {
   server = server i;
   pool = pool i;
   heads = heads i;
@@ -59,6 +60,7 @@ same_accounts a b server pool heads leaves free_records free_heads free_pages pr
   rubbish = rubbish i;
   next = next i;
   held = held i;
+  maps = maps i;
 }
 
 -- ---- what a call is that changed or was stopped
@@ -118,9 +120,9 @@ units_have_page (u ∷ reads) h = let again = units_have_page reads (rest (unit_
     by (Block f p) h = grind (arith, nat_tests, h)
 
 module _ (m : Memory) (v : StoreView) (now : Matches m v) (serving : IsServing (view_of m v)) (head : WorkHead) (list : List FullIntention) (reads : List LockUnit) (may : MayPrepare (view_of m v) head list reads)
-    (enough : shortage (accounts_of m) (needed (state (view_of m v)) list) ≡ None) where
-  room : HasRoom (accounts_of m) (needed (state (view_of m v)) list)
-  room = has_room (accounts_of m) (needed (state (view_of m v)) list) serving.records_fit serving.heads_fit enough
+    (enough : shortage (accounts_of m) (needed (accounts_of m).maps (state (view_of m v)) list) ≡ None) where
+  room : HasRoom (accounts_of m) (needed (accounts_of m).maps (state (view_of m v)) list)
+  room = has_room (accounts_of m) (needed (accounts_of m).maps (state (view_of m v)) list) serving.records_fit serving.heads_fit enough
 
   pub its : IsPrepared (state (view_of m v)).files list reads
   its = its_work (state (view_of m v)) (accounts_of m) head list reads (serves_of m v serving) may.new may.orderly room
@@ -140,9 +142,9 @@ module _ (m : Memory) (v : StoreView) (now : Matches m v) (serving : IsServing (
   pub begins : (n : ℕ) → IsTable (promised_table m.table n) → Begins (promising m n) v head.work list m.records (promised_table m.table n) v
   begins n table = record {
     may = record {
-      now = record { standing = now.standing; table = table; works = now.works; made = now.made; flags = now.flags; held = now.held };
+      now = record { standing = now.standing; root = now.root; table = table; works = now.works; made = now.made; flags = now.flags; held = now.held };
       records = let few = room.records in omega (arith, few);
-      pages = room.pages;
+      pages = let few = room.pages in omega (arith, few);
       few = its.length_fits;
       plain = its.order.plain;
     };
@@ -160,7 +162,7 @@ module _ (m : Memory) (v : StoreView) (now : Matches m v) (serving : IsServing (
         own = λ a h. absurd (true≢false (sym h));
         blocks = λ c. refl;
       };
-      store = record { standing = now.standing; unchanged = serving.up; later = later_refl v; calls_few = omega arith; served = record { power = serving.power; stops = refl } };
+      store = record { standing = now.standing; root = now.root; unchanged = serving.up; later = later_refl v; calls_few = omega arith; served = record { power = serving.power; stops = refl } };
     };
   }
     where
@@ -215,7 +217,7 @@ module _ (m : Memory) (v : StoreView) (now : Matches m v) (serving : IsServing (
           fresh = are_fresh (promising m n) head.work stored records p.pool m.table.counts.leaves (held_contents m.table.counts w m.epoch records m.table.heads c) refl p.pages.apart (λ a h. ((p.pages.own a h).below, unnamed a h));
         }
 
-        serves : Serves (made_by (AddReady head list reads) (state (view_of m v))) (with_work (accounts_of m) head.work (needed (state (view_of m v)) list))
+        serves : Serves (made_by (AddReady head list reads) (state (view_of m v))) (with_work (accounts_of m) head.work (needed (accounts_of m).maps (state (view_of m v)) list))
         serves = serves_ready (state (view_of m v)) (accounts_of m) head list reads (serves_of m v serving) may.new may.orderly room
 
         -- what is free then
@@ -223,8 +225,9 @@ module _ (m : Memory) (v : StoreView) (now : Matches m v) (serving : IsServing (
         work_pages : list_all intention_has_page stored ≡ true
         work_pages = subst (λ l. list_all intention_has_page l ≡ true) p.pool.first.list_stands (listed_pages records head.work (λ k lt. (p.store.standing.held.pool k lt).of_format.whole) 0 (length stored))
 
-        pages_held : count_by (holds_page m.table.heads) stored ≡ (needed (state (view_of m v)) list).pages
+        pages_held : count_by (holds_page m.table.heads) stored ≡ (needed (accounts_of m).maps (state (view_of m v)) list).pages
         pages_held = held_puts (block_on m.table.counts (pages_by w (λ n. false))) m.table.heads stored work_pages (λ a h. (p.pages.own a h).unnamed) ∙ ap (count_by is_put_intention) (full (λ n. false))
+            ∙ sym (pages_for_puts list (file_there (state (view_of m v)).files) (accounts_of m).maps its.in_range)
 
         next_after : next_in (m.works ++ ready_state head stored reads ∷ []) ≡ at_work (next_in m.works) head.work 0
         next_after = fun_ext (λ k. ap next_by (work_found (promising m n) head stored records p.pool slot at (length list) all reads k) ∙ by (work_eq head.work k) (find_by work_eq name_of m.works k))
@@ -233,27 +236,27 @@ module _ (m : Memory) (v : StoreView) (now : Matches m v) (serving : IsServing (
             by true o = refl
             by false o = refl
 
-        held_after : held_in (m.works ++ ready_state head stored reads ∷ []) t.heads ≡ at_work (held_in m.works m.table.heads) head.work (needed (state (view_of m v)) list).pages
+        held_after : held_in (m.works ++ ready_state head stored reads ∷ []) t.heads ≡ at_work (held_in m.works m.table.heads) head.work (needed (accounts_of m).maps (state (view_of m v)) list).pages
         held_after = ap (held_in (m.works ++ ready_state head stored reads ∷ [])) p.pages.heads
             ∙ fun_ext (λ k. ap (λ o. count_by (holds_page m.table.heads) (stored_by o)) (work_found (promising m n) head stored records p.pool slot at (length list) all reads k) ∙ by (work_eq head.work k) (find_by work_eq name_of m.works k))
           where
-            by : (b : Bool) (o : Option WorkState) → count_by (holds_page m.table.heads) (stored_by (if b then Some (ready_state head stored reads) else o)) ≡ (if b then (needed (state (view_of m v)) list).pages else count_by (holds_page m.table.heads) (stored_by o))
+            by : (b : Bool) (o : Option WorkState) → count_by (holds_page m.table.heads) (stored_by (if b then Some (ready_state head stored reads) else o)) ≡ (if b then (needed (accounts_of m).maps (state (view_of m v)) list).pages else count_by (holds_page m.table.heads) (stored_by o))
             by true o = pages_held
             by false o = refl
 
         free_records_after : free_count (slice_set records slot (Ready head (length list) reads)) ≡ free_count m.records - (length list + 1)
         free_records_after = let less = ready_free (promising m n) head stored records p.pool slot at (length list) all reads in omega (arith, less)
 
-        free_pages_after : free_numbers t.free_leaves ≡ free_numbers m.table.free_leaves - (needed (state (view_of m v)) list).pages
-        free_pages_after = let before = p.pages.free in let puts = ap (count_by is_put_intention) taken in omega (arith, before, puts)
+        free_pages_after : free_numbers t.free_leaves ≡ free_numbers m.table.free_leaves - (needed (accounts_of m).maps (state (view_of m v)) list).pages
+        free_pages_after = let before = p.pages.free in let puts = ap (count_by is_put_intention) taken in let need = pages_for_puts list (file_there (state (view_of m v)).files) (accounts_of m).maps its.in_range in omega (arith, before, puts, need)
 
         rubbish_after : rubbish_in (slice_set records slot (Ready head (length list) reads)) (slice_set records slot (Ready head (length list) reads)) ≡ rubbish_in m.records m.records
         rubbish_after = ready_rubbish (promising m n) head stored records p.pool slot at (length list) all reads
 
-        accounts_after : n ≡ (needed (state (view_of m v)) list).heads → accounts_of (record m { records = slice_set records slot (Ready head (length list) reads); table = t; works = m.works ++ ready_state head stored reads ∷ [] })
-            ≡ with_work (accounts_of m) head.work (needed (state (view_of m v)) list)
+        accounts_after : n ≡ (needed (accounts_of m).maps (state (view_of m v)) list).heads → accounts_of (record m { records = slice_set records slot (Ready head (length list) reads); table = t; works = m.works ++ ready_state head stored reads ∷ [] })
+            ≡ with_work (accounts_of m) head.work (needed (accounts_of m).maps (state (view_of m v)) list)
         accounts_after n_is = same_accounts _ _ refl (ap (λ (g : Counts). g.pool) p.pages.counts) (ap (λ (g : Counts). g.heads) p.pages.counts) (ap (λ (g : Counts). g.leaves) p.pages.counts) free_records_after (ap free_numbers p.pages.free_heads) free_pages_after refl
-            (ap (λ (f : FreeNumbers). f.promised) p.pages.free_heads ∙ ap (λ k. m.table.free_heads.promised + k) n_is) rubbish_after next_after held_after
+            (ap (λ (f : FreeNumbers). f.promised) p.pages.free_heads ∙ ap (λ k. m.table.free_heads.promised + k) n_is) rubbish_after next_after held_after (ap maps_in p.pages.heads)
 
         module _ (ok : Bool) (new : List Record) (x : StoreView) (puts : Puts records w slot (Ready head (length list) reads) ok new x) where
           makes : Makes m.server m.table.counts w m.epoch records m.table.heads (RecordPut slot (Ready head (length list) reads)) (AddReady head list reads) ok x
@@ -261,7 +264,7 @@ module _ (m : Memory) (v : StoreView) (now : Matches m v) (serving : IsServing (
               (step_of m.server m.table.counts w slot (Ready head (length list) reads) ok x (let lt = there in let slots = p.store.standing.held.slots in omega (arith, lt, slots)) whole puts.put)
               ready_put whole_work (λ i d s h address lt. (p.pages.own d (listed_page (promising m n) head.work stored records p.pool i d s h address)).clean)
               (subst (λ y. IsLoadable m.server m.table.counts.heads (made_by (AddReady head list reads) y)) (sym (p.store.unchanged (λ n. false)))
-              (may_load (made_by (AddReady head list reads) (state (view_of m v))) (with_work (accounts_of m) head.work (needed (state (view_of m v)) list)) serves))
+              (may_load (made_by (AddReady head list reads) (state (view_of m v))) (with_work (accounts_of m) head.work (needed (accounts_of m).maps (state (view_of m v)) list)) serves))
 
           changed : Changed (state (view_of m v)) (AddReady head list reads) ok (found_on m.table.counts x)
           changed = subst (λ y. Changed y (AddReady head list reads) ok (found_on m.table.counts x)) (p.store.unchanged (λ n. false)) makes.change
@@ -289,6 +292,7 @@ module _ (m : Memory) (v : StoreView) (now : Matches m v) (serving : IsServing (
           ready_matches done = record {
             standing = subst (λ g. IsStanding m.server g x m.epoch (slice_set records slot (Ready head (length list) reads)) t.heads) (sym p.pages.counts)
                 (subst (λ hs. IsStanding m.server m.table.counts x m.epoch (slice_set records slot (Ready head (length list) reads)) hs) (sym p.pages.heads) (makes.standing done));
+            root = subst (λ g. IsOnly x 0 (root_page (root_by m.server g m.epoch))) (sym p.pages.counts) (same_only w x 0 _ (puts.put.others 0 (let e = p.store.standing.held.count in omega (arith, e)) (λ e. omega (arith, e))) p.store.root);
             table = p.pages.table;
             works = ready_works (promising m n) head stored records p.pool slot at (length list) all reads;
             made = λ k. subst (λ hs. IsMade hs (find_by work_eq name_of (m.works ++ ready_state head stored reads ∷ []) k)) (sym p.pages.heads) (subst (λ o. IsMade m.table.heads o) (sym (work_found (promising m n) head stored records p.pool slot at (length list) all reads k)) (made_still (work_eq head.work k) (find_by work_eq name_of m.works k) (now.made k)));
@@ -301,7 +305,7 @@ module _ (m : Memory) (v : StoreView) (now : Matches m v) (serving : IsServing (
               made_still true o is = λ i j lt e fresh. absurd (omega (arith, lt))
               made_still false o is = is
 
-          pub ready_done : ok ≡ true → n ≡ (needed (state (view_of m v)) list).heads
+          pub ready_done : ok ≡ true → n ≡ (needed (accounts_of m).maps (state (view_of m v)) list).heads
               → WorkPrepared {A = Unit {0}} (view_of m v) head list reads (Ok tt) (view_of (record m { records = slice_set records slot (Ready head (length list) reads); table = t; works = m.works ++ ready_state head stored reads ∷ [] }) x)
           ready_done done n_is = record {
             refused = λ fault e short. absurd (no_fault e);
@@ -325,15 +329,15 @@ pub record Prepares (m : Memory) (v : StoreView) (head : WorkHead) (list : List 
   pub now : Matches m v
   pub serving : IsServing (view_of m v)
   pub may : MayPrepare (view_of m v) head list reads
-  pub enough : shortage (accounts_of m) (needed (state (view_of m v)) list) ≡ None
-  pub heads : n ≡ (needed (state (view_of m v)) list).heads
+  pub enough : shortage (accounts_of m) (needed (accounts_of m).maps (state (view_of m v)) list) ≡ None
+  pub heads : n ≡ (needed (accounts_of m).maps (state (view_of m v)) list).heads
 
 pub given : {S : Type 0} (view : S → StoreView) (store : S) (m : Memory) (s : S × Memory) → (store, m) ≡ s → IsKeptMemory m (view store) → (head : WorkHead) (list : List FullIntention) (reads : List LockUnit)
-    → IsServing (view_of s.1 (view s.0)) → MayPrepare (view_of s.1 (view s.0)) head list reads → (need : Need) → need ≡ needed (state (view_of s.1 (view s.0))) list → shortage (accounts_of s.1) need ≡ None
+    → IsServing (view_of s.1 (view s.0)) → MayPrepare (view_of s.1 (view s.0)) head list reads → (need : Need) → need ≡ needed (accounts_of s.1).maps (state (view_of s.1 (view s.0))) list → shortage (accounts_of s.1) need ≡ None
     → Prepares m (view store) head list reads need.heads
 given {S} view store m s is kept head list reads serving may need need_is enough =
     let serving_now = subst (λ (s : S × Memory). IsServing (view_of s.1 (view s.0))) (sym is) serving in
-    let needed_now = subst (λ (s : S × Memory). need ≡ needed (state (view_of s.1 (view s.0))) list) (sym is) need_is in
+    let needed_now = subst (λ (s : S × Memory). need ≡ needed (accounts_of s.1).maps (state (view_of s.1 (view s.0))) list) (sym is) need_is in
     let enough_now = subst (λ (s : S × Memory). shortage (accounts_of s.1) need ≡ None) (sym is) enough in
     record {
       now = kept serving_now.power;
@@ -397,13 +401,17 @@ pub list_short : (v : StorageView) (head : WorkHead) (list : List FullIntention)
 list_short v head list reads may =
     let fits = (may.orderly.prepared head.work (ready_work head list reads) (ap (λ b. if b then Some (ready_work head list reads) else (state v).works head.work) (same_work head.work))).length_fits in omega (arith, fits)
 
+-- and none of its blocks is past those of a head
+pub list_in_range : (v : StorageView) (head : WorkHead) (list : List FullIntention) (reads : List LockUnit) → MayPrepare v head list reads → list_all (λ i. nat_lt i.block.0 head_blocks) list ≡ true
+list_in_range v head list reads may = (may.orderly.prepared head.work (ready_work head list reads) (ap (λ b. if b then Some (ready_work head list reads) else (state v).works head.work) (same_work head.work))).in_range
+
 -- the works in memory
 pub works_listed : (new old works : List WorkState) (head : WorkHead) (list stored : List StoredIntention) (units reads : List LockUnit) → new ≡ old ++ ready_state head list units ∷ [] → old ≡ works → list ≡ stored → units ≡ reads → new ≡ works ++ ready_state head stored reads ∷ []
 works_listed new old works head list stored units reads is old_is list_is units_are = is ∙ (λ i. old_is i ++ ready_state head (list_is i) (units_are i) ∷ [])
 
 -- ---- too little is free
 
-pub refused_by : (v : StorageView) (head : WorkHead) (list : List FullIntention) (reads : List LockUnit) (fault : PrepareFault) → shortage v.accounts (needed (state v) list) ≡ Some fault → (answer : Result (Unit {0}) PrepareFault) (x : PrepareFault) → answer ≡ Err x → x ≡ fault → WorkPrepared v head list reads answer v
+pub refused_by : (v : StorageView) (head : WorkHead) (list : List FullIntention) (reads : List LockUnit) (fault : PrepareFault) → shortage v.accounts (needed v.accounts.maps (state v) list) ≡ Some fault → (answer : Result (Unit {0}) PrepareFault) (x : PrepareFault) → answer ≡ Err x → x ≡ fault → WorkPrepared v head list reads answer v
 refused_by v head list reads fault short answer x is same_fault = record {
   refused = λ other e _. short ∙ ap (λ (f : PrepareFault). Some f) (sym same_fault ∙ its_fault (sym is ∙ e));
   enough = λ e. absurd (true≢false (sym e ∙ unreached));
@@ -431,6 +439,6 @@ refused_by v head list reads fault short answer x is same_fault = record {
 
     unreached : reached answer ≡ false
     unreached =
-        let need = needed (state v) list in let records = v.accounts.free_records - v.accounts.promised_records in let heads = v.accounts.free_heads - v.accounts.promised_heads in
+        let need = needed v.accounts.maps (state v) list in let records = v.accounts.free_records - v.accounts.promised_records in let heads = v.accounts.free_heads - v.accounts.promised_heads in
         ap reached is ∙ ap (λ (f : PrepareFault). reached {A = Unit {0}} (Err f)) same_fault ∙ tests (nat_lt records need.records) (nat_lt v.accounts.free_pages need.pages) (nat_lt heads need.heads)
         (Records (short_of records need.records)) (Pages (short_of v.accounts.free_pages need.pages)) (Heads (short_of heads need.heads)) refl refl refl short

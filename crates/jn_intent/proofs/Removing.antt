@@ -1,5 +1,5 @@
 -- A prepared work is removed, by one put of its record.
-use Rattle.jn_intent.proofs.Common.{◌≡◌, ◌≢◌, ⊎_elim, ◌<◌, ◌≤◌, ◌+◌, ◌-◌, ◌^◌, ℕ, suc, Bool, true, false, not, ◌&&◌, if◌then◌else◌, List, length, map, Option, Some, None, refl, sym, ◌∙◌, ap, subst, true≢false, arith, fun_ext, length-map, is_some, position, slice_set, slice_index_or, filter, count_by, option_map, option_and_then, find, list_any, FreeNumbers, free_numbers, Tid, WorkId, work_eq, work_tells, TableView, IsTable, with_promised_heads, intended, stored_list, prepared_by, works_name, held_contents, block_on, pages_by, found_on, RecordPut, IsRecoverable, IsConsistent, IsCompleteBy, HasIntentions, IsStanding, Makes, removes, found_any, FullIntention, StoredIntention, Record, Free, Intention, Ready, Going, FlagRecord, WorkState, record_page, RecordFits, Counts, Changed, Prepared, RemoveWork, made_by, is_ready, is_going, record_in, slot_page, is_free, is_prepared, is_intention, is_flag, is_rubbish, Puts, is_in, are_different, IsServing, IsLoadable, file_there, intentions, list_of, needed, state, name_of, WorkRemoved, find_by, find-at, find-kept, find-listed, keys-kept, different-kept, total-but, StoreView, Memory, accounts_of, view_of, next_by, stored_by, holds_page, rubbish_in, Matches, IsKeptMemory, IsMade, WorksMatch, StoredWork, stored_work, work_by, pages_let_go, MayLetGo, heads_needed, is_at, ArePagesApart, is_of_work, listed_length, gone_found, prepared_gone, removed_rubbish, removed_names, free_record, position_at, none_position, step_of, free_less, work_stays, flags_stay, Serves, serves_of, serving_by, may_load, called_put, consistent, works_seen, works_told, prepared_of, IsRemoved, serves_removed}
+use Rattle.jn_intent.proofs.Common.{◌≡◌, ◌≢◌, ⊎_elim, ◌<◌, ◌≤◌, ◌+◌, ◌-◌, ◌^◌, ℕ, suc, Bool, true, false, not, ◌&&◌, if◌then◌else◌, List, length, map, Option, Some, None, refl, sym, ◌∙◌, ap, subst, true≢false, arith, fun_ext, length-map, is_some, position, slice_set, slice_index_or, filter, count_by, option_map, option_and_then, find, list_any, FreeNumbers, free_numbers, Tid, WorkId, work_eq, work_tells, TableView, IsTable, with_promised_heads, intended, stored_list, prepared_by, works_name, held_contents, block_on, pages_by, found_on, RecordPut, IsRecoverable, IsConsistent, IsCompleteBy, HasIntentions, IsStanding, Makes, removes, found_any, FullIntention, StoredIntention, Record, Free, Intention, Ready, Going, FlagRecord, WorkState, record_page, RecordFits, Counts, Changed, Prepared, RemoveWork, made_by, is_ready, is_going, record_in, slot_page, is_free, is_prepared, is_intention, is_flag, is_rubbish, Puts, is_in, are_different, IsServing, IsLoadable, file_there, intentions, list_of, state, name_of, WorkRemoved, find_by, find-at, find-kept, find-listed, keys-kept, different-kept, total-but, StoreView, Memory, accounts_of, view_of, next_by, stored_by, holds_page, rubbish_in, Matches, IsKeptMemory, IsMade, WorksMatch, StoredWork, stored_work, work_by, pages_let_go, MayLetGo, heads_needed, is_at, ArePagesApart, is_of_work, listed_length, gone_found, prepared_gone, removed_rubbish, removed_names, free_record, position_at, none_position, step_of, free_less, work_stays, flags_stay, Serves, serves_of, serving_by, may_load, called_put, consistent, works_seen, works_told, prepared_of, IsRemoved, serves_removed, same_only, root_page, root_by, IsOnly, heads_of}
 use Rattle.jn_recovery.proofs.HeadsNeeded.{heads_are}
 use Rattle.jn_intent.proofs.LettingGo.{AreLetGo, let_go, table_taken}
 use Rattle.jn_intent.proofs.Listed.{listed_at, listed_named, pages_apart, names_after}
@@ -124,13 +124,13 @@ module _ (m : Memory) (v : StoreView) (kept : IsKeptMemory m v) (serving : IsSer
       full_length = ap (λ (l : List FullIntention). length l) full ∙ length-map s.list (intended (block_on m.table.counts (pages_by v (λ n. false)))) ∙ ap (λ (l : List StoredIntention). length l) list_is
           ∙ listed_length m.records work 0 its.count (λ k low high. its.has.all k (omega (arith, high)))
 
-      heads_is : (needed (state (view_of m v)) (list_of (state (view_of m v)) work)).heads ≡ heads_needed m.table.heads s.list
-      heads_is = ap (λ l. (needed (state (view_of m v)) l).heads) full
+      heads_is : heads_of (list_of (state (view_of m v)) work) (file_there (state (view_of m v)).files) ≡ heads_needed m.table.heads s.list
+      heads_is = ap (λ l. heads_of l (file_there (state (view_of m v)).files)) full
           ∙ heads_are (block_on m.table.counts (pages_by v (λ n. false))) m.table.heads (file_there (state (view_of m v)).files) (there_seen m v kept serving) s.list
 
       pub heads_enough : heads_needed m.table.heads s.list ≤ m.table.free_heads.promised
       heads_enough =
-          let whole = total-but work_eq work_tells (λ w. (needed (state (view_of m v)) (list_of (state (view_of m v)) w)).heads) work serving.counted.works serving.counted.works_all.different (serving.counted.works_all.all work ∙ some) in
+          let whole = total-but work_eq work_tells (λ w. heads_of (list_of (state (view_of m v)) w) (file_there (state (view_of m v)).files)) work serving.counted.works serving.counted.works_all.different (serving.counted.works_all.all work ∙ some) in
           let own = heads_is in let all = serving.counted.promises in omega (arith, whole, own, all)
 
       gone : AreLetGo (with_promised_heads m.table (m.table.free_heads.promised - heads_needed m.table.heads s.list)) s.list (given_back m s.list)
@@ -208,6 +208,7 @@ module _ (m : Memory) (v : StoreView) (kept : IsKeptMemory m v) (serving : IsSer
         remove_matches done table = record {
           standing = subst (λ g. IsStanding m.server g w m.epoch (slice_set m.records slot Free) (given_back m s.list).heads) (sym gone.only.counts)
               (subst (λ hs. IsStanding m.server m.table.counts w m.epoch (slice_set m.records slot Free) hs) (sym gone.only.heads) (makes.standing done));
+          root = subst (λ g. IsOnly w 0 (root_page (root_by m.server g m.epoch))) (sym gone.only.counts) (same_only v w 0 _ (puts.put.others 0 (let e = now.standing.held.count in omega (arith, e)) (λ e. omega (arith, e))) now.root);
           table = table;
           works = works_left;
           made = λ w. subst (λ o. IsMade (given_back m s.list).heads o) (sym (kept_found w)) (subst (λ hs. IsMade hs (if not (work_eq work w) then find_by work_eq name_of m.works w else None)) (sym gone.only.heads) (still (not (work_eq work w)) (find_by work_eq name_of m.works w) (now.made w)));

@@ -1,5 +1,5 @@
 -- What a scrub of a storage leaves, and what befalls its device.
-use Rattle.jn_intent.proofs.Common.{◌≡◌, ◌<◌, ◌≤◌, ◌+◌, ◌*◌, ℕ, Bool, true, false, refl, sym, ◌∙◌, ap, subst, arith, DeviceState, TableView, IsTable, TouchesAll, found_on, IsFewer, IsRecoverable, IsStanding, fewer_found, fewer_recoverable, same_found, same_recoverable, Pick, StableState, Unchanged, IsServing, state, StoreView, StoreLater, HasSamePages, IsCalm, IsWholePage, IsStop, shrinks_only, Memory, view_of, Matches, IsKeptMemory, Befalls, Cleans, Scrubbed, serves_of, serving_by, loadable_found, standing_same}
+use Rattle.jn_intent.proofs.Common.{◌≡◌, ◌<◌, ◌≤◌, ◌+◌, ◌*◌, ℕ, Bool, true, false, refl, sym, ◌∙◌, ap, subst, arith, DeviceState, TableView, IsTable, TouchesAll, found_on, IsFewer, IsRecoverable, IsStanding, fewer_found, fewer_recoverable, same_found, same_recoverable, Pick, StableState, Unchanged, IsServing, state, StoreView, StoreLater, HasSamePages, IsCalm, IsWholePage, IsStop, shrinks_only, Memory, view_of, Matches, IsKeptMemory, Befalls, Cleans, Scrubbed, serves_of, serving_by, loadable_found, standing_same, same_only}
 use Rattle.jn_page_state.specs.Images.{IsImage}
 use Rattle.jn_page_state.proofs.ImageEnds.{is_image}
 use Rattle.jn_store.specs.Pairs.{pairs_view}
@@ -12,6 +12,7 @@ module _ (m : Memory) (v w : StoreView) (kept : IsKeptMemory m v) (fewer : IsFew
   standing_fewer power = let held = (kept power).standing.held in record {
     held = record {
       count = held.count ∙ sym fewer.count;
+      version = held.version;
       root_fits = held.root_fits;
       root = shrinks_only v w 0 _ held.root (fewer.shrinks 0 (let e = held.count in omega (arith, e)));
       slots = held.slots;
@@ -23,12 +24,12 @@ module _ (m : Memory) (v w : StoreView) (kept : IsKeptMemory m v) (fewer : IsFew
   }
 
   pub fewer_kept : v.power ≡ true → Matches m w
-  fewer_kept power = let now = kept power in record { standing = standing_fewer power; table = now.table; works = now.works; made = now.made; flags = now.flags; held = now.held }
+  fewer_kept power = let now = kept power in record { standing = standing_fewer power; root = shrinks_only v w 0 _ now.root (fewer.shrinks 0 (let e = now.standing.held.count in omega (arith, e))); table = now.table; works = now.works; made = now.made; flags = now.flags; held = now.held }
 
   -- of a table that is the same but for what is touched
   pub touched_kept : v.power ≡ true → (u : TableView) → TouchesAll m.table u → IsTable u → Matches (record m { table = u }) w
   touched_kept power u touches table = let now = fewer_kept power in subst (λ k. Matches (record m { table = k }) w) (sym touches.rest)
-      (record { standing = now.standing; table = subst IsTable touches.rest table; works = now.works; made = now.made; flags = now.flags; held = now.held })
+      (record { standing = now.standing; root = now.root; table = subst IsTable touches.rest table; works = now.works; made = now.made; flags = now.flags; held = now.held })
 
   module _ (serving : IsServing (view_of m v)) (ok : Bool) (later : StoreLater v w) (calls : w.calls ≤ v.calls + 16 * v.count) (done : ok ≡ true → Cleans v 0 v.count w) (stopped : ok ≡ false → IsStop v w) (calm : IsCalm v → ok ≡ true) where
     same : Unchanged (state (view_of m v)) (found_on m.table.counts w)
@@ -52,7 +53,7 @@ module _ (m : Memory) (v w : StoreView) (kept : IsKeptMemory m v) (fewer : IsFew
       clean = λ e i lt. (done e).clean i (omega arith) lt;
       whole = whole;
       image = λ quiet idle. subst (λ (x : StableState). IsImage m.server m.table.counts x.files w) (same (λ n. false))
-          (is_image m.server m.table.counts w m.epoch m.records m.table.heads (standing_fewer serving.power) (idle_free m v serving idle (kept serving.power).standing.held.slots)
+          (is_image m.server m.table.counts w m.epoch m.records m.table.heads (standing_fewer serving.power) (fewer_kept serving.power).root (idle_free m v serving idle (kept serving.power).standing.held.slots)
           (λ i lt. whole quiet i (subst (λ n. i < n) later.count lt)));
     }
 
@@ -71,6 +72,7 @@ module _ (m : Memory) (v w : StoreView) (same : HasSamePages v w) (power : w.pow
   same_kept safe = (
     λ on. let now = safe.0 (sym power ∙ on) in record {
       standing = standing_same m.server m.table.counts v m.epoch m.records m.table.heads now.standing w same;
+      root = same_only v w 0 _ (same.pages 0) now.root;
       table = now.table;
       works = now.works;
       made = now.made;

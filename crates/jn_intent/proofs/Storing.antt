@@ -1,5 +1,5 @@
 -- One intention is stored: a put's block, and then its record.
-use Rattle.jn_intent.proofs.Common.{◌≡◌, ◌<◌, ◌≤◌, ◌+◌, ◌*◌, ◌||◌, ℕ, zero, suc, Bool, true, false, List, [], ◌∷◌, ◌++◌, length, Some, refl, sym, ◌∙◌, ap, subst, true≢false, arith, length-append, nat_tests, slice_get-get_or, Ok, Err, Result, is_ok, IfOk, position, slice_get, slice_index_or, is_free_number, Stopped, TableView, IsTable, is_held, leaf_page, heads_name, works_name, found_on, RecordPut, BlockPut, IsRecoverable, IsStanding, MakesNothing, standing_state, fills, idles, StoredIntention, What, Fresh, Gone, Cut, Put, Record, IntentionRecord, WorkHead, intention_has_page, names_what_it_needs, AllPlain, Plain, is_put, RecordFits, record_page, Counts, data_place, Unchanged, is_free, slot_page, Puts, state, StoreView, StorePut, later_trans, stop_since, Memory, view_of, stored_as, BlockStored, RecordStored, IntentionStored, MayStore, PagesPreparing, StorePreparing, IsPreparing, StopsUnchanged, ListStored, step_of}
+use Rattle.jn_intent.proofs.Common.{◌≡◌, ◌<◌, ◌≤◌, ◌+◌, ◌*◌, ◌||◌, ℕ, zero, suc, Bool, true, false, List, [], ◌∷◌, ◌++◌, length, Some, refl, sym, ◌∙◌, ap, subst, true≢false, arith, length-append, nat_tests, slice_get-get_or, Ok, Err, Result, is_ok, IfOk, position, slice_get, slice_index_or, is_free_number, Stopped, TableView, IsTable, is_held, leaf_page, heads_name, works_name, found_on, RecordPut, BlockPut, IsRecoverable, IsStanding, MakesNothing, standing_state, fills, idles, StoredIntention, What, Fresh, Gone, Cut, Put, Record, IntentionRecord, WorkHead, intention_has_page, names_what_it_needs, AllPlain, Plain, is_put, RecordFits, record_page, Counts, data_place, Unchanged, is_free, slot_page, Puts, state, StoreView, StorePut, later_trans, stop_since, Memory, view_of, stored_as, BlockStored, RecordStored, IntentionStored, MayStore, PagesPreparing, StorePreparing, IsPreparing, StopsUnchanged, ListStored, step_of, ◌≢◌, same_only, WorkId, count_by, is_put_intention, free_numbers, if◌then◌else◌, take, count_by_more_yes, sum_by-take-le}
 use Rattle.jn_records.specs.declared.intention.Intention.{Intention}
 use Rattle.jn_intent.proofs.StoringPages.{pages_moved, pages_none, pages_put, not_yet, page_below, page_unnamed}
 use Rattle.jn_intent.proofs.StoringPool.{free_there, stored_idle, pool_goes_on}
@@ -11,7 +11,7 @@ ok_is e = cc e
 pub page_named : (t : TableView) (v : StoreView) (i : Intention) (a : ℕ) (u : TableView) (w : StoreView) → BlockStored t v i (Ok a) u w → Plain i.what i.block i.bytes → intention_has_page (stored_as i a) ≡ true
 page_named t v i a u w block plain = by i.what (λ e. ok_is (block.none e).0) (λ e. let is = (block.put e).address in omega (arith, is)) plain
   where
-    by : (what : What) → (is_put what ≡ false → a ≡ 0) → (is_put what ≡ true → 0 < a) → Plain what i.block i.bytes → names_what_it_needs what i.block.0 a ≡ true
+    by : (what : What) → (is_put what ≡ false → a ≡ 0) → (is_put what ≡ true → 0 < a) → Plain what i.block i.bytes → names_what_it_needs what i.block.0 a 0 ≡ true
     by Fresh none put plain = let none_is = none refl in let block_is = plain.0 in grind (arith, nat_tests, none_is, block_is)
     by Gone none put plain = let none_is = none refl in let block_is = plain.0 in grind (arith, nat_tests, none_is, block_is)
     by Cut none put plain = let none_is = none refl in grind (arith, nat_tests, none_is)
@@ -36,9 +36,10 @@ module _ (m : Memory) (v : StoreView) (n : ℕ) (records : List Record) (w : Sto
   same_state : Unchanged (standing_state m.table.counts w) (found_on m.table.counts x) → Unchanged (state (view_of m v)) (found_on m.table.counts x)
   same_state unchanged c = unchanged c ∙ s.unchanged (λ n. false)
 
-  store_on : StorePut w i page true x → (now : List Record) → Unchanged (standing_state m.table.counts w) (found_on m.table.counts x) → IsStanding m.server m.table.counts x m.epoch now m.table.heads → StorePreparing m v (n + 16) now x
-  store_on put now unchanged standing = record {
+  store_on : StorePut w i page true x → 0 ≢ i → (now : List Record) → Unchanged (standing_state m.table.counts w) (found_on m.table.counts x) → IsStanding m.server m.table.counts x m.epoch now m.table.heads → StorePreparing m v (n + 16) now x
+  store_on put apart now unchanged standing = record {
     standing = standing;
+    root = same_only w x 0 _ (put.others 0 (let e = s.standing.held.count in omega (arith, e)) apart) s.root;
     unchanged = same_state unchanged;
     later = later_trans v w x s.later put.later;
     calls_few = let before = s.calls_few in let more = put.calls in omega (arith, before, more);
@@ -56,7 +57,7 @@ module _ (m : Memory) (v : StoreView) (n : ℕ) (records : List Record) (w : Sto
   }
 
 store_within : (m : Memory) (v : StoreView) (n k : ℕ) (records : List Record) (w : StoreView) → n ≤ k → StorePreparing m v n records w → StorePreparing m v k records w
-store_within m v n k records w le s = record { standing = s.standing; unchanged = s.unchanged; later = s.later; calls_few = let few = s.calls_few in omega (arith, le, few); served = s.served }
+store_within m v n k records w le s = record { standing = s.standing; root = s.root; unchanged = s.unchanged; later = s.later; calls_few = let few = s.calls_few in omega (arith, le, few); served = s.served }
 
 pub stops_within : (m : Memory) (v : StoreView) (n k : ℕ) (t : TableView) (w : StoreView) → n ≤ k → StopsUnchanged m v n t w → StopsUnchanged m v k t w
 stops_within m v n k t w le s = record { recoverable = s.recoverable; unchanged = s.unchanged; later = s.later; calls_few = let few = s.calls_few in omega (arith, le, few); stop = s.stop; counts = s.counts }
@@ -102,7 +103,7 @@ module _ (m : Memory) (v : StoreView) (head : WorkHead) (list : List Intention) 
             let makes = fill_makes f.page f.least.is_free_itself i.bytes f.whole true x put in (
               subst (λ n. PagesPreparing m list (stored ++ stored_as i n ∷ []) u x) (sym f.address) (subst (λ r. PagesPreparing m list (stored ++ stored_as i (suc f.page) ∷ []) r x) (sym (f.fills.done refl))
                   (pages_put m list stored t w p.pages f.page f.least.is_free_itself i some at x p.store.standing.held.count put f.whole (subst IsTable (f.fills.done refl) table))),
-              store_on m v (32 * length stored) records w p.store x (data_place m.table.counts f.page) (leaf_page i.bytes) put records makes.unchanged (makes.standing refl),
+              store_on m v (32 * length stored) records w p.store x (data_place m.table.counts f.page) (leaf_page i.bytes) put (λ e. omega (arith, e)) records makes.unchanged (makes.standing refl),
             )
 
     -- and its record
@@ -126,7 +127,7 @@ module _ (m : Memory) (v : StoreView) (head : WorkHead) (list : List Intention) 
           let same : s ≡ stored_as i a = subst (λ (q : Result StoredIntention Stopped). IfOk q (λ z. z ≡ stored_as i a)) done r.stored in
           let put = subst (λ b. StorePut x (slot_page r.slot) (record_page (IntentionRecord head.work head.tid (length stored) (stored_as i a))) b y) ok r.puts.put in
           let is_now = r.puts.done ok in
-          let store = store_on m v (32 * length stored + 16) records x block_on.1 y (slot_page r.slot) (record_page (IntentionRecord head.work head.tid (length stored) (stored_as i a))) put _ record_makes.unchanged (record_makes.standing ok) in
+          let store = store_on m v (32 * length stored + 16) records x block_on.1 y (slot_page r.slot) (record_page (IntentionRecord head.work head.tid (length stored) (stored_as i a))) put (λ e. omega (arith, e)) _ record_makes.unchanged (record_makes.standing ok) in
           subst (λ z. IsPreparing m v head.work list (stored ++ z ∷ []) new u y) (sym same) (subst (λ l. IsPreparing m v head.work list (stored ++ stored_as i a ∷ []) l u y) (sym is_now) (record {
             pool = pool_goes_on m head.work stored records p.pool r.slot r.free head.tid (stored_as i a);
             pages = pages_moved m list (stored ++ stored_as i a ∷ []) u x y block_on.0 put.later.count (λ b h. put.others (data_place m.table.counts b)
@@ -178,3 +179,13 @@ module _ (m : Memory) (v : StoreView) (head : WorkHead) (list : List Intention) 
     done = λ ok. absurd (true≢false (sym ok ∙ e));
     stopped = λ _. stops_within m v (32 * length stored + 32) 768 u y (let few = may.few in omega (arith, longer, lt, few)) (stops_here m v head list stored records t w p may.now.held (slice_index_or list order d) at (plain_at list order d may.plain lt) answer new u y its table stopped);
   }
+
+-- a data page is left for the next put
+pub page_left : (m : Memory) (v : StoreView) (work : WorkId) (list : List Intention) (stored : List StoredIntention) (records : List Record) (t : TableView) (w : StoreView) → MayStore m v work list → IsPreparing m v work list stored records t w
+    → (order : ℕ) → length stored ≡ order → order < length list → (d : Intention) → is_put (slice_index_or list order d).what ≡ true → 0 < free_numbers t.free_leaves
+page_left m v work list stored records t w may p order longer lt d put =
+    let free = p.pages.free in let enough = may.pages in
+    let at : count_by is_put_intention (take (length stored) list) ≡ count_by is_put_intention (take order list) = ap (λ n. count_by is_put_intention (take n list)) longer in
+    let more = count_by_more_yes is_put_intention list order d lt put in
+    let most = sum_by-take-le (λ (i : Intention). if is_put_intention i then 1 else 0) list (order + 1) in
+    omega (arith, free, enough, at, more, most)

@@ -18,20 +18,22 @@ use Rattle.jn_records.specs.declared.record.Record.{Record}
 use Rattle.jn_records.specs.declared.record.Record.TheVariants.{Intention as IntentionRecord}
 use Rattle.jn_records.specs.declared.work.WorkHead.{WorkHead}
 use Rattle.jn_records.specs.NetLists.{AllPlain, is_put, is_put_intention}
-use Rattle.jn_records.specs.StablePages.{data_place}
+use Rattle.jn_records.specs.Pages.{root_page}
+use Rattle.jn_records.specs.StablePages.{root_by, data_place}
 use Rattle.jn_rows.specs.Stable.{Pick, Unchanged}
 use Rattle.jn_sets.specs.Pool.{IsRecord, is_free, free_count, is_prepared}
 use Rattle.jn_sets.specs.Sets.{Puts}
 use Rattle.jn_storage.specs.Calls.{state}
-use Rattle.jn_store.specs.Store.{StoreView, StoreLater, IsClean, IsServed, IsStop}
+use Rattle.jn_store.specs.Store.{StoreView, StoreLater, IsClean, IsOnly, IsServed, IsStop}
 use Rattle.jn_recovery.specs.Memory.{Memory, view_of, rubbish_in}
 use Rattle.jn_recovery.specs.Matches.{Matches, WorksMatch, FlagsMatch}
 use Rattle.jn_recovery.specs.Pages.{is_at, ArePagesApart}
 
 -- ---- one intention is stored
 
+-- as its record has it: with its data page's address, and no map page so far
 abbrev pub stored_as : Intention → ℕ → StoredIntention
-stored_as i address = record { what = i.what; file = i.file; block = i.block; address = address }
+stored_as i address = record { what = i.what; file = i.file; block = i.block; address = address; map = 0 }
 
 -- the block of a put goes to the lowest free data page, which is held from then on
 pub record FillsPage (t : TableView) (v : StoreView) (block : List ℕ) (answer : Result ℕ Stopped) (u : TableView) (w : StoreView) : Type 0 where
@@ -105,6 +107,7 @@ pub record PagesPreparing (m : Memory) (list : List Intention) (stored : List St
 -- nothing that is found has changed
 pub record StorePreparing (m : Memory) (v : StoreView) (calls : ℕ) (records : List Record) (w : StoreView) : Type 0 where
   pub standing : IsStanding m.server m.table.counts w m.epoch records m.table.heads
+  pub root : IsOnly w 0 (root_page (root_by m.server m.table.counts m.epoch))
   pub unchanged : Unchanged (state (view_of m v)) (found_on m.table.counts w)
   pub later : StoreLater v w
   pub calls_few : w.calls ≤ v.calls + calls

@@ -180,6 +180,7 @@ fn store_one<S: StableStore>(
         file: intention.file,
         block: intention.block,
         address,
+        map: 0,
     };
     let record = Record::Intention {
         work: head.work,

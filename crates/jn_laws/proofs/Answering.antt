@@ -1,6 +1,8 @@
 -- What becomes of a message that is handed over: it is answered, or its server is stopped, or the run is cut short.
-use Rattle.jn_laws.proofs.Common.{◌≡◌, ◌≢◌, ℕ, Bool, true, false, List, [], ◌∷◌, ◌++◌, append-nil, length, length-append, Option, Some, None, is_some, refl, sym, ◌∙◌, ap, subst, arith, if◌then◌else◌, slice_get, ServerNo, Party, Client, Server, client_eq, server_eq, client_tells, server_tells, Message, Taken, ClientTable, take_row, RowOutcome, Sent, Pick, stable, made_all, World, Memory, Room, server_row, Deliver, handing, after, run, handed, at_memory, ends, took, Setup, Use, Nothing, Deed, room, no_room, delivered_at, IsUsed, rubbish_on, Moment, DoesStep, CutShort, HandsOver, Answer, tells_alone, room_on, row_on, of_row, of_server, of_taken, its_answer, IsGiven, IsDone, IsTaken, IsStopped, stopped_at, IsTooLong, IsStale, Calls, free_found, row_calls, ClientNo, Left}
+use Rattle.jn_laws.proofs.Common.{◌≡◌, ◌≢◌, ℕ, Bool, true, false, List, [], ◌∷◌, ◌++◌, append-nil, length, length-append, Option, Some, None, is_some, refl, sym, ◌∙◌, ap, subst, arith, if◌then◌else◌, slice_get, ServerNo, Party, Client, Server, client_eq, server_eq, client_tells, server_tells, Message, Taken, ClientTable, take_row, RowOutcome, Sent, Pick, stable, made_all, World, Memory, Room, server_row, Deliver, handing, after, run, handed, at_memory, ends, took, Setup, Use, Nothing, Deed, room, no_room, delivered_at, IsUsed, rubbish_on, Moment, DoesStep, CutShort, HandsOver, Answer, tells_alone, room_on, row_on, of_row, of_server, of_taken, its_answer, IsGiven, IsDone, IsTaken, IsStopped, stopped_at, IsTooLong, IsStale, Calls, free_found, row_calls, ClientNo, Left, maps_found, pages_of}
 use Rattle.jn_records.specs.declared.net_list.Need.{Need}
+use Rattle.jn_records.specs.MapPlaces.{MapPlaces}
+use Rattle.jn_server.specs.Standing.{free_on}
 use Rattle.jn_report.specs.declared.line.Text.TheVariants as says
 use Rattle.jn_rows.specs.declared.client.Taken.TheVariants as taken
 use Rattle.jn_laws.proofs.Handing.{itself, DoesOne, does-one, world-after, gives, is-long}
@@ -11,8 +13,8 @@ same-client c = itself client_eq c (client_tells c c)
 same-server : (q : ServerNo) → server_eq q q ≡ true
 same-server q = itself server_eq q (server_tells q q)
 
-abbrev with_room : Need → Bool → Room
-with_room free rubbish = record { free = free; rubbish = rubbish }
+abbrev with_room : Need → MapPlaces → Bool → Room
+with_room free maps rubbish = record { free = free; maps = maps; rubbish = rubbish }
 
 none-some : {A : Type 0} (m : A) → None ≡ Some m → ⊥
 none-some m e = cc
@@ -107,8 +109,9 @@ module _ (x : Setup) (a b : Moment) (d : DoesStep x a b) (k : ℕ) where
           one n e = cc
 
           by : IsUsed x d.chance device w (run (handing k (room d.chance q) d.chance.stop ∷ []) w) a.devices b.devices → room d.chance q ≡ room_on x a q m
-          by u = ap (λ (left : Bool). with_room (free_found d.chance.found) left) (d.befalls.rubbish q)
-              ∙ ap (λ (free : Need). with_room free (rubbish_on x a.devices q)) u.its.free
+          by u = ap (λ (left : Bool). with_room (free_found d.chance.found) (maps_found d.chance.found) left) (d.befalls.rubbish q)
+              ∙ ap (λ (free : Need). with_room free (maps_found d.chance.found) (rubbish_on x a.devices q)) u.its.free
+              ∙ ap (λ (maps : MapPlaces). with_room (free_on (x.counts q) (pages_of (a.devices q)) (stable (w.found q)) u.its.memory) maps (rubbish_on x a.devices q)) u.its.maps
               ∙ ap (λ (n : Memory). room_on x a q n) (one u.its.memory (sym u.its.up ∙ up))
 
       abbrev its-row : RowOutcome Memory

@@ -14,9 +14,9 @@ pub use Rattle.jn_rows.specs.Stable.{Pick, stable, made_all, Left, StableState, 
 pub use Rattle.jn_system.specs.WholeSystem.World.{World, Memory, new_memory, opening, clients_from, with_epoch}
 pub use Rattle.jn_system.specs.WholeSystem.Servers.{Room, server_row, storage_of, of_worker, of_coordinator, lines_of, server_step, server_again, server_timeout, of_step, of_timeout, is_for_worker, restored}
 pub use Rattle.jn_system.specs.WholeSystem.Steps.{Deliver, handing, after, run, handed, at_memory, ends, took, Step, NextEvent, IsRun, working, Tell, sent_now}
-pub use Rattle.jn_machine.specs.Chances.{Setup, free_found, Chance, prints_found}
+pub use Rattle.jn_machine.specs.Chances.{Setup, free_found, maps_found, Chance, prints_found}
 pub use Rattle.jn_machine.specs.Deeds.{Use, Nothing, Deed, room, no_room, delivered_at, Calls, delivered, Reads, is_busy, worked, served, nothing, working_steps, stopped_idle, crashed_at, recovering, recovered, given_up, restarted, brought_up, is_used_up}
-pub use Rattle.jn_machine.specs.Devices.{IsUsed, rubbish_on, Devices, IsLookedOver}
+pub use Rattle.jn_machine.specs.Devices.{IsUsed, rubbish_on, pages_of, Devices, IsLookedOver}
 pub use Rattle.jn_machine.specs.Runs.{Moment, DoesStep, Leads, none, more}
 pub use Rattle.jn_machine.specs.Tasks.{CutShort, Task, Meets, Acts, Rests, Stage, State, next_at, when_of, begun, Begins, ComesUp, Dismisses, GoesDown, ClosesClients, CountsCommits, InSchedule, AtEnd}
 pub use Rattle.jn_laws.specs.Handing.{HandsOver, Answer, tells_alone, room_on, row_on, of_row, of_server, of_taken, its_answer, IsGiven, IsDone, IsTaken, IsStopped, stopped_at, IsTooLong, IsStale, number_in, number_by, faults_in, tells_ignored, IsVoting, IsLast, commits_with}

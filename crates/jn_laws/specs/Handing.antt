@@ -20,6 +20,8 @@ use Rattle.jn_rows.specs.Stable.{Pick, stable, made_all}
 use Rattle.jn_rows.specs.Outcomes.{RowOutcome, Sent, ignored}
 use Rattle.jn_rows.specs.Client.{take_row}
 use Rattle.jn_rows.specs.Coordinator.{transaction_at, is_work, commits, committed_to}
+use Rattle.jn_page_state.specs.Pages.{heads_on}
+use Rattle.jn_records.specs.MapPlaces.{maps_in}
 use Rattle.jn_server.specs.Standing.{free_on}
 use Rattle.jn_system.specs.WholeSystem.World.{World, Memory}
 use Rattle.jn_system.specs.WholeSystem.Servers.{Room, server_row, lines_of}
@@ -60,9 +62,13 @@ pub record Answer : Type 0 where
 abbrev pub tells_alone : Text → Answer
 tells_alone text = record { texts = text ∷ []; messages = [] }
 
--- how much is free and not promised on a server's pages, and whether a rubbish record is left there
+-- how much is free and not promised on a server's pages, which map pages are there, and whether a rubbish record is left
 abbrev pub room_on : Setup → Moment → ServerNo → Memory → Room
-room_on x m q memory = record { free = free_on (x.counts q) (pages_of (m.devices q)) (stable (m.state.course.world.found q)) memory; rubbish = rubbish_on x m.devices q }
+room_on x m q memory = record {
+  free = free_on (x.counts q) (pages_of (m.devices q)) (stable (m.state.course.world.found q)) memory;
+  maps = maps_in (heads_on (x.counts q) (pages_of (m.devices q)));
+  rubbish = rubbish_on x m.devices q;
+}
 
 -- the row of a server that is up, over what stands on its pages
 abbrev pub row_on : Setup → Moment → ServerNo → Memory → Message → RowOutcome Memory

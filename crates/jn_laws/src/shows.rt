@@ -13,7 +13,7 @@ ghost use Rattle.jn_machine.specs.Runs.{Moment, DoesStep};
 ghost use Rattle.jn_machine.specs.Whole.{IsWritten};
 ghost use Rattle.jn_laws.specs.Shows.{ArePrintsInRange, ShowsInRange};
 
-/// At each moment of each run, a server that is up has something to print of the blocks of a file alone. No lock and no stored block has a
+/// At each moment of each run, a server that is up has something to print of blocks below `MOST_BLOCKS` alone. No lock and no stored block has a
 /// greater number.
 pub fn printed_blocks_are_in_range()
     ensures { (x : Setup) (schedule : List Event) (images : Devices) (m : Moment) → x.servers ≤ 8 → AllByRecursion EventInRange schedule → IsWritten x schedule images m

@@ -5,6 +5,7 @@ use Rattle.jn_base.specs.declared.names.Tid.{Tid}
 use Rattle.jn_base.specs.declared.names.WorkId.{WorkId}
 use Rattle.jn_base.specs.declared.device.Outside.{Outside}
 use Rattle.jn_records.specs.declared.net_list.Need.{Need}
+use Rattle.jn_records.specs.MapPlaces.{MapPlaces, no_maps}
 use Rattle.jn_records.specs.StablePages.{Counts, page_count}
 use Rattle.jn_rows.specs.Stable.{Pick, Left}
 use Rattle.jn_system.specs.WholeSystem.Printing.{Printed}
@@ -22,8 +23,8 @@ physical_pages x q = page_count (x.counts q) + page_count (x.counts q)
 
 -- What a step finds at its server, by what it does there.
 pub data Finding : Type 0 where
-  -- a message or a background step: what is free and not promised
-  Free : Need → Finding
+  -- a message or a background step: what is free and not promised, and which map pages there are
+  Free : Need → MapPlaces → Finding
   -- a show: what there is to print
   Prints : List Printed → Finding
   -- a restart: each pick finds, once pages are cleaned, what another one found before; and the names of works and flags, rising
@@ -47,8 +48,12 @@ abbrev pub none_free : Need
 none_free = record { records = 0; heads = 0; pages = 0 }
 
 abbrev pub free_found : Finding → Need
-free_found (Free need) = need
+free_found (Free need maps) = need
 free_found other = none_free
+
+abbrev pub maps_found : Finding → MapPlaces
+maps_found (Free need maps) = maps
+maps_found other = no_maps
 
 abbrev pub prints_found : Finding → List Printed
 prints_found (Prints prints) = prints

@@ -7,6 +7,7 @@ use Rattle.jn_base.specs.declared.device.FaultKind.{FaultKind}
 use Rattle.jn_report.specs.declared.line.EventRefusal.TheVariants.{EpochsUsedUp}
 use Rattle.jn_report.specs.declared.line.Text.{Text}
 use Rattle.jn_report.specs.declared.line.Text.TheVariants as says
+use Rattle.jn_records.specs.MapPlaces.{no_maps}
 use Rattle.jn_rows.specs.Stable.{StableState, Pick, stable, Left, whole_only}
 use Rattle.jn_rows.specs.Outcomes.{Sent}
 use Rattle.jn_system.specs.WholeSystem.World.{World, Memory}
@@ -15,7 +16,7 @@ use Rattle.jn_system.specs.WholeSystem.Steps.{Step, Deliver, StopWork, Crash, Na
 use Rattle.jn_system.specs.WholeSystem.Printing.{Printed}
 use Rattle.jn_system.specs.WholeSystem.PrintedLines.{text_printed}
 use Rattle.jn_storage.specs.DeviceCalls.{step_calls, row_calls}
-use Rattle.jn_machine.specs.Chances.{Chance, none_free, free_found, prints_found, halves_found, works_found, tids_found}
+use Rattle.jn_machine.specs.Chances.{Chance, none_free, free_found, maps_found, prints_found, halves_found, works_found, tids_found}
 use Rattle.jn_machine.specs.Tasks.{Task}
 
 -- what a step does with a server's device
@@ -73,7 +74,7 @@ uses q device texts = record (plain (Server q) []) { device = device; texts = te
 -- ---- messages and background steps
 
 abbrev pub room : Chance → ServerNo → Room
-room h q = record { free = free_found h.found; rubbish = h.rubbish q }
+room h q = record { free = free_found h.found; maps = maps_found h.found; rubbish = h.rubbish q }
 
 -- a server that is down loses the message, and its device isn't called
 abbrev pub delivered_at : Chance → ℕ → ServerNo → Option Memory → Deed
@@ -81,7 +82,7 @@ delivered_at h k q None = plain (Server q) (Deliver k (room h q) ∷ [])
 delivered_at h k q (Some m) = served q row_calls (handing k (room h q) h.stop ∷ [])
 
 abbrev pub no_room : Room
-no_room = record { free = none_free; rubbish = false }
+no_room = record { free = none_free; maps = no_maps; rubbish = false }
 
 -- the message of this number is handed over
 abbrev pub delivered : Chance → ℕ → World → Option Sent → Deed

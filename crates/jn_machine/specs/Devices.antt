@@ -5,11 +5,13 @@ use Rattle.jn_base.specs.Names.{server_eq}
 use Rattle.jn_device.specs.Device.{DeviceState}
 use Rattle.jn_device.specs.Events.{PowersUp, powered_off, disarmed, cleared, Decays as PageDecays, Revives as PageRevives, Arms as FaultArmed}
 use Rattle.jn_device.specs.Happens.{Happens}
-use Rattle.jn_records.specs.StablePages.{Counts, Pages, page_count}
+use Rattle.jn_records.specs.Pages.{root_page}
+use Rattle.jn_records.specs.StablePages.{Counts, Pages, root_by, page_count}
 use Rattle.jn_store.specs.DeviceCalls.{put_calls, cleaned_get_calls}
 use Rattle.jn_store.specs.Pairs.{pairs_view}
-use Rattle.jn_store.specs.Store.{IsCalm, IsClean, IsWholePage}
-use Rattle.jn_page_state.specs.Pages.{pool_on, found_on}
+use Rattle.jn_store.specs.Store.{IsCalm, IsClean, IsOnly, IsWholePage}
+use Rattle.jn_page_state.specs.Pages.{pool_on, found_on, heads_on}
+use Rattle.jn_records.specs.MapPlaces.{maps_in}
 use Rattle.jn_page_state.specs.Puts.{IsFrontClean, IsFrontWhole}
 use Rattle.jn_page_state.specs.Recoverable.{IsRecoverable}
 use Rattle.jn_recovery.specs.Counts.{most_calls}
@@ -19,7 +21,7 @@ use Rattle.jn_system.specs.WholeSystem.Steps.{run, IsRun}
 use Rattle.jn_system.specs.WholeSystem.Printing.{ArePrints}
 use Rattle.jn_system.specs.WholeSystem.PrintedLines.{prints_of}
 use Rattle.jn_server.specs.Standing.{standing_pages, free_on, has_rubbish}
-use Rattle.jn_machine.specs.Chances.{Setup, Chance, free_found, prints_found, allowed}
+use Rattle.jn_machine.specs.Chances.{Setup, Chance, free_found, maps_found, prints_found, allowed}
 use Rattle.jn_machine.specs.Rubbish.{AreLeft, AreAllCounted}
 use Rattle.jn_machine.specs.Deeds.{Use, Nothing, Calls, Cleans, Reads, Recovers, PowersOff, Decays, Revives, Arms, Disarms, Deed}
 
@@ -44,8 +46,8 @@ pub record IsCalled (most : ℕ) (h : Chance) (d e : DeviceState) : Type 0 where
   pub after : e ≡ cleared last
 
 -- The power comes first, and goes where the server doesn't come up. Where it does, root, records and heads are clean then, and whole where no fault
--- waited.
-pub record IsRecovery (g : Counts) (h : Chance) (up : Bool) (d e : DeviceState) : Type 0 where
+-- waited. The root is of the version that is written then, whichever was read.
+pub record IsRecovery (q : ServerNo) (g : Counts) (h : Chance) (up : Bool) (d e : DeviceState) : Type 0 where
   pub powered : DeviceState
   pub last : DeviceState
   pub power : PowersUp d powered
@@ -53,6 +55,7 @@ pub record IsRecovery (g : Counts) (h : Chance) (up : Bool) (d e : DeviceState) 
   pub after : e ≡ (if up then last else powered_off last)
   pub front : up ≡ true → IsFrontClean g (pairs_view e)
   pub front_whole : up ≡ true → d.waiting ≡ [] → IsFrontWhole g (pairs_view e)
+  pub root : up ≡ true → (epoch : ℕ) × IsOnly (pairs_view e) 0 (root_page (root_by q g epoch))
 
 -- one server's device becomes another, and all others stay
 pub record Alone (q : ServerNo) (becomes : DeviceState → DeviceState → Type 0) (ds es : Devices) : Type 0 where
@@ -70,11 +73,12 @@ rubbish_on x ds q = has_rubbish (pool_on (x.counts q) (pages_of (ds q)))
 
 -- ---- what a step does with the devices
 
--- a server that is up has so much free, and its device is called
+-- a server that is up has so much free and these map pages, and its device is called
 pub record IsServed (g : Counts) (most : ℕ) (h : Chance) (w : World) (q : ServerNo) (d e : DeviceState) : Type 0 where
   pub memory : Memory
   pub up : w.memory q ≡ Some memory
   pub free : free_found h.found ≡ free_on g (pages_of d) (stable (w.found q)) memory
+  pub maps : maps_found h.found ≡ maps_in (heads_on g (pages_of d))
   pub called : IsCalled most h d e
 
 -- where it isn't stopped, each pair of pages is clean then, and whole where no fault waits
@@ -96,7 +100,7 @@ IsUsed x h Nothing w now ds es = (q : ServerNo) → es q ≡ ds q
 IsUsed x h (Calls q most) w now ds es = Alone q (IsServed (x.counts q) most h w q) ds es
 IsUsed x h (Cleans q) w now ds es = Alone q (IsScrubbed (x.counts q) h w q) ds es
 IsUsed x h (Reads q) w now ds es = Alone q (IsLookedOver (x.counts q) h w q) ds es
-IsUsed x h (Recovers q) w now ds es = Alone q (IsRecovery (x.counts q) h (is_some (now.memory q))) ds es
+IsUsed x h (Recovers q) w now ds es = Alone q (IsRecovery q (x.counts q) h (is_some (now.memory q))) ds es
 IsUsed x h (PowersOff q) w now ds es = Alone q (λ d e. e ≡ powered_off d) ds es
 IsUsed x h (Decays q p) w now ds es = Alone q (λ d e. PageDecays d p (allowed h.found) e) ds es
 IsUsed x h (Revives q p) w now ds es = Alone q (λ d e. PageRevives d p e) ds es

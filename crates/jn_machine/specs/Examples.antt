@@ -1,5 +1,5 @@
 -- Runs as schedules give them, with their chances written by hand.
-use Rattle.std.specs.Prelude.{ℕ, ◌-◌, Bool, true, false, nat_eq, if◌then◌else◌, List, [], ◌∷◌, ◌++◌, length, replicate, Option, Some, None}
+use Rattle.std.specs.Prelude.{ℕ, ◌-◌, Bool, false, nat_eq, if◌then◌else◌, List, [], ◌∷◌, ◌++◌, length, replicate, Option, Some, None}
 use Rattle.jn_base.specs.declared.names.ServerNo.{ServerNo}
 use Rattle.jn_base.specs.declared.names.ClientNo.{ClientNo}
 use Rattle.jn_base.specs.declared.names.Tid.{Tid}
@@ -19,6 +19,7 @@ use Rattle.jn_system.specs.WholeSystem.World.{World, Memory}
 use Rattle.jn_system.specs.WholeSystem.Printing.{Printed, print_files}
 use Rattle.jn_system.specs.WholeSystem.PrintedLines.{prints_of}
 use Rattle.jn_system.specs.WholeSystem.ExampleNames.{s0, s1, c1, c2, tid, file, block}
+use Rattle.jn_records.specs.MapPlaces.{no_maps}
 use Rattle.jn_machine.specs.Chances.{Setup, Chance, Free, Prints, Recovered}
 use Rattle.jn_machine.specs.Tasks.{Task, Acts, State, next_task}
 use Rattle.jn_machine.specs.Steps.{after}
@@ -31,7 +32,7 @@ setup servers = record { servers = servers; counts = λ q. record { pool = 32; h
 
 -- there is room, nothing is stopped and no fault is reported; restarts find no work and no flag
 abbrev pub calm : Chance
-calm = record { rubbish = λ q. false; found = Free (record { records = 32; heads = 16; pages = 128 }); stop = None; told = [] }
+calm = record { rubbish = λ q. false; found = Free (record { records = 32; heads = 16; pages = 128 }) no_maps; stop = None; told = [] }
 
 -- of file 7 and its block 0
 abbrev pub prints_at : ServerNo → World → Option Memory → List Printed

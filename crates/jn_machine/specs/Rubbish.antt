@@ -1,4 +1,4 @@
--- How many rubbish records each step leaves on a server's pages: records of intentions that no prepared work has. All else is counted.
+-- How many rubbish records each step leaves on a server's pages: records of intentions that no prepared work has. And that no record and no head is of anything else.
 use Rattle.std.specs.Prelude.{◌≡◌, ◌<◌, ℕ, ◌+◌, ◌-◌, true, ◌&&◌, if◌then◌else◌, List, [], ◌∷◌, length, slice_get, Option, Some, None, is_some, is_none, count_by}
 use Rattle.std.specs.Option.{option_map, option_and_then, option_map_or}
 use Rattle.jn_base.specs.declared.names.ServerNo.{ServerNo}

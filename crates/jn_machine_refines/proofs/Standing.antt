@@ -75,7 +75,7 @@ call-spends most h up d e c on none = record {
   power = λ u s. ap (λ (f : DeviceState). f.power) c.after ∙ unstopped (is_some h.stop) c.last.power c.stop s;
 }
 
-pub recovery-spends : (g : Counts) (h : Chance) (up : Bool) (d e : DeviceState) → IsRecovery g h up d e → d.told ≡ [] → Spent h up d e
+pub recovery-spends : {s : ServerNo} (g : Counts) (h : Chance) (up : Bool) (d e : DeviceState) → IsRecovery s g h up d e → d.told ≡ [] → Spent h up d e
 recovery-spends g h up d e r none = let s = call-spends _ h up r.powered r.last r.called r.power.power_is (r.power.told ∙ none) in by up s r.after
   where
     moved : (u : Bool) (f : DeviceState) → Spent h u r.powered f → f ≡ e → Spent h u d e

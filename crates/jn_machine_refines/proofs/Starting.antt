@@ -21,7 +21,7 @@ record Recovers (h : Chance) (e : DeviceState) : Type 0 where
   told : h.told ≡ []
   quiet : IsQuiet e
 
-recovers : (g : Counts) (h : Chance) (up : Bool) (d e : DeviceState) → IsRecovery g h up d e → IsQuiet d → Recovers h e
+recovers : {s : ServerNo} (g : Counts) (h : Chance) (up : Bool) (d e : DeviceState) → IsRecovery s g h up d e → IsQuiet d → Recovers h e
 recovers g h up d e r q = let none = nothing-strikes _ h r.powered r.last r.called r.power.power_is (r.power.told ∙ q.told) (r.power.waiting ∙ q.waiting) in
     record { stop = none.0; told = none.1; quiet = subst IsQuiet (sym r.after) (by up) }
   where
@@ -32,7 +32,7 @@ recovers g h up d e r q = let none = nothing-strikes _ h r.powered r.last r.call
     by true = last
     by false = record { waiting = last.waiting; told = last.told }
 
-has-power : (g : Counts) (h : Chance) (d e : DeviceState) → IsRecovery g h true d e → h.stop ≡ None → e.power ≡ true
+has-power : {s : ServerNo} (g : Counts) (h : Chance) (d e : DeviceState) → IsRecovery s g h true d e → h.stop ≡ None → e.power ≡ true
 has-power g h d e r none = ap (λ (f : DeviceState). f.power) (r.after ∙ r.called.after) ∙ on r.called.last.power (sym (ap (λ (o : Option (Pick → Left)). is_some o) none) ∙ r.called.stop)
   where
     on : (b : Bool) → false ≡ not b → b ≡ true
@@ -217,7 +217,7 @@ module _ (x : Setup) (files : AllFiles) (epochs : ServerNo → ℕ) (schedule : 
                   by false z = absurd (cc z)
 
           powered : (p : ServerNo) → p.0 < k + 1 → ((server_eq q p ≡ true) × (q ≡ p)) ⊎ ((server_eq q p ≡ false) × (q ≡ p → ⊥)) → (b.devices p).power ≡ true
-          powered p m (inl t) = subst (λ (z : ServerNo). (b.devices z).power ≡ true) t.1 (has-power (x.counts q) h (a.devices q) (b.devices q) (subst (λ (u : Bool). IsRecovery (x.counts q) h u (a.devices q) (b.devices q)) is-up befalls.used.its) re.stop)
+          powered p m (inl t) = subst (λ (z : ServerNo). (b.devices z).power ≡ true) t.1 (has-power (x.counts q) h (a.devices q) (b.devices q) (subst (λ (u : Bool). IsRecovery q (x.counts q) h u (a.devices q) (b.devices q)) is-up befalls.used.its) re.stop)
           powered p m (inr t) = ap (λ (d : DeviceState). d.power) (befalls.used.others p t.0) ∙ s.power p (below p m t.0)
             where
               below : (p : ServerNo) → p.0 < k + 1 → server_eq q p ≡ false → p.0 < k

@@ -35,7 +35,7 @@ module _ (server : ServerNo) (g : Counts) (v : StoreView) (readable : IsReadable
       refl
 
   as_said : (c : Pick) → found_on g v c ≡ state_in (contents_of g (pages_by v c))
-  as_said c = state_on_pages g (pages_by v c) (readable.each c).root.1.leaves (readable.each c).heads
+  as_said c = state_on_pages g (pages_by v c) (readable.each c).root.2.leaves (readable.each c).heads
 
   pub one_state : IsUp (found_on g v)
   one_state c = as_said c ∙ ap (λ x. state_in x) (same_front c) ∙ named_read (contents_of g (pages_by v (λ n. false))) (block_on g (pages_by v c)) (λ d named. block_read c d named) ∙ sym (as_said (λ n. false))

@@ -6,7 +6,7 @@ pub use Rattle.jn_order.specs.Files.{change, there, Files, or_else, removed}
 pub use Rattle.jn_rows.specs.Stable.{StableState, made_all, CarryOut, Pick, made_by, AddReady, MarkGoing, RemoveWork, AddFlag, DropFlag, IsUp, ready_work, Change, Changed, Unchanged, IsStopState, Prepared, FlagState, at_work, at_tid, gone_on, flag_state}
 pub use Rattle.jn_records.specs.declared.intention.Intention.{Intention as FullIntention}
 pub use Rattle.std.specs.Prelude.{false, None, slice_set, nat_eq, is_some, option_and_then, nat_lt, take, slice_index_or, option_map, nat_le, drop, replicate, slice_index, flat_map}
-pub use Rattle.std.proofs.lemmas.Bool.{cases_eq, cases_lt}
+pub use Rattle.std.proofs.lemmas.Bool.{cases_eq, cases_lt, and_parts}
 pub use Rattle.std.proofs.lemmas.Bool.Decides.{nat_tests}
 pub use Rattle.std.proofs.lemmas.List.{length-append, get_or_past, get_or-set_same, get_or-set_other, append_assoc, drop_at, length-set, take_at}
 pub use Rattle.std.proofs.lemmas.List.Folds.{find_past, list_all_at}
@@ -34,11 +34,11 @@ pub use Rattle.jn_page_state.specs.Pages.{block_on, pages_by, half_of, found_on,
 pub use Rattle.jn_page_state.specs.Puts.{RootPut, RecordPut, HeadPut, BlockPut, put_in, contents_by, IsPut, IsReadable, IsFrontClean, PagePut, put_place, IsPagePut, PutStep, IsFewer, put_page, is_written, KeepsClean, KeepsConsistent}
 pub use Rattle.jn_page_state.specs.Standing.{IsStanding, IsPutStep, MayChange, Makes, MakesNothing, MakesEpoch, standing_state}
 pub use Rattle.jn_store.specs.Choices.{IsChoice, Agree, with_page}
-pub use Rattle.jn_records.specs.Heads.{head_at, IsHead, FileFits, head_bytes}
+pub use Rattle.jn_records.specs.Heads.{head_at, IsHead, FileFits, addresses_bytes, all_within, head_bytes}
 unfoldable pub use Rattle.jn_records.specs.Heads.{head_page}
 pub use Rattle.jn_records.specs.Reading.{root_at}
 pub use Rattle.jn_records.specs.Records.{record_at, record_page}
-pub use Rattle.jn_base.specs.Limits.{most_blocks, head_blocks}
+pub use Rattle.jn_base.specs.Limits.{most_blocks, head_blocks, most_maps}
 pub use Rattle.std.proofs.Math.Path.{fun_ext}
 pub use Rattle.jn_base.specs.declared.names.FileNo.{FileNo}
 pub use Rattle.jn_base.specs.declared.names.BlockNo.{BlockNo}
@@ -47,7 +47,7 @@ pub use Rattle.jn_records.specs.declared.head.Head.TheVariants.{Free as FreeHead
 pub use Rattle.jn_records.proofs.Heads.{head_is_read}
 pub use Rattle.jn_records.specs.declared.intention.What.{What}
 pub use Rattle.jn_records.specs.declared.intention.What.TheVariants.{Fresh, Gone, Cut, Put}
-pub use Rattle.jn_records.specs.Pages.{root_page, IsRoot}
+pub use Rattle.jn_records.specs.Pages.{root_page, format_version, IsRoot}
 pub use Rattle.jn_records.proofs.Roots.{root_is_read}
 pub use Rattle.jn_store.proofs.Laws.{same_shrinks, cleaned_kept}
 pub use Rattle.jn_records.specs.Sound.{Image, IsSound, Names}

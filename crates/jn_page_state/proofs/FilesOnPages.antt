@@ -11,25 +11,25 @@ module _ (g : Counts) (pages : Pages) (few : g.leaves < 2 ^ 16) where
   behind_same zero = refl
   behind_same (suc d) = refl
 
-  same_blocks : (page : List ℕ) (f : FileNo) (xs : List ℕ) → IsHead g.leaves (Used f xs) → FileFits (Used f xs) → page ≡ head_page (Used f xs) → SameBlocks page (Used f xs)
-  same_blocks page f xs is fits e p = ⊎_elim
+  same_blocks : (page : List ℕ) (f : FileNo) (xs maps : List ℕ) → IsHead g.leaves (Used f xs maps) → FileFits (Used f xs maps) → page ≡ head_page (Used f xs maps) → SameBlocks page (Used f xs maps)
+  same_blocks page f xs maps is fits e p = ⊎_elim
       (λ below. let t : nat_lt p.0 most_blocks ≡ true = grind (arith, nat_tests, below) in
-      ap (λ b. if b then block_behind g pages (address_in page p.0) else None) t ∙ ap (block_behind g pages) (used_address g.leaves page few f xs is fits e p.0 below) ∙ behind_same (slice_index_or xs p.0 0))
+      ap (λ b. if b then block_behind g pages (address_in page p.0) else None) t ∙ ap (block_behind g pages) (used_address g.leaves page few f xs maps is fits e p.0 below) ∙ behind_same (slice_index_or xs p.0 0))
       (λ past. let t : nat_lt p.0 most_blocks ≡ false = grind (arith, nat_tests, past) in
-      ap (λ b. if b then block_behind g pages (address_in page p.0) else None) t ∙ sym (ap (behind (block_on g pages)) (get_or_past xs p.0 0 (omega (arith, past, whole g.leaves page few f xs is fits e)))))
+      ap (λ b. if b then block_behind g pages (address_in page p.0) else None) t ∙ sym (ap (behind (block_on g pages)) (get_or_past xs p.0 0 (omega (arith, past, whole g.leaves page few f xs maps is fits e)))))
       (cases_lt p.0 most_blocks)
 
   -- a head stands on its page
   pub stands : (page : List ℕ) (h : Head) (is : IsHead g.leaves h) (fits : FileFits h) (e : page ≡ head_page h) (f : FileNo) → is_page_of f page ≡ is_head_of f h
   stands page FreeHead is fits e f = grind (arith, free_unused g.leaves page few e)
-  stands page (Used k xs) is fits e f = grind (arith, nat_tests, used_kind g.leaves page few k xs is fits e, used_file g.leaves page few k xs is fits e)
+  stands page (Used k xs maps) is fits e f = grind (arith, nat_tests, used_kind g.leaves page few k xs maps is fits e, used_file g.leaves page few k xs maps is fits e)
 
   blocks_if : (page : List ℕ) (h : Head) → IsHead g.leaves h → FileFits h → page ≡ head_page h → (f : FileNo) → is_head_of f h ≡ true → SameBlocks page h
   blocks_if page FreeHead is fits e f t = absurd (nothing t)
     where
       nothing : false ≡ true → ⊥
       nothing t = grind arith
-  blocks_if page (Used k xs) is fits e f t = same_blocks page k xs is fits e
+  blocks_if page (Used k xs maps) is fits e f t = same_blocks page k xs maps is fits e
 
   -- what is found of a file on the pages, and in the heads
   data Pairs (o : Option (List ℕ)) (q : Option Head) : Type 0 where

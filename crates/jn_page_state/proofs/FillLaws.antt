@@ -22,7 +22,7 @@ module _ (one two : ℕ → List ℕ) where
   -- the data page that a head has for a block
   has_at : (p : BlockNo) (h : Head) (d : ℕ) → address_at h p ≡ suc d → has_address (suc d) h ≡ true
   has_at p FreeHead d e = absurd (omega (arith, e))
-  has_at p (Used f xs) d e = passes_any (λ b. nat_eq b (suc d)) 0 xs p.0 none_is (same (get_or xs p.0 0) e)
+  has_at p (Used f xs maps) d e = passes_any (λ b. nat_eq b (suc d)) 0 xs p.0 none_is (same (get_or xs p.0 0) e)
     where
       none_is : nat_eq 0 (suc d) ≡ false
       none_is = grind (arith, nat_tests)

@@ -6,7 +6,7 @@ use Rattle.jn_page_state.proofs.HeadLaws.{carried_law}
 
 pub one_file : (f g : FileNo) (h : Head) → is_head_of f h ≡ true → is_head_of g h ≡ true → f ≡ g
 one_file f g FreeHead s t = absurd (true≢false (sym s))
-one_file f g (Used k xs) s t = grind (arith, file_tells)
+one_file f g (Used k xs maps) s t = grind (arith, file_tells)
 
 -- where an address stands after an intention: it was there, or is the intention's own
 came_from : (what : What) (n p : BlockNo) (a d old : ℕ) → address_after what n a p old ≡ suc d → (old ≡ suc d) ⊎ ((a ≡ suc d) × (p ≡ n))
@@ -22,17 +22,17 @@ came_from Put n p a d old e = ⊎_elim (λ h. inr (ap (λ b. if b then a else ol
 -- where an old address stays the head was the file's
 still_head : (what : What) (f : FileNo) (n p : BlockNo) (a d : ℕ) (h : Head) → serves_for what f h ≡ true → address_at h p ≡ suc d → is_head_of f h ≡ true
 still_head what f n p a d FreeHead s e = absurd (omega (arith, e))
-still_head Fresh f n p a d (Used k xs) s e = s
-still_head Gone f n p a d (Used k xs) s e = s
-still_head Cut f n p a d (Used k xs) s e = s
-still_head Put f n p a d (Used k xs) s e = s
+still_head Fresh f n p a d (Used k xs maps) s e = s
+still_head Gone f n p a d (Used k xs maps) s e = s
+still_head Cut f n p a d (Used k xs maps) s e = s
+still_head Put f n p a d (Used k xs maps) s e = s
 
 after_head : (what : What) (f g : FileNo) (h : Head) → is_head_after what f h ≡ true → is_head_of g h ≡ true → f ≡ g
 after_head what f g FreeHead s t = absurd (true≢false (sym t))
-after_head Gone f g (Used k xs) s t = absurd (true≢false (sym s))
-after_head Fresh f g (Used k xs) s t = grind (arith, file_tells)
-after_head Cut f g (Used k xs) s t = grind (arith, file_tells)
-after_head Put f g (Used k xs) s t = grind (arith, file_tells)
+after_head Gone f g (Used k xs maps) s t = absurd (true≢false (sym s))
+after_head Fresh f g (Used k xs maps) s t = grind (arith, file_tells)
+after_head Cut f g (Used k xs maps) s t = grind (arith, file_tells)
+after_head Put f g (Used k xs maps) s t = grind (arith, file_tells)
 
 module _ (c : Contents) (i : StoredIntention) (place : ℕ) (new : Head) (put : IsHeadPut c.heads i place new) where
   abbrev old : Head

@@ -44,20 +44,20 @@ serves_other Fresh f g FreeHead s e = refl
 serves_other Gone f g FreeHead s e = refl
 serves_other Cut f g FreeHead s e = refl
 serves_other Put f g FreeHead s e = refl
-serves_other Fresh f g (Used k addresses) s e = grind (arith, file_tells)
-serves_other Gone f g (Used k addresses) s e = grind (arith, file_tells)
-serves_other Cut f g (Used k addresses) s e = grind (arith, file_tells)
-serves_other Put f g (Used k addresses) s e = grind (arith, file_tells)
+serves_other Fresh f g (Used k addresses maps) s e = grind (arith, file_tells)
+serves_other Gone f g (Used k addresses maps) s e = grind (arith, file_tells)
+serves_other Cut f g (Used k addresses maps) s e = grind (arith, file_tells)
+serves_other Put f g (Used k addresses maps) s e = grind (arith, file_tells)
 
 after_other : (what : What) (f g : FileNo) (h : Head) → is_head_after what f h ≡ true → file_eq f g ≡ false → is_head_of g h ≡ false
 after_other Gone f g FreeHead s e = refl
 after_other Fresh f g FreeHead s e = refl
 after_other Cut f g FreeHead s e = refl
 after_other Put f g FreeHead s e = refl
-after_other Gone f g (Used k addresses) s e = absurd (true≢false (sym s))
-after_other Fresh f g (Used k addresses) s e = grind (arith, file_tells)
-after_other Cut f g (Used k addresses) s e = grind (arith, file_tells)
-after_other Put f g (Used k addresses) s e = grind (arith, file_tells)
+after_other Gone f g (Used k addresses maps) s e = absurd (true≢false (sym s))
+after_other Fresh f g (Used k addresses maps) s e = grind (arith, file_tells)
+after_other Cut f g (Used k addresses maps) s e = grind (arith, file_tells)
+after_other Put f g (Used k addresses maps) s e = grind (arith, file_tells)
 
 -- what is found at the file, before and after
 abbrev found_if : FileNo → Head → Option Head
@@ -71,13 +71,13 @@ module _ (blocks : ℕ → List ℕ) (f : FileNo) (n : BlockNo) (a : ℕ) (old n
   file_by Cut s t = grind (arith, file_tells)
   file_by Put s t = grind (arith, file_tells)
 
-  block_by : (what : What) (p : BlockNo) → names_what_it_needs what n.0 a ≡ true → serves_for what f old ≡ true → is_head_after what f new ≡ true
+  block_by : (what : What) (p : BlockNo) (m : ℕ) → names_what_it_needs what n.0 a m ≡ true → serves_for what f old ≡ true → is_head_after what f new ≡ true
       → address_at new p ≡ address_after what n a p (address_at old p)
       → option_and_then (block_in blocks p) (found_if f new) ≡ change (change_by what f n (bytes_by blocks what a)) (λ u. option_and_then (block_in blocks p) (found_if f old)) (Block f p)
-  block_by Fresh p needs s t e = grind (arith, file_tells, e)
-  block_by Gone p needs s t e = grind (arith, file_tells, e)
-  block_by Cut p needs s t e = grind (arith, file_tells, e)
-  block_by Put p needs s t e = grind (arith, file_tells, block_tells, e)
+  block_by Fresh p m needs s t e = grind (arith, file_tells, e)
+  block_by Gone p m needs s t e = grind (arith, file_tells, e)
+  block_by Cut p m needs s t e = grind (arith, file_tells, e)
+  block_by Put p m needs s t e = grind (arith, file_tells, block_tells, e)
 
 module _ (c : Contents) (i : StoredIntention) (place : ℕ) (new : Head) (put : IsHeadPut c.heads i place new) where
   abbrev old : Head
@@ -98,7 +98,7 @@ module _ (c : Contents) (i : StoredIntention) (place : ℕ) (new : Head) (put : 
       (λ g p e. (other_block i.what i.file g i.block p (bytes_by c.blocks i.what i.address) e, ap (option_and_then (block_in c.blocks p)) (other_found g e)))
       (ap (option_map (λ h. there)) after ∙ file_by c.blocks i.file i.block i.address old new i.what put.serves put.file_after
       ∙ ap (λ o. change (intention_change (intended c.blocks i)) (λ u. option_map (λ h. there) o) (File i.file)) (sym before))
-      (λ p. ap (option_and_then (block_in c.blocks p)) after ∙ block_by c.blocks i.file i.block i.address old new i.what p put.names put.serves put.file_after (put.addresses p)
+      (λ p. ap (option_and_then (block_in c.blocks p)) after ∙ block_by c.blocks i.file i.block i.address old new i.what p i.map put.names put.serves put.file_after (put.addresses p)
       ∙ ap (λ o. change (intention_change (intended c.blocks i)) (λ u. option_and_then (block_in c.blocks p) o) (Block i.file p)) (sym before))
 
   pub carried_law : state_in (with_head c place new) ≡ record (state_in c) { files = change (intention_change (intended c.blocks i)) (files_in c.heads c.blocks) }

@@ -1,5 +1,5 @@
 -- A head's page, field by field.
-use Rattle.jn_page_state.proofs.Common.{head_blocks, ◌≡◌, ◌<◌, ◌+◌, ◌*◌, ◌^◌, ◌++◌, ◌-◌, ℕ, zero, suc, true, false, List, [], ◌∷◌, length, drop, replicate, refl, sym, ap, ◌∙◌, arith, slice_index, nat_le, flat_map, list_all, AllByRecursion, nat_tests, append_assoc, drop_at, length-append, FileNo, FreeHead, Used, head_bytes, head_page, IsHead, FileFits, is_used, file_in, address_in}
+use Rattle.jn_page_state.proofs.Common.{head_blocks, most_maps, nat_eq, ◌≡◌, ◌<◌, ◌+◌, ◌*◌, ◌^◌, ◌++◌, ◌-◌, ℕ, zero, suc, true, false, List, [], ◌∷◌, length, drop, replicate, refl, sym, ap, ◌∙◌, arith, slice_index, nat_le, flat_map, list_all, AllByRecursion, nat_tests, append_assoc, drop_at, length-append, FileNo, FreeHead, Used, addresses_bytes, all_within, head_bytes, head_page, IsHead, FileFits, is_used, file_in, address_in, and_parts}
 use Rattle.byteorder.specs.Endian.{big_bytes, big_number}
 use Rattle.byteorder.specs.Numbers.{big_number-reads_back, length-bytes_high_first}
 
@@ -31,23 +31,27 @@ module _ (leaves : ℕ) (page : List ℕ) (few : leaves < 2 ^ 16) where
   unfolding head_page
   free_unused e = ap is_used e
 
-  module _ (f : FileNo) (xs : List ℕ) (is : IsHead leaves (Used f xs)) (fits : FileFits (Used f xs)) (e : page ≡ head_page (Used f xs)) where
-    rest : List ℕ
-    rest = replicate (512 - length (head_bytes (Used f xs))) 0
+  module _ (f : FileNo) (xs maps : List ℕ) (is : IsHead leaves (Used f xs maps)) (fits : FileFits (Used f xs maps)) (e : page ≡ head_page (Used f xs maps)) where
+    -- the addresses of map pages, and the zeros behind them
+    abbrev behind : List ℕ
+    behind = addresses_bytes maps ++ replicate (512 - length (head_bytes (Used f xs maps))) 0
 
-    regrouped : page ≡ 1 ∷ (big_bytes 4 f.0 ++ (flat_map (λ a. two a) xs ++ replicate (512 - length (head_bytes (Used f xs))) 0))
+    spelled : head_page (Used f xs maps) ≡ 1 ∷ (big_bytes 4 f.0 ++ ((addresses_bytes xs ++ addresses_bytes maps) ++ replicate (512 - length (head_bytes (Used f xs maps))) 0))
     unfolding head_page
-    regrouped = e
+    spelled = refl
+
+    regrouped : page ≡ 1 ∷ (big_bytes 4 f.0 ++ (addresses_bytes xs ++ (addresses_bytes maps ++ replicate (512 - length (head_bytes (Used f xs maps))) 0)))
+    regrouped = e ∙ spelled ∙ ap (λ (l : List ℕ). 1 ∷ (big_bytes 4 f.0 ++ l)) (append_assoc (addresses_bytes xs) (addresses_bytes maps) (replicate (512 - length (head_bytes (Used f xs maps))) 0))
 
     pub used_kind : is_used page ≡ true
     used_kind = ap is_used regrouped
 
     pub used_file : file_in page ≡ f.0
-    used_file = ap file_in regrouped ∙ big_number-reads_back 4 f.0 (flat_map (λ a. two a) xs ++ replicate (512 - length (head_bytes (Used f xs))) 0) (omega (arith, fits))
+    used_file = ap file_in regrouped ∙ big_number-reads_back 4 f.0 (addresses_bytes xs ++ behind) (omega (arith, fits))
 
     pub whole : length xs ≡ head_blocks
-    whole = grind (arith, nat_tests, is.whole)
+    whole = let long = (and_parts (nat_eq (length xs) head_blocks) (nat_eq (length maps) most_maps) is.whole).0 in grind (arith, nat_tests, long)
 
     pub used_address : (p : ℕ) → p < head_blocks → address_in page p ≡ slice_index xs p
     used_address p below = ap (λ (l : List ℕ). address_in l p) regrouped
-        ∙ address_again (1 ∷ big_bytes 4 f.0) 5 xs (replicate (512 - length (head_bytes (Used f xs))) 0) p refl (omega (arith, below, whole)) (fits_all leaves xs few is.within_leaves)
+        ∙ address_again (1 ∷ big_bytes 4 f.0) 5 xs behind p refl (omega (arith, below, whole)) (fits_all leaves xs few (and_parts (all_within leaves xs) (all_within 0 maps) is.within_leaves).0)

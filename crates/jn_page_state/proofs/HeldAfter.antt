@@ -1,5 +1,5 @@
 -- What a store holds after a put that is done.
-use Rattle.jn_page_state.proofs.Common.{◌≡◌, ◌≢◌, ⊎_elim, ◌<◌, ℕ, true, List, length, refl, sym, subst, ◌∙◌, arith, slice_set, length-set, ServerNo, Head, FreeHead, Record, Free, head_page, root_page, record_page, Counts, page_count, slot_place, head_place, slot_page, record_in, IsStored, StoreView, IsOnly, head_in, root_by, PagePut, RootPut, RecordPut, HeadPut, BlockPut, put_place, IsPagePut, PutStep, IsHeadStored, IsHeld, epoch_after, records_after, heads_after}
+use Rattle.jn_page_state.proofs.Common.{◌≡◌, ◌≢◌, ⊎_elim, ◌<◌, ℕ, true, List, length, refl, sym, subst, ◌∙◌, arith, slice_set, length-set, ServerNo, Head, FreeHead, Record, Free, head_page, root_page, format_version, record_page, Counts, page_count, slot_place, head_place, slot_page, record_in, IsStored, StoreView, IsOnly, head_in, root_by, PagePut, RootPut, RecordPut, HeadPut, BlockPut, put_place, IsPagePut, PutStep, IsHeadStored, IsHeld, epoch_after, records_after, heads_after}
 use Rattle.jn_page_state.proofs.Slots.{at_set}
 
 module _ (server : ServerNo) (g : Counts) (v w : StoreView) (epoch : ℕ) (records : List Record) (heads : List Head) (held : IsHeld server g v epoch records heads) where
@@ -14,8 +14,8 @@ module _ (server : ServerNo) (g : Counts) (v w : StoreView) (epoch : ℕ) (recor
     still_counted : page_count g ≡ w.count
     still_counted = count ∙ sym step.later.count
 
-    root_kept : 0 ≢ put_place g put → IsOnly w 0 (root_page (root_by server g epoch))
-    root_kept ne = kept 0 (root_page (root_by server g epoch)) (omega arith) ne held.root
+    root_kept : 0 ≢ put_place g put → IsOnly w 0 (root_page (record (root_by server g epoch) { version = held.version }))
+    root_kept ne = kept 0 (root_page (record (root_by server g epoch) { version = held.version })) (omega arith) ne held.root
 
     slot_kept : (slot : ℕ) → slot < length records → slot_place g slot ≢ put_place g put → IsStored w slot (record_in records slot)
     slot_kept slot lt ne =
@@ -31,6 +31,7 @@ module _ (server : ServerNo) (g : Counts) (v w : StoreView) (epoch : ℕ) (recor
   pub held_after : (put : PagePut) → IsPagePut server g put → PutStep server g v put true w → IsHeld server g w (epoch_after put epoch) (records_after put records) (heads_after put heads)
   held_after (RootPut later) is step = record {
     count = still_counted (RootPut later) step;
+    version = format_version;
     root_fits = is;
     root = step.done refl;
     slots = held.slots;
@@ -40,6 +41,7 @@ module _ (server : ServerNo) (g : Counts) (v w : StoreView) (epoch : ℕ) (recor
   }
   held_after (BlockPut d block) is step = record {
     count = still_counted (BlockPut d block) step;
+    version = held.version;
     root_fits = held.root_fits;
     root = root_kept (BlockPut d block) step (λ e. omega (arith, e));
     slots = held.slots;
@@ -49,6 +51,7 @@ module _ (server : ServerNo) (g : Counts) (v w : StoreView) (epoch : ℕ) (recor
   }
   held_after (RecordPut slot r) is step = record {
     count = still_counted (RecordPut slot r) step;
+    version = held.version;
     root_fits = held.root_fits;
     root = root_kept (RecordPut slot r) step (λ e. omega (arith, e));
     slots = length-set records slot r ∙ held.slots;
@@ -70,6 +73,7 @@ module _ (server : ServerNo) (g : Counts) (v w : StoreView) (epoch : ℕ) (recor
       at i e = omega (arith, e)
   held_after (HeadPut place h) is step = record {
     count = still_counted (HeadPut place h) step;
+    version = held.version;
     root_fits = held.root_fits;
     root = root_kept (HeadPut place h) step (λ e. omega (arith, e));
     slots = held.slots;

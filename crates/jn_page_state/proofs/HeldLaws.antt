@@ -31,7 +31,7 @@ module _ (server : ServerNo) (g : Counts) (v : StoreView) (epoch : ℕ) (records
 
   pub contents_held : (c : Pick) → contents_by g v c ≡ held_contents g v epoch records heads c
   contents_held c = contents_as (contents_by g v c) (held_contents g v epoch records heads c)
-      (ap epoch_by (root_is_read (pages_by v c 0) (root_by server g epoch) held.root_fits (by_pick c 0 (root_page (root_by server g epoch)) (omega arith) held.root)))
+      (ap epoch_by (root_is_read (pages_by v c 0) (record (root_by server g epoch) { version = held.version }) held.root_fits (by_pick c 0 (root_page (record (root_by server g epoch) { version = held.version })) (omega arith) held.root)))
       (pool_says g (pages_by v c) records held.slots (says c))
       (heads_say g (pages_by v c) heads held.root_fits.leaves held.places (heads_by c))
       refl

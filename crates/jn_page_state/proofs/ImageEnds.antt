@@ -1,5 +1,5 @@
 -- A store without records, each page of which is whole, is one of a sound image.
-use Rattle.jn_page_state.proofs.Common.{most_blocks, ◌≡◌, ◌<◌, ◌≤◌, ◌+◌, ◌*◌, ◌-◌, ◌^◌, ℕ, zero, suc, Bool, true, false, if◌then◌else◌, List, [], refl, sym, ◌∙◌, ap, subst, true≢false, arith, nat_tests, nat_lt, drop, BlockNo, FileNo, ServerNo, Head, FreeHead, Used, Record, Free, head_page, IsHead, FileFits, record_page, Image, IsSound, Names, Counts, page_count, slot_place, head_place, data_place, is_used, file_in, address_in, record_in, slot_page, StoreView, IsWholePage, head_in, is_head_of, address_at, held_contents, image_on, place_in, IsImage, pages_by, IsConsistent, Addresses, IsStanding, standing_state}
+use Rattle.jn_page_state.proofs.Common.{most_blocks, ◌≡◌, inr, ◌<◌, ◌≤◌, ◌+◌, ◌*◌, ◌-◌, ◌^◌, ℕ, zero, suc, Bool, true, false, if◌then◌else◌, List, [], refl, sym, ◌∙◌, ap, subst, true≢false, arith, nat_tests, nat_lt, drop, BlockNo, FileNo, ServerNo, Head, FreeHead, Used, Record, Free, head_page, root_page, root_by, IsHead, FileFits, record_page, Image, IsSound, Names, Counts, page_count, slot_place, head_place, data_place, is_used, file_in, address_in, record_in, slot_page, StoreView, IsOnly, IsWholePage, head_in, is_head_of, address_at, held_contents, image_on, place_in, IsImage, pages_by, IsConsistent, Addresses, IsStanding, standing_state}
 use Rattle.jn_page_state.proofs.FilesOnPages.{stands}
 use Rattle.jn_page_state.proofs.HeadPages.{free_unused, used_address}
 use Rattle.jn_page_state.proofs.HeldLaws.{contents_held}
@@ -14,14 +14,14 @@ past_is a b h = grind (arith, nat_tests)
 -- the file of a used head
 head_file : (leaves : ℕ) (page : List ℕ) (few : leaves < 2 ^ 16) (h : Head) → page ≡ head_page h → is_used page ≡ true → (f : FileNo) × (is_head_of f h ≡ true)
 head_file leaves page few FreeHead e used = absurd (true≢false (sym used ∙ free_unused leaves page few e))
-head_file leaves page few (Used f xs) e used = (f, grind (arith, nat_tests))
+head_file leaves page few (Used f xs maps) e used = (f, grind (arith, nat_tests))
 
 head_address : (leaves : ℕ) (page : List ℕ) (few : leaves < 2 ^ 16) (h : Head) → IsHead leaves h → FileFits h → page ≡ head_page h → is_used page ≡ true → (p : ℕ) → p < most_blocks → address_at h (record { 0 = p }) ≡ address_in page p
 head_address leaves page few FreeHead is fits e used p lt = absurd (true≢false (sym used ∙ free_unused leaves page few e))
-head_address leaves page few (Used f xs) is fits e used p lt = sym (used_address leaves page few f xs is fits e p lt)
+head_address leaves page few (Used f xs maps) is fits e used p lt = sym (used_address leaves page few f xs maps is fits e p lt)
 
 module _ (server : ServerNo) (g : Counts) (v : StoreView) (epoch : ℕ) (records : List Record) (heads : List Head) (standing : IsStanding server g v epoch records heads)
-    (free : (i : ℕ) → record_in records i ≡ Free) (whole : (i : ℕ) → i < v.count → IsWholePage v i) where
+    (root : IsOnly v 0 (root_page (root_by server g epoch))) (free : (i : ℕ) → record_in records i ≡ Free) (whole : (i : ℕ) → i < v.count → IsWholePage v i) where
   abbrev m : Image
   m = image_on server g v
 
@@ -87,7 +87,7 @@ module _ (server : ServerNo) (g : Counts) (v : StoreView) (epoch : ℕ) (records
   sound : IsSound server (image_on server g v)
   sound = record {
     server = refl;
-    root = (epoch, standing.held.root_fits.epoch, page_is 0 (omega arith) ∙ standing.held.root.first);
+    root = (epoch, standing.held.root_fits.epoch, page_is 0 (omega arith) ∙ root.first, inr refl);
     good = good;
     pairs = halves;
     pool = λ i lt. let at : slot_place g i ≡ slot_page i = omega arith in page_is (slot_place g i) (omega (arith, lt)) ∙ ap v.first at ∙ (standing.held.pool i (let e = standing.held.slots in omega (arith, lt, e))).only.first ∙ ap record_page (free i);

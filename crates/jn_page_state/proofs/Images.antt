@@ -8,7 +8,7 @@ use Rattle.jn_page_state.proofs.Slots.{passes_at}
 abbrev pub listed_files : List Head → List FileNo
 listed_files [] = []
 listed_files (FreeHead ∷ heads) = listed_files heads
-listed_files (Used f addresses ∷ heads) = f ∷ listed_files heads
+listed_files (Used f addresses maps ∷ heads) = f ∷ listed_files heads
 
 abbrev has_head : List Head → FileNo → Bool
 has_head heads f = is_some (option_map (λ h. there) (find (is_head_of f) heads))
@@ -16,9 +16,9 @@ has_head heads f = is_some (option_map (λ h. there) (find (is_head_of f) heads)
 listed_all : (heads : List Head) (f : FileNo) → is_in file_eq f (listed_files heads) ≡ has_head heads f
 listed_all [] f = refl
 listed_all (FreeHead ∷ heads) f = listed_all heads f
-listed_all (Used g addresses ∷ heads) f = by (file_eq g f) (listed_all heads f)
+listed_all (Used g addresses maps ∷ heads) f = by (file_eq g f) (listed_all heads f)
   where
-    by : (b : Bool) → is_in file_eq f (listed_files heads) ≡ has_head heads f → (b || is_in file_eq f (listed_files heads)) ≡ is_some (option_map (λ h. there) (if b then Some (Used g addresses) else find (is_head_of f) heads))
+    by : (b : Bool) → is_in file_eq f (listed_files heads) ≡ has_head heads f → (b || is_in file_eq f (listed_files heads)) ≡ is_some (option_map (λ h. there) (if b then Some (Used g addresses maps) else find (is_head_of f) heads))
     by true rest = refl
     by false rest = rest
 
@@ -36,7 +36,7 @@ later_once h heads once f i j a b = let e = once f (suc i) (suc j) a b in omega 
 listed_differ : (heads : List Head) → ((f : FileNo) → PassesOnce (λ i. is_head_of f (head_in heads i))) → are_different file_eq (listed_files heads) ≡ true
 listed_differ [] once = refl
 listed_differ (FreeHead ∷ heads) once = listed_differ heads (later_once FreeHead heads once)
-listed_differ (Used g addresses ∷ heads) once = by (is_in file_eq g (listed_files heads)) refl (listed_differ heads (later_once (Used g addresses) heads once))
+listed_differ (Used g addresses maps ∷ heads) once = by (is_in file_eq g (listed_files heads)) refl (listed_differ heads (later_once (Used g addresses maps) heads once))
   where
     same : file_eq g g ≡ true
     same = grind (arith, file_tells)
@@ -51,7 +51,7 @@ listed_differ (Used g addresses ∷ heads) once = by (is_in file_eq g (listed_fi
 listed_few : (heads : List Head) → length (listed_files heads) ≤ length heads
 listed_few [] = omega arith
 listed_few (FreeHead ∷ heads) = let h = listed_few heads in omega (arith, h)
-listed_few (Used f addresses ∷ heads) = let h = listed_few heads in omega (arith, h)
+listed_few (Used f addresses maps ∷ heads) = let h = listed_few heads in omega (arith, h)
 
 pub files_listing : (heads : List Head) → ((f : FileNo) → PassesOnce (λ i. is_head_of f (head_in heads i)))
     → IsListing file_eq (λ f. is_some (option_map (λ h. there) (find (is_head_of f) heads))) (listed_files heads) × (length (listed_files heads) ≤ length heads)

@@ -40,19 +40,19 @@ addresses_named c i f p d h = passes_any (has_address (suc d)) FreeHead c.heads 
 
     by : (h : Head) → address_at h p ≡ suc d → has_address (suc d) h ≡ true
     by FreeHead e = absurd (omega (arith, e))
-    by (Used k xs) e = passes_any (λ b. nat_eq b (suc d)) 0 xs p.0 none_is (same (get_or xs p.0 0) e)
+    by (Used k xs maps) e = passes_any (λ b. nat_eq b (suc d)) 0 xs p.0 none_is (same (get_or xs p.0 0) e)
 
 pub named_addresses : (c : Contents) (d : ℕ) → heads_name c.heads (suc d) ≡ true → (i : ℕ) × (f : FileNo) × (p : BlockNo) × Addresses c.heads i f p (suc d)
 named_addresses c d named =
     let at = passes_at (has_address (suc d)) FreeHead c.heads named in by at.0 (head_in c.heads at.0) refl at.1
   where
-    file_same : (f : FileNo) (h : Head) (xs : List ℕ) → h ≡ Used f xs → is_head_of f h ≡ true
-    file_same f h xs e = ap (is_head_of f) e ∙ grind (arith, nat_tests)
+    file_same : (f : FileNo) (h : Head) (xs maps : List ℕ) → h ≡ Used f xs maps → is_head_of f h ≡ true
+    file_same f h xs maps e = ap (is_head_of f) e ∙ grind (arith, nat_tests)
 
     by : (i : ℕ) (h : Head) → head_in c.heads i ≡ h → has_address (suc d) h ≡ true → (i : ℕ) × (f : FileNo) × (p : BlockNo) × Addresses c.heads i f p (suc d)
     by i FreeHead e t = absurd (true≢false (sym t))
-    by i (Used f xs) e t = let at = passes_at (λ b. nat_eq b (suc d)) 0 xs t in
-        (i, f, record { 0 = at.0 }, record { head = file_same f (head_in c.heads i) xs e; address = ap (λ h. address_at h (record { 0 = at.0 })) e ∙ same (get_or xs at.0 0) at.1 })
+    by i (Used f xs maps) e t = let at = passes_at (λ b. nat_eq b (suc d)) 0 xs t in
+        (i, f, record { 0 = at.0 }, record { head = file_same f (head_in c.heads i) xs maps e; address = ap (λ h. address_at h (record { 0 = at.0 })) e ∙ same (get_or xs at.0 0) at.1 })
       where
         same : (a : ℕ) → nat_eq a (suc d) ≡ true → a ≡ suc d
         same a t = grind (arith, nat_tests)

@@ -1,10 +1,10 @@
 -- A put of any page, as a change of what the pages say.
-use Rattle.jn_page_state.proofs.Common.{◌≡◌, ◌≢◌, inl, inr, ◌<◌, ◌^◌, ◌++◌, ℕ, List, refl, sym, ap, subst, ◌∙◌, arith, replicate, cases_eq, take_at, drop_at, ServerNo, Counts, Pages, slot_place, head_place, data_place, IsRecordPage, with_page, with_same, with_other, with_block, root_by, contents_of, IsRootPage, IsHeadPage, IsDataPage, IsOfFormat, PagePut, RootPut, RecordPut, HeadPut, BlockPut, put_place, put_page, IsPagePut, put_in}
+use Rattle.jn_page_state.proofs.Common.{◌≡◌, ◌≢◌, inl, inr, ◌<◌, ◌^◌, ◌++◌, ℕ, List, refl, sym, ap, subst, ◌∙◌, arith, replicate, cases_eq, take_at, drop_at, ServerNo, Counts, Pages, slot_place, head_place, data_place, IsRecordPage, with_page, with_same, with_other, with_block, root_by, format_version, contents_of, IsRootPage, IsHeadPage, IsDataPage, IsOfFormat, PagePut, RootPut, RecordPut, HeadPut, BlockPut, put_place, put_page, IsPagePut, put_in}
 use Rattle.jn_page_state.proofs.PageChanges.{record_put, head_put, data_put, root_put}
 
 module _ (server : ServerNo) (g : Counts) (pages : Pages) (format : IsOfFormat server g pages) where
   few : g.leaves < 2 ^ 16
-  few = format.root.1.leaves
+  few = format.root.2.leaves
 
   pub put_is_read : (put : PagePut) → IsPagePut server g put → contents_of g (with_page pages (put_place g put) (put_page server g put)) ≡ put_in put (contents_of g pages)
   put_is_read (RootPut epoch) is = root_put g pages (root_by server g epoch) is
@@ -25,7 +25,7 @@ module _ (server : ServerNo) (g : Counts) (pages : Pages) (format : IsOfFormat s
 
   pub keeps_format : (put : PagePut) → IsPagePut server g put → IsOfFormat server g (with_page pages (put_place g put) (put_page server g put))
   keeps_format (RootPut epoch) is = record {
-    root = either 0 (put_page server g (RootPut epoch)) (IsRootPage server g) 0 (epoch, is, refl) format.root;
+    root = either 0 (put_page server g (RootPut epoch)) (IsRootPage server g) 0 (format_version, epoch, is, refl) format.root;
     pool = λ i lt. other 0 (put_page server g (RootPut epoch)) IsRecordPage (slot_place g i) (λ e. omega (arith, e)) (format.pool i lt);
     heads = λ i lt. other 0 (put_page server g (RootPut epoch)) (IsHeadPage g.leaves) (head_place g i) (λ e. omega (arith, e)) (format.heads i lt);
     data_pages = λ d lt. other 0 (put_page server g (RootPut epoch)) IsDataPage (data_place g d) (λ e. omega (arith, e)) (format.data_pages d lt);

@@ -105,7 +105,7 @@ module _ (server : ServerNo) (g : Counts) (v : StoreView) (put : PagePut) (ok : 
   new_contents c = put_is_read server g (pages_by v c) (is.readable.each c) put is.page
 
   new_state : (c : Pick) → state_of g (with_page (pages_by v c) (put_place g put) (put_page server g put)) ≡ state_in (put_in put (contents_by g v c))
-  new_state c = state_on_pages g (with_page (pages_by v c) (put_place g put) (put_page server g put)) (is.readable.each c).root.1.leaves (new_format c).heads ∙ ap (λ x. state_in x) (new_contents c)
+  new_state c = state_on_pages g (with_page (pages_by v c) (put_place g put) (put_page server g put)) (is.readable.each c).root.2.leaves (new_format c).heads ∙ ap (λ x. state_in x) (new_contents c)
 
   pub still_readable : IsReadable server g w
   still_readable = record {

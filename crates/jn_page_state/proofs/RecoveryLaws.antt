@@ -21,7 +21,7 @@ module _ (server : ServerNo) (g : Counts) where
   readable v before = record { count = before.count; each = λ c. (before.each c).of_format }
 
   as_said : (v : StoreView) → IsRecoverable server g v → (c : Pick) → found_on g v c ≡ state_in (contents_by g v c)
-  as_said v before c = let format = (before.each c).of_format in state_on_pages g (pages_by v c) format.root.1.leaves format.heads
+  as_said v before c = let format = (before.each c).of_format in state_on_pages g (pages_by v c) format.root.2.leaves format.heads
 
   -- a put whose every pick has the same state, epochs aside
   put_finds : (v w : StoreView) (put : PagePut) (ok : Bool) → IsRecoverable server g v → IsPagePut server g put → PutStep server g v put ok w

@@ -80,9 +80,10 @@ module _ (s : ServerNo) (m : Image) (sound : IsSound s m) (fit : CountsFit s m.c
   pub image_format : IsOfFormat s m.counts (pages_by v c)
   image_format = record {
     root = (
+      m.version,
       sound.root.0,
-      record { version = refl; server = fit.server_fits; pool = fit.pool; heads = fit.heads; leaves = fit.leaves; epoch = sound.root.1 },
-      page_at 0 (omega arith) ∙ sound.root.2 ∙ ap (λ q. root_page (root_by q m.counts sound.root.0)) sound.server,
+      record { version = sound.root.3; server = fit.server_fits; pool = fit.pool; heads = fit.heads; leaves = fit.leaves; epoch = sound.root.1 },
+      page_at 0 (omega arith) ∙ sound.root.2 ∙ ap (λ q. root_page (record (root_by q m.counts sound.root.0) { version = m.version })) sound.server,
     );
     pool = λ i lt. (Free, record { whole = refl; fits = tt }, page_at (slot_place m.counts i) (omega (arith, lt)) ∙ sound.pool i lt);
     heads = λ i lt. let h = sound.heads i lt in (h.0, h.1, h.2, page_at (head_place m.counts i) (omega (arith, lt)) ∙ h.3);
@@ -118,12 +119,12 @@ module _ (s : ServerNo) (m : Image) (sound : IsSound s m) (fit : CountsFit s m.c
 
   facts_by : (bytes : List ℕ) (f : FileNo) (h : Head) → IsHead m.counts.leaves h → FileFits h → bytes ≡ head_page h → is_head_of f h ≡ true → HeadFacts bytes f h
   facts_by bytes f FreeHead is fits e t = absurd (true≢false (sym t))
-  facts_by bytes f (Used k xs) is fits e t = record {
-    used = used_kind m.counts.leaves bytes fit.leaves k xs is fits e;
-    file = used_file m.counts.leaves bytes fit.leaves k xs is fits e ∙ same t;
+  facts_by bytes f (Used k xs maps) is fits e t = record {
+    used = used_kind m.counts.leaves bytes fit.leaves k xs maps is fits e;
+    file = used_file m.counts.leaves bytes fit.leaves k xs maps is fits e ∙ same t;
     address = λ p a at. ⊎_elim
-        (λ lt. (lt, used_address m.counts.leaves bytes fit.leaves k xs is fits e p.0 lt ∙ at))
-        (λ past. let long = whole m.counts.leaves bytes fit.leaves k xs is fits e in let none = get_or_past xs p.0 0 (omega (arith, past, long)) in absurd (zero_is a (sym none ∙ at)))
+        (λ lt. (lt, used_address m.counts.leaves bytes fit.leaves k xs maps is fits e p.0 lt ∙ at))
+        (λ past. let long = whole m.counts.leaves bytes fit.leaves k xs maps is fits e in let none = get_or_past xs p.0 0 (omega (arith, past, long)) in absurd (zero_is a (sym none ∙ at)))
         (cases_lt p.0 most_blocks);
   }
     where

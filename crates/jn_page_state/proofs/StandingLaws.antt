@@ -21,7 +21,7 @@ module _ (server : ServerNo) (g : Counts) (v : StoreView) (epoch : ℕ) (records
   up = one_state server g v readable (front_held server g v epoch records heads standing.held) standing.recoverable.clean
 
   pub state_said : (c : Pick) → standing_state g v ≡ state_in (held_contents g v epoch records heads c)
-  state_said c = let format = (standing.recoverable.each c).of_format in sym (up c) ∙ state_on_pages g (pages_by v c) format.root.1.leaves format.heads ∙ ap (λ x. state_in x) (as_said c)
+  state_said c = let format = (standing.recoverable.each c).of_format in sym (up c) ∙ state_on_pages g (pages_by v c) format.root.2.leaves format.heads ∙ ap (λ x. state_in x) (as_said c)
 
   pub consistent : (c : Pick) → IsConsistent server g (held_contents g v epoch records heads c)
   consistent c = subst (IsConsistent server g) (as_said c) (standing.recoverable.each c).consistent

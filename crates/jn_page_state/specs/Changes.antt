@@ -90,7 +90,7 @@ serves_for what f h = is_head_of f h
 -- and what it is then
 abbrev pub is_head_after : What → FileNo → Head → Bool
 is_head_after Gone f FreeHead = true
-is_head_after Gone f (Used g addresses) = false
+is_head_after Gone f (Used g addresses maps) = false
 is_head_after what f h = is_head_of f h
 
 -- an intention is carried out at a place of the heads

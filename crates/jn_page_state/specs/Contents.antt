@@ -33,7 +33,7 @@ head_in heads i = slice_index_or heads i FreeHead
 
 abbrev pub is_head_of : FileNo → Head → Bool
 is_head_of f FreeHead = false
-is_head_of f (Used g addresses) = file_eq g f
+is_head_of f (Used g addresses maps) = file_eq g f
 
 -- what an address leads to: 0 to nothing, and any other to the data page whose index and 1 it is
 abbrev pub behind : (ℕ → List ℕ) → ℕ → Option (List ℕ)
@@ -43,7 +43,7 @@ behind blocks (suc d) = Some (blocks d)
 -- the address of a block: 0 where it isn't stored
 abbrev pub address_at : Head → BlockNo → ℕ
 address_at FreeHead p = 0
-address_at (Used f addresses) p = slice_index_or addresses p.0 0
+address_at (Used f addresses maps) p = slice_index_or addresses p.0 0
 
 abbrev pub block_in : (ℕ → List ℕ) → BlockNo → Head → Option (List ℕ)
 block_in blocks p h = behind blocks (address_at h p)
@@ -115,7 +115,7 @@ state_in c = record { epoch = c.epoch; files = files_in c.heads c.blocks; works 
 
 abbrev pub has_address : ℕ → Head → Bool
 has_address a FreeHead = false
-has_address a (Used f addresses) = list_any (λ b. nat_eq b a) addresses
+has_address a (Used f addresses maps) = list_any (λ b. nat_eq b a) addresses
 
 -- an intention of a prepared work with this address
 abbrev pub holds_address : List Record → ℕ → Record → Bool

@@ -19,11 +19,12 @@ pub record IsHeadStored (g : Counts) (v : StoreView) (place : ℕ) (h : Head) : 
   pub fits : FileFits h
   pub only : IsOnly v (head_place g place) (head_page h)
 
--- root, records and heads have one candidate each, and these are they
+-- root, records and heads have one candidate each, and these are they: the root is of either version
 pub record IsHeld (server : ServerNo) (g : Counts) (v : StoreView) (epoch : ℕ) (records : List Record) (heads : List Head) : Type 0 where
   pub count : page_count g ≡ v.count
-  pub root_fits : IsRoot (root_by server g epoch)
-  pub root : IsOnly v 0 (root_page (root_by server g epoch))
+  pub version : ℕ
+  pub root_fits : IsRoot (record (root_by server g epoch) { version = version })
+  pub root : IsOnly v 0 (root_page (record (root_by server g epoch) { version = version }))
   pub slots : length records ≡ g.pool
   pub pool : HoldsRecords records v
   pub places : length heads ≡ g.heads

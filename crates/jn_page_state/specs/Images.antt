@@ -2,6 +2,7 @@
 use Rattle.std.specs.Prelude.{◌≡◌, ℕ, ◌<◌, ◌^◌, ◌-◌, None, nat_lt, if◌then◌else◌}
 use Rattle.jn_base.specs.declared.names.ServerNo.{ServerNo}
 use Rattle.jn_order.specs.Files.{Files}
+use Rattle.jn_records.specs.Pages.{format_version}
 use Rattle.jn_records.specs.Sound.{Image, IsSound}
 use Rattle.jn_records.specs.StablePages.{Counts, page_count, files_of_pages}
 use Rattle.jn_rows.specs.Stable.{StableState, Pick}
@@ -34,8 +35,10 @@ pub record IsFresh (server : ServerNo) (g : Counts) (epoch : ℕ) (files : Files
 abbrev pub place_in : ℕ → ℕ → ℕ
 place_in count p = if nat_lt p count then p else p - count
 
+-- of the version that is written
 abbrev pub image_on : ServerNo → Counts → StoreView → Image
 image_on server g v = record {
+  version = format_version;
   server = server;
   counts = g;
   good = λ p. v.both (place_in v.count p);

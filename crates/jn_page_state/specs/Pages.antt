@@ -83,8 +83,9 @@ found_on g v c = state_of g (pages_by v c)
 
 -- ---- pages of the format
 
+-- a root of either version
 abbrev pub IsRootPage : ServerNo → Counts → List ℕ → Type 0
-IsRootPage server g page = (epoch : ℕ) × IsRoot (root_by server g epoch) × (page ≡ root_page (root_by server g epoch))
+IsRootPage server g page = (version : ℕ) × (epoch : ℕ) × IsRoot (record (root_by server g epoch) { version = version }) × (page ≡ root_page (record (root_by server g epoch) { version = version }))
 
 abbrev pub IsHeadPage : ℕ → List ℕ → Type 0
 IsHeadPage leaves page = (h : Head) × IsHead leaves h × FileFits h × (page ≡ head_page h)

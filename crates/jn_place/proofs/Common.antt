@@ -9,13 +9,13 @@ pub use Rattle.jn_page_state.specs.Pages.{found_on}
 pub use Rattle.jn_page_state.proofs.Picking.{same_found, same_recoverable, fewer_picked}
 pub use Rattle.jn_msgs.specs.Collected.{Collected}
 pub use Rattle.jn_system.specs.WholeSystem.Servers.{server_again, server_row, of_coordinator, of_worker, of_step, storage_of, restored, Room, server_step}
-pub use Rattle.jn_records.specs.StablePages.{Counts, slot_place, head_place}
+pub use Rattle.jn_records.specs.StablePages.{Counts, slot_place, head_place, root_by}
 pub use Rattle.jn_server.specs.Befalling.{Befalls}
 pub use Rattle.jn_server.specs.Handling.{TimesOut, IsDone, IsStopped, Steps, StepLeaves}
 pub use Rattle.jn_server.specs.Seen.{Parts, view_with, memory_of, ServerView, room_of}
 pub use Rattle.jn_storage.specs.Calls.{state, CountsErased}
 pub use Rattle.jn_storage.specs.Storage.{Accounts, StorageLater}
-pub use Rattle.jn_store.specs.Store.{StoreView, HasSamePages, IsCalm, StoreLater, IsWholePage, IsClean}
+pub use Rattle.jn_store.specs.Store.{StoreView, HasSamePages, IsCalm, StoreLater, IsWholePage, IsOnly, IsClean}
 pub use Rattle.jn_transactions.specs.Telling.{added}
 pub use Rattle.jn_place.specs.declared.place.Slot.{Slot}
 pub use Rattle.jn_place.specs.declared.place.Slot.TheVariants.{Up, Down, Gone}

@@ -1,5 +1,5 @@
 -- A restart, from the store with power to the server.
-use Rattle.jn_place.proofs.Common.{most_calls, ◌≡◌, ◌≤◌, ◌<◌, ◌+◌, ℕ, suc, Bool, true, false, true≢false, List, [], ◌∷◌, ◌++◌, map, Option, Some, None, is_some, ⊎_elim, ◌||◌, refl, sym, ◌∙◌, ap, subst, arith, Result, Ok, Err, IfOk, ServerNo, Tid, tid_eq, tid_tells, DeviceState, PowersUp, powered_off, cleared, found_on, fewer_picked, restored, Memory, Counts, Found, Transaction, restored_transaction, restored_transactions, StableState, FlagState, IsRestarted, IsNotRestarted, Parts, view_with, memory_of, StoreView, IsCalm, work_eq, When, Line, Accounts, StoreLater, Restarted, Slot, Up, Down, Gone, lines_at, texts_of_step, IsTried, IsUpAt, IsStoppedUp, IsUsedUpAt, CameTo, IsRestart, IsCalmAt, ComesCalm, is_stopped, IsRisen, IsCutUp, IsAtLast, SaysSame, StaysAs, StandsUp, Rises, Lifts, told_at, CameUp, IsHeld, with_epoch, slot_place, head_place, pairs_view, IsWholePage}
+use Rattle.jn_place.proofs.Common.{most_calls, ◌≡◌, ◌≤◌, ◌<◌, ◌+◌, ℕ, suc, Bool, true, false, true≢false, List, [], ◌∷◌, ◌++◌, map, Option, Some, None, is_some, ⊎_elim, ◌||◌, refl, sym, ◌∙◌, ap, subst, arith, Result, Ok, Err, IfOk, ServerNo, Tid, tid_eq, tid_tells, DeviceState, PowersUp, powered_off, cleared, found_on, fewer_picked, restored, Memory, Counts, Found, Transaction, restored_transaction, restored_transactions, StableState, FlagState, IsRestarted, IsNotRestarted, Parts, view_with, memory_of, StoreView, IsCalm, work_eq, When, Line, Accounts, StoreLater, Restarted, Slot, Up, Down, Gone, lines_at, texts_of_step, IsTried, IsUpAt, IsStoppedUp, IsUsedUpAt, CameTo, IsRestart, IsCalmAt, ComesCalm, is_stopped, IsRisen, IsCutUp, IsAtLast, SaysSame, StaysAs, StandsUp, Rises, Lifts, told_at, CameUp, IsHeld, with_epoch, slot_place, head_place, pairs_view, IsWholePage, root_by, IsOnly}
 use Rattle.jn_recovery.specs.Loading.{IsSameOrNext}
 use Rattle.std.specs.List.{list_any}
 use Rattle.jn_page_state.specs.Puts.{IsFrontClean, IsFrontWhole}
@@ -7,6 +7,7 @@ use Rattle.jn_system.specs.WholeSystem.Steps.{AreNames, tid_before}
 use Rattle.jn_recovery.specs.declared.load.DownCause.{DownCause}
 use Rattle.jn_recovery.specs.declared.load.DownCause.TheVariants.{Stopped, EpochsUsedUp}
 use Rattle.jn_locks.specs.Locks.{work_before}
+use Rattle.jn_records.specs.Pages.{root_page}
 use Rattle.jn_place.specs.declared.place.Restarted.TheVariants as came
 use Rattle.jn_place.proofs.Ending.{Sees, spent, spent-on, calm-cleared}
 
@@ -52,6 +53,7 @@ module _ {S : Type 0} (look : S → StoreView) (device : S → DeviceState) (q :
     clean = r.loaded.recovered.rubbish;
     front = r.loaded.front;
     front_whole = r.loaded.front_whole;
+    root = r.loaded.root;
   }
     where
       x : StableState
@@ -117,6 +119,12 @@ module _ {S : Type 0} (look : S → StoreView) (device : S → DeviceState) (see
       by : IsFrontClean g (pairs_view (device s)) → IsFrontClean g (pairs_view (cleared (device s)))
       by f = record { root = f.root; pool = f.pool; heads = f.heads }
 
+  only-stays : (s t : S) (k : ℕ) (page : List ℕ) → device t ≡ cleared (device s) → IsOnly (look s) k page → IsOnly (look t) k page
+  only-stays s t k page after h = subst (λ (v : StoreView). IsOnly v k page) (sym (sees t)) (subst (λ (d : DeviceState). IsOnly (pairs_view d) k page) (sym after) (by (subst (λ (v : StoreView). IsOnly v k page) (sees s) h)))
+    where
+      by : IsOnly (pairs_view (device s)) k page → IsOnly (pairs_view (cleared (device s))) k page
+      by o = record { first = o.first; second = o.second }
+
   whole-stays : (s t : S) → device t ≡ cleared (device s) → IsFrontWhole g (look s) → IsFrontWhole g (look t)
   whole-stays s t after h = subst (λ (v : StoreView). IsFrontWhole g v) (sym (sees t)) (subst (λ (d : DeviceState). IsFrontWhole g (pairs_view d)) (sym after) (by (subst (λ (v : StoreView). IsFrontWhole g v) (sees s) h)))
     where
@@ -144,6 +152,7 @@ module _ {S : Type 0} (look : S → StoreView) (device : S → DeviceState) (see
       clean = ap (λ (a : Accounts). a.rubbish) stays.0.accounts ∙ h.clean;
       front = clean-stays m.storage.0 b.storage.0 stays.1 h.front;
       front_whole = λ quiet. whole-stays m.storage.0 b.storage.0 stays.1 (h.front_whole (lit-calm s lit powers (ap (λ (v : StoreView). v.waiting) (sees s) ∙ quiet)));
+      root = only-stays m.storage.0 b.storage.0 0 (root_page (root_by q g epoch)) stays.1 h.root;
     }
       where
         at : found_on g (look lit) h.pick ≡ found_on g (look s) h.pick

@@ -20,7 +20,8 @@ use Rattle.jn_system.specs.WholeSystem.Printing.{ArePrints, prints_in}
 use Rattle.jn_system.specs.WholeSystem.Servers.{server_row, server_step, server_again, server_timeout, of_coordinator, restored}
 use Rattle.jn_system.specs.WholeSystem.Steps.{AreNames, tid_before}
 use Rattle.jn_system.specs.WholeSystem.World.{Memory, with_epoch}
-use Rattle.jn_records.specs.StablePages.{Counts}
+use Rattle.jn_records.specs.Pages.{root_page}
+use Rattle.jn_records.specs.StablePages.{Counts, root_by}
 use Rattle.jn_recovery.specs.Loading.{IsSameOrNext}
 use Rattle.jn_recovery.specs.Counts.{most_calls}
 use Rattle.jn_report.specs.declared.line.When.{When}
@@ -40,7 +41,7 @@ use Rattle.jn_storage.specs.Calls.{state}
 use Rattle.jn_storage.specs.DeviceCalls.{step_calls, row_calls}
 use Rattle.jn_store.specs.DeviceCalls.{put_calls, cleaned_get_calls}
 use Rattle.jn_store.specs.Pairs.{pairs_view}
-use Rattle.jn_store.specs.Store.{StoreView, IsCalm, IsClean, IsWholePage}
+use Rattle.jn_store.specs.Store.{StoreView, IsCalm, IsClean, IsOnly, IsWholePage}
 use Rattle.jn_place.specs.declared.place.Restarted.{Restarted}
 use Rattle.jn_place.specs.declared.place.Restarted.TheVariants as came
 use Rattle.jn_place.specs.declared.place.Slot.{Slot}
@@ -243,6 +244,8 @@ pub record IsUpAt {S : Type 0} (look : S → StoreView) (device : S → DeviceSt
   -- and root, records and heads are clean, and whole where no fault waited
   pub front : IsFrontClean g (look p'.storage.0)
   pub front_whole : (device s).waiting ≡ [] → IsFrontWhole g (look p'.storage.0)
+  -- the root has the epoch, and is of the version that is written
+  pub root : IsOnly (look p'.storage.0) 0 (root_page (root_by q g epoch))
 
 -- It was stopped: each pick finds what some pick found before, in the same epoch or the next.
 pub record IsStoppedUp {S : Type 0} (look : S → StoreView) (device : S → DeviceState) (g : Counts) (told : List Outside) (s s' : S) : Type 0 where

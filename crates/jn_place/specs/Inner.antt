@@ -16,7 +16,8 @@ use Rattle.jn_msgs.specs.Collected.{Collected}
 use Rattle.jn_system.specs.WholeSystem.Servers.{server_row, of_coordinator, restored}
 use Rattle.jn_system.specs.WholeSystem.Steps.{AreNames, tid_before}
 use Rattle.jn_system.specs.WholeSystem.World.{Memory, with_epoch}
-use Rattle.jn_records.specs.StablePages.{Counts}
+use Rattle.jn_records.specs.Pages.{root_page}
+use Rattle.jn_records.specs.StablePages.{Counts, root_by}
 use Rattle.jn_recovery.specs.Loading.{IsSameOrNext}
 use Rattle.jn_recovery.specs.Counts.{most_calls}
 use Rattle.jn_rows.specs.declared.coordinator.Transaction.{Transaction}
@@ -29,7 +30,7 @@ use Rattle.jn_storage.specs.Calls.{state}
 use Rattle.jn_storage.specs.DeviceCalls.{step_calls, row_calls}
 use Rattle.jn_storage.specs.Storage.{StorageLater}
 use Rattle.jn_store.specs.DeviceCalls.{put_calls, cleaned_get_calls}
-use Rattle.jn_store.specs.Store.{StoreView, StoreLater, IsCalm}
+use Rattle.jn_store.specs.Store.{StoreView, StoreLater, IsCalm, IsOnly}
 use Rattle.jn_place.specs.declared.place.Restarted.{Restarted}
 use Rattle.jn_place.specs.declared.place.Restarted.TheVariants as came
 use Rattle.jn_place.specs.declared.place.Slot.{Slot}
@@ -153,6 +154,7 @@ pub record IsRisen {S : Type 0} (look : S → StoreView) (q : ServerNo) (g : Cou
   pub clean : (view_with look p').storage.accounts.rubbish ≡ []
   pub front : IsFrontClean g (look p'.storage.0)
   pub front_whole : IsCalm (look s) → IsFrontWhole g (look p'.storage.0)
+  pub root : IsOnly (look p'.storage.0) 0 (root_page (root_by q g epoch))
 
 -- or it was stopped
 pub record IsCutUp {S : Type 0} (look : S → StoreView) (g : Counts) (s s' : S) : Type 0 where

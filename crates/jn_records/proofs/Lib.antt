@@ -10,3 +10,4 @@ pub mod NetLemmas
 pub mod CarriedLemmas
 pub mod FilesThereLemmas
 pub mod EditLemmas
+pub mod MapPlaces

@@ -1,5 +1,5 @@
 -- A page that begins like a head and is none.
-use Rattle.jn_records.proofs.Common.{◌≡◌, ◌<◌, ◌+◌, ℕ, zero, suc, nat_eq, Bool, true, false, if◌then◌else◌, ◌∷◌, replicate, Some, refl, sym, ◌∙◌, subst, arith, true≢false, Head, Used, head_page, within, used_at, head_at, number_at, list_at}
+use Rattle.jn_records.proofs.Common.{◌≡◌, ◌<◌, ◌+◌, ℕ, zero, suc, nat_eq, Bool, true, false, if◌then◌else◌, ◌∷◌, replicate, Some, refl, sym, ◌∙◌, subst, arith, true≢false, Head, Used, head_page, within, used_at, head_at, number_at, list_at, maps_at}
 use Rattle.jn_records.specs.Malformed.{head_of_9, malformed_page, malformed_image}
 use Rattle.jn_records.specs.Sound.{head_bytes_of, HasOneHead, IsWholeHead}
 use Rattle.jn_records.specs.StablePages.{is_used, file_in}
@@ -25,10 +25,10 @@ pub first-head : IsWholeHead malformed_image 0
 first-head = (head_of_9, record { whole = refl; within_leaves = refl }, omega arith, refl)
 
 abbrev the-read : Head
-the-read = Used (record { 0 = 9 }) (1 ∷ replicate 119 0)
+the-read = Used (record { 0 = 9 }) (1 ∷ replicate 119 0) (replicate 20 0)
 
 read-so : head_at malformed_page ≡ Some the-read
-unfolding head_at used_at number_at list_at
+unfolding head_at used_at maps_at number_at list_at
 read-so = refl
 
 some-head : (a b : Head) → Some a ≡ Some b → a ≡ b

@@ -1,6 +1,10 @@
 -- A root is read again from its page.
-use Rattle.jn_records.proofs.Common.{◌≡◌, ℕ, List, ◌++◌, Some, refl, ap, ◌∙◌, arith, replicate, codes, big_bytes, Root, root_bytes, root_page, IsRoot, root_at}
+use Rattle.jn_records.proofs.Common.{◌≡◌, ◌⊎◌, inl, inr, ◌<◌, ◌^◌, ℕ, List, ◌++◌, Some, refl, ap, ◌∙◌, arith, replicate, codes, big_bytes, Root, root_bytes, root_page, IsRoot, root_at}
 use Rattle.jn_records.proofs.Fields.{number_again, bytes_again}
+
+version_small : (n : ℕ) → (n ≡ 1) ⊎ (n ≡ 2) → n < 256 ^ 1
+version_small n (inl e) = omega (arith, e)
+version_small n (inr e) = omega (arith, e)
 
 root_again : (r : Root) (rest : List ℕ) → IsRoot r → root_at (root_bytes r ++ rest) ≡ Some (r, rest)
 unfolding root_at
@@ -15,7 +19,7 @@ root_again r rest is =
     ap root_at regrouped
     ∙ rw (
       bytes_again 4 (codes "JUN1") after_name refl,
-      number_again 1 r.version after_version (omega (arith, is.version)),
+      number_again 1 r.version after_version (version_small r.version is.version),
       number_again 1 r.server.0 after_server is.server,
       number_again 2 r.pool after_pool is.pool,
       number_again 2 r.heads after_heads is.heads,

@@ -1,30 +1,39 @@
 -- The heads of files: their bytes, and how they are read.
-use Rattle.std.specs.Prelude.{◌≡◌, ◌<◌, ◌^◌, ◌++◌, ℕ, List, [], length, Option, Some, None, nat_eq, nat_le, Bool, true, flat_map, if◌then◌else◌}
+use Rattle.std.specs.Prelude.{◌≡◌, ◌<◌, ◌^◌, ◌++◌, ◌&&◌, ℕ, List, [], length, Option, Some, None, nat_eq, nat_le, Bool, true, flat_map, if◌then◌else◌}
 use Rattle.std.specs.List.{list_all}
-use Rattle.jn_base.specs.Limits.{head_blocks}
+use Rattle.jn_base.specs.Limits.{head_blocks, most_maps}
+use Rattle.jn_base.specs.declared.names.FileNo.{FileNo}
 use Rattle.byteorder.specs.Endian.{big_bytes}
 use Rattle.jn_records.specs.declared.head.Head.{Head}
 use Rattle.jn_records.specs.declared.head.Head.TheVariants.{Free, Used}
 use Rattle.jn_records.specs.Pages.{padded}
 use Rattle.jn_records.specs.Reading.{◌>>=◌, number_at, list_at}
 
--- A free head is zeros. A used one has kind 1, its file and the addresses of its blocks.
+-- two bytes for each
+abbrev pub addresses_bytes : List ℕ → List ℕ
+addresses_bytes addresses = flat_map (λ a. big_bytes 2 a) addresses
+
+-- A free head is zeros. A used one has kind 1, its file, the addresses of its blocks and those of its map pages.
 abbrev pub head_bytes : Head → List ℕ
 head_bytes Free = []
-head_bytes (Used file addresses) = big_bytes 1 1 ++ big_bytes 4 file.0 ++ flat_map (λ a. big_bytes 2 a) addresses
+head_bytes (Used file addresses maps) = big_bytes 1 1 ++ big_bytes 4 file.0 ++ addresses_bytes addresses ++ addresses_bytes maps
 
 unfoldable pub head_page : Head → List ℕ
 head_page h = padded (head_bytes h)
 
--- a head has an address for each block that there may be
+-- a head has room for the addresses of so many blocks and map pages
 abbrev pub has_page : Head → Bool
 has_page Free = true
-has_page (Used file addresses) = nat_eq (length addresses) head_blocks
+has_page (Used file addresses maps) = nat_eq (length addresses) head_blocks && nat_eq (length maps) most_maps
 
 -- no address is past the data pages: 0 is none, and a page's is its index and 1
+abbrev pub all_within : ℕ → List ℕ → Bool
+all_within leaves addresses = list_all (λ a. nat_le a leaves) addresses
+
+-- a head has no map page so far
 abbrev pub within : ℕ → Head → Bool
 within leaves Free = true
-within leaves (Used file addresses) = list_all (λ a. nat_le a leaves) addresses
+within leaves (Used file addresses maps) = all_within leaves addresses && all_within 0 maps
 
 -- a head whose pages are so many
 pub record IsHead (leaves : ℕ) (h : Head) : Type 0 where
@@ -34,13 +43,19 @@ pub record IsHead (leaves : ℕ) (h : Head) : Type 0 where
 -- a number of its type
 abbrev pub FileFits : Head → Type 0
 FileFits Free = Unit {0}
-FileFits (Used file addresses) = file.0 < 2 ^ 32
+FileFits (Used file addresses maps) = file.0 < 2 ^ 32
+
+-- a used head, of which the addresses of its map pages are still to be read
+unfoldable pub maps_at : FileNo → List ℕ → List ℕ → Option Head
+maps_at file addresses bytes = do
+  maps ← list_at (λ b. number_at 2 b) most_maps bytes
+  Some (Used file addresses maps.0)
 
 unfoldable pub used_at : List ℕ → Option Head
 used_at bytes = do
   file ← number_at 4 bytes
   addresses ← list_at (λ b. number_at 2 b) head_blocks file.1
-  Some (Used (record { 0 = file.0 }) addresses.0)
+  maps_at (record { 0 = file.0 }) addresses.0 addresses.1
 
 unfoldable pub head_at : List ℕ → Option Head
 head_at bytes = do

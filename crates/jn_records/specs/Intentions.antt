@@ -16,23 +16,24 @@ abbrev pub what_of : ℕ → Option What
 what_of code = if nat_eq code 1 then Some Fresh else if nat_eq code 2 then Some Gone else if nat_eq code 3 then Some Cut else if nat_eq code 4 then Some Put else None
 
 abbrev pub intention_bytes : StoredIntention → List ℕ
-intention_bytes i = big_bytes 1 (what_code i.what) ++ big_bytes 4 i.file.0 ++ big_bytes 2 i.block.0 ++ big_bytes 2 i.address
+intention_bytes i = big_bytes 1 (what_code i.what) ++ big_bytes 4 i.file.0 ++ big_bytes 2 i.block.0 ++ big_bytes 2 i.address ++ big_bytes 2 i.map
 
--- fresh and gone name no block, and a put alone names a data page
-abbrev pub names_what_it_needs : What → ℕ → ℕ → Bool
-names_what_it_needs Fresh block address = nat_eq block 0 && nat_eq address 0
-names_what_it_needs Gone block address = nat_eq block 0 && nat_eq address 0
-names_what_it_needs Cut block address = nat_eq address 0
-names_what_it_needs Put block address = not (nat_eq address 0)
+-- fresh and gone name no block, a put alone names a data page, and none names a map page so far
+abbrev pub names_what_it_needs : What → ℕ → ℕ → ℕ → Bool
+names_what_it_needs Fresh block address map = nat_eq block 0 && nat_eq address 0 && nat_eq map 0
+names_what_it_needs Gone block address map = nat_eq block 0 && nat_eq address 0 && nat_eq map 0
+names_what_it_needs Cut block address map = nat_eq address 0 && nat_eq map 0
+names_what_it_needs Put block address map = not (nat_eq address 0) && nat_eq map 0
 
 abbrev pub intention_has_page : StoredIntention → Bool
-intention_has_page i = names_what_it_needs i.what i.block.0 i.address
+intention_has_page i = names_what_it_needs i.what i.block.0 i.address i.map
 
 -- numbers of their types
 pub record IntentionFits (i : StoredIntention) : Type 0 where
   pub file : i.file.0 < 2 ^ 32
   pub block : i.block.0 < 2 ^ 16
   pub address : i.address < 2 ^ 16
+  pub map : i.map < 2 ^ 16
 
 unfoldable pub intention_at : List ℕ → Option (StoredIntention × List ℕ)
 intention_at bytes = do
@@ -41,4 +42,5 @@ intention_at bytes = do
   file ← number_at 4 code.1
   block ← number_at 2 file.1
   address ← number_at 2 block.1
-  Some (record { what = what; file = record { 0 = file.0 }; block = record { 0 = block.0 }; address = address.0 }, address.1)
+  map ← number_at 2 address.1
+  Some (record { what = what; file = record { 0 = file.0 }; block = record { 0 = block.0 }; address = address.0; map = map.0 }, map.1)

@@ -6,6 +6,7 @@ pub mod Intentions
 pub mod Records
 pub mod NetLists
 pub mod NetEdits
+pub mod MapPlaces
 pub mod StablePages
 pub mod Sound
 pub mod Malformed

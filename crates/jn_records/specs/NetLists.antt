@@ -1,6 +1,6 @@
 -- Lists of intentions: what carrying them out changes, and net lists, which have of each file a first
 -- intention and at most one put of each block.
-use Rattle.std.specs.Prelude.{◌≡◌, ◌+◌, ℕ, zero, suc, Bool, true, false, not, nat_eq, nat_lt, nat_le, ◌&&◌, ◌||◌, if◌then◌else◌, List, [], ◌∷◌, length, take, count_by, Option, Some, None, is_some}
+use Rattle.std.specs.Prelude.{◌≡◌, ◌+◌, ℕ, zero, suc, Bool, true, false, not, nat_eq, nat_lt, nat_le, ◌&&◌, ◌||◌, if◌then◌else◌, List, [], ◌∷◌, take, count_by, Option, Some, None, is_some}
 use Rattle.jn_base.specs.declared.names.FileNo.{FileNo}
 use Rattle.jn_base.specs.declared.names.BlockNo.{BlockNo}
 use Rattle.jn_base.specs.declared.names.LockUnit.TheVariants.{File, Block}
@@ -16,7 +16,6 @@ use Rattle.jn_records.specs.declared.intention.What.TheVariants.{Fresh, Gone, Cu
 use Rattle.jn_records.specs.declared.intention.Intention.{Intention}
 use Rattle.jn_records.specs.declared.net_list.Seen.{Seen}
 use Rattle.jn_records.specs.declared.net_list.Seen.TheVariants.{Put as PutBytes, Zeros, Stored}
-use Rattle.jn_records.specs.declared.net_list.Need.{Need}
 use Rattle.jn_base.specs.Ops.{block_of}
 
 -- ---- carrying out
@@ -253,6 +252,6 @@ is_fresh _ = false
 abbrev pub needs_a_head : Bool → Intention → Bool
 needs_a_head there i = is_fresh i.what && not there
 
--- a record for each intention and one for the ready record, a head for each fresh file that isn't there, a page for each put
-abbrev pub need_of : List Intention → (FileNo → Bool) → Need
-need_of list there = record { records = length list + 1; heads = count_by (λ i. needs_a_head (there i.file) i) list; pages = count_by is_put_intention list }
+-- a head for each such file
+abbrev pub heads_of : List Intention → (FileNo → Bool) → ℕ
+heads_of list there = count_by (λ i. needs_a_head (there i.file) i) list

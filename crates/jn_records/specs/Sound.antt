@@ -4,22 +4,23 @@ use Rattle.jn_base.specs.declared.names.ServerNo.{ServerNo}
 use Rattle.jn_base.specs.Limits.{head_blocks}
 use Rattle.jn_records.specs.declared.head.Head.{Head}
 use Rattle.jn_records.specs.declared.record.Record.TheVariants.{Free}
-use Rattle.jn_records.specs.Pages.{root_page}
+use Rattle.jn_records.specs.Pages.{root_page, IsVersion}
 use Rattle.jn_records.specs.Heads.{head_page, IsHead, FileFits}
 use Rattle.jn_records.specs.Records.{record_page}
 use Rattle.jn_records.specs.StablePages.{Counts, Pages, root_by, page_count, slot_place, head_place, data_place, is_used, file_in, address_in}
 
--- What an image says: whose it is, how many pages there are of each kind, and of each physical page whether it
--- is good and its bytes. The halves of stable page i are the physical pages i and i + page_count.
+-- What an image says: its version, whose it is, how many pages there are of each kind, and of each physical page
+-- whether it is good and its bytes. The halves of stable page i are the physical pages i and i + page_count.
 pub record Image : Type 0 where
+  pub version : ℕ
   pub server : ServerNo
   pub counts : Counts
   pub good : ℕ → Bool
   pub bytes : Pages
 
--- stable page 0 is the root of this server and these counts, at some epoch
+-- stable page 0 is the root of this version, server and counts, at some epoch, and the version is one that is read
 abbrev pub HasRoot : Image → Type 0
-HasRoot m = (epoch : ℕ) × (epoch < 2 ^ 32) × (m.bytes 0 ≡ root_page (root_by m.server m.counts epoch))
+HasRoot m = (epoch : ℕ) × (epoch < 2 ^ 32) × (m.bytes 0 ≡ root_page (record (root_by m.server m.counts epoch) { version = m.version })) × IsVersion m.version
 
 abbrev pub All : (ℕ → Type 0) → Type 0
 All P = (n : ℕ) → P n

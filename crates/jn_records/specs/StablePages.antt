@@ -20,7 +20,7 @@ pub record Counts : Type 0 where
 abbrev pub counts_of : Root → Counts
 counts_of root = record { pool = root.pool; heads = root.heads; leaves = root.leaves }
 
--- the root of a server with so many, at an epoch
+-- the root of a server with so many, at an epoch, of the version that is written
 abbrev pub root_by : ServerNo → Counts → ℕ → Root
 root_by server g epoch = record { version = format_version; server = server; pool = g.pool; heads = g.heads; leaves = g.leaves; epoch = epoch }
 

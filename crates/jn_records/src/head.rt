@@ -1,15 +1,14 @@
 //! The heads of files.
-ghost use Rattle.std.specs.Prelude.{◌≡◌, ◌≤◌, ◌^◌, ◌<◌, true, List, length, nat_le, Option, Some, IfOk, IfSome, IsTrue, ◌↔◌};
-ghost use Rattle.std.specs.List.{list_all};
-ghost use Rattle.jn_base.specs.Limits.{head_blocks};
+ghost use Rattle.std.specs.Prelude.{◌≡◌, ◌≤◌, ◌^◌, ◌<◌, true, List, length, Option, Some, IfOk, IfSome, IsTrue, ◌↔◌};
+ghost use Rattle.jn_base.specs.Limits.{head_blocks, most_maps};
 ghost use Rattle.jn_records.specs.declared.head.Head.{Head};
 ghost use Rattle.jn_records.specs.declared.head.Head.TheVariants.{Used};
-ghost use Rattle.jn_records.specs.Heads.{head_page, has_page, within, IsHead, FileFits, used_at, head_at};
+ghost use Rattle.jn_records.specs.Heads.{head_page, has_page, all_within, within, IsHead, FileFits, maps_at, used_at, head_at};
 
 use crate::field::{same_page, u8_at, u32_at};
 use crate::list::{ListOf, list_at};
 use byteorder::{BigEndian, ByteOrder};
-use jn_base::{FileNo, HEAD_BLOCKS, Page, PageWriter};
+use jn_base::{FileNo, HEAD_BLOCKS, MOST_MAPS, Page, PageWriter};
 use std::alloc::{AllocError, Global};
 
 /// The first byte of a head that no file has: its page is zeros.
@@ -18,7 +17,7 @@ const FREE: u8 = 0;
 /// The first byte of a file's head.
 const USED: u8 = 1;
 
-/// A head: which file has it, and where the file's blocks are.
+/// A head: which file has it, and where the file's blocks and map pages are.
 #[derive(Drop)]
 pub enum Head {
     Free,
@@ -26,6 +25,8 @@ pub enum Head {
         file: FileNo,
         /// Of each block its address: 0 where it isn't stored, else its data page's index and 1.
         addresses: ListOf<u16>,
+        /// Of each map page its address: 0 for none. None has one so far.
+        maps: ListOf<u16>,
     },
 }
 
@@ -38,11 +39,15 @@ impl Head {
     {
         match self {
             Head::Free => PageWriter::new().finish(),
-            Head::Used { file, addresses } => used_page(*file, addresses.as_slice()),
+            Head::Used {
+                file,
+                addresses,
+                maps,
+            } => used_page(*file, addresses.as_slice(), maps.as_slice()),
         }
     }
 
-    /// The head whose page this is, where there is one and no address is past so many data pages.
+    /// The head whose page this is, where there is one, no address is past so many data pages and none is a map page's.
     pub fn decode(alloc: Global, page: &Page, leaves: u16) -> Result<Option<Self>, AllocError>
         ensures found { IfOk result (λ r. IfSome r (λ head. IsHead leaves head × (page.now ≡ head_page head))) }
         ensures only { (head : Head) → IsHead leaves head → FileFits head → page.now ≡ head_page head → IfOk result (λ r. r ≡ Some head) }
@@ -51,30 +56,38 @@ impl Head {
         Ok(of_page(head, page, leaves))
     }
 
-    /// Whether this is the head's page, and no address is past so many data pages.
+    /// Whether this is the head's page, no address is past so many data pages and none is a map page's.
     fn is_of(&self, page: &Page, leaves: u16) -> bool
         ensures { IsTrue result ↔ (IsHead leaves self.now × (page.now ≡ head_page self.now)) }
     {
         self.has_page() && self.within(leaves) && same_page(&self.encode(), page)
     }
 
-    /// Whether the head has a page: a used one has `HEAD_BLOCKS` addresses.
+    /// Whether the head has a page: a used one has `HEAD_BLOCKS` addresses of blocks and `MOST_MAPS` of map pages.
     pub fn has_page(&self) -> bool
         ensures { result ≡ has_page self.now }
     {
         match self {
             Head::Free => true,
-            Head::Used { addresses, .. } => addresses.as_slice().len() == HEAD_BLOCKS,
+            Head::Used {
+                addresses,
+                maps,
+                ..
+            } => addresses.as_slice().len() == HEAD_BLOCKS && maps.as_slice().len() == MOST_MAPS,
         }
     }
 
-    /// Whether no address is past so many data pages.
+    /// Whether no address is past so many data pages and none is a map page's.
     fn within(&self, leaves: u16) -> bool
         ensures { result ≡ within leaves self.now }
     {
         match self {
             Head::Free => true,
-            Head::Used { addresses, .. } => all_within(addresses.as_slice(), leaves),
+            Head::Used {
+                addresses,
+                maps,
+                ..
+            } => all_within(addresses.as_slice(), leaves) && all_within(maps.as_slice(), 0),
         }
     }
 }
@@ -91,24 +104,48 @@ fn of_page(head: Option<Head>, page: &Page, leaves: u16) -> Option<Head>
 }
 
 fn all_within(addresses: &[u16], leaves: u16) -> bool
-    ensures { result ≡ list_all (λ a. nat_le a leaves) addresses.now }
+    ensures { result ≡ all_within leaves addresses.now }
 {
     addresses.iter().all(|a| *a <= leaves)
 }
 
-/// The page of a file's head with these addresses. It takes no memory.
+/// The page of a file's head with these addresses of its blocks and of its map pages. It takes no memory.
 #[tactic(auto, unfolding(crate::specs::Heads::head_page))]
-pub fn used_page(file: FileNo, addresses: &[u16]) -> Page
-    requires { length addresses.now ≡ head_blocks }
-    ensures { result ≡ head_page (Used file addresses.now) }
+pub fn used_page(file: FileNo, addresses: &[u16], maps: &[u16]) -> Page
+    requires blocks { length addresses.now ≡ head_blocks }
+    requires map_pages { length maps.now ≡ most_maps }
+    ensures { result ≡ head_page (Used file addresses.now maps.now) }
 {
-    let mut bytes = [0; 2 * HEAD_BLOCKS];
-    BigEndian::write_u16_into(addresses, &mut bytes);
+    let mut block_bytes = [0; 2 * HEAD_BLOCKS];
+    BigEndian::write_u16_into(addresses, &mut block_bytes);
+    let mut map_bytes = [0; 2 * MOST_MAPS];
+    BigEndian::write_u16_into(maps, &mut map_bytes);
     let mut page = PageWriter::new();
     page.put_u8(USED);
     page.put_u32(file.0);
-    page.put_bytes(&bytes);
+    page.put_bytes(&block_bytes);
+    page.put_bytes(&map_bytes);
     page.finish()
+}
+
+/// The head of a file with these addresses of its blocks, where those of its map pages stand at the front of the bytes.
+#[tactic(auto, unfolding(crate::specs::Heads::maps_at))]
+fn maps_at(
+    alloc: Global,
+    file: FileNo,
+    addresses: ListOf<u16>,
+    bytes: &[u8],
+) -> Result<Option<Head>, AllocError>
+    ensures { IfOk result (λ r. r ≡ maps_at file addresses bytes.now) }
+{
+    let Some((maps, _)) = list_at(alloc, MOST_MAPS as u8, bytes)? else {
+        return Ok(None);
+    };
+    Ok(Some(Head::Used {
+        file,
+        addresses,
+        maps: ListOf::from_vec(maps),
+    }))
 }
 
 #[tactic(auto, unfolding(crate::specs::Heads::used_at))]
@@ -118,13 +155,10 @@ fn used_at(alloc: Global, bytes: &[u8]) -> Result<Option<Head>, AllocError>
     let Some((file, rest)) = u32_at(bytes) else {
         return Ok(None);
     };
-    let Some((addresses, _)) = list_at(alloc, HEAD_BLOCKS as u8, rest)? else {
+    let Some((addresses, rest)) = list_at(alloc, HEAD_BLOCKS as u8, rest)? else {
         return Ok(None);
     };
-    Ok(Some(Head::Used {
-        file: FileNo(file),
-        addresses: ListOf::from_vec(addresses),
-    }))
+    maps_at(alloc, FileNo(file), ListOf::from_vec(addresses), rest)
 }
 
 #[tactic(auto, unfolding(crate::specs::Heads::head_at))]

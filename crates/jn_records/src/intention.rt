@@ -1,5 +1,6 @@
 //! Intentions: what a work will do to the files once its transaction has committed.
 ghost use Rattle.std.specs.Prelude.{◌≡◌, ◌≤◌, ◌+◌, ◌++◌, length};
+ghost use Rattle.byteorder.specs.Endian.{big_bytes};
 ghost use Rattle.jn_records.specs.Reading.{Gives};
 ghost use Rattle.jn_records.specs.Intentions.{what_code, what_of, intention_bytes, intention_has_page, intention_at};
 
@@ -37,16 +38,20 @@ pub struct StoredIntention {
     pub block: BlockNo,
     /// The index of a put's data page and 1, else 0.
     pub address: u16,
+    /// The index of a map page that a put names and 1, else 0. None names one so far.
+    pub map: u16,
 }
 
-/// Whether the intention names a block and a data page exactly as what it does needs them.
+/// Whether the intention names a block, a data page and a map page exactly as what it does needs them.
 pub fn has_page(intention: &StoredIntention) -> bool
     ensures { result ≡ intention_has_page intention.now }
 {
     match intention.what {
-        What::Fresh | What::Gone => intention.block.0 == 0 && intention.address == 0,
-        What::Cut => intention.address == 0,
-        What::Put => intention.address != 0,
+        What::Fresh | What::Gone => {
+            intention.block.0 == 0 && intention.address == 0 && intention.map == 0
+        }
+        What::Cut => intention.address == 0 && intention.map == 0,
+        What::Put => intention.address != 0 && intention.map == 0,
     }
 }
 
@@ -74,13 +79,21 @@ fn what_of(code: u8) -> Option<What>
 }
 
 pub fn put_intention(page: &mut PageWriter, intention: &StoredIntention)
-    requires { length page.old + 9 ≤ 512 }
+    requires { length page.old + 11 ≤ 512 }
     ensures { page.new ≡ page.old ++ intention_bytes intention.now }
 {
     page.put_u8(code_of(intention.what));
     page.put_u32(intention.file.0);
     page.put_u16(intention.block.0);
-    page.put_u16(intention.address);
+    put_pages(page, intention.address, intention.map);
+}
+
+fn put_pages(page: &mut PageWriter, address: u16, map: u16)
+    requires { length page.old + 4 ≤ 512 }
+    ensures { page.new ≡ page.old ++ (big_bytes 2 address ++ big_bytes 2 map) }
+{
+    page.put_u16(address);
+    page.put_u16(map);
 }
 
 #[tactic(auto, unfolding(crate::specs::Intentions::intention_at))]
@@ -92,11 +105,13 @@ pub fn intention_at(bytes: &[u8]) -> Option<(StoredIntention, &[u8])>
     let (file, rest) = u32_at(rest)?;
     let (block, rest) = u16_at(rest)?;
     let (address, rest) = u16_at(rest)?;
+    let (map, rest) = u16_at(rest)?;
     let intention = StoredIntention {
         what,
         file: FileNo(file),
         block: BlockNo(block),
         address,
+        map,
     };
     Some((intention, rest))
 }

@@ -6,12 +6,15 @@
 //!
 //! | page | fields |
 //! |---|---|
-//! | root | `JUN1`, the version (1 byte, 1), the server (1), how many records, heads and data pages there are (2 each), the epoch (4) |
+//! | root | `JUN1`, the version (1 byte, 1 or 2), the server (1), how many records, heads and data pages there are (2 each), the epoch (4) |
 //! | free record, free head | zeros |
-//! | intention | kind 1, the work's and the transaction's name, its place in the work (1), 1 fresh, 2 gone, 3 cut or 4 put (1), the file (4), the block (2), the put's data page as its index and 1 (2) |
+//! | intention | kind 1, the work's and the transaction's name, its place in the work (1), 1 fresh, 2 gone, 3 cut or 4 put (1), the file (4), the block (2), the put's data page as its index and 1 (2), its map page likewise (2) |
 //! | ready, going work | kind 2, 3, the work's and the transaction's name, the client (1), how many intentions and read units (1 each), of each unit its file (4) and block (2; 65,535 for the file itself), ascending |
 //! | flag | kind 4, the transaction's name, the client (1), the request that ended it (4), how many works (1) and their names |
-//! | head | kind 1, the file (4), of `HEAD_BLOCKS` blocks the data page as its index and 1, or 0 for none (2 each) |
+//! | head | kind 1, the file (4), of `HEAD_BLOCKS` blocks the data page as its index and 1, or 0 for none (2 each), of `MOST_MAPS` map pages likewise (2 each) |
+//!
+//! The program writes version 2 and reads both. A page of version 1 has zeros where version 2 has map pages, and nothing
+//! names a map page so far.
 //!
 //! A page that isn't exactly the page of a value is no page of the format. So each decoder reads the
 //! fields and then compares the page with the value's own; `no_page_is_two_values` is the law behind it.

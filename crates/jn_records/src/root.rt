@@ -1,7 +1,7 @@
 //! The root of a server's pages.
 ghost use Rattle.std.specs.Prelude.{◌≡◌, ◌↔◌, Some, IfSome, IsTrue};
 ghost use Rattle.jn_records.specs.declared.root.Root.{Root};
-ghost use Rattle.jn_records.specs.Pages.{root_page, IsRoot};
+ghost use Rattle.jn_records.specs.Pages.{root_page, IsRoot, IsVersion};
 ghost use Rattle.jn_records.specs.Reading.{Gives, root_at};
 
 use crate::field::{bytes_at, same_page, u8_at, u16_at, u32_at};
@@ -10,13 +10,20 @@ use jn_base::{Page, PageWriter, ServerNo};
 /// The name of the format, at the front of the root.
 const NAME: [u8; 4] = *b"JUN1";
 
-/// The version of the format: no other is read.
-pub const FORMAT_VERSION: u8 = 1;
+/// The version of the format that is written.
+pub const FORMAT_VERSION: u8 = 2;
+
+/// Whether a version is read: the one that is written and the one before it.
+fn is_version(version: u8) -> bool
+    ensures { IsTrue result ↔ IsVersion version }
+{
+    version == 1 || version == FORMAT_VERSION
+}
 
 /// The root: whose pages these are, how many there are of each kind, and the epoch.
 #[derive(Clone, Copy, Debug, PartialEq, Eq)]
 pub struct Root {
-    /// The version of the format: 1.
+    /// The version of the format: 1 or 2.
     pub version: u8,
     pub server: ServerNo,
     /// Pages of the pool of records.
@@ -33,6 +40,7 @@ impl Root {
     /// The page of the root.
     #[tactic(auto, unfolding(crate::specs::Pages::root_page))]
     pub fn encode(&self) -> Page
+        requires { IsVersion self.now.version }
         ensures { result ≡ root_page self.now }
     {
         let mut page = PageWriter::new();
@@ -46,7 +54,7 @@ impl Root {
         page.finish()
     }
 
-    /// The root whose page this is, where there is one, and its version is the format's.
+    /// The root whose page this is, where there is one, and its version is 1 or 2.
     pub fn decode(page: &Page) -> Option<Self>
         ensures found { IfSome result (λ root. IsRoot root × (page.now ≡ root_page root)) }
         ensures only { (root : Root) → IsRoot root → page.now ≡ root_page root → result ≡ Some root }
@@ -55,11 +63,11 @@ impl Root {
         if root.is_of(page) { Some(root) } else { None }
     }
 
-    /// Whether this is the root's page, and its version is the format's.
+    /// Whether this is the root's page, and its version is 1 or 2.
     fn is_of(self, page: &Page) -> bool
         ensures { IsTrue result ↔ (IsRoot self × (page.now ≡ root_page self)) }
     {
-        self.version == FORMAT_VERSION && same_page(&self.encode(), page)
+        is_version(self.version) && same_page(&self.encode(), page)
     }
 }
 

@@ -1,5 +1,5 @@
 -- A restart is counted in the root, and rubbish is erased.
-use Rattle.jn_recovery.proofs.Common.{◌≡◌, ◌⊎◌, inl, inr, ⊎_elim, ◌<◌, ◌≤◌, ◌+◌, ◌*◌, ℕ, suc, Bool, true, false, List, [], refl, sym, ◌∙◌, ap, subst, true≢false, arith, cases_eq, ServerNo, TableView, IsTableLoaded, found_on, root_by, RootPut, IsPutStep, MakesEpoch, standing_state, counts_on, Head, Record, Root, root_page, Counts, data_place, StableState, StoreView, StorePut, IsClean, IsWholePage, later_trans, same_trans, only_clean, stop_since, calm_on, IsSameOrNext, IsDown, front_count, reading_calls, most_calls, KeepsDataPages, rubbish_in, next_root, Stands, IsOpened, ErasesAll, EraseStopped, IsBegun, Stopped, Opened}
+use Rattle.jn_recovery.proofs.Common.{◌≡◌, ◌⊎◌, inl, inr, ⊎_elim, ◌<◌, ◌≤◌, ◌+◌, ◌*◌, ℕ, suc, Bool, true, false, List, [], refl, sym, ◌∙◌, ap, subst, true≢false, arith, cases_eq, ServerNo, TableView, IsTableLoaded, found_on, root_by, RootPut, IsPutStep, MakesEpoch, standing_state, counts_on, Head, Record, Root, root_page, Counts, data_place, StableState, StoreView, StorePut, IsClean, IsOnly, IsWholePage, later_trans, same_trans, same_only, only_clean, stop_since, calm_on, IsSameOrNext, IsDown, front_count, reading_calls, most_calls, KeepsDataPages, rubbish_in, next_root, Stands, IsOpened, ErasesAll, EraseStopped, IsBegun, Stopped, Opened}
 use Rattle.jn_recovery.proofs.Downs.{recovering_by, stopped_down}
 
 pub same_or_next_at : (x y : StableState) (e : ℕ) → y ≡ record x { epoch = e } → (e ≡ x.epoch) ⊎ (e ≡ suc x.epoch) → IsSameOrNext x y
@@ -21,7 +21,7 @@ module _ (server : ServerNo) (g : Counts) (v : StoreView) (o : Opened) (u : Stor
 
     step : IsPutStep server g u (RootPut (o.root.epoch + 1)) ok x
     step = record {
-      page = let fits = at.stands.standing.held.root_fits in record { version = fits.version; server = fits.server; pool = fits.pool; heads = fits.heads; leaves = fits.leaves; epoch = let last = at.last in omega (arith, last) };
+      page = let fits = at.stands.standing.held.root_fits in record { version = inr refl; server = fits.server; pool = fits.pool; heads = fits.heads; leaves = fits.leaves; epoch = let last = at.last in omega (arith, last) };
       step = subst (λ (r : Root). StorePut u 0 (root_page r) ok x) next_is put;
     }
 
@@ -96,7 +96,7 @@ module _ (server : ServerNo) (g : Counts) (v : StoreView) (most was : ℕ) (reco
 pub begun : (server : ServerNo) (g : Counts) (v : StoreView) (o : Opened) (u x : StoreView) (at : IsOpened server g v o u) → StorePut u 0 (root_page (next_root o.root)) true x
     → (new : List Record) (y : StoreView) → ErasesAll server g x (o.root.epoch + 1) o.table.heads new y → (p : Opened) → p.root ≡ o.root → p.sets ≡ new → p.table ≡ o.table → IsBegun server g v p (o.root.epoch + 1) y
 begun server g v o u x at put new y all p a b c = record {
-  root = a ∙ at.root ∙ ap (λ (r : Root). root_by server g r.epoch) (sym a);
+  root = a ∙ at.root ∙ ap (λ (r : Root). record (root_by server g r.epoch) { version = r.version }) (sym a);
   last = subst (λ (r : Root). r.epoch < 4294967295) (sym a) at.last;
   next = ap (λ (r : Root). r.epoch + 1) (sym a);
   table = subst (IsTableLoaded g) (sym c) at.table;
@@ -105,6 +105,7 @@ begun server g v o u x at put new y all p a b c = record {
       (subst (λ l. Stands server g v (reading_calls g + 16 + 16 * g.pool) o.root.epoch (o.root.epoch + 1) l p.table.heads y) (sym b)
       (subst (λ (t : TableView). Stands server g v (reading_calls g + 16 + 16 * g.pool) o.root.epoch (o.root.epoch + 1) new t.heads y) (sym c)
       (erase_stands server g v (reading_calls g + 16) o.root.epoch o.sets o.table.heads x (put_stands server g v o u at true x put refl) new y all))));
+  written = same_only x y 0 _ all.erases.root (subst (λ (r : Root). IsOnly x 0 (root_page r)) (next_is server g v o u at true x put) (put.done refl));
   power = all.erases.power (put.served refl).power;
   none_left = subst (λ l. rubbish_in l l ≡ []) (sym b) all.none_left;
 }

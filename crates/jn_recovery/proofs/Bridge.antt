@@ -5,12 +5,12 @@ use Rattle.jn_order.specs.Files.{there}
 -- whether it is a file's head
 pub same_test : (f : FileNo) (h : Head) → is_of f h ≡ is_head_of f h
 same_test f FreeHead = refl
-same_test f (Used g xs) = refl
+same_test f (Used g xs maps) = refl
 
 -- a block's address
 pub same_address : (h : Head) (p : BlockNo) → address_of h p.0 ≡ address_at h p
 same_address FreeHead p = refl
-same_address (Used f xs) p = refl
+same_address (Used f xs maps) p = refl
 
 -- a file's addresses are those of its head
 pub found_addresses : (f : FileNo) (heads : List Head) → addresses f heads ≡ option_map addresses_of (find (is_head_of f) heads)
@@ -38,4 +38,4 @@ same_mapped heads blocks f p = ap (λ o. nat_lt 0 (slice_index (or_nil o) p.0)) 
     by : (o : Option Head) → nat_lt 0 (slice_index (or_nil (option_map addresses_of o)) p.0) ≡ is_some (option_and_then (block_in blocks p) o)
     by None = refl
     by (Some FreeHead) = refl
-    by (Some (Used g xs)) = leads (slice_index xs p.0)
+    by (Some (Used g xs maps)) = leads (slice_index xs p.0)

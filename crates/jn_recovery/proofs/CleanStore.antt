@@ -1,5 +1,5 @@
 -- What stands on a store of which root, records and heads are clean.
-use Rattle.jn_recovery.proofs.Common.{◌≡◌, ⊎_elim, ◌<◌, ◌+◌, ℕ, zero, suc, true, false, if◌then◌else◌, List, [], length, get_or, refl, sym, ◌∙◌, ap, subst, arith, cases_lt, nat_tests, get_or_past, nat_lt, BlockNo, FileNo, ServerNo, address_of, head_in, IsHeadOf, AreHeads, IsLoadable, is_head_of, IsHeadStored, held_contents, found_on, pages_by, root_by, epoch_by, listed, head_on, head_or_free, heads_on, IsOfFormat, IsRecoverable, IsConsistent, IsStanding, Head, FreeHead, Used, Record, head_page, root_page, IsRoot, Counts, page_count, slot_place, head_place, root_is_read, slot_page, HoldsRecords, IsReadable, IsRecordPage, StoreView, IsClean, IsOnly, front_count}
+use Rattle.jn_recovery.proofs.Common.{◌≡◌, ⊎_elim, ◌<◌, ◌+◌, ℕ, zero, suc, true, false, if◌then◌else◌, List, [], length, get_or, refl, sym, ◌∙◌, ap, subst, arith, cases_lt, nat_tests, get_or_past, nat_lt, BlockNo, FileNo, ServerNo, address_of, head_in, IsHeadOf, AreHeads, IsLoadable, is_head_of, IsHeadStored, held_contents, found_on, pages_by, root_by, epoch_by, listed, head_on, head_or_free, heads_on, IsOfFormat, IsRecoverable, IsConsistent, IsStanding, Head, FreeHead, Used, Record, Root, head_page, root_page, IsRoot, Counts, page_count, slot_place, head_place, root_is_read, slot_page, HoldsRecords, IsReadable, IsRecordPage, StoreView, IsClean, IsOnly, front_count}
 use Rattle.jn_page_state.proofs.PageChanges.{length-listed}
 use Rattle.jn_records.proofs.Heads.{head_is_read}
 use Rattle.jn_recovery.proofs.Bridge.{same_test, same_address}
@@ -13,14 +13,20 @@ listed_at f d i (suc n) (suc k) lt = listed_at f d (suc i) n k (omega (arith, lt
 -- a head with an address has a file
 head_has : (h : Head) (p a : ℕ) → address_of h p ≡ suc a → (f : FileNo) × (is_head_of f h ≡ true)
 head_has FreeHead p a e = absurd (omega (arith, e))
-head_has (Used f xs) p a e = (f, grind (arith, nat_tests))
+head_has (Used f xs maps) p a e = (f, grind (arith, nat_tests))
 
 module _ (server : ServerNo) (g : Counts) (u : StoreView) (recoverable : IsRecoverable server g u) (clean : (i : ℕ) → i < front_count g → IsClean u i) where
   format : IsOfFormat server g (pages_by u (λ n. false))
   format = (recoverable.each (λ n. false)).of_format
 
+  abbrev pub root_version : ℕ
+  root_version = (recoverable.each (λ n. false)).of_format.root.0
+
   abbrev pub root_epoch : ℕ
-  root_epoch = (recoverable.each (λ n. false)).of_format.root.0
+  root_epoch = (recoverable.each (λ n. false)).of_format.root.1
+
+  abbrev pub root_there : Root
+  root_there = record (root_by server g (recoverable.each (λ n. false)).of_format.root.1) { version = (recoverable.each (λ n. false)).of_format.root.0 }
 
   within : (k : ℕ) → k < page_count g → k < u.count
   within k lt = subst (λ n. k < n) recoverable.count lt
@@ -34,14 +40,14 @@ module _ (server : ServerNo) (g : Counts) (u : StoreView) (recoverable : IsRecov
   only_at : (k : ℕ) (page : List ℕ) → k < front_count g → pages_by u (λ n. false) k ≡ page → IsOnly u k page
   only_at k page lt e = let first : u.first k ≡ page = sym (page_first k (omega (arith, lt))) ∙ e in record { first = first; second = sym (clean k lt) ∙ first }
 
-  pub root_is : IsRoot (root_by server g root_epoch)
-  root_is = (recoverable.each (λ n. false)).of_format.root.1
+  pub root_is : IsRoot root_there
+  root_is = (recoverable.each (λ n. false)).of_format.root.2
 
-  pub root_only : IsOnly u 0 (root_page (root_by server g root_epoch))
-  root_only = only_at 0 (root_page (root_by server g root_epoch)) (omega arith) (recoverable.each (λ n. false)).of_format.root.2
+  pub root_only : IsOnly u 0 (root_page root_there)
+  root_only = only_at 0 (root_page root_there) (omega arith) (recoverable.each (λ n. false)).of_format.root.3
 
   pub root_found : (found_on g u (λ n. false)).epoch ≡ root_epoch
-  root_found = ap epoch_by (root_is_read (pages_by u (λ n. false) 0) (root_by server g root_epoch) root_is (recoverable.each (λ n. false)).of_format.root.2)
+  root_found = ap epoch_by (root_is_read (pages_by u (λ n. false) 0) root_there root_is (recoverable.each (λ n. false)).of_format.root.3)
 
   pub slots_readable : (slot : ℕ) → slot < g.pool → IsReadable u slot
   slots_readable slot lt = record {
@@ -57,11 +63,12 @@ module _ (server : ServerNo) (g : Counts) (u : StoreView) (recoverable : IsRecov
       subst (IsHeadStored g u place) (sym (listed_at (head_on g (pages_by u (λ n. false))) FreeHead 0 g.heads place lt ∙ ap (head_on g (pages_by u (λ n. false))) zero_on ∙ read))
       (record { whole = at.1; fits = at.2; only = only_at (head_place g place) (head_page at.0) (omega (arith, lt)) at.3 })
 
-  module _ (epoch : ℕ) (is : IsRoot (root_by server g epoch)) (only : IsOnly u 0 (root_page (root_by server g epoch))) (records : List Record) (size : length records ≡ g.pool) (hold : HoldsRecords records u) where
+  module _ (version epoch : ℕ) (is : IsRoot (record (root_by server g epoch) { version = version })) (only : IsOnly u 0 (root_page (record (root_by server g epoch) { version = version }))) (records : List Record) (size : length records ≡ g.pool) (hold : HoldsRecords records u) where
     pub standing : IsStanding server g u epoch records (heads_on g (pages_by u (λ n. false)))
     standing = record {
       held = record {
         count = recoverable.count;
+        version = version;
         root_fits = is;
         root = only;
         slots = size;

@@ -14,8 +14,9 @@ pub use Rattle.jn_records.specs.declared.record.Record.{Record}
 pub use Rattle.jn_records.specs.declared.root.Root.{Root}
 pub use Rattle.jn_records.specs.Pages.{root_page, IsRoot}
 pub use Rattle.jn_rows.specs.Stable.{StableState, Pick, Changed, AddFlag, DropFlag, made_by, flag_state, stable, IsUp, ready_work, Prepared, MarkGoing, RemoveWork, gone_on, at_work}
-pub use Rattle.jn_store.specs.Store.{StoreView, StorePut, IsClean, IsWholePage, StoreCleaned, IsSamePage, IsOnly, StoreLater, IsCalm, IsStop, IsServed, HasSamePages}
+pub use Rattle.jn_store.specs.Store.{StoreView, StorePut, IsClean, IsOnly, IsWholePage, StoreCleaned, IsSamePage, StoreLater, IsCalm, IsStop, IsServed, HasSamePages}
 pub use Rattle.jn_store.proofs.Laws.{later_trans, same_trans, only_clean, stop_since, calm_on, later_refl, same_refl, same_shrinks}
+pub use Rattle.jn_files.proofs.Putting.{same_only, files_said, same_leaves, says_choice, files_first, named_below}
 pub use Rattle.jn_recovery.specs.Loading.{IsSameOrNext, IsDown, front_count, reading_calls, KeepsDataPages, Recovering, IsUsedUp, IsNotUsedUp, IsLoaded, IsUntouched}
 pub use Rattle.jn_recovery.specs.Counts.{most_calls, counts_by}
 pub use Rattle.jn_recovery.specs.Memory.{rubbish_in, Memory, accounts_of, held_in, next_in, next_by, stored_by, holds_page, rubbish_of, view_of}
@@ -48,13 +49,13 @@ pub use Rattle.jn_records.specs.declared.intention.StoredIntention.{StoredIntent
 pub use Rattle.jn_records.specs.declared.record.Record.TheVariants.{Free, Intention, Ready, Going, Flag as FlagRecord}
 pub use Rattle.jn_records.specs.declared.work.WorkState.{WorkState}
 pub use Rattle.jn_records.specs.Intentions.{intention_has_page}
-pub use Rattle.jn_records.specs.NetLists.{needs_a_head, is_put, is_put_intention, is_fresh}
+pub use Rattle.jn_records.specs.NetLists.{needs_a_head, is_put, is_put_intention, heads_of, is_fresh}
 pub use Rattle.jn_records.specs.Records.{has_page, RecordFits, record_page, FlagFits}
 pub use Rattle.jn_storage.specs.Calls.{name_of, state, Called, RecordErased, CountsErased, tid_of, HasFlag, MayPutFlag, FlagPut, FlagDropped, FlagPromised, PromiseReleased, TellsFlags, with_promises, outline, outline_of, IsTold, TellsWorks, CountsOff}
 pub use Rattle.jn_storage.specs.Finding.{find_by}
 pub use Rattle.jn_storage.specs.Listing.{total, is_in, are_different, AtMost, IsListing}
 pub use Rattle.jn_storage.specs.Storage.{IsCounted, IsServing, Accounts, is_stored}
-pub use Rattle.jn_storage.specs.Orderly.{file_there, needed, list_of, intentions, IsGiven, IsOrderly}
+pub use Rattle.jn_storage.specs.Orderly.{file_there, list_of, intentions, IsGiven, IsOrderly}
 pub use Rattle.jn_storage.proofs.Listings.{Tells, but, is_in-but, different-but, total-but, listing-less, listing-more, listing-same, total-same}
 pub use Rattle.jn_recovery.specs.Gathering.{collected, state_on, works_on, IsFew, address_in, names_page, all_needed, MayHold, HoldsNamed, flags_on, MayPromise, IsGathered}
 pub use Rattle.jn_recovery.specs.Matches.{stored_work, Matches, IsKeptMemory, FlagsMatch, flag_on, IsMade, WorksMatch, work_by, StoredWork}
@@ -69,7 +70,6 @@ pub use Rattle.jn_sets.specs.Sets.{Puts, StoreRead as SetsRead}
 pub use Rattle.jn_records.specs.declared.flag.Flag.{Flag}
 pub use Rattle.jn_storage.proofs.Finds.{find-kept, find-add, find-at, find-listed, keys-kept, different-kept, different-add, map-add}
 pub use Rattle.jn_storage.proofs.Kept.{orderly-put, orderly-dropped, orderly-marked, orderly-removed}
-pub use Rattle.jn_files.proofs.Putting.{same_only, files_said, same_leaves, says_choice, files_first, named_below}
 pub use Rattle.jn_recovery.specs.Causes.{down_of}
 pub use Rattle.std.proofs.Math.Path.{fun_ext}
 pub use Rattle.jn_page_state.proofs.FilesOnPages.{state_on_pages}

@@ -1,5 +1,5 @@
 -- Everything is counted: of what a recovery finds, and of what it keeps in memory.
-use Rattle.jn_recovery.proofs.Common.{◌≡◌, inl, inr, ◌⊎◌, ⊎_elim, ◌<◌, ◌≤◌, ◌^◌, ℕ, zero, suc, Bool, true, false, not, ◌||◌, ◌&&◌, if◌then◌else◌, List, [], ◌∷◌, length, map, Option, Some, None, refl, sym, ◌∙◌, ap, subst, true≢false, arith, cases_lt, nat_tests, get_or_past, sum_by-cons, All, nat_eq, nat_lt, count_by, option_map, find, list_any, list_all, ServerNo, Tid, WorkId, file_eq, work_eq, file_tells, work_tells, TableView, IsTable, is_held, Contents, state_in, files_in, with_first, intended, stored_list, intentions_from, intention_of, heads_name, IsConsistent, Intends, PassesOnce, FullIntention, StoredIntention, Record, Free, Intention, Ready, Going, FlagRecord, WorkState, intention_has_page, needs_a_head, is_put, is_put_intention, has_page, RecordFits, Counts, record_in, is_prepared, name_of, find_by, total, is_in, are_different, IsCounted, file_there, needed, list_of, intentions, Tells, but, is_in-but, different-but, total-but, collected, state_on, works_on, IsFew, address_in, names_page, all_needed, stored_work, Memory, accounts_of, held_in, next_in, next_by, stored_by, holds_page, rubbish_in, heads_needed}
+use Rattle.jn_recovery.proofs.Common.{◌≡◌, inl, inr, ◌⊎◌, ⊎_elim, ◌<◌, ◌≤◌, ◌^◌, ℕ, zero, suc, Bool, true, false, not, ◌||◌, ◌&&◌, if◌then◌else◌, List, [], ◌∷◌, length, map, Option, Some, None, refl, sym, ◌∙◌, ap, subst, true≢false, arith, cases_lt, nat_tests, get_or_past, sum_by-cons, All, nat_eq, nat_lt, count_by, option_map, find, list_any, list_all, ServerNo, Tid, WorkId, file_eq, work_eq, file_tells, work_tells, TableView, IsTable, is_held, Contents, state_in, files_in, with_first, intended, stored_list, intentions_from, intention_of, heads_name, IsConsistent, Intends, PassesOnce, FullIntention, StoredIntention, Record, Free, Intention, Ready, Going, FlagRecord, WorkState, intention_has_page, needs_a_head, is_put, is_put_intention, has_page, RecordFits, Counts, record_in, is_prepared, name_of, find_by, total, is_in, are_different, IsCounted, file_there, list_of, intentions, Tells, but, is_in-but, different-but, total-but, collected, state_on, works_on, IsFew, address_in, names_page, all_needed, stored_work, Memory, accounts_of, held_in, next_in, next_by, stored_by, holds_page, rubbish_in, heads_needed, heads_of}
 use Rattle.jn_recovery.proofs.TableCounted.{file_of_head, files_listed, heads_counted, all_units, blocks_listed, pages_counted}
 use Rattle.std.proofs.lemmas.List.Elements.{All-nil, All-cons}
 use Rattle.jn_alloc.specs.Free.{free_count}
@@ -87,21 +87,21 @@ module _ (server : ServerNo) (g : Counts) (c : Contents) (consistent : IsConsist
 
   -- ---- what the works need
 
-  needs_at : (j : ℕ) (w : WorkId) (at : IsPreparedAt server g c consistent none_left j w) → (needed (state_in c) (list_of (state_in c) w)).heads ≡ heads_needed c.heads at.state.list
+  needs_at : (j : ℕ) (w : WorkId) (at : IsPreparedAt server g c consistent none_left j w) → heads_of (list_of (state_in c) w) (file_there (state_in c).files) ≡ heads_needed c.heads at.state.list
   needs_at j w at =
       ap (count_by (λ (i : FullIntention). needs_a_head (file_there (files_in c.heads c.blocks) i.file) i)) at.list
       ∙ heads_are c.blocks c.heads (file_there (files_in c.heads c.blocks)) (same_there c.heads) (stored_list c.pool w at.count) ∙ ap (heads_needed c.heads) (sym at.listed)
 
-  needs_are : total (λ w. (needed (state_in c) (list_of (state_in c) w)).heads) (collected named c.pool) ≡ all_needed c.heads (works_on c.pool)
+  needs_are : total (λ w. heads_of (list_of (state_in c) w) (file_there (state_in c).files)) (collected named c.pool) ≡ all_needed c.heads (works_on c.pool)
   needs_are =
-      keys_total named (λ w. (needed (state_in c) (list_of (state_in c) w)).heads) c.pool
-      ∙ total_same Free (λ r. on_key (λ w. (needed (state_in c) (list_of (state_in c) w)).heads) (named r)) (λ r. on_key (λ (s : WorkState). heads_needed c.heads s.list) (state_on c.pool r)) c.pool (λ j. by j (record_in c.pool j) refl)
+      keys_total named (λ w. heads_of (list_of (state_in c) w) (file_there (state_in c).files)) c.pool
+      ∙ total_same Free (λ r. on_key (λ w. heads_of (list_of (state_in c) w) (file_there (state_in c).files)) (named r)) (λ r. on_key (λ (s : WorkState). heads_needed c.heads s.list) (state_on c.pool r)) c.pool (λ j. by j (record_in c.pool j) refl)
       ∙ sym (keys_total (state_on c.pool) (λ (s : WorkState). heads_needed c.heads s.list) c.pool)
     where
-      prepared : (j : ℕ) (w : WorkId) → named (record_in c.pool j) ≡ Some w → (needed (state_in c) (list_of (state_in c) w)).heads ≡ on_key (λ (s : WorkState). heads_needed c.heads s.list) (state_on c.pool (record_in c.pool j))
+      prepared : (j : ℕ) (w : WorkId) → named (record_in c.pool j) ≡ Some w → heads_of (list_of (state_in c) w) (file_there (state_in c).files) ≡ on_key (λ (s : WorkState). heads_needed c.heads s.list) (state_on c.pool (record_in c.pool j))
       prepared j w e = let at = prepared_at server g c consistent none_left j w e in needs_at j w at ∙ sym (ap (on_key (λ (s : WorkState). heads_needed c.heads s.list)) at.state_is)
 
-      by : (j : ℕ) (r : Record) → record_in c.pool j ≡ r → on_key (λ w. (needed (state_in c) (list_of (state_in c) w)).heads) (named r) ≡ on_key (λ (s : WorkState). heads_needed c.heads s.list) (state_on c.pool r)
+      by : (j : ℕ) (r : Record) → record_in c.pool j ≡ r → on_key (λ w. heads_of (list_of (state_in c) w) (file_there (state_in c).files)) (named r) ≡ on_key (λ (s : WorkState). heads_needed c.heads s.list) (state_on c.pool r)
       by j Free e = refl
       by j (Intention v u k i) e = refl
       by j (Ready head n reads) e = prepared j head.work (ap named e) ∙ ap (λ r. on_key (λ (s : WorkState). heads_needed c.heads s.list) (state_on c.pool r)) e
@@ -152,7 +152,7 @@ module _ (server : ServerNo) (g : Counts) (epoch : ℕ) (pool : List Record) (t 
       let here = works_listed server g c consistent none_left in
       let files = files_listed t table blocks in
       let needs = needs_are server g c consistent none_left in
-      let totals = same_total work_eq work_tells (λ w. (needed (state_in c) (list_of (state_in c) w)).heads) (collected named pool) may.works here.different may.works_all.different (λ w. here.all w ∙ sym (may.works_all.all w)) in
+      let totals = same_total work_eq work_tells (λ w. heads_of (list_of (state_in c) w) (file_there (state_in c).files)) (collected named pool) may.works here.different may.works_all.different (λ w. here.all w ∙ sym (may.works_all.all w)) in
       let lengths = same_length file_eq file_tells (collected file_of_head t.heads) may.files files.different may.files_all.different (λ f. files.all f ∙ sym (may.files_all.all f)) in
       let all = heads_counted t table blocks in
       let size = ap (λ (k : Counts). k.heads) counts in
@@ -244,7 +244,7 @@ module _ (server : ServerNo) (g : Counts) (epoch : ℕ) (pool : List Record) (t 
           by Gone e = none (let is = h in grind (arith, nat_tests, e, is))
           by Cut e = none (let is = h in grind (arith, nat_tests, e, is))
 
-  pub holds_fit : ((slot : ℕ) → slot < length pool → has_page (record_in pool slot) ≡ true) → (w : WorkId) → held_in (works_on pool) t.heads w ≤ (needed (state_in (record { epoch = epoch; pool = pool; heads = t.heads; blocks = blocks })) (list_of (state_in (record { epoch = epoch; pool = pool; heads = t.heads; blocks = blocks })) w)).pages
+  pub holds_fit : ((slot : ℕ) → slot < length pool → has_page (record_in pool slot) ≡ true) → (w : WorkId) → held_in (works_on pool) t.heads w ≤ count_by is_put_intention (list_of (state_in (record { epoch = epoch; pool = pool; heads = t.heads; blocks = blocks })) w)
   holds_fit pages w = subst (λ l. held_in (works_on pool) t.heads w ≤ count_by is_put_intention l) (sym (list_is w)) (by (find_by work_eq name_of (works_on pool) w) refl)
     where
       by : (o : Option WorkState) → find_by work_eq name_of (works_on pool) w ≡ o → count_by (holds_page t.heads) (stored_by o) ≤ count_by is_put_intention (intentions (option_map (prepared_of blocks) (option_map stored_work o)))

@@ -1,5 +1,5 @@
 -- A record that counts for nothing is erased.
-use Rattle.jn_recovery.proofs.Common.{◌≡◌, ◌⊎◌, inl, inr, ⊎_elim, ◌<◌, ◌+◌, ℕ, zero, suc, Bool, true, false, not, ◌||◌, if◌then◌else◌, List, [], ◌∷◌, ◌++◌, length, Option, Some, None, refl, sym, ◌∙◌, ap, subst, true≢false, arith, length-append, sum_by-set, sum_by-cons, is_ok, IfOk, Result, Ok, Err, nat_eq, position, slice_set, count_by, list_any, Tid, WorkId, work_eq, IsIdlePut, holds_address, found_on, RecordPut, IsRecoverable, MakesNothing, idles, StoredIntention, Record, Free, Intention, Ready, Going, FlagRecord, record_page, record_in, slot_page, is_free, is_prepared, is_flag, is_rubbish, Puts, is_in, IsServing, state, Called, RecordErased, CountsErased, StoreView, Memory, accounts_of, view_of, rubbish_of, rubbish_in, Matches, IsKeptMemory}
+use Rattle.jn_recovery.proofs.Common.{◌≡◌, ◌⊎◌, inl, inr, ⊎_elim, ◌<◌, ◌+◌, ℕ, zero, suc, Bool, true, false, not, ◌||◌, if◌then◌else◌, List, [], ◌∷◌, ◌++◌, length, Option, Some, None, refl, sym, ◌∙◌, ap, subst, true≢false, arith, length-append, sum_by-set, sum_by-cons, is_ok, IfOk, Result, Ok, Err, nat_eq, position, slice_set, count_by, list_any, Tid, WorkId, work_eq, IsIdlePut, holds_address, found_on, RecordPut, IsRecoverable, MakesNothing, idles, StoredIntention, Record, Free, Intention, Ready, Going, FlagRecord, record_page, record_in, slot_page, is_free, is_prepared, is_flag, is_rubbish, Puts, is_in, IsServing, state, Called, RecordErased, CountsErased, StoreView, Memory, accounts_of, view_of, rubbish_of, rubbish_in, Matches, IsKeptMemory, same_only}
 use Rattle.std.proofs.Common.{◌&&◌}
 use Rattle.jn_base.specs.declared.device.Stopped.{Stopped}
 use Rattle.jn_storage.proofs.Laws.{called_not}
@@ -140,6 +140,7 @@ module _ (m : Memory) (v : StoreView) (now : Matches m v) (serving : IsServing (
       pub erased_matches : ok ≡ true → Matches (without_record m slot) w
       erased_matches done = record {
         standing = makes.standing done;
+        root = same_only v w 0 _ (puts.put.others 0 (let count = now.standing.held.count in omega (arith, count)) (λ e. omega (arith, e))) now.root;
         table = now.table;
         works = idle_works m.records slot Free idle_put m.works now.works;
         made = now.made;

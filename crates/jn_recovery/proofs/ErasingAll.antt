@@ -15,6 +15,7 @@ module _ (server : ServerNo) (g : Counts) (v : StoreView) (epoch : ℕ) (heads :
     power = λ p. p;
     standing = standing;
     unchanged = stands_up server g v epoch records heads standing;
+    root = same_refl v 0;
     clean = λ i lt is. is;
     data_pages = λ d lt. same_refl v (data_place g d);
   }
@@ -28,6 +29,7 @@ module _ (server : ServerNo) (g : Counts) (v : StoreView) (epoch : ℕ) (heads :
       power = e.power;
       standing = e.standing;
       unchanged = e.unchanged;
+      root = e.root;
       clean = e.clean;
       data_pages = e.data_pages;
     };
@@ -55,6 +57,7 @@ module _ (server : ServerNo) (g : Counts) (v : StoreView) (epoch : ℕ) (heads :
       power = λ p. (puts.put.served done).power;
       standing = subst (λ r. IsStanding server g w epoch r heads) (sym (puts.done done)) (makes.standing done);
       unchanged = λ c. makes.unchanged c ∙ same_state;
+      root = same_trans v u w 0 before.root (let count = before.standing.held.count in puts.put.others 0 (omega (arith, count)) (λ e. omega (arith, e)));
       clean = λ i lt is. ⊎_elim
           (λ e. subst (IsClean w) (sym e) (only_clean w (slot_page slot) _ (puts.put.done done)))
           (λ ne. let same = puts.put.others i (subst (λ k. i < k) (sym before.later.count) lt) ne in same.first ∙ before.clean i lt is ∙ sym same.second)

@@ -1,5 +1,5 @@
 -- A flag is put and dropped, each by one put of its record.
-use Rattle.jn_recovery.proofs.Common.{◌≡◌, ◌≢◌, ⊎_elim, ◌<◌, ◌≤◌, ◌+◌, ◌-◌, ℕ, suc, Bool, true, false, not, ◌||◌, if◌then◌else◌, List, [], ◌∷◌, ◌++◌, map, Option, Some, None, refl, sym, ◌∙◌, ap, subst, true≢false, arith, find_past, Ok, MatchOption, is_some, filter, position, slice_set, slice_index_or, option_map, option_and_then, find, list_any, AllByRecursion, nat_tests, Tid, tid_eq, tid_tells, IsFlagSlot, IsFlagPut, flag_by, flags_in, RecordPut, IsRecoverable, Makes, flags_put, drops, found_written, none_at, Flag, Record, Free, Intention, Ready, Going, FlagRecord, record_page, FlagFits, found_on, StableState, Changed, AddFlag, DropFlag, made_by, flag_state, IsRecord, record_in, slot_page, is_free, free_count, is_flag, Puts, are_different, IsServing, state, tid_of, HasFlag, MayPutFlag, FlagPut, FlagDropped, FlagPromised, PromiseReleased, TellsFlags, find_by, find-kept, find-add, find-at, find-listed, keys-kept, different-kept, different-add, map-add, StoreView, Memory, accounts_of, view_of, rubbish_in, Matches, IsKeptMemory, FlagsMatch, flag_on}
+use Rattle.jn_recovery.proofs.Common.{◌≡◌, ◌≢◌, ⊎_elim, ◌<◌, ◌≤◌, ◌+◌, ◌-◌, ℕ, suc, Bool, true, false, not, ◌||◌, if◌then◌else◌, List, [], ◌∷◌, ◌++◌, map, Option, Some, None, refl, sym, ◌∙◌, ap, subst, true≢false, arith, find_past, Ok, MatchOption, is_some, filter, position, slice_set, slice_index_or, option_map, option_and_then, find, list_any, AllByRecursion, nat_tests, Tid, tid_eq, tid_tells, IsFlagSlot, IsFlagPut, flag_by, flags_in, RecordPut, IsRecoverable, Makes, flags_put, drops, found_written, none_at, Flag, Record, Free, Intention, Ready, Going, FlagRecord, record_page, FlagFits, found_on, StableState, Changed, AddFlag, DropFlag, made_by, flag_state, IsRecord, record_in, slot_page, is_free, free_count, is_flag, Puts, are_different, IsServing, state, tid_of, HasFlag, MayPutFlag, FlagPut, FlagDropped, FlagPromised, PromiseReleased, TellsFlags, find_by, find-kept, find-add, find-at, find-listed, keys-kept, different-kept, different-add, map-add, StoreView, Memory, accounts_of, view_of, rubbish_in, Matches, IsKeptMemory, FlagsMatch, flag_on, same_only}
 use Rattle.jn_sets.proofs.Slots.{none_counted}
 use Rattle.jn_recovery.proofs.FlagStates.{with_flag_less, with_flag_more, serves_dropped, serves_flagged, serves_promised}
 use Rattle.jn_recovery.proofs.Pool.{position_at, none_position, step_of, free_less, free_more, IsOfNoWork, free_no_work, flag_no_work, flag_is, free_is, rubbish_stays, names_stay, match_stays}
@@ -150,6 +150,7 @@ module _ (m : Memory) (v : StoreView) (now : Matches m v) (serving : IsServing (
       pub dropped_matches : ok ≡ true → Matches (without_flag m slot t) w
       dropped_matches done = record {
         standing = makes.standing done;
+        root = same_only v w 0 _ (puts.put.others 0 (let count = now.standing.held.count in omega (arith, count)) (λ e. omega (arith, e))) now.root;
         table = now.table;
         works = match_stays m.records slot Free no_work free_no_work m.works now.works;
         made = now.made;
@@ -206,6 +207,7 @@ module _ (m : Memory) (v : StoreView) (now : Matches m v) (serving : IsServing (
       pub put_matches : ok ≡ true → Matches (with_flag m slot flag promised) w
       put_matches done = record {
         standing = makes_flag.standing done;
+        root = same_only v w 0 _ (puts.put.others 0 (let count = now.standing.held.count in omega (arith, count)) (λ e. omega (arith, e))) now.root;
         table = now.table;
         works = match_stays m.records slot (FlagRecord flag) no_work_yet (flag_no_work flag) m.works now.works;
         made = now.made;

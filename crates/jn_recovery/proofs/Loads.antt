@@ -1,5 +1,5 @@
 -- What a recovery keeps in memory is what stands on the pages, and the storage serves.
-use Rattle.jn_recovery.proofs.Common.{◌≡◌, inr, ◌<◌, ◌≤◌, ◌+◌, ℕ, suc, true, false, List, [], Option, Some, None, get_or, refl, sym, ◌∙◌, ap, subst, arith, count_by-le-length, is_some, list_any, ServerNo, Tid, WorkId, work_eq, TableView, IsTable, is_held, is_touched, state_in, held_contents, found_on, pages_by, block_on, IsConsistent, IsRecoverable, Head, Record, Root, WorkState, Counts, slot_place, head_place, StableState, record_in, IsServing, state, TellsFlags, name_of, find_by, StoreView, works_on, flags_on, names_page, address_in, all_needed, MayHold, MayPromise, IsGathered, IsLoaded, IsDown, IsUntouched, Recovering, most_calls, Matches, IsMade, Memory, accounts_of, view_of, next_by, rubbish_in, Stands, IsBegun, NoMemory, Opened}
+use Rattle.jn_recovery.proofs.Common.{◌≡◌, inr, ◌<◌, ◌≤◌, ◌+◌, ℕ, suc, true, false, List, [], Option, Some, None, get_or, refl, sym, ◌∙◌, ap, subst, arith, count_by-le-length, is_some, list_any, ServerNo, Tid, WorkId, work_eq, TableView, IsTable, is_held, is_touched, state_in, held_contents, found_on, pages_by, block_on, IsConsistent, IsRecoverable, Head, Record, Root, WorkState, Counts, slot_place, head_place, StableState, record_in, IsServing, state, TellsFlags, name_of, find_by, StoreView, works_on, flags_on, names_page, address_in, all_needed, MayHold, MayPromise, IsGathered, IsLoaded, IsDown, IsUntouched, Recovering, most_calls, Matches, IsMade, Memory, accounts_of, view_of, next_by, rubbish_in, Stands, IsBegun, NoMemory, Opened, IsOnly, root_page, root_by}
 use Rattle.jn_storage.specs.Orderly.{IsLoadable}
 use Rattle.jn_recovery.specs.Kept.{memory_kept}
 use Rattle.jn_recovery.specs.declared.gathering.Kept.{Kept as KeptParts}
@@ -29,13 +29,14 @@ module _ (server : ServerNo) (g : Counts) (v : StoreView) (most was : ℕ) (reco
   memory_gone last = memory_down server g v w recovering (record { read = stands.before; before_last = subst (λ n. n < 4294967295) (sym stands.old) last })
 
 module _ (server : ServerNo) (v : StoreView) (most was : ℕ) (pool : List Record) (w : StoreView) (u : TableView) (stands : Stands server u.counts v most was (was + 1) pool u.heads w) (power : w.power ≡ true)
-    (none_left : rubbish_in pool pool ≡ []) (table : IsTable u) (held : (a : ℕ) → is_held u a ≡ list_any (names_page a) pool) (promised : u.free_heads.promised ≡ all_needed u.heads (works_on pool)) where
+    (none_left : rubbish_in pool pool ≡ []) (root : IsOnly w 0 (root_page (root_by server u.counts (was + 1)))) (table : IsTable u) (held : (a : ℕ) → is_held u a ≡ list_any (names_page a) pool) (promised : u.free_heads.promised ≡ all_needed u.heads (works_on pool)) where
   whole : IsConsistent server u.counts (held_contents u.counts w (was + 1) pool u.heads (λ n. false))
   whole = consistent server u.counts w (was + 1) pool u.heads stands.standing
 
   pub matches : Matches (memory_at server (was + 1) pool u) w
   matches = record {
     standing = stands.standing;
+    root = root;
     table = table;
     works = works_match pool whole.distinct.works;
     made = λ n. nothing_made u.heads (find_by work_eq name_of (works_on pool) n) (none_next server u.counts (was + 1) pool u (block_on u.counts (pages_by w (λ k. false))) table refl whole none_left n);
@@ -94,6 +95,7 @@ module _ (server : ServerNo) (v : StoreView) (most was : ℕ) (pool : List Recor
     epoch = epoch ∙ sym (ap (λ (x : StableState). x.epoch) (stands.found (λ n. false)));
     flags = subst (TellsFlags (view_of (memory_at server (was + 1) pool u) w)) (sym flags) (tells_flags (memory_at server (was + 1) pool u) w matches serving);
     epoch_fits = let fits : was + 1 < 4294967296 = omega (arith, last) in subst (λ n. n < 4294967296) (sym epoch) fits;
+    root = subst (λ n. IsOnly w 0 (root_page (root_by server u.counts n))) (sym epoch) root;
     works_earlier = works_before first;
     flags_earlier = flags_before first;
     front = record {
@@ -169,11 +171,14 @@ module _ (server : ServerNo) (g : Counts) (v : StoreView) (p : Opened) (epoch : 
     stood = subst (λ c. Stands server c v (most_calls g) p.root.epoch (p.root.epoch + 1) p.sets k.table.heads w) (sym counts_are)
         (subst (λ l. Stands server g v (most_calls g) p.root.epoch (p.root.epoch + 1) p.sets l w) (sym heads_are) begins)
 
+    written : IsOnly w 0 (root_page (root_by server k.table.counts (p.root.epoch + 1)))
+    written = subst (λ c. IsOnly w 0 (root_page (root_by server c (p.root.epoch + 1)))) (sym counts_are) (subst (λ n. IsOnly w 0 (root_page (root_by server g n))) at.next at.written)
+
     pub kept_matches : Matches (memory_kept k) w
-    kept_matches = subst (λ m. Matches m w) (sym memory_is) (matches server v (most_calls g) p.root.epoch p.sets w k.table stood at.power at.none_left is_table held promised)
+    kept_matches = subst (λ m. Matches m w) (sym memory_is) (matches server v (most_calls g) p.root.epoch p.sets w k.table stood at.power at.none_left written is_table held promised)
 
     pub kept_loaded : IsRecoverable server g v → (told : Found) → told.epoch ≡ epoch → told.flags ≡ flags_on p.sets → IsLoaded server g v told (view_of (memory_kept k) w)
     kept_loaded first told e f = subst (λ m. IsLoaded server g v told (view_of m w)) (sym memory_is)
         (subst (λ c. IsLoaded server c v told (view_of (memory_at server (p.root.epoch + 1) p.sets k.table) w)) counts_are
-        (loaded server v (most_calls g) p.root.epoch p.sets w k.table stood at.power at.none_left is_table held promised
+        (loaded server v (most_calls g) p.root.epoch p.sets w k.table stood at.power at.none_left written is_table held promised
         (subst (λ c. IsRecoverable server c v) (sym counts_are) first) at.last (subst (λ c. most_calls g ≤ most_calls c) (sym counts_are) (omega arith)) told (e ∙ at.next) f))

@@ -4,7 +4,7 @@ use Rattle.jn_base.specs.declared.fault.CallFault.{CallFault}
 use Rattle.jn_base.specs.declared.fault.CallFault.TheVariants as faults
 use Rattle.jn_recovery.specs.declared.load.DownCause.{DownCause}
 use Rattle.jn_recovery.specs.declared.load.DownCause.TheVariants.{Memory}
-use Rattle.jn_recovery.proofs.CleanStore.{root_epoch, root_is, root_only, root_found, slots_readable, standing, loadable}
+use Rattle.jn_recovery.proofs.CleanStore.{root_version, root_epoch, root_there, root_is, root_only, root_found, slots_readable, standing, loadable}
 use Rattle.jn_recovery.proofs.Downs.{recovering_fewer, stopped_down, memory_down, used_down}
 use Rattle.jn_recovery.proofs.Standing.{up, finds, standing_same}
 
@@ -54,15 +54,15 @@ module _ (server : ServerNo) (g : Counts) (v : StoreView) where
 
     -- and each pick reads it once pages are clean
     root_by_each : (w : StoreView) → StoreLater u w → ((j : ℕ) → IsSamePage u w j) → (c : Pick) → (found_on g w c).epoch ≡ root_epoch server g u before.recoverable before.clean
-    root_by_each w later same c = ap epoch_by (root_is_read (pages_by w c 0) (root_by server g (root_epoch server g u before.recoverable before.clean)) (root_is server g u before.recoverable before.clean) (ap (λ b. if b then half_of w 0 c else []) inside ∙ half (c 0)))
+    root_by_each w later same c = ap epoch_by (root_is_read (pages_by w c 0) (root_there server g u before.recoverable before.clean) (root_is server g u before.recoverable before.clean) (ap (λ b. if b then half_of w 0 c else []) inside ∙ half (c 0)))
       where
-        only : IsOnly w 0 (root_page (root_by server g (root_epoch server g u before.recoverable before.clean)))
+        only : IsOnly w 0 (root_page (root_there server g u before.recoverable before.clean))
         only = same_only u w 0 _ (same 0) (root_only server g u before.recoverable before.clean)
 
         inside : nat_lt 0 w.count ≡ true
         inside = let a = later.count in let b = before.recoverable.count in grind (arith, nat_tests, a, b)
 
-        half : (b : Bool) → (if b then w.second 0 else w.first 0) ≡ root_page (root_by server g (root_epoch server g u before.recoverable before.clean))
+        half : (b : Bool) → (if b then w.second 0 else w.first 0) ≡ root_page (root_there server g u before.recoverable before.clean)
         half true = only.second
         half false = only.first
 
@@ -73,7 +73,7 @@ module _ (server : ServerNo) (g : Counts) (v : StoreView) where
       stop_down : IsStop u w → (IsCalm u → ⊥) → IsDown server g v Stopped w
       stop_down stop calm = stopped_down server g v w recovering (stop_since v u w before.later later stop) (λ quiet. calm (before.later.calm quiet))
 
-      root_down : (cause : DownCause) → RootRead (root_by server g (root_epoch server g u before.recoverable before.clean)) (Err cause) → (cause ≡ Stopped → IsStop u w) → (IsCalm u → cause ≡ Stopped → ⊥) → (cause ≡ EpochsUsedUp → w.power ≡ true) → IsDown server g v cause w
+      root_down : (cause : DownCause) → RootRead (root_there server g u before.recoverable before.clean) (Err cause) → (cause ≡ Stopped → IsStop u w) → (IsCalm u → cause ≡ Stopped → ⊥) → (cause ≡ EpochsUsedUp → w.power ≡ true) → IsDown server g v cause w
       root_down Stopped read stop calm served = stop_down (stop refl) (λ quiet. calm quiet refl)
       root_down Memory read stop calm served = absurd read
       root_down EpochsUsedUp read stop calm served = used_down server g v w recovering (record { read = root_pick.0; last = root_pick.1 ∙ read; fewer = (reads_more k w later calls same).fewer; all = λ c. root_by_each w later same c ∙ read; power = served refl })
@@ -111,23 +111,29 @@ module _ (server : ServerNo) (g : Counts) (v : StoreView) (before : IsRecoverabl
   abbrev cleaned : IsRead server g v (16 * front_count g) u
   cleaned = reads_none server g v u before to
 
+  abbrev its_version : ℕ
+  its_version = root_version server g u cleaned.recoverable cleaned.clean
+
   abbrev its_epoch : ℕ
   its_epoch = root_epoch server g u cleaned.recoverable cleaned.clean
 
-  root_read : RootRead (root_by server g its_epoch) r
-  root_read = root (root_by server g its_epoch) (root_is server g u cleaned.recoverable cleaned.clean) (root_only server g u cleaned.recoverable cleaned.clean)
+  abbrev its_root : Root
+  its_root = root_there server g u cleaned.recoverable cleaned.clean
+
+  root_read : RootRead its_root r
+  root_read = root its_root (root_is server g u cleaned.recoverable cleaned.clean) (root_only server g u cleaned.recoverable cleaned.clean)
 
   abbrev is_last : Result Root DownCause → Bool
   is_last (Err EpochsUsedUp) = true
   is_last _ = false
 
   pub root_exit : (cause : DownCause) → r ≡ Err cause → (r ≡ Err Stopped → IsStop u x) → (IsCalm u → r ≢ Err Stopped) → (r ≢ Err Stopped → IsServed u x) → IsDown server g v cause x
-  root_exit cause is stop calm served = root_down server g v (16 * front_count g) u cleaned (8 * 1) x read.later read.calls read.same (omega arith) before cause (subst (RootRead (root_by server g its_epoch)) is root_read)
+  root_exit cause is stop calm served = root_down server g v (16 * front_count g) u cleaned (8 * 1) x read.later read.calls read.same (omega arith) before cause (subst (RootRead its_root) is root_read)
       (λ e. stop (is ∙ ap (λ (k : DownCause). Err k) e)) (λ quiet e. calm quiet (is ∙ ap (λ (k : DownCause). Err k) e)) (λ e. (served (λ k. true≢false (sym (ap is_last (is ∙ ap (λ (k : DownCause). Err k) e)) ∙ ap is_last k))).power)
 
   module _ (o : Root) (is : r ≡ Ok o) where
-    good : (o ≡ root_by server g its_epoch) × (its_epoch < 4294967295)
-    good = subst (RootRead (root_by server g its_epoch)) is root_read
+    good : (o ≡ its_root) × (its_epoch < 4294967295)
+    good = subst (RootRead its_root) is root_read
 
     left : IsNotUsedUp g v
     left = not_used_up server g v (16 * front_count g) u cleaned good.1
@@ -154,16 +160,16 @@ module _ (server : ServerNo) (g : Counts) (v : StoreView) (before : IsRecoverabl
       with_pool : IsRead server g v (16 * front_count g + 8 * 1 + 8 * o.pool) y
       with_pool = reads_more server g v (16 * front_count g + 8 * 1) x with_root (8 * o.pool) y more.later more.calls more.same
 
-      root_here : IsOnly y 0 (root_page (root_by server g its_epoch))
+      root_here : IsOnly y 0 (root_page its_root)
       root_here = same_only x y 0 _ (more.same 0) (same_only u x 0 _ (read.same 0) (root_only server g u cleaned.recoverable cleaned.clean))
 
       module _ (records : List Record) (size : length records ≡ o.pool) (hold : HoldsRecords records y) where
         stood : IsStanding server g y its_epoch records (heads_on g (pages_by y (λ n. false)))
-        stood = standing server g y with_pool.recoverable with_pool.clean its_epoch (root_is server g u cleaned.recoverable cleaned.clean) root_here records (size ∙ pool_is) hold
+        stood = standing server g y with_pool.recoverable with_pool.clean its_version its_epoch (root_is server g u cleaned.recoverable cleaned.clean) root_here records (size ∙ pool_is) hold
 
         pub heads_loadable : IsLoadable (counts_of o) (heads_on g (pages_by y (λ n. false))) y
         heads_loadable = subst (λ (k : Root). IsLoadable (counts_of k) (heads_on g (pages_by y (λ n. false))) y) (sym good.0)
-            (loadable server g y with_pool.recoverable with_pool.clean its_epoch (root_is server g u cleaned.recoverable cleaned.clean) root_here records (size ∙ pool_is) hold)
+            (loadable server g y with_pool.recoverable with_pool.clean its_version its_epoch (root_is server g u cleaned.recoverable cleaned.clean) root_here records (size ∙ pool_is) hold)
 
         module _ (z : StoreView) (last : TableRead y o.heads z) where
           few : 16 * front_count g + 8 * 1 + 8 * o.pool + 8 * o.heads ≤ most_calls g
@@ -178,7 +184,7 @@ module _ (server : ServerNo) (g : Counts) (v : StoreView) (before : IsRecoverabl
 
           pub opened : (t : TableView) → IsTableLoaded (counts_of o) t → ((l : List Head) → IsLoadable (counts_of o) l y → t.heads ≡ l) → IsServed u x → y.stops ≡ x.stops → z.stops ≡ y.stops → (w : Opened) → w.root ≡ o → w.sets ≡ records → w.table ≡ t → IsOpened server g v w z
           opened t loaded heads one two three w a b c = record {
-            root = a ∙ good.0 ∙ ap (root_by server g) (sym (ap (λ (k : Root). k.epoch) (a ∙ good.0)));
+            root = a ∙ good.0 ∙ sym (ap (λ (k : Root). record (root_by server g k.epoch) { version = k.version }) (a ∙ good.0));
             last = subst (λ n. n < 4294967295) (sym (ap (λ (k : Root). k.epoch) (a ∙ good.0))) good.1;
             table = subst (IsTableLoaded g) (sym c) (subst (λ (k : Root). IsTableLoaded (counts_of k) t) good.0 loaded);
             stands = stands server g v (reading_calls g) z with_heads w.root.epoch w.sets w.table.heads now

@@ -16,14 +16,14 @@ named_head heads slot p a e = passes_any (has_address (suc a)) FreeHead heads sl
 
     by : (h : Head) → address_of h p ≡ suc a → has_address (suc a) h ≡ true
     by FreeHead e = absurd (omega (arith, e))
-    by (Used k xs) e = passes_any (λ b. nat_eq b (suc a)) 0 xs p (grind (arith, nat_tests)) (same (get_or xs p 0) e)
+    by (Used k xs maps) e = passes_any (λ b. nat_eq b (suc a)) 0 xs p (grind (arith, nat_tests)) (same (get_or xs p 0) e)
 
 module _ (server : ServerNo) (g : Counts) (v : StoreView) (epoch : ℕ) (records : List Record) (heads : List Head) (standing : IsStanding server g v epoch records heads) where
   readable : IsReadable server g v
   readable = record { count = standing.recoverable.count; each = λ c. (standing.recoverable.each c).of_format }
 
   pub finds : (c : Pick) → found_on g v c ≡ state_in (held_contents g v epoch records heads c)
-  finds c = let format = (standing.recoverable.each c).of_format in state_on_pages g (pages_by v c) format.root.1.leaves format.heads ∙ ap (λ x. state_in x) (contents_held server g v epoch records heads standing.held c)
+  finds c = let format = (standing.recoverable.each c).of_format in state_on_pages g (pages_by v c) format.root.2.leaves format.heads ∙ ap (λ x. state_in x) (contents_held server g v epoch records heads standing.held c)
 
   pub consistent : IsConsistent server g (held_contents g v epoch records heads (λ n. false))
   consistent = subst (IsConsistent server g) (contents_held server g v epoch records heads standing.held (λ n. false)) (standing.recoverable.each (λ n. false)).consistent
@@ -71,6 +71,7 @@ module _ (server : ServerNo) (g : Counts) (v : StoreView) (epoch : ℕ) (records
     standing_same = record {
       held = record {
         count = standing.held.count ∙ sym same.count;
+        version = standing.held.version;
         root_fits = standing.held.root_fits;
         root = same_only v w 0 _ (same.pages 0) standing.held.root;
         slots = standing.held.slots;

@@ -14,11 +14,11 @@ use Rattle.jn_recovery.proofs.Totals.{total_same, total_plus, total_ones, count_
 -- the file that has a head
 abbrev pub file_of_head : Head → Option FileNo
 file_of_head FreeHead = None
-file_of_head (Used f xs) = Some f
+file_of_head (Used f xs maps) = Some f
 
 link_file : (f : FileNo) (h : Head) → is_of f h ≡ is_key file_eq f (file_of_head h)
 link_file f FreeHead = refl
-link_file f (Used k xs) = refl
+link_file f (Used k xs maps) = refl
 
 -- ---- files
 
@@ -48,7 +48,7 @@ module _ (t : TableView) (table : IsTable t) (blocks : ℕ → List ℕ) where
     where
       each : (h : Head) → 1 ≡ one (is_free h) + on_key (λ k. 1) (file_of_head h)
       each FreeHead = refl
-      each (Used f xs) = refl
+      each (Used f xs maps) = refl
 
       flags_same : (flags : List Bool) (heads : List Head) → length flags ≡ length heads → ((j : ℕ) → j < length heads → slice_index_or flags j false ≡ is_free (head_in heads j)) → count_by (λ b. b) flags ≡ count_by is_free heads
       flags_same [] [] size same = refl
@@ -72,7 +72,7 @@ units_from f p (x ∷ xs) = with_first (unit_at f p x) (units_from f (suc p) xs)
 
 abbrev units_of : Head → List LockUnit
 units_of FreeHead = []
-units_of (Used f xs) = units_from f 0 xs
+units_of (Used f xs maps) = units_from f 0 xs
 
 abbrev pub all_units : List Head → List LockUnit
 all_units [] = []
@@ -139,7 +139,7 @@ units_length f p (suc x ∷ xs) = let again = units_length f (suc p) xs in let z
 -- a head's blocks
 in_head : (h : Head) (k : FileNo) (q : BlockNo) → is_in unit_eq (Block k q) (units_of h) ≡ (is_of k h && nat_lt 0 (address_of h q.0))
 in_head FreeHead k q = refl
-in_head (Used f xs) k q = found_in f k 0 q.0 q xs (omega arith)
+in_head (Used f xs maps) k q = found_in f k 0 q.0 q xs (omega arith)
 
 all_length : (heads : List Head) → length (all_units heads) ≡ total (λ h. total (λ x. one (nat_lt 0 x)) (addresses_of h)) heads
 all_length [] = refl
@@ -147,7 +147,7 @@ all_length (h ∷ hs) = let both = length-append (units_of h) (all_units hs) in 
   where
     by : (h : Head) → length (units_of h) ≡ total (λ x. one (nat_lt 0 x)) (addresses_of h)
     by FreeHead = refl
-    by (Used f xs) = units_length f 0 xs
+    by (Used f xs maps) = units_length f 0 xs
 
 none_of : (heads : List Head) (k : FileNo) (q : BlockNo) → list_any (is_of k) heads ≡ false → is_in unit_eq (Block k q) (all_units heads) ≡ false
 none_of [] k q none = refl
@@ -159,7 +159,7 @@ no_files (h ∷ hs) k = let both = in_joined (File k) (units_of h) (all_units hs
   where
     by : (h : Head) → is_in unit_eq (File k) (units_of h) ≡ false
     by FreeHead = refl
-    by (Used f xs) = no_file f k 0 xs
+    by (Used f xs maps) = no_file f k 0 xs
 
 abbrev OneHead : List Head → Type 0
 OneHead heads = (k : FileNo) → PassesOnce (λ i. is_of k (get_or heads i FreeHead))
@@ -185,7 +185,7 @@ all_differ (h ∷ hs) once = different_joined (units_of h) (all_units hs) (own h
   where
     own : (h : Head) → are_different unit_eq (units_of h) ≡ true
     own FreeHead = refl
-    own (Used f xs) = units_differ f 0 xs
+    own (Used f xs maps) = units_differ f 0 xs
 
     first : (a b : Bool) → (a && b) ≡ true → a ≡ true
     first true b h = refl
@@ -208,7 +208,7 @@ module _ (t : TableView) (table : IsTable t) where
   -- where a head has an address
   has_at : (h : Head) (a : ℕ) → has_address (suc a) h ≡ true → (p : ℕ) × (address_of h p ≡ suc a)
   has_at FreeHead a e = absurd (true≢false (sym e))
-  has_at (Used f xs) a e = let at = passes_at (λ b. nat_eq b (suc a)) 0 xs e in (at.0, same (get_or xs at.0 0) at.1)
+  has_at (Used f xs maps) a e = let at = passes_at (λ b. nat_eq b (suc a)) 0 xs e in (at.0, same (get_or xs at.0 0) at.1)
     where
       same : (b : ℕ) → nat_eq b (suc a) ≡ true → b ≡ suc a
       same b e = grind (arith, nat_tests)
@@ -229,7 +229,7 @@ module _ (t : TableView) (table : IsTable t) where
 
       by : (h : Head) → head_in t.heads j ≡ h → below (λ a. one (has_address (suc a) h)) t.counts.leaves ≡ total (λ x. one (nat_lt 0 x)) (addresses_of h)
       by FreeHead e = zeros t.counts.leaves
-      by (Used f xs) e =
+      by (Used f xs maps) e =
           below_same (λ a. one (list_any (λ b. nat_eq b (suc a)) xs)) (λ a. total (λ x. one (nat_eq x (suc a))) xs) t.counts.leaves (λ a lt. any_total (λ b. nat_eq b (suc a)) 0 xs (once a))
           ∙ below_total (λ a x. one (nat_eq x (suc a))) xs t.counts.leaves
           ∙ total_same 0 (λ x. below (λ a. one (nat_eq x (suc a))) t.counts.leaves) (λ x. one (nat_lt 0 x)) xs (λ p. at (get_or xs p 0) (fits p (get_or xs p 0) refl))

@@ -1,5 +1,5 @@
 -- A storage serves on with a work that goes, and with a rubbish record less.
-use Rattle.jn_recovery.proofs.Common.{◌≡◌, ◌≤◌, ◌+◌, ◌&&◌, ℕ, Bool, true, false, not, if◌then◌else◌, length, Option, Some, None, refl, sym, ◌∙◌, ap, subst, arith, fun_ext, is_some, WorkId, work_eq, work_tells, StableState, Prepared, MarkGoing, RemoveWork, made_by, gone_on, at_work, is_in, total, IsOrderly, Accounts, intentions, list_of, needed, CountsErased, CountsOff, orderly-marked, orderly-removed, but, is_in-but, listing-same, listing-less, total-but, total-same}
+use Rattle.jn_recovery.proofs.Common.{◌≡◌, ◌≤◌, ◌+◌, ◌&&◌, ℕ, Bool, true, false, not, if◌then◌else◌, length, Option, Some, None, refl, sym, ◌∙◌, ap, subst, arith, fun_ext, is_some, WorkId, work_eq, work_tells, StableState, Prepared, MarkGoing, RemoveWork, made_by, gone_on, at_work, is_in, total, IsOrderly, Accounts, intentions, list_of, CountsErased, CountsOff, orderly-marked, orderly-removed, but, is_in-but, listing-same, listing-less, total-but, total-same, file_there, count_by, heads_of, is_put_intention}
 use Rattle.jn_recovery.proofs.FlagStates.{length-one}
 use Rattle.jn_recovery.proofs.Serving.{Serves}
 
@@ -44,12 +44,12 @@ module _ (x : StableState) (work : WorkId) where
       records = let lists = ap (λ (f : WorkId → ℕ). total f s.counted.works) (fun_ext (λ w. ap (λ l. length l) (list_marked w))) in omega (arith, s.counted.records, lists);
       heads_used = s.counted.heads_used;
       pages = s.counted.pages;
-      promises = s.counted.promises ∙ sym (ap (λ (f : WorkId → ℕ). total f s.counted.works) (fun_ext (λ w. ap (λ l. (needed x l).heads) (list_marked w))));
+      promises = s.counted.promises ∙ sym (ap (λ (f : WorkId → ℕ). total f s.counted.works) (fun_ext (λ w. ap (λ l. heads_of l (file_there x.files)) (list_marked w))));
     };
     records_fit = s.records_fit;
     heads_fit = s.heads_fit;
     next_fits = λ w. subst (λ l. a.next w ≤ length l) (sym (list_marked w)) (s.next_fits w);
-    held_fits = λ w. subst (λ l. a.held w ≤ (needed x l).pages) (sym (list_marked w)) (s.held_fits w);
+    held_fits = λ w. subst (λ l. a.held w ≤ count_by is_put_intention l) (sym (list_marked w)) (s.held_fits w);
   }
 
 pub serves_erased : (x : StableState) (a b : Accounts) → CountsErased a b → Serves x a → Serves x b
@@ -84,7 +84,7 @@ pub record IsRemoved (x : StableState) (a : Accounts) (work : WorkId) (b : Accou
   pub heads : b.heads ≡ a.heads
   pub leaves : b.leaves ≡ a.leaves
   pub counts : CountsOff a work (length (list_of x work)) b
-  pub promised_heads : b.promised_heads + (needed x (list_of x work)).heads ≡ a.promised_heads
+  pub promised_heads : b.promised_heads + heads_of (list_of x work) (file_there x.files) ≡ a.promised_heads
 
 module _ (x : StableState) (a b : Accounts) (work : WorkId) (s : Serves x a) (some : is_some (x.works work) ≡ true) (is : IsRemoved x a work b) where
   -- a total over all works but the one
@@ -125,13 +125,13 @@ module _ (x : StableState) (a b : Accounts) (work : WorkId) (s : Serves x a) (so
           let held = total_less b.held a.held (λ v e. ap (λ (f : WorkId → ℕ). f v) is.counts.held ∙ at_else a.held v e) in
           omega (arith, s.counted.pages, held, is.counts.free_pages, is.leaves);
       promises =
-          let heads = total_less (λ v. (needed x (list_of (made_by (RemoveWork work) x) v)).heads) (λ v. (needed x (list_of x v)).heads) (λ v e. ap (λ l. (needed x l).heads) (list_else v e)) in
+          let heads = total_less (λ v. heads_of (list_of (made_by (RemoveWork work) x) v) (file_there x.files)) (λ v. heads_of (list_of x v) (file_there x.files)) (λ v e. ap (λ l. heads_of l (file_there x.files)) (list_else v e)) in
           omega (arith, s.counted.promises, heads, is.promised_heads);
     };
     records_fit = omega (arith, s.records_fit, is.counts.free_records, is.counts.promised_records);
     heads_fit = omega (arith, s.heads_fit, is.counts.free_heads, is.promised_heads);
     next_fits = λ v. subst (λ n. n ≤ length (list_of (made_by (RemoveWork work) x) v)) (sym (ap (λ (f : WorkId → ℕ). f v) is.counts.next)) (next_by v (work_eq work v) refl);
-    held_fits = λ v. subst (λ n. n ≤ (needed x (list_of (made_by (RemoveWork work) x) v)).pages) (sym (ap (λ (f : WorkId → ℕ). f v) is.counts.held)) (held_by v (work_eq work v) refl);
+    held_fits = λ v. subst (λ n. n ≤ count_by is_put_intention (list_of (made_by (RemoveWork work) x) v)) (sym (ap (λ (f : WorkId → ℕ). f v) is.counts.held)) (held_by v (work_eq work v) refl);
   }
     where
       by : (c : Bool) (o : Option Prepared) → is_some (if c then None else o) ≡ (is_some o && not c)
@@ -144,6 +144,6 @@ module _ (x : StableState) (a b : Accounts) (work : WorkId) (s : Serves x a) (so
       next_by v true e = omega arith
       next_by v false e = subst (λ l. a.next v ≤ length l) (sym (list_else v e)) (s.next_fits v)
 
-      held_by : (v : WorkId) (c : Bool) → work_eq work v ≡ c → (if c then 0 else a.held v) ≤ (needed x (list_of (made_by (RemoveWork work) x) v)).pages
+      held_by : (v : WorkId) (c : Bool) → work_eq work v ≡ c → (if c then 0 else a.held v) ≤ count_by is_put_intention (list_of (made_by (RemoveWork work) x) v)
       held_by v true e = omega arith
-      held_by v false e = subst (λ l. a.held v ≤ (needed x l).pages) (sym (list_else v e)) (s.held_fits v)
+      held_by v false e = subst (λ l. a.held v ≤ count_by is_put_intention l) (sym (list_else v e)) (s.held_fits v)

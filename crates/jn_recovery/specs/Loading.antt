@@ -8,11 +8,12 @@ use Rattle.jn_page_state.specs.Puts.{IsFewer, IsFrontClean, IsFrontWhole}
 use Rattle.jn_page_state.specs.Recoverable.{IsRecoverable, NamedAreClean}
 use Rattle.jn_page_state.specs.Recovery.{FindsSame}
 use Rattle.jn_files.specs.Table.{TableView, is_touched}
-use Rattle.jn_records.specs.StablePages.{Counts, data_place}
+use Rattle.jn_records.specs.Pages.{root_page}
+use Rattle.jn_records.specs.StablePages.{Counts, root_by, data_place}
 use Rattle.jn_rows.specs.Stable.{StableState, Pick}
 use Rattle.jn_storage.specs.Storage.{StorageView, IsRecovered}
 use Rattle.jn_storage.specs.Calls.{state, TellsFlags}
-use Rattle.jn_store.specs.Store.{StoreView, StoreLater, IsCalm, IsSamePage, IsStop}
+use Rattle.jn_store.specs.Store.{StoreView, StoreLater, IsCalm, IsOnly, IsSamePage, IsStop}
 use Rattle.jn_recovery.specs.declared.load.DownCause.{DownCause}
 use Rattle.jn_recovery.specs.declared.load.DownCause.TheVariants.{Stopped, Memory, EpochsUsedUp}
 use Rattle.jn_recovery.specs.declared.load.Found.{Found}
@@ -63,6 +64,8 @@ pub record IsLoaded (server : ServerNo) (g : Counts) (v : StoreView) (told : Fou
   pub found : (c : Pick) → w.found c ≡ record (found_on g v before) { epoch = suc (found_on g v before).epoch }
   pub epoch : told.epoch ≡ (state w).epoch
   pub epoch_fits : told.epoch < 2 ^ 32
+  -- the root has this epoch and the version that is written, whichever was read
+  pub root : IsOnly w.store 0 (root_page (root_by server g told.epoch))
   pub flags : TellsFlags w told.flags
   -- what is found is of earlier epochs
   pub works_earlier : (work : WorkId) → is_some ((state w).works work) ≡ true → work.epoch < (state w).epoch

@@ -16,11 +16,13 @@ use Rattle.jn_records.specs.declared.record.Record.TheVariants.{Ready, Going, Fl
 use Rattle.jn_records.specs.declared.work.WorkHead.{WorkHead}
 use Rattle.jn_records.specs.declared.work.WorkState.{WorkState}
 use Rattle.jn_records.specs.NetLists.{is_fresh}
+use Rattle.jn_records.specs.Pages.{root_page}
+use Rattle.jn_records.specs.StablePages.{root_by}
 use Rattle.jn_sets.specs.Pool.{is_prepared, is_flag}
 use Rattle.jn_storage.specs.Listing.{are_different}
 use Rattle.jn_storage.specs.Calls.{name_of, tid_of}
 use Rattle.jn_storage.specs.Finding.{find_by}
-use Rattle.jn_store.specs.Store.{StoreView}
+use Rattle.jn_store.specs.Store.{StoreView, IsOnly}
 use Rattle.jn_recovery.specs.Memory.{Memory}
 
 -- ---- works
@@ -68,6 +70,8 @@ pub record FlagsMatch (pool : List Record) (flags : List Flag) : Type 0 where
 
 pub record Matches (m : Memory) (v : StoreView) : Type 0 where
   pub standing : IsStanding m.server m.table.counts v m.epoch m.records m.table.heads
+  -- the root is of the version that is written
+  pub root : IsOnly v 0 (root_page (root_by m.server m.table.counts m.epoch))
   pub table : IsTable m.table
   pub works : WorksMatch m.records m.works
   pub made : AreMade m.table.heads m.works

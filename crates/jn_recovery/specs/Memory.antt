@@ -14,6 +14,7 @@ use Rattle.jn_records.specs.declared.intention.StoredIntention.{StoredIntention}
 use Rattle.jn_records.specs.declared.record.Record.{Record}
 use Rattle.jn_records.specs.declared.record.Record.TheVariants.{Intention as IntentionRecord}
 use Rattle.jn_records.specs.declared.work.WorkState.{WorkState}
+use Rattle.jn_records.specs.MapPlaces.{maps_in}
 use Rattle.jn_sets.specs.Pool.{free_count, is_prepared}
 use Rattle.jn_storage.specs.Storage.{Accounts, StorageView}
 use Rattle.jn_storage.specs.Calls.{name_of}
@@ -83,6 +84,7 @@ accounts_of m = record {
   rubbish = rubbish_in m.records m.records;
   next = next_in m.works;
   held = held_in m.works m.table.heads;
+  maps = maps_in m.table.heads;
 }
 
 -- what is found is what the pages say, and the store is the one below

@@ -8,9 +8,10 @@ use Rattle.jn_page_state.specs.Recoverable.{IsRecoverable}
 use Rattle.jn_records.specs.declared.head.Head.{Head}
 use Rattle.jn_records.specs.declared.record.Record.{Record}
 use Rattle.jn_records.specs.declared.root.Root.{Root}
+use Rattle.jn_records.specs.Pages.{root_page, format_version}
 use Rattle.jn_records.specs.StablePages.{Counts, root_by}
 use Rattle.jn_rows.specs.Stable.{Pick, Unchanged}
-use Rattle.jn_store.specs.Store.{StoreView, StoreLater, IsCalm, IsClean, IsWholePage, IsStop}
+use Rattle.jn_store.specs.Store.{StoreView, StoreLater, IsCalm, IsClean, IsOnly, IsSamePage, IsWholePage, IsStop}
 use Rattle.jn_recovery.specs.Loading.{reading_calls, front_count, KeepsDataPages}
 use Rattle.jn_recovery.specs.Counts.{most_calls}
 use Rattle.jn_recovery.specs.Memory.{rubbish_in}
@@ -27,8 +28,9 @@ RootRead root (Err Stopped) = Unit {0}
 RootRead root (Err EpochsUsedUp) = root.epoch ≡ 4294967295
 RootRead root (Err Memory) = ⊥
 
+-- of the version that is written, whichever was read
 abbrev pub next_root : Root → Root
-next_root r = record r { epoch = r.epoch + 1 }
+next_root r = record r { version = format_version; epoch = r.epoch + 1 }
 
 -- ---- the store
 
@@ -47,7 +49,7 @@ pub record Stands (server : ServerNo) (g : Counts) (v : StoreView) (most was epo
 
 -- root, records and heads were cleaned and read
 pub record IsOpened (server : ServerNo) (g : Counts) (v : StoreView) (o : Opened) (w : StoreView) : Type 0 where
-  pub root : o.root ≡ root_by server g o.root.epoch
+  pub root : o.root ≡ record (root_by server g o.root.epoch) { version = o.root.version }
   pub last : o.root.epoch < 4294967295
   pub table : IsTableLoaded g o.table
   pub stands : Stands server g v (reading_calls g) o.root.epoch o.root.epoch o.sets o.table.heads w
@@ -62,6 +64,7 @@ pub record Erases (server : ServerNo) (g : Counts) (v : StoreView) (epoch : ℕ)
   pub power : v.power ≡ true → w.power ≡ true
   pub standing : IsStanding server g w epoch records heads
   pub unchanged : Unchanged (standing_state g v) (found_on g w)
+  pub root : IsSamePage v w 0
   pub clean : (i : ℕ) → i < v.count → IsClean v i → IsClean w i
   pub data_pages : KeepsDataPages g v w
 
@@ -81,12 +84,13 @@ pub record ErasesAll (server : ServerNo) (g : Counts) (v : StoreView) (epoch : �
 
 -- ---- a new epoch
 
--- the root has the next epoch, and no record is rubbish
+-- the root has the next epoch and the version that is written, and no record is rubbish
 pub record IsBegun (server : ServerNo) (g : Counts) (v : StoreView) (o : Opened) (epoch : ℕ) (w : StoreView) : Type 0 where
-  pub root : o.root ≡ root_by server g o.root.epoch
+  pub root : o.root ≡ record (root_by server g o.root.epoch) { version = o.root.version }
   pub last : o.root.epoch < 4294967295
   pub next : epoch ≡ o.root.epoch + 1
   pub table : IsTableLoaded g o.table
   pub stands : Stands server g v (most_calls g) o.root.epoch epoch o.sets o.table.heads w
+  pub written : IsOnly w 0 (root_page (root_by server g epoch))
   pub power : w.power ≡ true
   pub none_left : rubbish_in o.sets o.sets ≡ []

@@ -19,7 +19,7 @@ use crate::cleaning::clean_pages;
 use crate::load::DownCause;
 use jn_base::Stopped;
 use jn_files::FileTable;
-use jn_records::Root;
+use jn_records::{FORMAT_VERSION, Root};
 use jn_sets::Sets;
 use jn_store::StableStore;
 use std::alloc::Global;
@@ -86,7 +86,7 @@ fn read_root<S: StableStore>(store: &mut S) -> Result<Root, DownCause>
     Ok(root)
 }
 
-/// Puts the root with the next epoch.
+/// Puts the root with the next epoch, in the version that is written.
 fn count_restart<S: StableStore>(store: &mut S, root: &Root) -> Result<u32, Stopped>
     requires there { 0 < (S.view store.old).count }
     requires before_last { root.now.epoch < 4294967295 }
@@ -95,7 +95,7 @@ fn count_restart<S: StableStore>(store: &mut S, root: &Root) -> Result<u32, Stop
 {
     let epoch = root.epoch + 1;
     let next = Root {
-        version: root.version,
+        version: FORMAT_VERSION,
         server: root.server,
         pool: root.pool,
         heads: root.heads,

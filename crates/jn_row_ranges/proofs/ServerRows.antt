@@ -79,7 +79,7 @@ module _ (n : ℕ) (s : ServerNo) (m : Memory) (h : MemoryWithin n s m) where
     where
       by : (o : Option WorkerTable) → timed_out m.worker (work_of T m.worker) ≡ o → MemoryWithin n s (of_timeout m o)
       by None e = h
-      by (Some t) e = record { own = h.own; works = timeout-within n m.worker (storage_of m (record { epoch = 0; files = λ u. None; works = λ W. None; flags = λ U. None }) (record { free = record { records = 0; heads = 0; pages = 0 }; rubbish = false })) m.tickets h.works (work_of T m.worker) t e; transactions = h.transactions }
+      by (Some t) e = record { own = h.own; works = timeout-within n m.worker (storage_of m (record { epoch = 0; files = λ u. None; works = λ W. None; flags = λ U. None }) (record { free = record { records = 0; heads = 0; pages = 0 }; maps = λ f j. false; rubbish = false })) m.tickets h.works (work_of T m.worker) t e; transactions = h.transactions }
 
   pub close-row-within : RowWithin n s (of_coordinator m (close_clients_row m.coordinator m.tickets))
   close-row-within = let r = close-within n m.coordinator 0 m.tickets h.transactions in

@@ -14,6 +14,7 @@ use Rattle.jn_order.specs.Files.{Files, there, zeros}
 use Rattle.jn_records.specs.declared.intention.What.TheVariants.{Put, Fresh}
 use Rattle.jn_records.specs.declared.intention.Intention.{Intention}
 use Rattle.jn_records.specs.NetEdits.{plain}
+use Rattle.jn_records.specs.MapPlaces.{no_maps}
 use Rattle.jn_rows.specs.declared.worker.Work.{Work}
 use Rattle.jn_rows.specs.declared.worker.Phase.TheVariants.{Active, Prepared as IsStored}
 use Rattle.jn_rows.specs.declared.coordinator.Transaction.{Transaction}
@@ -56,6 +57,7 @@ abbrev pub storage : ℕ → WorkStorage
 storage records = record {
   state = record { epoch = 2; files = only_file_7; works = λ W. None; flags = λ T. None };
   free = record { records = records; heads = 1; pages = 1 };
+  maps = no_maps;
   next = λ W. 0;
   rubbish = false;
 }

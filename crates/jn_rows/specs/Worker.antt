@@ -23,7 +23,8 @@ use Rattle.jn_records.specs.declared.intention.What.{What}
 use Rattle.jn_records.specs.declared.intention.What.TheVariants as whats
 use Rattle.jn_records.specs.declared.intention.Intention.{Intention}
 use Rattle.jn_records.specs.declared.net_list.Need.{Need}
-use Rattle.jn_records.specs.NetLists.{list_change, length_with, need_of}
+use Rattle.jn_records.specs.NetLists.{list_change, length_with}
+use Rattle.jn_records.specs.MapPlaces.{MapPlaces, need_of}
 use Rattle.jn_records.specs.NetEdits.{intention_for, with_intention}
 use Rattle.jn_locks.specs.declared.words.Mode.{Mode}
 use Rattle.jn_locks.specs.declared.words.Mode.TheVariants.{Read, IntentionWrite, Commit}
@@ -45,11 +46,12 @@ use Rattle.jn_rows.specs.Outcomes.{RowOutcome, Sent, quiet, ignored, sends}
 abbrev pub WorkerTable : Type 0
 WorkerTable = List Work
 
--- what a worker sees of the storage: what is stable, what is free less promised, how many intentions of each going work
--- were carried out, and whether there is a rubbish record
+-- What a worker sees of the storage: what is stable, what is free less promised, and which map pages there are. Then how many
+-- intentions of each going work were carried out, and whether there is a rubbish record.
 pub record WorkStorage : Type 0 where
   pub state : StableState
   pub free : Need
+  pub maps : MapPlaces
   pub next : WorkId → ℕ
   pub rubbish : Bool
 
@@ -294,8 +296,8 @@ vote_of (Some held) short = votes.Waiting held.0 held.1
 vote_of None (Some short) = short
 vote_of None None = votes.Ready
 
-abbrev pub need_in : Files → List Intention → Need
-need_in files list = need_of list (λ f. is_some (files (File f)))
+abbrev pub need_in : MapPlaces → Files → List Intention → Need
+need_in maps files list = need_of list (λ f. is_some (files (File f))) maps
 
 -- a vote that refuses changes nothing; else the work is stored, and the works in the way break
 abbrev pub prepared_row : WorkerTable → Tickets → Tid → ClientNo → Work → ActiveWork → Vote → RowOutcome WorkerTable
@@ -310,7 +312,7 @@ prepared_row t k T c w a vote = voted t k T w.name vote
 
 abbrev pub prepare_phase : WorkerTable → WorkStorage → Tickets → Tid → ClientNo → Work → Phase → RowOutcome WorkerTable
 prepare_phase t s k T c w (Active a) = prepared_row t k T c w a
-    (vote_of (conflict w.name (commit_wants a.writes) t) (shortage s.free (need_in s.state.files a.list)))
+    (vote_of (conflict w.name (commit_wants a.writes) t) (shortage s.free (need_in s.maps s.state.files a.list)))
 prepare_phase t s k T c w (Broken u by) = voted t k T w.name (votes.Broken u by)
 prepare_phase t s k T c w (Stored p) = if is_going (s.state.works w.name) then ignored t k else voted t k T w.name votes.Ready
 

@@ -4,7 +4,7 @@ pub use Rattle.jn_base.specs.declared.names.ServerNo.{ServerNo}
 pub use Rattle.jn_host.specs.Outside.{Contents, Rose}
 pub use Rattle.jn_schedule.specs.declared.Event.{Event}
 pub use Rattle.jn_schedule.specs.Grammar.{IsSchedule, word_lines}
-pub use Rattle.jn_image_files.specs.Kept.{Has, image_name, IsKept}
+pub use Rattle.jn_image_files.specs.Kept.{Has, image_name, IsSaved}
 pub use Rattle.jn_options.specs.declared.asked.Geometry.{Geometry}
 pub use Rattle.jn_options.specs.declared.asked.Opening.TheVariants.{New, Images}
 pub use Rattle.jn_options.specs.declared.asked.Options.{Options}

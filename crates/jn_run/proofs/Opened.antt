@@ -123,8 +123,8 @@ module _ {S : Type 0} (look : S → StoreView) (device : S → DeviceState) (see
       its : (x : S × PageCounts) → slice_get stores q.0 ≡ Some x → Its q counts files epoch x
       none : slice_get stores q.0 ≡ None → (u : LockUnit) → files u ≡ None
 
-    root-is : (q : ServerNo) (x : S × PageCounts) → (s : IsStoreOf look device q (found q.0) x) → HasRoot (image_of q (counts_by x.1) s.disk.image.pages)
-    root-is q x s = subst (λ (g : Counts). HasRoot (image_of q g s.disk.image.pages)) s.disk.counts (sound_pages s.disk.image q s.disk.is_sound.form s.disk.is_sound.sound).sound.root
+    root-is : (q : ServerNo) (x : S × PageCounts) → (s : IsStoreOf look device q (found q.0) x) → HasRoot (image_of s.disk.image.version q (counts_by x.1) s.disk.image.pages)
+    root-is q x s = subst (λ (g : Counts). HasRoot (image_of s.disk.image.version q g s.disk.image.pages)) s.disk.counts (sound_pages s.disk.image q s.disk.is_sound.form s.disk.is_sound.sound).sound.root
 
     its-is : (q : ServerNo) (x : S × PageCounts) → (s : IsStoreOf look device q (found q.0) x) → Its q (counts_by x.1) (files_in (counts_by x.1) s.disk.image.pages) (root-is q x s).0 x
     its-is q x s = record {

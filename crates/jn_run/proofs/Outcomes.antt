@@ -1,5 +1,5 @@
 -- What a call leaves, by its status.
-use Rattle.jn_run.proofs.Common.{◌≡◌, ℕ, ◌≤◌, ◌<◌, List, length, map, slice_get, Option, Some, None, Result, Ok, Err, refl, sym, ap, subst, false, ◌∙◌, arith, slice_get-map, is_ok, option_map, AllByRecursion, ServerNo, DeviceState, Contents, IsImage, AreClosed, AreWithin, IsKept, Counts, page_count, counts_by, PageCounts, StableState, stable, Event, EventInRange, IsSchedule, Command, Options, AllFiles, pairs_view, Devices, Moment, AreImages, IsWholeRun, IsLimited, IsPartOfRun, Line, RunFault, course_of, AreLeft, RunsFrom, TookWhole, ◌≢◌, drop, true≢false, OutcomeOf, IsUntouched, Outside, Accepted, AreKept, IsRefusedImage, Keeps, KeepsFirst, LeavesFiles, most_events, Ran, Reads, refused_line, IsWholeReport, IsPart, IsCutShort, SourceState, SinkState, KeeperState, sink_state, ReadsSchedule, Writes, FailsToLoad, BeginsFromImages, words_no_memory, trial_no_memory, done, too_many_events, schedule_refused, schedule_not_written, not_loaded, image_refused, image_not_written, at_limit, not_written, not_saved, no_memory, no_memory_inside, no_memory_saving, Setup, EndsOn, Refuses, IsFirstFault, Run, Trial, Status}
+use Rattle.jn_run.proofs.Common.{◌≡◌, ℕ, ◌≤◌, ◌<◌, List, length, map, slice_get, Option, Some, None, Result, Ok, Err, refl, sym, ap, subst, false, ◌∙◌, arith, slice_get-map, is_ok, option_map, AllByRecursion, ServerNo, DeviceState, Contents, IsImage, AreClosed, AreWithin, Counts, page_count, counts_by, PageCounts, StableState, stable, Event, EventInRange, IsSchedule, Command, Options, AllFiles, pairs_view, Devices, Moment, AreImages, IsWholeRun, IsLimited, IsPartOfRun, Line, RunFault, course_of, AreLeft, RunsFrom, TookWhole, ◌≢◌, drop, true≢false, OutcomeOf, IsUntouched, Outside, Accepted, AreKept, IsRefusedImage, Keeps, KeepsFirst, LeavesFiles, most_events, Ran, Reads, refused_line, IsWholeReport, IsPart, IsCutShort, SourceState, SinkState, KeeperState, sink_state, ReadsSchedule, Writes, FailsToLoad, BeginsFromImages, words_no_memory, trial_no_memory, done, too_many_events, schedule_refused, schedule_not_written, not_loaded, image_refused, image_not_written, at_limit, not_written, not_saved, no_memory, no_memory_inside, no_memory_saving, Setup, EndsOn, Refuses, IsFirstFault, Run, Trial, Status, IsSaved}
 use Rattle.jn_writing.specs.Calls.{writes_to}
 use Rattle.jn_run.proofs.Told.{fault-is}
 use Rattle.jn_image_files.specs.Saved.{SavedTo}
@@ -161,8 +161,8 @@ module _ {S : Type 0} (device : S → DeviceState) (options : Options) (kept : O
           let (s, at) = some-at left q.0 (omega (arith, lt, fit)) in
           let (x, there) = some-at stores q.0 (subst (λ (k : ℕ). q.0 < k) as_many (omega (arith, lt, fit))) in
           let is = saved.are_kept q s x.1 lt at (its-counts left counts counts_are q x there) in
-          subst (λ (d : DeviceState). IsKept kept' name (b.opens.setup.counts q) q d) (sym (ap (λ (ds : Devices). ds q) (sym closing_is) ∙ theirs.each q.0 s at))
-          (subst (λ (g : Counts). IsKept kept' name g q (device s)) (sym (b.stores_are.counts q.0 x there)) is);
+          subst (λ (d : DeviceState). IsSaved kept' name (b.opens.setup.counts q) q d) (sym (ap (λ (ds : Devices). ds q) (sym closing_is) ∙ theirs.each q.0 s at))
+          (subst (λ (g : Counts). IsSaved kept' name g q (device s)) (sym (b.stores_are.counts q.0 x there)) is);
       others = saved.stay;
     }
 

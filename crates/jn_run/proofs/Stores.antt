@@ -53,7 +53,7 @@ all-stores see n (x ∷ xs) h = let here = at-place see x (n + 0) n (omega arith
 
 store-is : {S : Type 0} (see : S → StoreView) (dev : S → DeviceState) (q : ServerNo) (content : Option (List ℕ)) (x : S × PageCounts) → IsStoreOf see dev q content x → IsStore see q.0 x
 store-is see dev q content x s =
-    let root = subst (λ (g : Counts). HasRoot (image_of q g s.disk.image.pages)) s.disk.counts (sound_pages s.disk.image q s.disk.is_sound.form s.disk.is_sound.sound).sound.root in
+    let root = subst (λ (g : Counts). HasRoot (image_of s.disk.image.version q g s.disk.image.pages)) s.disk.counts (sound_pages s.disk.image q s.disk.is_sound.form s.disk.is_sound.sound).sound.root in
     ((s.store.fresh root.0 root.1 root.2).recoverable, s.store.untouched.told)
 
 zero-more : (n : ℕ) → n ≡ 0 + n

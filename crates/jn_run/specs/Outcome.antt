@@ -18,7 +18,7 @@ use Rattle.jn_store.specs.Pairs.{pairs_view}
 use Rattle.jn_disks.specs.Disks.{IsNewStore, files_in}
 use Rattle.jn_image_files.specs.declared.refusal.Refusal.{Refusal}
 use Rattle.jn_image_files.specs.Examined.{IsFirstRefused}
-use Rattle.jn_image_files.specs.Kept.{Has, IsKept, image_name, OthersStay}
+use Rattle.jn_image_files.specs.Kept.{Has, IsKept, IsSaved, image_name, OthersStay}
 use Rattle.jn_image_files.specs.Texts.{refusal_text}
 use Rattle.jn_options.specs.declared.asked.Command.{Command}
 use Rattle.jn_options.specs.declared.asked.Command.TheVariants.{Run, Trial}
@@ -75,14 +75,14 @@ outside left read_faults taken write_faults kept keep_faults source sink keeper 
 abbrev pub geometry_counts : Geometry → Counts
 geometry_counts g = record { pool = g.pool; heads = g.heads; leaves = g.leaves }
 
--- each server's disk is new, with a root of epoch 0
+-- each server's disk is new: good pages of zeros behind a root of version 2 and epoch 0, with power and no fault
 abbrev pub AreNew : Geometry → ℕ → Devices → Type 0
 AreNew g servers images = (q : ServerNo) → q.0 < servers → IsNewStore (root_by q (geometry_counts g) 0) (pairs_view (images q))
 
 abbrev pub no_files : AllFiles
 no_files s u = None
 
--- a server's disk is that of a kept image with these files, and no call was made to it yet
+-- a server's disk is that of a kept image, sound for it, with these files; no call was made yet
 pub record IsOpened (kept : Option Contents) (name : List ℕ) (g : Counts) (files : Files) (q : ServerNo) (d : DeviceState) : Type 0 where
   pub disk : IsKept kept name g q d
   pub files_are : files_in g disk.image.pages ≡ files
@@ -129,9 +129,9 @@ pub record IsCutShort (options : Options) (kept : Option Contents) (events : Lis
 
 -- ---- what is kept
 
--- the disks of the first n servers are kept as images of this name, and nothing else was changed
+-- the disks of the first n servers are kept as images of this name and of version 2, and nothing else was changed
 pub record AreKept (kept : Option Contents) (name : List ℕ) (n : ℕ) (x : Setup) (closing : Devices) (kept' : Option Contents) : Type 0 where
-  pub disks : (q : ServerNo) → q.0 < n → IsKept kept' name (x.counts q) q (closing q)
+  pub disks : (q : ServerNo) → q.0 < n → IsSaved kept' name (x.counts q) q (closing q)
   pub others : OthersStay kept name n kept'
 
 -- the disks that a run leaves are kept where that is asked for, and no call failed

@@ -12,7 +12,7 @@ pub use Rattle.jn_msgs.specs.Collected.{Collected}
 pub use Rattle.jn_rows.specs.Stable.{StableState, Prepared, Change, AddReady, MarkGoing, CarryOut, RemoveWork, AddFlag, DropFlag, is_going, made_by, made_all, FlagState, Pick}
 pub use Rattle.jn_rows.specs.Outcomes.{RowOutcome}
 pub use Rattle.jn_rows.specs.declared.worker.Work.{Work}
-pub use Rattle.jn_rows.specs.Worker.{work_at, name_from as work_from, commit_holder, restored_worker, restored_work, WorkerTable, intentions_of, need_in, timeout_row, worker_step, worker_again, worker_row}
+pub use Rattle.jn_rows.specs.Worker.{work_at, name_from as work_from, commit_holder, restored_worker, restored_work, WorkerTable, intentions_of, timeout_row, worker_step, worker_again, worker_row}
 pub use Rattle.jn_rows.specs.Coordinator.{CoordinatorTable, restored_coordinator, restored_transactions, restored_transaction, name_from as tid_from, seen_in_flags, seen_in_flag, promised, coordinator_again, name_from, close_clients_row, coordinator_row}
 pub use Rattle.jn_storage.specs.Storage.{Accounts, StorageView, is_stored, IsCounted, IsServing}
 pub use Rattle.jn_storage.specs.Calls.{state, BlockRead, NextFile, NextBlock}
@@ -50,7 +50,7 @@ pub use Rattle.jn_records.specs.StablePages.{Counts, Pages, address_in, block_be
 pub use Rattle.jn_store.specs.Store.{StoreView}
 pub use Rattle.jn_page_state.specs.Pages.{found_on, pool_on, heads_on, listed, pages_by}
 pub use Rattle.jn_server.specs.Restarting.{AreTables, IsRestarted, IsNotRestarted, IsWithin, Composes, IsLeft}
-pub use Rattle.jn_storage.specs.Orderly.{needed, intentions, list_of, IsGiven}
+pub use Rattle.jn_storage.specs.Orderly.{intentions, list_of, file_there, IsGiven}
 pub use Rattle.jn_recovery.specs.Memory.{Memory as Kept, view_of, rubbish_in}
 pub use Rattle.jn_server.specs.Reading.{IsRoomOfPages, CountsPages, StandsOnPages}
 pub use Rattle.jn_worker.specs.Calls.{TimesOut as WorkerTimesOut, Steps as WorkerSteps, AsksAgain, Takes, CountsBy}

@@ -1,5 +1,5 @@
 -- What the rows read of a storage is what stands on its pages.
-use Rattle.jn_server.proofs.Common.{◌≡◌, ⊎_elim, ◌<◌, ◌+◌, ◌-◌, ℕ, suc, Bool, true, false, not, ◌&&◌, ◌||◌, if◌then◌else◌, List, [], ◌∷◌, length, get_or, Option, Some, None, refl, sym, ◌∙◌, ap, subst, true≢false, arith, nat_tests, is_some, count_by, nat_eq, nat_lt, slice_index_or, list_any, Tickets, WorkId, work_eq, work_tells, Counts, Pages, Work, StableState, Prepared, WorkerTable, work_at, intentions_of, need_in, promised, is_before, is_in, are_different, total, Accounts, IsCounted, needed, intentions, list_of, state, StoreView, pool_on, heads_on, listed, Kept, view_of, rubbish_in, WorkerView, WorkFits, is_none, Remembered, ServerView, IsServer, IsRoomOfPages, CountsPages}
+use Rattle.jn_server.proofs.Common.{◌≡◌, ⊎_elim, ◌<◌, ◌+◌, ◌-◌, ℕ, suc, Bool, true, false, not, ◌&&◌, ◌||◌, if◌then◌else◌, List, [], ◌∷◌, length, get_or, Option, Some, None, refl, sym, ◌∙◌, ap, subst, true≢false, arith, nat_tests, is_some, count_by, nat_eq, nat_lt, slice_index_or, list_any, Tickets, WorkId, work_eq, work_tells, Counts, Pages, Work, StableState, Prepared, WorkerTable, work_at, intentions_of, promised, is_before, is_in, are_different, total, Accounts, IsCounted, intentions, list_of, state, StoreView, pool_on, heads_on, listed, Kept, view_of, rubbish_in, WorkerView, WorkFits, is_none, Remembered, ServerView, IsServer, IsRoomOfPages, CountsPages, file_there}
 use Rattle.std.proofs.lemmas.List.Sums.{sum_by-cons}
 use Rattle.jn_alloc.specs.Free.{free_count as free_numbers, is_free as is_free_number}
 use Rattle.jn_files.specs.Table.{TableView, IsTable, is_held, is_free, head_in, address_of, IsUnnamed}
@@ -20,6 +20,8 @@ use Rattle.jn_recovery.specs.Matches.{Matches, IsKeptMemory}
 use Rattle.jn_recovery.proofs.Erasing.{rubbish_length}
 use Rattle.jn_recovery.proofs.Standing.{named_head}
 use Rattle.jn_intent.proofs.Rubbish.{some_rubbish}
+use Rattle.jn_records.specs.MapPlaces.{maps_in}
+use Rattle.jn_records.specs.NetLists.{heads_of}
 use Rattle.jn_server.specs.Standing.{standing_pages, is_free_head, promised_heads}
 
 -- ---- the heads that are promised to prepared works
@@ -81,16 +83,16 @@ total_more f ks (j ∷ js) dk dj within none =
     outside true b n o = absurd (true≢false (sym n))
     outside false b n o = o
 
-same_need : (x : StableState) (p : Option Prepared) → (need_in x.files (intentions_of p)).heads ≡ (needed x (intentions p)).heads
+same_need : (x : StableState) (p : Option Prepared) → heads_of (intentions_of p) (file_there x.files) ≡ heads_of (intentions p) (file_there x.files)
 same_need x None = refl
 same_need x (Some p) = refl
 
-promised_names : (x : StableState) (ws : WorkerTable) → promised_heads x ws ≡ total (λ w. (needed x (list_of x w)).heads) (names_of ws)
+promised_names : (x : StableState) (ws : WorkerTable) → promised_heads x ws ≡ total (λ w. heads_of (list_of x w) (file_there x.files)) (names_of ws)
 promised_names x [] = refl
 promised_names x (w ∷ ws) = let here = same_need x (x.works w.name) in let again = promised_names x ws in omega (arith, here, again)
 
 promises_are : (x : StableState) (a : Accounts) (ws : WorkerTable) → IsCounted x a → are_rising ws ≡ true → ((W : WorkId) → WorkFits (work_at W ws) (x.works W)) → a.promised_heads ≡ promised_heads x ws
-promises_are x a ws counted rising fits = counted.promises ∙ sym (promised_names x ws ∙ total_more (λ w. (needed x (list_of x w)).heads) (names_of ws) counted.works (names_differ ws rising) counted.works_all.different
+promises_are x a ws counted rising fits = counted.promises ∙ sym (promised_names x ws ∙ total_more (λ w. heads_of (list_of x w) (file_there x.files)) (names_of ws) counted.works (names_differ ws rising) counted.works_all.different
     (λ k h. names_in k ws ∙ live (work_at k ws) (x.works k) (fits k) (sym (counted.works_all.all k) ∙ h))
     (λ k h none. nothing (x.works k) (sym (counted.works_all.all k) ∙ none)))
   where
@@ -99,7 +101,7 @@ promises_are x a ws counted rising fits = counted.promises ∙ sym (promised_nam
     live None None f e = absurd (true≢false (sym e))
     live None (Some p) f e = absurd f
 
-    nothing : (p : Option Prepared) → is_some p ≡ false → (needed x (intentions p)).heads ≡ 0
+    nothing : (p : Option Prepared) → is_some p ≡ false → heads_of (intentions p) (file_there x.files) ≡ 0
     nothing None e = refl
     nothing (Some p) e = absurd (true≢false e)
 
@@ -117,7 +119,7 @@ heads_are (b ∷ flags) (h ∷ hs) size same =
   where
     test : (h : Head) → is_free h ≡ is_free_head h
     test FreeHead = refl
-    test (Used f xs) = refl
+    test (Used f xs maps) = refl
 
 pages_are : (flags : List Bool) (test : ℕ → Bool) (from : ℕ) → ((j : ℕ) → j < length flags → slice_index_or flags j false ≡ test (from + j)) → count_by (λ b. b) flags ≡ count_by test (listed (λ d. d) from (length flags))
 pages_are [] test from same = refl
@@ -130,7 +132,7 @@ pages_are (b ∷ flags) test from same =
 module _ (t : TableView) (table : IsTable t) (pool : List Record) (held : (a : ℕ) → is_held t a ≡ works_name pool (suc a)) where
   has_at : (h : Head) (a : ℕ) → has_address (suc a) h ≡ true → (p : ℕ) × (address_of h p ≡ suc a)
   has_at FreeHead a e = absurd (true≢false (sym e))
-  has_at (Used f xs) a e = let at = passes_at (λ b. nat_eq b (suc a)) 0 xs e in (at.0, same (get_or xs at.0 0) at.1)
+  has_at (Used f xs maps) a e = let at = passes_at (λ b. nat_eq b (suc a)) 0 xs e in (at.0, same (get_or xs at.0 0) at.1)
     where
       same : (b : ℕ) → nat_eq b (suc a) ≡ true → b ≡ suc a
       same b e = grind (arith, nat_tests)
@@ -235,6 +237,7 @@ module _ (m : Kept) (s : StoreView) (t : WorkerView) (r : Remembered) (k : Ticke
     of_pages : IsRoomOfPages view
     of_pages = record {
       free = same_needs _ _ _ _ _ _ records_are heads_free_are pages_free_are;
+      maps = ap maps_in (sym heads_is);
       rubbish = sym (some_rubbish m.records m.records ∙ not_none (rubbish_in m.records m.records)) ∙ ap (λ (l : List Record). list_any (is_rubbish l) l) (sym pool_is);
     }
 

@@ -3,14 +3,16 @@ use Rattle.std.specs.Prelude.{◌≡◌, true, length, count_by}
 use Rattle.jn_page_state.specs.Pages.{pool_on, heads_on}
 use Rattle.jn_page_state.specs.Recoverable.{IsRecoverable}
 use Rattle.jn_intent.specs.Scrubbing.{counts_in}
+use Rattle.jn_records.specs.MapPlaces.{maps_in}
 use Rattle.jn_sets.specs.Pool.{free_count, rubbish_count}
 use Rattle.jn_server.specs.Seen.{ServerView, memory_of, room_of}
 use Rattle.jn_server.specs.Standing.{standing_pages, is_free_head, free_on, has_rubbish}
 use Rattle.jn_storage.specs.Calls.{state}
 
--- what is free and whether a record is rubbish, no more and no less
+-- what is free, which map pages there are and whether a record is rubbish, no more and no less
 pub record IsRoomOfPages (v : ServerView) : Type 0 where
   pub free : (room_of v.storage).free ≡ free_on (counts_in v.storage.accounts) (standing_pages v.storage.store) (state v.storage) (memory_of v)
+  pub maps : (room_of v.storage).maps ≡ maps_in (heads_on (counts_in v.storage.accounts) (standing_pages v.storage.store))
   pub rubbish : (room_of v.storage).rubbish ≡ has_rubbish (pool_on (counts_in v.storage.accounts) (standing_pages v.storage.store))
 
 -- How many free records, rubbish records and free heads its storage counts is how many are on its pages, while the store has power.

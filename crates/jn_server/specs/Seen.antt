@@ -30,9 +30,9 @@ view_with look p = record { storage = view_of p.storage.1 (look p.storage.0); wo
 abbrev pub memory_of : ServerView → Memory
 memory_of v = record { worker = v.worker.table; coordinator = table_of v.coordinator; tickets = v.tickets; next = v.storage.accounts.next }
 
--- what its storage says of itself: what is free and not promised, and whether a rubbish record is left
+-- what its storage says of itself at a step
 abbrev pub room_of : StorageView → Room
-room_of v = let s = seen v in record { free = s.free; rubbish = s.rubbish }
+room_of v = let s = seen v in record { free = s.free; maps = s.maps; rubbish = s.rubbish }
 
 -- between two calls, none of which was stopped: tables, storage and names fit
 pub record IsServer (v : ServerView) : Type 0 where

@@ -1,5 +1,5 @@
 -- Each change of the stable state keeps what a recovery asks of it.
-use Rattle.jn_storage.proofs.Common.{◌≡◌, ◌≢◌, ⊎_elim, ◌+◌, ℕ, zero, Bool, true, false, not, ◌&&◌, ◌||◌, List, [], ◌∷◌, Option, Some, None, refl, sym, ◌∙◌, ap, subst, arith, map, add-zero, true≢false, slice_get, is_some, list_all, FileNo, LockUnit, File, file_eq, tid_eq, work_eq, Files, change, What, Fresh, Gone, Cut, Put, Intention, intention_change, intention_place, in_order, entry, first_by, as_first, net_of, is_put, is_fresh, Mode, Read, IntentionWrite, Commit, rebuilt, is_unit, together, StableState, Prepared, MarkGoing, CarryOut, RemoveWork, AddFlag, DropFlag, made_by, at_work, gone_on, is_in, IsListing, AtMost, total, IsOrderly, IsPrepared, IsGiven, GoTogether, unit_by, unit_of, held_by, needs_file, first_of, file_there, needed, intentions, list_of}
+use Rattle.jn_storage.proofs.Common.{◌≡◌, ◌≢◌, ⊎_elim, ◌+◌, ℕ, zero, Bool, true, false, not, ◌&&◌, ◌||◌, List, [], ◌∷◌, Option, Some, None, refl, sym, ◌∙◌, ap, subst, arith, map, add-zero, true≢false, slice_get, is_some, list_all, FileNo, LockUnit, File, file_eq, tid_eq, work_eq, Files, change, What, Fresh, Gone, Cut, Put, Intention, intention_change, intention_place, in_order, entry, first_by, as_first, net_of, is_put, is_fresh, Mode, Read, IntentionWrite, Commit, rebuilt, is_unit, together, StableState, Prepared, MarkGoing, CarryOut, RemoveWork, AddFlag, DropFlag, made_by, at_work, gone_on, is_in, IsListing, AtMost, total, IsOrderly, IsPrepared, IsGiven, GoTogether, unit_by, unit_of, held_by, needs_file, first_of, file_there, intentions, list_of, heads_of}
 use Rattle.jn_base.specs.declared.names.WorkId.{WorkId}
 use Rattle.jn_base.proofs.Tells.{file_tells, tid_tells, work_tells}
 use Rattle.jn_records.specs.declared.flag.Flag.{Flag}
@@ -286,7 +286,7 @@ needs-other server x w v p k i o at here ne = by (x.works v) refl
 -- all works together need a head less where the intention makes a file, and else as many as before
 pub promises-carried : (server : ServerNo) (x : StableState) (w : WorkId) (p : Prepared) (k : ℕ) (i : Intention) (keys : List WorkId) → IsOrderly server x → x.works w ≡ Some p → slice_get p.list k ≡ Some i
     → IsListing work_eq (λ v. is_some (x.works v)) keys
-    → total (λ v. (needed (made_by (CarryOut w i) x) (list_of (made_by (CarryOut w i) x) v)).heads) keys + one_if (makes_file i x.files) ≡ total (λ v. (needed x (list_of x v)).heads) keys
+    → total (λ v. heads_of (list_of (made_by (CarryOut w i) x) v) (file_there (made_by (CarryOut w i) x).files)) keys + one_if (makes_file i x.files) ≡ total (λ v. heads_of (list_of x v) (file_there x.files)) keys
 promises-carried server x w p k i keys o at here l = summed _ _ _ _ _ _ _ (total-but work_eq work_tells _ w keys l.different stands) (total-but work_eq work_tells _ w keys l.different stands) own others
   where
     stands : is_in work_eq w keys ≡ true

@@ -135,12 +135,12 @@ with_work a work need = record a {
 -- A work is prepared, whole or not at all. Where something is short, or there is no memory for it, nothing
 -- changed and no device call was made.
 pub record WorkPrepared {A : Type 0} (v : StorageView) (head : WorkHead) (list : List Intention) (reads : List LockUnit) (answer : Result A PrepareFault) (w : StorageView) : Type 0 where
-  pub refused : (fault : PrepareFault) → answer ≡ Err fault → is_shortage fault ≡ true → shortage v.accounts (needed (state v) list) ≡ Some fault
-  pub enough : reached answer ≡ true → shortage v.accounts (needed (state v) list) ≡ None
+  pub refused : (fault : PrepareFault) → answer ≡ Err fault → is_shortage fault ≡ true → shortage v.accounts (needed v.accounts.maps (state v) list) ≡ Some fault
+  pub enough : reached answer ≡ true → shortage v.accounts (needed v.accounts.maps (state v) list) ≡ None
   pub kept : reached answer ≡ false → w ≡ v
   pub called : reached answer ≡ true → Called v prepare_calls (is_ok answer) w
   pub change : reached answer ≡ true → Changed (state v) (AddReady head list reads) (is_ok answer) w.found
-  pub accounts : is_ok answer ≡ true → w.accounts ≡ with_work v.accounts head.work (needed (state v) list)
+  pub accounts : is_ok answer ≡ true → w.accounts ≡ with_work v.accounts head.work (needed v.accounts.maps (state v) list)
 
 pub record MarkedGoing (v : StorageView) (work : WorkId) (ok : Bool) (w : StorageView) : Type 0 where
   pub called : Called v put_calls ok w

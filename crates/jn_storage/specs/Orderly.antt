@@ -15,7 +15,8 @@ use Rattle.jn_records.specs.Records.{ascends}
 use Rattle.jn_records.specs.declared.intention.Intention.{Intention}
 use Rattle.jn_records.specs.declared.intention.What.{What}
 use Rattle.jn_records.specs.declared.intention.What.TheVariants.{Put}
-use Rattle.jn_records.specs.NetLists.{InOrder, First, Kept, TakenAway, CutFrom, as_first, entry, is_put, need_of}
+use Rattle.jn_records.specs.NetLists.{InOrder, First, Kept, TakenAway, CutFrom, as_first, entry, is_put, heads_of}
+use Rattle.jn_records.specs.MapPlaces.{MapPlaces, need_of}
 use Rattle.jn_locks.specs.declared.words.Mode.{Mode}
 use Rattle.jn_locks.specs.Locks.{Wants, together, is_unit, rebuilt}
 use Rattle.jn_rows.specs.Stable.{StableState, Prepared}
@@ -94,8 +95,8 @@ abbrev pub file_there : Files → FileNo → Bool
 file_there files f = is_some (files (File f))
 
 -- what a list needs where it is prepared
-abbrev pub needed : StableState → List Intention → Need
-needed x list = need_of list (file_there x.files)
+abbrev pub needed : MapPlaces → StableState → List Intention → Need
+needed maps x list = need_of list (file_there x.files) maps
 
 -- the intentions of a prepared work
 abbrev pub intentions : Option Prepared → List Intention
@@ -112,4 +113,4 @@ pub record IsLoadable (server : ServerNo) (heads : ℕ) (x : StableState) : Type
   pub files : List FileNo
   pub works_all : IsListing work_eq (λ w. is_some (x.works w)) works
   pub files_all : IsListing file_eq (file_there x.files) files
-  pub fits : length files + total (λ w. (needed x (list_of x w)).heads) works ≤ heads
+  pub fits : length files + total (λ w. heads_of (list_of x w) (file_there x.files)) works ≤ heads

@@ -1,5 +1,5 @@
 -- What the layers above see of a server's storage.
-use Rattle.std.specs.Prelude.{◌≡◌, ◌≤◌, ◌+◌, ℕ, Bool, true, false, List, [], length, is_some}
+use Rattle.std.specs.Prelude.{◌≡◌, ◌≤◌, ◌+◌, ℕ, Bool, true, false, List, [], length, count_by, is_some}
 use Rattle.jn_base.specs.declared.names.ServerNo.{ServerNo}
 use Rattle.jn_base.specs.declared.names.FileNo.{FileNo}
 use Rattle.jn_base.specs.declared.names.LockUnit.{LockUnit}
@@ -8,10 +8,12 @@ use Rattle.jn_base.specs.declared.names.Tid.{Tid}
 use Rattle.jn_base.specs.declared.names.WorkId.{WorkId}
 use Rattle.jn_base.specs.Names.{file_eq, tid_eq, work_eq, unit_eq}
 use Rattle.jn_order.specs.Files.{Files}
+use Rattle.jn_records.specs.MapPlaces.{MapPlaces}
+use Rattle.jn_records.specs.NetLists.{heads_of, is_put_intention}
 use Rattle.jn_store.specs.Store.{StoreView, StoreLater}
 use Rattle.jn_rows.specs.Stable.{StableState, Pick, stable, IsUp}
 use Rattle.jn_storage.specs.Listing.{IsListing, total}
-use Rattle.jn_storage.specs.Orderly.{IsOrderly, file_there, needed, list_of}
+use Rattle.jn_storage.specs.Orderly.{IsOrderly, file_there, list_of}
 
 -- what is free and promised, what is rubbish, and how far works were carried out
 pub record Accounts : Type 0 where
@@ -33,6 +35,8 @@ pub record Accounts : Type 0 where
   pub next : WorkId → ℕ
   -- how many data pages a work's intentions name that no head does
   pub held : WorkId → ℕ
+  -- which map pages heads name
+  pub maps : MapPlaces
 
 pub record StorageView : Type 0 where
   -- the stable state that each pick of pages gives
@@ -70,7 +74,7 @@ pub record IsCounted (x : StableState) (a : Accounts) : Type 0 where
   pub heads_used : a.free_heads + length files ≡ a.heads
   pub pages : a.free_pages + length blocks + total a.held works ≡ a.leaves
   -- the promise of a work is its need of heads by the files as they are now
-  pub promises : a.promised_heads ≡ total (λ w. (needed x (list_of x w)).heads) works
+  pub promises : a.promised_heads ≡ total (λ w. heads_of (list_of x w) (file_there x.files)) works
 
 -- between two calls, none of which was stopped
 pub record IsServing (v : StorageView) : Type 0 where
@@ -82,7 +86,7 @@ pub record IsServing (v : StorageView) : Type 0 where
   pub records_fit : v.accounts.promised_records ≤ v.accounts.free_records
   pub heads_fit : v.accounts.promised_heads ≤ v.accounts.free_heads
   pub next_fits : (w : WorkId) → v.accounts.next w ≤ length (list_of (stable v.found) w)
-  pub held_fits : (w : WorkId) → v.accounts.held w ≤ (needed (stable v.found) (list_of (stable v.found) w)).pages
+  pub held_fits : (w : WorkId) → v.accounts.held w ≤ count_by is_put_intention (list_of (stable v.found) w)
 
 -- just after a recovery: nothing is promised for flags, nothing is rubbish, and nothing was carried out
 pub record IsRecovered (v : StorageView) : Type 0 where

@@ -1,8 +1,9 @@
 // Stored files seen through the list of a work that isn't prepared yet.
-ghost use Rattle.std.specs.Prelude.{◌≡◌, ◌<◌, ◌+◌, ◌^◌, length, count_by};
-ghost use Rattle.jn_base.specs.Limits.{most_blocks};
+ghost use Rattle.std.specs.Prelude.{◌≡◌, ◌<◌, ◌+◌, ◌^◌, true, nat_lt, length};
+ghost use Rattle.std.specs.List.{list_all};
+ghost use Rattle.jn_base.specs.Limits.{most_blocks, head_blocks};
 ghost use Rattle.jn_order.specs.Files.{file_of, zeros};
-ghost use Rattle.jn_records.specs.NetLists.{needs_a_head};
+ghost use Rattle.jn_records.specs.NetLists.{heads_of};
 ghost use Rattle.jn_base.specs.Ops.{block_of, BlockInRange};
 ghost use Rattle.jn_storage.specs.Storage.{IsServing};
 ghost use Rattle.jn_storage.specs.Orderly.{file_there, needed};
@@ -34,11 +35,13 @@ pub fn view<W: StoredFiles>(
     Ok(Answer::Read(BlockContent::from_block(alloc, &block)?))
 }
 
-/// What a list needs where it is prepared.
+/// What a list needs where it is prepared. No block is past a head's, so no put lacks a map page, whichever there are.
+#[tactic(auto, using(jn_records::proofs::MapPlaces::no_lack))]
 pub fn need<W: StoredFiles>(list: &[Intention], files: &W) -> Need
     requires serving { IsServing (W.view files.now) }
     requires length { length list.now + 1 < 2 ^ 32 }
-    ensures { result ≡ needed (state (W.view files.now)) list.now }
+    requires range { list_all (λ i. nat_lt i.block.0 head_blocks) list.now ≡ true }
+    ensures { result ≡ needed (W.view files.now).accounts.maps (state (W.view files.now)) list.now }
 {
     Need {
         records: list.len() as u32 + 1,
@@ -51,7 +54,7 @@ pub fn need<W: StoredFiles>(list: &[Intention], files: &W) -> Need
 fn heads_needed<W: StoredFiles>(list: &[Intention], files: &W) -> u32
     requires serving { IsServing (W.view files.now) }
     requires length { length list.now < 2 ^ 32 }
-    ensures { result ≡ count_by (λ i. needs_a_head (file_there (state (W.view files.now)).files i.file) i) list.now }
+    ensures { result ≡ heads_of list.now (file_there (state (W.view files.now)).files) }
 {
     let mut heads = 0;
     for intention in list {

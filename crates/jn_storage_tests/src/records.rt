@@ -1,15 +1,21 @@
-//! Pages of records and of a root written out by hand.
+//! Pages of records, of a root and of a head written out by hand.
 
 use jn_base::{
-    BlockNo, ClientNo, FileNo, LockUnit, Page, PageWriter, RequestNo, ServerNo, Tid, WorkId,
+    BlockNo, ClientNo, FileNo, HEAD_BLOCKS, LockUnit, MOST_MAPS, Page, PageWriter, RequestNo,
+    ServerNo, Tid, WorkId,
 };
-use jn_records::{Record, Root, StoredIntention, What, WorkHead};
+use jn_records::{Head, Record, Root, StoredIntention, What, WorkHead, used_page};
 use std::alloc::{AllocError, Global};
 use std::test::Fail;
 
 /// Intention 7 of work 1.2.3 of transaction 0.5.6: block 119 of file 9 is put, and stands in data page 127.
 const INTENTION: [u8; 29] = [
     1, 1, 0, 0, 0, 2, 0, 0, 0, 3, 0, 0, 0, 0, 5, 0, 0, 0, 6, 7, 4, 0, 0, 0, 9, 0, 119, 0, 128,
+];
+
+/// Another intention of that work: file 9 is made or emptied.
+const FRESH: [u8; 25] = [
+    1, 1, 0, 0, 0, 2, 0, 0, 0, 3, 0, 0, 0, 0, 5, 0, 0, 0, 6, 7, 1, 0, 0, 0, 9,
 ];
 
 /// That work is ready for client 8, with 3 intentions, and has read file 9 and its block 4.
@@ -29,8 +35,11 @@ const FLAG: [u8; 25] = [
     4, 0, 0, 0, 0, 5, 0, 0, 0, 6, 8, 0, 0, 1, 0, 1, 1, 0, 0, 0, 2, 0, 0, 0, 3,
 ];
 
-/// The root of server 5 in epoch 7, with 300 records, 2 heads and 513 data pages.
-const ROOT: [u8; 16] = [74, 85, 78, 49, 1, 5, 1, 44, 0, 2, 2, 1, 0, 0, 0, 7];
+/// The root of version 2 of server 5 in epoch 7, with 300 records, 2 heads and 513 data pages.
+const ROOT: [u8; 16] = [74, 85, 78, 49, 2, 5, 1, 44, 0, 2, 2, 1, 0, 0, 0, 7];
+
+/// The head of file 9, whose block 0 stands in data page 2.
+const HEAD: [u8; 7] = [1, 0, 0, 0, 9, 0, 3];
 
 const WORK: WorkId = WorkId {
     server: ServerNo(1),
@@ -96,6 +105,7 @@ fn is_the_intention(value: &Record) -> bool {
                 file: FileNo(9),
                 block: BlockNo(119),
                 address: 128,
+                map: 0,
             };
             *work == WORK && *tid == TID && *order == 7 && *intention == put
         }
@@ -159,9 +169,32 @@ fn a_changed_intention_is_another_or_none(rt: HostRuntime) -> Result<(), Fail> {
         (20, 5, false),
         (28, 0, false),
         (29, 1, false),
+        (30, 1, false),
+        (31, 1, false),
         (0, 5, false),
     ] {
         let decoded = Record::decode(rt.alloc(), &changed(&page, at, byte))?;
+        assert_eq!(rt; decoded.is_some(), same);
+    }
+    Ok(())
+}
+
+/// An intention that puts no block, of this kind and with this byte in the address of a map page.
+fn page_without_a_block(kind: u8, map: u8) -> Page {
+    changed(&changed(&page_of(&FRESH), 20, kind), 30, map)
+}
+
+#[test]
+fn no_kind_of_intention_has_a_map_page(rt: HostRuntime) -> Result<(), Fail> {
+    for (kind, map, same) in [
+        (1, 0, true),
+        (1, 1, false),
+        (2, 0, true),
+        (2, 1, false),
+        (3, 0, true),
+        (3, 1, false),
+    ] {
+        let decoded = Record::decode(rt.alloc(), &page_without_a_block(kind, map))?;
         assert_eq!(rt; decoded.is_some(), same);
     }
     Ok(())
@@ -185,31 +218,138 @@ fn a_changed_ready_work_is_another_or_none(rt: HostRuntime) -> Result<(), Fail> 
     Ok(())
 }
 
-fn is_the_root(root: Root) -> bool {
+fn is_the_root(root: Root, version: u8) -> bool {
     let expected = Root {
-        version: 1,
+        version,
         server: ServerNo(5),
         pool: 300,
         heads: 2,
         leaves: 513,
         epoch: 7,
     };
-    root == expected && root.encode() == page_of(&ROOT)
+    root == expected
+}
+
+/// Whether a page is read as a root, and the root has this page.
+fn is_read_as_root(page: &Page) -> bool {
+    match Root::decode(page) {
+        Some(root) => root.encode() == *page,
+        None => false,
+    }
 }
 
 #[test]
 fn the_parts_of_a_root_are_read(rt: HostRuntime) -> Result<(), Fail> {
-    let root = Root::decode(&page_of(&ROOT)).ok_or("no root")?;
-    assert!(rt; is_the_root(root));
+    let page = page_of(&ROOT);
+    for version in [1, 2] {
+        let root = Root::decode(&changed(&page, 4, version)).ok_or("no root")?;
+        assert!(rt; is_the_root(root, version));
+    }
     Ok(())
 }
 
 #[test]
-fn only_a_root_of_version_1_is_read(rt: HostRuntime) -> Result<(), Fail> {
+fn roots_of_versions_1_and_2_alone_are_read(rt: HostRuntime) -> Result<(), Fail> {
     let page = page_of(&ROOT);
-    for version in [0, 1, 2, 3] {
-        let decoded = Root::decode(&changed(&page, 4, version));
-        assert_eq!(rt; decoded.is_some(), version == 1);
+    for (version, read) in [(0, false), (1, true), (2, true), (3, false)] {
+        assert_eq!(rt; is_read_as_root(&changed(&page, 4, version)), read);
     }
+    Ok(())
+}
+
+/// Whether the head that a page is read as, with 3 data pages, has this page, and nothing where it is that of no head.
+fn is_read_as_head(alloc: Global, page: &Page) -> Result<Option<bool>, AllocError> {
+    let head = Head::decode(alloc, page, 3)?;
+    Ok(match head {
+        Some(head) => Some(head.encode() == *page),
+        None => None,
+    })
+}
+
+#[test]
+fn heads_are_spelled_as_they_are_read(rt: HostRuntime) -> Result<(), Fail> {
+    for begin in [HEAD.as_slice(), [0].as_slice()] {
+        assert!(rt; is_read_as_head(rt.alloc(), &page_of(begin))? == Some(true));
+    }
+    Ok(())
+}
+
+fn is_the_head(head: &Head) -> bool {
+    let mut blocks: [u16; HEAD_BLOCKS] = [0; HEAD_BLOCKS];
+    blocks[0] = 3;
+    let no_maps: [u16; MOST_MAPS] = [0; MOST_MAPS];
+    match head {
+        Head::Used {
+            file,
+            addresses,
+            maps,
+        } => {
+            *file == FileNo(9)
+                && addresses.as_slice() == blocks.as_slice()
+                && maps.as_slice() == no_maps.as_slice()
+        }
+        Head::Free => false,
+    }
+}
+
+#[test]
+fn the_parts_of_a_head_are_read(rt: HostRuntime) -> Result<(), Fail> {
+    let head = Head::decode(rt.alloc(), &page_of(&HEAD), 3)?.ok_or("no head")?;
+    assert!(rt; is_the_head(&head));
+    Ok(())
+}
+
+#[test]
+fn a_head_with_a_map_address_is_none(rt: HostRuntime) -> Result<(), Fail> {
+    let page = page_of(&HEAD);
+    for (at, byte, same) in [
+        (6, 4, false),
+        (244, 2, true),
+        (245, 1, false),
+        (246, 1, false),
+        (284, 1, false),
+        (285, 1, false),
+        (0, 2, false),
+    ] {
+        let decoded = Head::decode(rt.alloc(), &changed(&page, at, byte), 3)?;
+        assert_eq!(rt; decoded.is_some(), same);
+    }
+    Ok(())
+}
+
+/// Each byte of the head of file 7 whose first and last block have the addresses 0x0102 and 0x0304, and whose first and last map page 1 and 0x0203.
+fn byte_of_head(at: usize) -> u8 {
+    match at {
+        0 => 1,
+        4 => 7,
+        5 => 1,
+        6 => 2,
+        243 => 3,
+        244 => 4,
+        246 => 1,
+        283 => 2,
+        284 => 3,
+        _ => 0,
+    }
+}
+
+fn is_that_head(page: &Page) -> bool {
+    for at in 0..512 {
+        if page[at] != byte_of_head(at) {
+            return false;
+        }
+    }
+    true
+}
+
+#[test]
+fn addresses_of_map_pages_stand_behind_those_of_blocks(rt: HostRuntime) -> Result<(), Fail> {
+    let mut blocks: [u16; HEAD_BLOCKS] = [0; HEAD_BLOCKS];
+    blocks[0] = 0x0102;
+    blocks[HEAD_BLOCKS - 1] = 0x0304;
+    let mut maps: [u16; MOST_MAPS] = [0; MOST_MAPS];
+    maps[0] = 1;
+    maps[MOST_MAPS - 1] = 0x0203;
+    assert!(rt; is_that_head(&used_page(FileNo(7), &blocks, &maps)));
     Ok(())
 }

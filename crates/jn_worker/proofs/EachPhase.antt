@@ -129,7 +129,7 @@ module _ (IsSo : Phase → Type 0) (may : Change → Bool) (rules : Rules IsSo m
     votes-on T c w a i (votes.Full m n o) = (h, refl)
 
     prepares : (T : Tid) (c : ClientNo) (w : Work) (p : Phase) → IsSo p → Keeps (prepare_phase t s k T c w p)
-    prepares T c w (Active a) i = votes-on T c w a i (vote_of (conflict w.name (commit_wants a.writes) t) (shortage s.free (need_in s.state.files a.list)))
+    prepares T c w (Active a) i = votes-on T c w a i (vote_of (conflict w.name (commit_wants a.writes) t) (shortage s.free (need_in s.maps s.state.files a.list)))
     prepares T c w (Broken u by) i = (h, refl)
     prepares T c w (Stored p) i = either (is_going (s.state.works w.name)) _ _ (h, refl) (h, refl)
 

@@ -91,7 +91,7 @@ module _ (t : WorkerTable) (W : WorkId) (w : Work) (at : work_at W t ≡ Some w)
       votes_stay a (votes.Lost m n) e = inl at
 
       by : (phase : Phase) → x.phase ≡ phase → Stays (prepare_phase t s k T c x phase).table
-      by (Active a) e = votes_stay a (vote_of (conflict x.name (commit_wants a.writes) t) (shortage s.free (need_in s.state.files a.list))) e
+      by (Active a) e = votes_stay a (vote_of (conflict x.name (commit_wants a.writes) t) (shortage s.free (need_in s.maps s.state.files a.list))) e
       by (Broken u S) e = inl at
       by (Stored q) e = either (is_going (s.state.works x.name))
         where

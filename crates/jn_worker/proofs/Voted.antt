@@ -57,11 +57,11 @@ ready_stores t ws found taken after kept shown gs W x T S a bs told before middl
 -- ---- the row
 
 -- it is as a vote by the conflict and what is short
-prepared-as : (t : WorkerView) (v : StorageView) (k : Tickets) (T S : Tid) (c : ClientNo) (W : WorkId) (a : ActiveWork) (i : IsActive t.table S W a) (o : Option Held) (s : Option Vote) → conflict W (commit_wants a.writes) t.table ≡ o → shortage (seen v).free (need_in (state v).files a.list) ≡ s
+prepared-as : (t : WorkerView) (v : StorageView) (k : Tickets) (T S : Tid) (c : ClientNo) (W : WorkId) (a : ActiveWork) (i : IsActive t.table S W a) (o : Option Held) (s : Option Vote) → conflict W (commit_wants a.writes) t.table ≡ o → shortage (seen v).free (need_in v.accounts.maps (state v).files a.list) ≡ s
     → prepare_row t.table (seen v) k T c W (work_at W t.table) ≡ prepared_row t.table k T c i.work a (vote_of o s)
 prepared-as t v k T S c W a i o s free short = ap (λ o. prepare_row t.table (seen v) k T c W o) i.found ∙ (ap (λ phase. prepare_phase t.table (seen v) k T c i.work phase) i.phase
-    ∙ (ap (λ n. prepared_row t.table k T c i.work a (vote_of (conflict n (commit_wants a.writes) t.table) (shortage (seen v).free (need_in (state v).files a.list)))) (found-name W t.table i.work i.found)
-    ∙ (ap (λ o. prepared_row t.table k T c i.work a (vote_of o (shortage (seen v).free (need_in (state v).files a.list)))) free ∙ ap (λ s. prepared_row t.table k T c i.work a (vote_of o s)) short)))
+    ∙ (ap (λ n. prepared_row t.table k T c i.work a (vote_of (conflict n (commit_wants a.writes) t.table) (shortage (seen v).free (need_in v.accounts.maps (state v).files a.list)))) (found-name W t.table i.work i.found)
+    ∙ (ap (λ o. prepared_row t.table k T c i.work a (vote_of o (shortage (seen v).free (need_in v.accounts.maps (state v).files a.list)))) free ∙ ap (λ s. prepared_row t.table k T c i.work a (vote_of o s)) short)))
 
 abbrev ready_row : WorkerTable → Tickets → Tid → ClientNo → WorkId → Tid → ActiveWork → RowOutcome WorkerTable
 ready_row t k T c W S a = record {
@@ -72,7 +72,7 @@ ready_row t k T c W S a = record {
   tickets = k;
 }
 
-ready-as : (t : WorkerView) (v : StorageView) (k : Tickets) (T S : Tid) (c : ClientNo) (W : WorkId) (a : ActiveWork) → IsActive t.table S W a → conflict W (commit_wants a.writes) t.table ≡ None → shortage (seen v).free (need_in (state v).files a.list) ≡ None
+ready-as : (t : WorkerView) (v : StorageView) (k : Tickets) (T S : Tid) (c : ClientNo) (W : WorkId) (a : ActiveWork) → IsActive t.table S W a → conflict W (commit_wants a.writes) t.table ≡ None → shortage (seen v).free (need_in v.accounts.maps (state v).files a.list) ≡ None
     → prepare_row t.table (seen v) k T c W (work_at W t.table) ≡ ready_row t.table k T c W S a
 ready-as t v k T S c W a i free enough = prepared-as t v k T S c W a i None None free enough ∙ (ap (λ n. ready_row t.table k T c n i.work.tid a) (found-name W t.table i.work i.found) ∙ ap (λ s. ready_row t.table k T c W s a) i.tid)
 
@@ -95,8 +95,8 @@ short-same r p h need = by (nat_lt r need.records) (nat_lt p need.pages) (nat_lt
     by false false true = refl
     by false false false = refl
 
-short-here : (v : StorageView) (a : ActiveWork) (o : Option PrepareFault) → storage_shortage v.accounts (needed (state v) a.list) ≡ o → shortage (seen v).free (need_in (state v).files a.list) ≡ short_vote o
-short-here v a o e = short-same _ _ _ (needed (state v) a.list) ∙ ap short_vote e
+short-here : (v : StorageView) (a : ActiveWork) (o : Option PrepareFault) → storage_shortage v.accounts (needed v.accounts.maps (state v) a.list) ≡ o → shortage (seen v).free (need_in v.accounts.maps (state v).files a.list) ≡ short_vote o
+short-here v a o e = short-same _ _ _ (needed v.accounts.maps (state v) a.list) ∙ ap short_vote e
 
 abbrev refusal_ok : Vote → Result Vote CallFault
 refusal_ok vote = Ok vote
@@ -148,7 +148,7 @@ full_sent t v w before after k T c W fault vote h active free prepared told sent
     i : IsActive t.table f.0 W f.1
     i = f.2
 
-    short : (o : PrepareFault) → storage_shortage v.accounts (needed (state v) f.1.list) ≡ Some o → short_vote (Some o) ≡ Some vote → w ≡ v → Takes 784 (prepare_row t.table (seen v) k T c W (work_at W t.table)) t v before k (Ok (tt {0})) t w after k
+    short : (o : PrepareFault) → storage_shortage v.accounts (needed v.accounts.maps (state v) f.1.list) ≡ Some o → short_vote (Some o) ≡ Some vote → w ≡ v → Takes 784 (prepare_row t.table (seen v) k T c W (work_at W t.table)) t v before k (Ok (tt {0})) t w after k
     short o e s kept = subst (λ w. Takes 784 (prepare_row t.table (seen v) k T c W (work_at W t.table)) t v before k (Ok (tt {0})) t w after k) (sym kept)
         (subst (λ row. Takes 784 row t v before k (Ok (tt {0})) t v after k)
         (sym (prepared-as t v k T f.0 c W f.1 i None (Some vote) (free f.0 f.1 i) (short-here v f.1 (Some o) e ∙ s) ∙ (not_ready vote o s ∙ ap (λ n. voted t.table k T n vote) (found-name W t.table i.work i.found))))

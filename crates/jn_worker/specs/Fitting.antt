@@ -37,6 +37,7 @@ abbrev pub seen : StorageView → WorkStorage
 seen v = record {
   state = state v;
   free = record { records = v.accounts.free_records - v.accounts.promised_records; heads = v.accounts.free_heads - v.accounts.promised_heads; pages = v.accounts.free_pages };
+  maps = v.accounts.maps;
   next = v.accounts.next;
   rubbish = not (is_none v.accounts.rubbish);
 }

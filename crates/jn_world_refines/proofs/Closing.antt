@@ -59,7 +59,7 @@ module _ {S : Type 0} (look : S → StoreView) (device : S → DeviceState) (see
         (net-quiet look device x w m stand (go_on (CloseClients q ∷ []) m.state.course) [] (carries-on w.net m.state.course (CloseClients q) refl sent-is stand.net) (ap (λ (u : World). u.lines) after-is) refl)
         (ap (λ (u : World). u.lines) after-is) sent-is (all-idle idle, tt)
         (record {
-          its = record { memory = memory_of (view_with look p); up = memory-is; free = refl; called = calling look device seen x w m stand q place at p is told row_calls _ None true (device p'.storage.0) refl e.spent };
+          its = record { memory = memory_of (view_with look p); up = memory-is; free = refl; maps = refl; called = calling look device seen x w m stand q place at p is told row_calls _ None true (device p'.storage.0) refl e.spent };
           others = λ r o. device-there look device x w m stand seen q place at (device p'.storage.0) r o;
         })
         (λ r o n. refl) (leaves-from look world q (CloseClients q ∷ []) place.slot (Up p) (Up p') is (ap (λ (names : List WorkId). length names) kept))

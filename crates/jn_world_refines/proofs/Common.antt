@@ -1,6 +1,6 @@
 -- The names from below that these proofs cite, passed on from one place. Declares nothing.
 pub use Rattle.std.proofs.Common.{◌≡◌, ℕ, Bool, true, false, List, [], ◌++◌, append-nil, drop, slice_set, Some, refl, sym, ap, subst, length, ◌-◌, ◌∷◌, Option, None, ◌∙◌, arith, ◌⊎◌, inl, inr, ◌≢◌, suc, ◌<◌, zero, true≢false, ◌≤◌, not, append_assoc, ◌+◌, length-append, length-drop}
-pub use Rattle.std.specs.Prelude.{slice_get, if◌then◌else◌, ◌&&◌, nat_lt, map, is_some, ⊤, ◌||◌, ◌*◌, is_none, nat_eq}
+pub use Rattle.std.specs.Prelude.{slice_get, if◌then◌else◌, ◌&&◌, nat_lt, map, is_some, ⊤, ◌||◌, ◌*◌, nat_eq, is_none}
 pub use Rattle.jn_base.specs.declared.names.ServerNo.{ServerNo}
 pub use Rattle.jn_device.specs.Device.{DeviceState}
 pub use Rattle.jn_device.specs.Events.{Decays as PageDecays, Revives as PageRevives, Arms as FaultArmed, powered_off, disarmed, cleared}
@@ -14,8 +14,8 @@ pub use Rattle.jn_report.specs.declared.line.Line.{Line}
 pub use Rattle.jn_report.specs.declared.line.Text.{Text}
 pub use Rattle.jn_schedule.specs.declared.Event.{Event}
 pub use Rattle.jn_store.specs.Pairs.{pairs_view}
-pub use Rattle.jn_store.specs.Store.{StoreView, IsCalm, IsClean, IsWholePage}
-pub use Rattle.jn_machine.specs.Chances.{Setup, Chance, Allows, Free, Finding, Prints as HasPrints, none_free, free_found, Recovered}
+pub use Rattle.jn_store.specs.Store.{StoreView, IsCalm, IsClean, IsWholePage, IsOnly}
+pub use Rattle.jn_machine.specs.Chances.{Setup, Chance, Allows, Free, Finding, Prints as HasPrints, none_free, free_found, maps_found, Recovered}
 pub use Rattle.jn_machine.specs.Deeds.{Use, Decays, Revives, Arms, uses, plain, delivered, no_room, served, Deed, PowersOff, nothing, crashed_at, Reads, Cleans, shown, room, delivered_at, Nothing, is_busy, working_steps, worked, is_used_up, given_up, recovered, restarted, stopped_idle, recovering, brought_up, last_epoch, Calls, nobody, is_busy_with}
 pub use Rattle.jn_machine.specs.Devices.{Devices, Alone, IsUsed, AreFound, rubbish_on, AreRecoverable, IsCalled, pages_of, IsServed, IsLookedOver, IsScrubbed, Befalls, IsRecovery}
 pub use Rattle.jn_machine.specs.Events.{told_unless, acted, deed_of, dismissing, met, servers_of, asking, settling, next_in, resting, first_busy, next_event}
@@ -57,10 +57,11 @@ pub use Rattle.jn_row_ranges.specs.Within.{Within}
 pub use Rattle.jn_row_ranges.proofs.WorldSteps.{run-within, sent-near, opening-within}
 pub use Rattle.jn_machine.specs.Rubbish.{AreLeft, AreAllCounted, rubbish_records, left_by_step, left_by_steps, CountsAll, left_by_row}
 pub use Rattle.jn_machine.proofs.Computed.{may-lead, join}
+pub use Rattle.jn_records.specs.MapPlaces.{MapPlaces, maps_in, no_maps}
 pub use Rattle.jn_page_state.specs.Recoverable.{IsRecoverable}
 pub use Rattle.std.proofs.lemmas.Option.{slice_get_within, slice_get-map}
-pub use Rattle.jn_records.specs.StablePages.{Counts, page_count}
-pub use Rattle.jn_page_state.specs.Pages.{pool_on, found_on}
+pub use Rattle.jn_records.specs.StablePages.{Counts, page_count, root_by}
+pub use Rattle.jn_page_state.specs.Pages.{pool_on, heads_on, found_on}
 pub use Rattle.jn_server.specs.Standing.{standing_pages, free_on, has_rubbish}
 pub use Rattle.jn_rows.specs.declared.worker.Work.{Work, Work as WorkEntry}
 pub use Rattle.jn_rows.specs.Worker.{going_work, going_row, carried_row, intentions_of}

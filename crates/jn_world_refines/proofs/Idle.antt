@@ -1,5 +1,5 @@
 -- A server cleans its pages, or shows its files, and nothing else changes.
-use Rattle.jn_world_refines.proofs.Common.{◌≡◌, ℕ, Bool, true, false, not, List, [], ◌∷◌, ◌++◌, slice_get, Option, Some, None, is_some, refl, sym, ◌∙◌, ap, subst, if◌then◌else◌, fun_ext, ServerNo, Outside, server_eq, DeviceState, found_on, Place, Slot, Up, Down, IsSpent, IsDoneAt, IsStoppedAt, idle_row, World, Memory, at_server, Room, server_step, of_step, Step, StopWork, after, work, works, counts_by, Carries, Work, RowOutcome, StableState, Pick, Change, stable, going_work, going_row, Parts, view_with, memory_of, go_on, state, pairs_view, StoreView, Setup, Chance, no_room, free_on, Devices, IsCalled, rubbish_on, pages_of, Moment, HasCounts, Standing, StandsAt, Stands, Finding, Free, Left, whole_only, left_of}
+use Rattle.jn_world_refines.proofs.Common.{◌≡◌, ℕ, Bool, true, false, not, List, [], ◌∷◌, ◌++◌, slice_get, Option, Some, None, is_some, refl, sym, ◌∙◌, ap, subst, if◌then◌else◌, fun_ext, ServerNo, Outside, server_eq, DeviceState, found_on, Place, Slot, Up, Down, IsSpent, IsDoneAt, IsStoppedAt, idle_row, World, Memory, at_server, Room, server_step, of_step, Step, StopWork, after, work, works, counts_by, Carries, Work, RowOutcome, StableState, Pick, Change, stable, going_work, going_row, Parts, view_with, memory_of, go_on, state, pairs_view, StoreView, Setup, Chance, no_room, free_on, Devices, IsCalled, rubbish_on, pages_of, Moment, HasCounts, Standing, StandsAt, Stands, Finding, Free, Left, whole_only, left_of, heads_on, maps_in}
 use Rattle.jn_rows.proofs.Left.{left-none}
 use Rattle.jn_report.specs.declared.line.Text.TheVariants as says
 use Rattle.jn_world_refines.proofs.Servers.{IsAlone}
@@ -18,7 +18,7 @@ idle_room = record no_room { rubbish = true }
 always-some : (k : Memory) (y : StableState) → is_some (server_step k y idle_room) ≡ true
 always-some k y = by (going_work y k.worker)
   where
-    by : (o : Option Work) → is_some (of_step k (going_row k.worker (record { state = y; free = no_room.free; next = k.next; rubbish = true }) k.tickets o)) ≡ true
+    by : (o : Option Work) → is_some (of_step k (going_row k.worker (record { state = y; free = no_room.free; maps = no_room.maps; next = k.next; rubbish = true }) k.tickets o)) ≡ true
     by (Some v) = refl
     by None = refl
 
@@ -45,7 +45,7 @@ module _ {S : Type 0} (look : S → StoreView) (device : S → DeviceState) (see
   finding found stop = record { rubbish = rubbish_on x m.devices; found = found; stop = stop; told = told }
 
   abbrev pub idling : Option (Pick → Left) → Chance
-  idling stop = finding (Free (free_on (x.counts q) (pages_of (m.devices q)) (stable (world.found q)) mem)) stop
+  idling stop = finding (Free (free_on (x.counts q) (pages_of (m.devices q)) (stable (world.found q)) mem) (maps_in (heads_on (x.counts q) (pages_of (m.devices q))))) stop
 
   pub calling : (calls : ℕ) (found : Finding) (stop : Option (Pick → Left)) (power : Bool) (e : DeviceState) → is_some stop ≡ not power → IsSpent calls told power (device p.storage.0) e
       → IsCalled calls (finding found stop) (m.devices q) (devices-now look device x w m stand seen q place at e q)

@@ -32,7 +32,7 @@ module _ {S : Type 0} (look : S → StoreView) (device : S → DeviceState) (see
 
     called : (calls : ℕ) (told : List Outside) (stop : Option (Pick → Left)) (power : Bool) (e : DeviceState) → is_some stop ≡ not power → IsSpent calls told power (device p.storage.0) e
         → IsServed (x.counts q) calls (idling look device seen x w m stand q place at p is told stop) world q (m.devices q) (devices-now look device x w m stand seen q place at e q)
-    called calls told stop power e stops spent = record { memory = mem; up = let h = here look device seen x w m stand q place at p is told in h.0; free = refl; called = calling look device seen x w m stand q place at p is told calls _ stop power e stops spent }
+    called calls told stop power e stops spent = record { memory = mem; up = let h = here look device seen x w m stand q place at p is told in h.0; free = refl; maps = refl; called = calling look device seen x w m stand q place at p is told calls _ stop power e stops spent }
 
     its-counts : x.counts q ≡ counts_by place.counts
     its-counts = let there = stand.places q.0 place at in there.counts

@@ -1,9 +1,9 @@
 -- A step that is made, or that cuts the run short.
-use Rattle.jn_world_refines.proofs.Common.{◌≡◌, ◌≤◌, ◌<◌, ℕ, Bool, true, false, List, [], ◌++◌, length, append-nil, drop, Some, None, refl, sym, ◌∙◌, ap, subst, arith, ◌||◌, nat_lt, if◌then◌else◌, drop-length, length-map, nat_tests, DeviceState, Posted, Line, Text, StoreView, World, Course, go_on, sent_of, Setup, Chance, Task, State, when_of, next_task, begun, Sent, Nothing, Deed, deed_of, message_texts, traced, texts_of, lines_at, is_too_much, come_to, cut_short, made_to, Devices, Befalls, rubbish_on, Moment, Leads, DoesStep, none, more, Standing, Stands, NoMessageLeft, WasCut, IsStepTo, Free, none_free}
+use Rattle.jn_world_refines.proofs.Common.{◌≡◌, ◌≤◌, ◌<◌, ℕ, Bool, true, false, List, [], ◌++◌, length, append-nil, drop, Some, None, refl, sym, ◌∙◌, ap, subst, arith, ◌||◌, nat_lt, if◌then◌else◌, drop-length, length-map, nat_tests, DeviceState, Posted, Line, Text, StoreView, World, Course, go_on, sent_of, Setup, Chance, Task, State, when_of, next_task, begun, Sent, Nothing, Deed, deed_of, message_texts, traced, texts_of, lines_at, is_too_much, come_to, cut_short, made_to, Devices, Befalls, rubbish_on, Moment, Leads, DoesStep, none, more, Standing, Stands, NoMessageLeft, WasCut, IsStepTo, Free, none_free, no_maps}
 
 -- a chance of which no step asks anything more
 abbrev pub quiet_chance : Setup → Devices → Chance
-quiet_chance x ds = record { rubbish = rubbish_on x ds; found = Free none_free; stop = None; told = [] }
+quiet_chance x ds = record { rubbish = rubbish_on x ds; found = Free none_free no_maps; stop = None; told = [] }
 
 -- ---- the step
 

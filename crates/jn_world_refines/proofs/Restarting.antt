@@ -1,7 +1,8 @@
 -- A server comes up, or is stopped while it does.
-use Rattle.jn_world_refines.proofs.Common.{◌≡◌, ◌<◌, ℕ, ◌+◌, Bool, true, false, not, List, [], ◌∷◌, ◌++◌, append-nil, drop, length, map, slice_get, slice_set, Option, Some, None, is_some, is_none, refl, sym, ◌∙◌, ap, subst, arith, ◌||◌, ◌&&◌, if◌then◌else◌, nat_eq, fun_ext, nat_tests, ServerNo, Tid, WorkId, Outside, tid_eq, work_eq, DeviceState, powered_off, found_on, with_epoch, Place, Slot, Up, Down, IsTried, IsUpAt, texts_of_step, World, Memory, commits_in, has_line, restored, named_now, Restart, AreNames, tid_before, restart, restart_with, counts_by, Line, Text, StableState, Pick, Parts, go_on, pairs_view, StoreView, Setup, Chance, Deed, recovered, last_epoch, is_used_up, IsRecovery, rubbish_on, Moment, lines_at, when_of, names_told, HasCounts, Standing, StandsAt, Stands, with_named, IsStepTo, left_by_step, Counts, Recovered, Left}
+use Rattle.jn_world_refines.proofs.Common.{◌≡◌, ◌<◌, ℕ, ◌+◌, Bool, true, false, not, List, [], ◌∷◌, ◌++◌, append-nil, drop, length, map, slice_get, slice_set, Option, Some, None, is_some, refl, sym, ◌∙◌, ap, subst, arith, ◌||◌, if◌then◌else◌, nat_eq, fun_ext, nat_tests, ServerNo, Tid, WorkId, Outside, tid_eq, work_eq, DeviceState, powered_off, found_on, with_epoch, Place, Slot, Up, Down, IsTried, IsUpAt, texts_of_step, World, Memory, commits_in, has_line, restored, named_now, Restart, AreNames, tid_before, restart, restart_with, counts_by, Line, Text, StableState, Pick, Parts, go_on, pairs_view, StoreView, Setup, Chance, Deed, recovered, last_epoch, is_used_up, IsRecovery, rubbish_on, Moment, lines_at, when_of, names_told, HasCounts, Standing, StandsAt, Stands, with_named, IsStepTo, left_by_step, Counts, Recovered, Left, root_by, IsOnly, is_none, ◌&&◌}
 use Rattle.jn_page_state.specs.Puts.{IsFrontClean, IsFrontWhole}
 use Rattle.jn_locks.specs.Locks.{work_before}
+use Rattle.jn_records.specs.Pages.{root_page}
 use Rattle.jn_report.specs.declared.line.Text.TheVariants as says
 use Rattle.jn_world_refines.proofs.Naming.{told-names}
 use Rattle.jn_world_refines.proofs.Posted.{lines-in-two}
@@ -9,9 +10,9 @@ use Rattle.jn_world_refines.proofs.Moving.{same-server, carries-on, Does, net-na
 use Rattle.jn_world_refines.proofs.Left.{counted, leaves-from}
 
 -- what a restart tells its device
-pub recovery : (g : Counts) (h : Chance) (up : Bool) (told : List Outside) (power : Bool) (d e f : DeviceState) → h.told ≡ told → is_some h.stop ≡ not power → IsTried g told power d e → f ≡ (if up then e else powered_off e)
-    → (up ≡ true → IsFrontClean g (pairs_view f)) → (up ≡ true → d.waiting ≡ [] → IsFrontWhole g (pairs_view f)) → IsRecovery g h up d f
-recovery g h up told power d e f told-is stop tried f-is front whole = record {
+pub recovery : (q : ServerNo) (g : Counts) (h : Chance) (up : Bool) (told : List Outside) (power : Bool) (d e f : DeviceState) → h.told ≡ told → is_some h.stop ≡ not power → IsTried g told power d e → f ≡ (if up then e else powered_off e)
+    → (up ≡ true → IsFrontClean g (pairs_view f)) → (up ≡ true → d.waiting ≡ [] → IsFrontWhole g (pairs_view f)) → (up ≡ true → (epoch : ℕ) × IsOnly (pairs_view f) 0 (root_page (root_by q g epoch))) → IsRecovery q g h up d f
+recovery q g h up told power d e f told-is stop tried f-is front whole root = record {
   powered = tried.powered;
   last = e;
   power = tried.up;
@@ -19,6 +20,7 @@ recovery g h up told power d e f told-is stop tried f-is front whole = record {
   after = f-is;
   front = front;
   front_whole = whole;
+  root = root;
 }
 
 module _ {S : Type 0} (look : S → StoreView) (device : S → DeviceState) (seen : (s : S) → look s ≡ pairs_view (device s)) (x : Setup) (w : Standing S) (m : Moment) (stand : Stands look device x w m)
@@ -90,12 +92,13 @@ module _ {S : Type 0} (look : S → StoreView) (device : S → DeviceState) (see
         after-lines (ap (λ (u : World). u.sent) after-up)
         ((subst (λ (y : StableState). AreNames work_eq work_before y.works up.works) (sym found-there) up.work_names, subst (λ (y : StableState). AreNames tid_eq tid_before y.flags tids) (sym found-there) up.flag_names), tt)
         (record {
-          its = subst (λ (o : Option Memory). IsRecovery (x.counts q) up-chance (is_some o) (m.devices q) (devices-now look device x w m stand seen q place at (device p.storage.0) q))
+          its = subst (λ (o : Option Memory). IsRecovery q (x.counts q) up-chance (is_some o) (m.devices q) (devices-now look device x w m stand seen q place at (device p.storage.0) q))
               (sym (ap (λ (u : World). u.memory q) after-up ∙ ap (λ (b : Bool). if b then Some (restored q (old up.pick) up.works tids) else world.memory q) (same-server q)))
-              (recovery (x.counts q) up-chance true told true (m.devices q) (device p.storage.0) (devices-now look device x w m stand seen q place at (device p.storage.0) q) refl refl
+              (recovery q (x.counts q) up-chance true told true (m.devices q) (device p.storage.0) (devices-now look device x w m stand seen q place at (device p.storage.0) q) refl refl
               (subst (λ (d : DeviceState). IsTried (x.counts q) told true d (device p.storage.0)) (sym here.2) (subst (λ (g : Counts). IsTried g told true (device s) (device p.storage.0)) (sym its-counts) up.tried)) (device-here look device x w m stand seen q place at (device p.storage.0))
               (λ e. subst (λ (v : StoreView). IsFrontClean (x.counts q) v) now-is (subst (λ (g : Counts). IsFrontClean g (look p.storage.0)) (sym its-counts) up.front))
-              (λ e quiet. subst (λ (v : StoreView). IsFrontWhole (x.counts q) v) now-is (subst (λ (g : Counts). IsFrontWhole g (look p.storage.0)) (sym its-counts) (up.front_whole (ap (λ (d : DeviceState). d.waiting) (sym here.2) ∙ quiet)))));
+              (λ e quiet. subst (λ (v : StoreView). IsFrontWhole (x.counts q) v) now-is (subst (λ (g : Counts). IsFrontWhole g (look p.storage.0)) (sym its-counts) (up.front_whole (ap (λ (d : DeviceState). d.waiting) (sym here.2) ∙ quiet))))
+              (λ e. (epoch, subst (λ (v : StoreView). IsOnly v 0 (root_page (root_by q (x.counts q) epoch))) now-is (subst (λ (g : Counts). IsOnly (look p.storage.0) 0 (root_page (root_by q g epoch))) (sym its-counts) up.root))));
           others = λ r o. device-there look device x w m stand seen q place at (device p.storage.0) r o;
         })
         (λ r o n. ap (λ (b : Bool). if b && is_none (world.memory r) then 0 else n) o)

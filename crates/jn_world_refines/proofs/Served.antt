@@ -1,5 +1,5 @@
 -- A step of a server that is up, by a row, done or stopped.
-use Rattle.jn_world_refines.proofs.Common.{◌≡◌, ℕ, Bool, true, false, not, List, slice_get, Option, Some, None, is_some, sym, ◌∙◌, ap, subst, arith, if◌then◌else◌, fun_ext, nat_tests, ServerNo, Outside, server_eq, DeviceState, pool_on, Place, Slot, Up, Down, Gone, IsSpent, IsDoneAt, IsStoppedAt, done, stopped, World, Memory, at_server, Counts, counts_by, RowOutcome, StableState, Pick, stable, made_all, Parts, view_with, memory_of, room_of, free_on, has_rubbish, state, pairs_view, StoreView, Setup, Chance, room, Devices, Alone, IsCalled, IsServed, pages_of, rubbish_on, Moment, Standing, StandsAt, Stands, HasCounts, ReadsPages, Left, left_of}
+use Rattle.jn_world_refines.proofs.Common.{◌≡◌, ℕ, Bool, true, false, not, List, slice_get, Option, Some, None, is_some, sym, ◌∙◌, ap, subst, arith, if◌then◌else◌, fun_ext, nat_tests, ServerNo, Outside, server_eq, DeviceState, pool_on, Place, Slot, Up, Down, Gone, IsSpent, IsDoneAt, IsStoppedAt, done, stopped, World, Memory, at_server, Counts, counts_by, RowOutcome, StableState, Pick, stable, made_all, Parts, view_with, memory_of, room_of, free_on, has_rubbish, state, pairs_view, StoreView, Setup, Chance, room, Devices, Alone, IsCalled, IsServed, pages_of, rubbish_on, Moment, Standing, StandsAt, Stands, HasCounts, ReadsPages, Left, left_of, heads_on, maps_in}
 use Rattle.jn_world_refines.proofs.Core.{chance-of}
 use Rattle.jn_world_refines.proofs.Servers.{IsAlone}
 
@@ -31,18 +31,22 @@ module _ {S : Type 0} (look : S → StoreView) (device : S → DeviceState) (see
 
     -- what befalls a step that reports these faults, and perhaps is stopped
     abbrev pub chance : List Outside → Option (Pick → Left) → Chance
-    chance told stop = chance-of x m.devices (room_of (view_with look p).storage).free told stop
+    chance told stop = chance-of x m.devices (room_of (view_with look p).storage).free (room_of (view_with look p).storage).maps told stop
 
     pub rubbish-is : rubbish_on x m.devices q ≡ (room_of (view_with look p).storage).rubbish
     rubbish-is = ap (λ (g : Counts). has_rubbish (pool_on g (pages_of (m.devices q)))) counts-are ∙ ap (λ (d : DeviceState). has_rubbish (pool_on (counts_by place.counts) (pages_of d))) here.2 ∙ sym reads-here.1
 
     pub room-is : (told : List Outside) (stop : Option (Pick → Left)) → room (chance told stop) q ≡ room_of (view_with look p).storage
-    room-is told stop = ap (λ (b : Bool). record { free = (room_of (view_with look p).storage).free; rubbish = b }) rubbish-is
+    room-is told stop = ap (λ (b : Bool). record { free = (room_of (view_with look p).storage).free; maps = (room_of (view_with look p).storage).maps; rubbish = b }) rubbish-is
 
     free-is : (room_of (view_with look p).storage).free ≡ free_on (x.counts q) (pages_of (m.devices q)) (stable (m.state.course.world.found q)) (memory_of (view_with look p))
     free-is = reads-here.0 ∙ ap (λ (d : DeviceState). free_on (counts_by place.counts) (pages_of d) (state (view_with look p).storage) (memory_of (view_with look p))) (sym here.2)
         ∙ ap (λ (g : Counts). free_on g (pages_of (m.devices q)) (state (view_with look p).storage) (memory_of (view_with look p))) (sym counts-are)
         ∙ ap (λ (f : Pick → StableState). free_on (x.counts q) (pages_of (m.devices q)) (stable f) (memory_of (view_with look p))) (sym here.1)
+
+    maps-are : (room_of (view_with look p).storage).maps ≡ maps_in (heads_on (x.counts q) (pages_of (m.devices q)))
+    maps-are = reads-here.2 ∙ ap (λ (d : DeviceState). maps_in (heads_on (counts_by place.counts) (pages_of d))) (sym here.2)
+        ∙ ap (λ (g : Counts). maps_in (heads_on g (pages_of (m.devices q)))) (sym counts-are)
 
     devices-here : (slot : Slot S) → devices-with slot q ≡ device-at slot
     devices-here slot = ap (λ (b : Bool). if b then device-at slot else m.devices q) (same-server q)
@@ -57,6 +61,7 @@ module _ {S : Type 0} (look : S → StoreView) (device : S → DeviceState) (see
         memory = memory_of (view_with look p);
         up = here.0;
         free = free-is;
+        maps = maps-are;
         called = subst (λ (d : DeviceState). IsCalled calls (chance told stop) d (devices-with slot q)) (sym here.2) (record {
           last = spent.last;
           happens = spent.happens;

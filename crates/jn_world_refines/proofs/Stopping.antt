@@ -103,9 +103,9 @@ module _ {S : Type 0} (look : S → StoreView) (device : S → DeviceState) (see
         (net-quiet look device x w m stand (go_on (Narrow q finds ∷ StopRestart q raised ∷ []) m.state.course) (says.Stopped q ∷ []) stop-carries (ap (λ (u : World). u.lines) stop-is) refl)
         (ap (λ (u : World). u.lines) stop-is) (ap (λ (u : World). u.sent) stop-is) (tt, (tt, tt))
         (record {
-          its = subst (λ (o : Option Memory). IsRecovery (x.counts q) stopped-chance (is_some o) (m.devices q) (devices-now look device x w m stand seen q place at (device t) q)) (sym (ap (λ (u : World). u.memory q) stop-is ∙ there.0))
-              (recovery (x.counts q) stopped-chance false told false (m.devices q) (device t) (devices-now look device x w m stand seen q place at (device t) q) refl refl
-              (subst (λ (d : DeviceState). IsTried (x.counts q) told false d (device t)) (sym there.2) (subst (λ (g : Counts). IsTried g told false (device s) (device t)) (sym counts-are) stopped.tried)) (device-here look device x w m stand seen q place at (device t) ∙ dark (counts_by place.counts) told (device s) (device t) stopped.tried) (λ e. absurd (cc e)) (λ e. absurd (cc e)));
+          its = subst (λ (o : Option Memory). IsRecovery q (x.counts q) stopped-chance (is_some o) (m.devices q) (devices-now look device x w m stand seen q place at (device t) q)) (sym (ap (λ (u : World). u.memory q) stop-is ∙ there.0))
+              (recovery q (x.counts q) stopped-chance false told false (m.devices q) (device t) (devices-now look device x w m stand seen q place at (device t) q) refl refl
+              (subst (λ (d : DeviceState). IsTried (x.counts q) told false d (device t)) (sym there.2) (subst (λ (g : Counts). IsTried g told false (device s) (device t)) (sym counts-are) stopped.tried)) (device-here look device x w m stand seen q place at (device t) ∙ dark (counts_by place.counts) told (device s) (device t) stopped.tried) (λ e. absurd (cc e)) (λ e. absurd (cc e)) (λ e. absurd (cc e)));
           others = λ r o. device-there look device x w m stand seen q place at (device t) r o;
         })
         (λ r o n. refl) tt
@@ -142,11 +142,11 @@ module _ {S : Type 0} (look : S → StoreView) (device : S → DeviceState) (see
       counts = counts;
     }
 
-    used-device : Alone q (IsRecovery (x.counts q) used-chance (is_some ((after (Narrow q reads) world).memory q))) m.devices (devices-now look device x w m stand seen q place at (device t))
+    used-device : Alone q (IsRecovery q (x.counts q) used-chance (is_some ((after (Narrow q reads) world).memory q))) m.devices (devices-now look device x w m stand seen q place at (device t))
     used-device = record {
-      its = subst (λ (o : Option Memory). IsRecovery (x.counts q) used-chance (is_some o) (m.devices q) (devices-now look device x w m stand seen q place at (device t) q)) (sym (ap (λ (u : World). u.memory q) (after-narrow reads) ∙ there.0))
-          (recovery (x.counts q) used-chance false told true (m.devices q) used.called (devices-now look device x w m stand seen q place at (device t) q) refl refl
-          (subst (λ (d : DeviceState). IsTried (x.counts q) told true d used.called) (sym there.2) (subst (λ (g : Counts). IsTried g told true (device s) used.called) (sym counts-are) used.tried)) (device-here look device x w m stand seen q place at (device t) ∙ used.device_is) (λ e. absurd (cc e)) (λ e. absurd (cc e)));
+      its = subst (λ (o : Option Memory). IsRecovery q (x.counts q) used-chance (is_some o) (m.devices q) (devices-now look device x w m stand seen q place at (device t) q)) (sym (ap (λ (u : World). u.memory q) (after-narrow reads) ∙ there.0))
+          (recovery q (x.counts q) used-chance false told true (m.devices q) used.called (devices-now look device x w m stand seen q place at (device t) q) refl refl
+          (subst (λ (d : DeviceState). IsTried (x.counts q) told true d used.called) (sym there.2) (subst (λ (g : Counts). IsTried g told true (device s) used.called) (sym counts-are) used.tried)) (device-here look device x w m stand seen q place at (device t) ∙ used.device_is) (λ e. absurd (cc e)) (λ e. absurd (cc e)) (λ e. absurd (cc e)));
       others = λ r o. device-there look device x w m stand seen q place at (device t) r o;
     }
 

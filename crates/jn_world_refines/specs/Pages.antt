@@ -2,12 +2,13 @@
 use Rattle.std.specs.Prelude.{◌≡◌, false, ⊤, length}
 use Rattle.jn_base.specs.declared.names.ServerNo.{ServerNo}
 use Rattle.jn_device.specs.Device.{DeviceState}
-use Rattle.jn_page_state.specs.Pages.{pool_on}
+use Rattle.jn_page_state.specs.Pages.{pool_on, heads_on}
 use Rattle.jn_page_state.specs.Recoverable.{IsRecoverable}
 use Rattle.jn_place.specs.declared.place.Place.{Place}
 use Rattle.jn_place.specs.declared.place.Slot.{Slot}
 use Rattle.jn_place.specs.declared.place.Slot.TheVariants.{Up, Down, Gone}
 use Rattle.jn_place.specs.Exact.{has_work_at}
+use Rattle.jn_records.specs.MapPlaces.{maps_in}
 use Rattle.jn_records.specs.StablePages.{Counts}
 use Rattle.jn_recovery.specs.Counts.{counts_by}
 use Rattle.jn_server.specs.Seen.{view_with, memory_of, room_of}
@@ -28,12 +29,13 @@ HasCounts look q g (Up p) =
 HasCounts look q g (Down s) = IsRecoverable q g (look s)
 HasCounts look q g Gone = ⊤
 
--- what its rows read of its storage, what is free and whether a rubbish record is left, is what stands on its pages
+-- its rows read what stands on its pages: what is free, whether a rubbish record is left, which map pages there are
 abbrev pub ReadsPages : {S : Type 0} → (S → StoreView) → (S → DeviceState) → Counts → Slot S → Type 0
 ReadsPages look device g (Up p) =
     let v = view_with look p in
     let pages = pages_of (device p.storage.0) in
     ((room_of v.storage).free ≡ free_on g pages (state v.storage) (memory_of v)) × ((room_of v.storage).rubbish ≡ has_rubbish (pool_on g pages))
+    × ((room_of v.storage).maps ≡ maps_in (heads_on g pages))
 ReadsPages look device g slot = ⊤
 
 -- a place with nothing to do, of which the code tells rightly

@@ -82,7 +82,7 @@ module _ (x : Setup) (h : Chance) (s : State) (ds es : Devices) (quiet : IsQuiet
     pub comes-so : Befalls x h (recovered h q) w ds es → (bare (made x h (recovered h q) u) ≡ bare (made x still (recovered still q) u)) × IsQuiet x (go_on (recovered h q).steps s.course).world es
     comes-so b = by b.used
       where
-        by : Alone q (IsRecovery (x.counts q) h (is_some ((run (recovering h q h.stop) w).memory q))) ds es
+        by : Alone q (IsRecovery q (x.counts q) h (is_some ((run (recovering h q h.stop) w).memory q))) ds es
             → (bare (made x h (recovered h q) u) ≡ bare (made x still (recovered still q) u)) × IsQuiet x (go_on (recovering h q h.stop) s.course).world es
         by a = at (recovered-calm (x.counts q) h (is_some ((run (recovering h q h.stop) w).memory q)) (ds q) (es q) a.its (quiet.told q (below q.0 x.servers is.below)) (quiet.waiting q (below q.0 x.servers is.below)))
           where

@@ -9,7 +9,7 @@ pub use Rattle.jn_base.specs.declared.names.Party.{Party}
 pub use Rattle.jn_report.specs.declared.line.Text.{Text}
 pub use Rattle.jn_system.specs.WholeSystem.Steps.{Step, Restart, tid_before, after, run, IsRun, restart, restart_with, NextEvent, Tell, Again, Nudge, Crash, CloseClients, AreNames, commanded, crash, Deliver, at_memory, handed, handing, StopDelivery, are_rising, Work as Works, working, sent_now}
 pub use Rattle.jn_system.specs.WholeSystem.Course.{Course, go, go_on, newly_sent, course_to, without_number, still_waiting, numbered}
-pub use Rattle.jn_machine.specs.Chances.{Setup, Chance, prints_found, works_found, tids_found, allowed, none_free, Allows}
+pub use Rattle.jn_machine.specs.Chances.{Setup, Chance, prints_found, works_found, tids_found, allowed, maps_found, none_free, Allows}
 pub use Rattle.jn_machine.specs.Tasks.{Task, Begins, Meets, Acts, Rests, ComesUp, Dismisses, GoesDown, ClosesClients, CountsCommits, State, when_of, begun, next_task, AtEnd, InSchedule, Stage, CutShort, next_at, when_at}
 pub use Rattle.jn_machine.specs.Deeds.{Deed, Reads, last_epoch, stopped_idle, shown, showing, pick_read, recovering, recovered, given_up, is_used_up, brought_up, plain, served, crashed_at, scrubbed, Use, uses, Arms, Decays, Revives, room, no_room, delivered, delivered_at, nothing, is_busy, Recovers, restarted, Cleans, PowersOff, Nothing, Calls, Disarms, worked, working_steps, is_busy_with, recovers}
 pub use Rattle.jn_machine.specs.Events.{deed_of, met, acted, ending, told_unless, first_busy, servers_of, next_event, resting, next_in, asking, settling}
@@ -80,6 +80,7 @@ pub use Rattle.jn_records.specs.declared.net_list.Need.{Need}
 pub use Rattle.jn_sets.specs.Pool.{rubbish_count, free_count, is_free, is_rubbish}
 pub use Rattle.jn_server.specs.Standing.{free_on, is_free_head, promised_heads, has_rubbish, is_free_page}
 pub use Rattle.jn_machine.specs.Rubbish.{AreLeft, AreAllCounted, CountsAll, rubbish_records, left_by_row, left_by_steps, AreCounted}
+pub use Rattle.jn_records.specs.MapPlaces.{MapPlaces, no_maps, maps_in}
 pub use Rattle.jn_machine.proofs.LeftBy.{left-sent, left_with, left-work}
 pub use Rattle.jn_worker.specs.Leaving.{left_over}
 pub use Rattle.jn_wrong.specs.Settles.{HandsOver, ComesToRest}

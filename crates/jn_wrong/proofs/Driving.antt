@@ -200,7 +200,7 @@ module _ (x : Setup) (one : x.servers ≡ 1) (last : Moment) (over : next_task l
       → ((h : Chance) → is_used_up h s0 s.course.world ≡ false → deed_of x h task s ≡ recovered h s0) → s.course.world.memory s0 ≡ None
       → ((d : DeviceState) → P d → (d.told ≡ []) × (d.waiting ≡ []))
       → ((h : Chance) → h.stop ≡ None → is_some ((run (recovered h s0).steps s.course.world).memory s0) ≡ true)
-      → ((h : Chance) (d e : DeviceState) → IsRecovery (x.counts s0) h true d e → P d → e.power ≡ true → h.stop ≡ None
+      → ((h : Chance) (d e : DeviceState) → IsRecovery s0 (x.counts s0) h true d e → P d → e.power ≡ true → h.stop ≡ None
       → ((c : Pick) → (run (recovered h s0).steps s.course.world).found s0 c ≡ found_on (x.counts s0) (pairs_view e) c) → P' e)
       → Stand x last s P → Stand x last (made x still (recovered still s0) (begun task s)) P'
   recovers-one s task P P' is n same acts down quiet rises comes h = by (drive s task h.moment h.leads h.state n)
@@ -232,8 +232,8 @@ module _ (x : Setup) (one : x.servers ≡ 1) (last : Moment) (over : next_task l
             device = its b.used;
           }
             where
-              its : Alone s0 (IsRecovery (x.counts s0) d.chance (is_some ((run (recovered d.chance s0).steps s.course.world).memory s0))) h.moment.devices d.next.devices → P' (d.next.devices s0)
-              its a = comes d.chance (h.moment.devices s0) (d.next.devices s0) (subst (λ (c : Bool). IsRecovery (x.counts s0) d.chance c (h.moment.devices s0) (d.next.devices s0)) is-up a.its) h.device
+              its : Alone s0 (IsRecovery s0 (x.counts s0) d.chance (is_some ((run (recovered d.chance s0).steps s.course.world).memory s0))) h.moment.devices d.next.devices → P' (d.next.devices s0)
+              its a = comes d.chance (h.moment.devices s0) (d.next.devices s0) (subst (λ (c : Bool). IsRecovery s0 (x.counts s0) d.chance c (h.moment.devices s0) (d.next.devices s0)) is-up a.its) h.device
                   (calm.power is-up) calm.stop (λ c. b.found s0 c (subst (λ (n : ℕ). 0 < n) (sym one) (omega arith)))
                 where
                   calm : Raised d.chance (is_some ((run (recovered d.chance s0).steps s.course.world).memory s0)) (d.next.devices s0)

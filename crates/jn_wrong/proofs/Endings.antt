@@ -30,7 +30,7 @@ names-nothing = (nothing-named WorkId Prepared work_eq work_before, nothing-name
 comes-up : (schedule : List Event) → DoesStep (setup 1) (at (before_all schedule) new_device) (at (at_up schedule) first_up)
 comes-up schedule = does calm (ComesUp s0) (calm_deed (ComesUp s0) (before_all schedule)) (before_all schedule) new_device first_up 0 1 refl refl new-blank
     (blank-on 1 (omega arith) (λ q. true) (λ q. 0) true [] first_tally) (λ q. refl) (names-nothing, tt) (λ c. refl) refl
-    (alone (λ d e. IsRecovery the_counts calm true d e) new_device first_up (recovers-so calm 0 1 5 (λ q. true) true (λ q. 0) (record { calls = 2; puts = 2; stops = 0 }) (omega arith) (λ q other. refl) refl refl))
+    (alone (λ d e. IsRecovery s0 the_counts calm true d e) new_device first_up (recovers-so calm 0 1 5 (λ q. true) true (λ q. 0) (record { calls = 2; puts = 2; stops = 0 }) (omega arith) (λ q other. refl) refl refl))
 
 -- a run that comes to its end with these lines
 pub one-so : (schedule : List Event) (report : List Line) (last : State) (d : DeviceState) → Leads (setup 1) (at (at_up schedule) first_up) (at last d) → last.stage ≡ AtEnd → last.tasks ≡ [] → last.lines ≡ report → IsOneOfGood schedule report
@@ -95,7 +95,7 @@ module _ (a : ℕ) (few : a < 1000) (rest : ServerNo → Option Memory) (others 
   comes-again : DoesStep (setup 1) (at at_down down) (at up_again last_up)
   comes-again = does calm (ComesUp s0) (recovered calm s0) at_down down last_up a (a + 1) refl (ap (λ (b : Bool). if b then record (given_up calm s0) { cuts = true } else recovered calm s0) not-last)
       down-blank last-blank (λ q. refl) (names-nothing, tt) (λ c. refl) refl
-      (alone (λ d e. IsRecovery the_counts calm true d e) down last_up (recovers-so calm a (a + 1) p good false fails t lt fine refl refl))
+      (alone (λ d e. IsRecovery s0 the_counts calm true d e) down last_up (recovers-so calm a (a + 1) p good false fails t lt fine refl refl))
 
   abbrev closed : State
   closed = then_done (ClosesClients s0) up_again

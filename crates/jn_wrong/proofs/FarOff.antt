@@ -20,7 +20,7 @@ record WaitsEarly (wait : List Armed) (d : DeviceState) : Type 0 where
   power : d.power ≡ true
   calls : d.calls ≤ 10000
 
-recovery-early : (h : Chance) (d e : DeviceState) → IsRecovery (x1.counts s0) h true d e → IsWhole d → e.power ≡ true → WaitsEarly [] e
+recovery-early : (h : Chance) (d e : DeviceState) → IsRecovery s0 (x1.counts s0) h true d e → IsWhole d → e.power ≡ true → WaitsEarly [] e
 recovery-early h d e r w lit = let p = recovery-pairs (x1.counts s0) h d e r (both-good d w) lit in record {
   waiting = p.waiting;
   told = p.told;

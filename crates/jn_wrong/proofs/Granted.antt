@@ -1,12 +1,12 @@
 -- A run of one server, step by step, while messages are handed over.
-use Rattle.jn_wrong.proofs.Common.{◌≡◌, ℕ, ◌+◌, ◌<◌, Bool, true, false, List, [], ◌∷◌, length, Option, Some, None, is_some, refl, sym, ◌∙◌, ap, subst, arith, if◌then◌else◌, nat_lt, slice_get, ClientNo, Client, Server, DeviceState, Message, Need, Counts, StableState, Pick, stable, RowOutcome, Sent, Text, Memory, World, Room, server_row, Deliver, after, at_memory, handed, handing, run, go_on, course_to, Course, Setup, Chance, Task, Rests, State, next_task, begun, Deed, room, no_room, served, delivered, delivered_at, first_busy, servers_of, next_event, resting, deed_of, most_messages, cut_short, made, done, Moment, Devices, IsServed, Alone, Befalls, pages_of, Calm, called-calm, no-faults, row_calls, s0, rubbish_count, pool_on, free_on, AreLeft, AreAllCounted, CountsAll, Left, left-sent, left_over}
+use Rattle.jn_wrong.proofs.Common.{◌≡◌, ℕ, ◌<◌, Bool, true, false, List, [], ◌∷◌, length, Option, Some, None, is_some, refl, sym, ◌∙◌, ap, subst, arith, if◌then◌else◌, nat_lt, slice_get, ClientNo, Client, Server, DeviceState, Message, Need, Counts, StableState, Pick, stable, RowOutcome, Sent, Text, Memory, World, Room, server_row, Deliver, after, at_memory, handed, handing, run, go_on, course_to, Course, Setup, Chance, Task, Rests, State, next_task, begun, Deed, room, no_room, served, delivered, delivered_at, first_busy, servers_of, next_event, resting, deed_of, most_messages, cut_short, made, done, Moment, Devices, IsServed, Alone, Befalls, pages_of, Calm, called-calm, no-faults, row_calls, s0, rubbish_count, pool_on, free_on, AreLeft, AreAllCounted, CountsAll, Left, maps_found, MapPlaces, ◌+◌, left-sent, left_over}
 use Rattle.jn_wrong.proofs.StillRuns.{still}
 use Rattle.jn_system.specs.WholeSystem.Steps as steps
 use Rattle.jn_wrong.proofs.Bare.{bare, bare_course, made_of, came_of, bare-made}
 use Rattle.jn_wrong.proofs.Driving.{Stand, IsStill, Driven, drive}
 
-abbrev pub with_room : Need → Bool → Room
-with_room free rubbish = record { free = free; rubbish = rubbish }
+abbrev pub with_room : Need → MapPlaces → Bool → Room
+with_room free maps rubbish = record { free = free; maps = maps; rubbish = rubbish }
 
 -- once the server's row for message k, which waits first, is this
 abbrev pub by_row : Setup → State → ℕ → RowOutcome Memory → State
@@ -54,12 +54,12 @@ module _ (x : Setup) (one : x.servers ≡ 1) (last : Moment) (over : next_task l
     one-memory : (n : Memory) → Some n ≡ Some m → n ≡ m
     one-memory n z = cc
 
-    -- the row is this one, whatever the device shows that is free
+    -- the row is this one, whatever the device shows that is free and whichever map pages there are
     module _ (row : RowOutcome Memory) where
       abbrev now : World
       now = steps.done s0 (Some k) row w
 
-      pub hands-one : (P P' : DeviceState → Type 0) → ((d : DeviceState) → P d → IsStill d) → ((d : DeviceState) (r : Bool) → P d → server_row m y (with_room (free_on g (pages_of d) y m) r) message ≡ row) → is_some (now.memory s0) ≡ true
+      pub hands-one : (P P' : DeviceState → Type 0) → ((d : DeviceState) → P d → IsStill d) → ((d : DeviceState) (maps : MapPlaces) (r : Bool) → P d → server_row m y (with_room (free_on g (pages_of d) y m) maps r) message ≡ row) → is_some (now.memory s0) ≡ true
           → ((d e : DeviceState) → P d → IsStill e → CountsAll g (stable (now.found s0)) (pages_of e) → rubbish_count (pool_on g (pages_of e)) ≡ rubbish_count (pool_on g (pages_of d)) + left_over y row.changes → P' e)
           → Stand x last s P → Stand x last (by_row x s k row) P'
       hands-one P P' quiet rows lit becomes h = by (drive x one last over s Rests h.moment h.leads h.state rests')
@@ -94,8 +94,8 @@ module _ (x : Setup) (one : x.servers ≡ 1) (last : Moment) (over : next_task l
                       quietly = let p = quiet d h.device in called-calm row_calls f d (es s0) a.its.called p.power p.told p.waiting
 
                       row-is : server_row m y (room f s0) message ≡ row
-                      row-is = ap (λ (free : Need). server_row m y (with_room free (f.rubbish s0)) message) (a.its.free ∙ ap (λ (n : Memory). free_on g (pages_of d) y n) (one-memory a.its.memory (sym a.its.up ∙ up)))
-                          ∙ rows d (f.rubbish s0) h.device
+                      row-is = ap (λ (free : Need). server_row m y (with_room free (maps_found f.found) (f.rubbish s0)) message) (a.its.free ∙ ap (λ (n : Memory). free_on g (pages_of d) y n) (one-memory a.its.memory (sym a.its.up ∙ up)))
+                          ∙ rows d (maps_found f.found) (f.rubbish s0) h.device
 
                       same : after (Deliver k (room f s0)) w ≡ now
                       same = after-is (room f s0) ∙ ap (λ (r : RowOutcome Memory). steps.done s0 (Some k) r w) row-is

@@ -47,7 +47,7 @@ made-so counts epochs = record {
   empty_on = refl;
   prepares = record { rests = refl; waits = refl; sent = refl; up = refl };
   alone = refl;
-  needs_are = refl;
+  needs_are = λ maps. refl;
   votes = record { rests = refl; waits = refl; sent = refl; up = refl };
   commits = refl;
   refuses_work = λ resource free need. record { rests = refl; waits = refl; sent = refl; up = refl };
@@ -141,7 +141,7 @@ written-so bytes counts epochs = record {
   empty_on = refl;
   prepares = record { rests = refl; waits = refl; sent = refl; up = refl };
   alone = refl;
-  needs_are = refl;
+  needs_are = λ maps. refl;
   votes = record { rests = refl; waits = refl; sent = refl; up = refl };
   commits = refl;
   refuses_work = λ resource free need. record { rests = refl; waits = refl; sent = refl; up = refl };

@@ -1,5 +1,5 @@
 -- A transaction of one work ends: it commits, or its client is told what was lacking.
-use Rattle.jn_wrong.proofs.Common.{Devices, ◌≡◌, ◌⊎◌, ◌+◌, ◌-◌, inl, inr, ℕ, Bool, true, false, List, [], ◌∷◌, ◌++◌, drop, Option, Some, None, is_some, true≢false, refl, sym, ◌∙◌, ap, subst, arith, nat_lt, if◌then◌else◌, slice_get, list_any, ServerNo, AllFiles, no_files, Client, Server, Counts, Need, DeviceState, Event, Line, Text, Message, Cause, Resource, RowOutcome, StableState, stable, made_all, shortage, vote_of, Held, conflict, commit_wants, need_in, Work, Memory, server_row, of_worker, of_coordinator, Setup, Task, Begins, Meets, Rests, State, Stage, AtEnd, next_at, next_task, done, first_busy, servers_of, Moment, Leads, pages_of, before, AreImages, IsWhole, AreNew, s0, WorkId, client_eq, blank, longer, Longer, may-lead, Phase, Active, Stored, c1, tid, rubbish_count, pool_on, free_on, CountsAll, lacking, IsOnlyOfLacking, Vote, abort_row, end_promised, prepared_row, Transaction, none_free, Ready, Full, ActiveWork, FullAt, IsOnlyWhereLacking, left_over, is_commit}
+use Rattle.jn_wrong.proofs.Common.{Devices, ◌≡◌, ◌⊎◌, ◌+◌, ◌-◌, inl, inr, ℕ, Bool, true, false, List, [], ◌∷◌, ◌++◌, drop, Option, Some, None, is_some, true≢false, refl, sym, ◌∙◌, ap, subst, arith, nat_lt, if◌then◌else◌, slice_get, list_any, ServerNo, AllFiles, no_files, Client, Server, Counts, Need, DeviceState, Event, Line, Text, Message, Cause, Resource, RowOutcome, StableState, stable, made_all, shortage, vote_of, Held, conflict, commit_wants, need_in, Work, Memory, server_row, of_worker, of_coordinator, Setup, Task, Begins, Meets, Rests, State, Stage, AtEnd, next_at, next_task, done, first_busy, servers_of, Moment, Leads, pages_of, before, AreImages, IsWhole, AreNew, s0, WorkId, client_eq, blank, longer, Longer, may-lead, Phase, Active, Stored, c1, tid, rubbish_count, pool_on, free_on, CountsAll, lacking, IsOnlyOfLacking, Vote, abort_row, end_promised, prepared_row, Transaction, none_free, Ready, Full, ActiveWork, FullAt, IsOnlyWhereLacking, MapPlaces, no_maps, left_over, is_commit}
 use Rattle.jn_wrong.proofs.StillRuns.{still, goes, GoesSo, rests_so}
 use Rattle.jn_base.specs.declared.names.RequestNo.{RequestNo}
 use Rattle.jn_base.specs.declared.names.Resource.TheVariants as resources
@@ -49,7 +49,7 @@ drop_sent = messages.Drop (tid s0 0) the_work
 
 -- a row that no room changes
 abbrev plainly : Memory → Message → RowOutcome Memory
-plainly m message = server_row m (blank 1) (with_room none_free false) message
+plainly m message = server_row m (blank 1) (with_room none_free no_maps false) message
 
 nothing-stored : IsEmpty (blank 1)
 nothing-stored = record { works = λ W. refl; flags = λ T. refl; files = λ f. refl }
@@ -160,8 +160,8 @@ module _ (schedule : List Event) (n : ℕ) (work : ActiveWork) (request : Reques
   ending_row short free = of_coordinator asking (if short then abort_row asking.coordinator asking.tickets (transaction_in stages.Open) (FullAt s0 resources.Records free 1) (the_work ∷ [])
       else end_promised asking.coordinator asking.tickets (transaction_in stages.Open) request (the_work ∷ []))
 
-  end-row-is : (free : Need) (r short : Bool) → nat_lt free.records 1 ≡ short → server_row asking (blank 1) (with_room free r) end_sent ≡ ending_row short free.records
-  end-row-is free r short e = ap (λ (b : Bool). ending_row b free.records) e
+  end-row-is : (free : Need) (maps : MapPlaces) (r short : Bool) → nat_lt free.records 1 ≡ short → server_row asking (blank 1) (with_room free maps r) end_sent ≡ ending_row short free.records
+  end-row-is free maps r short e = ap (λ (b : Bool). ending_row b free.records) e
 
   -- a preparation votes
   abbrev preparing_row : Option Vote → RowOutcome Memory
@@ -237,7 +237,7 @@ module _ (schedule : List Event) (n : ℕ) (work : ActiveWork) (request : Reques
       pub empty_on : stable (promised.course.world.found s0) ≡ blank 1
       pub prepares : Waits promised (k + 1) [] prepare_sent preparing
       pub alone : conflict the_work (commit_wants work.writes) (work_in (Active work) ∷ []) ≡ None
-      pub needs_are : need_in (blank 1).files work.list ≡ needs
+      pub needs_are : (maps : MapPlaces) → need_in maps (blank 1).files work.list ≡ needs
       pub votes : Waits (prepared None) (k + 2) [] (vote_sent Ready) stored
       pub commits : list_any tells_commit committed.lines ≡ true
       pub refuses_work : (resource : Resource) (free need : ℕ) → Waits (prepared (Some (Full resource free need))) (k + 2) [] (vote_sent (Full resource free need)) preparing
@@ -270,19 +270,19 @@ module _ (schedule : List Event) (n : ℕ) (work : ActiveWork) (request : Reques
 
       -- with everything free but so many records, and no more rubbish afterwards where nothing is stored
       hands-ready : (s : State) (i : ℕ) (waiting : List ℕ) (message : Message) (m : Memory) (row : RowOutcome Memory) (P' : DeviceState → Type 0) → Waits s i waiting message m → stable (s.course.world.found s0) ≡ blank 1
-          → ((d : DeviceState) (r : Bool) → IsReady d → server_row m (blank 1) (with_room (free_on g (pages_of d) (blank 1) m) r) message ≡ row)
+          → ((d : DeviceState) (maps : MapPlaces) (r : Bool) → IsReady d → server_row m (blank 1) (with_room (free_on g (pages_of d) (blank 1) m) maps r) message ≡ row)
           → ((d e : DeviceState) → IsReady d → IsStill e → CountsAll g (made_all row.changes (blank 1)) (pages_of e) → rubbish_count (pool_on g (pages_of e)) ≡ rubbish_count (pool_on g (pages_of d)) + left_over (blank 1) row.changes → P' e)
           → Stand x last s IsReady → Stand x last (by_row x s i row) P'
       hands-ready s i waiting message m row P' w empty rows becomes = hands-one x refl last over s i waiting message m w.rests w.waits w.sent w.up row IsReady P' (λ d p. p.still)
-          (λ d r p. subst (λ (y : StableState). server_row m y (with_room (free_on g (pages_of d) y m) r) message ≡ row) (sym empty) (rows d r p)) refl
+          (λ d maps r p. subst (λ (y : StableState). server_row m y (with_room (free_on g (pages_of d) y m) maps r) message ≡ row) (sym empty) (rows d maps r p)) refl
           (λ d e p still counted left. becomes d e p still (subst (λ (y : StableState). CountsAll g (made_all row.changes y) (pages_of e)) empty counted)
           (subst (λ (y : StableState). rubbish_count (pool_on g (pages_of e)) ≡ rubbish_count (pool_on g (pages_of d)) + left_over y row.changes) empty left))
 
       -- whatever is free
-      hands-plainly : (s : State) (i : ℕ) (waiting : List ℕ) (message : Message) (m : Memory) → Waits s i waiting message m → ((y : StableState) (free : Need) (r : Bool) → server_row m y (with_room free r) message ≡ plainly m message)
+      hands-plainly : (s : State) (i : ℕ) (waiting : List ℕ) (message : Message) (m : Memory) → Waits s i waiting message m → ((y : StableState) (free : Need) (maps : MapPlaces) (r : Bool) → server_row m y (with_room free maps r) message ≡ plainly m message)
           → Stand x last s IsStill → Stand x last (by_row x s i (plainly m message)) IsStill
       hands-plainly s i waiting message m w rows = hands-one x refl last over s i waiting message m w.rests w.waits w.sent w.up (plainly m message) IsStill IsStill (λ d p. p)
-          (λ d r p. rows (stable (s.course.world.found s0)) (free_on g (pages_of d) (stable (s.course.world.found s0)) m) r) refl (λ d e p still counted left. still)
+          (λ d maps r p. rows (stable (s.course.world.found s0)) (free_on g (pages_of d) (stable (s.course.world.found s0)) m) maps r) refl (λ d e p still counted left. still)
 
       tells-outcome : (s : State) (i : ℕ) → WaitsToTell s i → Stand x last s IsStill → Stand x last (done x still Rests s) IsStill
       tells-outcome s i w = told-one x refl last over s i [] c1 w.outcome IsStill w.rests w.waits w.sent
@@ -293,14 +293,14 @@ module _ (schedule : List Event) (n : ℕ) (work : ActiveWork) (request : Reques
       promised-free : (d : DeviceState) → IsReady d → free_on g (pages_of d) (blank 1) preparing ≡ so_many (g.pool - 1) g.heads g.leaves
       promised-free d p = all-free g (pages_of d) p.unused (blank 1) preparing ∙ left-free g 1
 
-      ends-so : (short : Bool) → nat_lt g.pool 1 ≡ short → (d : DeviceState) (r : Bool) → IsReady d → server_row asking (blank 1) (with_room (free_on g (pages_of d) (blank 1) asking) r) end_sent ≡ ending_row short g.pool
-      ends-so short e d r p = ap (λ (free : Need). server_row asking (blank 1) (with_room free r) end_sent) (ready-free d p) ∙ end-row-is (so_many g.pool g.heads g.leaves) r short e
+      ends-so : (short : Bool) → nat_lt g.pool 1 ≡ short → (d : DeviceState) (maps : MapPlaces) (r : Bool) → IsReady d → server_row asking (blank 1) (with_room (free_on g (pages_of d) (blank 1) asking) maps r) end_sent ≡ ending_row short g.pool
+      ends-so short e d maps r p = ap (λ (free : Need). server_row asking (blank 1) (with_room free maps r) end_sent) (ready-free d p) ∙ end-row-is (so_many g.pool g.heads g.leaves) maps r short e
 
-      prepares-so : (short : Option Vote) → shortage (so_many (g.pool - 1) g.heads g.leaves) needs ≡ short → (d : DeviceState) (r : Bool) → IsReady d
-          → server_row preparing (blank 1) (with_room (free_on g (pages_of d) (blank 1) preparing) r) prepare_sent ≡ preparing_row short
-      prepares-so short e d r p = ap (λ (free : Need). server_row preparing (blank 1) (with_room free r) prepare_sent) (promised-free d p)
-          ∙ ap (λ (held : Option Held). voted held (shortage (so_many (g.pool - 1) g.heads g.leaves) (need_in (blank 1).files work.list))) is.alone
-          ∙ ap (λ (need : Need). voted None (shortage (so_many (g.pool - 1) g.heads g.leaves) need)) is.needs_are ∙ ap (λ (vote : Option Vote). voted None vote) e
+      prepares-so : (short : Option Vote) → shortage (so_many (g.pool - 1) g.heads g.leaves) needs ≡ short → (d : DeviceState) (maps : MapPlaces) (r : Bool) → IsReady d
+          → server_row preparing (blank 1) (with_room (free_on g (pages_of d) (blank 1) preparing) maps r) prepare_sent ≡ preparing_row short
+      prepares-so short e d maps r p = ap (λ (free : Need). server_row preparing (blank 1) (with_room free maps r) prepare_sent) (promised-free d p)
+          ∙ ap (λ (held : Option Held). voted held (shortage (so_many (g.pool - 1) g.heads g.leaves) (need_in maps (blank 1).files work.list))) is.alone
+          ∙ ap (λ (need : Need). voted None (shortage (so_many (g.pool - 1) g.heads g.leaves) need)) (is.needs_are maps) ∙ ap (λ (vote : Option Vote). voted None vote) e
         where
           voted : Option Held → Option Vote → RowOutcome Memory
           voted held vote = of_worker preparing (prepared_row preparing.worker preparing.tickets (tid s0 0) c1 (work_in (Active work)) work (vote_of held vote))
@@ -308,7 +308,7 @@ module _ (schedule : List Event) (n : ℕ) (work : ActiveWork) (request : Reques
       -- ---- each way
 
       to-refused : nat_lt g.pool 1 ≡ true → Stand x last asked IsReady → Stand x last (done x still Rests refused) IsStill
-      to-refused short h = tells-outcome refused (k + 2) is.tells_so (hands-plainly (answered true) (k + 1) ((k + 2) ∷ []) drop_sent (given_up resources.Records g.pool 1) is.refuses (λ y free r. refl)
+      to-refused short h = tells-outcome refused (k + 2) is.tells_so (hands-plainly (answered true) (k + 1) ((k + 2) ∷ []) drop_sent (given_up resources.Records g.pool 1) is.refuses (λ y free maps r. refl)
           (hands-ready asked k [] end_sent asking (ending_row true g.pool) IsStill is.asks is.still_empty (ends-so true short) (λ d e p still counted left. still) h))
 
       to-promised : nat_lt g.pool 1 ≡ false → Stand x last asked IsReady → Stand x last promised IsReady
@@ -319,14 +319,14 @@ module _ (schedule : List Event) (n : ℕ) (work : ActiveWork) (request : Reques
           })
 
       to-committed : shortage (so_many (g.pool - 1) g.heads g.leaves) needs ≡ None → Stand x last promised IsReady → Stand x last committed IsStill
-      to-committed enough h = hands-plainly (prepared None) (k + 2) [] (vote_sent Ready) stored is.votes (λ y free r. refl)
+      to-committed enough h = hands-plainly (prepared None) (k + 2) [] (vote_sent Ready) stored is.votes (λ y free maps r. refl)
           (hands-ready promised (k + 1) [] prepare_sent preparing (preparing_row None) IsStill is.prepares is.empty_on (prepares-so None enough) (λ d e p still counted left. still) h)
 
       to-aborted : (resource : Resource) (free need : ℕ) → shortage (so_many (g.pool - 1) g.heads g.leaves) needs ≡ Some (Full resource free need) → Stand x last promised IsReady
           → Stand x last (done x still Rests (aborted resource free need)) IsStill
       to-aborted resource free need short h = tells-outcome (aborted resource free need) (k + 4) (is.tells_outcome resource free need)
-          (hands-plainly (lost resource free need) (k + 3) ((k + 4) ∷ []) drop_sent (given_up resource free need) (is.drops resource free need) (λ y room r. refl)
-          (hands-plainly (prepared (Some (Full resource free need))) (k + 2) [] (vote_sent (Full resource free need)) preparing (is.refuses_work resource free need) (λ y room r. refl)
+          (hands-plainly (lost resource free need) (k + 3) ((k + 4) ∷ []) drop_sent (given_up resource free need) (is.drops resource free need) (λ y room maps r. refl)
+          (hands-plainly (prepared (Some (Full resource free need))) (k + 2) [] (vote_sent (Full resource free need)) preparing (is.refuses_work resource free need) (λ y room maps r. refl)
           (hands-ready promised (k + 1) [] prepare_sent preparing (preparing_row (Some (Full resource free need))) IsStill is.prepares is.empty_on (prepares-so (Some (Full resource free need)) short)
           (λ d e p still counted left. still) h)))
 

@@ -57,11 +57,11 @@ module _ (x : Setup) (q : ServerNo) (a b : Moment) (d : DoesStep x a b) (there :
   abbrev e : DeviceState
   e = b.devices q
 
-  recovery : IsRecovery (x.counts q) d.chance true (a.devices q) e
+  recovery : IsRecovery q (x.counts q) d.chance true (a.devices q) e
   recovery = by (subst (λ (device : Use). IsUsed x d.chance device w (run (steps_in x a b d) w) a.devices b.devices) recovers d.befalls.used)
     where
-      by : Alone q (IsRecovery (x.counts q) d.chance (is_some ((run (steps_in x a b d) w).memory q))) a.devices b.devices → IsRecovery (x.counts q) d.chance true (a.devices q) e
-      by alone = subst (λ (c : Bool). IsRecovery (x.counts q) d.chance c (a.devices q) e) up alone.its
+      by : Alone q (IsRecovery q (x.counts q) d.chance (is_some ((run (steps_in x a b d) w).memory q))) a.devices b.devices → IsRecovery q (x.counts q) d.chance true (a.devices q) e
+      by alone = subst (λ (c : Bool). IsRecovery q (x.counts q) d.chance c (a.devices q) e) up alone.its
 
   unfailed : (a.devices q).waiting ≡ [] → (p : ℕ) → (e.pages p).fails ≡ 0
   unfailed quiet p = ap (λ (f : DeviceState). (f.pages p).fails) (recovery.after ∙ recovery.called.after) ∙ called.fails

@@ -142,7 +142,7 @@ front-whole epoch power waiting t = record {
 
 -- the power comes, this half is put anew, and the root with the next epoch
 pub recovers-so : (h : Chance) (old epoch p : ℕ) (good : ℕ → Bool) (power : Bool) (fails : ℕ → ℕ) (t : Tally) → p < 354 → OthersGood p good → h.told ≡ [] → is_some h.stop ≡ false
-    → IsRecovery the_counts h true (device (pages_at old good fails) power [] t) (device (good_at epoch) true [] (thrice t))
+    → IsRecovery s0 the_counts h true (device (pages_at old good fails) power [] t) (device (good_at epoch) true [] (thrice t))
 recovers-so h old epoch p good power fails t lt others told stop = record {
   powered = device (pages_at old good (λ q. 0)) true [] t;
   last = device (good_at epoch) true [] (thrice t);
@@ -159,4 +159,5 @@ recovers-so h old epoch p good power fails t lt others told stop = record {
   after = refl;
   front = λ up. front-clean epoch (λ q. true) (λ q. 0) true [] (thrice t);
   front_whole = λ up quiet. front-whole epoch true [] (thrice t);
+  root = λ up. (epoch, record { first = refl; second = refl });
 }

@@ -149,5 +149,5 @@ module _ (a : ℕ) (few : a < 1000) (s : State) (last : Moment) where
   restarts-then p good fails t lt fine m steps found left up rest = begins-then a few s last (events.Restart s0) (recovered calm s0) m good fails false [] t (more _ _ last
       (does calm (Meets (events.Restart s0)) (recovered calm s0) (idled 1 s) (device (pages_at a good fails) false [] t) (device (good_at (a + 1)) true [] (thrice t)) a (a + 1) m.next m.is
       (blank-on a (omega (arith, few)) good fails false [] t) (blank-on (a + 1) (omega (arith, few)) (λ q. true) (λ q. 0) true [] (thrice t)) (λ q. refl) steps found left
-      (alone (λ d e. IsRecovery the_counts calm (is_some ((behind_all (recovered calm s0) (idled 1 s)).memory s0)) d e) (device (pages_at a good fails) false [] t) (device (good_at (a + 1)) true [] (thrice t))
-      (subst (λ (b : Bool). IsRecovery the_counts calm b (device (pages_at a good fails) false [] t) (device (good_at (a + 1)) true [] (thrice t))) (sym up) (recovers-so calm a (a + 1) p good false fails t lt fine refl refl)))) rest)
+      (alone (λ d e. IsRecovery s0 the_counts calm (is_some ((behind_all (recovered calm s0) (idled 1 s)).memory s0)) d e) (device (pages_at a good fails) false [] t) (device (good_at (a + 1)) true [] (thrice t))
+      (subst (λ (b : Bool). IsRecovery s0 the_counts calm b (device (pages_at a good fails) false [] t) (device (good_at (a + 1)) true [] (thrice t))) (sym up) (recovers-so calm a (a + 1) p good false fails t lt fine refl refl)))) rest)

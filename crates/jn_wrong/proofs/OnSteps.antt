@@ -1,5 +1,5 @@
 -- Steps of the machine over the device of one server on which nothing is stored.
-use Rattle.jn_wrong.proofs.Common.{◌≡◌, ◌*◌, ℕ, zero, suc, true, false, List, [], refl, sym, ap, subst, None, Some, Option, is_some, ServerNo, World, run, IsRun, Text, Chance, Task, State, next_task, begun, next, next_by, Deed, Use, Nothing, Cleans, Reads, uses, deed_of, made, IsUsed, IsServed, IsLookedOver, IsScrubbed, Befalls, Moment, DoesStep, Leads, more, calm, setup, s0, blank, DeviceState, PageState, Armed, Pick, cleaned_get_calls, put_calls, Printed, ArePrints, FileThere, stable, left_by_steps, prints_of, LockUnit, FileNo, File, IsCalled, new_memory, ◌∙◌}
+use Rattle.jn_wrong.proofs.Common.{◌≡◌, ◌*◌, ℕ, zero, suc, true, false, List, [], refl, sym, ap, subst, None, Some, Option, is_some, ServerNo, World, run, IsRun, Text, Chance, Task, State, next_task, begun, next, next_by, Deed, Use, Nothing, Cleans, Reads, uses, deed_of, made, IsUsed, IsServed, IsLookedOver, IsScrubbed, Befalls, Moment, DoesStep, Leads, more, calm, setup, s0, blank, DeviceState, PageState, Armed, Pick, cleaned_get_calls, put_calls, Printed, ArePrints, FileThere, stable, left_by_steps, prints_of, LockUnit, FileNo, File, IsCalled, new_memory, ◌∙◌, Head, maps_in, replicate, FreeHead, no_maps, fun_ext}
 use Rattle.jn_wrong.proofs.NewDevice.{Tally, device, pages_at, halves-equal, IsBlankOn}
 use Rattle.jn_wrong.proofs.OnDevices.{at_s0, befalls, alone, uncalled, all-free}
 use Rattle.jn_wrong.proofs.Pairs.{the_counts}
@@ -91,8 +91,12 @@ serves most w b a d e is up called = record {
   memory = new_memory s0 b;
   up = up;
   free = all-free a d (stable (w.found s0)) (new_memory s0 b) is refl refl;
+  maps = sym (ap (λ (l : List Head). maps_in l) is.heads ∙ none-named);
   called = called;
 }
+  where
+    none-named : maps_in (replicate 16 FreeHead) ≡ no_maps
+    none-named = fun_ext (λ f. fun_ext (λ j. refl))
 
 -- a show, in a schedule or at the end
 pub shows : (task : Task) (s : State) (pages : ℕ → PageState) (waiting : List Armed) (t : Tally) (a b : ℕ) → next_task s ≡ Some task → deed_of (setup 1) calm task s ≡ use_deed (Reads s0) []

@@ -171,7 +171,7 @@ module _ (x : Setup) (h : Chance) (w now : World) (ds es : Devices) where
     texts_are = is ∙ append-nil (outside_at q h.told);
   }
 
-  raised : (q : ServerNo) (up : Bool) → IsRecovery (x.counts q) h up (ds q) (es q) → (texts : List Text) → texts ≡ outside_at q h.told ++ [] → TellsRaised q (ds q) (es q) texts
+  raised : (q : ServerNo) (up : Bool) → IsRecovery q (x.counts q) h up (ds q) (es q) → (texts : List Text) → texts ≡ outside_at q h.told ++ [] → TellsRaised q (ds q) (es q) texts
   raised q up r texts is = record { powered = r.powered; last = r.last; power = r.power; tells = called _ r.powered r.last q r.called texts is; after = by up r.after }
     where
       by : (b : Bool) → es q ≡ (if b then r.last else powered_off r.last) → (es q ≡ r.last) ⊎ (es q ≡ powered_off r.last)

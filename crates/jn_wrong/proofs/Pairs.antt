@@ -1,5 +1,5 @@
 -- What decays, revivals and restarts do to the two halves of a page, of 177: physical pages 5 and 182.
-use Rattle.jn_wrong.proofs.Common.{◌≡◌, ◌≤◌, ℕ, ◌+◌, Bool, true, false, List, [], ◌∷◌, ◌++◌, refl, ◌∙◌, ap, not, ◌&&◌, if◌then◌else◌, nat_lt, DeviceState, Counts, Chance, IsRecovery, IsCalled, World, None, arith, ◌*◌, FaultKind, Armed, PageState, decayed, may_decay_at, decay_outside, page_count, put_calls, pairs_view, IsWholePage, s0, IsScrubbed}
+use Rattle.jn_wrong.proofs.Common.{◌≡◌, ◌≤◌, ℕ, ◌+◌, Bool, true, false, List, [], ◌∷◌, ◌++◌, refl, ◌∙◌, ap, not, ◌&&◌, if◌then◌else◌, nat_lt, DeviceState, Counts, Chance, IsRecovery, IsCalled, World, None, arith, ◌*◌, FaultKind, Armed, PageState, decayed, may_decay_at, decay_outside, page_count, put_calls, pairs_view, IsWholePage, s0, IsScrubbed, ServerNo}
 use Rattle.std.specs.Prelude.{◌/◌}
 use Rattle.jn_device.specs.Events.{Decays, Revives, Arms}
 use Rattle.jn_machine.proofs.Called.{called-later}
@@ -45,7 +45,7 @@ pub pair-good : (power : Bool) (k : ℕ) (d : DeviceState) → Pair power true k
 pair-good power k d h = record { count = h.count; waiting = h.waiting; told = h.told; first = h.first; second = h.second }
 
 -- a half that is good stays so in a restart that brings the server up, and hasn't failed then
-recovery-spares : (g : Counts) (h : Chance) (d e : DeviceState) (r : IsRecovery g h true d e) → d.waiting ≡ [] → (q : ℕ) → (d.pages q).good ≡ true → IsSpared q r.called.last
+recovery-spares : {s : ServerNo} (g : Counts) (h : Chance) (d e : DeviceState) (r : IsRecovery s g h true d e) → d.waiting ≡ [] → (q : ℕ) → (d.pages q).good ≡ true → IsSpared q r.called.last
 recovery-spares g h d e r quiet q good = calls-spare q r.powered r.called.last r.called.happens (record {
   waiting = r.power.waiting ∙ quiet;
   power = r.power.power_is;
@@ -53,7 +53,7 @@ recovery-spares g h d e r quiet q good = calls-spare q r.powered r.called.last r
   fails = ap (λ (y : PageState). y.fails) (r.power.pages_are q);
 })
 
-pub recovery-pairs : (g : Counts) (h : Chance) (d e : DeviceState) → IsRecovery g h true d e → AreBothGood d → e.power ≡ true → Pair true true 0 e
+pub recovery-pairs : {s : ServerNo} (g : Counts) (h : Chance) (d e : DeviceState) → IsRecovery s g h true d e → AreBothGood d → e.power ≡ true → Pair true true 0 e
 recovery-pairs g h d e r a lit = record {
   count = ap (λ (f : DeviceState). f.count) is ∙ (let later = called-later _ h r.powered r.last r.called in later.count) ∙ r.power.count ∙ a.count;
   waiting = ap (λ (f : DeviceState). f.waiting) is ∙ (spared 5 a.first).waiting;
@@ -163,7 +163,7 @@ scrub-restores h w d e c p unstopped = record {
     whole = c.whole unstopped (record { quiet = p.waiting; power = p.power_is }) 5 (omega arith)
 
 -- page 5 is that of a record
-pub restart-restores : (h : Chance) (d e : DeviceState) → IsRecovery the_counts h true d e → Pair false false 1 d → e.power ≡ true → IsRestored e
+pub restart-restores : (h : Chance) (d e : DeviceState) → IsRecovery s0 the_counts h true d e → Pair false false 1 d → e.power ≡ true → IsRestored e
 restart-restores h d e r p lit = record {
   count = ap (λ (f : DeviceState). f.count) is ∙ (let later = called-later _ h r.powered r.last r.called in later.count) ∙ r.power.count ∙ p.count;
   waiting = ap (λ (f : DeviceState). f.waiting) is ∙ spared.waiting;

@@ -28,7 +28,7 @@ module _ (P : ServerNo → Resource → ℕ → ℕ → Type 0) where
     works-so short m = by m (worker_row t s k m) (worker-case t s k m)
       where
         reply : (m : Message) (x : Sent) → Replies t s k m x → OfMessage P x.1
-        reply _ _ (votes_against T c W w a e f v) = short-vote w.name s.free (need_in s.state.files a.list) (short W w e) (conflict w.name (commit_wants a.writes) t)
+        reply _ _ (votes_against T c W w a e f v) = short-vote w.name s.free (need_in s.maps s.state.files a.list) (short W w e) (conflict w.name (commit_wants a.writes) t)
         reply m x r = tt
 
         by : (m : Message) (row : RowOutcome WorkerTable) → WorkerCase t s k m row → Says row

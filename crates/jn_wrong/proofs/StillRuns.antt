@@ -1,5 +1,5 @@
 -- Runs at which nothing strikes: what each step of them needs, so that no chance matters.
-use Rattle.jn_wrong.proofs.Common.{not, nat_eq, nat_lt, ◌&&◌, slice_get, ServerNo, FileNo, File, Client, Server, Message, Pick, Sent, World, Memory, prints_of, Setup, Chance, none_free, Task, Begins, Meets, Acts, Rests, ComesUp, Dismisses, GoesDown, ClosesClients, CountsCommits, State, next_task, last_epoch, servers_of, first_busy, most_messages, next, calm, blank}
+use Rattle.jn_wrong.proofs.Common.{not, nat_eq, nat_lt, ◌&&◌, slice_get, ServerNo, FileNo, File, Client, Server, Message, Pick, Sent, World, Memory, prints_of, Setup, Chance, none_free, Task, Begins, Meets, Acts, Rests, ComesUp, Dismisses, GoesDown, ClosesClients, CountsCommits, State, next_task, last_epoch, servers_of, first_busy, most_messages, next, calm, blank, no_maps}
 use Rattle.std.specs.Prelude.{◌≡◌, ℕ, zero, suc, Bool, true, false, List, [], ◌∷◌, length, Option, Some, None, is_some}
 use Rattle.jn_schedule.specs.declared.Event.TheVariants as events
 use Rattle.jn_msgs.specs.declared.message.Message.TheVariants as messages
@@ -7,7 +7,7 @@ use Rattle.jn_machine.specs.Chances.{Free}
 
 -- nothing strikes, a restart finds nothing, a show prints nothing, and nothing is free
 abbrev pub still : Chance
-still = record calm { found = Free none_free }
+still = record calm { found = Free none_free no_maps }
 
 -- so many steps
 abbrev pub goes : Setup → ℕ → State → State

@@ -76,7 +76,7 @@ module _ (last : Moment) (over : next_task last.state ≡ None) where
 -- ---- the restart
 
 -- what the power leaves as it is
-module _ (g : Counts) (h : Chance) (b : Bool) (wait : List Armed) (d e : DeviceState) (r : IsRecovery g h b d e) (p : Armed_so false wait d) where
+module _ {s : ServerNo} (g : Counts) (h : Chance) (b : Bool) (wait : List Armed) (d e : DeviceState) (r : IsRecovery s g h b d e) (p : Armed_so false wait d) where
   -- its pages are those before where no call was made
   unmade-same : g ≡ x1.counts s0 → r.called.last ≡ r.powered → (c : Pick) → (found_on g (pairs_view e) c).epoch ≡ 1
   unmade-same is none c = ap (λ (f : Pick → StableState). (f c).epoch) (same_found (pairs_view d) (pairs_view e) (record { count = ap (λ (n : ℕ). n / 2) (ap (λ (f : DeviceState). f.count) e-is ∙ either b (λ (f : DeviceState). f.count) refl ∙ r.power.count); pages = λ i. record { first = bytes i; second = ap (λ (n : ℕ). (e.pages (i + n / 2)).bytes) (ap (λ (f : DeviceState). f.count) e-is ∙ either b (λ (f : DeviceState). f.count) refl ∙ r.power.count) ∙ bytes (i + d.count / 2) } }) g)
@@ -185,14 +185,14 @@ module _ (epochs : ServerNo → ℕ) (last : Moment) (over : next_task last.stat
           w : World
           w = restarts_first.course.world
 
-          its : {up : Bool} → Alone s0 (IsRecovery (x1.counts s0) g up) h.moment.devices d.next.devices → IsRecovery (x1.counts s0) g up (h.moment.devices s0) (d.next.devices s0)
+          its : {up : Bool} → Alone s0 (IsRecovery s0 (x1.counts s0) g up) h.moment.devices d.next.devices → IsRecovery s0 (x1.counts s0) g up (h.moment.devices s0) (d.next.devices s0)
           its a = a.its
 
           -- it isn't passed by
           not-passed : g.stop ≡ None → Befalls x1 g (restarting g w None) w h.moment.devices d.next.devices → ⊥
           not-passed none b = from (its b.used)
             where
-              from : IsRecovery (x1.counts s0) g true (h.moment.devices s0) (d.next.devices s0) → ⊥
+              from : IsRecovery s0 (x1.counts s0) g true (h.moment.devices s0) (d.next.devices s0) → ⊥
               from r = either (first-call-stops r.powered r.power.power_is faults.StopBefore (r.power.waiting ∙ (let p = h.device in p.waiting)) (inl refl) r.called.last r.called.happens)
                 where
                   lit : r.called.last.power ≡ true

@@ -57,7 +57,7 @@ stopped_tally = record { calls = first_tally.calls; puts = first_tally.puts; sto
 abbrev as_stopped : DeviceState
 as_stopped = device (good_at 1) false [] stopped_tally
 
-is-stopped : IsRecovery the_counts stop_now false (off_with (waits 1 StopBefore ∷ [])) as_stopped
+is-stopped : IsRecovery s0 the_counts stop_now false (off_with (waits 1 StopBefore ∷ [])) as_stopped
 is-stopped = record {
   powered = device (good_at 1) true (waits 1 StopBefore ∷ []) first_tally;
   last = as_stopped;
@@ -80,6 +80,7 @@ is-stopped = record {
   after = refl;
   front = λ up. absurd (true≢false (sym up));
   front_whole = λ up quiet. absurd (true≢false (sym up));
+  root = λ up. absurd (true≢false (sym up));
 }
 
 abbrev stop_armed : State
@@ -92,7 +93,7 @@ stop-one = one-so arms_first stop_met _ _
     (begins-then 1 (omega arith) stop_armed _ (events.Restart s0) (recovered calm s0) (record { begins = refl; next = refl; is = refl; found = λ c. refl }) (λ q. true) (λ q. 0) false (waits 1 StopBefore ∷ []) first_tally
     (more _ _ _ (does stop_now (Meets (events.Restart s0)) (recovered stop_now s0) (idled 1 stop_armed) (off_with (waits 1 StopBefore ∷ [])) as_stopped 1 1 refl refl
     (blank-on 1 (omega arith) (λ q. true) (λ q. 0) false (waits 1 StopBefore ∷ []) first_tally) (blank-on 1 (omega arith) (λ q. true) (λ q. 0) false [] stopped_tally) (λ q. refl) (tt, (tt, tt)) (λ c. refl) refl
-    (alone (λ d e. IsRecovery the_counts stop_now false d e) (off_with (waits 1 StopBefore ∷ [])) as_stopped is-stopped))
+    (alone (λ d e. IsRecovery s0 the_counts stop_now false d e) (off_with (waits 1 StopBefore ∷ [])) as_stopped is-stopped))
     (from-off 1 (omega arith) _ _ 3 _ _ _ 5 (omega arith) (λ q. true) (λ q other. refl) (λ q. 0) [] stopped_tally))))) refl refl refl
 
 -- ---- faults that a get refuses
@@ -136,7 +137,7 @@ telling_chance told = record calm { told = told }
 
 -- behind such gets the restart goes on
 recovers-told : (told : List Outside) (waiting : List Armed) (t : Tally) → told ++ [] ≡ told → t.calls ≤ first_tally.calls + 2
-    → Happens (device (good_at 1) true waiting first_tally) (telling told (device (good_at 1) true [] t)) → IsRecovery the_counts (telling_chance told) true (off_with waiting) (device (good_at 2) true [] (thrice t))
+    → Happens (device (good_at 1) true waiting first_tally) (telling told (device (good_at 1) true [] t)) → IsRecovery s0 the_counts (telling_chance told) true (off_with waiting) (device (good_at 2) true [] (thrice t))
 recovers-told told waiting t same near gets = record {
   powered = device (good_at 1) true waiting first_tally;
   last = device (good_at 2) true [] (thrice t);
@@ -154,6 +155,7 @@ recovers-told told waiting t same near gets = record {
   after = refl;
   front = λ up. front-clean 2 (λ q. true) (λ q. 0) true [] (thrice t);
   front_whole = λ up quiet. front-whole 2 true [] (thrice t);
+  root = λ up. (2, record { first = refl; second = refl });
 }
 
 abbrev null_armed : State
@@ -166,7 +168,7 @@ null-one = one-so arms_null (null_told Null 0) _ _
     (begins-then 1 (omega arith) null_armed _ (events.Restart s0) (recovered calm s0) (record { begins = refl; next = refl; is = refl; found = λ c. refl }) (λ q. true) (λ q. 0) false (waits 1 Null ∷ []) first_tally
     (more _ _ _ (does (telling_chance (refused Null 0 ∷ [])) (Meets (events.Restart s0)) (recovered (telling_chance (refused Null 0 ∷ [])) s0) (idled 1 null_armed) (off_with (waits 1 Null ∷ [])) (device (good_at 2) true [] (thrice (got_on first_tally))) 1 2 refl refl
     (blank-on 1 (omega arith) (λ q. true) (λ q. 0) false (waits 1 Null ∷ []) first_tally) (blank-on 2 (omega arith) (λ q. true) (λ q. 0) true [] (thrice (got_on first_tally))) (λ q. refl) (names-nothing, tt) (λ c. refl) refl
-    (alone (λ d e. IsRecovery the_counts (telling_chance (refused Null 0 ∷ [])) true d e) (off_with (waits 1 Null ∷ [])) (device (good_at 2) true [] (thrice (got_on first_tally)))
+    (alone (λ d e. IsRecovery s0 the_counts (telling_chance (refused Null 0 ∷ [])) true d e) (off_with (waits 1 Null ∷ [])) (device (good_at 2) true [] (thrice (got_on first_tally)))
     (recovers-told (refused Null 0 ∷ []) (waits 1 Null ∷ []) (got_on first_tally) refl (let one = bumped-least first_tally.calls in omega (arith, one)) gets-null)))
     (from-up 2 (omega arith) _ _ _ 3 _ _ _ 5 (omega arith) (λ q. true) (λ q other. refl) (λ q. 0) [] (thrice (got_on first_tally))))))) refl refl refl
 
@@ -184,6 +186,6 @@ in-order-one = one-so arms_in_order (outside_in_order 0 177) _ _
     (begins-then 1 (omega arith) both_armed _ (events.Restart s0) (recovered calm s0) (record { begins = refl; next = refl; is = refl; found = λ c. refl }) (λ q. true) (λ q. 0) false (waits 1 Null ∷ waits 2 Bad ∷ []) first_tally
     (more _ _ _ (does (telling_chance two_told) (Meets (events.Restart s0)) (recovered (telling_chance two_told) s0) (idled 1 both_armed) (off_with (waits 1 Null ∷ waits 2 Bad ∷ [])) (device (good_at 2) true [] (thrice (got_on (got_on first_tally)))) 1 2 refl refl
     (blank-on 1 (omega arith) (λ q. true) (λ q. 0) false (waits 1 Null ∷ waits 2 Bad ∷ []) first_tally) (blank-on 2 (omega arith) (λ q. true) (λ q. 0) true [] (thrice (got_on (got_on first_tally)))) (λ q. refl) (names-nothing, tt) (λ c. refl) refl
-    (alone (λ d e. IsRecovery the_counts (telling_chance two_told) true d e) (off_with (waits 1 Null ∷ waits 2 Bad ∷ [])) (device (good_at 2) true [] (thrice (got_on (got_on first_tally))))
+    (alone (λ d e. IsRecovery s0 the_counts (telling_chance two_told) true d e) (off_with (waits 1 Null ∷ waits 2 Bad ∷ [])) (device (good_at 2) true [] (thrice (got_on (got_on first_tally))))
     (recovers-told two_told (waits 1 Null ∷ waits 2 Bad ∷ []) (got_on (got_on first_tally)) refl (let one = bumped-least first_tally.calls in let two = bumped-least (bumped first_tally.calls) in omega (arith, one, two)) gets-both)))
     (from-up 2 (omega arith) _ _ _ 4 _ _ _ 5 (omega arith) (λ q. true) (λ q other. refl) (λ q. 0) [] (thrice (got_on (got_on first_tally))))))))) refl refl refl

@@ -79,7 +79,7 @@ record CalledSo (wait : List Armed) (told : List Outside) : Type 0 where
   happens : Happens before after
   told_is : told ≡ after.told
 
-called-so : (h : Chance) (b : Bool) (wait : List Armed) (d e : DeviceState) → IsRecovery (x1.counts s0) h b d e → Armed_so false wait d → CalledSo wait h.told
+called-so : (h : Chance) (b : Bool) (wait : List Armed) (d e : DeviceState) → IsRecovery s0 (x1.counts s0) h b d e → Armed_so false wait d → CalledSo wait h.told
 called-so h b wait d e r p = record {
   before = r.powered;
   after = r.called.last;
@@ -133,7 +133,7 @@ module _ (epochs : ServerNo → ℕ) (last : Moment) (over : next_task last.stat
           w : World
           w = restarts_two.course.world
 
-          its : {up : Bool} → Alone s0 (IsRecovery (x1.counts s0) g up) h.moment.devices d.next.devices → CalledSo (null_waits ∷ bad_waits ∷ []) g.told
+          its : {up : Bool} → Alone s0 (IsRecovery s0 (x1.counts s0) g up) h.moment.devices d.next.devices → CalledSo (null_waits ∷ bad_waits ∷ []) g.told
           its {up} a = called-so g up (null_waits ∷ bad_waits ∷ []) (h.moment.devices s0) (d.next.devices s0) a.its h.device
 
           befalls-by : (stop : Option (Pick → Left)) → g.stop ≡ stop → Befalls x1 g (restarting g w stop) w h.moment.devices d.next.devices
@@ -197,7 +197,7 @@ module _ (epochs : ServerNo → ℕ) (last : Moment) (over : next_task last.stat
           w : World
           w = restarts_one.course.world
 
-          its : {up : Bool} → Alone s0 (IsRecovery (x1.counts s0) g up) h.moment.devices d.next.devices → CalledSo ((record { after = 1; kind = faults.Null }) ∷ []) g.told
+          its : {up : Bool} → Alone s0 (IsRecovery s0 (x1.counts s0) g up) h.moment.devices d.next.devices → CalledSo ((record { after = 1; kind = faults.Null }) ∷ []) g.told
           its {up} a = called-so g up ((record { after = 1; kind = faults.Null }) ∷ []) (h.moment.devices s0) (d.next.devices s0) a.its h.device
 
           befalls-by : (stop : Option (Pick → Left)) → g.stop ≡ stop → Befalls x1 g (restarting g w stop) w h.moment.devices d.next.devices

@@ -55,7 +55,7 @@ pub record IsUnused (g : Counts) (pages : Pages) : Type 0 where
 
 free-head : (a : ℕ) (h : Head) → is_free_head h ≡ true → has_address a h ≡ false
 free-head a FreeHead e = refl
-free-head a (Used f addresses) e = absurd (true≢false (sym e))
+free-head a (Used f addresses maps) e = absurd (true≢false (sym e))
 
 free-record : (test : Record → Bool) → test Free ≡ false → (r : Record) → is_free r ≡ true → test r ≡ false
 free-record test h Free e = h

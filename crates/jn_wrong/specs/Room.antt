@@ -6,6 +6,7 @@ use Rattle.jn_base.specs.declared.names.Resource.TheVariants.{Records}
 use Rattle.jn_msgs.specs.declared.message.Vote.{Vote}
 use Rattle.jn_msgs.specs.declared.message.Vote.TheVariants.{Full}
 use Rattle.jn_records.specs.declared.net_list.Need.{Need}
+use Rattle.jn_records.specs.MapPlaces.{no_maps}
 use Rattle.jn_records.specs.StablePages.{Counts}
 use Rattle.jn_rows.specs.Worker.{shortage}
 use Rattle.jn_schedule.specs.declared.Event.{Event}
@@ -64,7 +65,7 @@ unpromised g None = none_free
 unpromised g (Some m) = record { records = g.pool - promised m.coordinator.transactions; heads = g.heads; pages = g.leaves }
 
 abbrev in_room_at : Counts → State → Option Task → Chance
-in_room_at g s (Some Rests) = record calm { found = Free (unpromised g (s.course.world.memory s0)) }
+in_room_at g s (Some Rests) = record calm { found = Free (unpromised g (s.course.world.memory s0)) no_maps }
 in_room_at g s task = calm_at s task
 
 -- a message finds that free

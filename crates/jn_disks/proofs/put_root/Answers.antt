@@ -1,6 +1,9 @@
-use Rattle.jn_disks.proofs.Common.{true, subst, arith, List, ℕ, StorePut}
+use Rattle.jn_disks.proofs.Common.{inr, true, subst, arith, List, ℕ, StorePut}
 use Rattle.jn_disks.proofs.NewStores.{new_is, same_device}
 use Rattle.jn_disks.proofs.put_root.Goals as goal
+
+pub encode-requires : goal.encode-requires
+encode-requires g c = inr c.requires.version
 
 pub returns-clause-new : goal.returns-clause-new
 returns-clause-new g c =

@@ -7,7 +7,7 @@ use Rattle.jn_msgs.specs.declared.message.Vote.TheVariants as votes
 
 -- the vote of an active work that is to be prepared
 abbrev pub its_vote : WorkerTable → WorkStorage → Work → ActiveWork → Vote
-its_vote t s w a = vote_of (conflict w.name (commit_wants a.writes) t) (shortage s.free (need_in s.state.files a.list))
+its_vote t s w a = vote_of (conflict w.name (commit_wants a.writes) t) (shortage s.free (need_in s.maps s.state.files a.list))
 
 -- what the files of a work answer an operation, and what it wants then
 abbrev pub its_answer : WorkStorage → ActiveWork → Op → Answer

@@ -1,5 +1,6 @@
 -- A run in which a client makes a file at one server and commits, without and with stops.
 use Rattle.std.specs.Prelude.{ℕ, true, false, if◌then◌else◌, List, [], ◌∷◌}
+use Rattle.jn_records.specs.MapPlaces.{no_maps}
 use Rattle.jn_rows.specs.Stable.{whole_only}
 use Rattle.jn_base.specs.declared.names.ServerNo.{ServerNo}
 use Rattle.jn_base.specs.declared.names.ClientNo.{ClientNo}
@@ -29,7 +30,7 @@ abbrev pub the_work : WorkId
 the_work = record { server = the_server; epoch = 0; ticket = 1 }
 
 abbrev pub much : Room
-much = record { free = record { records = 9; pages = 9; heads = 9 }; rubbish = false }
+much = record { free = record { records = 9; pages = 9; heads = 9 }; maps = no_maps; rubbish = false }
 
 abbrev pub start : World
 start = opening 1 no_files (λ s. 0)

@@ -4,6 +4,7 @@ use Rattle.jn_base.specs.declared.names.ServerNo.{ServerNo}
 use Rattle.jn_base.specs.declared.names.Tid.{Tid}
 use Rattle.jn_base.specs.declared.names.WorkId.{WorkId}
 use Rattle.jn_records.specs.declared.net_list.Need.{Need}
+use Rattle.jn_records.specs.MapPlaces.{MapPlaces}
 use Rattle.jn_msgs.specs.declared.message.Message.{Message}
 use Rattle.jn_msgs.specs.declared.message.Message.TheVariants as messages
 use Rattle.jn_msgs.specs.declared.message.Note.{Note}
@@ -16,14 +17,15 @@ use Rattle.jn_rows.specs.Worker.{WorkerTable, WorkStorage, worker_row, worker_st
 use Rattle.jn_rows.specs.Coordinator.{CoordinatorTable, coordinator_row, coordinator_again, restored_coordinator}
 use Rattle.jn_system.specs.WholeSystem.World.{Memory, has_line}
 
--- What a server's storage says of itself at a step: what is free and not promised, and whether a rubbish record is left.
--- Nothing is said of these numbers here, so whatever holds of all runs holds for any numbers.
+-- What a storage says of itself at a step: what is free and not promised, which map pages there are, whether a record is rubbish.
+-- Nothing is said of these here, so whatever holds of all runs holds for any of them.
 pub record Room : Type 0 where
   pub free : Need
+  pub maps : MapPlaces
   pub rubbish : Bool
 
 abbrev pub storage_of : Memory → StableState → Room → WorkStorage
-storage_of m x room = record { state = x; free = room.free; next = m.next; rubbish = room.rubbish }
+storage_of m x room = record { state = x; free = room.free; maps = room.maps; next = m.next; rubbish = room.rubbish }
 
 -- ---- the rows of one table as rows of both
 

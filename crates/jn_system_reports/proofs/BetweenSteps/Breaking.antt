@@ -123,7 +123,7 @@ module _ (t : WorkerTable) (k : Tickets) (rising : are_rising t ≡ true) (befor
   prepares s T c W (Some w) = by w.phase
     where
       by : (p : Phase) → Ok (prepare_phase t s k T c w p)
-      by (Active a) = votes-so T c w a (conflict w.name (commit_wants a.writes) t) (shortage s.free (need_in s.state.files a.list)) refl
+      by (Active a) = votes-so T c w a (conflict w.name (commit_wants a.writes) t) (shortage s.free (need_in s.maps s.state.files a.list)) refl
       by (Broken u U) = same-from t
       by (Stored p) = either (is_going (s.state.works w.name)) _ _ (same-from t) (same-from t)
 

@@ -181,7 +181,7 @@ module _ (os : List Opening) (clients : ClientNo → ClientTable) (w : Machine) 
     where
       replied : (m : Message) (sent : Sent) → Replies t st k m sent → Votes m → SaysPast os clients w Caused sent × OpensFact (Asked m) t sent
       replied _ _ (is_open_already c q T x e) v = let found = of-found T t x rising e in (tt, (ap is_some found, place x.name x found, refl))
-      replied _ _ (votes_against T c W x a e f g) v = (vote-fact T x.name (conflict x.name (commit_wants a.writes) t) (shortage st.free (need_in st.state.files a.list)) (is-short st.free (need_in st.state.files a.list)), tt)
+      replied _ _ (votes_against T c W x a e f g) v = (vote-fact T x.name (conflict x.name (commit_wants a.writes) t) (shortage st.free (need_in st.maps st.state.files a.list)) (is-short st.free (need_in st.maps st.state.files a.list)), tt)
       replied _ _ (votes_broken T c W x u R e f) v = (v.broken T c W x u R refl e f, tt)
       replied _ _ (votes_lost T c W e) v = (v.lost T c W refl e, tt)
       replied m sent reply v = (tt, tt)

@@ -143,7 +143,7 @@ module _ (t : WorkerTable) (k : Tickets) (rising : are_rising t ≡ true) (next 
   worker-breaks s (messages.Prepare T c W) = by (work_at W t)
     where
       phase : (w : Work) (p : Phase) → Row (prepare_phase t s k T c w p)
-      phase w (Active a) = prepared-breaks T c w a (vote_of (conflict w.name (commit_wants a.writes) t) (shortage s.free (need_in s.state.files a.list)))
+      phase w (Active a) = prepared-breaks T c w a (vote_of (conflict w.name (commit_wants a.writes) t) (shortage s.free (need_in s.maps s.state.files a.list)))
       phase w (Broken u by) = same _ refl
       phase w (Stored p) = choose (is_going (s.state.works w.name)) _ _ (same _ refl) (same _ refl)
 

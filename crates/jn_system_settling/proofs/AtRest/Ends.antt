@@ -128,7 +128,7 @@ prepare-votes t s k T c W idle (Some w) e = subst (λ (V : WorkId). (vote : Vote
     stored false q = (votes.Ready, inl refl)
 
     by : (p : Phase) → (v : Vote) × Has (Server T.server, messages.Vote T w.name v) (prepare_phase t s k T c w p).messages
-    by (Active a) = voted a (vote_of (conflict w.name (commit_wants a.writes) t) (shortage s.free (need_in s.state.files a.list)))
+    by (Active a) = voted a (vote_of (conflict w.name (commit_wants a.writes) t) (shortage s.free (need_in s.maps s.state.files a.list)))
     by (Broken u held) = (votes.Broken u held, inl refl)
     by (Stored p) = stored (is_going (s.state.works w.name)) (ap (λ (V : WorkId). is_going (s.state.works V)) name ∙ idle)
 

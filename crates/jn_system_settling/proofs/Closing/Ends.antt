@@ -1,5 +1,6 @@
 -- The end of a run, and the settle after it.
 use Rattle.jn_system_settling.proofs.Common.{◌≡◌, ◌≢◌, ◌⊎◌, inl, inr, ◌≤◌, ◌<◌, ℕ, zero, suc, ◌+◌, Bool, true, false, List, [], ◌∷◌, ◌++◌, append-nil, Option, Some, None, is_some, true≢false, refl, sym, ◌∙◌, ap, subst, arith, if◌then◌else◌, ◌&&◌, ◌||◌, nat_lt, nat_eq, map, list_any, nat_tests, ServerNo, ClientNo, Tid, WorkId, server_eq, server_tells, AllFiles, Transaction, Stage, Open, Voting, Committed, Aborted, Commitment, StableState, Prepared, FlagState, Pick, stable, is_ready, is_going, Sent, WorkerTable, work_at, restored_work, restored_worker, is_work, all_in, thanked, all_thanked, restored_transaction, restored_transactions, close_clients_row, run_atoms, opening_world, AreTransactions, none_unless, none_of, false_unless, some_of, clash, World, Memory, opening, servers_from, restored, of_coordinator, Step, Again, Nudge, Crash, Narrow, Restart, Dismiss, CloseClients, IsStep, IsRun, run, after, nudge, crash, restart, close_clients, UpFact, Course, still_waiting, opening_course, go, go_on, Chance, clients_from, until_rest, ask_again, settled, committed_at, NothingGoes, Ends, AreUp, Reached, next-reached, opening-reached, invariant, some-memory, one-server, none-memory}
+use Rattle.jn_records.specs.MapPlaces.{no_maps}
 use Rattle.jn_system.proofs.WholeSystem.Closes.{is_committed}
 use Rattle.jn_system_order.specs.Ordering.Runs.{IsInOrder}
 use Rattle.jn_system_order.proofs.Ordering.Runs.{moves-in-order}
@@ -366,7 +367,7 @@ module _ (n : ℕ) (at_most : n ≤ 8) (start : World) (files : AllFiles) (epoch
               found = ap (work_at v.name) e ∙ grind (arith, nat_tests)
 
               there : is_some ((stable (d.world.found s)).works v.name) ≡ true
-              there = some-stored m (stable (d.world.found s)) (Needed d.world) (h.kept s m is) (record { free = record { records = 0; pages = 0; heads = 0 }; rubbish = false }) fact.table v.name v found
+              there = some-stored m (stable (d.world.found s)) (Needed d.world) (h.kept s m is) (record { free = record { records = 0; pages = 0; heads = 0 }; maps = no_maps; rubbish = false }) fact.table v.name v found
 
               place : v.name.server ≡ s
               place = fact.table.place v.name v found ∙ fact.server

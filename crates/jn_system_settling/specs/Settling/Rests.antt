@@ -1,5 +1,6 @@
 -- Steps of a loop, each of which is what comes next in its turn.
 use Rattle.std.specs.Prelude.{◌≡◌, ◌≤◌, ◌<◌, ◌⊎◌, ℕ, zero, suc, ◌+◌, false, List, [], ◌∷◌, length, Some, None}
+use Rattle.jn_records.specs.MapPlaces.{no_maps}
 use Rattle.jn_base.specs.declared.names.ServerNo.{ServerNo}
 use Rattle.jn_rows.specs.Stable.{Pick, Left}
 use Rattle.jn_system.specs.WholeSystem.World.{World, servers_from, clients_from}
@@ -35,7 +36,7 @@ pub record ComeToRest (servers : List ServerNo) (steps : List Step) (c : Course)
 -- ---- a settle
 
 abbrev pub no_chance : Chance
-no_chance = record { room = record { free = record { records = 0; heads = 0; pages = 0 }; rubbish = false }; stop = None }
+no_chance = record { room = record { free = record { records = 0; heads = 0; pages = 0 }; maps = no_maps; rubbish = false }; stop = None }
 
 -- what befell each of them
 abbrev pub chances_of : (servers : List ServerNo) (steps : List Step) (c : Course) → AreNext servers steps c → ℕ → Chance

@@ -1,5 +1,6 @@
 -- Runs of the whole system as schedules give them.
 use Rattle.std.specs.Prelude.{ℕ, ◌-◌, Bool, true, false, nat_eq, if◌then◌else◌, List, [], ◌∷◌, ◌++◌, replicate, length, filter, Some, None}
+use Rattle.jn_records.specs.MapPlaces.{no_maps}
 use Rattle.jn_base.specs.declared.names.ServerNo.{ServerNo}
 use Rattle.jn_base.specs.declared.names.ClientNo.{ClientNo}
 use Rattle.jn_base.specs.declared.names.Tid.{Tid}
@@ -29,7 +30,7 @@ padded bytes = bytes ++ replicate (448 - length bytes) 0
 
 -- there is room, and nothing is stopped
 abbrev pub much : Room
-much = record { free = record { records = 32; pages = 128; heads = 16 }; rubbish = false }
+much = record { free = record { records = 32; pages = 128; heads = 16 }; maps = no_maps; rubbish = false }
 
 abbrev pub calm : Chance
 calm = record { room = much; stop = None }

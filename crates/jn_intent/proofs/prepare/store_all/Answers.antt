@@ -1,9 +1,40 @@
-use Rattle.jn_intent.proofs.Common.{List, [], ◌∷◌, length, ap, sym, subst, ◌∙◌, arith, length-append, err_from_is_err_and, is_ok, StoredIntention, IsPreparing}
-use Rattle.jn_intent.proofs.Storing.{plain_at, list_on, list_stops}
+use Rattle.jn_intent.proofs.Common.{rules, List, [], ◌∷◌, length, ap, sym, subst, ◌∙◌, true≢false, arith, length-append, err_from_is_err_and, is_ok, StoredIntention, Counts, page_count, IsPreparing}
+use Rattle.jn_intent.proofs.Storing.{plain_at, list_on, list_stops, page_left}
 use Rattle.jn_intent.proofs.prepare.store_all.Goals as goal
 
 pub store_one-requires-clause-plain : goal.store_one-requires-clause-plain
 store_one-requires-clause-plain g c = plain_at c.args.list.now c.loop-order.order _ c.requires.begins.2.may.plain c.loop-order-test.true
+
+pub store_one-requires-clause-fits : goal.store_one-requires-clause-fits
+store_one-requires-clause-fits g c =
+    let (m, v, begins) = c.requires.begins in let now = c.loop-order.invariant.preparing m v begins in
+    sym now.store.standing.held.count ∙ ap (λ (counts : Counts). page_count counts) (sym now.pages.counts)
+
+pub store_one-requires-clause-unpromised : goal.store_one-requires-clause-unpromised
+store_one-requires-clause-unpromised g c = let (m, v, begins) = c.requires.begins in (c.loop-order.invariant.preparing m v begins).pages.unpromised
+
+pub store_one-requires-clause-page : goal.store_one-requires-clause-page
+store_one-requires-clause-page g c put =
+    let (m, v, begins) = c.requires.begins in
+    page_left m v c.args.head.now.work c.args.list.now _ c.loop-order.sets c.loop-order.table _ begins.may (c.loop-order.invariant.preparing m v begins) c.loop-order.order c.loop-order.invariant.longer c.loop-order-test.true _ put
+
+pub store_one-requires-clause-there : goal.store_one-requires-clause-there
+store_one-requires-clause-there g c =
+    let (m, v, begins) = c.requires.begins in let held = (c.loop-order.invariant.preparing m v begins).store.standing.held in
+    let size = held.slots in let count = held.count in omega (arith, size, count)
+
+pub store_one-requires-clause-room : goal.store_one-requires-clause-room
+store_one-requires-clause-room g c =
+    let (m, v, begins) = c.requires.begins in
+    let free = (c.loop-order.invariant.preparing m v begins).pool.free in let few = begins.may.records in
+    let longer = c.loop-order.invariant.longer in let lt = c.loop-order-test.true in omega (arith, free, few, longer, lt)
+
+pub returns : goal.returns
+returns g c m v begins = record {
+  all = λ ok. c.loop-order.invariant.longer ∙ search rules;
+  done = λ ok. c.loop-order.invariant.preparing m v begins;
+  stopped = λ e. absurd (true≢false e);
+}
 
 pub returns-in_err-put : goal.returns-in_err-put
 returns-in_err-put g c m v begins =

@@ -5,6 +5,14 @@ use Rattle.jn_recovery.proofs.opening.erase_all.Goals as goal
 pub loop-slot-init : goal.loop-slot-init
 loop-slot-init g c = (few_rubbish c.args.sets.now, λ server counts epoch heads standing. erases_none server counts (g.S.StableStore.view c.args.store.now) epoch heads c.args.sets.now standing)
 
+pub erase_one-requires : goal.erase_one-requires
+erase_one-requires g c =
+    let (server, counts, epoch, heads, standing) = c.requires.standing in
+    let held = (c.loop-slot.invariant.1 server counts epoch heads standing).standing.held in
+    let size = held.slots in
+    let count = held.count in
+    record { there = omega (arith, size, count) }
+
 pub returns-in_err-erase_one-clause-stopped : goal.returns-in_err-erase_one-clause-stopped
 returns-in_err-erase_one-clause-stopped g c = λ server counts epoch heads standing.
     let pool = c.loop-slot.sets in

@@ -1,5 +1,5 @@
-use Rattle.jn_recovery.proofs.Common.{◌≡◌, inr, Err, false, refl, sym, ◌∙◌, ap, true≢false, arith, rules, is_ok, root_by, heads_on, pages_by, data_place, down_of, counts_by, IsDown, Stopped}
-use Rattle.jn_recovery.proofs.CleanStore.{root_epoch, root_is, root_only}
+use Rattle.jn_recovery.proofs.Common.{◌≡◌, inr, Err, false, refl, sym, ◌∙◌, ap, true≢false, arith, rules, is_ok, heads_on, pages_by, data_place, down_of, counts_by, IsDown, Stopped}
+use Rattle.jn_recovery.proofs.CleanStore.{root_there, root_is, root_only}
 use Rattle.jn_recovery.proofs.Downs.{recovering_fewer, stopped_down, if_err_is}
 use Rattle.jn_recovery.proofs.Openings.{reads_none, root_exit, counts_fit, readable, sets_exit, heads_loadable, table_exit, opened}
 use Rattle.jn_recovery.proofs.CleanPages.{front_cleaned, on_err}
@@ -25,7 +25,7 @@ pub read_root-requires-clause-readable : goal.read_root-requires-clause-readable
 read_root-requires-clause-readable g c = let (server, before) = c.requires.recoverable in let counts = counts_by c.args.counts in
     let read = reads_none server counts (g.S.StableStore.view c.args.store.now) (g.S.StableStore.view c.clean_pages.new.store) before (front_cleaned _ _ _ _ c.front-front.ensures c.clean_pages.result c.clean_pages.ensures.cleaned (search rules)) in
     let u = g.S.StableStore.view c.clean_pages.new.store in
-    (root_by server counts (root_epoch server counts u read.recoverable read.clean), root_is server counts u read.recoverable read.clean, root_only server counts u read.recoverable read.clean)
+    (root_there server counts u read.recoverable read.clean, root_is server counts u read.recoverable read.clean, root_only server counts u read.recoverable read.clean)
 
 pub returns-in_err-root-clause-down : goal.returns-in_err-root-clause-down
 returns-in_err-root-clause-down g c = λ server before. let counts = counts_by c.args.counts in

@@ -1,10 +1,13 @@
 use Rattle.jn_intent.proofs.Common.{sym, ap, subst, refl, ◌∙◌, true, false, true≢false, arith, err_from_is_err_and, Ok, Err, IsRecoverable, Stops, WorkPrepared, shortage, view_of, accounts_of, memory_of}
-use Rattle.jn_intent.proofs.Readying.{promising, given, begun, list_few, list_short, its_reads, stopped_list, insert_there, insert_left, prepare_stopped, prepare_recovers, prepare_kept, prepare_done, works_listed, refused_by}
+use Rattle.jn_intent.proofs.Readying.{promising, given, begun, list_few, list_short, list_in_range, its_reads, stopped_list, insert_there, insert_left, prepare_stopped, prepare_recovers, prepare_kept, prepare_done, works_listed, refused_by}
 use Rattle.jn_intent.proofs.StoringPool.{free_slot}
 use Rattle.jn_intent.proofs.intents.Intents.prepare_work.Goals as goal
 
 pub need-need-requires-clause-length : goal.need-need-requires-clause-length
 need-need-requires-clause-length g c = list_short (view_of c.args.self.now.1 (g.S.StableStore.view c.args.self.now.0)) c.args.head.now c.args.list.now c.args.reads.now c.requires.may
+
+pub need-need-requires-clause-range : goal.need-need-requires-clause-range
+need-need-requires-clause-range g c = list_in_range (view_of c.args.self.now.1 (g.S.StableStore.view c.args.self.now.0)) c.args.head.now c.args.list.now c.args.reads.now c.requires.may
 
 pub returns-in_err-test_room : goal.returns-in_err-test_room
 returns-in_err-test_room g c =

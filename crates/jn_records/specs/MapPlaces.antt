@@ -1,0 +1,51 @@
+-- Which map pages files have, and what preparing a list needs.
+use Rattle.std.specs.Prelude.{ℕ, ◌+◌, ◌*◌, ◌/◌, ◌-◌, Bool, false, not, ◌&&◌, ◌||◌, nat_eq, nat_lt, nat_le, if◌then◌else◌, List, [], ◌∷◌, length, count_by, slice_index}
+use Rattle.std.specs.List.{list_any}
+use Rattle.jn_base.specs.declared.names.FileNo.{FileNo}
+use Rattle.jn_base.specs.Limits.{head_blocks}
+use Rattle.jn_base.specs.Names.{file_eq}
+use Rattle.jn_records.specs.declared.head.Head.{Head}
+use Rattle.jn_records.specs.declared.head.Head.TheVariants.{Free, Used}
+use Rattle.jn_records.specs.declared.intention.What.{What}
+use Rattle.jn_records.specs.declared.intention.What.TheVariants.{Fresh, Gone, Cut, Put}
+use Rattle.jn_records.specs.declared.intention.Intention.{Intention}
+use Rattle.jn_records.specs.declared.net_list.Need.{Need}
+use Rattle.jn_records.specs.NetLists.{is_put_intention, heads_of}
+
+-- Of each file, which of its map pages there are. Page j is for as many blocks as a head has, from head_blocks * (j + 1) on.
+abbrev pub MapPlaces : Type 0
+MapPlaces = FileNo → ℕ → Bool
+
+abbrev pub no_maps : MapPlaces
+no_maps f j = false
+
+-- those that heads name
+abbrev pub names_map : FileNo → ℕ → Head → Bool
+names_map f j Free = false
+names_map f j (Used g addresses maps) = file_eq g f && nat_lt 0 (slice_index maps j)
+
+abbrev pub maps_in : List Head → MapPlaces
+maps_in heads f j = list_any (names_map f j) heads
+
+-- whether page j is there after an intention of its file: a cut keeps it where its first block stays
+abbrev pub there_by : What → ℕ → ℕ → Bool → Bool
+there_by Fresh n j there = false
+there_by Gone n j there = false
+there_by Cut n j there = there && nat_lt (head_blocks * (j + 1)) n
+there_by Put p j there = there || nat_eq (p / head_blocks) (j + 1)
+
+abbrev pub places_after : Intention → MapPlaces → MapPlaces
+places_after i places f j = if file_eq i.file f then there_by i.what i.block.0 j (places f j) else places f j
+
+-- a put past the head's blocks, whose map page isn't there
+abbrev pub lacks_map : MapPlaces → Intention → Bool
+lacks_map places i = is_put_intention i && nat_le head_blocks i.block.0 && not (places i.file (i.block.0 / head_blocks - 1))
+
+-- of each intention of a list that is carried out, whether it is such a put in its turn
+abbrev pub lacking : MapPlaces → List Intention → List Bool
+lacking places [] = []
+lacking places (i ∷ list) = lacks_map places i ∷ lacking (places_after i places) list
+
+-- a record for each intention and the ready record, its heads, a page for each put, and one for each map page that is lacking
+abbrev pub need_of : List Intention → (FileNo → Bool) → MapPlaces → Need
+need_of list there places = record { records = length list + 1; heads = heads_of list there; pages = count_by is_put_intention list + count_by (λ b. b) (lacking places list) }
