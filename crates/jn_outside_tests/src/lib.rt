@@ -1,7 +1,9 @@
-//! Tests of the sources, sinks and keepers, and of what the program doesn't ask for. All else that comes in and goes out it shows by itself:
+//! Tests of the sources, sinks and keepers, of frames, and of what the program doesn't ask for. All else that comes in and goes out it shows by itself:
 //! `.ci/program`, `.ci/schedules`, `rows/` and `examples/`.
 #![tactic(auto)]
 
+#[cfg(test)]
+mod frames;
 #[cfg(test)]
 mod host;
 #[cfg(test)]

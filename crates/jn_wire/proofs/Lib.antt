@@ -2,3 +2,12 @@ mod Joining
 mod Meaning
 mod ReadBack
 mod Framing
+mod Whole
+mod Works
+mod Leading
+mod Filling
+mod Feeding
+mod Numbers
+mod Spelled
+mod Streams
+mod Computed

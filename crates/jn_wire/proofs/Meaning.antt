@@ -9,7 +9,7 @@ use Rattle.jn_wire.specs.Decoding.{decode}
 use Rattle.jn_wire.specs.Unframing.{Unframed, unframed, in_front, holds, nothing_held, met, is_whole, whole_length, IsUnfinished, IsUnframed, Waits, Frame, Fault}
 
 -- a fault stays
-faulty-stays : (s : ServerNo) (at : ℕ) (held : List ℕ) (fault : WireFault) (bytes : List ℕ) → unframed s (record { at = at; bytes = held; fault = Some fault }) bytes ≡ holds (record { at = at; bytes = held; fault = Some fault })
+pub faulty-stays : (s : ServerNo) (at : ℕ) (held : List ℕ) (fault : WireFault) (bytes : List ℕ) → unframed s (record { at = at; bytes = held; fault = Some fault }) bytes ≡ holds (record { at = at; bytes = held; fault = Some fault })
 faulty-stays s at held fault [] = refl
 faulty-stays s at held fault (b ∷ bytes) = ap (in_front []) (faulty-stays s at held fault bytes)
 
@@ -39,7 +39,7 @@ module _ (s : ServerNo) where
 
   whole : (at : ℕ) (now bytes : List ℕ) → Means bytes → (d : Result Framed ℕ) → decode s (drop 2 now) ≡ d → is_whole now ≡ true → IsUnframed s at (now ++ bytes) (rest bytes (met at now d))
   whole at now bytes more (Ok f) e w = Frame at now bytes f (unframed s (nothing_held (at + length now)) bytes) w e (more (at + length now) [] (λ two. absurd (cc two)))
-  whole at now bytes more (Err n) e w = subst (λ (u : Unframed). IsUnframed s at (now ++ bytes) u) (sym (ap (in_front []) (faulty-stays s at now (record { at = at; number = n }) bytes))) (Fault at now bytes n w e)
+  whole at now bytes more (Err n) e w = subst (λ (u : Unframed). IsUnframed s at (now ++ bytes) u) (sym (ap (in_front []) (faulty-stays s at [] (record { at = at; number = n }) bytes))) (Fault at now bytes n w e)
 
   abbrev now_is : ℕ → List ℕ → Bool → Unframed
   now_is at now c = if c then met at now (decode s (drop 2 now)) else holds (record { at = at; bytes = now; fault = None })

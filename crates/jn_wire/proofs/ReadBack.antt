@@ -4,7 +4,7 @@ use Rattle.std.specs.Prelude.{not, nat_le, nat_eq, nat_lt}
 use Rattle.std.specs.List.{AllByRecursion}
 use Rattle.std.proofs.lemmas.Bool.Decides.{nat_tests}
 use Rattle.std.proofs.Math.Seq.{drop-append_seam, take-append_seam}
-use Rattle.byteorder.specs.Endian.{big_number, big_bytes}
+use Rattle.byteorder.specs.Endian.{big_bytes}
 use Rattle.byteorder.specs.Numbers.{length-bytes_high_first, big_number-reads_back}
 use Rattle.jn_base.specs.Limits.{most_blocks}
 use Rattle.jn_base.specs.Names.{refusal_number}
@@ -31,9 +31,9 @@ use Rattle.jn_msgs.specs.declared.message.Vote.TheVariants as votes
 use Rattle.jn_wire.specs.declared.frame.Body.{Body}
 use Rattle.jn_wire.specs.declared.frame.Body.TheVariants as bodies
 use Rattle.jn_wire.specs.declared.frame.Framed.{Framed}
-use Rattle.jn_wire.specs.Fields.{Reading, Got, Wrong, and_then, number, content, client, sender, request, operation, tid, tid_by, server_in, work, works, works_from, file, block, unit, unit_of, resource, out_of_range}
+use Rattle.jn_wire.specs.Fields.{Reading, Got, Wrong, and_then, byte, number, content, client, sender, request, operation, tid, named_by, work, works, works_from, file, block, unit, unit_of, resource, out_of_range}
 use Rattle.jn_wire.specs.Spelling.{u32, tid_bytes, work_bytes, works_bytes, unit_bytes, held_bytes, op_bytes, vote_bytes, carried_bytes, body_bytes, party_bytes, Is32, ClientIn, ServerIn, TidIn, WorkIn, WorksIn, UnitIn, HeldIn, OpIn, VoteIn, IsParty, MessageIn, BodyIn, IsSent}
-use Rattle.jn_wire.specs.Decoding.{decode, op, op_of, vote, client_body, server_body, any_body, party_of, is_server, body_by, closed, framed_by, is_taken, is_of_client, is_of_server}
+use Rattle.jn_wire.specs.Decoding.{decode, op, op_of, vote, vote_of, client_body, server_body, any_body, begin_by, open_by, op_by, end_by, abort_by, thanks_by, prepare_in, vote_in, names_in, party_of, is_server, body_by, closed, framed_by, is_taken, is_of_client, is_of_server}
 
 -- the next field is read behind one that was
 onward : {A B : Type 0} {r : Reading A} {a : A} {rest : List ℕ} (next : A → List ℕ → Reading B) → r ≡ Got a rest → and_then r next ≡ next a rest
@@ -57,6 +57,7 @@ long-enough : (n : ℕ) (xs ys : List ℕ) → length xs ≡ n → nat_lt (lengt
 long-enough n xs ys e = let more = length-append xs ys in grind (arith, more, e, nat_tests)
 
 pub number-back : (n x : ℕ) (rest : List ℕ) → x < 256 ^ n → number n (big_bytes n x ++ rest) ≡ Got x rest
+unfolding number
 number-back n x rest small = if-false _ _ _ (long-enough n (big_bytes n x) rest (length-bytes_high_first n x))
     ∙ ap (λ (k : ℕ). Got k (drop n (big_bytes n x ++ rest))) (big_number-reads_back n x rest small)
     ∙ ap (λ (bytes : List ℕ). Got x bytes) (drop-front n (big_bytes n x) rest (length-bytes_high_first n x))
@@ -65,6 +66,7 @@ pub u32-back : (x : ℕ) (rest : List ℕ) → Is32 x → number 4 (u32 x ++ res
 u32-back x rest small = number-back 4 x rest (omega (arith, small))
 
 pub content-back : (bytes rest : List ℕ) → length bytes ≡ 448 → content (bytes ++ rest) ≡ Got bytes rest
+unfolding content
 content-back bytes rest e = if-false _ _ _ (long-enough 448 bytes rest e)
     ∙ ap (λ (x : List ℕ). Got x (drop 448 (bytes ++ rest))) (take-front 448 bytes rest e)
     ∙ ap (λ (x : List ℕ). Got bytes x) (drop-front 448 bytes rest e)
@@ -72,12 +74,15 @@ content-back bytes rest e = if-false _ _ _ (long-enough 448 bytes rest e)
 -- ---- names
 
 pub request-back : (r : RequestNo) (rest : List ℕ) → Is32 r.0 → request (u32 r.0 ++ rest) ≡ Got r rest
+unfolding request
 request-back r rest small = onward (λ n bytes. Got (record { 0 = n }) bytes) (u32-back r.0 rest small)
 
 pub operation-back : (n : OperationNo) (rest : List ℕ) → Is32 n.0 → operation (u32 n.0 ++ rest) ≡ Got n rest
+unfolding operation
 operation-back r rest small = onward (λ n bytes. Got (record { 0 = n }) bytes) (u32-back r.0 rest small)
 
 pub file-back : (f : FileNo) (rest : List ℕ) → Is32 f.0 → file (u32 f.0 ++ rest) ≡ Got f rest
+unfolding file
 file-back f rest small = onward (λ n bytes. Got (record { 0 = n }) bytes) (u32-back f.0 rest small)
 
 client-fits : (c : ClientNo) → ClientIn c → (nat_le 1 c.0 && nat_le c.0 8) ≡ true
@@ -96,56 +101,51 @@ no-file : (p : ℕ) → p < most_blocks → nat_eq p 65535 ≡ false
 no-file p h = grind (arith, h, nat_tests)
 
 pub client-back : (c : ClientNo) (rest : List ℕ) → ClientIn c → client (c.0 ∷ rest) ≡ Got c rest
+unfolding client byte
 client-back c rest h = if-true _ _ _ (client-fits c h)
 
 pub sender-back : (c : ClientNo) (rest : List ℕ) → ClientIn c → sender c (c.0 ∷ rest) ≡ Got c rest
+unfolding sender
 sender-back c rest h = onward (λ d bytes. if nat_eq d.0 c.0 then Got d bytes else Wrong out_of_range) (client-back c rest h) ∙ if-true _ _ _ (equal c.0)
-
-server_in-back : (s : ServerNo) (rest : List ℕ) → ServerIn s → server_in (s.0 ∷ rest) ≡ Some s
-server_in-back s rest h = if-true _ _ _ (at-most s.0 7 h)
-
-abbrev both : ℕ → ℕ → List ℕ → List ℕ
-both a b rest = (u32 a ++ u32 b) ++ rest
 
 both-length : (a b : ℕ) → length (u32 a ++ u32 b) ≡ 8
 both-length a b = let one = length-append (u32 a) (u32 b) in let x = length-bytes_high_first 4 a in let y = length-bytes_high_first 4 b in omega (arith, one, x, y)
 
-first-back : (a b : ℕ) (rest : List ℕ) → Is32 a → big_number 4 (both a b rest) ≡ a
-first-back a b rest small = ap (big_number 4) (append_assoc (u32 a) (u32 b) rest) ∙ big_number-reads_back 4 a (u32 b ++ rest) (omega (arith, small))
-
-second-back : (a b : ℕ) (rest : List ℕ) → Is32 b → big_number 4 (drop 4 (both a b rest)) ≡ b
-second-back a b rest small = ap (λ (x : List ℕ). big_number 4 (drop 4 x)) (append_assoc (u32 a) (u32 b) rest)
-    ∙ ap (big_number 4) (drop-front 4 (u32 a) (u32 b ++ rest) (length-bytes_high_first 4 a)) ∙ big_number-reads_back 4 b rest (omega (arith, small))
-
 pub tid-back : (t : Tid) (rest : List ℕ) → TidIn t → tid (tid_bytes t ++ rest) ≡ Got t rest
+unfolding tid byte
 tid-back t rest h = if-false _ _ _ (long-enough 9 (tid_bytes t) rest (ap suc (both-length t.epoch t.ticket)))
-    ∙ ap (tid_by (tid_bytes t ++ rest)) (server_in-back t.server (both t.epoch t.ticket rest) h.server)
-    ∙ ap (λ (n : ℕ). Got (record { server = t.server; epoch = n; ticket = big_number 4 (drop 4 (both t.epoch t.ticket rest)) }) (drop 8 (both t.epoch t.ticket rest))) (first-back t.epoch t.ticket rest h.epoch)
-    ∙ ap (λ (n : ℕ). Got (record t { ticket = n }) (drop 8 (both t.epoch t.ticket rest))) (second-back t.epoch t.ticket rest h.ticket)
-    ∙ ap (λ (x : List ℕ). Got t x) (drop-front 8 (u32 t.epoch ++ u32 t.ticket) rest (both-length t.epoch t.ticket))
+    ∙ ap (λ (x : List ℕ). and_then (number 4 x) (λ e bytes. and_then (number 4 bytes) (named_by t.server.0 e))) (append_assoc (u32 t.epoch) (u32 t.ticket) rest)
+    ∙ onward (λ e bytes. and_then (number 4 bytes) (named_by t.server.0 e)) (u32-back t.epoch (u32 t.ticket ++ rest) h.epoch)
+    ∙ onward (named_by t.server.0 t.epoch) (u32-back t.ticket rest h.ticket)
+    ∙ if-true _ _ _ (at-most t.server.0 7 h.server)
 
 abbrev as_tid : WorkId → Tid
 as_tid w = record { server = w.server; epoch = w.epoch; ticket = w.ticket }
 
 pub work-back : (w : WorkId) (rest : List ℕ) → WorkIn w → work (work_bytes w ++ rest) ≡ Got w rest
+unfolding work
 work-back w rest h = onward (λ t bytes. Got (record { server = t.server; epoch = t.epoch; ticket = t.ticket }) bytes)
     (tid-back (as_tid w) rest (record { server = h.server; epoch = h.epoch; ticket = h.ticket }))
 
 works_from-back : (ws : List WorkId) (rest : List ℕ) → AllByRecursion WorkIn ws → works_from (length ws) (works_bytes ws ++ rest) ≡ Got ws rest
+unfolding works_from
 works_from-back [] rest h = refl
 works_from-back (w ∷ ws) rest h = ap (works_from (suc (length ws))) (append_assoc (work_bytes w) (works_bytes ws) rest)
     ∙ onward (λ v bytes. and_then (works_from (length ws) bytes) (λ vs bytes. Got (v ∷ vs) bytes)) (work-back w (works_bytes ws ++ rest) h.0)
     ∙ onward (λ vs bytes. Got (w ∷ vs) bytes) (works_from-back ws rest h.1)
 
 pub works-back : (ws : List WorkId) (rest : List ℕ) → WorksIn ws → works (length ws ∷ works_bytes ws ++ rest) ≡ Got ws rest
+unfolding works byte
 works-back ws rest h = if-true _ _ _ (at-most (length ws) 8 h.0) ∙ works_from-back ws rest h.1
 
 -- ---- units and what is in the messages
 
 pub block-back : (p : BlockNo) (rest : List ℕ) → p.0 < most_blocks → block (big_bytes 2 p.0 ++ rest) ≡ Got p rest
+unfolding block
 block-back p rest small = onward (λ n bytes. if nat_lt n most_blocks then Got (record { 0 = n }) bytes else Wrong out_of_range) (number-back 2 p.0 rest (omega (arith, small))) ∙ if-true _ _ _ (fits-below p.0 most_blocks small)
 
 pub unit-back : (u : LockUnit) (rest : List ℕ) → UnitIn u → unit (unit_bytes u ++ rest) ≡ Got u rest
+unfolding unit
 unit-back (units.File f) rest h = ap unit (append_assoc (u32 f.0) (big_bytes 2 65535) rest)
     ∙ onward (λ g bytes. and_then (number 2 bytes) (unit_of g)) (file-back f (big_bytes 2 65535 ++ rest) h) ∙ onward (unit_of f) (number-back 2 65535 rest (omega arith))
 unit-back (units.Block f p) rest h = let small = h.1 in ap unit (append_assoc (u32 f.0) (big_bytes 2 p.0) rest)
@@ -153,6 +153,7 @@ unit-back (units.Block f p) rest h = let small = h.1 in ap unit (append_assoc (u
     ∙ if-false _ _ _ (no-file p.0 small) ∙ if-true _ _ _ (fits-below p.0 most_blocks small)
 
 pub resource-back : (r : Resource) (rest : List ℕ) → resource (refusal_number r ∷ rest) ≡ Got r rest
+unfolding resource byte
 resource-back resources.Records rest = refl
 resource-back resources.Pages rest = refl
 resource-back resources.Heads rest = refl
@@ -162,6 +163,7 @@ last : {A : Type 0} (read : List ℕ → Reading A) (bytes : List ℕ) (a : A) �
 last read bytes a e = ap read (sym (append-nil bytes)) ∙ e
 
 op-back : (o : Op) (rest : List ℕ) → OpIn o → op (op_bytes o ++ rest) ≡ Got o rest
+unfolding op op_of byte
 op-back (ops.Create f) rest h = onward (λ g bytes. Got (ops.Create g) bytes) (file-back f rest h)
 op-back (ops.Remove f) rest h = onward (λ g bytes. Got (ops.Remove g) bytes) (file-back f rest h)
 op-back (ops.Cut f p) rest h = ap (op_of 3) (append_assoc (u32 f.0) (big_bytes 2 p.0) rest)
@@ -183,6 +185,7 @@ two-back make a b rest h k = ap (λ (x : List ℕ). and_then (number 4 x) (λ n 
     ∙ onward (λ n bytes. and_then (number 4 bytes) (λ m bytes. Got (make n m) bytes)) (u32-back a (u32 b ++ rest) h) ∙ onward (λ m bytes. Got (make a m) bytes) (u32-back b rest k)
 
 vote-back : (v : Vote) (rest : List ℕ) → VoteIn v → vote (vote_bytes v ++ rest) ≡ Got v rest
+unfolding vote vote_of byte
 vote-back votes.Ready rest h = refl
 vote-back (votes.Waiting u t) rest h = held-back votes.Waiting u t rest h
 vote-back (votes.Broken u t) rest h = held-back votes.Broken u t rest h
@@ -203,14 +206,17 @@ began : {A : Type 0} (next : ClientNo → RequestNo → List ℕ → Reading A) 
 began next c r rest h k = onward (λ d bytes. and_then (request bytes) (λ q bytes. next d q bytes)) (sender-back c (u32 r.0 ++ rest) h) ∙ onward (λ q bytes. next c q bytes) (request-back r rest k)
 
 begin-back : (c : ClientNo) (r : RequestNo) → ClientIn c → Is32 r.0 → client_body c 1 (c.0 ∷ u32 r.0) ≡ told (messages.Begin c r)
+unfolding client_body begin_by
 begin-back c r h k = ap (λ (x : List ℕ). client_body c 1 (c.0 ∷ x)) (sym (append-nil (u32 r.0))) ∙ began (λ d q bytes. Got (bodies.Message (messages.Begin d q)) bytes) c r [] h k
 
 open-back : (c : ClientNo) (r : RequestNo) (t : Tid) → ClientIn c → Is32 r.0 → TidIn t → client_body c 2 (c.0 ∷ u32 r.0 ++ tid_bytes t) ≡ told (messages.Open c r t)
+unfolding client_body open_by
 open-back c r t h k l = began (λ d q bytes. and_then (tid bytes) (λ x bytes. Got (bodies.Message (messages.Open d q x)) bytes)) c r (tid_bytes t) h k
     ∙ onward (λ x bytes. Got (bodies.Message (messages.Open c r x)) bytes) (last tid (tid_bytes t) t (tid-back t [] l))
 
 operate-back : (c : ClientNo) (r : RequestNo) (w : WorkId) (n : OperationNo) (o : Op) → ClientIn c → Is32 r.0 → WorkIn w → Is32 n.0 → OpIn o
     → client_body c 3 (c.0 ∷ u32 r.0 ++ work_bytes w ++ u32 n.0 ++ op_bytes o) ≡ told (messages.Op c r w n o)
+unfolding client_body op_by
 operate-back c r w n o h k l m i = began (λ d q bytes. and_then (work bytes) (λ x bytes. and_then (operation bytes) (λ y bytes. and_then (op bytes) (λ z bytes. Got (bodies.Message (messages.Op d q x y z)) bytes)))) c r (work_bytes w ++ u32 n.0 ++ op_bytes o) h k
     ∙ onward (λ x bytes. and_then (operation bytes) (λ y bytes. and_then (op bytes) (λ z bytes. Got (bodies.Message (messages.Op c r x y z)) bytes))) (work-back w (u32 n.0 ++ op_bytes o) l)
     ∙ onward (λ y bytes. and_then (op bytes) (λ z bytes. Got (bodies.Message (messages.Op c r w y z)) bytes)) (operation-back n (op_bytes o) m)
@@ -223,20 +229,24 @@ named make c r t ws h k l m = began (λ d q bytes. and_then (tid bytes) (λ x by
     ∙ onward (λ vs bytes. Got (make c r t vs) bytes) (last works (length ws ∷ works_bytes ws) ws (works-back ws [] m))
 
 thank-back : (c : ClientNo) (t : Tid) → ClientIn c → TidIn t → client_body c 6 (c.0 ∷ tid_bytes t) ≡ told (messages.Thanks c t)
+unfolding client_body thanks_by
 thank-back c t h l = onward (λ d bytes. and_then (tid bytes) (λ x bytes. Got (bodies.Message (messages.Thanks d x)) bytes)) (sender-back c (tid_bytes t) h)
     ∙ onward (λ x bytes. Got (bodies.Message (messages.Thanks c x)) bytes) (last tid (tid_bytes t) t (tid-back t [] l))
 
 prepare-back : (t : Tid) (c : ClientNo) (w : WorkId) → TidIn t → ClientIn c → WorkIn w → server_body 11 (tid_bytes t ++ c.0 ∷ work_bytes w) ≡ told (messages.Prepare t c w)
+unfolding server_body prepare_in
 prepare-back t c w h k l = onward (λ x bytes. and_then (client bytes) (λ d bytes. and_then (work bytes) (λ v bytes. Got (bodies.Message (messages.Prepare x d v)) bytes))) (tid-back t (c.0 ∷ work_bytes w) h)
     ∙ onward (λ d bytes. and_then (work bytes) (λ v bytes. Got (bodies.Message (messages.Prepare t d v)) bytes)) (client-back c (work_bytes w) k)
     ∙ onward (λ v bytes. Got (bodies.Message (messages.Prepare t c v)) bytes) (last work (work_bytes w) w (work-back w [] l))
 
 voted-back : (t : Tid) (w : WorkId) (v : Vote) → TidIn t → WorkIn w → VoteIn v → server_body 14 (tid_bytes t ++ work_bytes w ++ vote_bytes v) ≡ told (messages.Vote t w v)
+unfolding server_body vote_in
 voted-back t w v h k l = onward (λ x bytes. and_then (work bytes) (λ y bytes. and_then (vote bytes) (λ z bytes. Got (bodies.Message (messages.Vote x y z)) bytes))) (tid-back t (work_bytes w ++ vote_bytes v) h)
     ∙ onward (λ y bytes. and_then (vote bytes) (λ z bytes. Got (bodies.Message (messages.Vote t y z)) bytes)) (work-back w (vote_bytes v) k)
     ∙ onward (λ z bytes. Got (bodies.Message (messages.Vote t w z)) bytes) (last vote (vote_bytes v) v (vote-back v [] l))
 
 timeout-back : (t : Tid) → TidIn t → any_body 18 (tid_bytes t) ≡ Got (bodies.Timeout t) []
+unfolding any_body
 timeout-back t h = onward (λ x bytes. Got (bodies.Timeout x) bytes) (last tid (tid_bytes t) t (tid-back t [] h))
 
 -- ---- frames
@@ -253,6 +263,7 @@ party-server s h = if-true _ _ _ (at-most s.0 7 h)
 -- what is decided by the kind, then by the receiver, then by the sender
 by-parties : (s : ServerNo) (a b kind : ℕ) (fields : List ℕ) (from : Party) (body : Body) → is_taken kind ≡ true → ServerIn s → party_of a b ≡ Some from → body_by (Some from) kind fields ≡ Got body []
     → decode s (a ∷ b ∷ 2 ∷ s.0 ∷ kind ∷ fields) ≡ Ok (record { from = from; to = Server s; body = body })
+unfolding decode
 by-parties s a b kind fields from body taken here sent e = if-false _ _ _ (ap not taken)
     ∙ if-false _ _ _ (ap (λ (x : Option Party). not (is_server s x)) (party-server s here) ∙ ap not (equal s.0))
     ∙ ap (λ (x : Option Party). framed_by s x (body_by x kind fields)) sent ∙ ap (closed from (Server s)) e
@@ -270,6 +281,7 @@ as-client : (s : ServerNo) (from : Party) (c : ClientNo) (m : Message) → from 
 as-client s from c m e back = subst (λ (x : Party). IsBack s x (bodies.Message m)) (sym e) back
 
 message-back : (s : ServerNo) (from : Party) (m : Message) → ServerIn s → MessageIn from m → IsBack s from (bodies.Message m)
+unfolding client_body server_body end_by abort_by names_in
 message-back s from (messages.Begin c r) here h = as-client s from c (messages.Begin c r) h.0.0 (of-client s c 1 (c.0 ∷ u32 r.0) (messages.Begin c r) refl refl here h.0.1 (begin-back c r h.0.1 h.1))
 message-back s from (messages.Open c r t) here h = as-client s from c (messages.Open c r t) h.0.0 (of-client s c 2 (c.0 ∷ u32 r.0 ++ tid_bytes t) (messages.Open c r t) refl refl here h.0.1 (open-back c r t h.0.1 h.1 h.2))
 message-back s from (messages.Op c r w n o) here h = as-client s from c (messages.Op c r w n o) h.0.0 (of-client s c 3 (c.0 ∷ u32 r.0 ++ work_bytes w ++ u32 n.0 ++ op_bytes o) (messages.Op c r w n o) refl refl here h.0.1 (operate-back c r w n o h.0.1 h.1 h.2 h.3 h.4))
@@ -299,6 +311,7 @@ party-back s (Client c) kind fields body taken one two here it e = by-parties s 
 party-back s (Server q) kind fields body taken one two here it e = by-parties s 2 q.0 kind fields (Server q) body taken here (party-server q it) (if-false _ _ _ two ∙ if-false _ _ _ one ∙ e)
 
 told-back : (s : ServerNo) (from : Party) (body : Body) → ServerIn s → BodyIn from body → IsBack s from body
+unfolding any_body
 told-back s from (bodies.Message m) here h = message-back s from m here h
 told-back s from bodies.Nudge here h = party-back s from 17 [] bodies.Nudge refl refl refl here h refl
 told-back s from (bodies.Timeout t) here h = party-back s from 18 (tid_bytes t) (bodies.Timeout t) refl refl refl here h.0 (timeout-back t h.1)

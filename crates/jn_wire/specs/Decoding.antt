@@ -4,9 +4,12 @@ use Rattle.jn_base.specs.Names.{server_eq}
 use Rattle.jn_base.specs.declared.names.ServerNo.{ServerNo}
 use Rattle.jn_base.specs.declared.names.ClientNo.{ClientNo}
 use Rattle.jn_base.specs.declared.names.Party.{Party}
+use Rattle.jn_base.specs.declared.names.Tid.{Tid}
+use Rattle.jn_base.specs.declared.names.WorkId.{WorkId}
 use Rattle.jn_base.specs.declared.names.Party.TheVariants.{Client, Server}
 use Rattle.jn_base.specs.declared.op.Op.{Op}
 use Rattle.jn_base.specs.declared.op.Op.TheVariants as ops
+use Rattle.jn_msgs.specs.declared.message.Message.{Message}
 use Rattle.jn_msgs.specs.declared.message.Message.TheVariants as messages
 use Rattle.jn_msgs.specs.declared.message.Vote.{Vote}
 use Rattle.jn_msgs.specs.declared.message.Vote.TheVariants as votes
@@ -18,7 +21,7 @@ use Rattle.jn_wire.specs.Fields.{Reading, Got, Wrong, and_then, wrong_length, wr
 -- ---- operations and votes
 
 -- an operation of this code
-abbrev pub op_of : ℕ → List ℕ → Reading Op
+unfoldable pub op_of : ℕ → List ℕ → Reading Op
 op_of code bytes =
     if nat_eq code 1 then and_then (file bytes) (λ f rest. Got (ops.Create f) rest) else (
     if nat_eq code 2 then and_then (file bytes) (λ f rest. Got (ops.Remove f) rest) else (
@@ -27,10 +30,10 @@ op_of code bytes =
     if nat_eq code 5 then and_then (file bytes) (λ f rest. and_then (block rest) (λ p rest. and_then (content rest) (λ b rest. Got (ops.Write f p b) rest))) else (
     Wrong out_of_range)))))
 
-abbrev pub op : List ℕ → Reading Op
+unfoldable pub op : List ℕ → Reading Op
 op bytes = and_then (byte bytes) op_of
 
-abbrev pub vote_of : ℕ → List ℕ → Reading Vote
+unfoldable pub vote_of : ℕ → List ℕ → Reading Vote
 vote_of code bytes =
     if nat_eq code 0 then Got votes.Ready bytes else (
     if nat_eq code 1 then and_then (unit bytes) (λ u rest. and_then (tid rest) (λ t rest. Got (votes.Waiting u t) rest)) else (
@@ -39,35 +42,64 @@ vote_of code bytes =
     if nat_eq code 4 then and_then (resource bytes) (λ r rest. and_then (number 4 rest) (λ n rest. and_then (number 4 rest) (λ m rest. Got (votes.Full r n m) rest))) else (
     Wrong out_of_range)))))
 
-abbrev pub vote : List ℕ → Reading Vote
+unfoldable pub vote : List ℕ → Reading Vote
 vote bytes = and_then (byte bytes) vote_of
 
 -- ---- messages
 
+-- the fields of each kind of message, those of a client's from its sender on
+unfoldable pub begin_by : ClientNo → List ℕ → Reading Body
+begin_by c bytes = and_then (sender c bytes) (λ c rest. and_then (request rest) (λ r rest. Got (bodies.Message (messages.Begin c r)) rest))
+
+unfoldable pub open_by : ClientNo → List ℕ → Reading Body
+open_by c bytes = and_then (sender c bytes) (λ c rest. and_then (request rest) (λ r rest. and_then (tid rest) (λ t rest. Got (bodies.Message (messages.Open c r t)) rest)))
+
+unfoldable pub op_by : ClientNo → List ℕ → Reading Body
+op_by c bytes = and_then (sender c bytes) (λ c rest. and_then (request rest) (λ r rest. and_then (work rest) (λ w rest. and_then (operation rest) (λ n rest. and_then (op rest) (λ o rest. Got (bodies.Message (messages.Op c r w n o)) rest)))))
+
+unfoldable pub end_by : ClientNo → List ℕ → Reading Body
+end_by c bytes = and_then (sender c bytes) (λ c rest. and_then (request rest) (λ r rest. and_then (tid rest) (λ t rest. and_then (works rest) (λ ws rest. Got (bodies.Message (messages.End c r t ws)) rest))))
+
+unfoldable pub abort_by : ClientNo → List ℕ → Reading Body
+abort_by c bytes = and_then (sender c bytes) (λ c rest. and_then (request rest) (λ r rest. and_then (tid rest) (λ t rest. and_then (works rest) (λ ws rest. Got (bodies.Message (messages.Abort c r t ws)) rest))))
+
+unfoldable pub thanks_by : ClientNo → List ℕ → Reading Body
+thanks_by c bytes = and_then (sender c bytes) (λ c rest. and_then (tid rest) (λ t rest. Got (bodies.Message (messages.Thanks c t)) rest))
+
+unfoldable pub prepare_in : List ℕ → Reading Body
+prepare_in bytes = and_then (tid bytes) (λ t rest. and_then (client rest) (λ c rest. and_then (work rest) (λ w rest. Got (bodies.Message (messages.Prepare t c w)) rest)))
+
+unfoldable pub vote_in : List ℕ → Reading Body
+vote_in bytes = and_then (tid bytes) (λ t rest. and_then (work rest) (λ w rest. and_then (vote rest) (λ v rest. Got (bodies.Message (messages.Vote t w v)) rest)))
+
+-- a transaction and its work
+unfoldable pub names_in : (Tid → WorkId → Message) → List ℕ → Reading Body
+names_in make bytes = and_then (tid bytes) (λ t rest. and_then (work rest) (λ w rest. Got (bodies.Message (make t w)) rest))
+
 -- the fields of a message that this client sends, by its kind
-abbrev pub client_body : ClientNo → ℕ → List ℕ → Reading Body
+unfoldable pub client_body : ClientNo → ℕ → List ℕ → Reading Body
 client_body c kind bytes =
-    if nat_eq kind 1 then and_then (sender c bytes) (λ c rest. and_then (request rest) (λ r rest. Got (bodies.Message (messages.Begin c r)) rest)) else (
-    if nat_eq kind 2 then and_then (sender c bytes) (λ c rest. and_then (request rest) (λ r rest. and_then (tid rest) (λ t rest. Got (bodies.Message (messages.Open c r t)) rest))) else (
-    if nat_eq kind 3 then and_then (sender c bytes) (λ c rest. and_then (request rest) (λ r rest. and_then (work rest) (λ w rest. and_then (operation rest) (λ n rest. and_then (op rest) (λ o rest. Got (bodies.Message (messages.Op c r w n o)) rest))))) else (
-    if nat_eq kind 4 then and_then (sender c bytes) (λ c rest. and_then (request rest) (λ r rest. and_then (tid rest) (λ t rest. and_then (works rest) (λ ws rest. Got (bodies.Message (messages.End c r t ws)) rest)))) else (
-    if nat_eq kind 5 then and_then (sender c bytes) (λ c rest. and_then (request rest) (λ r rest. and_then (tid rest) (λ t rest. and_then (works rest) (λ ws rest. Got (bodies.Message (messages.Abort c r t ws)) rest)))) else (
-    if nat_eq kind 6 then and_then (sender c bytes) (λ c rest. and_then (tid rest) (λ t rest. Got (bodies.Message (messages.Thanks c t)) rest)) else (
+    if nat_eq kind 1 then begin_by c bytes else (
+    if nat_eq kind 2 then open_by c bytes else (
+    if nat_eq kind 3 then op_by c bytes else (
+    if nat_eq kind 4 then end_by c bytes else (
+    if nat_eq kind 5 then abort_by c bytes else (
+    if nat_eq kind 6 then thanks_by c bytes else (
     Wrong wrong_kind))))))
 
 -- the fields of a message that a server sends
-abbrev pub server_body : ℕ → List ℕ → Reading Body
+unfoldable pub server_body : ℕ → List ℕ → Reading Body
 server_body kind bytes =
-    if nat_eq kind 11 then and_then (tid bytes) (λ t rest. and_then (client rest) (λ c rest. and_then (work rest) (λ w rest. Got (bodies.Message (messages.Prepare t c w)) rest))) else (
-    if nat_eq kind 12 then and_then (tid bytes) (λ t rest. and_then (work rest) (λ w rest. Got (bodies.Message (messages.Commit t w)) rest)) else (
-    if nat_eq kind 13 then and_then (tid bytes) (λ t rest. and_then (work rest) (λ w rest. Got (bodies.Message (messages.Drop t w)) rest)) else (
-    if nat_eq kind 14 then and_then (tid bytes) (λ t rest. and_then (work rest) (λ w rest. and_then (vote rest) (λ v rest. Got (bodies.Message (messages.Vote t w v)) rest))) else (
-    if nat_eq kind 15 then and_then (tid bytes) (λ t rest. and_then (work rest) (λ w rest. Got (bodies.Message (messages.Done t w)) rest)) else (
-    if nat_eq kind 16 then and_then (tid bytes) (λ t rest. and_then (work rest) (λ w rest. Got (bodies.Message (messages.Inquire t w)) rest)) else (
+    if nat_eq kind 11 then prepare_in bytes else (
+    if nat_eq kind 12 then names_in messages.Commit bytes else (
+    if nat_eq kind 13 then names_in messages.Drop bytes else (
+    if nat_eq kind 14 then vote_in bytes else (
+    if nat_eq kind 15 then names_in messages.Done bytes else (
+    if nat_eq kind 16 then names_in messages.Inquire bytes else (
     Wrong wrong_kind))))))
 
 -- what anyone may send
-abbrev pub any_body : ℕ → List ℕ → Reading Body
+unfoldable pub any_body : ℕ → List ℕ → Reading Body
 any_body kind bytes =
     if nat_eq kind 17 then Got bodies.Nudge bytes else (
     if nat_eq kind 18 then and_then (tid bytes) (λ t rest. Got (bodies.Timeout t) rest) else (
@@ -114,7 +146,7 @@ framed_by s None body = Err wrong_party
 framed_by s (Some from) body = closed from (Server s) body
 
 -- What follows a frame's length: two parties, the kind, and the fields. The kind is tested first, then the parties.
-abbrev pub decode : ServerNo → List ℕ → Result Framed ℕ
+unfoldable pub decode : ServerNo → List ℕ → Result Framed ℕ
 decode s (a ∷ b ∷ c ∷ d ∷ kind ∷ fields) =
     if not (is_taken kind) then Err wrong_kind
     else (if not (is_server s (party_of c d)) then Err wrong_party

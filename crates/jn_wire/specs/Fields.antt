@@ -1,8 +1,7 @@
 -- The fields of a frame, read from left to right: what a field says and the bytes behind it, or the number of its fault.
-use Rattle.std.specs.Prelude.{ℕ, zero, suc, ◌&&◌, nat_eq, nat_lt, nat_le, if◌then◌else◌, List, [], ◌∷◌, length, take, drop, Option, Some, None}
+use Rattle.std.specs.Prelude.{ℕ, zero, suc, ◌&&◌, nat_eq, nat_lt, nat_le, if◌then◌else◌, List, [], ◌∷◌, length, take, drop, ◌≡◌, ⊤, Result, Ok, Err}
 use Rattle.byteorder.specs.Endian.{big_number}
 use Rattle.jn_base.specs.Limits.{most_blocks}
-use Rattle.jn_base.specs.declared.names.ServerNo.{ServerNo}
 use Rattle.jn_base.specs.declared.names.ClientNo.{ClientNo}
 use Rattle.jn_base.specs.declared.names.FileNo.{FileNo}
 use Rattle.jn_base.specs.declared.names.BlockNo.{BlockNo}
@@ -14,6 +13,8 @@ use Rattle.jn_base.specs.declared.names.LockUnit.{LockUnit}
 use Rattle.jn_base.specs.declared.names.LockUnit.TheVariants as units
 use Rattle.jn_base.specs.declared.names.Resource.{Resource}
 use Rattle.jn_base.specs.declared.names.Resource.TheVariants as resources
+use Rattle.jn_wire.specs.declared.fields.ReadFault.{ReadFault}
+use Rattle.jn_wire.specs.declared.fields.ReadFault.TheVariants as faults
 
 pub data Reading (A : Type 0) : Type 0 where
   Got : A → List ℕ → Reading A
@@ -23,6 +24,12 @@ pub data Reading (A : Type 0) : Type 0 where
 abbrev pub and_then : {A B : Type 0} → Reading A → (A → List ℕ → Reading B) → Reading B
 and_then (Got a rest) next = next a rest
 and_then (Wrong n) next = Wrong n
+
+-- What a function returned, seen by view, is what reading gives. Want of memory says nothing.
+abbrev pub Gives : {X A : Type 0} → (X → A × List ℕ) → Result X ReadFault → Reading A → Type 0
+Gives view (Ok x) read = read ≡ Got (view x).0 (view x).1
+Gives view (Err (faults.Wrong n)) read = read ≡ Wrong n
+Gives view (Err faults.Memory) read = ⊤
 
 -- ---- the numbers of faults
 
@@ -41,65 +48,61 @@ out_of_range = 5
 
 -- ---- plain fields
 
-abbrev pub byte : List ℕ → Reading ℕ
+unfoldable pub byte : List ℕ → Reading ℕ
 byte [] = Wrong wrong_length
 byte (b ∷ bytes) = Got b bytes
 
 -- a number of so many bytes, the highest first
-abbrev pub number : ℕ → List ℕ → Reading ℕ
+unfoldable pub number : ℕ → List ℕ → Reading ℕ
 number n bytes = if nat_lt (length bytes) n then Wrong wrong_length else Got (big_number n bytes) (drop n bytes)
 
 -- the 448 bytes of a block
-abbrev pub content : List ℕ → Reading (List ℕ)
+unfoldable pub content : List ℕ → Reading (List ℕ)
 content bytes = if nat_lt (length bytes) 448 then Wrong wrong_length else Got (take 448 bytes) (drop 448 bytes)
 
 -- ---- what is named
 
 -- 1 to 8
-abbrev pub client : List ℕ → Reading ClientNo
+unfoldable pub client : List ℕ → Reading ClientNo
 client bytes = and_then (byte bytes) (λ n rest. if nat_le 1 n && nat_le n 8 then Got (record { 0 = n }) rest else Wrong out_of_range)
 
 -- a client's messages name their sender
-abbrev pub sender : ClientNo → List ℕ → Reading ClientNo
+unfoldable pub sender : ClientNo → List ℕ → Reading ClientNo
 sender c bytes = and_then (client bytes) (λ d rest. if nat_eq d.0 c.0 then Got d rest else Wrong out_of_range)
 
-abbrev pub request : List ℕ → Reading RequestNo
+unfoldable pub request : List ℕ → Reading RequestNo
 request bytes = and_then (number 4 bytes) (λ n rest. Got (record { 0 = n }) rest)
 
-abbrev pub operation : List ℕ → Reading OperationNo
+unfoldable pub operation : List ℕ → Reading OperationNo
 operation bytes = and_then (number 4 bytes) (λ n rest. Got (record { 0 = n }) rest)
 
--- a name is one field of 9 bytes
-abbrev pub server_in : List ℕ → Option ServerNo
-server_in [] = None
-server_in (b ∷ bytes) = if nat_le b 7 then Some (record { 0 = b }) else None
+-- a name is one field of 9 bytes, whose first one is a server
+abbrev pub named_by : ℕ → ℕ → ℕ → List ℕ → Reading Tid
+named_by s epoch ticket rest = if nat_le s 7 then Got (record { server = record { 0 = s }; epoch = epoch; ticket = ticket }) rest else Wrong out_of_range
 
-abbrev pub tid_by : List ℕ → Option ServerNo → Reading Tid
-tid_by bytes None = Wrong out_of_range
-tid_by bytes (Some s) = Got (record { server = s; epoch = big_number 4 (drop 1 bytes); ticket = big_number 4 (drop 5 bytes) }) (drop 9 bytes)
-
-abbrev pub tid : List ℕ → Reading Tid
-tid bytes = if nat_lt (length bytes) 9 then Wrong wrong_length else tid_by bytes (server_in bytes)
+unfoldable pub tid : List ℕ → Reading Tid
+tid bytes = if nat_lt (length bytes) 9 then Wrong wrong_length
+    else and_then (byte bytes) (λ s rest. and_then (number 4 rest) (λ epoch rest. and_then (number 4 rest) (named_by s epoch)))
 
 abbrev pub as_work : Tid → WorkId
 as_work t = record { server = t.server; epoch = t.epoch; ticket = t.ticket }
 
-abbrev pub work : List ℕ → Reading WorkId
+unfoldable pub work : List ℕ → Reading WorkId
 work bytes = and_then (tid bytes) (λ t rest. Got (as_work t) rest)
 
 -- so many names
-abbrev pub works_from : ℕ → List ℕ → Reading (List WorkId)
+unfoldable pub works_from : ℕ → List ℕ → Reading (List WorkId)
 works_from zero bytes = Got [] bytes
 works_from (suc n) bytes = and_then (work bytes) (λ w rest. and_then (works_from n rest) (λ ws rest. Got (w ∷ ws) rest))
 
 -- at most 8, behind their count
-abbrev pub works : List ℕ → Reading (List WorkId)
+unfoldable pub works : List ℕ → Reading (List WorkId)
 works bytes = and_then (byte bytes) (λ n rest. if nat_le n 8 then works_from n rest else Wrong out_of_range)
 
-abbrev pub file : List ℕ → Reading FileNo
+unfoldable pub file : List ℕ → Reading FileNo
 file bytes = and_then (number 4 bytes) (λ n rest. Got (record { 0 = n }) rest)
 
-abbrev pub block : List ℕ → Reading BlockNo
+unfoldable pub block : List ℕ → Reading BlockNo
 block bytes = and_then (number 2 bytes) (λ p rest. if nat_lt p most_blocks then Got (record { 0 = p }) rest else Wrong out_of_range)
 
 -- 0xFFFF in the place of a block is the file itself
@@ -107,7 +110,7 @@ abbrev pub unit_of : FileNo → ℕ → List ℕ → Reading LockUnit
 unit_of f p rest = if nat_eq p 65535 then Got (units.File f) rest
     else (if nat_lt p most_blocks then Got (units.Block f (record { 0 = p })) rest else Wrong out_of_range)
 
-abbrev pub unit : List ℕ → Reading LockUnit
+unfoldable pub unit : List ℕ → Reading LockUnit
 unit bytes = and_then (file bytes) (λ f rest. and_then (number 2 rest) (unit_of f))
 
 abbrev pub resource_of : ℕ → List ℕ → Reading Resource
@@ -116,5 +119,5 @@ resource_of n rest = if nat_eq n 31 then Got resources.Records rest
     else (if nat_eq n 33 then Got resources.Heads rest
     else Wrong out_of_range))
 
-abbrev pub resource : List ℕ → Reading Resource
+unfoldable pub resource : List ℕ → Reading Resource
 resource bytes = and_then (byte bytes) resource_of

@@ -4,3 +4,6 @@ pub mod Spelling
 pub mod Sizes
 pub mod Decoding
 pub mod Unframing
+pub mod Reading
+pub mod Stream
+pub mod Examples

@@ -139,6 +139,15 @@ body_bytes f = party_bytes f.from ++ (party_bytes f.to ++ carried_bytes f.body)
 unfoldable pub frame_bytes : Framed → List ℕ
 frame_bytes f = big_bytes 2 (length (body_bytes f)) ++ body_bytes f
 
+-- frames one behind another
+abbrev pub stream_bytes : List Framed → List ℕ
+stream_bytes [] = []
+stream_bytes (f ∷ fs) = frame_bytes f ++ stream_bytes fs
+
+-- each is a byte
+abbrev pub AreBytes : List ℕ → Type 0
+AreBytes bytes = AllByRecursion (λ b. b < 256) bytes
+
 -- ---- what may be sent to a server, and is read back
 
 abbrev pub Is32 : ℕ → Type 0

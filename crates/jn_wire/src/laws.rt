@@ -1,15 +1,28 @@
 //! What holds of frames.
 
-ghost use Rattle.std.specs.Prelude.{◌≡◌, List, ℕ, ◌++◌, Ok};
+ghost use Rattle.std.specs.Prelude.{◌≡◌, ◌+◌, List, ℕ, ◌++◌, Ok, true, drop, length};
+ghost use Rattle.std.specs.List.{AllByRecursion};
 ghost use Rattle.jn_base.specs.declared.names.ServerNo.{ServerNo};
 ghost use Rattle.jn_wire.specs.declared.frame.Framed.{Framed};
-ghost use Rattle.jn_wire.specs.Spelling.{body_bytes, IsSent};
+ghost use Rattle.jn_wire.specs.Spelling.{body_bytes, frame_bytes, stream_bytes, AreBytes, IsSent};
 ghost use Rattle.jn_wire.specs.Decoding.{decode};
-ghost use Rattle.jn_wire.specs.Unframing.{Held, unframed, IsUnframed, nothing_held, joined};
+ghost use Rattle.jn_wire.specs.Unframing.{Held, unframed, IsUnframed, is_whole, nothing_held, joined};
 
 /// A frame is read back from the bytes that it is written as.
 pub fn frames_are_read_back()
     ensures { (s : ServerNo) (f : Framed) → IsSent s f → decode s (body_bytes f) ≡ Ok f }
+{}
+
+/// Frames that are written one behind another are read back from a stream of them, and nothing is held then.
+pub fn streams_are_read_back()
+    ensures { (s : ServerNo) (at : ℕ) (fs : List Framed) → AllByRecursion (IsSent s) fs
+        → unframed s (nothing_held at) (stream_bytes fs) ≡ record { held = nothing_held (at + length (stream_bytes fs)); frames = fs } }
+{}
+
+/// No other bytes are read as a frame: what a whole one gives is what the server may be sent, and is written as these bytes.
+pub fn no_other_bytes_are_read()
+    ensures { (s : ServerNo) (frame : List ℕ) (f : Framed) → AreBytes frame → is_whole frame ≡ true → decode s (drop 2 frame) ≡ Ok f
+        → (frame ≡ frame_bytes f) × IsSent s f }
 {}
 
 /// Bytes that are fed in two pieces give what they give in one.

@@ -1,0 +1,10 @@
+pub mod Sized
+pub mod Ranges
+pub mod Laid
+pub mod Takes
+pub mod ComesTo
+pub mod ReadingAll
+pub mod Puts
+pub mod Putting
+pub mod Exchanging
+pub mod After

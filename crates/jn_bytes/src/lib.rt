@@ -1,0 +1,22 @@
+//! Bytes at places of a file: a read or a write of them is a call, which takes operations on blocks one after another.
+#![tactic(auto)]
+
+mod answering;
+mod block;
+mod byte_call;
+mod byte_string;
+mod call;
+mod few_bytes;
+mod laws;
+mod limits;
+mod next;
+mod ops;
+mod reading;
+mod stage;
+mod writing;
+
+pub use byte_call::ByteCall;
+pub use byte_string::ByteString;
+pub use laws::{a_read_is_of_its_bytes, a_write_is_of_its_bytes, an_exchange_is_its_call};
+pub use limits::{MOST_BYTES, MOST_WRITTEN};
+pub use next::{ByteRefusal, Next};

@@ -1,0 +1,12 @@
+mod Common
+mod Sets
+mod Splits
+mod Outcomes
+mod Faults
+mod Causes
+mod Following
+mod Order
+mod Shows
+mod Kept
+mod Example
+mod Faultless

@@ -1,0 +1,4 @@
+pub mod Rules
+pub mod FileRules
+pub mod Faults
+pub mod Example

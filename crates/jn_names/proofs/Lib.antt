@@ -1,0 +1,13 @@
+pub mod Tests
+pub mod Bytes
+pub mod Places
+pub mod Checking
+pub mod Changing
+pub mod ReadBack
+pub mod Slots
+pub mod Sorting
+pub mod Listing
+pub mod Fitting
+pub mod Exchanging
+pub mod Directories
+pub mod MapLaws

@@ -1,0 +1,111 @@
+-- A call takes operations one after another: what it asks next, by the answers so far.
+use Rattle.std.specs.Prelude.{◌≡◌, ◌<◌, ⊤, ℕ, ◌+◌, ◌++◌, nat_lt, List, [], ◌∷◌, map, Option, Some, None, Result, Ok, Err, if◌then◌else◌}
+use Rattle.jn_base.specs.declared.names.FileNo.{FileNo}
+use Rattle.jn_base.specs.declared.op.Op.{Op}
+use Rattle.jn_base.specs.declared.op.Op.TheVariants.{Read, Write}
+use Rattle.jn_base.specs.declared.op.Answer.{Answer}
+use Rattle.jn_base.specs.declared.op.Answer.TheVariants as answers
+use Rattle.jn_order.specs.Files.{Files, answer_to, files_after, zeros}
+use Rattle.jn_order.specs.Changes.{files_then}
+use Rattle.jn_names.specs.declared.entry.Entry.{Entry}
+use Rattle.jn_names.specs.declared.next.NameCommand.{NameCommand}
+use Rattle.jn_names.specs.declared.next.NameCommand.TheVariants as calls
+use Rattle.jn_names.specs.declared.next.NameNext.{NameNext}
+use Rattle.jn_names.specs.declared.next.NameNext.TheVariants.{Send, Did, Names, Refused}
+use Rattle.jn_names.specs.declared.next.NameRefusal.TheVariants.{Operation, NotDirectory}
+use Rattle.jn_names.specs.declared.turn.Stage.{Stage}
+use Rattle.jn_names.specs.declared.turn.Stage.TheVariants as stages
+use Rattle.jn_names.specs.declared.turn.Turn.{Turn}
+use Rattle.jn_names.specs.declared.turn.Turn.TheVariants.{Sends, Over}
+use Rattle.jn_names.specs.Names.{buckets, bucket_of}
+use Rattle.jn_names.specs.Buckets.{Slot, bucket_in, bucket_bytes}
+use Rattle.jn_names.specs.Calls.{directory_of, name_of, made_at, entries_of, ascending}
+
+abbrev pub read_bucket : FileNo → ℕ → Op
+read_bucket d k = Read d (record { 0 = k })
+
+-- the next bucket is read, or there is none
+abbrev pub ask_each : FileNo → ℕ → List Entry → Turn
+ask_each d k es = if nat_lt k buckets then Sends (read_bucket d k) (stages.Each k es) else Over (Names (ascending es))
+
+abbrev pub first_turn : NameCommand → Turn
+first_turn (calls.Names d) = ask_each d 0 []
+first_turn command = Sends (read_bucket (directory_of command) (bucket_of (name_of command))) stages.Bucket
+
+abbrev pub write_made : NameCommand → Result (List Slot) NameNext → Turn
+write_made command (Ok slots) = Sends (Write (directory_of command) (record { 0 = bucket_of (name_of command) }) (bucket_bytes slots)) stages.Write
+write_made command (Err reply) = Over reply
+
+abbrev pub add_each : FileNo → ℕ → List Entry → Option (List Slot) → Turn
+add_each d k es None = Over (Refused NotDirectory)
+add_each d k es (Some slots) = ask_each d (k + 1) (es ++ entries_of slots)
+
+-- by the block that was read
+abbrev pub go_on : NameCommand → Stage → List ℕ → Turn
+go_on command stages.Bucket block = write_made command (made_at command (bucket_in (bucket_of (name_of command)) block))
+go_on command (stages.Each k es) block = add_each (directory_of command) k es (bucket_in k block)
+go_on command stages.Write block = Over Did
+
+-- an answer that isn't one to what was asked counts as a block of zeros
+abbrev pub turn : NameCommand → Stage → Answer → Turn
+turn command stage answers.Did = go_on command stage zeros
+turn command stage (answers.Read block) = go_on command stage block
+turn command stage refusal = Over (Refused (Operation refusal))
+
+-- ---- a call and what it waits for
+
+-- a bucket that is read is one of a directory's
+abbrev pub StageFits : Stage → Type 0
+StageFits (stages.Each k es) = k < buckets
+StageFits stage = ⊤
+
+abbrev pub TurnFits : Turn → Type 0
+TurnFits (Sends op stage) = StageFits stage
+TurnFits (Over reply) = ⊤
+
+abbrev pub WaitsFits : Option Stage → Type 0
+WaitsFits None = ⊤
+WaitsFits (Some stage) = StageFits stage
+
+-- `waits` is none before the first turn and after the last
+pub record Calling : Type 0 where
+  pub command : NameCommand
+  pub waits : Option Stage
+
+abbrev pub begun : NameCommand → Calling
+begun command = record { command = command; waits = None }
+
+abbrev pub turn_of : NameCommand → Option Stage → Option Answer → Turn
+turn_of command (Some stage) (Some answer) = turn command stage answer
+turn_of command _ _ = first_turn command
+
+-- what is given out in a turn, and what the call then waits for
+abbrev pub given : Turn → NameNext × Option Stage
+given (Sends op stage) = (Send op, Some stage)
+given (Over reply) = (reply, None)
+
+-- ---- a whole call
+
+-- an operation with its answer
+pub record Served : Type 0 where
+  pub op : Op
+  pub answer : Answer
+
+-- these files give these answers, one operation after another
+abbrev pub AreServed : Files → List Served → Type 0
+AreServed files [] = ⊤
+AreServed files (s ∷ more) = (answer_to s.op files ≡ s.answer) × AreServed (files_after s.op files) more
+
+abbrev pub ops_of : List Served → List Op
+ops_of [] = []
+ops_of (s ∷ more) = s.op ∷ ops_of more
+
+-- from this turn on the call asks these operations, is answered so, and is over with this reply
+abbrev pub GoesOn : NameCommand → Turn → List Served → NameNext → Type 0
+GoesOn command (Over last) [] reply = last ≡ reply
+GoesOn command (Over last) (s ∷ more) reply = ⊥
+GoesOn command (Sends op stage) [] reply = ⊥
+GoesOn command (Sends op stage) (s ∷ more) reply = (s.op ≡ op) × GoesOn command (turn command stage s.answer) more reply
+
+abbrev pub IsExchange : NameCommand → List Served → NameNext → Type 0
+IsExchange command served reply = GoesOn command (first_turn command) served reply

@@ -1,0 +1,85 @@
+//! A call on a directory.
+ghost use Rattle.std.specs.Prelude.{◌≡◌, true, None, option_map, IfOk, OnErr};
+ghost use Rattle.jn_names.specs.declared.next.NameCommand.TheVariants as commands;
+ghost use Rattle.jn_names.specs.Names.{is_name};
+ghost use Rattle.jn_names.specs.Turns.{begun, turn_of, given};
+
+use crate::name::Name;
+use crate::next::{NameCommand, NameNext};
+use crate::turn::{Stage, given, turn_of};
+use jn_base::{Answer, FileNo};
+use std::alloc::{AllocError, Global};
+use std::marker::Model;
+
+/// A call on a directory, and which answer it waits for.
+#[derive(Drop)]
+pub struct NameCall {
+    command: NameCommand,
+    waits: Option<Stage>,
+}
+
+impl Model for NameCall {
+    ghost use Rattle.jn_names.specs.Turns.{Calling, WaitsFits};
+
+    ghost Value = { Calling };
+
+    ghost view = { λ c. record { command = c.command; waits = c.waits } };
+
+    ghost invariant = { λ c. WaitsFits c.waits };
+}
+
+impl NameCall {
+    /// Gives a name its file, whatever it had.
+    pub fn bind(directory: FileNo, name: &[u8], file: FileNo) -> NameCall
+        requires { is_name name.now ≡ true }
+        ensures { result ≡ begun (commands.Bind directory name.now file) }
+    {
+        NameCall::of(NameCommand::Bind(directory, Name::new(name), file))
+    }
+
+    /// Takes a name away.
+    pub fn unbind(directory: FileNo, name: &[u8]) -> NameCall
+        requires { is_name name.now ≡ true }
+        ensures { result ≡ begun (commands.Unbind directory name.now) }
+    {
+        NameCall::of(NameCommand::Unbind(directory, Name::new(name)))
+    }
+
+    /// Asks for the file of a name.
+    pub fn find(directory: FileNo, name: &[u8]) -> NameCall
+        requires { is_name name.now ≡ true }
+        ensures { result ≡ begun (commands.Find directory name.now) }
+    {
+        NameCall::of(NameCommand::Find(directory, Name::new(name)))
+    }
+
+    /// Asks for all names with their files.
+    pub fn names(directory: FileNo) -> NameCall
+        ensures { result ≡ begun (commands.Names directory) }
+    {
+        NameCall::of(NameCommand::Names(directory))
+    }
+
+    fn of(command: NameCommand) -> NameCall
+        ensures { result ≡ begun command }
+    {
+        NameCall {
+            command,
+            waits: None,
+        }
+    }
+
+    /// What comes next: the first operation where there is no answer, or where none is waited for, and else what the
+    /// answer to the last operation leads to. Where there is no memory, the call is as it was before it began.
+    pub fn next(&mut self, alloc: Global, answer: Option<&Answer>) -> Result<NameNext, AllocError>
+        ensures ok { IfOk result (λ next. (next, self.new.waits) ≡ given (turn_of self.old.command self.old.waits (option_map (λ a. a.now) answer.entry))) }
+        ensures command { self.new.command ≡ self.old.command }
+        ensures err { OnErr result (self.new.waits ≡ None) }
+    {
+        let waits = self.waits.take();
+        let turn = turn_of(alloc, &self.command, waits, answer)?;
+        let (next, waits) = given(turn);
+        self.waits = waits;
+        Ok(next)
+    }
+}

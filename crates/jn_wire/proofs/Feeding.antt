@@ -1,0 +1,68 @@
+-- What feeding a piece does with a stream, by what reading it leads to.
+use Rattle.std.proofs.Common.{◌≡◌, ◌≤◌, ◌-◌, ℕ, true, false, List, [], ◌∷◌, ◌++◌, append-nil, length, take, sym, ◌∙◌, ap, subst, arith, Result, Err, Option, Some}
+use Rattle.std.proofs.Math.Seq.{take-append_seam}
+use Rattle.jn_base.specs.declared.names.ServerNo.{ServerNo}
+use Rattle.jn_wire.specs.declared.frame.Framed.{Framed}
+use Rattle.jn_wire.specs.declared.fault.WireFault.{WireFault}
+use Rattle.jn_wire.specs.declared.fault.WireError.{WireError}
+use Rattle.jn_wire.specs.declared.fault.WireError.TheVariants as errors
+use Rattle.jn_wire.specs.Unframing.{Held, Unframed, unframed, in_front, holds, waiting, stopped}
+use Rattle.jn_wire.specs.Reading.{Leads}
+use Rattle.jn_wire.specs.Stream.{Stream, Feeds, FeedsWhere, with_held}
+use Rattle.jn_wire.proofs.Meaning.{faulty-stays}
+
+goes : (x : Stream) (piece : List ℕ) (out : List Framed) (result : Result Unit WireError) (y : Stream) (out' : List Framed) → x.over ≡ false → FeedsWhere false x piece out result y out' → Feeds x piece out result y out'
+goes x piece out result y out' e h = subst (λ b. FeedsWhere b x piece out result y out') (sym e) h
+
+-- what reading leads to where it failed so
+pub at-error : {X : Type 0} (next : X → Unframed) (u : Unframed) (r : Result X WireError) (out : List Framed) (e f : WireError) → r ≡ Err e → e ≡ f → Leads next u r out → Leads next u (Err f) out
+at-error {X} next u r out e f failed same h = subst (λ (x : Result X WireError). Leads next u x out) (failed ∙ ap (λ (x : WireError). Err x) same) h
+
+-- a fault that was met before
+pub keeps-fault : (x : Stream) (piece : List ℕ) (out : List Framed) (f : WireFault) → x.over ≡ false → x.held.fault ≡ Some f → Feeds x piece out (Err (errors.Fault f)) x out
+keeps-fault x piece out f e met = goes x piece out (Err (errors.Fault f)) x out e ((ap (λ (u : Unframed). u.held.fault) stays ∙ met, ap (with_held x) (ap (λ (u : Unframed). u.held) (sym stays)), sym (ap (λ (u : Unframed). out ++ u.frames) stays ∙ none)), λ bad. absurd (cc bad))
+  where
+    stays : unframed x.server x.held piece ≡ holds x.held
+    stays = subst (λ (o : Option WireFault). unframed x.server (record { at = x.held.at; bytes = x.held.bytes; fault = o }) piece ≡ holds (record { at = x.held.at; bytes = x.held.bytes; fault = o })) (sym met) (faulty-stays x.server x.held.at x.held.bytes f piece)
+
+    none : out ++ [] ≡ out
+    none = simp append-nil
+
+-- what is kept of a fault that is met
+pub stops-there : (z x : Stream) (f : WireFault) (at : ℕ) (bytes : List ℕ) → z ≡ x → at ≡ f.at → bytes ≡ [] → with_held z (record { at = at; bytes = bytes; fault = Some f }) ≡ with_held x (stopped f)
+stops-there z x f at bytes same place nothing = ap (λ (n : ℕ). with_held z (record { at = n; bytes = bytes; fault = Some f })) place ∙ ap (λ (l : List ℕ). with_held z (record { at = f.at; bytes = l; fault = Some f })) nothing ∙ ap (λ (w : Stream). with_held w (stopped f)) same
+
+-- a fault that is met now
+pub meets-fault : (x : Stream) (piece : List ℕ) (out : List Framed) (f : WireFault) (y : Stream) (out' : List Framed) (s : ServerNo) (at : ℕ) (bytes : List ℕ) → x.over ≡ false → x.server ≡ s → x.held ≡ waiting at bytes
+    → in_front out (unframed s (waiting at bytes) piece) ≡ record { held = stopped f; frames = out' } → y ≡ with_held x (stopped f) → Feeds x piece out (Err (errors.Fault f)) y out'
+meets-fault x piece out f y out' s at bytes e own held h is = goes x piece out (Err (errors.Fault f)) y out' e ((ap (λ (u : Unframed). u.held.fault) all, is ∙ ap (λ (u : Unframed). with_held x u.held) (sym all), ap (λ (u : Unframed). u.frames) (sym all)), λ bad. absurd (cc bad))
+  where
+    all : in_front out (unframed x.server x.held piece) ≡ record { held = stopped f; frames = out' }
+    all = ap (λ (q : ServerNo). in_front out (unframed q x.held piece)) own ∙ ap (λ (k : Held). in_front out (unframed s k piece)) held ∙ h
+
+front-of : (out fs out' more : List Framed) → out ++ fs ≡ out' ++ more → length out ≤ length out' → out' ≡ out ++ take (length out' - length out) fs
+front-of [] fs out' more e le =
+    let all : length out' - length {A = Framed} [] ≡ length out' = omega arith in
+    sym (ap (take (length out')) e ∙ take-append_seam out' more) ∙ ap (λ (n : ℕ). take n fs) (sym all)
+front-of (f ∷ out) fs [] more e le = absurd (omega (arith, le))
+front-of (f ∷ out) fs (g ∷ out') more e le =
+    let tail : out ++ fs ≡ out' ++ more = cc in
+    let head : f ≡ g = cc in
+    let rest : out' ≡ out ++ take (length out' - length out) fs = front-of out fs out' more tail (omega (arith, le)) in
+    let same : length (g ∷ out') - length (f ∷ out) ≡ length out' - length out = omega arith in
+    ap (λ (x : Framed). x ∷ out') (sym head) ∙ ap (λ (l : List Framed). f ∷ l) rest ∙ ap (λ (n : ℕ). f ∷ (out ++ take n fs)) (sym same)
+
+-- there is no memory
+pub lacks-memory : (x : Stream) (piece : List ℕ) (out : List Framed) (y : Stream) (out' : List Framed) (s : ServerNo) (at : ℕ) (bytes : List ℕ) → x.over ≡ false → x.server ≡ s → x.held ≡ waiting at bytes
+    → (more : List Framed) × (out ++ (unframed s (waiting at bytes) piece).frames ≡ out' ++ more) → length out ≤ length out' → y.server ≡ s → y.over ≡ true → Feeds x piece out (Err errors.Memory) y out'
+lacks-memory x piece out y out' s at bytes e own held h kept same over = goes x piece out (Err errors.Memory) y out' e (
+  record {
+    server = same ∙ sym own;
+    count = length out' - length out;
+    given = front-of out (unframed x.server x.held piece).frames out' h.0 (ap (λ (fs : List Framed). out ++ fs) all ∙ h.1) kept;
+  },
+  λ is. over,
+)
+  where
+    all : (unframed x.server x.held piece).frames ≡ (unframed s (waiting at bytes) piece).frames
+    all = ap (λ (q : ServerNo). (unframed q x.held piece).frames) own ∙ ap (λ (k : Held). (unframed s k piece).frames) held
