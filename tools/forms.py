@@ -256,7 +256,7 @@ class Place(NamedTuple):
 
 SERVER = Place("server", 0, 7)
 FILE = Place("file", 0, 4_294_967_295)
-BLOCK = Place("block", 0, 119)
+BLOCK = Place("block", 0, 2519)
 PAGE = Place("page", 0, 20_001)
 BYTES = Place("hex", form="hex")
 NAME = Place("transaction", form="transaction")

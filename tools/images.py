@@ -1,12 +1,14 @@
 """Reads images, the disks of servers as files, as docs/IMAGE.md describes them."""
 
 import hashlib
-from typing import Dict, List, NamedTuple, Optional, Tuple
+from typing import Dict, Iterator, List, NamedTuple, Optional, Tuple
 
 from commands import rows_of
 
 HEADER, PAGE, BLOCK, DIGEST = 16, 512, 448, 32
-MOST_POOL, MOST_HEADS, MOST_DATA, MOST_BLOCKS = 1_000, 1_000, 8_000, 120
+MOST_POOL, MOST_HEADS, MOST_DATA = 1_000, 1_000, 8_000
+# A head has the addresses of so many blocks, as each map page has, and of so many map pages.
+HEAD_BLOCKS, MOST_MAPS = 120, 20
 VERSIONS = (1, 2)
 KINDS = {1: "an intention", 2: "a prepared work", 3: "a work that is carried out", 4: "a commit flag"}
 
@@ -27,10 +29,11 @@ class Half(NamedTuple):
 
 
 class Head(NamedTuple):
-    """A head that is used: its file, and for each block that is stored its data page."""
+    """A head that is used: its file, and the data pages of the blocks that are stored there by the head itself and of the map pages."""
 
     file: int
     blocks: Dict[int, int]
+    maps: Dict[int, int]
 
 
 class Image(NamedTuple):
@@ -92,27 +95,61 @@ def read_image(data: bytes) -> Image:
     return Image(data[8], server, *counts, [Half(data[at] == 1, data[at + 1 : at + 1 + PAGE]) for at in starts])
 
 
-def head_in(page: bytes, data_pages: int) -> Optional[Head]:
+def addresses_at(page: bytes, at: int, count: int) -> List[int]:
+    return [number_at(page, at + 2 * it, 2) for it in range(count)]
+
+
+def named_by(addresses: List[int]) -> Dict[int, int]:
+    """Returns the data page of each address that isn't 0."""
+    return {place: address - 1 for place, address in enumerate(addresses) if address}
+
+
+def head_in(page: bytes, data_pages: int, version: int = 2) -> Optional[Head]:
     """Returns the head that a page is, where it is a used one of the format, with addresses of so many data pages.
 
-    Behind the addresses of the blocks stand those of the map pages, which are zeros so far in either version.
+    Behind the addresses of the blocks stand those of the map pages, which in version 1 are zeros.
     """
-    addresses = [number_at(page, 5 + 2 * block, 2) for block in range(MOST_BLOCKS)]
-    if page[0] != 1 or any(page[5 + 2 * MOST_BLOCKS :]) or max(addresses) > data_pages:
+    blocks, maps = addresses_at(page, 5, HEAD_BLOCKS), addresses_at(page, 5 + 2 * HEAD_BLOCKS, MOST_MAPS)
+    is_past = max(blocks + maps) > data_pages or version == 1 and any(maps)
+    if page[0] != 1 or any(page[5 + 2 * (HEAD_BLOCKS + MOST_MAPS) :]) or is_past:
         return None
-    return Head(number_at(page, 1, 4), {block: it - 1 for block, it in enumerate(addresses) if it})
+    return Head(number_at(page, 1, 4), named_by(blocks), named_by(maps))
+
+
+def map_in(page: bytes, data_pages: int) -> Optional[Dict[int, int]]:
+    """Returns of the map page that a page is, with addresses of so many data pages, the data page of each of its blocks that is stored."""
+    addresses = addresses_at(page, 0, HEAD_BLOCKS)
+    return None if any(page[2 * HEAD_BLOCKS :]) or max(addresses) > data_pages else named_by(addresses)
 
 
 def heads_of(image: Image) -> Dict[int, Optional[Head]]:
-    """Returns each head that isn't free: None where its page is no head."""
+    """Returns each head that isn't free: None where its page is no head of the image's version."""
     pages = {index: image.head_page(index) for index in range(image.heads)}
-    return {index: head_in(page, image.data) for index, page in pages.items() if any(page)}
+    return {index: head_in(page, image.data, image.version) for index, page in pages.items() if any(page)}
+
+
+def map_of(image: Image, index: int) -> Optional[Dict[int, int]]:
+    """Returns what a data page is as a map page, None where it is none."""
+    return map_in(image.data_page(index), image.data)
+
+
+def blocks_behind(place: int, entries: Dict[int, int]) -> Dict[int, int]:
+    """Returns the data page of each block that is stored by a file's map page at this place."""
+    return {HEAD_BLOCKS * (place + 1) + it: index for it, index in entries.items()}
+
+
+def blocks_of(image: Image, head: Head) -> Dict[int, int]:
+    """Returns the data page of each block that is stored, by the head or by one of its map pages. A page that is no map page has none."""
+    blocks = dict(head.blocks)
+    for place, index in head.maps.items():
+        blocks.update(blocks_behind(place, map_of(image, index) or {}))
+    return blocks
 
 
 def files_of(image: Image) -> Dict[int, Dict[int, bytes]]:
     """Returns the files of an image: for each its blocks, without the zeros at their ends."""
     return {
-        head.file: {block: image.data_page(index)[:BLOCK].rstrip(b"\0") for block, index in head.blocks.items()}
+        head.file: {block: image.data_page(index)[:BLOCK].rstrip(b"\0") for block, index in blocks_of(image, head).items()}
         for head in heads_of(image).values()
         if head
     }
@@ -133,6 +170,12 @@ def least_twice(items) -> Optional[int]:
     return min(twice, default=None)
 
 
+def addresses_of(heads: List[Head], maps: Dict[int, Optional[Dict[int, int]]]) -> Iterator[int]:
+    """Gives each address that is written in heads, and in map pages, each of which is read once."""
+    for names in [it for head in heads for it in (head.blocks, head.maps)] + [it for it in maps.values() if it]:
+        yield from (index + 1 for index in names.values())
+
+
 def first_of(items) -> Optional[int]:
     return next(iter(items), None)
 
@@ -148,13 +191,15 @@ def fault_of(image: Image, server: Optional[int] = None) -> Optional[Tuple[int, 
         return 2, None
     heads = heads_of(image)
     whole = [it for it in heads.values() if it]
+    maps = {index: map_of(image, index) for index in sorted({index for it in whole for index in it.maps.values()})}
     faults = (
         (3, first_of(at for at, half in enumerate(image.halves) if not half.is_good)),
         (4, first_of(at for at in range(image.count) if image.halves[at].data != image.halves[at + image.count].data)),
         (5, first_of(at for at in range(image.pool) if any(image.page(1 + at)))),
         (6, least_twice(it.file for it in whole)),
         (7, first_of(at for at, head in heads.items() if head is None)),
-        (8, least_twice(index + 1 for it in whole for index in it.blocks.values())),
+        (10, first_of(index for index, it in maps.items() if it is None)),
+        (8, least_twice(addresses_of(whole, maps))),
         (9, first_of(at for at in range(image.data) if any(image.data_page(at)[BLOCK:]))),
     )
     return next((it for it in faults if it[1] is not None), None)

@@ -1,17 +1,21 @@
 -- How much there may be of each thing.
 use Rattle.std.specs.Prelude.{ℕ}
 
--- the blocks of a file
-abbrev pub most_blocks : ℕ
-most_blocks = 120
-
--- the blocks whose addresses stand in a head
+-- the blocks whose addresses stand in a head, and in each map page
 abbrev pub head_blocks : ℕ
 head_blocks = 120
 
 -- the map pages whose addresses stand in a head
 abbrev pub most_maps : ℕ
 most_maps = 20
+
+-- the blocks of a file: those of its head and those of its map pages
+abbrev pub most_blocks : ℕ
+most_blocks = 2520
+
+-- the addresses of a file: one for each block and one for each map page
+abbrev pub most_cells : ℕ
+most_cells = 2540
 
 -- the live works of a server
 abbrev pub most_works : ℕ

@@ -1,13 +1,13 @@
 //! How much there may be of each thing.
 
-/// The blocks of a file.
-pub const MOST_BLOCKS: u16 = 120;
-
-/// The blocks whose addresses stand in a head.
+/// The blocks whose addresses stand in a head, and in each map page.
 pub const HEAD_BLOCKS: usize = 120;
 
 /// The map pages whose addresses stand in a head.
 pub const MOST_MAPS: usize = 20;
+
+/// The blocks of a file: those of its head and those of its map pages.
+pub const MOST_BLOCKS: u16 = 2520;
 
 /// The live works of a server.
 pub const MOST_WORKS: usize = 64;

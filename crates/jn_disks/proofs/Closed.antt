@@ -1,5 +1,6 @@
 -- The pages of a server that was closed, as a store, and a store's as those of a server that is closed.
-use Rattle.jn_disks.proofs.Common.{◌≡◌, ⊎_elim, ◌<◌, ◌≤◌, ◌+◌, ◌*◌, ◌/◌, ◌-◌, ◌^◌, ◌&&◌, ℕ, Bool, true, false, if◌then◌else◌, List, [], length, sym, ◌∙◌, ap, subst, arith, nat_lt, take, drop, Half, DeviceState, HasHalves, IsNew, Files, Image, IsSound, Names, Counts, Pages, page_count, slot_place, head_place, data_place, is_used, file_in, address_in, pairs_view, IsStoreOf, IsImage, image_on, files_agree, image_fresh, AreSound, HasPages, image_of, files_in, IsStoreOfPages, nat_tests, format_version}
+use Rattle.jn_disks.proofs.Common.{◌≡◌, ⊎_elim, ◌<◌, ◌≤◌, ◌+◌, ◌*◌, ◌/◌, ◌-◌, ◌^◌, ◌&&◌, ℕ, Bool, true, false, if◌then◌else◌, List, [], length, sym, ◌∙◌, ap, subst, arith, nat_lt, take, drop, Half, DeviceState, HasHalves, IsNew, Files, Image, IsSound, Counts, Pages, page_count, slot_place, head_place, data_place, is_used, file_in, address_in, pairs_view, IsStoreOf, IsImage, image_on, files_agree, image_fresh, AreSound, HasPages, image_of, files_in, IsStoreOfPages, nat_tests, format_version, IsMapPage, Spot, InHead, AsMap, InMap, IsUsedAt, IsWrittenAt, NamesMap, map_in, entry_in}
+use Rattle.jn_base.specs.Limits.{head_blocks, most_maps}
 use Rattle.jn_base.specs.declared.names.ServerNo.{ServerNo}
 use Rattle.std.proofs.lemmas.Bool.{cases_lt}
 use Rattle.std.proofs.lemmas.List.{get_or-take, length-take-le}
@@ -16,13 +17,26 @@ module _ (version : ℕ) (s server : ServerNo) (g : Counts) (good_one good_two :
   head_same : (i : ℕ) → i < g.heads → two (head_place g i) ≡ one (head_place g i)
   head_same i lt = same (head_place g i) (omega (arith, lt))
 
-  names : (a i p : ℕ) → Names second a i p → Names first a i p
-  names a i p n = record {
+  data_same : (d : ℕ) → d < g.leaves → two (data_place g d) ≡ one (data_place g d)
+  data_same d lt = same (data_place g d) (omega (arith, lt))
+
+  names_map : (d : ℕ) → NamesMap g two d → NamesMap g one d
+  names_map d n = record {
     head = n.head;
-    block = n.block;
-    used = ap is_used (sym (head_same i n.head)) ∙ n.used;
-    address = ap (λ b. address_in b p) (sym (head_same i n.head)) ∙ n.address;
+    at = n.at;
+    is_head = n.is_head;
+    used = ap is_used (sym (head_same n.head n.is_head)) ∙ n.used;
+    below = n.below;
+    names = ap (λ b. map_in b n.at) (sym (head_same n.head n.is_head)) ∙ n.names;
   }
+
+  used_at : (i k n : ℕ) → IsUsedAt second i k n → IsUsedAt first i k n
+  used_at i k n u = record { head = u.head; used = ap is_used (sym (head_same i u.head)) ∙ u.used; below = u.below }
+
+  written : (a : ℕ) (x : Spot) → IsWrittenAt second a x → IsWrittenAt first a x
+  written a (InHead i k) w = let u = w.0 in (used_at i k head_blocks u, ap (λ b. address_in b k) (sym (head_same i u.head)) ∙ w.1)
+  written a (AsMap i j) w = let u = w.0 in (used_at i j most_maps u, ap (λ b. map_in b j) (sym (head_same i u.head)) ∙ w.1)
+  written a (InMap d k) w = (w.0, names_map d w.1, w.2, ap (λ b. entry_in b k) (sym (data_same d w.0)) ∙ w.3)
 
   pub same_sound : IsSound s first → IsSound s second
   same_sound sound = record {
@@ -33,8 +47,9 @@ module _ (version : ℕ) (s server : ServerNo) (g : Counts) (good_one good_two :
     pool = λ i lt. same (slot_place g i) (omega (arith, lt)) ∙ sound.pool i lt;
     files = λ f i j a b x y used is used' is'. sound.files f i j a b (sound.heads i a) (sound.heads j b)
         (ap is_used (sym (head_same i a)) ∙ used) (ap file_in (sym (head_same i a)) ∙ is) (ap is_used (sym (head_same j b)) ∙ used') (ap file_in (sym (head_same j b)) ∙ is');
-    heads = λ i lt. let h = sound.heads i lt in (h.0, h.1, h.2, head_same i lt ∙ h.3);
-    addresses = λ a least i j p q x y. sound.addresses a least i j p q (names a i p x) (names a j q y);
+    heads = λ i lt. let h = sound.heads i lt in (h.0, h.1, h.2, h.3, head_same i lt ∙ h.4);
+    maps = λ d lt named. subst (λ page. IsMapPage g.leaves page) (sym (data_same d lt)) (sound.maps d lt (names_map d named));
+    addresses = λ a least x y one_written other_written. sound.addresses a least x y (written a x one_written) (written a y other_written);
     tails = λ i lt. ap (drop 448) (same (data_place g i) (omega (arith, lt))) ∙ sound.tails i lt;
   }
 
@@ -137,7 +152,7 @@ module _ (server : ServerNo) (g : Counts) (files : Files) (s : DeviceState) (ima
   }
 
   pub closed_files : files_in g (take (2 * (s.count / 2)) halves) ≡ files
-  closed_files = sym (files_agree g (image_on server g (pairs_view s)).bytes (λ p. (half_at (take (2 * (s.count / 2)) halves) p).bytes) image.fit.leaves image.sound.heads
+  closed_files = sym (files_agree g (image_on server g (pairs_view s)).bytes (λ p. (half_at (take (2 * (s.count / 2)) halves) p).bytes) image.fit.leaves (λ i lt. let h = image.sound.heads i lt in (h.0, h.1, h.2, h.4)) image.sound.maps
       (λ p lt. sym (same_bytes p (omega (arith, lt))))) ∙ image.same_files
 
 -- ---- the pages themselves

@@ -1,5 +1,5 @@
 -- A store of zeros with a root, as a new server has it: its pages fix what a recovery finds there.
-use Rattle.jn_disks.proofs.Common.{◌≡◌, inr, ℕ, zero, suc, ◌+◌, ◌<◌, ◌^◌, ◌&&◌, ◌≤◌, nat_eq, nat_lt, ◌*◌, ◌-◌, Bool, true, false, true≢false, if◌then◌else◌, List, [], ◌∷◌, Some, None, drop, replicate, refl, sym, ◌∙◌, ap, subst, arith, option_map, option_and_then, there, blank_page, IsNewStore, IsNewDisk, new_page, no_files, CountsFit, IsFresh, IsImage, image_on, counts_of, image_fresh, Image, IsSound, Counts, page_count, slot_place, head_place, data_place, is_used, file_in, is_head_of, head_from, block_in, files_of_pages, StoreView, StorePut, IsBlank, IsOnly, StoreLater, nat_tests, place_in, root_by, format_version, root_page}
+use Rattle.jn_disks.proofs.Common.{◌≡◌, inr, ℕ, zero, suc, ◌+◌, ◌<◌, ◌^◌, ◌&&◌, ◌≤◌, nat_eq, nat_lt, ◌*◌, ◌-◌, Bool, true, false, true≢false, if◌then◌else◌, List, [], ◌∷◌, Some, None, drop, replicate, refl, sym, ◌∙◌, ap, subst, arith, option_map, option_and_then, there, blank_page, IsNewStore, IsNewDisk, new_page, no_files, CountsFit, IsFresh, IsImage, image_on, counts_of, image_fresh, Image, IsSound, Counts, page_count, slot_place, head_place, data_place, is_used, file_in, is_head_of, head_from, block_in, files_of_pages, StoreView, StorePut, IsBlank, IsOnly, StoreLater, nat_tests, place_in, root_by, format_version, root_page, Spot, InHead, AsMap, InMap, IsWrittenAt, head_page}
 use Rattle.std.proofs.Math.Path.{fun_ext}
 use Rattle.jn_base.specs.declared.device.Outside.{Outside}
 use Rattle.jn_base.specs.declared.names.FileNo.{FileNo}
@@ -11,7 +11,6 @@ use Rattle.jn_device.proofs.Happening.{happens_later}
 use Rattle.jn_records.specs.declared.head.Head.TheVariants.{Free as FreeHead}
 use Rattle.jn_records.specs.declared.record.Record.TheVariants.{Free}
 use Rattle.jn_records.specs.declared.root.Root.{Root}
-use Rattle.jn_records.specs.Heads.{head_page}
 use Rattle.jn_records.specs.Records.{record_page}
 
 -- ---- the page of zeros
@@ -90,6 +89,11 @@ module _ (root : Root) (version : root.version ≡ format_version) (epoch_fits :
   unused : (i : ℕ) → i < root.heads → is_used (image.bytes (head_place (counts_of root) i)) ≡ true → ⊥
   unused i lt used = true≢false (sym used ∙ ap is_used (blank (head_place (counts_of root) i) (omega arith) (omega (arith, lt))) ∙ blank_unused)
 
+  unwritten : (a : ℕ) → 0 < a → (x : Spot) → IsWrittenAt image a x → ⊥
+  unwritten a least (InHead i k) w = let u = w.0 in unused i u.head u.used
+  unwritten a least (AsMap i j) w = let u = w.0 in unused i u.head u.used
+  unwritten a least (InMap d k) w = let named = w.1 in unused named.head named.is_head named.used
+
   sound : IsSound root.server (image_on root.server (counts_of root) v)
   sound = record {
     server = refl;
@@ -98,8 +102,9 @@ module _ (root : Root) (version : root.version ≡ format_version) (epoch_fits :
     pairs = λ i lt. first i lt ∙ sym (second i lt);
     pool = λ i lt. blank (slot_place (counts_of root) i) (omega arith) (omega (arith, lt)) ∙ blank_record;
     files = λ f i j lt less here there used e. absurd (unused i lt used);
-    heads = λ i lt. (FreeHead, record { whole = refl; within_leaves = refl }, tt, blank (head_place (counts_of root) i) (omega arith) (omega (arith, lt)) ∙ blank_head);
-    addresses = λ a least i j p q at other. absurd (unused i at.head at.used);
+    heads = λ i lt. (FreeHead, record { whole = refl; within_leaves = refl }, tt, refl, blank (head_place (counts_of root) i) (omega arith) (omega (arith, lt)) ∙ blank_head);
+    maps = λ d lt named. absurd (unused named.head named.is_head named.used);
+    addresses = λ a least x y written other. absurd (unwritten a least x written);
     tails = λ i lt. ap (drop 448) (blank (data_place (counts_of root) i) (omega arith) (omega (arith, lt))) ∙ blank_tail;
   }
 

@@ -1,28 +1,37 @@
 -- The names from below that these proofs cite, passed on from one place. Declares nothing.
-pub use Rattle.std.proofs.Common.{◌≡◌, ℕ, zero, suc, length, replicate, refl, ap, ◌≢◌, inl, inr, ◌<◌, true, false, List, Option, Some, None, sym, subst, ◌∙◌, arith, ◌≤◌, [], ◌∷◌, Bool, ◌⊎◌, ⊎_elim, ◌+◌, ◌-◌, ◌↔◌, drop, ◌^◌, ◌++◌, ◌*◌, Result, Ok, true≢false, rules, Err}
-pub use Rattle.jn_records.specs.declared.head.Head.TheVariants.{Free, Used}
-pub use Rattle.jn_files.specs.Table.{head_in, is_of, addresses_of, addresses, or_nil, behind, files_of, fresh_head, cut_addresses, address_of, exists, address_for, TableView, IsUnnamed, IsFreeLeaf, IsTable, AreHeads, IsHeadOf, is_free, is_touched, with_leaf, cut_head}
-pub use Rattle.jn_base.specs.Limits.{head_blocks, most_maps}
-pub use Rattle.std.proofs.Math.Path.{fun_ext}
-pub use Rattle.std.proofs.lemmas.Bool.{cases_eq, cases_lt, false_from_ne_true, eq-eqb, and_parts, cases_Bool}
+pub use Rattle.std.proofs.Common.{◌≡◌, ◌≢◌, ◌⊎◌, inl, inr, ⊎_elim, ◌<◌, ℕ, suc, Bool, true, false, List, length, refl, sym, ap, subst, ◌∙◌, arith, true≢false, ◌≤◌, ◌+◌, ◌*◌, ◌-◌, ◌/◌, ◌%◌, ◌^◌, replicate, take, drop, zero, [], ◌∷◌, Option, Some, None, ◌++◌, Result, Ok, add-one, drop-cons, Err, rules}
+pub use Rattle.std.specs.Prelude.{slice_index_or, slice_set, slice_index, nat_eq, nat_lt, nat_le, ◌&&◌, ◌||◌, if◌then◌else◌, option_map, option_and_then, is_some, IfSome, IfNone, not, count_by, is_ok, OnOk, OnErr}
+pub use Rattle.std.proofs.lemmas.Bool.{cases_eq, cases_lt, cases_Bool, false_from_ne_true, eq-eqb, and_parts}
+pub use Rattle.std.proofs.lemmas.List.{get_or-set_same, get_or-set_other, get_or_past, length-set, ext_get_or, get_or-drop, drop_at, length-map, get_or_read}
+pub use Rattle.jn_records.specs.Layouts.{Layout, Unused, at_cell, layout_at, through, kept_entry, layout_by, is_layout_of, head_map, map_cell, with_row, cut_inside, Of, behind, block_in, with_cell, laid, with_entries, layouts_by, IsNoMap, block_in as block_at, IsMapIn, IsRowChanged}
+pub use Rattle.jn_files.specs.Table.{IsUnnamed, AreNamedOnce, TableView, IsTable, IsHeadOf, head_in, is_of, is_free, is_held, row_at, exists, layouts_of, layouts_in, layout_in, files_of, fresh_head, cut_head, cut_map, cut_addresses, kept_maps, range_of, AreRows, with_leaf, with_map, one_entry, AreHeads, IsRow, address_for, is_mapped, or_unused, head_with, IsFreeLeaf, is_touched, HaveOneHead}
+pub use Rattle.jn_files.specs.Inside.{IsNamedPage, AreNamed, IsChange, IsCutInside, MayPutHead, MaySet, MaySetMap, cells_kept, head_address, has_block, has_entry, unnamed_one, unnamed_all, unnamed_map, unnamed_maps, AreFree, IsKeptTable, table_view, unnamed_head, AreIndexed, head_number, file_number, AreFreeHeads, IsHeadAt, StoreRead, IsMapOfHead, IsMapOfHeads, one_if, AreMapPages, MapsCleaned, IsRowRead, IsRowKept, MapsRead, MapsHeld, KeepsPower, named_one, named_all, named_map, named_maps, named_head, IsReadFrom}
+pub use Rattle.std.proofs.Math.Nat.{div-add-mod, mod-lt, mul-add-mod_self_left, mod-eq_of_lt}
 pub use Rattle.std.proofs.lemmas.Bool.Decides.{nat_tests}
-pub use Rattle.std.proofs.lemmas.List.{get_or-set_same, get_or-set_other, ext_get_or, get_or_past, length-set, drop_at, append_assoc, get_or_read}
-pub use Rattle.std.specs.Prelude.{slice_set, slice_index, take, nat_le, ◌&&◌, option_map, nat_eq, nat_lt, is_some, IfSome, IfNone, slice_index_or, if◌then◌else◌, not, option_and_then, flat_map, is_ok}
+pub use Rattle.jn_alloc.specs.Free.{free_count, IsLeastFree, FreeNumbers, count_of, is_free as is_free_number, with_free, with_promised}
+pub use Rattle.jn_base.specs.Limits.{head_blocks, most_maps, most_blocks, most_cells}
+pub use Rattle.jn_base.specs.Names.{file_eq, block_eq}
 pub use Rattle.jn_base.specs.declared.names.FileNo.{FileNo}
 pub use Rattle.jn_base.specs.declared.names.BlockNo.{BlockNo}
+pub use Rattle.jn_order.specs.Files.{cut_from, created, removed, Files, Change, change, or_else, there, written}
+pub use Rattle.jn_records.specs.declared.head.Head.{Head}
+pub use Rattle.jn_records.specs.declared.head.Head.TheVariants.{Free, Used}
+pub use Rattle.jn_records.specs.Heads.{all_within, has_page, within, head_page, map_page, IsMapPage, FileFits, IsHead}
+pub use Rattle.jn_records.specs.MapPlaces.{is_in_range, maps_in, map_count, maps_named, names_map}
+pub use Rattle.jn_store.specs.Store.{StoreView, StorePut, StoreCleaned, StoreGot, IsServed, IsOnly, Candidate, Shrinks, IsSamePage, StoreLater, IsStop, IsCalm, IsWholePage}
+pub use Rattle.jn_files.specs.Calls.{IsPlaceOf, IsChanged, MayBecome, MayBring, block_written, NextFile, HasPagesOfTable, Fills, FillsMap, with_touched, IsLoaded, PutsLayout, LoadedFrom, PutsHead, PutsMap, Touches, BlockGot, NextBlock}
+pub use Rattle.jn_records.proofs.Layouts.{laid-block, laid-entry, laid-past, map-cell-is, get-map, laid-map, same-map, inside-was, set-map, map-put, block-put}
+pub use Rattle.std.proofs.Math.Path.{fun_ext}
+pub use Rattle.std.specs.List.{find}
 pub use Rattle.jn_base.specs.declared.names.LockUnit.{LockUnit}
 pub use Rattle.jn_base.specs.declared.names.LockUnit.TheVariants.{File, Block}
-pub use Rattle.jn_order.specs.Files.{Files, Change, change, or_else, there, created, removed, cut_from, written}
-pub use Rattle.jn_records.specs.declared.head.Head.{Head}
-pub use Rattle.std.specs.List.{list_all, find}
-pub use Rattle.jn_records.specs.Heads.{has_page, within, all_within, FileFits, IsHead, head_bytes, addresses_bytes}
-unfoldable pub use Rattle.jn_records.specs.Heads.{head_page}
+pub use Rattle.jn_records.proofs.PartCuts.{find-only, part-files}
+pub use Rattle.jn_records.specs.NetLists.{among}
+pub use Rattle.jn_index.specs.Least.{IsLeastFrom, number_after, LeastFrom}
 pub use Rattle.jn_index.specs.Numbers.{number_at, is_above as is_number_above, IsSlotFrom, IsNumberAbove}
-pub use Rattle.jn_files.specs.Calls.{NextFile, NextAddress, NextBlock, HasPagesOfTable, Fills, with_touched, StoreRead, IsLoaded, IsChanged, PutsHead, IsPlaceOf, MayBecome, SetsHead, Touches, BlockGot}
-pub use Rattle.jn_files.specs.Inside.{AreIndexed, head_number, file_number, ChangesBlocks, MayDrop, IsDropped, DropsAmong, Drops, freed_one, table_view, IsNamedPage, IsHeadAt, AreFreeHeads, AreFreeLeaves, MayTakeNamed, TakesNamed, taken_one, AreNamed, NamesAmong, Marks, marked_one, IsChange, AreLeaves, MayStand}
-pub use Rattle.jn_alloc.specs.Free.{FreeNumbers, with_free, count_of, is_free as is_free_number, free_count, IsLeastFree}
-pub use Rattle.jn_records.specs.StablePages.{Pages, head_place, data_place, files_of_pages, counts_of, Counts, Counts as PageCounts, page_count, is_head_of, head_from, head_of, address_in, block_behind, block_in}
-pub use Rattle.jn_store.specs.Store.{StoreView, StorePut, IsServed, IsOnly, IsSamePage, StoreLater, StoreGot, StoreCleaned, Candidate, IsStop, IsCalm, IsWholePage}
+pub use Rattle.jn_records.specs.StablePages.{Pages, head_place, data_place, files_of_pages, Counts, counts_of, Counts as PageCounts, page_count, is_head_of, entry_in, head_from, head_of, block_behind, address_by}
 pub use Rattle.jn_store.specs.Choices.{IsChoice, with_page}
-pub use Rattle.jn_files.specs.Pages.{leaves_in, leaf_page, IsLeaf, HoldsTable, files_in, IsLoadable, Says, HoldsHeads}
-pub use Rattle.jn_store.proofs.Laws.{later_refl, later_trans, same_refl, same_trans, shrinks_only, stop_since}
+pub use Rattle.jn_files.specs.Pages.{HoldsTable, leaf_page, leaves_in, files_in, MapsLoadable, Says, IsLeaf, HoldsHeads, IsMapChoice, layouts_on}
+pub use Rattle.jn_base.specs.declared.device.Stopped.{Stopped}
+pub use Rattle.jn_store.proofs.Laws.{later_trans, same_trans, same_shrinks, later_refl, same_refl, shrinks_only, stop_since}
+pub use Rattle.jn_store.proofs.Choices.{Leads, choice_only, put_leads, done_leads, with_same, with_other, some_choice}

@@ -1,92 +1,117 @@
--- A file's head by the index of the files' numbers.
-use Rattle.jn_files.proofs.Common.{subst, nat_lt, ◌≡◌, ◌<◌, ◌≤◌, ℕ, suc, Bool, true, false, List, [], ◌∷◌, length, Option, Some, None, inl, inr, refl, sym, ap, ◌∙◌, arith, cases_lt, nat_tests, get_or_past, is_some, slice_index, IfSome, IfNone, FileNo, number_at, is_number_above, IsSlotFrom, IsNumberAbove, Head, Free, Used, head_in, is_of, exists, addresses, addresses_of, address_of, address_for, or_nil, NextFile, AreIndexed, head_number, file_number, BlockNo, NextAddress, NextBlock}
-use Rattle.jn_files.proofs.Lookup.{absent_none, when_false, addresses_lowest}
-use Rattle.jn_index.specs.Least.{NextAfter, number_after}
+-- The least block of a head that has an address.
+use Rattle.jn_files.proofs.Common.{◌≡◌, ◌<◌, ◌≤◌, ◌+◌, ◌-◌, ◌*◌, ◌%◌, ℕ, zero, suc, Bool, true, List, length, sym, ap, subst, ◌∙◌, inl, inr, arith, nat_lt, slice_index, ◌&&◌, cases_lt, and_parts, nat_tests, head_blocks, most_maps, most_blocks, BlockNo, IsLeastFrom, Head, Free, Used, at_cell, kept_entry, layout_by, through, is_in_range, row_at, range_of, AreRows, IsHeadOf, head_address, has_block, has_entry, head_map}
+use Rattle.jn_files.proofs.Places.{block_at, in_its_range, range_is, at_high, at_entry, at_range}
+use Rattle.jn_files.proofs.Cutting.{past_list, whole_length}
+use Rattle.jn_files.proofs.Cells.{block_cell, entry_cell}
 
--- a head that the file has
-pub has_head : (g : FileNo) (hs : List Head) → exists hs g ≡ true → (j : ℕ) × (j < length hs) × (is_of g (head_in hs j) ≡ true)
-has_head g [] e = absurd (cc e)
-has_head g (h ∷ hs) e = by (has_head g hs) (is_of g h) refl
-  where
-    by : (exists hs g ≡ true → (j : ℕ) × (j < length hs) × (is_of g (head_in hs j) ≡ true)) → (b : Bool) → is_of g h ≡ b → (j : ℕ) × (j < length (h ∷ hs)) × (is_of g (head_in (h ∷ hs) j) ≡ true)
-    by later true t = (0, omega arith, t)
-    by later false t =
-        let rest = later (ap (λ (o : Option (List ℕ)). is_some o) (sym (when_false (is_of g h) (Some (addresses_of h)) (addresses g hs) t)) ∙ e) in
-        (suc rest.0, (let lt = rest.1 in omega arith), rest.2)
+above : (x : ℕ) → nat_lt 0 x ≡ true → 0 < x
+above x e = grind (arith, nat_tests, e)
 
-pub has_file : (g : FileNo) (hs : List Head) (j : ℕ) → is_of g (head_in hs j) ≡ true → exists hs g ≡ true
-has_file g hs j e = by (exists hs g) refl
-  where
-    by : (b : Bool) → exists hs g ≡ b → b ≡ true
-    by true t = refl
-    by false t = absurd (let none = absent_none g hs t j in cc (none, e))
+both : (b : Bool) (x : ℕ) → b ≡ true → 0 < x → (b && nat_lt 0 x) ≡ true
+both b x e lt = grind (arith, nat_tests, e, lt)
 
-of_number : (f : FileNo) (h : Head) → head_number h ≡ Some f.0 → is_of f h ≡ true
-of_number f Free e = absurd (cc e)
-of_number f (Used g xs maps) e = let same : g.0 ≡ f.0 = cc e in grind (arith, nat_tests, same)
+-- where an address stands there is a place
+listed : (xs : List ℕ) (k : ℕ) → 0 < slice_index xs k → k < length xs
+listed xs k lt = elim (cases_lt k (length xs)) [
+  | inl low ↦ low
+  | inr ge ↦ absurd (let none = past_list xs k ge in omega arith)
+]
 
-its_number : (f : FileNo) (h : Head) → is_of f h ≡ true → head_number h ≡ Some f.0
-its_number f Free e = absurd (cc e)
-its_number f (Used g xs maps) e = ap (λ (n : ℕ). Some n) (let same : g.0 ≡ f.0 = grind (arith, nat_tests, e) in same)
+in_range : (j p : ℕ) → head_blocks ≤ p → range_of p ≡ j → is_in_range j p ≡ true
+in_range j p past e = subst (λ (i : ℕ). is_in_range i p ≡ true) e (in_its_range p past)
 
-module _ (files : List (Option ℕ)) (heads : List Head) (are : AreIndexed files heads) where
-  pub slot_found : (f : FileNo) (slot : ℕ) → IsSlotFrom files f.0 0 slot → (slot < length heads) × (is_of f (head_in heads slot) ≡ true)
-  slot_found f slot found = (below, of_number f (head_in heads slot) (sym (are.each slot) ∙ found.here))
-    where
-      below : slot < length heads
-      below = elim (cases_lt slot (length heads)) [
-        | inl lt ↦ lt
-        | inr le ↦ absurd (let none : number_at files slot ≡ None = get_or_past files slot None (let same = are.slots in omega arith) in let some = found.here in cc (none, some))
-      ]
+-- ---- of one map page
 
-  pub slot_there : (f : FileNo) (slot : ℕ) → IsSlotFrom files f.0 0 slot → exists heads f ≡ true
-  slot_there f slot found = has_file f heads slot (slot_found f slot found).1
+module _ (leaves : ℕ) (rows : List (List ℕ)) (are : AreRows leaves rows) (d j from : ℕ) (below : d < leaves) (range : j < most_maps) where
+  entry_block : (k : ℕ) → k < head_blocks → through (kept_entry rows) (suc d) ((head_blocks * (j + 1) + k) % head_blocks) ≡ slice_index (row_at rows d) k
+  entry_block k low = ap (λ (i : ℕ). slice_index (row_at rows d) i) (at_entry j k range low)
 
-  pub slot_absent : (f : FileNo) → ((slot : ℕ) → 0 ≤ slot → number_at files slot ≡ Some f.0 → ⊥) → exists heads f ≡ false
-  slot_absent f none = by (exists heads f) refl
-    where
-      by : (b : Bool) → exists heads f ≡ b → b ≡ false
-      by false t = refl
-      by true t = absurd (let at = has_head f heads t in none at.0 (omega arith) (are.each at.0 ∙ its_number f (head_in heads at.0) at.2))
+  short : (k : ℕ) → 0 < slice_index (row_at rows d) k → k < head_blocks
+  short k lt = let low = listed (row_at rows d) k lt in let long = (are.each d below).count in omega arith
 
-  above_from : (after : Option FileNo) (g : FileNo) → is_number_above (file_number after) g.0 ≡ true → number_after (λ (f : FileNo). f.0) after ≤ g.0
-  above_from None g h = omega arith
-  above_from (Some f) g h = grind (arith, nat_tests, h)
+  its_entry : (b : BlockNo) → has_entry rows (suc d) j b ≡ true → nat_lt 0 (slice_index (row_at rows d) (b.0 % head_blocks)) ≡ true
+  its_entry b e = (and_parts (is_in_range j b.0) (nat_lt 0 (through (kept_entry rows) (suc d) (b.0 % head_blocks))) e).1
 
-  from_above : (after : Option FileNo) (g : FileNo) → number_after (λ (f : FileNo). f.0) after ≤ g.0 → is_number_above (file_number after) g.0 ≡ true
-  from_above None g h = refl
-  from_above (Some f) g h = grind (arith, nat_tests, h)
+  its_block : (b : BlockNo) → has_entry rows (suc d) j b ≡ true → head_blocks * (j + 1) + b.0 % head_blocks ≡ b.0
+  its_block b e =
+      let at = (and_parts (is_in_range j b.0) (nat_lt 0 (through (kept_entry rows) (suc d) (b.0 % head_blocks))) e).0 in
+      let whole = block_at b.0 (range_is j b.0 at).0 in
+      let same = (range_is j b.0 at).1 in
+      ap (λ (i : ℕ). head_blocks * (i + 1) + b.0 % head_blocks) (sym same) ∙ whole
 
-  below_of : (after : Option FileNo) (g : FileNo) → is_number_above (file_number after) g.0 ≡ false → g.0 < number_after (λ (f : FileNo). f.0) after
-  below_of None g h = absurd (cc h)
-  below_of (Some f) g h = grind (arith, nat_tests, h)
-
-  pub next_found : (after : Option FileNo) (f : FileNo) → IsNumberAbove files (file_number after) f.0 → NextFile heads after (Some f)
-  next_found after f next = record {
-    here = has_file f heads next.slot (of_number f (head_in heads next.slot) (sym (are.each next.slot) ∙ next.here));
-    from_there = above_from after f next.above;
-    least = λ g e le. let at = has_head g heads e in next.least at.0 g.0 (are.each at.0 ∙ its_number g (head_in heads at.0) at.2) (from_above after g le);
+  pub entry_found : (k : ℕ) → IsLeastFrom {A = ℕ} (λ k. k) (λ k. nat_lt 0 (slice_index (row_at rows d) k)) (from - head_blocks * (j + 1)) k → IsLeastFrom {A = BlockNo} (λ p. p.0) (has_entry rows (suc d) j) from (record { 0 = head_blocks * (j + 1) + k })
+  entry_found k is = record {
+    here =
+        let lt = above (slice_index (row_at rows d) k) is.here in
+        let low = short k lt in
+        both (is_in_range j (head_blocks * (j + 1) + k)) (through (kept_entry rows) (suc d) ((head_blocks * (j + 1) + k) % head_blocks))
+        (in_range j (head_blocks * (j + 1) + k) (at_high j k range low) (at_range j k range low)) (subst (λ (x : ℕ). 0 < x) (sym (entry_block k low)) lt);
+    from_there = let low = is.from_there in omega arith;
+    least = λ b e le.
+        let whole = its_block b e in
+        let low = is.least (b.0 % head_blocks) (its_entry b e) (omega (arith, whole, le)) in
+        omega (arith, whole, low);
   }
 
-  pub next_none : (after : Option FileNo) → ((slot n : ℕ) → number_at files slot ≡ Some n → is_number_above (file_number after) n ≡ false) → NextFile heads after None
-  next_none after none g e = let at = has_head g heads e in below_of after g (none at.0 g.0 (are.each at.0 ∙ its_number g (head_in heads at.0) at.2))
+-- as the search of its row says it
+pub entry_found_by : (leaves : ℕ) (rows : List (List ℕ)) (address j from first k : ℕ) (row : List ℕ) → AreRows leaves rows → j < most_maps → 0 < address → address ≤ leaves → row ≡ row_at rows (address - 1) → first ≡ from - head_blocks * (j + 1)
+    → IsLeastFrom {A = ℕ} (λ k. k) (λ k. nat_lt 0 (slice_index row k)) first k → IsLeastFrom {A = BlockNo} (λ p. p.0) (has_entry rows address j) from (record { 0 = head_blocks * (j + 1) + k })
+entry_found_by leaves rows zero j from first k row are range above low e g is = absurd (omega (arith, above))
+entry_found_by leaves rows (suc d) j from first k row are range above low e g is =
+    entry_found leaves rows are d j from (omega (arith, low)) range k
+    (subst (λ (n : ℕ). IsLeastFrom {A = ℕ} (λ k. k) (λ k. nat_lt 0 (slice_index (row_at rows d) k)) n k) g
+    (subst (λ (l : List ℕ). IsLeastFrom {A = ℕ} (λ k. k) (λ k. nat_lt 0 (slice_index l k)) first k) (e ∙ ap (row_at rows) (let back : suc d - 1 ≡ d = omega arith in back)) is))
 
-  -- as the answer of a search says it
-  pub there_by : (f : FileNo) (found : Option ℕ) → IfSome found (λ slot. IsSlotFrom files f.0 0 slot) → IfNone found ((slot : ℕ) → 0 ≤ slot → number_at files slot ≡ Some f.0 → ⊥) → is_some found ≡ exists heads f
-  there_by f None some none = sym (slot_absent f none)
-  there_by f (Some slot) some none = sym (slot_there f slot some)
+-- ---- of a head and its map pages
 
--- a file's address is that of the lowest head that it has
-pub address_there : (heads : List Head) (f : FileNo) (slot p : ℕ) → is_of f (head_in heads slot) ≡ true → ((k : ℕ) → is_of f (head_in heads k) ≡ true → slot ≤ k) → address_of (head_in heads slot) p ≡ address_for heads f p
-address_there heads f slot p here low = ap (λ (o : Option (List ℕ)). slice_index (or_nil o) p) (sym (addresses_lowest f heads slot here low))
+module _ (leaves : ℕ) (rows : List (List ℕ)) (h : Head) (is : IsHeadOf leaves h) (from : ℕ) where
+  abbrev cell : ℕ → ℕ
+  cell q = at_cell (layout_by (kept_entry rows) h) q
 
--- what is next in a file's head is next in the file, and a file without a head has no block
-pub next_in_head : (heads : List Head) (f : FileNo) (slot : ℕ) → is_of f (head_in heads slot) ≡ true → ((k : ℕ) → is_of f (head_in heads k) ≡ true → slot ≤ k) → (after next : Option BlockNo) → NextAddress (head_in heads slot) after next → NextBlock heads f after next
-next_in_head heads f slot here low after next is = subst (λ (test : BlockNo → Bool). NextAfter (λ (p : BlockNo). p.0) test after next) (λ i p. nat_lt 0 (address_there heads f slot p.0 here low i)) is
+  has_by : (p : ℕ) → p < most_blocks → 0 < cell p → (nat_lt p most_blocks && nat_lt 0 (cell p)) ≡ true
+  has_by p low lt = let t : nat_lt p most_blocks ≡ true = grind (arith, nat_tests, low) in both (nat_lt p most_blocks) (cell p) t lt
 
-pub no_block : (heads : List Head) (f : FileNo) → exists heads f ≡ false → (after : Option BlockNo) → NextBlock heads f after None
-no_block heads f absent after p e = by (addresses f heads) absent e
-  where
-    by : (o : Option (List ℕ)) → is_some o ≡ false → nat_lt 0 (slice_index (or_nil o) p.0) ≡ true → p.0 < number_after (λ (q : BlockNo). q.0) after
-    by None h k = absurd (cc k)
-    by (Some xs) h k = absurd (cc h)
+  has_low : (b : BlockNo) → has_block rows h b ≡ true → b.0 < most_blocks
+  has_low b e = let t = (and_parts (nat_lt b.0 most_blocks) (nat_lt 0 (cell b.0)) e).0 in grind (arith, nat_tests, t)
+
+  has_cell : (b : BlockNo) → has_block rows h b ≡ true → nat_lt 0 (cell b.0) ≡ true
+  has_cell b e = (and_parts (nat_lt b.0 most_blocks) (nat_lt 0 (cell b.0)) e).1
+
+  in_head : (g : Head) → IsHeadOf leaves g → (p : ℕ) → 0 < head_address g p → p < head_blocks
+  in_head Free of p lt = absurd (omega arith)
+  in_head (Used f xs maps) of p lt = let low = listed xs p lt in let long = whole_length f xs maps of.is_head.whole in omega arith
+
+  -- one of the head's first blocks
+  pub first_found : (p : ℕ) → IsLeastFrom {A = ℕ} (λ p. p) (λ p. nat_lt 0 (head_address h p)) from p → IsLeastFrom {A = BlockNo} (λ p. p.0) (has_block rows h) from (record { 0 = p })
+  first_found p first = record {
+    here = has_by p (omega (arith, low)) (subst (λ (x : ℕ). 0 < x) (sym (block_cell (kept_entry rows) h p low)) (above (head_address h p) first.here));
+    from_there = first.from_there;
+    least = λ b e le. elim (cases_lt b.0 head_blocks) [
+      | inl lt ↦ first.least b.0 (ap (λ (x : ℕ). nat_lt 0 x) (sym (block_cell (kept_entry rows) h b.0 lt)) ∙ has_cell b e) le
+      | inr ge ↦ omega (arith, ge, low)
+    ];
+  }
+    where
+      low : p < head_blocks
+      low = in_head h is p (above (head_address h p) first.here)
+
+  -- no block from there on is below the range of map page j
+  abbrev pub NoneBefore : ℕ → Type 0
+  NoneBefore j = (b : BlockNo) → has_block rows h b ≡ true → from ≤ b.0 → head_blocks * (j + 1) ≤ b.0
+
+  pub first_none : ((p : ℕ) → nat_lt 0 (head_address h p) ≡ true → p < from) → NoneBefore 0
+  first_none none b e le = elim (cases_lt b.0 head_blocks) [
+    | inl lt ↦ absurd (let low = none b.0 (ap (λ (x : ℕ). nat_lt 0 x) (sym (block_cell (kept_entry rows) h b.0 lt)) ∙ has_cell b e) in omega arith)
+    | inr ge ↦ omega (arith, ge)
+  ]
+
+  -- a head without map pages has none from there on
+  pub none_mapped : ((j : ℕ) → head_map h j ≡ 0) → NoneBefore 0 → (b : BlockNo) → has_block rows h b ≡ true → b.0 < from
+  none_mapped none past b e = elim (cases_lt b.0 from) [
+    | inl lt ↦ lt
+    | inr ge ↦
+        let high : head_blocks ≤ b.0 = past b e ge in
+        let here : 0 < cell b.0 = above (cell b.0) (has_cell b e) in
+        let empty : cell b.0 ≡ 0 = entry_cell (kept_entry rows) h b.0 high (has_low b e) ∙ ap (λ (a : ℕ). through (kept_entry rows) a (b.0 % head_blocks)) (none (range_of b.0)) in
+        absurd (omega (arith, here, empty))
+  ]

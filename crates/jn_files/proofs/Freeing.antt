@@ -1,112 +1,130 @@
--- Data pages become free one by one, as a head leads to them no more.
-use Rattle.jn_files.proofs.Common.{head_blocks, ◌≡◌, ◌⊎◌, inl, inr, ⊎_elim, ℕ, zero, suc, ◌+◌, ◌-◌, ◌≤◌, ◌<◌, Bool, true, false, List, length, refl, sym, subst, ◌∙◌, arith, cases_eq, cases_lt, false_from_ne_true, nat_tests, get_or-set_same, get_or-set_other, length-set, nat_eq, slice_index_or, if◌then◌else◌, FreeNumbers, with_free, Head, address_of, ChangesBlocks, MayDrop, IsDropped, DropsAmong, Drops, freed_one}
-use Rattle.jn_alloc.specs.Free.{is_free}
+-- Which flags of data pages are cleared as addresses go.
+use Rattle.jn_files.proofs.Common.{◌≡◌, ◌⊎◌, inl, inr, ⊎_elim, ◌≤◌, ◌+◌, ◌-◌, ℕ, zero, suc, Bool, true, false, List, [], ◌∷◌, length, drop, refl, sym, ap, subst, ◌∙◌, arith, true≢false, cases_eq, cases_lt, cases_Bool, nat_tests, get_or-set_same, get_or-set_other, get_or_past, length-set, get_or-drop, slice_index, slice_index_or, slice_set, nat_eq, if◌then◌else◌, through, kept_entry, row_at, kept_maps, unnamed_one, unnamed_all, unnamed_map, unnamed_maps}
 
-one_less : (b : ℕ) → suc b - 1 ≡ b
-one_less b = omega arith
+-- flags that were set and aren't are those of data pages that are gone, and no flag is set anew
+pub record Clears (gone : ℕ → Type 0) (flags less : List Bool) : Type 0 where
+  pub count : length less ≡ length flags
+  pub still : (a : ℕ) → slice_index_or less a false ≡ true → slice_index_or flags a false ≡ true
+  pub kept : (a : ℕ) → slice_index_or less a false ≡ true → gone a → ⊥
+  pub cleared : (a : ℕ) → slice_index_or flags a false ≡ true → slice_index_or less a false ≡ false → gone a
 
-up_to : (n m : ℕ) → ((a : ℕ) → n ≡ suc a → a < m) → n ≤ m
-up_to zero m h = omega arith
-up_to (suc n) m h = let lt = h n refl in omega arith
+pub clears_as : (P Q : ℕ → Type 0) (flags less : List Bool) → ((a : ℕ) → P a → Q a) → ((a : ℕ) → Q a → P a) → Clears P flags less → Clears Q flags less
+clears_as P Q flags less to from is = record {
+  count = is.count;
+  still = is.still;
+  kept = λ a e q. is.kept a e (from a q);
+  cleared = λ a e d. to a (is.cleared a e d);
+}
 
-pub drop_below : (held : List Bool) (old : Head) (v : FreeNumbers) (p : ℕ) → MayDrop held old v → address_of old p ≤ length held
-drop_below held old v p may = up_to (address_of old p) (length held) (λ a e. may.below a p e)
+pub clears_then : (P Q : ℕ → Type 0) (flags some less : List Bool) → Clears P flags some → Clears Q some less → Clears (λ a. P a ⊎ Q a) flags less
+clears_then P Q flags some less one two = record {
+  count = two.count ∙ one.count;
+  still = λ a e. one.still a (two.still a e);
+  kept = λ a e. ⊎_elim (λ p. one.kept a (two.still a e) p) (λ q. two.kept a e q);
+  cleared = λ a e d. elim (cases_Bool (slice_index_or some a false)) [
+    | inl set ↦ inr (two.cleared a set d)
+    | inr clear ↦ inl (one.cleared a e clear)
+  ];
+}
 
-module _ (held : List Bool) (old new : Head) (n : ℕ) (v w : FreeNumbers) (may : MayDrop held old v) (so_far : Drops held old new n v w) where
-  -- what is dropped next isn't free yet
-  pub still_used : (a : ℕ) → address_of old n ≡ suc a → is_free w a ≡ false
-  still_used a here = false_from_ne_true (is_free w a) (λ free. ⊎_elim
-      (λ (was : is_free v a ≡ true). let used : is_free v a ≡ false = may.used a n here in cc (was, used))
-      (λ (d : DropsAmong held old new n a). let same : d.block ≡ n = may.once a d.block n d.dropped.was here in let lt = d.below in omega arith)
-      (so_far.only a free))
+pub clears_nothing : (P : ℕ → Type 0) (flags : List Bool) → ((a : ℕ) → P a → ⊥) → Clears P flags flags
+clears_nothing P flags none = record {
+  count = refl;
+  still = λ a e. e;
+  kept = λ a e p. none a p;
+  cleared = λ a e d. absurd (true≢false (sym e ∙ d));
+}
 
-  earlier : (a : ℕ) → (is_free v a ≡ true) ⊎ DropsAmong held old new n a → (is_free v a ≡ true) ⊎ DropsAmong held old new (n + 1) a
-  earlier a (inl e) = inl e
-  earlier a (inr d) = inr (record { block = d.block; below = let lt = d.below in omega arith; dropped = d.dropped })
+-- a flag that is cleared, wherever it stands
+cleared_at : (flags : List Bool) (b : ℕ) → slice_index_or (slice_set flags b false) b false ≡ false
+cleared_at flags b = elim (cases_lt b (length flags)) [
+  | inl lt ↦ get_or-set_same flags b false false lt
+  | inr ge ↦ get_or_past (slice_set flags b false) b false (subst (λ (n : ℕ). n ≤ b) (sym (length-set flags b false)) ge)
+]
 
-  no_more : ((a : ℕ) → IsDropped held old new n a → ⊥) → Drops held old new (n + 1) v w
-  no_more none = record {
-    count = so_far.count;
-    promised = so_far.promised;
-    only = λ a e. earlier a (so_far.only a e);
-    kept = so_far.kept;
-    freed = λ q a lt d. elim (cases_eq q n) [
-      | inl e ↦ absurd (none a (subst (λ (k : ℕ). IsDropped held old new k a) e d))
-      | inr ne ↦ so_far.freed q a (omega arith) d
-    ];
-  }
+less_one : (b : ℕ) → suc b - 1 ≡ b
+less_one b = omega arith
 
-  module _ (b : ℕ) (is : IsDropped held old new n b) where
-    set_free : is_free (with_free w b true) b ≡ true
-    set_free = get_or-set_same w.flags b true false (let lt = may.below b n is.was in let c1 = so_far.count in let c2 = may.count in omega arith)
+clears_page : (b : ℕ) (flags : List Bool) → Clears (λ a. suc b ≡ suc a) flags (slice_set flags b false)
+clears_page b flags = record {
+  count = length-set flags b false;
+  still = λ a e. elim (cases_eq a b) [
+    | inl same ↦ absurd (true≢false (sym e ∙ at a same))
+    | inr ne ↦ sym (get_or-set_other flags b a false false ne) ∙ e
+  ];
+  kept = λ a e same. true≢false (sym e ∙ at a (let back : a ≡ b = omega arith in back));
+  cleared = λ a e d. elim (cases_eq a b) [
+    | inl same ↦ ap suc (sym same)
+    | inr ne ↦ absurd (true≢false (sym e ∙ sym (get_or-set_other flags b a false false ne) ∙ d))
+  ];
+}
+  where
+    at : (a : ℕ) → a ≡ b → slice_index_or (slice_set flags b false) a false ≡ false
+    at a same = ap (λ (k : ℕ). slice_index_or (slice_set flags b false) k false) same ∙ cleared_at flags b
 
-    free_stays : (a : ℕ) → is_free w a ≡ true → is_free (with_free w b true) a ≡ true
-    free_stays a e = elim (cases_eq a b) [
-      | inl same ↦ subst (λ (k : ℕ). is_free (with_free w b true) k ≡ true) (sym same) set_free
-      | inr ne ↦ get_or-set_other w.flags b a true false ne ∙ e
-    ]
+pub clears_one : (x : ℕ) (flags : List Bool) → Clears (λ a. x ≡ suc a) flags (unnamed_one x flags)
+clears_one zero flags = clears_nothing (λ a. zero ≡ suc a) flags (λ a e. omega (arith, e))
+clears_one (suc b) flags = subst (λ (l : List Bool). Clears (λ a. suc b ≡ suc a) flags l) (sym one_is) (clears_page b flags)
+  where
+    one_is : unnamed_one (suc b) flags ≡ slice_set flags b false
+    one_is = let t : nat_eq (suc b) 0 ≡ false = grind (arith, nat_tests) in ap (λ (c : Bool). if c then flags else slice_set flags (suc b - 1) false) t ∙ ap (λ (k : ℕ). slice_set flags k false) (less_one b)
 
-    one_more : Drops held old new (n + 1) v (with_free w b true)
-    one_more = record {
-      count = length-set w.flags b true ∙ so_far.count;
-      promised = so_far.promised;
-      only = λ a e. elim (cases_eq a b) [
-        | inl same ↦ inr (record { block = n; below = omega arith; dropped = subst (λ (k : ℕ). IsDropped held old new n k) (sym same) is })
-        | inr ne ↦ earlier a (so_far.only a (sym (get_or-set_other w.flags b a true false ne) ∙ e))
-      ];
-      kept = λ a e. free_stays a (so_far.kept a e);
-      freed = λ q a lt d. elim (cases_eq q n) [
-        | inl e ↦ let was : address_of old n ≡ suc a = subst (λ (k : ℕ). address_of old k ≡ suc a) e d.was in
-            let here : address_of old n ≡ suc b = is.was in
-            let same : a ≡ b = omega arith in
-            subst (λ (k : ℕ). is_free (with_free w b true) k ≡ true) (sym same) set_free
-        | inr ne ↦ free_stays a (so_far.freed q a (omega arith) d)
-      ];
-    }
+pub clears_all : (xs : List ℕ) (flags : List Bool) → Clears (λ a. (k : ℕ) × (slice_index xs k ≡ suc a)) flags (unnamed_all xs flags)
+clears_all [] flags = clears_nothing (λ a. (k : ℕ) × (slice_index [] k ≡ suc a)) flags (λ a h. let e = h.1 in omega (arith, e))
+clears_all (x ∷ xs) flags = clears_as (λ a. (x ≡ suc a) ⊎ ((k : ℕ) × (slice_index xs k ≡ suc a))) (λ a. (k : ℕ) × (slice_index (x ∷ xs) k ≡ suc a)) flags (unnamed_all (x ∷ xs) flags)
+    to from (clears_then (λ a. x ≡ suc a) (λ a. (k : ℕ) × (slice_index xs k ≡ suc a)) flags (unnamed_one x flags) (unnamed_all (x ∷ xs) flags) (clears_one x flags) (clears_all xs (unnamed_one x flags)))
+  where
+    to : (a : ℕ) → (x ≡ suc a) ⊎ ((k : ℕ) × (slice_index xs k ≡ suc a)) → (k : ℕ) × (slice_index (x ∷ xs) k ≡ suc a)
+    to a (inl e) = (0, e)
+    to a (inr h) = (suc h.0, h.1)
 
-  step : (x y : ℕ) (z s h : Bool) → address_of old n ≡ x → address_of new n ≡ y → nat_eq x 0 ≡ z → nat_eq x y ≡ s → slice_index_or held (x - 1) false ≡ h
-      → Drops held old new (n + 1) v (if z then w else if s then w else if h then w else with_free w (x - 1) true)
-  step zero y false s h ex ey ez es eh = absurd (cc ez)
-  step (suc b) y true s h ex ey ez es eh = absurd (let t : nat_eq (suc b) 0 ≡ true = ez in grind (arith, nat_tests, t))
-  step zero y true s h ex ey ez es eh = no_more (λ a d. let was = d.was in cc (was, ex))
-  step (suc b) y false true h ex ey ez es eh = no_more (λ a d. d.changed (let same : suc b ≡ y = grind (arith, nat_tests, es) in ey ∙ sym same ∙ sym ex ∙ d.was))
-  step (suc b) y false false true ex ey ez es eh = no_more (λ a d.
-      let was = d.was in let same : b ≡ a = cc (was, ex) in let loose = d.loose in let held_too : slice_index_or held a false ≡ true = subst (λ (k : ℕ). slice_index_or held k false ≡ true) (one_less b ∙ same) eh in cc (loose, held_too))
-  step (suc b) y false false false ex ey ez es eh = subst (λ (k : ℕ). Drops held old new (n + 1) v (with_free w k true)) (sym (one_less b)) (one_more b (record {
-    was = ex;
-    changed = λ e. let differ : nat_eq (suc b) y ≡ false = es in let same : suc b ≡ y = sym e ∙ ey in let t : nat_eq (suc b) y ≡ true = grind (arith, nat_tests, same) in cc (t, differ);
-    loose = subst (λ (k : ℕ). slice_index_or held k false ≡ false) (one_less b) eh;
-  }))
+    from : (a : ℕ) → (k : ℕ) × (slice_index (x ∷ xs) k ≡ suc a) → (x ≡ suc a) ⊎ ((k : ℕ) × (slice_index xs k ≡ suc a))
+    from a h = by h.0 h.1
+      where
+        by : (k : ℕ) → slice_index (x ∷ xs) k ≡ suc a → (x ≡ suc a) ⊎ ((k : ℕ) × (slice_index xs k ≡ suc a))
+        by zero e = inl e
+        by (suc k) e = inr (k, e)
 
-  pub drop_one : Drops held old new (n + 1) v (freed_one held (address_of old n) (address_of new n) w)
-  drop_one = step (address_of old n) (address_of new n) (nat_eq (address_of old n) 0) (nat_eq (address_of old n) (address_of new n)) (slice_index_or held (address_of old n - 1) false) refl refl refl refl refl
+-- a map page's address leads to it, and to what it has
+abbrev pub LeadsTo : List (List ℕ) → ℕ → ℕ → Type 0
+LeadsTo rows m a = ((k : ℕ) × (through (kept_entry rows) m k ≡ suc a)) ⊎ (m ≡ suc a)
 
--- blocks that keep their data pages drop nothing
-module _ (held : List Bool) (old new : Head) (first end : ℕ) (blocks : ChangesBlocks old new first end) where
-  not_dropped : (q a : ℕ) → q < head_blocks → (q < first) ⊎ (end ≤ q) → IsDropped held old new q a → ⊥
-  not_dropped q a low out d = d.changed (blocks.same q low out ∙ d.was)
+pub clears_map : (rows : List (List ℕ)) (m : ℕ) (flags : List Bool) → Clears (λ a. LeadsTo rows m a) flags (unnamed_map rows m flags)
+clears_map rows zero flags = clears_nothing (λ a. LeadsTo rows zero a) flags none
+  where
+    none : (a : ℕ) → LeadsTo rows zero a → ⊥
+    none a (inl h) = let e = h.1 in omega (arith, e)
+    none a (inr e) = omega (arith, e)
+clears_map rows (suc d) flags = clears_then (λ a. (k : ℕ) × (slice_index (row_at rows d) k ≡ suc a)) (λ a. suc d ≡ suc a) flags (unnamed_all (row_at rows d) flags) (unnamed_map rows (suc d) flags)
+    (clears_all (row_at rows d) flags) (clears_one (suc d) (unnamed_all (row_at rows d) flags))
 
-  pub none_dropped : (v : FreeNumbers) → Drops held old new first v v
-  none_dropped v = record {
-    count = refl;
-    promised = refl;
-    only = λ a e. inl e;
-    kept = λ a e. e;
-    freed = λ q a lt d. absurd (not_dropped q a (let range = blocks.range in let within = blocks.within in omega arith) (inl lt) d);
-  }
+pub clears_maps : (rows : List (List ℕ)) (ms : List ℕ) (flags : List Bool) → Clears (λ a. (j : ℕ) × LeadsTo rows (slice_index ms j) a) flags (unnamed_maps rows ms flags)
+clears_maps rows [] flags = clears_nothing (λ a. (j : ℕ) × LeadsTo rows (slice_index [] j) a) flags (λ a h. none a h.1)
+  where
+    none : (a : ℕ) → LeadsTo rows zero a → ⊥
+    none a (inl h) = let e = h.1 in omega (arith, e)
+    none a (inr e) = omega (arith, e)
+clears_maps rows (m ∷ ms) flags = clears_as (λ a. LeadsTo rows m a ⊎ ((j : ℕ) × LeadsTo rows (slice_index ms j) a)) (λ a. (j : ℕ) × LeadsTo rows (slice_index (m ∷ ms) j) a) flags (unnamed_maps rows (m ∷ ms) flags)
+    to from (clears_then (λ a. LeadsTo rows m a) (λ a. (j : ℕ) × LeadsTo rows (slice_index ms j) a) flags (unnamed_map rows m flags) (unnamed_maps rows (m ∷ ms) flags) (clears_map rows m flags) (clears_maps rows ms (unnamed_map rows m flags)))
+  where
+    to : (a : ℕ) → LeadsTo rows m a ⊎ ((j : ℕ) × LeadsTo rows (slice_index ms j) a) → (j : ℕ) × LeadsTo rows (slice_index (m ∷ ms) j) a
+    to a (inl h) = (0, h)
+    to a (inr h) = (suc h.0, h.1)
 
-  among_all : (v : FreeNumbers) (a : ℕ) → (is_free v a ≡ true) ⊎ DropsAmong held old new end a → (is_free v a ≡ true) ⊎ DropsAmong held old new head_blocks a
-  among_all v a (inl e) = inl e
-  among_all v a (inr d) = inr (record { block = d.block; below = let lt = d.below in let within = blocks.within in omega arith; dropped = d.dropped })
+    from : (a : ℕ) → (j : ℕ) × LeadsTo rows (slice_index (m ∷ ms) j) a → LeadsTo rows m a ⊎ ((j : ℕ) × LeadsTo rows (slice_index ms j) a)
+    from a h = by h.0 h.1
+      where
+        by : (j : ℕ) → LeadsTo rows (slice_index (m ∷ ms) j) a → LeadsTo rows m a ⊎ ((j : ℕ) × LeadsTo rows (slice_index ms j) a)
+        by zero e = inl e
+        by (suc j) e = inr (j, e)
 
-  pub all_dropped : (v w : FreeNumbers) → Drops held old new end v w → Drops held old new head_blocks v w
-  all_dropped v w so_far = record {
-    count = so_far.count;
-    promised = so_far.promised;
-    only = λ a e. among_all v a (so_far.only a e);
-    kept = so_far.kept;
-    freed = λ q a low d. elim (cases_lt q end) [
-      | inl lt ↦ so_far.freed q a lt d
-      | inr ge ↦ absurd (not_dropped q a low (inr ge) d)
-    ];
-  }
+-- a head's blocks from n on, and the map pages that a cut at n doesn't keep, lead to it
+abbrev pub LeadsFrom : List (List ℕ) → ℕ → List ℕ → List ℕ → ℕ → Type 0
+LeadsFrom rows n xs maps a = ((k : ℕ) × (slice_index (drop n xs) k ≡ suc a)) ⊎ ((j : ℕ) × LeadsTo rows (slice_index (drop (kept_maps n) maps) j) a)
+
+pub clears_from : (rows : List (List ℕ)) (n : ℕ) (xs maps : List ℕ) (flags : List Bool) → Clears (λ a. LeadsFrom rows n xs maps a) flags (unnamed_maps rows (drop (kept_maps n) maps) (unnamed_all (drop n xs) flags))
+clears_from rows n xs maps flags = clears_then (λ a. (k : ℕ) × (slice_index (drop n xs) k ≡ suc a)) (λ a. (j : ℕ) × LeadsTo rows (slice_index (drop (kept_maps n) maps) j) a) flags (unnamed_all (drop n xs) flags)
+    (unnamed_maps rows (drop (kept_maps n) maps) (unnamed_all (drop n xs) flags)) (clears_all (drop n xs) flags) (clears_maps rows (drop (kept_maps n) maps) (unnamed_all (drop n xs) flags))
+
+pub index_past : (n : ℕ) (xs : List ℕ) (k : ℕ) → slice_index (drop n xs) k ≡ slice_index xs (n + k)
+index_past n xs k = get_or-drop n xs k 0

@@ -1,159 +1,126 @@
--- A head takes the place of a slot's, and the table stays one.
-use Rattle.jn_files.proofs.Common.{head_blocks, ◌≡◌, ◌≢◌, inl, inr, ⊎_elim, ℕ, suc, ◌<◌, Bool, true, false, List, length, refl, sym, ap, subst, ◌∙◌, arith, cases_eq, cases_Bool, false_from_ne_true, get_or-set_same, get_or-set_other, length-set, slice_set, slice_index_or, FreeNumbers, is_free_number, Head, Free, PageCounts, head_in, is_free, is_of, address_of, AreHeads, IsHeadOf, IsFreeLeaf, IsTable, IsUnnamed, IsChanged, table_view, MayStand, MayDrop, DropsAmong, Drops}
+-- A table in memory stands by its heads, the rows of its map pages, and the flags of what is named.
+use Rattle.jn_files.proofs.Common.{◌≡◌, ◌≢◌, inl, inr, ◌<◌, ◌^◌, ℕ, Bool, true, false, List, length, Result, Ok, Err, refl, sym, ap, ◌∙◌, arith, slice_set, slice_index_or, not, ◌&&◌, OnOk, OnErr, cases_eq, cases_lt, false_from_ne_true, get_or-set_same, get_or-set_other, length-set, get_or_past, FreeNumbers, count_of, is_free_number, with_promised, Head, Free, PageCounts, IsTable, AreHeads, IsFreeLeaf, IsUnnamed, head_in, is_free, layouts_of, IsChanged, AreNamed, AreFree, IsKeptTable, table_view}
+use Rattle.std.proofs.lemmas.Bool.{true≢false}
 use Rattle.jn_files.specs.Inside.{Counts}
-use Rattle.jn_files.proofs.Cutting.{address_within, address_below}
 
 pub head_at_slot : (heads : List Head) (slot : ℕ) (h : Head) (j : ℕ) → slot < length heads → j ≡ slot → head_in (slice_set heads slot h) j ≡ h
-head_at_slot heads slot h j below e = subst (λ (k : ℕ). head_in (slice_set heads slot h) k ≡ h) (sym e) (get_or-set_same heads slot h Free below)
+head_at_slot heads slot h j below e = rw e (get_or-set_same heads slot h Free below)
 
 pub head_off_slot : (heads : List Head) (slot : ℕ) (h : Head) (j : ℕ) → j ≢ slot → head_in (slice_set heads slot h) j ≡ head_in heads j
 head_off_slot heads slot h j ne = get_or-set_other heads slot j h Free ne
-
-module _ (pool : ℕ) (heads : List Head) (held touched : List Bool) (fh fl : FreeNumbers) (slot : ℕ) (h : Head)
-    (is : IsTable (table_view pool heads held touched fh fl)) (may : MayStand (table_view pool heads held touched fh fl) slot h) where
-  at : (j : ℕ) → j ≡ slot → head_in (slice_set heads slot h) j ≡ h
-  at j e = head_at_slot heads slot h j may.below e
-
-  off : (j : ℕ) → j ≢ slot → head_in (slice_set heads slot h) j ≡ head_in heads j
-  off j ne = head_off_slot heads slot h j ne
-
-  pub may_drop : MayDrop held (head_in heads slot) fl
-  may_drop = record {
-    count = is.leaf_count;
-    below = λ a p e. let within = address_within (length held) (head_in heads slot) p (is.heads.each slot).is_head.within_leaves in omega arith;
-    used = λ a p e. false_from_ne_true (is_free_number fl a) (λ free. ((is.free_leaves a).0 free).unnamed slot p e);
-    once = λ a p q e d. (is.heads.addresses a slot p slot q e d).1;
-  }
-
-  pub new_heads : AreHeads (length held) (slice_set heads slot h)
-  new_heads = record {
-    each = λ j. elim (cases_eq j slot) [
-      | inl e ↦ subst (IsHeadOf (length held)) (sym (at j e)) may.head
-      | inr ne ↦ subst (IsHeadOf (length held)) (sym (off j ne)) (is.heads.each j)
-    ];
-    files = λ f i j at_i at_j. elim (cases_eq i slot) [
-      | inl e ↦ elim (cases_eq j slot) [
-        | inl d ↦ e ∙ sym d
-        | inr nd ↦ e ∙ sym (may.file f j (subst (λ (x : Head). is_of f x ≡ true) (at i e) at_i) (subst (λ (x : Head). is_of f x ≡ true) (off j nd) at_j))
-      ]
-      | inr ne ↦ elim (cases_eq j slot) [
-        | inl d ↦ may.file f i (subst (λ (x : Head). is_of f x ≡ true) (at j d) at_j) (subst (λ (x : Head). is_of f x ≡ true) (off i ne) at_i) ∙ sym d
-        | inr nd ↦ is.heads.files f i j (subst (λ (x : Head). is_of f x ≡ true) (off i ne) at_i) (subst (λ (x : Head). is_of f x ≡ true) (off j nd) at_j)
-      ]
-    ];
-    addresses = λ a i p j q at_i at_j. elim (cases_eq i slot) [
-      | inl e ↦ elim (cases_eq j slot) [
-        | inl d ↦ (e ∙ sym d, may.once a p q (subst (λ (x : Head). address_of x p ≡ suc a) (at i e) at_i) (subst (λ (x : Head). address_of x q ≡ suc a) (at j d) at_j))
-        | inr nd ↦ absurd (nd (may.elsewhere a p j q (subst (λ (x : Head). address_of x p ≡ suc a) (at i e) at_i) (subst (λ (x : Head). address_of x q ≡ suc a) (off j nd) at_j)).0)
-      ]
-      | inr ne ↦ elim (cases_eq j slot) [
-        | inl d ↦ absurd (ne (may.elsewhere a q i p (subst (λ (x : Head). address_of x q ≡ suc a) (at j d) at_j) (subst (λ (x : Head). address_of x p ≡ suc a) (off i ne) at_i)).0)
-        | inr nd ↦ is.heads.addresses a i p j q (subst (λ (x : Head). address_of x p ≡ suc a) (off i ne) at_i) (subst (λ (x : Head). address_of x q ≡ suc a) (off j nd) at_j)
-      ]
-    ];
-  }
-
-  module _ (fh2 fl2 : FreeNumbers) (counts : Counts fh slot (is_free h) fh2) (drops : Drops held (head_in heads slot) h head_blocks fl fl2) where
-    same_length : length (slice_set heads slot h) ≡ length heads
-    same_length = length-set heads slot h
-
-    -- what is free now was so, or was dropped
-    leaf_free : (a : ℕ) → is_free_number fl2 a ≡ true → IsFreeLeaf (table_view pool (slice_set heads slot h) held touched fh2 fl2) a
-    leaf_free a free = ⊎_elim
-        (λ (was : is_free_number fl a ≡ true).
-        let old : IsFreeLeaf (table_view pool heads held touched fh fl) a = (is.free_leaves a).0 was in
-        record {
-          below = old.below;
-          loose = old.loose;
-          unnamed = λ j p e. elim (cases_eq j slot) [
-            | inl same ↦ let used : is_free_number fl a ≡ false = may.used a p (subst (λ (x : Head). address_of x p ≡ suc a) (at j same) e) in cc (was, used)
-            | inr ne ↦ old.unnamed j p (subst (λ (x : Head). address_of x p ≡ suc a) (off j ne) e)
-          ];
-        })
-        (λ (d : DropsAmong held (head_in heads slot) h head_blocks a). record {
-          below = may_drop.below a d.block d.dropped.was;
-          loose = d.dropped.loose;
-          unnamed = λ j p e. elim (cases_eq j slot) [
-            | inl same ↦
-                let here : address_of h p ≡ suc a = subst (λ (x : Head). address_of x p ≡ suc a) (at j same) e in
-                let block : d.block ≡ p = (may.elsewhere a p slot d.block here d.dropped.was).1 in
-                d.dropped.changed (subst (λ (k : ℕ). address_of h k ≡ suc a) (sym block) here)
-            | inr ne ↦ ne (is.heads.addresses a j p slot d.block (subst (λ (x : Head). address_of x p ≡ suc a) (off j ne) e) d.dropped.was).0
-          ];
-        })
-        (drops.only a free)
-
-    free_leaf : (a : ℕ) → IsFreeLeaf (table_view pool (slice_set heads slot h) held touched fh2 fl2) a → is_free_number fl2 a ≡ true
-    free_leaf a leaf = ⊎_elim
-        (λ (yes_free : is_free_number fl2 a ≡ true). yes_free)
-        (λ (used : is_free_number fl2 a ≡ false).
-        let unnamed : IsUnnamed heads a = λ j p e. elim (cases_eq j slot) [
-          | inl same ↦
-              let here : address_of (head_in heads slot) p ≡ suc a = subst (λ (k : ℕ). address_of (head_in heads k) p ≡ suc a) same e in
-              let freed : is_free_number fl2 a ≡ true = drops.freed p a (address_below (head_in heads slot) p a (is.heads.each slot).is_head.whole here)
-              (record { was = here; changed = λ new. leaf.unnamed slot p (subst (λ (x : Head). address_of x p ≡ suc a) (sym (at slot refl)) new); loose = leaf.loose }) in
-              cc (freed, used)
-          | inr ne ↦ leaf.unnamed j p (subst (λ (x : Head). address_of x p ≡ suc a) (sym (off j ne)) e)
-        ] in
-        let freed : is_free_number fl2 a ≡ true = drops.kept a ((is.free_leaves a).1 (record { below = leaf.below; loose = leaf.loose; unnamed = unnamed })) in
-        absurd (cc (freed, used)))
-        (cases_Bool (is_free_number fl2 a))
-
-    pub table_set : IsTable (table_view pool (slice_set heads slot h) held touched fh2 fl2)
-    table_set = record {
-      heads = new_heads;
-      slots = refl;
-      leaves = refl;
-      few_heads = let few = is.few_heads in let same = same_length in omega arith;
-      touches = is.touches;
-      few_leaves = is.few_leaves;
-      head_count = ap length counts.flags ∙ length-set fh.flags slot (is_free h) ∙ is.head_count ∙ sym same_length;
-      free_heads = λ j below. elim (cases_eq j slot) [
-        | inl e ↦ ap (λ (l : List Bool). slice_index_or l j false) counts.flags
-            ∙ subst (λ (k : ℕ). slice_index_or (slice_set fh.flags slot (is_free h)) k false ≡ is_free h) (sym e) (get_or-set_same fh.flags slot (is_free h) false (let n = is.head_count in let b = may.below in omega arith))
-            ∙ ap is_free (sym (at j e))
-        | inr ne ↦ ap (λ (l : List Bool). slice_index_or l j false) counts.flags
-            ∙ get_or-set_other fh.flags slot j (is_free h) false ne ∙ is.free_heads j (let same = same_length in omega arith) ∙ ap is_free (sym (off j ne))
-      ];
-      leaf_count = drops.count ∙ is.leaf_count;
-      free_leaves = λ a. (leaf_free a, free_leaf a);
-    }
-
-    pub is_changed : IsChanged (table_view pool heads held touched fh fl) slot h (table_view pool (slice_set heads slot h) held touched fh2 fl2)
-    is_changed = record {
-      counts = ap (λ (n : ℕ). let g : PageCounts = record { pool = pool; heads = n; leaves = length held } in g) same_length;
-      heads = refl;
-      held = refl;
-      touched = refl;
-      promised_heads = counts.promised;
-      promised_leaves = drops.promised;
-      table = table_set;
-    }
 
 -- a head that is read where it was put
 pub read_is : (heads after : List Head) (slot : ℕ) (h new : Head) → slot < length heads → after ≡ slice_set heads slot h → new ≡ head_in after slot → new ≡ h
 read_is heads after slot h new below after_is new_read = new_read ∙ ap (λ (l : List Head). head_in l slot) after_is ∙ head_at_slot heads slot h slot below refl
 
--- as the code has it, where an old and a new head are read from the list
-module _ (pool : ℕ) (heads : List Head) (held touched : List Bool) (fh fl fh2 fl2 : FreeNumbers) (slot : ℕ) (h old new : Head) (after : List Head) (held2 : List Bool) (free : Bool)
-    (is : IsTable (table_view pool heads held touched fh fl)) (may : MayStand (table_view pool heads held touched fh fl) slot h) (old_is : old ≡ head_in heads slot) (after_is : after ≡ slice_set heads slot h)
-    (new_read : new ≡ head_in after slot) (held_is : held2 ≡ held) where
-  new_is : new ≡ h
-  new_is = read_is heads after slot h new may.below after_is new_read
+-- ---- what is free, by flags of what is held and named
 
-  pub code_may_drop : MayDrop held2 old fl
-  code_may_drop = subst (λ (l : List Bool). MayDrop l old fl) (sym held_is) (subst (λ (x : Head). MayDrop held x fl) (sym old_is) (may_drop pool heads held touched fh fl slot h is may))
+neither : (x y : Bool) → (not x && not y) ≡ true → (x ≡ false) × (y ≡ false)
+neither false false e = (refl, refl)
+neither false true e = absurd (true≢false (sym e))
+neither true y e = absurd (true≢false (sym e))
 
-  module _ (free_is : free ≡ is_free new) (counts : Counts fh slot free fh2) (drops : Drops held2 old new head_blocks fl fl2) where
-    plain_counts : Counts fh slot (is_free h) fh2
-    plain_counts = subst (λ (b : Bool). Counts fh slot b fh2) (free_is ∙ ap is_free new_is) counts
+pub unnamed_clear : (rows : List (List ℕ)) (heads : List Head) (named : List Bool) → AreNamed (layouts_of rows heads) named → (a : ℕ) → a < length named → IsUnnamed (layouts_of rows heads) a → slice_index_or named a false ≡ false
+unnamed_clear rows heads named names a lt unnamed = false_from_ne_true (slice_index_or named a false) (λ e. let at = names.set a lt e in unnamed at.slot at.cell at.here)
 
-    plain_drops : Drops held (head_in heads slot) h head_blocks fl fl2
-    plain_drops = subst (λ (l : List Bool). Drops l (head_in heads slot) h head_blocks fl fl2) held_is
-        (subst (λ (x : Head). Drops held2 x h head_blocks fl fl2) old_is (subst (λ (x : Head). Drops held2 old x head_blocks fl fl2) new_is drops))
+-- what is free in a table
+pub free_by : (pool : ℕ) (heads : List Head) (rows : List (List ℕ)) (held touched named : List Bool) (fh fl : FreeNumbers) → IsKeptTable pool heads rows held touched named fh fl → AreFree held named fl
+free_by pool heads rows held touched named fh fl kept = record { names = kept.pages; count = kept.table.leaf_count; each = each }
+  where
+    below : (a : ℕ) → a < length held → a < length named
+    below a lt = let e = kept.pages in omega (arith, lt, e)
 
-    pub code_table : IsTable (table_view pool after held touched fh2 fl2)
-    code_table = subst (λ (l : List Head). IsTable (table_view pool l held touched fh2 fl2)) (sym after_is) (table_set pool heads held touched fh fl slot h is may fh2 fl2 plain_counts plain_drops)
+    used : (a : ℕ) → (IsFreeLeaf (table_view pool heads rows held touched fh fl) a → ⊥) → is_free_number fl a ≡ false
+    used a not_so = false_from_ne_true (is_free_number fl a) (λ free. not_so ((kept.table.free_leaves a).0 free))
 
-    pub code_changed : IsChanged (table_view pool heads held touched fh fl) slot h (table_view pool after held touched fh2 fl2)
-    code_changed = subst (λ (l : List Head). IsChanged (table_view pool heads held touched fh fl) slot h (table_view pool l held touched fh2 fl2)) (sym after_is) (is_changed pool heads held touched fh fl slot h is may fh2 fl2 plain_counts plain_drops)
+    by : (a : ℕ) → a < length held → (x y : Bool) → slice_index_or held a false ≡ x → slice_index_or named a false ≡ y → is_free_number fl a ≡ (not x && not y)
+    by a lt true y h n = used a (λ leaf. true≢false (sym h ∙ leaf.loose))
+    by a lt false true h n = used a (λ leaf. let at = kept.names.set a (below a lt) n in leaf.unnamed at.slot at.cell at.here)
+    by a lt false false h n = (kept.table.free_leaves a).1 (record { below = lt; loose = h; unnamed = kept.names.clear a (below a lt) n })
+
+    each : (a : ℕ) → a < length held → is_free_number fl a ≡ (not (slice_index_or held a false) && not (slice_index_or named a false))
+    each a lt = by a lt (slice_index_or held a false) (slice_index_or named a false) refl refl
+
+-- so it stands
+pub kept_by : (pool : ℕ) (heads : List Head) (rows : List (List ℕ)) (held touched named : List Bool) (fh fl : FreeNumbers) → AreHeads (length held) rows heads → length heads < 2 ^ 16 → length held < 2 ^ 16 → length touched ≡ length held
+    → count_of fh ≡ length heads → ((slot : ℕ) → slot < length heads → is_free_number fh slot ≡ is_free (head_in heads slot)) → AreNamed (layouts_of rows heads) named → AreFree held named fl
+    → IsKeptTable pool heads rows held touched named fh fl
+kept_by pool heads rows held touched named fh fl are few_heads few_leaves touches head_count head_free names frees = record {
+  table = record {
+    heads = are;
+    slots = refl;
+    leaves = refl;
+    touches = touches;
+    few_heads = few_heads;
+    few_leaves = few_leaves;
+    head_count = head_count;
+    free_heads = head_free;
+    leaf_count = frees.count;
+    free_leaves = λ a. (to a, from a);
+  };
+  pages = frees.names;
+  names = names;
+}
+  where
+    wide : (a : ℕ) → a < length held → a < length named
+    wide a lt = let e = frees.names in omega (arith, lt, e)
+
+    to : (a : ℕ) → is_free_number fl a ≡ true → IsFreeLeaf (table_view pool heads rows held touched fh fl) a
+    to a free = elim (cases_lt a (length held)) [
+      | inl lt ↦ let both = neither (slice_index_or held a false) (slice_index_or named a false) (sym (frees.each a lt) ∙ free) in record { below = lt; loose = both.0; unnamed = names.clear a (wide a lt) both.1 }
+      | inr past ↦ absurd (let none : is_free_number fl a ≡ false = get_or_past fl.flags a false (let long = frees.count in omega (arith, long, past)) in true≢false (sym free ∙ none))
+    ]
+
+    from : (a : ℕ) → IsFreeLeaf (table_view pool heads rows held touched fh fl) a → is_free_number fl a ≡ true
+    from a leaf =
+        let loose = leaf.loose in
+        let clear : slice_index_or named a false ≡ false = unnamed_clear rows heads named names a (wide a leaf.below) leaf.unnamed in
+        frees.each a leaf.below ∙ ap (λ (x : Bool). not x && not (slice_index_or named a false)) loose ∙ ap (λ (x : Bool). not x) clear
+
+-- what is promised is no part of it
+pub kept_flags : (pool : ℕ) (heads : List Head) (rows : List (List ℕ)) (held touched named : List Bool) (fh fl fh2 fl2 : FreeNumbers) → fh2.flags ≡ fh.flags → fl2.flags ≡ fl.flags → IsKeptTable pool heads rows held touched named fh fl
+    → IsKeptTable pool heads rows held touched named fh2 fl2
+kept_flags pool heads rows held touched named fh fl fh2 fl2 same_heads same_leaves kept =
+    let frees = free_by pool heads rows held touched named fh fl kept in
+    let table = kept.table in
+    kept_by pool heads rows held touched named fh2 fl2 table.heads table.few_heads table.few_leaves table.touches (ap length same_heads ∙ table.head_count)
+    (λ slot lt. ap (λ (l : List Bool). slice_index_or l slot false) same_heads ∙ table.free_heads slot lt) kept.names (record {
+      names = frees.names;
+      count = ap length same_leaves ∙ frees.count;
+      each = λ a lt. ap (λ (l : List Bool). slice_index_or l a false) same_leaves ∙ frees.each a lt;
+    })
+
+-- a promise that is given or isn't
+pub promise_flags : {A E : Type 0} (r : Result A E) (old new : FreeNumbers) (n : ℕ) → OnOk r (new ≡ with_promised old n) → OnErr r (new ≡ old) → new.flags ≡ old.flags
+promise_flags (Ok x) old new n ok err = ap (λ (v : FreeNumbers). v.flags) ok
+promise_flags (Err x) old new n ok err = ap (λ (v : FreeNumbers). v.flags) err
+
+-- ---- one table becomes another
+
+pub changed_to : (pool : ℕ) (heads new_heads : List Head) (rows new_rows : List (List ℕ)) (held touched : List Bool) (fh fl fh2 fl2 : FreeNumbers) → length new_heads ≡ length heads → fh2.promised ≡ fh.promised → fl2.promised ≡ fl.promised
+    → IsTable (table_view pool new_heads new_rows held touched fh2 fl2)
+    → IsChanged (table_view pool heads rows held touched fh fl) new_heads new_rows (table_view pool new_heads new_rows held touched fh2 fl2)
+changed_to pool heads new_heads rows new_rows held touched fh fl fh2 fl2 long promised_heads promised_leaves table = record {
+  counts = ap (λ (n : ℕ). let g : PageCounts = record { pool = pool; heads = n; leaves = length held } in g) long;
+  heads = refl;
+  maps = refl;
+  held = refl;
+  touched = refl;
+  promised_heads = promised_heads;
+  promised_leaves = promised_leaves;
+  table = table;
+}
+
+-- the free heads, once one slot's is free or isn't
+pub heads_counted : (heads : List Head) (slot : ℕ) (h : Head) (fh fh2 : FreeNumbers) → slot < length heads → count_of fh ≡ length heads → ((j : ℕ) → j < length heads → is_free_number fh j ≡ is_free (head_in heads j)) → Counts fh slot (is_free h) fh2
+    → (count_of fh2 ≡ length (slice_set heads slot h)) × ((j : ℕ) → j < length (slice_set heads slot h) → is_free_number fh2 j ≡ is_free (head_in (slice_set heads slot h) j))
+heads_counted heads slot h fh fh2 below count each counts = (
+  ap length counts.flags ∙ length-set fh.flags slot (is_free h) ∙ count ∙ sym (length-set heads slot h),
+  λ j lt. ap (λ (l : List Bool). slice_index_or l j false) counts.flags ∙ elim (cases_eq j slot) [
+    | inl e ↦ at j e ∙ ap is_free (sym (head_at_slot heads slot h j below e))
+    | inr ne ↦ get_or-set_other fh.flags slot j (is_free h) false ne ∙ each j (let same = length-set heads slot h in omega (arith, lt, same)) ∙ ap is_free (sym (head_off_slot heads slot h j ne))
+  ],
+)
+  where
+    at : (j : ℕ) → j ≡ slot → slice_index_or (slice_set fh.flags slot (is_free h)) j false ≡ is_free h
+    at j e = rw e (get_or-set_same fh.flags slot (is_free h) false (omega (arith, count, below)))

@@ -1,8 +1,9 @@
 -- Data pages are touched: cleaned before their first get, or put.
-use Rattle.jn_files.proofs.Common.{◌≡◌, ◌≢◌, ⊎_elim, ◌<◌, ◌≤◌, ◌+◌, ◌-◌, ℕ, suc, Bool, true, false, List, length, Option, Some, Result, Ok, refl, sym, ap, subst, ◌∙◌, true≢false, arith, cases_eq, get_or-set_same, get_or-set_other, slice_set, slice_index_or, take, is_ok, FileNo, BlockNo, Block, Files, Counts, data_place, StoreView, StoreLater, StoreGot, StoreCleaned, Candidate, IsSamePage, IsStop, IsCalm, IsWholePage, IsOnly, later_refl, later_trans, same_refl, same_trans, shrinks_only, stop_since, TableView, address_of, address_for, behind, head_in, is_touched, IsTable, leaves_in, IsLeaf, HoldsTable, files_in, HasPagesOfTable, Touches, BlockGot}
-use Rattle.jn_base.specs.declared.device.Stopped.{Stopped}
+use Rattle.jn_files.proofs.Common.{◌≡◌, ◌≢◌, ⊎_elim, ◌<◌, ◌≤◌, ◌+◌, ◌-◌, ℕ, suc, Bool, true, false, List, length, Option, Some, Result, Ok, refl, sym, ap, subst, ◌∙◌, arith, slice_set, slice_index_or, is_ok, cases_eq, get_or-set_same, get_or-set_other, FreeNumbers, Stopped, FileNo, BlockNo, Block, most_blocks, Files, Head, at_cell, kept_entry, behind, Counts, data_place, StoreView, StoreLater, StoreGot, StoreCleaned, Candidate, IsSamePage, IsStop, IsCalm, IsWholePage, IsOnly, later_refl, later_trans, same_refl, same_trans, shrinks_only, stop_since, TableView, IsTable, address_for, layouts_in, layout_in, is_touched, IsLeaf, HoldsTable, leaves_in, files_in, HasPagesOfTable, Touches, BlockGot, IsKeptTable, table_view}
+use Rattle.std.specs.Prelude.{take}
+use Rattle.std.proofs.lemmas.Bool.{true≢false}
 use Rattle.jn_files.proofs.Lookup.{named_by}
-use Rattle.jn_files.proofs.Putting.{files_first, named_below}
+use Rattle.jn_files.proofs.Said.{files_first, named_below, block_behind_is}
 
 -- another list of what is touched
 pub touched_table : (t : TableView) (xs : List Bool) → IsTable t → length xs ≡ t.counts.leaves → IsTable (record t { touched = xs })
@@ -20,6 +21,13 @@ touched_table t xs is long = record {
     λ free. let leaf = (is.free_leaves a).0 free in record { below = leaf.below; loose = leaf.loose; unnamed = leaf.unnamed },
     λ leaf. (is.free_leaves a).1 (record { below = leaf.below; loose = leaf.loose; unnamed = leaf.unnamed }),
   );
+}
+
+pub touched_kept : (pool : ℕ) (heads : List Head) (rows : List (List ℕ)) (held touched named xs : List Bool) (fh fl : FreeNumbers) → IsKeptTable pool heads rows held touched named fh fl → length xs ≡ length touched → IsKeptTable pool heads rows held xs named fh fl
+touched_kept pool heads rows held touched named xs fh fl kept long = record {
+  table = touched_table (table_view pool heads rows held touched fh fl) xs kept.table (long ∙ kept.table.touches);
+  pages = kept.pages;
+  names = kept.names;
 }
 
 -- one flag more is set
@@ -78,21 +86,22 @@ touched t v a ok u w is leaf = by (is_touched t a) refl
 
 -- ---- a block is read
 
-module _ (t : TableView) (v : StoreView) (is : IsTable t) (fits : HasPagesOfTable t v) (holds : HoldsTable t v) (f : FileNo) (p : BlockNo) (a : ℕ) (at : address_for t.heads f p.0 ≡ suc a) where
-  named : (slot : ℕ) × (address_of (head_in t.heads slot) p.0 ≡ suc a)
-  named = named_by f t.heads p.0 a at
+module _ (t : TableView) (v : StoreView) (is : IsTable t) (fits : HasPagesOfTable t v) (holds : HoldsTable t v) (f : FileNo) (p : BlockNo) (low : p.0 < most_blocks) (a : ℕ) (at : address_for (layouts_in t) f p.0 ≡ suc a) where
+  named : (slot : ℕ) × (at_cell (layout_in t slot) p.0 ≡ suc a)
+  named = named_by f (kept_entry t.maps) t.heads p.0 a at
 
   leaf : IsLeaf v (data_place t.counts a)
-  leaf = holds.leaves named.0 p.0 a named.1
+  leaf = holds.leaves named.0 p.0 a low named.1
 
   pub leaf_below : a < t.counts.leaves
-  leaf_below = named_below t.counts t.heads is.heads named.0 p.0 a named.1
+  leaf_below = named_below t.counts t.maps t.heads is.heads named.0 p.0 a named.1
 
   place_below : data_place t.counts a < v.count
   place_below = let lt = leaf_below in omega (arith, lt, fits)
 
   stored : files_in t.counts v (Block f p) ≡ Some (take 448 (v.first (data_place t.counts a)))
-  stored = ap (λ (files : Files). files (Block f p)) (files_first t.counts t.heads v is.slots is.few_leaves is.heads fits holds) ∙ ap (behind (leaves_in t.counts v.first)) at
+  stored = ap (λ (files : Files). files (Block f p)) (files_first t.counts t.maps t.heads v is.slots is.few_leaves is.heads fits holds)
+      ∙ block_behind_is t.maps t.heads (leaves_in t.counts v.first) f p low ∙ ap (behind (λ k. take 448 (leaves_in t.counts v.first k))) at
 
   -- the page that is found is the one that stood there
   page_is : (u : StoreView) → IsSamePage v u (data_place t.counts a) → (x : List ℕ) → Candidate u (data_place t.counts a) x → x ≡ v.first (data_place t.counts a)
@@ -142,15 +151,15 @@ module _ (t : TableView) (v : StoreView) (is : IsTable t) (fits : HasPagesOfTabl
       }
 
 -- the same of what the code has: x is the address in the head
-module _ (t : TableView) (v : StoreView) (is : IsTable t) (fits : HasPagesOfTable t v) (holds : HoldsTable t v) (f : FileNo) (p : BlockNo) (x : ℕ) (found : x ≡ address_for t.heads f p.0) where
-  less : (a : ℕ) → address_for t.heads f p.0 ≡ suc a → x - 1 ≡ a
+module _ (t : TableView) (v : StoreView) (is : IsTable t) (fits : HasPagesOfTable t v) (holds : HoldsTable t v) (f : FileNo) (p : BlockNo) (low : p.0 < most_blocks) (x : ℕ) (found : x ≡ address_for (layouts_in t) f p.0) where
+  less : (a : ℕ) → address_for (layouts_in t) f p.0 ≡ suc a → x - 1 ≡ a
   less a at = omega (arith, found, at)
 
-  at_less : x ≢ 0 → address_for t.heads f p.0 ≡ suc (x - 1)
+  at_less : x ≢ 0 → address_for (layouts_in t) f p.0 ≡ suc (x - 1)
   at_less some = sym found ∙ (let e : x ≡ suc (x - 1) = omega (arith, some) in e)
 
   pub code_below : x ≢ 0 → x - 1 < t.counts.leaves
-  code_below some = leaf_below t v is fits holds f p (x - 1) (at_less some)
+  code_below some = leaf_below t v is fits holds f p low (x - 1) (at_less some)
 
   counts_kept : (u : TableView) (w : StoreView) → Touches t v (x - 1) true u w → u.counts ≡ t.counts
   counts_kept u w touches = by (is_touched t (x - 1)) refl
@@ -166,21 +175,21 @@ module _ (t : TableView) (v : StoreView) (is : IsTable t) (fits : HasPagesOfTabl
     pub code_place : x ≢ 0 → i < between.count
     code_place some =
         let at = at_less some in
-        let lt = place_below t v is fits holds f p (x - 1) at in
-        let same = (touched t v (x - 1) true u between touches (leaf t v is fits holds f p (x - 1) at)).later.count in
+        let lt = place_below t v is fits holds f p low (x - 1) at in
+        let same = (touched t v (x - 1) true u between touches (leaf t v is fits holds f p low (x - 1) at)).later.count in
         let e = place_is in
         omega (arith, lt, same, e)
 
     pub code_got : (page : Result (List ℕ) Stopped) (answer : Result (Option (List ℕ)) Stopped) (w : StoreView) → StoreGot between i page w → is_ok answer ≡ is_ok page
-        → ((block : Option (List ℕ)) → answer ≡ Ok block → (y : List ℕ) × (page ≡ Ok y) × (block ≡ Some (take 448 y))) → (a : ℕ) → address_for t.heads f p.0 ≡ suc a → BlockGot t v f p a answer u w
+        → ((block : Option (List ℕ)) → answer ≡ Ok block → (y : List ℕ) × (page ≡ Ok y) × (block ≡ Some (take 448 y))) → (a : ℕ) → address_for (layouts_in t) f p.0 ≡ suc a → BlockGot t v f p a answer u w
     code_got page answer w got as_page block_of a at = subst (λ k. BlockGot t v f p k answer u w) (less a at)
-        (ready_got t v is fits holds f p (x - 1) (subst (λ k. address_for t.heads f p.0 ≡ suc k) (sym (less a at)) at) u between page answer w touches (subst (λ k. StoreGot between k page w) place_is got) as_page block_of)
+        (ready_got t v is fits holds f p low (x - 1) (subst (λ k. address_for (layouts_in t) f p.0 ≡ suc k) (sym (less a at)) at) u between page answer w touches (subst (λ k. StoreGot between k page w) place_is got) as_page block_of)
 
   pub code_stopped : (u : TableView) (between : StoreView) (ok : Bool) (page : Result (List ℕ) Stopped) (answer : Result (Option (List ℕ)) Stopped) → Touches t v (x - 1) ok u between → ok ≡ false → is_ok answer ≡ false
-      → (a : ℕ) → address_for t.heads f p.0 ≡ suc a → BlockGot t v f p a answer u between
+      → (a : ℕ) → address_for (layouts_in t) f p.0 ≡ suc a → BlockGot t v f p a answer u between
   code_stopped u between ok page answer touches bad no_ok a at =
       let stopped = subst (λ b. Touches t v (x - 1) b u between) bad touches in
-      subst (λ k. BlockGot t v f p k answer u between) (less a at) (not_ready t v is fits holds f p (x - 1) (subst (λ k. address_for t.heads f p.0 ≡ suc k) (sym (less a at)) at) u between page answer stopped no_ok)
+      subst (λ k. BlockGot t v f p k answer u between) (less a at) (not_ready t v is fits holds f p low (x - 1) (subst (λ k. address_for (layouts_in t) f p.0 ≡ suc k) (sym (less a at)) at) u between page answer stopped no_ok)
 
 pub no_block : {A E : Type 0} (answer : Result A E) (P : A → Type 0) → is_ok answer ≡ false → (block : A) → answer ≡ Ok block → P block
 no_block answer P no_ok block e = absurd (true≢false (sym (ap is_ok e) ∙ no_ok))

@@ -1,31 +1,28 @@
 -- What the calls of a table of files do to it and to its store.
-use Rattle.std.specs.Prelude.{◌≡◌, ◌⊎◌, ℕ, suc, ◌+◌, ◌*◌, ◌≤◌, ◌<◌, Bool, true, false, List, slice_set, Option, Result, Ok, is_ok, nat_lt}
+use Rattle.std.specs.Prelude.{◌≡◌, ◌≢◌, ◌⊎◌, ℕ, suc, ◌+◌, ◌*◌, ◌%◌, ◌≤◌, ◌<◌, Bool, true, false, List, slice_set, take, Option, Result, Ok, is_ok}
 use Rattle.jn_alloc.specs.Free.{free_count, FreeNumbers, with_free, with_promised, IsLeastFree}
 use Rattle.jn_base.specs.declared.device.Stopped.{Stopped}
 use Rattle.jn_base.specs.declared.names.FileNo.{FileNo}
 use Rattle.jn_base.specs.declared.names.BlockNo.{BlockNo}
 use Rattle.jn_base.specs.declared.names.LockUnit.TheVariants.{Block}
-use Rattle.jn_order.specs.Files.{Change, change}
+use Rattle.jn_base.specs.Limits.{head_blocks}
+use Rattle.jn_order.specs.Files.{Change, change, cut_from, written}
 use Rattle.jn_records.specs.declared.head.Head.{Head}
-use Rattle.jn_records.specs.Heads.{head_page}
+use Rattle.jn_records.specs.Heads.{head_page, map_page}
+use Rattle.jn_records.specs.Layouts.{at_cell, head_map, layout_at, map_cell, IsNoMap}
+use Rattle.jn_records.specs.MapPlaces.{is_in_range, maps_named}
+use Rattle.jn_records.specs.NetLists.{among}
 use Rattle.jn_records.specs.StablePages.{Counts, Pages, head_place, data_place, page_count, files_of_pages}
-use Rattle.jn_store.specs.Store.{StoreView, StoreLater, StoreGot, StorePut, StoreCleaned, IsSamePage, IsCalm, IsServed, IsStop, IsWholePage}
+use Rattle.jn_store.specs.Store.{StoreView, StoreLater, StoreGot, StorePut, StoreCleaned, Shrinks, IsSamePage, IsCalm, IsServed, IsStop, IsWholePage}
 use Rattle.jn_store.specs.Choices.{IsChoice}
 use Rattle.jn_store.specs.DeviceCalls.{cleaned_get_calls}
-use Rattle.jn_files.specs.Table.{TableView, IsTable, head_in, is_of, exists, is_held, is_touched, IsUnnamed, files_of, address_of, is_mapped}
+use Rattle.jn_files.specs.Table.{TableView, IsTable, AreHeads, head_in, is_of, exists, is_held, is_touched, IsUnnamed, files_of, is_mapped, layouts_of, layouts_in, layout_in, row_at, with_leaf, with_map, one_entry, cut_head, cut_addresses, cut_map, range_of}
 use Rattle.jn_files.specs.Pages.{Says, IsLeaf, leaf_page, HoldsTable, files_in}
 use Rattle.jn_index.specs.Least.{NextAfter}
 
 -- the store has the pages that the table counts
 abbrev pub HasPagesOfTable : TableView → StoreView → Type 0
 HasPagesOfTable t v = v.count ≡ page_count t.counts
-
--- so many gets: no page changes
-pub record StoreRead (v : StoreView) (gets : ℕ) (w : StoreView) : Type 0 where
-  pub later : StoreLater v w
-  pub calls : w.calls ≤ v.calls + 8 * gets
-  pub puts : w.puts ≡ v.puts
-  pub same : (j : ℕ) → IsSamePage v w j
 
 -- ---- loading
 
@@ -38,55 +35,135 @@ pub record IsLoaded (g : Counts) (t : TableView) : Type 0 where
   pub promised_heads : t.free_heads.promised ≡ 0
   pub promised_leaves : t.free_leaves.promised ≡ 0
 
--- ---- heads
+-- What a load does to its store, done or stopped: it gets the heads, and cleans and gets each page that they name as a map page. So
+-- none of these has a new candidate, and no other page another.
+pub record LoadedFrom (g : Counts) (heads : List Head) (v w : StoreView) : Type 0 where
+  pub later : StoreLater v w
+  pub calls : w.calls ≤ v.calls + (8 * g.heads + cleaned_get_calls * maps_named heads)
+  pub fewer : (i : ℕ) → i < v.count → Shrinks v w i
+  pub others : (i : ℕ) → i < v.count → ((d : ℕ) → i ≡ data_place g d → IsNoMap heads d) → IsSamePage v w i
 
--- one slot has another head; what is free follows
-pub record IsChanged (t : TableView) (slot : ℕ) (h : Head) (u : TableView) : Type 0 where
+-- ---- heads and map pages
+
+-- the heads and the rows of map pages are others; what is free follows
+pub record IsChanged (t : TableView) (new_heads : List Head) (rows : List (List ℕ)) (u : TableView) : Type 0 where
   pub counts : u.counts ≡ t.counts
-  pub heads : u.heads ≡ slice_set t.heads slot h
+  pub heads : u.heads ≡ new_heads
+  pub maps : u.maps ≡ rows
   pub held : u.held ≡ t.held
   pub touched : u.touched ≡ t.touched
   pub promised_heads : u.free_heads.promised ≡ t.free_heads.promised
   pub promised_leaves : u.free_leaves.promised ≡ t.free_leaves.promised
   pub table : IsTable u
 
--- One slot gets this head by one put of its page, which is this change of the files: the table and the store before,
+-- One slot's layout becomes another by one put of one page, which is this change of the files: the table and the store before,
 -- then after. The change may take a block from a data page.
-pub record PutsHead (t : TableView) (v : StoreView) (slot : ℕ) (h : Head) (c : (ℕ → List ℕ) → Change) (ok : Bool) (u : TableView) (w : StoreView) : Type 0 where
-  pub put : StorePut v (head_place t.counts slot) (head_page h) ok w
-  pub done : ok ≡ true → IsChanged t slot h u
+pub record PutsLayout (t : TableView) (v : StoreView) (slot : ℕ) (heads : List Head) (rows : List (List ℕ)) (place : ℕ) (page : List ℕ) (c : (ℕ → List ℕ) → Change) (ok : Bool) (u : TableView) (w : StoreView) : Type 0 where
+  pub put : StorePut v place page ok w
+  pub done : ok ≡ true → IsChanged t heads rows u
   -- the table is as before a stop, whatever the store holds
   pub stopped : ok ≡ false → u ≡ t
+  -- no other slot's layout changes, and what is put is of the format
+  pub one : layouts_of rows heads ≡ slice_set (layouts_in t) slot (layout_at (layouts_of rows heads) slot)
+  pub sound : AreHeads t.counts.leaves rows heads
   pub holds : HoldsTable t v → ok ≡ true → HoldsTable u w
-  -- the pages, as they turn out to be, say the old heads or the new
-  pub says_new : HoldsTable t v → ok ≡ true → (d : Pages) → IsChoice w d → Says t.counts d (slice_set t.heads slot h)
-  pub old_or_new : HoldsTable t v → (d : Pages) → IsChoice w d → Says t.counts d t.heads ⊎ Says t.counts d (slice_set t.heads slot h)
+  -- the pages, as they turn out to be, say the old layouts or the new
+  pub says_new : HoldsTable t v → ok ≡ true → (d : Pages) → IsChoice w d → Says t.counts d rows heads
+  pub old_or_new : HoldsTable t v → (d : Pages) → IsChoice w d → Says t.counts d t.maps t.heads ⊎ Says t.counts d rows heads
   -- so they hold the files before or those after the change, whole
-  pub changes : (leaves : ℕ → List ℕ) → files_of (slice_set t.heads slot h) leaves ≡ change (c leaves) (files_of t.heads leaves)
+  pub changes : (leaves : ℕ → List ℕ) → files_of (layouts_of rows heads) leaves ≡ change (c leaves) (files_of (layouts_in t) leaves)
   pub files_done : HoldsTable t v → ok ≡ true → (d : Pages) → IsChoice w d → files_of_pages t.counts d ≡ change (c (λ a. v.first (data_place t.counts a))) (files_in t.counts v)
   pub files_stopped : HoldsTable t v → (d : Pages) → IsChoice w d
       → (files_of_pages t.counts d ≡ files_in t.counts v) ⊎ (files_of_pages t.counts d ≡ change (c (λ a. v.first (data_place t.counts a))) (files_in t.counts v))
+
+-- a slot's head is put, where the rows of map pages are these
+abbrev pub PutsHead : TableView → StoreView → ℕ → Head → List (List ℕ) → ((ℕ → List ℕ) → Change) → Bool → TableView → StoreView → Type 0
+PutsHead t v slot h rows c ok u w = PutsLayout t v slot (slice_set t.heads slot h) rows (head_place t.counts slot) (head_page h) c ok u w
+
+-- data page d, which is a map page of a slot's head, is put with other entries
+abbrev pub PutsMap : TableView → StoreView → ℕ → ℕ → List ℕ → ((ℕ → List ℕ) → Change) → Bool → TableView → StoreView → Type 0
+PutsMap t v slot d row c ok u w = PutsLayout t v slot t.heads (slice_set t.maps d row) (data_place t.counts d) (map_page row) c ok u w
+
+-- a data page that no head names gets these entries: no layout and no file changes, and it is no touch
+pub record FillsMap (t : TableView) (v : StoreView) (d : ℕ) (row : List ℕ) (ok : Bool) (w : StoreView) : Type 0 where
+  pub put : StorePut v (data_place t.counts d) (map_page row) ok w
+  pub holds : HoldsTable t v → HoldsTable t w
+  pub files : HoldsTable t v → (pages : Pages) → IsChoice w pages → files_of_pages t.counts pages ≡ files_in t.counts v
 
 -- the slot of a file's head, or the lowest free one where it has none
 abbrev pub IsPlaceOf : TableView → FileNo → ℕ → Type 0
 IsPlaceOf t f slot = (is_of f (head_in t.heads slot) ≡ true) ⊎ ((exists t.heads f ≡ false) × IsLeastFree t.free_heads slot)
 
--- a file's head is put
-pub record SetsHead (t : TableView) (v : StoreView) (f : FileNo) (new_head : Head → Head) (c : (ℕ → List ℕ) → Change) (ok : Bool) (u : TableView) (w : StoreView) : Type 0 where
+-- a file is made empty or gone: its head is put
+pub record SetsHead (t : TableView) (v : StoreView) (f : FileNo) (h : Head) (c : Change) (ok : Bool) (u : TableView) (w : StoreView) : Type 0 where
   pub slot : ℕ
   pub below : slot < t.counts.heads
   pub place : IsPlaceOf t f slot
-  pub puts : PutsHead t v slot (new_head (head_in t.heads slot)) c ok u w
+  pub puts : PutsHead t v slot h t.maps (λ leaves. c) ok u w
+
+-- ---- cuts
+
+-- A cut at block n that falls inside of data page d as a map page: that page is put without its blocks from n on, and then the head.
+pub record CutsTwice (t : TableView) (v : StoreView) (f : FileNo) (n : BlockNo) (slot d : ℕ) (ok : Bool) (u : TableView) (w : StoreView) : Type 0 where
+  -- the table and the store between the two, and whether the first was done
+  pub table : TableView
+  pub store : StoreView
+  pub ready : Bool
+  pub inside : PutsMap t v slot d (cut_addresses (n.0 % head_blocks) (row_at t.maps d)) (λ leaves. among (λ p. is_in_range (range_of n.0) p.0) (cut_from f n)) ready table store
+  pub whole : ready ≡ true → PutsHead table store slot (cut_head n.0 (head_in t.heads slot)) table.maps (λ leaves. cut_from f n) ok u w
+  pub stopped : ready ≡ false → (ok ≡ false) × (u ≡ table) × (w ≡ store)
+
+-- the blocks of a file from n on are taken away
+pub record CutsFile (t : TableView) (v : StoreView) (f : FileNo) (n : BlockNo) (ok : Bool) (u : TableView) (w : StoreView) : Type 0 where
+  pub slot : ℕ
+  pub below : slot < t.counts.heads
+  pub own : is_of f (head_in t.heads slot) ≡ true
+  pub at_once : cut_map n.0 (head_in t.heads slot) ≡ 0 → PutsHead t v slot (cut_head n.0 (head_in t.heads slot)) t.maps (λ leaves. cut_from f n) ok u w
+  pub in_two : (d : ℕ) → cut_map n.0 (head_in t.heads slot) ≡ suc d → CutsTwice t v f n slot d ok u w
+
+-- ---- blocks
+
+-- what data page a gives block p of a file
+abbrev pub block_written : FileNo → BlockNo → ℕ → (ℕ → List ℕ) → Change
+block_written f p a leaves = written f p (take 448 (leaves a))
+
+-- A block comes with a new map page, data page d, for its address alone: that page is put, and then the head that names it.
+pub record BringsMap (t : TableView) (v : StoreView) (f : FileNo) (p : BlockNo) (a slot d : ℕ) (ok : Bool) (u : TableView) (w : StoreView) : Type 0 where
+  -- the store between the two, and whether the first was done
+  pub store : StoreView
+  pub ready : Bool
+  pub fills : FillsMap t v d (one_entry (p.0 % head_blocks) a) ready store
+  pub head : ready ≡ true → PutsHead t store slot (with_map (range_of p.0) d (head_in t.heads slot)) (slice_set t.maps d (one_entry (p.0 % head_blocks) a)) (block_written f p a) ok u w
+  pub stopped : ready ≡ false → (ok ≡ false) × (u ≡ t) × (w ≡ store)
+
+-- Data page a becomes a file's block: in the head, in the map page that is there, or in the data page that the address m leads to.
+pub record SetsBlock (t : TableView) (v : StoreView) (f : FileNo) (p : BlockNo) (a m : ℕ) (ok : Bool) (u : TableView) (w : StoreView) : Type 0 where
+  pub slot : ℕ
+  pub below : slot < t.counts.heads
+  pub own : is_of f (head_in t.heads slot) ≡ true
+  pub in_head : p.0 < head_blocks → PutsHead t v slot (with_leaf p.0 a (head_in t.heads slot)) t.maps (block_written f p a) ok u w
+  pub in_map : head_blocks ≤ p.0 → (d : ℕ) → head_map (head_in t.heads slot) (range_of p.0) ≡ suc d
+      → PutsMap t v slot d (slice_set (row_at t.maps d) (p.0 % head_blocks) (suc a)) (block_written f p a) ok u w
+  pub with_new : head_blocks ≤ p.0 → head_map (head_in t.heads slot) (range_of p.0) ≡ 0 → (d : ℕ) → m ≡ suc d → BringsMap t v f p a slot d ok u w
 
 -- who takes a number has no promise of what is left
 abbrev pub MayTake : FreeNumbers → Type 0
 MayTake free = (free_count free ≡ 0) ⊎ (free.promised < free_count free)
 
--- data page a may become block p of file f: it is held, it has one candidate, and no head names it elsewhere
+-- data page a may become block p of file f: it is held, it has one candidate, and it is named nowhere else
 pub record MayBecome (t : TableView) (v : StoreView) (f : FileNo) (p a : ℕ) : Type 0 where
   pub held : is_held t a ≡ true
   pub leaf : IsLeaf v (data_place t.counts a)
-  pub elsewhere : (slot q : ℕ) → address_of (head_in t.heads slot) q ≡ suc a → (is_of f (head_in t.heads slot) ≡ true) × (q ≡ p)
+  pub elsewhere : (slot q : ℕ) → at_cell (layout_in t slot) q ≡ suc a → (is_of f (head_in t.heads slot) ≡ true) × (q ≡ p)
+
+-- The address m leads to a data page that may become the map page of block p of file f, with data page a for the block: it is held and
+-- another, and it is named nowhere else.
+pub record MayBring (t : TableView) (f : FileNo) (p a m : ℕ) : Type 0 where
+  pub page : ℕ
+  pub is : m ≡ suc page
+  pub held : is_held t page ≡ true
+  pub differs : page ≢ a
+  pub elsewhere : (slot q : ℕ) → at_cell (layout_in t slot) q ≡ suc page → (is_of f (head_in t.heads slot) ≡ true) × (q ≡ map_cell (range_of p))
 
 -- ---- data pages
 
@@ -112,10 +189,10 @@ pub record Fills (t : TableView) (v : StoreView) (a : ℕ) (block : List ℕ) (o
 abbrev pub with_held : TableView → ℕ → TableView
 with_held t a = record t { held = slice_set t.held a true; free_leaves = with_free t.free_leaves a false }
 
--- it is let go: it is free where no head names it
+-- it is let go: it is free where nothing names it
 pub record LetsGo (t : TableView) (a : ℕ) (u : TableView) : Type 0 where
-  pub unnamed : IsUnnamed t.heads a → u ≡ record t { held = slice_set t.held a false; free_leaves = with_free t.free_leaves a true }
-  pub named : (slot p : ℕ) → address_of (head_in t.heads slot) p ≡ suc a → u ≡ record t { held = slice_set t.held a false }
+  pub unnamed : IsUnnamed (layouts_in t) a → u ≡ record t { held = slice_set t.held a false; free_leaves = with_free t.free_leaves a true }
+  pub named : (slot q : ℕ) → at_cell (layout_in t slot) q ≡ suc a → u ≡ record t { held = slice_set t.held a false }
 
 -- a data page is cleaned for the first time since the load
 pub record FirstTouch (t : TableView) (v : StoreView) (a : ℕ) (ok : Bool) (u : TableView) (w : StoreView) : Type 0 where
@@ -162,9 +239,5 @@ abbrev pub NextFile : List Head → Option FileNo → Option FileNo → Type 0
 NextFile heads after next = NextAfter (λ (f : FileNo). f.0) (exists heads) after next
 
 -- and the least block of a file that has an address
-abbrev pub NextBlock : List Head → FileNo → Option BlockNo → Option BlockNo → Type 0
-NextBlock heads f after next = NextAfter (λ (p : BlockNo). p.0) (λ p. is_mapped heads f p.0) after next
-
--- the same of one head
-abbrev pub NextAddress : Head → Option BlockNo → Option BlockNo → Type 0
-NextAddress h after next = NextAfter (λ (p : BlockNo). p.0) (λ p. nat_lt 0 (address_of h p.0)) after next
+abbrev pub NextBlock : TableView → FileNo → Option BlockNo → Option BlockNo → Type 0
+NextBlock t f after next = NextAfter (λ (p : BlockNo). p.0) (λ p. is_mapped (layouts_in t) f p.0) after next

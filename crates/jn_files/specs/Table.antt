@@ -1,14 +1,15 @@
 -- The table of files: which file each head has and where its blocks are, and which data pages are held.
-use Rattle.std.specs.Prelude.{◌≡◌, ◌≢◌, ◌↔◌, ℕ, zero, suc, ◌^◌, ◌<◌, Bool, true, false, List, [], ◌∷◌, length, take, replicate, slice_index, slice_index_or, slice_set, Option, Some, None, is_some, nat_lt, option_map, if◌then◌else◌}
+use Rattle.std.specs.Prelude.{◌≡◌, ◌≢◌, ◌↔◌, ◌-◌, ◌/◌, ◌%◌, ℕ, zero, suc, ◌^◌, ◌<◌, Bool, true, false, ◌&&◌, ◌||◌, List, [], ◌∷◌, length, take, replicate, slice_index_or, slice_set, Option, Some, None, is_some, nat_lt, nat_eq, if◌then◌else◌}
+use Rattle.std.specs.List.{find}
 use Rattle.jn_alloc.specs.Free.{FreeNumbers, count_of, is_free as is_free_number}
 use Rattle.jn_base.specs.declared.names.FileNo.{FileNo}
-use Rattle.jn_base.specs.declared.names.LockUnit.TheVariants.{File, Block}
 use Rattle.jn_base.specs.Names.{file_eq}
-use Rattle.jn_base.specs.Limits.{head_blocks, most_maps}
-use Rattle.jn_order.specs.Files.{Files, there}
+use Rattle.jn_base.specs.Limits.{head_blocks, most_maps, most_blocks}
+use Rattle.jn_order.specs.Files.{Files}
 use Rattle.jn_records.specs.declared.head.Head.{Head}
 use Rattle.jn_records.specs.declared.head.Head.TheVariants.{Free, Used}
-use Rattle.jn_records.specs.Heads.{IsHead, FileFits}
+use Rattle.jn_records.specs.Heads.{IsHead, FileFits, all_within}
+use Rattle.jn_records.specs.Layouts.{Layout, Unused, at_cell, kept_entry, layouts_by, layout_at, is_layout_of, files_in, head_map}
 use Rattle.jn_records.specs.StablePages.{Counts}
 
 -- what is seen of a table
@@ -17,6 +18,8 @@ pub record TableView : Type 0 where
   pub counts : Counts
   -- the heads, by slot
   pub heads : List Head
+  -- of each data page its entries, where a head names it as a map page; of no meaning else
+  pub maps : List (List ℕ)
   -- of each data page, whether it is held: then it isn't free, whatever the heads name
   pub held : List Bool
   -- of each data page, whether it was cleaned or put since the table was loaded
@@ -24,7 +27,7 @@ pub record TableView : Type 0 where
   pub free_heads : FreeNumbers
   pub free_leaves : FreeNumbers
 
--- ---- heads
+-- ---- heads and what they say together with their map pages
 
 -- a slot's head: free past the last slot
 abbrev pub head_in : List Head → ℕ → Head
@@ -38,35 +41,50 @@ abbrev pub is_of : FileNo → Head → Bool
 is_of f Free = false
 is_of f (Used g xs maps) = file_eq g f
 
-abbrev pub addresses_of : Head → List ℕ
-addresses_of Free = []
-addresses_of (Used f xs maps) = xs
+-- the entries of a data page as a map page
+abbrev pub row_at : List (List ℕ) → ℕ → List ℕ
+row_at rows d = slice_index_or rows d []
 
--- a block's address: 0 for none, else its data page's index and 1
-abbrev pub address_of : Head → ℕ → ℕ
-address_of h p = slice_index (addresses_of h) p
+abbrev pub layouts_of : List (List ℕ) → List Head → List Layout
+layouts_of rows heads = layouts_by (kept_entry rows) heads
 
--- data page a is named by no head
-abbrev pub IsUnnamed : List Head → ℕ → Type 0
-IsUnnamed heads a = (slot p : ℕ) → address_of (head_in heads slot) p ≢ suc a
+abbrev pub layouts_in : TableView → List Layout
+layouts_in t = layouts_of t.maps t.heads
+
+abbrev pub layout_in : TableView → ℕ → Layout
+layout_in t slot = layout_at (layouts_in t) slot
+
+-- data page a is named by no head and by no map page
+abbrev pub IsUnnamed : List Layout → ℕ → Type 0
+IsUnnamed layouts a = (slot q : ℕ) → at_cell (layout_at layouts slot) q ≢ suc a
 
 -- no file has two heads
 abbrev pub HaveOneHead : List Head → Type 0
 HaveOneHead heads = (f : FileNo) (i j : ℕ) → is_of f (head_in heads i) ≡ true → is_of f (head_in heads j) ≡ true → i ≡ j
 
 -- no data page is named twice
-abbrev pub AreNamedOnce : List Head → Type 0
-AreNamedOnce heads = (a i p j q : ℕ) → address_of (head_in heads i) p ≡ suc a → address_of (head_in heads j) q ≡ suc a → (i ≡ j) × (p ≡ q)
+abbrev pub AreNamedOnce : List Layout → Type 0
+AreNamedOnce layouts = (a i p j q : ℕ) → at_cell (layout_at layouts i) p ≡ suc a → at_cell (layout_at layouts j) q ≡ suc a → (i ≡ j) × (p ≡ q)
 
 -- each head has a page, and leads to data pages that there are
 pub record IsHeadOf (leaves : ℕ) (h : Head) : Type 0 where
   pub is_head : IsHead leaves h
   pub fits : FileFits h
 
-pub record AreHeads (leaves : ℕ) (heads : List Head) : Type 0 where
+-- and so does each map page
+pub record IsRow (leaves : ℕ) (row : List ℕ) : Type 0 where
+  pub count : length row ≡ head_blocks
+  pub within_leaves : all_within leaves row ≡ true
+
+pub record AreRows (leaves : ℕ) (rows : List (List ℕ)) : Type 0 where
+  pub count : length rows ≡ leaves
+  pub each : (d : ℕ) → d < leaves → IsRow leaves (row_at rows d)
+
+pub record AreHeads (leaves : ℕ) (rows : List (List ℕ)) (heads : List Head) : Type 0 where
   pub each : (slot : ℕ) → IsHeadOf leaves (head_in heads slot)
   pub files : HaveOneHead heads
-  pub addresses : AreNamedOnce heads
+  pub map_rows : AreRows leaves rows
+  pub addresses : AreNamedOnce (layouts_of rows heads)
 
 -- ---- what is free
 
@@ -81,10 +99,10 @@ is_touched t a = slice_index_or t.touched a false
 pub record IsFreeLeaf (t : TableView) (a : ℕ) : Type 0 where
   pub below : a < t.counts.leaves
   pub loose : is_held t a ≡ false
-  pub unnamed : IsUnnamed t.heads a
+  pub unnamed : IsUnnamed (layouts_in t) a
 
 pub record IsTable (t : TableView) : Type 0 where
-  pub heads : AreHeads t.counts.leaves t.heads
+  pub heads : AreHeads t.counts.leaves t.maps t.heads
   pub slots : length t.heads ≡ t.counts.heads
   pub leaves : length t.held ≡ t.counts.leaves
   pub touches : length t.touched ≡ t.counts.leaves
@@ -98,55 +116,65 @@ pub record IsTable (t : TableView) : Type 0 where
 
 -- ---- files
 
--- the addresses of a file's blocks, where it is there
-abbrev pub addresses : FileNo → List Head → Option (List ℕ)
-addresses f [] = None
-addresses f (h ∷ hs) = if is_of f h then Some (addresses_of h) else addresses f hs
-
-abbrev pub or_nil : Option (List ℕ) → List ℕ
-or_nil None = []
-or_nil (Some xs) = xs
-
--- what an address leads to: the first 448 bytes of the data page
-abbrev pub behind : (ℕ → List ℕ) → ℕ → Option (List ℕ)
-behind leaves zero = None
-behind leaves (suc a) = Some (take 448 (leaves a))
-
--- a block's address in its file's head, 0 where there is none
-abbrev pub address_for : List Head → FileNo → ℕ → ℕ
-address_for heads f p = slice_index (or_nil (addresses f heads)) p
-
--- the files of these heads, where the data pages are these
-abbrev pub files_of : List Head → (ℕ → List ℕ) → Files
-files_of heads leaves (File f) = option_map (λ xs. there) (addresses f heads)
-files_of heads leaves (Block f p) = behind leaves (address_for heads f p.0)
-
 abbrev pub exists : List Head → FileNo → Bool
-exists heads f = is_some (addresses f heads)
+exists heads f = is_some (find (is_of f) heads)
 
-abbrev pub is_mapped : List Head → FileNo → ℕ → Bool
-is_mapped heads f p = nat_lt 0 (address_for heads f p)
+abbrev pub or_unused : Option Layout → Layout
+or_unused None = Unused
+or_unused (Some h) = h
 
--- ---- heads as they are put
+-- the address at a cell of a file's layout, 0 where there is none
+abbrev pub address_for : List Layout → FileNo → ℕ → ℕ
+address_for layouts f q = at_cell (or_unused (find (is_layout_of f) layouts)) q
+
+abbrev pub is_mapped : List Layout → FileNo → ℕ → Bool
+is_mapped layouts f p = nat_lt p most_blocks && nat_lt 0 (address_for layouts f p)
+
+-- the files of these layouts, where the data pages are these: a block is the first 448 bytes of its data page
+abbrev pub files_of : List Layout → (ℕ → List ℕ) → Files
+files_of layouts leaves = files_in layouts (λ a. take 448 (leaves a))
+
+-- ---- heads and map pages as they are put
 
 -- a file's head without blocks
 abbrev pub fresh_head : FileNo → Head
 fresh_head f = Used f (replicate head_blocks 0) (replicate most_maps 0)
 
--- addresses, without those from a block on
+-- addresses, without those from one on
 abbrev pub cut_addresses : ℕ → List ℕ → List ℕ
 cut_addresses n [] = []
 cut_addresses zero (x ∷ xs) = 0 ∷ cut_addresses zero xs
 cut_addresses (suc n) (x ∷ xs) = x ∷ cut_addresses n xs
 
+-- how many map pages a cut at block n keeps: those whose first block is below it
+abbrev pub kept_maps : ℕ → ℕ
+kept_maps n = (n - 1) / head_blocks
+
 abbrev pub cut_head : ℕ → Head → Head
 cut_head n Free = Free
-cut_head n (Used f xs maps) = Used f (cut_addresses n xs) maps
+cut_head n (Used f xs maps) = Used f (cut_addresses n xs) (cut_addresses (kept_maps n) maps)
+
+-- the map page of block p
+abbrev pub range_of : ℕ → ℕ
+range_of p = p / head_blocks - 1
+
+-- the address of the map page that block n falls inside of, and isn't the first of: 0 where there is none
+abbrev pub cut_map : ℕ → Head → ℕ
+cut_map n h = if nat_lt n head_blocks || nat_eq (n % head_blocks) 0 then 0 else head_map h (range_of n)
 
 -- a head with data page a for block p
 abbrev pub with_leaf : ℕ → ℕ → Head → Head
 with_leaf p a Free = Free
 with_leaf p a (Used f xs maps) = Used f (slice_set xs p (suc a)) maps
+
+-- a head with data page d as map page j
+abbrev pub with_map : ℕ → ℕ → Head → Head
+with_map j d Free = Free
+with_map j d (Used f xs maps) = Used f xs (slice_set maps j (suc d))
+
+-- a map page with data page a for one block
+abbrev pub one_entry : ℕ → ℕ → List ℕ
+one_entry k a = slice_set (replicate head_blocks 0) k (suc a)
 
 -- a file's head with these addresses and map addresses, or a free one
 abbrev pub head_with : Option FileNo → List ℕ → List ℕ → Head

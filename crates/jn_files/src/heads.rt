@@ -1,12 +1,11 @@
 //! The heads in memory, each found by its file's number.
 ghost use Rattle.std.specs.Prelude.{◌≡◌, ◌<◌, ◌≤◌, ℕ, true, length, List, slice_set, is_some, IfOk, IfSome};
-ghost use Rattle.jn_base.specs.Limits.{most_blocks};
 ghost use Rattle.jn_files.specs.Table as table;
 ghost use Rattle.jn_files.specs.Calls as calls;
 ghost use Rattle.jn_files.specs.Inside as inside;
 
 use crate::slot::Slot;
-use jn_base::{BlockNo, FileNo};
+use jn_base::FileNo;
 use jn_index::Index;
 use std::alloc::{AllocError, Global};
 use std::marker::Model;
@@ -63,32 +62,11 @@ impl Heads {
         self.files.slot_from(f.0, 0)
     }
 
-    /// A block's address in its file's head, 0 where there is none.
-    pub fn address_for(&self, f: FileNo, p: BlockNo) -> u16
-        requires { p.0 < most_blocks }
-        ensures { result ≡ table.address_for self.now f p.0 }
-    {
-        match self.slot_of(f) {
-            Some(slot) => self.slot(slot).address(p.0),
-            None => 0,
-        }
-    }
-
     /// The least file above another, or the least of all.
     pub fn next(&self, after: Option<FileNo>) -> Option<FileNo>
         ensures { calls.NextFile self.now after result }
     {
         Some(FileNo(self.files.number_above(number_of(after))?))
-    }
-
-    /// The least block of a file above another that has an address, or the least of all.
-    pub fn next_block(&self, f: FileNo, after: Option<BlockNo>) -> Option<BlockNo>
-        ensures { calls.NextBlock self.now f after result }
-    {
-        match self.slot_of(f) {
-            Some(slot) => self.slot(slot).next_block(after),
-            None => None,
-        }
     }
 
     /// Puts another head in place of the slot's, which it gives back.

@@ -1,32 +1,29 @@
 //! A head as the table keeps it.
-ghost use Rattle.std.specs.Prelude.{◌≡◌, ◌^◌, ◌<◌, ◌≤◌, ◌≢◌, ℕ, suc, true, false, length, nat_lt, slice_index};
-ghost use Rattle.jn_base.specs.Limits.{head_blocks, most_maps};
+ghost use Rattle.std.specs.Prelude.{◌≡◌, ◌+◌, ◌*◌, ◌⊎◌, ◌^◌, ◌<◌, ◌≤◌, ℕ, true, false, length, nat_lt};
+ghost use Rattle.jn_base.specs.declared.names.BlockNo.{BlockNo as ABlock};
+ghost use Rattle.jn_base.specs.Limits.{head_blocks, most_maps, most_blocks};
+ghost use Rattle.jn_index.specs.Least.{LeastFrom};
 ghost use Rattle.jn_records.specs.declared.head.Head.TheVariants.{Free};
 ghost use Rattle.jn_records.specs.Heads.{head_page, has_page};
+ghost use Rattle.jn_records.specs.Layouts.{head_map};
 ghost use Rattle.jn_files.specs.Table as table;
 ghost use Rattle.jn_files.specs.Inside as inside;
-ghost use Rattle.jn_files.specs.Calls as calls;
-ghost use Rattle.jn_index.specs.Least.{LeastFrom, number_after};
-ghost use Rattle.jn_base.specs.declared.names.BlockNo.{BlockNo as Block};
 
+use crate::maps::{MapRow, Maps, Row, cut_row, first_from, with_entry};
+use crate::named::{name_maps, name_row, unname_maps, unname_row};
+use jn_alloc::FreeList;
 use jn_base::{BlockNo, FileNo, HEAD_BLOCKS, MOST_MAPS, Page, PageWriter};
 use jn_records::{Head, used_page};
 use std::marker::Model;
-
-/// Of each block its address: 0 for none, else its data page's index and 1.
-type Addresses = [u16; HEAD_BLOCKS];
-
-/// Of each map page its address, as it stands in the head's page: all are 0 so far.
-type Maps = [u16; MOST_MAPS];
 
 /// A head with its addresses in place, so that none of its changes takes memory. Contracts see the head.
 #[derive(Drop)]
 pub struct Slot {
     file: Option<FileNo>,
-    /// Of no meaning where no file has the head.
-    addresses: Addresses,
+    /// Of its first blocks the addresses; of no meaning where no file has the head.
+    addresses: Row,
     /// Of no meaning there either.
-    maps: Maps,
+    maps: MapRow,
 }
 
 impl Model for Slot {
@@ -106,10 +103,10 @@ impl Slot {
         }
     }
 
-    /// A block's address, 0 where there is none.
+    /// The address of one of its first blocks, 0 where there is none.
     pub fn address(&self, p: u16) -> u16
         requires { p < head_blocks }
-        ensures { result ≡ table.address_of self.now p }
+        ensures { result ≡ inside.head_address self.now p }
     {
         match self.file {
             None => 0,
@@ -117,24 +114,96 @@ impl Slot {
         }
     }
 
-    /// The least block above another that has an address, or the least of all.
-    pub fn next_block(&self, after: Option<BlockNo>) -> Option<BlockNo>
-        ensures { calls.NextAddress self.now after result }
+    /// The least of its first blocks from a number on that has an address.
+    fn first_block(&self, from: usize) -> Option<usize>
+        ensures { LeastFrom (λ (p : ℕ). p) (λ p. nat_lt 0 (inside.head_address self.now p)) from result }
     {
         match self.file {
             None => None,
-            Some(_) => first_from(&self.addresses, number_after(after)),
+            Some(_) => first_from(&self.addresses, from),
         }
     }
 
-    /// The head without its blocks from one on.
+    /// The address of a map page, 0 where there is none.
+    pub fn map(&self, j: u16) -> u16
+        requires { j < most_maps }
+        ensures { result ≡ head_map self.now j }
+    {
+        match self.file {
+            None => 0,
+            Some(_) => self.maps[j as usize],
+        }
+    }
+
+    /// Whether it has map pages.
+    fn has_maps(&self) -> bool
+        ensures { result ≡ false → (j : ℕ) → head_map self.now j ≡ 0 }
+    {
+        match self.file {
+            None => false,
+            Some(_) => self.maps != [0; MOST_MAPS],
+        }
+    }
+
+    /// Its data pages are named: of its blocks and of its map pages.
+    pub fn name_all(&self, named: &mut Vec<bool>, maps: &Maps)
+        requires head { table.IsHeadOf (length named.old.items) self.now }
+        requires rows { table.AreRows (length named.old.items) maps.now }
+        ensures { named.new.items ≡ inside.named_head maps.now self.now named.old.items }
+    {
+        match self.file {
+            None => {}
+            Some(_) => {
+                name_row(named, &self.addresses);
+                name_maps(named, maps, &self.maps);
+            }
+        }
+    }
+
+    /// Its data pages are named no more: of its blocks from `n` on, and of the map pages whose first block is `n` or above.
+    pub fn unname_from(
+        &self,
+        n: u16,
+        named: &mut Vec<bool>,
+        free: &mut FreeList,
+        held: &[bool],
+        maps: &Maps,
+    )
+        requires kept { inside.AreFree held.now named.old.items free.old }
+        requires head { table.IsHeadOf (length held.now) self.now }
+        requires rows { table.AreRows (length held.now) maps.now }
+        ensures kept { inside.AreFree held.now named.new.items free.new }
+        ensures named { named.new.items ≡ inside.unnamed_head maps.now n self.now named.old.items }
+        ensures promised { free.new.promised ≡ free.old.promised }
+    {
+        match self.file {
+            None => {}
+            Some(_) => {
+                unname_row(named, free, held, &self.addresses, n as usize);
+                unname_maps(named, free, held, maps, &self.maps, kept_maps(n));
+            }
+        }
+    }
+
+    /// The address of the map page that a block falls inside of, and isn't the first of: 0 where there is none.
+    pub fn cut_map(&self, n: u16) -> u16
+        requires { n < most_blocks }
+        ensures { result ≡ table.cut_map n self.now }
+    {
+        if n < HEAD_BLOCKS as u16 || n % HEAD_BLOCKS as u16 == 0 {
+            return 0;
+        }
+        self.map(n / HEAD_BLOCKS as u16 - 1)
+    }
+
+    /// The head without its blocks from one on, and without the map pages whose first block is that one or above.
     pub fn cut(&self, n: u16) -> Self
         ensures { result ≡ table.cut_head n self.now }
     {
         Slot {
             file: self.file,
-            addresses: cut_addresses(&self.addresses, n),
-            maps: self.maps,
+            addresses: cut_row(&self.addresses, n as usize),
+            maps: cut_maps(&self.maps, kept_maps(n)),
         }
     }
 
@@ -144,40 +213,87 @@ impl Slot {
         requires leaf { a < 65535 }
         ensures { result ≡ table.with_leaf p a self.now }
     {
-        let mut addresses = self.addresses;
-        addresses[p as usize] = a + 1;
         Slot {
             file: self.file,
-            addresses,
+            addresses: with_entry(&self.addresses, p as usize, a),
             maps: self.maps,
+        }
+    }
+
+    /// The head with a data page as a map page.
+    pub fn with_map(&self, j: u16, d: u16) -> Self
+        requires range { j < most_maps }
+        requires leaf { d < 65535 }
+        ensures { result ≡ table.with_map j d self.now }
+    {
+        let mut maps = self.maps;
+        maps[j as usize] = d + 1;
+        Slot {
+            file: self.file,
+            addresses: self.addresses,
+            maps,
         }
     }
 }
 
-/// The number behind a block, and 0 behind none.
-fn number_after(after: Option<BlockNo>) -> usize
-    ensures value { result ≡ number_after (λ (p : Block). p.0) after }
-    ensures few { result ≤ 2 ^ 16 }
+/// The least block from a number on that has an address, by a head with these map pages.
+pub fn block_from(head: &Slot, maps: &Maps, from: usize) -> Option<BlockNo>
+    requires head { table.IsHeadOf (length maps.now) head.now }
+    requires rows { table.AreRows (length maps.now) maps.now }
+    requires few { length maps.now ≤ 65535 }
+    ensures { LeastFrom (λ (p : ABlock). p.0) (inside.has_block maps.now head.now) from result }
 {
-    match after {
-        Some(block) => usize::from(block.0) + 1,
-        None => 0,
+    if let Some(p) = head.first_block(from) {
+        return Some(BlockNo(p as u16));
     }
-}
-
-/// The least block from a number on that has an address.
-fn first_from(addresses: &Addresses, from: usize) -> Option<BlockNo>
-    ensures { LeastFrom (λ (p : Block). p.0) (λ p. nat_lt 0 (slice_index addresses.now p.0)) from result }
-{
-    for block in from..HEAD_BLOCKS {
-        if addresses[block] > 0 {
-            return Some(BlockNo(block as u16));
+    if !head.has_maps() {
+        return None;
+    }
+    for j in first_map(from)..MOST_MAPS as u16 {
+        if let Some(p) = block_in_map(maps, head.map(j), j as usize, from) {
+            return Some(p);
         }
     }
     None
 }
 
-fn addresses_in(list: &[u16]) -> Addresses
+/// The first map page whose range may have a block from a number on.
+fn first_map(from: usize) -> u16
+    ensures { (result ≡ 0) ⊎ (head_blocks * (result + 1) ≤ from) }
+{
+    let range = from / HEAD_BLOCKS;
+    if range < 2 {
+        return 0;
+    }
+    if range > MOST_MAPS {
+        return MOST_MAPS as u16;
+    }
+    range as u16 - 1
+}
+
+/// The least block of a map page from a number on that has an address, where an address leads to the page.
+fn block_in_map(maps: &Maps, address: u16, j: usize, from: usize) -> Option<BlockNo>
+    requires below { address ≤ length maps.now }
+    requires rows { table.AreRows (length maps.now) maps.now }
+    requires range { j < most_maps }
+    ensures { LeastFrom (λ (p : ABlock). p.0) (inside.has_entry maps.now address j) from result }
+{
+    if address == 0 {
+        return None;
+    }
+    let first = HEAD_BLOCKS * (j + 1);
+    let k = first_from(maps.row(address - 1), from.saturating_sub(first))?;
+    Some(BlockNo((first + k) as u16))
+}
+
+/// How many map pages a cut keeps.
+pub fn kept_maps(n: u16) -> usize
+    ensures { result ≡ table.kept_maps n }
+{
+    n.saturating_sub(1) as usize / HEAD_BLOCKS
+}
+
+fn addresses_in(list: &[u16]) -> Row
     requires { length list.now ≡ head_blocks }
     ensures { result ≡ list.now }
 {
@@ -186,7 +302,7 @@ fn addresses_in(list: &[u16]) -> Addresses
     addresses
 }
 
-fn maps_in(list: &[u16]) -> Maps
+fn maps_in(list: &[u16]) -> MapRow
     requires { length list.now ≡ most_maps }
     ensures { result ≡ list.now }
 {
@@ -195,12 +311,12 @@ fn maps_in(list: &[u16]) -> Maps
     maps
 }
 
-fn cut_addresses(old: &Addresses, n: u16) -> Addresses
+fn cut_maps(old: &MapRow, n: usize) -> MapRow
     ensures { result ≡ table.cut_addresses n old.now }
 {
-    let mut addresses = *old;
-    for block in n..HEAD_BLOCKS as u16 {
-        addresses[block as usize] = 0;
+    let mut maps = *old;
+    for j in n..MOST_MAPS {
+        maps[j] = 0;
     }
-    addresses
+    maps
 }

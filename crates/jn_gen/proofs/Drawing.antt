@@ -19,7 +19,7 @@ record DrawnInRange (d : Draws) : Type 0 where
   pub client : d.client.0 ≤ 8
   pub server : d.server.0 ≤ 7
   pub file : d.file.0 ≤ 2 ^ 32 - 1
-  pub block : d.block.0 ≤ 119
+  pub block : d.block.0 ≤ 2519
   pub byte : d.byte < 256
 
 drawn_in_range : (x : ℕ) → DrawnInRange (draws_from x)
@@ -62,7 +62,7 @@ chosen_in_range d range =
     let client : (1 ≤ d.client.0) × (d.client.0 ≤ 8) = (range.least, range.client) in
     let server : (0 ≤ d.server.0) × (d.server.0 ≤ 7) = (omega arith, range.server) in
     let file : (0 ≤ d.file.0) × (d.file.0 ≤ 2 ^ 32 - 1) = (omega arith, range.file) in
-    let block : (0 ≤ d.block.0) × (d.block.0 ≤ 119) = (omega arith, range.block) in
+    let block : (0 ≤ d.block.0) × (d.block.0 ≤ 2519) = (omega arith, range.block) in
     let byte = range.byte in
     let write : EventInRange (does d (ops.Write d.file d.block (filled (d.byte ∷ [])))) = (client, (tt, (server, (file, (block, (length-filled d.byte, tt)))))) in
     let ticket : d.byte - 170 < 2 ^ 32 = omega arith in

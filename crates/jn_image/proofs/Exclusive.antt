@@ -1,9 +1,9 @@
 -- An image is sound or has a fault, and not both, and it has one first fault.
-use Rattle.jn_image.proofs.Common.{◌≡◌, ◌⊎◌, inl, inr, ⊎_elim, ◌<◌, ◌+◌, ℕ, zero, suc, Result, Ok, Err, refl, sym, ap, ap₂, ◌∙◌, subst, arith, IfOk, IfErr, cases_lt, ServerNo, HasRoot, HasOneHead, IsSound, Unsound, IsLeastFailing, PagesGood, PairsAgree, SlotsFree, HeadsWhole, AddressesOnce, TailsZeros, ToRoot, ToPages, ToPairs, ToPool, ToFiles, ToHeads, ToAddresses, IsFirstFault, TellsSound}
+use Rattle.jn_image.proofs.Common.{◌≡◌, ◌⊎◌, inl, inr, ⊎_elim, ◌<◌, ◌+◌, ℕ, zero, suc, Result, Ok, Err, refl, sym, ap, ap₂, ◌∙◌, subst, arith, IfOk, IfErr, cases_lt, ServerNo, HasRoot, HasOneHead, IsSound, Unsound, IsLeastFailing, PagesGood, PairsAgree, SlotsFree, HeadsWhole, MapsWhole, AddressesOnce, TailsZeros, ToRoot, ToPages, ToPairs, ToPool, ToFiles, ToHeads, ToMaps, ToAddresses, IsFirstFault, TellsSound}
 use Rattle.jn_records.specs.Sound as sound
 use Rattle.jn_image.specs.declared.fault.CheckError.{CheckError}
 use Rattle.jn_image.specs.declared.fault.CheckError.TheVariants.{Unsound as AnUnsound, Memory}
-use Rattle.jn_image.specs.declared.fault.Unsound.TheVariants.{Server, Root, BadPage, PairDiffers, PoolInUse, SameFile, Address, AddressTwice, DataTail}
+use Rattle.jn_image.specs.declared.fault.Unsound.TheVariants.{Server, Root, BadPage, PairDiffers, PoolInUse, SameFile, Address, MapPage, AddressTwice, DataTail}
 
 level : Unsound → ℕ
 level Server = 0
@@ -13,8 +13,9 @@ level (PairDiffers i) = 3
 level (PoolInUse i) = 4
 level (SameFile f) = 5
 level (Address i) = 6
-level (AddressTwice a) = 7
-level (DataTail i) = 8
+level (MapPage i) = 7
+level (AddressTwice a) = 8
+level (DataTail i) = 9
 
 place : Unsound → ℕ
 place Server = 0
@@ -24,6 +25,7 @@ place (PairDiffers i) = i
 place (PoolInUse i) = i
 place (SameFile f) = f
 place (Address i) = i
+place (MapPage i) = i
 place (AddressTwice a) = a
 place (DataTail i) = i
 
@@ -35,8 +37,9 @@ fault_at (suc (suc (suc zero))) n = PairDiffers n
 fault_at (suc (suc (suc (suc zero)))) n = PoolInUse n
 fault_at (suc (suc (suc (suc (suc zero))))) n = SameFile n
 fault_at (suc (suc (suc (suc (suc (suc zero)))))) n = Address n
-fault_at (suc (suc (suc (suc (suc (suc (suc zero))))))) n = AddressTwice n
-fault_at (suc (suc (suc (suc (suc (suc (suc (suc k)))))))) n = DataTail n
+fault_at (suc (suc (suc (suc (suc (suc (suc zero))))))) n = MapPage n
+fault_at (suc (suc (suc (suc (suc (suc (suc (suc zero)))))))) n = AddressTwice n
+fault_at (suc (suc (suc (suc (suc (suc (suc (suc (suc k))))))))) n = DataTail n
 
 is_there : (f : Unsound) → f ≡ fault_at (level f) (place f)
 unfolding level place fault_at
@@ -47,6 +50,7 @@ is_there (PairDiffers i) = refl
 is_there (PoolInUse i) = refl
 is_there (SameFile f) = refl
 is_there (Address i) = refl
+is_there (MapPage i) = refl
 is_there (AddressTwice a) = refl
 is_there (DataTail i) = refl
 
@@ -69,8 +73,9 @@ module _ (s : ServerNo) (m : sound.Image) where
   P (suc (suc (suc (suc zero)))) n = SlotsFree m n
   P (suc (suc (suc (suc (suc zero))))) n = HasOneHead m n
   P (suc (suc (suc (suc (suc (suc zero)))))) n = HeadsWhole m n
-  P (suc (suc (suc (suc (suc (suc (suc zero))))))) n = AddressesOnce m n
-  P (suc (suc (suc (suc (suc (suc (suc (suc k)))))))) n = TailsZeros m n
+  P (suc (suc (suc (suc (suc (suc (suc zero))))))) n = MapsWhole m n
+  P (suc (suc (suc (suc (suc (suc (suc (suc zero)))))))) n = AddressesOnce m n
+  P (suc (suc (suc (suc (suc (suc (suc (suc (suc k))))))))) n = TailsZeros m n
 
   abbrev Below : ℕ → Type 0
   Below b = (k : ℕ) → k < b → (n : ℕ) → P k n
@@ -99,8 +104,11 @@ module _ (s : ServerNo) (m : sound.Image) where
   at_heads : ToHeads s m → Below 7
   at_heads t = more 6 (at_files t.0) t.1
 
-  at_addresses : ToAddresses s m → Below 8
-  at_addresses t = more 7 (at_heads t.0) t.1
+  at_maps : ToMaps s m → Below 8
+  at_maps t = more 7 (at_heads t.0) t.1
+
+  at_addresses : ToAddresses s m → Below 9
+  at_addresses t = more 8 (at_maps t.0) t.1
 
   always : (Q : Type 0) → (Q → ⊥) → IsLeastFailing (λ n. Q) 0
   always Q no_q = record { fails = no_q; below = λ k lt. absurd (omega (arith, lt)) }
@@ -114,7 +122,8 @@ module _ (s : ServerNo) (m : sound.Image) where
   stands (PoolInUse i) h = (at_pairs h.0, h.1)
   stands (SameFile f) h = (at_pool h.0, h.1)
   stands (Address i) h = (at_files h.0, h.1)
-  stands (AddressTwice a) h = (at_heads h.0, h.1)
+  stands (MapPage i) h = (at_heads h.0, h.1)
+  stands (AddressTwice a) h = (at_maps h.0, h.1)
   stands (DataTail i) h = (at_addresses h.0, h.1)
 
   same_level : (f g : Unsound) → IsFirstFault s m f → IsFirstFault s m g → level f ≡ level g
@@ -139,18 +148,20 @@ module _ (s : ServerNo) (m : sound.Image) where
   no_fault is (PoolInUse i) h = h.1.fails (is.pool i)
   no_fault is (SameFile f) h = h.1.fails (is.files f)
   no_fault is (Address i) h = h.1.fails (is.heads i)
+  no_fault is (MapPage i) h = h.1.fails (is.maps i)
   no_fault is (AddressTwice a) h = h.1.fails (is.addresses a)
   no_fault is (DataTail i) h = h.1.fails (is.tails i)
 
   pub all_hold : ToAddresses s m → ((i : ℕ) → TailsZeros m i) → IsSound s m
   all_hold t tails = record {
-    server = t.0.0.0.0.0.0.0;
-    root = t.0.0.0.0.0.0.1;
-    good = t.0.0.0.0.0.1;
-    pairs = t.0.0.0.0.1;
-    pool = t.0.0.0.1;
-    files = t.0.0.1;
-    heads = t.0.1;
+    server = t.0.0.0.0.0.0.0.0;
+    root = t.0.0.0.0.0.0.0.1;
+    good = t.0.0.0.0.0.0.1;
+    pairs = t.0.0.0.0.0.1;
+    pool = t.0.0.0.0.1;
+    files = t.0.0.0.1;
+    heads = t.0.0.1;
+    maps = t.0.1;
     addresses = t.1;
     tails = tails;
   }

@@ -9,5 +9,8 @@ pub mod Roots
 pub mod Repeated
 pub mod Exclusive
 pub mod HeadLists
+pub mod Rows
+pub mod Times
+pub mod Spots
 pub mod SoundPages
 pub mod SoundFits

@@ -1,9 +1,8 @@
 -- Each page of a sound image has 512 bytes, and such images with the same bytes are one.
-use Rattle.jn_image.proofs.Common.{head_blocks, ◌++◌, ◌≡◌, ◌≤◌, ◌<◌, ◌+◌, ◌*◌, ◌-◌, ℕ, suc, List, [], ◌∷◌, length, drop, replicate, sym, ap, subst, ◌∙◌, arith, length-append, length-drop, ⊎_elim, cases_lt, nat_tests, true, AllByRecursion, Half, ServerNo, Head, IsSound, page_count, Image, image_counts, image_in, seen, length-replicate, big_bytes, FreeHead, Used, Root, padded, root_bytes, root_page, slot_place, head_place, data_place, SoundImagesFit, BytesTellTheImage, most_maps}
+use Rattle.jn_image.proofs.Common.{head_blocks, ◌++◌, ◌≡◌, ◌≤◌, ◌<◌, ◌+◌, ◌*◌, ◌-◌, ℕ, suc, List, [], ◌∷◌, length, drop, replicate, sym, ap, subst, ◌∙◌, arith, length-append, length-drop, ⊎_elim, cases_lt, nat_tests, true, AllByRecursion, Half, ServerNo, Head, IsSound, page_count, Image, image_counts, image_in, seen, length-replicate, big_bytes, FreeHead, Used, Root, padded, root_bytes, root_page, slot_place, head_place, data_place, SoundImagesFit, BytesTellTheImage, most_maps, addresses_bytes, head_bytes, head_page, has_page}
 use Rattle.jn_memdisk.specs.Pages.{half_at}
 use Rattle.jn_records.proofs.Lists.{length-fields}
 use Rattle.jn_records.specs.declared.record.Record.TheVariants.{Free}
-use Rattle.jn_records.specs.Heads.{addresses_bytes, head_bytes, head_page, has_page}
 use Rattle.jn_records.specs.Records.{record_page}
 use Rattle.jn_image.proofs.Again.{image_again}
 
@@ -58,7 +57,7 @@ module _ (m : Image) (s : ServerNo) (is : IsSound s (seen m)) where
   slot i lt = ap length (is.pool i lt) ∙ free_whole
 
   head : (i : ℕ) → i < m.heads → Whole (head_place (image_counts m) i)
-  head i lt = let (h, good, fits, e) = is.heads i lt in ap length e ∙ head_whole h good.whole
+  head i lt = let (h, good, fits, of_version, e) = is.heads i lt in ap length e ∙ head_whole h good.whole
 
   leaf : (i : ℕ) → i < m.leaves → Whole (data_place (image_counts m) i)
   leaf i lt = tail_whole _ (is.tails i lt)

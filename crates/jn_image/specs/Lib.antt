@@ -5,4 +5,5 @@ pub mod Reading
 pub mod Repeats
 pub mod Rules
 pub mod Unsound
+pub mod Written
 pub mod Laws

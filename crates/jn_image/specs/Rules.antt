@@ -1,11 +1,10 @@
 -- The rules that are looked at place by place, and the heads as they are read.
-use Rattle.std.specs.Prelude.{◌≡◌, ◌<◌, ◌+◌, ◌*◌, ◌^◌, ℕ, nat_eq, is_some, true, List, length, map, drop, replicate, get_or, Option, Some, None, if◌then◌else◌}
-use Rattle.jn_base.specs.Limits.{head_blocks}
+use Rattle.std.specs.Prelude.{◌≡◌, ◌<◌, ◌+◌, ◌*◌, ◌^◌, ℕ, is_some, true, List, length, drop, replicate, get_or, Option, Some, None}
 use Rattle.jn_records.specs.declared.head.Head.{Head}
 use Rattle.jn_records.specs.declared.head.Head.TheVariants.{Free, Used}
 use Rattle.jn_records.specs.declared.record.Record.TheVariants.{Free as FreeRecord}
 use Rattle.jn_records.specs.declared.root.Root.{Root}
-use Rattle.jn_records.specs.Heads.{head_page, IsHead, FileFits}
+use Rattle.jn_records.specs.Heads.{head_page, IsHead, FileFits, fits_version}
 use Rattle.jn_records.specs.Sound as sound
 use Rattle.jn_records.specs.Sound.{IsWholeHead, head_bytes_of}
 use Rattle.jn_records.specs.Records.{record_page}
@@ -36,7 +35,7 @@ at_epoch r epoch = record { version = r.version; server = r.server; pool = r.poo
 -- what was read of a head's page
 abbrev pub IsHeadAt : sound.Image → ℕ → Option Head → Type 0
 IsHeadAt m i None = IsWholeHead m i → ⊥
-IsHeadAt m i (Some h) = IsHead m.counts.leaves h × FileFits h × (head_bytes_of m i ≡ head_page h)
+IsHeadAt m i (Some h) = IsHead m.counts.leaves h × FileFits h × (fits_version m.version h ≡ true) × (head_bytes_of m i ≡ head_page h)
 
 -- these are the image's heads, and none where a page is no head
 pub record AreHeads (m : sound.Image) (heads : List (Option Head)) : Type 0 where
@@ -50,15 +49,6 @@ abbrev pub head_file_number : Option Head → Option ℕ
 head_file_number (Some (Used file addresses maps)) = Some file.0
 head_file_number (Some Free) = None
 head_file_number None = None
-
-abbrev pub address_of : ℕ → Option ℕ
-address_of a = if nat_eq a 0 then None else Some a
-
--- what each block of a head is named by
-abbrev pub addresses_of : Option Head → List (Option ℕ)
-addresses_of (Some (Used file addresses maps)) = map (λ a. address_of a) addresses
-addresses_of (Some Free) = replicate head_blocks None
-addresses_of None = replicate head_blocks None
 
 -- head i was read as one
 abbrev pub IsRead : List (Option Head) → ℕ → Type 0

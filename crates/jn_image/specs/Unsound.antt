@@ -3,9 +3,9 @@ use Rattle.std.specs.Prelude.{◌≡◌, ◌≢◌, ℕ, Option, Some, None, Res
 use Rattle.jn_base.specs.declared.names.ServerNo.{ServerNo}
 use Rattle.jn_disks.specs.Disks.{image_of}
 use Rattle.jn_records.specs.Sound as sound
-use Rattle.jn_records.specs.Sound.{HasRoot, HasOneHead, IsSound, All, PagesGood, PairsAgree, SlotsFree, HeadsWhole, AddressesOnce, TailsZeros}
+use Rattle.jn_records.specs.Sound.{HasRoot, HasOneHead, IsSound, All, PagesGood, PairsAgree, SlotsFree, HeadsWhole, MapsWhole, AddressesOnce, TailsZeros}
 use Rattle.jn_image.specs.declared.fault.Unsound.{Unsound}
-use Rattle.jn_image.specs.declared.fault.Unsound.TheVariants.{Server, Root, BadPage, PairDiffers, PoolInUse, SameFile, Address, AddressTwice, DataTail}
+use Rattle.jn_image.specs.declared.fault.Unsound.TheVariants.{Server, Root, BadPage, PairDiffers, PoolInUse, SameFile, Address, MapPage, AddressTwice, DataTail}
 use Rattle.jn_image.specs.declared.fault.CheckError.{CheckError}
 use Rattle.jn_image.specs.declared.fault.CheckError.TheVariants.{Unsound as AnUnsound, Memory}
 use Rattle.jn_image.specs.declared.image.Image.{Image}
@@ -23,6 +23,7 @@ reported (SameFile f) = (6, Some f)
 reported (Address i) = (7, Some i)
 reported (AddressTwice a) = (8, Some a)
 reported (DataTail i) = (9, Some i)
+reported (MapPage i) = (10, Some i)
 
 -- what the image says, page by page
 abbrev pub seen : Image → sound.Image
@@ -48,8 +49,11 @@ ToFiles s m = ToPool s m × All (HasOneHead m)
 abbrev pub ToHeads : ServerNo → sound.Image → Type 0
 ToHeads s m = ToFiles s m × All (HeadsWhole m)
 
+abbrev pub ToMaps : ServerNo → sound.Image → Type 0
+ToMaps s m = ToHeads s m × All (MapsWhole m)
+
 abbrev pub ToAddresses : ServerNo → sound.Image → Type 0
-ToAddresses s m = ToHeads s m × All (AddressesOnce m)
+ToAddresses s m = ToMaps s m × All (AddressesOnce m)
 
 -- this is the first fault of the image, if it is to be that of server s
 abbrev pub IsFirstFault : ServerNo → sound.Image → Unsound → Type 0
@@ -60,7 +64,8 @@ IsFirstFault s m (PairDiffers i) = ToPages s m × IsLeastFailing (PairsAgree m) 
 IsFirstFault s m (PoolInUse i) = ToPairs s m × IsLeastFailing (SlotsFree m) i
 IsFirstFault s m (SameFile f) = ToPool s m × IsLeastFailing (HasOneHead m) f
 IsFirstFault s m (Address i) = ToFiles s m × IsLeastFailing (HeadsWhole m) i
-IsFirstFault s m (AddressTwice a) = ToHeads s m × IsLeastFailing (AddressesOnce m) a
+IsFirstFault s m (MapPage i) = ToHeads s m × IsLeastFailing (MapsWhole m) i
+IsFirstFault s m (AddressTwice a) = ToMaps s m × IsLeastFailing (AddressesOnce m) a
 IsFirstFault s m (DataTail i) = ToAddresses s m × IsLeastFailing (TailsZeros m) i
 
 -- an image is sound, or has this first fault; memory may run out

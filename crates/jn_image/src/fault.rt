@@ -90,10 +90,14 @@ pub enum Unsound {
     /// Two heads have this file.
     #[error("two heads have file {0}")]
     SameFile(u32),
-    /// This head's page is no head, has an address past the data pages, or a map address that isn't 0.
-    #[error("head {0} is none, has an address past the data pages, or a map address")]
+    /// This head's page is no head of the image's version, or has an address past the data pages. A head of version 1 has no
+    /// map pages.
+    #[error("head {0} is none, or has an address past the data pages")]
     Address(u32),
-    /// This data page's index and 1 is named twice.
+    /// This data page is named as a map page and is none, or has an address past the data pages.
+    #[error("data page {0} is named as a map page and is none")]
+    MapPage(u32),
+    /// This data page's index and 1 is written twice, in heads or in map pages.
     #[error("address {0} is named twice")]
     AddressTwice(u32),
     /// This data page has other bytes than zeros behind its block.
@@ -102,7 +106,7 @@ pub enum Unsound {
 }
 
 impl Unsound {
-    /// The number by which the fault is reported, 1 to 9.
+    /// The number by which the fault is reported, 1 to 10. That of a map page is 10, though it is looked for before 8.
     pub fn number(self) -> u8
         ensures { result ≡ (unsound.reported self).0 }
     {
@@ -114,6 +118,7 @@ impl Unsound {
             Unsound::PoolInUse(_) => 5,
             Unsound::SameFile(_) => 6,
             Unsound::Address(_) => 7,
+            Unsound::MapPage(_) => 10,
             Unsound::AddressTwice(_) => 8,
             Unsound::DataTail(_) => 9,
         }
@@ -130,6 +135,7 @@ impl Unsound {
             | Unsound::PoolInUse(n)
             | Unsound::SameFile(n)
             | Unsound::Address(n)
+            | Unsound::MapPage(n)
             | Unsound::AddressTwice(n)
             | Unsound::DataTail(n) => Some(n),
         }

@@ -19,6 +19,7 @@ mod reading;
 mod repeats;
 mod soundness;
 mod writing;
+mod written;
 
 pub use fault::{BadImage, CheckError, DecodeError, Unsound};
 pub use image::Image;

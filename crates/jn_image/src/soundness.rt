@@ -1,22 +1,23 @@
 //! Whether an image is sound.
-ghost use Rattle.std.specs.Prelude.{◌≡◌, ◌⊎◌, ◌<◌, ◌*◌, ◌^◌, ◌↔◌, ◌++◌, ℕ, length, drop, map, flat_map, replicate, Err, IfOk, IfErr, OnOk, IsTrue, MatchOption};
+ghost use Rattle.std.specs.Prelude.{◌≡◌, ◌⊎◌, ◌<◌, ◌*◌, ◌^◌, ◌+◌, ◌↔◌, length, drop, map, replicate, Err, IfOk, IfErr, IsTrue, MatchOption};
 ghost use Rattle.jn_base.specs.declared.names.ServerNo.{ServerNo as AnyServer};
-ghost use Rattle.jn_base.specs.Limits.{head_blocks};
 ghost use Rattle.jn_records.specs.Pages.{IsRoot, IsVersion};
 ghost use Rattle.jn_records.specs.Sound as sound;
-ghost use Rattle.jn_records.specs.Sound.{HasRoot, IsSound, HasOneHead, All, HeadsWhole, AddressesOnce};
+ghost use Rattle.jn_records.specs.Sound.{HasRoot, IsSound, HasOneHead};
 ghost use Rattle.jn_records.specs.StablePages.{page_count};
 ghost use Rattle.jn_image.specs.declared.fault.CheckError.TheVariants.{Unsound as AnUnsound, Memory};
 ghost use Rattle.jn_image.specs.declared.fault.Unsound.{Unsound as AnyFault};
 ghost use Rattle.jn_image.specs.Form.{image_counts};
 ghost use Rattle.jn_image.specs.Repeats.{Finds};
-ghost use Rattle.jn_image.specs.Rules.{places, RuleHolds, HoldsWithin, AreHeads, at_epoch, IsRead, head_file_number, address_of, addresses_of};
-ghost use Rattle.jn_image.specs.Unsound.{seen, ToPool, ToAddresses, IsFirstFault, TellsSound};
+ghost use Rattle.jn_image.specs.Rules.{places, RuleHolds, HoldsWithin, AreHeads, at_epoch, IsRead, head_file_number};
+ghost use Rattle.jn_image.specs.Unsound.{seen, ToPool, ToHeads, ToAddresses, IsFirstFault, TellsSound};
+ghost use Rattle.jn_image.specs.Written.{all_maps_noted, no_times};
 
 use crate::fault::{CheckError, Unsound};
 use crate::image::Image;
 use crate::repeats::least_repeated;
-use jn_base::{HEAD_BLOCKS, Page, ServerNo};
+use crate::written::{first_no_map, first_twice, named_maps};
+use jn_base::{Page, ServerNo};
 use jn_records::{Head, Record, Root};
 use std::alloc::{AllocError, Global};
 
@@ -43,7 +44,7 @@ fn look(alloc: Global, image: &Image, server: ServerNo) -> Result<(), CheckError
         return Err(CheckError::Unsound(fault));
     }
     let heads = heads_of(alloc, image)?;
-    if let Some(fault) = fault_of_heads(alloc, &heads)? {
+    if let Some(fault) = fault_of_contents(alloc, image, &heads)? {
         return Err(CheckError::Unsound(fault));
     }
     if let Some(i) = first_failing(image, Rule::Tail) {
@@ -75,11 +76,29 @@ fn fault_of_pages(image: &Image, server: ServerNo) -> Option<Unsound>
     None
 }
 
+/// The first fault from files to addresses, where none comes before them.
+fn fault_of_contents(
+    alloc: Global,
+    image: &Image,
+    heads: &[Option<Head>],
+) -> Result<Option<Unsound>, AllocError>
+    requires pages { length image.now.pages ≡ 2 * page_count (image_counts image.now) }
+    requires few { length heads.now < 2 ^ 16 }
+    ensures { IfOk result (λ r. (s : AnyServer) → AreHeads (seen image.now) heads.now → ToPool s (seen image.now)
+        → MatchOption r (ToAddresses s (seen image.now)) (λ f. IsFirstFault s (seen image.now) f)) }
+{
+    if let Some(fault) = fault_of_heads(alloc, heads)? {
+        return Ok(Some(fault));
+    }
+    let named = named_maps(alloc, image.leaf_count(), heads)?;
+    fault_of_maps(alloc, image, heads, &named)
+}
+
 /// The first fault of heads, where none comes before them.
 fn fault_of_heads(alloc: Global, heads: &[Option<Head>]) -> Result<Option<Unsound>, AllocError>
     requires { length heads.now < 2 ^ 16 }
     ensures { IfOk result (λ r. (s : AnyServer) (m : sound.Image) → AreHeads m heads.now → ToPool s m
-        → MatchOption r (ToAddresses s m) (λ f. IsFirstFault s m f)) }
+        → MatchOption r (ToHeads s m) (λ f. IsFirstFault s m f)) }
 {
     if let Some(f) = same_file(alloc, heads)? {
         return Ok(Some(Unsound::SameFile(f)));
@@ -87,10 +106,29 @@ fn fault_of_heads(alloc: Global, heads: &[Option<Head>]) -> Result<Option<Unsoun
     if let Some(i) = first_malformed(heads) {
         return Ok(Some(Unsound::Address(i)));
     }
-    match address_twice(alloc, heads)? {
-        Some(a) => Ok(Some(Unsound::AddressTwice(a))),
-        None => Ok(None),
+    Ok(None)
+}
+
+/// The first fault of map pages and of addresses, where none comes before them: `named` says how often each address is named as a
+/// map page's.
+fn fault_of_maps(
+    alloc: Global,
+    image: &Image,
+    heads: &[Option<Head>],
+    named: &[u8],
+) -> Result<Option<Unsound>, AllocError>
+    requires pages { length image.now.pages ≡ 2 * page_count (image_counts image.now) }
+    requires named { length named.now ≡ image.now.leaves + 1 }
+    ensures { IfOk result (λ r. (s : AnyServer) → AreHeads (seen image.now) heads.now → named.now ≡ all_maps_noted (no_times image.now.leaves) heads.now → ToHeads s (seen image.now)
+        → MatchOption r (ToAddresses s (seen image.now)) (λ f. IsFirstFault s (seen image.now) f)) }
+{
+    if let Some(i) = first_no_map(image, named) {
+        return Ok(Some(Unsound::MapPage(i)));
     }
+    if let Some(a) = first_twice(alloc, image, heads, named)? {
+        return Ok(Some(Unsound::AddressTwice(a)));
+    }
+    Ok(None)
 }
 
 /// Whether the first page is a root with the image's version, server and counts.
@@ -224,7 +262,7 @@ fn same_bytes(a: &[u8], b: &[u8]) -> bool
 
 // ---- the heads
 
-/// The heads, and none where a page is no head.
+/// The heads, and none where a page is no head of the image's version.
 fn heads_of(alloc: Global, image: &Image) -> Result<Vec<Option<Head>>, AllocError>
     requires { length image.now.pages ≡ 2 * page_count (image_counts image.now) }
     ensures { IfOk result (λ v. AreHeads (seen image.now) v.items) }
@@ -234,7 +272,7 @@ fn heads_of(alloc: Global, image: &Image) -> Result<Vec<Option<Head>>, AllocErro
     let count = image.head_count();
     let mut heads = Vec::with_capacity(alloc, count)?;
     for i in 0..count {
-        heads.push(Head::decode(alloc, image.page(first + i), leaves)?)?;
+        heads.push(Head::decode_version(alloc, image.page(first + i), leaves, image.version)?)?;
     }
     Ok(heads)
 }
@@ -260,14 +298,6 @@ fn first_malformed(heads: &[Option<Head>]) -> Option<u32>
     None
 }
 
-/// The least address that is named twice.
-fn address_twice(alloc: Global, heads: &[Option<Head>]) -> Result<Option<u32>, AllocError>
-    ensures { IfOk result (λ r. (m : sound.Image) → AreHeads m heads.now → All (HeadsWhole m) → Finds (AddressesOnce m) r) }
-{
-    let addresses = addresses_of(alloc, heads)?;
-    least_repeated(alloc, &addresses)
-}
-
 /// The file of each head.
 fn files_of(alloc: Global, heads: &[Option<Head>]) -> Result<Vec<Option<u32>>, AllocError>
     ensures { IfOk result (λ v. v.items ≡ map (λ h. head_file_number h) heads.now) }
@@ -287,54 +317,4 @@ fn head_file_number(head: &Option<Head>) -> Option<u32>
         Some(Head::Used { file, .. }) => Some(file.0),
         Some(Head::Free) | None => None,
     }
-}
-
-/// The address of each block of each head.
-fn addresses_of(alloc: Global, heads: &[Option<Head>]) -> Result<Vec<Option<u32>>, AllocError>
-    ensures { IfOk result (λ v. v.items ≡ flat_map (λ h. addresses_of h) heads.now) }
-{
-    let mut addresses = Vec::new(alloc);
-    for head in heads {
-        push_head(&mut addresses, head)?;
-    }
-    Ok(addresses)
-}
-
-fn push_head(out: &mut Vec<Option<u32>>, head: &Option<Head>) -> Result<(), AllocError>
-    ensures { OnOk result (out.new.items ≡ out.old.items ++ addresses_of head.now) }
-{
-    match head {
-        Some(Head::Used { addresses, .. }) => push_addresses(out, addresses.as_slice()),
-        Some(Head::Free) | None => push_none(out),
-    }
-}
-
-fn push_addresses(out: &mut Vec<Option<u32>>, addresses: &[u16]) -> Result<(), AllocError>
-    ensures { OnOk result (out.new.items ≡ out.old.items ++ map (λ a. address_of a) addresses.now) }
-{
-    for address in addresses {
-        out.push(address_of(*address))?;
-    }
-    Ok(())
-}
-
-/// An address, where there is one.
-fn address_of(address: u16) -> Option<u32>
-    ensures { result ≡ address_of address }
-{
-    if address == 0 {
-        None
-    } else {
-        Some(u32::from(address))
-    }
-}
-
-/// No address for each block that a head may have.
-fn push_none(out: &mut Vec<Option<u32>>) -> Result<(), AllocError>
-    ensures { OnOk result (out.new.items ≡ out.old.items ++ replicate head_blocks None) }
-{
-    for _ in 0..HEAD_BLOCKS {
-        out.push(None)?;
-    }
-    Ok(())
 }

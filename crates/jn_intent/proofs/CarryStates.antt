@@ -1,5 +1,5 @@
 -- A storage serves on once an intention of a work is carried out.
-use Rattle.jn_intent.proofs.Common.{◌≡◌, ⊎_elim, ◌≤◌, ◌+◌, ℕ, Bool, true, false, not, ◌&&◌, ◌||◌, if◌then◌else◌, List, ◌∷◌, length, Some, refl, sym, ◌∙◌, ap, subst, arith, slice_get_within, slice_get, FileNo, LockUnit, WorkId, file_eq, work_eq, file_tells, work_tells, unit_eq, Files, change, What, Fresh, Gone, Cut, Put, intention_change, StableState, Prepared, CarryOut, made_by, at_work, IsListing, total, IsOrderly, Accounts, IsLoadable, file_there, is_stored, intentions, list_of, made_there, there-after, one_if, makes_file, orderly-carried, promises-carried, but, listing-less, listing-more, listing-same, length-but, Serves, count_by, heads_of, is_put_intention}
+use Rattle.jn_intent.proofs.Common.{◌≡◌, ⊎_elim, ◌≤◌, ◌+◌, ℕ, Bool, true, false, not, ◌&&◌, ◌||◌, if◌then◌else◌, List, ◌∷◌, length, Some, refl, sym, ◌∙◌, ap, subst, arith, slice_get_within, slice_get, FileNo, LockUnit, WorkId, file_eq, work_eq, file_tells, work_tells, unit_eq, Files, change, What, Fresh, Gone, Cut, Put, intention_change, StableState, Prepared, CarryOut, made_by, at_work, IsListing, total, IsOrderly, Accounts, IsLoadable, file_there, is_stored, intentions, list_of, made_there, there-after, one_if, makes_file, orderly-carried, promises-carried, but, listing-less, listing-more, listing-same, length-but, Serves, heads_of, ◌<◌, most_maps, most_pages, map_eq, has_map}
 use Rattle.jn_records.specs.declared.intention.Intention.{Intention}
 use Rattle.jn_intent.proofs.Numbers.{listing_length}
 
@@ -84,11 +84,14 @@ module _ (x : StableState) (a : Accounts) (work : WorkId) (p : Prepared) (k : �
     pub next : b.next ≡ at_work a.next work (k + 1)
     pub files : List FileNo
     pub blocks : List LockUnit
+    pub maps : List (FileNo × ℕ)
     pub files_all : IsListing file_eq (file_there (made_by (CarryOut work i) x).files) files
     pub heads_used : b.free_heads + length files ≡ b.heads
     pub blocks_all : IsListing unit_eq (is_stored (made_by (CarryOut work i) x).files) blocks
-    pub pages : b.free_pages + length blocks + total b.held s.counted.works ≡ b.leaves
-    pub held_fits : (w : WorkId) → b.held w ≤ count_by is_put_intention (list_of x w)
+    pub maps_all : IsListing map_eq (has_map b.maps) maps
+    pub pages : b.free_pages + length blocks + length maps + total b.held s.counted.works ≡ b.leaves
+    pub held_fits : (w : WorkId) → b.held w ≤ most_pages (list_of x w)
+    pub maps_fit : (f : FileNo) (j : ℕ) → b.maps f j ≡ true → j < most_maps
 
   pub serves_carried : (b : Accounts) → IsCountedOn b → Serves (made_by (CarryOut work i) x) b
   serves_carried b is = record {
@@ -98,10 +101,12 @@ module _ (x : StableState) (a : Accounts) (work : WorkId) (p : Prepared) (k : �
       flags = s.counted.flags;
       files = is.files;
       blocks = is.blocks;
+      maps = is.maps;
       works_all = s.counted.works_all;
       flags_all = s.counted.flags_all;
       files_all = is.files_all;
       blocks_all = is.blocks_all;
+      maps_all = is.maps_all;
       records = let rubbish = ap (λ (l : List WorkId). length l) is.rubbish in omega (arith, s.counted.records, is.free_records, is.pool, rubbish);
       heads_used = is.heads_used;
       pages = is.pages;
@@ -113,6 +118,7 @@ module _ (x : StableState) (a : Accounts) (work : WorkId) (p : Prepared) (k : �
         omega (arith, few, same, is.heads_used, is.heads, is.promised_heads, s.counted.heads_used, s.heads_fit);
     next_fits = λ w. subst (λ n. n ≤ length (list_of x w)) (sym (ap (λ (f : WorkId → ℕ). f w) is.next)) (next_by w (work_eq work w) refl);
     held_fits = is.held_fits;
+    maps_fit = is.maps_fit;
   }
     where
       next_by : (w : WorkId) (c : Bool) → work_eq work w ≡ c → (if c then k + 1 else a.next w) ≤ length (list_of x w)

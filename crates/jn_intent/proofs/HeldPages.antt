@@ -1,24 +1,12 @@
--- What works hold, and what is free, once an intention is carried out by one put of one head.
-use Rattle.jn_intent.proofs.Common.{◌≡◌, ◌≢◌, ◌⊎◌, inl, inr, ⊎_elim, ◌<◌, ◌+◌, ℕ, zero, suc, Bool, true, false, not, ◌&&◌, ◌||◌, if◌then◌else◌, List, [], ◌∷◌, length, Option, Some, None, refl, sym, ◌∙◌, ap, subst, true≢false, arith, cases_eq, false_from_ne_true, nat_tests, slice_get-map, nat_lt, nat_eq, is_some, count_by, slice_get, slice_set, slice_index_or, option_map, option_and_then, find, list_any, free_numbers, BlockNo, FileNo, Block, Tid, WorkId, work_eq, work_tells, block_tells, TableView, IsTable, is_held, named_below, IsHeadPut, address_after, is_head_after, serves_for, Contents, intended, bytes_by, behind, block_in, heads_name, works_name, is_head_of, address_at, held_contents, Addresses, Intends, IsConsistent, found_once, one_file, split, addresses_named, intends_named, named_addresses, at_set, Head, FreeHead, Used, FullIntention, StoredIntention, What, Fresh, Gone, Cut, Put, Record, Intention, WorkState, intention_has_page, names_what_it_needs, is_put, in_order, place_by, has_page, Counts, StableState, record_in, is_prepared, state, name_of, find_by, is_in, IsListing, IsServing, is_stored, but, is_in-but, total-but, total-same, StoreView, Matches, stored_work, Memory, view_of, stored_by, holds_page, is_at, same_address, one, serves_of, finds, consistent, prepared_of, stored_pages}
-use Rattle.jn_page_state.specs.Contents.{head_in}
-use Rattle.jn_intent.proofs.Census.{pages_counted}
-use Rattle.jn_intent.proofs.NetOrder.{all_at, one_index, not_both_put, not_whole}
-use Rattle.jn_intent.proofs.NextIntention.{its_slot}
-use Rattle.jn_intent.proofs.Numbers.{how_many, same_pass, all_but_one, same_members}
-use Rattle.jn_intent.proofs.WorkPages.{first_blocks, its_list, work_told, stands_listed, its_work, held_counted}
-
--- ---- an intention that names a page is a put
-
-put_of : (w : What) (n a k m : ℕ) → names_what_it_needs w n k m ≡ true → k ≡ suc a → w ≡ Put
-put_of Put n a k m h e = refl
-put_of Fresh n a k m h e = absurd (omega (arith, e, (let none : k ≡ 0 = grind (arith, nat_tests, h) in none)))
-put_of Gone n a k m h e = absurd (omega (arith, e, (let none : k ≡ 0 = grind (arith, nat_tests, h) in none)))
-put_of Cut n a k m h e = absurd (omega (arith, e, (let none : k ≡ 0 = grind (arith, nat_tests, h) in none)))
-
--- and a put names one
-pub page_of_put : (w : What) (n k m : ℕ) → names_what_it_needs w n k m ≡ true → w ≡ Put → (a : ℕ) × (k ≡ suc a)
-page_of_put w n zero m h e = absurd (true≢false (sym (subst (λ w. names_what_it_needs w n 0 m ≡ true) e h)))
-page_of_put w n (suc a) m h e = (a, refl)
+-- What works hold once an intention is carried out.
+use Rattle.jn_intent.proofs.Common.{◌≡◌, ◌≢◌, ◌⊎◌, inl, inr, ⊎_elim, ◌<◌, ◌≤◌, ◌+◌, ◌-◌, ◌*◌, ◌/◌, ℕ, zero, suc, Bool, true, false, not, ◌&&◌, if◌then◌else◌, List, length, Option, Some, None, refl, sym, ◌∙◌, ap, subst, true≢false, arith, cases_lt, false_from_ne_true, nat_tests, slice_get-map, nat_lt, nat_le, nat_eq, slice_get, slice_set, option_map, option_and_then, find, BlockNo, FileNo, Block, Tid, WorkId, file_tells, work_eq, layouts_in, address_after, map_after, serves_for, IsHeadPut, intended, heads_name, is_at, Intends, Gives, FullIntention, StoredIntention, What, Fresh, Gone, Cut, Put, Intention, WorkState, intention_has_page, is_put, in_order, place_by, has_page, Files, record_in, is_prepared, state, name_of, find_by, total, IsServing, StoreView, Matches, stored_work, Memory, view_of, stored_by, holds_page, held_of, one, prepared_of, stored_pages, at_set, found_once, head_blocks, most_blocks, most_maps, most_cells, Layout, Unused, Of, at_cell, layout_at, is_layout_of, map_cell, maps_in, lacks_map, kept_entry, behind, block_in, bare, is_in_range, entry_map}
+use Rattle.jn_intent.proofs.Listed.{not_map_cell}
+use Rattle.jn_intent.proofs.MapsAfter.{map_before}
+use Rattle.jn_intent.proofs.Naming.{found_cell, cell_named, given_cell, gives_named, put_gives, map_of_head_put}
+use Rattle.jn_intent.proofs.NetOrder.{all_at, one_index}
+use Rattle.jn_intent.proofs.NextIntention.{its_slot, brought, together}
+use Rattle.jn_intent.proofs.Numbers.{total_members, total_but_one}
+use Rattle.jn_intent.proofs.WorkPages.{first_blocks, its_list, work_told, stands_listed, pages_differ, ranged, files_found}
 
 both_ways : (b c : Bool) → (b ≡ true → c ≡ true) → (c ≡ true → b ≡ true) → b ≡ c
 both_ways true true f g = refl
@@ -26,75 +14,125 @@ both_ways true false f g = absurd (true≢false (sym (f refl)))
 both_ways false true f g = absurd (true≢false (sym (g refl)))
 both_ways false false f g = refl
 
--- the index of an intention in a list
-index_of : (a : ℕ) (list : List StoredIntention) → list_any (is_at a) list ≡ true → (k : ℕ) × (j : StoredIntention) × (slice_get list k ≡ Some j) × (j.address ≡ suc a)
-index_of a [] h = absurd (true≢false (sym h))
-index_of a (j ∷ list) h = by (is_at a j) refl h (index_of a list)
+some_is : {A : Type 0} {a b : A} → Some a ≡ Some b → a ≡ b
+some_is e = cc e
+
+-- ---- where an address stands after an intention: it was there, or is the intention's own
+
+came_block : (w : What) (n a p old d : ℕ) → address_after w n a p old ≡ suc d → (old ≡ suc d) ⊎ ((a ≡ suc d) × (p ≡ n))
+came_block Fresh n a p old d e = absurd (omega (arith, e))
+came_block Gone n a p old d e = absurd (omega (arith, e))
+came_block Cut n a p old d e = by (nat_le n p) e
   where
-    by : (b : Bool) → is_at a j ≡ b → (b || list_any (is_at a) list) ≡ true → (list_any (is_at a) list ≡ true → (k : ℕ) × (j : StoredIntention) × (slice_get list k ≡ Some j) × (j.address ≡ suc a))
-        → (k : ℕ) × (i : StoredIntention) × (slice_get (j ∷ list) k ≡ Some i) × (i.address ≡ suc a)
-    by true e h rest = (0, j, refl, grind (arith, nat_tests, e))
-    by false e h rest = let it = rest h in (suc it.0, it.1, it.2, it.3)
+    by : (b : Bool) → (if b then 0 else old) ≡ suc d → (old ≡ suc d) ⊎ ((a ≡ suc d) × (p ≡ n))
+    by true e = absurd (omega (arith, e))
+    by false e = inl e
+came_block Put n a p old d e = by (nat_eq n p) refl e
+  where
+    same : nat_eq n p ≡ true → p ≡ n
+    same h = grind (arith, nat_tests, h)
 
--- each data page is free, or a head names it, or it is held alone
-all_pages : (t : TableView) → IsTable t → (records : List Record) → ((a : ℕ) → is_held t a ≡ works_name records (suc a))
-    → free_numbers t.free_leaves + how_many (λ a. heads_name t.heads (suc a)) t.counts.leaves + how_many (λ a. works_name records (suc a) && not (heads_name t.heads (suc a))) t.counts.leaves ≡ t.counts.leaves
-all_pages t is records held =
-    let all = pages_counted t is in
-    let same = same_pass (λ a. is_held t a && not (heads_name t.heads (suc a))) (λ a. works_name records (suc a) && not (heads_name t.heads (suc a))) t.counts.leaves (λ a. ap (λ b. b && not (heads_name t.heads (suc a))) (held a)) in
-    omega (arith, all, same)
+    by : (b : Bool) → nat_eq n p ≡ b → (if b then a else old) ≡ suc d → (old ≡ suc d) ⊎ ((a ≡ suc d) × (p ≡ n))
+    by true h e = inr (e, same h)
+    by false h e = inl e
 
--- what the put leaves at its block
-after_own : (n : BlockNo) (a old : ℕ) → address_after Put n a n old ≡ a
-after_own n a old = ⊎_elim (λ h. ap (λ b. if b then a else old) h.0) (λ h. absurd (h.1 refl)) (block_tells n n)
+came_map : (w : What) (n m j old d : ℕ) → map_after w n m j old ≡ suc d → (old ≡ suc d) ⊎ ((m ≡ suc d) × (j ≡ n / head_blocks - 1))
+came_map Fresh n m j old d e = absurd (omega (arith, e))
+came_map Gone n m j old d e = absurd (omega (arith, e))
+came_map Cut n m j old d e = by (nat_lt (head_blocks * (j + 1)) n) e
+  where
+    by : (b : Bool) → (if b then old else 0) ≡ suc d → (old ≡ suc d) ⊎ ((m ≡ suc d) × (j ≡ n / head_blocks - 1))
+    by true e = inl e
+    by false e = absurd (omega (arith, e))
+came_map Put n m j old d e = by (is_in_range j n) refl (nat_eq old 0) e
+  where
+    its : is_in_range j n ≡ true → j ≡ n / head_blocks - 1
+    its h = let r : n / 120 ≡ j + 1 = grind (arith, nat_tests, h) in omega (arith, r)
 
-after_other : (n p : BlockNo) (a old : ℕ) → n ≢ p → address_after Put n a p old ≡ old
-after_other n p a old ne = ⊎_elim (λ h. absurd (ne h.1)) (λ h. ap (λ b. if b then a else old) h.0) (block_tells n p)
+    by : (b : Bool) → is_in_range j n ≡ b → (c : Bool) → (if b && c then m else old) ≡ suc d → (old ≡ suc d) ⊎ ((m ≡ suc d) × (j ≡ n / head_blocks - 1))
+    by true h true e = inr (e, its h)
+    by true h false e = inl e
+    by false h c e = inl e
 
--- the file of a head that has an address after the put
-new_file : (w : What) (f : FileNo) (p : BlockNo) (a : ℕ) (h : Head) → is_head_after w f h ≡ true → address_at h p ≡ suc a → is_head_of f h ≡ true
-new_file w f p a FreeHead t e = absurd (omega (arith, e))
-new_file Fresh f p a (Used g xs maps) t e = t
-new_file Gone f p a (Used g xs maps) t e = absurd (true≢false (sym t))
-new_file Cut f p a (Used g xs maps) t e = t
-new_file Put f p a (Used g xs maps) t e = t
+-- the file of a layout at which an intention may be carried out
+served_file : (w : What) (f g : FileNo) (l : Layout) → serves_for w f l ≡ true → is_layout_of g l ≡ true → f ≡ g
+served_file w f g Unused s t = absurd (true≢false (sym t))
+served_file Fresh f g (Of k cells) s t = grind (arith, file_tells, s, t)
+served_file Gone f g (Of k cells) s t = grind (arith, file_tells, s, t)
+served_file Cut f g (Of k cells) s t = grind (arith, file_tells, s, t)
+served_file Put f g (Of k cells) s t = grind (arith, file_tells, s, t)
 
--- and of one whose address stays
-old_file : (w : What) (f : FileNo) (n p : BlockNo) (a d : ℕ) (h : Head) → serves_for w f h ≡ true → address_at h p ≡ suc d → is_head_of f h ≡ true
-old_file w f n p a d FreeHead t e = absurd (omega (arith, e))
-old_file Fresh f n p a d (Used g xs maps) t e = t
-old_file Gone f n p a d (Used g xs maps) t e = t
-old_file Cut f n p a d (Used g xs maps) t e = t
-old_file Put f n p a d (Used g xs maps) t e = t
+pub put_layout : (w : What) (f : FileNo) (l : Layout) → w ≡ Put → serves_for w f l ≡ true → is_layout_of f l ≡ true
+put_layout w f Unused e t = subst (λ w. serves_for w f Unused ≡ true) e t
+put_layout w f (Of g cells) e t = subst (λ w. serves_for w f (Of g cells) ≡ true) e t
 
-put_head : (w : What) (f : FileNo) (h : Head) → w ≡ Put → serves_for w f h ≡ true → is_head_of f h ≡ true
-put_head w f FreeHead e t = absurd (true≢false (sym (subst (λ w. serves_for w f FreeHead ≡ true) e t)))
-put_head w f (Used g xs maps) e t = subst (λ w. serves_for w f (Used g xs maps) ≡ true) e t
-
--- what a put counts: its page is taken, and the one that it replaces is free; or its page is in its place already
-abbrev pub PutCounts : Memory → StoreView → WorkState → StoredIntention → TableView → Type 0
-PutCounts m v s i u =
-    ((count_by (holds_page u.heads) s.list + 1 ≡ count_by (holds_page m.table.heads) s.list)
-    × (free_numbers u.free_leaves ≡ free_numbers m.table.free_leaves + one (is_stored (state (view_of m v)).files (Block i.file i.block))))
-    ⊎ (((state (view_of m v)).files (Block i.file i.block) ≡ Some (intended (first_blocks m v) i).bytes) × (count_by (holds_page u.heads) s.list ≡ count_by (holds_page m.table.heads) s.list)
-    × (free_numbers u.free_leaves ≡ free_numbers m.table.free_leaves))
+block_is : (p q : BlockNo) → p.0 ≡ q.0 → p ≡ q
+block_is p q e = ap (λ (n : ℕ). let x : BlockNo = record { 0 = n } in x) e
 
 module _ (m : Memory) (v : StoreView) (now : Matches m v) (serving : IsServing (view_of m v)) (work : WorkId) (s : WorkState) (here : find_by work_eq name_of m.works work ≡ Some s)
-    (i : StoredIntention) (at : slice_get s.list s.next ≡ Some i) (place : ℕ) (new : Head) (put : IsHeadPut m.table.heads i place new) where
-  abbrev contents : Contents
-  contents = held_contents m.table.counts v m.epoch m.records m.table.heads (λ n. false)
+    (i : StoredIntention) (at : slice_get s.list s.next ≡ Some i) (place : ℕ) (new : Layout) (put : IsHeadPut (layouts_in m.table) i place new) where
+  abbrev later : List Layout
+  later = slice_set (layouts_in m.table) place new
 
-  abbrev heads : List Head
-  heads = slice_set m.table.heads place new
+  abbrev old : Layout
+  old = layout_at (layouts_in m.table) place
 
   abbrev full : StoredIntention → FullIntention
   full j = intended (first_blocks m v) j
 
-  said : IsConsistent m.server m.table.counts contents
-  said = consistent m.server m.table.counts v m.epoch m.records m.table.heads now.standing
-
   its : (slot : ℕ) × Intends m.records slot i
   its = its_slot m v now serving work s here i at
+
+  -- ---- which pages layouts name then
+
+  old_or_own : (q d : ℕ) → q < most_cells → at_cell new q ≡ suc d → (at_cell old q ≡ suc d) ⊎ Gives i d q
+  old_or_own q d lt e = ⊎_elim
+      (λ low. ⊎_elim (λ was. inl was) (λ own. inr (inl own)) (came_block i.what i.block.0 i.address q (at_cell old q) d (sym (put.addresses q low) ∙ e)))
+      (λ high.
+      let j : ℕ = q - most_blocks in
+      let cell : q ≡ map_cell (q - most_blocks) = omega (arith, high) in
+      let below : q - most_blocks < most_maps = omega (arith, high, lt) in
+      ⊎_elim
+      (λ was. inl (ap (at_cell old) cell ∙ was))
+      (λ own. inr (inr (own.0, cell ∙ ap map_cell own.1)))
+      (came_map i.what i.block.0 i.map (q - most_blocks) (at_cell old (map_cell (q - most_blocks))) d (sym (put.maps (q - most_blocks) below) ∙ ap (at_cell new) (sym cell) ∙ e)))
+      (cases_lt q most_blocks)
+
+  -- a page that is named then was named, or is the intention's
+  pub named_before : (a : ℕ) → heads_name most_cells later (suc a) ≡ true → (heads_name most_cells (layouts_in m.table) (suc a) ≡ true) ⊎ (is_at a i ≡ true)
+  named_before a named =
+      let it = found_cell most_cells later (suc a) named in
+      ⊎_elim
+      (λ e. ⊎_elim
+      (λ was. inl (cell_named most_cells (layouts_in m.table) a place it.1 it.2 was))
+      (λ own. inr (gives_named i a it.1 own))
+      (old_or_own it.1 a it.2 (ap (λ l. at_cell l it.1) (sym e.1) ∙ it.3)))
+      (λ e. inl (cell_named most_cells (layouts_in m.table) a it.0 it.1 it.2 (ap (λ l. at_cell l it.1) (sym e.1) ∙ it.3)))
+      (at_set Unused (layouts_in m.table) place new put.there it.0)
+
+  -- an address that the put leaves
+  keeps : (a slot q : ℕ) → q < most_cells → at_cell (layout_at (layouts_in m.table) slot) q ≡ suc a → (slot ≡ place → at_cell new q ≡ suc a) → heads_name most_cells later (suc a) ≡ true
+  keeps a slot q lt h stays = ⊎_elim
+      (λ e. cell_named most_cells later a slot q lt (ap (λ l. at_cell l q) e.1 ∙ stays e.0))
+      (λ e. cell_named most_cells later a slot q lt (ap (λ l. at_cell l q) e.1 ∙ h))
+      (at_set Unused (layouts_in m.table) place new put.there slot)
+
+  -- a put leaves all other cells
+  put_keeps_block : i.what ≡ Put → (q : ℕ) → q < most_blocks → i.block.0 ≢ q → at_cell new q ≡ at_cell old q
+  put_keeps_block e q lt ne = put.addresses q lt ∙ ap (λ w. address_after w i.block.0 i.address q (at_cell old q)) e ∙ ap (λ b. if b then i.address else at_cell old q) (differ ne)
+    where
+      differ : i.block.0 ≢ q → nat_eq i.block.0 q ≡ false
+      differ ne = grind (arith, nat_tests, ne)
+
+  put_keeps_map : i.what ≡ Put → (j d : ℕ) → j < most_maps → at_cell old (map_cell j) ≡ suc d → at_cell new (map_cell j) ≡ suc d
+  put_keeps_map e j d lt some = put.maps j lt ∙ ap (λ w. map_after w i.block.0 i.map j (at_cell old (map_cell j))) e ∙ ap (λ (k : ℕ). if is_in_range j i.block.0 && nat_eq k 0 then i.map else k) some ∙ by (is_in_range j i.block.0)
+    where
+      no : nat_eq (suc d) 0 ≡ false
+      no = grind (arith, nat_tests)
+
+      by : (b : Bool) → (if b && nat_eq (suc d) 0 then i.map else suc d) ≡ suc d
+      by true = ap (λ b. if b then i.map else suc d) no
+      by false = refl
 
   -- ---- an intention of a listed work
 
@@ -108,8 +146,8 @@ module _ (m : Memory) (v : StoreView) (now : Matches m v) (serving : IsServing (
     record_there : (slot : ℕ) × (u : Tid) × (n : ℕ) × (record_in m.records slot ≡ Intention o u n j) × (slot < length m.records)
     record_there = let is = its_list m v now o t found in stands_listed m.records o 0 is.count k j (ap (λ l. slice_get l k) (sym is.list_is) ∙ listed)
 
-    intends_it : (slot : ℕ) × Intends m.records slot j
-    intends_it = let at = record_there in (at.0, record { work = o; tid = at.1; order = at.2; stands = at.3; prepared = (its_list m v now o t found).prepared })
+    intends_there : Intends m.records record_there.0 j
+    intends_there = record { work = o; tid = record_there.1; order = record_there.2; stands = record_there.3; prepared = (its_list m v now o t found).prepared }
 
     names_it : intention_has_page j ≡ true
     names_it = all_at (λ i. intention_has_page i) t.list k j
@@ -118,313 +156,299 @@ module _ (m : Memory) (v : StoreView) (now : Matches m v) (serving : IsServing (
         pages : (slot : ℕ) → slot < length m.records → has_page (record_in m.records slot) ≡ true
         pages slot lt = (now.standing.held.pool slot lt).of_format.whole
 
-    put_there : (a : ℕ) → j.address ≡ suc a → j.what ≡ Put
-    put_there a e = put_of j.what j.block.0 a j.address j.map names_it e
+    -- whether a layout names a page of it doesn't change, where the intention takes nothing of its
+    module _ (other_page : (a : ℕ) → is_at a i ≡ true → is_at a j ≡ true → ⊥) (other_block : i.file ≡ j.file → (i.what ≡ Put) × (j.what ≡ Put → i.block ≡ j.block → ⊥)) where
+      same_page : (a q : ℕ) → Gives j a q → heads_name most_cells later (suc a) ≡ heads_name most_cells (layouts_in m.table) (suc a)
+      same_page a q g = both_ways (heads_name most_cells later (suc a)) (heads_name most_cells (layouts_in m.table) (suc a))
+          (λ named. ⊎_elim (λ old. old) (λ own. absurd (other_page a own (gives_named j a q g))) (named_before a named))
+          (λ named.
+          let it = found_cell most_cells (layouts_in m.table) (suc a) named in
+          let stands = (pages_differ m v now).carried a record_there.0 it.0 q it.1 j intends_there g it.3 in
+          keeps a it.0 it.1 it.2 it.3 (λ e. stays it.1 stands.1 (ap (λ k. at_cell (layout_at (layouts_in m.table) k) it.1) (sym e) ∙ it.3)
+          (other_block (served_file i.what i.file j.file old put.serves (ap (λ k. is_layout_of j.file (layout_at (layouts_in m.table) k)) (sym e) ∙ stands.0)))))
+        where
+          block_below : j.block.0 < most_blocks
+          block_below = ranged m v now record_there.0 j intends_there
 
-    -- a head that names its page does so at its block
-    module _ (a : ℕ) (address : j.address ≡ suc a) where
-      at_block : (slot : ℕ) (f : FileNo) (p : BlockNo) → Addresses m.table.heads slot f p (suc a) → (f ≡ j.file) × (p ≡ j.block)
-      at_block slot f p h = said.addresses.carried a intends_it.0 slot j f p intends_it.1 address h
+          is_put_so : j.what ≡ Put
+          is_put_so = put_gives j a q names_it g
+
+          stays : (p : ℕ) → p ≡ q → at_cell old p ≡ suc a → (i.what ≡ Put) × (j.what ≡ Put → i.block ≡ j.block → ⊥) → at_cell new p ≡ suc a
+          stays p same stood apart = by g
+            where
+              by : Gives j a q → at_cell new p ≡ suc a
+              by (inl own) =
+                  let block : p ≡ j.block.0 = same ∙ own.1 in
+                  put_keeps_block apart.0 p (omega (arith, block, block_below)) (λ e. apart.1 is_put_so (block_is i.block j.block (e ∙ block))) ∙ stood
+              by (inr own) =
+                  let cell : p ≡ map_cell (j.block.0 / head_blocks - 1) = same ∙ own.1 in
+                  ap (at_cell new) cell ∙ put_keeps_map apart.0 (j.block.0 / head_blocks - 1) a (omega (arith, block_below)) (ap (at_cell old) (sym cell) ∙ stood)
+
+      same_held : held_of later j ≡ held_of (layouts_in m.table) j
+      same_held =
+          let x = ap one (each j.address j.address refl (λ a e. (j.block.0, inl (e, refl)))) in
+          let y = ap one (each j.map j.map refl (λ a e. (map_cell (j.block.0 / head_blocks - 1), inr (e, refl)))) in omega (arith, x, y)
+        where
+          each : (k n : ℕ) → k ≡ n → ((a : ℕ) → n ≡ suc a → (q : ℕ) × Gives j a q) → holds_page later k ≡ holds_page (layouts_in m.table) k
+          each k zero e gives = ap (λ n. nat_lt 0 n && not (heads_name most_cells later n)) e ∙ ap (λ n. nat_lt 0 n && not (heads_name most_cells (layouts_in m.table) n)) (sym e)
+          each k (suc a) e gives = ap (λ n. nat_lt 0 n && not (heads_name most_cells later n)) e ∙ ap (λ b. nat_lt 0 (suc a) && not b) (let g = gives a refl in same_page a g.0 g.1)
+              ∙ ap (λ n. nat_lt 0 n && not (heads_name most_cells (layouts_in m.table) n)) (sym e)
 
     -- of another work
     module _ (other : work ≢ o) where
-      together : i.file ≡ j.file → (is_put i.what ≡ false → ⊥) × (i.what ≡ Put → j.what ≡ Put → i.block ≡ j.block → ⊥)
-      together file =
-          let first = serving.orderly.apart work o (prepared_of (first_blocks m v) (stored_work s)) (prepared_of (first_blocks m v) (stored_work t)) other own prepared_there in (
-            λ un. not_whole (prepared_of (first_blocks m v) (stored_work s)) (prepared_of (first_blocks m v) (stored_work t)) s.next k (full i) (full j) first own_full full_there un
-                (serving.orderly.prepared o (prepared_of (first_blocks m v) (stored_work t)) prepared_there).reads_files file,
-            λ p q block. not_both_put (prepared_of (first_blocks m v) (stored_work s)) (prepared_of (first_blocks m v) (stored_work t)) s.next k (full i) (full j) first own_full full_there p q file block,
-          )
+      not_its_page : (a : ℕ) → is_at a i ≡ true → is_at a j ≡ true → ⊥
+      not_its_page a x y =
+          let own = its_record in
+          let p = given_cell i a x in let q = given_cell j a y in
+          let slots = (pages_differ m v now).works a own.0 record_there.0 p.0 q.0 i j
+          (record { work = work; tid = own.1; order = own.2; stands = own.3; prepared = (its_list m v now work s here).prepared }) intends_there p.1 q.1 in
+          other (works (sym own.3 ∙ ap (record_in m.records) slots.0 ∙ record_there.3))
         where
-          own : (state (view_of m v)).works work ≡ Some (prepared_of (first_blocks m v) (stored_work s))
-          own = work_told m v now work ∙ ap (λ o. option_map (prepared_of (first_blocks m v)) (option_map stored_work o)) here
+          its_record : (slot : ℕ) × (u : Tid) × (n : ℕ) × (record_in m.records slot ≡ Intention work u n i) × (slot < length m.records)
+          its_record = let is = its_list m v now work s here in stands_listed m.records work 0 is.count s.next i (ap (λ l. slice_get l s.next) (sym is.list_is) ∙ at)
 
-          own_full : slice_get (prepared_of (first_blocks m v) (stored_work s)).list s.next ≡ Some (full i)
-          own_full = slice_get-map (intended (first_blocks m v)) s.list s.next ∙ ap (option_map (intended (first_blocks m v))) at
+          works : {w u : WorkId} {t q : Tid} {j k : ℕ} {i s : StoredIntention} → Intention w t j i ≡ Intention u q k s → w ≡ u
+          works e = cc e
 
-  -- another work's page isn't the intention's
-  not_its_page : (o : WorkId) (t : WorkState) (found : find_by work_eq name_of m.works o ≡ Some t) (k : ℕ) (j : StoredIntention) (listed : slice_get t.list k ≡ Some j) → work ≢ o → (a : ℕ) → i.address ≡ suc a → j.address ≡ suc a → ⊥
-  not_its_page o t found k j listed other a e d =
-      let own = record_there work s here s.next i at in
-      let theirs = record_there o t found k j listed in
-      let slots = said.addresses.works a own.0 theirs.0 i j
-      (record { work = work; tid = own.1; order = own.2; stands = own.3; prepared = (its_list m v now work s here).prepared })
-      (record { work = o; tid = theirs.1; order = theirs.2; stands = theirs.3; prepared = (its_list m v now o t found).prepared }) e d in
-      other (works (sym own.3 ∙ ap (record_in m.records) slots ∙ theirs.3))
-    where
-      works : {w u : WorkId} {t q : Tid} {j k : ℕ} {i s : StoredIntention} → Intention w t j i ≡ Intention u q k s → w ≡ u
-      works e = cc e
-
-  -- ---- which pages heads name then
-
-  -- an address that the put leaves
-  keeps_name : (a slot : ℕ) (f : FileNo) (p : BlockNo) → Addresses m.table.heads slot f p (suc a) → (slot ≡ place → f ≡ i.file → address_after i.what i.block i.address p (suc a) ≡ suc a) → heads_name heads (suc a) ≡ true
-  keeps_name a slot f p h stays = ⊎_elim
-      (λ e.
-      let old : address_at (head_in m.table.heads place) p ≡ suc a = ap (λ k. address_at (head_in m.table.heads k) p) (sym e.0) ∙ h.address in
-      let file : f ≡ i.file = one_file f i.file (head_in m.table.heads place) (ap (λ k. is_head_of f (head_in m.table.heads k)) (sym e.0) ∙ h.head) (old_file i.what i.file i.block p i.address a (head_in m.table.heads place) put.serves old) in
-      let address : address_at new p ≡ suc a = put.addresses p ∙ ap (address_after i.what i.block i.address p) old ∙ stays e.0 file in
-      addresses_named (record contents { heads = heads }) slot i.file p a
-      (record { head = ap (is_head_of i.file) e.1 ∙ new_file i.what i.file p a new put.file_after address; address = ap (λ x. address_at x p) e.1 ∙ address }))
-      (λ e. addresses_named (record contents { heads = heads }) slot f p a (record { head = ap (is_head_of f) e.1 ∙ h.head; address = ap (λ x. address_at x p) e.1 ∙ h.address }))
-      (at_set FreeHead m.table.heads place new put.there slot)
-
-  -- one that is there was there, or is the intention's
-  named_before : (a : ℕ) → heads_name heads (suc a) ≡ true → (heads_name m.table.heads (suc a) ≡ true) ⊎ (i.address ≡ suc a)
-  named_before a named =
-      let it = named_addresses (record contents { heads = heads }) a named in
-      ⊎_elim (λ old. inl (addresses_named contents it.0 it.1 it.2 a old)) (λ own. inr own.0) (split contents i place new put it.0 it.1 it.2 a it.3)
+      other_same : held_of later j ≡ held_of (layouts_in m.table) j
+      other_same = same_held not_its_page (λ file. together m v now serving work s here i at o other t found k j listed file)
 
   -- ---- what other works hold
 
-  module _ (o : WorkId) (other : work ≢ o) where
-    same_page : (t : WorkState) → find_by work_eq name_of m.works o ≡ Some t → (k : ℕ) (j : StoredIntention) → slice_get t.list k ≡ Some j → (a : ℕ) → j.address ≡ suc a → heads_name heads (suc a) ≡ heads_name m.table.heads (suc a)
-    same_page t found k j listed a address = both_ways (heads_name heads (suc a)) (heads_name m.table.heads (suc a))
-        (λ named. ⊎_elim (λ old. old) (λ own. absurd (not_its_page o t found k j listed other a own address)) (named_before a named))
-        (λ named.
-        let it = named_addresses contents a named in
-        let block = at_block o t found k j listed a address it.0 it.1 it.2 it.3 in
-        keeps_name a it.0 it.1 it.2 it.3 (λ p file. stays i.what refl it.2 block.1 (together o t found k j listed other (sym file ∙ block.0))))
-      where
-        stays : (w : What) → i.what ≡ w → (p : BlockNo) → p ≡ j.block → (is_put i.what ≡ false → ⊥) × (i.what ≡ Put → j.what ≡ Put → i.block ≡ j.block → ⊥) → address_after i.what i.block i.address p (suc a) ≡ suc a
-        stays Put e p block apart = ap (λ w. address_after w i.block i.address p (suc a)) e ∙ after_other i.block p i.address (suc a) (λ same. apart.1 e (put_there o t found k j listed a address) (same ∙ block))
-        stays Fresh e p block apart = absurd (apart.0 (ap is_put e))
-        stays Gone e p block apart = absurd (apart.0 (ap is_put e))
-        stays Cut e p block apart = absurd (apart.0 (ap is_put e))
-
-    pub other_holds : count_by (holds_page heads) (stored_by (find_by work_eq name_of m.works o)) ≡ count_by (holds_page m.table.heads) (stored_by (find_by work_eq name_of m.works o))
-    other_holds = by (find_by work_eq name_of m.works o) refl
-      where
-        by : (t : Option WorkState) → find_by work_eq name_of m.works o ≡ t → count_by (holds_page heads) (stored_by t) ≡ count_by (holds_page m.table.heads) (stored_by t)
-        by None e = refl
-        by (Some t) e = same_members (holds_page heads) (holds_page m.table.heads) t.list (λ k j listed. each k j listed j.address refl)
-          where
-            each : (k : ℕ) (j : StoredIntention) → slice_get t.list k ≡ Some j → (n : ℕ) → j.address ≡ n → holds_page heads j ≡ holds_page m.table.heads j
-            each k j listed zero address = ap (λ n. nat_lt 0 n && not (heads_name heads n)) address ∙ ap (λ n. nat_lt 0 n && not (heads_name m.table.heads n)) (sym address)
-            each k j listed (suc a) address = ap (λ n. nat_lt 0 n && not (heads_name heads n)) address ∙ ap (λ b. nat_lt 0 (suc a) && not b) (same_page t e k j listed a address) ∙ ap (λ n. nat_lt 0 n && not (heads_name m.table.heads n)) (sym address)
+  pub other_holds : (o : WorkId) → work ≢ o → total (held_of later) (stored_by (find_by work_eq name_of m.works o)) ≡ total (held_of (layouts_in m.table)) (stored_by (find_by work_eq name_of m.works o))
+  other_holds o other = by (find_by work_eq name_of m.works o) refl
+    where
+      by : (t : Option WorkState) → find_by work_eq name_of m.works o ≡ t → total (held_of later) (stored_by t) ≡ total (held_of (layouts_in m.table)) (stored_by t)
+      by None e = refl
+      by (Some t) e = total_members (held_of later) (held_of (layouts_in m.table)) t.list (λ k j listed. other_same o t e k j listed other)
 
   -- ---- a put
 
   module _ (is : i.what ≡ Put) (d : ℕ) (address : i.address ≡ suc d) where
-    -- the address that it replaces
-    abbrev old : ℕ
-    old = address_at (head_in m.table.heads place) i.block
+    own_layout_is : is_layout_of i.file old ≡ true
+    own_layout_is = put_layout i.what i.file old is put.serves
 
-    own_head : is_head_of i.file (head_in m.table.heads place) ≡ true
-    own_head = put_head i.what i.file (head_in m.table.heads place) is put.serves
+    -- the other intentions of its work
+    own_order : in_order None (prepared_of (first_blocks m v) (stored_work s)).list ≡ true
+    own_order = (serving.orderly.prepared work (prepared_of (first_blocks m v) (stored_work s)) (prepared_there work s here s.next i at)).order.order
 
-    own_address : (e : ℕ) → old ≡ suc e → Addresses m.table.heads place i.file i.block (suc e)
-    own_address e h = record { head = own_head; address = h }
+    own_same : (k : ℕ) (j : StoredIntention) → k ≢ s.next → slice_get s.list k ≡ Some j → held_of later j ≡ held_of (layouts_in m.table) j
+    own_same k j ne listed = same_held work s here k j listed other_page (λ file. (is, λ also block. ne (sym (index file also block))))
+      where
+        index : i.file ≡ j.file → j.what ≡ Put → i.block ≡ j.block → s.next ≡ k
+        index file also block = one_index (prepared_of (first_blocks m v) (stored_work s)).list None s.next k (full i) (full j) own_order (full_there work s here s.next i at) (full_there work s here k j listed) file
+            (ap (λ w. place_by w i.block) is ∙ ap (λ b. place_by Put b) block ∙ sym (ap (λ w. place_by w j.block) also))
 
-    put_after : (p : BlockNo) (k : ℕ) → address_after i.what i.block i.address p k ≡ address_after Put i.block i.address p k
-    put_after p k = ap (λ w. address_after w i.block i.address p k) is
+        other_page : (a : ℕ) → is_at a i ≡ true → is_at a j ≡ true → ⊥
+        other_page a x y =
+            let own = record_there work s here s.next i at in let theirs = record_there work s here k j listed in
+            let p = given_cell i a x in let q = given_cell j a y in
+            let slots = (pages_differ m v now).works a own.0 theirs.0 p.0 q.0 i j (intends_there work s here s.next i at) (intends_there work s here k j listed) p.1 q.1 in
+            let one_is = one_record (sym own.3 ∙ ap (record_in m.records) slots.0 ∙ theirs.3) in
+            ne (sym (index (ap (λ (x : StoredIntention). x.file) one_is) (ap (λ (x : StoredIntention). x.what) (sym one_is) ∙ is) (ap (λ (x : StoredIntention). x.block) one_is)))
+          where
+            one_record : {w u : WorkId} {t q : Tid} {j k : ℕ} {i s : StoredIntention} → Intention w t j i ≡ Intention u q k s → i ≡ s
+            one_record e = cc e
 
-    new_at : head_in heads place ≡ new
-    new_at = ⊎_elim (λ h. h.1) (λ h. absurd (h.0 refl)) (at_set FreeHead m.table.heads place new put.there place)
+    -- so what its work holds changes by what is held for the intention
+    own_moves : total (held_of later) s.list + held_of (layouts_in m.table) i ≡ total (held_of (layouts_in m.table)) s.list + held_of later i
+    own_moves = total_but_one (held_of later) (held_of (layouts_in m.table)) s.list s.next i at own_same
 
-    new_address : address_at new i.block ≡ suc d
-    new_address = put.addresses i.block ∙ put_after i.block old ∙ after_own i.block i.address old ∙ address
+    -- ---- its block's page
 
-    named_then : heads_name heads (suc d) ≡ true
-    named_then = addresses_named (record contents { heads = heads }) place i.file i.block d
-        (record { head = ap (is_head_of i.file) new_at ∙ new_file i.what i.file i.block d new put.file_after new_address; address = ap (λ h. address_at h i.block) new_at ∙ new_address })
+    abbrev stood : ℕ
+    stood = at_cell old i.block.0
 
-    stays_named : (a : ℕ) → old ≢ suc a → heads_name m.table.heads (suc a) ≡ true → heads_name heads (suc a) ≡ true
-    stays_named a ne named =
-        let it = named_addresses contents a named in
-        keeps_name a it.0 it.1 it.2 it.3 (λ p file. put_after it.2 (suc a) ∙ after_other i.block it.2 i.address (suc a)
-        (λ same. ne (ap (λ b. address_at (head_in m.table.heads place) b) same ∙ ap (λ k. address_at (head_in m.table.heads k) it.2) (sym p) ∙ it.3.address)))
+    block_cell : i.block.0 < most_cells
+    block_cell = let lt = put.range in omega (arith, lt)
 
-    same_name : (a : ℕ) → a ≢ d → old ≢ suc a → heads_name m.table.heads (suc a) ≡ heads_name heads (suc a)
-    same_name a ne other = both_ways (heads_name m.table.heads (suc a)) (heads_name heads (suc a)) (stays_named a other)
-        (λ named. ⊎_elim (λ old. old) (λ own. absurd (ne (omega (arith, own, address)))) (named_before a named))
+    new_address : at_cell new i.block.0 ≡ suc d
+    new_address = put.addresses i.block.0 put.range ∙ ap (λ w. address_after w i.block.0 i.address i.block.0 stood) is ∙ ap (λ b. if b then i.address else stood) self ∙ address
+      where
+        self : nat_eq i.block.0 i.block.0 ≡ true
+        self = grind (arith, nat_tests)
 
-    -- where its page is in its place already no name changes
-    same_names : old ≡ suc d → (a : ℕ) → heads_name m.table.heads (suc a) ≡ heads_name heads (suc a)
-    same_names e a = ⊎_elim
-        (λ same. subst (λ k. heads_name m.table.heads (suc k) ≡ heads_name heads (suc k)) (sym same) (addresses_named contents place i.file i.block d (own_address d e) ∙ sym named_then))
-        (λ ne. same_name a ne (λ h. ne (omega (arith, e, h))))
-        (cases_eq a d)
+    at_place : layout_at later place ≡ new
+    at_place = ⊎_elim (λ h. h.1) (λ h. absurd (h.0 refl)) (at_set Unused (layouts_in m.table) place new put.there place)
 
-    -- else no head named it
-    not_named : old ≢ suc d → heads_name m.table.heads (suc d) ≡ false
-    not_named ne = false_from_ne_true (heads_name m.table.heads (suc d)) (λ named.
-        let it = named_addresses contents d named in
-        let block = said.addresses.carried d its.0 it.0 i it.1 it.2 its.1 address it.3 in
-        let slot : it.0 ≡ place = put.only it.0 (subst (λ f. is_head_of f (head_in m.table.heads it.0) ≡ true) block.0 it.3.head) in
-        ne (ap (λ b. address_at (head_in m.table.heads place) b) (sym block.1) ∙ ap (λ k. address_at (head_in m.table.heads k) it.2) (sym slot) ∙ it.3.address))
+    named_then : heads_name most_cells later (suc d) ≡ true
+    named_then = cell_named most_cells later d place i.block.0 block_cell (ap (λ l. at_cell l i.block.0) at_place ∙ new_address)
 
-    works_have : works_name m.records (suc d) ≡ true
-    works_have = intends_named contents its.0 i (suc d) its.1 address
+    -- a page of it stands at its cell of this slot alone
+    here_alone : (a q slot p : ℕ) → Gives i a q → at_cell (layout_at (layouts_in m.table) slot) p ≡ suc a → at_cell old q ≡ suc a
+    here_alone a q slot p g e =
+        let stands = (pages_differ m v now).carried a its.0 slot q p i its.1 g e in
+        let same = put.only slot stands.0 in
+        (λ k. at_cell (layout_at (layouts_in m.table) (sym same k)) (sym stands.1 k)) ∙ e
 
-    -- the page that it replaces: no head and no prepared work names it then
-    module _ (e : ℕ) (replaced : old ≡ suc e) (other : e ≢ d) where
-      lost : heads_name heads (suc e) ≡ false
-      lost = false_from_ne_true (heads_name heads (suc e)) (λ named.
-          let it = named_addresses (record contents { heads = heads }) e named in
-          ⊎_elim
-          (λ stood.
-          let same = said.addresses.heads e it.0 place it.1 i.file it.2 i.block stood (own_address e replaced) in
-          let slot : it.0 ≡ place = put.only it.0 (subst (λ f. is_head_of f (head_in m.table.heads it.0) ≡ true) same.0 stood.head) in
-          let both : suc e ≡ suc d = sym it.3.address ∙ ap (λ k. address_at (head_in heads k) it.2) slot ∙ ap (λ h. address_at h it.2) new_at ∙ ap (address_at new) same.1 ∙ new_address in
-          other (omega (arith, both)))
-          (λ own. let h = own.0 in other (omega (arith, h, address)))
-          (split contents i place new put it.0 it.1 it.2 e it.3))
+    -- unless it stood there no layout named it
+    not_named : stood ≢ suc d → heads_name most_cells (layouts_in m.table) (suc d) ≡ false
+    not_named ne = false_from_ne_true (heads_name most_cells (layouts_in m.table) (suc d)) (λ named.
+        let it = found_cell most_cells (layouts_in m.table) (suc d) named in ne (here_alone d i.block.0 it.0 it.1 (inl (address, refl)) it.3))
 
-      not_held : works_name m.records (suc e) ≡ false
-      not_held = false_from_ne_true (works_name m.records (suc e)) (λ named. let it = its_work m v now e named in by it.0 (find_by work_eq name_of m.works it.0) refl it.1)
+    -- ---- its map page
+
+    abbrev range : ℕ
+    range = i.block.0 / head_blocks - 1
+
+    range_below : i.block.0 / head_blocks - 1 < most_maps
+    range_below = let lt = put.range in omega (arith, lt)
+
+    -- a map page that is there stays, so no name of its own changes
+    same_map : at_cell old (map_cell (i.block.0 / head_blocks - 1)) ≢ 0 → (e : ℕ) → i.map ≡ suc e → heads_name most_cells later (suc e) ≡ heads_name most_cells (layouts_in m.table) (suc e)
+    same_map there e map = by (at_cell old (map_cell range)) refl
+      where
+        stays : (q k : ℕ) → q ≡ map_cell range → at_cell old (map_cell range) ≡ suc k → at_cell new q ≡ at_cell old q
+        stays q k cell some = ap (at_cell new) cell ∙ put_keeps_map is range k range_below some ∙ sym some ∙ ap (at_cell old) (sym cell)
+
+        by : (c : ℕ) → at_cell old (map_cell range) ≡ c → heads_name most_cells later (suc e) ≡ heads_name most_cells (layouts_in m.table) (suc e)
+        by zero none = absurd (there none)
+        by (suc k) some = both_ways (heads_name most_cells later (suc e)) (heads_name most_cells (layouts_in m.table) (suc e))
+            (λ named.
+            let it = found_cell most_cells later (suc e) named in
+            ⊎_elim
+            (λ h. ⊎_elim
+            (λ was. cell_named most_cells (layouts_in m.table) e place it.1 it.2 was)
+            (λ own. own_named it.1 it.2 (ap (λ l. at_cell l it.1) (sym h.1) ∙ it.3) own)
+            (old_or_own it.1 e it.2 (ap (λ l. at_cell l it.1) (sym h.1) ∙ it.3)))
+            (λ h. cell_named most_cells (layouts_in m.table) e it.0 it.1 it.2 (ap (λ l. at_cell l it.1) (sym h.1) ∙ it.3))
+            (at_set Unused (layouts_in m.table) place new put.there it.0))
+            (λ named.
+            let it = found_cell most_cells (layouts_in m.table) (suc e) named in
+            let stands = (pages_differ m v now).carried e its.0 it.0 (map_cell range) it.1 i its.1 (inr (map, refl)) it.3 in
+            keeps e it.0 it.1 it.2 it.3 (λ same. stays it.1 k stands.1 some ∙ ap (λ k. at_cell (layout_at (layouts_in m.table) k) it.1) (sym same) ∙ it.3))
+          where
+            own_named : (q : ℕ) → q < most_cells → at_cell new q ≡ suc e → Gives i e q → heads_name most_cells (layouts_in m.table) (suc e) ≡ true
+            own_named q lt h (inl own) = absurd (not_map_cell i.block.0 range put.range
+                ((pages_differ m v now).works e its.0 its.0 i.block.0 (map_cell range) i i its.1 its.1 (inl (own.0, refl)) (inr (map, refl))).1)
+            own_named q lt h (inr own) = cell_named most_cells (layouts_in m.table) e place q lt (sym (stays q k own.1 some) ∙ h)
+
+    holds_map_same : (at_cell old (map_cell (i.block.0 / head_blocks - 1)) ≢ 0) ⊎ (i.map ≡ 0) → holds_page later i.map ≡ holds_page (layouts_in m.table) i.map
+    holds_map_same why = by i.map refl
+      where
+        by : (k : ℕ) → i.map ≡ k → holds_page later i.map ≡ holds_page (layouts_in m.table) i.map
+        by zero e = ap (λ n. nat_lt 0 n && not (heads_name most_cells later n)) e ∙ ap (λ n. nat_lt 0 n && not (heads_name most_cells (layouts_in m.table) n)) (sym e)
+        by (suc a) e = ap (λ n. nat_lt 0 n && not (heads_name most_cells later n)) e
+            ∙ ap (λ b. nat_lt 0 (suc a) && not b) (⊎_elim (λ there. same_map there a e) (λ none. absurd (omega (arith, none, e))) why)
+            ∙ ap (λ n. nat_lt 0 n && not (heads_name most_cells (layouts_in m.table) n)) (sym e)
+
+    -- whether it lacks its map page
+    abbrev lacks : Bool
+    lacks = lacks_map (maps_in m.table.heads) (bare i)
+
+    pub own_maps : maps_in m.table.heads i.file range ≡ nat_lt 0 (at_cell old (map_cell range))
+    own_maps = map_before m.table now.table i place new put range own_layout_is
+
+    lacks_is : lacks_map (maps_in m.table.heads) (bare i) ≡ (nat_le head_blocks i.block.0 && not (nat_lt 0 (at_cell old (map_cell range))))
+    lacks_is = ap (λ w. is_put w && nat_le head_blocks i.block.0 && not (maps_in m.table.heads i.file range)) is ∙ ap (λ b. true && nat_le head_blocks i.block.0 && not b) own_maps ∙ drop_true (nat_le head_blocks i.block.0) (not (nat_lt 0 (at_cell old (map_cell range))))
+      where
+        drop_true : (b c : Bool) → (true && b && c) ≡ (b && c)
+        drop_true b c = grind arith
+
+    -- where it doesn't, its map page is there, or it needs none
+    has_none_new : lacks_map (maps_in m.table.heads) (bare i) ≡ false → (at_cell old (map_cell (i.block.0 / head_blocks - 1)) ≢ 0) ⊎ (i.map ≡ 0)
+    has_none_new e = by (nat_le head_blocks i.block.0) refl (nat_lt 0 (at_cell old (map_cell range))) refl (sym lacks_is ∙ e)
+      where
+        by : (b : Bool) → nat_le head_blocks i.block.0 ≡ b → (c : Bool) → nat_lt 0 (at_cell old (map_cell range)) ≡ c → (b && not c) ≡ false → (at_cell old (map_cell (i.block.0 / head_blocks - 1)) ≢ 0) ⊎ (i.map ≡ 0)
+        by true x true y h = inl (λ none. some (at_cell old (map_cell range)) none y)
+          where
+            some : (k : ℕ) → k ≡ 0 → nat_lt 0 k ≡ true → ⊥
+            some k e h = grind (arith, nat_tests, e, h)
+        by true x false y h = absurd (true≢false h)
+        by false x c y h = inr (map_of_head_put i.what i.block.0 i.address i.map put.names is (grind (arith, nat_tests, x)))
+
+    -- and where it does, it names one that no layout does
+    module _ (e : lacks_map (maps_in m.table.heads) (bare i) ≡ true) where
+      none_there : at_cell old (map_cell range) ≡ 0
+      none_there = by (nat_lt 0 (at_cell old (map_cell range))) refl (sym lacks_is ∙ e)
         where
-          some_is : {A : Type 0} {a b : A} → Some a ≡ Some b → a ≡ b
-          some_is e = cc e
-
-          by : (o : WorkId) (t : Option WorkState) → find_by work_eq name_of m.works o ≡ t → list_any (is_at e) (stored_by t) ≡ true → ⊥
-          by o None f h = true≢false (sym h)
-          by o (Some t) f h =
-              let it = index_of e t.list h in
-              let block = at_block o t f it.0 it.1 it.2 e it.3 place i.file i.block (own_address e replaced) in
-              let also = put_there o t f it.0 it.1 it.2 e it.3 in
-              ⊎_elim (λ same. own (some_is (sym here ∙ ap (find_by work_eq name_of m.works) same.1 ∙ f)) it.0 it.1 it.2 it.3 block.0 block.1 also) (λ ne. (together o t f it.0 it.1 it.2 ne.1 block.0).1 is also block.1) (work_tells work o)
+          by : (b : Bool) → nat_lt 0 (at_cell old (map_cell range)) ≡ b → (nat_le head_blocks i.block.0 && not b) ≡ true → at_cell old (map_cell range) ≡ 0
+          by true x h = absurd (true≢false (sym h ∙ no (nat_le head_blocks i.block.0)))
             where
-              own : s ≡ t → (k : ℕ) (j : StoredIntention) → slice_get t.list k ≡ Some j → j.address ≡ suc e → i.file ≡ j.file → i.block ≡ j.block → j.what ≡ Put → ⊥
-              own same k j listed its_address file block also =
-                  let there = ap (λ (t : WorkState). slice_get t.list k) same ∙ listed in
-                  let index : s.next ≡ k = one_index (prepared_of (first_blocks m v) (stored_work s)).list None s.next k (full i) (full j) in_its_order (full_there work s here s.next i at) (full_there work s here k j there) file
-                  (ap (λ w. place_by w i.block) is ∙ ap (λ b. place_by Put b) block ∙ sym (ap (λ w. place_by w j.block) also)) in
-                  let one_is : i ≡ j = some_is (sym at ∙ ap (slice_get s.list) index ∙ there) in
-                  let pages : suc d ≡ suc e = sym address ∙ ap (λ (x : StoredIntention). x.address) one_is ∙ its_address in
-                  other (omega (arith, pages))
-                where
-                  in_its_order : in_order None (prepared_of (first_blocks m v) (stored_work s)).list ≡ true
-                  in_its_order = (serving.orderly.prepared work (prepared_of (first_blocks m v) (stored_work s)) (prepared_there work s here s.next i at)).order.order
+              no : (b : Bool) → (b && false) ≡ false
+              no true = refl
+              no false = refl
+          by false x h = grind (arith, nat_tests, x)
 
-      below_leaves : e < m.table.counts.leaves
-      below_leaves = named_below m.table.counts m.table.heads now.table.heads place i.block.0 e (same_address (head_in m.table.heads place) i.block ∙ replaced)
-
-    -- ---- how many pages
-
-    abbrev named_by : List Head → ℕ
-    named_by hs = how_many (λ a. heads_name hs (suc a)) m.table.counts.leaves
-
-    abbrev held_alone : List Head → ℕ
-    held_alone hs = how_many (λ a. works_name m.records (suc a) && not (heads_name hs (suc a))) m.table.counts.leaves
-
-    below : d < m.table.counts.leaves
-    below = let fits = said.addresses.works_fit its.0 i its.1 in omega (arith, fits, address)
-
-    held_less : old ≢ suc d → held_alone heads + 1 ≡ held_alone m.table.heads
-    held_less ne =
-        let moved = all_but_one (λ a. works_name m.records (suc a) && not (heads_name m.table.heads (suc a))) (λ a. works_name m.records (suc a) && not (heads_name heads (suc a))) d m.table.counts.leaves below others in
-        let was : one (works_name m.records (suc d) && not (heads_name m.table.heads (suc d))) ≡ 1 = ap (λ b. one (b && not (heads_name m.table.heads (suc d)))) works_have ∙ ap (λ b. one (not b)) (not_named ne) in
-        let is : one (works_name m.records (suc d) && not (heads_name heads (suc d))) ≡ 0 = ap (λ b. one (b && not (heads_name heads (suc d)))) works_have ∙ ap (λ b. one (not b)) named_then in
-        omega (arith, moved, was, is)
-      where
-        others : (a : ℕ) → a ≢ d → (works_name m.records (suc a) && not (heads_name m.table.heads (suc a))) ≡ (works_name m.records (suc a) && not (heads_name heads (suc a)))
-        others a other = ⊎_elim
-            (λ replaced. ap (λ b. b && not (heads_name m.table.heads (suc a))) (not_held a replaced other) ∙ sym (ap (λ b. b && not (heads_name heads (suc a))) (not_held a replaced other)))
-            (λ un. ap (λ b. works_name m.records (suc a) && not b) (same_name a other un))
-            (cases_eq old (suc a))
-
-    named_more : old ≡ 0 → named_by heads ≡ named_by m.table.heads + 1
-    named_more none =
-        let moved = all_but_one (λ a. heads_name m.table.heads (suc a)) (λ a. heads_name heads (suc a)) d m.table.counts.leaves below (λ a ne. same_name a ne (λ h. let no_way : ⊥ = omega (arith, none, h) in no_way)) in
-        let was = ap one (not_named (λ h. let no_way : ⊥ = omega (arith, none, h) in no_way)) in
-        let is = ap one named_then in
-        omega (arith, moved, was, is)
-
-    named_alike : (e : ℕ) → old ≡ suc e → e ≢ d → named_by heads ≡ named_by m.table.heads
-    named_alike e replaced other =
-        let more = all_but_one (λ a. heads_name m.table.heads (suc a)) (λ a. nat_eq a d || heads_name m.table.heads (suc a)) d m.table.counts.leaves below (λ a ne. without a (heads_name m.table.heads (suc a)) ne) in
-        let less = all_but_one (λ a. nat_eq a d || heads_name m.table.heads (suc a)) (λ a. heads_name heads (suc a)) e m.table.counts.leaves (below_leaves e replaced other) between in
-        let was = ap one (not_named (λ h. other (omega (arith, replaced, h)))) in
-        let own : one (nat_eq d d || heads_name m.table.heads (suc d)) ≡ 1 = ap (λ b. one (b || heads_name m.table.heads (suc d))) (same_number d) in
-        let stood : one (nat_eq e d || heads_name m.table.heads (suc e)) ≡ 1 = ap one (either (nat_eq e d) (heads_name m.table.heads (suc e)) (addresses_named contents place i.file i.block e (own_address e replaced))) in
-        let gone = ap one (lost e replaced other) in
-        omega (arith, more, less, was, own, stood, gone)
-      where
-        same_number : (k : ℕ) → nat_eq k k ≡ true
-        same_number k = grind (arith, nat_tests)
-
-        without : (a : ℕ) (b : Bool) → a ≢ d → b ≡ (nat_eq a d || b)
-        without a b ne = grind (arith, nat_tests, ne)
-
-        either : (b c : Bool) → c ≡ true → (b || c) ≡ true
-        either b c h = grind (arith, h)
-
-        between : (a : ℕ) → a ≢ e → (nat_eq a d || heads_name m.table.heads (suc a)) ≡ heads_name heads (suc a)
-        between a ne = ⊎_elim
-            (λ same. subst (λ k. (nat_eq k d || heads_name m.table.heads (suc k)) ≡ heads_name heads (suc k)) (sym same) (ap (λ b. b || heads_name m.table.heads (suc d)) (same_number d) ∙ sym named_then))
-            (λ un. sym (without a (heads_name m.table.heads (suc a)) un) ∙ same_name a un (λ h. ne (omega (arith, replaced, h))))
-            (cases_eq a d)
-
-    -- what the work itself holds
-    own_moves : count_by (holds_page heads) s.list + held_alone m.table.heads ≡ count_by (holds_page m.table.heads) s.list + held_alone heads
-    own_moves =
-        let all = (serves_of m v serving).counted.works_all in
-        let keys = (serves_of m v serving).counted.works in
-        let later = held_counted m v now keys all heads in
-        let before = held_counted m v now keys all m.table.heads in
-        let split_then = total-but work_eq work_tells (holds heads) work keys all.different (listed keys all) in
-        let split_before = total-but work_eq work_tells (holds m.table.heads) work keys all.different (listed keys all) in
-        let rest = total-same work_eq work_tells (holds heads) (holds m.table.heads) (but work_eq work keys) (λ o h. other_holds o (differs o (is_in work_eq o keys) (sym (is_in-but work_eq work_tells work o keys) ∙ h))) in
-        let own_then = ap (λ t. count_by (holds_page heads) (stored_by t)) here in
-        let own_before = ap (λ t. count_by (holds_page m.table.heads) (stored_by t)) here in
-        omega (arith, later, before, split_then, split_before, rest, own_then, own_before)
-      where
-        holds : List Head → WorkId → ℕ
-        holds hs o = count_by (holds_page hs) (stored_by (find_by work_eq name_of m.works o))
-
-        listed : (keys : List WorkId) → IsListing work_eq (λ o. is_some ((state (view_of m v)).works o)) keys → is_in work_eq work keys ≡ true
-        listed keys all = all.all work ∙ ap is_some (prepared_there work s here s.next i at)
-
-        differs : (o : WorkId) (b : Bool) → (b && not (work_eq work o)) ≡ true → work ≢ o
-        differs o b h = let t = work_tells work o in grind (arith, h)
-
-    -- ---- what is free
-
-    in_place : (state (view_of m v)).files (Block i.file i.block) ≡ behind (first_blocks m v) old
-    in_place = ap (λ (x : StableState). x.files (Block i.file i.block)) (finds m.server m.table.counts v m.epoch m.records m.table.heads now.standing (λ n. false))
-        ∙ ap (option_and_then (block_in (first_blocks m v) i.block)) its_find
-      where
-        its_find : find (is_head_of i.file) m.table.heads ≡ Some (head_in m.table.heads place)
-        its_find = found_once (is_head_of i.file) FreeHead m.table.heads place refl put.only ∙ ap (λ b. if b then Some (head_in m.table.heads place) else None) own_head
-
-    module _ (u : TableView) (table : IsTable u) (counts : u.counts ≡ m.table.counts) (heads_are : u.heads ≡ heads) (held_is : u.held ≡ m.table.held) where
-      free_then : free_numbers u.free_leaves + named_by heads + held_alone heads ≡ m.table.counts.leaves
-      free_then = subst (λ hs. free_numbers u.free_leaves + named_by hs + held_alone hs ≡ m.table.counts.leaves) heads_are
-          (subst (λ (g : Counts). free_numbers u.free_leaves + how_many (λ a. heads_name u.heads (suc a)) g.leaves + how_many (λ a. works_name m.records (suc a) && not (heads_name u.heads (suc a))) g.leaves ≡ g.leaves) counts
-          (all_pages u table m.records (λ a. ap (λ h. slice_index_or h a false) held_is ∙ now.held a)))
-
-      free_before : free_numbers m.table.free_leaves + named_by m.table.heads + held_alone m.table.heads ≡ m.table.counts.leaves
-      free_before = all_pages m.table now.table m.records now.held
-
-      taken : old ≢ suc d → (count_by (holds_page heads) s.list + 1 ≡ count_by (holds_page m.table.heads) s.list) × (free_numbers u.free_leaves ≡ free_numbers m.table.free_leaves + one (is_some ((state (view_of m v)).files (Block i.file i.block))))
-      taken ne = (
-        (let own = own_moves in let less = held_less ne in omega (arith, own, less)),
-        by old refl ∙ ap (λ o. free_numbers m.table.free_leaves + one (is_some o)) (sym in_place),
-      )
+      far : head_blocks ≤ i.block.0
+      far = by (nat_le head_blocks i.block.0) refl (sym lacks_is ∙ e)
         where
-          by : (k : ℕ) → old ≡ k → free_numbers u.free_leaves ≡ free_numbers m.table.free_leaves + one (is_some (behind (first_blocks m v) old))
-          by zero e = let none : one (is_some (behind (first_blocks m v) old)) ≡ 0 = ap (λ k. one (is_some (behind (first_blocks m v) k))) e in
-              let less = held_less ne in let more = named_more e in let later = free_then in let before = free_before in omega (arith, none, less, more, later, before)
-          by (suc k) e = let some : one (is_some (behind (first_blocks m v) old)) ≡ 1 = ap (λ k. one (is_some (behind (first_blocks m v) k))) e in
-              let less = held_less ne in let alike = named_alike k e (λ h. ne (e ∙ ap suc h)) in let later = free_then in let before = free_before in omega (arith, some, less, alike, later, before)
+          by : (b : Bool) → nat_le head_blocks i.block.0 ≡ b → (b && not (nat_lt 0 (at_cell old (map_cell range)))) ≡ true → head_blocks ≤ i.block.0
+          by true x h = grind (arith, nat_tests, x)
+          by false x h = absurd (true≢false (sym h))
 
-      stands : old ≡ suc d → (count_by (holds_page heads) s.list ≡ count_by (holds_page m.table.heads) s.list) × (free_numbers u.free_leaves ≡ free_numbers m.table.free_leaves)
-      stands e =
-          let named = same_pass (λ a. heads_name m.table.heads (suc a)) (λ a. heads_name heads (suc a)) m.table.counts.leaves (same_names e) in
-          let held = same_pass (λ a. works_name m.records (suc a) && not (heads_name m.table.heads (suc a))) (λ a. works_name m.records (suc a) && not (heads_name heads (suc a))) m.table.counts.leaves
-          (λ a. ap (λ b. works_name m.records (suc a) && not b) (same_names e a)) in
-          let own = own_moves in let later = free_then in let before = free_before in (omega (arith, own, held), omega (arith, named, held, later, before))
+      its_map : (page : ℕ) × (i.map ≡ suc page)
+      its_map = brought m v now serving work s here i at e
 
-      pub put_counted : PutCounts m v s i u
-      put_counted = ⊎_elim
-          (λ e. let same = stands e in
-          inr (in_place ∙ ap (behind (first_blocks m v)) e ∙ ap (λ (b : List ℕ). Some b) (sym (ap (λ w. bytes_by (first_blocks m v) w i.address) is ∙ ap (bytes_by (first_blocks m v) Put) address)), held_now same.0, same.1))
-          (λ ne. let both = taken ne in inl (ap (λ n. n + 1) (sym kept) ∙ both.0, both.1))
-          (cases_eq old (suc d))
+      map_not_named : heads_name most_cells (layouts_in m.table) (suc its_map.0) ≡ false
+      map_not_named = false_from_ne_true (heads_name most_cells (layouts_in m.table) (suc its_map.0)) (λ named.
+          let it = found_cell most_cells (layouts_in m.table) (suc its_map.0) named in
+          let stands = here_alone its_map.0 (map_cell range) it.0 it.1 (inr (its_map.1, refl)) it.3 in
+          let none = none_there in omega (arith, stands, none))
+
+      map_named_then : heads_name most_cells later (suc its_map.0) ≡ true
+      map_named_then = cell_named most_cells later its_map.0 place (map_cell range) (let lt = range_below in omega (arith, lt)) (ap (λ l. at_cell l (map_cell range)) at_place ∙ comes)
         where
-          kept : count_by (holds_page heads) s.list ≡ count_by (holds_page u.heads) s.list
-          kept = ap (λ hs. count_by (holds_page hs) s.list) (sym heads_are)
+          in_it : is_in_range range i.block.0 ≡ true
+          in_it = let h = far in let r : i.block.0 / 120 ≡ i.block.0 / 120 - 1 + 1 = omega (arith, h) in grind (arith, nat_tests, r)
 
-          held_now : count_by (holds_page heads) s.list ≡ count_by (holds_page m.table.heads) s.list → count_by (holds_page u.heads) s.list ≡ count_by (holds_page m.table.heads) s.list
-          held_now e = sym kept ∙ e
+          comes : at_cell new (map_cell range) ≡ suc its_map.0
+          comes = put.maps range range_below ∙ ap (λ w. map_after w i.block.0 i.map range (at_cell old (map_cell range))) is
+              ∙ ap (λ b. if b && nat_eq (at_cell old (map_cell range)) 0 then i.map else at_cell old (map_cell range)) in_it
+              ∙ ap (λ (k : ℕ). if nat_eq k 0 then i.map else k) none_there ∙ its_map.1
+
+    -- ---- what is held for it
+
+    holds_of : (ls : List Layout) (k a : ℕ) (b : Bool) → k ≡ suc a → heads_name most_cells ls (suc a) ≡ b → holds_page ls k ≡ not b
+    holds_of ls k a b e named = ap (λ n. nat_lt 0 n && not (heads_name most_cells ls n)) e ∙ ap (λ c. nat_lt 0 (suc a) && not c) named ∙ pos (nat_lt 0 (suc a)) (not b) (grind (arith, nat_tests))
+      where
+        pos : (p q : Bool) → p ≡ true → (p && q) ≡ q
+        pos p q h = grind (arith, h)
+
+    map_moves : one (holds_page later i.map) + one (lacks_map (maps_in m.table.heads) (bare i)) ≡ one (holds_page (layouts_in m.table) i.map)
+    map_moves = by (lacks_map (maps_in m.table.heads) (bare i)) refl
+      where
+        by : (b : Bool) → lacks_map (maps_in m.table.heads) (bare i) ≡ b → one (holds_page later i.map) + one b ≡ one (holds_page (layouts_in m.table) i.map)
+        by false e = let same = ap one (holds_map_same (has_none_new e)) in omega (arith, same)
+        by true e =
+            let it = its_map e in
+            let held_now = ap one (holds_of later i.map it.0 true it.1 (map_named_then e)) in
+            let was = ap one (holds_of (layouts_in m.table) i.map it.0 false it.1 (map_not_named e)) in omega (arith, held_now, was)
+
+    -- its page is taken
+    pub taken : stood ≢ suc d → total (held_of later) s.list + 1 + one (lacks_map (maps_in m.table.heads) (bare i)) ≡ total (held_of (layouts_in m.table)) s.list
+    taken ne =
+        let moves = own_moves in let maps = map_moves in
+        let now_held = ap one (holds_of later i.address d true address named_then) in
+        let was_held = ap one (holds_of (layouts_in m.table) i.address d false address (not_named ne)) in omega (arith, moves, maps, now_held, was_held)
+
+    -- or it is in its place already
+    pub in_its_place : stood ≡ suc d → (total (held_of later) s.list ≡ total (held_of (layouts_in m.table)) s.list) × (lacks_map (maps_in m.table.heads) (bare i) ≡ false)
+    in_its_place e =
+        let moves = own_moves in let maps = map_moves in let none = ap one lacks_none in
+        let now_held = ap one (holds_of later i.address d true address named_then) in
+        let was_held = ap one (holds_of (layouts_in m.table) i.address d true address (cell_named most_cells (layouts_in m.table) d place i.block.0 block_cell e)) in (omega (arith, moves, maps, none, now_held, was_held), lacks_none)
+      where
+        lacks_none : lacks_map (maps_in m.table.heads) (bare i) ≡ false
+        lacks_none = false_from_ne_true (lacks_map (maps_in m.table.heads) (bare i)) (λ lacks. let none = no_entry lacks in omega (arith, none, e))
+          where
+            no_entry : lacks_map (maps_in m.table.heads) (bare i) ≡ true → stood ≡ 0
+            no_entry lacks = by (at_cell old i.block.0) refl
+              where
+                in_it : is_in_range range i.block.0 ≡ true
+                in_it = let h = far lacks in let r : i.block.0 / 120 ≡ i.block.0 / 120 - 1 + 1 = omega (arith, h) in grind (arith, nat_tests, r)
+
+                by : (k : ℕ) → at_cell old i.block.0 ≡ k → at_cell old i.block.0 ≡ 0
+                by zero f = f
+                by (suc k) f = absurd (entry_map (kept_entry m.table.maps) m.table.heads place range i.block.0 put.range in_it (λ none. omega (arith, none, f)) range_below (none_there lacks))
+
+    -- ---- what is stored there
+
+    pub in_place : (state (view_of m v)).files (Block i.file i.block) ≡ behind (first_blocks m v) (at_cell (layout_at (layouts_in m.table) place) i.block.0)
+    in_place = ap (λ (files : Files). files (Block i.file i.block)) (files_found m v now) ∙ ap (option_and_then (block_in (first_blocks m v) i.block)) its_find ∙ ap (λ b. if b then behind (first_blocks m v) stood else None) in_blocks
+      where
+        in_blocks : nat_lt i.block.0 most_blocks ≡ true
+        in_blocks = let lt = put.range in grind (arith, nat_tests, lt)
+
+        its_find : find (is_layout_of i.file) (layouts_in m.table) ≡ Some old
+        its_find = found_once (is_layout_of i.file) Unused (layouts_in m.table) place refl put.only ∙ ap (λ b. if b then Some old else None) own_layout_is

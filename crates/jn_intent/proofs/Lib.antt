@@ -1,24 +1,34 @@
 mod Common
-pub mod Reading
-pub mod Marking
-pub mod LettingGo
-pub mod Listed
-pub mod Removing
 pub mod Idle
 pub mod Scrubbing
-pub mod HeadPuts
+pub mod Reading
+pub mod Marking
+pub mod Promising
+pub mod Naming
 pub mod Numbers
 pub mod Census
+pub mod ListPages
+pub mod LettingGo
+pub mod Listed
+pub mod Cells
+pub mod HeadPuts
+pub mod WorkRecords
 pub mod WorkPages
+pub mod Removing
 pub mod CarryStates
 pub mod NetOrder
+pub mod LeftMaps
 pub mod NextIntention
+pub mod Laid
+pub mod CarriedPuts
+pub mod MapsAfter
+mod HeldPages
+pub mod PutListings
 pub mod Applying
 pub mod StoringPool
-pub mod Storing
 pub mod StoringPages
+pub mod Storing
 pub mod ReadyPool
 pub mod ReadyStates
 pub mod Readying
 pub mod Rubbish
-mod HeldPages

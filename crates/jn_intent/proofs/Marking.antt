@@ -1,5 +1,5 @@
 -- A ready work goes on, by one put of its record.
-use Rattle.jn_intent.proofs.Common.{◌≡◌, ◌≢◌, ⊎_elim, ◌<◌, ℕ, zero, suc, Bool, true, false, if◌then◌else◌, List, [], ◌∷◌, length, map, Option, Some, None, refl, sym, ◌∙◌, ap, subst, true≢false, arith, fun_ext, is_some, position, slice_set, slice_index_or, count_by, option_map, option_and_then, find, LockUnit, WorkId, work_eq, work_tells, IsReadySlot, prepared_by, stored_list, holds_address, RecordPut, IsRecoverable, Makes, marks, found_written, intentions_kept, Record, Free, Intention, Ready, Going, FlagRecord, WorkHead, WorkState, record_page, MarkGoing, made_by, is_ready, IsRecord, record_in, slot_page, is_free, is_prepared, is_intention, is_flag, is_ready_record, going_of, Puts, are_different, is_in, IsServing, state, name_of, IsReady, MarkedGoing, find_by, find-set, find-at, find-listed, keys-set, StoreView, Memory, accounts_of, view_of, next_by, next_in, held_in, holds_page, stored_by, rubbish_of, rubbish_in, Matches, IsKeptMemory, IsMade, WorksMatch, StoredWork, stored_work, work_by, position_at, none_position, step_of, free_same, names_kept, rubbish_kept, work_stays, flags_stay, Serves, serves_of, serving_by, may_load, called_put, consistent, works_seen, serves_marked, same_only}
+use Rattle.jn_intent.proofs.Common.{◌≡◌, ◌≢◌, ⊎_elim, ◌<◌, ℕ, zero, suc, Bool, true, false, if◌then◌else◌, List, [], ◌∷◌, length, map, Option, Some, None, refl, sym, ◌∙◌, ap, subst, true≢false, arith, fun_ext, is_some, position, slice_set, slice_index_or, option_map, option_and_then, find, LockUnit, WorkId, work_eq, work_tells, IsReadySlot, prepared_by, stored_list, RecordPut, IsRecoverable, Makes, marks, found_written, intentions_kept, Record, Free, Intention, Ready, Going, FlagRecord, WorkHead, WorkState, record_page, MarkGoing, made_by, is_ready, IsRecord, record_in, slot_page, is_free, is_prepared, is_intention, is_flag, is_ready_record, going_of, Puts, are_different, is_in, IsServing, state, name_of, IsReady, MarkedGoing, find_by, find-set, find-at, find-listed, keys-set, StoreView, Memory, accounts_of, view_of, next_by, next_in, held_in, stored_by, rubbish_of, rubbish_in, Matches, IsKeptMemory, IsMade, WorksMatch, StoredWork, stored_work, work_by, position_at, none_position, step_of, free_same, names_kept, rubbish_kept, work_stays, flags_stay, Serves, serves_of, serving_by, may_load, called_put, consistent, works_seen, serves_marked, same_only, names_address, supplied_in, layouts_in, held_of, total, HasMaps, maps_in, holds_intention, names_maps}
 use Rattle.jn_intent.specs.Works.{MarksWork, going_on}
 
 -- ---- in memory
@@ -95,7 +95,7 @@ module _ (m : Memory) (v : StoreView) (now : Matches m v) (serving : IsServing (
     there = (position_at (is_prepared head.work) m.records Free slot at).0
 
     ready_slot : IsReadySlot m.records slot head n reads
-    ready_slot = record { there = there; stands = stands; once = (consistent m.server m.table.counts v m.epoch m.records m.table.heads now.standing).distinct.works head.work }
+    ready_slot = record { there = there; stands = stands; once = (consistent m.server m.table.counts v m.epoch m.records m.table.heads m.table.maps now.standing).distinct.works head.work }
 
     going_record : IsRecord (Going head n reads)
     going_record = let is = subst IsRecord stands (now.standing.held.pool slot there).of_format in record { whole = is.whole; fits = is.fits }
@@ -104,8 +104,8 @@ module _ (m : Memory) (v : StoreView) (now : Matches m v) (serving : IsServing (
     same_works w = ap (is_prepared w) stands
 
     module _ (ok : Bool) (records : List Record) (w : StoreView) (puts : Puts m.records v slot (Going head n reads) ok records w) where
-      makes : Makes m.server m.table.counts v m.epoch m.records m.table.heads (RecordPut slot (Going head n reads)) (MarkGoing head.work) ok w
-      makes = marks m.server m.table.counts v w m.epoch m.records m.table.heads ok now.standing slot head n reads
+      makes : Makes m.server m.table.counts v m.epoch m.records m.table.heads m.table.maps (RecordPut slot (Going head n reads)) (MarkGoing head.work) ok w
+      makes = marks m.server m.table.counts v w m.epoch m.records m.table.heads m.table.maps ok now.standing slot head n reads
           (step_of m.server m.table.counts v slot (Going head n reads) ok w (subst (λ k. slot < k) now.standing.held.slots there) going_record puts.put) ready_slot
           (may_load (made_by (MarkGoing head.work) (state (view_of m v))) (accounts_of m) (serves_marked (state (view_of m v)) head.work (accounts_of m) (serves_of m v serving)))
 
@@ -128,8 +128,16 @@ module _ (m : Memory) (v : StoreView) (now : Matches m v) (serving : IsServing (
           by true (Some s) = refl
           by false o = refl
 
-      held_same : held_in works m.table.heads ≡ held_in m.works m.table.heads
-      held_same = fun_ext (λ w. ap (λ o. count_by (holds_page m.table.heads) (stored_by o)) (found w) ∙ ap (count_by (holds_page m.table.heads)) (by (work_eq head.work w) (find_by work_eq name_of m.works w)))
+      held_same : held_in works (layouts_in m.table) ≡ held_in m.works (layouts_in m.table)
+      held_same = fun_ext (λ w. ap (λ o. total (held_of (layouts_in m.table)) (stored_by o)) (found w) ∙ ap (total (held_of (layouts_in m.table))) (by (work_eq head.work w) (find_by work_eq name_of m.works w)))
+        where
+          by : (b : Bool) (o : Option WorkState) → stored_by (if b then option_map going_on o else o) ≡ stored_by o
+          by true None = refl
+          by true (Some s) = refl
+          by false o = refl
+
+      supplied_same : supplied_in works ≡ supplied_in m.works
+      supplied_same = fun_ext (λ w. ap (λ o. names_maps (stored_by o)) (found w) ∙ ap names_maps (by (work_eq head.work w) (find_by work_eq name_of m.works w)))
         where
           by : (b : Bool) (o : Option WorkState) → stored_by (if b then option_map going_on o else o) ≡ stored_by o
           by true None = refl
@@ -138,11 +146,12 @@ module _ (m : Memory) (v : StoreView) (now : Matches m v) (serving : IsServing (
 
       accounts_same : accounts_of (with_going m slot head n reads works) ≡ accounts_of m
       accounts_same =
-          ap (λ k. record (accounts_of m) { free_records = k; rubbish = rubbish_in (slice_set m.records slot (Going head n reads)) (slice_set m.records slot (Going head n reads)); next = next_in works; held = held_in works m.table.heads })
+          ap (λ k. record (accounts_of m) { free_records = k; rubbish = rubbish_in (slice_set m.records slot (Going head n reads)) (slice_set m.records slot (Going head n reads)); next = next_in works; held = held_in works (layouts_in m.table); supplied = supplied_in works })
           (free_same m.records slot (Going head n reads) there (ap is_free stands) refl)
-          ∙ ap (λ r. record (accounts_of m) { rubbish = r; next = next_in works; held = held_in works m.table.heads }) (rubbish_kept m.records slot (Going head n reads) same_works (ap (rubbish_of m.records) stands))
-          ∙ ap (λ f. record (accounts_of m) { next = f; held = held_in works m.table.heads }) next_same
-          ∙ ap (λ f. record (accounts_of m) { held = f }) held_same
+          ∙ ap (λ r. record (accounts_of m) { rubbish = r; next = next_in works; held = held_in works (layouts_in m.table); supplied = supplied_in works }) (rubbish_kept m.records slot (Going head n reads) same_works (ap (rubbish_of m.records) stands))
+          ∙ ap (λ f. record (accounts_of m) { next = f; held = held_in works (layouts_in m.table); supplied = supplied_in works }) next_same
+          ∙ ap (λ f. record (accounts_of m) { held = f; supplied = supplied_in works }) held_same
+          ∙ ap (λ f. record (accounts_of m) { supplied = f }) supplied_same
 
       serves : Serves (made_by (MarkGoing head.work) (state (view_of m v))) (accounts_of (with_going m slot head n reads works))
       serves = subst (Serves (made_by (MarkGoing head.work) (state (view_of m v)))) (sym accounts_same) (serves_marked (state (view_of m v)) head.work (accounts_of m) (serves_of m v serving))
@@ -191,14 +200,20 @@ module _ (m : Memory) (v : StoreView) (now : Matches m v) (serving : IsServing (
           table = now.table;
           works = works_go;
           made = λ w. subst (λ o. IsMade m.table.heads o) (sym (found w)) (still (work_eq head.work w) (find_by work_eq name_of m.works w) (now.made w));
+          supplied = λ w. subst (λ o. HasMaps (maps_in m.table.heads) o) (sym (found w)) (maps_still (work_eq head.work w) (find_by work_eq name_of m.works w) (now.supplied w));
           flags = flags_stay m.records slot (Going head n reads) m.flags (λ t. ap (is_flag t) stands) (λ t. refl) now.flags;
-          held = λ a. now.held a ∙ sym (names_kept m.records slot (Going head n reads) same_works (suc a) (ap (holds_address m.records (suc a)) stands) refl);
+          held = λ a. now.held a ∙ sym (names_kept m.records slot (Going head n reads) same_works (suc a) (ap (holds_intention (names_address (suc a)) m.records) stands) refl);
         }
           where
             still : (b : Bool) (o : Option WorkState) → IsMade m.table.heads o → IsMade m.table.heads (if b then option_map going_on o else o)
             still true None is = is
             still true (Some s) is = is
             still false o is = is
+
+            maps_still : (b : Bool) (o : Option WorkState) → HasMaps (maps_in m.table.heads) o → HasMaps (maps_in m.table.heads) (if b then option_map going_on o else o)
+            maps_still true None is = is
+            maps_still true (Some s) is = is
+            maps_still false o is = is
 
         pub marked_done : MarkedGoing (view_of m v) head.work ok (view_of (with_going m slot head n reads works) w)
         marked_done = record {

@@ -1,5 +1,5 @@
 -- How many numbers below a bound pass a test, and what is listed by numbers.
-use Rattle.jn_intent.proofs.Common.{◌≡◌, ◌≢◌, ⊎_elim, ◌<◌, ◌≤◌, ◌+◌, ℕ, zero, suc, Bool, true, false, not, ◌&&◌, ◌||◌, if◌then◌else◌, List, [], ◌∷◌, length, Some, refl, sym, ◌∙◌, ap, true≢false, arith, cases_eq, nat_tests, sum_by-cons, nat_lt, nat_le, count_by, slice_get, slice_index_or, is_in, are_different, IsListing, total, Tells, but, listing-more, listing-same, listing-less, one}
+use Rattle.jn_intent.proofs.Common.{◌≡◌, ◌≢◌, ⊎_elim, ◌<◌, ◌≤◌, ◌+◌, ℕ, zero, suc, Bool, true, false, not, ◌&&◌, if◌then◌else◌, List, [], ◌∷◌, length, Some, refl, sym, ◌∙◌, ap, true≢false, arith, cases_eq, sum_by-cons, count_by, slice_get, slice_index_or, is_in, are_different, IsListing, total, Tells, but, listing-less, one}
 use Rattle.jn_recovery.proofs.FlagStates.{length-one}
 
 abbrev pub how_many : (ℕ → Bool) → ℕ → ℕ
@@ -56,6 +56,21 @@ same_members p q (x ∷ xs) same =
 
 -- ---- totals
 
+pub total_members : {X : Type 0} (f g : X → ℕ) (xs : List X) → ((j : ℕ) (x : X) → slice_get xs j ≡ Some x → f x ≡ g x) → total f xs ≡ total g xs
+total_members f g [] same = refl
+total_members f g (x ∷ xs) same = let here = same 0 x refl in let again = total_members f g xs (λ j. same (suc j)) in omega (arith, here, again)
+
+-- all alike but one
+pub total_but_one : {X : Type 0} (f g : X → ℕ) (xs : List X) (n : ℕ) (x : X) → slice_get xs n ≡ Some x → ((j : ℕ) (y : X) → j ≢ n → slice_get xs j ≡ Some y → f y ≡ g y) → total f xs + g x ≡ total g xs + f x
+total_but_one f g [] zero x at same = absurd (cc at)
+total_but_one f g [] (suc n) x at same = absurd (cc at)
+total_but_one f g (y ∷ xs) zero x at same =
+    let is : y ≡ x = cc at in let here = ap f is in let there = ap g is in
+    let rest = total_members f g xs (λ j z. same (suc j) z (λ e. omega (arith, e))) in omega (arith, here, there, rest)
+total_but_one f g (y ∷ xs) (suc n) x at same =
+    let here = same 0 y (λ e. omega (arith, e)) refl in
+    let again = total_but_one f g xs n x at (λ j z ne. same (suc j) z (λ e. ne (omega (arith, e)))) in omega (arith, here, again)
+
 pub total_plus : {K : Type 0} (f g h : K → ℕ) → ((k : K) → h k ≡ f k + g k) → (keys : List K) → total h keys ≡ total f keys + total g keys
 total_plus f g h is [] = refl
 total_plus f g h is (k ∷ keys) = let here = is k in let again = total_plus f g h is keys in omega (arith, here, again)
@@ -86,46 +101,3 @@ listing_length eq tells holds (x ∷ xs) ys l m =
 
     others : (a : _) → is_in eq a xs ≡ (holds a && not (eq x a))
     others a = let all = l.all a in let none = rest.1 in let t = tells x a in grind (arith, all, none)
-
--- what has numbers, each its own: the first of them
-module _ {A : Type 0} (eq : A → A → Bool) (tells : Tells eq) (at : A → ℕ) (used : ℕ → Bool)
-    (has : (n : ℕ) → used n ≡ true → (a : A) × (at a ≡ suc n)) (own : (n : ℕ) (a b : A) → at a ≡ suc n → at b ≡ suc n → a ≡ b) (only : (n : ℕ) (a : A) → at a ≡ suc n → used n ≡ true) where
-  pub numbered : (n : ℕ) → (keys : List A) × IsListing eq (λ a. nat_lt 0 (at a) && nat_le (at a) n) keys × (length keys ≡ how_many used n)
-  numbered zero = ([], record { different = refl; all = λ a. none (at a) }, refl)
-    where
-      none : (k : ℕ) → false ≡ (nat_lt 0 k && nat_le k 0)
-      none k = grind (arith, nat_tests)
-  numbered (suc n) = by (used n) refl (numbered n)
-    where
-      fresh : (k : ℕ) → k ≡ suc n → (nat_lt 0 k && nat_le k n) ≡ false
-      fresh k e = grind (arith, nat_tests, e)
-
-      now : (k : ℕ) → k ≡ suc n → (nat_lt 0 k && nat_le k (suc n)) ≡ true
-      now k e = grind (arith, nat_tests, e)
-
-      as_before : (k : ℕ) → k ≢ suc n → (nat_lt 0 k && nat_le k (suc n)) ≡ (nat_lt 0 k && nat_le k n)
-      as_before k e = grind (arith, nat_tests, e)
-
-      first : (b c : Bool) → b ≡ true → true ≡ (b || c)
-      first b c e = grind (arith, e)
-
-      second : (b c : Bool) → b ≡ false → c ≡ (b || c)
-      second b c e = grind (arith, e)
-
-      by : (b : Bool) → used n ≡ b → (keys : List A) × IsListing eq (λ a. nat_lt 0 (at a) && nat_le (at a) n) keys × (length keys ≡ how_many used n)
-          → (keys : List A) × IsListing eq (λ a. nat_lt 0 (at a) && nat_le (at a) (suc n)) keys × (length keys ≡ how_many used n + one (used n))
-      by true e rest =
-          let it = has n e in (
-            it.0 ∷ rest.0,
-            listing-more eq tells it.0 (λ a. nat_lt 0 (at a) && nat_le (at a) n) (λ a. nat_lt 0 (at a) && nat_le (at a) (suc n)) rest.0 (fresh (at it.0) it.1)
-                (λ a. ⊎_elim
-                (λ h. now (at a) (ap at (sym h.1) ∙ it.1) ∙ first (eq it.0 a) (nat_lt 0 (at a) && nat_le (at a) n) h.0)
-                (λ h. as_before (at a) (λ s. h.1 (own n it.0 a it.1 s)) ∙ second (eq it.0 a) (nat_lt 0 (at a) && nat_le (at a) n) h.0)
-                (tells it.0 a)) rest.1,
-            (let long = rest.2 in let here = ap one e in omega (arith, long, here)),
-          )
-      by false e rest = (
-        rest.0,
-        listing-same eq (λ a. nat_lt 0 (at a) && nat_le (at a) n) (λ a. nat_lt 0 (at a) && nat_le (at a) (suc n)) rest.0 (λ a. as_before (at a) (λ s. true≢false (sym (only n a s) ∙ e))) rest.1,
-        (let long = rest.2 in let here = ap one e in omega (arith, long, here)),
-      )

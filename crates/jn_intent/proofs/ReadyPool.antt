@@ -1,7 +1,7 @@
 -- The records once the ready record of a work stands behind its intentions.
-use Rattle.jn_intent.proofs.Common.{◌≡◌, ⊎_elim, ◌<◌, ◌≤◌, ◌+◌, ℕ, zero, suc, Bool, true, false, not, ◌||◌, if◌then◌else◌, List, [], ◌∷◌, ◌++◌, length, map, Option, Some, None, refl, sym, ◌∙◌, ap, subst, true≢false, arith, cases_eq, nat_tests, filter-append, is_some, filter, position, slice_set, option_map, option_and_then, find, list_any, LockUnit, Tid, WorkId, work_eq, work_tells, Contents, stored_in, stored_list, with_first, intentions_from, intention_of, heads_name, works_name, PassesOnce, HasAt, Intends, AreFresh, none_passes, any_same, found_once, found_written, none_at, named_intends, intends_named, intentions_kept, at_set, passes_any, StoredIntention, Record, Free, Intention, Ready, Going, FlagRecord, WorkHead, WorkState, record_in, is_free, free_count, is_prepared, is_intention, is_flag, are_different, name_of, find_by, find-add, find-listed, different-add, map-add, Memory, rubbish_of, rubbish_in, WorksMatch, FlagsMatch, stored_work, work_by, is_at, ArePagesApart, PoolPreparing, free_more, work_stays, flags_stay}
-use Rattle.jn_intent.proofs.Listed.{listed_at, listed_back}
-use Rattle.jn_intent.proofs.StoringPages.{or_first, or_rest}
+use Rattle.jn_intent.proofs.Common.{◌≡◌, inl, inr, ⊎_elim, ◌<◌, ◌≤◌, ◌+◌, ℕ, zero, suc, Bool, true, false, not, ◌||◌, if◌then◌else◌, List, [], ◌∷◌, ◌++◌, length, map, Option, Some, None, refl, sym, ◌∙◌, ap, subst, true≢false, arith, cases_eq, nat_tests, filter-append, is_some, filter, position, slice_set, option_map, option_and_then, find, list_any, LockUnit, Tid, WorkId, work_eq, work_tells, Contents, stored_in, stored_list, with_first, intentions_from, intention_of, heads_name, works_name, PassesOnce, HasAt, Intends, AreFresh, none_passes, any_same, found_once, found_written, none_at, intentions_kept, names_address, most_cells, Gives, at_set, passes_any, StoredIntention, Record, Free, Intention, Ready, Going, FlagRecord, WorkHead, WorkState, record_in, is_free, free_count, is_prepared, is_intention, is_flag, are_different, name_of, find_by, find-add, find-listed, different-add, map-add, Memory, rubbish_of, rubbish_in, WorksMatch, FlagsMatch, stored_work, work_by, is_at, ArePagesApart, PoolPreparing, free_more, work_stays, flags_stay, layouts_said}
+use Rattle.jn_intent.proofs.Listed.{listed_at, listed_any, listed_back}
+use Rattle.jn_intent.proofs.Naming.{found_intention, intention_has, gives_named, or_first, or_rest}
 use Rattle.jn_intent.proofs.StoringPool.{is_other, same_work, others_past, free_there, stands_free}
 
 abbrev pub ready_state : WorkHead → List StoredIntention → List LockUnit → WorkState
@@ -20,7 +20,7 @@ module _ (pool : List Record) (work : WorkId) where
 
   -- one data page, one place
   places_apart : (a i j k l : ℕ) (u r : Tid) (s t : StoredIntention) → record_in pool i ≡ Intention work u k s → record_in pool j ≡ Intention work r l t → ((order : ℕ) → PassesOnce (λ n. is_intention work order (record_in pool n)))
-      → s.address ≡ suc a → t.address ≡ suc a → (order n : ℕ) → ArePagesApart (intentions_from pool work order n) → order ≤ k → k < order + n → order ≤ l → l < order + n → k ≡ l
+      → is_at a s ≡ true → is_at a t ≡ true → (order n : ℕ) → ArePagesApart (intentions_from pool work order n) → order ≤ k → k < order + n → order ≤ l → l < order + n → k ≡ l
   places_apart a i j k l u r s t is js once sa ta order zero apart k_low k_high l_low l_high = absurd (omega (arith, k_low, k_high))
   places_apart a i j k l u r s t is js once sa ta order (suc n) apart k_low k_high l_low l_high = ⊎_elim
       (λ e. ⊎_elim (λ f. e ∙ sym f) (λ ne. absurd (first order i k u s is (sym e) sa (listed_back pool work a j r l t js (once l) ta (suc order) n (omega (arith, l_low, ne)) (omega (arith, l_high))) apart)) (cases_eq l order))
@@ -32,14 +32,30 @@ module _ (pool : List Record) (work : WorkId) where
     where
       rest : (o : Option StoredIntention) → ArePagesApart (with_first o (intentions_from pool work (suc order) n)) → ArePagesApart (intentions_from pool work (suc order) n)
       rest None apart = apart
-      rest (Some x) apart = apart.1
+      rest (Some x) apart = apart.2
 
-      first : (order i k : ℕ) (u : Tid) (s : StoredIntention) → record_in pool i ≡ Intention work u k s → order ≡ k → s.address ≡ suc a → list_any (is_at a) (intentions_from pool work (suc order) n) ≡ true
+      first : (order i k : ℕ) (u : Tid) (s : StoredIntention) → record_in pool i ≡ Intention work u k s → order ≡ k → is_at a s ≡ true → list_any (is_at a) (intentions_from pool work (suc order) n) ≡ true
           → ArePagesApart (with_first (intention_of pool work order) (intentions_from pool work (suc order) n)) → ⊥
-      first order i k u s stands e address listed apart =
+      first order i k u s stands e names listed apart =
           let here = stands_first i order u s (stands ∙ ap (λ o. Intention work u o s) (sym e)) (once order) in
           let all = subst (λ o. ArePagesApart (with_first o (intentions_from pool work (suc order) n))) here apart in
-          true≢false (sym listed ∙ all.0 a (grind (arith, nat_tests, address)))
+          true≢false (sym listed ∙ all.1 a names)
+
+  -- and an intention's two are apart
+  two_apart : (i k : ℕ) (u : Tid) (s : StoredIntention) → record_in pool i ≡ Intention work u k s → PassesOnce (λ n. is_intention work k (record_in pool n)) → (order n : ℕ) → order ≤ k → k < order + n → ArePagesApart (intentions_from pool work order n)
+      → (a : ℕ) → s.address ≡ suc a → s.map ≡ suc a → ⊥
+  two_apart i k u s is once order zero low high apart = absurd (omega (arith, low, high))
+  two_apart i k u s is once order (suc n) low high apart = ⊎_elim
+      (λ e. first (subst (λ o. ArePagesApart (with_first o (intentions_from pool work (suc order) n))) (ap (λ o. intention_of pool work o) (sym e) ∙ stands_first i k u s is once) apart))
+      (λ ne. two_apart i k u s is once (suc order) n (omega (arith, low, ne)) (omega (arith, high)) (rest (intention_of pool work order) apart))
+      (cases_eq k order)
+    where
+      first : ArePagesApart (s ∷ intentions_from pool work (suc order) n) → (a : ℕ) → s.address ≡ suc a → s.map ≡ suc a → ⊥
+      first apart = apart.0
+
+      rest : (o : Option StoredIntention) → ArePagesApart (with_first o (intentions_from pool work (suc order) n)) → ArePagesApart (intentions_from pool work (suc order) n)
+      rest None apart = apart
+      rest (Some x) apart = apart.2
 
 -- ---- the work's own data pages
 
@@ -47,28 +63,51 @@ module _ (m : Memory) (work : WorkId) (stored : List StoredIntention) (records :
   place_below : (i : ℕ) (s : StoredIntention) (h : HasAt records work i s) → h.order < length stored
   place_below i s h = p.first.intentions.no_more h.order i (ap (is_intention work h.order) h.stands ∙ own_place records work h.order h.tid s)
 
-  pub listed_page : (i a : ℕ) (s : StoredIntention) → HasAt records work i s → s.address ≡ suc a → list_any (is_at a) stored ≡ true
-  listed_page i a s h address = ap (list_any (is_at a)) (sym p.first.list_stands)
-      ∙ listed_back records work a i h.tid h.order s h.stands (p.first.intentions.once h.order) address 0 (length stored) (omega arith) (let lt = place_below i s h in omega (arith, lt))
+  -- what its intention passes, one of the list does
+  pub listed_one : (p : StoredIntention → Bool) (i : ℕ) (s : StoredIntention) → HasAt records work i s → p s ≡ true → list_any p stored ≡ true
+  listed_one q i s h passes = ap (list_any q) (sym p.first.list_stands)
+      ∙ listed_any records work q i h.tid h.order s h.stands (p.first.intentions.once h.order) passes 0 (length stored) (omega arith) (let lt = place_below i s h in omega (arith, lt))
 
-  pub are_fresh : (leaves : ℕ) (c : Contents) → c.pool ≡ records → ArePagesApart stored → ((a : ℕ) → list_any (is_at a) stored ≡ true → (a < leaves) × ((heads_name c.heads (suc a) || works_name records (suc a)) ≡ false)) → AreFresh leaves c work
+  pub listed_page : (i a : ℕ) (s : StoredIntention) → HasAt records work i s → is_at a s ≡ true → list_any (is_at a) stored ≡ true
+  listed_page i a s h names = listed_one (is_at a) i s h names
+
+  pub are_fresh : (leaves : ℕ) (c : Contents) → c.pool ≡ records → ArePagesApart stored → ((a : ℕ) → list_any (is_at a) stored ≡ true → (a < leaves) × ((heads_name most_cells (layouts_said c) (suc a) || works_name records (suc a)) ≡ false)) → AreFresh leaves c work
   are_fresh leaves c same apart own = record {
-    fit = λ i s h. by i s (in_records i s h) s.address refl;
-    unnamed = λ i d s h address. ap (λ l. heads_name c.heads (suc d) || works_name l (suc d)) same ∙ (own d (listed_page i d s (in_records i s h) address)).1;
-    differ = λ i j d s t h k sa ta.
-        let a = in_records i s h in let b = in_records j t k in
-        let la = place_below i s a in let lb = place_below j t b in
-        let orders = places_apart records work d i j a.order b.order a.tid b.tid s t a.stands b.stands p.first.intentions.once sa ta 0 (length stored) (subst ArePagesApart (sym p.first.list_stands) apart) (omega arith) (omega (arith, la)) (omega arith) (omega (arith, lb)) in
-        p.first.intentions.once a.order i j (ap (is_intention work a.order) a.stands ∙ own_place records work a.order a.tid s)
-        (subst (λ o. is_intention work o (record_in records j) ≡ true) (sym orders) (ap (is_intention work b.order) b.stands ∙ own_place records work b.order b.tid t));
+    fit = λ d i q s h g. (own d (listed_page i d s (in_records i s h) (gives_named s d q g))).0;
+    unnamed = λ d i q s h g. ap (λ l. heads_name most_cells (layouts_said c) (suc d) || works_name l (suc d)) same ∙ (own d (listed_page i d s (in_records i s h) (gives_named s d q g))).1;
+    differ = λ d i j q r s t h k sg tg. both_same d i j q r s t (in_records i s h) (in_records j t k) sg tg;
   }
     where
       in_records : (i : ℕ) (s : StoredIntention) → HasAt c.pool work i s → HasAt records work i s
       in_records i s h = subst (λ l. HasAt l work i s) same h
 
-      by : (i : ℕ) (s : StoredIntention) → HasAt records work i s → (a : ℕ) → s.address ≡ a → s.address ≤ leaves
-      by i s h zero e = omega (arith, e)
-      by i s h (suc a) e = let lt = (own a (listed_page i a s h e)).0 in omega (arith, e, lt)
+      apart_there : ArePagesApart (intentions_from records work 0 (length stored))
+      apart_there = subst ArePagesApart (sym p.first.list_stands) apart
+
+      one_slot : (d i j q r : ℕ) (s t : StoredIntention) → HasAt records work i s → HasAt records work j t → Gives s d q → Gives t d r → i ≡ j
+      one_slot d i j q r s t a b sg tg =
+          let la = place_below i s a in let lb = place_below j t b in
+          let orders = places_apart records work d i j a.order b.order a.tid b.tid s t a.stands b.stands p.first.intentions.once (gives_named s d q sg) (gives_named t d r tg) 0 (length stored) apart_there (omega arith) (omega (arith, la)) (omega arith) (omega (arith, lb)) in
+          p.first.intentions.once a.order i j (ap (is_intention work a.order) a.stands ∙ own_place records work a.order a.tid s)
+          (subst (λ o. is_intention work o (record_in records j) ≡ true) (sym orders) (ap (is_intention work b.order) b.stands ∙ own_place records work b.order b.tid t))
+
+      both_same : (d i j q r : ℕ) (s t : StoredIntention) → HasAt records work i s → HasAt records work j t → Gives s d q → Gives t d r → (i ≡ j) × (q ≡ r)
+      both_same d i j q r s t a b sg tg =
+          let slots = one_slot d i j q r s t a b sg tg in
+          let is : s ≡ t = one_record (sym a.stands ∙ ap (record_in records) slots ∙ b.stands) in
+          (slots, cells (subst (λ x. Gives x d q) is sg) tg)
+        where
+          one_record : {w u : WorkId} {x y : Tid} {k l : ℕ} {s t : StoredIntention} → Intention w x k s ≡ Intention u y l t → s ≡ t
+          one_record e = cc e
+
+          two : (d : ℕ) → t.address ≡ suc d → t.map ≡ suc d → ⊥
+          two = two_apart records work j b.order b.tid t b.stands (p.first.intentions.once b.order) 0 (length stored) (omega arith) (let lt = place_below j t b in omega (arith, lt)) apart_there
+
+          cells : Gives t d q → Gives t d r → q ≡ r
+          cells (inl x) (inl y) = x.1 ∙ sym y.1
+          cells (inr x) (inr y) = x.1 ∙ sym y.1
+          cells (inl x) (inr y) = absurd (two d x.0 y.0)
+          cells (inr x) (inl y) = absurd (two d y.0 x.0)
 
 -- ---- with the ready record
 
@@ -176,9 +215,6 @@ module _ (m : Memory) (head : WorkHead) (stored : List StoredIntention) (records
 
   -- which data pages the prepared works name
 
-  abbrev contents : List Record → Contents
-  contents pool = record { epoch = 0; pool = pool; heads = []; blocks = λ k. [] }
-
   was : (i : ℕ) (w : WorkId) (u : Tid) (k : ℕ) (s : StoredIntention) → record_in (slice_set records slot (Ready head n reads)) i ≡ Intention w u k s → record_in records i ≡ Intention w u k s
   was i w u k s e = ⊎_elim (λ h. absurd (no_ready (sym h.1 ∙ e))) (λ h. sym h.1 ∙ e) (at_set Free records slot (Ready head n reads) there i)
     where
@@ -192,27 +228,27 @@ module _ (m : Memory) (head : WorkHead) (stored : List StoredIntention) (records
       no_free e = cc e
 
   goes : (a : ℕ) → works_name (slice_set records slot (Ready head n reads)) (suc a) ≡ true → (works_name records (suc a) || list_any (is_at a) stored) ≡ true
-  goes a named = let at = named_intends (contents (slice_set records slot (Ready head n reads))) (suc a) named in
+  goes a named = let at = found_intention (names_address (suc a)) (slice_set records slot (Ready head n reads)) named in
       by at.0 at.1 at.2 at.3 (list_any (is_prepared at.2.work) records) refl (sym (ready_prepared at.2.work) ∙ at.2.prepared)
     where
-      by : (i : ℕ) (s : StoredIntention) (it : Intends (slice_set records slot (Ready head n reads)) i s) → s.address ≡ suc a → (b : Bool) → list_any (is_prepared it.work) records ≡ b → (list_any (is_prepared it.work) records || work_eq head.work it.work) ≡ true
+      by : (i : ℕ) (s : StoredIntention) (it : Intends (slice_set records slot (Ready head n reads)) i s) → is_at a s ≡ true → (b : Bool) → list_any (is_prepared it.work) records ≡ b → (list_any (is_prepared it.work) records || work_eq head.work it.work) ≡ true
           → (works_name records (suc a) || list_any (is_at a) stored) ≡ true
-      by i s it address true e h = or_first (works_name records (suc a)) (list_any (is_at a) stored)
-          (intends_named (contents records) i s (suc a) (record { work = it.work; tid = it.tid; order = it.order; stands = was i it.work it.tid it.order s it.stands; prepared = e }) address)
-      by i s it address false e h =
+      by i s it names true e h = or_first (works_name records (suc a)) (list_any (is_at a) stored)
+          (intention_has (names_address (suc a)) records i s (record { work = it.work; tid = it.tid; order = it.order; stands = was i it.work it.tid it.order s it.stands; prepared = e }) names)
+      by i s it names false e h =
           let same : it.work ≡ head.work = (let t = work_tells head.work it.work in let f = ap (λ b. b || work_eq head.work it.work) (sym e) ∙ h in grind (arith, f)) in
           or_rest (works_name records (suc a)) (list_any (is_at a) stored)
-          (listed_page m head.work stored records p i a s (record { tid = it.tid; order = it.order; stands = was i it.work it.tid it.order s it.stands ∙ ap (λ w. Intention w it.tid it.order s) same }) address)
+          (listed_page m head.work stored records p i a s (record { tid = it.tid; order = it.order; stands = was i it.work it.tid it.order s it.stands ∙ ap (λ w. Intention w it.tid it.order s) same }) names)
 
   comes : (a : ℕ) (b : Bool) → works_name records (suc a) ≡ b → (works_name records (suc a) || list_any (is_at a) stored) ≡ true → works_name (slice_set records slot (Ready head n reads)) (suc a) ≡ true
   comes a true named h =
-      let at = named_intends (contents records) (suc a) named in let it = at.2 in
-      intends_named (contents (slice_set records slot (Ready head n reads))) at.0 at.1 (suc a)
+      let at = found_intention (names_address (suc a)) records named in let it = at.2 in
+      intention_has (names_address (suc a)) (slice_set records slot (Ready head n reads)) at.0 at.1
       (record { work = it.work; tid = it.tid; order = it.order; stands = is_still at.0 it.work it.tid it.order at.1 it.stands; prepared = ready_prepared it.work ∙ or_first (list_any (is_prepared it.work) records) (work_eq head.work it.work) it.prepared }) at.3
   comes a false unnamed h =
       let l = listed_at records head.work a 0 (length stored) (ap (list_any (is_at a)) p.first.list_stands ∙ ap (λ b. b || list_any (is_at a) stored) (sym unnamed) ∙ h) in
-      intends_named (contents (slice_set records slot (Ready head n reads))) l.slot l.intention (suc a)
-      (record { work = head.work; tid = l.tid; order = l.order; stands = is_still l.slot head.work l.tid l.order l.intention l.stands; prepared = ready_prepared head.work ∙ or_rest (list_any (is_prepared head.work) records) (work_eq head.work head.work) (same_work head.work) }) l.address
+      intention_has (names_address (suc a)) (slice_set records slot (Ready head n reads)) l.slot l.intention
+      (record { work = head.work; tid = l.tid; order = l.order; stands = is_still l.slot head.work l.tid l.order l.intention l.stands; prepared = ready_prepared head.work ∙ or_rest (list_any (is_prepared head.work) records) (work_eq head.work head.work) (same_work head.work) }) l.names
 
   pub ready_names : (a : ℕ) → works_name (slice_set records slot (Ready head n reads)) (suc a) ≡ (works_name m.records (suc a) || list_any (is_at a) stored)
   ready_names a = same (works_name (slice_set records slot (Ready head n reads)) (suc a)) (works_name records (suc a) || list_any (is_at a) stored) (goes a) (comes a (works_name records (suc a)) refl) ∙ ap (λ b. b || list_any (is_at a) stored) (p.names a)

@@ -1,11 +1,12 @@
 -- A work is prepared: its intentions are stored, and then its ready record is put.
-use Rattle.jn_intent.proofs.Common.{◌≡◌, ◌<◌, ◌≤◌, ◌+◌, ◌-◌, ◌^◌, ◌&&◌, ◌||◌, ℕ, zero, suc, Bool, true, false, not, if◌then◌else◌, List, [], ◌∷◌, ◌++◌, length, map, take, Option, Some, None, refl, sym, ◌∙◌, ap, subst, true≢false, arith, fun_ext, take-length, nat_tests, sum_by-cons, Ok, Err, Result, is_ok, nat_eq, nat_lt, nat_le, position, slice_set, count_by, find, list_all, list_any, FreeNumbers, free_numbers, LockUnit, File, Block, WorkId, work_eq, TableView, IsTable, is_held, with_promised_heads, with_promised_leaves, IsReadyPut, intended, stored_list, prepared_by, heads_name, works_name, held_contents, found_on, block_on, pages_by, RecordPut, IsRecoverable, HasIntentions, IsWholeWork, IsStanding, Makes, readies, found_passes, Head, FullIntention, StoredIntention, What, Fresh, Gone, Cut, Put, Need, Record, Free, Intention, Ready, Going, FlagRecord, WorkHead, WorkState, intention_has_page, names_what_it_needs, is_put, is_put_intention, RecordFits, ascends, reads_have_page, unit_has_page, Counts, Pick, AddReady, Changed, made_by, ready_work, at_work, IsRecord, is_free, free_count, is_prepared, Puts, Records, Pages, Heads, Stops, IsPrepared, unit_in_range, Accounts, StorageView, IsServing, IsLoadable, needed, state, name_of, Called, MayPrepare, WorkPrepared, shortage, short_of, reached, with_work, is_shortage, find_by, StoreView, StoreLater, IsStop, later_refl, later_trans, stop_since, Memory, accounts_of, view_of, next_by, next_in, held_in, holds_page, stored_by, rubbish_in, Matches, IsMade, IsKeptMemory, is_at, IsPreparing, StopsUnchanged, Begins, ListStored, none_any, step_of, Serves, serves_of, serving_by, may_load, loadable_found, works_seen, listed_pages, same_only, root_page, root_by, IsOnly, pages_for_puts, file_there, head_blocks}
-use Rattle.jn_records.specs.MapPlaces.{maps_in}
+use Rattle.jn_intent.proofs.Common.{◌≡◌, ◌<◌, ◌≤◌, ◌+◌, ◌-◌, ◌^◌, ◌&&◌, ◌||◌, ℕ, zero, suc, Bool, true, false, not, if◌then◌else◌, List, [], ◌∷◌, ◌++◌, length, map, take, Option, Some, None, refl, sym, ◌∙◌, ap, subst, true≢false, arith, fun_ext, take-length, nat_tests, sum_by-cons, Ok, Err, Result, is_ok, nat_eq, nat_lt, nat_le, position, slice_set, count_by, find, list_all, list_any, FreeNumbers, free_numbers, LockUnit, File, Block, WorkId, work_eq, TableView, IsTable, is_held, with_promised_heads, with_promised_leaves, IsReadyPut, intended, stored_list, prepared_by, heads_name, works_name, held_contents, found_on, block_on, pages_by, RecordPut, IsRecoverable, HasIntentions, IsWholeWork, IsStanding, Makes, readies, found_passes, FullIntention, StoredIntention, What, Fresh, Gone, Cut, Put, Need, Record, Free, Intention, Ready, Going, FlagRecord, WorkHead, WorkState, intention_has_page, names_what_it_needs, is_put, is_put_intention, RecordFits, ascends, reads_have_page, unit_has_page, Counts, Pick, AddReady, Changed, made_by, ready_work, at_work, IsRecord, is_free, free_count, is_prepared, Puts, Records, Pages, Heads, Stops, IsPrepared, unit_in_range, Accounts, StorageView, IsServing, IsLoadable, needed, state, name_of, Called, MayPrepare, WorkPrepared, shortage, short_of, reached, with_work, is_shortage, find_by, StoreView, StoreLater, IsStop, later_refl, later_trans, stop_since, Memory, accounts_of, view_of, next_by, next_in, held_in, holds_page, stored_by, rubbish_in, Matches, IsMade, IsKeptMemory, is_at, IsPreparing, StopsUnchanged, Begins, ListStored, none_any, step_of, Serves, serves_of, serving_by, may_load, loadable_found, works_seen, listed_pages, same_only, root_page, root_by, IsOnly, lacking, Layout, held_of, layouts_in, layouts_of, most_cells, names_for_block, total, HasMaps, one, slice_get, supplied_in, ◌*◌, MapPlaces, maps_in, names_maps, names_a_map, IsSuppliedBy, layouts_said, layouts_held, ServerNo}
+use Rattle.jn_intent.proofs.LeftMaps.{same_lacking}
+use Rattle.jn_intent.proofs.Storing.{lacking_length}
 use Rattle.jn_storage.specs.declared.faults.PrepareFault.{PrepareFault}
 use Rattle.jn_rows.proofs.Left.{whole-stop}
-use Rattle.jn_intent.proofs.ReadyPool.{ready_state, are_fresh, listed_page, ready_flags, ready_free, ready_works, ready_rubbish, ready_names, work_found}
+use Rattle.jn_intent.proofs.ReadyPool.{ready_state, are_fresh, listed_one, ready_flags, ready_free, ready_works, ready_rubbish, ready_names, work_found}
 use Rattle.jn_intent.proofs.ReadyStates.{HasRoom, has_room, its_work, serves_ready}
-use Rattle.jn_intent.proofs.StoringPages.{or_first, or_rest}
+use Rattle.jn_intent.proofs.Naming.{or_first, or_rest}
 use Rattle.jn_intent.proofs.StoringPool.{same_work, pool_begins, free_there, stands_free}
 
 -- ---- a list of puts and their pages
@@ -16,38 +17,46 @@ first b c h = grind (arith, h)
 rest : (b c : Bool) → (b && c) ≡ true → c ≡ true
 rest b c h = grind (arith, h)
 
--- the data pages that the intentions hold are those of the puts
-held_puts : (blocks : ℕ → List ℕ) (heads : List Head) (stored : List StoredIntention) → list_all intention_has_page stored ≡ true → ((a : ℕ) → list_any (is_at a) stored ≡ true → heads_name heads (suc a) ≡ false)
-    → count_by (holds_page heads) stored ≡ count_by is_put_intention (map (intended blocks) stored)
-held_puts blocks heads [] pages unnamed = refl
-held_puts blocks heads (s ∷ stored) pages unnamed =
-    let again = held_puts blocks heads stored (rest (intention_has_page s) (list_all intention_has_page stored) pages) (λ a h. unnamed a (or_rest (is_at a s) (list_any (is_at a) stored) h)) in
-    let a = sum_by-cons (λ i. if holds_page heads i then 1 else 0) s stored in
+-- what the intentions hold is a page for each put and one for each map page that is named
+held_puts : (blocks : ℕ → List ℕ) (layouts : List Layout) (stored : List StoredIntention) → list_all intention_has_page stored ≡ true → ((a : ℕ) → list_any (is_at a) stored ≡ true → heads_name most_cells layouts (suc a) ≡ false)
+    → total (held_of layouts) stored ≡ count_by is_put_intention (map (intended blocks) stored) + count_by (λ (b : Bool). b) (names_maps stored)
+held_puts blocks layouts [] pages unnamed = refl
+held_puts blocks layouts (s ∷ stored) pages unnamed =
+    let again = held_puts blocks layouts stored (rest (intention_has_page s) (list_all intention_has_page stored) pages) (λ a h. unnamed a (or_rest (is_at a s) (list_any (is_at a) stored) h)) in
     let b = sum_by-cons (λ (i : FullIntention). if is_put_intention i then 1 else 0) (intended blocks s) (map (intended blocks) stored) in
-    let here = ap {B = ℕ} (λ b. if b then 1 else 0) (by s.what s.address refl (first (intention_has_page s) (list_all intention_has_page stored) pages)) in
-    omega (arith, again, a, b, here)
+    let c = sum_by-cons (λ (b : Bool). if b then 1 else 0) (names_a_map s) (names_maps stored) in
+    let block = ap one (held_alone s.address (λ a e. its a (or_first (nat_eq s.address (suc a)) (nat_eq s.map (suc a)) (same s.address (suc a) e))) ∙ puts s.what s.address (first (intention_has_page s) (list_all intention_has_page stored) pages)) in
+    let map = ap one (held_alone s.map (λ a e. its a (or_rest (nat_eq s.address (suc a)) (nat_eq s.map (suc a)) (same s.map (suc a) e)))) in
+    omega (arith, again, b, c, block, map)
   where
-    none : (n : ℕ) (b : Bool) → n ≡ 0 → (nat_lt 0 n && b) ≡ false
-    none n b e = grind (arith, nat_tests, e)
+    same : (n m : ℕ) → n ≡ m → nat_eq n m ≡ true
+    same n m e = grind (arith, nat_tests, e)
 
-    by : (what : What) (a : ℕ) → s.address ≡ a → names_what_it_needs what s.block.0 s.address s.map ≡ true → holds_page heads s ≡ is_put what
-    by Fresh a e h = none s.address (not (heads_name heads s.address)) (grind (arith, nat_tests, h))
-    by Gone a e h = none s.address (not (heads_name heads s.address)) (grind (arith, nat_tests, h))
-    by Cut a e h = none s.address (not (heads_name heads s.address)) (grind (arith, nat_tests, h))
-    by Put zero e h = absurd (zero_not s.address s.map e h)
+    its : (a : ℕ) → is_at a s ≡ true → heads_name most_cells layouts (suc a) ≡ false
+    its a h = unnamed a (or_first (is_at a s) (list_any (is_at a) stored) h)
+
+    held_alone : (n : ℕ) → ((a : ℕ) → n ≡ suc a → heads_name most_cells layouts (suc a) ≡ false) → holds_page layouts n ≡ nat_lt 0 n
+    held_alone zero none = no (heads_name most_cells layouts 0) (nat_lt 0 0) (grind (arith, nat_tests))
       where
-        zero_not : (n m : ℕ) → n ≡ 0 → (not (nat_eq n 0) && nat_eq m 0) ≡ true → ⊥
-        zero_not n m e h = grind (arith, nat_tests, e, h)
-    by Put (suc a) e h = ap (λ n. nat_lt 0 n && not (heads_name heads n)) e ∙ both (nat_lt 0 (suc a)) (heads_name heads (suc a)) (grind (arith, nat_tests)) (unnamed a (or_first (is_at a s) (list_any (is_at a) stored) (grind (arith, nat_tests, e))))
+        no : (b c : Bool) → c ≡ false → (c && not b) ≡ c
+        no b c h = grind (arith, h)
+    held_alone (suc a) none = ap (λ b. nat_lt 0 (suc a) && not b) (none a refl) ∙ yes (nat_lt 0 (suc a))
       where
-        both : (b c : Bool) → b ≡ true → c ≡ false → (b && not c) ≡ true
-        both b c x y = grind (arith, x, y)
+        yes : (c : Bool) → (c && true) ≡ c
+        yes true = refl
+        yes false = refl
+
+    puts : (what : What) (a : ℕ) → names_what_it_needs what s.block.0 a s.map ≡ true → nat_lt 0 a ≡ is_put what
+    puts Fresh a h = grind (arith, nat_tests, h)
+    puts Gone a h = grind (arith, nat_tests, h)
+    puts Cut a h = grind (arith, nat_tests, h)
+    puts Put a h = grind (arith, nat_tests, h)
 
 -- ---- equal accounts
 
 same_accounts : (a b : Accounts) → a.server ≡ b.server → a.pool ≡ b.pool → a.heads ≡ b.heads → a.leaves ≡ b.leaves → a.free_records ≡ b.free_records → a.free_heads ≡ b.free_heads → a.free_pages ≡ b.free_pages → a.promised_records ≡ b.promised_records
-    → a.promised_heads ≡ b.promised_heads → a.rubbish ≡ b.rubbish → a.next ≡ b.next → a.held ≡ b.held → a.maps ≡ b.maps → a ≡ b
-same_accounts a b server pool heads leaves free_records free_heads free_pages promised_records promised_heads rubbish next held maps = λ i. record {
+    → a.promised_heads ≡ b.promised_heads → a.rubbish ≡ b.rubbish → a.next ≡ b.next → a.held ≡ b.held → a.maps ≡ b.maps → a.supplied ≡ b.supplied → a ≡ b
+same_accounts a b server pool heads leaves free_records free_heads free_pages promised_records promised_heads rubbish next held maps supplied = λ i. record {
   server = server i;
   pool = pool i;
   heads = heads i;
@@ -61,7 +70,14 @@ same_accounts a b server pool heads leaves free_records free_heads free_pages pr
   next = next i;
   held = held i;
   maps = maps i;
+  supplied = supplied i;
 }
+
+-- a table that says the same
+standing_of : (server : ServerNo) (x : StoreView) (epoch : ℕ) (records : List Record) (t u : TableView) → u.counts ≡ t.counts → u.heads ≡ t.heads → u.maps ≡ t.maps → IsStanding server t.counts x epoch records t.heads t.maps
+    → IsStanding server u.counts x epoch records u.heads u.maps
+standing_of server x epoch records t u counts heads maps is = subst (λ g. IsStanding server g x epoch records u.heads u.maps) (sym counts)
+    (subst (λ hs. IsStanding server t.counts x epoch records hs u.maps) (sym heads) (subst (λ rows. IsStanding server t.counts x epoch records t.heads rows) (sym maps) is))
 
 -- ---- what a call is that changed or was stopped
 
@@ -139,14 +155,19 @@ module _ (m : Memory) (v : StoreView) (now : Matches m v) (serving : IsServing (
   alone : list_any (is_prepared head.work) m.records ≡ false
   alone = none_any (is_prepared head.work) m.records (no_record m.records (block_on m.table.counts (pages_by v (λ n. false))) head.work (find (is_prepared head.work) m.records) refl (sym (works_seen m v now serving head.work) ∙ may.new))
 
-  pub begins : (n : ℕ) → IsTable (promised_table m.table n) → Begins (promising m n) v head.work list m.records (promised_table m.table n) v
+  -- which map pages it lacks
+  abbrev lacks : List Bool
+  lacks = lacking (maps_in m.table.heads) list
+
+  pub begins : (n : ℕ) → IsTable (promised_table m.table n) → Begins (promising m n) v head.work list (lacking (maps_in m.table.heads) list) m.records (promised_table m.table n) v
   begins n table = record {
     may = record {
-      now = record { standing = now.standing; root = now.root; table = table; works = now.works; made = now.made; flags = now.flags; held = now.held };
+      now = record { standing = now.standing; root = now.root; table = table; works = now.works; made = now.made; supplied = now.supplied; flags = now.flags; held = now.held };
       records = let few = room.records in omega (arith, few);
+      lacks_are = refl;
       pages = let few = room.pages in omega (arith, few);
       few = its.length_fits;
-      plain = its.order.plain;
+      order = its.order;
     };
     first = record {
       pool = pool_begins (promising m n) head.work now.works now.flags alone may.no_rubbish;
@@ -154,12 +175,15 @@ module _ (m : Memory) (v : StoreView) (now : Matches m v) (serving : IsServing (
         table = table;
         counts = refl;
         heads = refl;
+        maps = refl;
         free_heads = refl;
         unpromised = refl;
         held = λ a. none_more (is_held m.table a);
         free = omega arith;
         apart = tt;
         own = λ a h. absurd (true≢false (sym h));
+        clean = λ a h. absurd (true≢false (sym h));
+        named = refl;
         blocks = λ c. refl;
       };
       store = record { standing = now.standing; root = now.root; unchanged = serving.up; later = later_refl v; calls_few = omega arith; served = record { power = serving.power; stops = refl } };
@@ -184,7 +208,7 @@ module _ (m : Memory) (v : StoreView) (now : Matches m v) (serving : IsServing (
       accounts = λ e. absurd (true≢false (sym e));
     }
 
-    module _ (p : IsPreparing (promising m n) v head.work list stored records t w) (all : length stored ≡ length list) where
+    module _ (p : IsPreparing (promising m n) v head.work list lacks stored records t w) (all : length stored ≡ length list) where
       pub slots_below : length records < w.count
       slots_below = let slots = p.store.standing.held.slots in let count = p.store.standing.held.count in omega (arith, slots, count)
 
@@ -194,6 +218,13 @@ module _ (m : Memory) (v : StoreView) (now : Matches m v) (serving : IsServing (
       module _ (slot : ℕ) (at : position is_free records ≡ Some slot) (whole : IsRecord (Ready head (length list) reads)) where
         taken : take (length stored) list ≡ list
         taken = ap (λ k. take k list) all ∙ take-length list
+
+        lacks_taken : take (length stored) lacks ≡ lacks
+        lacks_taken = ap (λ k. take k lacks) (all ∙ sym (lacking_length (maps_in m.table.heads) list)) ∙ take-length lacks
+
+        -- a map page is named exactly where one is lacking
+        named : names_maps stored ≡ lacks
+        named = p.pages.named ∙ lacks_taken
 
         full : (c : Pick) → map (intended (block_on m.table.counts (pages_by w c))) stored ≡ list
         full c = p.pages.blocks c ∙ taken
@@ -208,16 +239,25 @@ module _ (m : Memory) (v : StoreView) (now : Matches m v) (serving : IsServing (
           list_stands = ap (map (intended (block_on m.table.counts (pages_by w c)))) (ap (stored_list records head.work) (sym all) ∙ p.pool.first.list_stands) ∙ full c;
         }
 
-        unnamed : (a : ℕ) → list_any (is_at a) stored ≡ true → (heads_name m.table.heads (suc a) || works_name records (suc a)) ≡ false
-        unnamed a h = let own = p.pages.own a h in ap (λ b. b || works_name records (suc a)) own.unnamed ∙ p.pool.names a ∙ sym (now.held a) ∙ own.loose
+        loose : (a : ℕ) → list_any (is_at a) stored ≡ true → heads_name most_cells (layouts_in m.table) (suc a) ≡ false
+        loose a h = (p.pages.own a h).unnamed
+
+        unnamed : (c : Pick) (a : ℕ) → list_any (is_at a) stored ≡ true → (heads_name most_cells (layouts_said (held_contents m.table.counts w m.epoch records m.table.heads c)) (suc a) || works_name records (suc a)) ≡ false
+        unnamed c a h = let own = p.pages.own a h in
+            ap (λ ls. heads_name most_cells ls (suc a) || works_name records (suc a)) (layouts_held m.server m.table.counts w m.epoch records m.table.heads m.table.maps p.store.standing.held c)
+            ∙ ap (λ b. b || works_name records (suc a)) own.unnamed ∙ p.pool.names a ∙ sym (now.held a) ∙ own.loose
+
+        its_supply : IsSuppliedBy (maps_in m.table.heads) stored
+        its_supply k lack = ap (λ l. slice_get l k) named ∙ sym (ap (λ l. slice_get (lacking (maps_in m.table.heads) l) k) (full (λ n. false))) ∙ sym (ap (λ l. slice_get l k) (same_lacking (block_on m.table.counts (pages_by w (λ n. false))) (maps_in m.table.heads) stored)) ∙ lack
 
         whole_work : (c : Pick) → IsWholeWork m.table.counts.leaves (held_contents m.table.counts w m.epoch records m.table.heads c) head.work (length list)
         whole_work c = record {
           intentions = subst (HasIntentions records head.work) all p.pool.first.intentions;
-          fresh = are_fresh (promising m n) head.work stored records p.pool m.table.counts.leaves (held_contents m.table.counts w m.epoch records m.table.heads c) refl p.pages.apart (λ a h. ((p.pages.own a h).below, unnamed a h));
+          fresh = are_fresh (promising m n) head.work stored records p.pool m.table.counts.leaves (held_contents m.table.counts w m.epoch records m.table.heads c) refl p.pages.apart (λ a h. ((p.pages.own a h).below, unnamed c a h));
+          supplied = subst (IsSuppliedBy (maps_in m.table.heads)) (sym (ap (stored_list records head.work) (sym all) ∙ p.pool.first.list_stands)) its_supply;
         }
 
-        serves : Serves (made_by (AddReady head list reads) (state (view_of m v))) (with_work (accounts_of m) head.work (needed (accounts_of m).maps (state (view_of m v)) list))
+        serves : Serves (made_by (AddReady head list reads) (state (view_of m v))) (with_work (accounts_of m) head.work (needed (accounts_of m).maps (state (view_of m v)) list) lacks)
         serves = serves_ready (state (view_of m v)) (accounts_of m) head list reads (serves_of m v serving) may.new may.orderly room
 
         -- what is free then
@@ -225,9 +265,10 @@ module _ (m : Memory) (v : StoreView) (now : Matches m v) (serving : IsServing (
         work_pages : list_all intention_has_page stored ≡ true
         work_pages = subst (λ l. list_all intention_has_page l ≡ true) p.pool.first.list_stands (listed_pages records head.work (λ k lt. (p.store.standing.held.pool k lt).of_format.whole) 0 (length stored))
 
-        pages_held : count_by (holds_page m.table.heads) stored ≡ (needed (accounts_of m).maps (state (view_of m v)) list).pages
-        pages_held = held_puts (block_on m.table.counts (pages_by w (λ n. false))) m.table.heads stored work_pages (λ a h. (p.pages.own a h).unnamed) ∙ ap (count_by is_put_intention) (full (λ n. false))
-            ∙ sym (pages_for_puts list (file_there (state (view_of m v)).files) (accounts_of m).maps its.in_range)
+        pages_held : total (held_of (layouts_in m.table)) stored ≡ (needed (accounts_of m).maps (state (view_of m v)) list).pages
+        pages_held =
+            let held = held_puts (block_on m.table.counts (pages_by w (λ n. false))) (layouts_in m.table) stored work_pages loose in
+            let puts = ap (count_by is_put_intention) (full (λ n. false)) in let maps = ap (count_by (λ (b : Bool). b)) named in omega (arith, held, puts, maps)
 
         next_after : next_in (m.works ++ ready_state head stored reads ∷ []) ≡ at_work (next_in m.works) head.work 0
         next_after = fun_ext (λ k. ap next_by (work_found (promising m n) head stored records p.pool slot at (length list) all reads k) ∙ by (work_eq head.work k) (find_by work_eq name_of m.works k))
@@ -236,35 +277,45 @@ module _ (m : Memory) (v : StoreView) (now : Matches m v) (serving : IsServing (
             by true o = refl
             by false o = refl
 
-        held_after : held_in (m.works ++ ready_state head stored reads ∷ []) t.heads ≡ at_work (held_in m.works m.table.heads) head.work (needed (accounts_of m).maps (state (view_of m v)) list).pages
-        held_after = ap (held_in (m.works ++ ready_state head stored reads ∷ [])) p.pages.heads
-            ∙ fun_ext (λ k. ap (λ o. count_by (holds_page m.table.heads) (stored_by o)) (work_found (promising m n) head stored records p.pool slot at (length list) all reads k) ∙ by (work_eq head.work k) (find_by work_eq name_of m.works k))
+        held_after : held_in (m.works ++ ready_state head stored reads ∷ []) (layouts_in t) ≡ at_work (held_in m.works (layouts_in m.table)) head.work (needed (accounts_of m).maps (state (view_of m v)) list).pages
+        held_after = ap (held_in (m.works ++ ready_state head stored reads ∷ [])) (λ i. layouts_of (p.pages.maps i) (p.pages.heads i))
+            ∙ fun_ext (λ k. ap (λ o. total (held_of (layouts_in m.table)) (stored_by o)) (work_found (promising m n) head stored records p.pool slot at (length list) all reads k) ∙ by (work_eq head.work k) (find_by work_eq name_of m.works k))
           where
-            by : (b : Bool) (o : Option WorkState) → count_by (holds_page m.table.heads) (stored_by (if b then Some (ready_state head stored reads) else o)) ≡ (if b then (needed (accounts_of m).maps (state (view_of m v)) list).pages else count_by (holds_page m.table.heads) (stored_by o))
+            by : (b : Bool) (o : Option WorkState) → total (held_of (layouts_in m.table)) (stored_by (if b then Some (ready_state head stored reads) else o)) ≡ (if b then (needed (accounts_of m).maps (state (view_of m v)) list).pages else total (held_of (layouts_in m.table)) (stored_by o))
             by true o = pages_held
+            by false o = refl
+
+        supplied_after : supplied_in (m.works ++ ready_state head stored reads ∷ []) ≡ at_work (supplied_in m.works) head.work lacks
+        supplied_after = fun_ext (λ k. ap (λ o. names_maps (stored_by o)) (work_found (promising m n) head stored records p.pool slot at (length list) all reads k) ∙ by (work_eq head.work k) (find_by work_eq name_of m.works k))
+          where
+            by : (b : Bool) (o : Option WorkState) → names_maps (stored_by (if b then Some (ready_state head stored reads) else o)) ≡ (if b then lacks else names_maps (stored_by o))
+            by true o = named
             by false o = refl
 
         free_records_after : free_count (slice_set records slot (Ready head (length list) reads)) ≡ free_count m.records - (length list + 1)
         free_records_after = let less = ready_free (promising m n) head stored records p.pool slot at (length list) all reads in omega (arith, less)
 
         free_pages_after : free_numbers t.free_leaves ≡ free_numbers m.table.free_leaves - (needed (accounts_of m).maps (state (view_of m v)) list).pages
-        free_pages_after = let before = p.pages.free in let puts = ap (count_by is_put_intention) taken in let need = pages_for_puts list (file_there (state (view_of m v)).files) (accounts_of m).maps its.in_range in omega (arith, before, puts, need)
+        free_pages_after = let before = p.pages.free in let puts = ap (count_by is_put_intention) taken in let maps = ap (count_by (λ (b : Bool). b)) lacks_taken in omega (arith, before, puts, maps)
 
         rubbish_after : rubbish_in (slice_set records slot (Ready head (length list) reads)) (slice_set records slot (Ready head (length list) reads)) ≡ rubbish_in m.records m.records
         rubbish_after = ready_rubbish (promising m n) head stored records p.pool slot at (length list) all reads
 
         accounts_after : n ≡ (needed (accounts_of m).maps (state (view_of m v)) list).heads → accounts_of (record m { records = slice_set records slot (Ready head (length list) reads); table = t; works = m.works ++ ready_state head stored reads ∷ [] })
-            ≡ with_work (accounts_of m) head.work (needed (accounts_of m).maps (state (view_of m v)) list)
+            ≡ with_work (accounts_of m) head.work (needed (accounts_of m).maps (state (view_of m v)) list) lacks
         accounts_after n_is = same_accounts _ _ refl (ap (λ (g : Counts). g.pool) p.pages.counts) (ap (λ (g : Counts). g.heads) p.pages.counts) (ap (λ (g : Counts). g.leaves) p.pages.counts) free_records_after (ap free_numbers p.pages.free_heads) free_pages_after refl
-            (ap (λ (f : FreeNumbers). f.promised) p.pages.free_heads ∙ ap (λ k. m.table.free_heads.promised + k) n_is) rubbish_after next_after held_after (ap maps_in p.pages.heads)
+            (ap (λ (f : FreeNumbers). f.promised) p.pages.free_heads ∙ ap (λ k. m.table.free_heads.promised + k) n_is) rubbish_after next_after held_after (ap maps_in p.pages.heads) supplied_after
+
+        names_own : (a d : ℕ) → a ≡ suc d → nat_eq a (suc d) ≡ true
+        names_own a d e = grind (arith, nat_tests, e)
 
         module _ (ok : Bool) (new : List Record) (x : StoreView) (puts : Puts records w slot (Ready head (length list) reads) ok new x) where
-          makes : Makes m.server m.table.counts w m.epoch records m.table.heads (RecordPut slot (Ready head (length list) reads)) (AddReady head list reads) ok x
-          makes = readies m.server m.table.counts w x m.epoch records m.table.heads ok p.store.standing slot head (length list) list reads
+          makes : Makes m.server m.table.counts w m.epoch records m.table.heads m.table.maps (RecordPut slot (Ready head (length list) reads)) (AddReady head list reads) ok x
+          makes = readies m.server m.table.counts w x m.epoch records m.table.heads m.table.maps ok p.store.standing slot head (length list) list reads
               (step_of m.server m.table.counts w slot (Ready head (length list) reads) ok x (let lt = there in let slots = p.store.standing.held.slots in omega (arith, lt, slots)) whole puts.put)
-              ready_put whole_work (λ i d s h address lt. (p.pages.own d (listed_page (promising m n) head.work stored records p.pool i d s h address)).clean)
+              ready_put whole_work (λ i d s h address lt. p.pages.clean d (listed_one (promising m n) head.work stored records p.pool (names_for_block (suc d)) i s h (names_own s.address d address)))
               (subst (λ y. IsLoadable m.server m.table.counts.heads (made_by (AddReady head list reads) y)) (sym (p.store.unchanged (λ n. false)))
-              (may_load (made_by (AddReady head list reads) (state (view_of m v))) (with_work (accounts_of m) head.work (needed (accounts_of m).maps (state (view_of m v)) list)) serves))
+              (may_load (made_by (AddReady head list reads) (state (view_of m v))) (with_work (accounts_of m) head.work (needed (accounts_of m).maps (state (view_of m v)) list) lacks) serves))
 
           changed : Changed (state (view_of m v)) (AddReady head list reads) ok (found_on m.table.counts x)
           changed = subst (λ y. Changed y (AddReady head list reads) ok (found_on m.table.counts x)) (p.store.unchanged (λ n. false)) makes.change
@@ -290,12 +341,13 @@ module _ (m : Memory) (v : StoreView) (now : Matches m v) (serving : IsServing (
 
           pub ready_matches : ok ≡ true → Matches (record m { records = slice_set records slot (Ready head (length list) reads); table = t; works = m.works ++ ready_state head stored reads ∷ [] }) x
           ready_matches done = record {
-            standing = subst (λ g. IsStanding m.server g x m.epoch (slice_set records slot (Ready head (length list) reads)) t.heads) (sym p.pages.counts)
-                (subst (λ hs. IsStanding m.server m.table.counts x m.epoch (slice_set records slot (Ready head (length list) reads)) hs) (sym p.pages.heads) (makes.standing done));
+            standing = standing_of m.server x m.epoch (slice_set records slot (Ready head (length list) reads)) m.table t p.pages.counts p.pages.heads p.pages.maps (makes.standing done);
             root = subst (λ g. IsOnly x 0 (root_page (root_by m.server g m.epoch))) (sym p.pages.counts) (same_only w x 0 _ (puts.put.others 0 (let e = p.store.standing.held.count in omega (arith, e)) (λ e. omega (arith, e))) p.store.root);
             table = p.pages.table;
             works = ready_works (promising m n) head stored records p.pool slot at (length list) all reads;
             made = λ k. subst (λ hs. IsMade hs (find_by work_eq name_of (m.works ++ ready_state head stored reads ∷ []) k)) (sym p.pages.heads) (subst (λ o. IsMade m.table.heads o) (sym (work_found (promising m n) head stored records p.pool slot at (length list) all reads k)) (made_still (work_eq head.work k) (find_by work_eq name_of m.works k) (now.made k)));
+            supplied = λ k. subst (λ hs. HasMaps (maps_in hs) (find_by work_eq name_of (m.works ++ ready_state head stored reads ∷ []) k)) (sym p.pages.heads)
+                (subst (λ o. HasMaps (maps_in m.table.heads) o) (sym (work_found (promising m n) head stored records p.pool slot at (length list) all reads k)) (supplied_still (work_eq head.work k) (find_by work_eq name_of m.works k) (now.supplied k)));
             flags = ready_flags (promising m n) head stored records p.pool slot at (length list) all reads;
             held = λ a. p.pages.held a ∙ ap (λ b. b || list_any (is_at a) stored) (now.held a) ∙ sym (ready_names (promising m n) head stored records p.pool slot at (length list) all reads a);
           }
@@ -304,6 +356,10 @@ module _ (m : Memory) (v : StoreView) (now : Matches m v) (serving : IsServing (
               made_still : (b : Bool) (o : Option WorkState) → IsMade m.table.heads o → IsMade m.table.heads (if b then Some (ready_state head stored reads) else o)
               made_still true o is = λ i j lt e fresh. absurd (omega (arith, lt))
               made_still false o is = is
+
+              supplied_still : (b : Bool) (o : Option WorkState) → HasMaps (maps_in m.table.heads) o → HasMaps (maps_in m.table.heads) (if b then Some (ready_state head stored reads) else o)
+              supplied_still true o is = its_supply
+              supplied_still false o is = is
 
           pub ready_done : ok ≡ true → n ≡ (needed (accounts_of m).maps (state (view_of m v)) list).heads
               → WorkPrepared {A = Unit {0}} (view_of m v) head list reads (Ok tt) (view_of (record m { records = slice_set records slot (Ready head (length list) reads); table = t; works = m.works ++ ready_state head stored reads ∷ [] }) x)
@@ -348,62 +404,71 @@ given {S} view store m s is kept head list reads serving may need need_is enough
     }
 
 module _ (m : Memory) (v : StoreView) (head : WorkHead) (list : List FullIntention) (reads : List LockUnit) (n : ℕ) (h : Prepares m v head list reads n) where
-  pub begun : (t : TableView) → t ≡ promised_table m.table n → IsTable t → Begins (promising m n) v head.work list m.records t v
-  begun t is table = subst (λ t. Begins (promising m n) v head.work list m.records t v) (sym is) (begins m v h.now h.serving head list reads h.may h.enough n (subst IsTable is table))
-
   pub list_few : length list < 2 ^ 8
   list_few = let few = (its m v h.now h.serving head list reads h.may h.enough).length_fits in omega (arith, few)
 
   pub its_reads : (units : List LockUnit) → units ≡ reads → reads_have_page units ≡ true
   its_reads units is = ap (λ u. reads_have_page u) is ∙ reads_page m v h.now h.serving head list reads h.may h.enough
 
-  module _ (stored : List StoredIntention) (records : List Record) (t : TableView) (w : StoreView) where
-    pub stopped_list : (ok : Bool) → ListStored (promising m n) v head.work list ok stored records t w → ok ≡ false → (k : Memory) → k.server ≡ m.server → k.table ≡ t → WorkPrepared {A = Unit {0}} (view_of m v) head list reads (Err Stops) (view_of k w)
-    stopped_list ok s stopped k server table = list_stopped m v h.now h.serving head list reads h.may h.enough n stored records t w (s.stopped stopped) k server table
+  -- with the flags that say what the list lacks
+  module _ (lacks : List Bool) (lacks_are : lacks ≡ lacking (maps_in m.table.heads) list) where
+    pub begun : (t : TableView) → t ≡ promised_table m.table n → IsTable t → Begins (promising m n) v head.work list lacks m.records t v
+    begun t is table = subst (λ l. Begins (promising m n) v head.work list l m.records t v) (sym lacks_are)
+        (subst (λ t. Begins (promising m n) v head.work list (lacking (maps_in m.table.heads) list) m.records t v) (sym is) (begins m v h.now h.serving head list reads h.may h.enough n (subst IsTable is table)))
 
-    module _ (ok : Bool) (s : ListStored (promising m n) v head.work list ok stored records t w) (done : ok ≡ true) where
-      pub insert_there : length records < w.count
-      insert_there = slots_below m v h.now h.serving head list reads h.may h.enough n stored records t w (s.done done) (s.all done)
+    module _ (stored : List StoredIntention) (records : List Record) (t : TableView) (w : StoreView) where
+      pub stopped_list : (ok : Bool) → ListStored (promising m n) v head.work list lacks ok stored records t w → ok ≡ false → (k : Memory) → k.server ≡ m.server → k.table ≡ t → WorkPrepared {A = Unit {0}} (view_of m v) head list reads (Err Stops) (view_of k w)
+      stopped_list ok s stopped k server table = list_stopped m v h.now h.serving head list reads h.may h.enough n stored records t w (s.stopped stopped) k server table
 
-      pub insert_left : 0 < free_count records
-      insert_left = slot_left m v h.now h.serving head list reads h.may h.enough n stored records t w (s.done done) (s.all done)
+      module _ (ok : Bool) (is : ListStored (promising m n) v head.work list lacks ok stored records t w) (done : ok ≡ true) where
+        s : ListStored (promising m n) v head.work list (lacking (maps_in m.table.heads) list) ok stored records t w
+        s = subst (λ l. ListStored (promising m n) v head.work list l ok stored records t w) lacks_are is
 
-      module _ (units : List LockUnit) (units_are : units ≡ reads) (fits : RecordFits (Ready head (length list) units)) (slot : ℕ) (at : position is_free records ≡ Some slot) (put : Bool) (new : List Record) (x : StoreView)
-          (puts : Puts records w slot (Ready head (length list) units) put new x) where
-        whole : IsRecord (Ready head (length list) reads)
-        whole = subst (λ u. IsRecord (Ready head (length list) u)) units_are (record { whole = its_reads units units_are; fits = fits })
+        pub insert_there : length records < w.count
+        insert_there = slots_below m v h.now h.serving head list reads h.may h.enough n stored records t w (s.done done) (s.all done)
 
-        its_puts : Puts records w slot (Ready head (length list) reads) put new x
-        its_puts = subst (λ u. Puts records w slot (Ready head (length list) u) put new x) units_are puts
+        pub insert_left : 0 < free_count records
+        insert_left = slot_left m v h.now h.serving head list reads h.may h.enough n stored records t w (s.done done) (s.all done)
 
-        pub prepare_stopped : put ≡ false → (k : Memory) → k.server ≡ m.server → k.table ≡ t → WorkPrepared {A = Unit {0}} (view_of m v) head list reads (Err Stops) (view_of k x)
-        prepare_stopped stopped k server table =
-            ready_stopped m v h.now h.serving head list reads h.may h.enough n stored records t w (s.done done) (s.all done) slot at whole put new x its_puts stopped k server table
+        module _ (units : List LockUnit) (units_are : units ≡ reads) (fits : RecordFits (Ready head (length list) units)) (slot : ℕ) (at : position is_free records ≡ Some slot) (put : Bool) (new : List Record) (x : StoreView)
+            (puts : Puts records w slot (Ready head (length list) units) put new x) where
+          whole : IsRecord (Ready head (length list) reads)
+          whole = subst (λ u. IsRecord (Ready head (length list) u)) units_are (record { whole = its_reads units units_are; fits = fits })
 
-        -- done or stopped
-        pub prepare_recovers : IsRecoverable m.server t.counts x
-        prepare_recovers = subst (λ g. IsRecoverable m.server g x) (sym (s.done done).pages.counts)
-            (makes m v h.now h.serving head list reads h.may h.enough n stored records t w (s.done done) (s.all done) slot at whole put new x its_puts).recoverable
+          its_puts : Puts records w slot (Ready head (length list) reads) put new x
+          its_puts = subst (λ u. Puts records w slot (Ready head (length list) u) put new x) units_are puts
 
-        module _ (works : List WorkState) (works_are : works ≡ m.works ++ ready_state head stored reads ∷ []) (is : put ≡ true) where
-          same : record m { records = slice_set records slot (Ready head (length list) reads); table = t; works = m.works ++ ready_state head stored reads ∷ [] } ≡ record m { records = new; table = t; works = works }
-          same = λ i. record m { records = sym (its_puts.done is) i; table = t; works = sym works_are i }
+          pub prepare_stopped : put ≡ false → (k : Memory) → k.server ≡ m.server → k.table ≡ t → WorkPrepared {A = Unit {0}} (view_of m v) head list reads (Err Stops) (view_of k x)
+          prepare_stopped stopped k server table =
+              ready_stopped m v h.now h.serving head list reads h.may h.enough n stored records t w (s.done done) (s.all done) slot at whole put new x its_puts stopped k server table
 
-          pub prepare_kept : Matches (record m { records = new; table = t; works = works }) x
-          prepare_kept = subst (λ k. Matches k x) same (ready_matches m v h.now h.serving head list reads h.may h.enough n stored records t w (s.done done) (s.all done) slot at whole put new x its_puts is)
+          -- done or stopped
+          pub prepare_recovers : IsRecoverable m.server t.counts x
+          prepare_recovers = subst (λ g. IsRecoverable m.server g x) (sym (s.done done).pages.counts)
+              (makes m v h.now h.serving head list reads h.may h.enough n stored records t w (s.done done) (s.all done) slot at whole put new x its_puts).recoverable
 
-          pub prepare_done : WorkPrepared {A = Unit {0}} (view_of m v) head list reads (Ok tt) (view_of (record m { records = new; table = t; works = works }) x)
-          prepare_done = subst (λ k. WorkPrepared {A = Unit {0}} (view_of m v) head list reads (Ok tt) (view_of k x)) same
-              (ready_done m v h.now h.serving head list reads h.may h.enough n stored records t w (s.done done) (s.all done) slot at whole put new x its_puts is h.heads)
+          module _ (works : List WorkState) (works_are : works ≡ m.works ++ ready_state head stored reads ∷ []) (was_put : put ≡ true) where
+            same : record m { records = slice_set records slot (Ready head (length list) reads); table = t; works = m.works ++ ready_state head stored reads ∷ [] } ≡ record m { records = new; table = t; works = works }
+            same = λ i. record m { records = sym (its_puts.done was_put) i; table = t; works = sym works_are i }
+
+            pub prepare_kept : Matches (record m { records = new; table = t; works = works }) x
+            prepare_kept = subst (λ k. Matches k x) same (ready_matches m v h.now h.serving head list reads h.may h.enough n stored records t w (s.done done) (s.all done) slot at whole put new x its_puts was_put)
+
+            pub prepare_done : WorkPrepared {A = Unit {0}} (view_of m v) head list reads (Ok tt) (view_of (record m { records = new; table = t; works = works }) x)
+            prepare_done = subst (λ k. WorkPrepared {A = Unit {0}} (view_of m v) head list reads (Ok tt) (view_of k x)) same
+                (ready_done m v h.now h.serving head list reads h.may h.enough n stored records t w (s.done done) (s.all done) slot at whole put new x its_puts was_put h.heads)
+
+-- the flags say what the list lacks
+pub lacks_said : {S : Type 0} (view : S → StoreView) (store : S) (m : Memory) (s : S × Memory) → (store, m) ≡ s → (list : List FullIntention) (flags items : List Bool) → flags ≡ items → items ≡ lacking (accounts_of s.1).maps list → flags ≡ lacking (maps_in m.table.heads) list
+lacks_said {S} view store m s is list flags items same e = subst (λ (s : S × Memory). flags ≡ lacking (accounts_of s.1).maps list) (sym is) (same ∙ e)
+
+pub lacks_length : (places : MapPlaces) (list : List FullIntention) (flags : List Bool) → flags ≡ lacking places list → length flags ≡ length list
+lacks_length places list flags e = ap (λ (l : List Bool). length l) e ∙ lacking_length places list
 
 -- a list that may be prepared is short
-pub list_short : (v : StorageView) (head : WorkHead) (list : List FullIntention) (reads : List LockUnit) → MayPrepare v head list reads → length list + 1 < 2 ^ 32
+pub list_short : (v : StorageView) (head : WorkHead) (list : List FullIntention) (reads : List LockUnit) → MayPrepare v head list reads → 2 * length list < 2 ^ 32
 list_short v head list reads may =
     let fits = (may.orderly.prepared head.work (ready_work head list reads) (ap (λ b. if b then Some (ready_work head list reads) else (state v).works head.work) (same_work head.work))).length_fits in omega (arith, fits)
-
--- and none of its blocks is past those of a head
-pub list_in_range : (v : StorageView) (head : WorkHead) (list : List FullIntention) (reads : List LockUnit) → MayPrepare v head list reads → list_all (λ i. nat_lt i.block.0 head_blocks) list ≡ true
-list_in_range v head list reads may = (may.orderly.prepared head.work (ready_work head list reads) (ap (λ b. if b then Some (ready_work head list reads) else (state v).works head.work) (same_work head.work))).in_range
 
 -- the works in memory
 pub works_listed : (new old works : List WorkState) (head : WorkHead) (list stored : List StoredIntention) (units reads : List LockUnit) → new ≡ old ++ ready_state head list units ∷ [] → old ≡ works → list ≡ stored → units ≡ reads → new ≡ works ++ ready_state head stored reads ∷ []

@@ -1,55 +1,11 @@
 -- A prepared work is removed, by one put of its record.
-use Rattle.jn_intent.proofs.Common.{◌≡◌, ◌≢◌, ⊎_elim, ◌<◌, ◌≤◌, ◌+◌, ◌-◌, ◌^◌, ℕ, suc, Bool, true, false, not, ◌&&◌, if◌then◌else◌, List, length, map, Option, Some, None, refl, sym, ◌∙◌, ap, subst, true≢false, arith, fun_ext, length-map, is_some, position, slice_set, slice_index_or, filter, count_by, option_map, option_and_then, find, list_any, FreeNumbers, free_numbers, Tid, WorkId, work_eq, work_tells, TableView, IsTable, with_promised_heads, intended, stored_list, prepared_by, works_name, held_contents, block_on, pages_by, found_on, RecordPut, IsRecoverable, IsConsistent, IsCompleteBy, HasIntentions, IsStanding, Makes, removes, found_any, FullIntention, StoredIntention, Record, Free, Intention, Ready, Going, FlagRecord, WorkState, record_page, RecordFits, Counts, Changed, Prepared, RemoveWork, made_by, is_ready, is_going, record_in, slot_page, is_free, is_prepared, is_intention, is_flag, is_rubbish, Puts, is_in, are_different, IsServing, IsLoadable, file_there, intentions, list_of, state, name_of, WorkRemoved, find_by, find-at, find-kept, find-listed, keys-kept, different-kept, total-but, StoreView, Memory, accounts_of, view_of, next_by, stored_by, holds_page, rubbish_in, Matches, IsKeptMemory, IsMade, WorksMatch, StoredWork, stored_work, work_by, pages_let_go, MayLetGo, heads_needed, is_at, ArePagesApart, is_of_work, listed_length, gone_found, prepared_gone, removed_rubbish, removed_names, free_record, position_at, none_position, step_of, free_less, work_stays, flags_stay, Serves, serves_of, serving_by, may_load, called_put, consistent, works_seen, works_told, prepared_of, IsRemoved, serves_removed, same_only, root_page, root_by, IsOnly, heads_of}
+use Rattle.jn_intent.proofs.Common.{◌≡◌, ◌≢◌, ⊎_elim, ◌<◌, ◌≤◌, ◌+◌, ◌-◌, ◌^◌, ℕ, suc, Bool, true, false, not, ◌&&◌, if◌then◌else◌, List, [], length, map, Option, Some, None, refl, sym, ◌∙◌, ap, subst, true≢false, arith, fun_ext, length-map, is_some, position, slice_set, slice_index_or, filter, option_map, option_and_then, find, list_any, FreeNumbers, free_numbers, WorkId, work_eq, work_tells, TableView, IsTable, layouts_in, layouts_of, maps_in, with_promised_heads, intended, stored_list, prepared_by, works_name, held_contents, block_on, pages_by, found_on, RecordPut, IsRecoverable, IsConsistent, IsStanding, Makes, removes, found_any, FullIntention, StoredIntention, Record, Free, WorkState, record_page, Counts, Changed, Prepared, RemoveWork, made_by, is_ready, is_going, record_in, slot_page, is_free, is_prepared, Puts, is_in, are_different, IsServing, IsLoadable, file_there, intentions, list_of, state, name_of, WorkRemoved, find_by, find-at, find-kept, find-listed, keys-kept, different-kept, total, total-but, StoreView, Memory, accounts_of, view_of, next_by, stored_by, held_of, rubbish_in, Matches, IsKeptMemory, IsMade, HasMaps, WorksMatch, stored_work, work_by, pages_let_go, MayLetGo, heads_needed, is_at, ArePagesApart, listed_length, gone_found, prepared_gone, removed_rubbish, removed_names, free_record, position_at, none_position, step_of, free_less, work_stays, flags_stay, Serves, serves_of, serving_by, may_load, called_put, consistent, works_seen, works_told, prepared_of, IsRemoved, serves_removed, same_only, root_page, root_by, IsOnly, heads_of, names_maps}
 use Rattle.jn_recovery.proofs.HeadsNeeded.{heads_are}
 use Rattle.jn_intent.proofs.LettingGo.{AreLetGo, let_go, table_taken}
-use Rattle.jn_intent.proofs.Listed.{listed_at, listed_named, pages_apart, names_after}
+use Rattle.jn_intent.proofs.Listed.{names_after}
 use Rattle.jn_intent.proofs.Reading.{there_seen}
-
--- ---- the record of a prepared work
-
-pub record IsWorkRecord (pool : List Record) (work : WorkId) (r : Record) : Type 0 where
-  pub count : ℕ
-  pub has : HasIntentions pool work count
-  pub listed : (s : StoredWork) → work_by pool work r ≡ Some s → s.list ≡ stored_list pool work count
-  pub no_list : (w : WorkId) (order : ℕ) → is_intention w order r ≡ false
-  pub no_flag : (t : Tid) → is_flag t r ≡ false
-  pub used : is_free r ≡ false
-  pub no_rubbish : (pool : List Record) → is_rubbish pool r ≡ false
-  pub not_of : (w : WorkId) → is_of_work w r ≡ false
-  pub others : (w : WorkId) → work ≢ w → is_prepared w r ≡ false
-  pub few : count < 2 ^ 8
-
-some_is : {A : Type 0} {a b : A} → Some a ≡ Some b → a ≡ b
-some_is e = cc e
-
-pub work_record : (pool : List Record) (work : WorkId) (r : Record) → is_prepared work r ≡ true → IsCompleteBy pool r → RecordFits r → IsWorkRecord pool work r
-work_record pool work Free h complete fits = absurd (true≢false (sym h))
-work_record pool work (Intention w u k i) h complete fits = absurd (true≢false (sym h))
-work_record pool work (FlagRecord f) h complete fits = absurd (true≢false (sym h))
-work_record pool work (Ready head n reads) h complete fits = record {
-  count = n;
-  has = subst (λ w. HasIntentions pool w n) (let t = work_tells head.work work in grind (arith, h)) complete;
-  listed = λ s e. sym (ap (λ (x : StoredWork). x.list) (some_is e));
-  no_list = λ w order. refl;
-  no_flag = λ t. refl;
-  used = refl;
-  no_rubbish = λ pool. refl;
-  not_of = λ w. refl;
-  others = λ w ne. let t = work_tells head.work work in let t2 = work_tells head.work w in grind (arith, h);
-  few = fits.intentions_fit;
-}
-work_record pool work (Going head n reads) h complete fits = record {
-  count = n;
-  has = subst (λ w. HasIntentions pool w n) (let t = work_tells head.work work in grind (arith, h)) complete;
-  listed = λ s e. sym (ap (λ (x : StoredWork). x.list) (some_is e));
-  no_list = λ w order. refl;
-  no_flag = λ t. refl;
-  used = refl;
-  no_rubbish = λ pool. refl;
-  not_of = λ w. refl;
-  others = λ w ne. let t = work_tells head.work work in let t2 = work_tells head.work w in grind (arith, h);
-  few = fits.intentions_fit;
-}
+use Rattle.jn_intent.proofs.WorkPages.{pages_differ, kept_apart, named_by_list}
+use Rattle.jn_intent.proofs.WorkRecords.{IsWorkRecord, work_record}
 
 pub is_ready_some : (o : Option Prepared) → is_ready o ≡ true → is_some o ≡ true
 is_ready_some None e = absurd (true≢false (sym e))
@@ -98,8 +54,8 @@ module _ (m : Memory) (v : StoreView) (kept : IsKeptMemory m v) (serving : IsSer
     stands : is_prepared work (record_in m.records slot) ≡ true
     stands = (position_at (is_prepared work) m.records Free slot at).1
 
-    said : IsConsistent m.server m.table.counts (held_contents m.table.counts v m.epoch m.records m.table.heads (λ n. false))
-    said = consistent m.server m.table.counts v m.epoch m.records m.table.heads now.standing
+    said : IsConsistent m.table.counts (held_contents m.table.counts v m.epoch m.records m.table.heads (λ n. false))
+    said = consistent m.server m.table.counts v m.epoch m.records m.table.heads m.table.maps now.standing
 
     its : IsWorkRecord m.records work (record_in m.records slot)
     its = work_record m.records work (record_in m.records slot) stands (said.complete slot) (now.standing.held.pool slot there).of_format.fits
@@ -134,11 +90,15 @@ module _ (m : Memory) (v : StoreView) (kept : IsKeptMemory m v) (serving : IsSer
           let own = heads_is in let all = serving.counted.promises in omega (arith, whole, own, all)
 
       gone : AreLetGo (with_promised_heads m.table (m.table.free_heads.promised - heads_needed m.table.heads s.list)) s.list (given_back m s.list)
-      gone = let taken = table_taken m.table now.table in let c = held_contents m.table.counts v m.epoch m.records m.table.heads (λ n. false) in
+      gone = let taken = table_taken m.table now.table in
           let_go s.list (with_promised_heads m.table (m.table.free_heads.promised - heads_needed m.table.heads s.list))
-          (subst ArePagesApart (sym list_is) (pages_apart c m.table.counts.leaves said.addresses work prepared 0 its.count))
+          (subst (λ o. ArePagesApart (stored_by o)) here (kept_apart m v now work))
           (record { there = taken.there; taken = taken.taken })
-          (λ a h. now.held a ∙ listed_named c m.table.counts.leaves said.addresses work prepared a 0 (listed_at m.records work a 0 its.count (ap (list_any (is_at a)) (sym list_is) ∙ h)))
+          (λ a h. now.held a ∙ named_by_list m v now work a (ap (λ o. list_any (is_at a) (stored_by o)) here ∙ h))
+
+      -- no layout changes
+      layouts_stay : layouts_in (given_back m s.list) ≡ layouts_in m.table
+      layouts_stay = λ k. layouts_of (gone.only.maps k) (gone.only.heads k)
 
       pub may_let_go : MayLetGo s.list (with_promised_heads m.table (m.table.free_heads.promised - heads_needed m.table.heads s.list))
       may_let_go = gone.may
@@ -159,10 +119,13 @@ module _ (m : Memory) (v : StoreView) (kept : IsKeptMemory m v) (serving : IsSer
           free_records = free_less m.records slot there its.used;
           promised_records = refl;
           free_heads = ap free_numbers gone.only.free_heads;
-          free_pages = gone.free ∙ ap (λ n. free_numbers m.table.free_leaves + n) (sym (ap (λ o. count_by (holds_page m.table.heads) (stored_by o)) here));
+          free_pages = gone.free ∙ ap (λ n. free_numbers m.table.free_leaves + n) (sym (ap (λ o. total (held_of (layouts_in m.table)) (stored_by o)) here));
           next = fun_ext (λ w. ap next_by (kept_found w) ∙ next_at (work_eq work w) (find_by work_eq name_of m.works w));
-          held = fun_ext (λ w. ap (λ o. count_by (holds_page (given_back m s.list).heads) (stored_by o)) (kept_found w) ∙ ap (λ hs. count_by (holds_page hs) (stored_by (if not (work_eq work w) then find_by work_eq name_of m.works w else None))) gone.only.heads
+          held = fun_ext (λ w. ap (λ o. total (held_of (layouts_in (given_back m s.list))) (stored_by o)) (kept_found w)
+              ∙ ap (λ ls. total (held_of ls) (stored_by (if not (work_eq work w) then find_by work_eq name_of m.works w else None))) layouts_stay
               ∙ held_at (work_eq work w) (find_by work_eq name_of m.works w));
+          supplied = fun_ext (λ w. ap (λ o. names_maps (stored_by o)) (kept_found w) ∙ supplied_at (work_eq work w) (find_by work_eq name_of m.works w));
+          maps = ap maps_in gone.only.heads;
           rubbish_more = removed_rubbish m.records slot work there stands (said.distinct.works work) its.others prepared its.count its.has (its.no_rubbish m.records) (its.not_of work)
               ∙ ap (λ n. length (rubbish_in m.records m.records) + n) (sym full_length);
           rubbish_names = removed_names m.records slot work there stands (said.distinct.works work) its.others prepared;
@@ -175,9 +138,13 @@ module _ (m : Memory) (v : StoreView) (kept : IsKeptMemory m v) (serving : IsSer
           next_at true o = refl
           next_at false o = refl
 
-          held_at : (b : Bool) (o : Option WorkState) → count_by (holds_page m.table.heads) (stored_by (if not b then o else None)) ≡ (if b then 0 else count_by (holds_page m.table.heads) (stored_by o))
+          held_at : (b : Bool) (o : Option WorkState) → total (held_of (layouts_in m.table)) (stored_by (if not b then o else None)) ≡ (if b then 0 else total (held_of (layouts_in m.table)) (stored_by o))
           held_at true o = refl
           held_at false o = refl
+
+          supplied_at : (b : Bool) (o : Option WorkState) → names_maps (stored_by (if not b then o else None)) ≡ (if b then [] else names_maps (stored_by o))
+          supplied_at true o = refl
+          supplied_at false o = refl
 
       serves : Serves (made_by (RemoveWork work) (state (view_of m v))) (accounts_of (without_work m slot work s.list))
       serves = serves_removed (state (view_of m v)) (accounts_of m) (accounts_of (without_work m slot work s.list)) work (serves_of m v serving) some removed
@@ -197,8 +164,8 @@ module _ (m : Memory) (v : StoreView) (kept : IsKeptMemory m v) (serving : IsSer
               ∙ sym (work_stays m.records slot Free w (its.no_list w) (λ order. refl) (its.others w ne) refl)
 
       module _ (ok : Bool) (records : List Record) (w : StoreView) (puts : Puts m.records v slot Free ok records w) where
-        makes : Makes m.server m.table.counts v m.epoch m.records m.table.heads (RecordPut slot Free) (RemoveWork work) ok w
-        makes = removes m.server m.table.counts v w m.epoch m.records m.table.heads ok now.standing slot work
+        makes : Makes m.server m.table.counts v m.epoch m.records m.table.heads m.table.maps (RecordPut slot Free) (RemoveWork work) ok w
+        makes = removes m.server m.table.counts v w m.epoch m.records m.table.heads m.table.maps ok now.standing slot work
             (step_of m.server m.table.counts v slot Free ok w (subst (λ k. slot < k) now.standing.held.slots there) free_record puts.put)
             (record { there = there; stands = stands; once = said.distinct.works work })
             (subst (λ n. IsLoadable m.server n (made_by (RemoveWork work) (state (view_of m v)))) (ap (λ (g : Counts). g.heads) gone.only.counts)
@@ -206,21 +173,28 @@ module _ (m : Memory) (v : StoreView) (kept : IsKeptMemory m v) (serving : IsSer
 
         pub remove_matches : ok ≡ true → IsTable (given_back m s.list) → Matches (without_work m slot work s.list) w
         remove_matches done table = record {
-          standing = subst (λ g. IsStanding m.server g w m.epoch (slice_set m.records slot Free) (given_back m s.list).heads) (sym gone.only.counts)
-              (subst (λ hs. IsStanding m.server m.table.counts w m.epoch (slice_set m.records slot Free) hs) (sym gone.only.heads) (makes.standing done));
+          standing = subst (λ g. IsStanding m.server g w m.epoch (slice_set m.records slot Free) (given_back m s.list).heads (given_back m s.list).maps) (sym gone.only.counts)
+              (subst (λ hs. IsStanding m.server m.table.counts w m.epoch (slice_set m.records slot Free) hs (given_back m s.list).maps) (sym gone.only.heads)
+              (subst (λ rows. IsStanding m.server m.table.counts w m.epoch (slice_set m.records slot Free) m.table.heads rows) (sym gone.only.maps) (makes.standing done)));
           root = subst (λ g. IsOnly w 0 (root_page (root_by m.server g m.epoch))) (sym gone.only.counts) (same_only v w 0 _ (puts.put.others 0 (let e = now.standing.held.count in omega (arith, e)) (λ e. omega (arith, e))) now.root);
           table = table;
           works = works_left;
           made = λ w. subst (λ o. IsMade (given_back m s.list).heads o) (sym (kept_found w)) (subst (λ hs. IsMade hs (if not (work_eq work w) then find_by work_eq name_of m.works w else None)) (sym gone.only.heads) (still (not (work_eq work w)) (find_by work_eq name_of m.works w) (now.made w)));
+          supplied = λ w. subst (λ o. HasMaps (maps_in (given_back m s.list).heads) o) (sym (kept_found w))
+              (subst (λ hs. HasMaps (maps_in hs) (if not (work_eq work w) then find_by work_eq name_of m.works w else None)) (sym gone.only.heads) (supplied_still (not (work_eq work w)) (find_by work_eq name_of m.works w) (now.supplied w)));
           flags = flags_stay m.records slot Free m.flags its.no_flag (λ t. refl) now.flags;
           held = λ a. gone.held a ∙ ap (λ b. b && not (list_any (is_at a) s.list)) (now.held a) ∙ ap (λ l. works_name m.records (suc a) && not (list_any (is_at a) l)) list_is
-              ∙ names_after (held_contents m.table.counts v m.epoch m.records m.table.heads (λ n. false)) m.table.counts.leaves said.addresses work prepared slot its.count there stands its.has
+              ∙ names_after m.records (pages_differ m v now).works work prepared slot its.count there stands its.has
               (prepared_gone m.records slot work there stands (said.distinct.works work) its.others prepared) a;
         }
           where
             still : (b : Bool) (o : Option WorkState) → IsMade m.table.heads o → IsMade m.table.heads (if b then o else None)
             still true o is = is
             still false o is = tt
+
+            supplied_still : (b : Bool) (o : Option WorkState) → HasMaps (maps_in m.table.heads) o → HasMaps (maps_in m.table.heads) (if b then o else None)
+            supplied_still true o is = is
+            supplied_still false o is = tt
 
         pub remove_done : WorkRemoved (view_of m v) work ok (view_of (without_work m slot work s.list) w)
         remove_done = record {

@@ -8,7 +8,7 @@ use Rattle.jn_intent.proofs.Idle.{idle_free}
 -- ---- what a scrub leaves
 
 module _ (m : Memory) (v w : StoreView) (kept : IsKeptMemory m v) (fewer : IsFewer v w) where
-  standing_fewer : v.power ≡ true → IsStanding m.server m.table.counts w m.epoch m.records m.table.heads
+  standing_fewer : v.power ≡ true → IsStanding m.server m.table.counts w m.epoch m.records m.table.heads m.table.maps
   standing_fewer power = let held = (kept power).standing.held in record {
     held = record {
       count = held.count ∙ sym fewer.count;
@@ -19,17 +19,19 @@ module _ (m : Memory) (v w : StoreView) (kept : IsKeptMemory m v) (fewer : IsFew
       pool = λ slot lt. let at = held.pool slot lt in record { of_format = at.of_format; only = shrinks_only v w _ _ at.only (fewer.shrinks _ (let e = held.count in let s = held.slots in omega (arith, e, s, lt))) };
       places = held.places;
       heads_stored = λ place lt. let at = held.heads_stored place lt in record { whole = at.whole; fits = at.fits; only = shrinks_only v w _ _ at.only (fewer.shrinks _ (let e = held.count in omega (arith, e, lt))) };
+      pages = held.pages;
+      maps_stored = λ place lt j d below e. let at = held.maps_stored place lt j d below e in record { below = at.below; whole = at.whole; only = shrinks_only v w _ _ at.only (fewer.shrinks _ (let count = held.count in let d_lt = at.below in omega (arith, count, d_lt))) };
     };
     recoverable = fewer_recoverable v w fewer m.server m.table.counts (kept power).standing.recoverable;
   }
 
   pub fewer_kept : v.power ≡ true → Matches m w
-  fewer_kept power = let now = kept power in record { standing = standing_fewer power; root = shrinks_only v w 0 _ now.root (fewer.shrinks 0 (let e = now.standing.held.count in omega (arith, e))); table = now.table; works = now.works; made = now.made; flags = now.flags; held = now.held }
+  fewer_kept power = let now = kept power in record { standing = standing_fewer power; root = shrinks_only v w 0 _ now.root (fewer.shrinks 0 (let e = now.standing.held.count in omega (arith, e))); table = now.table; works = now.works; made = now.made; supplied = now.supplied; flags = now.flags; held = now.held }
 
   -- of a table that is the same but for what is touched
   pub touched_kept : v.power ≡ true → (u : TableView) → TouchesAll m.table u → IsTable u → Matches (record m { table = u }) w
   touched_kept power u touches table = let now = fewer_kept power in subst (λ k. Matches (record m { table = k }) w) (sym touches.rest)
-      (record { standing = now.standing; root = now.root; table = subst IsTable touches.rest table; works = now.works; made = now.made; flags = now.flags; held = now.held })
+      (record { standing = now.standing; root = now.root; table = subst IsTable touches.rest table; works = now.works; made = now.made; supplied = now.supplied; flags = now.flags; held = now.held })
 
   module _ (serving : IsServing (view_of m v)) (ok : Bool) (later : StoreLater v w) (calls : w.calls ≤ v.calls + 16 * v.count) (done : ok ≡ true → Cleans v 0 v.count w) (stopped : ok ≡ false → IsStop v w) (calm : IsCalm v → ok ≡ true) where
     same : Unchanged (state (view_of m v)) (found_on m.table.counts w)
@@ -53,7 +55,7 @@ module _ (m : Memory) (v w : StoreView) (kept : IsKeptMemory m v) (fewer : IsFew
       clean = λ e i lt. (done e).clean i (omega arith) lt;
       whole = whole;
       image = λ quiet idle. subst (λ (x : StableState). IsImage m.server m.table.counts x.files w) (same (λ n. false))
-          (is_image m.server m.table.counts w m.epoch m.records m.table.heads (standing_fewer serving.power) (fewer_kept serving.power).root (idle_free m v serving idle (kept serving.power).standing.held.slots)
+          (is_image m.server m.table.counts w m.epoch m.records m.table.heads m.table.maps (standing_fewer serving.power) (fewer_kept serving.power).root (idle_free m v serving idle (kept serving.power).standing.held.slots)
           (λ i lt. whole quiet i (subst (λ n. i < n) later.count lt)));
     }
 
@@ -71,11 +73,12 @@ module _ (m : Memory) (v w : StoreView) (same : HasSamePages v w) (power : w.pow
   pub same_kept : IsSafe m v → IsSafe m w
   same_kept safe = (
     λ on. let now = safe.0 (sym power ∙ on) in record {
-      standing = standing_same m.server m.table.counts v m.epoch m.records m.table.heads now.standing w same;
+      standing = standing_same m.server m.table.counts v m.epoch m.records m.table.heads m.table.maps now.standing w same;
       root = same_only v w 0 _ (same.pages 0) now.root;
       table = now.table;
       works = now.works;
       made = now.made;
+      supplied = now.supplied;
       flags = now.flags;
       held = now.held;
     },

@@ -1,64 +1,123 @@
--- The data pages of a work that is being prepared: each is taken free, and filled with the block of its put.
-use Rattle.jn_intent.proofs.Common.{◌≡◌, ⊎_elim, ◌<◌, ◌+◌, ℕ, zero, suc, Bool, true, false, ◌||◌, if◌then◌else◌, List, [], ◌∷◌, ◌++◌, length, map, take, Some, refl, sym, ◌∙◌, ap, subst, true≢false, arith, length-append, take-suc, take-append_seam, cases_eq, nat_tests, get_or-set_same, get_or-set_other, map-append, sum_by-append, sum_by-cons, sum_by-set, slice_get_within, get_or_from_slice_get, nat_eq, nat_lt, replicate, slice_get, slice_set, slice_index_or, count_by, list_any, free_numbers, TableView, IsTable, IsFreeLeaf, is_held, head_in, with_held, with_touched, leaf_page, bytes_by, intended, heads_name, block_on, pages_by, named_addresses, StoredIntention, What, Fresh, Gone, Cut, Put, Plain, is_put, is_put_intention, Counts, page_count, data_place, Pick, StoreView, StorePut, IsSamePage, Memory, is_at, ArePagesApart, stored_as, IsOwnPage, PagesPreparing, same_address, one}
+-- The data pages of a work that is being prepared: each is taken free, and a put's is filled with its block.
+use Rattle.jn_intent.proofs.Common.{◌≡◌, ⊎_elim, ◌<◌, ◌+◌, ℕ, zero, suc, Bool, true, false, ◌||◌, if◌then◌else◌, List, [], ◌∷◌, ◌++◌, length, map, take, Some, refl, sym, ◌∙◌, ap, subst, true≢false, arith, length-append, take-suc, cases_eq, nat_tests, get_or-set_same, get_or-set_other, map-append, sum_by-append, sum_by-cons, sum_by-set, slice_get_within, get_or_from_slice_get, nat_eq, nat_lt, slice_get, slice_set, slice_index_or, count_by, list_any, free_numbers, TableView, IsTable, IsFreeLeaf, is_held, layouts_in, layouts_of, at_cell, layout_at, with_held, with_touched, bytes_by, intended, heads_name, names_for_block, block_on, pages_by, StoredIntention, FullIntention, What, Fresh, Gone, Cut, Put, is_put, is_put_intention, Counts, data_place, Pick, StoreView, IsSamePage, IsClean, Memory, is_at, ArePagesApart, stored_as, IsOwnPage, PagesPreparing, pages_taken, one, most_cells, false_from_ne_true, names_a_map}
 use Rattle.std.proofs.lemmas.List.Folds.{list_any-append}
 use Rattle.jn_alloc.specs.Free.{is_free}
-use Rattle.jn_records.specs.declared.intention.Intention.{Intention}
+use Rattle.jn_intent.proofs.CarriedPuts.{block_same}
+use Rattle.jn_intent.proofs.Naming.{found_cell, or_first, or_rest}
 
 -- ---- blocks
 
-pub or_first : (b c : Bool) → b ≡ true → (b || c) ≡ true
-or_first b c h = grind (arith, h)
+-- an intention's block has the page
+at_block : (a : ℕ) (s : StoredIntention) → names_for_block (suc a) s ≡ true → is_at a s ≡ true
+at_block a s h = or_first (nat_eq s.address (suc a)) (nat_eq s.map (suc a)) h
 
-pub or_rest : (b c : Bool) → c ≡ true → (b || c) ≡ true
-or_rest b c h = grind (arith, h)
+any_at_block : (a : ℕ) (stored : List StoredIntention) → list_any (names_for_block (suc a)) stored ≡ true → list_any (is_at a) stored ≡ true
+any_at_block a [] h = absurd (true≢false (sym h))
+any_at_block a (s ∷ stored) h = by (names_for_block (suc a) s) refl h (any_at_block a stored)
+  where
+    by : (b : Bool) → names_for_block (suc a) s ≡ b → (b || list_any (names_for_block (suc a)) stored) ≡ true → (list_any (names_for_block (suc a)) stored ≡ true → list_any (is_at a) stored ≡ true) → (is_at a s || list_any (is_at a) stored) ≡ true
+    by true e h again = or_first (is_at a s) (list_any (is_at a) stored) (at_block a s e)
+    by false e h again = or_rest (is_at a s) (list_any (is_at a) stored) (again h)
 
--- intentions are the same where their data pages are
+-- intentions are the same where the pages of their blocks are
 intended_same : (one two : ℕ → List ℕ) (stored : List StoredIntention) → ((a : ℕ) → list_any (is_at a) stored ≡ true → one a ≡ two a) → map (intended one) stored ≡ map (intended two) stored
 intended_same one two [] same = refl
 intended_same one two (s ∷ stored) same =
     ap (λ (bytes : List ℕ). record { what = s.what; file = s.file; block = s.block; bytes = bytes } ∷ map (intended one) stored) (by s.what s.address refl)
-    ∙ ap (λ (l : List Intention). intended two s ∷ l) (intended_same one two stored (λ a t. same a (or_rest (is_at a s) (list_any (is_at a) stored) t)))
+    ∙ ap (λ (l : List FullIntention). intended two s ∷ l) (intended_same one two stored (λ a t. same a (or_rest (is_at a s) (list_any (is_at a) stored) t)))
   where
     by : (what : What) (a : ℕ) → s.address ≡ a → bytes_by one what a ≡ bytes_by two what a
     by Fresh a e = refl
     by Gone a e = refl
     by Cut a e = refl
     by Put zero e = refl
-    by Put (suc a) e = same a (or_first (is_at a s) (list_any (is_at a) stored) (grind (arith, nat_tests, e)))
-
-block_same : (g : Counts) (w x : StoreView) (c : Pick) (a : ℕ) → x.count ≡ w.count → IsSamePage w x (data_place g a) → block_on g (pages_by x c) a ≡ block_on g (pages_by w c) a
-block_same g w x c a count same = ap (take 448) (ap (λ n. if nat_lt (data_place g a) n then half (c (data_place g a)) x else []) count ∙ ap (λ (p : List ℕ). if nat_lt (data_place g a) w.count then p else []) (halves (c (data_place g a))))
-  where
-    half : Bool → StoreView → List ℕ
-    half b v = if b then v.second (data_place g a) else v.first (data_place g a)
-
-    halves : (b : Bool) → (if b then x.second (data_place g a) else x.first (data_place g a)) ≡ (if b then w.second (data_place g a) else w.first (data_place g a))
-    halves true = same.second
-    halves false = same.first
+    by Put (suc a) e = same a (or_first (is_at a s) (list_any (is_at a) stored) (at_block a s (grind (arith, nat_tests, e))))
 
 -- no page of the intentions changes
-pub pages_moved : (m : Memory) (list : List Intention) (stored : List StoredIntention) (t : TableView) (w x : StoreView) → PagesPreparing m list stored t w → x.count ≡ w.count
-    → ((a : ℕ) → list_any (is_at a) stored ≡ true → IsSamePage w x (data_place m.table.counts a)) → PagesPreparing m list stored t x
-pages_moved m list stored t w x p count same = record {
+pub pages_moved : (m : Memory) (list : List FullIntention) (lacks : List Bool) (stored : List StoredIntention) (t : TableView) (w x : StoreView) → PagesPreparing m list lacks stored t w → x.count ≡ w.count
+    → ((a : ℕ) → list_any (is_at a) stored ≡ true → IsSamePage w x (data_place m.table.counts a)) → PagesPreparing m list lacks stored t x
+pages_moved m list lacks stored t w x p count same = record {
   table = p.table;
   counts = p.counts;
   heads = p.heads;
+  maps = p.maps;
   free_heads = p.free_heads;
   unpromised = p.unpromised;
   held = p.held;
   free = p.free;
   apart = p.apart;
-  own = λ a h. let own = p.own a h in let page = same a h in record { below = own.below; loose = own.loose; unnamed = own.unnamed; clean = page.first ∙ own.clean ∙ sym page.second };
+  own = p.own;
+  clean = λ a h. let page = same a (any_at_block a stored h) in page.first ∙ p.clean a h ∙ sym page.second;
+  named = p.named;
   blocks = λ c. intended_same (block_on m.table.counts (pages_by x c)) (block_on m.table.counts (pages_by w c)) stored (λ a h. block_same m.table.counts w x c a count (same a h)) ∙ p.blocks c;
 }
 
+-- ---- a page is taken
+
+-- where an address is that of a page, this was free, and is held from then on
+pub record Takes (t : TableView) (address : ℕ) (u : TableView) : Type 0 where
+  pub counts : u.counts ≡ t.counts
+  pub heads : u.heads ≡ t.heads
+  pub maps : u.maps ≡ t.maps
+  pub free_heads : u.free_heads ≡ t.free_heads
+  pub promised : u.free_leaves.promised ≡ t.free_leaves.promised
+  pub held : (a : ℕ) → is_held u a ≡ (is_held t a || nat_eq address (suc a))
+  pub free : free_numbers u.free_leaves + one (nat_lt 0 address) ≡ free_numbers t.free_leaves
+  pub was : (d : ℕ) → address ≡ suc d → IsFreeLeaf t d
+
+pub takes_none : (t : TableView) → Takes t 0 t
+takes_none t = record {
+  counts = refl;
+  heads = refl;
+  maps = refl;
+  free_heads = refl;
+  promised = refl;
+  held = λ a. none (is_held t a) (nat_eq 0 (suc a)) (grind (arith, nat_tests));
+  free = let e : one (nat_lt 0 0) ≡ 0 = ap one (let h : nat_lt 0 0 ≡ false = grind (arith, nat_tests) in h) in omega (arith, e);
+  was = λ d e. absurd (omega (arith, e));
+}
+  where
+    none : (b c : Bool) → c ≡ false → b ≡ (b || c)
+    none true c h = refl
+    none false c h = sym h
+
+pub takes_page : (t : TableView) → IsTable t → (d : ℕ) → is_free t.free_leaves d ≡ true → Takes t (suc d) (with_held t d)
+takes_page t is d least = record {
+  counts = refl;
+  heads = refl;
+  maps = refl;
+  free_heads = refl;
+  promised = refl;
+  held = λ a. ⊎_elim
+      (λ e. subst (λ k. slice_index_or (slice_set t.held d true) k false ≡ true) (sym e) (get_or-set_same t.held d true false (let n = is.leaves in let lt = leaf.below in omega (arith, n, lt)))
+      ∙ sym (or_rest (is_held t a) (nat_eq (suc d) (suc a)) (grind (arith, nat_tests, e))))
+      (λ ne. get_or-set_other t.held d a true false ne ∙ stays (is_held t a) (nat_eq (suc d) (suc a)) (grind (arith, nat_tests, ne)))
+      (cases_eq a d);
+  free =
+      let e = sum_by-set (λ (free : Bool). if free then 1 else 0) t.free_leaves.flags d false false (let n = is.leaf_count in let lt = leaf.below in omega (arith, n, lt)) in
+      let some : one (nat_lt 0 (suc d)) ≡ 1 = ap one (let h : nat_lt 0 (suc d) ≡ true = grind (arith, nat_tests) in h) in grind (arith, e, least, some);
+  was = λ k e. subst (IsFreeLeaf t) (let s : d ≡ k = omega (arith, e) in s) leaf;
+}
+  where
+    leaf : IsFreeLeaf t d
+    leaf = (is.free_leaves d).0 least
+
+    stays : (b c : Bool) → c ≡ false → b ≡ (b || c)
+    stays true c h = refl
+    stays false c h = sym h
+
+-- a touch takes nothing
+pub takes_touched : (t : TableView) (address d : ℕ) (u : TableView) → Takes t address u → Takes t address (with_touched u d)
+takes_touched t address d u is = record { counts = is.counts; heads = is.heads; maps = is.maps; free_heads = is.free_heads; promised = is.promised; held = is.held; free = is.free; was = is.was }
+
 -- ---- one more
 
-apart_more : (stored : List StoredIntention) (s : StoredIntention) → ArePagesApart stored → ((a : ℕ) → is_at a s ≡ true → list_any (is_at a) stored ≡ false) → ArePagesApart (stored ++ s ∷ [])
-apart_more [] s apart new = (λ a h. refl, tt)
-apart_more (i ∷ stored) s apart new = (
-  λ a h. list_any-append (is_at a) stored (s ∷ []) ∙ neither (list_any (is_at a) stored) (is_at a s) (apart.0 a h) (differs a h (is_at a s) refl),
-  apart_more stored s apart.1 (λ a h. second (is_at a i) (list_any (is_at a) stored) (new a h)),
+apart_more : (stored : List StoredIntention) (s : StoredIntention) → ArePagesApart stored → ((a : ℕ) → s.address ≡ suc a → s.map ≡ suc a → ⊥) → ((a : ℕ) → is_at a s ≡ true → list_any (is_at a) stored ≡ false) → ArePagesApart (stored ++ s ∷ [])
+apart_more [] s apart own new = (own, λ a h. refl, tt)
+apart_more (i ∷ stored) s apart own new = (
+  apart.0,
+  λ a h. list_any-append (is_at a) stored (s ∷ []) ∙ neither (list_any (is_at a) stored) (is_at a s) (apart.1 a h) (differs a h (is_at a s) refl),
+  apart_more stored s apart.2 own (λ a h. second (is_at a i) (list_any (is_at a) stored) (new a h)),
 )
   where
     neither : (b c : Bool) → b ≡ false → c ≡ false → (b || (c || false)) ≡ false
@@ -74,151 +133,111 @@ apart_more (i ∷ stored) s apart new = (
     differs a h false e = refl
     differs a h true e = absurd (true≢false (sym h ∙ first (is_at a i) (list_any (is_at a) stored) (new a e)))
 
-any_more : (a : ℕ) (stored : List StoredIntention) (s : StoredIntention) → list_any (is_at a) (stored ++ s ∷ []) ≡ (list_any (is_at a) stored || is_at a s)
-any_more a stored s = list_any-append (is_at a) stored (s ∷ []) ∙ by (list_any (is_at a) stored) (is_at a s)
+any_more : (p : StoredIntention → Bool) (stored : List StoredIntention) (s : StoredIntention) → list_any p (stored ++ s ∷ []) ≡ (list_any p stored || p s)
+any_more p stored s = list_any-append p stored (s ∷ []) ∙ by (list_any p stored) (p s)
   where
     by : (b c : Bool) → (b || (c || false)) ≡ (b || c)
     by true c = refl
     by false true = refl
     by false false = refl
 
-module _ (m : Memory) (list : List Intention) (stored : List StoredIntention) (i : Intention) (at : slice_get list (length stored) ≡ Some i) (s : StoredIntention) where
+pub take_more : {A : Type 0} (xs : List A) (n : ℕ) (x : A) → slice_get xs n ≡ Some x → take (suc n) xs ≡ take n xs ++ x ∷ []
+take_more xs n x at = take-suc xs n x (slice_get_within xs n x at) ∙ ap (λ y. take n xs ++ y ∷ []) (get_or_from_slice_get xs n x x at)
+
+module _ (m : Memory) (list : List FullIntention) (lacks : List Bool) (stored : List StoredIntention) (t filled u : TableView) (x : StoreView) (p : PagesPreparing m list lacks stored t x) (i : FullIntention) (at : slice_get list (length stored) ≡ Some i)
+    (lack : Bool) (lacks_at : slice_get lacks (length stored) ≡ Some lack) (a map_address : ℕ) (block : Takes t a filled) (brings : Takes filled map_address u) (table : IsTable u)
+    (put_is : nat_lt 0 a ≡ is_put i.what) (map_is : nat_lt 0 map_address ≡ lack)
+    (same : (c : Pick) → intended (block_on m.table.counts (pages_by x c)) (stored_as i a map_address) ≡ i) (clean : (d : ℕ) → a ≡ suc d → IsClean x (data_place m.table.counts d)) where
+  abbrev s : StoredIntention
+  s = stored_as i a map_address
+
   longer : length (stored ++ s ∷ []) ≡ suc (length stored)
   longer = let l = length-append stored (s ∷ []) in omega (arith, l)
 
   taken : take (length (stored ++ s ∷ [])) list ≡ take (length stored) list ++ i ∷ []
-  taken = ap (λ n. take n list) longer ∙ take-suc list (length stored) i (slice_get_within list (length stored) i at) ∙ ap (λ x. take (length stored) list ++ x ∷ []) (get_or_from_slice_get list (length stored) i i at)
+  taken = ap (λ n. take n list) longer ∙ take_more list (length stored) i at
 
-  puts : count_by is_put_intention (take (length (stored ++ s ∷ [])) list) ≡ count_by is_put_intention (take (length stored) list) + one (is_put i.what)
-  puts =
-      let all = ap (count_by is_put_intention) taken in let split = sum_by-append (λ (x : Intention). if is_put_intention x then 1 else 0) (take (length stored) list) (i ∷ []) in
-      let last = sum_by-cons (λ (x : Intention). if is_put_intention x then 1 else 0) i [] in omega (arith, all, split, last)
+  lacks_taken : take (length (stored ++ s ∷ [])) lacks ≡ take (length stored) lacks ++ lack ∷ []
+  lacks_taken = ap (λ n. take n lacks) longer ∙ take_more lacks (length stored) lack lacks_at
 
-  -- the intention as it was
-  intended_more : (blocks : ℕ → List ℕ) → map (intended blocks) stored ≡ take (length stored) list → intended blocks s ≡ i → map (intended blocks) (stored ++ s ∷ []) ≡ take (length (stored ++ s ∷ [])) list
-  intended_more blocks before here = map-append (intended blocks) stored (s ∷ []) ∙ ap (λ l. l ++ intended blocks s ∷ []) before ∙ ap (λ x. take (length stored) list ++ x ∷ []) here ∙ sym taken
+  more : pages_taken list lacks (length (stored ++ s ∷ [])) ≡ pages_taken list lacks (length stored) + one (is_put i.what) + one lack
+  more =
+      let all = ap (count_by is_put_intention) taken in let split = sum_by-append (λ (x : FullIntention). if is_put_intention x then 1 else 0) (take (length stored) list) (i ∷ []) in
+      let last = sum_by-cons (λ (x : FullIntention). if is_put_intention x then 1 else 0) i [] in
+      let maps = ap (count_by (λ (b : Bool). b)) lacks_taken in let maps_split = sum_by-append (λ (b : Bool). if b then 1 else 0) (take (length stored) lacks) (lack ∷ []) in
+      let maps_last = sum_by-cons (λ (b : Bool). if b then 1 else 0) lack [] in omega (arith, all, split, last, maps, maps_split, maps_last)
 
--- nothing is put
-pub pages_none : (m : Memory) (list : List Intention) (stored : List StoredIntention) (t : TableView) (w : StoreView) (i : Intention) → PagesPreparing m list stored t w → slice_get list (length stored) ≡ Some i
-    → is_put i.what ≡ false → Plain i.what i.block i.bytes → PagesPreparing m list (stored ++ stored_as i 0 ∷ []) t w
-pages_none m list stored t w i p at none plain = record {
-  table = p.table;
-  counts = p.counts;
-  heads = p.heads;
-  free_heads = p.free_heads;
-  unpromised = p.unpromised;
-  held = λ a. p.held a ∙ ap (λ b. is_held m.table a || b) (sym (any_same a));
-  free = let before = p.free in let more = puts m list stored i at (stored_as i 0) in let zero_is = ap one none in omega (arith, before, more, zero_is);
-  apart = apart_more stored (stored_as i 0) p.apart (λ a h. absurd (true≢false (sym h ∙ zero_at a)));
-  own = λ a h. p.own a (sym (any_same a) ∙ h);
-  blocks = λ c. intended_more m list stored i at (stored_as i 0) (block_on m.table.counts (pages_by w c)) (p.blocks c) (ap (λ bytes. record { what = i.what; file = i.file; block = i.block; bytes = bytes }) (by c i.what none plain));
-}
-  where
-    zero_at : (a : ℕ) → nat_eq 0 (suc a) ≡ false
-    zero_at a = grind (arith, nat_tests)
-
-    last : (b c : Bool) → c ≡ false → (b || c) ≡ b
-    last true c h = refl
-    last false c h = h
-
-    any_same : (a : ℕ) → list_any (is_at a) (stored ++ stored_as i 0 ∷ []) ≡ list_any (is_at a) stored
-    any_same a = any_more a stored (stored_as i 0) ∙ last (list_any (is_at a) stored) (nat_eq 0 (suc a)) (zero_at a)
-
-    by : (c : Pick) (what : What) → is_put what ≡ false → Plain what i.block i.bytes → bytes_by (block_on m.table.counts (pages_by w c)) what 0 ≡ i.bytes
-    by c Fresh none plain = sym plain.1
-    by c Gone none plain = sym plain.1
-    by c Cut none plain = sym plain
-    by c Put none plain = absurd (true≢false none)
-
--- a data page that no head has isn't named by the heads
-unnamed_heads : (t : TableView) (d : ℕ) → IsFreeLeaf t d → heads_name t.heads (suc d) ≡ false
-unnamed_heads t d free = by (heads_name t.heads (suc d)) refl
-  where
-    by : (b : Bool) → heads_name t.heads (suc d) ≡ b → b ≡ false
-    by false e = refl
-    by true e = let at = named_addresses (record { epoch = 0; pool = []; heads = t.heads; blocks = λ k. [] }) d e in absurd (free.unnamed at.0 at.2.0 (same_address (head_in t.heads at.0) at.2 ∙ at.3.address))
-
--- a page is filled
-module _ (m : Memory) (list : List Intention) (stored : List StoredIntention) (t : TableView) (w : StoreView) (p : PagesPreparing m list stored t w) (d : ℕ) (least : is_free t.free_leaves d ≡ true) where
-  free_leaf : IsFreeLeaf t d
-  free_leaf = (p.table.free_leaves d).0 least
+  held_after : (d : ℕ) → is_held u d ≡ (is_held m.table d || list_any (is_at d) (stored ++ s ∷ []))
+  held_after d = brings.held d ∙ ap (λ b. b || nat_eq map_address (suc d)) (block.held d ∙ ap (λ b. b || nat_eq a (suc d)) (p.held d)) ∙ joined (is_held m.table d) (list_any (is_at d) stored) (nat_eq a (suc d)) (nat_eq map_address (suc d))
+      ∙ ap (λ b. is_held m.table d || b) (sym (any_more (is_at d) stored s))
+    where
+      joined : (b c e f : Bool) → (((b || c) || e) || f) ≡ (b || (c || (e || f)))
+      joined true c e f = refl
+      joined false true e f = refl
+      joined false false e f = refl
 
   neither : (b c : Bool) → (b || c) ≡ false → (b ≡ false) × (c ≡ false)
   neither b c h = (grind (arith, h), grind (arith, h))
 
-  pub not_yet : (is_held m.table d ≡ false) × (list_any (is_at d) stored ≡ false)
-  not_yet = neither (is_held m.table d) (list_any (is_at d) stored) (sym (p.held d) ∙ free_leaf.loose)
+  -- a free data page of the table is one of memory's, and of no stored intention
+  fresh_page : (d : ℕ) → IsFreeLeaf t d → IsOwnPage m d × (list_any (is_at d) stored ≡ false)
+  fresh_page d free = (
+    record {
+      below = subst (λ (g : Counts). d < g.leaves) p.counts free.below;
+      loose = (neither (is_held m.table d) (list_any (is_at d) stored) (sym (p.held d) ∙ free.loose)).0;
+      unnamed = ap (λ ls. heads_name most_cells ls (suc d)) (λ k. layouts_of (sym p.maps k) (sym p.heads k)) ∙ false_from_ne_true (heads_name most_cells (layouts_in t) (suc d)) (λ named.
+          let it = found_cell most_cells (layouts_in t) (suc d) named in free.unnamed it.0 it.1 it.3);
+    },
+    (neither (is_held m.table d) (list_any (is_at d) stored) (sym (p.held d) ∙ free.loose)).1,
+  )
 
-  pub page_below : d < m.table.counts.leaves
-  page_below = subst (λ (g : Counts). d < g.leaves) p.counts free_leaf.below
+  -- its map page is another than its block's
+  map_fresh : (d : ℕ) → map_address ≡ suc d → IsFreeLeaf t d × (nat_eq a (suc d) ≡ false)
+  map_fresh d e = let free = brings.was d e in let loose = neither (is_held t d) (nat_eq a (suc d)) (sym (block.held d) ∙ free.loose) in (
+    record {
+      below = subst (λ (g : Counts). d < g.leaves) block.counts free.below;
+      loose = loose.0;
+      unnamed = λ slot q h. free.unnamed slot q ((λ k. at_cell (layout_at (layouts_of (block.maps k) (block.heads k)) slot) q) ∙ h);
+    },
+    loose.1,
+  )
 
-  pub page_unnamed : heads_name m.table.heads (suc d) ≡ false
-  page_unnamed = subst (λ hs. heads_name hs (suc d) ≡ false) p.heads (unnamed_heads t d free_leaf)
+  equal : (b c : ℕ) → nat_eq b c ≡ true → b ≡ c
+  equal b c h = grind (arith, nat_tests, h)
 
-  module _ (i : Intention) (put_is : is_put i.what ≡ true) (at : slice_get list (length stored) ≡ Some i) (x : StoreView) (fits : page_count m.table.counts ≡ w.count) (put : StorePut w (data_place m.table.counts d) (leaf_page i.bytes) true x) (whole : length i.bytes ≡ 448) (table : IsTable (with_touched (with_held t d) d)) where
-    moved : PagesPreparing m list stored t x
-    moved = pages_moved m list stored t w x p put.later.count (λ a h. put.others (data_place m.table.counts a) (let below = (p.own a h).below in omega (arith, below, fits)) (λ e. other a h (omega (arith, e))))
-      where
-        other : (a : ℕ) → list_any (is_at a) stored ≡ true → a ≡ d → ⊥
-        other a h e = true≢false (sym h ∙ subst (λ k. list_any (is_at k) stored ≡ false) (sym e) not_yet.1)
+  -- a page of the new intention is fresh
+  its_page : (d : ℕ) → is_at d s ≡ true → IsOwnPage m d × (list_any (is_at d) stored ≡ false)
+  its_page d h = by (nat_eq a (suc d)) refl h
+    where
+      by : (b : Bool) → nat_eq a (suc d) ≡ b → (b || nat_eq map_address (suc d)) ≡ true → IsOwnPage m d × (list_any (is_at d) stored ≡ false)
+      by true e h = fresh_page d (block.was d (equal a (suc d) e))
+      by false e h = fresh_page d (map_fresh d (equal map_address (suc d) h)).0
 
-    held_now : (a : ℕ) → is_held (with_held t d) a ≡ (is_held t a || nat_eq (suc d) (suc a))
-    held_now a = ⊎_elim
-        (λ e. subst (λ k. slice_index_or (slice_set t.held d true) k false ≡ true) (sym e) (get_or-set_same t.held d true false (let n = p.table.leaves in let lt = free_leaf.below in omega (arith, n, lt)))
-        ∙ sym (or_rest (is_held t a) (nat_eq (suc d) (suc a)) (grind (arith, nat_tests, e))))
-        (λ ne. get_or-set_other t.held d a true false ne ∙ stays (is_held t a) (nat_eq (suc d) (suc a)) (grind (arith, nat_tests, ne)))
-        (cases_eq a d)
-      where
-        stays : (b c : Bool) → c ≡ false → b ≡ (b || c)
-        stays true c h = refl
-        stays false c h = sym h
+  pub pages_more : PagesPreparing m list lacks (stored ++ stored_as i a map_address ∷ []) u x
+  pages_more = record {
+    table = table;
+    counts = brings.counts ∙ block.counts ∙ p.counts;
+    heads = brings.heads ∙ block.heads ∙ p.heads;
+    maps = brings.maps ∙ block.maps ∙ p.maps;
+    free_heads = brings.free_heads ∙ block.free_heads ∙ p.free_heads;
+    unpromised = brings.promised ∙ block.promised ∙ p.unpromised;
+    held = held_after;
+    free = let before = p.free in let a_free = block.free in let m_free = brings.free in let puts = ap one put_is in let maps = ap one map_is in let all = more in omega (arith, before, a_free, m_free, puts, maps, all);
+    apart = apart_more stored s p.apart (λ d x y. true≢false (sym (same_so a d x) ∙ (map_fresh d y).1)) (λ d h. (its_page d h).1);
+    own = λ d h. either_own d (list_any (is_at d) stored) refl (sym (any_more (is_at d) stored s) ∙ h);
+    clean = λ d h. either_clean d (list_any (names_for_block (suc d)) stored) refl (sym (any_more (names_for_block (suc d)) stored s) ∙ h);
+    named = map-append names_a_map stored (s ∷ []) ∙ ap (λ l. l ++ nat_lt 0 map_address ∷ []) p.named ∙ ap (λ b. take (length stored) lacks ++ b ∷ []) map_is ∙ sym lacks_taken;
+    blocks = λ c. map-append (intended (block_on m.table.counts (pages_by x c))) stored (s ∷ []) ∙ ap (λ l. l ++ intended (block_on m.table.counts (pages_by x c)) s ∷ []) (p.blocks c)
+        ∙ ap (λ y. take (length stored) list ++ y ∷ []) (same c) ∙ sym taken;
+  }
+    where
+      same_so : (b d : ℕ) → b ≡ suc d → nat_eq b (suc d) ≡ true
+      same_so b d e = grind (arith, nat_tests, e)
 
-    free_less : free_numbers (with_held t d).free_leaves + 1 ≡ free_numbers t.free_leaves
-    free_less = let e = sum_by-set (λ (free : Bool). if free then 1 else 0) t.free_leaves.flags d false false (let n = p.table.leaf_count in let lt = free_leaf.below in omega (arith, n, lt)) in grind (arith, e, least)
+      either_own : (d : ℕ) (b : Bool) → list_any (is_at d) stored ≡ b → (list_any (is_at d) stored || is_at d s) ≡ true → IsOwnPage m d
+      either_own d true e h = p.own d e
+      either_own d false e h = (its_page d (ap (λ b. b || is_at d s) (sym e) ∙ h)).0
 
-    page_inside : data_place m.table.counts d < w.count
-    page_inside = let below = page_below in omega (arith, below, fits)
-
-    filled : (c : Pick) → block_on m.table.counts (pages_by x c) d ≡ i.bytes
-    filled c = ap (λ (b : Bool). take 448 (if b then (if c (data_place m.table.counts d) then x.second (data_place m.table.counts d) else x.first (data_place m.table.counts d)) else [])) inside
-        ∙ ap (take 448) (half (c (data_place m.table.counts d))) ∙ ap (λ n. take n (leaf_page i.bytes)) (sym whole) ∙ take-append_seam i.bytes (replicate 64 0)
-      where
-        inside : nat_lt (data_place m.table.counts d) x.count ≡ true
-        inside = let count = put.later.count in let lt = page_inside in below_count (data_place m.table.counts d) x.count (omega (arith, count, lt))
-          where
-            below_count : (a b : ℕ) → a < b → nat_lt a b ≡ true
-            below_count a b h = grind (arith, nat_tests)
-
-        half : (b : Bool) → (if b then x.second (data_place m.table.counts d) else x.first (data_place m.table.counts d)) ≡ leaf_page i.bytes
-        half true = (put.done refl).second
-        half false = (put.done refl).first
-
-    its_bytes : (c : Pick) (what : What) → is_put what ≡ true → bytes_by (block_on m.table.counts (pages_by x c)) what (suc d) ≡ i.bytes
-    its_bytes c Fresh h = absurd (true≢false (sym h))
-    its_bytes c Gone h = absurd (true≢false (sym h))
-    its_bytes c Cut h = absurd (true≢false (sym h))
-    its_bytes c Put h = filled c
-
-    pub pages_put : PagesPreparing m list (stored ++ stored_as i (suc d) ∷ []) (with_touched (with_held t d) d) x
-    pages_put = record {
-      table = table;
-      counts = p.counts;
-      heads = p.heads;
-      free_heads = p.free_heads;
-      unpromised = p.unpromised;
-      held = λ a. held_now a ∙ ap (λ b. b || nat_eq (suc d) (suc a)) (p.held a) ∙ joined (is_held m.table a) (list_any (is_at a) stored) (nat_eq (suc d) (suc a)) ∙ ap (λ b. is_held m.table a || b) (sym (any_more a stored (stored_as i (suc d))));
-      free = let before = p.free in let more = puts m list stored i at (stored_as i (suc d)) in let one_is = ap one put_is in let less = free_less in omega (arith, before, more, one_is, less);
-      apart = apart_more stored (stored_as i (suc d)) p.apart (λ a h. subst (λ k. list_any (is_at k) stored ≡ false) (let e : d ≡ a = grind (arith, nat_tests, h) in e) not_yet.1);
-      own = λ a h. either a (list_any (is_at a) stored) refl (sym (any_more a stored (stored_as i (suc d))) ∙ h);
-      blocks = λ c. intended_more m list stored i at (stored_as i (suc d)) (block_on m.table.counts (pages_by x c)) (moved.blocks c) (ap (λ bytes. record { what = i.what; file = i.file; block = i.block; bytes = bytes }) (its_bytes c i.what put_is));
-    }
-      where
-        joined : (a b c : Bool) → ((a || b) || c) ≡ (a || (b || c))
-        joined true b c = refl
-        joined false b c = refl
-
-        either : (a : ℕ) (b : Bool) → list_any (is_at a) stored ≡ b → (list_any (is_at a) stored || nat_eq (suc d) (suc a)) ≡ true → IsOwnPage m x a
-        either a true e h = moved.own a e
-        either a false e h =
-            let same : d ≡ a = (let t = ap (λ b. b || nat_eq (suc d) (suc a)) (sym e) ∙ h in grind (arith, nat_tests, t)) in
-            subst (IsOwnPage m x) same (record { below = page_below; loose = not_yet.0; unnamed = page_unnamed; clean = (put.done refl).first ∙ sym (put.done refl).second })
+      either_clean : (d : ℕ) (b : Bool) → list_any (names_for_block (suc d)) stored ≡ b → (list_any (names_for_block (suc d)) stored || names_for_block (suc d) s) ≡ true → IsClean x (data_place m.table.counts d)
+      either_clean d true e h = p.clean d e
+      either_clean d false e h = clean d (equal a (suc d) (ap (λ b. b || names_for_block (suc d) s) (sym e) ∙ h))

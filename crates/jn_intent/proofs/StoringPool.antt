@@ -1,5 +1,5 @@
 -- The records of a work that is being prepared: intentions that count for nothing, and then its ready record.
-use Rattle.jn_intent.proofs.Common.{◌≡◌, ◌<◌, ℕ, zero, suc, Bool, true, false, not, ◌&&◌, ◌||◌, if◌then◌else◌, List, [], ◌∷◌, ◌++◌, length, Option, Some, None, refl, sym, ◌∙◌, ap, subst, true≢false, arith, length-append, filter-append, nat_eq, filter, position, slice_set, list_any, Tid, WorkId, work_eq, work_tells, IsIdlePut, holds_address, HasNone, any_same, StoredIntention, Record, Free, Intention, Ready, Going, FlagRecord, record_in, is_free, free_count, is_prepared, is_intention, is_flag, is_rubbish, is_in, Memory, rubbish_of, rubbish_in, WorksMatch, FlagsMatch, PoolPreparing, in_both, idle_same, idle_works, position_at, free_is, free_more, flags_stay, names_kept, rubbish_moves}
+use Rattle.jn_intent.proofs.Common.{◌≡◌, ◌<◌, ℕ, zero, suc, Bool, true, false, not, ◌&&◌, ◌||◌, if◌then◌else◌, List, [], ◌∷◌, ◌++◌, length, Option, Some, None, refl, sym, ◌∙◌, ap, subst, true≢false, arith, length-append, filter-append, filter, position, slice_set, list_any, Tid, WorkId, work_eq, work_tells, IsIdlePut, HasNone, names_address, any_same, StoredIntention, Record, Free, Intention, Ready, Going, FlagRecord, record_in, is_free, free_count, is_prepared, is_intention, is_flag, is_rubbish, is_in, Memory, rubbish_of, rubbish_in, WorksMatch, FlagsMatch, PoolPreparing, in_both, idle_same, idle_works, position_at, free_is, free_more, flags_stay, names_kept, rubbish_moves, holds_intention}
 use Rattle.jn_page_state.proofs.Behind.{none_first, next_first}
 use Rattle.jn_sets.proofs.Slots.{none_counted}
 
@@ -92,7 +92,7 @@ module _ (m : Memory) (work : WorkId) (stored : List StoredIntention) (records :
           let less = free_more records slot (Intention work tid (length stored) s) free_there (ap is_free stands_free) refl in
           let longer = length-append stored (s ∷ []) in let before = p.free in omega (arith, less, longer, before);
       names = λ a. names_kept records slot (Intention work tid (length stored) s) (idle_same records slot (Intention work tid (length stored) s) stored_idle) (suc a)
-          (ap (holds_address records (suc a)) stands_free) (ap (λ b. nat_eq s.address (suc a) && b) p.alone ∙ nothing (nat_eq s.address (suc a))) ∙ p.names a;
+          (ap (holds_intention (names_address (suc a)) records) stands_free) (ap (λ b. names_address (suc a) s && b) p.alone ∙ nothing (names_address (suc a) s)) ∙ p.names a;
     }
       where
         nothing : (b : Bool) → (b && false) ≡ false

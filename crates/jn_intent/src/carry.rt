@@ -58,7 +58,8 @@ fn count_on(works: &mut Vec<WorkState>, i: usize)
     works[i].next += 1;
 }
 
-/// Carries out an intention: its file's head is put. Where a file is gone already nothing is done.
+/// Carries out an intention: its file's head is put, or a map page, or both, the map page first. Where a file is gone already
+/// nothing is done.
 fn carry_out<S: StableStore>(
     table: &mut FileTable,
     store: &mut S,
@@ -72,7 +73,13 @@ fn carry_out<S: StableStore>(
         What::Fresh => make_fresh(table, store, file),
         What::Gone => table.set_gone(store, file),
         What::Cut => table.set_cut(store, file, intention.block),
-        What::Put => table.set_address(store, file, intention.block, intention.address - 1),
+        What::Put => table.set_address(
+            store,
+            file,
+            intention.block,
+            intention.address - 1,
+            intention.map,
+        ),
     }
 }
 
@@ -85,7 +92,7 @@ fn make_fresh<S: StableStore>(
     requires fits { HasPagesOfTable table.old (S.view store.old) }
     requires promised { exists table.old.heads file ≡ false → 0 < table.old.free_heads.promised }
     requires free { table.old.free_heads.promised ≤ free_count table.old.free_heads }
-    ensures { SetsHead (with_fresh_promise table.old file) (S.view store.old) file (λ h. fresh_head file) (λ leaves. created file) (is_ok result) table.new (S.view store.new) }
+    ensures { SetsHead (with_fresh_promise table.old file) (S.view store.old) file (fresh_head file) (created file) (is_ok result) table.new (S.view store.new) }
 {
     free_promise(table, file);
     table.set_fresh(store, file)

@@ -23,6 +23,10 @@ impl<S: StableStore> StoredFiles for Intents<S> {
         self.table.next_block(f, after)
     }
 
+    fn map_there(&self, f: FileNo, j: u8) -> bool {
+        self.table.map_there(f, j)
+    }
+
     fn mapped(&self, f: FileNo, p: BlockNo) -> bool {
         self.table.mapped(f, p)
     }

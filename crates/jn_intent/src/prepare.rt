@@ -1,22 +1,22 @@
 //! The preparation of a work.
-ghost use Rattle.std.specs.Prelude.{◌≡◌, ◌<◌, ◌≤◌, ◌+◌, ◌-◌, ℕ, true, is_ok, [], length, vec_len, vec_capacity, IfOk, MatchResult, None, Some};
+ghost use Rattle.std.specs.Prelude.{◌≡◌, ◌<◌, ◌≤◌, ◌+◌, ◌-◌, ℕ, true, if◌then◌else◌, is_ok, [], length, vec_len, vec_capacity, IfOk, MatchResult, None, Some};
 ghost use Rattle.jn_alloc.specs.Free.{free_count as free_numbers};
 ghost use Rattle.jn_files.specs.Table.{IsTable};
 ghost use Rattle.jn_files.specs.Calls.{HasPagesOfTable, with_promised_heads, with_promised_leaves};
 ghost use Rattle.jn_records.specs.NetLists.{Plain, is_put};
 ghost use Rattle.jn_sets.specs.Pool.{free_count};
-ghost use Rattle.jn_storage.specs.Storage.{IsServing};
+ghost use Rattle.jn_storage.specs.Storage.{IsServing, is_past_head};
 ghost use Rattle.jn_storage.specs.Calls.{MayPrepare, WorkPrepared, shortage, short_of};
 ghost use Rattle.jn_store.specs.Store.{StoreView};
 ghost use Rattle.jn_recovery.specs.Memory.{Memory, accounts_of};
-ghost use Rattle.jn_intent.specs.Preparing.{FillsPage, BlockStored, IntentionStored, Begins, ListStored};
+ghost use Rattle.jn_intent.specs.Preparing.{FillsPage, BlockStored, TakesPage, TakesMap, IntentionStored, Begins, ListStored};
 
 use crate::Intents;
 use jn_base::{Block, LockUnit, Short, Stopped};
 use jn_files::FileTable;
 use jn_records::{Intention, ListOf, Need, Record, StoredIntention, What, WorkHead, WorkState};
 use jn_sets::{Sets, record_fits};
-use jn_storage::{PrepareFault, Storage, need};
+use jn_storage::{PrepareFault, Storage, lacking, need};
 use jn_store::StableStore;
 use std::alloc::{AllocError, Global};
 
@@ -43,6 +43,7 @@ impl<S: StableStore> Intents<S> {
     {
         let need = need(list, self);
         self.test_room(&need)?;
+        let lacks = lacking(alloc, list, self)?;
         self.works.reserve(1)?;
         let mut room = room_for(alloc, list, reads)?;
         promise(&mut self.table, need.heads);
@@ -52,6 +53,7 @@ impl<S: StableStore> Intents<S> {
             &mut self.table,
             head,
             list,
+            &lacks,
             &mut room.list,
         ) else {
             return Err(PrepareFault::Stopped);
@@ -134,29 +136,39 @@ fn promise(table: &mut FileTable, heads: u32)
     table.is_table();
 }
 
-/// Stores the intentions of a work one after another.
+/// Stores the intentions of a work one after another. The flags say of each whether it lacks its map page in its turn.
 fn store_all<S: StableStore>(
     store: &mut S,
     sets: &mut Sets,
     table: &mut FileTable,
     head: &WorkHead,
     list: &[Intention],
+    lacks: &[bool],
     stored: &mut Vec<StoredIntention>,
 ) -> Result<(), Stopped>
-    requires begins { (m : Memory) × (v : StoreView) × Begins m v head.now.work list.now sets.old table.old (S.view store.old) }
+    requires begins { (m : Memory) × (v : StoreView) × Begins m v head.now.work list.now lacks.now sets.old table.old (S.view store.old) }
+    requires flags { length lacks.now ≡ length list.now }
     requires empty { stored.old.items ≡ [] }
     requires room { length list.now ≤ vec_capacity stored.old }
-    ensures { (m : Memory) (v : StoreView) → Begins m v head.now.work list.now sets.old table.old (S.view store.old)
-        → ListStored m v head.now.work list.now (is_ok result) stored.new.items sets.new table.new (S.view store.new) }
+    ensures { (m : Memory) (v : StoreView) → Begins m v head.now.work list.now lacks.now sets.old table.old (S.view store.old)
+        → ListStored m v head.now.work list.now lacks.now (is_ok result) stored.new.items sets.new table.new (S.view store.new) }
 {
     for (order, intention) in list.iter().enumerate() {
-        let put = store_one(store, sets, table, head, order as u8, intention)?;
+        let put = store_one(
+            store,
+            sets,
+            table,
+            head,
+            order as u8,
+            intention,
+            lacks[order],
+        )?;
         stored.push_reserved(put);
     }
     Ok(())
 }
 
-/// Stores one intention: a put's block in a data page, and then the record.
+/// Stores one intention: a put's block in a data page, and then the record. A map page that is lacking is held, and not put yet.
 fn store_one<S: StableStore>(
     store: &mut S,
     sets: &mut Sets,
@@ -164,23 +176,26 @@ fn store_one<S: StableStore>(
     head: &WorkHead,
     order: u8,
     intention: &Intention,
+    lacks: bool,
 ) -> Result<StoredIntention, Stopped>
     requires fits { HasPagesOfTable table.old (S.view store.old) }
     requires unpromised { table.old.free_leaves.promised ≡ 0 }
-    requires page { is_put intention.now.what ≡ true → 0 < free_numbers table.old.free_leaves }
+    requires pages { (if is_put intention.now.what then 1 else 0) + (if lacks then 1 else 0) ≤ free_numbers table.old.free_leaves }
     requires there { length sets.old < (S.view store.old).count }
     requires room { 0 < free_count sets.old }
     requires plain { Plain intention.now.what intention.now.block intention.now.bytes }
-    ensures stored { IntentionStored sets.old table.old (S.view store.old) head.now order intention.now result sets.new table.new (S.view store.new) }
+    requires lacks { lacks ≡ true → is_past_head intention.now ≡ true }
+    ensures stored { IntentionStored sets.old table.old (S.view store.old) head.now order intention.now lacks result sets.new table.new (S.view store.new) }
     ensures table { IsTable table.new }
 {
     let address = store_block(store, table, intention)?;
+    let map = take_map(table, lacks);
     let stored = StoredIntention {
         what: intention.what,
         file: intention.file,
         block: intention.block,
         address,
-        map: 0,
+        map,
     };
     let record = Record::Intention {
         work: head.work,
@@ -233,4 +248,34 @@ fn fill_next<S: StableStore>(
     table.is_table();
     table.fill(store, page, block)?;
     Ok(page + 1)
+}
+
+/// Holds the lowest free data page as a map page where one is lacking, and says its address, which is 0 where none is.
+fn take_map(table: &mut FileTable, lacks: bool) -> u16
+    requires unpromised { table.old.free_leaves.promised ≡ 0 }
+    requires page { lacks ≡ true → 0 < free_numbers table.old.free_leaves }
+    ensures takes { TakesMap table.old lacks result table.new }
+    ensures table { IsTable table.new }
+{
+    if lacks {
+        take_page(table)
+    } else {
+        table.is_table();
+        0
+    }
+}
+
+/// Holds the lowest free data page, and says its address.
+fn take_page(table: &mut FileTable) -> u16
+    requires unpromised { table.old.free_leaves.promised ≡ 0 }
+    requires page { 0 < free_numbers table.old.free_leaves }
+    ensures takes { TakesPage table.old result table.new }
+    ensures table { IsTable table.new }
+{
+    table.is_table();
+    let Some(page) = table.take_leaf() else {
+        unreachable!()
+    };
+    table.is_table();
+    page + 1
 }

@@ -7,7 +7,7 @@ ghost use Rattle.jn_storage.specs.Storage.{IsServing};
 ghost use Rattle.jn_storage.specs.Calls.{state, WorkRemoved, name_of};
 ghost use Rattle.jn_files.specs.Table.{IsTable};
 ghost use Rattle.jn_files.specs.Calls.{with_promised_heads};
-ghost use Rattle.jn_recovery.specs.Pages.{page_let_go, pages_let_go, IsHeldAt, MayLetGo, heads_needed};
+ghost use Rattle.jn_recovery.specs.Pages.{page_let_go, both_let_go, pages_let_go, IsHeldAt, MayLetGo, heads_needed};
 ghost use Rattle.jn_intent.specs.Works.{MarksWork, going_on};
 
 use crate::Intents;
@@ -99,8 +99,18 @@ fn let_go(table: &mut FileTable, list: &[StoredIntention])
     ensures { table.new ≡ pages_let_go list.now table.old }
 {
     for intention in list {
-        let_page_go(table, intention.address);
+        let_both_go(table, intention);
     }
+}
+
+/// Lets the data page and the map page of an intention go.
+fn let_both_go(table: &mut FileTable, intention: &StoredIntention)
+    requires address { IsHeldAt table.old intention.now.address }
+    requires map { IsHeldAt (page_let_go table.old intention.now.address) intention.now.map }
+    ensures { table.new ≡ both_let_go table.old intention.now }
+{
+    let_page_go(table, intention.address);
+    let_page_go(table, intention.map);
 }
 
 fn let_page_go(table: &mut FileTable, address: u16)

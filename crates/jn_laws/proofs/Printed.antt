@@ -3,7 +3,7 @@ use Rattle.jn_laws.proofs.Common.{◌≡◌, ◌≢◌, ◌⊎◌, inl, inr, ℕ
 use Rattle.std.specs.Prelude.{drop, is_some}
 use Rattle.jn_locks.proofs.Orders.{unit_tells}
 use Rattle.jn_locks.specs.Locks.{is_unit}
-use Rattle.jn_records.specs.StablePages.{Counts, Pages, block_in, block_behind, address_in, head_of, files_of_pages}
+use Rattle.jn_records.specs.StablePages.{Counts, Pages, block_in, block_behind, address_by, head_of, files_of_pages}
 use Rattle.jn_schedule.specs.declared.Event.TheVariants as events
 use Rattle.jn_report.specs.declared.line.EventRefusal.{EventRefusal}
 use Rattle.jn_report.specs.declared.line.Text.TheVariants as says
@@ -222,7 +222,7 @@ module _ (x : Setup) (few : x.servers ≤ 8) where
     where
       by : (o : Option (List ℕ)) → option_and_then (block_in g pages p) o ≡ None
       by None = refl
-      by (Some head) = ap (λ (b : Bool). if b then block_behind g pages (address_in head p.0) else None) past
+      by (Some head) = ap (λ (b : Bool). if b then block_behind g pages (address_by g pages head p.0) else None) past
 
   closed-in-range : (files : AllFiles) (epochs : ServerNo → ℕ) (images : Devices) → AreImages x files epochs images → WorldInRange (closed_world x.servers files epochs)
   closed-in-range files epochs images are = record {

@@ -9,7 +9,7 @@ use Rattle.jn_records.specs.declared.intention.What.TheVariants.{Fresh, Gone, Cu
 use Rattle.jn_records.specs.NetLists.{change_by}
 use Rattle.jn_records.specs.NetEdits.{intention_for}
 use Rattle.jn_rows.specs.declared.client.Taken.TheVariants as taken
-use Rattle.jn_rows.proofs.Left.{left-whole}
+use Rattle.jn_rows.proofs.Left.{left-files}
 use Rattle.jn_worker.proofs.EachPhase.{Rules, joined, row-keeps, step-keeps, timeout-keeps}
 use Rattle.jn_worker.proofs.Listed.{all_after, new_in_range}
 use Rattle.jn_intent.proofs.NetOrder.{all_at}
@@ -235,6 +235,15 @@ made-some (suc k) (c ∷ changes) x r h = made-some k changes (made_by c x) (sec
 made-each : (changes : List Change) (x : StableState) → list_all change_in_range changes ≡ true → StateInRange x → StateInRange (made_all changes x)
 made-each changes x r h = subst (λ (cs : List Change). StateInRange (made_all cs x)) (take-length changes) (made-some (length changes) changes x r h)
 
+-- what a stop leaves has no other blocks than the whole changes that are made
+left-in-range : (l : Left) (changes : List Change) (x : StableState) → StateInRange (made_all (take l.whole changes) x) → StateInRange (left_of l changes x)
+left-in-range l changes x h = record { files = λ f p past. by f p past (left-files l changes x (Block f p)); works = h.works }
+  where
+    by : (f : FileNo) (p : BlockNo) → nat_lt p.0 most_blocks ≡ false
+        → ((left_of l changes x).files (Block f p) ≡ (made_all (take l.whole changes) x).files (Block f p)) ⊎ ((left_of l changes x).files (Block f p) ≡ None) → (left_of l changes x).files (Block f p) ≡ None
+    by f p past (inl e) = e ∙ h.files f p past
+    by f p past (inr e) = e
+
 restored-works : (x : StableState) (Ws : List WorkId) → StateInRange x → WorksInRange (restored_worker x Ws)
 restored-works x [] h = tt
 restored-works x (W ∷ Ws) h = joined PhaseInRange ready_in_range rules (restored_work W (x.works W)) (restored_worker x Ws) (by (x.works W) (h.works W)) (restored-works x Ws h)
@@ -296,7 +305,7 @@ module _ (w : World) (h : WorldInRange w) where
     clients = h.clients;
     memory = memory-gone (λ (z : Memory). WorksInRange z.worker) w.memory h.memory s;
     found = found-now StateInRange w h.found s (λ c. left_of (made c) row.changes (w.found s c))
-        (λ c. subst StateInRange (sym (left-whole (made c) row.changes (w.found s c))) (made-some (made c).whole row.changes (w.found s c) its.changes (h.found s c)));
+        (λ c. left-in-range (made c) row.changes (w.found s c) (made-some (made c).whole row.changes (w.found s c) its.changes (h.found s c)));
   }
   by-case _ _ r (gone_late s m T e) = record { sent = h.sent; clients = h.clients; memory = memory-now (λ (z : Memory). WorksInRange z.worker) w.memory h.memory s (server_timeout m T) (late m (h.memory s m e) T); found = h.found }
   by-case _ _ r (gone_down s m e) = record { sent = h.sent; clients = h.clients; memory = memory-gone (λ (z : Memory). WorksInRange z.worker) w.memory h.memory s; found = h.found }

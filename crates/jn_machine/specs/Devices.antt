@@ -13,8 +13,8 @@ use Rattle.jn_store.specs.Store.{IsCalm, IsClean, IsOnly, IsWholePage}
 use Rattle.jn_page_state.specs.Pages.{pool_on, found_on, heads_on}
 use Rattle.jn_records.specs.MapPlaces.{maps_in}
 use Rattle.jn_page_state.specs.Puts.{IsFrontClean, IsFrontWhole}
-use Rattle.jn_page_state.specs.Recoverable.{IsRecoverable}
-use Rattle.jn_recovery.specs.Counts.{most_calls}
+use Rattle.jn_page_state.specs.Recoverable.{IsRecoverable, MapsAreClean}
+use Rattle.jn_recovery.specs.Counts.{calls_by}
 use Rattle.jn_rows.specs.Stable.{Pick, stable}
 use Rattle.jn_system.specs.WholeSystem.World.{World, Memory}
 use Rattle.jn_system.specs.WholeSystem.Steps.{run, IsRun}
@@ -22,8 +22,8 @@ use Rattle.jn_system.specs.WholeSystem.Printing.{ArePrints}
 use Rattle.jn_system.specs.WholeSystem.PrintedLines.{prints_of}
 use Rattle.jn_server.specs.Standing.{standing_pages, free_on, has_rubbish}
 use Rattle.jn_machine.specs.Chances.{Setup, Chance, free_found, maps_found, prints_found, allowed}
-use Rattle.jn_machine.specs.Rubbish.{AreLeft, AreAllCounted}
-use Rattle.jn_machine.specs.Deeds.{Use, Nothing, Calls, Cleans, Reads, Recovers, PowersOff, Decays, Revives, Arms, Disarms, Deed}
+use Rattle.jn_machine.specs.Leaving.{AreLeft, AreAllCounted}
+use Rattle.jn_machine.specs.Deeds.{pick_read, Use, Nothing, Calls, Cleans, Reads, Recovers, PowersOff, Decays, Revives, Arms, Disarms, Deed}
 
 abbrev pub Devices : Type 0
 Devices = ServerNo → DeviceState
@@ -45,15 +45,19 @@ pub record IsCalled (most : ℕ) (h : Chance) (d e : DeviceState) : Type 0 where
   pub stop : is_some h.stop ≡ not last.power
   pub after : e ≡ cleared last
 
--- The power comes first, and goes where the server doesn't come up. Where it does, root, records and heads are clean then, and whole where no fault
--- waited. The root is of the version that is written then, whichever was read.
+-- The power comes first, and goes where the server doesn't come up. Map pages are cleaned and read as heads name them by some pick, which is the one
+-- that is read where it comes up. Then root, records and heads are clean, and whole where no fault waited, and map pages are clean. The root is of the
+-- version that is written then, whichever was read.
 pub record IsRecovery (q : ServerNo) (g : Counts) (h : Chance) (up : Bool) (d e : DeviceState) : Type 0 where
   pub powered : DeviceState
   pub last : DeviceState
   pub power : PowersUp d powered
-  pub called : IsCalled (most_calls g) h powered last
+  pub pick : Pick
+  pub read : up ≡ true → pick ≡ pick_read h
+  pub called : IsCalled (calls_by g (pairs_view d) pick) h powered last
   pub after : e ≡ (if up then last else powered_off last)
   pub front : up ≡ true → IsFrontClean g (pairs_view e)
+  pub maps : up ≡ true → MapsAreClean g (pairs_view e)
   pub front_whole : up ≡ true → d.waiting ≡ [] → IsFrontWhole g (pairs_view e)
   pub root : up ≡ true → (epoch : ℕ) × IsOnly (pairs_view e) 0 (root_page (root_by q g epoch))
 
@@ -125,9 +129,9 @@ pub record Befalls (x : Setup) (h : Chance) (deed : Deed) (w : World) (ds es : D
   pub steps : IsRun deed.steps w
   pub used : IsUsed x h deed.device w (run deed.steps w) ds es
   pub found : AreFound x (run deed.steps w) es
-  -- as many records are rubbish then as its steps leave
+  -- beside the stable state stands then what its steps leave
   pub left : AreLeft x deed.steps w ds es
   -- and no record and no head is there that nothing names
   pub counted : AreAllCounted x (run deed.steps w) es
-  -- nor is a data page of two blocks
+  -- nor is a data page named twice, and each prepared work has its map pages
   pub recoverable : AreRecoverable x es

@@ -5,7 +5,7 @@ pub mod Refusals
 pub mod Events
 pub mod Steps
 pub mod Runs
-pub mod Rubbish
+pub mod Leaving
 pub mod Devices
 pub mod Whole
 pub mod Examples

@@ -1,8 +1,8 @@
 -- What a store holds after a put that is done.
-use Rattle.jn_page_state.proofs.Common.{◌≡◌, ◌≢◌, ⊎_elim, ◌<◌, ℕ, true, List, length, refl, sym, subst, ◌∙◌, arith, slice_set, length-set, ServerNo, Head, FreeHead, Record, Free, head_page, root_page, format_version, record_page, Counts, page_count, slot_place, head_place, slot_page, record_in, IsStored, StoreView, IsOnly, head_in, root_by, PagePut, RootPut, RecordPut, HeadPut, BlockPut, put_place, IsPagePut, PutStep, IsHeadStored, IsHeld, epoch_after, records_after, heads_after}
+use Rattle.jn_page_state.proofs.Common.{◌≡◌, ◌≢◌, ⊎_elim, ◌<◌, ℕ, suc, true, List, [], length, refl, sym, subst, ◌∙◌, ap, arith, slice_set, length-set, ServerNo, Head, FreeHead, Record, Free, head_page, map_page, root_page, format_version, record_page, Counts, page_count, slot_place, head_place, data_place, slot_page, record_in, IsStored, StoreView, IsOnly, head_in, root_by, PagePut, RootPut, RecordPut, HeadPut, BlockPut, MapPut, put_place, IsPagePut, PutStep, IsHeadStored, IsMapStored, HasMapsStored, row_in, IsHeld, MayStand, epoch_after, records_after, heads_after, rows_after}
 use Rattle.jn_page_state.proofs.Slots.{at_set}
 
-module _ (server : ServerNo) (g : Counts) (v w : StoreView) (epoch : ℕ) (records : List Record) (heads : List Head) (held : IsHeld server g v epoch records heads) where
+module _ (server : ServerNo) (g : Counts) (v w : StoreView) (epoch : ℕ) (records : List Record) (heads : List Head) (rows : List (List ℕ)) (held : IsHeld server g v epoch records heads rows) where
   abbrev count : page_count g ≡ v.count
   count = held.count
 
@@ -28,8 +28,16 @@ module _ (server : ServerNo) (g : Counts) (v w : StoreView) (epoch : ℕ) (recor
         let stored = held.heads_stored place lt in
         record { whole = stored.whole; fits = stored.fits; only = kept (head_place g place) (head_page (head_in heads place)) (omega (arith, lt)) ne stored.only }
 
-  pub held_after : (put : PagePut) → IsPagePut server g put → PutStep server g v put true w → IsHeld server g w (epoch_after put epoch) (records_after put records) (heads_after put heads)
-  held_after (RootPut later) is step = record {
+    map_kept : (d : ℕ) (row : List ℕ) → data_place g d ≢ put_place g put → IsMapStored g v d row → IsMapStored g w d row
+    map_kept d row ne stored = let below = stored.below in record { below = below; whole = stored.whole; only = kept (data_place g d) (map_page row) (omega (arith, below)) ne stored.only }
+
+    -- where the put is of no data page
+    maps_kept : ((d : ℕ) → d < g.leaves → data_place g d ≢ put_place g put) → (h : Head) → HasMapsStored g v rows h → HasMapsStored g w rows h
+    maps_kept ne h stored j d low t = let map = stored j d low t in map_kept d (row_in rows d) (ne d map.below) map
+
+  pub held_after : (put : PagePut) → IsPagePut server g put → PutStep server g v put true w → MayStand g v heads rows put
+      → IsHeld server g w (epoch_after put epoch) (records_after put records) (heads_after put heads) (rows_after put rows)
+  held_after (RootPut later) is step may = record {
     count = still_counted (RootPut later) step;
     version = format_version;
     root_fits = is;
@@ -38,8 +46,10 @@ module _ (server : ServerNo) (g : Counts) (v w : StoreView) (epoch : ℕ) (recor
     pool = λ slot lt. slot_kept (RootPut later) step slot lt (λ e. omega (arith, e));
     places = held.places;
     heads_stored = λ place lt. head_kept (RootPut later) step place lt (λ e. omega (arith, e));
+    pages = held.pages;
+    maps_stored = λ place lt. maps_kept (RootPut later) step (λ d low e. omega (arith, e)) (head_in heads place) (held.maps_stored place lt);
   }
-  held_after (BlockPut d block) is step = record {
+  held_after (BlockPut d block) is step may = record {
     count = still_counted (BlockPut d block) step;
     version = held.version;
     root_fits = held.root_fits;
@@ -48,8 +58,40 @@ module _ (server : ServerNo) (g : Counts) (v w : StoreView) (epoch : ℕ) (recor
     pool = λ slot lt. slot_kept (BlockPut d block) step slot lt (let size : length records ≡ g.pool = held.slots in λ e. omega (arith, e, lt, size));
     places = held.places;
     heads_stored = λ place lt. head_kept (BlockPut d block) step place lt (λ e. omega (arith, e, lt));
+    pages = held.pages;
+    maps_stored = λ place lt j k low t. map_kept (BlockPut d block) step k (row_in rows k) (λ e. may place j low (t ∙ ap suc (same k e))) (held.maps_stored place lt j k low t);
   }
-  held_after (RecordPut slot r) is step = record {
+    where
+      same : (k : ℕ) → data_place g k ≡ data_place g d → k ≡ d
+      same k e = omega (arith, e)
+  held_after (MapPut d row) is step may = record {
+    count = still_counted (MapPut d row) step;
+    version = held.version;
+    root_fits = held.root_fits;
+    root = root_kept (MapPut d row) step (λ e. omega (arith, e));
+    slots = held.slots;
+    pool = λ slot lt. slot_kept (MapPut d row) step slot lt (let size : length records ≡ g.pool = held.slots in λ e. omega (arith, e, lt, size));
+    places = held.places;
+    heads_stored = λ place lt. head_kept (MapPut d row) step place lt (λ e. omega (arith, e, lt));
+    pages = length-set rows d row ∙ held.pages;
+    maps_stored = λ place lt j k low t. ⊎_elim
+        (λ h. subst (IsMapStored g w k) (sym h.1) (record { below = under k h.0; whole = is.1; only = subst (λ n. IsOnly w n (map_page row)) (at k h.0) (step.done refl) }))
+        (λ h. subst (IsMapStored g w k) (sym h.1) (map_kept (MapPut d row) step k (row_in rows k) (λ e. h.0 (same k e)) (held.maps_stored place lt j k low t)))
+        (at_set [] rows d row below k);
+  }
+    where
+      below : d < length rows
+      below = let low = is.0 in let size : length rows ≡ g.leaves = held.pages in omega (arith, low, size)
+
+      same : (k : ℕ) → data_place g k ≡ data_place g d → k ≡ d
+      same k e = omega (arith, e)
+
+      at : (k : ℕ) → k ≡ d → data_place g d ≡ data_place g k
+      at k e = omega (arith, e)
+
+      under : (k : ℕ) → k ≡ d → k < g.leaves
+      under k e = let low = is.0 in omega (arith, e, low)
+  held_after (RecordPut slot r) is step may = record {
     count = still_counted (RecordPut slot r) step;
     version = held.version;
     root_fits = held.root_fits;
@@ -61,6 +103,8 @@ module _ (server : ServerNo) (g : Counts) (v w : StoreView) (epoch : ℕ) (recor
         (at_set Free records slot r below i);
     places = held.places;
     heads_stored = λ place lt. head_kept (RecordPut slot r) step place lt (let under = is.0 in λ e. omega (arith, e, under));
+    pages = held.pages;
+    maps_stored = λ place lt. maps_kept (RecordPut slot r) step (λ d low e. let under = is.0 in omega (arith, e, under)) (head_in heads place) (held.maps_stored place lt);
   }
     where
       below : slot < length records
@@ -71,7 +115,7 @@ module _ (server : ServerNo) (g : Counts) (v w : StoreView) (epoch : ℕ) (recor
 
       at : (i : ℕ) → i ≡ slot → slot_place g slot ≡ slot_page i
       at i e = omega (arith, e)
-  held_after (HeadPut place h) is step = record {
+  held_after (HeadPut place h) is step may = record {
     count = still_counted (HeadPut place h) step;
     version = held.version;
     root_fits = held.root_fits;
@@ -83,6 +127,11 @@ module _ (server : ServerNo) (g : Counts) (v w : StoreView) (epoch : ℕ) (recor
         (λ x. subst (IsHeadStored g w i) (sym x.1) (record { whole = is.1; fits = is.2; only = subst (λ k. IsOnly w k (head_page h)) (at i x.0) (step.done refl) }))
         (λ x. subst (IsHeadStored g w i) (sym x.1) (head_kept (HeadPut place h) step i lt (λ e. x.0 (omega (arith, e)))))
         (at_set FreeHead heads place h below i);
+    pages = held.pages;
+    maps_stored = λ i lt. ⊎_elim
+        (λ x. subst (HasMapsStored g w rows) (sym x.1) (maps_kept (HeadPut place h) step apart h may))
+        (λ x. subst (HasMapsStored g w rows) (sym x.1) (maps_kept (HeadPut place h) step apart (head_in heads i) (held.maps_stored i lt)))
+        (at_set FreeHead heads place h below i);
   }
     where
       below : place < length heads
@@ -90,3 +139,6 @@ module _ (server : ServerNo) (g : Counts) (v w : StoreView) (epoch : ℕ) (recor
 
       at : (i : ℕ) → i ≡ place → head_place g place ≡ head_place g i
       at i e = omega (arith, e)
+
+      apart : (d : ℕ) → d < g.leaves → data_place g d ≢ head_place g place
+      apart d low e = let under = is.0 in omega (arith, e, under)

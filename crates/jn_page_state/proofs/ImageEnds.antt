@@ -1,9 +1,8 @@
 -- A store without records, each page of which is whole, is one of a sound image.
-use Rattle.jn_page_state.proofs.Common.{most_blocks, ◌≡◌, inr, ◌<◌, ◌≤◌, ◌+◌, ◌*◌, ◌-◌, ◌^◌, ℕ, zero, suc, Bool, true, false, if◌then◌else◌, List, [], refl, sym, ◌∙◌, ap, subst, true≢false, arith, nat_tests, nat_lt, drop, BlockNo, FileNo, ServerNo, Head, FreeHead, Used, Record, Free, head_page, root_page, root_by, IsHead, FileFits, record_page, Image, IsSound, Names, Counts, page_count, slot_place, head_place, data_place, is_used, file_in, address_in, record_in, slot_page, StoreView, IsOnly, IsWholePage, head_in, is_head_of, address_at, held_contents, image_on, place_in, IsImage, pages_by, IsConsistent, Addresses, IsStanding, standing_state}
-use Rattle.jn_page_state.proofs.FilesOnPages.{stands}
-use Rattle.jn_page_state.proofs.HeadPages.{free_unused, used_address}
-use Rattle.jn_page_state.proofs.HeldLaws.{contents_held}
+use Rattle.jn_page_state.proofs.Common.{if◌then◌else◌, ◌≡◌, inr, ◌<◌, ◌≤◌, ◌+◌, ◌*◌, ◌-◌, ◌^◌, ℕ, zero, suc, Bool, true, false, List, [], refl, sym, ◌∙◌, ap, subst, arith, nat_tests, nat_lt, drop, ServerNo, Head, FreeHead, Used, Record, Free, root_page, root_by, format_version, record_page, Image, IsSound, Counts, Pages, page_count, slot_place, head_place, data_place, is_used, file_in, address_in, map_in, entry_in, IsMapPage, record_in, slot_page, StoreView, IsOnly, IsWholePage, head_blocks, most_maps, map_cell, head_in, entry_of, layouts_in, layout_at, is_layout_of, image_on, place_in, IsImage, pages_by, block_on, contents_of, IsOfFormat, IsConsistent, Addresses, IsStanding, standing_state, fits_version, Spot, InHead, AsMap, InMap, IsWrittenAt}
 use Rattle.jn_page_state.proofs.ImageStates.{files_agree}
+use Rattle.jn_page_state.proofs.Laying.{entry_cell}
+use Rattle.jn_page_state.proofs.Spots.{HeadCell, EntryCell, MapCell, cell_of_page, file_of_page, names_same}
 
 below_is : (a b : ℕ) → a < b → nat_lt a b ≡ true
 below_is a b h = grind (arith, nat_tests)
@@ -11,16 +10,51 @@ below_is a b h = grind (arith, nat_tests)
 past_is : (a b : ℕ) → b ≤ a → nat_lt a b ≡ false
 past_is a b h = grind (arith, nat_tests)
 
--- the file of a used head
-head_file : (leaves : ℕ) (page : List ℕ) (few : leaves < 2 ^ 16) (h : Head) → page ≡ head_page h → is_used page ≡ true → (f : FileNo) × (is_head_of f h ≡ true)
-head_file leaves page few FreeHead e used = absurd (true≢false (sym used ∙ free_unused leaves page few e))
-head_file leaves page few (Used f xs maps) e used = (f, grind (arith, nat_tests))
+-- a head of the version that is written may have map pages
+fits_written : (h : Head) → fits_version format_version h ≡ true
+fits_written FreeHead = refl
+fits_written (Used f xs maps) = refl
 
-head_address : (leaves : ℕ) (page : List ℕ) (few : leaves < 2 ^ 16) (h : Head) → IsHead leaves h → FileFits h → page ≡ head_page h → is_used page ≡ true → (p : ℕ) → p < most_blocks → address_at h (record { 0 = p }) ≡ address_in page p
-head_address leaves page few FreeHead is fits e used p lt = absurd (true≢false (sym used ∙ free_unused leaves page few e))
-head_address leaves page few (Used f xs maps) is fits e used p lt = sym (used_address leaves page few f xs maps is fits e p lt)
+-- ---- an address's spot by its cell
 
-module _ (server : ServerNo) (g : Counts) (v : StoreView) (epoch : ℕ) (records : List Record) (heads : List Head) (standing : IsStanding server g v epoch records heads)
+data Holds (g : Counts) (pages : Pages) (x : Spot) (i q : ℕ) : Type 0 where
+  HoldsHead : q < head_blocks → x ≡ InHead i q → Holds g pages x i q
+  HoldsMap : (j : ℕ) → q ≡ map_cell j → x ≡ AsMap i j → Holds g pages x i q
+  HoldsEntry : (j d k : ℕ) → j < most_maps → k < head_blocks → q ≡ entry_cell j k → map_in (pages (head_place g i)) j ≡ suc d → x ≡ InMap d k → Holds g pages x i q
+
+module _ (g : Counts) (pages : Pages) where
+  not_map : (q j : ℕ) → q < head_blocks → q ≡ map_cell j → ⊥
+  not_map q j low e = omega (arith, low, e)
+
+  not_entry : (q j k : ℕ) → q < head_blocks → q ≡ entry_cell j k → ⊥
+  not_entry q j k low e = omega (arith, low, e)
+
+  entry_no_map : (q h j k : ℕ) → q ≡ map_cell h → j < most_maps → k < head_blocks → q ≡ entry_cell j k → ⊥
+  entry_no_map q h j k e few below at = omega (arith, e, few, below, at)
+
+  one_map : (q h j : ℕ) → q ≡ map_cell h → q ≡ map_cell j → h ≡ j
+  one_map q h j d e = omega (arith, d, e)
+
+  one_entry : (q h j k n : ℕ) → k < head_blocks → n < head_blocks → q ≡ entry_cell h k → q ≡ entry_cell j n → (h ≡ j) × (k ≡ n)
+  one_entry q h j k n low below d e = (omega (arith, low, below, d, e), omega (arith, low, below, d, e))
+
+  one_page : (a b c : ℕ) → a ≡ suc b → a ≡ suc c → b ≡ c
+  one_page a b c d e = omega (arith, d, e)
+
+  one_spot : (x y : Spot) (i q : ℕ) → Holds g pages x i q → Holds g pages y i q → x ≡ y
+  one_spot x y i q (HoldsHead low is) (HoldsHead below at) = is ∙ sym at
+  one_spot x y i q (HoldsHead low is) (HoldsMap j e at) = absurd (not_map q j low e)
+  one_spot x y i q (HoldsHead low is) (HoldsEntry j d k few below e names at) = absurd (not_entry q j k low e)
+  one_spot x y i q (HoldsMap h e is) (HoldsHead low at) = absurd (not_map q h low e)
+  one_spot x y i q (HoldsMap h e is) (HoldsMap j d at) = is ∙ ap (λ n. AsMap i n) (one_map q h j e d) ∙ sym at
+  one_spot x y i q (HoldsMap h e is) (HoldsEntry j d k few below at names same) = absurd (entry_no_map q h j k e few below at)
+  one_spot x y i q (HoldsEntry h b k few below e names is) (HoldsHead low at) = absurd (not_entry q h k low e)
+  one_spot x y i q (HoldsEntry h b k few below e names is) (HoldsMap j d at) = absurd (entry_no_map q j h k d few below e)
+  one_spot x y i q (HoldsEntry h b k few below e names is) (HoldsEntry j d n small low f named at) =
+      let same = one_entry q h j k n below low e f in
+      is ∙ ap (λ z. InMap z k) (one_page (map_in (pages (head_place g i)) j) b d (ap (λ z. map_in (pages (head_place g i)) z) (sym same.0) ∙ names) named) ∙ ap (λ z. InMap d z) same.1 ∙ sym at
+
+module _ (server : ServerNo) (g : Counts) (v : StoreView) (epoch : ℕ) (records : List Record) (heads : List Head) (rows : List (List ℕ)) (standing : IsStanding server g v epoch records heads rows)
     (root : IsOnly v 0 (root_page (root_by server g epoch))) (free : (i : ℕ) → record_in records i ≡ Free) (whole : (i : ℕ) → i < v.count → IsWholePage v i) where
   abbrev m : Image
   m = image_on server g v
@@ -31,11 +65,20 @@ module _ (server : ServerNo) (g : Counts) (v : StoreView) (epoch : ℕ) (records
   few : g.leaves < 2 ^ 16
   few = standing.held.root_fits.leaves
 
+  format : IsOfFormat server g (pages_by v (λ n. false))
+  format = (standing.recoverable.each (λ n. false)).of_format
+
   page_is : (k : ℕ) → k < page_count g → m.bytes k ≡ v.first k
   page_is k lt = ap (λ b. if b then v.first k else v.second (k - v.count)) (below_is k v.count (omega (arith, lt, count)))
 
   picked_is : (k : ℕ) → k < page_count g → pages_by v (λ n. false) k ≡ m.bytes k
   picked_is k lt = ap (λ b. if b then v.first k else []) (below_is k v.count (omega (arith, lt, count))) ∙ sym (page_is k lt)
+
+  head_at : (i : ℕ) → i < g.heads → pages_by v (λ n. false) (head_place g i) ≡ m.bytes (head_place g i)
+  head_at i lt = picked_is (head_place g i) (omega (arith, lt))
+
+  data_at : (d : ℕ) → d < g.leaves → pages_by v (λ n. false) (data_place g d) ≡ m.bytes (data_place g d)
+  data_at d lt = picked_is (data_place g d) (omega (arith, lt))
 
   halves : (i : ℕ) → i < page_count g → m.bytes i ≡ m.bytes (i + page_count g)
   halves i lt =
@@ -51,38 +94,59 @@ module _ (server : ServerNo) (g : Counts) (v : StoreView) (epoch : ℕ) (records
       by true t = (whole p (grind (arith, nat_tests, t))).both
       by false t = (whole (p - v.count) (grind (arith, nat_tests, t, lt, count))).both
 
-  -- a head's page
-  head_page_is : (i : ℕ) → i < g.heads → m.bytes (head_place g i) ≡ head_page (head_in heads i)
-  head_page_is i lt = page_is (head_place g i) (omega (arith, lt)) ∙ (standing.held.heads_stored i lt).only.first
+  all : IsConsistent g (contents_of g (pages_by v (λ n. false)))
+  all = (standing.recoverable.each (λ n. false)).consistent
 
-  all : IsConsistent server g (held_contents g v epoch records heads (λ n. false))
-  all = subst (IsConsistent server g) (contents_held server g v epoch records heads standing.held (λ n. false)) (standing.recoverable.each (λ n. false)).consistent
-
-  of_file : (i f : ℕ) → i < g.heads → is_used (m.bytes (head_place g i)) ≡ true → file_in (m.bytes (head_place g i)) ≡ f → is_head_of (record { 0 = f }) (head_in heads i) ≡ true
-  of_file i f lt used is =
-      let at = standing.held.heads_stored i lt in
-      let name : FileNo = record { 0 = f } in
-      sym (stands g (pages_by v (λ n. false)) few (m.bytes (head_place g i)) (head_in heads i) at.whole at.fits (head_page_is i lt) name) ∙ grind (arith, nat_tests, used, is)
+  used_at : (i : ℕ) → i < g.heads → is_used (m.bytes (head_place g i)) ≡ true → is_used (pages_by v (λ n. false) (head_place g i)) ≡ true
+  used_at i lt used = ap is_used (head_at i lt) ∙ used
 
   one_head : (f i j : ℕ) → i < g.heads → j < g.heads → is_used (m.bytes (head_place g i)) ≡ true → file_in (m.bytes (head_place g i)) ≡ f → is_used (m.bytes (head_place g j)) ≡ true → file_in (m.bytes (head_place g j)) ≡ f → i ≡ j
-  one_head f i j a b used is used' is' = all.distinct.files (record { 0 = f }) i j (of_file i f a used is) (of_file j f b used' is')
+  one_head f i j a b used is used' is' = all.distinct.files (record { 0 = f }) i j (of_file i a used is) (of_file j b used' is')
+    where
+      of_file : (i : ℕ) → i < g.heads → is_used (m.bytes (head_place g i)) ≡ true → file_in (m.bytes (head_place g i)) ≡ f → is_layout_of (record { 0 = f }) (layout_at (layouts_in (contents_of g (pages_by v (λ n. false)))) i) ≡ true
+      of_file i lt used is = file_of_page g (pages_by v (λ n. false)) few format.heads (entry_of (block_on g (pages_by v (λ n. false)))) i (record { 0 = f }) lt (used_at i lt used) (ap file_in (head_at i lt) ∙ is)
 
-  addresses : (a i p : ℕ) → Names m (suc a) i p → (f : FileNo) × Addresses heads i f (record { 0 = p }) (suc a)
-  addresses a i p n =
-      let at = standing.held.heads_stored i n.head in
-      let file = head_file g.leaves (m.bytes (head_place g i)) few (head_in heads i) (head_page_is i n.head) n.used in
-      (file.0, record { head = file.1; address = head_address g.leaves (m.bytes (head_place g i)) few (head_in heads i) at.whole at.fits (head_page_is i n.head) n.used p n.block ∙ n.address })
+  record Located (x : Spot) (a : ℕ) : Type 0 where
+    place : ℕ
+    cell : ℕ
+    stands : Addresses (layouts_in (contents_of g (pages_by v (λ n. false)))) place cell a
+    holds : Holds g (pages_by v (λ n. false)) x place cell
 
-  named_once : (a i j p q : ℕ) → Names m (suc a) i p → Names m (suc a) j q → (i ≡ j) × (p ≡ q)
-  named_once a i j p q x y =
-      let h = addresses a i p x in
-      let k = addresses a j q y in
-      let same = all.addresses.heads a i j h.0 k.0 (record { 0 = p }) (record { 0 = q }) h.1 k.1 in
-      (all.distinct.files h.0 i j h.1.head (subst (λ f. is_head_of f (head_in heads j) ≡ true) (sym same.0) k.1.head), ap (λ (b : BlockNo). b.0) same.1)
+  located : (a : ℕ) (x : Spot) → IsWrittenAt m (suc a) x → Located x a
+  located a (InHead i k) w = record {
+    place = i;
+    cell = k;
+    stands = cell_of_page g (pages_by v (λ n. false)) few format.heads i k a w.0.head (used_at i w.0.head w.0.used) (HeadCell w.0.below (ap (λ page. address_in page k) (head_at i w.0.head) ∙ w.1));
+    holds = HoldsHead w.0.below refl;
+  }
+  located a (AsMap i j) w = record {
+    place = i;
+    cell = map_cell j;
+    stands = cell_of_page g (pages_by v (λ n. false)) few format.heads i (map_cell j) a w.0.head (used_at i w.0.head w.0.used) (MapCell j w.0.below refl (ap (λ page. map_in page j) (head_at i w.0.head) ∙ w.1));
+    holds = HoldsMap j refl refl;
+  }
+  located a (InMap d k) w =
+      let n = w.1 in
+      let named = ap (λ page. map_in page n.at) (head_at n.head n.is_head) ∙ n.names in
+      record {
+        place = n.head;
+        cell = entry_cell n.at k;
+        stands = cell_of_page g (pages_by v (λ n. false)) few format.heads n.head (entry_cell n.at k) a n.is_head (used_at n.head n.is_head n.used)
+            (EntryCell n.at d k n.below w.2 refl named (ap (λ page. entry_in page k) (data_at d w.0) ∙ w.3));
+        holds = HoldsEntry n.at d k n.below w.2 refl named refl;
+      }
 
-  addressed : (a i j p q : ℕ) → 0 < a → Names m a i p → Names m a j q → (i ≡ j) × (p ≡ q)
-  addressed (suc a) i j p q least x y = named_once a i j p q x y
-  addressed zero i j p q least x y = absurd (omega (arith, least))
+  addressed : (a : ℕ) (x y : Spot) → IsWrittenAt m (suc a) x → IsWrittenAt m (suc a) y → x ≡ y
+  addressed a x y u w =
+      let h = located a x u in
+      let k = located a y w in
+      let same = all.addresses.heads a h.place k.place h.cell k.cell h.stands k.stands in
+      one_spot g (pages_by v (λ n. false)) x y h.place h.cell h.holds
+      (subst (λ i. Holds g (pages_by v (λ n. false)) y i h.cell) (sym same.0) (subst (λ q. Holds g (pages_by v (λ n. false)) y k.place q) (sym same.1) k.holds))
+
+  once : (a : ℕ) → 0 < a → (x y : Spot) → IsWrittenAt m a x → IsWrittenAt m a y → x ≡ y
+  once zero least x y u w = absurd (omega (arith, least))
+  once (suc a) least x y u w = addressed a x y u w
 
   sound : IsSound server (image_on server g v)
   sound = record {
@@ -92,14 +156,15 @@ module _ (server : ServerNo) (g : Counts) (v : StoreView) (epoch : ℕ) (records
     pairs = halves;
     pool = λ i lt. let at : slot_place g i ≡ slot_page i = omega arith in page_is (slot_place g i) (omega (arith, lt)) ∙ ap v.first at ∙ (standing.held.pool i (let e = standing.held.slots in omega (arith, lt, e))).only.first ∙ ap record_page (free i);
     files = λ f i j a b x y. one_head f i j a b;
-    heads = λ i lt. let at = standing.held.heads_stored i lt in (head_in heads i, at.whole, at.fits, head_page_is i lt);
-    addresses = λ a least i j p q x y. addressed a i j p q least x y;
-    tails = λ i lt. ap (drop 448) (sym (picked_is (data_place g i) (omega (arith, lt)))) ∙ (standing.recoverable.each (λ n. false)).of_format.data_pages i lt;
+    heads = λ i lt. let at = standing.held.heads_stored i lt in (head_in heads i, at.whole, at.fits, fits_written (head_in heads i), page_is (head_place g i) (omega (arith, lt)) ∙ at.only.first);
+    maps = λ d lt named. subst (IsMapPage g.leaves) (data_at d lt) (format.maps d lt (names_same g m.bytes (pages_by v (λ n. false)) (λ i low. sym (head_at i low)) d named));
+    addresses = once;
+    tails = λ i lt. ap (drop 448) (sym (data_at i lt)) ∙ format.data_pages i lt;
   }
 
   pub is_image : IsImage server g (standing_state g v).files v
   is_image = record {
     sound = sound;
     fit = let fits = standing.held.root_fits in record { server_fits = fits.server; pool = fits.pool; heads = fits.heads; leaves = fits.leaves };
-    same_files = sym (files_agree g (pages_by v (λ n. false)) m.bytes few (standing.recoverable.each (λ n. false)).of_format.heads (λ k lt. picked_is k lt));
+    same_files = sym (files_agree g (pages_by v (λ n. false)) m.bytes few format.heads format.maps (λ k lt. picked_is k lt));
   }

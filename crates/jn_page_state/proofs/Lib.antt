@@ -4,7 +4,10 @@ pub mod PoolLemmas
 pub mod PoolLaws
 pub mod HeadLaws
 pub mod FillLaws
-pub mod HeadPages
+pub mod Laying
+pub mod Carrying
+pub mod MapPages
+pub mod Twos
 pub mod FilesOnPages
 pub mod PageChanges
 pub mod PagePuts
@@ -15,12 +18,15 @@ pub mod Naming
 pub mod PoolKept
 pub mod ConsistentPuts
 pub mod ReadyPut
+pub mod Supply
+pub mod MapsKept
 pub mod HeadKept
 pub mod OtherPuts
 pub mod CleanPages
 pub mod Behind
 pub mod Saying
 pub mod Images
+pub mod Spots
 pub mod SoundImages
 pub mod ImageStates
 pub mod ImageEnds

@@ -37,9 +37,6 @@ pub contents_as : (one two : Contents) → one.epoch ≡ two.epoch → one.pool 
 contents_as one two a b c d = ap (λ x. record one { epoch = x }) a ∙ ap (λ x. record one { epoch = two.epoch; pool = x }) b ∙ ap (λ x. record one { epoch = two.epoch; pool = two.pool; heads = x }) c ∙ ap (λ x. record two { blocks = x }) d
 
 module _ (g : Counts) (pages : Pages) (k : ℕ) (page : List ℕ) where
-  abbrev after : Pages
-  after = with_page pages k page
-
   apart : (j : ℕ) → k ≢ j → with_page pages k page j ≡ pages j
   apart j ne = with_other pages k page j ne
 

@@ -1,6 +1,5 @@
 -- What a pick of halves finds after a put, done or stopped.
-use Rattle.jn_page_state.proofs.Common.{◌∷◌, ◌≡◌, ◌≢◌, ◌⊎◌, inl, inr, ⊎_elim, ◌<◌, ◌≤◌, ℕ, Bool, true, false, if◌then◌else◌, List, [], refl, sym, ap, subst, ◌∙◌, arith, fun_ext, nat_eq, nat_lt, cases_eq, cases_lt, nat_tests, ServerNo, Counts, page_count, data_place, StableState, Pick, Change, made_by, Changed, Unchanged, StoreView, Candidate, IsClean, HasSamePages, StorePut, with_page, with_same, with_other, same_shrinks, state_in, half_of, pages_by, found_on, contents_of, state_of, IsOfFormat, IsConsistent, IsFound, NamedAreClean, IsRecoverable, is_named, PagePut, RootPut, RecordPut, HeadPut, BlockPut, put_place, put_page, IsPagePut, put_in, IsReadable, contents_by, is_written, KeepsClean, KeepsConsistent, IsPut, IsFewer, IsStopState}
-use Rattle.jn_rows.proofs.Left.{whole-stop}
+use Rattle.jn_page_state.proofs.Common.{◌∷◌, ◌≡◌, ◌≢◌, ◌⊎◌, inl, inr, ⊎_elim, ◌<◌, ◌≤◌, ℕ, Bool, true, false, if◌then◌else◌, List, [], refl, sym, ap, subst, ◌∙◌, arith, fun_ext, nat_eq, nat_lt, cases_eq, cases_lt, nat_tests, ServerNo, Counts, page_count, data_place, StableState, Pick, Change, made_by, Changed, Unchanged, StoreView, Candidate, IsClean, HasSamePages, StorePut, with_page, with_same, with_other, same_shrinks, state_in, half_of, pages_by, found_on, contents_of, state_of, IsOfFormat, IsLoadable, IsConsistent, IsFound, NamedAreClean, IsRecoverable, names_block, PagePut, RootPut, RecordPut, HeadPut, BlockPut, MapPut, put_place, put_page, IsPagePut, put_in, IsReadable, contents_by, is_written, KeepsClean, KeepsFound, IsPut, IsFewer, IsStopState, whole-stop}
 use Rattle.jn_page_state.specs.Puts.{Makes}
 use Rattle.jn_page_state.proofs.FilesOnPages.{state_on_pages}
 use Rattle.jn_page_state.proofs.PagePuts.{put_is_read, keeps_format}
@@ -82,9 +81,6 @@ module _ (server : ServerNo) (g : Counts) (v : StoreView) (put : PagePut) (ok : 
   abbrev count : page_count g ≡ v.count
   count = is.readable.count
 
-  abbrev new_page : List ℕ
-  new_page = put_page server g put
-
   there : put_place g put < v.count
   there = by put is.page
     where
@@ -93,13 +89,14 @@ module _ (server : ServerNo) (g : Counts) (v : StoreView) (put : PagePut) (ok : 
       by (RecordPut slot r) h = let below = h.0 in omega (arith, count, below)
       by (HeadPut place k) h = let below = h.0 in omega (arith, count, below)
       by (BlockPut d block) h = let below = h.0 in omega (arith, count, below)
+      by (MapPut d row) h = let below = h.0 in omega (arith, count, below)
 
   abbrev step_picks : (c : Pick) → ((b : Pick) × (pages_by w c ≡ pages_by v b)) ⊎ (pages_by w c ≡ with_page (pages_by v c) (put_place g put) (put_page server g put))
   step_picks c = picks v (put_place g put) (put_page server g put) ok w is.step there c
 
   -- the new pages, by a pick before
   new_format : (c : Pick) → IsOfFormat server g (with_page (pages_by v c) (put_place g put) (put_page server g put))
-  new_format c = keeps_format server g (pages_by v c) (is.readable.each c) put is.page
+  new_format c = keeps_format server g (pages_by v c) (is.readable.each c) put is.page (is.may c)
 
   new_contents : (c : Pick) → contents_of g (with_page (pages_by v c) (put_place g put) (put_page server g put)) ≡ put_in put (contents_by g v c)
   new_contents c = put_is_read server g (pages_by v c) (is.readable.each c) put is.page
@@ -150,27 +147,24 @@ module _ (server : ServerNo) (g : Counts) (v : StoreView) (put : PagePut) (ok : 
       by (RecordPut slot r) h out e = let below = h.0 in omega (arith, e, below)
       by (HeadPut place k) h out e = let below = h.0 in omega (arith, e, below)
       by (BlockPut k block) h out e = let same : k ≡ d = omega (arith, e) in grind (arith, nat_tests, same, out)
+      by (MapPut k row) h out e = let same : k ≡ d = omega (arith, e) in grind (arith, nat_tests, same, out)
 
   pub still_clean : NamedAreClean g v → KeepsClean g v put → NamedAreClean g w
   still_clean clean keeps c d lt named = ⊎_elim
-      (λ old. let before = subst (λ x. is_named (contents_of g x) d ≡ true) old.1 named in clean_on d lt (keeps.unwritten old.0 d lt before) (clean old.0 d lt before))
-      (λ new. let after : is_named (put_in put (contents_by g v c)) d ≡ true = sym (ap (λ x. is_named x d) (ap (contents_of g) new ∙ new_contents c)) ∙ named in
-      clean_on d lt (by put (λ h. keeps.unwritten c d lt h) after) (keeps.names c d lt after))
+      (λ old. let before = subst (λ x. names_block (contents_of g x) d ≡ true) old.1 named in clean_on d lt (keeps.unwritten old.0 d lt before) (clean old.0 d lt before))
+      (λ new. let after : names_block (put_in put (contents_by g v c)) d ≡ true = sym (ap (λ x. names_block x d) (ap (contents_of g) new ∙ new_contents c)) ∙ named in
+      let kept = keeps.names c d lt after in clean_on d lt kept.1 kept.0)
       (step_picks c)
-    where
-      by : (put : PagePut) → (is_named (contents_by g v c) d ≡ true → is_written put d ≡ false) → is_named (put_in put (contents_by g v c)) d ≡ true → is_written put d ≡ false
-      by (RootPut epoch) out h = refl
-      by (RecordPut slot r) out h = refl
-      by (HeadPut place k) out h = refl
-      by (BlockPut k block) out h = out h
 
-  pub still_recoverable : IsRecoverable server g v → KeepsConsistent server g v put → KeepsClean g v put → IsRecoverable server g w
-  still_recoverable before consistent keeps = record {
+  pub still_recoverable : IsRecoverable server g v → KeepsFound server g v put → KeepsClean g v put → IsRecoverable server g w
+  still_recoverable before found keeps = record {
     count = still_readable.count;
     each = λ c. record {
       of_format = still_readable.each c;
-      consistent = ⊎_elim (λ old. subst (λ x. IsConsistent server g (contents_of g x)) (sym old.1) (before.each old.0).consistent)
-          (λ new. subst (λ x. IsConsistent server g x) (sym (ap (contents_of g) new ∙ new_contents c)) (consistent c)) (step_picks c);
+      consistent = ⊎_elim (λ old. subst (λ x. IsConsistent g (contents_of g x)) (sym old.1) (before.each old.0).consistent)
+          (λ new. subst (λ x. IsConsistent g x) (sym (ap (contents_of g) new ∙ new_contents c)) (found.consistent c)) (step_picks c);
+      loadable = ⊎_elim (λ old. subst (λ x. IsLoadable server g.heads (state_of g x)) (sym old.1) (before.each old.0).loadable)
+          (λ new. subst (λ x. IsLoadable server g.heads x) (sym (ap (state_of g) new ∙ new_state c)) (found.loadable c)) (step_picks c);
     };
     clean = still_clean before.clean keeps;
   }
@@ -229,7 +223,7 @@ module _ (v w : StoreView) (fewer : IsFewer v w) where
     count = before.count ∙ sym fewer.count;
     each = λ c. subst (IsFound server g) (sym (earlier_pages c)) (before.each (earlier c));
     clean = λ c d lt named. fewer_clean (data_place g d) (let e : page_count g ≡ v.count = before.count in omega (arith, lt, e))
-        (before.clean (earlier c) d lt (sym (ap (λ x. is_named (contents_of g x) d) (earlier_pages c)) ∙ named));
+        (before.clean (earlier c) d lt (sym (ap (λ x. names_block (contents_of g x) d) (earlier_pages c)) ∙ named));
   }
 
 -- where each page's candidates stay
@@ -237,8 +231,8 @@ module _ (v w : StoreView) (same : HasSamePages v w) where
   pub same_fewer : IsFewer v w
   same_fewer = record { count = same.count; shrinks = λ j lt. same_shrinks v w j (same.pages j) }
 
-  pub same_found : (g : Counts) → found_on g w ≡ found_on g v
-  same_found g = fun_ext (λ c. ap (state_of g) (fun_ext (λ k. page c k)))
+  pub same_pages_by : (c : Pick) → pages_by w c ≡ pages_by v c
+  same_pages_by c = fun_ext (λ k. page c k)
     where
       halves : (b : Bool) (k : ℕ) → (if b then w.second k else w.first k) ≡ (if b then v.second k else v.first k)
       halves true k = (same.pages k).second
@@ -246,6 +240,9 @@ module _ (v w : StoreView) (same : HasSamePages v w) where
 
       page : (c : Pick) (k : ℕ) → pages_by w c k ≡ pages_by v c k
       page c k = ap (λ n. if nat_lt k n then (if c k then w.second k else w.first k) else []) same.count ∙ ap (λ x. if nat_lt k v.count then x else []) (halves (c k) k)
+
+  pub same_found : (g : Counts) → found_on g w ≡ found_on g v
+  same_found g = fun_ext (λ c. ap (state_of g) (same_pages_by c))
 
   pub same_recoverable : (server : ServerNo) (g : Counts) → IsRecoverable server g v → IsRecoverable server g w
   same_recoverable server g before = fewer_recoverable v w same_fewer server g before

@@ -1,6 +1,7 @@
 -- What a recovery asks of a pool goes on over the put of a record.
-use Rattle.jn_page_state.proofs.Common.{◌≡◌, ◌⊎◌, ⊎_elim, ℕ, ◌<◌, true, false, ◌&&◌, List, length, refl, sym, ◌∙◌, ap, subst, true≢false, arith, find_past, slice_set, nat_eq, option_and_then, is_some, list_any, Tid, WorkId, work_eq, work_tells, nat_tests, StoredIntention, Record, Free, Intention, Ready, Going, FlagRecord, record_in, is_prepared, is_intention, is_flag, Contents, stored_in, with_record, IsDistinct, HasIntentions, IsCompleteBy, Intends, AddressesDiffer}
+use Rattle.jn_page_state.proofs.Common.{◌≡◌, ◌⊎◌, ⊎_elim, ℕ, ◌<◌, true, false, ◌&&◌, List, length, refl, sym, ◌∙◌, ap, subst, true≢false, arith, find_past, slice_set, nat_eq, option_and_then, is_some, list_any, Tid, WorkId, work_eq, work_tells, nat_tests, StoredIntention, Record, Free, Intention, Ready, Going, FlagRecord, record_in, is_prepared, is_intention, is_flag, Contents, stored_in, with_record, IsDistinct, HasIntentions, IsCompleteBy, IsSuppliedIn, Intends, AddressesDiffer, maps_in, IsSuppliedBy, intentions_from}
 use Rattle.jn_page_state.proofs.Slots.{passes_any, at_set, once_set, any_fewer}
+use Rattle.jn_page_state.proofs.PoolLemmas.{intentions_kept}
 
 module _ (c : Contents) (slot : ℕ) (new : Record) (there : slot < length c.pool) where
   abbrev old : Record
@@ -49,6 +50,25 @@ module _ (c : Contents) (slot : ℕ) (new : Record) (there : slot < length c.poo
         (λ h. subst (IsCompleteBy c.pool) (sym h.1) (before i))
         (at_set Free c.pool slot new there i))
 
+    -- the list of a prepared work is as it was
+    list_supplied : (w : WorkId) (n i : ℕ) → is_prepared w (record_in (slice_set c.pool slot new) i) ≡ true → IsSuppliedBy (maps_in c.heads) (intentions_from c.pool w 0 n) → IsSuppliedBy (maps_in c.heads) (intentions_from (slice_set c.pool slot new) w 0 n)
+    list_supplied w n i stands h =
+        let here = passes_any (is_prepared w) Free (slice_set c.pool slot new) i refl stands in
+        subst (IsSuppliedBy (maps_in c.heads)) (sym (intentions_kept c.pool slot new w (λ k. (quiet w k here).0) (λ k. (quiet w k here).1) 0 n)) h
+
+    supplied_by : (i : ℕ) (r : Record) → record_in (slice_set c.pool slot new) i ≡ r → IsSuppliedIn c.heads c.pool r → IsSuppliedIn c.heads (slice_set c.pool slot new) r
+    supplied_by i Free e h = tt
+    supplied_by i (Intention w t k s) e h = tt
+    supplied_by i (FlagRecord f) e h = tt
+    supplied_by i (Ready head n reads) e h = list_supplied head.work n i (ap (is_prepared head.work) e ∙ grind (arith, work_tells)) h
+    supplied_by i (Going head n reads) e h = list_supplied head.work n i (ap (is_prepared head.work) e ∙ grind (arith, work_tells)) h
+
+    pub supplied_kept : IsSuppliedIn c.heads c.pool new → ((i : ℕ) → IsSuppliedIn c.heads c.pool (record_in c.pool i)) → (i : ℕ) → IsSuppliedIn c.heads (slice_set c.pool slot new) (record_in (slice_set c.pool slot new) i)
+    supplied_kept full before i = supplied_by i (record_in (slice_set c.pool slot new) i) refl (⊎_elim
+        (λ h. subst (IsSuppliedIn c.heads c.pool) (sym h.1) full)
+        (λ h. subst (IsSuppliedIn c.heads c.pool) (sym h.1) (before i))
+        (at_set Free c.pool slot new there i))
+
     -- an intention of a prepared work stood there before
     pub intends_stands : (i : ℕ) (s : StoredIntention) (h : Intends (slice_set c.pool slot new) i s) → record_in c.pool i ≡ Intention h.work h.tid h.order s
     intends_stands i s h = ⊎_elim
@@ -72,8 +92,8 @@ module _ (c : Contents) (slot : ℕ) (new : Record) (there : slot < length c.poo
       -- where no work is new, no address is
       pub addresses_kept : (leaves : ℕ) → AddressesDiffer leaves c → AddressesDiffer leaves (with_record c slot new)
       addresses_kept leaves before = record {
-        heads = λ a i j f g p q x y. before.heads a i j f g p q x y;
-        works = λ a i j s t x y. before.works a i j s t (intends_before i s x) (intends_before j t y);
-        works_fit = λ i s x. before.works_fit i s (intends_before i s x);
-        carried = λ a i j s f p x e y. before.carried a i j s f p (intends_before i s x) e y;
+        heads = before.heads;
+        works = λ d i j p q s t x y. before.works d i j p q s t (intends_before i s x) (intends_before j t y);
+        works_fit = λ d i p s x. before.works_fit d i p s (intends_before i s x);
+        carried = λ d i j p q s x. before.carried d i j p q s (intends_before i s x);
       }

@@ -1,30 +1,29 @@
 -- The put of a ready record leaves what a recovery asks.
-use Rattle.jn_page_state.proofs.Common.{◌≡◌, ◌⊎◌, inl, inr, ⊎_elim, ℕ, suc, ◌<◌, ◌≤◌, Bool, true, false, ◌||◌, List, length, refl, sym, ◌∙◌, ap, subst, true≢false, arith, slice_set, list_any, BlockNo, FileNo, LockUnit, ServerNo, WorkId, work_eq, work_tells, FullIntention, StoredIntention, Record, Free, Intention, Ready, WorkHead, Counts, made_by, AddReady, record_in, is_prepared, is_intention, IsLoadable, Contents, state_in, heads_name, works_name, with_record, IsReadyPut, Intends, Addresses, AddressesDiffer, IsConsistent, is_named, HasAt, AreFresh, IsWholeWork}
+use Rattle.jn_page_state.proofs.Common.{◌≡◌, ◌⊎◌, inl, inr, ⊎_elim, ℕ, suc, ◌<◌, Bool, true, false, ◌||◌, List, length, refl, sym, ◌∙◌, ap, subst, true≢false, arith, slice_set, list_any, LockUnit, WorkId, work_eq, work_tells, FullIntention, StoredIntention, Record, Free, Intention, Ready, WorkHead, Counts, record_in, is_prepared, is_intention, names_address, most_cells, is_layout_of, layout_at, Contents, entry_of, layouts_in, heads_name, works_have, with_record, IsReadyPut, Intends, Addresses, Gives, AddressesDiffer, IsConsistent, names_page, is_named, HasAt, AreFresh, IsWholeWork, or_left, or_right}
 use Rattle.jn_page_state.proofs.Slots.{any_fewer}
-use Rattle.jn_page_state.proofs.Naming.{named_intends, intends_named, addresses_named}
-use Rattle.jn_page_state.proofs.PoolLaws.{ready_law}
-use Rattle.jn_page_state.proofs.PoolKept.{distinct_kept, complete_kept, intends_stands}
+use Rattle.jn_page_state.proofs.Naming.{held_intends, intends_held, gives_address, cell_named, cell_within}
+use Rattle.jn_page_state.proofs.PoolKept.{distinct_kept, complete_kept, supplied_kept, intends_stands}
 
-module _ (c : Contents) (slot : ℕ) (head : WorkHead) (n : ℕ) (list : List FullIntention) (reads : List LockUnit) (put : IsReadyPut c.pool c.blocks slot head n list) where
+module _ (c : Contents) (slot : ℕ) (head : WorkHead) (size : ℕ) (list : List FullIntention) (reads : List LockUnit) (put : IsReadyPut c.pool c.blocks slot head size list) where
   abbrev new : Record
-  new = Ready head n reads
+  new = Ready head size reads
 
   abbrev there : slot < length c.pool
   there = put.slot_free.there
 
-  quiet : (w : WorkId) (k : ℕ) → list_any (is_prepared w) (slice_set c.pool slot (Ready head n reads)) ≡ true → (is_intention w k (record_in c.pool slot) ≡ false) × (is_intention w k (Ready head n reads) ≡ false)
+  quiet : (w : WorkId) (k : ℕ) → list_any (is_prepared w) (slice_set c.pool slot (Ready head size reads)) ≡ true → (is_intention w k (record_in c.pool slot) ≡ false) × (is_intention w k (Ready head size reads) ≡ false)
   quiet w k t = (ap (is_intention w k) put.slot_free.free, refl)
 
-  first_one : (w : WorkId) → is_prepared w (Ready head n reads) ≡ true → (is_prepared w (record_in c.pool slot) ≡ true) ⊎ (list_any (is_prepared w) c.pool ≡ false)
+  first_one : (w : WorkId) → is_prepared w (Ready head size reads) ≡ true → (is_prepared w (record_in c.pool slot) ≡ true) ⊎ (list_any (is_prepared w) c.pool ≡ false)
   first_one w h = inr (subst (λ v. list_any (is_prepared v) c.pool ≡ false) (same h) put.new)
     where
       same : work_eq head.work w ≡ true → head.work ≡ w
       same h = grind (arith, work_tells)
 
   -- an intention of a prepared work was one before, or is the new work's
-  split : (i : ℕ) (s : StoredIntention) → Intends (slice_set c.pool slot (Ready head n reads)) i s → Intends c.pool i s ⊎ HasAt c.pool head.work i s
+  split : (i : ℕ) (s : StoredIntention) → Intends (slice_set c.pool slot (Ready head size reads)) i s → Intends c.pool i s ⊎ HasAt c.pool head.work i s
   split i s h =
-      let stands = intends_stands c slot (Ready head n reads) there quiet i s h in
+      let stands = intends_stands c slot (Ready head size reads) there quiet i s h in
       ⊎_elim
       (λ same. inr (record { tid = h.tid; order = h.order; stands = stands ∙ ap (λ w. Intention w h.tid h.order s) (sym same.1) }))
       (λ other. inl (record {
@@ -32,59 +31,63 @@ module _ (c : Contents) (slot : ℕ) (head : WorkHead) (n : ℕ) (list : List Fu
         tid = h.tid;
         order = h.order;
         stands = stands;
-        prepared = any_fewer Free c.pool slot (Ready head n reads) there (is_prepared h.work) refl (λ t. absurd (true≢false (sym t ∙ other.0))) h.prepared;
+        prepared = any_fewer Free c.pool slot (Ready head size reads) there (is_prepared h.work) refl (λ t. absurd (true≢false (sym t ∙ other.0))) h.prepared;
       }))
       (work_tells head.work h.work)
 
-  named_by_work : (a i : ℕ) (s : StoredIntention) → Intends c.pool i s → s.address ≡ suc a → is_named c a ≡ true
-  named_by_work a i s h e = let t = intends_named c i s (suc a) h e in grind (arith, t)
+  named_by_work : (d i q : ℕ) (s : StoredIntention) → Intends c.pool i s → Gives s d q → is_named c d ≡ true
+  named_by_work d i q s h e = or_right (heads_name most_cells (layouts_in c) (suc d)) (works_have (names_address (suc d)) c.pool) (intends_held (names_address (suc d)) c.pool i s h (gives_address s d q e))
 
-  named_by_head : (a j : ℕ) (f : FileNo) (p : BlockNo) → Addresses c.heads j f p (suc a) → is_named c a ≡ true
-  named_by_head a j f p h = let t = addresses_named c j f p a h in grind (arith, t)
+  named_by_head : (d j q : ℕ) → Addresses (layouts_in c) j q d → is_named c d ≡ true
+  named_by_head d j q h = or_left (heads_name most_cells (layouts_in c) (suc d)) (works_have (names_address (suc d)) c.pool) (cell_named most_cells (layouts_in c) j q d (cell_within (entry_of c.blocks) c.heads j q d h) h)
 
   module _ (leaves : ℕ) (fresh : AreFresh leaves c head.work) (before : AddressesDiffer leaves c) where
-    clash : (a i : ℕ) (s : StoredIntention) → HasAt c.pool head.work i s → s.address ≡ suc a → is_named c a ≡ true → ⊥
-    clash a i s h e t = true≢false (sym t ∙ fresh.unnamed i a s h e)
+    clash : (d i p : ℕ) (s : StoredIntention) → HasAt c.pool head.work i s → Gives s d p → is_named c d ≡ true → ⊥
+    clash d i p s h e t = true≢false (sym t ∙ fresh.unnamed d i p s h e)
 
-    works_differ : (a i j : ℕ) (s t : StoredIntention) → (Intends c.pool i s ⊎ HasAt c.pool head.work i s) → (Intends c.pool j t ⊎ HasAt c.pool head.work j t) → s.address ≡ suc a → t.address ≡ suc a → i ≡ j
-    works_differ a i j s t (inl x) (inl y) d e = before.works a i j s t x y d e
-    works_differ a i j s t (inl x) (inr y) d e = absurd (clash a j t y e (named_by_work a i s x d))
-    works_differ a i j s t (inr x) (inl y) d e = absurd (clash a i s x d (named_by_work a j t y e))
-    works_differ a i j s t (inr x) (inr y) d e = fresh.differ i j a s t x y d e
+    works_differ : (d i j p q : ℕ) (s t : StoredIntention) → (Intends c.pool i s ⊎ HasAt c.pool head.work i s) → (Intends c.pool j t ⊎ HasAt c.pool head.work j t) → Gives s d p → Gives t d q → (i ≡ j) × (p ≡ q)
+    works_differ d i j p q s t (inl x) (inl y) a b = before.works d i j p q s t x y a b
+    works_differ d i j p q s t (inl x) (inr y) a b = absurd (clash d j q t y b (named_by_work d i p s x a))
+    works_differ d i j p q s t (inr x) (inl y) a b = absurd (clash d i p s x a (named_by_work d j q t y b))
+    works_differ d i j p q s t (inr x) (inr y) a b = fresh.differ d i j p q s t x y a b
 
-    works_fit : (i : ℕ) (s : StoredIntention) → (Intends c.pool i s ⊎ HasAt c.pool head.work i s) → s.address ≤ leaves
-    works_fit i s (inl x) = before.works_fit i s x
-    works_fit i s (inr x) = fresh.fit i s x
+    works_fit : (d i p : ℕ) (s : StoredIntention) → (Intends c.pool i s ⊎ HasAt c.pool head.work i s) → Gives s d p → d < leaves
+    works_fit d i p s (inl x) a = before.works_fit d i p s x a
+    works_fit d i p s (inr x) a = fresh.fit d i p s x a
 
-    carried : (a i j : ℕ) (s : StoredIntention) (f : FileNo) (p : BlockNo) → (Intends c.pool i s ⊎ HasAt c.pool head.work i s) → s.address ≡ suc a → Addresses c.heads j f p (suc a) → (f ≡ s.file) × (p ≡ s.block)
-    carried a i j s f p (inl x) e y = before.carried a i j s f p x e y
-    carried a i j s f p (inr x) e y = absurd (clash a i s x e (named_by_head a j f p y))
+    carried : (d i j p q : ℕ) (s : StoredIntention) → (Intends c.pool i s ⊎ HasAt c.pool head.work i s) → Gives s d p → Addresses (layouts_in c) j q d → (is_layout_of s.file (layout_at (layouts_in c) j) ≡ true) × (q ≡ p)
+    carried d i j p q s (inl x) a y = before.carried d i j p q s x a y
+    carried d i j p q s (inr x) a y = absurd (clash d i p s x a (named_by_head d j q y))
 
-    addresses_after : AddressesDiffer leaves (with_record c slot (Ready head n reads))
+    addresses_after : AddressesDiffer leaves (with_record c slot (Ready head size reads))
     addresses_after = record {
-      heads = λ a i j f g p q x y. before.heads a i j f g p q x y;
-      works = λ a i j s t x y. works_differ a i j s t (split i s x) (split j t y);
-      works_fit = λ i s x. works_fit i s (split i s x);
-      carried = λ a i j s f p x e y. carried a i j s f p (split i s x) e y;
+      heads = before.heads;
+      works = λ d i j p q s t x y. works_differ d i j p q s t (split i s x) (split j t y);
+      works_fit = λ d i p s x. works_fit d i p s (split i s x);
+      carried = λ d i j p q s x. carried d i j p q s (split i s x);
     }
 
-  pub ready_consistent : (server : ServerNo) (g : Counts) → IsWholeWork g.leaves c head.work n → IsLoadable server g.heads (made_by (AddReady head list reads) (state_in c))
-      → IsConsistent server g c → IsConsistent server g (with_record c slot (Ready head n reads))
-  ready_consistent server g whole loadable before = record {
-    distinct = distinct_kept c slot (Ready head n reads) there first_one (λ t h. absurd (true≢false (sym h))) before.distinct;
-    complete = complete_kept c slot (Ready head n reads) there quiet whole.intentions before.complete;
+  pub ready_consistent : (g : Counts) → IsWholeWork g.leaves c head.work size → IsConsistent g c → IsConsistent g (with_record c slot (Ready head size reads))
+  ready_consistent g whole before = record {
+    distinct = distinct_kept c slot (Ready head size reads) there first_one (λ t h. absurd (true≢false (sym h))) before.distinct;
+    complete = complete_kept c slot (Ready head size reads) there quiet whole.intentions before.complete;
+    supplied = supplied_kept c slot (Ready head size reads) there quiet whole.supplied before.supplied;
     addresses = addresses_after g.leaves whole.fresh before.addresses;
-    loadable = subst (IsLoadable server g.heads) (sym (ready_law c slot put.slot_free head n list reads put)) loadable;
   }
 
   -- the new work comes to name its own data pages alone
-  pub ready_named : (d : ℕ) → is_named (with_record c slot (Ready head n reads)) d ≡ true → (is_named c d ≡ true) ⊎ ((i : ℕ) × (s : StoredIntention) × HasAt c.pool head.work i s × (s.address ≡ suc d))
-  ready_named d named = by (heads_name c.heads (suc d)) refl named
+  pub ready_named : (n : ℕ) (test : ℕ → StoredIntention → Bool) (d : ℕ) → names_page n test (layouts_in c) (slice_set c.pool slot (Ready head size reads)) d ≡ true
+      → (names_page n test (layouts_in c) c.pool d ≡ true) ⊎ ((i : ℕ) × (s : StoredIntention) × HasAt c.pool head.work i s × (test (suc d) s ≡ true))
+  ready_named n test d named = by (heads_name n (layouts_in c) (suc d)) refl named
     where
-      later : works_name (slice_set c.pool slot (Ready head n reads)) (suc d) ≡ true → (is_named c d ≡ true) ⊎ ((i : ℕ) × (s : StoredIntention) × HasAt c.pool head.work i s × (s.address ≡ suc d))
-      later t = let h = named_intends (with_record c slot (Ready head n reads)) (suc d) t in ⊎_elim (λ x. inl (named_by_work d h.0 h.1 x h.3)) (λ x. inr (h.0, h.1, x, h.3)) (split h.0 h.1 h.2)
+      here : works_have (test (suc d)) c.pool ≡ true → names_page n test (layouts_in c) c.pool d ≡ true
+      here t = or_right (heads_name n (layouts_in c) (suc d)) (works_have (test (suc d)) c.pool) t
 
-      by : (b : Bool) → heads_name c.heads (suc d) ≡ b → (b || works_name (slice_set c.pool slot (Ready head n reads)) (suc d)) ≡ true
-          → (is_named c d ≡ true) ⊎ ((i : ℕ) × (s : StoredIntention) × HasAt c.pool head.work i s × (s.address ≡ suc d))
-      by true e t = inl (ap (λ b. b || works_name c.pool (suc d)) e)
+      later : works_have (test (suc d)) (slice_set c.pool slot (Ready head size reads)) ≡ true → (names_page n test (layouts_in c) c.pool d ≡ true) ⊎ ((i : ℕ) × (s : StoredIntention) × HasAt c.pool head.work i s × (test (suc d) s ≡ true))
+      later t = let h = held_intends (test (suc d)) (slice_set c.pool slot (Ready head size reads)) t in
+          ⊎_elim (λ x. inl (here (intends_held (test (suc d)) c.pool h.0 h.1 x h.3))) (λ x. inr (h.0, h.1, x, h.3)) (split h.0 h.1 h.2)
+
+      by : (b : Bool) → heads_name n (layouts_in c) (suc d) ≡ b → (b || works_have (test (suc d)) (slice_set c.pool slot (Ready head size reads))) ≡ true
+          → (names_page n test (layouts_in c) c.pool d ≡ true) ⊎ ((i : ℕ) × (s : StoredIntention) × HasAt c.pool head.work i s × (test (suc d) s ≡ true))
+      by true e t = inl (or_left (heads_name n (layouts_in c) (suc d)) (works_have (test (suc d)) c.pool) e)
       by false e t = later t

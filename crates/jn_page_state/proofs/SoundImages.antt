@@ -1,24 +1,12 @@
 -- A store of a sound image is one from which a recovery may begin.
-use Rattle.jn_page_state.proofs.Common.{most_blocks, ◌≡◌, ⊎_elim, ◌<◌, ◌≤◌, ◌+◌, ℕ, zero, suc, Bool, true, false, if◌then◌else◌, List, [], length, Option, Some, None, get_or, refl, sym, ap, subst, ◌∙◌, true≢false, arith, nat_lt, is_some, drop, cases_lt, nat_tests, get_or_past, BlockNo, FileNo, ServerNo, Tid, WorkId, file_eq, Head, FreeHead, Used, StoredIntention, Free, Intention, head_page, IsHead, FileFits, root_page, Image, IsSound, Names, Counts, Pages, page_count, slot_place, head_place, data_place, is_used, file_in, address_in, head_is_read, record_is_read, Pick, record_in, is_prepared, is_flag, IsLoadable, StoreView, IsOnly, Contents, head_in, is_head_of, address_at, state_in, works_in, flags_in, flag_by, prepared_by, CountsFit, IsStoreOf, listed, record_or_free, head_or_free, record_on, head_on, pool_on, heads_on, contents_of, pages_by, half_of, root_by, IsOfFormat, PassesOnce, IsCompleteBy, Intends, Addresses, AddressesDiffer, IsConsistent, IsRecoverable}
+use Rattle.jn_page_state.proofs.Common.{if◌then◌else◌, ◌≡◌, ⊎_elim, ◌<◌, ◌≤◌, ◌+◌, ℕ, suc, Bool, true, false, [], length, Option, Some, None, refl, sym, ap, subst, ◌∙◌, true≢false, arith, nat_eq, nat_lt, is_some, drop, cases_lt, nat_tests, get_or_past, FileNo, ServerNo, Tid, WorkId, StoredIntention, Free, Intention, root_page, Image, IsSound, page_count, slot_place, head_place, data_place, is_used, file_in, address_in, map_in, entry_in, IsWholeMap, IsMapPage, record_is_read, Pick, record_in, is_prepared, is_flag, IsLoadable, StoreView, IsOnly, Contents, entry_of, layouts_in, layout_at, layout_by, is_layout_of, map_cell, state_in, works_in, flags_in, flag_by, prepared_by, CountsFit, IsStoreOf, record_or_free, record_on, pool_on, head_on, heads_on, block_on, contents_of, state_of, pages_by, half_of, root_by, IsOfFormat, IsHeadPage, PassesOnce, IsCompleteBy, IsSuppliedIn, Intends, Addresses, AddressesDiffer, IsConsistent, IsRecoverable, length-map, Spot, InHead, AsMap, InMap, IsWrittenAt, AddressesOnce}
+use Rattle.jn_page_state.proofs.FilesOnPages.{loadable_found}
 use Rattle.jn_page_state.proofs.Found.{none_found}
-use Rattle.jn_page_state.proofs.HeadPages.{used_kind, used_file, used_address, whole}
-use Rattle.jn_page_state.proofs.HeadKept.{one_file}
 use Rattle.jn_page_state.proofs.Images.{listed_files, files_listing}
+use Rattle.jn_page_state.proofs.Laying.{entry_cell}
 use Rattle.jn_page_state.proofs.PageChanges.{length-listed}
-
-pub listed_get : {A : Type 0} (d : A) (f : ℕ → A) (i n k : ℕ) → k < n → get_or (listed f i n) k d ≡ f (i + k)
-listed_get d f i zero k below = absurd (omega (arith, below))
-listed_get d f i (suc n) zero below = ap f (start i)
-  where
-    start : (i : ℕ) → i ≡ i + 0
-    start i = omega arith
-listed_get d f i (suc n) (suc k) below = listed_get d f (suc i) n k (omega (arith, below)) ∙ ap f (next i k)
-  where
-    next : (i k : ℕ) → suc i + k ≡ i + suc k
-    next i k = omega arith
-
-abbrev numbered : ℕ → BlockNo
-numbered k = record { 0 = k }
+use Rattle.jn_page_state.proofs.MapPages.{listed_at}
+use Rattle.jn_page_state.proofs.Spots.{Cell, HeadCell, EntryCell, MapCell, cell_stands, file_stands, map_fits, names_same}
 
 -- ---- without records
 
@@ -39,8 +27,8 @@ module _ (c : Contents) (free : (i : ℕ) → record_in c.pool i ≡ Free) where
   some : {A : Type 0} (o : Option A) (x : A) → o ≡ Some x → is_some o ≡ true
   some o x e = ap (λ q. is_some q) e
 
-  pub free_loadable : (server : ServerNo) (heads : ℕ) → ((f : FileNo) → PassesOnce (λ i. is_head_of f (head_in c.heads i))) → length c.heads ≤ heads → IsLoadable server heads (state_in c)
-  free_loadable server heads once few = let files = files_listing c.heads once in record {
+  pub free_loadable : (server : ServerNo) (heads : ℕ) → ((f : FileNo) → PassesOnce (λ i. is_layout_of f (layout_at (layouts_in c) i))) → length c.heads ≤ heads → IsLoadable server heads (state_in c)
+  free_loadable server heads once few = let files = files_listing (layouts_in c) once in record {
     orderly = record {
       works_few = record { keys = []; listing = record { different = refl; all = λ w. sym (ap (λ o. is_some o) (no_works w)) }; few = omega arith };
       flags_few = record { keys = []; listing = record { different = refl; all = λ t. sym (ap (λ o. is_some o) (no_flags t)) }; few = omega arith };
@@ -50,21 +38,63 @@ module _ (c : Contents) (free : (i : ℕ) → record_in c.pool i ≡ Free) where
       apart = λ v w p q ne a b. absurd (clash (works_in c.pool c.blocks v) (no_works v) (some (works_in c.pool c.blocks v) p a));
     };
     works = [];
-    files = listed_files c.heads;
+    files = listed_files (layouts_in c);
     works_all = record { different = refl; all = λ w. sym (ap (λ o. is_some o) (no_works w)) };
     files_all = files.0;
-    fits = let few_files = files.1 in omega (arith, few, few_files);
+    fits = let few_files = files.1 in let size : length (layouts_in c) ≡ length c.heads = length-map c.heads (layout_by (entry_of c.blocks)) in omega (arith, few, few_files, size);
   }
+
+-- ---- the cells of an image
+
+-- where the address of a cell is written: for an entry of a map page, also where the map page's own is
+data IsAt (m : Image) (i q a : ℕ) : Type 0 where
+  AtHead : IsWrittenAt m (suc a) (InHead i q) → IsAt m i q a
+  AtMap : (j : ℕ) → q ≡ map_cell j → IsWrittenAt m (suc a) (AsMap i j) → IsAt m i q a
+  AtEntry : (j d k : ℕ) → q ≡ entry_cell j k → IsWrittenAt m (suc d) (AsMap i j) → IsWrittenAt m (suc a) (InMap d k) → IsAt m i q a
+
+abbrev kind : Spot → ℕ
+kind (InHead i k) = 0
+kind (AsMap i j) = 1
+kind (InMap d k) = 2
+
+abbrev row : Spot → ℕ
+row (InHead i k) = i
+row (AsMap i j) = i
+row (InMap d k) = d
+
+abbrev column : Spot → ℕ
+column (InHead i k) = k
+column (AsMap i j) = j
+column (InMap d k) = k
+
+one_kind : (x y : Spot) → x ≡ y → nat_eq (kind x) (kind y) ≡ true
+one_kind x y e = ap (λ z. nat_eq (kind x) (kind z)) (sym e) ∙ grind (arith, nat_tests)
+
+-- so each cell has its own
+module _ (m : Image) (once : (a : ℕ) → AddressesOnce m a) where
+  one_spot : (a : ℕ) (x y : Spot) → IsWrittenAt m (suc a) x → IsWrittenAt m (suc a) y → x ≡ y
+  one_spot a x y u w = once (suc a) (omega arith) x y u w
+
+  apart : (a : ℕ) (x y : Spot) → nat_eq (kind x) (kind y) ≡ false → IsWrittenAt m (suc a) x → IsWrittenAt m (suc a) y → ⊥
+  apart a x y ne u w = true≢false (sym (one_kind x y (one_spot a x y u w)) ∙ ne)
+
+  one_cell : (a i j p q : ℕ) → IsAt m i p a → IsAt m j q a → (i ≡ j) × (p ≡ q)
+  one_cell a i j p q (AtHead u) (AtHead w) = let e = one_spot a (InHead i p) (InHead j q) u w in (ap row e, ap column e)
+  one_cell a i j p q (AtHead u) (AtMap l is w) = absurd (apart a (InHead i p) (AsMap j l) refl u w)
+  one_cell a i j p q (AtHead u) (AtEntry l d k is s w) = absurd (apart a (InHead i p) (InMap d k) refl u w)
+  one_cell a i j p q (AtMap h is u) (AtHead w) = absurd (apart a (AsMap i h) (InHead j q) refl u w)
+  one_cell a i j p q (AtMap h is u) (AtMap l at w) = let e = one_spot a (AsMap i h) (AsMap j l) u w in (ap row e, is ∙ ap map_cell (ap column e) ∙ sym at)
+  one_cell a i j p q (AtMap h is u) (AtEntry l d k at s w) = absurd (apart a (AsMap i h) (InMap d k) refl u w)
+  one_cell a i j p q (AtEntry h b c is r u) (AtHead w) = absurd (apart a (InMap b c) (InHead j q) refl u w)
+  one_cell a i j p q (AtEntry h b c is r u) (AtMap l at w) = absurd (apart a (InMap b c) (AsMap j l) refl u w)
+  one_cell a i j p q (AtEntry h b c is r u) (AtEntry l d k at s w) =
+      let e = one_spot a (InMap b c) (InMap d k) u w in
+      let f = one_spot b (AsMap i h) (AsMap j l) r (subst (λ x. IsWrittenAt m (suc x) (AsMap j l)) (sym (ap row e)) s) in
+      (ap row f, is ∙ ap (λ x. entry_cell x c) (ap column f) ∙ ap (λ x. entry_cell l x) (ap column e) ∙ sym at)
 
 -- ---- the image
 
 module _ (s : ServerNo) (m : Image) (sound : IsSound s m) (fit : CountsFit s m.counts) (v : StoreView) (store : IsStoreOf m v) (c : Pick) where
-  abbrev g : Counts
-  g = m.counts
-
-  abbrev P : Pages
-  P = pages_by v c
-
   one_half : (k : ℕ) (b : Bool) → IsOnly v k (m.bytes k) → (if b then v.second k else v.first k) ≡ m.bytes k
   one_half k true only = only.second
   one_half k false only = only.first
@@ -77,6 +107,18 @@ module _ (s : ServerNo) (m : Image) (sound : IsSound s m) (fit : CountsFit s m.c
       inside : (a b : ℕ) → a < b → nat_lt a b ≡ true
       inside a b h = grind (arith, nat_tests)
 
+  head_at : (i : ℕ) → i < m.counts.heads → pages_by v c (head_place m.counts i) ≡ m.bytes (head_place m.counts i)
+  head_at i lt = page_at (head_place m.counts i) (omega (arith, lt))
+
+  data_at : (d : ℕ) → d < m.counts.leaves → pages_by v c (data_place m.counts d) ≡ m.bytes (data_place m.counts d)
+  data_at d lt = page_at (data_place m.counts d) (omega (arith, lt))
+
+  heads_format : (i : ℕ) → i < m.counts.heads → IsHeadPage m.counts.leaves (pages_by v c (head_place m.counts i))
+  heads_format i lt = let h = sound.heads i lt in (h.0, h.1, h.2, head_at i lt ∙ h.4)
+
+  maps_whole : (d : ℕ) → IsWholeMap m.counts (pages_by v c) d
+  maps_whole d lt named = subst (IsMapPage m.counts.leaves) (sym (data_at d lt)) (sound.maps d lt (names_same m.counts (pages_by v c) m.bytes head_at d named))
+
   pub image_format : IsOfFormat s m.counts (pages_by v c)
   image_format = record {
     root = (
@@ -86,13 +128,14 @@ module _ (s : ServerNo) (m : Image) (sound : IsSound s m) (fit : CountsFit s m.c
       page_at 0 (omega arith) ∙ sound.root.2 ∙ ap (λ q. root_page (record (root_by q m.counts sound.root.0) { version = m.version })) sound.server,
     );
     pool = λ i lt. (Free, record { whole = refl; fits = tt }, page_at (slot_place m.counts i) (omega (arith, lt)) ∙ sound.pool i lt);
-    heads = λ i lt. let h = sound.heads i lt in (h.0, h.1, h.2, page_at (head_place m.counts i) (omega (arith, lt)) ∙ h.3);
-    data_pages = λ d lt. ap (drop 448) (page_at (data_place m.counts d) (omega (arith, lt))) ∙ sound.tails d lt;
+    heads = heads_format;
+    data_pages = λ d lt. ap (drop 448) (data_at d lt) ∙ sound.tails d lt;
+    maps = maps_whole;
   }
 
   pub all_free : (i : ℕ) → record_in (pool_on m.counts (pages_by v c)) i ≡ Free
   all_free i = ⊎_elim
-      (λ lt. listed_get Free (record_on m.counts (pages_by v c)) 0 m.counts.pool i lt
+      (λ lt. listed_at (record_on m.counts (pages_by v c)) Free 0 m.counts.pool i lt
       ∙ ap (λ k. record_on m.counts (pages_by v c) k) (start i)
       ∙ ap record_or_free (record_is_read (pages_by v c (slot_place m.counts i)) Free refl tt (page_at (slot_place m.counts i) (omega (arith, lt)) ∙ sound.pool i lt)))
       (λ past. get_or_past (pool_on m.counts (pages_by v c)) i Free (let l = length-listed (record_on m.counts (pages_by v c)) 0 m.counts.pool in omega (arith, past, l)))
@@ -101,52 +144,31 @@ module _ (s : ServerNo) (m : Image) (sound : IsSound s m) (fit : CountsFit s m.c
       start : (i : ℕ) → 0 + i ≡ i
       start i = omega arith
 
-  -- a used head: its place, its page and what stands there
-  head_stands : (i : ℕ) (lt : i < m.counts.heads) → head_in (heads_on m.counts (pages_by v c)) i ≡ (sound.heads i lt).0
-  head_stands i lt = let h = sound.heads i lt in
-      listed_get FreeHead (head_on m.counts (pages_by v c)) 0 m.counts.heads i lt
-      ∙ ap (λ k. head_on m.counts (pages_by v c) k) (start i)
-      ∙ ap head_or_free (head_is_read m.counts.leaves (pages_by v c (head_place m.counts i)) h.0 fit.leaves h.1 h.2 (page_at (head_place m.counts i) (omega (arith, lt)) ∙ h.3))
+  -- the head of a file, on the image
+  record HeadFacts (i : ℕ) (f : FileNo) : Type 0 where
+    below : i < m.counts.heads
+    used : is_used (m.bytes (head_place m.counts i)) ≡ true
+    file : file_in (m.bytes (head_place m.counts i)) ≡ f.0
+
+  facts : (i : ℕ) (f : FileNo) → is_layout_of f (layout_at (layouts_in (contents_of m.counts (pages_by v c))) i) ≡ true → HeadFacts i f
+  facts i f t = let at = file_stands m.counts (pages_by v c) fit.leaves heads_format (entry_of (block_on m.counts (pages_by v c))) i f t in
+      record { below = at.0; used = ap is_used (sym (head_at i at.0)) ∙ at.1; file = ap file_in (sym (head_at i at.0)) ∙ at.2 }
+
+  files_once : (f : FileNo) → PassesOnce (λ i. is_layout_of f (layout_at (layouts_in (contents_of m.counts (pages_by v c))) i))
+  files_once f i j a b = let x = facts i f a in let y = facts j f b in sound.files f.0 i j x.below y.below (sound.heads i x.below) (sound.heads j y.below) x.used x.file y.used y.file
+
+  -- a cell with an address, on the image
+  written : (i q a : ℕ) → Addresses (layouts_in (contents_of m.counts (pages_by v c))) i q a → IsAt m i q a
+  written i q a t = let at = cell_stands m.counts (pages_by v c) fit.leaves heads_format i q a t in by at.0 at.1 (ap is_used (sym (head_at i at.0)) ∙ at.1) at.2
     where
-      start : (i : ℕ) → 0 + i ≡ i
-      start i = omega arith
-
-  -- what stands on the page of a file's head
-  record HeadFacts (bytes : List ℕ) (f : FileNo) (h : Head) : Type 0 where
-    used : is_used bytes ≡ true
-    file : file_in bytes ≡ f.0
-    address : (p : BlockNo) (a : ℕ) → address_at h p ≡ suc a → (p.0 < most_blocks) × (address_in bytes p.0 ≡ suc a)
-
-  facts_by : (bytes : List ℕ) (f : FileNo) (h : Head) → IsHead m.counts.leaves h → FileFits h → bytes ≡ head_page h → is_head_of f h ≡ true → HeadFacts bytes f h
-  facts_by bytes f FreeHead is fits e t = absurd (true≢false (sym t))
-  facts_by bytes f (Used k xs maps) is fits e t = record {
-    used = used_kind m.counts.leaves bytes fit.leaves k xs maps is fits e;
-    file = used_file m.counts.leaves bytes fit.leaves k xs maps is fits e ∙ same t;
-    address = λ p a at. ⊎_elim
-        (λ lt. (lt, used_address m.counts.leaves bytes fit.leaves k xs maps is fits e p.0 lt ∙ at))
-        (λ past. let long = whole m.counts.leaves bytes fit.leaves k xs maps is fits e in let none = get_or_past xs p.0 0 (omega (arith, past, long)) in absurd (zero_is a (sym none ∙ at)))
-        (cases_lt p.0 most_blocks);
-  }
-    where
-      same : file_eq k f ≡ true → k.0 ≡ f.0
-      same t = grind (arith, nat_tests)
-
-      zero_is : (a : ℕ) → 0 ≡ suc a → ⊥
-      zero_is a e = omega (arith, e)
-
-  facts : (i : ℕ) (f : FileNo) → is_head_of f (head_in (heads_on m.counts (pages_by v c)) i) ≡ true → (i < m.counts.heads) × HeadFacts (m.bytes (head_place m.counts i)) f (head_in (heads_on m.counts (pages_by v c)) i)
-  facts i f t = ⊎_elim
-      (λ lt. let h = sound.heads i lt in let on = head_stands i lt in
-      (lt, subst (HeadFacts (m.bytes (head_place m.counts i)) f) (sym on) (facts_by (m.bytes (head_place m.counts i)) f h.0 h.1 h.2 h.3 (ap (is_head_of f) (sym on) ∙ t))))
-      (λ past. let none = get_or_past (heads_on m.counts (pages_by v c)) i FreeHead (let l = length-listed (head_on m.counts (pages_by v c)) 0 m.counts.heads in omega (arith, past, l)) in
-      absurd (true≢false (sym t ∙ ap (is_head_of f) none)))
-      (cases_lt i m.counts.heads)
-
-  files_once : (f : FileNo) → PassesOnce (λ i. is_head_of f (head_in (heads_on m.counts (pages_by v c)) i))
-  files_once f i j a b = let x = facts i f a in let y = facts j f b in sound.files f.0 i j x.0 y.0 (sound.heads i x.0) (sound.heads j y.0) x.1.used x.1.file y.1.used y.1.file
-
-  names : (a i : ℕ) (f : FileNo) (p : BlockNo) → Addresses (heads_on m.counts (pages_by v c)) i f p (suc a) → Names m (suc a) i p.0
-  names a i f p h = let x = facts i f h.head in let at = x.1.address p a h.address in record { head = x.0; block = at.0; used = x.1.used; address = at.1 }
+      by : i < m.counts.heads → is_used (pages_by v c (head_place m.counts i)) ≡ true → is_used (m.bytes (head_place m.counts i)) ≡ true → Cell m.counts (pages_by v c) i q (suc a) → IsAt m i q a
+      by lt there used (HeadCell low at) = AtHead (record { head = lt; used = used; below = low }, ap (λ page. address_in page q) (sym (head_at i lt)) ∙ at)
+      by lt there used (MapCell j low is_at at) = AtMap j is_at (record { head = lt; used = used; below = low }, ap (λ page. map_in page j) (sym (head_at i lt)) ∙ at)
+      by lt there used (EntryCell j d k low below is_at names at) =
+          let fits = map_fits m.counts (pages_by v c) fit.leaves heads_format i j d lt there low names in
+          let named = ap (λ page. map_in page j) (sym (head_at i lt)) ∙ names in
+          AtEntry j d k is_at (record { head = lt; used = used; below = low }, named)
+          (fits, record { head = i; at = j; is_head = lt; used = used; below = low; names = named }, below, ap (λ page. entry_in page k) (sym (data_at d fits)) ∙ at)
 
   no_intention : (i : ℕ) (t : StoredIntention) → Intends (pool_on m.counts (pages_by v c)) i t → ⊥
   no_intention i t h = other (sym (all_free i) ∙ h.stands)
@@ -156,17 +178,13 @@ module _ (s : ServerNo) (m : Image) (sound : IsSound s m) (fit : CountsFit s m.c
 
   image_addresses : AddressesDiffer m.counts.leaves (contents_of m.counts (pages_by v c))
   image_addresses = record {
-    heads = λ a i j f k p q x y. let same = sound.addresses (suc a) (omega arith) i j p.0 q.0 (names a i f p x) (names a j k q y) in
-        (one_file f k (head_in (heads_on m.counts (pages_by v c)) i) x.head (subst (λ n. is_head_of k (head_in (heads_on m.counts (pages_by v c)) n) ≡ true) (sym same.0) y.head), same_block p q same.1);
-    works = λ a i j t u x y. absurd (no_intention i t x);
-    works_fit = λ i t x. absurd (no_intention i t x);
-    carried = λ a i j t f p x e y. absurd (no_intention i t x);
+    heads = λ d i j p q x y. one_cell m sound.addresses d i j p q (written i p d x) (written j q d y);
+    works = λ d i j p q t u x y a b. absurd (no_intention i t x);
+    works_fit = λ d i p t x a. absurd (no_intention i t x);
+    carried = λ d i j p q t x a y. absurd (no_intention i t x);
   }
-    where
-      same_block : (p q : BlockNo) → p.0 ≡ q.0 → p ≡ q
-      same_block p q e = ap numbered e
 
-  image_consistent : IsConsistent s m.counts (contents_of m.counts (pages_by v c))
+  image_consistent : IsConsistent m.counts (contents_of m.counts (pages_by v c))
   image_consistent = record {
     distinct = record {
       works = λ w i j a b. absurd (true≢false (sym a ∙ ap (is_prepared w) (all_free i)));
@@ -174,13 +192,17 @@ module _ (s : ServerNo) (m : Image) (sound : IsSound s m) (fit : CountsFit s m.c
       files = files_once;
     };
     complete = λ i. subst (IsCompleteBy (pool_on m.counts (pages_by v c))) (sym (all_free i)) tt;
+    supplied = λ i. subst (IsSuppliedIn (heads_on m.counts (pages_by v c)) (pool_on m.counts (pages_by v c))) (sym (all_free i)) tt;
     addresses = image_addresses;
-    loadable = free_loadable (contents_of m.counts (pages_by v c)) all_free s m.counts.heads files_once (let l = length-listed (head_on m.counts (pages_by v c)) 0 m.counts.heads in omega (arith, l));
   }
+
+  image_loadable : IsLoadable s m.counts.heads (state_of m.counts (pages_by v c))
+  image_loadable = loadable_found s m.counts (pages_by v c) image_format
+      (free_loadable (contents_of m.counts (pages_by v c)) all_free s m.counts.heads files_once (let l = length-listed (head_on m.counts (pages_by v c)) 0 m.counts.heads in omega (arith, l)))
 
 pub image_recoverable : (s : ServerNo) (m : Image) (v : StoreView) → IsSound s m → CountsFit s m.counts → IsStoreOf m v → IsRecoverable s m.counts v
 image_recoverable s m v sound fit store = record {
   count = store.count;
-  each = λ c. record { of_format = image_format s m sound fit v store c; consistent = image_consistent s m sound fit v store c };
+  each = λ c. record { of_format = image_format s m sound fit v store c; consistent = image_consistent s m sound fit v store c; loadable = image_loadable s m sound fit v store c };
   clean = λ c d lt named. let only = store.pages (data_place m.counts d) (omega (arith, lt)) in only.first ∙ sym only.second;
 }

@@ -1,15 +1,13 @@
 -- One put of a page, as a change of what the pages say, and when it is a change of the stable state.
-use Rattle.std.specs.Prelude.{◌≡◌, ℕ, ◌<◌, Bool, true, false, ◌||◌, nat_eq, nat_le, if◌then◌else◌, List, length, slice_set}
+use Rattle.std.specs.Prelude.{◌≡◌, ℕ, ◌<◌, Bool, true, false, ◌&&◌, ◌||◌, nat_eq, nat_le, if◌then◌else◌, List, length, slice_set}
 use Rattle.std.specs.List.{list_any}
-use Rattle.jn_base.specs.declared.names.BlockNo.{BlockNo}
 use Rattle.jn_base.specs.declared.names.FileNo.{FileNo}
 use Rattle.jn_base.specs.declared.names.LockUnit.{LockUnit}
 use Rattle.jn_base.specs.declared.names.Tid.{Tid}
 use Rattle.jn_base.specs.declared.names.WorkId.{WorkId}
-use Rattle.jn_base.specs.Names.{block_eq}
+use Rattle.jn_base.specs.Limits.{most_blocks, most_maps}
 use Rattle.jn_records.specs.declared.flag.Flag.{Flag}
 use Rattle.jn_records.specs.declared.head.Head.{Head}
-use Rattle.jn_records.specs.declared.head.Head.TheVariants.{Free as FreeHead, Used}
 use Rattle.jn_records.specs.declared.intention.Intention.{Intention}
 use Rattle.jn_records.specs.declared.intention.StoredIntention.{StoredIntention}
 use Rattle.jn_records.specs.declared.intention.What.{What}
@@ -18,9 +16,11 @@ use Rattle.jn_records.specs.declared.record.Record.{Record}
 use Rattle.jn_records.specs.declared.record.Record.TheVariants.{Free, Ready}
 use Rattle.jn_records.specs.declared.work.WorkHead.{WorkHead}
 use Rattle.jn_records.specs.Intentions.{intention_has_page}
+use Rattle.jn_records.specs.Layouts.{Layout, Unused, Of, at_cell, map_cell, layout_at, is_layout_of, IsPartCut}
+use Rattle.jn_records.specs.MapPlaces.{is_in_range, keeps_map}
 use Rattle.jn_sets.specs.Pool.{record_in, is_free, is_prepared, is_flag, is_rubbish}
-use Rattle.jn_page_state.specs.Contents.{Contents, full_list, head_in, is_head_of, address_at}
-use Rattle.jn_page_state.specs.Recoverable.{PassesOnce}
+use Rattle.jn_page_state.specs.Contents.{Contents, full_list, layouts_in}
+use Rattle.jn_page_state.specs.Recoverable.{PassesOnce, names_block}
 
 -- ---- a record's page is put
 
@@ -71,42 +71,63 @@ pub record IsFlagSlot (pool : List Record) (slot : ℕ) (t : Tid) : Type 0 where
   pub stands : is_flag t (record_in pool slot) ≡ true
   pub once : PassesOnce (λ i. is_flag t (record_in pool i))
 
--- ---- a head's page is put
+-- ---- an intention is carried out
 
 abbrev pub with_head : Contents → ℕ → Head → Contents
 with_head c place new = record c { heads = slice_set c.heads place new }
 
--- the address of a block where an intention is carried out
-abbrev pub address_after : What → BlockNo → ℕ → BlockNo → ℕ → ℕ
-address_after Put block a p old = if block_eq block p then a else old
-address_after Cut block a p old = if nat_le block.0 p.0 then 0 else old
-address_after _ block a p old = 0
+-- the address of block p where an intention at block n, with data page a, is carried out
+abbrev pub address_after : What → ℕ → ℕ → ℕ → ℕ → ℕ
+address_after Put n a p old = if nat_eq n p then a else old
+address_after Cut n a p old = if nat_le n p then 0 else old
+address_after _ n a p old = 0
 
--- a head that an intention may be carried out at: that of its file, and for a fresh file also a free one
-abbrev pub serves_for : What → FileNo → Head → Bool
-serves_for Fresh f FreeHead = true
-serves_for what f h = is_head_of f h
+-- and that of map page j: the intention's own comes where there is none
+abbrev pub map_after : What → ℕ → ℕ → ℕ → ℕ → ℕ
+map_after Put n m j old = if is_in_range j n && nat_eq old 0 then m else old
+map_after Cut n m j old = if keeps_map n j then old else 0
+map_after _ n m j old = 0
+
+-- a layout that an intention may be carried out at: that of its file, and for a fresh file also an unused one
+abbrev pub serves_for : What → FileNo → Layout → Bool
+serves_for Fresh f Unused = true
+serves_for what f h = is_layout_of f h
 
 -- and what it is then
-abbrev pub is_head_after : What → FileNo → Head → Bool
-is_head_after Gone f FreeHead = true
-is_head_after Gone f (Used g addresses maps) = false
-is_head_after what f h = is_head_of f h
+abbrev pub is_head_after : What → FileNo → Layout → Bool
+is_head_after Gone f Unused = true
+is_head_after Gone f (Of g cells) = false
+is_head_after what f h = is_layout_of f h
 
 -- an intention is carried out at a place of the heads
-pub record IsHeadPut (heads : List Head) (i : StoredIntention) (place : ℕ) (new : Head) : Type 0 where
-  pub there : place < length heads
+pub record IsHeadPut (layouts : List Layout) (i : StoredIntention) (place : ℕ) (new : Layout) : Type 0 where
+  pub there : place < length layouts
   pub names : intention_has_page i ≡ true
+  pub range : i.block.0 < most_blocks
   -- no other head is its file's
-  pub only : (j : ℕ) → is_head_of i.file (head_in heads j) ≡ true → j ≡ place
-  pub serves : serves_for i.what i.file (head_in heads place) ≡ true
+  pub only : (j : ℕ) → is_layout_of i.file (layout_at layouts j) ≡ true → j ≡ place
+  pub serves : serves_for i.what i.file (layout_at layouts place) ≡ true
   pub file_after : is_head_after i.what i.file new ≡ true
-  pub addresses : (p : BlockNo) → address_at new p ≡ address_after i.what i.block i.address p (address_at (head_in heads place) p)
+  pub addresses : (p : ℕ) → p < most_blocks → at_cell new p ≡ address_after i.what i.block.0 i.address p (at_cell (layout_at layouts place) p)
+  pub maps : (j : ℕ) → j < most_maps → at_cell new (map_cell j) ≡ map_after i.what i.block.0 i.map j (at_cell (layout_at layouts place) (map_cell j))
+
+-- the first put of a cut that falls inside of map page j: of its blocks those from there on are gone
+pub record IsPartPut (layouts : List Layout) (i : StoredIntention) (j place : ℕ) (new : Layout) : Type 0 where
+  pub cuts : i.what ≡ Cut
+  pub part : IsPartCut layouts i.file i.block j place new
+  pub maps : (k : ℕ) → k < most_maps → at_cell new (map_cell k) ≡ at_cell (layout_at layouts place) (map_cell k)
 
 -- a file that is gone already has no head, and nothing is put
-pub record IsGoneAlready (heads : List Head) (i : StoredIntention) : Type 0 where
+pub record IsGoneAlready (layouts : List Layout) (i : StoredIntention) : Type 0 where
   pub gone : i.what ≡ Gone
-  pub absent : list_any (is_head_of i.file) heads ≡ false
+  pub absent : list_any (is_layout_of i.file) layouts ≡ false
+
+-- One layout is another, and the blocks that are named then are as they were: by the put of a head, or of a map page.
+pub record LaysOut (c : Contents) (place : ℕ) (new : Layout) (later : Contents) : Type 0 where
+  pub epoch : later.epoch ≡ c.epoch
+  pub pool : later.pool ≡ c.pool
+  pub layouts : layouts_in later ≡ slice_set (layouts_in c) place new
+  pub blocks : (d : ℕ) → names_block later d ≡ true → later.blocks d ≡ c.blocks d
 
 -- ---- a data page is put
 

@@ -1,21 +1,20 @@
 -- What the pages of a server say, apart from their bytes, and the stable state that follows from it.
-use Rattle.std.specs.Prelude.{ℕ, zero, suc, nat_eq, Bool, false, ◌&&◌, List, [], ◌∷◌, map, slice_index_or, Option, Some, None, option_map, option_and_then}
+use Rattle.std.specs.Prelude.{ℕ, zero, suc, nat_eq, Bool, false, ◌&&◌, List, [], ◌∷◌, map, slice_index_or, Option, Some, None, option_and_then}
 use Rattle.std.specs.List.{find, list_any}
-use Rattle.jn_base.specs.declared.names.BlockNo.{BlockNo}
-use Rattle.jn_base.specs.declared.names.FileNo.{FileNo}
-use Rattle.jn_base.specs.declared.names.LockUnit.TheVariants.{File, Block}
 use Rattle.jn_base.specs.declared.names.Tid.{Tid}
 use Rattle.jn_base.specs.declared.names.WorkId.{WorkId}
-use Rattle.jn_base.specs.Names.{file_eq}
-use Rattle.jn_order.specs.Files.{Files, there, zeros}
+use Rattle.jn_order.specs.Files.{zeros}
 use Rattle.jn_records.specs.declared.head.Head.{Head}
-use Rattle.jn_records.specs.declared.head.Head.TheVariants.{Free as FreeHead, Used}
+use Rattle.jn_records.specs.declared.head.Head.TheVariants.{Free as FreeHead}
 use Rattle.jn_records.specs.declared.intention.Intention.{Intention}
 use Rattle.jn_records.specs.declared.intention.StoredIntention.{StoredIntention}
 use Rattle.jn_records.specs.declared.intention.What.{What}
 use Rattle.jn_records.specs.declared.intention.What.TheVariants.{Put}
 use Rattle.jn_records.specs.declared.record.Record.{Record}
 use Rattle.jn_records.specs.declared.record.Record.TheVariants.{Intention as IntentionRecord, Ready, Going, Flag as FlagRecord}
+use Rattle.jn_records.specs.Intentions.{names_address}
+use Rattle.jn_records.specs.Layouts.{Layout, layouts_by, has_address, files_in}
+use Rattle.jn_records.specs.StablePages.{entry_in}
 use Rattle.jn_rows.specs.Stable.{StableState, Prepared, FlagState, ready_work, flag_state, gone_on}
 use Rattle.jn_sets.specs.Pool.{is_prepared, is_intention, is_flag}
 
@@ -31,27 +30,13 @@ pub record Contents : Type 0 where
 abbrev pub head_in : List Head → ℕ → Head
 head_in heads i = slice_index_or heads i FreeHead
 
-abbrev pub is_head_of : FileNo → Head → Bool
-is_head_of f FreeHead = false
-is_head_of f (Used g addresses maps) = file_eq g f
+-- what a data page says as a map page
+abbrev pub entry_of : (ℕ → List ℕ) → ℕ → ℕ → ℕ
+entry_of blocks d k = entry_in (blocks d) k
 
--- what an address leads to: 0 to nothing, and any other to the data page whose index and 1 it is
-abbrev pub behind : (ℕ → List ℕ) → ℕ → Option (List ℕ)
-behind blocks zero = None
-behind blocks (suc d) = Some (blocks d)
-
--- the address of a block: 0 where it isn't stored
-abbrev pub address_at : Head → BlockNo → ℕ
-address_at FreeHead p = 0
-address_at (Used f addresses maps) p = slice_index_or addresses p.0 0
-
-abbrev pub block_in : (ℕ → List ℕ) → BlockNo → Head → Option (List ℕ)
-block_in blocks p h = behind blocks (address_at h p)
-
--- each used head's file, with the blocks that have an address
-abbrev pub files_in : List Head → (ℕ → List ℕ) → Files
-files_in heads blocks (File f) = option_map (λ h. there) (find (is_head_of f) heads)
-files_in heads blocks (Block f p) = option_and_then (block_in blocks p) (find (is_head_of f) heads)
+-- each head with its map pages
+abbrev pub layouts_in : Contents → List Layout
+layouts_in c = layouts_by (entry_of c.blocks) c.heads
 
 -- ---- the works
 
@@ -109,23 +94,26 @@ flags_in pool t = flag_by (find (is_flag t) pool)
 -- ---- the state
 
 abbrev pub state_in : Contents → StableState
-state_in c = record { epoch = c.epoch; files = files_in c.heads c.blocks; works = works_in c.pool c.blocks; flags = flags_in c.pool }
+state_in c = record { epoch = c.epoch; files = files_in (layouts_in c) c.blocks; works = works_in c.pool c.blocks; flags = flags_in c.pool }
 
 -- ---- which data pages are in use
 
-abbrev pub has_address : ℕ → Head → Bool
-has_address a FreeHead = false
-has_address a (Used f addresses maps) = list_any (λ b. nat_eq b a) addresses
+-- some head has the address at one of its first n cells
+abbrev pub heads_name : ℕ → List Layout → ℕ → Bool
+heads_name n layouts a = list_any (has_address n a) layouts
 
--- an intention of a prepared work with this address
-abbrev pub holds_address : List Record → ℕ → Record → Bool
-holds_address pool a (IntentionRecord work tid order i) = nat_eq i.address a && list_any (is_prepared work) pool
-holds_address pool a _ = false
+-- an intention of a prepared work that passes the test
+abbrev pub holds_intention : (StoredIntention → Bool) → List Record → Record → Bool
+holds_intention test pool (IntentionRecord work tid order i) = test i && list_any (is_prepared work) pool
+holds_intention test pool _ = false
 
--- some head has the address
-abbrev pub heads_name : List Head → ℕ → Bool
-heads_name heads a = list_any (has_address a) heads
+abbrev pub works_have : (StoredIntention → Bool) → List Record → Bool
+works_have test pool = list_any (holds_intention test pool) pool
 
--- some prepared work has it
+-- some prepared work names the address, for a block or as a map page
 abbrev pub works_name : List Record → ℕ → Bool
-works_name pool a = list_any (holds_address pool a) pool
+works_name pool a = works_have (names_address a) pool
+
+-- it is that of the intention's block
+abbrev pub names_for_block : ℕ → StoredIntention → Bool
+names_for_block a i = nat_eq i.address a

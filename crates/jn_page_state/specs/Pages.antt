@@ -10,7 +10,7 @@ use Rattle.jn_records.specs.Heads.{head_page, head_at, IsHead, FileFits}
 use Rattle.jn_records.specs.Pages.{root_page, IsRoot}
 use Rattle.jn_records.specs.Reading.{root_at}
 use Rattle.jn_records.specs.Records.{record_at}
-use Rattle.jn_records.specs.StablePages.{Counts, Pages, slot_place, head_place, data_place, files_of_pages, root_by}
+use Rattle.jn_records.specs.StablePages.{Counts, Pages, slot_place, head_place, data_place, files_of_pages, root_by, IsWholeMap}
 use Rattle.jn_rows.specs.Stable.{StableState, Pick}
 use Rattle.jn_sets.specs.Pool.{IsRecordPage}
 use Rattle.jn_store.specs.Store.{StoreView}
@@ -94,9 +94,11 @@ IsHeadPage leaves page = (h : Head) × IsHead leaves h × FileFits h × (page �
 abbrev pub IsDataPage : List ℕ → Type 0
 IsDataPage page = drop 448 page ≡ replicate 64 0
 
--- every page is of the format at its place, and the root has the server and the counts
+-- Every page is of the format at its place, the root has the server and the counts, and a data page that a head names as a
+-- map page is one.
 pub record IsOfFormat (server : ServerNo) (g : Counts) (pages : Pages) : Type 0 where
   pub root : IsRootPage server g (pages 0)
   pub pool : (i : ℕ) → i < g.pool → IsRecordPage (pages (slot_place g i))
   pub heads : (i : ℕ) → i < g.heads → IsHeadPage g.leaves (pages (head_place g i))
   pub data_pages : (d : ℕ) → d < g.leaves → IsDataPage (pages (data_place g d))
+  pub maps : (d : ℕ) → IsWholeMap g pages d

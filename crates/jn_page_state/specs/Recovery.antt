@@ -1,9 +1,9 @@
 -- A recovery as the steps that it makes of its store, and what any number of them leaves.
-use Rattle.std.specs.Prelude.{◌≡◌, ◌≤◌, ℕ, Bool}
+use Rattle.std.specs.Prelude.{◌≡◌, ◌≤◌, ℕ, Bool, List, [], ◌∷◌}
 use Rattle.jn_base.specs.declared.names.ServerNo.{ServerNo}
 use Rattle.jn_records.specs.declared.record.Record.TheVariants.{Free}
 use Rattle.jn_records.specs.StablePages.{Counts}
-use Rattle.jn_rows.specs.Stable.{StableState, Pick}
+use Rattle.jn_rows.specs.Stable.{StableState, Pick, Change, Left, left_of}
 use Rattle.jn_store.specs.Store.{StoreView}
 use Rattle.jn_page_state.specs.Changes.{IsIdlePut}
 use Rattle.jn_page_state.specs.Pages.{found_on}
@@ -27,3 +27,8 @@ pub record IsSameButEpoch (x y : StableState) : Type 0 where
 -- each pick after finds what a pick before found, epochs aside
 abbrev pub FindsSame : Counts → StoreView → StoreView → Type 0
 FindsSame g v w = (c : Pick) → (b : Pick) × IsSameButEpoch (found_on g v b) (found_on g w c)
+
+-- the state after turns that begin with the first of these changes, each of which a stop left like this
+abbrev pub after_turns : List Change → List Left → StableState → StableState
+after_turns steps [] x = x
+after_turns steps (l ∷ turns) x = after_turns steps turns (left_of l steps x)

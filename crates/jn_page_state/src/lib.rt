@@ -15,7 +15,7 @@ mod stop_laws;
 pub use again_laws::a_recovery_may_carry_out_again;
 pub use call_laws::{
     a_flag_is_one_change, a_restart_counts_itself_by_one_put, a_work_goes_on_by_single_changes,
-    preparing_is_one_change,
+    an_intention_may_take_two_puts, preparing_is_one_change,
 };
 pub use head_laws::{
     a_head_carries_out_an_intention, a_page_without_a_name_changes_nothing, a_root_has_the_epoch,

@@ -21,6 +21,6 @@ pub fn a_sound_image_is_found()
 /// Three things make the pages those of a sound image, with the files that are found. No record stands, each page is good in both its
 /// halves, and the root is of the version that is written.
 pub fn whole_pages_are_a_sound_image()
-    ensures { (server : ServerNo) (g : Counts) (v : StoreView) (epoch : ℕ) (records : List Record) (heads : List Head) → IsStanding server g v epoch records heads
+    ensures { (server : ServerNo) (g : Counts) (v : StoreView) (epoch : ℕ) (records : List Record) (heads : List Head) (rows : List (List ℕ)) → IsStanding server g v epoch records heads rows
         → IsOnly v 0 (root_page (root_by server g epoch)) → ((i : ℕ) → record_in records i ≡ Free) → ((i : ℕ) → i < v.count → IsWholePage v i) → IsImage server g (standing_state g v).files v }
 {}

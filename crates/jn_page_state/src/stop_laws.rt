@@ -11,8 +11,8 @@ ghost use Rattle.jn_store.specs.Store.{StoreView, HasSamePages};
 ghost use Rattle.jn_store.specs.Choices.{with_page};
 ghost use Rattle.jn_page_state.specs.Contents.{state_in, head_in};
 ghost use Rattle.jn_page_state.specs.Pages.{pool_on, heads_on, contents_of, state_of, found_on, IsOfFormat};
-ghost use Rattle.jn_page_state.specs.Recoverable.{NamedAreClean, IsRecoverable};
-ghost use Rattle.jn_page_state.specs.Puts.{PagePut, put_place, put_page, put_in, contents_by, IsPagePut, IsReadable, Makes, KeepsClean, KeepsConsistent, IsPut, IsFrontClean, IsFewer};
+ghost use Rattle.jn_page_state.specs.Recoverable.{NamedAreClean, MapsAreClean, IsRecoverable};
+ghost use Rattle.jn_page_state.specs.Puts.{PagePut, put_place, put_page, put_in, contents_by, IsPagePut, MayPut, IsReadable, Makes, KeepsClean, KeepsFound, IsPut, IsFrontClean, IsFewer};
 
 /// The state on pages of the format is that of what they say.
 pub fn the_state_is_what_the_pages_say()
@@ -30,7 +30,7 @@ pub fn pages_say_their_records_and_heads()
 pub fn a_put_page_is_read_again()
     ensures contents { (server : ServerNo) (g : Counts) (pages : Pages) (put : PagePut) → IsOfFormat server g pages → IsPagePut server g put
         → contents_of g (with_page pages (put_place g put) (put_page server g put)) ≡ put_in put (contents_of g pages) }
-    ensures format { (server : ServerNo) (g : Counts) (pages : Pages) (put : PagePut) → IsOfFormat server g pages → IsPagePut server g put
+    ensures format { (server : ServerNo) (g : Counts) (pages : Pages) (put : PagePut) → IsOfFormat server g pages → IsPagePut server g put → MayPut g pages put
         → IsOfFormat server g (with_page pages (put_place g put) (put_page server g put)) }
 {}
 
@@ -49,10 +49,10 @@ pub fn a_put_is_one_change()
     ensures picked_done { (server : ServerNo) (g : Counts) (v w : StoreView) (put : PagePut) → IsPut server g v put true w → (c : Pick) → found_on g w c ≡ state_in (put_in put (contents_by g v c)) }
 {}
 
-/// Where root, records and heads have one candidate each, and so each data page that is named, all picks find one state:
-/// what the other data pages hold doesn't matter, so they need no cleanup.
+/// Where root, records and heads have one candidate each, and so each map page and each data page that is named for a block,
+/// all picks find one state: what the other data pages hold doesn't matter, so they need no cleanup.
 pub fn clean_pages_find_one_state()
-    ensures { (server : ServerNo) (g : Counts) (v : StoreView) → IsReadable server g v → IsFrontClean g v → NamedAreClean g v → IsUp (found_on g v) }
+    ensures { (server : ServerNo) (g : Counts) (v : StoreView) → IsReadable server g v → IsFrontClean g v → MapsAreClean g v → NamedAreClean g v → IsUp (found_on g v) }
 {}
 
 /// Done or stopped, a put leaves a store from which a recovery may begin.
@@ -60,7 +60,7 @@ pub fn a_put_leaves_a_recovery()
     ensures clean { (server : ServerNo) (g : Counts) (v w : StoreView) (put : PagePut) (ok : Bool) → IsPut server g v put ok w
         → NamedAreClean g v → KeepsClean g v put → NamedAreClean g w }
     ensures recoverable { (server : ServerNo) (g : Counts) (v w : StoreView) (put : PagePut) (ok : Bool) → IsPut server g v put ok w
-        → IsRecoverable server g v → KeepsConsistent server g v put → KeepsClean g v put → IsRecoverable server g w }
+        → IsRecoverable server g v → KeepsFound server g v put → KeepsClean g v put → IsRecoverable server g w }
 {}
 
 /// A get, a cleanup or a decay changes nothing that is found, and leaves a store from which a recovery may begin.

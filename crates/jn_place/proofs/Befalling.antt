@@ -1,10 +1,10 @@
 -- What befalls the device of a place, and calls of a server that reach no device.
-use Rattle.jn_place.proofs.Common.{◌≡◌, ℕ, Bool, [], sym, ◌∙◌, ap, subst, ServerNo, Tid, DeviceState, powered_off, found_on, same_found, Collected, server_again, Counts, Befalls, TimesOut, Parts, view_with, memory_of, state, Accounts, StoreView, HasSamePages, added, Slot, Up, Down, Gone, LeavesStore, AsksAgain, TimedOut, Crashed, Befell, SaysSame, IsAsBefore, StaysAs, Stands}
+use Rattle.jn_place.proofs.Common.{◌≡◌, ℕ, Bool, [], sym, ◌∙◌, ap, subst, ServerNo, Tid, DeviceState, powered_off, found_on, same_found, Collected, server_again, Counts, Befalls, TimesOut, Parts, view_with, memory_of, state, Accounts, StoreView, HasSamePages, added, Slot, Up, Down, Gone, LeavesStore, AsksAgain, TimedOut, Crashed, Befell, SaysSame, IsAsBefore, StaysAs, Stands, same_pages_by, state_of}
 use Rattle.jn_place.proofs.Served.{nothing}
 
 module _ {S : Type 0} (look : S → StoreView) (device : S → DeviceState) where
   pub same-says : (s t : S) → HasSamePages (look s) (look t) → SaysSame look s t
-  same-says s t pages = λ g. same_found (look s) (look t) pages g
+  same-says s t pages = λ c. same_pages_by (look s) (look t) pages c
 
   as-before : (p q : Parts S) → Befalls (view_with look p) (view_with look q) → IsAsBefore look p q
   as-before p q h = record {
@@ -18,7 +18,7 @@ module _ {S : Type 0} (look : S → StoreView) (device : S → DeviceState) wher
   befell-up g becomes a p q is h step = let s = as-before p q h in subst (λ (x : Slot S). Befell look device g becomes x (Up q)) (sym is) ((s.memory, s.found), step)
 
   pub befell-down : (g : Counts) (becomes : DeviceState → DeviceState → Type 0) (a : Slot S) (s t : S) → a ≡ Down s → HasSamePages (look s) (look t) → becomes (device s) (device t) → Befell look device g becomes a (Down t)
-  befell-down g becomes a s t is pages step = subst (λ (x : Slot S). Befell look device g becomes x (Down t)) (sym is) (same-says s t pages g, step)
+  befell-down g becomes a s t is pages step = subst (λ (x : Slot S). Befell look device g becomes x (Down t)) (sym is) (same_found (look s) (look t) pages g, step)
 
   pub stays-up : (f : DeviceState → DeviceState) (a : Slot S) (p q : Parts S) → a ≡ Up p → Befalls (view_with look p) (view_with look q) → device q.storage.0 ≡ f (device p.storage.0) → StaysAs look device f a (Up q)
   stays-up f a p q is h step = subst (λ (x : Slot S). StaysAs look device f x (Up q)) (sym is) (as-before p q h, step)
@@ -30,7 +30,7 @@ module _ {S : Type 0} (look : S → StoreView) (device : S → DeviceState) wher
 
   pub crash-exact : (server : ServerNo) (g : Counts) (most : ℕ) (a m b : Slot S) → Stands look server g most a → LeavesStore a m → StaysAs look device powered_off m b → Crashed look device g a b
   crash-exact server g most (Up p) (Down s) (Down t) stands left off = record {
-    found = λ c. ap (λ f. f c) (off.0 g) ∙ ap (λ (x : S). found_on g (look x) c) left ∙ ap (λ (h : Counts). found_on h (look p.storage.0) c) (sym stands.counts);
+    found = λ c. ap (state_of g) (off.0 c) ∙ ap (λ (x : S). found_on g (look x) c) left ∙ ap (λ (h : Counts). found_on h (look p.storage.0) c) (sym stands.counts);
     device_is = off.1 ∙ ap (λ (x : S). powered_off (device x)) left;
   }
   crash-exact server g most (Up p) (Down s) (Up q) stands left off = absurd off

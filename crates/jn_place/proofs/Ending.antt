@@ -1,6 +1,6 @@
 -- A call and what follows it, as one step by its row.
 use Rattle.jn_device.specs.Happens.{none}
-use Rattle.jn_place.proofs.Common.{◌≡◌, ◌≤◌, ◌+◌, ℕ, arith, Bool, true, false, true≢false, List, [], ◌∷◌, ◌++◌, refl, sym, ◌∙◌, ap, subst, append_assoc, Result, Ok, Err, OnOk, map, Outside, ServerNo, DeviceState, cleared, found_on, counts_in, Memory, Counts, When, Line, RowOutcome, StableState, Pick, IsStopState, Parts, view_with, state, Accounts, pairs_view, StoreView, StoreLater, IsCalm, Slot, Up, Down, Gone, LeavesStore, IsSpent, lines_at, texts_of_step, IsStepOf, StaysCalm, RowEnds, told_at, StaysAs, Follows, is_up}
+use Rattle.jn_place.proofs.Common.{◌≡◌, ◌≤◌, ◌+◌, ℕ, arith, Bool, true, false, true≢false, List, [], ◌∷◌, ◌++◌, refl, sym, ◌∙◌, ap, subst, append_assoc, Result, Ok, Err, OnOk, map, Outside, ServerNo, DeviceState, cleared, found_on, counts_in, Memory, Counts, When, Line, RowOutcome, StableState, Pick, IsStopState, Parts, view_with, state, Accounts, pairs_view, StoreView, StoreLater, IsCalm, Slot, Up, Down, Gone, LeavesStore, IsSpent, lines_at, texts_of_step, IsStepOf, StaysCalm, RowEnds, told_at, StaysAs, Follows, is_up, state_of}
 use Rattle.std.proofs.lemmas.List.{append-nil, map-append}
 use Rattle.jn_report.specs.declared.line.Text.{Text}
 use Rattle.jn_report.specs.declared.line.Text.TheVariants as says
@@ -117,7 +117,7 @@ module _ {S : Type 0} (look : S → StoreView) (device : S → DeviceState) (see
         same = same-counts (view_with look p).storage.accounts (view_with look m).storage.accounts ends.later.pool ends.later.heads ends.later.leaves ∙ counts
 
         found : (c : Pick) → found_on g (look s) c ≡ (view_with look m).storage.found c
-        found c = ap (λ f. f c) (follows.0 g) ∙ ap (λ (h : Counts). found_on h (look m.storage.0) c) (sym same)
+        found c = ap (state_of g) (follows.0 c) ∙ ap (λ (h : Counts). found_on h (look m.storage.0) c) (sym same)
     step-of (Up m) true (Down s) ends follows e = absurd follows
     step-of (Up m) true Gone ends follows e = absurd follows
     step-of (Up m) false (Up b) ends follows e = absurd follows

@@ -9,5 +9,5 @@ pub mod Ending
 pub mod Taking
 pub mod Rising
 pub mod Befalling
-pub mod Rubbish
+pub mod Beside
 pub mod Remaining

@@ -1,5 +1,5 @@
 -- Each background step leaves one less to make.
-use Rattle.jn_place.proofs.Common.{◌≡◌, ◌≢◌, ◌⊎◌, inl, inr, ◌≤◌, ◌<◌, ℕ, ◌+◌, Bool, true, false, true≢false, List, [], ◌∷◌, length, Option, Some, None, is_some, refl, sym, ◌∙◌, ap, subst, arith, if◌then◌else◌, not, slice_get, work_tells, work_eq, DeviceState, Collected, Files, change, of_worker, of_step, storage_of, Memory, RowOutcome, quiet, StableState, Prepared, CarryOut, RemoveWork, is_going, at_work, made_by, made_all, StepLeaves, ServerView, view_with, memory_of, room_of, state, StoreView, Slot, Up, Down, Gone, WhereUp, WorkLeaves, work_of, Works, Follows}
+use Rattle.jn_place.proofs.Common.{◌≡◌, ◌≢◌, ◌⊎◌, inl, inr, ◌≤◌, ◌<◌, ℕ, ◌+◌, Bool, true, false, true≢false, List, [], ◌∷◌, length, Option, Some, None, is_some, refl, sym, ◌∙◌, ap, subst, arith, if◌then◌else◌, not, slice_get, work_tells, work_eq, DeviceState, Collected, Files, change, of_worker, of_step, storage_of, Memory, RowOutcome, quiet, StableState, Prepared, CarryOut, RemoveWork, is_going, at_work, made_by, made_all, StepLeaves, ServerView, view_with, memory_of, room_of, state, StoreView, Slot, Up, Down, Gone, WhereUp, WorkLeaves, work_of, Works, Follows, Beside}
 use Rattle.jn_storage.specs.Orderly.{intentions}
 use Rattle.std.proofs.lemmas.Option.{slice_get_within}
 use Rattle.jn_base.specs.declared.names.WorkId.{WorkId}
@@ -180,10 +180,10 @@ as-many : (o : Option Prepared) → length (intentions o) ≡ length (intentions
 as-many None = refl
 as-many (Some p) = refl
 
-carried-sum : (a b c r s : ℕ) → a ≡ b → b < c → r ≡ s + (0 + 0) → a + r < c + s
+carried-sum : (a b c r s : ℕ) → a ≡ b → b < c → r ≡ s → a + r < c + s
 carried-sum a b c r s e h k = omega (arith, e, h, k)
 
-ended-sum : (a b c r s d : ℕ) → a ≡ b → b + d < c → r ≡ s + (d + 0) → a + r < c + s
+ended-sum : (a b c r s d : ℕ) → a ≡ b → b + d < c → r ≡ s + d → a + r < c + s
 ended-sum a b c r s d e h k = omega (arith, e, h, k)
 
 erased-sum : (a b r s : ℕ) → a ≡ b → r + 1 ≡ s → a + r < b + s
@@ -216,12 +216,12 @@ module _ (v w : ServerView) where
   carries : (u : Work) (i : Intention) → going_work x t ≡ Some u → slice_get (intentions_of (x.works u.name)) (next u.name) ≡ Some i → LessBy (of_worker m (carried_row t v.tickets u (Some i)))
   carries u i g e mem st leaves = carried-sum _ _ _ _ _ (counted (made_by (CarryOut u.name i) x) (of_worker m (carried_row t v.tickets u (Some i))).table mem st)
       (carried-less x next u.name (change (intention_change i) x.files) t u g refl (going-is x t u g) (slice_get_within (intentions_of (x.works u.name)) (next u.name) i e))
-      (leaves.1 (CarryOut u.name i) refl)
+      (ap (λ (b : Beside). b.rubbish) (leaves.1 (CarryOut u.name i) refl))
 
   ends : (u : Work) → going_work x t ≡ Some u → LessBy (of_worker m (carried_row t v.tickets u None))
   ends u g mem st leaves = ended-sum _ _ _ _ _ (length (intentions_of (x.works u.name))) (counted (made_by (RemoveWork u.name) x) (of_worker m (carried_row t v.tickets u None)).table mem st)
       (over-less x next u.name t u g refl (going-is x t u g))
-      (leaves.1 (RemoveWork u.name) refl ∙ ap (λ (n : ℕ). length v.storage.accounts.rubbish + (n + 0)) (as-many (x.works u.name)))
+      (ap (λ (b : Beside). b.rubbish) (leaves.1 (RemoveWork u.name) refl) ∙ ap (λ (n : ℕ). length v.storage.accounts.rubbish + n) (as-many (x.works u.name)))
 
   erases : LessBy (of_worker m (quiet t v.tickets))
   erases mem st leaves = let one = leaves.0 refl in erased-sum _ _ _ _ (counted x (of_worker m (quiet t v.tickets)).table mem st) one.rubbish_less

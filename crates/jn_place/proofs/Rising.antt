@@ -1,6 +1,8 @@
 -- A restart, from the store with power to the server.
-use Rattle.jn_place.proofs.Common.{most_calls, ◌≡◌, ◌≤◌, ◌<◌, ◌+◌, ℕ, suc, Bool, true, false, true≢false, List, [], ◌∷◌, ◌++◌, map, Option, Some, None, is_some, ⊎_elim, ◌||◌, refl, sym, ◌∙◌, ap, subst, arith, Result, Ok, Err, IfOk, ServerNo, Tid, tid_eq, tid_tells, DeviceState, PowersUp, powered_off, cleared, found_on, fewer_picked, restored, Memory, Counts, Found, Transaction, restored_transaction, restored_transactions, StableState, FlagState, IsRestarted, IsNotRestarted, Parts, view_with, memory_of, StoreView, IsCalm, work_eq, When, Line, Accounts, StoreLater, Restarted, Slot, Up, Down, Gone, lines_at, texts_of_step, IsTried, IsUpAt, IsStoppedUp, IsUsedUpAt, CameTo, IsRestart, IsCalmAt, ComesCalm, is_stopped, IsRisen, IsCutUp, IsAtLast, SaysSame, StaysAs, StandsUp, Rises, Lifts, told_at, CameUp, IsHeld, with_epoch, slot_place, head_place, pairs_view, IsWholePage, root_by, IsOnly}
+use Rattle.jn_place.proofs.Common.{◌≡◌, ◌≤◌, ◌<◌, ◌+◌, ℕ, suc, Bool, true, false, true≢false, List, [], ◌∷◌, ◌++◌, map, Option, Some, None, is_some, ⊎_elim, ◌||◌, refl, sym, ◌∙◌, ap, subst, arith, Result, Ok, Err, IfOk, ServerNo, Tid, tid_eq, tid_tells, DeviceState, PowersUp, powered_off, cleared, found_on, fewer_picked, restored, Memory, Counts, Found, Transaction, restored_transaction, restored_transactions, StableState, FlagState, IsRestarted, IsNotRestarted, Parts, view_with, memory_of, StoreView, IsCalm, work_eq, When, Line, Accounts, StoreLater, Restarted, Slot, Up, Down, Gone, lines_at, texts_of_step, IsTried, IsUpAt, IsStoppedUp, IsUsedUpAt, CameTo, IsRestart, IsCalmAt, ComesCalm, is_stopped, IsRisen, IsCutUp, IsAtLast, SaysSame, StaysAs, StandsUp, Rises, Lifts, told_at, CameUp, IsHeld, with_epoch, slot_place, head_place, pairs_view, IsWholePage, root_by, IsOnly, length, Pages, Pick, heads_on, pages_by, state_of, MapsAreClean, calls_by, most_calls, beside_of, IsSpent}
+use Rattle.jn_records.specs.MapPlaces.{maps_named}
 use Rattle.jn_recovery.specs.Loading.{IsSameOrNext}
+use Rattle.jn_server.specs.Standing.{beside_on}
 use Rattle.std.specs.List.{list_any}
 use Rattle.jn_page_state.specs.Puts.{IsFrontClean, IsFrontWhole}
 use Rattle.jn_system.specs.WholeSystem.Steps.{AreNames, tid_before}
@@ -50,7 +52,9 @@ module _ {S : Type 0} (look : S → StoreView) (device : S → DeviceState) (q :
     finds = λ c. r.loaded.found c ∙ ap (λ (n : ℕ). record x { epoch = n }) (one-more x.epoch);
     epoch_is = told-epoch;
     before_last = let fits = r.loaded.epoch_fits in omega (arith, told-epoch, fits);
+    beside = λ i. record { rubbish = length (r.loaded.recovered.rubbish i); maps = r.loaded.maps i; supplied = r.loaded.supplied i };
     clean = r.loaded.recovered.rubbish;
+    maps = r.loaded.maps_clean;
     front = r.loaded.front;
     front_whole = r.loaded.front_whole;
     root = r.loaded.root;
@@ -83,6 +87,7 @@ module _ {S : Type 0} (look : S → StoreView) (device : S → DeviceState) (q :
   pub cut-up : (cause : DownCause) (s' : S) → cause ≡ Stopped → IsNotRestarted q g (look s) cause (look s') → IsCutUp look g s s'
   cut-up cause s' is d = record {
     later = d.down.recovering.later;
+    some = d.down.some;
     few = d.down.recovering.calls;
     dark = (d.down.stop is).dark;
     each = d.down.recovering.each;
@@ -93,11 +98,12 @@ module _ {S : Type 0} (look : S → StoreView) (device : S → DeviceState) (q :
   at-last cause called s' is d off same = let used = d.down.used_up is in record {
     called = called;
     later = d.down.recovering.later;
+    some = d.down.some;
     few = d.down.recovering.calls;
     power = used.power;
     device_is = off;
-    each = λ c. let h = fewer_picked (look s) (look called) used.fewer g c in (h.0, ap (λ f. f c) (same g) ∙ h.1);
-    last = λ c. ap (λ f. let x : StableState = f c in x.epoch) (same g) ∙ used.all c;
+    each = λ c. let h = fewer_picked (look s) (look called) used.fewer g c in (h.0, ap (state_of g) (same c) ∙ h.1);
+    last = λ c. ap (λ (p : Pages). let x : StableState = state_of g p in x.epoch) (same c) ∙ used.all c;
   }
 
 -- ---- with the power that came before, and what follows
@@ -119,6 +125,12 @@ module _ {S : Type 0} (look : S → StoreView) (device : S → DeviceState) (see
       by : IsFrontClean g (pairs_view (device s)) → IsFrontClean g (pairs_view (cleared (device s)))
       by f = record { root = f.root; pool = f.pool; heads = f.heads }
 
+  maps-stay : (s t : S) → device t ≡ cleared (device s) → MapsAreClean g (look s) → MapsAreClean g (look t)
+  maps-stay s t after h = subst (λ (v : StoreView). MapsAreClean g v) (sym (sees t)) (subst (λ (d : DeviceState). MapsAreClean g (pairs_view d)) (sym after) (by (subst (λ (v : StoreView). MapsAreClean g v) (sees s) h)))
+    where
+      by : MapsAreClean g (pairs_view (device s)) → MapsAreClean g (pairs_view (cleared (device s)))
+      by f = λ c d below names. f c d below names
+
   only-stays : (s t : S) (k : ℕ) (page : List ℕ) → device t ≡ cleared (device s) → IsOnly (look s) k page → IsOnly (look t) k page
   only-stays s t k page after h = subst (λ (v : StoreView). IsOnly v k page) (sym (sees t)) (subst (λ (d : DeviceState). IsOnly (pairs_view d) k page) (sym after) (by (subst (λ (v : StoreView). IsOnly v k page) (sees s) h)))
     where
@@ -135,12 +147,23 @@ module _ {S : Type 0} (look : S → StoreView) (device : S → DeviceState) (see
       by f = record { root = page 0 f.root; pool = λ i below. page (slot_place g i) (f.pool i below); heads = λ i below. page (head_place g i) (f.heads i below) }
 
   module _ (s lit : S) (powers : PowersUp (device s) (device lit)) (same : SaysSame look s lit) where
-    tried : (t u : S) (power : Bool) → StoreLater (look lit) (look t) → (look t).calls ≤ (look lit).calls + most_calls g → (look t).power ≡ power → device u ≡ cleared (device t) → IsTried g (device t).told power (device s) (device u)
-    tried t u power later few lit-is after = record { powered = device lit; up = powers; spent = spent look device sees (most_calls g) lit t u power later few lit-is after }
+    -- the pages that a pick finds are those that the device has
+    found-same : (c : Pick) → pages_by (look lit) c ≡ pages_by (pairs_view (device s)) c
+    found-same c = same c ∙ ap (λ (v : StoreView). pages_by v c) (sees s)
+
+    bound-same : (c : Pick) → calls_by g (look lit) c ≡ calls_by g (pairs_view (device s)) c
+    bound-same c = ap (λ (p : Pages). most_calls g (maps_named (heads_on g p))) (found-same c)
+
+    tried : (c : Pick) (t u : S) (power : Bool) → StoreLater (look lit) (look t) → (look t).calls ≤ (look lit).calls + calls_by g (look lit) c → (look t).power ≡ power → device u ≡ cleared (device t) → IsTried g c (device t).told power (device s) (device u)
+    tried c t u power later few lit-is after = record {
+      powered = device lit;
+      up = powers;
+      spent = subst (λ (n : ℕ). IsSpent n (device t).told power (device lit) (device u)) (bound-same c) (spent look device sees (calls_by g (look lit) c) lit t u power later few lit-is after);
+    }
 
     up-at : (epoch : ℕ) (tids : List Tid) (m b : Parts S) → IsRisen look q g lit epoch tids m → StaysAs look device cleared (Up m) (Up b) → IsUpAt look device q g (device m.storage.0).told s epoch tids b
     up-at epoch tids m b h stays = record {
-      tried = tried m.storage.0 b.storage.0 true h.later h.few h.power stays.1;
+      tried = tried h.pick m.storage.0 b.storage.0 true h.later h.few h.power stays.1;
       pick = h.pick;
       works = h.works;
       work_names = subst (λ (x : StableState). AreNames work_eq work_before x.works h.works) at h.work_names;
@@ -149,36 +172,41 @@ module _ {S : Type 0} (look : S → StoreView) (device : S → DeviceState) (see
       finds = λ c. ap (λ f. f c) stays.0.found ∙ subst (λ (x : StableState). (view_with look m).storage.found c ≡ with_epoch x) at (h.finds c);
       epoch_is = subst (λ (x : StableState). epoch ≡ x.epoch + 1) at h.epoch_is;
       before_last = subst (λ (x : StableState). x.epoch < 4294967295) at h.before_last;
+      beside = ap beside_of stays.0.accounts ∙ h.beside ∙ ap (λ (p : Pages). record (beside_on g p) { rubbish = 0 }) (found-same h.pick);
       clean = ap (λ (a : Accounts). a.rubbish) stays.0.accounts ∙ h.clean;
+      maps = maps-stay m.storage.0 b.storage.0 stays.1 h.maps;
       front = clean-stays m.storage.0 b.storage.0 stays.1 h.front;
       front_whole = λ quiet. whole-stays m.storage.0 b.storage.0 stays.1 (h.front_whole (lit-calm s lit powers (ap (λ (v : StoreView). v.waiting) (sees s) ∙ quiet)));
       root = only-stays m.storage.0 b.storage.0 0 (root_page (root_by q g epoch)) stays.1 h.root;
     }
       where
         at : found_on g (look lit) h.pick ≡ found_on g (look s) h.pick
-        at = ap (λ f. f h.pick) (same g)
+        at = ap (state_of g) (same h.pick)
 
     stopped-up : (m b : S) → IsCutUp look g lit m → StaysAs look device cleared (Down m) (Down b) → IsStoppedUp look device g (device m).told s b
     stopped-up m b h stays = record {
-      tried = tried m b false h.later h.few h.dark stays.1;
+      some = h.some;
+      tried = tried h.some m b false h.later h.few h.dark stays.1;
       each = λ c. let (k, e) = h.each c in (
         k,
-        subst (λ (x : StableState). IsSameOrNext x (found_on g (look b) c)) (ap (λ f. f k) (same g))
-            (subst (λ (y : StableState). IsSameOrNext (found_on g (look lit) k) y) (sym (ap (λ f. f c) (stays.0 g))) e),
+        subst (λ (x : StableState). IsSameOrNext x (found_on g (look b) c)) (ap (state_of g) (same k))
+            (subst (λ (y : StableState). IsSameOrNext (found_on g (look lit) k) y) (sym (ap (state_of g) (stays.0 c))) e),
       );
     }
 
     used-up : (m b : S) → IsAtLast look device g lit m → StaysAs look device cleared (Down m) (Down b) → IsUsedUpAt look device g (device m).told s b
     used-up m b h stays = record {
       called = cleared (device h.called);
+      some = h.some;
       tried = record {
         powered = device lit;
         up = powers;
-        spent = spent-on look device sees (most_calls g) lit h.called (cleared (device h.called)) (device m).told true (ap (λ (d : DeviceState). d.told) h.device_is) h.later h.few h.power refl;
+        spent = subst (λ (n : ℕ). IsSpent n (device m).told true (device lit) (cleared (device h.called))) (bound-same h.some)
+            (spent-on look device sees (calls_by g (look lit) h.some) lit h.called (cleared (device h.called)) (device m).told true (ap (λ (d : DeviceState). d.told) h.device_is) h.later h.few h.power refl);
       };
       device_is = stays.1 ∙ ap cleared h.device_is;
-      each = λ c. let (k, e) = h.each c in (k, ap (λ f. f c) (stays.0 g) ∙ e ∙ ap (λ f. f k) (same g));
-      last = λ c. ap (λ f. let x : StableState = f c in x.epoch) (stays.0 g) ∙ h.last c;
+      each = λ c. let (k, e) = h.each c in (k, ap (state_of g) (stays.0 c) ∙ e ∙ ap (state_of g) (same k));
+      last = λ c. ap (λ (p : Pages). let x : StableState = state_of g p in x.epoch) (stays.0 c) ∙ h.last c;
     }
 
     came-to : (r : Restarted) (m b : Slot S) → Rises look device q g lit r m → StaysAs look device cleared m b → CameTo look device q g (told_at device m) (Down s) r b

@@ -11,7 +11,8 @@ use Rattle.jn_device.specs.Events.{PowersUp, powered_off, cleared}
 use Rattle.jn_device.specs.Happens.{Happens}
 use Rattle.jn_page_state.specs.Images.{IsImage}
 use Rattle.jn_page_state.specs.Puts.{IsFrontClean, IsFrontWhole}
-use Rattle.jn_page_state.specs.Pages.{found_on}
+use Rattle.jn_page_state.specs.Recoverable.{MapsAreClean}
+use Rattle.jn_page_state.specs.Pages.{found_on, pages_by}
 use Rattle.jn_intent.specs.Scrubbing.{IsIdle}
 use Rattle.jn_locks.specs.Locks.{work_before}
 use Rattle.jn_msgs.specs.declared.message.Message.{Message}
@@ -23,7 +24,7 @@ use Rattle.jn_system.specs.WholeSystem.World.{Memory, with_epoch}
 use Rattle.jn_records.specs.Pages.{root_page}
 use Rattle.jn_records.specs.StablePages.{Counts, root_by}
 use Rattle.jn_recovery.specs.Loading.{IsSameOrNext}
-use Rattle.jn_recovery.specs.Counts.{most_calls}
+use Rattle.jn_recovery.specs.Counts.{calls_by}
 use Rattle.jn_report.specs.declared.line.When.{When}
 use Rattle.jn_report.specs.declared.line.Text.{Text}
 use Rattle.jn_report.specs.declared.line.Text.TheVariants as says
@@ -33,15 +34,17 @@ use Rattle.jn_rows.specs.Outcomes.{RowOutcome}
 use Rattle.jn_rows.specs.Stable.{Pick, IsStopState, made_all}
 use Rattle.jn_rows.specs.Worker.{timeout_row}
 use Rattle.jn_server.specs.declared.show.Shown.{Shown}
-use Rattle.jn_server.specs.Handling.{LeavesRubbish, StepLeaves}
+use Rattle.jn_server.specs.Handling.{LeavesBeside, StepLeaves}
 use Rattle.jn_server.specs.Seen.{Parts, ServerView, view_with, memory_of, room_of}
 use Rattle.jn_server.specs.Showing.{print_of}
 use Rattle.jn_server.specs.Reading.{IsRoomOfPages}
+use Rattle.jn_server.specs.Standing.{beside_on}
 use Rattle.jn_storage.specs.Calls.{state}
 use Rattle.jn_storage.specs.DeviceCalls.{step_calls, row_calls}
 use Rattle.jn_store.specs.DeviceCalls.{put_calls, cleaned_get_calls}
 use Rattle.jn_store.specs.Pairs.{pairs_view}
 use Rattle.jn_store.specs.Store.{StoreView, IsCalm, IsClean, IsOnly, IsWholePage}
+use Rattle.jn_worker.specs.Leaving.{beside_of}
 use Rattle.jn_place.specs.declared.place.Restarted.{Restarted}
 use Rattle.jn_place.specs.declared.place.Restarted.TheVariants as came
 use Rattle.jn_place.specs.declared.place.Slot.{Slot}
@@ -185,24 +188,24 @@ abbrev pub TimedOut : {S : Type 0} → (S → StoreView) → Tid → Slot S → 
 TimedOut look T (Up p) answer (Up p') = IsTimedOut look T p answer p'
 TimedOut look T before answer after = ⊥
 
--- ---- rubbish
+-- ---- what stands beside files, works and flags
 
 -- this holds of the server before and after a call that leaves it up
 abbrev pub WhereUp : {S : Type 0} → (S → StoreView) → (ServerView → ServerView → Type 0) → Slot S → Slot S → Type 0
 WhereUp look so (Up p) (Up p') = so (view_with look p) (view_with look p')
 WhereUp look so before after = ⊤
 
--- a message leaves as rubbish what its row's changes leave
+-- a message leaves what its row's changes leave
 abbrev pub TakeLeaves : Message → ServerView → ServerView → Type 0
-TakeLeaves message v w = LeavesRubbish v (server_row (memory_of v) (state v.storage) (room_of v.storage) message) w
+TakeLeaves message v w = LeavesBeside v (server_row (memory_of v) (state v.storage) (room_of v.storage) message) w
 
--- a background step erases a record of it, or leaves what its row's change leaves
+-- a background step erases a rubbish record, or leaves what its row's change leaves
 abbrev pub WorkLeaves : ServerView → ServerView → Type 0
 WorkLeaves v w = (row : RowOutcome Memory) → work_of v ≡ Some row → StepLeaves v row w
 
 -- any other call leaves it as it is
-abbrev pub KeepsRubbish : ServerView → ServerView → Type 0
-KeepsRubbish v w = w.storage.accounts.rubbish ≡ v.storage.accounts.rubbish
+abbrev pub KeepsBeside : ServerView → ServerView → Type 0
+KeepsBeside v w = beside_of w.storage.accounts ≡ beside_of v.storage.accounts
 
 -- ---- an image
 
@@ -221,17 +224,17 @@ abbrev pub Crashed : {S : Type 0} → (S → StoreView) → (S → DeviceState) 
 Crashed look device g (Up p) (Down s) = IsCrashed look device g p s
 Crashed look device g before after = ⊥
 
--- the power came, and then the device was called, as often as a recovery may
-pub record IsTried (g : Counts) (told : List Outside) (power : Bool) (d e : DeviceState) : Type 0 where
+-- the power came, and then the device was called, as often as a recovery may that reads the map pages that this pick finds
+pub record IsTried (g : Counts) (pick : Pick) (told : List Outside) (power : Bool) (d e : DeviceState) : Type 0 where
   pub powered : DeviceState
   pub up : PowersUp d powered
-  pub spent : IsSpent (most_calls g) told power powered e
+  pub spent : IsSpent (calls_by g (pairs_view d) pick) told power powered e
 
 -- It came up with what this pick found, in the next epoch: it remembers its works and flags, and nothing else. The transactions of the flags
 -- are reported in rising order.
 pub record IsUpAt {S : Type 0} (look : S → StoreView) (device : S → DeviceState) (q : ServerNo) (g : Counts) (told : List Outside) (s : S) (epoch : ℕ) (tids : List Tid) (p' : Parts S) : Type 0 where
-  pub tried : IsTried g told true (device s) (device p'.storage.0)
   pub pick : Pick
+  pub tried : IsTried g pick told true (device s) (device p'.storage.0)
   pub works : List WorkId
   pub work_names : AreNames work_eq work_before (found_on g (look s) pick).works works
   pub flag_names : AreNames tid_eq tid_before (found_on g (look s) pick).flags tids
@@ -239,23 +242,27 @@ pub record IsUpAt {S : Type 0} (look : S → StoreView) (device : S → DeviceSt
   pub finds : (c : Pick) → (view_with look p').storage.found c ≡ with_epoch (found_on g (look s) pick)
   pub epoch_is : epoch ≡ (found_on g (look s) pick).epoch + 1
   pub before_last : (found_on g (look s) pick).epoch < 4294967295
-  -- no record is rubbish any more
+  -- map pages are those that this pick found, and no record is rubbish any more
+  pub beside : beside_of (view_with look p').storage.accounts ≡ record (beside_on g (pages_by (pairs_view (device s)) pick)) { rubbish = 0 }
   pub clean : (view_with look p').storage.accounts.rubbish ≡ []
-  -- and root, records and heads are clean, and whole where no fault waited
+  -- and root, records and heads are clean, and whole where no fault waited, and map pages are clean
   pub front : IsFrontClean g (look p'.storage.0)
+  pub maps : MapsAreClean g (look p'.storage.0)
   pub front_whole : (device s).waiting ≡ [] → IsFrontWhole g (look p'.storage.0)
   -- the root has the epoch, and is of the version that is written
   pub root : IsOnly (look p'.storage.0) 0 (root_page (root_by q g epoch))
 
 -- It was stopped: each pick finds what some pick found before, in the same epoch or the next.
 pub record IsStoppedUp {S : Type 0} (look : S → StoreView) (device : S → DeviceState) (g : Counts) (told : List Outside) (s s' : S) : Type 0 where
-  pub tried : IsTried g told false (device s) (device s')
+  pub some : Pick
+  pub tried : IsTried g some told false (device s) (device s')
   pub each : (c : Pick) → (b : Pick) × IsSameOrNext (found_on g (look s) b) (found_on g (look s') c)
 
 -- It found the last epoch, and its power went again: each pick finds what some pick found before, in that epoch.
 pub record IsUsedUpAt {S : Type 0} (look : S → StoreView) (device : S → DeviceState) (g : Counts) (told : List Outside) (s s' : S) : Type 0 where
   pub called : DeviceState
-  pub tried : IsTried g told true (device s) called
+  pub some : Pick
+  pub tried : IsTried g some told true (device s) called
   pub device_is : device s' ≡ powered_off called
   pub each : (c : Pick) → (b : Pick) × (found_on g (look s') c ≡ found_on g (look s) b)
   pub last : (c : Pick) → (found_on g (look s') c).epoch ≡ 4294967295

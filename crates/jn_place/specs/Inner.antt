@@ -7,8 +7,9 @@ use Rattle.jn_base.specs.declared.device.Outside.{Outside}
 use Rattle.jn_base.specs.Names.{tid_eq, work_eq}
 use Rattle.jn_device.specs.Device.{DeviceState}
 use Rattle.jn_device.specs.Events.{PowersUp, powered_off, cleared}
-use Rattle.jn_page_state.specs.Pages.{found_on}
+use Rattle.jn_page_state.specs.Pages.{found_on, pages_by}
 use Rattle.jn_page_state.specs.Puts.{IsFrontClean, IsFrontWhole}
+use Rattle.jn_page_state.specs.Recoverable.{MapsAreClean}
 use Rattle.jn_intent.specs.Scrubbing.{counts_in}
 use Rattle.jn_locks.specs.Locks.{work_before}
 use Rattle.jn_msgs.specs.declared.message.Message.{Message}
@@ -19,18 +20,20 @@ use Rattle.jn_system.specs.WholeSystem.World.{Memory, with_epoch}
 use Rattle.jn_records.specs.Pages.{root_page}
 use Rattle.jn_records.specs.StablePages.{Counts, root_by}
 use Rattle.jn_recovery.specs.Loading.{IsSameOrNext}
-use Rattle.jn_recovery.specs.Counts.{most_calls}
+use Rattle.jn_recovery.specs.Counts.{calls_by}
 use Rattle.jn_rows.specs.declared.coordinator.Transaction.{Transaction}
 use Rattle.jn_rows.specs.Coordinator.{close_clients_row}
 use Rattle.jn_rows.specs.Outcomes.{RowOutcome}
 use Rattle.jn_rows.specs.Stable.{Pick, IsStopState, made_all}
 use Rattle.jn_server.specs.declared.show.Shown.{Shown}
 use Rattle.jn_server.specs.Seen.{Parts, ServerView, view_with, memory_of, room_of}
+use Rattle.jn_server.specs.Standing.{beside_on}
 use Rattle.jn_storage.specs.Calls.{state}
 use Rattle.jn_storage.specs.DeviceCalls.{step_calls, row_calls}
 use Rattle.jn_storage.specs.Storage.{StorageLater}
 use Rattle.jn_store.specs.DeviceCalls.{put_calls, cleaned_get_calls}
 use Rattle.jn_store.specs.Store.{StoreView, StoreLater, IsCalm, IsOnly}
+use Rattle.jn_worker.specs.Leaving.{beside_of}
 use Rattle.jn_place.specs.declared.place.Restarted.{Restarted}
 use Rattle.jn_place.specs.declared.place.Restarted.TheVariants as came
 use Rattle.jn_place.specs.declared.place.Slot.{Slot}
@@ -115,9 +118,9 @@ told_at device (Up p) = (device p.storage.0).told
 told_at device (Down s) = (device s).told
 told_at device Gone = []
 
--- the pages say the same, whatever their counts
+-- each pick finds the same pages
 abbrev pub SaysSame : {S : Type 0} → (S → StoreView) → S → S → Type 0
-SaysSame look s t = (g : Counts) → found_on g (look t) ≡ found_on g (look s)
+SaysSame look s t = (c : Pick) → pages_by (look t) c ≡ pages_by (look s) c
 
 -- all is as it was, but for the device
 pub record IsAsBefore {S : Type 0} (look : S → StoreView) (p p' : Parts S) : Type 0 where
@@ -141,9 +144,9 @@ Follows look device before done after = ⊥
 -- from a store with power: the server is up
 pub record IsRisen {S : Type 0} (look : S → StoreView) (q : ServerNo) (g : Counts) (s : S) (epoch : ℕ) (tids : List Tid) (p' : Parts S) : Type 0 where
   pub later : StoreLater (look s) (look p'.storage.0)
-  pub few : (look p'.storage.0).calls ≤ (look s).calls + most_calls g
-  pub power : (look p'.storage.0).power ≡ true
   pub pick : Pick
+  pub few : (look p'.storage.0).calls ≤ (look s).calls + calls_by g (look s) pick
+  pub power : (look p'.storage.0).power ≡ true
   pub works : List WorkId
   pub work_names : AreNames work_eq work_before (found_on g (look s) pick).works works
   pub flag_names : AreNames tid_eq tid_before (found_on g (look s) pick).flags tids
@@ -151,15 +154,18 @@ pub record IsRisen {S : Type 0} (look : S → StoreView) (q : ServerNo) (g : Cou
   pub finds : (c : Pick) → (view_with look p').storage.found c ≡ with_epoch (found_on g (look s) pick)
   pub epoch_is : epoch ≡ (found_on g (look s) pick).epoch + 1
   pub before_last : (found_on g (look s) pick).epoch < 4294967295
+  pub beside : beside_of (view_with look p').storage.accounts ≡ record (beside_on g (pages_by (look s) pick)) { rubbish = 0 }
   pub clean : (view_with look p').storage.accounts.rubbish ≡ []
   pub front : IsFrontClean g (look p'.storage.0)
+  pub maps : MapsAreClean g (look p'.storage.0)
   pub front_whole : IsCalm (look s) → IsFrontWhole g (look p'.storage.0)
   pub root : IsOnly (look p'.storage.0) 0 (root_page (root_by q g epoch))
 
 -- or it was stopped
 pub record IsCutUp {S : Type 0} (look : S → StoreView) (g : Counts) (s s' : S) : Type 0 where
   pub later : StoreLater (look s) (look s')
-  pub few : (look s').calls ≤ (look s).calls + most_calls g
+  pub some : Pick
+  pub few : (look s').calls ≤ (look s).calls + calls_by g (look s) some
   pub dark : (look s').power ≡ false
   pub each : (c : Pick) → (b : Pick) × IsSameOrNext (found_on g (look s) b) (found_on g (look s') c)
   pub not_calm : IsCalm (look s) → ⊥
@@ -168,7 +174,8 @@ pub record IsCutUp {S : Type 0} (look : S → StoreView) (g : Counts) (s s' : S)
 pub record IsAtLast {S : Type 0} (look : S → StoreView) (device : S → DeviceState) (g : Counts) (s s' : S) : Type 0 where
   pub called : S
   pub later : StoreLater (look s) (look called)
-  pub few : (look called).calls ≤ (look s).calls + most_calls g
+  pub some : Pick
+  pub few : (look called).calls ≤ (look s).calls + calls_by g (look s) some
   pub power : (look called).power ≡ true
   pub device_is : device s' ≡ powered_off (device called)
   pub each : (c : Pick) → (b : Pick) × (found_on g (look s') c ≡ found_on g (look s) b)

@@ -9,7 +9,7 @@ ghost use Rattle.jn_rows.specs.declared.coordinator.Transaction.{Transaction};
 ghost use Rattle.jn_row_ranges.specs.Taking.{AllCanBeTaken};
 ghost use Rattle.jn_msgs.specs.Ranges.{CanBeTaken};
 ghost use Rattle.jn_place.specs.Calls.{Serves, Called, Answered, LeavesStore, CameUp, LeavesPlace, StandsOn};
-ghost use Rattle.jn_place.specs.Exact.{lines_at, texts_of_step, has_work_at, ReadsPages, items_of, Took, WorkedBy, ScrubbedBy, Showed, Closed, AsksAgain, TimedOut, Crashed, IsRestart, Befell, StaysCalm, ComesCalm, WhereUp, TakeLeaves, WorkLeaves, KeepsRubbish, LeavesClean, LeavesImage};
+ghost use Rattle.jn_place.specs.Exact.{lines_at, texts_of_step, has_work_at, ReadsPages, items_of, Took, WorkedBy, ScrubbedBy, Showed, Closed, AsksAgain, TimedOut, Crashed, IsRestart, Befell, StaysCalm, ComesCalm, WhereUp, TakeLeaves, WorkLeaves, KeepsBeside, LeavesClean, LeavesImage};
 ghost use Rattle.jn_place.specs.Inner.{Handles, Works, Scrubs, Shows, Closes, told_at, SaysSame, StaysAs, Follows, StandsUp, Rises, Lifts, WhereDone, LeavesOwnImage};
 ghost use Rattle.jn_place.specs.Remaining.{steps_at};
 ghost use Rattle.jn_place.specs.Places.{HoldsUp, Stands, IsDownAt, IsPlace, NoneTold, HasPages, is_up, is_there};
@@ -84,7 +84,7 @@ impl<S: Powered + Drop> Place<S> {
         ensures left { (most : ℕ) → IsPlace (λ s. S.view s) server most self.old → IfOk result (λ answer. LeavesPlace (λ s. S.view s) server most self.new answer) }
         ensures took { IfOk result (λ answer. Took (λ s. S.view s) (λ s. S.device s) server (counts_by self.old.counts) when message.now self.old.slot answer self.new.slot told.old.items told.new.items) }
         ensures calm { IfOk result (λ answer. StaysCalm (λ s. S.view s) self.old.slot (is_some answer) self.new.slot) }
-        ensures rubbish { OnOk result (WhereUp (λ s. S.view s) (TakeLeaves message.now) self.old.slot self.new.slot) }
+        ensures beside { OnOk result (WhereUp (λ s. S.view s) (TakeLeaves message.now) self.old.slot self.new.slot) }
         ensures counts { self.new.counts ≡ self.old.counts }
         ensures room { ReadsPages (λ s. S.view s) self.old.slot }
     {
@@ -120,7 +120,7 @@ impl<S: Powered + Drop> Place<S> {
         ensures left { (most : ℕ) → IsPlace (λ s. S.view s) server most self.old → IfOk result (λ answer. LeavesPlace (λ s. S.view s) server most self.new answer) }
         ensures worked { IfOk result (λ answer. WorkedBy (λ s. S.view s) (λ s. S.device s) server (counts_by self.old.counts) when self.old.slot answer self.new.slot told.old.items told.new.items) }
         ensures calm { IfOk result (λ answer. StaysCalm (λ s. S.view s) self.old.slot (is_some answer) self.new.slot) }
-        ensures rubbish { OnOk result (WhereUp (λ s. S.view s) WorkLeaves self.old.slot self.new.slot) }
+        ensures beside { OnOk result (WhereUp (λ s. S.view s) WorkLeaves self.old.slot self.new.slot) }
         ensures less { OnOk result (steps_at (λ s. S.view s) self.new.slot < steps_at (λ s. S.view s) self.old.slot) }
         ensures counts { self.new.counts ≡ self.old.counts }
         ensures room { ReadsPages (λ s. S.view s) self.old.slot }
@@ -143,7 +143,7 @@ impl<S: Powered + Drop> Place<S> {
         ensures left { (most : ℕ) → IsPlace (λ s. S.view s) server most self.old → OnOk result (IsPlace (λ s. S.view s) server most self.new) }
         ensures showed { IfOk result (λ list. Showed (λ s. S.view s) (λ s. S.device s) server (counts_by self.old.counts) when self.old.slot (items_of list) self.new.slot told.old.items told.new.items) }
         ensures calm { IfOk result (λ list. StaysCalm (λ s. S.view s) self.old.slot (is_some list) self.new.slot) }
-        ensures rubbish { OnOk result (WhereUp (λ s. S.view s) KeepsRubbish self.old.slot self.new.slot) }
+        ensures beside { OnOk result (WhereUp (λ s. S.view s) KeepsBeside self.old.slot self.new.slot) }
         ensures counts { self.new.counts ≡ self.old.counts }
     {
         let list = self.list_files(alloc)?;
@@ -163,7 +163,7 @@ impl<S: Powered + Drop> Place<S> {
         ensures left { (most : ℕ) → IsPlace (λ s. S.view s) server most self.old → OnOk result (IsPlace (λ s. S.view s) server most self.new) }
         ensures scrubbed { OnOk result ((done : Bool) × ScrubbedBy (λ s. S.view s) (λ s. S.device s) server (counts_by self.old.counts) when self.old.slot done self.new.slot told.old.items told.new.items) }
         ensures calm { OnOk result (StaysCalm (λ s. S.view s) self.old.slot true self.new.slot) }
-        ensures rubbish { OnOk result (WhereUp (λ s. S.view s) KeepsRubbish self.old.slot self.new.slot) }
+        ensures beside { OnOk result (WhereUp (λ s. S.view s) KeepsBeside self.old.slot self.new.slot) }
         ensures cleaned { OnOk result (WhereUp (λ s. S.view s) LeavesClean self.old.slot self.new.slot) }
         ensures image { OnOk result (WhereUp (λ s. S.view s) (LeavesImage server (counts_by self.old.counts)) self.old.slot self.new.slot) }
         ensures counts { self.new.counts ≡ self.old.counts }
@@ -184,7 +184,7 @@ impl<S: Powered + Drop> Place<S> {
         ensures left { (most : ℕ) → IsPlace (λ s. S.view s) server most self.old → OnOk result (IsPlace (λ s. S.view s) server most self.new) }
         ensures closed { OnOk result ((done : Bool) × Closed (λ s. S.view s) (λ s. S.device s) server (counts_by self.old.counts) when self.old.slot done self.new.slot told.old.items told.new.items) }
         ensures calm { OnOk result (StaysCalm (λ s. S.view s) self.old.slot true self.new.slot) }
-        ensures rubbish { OnOk result (WhereUp (λ s. S.view s) KeepsRubbish self.old.slot self.new.slot) }
+        ensures beside { OnOk result (WhereUp (λ s. S.view s) KeepsBeside self.old.slot self.new.slot) }
         ensures counts { self.new.counts ≡ self.old.counts }
     {
         let done = self.thank()?;
@@ -229,7 +229,7 @@ impl<S: Powered + Drop> Place<S> {
         requires message { CanBeTaken message.now }
         ensures answered { IfOk result (λ answer. Answered (λ s. S.view s) self.old.slot self.new.slot answer) }
         ensures handled { IfOk result (λ answer. Handles (λ s. S.view s) message.now self.old.slot answer self.new.slot) }
-        ensures rubbish { IfOk result (λ answer. WhereDone (λ s. S.view s) (TakeLeaves message.now) self.old.slot (is_some answer) self.new.slot) }
+        ensures beside { IfOk result (λ answer. WhereDone (λ s. S.view s) (TakeLeaves message.now) self.old.slot (is_some answer) self.new.slot) }
         ensures counts { self.new.counts ≡ self.old.counts }
         ensures room { ReadsPages (λ s. S.view s) self.old.slot }
     {
@@ -250,7 +250,7 @@ impl<S: Powered + Drop> Place<S> {
         requires work { has_work_at (λ s. S.view s) self.old.slot ≡ true }
         ensures answered { IfOk result (λ answer. Answered (λ s. S.view s) self.old.slot self.new.slot answer) }
         ensures worked { IfOk result (λ answer. Works (λ s. S.view s) self.old.slot answer self.new.slot) }
-        ensures rubbish { IfOk result (λ answer. WhereDone (λ s. S.view s) WorkLeaves self.old.slot (is_some answer) self.new.slot) }
+        ensures beside { IfOk result (λ answer. WhereDone (λ s. S.view s) WorkLeaves self.old.slot (is_some answer) self.new.slot) }
         ensures counts { self.new.counts ≡ self.old.counts }
         ensures room { ReadsPages (λ s. S.view s) self.old.slot }
     {
@@ -269,7 +269,7 @@ impl<S: Powered + Drop> Place<S> {
         requires serves { Serves (λ s. S.view s) 1000000 self.old.slot }
         ensures called { IfOk result (λ list. Called (λ s. S.view s) 0 (is_some list) self.old.slot self.new.slot) }
         ensures shows { IfOk result (λ list. Shows (λ s. S.view s) self.old.slot (items_of list) self.new.slot) }
-        ensures rubbish { IfOk result (λ list. WhereDone (λ s. S.view s) KeepsRubbish self.old.slot (is_some list) self.new.slot) }
+        ensures beside { IfOk result (λ list. WhereDone (λ s. S.view s) KeepsBeside self.old.slot (is_some list) self.new.slot) }
         ensures counts { self.new.counts ≡ self.old.counts }
     {
         let Slot::Up(server) = &mut self.slot else {
@@ -287,7 +287,7 @@ impl<S: Powered + Drop> Place<S> {
         ensures called { Called (λ s. S.view s) 0 (is_some result) self.old.slot self.new.slot }
         ensures scrubs { Scrubs (λ s. S.view s) self.old.slot (is_some result) self.new.slot }
         ensures cleaned { WhereDone (λ s. S.view s) LeavesClean self.old.slot (is_some result) self.new.slot }
-        ensures rubbish { WhereDone (λ s. S.view s) KeepsRubbish self.old.slot (is_some result) self.new.slot }
+        ensures beside { WhereDone (λ s. S.view s) KeepsBeside self.old.slot (is_some result) self.new.slot }
         ensures image { WhereDone (λ s. S.view s) LeavesOwnImage self.old.slot (is_some result) self.new.slot }
         ensures counts { self.new.counts ≡ self.old.counts }
     {
@@ -304,7 +304,7 @@ impl<S: Powered + Drop> Place<S> {
         requires serves { Serves (λ s. S.view s) 1000000 self.old.slot }
         ensures called { IfOk result (λ done. Called (λ s. S.view s) 0 (is_some done) self.old.slot self.new.slot) }
         ensures closes { IfOk result (λ done. Closes (λ s. S.view s) self.old.slot (is_some done) self.new.slot) }
-        ensures rubbish { IfOk result (λ done. WhereDone (λ s. S.view s) KeepsRubbish self.old.slot (is_some done) self.new.slot) }
+        ensures beside { IfOk result (λ done. WhereDone (λ s. S.view s) KeepsBeside self.old.slot (is_some done) self.new.slot) }
         ensures counts { self.new.counts ≡ self.old.counts }
     {
         let Slot::Up(server) = &mut self.slot else {
@@ -488,7 +488,7 @@ impl<S: Powered + Drop> Place<S> {
         requires within { p < page_count (counts_by self.old.counts) + page_count (counts_by self.old.counts) }
         ensures place { (server : ServerNo) (most : ℕ) → IsPlace (λ s. S.view s) server most self.old → IsPlace (λ s. S.view s) server most self.new }
         ensures befell { Befell (λ s. S.view s) (λ s. S.device s) (counts_by self.old.counts) (λ d e. Decays d p result e) self.old.slot self.new.slot }
-        ensures rubbish { WhereUp (λ s. S.view s) KeepsRubbish self.old.slot self.new.slot }
+        ensures beside { WhereUp (λ s. S.view s) KeepsBeside self.old.slot self.new.slot }
         ensures counts { self.new.counts ≡ self.old.counts }
     {
         match &mut self.slot {
@@ -508,7 +508,7 @@ impl<S: Powered + Drop> Place<S> {
         requires within { p < page_count (counts_by self.old.counts) + page_count (counts_by self.old.counts) }
         ensures place { (server : ServerNo) (most : ℕ) → IsPlace (λ s. S.view s) server most self.old → IsPlace (λ s. S.view s) server most self.new }
         ensures befell { Befell (λ s. S.view s) (λ s. S.device s) (counts_by self.old.counts) (λ d e. Revives d p e) self.old.slot self.new.slot }
-        ensures rubbish { WhereUp (λ s. S.view s) KeepsRubbish self.old.slot self.new.slot }
+        ensures beside { WhereUp (λ s. S.view s) KeepsBeside self.old.slot self.new.slot }
         ensures counts { self.new.counts ≡ self.old.counts }
     {
         match &mut self.slot {
@@ -529,7 +529,7 @@ impl<S: Powered + Drop> Place<S> {
         requires none_told { NoneTold (λ s. S.view s) self.old.slot }
         ensures place { (server : ServerNo) (most : ℕ) → IsPlace (λ s. S.view s) server most self.old → IsPlace (λ s. S.view s) server most self.new }
         ensures befell { Befell (λ s. S.view s) (λ s. S.device s) (counts_by self.old.counts) (λ d e. Arms d n kind result e) self.old.slot self.new.slot }
-        ensures rubbish { WhereUp (λ s. S.view s) KeepsRubbish self.old.slot self.new.slot }
+        ensures beside { WhereUp (λ s. S.view s) KeepsBeside self.old.slot self.new.slot }
         ensures counts { self.new.counts ≡ self.old.counts }
     {
         match &mut self.slot {
@@ -548,7 +548,7 @@ impl<S: Powered + Drop> Place<S> {
         requires there { is_there self.old.slot ≡ true }
         ensures place { (server : ServerNo) (most : ℕ) → IsPlace (λ s. S.view s) server most self.old → IsPlace (λ s. S.view s) server most self.new }
         ensures befell { Befell (λ s. S.view s) (λ s. S.device s) (counts_by self.old.counts) (λ d e. e ≡ disarmed d) self.old.slot self.new.slot }
-        ensures rubbish { WhereUp (λ s. S.view s) KeepsRubbish self.old.slot self.new.slot }
+        ensures beside { WhereUp (λ s. S.view s) KeepsBeside self.old.slot self.new.slot }
         ensures counts { self.new.counts ≡ self.old.counts }
     {
         match &mut self.slot {

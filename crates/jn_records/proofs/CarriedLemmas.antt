@@ -1,5 +1,5 @@
 -- What carrying out a list comes to: at once, in the place of its operations, and once more.
-use Rattle.jn_records.proofs.Common.{◌≡◌, ℕ, zero, suc, Bool, true, List, [], ◌∷◌, take, None, refl, sym, ◌∙◌, ap, subst, arith, fun_ext, ◌&&◌, LockUnit, File, Block, Op, Files, change, effect, answer_to, is_did, files_after, files_then, all_did, Intention, intention_change, list_change, carried_out, after_turns, in_order, Net, net_of, no_net, added, added_all, net_change}
+use Rattle.jn_records.proofs.Common.{◌≡◌, ℕ, Bool, true, List, [], ◌∷◌, Option, None, Some, refl, sym, ◌∙◌, ap, subst, arith, fun_ext, ◌&&◌, LockUnit, File, Block, Op, Files, change, or_else, effect, answer_to, is_did, files_after, files_then, all_did, Intention, intention_change, list_change, carried_out, in_order, Net, net_of, no_net, added, added_all, net_change}
 use Rattle.jn_order.proofs.ChangeLemmas.{change-then, change-nothing}
 use Rattle.jn_order.proofs.FilesLemmas.{files_after-did}
 use Rattle.jn_records.proofs.NetLemmas.{added-change, list-net}
@@ -10,25 +10,13 @@ carried-change (i ∷ list) files = carried-change list (change (intention_chang
 
 -- ---- once more
 
--- what a part of a list changes, the list changes
-covers : (n : ℕ) (list : List Intention) (u : LockUnit) → list_change list u ≡ None → list_change (take n list) u ≡ None
-covers zero list u h = refl
-covers (suc n) [] u h = refl
-covers (suc n) (i ∷ list) u h = grind (arith, covers n list u)
-
-pub carried-again : (n : ℕ) (list : List Intention) (files : Files) → carried_out list (carried_out (take n list) files) ≡ carried_out list files
-carried-again n list files =
-    carried-change list (carried_out (take n list) files)
-    ∙ ap (λ (between : Files). change (list_change list) between) (carried-change (take n list) files)
-    ∙ fun_ext (λ u. at u (covers n list u))
-    ∙ sym (carried-change list files)
+-- what agrees but where a list changes it is the same once the list is carried out
+pub like-again : (list : List Intention) (a b : Files) → ((u : LockUnit) → list_change list u ≡ None → b u ≡ a u) → carried_out list b ≡ carried_out list a
+like-again list a b like = carried-change list b ∙ fun_ext (λ u. at u (list_change list u) refl) ∙ sym (carried-change list a)
   where
-    at : (u : LockUnit) → (list_change list u ≡ None → list_change (take n list) u ≡ None) → change (list_change list) (change (list_change (take n list)) files) u ≡ change (list_change list) files u
-    at u h = grind (arith, h)
-
-pub turns-again : (list : List Intention) (turns : List ℕ) (files : Files) → carried_out list (after_turns list turns files) ≡ carried_out list files
-turns-again list [] files = refl
-turns-again list (n ∷ turns) files = turns-again list turns (carried_out (take n list) files) ∙ carried-again n list files
+    at : (u : LockUnit) (o : Option (Option (List ℕ))) → list_change list u ≡ o → change (list_change list) b u ≡ change (list_change list) a u
+    at u None e = ap (λ o. or_else o (b u)) e ∙ like u e ∙ sym (ap (λ o. or_else o (a u)) e)
+    at u (Some v) e = ap (λ o. or_else o (b u)) e ∙ sym (ap (λ o. or_else o (a u)) e)
 
 -- ---- in the place of its operations
 

@@ -1,39 +1,43 @@
 -- The names from below that these proofs cite, passed on from one place. Declares nothing.
-pub use Rattle.std.proofs.Common.{◌≡◌, ℕ, zero, suc, Bool, true, List, [], ◌∷◌, take, None, refl, sym, ◌∙◌, ap, subst, arith, ◌≢◌, ◌⊎◌, ◌<◌, inl, inr, ◌+◌, false, ◌++◌, length, drop, filter, Option, Some, ◌^◌, ltb, length-append, ◌-◌, replicate, Result, append_assoc, ◌*◌, ◌≤◌, add-zero, drop-cons, Ok, Err, rules}
+pub use Rattle.std.proofs.Common.{◌≡◌, ℕ, Bool, true, List, [], ◌∷◌, Option, None, Some, refl, sym, ◌∙◌, ap, subst, arith, ◌≢◌, ◌⊎◌, ◌<◌, inl, inr, ◌+◌, zero, suc, false, ◌++◌, length, take, drop, filter, ◌^◌, ltb, length-append, ◌≤◌, ◌*◌, ◌-◌, replicate, append_assoc, Result, map, add-zero, drop-cons, rules, Ok, Err}
 pub use Rattle.std.proofs.Math.Path.{fun_ext}
-pub use Rattle.std.specs.Prelude.{◌&&◌, nat_eq, nat_lt, if◌then◌else◌, is_some, count_by, ◌||◌, not, nat_le, IfOk, flat_map, ◌/◌, codes, IsOk, OnOk, vec_len, vec_capacity}
+pub use Rattle.std.specs.Prelude.{◌&&◌, nat_eq, nat_lt, if◌then◌else◌, is_some, count_by, ◌||◌, not, slice_index, nat_le, flat_map, IfOk, ◌/◌, ◌%◌, slice_index_or, slice_set, option_map, option_and_then, codes, slice_get, IfSome, IsOk, OnOk, vec_len, vec_capacity}
 pub use Rattle.jn_base.specs.declared.names.LockUnit.{LockUnit}
 pub use Rattle.jn_base.specs.declared.names.LockUnit.TheVariants.{File, Block}
 pub use Rattle.jn_base.specs.declared.op.Op.{Op}
-pub use Rattle.jn_order.specs.Files.{Files, change, effect, answer_to, is_did, files_after, file_of, or_else}
+pub use Rattle.jn_order.specs.Files.{Files, change, or_else, effect, answer_to, is_did, files_after, file_of, there, cut_from}
 unfoldable pub use Rattle.jn_order.specs.Files.{zeros}
 pub use Rattle.jn_order.specs.Changes.{files_then, all_did, or_also, and_then}
 pub use Rattle.jn_records.specs.declared.intention.Intention.{Intention}
-pub use Rattle.jn_records.specs.NetLists.{intention_change, list_change, carried_out, after_turns, in_order, Net, net_of, no_net, added, added_all, net_change, blocks_below, comes_behind, adds, length_with, intention_place, stands_before, InOrder, Plain, AllPlain, entry, First, Kept, MadeFresh, TakenAway, CutFrom, FileNet, as_first, as_put, stays_at, stays, seen_block, names_file, finds_file, files_there, file_added, first_file, is_put_intention, cut_first, first_block, put_or}
+pub use Rattle.jn_records.specs.NetLists.{intention_change, list_change, carried_out, in_order, Net, net_of, no_net, added, added_all, net_change, blocks_below, comes_behind, adds, length_with, intention_place, stands_before, InOrder, Plain, AllPlain, entry, First, Kept, MadeFresh, TakenAway, CutFrom, FileNet, as_first, as_put, stays_at, stays, seen_block, names_file, finds_file, files_there, file_added, first_file, is_put_intention, cut_first, first_block, put_or, among, is_put}
 pub use Rattle.std.proofs.lemmas.Bool.Decides.{nat_tests}
 pub use Rattle.jn_base.specs.declared.names.FileNo.{FileNo}
 pub use Rattle.jn_base.specs.declared.names.BlockNo.{BlockNo}
 pub use Rattle.jn_base.specs.declared.op.Op.TheVariants.{Create, Remove, Cut as CutBlocks, Read, Write}
 pub use Rattle.jn_base.specs.Names.{file_eq}
 pub use Rattle.jn_base.proofs.Tells.{file_tells, block_tells}
-pub use Rattle.jn_records.specs.NetEdits.{there_by, seen_by, cut_again, intention_for, front, in_its_place, with_intention, list_after}
+pub use Rattle.jn_records.specs.NetEdits.{seen_by, cut_again, intention_for, front, in_its_place, with_intention, list_after}
 pub use Rattle.std.proofs.lemmas.List.Sums.{length-filter, sum_by-cons}
 pub use Rattle.std.proofs.lemmas.Bool.{le-ltb, true≢false, false≢true}
-pub use Rattle.std.proofs.lemmas.List.{take_at, drop_at, append-nil}
-pub use Rattle.byteorder.specs.Endian.{big_bytes}
+pub use Rattle.std.proofs.lemmas.List.{take_at, drop_at, drop-take, append-nil, length-set, get_or-set_same, get_or-set_other}
+pub use Rattle.byteorder.specs.Endian.{big_bytes, big_number}
 pub use Rattle.jn_records.specs.Reading.{◌>>=◌}
 unfoldable pub use Rattle.jn_records.specs.Reading.{number_at, bytes_at, list_at, root_at}
+pub use Rattle.byteorder.specs.Numbers.{big_number-reads_back, length-bytes_high_first, big_from-take}
 pub use Rattle.jn_records.specs.declared.intention.What.{What}
 pub use Rattle.jn_records.specs.declared.intention.What.TheVariants.{Fresh, Gone, Cut, Put}
-pub use Rattle.std.specs.List.{list_all, AllByRecursion}
-pub use Rattle.jn_records.specs.declared.head.Head.{Head}
+pub use Rattle.std.specs.List.{list_all, AllByRecursion, find}
 pub use Rattle.jn_records.specs.declared.head.Head.TheVariants.{Free, Used}
-pub use Rattle.jn_records.specs.Heads.{addresses_bytes, head_bytes, all_within, IsHead, FileFits, within}
-unfoldable pub use Rattle.jn_records.specs.Heads.{head_page, maps_at, used_at, head_at}
-pub use Rattle.jn_base.specs.Limits.{head_blocks, most_maps}
+pub use Rattle.jn_records.specs.Heads.{addresses_bytes, all_within, head_bytes, IsHead, FileFits, within, fits_version, IsMapPage}
+unfoldable pub use Rattle.jn_records.specs.Heads.{head_page, map_page, maps_at, used_at, head_at}
+pub use Rattle.jn_base.specs.Limits.{head_blocks, most_maps, most_blocks, most_cells}
+pub use Rattle.jn_records.specs.StablePages.{is_used, file_in, address_in, map_in, entry_in, HasEntries}
+pub use Rattle.jn_records.specs.declared.head.Head.{Head}
+pub use Rattle.jn_records.specs.MapPlaces.{is_in_range, keeps_map, MapPlaces, there_by, lacks_map, lacking, places_after, places_then, need_of, bare, IsSupplied}
+pub use Rattle.jn_records.specs.Layouts.{Layout, Of, map_cell, at_cell, through, laid, layout_by, layouts_by, layout_at, has_address, IsOnce, with_cell, with_entries, with_row, cut_inside, cut_cells, head_map, IsMapIn, IsNoMap, IsRowChanged, Unused, is_layout_of, behind, block_in, files_in, IsPartCut}
+pub use Rattle.jn_records.specs.declared.intention.StoredIntention.{StoredIntention}
 pub use Rattle.jn_base.specs.declared.names.Tid.{Tid}
 pub use Rattle.jn_base.specs.declared.names.WorkId.{WorkId}
-pub use Rattle.jn_records.specs.declared.intention.StoredIntention.{StoredIntention}
 pub use Rattle.jn_records.specs.Names.{tid_bytes, work_bytes, unit_bytes, TidFits, WorkFits}
 unfoldable pub use Rattle.jn_records.specs.Names.{tid_at, work_at, unit_at}
 pub use Rattle.jn_records.specs.Intentions.{what_code, what_of, intention_bytes, IntentionFits}

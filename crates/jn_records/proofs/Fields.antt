@@ -1,6 +1,5 @@
 -- What is spelled is read again, whatever follows it.
-use Rattle.jn_records.proofs.Common.{◌≡◌, ℕ, ◌^◌, ◌<◌, false, ltb, List, ◌++◌, length, Option, Some, refl, ap, arith, length-append, le-ltb, take_at, drop_at, big_bytes, number_at, bytes_at}
-use Rattle.byteorder.specs.Numbers.{big_number-reads_back, length-bytes_high_first}
+use Rattle.jn_records.proofs.Common.{◌≡◌, ℕ, ◌^◌, ◌<◌, false, ltb, List, ◌++◌, length, Option, Some, refl, ap, arith, length-append, le-ltb, take_at, drop_at, big_bytes, number_at, bytes_at, big_number-reads_back, length-bytes_high_first}
 
 pub number_again : (n x : ℕ) (rest : List ℕ) → x < 256 ^ n → number_at n (big_bytes n x ++ rest) ≡ Some (x, rest)
 unfolding number_at

@@ -36,9 +36,9 @@ head_is_read leaves page (Used file xs maps) small is fits e =
     let whole : length xs ≡ head_blocks = grind (arith, nat_tests, is.whole) in
     let whole_maps : length maps ≡ most_maps = grind (arith, nat_tests, is.whole) in
     let near : all_within leaves xs ≡ true = grind (arith, is.within_leaves) in
-    let none : all_within 0 maps ≡ true = grind (arith, is.within_leaves) in
+    let near_maps : all_within leaves maps ≡ true = grind (arith, is.within_leaves) in
     ap head_at (e ∙ regrouped ∙ parted)
-    ∙ rw (number_again 1 1 behind (omega arith)) (used_again file xs maps rest fits whole (addresses_fit leaves xs small near) whole_maps (addresses_fit 0 maps (omega arith) none))
+    ∙ rw (number_again 1 1 behind (omega arith)) (used_again file xs maps rest fits whole (addresses_fit leaves xs small near) whole_maps (addresses_fit leaves maps small near_maps))
 
 -- what a call read is what is read there
 pub read_as : {A E : Type 0} (r : Result A E) (x y : A) → IfOk r (λ v. v ≡ x) → y ≡ x → IfOk r (λ v. v ≡ y)

@@ -3,6 +3,7 @@ pub mod Fields
 pub mod Roots
 pub mod Lists
 pub mod Heads
+pub mod HeadPages
 pub mod Malformed
 pub mod NamesAgain
 pub mod RecordsAgain
@@ -11,3 +12,6 @@ pub mod CarriedLemmas
 pub mod FilesThereLemmas
 pub mod EditLemmas
 pub mod MapPlaces
+pub mod Layouts
+pub mod PartCuts
+pub mod Supplied

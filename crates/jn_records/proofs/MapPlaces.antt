@@ -1,7 +1,7 @@
--- Where no put stands past the head's blocks, a list lacks no map page.
-use Rattle.jn_records.proofs.Common.{◌≡◌, ◌+◌, ◌-◌, ◌&&◌, ℕ, Bool, true, false, not, if◌then◌else◌, List, [], ◌∷◌, refl, ap, ◌∙◌, arith, nat_tests, nat_lt, nat_le, count_by, list_all, FileNo, Intention, is_put_intention, add-zero, sum_by-cons, ◌/◌, head_blocks}
-use Rattle.jn_records.specs.MapPlaces.{MapPlaces, lacks_map, lacking, places_after, need_of}
+-- Which map pages are there after a list, and which it lacks.
+use Rattle.jn_records.proofs.Common.{◌≡◌, ◌+◌, ◌-◌, ◌&&◌, ◌≤◌, ℕ, zero, suc, Bool, true, false, not, if◌then◌else◌, List, [], ◌∷◌, length, drop, refl, ap, ◌∙◌, arith, nat_tests, nat_lt, nat_le, count_by, list_all, map, FileNo, file_eq, Intention, StoredIntention, is_put_intention, add-zero, sum_by-cons, ◌/◌, head_blocks, MapPlaces, there_by, lacks_map, lacking, places_after, places_then, need_of, bare}
 
+-- where no put stands past the head's blocks, it lacks none
 pub no_lack : (places : MapPlaces) (list : List Intention) → list_all (λ i. nat_lt i.block.0 head_blocks) list ≡ true → count_by (λ b. b) (lacking places list) ≡ 0
 no_lack places [] h = refl
 no_lack places (i ∷ list) h =
@@ -29,3 +29,26 @@ no_lack places (i ∷ list) h =
 -- so it needs a page for each put alone
 pub pages_for_puts : (list : List Intention) (there : FileNo → Bool) (places : MapPlaces) → list_all (λ i. nat_lt i.block.0 head_blocks) list ≡ true → (need_of list there places).pages ≡ count_by is_put_intention list
 pages_for_puts list there places h = ap (λ n. count_by is_put_intention list + n) (no_lack places list h) ∙ add-zero _
+
+-- whether a file's map page is there after a list, by whether it is there before
+abbrev pub there_at : List Intention → FileNo → ℕ → Bool → Bool
+there_at [] f j there = there
+there_at (i ∷ list) f j there = there_at list f j (if file_eq i.file f then there_by i.what i.block.0 j there else there)
+
+pub then-at : (list : List Intention) (f : FileNo) (j : ℕ) (there : Bool) (places : MapPlaces) → places f j ≡ there → places_then list places f j ≡ there_at list f j there
+then-at [] f j there places e = e
+then-at (i ∷ list) f j there places e = then-at list f j (if file_eq i.file f then there_by i.what i.block.0 j there else there) (places_after i places)
+    (ap (λ (b : Bool). if file_eq i.file f then there_by i.what i.block.0 j b else b) e)
+
+-- behind the end of a list
+pub none-left : (list : List Intention) (i : ℕ) (f : FileNo) (j : ℕ) (there : Bool) → length list ≤ i → there_at (drop i list) f j there ≡ there
+none-left [] zero f j there past = refl
+none-left [] (suc i) f j there past = refl
+none-left (x ∷ list) zero f j there past = absurd (omega (arith, past))
+none-left (x ∷ list) (suc i) f j there past = none-left list i f j there (omega (arith, past))
+
+-- a list looks at its own records alone, and at no bytes
+pub lacking-bare : (bytes : StoredIntention → List ℕ) (places : MapPlaces) (stored : List StoredIntention)
+    → lacking places (map (λ (s : StoredIntention). record { what = s.what; file = s.file; block = s.block; bytes = bytes s }) stored) ≡ lacking places (map bare stored)
+lacking-bare bytes places [] = refl
+lacking-bare bytes places (s ∷ stored) = ap (λ (l : List Bool). lacks_map places (bare s) ∷ l) (lacking-bare bytes (places_after (bare s) places) stored)

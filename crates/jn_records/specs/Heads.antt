@@ -1,5 +1,5 @@
--- The heads of files: their bytes, and how they are read.
-use Rattle.std.specs.Prelude.{◌≡◌, ◌<◌, ◌^◌, ◌++◌, ◌&&◌, ℕ, List, [], length, Option, Some, None, nat_eq, nat_le, Bool, true, flat_map, if◌then◌else◌}
+-- The heads of files and their map pages: their bytes, and how they are read.
+use Rattle.std.specs.Prelude.{◌≡◌, ◌<◌, ◌^◌, ◌++◌, ◌&&◌, ◌||◌, not, ℕ, List, [], length, Option, Some, None, nat_eq, nat_le, Bool, true, flat_map, if◌then◌else◌}
 use Rattle.std.specs.List.{list_all}
 use Rattle.jn_base.specs.Limits.{head_blocks, most_maps}
 use Rattle.jn_base.specs.declared.names.FileNo.{FileNo}
@@ -30,10 +30,14 @@ has_page (Used file addresses maps) = nat_eq (length addresses) head_blocks && n
 abbrev pub all_within : ℕ → List ℕ → Bool
 all_within leaves addresses = list_all (λ a. nat_le a leaves) addresses
 
--- a head has no map page so far
 abbrev pub within : ℕ → Head → Bool
 within leaves Free = true
-within leaves (Used file addresses maps) = all_within leaves addresses && all_within 0 maps
+within leaves (Used file addresses maps) = all_within leaves addresses && all_within leaves maps
+
+-- a head of version 1 names no map page
+abbrev pub fits_version : ℕ → Head → Bool
+fits_version version Free = true
+fits_version version (Used file addresses maps) = not (nat_eq version 1) || all_within 0 maps
 
 -- a head whose pages are so many
 pub record IsHead (leaves : ℕ) (h : Head) : Type 0 where
@@ -61,3 +65,15 @@ unfoldable pub head_at : List ℕ → Option Head
 head_at bytes = do
   kind ← number_at 1 bytes
   if nat_eq kind.0 0 then Some Free else if nat_eq kind.0 1 then used_at kind.1 else None
+
+-- ---- map pages
+
+-- a data page with the addresses of so many blocks as a head has
+unfoldable pub map_page : List ℕ → List ℕ
+map_page entries = padded (addresses_bytes entries)
+
+pub record IsMapPage (leaves : ℕ) (page : List ℕ) : Type 0 where
+  pub entries : List ℕ
+  pub count : length entries ≡ head_blocks
+  pub within_leaves : all_within leaves entries ≡ true
+  pub is_page : page ≡ map_page entries

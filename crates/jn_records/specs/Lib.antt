@@ -7,6 +7,7 @@ pub mod Records
 pub mod NetLists
 pub mod NetEdits
 pub mod MapPlaces
+pub mod Layouts
 pub mod StablePages
 pub mod Sound
 pub mod Malformed

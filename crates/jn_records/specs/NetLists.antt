@@ -1,6 +1,6 @@
 -- Lists of intentions: what carrying them out changes, and net lists, which have of each file a first
 -- intention and at most one put of each block.
-use Rattle.std.specs.Prelude.{◌≡◌, ◌+◌, ℕ, zero, suc, Bool, true, false, not, nat_eq, nat_lt, nat_le, ◌&&◌, ◌||◌, if◌then◌else◌, List, [], ◌∷◌, take, count_by, Option, Some, None, is_some}
+use Rattle.std.specs.Prelude.{◌≡◌, ◌+◌, ℕ, zero, suc, Bool, true, false, not, nat_eq, nat_lt, nat_le, ◌&&◌, ◌||◌, if◌then◌else◌, List, [], ◌∷◌, count_by, Option, Some, None, is_some}
 use Rattle.jn_base.specs.declared.names.FileNo.{FileNo}
 use Rattle.jn_base.specs.declared.names.BlockNo.{BlockNo}
 use Rattle.jn_base.specs.declared.names.LockUnit.TheVariants.{File, Block}
@@ -29,6 +29,11 @@ change_by Put f p bytes = written f p bytes
 abbrev pub intention_change : Intention → Change
 intention_change i = change_by i.what i.file i.block i.bytes
 
+-- a change at these blocks alone
+abbrev pub among : (BlockNo → Bool) → Change → Change
+among gone c (File f) = None
+among gone c (Block f p) = if gone p then c (Block f p) else None
+
 -- what a list changes, the first intention first
 abbrev pub list_change : List Intention → Change
 list_change [] = nothing
@@ -38,11 +43,6 @@ list_change (i ∷ list) = and_then (intention_change i) (list_change list)
 abbrev pub carried_out : List Intention → Files → Files
 carried_out [] files = files
 carried_out (i ∷ list) files = carried_out list (change (intention_change i) files)
-
--- the files after turns, each of which carried out so many intentions from the list's start
-abbrev pub after_turns : List Intention → List ℕ → Files → Files
-after_turns list [] files = files
-after_turns list (n ∷ turns) files = after_turns list turns (carried_out (take n list) files)
 
 -- a cut or a put needs its file
 abbrev pub finds_file : What → Option (List ℕ) → Bool

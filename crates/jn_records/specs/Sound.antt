@@ -1,13 +1,13 @@
 -- Sound images: the pages of a server that was closed, each pair good and equal, with nothing under way.
 use Rattle.std.specs.Prelude.{◌≡◌, ◌<◌, ◌^◌, ◌+◌, ◌*◌, ℕ, Bool, true, List, drop, replicate}
 use Rattle.jn_base.specs.declared.names.ServerNo.{ServerNo}
-use Rattle.jn_base.specs.Limits.{head_blocks}
+use Rattle.jn_base.specs.Limits.{head_blocks, most_maps}
 use Rattle.jn_records.specs.declared.head.Head.{Head}
 use Rattle.jn_records.specs.declared.record.Record.TheVariants.{Free}
 use Rattle.jn_records.specs.Pages.{root_page, IsVersion}
-use Rattle.jn_records.specs.Heads.{head_page, IsHead, FileFits}
+use Rattle.jn_records.specs.Heads.{head_page, IsHead, FileFits, fits_version}
 use Rattle.jn_records.specs.Records.{record_page}
-use Rattle.jn_records.specs.StablePages.{Counts, Pages, root_by, page_count, slot_place, head_place, data_place, is_used, file_in, address_in}
+use Rattle.jn_records.specs.StablePages.{Counts, Pages, root_by, page_count, slot_place, head_place, data_place, is_used, file_in, address_in, map_in, entry_in, NamesMap, IsWholeMap}
 
 -- What an image says: its version, whose it is, how many pages there are of each kind, and of each physical page
 -- whether it is good and its bytes. The halves of stable page i are the physical pages i and i + page_count.
@@ -40,9 +40,9 @@ SlotsFree m i = i < m.counts.pool → m.bytes (slot_place m.counts i) ≡ record
 abbrev pub head_bytes_of : Image → ℕ → List ℕ
 head_bytes_of m i = m.bytes (head_place m.counts i)
 
--- head i is the page of a head, with no address past the data pages
+-- head i is the page of a head of the image's version, with no address past the data pages
 abbrev pub IsWholeHead : Image → ℕ → Type 0
-IsWholeHead m i = (h : Head) × IsHead m.counts.leaves h × FileFits h × (head_bytes_of m i ≡ head_page h)
+IsWholeHead m i = (h : Head) × IsHead m.counts.leaves h × FileFits h × (fits_version m.version h ≡ true) × (head_bytes_of m i ≡ head_page h)
 
 abbrev pub HeadsWhole : Image → ℕ → Type 0
 HeadsWhole m i = i < m.counts.heads → IsWholeHead m i
@@ -54,16 +54,31 @@ HasOneHead m f =
     → is_used (head_bytes_of m i) ≡ true → file_in (head_bytes_of m i) ≡ f
     → is_used (head_bytes_of m j) ≡ true → file_in (head_bytes_of m j) ≡ f → i ≡ j
 
--- head i is used and has address a at block p
-pub record Names (m : Image) (a i p : ℕ) : Type 0 where
-  pub head : i < m.counts.heads
-  pub block : p < head_blocks
-  pub used : is_used (head_bytes_of m i) ≡ true
-  pub address : address_in (head_bytes_of m i) p ≡ a
+-- data page d is a map page where a head names it as one
+abbrev pub MapsWhole : Image → ℕ → Type 0
+MapsWhole m d = IsWholeMap m.counts m.bytes d
 
--- address a is named once at most
+-- Where an address may be written: in a head as that of a block or of a map page, and in a data page that a head names as a
+-- map page. A map page that is named twice is looked at once.
+pub data Spot : Type 0 where
+  InHead : ℕ → ℕ → Spot
+  AsMap : ℕ → ℕ → Spot
+  InMap : ℕ → ℕ → Spot
+
+-- head i is used, and k is below n
+pub record IsUsedAt (m : Image) (i k n : ℕ) : Type 0 where
+  pub head : i < m.counts.heads
+  pub used : is_used (head_bytes_of m i) ≡ true
+  pub below : k < n
+
+abbrev pub IsWrittenAt : Image → ℕ → Spot → Type 0
+IsWrittenAt m a (InHead i k) = IsUsedAt m i k head_blocks × (address_in (head_bytes_of m i) k ≡ a)
+IsWrittenAt m a (AsMap i j) = IsUsedAt m i j most_maps × (map_in (head_bytes_of m i) j ≡ a)
+IsWrittenAt m a (InMap d k) = (d < m.counts.leaves) × NamesMap m.counts m.bytes d × (k < head_blocks) × (entry_in (m.bytes (data_place m.counts d)) k ≡ a)
+
+-- address a is written once at most
 abbrev pub AddressesOnce : Image → ℕ → Type 0
-AddressesOnce m a = 0 < a → (i j p q : ℕ) → Names m a i p → Names m a j q → (i ≡ j) × (p ≡ q)
+AddressesOnce m a = 0 < a → (x y : Spot) → IsWrittenAt m a x → IsWrittenAt m a y → x ≡ y
 
 -- data page i has zeros behind its block
 abbrev pub TailsZeros : Image → ℕ → Type 0
@@ -78,5 +93,6 @@ pub record IsSound (s : ServerNo) (m : Image) : Type 0 where
   pub pool : All (SlotsFree m)
   pub files : All (HasOneHead m)
   pub heads : All (HeadsWhole m)
+  pub maps : All (MapsWhole m)
   pub addresses : All (AddressesOnce m)
   pub tails : All (TailsZeros m)

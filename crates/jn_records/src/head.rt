@@ -3,7 +3,7 @@ ghost use Rattle.std.specs.Prelude.{◌≡◌, ◌≤◌, ◌^◌, ◌<◌, true
 ghost use Rattle.jn_base.specs.Limits.{head_blocks, most_maps};
 ghost use Rattle.jn_records.specs.declared.head.Head.{Head};
 ghost use Rattle.jn_records.specs.declared.head.Head.TheVariants.{Used};
-ghost use Rattle.jn_records.specs.Heads.{head_page, has_page, all_within, within, IsHead, FileFits, maps_at, used_at, head_at};
+ghost use Rattle.jn_records.specs.Heads.{head_page, has_page, all_within, within, fits_version, IsHead, FileFits, maps_at, used_at, head_at};
 
 use crate::field::{same_page, u8_at, u32_at};
 use crate::list::{ListOf, list_at};
@@ -25,7 +25,7 @@ pub enum Head {
         file: FileNo,
         /// Of each block its address: 0 where it isn't stored, else its data page's index and 1.
         addresses: ListOf<u16>,
-        /// Of each map page its address: 0 for none. None has one so far.
+        /// Of each map page its address, likewise.
         maps: ListOf<u16>,
     },
 }
@@ -47,7 +47,7 @@ impl Head {
         }
     }
 
-    /// The head whose page this is, where there is one, no address is past so many data pages and none is a map page's.
+    /// The head whose page this is, where there is one and no address is past so many data pages.
     pub fn decode(alloc: Global, page: &Page, leaves: u16) -> Result<Option<Self>, AllocError>
         ensures found { IfOk result (λ r. IfSome r (λ head. IsHead leaves head × (page.now ≡ head_page head))) }
         ensures only { (head : Head) → IsHead leaves head → FileFits head → page.now ≡ head_page head → IfOk result (λ r. r ≡ Some head) }
@@ -56,7 +56,21 @@ impl Head {
         Ok(of_page(head, page, leaves))
     }
 
-    /// Whether this is the head's page, no address is past so many data pages and none is a map page's.
+    /// The same, where heads of this version are such: a head of version 1 has no map pages.
+    pub fn decode_version(
+        alloc: Global,
+        page: &Page,
+        leaves: u16,
+        version: u8,
+    ) -> Result<Option<Self>, AllocError>
+        ensures found { IfOk result (λ r. IfSome r (λ head. IsHead leaves head × (fits_version version head ≡ true) × (page.now ≡ head_page head))) }
+        ensures only { (head : Head) → IsHead leaves head → FileFits head → fits_version version head ≡ true → page.now ≡ head_page head → IfOk result (λ r. r ≡ Some head) }
+    {
+        let head = head_at(alloc, page)?;
+        Ok(of_version(of_page(head, page, leaves), version))
+    }
+
+    /// Whether this is the head's page and no address is past so many data pages.
     fn is_of(&self, page: &Page, leaves: u16) -> bool
         ensures { IsTrue result ↔ (IsHead leaves self.now × (page.now ≡ head_page self.now)) }
     {
@@ -77,7 +91,17 @@ impl Head {
         }
     }
 
-    /// Whether no address is past so many data pages and none is a map page's.
+    /// Whether heads of this version are such.
+    fn fits_version(&self, version: u8) -> bool
+        ensures { result ≡ fits_version version self.now }
+    {
+        match self {
+            Head::Free => true,
+            Head::Used { maps, .. } => version != 1 || all_within(maps.as_slice(), 0),
+        }
+    }
+
+    /// Whether no address is past so many data pages.
     fn within(&self, leaves: u16) -> bool
         ensures { result ≡ within leaves self.now }
     {
@@ -87,7 +111,7 @@ impl Head {
                 addresses,
                 maps,
                 ..
-            } => all_within(addresses.as_slice(), leaves) && all_within(maps.as_slice(), 0),
+            } => all_within(addresses.as_slice(), leaves) && all_within(maps.as_slice(), leaves),
         }
     }
 }
@@ -103,7 +127,18 @@ fn of_page(head: Option<Head>, page: &Page, leaves: u16) -> Option<Head>
     }
 }
 
-fn all_within(addresses: &[u16], leaves: u16) -> bool
+/// The head, where heads of this version are such.
+fn of_version(head: Option<Head>, version: u8) -> Option<Head>
+    ensures found { IfSome result (λ h. (head ≡ Some h) × (fits_version version h ≡ true)) }
+    ensures only { (h : Head) → head ≡ Some h → fits_version version h ≡ true → result ≡ Some h }
+{
+    match head {
+        Some(head) if head.fits_version(version) => Some(head),
+        _ => None,
+    }
+}
+
+pub fn all_within(addresses: &[u16], leaves: u16) -> bool
     ensures { result ≡ all_within leaves addresses.now }
 {
     addresses.iter().all(|a| *a <= leaves)

@@ -5,7 +5,7 @@ ghost use Rattle.jn_records.specs.Reading.{Gives};
 ghost use Rattle.jn_records.specs.Intentions.{what_code, what_of, intention_bytes, intention_has_page, intention_at};
 
 use crate::field::{u8_at, u16_at, u32_at};
-use jn_base::{Block, BlockNo, FileNo, PageWriter};
+use jn_base::{Block, BlockNo, FileNo, HEAD_BLOCKS, PageWriter};
 
 /// What an intention does to its file.
 #[derive(Clone, Copy, Debug, PartialEq, Eq)]
@@ -38,7 +38,7 @@ pub struct StoredIntention {
     pub block: BlockNo,
     /// The index of a put's data page and 1, else 0.
     pub address: u16,
-    /// The index of a map page that a put names and 1, else 0. None names one so far.
+    /// The index of the map page that a put past the head's blocks may name and 1, else 0.
     pub map: u16,
 }
 
@@ -51,7 +51,10 @@ pub fn has_page(intention: &StoredIntention) -> bool
             intention.block.0 == 0 && intention.address == 0 && intention.map == 0
         }
         What::Cut => intention.address == 0 && intention.map == 0,
-        What::Put => intention.address != 0 && intention.map == 0,
+        What::Put => {
+            intention.address != 0
+                && (intention.map == 0 || usize::from(intention.block.0) >= HEAD_BLOCKS)
+        }
     }
 }
 

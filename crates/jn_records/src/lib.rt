@@ -11,10 +11,10 @@
 //! | intention | kind 1, the work's and the transaction's name, its place in the work (1), 1 fresh, 2 gone, 3 cut or 4 put (1), the file (4), the block (2), the put's data page as its index and 1 (2), its map page likewise (2) |
 //! | ready, going work | kind 2, 3, the work's and the transaction's name, the client (1), how many intentions and read units (1 each), of each unit its file (4) and block (2; 65,535 for the file itself), ascending |
 //! | flag | kind 4, the transaction's name, the client (1), the request that ended it (4), how many works (1) and their names |
-//! | head | kind 1, the file (4), of `HEAD_BLOCKS` blocks the data page as its index and 1, or 0 for none (2 each), of `MOST_MAPS` map pages likewise (2 each) |
+//! | head | kind 1, the file (4), of its first `HEAD_BLOCKS` blocks the data page as its index and 1, or 0 for none (2 each), of `MOST_MAPS` map pages likewise (2 each) |
+//! | map page | of the next `HEAD_BLOCKS` blocks the data page likewise (2 each) |
 //!
-//! The program writes version 2 and reads both. A page of version 1 has zeros where version 2 has map pages, and nothing
-//! names a map page so far.
+//! The program writes version 2 and reads both. A page of version 1 has zeros where version 2 has map pages.
 //!
 //! A page that isn't exactly the page of a value is no page of the format. So each decoder reads the
 //! fields and then compares the page with the value's own; `no_page_is_two_values` is the law behind it.
@@ -28,7 +28,11 @@ mod field;
 mod flag;
 mod head;
 mod intention;
+mod layout_laws;
 mod list;
+mod map;
+mod map_laws;
+mod map_places;
 mod name;
 mod net_laws;
 mod net_list;
@@ -41,7 +45,17 @@ pub use distinct::no_page_is_two_values;
 pub use flag::Flag;
 pub use head::{Head, used_page};
 pub use intention::{Intention, StoredIntention, What};
+pub use layout_laws::{
+    a_layout_has_what_stands_at_a_cell, a_layout_in_part_is_a_cut_in_part,
+    a_layout_names_each_page_once, a_put_changes_one_layout,
+};
 pub use list::ListOf;
+pub use map::{is_map_page, map_entries, map_page, read_entries};
+pub use map_laws::{
+    a_list_looks_at_its_own_files, a_list_that_was_supplied_is_supplied_again,
+    a_step_keeps_its_list_supplied,
+};
+pub use map_places::finds_map;
 pub use net_laws::{
     a_list_is_one_change, a_net_list_gives_what_its_operations_give,
     an_operation_that_was_done_keeps_the_files_there, carrying_out_again_gives_the_same,

@@ -1,13 +1,14 @@
 //! What carrying out a list of intentions comes to.
-ghost use Rattle.std.specs.Prelude.{◌≡◌, ℕ, true, List, is_some};
+ghost use Rattle.std.specs.Prelude.{◌≡◌, true, List, None, is_some};
 ghost use Rattle.jn_base.specs.declared.names.FileNo.{FileNo};
+ghost use Rattle.jn_base.specs.declared.names.LockUnit.{LockUnit};
 ghost use Rattle.jn_base.specs.declared.names.LockUnit.TheVariants.{File};
 ghost use Rattle.jn_base.specs.declared.op.Op.{Op};
 ghost use Rattle.jn_base.specs.declared.op.Answer.TheVariants.{Did};
 ghost use Rattle.jn_order.specs.Files.{Files, change, answer_to};
 ghost use Rattle.jn_order.specs.Changes.{files_then, all_did};
 ghost use Rattle.jn_records.specs.declared.intention.Intention.{Intention};
-ghost use Rattle.jn_records.specs.NetLists.{InOrder, FilesThere, list_change, net_change, carried_out, after_turns, net_of, added, added_all, no_net, names_file};
+ghost use Rattle.jn_records.specs.NetLists.{InOrder, FilesThere, list_change, net_change, carried_out, net_of, added, added_all, no_net, names_file};
 
 /// Carrying out a list changes at once what its intentions change one after another, and a list in order
 /// changes what its net says.
@@ -22,10 +23,10 @@ pub fn a_net_list_gives_what_its_operations_give()
         → carried_out list files ≡ files_then ops files }
 {}
 
-/// A list that was carried out in part, or whole, any number of times, and is carried out again from its
-/// start, gives the same files.
+/// Files that agree where a list changes nothing are the same once it is carried out on them. So a list that was carried
+/// out in part, any number of times, gives the same files when it is carried out again from its start.
 pub fn carrying_out_again_gives_the_same()
-    ensures { (list : List Intention) (turns : List ℕ) (files : Files) → carried_out list (after_turns list turns files) ≡ carried_out list files }
+    ensures { (list : List Intention) (a b : Files) → ((u : LockUnit) → list_change list u ≡ None → a u ≡ b u) → carried_out list a ≡ carried_out list b }
 {}
 
 /// Each cut and put of a net list still finds its file there in its turn when one more operation is added

@@ -1,5 +1,5 @@
 -- A store is cleaned, page by page.
-use Rattle.jn_recovery.proofs.Common.{◌≡◌, ◌≢◌, ◌⊎◌, inl, inr, ⊎_elim, ◌<◌, ◌≤◌, ◌+◌, ℕ, Bool, true, false, Result, Ok, Err, sym, ◌∙◌, subst, true≢false, arith, cases_eq, is_ok, OnOk, OnErr, cleaned_fewer, fewer_trans, StoreView, StoreCleaned, IsClean, IsSamePage, IsWholePage, later_trans, same_trans, Cleans}
+use Rattle.jn_recovery.proofs.Common.{◌≡◌, ◌⊎◌, inl, inr, ⊎_elim, ◌<◌, ◌≤◌, ◌+◌, ℕ, Bool, true, false, Result, Ok, Err, sym, ◌∙◌, subst, true≢false, arith, cases_eq, is_ok, OnOk, OnErr, cleaned_fewer, fewer_trans, StoreView, StoreCleaned, IsClean, IsSamePage, IsWholePage, later_trans, same_trans, Cleans}
 use Rattle.jn_base.specs.declared.device.Stopped.{Stopped}
 
 module _ (u v : StoreView) (from n : ℕ) (to : Cleans u from n v) (below : n < u.count) where

@@ -2,9 +2,7 @@
 use Rattle.jn_recovery.proofs.Common.{◌≡◌, ◌≢◌, ⊎_elim, ◌<◌, ◌≤◌, ◌+◌, ℕ, zero, suc, Bool, true, false, not, ◌&&◌, ◌||◌, if◌then◌else◌, List, [], ◌∷◌, length, Option, Some, None, get_or, refl, sym, ◌∙◌, ap, subst, true≢false, arith, nat_tests, find_at, sum_by-cons, sum_by-set, slice_get_within, get_or_from_slice_get, is_some, nat_eq, nat_lt, count_by, slice_set, option_and_then, find, list_any, position_or_len, WorkId, work_eq, work_tells, stored_in, intention_of, with_first, intentions_from, PassesOnce, HasIntentions, none_found, found_passes, any_same, at_set, StoredIntention, Record, Free, Intention, Ready, Going, FlagRecord, record_in, is_prepared, is_intention, is_rubbish, is_in, rubbish_of, rubbish_in}
 use Rattle.jn_recovery.proofs.Erasing.{rubbish_length, rubbish_fewer, in_both}
 use Rattle.jn_recovery.proofs.FlagCalls.{none_any}
-
-abbrev pub one : Bool → ℕ
-one b = if b then 1 else 0
+use Rattle.jn_recovery.proofs.Totals.{one}
 
 module _ {X : Type 0} (d : X) where
   module _ (p : X → Bool) where

@@ -1,5 +1,5 @@
 -- A record that counts for nothing is erased.
-use Rattle.jn_recovery.proofs.Common.{◌≡◌, ◌⊎◌, inl, inr, ⊎_elim, ◌<◌, ◌+◌, ℕ, zero, suc, Bool, true, false, not, ◌||◌, if◌then◌else◌, List, [], ◌∷◌, ◌++◌, length, Option, Some, None, refl, sym, ◌∙◌, ap, subst, true≢false, arith, length-append, sum_by-set, sum_by-cons, is_ok, IfOk, Result, Ok, Err, nat_eq, position, slice_set, count_by, list_any, Tid, WorkId, work_eq, IsIdlePut, holds_address, found_on, RecordPut, IsRecoverable, MakesNothing, idles, StoredIntention, Record, Free, Intention, Ready, Going, FlagRecord, record_page, record_in, slot_page, is_free, is_prepared, is_flag, is_rubbish, Puts, is_in, IsServing, state, Called, RecordErased, CountsErased, StoreView, Memory, accounts_of, view_of, rubbish_of, rubbish_in, Matches, IsKeptMemory, same_only}
+use Rattle.jn_recovery.proofs.Common.{◌≡◌, ◌⊎◌, inl, inr, ⊎_elim, ◌<◌, ◌+◌, ℕ, zero, suc, Bool, true, false, not, ◌||◌, if◌then◌else◌, List, [], ◌∷◌, ◌++◌, length, Option, Some, None, refl, sym, ◌∙◌, ap, subst, true≢false, arith, length-append, sum_by-set, sum_by-cons, is_ok, IfOk, Result, Ok, Err, position, slice_set, count_by, list_any, Tid, WorkId, work_eq, IsIdlePut, found_on, RecordPut, IsRecoverable, MakesNothing, idles, StoredIntention, Record, Free, Intention, Ready, Going, FlagRecord, record_page, record_in, slot_page, is_free, is_prepared, is_flag, is_rubbish, Puts, is_in, IsServing, state, Called, RecordErased, CountsErased, StoreView, Memory, accounts_of, view_of, rubbish_of, rubbish_in, Matches, IsKeptMemory, holds_intention, names_address, same_only}
 use Rattle.std.proofs.Common.{◌&&◌}
 use Rattle.jn_base.specs.declared.device.Stopped.{Stopped}
 use Rattle.jn_storage.proofs.Laws.{called_not}
@@ -133,8 +133,8 @@ module _ (m : Memory) (v : StoreView) (now : Matches m v) (serving : IsServing (
     }
 
     module _ (ok : Bool) (records : List Record) (w : StoreView) (puts : Puts m.records v slot Free ok records w) where
-      makes : MakesNothing m.server m.table.counts v m.epoch m.records m.table.heads (RecordPut slot Free) ok w
-      makes = idles m.server m.table.counts v w m.epoch m.records m.table.heads ok now.standing slot Free
+      makes : MakesNothing m.server m.table.counts v m.epoch m.records m.table.heads m.table.maps (RecordPut slot Free) ok w
+      makes = idles m.server m.table.counts v w m.epoch m.records m.table.heads m.table.maps ok now.standing slot Free
           (step_of m.server m.table.counts v slot Free ok w (subst (λ n. slot < n) now.standing.held.slots there) free_record puts.put) idle_put
 
       pub erased_matches : ok ≡ true → Matches (without_record m slot) w
@@ -144,12 +144,13 @@ module _ (m : Memory) (v : StoreView) (now : Matches m v) (serving : IsServing (
         table = now.table;
         works = idle_works m.records slot Free idle_put m.works now.works;
         made = now.made;
+        supplied = now.supplied;
         flags = flags_stay m.records slot Free m.flags (λ t. ap (is_flag t) its.is) (λ t. refl) now.flags;
         held = λ a. now.held a ∙ sym (names_kept m.records slot Free same_works (suc a) (unnamed (suc a)) refl);
       }
         where
-          unnamed : (a : ℕ) → holds_address m.records a (record_in m.records slot) ≡ false
-          unnamed a = ap (holds_address m.records a) its.is ∙ ap (λ b. nat_eq its.intention.address a && b) its.alone ∙ by (nat_eq its.intention.address a)
+          unnamed : (a : ℕ) → holds_intention (names_address a) m.records (record_in m.records slot) ≡ false
+          unnamed a = ap (holds_intention (names_address a) m.records) its.is ∙ ap (λ b. names_address a its.intention && b) its.alone ∙ by (names_address a its.intention)
             where
               by : (b : Bool) → (b && false) ≡ false
               by true = refl

@@ -1,26 +1,28 @@
 -- Rubbish is erased, record by record.
-use Rattle.jn_recovery.proofs.Common.{◌≡◌, ⊎_elim, ◌<◌, ◌≤◌, ◌+◌, ℕ, Bool, true, false, List, [], ◌∷◌, length, Option, Some, None, Result, Ok, Err, refl, sym, ◌∙◌, ap, subst, true≢false, arith, cases_eq, count_by-le-length, is_ok, IfOk, OnErr, position, slice_set, ServerNo, WorkId, RecordPut, IsStanding, MakesNothing, standing_state, idles, Head, Record, Free, Counts, data_place, slot_page, is_rubbish, Puts, StoreView, IsClean, later_refl, later_trans, same_refl, same_trans, only_clean, stop_since, KeepsDataPages, rubbish_in, Erases, EraseStopped, ErasesAll}
+use Rattle.jn_recovery.proofs.Common.{◌≡◌, ⊎_elim, ◌<◌, ◌≤◌, ◌+◌, ℕ, Bool, true, false, List, [], ◌∷◌, length, Option, Some, None, Result, Ok, Err, refl, sym, ◌∙◌, ap, subst, true≢false, arith, cases_eq, count_by-le-length, is_ok, IfOk, OnErr, position, slice_set, ServerNo, WorkId, RecordPut, IsStanding, MakesNothing, standing_state, idles, Head, Record, Free, Counts, data_place, slot_page, is_rubbish, Puts, StoreView, IsClean, later_refl, later_trans, same_refl, same_trans, only_clean, stop_since, rubbish_in, Erases, EraseStopped, ErasesAll, KeepsAllData, supplied_on}
 use Rattle.jn_base.specs.declared.device.Stopped.{Stopped}
 use Rattle.jn_recovery.proofs.Erasing.{rubbish_length, no_rubbish, rubbish_there, rubbish_idle, rubbish_less}
 use Rattle.jn_recovery.proofs.FlagCalls.{none_any, free_record}
-use Rattle.jn_recovery.proofs.Pool.{none_position, step_of}
+use Rattle.jn_recovery.proofs.Pool.{none_position, step_of, idle_work}
 use Rattle.jn_recovery.proofs.Standing.{up as stands_up}
+use Rattle.jn_recovery.proofs.Supplies.{supplied_same}
 
-module _ (server : ServerNo) (g : Counts) (v : StoreView) (epoch : ℕ) (heads : List Head) where
-  pub erases_none : (records : List Record) → IsStanding server g v epoch records heads → Erases server g v epoch heads 0 records v
-  erases_none records standing = record {
+module _ (server : ServerNo) (g : Counts) (v : StoreView) (epoch : ℕ) (heads : List Head) (maps : List (List ℕ)) (first : List Record) where
+  pub erases_none : IsStanding server g v epoch first heads maps → Erases server g v epoch heads maps 0 first first v
+  erases_none standing = record {
     later = later_refl v;
     calls = omega arith;
     stops = refl;
     power = λ p. p;
     standing = standing;
-    unchanged = stands_up server g v epoch records heads standing;
+    supplied = refl;
+    unchanged = stands_up server g v epoch first heads maps standing;
     root = same_refl v 0;
     clean = λ i lt is. is;
     data_pages = λ d lt. same_refl v (data_place g d);
   }
 
-  pub erases_all : (n : ℕ) (records : List Record) (w : StoreView) → n ≤ length records → rubbish_in records records ≡ [] → Erases server g v epoch heads n records w → ErasesAll server g v epoch heads records w
+  pub erases_all : (n : ℕ) (records : List Record) (w : StoreView) → n ≤ length records → rubbish_in records records ≡ [] → Erases server g v epoch heads maps n first records w → ErasesAll server g v epoch heads maps first records w
   erases_all n records w fits none e = record {
     erases = record {
       later = e.later;
@@ -28,6 +30,7 @@ module _ (server : ServerNo) (g : Counts) (v : StoreView) (epoch : ℕ) (heads :
       stops = e.stops;
       power = e.power;
       standing = e.standing;
+      supplied = e.supplied;
       unchanged = e.unchanged;
       root = e.root;
       clean = e.clean;
@@ -36,26 +39,27 @@ module _ (server : ServerNo) (g : Counts) (v : StoreView) (epoch : ℕ) (heads :
     none_left = none;
   }
 
-  module _ (n : ℕ) (pool : List Record) (u : StoreView) (before : Erases server g v epoch heads n pool u) (slot : ℕ) (at : position (is_rubbish pool) pool ≡ Some slot) (ok : Bool) (new : List Record) (w : StoreView) (puts : Puts pool u slot Free ok new w) where
-    makes : MakesNothing server g u epoch pool heads (RecordPut slot Free) ok w
-    makes = idles server g u w epoch pool heads ok before.standing slot Free
+  module _ (n : ℕ) (pool : List Record) (u : StoreView) (before : Erases server g v epoch heads maps n first pool u) (slot : ℕ) (at : position (is_rubbish pool) pool ≡ Some slot) (ok : Bool) (new : List Record) (w : StoreView) (puts : Puts pool u slot Free ok new w) where
+    makes : MakesNothing server g u epoch pool heads maps (RecordPut slot Free) ok w
+    makes = idles server g u w epoch pool heads maps ok before.standing slot Free
         (step_of server g u slot Free ok w (subst (λ n. slot < n) before.standing.held.slots (rubbish_there pool slot at)) free_record puts.put) (rubbish_idle pool slot at)
 
     -- a record's page is no data page
-    kept : KeepsDataPages g v w
+    kept : KeepsAllData g v w
     kept d lt = same_trans v u w (data_place g d) (before.data_pages d lt)
         (let there = rubbish_there pool slot at in let size = before.standing.held.slots in let count = before.standing.held.count in puts.put.others (data_place g d) (omega (arith, count, lt)) (λ e. omega (arith, e, there, size)))
 
     same_state : standing_state g u ≡ standing_state g v
     same_state = before.unchanged (λ n. false)
 
-    pub erases_more : ok ≡ true → Erases server g v epoch heads (n + 1) new w
+    pub erases_more : ok ≡ true → Erases server g v epoch heads maps (n + 1) first new w
     erases_more done = record {
       later = later_trans v u w before.later puts.put.later;
       calls = let a = before.calls in let b = puts.put.calls in omega (arith, a, b);
       stops = (puts.put.served done).stops ∙ before.stops;
       power = λ p. (puts.put.served done).power;
-      standing = subst (λ r. IsStanding server g w epoch r heads) (sym (puts.done done)) (makes.standing done);
+      standing = subst (λ r. IsStanding server g w epoch r heads maps) (sym (puts.done done)) (makes.standing done);
+      supplied = ap supplied_on (puts.done done) ∙ supplied_same (slice_set pool slot Free) pool (idle_work pool slot Free (rubbish_idle pool slot at)) ∙ before.supplied;
       unchanged = λ c. makes.unchanged c ∙ same_state;
       root = same_trans v u w 0 before.root (let count = before.standing.held.count in puts.put.others 0 (omega (arith, count)) (λ e. omega (arith, e)));
       clean = λ i lt is. ⊎_elim

@@ -92,7 +92,7 @@ free_record = record { whole = refl; fits = tt }
 
 module _ (m : Memory) (v : StoreView) (now : Matches m v) (serving : IsServing (view_of m v)) where
   pub flags_seen : (t : Tid) → (state (view_of m v)).flags t ≡ flags_in m.records t
-  flags_seen t = ap (λ (x : StableState). x.flags t) (finds m.server m.table.counts v m.epoch m.records m.table.heads now.standing (λ n. false))
+  flags_seen t = ap (λ (x : StableState). x.flags t) (finds m.server m.table.counts v m.epoch m.records m.table.heads m.table.maps now.standing (λ n. false))
 
   -- and they are those in memory
   flags_told : (t : Tid) → (state (view_of m v)).flags t ≡ option_map flag_state (find_by tid_eq tid_of m.flags t)
@@ -125,7 +125,7 @@ module _ (m : Memory) (v : StoreView) (now : Matches m v) (serving : IsServing (
     flag_slot = let h = position_at (is_flag t) m.records Free slot at in record {
       there = h.0;
       stands = h.1;
-      once = (consistent m.server m.table.counts v m.epoch m.records m.table.heads now.standing).distinct.flags t;
+      once = (consistent m.server m.table.counts v m.epoch m.records m.table.heads m.table.maps now.standing).distinct.flags t;
     }
 
     no_work : IsOfNoWork (record_in m.records slot)
@@ -142,8 +142,8 @@ module _ (m : Memory) (v : StoreView) (now : Matches m v) (serving : IsServing (
       serves : Serves (made_by (DropFlag t) (state (view_of m v))) (accounts_of (without_flag m slot t))
       serves = subst (Serves (made_by (DropFlag t) (state (view_of m v)))) (sym accounts_less) (serves_dropped (state (view_of m v)) (accounts_of m) t (serves_of m v serving) has)
 
-      makes : Makes m.server m.table.counts v m.epoch m.records m.table.heads (RecordPut slot Free) (DropFlag t) ok w
-      makes = drops m.server m.table.counts v w m.epoch m.records m.table.heads ok now.standing slot t
+      makes : Makes m.server m.table.counts v m.epoch m.records m.table.heads m.table.maps (RecordPut slot Free) (DropFlag t) ok w
+      makes = drops m.server m.table.counts v w m.epoch m.records m.table.heads m.table.maps ok now.standing slot t
           (step_of m.server m.table.counts v slot Free ok w (subst (λ n. slot < n) now.standing.held.slots flag_slot.there) free_record puts.put) flag_slot
           (may_load (made_by (DropFlag t) (state (view_of m v))) (accounts_of (without_flag m slot t)) serves)
 
@@ -154,6 +154,7 @@ module _ (m : Memory) (v : StoreView) (now : Matches m v) (serving : IsServing (
         table = now.table;
         works = match_stays m.records slot Free no_work free_no_work m.works now.works;
         made = now.made;
+        supplied = now.supplied;
         flags = flags_less m.records m.flags slot t now.flags flag_slot;
         held = λ a. now.held a ∙ sym (names_stay m.records slot Free no_work free_no_work (suc a));
       }
@@ -199,8 +200,8 @@ module _ (m : Memory) (v : StoreView) (now : Matches m v) (serving : IsServing (
       flagged : Serves (made_by (AddFlag flag) (state (view_of m v))) (accounts_of (with_flag m slot flag promised))
       flagged = subst (Serves (made_by (AddFlag flag) (state (view_of m v)))) (sym accounts_more) (serves_flagged (state (view_of m v)) (accounts_of m) flag (serves_of m v serving) may.promise may.new may.room may.given)
 
-      makes_flag : Makes m.server m.table.counts v m.epoch m.records m.table.heads (RecordPut slot (FlagRecord flag)) (AddFlag flag) ok w
-      makes_flag = flags_put m.server m.table.counts v w m.epoch m.records m.table.heads ok now.standing slot flag
+      makes_flag : Makes m.server m.table.counts v m.epoch m.records m.table.heads m.table.maps (RecordPut slot (FlagRecord flag)) (AddFlag flag) ok w
+      makes_flag = flags_put m.server m.table.counts v w m.epoch m.records m.table.heads m.table.maps ok now.standing slot flag
           (step_of m.server m.table.counts v slot (FlagRecord flag) ok w (subst (λ n. slot < n) now.standing.held.slots flag_put.slot_free.there) is puts.put) flag_put
           (may_load (made_by (AddFlag flag) (state (view_of m v))) (accounts_of (with_flag m slot flag promised)) flagged)
 
@@ -211,6 +212,7 @@ module _ (m : Memory) (v : StoreView) (now : Matches m v) (serving : IsServing (
         table = now.table;
         works = match_stays m.records slot (FlagRecord flag) no_work_yet (flag_no_work flag) m.works now.works;
         made = now.made;
+        supplied = now.supplied;
         flags = flags_more m.records m.flags slot flag now.flags flag_put none;
         held = λ a. now.held a ∙ sym (names_stay m.records slot (FlagRecord flag) no_work_yet (flag_no_work flag) (suc a));
       }

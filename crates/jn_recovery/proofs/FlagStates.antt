@@ -24,10 +24,12 @@ serves_dropped x a t s has = record {
     flags = but tid_eq t s.counted.flags;
     files = s.counted.files;
     blocks = s.counted.blocks;
+    maps = s.counted.maps;
     works_all = s.counted.works_all;
     flags_all = listing-less tid_eq tid_tells t _ _ _ (λ u. grind arith) s.counted.flags_all;
     files_all = s.counted.files_all;
     blocks_all = s.counted.blocks_all;
+    maps_all = s.counted.maps_all;
     records = let less = length-one tid_eq tid_tells t s.counted.flags s.counted.flags_all.different (s.counted.flags_all.all t ∙ has) in omega (arith, s.counted.records, less);
     heads_used = s.counted.heads_used;
     pages = s.counted.pages;
@@ -37,6 +39,7 @@ serves_dropped x a t s has = record {
   heads_fit = s.heads_fit;
   next_fits = s.next_fits;
   held_fits = s.held_fits;
+  maps_fit = s.maps_fit;
 }
 
 pub serves_flagged : (x : StableState) (a : Accounts) (flag : Flag) → Serves x a → 0 < a.promised_records → x.flags flag.tid ≡ None → AtMost 63 tid_eq (λ t. is_some (x.flags t))
@@ -48,10 +51,12 @@ serves_flagged x a flag s promise new room given = record {
     flags = flag.tid ∷ s.counted.flags;
     files = s.counted.files;
     blocks = s.counted.blocks;
+    maps = s.counted.maps;
     works_all = s.counted.works_all;
     flags_all = listing-more tid_eq tid_tells flag.tid _ _ _ (ap is_some new) (λ u. grind arith) s.counted.flags_all;
     files_all = s.counted.files_all;
     blocks_all = s.counted.blocks_all;
+    maps_all = s.counted.maps_all;
     records = omega (arith, s.counted.records, s.records_fit, promise);
     heads_used = s.counted.heads_used;
     pages = s.counted.pages;
@@ -61,6 +66,7 @@ serves_flagged x a flag s promise new room given = record {
   heads_fit = s.heads_fit;
   next_fits = s.next_fits;
   held_fits = s.held_fits;
+  maps_fit = s.maps_fit;
 }
 
 pub serves_promised : (x : StableState) (a : Accounts) (n : ℕ) → Serves x a → n ≤ a.free_records → Serves x (with_promises a n)
@@ -71,10 +77,12 @@ serves_promised x a n s fits = record {
     flags = s.counted.flags;
     files = s.counted.files;
     blocks = s.counted.blocks;
+    maps = s.counted.maps;
     works_all = s.counted.works_all;
     flags_all = s.counted.flags_all;
     files_all = s.counted.files_all;
     blocks_all = s.counted.blocks_all;
+    maps_all = s.counted.maps_all;
     records = s.counted.records;
     heads_used = s.counted.heads_used;
     pages = s.counted.pages;
@@ -84,4 +92,5 @@ serves_promised x a n s fits = record {
   heads_fit = s.heads_fit;
   next_fits = s.next_fits;
   held_fits = s.held_fits;
+  maps_fit = s.maps_fit;
 }

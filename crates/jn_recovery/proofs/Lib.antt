@@ -16,6 +16,8 @@ pub mod Downs
 pub mod Openings
 pub mod Begins
 pub mod Totals
+pub mod Cells
+pub mod Supplies
 pub mod Keys
 pub mod PoolCounted
 pub mod TableCounted

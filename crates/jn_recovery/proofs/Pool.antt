@@ -1,5 +1,5 @@
 -- One record of the pool gives way to another.
-use Rattle.jn_recovery.proofs.Common.{◌≡◌, ◌<◌, ◌+◌, ℕ, zero, suc, Bool, true, false, if◌then◌else◌, List, [], ◌∷◌, ◌++◌, length, Option, Some, None, get_or, refl, sym, ◌∙◌, ap, subst, true≢false, arith, fun_ext, nat_tests, find_at, find_past, passes_at_first, sum_by-set, slice_get_past, slice_get-get_or, nat_eq, ◌&&◌, nat_lt, position, slice_set, option_and_then, position_or_len, find, list_any, ServerNo, Tid, WorkId, holds_address, works_name, stored_list, RecordPut, IsPutStep, IsIdlePut, any_same, none_passes, Flag, Record, Free, Intention, Ready, Going, FlagRecord, WorkState, record_page, Counts, IsRecord, record_in, slot_page, is_free, free_count, is_prepared, is_intention, is_flag, StoreView, StorePut, rubbish_of, rubbish_in, WorksMatch, FlagsMatch, work_by, flag_on}
+use Rattle.jn_recovery.proofs.Common.{◌≡◌, ◌<◌, ◌+◌, ℕ, zero, suc, Bool, true, false, if◌then◌else◌, List, [], ◌∷◌, ◌++◌, length, Option, Some, None, get_or, refl, sym, ◌∙◌, ap, subst, true≢false, arith, fun_ext, nat_tests, find_at, find_past, passes_at_first, sum_by-set, slice_get_past, slice_get-get_or, ◌&&◌, nat_lt, position, slice_set, option_and_then, position_or_len, find, list_any, ServerNo, Tid, WorkId, works_name, stored_list, RecordPut, IsPutStep, IsIdlePut, any_same, none_passes, Flag, Record, Free, Intention, Ready, Going, FlagRecord, WorkState, record_page, Counts, IsRecord, record_in, slot_page, is_free, free_count, is_prepared, is_intention, is_flag, StoreView, StorePut, rubbish_of, rubbish_in, WorksMatch, FlagsMatch, work_by, flag_on, holds_intention, names_address}
 use Rattle.jn_page_state.proofs.PoolLemmas.{intentions_kept, idle_kept, idle_list}
 
 -- ---- the first that passes
@@ -47,7 +47,7 @@ free_same pool slot new below before after = let e = sum_by-set (λ r. if is_fre
 pub record IsOfNoWork (r : Record) : Type 0 where
   pub works : (w : WorkId) → is_prepared w r ≡ false
   pub lists : (w : WorkId) (order : ℕ) → is_intention w order r ≡ false
-  pub names : (pool : List Record) (a : ℕ) → holds_address pool a r ≡ false
+  pub names : (pool : List Record) (a : ℕ) → holds_intention (names_address a) pool r ≡ false
   pub rubbish : (pool : List Record) → rubbish_of pool r ≡ []
 
 pub free_no_work : IsOfNoWork Free
@@ -101,12 +101,12 @@ module _ (pool : List Record) (slot : ℕ) (new : Record) (same : (w : WorkId) �
   pub rubbish_kept : rubbish_of pool (record_in pool slot) ≡ rubbish_of pool new → rubbish_in (slice_set pool slot new) (slice_set pool slot new) ≡ rubbish_in pool pool
   rubbish_kept e = rubbish_moves ∙ rubbish_past pool pool slot new e
 
-  pub names_kept : (a : ℕ) → holds_address pool a (record_in pool slot) ≡ false → holds_address pool a new ≡ false → works_name (slice_set pool slot new) a ≡ works_name pool a
-  names_kept a before after = ap (λ p. list_any p (slice_set pool slot new)) (fun_ext by) ∙ any_same (holds_address pool a) Free pool slot new (before ∙ sym after)
+  pub names_kept : (a : ℕ) → holds_intention (names_address a) pool (record_in pool slot) ≡ false → holds_intention (names_address a) pool new ≡ false → works_name (slice_set pool slot new) a ≡ works_name pool a
+  names_kept a before after = ap (λ p. list_any p (slice_set pool slot new)) (fun_ext by) ∙ any_same (holds_intention (names_address a) pool) Free pool slot new (before ∙ sym after)
     where
-      by : (r : Record) → holds_address (slice_set pool slot new) a r ≡ holds_address pool a r
+      by : (r : Record) → holds_intention (names_address a) (slice_set pool slot new) r ≡ holds_intention (names_address a) pool r
       by Free = refl
-      by (Intention w u k i) = ap (λ b. nat_eq i.address a && b) (prepared_stay w)
+      by (Intention w u k i) = ap (λ b. names_address a i && b) (prepared_stay w)
       by (Ready head n reads) = refl
       by (Going head n reads) = refl
       by (FlagRecord f) = refl
@@ -154,7 +154,7 @@ module _ (pool : List Record) (slot : ℕ) (new : Record) (idle : IsIdlePut pool
   pub idle_same : (w : WorkId) → is_prepared w (record_in pool slot) ≡ is_prepared w new
   idle_same w = idle_kept pool (record_in pool slot) w idle.old_idle ∙ sym (idle_kept pool new w idle.new_idle)
 
-  idle_work : (w : WorkId) → option_and_then (work_by (slice_set pool slot new) w) (find (is_prepared w) (slice_set pool slot new)) ≡ option_and_then (work_by pool w) (find (is_prepared w) pool)
+  pub idle_work : (w : WorkId) → option_and_then (work_by (slice_set pool slot new) w) (find (is_prepared w) (slice_set pool slot new)) ≡ option_and_then (work_by pool w) (find (is_prepared w) pool)
   idle_work w = by (list_any (is_prepared w) pool) refl
     where
       by : (b : Bool) → list_any (is_prepared w) pool ≡ b → option_and_then (work_by (slice_set pool slot new) w) (find (is_prepared w) (slice_set pool slot new)) ≡ option_and_then (work_by pool w) (find (is_prepared w) pool)

@@ -1,10 +1,10 @@
 -- What is counted of the pool: its works, its flags and their records.
-use Rattle.jn_recovery.proofs.Common.{◌≡◌, ◌<◌, ◌≤◌, ◌+◌, ℕ, zero, suc, Bool, true, false, not, ◌||◌, ◌&&◌, if◌then◌else◌, List, [], ◌∷◌, length, map, get_or, Option, Some, None, refl, sym, ◌∙◌, ap, subst, true≢false, arith, nat_tests, length-map, sum_by-cons, nat_eq, nat_lt, nat_le, is_some, count_by, option_map, option_and_then, find, list_any, Tid, ServerNo, WorkId, tid_eq, work_eq, tid_tells, work_tells, Contents, state_in, stored_in, stored_list, intention_of, intentions_from, with_first, intended, prepared_by, flag_by, holds_address, works_name, IsConsistent, HasIntentions, IsCompleteBy, PassesOnce, found_once, found_passes, found_any, none_at, passes_at, StoredIntention, Record, Free, Intention, Ready, Going, FlagRecord, WorkState, Counts, record_in, is_free, free_count, is_prepared, is_intention, is_flag, is_rubbish, name_of, tid_of, find_by, total, are_different, IsListing, intentions, list_of, collected, state_on, works_on, flags_on, names_page, stored_work, work_by, flag_on, WorksMatch, FlagsMatch, rubbish_in}
-use Rattle.jn_recovery.proofs.Counting.{one, is_of_work, none_counts, one_counts, found_at, same_counts, counts_plus, work_count, listed_length}
+use Rattle.jn_recovery.proofs.Common.{◌≡◌, ◌<◌, ◌≤◌, ◌+◌, ℕ, zero, suc, Bool, true, false, not, ◌||◌, ◌&&◌, if◌then◌else◌, List, [], ◌∷◌, length, map, get_or, Option, Some, None, refl, sym, ◌∙◌, ap, subst, true≢false, arith, nat_tests, length-map, sum_by-cons, nat_eq, nat_lt, nat_le, is_some, count_by, option_map, option_and_then, find, list_any, Tid, WorkId, tid_eq, work_eq, tid_tells, work_tells, Contents, state_in, stored_in, stored_list, intention_of, intentions_from, with_first, intended, prepared_by, flag_by, works_name, IsConsistent, HasIntentions, IsCompleteBy, PassesOnce, found_once, found_passes, found_any, none_at, passes_at, StoredIntention, Record, Free, Intention, Ready, Going, FlagRecord, WorkState, Counts, record_in, is_free, free_count, is_prepared, is_intention, is_flag, is_rubbish, name_of, tid_of, find_by, total, are_different, IsListing, intentions, list_of, collected, state_on, works_on, flags_on, names_page, stored_work, work_by, flag_on, WorksMatch, FlagsMatch, rubbish_in, holds_intention, names_address}
+use Rattle.jn_recovery.proofs.Counting.{is_of_work, none_counts, one_counts, found_at, same_counts, counts_plus, work_count, listed_length}
 use Rattle.jn_recovery.proofs.Erasing.{rubbish_length}
 use Rattle.jn_recovery.proofs.FlagCalls.{none_any}
 use Rattle.jn_recovery.proofs.Keys.{is_key, on_key, keys_of, keys_length, keys_same, keys_in, keys_differ, found_by}
-use Rattle.jn_recovery.proofs.Totals.{total_same, total_plus, total_ones, total_none, count_total, swapped, in_once}
+use Rattle.jn_recovery.proofs.Totals.{one, total_same, total_plus, total_ones, total_none, count_total, swapped, in_once}
 
 abbrev pub named : Record → Option WorkId
 named (Ready head n reads) = Some head.work
@@ -183,7 +183,7 @@ module _ (pool : List Record) (w : WorkId) (q : StoredIntention → Bool) where
 
 -- ---- a pool without rubbish
 
-module _ (server : ServerNo) (g : Counts) (c : Contents) (consistent : IsConsistent server g c) (none_left : rubbish_in c.pool c.pool ≡ []) where
+module _ (g : Counts) (c : Contents) (consistent : IsConsistent g c) (none_left : rubbish_in c.pool c.pool ≡ []) where
   names_differ : are_different work_eq (collected named c.pool) ≡ true
   names_differ = keys_differ named work_eq work_tells is_prepared link_named Free c.pool consistent.distinct.works
 
@@ -243,23 +243,20 @@ module _ (server : ServerNo) (g : Counts) (c : Contents) (consistent : IsConsist
   pub works_name_is : (a : ℕ) → works_name c.pool (suc a) ≡ list_any (names_page a) c.pool
   works_name_is a = all c.pool (λ j. by j (record_in c.pool j) refl)
     where
-      all : (rs : List Record) → ((j : ℕ) → holds_address c.pool (suc a) (record_in rs j) ≡ names_page a (record_in rs j)) → list_any (holds_address c.pool (suc a)) rs ≡ list_any (names_page a) rs
+      all : (rs : List Record) → ((j : ℕ) → holds_intention (names_address (suc a)) c.pool (record_in rs j) ≡ names_page a (record_in rs j)) → list_any (holds_intention (names_address (suc a)) c.pool) rs ≡ list_any (names_page a) rs
       all [] same = refl
-      all (r ∷ rs) same = ap (λ b. b || list_any (holds_address c.pool (suc a)) rs) (same 0) ∙ ap (λ b. names_page a r || b) (all rs (λ j. same (suc j)))
+      all (r ∷ rs) same = ap (λ b. b || list_any (holds_intention (names_address (suc a)) c.pool) rs) (same 0) ∙ ap (λ b. names_page a r || b) (all rs (λ j. same (suc j)))
 
-      none_is : false ≡ nat_eq 0 (suc a)
-      none_is = grind (arith, nat_tests)
-
-      by : (j : ℕ) (r : Record) → record_in c.pool j ≡ r → holds_address c.pool (suc a) r ≡ names_page a r
-      by j Free e = none_is
-      by j (Intention v u k i) e = ap (λ b. nat_eq i.address (suc a) && b) (prepared_for j v u k i e) ∙ same (nat_eq i.address (suc a))
+      by : (j : ℕ) (r : Record) → record_in c.pool j ≡ r → holds_intention (names_address (suc a)) c.pool r ≡ names_page a r
+      by j Free e = refl
+      by j (Intention v u k i) e = ap (λ b. names_address (suc a) i && b) (prepared_for j v u k i e) ∙ same (names_address (suc a) i)
         where
           same : (b : Bool) → (b && true) ≡ b
           same true = refl
           same false = refl
-      by j (Ready head n reads) e = none_is
-      by j (Going head n reads) e = none_is
-      by j (FlagRecord f) e = none_is
+      by j (Ready head n reads) e = refl
+      by j (Going head n reads) e = refl
+      by j (FlagRecord f) e = refl
 
   -- ---- the work of a record
 

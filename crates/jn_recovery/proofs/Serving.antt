@@ -1,6 +1,5 @@
 -- When a storage serves, and what its calls keep.
-use Rattle.jn_recovery.proofs.Common.{◌≡◌, ◌≤◌, ℕ, Bool, true, false, List, length, sym, ◌∙◌, ap, subst, arith, ServerNo, WorkId, found_on, pages_by, IsRecoverable, state_on_pages, Counts, Pick, StableState, stable, IsOrderly, Accounts, IsServing, IsCounted, list_of, state, Called, StoreView, StorePut, Memory, accounts_of, view_of, count_by, is_put_intention}
-use Rattle.jn_storage.specs.Orderly.{IsLoadable}
+use Rattle.jn_recovery.proofs.Common.{◌≡◌, ◌≤◌, ℕ, Bool, true, false, List, length, sym, ◌∙◌, ap, subst, arith, ServerNo, WorkId, found_on, IsRecoverable, Counts, Pick, StableState, stable, IsOrderly, Accounts, IsServing, IsCounted, list_of, state, Called, StoreView, StorePut, Memory, accounts_of, view_of, ◌<◌, FileNo, most_maps, IsLoadable, most_pages}
 
 -- a storage that serves, apart from its store
 pub record Serves (x : StableState) (a : Accounts) : Type 0 where
@@ -9,10 +8,11 @@ pub record Serves (x : StableState) (a : Accounts) : Type 0 where
   pub records_fit : a.promised_records ≤ a.free_records
   pub heads_fit : a.promised_heads ≤ a.free_heads
   pub next_fits : (w : WorkId) → a.next w ≤ length (list_of x w)
-  pub held_fits : (w : WorkId) → a.held w ≤ count_by is_put_intention (list_of x w)
+  pub held_fits : (w : WorkId) → a.held w ≤ most_pages (list_of x w)
+  pub maps_fit : (f : FileNo) (j : ℕ) → a.maps f j ≡ true → j < most_maps
 
 pub serves_of : (m : Memory) (v : StoreView) → IsServing (view_of m v) → Serves (state (view_of m v)) (accounts_of m)
-serves_of m v s = record { orderly = s.orderly; counted = s.counted; records_fit = s.records_fit; heads_fit = s.heads_fit; next_fits = s.next_fits; held_fits = s.held_fits }
+serves_of m v s = record { orderly = s.orderly; counted = s.counted; records_fit = s.records_fit; heads_fit = s.heads_fit; next_fits = s.next_fits; held_fits = s.held_fits; maps_fit = s.maps_fit }
 
 pub serving_by : (m : Memory) (v : StoreView) (x : StableState) → ((c : Pick) → found_on m.table.counts v c ≡ x) → v.power ≡ true → Serves x (accounts_of m) → IsServing (view_of m v)
 serving_by m v x finds power s = with_state (subst (λ y. Serves y (accounts_of m)) (sym (finds (λ n. false))) s)
@@ -27,6 +27,7 @@ serving_by m v x finds power s = with_state (subst (λ y. Serves y (accounts_of 
       heads_fit = s.heads_fit;
       next_fits = s.next_fits;
       held_fits = s.held_fits;
+      maps_fit = s.maps_fit;
     }
 
 -- a recovery would take such a state
@@ -41,7 +42,7 @@ may_load x a s = record {
 }
 
 pub loadable_found : (server : ServerNo) (g : Counts) (w : StoreView) → IsRecoverable server g w → (c : Pick) → IsLoadable server g.heads (found_on g w c)
-loadable_found server g w r c = let at = r.each c in subst (IsLoadable server g.heads) (sym (state_on_pages g (pages_by w c) at.of_format.root.2.leaves at.of_format.heads)) at.consistent.loadable
+loadable_found server g w r c = (r.each c).loadable
 
 -- a call that puts one page
 pub called_put : (m n : Memory) (v w : StoreView) (i : ℕ) (page : List ℕ) (ok : Bool) (most : ℕ) → 16 ≤ most → n.server ≡ m.server → n.table.counts ≡ m.table.counts → StorePut v i page ok w

@@ -59,7 +59,7 @@ module _ (m : Memory) (v : StoreView) (now : Matches m v) (serving : IsServing (
   blocks = block_on m.table.counts (pages_by v (λ n. false))
 
   pub works_seen : (w : WorkId) → (state (view_of m v)).works w ≡ works_in m.records (block_on m.table.counts (pages_by v (λ n. false))) w
-  works_seen w = ap (λ (x : StableState). x.works w) (finds m.server m.table.counts v m.epoch m.records m.table.heads now.standing (λ n. false))
+  works_seen w = ap (λ (x : StableState). x.works w) (finds m.server m.table.counts v m.epoch m.records m.table.heads m.table.maps now.standing (λ n. false))
 
   pub works_told : (w : WorkId) → (state (view_of m v)).works w ≡ option_map (prepared_of (block_on m.table.counts (pages_by v (λ n. false)))) (option_map stored_work (find_by work_eq name_of m.works w))
   works_told w = works_seen w ∙ works_by m.records (block_on m.table.counts (pages_by v (λ n. false))) w (find (is_prepared w) m.records)

@@ -1,6 +1,9 @@
 -- Sums over lists, and over the numbers below one.
-use Rattle.jn_recovery.proofs.Common.{◌≡◌, ⊎_elim, ◌<◌, ◌≤◌, ◌+◌, ℕ, zero, suc, Bool, true, false, ◌||◌, ◌&&◌, if◌then◌else◌, List, [], ◌∷◌, length, get_or, refl, sym, ◌∙◌, ap, subst, true≢false, arith, cases_eq, nat_tests, sum_by-cons, nat_eq, nat_lt, slice_index_or, count_by, list_any, Tells, passes_at, PassesOnce, total, is_in, are_different}
-use Rattle.jn_recovery.proofs.Counting.{one}
+use Rattle.jn_recovery.proofs.Common.{◌≡◌, ⊎_elim, ◌<◌, ◌≤◌, ◌+◌, ℕ, zero, suc, Bool, true, false, ◌||◌, ◌&&◌, if◌then◌else◌, List, [], ◌∷◌, length, get_or, refl, sym, ◌∙◌, ap, subst, true≢false, arith, cases_eq, nat_tests, sum_by-cons, nat_eq, nat_lt, slice_index_or, count_by, list_any, Tells, passes_at, PassesOnce, total, is_in, are_different, any-found}
+unfoldable use Rattle.jn_records.specs.Layouts.{any_below}
+
+abbrev pub one : Bool → ℕ
+one b = if b then 1 else 0
 
 -- ---- over a list
 
@@ -95,34 +98,68 @@ module _ {K : Type 0} (eq : K → K → Bool) (tells : Tells eq) where
 
 -- ---- over the numbers below one
 
-abbrev pub below : (ℕ → ℕ) → ℕ → ℕ
+-- closed, since n may be a number like that of a file's cells
+unfoldable pub below : (ℕ → ℕ) → ℕ → ℕ
 below f zero = 0
 below f (suc n) = below f n + f n
 
+pub below_more : (f : ℕ → ℕ) (n : ℕ) → below f (suc n) ≡ below f n + f n
+unfolding below
+below_more f n = refl
+
 pub below_same : (f g : ℕ → ℕ) (n : ℕ) → ((a : ℕ) → a < n → f a ≡ g a) → below f n ≡ below g n
+unfolding below
 below_same f g zero same = refl
 below_same f g (suc n) same = let here = same n (omega arith) in let again = below_same f g n (λ a lt. same a (omega (arith, lt))) in omega (arith, here, again)
 
 pub below_plus : (f g h : ℕ → ℕ) → ((a : ℕ) → h a ≡ f a + g a) → (n : ℕ) → below h n ≡ below f n + below g n
+unfolding below
 below_plus f g h is zero = refl
 below_plus f g h is (suc n) = let here = is n in let again = below_plus f g h is n in omega (arith, here, again)
 
 pub below_ones : (n : ℕ) → below (λ a. 1) n ≡ n
+unfolding below
 below_ones zero = refl
 below_ones (suc n) = let again = below_ones n in omega (arith, again)
 
+pub below_zeros : (n : ℕ) → below (λ a. 0) n ≡ 0
+unfolding below
+below_zeros zero = refl
+below_zeros (suc n) = let again = below_zeros n in omega (arith, again)
+
 pub below_total : {X : Type 0} (f : ℕ → X → ℕ) (xs : List X) (n : ℕ) → below (λ a. total (f a) xs) n ≡ total (λ x. below (λ a. f a x) n) xs
+unfolding below
 below_total f xs zero = sym (total_none xs)
 below_total f xs (suc n) =
     let again = below_total f xs n in
     let both = total_plus (λ x. below (λ a. f a x) n) (f n) (λ x. below (λ a. f a x) n + f n x) (λ x. refl) xs in
     omega (arith, again, both)
 
+-- a sum of sums in the other order
+pub below_swapped : (f : ℕ → ℕ → ℕ) (m n : ℕ) → below (λ a. below (f a) m) n ≡ below (λ q. below (λ a. f a q) n) m
+unfolding below
+below_swapped f m zero = sym (below_zeros m)
+below_swapped f m (suc n) =
+    let again = below_swapped f m n in
+    let both = below_plus (λ q. below (λ a. f a q) n) (f n) (λ q. below (λ a. f a q) n + f n q) (λ q. refl) m in
+    omega (arith, again, both)
+
+-- the first m, and those behind them
+pub below_split : (f : ℕ → ℕ) (m n : ℕ) → below f (m + n) ≡ below f m + below (λ a. f (m + a)) n
+unfolding below
+below_split f m zero = ap (below f) (let e : m + 0 ≡ m = omega arith in e) ∙ (let e : below f m ≡ below f m + 0 = omega arith in e)
+below_split f m (suc n) =
+    let again = below_split f m n in
+    let next : m + suc n ≡ suc (m + n) = omega arith in
+    ap (below f) next ∙ (let e : below f (m + n) + f (m + n) ≡ below f m + (below (λ a. f (m + a)) n + f (m + n)) = omega (arith, again) in e)
+
 below_front : (f : ℕ → ℕ) (n : ℕ) → below f (suc n) ≡ f 0 + below (λ a. f (suc a)) n
+unfolding below
 below_front f zero = omega arith
 below_front f (suc n) = let again = below_front f n in omega (arith, again)
 
 pub below_flags : (flags : List Bool) → count_by (λ b. b) flags ≡ below (λ a. one (slice_index_or flags a false)) (length flags)
+unfolding below
 below_flags [] = refl
 below_flags (b ∷ flags) =
     let more = sum_by-cons (λ (b : Bool). if b then 1 else 0) b flags in
@@ -131,8 +168,25 @@ below_flags (b ∷ flags) =
     omega (arith, more, again, front)
 
 below_hit : (k n : ℕ) → below (λ a. one (nat_eq (suc k) (suc a))) n ≡ one (nat_lt k n)
+unfolding below
 below_hit k zero = grind (arith, nat_tests)
 below_hit k (suc n) = let again = below_hit k n in grind (arith, nat_tests, again)
+
+-- a test that passes at one number at most
+pub below_any : (test : ℕ → Bool) (n : ℕ) → ((p q : ℕ) → test p ≡ true → test q ≡ true → p ≡ q) → one (any_below n test) ≡ below (λ q. one (test q)) n
+unfolding any_below below
+below_any test zero once = refl
+below_any test (suc n) once = by (test n) refl (any_below n test) refl (below_any test n once)
+  where
+    by : (b : Bool) → test n ≡ b → (c : Bool) → any_below n test ≡ c → one (any_below n test) ≡ below (λ q. one (test q)) n → one (b || any_below n test) ≡ below (λ q. one (test q)) n + one b
+    by true e true h again = let at = any-found n test h in absurd (let same = once at.0 n at.2 e in let lt = at.1 in omega (arith, same, lt))
+    by true e false h again = let none = ap one h in omega (arith, again, none)
+    by false e c h again = omega (arith, again)
+
+-- the data page that an address leads to
+pub below_one : (x n : ℕ) → x ≤ n → below (λ a. one (nat_eq x (suc a))) n ≡ one (nat_lt 0 x)
+below_one zero n fits = below_same (λ a. one (nat_eq 0 (suc a))) (λ a. 0) n (λ a lt. grind (arith, nat_tests)) ∙ below_zeros n ∙ grind (arith, nat_tests)
+below_one (suc k) n fits = below_hit k n ∙ (let here : nat_lt k n ≡ true = grind (arith, nat_tests, fits) in let there : nat_lt 0 (suc k) ≡ true = grind (arith, nat_tests) in ap one (here ∙ sym there))
 
 -- an address that there is a page for is that of one page, where the test passes
 pub below_address : (x n : ℕ) (p : ℕ → Bool) → x ≤ n → below (λ a. one (nat_eq x (suc a) && p (suc a))) n ≡ one (nat_lt 0 x && p x)
@@ -152,14 +206,6 @@ below_address x n p fits = below_same (λ a. one (nat_eq x (suc a) && p (suc a))
     all true = refl
     all false = refl
 
-    zeros : (n : ℕ) → below (λ a. 0) n ≡ 0
-    zeros zero = refl
-    zeros (suc n) = let again = zeros n in omega (arith, again)
-
-    at : (x n : ℕ) → x ≤ n → below (λ a. one (nat_eq x (suc a))) n ≡ one (nat_lt 0 x)
-    at zero n fits = below_same (λ a. one (nat_eq 0 (suc a))) (λ a. 0) n (λ a lt. grind (arith, nat_tests)) ∙ zeros n ∙ grind (arith, nat_tests)
-    at (suc k) n fits = below_hit k n ∙ (let here : nat_lt k n ≡ true = grind (arith, nat_tests, fits) in let there : nat_lt 0 (suc k) ≡ true = grind (arith, nat_tests) in ap one (here ∙ sym there))
-
     by : (b : Bool) → below (λ a. one (nat_eq x (suc a) && b)) n ≡ one (nat_lt 0 x && b)
-    by true = below_same (λ a. one (nat_eq x (suc a) && true)) (λ a. one (nat_eq x (suc a))) n (λ a lt. ap one (all (nat_eq x (suc a)))) ∙ at x n fits ∙ ap one (sym (all (nat_lt 0 x)))
-    by false = below_same (λ a. one (nat_eq x (suc a) && false)) (λ a. 0) n (λ a lt. ap one (nothing (nat_eq x (suc a)))) ∙ zeros n ∙ ap one (sym (nothing (nat_lt 0 x)))
+    by true = below_same (λ a. one (nat_eq x (suc a) && true)) (λ a. one (nat_eq x (suc a))) n (λ a lt. ap one (all (nat_eq x (suc a)))) ∙ below_one x n fits ∙ ap one (sym (all (nat_lt 0 x)))
+    by false = below_same (λ a. one (nat_eq x (suc a) && false)) (λ a. 0) n (λ a lt. ap one (nothing (nat_eq x (suc a)))) ∙ below_zeros n ∙ ap one (sym (nothing (nat_lt 0 x)))

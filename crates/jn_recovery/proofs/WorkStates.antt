@@ -1,5 +1,5 @@
 -- A storage serves on with a work that goes, and with a rubbish record less.
-use Rattle.jn_recovery.proofs.Common.{◌≡◌, ◌≤◌, ◌+◌, ◌&&◌, ℕ, Bool, true, false, not, if◌then◌else◌, length, Option, Some, None, refl, sym, ◌∙◌, ap, subst, arith, fun_ext, is_some, WorkId, work_eq, work_tells, StableState, Prepared, MarkGoing, RemoveWork, made_by, gone_on, at_work, is_in, total, IsOrderly, Accounts, intentions, list_of, CountsErased, CountsOff, orderly-marked, orderly-removed, but, is_in-but, listing-same, listing-less, total-but, total-same, file_there, count_by, heads_of, is_put_intention}
+use Rattle.jn_recovery.proofs.Common.{◌≡◌, ◌≤◌, ◌+◌, ◌&&◌, ℕ, Bool, true, false, not, if◌then◌else◌, length, Option, Some, None, refl, sym, ◌∙◌, ap, subst, arith, fun_ext, is_some, WorkId, work_eq, work_tells, StableState, Prepared, MarkGoing, RemoveWork, made_by, gone_on, at_work, is_in, total, IsOrderly, Accounts, intentions, list_of, CountsErased, CountsOff, orderly-marked, orderly-removed, but, is_in-but, listing-same, listing-less, total-but, total-same, file_there, heads_of, MapPlaces, IsListing, most_pages, map_eq, has_map}
 use Rattle.jn_recovery.proofs.FlagStates.{length-one}
 use Rattle.jn_recovery.proofs.Serving.{Serves}
 
@@ -37,10 +37,12 @@ module _ (x : StableState) (work : WorkId) where
       flags = s.counted.flags;
       files = s.counted.files;
       blocks = s.counted.blocks;
+      maps = s.counted.maps;
       works_all = listing-same work_eq (λ w. is_some (x.works w)) (λ w. is_some ((made_by (MarkGoing work) x).works w)) s.counted.works some_marked s.counted.works_all;
       flags_all = s.counted.flags_all;
       files_all = s.counted.files_all;
       blocks_all = s.counted.blocks_all;
+      maps_all = s.counted.maps_all;
       records = let lists = ap (λ (f : WorkId → ℕ). total f s.counted.works) (fun_ext (λ w. ap (λ l. length l) (list_marked w))) in omega (arith, s.counted.records, lists);
       heads_used = s.counted.heads_used;
       pages = s.counted.pages;
@@ -49,7 +51,8 @@ module _ (x : StableState) (work : WorkId) where
     records_fit = s.records_fit;
     heads_fit = s.heads_fit;
     next_fits = λ w. subst (λ l. a.next w ≤ length l) (sym (list_marked w)) (s.next_fits w);
-    held_fits = λ w. subst (λ l. a.held w ≤ count_by is_put_intention l) (sym (list_marked w)) (s.held_fits w);
+    held_fits = λ w. subst (λ l. a.held w ≤ most_pages l) (sym (list_marked w)) (s.held_fits w);
+    maps_fit = s.maps_fit;
   }
 
 pub serves_erased : (x : StableState) (a b : Accounts) → CountsErased a b → Serves x a → Serves x b
@@ -60,10 +63,12 @@ serves_erased x a b counts s = subst (Serves x) (sym counts.others) (record {
     flags = s.counted.flags;
     files = s.counted.files;
     blocks = s.counted.blocks;
+    maps = s.counted.maps;
     works_all = s.counted.works_all;
     flags_all = s.counted.flags_all;
     files_all = s.counted.files_all;
     blocks_all = s.counted.blocks_all;
+    maps_all = s.counted.maps_all;
     records = omega (arith, s.counted.records, counts.rubbish_less);
     heads_used = s.counted.heads_used;
     pages = s.counted.pages;
@@ -73,6 +78,7 @@ serves_erased x a b counts s = subst (Serves x) (sym counts.others) (record {
   heads_fit = s.heads_fit;
   next_fits = s.next_fits;
   held_fits = s.held_fits;
+  maps_fit = s.maps_fit;
 })
 
 -- ---- a work is removed
@@ -112,10 +118,12 @@ module _ (x : StableState) (a b : Accounts) (work : WorkId) (s : Serves x a) (so
       flags = s.counted.flags;
       files = s.counted.files;
       blocks = s.counted.blocks;
+      maps = s.counted.maps;
       works_all = listing-less work_eq work_tells work _ _ _ (λ v. by (work_eq work v) (x.works v)) s.counted.works_all;
       flags_all = s.counted.flags_all;
       files_all = s.counted.files_all;
       blocks_all = s.counted.blocks_all;
+      maps_all = subst (λ (maps : MapPlaces). IsListing map_eq (has_map maps) s.counted.maps) (sym is.counts.maps) s.counted.maps_all;
       records =
           let less = length-one work_eq work_tells work s.counted.works s.counted.works_all.different (s.counted.works_all.all work ∙ some) in
           let lists = total_less (λ v. length (list_of (made_by (RemoveWork work) x) v)) (λ v. length (list_of x v)) (λ v e. ap (λ l. length l) (list_else v e)) in
@@ -131,7 +139,8 @@ module _ (x : StableState) (a b : Accounts) (work : WorkId) (s : Serves x a) (so
     records_fit = omega (arith, s.records_fit, is.counts.free_records, is.counts.promised_records);
     heads_fit = omega (arith, s.heads_fit, is.counts.free_heads, is.promised_heads);
     next_fits = λ v. subst (λ n. n ≤ length (list_of (made_by (RemoveWork work) x) v)) (sym (ap (λ (f : WorkId → ℕ). f v) is.counts.next)) (next_by v (work_eq work v) refl);
-    held_fits = λ v. subst (λ n. n ≤ count_by is_put_intention (list_of (made_by (RemoveWork work) x) v)) (sym (ap (λ (f : WorkId → ℕ). f v) is.counts.held)) (held_by v (work_eq work v) refl);
+    held_fits = λ v. subst (λ n. n ≤ most_pages (list_of (made_by (RemoveWork work) x) v)) (sym (ap (λ (f : WorkId → ℕ). f v) is.counts.held)) (held_by v (work_eq work v) refl);
+    maps_fit = λ f j h. s.maps_fit f j (sym (ap (λ (maps : MapPlaces). maps f j) is.counts.maps) ∙ h);
   }
     where
       by : (c : Bool) (o : Option Prepared) → is_some (if c then None else o) ≡ (is_some o && not c)
@@ -144,6 +153,6 @@ module _ (x : StableState) (a b : Accounts) (work : WorkId) (s : Serves x a) (so
       next_by v true e = omega arith
       next_by v false e = subst (λ l. a.next v ≤ length l) (sym (list_else v e)) (s.next_fits v)
 
-      held_by : (v : WorkId) (c : Bool) → work_eq work v ≡ c → (if c then 0 else a.held v) ≤ count_by is_put_intention (list_of (made_by (RemoveWork work) x) v)
+      held_by : (v : WorkId) (c : Bool) → work_eq work v ≡ c → (if c then 0 else a.held v) ≤ most_pages (list_of (made_by (RemoveWork work) x) v)
       held_by v true e = omega arith
-      held_by v false e = subst (λ l. a.held v ≤ count_by is_put_intention l) (sym (list_else v e)) (s.held_fits v)
+      held_by v false e = subst (λ l. a.held v ≤ most_pages l) (sym (list_else v e)) (s.held_fits v)

@@ -1,9 +1,9 @@
 -- What is kept in memory, as it follows from the records and the heads that stand on the pages.
-use Rattle.std.specs.Prelude.{◌≡◌, ◌≤◌, ◌<◌, ◌^◌, ℕ, suc, Bool, true, false, nat_eq, List, [], ◌∷◌, All, length, Option, Some, None}
+use Rattle.std.specs.Prelude.{◌≡◌, ◌≤◌, ◌<◌, ◌^◌, ℕ, zero, suc, Bool, true, false, List, [], ◌∷◌, All, length, Option, Some, None}
 use Rattle.std.specs.List.{list_any}
 use Rattle.jn_alloc.specs.Free.{free_count}
 use Rattle.jn_files.specs.Table.{TableView, is_held}
-use Rattle.jn_files.specs.Calls.{with_promised_heads}
+use Rattle.jn_files.specs.Calls.{with_held, with_promised_heads}
 use Rattle.jn_page_state.specs.Contents.{stored_list, with_first}
 use Rattle.jn_page_state.specs.Recoverable.{PassesOnce}
 use Rattle.jn_records.specs.declared.flag.Flag.{Flag}
@@ -14,7 +14,7 @@ use Rattle.jn_records.specs.declared.work.WorkState.{WorkState}
 use Rattle.jn_sets.specs.Pool.{record_in}
 use Rattle.jn_storage.specs.Listing.{total}
 use Rattle.jn_recovery.specs.Matches.{flag_on}
-use Rattle.jn_recovery.specs.Pages.{heads_needed}
+use Rattle.jn_recovery.specs.Pages.{is_at, heads_needed}
 
 -- what there is of these, in order
 abbrev pub collected : {A B : Type 0} → (A → Option B) → List A → List B
@@ -40,26 +40,50 @@ IsFew s = length s.list < 2 ^ 32
 
 -- ---- data pages
 
--- the address that an intention's record names, 0 for none
-abbrev pub address_in : Record → ℕ
-address_in (Intention work tid order i) = i.address
-address_in _ = 0
-
+-- an intention's record names data page a, for its block or as a map page
 abbrev pub names_page : ℕ → Record → Bool
-names_page a r = nat_eq (address_in r) (suc a)
+names_page a (Intention work tid order i) = is_at a i
+names_page a _ = false
+
+-- and it doesn't name it as both
+abbrev pub IsApart : Record → Type 0
+IsApart (Intention work tid order i) = (a : ℕ) → i.address ≡ suc a → i.map ≡ suc a → ⊥
+IsApart _ = Unit {0}
 
 -- nothing is held yet, and no page is named twice
 pub record MayHold (t : TableView) (pool : List Record) : Type 0 where
   pub loose : (a : ℕ) → is_held t a ≡ false
   pub unpromised : t.free_leaves.promised ≡ 0
   pub size : length t.held ≡ t.counts.leaves
-  pub fit : (i : ℕ) → address_in (record_in pool i) ≤ t.counts.leaves
+  pub fit : (i a : ℕ) → names_page a (record_in pool i) ≡ true → a < t.counts.leaves
+  pub apart : (i : ℕ) → IsApart (record_in pool i)
   pub once : (a : ℕ) → PassesOnce (λ i. names_page a (record_in pool i))
+
+-- ---- one page after another
+
+-- the page of an address may be held: it is there, nothing holds it, and none is promised
+abbrev pub MayHoldAt : TableView → ℕ → Type 0
+MayHoldAt t zero = Unit {0}
+MayHoldAt t (suc a) = (a < t.counts.leaves) × (is_held t a ≡ false) × (t.free_leaves.promised ≡ 0)
+
+abbrev pub held_at : TableView → ℕ → TableView
+held_at t zero = t
+held_at t (suc a) = with_held t a
+
+-- both pages of an intention's record
+abbrev pub HoldsBoth : TableView → Record → Type 0
+HoldsBoth t (Intention work tid order i) = MayHoldAt t i.address × MayHoldAt (held_at t i.address) i.map
+HoldsBoth t _ = Unit {0}
+
+abbrev pub both_held : TableView → Record → TableView
+both_held t (Intention work tid order i) = held_at (held_at t i.address) i.map
+both_held t _ = t
 
 -- exactly the pages that these records name are held
 pub record HoldsNamed (t : TableView) (records : List Record) (u : TableView) : Type 0 where
   pub counts : u.counts ≡ t.counts
   pub heads : u.heads ≡ t.heads
+  pub maps : u.maps ≡ t.maps
   pub free_heads : u.free_heads ≡ t.free_heads
   pub promised : u.free_leaves.promised ≡ t.free_leaves.promised
   pub size : length u.held ≡ length t.held

@@ -1,5 +1,5 @@
 -- What is kept in memory is what stands on the pages.
-use Rattle.std.specs.Prelude.{◌≡◌, ◌<◌, ℕ, suc, Bool, true, false, List, map, slice_get, Option, Some, None, option_map, option_and_then}
+use Rattle.std.specs.Prelude.{◌≡◌, ◌<◌, ℕ, suc, Bool, true, false, List, map, drop, slice_get, Option, Some, None, option_map, option_and_then}
 use Rattle.std.specs.List.{find}
 use Rattle.jn_base.specs.declared.names.LockUnit.{LockUnit}
 use Rattle.jn_base.specs.declared.names.Tid.{Tid}
@@ -15,6 +15,7 @@ use Rattle.jn_records.specs.declared.record.Record.{Record}
 use Rattle.jn_records.specs.declared.record.Record.TheVariants.{Ready, Going, Flag as FlagRecord}
 use Rattle.jn_records.specs.declared.work.WorkHead.{WorkHead}
 use Rattle.jn_records.specs.declared.work.WorkState.{WorkState}
+use Rattle.jn_records.specs.MapPlaces.{MapPlaces, maps_in, IsSuppliedBy}
 use Rattle.jn_records.specs.NetLists.{is_fresh}
 use Rattle.jn_records.specs.Pages.{root_page}
 use Rattle.jn_records.specs.StablePages.{root_by}
@@ -55,6 +56,14 @@ IsMade heads (Some s) = (k : ℕ) (i : StoredIntention) → k < s.next → slice
 abbrev pub AreMade : List Head → List WorkState → Type 0
 AreMade heads works = (w : WorkId) → IsMade heads (find_by work_eq name_of works w)
 
+-- each put that is left of a work names a map page where it finds none in its turn
+abbrev pub HasMaps : MapPlaces → Option WorkState → Type 0
+HasMaps places None = Unit {0}
+HasMaps places (Some s) = IsSuppliedBy places (drop s.next s.list)
+
+abbrev pub HaveMaps : MapPlaces → List WorkState → Type 0
+HaveMaps places works = (w : WorkId) → HasMaps places (find_by work_eq name_of works w)
+
 -- ---- flags
 
 abbrev pub flag_on : Record → Option Flag
@@ -69,14 +78,15 @@ pub record FlagsMatch (pool : List Record) (flags : List Flag) : Type 0 where
 -- ---- all
 
 pub record Matches (m : Memory) (v : StoreView) : Type 0 where
-  pub standing : IsStanding m.server m.table.counts v m.epoch m.records m.table.heads
+  pub standing : IsStanding m.server m.table.counts v m.epoch m.records m.table.heads m.table.maps
   -- the root is of the version that is written
   pub root : IsOnly v 0 (root_page (root_by m.server m.table.counts m.epoch))
   pub table : IsTable m.table
   pub works : WorksMatch m.records m.works
   pub made : AreMade m.table.heads m.works
+  pub supplied : HaveMaps (maps_in m.table.heads) m.works
   pub flags : FlagsMatch m.records m.flags
-  -- a data page is held exactly where an intention of a prepared work names it
+  -- a data page is held exactly where an intention of a prepared work names it, for its block or as a map page
   pub held : (a : ℕ) → is_held m.table a ≡ works_name m.records (suc a)
 
 -- So it is while the store has power; after a call that was stopped it has none, and only the store counts.

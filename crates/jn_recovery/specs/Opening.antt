@@ -2,18 +2,20 @@
 use Rattle.std.specs.Prelude.{◌≡◌, ◌≤◌, ◌<◌, ◌+◌, ◌*◌, ℕ, true, List, [], Result, Ok, Err}
 use Rattle.jn_base.specs.declared.names.ServerNo.{ServerNo}
 use Rattle.jn_files.specs.Calls.{IsLoaded as IsTableLoaded}
-use Rattle.jn_page_state.specs.Pages.{found_on}
+use Rattle.jn_page_state.specs.Pages.{found_on, heads_on, pages_by, pool_on}
 use Rattle.jn_page_state.specs.Standing.{IsStanding, standing_state}
 use Rattle.jn_page_state.specs.Recoverable.{IsRecoverable}
 use Rattle.jn_records.specs.declared.head.Head.{Head}
 use Rattle.jn_records.specs.declared.record.Record.{Record}
 use Rattle.jn_records.specs.declared.root.Root.{Root}
+use Rattle.jn_records.specs.MapPlaces.{maps_named}
 use Rattle.jn_records.specs.Pages.{root_page, format_version}
-use Rattle.jn_records.specs.StablePages.{Counts, root_by}
+use Rattle.jn_records.specs.StablePages.{Counts, root_by, data_place}
 use Rattle.jn_rows.specs.Stable.{Pick, Unchanged}
 use Rattle.jn_store.specs.Store.{StoreView, StoreLater, IsCalm, IsClean, IsOnly, IsSamePage, IsWholePage, IsStop}
 use Rattle.jn_recovery.specs.Loading.{reading_calls, front_count, KeepsDataPages}
 use Rattle.jn_recovery.specs.Counts.{most_calls}
+use Rattle.jn_recovery.specs.Pages.{supplied_on}
 use Rattle.jn_recovery.specs.Memory.{rubbish_in}
 use Rattle.jn_recovery.specs.declared.load.DownCause.{DownCause}
 use Rattle.jn_recovery.specs.declared.load.DownCause.TheVariants.{Stopped, Memory, EpochsUsedUp}
@@ -34,13 +36,20 @@ next_root r = record r { version = format_version; epoch = r.epoch + 1 }
 
 -- ---- the store
 
--- The store stands, and each pick finds what one pick found before, which had one epoch, with another.
-pub record Stands (server : ServerNo) (g : Counts) (v : StoreView) (most was epoch : ℕ) (records : List Record) (heads : List Head) (w : StoreView) : Type 0 where
+-- all data pages are as they were
+abbrev pub KeepsAllData : Counts → StoreView → StoreView → Type 0
+KeepsAllData g v w = (d : ℕ) → d < g.leaves → IsSamePage v w (data_place g d)
+
+-- The store stands, and each pick finds what one pick found before, which had one epoch, with another. So many calls were made, and those for
+-- the map pages that heads name.
+pub record Stands (server : ServerNo) (g : Counts) (v : StoreView) (most was epoch : ℕ) (records : List Record) (heads : List Head) (maps : List (List ℕ)) (w : StoreView) : Type 0 where
   pub later : StoreLater v w
-  pub calls : w.calls ≤ v.calls + most
+  pub calls : w.calls ≤ v.calls + (most + 24 * maps_named heads)
   pub stops : w.stops ≡ v.stops
-  pub standing : IsStanding server g w epoch records heads
+  pub standing : IsStanding server g w epoch records heads maps
   pub before : Pick
+  pub heads_read : heads ≡ heads_on g (pages_by v before)
+  pub supplied : supplied_on records ≡ supplied_on (pool_on g (pages_by v before))
   pub old : (found_on g v before).epoch ≡ was
   pub found : (c : Pick) → found_on g w c ≡ record (found_on g v before) { epoch = epoch }
   pub clean : (i : ℕ) → i < front_count g → IsClean w i
@@ -52,21 +61,22 @@ pub record IsOpened (server : ServerNo) (g : Counts) (v : StoreView) (o : Opened
   pub root : o.root ≡ record (root_by server g o.root.epoch) { version = o.root.version }
   pub last : o.root.epoch < 4294967295
   pub table : IsTableLoaded g o.table
-  pub stands : Stands server g v (reading_calls g) o.root.epoch o.root.epoch o.sets o.table.heads w
+  pub stands : Stands server g v (reading_calls g) o.root.epoch o.root.epoch o.sets o.table.heads o.table.maps w
 
 -- ---- rubbish
 
 -- so many records at most were erased, each by one put that changes nothing that is found
-pub record Erases (server : ServerNo) (g : Counts) (v : StoreView) (epoch : ℕ) (heads : List Head) (most : ℕ) (records : List Record) (w : StoreView) : Type 0 where
+pub record Erases (server : ServerNo) (g : Counts) (v : StoreView) (epoch : ℕ) (heads : List Head) (maps : List (List ℕ)) (most : ℕ) (before records : List Record) (w : StoreView) : Type 0 where
   pub later : StoreLater v w
   pub calls : w.calls ≤ v.calls + 16 * most
   pub stops : w.stops ≡ v.stops
   pub power : v.power ≡ true → w.power ≡ true
-  pub standing : IsStanding server g w epoch records heads
+  pub standing : IsStanding server g w epoch records heads maps
+  pub supplied : supplied_on records ≡ supplied_on before
   pub unchanged : Unchanged (standing_state g v) (found_on g w)
   pub root : IsSamePage v w 0
   pub clean : (i : ℕ) → i < v.count → IsClean v i → IsClean w i
-  pub data_pages : KeepsDataPages g v w
+  pub data_pages : KeepsAllData g v w
 
 -- one more was stopped
 pub record EraseStopped (server : ServerNo) (g : Counts) (v : StoreView) (most : ℕ) (w : StoreView) : Type 0 where
@@ -75,11 +85,11 @@ pub record EraseStopped (server : ServerNo) (g : Counts) (v : StoreView) (most :
   pub stop : IsStop v w
   pub recoverable : IsRecoverable server g w
   pub unchanged : Unchanged (standing_state g v) (found_on g w)
-  pub data_pages : KeepsDataPages g v w
+  pub data_pages : KeepsAllData g v w
 
 -- no record is rubbish any more
-pub record ErasesAll (server : ServerNo) (g : Counts) (v : StoreView) (epoch : ℕ) (heads : List Head) (records : List Record) (w : StoreView) : Type 0 where
-  pub erases : Erases server g v epoch heads g.pool records w
+pub record ErasesAll (server : ServerNo) (g : Counts) (v : StoreView) (epoch : ℕ) (heads : List Head) (maps : List (List ℕ)) (before records : List Record) (w : StoreView) : Type 0 where
+  pub erases : Erases server g v epoch heads maps g.pool before records w
   pub none_left : rubbish_in records records ≡ []
 
 -- ---- a new epoch
@@ -90,7 +100,7 @@ pub record IsBegun (server : ServerNo) (g : Counts) (v : StoreView) (o : Opened)
   pub last : o.root.epoch < 4294967295
   pub next : epoch ≡ o.root.epoch + 1
   pub table : IsTableLoaded g o.table
-  pub stands : Stands server g v (most_calls g) o.root.epoch epoch o.sets o.table.heads w
+  pub stands : Stands server g v (most_calls g 0) o.root.epoch epoch o.sets o.table.heads o.table.maps w
   pub written : IsOnly w 0 (root_page (root_by server g epoch))
   pub power : w.power ≡ true
   pub none_left : rubbish_in o.sets o.sets ≡ []

@@ -3,7 +3,7 @@ ghost use Rattle.std.specs.Prelude.{◌≡◌, ◌<◌, ◌^◌, All, IfOk, leng
 ghost use Rattle.jn_files.specs.Calls.{with_promised_heads};
 ghost use Rattle.jn_files.specs.Table.{IsTable};
 ghost use Rattle.jn_page_state.specs.Contents as contents;
-ghost use Rattle.jn_recovery.specs.Gathering.{state_on, works_on, flags_on, address_in, IsFew, MayHold, HoldsNamed, all_needed, MayPromise, IsGathered};
+ghost use Rattle.jn_recovery.specs.Gathering.{state_on, works_on, flags_on, IsFew, MayHold, HoldsNamed, MayHoldAt, held_at, HoldsBoth, both_held, all_needed, MayPromise, IsGathered};
 ghost use Rattle.jn_recovery.specs.Pages.{heads_needed};
 ghost use Rattle.jn_recovery.specs.Matches.{flag_on};
 ghost use Rattle.jn_sets.specs.Pool.{record_in};
@@ -194,26 +194,34 @@ fn flag_in(alloc: Global, value: &Record) -> Result<Option<Flag>, AllocError>
     }
 }
 
-/// Holds the data pages of the intentions, all of which are of prepared works.
+/// Holds the data pages and the map pages of the intentions, all of which are of prepared works.
 fn hold_pages(table: &mut FileTable, sets: &Sets)
     requires { MayHold table.old sets.now }
     ensures { HoldsNamed table.old sets.now table.new }
 {
     for slot in 0..sets.slots() {
-        let address = address_in(record_at(sets, slot));
-        if address > 0 {
-            table.hold(address - 1);
-        }
+        hold_both(table, record_at(sets, slot));
     }
 }
 
-/// The address that an intention's record names, 0 where it names none.
-fn address_in(value: &Record) -> u16
-    ensures { result ≡ address_in value.now }
+/// Holds both pages of an intention's record.
+fn hold_both(table: &mut FileTable, value: &Record)
+    requires { HoldsBoth table.old value.now }
+    ensures { table.new ≡ both_held table.old value.now }
 {
-    match value {
-        Record::Intention { intention, .. } => intention.address,
-        _ => 0,
+    if let Record::Intention { intention, .. } = value {
+        hold_page(table, intention.address);
+        hold_page(table, intention.map);
+    }
+}
+
+/// Holds the data page of an address, where there is one.
+fn hold_page(table: &mut FileTable, address: u16)
+    requires { MayHoldAt table.old address }
+    ensures { table.new ≡ held_at table.old address }
+{
+    if address > 0 {
+        table.hold(address - 1);
     }
 }
 

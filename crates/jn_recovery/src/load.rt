@@ -36,9 +36,9 @@ pub struct Found {
     pub flags: ListOf<Flag>,
 }
 
-/// What a server keeps in memory of a store of so many pages, whatever was stopped there before. Root, records and heads are
-/// cleaned, the restart is counted in the root, and what an unfinished preparation or a removed work left is erased. The data
-/// pages are left as they are: each is cleaned before its first get.
+/// What a server keeps in memory of a store of so many pages, whatever was stopped there before. Root, records, heads and map
+/// pages are cleaned, the restart is counted in the root, and what an unfinished preparation or a removed work left is erased.
+/// The other data pages are left as they are: each is cleaned before its first get.
 pub fn recover<S: StableStore>(
     alloc: Global,
     store: &mut S,

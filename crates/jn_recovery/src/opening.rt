@@ -48,7 +48,8 @@ pub(crate) fn begin_epoch<S: StableStore>(
     Ok((opened, epoch))
 }
 
-/// Cleans the pages of the root, the records and the heads, and reads them. The data pages stay as they are.
+/// Cleans the pages of the root, the records and the heads, and reads them, and then each map page that a head names. The other
+/// data pages stay as they are.
 fn open_store<S: StableStore>(
     alloc: Global,
     store: &mut S,
@@ -108,10 +109,10 @@ fn count_restart<S: StableStore>(store: &mut S, root: &Root) -> Result<u32, Stop
 
 /// Erases each record of an intention that no prepared work has.
 fn erase_all<S: StableStore>(sets: &mut Sets, store: &mut S) -> Result<(), Stopped>
-    requires standing { (server : ServerNo) × (g : Counts) × (epoch : ℕ) × (heads : List Head) × IsStanding server g (S.view store.old) epoch sets.old heads }
-    ensures done { (server : ServerNo) (g : Counts) (epoch : ℕ) (heads : List Head) → IsStanding server g (S.view store.old) epoch sets.old heads
-        → OnOk result (ErasesAll server g (S.view store.old) epoch heads sets.new (S.view store.new)) }
-    ensures stopped { (server : ServerNo) (g : Counts) (epoch : ℕ) (heads : List Head) → IsStanding server g (S.view store.old) epoch sets.old heads
+    requires standing { (server : ServerNo) × (g : Counts) × (epoch : ℕ) × (heads : List Head) × (maps : List (List ℕ)) × IsStanding server g (S.view store.old) epoch sets.old heads maps }
+    ensures done { (server : ServerNo) (g : Counts) (epoch : ℕ) (heads : List Head) (maps : List (List ℕ)) → IsStanding server g (S.view store.old) epoch sets.old heads maps
+        → OnOk result (ErasesAll server g (S.view store.old) epoch heads maps sets.old sets.new (S.view store.new)) }
+    ensures stopped { (server : ServerNo) (g : Counts) (epoch : ℕ) (heads : List Head) (maps : List (List ℕ)) → IsStanding server g (S.view store.old) epoch sets.old heads maps
         → OnErr result (EraseStopped server g (S.view store.old) g.pool (S.view store.new)) }
 {
     for _slot in 0..sets.slots() {

@@ -3,6 +3,7 @@ use Rattle.std.specs.Prelude.{◌≡◌, ℕ, ◌+◌, Bool, true, false, List, 
 use Rattle.jn_base.specs.declared.names.BlockNo.{BlockNo}
 use Rattle.jn_base.specs.declared.names.ClientNo.{ClientNo}
 use Rattle.jn_base.specs.declared.names.LockUnit.{LockUnit}
+use Rattle.jn_base.specs.declared.names.LockUnit.TheVariants.{Block}
 use Rattle.jn_base.specs.declared.names.RequestNo.{RequestNo}
 use Rattle.jn_base.specs.declared.names.Tid.{Tid}
 use Rattle.jn_base.specs.declared.names.WorkId.{WorkId}
@@ -10,9 +11,10 @@ use Rattle.jn_base.specs.Names.{tid_eq, work_eq}
 use Rattle.jn_order.specs.Files.{Files, Change as FilesChange, change, nothing}
 use Rattle.jn_records.specs.declared.intention.Intention.{Intention}
 use Rattle.jn_records.specs.declared.intention.What.{What}
+use Rattle.jn_records.specs.declared.intention.What.TheVariants.{Cut}
 use Rattle.jn_records.specs.declared.work.WorkHead.{WorkHead}
 use Rattle.jn_records.specs.declared.flag.Flag.{Flag}
-use Rattle.jn_records.specs.NetLists.{intention_change}
+use Rattle.jn_records.specs.NetLists.{intention_change, among}
 
 -- ---- the state
 
@@ -99,7 +101,8 @@ abbrev pub next_after : List Change → (WorkId → ℕ) → WorkId → ℕ
 next_after [] next = next
 next_after (c ∷ cs) next = next_after cs (next_by c next)
 
--- What a stop has left of changes: how many are made whole, from the first on, and which blocks are gone of the next one.
+-- What a stop has left of changes: how many are made whole, from the first on, and of the next one, where it carries out a cut,
+-- which blocks are gone.
 pub record Left : Type 0 where
   pub whole : ℕ
   pub gone : Option (BlockNo → Bool)
@@ -107,9 +110,14 @@ pub record Left : Type 0 where
 abbrev pub whole_only : ℕ → Left
 whole_only n = record { whole = n; gone = None }
 
--- no change is found in part yet, as each is one put of a page
+-- a cut alone is found in part
+abbrev pub part_by : (BlockNo → Bool) → What → FilesChange → FilesChange
+part_by gone Cut c = among gone c
+part_by gone _ c = nothing
+
 abbrev pub part_of : (BlockNo → Bool) → Option Change → FilesChange
-part_of gone step = nothing
+part_of gone (Some (CarryOut w i)) = part_by gone i.what (intention_change i)
+part_of gone _ = nothing
 
 abbrev pub parted : Option (BlockNo → Bool) → Option Change → Files → Files
 parted None step files = files
@@ -124,9 +132,19 @@ pub record IsStopState (x : StableState) (changes : List Change) (y : StableStat
   pub left : Left
   pub is_after : y ≡ left_of left changes x
 
--- whether a part of an intention has written a register: no part is there yet
+-- the changes that may be found in part
+abbrev pub is_cut : What → Bool
+is_cut Cut = true
+is_cut _ = false
+
+abbrev pub carries_cut : Change → Bool
+carries_cut (CarryOut w i) = is_cut i.what
+carries_cut _ = false
+
+-- whether a part of an intention has written a register
 abbrev pub gone_at : Option (BlockNo → Bool) → What → LockUnit → Bool
-gone_at blocks what u = false
+gone_at (Some gone) Cut (Block f p) = gone p
+gone_at _ _ _ = false
 
 -- whether an intention has written a register where a stop has left this of it
 abbrev pub is_written : Left → Intention → LockUnit → Bool
@@ -149,7 +167,7 @@ stable found = found (λ n. false)
 abbrev pub IsUp : (Pick → StableState) → Type 0
 IsUp found = (c : Pick) → found c ≡ stable found
 
--- a call with one change: it is done, and at a stop it is whole or not at all, by each pick
+-- a call with one change: it is done, and at a stop it is whole or not at all, or of a cut some blocks are gone, by each pick
 pub record Changed (x : StableState) (step : Change) (ok : Bool) (found : Pick → StableState) : Type 0 where
   pub done : ok ≡ true → (c : Pick) → found c ≡ made_by step x
   pub stop : ok ≡ false → (c : Pick) → IsStopState x (step ∷ []) (found c)

@@ -16,5 +16,5 @@ pub use examples::{
     a_work_may_be_over, an_abort_drops_each_work_once, operations_go_by_number,
     the_last_vote_commits,
 };
-pub use laws::{a_client_has_few_works, a_clients_works_stand_apart, a_stop_leaves_whole_changes};
+pub use laws::{a_client_has_few_works, a_clients_works_stand_apart, only_a_cut_is_found_in_part};
 pub use worker::{ActiveWork, Phase, PreparedWork, Work};

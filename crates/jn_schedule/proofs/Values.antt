@@ -63,15 +63,15 @@ file_again w f spells = rw (value_again 0 (2 ^ 32 - 1) w f.0 (omega arith) spell
 
 pub block_no_told : (w : List ℕ) → Told block_place (λ p. block_part p.0) w (block_no_of w)
 unfolding block_no_of
-block_no_told w = go (value_of 0 119 w) (number_told 0 119 w (omega arith))
+block_no_told w = go (value_of 0 2519 w) (number_told 0 2519 w (omega arith))
   where
     go : (r : Result ℕ LineFault) → Told block_place (λ n. block_part n) w r → Told block_place (λ (p : BlockNo). block_part p.0) w (r >>= λ n. Ok (record { 0 = n }))
     go (Ok n) h = h
     go (Err f) h = h
 
-pub block_no_again : (w : List ℕ) (p : BlockNo) → SpellsNumber 0 119 p.0 w → block_no_of w ≡ Ok p
+pub block_no_again : (w : List ℕ) (p : BlockNo) → SpellsNumber 0 2519 p.0 w → block_no_of w ≡ Ok p
 unfolding block_no_of
-block_no_again w p spells = rw (value_again 0 119 w p.0 (omega arith) spells) refl
+block_no_again w p spells = rw (value_again 0 2519 w p.0 (omega arith) spells) refl
 
 pub page_told : (w : List ℕ) → Told page_place (λ g. page_part g) w (page_of w)
 unfolding page_of

@@ -1,6 +1,6 @@
 -- The names from below that these proofs cite, passed on from one place. Declares nothing.
 pub use Rattle.std.proofs.Common.{◌≡◌, ◌⊎◌, inl, inr, ◌+◌, ◌*◌, ◌≤◌, Bool, true, false, List, [], ◌∷◌, Option, refl, sym, ◌∙◌, ap, subst, arith, true≢false, ◌≢◌, ◌++◌, Some, append_assoc, suc, ⊎_elim, ◌-◌, not, get_or, rules}
-pub use Rattle.std.specs.Prelude.{ℕ, Result, Ok, Err, length, ◌&&◌, ◌<◌, ◌||◌, is_some, nat_lt, None, map, is_ok, IfErr, OnOk, ◌^◌, if◌then◌else◌, count_by, nat_eq, slice_index_or, option_and_then}
+pub use Rattle.std.specs.Prelude.{ℕ, Result, Ok, Err, length, ◌&&◌, ◌<◌, ◌||◌, is_some, nat_lt, None, map, is_ok, IfErr, OnOk, ◌^◌, if◌then◌else◌, count_by, nat_eq, slice_index_or, option_map, option_and_then}
 pub use Rattle.std.specs.Result.{IsErr, IsErrAnd}
 pub use Rattle.std.proofs.lemmas.Bool.Decides.{nat_tests}
 pub use Rattle.jn_base.specs.declared.names.Tickets.{Tickets}
@@ -15,10 +15,10 @@ pub use Rattle.jn_rows.specs.declared.worker.Work.{Work}
 pub use Rattle.jn_rows.specs.Worker.{work_at, name_from as work_from, commit_holder, restored_worker, restored_work, WorkerTable, intentions_of, timeout_row, worker_step, worker_again, worker_row}
 pub use Rattle.jn_rows.specs.Coordinator.{CoordinatorTable, restored_coordinator, restored_transactions, restored_transaction, name_from as tid_from, seen_in_flags, seen_in_flag, promised, coordinator_again, name_from, close_clients_row, coordinator_row}
 pub use Rattle.jn_storage.specs.Storage.{Accounts, StorageView, is_stored, IsCounted, IsServing}
-pub use Rattle.jn_storage.specs.Calls.{state, BlockRead, NextFile, NextBlock}
+pub use Rattle.jn_storage.specs.Calls.{state, BlockRead, name_of, NextFile, NextBlock}
 pub use Rattle.jn_storage.specs.Listing.{is_in, IsListing, are_different, total}
 pub use Rattle.jn_store.proofs.Laws.{calm_on, stop_since}
-pub use Rattle.jn_worker.specs.Leaving.{left_by, left_over}
+pub use Rattle.jn_worker.specs.Leaving.{left_by, left_over, Beside, beside_of}
 pub use Rattle.jn_worker.specs.Fitting.{WorkFits, WorkListFits, WorkerView, is_none, seen}
 pub use Rattle.jn_coord.specs.Remembered.{Remembered, table_of, rises, are_above}
 pub use Rattle.jn_coord.specs.Calls.{IsDone as CoordinatorDone, IsStopped as CoordinatorStopped, Does as CoordinatorDoes, flag_told, free_of}
@@ -28,9 +28,9 @@ pub use Rattle.jn_system.proofs.WholeSystem.CoordinatorRows.{Aside, is_of_flag, 
 pub use Rattle.jn_system.proofs.WholeSystem.WorkerChanges.{DrawsOne, step-aside, works-flags, worker-aside}
 pub use Rattle.jn_base.specs.declared.fault.CallFault.{CallFault}
 pub use Rattle.jn_server.specs.Seen.{ServerView, memory_of, IsServer, room_of, Parts, view_with}
-pub use Rattle.jn_server.specs.Handling.{IsDone, IsStopped, Does, LeavesRubbish, TimesOut, Steps}
+pub use Rattle.jn_server.specs.Handling.{IsDone, IsStopped, Does, LeavesBeside, TimesOut, Steps}
 pub use Rattle.jn_storage.specs.DeviceCalls.{row_calls, prepare_calls}
-pub use Rattle.std.specs.List.{list_any, list_all}
+pub use Rattle.std.specs.List.{list_any, list_all, find}
 pub use Rattle.jn_system.specs.WholeSystem.Steps.{are_rising, AreNames, tid_before}
 pub use Rattle.std.proofs.lemmas.List.{append-nil, map-append}
 pub use Rattle.jn_base.specs.declared.names.FileNo.{FileNo}
@@ -46,13 +46,15 @@ pub use Rattle.jn_server.specs.Showing.{print_of, Looks, IsShown, CutsShort}
 pub use Rattle.jn_server.specs.Pieces.{one_if, count_of, is_at, to_print, LooksOver, TellsPiece, CutsPiece, is_of, TellsBlocks, TellsFile}
 pub use Rattle.jn_index.specs.Least.{IsLeastFrom, lesser, LeastFrom, NextAfter, number_after}
 pub use Rattle.jn_base.specs.declared.names.ServerNo.{ServerNo}
-pub use Rattle.jn_records.specs.StablePages.{Counts, Pages, address_in, block_behind, block_in, head_of}
+pub use Rattle.jn_records.specs.StablePages.{Counts, Pages, block_behind, block_in, head_of, address_by}
 pub use Rattle.jn_store.specs.Store.{StoreView}
-pub use Rattle.jn_page_state.specs.Pages.{found_on, pool_on, heads_on, listed, pages_by}
+pub use Rattle.jn_page_state.specs.Pages.{found_on, pool_on, heads_on, listed, contents_of, pages_by}
 pub use Rattle.jn_server.specs.Restarting.{AreTables, IsRestarted, IsNotRestarted, IsWithin, Composes, IsLeft}
+pub use Rattle.std.proofs.Math.Path.{fun_ext}
 pub use Rattle.jn_storage.specs.Orderly.{intentions, list_of, file_there, IsGiven}
-pub use Rattle.jn_recovery.specs.Memory.{Memory as Kept, view_of, rubbish_in}
+pub use Rattle.jn_recovery.specs.Memory.{Memory as Kept, view_of, rubbish_in, stored_by, supplied_in}
 pub use Rattle.jn_server.specs.Reading.{IsRoomOfPages, CountsPages, StandsOnPages}
+pub use Rattle.jn_base.specs.Limits.{most_cells, most_blocks}
 pub use Rattle.jn_worker.specs.Calls.{TimesOut as WorkerTimesOut, Steps as WorkerSteps, AsksAgain, Takes, CountsBy}
 pub use Rattle.jn_intent.specs.Scrubbing.{Scrubbed, counts_in}
 pub use Rattle.jn_server.specs.Befalling.{Befalls}

@@ -1,5 +1,5 @@
 -- What the coordinator does by its row, the whole server does.
-use Rattle.jn_server.proofs.Common.{◌≡◌, ◌⊎◌, inl, inr, ℕ, ◌+◌, ◌*◌, ◌≤◌, Bool, true, false, List, [], ◌∷◌, Option, Result, Ok, Err, refl, sym, ◌∙◌, ap, subst, arith, true≢false, length, ◌&&◌, IsErr, IsErrAnd, nat_tests, Tickets, WorkId, work_eq, work_before, is_after, Collected, StableState, Prepared, Change, AddReady, MarkGoing, CarryOut, RemoveWork, AddFlag, DropFlag, is_going, made_by, made_all, RowOutcome, Work, work_at, work_from, CoordinatorTable, Accounts, StorageView, state, is_in, calm_on, left_by, left_over, WorkFits, WorkListFits, Remembered, CoordinatorDone, CoordinatorStopped, CoordinatorDoes, CoordinatorTickets, of_coordinator, Aside, is_of_flag, are_of_flags, first-of, second-of, flags-all, epoch-all, DrawsOne, CallFault, ServerView, memory_of, IsServer, IsDone, IsStopped, Does, LeavesRubbish, row_calls}
+use Rattle.jn_server.proofs.Common.{◌≡◌, ◌⊎◌, inl, inr, ℕ, ◌+◌, ◌*◌, ◌≤◌, Bool, true, false, List, [], ◌∷◌, Option, Result, Ok, Err, refl, sym, ◌∙◌, ap, subst, arith, true≢false, length, ◌&&◌, IsErr, IsErrAnd, nat_tests, Tickets, WorkId, work_eq, work_before, is_after, Collected, StableState, Prepared, Change, AddReady, MarkGoing, CarryOut, RemoveWork, AddFlag, DropFlag, is_going, made_by, made_all, RowOutcome, Work, work_at, work_from, CoordinatorTable, Accounts, StorageView, state, is_in, calm_on, left_by, left_over, WorkFits, WorkListFits, Remembered, CoordinatorDone, CoordinatorStopped, CoordinatorDoes, CoordinatorTickets, of_coordinator, Aside, is_of_flag, are_of_flags, first-of, second-of, flags-all, epoch-all, DrawsOne, CallFault, ServerView, memory_of, IsServer, IsDone, IsStopped, Does, LeavesBeside, row_calls, Beside, beside_of}
 use Rattle.jn_coord.specs.Handling.{Handles}
 use Rattle.jn_base.specs.declared.fault.CallFault.TheVariants as faults
 use Rattle.jn_order.specs.Files.{Files}
@@ -36,14 +36,14 @@ later-work (w ∷ ws) k l d h = both (before-later w.name k l d (first-of (work_
     both : {a b : Bool} → a ≡ true → b ≡ true → (a && b) ≡ true
     both p q = grind (arith, p, q)
 
--- changes of flags leave no rubbish
-flags-leave : (changes : List Change) (x : StableState) → are_of_flags changes ≡ true → left_over x changes ≡ 0
-flags-leave [] x h = refl
-flags-leave (c ∷ cs) x h = one c (first-of (is_of_flag c) (are_of_flags cs) h) (flags-leave cs x (second-of (is_of_flag c) (are_of_flags cs) h))
+-- changes of flags leave beside the state what stands there
+flags-leave : (changes : List Change) (x : StableState) (b : Beside) → are_of_flags changes ≡ true → left_over x changes b ≡ b
+flags-leave [] x b h = refl
+flags-leave (c ∷ cs) x b h = one c (first-of (is_of_flag c) (are_of_flags cs) h) (flags-leave cs x b (second-of (is_of_flag c) (are_of_flags cs) h))
   where
-    one : (c : Change) → is_of_flag c ≡ true → left_over x cs ≡ 0 → left_by x c + left_over x cs ≡ 0
-    one (AddFlag flag) k again = omega (arith, again)
-    one (DropFlag T) k again = omega (arith, again)
+    one : (c : Change) → is_of_flag c ≡ true → left_over x cs b ≡ b → left_over x cs (left_by x c b) ≡ b
+    one (AddFlag flag) k again = again
+    one (DropFlag T) k again = again
     one (AddReady head list reads) k again = absurd (true≢false (sym k))
     one (MarkGoing W) k again = absurd (true≢false (sym k))
     one (CarryOut W i) k again = absurd (true≢false (sym k))
@@ -115,8 +115,8 @@ module _ (v : ServerView) (serves : IsServer v) (row : RowOutcome CoordinatorTab
         draws : DrawsOne v.tickets l
         draws = subst (DrawsOne v.tickets) (sym drawn) aside.tickets
 
-    pub flags-leave-none : w.accounts.rubbish ≡ v.storage.accounts.rubbish → LeavesRubbish v (of_coordinator (memory_of v) row) now
-    flags-leave-none same = let s = ap (λ (ws : List WorkId). length ws) same in let n = flags-leave row.changes (state v.storage) aside.flags in omega (arith, s, n)
+    pub flags-leave-none : beside_of w.accounts ≡ beside_of v.storage.accounts → LeavesBeside v (of_coordinator (memory_of v) row) now
+    flags-leave-none same = same ∙ sym (flags-leave row.changes (state v.storage) (beside_of v.storage.accounts) aside.flags)
 
     pub coordinator_stopped : CoordinatorStopped row v.storage w → after ≡ before → IsStopped row_calls (of_coordinator (memory_of v) row) v before now after
     coordinator_stopped h silent = record {

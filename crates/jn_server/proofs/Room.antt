@@ -1,28 +1,35 @@
 -- What the rows read of a storage is what stands on its pages.
-use Rattle.jn_server.proofs.Common.{◌≡◌, ⊎_elim, ◌<◌, ◌+◌, ◌-◌, ℕ, suc, Bool, true, false, not, ◌&&◌, ◌||◌, if◌then◌else◌, List, [], ◌∷◌, length, get_or, Option, Some, None, refl, sym, ◌∙◌, ap, subst, true≢false, arith, nat_tests, is_some, count_by, nat_eq, nat_lt, slice_index_or, list_any, Tickets, WorkId, work_eq, work_tells, Counts, Pages, Work, StableState, Prepared, WorkerTable, work_at, intentions_of, promised, is_before, is_in, are_different, total, Accounts, IsCounted, intentions, list_of, state, StoreView, pool_on, heads_on, listed, Kept, view_of, rubbish_in, WorkerView, WorkFits, is_none, Remembered, ServerView, IsServer, IsRoomOfPages, CountsPages, file_there}
+use Rattle.jn_server.proofs.Common.{◌≡◌, ⊎_elim, ◌<◌, ◌+◌, ◌-◌, ℕ, suc, Bool, true, false, not, ◌&&◌, ◌||◌, if◌then◌else◌, List, [], ◌∷◌, length, get_or, Option, Some, None, refl, sym, ◌∙◌, ap, subst, true≢false, arith, nat_tests, is_some, count_by, nat_eq, nat_lt, slice_index_or, list_any, Tickets, WorkId, work_eq, work_tells, Counts, Pages, Work, StableState, Prepared, WorkerTable, work_at, intentions_of, promised, is_before, is_in, are_different, total, Accounts, IsCounted, intentions, list_of, state, StoreView, pool_on, heads_on, listed, Kept, view_of, rubbish_in, WorkerView, WorkFits, is_none, Remembered, ServerView, IsServer, IsRoomOfPages, CountsPages, file_there, most_cells, contents_of, stored_by, supplied_in, name_of, beside_of, fun_ext, option_map, option_and_then, find}
 use Rattle.std.proofs.lemmas.List.Sums.{sum_by-cons}
 use Rattle.jn_alloc.specs.Free.{free_count as free_numbers, is_free as is_free_number}
-use Rattle.jn_files.specs.Table.{TableView, IsTable, is_held, is_free, head_in, address_of, IsUnnamed}
+use Rattle.jn_files.specs.Table.{TableView, IsTable, is_held, is_free, head_in, layouts_in, IsUnnamed}
+use Rattle.jn_files.proofs.Cells.{cell_below, layout_is}
+use Rattle.jn_records.specs.Layouts.{Layout, at_cell, layout_at}
 use Rattle.jn_records.specs.declared.head.Head.{Head}
 use Rattle.jn_records.specs.declared.head.Head.TheVariants.{Free as FreeHead, Used}
 use Rattle.jn_records.specs.declared.net_list.Need.{Need}
 use Rattle.jn_records.specs.declared.record.Record.{Record}
+use Rattle.jn_records.specs.declared.record.Record.TheVariants.{Free, Intention as IntentionRecord, Ready, Going, Flag as FlagRecord}
+use Rattle.jn_records.specs.declared.work.WorkState.{WorkState}
+use Rattle.jn_records.specs.MapPlaces.{names_maps}
 use Rattle.jn_lock_rows.specs.Matching.{are_rising}
 use Rattle.jn_lock_rows.proofs.Works.{none-behind}
 use Rattle.jn_storage.proofs.Listings.{but, is_in-but, different-but, total-but}
-use Rattle.jn_sets.specs.Pool.{free_count, is_rubbish, rubbish_count}
-use Rattle.jn_page_state.specs.Contents.{Contents, has_address, heads_name, works_name}
+use Rattle.jn_sets.specs.Pool.{free_count, is_prepared, is_rubbish, rubbish_count}
+use Rattle.jn_page_state.specs.Contents.{Contents, layouts_in as layouts_in_contents, heads_name, works_name, stored_list}
+use Rattle.jn_page_state.specs.Recoverable.{is_named}
 use Rattle.jn_page_state.specs.Held.{held_contents}
 use Rattle.jn_page_state.specs.Puts.{contents_by}
-use Rattle.jn_page_state.proofs.HeldLaws.{contents_held}
-use Rattle.jn_page_state.proofs.Slots.{passes_at}
-use Rattle.jn_recovery.specs.Matches.{Matches, IsKeptMemory}
+use Rattle.jn_page_state.proofs.HeldLaws.{contents_held, layouts_held}
+use Rattle.jn_page_state.proofs.Laying.{named_at, at_named}
+use Rattle.jn_recovery.specs.Matches.{Matches, IsKeptMemory, StoredWork, stored_work, work_by}
+use Rattle.jn_recovery.specs.Pages.{supplied_by, supplied_on}
 use Rattle.jn_recovery.proofs.Erasing.{rubbish_length}
-use Rattle.jn_recovery.proofs.Standing.{named_head}
 use Rattle.jn_intent.proofs.Rubbish.{some_rubbish}
 use Rattle.jn_records.specs.MapPlaces.{maps_in}
 use Rattle.jn_records.specs.NetLists.{heads_of}
-use Rattle.jn_server.specs.Standing.{standing_pages, is_free_head, promised_heads}
+use Rattle.jn_storage.specs.Finding.{find_by}
+use Rattle.jn_server.specs.Standing.{standing_pages, beside_on, is_free_head, is_free_page, promised_heads}
 
 -- ---- the heads that are promised to prepared works
 
@@ -130,26 +137,19 @@ pages_are (b ∷ flags) test from same =
     let here : b ≡ test from = same 0 (omega arith) ∙ ap test (omega arith) in grind (arith, one_more, page_more, again, here)
 
 module _ (t : TableView) (table : IsTable t) (pool : List Record) (held : (a : ℕ) → is_held t a ≡ works_name pool (suc a)) where
-  has_at : (h : Head) (a : ℕ) → has_address (suc a) h ≡ true → (p : ℕ) × (address_of h p ≡ suc a)
-  has_at FreeHead a e = absurd (true≢false (sym e))
-  has_at (Used f xs maps) a e = let at = passes_at (λ b. nat_eq b (suc a)) 0 xs e in (at.0, same (get_or xs at.0 0) at.1)
+  cell_there : (a slot q : ℕ) → at_cell (layout_at (layouts_in t) slot) q ≡ suc a → q < most_cells
+  cell_there a slot q e = (cell_below t.counts.leaves t.maps (head_in t.heads slot) (table.heads.each slot) table.heads.map_rows q a (ap (λ h. at_cell h q) (sym (layout_is t.maps t.heads slot)) ∙ e)).0
+
+  free_page : (a : ℕ) → a < t.counts.leaves → is_free_number t.free_leaves a ≡ not (heads_name most_cells (layouts_in t) (suc a) || works_name pool (suc a))
+  free_page a lt = by (is_free_number t.free_leaves a) (heads_name most_cells (layouts_in t) (suc a)) (works_name pool (suc a)) refl refl refl
     where
-      same : (b : ℕ) → nat_eq b (suc a) ≡ true → b ≡ suc a
-      same b e = grind (arith, nat_tests)
+      unnamed : heads_name most_cells (layouts_in t) (suc a) ≡ false → IsUnnamed (layouts_in t) a
+      unnamed none slot q e = true≢false (sym (named_at (layouts_in t) most_cells slot q a (cell_there a slot q e) e) ∙ none)
 
-  free_page : (a : ℕ) → a < t.counts.leaves → is_free_number t.free_leaves a ≡ not (heads_name t.heads (a + 1) || works_name pool (a + 1))
-  free_page a lt = by (is_free_number t.free_leaves a) (heads_name t.heads (suc a)) (works_name pool (suc a)) refl refl refl ∙ ap (λ (k : ℕ). not (heads_name t.heads k || works_name pool k)) next
-    where
-      next : suc a ≡ a + 1
-      next = omega arith
+      not_named : IsUnnamed (layouts_in t) a → heads_name most_cells (layouts_in t) (suc a) ≡ true → ⊥
+      not_named none named = let at = at_named (layouts_in t) most_cells a named in none at.0 at.1 at.3
 
-      unnamed : heads_name t.heads (suc a) ≡ false → IsUnnamed t.heads a
-      unnamed none slot p e = true≢false (sym (named_head t.heads slot p a e) ∙ none)
-
-      not_named : IsUnnamed t.heads a → heads_name t.heads (suc a) ≡ true → ⊥
-      not_named none named = let at = passes_at (has_address (suc a)) FreeHead t.heads named in let p = has_at (head_in t.heads at.0) a at.1 in none at.0 p.0 p.1
-
-      by : (f n w : Bool) → is_free_number t.free_leaves a ≡ f → heads_name t.heads (suc a) ≡ n → works_name pool (suc a) ≡ w → f ≡ not (n || w)
+      by : (f n w : Bool) → is_free_number t.free_leaves a ≡ f → heads_name most_cells (layouts_in t) (suc a) ≡ n → works_name pool (suc a) ≡ w → f ≡ not (n || w)
       by true true w free named listed = absurd (not_named ((table.free_leaves a).0 free).unnamed named)
       by true false true free named listed = absurd (true≢false (sym listed ∙ sym (held a) ∙ ((table.free_leaves a).0 free).loose))
       by true false false free named listed = refl
@@ -158,7 +158,7 @@ module _ (t : TableView) (table : IsTable t) (pool : List Record) (held : (a : �
       by false false false free named listed = absurd (true≢false (sym ((table.free_leaves a).1 (record { below = lt; loose = held a ∙ listed; unnamed = unnamed named })) ∙ free))
 
   abbrev is_loose : ℕ → Bool
-  is_loose d = not (heads_name t.heads (d + 1) || works_name pool (d + 1))
+  is_loose d = not (heads_name most_cells (layouts_in t) (suc d) || works_name pool (suc d))
 
   pub pages_free : free_numbers t.free_leaves ≡ count_by is_loose (listed (λ d. d) 0 t.counts.leaves)
   pages_free =
@@ -167,6 +167,25 @@ module _ (t : TableView) (table : IsTable t) (pool : List Record) (held : (a : �
 
   pub heads_free : free_numbers t.free_heads ≡ count_by is_free_head t.heads
   heads_free = heads_are t.free_heads.flags t.heads (let a = table.head_count in let b = table.slots in omega (arith, a, b)) (λ j lt. table.free_heads j (let b = table.slots in omega (arith, lt, b)))
+
+-- ---- the map pages that works name
+
+same_list : (a b : StoredWork) → Some a ≡ Some b → a.list ≡ b.list
+same_list a b e = let same : a ≡ b = cc e in ap (λ (x : StoredWork). x.list) same
+
+supplied_same : (pool : List Record) (w : WorkId) (o : Option WorkState) (r : Option Record) → option_map stored_work o ≡ option_and_then (work_by pool w) r → names_maps (stored_by o) ≡ supplied_by pool w r
+supplied_same pool w None None e = refl
+supplied_same pool w None (Some Free) e = refl
+supplied_same pool w None (Some (IntentionRecord work tid order i)) e = refl
+supplied_same pool w None (Some (Ready head n reads)) e = absurd (cc e)
+supplied_same pool w None (Some (Going head n reads)) e = absurd (cc e)
+supplied_same pool w None (Some (FlagRecord flag)) e = refl
+supplied_same pool w (Some s) None e = absurd (cc e)
+supplied_same pool w (Some s) (Some Free) e = absurd (cc e)
+supplied_same pool w (Some s) (Some (IntentionRecord work tid order i)) e = absurd (cc e)
+supplied_same pool w (Some s) (Some (Ready head n reads)) e = ap names_maps (same_list (stored_work s) (record { head = head; list = stored_list pool w n; reads = reads; going = false }) e)
+supplied_same pool w (Some s) (Some (Going head n reads)) e = ap names_maps (same_list (stored_work s) (record { head = head; list = stored_list pool w n; reads = reads; going = true }) e)
+supplied_same pool w (Some s) (Some (FlagRecord flag)) e = absurd (cc e)
 
 -- ---- all
 
@@ -191,7 +210,10 @@ module _ (m : Kept) (s : StoreView) (t : WorkerView) (r : Remembered) (k : Ticke
   pages = standing_pages s
 
   contents_are : Matches m s → contents_by g s (λ n. false) ≡ held_contents g s m.epoch m.records m.table.heads (λ n. false)
-  contents_are now = contents_held m.server g s m.epoch m.records m.table.heads now.standing.held (λ n. false)
+  contents_are now = contents_held m.server g s m.epoch m.records m.table.heads m.table.maps now.standing.held (λ n. false)
+
+  layouts_are : Matches m s → layouts_in_contents (contents_by g s (λ n. false)) ≡ layouts_in m.table
+  layouts_are now = ap (λ (x : Contents). layouts_in_contents x) (contents_are now) ∙ layouts_held m.server g s m.epoch m.records m.table.heads m.table.maps now.standing.held (λ n. false)
 
   pool_held : Matches m s → pool_on g pages ≡ m.records
   pool_held now = ap (λ (x : Contents). x.pool) (contents_are now)
@@ -202,10 +224,19 @@ module _ (m : Kept) (s : StoreView) (t : WorkerView) (r : Remembered) (k : Ticke
   heads_counted : Matches m s → free_numbers m.table.free_heads ≡ count_by is_free_head (heads_on g pages)
   heads_counted now = heads_free m.table now.table m.records now.held ∙ ap (λ (l : List Head). count_by is_free_head l) (sym (heads_held now))
 
+  beside_are : Matches m s → beside_of (view_of m s).accounts ≡ beside_on g pages
+  beside_are now = λ i. record { rubbish = rubbish_are i; maps = maps_in (sym (heads_held now) i); supplied = supplied_are i }
+    where
+      rubbish_are : length (rubbish_in m.records m.records) ≡ rubbish_count (pool_on g pages)
+      rubbish_are = rubbish_length m.records m.records ∙ ap (λ (l : List Record). rubbish_count l) (sym (pool_held now))
+
+      supplied_are : supplied_in m.works ≡ supplied_on (pool_on g pages)
+      supplied_are = fun_ext (λ w. supplied_same m.records w (find_by work_eq name_of m.works w) (find (is_prepared w) m.records) (now.works.each w)) ∙ ap supplied_on (sym (pool_held now))
+
   pub counts_of_pages : IsKeptMemory m s → CountsPages view
   counts_of_pages kept power = record {
     free = ap (λ (l : List Record). free_count l) (sym (pool_held (kept power)));
-    rubbish = rubbish_length m.records m.records ∙ ap (λ (l : List Record). rubbish_count l) (sym (pool_held (kept power)));
+    beside = beside_are (kept power);
     heads = heads_counted (kept power);
   }
 
@@ -229,10 +260,12 @@ module _ (m : Kept) (s : StoreView) (t : WorkerView) (r : Remembered) (k : Ticke
     heads_free_are = ap (λ n. free_numbers m.table.free_heads - n) (promises_are (state (view_of m s)) (view_of m s).accounts t.table serves.works.serving.counted rising serves.works.stored)
         ∙ ap (λ n. n - promises) (heads_counted now)
 
-    pages_free_are : free_numbers m.table.free_leaves ≡ count_by (λ d. not (heads_name (heads_on g pages) (d + 1) || works_name (pool_on g pages) (d + 1))) (listed (λ d. d) 0 g.leaves)
-    pages_free_are = pages_free m.table now.table m.records now.held
-        ∙ ap (λ (l : List Head). count_by (λ d. not (heads_name l (d + 1) || works_name m.records (d + 1))) (listed (λ d. d) 0 g.leaves)) (sym heads_is)
-        ∙ ap (λ (l : List Record). count_by (λ d. not (heads_name (heads_on g pages) (d + 1) || works_name l (d + 1))) (listed (λ d. d) 0 g.leaves)) (sym pool_is)
+    pages_free_are : free_numbers m.table.free_leaves ≡ count_by (is_free_page g pages) (listed (λ d. d) 0 g.leaves)
+    pages_free_are = pages_free m.table now.table m.records now.held ∙ ap (λ (test : ℕ → Bool). count_by test (listed (λ d. d) 0 g.leaves)) (fun_ext (λ d. sym (ap not (named_is d))))
+      where
+        named_is : (d : ℕ) → is_named (contents_of g pages) d ≡ (heads_name most_cells (layouts_in m.table) (suc d) || works_name m.records (suc d))
+        named_is d = ap (λ (ls : List Layout). heads_name most_cells ls (suc d) || works_name (pool_on g pages) (suc d)) (layouts_are now)
+            ∙ ap (λ (l : List Record). heads_name most_cells (layouts_in m.table) (suc d) || works_name l (suc d)) pool_is
 
     of_pages : IsRoomOfPages view
     of_pages = record {

@@ -1,5 +1,5 @@
 -- What the worker does by its row, the whole server does.
-use Rattle.jn_server.proofs.Common.{◌≡◌, inl, inr, ℕ, ◌+◌, ◌≤◌, true, false, List, [], ◌∷◌, Result, Ok, Err, refl, sym, ◌∙◌, ap, subst, arith, length, IsErr, IsErrAnd, nat_tests, Tickets, Collected, StableState, Change, RowOutcome, WorkerTable, name_from, Accounts, StorageView, state, calm_on, CallFault, Takes, CountsBy, WorkerView, flag_told, are_before, added, of_worker, epoch-all, DrawsOne, works-flags, ServerView, memory_of, IsServer, IsDone, IsStopped, Does, LeavesRubbish, left_over}
+use Rattle.jn_server.proofs.Common.{◌≡◌, inl, inr, ℕ, ◌+◌, ◌≤◌, true, false, List, [], ◌∷◌, Result, Ok, Err, refl, sym, ◌∙◌, ap, subst, arith, length, IsErr, IsErrAnd, nat_tests, Tickets, Collected, StableState, Change, RowOutcome, WorkerTable, name_from, Accounts, StorageView, state, calm_on, CallFault, Takes, CountsBy, WorkerView, flag_told, are_before, added, of_worker, epoch-all, DrawsOne, works-flags, ServerView, memory_of, IsServer, IsDone, IsStopped, Does, LeavesBeside, left_over, beside_of}
 use Rattle.jn_rows.specs.declared.coordinator.Transaction.{Transaction}
 use Rattle.jn_base.specs.declared.fault.CallFault.TheVariants as faults
 use Rattle.jn_system.proofs.WholeSystem.WorkerChanges.{Aside}
@@ -48,16 +48,16 @@ module _ (most bound : ℕ) (within : most ≤ bound) (v : ServerView) (serves :
         }
 
     -- a row has one change or none
-    pub works-leave : CountsBy (state v.storage) row.changes v.storage.accounts w.accounts → (row.changes ≡ [] → w.accounts ≡ v.storage.accounts) → LeavesRubbish v (of_worker (memory_of v) row) now
+    pub works-leave : CountsBy (state v.storage) row.changes v.storage.accounts w.accounts → (row.changes ≡ [] → w.accounts ≡ v.storage.accounts) → LeavesBeside v (of_worker (memory_of v) row) now
     works-leave counts same = by row.changes refl aside.few
       where
-        by : (cs : List Change) → row.changes ≡ cs → length cs ≤ 1 → length w.accounts.rubbish ≡ length v.storage.accounts.rubbish + left_over (state v.storage) row.changes
-        by [] e few = let s = ap (λ (a : Accounts). length a.rubbish) (same e) in let n = ap (left_over (state v.storage)) e in omega (arith, s, n)
-        by (c ∷ []) e few = let m = counts.rubbish_more c e in let n = ap (left_over (state v.storage)) e in omega (arith, m, n)
+        by : (cs : List Change) → row.changes ≡ cs → length cs ≤ 1 → beside_of w.accounts ≡ left_over (state v.storage) row.changes (beside_of v.storage.accounts)
+        by [] e few = ap beside_of (same e) ∙ sym (ap (λ (cs : List Change). left_over (state v.storage) cs (beside_of v.storage.accounts)) e)
+        by (c ∷ []) e few = counts.beside c e ∙ sym (ap (λ (cs : List Change). left_over (state v.storage) cs (beside_of v.storage.accounts)) e)
         by (c ∷ d ∷ cs) e few = absurd (omega (arith, few))
 
-    pub one-leaves : CountsBy (state v.storage) row.changes v.storage.accounts w.accounts → (c : Change) → row.changes ≡ c ∷ [] → LeavesRubbish v (of_worker (memory_of v) row) now
-    one-leaves counts c e = let m = counts.rubbish_more c e in let n = ap (left_over (state v.storage)) e in omega (arith, m, n)
+    pub one-leaves : CountsBy (state v.storage) row.changes v.storage.accounts w.accounts → (c : Change) → row.changes ≡ c ∷ [] → LeavesBeside v (of_worker (memory_of v) row) now
+    one-leaves counts c e = counts.beside c e ∙ sym (ap (λ (cs : List Change). left_over (state v.storage) cs (beside_of v.storage.accounts)) e)
 
     pub worker_stopped : {A : Type 0} → Takes {A = A} most row v.worker v.storage before v.tickets (Err faults.Stopped) u w after l → IsStopped bound (of_worker (memory_of v) row) v before now after
     worker_stopped h = record {

@@ -1,5 +1,5 @@
 -- What a call of a server does whose row this is.
-use Rattle.std.specs.Prelude.{◌≡◌, ◌≤◌, ◌+◌, ℕ, Bool, true, false, ⊤, [], ◌∷◌, length, Option, Some, None, is_some, Result, Ok, Err, is_ok}
+use Rattle.std.specs.Prelude.{◌≡◌, ◌≤◌, ◌+◌, ℕ, Bool, true, false, ⊤, [], ◌∷◌, Option, Some, None, is_some, Result, Ok, Err, is_ok}
 use Rattle.jn_base.specs.declared.names.Tid.{Tid}
 use Rattle.jn_msgs.specs.Collected.{Collected}
 use Rattle.jn_rows.specs.Outcomes.{RowOutcome}
@@ -10,16 +10,16 @@ use Rattle.jn_storage.specs.Calls.{state, CountsErased}
 use Rattle.jn_storage.specs.DeviceCalls.{step_calls}
 use Rattle.jn_store.specs.Store.{IsCalm, IsStop}
 use Rattle.jn_transactions.specs.Telling.{added}
-use Rattle.jn_worker.specs.Leaving.{left_over}
+use Rattle.jn_worker.specs.Leaving.{beside_of, left_over}
 use Rattle.jn_system.specs.WholeSystem.World.{Memory}
 use Rattle.jn_system.specs.WholeSystem.Servers.{server_timeout}
 use Rattle.jn_base.specs.declared.fault.CallFault.{CallFault}
 use Rattle.jn_base.specs.declared.fault.CallFault.TheVariants.{Stopped, Memory as NoMemory}
 use Rattle.jn_server.specs.Seen.{ServerView, memory_of, IsServer}
 
--- nothing but a work that is removed leaves rubbish
-abbrev pub LeavesRubbish : ServerView → RowOutcome Memory → ServerView → Type 0
-LeavesRubbish v row w = length w.storage.accounts.rubbish ≡ length v.storage.accounts.rubbish + left_over (state v.storage) row.changes
+-- what stands beside files, works and flags is what the row's changes leave of it
+abbrev pub LeavesBeside : ServerView → RowOutcome Memory → ServerView → Type 0
+LeavesBeside v row w = beside_of w.storage.accounts ≡ left_over (state v.storage) row.changes (beside_of v.storage.accounts)
 
 -- It is done: all the row's changes are made, whichever halves are read, and its messages and notes are reported.
 pub record IsDone (most : ℕ) (row : RowOutcome Memory) (v : ServerView) (before : Collected) (w : ServerView) (after : Collected) : Type 0 where
@@ -47,9 +47,9 @@ Does most row v before (Ok x) w after = IsDone most row v before w after
 Does most row v before (Err Stopped) w after = IsStopped most row v before w after
 Does most row v before (Err NoMemory) w after = ⊤
 
--- what a step's row leaves as rubbish: one without changes erases one rubbish record
+-- what a step's row leaves: one without changes erases one rubbish record
 abbrev pub StepLeaves : ServerView → RowOutcome Memory → ServerView → Type 0
-StepLeaves v row w = (row.changes ≡ [] → CountsErased v.storage.accounts w.storage.accounts) × ((c : Change) → row.changes ≡ c ∷ [] → LeavesRubbish v row w)
+StepLeaves v row w = (row.changes ≡ [] → CountsErased v.storage.accounts w.storage.accounts) × ((c : Change) → row.changes ≡ c ∷ [] → LeavesBeside v row w)
 
 -- A background step whose row this is: it is answered true, and false where there is none and nothing is done.
 abbrev pub Steps : Option (RowOutcome Memory) → ServerView → Collected → Result Bool CallFault → ServerView → Collected → Type 0

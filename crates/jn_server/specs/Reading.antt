@@ -1,13 +1,14 @@
 -- What the rows of a server read of its storage, as it stands on the pages.
-use Rattle.std.specs.Prelude.{◌≡◌, true, length, count_by}
+use Rattle.std.specs.Prelude.{◌≡◌, true, count_by}
 use Rattle.jn_page_state.specs.Pages.{pool_on, heads_on}
 use Rattle.jn_page_state.specs.Recoverable.{IsRecoverable}
 use Rattle.jn_intent.specs.Scrubbing.{counts_in}
 use Rattle.jn_records.specs.MapPlaces.{maps_in}
-use Rattle.jn_sets.specs.Pool.{free_count, rubbish_count}
+use Rattle.jn_sets.specs.Pool.{free_count}
 use Rattle.jn_server.specs.Seen.{ServerView, memory_of, room_of}
-use Rattle.jn_server.specs.Standing.{standing_pages, is_free_head, free_on, has_rubbish}
+use Rattle.jn_server.specs.Standing.{standing_pages, is_free_head, free_on, beside_on, has_rubbish}
 use Rattle.jn_storage.specs.Calls.{state}
+use Rattle.jn_worker.specs.Leaving.{beside_of}
 
 -- what is free, which map pages there are and whether a record is rubbish, no more and no less
 pub record IsRoomOfPages (v : ServerView) : Type 0 where
@@ -15,10 +16,10 @@ pub record IsRoomOfPages (v : ServerView) : Type 0 where
   pub maps : (room_of v.storage).maps ≡ maps_in (heads_on (counts_in v.storage.accounts) (standing_pages v.storage.store))
   pub rubbish : (room_of v.storage).rubbish ≡ has_rubbish (pool_on (counts_in v.storage.accounts) (standing_pages v.storage.store))
 
--- How many free records, rubbish records and free heads its storage counts is how many are on its pages, while the store has power.
+-- What its storage counts is on its pages, while the store has power: free records, free heads, and what stands beside files, works and flags.
 pub record AreCountsOfPages (v : ServerView) : Type 0 where
   pub free : v.storage.accounts.free_records ≡ free_count (pool_on (counts_in v.storage.accounts) (standing_pages v.storage.store))
-  pub rubbish : length v.storage.accounts.rubbish ≡ rubbish_count (pool_on (counts_in v.storage.accounts) (standing_pages v.storage.store))
+  pub beside : beside_of v.storage.accounts ≡ beside_on (counts_in v.storage.accounts) (standing_pages v.storage.store)
   pub heads : v.storage.accounts.free_heads ≡ count_by is_free_head (heads_on (counts_in v.storage.accounts) (standing_pages v.storage.store))
 
 abbrev pub CountsPages : ServerView → Type 0

@@ -8,6 +8,7 @@ ghost use Rattle.jn_rows.specs.Coordinator.{close_clients_row};
 ghost use Rattle.jn_server.specs.Handling.{Does};
 ghost use Rattle.jn_storage.specs.DeviceCalls.{row_calls};
 ghost use Rattle.jn_server.specs.Seen.{view_with, memory_of, IsServer};
+ghost use Rattle.jn_worker.specs.Leaving.{beside_of};
 
 use crate::fault::ServerFault;
 use crate::server::Server;
@@ -19,7 +20,7 @@ impl<S: StableStore> Server<S> {
     pub fn close_clients(&mut self) -> Result<(), ServerFault>
         requires serves { IsServer (view_with (λ s. S.view s) self.old) }
         ensures does { (before : Collected) → let v = view_with (λ s. S.view s) self.old in Does row_calls (of_coordinator (memory_of v) (close_clients_row (table_of v.coordinator) v.tickets)) v before result (view_with (λ s. S.view s) self.new) before }
-        ensures rubbish { OnOk result ((view_with (λ s. S.view s) self.new).storage.accounts.rubbish ≡ (view_with (λ s. S.view s) self.old).storage.accounts.rubbish) }
+        ensures beside { OnOk result (beside_of (view_with (λ s. S.view s) self.new).storage.accounts ≡ beside_of (view_with (λ s. S.view s) self.old).storage.accounts) }
     {
         self.coordinator.close_clients(&mut self.storage)?;
         Ok(())

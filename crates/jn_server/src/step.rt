@@ -24,7 +24,7 @@ impl<S: StableStore> Server<S> {
         self.worker.is_in_order();
     }
 
-    /// For proofs alone: the storage counts as many free records, rubbish records and free heads as there are on its pages, from which a
+    /// For proofs alone: what the storage counts, and which map pages it knows, is what stands on its pages, from which a
     /// recovery may begin.
     pub fn counts_pages(&self)
         ensures { StandsOnPages (view_with (λ s. S.view s) self.now) }

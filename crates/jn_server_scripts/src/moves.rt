@@ -18,9 +18,9 @@ pub const SERVER: ServerNo = ServerNo(0);
 pub enum Task {
     Create(u32),
     Remove(u32),
-    Cut(u32, u8),
-    Read(u32, u8),
-    Nines(u32, u8),
+    Cut(u32, u16),
+    Read(u32, u16),
+    Nines(u32, u16),
 }
 
 /// The works that an End or an Abort names.
@@ -64,10 +64,10 @@ pub enum Move {
     Close,
 }
 
-fn block(p: u8) -> BlockNo
+fn block(p: u16) -> BlockNo
     ensures { result.0 < most_blocks }
 {
-    BlockNo(u16::from(p) % MOST_BLOCKS)
+    BlockNo(p % MOST_BLOCKS)
 }
 
 fn op_of(alloc: Global, task: Task) -> Result<Op, AllocError>

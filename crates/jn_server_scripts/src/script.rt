@@ -44,6 +44,10 @@ impl<'a> Reader<'a> {
         small_in(self.word()?)
     }
 
+    fn block(&mut self) -> Option<u16> {
+        u16::try_from(number_in(self.word()?)?).ok()
+    }
+
     /// A server, an epoch and a ticket, with points between them.
     fn tid(&mut self) -> Option<Tid> {
         let (server, rest) = self.word()?.split_once('.')?;
@@ -80,9 +84,9 @@ impl<'a> Reader<'a> {
         match self.word()? {
             "create" => Some(Task::Create(self.number()?)),
             "remove" => Some(Task::Remove(self.number()?)),
-            "cut" => Some(Task::Cut(self.number()?, self.small()?)),
-            "read" => Some(Task::Read(self.number()?, self.small()?)),
-            "nines" => Some(Task::Nines(self.number()?, self.small()?)),
+            "cut" => Some(Task::Cut(self.number()?, self.block()?)),
+            "read" => Some(Task::Read(self.number()?, self.block()?)),
+            "nines" => Some(Task::Nines(self.number()?, self.block()?)),
             _ => None,
         }
     }

@@ -1,6 +1,5 @@
 -- What one intention of a prepared work does to the files that prepared works need.
-use Rattle.jn_storage.proofs.Common.{◌≡◌, inr, ◌+◌, ℕ, zero, suc, Bool, true, false, not, ◌&&◌, ◌||◌, if◌then◌else◌, List, [], ◌∷◌, Option, Some, None, refl, sym, subst, arith, map, slice_get, is_some, nat_eq, list_all, FileNo, LockUnit, File, Block, file_eq, Files, change, What, Fresh, Gone, Cut, Put, Intention, intention_change, intention_place, in_order, entry, is_fresh, needs_a_head, Mode, Read, Commit, unit_eq, together, rebuilt, is_unit, unit_of, file_there, heads_of}
-use Rattle.std.proofs.lemmas.List.Sums.{sum_by-cons}
+use Rattle.jn_storage.proofs.Common.{◌≡◌, inr, ◌+◌, ℕ, zero, suc, Bool, true, false, not, ◌&&◌, ◌||◌, if◌then◌else◌, List, [], ◌∷◌, Option, Some, None, refl, sym, subst, arith, map, slice_get, is_some, nat_eq, list_all, FileNo, LockUnit, File, Block, file_eq, Files, change, What, Fresh, Gone, Cut, Put, Intention, intention_change, intention_place, in_order, entry, is_fresh, needs_a_head, Mode, Read, Commit, unit_eq, together, rebuilt, is_unit, unit_of, file_there, heads_of, sum_by-cons}
 use Rattle.std.proofs.lemmas.Bool.Decides.{nat_tests}
 use Rattle.jn_records.proofs.NetLemmas.{no_entry}
 

@@ -5,3 +5,4 @@ pub mod Intended
 pub mod Kept
 pub mod Seen
 pub mod Finds
+pub mod LackingMaps

@@ -19,6 +19,7 @@ use Rattle.jn_records.specs.declared.net_list.Need.{Need}
 use Rattle.jn_records.specs.declared.work.WorkHead.{WorkHead}
 use Rattle.jn_records.specs.declared.work.WorkState.{WorkState}
 use Rattle.jn_records.specs.Intentions.{intention_has_page}
+use Rattle.jn_records.specs.MapPlaces.{lacks_map, lacking, places_after}
 use Rattle.jn_records.specs.NetLists.{is_put}
 use Rattle.jn_store.specs.Store.{IsStop}
 use Rattle.jn_store.specs.DeviceCalls.{cleaned_get_calls, put_calls}
@@ -123,24 +124,26 @@ is_shortage Stops = false
 is_shortage Memory = false
 is_shortage _ = true
 
-abbrev pub with_work : Accounts → WorkId → Need → Accounts
-with_work a work need = record a {
+-- the work's pages are taken: a map page for each intention that lacks one
+abbrev pub with_work : Accounts → WorkId → Need → List Bool → Accounts
+with_work a work need lacks = record a {
   free_records = a.free_records - need.records;
   free_pages = a.free_pages - need.pages;
   promised_heads = a.promised_heads + need.heads;
   next = at_work a.next work 0;
   held = at_work a.held work need.pages;
+  supplied = at_work a.supplied work lacks;
 }
 
--- A work is prepared, whole or not at all. Where something is short, or there is no memory for it, nothing
--- changed and no device call was made.
+-- A work is prepared, whole or not at all. It names a map page exactly at the puts that lack one in their turn. Where
+-- something is short, or there is no memory for it, nothing changed and no device call was made.
 pub record WorkPrepared {A : Type 0} (v : StorageView) (head : WorkHead) (list : List Intention) (reads : List LockUnit) (answer : Result A PrepareFault) (w : StorageView) : Type 0 where
   pub refused : (fault : PrepareFault) → answer ≡ Err fault → is_shortage fault ≡ true → shortage v.accounts (needed v.accounts.maps (state v) list) ≡ Some fault
   pub enough : reached answer ≡ true → shortage v.accounts (needed v.accounts.maps (state v) list) ≡ None
   pub kept : reached answer ≡ false → w ≡ v
   pub called : reached answer ≡ true → Called v prepare_calls (is_ok answer) w
   pub change : reached answer ≡ true → Changed (state v) (AddReady head list reads) (is_ok answer) w.found
-  pub accounts : is_ok answer ≡ true → w.accounts ≡ with_work v.accounts head.work (needed v.accounts.maps (state v) list)
+  pub accounts : is_ok answer ≡ true → w.accounts ≡ with_work v.accounts head.work (needed v.accounts.maps (state v) list) (lacking v.accounts.maps list)
 
 pub record MarkedGoing (v : StorageView) (work : WorkId) (ok : Bool) (w : StorageView) : Type 0 where
   pub called : Called v put_calls ok w
@@ -151,8 +154,9 @@ pub record MarkedGoing (v : StorageView) (work : WorkId) (ok : Bool) (w : Storag
 abbrev pub next_of : StorageView → WorkId → Option Intention
 next_of v work = slice_get (list_of (state v) work) (v.accounts.next work)
 
--- what carrying out an intention keeps; the heads that are free follow from the files, the pages from the files and what is held
-pub record CountsOn (a : Accounts) (work : WorkId) (b : Accounts) : Type 0 where
+-- What carrying out an intention keeps, and which map pages there are then. The heads that are free follow from the files,
+-- the pages from the files, the map pages and what is held.
+pub record CountsOn (a : Accounts) (work : WorkId) (i : Intention) (b : Accounts) : Type 0 where
   pub next : b.next ≡ at_work a.next work (a.next work + 1)
   pub free_records : b.free_records ≡ a.free_records
   pub promised_records : b.promised_records ≡ a.promised_records
@@ -161,10 +165,13 @@ pub record CountsOn (a : Accounts) (work : WorkId) (b : Accounts) : Type 0 where
   pub free_pages : a.free_pages ≤ b.free_pages
   -- what another work holds stays held
   pub others_hold : (w : WorkId) → work_eq work w ≡ false → b.held w ≡ a.held w
+  pub supplied : b.supplied ≡ a.supplied
+  pub maps : b.maps ≡ places_after i a.maps
 
--- A put's page is its block's from then on, and its work holds it no more. The page that it replaces is free.
-pub record PageTaken (a : Accounts) (work : WorkId) (replaces : Bool) (b : Accounts) : Type 0 where
-  pub held : b.held work + 1 ≡ a.held work
+-- A put's page is its block's from then on, and its work holds it no more; so it is with the map page of a put that lacks
+-- one. The page that it replaces is free.
+pub record PageTaken (a : Accounts) (work : WorkId) (i : Intention) (replaces : Bool) (b : Accounts) : Type 0 where
+  pub held : b.held work + 1 + (if lacks_map a.maps i then 1 else 0) ≡ a.held work
   pub free_pages : b.free_pages ≡ a.free_pages + (if replaces then 1 else 0)
 
 -- a put that was carried out before a recovery: its page is its block's already
@@ -173,14 +180,15 @@ pub record PageStands (x : StableState) (i : Intention) (a : Accounts) (work : W
   pub held : b.held work ≡ a.held work
   pub free_pages : b.free_pages ≡ a.free_pages
 
--- One intention is carried out. It is answered false, and nothing is done, exactly where none is left.
+-- One intention is carried out; a stop may leave a cut in part. It is answered false, and nothing is done, exactly where
+-- none is left.
 pub record StepApplied (v : StorageView) (work : WorkId) (answer : Result Bool Stopped) (w : StorageView) : Type 0 where
   pub called : Called v step_calls (is_ok answer) w
   pub none_left : next_of v work ≡ None → (answer ≡ Ok false) × (w ≡ v)
   pub carried : (i : Intention) → next_of v work ≡ Some i → Changed (state v) (CarryOut work i) (is_ok answer) w.found
-  pub done : is_some (next_of v work) ≡ true → is_ok answer ≡ true → (answer ≡ Ok true) × CountsOn v.accounts work w.accounts
+  pub done : (i : Intention) → next_of v work ≡ Some i → is_ok answer ≡ true → (answer ≡ Ok true) × CountsOn v.accounts work i w.accounts
   pub put : (i : Intention) → next_of v work ≡ Some i → is_put i.what ≡ true → is_ok answer ≡ true
-      → PageTaken v.accounts work (is_stored (state v).files (Block i.file i.block)) w.accounts ⊎ PageStands (state v) i v.accounts work w.accounts
+      → PageTaken v.accounts work i (is_stored (state v).files (Block i.file i.block)) w.accounts ⊎ PageStands (state v) i v.accounts work w.accounts
 
 -- what is free once a work is removed: the records of its intentions are rubbish
 pub record CountsOff (a : Accounts) (work : WorkId) (intentions : ℕ) (b : Accounts) : Type 0 where
@@ -190,6 +198,8 @@ pub record CountsOff (a : Accounts) (work : WorkId) (intentions : ℕ) (b : Acco
   pub free_pages : b.free_pages ≡ a.free_pages + a.held work
   pub next : b.next ≡ at_work a.next work 0
   pub held : b.held ≡ at_work a.held work 0
+  pub supplied : b.supplied ≡ at_work a.supplied work []
+  pub maps : b.maps ≡ a.maps
   pub rubbish_more : length b.rubbish ≡ length a.rubbish + intentions
   pub rubbish_names : (n : WorkId) → is_in work_eq n b.rubbish ≡ true → is_in work_eq n (work ∷ a.rubbish) ≡ true
 

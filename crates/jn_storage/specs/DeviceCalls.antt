@@ -1,7 +1,7 @@
 -- How many calls of the device a call of the storage makes at most.
 use Rattle.std.specs.Prelude.{ℕ}
 
--- a step of a work that commits: a page is read, after its first cleanup, and one is put
+-- a step of a work that commits: two pages are put at most, a map page and a head
 abbrev pub step_calls : ℕ
 step_calls = 40
 

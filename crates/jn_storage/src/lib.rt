@@ -12,5 +12,5 @@ mod files;
 mod storage;
 
 pub use faults::{PrepareFault, PromiseFault, ViewFault};
-pub use files::{need, view};
+pub use files::{lacking, need, view};
 pub use storage::{FlagStore, Storage, StoredFiles, WorkStore};

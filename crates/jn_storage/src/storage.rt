@@ -34,6 +34,12 @@ pub trait StoredFiles: Storage {
         requires serving { IsServing (Self.view self.now) }
         ensures { NextBlock (state (Self.view self.now)).files f after result };
 
+    /// Whether the file is there and has its map page `j`, which is one of `MOST_MAPS`. It makes no device call, and no call but
+    /// `apply_step` changes it.
+    fn map_there(&self, f: FileNo, j: u8) -> bool
+        requires serving { IsServing (Self.view self.now) }
+        ensures { result ≡ (Self.view self.now).accounts.maps f j };
+
     /// Whether the block is stored.
     fn mapped(&self, f: FileNo, p: BlockNo) -> bool
         requires serving { IsServing (Self.view self.now) }
@@ -50,8 +56,8 @@ pub trait StoredFiles: Storage {
 /// The prepared works of a server. A ready work has its whole list stored and waits for the outcome of its
 /// transaction; a going one is carried out, intention by intention, from the first one on after each recovery.
 pub trait WorkStore: StoredFiles {
-    /// Stores a work with its list and what it read, as ready. It takes all its memory before it reaches
-    /// the device.
+    /// Stores a work with its list and what it read, as ready. A put whose map page isn't there in its turn gets one, which
+    /// is held and not put yet. It takes all its memory before it reaches the device.
     fn prepare(
         &mut self,
         alloc: Global,
@@ -69,7 +75,8 @@ pub trait WorkStore: StoredFiles {
         requires ready { IsReady (Self.view self.old) work }
         ensures marked { MarkedGoing (Self.view self.old) work (is_ok result) (Self.view self.new) };
 
-    /// Carries out the next intention of a going work; false where none is left.
+    /// Carries out the next intention of a going work; false where none is left. A stop may leave some of the blocks that a cut
+    /// takes away.
     fn apply_step(&mut self, work: WorkId) -> Result<bool, Stopped>
         requires serving { IsServing (Self.view self.old) }
         requires going { IsGoing (Self.view self.old) work }

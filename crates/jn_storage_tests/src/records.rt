@@ -4,7 +4,7 @@ use jn_base::{
     BlockNo, ClientNo, FileNo, HEAD_BLOCKS, LockUnit, MOST_MAPS, Page, PageWriter, RequestNo,
     ServerNo, Tid, WorkId,
 };
-use jn_records::{Head, Record, Root, StoredIntention, What, WorkHead, used_page};
+use jn_records::{Head, Record, Root, StoredIntention, What, WorkHead};
 use std::alloc::{AllocError, Global};
 use std::test::Fail;
 
@@ -13,9 +13,9 @@ const INTENTION: [u8; 29] = [
     1, 1, 0, 0, 0, 2, 0, 0, 0, 3, 0, 0, 0, 0, 5, 0, 0, 0, 6, 7, 4, 0, 0, 0, 9, 0, 119, 0, 128,
 ];
 
-/// Another intention of that work: file 9 is made or emptied.
-const FRESH: [u8; 25] = [
-    1, 1, 0, 0, 0, 2, 0, 0, 0, 3, 0, 0, 0, 0, 5, 0, 0, 0, 6, 7, 1, 0, 0, 0, 9,
+/// The same of block 2519, the last of a file, which stands in data page 511, and its map page in data page 256.
+const FAR: [u8; 31] = [
+    1, 1, 0, 0, 0, 2, 0, 0, 0, 3, 0, 0, 0, 0, 5, 0, 0, 0, 6, 7, 4, 0, 0, 0, 9, 9, 215, 2, 0, 1, 1,
 ];
 
 /// That work is ready for client 8, with 3 intentions, and has read file 9 and its block 4.
@@ -40,6 +40,9 @@ const ROOT: [u8; 16] = [74, 85, 78, 49, 2, 5, 1, 44, 0, 2, 2, 1, 0, 0, 0, 7];
 
 /// The head of file 9, whose block 0 stands in data page 2.
 const HEAD: [u8; 7] = [1, 0, 0, 0, 9, 0, 3];
+
+/// Where the addresses of map pages stand in a head's page.
+const MAPS_AT: usize = 245;
 
 const WORK: WorkId = WorkId {
     server: ServerNo(1),
@@ -82,6 +85,7 @@ fn is_read_as_itself(alloc: Global, page: &Page) -> Result<Option<bool>, AllocEr
 fn records_are_spelled_as_they_are_read(rt: HostRuntime) -> Result<(), Fail> {
     for begin in [
         INTENTION.as_slice(),
+        FAR.as_slice(),
         READY.as_slice(),
         GOING.as_slice(),
         FLAG.as_slice(),
@@ -92,7 +96,7 @@ fn records_are_spelled_as_they_are_read(rt: HostRuntime) -> Result<(), Fail> {
     Ok(())
 }
 
-fn is_the_intention(value: &Record) -> bool {
+fn is_the_intention(value: &Record, block: u16, address: u16, map: u16) -> bool {
     match value {
         Record::Intention {
             work,
@@ -103,9 +107,9 @@ fn is_the_intention(value: &Record) -> bool {
             let put = StoredIntention {
                 what: What::Put,
                 file: FileNo(9),
-                block: BlockNo(119),
-                address: 128,
-                map: 0,
+                block: BlockNo(block),
+                address,
+                map,
             };
             *work == WORK && *tid == TID && *order == 7 && *intention == put
         }
@@ -154,7 +158,8 @@ fn record_of(alloc: Global, begin: &[u8]) -> Result<Record, Fail> {
 
 #[test]
 fn the_parts_of_records_are_read(rt: HostRuntime) -> Result<(), Fail> {
-    assert!(rt; is_the_intention(&record_of(rt.alloc(), &INTENTION)?));
+    assert!(rt; is_the_intention(&record_of(rt.alloc(), &INTENTION)?, 119, 128, 0));
+    assert!(rt; is_the_intention(&record_of(rt.alloc(), &FAR)?, 2519, 512, 257));
     assert!(rt; is_the_ready_work(&record_of(rt.alloc(), &READY)?));
     assert!(rt; is_the_flag(&record_of(rt.alloc(), &FLAG)?));
     Ok(())
@@ -179,22 +184,22 @@ fn a_changed_intention_is_another_or_none(rt: HostRuntime) -> Result<(), Fail> {
     Ok(())
 }
 
-/// An intention that puts no block, of this kind and with this byte in the address of a map page.
-fn page_without_a_block(kind: u8, map: u8) -> Page {
-    changed(&changed(&page_of(&FRESH), 20, kind), 30, map)
-}
-
 #[test]
-fn no_kind_of_intention_has_a_map_page(rt: HostRuntime) -> Result<(), Fail> {
-    for (kind, map, same) in [
-        (1, 0, true),
-        (1, 1, false),
-        (2, 0, true),
-        (2, 1, false),
-        (3, 0, true),
-        (3, 1, false),
+fn only_a_put_past_the_blocks_of_a_head_names_a_map_page(rt: HostRuntime) -> Result<(), Fail> {
+    let page = page_of(&FAR);
+    for (at, byte, same) in [
+        (29, 0, true),
+        (30, 0, true),
+        (20, 3, false),
+        (25, 0, true),
+        (31, 1, false),
     ] {
-        let decoded = Record::decode(rt.alloc(), &page_without_a_block(kind, map))?;
+        let decoded = Record::decode(rt.alloc(), &changed(&page, at, byte))?;
+        assert_eq!(rt; decoded.is_some(), same);
+    }
+    let near = changed(&page, 25, 0);
+    for (block, same) in [(119, false), (120, true)] {
+        let decoded = Record::decode(rt.alloc(), &changed(&near, 26, block))?;
         assert_eq!(rt; decoded.is_some(), same);
     }
     Ok(())
@@ -274,10 +279,11 @@ fn heads_are_spelled_as_they_are_read(rt: HostRuntime) -> Result<(), Fail> {
     Ok(())
 }
 
-fn is_the_head(head: &Head) -> bool {
+fn is_the_head(head: &Head, last_map: u16) -> bool {
     let mut blocks: [u16; HEAD_BLOCKS] = [0; HEAD_BLOCKS];
     blocks[0] = 3;
-    let no_maps: [u16; MOST_MAPS] = [0; MOST_MAPS];
+    let mut all_maps: [u16; MOST_MAPS] = [0; MOST_MAPS];
+    all_maps[MOST_MAPS - 1] = last_map;
     match head {
         Head::Used {
             file,
@@ -286,7 +292,7 @@ fn is_the_head(head: &Head) -> bool {
         } => {
             *file == FileNo(9)
                 && addresses.as_slice() == blocks.as_slice()
-                && maps.as_slice() == no_maps.as_slice()
+                && maps.as_slice() == all_maps.as_slice()
         }
         Head::Free => false,
     }
@@ -294,62 +300,32 @@ fn is_the_head(head: &Head) -> bool {
 
 #[test]
 fn the_parts_of_a_head_are_read(rt: HostRuntime) -> Result<(), Fail> {
-    let head = Head::decode(rt.alloc(), &page_of(&HEAD), 3)?.ok_or("no head")?;
-    assert!(rt; is_the_head(&head));
+    let page = page_of(&HEAD);
+    let head = Head::decode(rt.alloc(), &page, 3)?.ok_or("no head")?;
+    assert!(rt; is_the_head(&head, 0));
+    let with_map = changed(&page, MAPS_AT + 2 * MOST_MAPS - 1, 2);
+    let head = Head::decode(rt.alloc(), &with_map, 3)?.ok_or("no head")?;
+    assert!(rt; is_the_head(&head, 2));
+    assert!(rt; is_read_as_head(rt.alloc(), &with_map)? == Some(true));
     Ok(())
 }
 
 #[test]
-fn a_head_with_a_map_address_is_none(rt: HostRuntime) -> Result<(), Fail> {
+fn a_changed_head_is_another_or_none(rt: HostRuntime) -> Result<(), Fail> {
     let page = page_of(&HEAD);
     for (at, byte, same) in [
         (6, 4, false),
         (244, 2, true),
         (245, 1, false),
-        (246, 1, false),
-        (284, 1, false),
+        (246, 1, true),
+        (246, 4, false),
+        (284, 1, true),
+        (284, 4, false),
         (285, 1, false),
         (0, 2, false),
     ] {
         let decoded = Head::decode(rt.alloc(), &changed(&page, at, byte), 3)?;
         assert_eq!(rt; decoded.is_some(), same);
     }
-    Ok(())
-}
-
-/// Each byte of the head of file 7 whose first and last block have the addresses 0x0102 and 0x0304, and whose first and last map page 1 and 0x0203.
-fn byte_of_head(at: usize) -> u8 {
-    match at {
-        0 => 1,
-        4 => 7,
-        5 => 1,
-        6 => 2,
-        243 => 3,
-        244 => 4,
-        246 => 1,
-        283 => 2,
-        284 => 3,
-        _ => 0,
-    }
-}
-
-fn is_that_head(page: &Page) -> bool {
-    for at in 0..512 {
-        if page[at] != byte_of_head(at) {
-            return false;
-        }
-    }
-    true
-}
-
-#[test]
-fn addresses_of_map_pages_stand_behind_those_of_blocks(rt: HostRuntime) -> Result<(), Fail> {
-    let mut blocks: [u16; HEAD_BLOCKS] = [0; HEAD_BLOCKS];
-    blocks[0] = 0x0102;
-    blocks[HEAD_BLOCKS - 1] = 0x0304;
-    let mut maps: [u16; MOST_MAPS] = [0; MOST_MAPS];
-    maps[0] = 1;
-    maps[MOST_MAPS - 1] = 0x0203;
-    assert!(rt; is_that_head(&used_page(FileNo(7), &blocks, &maps)));
     Ok(())
 }

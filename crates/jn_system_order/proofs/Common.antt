@@ -11,7 +11,7 @@ pub use Rattle.jn_base.proofs.Tells.{server_tells, tid_tells, work_tells, file_t
 pub use Rattle.jn_msgs.specs.declared.message.Message.{Message}
 pub use Rattle.jn_rows.specs.declared.coordinator.Transaction.{Transaction}
 pub use Rattle.jn_rows.specs.declared.coordinator.Stage.TheVariants.{Open, Voting, Committed, Aborted}
-pub use Rattle.jn_rows.specs.Stable.{StableState, made_all, at_tid, Prepared, Pick, CarryOut, RemoveWork, is_going, made_by, at_work, stable, Left, left_of, is_written, carried_at, gone_at, Change, DropFlag, part_of, MarkGoing, next_after, AddReady, AddFlag, ready_work, FlagState, whole_only}
+pub use Rattle.jn_rows.specs.Stable.{StableState, made_all, at_tid, Prepared, Pick, CarryOut, RemoveWork, is_going, made_by, at_work, stable, Left, left_of, is_written, carried_at, gone_at, part_by, Change, DropFlag, part_of, MarkGoing, next_after, AddReady, AddFlag, ready_work, FlagState, whole_only}
 pub use Rattle.jn_rows.specs.Outcomes.{RowOutcome, Sent}
 pub use Rattle.jn_rows.specs.Coordinator.{CoordinatorTable, transaction_at, after_closing, changes_of_closing, seen_now, name_from, begin_again, begun_by, begin_row, is_begun, is_work, all_in, close_clients_row, besides, with_work, drops, commits, prepares, committed_to, aborted_to, staged, without, commit_row, abort_row, forget_row, not_known, end_promised, end_stage, end_row, abort_stage, abort_request, told_stage, inquire_row, counted_vote, vote_stage, vote_row, done_stage, done_row, thanks_stage, thanks_row, told_again, coordinator_again, restored_transaction, restored_transactions, with_stage, coordinator_row}
 pub use Rattle.jn_system.specs.SmallSteps.World.{World as Machine, Begun, Knowledge, Unknown, Voting as Notes, Committed as Finishes, Working, replay}
@@ -32,7 +32,7 @@ pub use Rattle.std.proofs.lemmas.Bool.Decides.{nat_tests}
 pub use Rattle.jn_base.specs.declared.names.BlockNo.{BlockNo}
 pub use Rattle.jn_base.specs.declared.names.WorkId.{WorkId}
 pub use Rattle.jn_base.specs.declared.names.LockUnit.{LockUnit}
-pub use Rattle.jn_order.specs.Files.{change, or_else, answer_to, Files, nothing, effect, file_of, is_did, AllFiles}
+pub use Rattle.jn_order.specs.Files.{change, or_else, Files, Change as FilesChange, answer_to, nothing, effect, file_of, is_did, AllFiles}
 pub use Rattle.jn_order.specs.Changes.{or_also, and_then}
 pub use Rattle.jn_records.specs.declared.intention.Intention.{Intention}
 pub use Rattle.jn_records.specs.NetLists.{intention_change, list_change, InOrder, net_change, net_of}
@@ -45,6 +45,7 @@ pub use Rattle.jn_system.proofs.WholeSystem.Restored.{stored-fact, Entry, entry-
 pub use Rattle.jn_system.proofs.WholeSystem.WorkerCases.{WorkerStep, carries_out, is_over, erases_rubbish, worker-step-case, asked_for, asked_here, WorkerCase, none_done, replies_only, opens_anew, refuses_next, performs_next, prepares_it, marks_it, drops_it, removes_it, Replies, is_open_already, votes_against, votes_broken, votes_again, votes_lost, is_done_already, its_answer, its_wants, its_vote, is_ready, worker-case}
 pub use Rattle.std.proofs.Math.Path.{fun_ext}
 pub use Rattle.jn_rows.proofs.Left.{part-is, left-is, left-none}
+pub use Rattle.jn_base.specs.declared.names.LockUnit.TheVariants.{File, Block}
 pub use Rattle.jn_system.specs.WholeSystem.Steps.{Step, again, sent_now, done, stopped, AreNames, are_rising, tid_before, restart_with, works, IsStep, after, commanded, Tell, Dismiss, IsRun}
 pub use Rattle.jn_report.specs.declared.line.Text.{Text}
 pub use Rattle.jn_rows.specs.declared.client.Outstanding.{Outstanding}

@@ -46,8 +46,8 @@ fits_carried t v w l W i h locks compatible going next s = record {
     now : state w ≡ made_by (CarryOut W i) (state v)
     now = (s.carried i next).done refl (λ n. false)
 
-    kept : CountsOn v.accounts W w.accounts
-    kept = (s.done (ap is_some next) refl).1
+    kept : CountsOn v.accounts W i w.accounts
+    kept = (s.done i next refl).1
 
     listed : (V : WorkId) (o : Option Work) → work_at V t.table ≡ o → WorkListFits (state v).files o → WorkListFits (change (intention_change i) (state v).files) o
     listed V None e f = f
@@ -86,7 +86,7 @@ tickets_carried t v w W i k next s h = record {
   server = h.server ∙ sym s.called.later.server;
   epoch = h.epoch ∙ sym (ap (λ x. x.epoch) ((s.carried i next).done refl (λ n. false)));
   live = h.live;
-  rubbish = λ V e. h.rubbish V (sym (ap (λ r. is_in work_eq V r) (s.done (ap is_some next) refl).1.rubbish) ∙ e);
+  rubbish = λ V e. h.rubbish V (sym (ap (λ r. is_in work_eq V r) (s.done i next refl).1.rubbish) ∙ e);
 }
 
 abbrev told : Result Bool Stopped → Bool
@@ -119,7 +119,7 @@ carry_made t v w before k W T l h locks compatible going s = by (next_of v W) re
     by : (o : Option Intention) → next_of v W ≡ o → Takes 40 (carried_row t.table k (new_work W T) o) t v before k (Ok (tt {0})) t w before k
     by None n = absurd (wrong (s.none_left n).0)
     by (Some i) n = one_made (tt {0}) _ t t v w before before k k (CarryOut W i) 40 refl (omega arith) s.called (s.carried i n) refl (sym (append-nil before.messages)) (sym (append-nil before.notes)) refl
-        (fits_carried t v w l W i h locks compatible going n s) (tickets_carried t.table v w W i k n s) (counts_on (state v) W i v.accounts w.accounts (s.done (ap is_some n) refl).1)
+        (fits_carried t v w l W i h locks compatible going n s) (tickets_carried t.table v w W i k n s) (counts_on (state v) W i v.accounts w.accounts (s.done i n refl).1)
 
 -- nothing is left, and nothing has happened
 pub nothing_left : (v w : StorageView) (W : WorkId) → StepApplied v W (Ok false) w → (next_of v W ≡ None) × (w ≡ v)
@@ -127,7 +127,7 @@ nothing_left v w W s = by (next_of v W) refl
   where
     by : (o : Option Intention) → next_of v W ≡ o → (o ≡ None) × (w ≡ v)
     by None n = (refl, (s.none_left n).1)
-    by (Some i) n = absurd (wrong (sym (s.done (ap is_some n) refl).0))
+    by (Some i) n = absurd (wrong (sym (s.done i n refl).0))
 
 -- ---- the work is over
 

@@ -40,6 +40,7 @@ pub use Rattle.jn_base.specs.declared.fault.CallFault.{CallFault}
 pub use Rattle.jn_base.specs.declared.fault.CallFault.TheVariants.{Stopped as Stops, Memory}
 pub use Rattle.jn_records.specs.declared.net_list.Need.{Need}
 pub use Rattle.jn_lock_rows.specs.Calls.{IsActive, rephased, Becomes, Grants, IsRefused, note_if, notes_of, stored}
+pub use Rattle.jn_worker.specs.Leaving.{Beside, beside_of, left_by}
 pub use Rattle.jn_rows.specs.Outcomes.{RowOutcome, quiet, ignored, sends}
 pub use Rattle.jn_base.specs.Limits.{most_blocks, most_works}
 pub use Rattle.std.proofs.lemmas.Bool.Decides.{nat_tests}

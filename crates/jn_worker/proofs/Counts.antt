@@ -1,7 +1,7 @@
 -- What a row's changes leave of the accounts.
-use Rattle.jn_worker.proofs.Common.{◌≡◌, ℕ, Bool, true, false, List, [], ◌∷◌, length, Option, Some, None, if◌then◌else◌, refl, sym, ◌∙◌, ap, subst, arith, inl, inr, not, ◌+◌, ◌⊎◌, ◌||◌, LockUnit, Tid, WorkId, work_eq, work_is, Intention, Need, WorkHead, ActiveWork, Active, Change, StableState, Prepared, AddReady, CarryOut, RemoveWork, next_after, IsActive, is_in, Accounts, StorageView, intentions, list_of, state, with_work, CountsOn, CountsOff, CountsErased, is_none, WorkerView, Fits, WorkFits, PhaseFits, CountsBy}
+use Rattle.jn_worker.proofs.Common.{◌≡◌, ℕ, Bool, true, false, List, [], ◌∷◌, length, Option, Some, None, if◌then◌else◌, refl, sym, ◌∙◌, ap, subst, arith, inl, inr, not, ◌+◌, ◌⊎◌, ◌||◌, LockUnit, Tid, WorkId, work_eq, work_is, Intention, Need, WorkHead, ActiveWork, Active, Change, StableState, Prepared, AddReady, CarryOut, RemoveWork, next_after, IsActive, is_in, Accounts, StorageView, intentions, list_of, state, with_work, CountsOn, CountsOff, CountsErased, is_none, WorkerView, Fits, WorkFits, PhaseFits, CountsBy, Beside, beside_of, left_by}
 use Rattle.std.proofs.Math.Path.{fun_ext}
-use Rattle.jn_worker.specs.Leaving.{left_by}
+use Rattle.jn_records.specs.MapPlaces.{lacking}
 
 pub filled : {c : Change} {cs : List Change} → c ∷ cs ≡ [] → ⊥
 filled e = cc e
@@ -13,23 +13,20 @@ no_changes (c ∷ changes) e = cc e
 first-same : (d c : Change) → d ∷ [] ≡ c ∷ [] → d ≡ c
 first-same d c e = cc e
 
--- the only change
-pub left_only : (x : StableState) (d c : Change) → d ∷ [] ≡ c ∷ [] → left_by x c ≡ left_by x d
-left_only x d c e = ap (λ (y : Change). left_by x y) (sym (first-same d c e))
-
-none-left : (a b : List WorkId) (n : ℕ) → b ≡ a → n ≡ 0 → length b ≡ length a + n
-none-left a b n is zero = omega (arith, ap (λ (l : List WorkId). length l) is, zero)
+-- what the only change leaves
+pub left_only : (x : StableState) (d c : Change) (b : Beside) → d ∷ [] ≡ c ∷ [] → left_by x d b ≡ left_by x c b
+left_only x d c b e = ap (λ (y : Change). left_by x y b) (first-same d c e)
 
 -- the accounts are as they were, and no intention is counted
-pub counts_same : (x : StableState) (changes : List Change) (a b : Accounts) → b ≡ a → next_after changes a.next ≡ a.next → ((c : Change) → changes ≡ c ∷ [] → left_by x c ≡ 0) → CountsBy x changes a b
-counts_same x changes a b is next left = record { rubbish_more = λ c e. none-left a.rubbish b.rubbish (left_by x c) (ap (λ (x : Accounts). x.rubbish) is) (left c e); promised_records = ap (λ (x : Accounts). x.promised_records) is; next = ap (λ (x : Accounts). x.next) is ∙ sym next; rubbish = λ n h. inl (ap (λ (x : Accounts). is_in work_eq n x.rubbish) (sym is) ∙ h) }
+pub counts_same : (x : StableState) (changes : List Change) (a b : Accounts) → b ≡ a → next_after changes a.next ≡ a.next → ((c : Change) → changes ≡ c ∷ [] → left_by x c (beside_of a) ≡ beside_of a) → CountsBy x changes a b
+counts_same x changes a b is next left = record { beside = λ c e. ap beside_of is ∙ sym (left c e); promised_records = ap (λ (x : Accounts). x.promised_records) is; next = ap (λ (x : Accounts). x.next) is ∙ sym next; rubbish = λ n h. inl (ap (λ (x : Accounts). is_in work_eq n x.rubbish) (sym is) ∙ h) }
 
 pub counts_kept : (x : StableState) (changes : List Change) (a : Accounts) → changes ≡ [] → CountsBy x changes a a
 counts_kept x changes a none = counts_same x changes a a refl (ap (λ cs. next_after cs a.next) none) (λ c e. absurd (filled (sym e ∙ none)))
 
-pub counts_ready : (x : StableState) (head : WorkHead) (list : List Intention) (reads : List LockUnit) (need : Need) (a b : Accounts) → a.next head.work ≡ 0 → b ≡ with_work a head.work need → CountsBy x (AddReady head list reads ∷ []) a b
+pub counts_ready : (x : StableState) (head : WorkHead) (list : List Intention) (reads : List LockUnit) (need : Need) (a b : Accounts) → a.next head.work ≡ 0 → b ≡ with_work a head.work need (lacking a.maps list) → CountsBy x (AddReady head list reads ∷ []) a b
 counts_ready x head list reads need a b zero is = record {
-  rubbish_more = λ c e. none-left a.rubbish b.rubbish (left_by x c) (ap (λ (x : Accounts). x.rubbish) is) (left_only x (AddReady head list reads) c e);
+  beside = λ c e. ap beside_of is ∙ left_only x (AddReady head list reads) c (beside_of a) e;
   promised_records = ap (λ (x : Accounts). x.promised_records) is;
   next = ap (λ (x : Accounts). x.next) is ∙ fun_ext (λ V. by V (work_eq head.work V) refl);
   rubbish = λ n h. inl (ap (λ (x : Accounts). is_in work_eq n x.rubbish) (sym is) ∙ h);
@@ -48,15 +45,21 @@ none_carried t v T W a h i = let few = h.serving.next_fits W in
     none None f = refl
     none (Some p) f = absurd f
 
-pub counts_on : (x : StableState) (W : WorkId) (i : Intention) (a b : Accounts) → CountsOn a W b → CountsBy x (CarryOut W i ∷ []) a b
-counts_on x W i a b c = record { rubbish_more = λ d e. none-left a.rubbish b.rubbish (left_by x d) c.rubbish (left_only x (CarryOut W i) d e); promised_records = c.promised_records; next = c.next; rubbish = λ n h. inl (ap (λ r. is_in work_eq n r) (sym c.rubbish) ∙ h) }
+pub counts_on : (x : StableState) (W : WorkId) (i : Intention) (a b : Accounts) → CountsOn a W i b → CountsBy x (CarryOut W i ∷ []) a b
+counts_on x W i a b c = record { beside = λ d e. carried ∙ left_only x (CarryOut W i) d (beside_of a) e; promised_records = c.promised_records; next = c.next; rubbish = λ n h. inl (ap (λ r. is_in work_eq n r) (sym c.rubbish) ∙ h) }
+  where
+    carried : beside_of b ≡ left_by x (CarryOut W i) (beside_of a)
+    carried = λ j. record { rubbish = length (c.rubbish j); maps = c.maps j; supplied = c.supplied j }
 
 pub counts_off : (x : StableState) (W : WorkId) (a b : Accounts) → CountsOff a W (length (list_of x W)) b → CountsBy x (RemoveWork W ∷ []) a b
-counts_off x W a b c = record { rubbish_more = λ d e. c.rubbish_more ∙ ap (λ n. length a.rubbish + n) (sym (left_only x (RemoveWork W) d e)); promised_records = c.promised_records; next = c.next; rubbish = λ n h. by (work_eq W n) (is_in work_eq n a.rubbish) (c.rubbish_names n h) }
+counts_off x W a b c = record { beside = λ d e. removed ∙ left_only x (RemoveWork W) d (beside_of a) e; promised_records = c.promised_records; next = c.next; rubbish = λ n h. by (work_eq W n) (is_in work_eq n a.rubbish) (c.rubbish_names n h) }
   where
+    removed : beside_of b ≡ left_by x (RemoveWork W) (beside_of a)
+    removed = λ j. record { rubbish = c.rubbish_more j; maps = c.maps j; supplied = c.supplied j }
+
     by : (x y : Bool) → (x || y) ≡ true → (y ≡ true) ⊎ ((x || false) ≡ true)
     by true y h = inr refl
     by false y h = inl h
 
 pub counts_erased : (x : StableState) (a b : Accounts) → CountsErased a b → CountsBy x [] a b
-counts_erased x a b c = record { rubbish_more = λ d e. absurd (filled (sym e)); promised_records = ap (λ (x : Accounts). x.promised_records) c.others; next = ap (λ (x : Accounts). x.next) c.others; rubbish = λ n h. inl (c.rubbish_names n h) }
+counts_erased x a b c = record { beside = λ d e. absurd (filled (sym e)); promised_records = ap (λ (x : Accounts). x.promised_records) c.others; next = ap (λ (x : Accounts). x.next) c.others; rubbish = λ n h. inl (c.rubbish_names n h) }

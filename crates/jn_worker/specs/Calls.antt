@@ -1,5 +1,5 @@
 -- What the calls of a worker do.
-use Rattle.std.specs.Prelude.{◌≡◌, ◌⊎◌, ◌+◌, length, ℕ, Bool, true, false, not, ◌||◌, if◌then◌else◌, List, [], ◌∷◌, ◌++◌, Option, Some, None, Result, Ok, Err, is_ok}
+use Rattle.std.specs.Prelude.{◌≡◌, ◌⊎◌, ◌+◌, ℕ, Bool, true, false, not, ◌||◌, if◌then◌else◌, List, [], ◌∷◌, ◌++◌, Option, Some, None, Result, Ok, Err, is_ok}
 use Rattle.jn_base.specs.declared.names.Tickets.{Tickets}
 use Rattle.jn_base.specs.declared.names.Party.TheVariants.{Server}
 use Rattle.jn_base.specs.declared.names.ClientNo.{ClientNo}
@@ -34,7 +34,7 @@ use Rattle.jn_storage.specs.Listing.{is_in}
 use Rattle.jn_storage.specs.Storage.{Accounts, StorageView}
 use Rattle.jn_storage.specs.Calls.{state, Called, CountsErased}
 use Rattle.jn_storage.specs.DeviceCalls.{step_calls}
-use Rattle.jn_worker.specs.Leaving.{left_by}
+use Rattle.jn_worker.specs.Leaving.{beside_of, left_by}
 use Rattle.jn_worker.specs.Fitting.{WorkerView, Fits, TicketsFit}
 
 abbrev pub has_stopped : {A : Type 0} → Result A CallFault → Bool
@@ -48,13 +48,13 @@ is_removed n (RemoveWork W ∷ changes) = work_eq W n || is_removed n changes
 is_removed n (c ∷ changes) = is_removed n changes
 
 -- What a row's changes leave of the accounts: the promises for flags stand, it is counted which intentions are carried
--- out, and only a work that is removed leaves rubbish. A row has one change at most; where it has none, the rubbish is as
--- it was, or one record less after a step.
+-- out, only a work that is removed leaves rubbish, and map pages and what works name of them change with each change. A row
+-- has one change at most; where it has none, map pages are as they were, and so is the rubbish, or one record less after a step.
 pub record CountsBy (x : StableState) (changes : List Change) (a b : Accounts) : Type 0 where
   pub promised_records : b.promised_records ≡ a.promised_records
   pub next : b.next ≡ next_after changes a.next
   pub rubbish : (n : WorkId) → is_in work_eq n b.rubbish ≡ true → (is_in work_eq n a.rubbish ≡ true) ⊎ (is_removed n changes ≡ true)
-  pub rubbish_more : (c : Change) → changes ≡ c ∷ [] → length b.rubbish ≡ length a.rubbish + left_by x c
+  pub beside : (c : Change) → changes ≡ c ∷ [] → beside_of b ≡ left_by x c (beside_of a)
 
 -- A call whose row this is, with so many device calls at most. One that is stopped adds nothing to what its step sends
 -- and reports; one that has no memory has made some of the row's changes, from the first one on. While no call was stopped

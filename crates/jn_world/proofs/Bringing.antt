@@ -1,5 +1,5 @@
 -- A server that is down comes up, as the written machine has it.
-use Rattle.jn_world.proofs.Common.{◌≡◌, ◌≤◌, ◌<◌, ℕ, zero, suc, Bool, true, false, [], ◌∷◌, ◌++◌, get_or, length, length-append, append-nil, append_assoc, slice_set, Some, Ok, Err, true≢false, refl, sym, ◌∙◌, ap, subst, arith, ◌+◌, ◌||◌, if◌then◌else◌, IsErrAnd, count_by, list_any, with_item, fun_ext, ServerNo, Tid, tid_eq, DeviceState, Place, Restarted, Slot, Up, Down, Gone, IsRestart, IsPlace, StandsThere, CountsAt, commits_in, has_line, Counts, Pages, counts_by, Line, Text, When, EpochsUsedUp, pool_on, heads_on, standing_pages, is_free_head, free_count, rubbish_count, view_with, IsServer, state, WentOn, NoEpochLeft, WasCut, HasCounts, Standing, Stands, with_named, pairs_view, StoreView, Ended, Epoch, Memory, World, BroughtUp, texts_so_far, left_to_tell, is_among, newly_named, restart_texts, has_come, standing_of, DoesEvent, DoesTasks, is_going, Setup, Moment, lines_at, Task, ComesUp, when_of, IsRecoverable}
+use Rattle.jn_world.proofs.Common.{◌≡◌, ◌≤◌, ◌<◌, ℕ, zero, suc, Bool, true, false, [], ◌∷◌, ◌++◌, get_or, length, length-append, append-nil, append_assoc, slice_set, Some, Ok, Err, true≢false, refl, sym, ◌∙◌, ap, subst, arith, ◌+◌, ◌||◌, if◌then◌else◌, IsErrAnd, count_by, list_any, with_item, fun_ext, ServerNo, Tid, tid_eq, DeviceState, Place, Restarted, Slot, Up, Down, Gone, IsRestart, IsPlace, StandsThere, CountsAt, commits_in, has_line, Counts, Pages, counts_by, Line, Text, When, EpochsUsedUp, pool_on, heads_on, standing_pages, is_free_head, free_count, rubbish_count, view_with, IsServer, state, WentOn, NoEpochLeft, WasCut, HasCounts, Standing, Stands, with_named, pairs_view, StoreView, Ended, Epoch, Memory, World, BroughtUp, texts_so_far, left_to_tell, is_among, newly_named, restart_texts, has_come, standing_of, DoesEvent, DoesTasks, is_going, Setup, Moment, lines_at, Task, ComesUp, when_of, IsRecoverable, Beside, beside_on}
 use Rattle.std.proofs.Common.{List, drop, slice_get, Result}
 use Rattle.jn_place.specs.declared.place.Restarted.TheVariants as came
 use Rattle.jn_report.specs.declared.line.Text.TheVariants as says
@@ -81,7 +81,7 @@ same-place p q e = ap (λ (c : _). record q { counts = c }) (sym e)
 has-by : {S : Type 0} (look : S → StoreView) (q : ServerNo) (g : Counts) (most : ℕ) (slot : Slot S) → StandsThere look q g most slot → CountsAt look slot → HasCounts look q g slot
 has-by look q g most (Up p) h keeps = (
   h.counts,
-  own.rubbish ∙ ap (λ (n : Counts). rubbish_count (pool_on n pages)) h.counts,
+  own.beside ∙ ap (λ (n : Counts). beside_on n pages) h.counts,
   record {
     works = counted.works;
     flags = counted.flags;
@@ -89,7 +89,7 @@ has-by look q g most (Up p) h keeps = (
     flags_all = counted.flags_all;
     files = counted.files;
     files_all = counted.files_all;
-    records_all = all-records _ _ _ _ _ _ _ counted.records (own.free ∙ ap (λ (n : Counts). free_count (pool_on n pages)) h.counts) (own.rubbish ∙ ap (λ (n : Counts). rubbish_count (pool_on n pages)) h.counts) (ap (λ (n : Counts). n.pool) h.counts);
+    records_all = all-records _ _ _ _ _ _ _ counted.records (own.free ∙ ap (λ (n : Counts). free_count (pool_on n pages)) h.counts) (ap (λ (b : Beside). b.rubbish) own.beside ∙ ap (λ (n : Counts). rubbish_count (pool_on n pages)) h.counts) (ap (λ (n : Counts). n.pool) h.counts);
     heads_all = all-heads _ _ _ counted.heads_used (own.heads ∙ ap (λ (n : Counts). count_by is_free_head (heads_on n pages)) h.counts) (ap (λ (n : Counts). n.heads) h.counts);
   },
   subst (λ (s : ServerNo). IsRecoverable s g (look p.storage.0)) h.its (subst (λ (n : Counts). IsRecoverable (view_with look p).storage.accounts.server n (look p.storage.0)) h.counts keeps.recoverable),

@@ -1,5 +1,5 @@
 -- A server that is up takes a message, or makes a step where it has something to do, and which one is first.
-use Rattle.jn_world.proofs.Common.{inl, inr, append-nil, ◌≡◌, ◌≤◌, ◌<◌, ℕ, zero, suc, ◌+◌, Bool, true, false, List, [], ◌∷◌, ◌++◌, length, Option, Some, None, Result, Ok, Err, true≢false, refl, sym, ◌∙◌, ap, subst, arith, set, nat_tests, length-set, slice_get_within, ◌⊎◌, nat_lt, slice_get, IsErr, IsErrAnd, IfErr, OnOk, drop, is_some, Server, ServerNo, Tid, DeviceState, Collected, Carried, with_delivered, waiting, Posted, LeavesPlace, Place, Slot, Up, Down, Gone, Took, WorkedBy, AsksAgain, TimedOut, IsTimedOut, has_work_at, PlaceReads, WhereUp, TakeLeaves, WorkLeaves, StandsThere, IsPlace, is_up, server_timeout, of_timeout, ServerMemory, Counts, counts_by, NoSuchWork, Line, When, StableState, Pick, IsUp, Parts, view_with, memory_of, pool_on, standing_pages, rubbish_count, next-works, next-none, refused-step, WentOn, HasCounts, ReadsPages, IsIdleAt, Standing, Stands, StandsAt, PlaceStands, with_answer, texts_sent, state, pairs_view, StoreView, Ended, Messages, Epoch, Memory, AreIdleBelow, IsFirstBusy, ReadsAt, TellsBusy, is_up_at, is_up_in, works_at, works_in, DoesEvent, DoesTasks, EndsStep, GoesTo, TakesTurn, Setup, rubbish_on, next_in, has_work, refusal_of, unless, Moment, lines_at, Task, Meets, when_of, IsRecoverable}
+use Rattle.jn_world.proofs.Common.{inl, inr, append-nil, ◌≡◌, ◌≤◌, ◌<◌, ℕ, zero, suc, ◌+◌, Bool, true, false, List, [], ◌∷◌, ◌++◌, length, Option, Some, None, Result, Ok, Err, true≢false, refl, sym, ◌∙◌, ap, subst, arith, set, nat_tests, length-set, slice_get_within, ◌⊎◌, nat_lt, slice_get, IsErr, IsErrAnd, IfErr, OnOk, drop, is_some, Server, ServerNo, Tid, DeviceState, Collected, Carried, with_delivered, waiting, Posted, LeavesPlace, Place, Slot, Up, Down, Gone, Took, WorkedBy, AsksAgain, TimedOut, IsTimedOut, has_work_at, PlaceReads, WhereUp, TakeLeaves, WorkLeaves, StandsThere, IsPlace, is_up, server_timeout, of_timeout, ServerMemory, Counts, counts_by, NoSuchWork, Line, When, StableState, Pick, IsUp, Parts, view_with, memory_of, pool_on, standing_pages, rubbish_count, next-works, next-none, refused-step, WentOn, HasCounts, ReadsPages, IsIdleAt, Standing, Stands, StandsAt, PlaceStands, with_answer, texts_sent, state, pairs_view, StoreView, Ended, Messages, Epoch, Memory, AreIdleBelow, IsFirstBusy, ReadsAt, TellsBusy, is_up_at, is_up_in, works_at, works_in, DoesEvent, DoesTasks, EndsStep, GoesTo, TakesTurn, Setup, rubbish_on, next_in, has_work, refusal_of, unless, Moment, lines_at, Task, Meets, when_of, IsRecoverable, beside_of, beside_on}
 use Rattle.jn_recovery.specs.Memory.{Memory as Kept, view_of}
 use Rattle.jn_report.specs.declared.line.Text.TheVariants as says
 use Rattle.jn_rows.specs.Worker.{WorkerTable, timeout_row}
@@ -12,7 +12,7 @@ use Rattle.jn_world.proofs.Places.{up-within}
 use Rattle.jn_world.proofs.Refusing.{place-there, refused-up, meets-done}
 use Rattle.jn_world.proofs.ServerCalls.{took-does, worked-does, nudged-does, timed-out-does}
 use Rattle.jn_world.proofs.Turns.{next-first}
-use Rattle.jn_machine.specs.Rubbish.{CountsAll}
+use Rattle.jn_machine.specs.Leaving.{CountsAll}
 
 some-of : {X : Type 0} (a b : X) → Some a ≡ Some b → a ≡ b
 some-of a b e = cc
@@ -152,7 +152,7 @@ module _ {S : Type 0} (look : S → StoreView) (device : S → DeviceState) (see
 
   timed-pages : (q : ServerNo) (g : Counts) (T : Tid) (answer : Bool) (slot slot' : Slot S) → TimedOut look T slot answer slot' → HasCounts look q g slot → HasCounts look q g slot'
   timed-pages q g T answer (Up p) (Up p') t h =
-      subst (λ (z : S × Kept). (z.1.table.counts ≡ g) × (length (view_of z.1 (look z.0)).accounts.rubbish ≡ rubbish_count (pool_on g (standing_pages (look z.0))))
+      subst (λ (z : S × Kept). (z.1.table.counts ≡ g) × (beside_of (view_of z.1 (look z.0)).accounts ≡ beside_on g (standing_pages (look z.0)))
       × CountsAll g (state (view_of z.1 (look z.0))) (standing_pages (look z.0)) × IsRecoverable q g (look z.0)) (sym t.storage) h
   timed-pages q g T answer (Up p) (Down s) t h = absurd t
   timed-pages q g T answer (Up p) Gone t h = absurd t

@@ -1,5 +1,5 @@
 -- The parts of the end, as the written machine has them.
-use Rattle.jn_world.proofs.Common.{◌≡◌, ◌≤◌, ◌<◌, ℕ, zero, suc, ◌+◌, Bool, true, false, [], ◌∷◌, ◌++◌, map, get_or, length, slice_set, Option, Some, None, Ok, true≢false, refl, sym, ◌∙◌, ap, subst, arith, set, All-set, All-get_or, slice_get-map, with_item, over-fits, ServerNo, DeviceState, Place, Slot, Up, Down, Gone, Closed, WhereUp, KeepsRubbish, StandsThere, is_up, IsIdle, Counts, counts_by, Line, When, ClientTable, over, down-already-step, there-is, counts-step, WentOn, HasCounts, Standing, pairs_view, StoreView, World, AreIdle, IsWorld, IsClientOf, is_up_at, is_up_in, standing_of, DoesEvent, DoesTasks, Task, ClosesClients, CountsCommits, when_of}
+use Rattle.jn_world.proofs.Common.{◌≡◌, ◌≤◌, ◌<◌, ℕ, zero, suc, ◌+◌, Bool, true, false, [], ◌∷◌, ◌++◌, map, get_or, length, slice_set, Option, Some, None, Ok, true≢false, refl, sym, ◌∙◌, ap, subst, arith, set, All-set, All-get_or, slice_get-map, with_item, over-fits, ServerNo, DeviceState, Place, Slot, Up, Down, Gone, Closed, WhereUp, KeepsBeside, StandsThere, is_up, IsIdle, Counts, counts_by, Line, When, ClientTable, over, down-already-step, there-is, counts-step, WentOn, HasCounts, Standing, pairs_view, StoreView, World, AreIdle, IsWorld, IsClientOf, is_up_at, is_up_in, standing_of, DoesEvent, DoesTasks, Task, ClosesClients, CountsCommits, when_of}
 use Rattle.std.proofs.Common.{List, drop, slice_get}
 use Rattle.std.specs.Option.{option_map}
 use Rattle.jn_report.specs.declared.line.Text.TheVariants as says
@@ -52,7 +52,7 @@ module _ {S : Type 0} (look : S → StoreView) (device : S → DeviceState) (see
   really-done q g (Down t) after false first later e h = absurd h
   really-done q g Gone after false first later e h = absurd h
 
-  pub closed-does : {A : Type 0} (a : A) (w : Standing S) (q : ServerNo) (i : ℕ) (p new : Place S) (done : Bool) (first later : List Line) → i ≡ q.0 → slice_get w.places q.0 ≡ Some p → new.counts ≡ p.counts → HasCounts look q (counts_by p.counts) new.slot → WhereUp look KeepsRubbish p.slot new.slot
+  pub closed-does : {A : Type 0} (a : A) (w : Standing S) (q : ServerNo) (i : ℕ) (p new : Place S) (done : Bool) (first later : List Line) → i ≡ q.0 → slice_get w.places q.0 ≡ Some p → new.counts ≡ p.counts → HasCounts look q (counts_by p.counts) new.slot → WhereUp look KeepsBeside p.slot new.slot
       → Closed look device q (counts_by p.counts) when p.slot done new.slot first later → is_up new.slot ≡ true → AreIdle w.clients → length w.net.sent ≤ 1000000
       → DoesTasks look device (λ x. ClosesClients q ∷ []) when w (Ok a) (record w { places = set w.places i new }) first later
   closed-does a w q i p new done first later index at same counts kept closed up idle few x m rest stands tasks going is =

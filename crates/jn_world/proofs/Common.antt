@@ -12,7 +12,7 @@ pub use Rattle.jn_place.specs.declared.place.Place.{Place}
 pub use Rattle.jn_place.specs.declared.place.Restarted.{Restarted}
 pub use Rattle.jn_place.specs.declared.place.Slot.{Slot}
 pub use Rattle.jn_place.specs.declared.place.Slot.TheVariants.{Up, Down, Gone}
-pub use Rattle.jn_place.specs.Exact.{IsRestart, Took, WorkedBy, AsksAgain, TimedOut, IsTimedOut, has_work_at, ReadsPages as PlaceReads, WhereUp, TakeLeaves, WorkLeaves, StaysCalm, ComesCalm, IsCalmAt, Befell, Crashed, Closed, KeepsRubbish, ScrubbedBy, LeavesImage, work_of, Showed, LeavesClean, items_of}
+pub use Rattle.jn_place.specs.Exact.{IsRestart, Took, WorkedBy, AsksAgain, TimedOut, IsTimedOut, has_work_at, ReadsPages as PlaceReads, WhereUp, TakeLeaves, WorkLeaves, StaysCalm, ComesCalm, IsCalmAt, Befell, Crashed, Closed, KeepsBeside, ScrubbedBy, LeavesImage, work_of, Showed, LeavesClean, items_of}
 pub use Rattle.jn_place.specs.Places.{IsPlace, Stands as StandsThere, CountsAt, is_up}
 pub use Rattle.jn_system.specs.WholeSystem.World.{commits_in, has_line, Memory as ServerMemory, servers_from, clients_from, World as Protocol}
 pub use Rattle.jn_records.specs.StablePages.{Counts, Pages, page_count}
@@ -22,7 +22,7 @@ pub use Rattle.jn_report.specs.declared.line.Text.{Text}
 pub use Rattle.jn_report.specs.declared.line.When.{When}
 pub use Rattle.jn_report.specs.declared.line.EventRefusal.TheVariants.{EpochsUsedUp, NoSuchWork, TooManyArmed, NoSuchServer, ServerDown, NoSuchMessage, ServerUp}
 pub use Rattle.jn_page_state.specs.Pages.{pool_on, heads_on}
-pub use Rattle.jn_server.specs.Standing.{standing_pages, is_free_head}
+pub use Rattle.jn_server.specs.Standing.{standing_pages, is_free_head, beside_on}
 pub use Rattle.jn_sets.specs.Pool.{free_count, rubbish_count}
 pub use Rattle.jn_server.specs.Seen.{view_with, IsServer, Parts, memory_of, room_of}
 pub use Rattle.jn_storage.specs.Calls.{state}
@@ -42,6 +42,7 @@ pub use Rattle.jn_machine.specs.Runs.{Moment, none, DoesStep, more, Leads}
 pub use Rattle.jn_machine.specs.Steps.{lines_at, message_texts, traced, is_too_much, come_to, cut_short, made_to}
 pub use Rattle.jn_machine.specs.Tasks.{Task, ComesUp, when_of, Meets, Stage, when_at, InSchedule, AtEnd, CutShort, ClosesClients, CountsCommits, Acts, Begins, GoesDown, Dismisses, next_at, Rests, State, begun, next_task}
 pub use Rattle.jn_page_state.specs.Recoverable.{IsRecoverable}
+pub use Rattle.jn_worker.specs.Leaving.{Beside, beside_of}
 pub use Rattle.std.proofs.Math.ListN.{set}
 pub use Rattle.std.proofs.lemmas.Bool.Decides.{nat_tests}
 pub use Rattle.std.proofs.lemmas.List.{length-set, map-append, length_push}

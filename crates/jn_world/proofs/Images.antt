@@ -1,5 +1,6 @@
 -- What a settle, a show and a scrub leave of images.
-use Rattle.jn_world.proofs.Common.{◌≡◌, ◌<◌, ◌≤◌, ℕ, ◌+◌, Bool, true, false, List, [], ◌∷◌, length, slice_get, Option, Some, None, Result, Ok, Err, is_some, inl, inr, true≢false, refl, sym, ◌∙◌, ap, subst, arith, set, All-set, slice_get_within, ◌⊎◌, not, OnOk, ServerNo, DeviceState, Carried, Files, Place, Slot, Up, Down, Gone, ScrubbedBy, WhereUp, KeepsRubbish, LeavesImage, IsCalmAt, has_work_at, work_of, is_up, Counts, counts_by, Line, When, StableState, stable, view_with, memory_of, room_of, IsStoreOf, Standing, Stands, StandsAt, state, pairs_view, StoreView, IsUpAndCalm, AreUpAndCalm, HasFilesAlone, HasNoRubbish, AreClean, StayClean, HoldsImage, HoldsImageAt, HoldImages, IsScrubbedAt, IsAtRest, Setup, Moment}
+use Rattle.jn_world.proofs.Common.{◌≡◌, ◌<◌, ◌≤◌, ℕ, ◌+◌, Bool, true, false, List, [], ◌∷◌, length, slice_get, Option, Some, None, Result, Ok, Err, is_some, inl, inr, true≢false, refl, sym, ◌∙◌, ap, subst, arith, set, All-set, slice_get_within, ◌⊎◌, not, OnOk, ServerNo, DeviceState, Carried, Files, Place, Slot, Up, Down, Gone, ScrubbedBy, WhereUp, KeepsBeside, LeavesImage, IsCalmAt, has_work_at, work_of, is_up, Counts, counts_by, Line, When, StableState, stable, view_with, memory_of, room_of, IsStoreOf, Standing, Stands, StandsAt, state, pairs_view, StoreView, IsUpAndCalm, AreUpAndCalm, HasFilesAlone, HasNoRubbish, AreClean, StayClean, HoldsImage, HoldsImageAt, HoldImages, IsScrubbedAt, IsAtRest, Setup, Moment, Beside}
+use Rattle.jn_base.specs.declared.names.WorkId.{WorkId}
 use Rattle.jn_page_state.specs.Images.{IsImage}
 use Rattle.jn_system.proofs.WholeSystem.BusyServers.{nothing}
 use Rattle.jn_world.proofs.Calm.{all-at, all-by}
@@ -17,6 +18,10 @@ none-by : {A : Type 0} (o : Option A) → is_some o ≡ false → o ≡ None
 none-by None h = refl
 none-by (Some x) h = absurd (true≢false h)
 
+no-length : (l : List WorkId) → length l ≡ 0 → l ≡ []
+no-length [] e = refl
+no-length (W ∷ l) e = absurd (omega (arith, e))
+
 module _ {S : Type 0} (look : S → StoreView) where
   -- ---- rubbish
 
@@ -33,15 +38,15 @@ module _ {S : Type 0} (look : S → StoreView) where
   rested-clean device (Ok x) net ps h = all-by (λ (p : Place S). HasNoRubbish look p.slot) ps (λ n p e. let one = h.idle n p (slice_get_within ps n p e) e in idle-slot p.slot one.idle)
   rested-clean device (Err x) net ps h = tt
 
-  keeps-slot : (a b : Slot S) → WhereUp look KeepsRubbish a b → is_up a ≡ true → HasNoRubbish look a → HasNoRubbish look b
-  keeps-slot (Up p) (Up q) keeps up none = keeps ∙ none
+  keeps-slot : (a b : Slot S) → WhereUp look KeepsBeside a b → is_up a ≡ true → HasNoRubbish look a → HasNoRubbish look b
+  keeps-slot (Up p) (Up q) keeps up none = no-length (view_with look q).storage.accounts.rubbish (ap (λ (b : Beside). b.rubbish) keeps ∙ ap (λ (l : List WorkId). length l) none)
   keeps-slot a (Down s) keeps up none = tt
   keeps-slot a Gone keeps up none = tt
   keeps-slot (Down s) (Up q) keeps up none = absurd (true≢false (sym up))
   keeps-slot Gone (Up q) keeps up none = absurd (true≢false (sym up))
 
   -- a call of one that keeps it
-  pub clean-put : (ps : List (Place S)) (n i : ℕ) (p q : Place S) → i ≡ n → slice_get ps n ≡ Some p → WhereUp look KeepsRubbish p.slot q.slot → StayClean look ps (set ps i q)
+  pub clean-put : (ps : List (Place S)) (n i : ℕ) (p q : Place S) → i ≡ n → slice_get ps n ≡ Some p → WhereUp look KeepsBeside p.slot q.slot → StayClean look ps (set ps i q)
   clean-put ps n i p q index at keeps calm all =
       let own = all-at (λ (x : Place S). IsUpAndCalm look x) ps n p calm at in
       subst (λ (k : ℕ). AreClean look (set ps k q)) (sym index)

@@ -1,5 +1,5 @@
 -- What a call of a server's place does, and its messages and notes, is an event of the written machine.
-use Rattle.jn_world.proofs.Common.{◌≡◌, ℕ, Bool, false, List, [], ◌∷◌, ◌++◌, length, Option, Some, None, Result, Ok, Err, true≢false, sym, ap, subst, set, drop, slice_get, IsErr, IsErrAnd, FaultKind, Server, ServerNo, Tid, DeviceState, PageDecays, PageRevives, FaultArmed, Collected, with_delivered, Posted, Place, Down, Took, WorkedBy, ScrubbedBy, Showed, AsksAgain, TimedOut, Crashed, Befell, has_work_at, WhereUp, TakeLeaves, WorkLeaves, KeepsRubbish, counts_by, TooManyArmed, Line, When, Event, IsStepTo, HasCounts, ReadsPages, texts_shown, Standing, texts_sent, with_answer, lost-step, crashed-step, pairs_view, StoreView, Ended, Memory, DoesEvent, EndsStep, Setup, told_unless, Moment, lines_at, Task, LeavesClean}
+use Rattle.jn_world.proofs.Common.{◌≡◌, ℕ, Bool, false, List, [], ◌∷◌, ◌++◌, length, Option, Some, None, Result, Ok, Err, true≢false, sym, ap, subst, set, drop, slice_get, IsErr, IsErrAnd, FaultKind, Server, ServerNo, Tid, DeviceState, PageDecays, PageRevives, FaultArmed, Collected, with_delivered, Posted, Place, Down, Took, WorkedBy, ScrubbedBy, Showed, AsksAgain, TimedOut, Crashed, Befell, has_work_at, WhereUp, TakeLeaves, WorkLeaves, KeepsBeside, counts_by, TooManyArmed, Line, When, Event, IsStepTo, HasCounts, ReadsPages, texts_shown, Standing, texts_sent, with_answer, lost-step, crashed-step, pairs_view, StoreView, Ended, Memory, DoesEvent, EndsStep, Setup, told_unless, Moment, lines_at, Task, LeavesClean}
 use Rattle.std.specs.Prelude.{slice_set}
 use Rattle.jn_base.specs.declared.device.FaultKind.TheVariants as faults
 use Rattle.jn_report.specs.declared.line.Text.TheVariants as says
@@ -59,7 +59,7 @@ module _ {S : Type 0} (look : S → StoreView) (device : S → DeviceState) (see
           ends
 
       -- its pages are cleaned
-      pub scrubbed-does : (done : Bool) (wanted : List Line) → ScrubbedBy look device q (counts_by place.counts) when place.slot done new.slot first wanted → WhereUp look KeepsRubbish place.slot new.slot → WhereUp look LeavesClean place.slot new.slot
+      pub scrubbed-does : (done : Bool) (wanted : List Line) → ScrubbedBy look device q (counts_by place.counts) when place.slot done new.slot first wanted → WhereUp look KeepsBeside place.slot new.slot → WhereUp look LeavesClean place.slot new.slot
           → EndsStep r (record w { places = set w.places i new }) u first wanted later → DoesEvent look device (events.Scrub q) when w r u first later
       scrubbed-does done wanted scrubbed kept clean ends x m more stands next is =
           step-ends look device x m (more ++ drop 1 m.state.tasks) (record w { places = set w.places i new }) u r first wanted later
@@ -69,7 +69,7 @@ module _ {S : Type 0} (look : S → StoreView) (device : S → DeviceState) (see
           ends
 
       -- its files are printed
-      pub showed-does : (list : Option (List Shown)) (now : List Line) → Showed look device q (counts_by place.counts) when place.slot list new.slot first now → WhereUp look KeepsRubbish place.slot new.slot
+      pub showed-does : (list : Option (List Shown)) (now : List Line) → Showed look device q (counts_by place.counts) when place.slot list new.slot first now → WhereUp look KeepsBeside place.slot new.slot
           → EndsStep r (record w { places = set w.places i new }) u first (now ++ lines_at when (texts_shown q list)) later → DoesEvent look device (events.Show q) when w r u first later
       showed-does list now showed kept ends x m more stands next is =
           step-ends look device x m (more ++ drop 1 m.state.tasks) (record w { places = set w.places i new }) u r first (now ++ lines_at when (texts_shown q list)) later
@@ -99,7 +99,7 @@ module _ {S : Type 0} (look : S → StoreView) (device : S → DeviceState) (see
           ends
 
       -- a page goes bad, is good again, or a fault is to wait
-      pub decayed-does : (p : ℕ) (answer : Bool) → Befell look device (counts_by place.counts) (λ d e. PageDecays d p answer e) place.slot new.slot → WhereUp look KeepsRubbish place.slot new.slot
+      pub decayed-does : (p : ℕ) (answer : Bool) → Befell look device (counts_by place.counts) (λ d e. PageDecays d p answer e) place.slot new.slot → WhereUp look KeepsBeside place.slot new.slot
           → EndsStep r (record w { places = set w.places i new }) u first (first ++ lines_at when (told_unless answer (says.Outside q (record { kind = faults.Decay p; page = p })))) later
           → DoesEvent look device (events.Decay q p) when w r u first later
       decayed-does p answer befell kept ends x m more stands next is =
@@ -109,7 +109,7 @@ module _ {S : Type 0} (look : S → StoreView) (device : S → DeviceState) (see
           (decayed-step look device seen x w m stands q place at new.slot counts kept first more p answer next befell)))
           ends
 
-      pub revived-does : (p : ℕ) → Befell look device (counts_by place.counts) (λ d e. PageRevives d p e) place.slot new.slot → WhereUp look KeepsRubbish place.slot new.slot
+      pub revived-does : (p : ℕ) → Befell look device (counts_by place.counts) (λ d e. PageRevives d p e) place.slot new.slot → WhereUp look KeepsBeside place.slot new.slot
           → EndsStep r (record w { places = set w.places i new }) u first first later → DoesEvent look device (events.Revive q p) when w r u first later
       revived-does p befell kept ends x m more stands next is =
           step-ends look device x m (more ++ drop 1 m.state.tasks) (record w { places = set w.places i new }) u r first first later
@@ -117,7 +117,7 @@ module _ {S : Type 0} (look : S → StoreView) (device : S → DeviceState) (see
           (revived-step look device seen x w m stands q place at new.slot counts kept first more p next befell))
           ends
 
-      pub armed-does : (n : ℕ) (kind : FaultKind) (answer : Bool) → Befell look device (counts_by place.counts) (λ d e. FaultArmed d n kind answer e) place.slot new.slot → WhereUp look KeepsRubbish place.slot new.slot
+      pub armed-does : (n : ℕ) (kind : FaultKind) (answer : Bool) → Befell look device (counts_by place.counts) (λ d e. FaultArmed d n kind answer e) place.slot new.slot → WhereUp look KeepsBeside place.slot new.slot
           → EndsStep r (record w { places = set w.places i new }) u first (first ++ lines_at when (told_unless answer (says.RefusedEvent TooManyArmed))) later
           → DoesEvent look device (events.Arm q n kind) when w r u first later
       armed-does n kind answer befell kept ends x m more stands next is =

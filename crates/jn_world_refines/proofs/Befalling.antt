@@ -1,5 +1,5 @@
 -- What befalls a server's device by an event: a page goes bad or good, or a fault is to wait.
-use Rattle.jn_world_refines.proofs.Common.{◌≡◌, ℕ, Bool, true, false, List, [], ◌++◌, append-nil, drop, slice_get, slice_set, Some, refl, sym, ap, subst, length, ServerNo, DeviceState, PageDecays, PageRevives, FaultArmed, Place, Slot, Befell, WhereUp, KeepsRubbish, commits_in, counts_by, TooManyArmed, Line, Text, Event, pairs_view, StoreView, Setup, Chance, Use, Decays, Revives, Arms, uses, Devices, Alone, IsUsed, told_unless, acted, Moment, outside_texts, lines_at, Task, when_of, Standing, StandsAt, Stands, HasCounts, ActsNext, IsStepTo, WorkId, Up, Down, Allows}
+use Rattle.jn_world_refines.proofs.Common.{◌≡◌, ℕ, Bool, true, false, List, [], ◌++◌, append-nil, drop, slice_get, slice_set, Some, refl, sym, ap, subst, length, ServerNo, DeviceState, PageDecays, PageRevives, FaultArmed, Place, Slot, Befell, WhereUp, KeepsBeside, commits_in, counts_by, TooManyArmed, Line, Text, Event, pairs_view, StoreView, Setup, Chance, Use, Decays, Revives, Arms, uses, Devices, Alone, IsUsed, told_unless, acted, Moment, outside_texts, lines_at, Task, when_of, Standing, StandsAt, Stands, HasCounts, ActsNext, IsStepTo, WorkId, Up, Down, Allows, beside_by}
 use Rattle.jn_base.specs.declared.device.FaultKind.{FaultKind}
 use Rattle.jn_base.specs.declared.device.FaultKind.TheVariants as faults
 use Rattle.jn_report.specs.declared.line.Text.TheVariants as says
@@ -11,7 +11,7 @@ use Rattle.jn_world_refines.proofs.Left.{Leaves}
 
 module _ {S : Type 0} (look : S → StoreView) (device : S → DeviceState) (seen : (s : S) → look s ≡ pairs_view (device s)) (x : Setup) (w : Standing S) (m : Moment) (stand : Stands look device x w m)
     (q : ServerNo) (place : Place S) (at : slice_get w.places q.0 ≡ Some place) (slot : Slot S) (counts : HasCounts look q (counts_by place.counts) slot)
-    (kept : WhereUp look KeepsRubbish place.slot slot) (lines : List Line) (more : List Task) where
+    (kept : WhereUp look KeepsBeside place.slot slot) (lines : List Line) (more : List Task) where
   abbrev allowing : Bool → Chance
   allowing answer = record (quiet_chance x m.devices) { found = Allows answer }
 
@@ -19,10 +19,10 @@ module _ {S : Type 0} (look : S → StoreView) (device : S → DeviceState) (see
   abbrev now : Standing S
   now = record w { places = slice_set w.places q.0 (record place { slot = slot }) }
 
-  -- as many records are rubbish as before
-  befell-leaves : (before after : Slot S) (becomes : DeviceState → DeviceState → Type 0) → Befell look device (counts_by place.counts) becomes before after → WhereUp look KeepsRubbish before after
-      → Leaves look m.state.course.world q [] after before
-  befell-leaves (Up p) (Up p') becomes b h = ap (λ (names : List WorkId). length names) h
+  -- what stands beside the stable state is what stood there before
+  befell-leaves : (before after : Slot S) (becomes : DeviceState → DeviceState → Type 0) → Befell look device (counts_by place.counts) becomes before after → WhereUp look KeepsBeside before after
+      → Leaves look (beside_by x m.devices q) m.state.course.world q [] after before
+  befell-leaves (Up p) (Up p') becomes b h = h
   befell-leaves (Down s) (Down t) becomes b h = tt
   befell-leaves before after becomes b h = absurd b
 
@@ -49,7 +49,7 @@ module _ {S : Type 0} (look : S → StoreView) (device : S → DeviceState) (see
             its = subst (λ (e : DeviceState). becomes (m.devices q) e) (sym (device-here look device x w m stand seen q place at still.now)) still.becomes_it;
             others = λ s o. device-there look device x w m stand seen q place at still.now s o;
           }))
-          (λ r o n. refl) (befell-leaves place.slot slot becomes befell kept)
+          (λ r o reads n. refl) (befell-leaves place.slot slot becomes befell kept)
           lines (lines ++ lines_at (when_of m.state) texts) (ap (λ (ts : List Text). lines ++ lines_at (when_of m.state) (ts ++ texts)) (sym (ap (λ (ts : List Text). ts ++ []) silent)))
 
   -- a page goes bad, where that is allowed

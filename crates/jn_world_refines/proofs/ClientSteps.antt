@@ -59,7 +59,7 @@ module _ {S : Type 0} (look : S → StoreView) (device : S → DeviceState) (see
         → IsStepTo look device x m (more ++ drop 1 m.state.tasks) (with_sent (posted_by (Client c) (sent_for what)) (record w { clients = ts; net = record w.net { sent = with_delivered k w.net.sent } }))
         lines (lines ++ lines_at (when_of m.state) (texts_taken k what ++ traced w.trace (message_texts (Client c) (length w.net.sent) (sent_for what))))
     takes ts clients lines = plain-step look device seen x w m stand (events.Deliver k) more next (Client c) (Deliver k no_room) acts tt
-        (λ s. left-told v s k no_room c one.message (is-sent look device seen x w m stand k one posted (Client c) to)) (sent_for what) (texts_taken k what) (taken-none k t one.message) so.sent so.lines
+        (λ s reads. left-told reads v s k no_room c one.message (is-sent look device seen x w m stand k one posted (Client c) to)) (sent_for what) (texts_taken k what) (taken-none k t one.message) so.sent so.lines
         w.places (servers-same look device seen x w m stand _ (record { memory = λ q. ap (λ f. f q) so.memory; found = λ q. ap (λ f. f q) so.found; devices = λ q. refl })) ts clients (with_delivered k w.net.sent) refl lines
 
   here-of : (c : ClientNo) → is_client_number c.0 ≡ true → (t : ClientTable) → slice_get w.clients (c.0 - 1) ≡ Some t → v.clients c ≡ t

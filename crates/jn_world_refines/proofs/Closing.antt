@@ -1,5 +1,5 @@
 -- Each outcome at a server counts as thanked, once the clients are dismissed.
-use Rattle.jn_world_refines.proofs.Common.{◌≡◌, ◌<◌, ℕ, zero, suc, Bool, true, false, List, [], ◌∷◌, ◌++◌, append-nil, drop, slice_get, slice_set, Option, Some, None, refl, sym, ◌∙◌, ap, subst, arith, true≢false, length, if◌then◌else◌, nat_lt, fun_ext, nat_tests, ServerNo, ClientNo, Outside, DeviceState, Place, Slot, Up, Down, Gone, IsDoneAt, Closed, texts_of_step, WhereUp, KeepsRubbish, is_up, World, Memory, of_coordinator, CloseClients, IsIdle, after, done, close_clients, counts_by, Line, Text, ClientTable, RowOutcome, StableState, Pick, made_all, Parts, view_with, memory_of, go_on, state, pairs_view, StoreView, Setup, Chance, served, Moment, lines_at, ClosesClients, when_of, next_task, Standing, is_client_number, Stands, HasCounts, IsStepTo, WorkId, row_calls}
+use Rattle.jn_world_refines.proofs.Common.{◌≡◌, ◌<◌, ℕ, zero, suc, Bool, true, false, List, [], ◌∷◌, ◌++◌, append-nil, drop, slice_get, slice_set, Option, Some, None, refl, sym, ◌∙◌, ap, subst, arith, true≢false, length, if◌then◌else◌, nat_lt, fun_ext, nat_tests, ServerNo, ClientNo, Outside, DeviceState, Place, Slot, Up, Down, Gone, IsDoneAt, Closed, texts_of_step, WhereUp, KeepsBeside, is_up, World, Memory, of_coordinator, CloseClients, IsIdle, after, done, close_clients, counts_by, Line, Text, ClientTable, RowOutcome, StableState, Pick, made_all, Parts, view_with, memory_of, go_on, state, pairs_view, StoreView, Setup, Chance, served, Moment, lines_at, ClosesClients, when_of, next_task, Standing, is_client_number, Stands, HasCounts, IsStepTo, WorkId, row_calls, beside_by}
 use Rattle.jn_rows.specs.Coordinator.{close_clients_row}
 use Rattle.jn_world_refines.proofs.Dismissing.{there-is}
 use Rattle.jn_world_refines.proofs.Moving.{same-server, carries-on, net-quiet, device-here, device-there, moved-step}
@@ -37,7 +37,7 @@ module _ {S : Type 0} (look : S → StoreView) (device : S → DeviceState) (see
 
     closed-done : (p : Parts S) → place.slot ≡ Up p → (told : List Outside) (p' : Parts S)
         → IsDoneAt look device row_calls told (of_coordinator (memory_of (view_with look p)) (close_clients_row (memory_of (view_with look p)).coordinator (memory_of (view_with look p)).tickets)) p p' → HasCounts look q (counts_by place.counts) (Up p')
-        → KeepsRubbish (view_with look p) (view_with look p')
+        → KeepsBeside (view_with look p) (view_with look p')
         → IsStepTo look device x m (drop 1 m.state.tasks) (record w { places = slice_set w.places q.0 (record place { slot = Up p' }) }) lines (lines ++ lines_at (when_of m.state) (texts_of_step q told true))
     closed-done p is told p' e counts kept = moved-step look device x w m stand seen q place at h (λ r. refl) (served q row_calls (CloseClients q ∷ []))
         (record { task = ClosesClients q; next = next; deed_is = refl; begun_is = refl }) refl
@@ -62,7 +62,7 @@ module _ {S : Type 0} (look : S → StoreView) (device : S → DeviceState) (see
           its = record { memory = memory_of (view_with look p); up = memory-is; free = refl; maps = refl; called = calling look device seen x w m stand q place at p is told row_calls _ None true (device p'.storage.0) refl e.spent };
           others = λ r o. device-there look device x w m stand seen q place at (device p'.storage.0) r o;
         })
-        (λ r o n. refl) (leaves-from look world q (CloseClients q ∷ []) place.slot (Up p) (Up p') is (ap (λ (names : List WorkId). length names) kept))
+        (λ r o reads n. refl) (leaves-from look (beside_by x m.devices q) world q (CloseClients q ∷ []) place.slot (Up p) (Up p') is kept)
         lines (lines ++ lines_at (when_of m.state) (texts_of_step q told true)) (ap (λ (ts : List Text). lines ++ lines_at (when_of m.state) ts) (sym (append-nil (texts_of_step q told true))))
       where
         row : RowOutcome Memory
@@ -86,11 +86,11 @@ module _ {S : Type 0} (look : S → StoreView) (device : S → DeviceState) (see
         sent-is : (after (CloseClients q) world).sent ≡ world.sent
         sent-is = ap (λ (u : World). u.sent) after-is ∙ append-nil world.sent
 
-    pub closed-step : (slot : Slot S) (lines' : List Line) → Closed look device q (counts_by place.counts) (when_of m.state) place.slot true slot lines lines' → HasCounts look q (counts_by place.counts) slot → WhereUp look KeepsRubbish place.slot slot
+    pub closed-step : (slot : Slot S) (lines' : List Line) → Closed look device q (counts_by place.counts) (when_of m.state) place.slot true slot lines lines' → HasCounts look q (counts_by place.counts) slot → WhereUp look KeepsBeside place.slot slot
         → IsStepTo look device x m (drop 1 m.state.tasks) (record w { places = slice_set w.places q.0 (record place { slot = slot }) }) lines lines'
     closed-step slot lines' closed counts kept = by place.slot slot refl closed counts kept
       where
-        by : (before after : Slot S) → place.slot ≡ before → Closed look device q (counts_by place.counts) (when_of m.state) before true after lines lines' → HasCounts look q (counts_by place.counts) after → WhereUp look KeepsRubbish before after
+        by : (before after : Slot S) → place.slot ≡ before → Closed look device q (counts_by place.counts) (when_of m.state) before true after lines lines' → HasCounts look q (counts_by place.counts) after → WhereUp look KeepsBeside before after
             → IsStepTo look device x m (drop 1 m.state.tasks) (record w { places = slice_set w.places q.0 (record place { slot = after }) }) lines lines'
         by (Up p) (Up p') is s k l = subst (λ (ls : List Line). IsStepTo look device x m (drop 1 m.state.tasks) (record w { places = slice_set w.places q.0 (record place { slot = Up p' }) }) lines ls) (sym s.lines_are) (closed-done p is s.told p' s.ends k l)
         by (Up p) (Down t) is s k l = absurd s.ends
@@ -100,7 +100,7 @@ module _ {S : Type 0} (look : S → StoreView) (device : S → DeviceState) (see
 
     -- where the server is up afterwards, as while no fault waits
     pub closed-up-step : (done : Bool) (slot : Slot S) (lines' : List Line) → Closed look device q (counts_by place.counts) (when_of m.state) place.slot done slot lines lines' → is_up slot ≡ true → HasCounts look q (counts_by place.counts) slot
-        → WhereUp look KeepsRubbish place.slot slot
+        → WhereUp look KeepsBeside place.slot slot
         → IsStepTo look device x m (drop 1 m.state.tasks) (record w { places = slice_set w.places q.0 (record place { slot = slot }) }) lines lines'
     closed-up-step true slot lines' closed up counts kept = closed-step slot lines' closed counts kept
     closed-up-step false slot lines' closed up counts kept = absurd (by place.slot slot closed up)

@@ -46,7 +46,7 @@ module _ {S : Type 0} (look : S → StoreView) (device : S → DeviceState) (see
   pub told-step : (command : Command) → ActsNext x m (events.Command c command) more → (row : Commanded) → command_row t v.event command ≡ row → (lines : List Line)
       → IsStepTo look device x m (more ++ drop 1 m.state.tasks) (with_sent (posted_by (Client c) (sent_commanded row)) (with_client c (table_commanded t row) w))
       lines (lines ++ lines_at (when_of m.state) (texts_commanded c v.event row ++ traced w.trace (message_texts (Client c) (length w.net.sent) (sent_commanded row))))
-  told-step command next row row-is lines = plain-step look device seen x w m stand (events.Command c command) more next (Client c) (Tell c command) refl tt (λ s n. refl) (sent_commanded row) (texts_commanded c v.event row) (names-none c v.event row) so.sent so.lines
+  told-step command next row row-is lines = plain-step look device seen x w m stand (events.Command c command) more next (Client c) (Tell c command) refl tt (λ s reads n. refl) (sent_commanded row) (texts_commanded c v.event row) (names-none c v.event row) so.sent so.lines
       w.places (servers-same look device seen x w m stand _ (record { memory = λ q. ap (λ f. f q) so.memory; found = λ q. ap (λ f. f q) so.found; devices = λ q. refl }))
       _ (client-moved look device seen x w m stand c is (table_commanded t row) (after (Tell c command) v) so.here so.others) w.net.sent refl lines
     where
@@ -57,7 +57,7 @@ module _ {S : Type 0} (look : S → StoreView) (device : S → DeviceState) (see
   pub asked-step : ActsNext x m (events.Again c) more → (lines : List Line)
       → IsStepTo look device x m (more ++ drop 1 m.state.tasks) (with_sent (posted_by (Client c) (sent_now (again_row t))) w)
       lines (lines ++ lines_at (when_of m.state) (traced w.trace (message_texts (Client c) (length w.net.sent) (sent_now (again_row t)))))
-  asked-step next lines = plain-step look device seen x w m stand (events.Again c) more next (Client c) (Again c) refl tt (λ s n. refl) (sent_now (again_row t)) [] refl
+  asked-step next lines = plain-step look device seen x w m stand (events.Again c) more next (Client c) (Again c) refl tt (λ s reads n. refl) (sent_now (again_row t)) [] refl
       (ap (λ (a : ClientTable). v.sent ++ sent_now (again_row a)) here-is) (sym (append-nil v.lines))
       w.places (servers-same look device seen x w m stand _ (record { memory = λ q. refl; found = λ q. refl; devices = λ q. refl }))
       w.clients (clients-same look device seen x w m stand (after (Again c) v) refl) w.net.sent refl lines

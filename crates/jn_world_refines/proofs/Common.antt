@@ -6,7 +6,7 @@ pub use Rattle.jn_device.specs.Device.{DeviceState}
 pub use Rattle.jn_device.specs.Events.{Decays as PageDecays, Revives as PageRevives, Arms as FaultArmed, powered_off, disarmed, cleared}
 pub use Rattle.jn_place.specs.declared.place.Place.{Place}
 pub use Rattle.jn_place.specs.declared.place.Slot.{Slot}
-pub use Rattle.jn_place.specs.Exact.{Befell, WhereUp, KeepsRubbish, IsDoneAt, Closed, texts_of_step, Crashed, IsSpent, IsStoppedAt, idle_row, IsStepOf, ScrubbedBy, Prints, Showed, LeavesClean, AsksAgain, TimedOut, IsTimedOut, has_work_at, IsTried, IsUpAt, CameTo, IsRestart, Sends, IsStoppedUp, IsUsedUpAt, Took, TakeLeaves, work_of, WorkedBy, WorkLeaves}
+pub use Rattle.jn_place.specs.Exact.{Befell, WhereUp, KeepsBeside, IsDoneAt, Closed, texts_of_step, Crashed, IsSpent, IsStoppedAt, idle_row, IsStepOf, ScrubbedBy, Prints, Showed, LeavesClean, AsksAgain, TimedOut, IsTimedOut, has_work_at, IsTried, IsUpAt, CameTo, IsRestart, Sends, IsStoppedUp, IsUsedUpAt, Took, TakeLeaves, work_of, WorkedBy, WorkLeaves}
 pub use Rattle.jn_system.specs.WholeSystem.World.{commits_in, World, at_client, Memory, has_line, at_server, clients_from, servers_from, with_epoch, new_memory, changed}
 pub use Rattle.jn_recovery.specs.Counts.{counts_by}
 pub use Rattle.jn_report.specs.declared.line.EventRefusal.TheVariants.{TooManyArmed, EpochsUsedUp}
@@ -16,7 +16,7 @@ pub use Rattle.jn_schedule.specs.declared.Event.{Event}
 pub use Rattle.jn_store.specs.Pairs.{pairs_view}
 pub use Rattle.jn_store.specs.Store.{StoreView, IsCalm, IsClean, IsWholePage, IsOnly}
 pub use Rattle.jn_machine.specs.Chances.{Setup, Chance, Allows, Free, Finding, Prints as HasPrints, none_free, free_found, maps_found, Recovered}
-pub use Rattle.jn_machine.specs.Deeds.{Use, Decays, Revives, Arms, uses, plain, delivered, no_room, served, Deed, PowersOff, nothing, crashed_at, Reads, Cleans, shown, room, delivered_at, Nothing, is_busy, working_steps, worked, is_used_up, given_up, recovered, restarted, stopped_idle, recovering, brought_up, last_epoch, Calls, nobody, is_busy_with}
+pub use Rattle.jn_machine.specs.Deeds.{Use, Decays, Revives, Arms, uses, plain, delivered, no_room, served, Deed, PowersOff, nothing, crashed_at, Reads, Cleans, shown, room, delivered_at, Nothing, is_busy, working_steps, worked, is_used_up, given_up, recovered, restarted, stopped_idle, recovering, brought_up, last_epoch, pick_read, Calls, nobody, is_busy_with}
 pub use Rattle.jn_machine.specs.Devices.{Devices, Alone, IsUsed, AreFound, rubbish_on, AreRecoverable, IsCalled, pages_of, IsServed, IsLookedOver, IsScrubbed, Befalls, IsRecovery}
 pub use Rattle.jn_machine.specs.Events.{told_unless, acted, deed_of, dismissing, met, servers_of, asking, settling, next_in, resting, first_busy, next_event}
 pub use Rattle.jn_machine.specs.Runs.{Moment, Leads, DoesStep, none, more}
@@ -27,6 +27,7 @@ pub use Rattle.jn_world_refines.specs.Pages.{HasCounts, ReadsPages, IsIdleAt}
 pub use Rattle.jn_world_refines.specs.Going.{ActsNext, IsStepTo, IsTold, Limit, WentOn, WasCut, NoMessageLeft, NoEpochLeft}
 pub use Rattle.jn_base.specs.declared.names.WorkId.{WorkId}
 pub use Rattle.jn_place.specs.declared.place.Slot.TheVariants.{Up, Down, Gone}
+pub use Rattle.jn_machine.specs.Leaving.{beside_by, AreLeft, AreAllCounted, left_by_step, left_by_steps, beside_at, CountsAll, left_by_row}
 pub use Rattle.std.proofs.lemmas.Bool.Decides.{nat_tests}
 pub use Rattle.jn_base.specs.declared.names.ClientNo.{ClientNo}
 pub use Rattle.jn_base.specs.declared.names.Party.TheVariants.{Client, Server}
@@ -55,16 +56,16 @@ pub use Rattle.jn_storage.specs.DeviceCalls.{row_calls, step_calls}
 pub use Rattle.jn_world_refines.specs.Waiting.{Carries, sent_of, delivered_by, are_new, waiting_numbers, undelivered}
 pub use Rattle.jn_row_ranges.specs.Within.{Within}
 pub use Rattle.jn_row_ranges.proofs.WorldSteps.{run-within, sent-near, opening-within}
-pub use Rattle.jn_machine.specs.Rubbish.{AreLeft, AreAllCounted, rubbish_records, left_by_step, left_by_steps, CountsAll, left_by_row}
 pub use Rattle.jn_machine.proofs.Computed.{may-lead, join}
 pub use Rattle.jn_records.specs.MapPlaces.{MapPlaces, maps_in, no_maps}
-pub use Rattle.jn_page_state.specs.Recoverable.{IsRecoverable}
+pub use Rattle.jn_page_state.specs.Recoverable.{IsRecoverable, MapsAreClean}
 pub use Rattle.std.proofs.lemmas.Option.{slice_get_within, slice_get-map}
 pub use Rattle.jn_records.specs.StablePages.{Counts, page_count, root_by}
-pub use Rattle.jn_page_state.specs.Pages.{pool_on, heads_on, found_on}
-pub use Rattle.jn_server.specs.Standing.{standing_pages, free_on, has_rubbish}
+pub use Rattle.jn_page_state.specs.Pages.{pool_on, heads_on, found_on, pages_by}
+pub use Rattle.jn_server.specs.Standing.{standing_pages, free_on, has_rubbish, beside_on}
 pub use Rattle.jn_rows.specs.declared.worker.Work.{Work, Work as WorkEntry}
 pub use Rattle.jn_rows.specs.Worker.{going_work, going_row, carried_row, intentions_of}
+pub use Rattle.jn_worker.specs.Leaving.{Beside, beside_of, left_over}
 pub use Rattle.std.specs.List.{list_any, list_all, position_from}
 pub use Rattle.jn_report.specs.declared.line.When.{When}
 pub use Rattle.jn_serial.specs.Lines.{history_of}
@@ -77,4 +78,3 @@ pub use Rattle.jn_report.specs.declared.line.EventRefusal.{EventRefusal}
 pub use Rattle.jn_base.specs.declared.names.Party.{Party}
 pub use Rattle.jn_order.specs.Files.{AllFiles}
 pub use Rattle.jn_machine.specs.Whole.{before, AreImages, IsWhole, IsLimited, IsPartOfRun, closed_world}
-pub use Rattle.jn_worker.specs.Leaving.{left_over}

@@ -35,7 +35,7 @@ module _ {S : Type 0} (look : S → StoreView) (device : S → DeviceState) (see
       (net-quiet look device x w m stand (go_on (Crash q ∷ []) m.state.course) (says.Down q ∷ []) (carries-on w.net m.state.course (Crash q) refl (ap (λ (u : World). u.sent) after-is) stand.net) (ap (λ (u : World). u.lines) after-is) refl)
       (ap (λ (u : World). u.lines) after-is) (ap (λ (u : World). u.sent) after-is) (tt, tt)
       (record { its = device-here look device x w m stand seen q place at (device s) ∙ crashed.device_is ∙ ap powered_off (sym here.2); others = λ r o. device-there look device x w m stand seen q place at (device s) r o })
-      (λ r o n. refl) tt
+      (λ r o reads n. refl) tt
       lines (lines ++ record { when = when_of m.state; text = says.Down q } ∷ []) refl
     where
       -- its pages are as they were

@@ -1,5 +1,5 @@
 -- A scrub and a show.
-use Rattle.jn_world_refines.proofs.Common.{◌≡◌, ℕ, Bool, true, false, List, [], ◌∷◌, ◌++◌, append-nil, drop, map, slice_get, slice_set, Option, Some, None, is_some, not, refl, sym, ◌∙◌, ap, subst, length, ServerNo, Outside, DeviceState, Place, Slot, Up, Down, Gone, IsSpent, IsDoneAt, IsStoppedAt, IsStepOf, idle_row, ScrubbedBy, Prints, Showed, texts_of_step, WhereUp, KeepsRubbish, World, Memory, counts_by, Line, Text, StableState, Pick, stable, Parts, view_with, memory_of, go_on, state, pairs_view, StoreView, Setup, Chance, Reads, Deed, Alone, IsServed, IsLookedOver, Moment, lines_at, Task, when_of, Standing, Stands, HasCounts, ActsNext, IsStepTo, WorkId, ◌*◌, Server, Counts, page_count, LeavesClean, IsCalm, IsClean, IsWholePage, Step, Cleans, plain, IsScrubbed, IsCalled, HasPrints, shown, Left, whole_only}
+use Rattle.jn_world_refines.proofs.Common.{◌≡◌, ℕ, Bool, true, false, List, [], ◌∷◌, ◌++◌, append-nil, drop, map, slice_get, slice_set, Option, Some, None, is_some, not, refl, sym, ◌∙◌, ap, subst, length, ServerNo, Outside, DeviceState, Place, Slot, Up, Down, Gone, IsSpent, IsDoneAt, IsStoppedAt, IsStepOf, idle_row, ScrubbedBy, Prints, Showed, texts_of_step, WhereUp, KeepsBeside, World, Memory, counts_by, Line, Text, StableState, Pick, stable, Parts, view_with, memory_of, go_on, state, pairs_view, StoreView, Setup, Chance, Reads, Deed, Alone, IsServed, IsLookedOver, Moment, lines_at, Task, when_of, Standing, Stands, HasCounts, ActsNext, IsStepTo, WorkId, ◌*◌, Server, Counts, page_count, LeavesClean, IsCalm, IsClean, IsWholePage, Step, Cleans, plain, IsScrubbed, IsCalled, HasPrints, shown, Left, whole_only, beside_by}
 use Rattle.std.specs.Prelude.{◌<◌}
 use Rattle.jn_store.specs.DeviceCalls.{put_calls, cleaned_get_calls}
 use Rattle.jn_world_refines.proofs.Moving.{device-here, does-next, led-to, net-quiet, devices-now, device-there, moved-step}
@@ -72,7 +72,7 @@ module _ {S : Type 0} (look : S → StoreView) (device : S → DeviceState) (see
     abbrev scrubs : List Step → Deed
     scrubs steps = record (plain (Server q) steps) { device = Cleans q }
 
-    scrub-done : (told : List Outside) (p' : Parts S) → IsDoneAt look device (put_calls * (look p.storage.0).count) told (idle_row mem) p p' → HasCounts look q (counts_by place.counts) (Up p') → KeepsRubbish (view_with look p) (view_with look p')
+    scrub-done : (told : List Outside) (p' : Parts S) → IsDoneAt look device (put_calls * (look p.storage.0).count) told (idle_row mem) p p' → HasCounts look q (counts_by place.counts) (Up p') → KeepsBeside (view_with look p) (view_with look p')
         → LeavesClean (view_with look p) (view_with look p') → ActsNext x m (events.Scrub q) more
         → IsStepTo look device x m (more ++ drop 1 m.state.tasks) (standing (Up p')) lines (lines ++ lines_at (when_of m.state) (texts_of_step q told true))
     scrub-done told p' e counts kept clean next = moved-step look device x w m stand seen q place at (idling look device seen x w m stand q place at p is told None) (λ r. refl) (record (scrubs []) { tasks = more })
@@ -81,7 +81,7 @@ module _ {S : Type 0} (look : S → StoreView) (device : S → DeviceState) (see
         (done-alone look device seen x w m stand q place at p is told _ p' e counts (led-to x m (idling look device seen x w m stand q place at p is told None) (record (scrubs []) { tasks = more }) (devices-now look device x w m stand seen q place at (device p'.storage.0))) refl refl)
         refl (record { net = stand.net; named = stand.named; commits = stand.commits }) (sym (append-nil world.lines)) refl tt
         (cleaned told None true p'.storage.0 refl e.spent (λ none. clean.clean) (λ none. clean.whole))
-        (λ r o n. refl) (leaves-from look world q [] place.slot (Up p) (Up p') is (ap (λ (names : List WorkId). length names) kept))
+        (λ r o reads n. refl) (leaves-from look (beside_by x m.devices q) world q [] place.slot (Up p) (Up p') is kept)
         lines (lines ++ lines_at (when_of m.state) (texts_of_step q told true)) (ap (λ (ts : List Text). lines ++ lines_at (when_of m.state) ts) (sym (append-nil (texts_of_step q told true))))
 
     scrub-stopped : (told : List Outside) (s : S) → IsStoppedAt look device (counts_by place.counts) (put_calls * (look p.storage.0).count) told (idle_row mem) p s → HasCounts look q (counts_by place.counts) (Down s) → ActsNext x m (events.Scrub q) more
@@ -96,7 +96,7 @@ module _ {S : Type 0} (look : S → StoreView) (device : S → DeviceState) (see
         (net-quiet look device x w m stand (go_on (stopping look device seen x w m stand q place at p is told ∷ []) m.state.course) (says.Stopped q ∷ []) (stop-carries look device seen x w m stand q place at p is told)
         (ap (λ (u : World). u.lines) (after-stop look device seen x w m stand q place at p is told)) refl)
         (ap (λ (u : World). u.lines) (after-stop look device seen x w m stand q place at p is told)) (ap (λ (u : World). u.sent) (after-stop look device seen x w m stand q place at p is told)) (tt, tt)
-        (cleaned told (Some (λ c. whole_only 0)) false s refl e.spent (λ none. absurd (cc none)) (λ none. absurd (cc none))) (λ r o n. refl) tt
+        (cleaned told (Some (λ c. whole_only 0)) false s refl e.spent (λ none. absurd (cc none)) (λ none. absurd (cc none))) (λ r o reads n. refl) tt
         lines (lines ++ lines_at (when_of m.state) (texts_of_step q told false)) (ap (λ (ts : List Text). lines ++ lines_at (when_of m.state) ts) (sym (append-nil (texts_of_step q told false))))
 
     -- ---- a show
@@ -122,7 +122,7 @@ module _ {S : Type 0} (look : S → StoreView) (device : S → DeviceState) (see
     }
 
     show-done : (told : List Outside) (list : List Shown) (prints : ArePrints (prints_in mem.worker (state (view_with look p).storage).files) (map print_of list))
-        → (p' : Parts S) → IsDoneAt look device look_calls told (idle_row mem) p p' → HasCounts look q (counts_by place.counts) (Up p') → KeepsRubbish (view_with look p) (view_with look p') → ActsNext x m (events.Show q) more
+        → (p' : Parts S) → IsDoneAt look device look_calls told (idle_row mem) p p' → HasCounts look q (counts_by place.counts) (Up p') → KeepsBeside (view_with look p) (view_with look p') → ActsNext x m (events.Show q) more
         → IsStepTo look device x m (more ++ drop 1 m.state.tasks) (standing (Up p')) lines (lines ++ lines_at (when_of m.state) (texts_of_step q told true) ++ lines_at (when_of m.state) (map (text_shown q) list))
     show-done told list prints p' e counts kept next = moved-step look device x w m stand seen q place at h (λ r. refl) (record deed { tasks = more })
         (does-next x m (events.Show q) more next h (λ r. refl) deed (ap (λ (texts : List Text). record (looks []) { texts = texts }) texts-are)) refl
@@ -131,7 +131,7 @@ module _ {S : Type 0} (look : S → StoreView) (device : S → DeviceState) (see
         refl (record { net = stand.net; named = stand.named; commits = stand.commits }) (sym (append-nil world.lines)) refl tt
         (reading told None (map print_of list) true (device p'.storage.0) refl e.spent
         (λ z. subst (λ (f : Pick → StableState). ArePrints (prints_in mem.worker (stable f).files) (map print_of list)) (sym found-is) prints))
-        (λ r o n. refl) (leaves-from look world q [] place.slot (Up p) (Up p') is (ap (λ (names : List WorkId). length names) kept))
+        (λ r o reads n. refl) (leaves-from look (beside_by x m.devices q) world q [] place.slot (Up p) (Up p') is kept)
         lines (lines ++ lines_at (when_of m.state) (texts_of_step q told true) ++ lines_at (when_of m.state) (map (text_shown q) list)) (lines-in-two (when_of m.state) lines (texts_of_step q told true) (map (text_shown q) list))
       where
         h : Chance
@@ -159,7 +159,7 @@ module _ {S : Type 0} (look : S → StoreView) (device : S → DeviceState) (see
         (net-quiet look device x w m stand (go_on (stopping look device seen x w m stand q place at p is told ∷ []) m.state.course) (says.Stopped q ∷ []) (stop-carries look device seen x w m stand q place at p is told)
         (ap (λ (u : World). u.lines) (after-stop look device seen x w m stand q place at p is told)) refl)
         (ap (λ (u : World). u.lines) (after-stop look device seen x w m stand q place at p is told)) (ap (λ (u : World). u.sent) (after-stop look device seen x w m stand q place at p is told)) (tt, tt)
-        (reading told (Some (λ c. whole_only 0)) [] false (device s) refl e.spent (λ z. absurd (cc z))) (λ r o n. refl) tt
+        (reading told (Some (λ c. whole_only 0)) [] false (device s) refl e.spent (λ z. absurd (cc z))) (λ r o reads n. refl) tt
         lines (lines ++ lines_at (when_of m.state) (texts_of_step q told false)) (ap (λ (ts : List Text). lines ++ lines_at (when_of m.state) ts) (sym (append-nil (texts_of_step q told false))))
       where
         h : Chance
@@ -175,17 +175,17 @@ module _ {S : Type 0} (look : S → StoreView) (device : S → DeviceState) (see
 
   module _ (lines' : List Line) where
     pub scrubbed-step : (done : Bool) (slot : Slot S) → ScrubbedBy look device q (counts_by place.counts) (when_of m.state) place.slot done slot lines lines' → HasCounts look q (counts_by place.counts) slot
-        → WhereUp look KeepsRubbish place.slot slot → WhereUp look LeavesClean place.slot slot → ActsNext x m (events.Scrub q) more
+        → WhereUp look KeepsBeside place.slot slot → WhereUp look LeavesClean place.slot slot → ActsNext x m (events.Scrub q) more
         → IsStepTo look device x m (more ++ drop 1 m.state.tasks) (standing slot) lines lines'
     scrubbed-step done slot scrubbed counts kept clean next = by place.slot refl scrubbed kept clean
       where
-        from : (p : Parts S) → place.slot ≡ Up p → (done : Bool) (slot : Slot S) → HasCounts look q (counts_by place.counts) slot → WhereUp look KeepsRubbish (Up p) slot → WhereUp look LeavesClean (Up p) slot
+        from : (p : Parts S) → place.slot ≡ Up p → (done : Bool) (slot : Slot S) → HasCounts look q (counts_by place.counts) slot → WhereUp look KeepsBeside (Up p) slot → WhereUp look LeavesClean (Up p) slot
             → IsStepOf look device q (counts_by place.counts) (put_calls * (look p.storage.0).count) (when_of m.state) (idle_row (memory_of (view_with look p))) (Up p) done slot lines lines' → IsStepTo look device x m (more ++ drop 1 m.state.tasks) (standing slot) lines lines'
         from p is true (Up p') k l n s = subst (λ (ls : List Line). IsStepTo look device x m (more ++ drop 1 m.state.tasks) (standing (Up p')) lines ls) (sym s.lines_are) (scrub-done p is s.told p' s.ends k l n next)
         from p is false (Down t) k l n s = subst (λ (ls : List Line). IsStepTo look device x m (more ++ drop 1 m.state.tasks) (standing (Down t)) lines ls) (sym s.lines_are) (scrub-stopped p is s.told t s.ends k next)
         from p is done slot k l n s = absurd s.ends
 
-        by : (before : Slot S) → place.slot ≡ before → ScrubbedBy look device q (counts_by place.counts) (when_of m.state) before done slot lines lines' → WhereUp look KeepsRubbish before slot → WhereUp look LeavesClean before slot
+        by : (before : Slot S) → place.slot ≡ before → ScrubbedBy look device q (counts_by place.counts) (when_of m.state) before done slot lines lines' → WhereUp look KeepsBeside before slot → WhereUp look LeavesClean before slot
             → IsStepTo look device x m (more ++ drop 1 m.state.tasks) (standing slot) lines lines'
         by (Up p) is s l n = from p is done slot counts l n s
         by (Down t) is s l n = absurd s
@@ -193,11 +193,11 @@ module _ {S : Type 0} (look : S → StoreView) (device : S → DeviceState) (see
 
     -- the code reports what was shown behind the faults
     pub showed-step : (list : Option (List Shown)) (slot : Slot S) → Showed look device q (counts_by place.counts) (when_of m.state) place.slot list slot lines lines' → HasCounts look q (counts_by place.counts) slot
-        → WhereUp look KeepsRubbish place.slot slot → ActsNext x m (events.Show q) more
+        → WhereUp look KeepsBeside place.slot slot → ActsNext x m (events.Show q) more
         → IsStepTo look device x m (more ++ drop 1 m.state.tasks) (standing slot) lines (lines' ++ lines_at (when_of m.state) (texts_shown q list))
     showed-step list slot showed counts kept next = by place.slot refl showed kept
       where
-        from : (p : Parts S) → place.slot ≡ Up p → (list : Option (List Shown)) (slot : Slot S) → HasCounts look q (counts_by place.counts) slot → WhereUp look KeepsRubbish (Up p) slot → Prints (view_with look p) list
+        from : (p : Parts S) → place.slot ≡ Up p → (list : Option (List Shown)) (slot : Slot S) → HasCounts look q (counts_by place.counts) slot → WhereUp look KeepsBeside (Up p) slot → Prints (view_with look p) list
             → IsStepOf look device q (counts_by place.counts) (cleaned_get_calls * (view_with look p).storage.accounts.leaves) (when_of m.state) (idle_row (memory_of (view_with look p))) (Up p) (is_some list) slot lines lines'
             → IsStepTo look device x m (more ++ drop 1 m.state.tasks) (standing slot) lines (lines' ++ lines_at (when_of m.state) (texts_shown q list))
         from p is (Some list) (Up p') k l prints s = subst (λ (ls : List Line). IsStepTo look device x m (more ++ drop 1 m.state.tasks) (standing (Up p')) lines (ls ++ lines_at (when_of m.state) (map (text_shown q) list))) (sym s.lines_are)
@@ -208,7 +208,7 @@ module _ {S : Type 0} (look : S → StoreView) (device : S → DeviceState) (see
         from p is None (Up p') k l prints s = absurd s.ends
         from p is None Gone k l prints s = absurd s.ends
 
-        by : (before : Slot S) → place.slot ≡ before → Showed look device q (counts_by place.counts) (when_of m.state) before list slot lines lines' → WhereUp look KeepsRubbish before slot
+        by : (before : Slot S) → place.slot ≡ before → Showed look device q (counts_by place.counts) (when_of m.state) before list slot lines lines' → WhereUp look KeepsBeside before slot
             → IsStepTo look device x m (more ++ drop 1 m.state.tasks) (standing slot) lines (lines' ++ lines_at (when_of m.state) (texts_shown q list))
         by (Up p) is s l = from p is list slot counts l s.1 s.0
         by (Down t) is s l = absurd s

@@ -1,5 +1,5 @@
 -- A task at one server, in which nothing is sent.
-use Rattle.jn_world_refines.proofs.Common.{◌≡◌, ℕ, ◌+◌, Bool, true, false, List, [], ◌++◌, append-nil, drop, length, slice_get, slice_set, Some, refl, sym, ◌∙◌, ap, subst, arith, ◌||◌, if◌then◌else◌, list_any, nat_tests, ServerNo, Tid, server_eq, tid_eq, DeviceState, Posted, Carried, Place, Slot, at_server, commits_in, has_line, Step, after, run, IsRun, counts_by, Line, Text, Carries, delivered_by, Event, Course, go, go_on, pairs_view, StoreView, Setup, Chance, Deed, Devices, IsUsed, rubbish_on, acted, deed_of, Moment, outside_texts, texts_of, lines_at, come_to, Task, when_of, next_task, begun, Standing, Stands, ActsNext, IsStepTo, AreLeft}
+use Rattle.jn_world_refines.proofs.Common.{◌≡◌, ℕ, ◌+◌, Bool, true, false, List, [], ◌++◌, append-nil, drop, length, slice_get, slice_set, Some, refl, sym, ◌∙◌, ap, subst, arith, ◌||◌, if◌then◌else◌, list_any, nat_tests, ServerNo, Tid, server_eq, tid_eq, DeviceState, Posted, Carried, Place, Slot, at_server, commits_in, has_line, Step, after, run, IsRun, counts_by, Line, Text, Carries, delivered_by, Event, Course, go, go_on, pairs_view, StoreView, Setup, Chance, Deed, Devices, IsUsed, rubbish_on, acted, deed_of, Moment, outside_texts, texts_of, lines_at, come_to, Task, when_of, next_task, begun, Standing, Stands, ActsNext, IsStepTo, AreLeft, beside_by}
 use Rattle.jn_world_refines.proofs.WaitingNumbers.{carries-step}
 use Rattle.jn_world_refines.proofs.Lines.{line-append, count-append}
 use Rattle.jn_world_refines.proofs.Posted.{none-traced, texts-are}
@@ -85,7 +85,7 @@ module _ {S : Type 0} (look : S → StoreView) (device : S → DeviceState) (x :
         → (go_on deed.steps m.state.course).world.clients ≡ m.state.course.world.clients → NetStands w.net names commits (go_on deed.steps m.state.course)
         → (go_on deed.steps m.state.course).world.lines ≡ m.state.course.world.lines ++ own → (go_on deed.steps m.state.course).world.sent ≡ m.state.course.world.sent
         → IsRun deed.steps m.state.course.world → IsUsed x h deed.device m.state.course.world (run deed.steps m.state.course.world) m.devices (devices-now e)
-        → ((s : ServerNo) → server_eq q s ≡ false → AreQuiet m.state.course.world deed.steps s) → Leaves look m.state.course.world q deed.steps slot place.slot
+        → ((s : ServerNo) → server_eq q s ≡ false → AreQuiet m.state.course.world deed.steps s) → Leaves look (beside_by x m.devices q) m.state.course.world q deed.steps slot place.slot
         → (lines lines' : List Line) → lines' ≡ lines ++ lines_at (when_of m.state) (outside_texts deed.device h.told ++ own ++ deed.texts)
         → IsStepTo look device x m (deed.tasks ++ drop 1 m.state.tasks) (record w { places = slice_set w.places q.0 (record place { slot = slot }); named = names; commits = commits }) lines lines'
     moved-step h rubbish deed does cuts slot e own names commits alone clients net lines-are sent-are steps used others leaves lines lines' told =

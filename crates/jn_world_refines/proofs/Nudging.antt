@@ -34,7 +34,7 @@ module _ {S : Type 0} (look : S → StoreView) (device : S → DeviceState) (see
           made : StandsAt look device (counts_by place.counts) (Up p) (v.memory q) (v.found q) (m.devices q)
               → IsStepTo look device x m (more ++ drop 1 m.state.tasks) (with_answer q None (Some out-of) w) lines (lines ++ lines_at (when_of m.state) (texts_sent q None w.trace (length w.net.sent) (Some out-of)))
           made h = subst (λ (n : ℕ). IsStepTo look device x m (more ++ drop 1 m.state.tasks) (record (with_answer q None (Some out-of) w) { commits = n }) lines (lines ++ lines_at (when_of m.state) (texts_sent q None w.trace (length w.net.sent) (Some out-of)))) plus-none
-              (plain-step look device seen x w m stand (events.Nudge q) more next (Server q) (Nudge q) refl tt (λ s n. refl) out-of.messages [] refl (ap (λ (u : World). u.sent) after-is) (ap (λ (u : World). u.lines) after-is ∙ sym (append-nil v.lines))
+              (plain-step look device seen x w m stand (events.Nudge q) more next (Server q) (Nudge q) refl tt (λ s reads n. refl) out-of.messages [] refl (ap (λ (u : World). u.sent) after-is) (ap (λ (u : World). u.lines) after-is ∙ sym (append-nil v.lines))
               w.places (servers-same look device seen x w m stand _ (record { memory = λ r. ap (λ (u : World). u.memory r) after-is; found = λ r. ap (λ (u : World). u.found r) after-is; devices = λ r. refl }))
               w.clients (clients-same look device seen x w m stand _ (ap (λ (u : World). u.clients) after-is)) w.net.sent refl lines)
             where
@@ -47,7 +47,7 @@ module _ {S : Type 0} (look : S → StoreView) (device : S → DeviceState) (see
   -- a server that is down sends nothing
   pub nudged-down-step : (s : S) → place.slot ≡ Down s → (more : List Task) → ActsNext x m (events.Nudge q) more → (lines : List Line) → IsStepTo look device x m (more ++ drop 1 m.state.tasks) w lines lines
   nudged-down-step s is more next lines = subst (λ (ls : List Line). IsStepTo look device x m (more ++ drop 1 m.state.tasks) w lines ls) (append-nil lines)
-      (silent-step look device seen x w m stand (events.Nudge q) more next (Server q) (Nudge q) refl tt (λ s n. refl) [] refl (ap (λ (u : World). u.sent) after-is) (ap (λ (u : World). u.lines) after-is ∙ sym (append-nil v.lines))
+      (silent-step look device seen x w m stand (events.Nudge q) more next (Server q) (Nudge q) refl tt (λ s reads n. refl) [] refl (ap (λ (u : World). u.sent) after-is) (ap (λ (u : World). u.lines) after-is ∙ sym (append-nil v.lines))
       w.places (servers-same look device seen x w m stand _ (record { memory = λ r. ap (λ (u : World). u.memory r) after-is; found = λ r. ap (λ (u : World). u.found r) after-is; devices = λ r. refl }))
       w.clients (clients-same look device seen x w m stand _ (ap (λ (u : World). u.clients) after-is)) w.net.sent refl lines)
     where
@@ -63,7 +63,7 @@ module _ {S : Type 0} (look : S → StoreView) (device : S → DeviceState) (see
       made : (p p' : Parts S) → StandsAt look device (counts_by place.counts) (Up p) (v.memory q) (v.found q) (m.devices q) → IsTimedOut look T p answer p' → HasCounts look q (counts_by place.counts) (Up p')
           → IsStepTo look device x m (more ++ drop 1 m.state.tasks) (record w { places = slice_set w.places q.0 (record place { slot = Up p' }) }) lines lines
       made p p' h t counts' = subst (λ (ls : List Line). IsStepTo look device x m (more ++ drop 1 m.state.tasks) (record w { places = slice_set w.places q.0 (record place { slot = Up p' }) }) lines ls) (append-nil lines)
-          (silent-step look device seen x w m stand (events.Timeout q T) more next (Server q) (Timeout q T) refl tt (λ s n. refl) [] refl (ap (λ (u : World). u.sent) after-is) (ap (λ (u : World). u.lines) after-is ∙ sym (append-nil v.lines))
+          (silent-step look device seen x w m stand (events.Timeout q T) more next (Server q) (Timeout q T) refl tt (λ s reads n. refl) [] refl (ap (λ (u : World). u.sent) after-is) (ap (λ (u : World). u.lines) after-is ∙ sym (append-nil v.lines))
           (slice_set w.places q.0 (record place { slot = Up p' })) (server-moved look device seen x w m stand _ q place (Up p') at (record {
             memory = λ r o. ap (λ (u : World). u.memory r) after-is ∙ ap (λ (b : Bool). if b then Some (server_timeout (memory_of (view_with look p)) T) else v.memory r) o;
             found = λ r o. ap (λ (u : World). u.found r) after-is;

@@ -1,5 +1,5 @@
 -- A step of the system for which no device is called.
-use Rattle.jn_world_refines.proofs.Common.{◌≡◌, ℕ, ◌+◌, Bool, List, [], ◌∷◌, ◌++◌, append-nil, length, drop, Some, None, refl, sym, ◌∙◌, ap, subst, arith, ◌||◌, list_any, ServerNo, Tid, Party, tid_eq, DeviceState, Posted, Place, Step, IsStep, after, World, commits_in, has_line, Text, Line, Carries, delivered_by, ClientTable, Sent, Event, go, pairs_view, StoreView, Setup, Chance, plain, nothing, acted, deed_of, Moment, message_texts, traced, lines_at, Task, when_of, next_task, begun, Standing, Stands, posted_by, with_sent, ActsNext, IsStepTo, left_by_step, none_free, no_maps}
+use Rattle.jn_world_refines.proofs.Common.{◌≡◌, ℕ, ◌+◌, Bool, List, [], ◌∷◌, ◌++◌, append-nil, length, drop, Some, None, refl, sym, ◌∙◌, ap, subst, arith, ◌||◌, list_any, ServerNo, Tid, Party, tid_eq, DeviceState, Posted, Place, Step, IsStep, after, World, commits_in, has_line, Text, Line, Carries, delivered_by, ClientTable, Sent, Event, go, pairs_view, StoreView, Setup, Chance, plain, nothing, acted, deed_of, Moment, message_texts, traced, lines_at, Task, when_of, next_task, begun, Standing, Stands, posted_by, with_sent, ActsNext, IsStepTo, left_by_step, none_free, no_maps, Pick, Beside}
 use Rattle.jn_world_refines.proofs.Made.{carried-length, quiet-texts}
 use Rattle.jn_world_refines.proofs.Posted.{sent-posted, new-posted, none-traced, texts-are}
 use Rattle.jn_world_refines.proofs.Core.{ServersStand, ClientsStand, NetStands, chance-of, last-by, last-of, deed-made, step-made}
@@ -33,7 +33,7 @@ module _ {S : Type 0} (look : S → StoreView) (device : S → DeviceState) (see
   -- ---- one step
 
   module _ (event : Event) (more : List Task) (next : ActsNext x m event more) (actor : Party) (step : Step) (acts : acted x no-chance event v ≡ plain actor (step ∷ [])) (may : IsStep step v)
-      (quiet : (s : ServerNo) (n : ℕ) → left_by_step v s step n ≡ n)
+      (quiet : (s : ServerNo) (reads : Pick → Beside) (before : Beside) → left_by_step reads v s step before ≡ before)
       (messages : List Sent) (texts : List Text) (none : commits_in texts ≡ []) (sent : (after step v).sent ≡ v.sent ++ messages) (told : (after step v).lines ≡ v.lines ++ texts) where
     abbrev pub last : Moment
     last = last-of look device x w m stand no-chance (plain actor (step ∷ [])) more m.devices
@@ -67,7 +67,7 @@ module _ {S : Type 0} (look : S → StoreView) (device : S → DeviceState) (see
 
   -- a step of the system that sends nothing
   module _ (event : Event) (more : List Task) (next : ActsNext x m event more) (actor : Party) (step : Step) (acts : acted x no-chance event v ≡ plain actor (step ∷ [])) (may : IsStep step v)
-      (quiet : (s : ServerNo) (n : ℕ) → left_by_step v s step n ≡ n)
+      (quiet : (s : ServerNo) (reads : Pick → Beside) (before : Beside) → left_by_step reads v s step before ≡ before)
       (texts : List Text) (none : commits_in texts ≡ []) (sent : (after step v).sent ≡ v.sent) (told : (after step v).lines ≡ v.lines ++ texts) where
     pub silent-step : (ps : List (Place S)) → ServersStand look device x ps (last-of look device x w m stand no-chance (plain actor (step ∷ [])) more m.devices) → (ts : List ClientTable) → ClientsStand x ts (after step v)
         → (ms : List Posted) → delivered_by step w.net.sent ≡ ms → (lines : List Line)

@@ -1,5 +1,5 @@
 -- A server comes up, or is stopped while it does.
-use Rattle.jn_world_refines.proofs.Common.{◌≡◌, ◌<◌, ℕ, ◌+◌, Bool, true, false, not, List, [], ◌∷◌, ◌++◌, append-nil, drop, length, map, slice_get, slice_set, Option, Some, None, is_some, refl, sym, ◌∙◌, ap, subst, arith, ◌||◌, if◌then◌else◌, nat_eq, fun_ext, nat_tests, ServerNo, Tid, WorkId, Outside, tid_eq, work_eq, DeviceState, powered_off, found_on, with_epoch, Place, Slot, Up, Down, IsTried, IsUpAt, texts_of_step, World, Memory, commits_in, has_line, restored, named_now, Restart, AreNames, tid_before, restart, restart_with, counts_by, Line, Text, StableState, Pick, Parts, go_on, pairs_view, StoreView, Setup, Chance, Deed, recovered, last_epoch, is_used_up, IsRecovery, rubbish_on, Moment, lines_at, when_of, names_told, HasCounts, Standing, StandsAt, Stands, with_named, IsStepTo, left_by_step, Counts, Recovered, Left, root_by, IsOnly, is_none, ◌&&◌}
+use Rattle.jn_world_refines.proofs.Common.{◌≡◌, ◌<◌, ℕ, ◌+◌, Bool, true, false, not, List, [], ◌∷◌, ◌++◌, append-nil, drop, length, map, slice_get, slice_set, Option, Some, None, is_some, refl, sym, ◌∙◌, ap, subst, arith, ◌||◌, if◌then◌else◌, nat_eq, fun_ext, nat_tests, ServerNo, Tid, WorkId, Outside, tid_eq, work_eq, DeviceState, powered_off, found_on, with_epoch, Place, Slot, Up, Down, IsTried, IsUpAt, texts_of_step, World, Memory, commits_in, has_line, restored, named_now, Restart, AreNames, tid_before, restart, restart_with, counts_by, Line, Text, StableState, Pick, Parts, go_on, pairs_view, StoreView, Setup, Chance, Deed, recovered, last_epoch, is_used_up, IsRecovery, rubbish_on, Moment, lines_at, when_of, names_told, HasCounts, Standing, StandsAt, Stands, with_named, IsStepTo, left_by_step, Counts, Recovered, Left, root_by, IsOnly, is_none, ◌&&◌, Beside, beside_by, pages_by, MapsAreClean, beside_on, pick_read}
 use Rattle.jn_page_state.specs.Puts.{IsFrontClean, IsFrontWhole}
 use Rattle.jn_locks.specs.Locks.{work_before}
 use Rattle.jn_records.specs.Pages.{root_page}
@@ -10,9 +10,12 @@ use Rattle.jn_world_refines.proofs.Moving.{same-server, carries-on, Does, net-na
 use Rattle.jn_world_refines.proofs.Left.{counted, leaves-from}
 
 -- what a restart tells its device
-pub recovery : (q : ServerNo) (g : Counts) (h : Chance) (up : Bool) (told : List Outside) (power : Bool) (d e f : DeviceState) → h.told ≡ told → is_some h.stop ≡ not power → IsTried g told power d e → f ≡ (if up then e else powered_off e)
-    → (up ≡ true → IsFrontClean g (pairs_view f)) → (up ≡ true → d.waiting ≡ [] → IsFrontWhole g (pairs_view f)) → (up ≡ true → (epoch : ℕ) × IsOnly (pairs_view f) 0 (root_page (root_by q g epoch))) → IsRecovery q g h up d f
-recovery q g h up told power d e f told-is stop tried f-is front whole root = record {
+pub recovery : (q : ServerNo) (g : Counts) (h : Chance) (up : Bool) (pick : Pick) (told : List Outside) (power : Bool) (d e f : DeviceState) → h.told ≡ told → is_some h.stop ≡ not power → IsTried g pick told power d e → f ≡ (if up then e else powered_off e)
+    → (up ≡ true → pick ≡ pick_read h) → (up ≡ true → MapsAreClean g (pairs_view f)) → (up ≡ true → IsFrontClean g (pairs_view f)) → (up ≡ true → d.waiting ≡ [] → IsFrontWhole g (pairs_view f)) → (up ≡ true → (epoch : ℕ) × IsOnly (pairs_view f) 0 (root_page (root_by q g epoch))) → IsRecovery q g h up d f
+recovery q g h up pick told power d e f told-is stop tried f-is read maps front whole root = record {
+  pick = pick;
+  read = read;
+  maps = maps;
   powered = tried.powered;
   last = e;
   power = tried.up;
@@ -94,24 +97,27 @@ module _ {S : Type 0} (look : S → StoreView) (device : S → DeviceState) (see
         (record {
           its = subst (λ (o : Option Memory). IsRecovery q (x.counts q) up-chance (is_some o) (m.devices q) (devices-now look device x w m stand seen q place at (device p.storage.0) q))
               (sym (ap (λ (u : World). u.memory q) after-up ∙ ap (λ (b : Bool). if b then Some (restored q (old up.pick) up.works tids) else world.memory q) (same-server q)))
-              (recovery q (x.counts q) up-chance true told true (m.devices q) (device p.storage.0) (devices-now look device x w m stand seen q place at (device p.storage.0) q) refl refl
-              (subst (λ (d : DeviceState). IsTried (x.counts q) told true d (device p.storage.0)) (sym here.2) (subst (λ (g : Counts). IsTried g told true (device s) (device p.storage.0)) (sym its-counts) up.tried)) (device-here look device x w m stand seen q place at (device p.storage.0))
+              (recovery q (x.counts q) up-chance true up.pick told true (m.devices q) (device p.storage.0) (devices-now look device x w m stand seen q place at (device p.storage.0) q) refl refl
+              (subst (λ (d : DeviceState). IsTried (x.counts q) up.pick told true d (device p.storage.0)) (sym here.2) (subst (λ (g : Counts). IsTried g up.pick told true (device s) (device p.storage.0)) (sym its-counts) up.tried)) (device-here look device x w m stand seen q place at (device p.storage.0))
+              (λ e. refl) (λ e. subst (λ (v : StoreView). MapsAreClean (x.counts q) v) now-is (subst (λ (g : Counts). MapsAreClean g (look p.storage.0)) (sym its-counts) up.maps))
               (λ e. subst (λ (v : StoreView). IsFrontClean (x.counts q) v) now-is (subst (λ (g : Counts). IsFrontClean g (look p.storage.0)) (sym its-counts) up.front))
               (λ e quiet. subst (λ (v : StoreView). IsFrontWhole (x.counts q) v) now-is (subst (λ (g : Counts). IsFrontWhole g (look p.storage.0)) (sym its-counts) (up.front_whole (ap (λ (d : DeviceState). d.waiting) (sym here.2) ∙ quiet))))
               (λ e. (epoch, subst (λ (v : StoreView). IsOnly v 0 (root_page (root_by q (x.counts q) epoch))) now-is (subst (λ (g : Counts). IsOnly (look p.storage.0) 0 (root_page (root_by q g epoch))) (sym its-counts) up.root))));
           others = λ r o. device-there look device x w m stand seen q place at (device p.storage.0) r o;
         })
-        (λ r o n. ap (λ (b : Bool). if b && is_none (world.memory r) then 0 else n) o)
-        (leaves-from look world q (Restart q up.pick up.works tids ∷ []) place.slot (Down s) (Up p) is none-left)
+        (λ r o reads n. ap (λ (b : Bool). if b && is_none (world.memory r) then record (reads up.pick) { rubbish = 0 } else n) o)
+        (leaves-from look (beside_by x m.devices q) world q (Restart q up.pick up.works tids ∷ []) place.slot (Down s) (Up p) is none-left)
         lines lines' (lines-are ∙ ap (λ (ts : List Text). lines ++ lines_at (when_of m.state) (texts_of_step q told true) ++ lines_at (when_of m.state) (says.Up q epoch ∷ ts)) names-are
         ∙ lines-in-two (when_of m.state) lines (texts_of_step q told true) own ∙ ap (λ (ts : List Text). lines ++ lines_at (when_of m.state) ts) (texts own)))
       where
         now-is : look p.storage.0 ≡ pairs_view (devices-now look device x w m stand seen q place at (device p.storage.0) q)
         now-is = seen p.storage.0 ∙ ap (λ (d : DeviceState). pairs_view d) (sym (device-here look device x w m stand seen q place at (device p.storage.0)))
 
-        none-left : (n : ℕ) → counted look p ≡ left_by_step world q (Restart q up.pick up.works tids) n
-        none-left n = ap (λ (names : List WorkId). length names) up.clean
-            ∙ sym (ap (λ (b : Bool). if b && is_none (world.memory q) then 0 else n) (same-server q) ∙ ap (λ (o : Option Memory). if is_none o then 0 else n) here.0)
+        none-left : (n : Beside) → counted look p ≡ left_by_step (beside_by x m.devices q) world q (Restart q up.pick up.works tids) n
+        none-left n = up.beside ∙ ap (λ (g : Counts). record (beside_on g (pages_by (pairs_view (device s)) up.pick)) { rubbish = 0 }) (sym its-counts)
+            ∙ ap (λ (d : DeviceState). record (beside_on (x.counts q) (pages_by (pairs_view d) up.pick)) { rubbish = 0 }) (sym here.2)
+            ∙ sym (ap (λ (b : Bool). if b && is_none (world.memory q) then record (beside_by x m.devices q up.pick) { rubbish = 0 } else n) (same-server q)
+            ∙ ap (λ (o : Option Memory). if is_none o then record (beside_by x m.devices q up.pick) { rubbish = 0 } else n) here.0)
 
         texts : (more : List Text) → texts_of_step q told true ++ more ≡ map (λ (fault : Outside). says.Outside q fault) told ++ more ++ []
         texts more = ap (λ (ts : List Text). ts ++ more) (append-nil (map (λ (fault : Outside). says.Outside q fault) told)) ∙ sym (append-nil (map (λ (fault : Outside). says.Outside q fault) told ++ more))

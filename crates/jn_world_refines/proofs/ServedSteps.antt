@@ -1,5 +1,5 @@
 -- A row of a server that is up, done or stopped, is a step of the machine.
-use Rattle.jn_world_refines.proofs.Common.{◌≡◌, ℕ, ◌+◌, Bool, true, false, List, [], ◌∷◌, ◌++◌, append-nil, append_assoc, length, slice_get, slice_set, drop, Option, Some, None, is_some, refl, sym, ◌∙◌, ap, subst, ◌||◌, ServerNo, Server, Outside, DeviceState, Collected, Posted, Place, Slot, Up, Down, Gone, texts_of_step, IsDoneAt, IsStoppedAt, IsStepOf, Sends, lines_of, Step, IsStep, after, ends, World, Memory, commits_in, has_line, counts_by, Text, Line, delivered_by, RowOutcome, Sent, Pick, Event, Parts, go, pairs_view, StoreView, Setup, Chance, Calls, served, acted, Moment, outside_texts, message_texts, traced, texts_of, lines_at, Task, when_of, Standing, Stands, posted_by, texts_sent, with_answer, HasCounts, ReadsPages, ActsNext, IsStepTo, server_eq, Left}
+use Rattle.jn_world_refines.proofs.Common.{◌≡◌, ℕ, ◌+◌, Bool, true, false, List, [], ◌∷◌, ◌++◌, append-nil, append_assoc, length, slice_get, slice_set, drop, Option, Some, None, is_some, refl, sym, ◌∙◌, ap, subst, ◌||◌, ServerNo, Server, Outside, DeviceState, Collected, Posted, Place, Slot, Up, Down, Gone, texts_of_step, IsDoneAt, IsStoppedAt, IsStepOf, Sends, lines_of, Step, IsStep, after, ends, World, Memory, commits_in, has_line, counts_by, Text, Line, delivered_by, RowOutcome, Sent, Pick, Event, Parts, go, pairs_view, StoreView, Setup, Chance, Calls, served, acted, Moment, outside_texts, message_texts, traced, texts_of, lines_at, Task, when_of, Standing, Stands, posted_by, texts_sent, with_answer, HasCounts, ReadsPages, ActsNext, IsStepTo, server_eq, Left, beside_by}
 use Rattle.jn_report.specs.declared.line.Text.TheVariants as says
 use Rattle.jn_world_refines.proofs.Made.{carried-length}
 use Rattle.jn_world_refines.proofs.Posted.{sent-posted, new-posted, none-traced, texts-are, lines-in-two}
@@ -36,12 +36,12 @@ module _ {S : Type 0} (look : S → StoreView) (device : S → DeviceState) (see
     length-is : length v.sent ≡ length w.net.sent
     length-is = let net = stand.net in carried-length w.net.sent m.state.course net.sent
 
-    done-step : (told : List Outside) (p' : Parts S) → IsDoneAt look device calls told row p p' → HasCounts look q (counts_by place.counts) (Up p') → Leaves look v q (step None ∷ []) (Up p') (Up p)
+    done-step : (told : List Outside) (p' : Parts S) → IsDoneAt look device calls told row p p' → HasCounts look q (counts_by place.counts) (Up p') → Leaves look (beside_by x m.devices q) v q (step None ∷ []) (Up p') (Up p)
         → IsStepTo look device x m (more ++ drop 1 m.state.tasks) (answered (Up p') of-row) lines
         (lines ++ lines_at (when_of m.state) (texts_of_step q told true) ++ lines_at (when_of m.state) (texts_sent q k w.trace (length w.net.sent) of-row))
     done-step told p' e counts leaves = step-made look device x w m stand event more next h (λ s. refl) (served q calls (step None ∷ [])) (acts.acts told None) refl
         (devices-with look device seen x w m stand q place at (Up p')) (acts.may None, tt) (called look device seen x w m stand q place at p is reads calls told None true (Up p') refl e.spent)
-        (left-alone look device seen x w m stand (step None ∷ []) last refl q place at (Up p') alone (acts.quiet None) (leaves-from look v q (step None ∷ []) place.slot (Up p) (Up p') is leaves))
+        (left-alone look device seen x w m stand (step None ∷ []) last refl q place at (Up p') alone (acts.quiet None) (leaves-from look (beside_by x m.devices q) v q (step None ∷ []) place.slot (Up p) (Up p') is leaves))
         (answered (Up p') of-row) parts lines _ told-are
       where
         h : Chance
@@ -117,7 +117,7 @@ module _ {S : Type 0} (look : S → StoreView) (device : S → DeviceState) (see
 
     -- done or stopped
     pub row-step : (answer : Option Collected) (slot : Slot S) (told : List Line) → IsStepOf look device q (counts_by place.counts) calls (when_of m.state) row (Up p) (is_some answer) slot [] told → Sends row answer → HasCounts look q (counts_by place.counts) slot
-        → Leaves look v q (step None ∷ []) slot (Up p)
+        → Leaves look (beside_by x m.devices q) v q (step None ∷ []) slot (Up p)
         → IsStepTo look device x m (more ++ drop 1 m.state.tasks) (answered slot answer) lines (lines ++ told ++ lines_at (when_of m.state) (texts_sent q k w.trace (length w.net.sent) answer))
     row-step (Some out) (Up p') told s sends counts leaves = subst (λ (ls : List Line). IsStepTo look device x m (more ++ drop 1 m.state.tasks) (answered (Up p') (Some out)) lines (lines ++ ls ++ lines_at (when_of m.state) (texts_sent q k w.trace (length w.net.sent) (Some out)))) (sym s.lines_are)
         (subst (λ (o : Option Collected). IsStepTo look device x m (more ++ drop 1 m.state.tasks) (answered (Up p') o) lines (lines ++ lines_at (when_of m.state) (texts_of_step q s.told true) ++ lines_at (when_of m.state) (texts_sent q k w.trace (length w.net.sent) o)))

@@ -10,8 +10,8 @@ use Rattle.jn_world_refines.proofs.Left.{left-alone}
 use Rattle.jn_world_refines.proofs.Core.{ServersStand}
 
 -- a device that has lost its power is as without
-dark : (g : Counts) (told : List Outside) (d e : DeviceState) → IsTried g told false d e → e ≡ powered_off e
-dark g told d e tried = tried.spent.after ∙ ap (λ (b : Bool). record (cleared tried.spent.last) { power = b }) tried.spent.power_is ∙ sym (ap powered_off tried.spent.after)
+dark : (g : Counts) (pick : Pick) (told : List Outside) (d e : DeviceState) → IsTried g pick told false d e → e ≡ powered_off e
+dark g pick told d e tried = tried.spent.after ∙ ap (λ (b : Bool). record (cleared tried.spent.last) { power = b }) tried.spent.power_is ∙ sym (ap powered_off tried.spent.after)
 
 -- whether the epoch was raised
 abbrev raised-by : {a b c : ℕ} → (c ≡ a) ⊎ (c ≡ b) → ℕ
@@ -104,11 +104,11 @@ module _ {S : Type 0} (look : S → StoreView) (device : S → DeviceState) (see
         (ap (λ (u : World). u.lines) stop-is) (ap (λ (u : World). u.sent) stop-is) (tt, (tt, tt))
         (record {
           its = subst (λ (o : Option Memory). IsRecovery q (x.counts q) stopped-chance (is_some o) (m.devices q) (devices-now look device x w m stand seen q place at (device t) q)) (sym (ap (λ (u : World). u.memory q) stop-is ∙ there.0))
-              (recovery q (x.counts q) stopped-chance false told false (m.devices q) (device t) (devices-now look device x w m stand seen q place at (device t) q) refl refl
-              (subst (λ (d : DeviceState). IsTried (x.counts q) told false d (device t)) (sym there.2) (subst (λ (g : Counts). IsTried g told false (device s) (device t)) (sym counts-are) stopped.tried)) (device-here look device x w m stand seen q place at (device t) ∙ dark (counts_by place.counts) told (device s) (device t) stopped.tried) (λ e. absurd (cc e)) (λ e. absurd (cc e)) (λ e. absurd (cc e)));
+              (recovery q (x.counts q) stopped-chance false stopped.some told false (m.devices q) (device t) (devices-now look device x w m stand seen q place at (device t) q) refl refl
+              (subst (λ (d : DeviceState). IsTried (x.counts q) stopped.some told false d (device t)) (sym there.2) (subst (λ (g : Counts). IsTried g stopped.some told false (device s) (device t)) (sym counts-are) stopped.tried)) (device-here look device x w m stand seen q place at (device t) ∙ dark (counts_by place.counts) stopped.some told (device s) (device t) stopped.tried) (λ e. absurd (cc e)) (λ e. absurd (cc e)) (λ e. absurd (cc e)) (λ e. absurd (cc e)) (λ e. absurd (cc e)));
           others = λ r o. device-there look device x w m stand seen q place at (device t) r o;
         })
-        (λ r o n. refl) tt
+        (λ r o reads n. refl) tt
         lines lines' (lines-are ∙ lines-in-two (when_of m.state) lines (texts_of_step q told true) (says.Stopped q ∷ [])
         ∙ ap (λ (ts : List Text). lines ++ lines_at (when_of m.state) (ts ++ says.Stopped q ∷ [])) (append-nil (map (λ (fault : Outside). says.Outside q fault) told))
         ∙ ap (λ (ts : List Text). lines ++ lines_at (when_of m.state) ts) (sym (append-nil (map (λ (fault : Outside). says.Outside q fault) told ++ says.Stopped q ∷ []))))
@@ -145,8 +145,8 @@ module _ {S : Type 0} (look : S → StoreView) (device : S → DeviceState) (see
     used-device : Alone q (IsRecovery q (x.counts q) used-chance (is_some ((after (Narrow q reads) world).memory q))) m.devices (devices-now look device x w m stand seen q place at (device t))
     used-device = record {
       its = subst (λ (o : Option Memory). IsRecovery q (x.counts q) used-chance (is_some o) (m.devices q) (devices-now look device x w m stand seen q place at (device t) q)) (sym (ap (λ (u : World). u.memory q) (after-narrow reads) ∙ there.0))
-          (recovery q (x.counts q) used-chance false told true (m.devices q) used.called (devices-now look device x w m stand seen q place at (device t) q) refl refl
-          (subst (λ (d : DeviceState). IsTried (x.counts q) told true d used.called) (sym there.2) (subst (λ (g : Counts). IsTried g told true (device s) used.called) (sym counts-are) used.tried)) (device-here look device x w m stand seen q place at (device t) ∙ used.device_is) (λ e. absurd (cc e)) (λ e. absurd (cc e)) (λ e. absurd (cc e)));
+          (recovery q (x.counts q) used-chance false used.some told true (m.devices q) used.called (devices-now look device x w m stand seen q place at (device t) q) refl refl
+          (subst (λ (d : DeviceState). IsTried (x.counts q) used.some told true d used.called) (sym there.2) (subst (λ (g : Counts). IsTried g used.some told true (device s) used.called) (sym counts-are) used.tried)) (device-here look device x w m stand seen q place at (device t) ∙ used.device_is) (λ e. absurd (cc e)) (λ e. absurd (cc e)) (λ e. absurd (cc e)) (λ e. absurd (cc e)) (λ e. absurd (cc e)));
       others = λ r o. device-there look device x w m stand seen q place at (device t) r o;
     }
 
@@ -161,7 +161,7 @@ module _ {S : Type 0} (look : S → StoreView) (device : S → DeviceState) (see
         (net-quiet look device x w m stand (go_on (Narrow q reads ∷ []) m.state.course) [] (carries-on w.net m.state.course (Narrow q reads) refl (ap (λ (u : World). u.sent) (after-narrow reads)) stand.net)
         (ap (λ (u : World). u.lines) (after-narrow reads) ∙ sym (append-nil world.lines)) refl)
         (ap (λ (u : World). u.lines) (after-narrow reads) ∙ sym (append-nil world.lines)) (ap (λ (u : World). u.sent) (after-narrow reads)) (tt, tt) used-device
-        (λ r o n. refl) tt
+        (λ r o reads n. refl) tt
         lines lines' (lines-are ∙ lines-in-two (when_of m.state) lines (texts_of_step q told true) (says.RefusedEvent EpochsUsedUp ∷ []))
 
     -- at the start or the end the run can't go on
@@ -190,7 +190,7 @@ module _ {S : Type 0} (look : S → StoreView) (device : S → DeviceState) (see
         led = led-to x m used-chance (record (given_up used-chance q) { cuts = true }) (devices-now look device x w m stand seen q place at (device t))
 
         left-after : AreLeft x (Narrow q reads ∷ []) world m.devices (devices-now look device x w m stand seen q place at (device t))
-        left-after = left-alone look device seen x w m stand (Narrow q reads ∷ []) led refl q place at (Down t) (used-alone counts led refl refl) (λ r o n. refl) tt
+        left-after = left-alone look device seen x w m stand (Narrow q reads ∷ []) led refl q place at (Down t) (used-alone counts led refl refl) (λ r o reads n. refl) tt
 
         servers-after : ServersStand look device x (slice_set w.places q.0 (record place { slot = Down t })) led
         servers-after = server-moved look device seen x w m stand led q place (Down t) at (used-alone counts led refl refl)

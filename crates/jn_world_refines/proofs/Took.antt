@@ -1,5 +1,5 @@
 -- A server that is up takes a message.
-use Rattle.jn_world_refines.proofs.Common.{◌≡◌, ◌+◌, ℕ, zero, suc, List, [], ◌∷◌, ◌++◌, length, slice_get, slice_set, drop, Option, Some, None, refl, ◌∙◌, ap, true, false, sym, ServerNo, Party, Server, Outside, DeviceState, Collected, Posted, with_delivered, Place, Slot, Up, Down, Gone, Took, WhereUp, TakeLeaves, Room, server_row, IsStep, after, ends, at_memory, handed, Deliver, Memory, counts_by, Line, sent_of, delivered_by, Sent, StableState, Pick, stable, Parts, view_with, memory_of, room_of, handing, state, pairs_view, StoreView, Setup, served, delivered, delivered_at, Moment, lines_at, Task, when_of, Standing, Stands, texts_sent, with_answer, HasCounts, ReadsPages, ActsNext, IsStepTo, left_by_step, server_eq, row_calls, Left, left-sent, left_over}
+use Rattle.jn_world_refines.proofs.Common.{◌≡◌, ◌+◌, ℕ, zero, suc, List, [], ◌∷◌, ◌++◌, length, slice_get, slice_set, drop, Option, Some, None, refl, ◌∙◌, ap, true, false, sym, ServerNo, Party, Server, Outside, DeviceState, Collected, Posted, with_delivered, Place, Slot, Up, Down, Gone, Took, WhereUp, TakeLeaves, Room, server_row, IsStep, after, ends, at_memory, handed, Deliver, Memory, counts_by, Line, sent_of, delivered_by, Sent, StableState, Pick, stable, Parts, view_with, memory_of, room_of, handing, state, pairs_view, StoreView, Setup, served, delivered, delivered_at, Moment, lines_at, Task, when_of, Standing, Stands, texts_sent, with_answer, HasCounts, ReadsPages, ActsNext, IsStepTo, left_by_step, server_eq, row_calls, Left, left-sent, left_over, Beside, beside_by}
 use Rattle.jn_schedule.specs.declared.Event.TheVariants as events
 use Rattle.jn_world_refines.proofs.Served.{chance, room-is, here, same-server}
 use Rattle.jn_world_refines.proofs.ServedSteps.{IsRowStep, row-step}
@@ -54,14 +54,14 @@ module _ {S : Type 0} (look : S → StoreView) (device : S → DeviceState) (see
         delivers (Some made) = refl
 
         quiet : (stop : Option (Pick → Left)) (s : ServerNo) → server_eq q s ≡ false → AreQuiet m.state.course.world (handing k its stop ∷ []) s
-        quiet None s e n = left-sent m.state.course.world s k its q one.message (is-sent (Server q) to) false e (m.state.course.world.memory s) refl n
-        quiet (Some made) s e n = refl
+        quiet None s e read n = left-sent read m.state.course.world s k its q one.message (is-sent (Server q) to) false e (m.state.course.world.memory s) refl n
+        quiet (Some made) s e read n = refl
 
-    -- the records that the row leaves are those that the machine's step leaves
-    takes-leave : (p : Parts S) → place.slot ≡ Up p → (n : ℕ) → left_by_step m.state.course.world q (Deliver k (room_of (view_with look p).storage)) n
-        ≡ n + left_over (state (view_with look p).storage) (server_row (memory_of (view_with look p)) (state (view_with look p).storage) (room_of (view_with look p).storage) one.message).changes
-    takes-leave p is n = left-sent m.state.course.world q k its q one.message (is-sent (Server q) to) true (same-server q) (Some (memory_of (view_with look p))) (let stands = here look device seen x w m stand q place at p is reads in stands.0) n
-        ∙ ap (λ (f : Pick → StableState). n + left_over (stable f) (server_row (memory_of (view_with look p)) (stable f) its one.message).changes) (let stands = here look device seen x w m stand q place at p is reads in stands.1)
+    -- what the row leaves is what the machine's step leaves
+    takes-leave : (p : Parts S) → place.slot ≡ Up p → (n : Beside) → left_by_step (beside_by x m.devices q) m.state.course.world q (Deliver k (room_of (view_with look p).storage)) n
+        ≡ left_over (state (view_with look p).storage) (server_row (memory_of (view_with look p)) (state (view_with look p).storage) (room_of (view_with look p).storage) one.message).changes n
+    takes-leave p is n = left-sent (beside_by x m.devices q) m.state.course.world q k its q one.message (is-sent (Server q) to) true (same-server q) (Some (memory_of (view_with look p))) (let stands = here look device seen x w m stand q place at p is reads in stands.0) n
+        ∙ ap (λ (f : Pick → StableState). left_over (stable f) (server_row (memory_of (view_with look p)) (stable f) its one.message).changes n) (let stands = here look device seen x w m stand q place at p is reads in stands.1)
       where
         its : Room
         its = room_of (view_with look p).storage
@@ -80,6 +80,6 @@ module _ {S : Type 0} (look : S → StoreView) (device : S → DeviceState) (see
             lines (lines ++ told ++ lines_at (when_of m.state) (texts_sent q (Some k) w.trace (length w.net.sent) answer))
         by (Up p) is t l = row-step look device seen x w m stand q place at p is reads (server_row (memory_of (view_with look p)) (state (view_with look p).storage) (room_of (view_with look p).storage) one.message)
             (Some k) row_calls (events.Deliver k) (handing k (room_of (view_with look p).storage)) (with_delivered k w.net.sent) (up-step p is) more next lines answer slot told t.0 t.1 counts
-            (leaves-by look m.state.course.world q (Deliver k (room_of (view_with look p).storage) ∷ []) (TakeLeaves one.message) p (λ b h. h ∙ sym (takes-leave p is (counted look p))) slot l)
+            (leaves-by look (beside_by x m.devices q) m.state.course.world q (Deliver k (room_of (view_with look p).storage) ∷ []) (TakeLeaves one.message) p (λ b h. h ∙ sym (takes-leave p is (counted look p))) slot l)
         by (Down s) is t l = absurd t
         by Gone is t l = absurd t

@@ -1,5 +1,6 @@
 -- Background steps of servers that are up.
-use Rattle.jn_world_refines.proofs.Common.{◌≡◌, ℕ, Bool, true, false, List, [], ◌∷◌, ◌++◌, length, slice_get, slice_set, drop, Option, Some, None, is_some, refl, sym, ◌∙◌, ap, subst, ◌+◌, ◌-◌, arith, ◌||◌, if◌then◌else◌, ServerNo, Outside, DeviceState, Collected, Place, Slot, Up, Down, Gone, has_work_at, work_of, WorkedBy, WhereUp, WorkLeaves, Room, server_step, storage_of, of_step, of_worker, IsStep, after, ends, work, works, World, Memory, counts_by, Line, delivered_by, RowOutcome, quiet_row, StableState, Change, Pick, stable, Parts, view_with, memory_of, room_of, ServerView, working, has_going, state, pairs_view, StoreView, Setup, served, nothing, is_busy, is_busy_with, working_steps, worked, rubbish_on, Moment, lines_at, Task, when_of, Standing, StandsAt, Stands, texts_sent, with_answer, HasCounts, ReadsPages, ActsNext, IsStepTo, left_by_row, left_by_step, WorkEntry, going_work, going_row, carried_row, intentions_of, server_eq, step_calls, Left, left_with, left-work, left_over}
+use Rattle.jn_world_refines.proofs.Common.{◌≡◌, ℕ, Bool, true, false, List, [], ◌∷◌, ◌++◌, length, slice_get, slice_set, drop, Option, Some, None, is_some, refl, sym, ◌∙◌, ap, subst, ◌+◌, ◌-◌, arith, ◌||◌, if◌then◌else◌, ServerNo, Outside, DeviceState, Collected, Place, Slot, Up, Down, Gone, has_work_at, work_of, WorkedBy, WhereUp, WorkLeaves, Room, server_step, storage_of, of_step, of_worker, IsStep, after, ends, work, works, World, Memory, counts_by, Line, delivered_by, RowOutcome, quiet_row, StableState, Change, Pick, stable, Parts, view_with, memory_of, room_of, ServerView, working, has_going, state, pairs_view, StoreView, Setup, served, nothing, is_busy, is_busy_with, working_steps, worked, rubbish_on, Moment, lines_at, Task, when_of, Standing, StandsAt, Stands, texts_sent, with_answer, HasCounts, ReadsPages, ActsNext, IsStepTo, left_by_row, left_by_step, WorkEntry, going_work, going_row, carried_row, intentions_of, server_eq, step_calls, Left, left_with, left-work, left_over, Beside, beside_of, beside_by}
+use Rattle.jn_storage.specs.Storage.{Accounts}
 use Rattle.jn_server.specs.Handling.{StepLeaves}
 use Rattle.jn_system.specs.WholeSystem.Steps.{Work}
 use Rattle.jn_system.proofs.WholeSystem.BusyServers.{goes, erases, nothing as none-to-do}
@@ -111,19 +112,19 @@ module _ {S : Type 0} (look : S → StoreView) (device : S → DeviceState) (see
         delivers (Some made) = refl
 
         quiet : (stop : Option (Pick → Left)) (s : ServerNo) → server_eq q s ≡ false → AreQuiet v (working q its stop ∷ []) s
-        quiet None s e n = left-work v s q its false e (v.memory s) refl n
-        quiet (Some made) s e n = refl
+        quiet None s e read n = left-work read v s q its false e (v.memory s) refl n
+        quiet (Some made) s e read n = refl
 
-    -- the records that the step leaves are those that the machine's leaves
-    works-leave : (n : ℕ) → left_by_step v q (Work q (room_of (view_with look p).storage)) n ≡ left_by_row (Work q (room_of (view_with look p).storage)) (state (view_with look p).storage) row.changes n
-    works-leave n = left-work v q q its true (same-server q) (Some (memory_of (view_with look p))) (let stands = here look device seen x w m stand q place at p is reads in stands.0) n
+    -- what the step leaves is what the machine's leaves
+    works-leave : (n : Beside) → left_by_step (beside_by x m.devices q) v q (Work q (room_of (view_with look p).storage)) n ≡ left_by_row (Work q (room_of (view_with look p).storage)) (state (view_with look p).storage) row.changes n
+    works-leave n = left-work (beside_by x m.devices q) v q q its true (same-server q) (Some (memory_of (view_with look p))) (let stands = here look device seen x w m stand q place at p is reads in stands.0) n
         ∙ ap (λ (f : Pick → StableState). left_with (Work q its) (stable f) (server_step (memory_of (view_with look p)) (stable f) its) n) (let stands = here look device seen x w m stand q place at p is reads in stands.1)
         ∙ ap (λ (o : Option (RowOutcome Memory)). left_with (Work q its) (state (view_with look p).storage) o n) row-is
       where
         its : Room
         its = room_of (view_with look p).storage
 
-    leaves-so : (b : ServerView) → WorkLeaves (view_with look p) b → length b.storage.accounts.rubbish ≡ left_by_row (Work q (room_of (view_with look p).storage)) (state (view_with look p).storage) row.changes (counted look p)
+    leaves-so : (b : ServerView) → WorkLeaves (view_with look p) b → beside_of b.storage.accounts ≡ left_by_row (Work q (room_of (view_with look p).storage)) (state (view_with look p).storage) row.changes (counted look p)
     leaves-so b h = by row.changes refl
       where
         its : StepLeaves (view_with look p) row b
@@ -132,13 +133,13 @@ module _ {S : Type 0} (look : S → StoreView) (device : S → DeviceState) (see
         less : (m n : ℕ) → m + 1 ≡ n → m ≡ n - 1
         less m n e = omega (arith, e)
 
-        by : (changes : List Change) → row.changes ≡ changes → length b.storage.accounts.rubbish ≡ left_by_row (Work q (room_of (view_with look p).storage)) (state (view_with look p).storage) changes (counted look p)
-        by [] e = let one = its.0 e in less _ _ one.rubbish_less
+        by : (changes : List Change) → row.changes ≡ changes → beside_of b.storage.accounts ≡ left_by_row (Work q (room_of (view_with look p).storage)) (state (view_with look p).storage) changes (counted look p)
+        by [] e = let one = its.0 e in λ i. record { rubbish = less _ _ one.rubbish_less i; maps = ap (λ (a : Accounts). a.maps) one.others i; supplied = ap (λ (a : Accounts). a.supplied) one.others i }
         by (c ∷ cs) e = its.1 c (e ∙ ap (λ (l : List Change). c ∷ l) (one-change (memory_of (view_with look p)) (state (view_with look p).storage) (room_of (view_with look p).storage) row c cs row-is e))
-            ∙ ap (λ (l : List Change). counted look p + left_over (state (view_with look p).storage) l) e
+            ∙ ap (λ (l : List Change). left_over (state (view_with look p).storage) l (counted look p)) e
 
-    work-leaves : (slot : Slot S) → WhereUp look WorkLeaves (Up p) slot → Leaves look v q (working q (room_of (view_with look p).storage) None ∷ []) slot (Up p)
-    work-leaves slot h = leaves-by look v q (working q (room_of (view_with look p).storage) None ∷ []) WorkLeaves p (λ b l. leaves-so b l ∙ sym (works-leave (counted look p))) slot h
+    work-leaves : (slot : Slot S) → WhereUp look WorkLeaves (Up p) slot → Leaves look (beside_by x m.devices q) v q (working q (room_of (view_with look p).storage) None ∷ []) slot (Up p)
+    work-leaves slot h = leaves-by look (beside_by x m.devices q) v q (working q (room_of (view_with look p).storage) None ∷ []) WorkLeaves p (λ b l. leaves-so b l ∙ sym (works-leave (counted look p))) slot h
 
   -- It makes its next background step, or is stopped in it.
   pub worked-step : (more : List Task) → ActsNext x m (events.Step q) more → (answer : Option Collected) (slot : Slot S) (told : List Line) → WorkedBy look device q (counts_by place.counts) (when_of m.state) place.slot answer slot [] told

@@ -1,5 +1,5 @@
 -- What a server that is up reads of its pages.
-use Rattle.std.specs.Prelude.{◌≡◌, false, ⊤, length}
+use Rattle.std.specs.Prelude.{◌≡◌, false, ⊤}
 use Rattle.jn_base.specs.declared.names.ServerNo.{ServerNo}
 use Rattle.jn_device.specs.Device.{DeviceState}
 use Rattle.jn_page_state.specs.Pages.{pool_on, heads_on}
@@ -12,18 +12,18 @@ use Rattle.jn_records.specs.MapPlaces.{maps_in}
 use Rattle.jn_records.specs.StablePages.{Counts}
 use Rattle.jn_recovery.specs.Counts.{counts_by}
 use Rattle.jn_server.specs.Seen.{view_with, memory_of, room_of}
-use Rattle.jn_server.specs.Standing.{standing_pages, free_on, has_rubbish}
-use Rattle.jn_sets.specs.Pool.{rubbish_count}
+use Rattle.jn_server.specs.Standing.{standing_pages, free_on, beside_on, has_rubbish}
 use Rattle.jn_storage.specs.Calls.{state}
 use Rattle.jn_store.specs.Store.{StoreView}
+use Rattle.jn_worker.specs.Leaving.{beside_of}
 use Rattle.jn_machine.specs.Devices.{pages_of}
-use Rattle.jn_machine.specs.Rubbish.{CountsAll}
+use Rattle.jn_machine.specs.Leaving.{CountsAll}
 
--- Its storage has so many pages, it counts the rubbish records that are on them, and no record and no head is there that nothing names. A recovery may
--- begin from its pages, as from those of a server that is down.
+-- Its storage has so many pages, it counts what is on them beside files, works and flags, and no record and no head is there that nothing names. A recovery
+-- may begin from its pages, as from those of a server that is down.
 abbrev pub HasCounts : {S : Type 0} → (S → StoreView) → ServerNo → Counts → Slot S → Type 0
 HasCounts look q g (Up p) =
-    (p.storage.1.table.counts ≡ g) × (length (view_with look p).storage.accounts.rubbish ≡ rubbish_count (pool_on g (standing_pages (look p.storage.0))))
+    (p.storage.1.table.counts ≡ g) × (beside_of (view_with look p).storage.accounts ≡ beside_on g (standing_pages (look p.storage.0)))
     × CountsAll g (state (view_with look p).storage) (standing_pages (look p.storage.0))
     × IsRecoverable q g (look p.storage.0)
 HasCounts look q g (Down s) = IsRecoverable q g (look s)

@@ -28,7 +28,7 @@ use Rattle.jn_store.specs.Store.{StoreView}
 use Rattle.jn_row_ranges.specs.Within.{Within}
 use Rattle.jn_machine.specs.Chances.{Setup}
 use Rattle.jn_machine.specs.Devices.{AreFound, AreRecoverable}
-use Rattle.jn_machine.specs.Rubbish.{AreAllCounted}
+use Rattle.jn_machine.specs.Leaving.{AreAllCounted}
 use Rattle.jn_machine.specs.Runs.{Moment}
 use Rattle.jn_machine.specs.Steps.{message_texts, traced}
 use Rattle.jn_world_refines.specs.Pages.{HasCounts}

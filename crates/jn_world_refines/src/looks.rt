@@ -4,7 +4,7 @@ ghost use Rattle.std.specs.Prelude.{◌≡◌, ◌++◌, ℕ, Bool, true, List, 
 ghost use Rattle.jn_base.specs.declared.names.ServerNo.{ServerNo};
 ghost use Rattle.jn_place.specs.declared.place.Place.{Place};
 ghost use Rattle.jn_place.specs.declared.place.Slot.{Slot};
-ghost use Rattle.jn_place.specs.Exact.{ScrubbedBy, Showed, Closed, WhereUp, KeepsRubbish, LeavesClean};
+ghost use Rattle.jn_place.specs.Exact.{ScrubbedBy, Showed, Closed, WhereUp, KeepsBeside, LeavesClean};
 ghost use Rattle.jn_place.specs.Places.{is_up};
 ghost use Rattle.jn_system.specs.WholeSystem.Steps.{IsIdle};
 ghost use Rattle.jn_recovery.specs.Counts.{counts_by};
@@ -28,12 +28,12 @@ pub fn a_look_is_a_step<S: Powered>()
     ensures scrub { (x : Setup) (w : Standing S) (m : Moment) → Stands (λ s. S.view s) (λ s. S.device s) x w m → (q : ServerNo) (place : Place S) → slice_get w.places q.0 ≡ Some place
         → (more : List Task) (lines lines' : List Line) (done : Bool) (slot : Slot S) → ScrubbedBy (λ s. S.view s) (λ s. S.device s) q (counts_by place.counts) (when_of m.state) place.slot done slot lines lines'
         → HasCounts (λ s. S.view s) q (counts_by place.counts) slot
-        → WhereUp (λ s. S.view s) KeepsRubbish place.slot slot → WhereUp (λ s. S.view s) LeavesClean place.slot slot → ActsNext x m (events.Scrub q) more
+        → WhereUp (λ s. S.view s) KeepsBeside place.slot slot → WhereUp (λ s. S.view s) LeavesClean place.slot slot → ActsNext x m (events.Scrub q) more
         → IsStepTo (λ s. S.view s) (λ s. S.device s) x m (more ++ drop 1 m.state.tasks) (record w { places = slice_set w.places q.0 (record place { slot = slot }) }) lines lines' }
     ensures show { (x : Setup) (w : Standing S) (m : Moment) → Stands (λ s. S.view s) (λ s. S.device s) x w m → (q : ServerNo) (place : Place S) → slice_get w.places q.0 ≡ Some place
         → (more : List Task) (lines lines' : List Line) (list : Option (List Shown)) (slot : Slot S) → Showed (λ s. S.view s) (λ s. S.device s) q (counts_by place.counts) (when_of m.state) place.slot list slot lines lines'
         → HasCounts (λ s. S.view s) q (counts_by place.counts) slot
-        → WhereUp (λ s. S.view s) KeepsRubbish place.slot slot → ActsNext x m (events.Show q) more
+        → WhereUp (λ s. S.view s) KeepsBeside place.slot slot → ActsNext x m (events.Show q) more
         → IsStepTo (λ s. S.view s) (λ s. S.device s) x m (more ++ drop 1 m.state.tasks) (record w { places = slice_set w.places q.0 (record place { slot = slot }) }) lines
         (lines' ++ lines_at (when_of m.state) (texts_shown q list)) }
 {}
@@ -43,6 +43,6 @@ pub fn a_closing_is_a_step<S: Powered>()
     ensures { (x : Setup) (w : Standing S) (m : Moment) → Stands (λ s. S.view s) (λ s. S.device s) x w m → (q : ServerNo) (place : Place S) → slice_get w.places q.0 ≡ Some place
         → (lines : List Line) → ((n : ℕ) (t : ClientTable) → slice_get w.clients n ≡ Some t → IsIdle t) → next_task m.state ≡ Some (ClosesClients q)
         → (done : Bool) (slot : Slot S) (lines' : List Line) → Closed (λ s. S.view s) (λ s. S.device s) q (counts_by place.counts) (when_of m.state) place.slot done slot lines lines' → is_up slot ≡ true → HasCounts (λ s. S.view s) q (counts_by place.counts) slot
-        → WhereUp (λ s. S.view s) KeepsRubbish place.slot slot
+        → WhereUp (λ s. S.view s) KeepsBeside place.slot slot
         → IsStepTo (λ s. S.view s) (λ s. S.device s) x m (drop 1 m.state.tasks) (record w { places = slice_set w.places q.0 (record place { slot = slot }) }) lines lines' }
 {}

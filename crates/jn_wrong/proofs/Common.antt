@@ -17,7 +17,7 @@ pub use Rattle.jn_machine.specs.Steps.{outside_texts, own_texts, message_texts, 
 pub use Rattle.jn_base.specs.declared.names.ServerNo.{ServerNo}
 pub use Rattle.jn_order.specs.Files.{no_files, AllFiles, Files, change, effect, answer_to, files_after, is_did}
 unfoldable pub use Rattle.jn_order.specs.Files.{zeros}
-pub use Rattle.jn_records.specs.StablePages.{Counts, slot_place, head_place, root_by, page_count}
+pub use Rattle.jn_records.specs.StablePages.{Counts, Pages, slot_place, head_place, root_by, page_count}
 pub use Rattle.jn_schedule.specs.declared.Event.{Event}
 pub use Rattle.jn_machine.specs.Whole.{before, AreImages, IsWhole, closed_world, IsFresh as IsFreshDevice, IsWritten}
 pub use Rattle.jn_wrong.specs.Wrong.{begins, begun_report, makes_one, full_of, IsNone, makes_and_reads, opens_and_loses, answered_too_soon, stopped_by_nothing, fault_of_nothing, lost_without_opening, file_left_out, file_locked, page_unwritten, other_bytes, named_again}
@@ -61,7 +61,7 @@ pub use Rattle.jn_machine.specs.Runs.{none, more, Moment, Leads, DoesStep, MayLe
 pub use Rattle.jn_store.specs.DeviceCalls.{cleaned_get_calls, put_calls}
 pub use Rattle.jn_system.specs.WholeSystem.ExampleNames.{s0, file, block, c1, tid}
 pub use Rattle.jn_device.specs.Events.{disarmed, powered_off, may_arm, Arms as FaultArmed, Decays as PageDecays, Revives as PageRevives}
-pub use Rattle.jn_page_state.specs.Pages.{found_on, pool_on, heads_on, record_or_free, head_or_free, listed, pages_by, state_of, record_on, head_on}
+pub use Rattle.jn_page_state.specs.Pages.{found_on, pages_by, heads_on, head_on, head_or_free, listed, pool_on, record_or_free, state_of, record_on, contents_of}
 pub use Rattle.jn_store.specs.Pairs.{pairs_view}
 pub use Rattle.jn_device.specs.declared.Armed.{Armed}
 pub use Rattle.jn_wrong.specs.Faults.{IsOneOfGood, IsOnlyOfGood, arms_far, quiet_report, decays_with_power, forgiven_report, IsNoneOfGood, decays_once, first_decay_told, decays_both, both_report, decays_behind_scrub, nothing_mended, nothing_forgiven, decays_behind_restart, restarted_report, left_unmended, arms_two, armed_too_many, show_stopped, AreGood, arms_first, arms_in_order, arms_null, null_told, stop_met, outside_in_order, Computes, IsComputed, stop_passed_by, outside_swapped}
@@ -72,17 +72,21 @@ pub use Rattle.jn_system.proofs.WholeSystem.StepCases.{FoundThen, by_narrowing, 
 pub use Rattle.jn_base.specs.declared.names.LockUnit.{LockUnit}
 pub use Rattle.jn_system_settling.proofs.Settling.Settling.{on-world}
 pub use Rattle.std.proofs.Math.Path.{fun_ext}
+pub use Rattle.jn_base.specs.Limits.{most_maps, head_blocks, most_cells}
+pub use Rattle.jn_records.specs.MapPlaces.{maps_named, map_count, MapPlaces, no_maps, maps_in}
+pub use Rattle.jn_recovery.specs.Counts.{most_calls}
+pub use Rattle.jn_records.specs.declared.head.Head.{Head}
+pub use Rattle.jn_records.specs.declared.head.Head.TheVariants.{Free as FreeHead, Used}
+pub use Rattle.std.proofs.lemmas.List.Sums.{count_by-le-length, sum_by-cons}
 pub use Rattle.jn_machine.proofs.Telling.{may_tell, is_of_delivery, is_note, weaker, Tells, take-tells, noted, noted-with}
 pub use Rattle.jn_report.specs.Kinds.{is_up, is_down, is_stopped, is_commit, is_outside, is_answer, is_print as is_printed}
 pub use Rattle.jn_machine.proofs.Texts.{More, gone-on, task-texts, Besides}
 pub use Rattle.jn_msgs.specs.declared.message.Message.{Message}
 pub use Rattle.jn_records.specs.declared.net_list.Need.{Need}
-pub use Rattle.jn_sets.specs.Pool.{rubbish_count, free_count, is_free, is_rubbish}
-pub use Rattle.jn_server.specs.Standing.{free_on, is_free_head, promised_heads, has_rubbish, is_free_page}
-pub use Rattle.jn_machine.specs.Rubbish.{AreLeft, AreAllCounted, CountsAll, rubbish_records, left_by_row, left_by_steps, AreCounted}
-pub use Rattle.jn_records.specs.MapPlaces.{MapPlaces, no_maps, maps_in}
+pub use Rattle.jn_server.specs.Standing.{free_on, beside_on, is_free_head, promised_heads, has_rubbish, is_free_page}
+pub use Rattle.jn_machine.specs.Leaving.{beside_by, AreLeft, AreAllCounted, CountsAll, beside_at, left_by_row, left_by_steps, AreCounted}
 pub use Rattle.jn_machine.proofs.LeftBy.{left-sent, left_with, left-work}
-pub use Rattle.jn_worker.specs.Leaving.{left_over}
+pub use Rattle.jn_worker.specs.Leaving.{left_over, Beside, left_by}
 pub use Rattle.jn_wrong.specs.Settles.{HandsOver, ComesToRest}
 pub use Rattle.jn_base.specs.declared.names.Cause.{Cause}
 pub use Rattle.jn_base.specs.declared.names.Resource.{Resource}
@@ -91,7 +95,6 @@ pub use Rattle.jn_wrong.specs.Room.{IsOnlyOfLacking, for_a_file, for_a_block, fu
 pub use Rattle.jn_msgs.specs.declared.message.Vote.TheVariants.{Full, Ready}
 pub use Rattle.jn_rows.specs.declared.worker.ActiveWork.{ActiveWork}
 pub use Rattle.jn_base.specs.declared.names.Cause.TheVariants.{Full as FullAt}
-pub use Rattle.jn_base.specs.declared.names.Resource.TheVariants.{Records, Pages}
 pub use Rattle.jn_report.specs.declared.line.Text.TheVariants.{Aborted, RefusedEvent}
 pub use Rattle.jn_rows.specs.Worker.{shortage, vote_of, Held, conflict, commit_wants, need_in, prepared_row, drop_row, drop_phase, work_at, WorkerTable, worker_row, worker_step, timeout_row, WorkStorage, worker_again, commit_holder}
 pub use Rattle.jn_rows.specs.declared.worker.Work.{Work}
@@ -105,12 +108,10 @@ pub use Rattle.jn_rows.specs.declared.coordinator.Transaction.{Transaction}
 pub use Rattle.jn_wrong.specs.Leaving.{steps_in, IsUpBehind, removes_none}
 pub use Rattle.jn_store.specs.Store.{IsWholePage, Candidate, StorePut, StoreLater, IsBlank, StoreView, IsClean}
 pub use Rattle.jn_wrong.specs.Telling.{MayDecay, AreMended, outside_lines, outside_at, TellsOf, TellsRaised, AreToldBy, TellsFaults}
-pub use Rattle.jn_page_state.specs.Recoverable.{IsRecoverable}
-pub use Rattle.jn_records.specs.declared.head.Head.{Head}
-pub use Rattle.jn_records.specs.declared.head.Head.TheVariants.{Free as FreeHead, Used}
+pub use Rattle.jn_page_state.specs.Recoverable.{IsRecoverable, MapsAreClean}
 pub use Rattle.jn_records.specs.declared.record.Record.{Record}
 pub use Rattle.jn_records.specs.declared.record.Record.TheVariants.{Free, Intention, Going, Flag}
-pub use Rattle.jn_page_state.specs.Contents.{heads_name, works_name, has_address, holds_address}
+pub use Rattle.jn_sets.specs.Pool.{free_count, rubbish_count, is_free, is_rubbish}
 pub use Rattle.jn_wrong.specs.Showing.{unit_printed, prints_unit, AreThere, PrintsAll, printed_lines, Shows}
 pub use Rattle.jn_system.specs.WholeSystem.LockFacts.{LockFacts, ServerFact, UpFact}
 pub use Rattle.jn_wrong.specs.Wanting.{IsShort, WasShort, OfText, OfLines, OfCause}

@@ -1,6 +1,7 @@
 -- A show makes too few calls to come to a stop that waits for call 1,000,000.
-use Rattle.jn_wrong.proofs.Common.{◌≡◌, ◌≤◌, ℕ, ◌+◌, ◌++◌, Bool, true, false, not, List, [], ◌∷◌, Option, Some, None, is_some, refl, sym, ◌∙◌, ap, subst, arith, if◌then◌else◌, ServerNo, Chance, allowed, Begins, Meets, ComesUp, Dismisses, State, next_task, TooManyArmed, Arms, Pick, IsCalled, IsRecovery, given_up, recovered, recovering, told_unless, done, made, run, Moment, ◌*◌, Armed, DeviceState, may_arm, FaultArmed, cleaned_get_calls, s0, IsOnlyOfGood, arms_far, quiet_report, Left}
+use Rattle.jn_wrong.proofs.Common.{◌≡◌, ◌≤◌, ℕ, ◌+◌, ◌++◌, Bool, true, false, not, List, [], ◌∷◌, Option, Some, None, is_some, refl, sym, ◌∙◌, ap, subst, arith, if◌then◌else◌, ServerNo, Chance, allowed, Begins, Meets, ComesUp, Dismisses, State, next_task, TooManyArmed, Arms, Pick, IsCalled, IsRecovery, given_up, recovered, recovering, told_unless, done, made, run, Moment, ◌*◌, Armed, DeviceState, may_arm, FaultArmed, cleaned_get_calls, s0, IsOnlyOfGood, arms_far, quiet_report, Left, pages_by, pairs_view, heads_on, most_maps, maps_named, most_calls}
 use Rattle.jn_wrong.proofs.StillRuns.{still}
+use Rattle.jn_wrong.proofs.FewMaps.{few-maps}
 use Rattle.jn_base.specs.declared.device.FaultKind.TheVariants as faults
 use Rattle.jn_schedule.specs.declared.Event.TheVariants as events
 use Rattle.jn_report.specs.declared.line.Text.TheVariants as says
@@ -25,11 +26,11 @@ recovery-early h d e r w lit = let p = recovery-pairs (x1.counts s0) h d e r (bo
   waiting = p.waiting;
   told = p.told;
   power = lit;
-  calls = few (ap (λ (f : DeviceState). f.calls) (r.after ∙ r.called.after)) r.called.few r.power.calls w.calls;
+  calls = few (maps_named (heads_on (x1.counts s0) (pages_by (pairs_view d) r.pick))) (ap (λ (f : DeviceState). f.calls) (r.after ∙ r.called.after)) r.called.few (few-maps (x1.counts s0) (pages_by (pairs_view d) r.pick)) r.power.calls w.calls;
 }
   where
-    few : {a b c n : ℕ} → a ≡ b → b ≤ c + 1704 → c ≡ n → n ≤ 16 → a ≤ 10000
-    few i j k l = omega (arith, i, j, k, l)
+    few : {a b c n : ℕ} (maps : ℕ) → a ≡ b → b ≤ c + most_calls (x1.counts s0) maps → maps ≤ most_maps * 16 → c ≡ n → n ≤ 16 → a ≤ 10000
+    few maps i j h k l = omega (arith, i, j, h, k, l)
 
 module _ (epochs : ServerNo → ℕ) (last : Moment) (over : next_task last.state ≡ None) where
   comes-early : Stand x1 last (at_first arms_far epochs) IsWhole → Stand x1 last (at_up arms_far epochs) (WaitsEarly [])

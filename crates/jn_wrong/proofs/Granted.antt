@@ -1,5 +1,5 @@
 -- A run of one server, step by step, while messages are handed over.
-use Rattle.jn_wrong.proofs.Common.{◌≡◌, ℕ, ◌<◌, Bool, true, false, List, [], ◌∷◌, length, Option, Some, None, is_some, refl, sym, ◌∙◌, ap, subst, arith, if◌then◌else◌, nat_lt, slice_get, ClientNo, Client, Server, DeviceState, Message, Need, Counts, StableState, Pick, stable, RowOutcome, Sent, Text, Memory, World, Room, server_row, Deliver, after, at_memory, handed, handing, run, go_on, course_to, Course, Setup, Chance, Task, Rests, State, next_task, begun, Deed, room, no_room, served, delivered, delivered_at, first_busy, servers_of, next_event, resting, deed_of, most_messages, cut_short, made, done, Moment, Devices, IsServed, Alone, Befalls, pages_of, Calm, called-calm, no-faults, row_calls, s0, rubbish_count, pool_on, free_on, AreLeft, AreAllCounted, CountsAll, Left, maps_found, MapPlaces, ◌+◌, left-sent, left_over}
+use Rattle.jn_wrong.proofs.Common.{◌≡◌, ℕ, ◌<◌, Bool, true, false, List, [], ◌∷◌, length, Option, Some, None, is_some, refl, sym, ◌∙◌, ap, subst, arith, if◌then◌else◌, nat_lt, slice_get, ClientNo, Client, Server, DeviceState, Message, Need, Counts, StableState, Pick, stable, RowOutcome, Sent, Text, Memory, World, Room, server_row, Deliver, after, at_memory, handed, handing, run, go_on, course_to, Course, Setup, Chance, Task, Rests, State, next_task, begun, Deed, room, no_room, served, delivered, delivered_at, first_busy, servers_of, next_event, resting, deed_of, most_messages, cut_short, made, done, Moment, Devices, IsServed, Alone, Befalls, pages_of, Calm, called-calm, no-faults, row_calls, s0, free_on, beside_on, beside_by, AreLeft, AreAllCounted, CountsAll, Left, maps_found, MapPlaces, left-sent, left_over}
 use Rattle.jn_wrong.proofs.StillRuns.{still}
 use Rattle.jn_system.specs.WholeSystem.Steps as steps
 use Rattle.jn_wrong.proofs.Bare.{bare, bare_course, made_of, came_of, bare-made}
@@ -25,7 +25,7 @@ module _ (x : Setup) (one : x.servers ≡ 1) (last : Moment) (over : next_task l
 
   -- ---- a message that finds room
 
-  -- what its server's device shows afterwards: all is counted, and so much is rubbish
+  -- what its server's device shows afterwards: all is counted, and beside it stands what the row leaves
   module _ (s : State) (k : ℕ) (waiting : List ℕ) (message : Message) (m : Memory) (rests' : next_task s ≡ Some Rests) (waits : s.course.waiting ≡ k ∷ waiting)
       (sent : slice_get s.course.world.sent k ≡ Some (Server s0, message)) (up : s.course.world.memory s0 ≡ Some m) where
     abbrev w : World
@@ -60,7 +60,7 @@ module _ (x : Setup) (one : x.servers ≡ 1) (last : Moment) (over : next_task l
       now = steps.done s0 (Some k) row w
 
       pub hands-one : (P P' : DeviceState → Type 0) → ((d : DeviceState) → P d → IsStill d) → ((d : DeviceState) (maps : MapPlaces) (r : Bool) → P d → server_row m y (with_room (free_on g (pages_of d) y m) maps r) message ≡ row) → is_some (now.memory s0) ≡ true
-          → ((d e : DeviceState) → P d → IsStill e → CountsAll g (stable (now.found s0)) (pages_of e) → rubbish_count (pool_on g (pages_of e)) ≡ rubbish_count (pool_on g (pages_of d)) + left_over y row.changes → P' e)
+          → ((d e : DeviceState) → P d → IsStill e → CountsAll g (stable (now.found s0)) (pages_of e) → beside_on g (pages_of e) ≡ left_over y row.changes (beside_on g (pages_of d)) → P' e)
           → Stand x last s P → Stand x last (by_row x s k row) P'
       hands-one P P' quiet rows lit becomes h = by (drive x one last over s Rests h.moment h.leads h.state rests')
         where
@@ -111,10 +111,10 @@ module _ (x : Setup) (one : x.servers ≡ 1) (last : Moment) (over : next_task l
                       counted = subst (λ (v : World). CountsAll g (stable (v.found s0)) (pages_of (es s0))) same
                           (subst (λ (o : Option (Pick → Left)). AreAllCounted x (run (handing k (room f s0) o ∷ []) w) es) quietly.stop b.counted s0 first rises)
 
-                      left : rubbish_count (pool_on g (pages_of (es s0))) ≡ rubbish_count (pool_on g (pages_of d)) + left_over y row.changes
+                      left : beside_on g (pages_of (es s0)) ≡ left_over y row.changes (beside_on g (pages_of d))
                       left = subst (λ (o : Option (Pick → Left)). AreLeft x (handing k (room f s0) o ∷ []) w h.moment.devices es) quietly.stop b.left s0 first rises
-                          ∙ left-sent w s0 k (room f s0) s0 message sent true refl (Some m) up (rubbish_count (pool_on g (pages_of d)))
-                          ∙ ap (λ (r : RowOutcome Memory). rubbish_count (pool_on g (pages_of d)) + left_over y r.changes) row-is
+                          ∙ left-sent (beside_by x h.moment.devices s0) w s0 k (room f s0) s0 message sent true refl (Some m) up (beside_on g (pages_of d))
+                          ∙ ap (λ (r : RowOutcome Memory). left_over y r.changes (beside_on g (pages_of d))) row-is
 
   -- ---- a message to a client
 

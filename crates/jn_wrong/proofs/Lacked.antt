@@ -1,5 +1,6 @@
 -- The schedules that make a file, and write a block of it, computed up to where their transaction ends, and from there.
-use Rattle.jn_wrong.proofs.Common.{Bool, true, ap, list_any, Cause, Line, Text, Setup, State, next_task, ◌≡◌, ℕ, false, List, [], ◌∷◌, Some, None, refl, ServerNo, no_files, before, Counts, Resource, setup, makes_one, full_of, file, block, File, Block, zeros, block_of, IsNoneOf, Did, IsOnlyOfLacking, for_a_file, Full, ActiveWork, one_write, for_a_block, full_at_block, FullAt, Records, Pages, Aborted, IsOnlyOf, IsOnlyWhereLacking, one_record}
+use Rattle.jn_wrong.proofs.Common.{Bool, true, ap, list_any, Cause, Line, Text, Setup, State, next_task, ◌≡◌, ℕ, false, List, [], ◌∷◌, Some, None, refl, ServerNo, no_files, before, Counts, Resource, setup, makes_one, full_of, file, block, File, Block, zeros, block_of, IsNoneOf, Did, IsOnlyOfLacking, for_a_file, Full, ActiveWork, one_write, for_a_block, full_at_block, FullAt, Aborted, IsOnlyOf, IsOnlyWhereLacking, one_record}
+use Rattle.jn_base.specs.declared.names.Resource.TheVariants.{Records, Pages}
 use Rattle.jn_wrong.proofs.StillRuns.{goes}
 use Rattle.jn_locks.specs.Locks as locks
 use Rattle.jn_records.specs.declared.intention.What.TheVariants.{Fresh, Put}

@@ -1,5 +1,5 @@
 -- A transaction of one work ends: it commits, or its client is told what was lacking.
-use Rattle.jn_wrong.proofs.Common.{Devices, ◌≡◌, ◌⊎◌, ◌+◌, ◌-◌, inl, inr, ℕ, Bool, true, false, List, [], ◌∷◌, ◌++◌, drop, Option, Some, None, is_some, true≢false, refl, sym, ◌∙◌, ap, subst, arith, nat_lt, if◌then◌else◌, slice_get, list_any, ServerNo, AllFiles, no_files, Client, Server, Counts, Need, DeviceState, Event, Line, Text, Message, Cause, Resource, RowOutcome, StableState, stable, made_all, shortage, vote_of, Held, conflict, commit_wants, need_in, Work, Memory, server_row, of_worker, of_coordinator, Setup, Task, Begins, Meets, Rests, State, Stage, AtEnd, next_at, next_task, done, first_busy, servers_of, Moment, Leads, pages_of, before, AreImages, IsWhole, AreNew, s0, WorkId, client_eq, blank, longer, Longer, may-lead, Phase, Active, Stored, c1, tid, rubbish_count, pool_on, free_on, CountsAll, lacking, IsOnlyOfLacking, Vote, abort_row, end_promised, prepared_row, Transaction, none_free, Ready, Full, ActiveWork, FullAt, IsOnlyWhereLacking, MapPlaces, no_maps, left_over, is_commit}
+use Rattle.jn_wrong.proofs.Common.{Devices, ◌≡◌, ◌⊎◌, ◌+◌, ◌-◌, inl, inr, ℕ, Bool, true, false, List, [], ◌∷◌, ◌++◌, drop, Option, Some, None, is_some, true≢false, refl, sym, ◌∙◌, ap, subst, arith, nat_lt, if◌then◌else◌, slice_get, list_any, ServerNo, AllFiles, no_files, Client, Server, Counts, Need, DeviceState, Event, Line, Text, Message, Cause, Resource, RowOutcome, StableState, stable, made_all, shortage, vote_of, Held, conflict, commit_wants, need_in, Work, Memory, server_row, of_worker, of_coordinator, Setup, Task, Begins, Meets, Rests, State, Stage, AtEnd, next_at, next_task, done, first_busy, servers_of, Moment, Leads, pages_of, before, AreImages, IsWhole, AreNew, s0, WorkId, client_eq, blank, longer, Longer, may-lead, Phase, Active, Stored, c1, tid, free_on, beside_on, Beside, CountsAll, lacking, IsOnlyOfLacking, Vote, abort_row, end_promised, prepared_row, Transaction, none_free, Ready, Full, ActiveWork, FullAt, IsOnlyWhereLacking, MapPlaces, no_maps, left_over, is_commit}
 use Rattle.jn_wrong.proofs.StillRuns.{still, goes, GoesSo, rests_so}
 use Rattle.jn_base.specs.declared.names.RequestNo.{RequestNo}
 use Rattle.jn_base.specs.declared.names.Resource.TheVariants as resources
@@ -271,12 +271,12 @@ module _ (schedule : List Event) (n : ℕ) (work : ActiveWork) (request : Reques
       -- with everything free but so many records, and no more rubbish afterwards where nothing is stored
       hands-ready : (s : State) (i : ℕ) (waiting : List ℕ) (message : Message) (m : Memory) (row : RowOutcome Memory) (P' : DeviceState → Type 0) → Waits s i waiting message m → stable (s.course.world.found s0) ≡ blank 1
           → ((d : DeviceState) (maps : MapPlaces) (r : Bool) → IsReady d → server_row m (blank 1) (with_room (free_on g (pages_of d) (blank 1) m) maps r) message ≡ row)
-          → ((d e : DeviceState) → IsReady d → IsStill e → CountsAll g (made_all row.changes (blank 1)) (pages_of e) → rubbish_count (pool_on g (pages_of e)) ≡ rubbish_count (pool_on g (pages_of d)) + left_over (blank 1) row.changes → P' e)
+          → ((d e : DeviceState) → IsReady d → IsStill e → CountsAll g (made_all row.changes (blank 1)) (pages_of e) → beside_on g (pages_of e) ≡ left_over (blank 1) row.changes (beside_on g (pages_of d)) → P' e)
           → Stand x last s IsReady → Stand x last (by_row x s i row) P'
       hands-ready s i waiting message m row P' w empty rows becomes = hands-one x refl last over s i waiting message m w.rests w.waits w.sent w.up row IsReady P' (λ d p. p.still)
           (λ d maps r p. subst (λ (y : StableState). server_row m y (with_room (free_on g (pages_of d) y m) maps r) message ≡ row) (sym empty) (rows d maps r p)) refl
           (λ d e p still counted left. becomes d e p still (subst (λ (y : StableState). CountsAll g (made_all row.changes y) (pages_of e)) empty counted)
-          (subst (λ (y : StableState). rubbish_count (pool_on g (pages_of e)) ≡ rubbish_count (pool_on g (pages_of d)) + left_over y row.changes) empty left))
+          (subst (λ (y : StableState). beside_on g (pages_of e) ≡ left_over y row.changes (beside_on g (pages_of d))) empty left))
 
       -- whatever is free
       hands-plainly : (s : State) (i : ℕ) (waiting : List ℕ) (message : Message) (m : Memory) → Waits s i waiting message m → ((y : StableState) (free : Need) (maps : MapPlaces) (r : Bool) → server_row m y (with_room free maps r) message ≡ plainly m message)
@@ -315,7 +315,7 @@ module _ (schedule : List Event) (n : ℕ) (work : ActiveWork) (request : Reques
       to-promised enough = hands-ready asked k [] end_sent asking (ending_row false g.pool) IsReady is.asks is.still_empty (ends-so false enough)
           (λ d e p still counted left. record {
             still = still;
-            unused = unused g (blank 1) (pages_of e) nothing-stored counted (left ∙ ap (λ (o : ℕ). o + left_over (blank 1) (ending_row false g.pool).changes) (no-rubbish g (pages_of d) p.unused));
+            unused = unused g (blank 1) (pages_of e) nothing-stored counted (ap (λ (b : Beside). b.rubbish) left ∙ no-rubbish g (pages_of d) p.unused);
           })
 
       to-committed : shortage (so_many (g.pool - 1) g.heads g.leaves) needs ≡ None → Stand x last promised IsReady → Stand x last committed IsStill

@@ -32,6 +32,7 @@ pub mod OneServer
 pub mod Forgiven
 pub mod Restarted
 pub mod Waiting
+pub mod FewMaps
 pub mod FarOff
 pub mod Struck
 pub mod Misreported

@@ -1,5 +1,5 @@
 -- The device of a server on which nothing is stored: zeros behind the root, whatever befell its halves.
-use Rattle.jn_wrong.proofs.Common.{not, ◌&&◌, PageDecays, ◌≡◌, ◌-◌, subst, Some, Option, ◌≤◌, ◌<◌, ◌+◌, ◌||◌, ℕ, Bool, true, false, true≢false, nat_eq, nat_lt, if◌then◌else◌, List, [], refl, sym, ◌∙◌, ap, inl, arith, inr, fun_ext, blank, DeviceState, PageState, bumped, Armed, Happens, put, joined, pairs_view, found_on, Pick, s0, pages_of, ◌^◌, replicate, blank_page, pool_on, heads_on, record_or_free, head_or_free, IsRecoverable, Head, FreeHead, Record, Free, root_by, Candidate, StorePut, StoreLater, Decay, Revive, page_met, PageRevives, IsBlank}
+use Rattle.jn_wrong.proofs.Common.{nat_tests, not, ◌&&◌, PageDecays, ◌≡◌, ◌-◌, subst, Some, Option, ◌≤◌, ◌<◌, ◌+◌, ◌||◌, ℕ, Bool, true, false, true≢false, nat_eq, nat_lt, if◌then◌else◌, List, [], refl, sym, ◌∙◌, ap, inl, arith, inr, fun_ext, blank, DeviceState, PageState, bumped, Armed, Happens, put, joined, pairs_view, found_on, Pick, s0, pages_of, pages_by, ◌^◌, replicate, blank_page, pool_on, heads_on, record_or_free, head_or_free, IsRecoverable, Head, FreeHead, Record, Free, root_by, Candidate, StorePut, StoreLater, Decay, Revive, page_met, PageRevives, IsBlank}
 use Rattle.jn_device.proofs.Happening.{happens_later}
 use Rattle.jn_disks.specs.Disks.{no_files as nothing_there, IsNewStore, IsNewDisk}
 use Rattle.jn_disks.proofs.NewStores.{new_is}
@@ -226,6 +226,8 @@ zeros-head = refl
 -- a recovery may begin, and finds nothing but the epoch
 pub record IsBlankOn (epoch : ℕ) (d : DeviceState) : Type 0 where
   pub recoverable : IsRecoverable s0 the_counts (pairs_view d)
+  -- whichever halves are picked
+  pub same : (c : Pick) → pages_by (pairs_view d) c ≡ pages_of d
   pub found : (c : Pick) → found_on the_counts (pairs_view d) c ≡ blank epoch
   pub pool : pool_on the_counts (pages_of d) ≡ replicate 32 Free
   pub heads : heads_on the_counts (pages_of d) ≡ replicate 16 FreeHead
@@ -309,10 +311,20 @@ module _ (epoch : ℕ) (fits : epoch < 2 ^ 32) where
     };
   }
 
+  -- by either half
+  picked : (there : Bool) (k : ℕ) (second : Bool) → nat_lt k 177 ≡ there → (if there then (if second then bytes_at epoch (k + 177) else bytes_at epoch k) else []) ≡ (if there then bytes_at epoch k else [])
+  picked true k true e = sym (halves-equal epoch k (below k e))
+    where
+      below : (k : ℕ) → nat_lt k 177 ≡ true → k < 177
+      below k e = grind (arith, nat_tests, e)
+  picked true k false e = refl
+  picked false k second e = refl
+
   -- whichever halves are good, whether or not it has power, and whatever waits
   pub blank-on : (good : ℕ → Bool) (fails : ℕ → ℕ) (power : Bool) (waiting : List Armed) (t : Tally) → IsBlankOn epoch (device (pages_at epoch good fails) power waiting t)
   blank-on good fails power waiting t = record {
     recoverable = let r = fresh.recoverable in record { count = r.count; each = r.each; clean = r.clean };
+    same = λ c. fun_ext (λ k. picked (nat_lt k 177) k (c k) refl);
     found = fresh.found;
     pool = ap (λ (o : Option Record). replicate 32 (record_or_free o)) zeros-record;
     heads = ap (λ (o : Option Head). replicate 16 (head_or_free o)) zeros-head;

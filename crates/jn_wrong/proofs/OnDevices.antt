@@ -1,9 +1,11 @@
 -- Steps of one server on which nothing is stored, over its device.
 use Rattle.jn_page_state.specs.Puts.{IsFrontClean, IsFrontWhole}
-use Rattle.jn_wrong.proofs.Common.{◌≡◌, ◌<◌, ◌+◌, ◌-◌, ◌||◌, ℕ, Bool, true, false, not, if◌then◌else◌, List, [], refl, sym, ◌∙◌, ap, subst, arith, is_some, server_eq, ServerNo, no_files, World, Memory, run, IsRun, Chance, Deed, Devices, Alone, Befalls, IsCalled, IsRecovery, IsUsed, rubbish_on, pages_of, setup, s0, blank, DeviceState, PageState, Armed, disarmed, found_on, pairs_view, Pick, stable, StableState, closed_world, AreImages, replicate, count_by, pool_on, heads_on, listed, IsRecoverable, Head, FreeHead, Need, Record, Free, page_count, promised, is_free_head, promised_heads, free_on, has_rubbish, rubbish_records, left_by_steps, AreCounted, CountsAll, IsFreshDevice, heads_name, works_name, free_count, rubbish_count}
+use Rattle.jn_wrong.proofs.Common.{MapsAreClean, maps_named, Pages, most_calls, ◌≡◌, ◌<◌, ◌≤◌, ◌+◌, ◌-◌, ℕ, Bool, true, false, if◌then◌else◌, List, [], refl, sym, ◌∙◌, ap, subst, arith, is_some, server_eq, ServerNo, no_files, World, Memory, run, IsRun, Chance, Deed, Devices, Alone, Befalls, IsCalled, IsRecovery, IsUsed, rubbish_on, pages_of, setup, s0, blank, DeviceState, PageState, Armed, disarmed, found_on, pairs_view, Pick, stable, StableState, closed_world, AreImages, replicate, count_by, pool_on, heads_on, IsRecoverable, Head, FreeHead, Need, Record, Free, page_count, promised, is_free_head, promised_heads, free_on, has_rubbish, beside_by, beside_at, left_by_steps, AreCounted, CountsAll, IsFreshDevice, free_count, rubbish_count, Beside, MapPlaces, no_maps, maps_in, fun_ext, pick_read, pages_by, Step, WorkId}
+use Rattle.jn_recovery.specs.Pages.{supplied_on}
 use Rattle.jn_device.specs.Happens.{none}
 use Rattle.jn_wrong.proofs.NewDevice.{Tally, device, good_at, pages_at, OthersGood, IsBlankOn, blank-on, halves-equal, thrice, thrice-least, mends}
 use Rattle.jn_wrong.proofs.Pairs.{the_counts}
+use Rattle.jn_wrong.proofs.Unused.{so_many, all-free as all-unused}
 
 -- ---- devices
 
@@ -62,13 +64,35 @@ counted epoch d y is e =
     (subst (λ (l : List Record). AreCounted the_counts (blank epoch) l (heads_on the_counts (pages_of d))) (sym is.pool)
     (subst (λ (l : List Head). AreCounted the_counts (blank epoch) (replicate 32 Free) l) (sym is.heads) (counted-blank epoch)))
 
-module _ (h : Chance) (deed : Deed) (w : World) (d e : DeviceState) (a b : ℕ) (was : IsBlankOn a d) (is : IsBlankOn b e) (rubbish : (q : ServerNo) → h.rubbish q ≡ false) (steps : IsRun deed.steps w) (used : IsUsed (setup 1) h deed.device w (run deed.steps w) (at_s0 d) (at_s0 e))
-    (found : (c : Pick) → (run deed.steps w).found s0 c ≡ blank b) (left : left_by_steps w s0 deed.steps 0 ≡ 0) where
-  no-records : (f : DeviceState) (epoch : ℕ) → IsBlankOn epoch f → rubbish_records (setup 1) (at_s0 f) s0 ≡ 0
-  no-records f epoch is = ap (λ (l : List Record). rubbish_count l) is.pool
+-- nothing stands beside the stable state
+abbrev pub no_beside : Beside
+no_beside = record { rubbish = 0; maps = no_maps; supplied = λ W. [] }
 
-  as-left : rubbish_records (setup 1) (at_s0 e) s0 ≡ left_by_steps w s0 deed.steps (rubbish_records (setup 1) (at_s0 d) s0)
-  as-left = no-records e b is ∙ sym (ap (λ (n : ℕ). left_by_steps w s0 deed.steps n) (no-records d a was) ∙ left)
+abbrev beside_in : List Record → List Head → Beside
+beside_in pool heads = record { rubbish = rubbish_count pool; maps = maps_in heads; supplied = supplied_on pool }
+
+pub none-named : maps_in (replicate 16 FreeHead) ≡ no_maps
+none-named = fun_ext (λ f. fun_ext (λ j. refl))
+
+none-supplied : supplied_on (replicate 32 Free) ≡ (λ W. [])
+none-supplied = fun_ext (λ W. refl)
+
+none-beside : (d : DeviceState) (epoch : ℕ) → IsBlankOn epoch d → (c : Pick) → beside_by (setup 1) (at_s0 d) s0 c ≡ no_beside
+none-beside d epoch is c = ap (λ (pages : Pages). beside_in (pool_on the_counts pages) (heads_on the_counts pages)) (is.same c)
+    ∙ ap (λ (l : List Record). beside_in l (heads_on the_counts (pages_of d))) is.pool
+    ∙ ap (λ (l : List Head). beside_in (replicate 32 Free) l) is.heads
+    ∙ ap (λ (maps : MapPlaces). record { rubbish = 0; maps = maps; supplied = supplied_on (replicate 32 Free) }) none-named
+    ∙ ap (λ (supplied : WorkId → List Bool). record { rubbish = 0; maps = no_maps; supplied = supplied }) none-supplied
+
+-- so steps lead from there
+abbrev pub left_blank : World → List Step → Beside
+left_blank w steps = left_by_steps (λ c. no_beside) w s0 steps no_beside
+
+module _ (h : Chance) (deed : Deed) (w : World) (d e : DeviceState) (a b : ℕ) (was : IsBlankOn a d) (is : IsBlankOn b e) (rubbish : (q : ServerNo) → h.rubbish q ≡ false) (steps : IsRun deed.steps w) (used : IsUsed (setup 1) h deed.device w (run deed.steps w) (at_s0 d) (at_s0 e))
+    (found : (c : Pick) → (run deed.steps w).found s0 c ≡ blank b) (left : left_blank w deed.steps ≡ no_beside) where
+  as-left : beside_at (setup 1) (at_s0 e) s0 ≡ left_by_steps (beside_by (setup 1) (at_s0 d) s0) w s0 deed.steps (beside_at (setup 1) (at_s0 d) s0)
+  as-left = none-beside e b is (λ n. false)
+      ∙ sym (ap (λ (reads : Pick → Beside). left_by_steps reads w s0 deed.steps (reads (λ n. false))) (fun_ext (none-beside d a was)) ∙ left)
 
   pub befalls : Befalls (setup 1) h deed w (at_s0 d) (at_s0 e)
   befalls = record {
@@ -76,7 +100,7 @@ module _ (h : Chance) (deed : Deed) (w : World) (d e : DeviceState) (a b : ℕ) 
     steps = steps;
     used = used;
     found = λ q c lt. one-there (λ q. (run deed.steps w).found q c ≡ found_on the_counts (pairs_view (at_s0 e q)) c) (found c ∙ sym (is.found c)) q lt;
-    left = λ q lt up. one-there (λ q. rubbish_records (setup 1) (at_s0 e) q ≡ left_by_steps w q deed.steps (rubbish_records (setup 1) (at_s0 d) q)) as-left q lt;
+    left = λ q lt up. one-there (λ q. beside_at (setup 1) (at_s0 e) q ≡ left_by_steps (beside_by (setup 1) (at_s0 d) q) w q deed.steps (beside_at (setup 1) (at_s0 d) q)) as-left q lt;
     counted = λ q lt up. one-there (λ q. CountsAll the_counts (stable ((run deed.steps w).found q)) (pages_of (at_s0 e q))) (counted b e (stable ((run deed.steps w).found s0)) is (found (λ n. false))) q lt;
     recoverable = λ q lt. one-there (λ q. IsRecoverable q the_counts (pairs_view (at_s0 e q))) is.recoverable q lt;
   }
@@ -109,20 +133,11 @@ uncalled most h pages waiting t told stop = record {
 abbrev pub all_free : Need
 all_free = record { records = 32; heads = 16; pages = 128 }
 
--- what is free where so much is promised
-abbrev free_in : List Record → List Head → ℕ → ℕ → Need
-free_in pool heads records files = record {
-  records = free_count pool - records;
-  heads = count_by is_free_head heads - files;
-  pages = count_by (λ d. not (heads_name heads (d + 1) || works_name pool (d + 1))) (listed (λ d. d) 0 128);
-}
-
 pub all-free : (epoch : ℕ) (d : DeviceState) (x : StableState) (m : Memory) → IsBlankOn epoch d → promised m.coordinator.transactions ≡ 0 → promised_heads x m.worker ≡ 0 → all_free ≡ free_on the_counts (pages_of d) x m
 all-free epoch d x m is records files = sym (
-    ap (λ (l : List Record). free_in l (heads_on the_counts (pages_of d)) (promised m.coordinator.transactions) (promised_heads x m.worker)) is.pool
-    ∙ ap (λ (l : List Head). free_in (replicate 32 Free) l (promised m.coordinator.transactions) (promised_heads x m.worker)) is.heads
-    ∙ ap (λ (n : ℕ). free_in (replicate 32 Free) (replicate 16 FreeHead) n (promised_heads x m.worker)) records
-    ∙ ap (λ (n : ℕ). free_in (replicate 32 Free) (replicate 16 FreeHead) 0 n) files
+    all-unused the_counts (pages_of d) (record { records = ap (λ (l : List Record). free_count l) is.pool; heads = ap (λ (l : List Head). count_by is_free_head l) is.heads }) x m
+    ∙ ap (λ (n : ℕ). so_many (32 - n) (16 - promised_heads x m.worker) 128) records
+    ∙ ap (λ (n : ℕ). so_many 32 (16 - n) 128) files
     )
 
 -- root, records and heads are clean, and whole where all halves are good
@@ -140,6 +155,18 @@ front-whole epoch power waiting t = record {
   heads = λ i lt. record { both = refl; clean = halves-equal epoch (1 + 32 + i) (omega (arith, lt)) };
 }
 
+-- how many map pages heads name there by a pick
+abbrev pub named_by : DeviceState → Pick → ℕ
+named_by d c = maps_named (heads_on the_counts (pages_by (pairs_view d) c))
+
+-- a recovery may call the device so often, whichever map pages heads name
+pub few-so : (m last calls : ℕ) → last ≤ calls + 5 → last ≤ calls + most_calls the_counts m
+few-so m last calls few = omega (arith, few)
+
+-- each map page that could be named is clean
+pub maps-clean : (epoch : ℕ) (good : ℕ → Bool) (fails : ℕ → ℕ) (power : Bool) (waiting : List Armed) (t : Tally) → MapsAreClean the_counts (pairs_view (device (pages_at epoch good fails) power waiting t))
+maps-clean epoch good fails power waiting t = λ c d below named. halves-equal epoch (1 + 32 + 16 + d) (omega (arith, below))
+
 -- the power comes, this half is put anew, and the root with the next epoch
 pub recovers-so : (h : Chance) (old epoch p : ℕ) (good : ℕ → Bool) (power : Bool) (fails : ℕ → ℕ) (t : Tally) → p < 354 → OthersGood p good → h.told ≡ [] → is_some h.stop ≡ false
     → IsRecovery s0 the_counts h true (device (pages_at old good fails) power [] t) (device (good_at epoch) true [] (thrice t))
@@ -147,10 +174,12 @@ recovers-so h old epoch p good power fails t lt others told stop = record {
   powered = device (pages_at old good (λ q. 0)) true [] t;
   last = device (good_at epoch) true [] (thrice t);
   power = record { count = refl; pages_are = λ q. refl; power_is = refl; waiting = refl; told = refl; calls = refl; puts = refl; stops = refl };
+  pick = pick_read h;
+  read = λ up. refl;
   called = record {
     last = device (good_at epoch) true [] (thrice t);
     happens = mends old epoch p good t lt others;
-    few = let three = thrice-least t in omega (arith, three);
+    few = few-so (named_by (device (pages_at old good fails) power [] t) (pick_read h)) (thrice t).calls t.calls (let three = thrice-least t in omega (arith, three));
     whole = λ c i lt whole. record { both = refl; clean = halves-equal epoch i lt };
     told = told;
     stop = stop;
@@ -158,6 +187,7 @@ recovers-so h old epoch p good power fails t lt others told stop = record {
   };
   after = refl;
   front = λ up. front-clean epoch (λ q. true) (λ q. 0) true [] (thrice t);
+  maps = λ up. maps-clean epoch (λ q. true) (λ q. 0) true [] (thrice t);
   front_whole = λ up quiet. front-whole epoch true [] (thrice t);
   root = λ up. (epoch, record { first = refl; second = refl });
 }

@@ -1,8 +1,8 @@
 -- Events of schedules over the device of one server on which nothing is stored: each begins, and is done.
-use Rattle.jn_wrong.proofs.Common.{◌≡◌, ◌+◌, ◌<◌, ◌*◌, ◌++◌, ℕ, Bool, true, false, List, [], ◌∷◌, refl, sym, subst, arith, nat_lt, None, Some, is_some, Event, Meets, State, next_task, deed_of, may_arm, FaultKind, Crash, IsRun, Deed, plain, Decays, Revives, Arms, Cleans, Reads, PowersOff, recovered, FaultArmed, PageDecays, powered_off, IsRecovery, Moment, Leads, more, IsCalled, calm, setup, s0, blank, DeviceState, Armed, Pick, Server, left_by_steps, put_calls, new_memory, prints_of, FileNo, File, PageRevives, Begins, Option, next_by, begun, is_too_much, go_on, cut_short, come_to, if◌then◌else◌, ◌∙◌, ServerNo, StableState, ap, Task}
+use Rattle.jn_wrong.proofs.Common.{◌≡◌, ◌+◌, ◌<◌, ◌*◌, ◌++◌, ℕ, Bool, true, false, List, [], ◌∷◌, refl, sym, subst, arith, nat_lt, None, Some, is_some, Event, Meets, State, next_task, deed_of, may_arm, FaultKind, Crash, IsRun, Deed, plain, Decays, Revives, Arms, Cleans, Reads, PowersOff, recovered, FaultArmed, PageDecays, powered_off, IsRecovery, Moment, Leads, more, IsCalled, calm, setup, s0, blank, DeviceState, Armed, Pick, Server, put_calls, new_memory, prints_of, FileNo, File, PageRevives, Begins, Option, next_by, begun, is_too_much, go_on, cut_short, come_to, if◌then◌else◌, ◌∙◌, ServerNo, StableState, ap, Task}
 use Rattle.jn_schedule.specs.declared.Event.TheVariants as events
 use Rattle.jn_wrong.proofs.NewDevice.{Tally, device, good_at, pages_at, put_on, bumped-least, OthersGood, all_but, failed_at, decays-at, revives-at, put-back, halves-equal, is_root, thrice, blank-on}
-use Rattle.jn_wrong.proofs.OnDevices.{alone, recovers-so}
+use Rattle.jn_wrong.proofs.OnDevices.{alone, recovers-so, no_beside, left_blank}
 use Rattle.jn_wrong.proofs.OnSteps.{at, made_so, calm_deed, use_deed, behind_all, does, does-use, idled, IdleAt, idle-steps, shows, scrubs}
 use Rattle.jn_wrong.proofs.Pairs.{the_counts}
 
@@ -143,7 +143,7 @@ module _ (a : ℕ) (few : a < 1000) (s : State) (last : Moment) where
 
   -- a restart that nothing strikes puts this half anew, and the root
   pub restarts-then : (p : ℕ) (good : ℕ → Bool) (fails : ℕ → ℕ) (t : Tally) → p < 354 → OthersGood p good → IsMet a s (events.Restart s0) (recovered calm s0) → IsRun (recovered calm s0).steps (idled 1 s).course.world
-      → ((c : Pick) → (behind_all (recovered calm s0) (idled 1 s)).found s0 c ≡ blank (a + 1)) → left_by_steps (idled 1 s).course.world s0 (recovered calm s0).steps 0 ≡ 0 → is_some ((behind_all (recovered calm s0) (idled 1 s)).memory s0) ≡ true
+      → ((c : Pick) → (behind_all (recovered calm s0) (idled 1 s)).found s0 c ≡ blank (a + 1)) → left_blank (idled 1 s).course.world (recovered calm s0).steps ≡ no_beside → is_some ((behind_all (recovered calm s0) (idled 1 s)).memory s0) ≡ true
       → Leads (setup 1) (at (restarted s) (device (good_at (a + 1)) true [] (thrice t))) last
       → Leads (setup 1) (at s (device (pages_at a good fails) false [] t)) last
   restarts-then p good fails t lt fine m steps found left up rest = begins-then a few s last (events.Restart s0) (recovered calm s0) m good fails false [] t (more _ _ last

@@ -1,7 +1,7 @@
 -- Steps of the machine over the device of one server on which nothing is stored.
-use Rattle.jn_wrong.proofs.Common.{◌≡◌, ◌*◌, ℕ, zero, suc, true, false, List, [], refl, sym, ap, subst, None, Some, Option, is_some, ServerNo, World, run, IsRun, Text, Chance, Task, State, next_task, begun, next, next_by, Deed, Use, Nothing, Cleans, Reads, uses, deed_of, made, IsUsed, IsServed, IsLookedOver, IsScrubbed, Befalls, Moment, DoesStep, Leads, more, calm, setup, s0, blank, DeviceState, PageState, Armed, Pick, cleaned_get_calls, put_calls, Printed, ArePrints, FileThere, stable, left_by_steps, prints_of, LockUnit, FileNo, File, IsCalled, new_memory, ◌∙◌, Head, maps_in, replicate, FreeHead, no_maps, fun_ext}
+use Rattle.jn_wrong.proofs.Common.{◌≡◌, ◌*◌, ℕ, zero, suc, true, false, List, [], refl, sym, ap, subst, None, Some, Option, is_some, ServerNo, World, run, IsRun, Text, Chance, Task, State, next_task, begun, next, next_by, Deed, Use, Nothing, Cleans, Reads, uses, deed_of, made, IsUsed, IsServed, IsLookedOver, IsScrubbed, Befalls, Moment, DoesStep, Leads, more, calm, setup, s0, blank, DeviceState, PageState, Armed, Pick, cleaned_get_calls, put_calls, Printed, ArePrints, FileThere, stable, prints_of, LockUnit, FileNo, File, IsCalled, new_memory, ◌∙◌, Head, maps_in}
 use Rattle.jn_wrong.proofs.NewDevice.{Tally, device, pages_at, halves-equal, IsBlankOn}
-use Rattle.jn_wrong.proofs.OnDevices.{at_s0, befalls, alone, uncalled, all-free}
+use Rattle.jn_wrong.proofs.OnDevices.{at_s0, none-named, befalls, alone, uncalled, all-free, no_beside, left_blank}
 use Rattle.jn_wrong.proofs.Pairs.{the_counts}
 
 abbrev pub at : State → DeviceState → Moment
@@ -22,7 +22,7 @@ abbrev pub behind_all : Deed → State → World
 behind_all deed s = run deed.steps s.course.world
 
 pub does : (h : Chance) (task : Task) (deed : Deed) (s : State) (d e : DeviceState) (a b : ℕ) → next_task s ≡ Some task → deed_of (setup 1) h task s ≡ deed → IsBlankOn a d → IsBlankOn b e
-    → ((q : ServerNo) → h.rubbish q ≡ false) → IsRun deed.steps s.course.world → ((c : Pick) → (behind_all deed s).found s0 c ≡ blank b) → left_by_steps s.course.world s0 deed.steps 0 ≡ 0
+    → ((q : ServerNo) → h.rubbish q ≡ false) → IsRun deed.steps s.course.world → ((c : Pick) → (behind_all deed s).found s0 c ≡ blank b) → left_blank s.course.world deed.steps ≡ no_beside
     → IsUsed (setup 1) h deed.device s.course.world (behind_all deed s) (at_s0 d) (at_s0 e) → DoesStep (setup 1) (at s d) (at (made_so h task deed s) e)
 does h task deed s d e a b is is_deed was stays rubbish steps found left used = record {
   chance = h;
@@ -38,7 +38,7 @@ does h task deed s d e a b is is_deed was stays rubbish steps found left used = 
 abbrev pub IdleAt : ℕ → State → Option Task → Type 0
 IdleAt a s None = ⊥
 IdleAt a s (Some task) = IsRun (calm_deed task s).steps s.course.world × ((c : Pick) → (behind_all (calm_deed task s) s).found s0 c ≡ blank a)
-    × (left_by_steps s.course.world s0 (calm_deed task s).steps 0 ≡ 0) × ((calm_deed task s).device ≡ Nothing)
+    × (left_blank s.course.world (calm_deed task s).steps ≡ no_beside) × ((calm_deed task s).device ≡ Nothing)
 
 idles : (task : Task) (s : State) (d : DeviceState) (a : ℕ) → IsBlankOn a d → next_task s ≡ Some task → IdleAt a s (Some task) → DoesStep (setup 1) (at s d) (at (then_done task s) d)
 idles task s d a is next h = does calm task (calm_deed task s) s d d a a next refl is is (λ q. refl) h.0 h.1 h.2
@@ -94,9 +94,6 @@ serves most w b a d e is up called = record {
   maps = sym (ap (λ (l : List Head). maps_in l) is.heads ∙ none-named);
   called = called;
 }
-  where
-    none-named : maps_in (replicate 16 FreeHead) ≡ no_maps
-    none-named = fun_ext (λ f. fun_ext (λ j. refl))
 
 -- a show, in a schedule or at the end
 pub shows : (task : Task) (s : State) (pages : ℕ → PageState) (waiting : List Armed) (t : Tally) (a b : ℕ) → next_task s ≡ Some task → deed_of (setup 1) calm task s ≡ use_deed (Reads s0) []

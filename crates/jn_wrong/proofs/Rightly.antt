@@ -1,5 +1,6 @@
 -- The right reports of schedules of which wrong ones are refuted, computed.
-use Rattle.jn_wrong.proofs.Common.{◌≡◌, ℕ, [], ◌∷◌, refl, arms_first, arms_in_order, arms_null, null_told, makes_one, calm, calmly, at_step, stopped, report, stop_met, outside_in_order, made_report, full_of, false, quiet_report, decays_once, decays_both, both_report, decays_behind_scrub, decays_with_power, forgiven_report, decays_behind_restart, restarted_report, arms_two, arms_far, Allows, Computes, Records, IsComputed, one_record, in_room, whole_only}
+use Rattle.jn_wrong.proofs.Common.{◌≡◌, ℕ, [], ◌∷◌, refl, arms_first, arms_in_order, arms_null, null_told, makes_one, calm, calmly, at_step, stopped, report, stop_met, outside_in_order, made_report, full_of, false, quiet_report, decays_once, decays_both, both_report, decays_behind_scrub, decays_with_power, forgiven_report, decays_behind_restart, restarted_report, arms_two, arms_far, Allows, Computes, IsComputed, one_record, in_room, whole_only}
+use Rattle.jn_base.specs.declared.names.Resource.TheVariants.{Records}
 use Rattle.jn_base.specs.declared.device.FaultKind.TheVariants as faults
 use Rattle.jn_locks.specs.Locks as locks
 

@@ -1,10 +1,10 @@
 -- Whole runs over devices at whose restart a fault strikes that waited.
-use Rattle.jn_wrong.proofs.Common.{◌≡◌, ◌≤◌, ◌+◌, ◌++◌, ℕ, true, false, true≢false, List, [], ◌∷◌, append_assoc, refl, sym, ◌∙◌, ap, arith, Meets, State, Chance, FaultKind, StopBefore, Null, Bad, Outside, recovered, IsRecovery, Happens, get, put, joined, more, calm, stopped, s0, DeviceState, Armed, bumped, arms_first, arms_in_order, arms_null, null_told, stop_met, outside_in_order, Ok, Err, IsOneOfGood, whole_only}
+use Rattle.jn_wrong.proofs.Common.{◌≡◌, ◌≤◌, ◌+◌, ◌++◌, ℕ, true, false, true≢false, List, [], ◌∷◌, append_assoc, refl, sym, ◌∙◌, ap, arith, Meets, State, Chance, FaultKind, StopBefore, Null, Bad, Outside, recovered, pick_read, IsRecovery, Happens, get, put, joined, more, calm, stopped, s0, DeviceState, Armed, bumped, arms_first, arms_in_order, arms_null, null_told, stop_met, outside_in_order, Ok, Err, IsOneOfGood, whole_only}
 use Rattle.jn_device.specs.declared.Look.TheVariants.{Good}
 use Rattle.jn_device.specs.Happens.{none}
 use Rattle.jn_schedule.specs.declared.Event.TheVariants as events
 use Rattle.jn_wrong.proofs.NewDevice.{Tally, device, good_at, bytes_at, thrice, thrice-least, bumped-least, mends, halves-equal, blank-on}
-use Rattle.jn_wrong.proofs.OnDevices.{alone, front-clean, front-whole}
+use Rattle.jn_wrong.proofs.OnDevices.{alone, front-clean, front-whole, maps-clean, named_by, few-so}
 use Rattle.jn_wrong.proofs.OnSteps.{does, idled}
 use Rattle.jn_wrong.proofs.OnEvents.{armed, crashed, begins-then, arms-then, crashes-then}
 use Rattle.jn_wrong.proofs.Endings.{one-so, names-nothing, at_up, first_tally, from-up, from-off}
@@ -62,6 +62,8 @@ is-stopped = record {
   powered = device (good_at 1) true (waits 1 StopBefore ∷ []) first_tally;
   last = as_stopped;
   power = record { count = refl; pages_are = λ q. refl; power_is = refl; waiting = refl; told = refl; calls = refl; puts = refl; stops = refl };
+  pick = λ n. false;
+  read = λ up. absurd (true≢false (sym up));
   called = record {
     last = as_stopped;
     happens = get (device (good_at 1) true (waits 1 StopBefore ∷ []) first_tally) as_stopped 0 (Err (record {})) (omega arith) (record {
@@ -71,7 +73,7 @@ is-stopped = record {
       others = λ q ne. refl;
       puts = refl;
     });
-    few = omega arith;
+    few = few-so (named_by (off_with (waits 1 StopBefore ∷ [])) (λ n. false)) stopped_tally.calls first_tally.calls (omega arith);
     whole = λ c i lt whole. record { both = refl; clean = halves-equal 1 i lt };
     told = refl;
     stop = refl;
@@ -79,6 +81,7 @@ is-stopped = record {
   };
   after = refl;
   front = λ up. absurd (true≢false (sym up));
+  maps = λ up. absurd (true≢false (sym up));
   front_whole = λ up quiet. absurd (true≢false (sym up));
   root = λ up. absurd (true≢false (sym up));
 }
@@ -142,11 +145,13 @@ recovers-told told waiting t same near gets = record {
   powered = device (good_at 1) true waiting first_tally;
   last = device (good_at 2) true [] (thrice t);
   power = record { count = refl; pages_are = λ q. refl; power_is = refl; waiting = refl; told = refl; calls = refl; puts = refl; stops = refl };
+  pick = pick_read (telling_chance told);
+  read = λ up. refl;
   called = record {
     last = telling told (device (good_at 2) true [] (thrice t));
     happens = joined (device (good_at 1) true waiting first_tally) (telling told (device (good_at 1) true [] t)) (telling told (device (good_at 2) true [] (thrice t))) gets
         (tells-on told (device (good_at 1) true [] t) (device (good_at 2) true [] (thrice t)) (mends 1 2 5 (λ q. true) t (omega arith) (λ q other. refl)));
-    few = let three = thrice-least t in omega (arith, three, near);
+    few = few-so (named_by (off_with waiting) (pick_read (telling_chance told))) (thrice t).calls first_tally.calls (let three = thrice-least t in omega (arith, three, near));
     whole = λ c i lt whole. record { both = refl; clean = halves-equal 2 i lt };
     told = sym same;
     stop = refl;
@@ -154,6 +159,7 @@ recovers-told told waiting t same near gets = record {
   };
   after = refl;
   front = λ up. front-clean 2 (λ q. true) (λ q. 0) true [] (thrice t);
+  maps = λ up. maps-clean 2 (λ q. true) (λ q. 0) true [] (thrice t);
   front_whole = λ up quiet. front-whole 2 true [] (thrice t);
   root = λ up. (2, record { first = refl; second = refl });
 }

@@ -1,10 +1,12 @@
 -- What is free on pages on which nothing is stored.
-use Rattle.jn_wrong.proofs.Common.{◌≡◌, ◌+◌, ◌-◌, ◌||◌, ℕ, Bool, true, false, not, if◌then◌else◌, List, [], ◌∷◌, length, is_some, list_any, true≢false, refl, sym, ◌∙◌, ap, arith, FileNo, WorkId, Tid, work_eq, tid_eq, file_eq, work_tells, tid_tells, file_tells, Counts, Need, StableState, Memory, promised, count_by, is_free, free_count, is_rubbish, rubbish_count, pool_on, heads_on, record_on, head_on, listed, is_free_head, is_free_page, promised_heads, free_on, has_rubbish, CountsAll, Head, FreeHead, Used, Record, Free, Intention, Going, Flag, heads_name, works_name, has_address, holds_address}
-use Rattle.jn_records.specs.StablePages.{Pages}
-use Rattle.std.proofs.lemmas.List.Sums.{sum_by-cons, count_by-le-length}
+use Rattle.jn_wrong.proofs.Common.{◌≡◌, ◌+◌, ◌-◌, ◌||◌, ℕ, suc, Bool, true, false, not, if◌then◌else◌, List, [], ◌∷◌, length, is_some, list_any, true≢false, refl, sym, ◌∙◌, ap, arith, FileNo, WorkId, Tid, work_eq, tid_eq, file_eq, work_tells, tid_tells, file_tells, Counts, Need, StableState, Memory, promised, count_by, is_free, free_count, is_rubbish, rubbish_count, pool_on, heads_on, record_on, head_on, listed, is_free_head, is_free_page, promised_heads, free_on, has_rubbish, CountsAll, Head, FreeHead, Used, Record, Free, Intention, Going, Flag, most_cells, Pages, sum_by-cons, count_by-le-length, contents_of}
+use Rattle.jn_records.specs.Intentions.{names_address}
+use Rattle.jn_records.specs.Layouts.{Layout, Unused, layout_by, layouts_by, has_address}
+use Rattle.jn_records.proofs.Layouts.{has-found}
 use Rattle.jn_records.specs.declared.record.Record.TheVariants.{Ready}
 use Rattle.jn_storage.specs.Listing.{is_in, IsListing, total}
 use Rattle.jn_storage.specs.Orderly.{file_there, list_of}
+use Rattle.jn_page_state.specs.Contents.{Contents, heads_name, works_have, holds_intention, layouts_in, entry_of}
 use Rattle.jn_page_state.proofs.PageChanges.{length-listed}
 use Rattle.jn_wrong.proofs.Doing.{itself}
 
@@ -53,9 +55,22 @@ pub record IsUnused (g : Counts) (pages : Pages) : Type 0 where
   pub records : free_count (pool_on g pages) ≡ g.pool
   pub heads : count_by is_free_head (heads_on g pages) ≡ g.heads
 
-free-head : (a : ℕ) (h : Head) → is_free_head h ≡ true → has_address a h ≡ false
-free-head a FreeHead e = refl
-free-head a (Used f addresses maps) e = absurd (true≢false (sym e))
+-- the layout of a free head has no data page
+unused-has : (d : ℕ) → has_address most_cells (suc d) Unused ≡ false
+unused-has d = by (has_address most_cells (suc d) Unused) refl
+  where
+    by : (b : Bool) → has_address most_cells (suc d) Unused ≡ b → b ≡ false
+    by true e = let found = has-found Unused most_cells (suc d) e in absurd (omega (arith, found.2))
+    by false e = refl
+
+free-head : (maps : ℕ → ℕ → ℕ) (d : ℕ) (h : Head) → is_free_head h ≡ true → has_address most_cells (suc d) (layout_by maps h) ≡ false
+free-head maps d FreeHead e = unused-has d
+free-head maps d (Used f addresses head_maps) e = absurd (true≢false (sym e))
+
+-- a test of layouts, head by head
+any-laid : (test : Layout → Bool) (maps : ℕ → ℕ → ℕ) (heads : List Head) → list_any test (layouts_by maps heads) ≡ list_any (λ h. test (layout_by maps h)) heads
+any-laid test maps [] = refl
+any-laid test maps (h ∷ heads) = ap (λ (b : Bool). test (layout_by maps h) || b) (any-laid test maps heads)
 
 free-record : (test : Record → Bool) → test Free ≡ false → (r : Record) → is_free r ≡ true → test r ≡ false
 free-record test h Free e = h
@@ -74,10 +89,17 @@ module _ (g : Counts) (pages : Pages) (u : IsUnused g pages) where
   heads-all : count_by is_free_head (heads_on g pages) ≡ length (heads_on g pages)
   heads-all = u.heads ∙ sym (length-listed (head_on g pages) 0 g.heads)
 
+  abbrev said : Contents
+  said = contents_of g pages
+
+  abbrev maps : ℕ → ℕ → ℕ
+  maps = entry_of said.blocks
+
   page-free : (d : ℕ) → is_free_page g pages d ≡ true
-  page-free d = ap not (neither (heads_name (heads_on g pages) (d + 1)) (works_name (pool_on g pages) (d + 1))
-      (none-other is_free_head (has_address (d + 1)) (free-head (d + 1)) (heads_on g pages) heads-all)
-      (none-other is_free (holds_address (pool_on g pages) (d + 1)) (free-record (holds_address (pool_on g pages) (d + 1)) refl) (pool_on g pages) pool-all))
+  page-free d = ap not (neither (heads_name most_cells (layouts_in said) (suc d)) (works_have (names_address (suc d)) (pool_on g pages))
+      (any-laid (has_address most_cells (suc d)) maps (heads_on g pages)
+      ∙ none-other is_free_head (λ h. has_address most_cells (suc d) (layout_by maps h)) (free-head maps d) (heads_on g pages) heads-all)
+      (none-other is_free (holds_intention (names_address (suc d)) (pool_on g pages)) (free-record (holds_intention (names_address (suc d)) (pool_on g pages)) refl) (pool_on g pages) pool-all))
 
   pages-all : count_by (is_free_page g pages) (listed (λ d. d) 0 g.leaves) ≡ g.leaves
   pages-all = counts-all (is_free_page g pages) (listed (λ d. d) 0 g.leaves) page-free ∙ length-listed (λ d. d) 0 g.leaves

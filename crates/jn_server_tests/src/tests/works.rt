@@ -26,6 +26,16 @@ const GOING: &str = "\
 prepare 1.5.1 3 0.1.0 | > s1 vote 1.5.1 0.1.0 ready
 commit 1.5.1 0.1.0 |";
 
+/// Of its three puts two are of blocks that no head has room for: each takes a data page for itself and one for its map page.
+const FAR: &str = "\
+do 3 0.1.0 2 nines 7 119 | > c3 answer c3 9 did
+do 3 0.1.0 3 nines 7 120 | > c3 answer c3 9 did
+do 3 0.1.0 4 nines 7 2519 | > c3 answer c3 9 did";
+
+/// There are four data pages, and five are needed.
+const IF_SHORT: &str = "\
+prepare 1.5.1 3 0.1.0 | > s1 vote 1.5.1 0.1.0 full 32 4 5";
+
 /// Each line is for a server of its own. The first are of a work that isn't there, the others of one that is active.
 const IF_ACTIVE: &str = "\
 do 3 0.0.9 1 create 7 | > c3 answer c3 9 lost 0 1
@@ -73,6 +83,7 @@ fn nth_state(n: u32) -> Option<Play> {
         1 => play_of(ROOM, ACTIVE, BROKEN, IF_BROKEN),
         2 => play_of(ROOM, ACTIVE, READY, IF_READY),
         3 => play_of(ROOM, ACTIVE, GOING, IF_GOING),
+        4 => play_of(ROOM, ACTIVE, FAR, IF_SHORT),
         _ => None,
     }
 }
@@ -126,6 +137,42 @@ step | idle
 drop 1.5.2 0.1.0 |
 prepare 1.5.3 3 0.2.0 | > s1 vote 1.5.3 0.2.0 ready";
 
+/// Blocks on both sides of the last that a head has room for, and the last of a file: two map pages come with them. Three of the four
+/// intentions are carried out before the restart.
+const FAR_OFF: &str = "\
+open 3 1.5.1 | > c3 opened c3 9 1.5.1 0.1.0
+do 3 0.1.0 1 create 7 | > c3 answer c3 9 did
+do 3 0.1.0 2 nines 7 119 | > c3 answer c3 9 did
+do 3 0.1.0 3 nines 7 120 | > c3 answer c3 9 did
+do 3 0.1.0 4 nines 7 2519 | > c3 answer c3 9 did
+prepare 1.5.1 3 0.1.0 | > s1 vote 1.5.1 0.1.0 ready
+commit 1.5.1 0.1.0 |
+step |
+step |
+step |";
+
+/// All four are carried out again, and the map pages are where they were. A cut inside of a map page's blocks takes the later map page away.
+const FAR_AGAIN: &str = "\
+step |
+step |
+step |
+step |
+step | > s1 done 1.5.1 0.1.0
+show | file 7 page 7/119 nines page 7/120 nines page 7/2519 nines
+step |
+step |
+step |
+step |
+step | idle
+open 3 1.5.2 | > c3 opened c3 9 1.5.2 0.2.0
+do 3 0.2.0 1 cut 7 121 | > c3 answer c3 9 did
+do 3 0.2.0 2 read 7 2519 | > c3 answer c3 9 read zeros
+prepare 1.5.2 3 0.2.0 | > s1 vote 1.5.2 0.2.0 ready
+commit 1.5.2 0.2.0 |
+step |
+step | > s1 done 1.5.2 0.2.0
+show | file 7 page 7/119 nines page 7/120 nines";
+
 const NOT_PREPARED: &str = "\
 open 3 1.5.1 | > c3 opened c3 9 1.5.1 0.1.0
 do 3 0.1.0 1 create 7 | > c3 answer c3 9 did";
@@ -142,6 +189,7 @@ fn nth_restart(n: u32) -> Option<Play> {
     match n {
         0 => play_of(ROOM, PREPARED, RESTORED, ""),
         1 => play_of(ROOM, NOT_PREPARED, LOST, ""),
+        2 => play_of((9, 3, 8), FAR_OFF, FAR_AGAIN, ""),
         _ => None,
     }
 }

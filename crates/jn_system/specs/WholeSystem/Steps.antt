@@ -34,7 +34,7 @@ pub data Step : Type 0 where
   Nudge : ServerNo → Step
   -- the transaction's work at the server may be broken from now on
   Timeout : ServerNo → Tid → Step
-  -- a server is stopped while it takes a message, or while it works: this is left of the changes by each pick
+  -- a server is stopped while it takes a message, or while it works: this is left of the changes by each pick, of a cut perhaps a part
   StopDelivery : ℕ → Room → (Pick → Left) → Step
   StopWork : ServerNo → Room → (Pick → Left) → Step
   Crash : ServerNo → Step

@@ -1,5 +1,7 @@
 -- What a worker does with a prepared work, as steps of the machine: its next intention is carried out, or it goes.
-use Rattle.jn_system_order.proofs.Common.{nat_lt, nat_tests, BlockNo, ◌≡◌, ◌≢◌, ◌⊎◌, inl, inr, ℕ, suc, ◌+◌, Bool, true, false, List, [], ◌∷◌, take, Option, Some, None, is_some, refl, sym, ◌∙◌, ap, subst, arith, if◌then◌else◌, slice_get, All, All-nil, All-cons, ServerNo, Tid, WorkId, LockUnit, Server, server_eq, work_eq, server_tells, work_tells, change, or_else, or_also, Intention, intention_change, list_change, Message, Work, StableState, Prepared, Pick, CarryOut, RemoveWork, is_going, made_by, at_work, stable, RowOutcome, Sent, WorkerTable, work_at, carried_row, intentions_of, worker_step, at-less, Machine, Invariant, Atom, Count, Make, NoteOver, always, run, MayRun, MayCount, MayCarryOut, MayRemove, MayBeOver, IsPrepared, Says, take_zero, World, Memory, UpFact, Mirrors, IsTrue, IsAddressed, working_of, next_in, Room, storage_of, going-is, stored-fact, WorkerStep, carries_out, is_over, erases_rubbish, worker-step-case, Left, left_of, CarryPart, is_written, carried_at, gone_at, fun_ext, zero, part-is}
+use Rattle.jn_system_order.proofs.Common.{nat_lt, nat_tests, BlockNo, ◌≡◌, ◌≢◌, ◌⊎◌, inl, inr, ℕ, suc, ◌+◌, Bool, true, false, List, [], ◌∷◌, take, Option, Some, None, is_some, refl, sym, ◌∙◌, ap, subst, arith, if◌then◌else◌, slice_get, All, All-nil, All-cons, ServerNo, Tid, WorkId, LockUnit, Server, server_eq, work_eq, server_tells, work_tells, change, or_else, or_also, Intention, intention_change, list_change, Message, Work, StableState, Prepared, Pick, CarryOut, RemoveWork, is_going, made_by, at_work, stable, RowOutcome, Sent, WorkerTable, work_at, carried_row, intentions_of, worker_step, at-less, Machine, Invariant, Atom, Count, Make, NoteOver, always, run, MayRun, MayCount, MayCarryOut, MayRemove, MayBeOver, IsPrepared, Says, take_zero, World, Memory, UpFact, Mirrors, IsTrue, IsAddressed, working_of, next_in, Room, storage_of, going-is, stored-fact, WorkerStep, carries_out, is_over, erases_rubbish, worker-step-case, Left, left_of, CarryPart, is_written, carried_at, gone_at, fun_ext, zero, part-is, File, Block, Files, FilesChange, part_by}
+use Rattle.jn_records.specs.declared.intention.What.{What}
+use Rattle.jn_records.specs.declared.intention.What.TheVariants.{Fresh, Gone, Cut, Put}
 use Rattle.jn_msgs.specs.declared.message.Message.TheVariants as messages
 use Rattle.jn_rows.specs.Worker.{without}
 use Rattle.jn_system_order.proofs.Mirroring.GrantMoves.{active-here, found-here}
@@ -9,6 +11,18 @@ use Rattle.jn_system_order.proofs.Mirroring.Intended.{step-writes, step-more, ta
 
 one-more : (n : ℕ) → suc n ≡ n + 1
 one-more n = omega arith
+
+-- of a part that is gone the registers are as after the whole change
+part-written : (gone : BlockNo → Bool) (what : What) (c : FilesChange) (files : Files) (u : LockUnit) → change (part_by gone what c) files u ≡ (if gone_at (Some gone) what u then change c files u else files u)
+part-written gone Fresh c files u = refl
+part-written gone Gone c files u = refl
+part-written gone Put c files u = refl
+part-written gone Cut c files (File f) = refl
+part-written gone Cut c files (Block f p) = by (gone p)
+  where
+    by : (b : Bool) → or_else (if b then c (Block f p) else None) (files (Block f p)) ≡ (if b then or_else (c (Block f p)) (files (Block f p)) else files (Block f p))
+    by true = refl
+    by false = refl
 
 left-written : (N : WorkId) (i : Intention) (l : Left) (x : StableState) → left_of l (CarryOut N i ∷ []) x ≡ carried_at (is_written l i) i x
 left-written N i l x = by l.whole l.gone
@@ -21,7 +35,7 @@ left-written N i l x = by l.whole l.gone
         more : nat_lt 0 (suc (suc n)) ≡ true
         more = grind (arith, nat_tests)
     by zero None = ap (λ f. record x { files = f }) (fun_ext (λ u. refl))
-    by zero (Some gone) = ap (λ f. record x { files = f }) (fun_ext (λ u. refl))
+    by zero (Some gone) = ap (λ f. record x { files = f }) (fun_ext (part-written gone i.what (intention_change i) x.files))
 
 module _ (r : World) (w : Machine) (s : ServerNo) (m : Memory) (mirrors : Mirrors r w) (is : r.memory s ≡ Some m) (up : UpFact s m (r.found s))
     (grow : (atoms : List Atom) → MayRun atoms w → (message : Message) → Says w message → Says (run atoms w) message) (inv : Invariant w)

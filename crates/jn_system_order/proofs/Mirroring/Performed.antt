@@ -1,6 +1,5 @@
 -- What an operation that is granted does, as the machine's step sees it.
-use Rattle.jn_system_order.proofs.Common.{◌≡◌, ◌⊎◌, inl, inr, Bool, true, false, List, Option, Some, None, is_some, refl, sym, ◌∙◌, ap, subst, arith, if◌then◌else◌, LockUnit, Op, Answer, file_eq, file_tells, Files, nothing, effect, file_of, answer_to, is_did, and_then, Intention, InOrder, list_change, net_change, net_of, Read, is_unit, wants_of, units_for, is_fit, list_with, asks, effect_of, reads-file}
-use Rattle.jn_base.specs.declared.names.LockUnit.TheVariants.{File, Block}
+use Rattle.jn_system_order.proofs.Common.{◌≡◌, ◌⊎◌, inl, inr, Bool, true, false, List, Option, Some, None, is_some, refl, sym, ◌∙◌, ap, subst, arith, if◌then◌else◌, LockUnit, Op, Answer, file_eq, file_tells, Files, nothing, effect, file_of, answer_to, is_did, and_then, Intention, InOrder, list_change, net_change, net_of, Read, is_unit, wants_of, units_for, is_fit, list_with, asks, effect_of, reads-file, File, Block}
 use Rattle.jn_base.specs.declared.names.FileNo.{FileNo}
 use Rattle.jn_base.specs.declared.op.Op.TheVariants as ops
 use Rattle.jn_base.specs.declared.op.Answer.TheVariants as answers

@@ -1,4 +1,4 @@
-use Rattle.jn_files.proofs.Common.{◌≡◌, inl, inr, length, None, sym, ap, subst, ◌∙◌, arith, cases_lt, get_or_past, AreIndexed, head_number, Free}
+use Rattle.jn_files.proofs.Common.{◌≡◌, inl, inr, length, None, sym, ap, subst, ◌∙◌, arith, cases_lt, get_or_past, Free, AreIndexed, head_number}
 use Rattle.jn_files.proofs.heads.index_of.Goals as goal
 
 pub returns : goal.returns

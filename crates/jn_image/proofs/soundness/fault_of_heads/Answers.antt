@@ -1,4 +1,4 @@
-use Rattle.jn_image.proofs.Common.{ℕ, Option, Some, None, subst, HasOneHead, Finds, AddressesOnce}
+use Rattle.jn_image.proofs.Common.{ℕ, Option, Some, None, subst, HasOneHead, Finds}
 use Rattle.jn_image.proofs.HeadLists.{malformed}
 use Rattle.jn_image.proofs.soundness.fault_of_heads.Goals as goal
 
@@ -11,14 +11,8 @@ returns-in-Some-first_malformed c = λ s m are pool. (
   malformed m c.args.heads.now are (Some c.in-Some-first_malformed.i) c.in-Some-first_malformed.ensures,
 )
 
-pub returns-in-Some-2 : goal.returns-in-Some-2
-returns-in-Some-2 c = λ s m are pool. let whole = malformed m c.args.heads.now are None c.in_default-first_malformed.ensures in (
-  ((pool, subst (λ (r : Option ℕ). Finds (HasOneHead m) r) c.in_default.is (c.in_ok-f.ensures m are)), whole),
-  subst (λ (r : Option ℕ). Finds (AddressesOnce m) r) c.in-Some-2.is (c.in_ok-a.ensures m are whole),
-)
-
-pub returns-in-None : goal.returns-in-None
-returns-in-None c = λ s m are pool. let whole = malformed m c.args.heads.now are None c.in_default-first_malformed.ensures in (
-  ((pool, subst (λ (r : Option ℕ). Finds (HasOneHead m) r) c.in_default.is (c.in_ok-f.ensures m are)), whole),
-  subst (λ (r : Option ℕ). Finds (AddressesOnce m) r) c.in-None.is (c.in_ok-a.ensures m are whole),
+pub returns : goal.returns
+returns c = λ s m are pool. (
+  (pool, subst (λ (r : Option ℕ). Finds (HasOneHead m) r) c.in_default.is (c.in_ok-f.ensures m are)),
+  malformed m c.args.heads.now are None c.in_default-first_malformed.ensures,
 )

@@ -4,16 +4,16 @@ use Rattle.jn_image.proofs.Exclusive.{all_hold}
 use Rattle.jn_image.proofs.soundness.look.Goals as goal
 
 told : (s : ServerNo) (m : sound.Image) (heads now : List (Option Head)) (r q : Option Unsound) → now ≡ heads → AreHeads m heads
-    → ((s : ServerNo) (m : sound.Image) → AreHeads m now → ToPool s m → MatchOption r (ToAddresses s m) (λ f. IsFirstFault s m f)) → ToPool s m → r ≡ q
+    → ((s : ServerNo) → AreHeads m now → ToPool s m → MatchOption r (ToAddresses s m) (λ f. IsFirstFault s m f)) → ToPool s m → r ≡ q
     → MatchOption q (ToAddresses s m) (λ f. IsFirstFault s m f)
 told s m heads now r q e are says pool is =
-    subst (λ (r : Option Unsound). MatchOption r (ToAddresses s m) (λ f. IsFirstFault s m f)) is (says s m (subst (λ (hs : List (Option Head)). AreHeads m hs) (sym e) are) pool)
+    subst (λ (r : Option Unsound). MatchOption r (ToAddresses s m) (λ f. IsFirstFault s m f)) is (says s (subst (λ (hs : List (Option Head)). AreHeads m hs) (sym e) are) pool)
 
 few : (m : sound.Image) (heads now : List (Option Head)) → now ≡ heads → AreHeads m heads → length now < 2 ^ 16
 few m heads now e are = subst (λ (n : ℕ). n < 2 ^ 16) (sym (ap (λ (hs : List (Option Head)). length hs) e ∙ are.count)) are.few_heads
 
-pub fault_of_heads-requires : goal.fault_of_heads-requires
-fault_of_heads-requires c = few (seen c.args.image.now) c.in_ok-heads.heads.items c.deref.result.now c.deref.ensures.value c.in_ok-heads.ensures
+pub fault_of_contents-requires-clause-few : goal.fault_of_contents-requires-clause-few
+fault_of_contents-requires-clause-few c = few (seen c.args.image.now) c.in_ok-heads.heads.items c.deref.result.now c.deref.ensures.value c.in_ok-heads.ensures
 
 pub returns-in-Some-2 : goal.returns-in-Some-2
 returns-in-Some-2 c = told c.args.server (seen c.args.image.now) c.in_ok-heads.heads.items c.deref.result.now c.in_ok-fault.field-0 (Some c.in-Some-2.fault)

@@ -1,4 +1,4 @@
-use Rattle.jn_image.proofs.Common.{◌≡◌, ◌++◌, ◌∷◌, [], ◌∙◌, ◌<◌, ◌%◌, ℕ, List, refl, arith, append_assoc, big_bytes, rules, on_ok_weaker, header_bytes}
+use Rattle.jn_image.proofs.Common.{rules, on_ok_weaker, ◌≡◌, ◌++◌, ◌∷◌, [], ◌∙◌, ◌<◌, ◌%◌, ℕ, List, refl, arith, append_assoc, big_bytes, header_bytes}
 use Rattle.jn_image.proofs.writing.push_header.Goals as goal
 
 pub returns : goal.returns

@@ -5,6 +5,9 @@ use Rattle.jn_intent.proofs.carry.carry_out.Goals as goal
 pub set_address-requires-clause-leaf : goal.set_address-requires-clause-leaf
 set_address-requires-clause-leaf g c = c.requires.leaf (c.args.intention.now.address - 1) (put_names c.args.table.now (g.S.StableStore.view c.args.store.now) c.args.intention.now c.requires c.in-Put.is)
 
+pub set_address-requires-clause-map : goal.set_address-requires-clause-map
+set_address-requires-clause-map g c = c.requires.map (c.args.intention.now.address - 1) (put_names c.args.table.now (g.S.StableStore.view c.args.store.now) c.args.intention.now c.requires c.in-Put.is)
+
 pub returns-in-Fresh : goal.returns-in-Fresh
 returns-in-Fresh g c = carries_fresh c.args.table.now _ c.args.intention.now c.requires (is_ok c.make_fresh.result) c.make_fresh.new.table _ c.in-Fresh.is c.make_fresh.ensures
 

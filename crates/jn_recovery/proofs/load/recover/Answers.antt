@@ -1,5 +1,4 @@
-use Rattle.jn_recovery.proofs.Common.{◌∙◌, Err, ap, refl, rules, flags_on, counts_by, IsDown}
-use Rattle.std.proofs.lemmas.Result.{err_from_is_err_and}
+use Rattle.jn_recovery.proofs.Common.{◌∙◌, Err, ap, refl, rules, flags_on, counts_by, IsDown, err_from_is_err_and}
 use Rattle.jn_recovery.specs.declared.load.DownCause.TheVariants.{Memory}
 use Rattle.jn_recovery.proofs.Downs.{if_err_is}
 use Rattle.jn_recovery.proofs.Loads.{no_memory, may_hold, may_promise, kept_matches, kept_loaded, kept_untouched}

@@ -3,18 +3,18 @@ use Rattle.jn_recovery.proofs.ErasingAll.{not_ok_is, erases_none, erases_more, e
 use Rattle.jn_recovery.proofs.opening.erase_all.Goals as goal
 
 pub loop-slot-init : goal.loop-slot-init
-loop-slot-init g c = (few_rubbish c.args.sets.now, λ server counts epoch heads standing. erases_none server counts (g.S.StableStore.view c.args.store.now) epoch heads c.args.sets.now standing)
+loop-slot-init g c = (few_rubbish c.args.sets.now, λ server counts epoch heads maps standing. erases_none server counts (g.S.StableStore.view c.args.store.now) epoch heads maps c.args.sets.now standing)
 
 pub erase_one-requires : goal.erase_one-requires
 erase_one-requires g c =
-    let (server, counts, epoch, heads, standing) = c.requires.standing in
-    let held = (c.loop-slot.invariant.1 server counts epoch heads standing).standing.held in
+    let (server, counts, epoch, heads, maps, standing) = c.requires.standing in
+    let held = (c.loop-slot.invariant.1 server counts epoch heads maps standing).standing.held in
     let size = held.slots in
     let count = held.count in
     record { there = omega (arith, size, count) }
 
 pub returns-in_err-erase_one-clause-stopped : goal.returns-in_err-erase_one-clause-stopped
-returns-in_err-erase_one-clause-stopped g c = λ server counts epoch heads standing.
+returns-in_err-erase_one-clause-stopped g c = λ server counts epoch heads maps standing.
     let pool = c.loop-slot.sets in
     let u = g.S.StableStore.view c.loop-slot.store in
     let w = g.S.StableStore.view c.erase_one.new.store in
@@ -22,23 +22,23 @@ returns-in_err-erase_one-clause-stopped g c = λ server counts epoch heads stand
     let size = standing.held.slots in
     let end = c.slots-slot-end.ensures in
     let one = one_erased pool u c.erase_one.result c.erase_one.new.self w c.erase_one.ensures.none c.erase_one.ensures.erased (not_ok_is c.erase_one.result false (search rules)) in
-    on_err_all c.from_residual.result _ (erase_stopped server counts (g.S.StableStore.view c.args.store.now) epoch heads c.loop-slot._slot pool u (c.loop-slot.invariant.1 server counts epoch heads standing)
+    on_err_all c.from_residual.result _ (erase_stopped server counts (g.S.StableStore.view c.args.store.now) epoch heads maps c.args.sets.now c.loop-slot._slot pool u (c.loop-slot.invariant.1 server counts epoch heads maps standing)
     one.0 one.1 (is_ok c.erase_one.result) c.erase_one.new.self w one.2 (search rules) (omega (arith, lt, size, end)))
 
 pub returns-then-not-branch-clause-done : goal.returns-then-not-branch-clause-done
-returns-then-not-branch-clause-done g c = λ server counts epoch heads standing.
+returns-then-not-branch-clause-done g c = λ server counts epoch heads maps standing.
     let pool = c.loop-slot.sets in
     let u = g.S.StableStore.view c.loop-slot.store in
     let w = g.S.StableStore.view c.erase_one.new.store in
-    let before = c.loop-slot.invariant.1 server counts epoch heads standing in
+    let before = c.loop-slot.invariant.1 server counts epoch heads maps standing in
     let none = none_left pool u c.erase_one.result c.erase_one.new.self w c.erase_one.ensures.none c.erase_one.ensures.erased (search rules) in
     let lt = c.loop-slot-test.true in
     let end = c.slots-slot-end.ensures in
     let size = standing.held.slots in
     let now = before.standing.held.slots in
-    erases_all server counts (g.S.StableStore.view c.args.store.now) epoch heads c.loop-slot._slot c.erase_one.new.self w (subst (λ l. c.loop-slot._slot ≤ length l) (sym none.1) (omega (arith, lt, end, size, now))) none.0
-    (subst (λ l. Erases server counts (g.S.StableStore.view c.args.store.now) epoch heads c.loop-slot._slot l w) (sym none.1)
-    (subst (λ x. Erases server counts (g.S.StableStore.view c.args.store.now) epoch heads c.loop-slot._slot pool x) (sym none.2) before))
+    erases_all server counts (g.S.StableStore.view c.args.store.now) epoch heads maps c.args.sets.now c.loop-slot._slot c.erase_one.new.self w (subst (λ l. c.loop-slot._slot ≤ length l) (sym none.1) (omega (arith, lt, end, size, now))) none.0
+    (subst (λ l. Erases server counts (g.S.StableStore.view c.args.store.now) epoch heads maps c.loop-slot._slot c.args.sets.now l w) (sym none.1)
+    (subst (λ x. Erases server counts (g.S.StableStore.view c.args.store.now) epoch heads maps c.loop-slot._slot c.args.sets.now pool x) (sym none.2) before))
 
 pub loop-slot-preserved : goal.loop-slot-preserved
 loop-slot-preserved g c =
@@ -50,16 +50,16 @@ loop-slot-preserved g c =
     let less = fewer_left pool u c.erase_one.result c.erase_one.new.self w c.erase_one.ensures.none c.erase_one.ensures.erased went.0 went.1 (went.2.done done) in
     let before = c.loop-slot.invariant.0 in (
       omega (arith, less, before),
-      λ server counts epoch heads standing.
-          erases_more server counts (g.S.StableStore.view c.args.store.now) epoch heads c.loop-slot._slot pool u (c.loop-slot.invariant.1 server counts epoch heads standing) went.0 went.1 (is_ok c.erase_one.result) c.erase_one.new.self w went.2 done,
+      λ server counts epoch heads maps standing.
+          erases_more server counts (g.S.StableStore.view c.args.store.now) epoch heads maps c.args.sets.now c.loop-slot._slot pool u (c.loop-slot.invariant.1 server counts epoch heads maps standing) went.0 went.1 (is_ok c.erase_one.result) c.erase_one.new.self w went.2 done,
     )
 
 pub returns-clause-done : goal.returns-clause-done
-returns-clause-done g c = λ server counts epoch heads standing.
-    let before = c.loop-slot.invariant.1 server counts epoch heads standing in
+returns-clause-done g c = λ server counts epoch heads maps standing.
+    let before = c.loop-slot.invariant.1 server counts epoch heads maps standing in
     let fewer = c.loop-slot.invariant.0 in
     let past = c.loop-slot-test.false in
     let end = c.slots-slot-end.ensures in
     let size = standing.held.slots in
     let now = before.standing.held.slots in
-    erases_all server counts (g.S.StableStore.view c.args.store.now) epoch heads c.loop-slot._slot c.loop-slot.sets (g.S.StableStore.view c.loop-slot.store) (search rules) (nothing_left _ c.loop-slot._slot (search rules)) before
+    erases_all server counts (g.S.StableStore.view c.args.store.now) epoch heads maps c.args.sets.now c.loop-slot._slot c.loop-slot.sets (g.S.StableStore.view c.loop-slot.store) (search rules) (nothing_left _ c.loop-slot._slot (search rules)) before

@@ -1,6 +1,6 @@
-use Rattle.jn_recovery.proofs.Common.{◌≡◌, inr, Err, false, refl, sym, ◌∙◌, ap, true≢false, arith, rules, is_ok, heads_on, pages_by, data_place, down_of, counts_by, IsDown, Stopped}
+use Rattle.jn_recovery.proofs.Common.{◌≡◌, ◌*◌, inr, Err, false, refl, sym, ◌∙◌, ap, true≢false, arith, rules, is_ok, heads_on, pages_by, data_place, down_of, counts_by, front_count, IsDown, Stopped}
 use Rattle.jn_recovery.proofs.CleanStore.{root_there, root_is, root_only}
-use Rattle.jn_recovery.proofs.Downs.{recovering_fewer, stopped_down, if_err_is}
+use Rattle.jn_recovery.proofs.Downs.{recovering_fewer, stopped_down, few_calls, if_err_is}
 use Rattle.jn_recovery.proofs.Openings.{reads_none, root_exit, counts_fit, readable, sets_exit, heads_loadable, table_exit, opened}
 use Rattle.jn_recovery.proofs.CleanPages.{front_cleaned, on_err}
 use Rattle.jn_recovery.proofs.opening.open_store.Goals as goal
@@ -17,8 +17,9 @@ returns-in_err-clean_pages-clause-down g c = λ server before. let counts = coun
     let w = g.S.StableStore.view c.clean_pages.new.store in
     let bad : is_ok c.clean_pages.result ≡ false = search rules in
     if_err_is c.from_residual.result (λ cause. IsDown server counts v cause w) Stopped (search rules)
-    (stopped_down server counts v w (recovering_fewer server counts v w before c.clean_pages.ensures.fewer c.clean_pages.ensures.later (let front = c.front-front.ensures in let calls = c.clean_pages.ensures.calls in omega (arith, front, calls))
-    (λ d lt. c.clean_pages.ensures.others (data_place counts d) (let e = before.count in omega (arith, e, lt)) (inr (let front = c.front-front.ensures in omega (arith, front)))))
+    (stopped_down server counts v (λ n. false) w (recovering_fewer server counts v (λ n. false) w before c.clean_pages.ensures.fewer c.clean_pages.ensures.later
+    (few_calls counts v (λ n. false) w.calls (16 * front_count counts) (let front = c.front-front.ensures in let calls = c.clean_pages.ensures.calls in omega (arith, front, calls)) (omega arith))
+    (λ d lt none. c.clean_pages.ensures.others (data_place counts d) (let e = before.count in omega (arith, e, lt)) (inr (let front = c.front-front.ensures in omega (arith, front)))))
     (on_err c.clean_pages.result _ c.clean_pages.ensures.stop bad) (λ quiet. true≢false (sym (c.clean_pages.ensures.calm quiet) ∙ bad)))
 
 pub read_root-requires-clause-readable : goal.read_root-requires-clause-readable
@@ -57,19 +58,26 @@ pub load-requires-2-clause-loadable : goal.load-requires-2-clause-loadable
 load-requires-2-clause-loadable g c = let (server, before) = c.requires.recoverable in let counts = counts_by c.args.counts in (
   heads_on counts (pages_by (g.S.StableStore.view c.load.new.store) (λ n. false)),
   heads_loadable server counts (g.S.StableStore.view c.args.store.now) before (g.S.StableStore.view c.clean_pages.new.store) (front_cleaned _ _ _ _ c.front-front.ensures c.clean_pages.result c.clean_pages.ensures.cleaned (search rules))
-      c.read_root.result (g.S.StableStore.view c.read_root.new.store) c.read_root.ensures.read c.read_root.ensures.root c.in_ok-root.root c.in_ok-root.was (g.S.StableStore.view c.load.new.store) c.load.ensures.read c.in_ok-sets.sets (search rules) (search rules),
+      c.read_root.result (g.S.StableStore.view c.read_root.new.store) c.read_root.ensures.read c.read_root.ensures.root c.in_ok-root.root c.in_ok-root.was (g.S.StableStore.view c.load.new.store) c.load.ensures.read,
 )
 
 pub returns-in_err-table-clause-down : goal.returns-in_err-table-clause-down
 returns-in_err-table-clause-down g c = λ server before. let counts = counts_by c.args.counts in
     let w = g.S.StableStore.view c.load-2.new.store in
+    let heads = heads_on counts (pages_by (g.S.StableStore.view c.load.new.store) (λ n. false)) in
+    let may = heads_loadable server counts (g.S.StableStore.view c.args.store.now) before (g.S.StableStore.view c.clean_pages.new.store) (front_cleaned _ _ _ _ c.front-front.ensures c.clean_pages.result c.clean_pages.ensures.cleaned (search rules))
+    c.read_root.result (g.S.StableStore.view c.read_root.new.store) c.read_root.ensures.read c.read_root.ensures.root c.in_ok-root.root c.in_ok-root.was (g.S.StableStore.view c.load.new.store) c.load.ensures.read in
     if_err_is c.from_residual-in_err-table.result (λ cause. IsDown server counts (g.S.StableStore.view c.args.store.now) cause w) (down_of c.in_err-table.field-0.0) (search rules)
-    (table_exit server counts _ before (g.S.StableStore.view c.clean_pages.new.store) (front_cleaned _ _ _ _ c.front-front.ensures c.clean_pages.result c.clean_pages.ensures.cleaned (search rules)) c.read_root.result (g.S.StableStore.view c.read_root.new.store) c.read_root.ensures.read c.read_root.ensures.root
-    c.in_ok-root.root c.in_ok-root.was (g.S.StableStore.view c.load.new.store) c.load.ensures.read c.in_ok-sets.sets (search rules) (search rules) w c.load-2.ensures.read
+    (table_exit server counts (g.S.StableStore.view c.args.store.now) before (g.S.StableStore.view c.clean_pages.new.store) (front_cleaned _ _ _ _ c.front-front.ensures c.clean_pages.result c.clean_pages.ensures.cleaned (search rules))
+    c.read_root.result (g.S.StableStore.view c.read_root.new.store) c.read_root.ensures.read c.read_root.ensures.root c.in_ok-root.root c.in_ok-root.was (g.S.StableStore.view c.load.new.store) c.load.ensures.read w (c.load-2.ensures.read heads may)
     c.in_err-table.field-0.0 (λ e. c.load-2.ensures.stop (c.in_err-table.was ∙ ap Err e)) (λ quiet e. c.load-2.ensures.calm quiet (c.in_err-table.was ∙ ap Err e)))
 
 pub returns-clause-opened : goal.returns-clause-opened
 returns-clause-opened g c = λ server before. let counts = counts_by c.args.counts in
-    opened server counts (g.S.StableStore.view c.args.store.now) before (g.S.StableStore.view c.clean_pages.new.store) (front_cleaned _ _ _ _ c.front-front.ensures c.clean_pages.result c.clean_pages.ensures.cleaned (search rules)) c.read_root.result (g.S.StableStore.view c.read_root.new.store) c.read_root.ensures.read c.read_root.ensures.root
-    c.in_ok-root.root c.in_ok-root.was (g.S.StableStore.view c.load.new.store) c.load.ensures.read c.in_ok-sets.sets (search rules) (search rules) (g.S.StableStore.view c.load-2.new.store) c.load-2.ensures.read
-    c.in_ok-table.table c.in_ok-table.ensures.loaded c.in_ok-table.ensures.heads (c.read_root.ensures.served (search rules)) (c.load.ensures.stops (search rules)) (c.load-2.ensures.stops (search rules)) _ refl refl refl
+    let heads = heads_on counts (pages_by (g.S.StableStore.view c.load.new.store) (λ n. false)) in
+    let may = heads_loadable server counts (g.S.StableStore.view c.args.store.now) before (g.S.StableStore.view c.clean_pages.new.store) (front_cleaned _ _ _ _ c.front-front.ensures c.clean_pages.result c.clean_pages.ensures.cleaned (search rules))
+    c.read_root.result (g.S.StableStore.view c.read_root.new.store) c.read_root.ensures.read c.read_root.ensures.root c.in_ok-root.root c.in_ok-root.was (g.S.StableStore.view c.load.new.store) c.load.ensures.read in
+    opened server counts (g.S.StableStore.view c.args.store.now) before (g.S.StableStore.view c.clean_pages.new.store) (front_cleaned _ _ _ _ c.front-front.ensures c.clean_pages.result c.clean_pages.ensures.cleaned (search rules))
+    c.read_root.result (g.S.StableStore.view c.read_root.new.store) c.read_root.ensures.read c.read_root.ensures.root c.in_ok-root.root c.in_ok-root.was (g.S.StableStore.view c.load.new.store) c.load.ensures.read (g.S.StableStore.view c.load-2.new.store) (c.load-2.ensures.read heads may)
+    c.in_ok-sets.sets (search rules) (search rules) c.in_ok-table.table c.in_ok-table.ensures.loaded (c.in_ok-table.ensures.heads heads may) c.in_ok-table.ensures.holds
+    (c.read_root.ensures.served (search rules)) (c.load.ensures.stops (search rules)) (c.load-2.ensures.stops (search rules)) _ refl refl refl

@@ -1,5 +1,5 @@
-use Rattle.jn_files.proofs.Common.{◌≡◌, ℕ, sym, subst, false, List, Option, None, Some, FileNo, IsNumberAbove, number_at, Head, NextFile, is_number_above}
-use Rattle.jn_files.proofs.Finding.{next_found, next_none}
+use Rattle.jn_files.proofs.Common.{◌≡◌, ℕ, sym, subst, false, List, Option, None, Some, FileNo, number_at, is_number_above, IsNumberAbove, Head, NextFile}
+use Rattle.jn_files.proofs.Indexed.{next_found, next_none}
 use Rattle.jn_files.proofs.heads.Heads.next.Goals as goal
 
 pub returns-in_err-number_above : goal.returns-in_err-number_above

@@ -1,5 +1,5 @@
 use Rattle.jn_files.proofs.Common.{ap, ◌∙◌, List, Head, exists}
-use Rattle.jn_files.proofs.Finding.{there_by}
+use Rattle.jn_files.proofs.Indexed.{there_by}
 use Rattle.jn_files.proofs.heads.Heads.slot_of.Goals as goal
 
 pub returns-clause-there : goal.returns-clause-there

@@ -1,5 +1,5 @@
 use Rattle.jn_files.proofs.Common.{◌≡◌, ◌<◌, Bool, true, false, subst, sym, refl, true≢false, arith, rules, ◌∙◌, is_ok, StorePut, TableView, IsTable}
-use Rattle.jn_files.proofs.Setting.{set_below}
+use Rattle.jn_files.proofs.Between.{set_below}
 use Rattle.jn_files.proofs.Leaves.{fills}
 use Rattle.jn_files.proofs.table.FileTable.fill.Goals as goal
 

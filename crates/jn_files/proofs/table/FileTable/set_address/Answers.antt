@@ -1,44 +1,50 @@
-use Rattle.jn_files.proofs.Common.{◌≡◌, ◌+◌, inl, true, suc, sym, subst, ap, ◌∙◌, is_ok, slice_set, take, written, Head, Used, TableView, IsTable, head_in, is_of, addresses_of, with_leaf, IsPlaceOf, MayStand, ChangesBlocks}
-use Rattle.jn_files.proofs.Lookup.{of_used, maps_of}
-use Rattle.jn_files.proofs.Setting.{leaf_changes_blocks, leaf_stands, leaf_leaves, leaf_changes, sets_head}
+use Rattle.jn_files.proofs.Common.{◌≡◌, ◌<◌, ◌-◌, ◌%◌, ℕ, suc, true, arith, sym, ap, ◌∙◌, subst, is_ok, slice_set, head_blocks, Head, head_map, TableView, IsTable, is_of, head_in, row_at, range_of, PutsMap, block_written}
+use Rattle.jn_files.proofs.Calling.{may_set, may_set_map, no_map_there}
 use Rattle.jn_files.proofs.table.FileTable.set_address.Goals as goal
 
-pub put_head-requires-clause-may : goal.put_head-requires-clause-may
-put_head-requires-clause-may g c =
-    let t = c.args.self.now in
-    let v = g.S.StableStore.view c.args.store.now in
+pub put_leaf-requires-clause-may : goal.put_leaf-requires-clause-may
+put_leaf-requires-clause-may g c =
     let is = subst (λ (x : TableView). IsTable x) c.self.view_is c.self.invariant.table in
-    let slot = c.in-Some.slot in
     let own : is_of c.args.f (head_in c.args.self.now.heads c.in-Some.slot) ≡ true = ap (λ (x : TableView). is_of c.args.f (head_in x.heads c.in-Some.slot)) (sym c.self.view_is) ∙ c.in-Some.ensures.found.1 in
-    let place : IsPlaceOf c.args.self.now c.args.f c.in-Some.slot = inl own in
-    let xs = addresses_of (head_in c.args.self.now.heads c.in-Some.slot) in
-    let maps = maps_of (head_in c.args.self.now.heads c.in-Some.slot) in
-    let was = of_used c.args.f (head_in c.args.self.now.heads c.in-Some.slot) own in
-    let read = c.slot.ensures ∙ ap (λ (x : TableView). head_in x.heads c.in-Some.slot) c.self.view_is in
-    subst (λ (h : Head). MayStand t slot h) (sym (c.with_leaf-head.ensures ∙ ap (with_leaf c.args.p.0 c.args.a) (read ∙ was))) (leaf_stands t is c.args.f slot place xs maps was v c.args.p.0 c.args.a c.requires.range c.requires.leaf)
+    let below = subst (λ (x : TableView). c.in-Some.slot < x.counts.heads) c.self.view_is c.in-Some.ensures.found.0 in
+    may_set c.args.self.now is c.args.f c.in-Some.slot c.args.p.0 c.args.a below own c.requires.leaf.held c.requires.leaf.elsewhere
 
-pub put_head-requires-clause-blocks : goal.put_head-requires-clause-blocks
-put_head-requires-clause-blocks g c =
-    let own : is_of c.args.f (head_in c.args.self.now.heads c.in-Some.slot) ≡ true = ap (λ (x : TableView). is_of c.args.f (head_in x.heads c.in-Some.slot)) (sym c.self.view_is) ∙ c.in-Some.ensures.found.1 in
-    let xs = addresses_of (head_in c.args.self.now.heads c.in-Some.slot) in
-    let maps = maps_of (head_in c.args.self.now.heads c.in-Some.slot) in
-    let was = of_used c.args.f (head_in c.args.self.now.heads c.in-Some.slot) own in
-    let read = c.slot.ensures ∙ ap (λ (x : TableView). head_in x.heads c.in-Some.slot) c.self.view_is in
-    subst (λ (h : Head). ChangesBlocks (head_in c.args.self.now.heads c.in-Some.slot) h c.args.p.0 (c.args.p.0 + 1)) (sym (c.with_leaf-head.ensures ∙ ap (with_leaf c.args.p.0 c.args.a) (read ∙ was)))
-    (leaf_changes_blocks (head_in c.args.self.now.heads c.in-Some.slot) c.args.f xs maps c.args.p.0 c.args.a c.requires.range was)
-
-pub returns : goal.returns
-returns g c =
-    let t = c.args.self.now in
-    let v = g.S.StableStore.view c.args.store.now in
+pub overflow_sub-m : goal.overflow_sub-m
+overflow_sub-m g c =
     let is = subst (λ (x : TableView). IsTable x) c.self.view_is c.self.invariant.table in
-    let slot = c.in-Some.slot in
     let own : is_of c.args.f (head_in c.args.self.now.heads c.in-Some.slot) ≡ true = ap (λ (x : TableView). is_of c.args.f (head_in x.heads c.in-Some.slot)) (sym c.self.view_is) ∙ c.in-Some.ensures.found.1 in
-    let place : IsPlaceOf c.args.self.now c.args.f c.in-Some.slot = inl own in
-    let xs = addresses_of (head_in c.args.self.now.heads c.in-Some.slot) in
-    let maps = maps_of (head_in c.args.self.now.heads c.in-Some.slot) in
-    let was = of_used c.args.f (head_in c.args.self.now.heads c.in-Some.slot) own in
-    let read = c.slot.ensures ∙ ap (λ (x : TableView). head_in x.heads c.in-Some.slot) c.self.view_is in
-    sets_head t v is c.args.f slot place (with_leaf c.args.p.0 c.args.a) (λ leaves. written c.args.f c.args.p (take 448 (leaves c.args.a))) (is_ok c.put_head.result) c.put_head.new.self (g.S.StableStore.view c.put_head.new.store) c.with_leaf-head.result (Used c.args.f (slice_set xs c.args.p.0 (suc c.args.a)) maps)
-    (c.with_leaf-head.ensures ∙ ap (with_leaf c.args.p.0 c.args.a) (read ∙ was)) (ap (with_leaf c.args.p.0 c.args.a) was) (c.put_head.ensures (λ leaves. written c.args.f c.args.p (take 448 (leaves c.args.a))))
-    (leaf_changes t is c.args.f slot place xs maps was c.args.p c.args.a c.requires.range) (leaf_leaves t is c.args.f slot place xs maps was v c.args.p.0 c.args.a c.requires.range c.requires.leaf)
+    let read : c.map.result ≡ head_map (head_in c.args.self.now.heads c.in-Some.slot) (range_of c.args.p.0) = c.map.ensures ∙ ap (λ (h : Head). head_map h (range_of c.args.p.0)) (c.slot.ensures ∙ ap (λ (x : TableView). head_in x.heads c.in-Some.slot) c.self.view_is) in
+    let bring = c.requires.map c.if-p.false (no_map_there c.args.self.now is c.args.f c.in-Some.slot (range_of c.args.p.0) own (sym read ∙ c.in-0.is)) in
+    let e = bring.is in
+    omega (arith, e)
+
+pub bring_map-requires-clause-may : goal.bring_map-requires-clause-may
+bring_map-requires-clause-may g c =
+    let is = subst (λ (x : TableView). IsTable x) c.self.view_is c.self.invariant.table in
+    let own : is_of c.args.f (head_in c.args.self.now.heads c.in-Some.slot) ≡ true = ap (λ (x : TableView). is_of c.args.f (head_in x.heads c.in-Some.slot)) (sym c.self.view_is) ∙ c.in-Some.ensures.found.1 in
+    let below = subst (λ (x : TableView). c.in-Some.slot < x.counts.heads) c.self.view_is c.in-Some.ensures.found.0 in
+    let read : c.map.result ≡ head_map (head_in c.args.self.now.heads c.in-Some.slot) (range_of c.args.p.0) = c.map.ensures ∙ ap (λ (h : Head). head_map h (range_of c.args.p.0)) (c.slot.ensures ∙ ap (λ (x : TableView). head_in x.heads c.in-Some.slot) c.self.view_is) in
+    may_set_map c.args.self.now is (g.S.StableStore.view c.args.store.now) c.args.f c.in-Some.slot c.args.p.0 c.args.a c.args.m below own c.if-p.false c.requires.range (sym read ∙ c.in-0.is) c.requires.leaf
+    (c.requires.map c.if-p.false (no_map_there c.args.self.now is c.args.f c.in-Some.slot (range_of c.args.p.0) own (sym read ∙ c.in-0.is)))
+
+pub put_entry-requires-clause-may : goal.put_entry-requires-clause-may
+put_entry-requires-clause-may g c =
+    let is = subst (λ (x : TableView). IsTable x) c.self.view_is c.self.invariant.table in
+    let own : is_of c.args.f (head_in c.args.self.now.heads c.in-Some.slot) ≡ true = ap (λ (x : TableView). is_of c.args.f (head_in x.heads c.in-Some.slot)) (sym c.self.view_is) ∙ c.in-Some.ensures.found.1 in
+    let below = subst (λ (x : TableView). c.in-Some.slot < x.counts.heads) c.self.view_is c.in-Some.ensures.found.0 in
+    may_set c.args.self.now is c.args.f c.in-Some.slot c.args.p.0 c.args.a below own c.requires.leaf.held c.requires.leaf.elsewhere
+
+pub returns-in_default-map : goal.returns-in_default-map
+returns-in_default-map g c =
+    let own : is_of c.args.f (head_in c.args.self.now.heads c.in-Some.slot) ≡ true = ap (λ (x : TableView). is_of c.args.f (head_in x.heads c.in-Some.slot)) (sym c.self.view_is) ∙ c.in-Some.ensures.found.1 in
+    let below = subst (λ (x : TableView). c.in-Some.slot < x.counts.heads) c.self.view_is c.in-Some.ensures.found.0 in
+    let read : c.map.result ≡ head_map (head_in c.args.self.now.heads c.in-Some.slot) (range_of c.args.p.0) = c.map.ensures ∙ ap (λ (h : Head). head_map h (range_of c.args.p.0)) (c.slot.ensures ∙ ap (λ (x : TableView). head_in x.heads c.in-Some.slot) c.self.view_is) in
+    record {
+      slot = c.in-Some.slot;
+      below = below;
+      own = own;
+      in_head = λ lt. absurd (let ge = c.if-p.false in omega (arith, lt, ge));
+      in_map = λ ge d e. subst (λ (k : ℕ). PutsMap c.args.self.now (g.S.StableStore.view c.args.store.now) c.in-Some.slot k (slice_set (row_at c.args.self.now.maps k) (c.args.p.0 % head_blocks) (suc c.args.a)) (block_written c.args.f c.args.p c.args.a) (is_ok c.put_entry.result) c.put_entry.new.self (g.S.StableStore.view c.put_entry.new.store))
+          (let same : c.map.result - 1 ≡ d = omega (arith, read, e) in same) (c.put_entry.ensures c.args.f own c.requires.leaf);
+      with_new = λ ge none d m. absurd (let some : 0 < c.map.result = omega arith in omega (arith, some, read, none));
+    }

@@ -1,7 +1,7 @@
-use Rattle.jn_place.proofs.Common.{ap, DeviceState, Arms, StoreView, counts_by, KeepsRubbish}
+use Rattle.jn_place.proofs.Common.{ap, DeviceState, Arms, StoreView, counts_by, KeepsBeside}
 use Rattle.jn_place.proofs.Befalling.{befell-up, befell-down}
 use Rattle.jn_place.proofs.Devices.{told-still, befallen-down}
-use Rattle.jn_place.proofs.Rubbish.{befell-keeps, down-so}
+use Rattle.jn_place.proofs.Beside.{befell-keeps, down-so}
 use Rattle.jn_place.proofs.place.Place.arm.Goals as goal
 
 pub returns-in-Down-clause-place : goal.returns-in-Down-clause-place
@@ -24,12 +24,12 @@ returns-in-Down-clause-befell g c =
     let device : g.row.S.Denot → DeviceState = λ s. g.S.Powered.device s in
     befell-down look device (counts_by c.args.self.now.counts) (λ d e. Arms d c.args.n c.args.kind c.arm.result e) c.args.self.now.slot c.in-Down.store c.arm.new.self c.in-Down.is c.arm.ensures.pages c.arm.ensures.arms
 
-pub returns-in-Up-clause-rubbish : goal.returns-in-Up-clause-rubbish
-returns-in-Up-clause-rubbish g c =
+pub returns-in-Up-clause-beside : goal.returns-in-Up-clause-beside
+returns-in-Up-clause-beside g c =
     let look : g.row.S.Denot → StoreView = λ s. g.S.StableStore.view s in
     befell-keeps look c.args.self.now.slot c.in-Up.server c.arm-armed.new.self c.in-Up.is c.arm-armed.ensures.befalls
 
-pub returns-in-Down-clause-rubbish : goal.returns-in-Down-clause-rubbish
-returns-in-Down-clause-rubbish g c =
+pub returns-in-Down-clause-beside : goal.returns-in-Down-clause-beside
+returns-in-Down-clause-beside g c =
     let look : g.row.S.Denot → StoreView = λ s. g.S.StableStore.view s in
-    down-so look KeepsRubbish c.args.self.now.slot c.arm.new.self
+    down-so look KeepsBeside c.args.self.now.slot c.arm.new.self

@@ -1,6 +1,6 @@
 use Rattle.jn_place.proofs.Common.{StoreView}
 use Rattle.jn_place.proofs.Calling.{scrubs-done, scrubs-stopped}
-use Rattle.jn_place.proofs.Rubbish.{keeps-so, scrubs-clean, scrubs-image}
+use Rattle.jn_place.proofs.Beside.{keeps-so, scrubs-clean, scrubs-image}
 use Rattle.jn_place.proofs.place.Place.clean.Goals as goal
 
 pub returns-in-Ok-clause-scrubs : goal.returns-in-Ok-clause-scrubs
@@ -15,8 +15,8 @@ returns-in-Err-clause-scrubs g c =
     let h = c.in-Err.ensures in
     scrubs-stopped look c.args.self.now.slot c.in-Up.server c.scrub.new.self c.in-Up.is h.scrubbed
 
-pub returns-in-Ok-clause-rubbish : goal.returns-in-Ok-clause-rubbish
-returns-in-Ok-clause-rubbish g c =
+pub returns-in-Ok-clause-beside : goal.returns-in-Ok-clause-beside
+returns-in-Ok-clause-beside g c =
     let look : g.row.S.Denot → StoreView = λ s. g.S.StableStore.view s in
     let h = c.in-Ok.ensures in
     keeps-so look c.args.self.now.slot c.in-Up.server c.scrub.new.self c.in-Up.is h.scrubbed.same

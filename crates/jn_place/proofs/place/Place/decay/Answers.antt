@@ -1,7 +1,7 @@
-use Rattle.jn_place.proofs.Common.{DeviceState, Decays, StoreView, counts_by, KeepsRubbish}
+use Rattle.jn_place.proofs.Common.{DeviceState, Decays, StoreView, counts_by, KeepsBeside}
 use Rattle.jn_place.proofs.Befalling.{befell-up, befell-down}
 use Rattle.jn_place.proofs.Devices.{told-still, befallen-down}
-use Rattle.jn_place.proofs.Rubbish.{befell-keeps, down-so}
+use Rattle.jn_place.proofs.Beside.{befell-keeps, down-so}
 use Rattle.jn_place.proofs.place.Place.decay.Goals as goal
 
 pub returns-in-Down-clause-place : goal.returns-in-Down-clause-place
@@ -24,12 +24,12 @@ returns-in-Down-clause-befell g c =
     let device : g.row.S.Denot → DeviceState = λ s. g.S.Powered.device s in
     befell-down look device (counts_by c.args.self.now.counts) (λ d e. Decays d c.args.p c.decay.result e) c.args.self.now.slot c.in-Down.store c.decay.new.self c.in-Down.is c.decay.ensures.pages c.decay.ensures.decays
 
-pub returns-in-Up-clause-rubbish : goal.returns-in-Up-clause-rubbish
-returns-in-Up-clause-rubbish g c =
+pub returns-in-Up-clause-beside : goal.returns-in-Up-clause-beside
+returns-in-Up-clause-beside g c =
     let look : g.row.S.Denot → StoreView = λ s. g.S.StableStore.view s in
     befell-keeps look c.args.self.now.slot c.in-Up.server c.decay-allowed.new.self c.in-Up.is c.decay-allowed.ensures.befalls
 
-pub returns-in-Down-clause-rubbish : goal.returns-in-Down-clause-rubbish
-returns-in-Down-clause-rubbish g c =
+pub returns-in-Down-clause-beside : goal.returns-in-Down-clause-beside
+returns-in-Down-clause-beside g c =
     let look : g.row.S.Denot → StoreView = λ s. g.S.StableStore.view s in
-    down-so look KeepsRubbish c.args.self.now.slot c.decay.new.self
+    down-so look KeepsBeside c.args.self.now.slot c.decay.new.self

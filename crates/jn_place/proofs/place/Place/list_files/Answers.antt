@@ -1,6 +1,6 @@
 use Rattle.jn_place.proofs.Common.{StoreView}
 use Rattle.jn_place.proofs.Calling.{shows-done, shows-stopped}
-use Rattle.jn_place.proofs.Rubbish.{keeps-so}
+use Rattle.jn_place.proofs.Beside.{keeps-so}
 use Rattle.jn_place.proofs.place.Place.list_files.Goals as goal
 
 pub returns-in-Ok-clause-shows : goal.returns-in-Ok-clause-shows
@@ -15,8 +15,8 @@ returns-in-Err-Stopped-clause-shows g c =
     let h = rw c.in-Err-Stopped.field-0-is at c.in-Err-Stopped.ensures in
     shows-stopped look c.args.self.now.slot c.in-Up.server c.show.new.self c.in-Up.is h.cut_short
 
-pub returns-in-Ok-clause-rubbish : goal.returns-in-Ok-clause-rubbish
-returns-in-Ok-clause-rubbish g c =
+pub returns-in-Ok-clause-beside : goal.returns-in-Ok-clause-beside
+returns-in-Ok-clause-beside g c =
     let look : g.row.S.Denot → StoreView = λ s. g.S.StableStore.view s in
     let h = c.in-Ok.ensures in
     keeps-so look c.args.self.now.slot c.in-Up.server c.show.new.self c.in-Up.is h.shown.accounts

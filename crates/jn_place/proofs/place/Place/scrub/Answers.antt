@@ -1,6 +1,6 @@
-use Rattle.jn_place.proofs.Common.{◌∙◌, sym, subst, Bool, true, ◌≡◌, ◌++◌, is_some, OnOk, DeviceState, counts_by, StoreView, Called, lines_at, texts_of_step, ScrubbedBy, StaysCalm, WhereUp, KeepsRubbish, LeavesImage, told_at, Follows, LeavesOwnImage, IsPlace, LeavesClean}
+use Rattle.jn_place.proofs.Common.{◌∙◌, sym, subst, Bool, true, ◌≡◌, ◌++◌, is_some, OnOk, DeviceState, counts_by, StoreView, Called, lines_at, texts_of_step, ScrubbedBy, StaysCalm, WhereUp, KeepsBeside, LeavesImage, told_at, Follows, LeavesOwnImage, IsPlace, LeavesClean}
 use Rattle.jn_place.proofs.Ending.{on-ok, on-both, done-calm}
-use Rattle.jn_place.proofs.Rubbish.{left-up, keeps-lasts, clean-lasts, image-lasts, its-image}
+use Rattle.jn_place.proofs.Beside.{left-up, keeps-lasts, clean-lasts, image-lasts, its-image}
 use Rattle.jn_place.proofs.Steps.{quiet-left}
 use Rattle.jn_place.proofs.Taking.{scrubbed-by, scrubbed-calm}
 use Rattle.jn_place.proofs.place.Place.scrub.Goals as goal
@@ -27,7 +27,7 @@ returns g c =
       calm = on-both (Follows look device q.slot done r.slot) (new ≡ old ++ lines_at c.args.when (texts_of_step c.args.server (told_at device q.slot) done))
           (StaysCalm look p.slot true r.slot) c.after_step.result
           (λ h e. done-calm look p.slot done r.slot (scrubbed-calm look device g.met.S.Powered.seen c.args.server (counts_by p.counts) 1000000 c.args.when old new p.slot q.slot r.slot done c.requires.place.stands call.scrubs h)) follows lines;
-      rubbish = on-ok (Follows look device q.slot done r.slot) (WhereUp look KeepsRubbish p.slot r.slot) c.after_step.result (λ h. left-up look device KeepsRubbish (keeps-lasts look device) p.slot q.slot r.slot done call.rubbish h) follows;
+      beside = on-ok (Follows look device q.slot done r.slot) (WhereUp look KeepsBeside p.slot r.slot) c.after_step.result (λ h. left-up look device KeepsBeside (keeps-lasts look device) p.slot q.slot r.slot done call.beside h) follows;
       cleaned = on-ok (Follows look device q.slot done r.slot) (WhereUp look LeavesClean p.slot r.slot) c.after_step.result
           (λ h. left-up look device LeavesClean (clean-lasts look device g.met.S.Powered.seen) p.slot q.slot r.slot done call.cleaned h) follows;
       image = on-ok (Follows look device q.slot done r.slot) (WhereUp look (LeavesImage c.args.server (counts_by p.counts)) p.slot r.slot) c.after_step.result

@@ -1,6 +1,6 @@
 use Rattle.std.specs.Global.{Vec}
-use Rattle.jn_place.proofs.Common.{◌∙◌, refl, sym, subst, Bool, Option, Some, None, ◌≡◌, ◌++◌, is_some, DeviceState, counts_by, Shown, StoreView, Called, lines_at, texts_of_step, items_of, StaysCalm, KeepsRubbish, told_at, Follows, IsPlace}
-use Rattle.jn_place.proofs.Rubbish.{left-up, keeps-lasts}
+use Rattle.jn_place.proofs.Common.{◌∙◌, refl, sym, subst, Bool, Option, Some, None, ◌≡◌, ◌++◌, is_some, DeviceState, counts_by, Shown, StoreView, Called, lines_at, texts_of_step, items_of, StaysCalm, KeepsBeside, told_at, Follows, IsPlace}
+use Rattle.jn_place.proofs.Beside.{left-up, keeps-lasts}
 use Rattle.jn_place.proofs.Steps.{quiet-left}
 use Rattle.jn_place.proofs.Taking.{showed-by, showed-calm}
 use Rattle.jn_place.proofs.place.Place.show.Goals as goal
@@ -30,6 +30,6 @@ returns g c =
       showed = showed-by look device g.met.S.Powered.seen c.args.server (counts_by p.counts) 1000000 c.args.when old new p.slot q.slot r.slot (items_of list) c.requires.place.stands call.shows follows lines;
       calm = subst (λ (b : Bool). StaysCalm look p.slot b r.slot) (sym (items-some list))
           (showed-calm look device g.met.S.Powered.seen c.args.server (counts_by p.counts) 1000000 c.args.when old new p.slot q.slot r.slot (items_of list) c.requires.place.stands call.shows follows);
-      rubbish = left-up look device KeepsRubbish (keeps-lasts look device) p.slot q.slot r.slot (is_some list) call.rubbish (subst (λ (b : Bool). Follows look device q.slot b r.slot) c.is_some.ensures then-so.follows);
+      beside = left-up look device KeepsBeside (keeps-lasts look device) p.slot q.slot r.slot (is_some list) call.beside (subst (λ (b : Bool). Follows look device q.slot b r.slot) c.is_some.ensures then-so.follows);
       counts = then-so.counts ∙ call.counts;
     }

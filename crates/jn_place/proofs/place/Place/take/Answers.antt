@@ -1,5 +1,5 @@
 use Rattle.jn_place.proofs.Common.{◌∙◌, subst, ℕ, Bool, ◌≡◌, ◌++◌, is_some, DeviceState, counts_by, StoreView, lines_at, texts_of_step, TakeLeaves, told_at, Follows, IsPlace}
-use Rattle.jn_place.proofs.Rubbish.{left-up, take-lasts}
+use Rattle.jn_place.proofs.Beside.{left-up, take-lasts}
 use Rattle.jn_place.proofs.Steps.{taken-left, follows-as}
 use Rattle.jn_place.proofs.Taking.{took, took-calm}
 use Rattle.jn_place.proofs.place.Place.take.Goals as goal
@@ -23,7 +23,7 @@ returns g c =
           (follows-as look c.args.server (is_some answer) c.is_some.result q (λ (m : ℕ). IsPlace look c.args.server m r) c.is_some.ensures then-so.place);
       took = took look device g.met.S.Powered.seen c.args.server (counts_by p.counts) 1000000 c.args.when old new c.args.message.now p.slot q.slot r.slot answer c.requires.place.stands call.handled follows lines;
       calm = took-calm look device g.met.S.Powered.seen c.args.server (counts_by p.counts) 1000000 c.args.when old new c.args.message.now p.slot q.slot r.slot answer c.requires.place.stands call.handled follows;
-      rubbish = left-up look device (TakeLeaves c.args.message.now) (take-lasts look device c.args.message.now) p.slot q.slot r.slot (is_some answer) call.rubbish follows;
+      beside = left-up look device (TakeLeaves c.args.message.now) (take-lasts look device c.args.message.now) p.slot q.slot r.slot (is_some answer) call.beside follows;
       counts = then-so.counts ∙ call.counts;
       room = call.room;
     }

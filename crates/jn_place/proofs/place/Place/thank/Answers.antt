@@ -1,6 +1,6 @@
-use Rattle.jn_place.proofs.Common.{subst, sym, true, false, view_with, StoreView, Slot, Up, Called, KeepsRubbish}
+use Rattle.jn_place.proofs.Common.{subst, sym, true, false, view_with, StoreView, Slot, Up, Called, KeepsBeside}
 use Rattle.jn_place.proofs.Calling.{closes-done, closes-stopped}
-use Rattle.jn_place.proofs.Rubbish.{up-so}
+use Rattle.jn_place.proofs.Beside.{up-so}
 use Rattle.jn_place.proofs.Served.{nothing, closed-called, closed-stopped}
 use Rattle.jn_place.proofs.place.Place.thank.Goals as goal
 
@@ -30,8 +30,8 @@ returns-in-Err-Stopped-clause-closes g c =
     let h = rw c.in-Err-Stopped.field-0-is at c.in-Err-Stopped.ensures in
     closes-stopped look c.args.self.now.slot c.in-Up.server c.close_clients.new.self c.in-Up.is (h.does nothing)
 
-pub returns-in-Ok-clause-rubbish : goal.returns-in-Ok-clause-rubbish
-returns-in-Ok-clause-rubbish g c =
+pub returns-in-Ok-clause-beside : goal.returns-in-Ok-clause-beside
+returns-in-Ok-clause-beside g c =
     let look : g.row.S.Denot → StoreView = λ s. g.S.StableStore.view s in
     let h = c.in-Ok.ensures in
-    up-so look KeepsRubbish c.args.self.now.slot c.in-Up.server c.close_clients.new.self c.in-Up.is h.rubbish
+    up-so look KeepsBeside c.args.self.now.slot c.in-Up.server c.close_clients.new.self c.in-Up.is h.beside

@@ -1,6 +1,6 @@
 use Rattle.jn_place.proofs.Common.{StoreView}
 use Rattle.jn_place.proofs.Calling.{works-done, works-stopped, worked-done, worked-stopped}
-use Rattle.jn_place.proofs.Rubbish.{works-leave}
+use Rattle.jn_place.proofs.Beside.{works-leave}
 use Rattle.jn_place.proofs.place.Place.work.Goals as goal
 
 pub returns-in-Ok-clause-answered : goal.returns-in-Ok-clause-answered
@@ -27,8 +27,8 @@ returns-in-Err-Stopped-clause-worked g c =
     let h = rw c.in-Err-Stopped.field-0-is at c.in-Err-Stopped.ensures in
     works-stopped look c.args.self.now.slot c.in-Up.server c.step.new.self c.args.out c.step.new.out c.in-Up.is c.requires.work h.steps
 
-pub returns-in-Ok-clause-rubbish : goal.returns-in-Ok-clause-rubbish
-returns-in-Ok-clause-rubbish g c =
+pub returns-in-Ok-clause-beside : goal.returns-in-Ok-clause-beside
+returns-in-Ok-clause-beside g c =
     let look : g.row.S.Denot → StoreView = λ s. g.S.StableStore.view s in
     let h = c.in-Ok.ensures in
     works-leave look c.args.self.now.slot c.in-Up.server c.step.new.self c.args.out c.step.new.out c.in-Ok._done c.in-Up.is h.steps

@@ -1,4 +1,4 @@
-use Rattle.jn_server.proofs.Common.{◌≡◌, [], ap, refl, subst, sym, StoreView, view_of, Accounts, table_of, close_clients_row, of_coordinator, close-aside, IsDone, Does, Parts, view_with, memory_of, IsServer, row_calls}
+use Rattle.jn_server.proofs.Common.{beside_of, ◌≡◌, [], ap, refl, subst, sym, StoreView, view_of, Accounts, table_of, close_clients_row, of_coordinator, close-aside, IsDone, Does, Parts, view_with, memory_of, IsServer, row_calls}
 use Rattle.jn_server.proofs.Coordinating.{coordinated, closing_failed}
 use Rattle.jn_server.proofs.server.Server.close_clients.Goals as goal
 
@@ -27,9 +27,16 @@ returns-in_err-close_clients-clause-does g c =
     (view_of c.close_clients.new.store.1 (look c.close_clients.new.store.0)) before v.tickets (Unit {0}) c.in_err-close_clients.field-0.0 c.from_residual.result c.from_residual.ensures.0 c.from_residual.ensures.1
     h.stopped refl (h.does v.tickets before))
 
-pub returns-clause-rubbish : goal.returns-clause-rubbish
-returns-clause-rubbish g c =
+pub returns-clause-beside : goal.returns-clause-beside
+returns-clause-beside g c =
     let look : g.row.S.Denot → StoreView = λ s. g.S.StableStore.view s in
     let done = c.in_ok-close_clients.ensures.does c.self.inside.tickets (record { messages = []; notes = [] }) in
-    subst (λ (s : Parts g.row.S.Denot). (view_of c.close_clients.new.store.1 (look c.close_clients.new.store.0)).accounts.rubbish ≡ (view_with look s).storage.accounts.rubbish) c.self.view_is
-    (ap (λ (a : Accounts). a.rubbish) done.accounts)
+    subst (λ (s : Parts g.row.S.Denot). beside_of (view_of c.close_clients.new.store.1 (look c.close_clients.new.store.0)).accounts ≡ beside_of (view_with look s).storage.accounts) c.self.view_is
+    (ap beside_of done.accounts)
+
+pub close_clients-requires : goal.close_clients-requires
+close_clients-requires g c =
+    let look : g.row.S.Denot → _ = λ s. g.S.StableStore.view s in
+    let inside : Parts g.row.S.Denot = record { storage = c.self.inside.storage; worker = c.self.inside.worker; coordinator = c.self.inside.coordinator; tickets = c.self.inside.tickets } in
+    let serves : IsServer (view_with look inside) = subst (λ (s : Parts g.row.S.Denot). IsServer (view_with look s)) (sym c.self.view_is) c.requires.serves in
+    record { fits = serves.transactions }

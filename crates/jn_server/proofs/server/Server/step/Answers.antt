@@ -29,3 +29,10 @@ returns-in_err-step g c =
           (step-failed v serves c.args.out.now c.step.new.self (view_of c.step.new.store.1 (look c.step.new.store.0)) c.step.new.out c.in_err-step.field-0.0 c.from_residual.result c.from_residual.ensures.0 c.from_residual.ensures.1 (h.steps v.tickets));
       room = c.reads_pages.ensures;
     }
+
+pub step-requires : goal.step-requires
+step-requires g c =
+    let look : g.row.S.Denot → StoreView = λ s. g.S.StableStore.view s in
+    let inside : Parts g.row.S.Denot = record { storage = c.self.inside.storage; worker = c.self.inside.worker; coordinator = c.self.inside.coordinator; tickets = c.self.inside.tickets } in
+    let serves : IsServer (view_with look inside) = subst (λ (s : Parts g.row.S.Denot). IsServer (view_with look s)) (sym c.self.view_is) c.requires.serves in
+    record { fits = serves.works }

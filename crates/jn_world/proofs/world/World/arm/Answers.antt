@@ -79,7 +79,7 @@ returns-then-not-arm-clause-does g c =
     meets-done look device c.args.when (events.Arm server c.args.n c.args.kind) c.refuse-then-not-arm.result (standing_of w) u first c.refuse-then-not-arm.new.lines.items refl may
     (armed-does look device g.met.S.Powered.seen (standing_of w) server p q i c.from.ensures c.arm.ensures.counts c.args.when c.refuse-then-not-arm.result u
     first c.refuse-then-not-arm.new.lines.items at (has-counts look server (length w.net.sent) p q c.arm.ensures.counts (c.arm.ensures.place server (length w.net.sent) place))
-    c.args.n c.args.kind c.arm.result c.arm.ensures.befell c.arm.ensures.rubbish (subst (λ (b : Bool). EndsStep c.refuse-then-not-arm.result u u first (first ++ lines_at c.args.when (told_unless b (says.RefusedEvent refusals.TooManyArmed))) c.refuse-then-not-arm.new.lines.items) (sym c.if-not-arm.true) (ends-refused c.refuse-then-not-arm.result u first (first ++ lines_at c.args.when (told_unless false (says.RefusedEvent refusals.TooManyArmed))) c.refuse-then-not-arm.new.lines.items c.refuse-then-not-arm.ensures.told c.refuse-then-not-arm.ensures.memory (let has = c.requires.world in has.limit))))
+    c.args.n c.args.kind c.arm.result c.arm.ensures.befell c.arm.ensures.beside (subst (λ (b : Bool). EndsStep c.refuse-then-not-arm.result u u first (first ++ lines_at c.args.when (told_unless b (says.RefusedEvent refusals.TooManyArmed))) c.refuse-then-not-arm.new.lines.items) (sym c.if-not-arm.true) (ends-refused c.refuse-then-not-arm.result u first (first ++ lines_at c.args.when (told_unless false (says.RefusedEvent refusals.TooManyArmed))) c.refuse-then-not-arm.new.lines.items c.refuse-then-not-arm.ensures.told c.refuse-then-not-arm.ensures.memory (let has = c.requires.world in has.limit))))
 
 pub returns-clause-world : goal.returns-clause-world
 returns-clause-world g c =
@@ -112,4 +112,4 @@ returns-clause-does g c =
     meets-done look device c.args.when (events.Arm server c.args.n c.args.kind) {A = ℕ} (Ok 0) (standing_of w) u first first refl may
     (armed-does look device g.met.S.Powered.seen (standing_of w) server p q i c.from.ensures c.arm.ensures.counts {A = ℕ} c.args.when (Ok 0) u
     first first at (has-counts look server (length w.net.sent) p q c.arm.ensures.counts (c.arm.ensures.place server (length w.net.sent) place))
-    c.args.n c.args.kind c.arm.result c.arm.ensures.befell c.arm.ensures.rubbish (refl, sym (append-nil first) ∙ ap (λ (b : Bool). first ++ lines_at c.args.when (told_unless b (says.RefusedEvent refusals.TooManyArmed))) (sym c.if-not-arm.false), (let has = c.requires.world in has.limit)))
+    c.args.n c.args.kind c.arm.result c.arm.ensures.befell c.arm.ensures.beside (refl, sym (append-nil first) ∙ ap (λ (b : Bool). first ++ lines_at c.args.when (told_unless b (says.RefusedEvent refusals.TooManyArmed))) (sym c.if-not-arm.false), (let has = c.requires.world in has.limit)))

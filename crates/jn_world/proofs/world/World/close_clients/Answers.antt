@@ -45,7 +45,7 @@ returns-clause-does g c =
     let closed = step.closed in
     closed-does look device g.met.S.Powered.seen c.args.when {A = ℕ} 0 (standing_of w) server i p q closed.0 c.args.lines.now.items c.close_clients.new.told.items c.from.ensures
     (place-got w.places.items server i p c.from.ensures within c.index_mut.ensures.value) c.close_clients.ensures.counts
-    (has-counts look server (length w.net.sent) p q c.close_clients.ensures.counts (step.left (length w.net.sent) place)) step.rubbish closed.1
+    (has-counts look server (length w.net.sent) p q c.close_clients.ensures.counts (step.left (length w.net.sent) place)) step.beside closed.1
     (stays-up look w.places.items server.0 p q true (place-got w.places.items server i p c.from.ensures within c.index_mut.ensures.value) step.calm c.requires.calm) c.requires.idle c.requires.world.limit
 
 pub returns-clause-calm : goal.returns-clause-calm

@@ -73,7 +73,7 @@ returns-in_ok-tell-clause-does g c =
     meets-done look device c.args.when (events.Decay server c.args.p) {A = ℕ} (Ok 0) (standing_of w) u first c.tell.new.lines.items refl may
     (decayed-does look device g.met.S.Powered.seen (standing_of w) server p q i c.from.ensures c.decay.ensures.counts {A = ℕ} c.args.when (Ok 0) u
     first c.tell.new.lines.items at (has-counts look server (length w.net.sent) p q c.decay.ensures.counts (c.decay.ensures.place server (length w.net.sent) place))
-    c.args.p c.decay.result c.decay.ensures.befell c.decay.ensures.rubbish (refl, c.in_ok-tell.ensures ∙ ap (λ (b : Bool). first ++ lines_at c.args.when (told_unless b (says.Outside server (record { kind = faults.Decay c.args.p; page = c.args.p })))) (sym c.if-not-decay.true), (let has = c.requires.world in has.limit)))
+    c.args.p c.decay.result c.decay.ensures.befell c.decay.ensures.beside (refl, c.in_ok-tell.ensures ∙ ap (λ (b : Bool). first ++ lines_at c.args.when (told_unless b (says.Outside server (record { kind = faults.Decay c.args.p; page = c.args.p })))) (sym c.if-not-decay.true), (let has = c.requires.world in has.limit)))
 
 pub returns-else-not-decay-clause-world : goal.returns-else-not-decay-clause-world
 returns-else-not-decay-clause-world g c =
@@ -108,4 +108,4 @@ returns-else-not-decay-clause-does g c =
     meets-done look device c.args.when (events.Decay server c.args.p) {A = ℕ} (Ok 0) (standing_of w) u first first refl may
     (decayed-does look device g.met.S.Powered.seen (standing_of w) server p q i c.from.ensures c.decay.ensures.counts {A = ℕ} c.args.when (Ok 0) u
     first first at (has-counts look server (length w.net.sent) p q c.decay.ensures.counts (c.decay.ensures.place server (length w.net.sent) place))
-    c.args.p c.decay.result c.decay.ensures.befell c.decay.ensures.rubbish (refl, sym (append-nil first) ∙ ap (λ (b : Bool). first ++ lines_at c.args.when (told_unless b (says.Outside server (record { kind = faults.Decay c.args.p; page = c.args.p })))) (sym c.if-not-decay.false), (let has = c.requires.world in has.limit)))
+    c.args.p c.decay.result c.decay.ensures.befell c.decay.ensures.beside (refl, sym (append-nil first) ∙ ap (λ (b : Bool). first ++ lines_at c.args.when (told_unless b (says.Outside server (record { kind = faults.Decay c.args.p; page = c.args.p })))) (sym c.if-not-decay.false), (let has = c.requires.world in has.limit)))

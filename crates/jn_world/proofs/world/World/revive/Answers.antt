@@ -71,4 +71,4 @@ returns-clause-does g c =
     meets-done look device c.args.when (events.Revive server c.args.p) {A = ℕ} (Ok 0) (standing_of w) u first first refl may
     (revived-does look device g.met.S.Powered.seen (standing_of w) server p q i c.from.ensures c.revive.ensures.counts {A = ℕ} c.args.when (Ok 0) u
     first first at (has-counts look server (length w.net.sent) p q c.revive.ensures.counts (c.revive.ensures.place server (length w.net.sent) place))
-    c.args.p c.revive.ensures.befell c.revive.ensures.rubbish (refl, refl, (let has = c.requires.world in has.limit)))
+    c.args.p c.revive.ensures.befell c.revive.ensures.beside (refl, refl, (let has = c.requires.world in has.limit)))

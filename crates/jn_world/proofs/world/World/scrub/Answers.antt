@@ -44,7 +44,7 @@ returns-clause-does g c =
     let step = c.in_ok-scrub.ensures in
     let limit = c.requires.world.limit in
     scrubbed-does look device g.met.S.Powered.seen (standing_of w) server p q i c.from.ensures c.scrub.ensures.counts {A = ℕ} c.args.when (Ok 0) (standing_of (record w { places = with_item w.places i q })) c.args.lines.now.items c.scrub.new.told.items
-    (place-is w server i p c.from.ensures c.requires.up c.index_mut.ensures.value) (has-counts look server (length w.net.sent) p q c.scrub.ensures.counts (step.left (length w.net.sent) place)) (step.scrubbed.0) c.scrub.new.told.items step.scrubbed.1 step.rubbish step.cleaned (refl, refl, limit)
+    (place-is w server i p c.from.ensures c.requires.up c.index_mut.ensures.value) (has-counts look server (length w.net.sent) p q c.scrub.ensures.counts (step.left (length w.net.sent) place)) (step.scrubbed.0) c.scrub.new.told.items step.scrubbed.1 step.beside step.cleaned (refl, refl, limit)
 
 pub returns-clause-calm : goal.returns-clause-calm
 returns-clause-calm g c =
@@ -64,7 +64,7 @@ returns-clause-clean g c =
     let i = c.from.result in
     let p = c.index_mut.result.now in
     let step = c.in_ok-scrub.ensures in
-    clean-put look w.places.items server.0 i p c.scrub.new.self c.from.ensures (place-is w server i p c.from.ensures c.requires.up c.index_mut.ensures.value) step.rubbish
+    clean-put look w.places.items server.0 i p c.scrub.new.self c.from.ensures (place-is w server i p c.from.ensures c.requires.up c.index_mut.ensures.value) step.beside
 
 pub returns-clause-images : goal.returns-clause-images
 returns-clause-images g c =

@@ -57,7 +57,7 @@ returns-clause-does g c =
     worked-now look device seen (standing_of w) server p q i c.from.ensures c.step.ensures.counts c.args.when c.end_step.result (standing_of c.end_step.new.self) c.args.lines.now.items c.end_step.new.lines.items
     (place-is w server i p c.from.ensures c.requires.up c.index_mut-place.ensures.value)
     (left-counts look server (length w.net.sent) p q c.in_ok-answer.answer c.step.ensures.counts (step.left (length w.net.sent) place))
-    c.in_ok-answer.answer c.new-told.result.items c.step.new.told.items c.new-told.ensures.items (reads-here look device seen server (length w.net.sent) p place c.step.ensures.room) step.worked step.rubbish c.end_step.ensures.ends
+    c.in_ok-answer.answer c.new-told.result.items c.step.new.told.items c.new-told.ensures.items (reads-here look device seen server (length w.net.sent) p place c.step.ensures.room) step.worked step.beside c.end_step.ensures.ends
 
 pub returns-clause-calm : goal.returns-clause-calm
 returns-clause-calm g c =

@@ -65,7 +65,7 @@ returns-clause-does g c =
     (place-is w server i p c.from.ensures c.requires.up c.index_mut-place.ensures.value)
     (left-counts look server (length w.net.sent) p q c.in_ok-answer.answer c.take.ensures.counts (step.left (length w.net.sent) place))
     c.args.k one c.in_ok-answer.answer c.new-told.result.items c.take.new.told.items c.delivered.new.self c.new-told.ensures.items (sym c.in-Some.ensures) (sent-for w.net.sent c.args.k one (Server server) (sym c.in-Some.ensures) c.requires.to)
-    (reads-here look device seen server (length w.net.sent) p place c.take.ensures.room) step.took step.rubbish c.delivered.ensures c.end_step.ensures.ends
+    (reads-here look device seen server (length w.net.sent) p place c.take.ensures.room) step.took step.beside c.delivered.ensures c.end_step.ensures.ends
 
 pub returns-clause-calm : goal.returns-clause-calm
 returns-clause-calm g c =

@@ -1,0 +1,8 @@
+use Rattle.jn_files.proofs.Common.{refl, ap, FreeNumbers}
+use Rattle.jn_files.proofs.Standing.{kept_flags}
+use Rattle.jn_files.proofs.table.FileTable.release_heads.Goals as goal
+
+pub invariant_of-self : goal.invariant_of-self
+invariant_of-self c =
+    let t = c.self.inside in
+    kept_flags t.pool t.heads t.maps t.held.items t.touched.items t.named.items t.free_heads t.free_leaves c.release.new.self t.free_leaves (ap (λ (v : FreeNumbers). v.flags) c.release.ensures) refl c.self.invariant
