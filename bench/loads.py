@@ -1,0 +1,117 @@
+"""Schedules that bench/whole-file runs, as lists of lines."""
+
+BLOCKS, INTENTIONS = 2520, 24
+
+
+def transaction(commands):
+    """Returns a transaction of the first client, each command of which is followed by a settle."""
+    return [line for it in ("begin 0", "open 0", *commands, "end") for line in (f"c1 {it}", "settle")]
+
+
+def transactions(commands, most=INTENTIONS):
+    """Returns transactions of so many commands each, the last with those that are left."""
+    return [line for at in range(0, len(commands), most) for line in transaction(commands[at : at + most])]
+
+
+def file_of(blocks, size, file=7, times=1):
+    """Returns what makes a file of so many blocks, each of so many bytes, all of which are written so many times."""
+    puts = [f"write 0 {file} {it} {f'{1 + it % 255:02x}' * size}" for it in range(blocks)]
+    return transactions([f"create 0 {file}", *puts * times])
+
+
+def drawing(seed):
+    """Returns what draws a number below the one that it is given, and what draws up to so many bytes that aren't zero, as hex."""
+
+    def draw(bound):
+        nonlocal seed
+        seed = (seed * 6364136223846793005 + 1442695040888963407) % 2**64
+        return (seed >> 33) % bound
+
+    return draw, lambda most: bytes(1 + draw(255) for _ in range(1 + draw(most))).hex()
+
+
+def one_client(events):
+    """Returns so many events of the load of bench/one-client."""
+    out = []
+    for k in range(events // 16 + 1):
+        file = k % 8
+        commands = [f"create 0 {file}" if k < 8 else f"read 0 {file} {k * 5 % 8}"]
+        for i in range(4):
+            data = bytes(1 + (k * 31 + i * 17 + b * 13) % 255 for b in range(1 + (k * 7 + i * 11) % 24))
+            commands.append(f"write 0 {file} {(k + i * 3) % 8} {data.hex()}")
+        out += transaction(commands)
+    return out[:events]
+
+
+def commands_of(draw, draw_hex):
+    """Returns the commands of a transaction at one to three servers, with three to eight operations on three files of eight blocks."""
+    servers = [draw(3)]
+    servers += [it for it in range(3) if it not in servers and draw(3) == 0]
+    out = [f"begin {draw(3)}", *(f"open {it}" for it in servers)]
+    for _ in range(3 + draw(6)):
+        place = f"{servers[draw(len(servers))]} {draw(3)}"
+        block, kind = draw(8), draw(20)
+        if kind < 2:
+            out.append(f"create {place}")
+        elif kind < 10:
+            out.append(f"read {place} {block}")
+        elif kind < 18:
+            out.append(f"write {place} {block} {draw_hex(16)}")
+        else:
+            out.append(f"cut {place} {block}" if kind < 19 else f"remove {place}")
+    return [*out, "end"]
+
+
+def three_servers(events):
+    """Returns so many events of eight clients at three servers, with faults, stops, crashes and restarts.
+
+    In each round every client gives its next command, and all settle. In each fourth one, clients that begin a transaction abort the one before.
+    """
+    draw, draw_hex = drawing(99)
+    waiting, out, rounds = {client: [] for client in range(1, 9)}, [], 0
+    while len(out) < events:
+        rounds += 1
+        for client, commands in waiting.items():
+            if not commands:
+                commands += commands_of(draw, draw_hex)
+                if rounds % 4 == 0:
+                    out.append(f"c{client} abort")
+            out.append(f"c{client} {commands.pop(0)}")
+        out.append("settle")
+        if draw(50) == 0:
+            server, kind = draw(3), draw(6)
+            stop = f"arm {server} {1 + draw(60)} {('stop-before', 'stop-torn', 'stop-after')[draw(3)]}"
+            fault = f"arm {server} {1 + draw(60)} {('soft', 'null', 'bad')[draw(3)]}"
+            out.append([stop, fault, f"decay {server} {draw(354)}", f"crash {server}", f"scrub {server}", f"show {server}"][kind])
+        if rounds % 20 == 0:
+            out += [f"restart {it}" for it in range(3)]
+    return out[:events]
+
+
+def whole_file(rounds):
+    """Returns rounds over a file of all its blocks. In each the file is written, shown, read back by a restart and shown again. Then it is cut in 23 steps,
+    with a show behind each eighth, and the server starts again.
+    """
+    _, draw_hex = drawing(BLOCKS)
+    out = []
+
+    def put(first, last):
+        return [f"write 0 7 {it} {draw_hex(24)}" for it in range(first, last)]
+
+    out += transaction(["create 0 7", *put(0, INTENTIONS - 1)])
+    for _ in range(rounds):
+        out += transactions(put(0, BLOCKS))
+        out += ["show 0", "crash 0", "restart 0", "show 0"]
+        for step, length in enumerate(range(BLOCKS - 105, 0, -105), 1):
+            out += transaction([f"cut 0 7 {length}"])
+            out += ["show 0"] * (step % 8 == 0)
+        out += ["crash 0", "restart 0"]
+    return out
+
+
+def many_files(files):
+    """Returns what makes so many files of one block at a server, writes eight blocks of each fifth, and starts the server again."""
+    out = transactions([it for file in range(files) for it in (f"create 0 {file}", f"write 0 {file} 0 {file:04x}")])
+    for file in range(0, files, 5):
+        out += transaction([f"write 0 {file} {it} {it + 1:02x}" for it in range(8)])
+    return [*out, "show 0", "crash 0", "restart 0", "scrub 0", "show 0"]
