@@ -1,8 +1,8 @@
 //! One commit across two servers. Server 1 decides on it and puts its flag; server 0 has its work, which creates a file.
 
 mod failing;
-mod stop;
-mod trying;
+pub(crate) mod stop;
+pub(crate) mod trying;
 
 use failing::{Honest, Part};
 use std::alloc::Global;

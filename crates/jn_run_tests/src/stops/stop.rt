@@ -32,6 +32,15 @@ pub(crate) enum Outcome {
 const CALLS: u32 = 24;
 
 impl Way {
+    /// The way of this number, of three at each call.
+    pub(crate) fn of(number: u32) -> Way {
+        match number % 3 {
+            0 => Way::Before,
+            1 => Way::Torn,
+            _ => Way::After,
+        }
+    }
+
     /// Its word in a schedule.
     pub(crate) fn word(self) -> &'static str {
         match self {
@@ -46,11 +55,7 @@ impl Stop {
     /// The stop of this number, of 96: three at each call.
     pub(crate) fn of(number: u32) -> Stop {
         let call = number / 3;
-        let way = match number % 3 {
-            0 => Way::Before,
-            1 => Way::Torn,
-            _ => Way::After,
-        };
+        let way = Way::of(number);
         if call < CALLS {
             Stop {
                 server: 0,

@@ -4,7 +4,7 @@ use crate::stops::stop::{Outcome, Stop, Way};
 use crate::{
     Call, Definition, Failing, Servers, ending_of, first_broken, lines_of, parsed, text_of,
 };
-use jn_base::Cause;
+use jn_base::{Cause, ClientNo};
 use jn_intent::PageCounts;
 use jn_report::{Line, Text, When, is_stopped};
 use jn_run::Status;
@@ -49,6 +49,35 @@ pub(crate) enum Restarts {
     Missed(u32, Way),
 }
 
+impl Restarts {
+    /// The events by which a server comes up again.
+    pub(crate) fn push(
+        self,
+        text: &mut String,
+        alloc: Global,
+        server: u8,
+    ) -> Result<(), AllocError> {
+        if let Restarts::Stopped(call, way) | Restarts::Missed(call, way) = self {
+            push_arm(text, alloc, Stop { server, call, way })?;
+            push_at(text, alloc, "restart", server)?;
+        }
+        if let Restarts::Missed(..) = self {
+            text.push_str("settle\n")?;
+        }
+        push_at(text, alloc, "restart", server)
+    }
+
+    /// Whether so many stops are as many as they should be.
+    pub(crate) fn has(self, stops: Stops) -> bool {
+        match self {
+            Restarts::None => stops.elsewhere == 0 && stops.in_restarts == 0,
+            Restarts::One => stops.elsewhere == 1 && stops.in_restarts == 0,
+            Restarts::Stopped(..) => stops.elsewhere == 1 && stops.in_restarts == 1,
+            Restarts::Missed(..) => stops.elsewhere >= 1 && stops.in_restarts == 0,
+        }
+    }
+}
+
 /// A run of the commit.
 #[derive(Clone, Copy)]
 pub(crate) struct Trial {
@@ -77,7 +106,7 @@ pub(crate) struct Tally {
 }
 
 /// A fault waits for a server's device call.
-fn push_arm(text: &mut String, alloc: Global, stop: Stop) -> Result<(), AllocError> {
+pub(crate) fn push_arm(text: &mut String, alloc: Global, stop: Stop) -> Result<(), AllocError> {
     let Stop { server, call, way } = stop;
     let word = way.word();
     let line = format!(in alloc; "arm {server} {call} {word}\n")?;
@@ -112,31 +141,9 @@ impl Trial {
         if self.is_revived {
             push_revivals(&mut text, alloc, server)?;
         }
-        self.push_restarts(&mut text, alloc)?;
+        self.restarts.push(&mut text, alloc, server)?;
         text.push_str("settle\n")?;
         Ok(text)
-    }
-
-    fn push_restarts(&self, text: &mut String, alloc: Global) -> Result<(), AllocError> {
-        let server = self.stop.server;
-        if let Restarts::Stopped(call, way) | Restarts::Missed(call, way) = self.restarts {
-            push_arm(text, alloc, Stop { server, call, way })?;
-            push_at(text, alloc, "restart", server)?;
-        }
-        if let Restarts::Missed(..) = self.restarts {
-            text.push_str("settle\n")?;
-        }
-        push_at(text, alloc, "restart", server)
-    }
-
-    /// Whether so many stops are as many as they should be.
-    fn has_stops(&self, stops: Stops) -> bool {
-        match self.restarts {
-            Restarts::None => stops.elsewhere == 0 && stops.in_restarts == 0,
-            Restarts::One => stops.elsewhere == 1 && stops.in_restarts == 0,
-            Restarts::Stopped(..) => stops.elsewhere == 1 && stops.in_restarts == 1,
-            Restarts::Missed(..) => stops.elsewhere >= 1 && stops.in_restarts == 0,
-        }
     }
 
     /// What is wrong with the lines of its schedule.
@@ -149,10 +156,10 @@ impl Trial {
         if let Some(broken) = first_broken(alloc, events, lines)? {
             return Ok(Some(Wrong::Broken(broken)));
         }
-        if told(lines) != Some(self.stop.outcome(self.is_revived)) {
+        if told(lines, ClientNo(1)) != Some(self.stop.outcome(self.is_revived)) {
             return Ok(Some(Wrong::Outcome));
         }
-        if !self.has_stops(stops_in(events, lines)) {
+        if !self.restarts.has(stops_in(events, lines)) {
             return Ok(Some(Wrong::Stops));
         }
         Ok(None)
@@ -167,14 +174,19 @@ impl Trial {
         if wrong.is_some() || !is_called {
             return Ok(wrong);
         }
-        wrong_in_call(alloc, &schedule, &lines)
+        wrong_in_call(alloc, WORDS, &schedule, &lines)
     }
 }
 
 /// What is wrong with what the top call writes, where these are the lines.
-fn wrong_in_call(alloc: Global, schedule: &str, lines: &[Line]) -> Result<Option<Wrong>, Fail> {
+pub(crate) fn wrong_in_call(
+    alloc: Global,
+    words: &[&str],
+    schedule: &str,
+    lines: &[Line],
+) -> Result<Option<Wrong>, Fail> {
     let asked = Call {
-        words: WORDS,
+        words,
         schedule: schedule.as_bytes(),
         failing: Failing::Nothing,
     };
@@ -185,21 +197,23 @@ fn wrong_in_call(alloc: Global, schedule: &str, lines: &[Line]) -> Result<Option
     Ok(None)
 }
 
-/// What a line reports to the client of the transaction's end, where it does.
-fn told_by(text: &Text) -> Option<Outcome> {
+/// What a line reports to a client of its transaction's end, where it does.
+fn told_by(text: &Text, client: ClientNo) -> Option<Outcome> {
     match text {
-        Text::Committed(..) => Some(Outcome::Committed),
-        Text::Aborted(_, _, _, Cause::Lost(server)) => Some(Outcome::Lost(server.0)),
-        Text::Aborted(..) => Some(Outcome::Other),
+        Text::Committed(to, ..) if *to == client => Some(Outcome::Committed),
+        Text::Aborted(to, _, _, Cause::Lost(server)) if *to == client => {
+            Some(Outcome::Lost(server.0))
+        }
+        Text::Aborted(to, ..) if *to == client => Some(Outcome::Other),
         _ => None,
     }
 }
 
-/// What the client is told at last, where it is told once.
-fn told(lines: &[Line]) -> Option<Outcome> {
+/// What a client is told at last, where it is told once.
+pub(crate) fn told(lines: &[Line], client: ClientNo) -> Option<Outcome> {
     let mut told = None;
     for line in lines {
-        if let Some(outcome) = told_by(&line.text) {
+        if let Some(outcome) = told_by(&line.text, client) {
             if told.is_some() {
                 return Some(Outcome::Other);
             }
@@ -211,7 +225,7 @@ fn told(lines: &[Line]) -> Option<Outcome> {
 
 /// How often a server was stopped.
 #[derive(Clone, Copy)]
-struct Stops {
+pub(crate) struct Stops {
     in_restarts: u32,
     elsewhere: u32,
 }
@@ -227,7 +241,7 @@ fn is_at_restart(events: &[Event], when: When) -> bool {
     }
 }
 
-fn stops_in(events: &[Event], lines: &[Line]) -> Stops {
+pub(crate) fn stops_in(events: &[Event], lines: &[Line]) -> Stops {
     let mut stops = Stops {
         in_restarts: 0,
         elsewhere: 0,
@@ -277,19 +291,36 @@ impl Tally {
         }
     }
 
-    /// Makes a run, each tenth by the top call too.
-    pub(crate) fn add(&mut self, alloc: Global, trial: &Trial) -> Result<(), Fail> {
-        if self.wrong.is_some() {
-            return Ok(());
-        }
-        if let Some(wrong) = trial.wrong(alloc, self.right % 10 == 0)? {
-            self.wrong = Some(wrong);
-            return Ok(());
+    /// Whether the next run is made by the top call too: each tenth is.
+    pub(crate) fn is_called(&self) -> bool {
+        self.right % 10 == 0
+    }
+
+    /// Whether one was wrong.
+    pub(crate) fn is_over(&self) -> bool {
+        self.wrong.is_some()
+    }
+
+    /// Counts a run.
+    pub(crate) fn count(&mut self, wrong: Option<Wrong>, is_lost: bool) {
+        if wrong.is_some() {
+            self.wrong = wrong;
+            return;
         }
         self.right = self.right.saturating_add(1);
-        if trial.stop.outcome(trial.is_revived) != Outcome::Committed {
+        if is_lost {
             self.lost = self.lost.saturating_add(1);
         }
+    }
+
+    /// Makes a run.
+    pub(crate) fn add(&mut self, alloc: Global, trial: &Trial) -> Result<(), Fail> {
+        if self.is_over() {
+            return Ok(());
+        }
+        let wrong = trial.wrong(alloc, self.is_called())?;
+        let outcome = trial.stop.outcome(trial.is_revived);
+        self.count(wrong, outcome != Outcome::Committed);
         Ok(())
     }
 }
