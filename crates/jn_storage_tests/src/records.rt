@@ -4,7 +4,9 @@ use jn_base::{
     BlockNo, ClientNo, FileNo, HEAD_BLOCKS, LockUnit, MOST_MAPS, Page, PageWriter, RequestNo,
     ServerNo, Tid, WorkId,
 };
-use jn_records::{Head, Record, Root, StoredIntention, What, WorkHead};
+use jn_records::{
+    Head, Record, Root, StoredIntention, What, WorkHead, map_entries, map_page, used_page,
+};
 use std::alloc::{AllocError, Global};
 use std::test::Fail;
 
@@ -16,6 +18,11 @@ const INTENTION: [u8; 29] = [
 /// The same of block 2519, the last of a file, which stands in data page 511, and its map page in data page 256.
 const FAR: [u8; 31] = [
     1, 1, 0, 0, 0, 2, 0, 0, 0, 3, 0, 0, 0, 0, 5, 0, 0, 0, 6, 7, 4, 0, 0, 0, 9, 9, 215, 2, 0, 1, 1,
+];
+
+/// The same work makes or empties file 9.
+const FRESH: [u8; 25] = [
+    1, 1, 0, 0, 0, 2, 0, 0, 0, 3, 0, 0, 0, 0, 5, 0, 0, 0, 6, 7, 1, 0, 0, 0, 9,
 ];
 
 /// That work is ready for client 8, with 3 intentions, and has read file 9 and its block 4.
@@ -205,6 +212,31 @@ fn only_a_put_past_the_blocks_of_a_head_names_a_map_page(rt: HostRuntime) -> Res
     Ok(())
 }
 
+/// An intention that puts no block, of this kind and with these bytes in the address of a map page.
+fn page_without_a_block(kind: u8, high: u8, low: u8) -> Page {
+    let page = changed(&page_of(&FRESH), 20, kind);
+    changed(&changed(&page, 29, high), 30, low)
+}
+
+#[test]
+fn what_puts_no_block_names_no_map_page(rt: HostRuntime) -> Result<(), Fail> {
+    for (kind, high, low, same) in [
+        (1, 0, 0, true),
+        (1, 0, 1, false),
+        (1, 1, 0, false),
+        (2, 0, 0, true),
+        (2, 0, 1, false),
+        (2, 1, 0, false),
+        (3, 0, 0, true),
+        (3, 0, 1, false),
+        (3, 1, 0, false),
+    ] {
+        let decoded = Record::decode(rt.alloc(), &page_without_a_block(kind, high, low))?;
+        assert_eq!(rt; decoded.is_some(), same);
+    }
+    Ok(())
+}
+
 #[test]
 fn a_changed_ready_work_is_another_or_none(rt: HostRuntime) -> Result<(), Fail> {
     let page = page_of(&READY);
@@ -327,5 +359,86 @@ fn a_changed_head_is_another_or_none(rt: HostRuntime) -> Result<(), Fail> {
         let decoded = Head::decode(rt.alloc(), &changed(&page, at, byte), 3)?;
         assert_eq!(rt; decoded.is_some(), same);
     }
+    Ok(())
+}
+
+/// The head of file 7, whose first and last block have the addresses 0x0102 and 0x0304, and whose first and last map page 1 and 0x0203.
+fn far_head() -> Page {
+    let mut page = page_of(&[1, 0, 0, 0, 7, 1, 2]);
+    for (at, byte) in [(243, 3), (244, 4), (246, 1), (283, 2), (284, 3)] {
+        page = changed(&page, at, byte);
+    }
+    page
+}
+
+/// The map page whose first and last block have the addresses 0x0102 and 0x0304.
+fn far_map() -> Page {
+    let mut page = page_of(&[1, 2]);
+    for (at, byte) in [(238, 3), (239, 4)] {
+        page = changed(&page, at, byte);
+    }
+    page
+}
+
+/// These addresses of blocks.
+fn far_blocks() -> [u16; HEAD_BLOCKS] {
+    let mut blocks = [0; HEAD_BLOCKS];
+    blocks[0] = 0x0102;
+    blocks[HEAD_BLOCKS - 1] = 0x0304;
+    blocks
+}
+
+/// These addresses of map pages.
+fn far_maps() -> [u16; MOST_MAPS] {
+    let mut maps = [0; MOST_MAPS];
+    maps[0] = 1;
+    maps[MOST_MAPS - 1] = 0x0203;
+    maps
+}
+
+fn is_the_far_head(head: &Head) -> bool {
+    match head {
+        Head::Used {
+            file,
+            addresses,
+            maps,
+        } => {
+            *file == FileNo(7)
+                && addresses.as_slice() == far_blocks().as_slice()
+                && maps.as_slice() == far_maps().as_slice()
+        }
+        Head::Free => false,
+    }
+}
+
+#[test]
+fn addresses_of_map_pages_stand_behind_those_of_blocks(rt: HostRuntime) -> Result<(), Fail> {
+    let blocks = far_blocks();
+    let maps = far_maps();
+    let page = far_head();
+    assert!(rt; used_page(FileNo(7), &blocks, &maps) == page);
+    let head = Head::decode(rt.alloc(), &page, 0x0304)?.ok_or("no head")?;
+    assert!(rt; is_the_far_head(&head));
+    let past = Head::decode(rt.alloc(), &page, 0x0303)?;
+    assert!(rt; past.is_none());
+    Ok(())
+}
+
+/// Whether a page is read as the map page with these addresses, and nothing where it is none.
+fn is_read_as_the_far_map(page: &Page, leaves: u16) -> Option<bool> {
+    match map_entries(page, leaves) {
+        Some(entries) => Some(entries.as_slice() == far_blocks().as_slice()),
+        None => None,
+    }
+}
+
+#[test]
+fn addresses_of_a_map_page_are_read_as_they_are_written(rt: HostRuntime) -> Result<(), Fail> {
+    let blocks = far_blocks();
+    let page = far_map();
+    assert!(rt; map_page(&blocks) == page);
+    assert!(rt; is_read_as_the_far_map(&page, 0x0304) == Some(true));
+    assert!(rt; is_read_as_the_far_map(&page, 0x0303) == None);
+    assert!(rt; is_read_as_the_far_map(&changed(&page, 240, 1), 0x0304) == None);
     Ok(())
 }
