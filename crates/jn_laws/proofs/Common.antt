@@ -4,16 +4,16 @@ pub use Rattle.std.specs.Prelude.{if◌then◌else◌, slice_get, ◌||◌, nat_
 pub use Rattle.jn_base.specs.declared.names.ServerNo.{ServerNo}
 pub use Rattle.jn_base.specs.declared.names.Party.{Party}
 pub use Rattle.jn_base.specs.declared.names.Party.TheVariants.{Client, Server}
-pub use Rattle.jn_base.specs.Names.{client_eq, server_eq, work_eq, unit_eq, file_eq, block_eq}
-pub use Rattle.jn_base.proofs.Tells.{client_tells, server_tells, work_tells, block_tells}
+pub use Rattle.jn_base.specs.Names.{client_eq, server_eq, work_eq, unit_eq, file_eq, block_eq, tid_eq}
+pub use Rattle.jn_base.proofs.Tells.{client_tells, server_tells, work_tells, block_tells, tid_tells}
 pub use Rattle.jn_msgs.specs.declared.message.Message.{Message}
 pub use Rattle.jn_rows.specs.declared.client.Taken.{Taken}
 pub use Rattle.jn_rows.specs.Client.{ClientTable, take_row, if_waits, begun_row, opened_row, outcome_row, decided_row, is_current}
 pub use Rattle.jn_rows.specs.Outcomes.{RowOutcome, Sent, ignored, quiet}
-pub use Rattle.jn_rows.specs.Stable.{Pick, stable, made_all, Left, StableState, Prepared, Change, AddReady, MarkGoing, CarryOut, RemoveWork, AddFlag, DropFlag, gone_on, ready_work, made_by, left_of}
+pub use Rattle.jn_rows.specs.Stable.{Pick, stable, made_all, Left, StableState, Prepared, Change, AddReady, MarkGoing, CarryOut, RemoveWork, AddFlag, DropFlag, gone_on, ready_work, made_by, left_of, FlagState, at_work, at_tid, whole_only}
 pub use Rattle.jn_system.specs.WholeSystem.World.{World, Memory, new_memory, opening, clients_from, with_epoch}
 pub use Rattle.jn_system.specs.WholeSystem.Servers.{Room, server_row, storage_of, of_worker, of_coordinator, lines_of, server_step, server_again, server_timeout, of_step, of_timeout, is_for_worker, restored}
-pub use Rattle.jn_system.specs.WholeSystem.Steps.{Deliver, handing, after, run, handed, at_memory, ends, took, Step, NextEvent, IsRun, working, Tell, sent_now}
+pub use Rattle.jn_system.specs.WholeSystem.Steps.{Deliver, handing, after, run, handed, at_memory, ends, took, Step, NextEvent, IsRun, working, Tell, sent_now, AreNames, tid_before}
 pub use Rattle.jn_machine.specs.Chances.{Setup, free_found, maps_found, Chance, prints_found}
 pub use Rattle.jn_machine.specs.Deeds.{Use, Nothing, Deed, room, no_room, delivered_at, Calls, delivered, Reads, is_busy, worked, served, nothing, working_steps, stopped_idle, crashed_at, recovering, recovered, given_up, restarted, brought_up, is_used_up}
 pub use Rattle.jn_machine.specs.Devices.{IsUsed, rubbish_on, pages_of, Devices, IsLookedOver}
@@ -60,3 +60,4 @@ pub use Rattle.jn_msgs.specs.Ranges.{CanBeTaken, InRange}
 pub use Rattle.jn_base.specs.Ops.{CommandInRange, BlockInRange}
 pub use Rattle.jn_row_ranges.proofs.Taking.{new-fits, scheduled-in-range, command-fits, take-fits, over-fits, servers-taken}
 pub use Rattle.jn_worker.proofs.UnitRanges.{first-of, second-of, both, some-more, wants-in-range, list-in-range}
+pub use Rattle.jn_locks.specs.Locks.{is_unit, work_before}
