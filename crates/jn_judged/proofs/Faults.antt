@@ -1,5 +1,5 @@
 -- No line is at fault by a rule exactly where none breaks it, but for what a show or the end leaves out.
-use Rattle.jn_judged.proofs.Common.{◌≡◌, ◌⊎◌, inl, inr, ℕ, true, false, if◌then◌else◌, nat_eq, List, length, refl, sym, subst, arith, ◌+◌, ◌<◌, ◌≤◌, AllFiles, Event, When, Line, lines_at, ServerNo, Rule, breaks_outcomes, breaks_causes, breaks_following, breaks_order, breaks_shows, files_when, LeavesOut, Shows, Breaks, BreaksOrder, BreaksShows, BreaksOutcomes, BreaksCauses, BreaksFollowing, IsFault, InLine, LeftOut, lines_up_to, IsLeastFault, Keeps}
+use Rattle.jn_judged.proofs.Common.{nat_lt, ltb-true, ltb-false, ◌≡◌, ◌⊎◌, ◌↔◌, inl, inr, ℕ, zero, suc, cases_Bool, true, false, if◌then◌else◌, nat_eq, List, length, refl, sym, subst, arith, ◌+◌, ◌<◌, ◌≤◌, AllFiles, Event, When, Line, lines_at, ServerNo, Rule, breaks_outcomes, breaks_causes, breaks_following, breaks_order, breaks_shows, files_when, LeavesOut, Shows, Breaks, BreaksOrder, BreaksShows, BreaksOutcomes, BreaksCauses, BreaksFollowing, IsFault, InLine, LeftOut, lines_up_to, IsLeastFault, Keeps, IsFaultless}
 use Rattle.jn_judged.proofs.Sets.{clash, not-so}
 use Rattle.jn_judged.proofs.Splits.{NoneBreaks, none-breaks, split-of}
 
@@ -56,3 +56,37 @@ one-least files events lines line rule other other_rule g h = by (g.least other 
     by (inl a) (inr b) = let e = b.0 in absurd (omega (arith, a, e))
     by (inr a) (inl b) = let e = a.0 in absurd (omega (arith, b, e))
     by (inr a) (inr b) = let x = a.1 in let y = b.1 in (a.0, omega (arith, x, y))
+
+-- where no line is the least at fault
+module _ (files : AllFiles) (events : List Event) (lines : List Line) (none : (line rule : ℕ) → IsLeastFault files events lines line rule → ⊥) where
+  abbrev NoneBefore : ℕ → Type 0
+  NoneBefore line = (other rule : ℕ) → other < line → IsFault files events lines other rule → ⊥
+
+  abbrev NoneLesser : ℕ → ℕ → Type 0
+  NoneLesser line rule = (other : ℕ) → other < rule → IsFault files events lines line other → ⊥
+
+  not-lesser : (line rule : ℕ) → NoneBefore line → NoneLesser line rule → (other other_rule : ℕ) → IsFault files events lines other other_rule → (line < other) ⊎ ((line ≡ other) × (rule ≤ other_rule))
+  not-lesser line rule before lesser other other_rule fault = elim (cases_Bool (nat_lt other line)) [
+    | inl a ↦ absurd (before other other_rule (ltb-true other line a) fault)
+    | inr a ↦ elim (cases_Bool (nat_lt line other)) [
+      | inl b ↦ inl (ltb-true line other b)
+      | inr b ↦ (let x = ltb-false other line a in let y = ltb-false line other b in at-line (omega (arith, x, y)))
+    ]
+  ]
+    where
+      at-line : line ≡ other → (line < other) ⊎ ((line ≡ other) × (rule ≤ other_rule))
+      at-line e = elim (cases_Bool (nat_lt other_rule rule)) [
+        | inl a ↦ absurd (lesser other_rule (ltb-true other_rule rule a) (subst (λ (n : ℕ). IsFault files events lines n other_rule) (sym e) fault))
+        | inr a ↦ inr (e, ltb-false other_rule rule a)
+      ]
+
+  none-at : (line : ℕ) → NoneBefore line → (most rule : ℕ) → rule < most → IsFault files events lines line rule → ⊥
+  none-at line before zero rule few fault = absurd (omega (arith, few))
+  none-at line before (suc most) rule few fault = none line rule (record { fault = fault; least = not-lesser line rule before (λ other less. none-at line before most other (omega (arith, few, less))) })
+
+  none-up-to : (most line rule : ℕ) → line < most → IsFault files events lines line rule → ⊥
+  none-up-to zero line rule few fault = absurd (omega (arith, few))
+  none-up-to (suc most) line rule few fault = none-at line (λ other r less. none-up-to most other r (omega (arith, few, less))) (suc rule) rule (omega arith) fault
+
+pub least-or-none : (files : AllFiles) (events : List Event) (lines : List Line) → IsFaultless files events lines ↔ ((line rule : ℕ) → IsLeastFault files events lines line rule → ⊥)
+least-or-none files events lines = (λ h line rule least. h line rule least.fault, λ none line rule fault. none-up-to files events lines none (suc line) line rule (omega arith) fault)

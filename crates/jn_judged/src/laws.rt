@@ -16,7 +16,8 @@ pub fn answers_agree_line_by_line()
     ensures { (files : AllFiles) (events : List Event) (lines : List Line) → Keeps files events lines 10 ↔ Agrees files events lines }
 {}
 
-/// Rule 11: each show that printed, and the end, show the files after the commits before them, and the last line counts the commits.
+/// Rule 11: each show that printed, and the end, show the files after the commits before them, and the last line, if it is a
+/// `commits` line, counts the commits.
 pub fn files_are_shown_line_by_line()
     ensures { (files : AllFiles) (events : List Event) (lines : List Line) → Keeps files events lines 11 ↔ (Shown files events lines × CountsCommits lines) }
 {}
@@ -36,9 +37,15 @@ pub fn answers_follow_line_by_line()
     ensures { (files : AllFiles) (events : List Event) (lines : List Line) → Keeps files events lines 14 ↔ Follows events lines }
 {}
 
-/// A report has no fault exactly where it keeps all that a report promises, and its last line counts the commits.
+/// A report has no fault exactly where it keeps all that a report promises, and its last line, if it is a `commits` line,
+/// counts the commits.
 pub fn a_report_is_faultless_where_all_is_kept()
     ensures { (files : AllFiles) (events : List Event) (lines : List Line) → IsFaultless files events lines ↔ KeepsAll files events lines }
+{}
+
+/// A report is faultless exactly where it has no least fault. So one that isn't faultless can't lack a least fault.
+pub fn a_faulty_report_has_a_least_fault()
+    ensures { (files : AllFiles) (events : List Event) (lines : List Line) → IsFaultless files events lines ↔ ((line rule : ℕ) → IsLeastFault files events lines line rule → ⊥) }
 {}
 
 /// Two least faults of one report are the same line, by the same rule.

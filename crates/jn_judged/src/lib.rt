@@ -11,7 +11,8 @@ pub use examples::{
     what_is_shown_wrongly_is_at_fault,
 };
 pub use laws::{
-    a_report_has_one_least_fault, a_report_is_faultless_where_all_is_kept,
-    answers_agree_line_by_line, answers_follow_line_by_line, causes_come_line_by_line,
-    files_are_shown_line_by_line, outcomes_are_reported_line_by_line,
+    a_faulty_report_has_a_least_fault, a_report_has_one_least_fault,
+    a_report_is_faultless_where_all_is_kept, answers_agree_line_by_line,
+    answers_follow_line_by_line, causes_come_line_by_line, files_are_shown_line_by_line,
+    outcomes_are_reported_line_by_line,
 };
