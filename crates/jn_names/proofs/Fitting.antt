@@ -23,7 +23,7 @@ use Rattle.jn_names.specs.Buckets.{Slot, belongs, all_belong}
 unfoldable use Rattle.jn_names.specs.Buckets.{bucket_in, bucket_bytes, places_in}
 use Rattle.jn_names.specs.Calls.{directory_of, name_of, or_refused, made_of, made_at, entries_of}
 use Rattle.jn_names.specs.Places.{IsPut, IsMade, are_named}
-use Rattle.jn_names.specs.Turns.{ask_each, first_turn, write_made, add_each, go_on, turn, turn_of, StageFits, TurnFits}
+use Rattle.jn_names.specs.Turns.{ask_each, first_turn, write_made, add_each, go_on, turn, StageFits, TurnFits}
 use Rattle.jn_names.proofs.Checking.{parts}
 use Rattle.jn_names.proofs.Slots.{no-name}
 use Rattle.jn_names.proofs.Tests.{left, right, both}
@@ -114,7 +114,7 @@ go-fits command stages.Bucket block = made-fits command (made_at command (bucket
 go-fits command (stages.Each k es) block = add-fits (directory_of command) k es (bucket_in k block)
 go-fits command stages.Write block = tt
 
-turn-fits : (command : NameCommand) (stage : Stage) (answer : Answer) → TurnFits (turn command stage answer)
+pub turn-fits : (command : NameCommand) (stage : Stage) (answer : Answer) → TurnFits (turn command stage answer)
 turn-fits command stage answers.Did = go-fits command stage zeros
 turn-fits command stage (answers.Read block) = go-fits command stage block
 turn-fits command stage answers.NoFile = tt
@@ -126,14 +126,8 @@ turn-fits command stage (answers.Broken u t) = tt
 turn-fits command stage (answers.Lost then' now) = tt
 turn-fits command stage answers.Closing = tt
 
-first-fits : (command : NameCommand) → TurnFits (first_turn command)
+pub first-fits : (command : NameCommand) → TurnFits (first_turn command)
 first-fits (calls.Bind d name file) = tt
 first-fits (calls.Unbind d name) = tt
 first-fits (calls.Find d name) = tt
 first-fits (calls.Names d) = ask-fits d 0 []
-
-pub turn-of-fits : (command : NameCommand) (waits : Option Stage) (answer : Option Answer) → TurnFits (turn_of command waits answer)
-turn-of-fits command (Some stage) (Some answer) = turn-fits command stage answer
-turn-of-fits command (Some stage) None = first-fits command
-turn-of-fits command None (Some answer) = first-fits command
-turn-of-fits command None None = first-fits command

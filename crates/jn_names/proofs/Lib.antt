@@ -11,3 +11,6 @@ pub mod Fitting
 pub mod Exchanging
 pub mod Directories
 pub mod MapLaws
+pub mod Keeping
+pub mod Ending
+pub mod Unwritten

@@ -1,11 +1,11 @@
 -- A call takes operations one after another: what it asks next, by the answers so far.
-use Rattle.std.specs.Prelude.{◌≡◌, ◌<◌, ⊤, ℕ, ◌+◌, ◌++◌, nat_lt, List, [], ◌∷◌, map, Option, Some, None, Result, Ok, Err, if◌then◌else◌}
+use Rattle.std.specs.Prelude.{◌≡◌, ◌<◌, ⊤, ℕ, ◌+◌, ◌-◌, Bool, true, false, ◌&&◌, ◌++◌, nat_lt, List, [], ◌∷◌, map, Option, Some, None, Result, Ok, Err, if◌then◌else◌}
 use Rattle.jn_base.specs.declared.names.FileNo.{FileNo}
 use Rattle.jn_base.specs.declared.op.Op.{Op}
 use Rattle.jn_base.specs.declared.op.Op.TheVariants.{Read, Write}
 use Rattle.jn_base.specs.declared.op.Answer.{Answer}
 use Rattle.jn_base.specs.declared.op.Answer.TheVariants as answers
-use Rattle.jn_order.specs.Files.{Files, answer_to, files_after, zeros}
+use Rattle.jn_order.specs.Files.{Files, answer_to, is_did, files_after, zeros}
 use Rattle.jn_order.specs.Changes.{files_then}
 use Rattle.jn_names.specs.declared.entry.Entry.{Entry}
 use Rattle.jn_names.specs.declared.next.NameCommand.{NameCommand}
@@ -96,9 +96,17 @@ abbrev pub AreServed : Files → List Served → Type 0
 AreServed files [] = ⊤
 AreServed files (s ∷ more) = (answer_to s.op files ≡ s.answer) × AreServed (files_after s.op files) more
 
+abbrev pub is_write : Op → Bool
+is_write (Write f p bytes) = true
+is_write _ = false
+
 abbrev pub ops_of : List Served → List Op
 ops_of [] = []
 ops_of (s ∷ more) = s.op ∷ ops_of more
+
+-- it changes files, and was done
+abbrev pub has_written : Served → Bool
+has_written s = is_write s.op && is_did s.answer
 
 -- from this turn on the call asks these operations, is answered so, and is over with this reply
 abbrev pub GoesOn : NameCommand → Turn → List Served → NameNext → Type 0
@@ -109,3 +117,38 @@ GoesOn command (Sends op stage) (s ∷ more) reply = (s.op ≡ op) × GoesOn com
 
 abbrev pub IsExchange : NameCommand → List Served → NameNext → Type 0
 IsExchange command served reply = GoesOn command (first_turn command) served reply
+
+-- ---- how many operations a call takes
+
+-- the writes of a call
+abbrev pub writes_of : NameCommand → ℕ
+writes_of (calls.Bind d name file) = 1
+writes_of (calls.Unbind d name) = 1
+writes_of (calls.Find d name) = 0
+writes_of (calls.Names d) = 0
+
+-- how many operations a call may ask behind the one that it has asked
+abbrev pub left_behind : NameCommand → Stage → ℕ
+left_behind command stages.Bucket = writes_of command
+left_behind command (stages.Each k es) = 31 - k
+left_behind command stages.Write = 0
+
+-- and from a turn on
+abbrev pub left_from : NameCommand → Turn → ℕ
+left_from command (Sends op stage) = 1 + left_behind command stage
+left_from command (Over reply) = 0
+
+-- and in all
+abbrev pub most_operations : NameCommand → ℕ
+most_operations (calls.Names d) = 32
+most_operations command = 1 + writes_of command
+
+-- where a call stands by these answers to its operations, whoever gave them
+abbrev pub turn_behind : NameCommand → Turn → List Answer → Turn
+turn_behind command (Over reply) heard = Over reply
+turn_behind command (Sends op stage) [] = Sends op stage
+turn_behind command (Sends op stage) (a ∷ heard) = turn_behind command (turn command stage a) heard
+
+abbrev pub is_over : Turn → Bool
+is_over (Sends op stage) = false
+is_over (Over reply) = true

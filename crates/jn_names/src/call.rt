@@ -1,12 +1,12 @@
 //! A call on a directory.
-ghost use Rattle.std.specs.Prelude.{◌≡◌, true, None, option_map, IfOk, OnErr};
+ghost use Rattle.std.specs.Prelude.{◌≡◌, true, option_map, IfOk, OnErr};
 ghost use Rattle.jn_names.specs.declared.next.NameCommand.TheVariants as commands;
 ghost use Rattle.jn_names.specs.Names.{is_name};
-ghost use Rattle.jn_names.specs.Turns.{begun, turn_of, given};
+ghost use Rattle.jn_names.specs.Turns.{begun, first_turn, turn_of, given};
 
 use crate::name::Name;
 use crate::next::{NameCommand, NameNext};
-use crate::turn::{Stage, given, turn_of};
+use crate::turn::{Stage, first_turn, follow, turn_at};
 use jn_base::{Answer, FileNo};
 use std::alloc::{AllocError, Global};
 use std::marker::Model;
@@ -70,16 +70,28 @@ impl NameCall {
     }
 
     /// What comes next: the first operation where there is no answer, or where none is waited for, and else what the
-    /// answer to the last operation leads to. Where there is no memory, the call is as it was before it began.
+    /// answer to the last operation leads to. Without memory the call is as before, so the same answer may be given again.
     pub fn next(&mut self, alloc: Global, answer: Option<&Answer>) -> Result<NameNext, AllocError>
         ensures ok { IfOk result (λ next. (next, self.new.waits) ≡ given (turn_of self.old.command self.old.waits (option_map (λ a. a.now) answer.entry))) }
         ensures command { self.new.command ≡ self.old.command }
-        ensures err { OnErr result (self.new.waits ≡ None) }
+        ensures err { OnErr result (self.new ≡ self.old) }
     {
-        let waits = self.waits.take();
-        let turn = turn_of(alloc, &self.command, waits, answer)?;
-        let (next, waits) = given(turn);
-        self.waits = waits;
-        Ok(next)
+        let Some(answer) = answer else {
+            return Ok(self.begin(alloc));
+        };
+        let Some(stage) = &mut self.waits else {
+            return Ok(self.begin(alloc));
+        };
+        let turn = turn_at(alloc, &self.command, stage, answer)?;
+        Ok(follow(&mut self.waits, turn))
+    }
+
+    /// The first turn.
+    fn begin(&mut self, alloc: Global) -> NameNext
+        ensures given { (result, self.new.waits) ≡ given (first_turn self.old.command) }
+        ensures command { self.new.command ≡ self.old.command }
+    {
+        let turn = first_turn(alloc, &self.command);
+        follow(&mut self.waits, turn)
     }
 }

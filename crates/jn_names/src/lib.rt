@@ -19,7 +19,9 @@ mod turn;
 pub use call::NameCall;
 pub use entry::{Entries, Entry};
 pub use laws::{
-    a_bucket_is_read_back, a_changed_bucket_is_a_bucket, an_exchange_is_its_call, names_are_a_map,
+    a_bucket_is_read_back, a_call_has_its_end, a_call_that_is_not_done_changes_nothing,
+    a_changed_bucket_is_a_bucket, an_entry_keeps_its_place, an_exchange_is_its_call,
+    names_are_a_map,
 };
 pub use name::{Name, is_name};
 pub use next::{NameNext, NameRefusal};

@@ -1,5 +1,5 @@
 //! What a call asks next, by the answers so far.
-ghost use Rattle.std.specs.Prelude.{◌≡◌, ◌<◌, ◌≤◌, length, option_map, IfOk, Some, None, ℕ, List, if◌then◌else◌};
+ghost use Rattle.std.specs.Prelude.{◌≡◌, ◌<◌, ◌≤◌, length, IfOk, OnErr, Some, None, ℕ, List, if◌then◌else◌};
 ghost use Rattle.jn_names.specs.declared.next.NameNext.TheVariants.{Refused};
 ghost use Rattle.jn_names.specs.declared.next.NameRefusal.TheVariants.{BucketFull, NoName};
 ghost use Rattle.jn_names.specs.declared.turn.Turn.TheVariants.{Over};
@@ -7,7 +7,7 @@ ghost use Rattle.jn_names.specs.Names.{bucket_of};
 ghost use Rattle.jn_names.specs.Buckets.{Slot, bucket_in, bound_in, unbound_in, find_in};
 ghost use Rattle.jn_names.specs.Calls.{directory_of, name_of, found, or_refused, made_of, made_at};
 ghost use Rattle.jn_names.specs.Places.{IsMade};
-ghost use Rattle.jn_names.specs.Turns.{ask_each, first_turn, write_made, add_each, go_on, turn, turn_of, given, StageFits, TurnFits, WaitsFits};
+ghost use Rattle.jn_names.specs.Turns.{ask_each, first_turn, write_made, add_each, go_on, turn, given, StageFits, TurnFits, WaitsFits};
 
 use crate::bucket::{add_entries, bind, find_name, is_bucket, unbind};
 use crate::entry::Entries;
@@ -82,7 +82,7 @@ fn ask_each(directory: FileNo, bucket: u16, entries: Entries) -> Turn
     }
 }
 
-fn first_turn(alloc: Global, command: &NameCommand) -> Turn
+pub fn first_turn(alloc: Global, command: &NameCommand) -> Turn
     ensures { result ≡ first_turn command.now }
 {
     match command {
@@ -171,49 +171,61 @@ fn by_bucket(alloc: Global, command: &NameCommand, block: &Block) -> Result<Turn
     }
 }
 
-/// One of all buckets was read.
+/// One of all buckets was read. Without memory the entries are as they were.
 fn add_each(
+    alloc: Global,
     directory: FileNo,
     bucket: u16,
-    entries: Entries,
+    entries: &mut Entries,
     block: &Block,
 ) -> Result<Turn, AllocError>
     requires { bucket < 32 }
-    ensures { IfOk result (λ t. t ≡ add_each directory bucket entries (bucket_in bucket block.now)) }
+    ensures ok { IfOk result (λ t. t ≡ add_each directory bucket entries.old (bucket_in bucket block.now)) }
+    ensures err { OnErr result (entries.new ≡ entries.old) }
 {
     if !is_bucket(block, bucket) {
         return Ok(refused(NameRefusal::NotDirectory));
     }
-    let mut entries = entries;
-    add_entries(&mut entries, block)?;
-    Ok(ask_each(directory, bucket + 1, entries))
+    let mut others = Entries::new(alloc);
+    add_entries(&mut others, block)?;
+    let all = entries.take_with(alloc, others)?;
+    Ok(ask_each(directory, bucket + 1, all))
 }
 
 #[tactic(auto, unfolding(crate::specs::Names::buckets))]
 fn go_on(
     alloc: Global,
     command: &NameCommand,
-    stage: Stage,
+    stage: &mut Stage,
     block: &Block,
 ) -> Result<Turn, AllocError>
-    requires { StageFits stage }
-    ensures { IfOk result (λ t. t ≡ go_on command.now stage block.now) }
+    requires { StageFits stage.old }
+    ensures ok { IfOk result (λ t. t ≡ go_on command.now stage.old block.now) }
+    ensures err { OnErr result (stage.new ≡ stage.old) }
 {
     match stage {
         Stage::Bucket => by_bucket(alloc, command, block),
-        Stage::Each(bucket, entries) => add_each(directory_of(command), bucket, entries, block),
+        Stage::Each(bucket, entries) => add_each(
+            alloc,
+            directory_of(command),
+            *bucket,
+            entries,
+            block,
+        ),
         Stage::Write => Ok(Turn::Over(NameNext::Did)),
     }
 }
 
-fn next_turn(
+/// What a call does at the answer that it waits for. Without memory it waits for it as before.
+pub fn turn_at(
     alloc: Global,
     command: &NameCommand,
-    stage: Stage,
+    stage: &mut Stage,
     answer: &Answer,
 ) -> Result<Turn, AllocError>
-    requires { StageFits stage }
-    ensures { IfOk result (λ t. t ≡ turn command.now stage answer.now) }
+    requires { StageFits stage.old }
+    ensures ok { IfOk result (λ t. t ≡ turn command.now stage.old answer.now) }
+    ensures err { OnErr result (stage.new ≡ stage.old) }
 {
     match answer {
         Answer::Did => go_on(alloc, command, stage, &[0; 448]),
@@ -222,33 +234,20 @@ fn next_turn(
     }
 }
 
-/// What a call does next by what it waits for, and the answer.
-pub fn turn_of(
-    alloc: Global,
-    command: &NameCommand,
-    waits: Option<Stage>,
-    answer: Option<&Answer>,
-) -> Result<Turn, AllocError>
-    requires { WaitsFits waits }
-    ensures { IfOk result (λ t. t ≡ turn_of command.now waits (option_map (λ a. a.now) answer.entry)) }
-{
-    match waits {
-        None => Ok(first_turn(alloc, command)),
-        Some(stage) => match answer {
-            None => Ok(first_turn(alloc, command)),
-            Some(answer) => next_turn(alloc, command, stage, answer),
-        },
-    }
-}
-
-/// What is given out in a turn, and what the call then waits for.
-pub fn given(turn: Turn) -> (NameNext, Option<Stage>)
+/// Waits as a turn says, and gives out what it gives.
+pub fn follow(waits: &mut Option<Stage>, turn: Turn) -> NameNext
     requires { TurnFits turn }
-    ensures given { result ≡ given turn }
-    ensures fits { WaitsFits result.1 }
+    ensures given { (result, waits.new) ≡ given turn }
+    ensures fits { WaitsFits waits.new }
 {
     match turn {
-        Turn::Sends(op, stage) => (NameNext::Send(op), Some(stage)),
-        Turn::Over(reply) => (reply, None),
+        Turn::Sends(op, stage) => {
+            *waits = Some(stage);
+            NameNext::Send(op)
+        }
+        Turn::Over(reply) => {
+            *waits = None;
+            reply
+        }
     }
 }
