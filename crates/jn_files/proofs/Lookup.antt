@@ -11,24 +11,6 @@ pub when_false : {A : Type 0} (b : Bool) (x y : A) → b ≡ false → (if b the
 when_false false x y e = refl
 when_false true x y e = absurd (cc e)
 
--- the addresses of a head's first blocks, and of its map pages
-abbrev pub addresses_of : Head → List ℕ
-addresses_of Free = []
-addresses_of (Used f xs maps) = xs
-
-abbrev pub maps_of : Head → List ℕ
-maps_of Free = []
-maps_of (Used f xs maps) = maps
-
--- one file has a head alone
-pub of_one : (f g : FileNo) (h : Head) → is_of f h ≡ true → is_of g h ≡ true → f ≡ g
-of_one f g Free a b = absurd (cc a)
-of_one f g (Used k xs maps) a b = ap (λ (n : ℕ). let x : FileNo = record { 0 = n } in x) (let e : f.0 ≡ g.0 = grind (arith, nat_tests, a, b) in e)
-
-pub of_used : (f : FileNo) (h : Head) → is_of f h ≡ true → h ≡ Used f (addresses_of h) (maps_of h)
-of_used f Free e = absurd (cc e)
-of_used f (Used g xs maps) e = ap (λ (n : ℕ). let x : FileNo = record { 0 = n } in Used x xs maps) (let same : g.0 ≡ f.0 = grind (arith, nat_tests, e) in same)
-
 pub not_free : (f : FileNo) (h : Head) → is_of f h ≡ true → is_free h ≡ false
 not_free f Free e = absurd (cc e)
 not_free f (Used g xs maps) e = refl

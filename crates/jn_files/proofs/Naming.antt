@@ -203,9 +203,6 @@ pub record NamedBefore (rows : List (List ℕ)) (heads : List Head) (n : ℕ) (n
   pub set : (a : ℕ) → a < length named → slice_index_or named a false ≡ true → IsNamedPage (layouts_of rows heads) a
   pub clear : (a : ℕ) → a < length named → slice_index_or named a false ≡ false → (slot q : ℕ) → slot < n → at_cell (layout_at (layouts_of rows heads) slot) q ≢ suc a
 
-pub named_none : (rows : List (List ℕ)) (heads : List Head) (named : List Bool) → ((a : ℕ) → slice_index_or named a false ≡ false) → NamedBefore rows heads 0 named
-named_none rows heads named none = record { set = λ a lt e. absurd (true≢false (sym e ∙ none a)); clear = λ a lt e slot q low d. omega (arith, low) }
-
 pub names_more : (leaves : ℕ) (rows : List (List ℕ)) (heads : List Head) (n : ℕ) (named : List Bool) → AreRows leaves rows → IsHeadOf leaves (head_in heads n) → NamedBefore rows heads n named → NamedBefore rows heads (n + 1) (named_head rows (head_in heads n) named)
 names_more leaves rows heads n named are is before = record { set = set; clear = clear }
   where

@@ -9,10 +9,6 @@ head_at_slot heads slot h j below e = rw e (get_or-set_same heads slot h Free be
 pub head_off_slot : (heads : List Head) (slot : ℕ) (h : Head) (j : ℕ) → j ≢ slot → head_in (slice_set heads slot h) j ≡ head_in heads j
 head_off_slot heads slot h j ne = get_or-set_other heads slot j h Free ne
 
--- a head that is read where it was put
-pub read_is : (heads after : List Head) (slot : ℕ) (h new : Head) → slot < length heads → after ≡ slice_set heads slot h → new ≡ head_in after slot → new ≡ h
-read_is heads after slot h new below after_is new_read = new_read ∙ ap (λ (l : List Head). head_in l slot) after_is ∙ head_at_slot heads slot h slot below refl
-
 -- ---- what is free, by flags of what is held and named
 
 neither : (x y : Bool) → (not x && not y) ≡ true → (x ≡ false) × (y ≡ false)

@@ -250,8 +250,6 @@ pub fn none_set(alloc: Global, count: u16) -> Result<Vec<bool>, AllocError>
     ensures none { IfOk result (λ flags. (a : ℕ) → slice_index_or flags.items a false ≡ false) }
 {
     let mut flags = Vec::with_capacity(alloc, count as usize)?;
-    for _ in 0..count {
-        flags.push(false)?;
-    }
+    flags.resize(count as usize, false)?;
     Ok(flags)
 }
