@@ -1,5 +1,5 @@
 -- A table is loaded: heads and map pages are read, and what is free is counted out.
-use Rattle.jn_files.proofs.Common.{◌≡◌, ◌≢◌, ◌⊎◌, ⊎_elim, inl, inr, ◌<◌, ◌≤◌, ◌+◌, ◌-◌, ◌++◌, ℕ, zero, suc, Bool, true, List, [], ◌∷◌, length, take, Result, Ok, refl, sym, ap, subst, ◌∙◌, arith, slice_set, slice_index, count_by, is_ok, nat_lt, if◌then◌else◌, cases_eq, nat_tests, get_or-set_same, get_or-set_other, length-set, Stopped, FileNo, most_maps, Head, Free, Used, head_page, map_page, head_map, map_count, maps_named, PageCounts, head_place, data_place, page_count, StoreView, StoreCleaned, StoreGot, IsServed, IsOnly, Candidate, Shrinks, later_trans, same_trans, same_shrinks, head_in, row_at, IsHeadOf, IsRow, MapsLoadable, IsHeadAt, StoreRead, IsMapOfHead, IsMapOfHeads, one_if, AreMapPages, MapsCleaned, IsRowRead, IsRowKept, MapsRead, MapsHeld, KeepsPower}
+use Rattle.jn_files.proofs.Common.{◌≡◌, ◌≢◌, ◌⊎◌, ⊎_elim, inl, inr, ◌<◌, ◌≤◌, ◌+◌, ◌-◌, ◌++◌, ℕ, zero, suc, Bool, true, List, [], ◌∷◌, length, take, Result, Ok, refl, sym, ap, subst, ◌∙◌, arith, slice_set, slice_index, count_by, is_ok, nat_lt, if◌then◌else◌, cases_eq, nat_tests, get_or-set_same, get_or-set_other, length-set, Stopped, FileNo, most_maps, Head, Free, Used, head_page, map_page, head_map, map_count, maps_named, PageCounts, head_place, data_place, page_count, StoreView, StoreCleaned, StoreGot, IsServed, IsOnly, Candidate, Shrinks, later_trans, same_trans, same_shrinks, head_in, row_at, IsHeadOf, IsMapRow, MapsLoadable, IsHeadAt, StoreRead, IsMapOfHead, IsMapOfHeads, one_if, AreMapPages, MapsCleaned, IsRowRead, IsRowKept, MapsRead, MapsHeld, KeepsPower}
 use Rattle.std.proofs.lemmas.List.Sums.{sum_by-cons}
 use Rattle.jn_files.proofs.Cells.{map_within}
 use Rattle.jn_files.proofs.Cutting.{maps_length}
@@ -94,7 +94,7 @@ module _ (g : PageCounts) where
     read = λ d lt c. ⊎_elim (λ a. still_read v w rows new d (held.read d lt a) (reads.each d lt)) (λ b. reads.read d lt b) (from d c);
   }
     where
-      row : (d : ℕ) → d < g.leaves → IsRowRead g w new d ⊎ IsRowKept g v rows w new d → IsRow g.leaves (row_at new d)
+      row : (d : ℕ) → d < g.leaves → IsRowRead g w new d ⊎ IsRowKept g v rows w new d → IsMapRow g.leaves (row_at new d)
       row d lt (inl again) = again.row
       row d lt (inr kept) = rw kept.row (held.rows_are.each d lt)
 
@@ -148,7 +148,7 @@ module _ (g : PageCounts) where
               (λ (here : y ≡ w.second place). let only : IsOnly x place y = record { first = same.first ∙ clean ∙ sym here; second = same.second ∙ sym here } in only)
               (got.found y e)
 
-          pub one_read : (rows new : List (List ℕ)) (y row : List ℕ) → page ≡ Ok y → is_ok answer ≡ true → length rows ≡ g.leaves → new ≡ slice_set rows (address - 1) row → y ≡ map_page row → IsRow g.leaves row
+          pub one_read : (rows new : List (List ℕ)) (y row : List ℕ) → page ≡ Ok y → is_ok answer ≡ true → length rows ≡ g.leaves → new ≡ slice_set rows (address - 1) row → y ≡ map_page row → IsMapRow g.leaves row
               → MapsRead g (λ d. address ≡ suc d) v rows x new
           one_read rows new y row e done long new_is spelled is_row = record {
             count = ap length new_is ∙ length-set rows (address - 1) row;

@@ -1,5 +1,5 @@
 -- Each put of a page makes one slot's layout another.
-use Rattle.jn_files.proofs.Common.{◌≡◌, ◌≢◌, inl, inr, ◌<◌, ◌≤◌, ◌%◌, ℕ, suc, Bool, true, false, List, [], length, drop, refl, sym, ap, subst, ◌∙◌, arith, true≢false, slice_index, slice_set, nat_eq, ◌&&◌, cases_eq, get_or-set_same, get_or-set_other, length-set, length-map, head_blocks, most_maps, most_blocks, FileNo, Head, Free, Used, all_within, Layout, at_cell, map_cell, through, kept_entry, layout_by, layout_at, head_map, with_cell, with_entries, with_row, cut_inside, IsMapIn, IsNoMap, IsRowChanged, is_in_range, set-map, map-put, block-put, map-cell-is, TableView, IsTable, AreHeads, AreRows, IsRow, IsHeadOf, HaveOneHead, head_in, is_of, is_free, is_held, row_at, layouts_of, layouts_in, layout_in, cut_addresses, with_leaf, with_map, one_entry, range_of, AreNamed, MayPutHead, MaySet, MaySetMap}
+use Rattle.jn_files.proofs.Common.{◌≡◌, ◌≢◌, inl, inr, ◌<◌, ◌≤◌, ◌%◌, ℕ, suc, Bool, true, false, List, [], length, drop, refl, sym, ap, subst, ◌∙◌, arith, true≢false, slice_index, slice_set, nat_eq, ◌&&◌, cases_eq, get_or-set_same, get_or-set_other, length-set, length-map, head_blocks, most_maps, most_blocks, FileNo, Head, Free, Used, all_within, Layout, at_cell, map_cell, through, kept_entry, layout_by, layout_at, head_map, with_cell, with_entries, with_row, cut_inside, IsMapIn, IsNoMap, IsRowChanged, is_in_range, set-map, map-put, block-put, map-cell-is, TableView, IsTable, AreHeads, AreRows, IsMapRow, IsHeadOf, HaveOneHead, head_in, is_of, is_free, is_held, row_at, layouts_of, layouts_in, layout_in, cut_addresses, with_leaf, with_map, one_entry, range_of, AreNamed, MayPutHead, MaySet, MaySetMap}
 use Rattle.std.specs.Prelude.{replicate}
 use Rattle.jn_files.proofs.Between.{Moves, Marks, Nothing, One, Two, named_once, moves_once, moves_named, layout_here, set_below}
 use Rattle.jn_files.proofs.Cutting.{cut_length, cut_within, set_within, zeros_within, whole_length, maps_length, within_parts, map_page_below}
@@ -143,12 +143,12 @@ row_cells : (m : ℕ → ℕ → ℕ) (h : Head) (j d : ℕ) (entries : ℕ → 
 row_cells m Free j d entries e q = absurd (omega (arith, e))
 row_cells m (Used f xs maps) j d entries e q = refl
 
-set_rows : (leaves : ℕ) (rows : List (List ℕ)) (d : ℕ) (row : List ℕ) → AreRows leaves rows → d < leaves → IsRow leaves row → AreRows leaves (slice_set rows d row)
+set_rows : (leaves : ℕ) (rows : List (List ℕ)) (d : ℕ) (row : List ℕ) → AreRows leaves rows → d < leaves → IsMapRow leaves row → AreRows leaves (slice_set rows d row)
 set_rows leaves rows d row are lt is = record {
   count = length-set rows d row ∙ are.count;
   each = λ e below. elim (cases_eq e d) [
-    | inl same ↦ subst (IsRow leaves) (sym (ap (row_at (slice_set rows d row)) same ∙ get_or-set_same rows d row [] (let n = are.count in omega arith))) is
-    | inr ne ↦ subst (IsRow leaves) (sym (get_or-set_other rows d e row [] ne)) (are.each e below)
+    | inl same ↦ subst (IsMapRow leaves) (sym (ap (row_at (slice_set rows d row)) same ∙ get_or-set_same rows d row [] (let n = are.count in omega arith))) is
+    | inr ne ↦ subst (IsMapRow leaves) (sym (get_or-set_other rows d e row [] ne)) (are.each e below)
   ];
 }
 
@@ -163,7 +163,7 @@ pub at_map : (t : TableView) (k j d : ℕ) → j < most_maps → head_map (head_
 at_map t k j d low e = map_at_cell (kept_entry t.maps) t.heads k j low ∙ e
 
 -- one data page of a slot is a map page
-module _ (t : TableView) (is : IsTable t) (slot : ℕ) (below : slot < t.counts.heads) (p d : ℕ) (high : head_blocks ≤ p) (low : p < most_blocks) (named : head_map (head_in t.heads slot) (range_of p) ≡ suc d) (row : List ℕ) (is_row : IsRow t.counts.leaves row) where
+module _ (t : TableView) (is : IsTable t) (slot : ℕ) (below : slot < t.counts.heads) (p d : ℕ) (high : head_blocks ≤ p) (low : p < most_blocks) (named : head_map (head_in t.heads slot) (range_of p) ≡ suc d) (row : List ℕ) (is_row : IsMapRow t.counts.leaves row) where
   its_map : IsMapIn t.heads d slot (range_of p)
   its_map = record {
     below = range_below p high low;
@@ -198,10 +198,10 @@ module _ (t : TableView) (is : IsTable t) (slot : ℕ) (below : slot < t.counts.
     map_rows = set_rows t.counts.leaves t.maps d row is.heads.map_rows map_there is_row;
   }
 
-pub entry_row : (t : TableView) → IsTable t → (d k a : ℕ) → d < t.counts.leaves → a < t.counts.leaves → IsRow t.counts.leaves (slice_set (row_at t.maps d) k (suc a))
+pub entry_row : (t : TableView) → IsTable t → (d k a : ℕ) → d < t.counts.leaves → a < t.counts.leaves → IsMapRow t.counts.leaves (slice_set (row_at t.maps d) k (suc a))
 entry_row t is d k a lt below = let row = is.heads.map_rows.each d lt in record { count = length-set (row_at t.maps d) k (suc a) ∙ row.count; within_leaves = set_within k a t.counts.leaves (row_at t.maps d) below row.within_leaves }
 
-pub cut_row_is : (t : TableView) → IsTable t → (d n : ℕ) → d < t.counts.leaves → IsRow t.counts.leaves (cut_addresses n (row_at t.maps d))
+pub cut_row_is : (t : TableView) → IsTable t → (d n : ℕ) → d < t.counts.leaves → IsMapRow t.counts.leaves (cut_addresses n (row_at t.maps d))
 cut_row_is t is d n lt = let row = is.heads.map_rows.each d lt in record { count = cut_length n (row_at t.maps d) ∙ row.count; within_leaves = cut_within n t.counts.leaves (row_at t.maps d) row.within_leaves }
 
 -- a data page for one of its blocks
@@ -212,7 +212,7 @@ module _ (t : TableView) (is : IsTable t) (slot p a d : ℕ) (high : head_blocks
   d_below : d < t.counts.leaves
   d_below = map_page_below t.counts.leaves (head_in t.heads slot) (is.heads.each slot) (range_of p) d named
 
-  entry_is : IsRow t.counts.leaves entry_put
+  entry_is : IsMapRow t.counts.leaves entry_put
   entry_is = entry_row t is d (p % head_blocks) a d_below (held_below t is a may.held)
 
   pub entry_cells : (q : ℕ) → at_cell (with_row (range_of p) (λ k. slice_index entry_put k) (layout_in t slot)) q ≡ with_cell p (suc a) (at_cell (layout_in t slot)) q
@@ -235,7 +235,7 @@ module _ (t : TableView) (is : IsTable t) (slot n d : ℕ) (below : slot < t.cou
   below_d : d < t.counts.leaves
   below_d = map_page_below t.counts.leaves (head_in t.heads slot) (is.heads.each slot) (range_of n) d named
 
-  cut_is_row : IsRow t.counts.leaves cut_put
+  cut_is_row : IsMapRow t.counts.leaves cut_put
   cut_is_row = cut_row_is t is d (n % head_blocks) below_d
 
   pub cut_row_cells : (q : ℕ) → at_cell (with_row (range_of n) (λ k. slice_index cut_put k) (layout_in t slot)) q ≡ cut_inside n (range_of n) (at_cell (layout_in t slot)) q
@@ -274,7 +274,7 @@ none_there : (m : ℕ → ℕ → ℕ) (p : ℕ) (h : Head) → head_blocks ≤ 
 none_there m p Free high low absent = refl
 none_there m p (Used f xs maps) high low absent = in_map m xs maps p high low ∙ ap (λ (z : ℕ). through m z (p % head_blocks)) absent
 
-pub one_row : (leaves k a : ℕ) → a < leaves → IsRow leaves (one_entry k a)
+pub one_row : (leaves k a : ℕ) → a < leaves → IsMapRow leaves (one_entry k a)
 one_row leaves k a lt = record { count = length-set (replicate head_blocks 0) k (suc a); within_leaves = set_within k a leaves (replicate head_blocks 0) lt (zeros_within head_blocks leaves) }
 
 module _ (t : TableView) (is : IsTable t) (slot p a d : ℕ) (may : MaySetMap t slot p a d) where

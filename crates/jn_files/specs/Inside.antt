@@ -8,14 +8,14 @@ use Rattle.jn_index.specs.Numbers.{number_at}
 use Rattle.jn_order.specs.Files.{Change, change}
 use Rattle.jn_records.specs.declared.head.Head.{Head}
 use Rattle.jn_records.specs.declared.head.Head.TheVariants.{Free, Used}
-use Rattle.jn_records.specs.Heads.{head_page, map_page, IsMapPage}
-use Rattle.jn_records.specs.Layouts.{Layout, at_cell, head_map, kept_entry, layout_by, layout_at, map_cell, through}
-use Rattle.jn_records.specs.MapPlaces.{is_in_range}
+use Rattle.jn_records.specs.Heads.{head_page, map_page, IsMapPage, IsMapRow}
+use Rattle.jn_records.specs.Layouts.{Layout, at_cell, head_map, kept_entry, layout_by, layout_at, map_cell, through, row_at}
+use Rattle.jn_records.specs.MapPlaces.{is_in_range, range_of}
 use Rattle.jn_records.specs.StablePages.{Counts as PageCounts, data_place}
 use Rattle.jn_store.specs.DeviceCalls.{cleaned_get_calls}
 use Rattle.jn_store.specs.Store.{StoreView, StoreLater, Candidate, Shrinks, IsOnly, IsSamePage}
 use Rattle.jn_files.specs.Pages.{HoldsHeads}
-use Rattle.jn_files.specs.Table.{TableView, IsTable, AreHeads, AreRows, IsRow, IsHeadOf, IsUnnamed, head_in, is_free, is_of, is_held, exists, files_of, layouts_of, layouts_in, layout_in, row_at, kept_maps, range_of}
+use Rattle.jn_files.specs.Table.{TableView, IsTable, AreHeads, AreRows, IsHeadOf, IsUnnamed, head_in, is_free, is_of, is_held, exists, files_of, layouts_of, layouts_in, layout_in, kept_maps}
 
 abbrev pub table_view : ℕ → List Head → List (List ℕ) → List Bool → List Bool → FreeNumbers → FreeNumbers → TableView
 table_view pool heads maps held touched free_heads free_leaves = record {
@@ -198,7 +198,7 @@ pub record MapsCleaned (g : PageCounts) (these : ℕ → Type 0) (count : ℕ) (
 -- a row is what stands at its data page
 pub record IsRowRead (g : PageCounts) (w : StoreView) (rows : List (List ℕ)) (d : ℕ) : Type 0 where
   pub only : IsOnly w (data_place g d) (map_page (row_at rows d))
-  pub row : IsRow g.leaves (row_at rows d)
+  pub row : IsMapRow g.leaves (row_at rows d)
 
 -- or neither has changed
 pub record IsRowKept (g : PageCounts) (v : StoreView) (rows : List (List ℕ)) (w : StoreView) (new : List (List ℕ)) (d : ℕ) : Type 0 where

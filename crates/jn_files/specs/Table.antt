@@ -8,9 +8,10 @@ use Rattle.jn_base.specs.Limits.{head_blocks, most_maps, most_blocks}
 use Rattle.jn_order.specs.Files.{Files}
 use Rattle.jn_records.specs.declared.head.Head.{Head}
 use Rattle.jn_records.specs.declared.head.Head.TheVariants.{Free, Used}
-use Rattle.jn_records.specs.Heads.{IsHead, FileFits, all_within}
-use Rattle.jn_records.specs.Layouts.{Layout, Unused, at_cell, kept_entry, layouts_by, layout_at, is_layout_of, files_in, head_map}
+use Rattle.jn_records.specs.Heads.{IsHead, FileFits, all_within, IsMapRow}
+use Rattle.jn_records.specs.Layouts.{Layout, Unused, at_cell, kept_entry, layouts_by, layout_at, is_layout_of, files_in, head_map, row_at}
 use Rattle.jn_records.specs.StablePages.{Counts}
+use Rattle.jn_records.specs.MapPlaces.{range_of}
 
 -- what is seen of a table
 pub record TableView : Type 0 where
@@ -41,10 +42,6 @@ abbrev pub is_of : FileNo → Head → Bool
 is_of f Free = false
 is_of f (Used g xs maps) = file_eq g f
 
--- the entries of a data page as a map page
-abbrev pub row_at : List (List ℕ) → ℕ → List ℕ
-row_at rows d = slice_index_or rows d []
-
 abbrev pub layouts_of : List (List ℕ) → List Head → List Layout
 layouts_of rows heads = layouts_by (kept_entry rows) heads
 
@@ -72,13 +69,9 @@ pub record IsHeadOf (leaves : ℕ) (h : Head) : Type 0 where
   pub fits : FileFits h
 
 -- and so does each map page
-pub record IsRow (leaves : ℕ) (row : List ℕ) : Type 0 where
-  pub count : length row ≡ head_blocks
-  pub within_leaves : all_within leaves row ≡ true
-
 pub record AreRows (leaves : ℕ) (rows : List (List ℕ)) : Type 0 where
   pub count : length rows ≡ leaves
-  pub each : (d : ℕ) → d < leaves → IsRow leaves (row_at rows d)
+  pub each : (d : ℕ) → d < leaves → IsMapRow leaves (row_at rows d)
 
 pub record AreHeads (leaves : ℕ) (rows : List (List ℕ)) (heads : List Head) : Type 0 where
   pub each : (slot : ℕ) → IsHeadOf leaves (head_in heads slot)
@@ -153,10 +146,6 @@ kept_maps n = (n - 1) / head_blocks
 abbrev pub cut_head : ℕ → Head → Head
 cut_head n Free = Free
 cut_head n (Used f xs maps) = Used f (cut_addresses n xs) (cut_addresses (kept_maps n) maps)
-
--- the map page of block p
-abbrev pub range_of : ℕ → ℕ
-range_of p = p / head_blocks - 1
 
 -- the address of the map page that block n falls inside of, and isn't the first of: 0 where there is none
 abbrev pub cut_map : ℕ → Head → ℕ

@@ -3,8 +3,8 @@
 //! Behind the root and the pool stand the heads, and behind them the data pages. A head has its file, and of each of its
 //! first 120 blocks the data page where it is. Of 20 ranges of 120 further blocks it has the map page: that is a data page
 //! too, and has the addresses of the range's blocks. A block is first put to a data page that no layout names, and then
-//! the head, or the map page, is put with its address. So each change of the files is one put, and a call that is stopped
-//! leaves a file old or new and all others as they were, whichever candidate of that page is found later.
+//! the head, or the map page, is put with its address. So most changes of the files are one put, and a call that is stopped
+//! there leaves a file old or new and all others as they were, whichever candidate of that page is found later.
 //!
 //! Two changes take two puts. The first block of a range needs a map page, which is put while nothing names it, and then the
 //! head is put. A cut inside a range puts the map page with fewer addresses, and then the head, which drops the ranges

@@ -4,7 +4,7 @@ ghost use Rattle.jn_alloc.specs.Free.{is_free as is_free_number, count_of};
 ghost use Rattle.jn_base.specs.Limits.{most_maps};
 ghost use Rattle.jn_base.specs.declared.fault.CallFault.TheVariants.{Stopped as LoadStopped};
 ghost use Rattle.jn_records.specs.declared.head.Head.{Head as HeadOf};
-ghost use Rattle.jn_records.specs.Heads.{IsMapPage, map_page};
+ghost use Rattle.jn_records.specs.Heads.{IsMapPage, map_page, IsMapRow};
 ghost use Rattle.jn_records.specs.MapPlaces.{map_count, maps_named};
 ghost use Rattle.jn_records.specs.StablePages.{counts_of, data_place, page_count};
 ghost use Rattle.jn_store.specs.Store.{IsCalm, IsServed, IsStop};
@@ -186,7 +186,7 @@ fn data_place(root: &Root, d: u16) -> u32
 fn row_of(page: &Page, leaves: u16) -> Row
     requires { IsMapPage leaves page.now }
     ensures page { page.now ≡ map_page result }
-    ensures row { table.IsRow leaves result }
+    ensures row { IsMapRow leaves result }
 {
     let Some(row) = map_entries(page, leaves) else {
         unreachable!()

@@ -2,7 +2,8 @@
 ghost use Rattle.std.specs.Prelude.{◌≡◌, ◌<◌, ◌≤◌, ◌+◌, ℕ, length, List, slice_index, slice_set, nat_lt, IfOk};
 ghost use Rattle.jn_base.specs.Limits.{head_blocks};
 ghost use Rattle.jn_index.specs.Least.{LeastFrom};
-ghost use Rattle.jn_records.specs.Layouts.{kept_entry, through};
+ghost use Rattle.jn_records.specs.Layouts.{kept_entry, through, row_at};
+ghost use Rattle.jn_records.specs.Heads.{IsMapRow};
 ghost use Rattle.jn_files.specs.Table as table;
 
 use jn_base::{HEAD_BLOCKS, MOST_MAPS};
@@ -35,7 +36,7 @@ impl Maps {
     /// Room for so many data pages, none of which has an entry.
     pub fn new(alloc: Global, leaves: u16) -> Result<Self, AllocError>
         ensures count { IfOk result (λ maps. length maps ≡ leaves) }
-        ensures rows { IfOk result (λ maps. (d : ℕ) → d < leaves → table.IsRow leaves (table.row_at maps d)) }
+        ensures rows { IfOk result (λ maps. (d : ℕ) → d < leaves → IsMapRow leaves (row_at maps d)) }
     {
         let mut rows = Vec::with_capacity(alloc, leaves as usize)?;
         for _ in 0..leaves {
@@ -46,7 +47,7 @@ impl Maps {
 
     pub fn row(&self, d: u16) -> &Row
         requires { d < length self.now }
-        ensures { result.now ≡ table.row_at self.now d }
+        ensures { result.now ≡ row_at self.now d }
     {
         &self.rows[d as usize]
     }
@@ -66,7 +67,7 @@ impl Maps {
     /// Puts other entries in place of a data page's, which it gives back.
     pub fn replace(&mut self, d: u16, row: Row) -> Row
         requires { d < length self.old }
-        ensures old { result ≡ table.row_at self.old d }
+        ensures old { result ≡ row_at self.old d }
         ensures new { self.new ≡ slice_set self.old d row }
     {
         mem::replace(&mut self.rows[d as usize], row)

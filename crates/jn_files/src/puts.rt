@@ -4,8 +4,8 @@ ghost use Rattle.jn_alloc.specs.Free.{count_of, free_count, is_free as is_free_n
 ghost use Rattle.jn_base.specs.Limits.{most_blocks, head_blocks};
 ghost use Rattle.jn_base.specs.declared.names.FileNo.{FileNo};
 ghost use Rattle.jn_order.specs.Files.{Change, cut_from};
-ghost use Rattle.jn_records.specs.Layouts.{head_map};
-ghost use Rattle.jn_records.specs.MapPlaces.{is_in_range};
+ghost use Rattle.jn_records.specs.Layouts.{head_map, row_at};
+ghost use Rattle.jn_records.specs.MapPlaces.{is_in_range, range_of};
 ghost use Rattle.jn_records.specs.NetLists.{among};
 ghost use Rattle.jn_files.specs.Table as table;
 ghost use Rattle.jn_files.specs.Calls as calls;
@@ -89,7 +89,7 @@ impl FileTable {
         requires range { n.0 < most_blocks }
         requires map { table.cut_map n.0 (table.head_in self.old.heads slot) ≡ suc d }
         ensures { (f : FileNo) → table.is_of f (table.head_in self.old.heads slot) ≡ true
-            → calls.PutsMap self.old (S.view store.old) slot d (table.cut_addresses (n.0 % head_blocks) (table.row_at self.old.maps d)) (λ leaves. among (λ p. is_in_range (table.range_of n.0) p.0) (cut_from f n)) (is_ok result) self.new (S.view store.new) }
+            → calls.PutsMap self.old (S.view store.old) slot d (table.cut_addresses (n.0 % head_blocks) (row_at self.old.maps d)) (λ leaves. among (λ p. is_in_range (range_of n.0) p.0) (cut_from f n)) (is_ok result) self.new (S.view store.new) }
     {
         let row = cut_row(self.maps.row(d), n.0 as usize % HEAD_BLOCKS);
         store.put(self.data_page(d), &map_page(&row))?;
@@ -102,7 +102,7 @@ impl FileTable {
         requires slot { slot < self.old.counts.heads }
         requires range { n.0 < most_blocks }
         requires map { table.cut_map n.0 (table.head_in self.old.heads slot) ≡ suc d }
-        requires row { row ≡ table.cut_addresses (n.0 % head_blocks) (table.row_at self.old.maps d) }
+        requires row { row ≡ table.cut_addresses (n.0 % head_blocks) (row_at self.old.maps d) }
         ensures { calls.IsChanged self.old self.old.heads (slice_set self.old.maps d row) self.new }
     {
         let old = self.maps.replace(d, row);
@@ -164,10 +164,10 @@ impl FileTable {
         requires fits { calls.HasPagesOfTable self.old (S.view store.old) }
         requires block { head_blocks ≤ p.0 }
         requires range { p.0 < most_blocks }
-        requires map { head_map (table.head_in self.old.heads slot) (table.range_of p.0) ≡ suc d }
+        requires map { head_map (table.head_in self.old.heads slot) (range_of p.0) ≡ suc d }
         requires may { inside.MaySet self.old slot p.0 a }
         ensures { (f : FileNo) → table.is_of f (table.head_in self.old.heads slot) ≡ true → calls.MayBecome self.old (S.view store.old) f p.0 a
-            → calls.PutsMap self.old (S.view store.old) slot d (slice_set (table.row_at self.old.maps d) (p.0 % head_blocks) (suc a)) (calls.block_written f p a) (is_ok result) self.new (S.view store.new) }
+            → calls.PutsMap self.old (S.view store.old) slot d (slice_set (row_at self.old.maps d) (p.0 % head_blocks) (suc a)) (calls.block_written f p a) (is_ok result) self.new (S.view store.new) }
     {
         let row = with_entry(self.maps.row(d), p.0 as usize % HEAD_BLOCKS, a);
         store.put(self.data_page(d), &map_page(&row))?;
@@ -179,9 +179,9 @@ impl FileTable {
     fn set_entry(&mut self, slot: u16, d: u16, row: Row, p: BlockNo, a: u16)
         requires block { head_blocks ≤ p.0 }
         requires range { p.0 < most_blocks }
-        requires map { head_map (table.head_in self.old.heads slot) (table.range_of p.0) ≡ suc d }
+        requires map { head_map (table.head_in self.old.heads slot) (range_of p.0) ≡ suc d }
         requires may { inside.MaySet self.old slot p.0 a }
-        requires row { row ≡ slice_set (table.row_at self.old.maps d) (p.0 % head_blocks) (suc a) }
+        requires row { row ≡ slice_set (row_at self.old.maps d) (p.0 % head_blocks) (suc a) }
         ensures { calls.IsChanged self.old self.old.heads (slice_set self.old.maps d row) self.new }
     {
         let old = self.maps.replace(d, row);
@@ -223,7 +223,7 @@ impl FileTable {
     /// The table has that head and map page.
     fn set_map(&mut self, slot: u16, head: Slot, d: u16, row: Row, p: u16, a: u16)
         requires may { inside.MaySetMap self.old slot p a d }
-        requires head { head ≡ table.with_map (table.range_of p) d (table.head_in self.old.heads slot) }
+        requires head { head ≡ table.with_map (range_of p) d (table.head_in self.old.heads slot) }
         requires row { row ≡ table.one_entry (p % head_blocks) a }
         ensures { calls.IsChanged self.old (slice_set self.old.heads slot head) (slice_set self.old.maps d row) self.new }
     {

@@ -8,7 +8,7 @@ ghost use Rattle.jn_order.specs.Files.{created, removed};
 ghost use Rattle.jn_records.specs.declared.head.Head.{Head as HeadOf};
 ghost use Rattle.jn_records.specs.declared.head.Head.TheVariants.{Free};
 ghost use Rattle.jn_records.specs.Layouts.{at_cell};
-ghost use Rattle.jn_records.specs.MapPlaces.{maps_in};
+ghost use Rattle.jn_records.specs.MapPlaces.{maps_in, range_of};
 ghost use Rattle.jn_records.specs.StablePages.{counts_of, head_place, data_place, page_count};
 ghost use Rattle.jn_store.specs.Store.{IsCalm, IsServed, IsStop};
 ghost use Rattle.jn_base.specs.declared.fault.CallFault.TheVariants.{Stopped as LoadStopped};
@@ -315,7 +315,7 @@ impl FileTable {
         requires there { table.exists self.old.heads f ≡ true }
         requires range { p.0 < most_blocks }
         requires leaf { calls.MayBecome self.old (S.view store.old) f p.0 a }
-        requires map { head_blocks ≤ p.0 → maps_in self.old.heads f (table.range_of p.0) ≡ false → calls.MayBring self.old f p.0 a m }
+        requires map { head_blocks ≤ p.0 → maps_in self.old.heads f (range_of p.0) ≡ false → calls.MayBring self.old f p.0 a m }
         ensures { calls.SetsBlock self.old (S.view store.old) f p a m (is_ok result) self.new (S.view store.new) }
     {
         let Some(slot) = self.heads.slot_of(f) else {

@@ -15,9 +15,6 @@ capped_most n = grind (arith, nat_tests)
 capped_small : (n : ℕ) → n ≤ 2 → capped n ≡ n
 capped_small n small = grind (arith, nat_tests, small)
 
-capped_again : (n m : ℕ) → capped (n + capped m) ≡ capped (m + n)
-capped_again n m = grind (arith, nat_tests)
-
 equal : (m n : ℕ) → nat_eq m n ≡ true → m ≡ n
 equal m n e = grind (arith, nat_tests, e)
 

@@ -1,5 +1,5 @@
 -- What the puts that carry out an intention leave of the store.
-use Rattle.jn_intent.proofs.Common.{◌≡◌, ◌≢◌, ⊎_elim, ◌<◌, ◌≤◌, ◌+◌, ℕ, zero, suc, Bool, true, false, ◌||◌, if◌then◌else◌, List, [], ◌∷◌, take, refl, sym, ◌∙◌, ap, subst, true≢false, arith, cases_eq, false_from_ne_true, get_or-set_same, get_or-set_other, length-set, length-map, nat_lt, slice_set, WorkId, TableView, IsTable, IsUnnamed, layouts_in, row_at, intended, bytes_by, heads_name, works_have, names_for_block, Intends, block_on, pages_by, found_on, PagePut, HeadPut, MapPut, RecordPut, BlockPut, IsRecoverable, IsStanding, Makes, standing_state, fresh_map, Record, StoredIntention, FullIntention, What, Fresh, Gone, Cut, Put, Counts, data_place, Pick, StableState, Changed, CarryOut, made_by, IsLoadable, StoreView, StoreLater, IsServed, IsStop, IsOnly, IsSamePage, later_trans, stop_since, same_only, PutsOne, PutsWhole, PutsPart, PutsMapPage, PutsInTurn, KeepsMaps, without_promise, Head, most_cells, Layout, layout_by, kept_entry, ServerNo, AreRows, AreNamedOnce, IsRow, MayStand, IsLayoutPut, epoch_after, records_after, heads_after, rows_after, put_place, RootPut, reads_page, MakesFirst, used_there, IsStopState}
+use Rattle.jn_intent.proofs.Common.{◌≡◌, ◌≢◌, ⊎_elim, ◌<◌, ◌≤◌, ◌+◌, ℕ, zero, suc, Bool, true, false, ◌||◌, if◌then◌else◌, List, [], ◌∷◌, take, refl, sym, ◌∙◌, ap, subst, true≢false, arith, cases_eq, false_from_ne_true, get_or-set_same, get_or-set_other, length-set, length-map, nat_lt, slice_set, WorkId, TableView, IsTable, IsUnnamed, layouts_in, row_at, intended, bytes_by, heads_name, works_have, names_for_block, Intends, block_on, pages_by, found_on, PagePut, HeadPut, MapPut, RecordPut, BlockPut, IsRecoverable, IsStanding, Makes, standing_state, fresh_map, Record, StoredIntention, FullIntention, What, Fresh, Gone, Cut, Put, Counts, data_place, Pick, StableState, Changed, CarryOut, made_by, IsLoadable, StoreView, StoreLater, IsServed, IsStop, IsOnly, IsSamePage, later_trans, stop_since, same_only, PutsOne, PutsWhole, PutsPart, PutsMapPage, PutsInTurn, KeepsMaps, without_promise, Head, most_cells, Layout, layout_by, kept_entry, ServerNo, AreRows, AreNamedOnce, IsMapRow, MayStand, IsLayoutPut, epoch_after, records_after, heads_after, rows_after, put_place, RootPut, reads_page, MakesFirst, used_there, IsStopState}
 use Rattle.jn_page_state.proofs.Carrying.{carried, parted_first}
 use Rattle.jn_page_state.proofs.Twos.{made_again, changed_on}
 use Rattle.jn_intent.proofs.Laid.{same_layouts}
@@ -212,9 +212,9 @@ module _ (server : ServerNo) (epoch : ℕ) (records : List Record) (slot : ℕ) 
         rows_are = record {
           count = length-set t.maps f.page f.row ∙ is.heads.map_rows.count;
           each = λ d lt. ⊎_elim
-              (λ e. subst (λ k. IsRow t.counts.leaves (row_at (slice_set t.maps f.page f.row) k)) (sym e)
-              (subst (IsRow t.counts.leaves) (sym (get_or-set_same t.maps f.page f.row [] (let n = is.heads.map_rows.count in let below = f.below in omega (arith, n, below)))) (record { count = f.whole.count; within_leaves = f.whole.within_leaves })))
-              (λ ne. subst (IsRow t.counts.leaves) (sym (get_or-set_other t.maps f.page d f.row [] ne)) (is.heads.map_rows.each d lt))
+              (λ e. subst (λ k. IsMapRow t.counts.leaves (row_at (slice_set t.maps f.page f.row) k)) (sym e)
+              (subst (IsMapRow t.counts.leaves) (sym (get_or-set_same t.maps f.page f.row [] (let n = is.heads.map_rows.count in let below = f.below in omega (arith, n, below)))) (record { count = f.whole.count; within_leaves = f.whole.within_leaves })))
+              (λ ne. subst (IsMapRow t.counts.leaves) (sym (get_or-set_other t.maps f.page d f.row [] ne)) (is.heads.map_rows.each d lt))
               (cases_eq d f.page);
         }
 

@@ -28,12 +28,6 @@ in_range j q h = grind (arith, nat_tests, h)
 pub is_range : (j q : ℕ) → q / 120 ≡ j + 1 → is_in_range j q ≡ true
 is_range j q h = grind (arith, nat_tests, h)
 
-pub not_range : (j q : ℕ) → q / 120 ≢ j + 1 → is_in_range j q ≡ false
-not_range j q h = grind (arith, nat_tests, h)
-
-range_high : (j q : ℕ) → q / 120 ≡ j + 1 → 120 ≤ q
-range_high j q e = omega arith
-
 equal_so : (p q : ℕ) → p ≡ q → nat_eq p q ≡ true
 equal_so p q e = grind (arith, nat_tests, e)
 

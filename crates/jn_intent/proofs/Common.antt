@@ -16,10 +16,10 @@ pub use Rattle.jn_base.specs.declared.names.WorkId.{WorkId}
 pub use Rattle.jn_base.specs.Names.{file_eq, work_eq, unit_eq, tid_eq, block_eq}
 pub use Rattle.jn_base.proofs.Tells.{file_tells, work_tells, tid_tells}
 pub use Rattle.jn_order.specs.Files.{Files, change, written, created, removed, cut_from}
-pub use Rattle.jn_files.specs.Table.{TableView, IsTable, IsFreeLeaf, exists, layouts_in, IsUnnamed, row_at, AreRows, AreNamedOnce, IsRow, cut_addresses, kept_maps, is_held, head_in, IsHeadOf, is_of, fresh_head, cut_head, cut_map, with_leaf, with_map, one_entry, range_of, layouts_of, address_for, is_mapped, is_touched}
-pub use Rattle.jn_records.specs.Layouts.{kept_entry, Layout, Unused, at_cell, layout_at, is_layout_of, map_cell, behind, layout_by, laid, through, with_entries, cut_inside, layouts_by, Of, head_map, with_row, IsMapIn, IsRowChanged, block_in, IsNoMap, has_address}
+pub use Rattle.jn_files.specs.Table.{TableView, IsTable, IsFreeLeaf, exists, layouts_in, IsUnnamed, AreRows, AreNamedOnce, cut_addresses, kept_maps, is_held, head_in, IsHeadOf, is_of, fresh_head, cut_head, cut_map, with_leaf, with_map, one_entry, layouts_of, address_for, is_mapped, is_touched}
+pub use Rattle.jn_records.specs.Layouts.{kept_entry, Layout, Unused, at_cell, layout_at, is_layout_of, map_cell, behind, row_at, layout_by, laid, through, with_entries, cut_inside, layouts_by, Of, head_map, with_row, IsMapIn, IsRowChanged, block_in, IsNoMap, has_address}
 pub use Rattle.jn_page_state.specs.Contents.{intended, bytes_by, heads_name, works_have, names_for_block, layouts_in as layouts_said, stored_in, with_first, intentions_from, works_name, prepared_by, stored_list, holds_intention, Contents, intention_of, state_in}
-pub use Rattle.jn_page_state.specs.Held.{held_contents, MayStand, IsLayoutPut, epoch_after, records_after, heads_after, rows_after, IsMapStored, row_in}
+pub use Rattle.jn_page_state.specs.Held.{held_contents, MayStand, IsLayoutPut, epoch_after, records_after, heads_after, rows_after, IsMapStored}
 pub use Rattle.jn_page_state.specs.Pages.{found_on, block_on, pages_by}
 pub use Rattle.jn_page_state.specs.Recoverable.{Intends, IsRecoverable, reads_page, Gives, PassesOnce, HasIntentions, AddressesDiffer, Addresses, names_block, HasAt, AreFresh, IsWholeWork, IsConsistent, HasNone, IsCompleteBy}
 pub use Rattle.jn_page_state.specs.Standing.{IsStanding, Makes, standing_state, MakesFirst, MakesNothing}
@@ -53,16 +53,17 @@ pub use Rattle.jn_recovery.proofs.Serving.{serves_of, serving_by, loadable_found
 pub use Rattle.jn_recovery.proofs.Standing.{there_found, consistent, mapped_found, holds, files_are, standing_same, finds}
 pub use Rattle.jn_recovery.proofs.Telling.{prepared_of, stored_pages, works_seen, listed_pages, works_told, works_by, tells_works}
 pub use Rattle.jn_records.specs.Pages.{root_page}
-pub use Rattle.jn_records.specs.MapPlaces.{maps_in, lacks_map, places_after, bare, there_by, is_in_range, names_maps, IsSuppliedBy, keeps_map, names_map, MapPlaces, lacking, names_a_map}
+pub use Rattle.jn_records.specs.MapPlaces.{maps_in, lacks_map, places_after, bare, there_by, is_in_range, names_maps, IsSuppliedBy, keeps_map, range_of, names_map, MapPlaces, lacking, names_a_map}
 pub use Rattle.jn_base.specs.Limits.{head_blocks, most_cells, most_maps, most_blocks}
 pub use Rattle.jn_recovery.proofs.TableCounted.{maps_fit, map_tells, file_of_head, files_listed, heads_counted, all_units, blocks_listed, all_maps, maps_listed, named_counted}
-pub use Rattle.jn_page_state.specs.Puts.{PagePut, HeadPut, MapPut, RecordPut, BlockPut, put_place, RootPut, IsMapRow, IsFewer}
+pub use Rattle.jn_page_state.specs.Puts.{PagePut, HeadPut, MapPut, RecordPut, BlockPut, put_place, RootPut, IsFewer}
 pub use Rattle.jn_page_state.proofs.CallLaws.{fresh_map, marks, readies, removes, fills, idles}
 pub use Rattle.jn_records.specs.declared.record.Record.{Record}
 pub use Rattle.jn_store.proofs.Laws.{later_trans, stop_since, later_refl, same_refl, same_shrinks, shrinks_only}
 pub use Rattle.jn_files.proofs.Said.{same_only}
 pub use Rattle.jn_records.specs.declared.head.Head.{Head}
 pub use Rattle.jn_base.specs.declared.names.ServerNo.{ServerNo}
+pub use Rattle.jn_records.specs.Heads.{IsMapRow, head_page, map_page, all_within, within, has_page as head_has_page}
 pub use Rattle.jn_page_state.proofs.MapsKept.{used_there, entry_map}
 pub use Rattle.jn_base.specs.declared.names.LockUnit.{LockUnit}
 pub use Rattle.jn_storage.proofs.Kept.{makes_file, orderly-carried, promises-carried}

@@ -1,7 +1,7 @@
 -- What the table of files puts carries out an intention: the page of a head or of a map page, or one and then the other.
-use Rattle.jn_intent.proofs.Common.{◌≡◌, ◌≢◌, ◌⊎◌, inl, inr, ⊎_elim, ◌<◌, ◌≤◌, ◌+◌, ◌-◌, ◌/◌, ◌%◌, ℕ, zero, suc, Bool, true, false, not, ◌&&◌, ◌||◌, if◌then◌else◌, List, [], ◌∷◌, length, Option, Some, None, replicate, refl, sym, ◌∙◌, ap, subst, true≢false, arith, cases_eq, cases_lt, false_from_ne_true, passes_at, nat_tests, get_or-set_same, get_or-set_other, length-set, length-map, nat_eq, nat_lt, nat_le, is_some, slice_set, slice_index, slice_index_or, find, list_all, FileNo, file_eq, file_tells, created, removed, cut_from, TableView, IsTable, IsHeadOf, head_in, is_of, exists, fresh_head, cut_head, cut_addresses, cut_map, with_leaf, with_map, one_entry, row_at, layouts_in, SetsHead, CutsFile, CutsTwice, SetsBlock, BringsMap, PutsHead, MayBecome, MayBring, IsPlaceOf, IsChanged, with_promised_heads, serves_for, is_head_after, address_after, map_after, IsHeadPut, HeadPut, MapPut, IsMapRow, Head, FreeHead, Used, StoredIntention, What, Fresh, Gone, Cut, Put, intention_has_page, is_fresh, data_place, head_place, Counts, StoreView, StorePut, IsOnly, MayCarry, PutsOne, PutsWhole, PutsInTurn, KeepsMaps, Carries, without_promise, with_fresh_promise, is_gone, head_blocks, most_blocks, most_maps, Layout, Unused, Of, at_cell, layout_at, is_layout_of, map_cell, layout_by, layouts_by, kept_entry, head_map, maps_in, get-map, set-map, map-cell-is, none_at, none_any, cut_kept, cut_gone, IsRow, range_of, IsMapStored, row_in, laid, through, with_row, with_entries, IsMapIn, IsRowChanged, is_in_range, names_map, laid-block, laid-entry, laid-map, map-put}
+use Rattle.jn_intent.proofs.Common.{◌≡◌, ◌≢◌, ◌⊎◌, inl, inr, ⊎_elim, ◌<◌, ◌≤◌, ◌+◌, ◌-◌, ◌/◌, ◌%◌, ℕ, zero, suc, Bool, true, false, not, ◌&&◌, ◌||◌, if◌then◌else◌, List, [], ◌∷◌, length, Option, Some, None, replicate, refl, sym, ◌∙◌, ap, subst, true≢false, arith, cases_eq, cases_lt, false_from_ne_true, passes_at, nat_tests, get_or-set_same, get_or-set_other, length-set, length-map, nat_eq, nat_lt, nat_le, is_some, slice_set, slice_index, slice_index_or, find, list_all, FileNo, file_eq, file_tells, created, removed, cut_from, TableView, IsTable, IsHeadOf, head_in, is_of, exists, fresh_head, cut_head, cut_addresses, cut_map, with_leaf, with_map, one_entry, row_at, layouts_in, SetsHead, CutsFile, CutsTwice, SetsBlock, BringsMap, PutsHead, MayBecome, MayBring, IsPlaceOf, IsChanged, with_promised_heads, serves_for, is_head_after, address_after, map_after, IsHeadPut, HeadPut, MapPut, IsMapRow, Head, FreeHead, Used, StoredIntention, What, Fresh, Gone, Cut, Put, intention_has_page, is_fresh, data_place, head_place, Counts, StoreView, StorePut, IsOnly, MayCarry, PutsOne, PutsWhole, PutsInTurn, KeepsMaps, Carries, without_promise, with_fresh_promise, is_gone, head_blocks, most_blocks, most_maps, Layout, Unused, Of, at_cell, layout_at, is_layout_of, map_cell, layout_by, layouts_by, kept_entry, head_map, maps_in, get-map, set-map, map-cell-is, none_at, none_any, cut_kept, cut_gone, range_of, IsMapStored, laid, through, with_row, with_entries, IsMapIn, IsRowChanged, is_in_range, names_map, laid-block, laid-entry, laid-map, map-put, head_page, map_page, all_within, within}
 use Rattle.jn_files.specs.Table.{is_free}
-use Rattle.jn_records.specs.Heads.{head_page, map_page, all_within, within, has_page}
+use Rattle.jn_records.specs.Heads.{has_page}
 use Rattle.jn_intent.proofs.Naming.{page_of_put}
 use Rattle.jn_intent.proofs.Cells.{cut_cell, cut_map_cell, leaf_cell, map_brought, with_map_cell, entry_cell, cut_entry_cell, zeros_at, is_range}
 
@@ -318,10 +318,9 @@ module _ (t : TableView) (v : StoreView) (i : StoredIntention) (may : MayCarry t
       ∙ laid-entry (kept_entry t.maps) (λ p. slice_index its.0 p) (λ j. slice_index its.1 j) q high below
       ∙ ap (λ (a : ℕ). through (kept_entry t.maps) a (q % 120)) (ap (λ h. head_map h (q / 120 - 1)) (sym its.2) ∙ e)
 
-  map_row : (d : ℕ) (row : List ℕ) → d < t.counts.leaves → IsRow t.counts.leaves (row_at (slice_set t.maps d row) d) → IsMapRow t.counts.leaves row
+  map_row : (d : ℕ) (row : List ℕ) → d < t.counts.leaves → IsMapRow t.counts.leaves (row_at (slice_set t.maps d row) d) → IsMapRow t.counts.leaves row
   map_row d row lt is =
-      let its = subst (IsRow t.counts.leaves) (get_or-set_same t.maps d row [] (let count = may.table.heads.map_rows.count in omega (arith, count, lt))) is in
-      record { count = its.count; within_leaves = its.within_leaves }
+      subst (IsMapRow t.counts.leaves) (get_or-set_same t.maps d row [] (let count = may.table.heads.map_rows.count in omega (arith, count, lt))) is
 
   pub carries_cut : i.what ≡ Cut → CutsFile t v i.file i.block ok u w → Carries t v i ok u w
   carries_cut e c = puts_by t v i ok u w (ap is_gone e) (by (cut_map i.block.0 (head_in t.heads c.slot)) refl)
@@ -576,11 +575,11 @@ module _ (t : TableView) (v : StoreView) (i : StoredIntention) (may : MayCarry t
                 ∙ ap (λ (k : ℕ). if nat_eq k 0 then i.map else k) old
 
         stored : two.ready ≡ true → (j d : ℕ) → j < most_maps → head_map (with_map (range_of i.block.0) bring.page (Used i.file used.0 used.1)) j ≡ suc d
-            → (head_map (Used i.file used.0 used.1) j ≡ suc d) ⊎ IsMapStored t.counts two.store d (row_in (slice_set t.maps bring.page (one_entry (i.block.0 % head_blocks) a)) d)
+            → (head_map (Used i.file used.0 used.1) j ≡ suc d) ⊎ IsMapStored t.counts two.store d (row_at (slice_set t.maps bring.page (one_entry (i.block.0 % head_blocks) a)) d)
         stored ready j d lt h = ⊎_elim
             (λ same.
             let is : suc bring.page ≡ suc d = sym (get_or-set_same used.1 (range_of i.block.0) (suc bring.page) 0 (let n = long.1 in let b = below in omega (arith, n, b))) ∙ ap (slice_index (slice_set used.1 (range_of i.block.0) (suc bring.page))) (sym same) ∙ h in
-            inr (subst (λ k. IsMapStored t.counts two.store k (row_in (slice_set t.maps bring.page (one_entry (i.block.0 % head_blocks) a)) k)) (omega (arith, is)) (record {
+            inr (subst (λ k. IsMapStored t.counts two.store k (row_at (slice_set t.maps bring.page (one_entry (i.block.0 % head_blocks) a)) k)) (omega (arith, is)) (record {
               below = page_below;
               whole = subst (IsMapRow t.counts.leaves) (sym its_row) is_row;
               only = subst (λ l. IsOnly two.store (data_place t.counts bring.page) (map_page l)) (sym its_row) (two.fills.put.done ready);
@@ -595,7 +594,7 @@ module _ (t : TableView) (v : StoreView) (i : StoredIntention) (may : MayCarry t
             (one_head now two.store ok u w s.slot s.below new_head
             (head_stands t.counts.leaves t.heads s.slot new_head (let lt = s.below in let slots = may.table.slots in omega (arith, lt, slots)) (puts.sound.each s.slot)) puts.put
             (λ done. let c = puts.done done in record { counts = c.counts; heads = c.heads; maps = c.maps; held = c.held; touched = c.touched; promised_heads = c.promised_heads; promised_leaves = c.promised_leaves; table = c.table })
-            (λ stopped. ap (λ (x : TableView). x.counts) (puts.stopped stopped)) (subst (λ h. (j d : ℕ) → j < most_maps → head_map (with_map (range_of i.block.0) bring.page h) j ≡ suc d → (head_map h j ≡ suc d) ⊎ IsMapStored t.counts two.store d (row_in rows d)) (sym used.2) (stored ready)))
+            (λ stopped. ap (λ (x : TableView). x.counts) (puts.stopped stopped)) (subst (λ h. (j d : ℕ) → j < most_maps → head_map (with_map (range_of i.block.0) bring.page h) j ≡ suc d → (head_map h j ≡ suc d) ⊎ IsMapStored t.counts two.store d (row_at rows d)) (sym used.2) (stored ready)))
             (is_head_put_now ready)
           where
             is_head_put_now : two.ready ≡ true → IsHeadPut (layouts_in now) i s.slot (layout_by (kept_entry rows) new_head)

@@ -7,16 +7,16 @@ use Rattle.jn_base.specs.Limits.{head_blocks, most_blocks, most_maps}
 use Rattle.jn_files.specs.Table.{TableView, IsTable, IsUnnamed, exists, head_in, layouts_in}
 use Rattle.jn_files.specs.Calls.{HasPagesOfTable, IsChanged, MayBecome, MayBring, with_promised_heads}
 use Rattle.jn_page_state.specs.Changes.{IsHeadPut, IsPartPut}
-use Rattle.jn_page_state.specs.Held.{IsMapStored, Lays, row_in, heads_after, rows_after}
-use Rattle.jn_page_state.specs.Puts.{PagePut, HeadPut, IsPagePut, PutStep, IsMapRow}
+use Rattle.jn_page_state.specs.Held.{IsMapStored, Lays, heads_after, rows_after}
+use Rattle.jn_page_state.specs.Puts.{PagePut, HeadPut, IsPagePut, PutStep}
 use Rattle.jn_records.specs.declared.intention.StoredIntention.{StoredIntention}
 use Rattle.jn_records.specs.declared.intention.What.{What}
 use Rattle.jn_records.specs.declared.intention.What.TheVariants.{Gone, Cut, Put}
 use Rattle.jn_records.specs.declared.work.WorkState.{WorkState}
-use Rattle.jn_records.specs.Heads.{map_page}
+use Rattle.jn_records.specs.Heads.{map_page, IsMapRow}
 use Rattle.jn_records.specs.Intentions.{intention_has_page}
-use Rattle.jn_records.specs.Layouts.{Layout, head_map}
-use Rattle.jn_records.specs.MapPlaces.{maps_in}
+use Rattle.jn_records.specs.Layouts.{Layout, head_map, row_at}
+use Rattle.jn_records.specs.MapPlaces.{maps_in, range_of}
 use Rattle.jn_records.specs.NetLists.{is_fresh}
 use Rattle.jn_records.specs.StablePages.{data_place}
 use Rattle.jn_store.specs.Store.{StoreView, StorePut}
@@ -57,13 +57,13 @@ pub record MayCarry (t : TableView) (v : StoreView) (i : StoredIntention) : Type
   pub there : needs_file i.what ≡ true → exists t.heads i.file ≡ true
   pub range : i.block.0 < most_blocks
   pub leaf : (a : ℕ) → i.address ≡ suc a → MayBecome t v i.file i.block.0 a
-  pub map : (a : ℕ) → i.address ≡ suc a → head_blocks ≤ i.block.0 → maps_in t.heads i.file (i.block.0 / head_blocks - 1) ≡ false → MayBring t i.file i.block.0 a i.map
+  pub map : (a : ℕ) → i.address ≡ suc a → head_blocks ≤ i.block.0 → maps_in t.heads i.file (range_of i.block.0) ≡ false → MayBring t i.file i.block.0 a i.map
 
 -- ---- one put
 
 -- a head that is put names no map page but those that it named before, and those that are stored
 abbrev pub KeepsMaps : TableView → StoreView → ℕ → PagePut → Type 0
-KeepsMaps t v slot (HeadPut place h) = (j d : ℕ) → j < most_maps → head_map h j ≡ suc d → (head_map (head_in t.heads slot) j ≡ suc d) ⊎ IsMapStored t.counts v d (row_in t.maps d)
+KeepsMaps t v slot (HeadPut place h) = (j d : ℕ) → j < most_maps → head_map h j ≡ suc d → (head_map (head_in t.heads slot) j ≡ suc d) ⊎ IsMapStored t.counts v d (row_at t.maps d)
 KeepsMaps t v slot put = Unit {0}
 
 -- the page of a head or of a map page is put, and the layout of a slot becomes another

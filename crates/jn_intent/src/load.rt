@@ -21,9 +21,9 @@ pub struct Down<S> {
 }
 
 impl<S: StableStore> Intents<S> {
-    /// The storage that stands on a store of so many pages, whatever was stopped there before. Root, records and heads are
-    /// cleaned, the restart is counted in the root, and what an unfinished preparation or a removed work left is erased. A data
-    /// page is cleaned later, before its first get.
+    /// The storage that stands on a store of so many pages, whatever was stopped there before. Root, records, heads and
+    /// the map pages that heads name are cleaned, the restart is counted in the root, and what an unfinished preparation or a
+    /// removed work left is erased. Another data page is cleaned later, before its first get.
     pub fn load(alloc: Global, store: S, counts: PageCounts) -> Result<(Intents<S>, Found), Down<S>>
         requires recoverable { (server : ServerNo) × IsRecoverable server (counts_by counts) (S.view store) }
         ensures loaded { (server : ServerNo) → IsRecoverable server (counts_by counts) (S.view store) → IfOk result (λ r. IsLoaded server (counts_by counts) (S.view store) r.1 (⟦<Intents<S> as Storage>⟧.view r.0)) }

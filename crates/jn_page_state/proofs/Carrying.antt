@@ -1,5 +1,5 @@
 -- The put of a head or of a map page that a head names, as another layout at its place.
-use Rattle.jn_page_state.proofs.Common.{◌≡◌, ◌⊎◌, inl, inr, ⊎_elim, ◌<◌, ◌≤◌, ◌+◌, ◌^◌, ◌&&◌, ◌||◌, ℕ, zero, suc, Bool, true, false, if◌then◌else◌, List, [], ◌∷◌, map, take, length, Option, Some, None, refl, sym, ◌∙◌, ap, subst, arith, true≢false, nat_tests, nat_eq, nat_lt, nat_le, cases_eq, cases_lt, get_or-set_same, get_or-set_other, slice_index, slice_index_or, slice_set, option_and_then, list_all, find, ServerNo, WorkId, work_eq, work_tells, StoredIntention, What, Fresh, Gone, Cut, Put, FullIntention, Head, FreeHead, Record, Free, Intention, Ready, Going, FlagRecord, most_blocks, most_maps, head_blocks, head_map, map_page, Layout, Unused, map_cell, at_cell, kept_entry, layouts_by, layout_at, entry_in, Counts, Prepared, ready_work, record_in, is_prepared, is_intention, IsLoadable, Contents, head_in, entry_of, layouts_in, stored_in, intention_of, with_first, intentions_from, full_list, intended, works_in, prepared_by, heads_name, works_have, names_for_block, state_in, address_after, IsHeadPut, IsPartPut, LaysOut, HasIntentions, IsCompleteBy, Intends, AddressesDiffer, IsConsistent, names_block, PagePut, RootPut, RecordPut, HeadPut, BlockPut, MapPut, IsPagePut, put_in, is_written, rows_after, heads_after, row_in, held_contents, MayStand, IsLayoutPut, Lays, IsStanding, IsPutStep, MayChange, Makes, MakesFirst, StoreView, Pick, StableState, CarryOut, made_by, block_on, pages_by, has_page, get_or_past, FileNo, BlockNo, File, is_in_range, is_some, change, change_by, inside-was, Left, left_of, part_by, file_there}
+use Rattle.jn_page_state.proofs.Common.{◌≡◌, ◌⊎◌, inl, inr, ⊎_elim, ◌<◌, ◌≤◌, ◌+◌, ◌^◌, ◌&&◌, ◌||◌, ℕ, zero, suc, Bool, true, false, if◌then◌else◌, List, [], ◌∷◌, map, take, length, Option, Some, None, refl, sym, ◌∙◌, ap, subst, arith, true≢false, nat_tests, nat_eq, nat_lt, nat_le, cases_eq, cases_lt, get_or-set_same, get_or-set_other, slice_index, slice_index_or, slice_set, option_and_then, list_all, find, ServerNo, WorkId, work_eq, work_tells, StoredIntention, What, Fresh, Gone, Cut, Put, FullIntention, Head, FreeHead, Record, Free, Intention, Ready, Going, FlagRecord, most_blocks, most_maps, head_blocks, head_map, map_page, Layout, Unused, map_cell, at_cell, kept_entry, layouts_by, layout_at, entry_in, Counts, Prepared, ready_work, record_in, is_prepared, is_intention, IsLoadable, Contents, head_in, entry_of, layouts_in, stored_in, intention_of, with_first, intentions_from, full_list, intended, works_in, prepared_by, heads_name, works_have, names_for_block, state_in, address_after, IsHeadPut, IsPartPut, LaysOut, HasIntentions, IsCompleteBy, Intends, AddressesDiffer, IsConsistent, names_block, PagePut, RootPut, RecordPut, HeadPut, BlockPut, MapPut, IsPagePut, put_in, is_written, rows_after, heads_after, row_at, held_contents, MayStand, IsLayoutPut, Lays, IsStanding, IsPutStep, MayChange, Makes, MakesFirst, StoreView, Pick, StableState, CarryOut, made_by, block_on, pages_by, has_page, get_or_past, FileNo, BlockNo, File, is_in_range, is_some, change, change_by, inside-was, Left, left_of, part_by, file_there}
 use Rattle.jn_page_state.proofs.Found.{found_once}
 use Rattle.jn_page_state.proofs.Laying.{same_layouts, map_at}
 use Rattle.jn_page_state.proofs.MapPages.{row_entry}
@@ -261,13 +261,13 @@ module _ (server : ServerNo) (g : Counts) (few : g.leaves < 2 ^ 16) (c : Content
 module _ (server : ServerNo) (g : Counts) (v w : StoreView) (epoch : ℕ) (records : List Record) (heads : List Head) (rows : List (List ℕ)) (ok : Bool) (standing : IsStanding server g v epoch records heads rows) where
   module _ (put : PagePut) (is : IsPutStep server g v put ok w) (may : MayStand g v heads rows put) (place : ℕ) (new : Layout) (lays : Lays heads rows put place new) where
     its_rows : (c : Pick) → SaysRows (block_on g (pages_by v c)) rows heads
-    its_rows c i j d k low below t = entry_by server g v epoch records heads rows standing.held c d k (row_in rows d) below (stored_at server g v epoch records heads rows standing.held i j d low t)
+    its_rows c i j d k low below t = entry_by server g v epoch records heads rows standing.held c d k (row_at rows d) below (stored_at server g v epoch records heads rows standing.held i j d low t)
 
     its_head : (c : Pick) → HeadSays (held_contents g v epoch records heads c) rows put
     its_head c = by put may lays.kind
       where
         by : (put : PagePut) → MayStand g v heads rows put → IsLayoutPut heads put → HeadSays (held_contents g v epoch records heads c) rows put
-        by (HeadPut at h) may kind = λ j d k low below t. entry_by server g v epoch records heads rows standing.held c d k (row_in rows d) below (may j d low t)
+        by (HeadPut at h) may kind = λ j d k low below t. entry_by server g v epoch records heads rows standing.held c d k (row_at rows d) below (may j d low t)
         by (MapPut d row) may kind = tt
         by (RootPut later) may kind = tt
         by (RecordPut slot r) may kind = tt

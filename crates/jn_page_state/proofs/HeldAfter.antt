@@ -1,5 +1,5 @@
 -- What a store holds after a put that is done.
-use Rattle.jn_page_state.proofs.Common.{◌≡◌, ◌≢◌, ⊎_elim, ◌<◌, ℕ, suc, true, List, [], length, refl, sym, subst, ◌∙◌, ap, arith, slice_set, length-set, ServerNo, Head, FreeHead, Record, Free, head_page, map_page, root_page, format_version, record_page, Counts, page_count, slot_place, head_place, data_place, slot_page, record_in, IsStored, StoreView, IsOnly, head_in, root_by, PagePut, RootPut, RecordPut, HeadPut, BlockPut, MapPut, put_place, IsPagePut, PutStep, IsHeadStored, IsMapStored, HasMapsStored, row_in, IsHeld, MayStand, epoch_after, records_after, heads_after, rows_after}
+use Rattle.jn_page_state.proofs.Common.{◌≡◌, ◌≢◌, ⊎_elim, ◌<◌, ℕ, suc, true, List, [], length, refl, sym, subst, ◌∙◌, ap, arith, slice_set, length-set, ServerNo, Head, FreeHead, Record, Free, head_page, map_page, root_page, format_version, record_page, Counts, page_count, slot_place, head_place, data_place, slot_page, record_in, IsStored, StoreView, IsOnly, head_in, root_by, PagePut, RootPut, RecordPut, HeadPut, BlockPut, MapPut, put_place, IsPagePut, PutStep, IsHeadStored, IsMapStored, HasMapsStored, row_at, IsHeld, MayStand, epoch_after, records_after, heads_after, rows_after}
 use Rattle.jn_page_state.proofs.Slots.{at_set}
 
 module _ (server : ServerNo) (g : Counts) (v w : StoreView) (epoch : ℕ) (records : List Record) (heads : List Head) (rows : List (List ℕ)) (held : IsHeld server g v epoch records heads rows) where
@@ -33,7 +33,7 @@ module _ (server : ServerNo) (g : Counts) (v w : StoreView) (epoch : ℕ) (recor
 
     -- where the put is of no data page
     maps_kept : ((d : ℕ) → d < g.leaves → data_place g d ≢ put_place g put) → (h : Head) → HasMapsStored g v rows h → HasMapsStored g w rows h
-    maps_kept ne h stored j d low t = let map = stored j d low t in map_kept d (row_in rows d) (ne d map.below) map
+    maps_kept ne h stored j d low t = let map = stored j d low t in map_kept d (row_at rows d) (ne d map.below) map
 
   pub held_after : (put : PagePut) → IsPagePut server g put → PutStep server g v put true w → MayStand g v heads rows put
       → IsHeld server g w (epoch_after put epoch) (records_after put records) (heads_after put heads) (rows_after put rows)
@@ -59,7 +59,7 @@ module _ (server : ServerNo) (g : Counts) (v w : StoreView) (epoch : ℕ) (recor
     places = held.places;
     heads_stored = λ place lt. head_kept (BlockPut d block) step place lt (λ e. omega (arith, e, lt));
     pages = held.pages;
-    maps_stored = λ place lt j k low t. map_kept (BlockPut d block) step k (row_in rows k) (λ e. may place j low (t ∙ ap suc (same k e))) (held.maps_stored place lt j k low t);
+    maps_stored = λ place lt j k low t. map_kept (BlockPut d block) step k (row_at rows k) (λ e. may place j low (t ∙ ap suc (same k e))) (held.maps_stored place lt j k low t);
   }
     where
       same : (k : ℕ) → data_place g k ≡ data_place g d → k ≡ d
@@ -76,7 +76,7 @@ module _ (server : ServerNo) (g : Counts) (v w : StoreView) (epoch : ℕ) (recor
     pages = length-set rows d row ∙ held.pages;
     maps_stored = λ place lt j k low t. ⊎_elim
         (λ h. subst (IsMapStored g w k) (sym h.1) (record { below = under k h.0; whole = is.1; only = subst (λ n. IsOnly w n (map_page row)) (at k h.0) (step.done refl) }))
-        (λ h. subst (IsMapStored g w k) (sym h.1) (map_kept (MapPut d row) step k (row_in rows k) (λ e. h.0 (same k e)) (held.maps_stored place lt j k low t)))
+        (λ h. subst (IsMapStored g w k) (sym h.1) (map_kept (MapPut d row) step k (row_at rows k) (λ e. h.0 (same k e)) (held.maps_stored place lt j k low t)))
         (at_set [] rows d row below k);
   }
     where

@@ -1,5 +1,5 @@
 -- What each pick says where root, records, heads and their map pages have one candidate each.
-use Rattle.jn_page_state.proofs.Common.{if◌then◌else◌, ◌≡◌, ◌<◌, ⊎_elim, ℕ, suc, Bool, true, false, List, [], length, Result, refl, sym, ap, subst, ◌∙◌, arith, nat_lt, cases_eq, cases_lt, nat_tests, get_or_past, slice_index, ServerNo, Head, FreeHead, Record, head_page, map_page, IsHead, FileFits, root_page, Counts, page_count, slot_place, head_place, data_place, NamesMap, root_is_read, Pick, slot_page, record_in, Says, StoreView, IsOnly, IsClean, StoreGot, StoreCleaned, same_shrinks, cleaned_kept, head_in, entry_of, layouts_in, layouts_by, kept_entry, head_map, head_blocks, most_maps, half_of, pages_by, block_on, root_by, epoch_by, IsFrontClean, IsFewer, contents_by, IsHeld, IsMapStored, row_in, held_contents, MapsAreClean, PagePut, RootPut, RecordPut, HeadPut, BlockPut, MapPut, MayPut, MayStand, map_entry, block_entry}
+use Rattle.jn_page_state.proofs.Common.{if◌then◌else◌, ◌≡◌, ◌<◌, ⊎_elim, ℕ, suc, Bool, true, false, List, [], length, Result, refl, sym, ap, subst, ◌∙◌, arith, nat_lt, cases_eq, cases_lt, nat_tests, get_or_past, slice_index, ServerNo, Head, FreeHead, Record, head_page, map_page, IsHead, FileFits, root_page, Counts, page_count, slot_place, head_place, data_place, NamesMap, root_is_read, Pick, slot_page, record_in, Says, StoreView, IsOnly, IsClean, StoreGot, StoreCleaned, same_shrinks, cleaned_kept, head_in, entry_of, layouts_in, layouts_by, kept_entry, head_map, head_blocks, most_maps, half_of, pages_by, block_on, root_by, epoch_by, IsFrontClean, IsFewer, contents_by, IsHeld, IsMapStored, row_at, held_contents, MapsAreClean, PagePut, RootPut, RecordPut, HeadPut, BlockPut, MapPut, MayPut, MayStand, map_entry, block_entry}
 use Rattle.jn_base.specs.declared.device.Stopped.{Stopped}
 use Rattle.jn_sets.proofs.Stored.{page_says}
 use Rattle.jn_page_state.proofs.Laying.{same_layouts}
@@ -70,11 +70,11 @@ module _ (server : ServerNo) (g : Counts) (v : StoreView) (epoch : ℕ) (records
   entry_by c d k row below stored = block_entry (pages_by v c (data_place g d)) k below
       ∙ map_entry g.leaves (pages_by v c (data_place g d)) held.root_fits.leaves row stored.whole.count stored.whole.within_leaves (map_by c d row stored) k below
 
-  pub stored_at : (i j d : ℕ) → j < most_maps → head_map (head_in heads i) j ≡ suc d → IsMapStored g v d (row_in rows d)
+  pub stored_at : (i j d : ℕ) → j < most_maps → head_map (head_in heads i) j ≡ suc d → IsMapStored g v d (row_at rows d)
   stored_at i j d low t = let size : length heads ≡ g.heads = held.places in let there = head_of_map heads i j d t in held.maps_stored i (omega (arith, there, size)) j d low t
 
   pub layouts_held : (c : Pick) → layouts_in (held_contents g v epoch records heads c) ≡ layouts_by (kept_entry rows) heads
-  layouts_held c = same_layouts (kept_entry rows) (entry_of (block_on g (pages_by v c))) heads (λ i j d k low below t. entry_by c d k (row_in rows d) below (stored_at i j d low t))
+  layouts_held c = same_layouts (kept_entry rows) (entry_of (block_on g (pages_by v c))) heads (λ i j d k low below t. entry_by c d k (row_at rows d) below (stored_at i j d low t))
 
   -- what a page names as a map page the head does
   named_held : (c : Pick) (d : ℕ) → NamesMap g (pages_by v c) d → (i : ℕ) × (j : ℕ) × (j < most_maps) × (head_map (head_in heads i) j ≡ suc d)
@@ -87,7 +87,7 @@ module _ (server : ServerNo) (g : Counts) (v : StoreView) (epoch : ℕ) (records
   -- what a put asks of pages
   pub may_put : (put : PagePut) → MayStand g v heads rows put → (c : Pick) → MayPut g (pages_by v c) put
   may_put (HeadPut place h) may c = λ j d low t. let stored = may j d low t in
-      record { entries = row_in rows d; count = stored.whole.count; within_leaves = stored.whole.within_leaves; is_page = map_by c d (row_in rows d) stored }
+      record { entries = row_at rows d; count = stored.whole.count; within_leaves = stored.whole.within_leaves; is_page = map_by c d (row_at rows d) stored }
   may_put (BlockPut d block) may c = λ n. let at = named_held c d n in may at.0 at.1 at.2 at.3
   may_put (RootPut epoch) may c = tt
   may_put (RecordPut slot r) may c = tt

@@ -6,9 +6,6 @@ pub either : (a b : Bool) → (a || b) ≡ true → (a ≡ true) ⊎ (b ≡ true
 either true b h = inl refl
 either false b h = inr h
 
-equal : (m n : ℕ) → nat_eq m n ≡ true → m ≡ n
-equal m n h = grind (arith, nat_tests, h)
-
 same : (m n : ℕ) → m ≡ n → nat_eq m n ≡ true
 same m n h = grind (arith, nat_tests, h)
 
@@ -32,13 +29,6 @@ intends_held test pool i s h t = passes_any (holds_intention test pool) Free poo
 pub gives_address : (s : StoredIntention) (d q : ℕ) → Gives s d q → names_address (suc d) s ≡ true
 gives_address s d q (inl h) = or_left (nat_eq s.address (suc d)) (nat_eq s.map (suc d)) (same s.address (suc d) h.0)
 gives_address s d q (inr h) = or_right (nat_eq s.address (suc d)) (nat_eq s.map (suc d)) (same s.map (suc d) h.0)
-
-pub address_gives : (s : StoredIntention) (d : ℕ) → names_address (suc d) s ≡ true → (q : ℕ) × Gives s d q
-address_gives s d t = by (either (nat_eq s.address (suc d)) (nat_eq s.map (suc d)) t)
-  where
-    by : ((nat_eq s.address (suc d) ≡ true) ⊎ (nat_eq s.map (suc d) ≡ true)) → (q : ℕ) × Gives s d q
-    by (inl h) = (s.block.0, inl (equal s.address (suc d) h, refl))
-    by (inr h) = (map_cell (s.block.0 / head_blocks - 1), inr (equal s.map (suc d) h, refl))
 
 -- ---- layouts
 

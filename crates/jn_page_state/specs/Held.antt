@@ -4,8 +4,8 @@ use Rattle.jn_base.specs.declared.names.ServerNo.{ServerNo}
 use Rattle.jn_base.specs.Limits.{most_maps}
 use Rattle.jn_records.specs.declared.head.Head.{Head}
 use Rattle.jn_records.specs.declared.record.Record.{Record}
-use Rattle.jn_records.specs.Heads.{head_page, map_page, IsHead, FileFits}
-use Rattle.jn_records.specs.Layouts.{Layout, layouts_by, kept_entry, head_map, IsNoMap}
+use Rattle.jn_records.specs.Heads.{head_page, map_page, IsHead, FileFits, IsMapRow}
+use Rattle.jn_records.specs.Layouts.{Layout, layouts_by, kept_entry, head_map, IsNoMap, row_at}
 use Rattle.jn_records.specs.Pages.{root_page, IsRoot}
 use Rattle.jn_records.specs.StablePages.{Counts, page_count, head_place, data_place, root_by}
 use Rattle.jn_rows.specs.Stable.{Pick}
@@ -13,7 +13,7 @@ use Rattle.jn_sets.specs.Pool.{HoldsRecords}
 use Rattle.jn_store.specs.Store.{StoreView, IsOnly}
 use Rattle.jn_page_state.specs.Contents.{Contents, head_in}
 use Rattle.jn_page_state.specs.Pages.{block_on, pages_by}
-use Rattle.jn_page_state.specs.Puts.{PagePut, RootPut, RecordPut, HeadPut, BlockPut, MapPut, IsMapRow}
+use Rattle.jn_page_state.specs.Puts.{PagePut, RootPut, RecordPut, HeadPut, BlockPut, MapPut}
 
 -- the one candidate of a place of the heads is the page of this head
 pub record IsHeadStored (g : Counts) (v : StoreView) (place : ℕ) (h : Head) : Type 0 where
@@ -27,13 +27,9 @@ pub record IsMapStored (g : Counts) (v : StoreView) (d : ℕ) (row : List ℕ) :
   pub whole : IsMapRow g.leaves row
   pub only : IsOnly v (data_place g d) (map_page row)
 
--- of each data page the addresses that stand there, where a head names it as a map page
-abbrev pub row_in : List (List ℕ) → ℕ → List ℕ
-row_in rows d = slice_index_or rows d []
-
 -- the map pages that a head names are so stored
 abbrev pub HasMapsStored : Counts → StoreView → List (List ℕ) → Head → Type 0
-HasMapsStored g v rows h = (j d : ℕ) → j < most_maps → head_map h j ≡ suc d → IsMapStored g v d (row_in rows d)
+HasMapsStored g v rows h = (j d : ℕ) → j < most_maps → head_map h j ≡ suc d → IsMapStored g v d (row_at rows d)
 
 -- Root, records, heads and the map pages that heads name have one candidate each, and these are they: the root is of either
 -- version.

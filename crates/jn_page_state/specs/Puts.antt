@@ -4,7 +4,7 @@ use Rattle.jn_base.specs.declared.names.ServerNo.{ServerNo}
 use Rattle.jn_records.specs.declared.head.Head.{Head}
 use Rattle.jn_records.specs.declared.record.Record.{Record}
 use Rattle.jn_base.specs.Limits.{head_blocks, most_maps}
-use Rattle.jn_records.specs.Heads.{head_page, map_page, all_within, IsHead, IsMapPage, FileFits}
+use Rattle.jn_records.specs.Heads.{head_page, map_page, all_within, IsHead, IsMapPage, FileFits, IsMapRow}
 use Rattle.jn_records.specs.Layouts.{head_map}
 use Rattle.jn_records.specs.Pages.{root_page, IsRoot}
 use Rattle.jn_records.specs.Records.{record_page}
@@ -44,11 +44,6 @@ put_page server g (RecordPut slot r) = record_page r
 put_page server g (HeadPut place h) = head_page h
 put_page server g (BlockPut d block) = block ++ replicate 64 0
 put_page server g (MapPut d row) = map_page row
-
--- the addresses of a map page: one for each of its blocks, and none past the data pages
-pub record IsMapRow (leaves : ℕ) (row : List ℕ) : Type 0 where
-  pub count : length row ≡ head_blocks
-  pub within_leaves : all_within leaves row ≡ true
 
 -- its place is there, and it is of the format
 abbrev pub IsPagePut : ServerNo → Counts → PagePut → Type 0

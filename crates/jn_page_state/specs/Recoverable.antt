@@ -12,7 +12,7 @@ use Rattle.jn_records.specs.declared.record.Record.{Record}
 use Rattle.jn_records.specs.declared.record.Record.TheVariants.{Intention as IntentionRecord, Ready, Going}
 use Rattle.jn_records.specs.Intentions.{names_address}
 use Rattle.jn_records.specs.Layouts.{Layout, map_cell, at_cell, layout_at, is_layout_of}
-use Rattle.jn_records.specs.MapPlaces.{maps_in, IsSuppliedBy}
+use Rattle.jn_records.specs.MapPlaces.{maps_in, IsSuppliedBy, range_of}
 use Rattle.jn_records.specs.StablePages.{Counts, Pages, page_count, data_place, NamesMap}
 use Rattle.jn_rows.specs.Stable.{Pick}
 use Rattle.jn_sets.specs.Pool.{record_in, is_prepared, is_intention, is_flag}
@@ -68,7 +68,7 @@ Addresses layouts i q d = at_cell (layout_at layouts i) q ≡ suc d
 
 -- an intention names data page d for cell q: that of its block, or that of its block's map page
 abbrev pub Gives : StoredIntention → ℕ → ℕ → Type 0
-Gives s d q = ((s.address ≡ suc d) × (q ≡ s.block.0)) ⊎ ((s.map ≡ suc d) × (q ≡ map_cell (s.block.0 / head_blocks - 1)))
+Gives s d q = ((s.address ≡ suc d) × (q ≡ s.block.0)) ⊎ ((s.map ≡ suc d) × (q ≡ map_cell (range_of s.block.0)))
 
 pub record AddressesDiffer (leaves : ℕ) (c : Contents) : Type 0 where
   -- no data page stands at two cells
@@ -115,7 +115,8 @@ reads_page layouts pool d = names_page most_cells names_for_block layouts pool d
 abbrev pub is_read : Contents → ℕ → Bool
 is_read c d = reads_page (layouts_in c) c.pool d
 
--- Each data page that is named for a block in some choice has one candidate. A map page may have two, after a stop in its put.
+-- Each data page that is named for a block in some choice has one candidate. A map page may have two, after a stop
+-- in its put, or where a stop tore the put of the block that the page had before.
 abbrev pub NamedAreClean : Counts → StoreView → Type 0
 NamedAreClean g v = (c : Pick) (d : ℕ) → d < g.leaves → names_block (contents_of g (pages_by v c)) d ≡ true → IsClean v (data_place g d)
 

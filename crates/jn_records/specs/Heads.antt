@@ -72,6 +72,11 @@ head_at bytes = do
 unfoldable pub map_page : List ℕ → List ℕ
 map_page entries = padded (addresses_bytes entries)
 
+-- the entries of a map page: one for each of its blocks, and none past the data pages
+pub record IsMapRow (leaves : ℕ) (row : List ℕ) : Type 0 where
+  pub count : length row ≡ head_blocks
+  pub within_leaves : all_within leaves row ≡ true
+
 pub record IsMapPage (leaves : ℕ) (page : List ℕ) : Type 0 where
   pub entries : List ℕ
   pub count : length entries ≡ head_blocks

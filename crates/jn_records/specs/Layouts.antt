@@ -9,7 +9,7 @@ use Rattle.jn_base.specs.declared.names.LockUnit.TheVariants.{File, Block}
 use Rattle.jn_order.specs.Files.{Files, there}
 use Rattle.jn_records.specs.declared.head.Head.{Head}
 use Rattle.jn_records.specs.declared.head.Head.TheVariants.{Free, Used}
-use Rattle.jn_records.specs.MapPlaces.{is_in_range, keeps_map}
+use Rattle.jn_records.specs.MapPlaces.{is_in_range, keeps_map, range_of}
 
 -- The file that has a head, and of each cell the address there, 0 for none. Cell p is that of block p, and behind the blocks'
 -- stand those of the map pages.
@@ -32,11 +32,14 @@ through maps (suc d) k = maps d k
 -- the cells by the addresses of blocks and of map pages in a head, and the entries of each data page as a map page
 abbrev pub laid : (ℕ → ℕ → ℕ) → (ℕ → ℕ) → (ℕ → ℕ) → ℕ → ℕ
 laid maps blocks head_maps q =
-    if nat_lt q head_blocks then blocks q else if nat_lt q most_blocks then through maps (head_maps (q / head_blocks - 1)) (q % head_blocks) else if nat_lt q most_cells then head_maps (q - most_blocks) else 0
+    if nat_lt q head_blocks then blocks q else if nat_lt q most_blocks then through maps (head_maps (range_of q)) (q % head_blocks) else if nat_lt q most_cells then head_maps (q - most_blocks) else 0
 
--- the entries of rows, one for each data page
+-- the entries of a data page as a map page, where each data page has a row
+abbrev pub row_at : List (List ℕ) → ℕ → List ℕ
+row_at rows d = slice_index_or rows d []
+
 abbrev pub kept_entry : List (List ℕ) → ℕ → ℕ → ℕ
-kept_entry rows d k = slice_index (slice_index_or rows d []) k
+kept_entry rows d k = slice_index (row_at rows d) k
 
 abbrev pub layout_by : (ℕ → ℕ → ℕ) → Head → Layout
 layout_by maps Free = Unused

@@ -25,6 +25,10 @@ no_maps f j = false
 abbrev pub is_in_range : ℕ → ℕ → Bool
 is_in_range j p = nat_eq (p / head_blocks) (j + 1)
 
+-- the map page of a block that is past those of a head
+abbrev pub range_of : ℕ → ℕ
+range_of p = p / head_blocks - 1
+
 -- a cut at block n keeps it where its first block stays
 abbrev pub keeps_map : ℕ → ℕ → Bool
 keeps_map n j = nat_lt (head_blocks * (j + 1)) n
@@ -63,7 +67,7 @@ places_then (i ∷ list) places = places_then list (places_after i places)
 
 -- a put past the head's blocks, whose map page isn't there
 abbrev pub lacks_map : MapPlaces → Intention → Bool
-lacks_map places i = is_put_intention i && nat_le head_blocks i.block.0 && not (places i.file (i.block.0 / head_blocks - 1))
+lacks_map places i = is_put_intention i && nat_le head_blocks i.block.0 && not (places i.file (range_of i.block.0))
 
 -- of each intention of a list that is carried out, whether it is such a put in its turn
 abbrev pub lacking : MapPlaces → List Intention → List Bool

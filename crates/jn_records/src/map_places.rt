@@ -2,7 +2,7 @@
 ghost use Rattle.std.specs.Prelude.{◌≡◌, ◌<◌, ◌-◌, ◌/◌, ◌^◌, length, take, slice_get, Some};
 ghost use Rattle.jn_base.specs.Limits.{head_blocks};
 ghost use Rattle.jn_records.specs.declared.intention.Intention.{Intention as AnIntention};
-ghost use Rattle.jn_records.specs.MapPlaces.{MapPlaces, there_by, places_then};
+ghost use Rattle.jn_records.specs.MapPlaces.{MapPlaces, there_by, places_then, range_of};
 
 use crate::intention::{Intention, What};
 use jn_base::{BlockNo, FileNo, HEAD_BLOCKS};
@@ -37,8 +37,8 @@ fn there_then(list: &[Intention], file: FileNo, map: usize, there: bool) -> bool
 /// Whether the map page of the intention at `k` is there in its turn, where `there` says whether it is there before the list.
 pub fn finds_map(list: &[Intention], k: usize, there: bool) -> bool
     requires { k < length list.now }
-    ensures { (i : AnIntention) (places : MapPlaces) → slice_get list.now k ≡ Some i → places i.file (i.block.0 / head_blocks - 1) ≡ there
-        → result ≡ places_then (take k list.now) places i.file (i.block.0 / head_blocks - 1) }
+    ensures { (i : AnIntention) (places : MapPlaces) → slice_get list.now k ≡ Some i → places i.file (range_of i.block.0) ≡ there
+        → result ≡ places_then (take k list.now) places i.file (range_of i.block.0) }
 {
     let put = &list[k];
     let map = (usize::from(put.block.0) / HEAD_BLOCKS).saturating_sub(1);

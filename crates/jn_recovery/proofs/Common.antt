@@ -2,7 +2,7 @@
 pub use Rattle.std.proofs.Common.{◌≡◌, ◌⊎◌, inl, inr, ⊎_elim, ◌<◌, ◌≤◌, ◌+◌, ◌*◌, ℕ, suc, Bool, true, false, List, [], refl, sym, ◌∙◌, ap, subst, true≢false, arith, zero, if◌then◌else◌, ◌∷◌, Option, Some, None, ◌-◌, ◌||◌, length, get_or, ◌^◌, not, map, ◌≢◌, ◌++◌, length-append, rules}
 pub use Rattle.std.proofs.lemmas.Bool.{cases_eq, cases_lt}
 pub use Rattle.jn_base.specs.declared.names.ServerNo.{ServerNo}
-pub use Rattle.jn_files.specs.Table.{TableView, is_of, exists, is_mapped, or_unused, head_in, IsHeadOf, AreHeads, layouts_of, row_at, AreRows, HaveOneHead, AreNamedOnce, IsTable, is_held, layouts_in as table_layouts, is_touched, IsUnnamed}
+pub use Rattle.jn_files.specs.Table.{TableView, is_of, exists, is_mapped, or_unused, head_in, IsHeadOf, AreHeads, layouts_of, AreRows, HaveOneHead, AreNamedOnce, IsTable, is_held, layouts_in as table_layouts, is_touched, IsUnnamed}
 pub use Rattle.jn_files.specs.Calls.{IsLoaded as IsTableLoaded, LoadedFrom}
 pub use Rattle.jn_page_state.specs.Pages.{found_on, pages_by, half_of, epoch_by, listed, head_on, head_or_free, heads_on, block_on, IsOfFormat, contents_of, pool_on, state_of}
 pub use Rattle.jn_records.specs.StablePages.{root_by, Counts, data_place, page_count, slot_place, head_place, NamesMap, entry_in, counts_of}
@@ -30,7 +30,7 @@ pub use Rattle.std.specs.List.{find, list_any, list_all, position_or_len, AllByR
 pub use Rattle.jn_base.specs.declared.names.BlockNo.{BlockNo}
 pub use Rattle.jn_base.specs.declared.names.FileNo.{FileNo}
 pub use Rattle.jn_base.specs.Limits.{most_blocks, head_blocks, most_maps, most_cells}
-pub use Rattle.jn_records.specs.Layouts.{Layout, at_cell, layout_by, layouts_by, is_layout_of, behind, block_in, Unused, Of, map_cell, through, laid, kept_entry, layout_at, has_address, head_map, files_in, IsNoMap}
+pub use Rattle.jn_records.specs.Layouts.{Layout, at_cell, layout_by, layouts_by, is_layout_of, behind, block_in, row_at, Unused, Of, map_cell, through, laid, kept_entry, layout_at, has_address, head_map, files_in, IsNoMap}
 pub use Rattle.std.proofs.Math.Path.{fun_ext}
 pub use Rattle.jn_records.specs.declared.head.Head.TheVariants.{Free as FreeHead, Used}
 pub use Rattle.jn_page_state.specs.Contents.{heads_name, layouts_in, entry_of, names_for_block, works_have, Contents, state_in, with_first, intended, stored_list, intentions_from, intention_of, stored_in, holds_intention, flag_by, flags_in, works_name, prepared_by, works_in}

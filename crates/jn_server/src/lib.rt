@@ -2,7 +2,8 @@
 //! background steps, and go down with all that isn't on the pages.
 //!
 //! `specs/Seen.antt` says what is seen of a server, and when its parts fit. Each call does one row of both its tables
-//! (`specs/Handling.antt`): all of its changes, or, where it is stopped, by each pick of halves some of them, from the first on.
+//! (`specs/Handling.antt`): all of its changes, or, where it is stopped, by each pick of halves some of them, from the first on,
+//! and of a cut that comes next perhaps a part.
 //! `specs/Restarting.antt` says what a restart finds, and that any number of stopped restarts lose and add nothing.
 //! `specs/Showing.antt` says what a show reports of the files.
 #![tactic(auto)]

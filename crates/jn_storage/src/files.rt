@@ -9,6 +9,7 @@ ghost use Rattle.jn_storage.specs.Storage.{IsServing, is_past_head};
 ghost use Rattle.jn_storage.specs.Orderly.{file_there, needed};
 ghost use Rattle.jn_storage.specs.Calls.{state};
 ghost use Rattle.jn_storage.specs.Viewing.{Viewed, ReadOrZeros};
+ghost use Rattle.jn_records.specs.MapPlaces.{range_of};
 
 use crate::{StoredFiles, ViewFault};
 use jn_base::{Answer, Block, BlockContent, BlockNo, FileNo, HEAD_BLOCKS, MOST_MAPS, Op, Stopped};
@@ -99,7 +100,7 @@ fn lacks_map<W: StoredFiles>(list: &[Intention], k: usize, files: &W) -> bool
 
 /// Which map page of its file has the block of a put, where it isn't the head.
 fn map_of(intention: &Intention) -> Option<usize>
-    ensures { result ≡ (if is_past_head intention.now then Some (intention.now.block.0 / head_blocks - 1) else None) }
+    ensures { result ≡ (if is_past_head intention.now then Some (range_of intention.now.block.0) else None) }
 {
     let block = usize::from(intention.block.0);
     if intention.what == What::Put && block >= HEAD_BLOCKS {
