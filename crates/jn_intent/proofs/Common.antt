@@ -1,5 +1,5 @@
 -- The names from below that these proofs cite, passed on from one place. Declares nothing.
-pub use Rattle.std.proofs.Common.{◌≡◌, ◌≢◌, ◌⊎◌, inl, inr, ⊎_elim, ◌<◌, ◌≤◌, ◌+◌, ◌-◌, ◌/◌, ℕ, suc, Bool, true, false, not, ◌&&◌, ◌||◌, if◌then◌else◌, List, [], ◌∷◌, length, drop, Option, Some, None, refl, sym, ◌∙◌, ap, subst, true≢false, arith, zero, ◌*◌, ◌%◌, ◌++◌, ◌^◌, length-append, vec_capacity, rules}
+pub use Rattle.std.proofs.Common.{◌≡◌, ◌≢◌, ◌⊎◌, inl, inr, ⊎_elim, ◌<◌, ◌≤◌, ◌+◌, ◌-◌, ◌/◌, ℕ, suc, Bool, true, false, not, ◌&&◌, ◌||◌, if◌then◌else◌, List, [], ◌∷◌, length, drop, Option, Some, None, refl, sym, ◌∙◌, ap, subst, true≢false, arith, zero, ◌*◌, ◌%◌, ◌++◌, length-append, ◌^◌, vec_capacity, rules}
 pub use Rattle.std.specs.Prelude.{map, Result, Ok, nat_lt, nat_le, nat_eq, is_ok, is_some, slice_get, slice_set, slice_index_or, option_map, take, slice_index, replicate, option_and_then, count_by, position, Err, filter, IfOk, vec_len}
 pub use Rattle.std.proofs.Math.Path.{fun_ext}
 pub use Rattle.std.proofs.lemmas.Bool.{cases_eq, false_from_ne_true, cases_lt}
@@ -35,7 +35,7 @@ pub use Rattle.jn_records.specs.StablePages.{Counts, root_by, data_place, head_p
 pub use Rattle.jn_rows.specs.Stable.{StableState, Pick, Changed, CarryOut, made_by, at_work, IsStopState, Prepared, MarkGoing, is_ready, Unchanged, AddReady, ready_work, RemoveWork, is_going}
 pub use Rattle.jn_sets.specs.Pool.{is_prepared, record_in, is_free, is_intention, IsRecord, slot_page, is_flag, is_ready as is_ready_record, going_of, free_count, is_rubbish}
 pub use Rattle.jn_records.specs.Records.{has_page, record_page, RecordFits, ascends, reads_have_page, unit_has_page}
-pub use Rattle.jn_storage.specs.Calls.{state, name_of, next_of, Called, CountsOn, PageTaken, PageStands, StepApplied, IsReady, MarkedGoing, FlagPromised, NextFile, BlockRead, NextBlock, shortage, with_work, MayPrepare, WorkPrepared, short_of, reached, is_shortage, WorkRemoved, HasFlag, FlagDropped, TellsFlags, MayPutFlag, FlagPut, PromiseReleased, IsGoing, RecordErased, TellsWorks}
+pub use Rattle.jn_storage.specs.Calls.{state, name_of, next_of, Called, CountsOn, PageTaken, PageStands, StepApplied, IsReady, MarkedGoing, FlagPromised, PutsFew, NextFile, BlockRead, NextBlock, shortage, with_work, MayPrepare, WorkPrepared, short_of, reached, is_shortage, WorkRemoved, HasFlag, FlagDropped, TellsFlags, MayPutFlag, FlagPut, PromiseReleased, IsGoing, RecordErased, TellsWorks}
 pub use Rattle.jn_storage.specs.Finding.{find_by}
 pub use Rattle.jn_storage.specs.Listing.{are_different, IsListing, total, is_in}
 pub use Rattle.jn_storage.proofs.Listings.{but, is_in-but, total-but, total-same, listing-less, listing-more, listing-same, length-but, Tells}
@@ -59,7 +59,7 @@ pub use Rattle.jn_recovery.proofs.TableCounted.{maps_fit, map_tells, file_of_hea
 pub use Rattle.jn_page_state.specs.Puts.{PagePut, HeadPut, MapPut, RecordPut, BlockPut, put_place, RootPut, IsFewer}
 pub use Rattle.jn_page_state.proofs.CallLaws.{fresh_map, marks, readies, removes, fills, idles}
 pub use Rattle.jn_records.specs.declared.record.Record.{Record}
-pub use Rattle.jn_store.proofs.Laws.{later_trans, stop_since, later_refl, same_refl, same_shrinks, shrinks_only}
+pub use Rattle.jn_store.proofs.Laws.{later_trans, stop_since, same_refl, same_trans, later_refl, same_shrinks, shrinks_only}
 pub use Rattle.jn_files.proofs.Said.{same_only}
 pub use Rattle.jn_records.specs.declared.head.Head.{Head}
 pub use Rattle.jn_base.specs.declared.names.ServerNo.{ServerNo}
@@ -85,10 +85,10 @@ pub use Rattle.jn_sets.specs.Sets.{Puts}
 pub use Rattle.jn_recovery.proofs.Pool.{position_at, none_position, step_of, free_same, names_kept, rubbish_kept, work_stays, flags_stay, free_more, free_less, idle_same, idle_works, free_is, rubbish_moves}
 pub use Rattle.jn_recovery.proofs.WorkStates.{serves_marked, IsRemoved, serves_removed}
 pub use Rattle.jn_page_state.proofs.HeldLaws.{contents_held, layouts_held}
+pub use Rattle.jn_intent.specs.Preparing.{BlockStored, PoolPreparing, IsPreparing, StopsUnchanged, Begins, ListStored, stored_as, TakesMap, RecordStored, IntentionStored, MayStore, PagesPreparing, StorePreparing, pages_taken, FillsPage, IsOwnPage}
 pub use Rattle.jn_page_state.proofs.Picking.{fewer_found, fewer_recoverable, same_found, same_recoverable}
 pub use Rattle.jn_files.specs.Pages.{HoldsTable, files_in, leaf_page}
 pub use Rattle.std.proofs.lemmas.List.Elements.{filter-append}
-pub use Rattle.jn_intent.specs.Preparing.{PoolPreparing, IsPreparing, StopsUnchanged, Begins, ListStored, stored_as, BlockStored, TakesMap, RecordStored, IntentionStored, MayStore, PagesPreparing, StorePreparing, pages_taken, FillsPage, IsOwnPage}
 pub use Rattle.jn_records.specs.declared.net_list.Need.{Need}
 pub use Rattle.std.proofs.Math.Seq.{take-length, take-append_seam, take-suc}
 pub use Rattle.jn_storage.specs.declared.faults.PrepareFault.TheVariants.{Records, Pages, Heads, Stopped as Stops}

@@ -4,6 +4,7 @@ pub mod Scrubbing
 pub mod Reading
 pub mod Marking
 pub mod Promising
+pub mod PutPages
 pub mod Naming
 pub mod Numbers
 pub mod Census

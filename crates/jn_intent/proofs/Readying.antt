@@ -1,5 +1,6 @@
 -- A work is prepared: its intentions are stored, and then its ready record is put.
-use Rattle.jn_intent.proofs.Common.{◌≡◌, ◌<◌, ◌≤◌, ◌+◌, ◌-◌, ◌^◌, ◌&&◌, ◌||◌, ℕ, zero, suc, Bool, true, false, not, if◌then◌else◌, List, [], ◌∷◌, ◌++◌, length, map, take, Option, Some, None, refl, sym, ◌∙◌, ap, subst, true≢false, arith, fun_ext, take-length, nat_tests, sum_by-cons, Ok, Err, Result, is_ok, nat_eq, nat_lt, nat_le, position, slice_set, count_by, find, list_all, list_any, FreeNumbers, free_numbers, LockUnit, File, Block, WorkId, work_eq, TableView, IsTable, is_held, with_promised_heads, with_promised_leaves, IsReadyPut, intended, stored_list, prepared_by, heads_name, works_name, held_contents, found_on, block_on, pages_by, RecordPut, IsRecoverable, HasIntentions, IsWholeWork, IsStanding, Makes, readies, found_passes, FullIntention, StoredIntention, What, Fresh, Gone, Cut, Put, Need, Record, Free, Intention, Ready, Going, FlagRecord, WorkHead, WorkState, intention_has_page, names_what_it_needs, is_put, is_put_intention, RecordFits, ascends, reads_have_page, unit_has_page, Counts, Pick, AddReady, Changed, made_by, ready_work, at_work, IsRecord, is_free, free_count, is_prepared, Puts, Records, Pages, Heads, Stops, IsPrepared, unit_in_range, Accounts, StorageView, IsServing, IsLoadable, needed, state, name_of, Called, MayPrepare, WorkPrepared, shortage, short_of, reached, with_work, is_shortage, find_by, StoreView, StoreLater, IsStop, later_refl, later_trans, stop_since, Memory, accounts_of, view_of, next_by, next_in, held_in, holds_page, stored_by, rubbish_in, Matches, IsMade, IsKeptMemory, is_at, IsPreparing, StopsUnchanged, Begins, ListStored, none_any, step_of, Serves, serves_of, serving_by, may_load, loadable_found, works_seen, listed_pages, same_only, root_page, root_by, IsOnly, lacking, Layout, held_of, layouts_in, layouts_of, most_cells, names_for_block, total, HasMaps, one, slice_get, supplied_in, ◌*◌, MapPlaces, maps_in, names_maps, names_a_map, IsSuppliedBy, layouts_said, layouts_held, ServerNo}
+use Rattle.jn_intent.proofs.Common.{◌≡◌, ◌<◌, ◌≤◌, ◌+◌, ◌-◌, ◌^◌, ◌&&◌, ◌||◌, ℕ, zero, suc, Bool, true, false, not, if◌then◌else◌, List, [], ◌∷◌, ◌++◌, length, map, take, Option, Some, None, refl, sym, ◌∙◌, ap, subst, true≢false, arith, fun_ext, take-length, nat_tests, sum_by-cons, Ok, Err, Result, is_ok, nat_eq, nat_lt, nat_le, position, slice_set, count_by, find, list_all, list_any, FreeNumbers, free_numbers, LockUnit, File, Block, WorkId, work_eq, TableView, IsTable, is_held, with_promised_heads, with_promised_leaves, IsReadyPut, intended, stored_list, prepared_by, heads_name, works_name, held_contents, found_on, block_on, pages_by, RecordPut, IsRecoverable, HasIntentions, IsWholeWork, IsStanding, Makes, readies, found_passes, FullIntention, StoredIntention, What, Fresh, Gone, Cut, Put, Need, Record, Free, Intention, Ready, Going, FlagRecord, WorkHead, WorkState, intention_has_page, names_what_it_needs, is_put, is_put_intention, RecordFits, ascends, reads_have_page, unit_has_page, Counts, Pick, AddReady, Changed, made_by, ready_work, at_work, IsRecord, is_free, free_count, is_prepared, Puts, Records, Pages, Heads, Stops, IsPrepared, unit_in_range, Accounts, StorageView, IsServing, IsLoadable, needed, state, name_of, Called, MayPrepare, WorkPrepared, shortage, short_of, reached, with_work, is_shortage, find_by, StoreView, StoreLater, IsStop, later_refl, later_trans, stop_since, Memory, accounts_of, view_of, next_by, next_in, held_in, holds_page, stored_by, rubbish_in, Matches, IsMade, IsKeptMemory, is_at, IsPreparing, StopsUnchanged, Begins, ListStored, none_any, step_of, Serves, serves_of, serving_by, may_load, loadable_found, works_seen, listed_pages, same_only, root_page, root_by, IsOnly, lacking, Layout, held_of, layouts_in, layouts_of, most_cells, names_for_block, total, HasMaps, one, slice_get, supplied_in, ◌*◌, MapPlaces, maps_in, names_maps, names_a_map, IsSuppliedBy, layouts_said, layouts_held, ServerNo, PutsFew}
+use Rattle.jn_intent.proofs.PutPages.{puts_none, puts_within, puts_and_one, puts_more, all_puts_and_one}
 use Rattle.jn_intent.proofs.LeftMaps.{same_lacking}
 use Rattle.jn_intent.proofs.Storing.{lacking_length}
 use Rattle.jn_storage.specs.declared.faults.PrepareFault.{PrepareFault}
@@ -187,6 +188,7 @@ module _ (m : Memory) (v : StoreView) (now : Matches m v) (serving : IsServing (
         blocks = λ c. refl;
       };
       store = record { standing = now.standing; root = now.root; unchanged = serving.up; later = later_refl v; calls_few = omega arith; served = record { power = serving.power; stops = refl } };
+      written = puts_none _ v;
     };
   }
     where
@@ -198,12 +200,13 @@ module _ (m : Memory) (v : StoreView) (now : Matches m v) (serving : IsServing (
 
   module _ (n : ℕ) (stored : List StoredIntention) (records : List Record) (t : TableView) (w : StoreView) where
     -- a stop while it is stored
-    pub list_stopped : StopsUnchanged (promising m n) v 768 t w → (k : Memory) → k.server ≡ m.server → k.table ≡ t → WorkPrepared {A = Unit {0}} (view_of m v) head list reads (Err Stops) (view_of k w)
-    list_stopped s k server table = record {
+    pub list_stopped : StopsUnchanged (promising m n) v 768 t w → PutsFew (count_by is_put_intention list + length list) v w → (k : Memory) → k.server ≡ m.server → k.table ≡ t → WorkPrepared {A = Unit {0}} (view_of m v) head list reads (Err Stops) (view_of k w)
+    list_stopped s written k server table = record {
       refused = λ fault e short. absurd (no_stop fault (its_fault e) short);
       enough = λ _. enough;
       kept = λ e. absurd (true≢false e);
       called = λ _. called_by m k v w false server (ap (λ (u : TableView). u.counts) table ∙ s.counts) s.later (let few = s.calls_few in omega (arith, few)) s.recoverable (λ e. absurd (true≢false (sym e))) (λ e. absurd (true≢false (sym e))) (λ _. s.stop);
+      written = λ _. puts_and_one _ v w written;
       change = λ _. record { done = λ e. absurd (true≢false (sym e)); stop = λ _ c. whole-stop _ _ _ 0 (ap (λ g. found_on g w c) (ap (λ (u : TableView). u.counts) table ∙ s.counts) ∙ s.unchanged c) };
       accounts = λ e. absurd (true≢false (sym e));
     }
@@ -327,6 +330,10 @@ module _ (m : Memory) (v : StoreView) (now : Matches m v) (serving : IsServing (
           few_calls = let before = p.store.calls_few in let more = puts.put.calls in let few = its.length_fits in omega (arith, before, more, few, all)
 
           -- a stop at the ready record
+          -- the list's pages, and the ready record's
+          written_all : PutsFew (count_by is_put_intention list + length list + 1) v x
+          written_all = puts_within _ _ v x (all_puts_and_one list (length stored) (omega (arith, all))) (puts_more _ v w x _ p.store.later.count p.written puts.put.others)
+
           pub ready_stopped : ok ≡ false → (k : Memory) → k.server ≡ m.server → k.table ≡ t → WorkPrepared {A = Unit {0}} (view_of m v) head list reads (Err Stops) (view_of k x)
           ready_stopped stopped k server table = record {
             refused = λ fault e short. absurd (no_stop fault (its_fault e) short);
@@ -334,6 +341,7 @@ module _ (m : Memory) (v : StoreView) (now : Matches m v) (serving : IsServing (
             kept = λ e. absurd (true≢false e);
             called = λ _. called_by m k v x false server (ap (λ (u : TableView). u.counts) table ∙ p.pages.counts) later few_calls makes.recoverable (λ e. absurd (true≢false (sym e))) (λ e. absurd (true≢false (sym e)))
                 (λ _. stop_since v w x p.store.later puts.put.later (puts.put.stop stopped));
+            written = λ _. written_all;
             change = λ _. subst (λ g. Changed (state (view_of m v)) (AddReady head list reads) false (found_on g x)) (sym (ap (λ (u : TableView). u.counts) table ∙ p.pages.counts))
                 (subst (λ b. Changed (state (view_of m v)) (AddReady head list reads) b (found_on m.table.counts x)) stopped changed);
             accounts = λ e. absurd (true≢false (sym e));
@@ -373,6 +381,7 @@ module _ (m : Memory) (v : StoreView) (now : Matches m v) (serving : IsServing (
                 (λ c. ap (λ g. found_on g x c) p.pages.counts ∙ changed.done done c) (puts.put.served done).power
                 (subst (Serves (made_by (AddReady head list reads) (state (view_of m v)))) (sym (accounts_after n_is)) serves))
                 (λ e. absurd (true≢false e));
+            written = λ _. written_all;
             change = λ _. subst (λ g. Changed (state (view_of m v)) (AddReady head list reads) true (found_on g x)) (sym p.pages.counts)
                 (subst (λ b. Changed (state (view_of m v)) (AddReady head list reads) b (found_on m.table.counts x)) done changed);
             accounts = λ _. accounts_after n_is;
@@ -418,7 +427,7 @@ module _ (m : Memory) (v : StoreView) (head : WorkHead) (list : List FullIntenti
 
     module _ (stored : List StoredIntention) (records : List Record) (t : TableView) (w : StoreView) where
       pub stopped_list : (ok : Bool) → ListStored (promising m n) v head.work list lacks ok stored records t w → ok ≡ false → (k : Memory) → k.server ≡ m.server → k.table ≡ t → WorkPrepared {A = Unit {0}} (view_of m v) head list reads (Err Stops) (view_of k w)
-      stopped_list ok s stopped k server table = list_stopped m v h.now h.serving head list reads h.may h.enough n stored records t w (s.stopped stopped) k server table
+      stopped_list ok s stopped k server table = list_stopped m v h.now h.serving head list reads h.may h.enough n stored records t w (s.stopped stopped) s.written k server table
 
       module _ (ok : Bool) (is : ListStored (promising m n) v head.work list lacks ok stored records t w) (done : ok ≡ true) where
         s : ListStored (promising m n) v head.work list (lacking (maps_in m.table.heads) list) ok stored records t w
@@ -482,6 +491,7 @@ refused_by v head list reads fault short answer x is same_fault = record {
   enough = λ e. absurd (true≢false (sym e ∙ unreached));
   kept = λ _. refl;
   called = λ e. absurd (true≢false (sym e ∙ unreached));
+  written = λ e. absurd (true≢false (sym e ∙ unreached));
   change = λ e. absurd (true≢false (sym e ∙ unreached));
   accounts = λ e. absurd (true≢false (sym e ∙ ap is_ok is));
 }

@@ -1,7 +1,8 @@
 -- One intention is stored: a put's block, the map page that it lacks, which is held, and then its record.
-use Rattle.jn_intent.proofs.Common.{◌≡◌, one, ◌≢◌, ◌<◌, ◌≤◌, ◌+◌, ◌-◌, ◌*◌, ◌/◌, ◌&&◌, ◌||◌, not, ℕ, zero, suc, Bool, true, false, if◌then◌else◌, List, [], ◌∷◌, ◌++◌, length, Some, refl, sym, ◌∙◌, ap, subst, true≢false, arith, length-append, take-append_seam, false_from_ne_true, nat_tests, slice_get-get_or, sum_by-append, sum_by-cons, sum_by-take-le, Ok, Err, Result, is_ok, IfOk, nat_eq, nat_lt, nat_le, position, slice_get, slice_index_or, count_by, take, replicate, list_any, free_numbers, is_free_number, Stopped, WorkId, TableView, IsTable, IsFreeLeaf, is_held, layouts_in, layouts_of, with_held, bytes_by, heads_name, works_have, works_name, names_for_block, names_address, block_on, pages_by, found_on, RecordPut, BlockPut, IsRecoverable, IsStanding, MakesNothing, standing_state, fills, idles, StoredIntention, FullIntention, What, Fresh, Gone, Cut, Put, Record, IntentionRecord, WorkHead, intention_has_page, names_what_it_needs, AllPlain, Plain, is_put, is_put_intention, RecordFits, record_page, Counts, data_place, page_count, Pick, Unchanged, is_free, slot_page, Puts, state, StoreView, StorePut, IsClean, later_trans, stop_since, Memory, view_of, is_at, stored_as, BlockStored, TakesMap, RecordStored, IntentionStored, MayStore, PagesPreparing, StorePreparing, IsPreparing, StopsUnchanged, ListStored, pages_taken, step_of, same_only, MapPlaces, lacking, places_after, head_blocks, most_cells, FreeNumbers, with_free, sum_by-set, is_past_head, reads_page, FillsPage, leaf_page}
+use Rattle.jn_intent.proofs.Common.{◌≡◌, one, ◌≢◌, ◌<◌, ◌≤◌, ◌+◌, ◌-◌, ◌*◌, ◌/◌, ◌&&◌, ◌||◌, not, ℕ, zero, suc, Bool, true, false, if◌then◌else◌, List, [], ◌∷◌, ◌++◌, length, Some, refl, sym, ◌∙◌, ap, subst, true≢false, arith, length-append, take-append_seam, false_from_ne_true, nat_tests, slice_get-get_or, sum_by-append, sum_by-cons, sum_by-take-le, Ok, Err, Result, is_ok, IfOk, nat_eq, nat_lt, nat_le, position, slice_get, slice_index_or, count_by, take, replicate, list_any, free_numbers, is_free_number, Stopped, WorkId, TableView, IsTable, IsFreeLeaf, is_held, layouts_in, layouts_of, with_held, bytes_by, heads_name, works_have, works_name, names_for_block, names_address, block_on, pages_by, found_on, RecordPut, BlockPut, IsRecoverable, IsStanding, MakesNothing, standing_state, fills, idles, StoredIntention, FullIntention, What, Fresh, Gone, Cut, Put, Record, IntentionRecord, WorkHead, intention_has_page, names_what_it_needs, AllPlain, Plain, is_put, is_put_intention, RecordFits, record_page, Counts, data_place, page_count, Pick, Unchanged, is_free, slot_page, Puts, state, StoreView, StorePut, IsClean, later_trans, stop_since, Memory, view_of, is_at, stored_as, BlockStored, TakesMap, RecordStored, IntentionStored, MayStore, PagesPreparing, StorePreparing, IsPreparing, StopsUnchanged, ListStored, pages_taken, step_of, same_only, MapPlaces, lacking, places_after, head_blocks, most_cells, FreeNumbers, with_free, sum_by-set, is_past_head, reads_page, FillsPage, leaf_page, PutsFew}
 use Rattle.jn_intent.proofs.Naming.{found_cell, found_intention, intention_has, or_first}
 use Rattle.jn_intent.proofs.StoringPages.{pages_moved, pages_more, Takes, takes_none, takes_page, takes_touched, take_more}
+use Rattle.jn_intent.proofs.PutPages.{puts_within, puts_suc, puts_more, block_puts, next_puts, stored_puts, all_puts}
 use Rattle.jn_intent.proofs.StoringPool.{free_there, stored_idle, pool_goes_on}
 
 ok_is : {A E : Type 0} {a b : A} → ◌≡◌ {A = Result A E} (Ok a) (Ok b) → a ≡ b
@@ -249,6 +250,9 @@ module _ (m : Memory) (v : StoreView) (head : WorkHead) (list : List FullIntenti
       record_makes = idles m.server m.table.counts x y m.epoch records m.table.heads m.table.maps (is_ok answer) has_block.store.standing r.slot (IntentionRecord head.work head.tid (length stored) (stored_as i a map_address))
           (step_of m.server m.table.counts x r.slot (IntentionRecord head.work head.tid (length stored) (stored_as i a map_address)) (is_ok answer) y there r.whole r.puts.put) (stored_idle m head.work stored records p.pool r.slot r.free head.tid (stored_as i a map_address))
 
+      block_written : PutsFew (count_by is_put_intention (take (length stored) list) + length stored + (if is_put i.what then 1 else 0)) v x × (x.count ≡ v.count)
+      block_written = block_puts _ t v w i (Ok a) filled x p.store.later.count p.written block
+
       pub record_stops : is_ok answer ≡ false → StopsUnchanged m v (32 * length stored + 32) u y
       record_stops stopped =
           let put = subst (λ b. StorePut x (slot_page r.slot) (record_page (IntentionRecord head.work head.tid (length stored) (stored_as i a map_address))) b y) stopped r.puts.put in
@@ -267,6 +271,7 @@ module _ (m : Memory) (v : StoreView) (head : WorkHead) (list : List FullIntenti
             pages = pages_moved m list lacks (stored ++ stored_as i a map_address ∷ []) u x y pages_on put.later.count (λ b h. put.others (data_place m.table.counts b)
                 (let below = (pages_on.own b h).below in let count = has_block.store.standing.held.count in omega (arith, below, count)) (λ e. let lt = there in omega (arith, e, lt)));
             store = store_within m v (32 * length stored + 16 + 16) (32 * length (stored ++ stored_as i a map_address ∷ [])) _ y (let l = length-append stored (stored_as i a map_address ∷ []) in omega (arith, l)) store;
+            written = puts_within _ _ v y (stored_puts list stored (stored_as i a map_address) i at) (puts_more _ v x y _ block_written.1 block_written.0 r.puts.put.others);
           }))
 
 -- ---- the same of what the code makes
@@ -289,6 +294,16 @@ module _ (m : Memory) (v : StoreView) (head : WorkHead) (list : List FullIntenti
       by (Err a) e block = let same = is.stopped (ap is_ok e) in
           subst (λ z. StopsUnchanged m v (32 * length stored + 32) u z) (sym same.2) (subst (λ r. StopsUnchanged m v (32 * length stored + 32) r is.between) (sym same.1)
           (stops_within m v (32 * length stored + 16) (32 * length stored + 32) is.filled is.between (omega arith) (block_stops m v head list lacks stored records t w p held i a is.filled is.between block)))
+
+  -- which pages are put, done or stopped
+  pub puts_here : PutsFew (count_by is_put_intention (take (suc (length stored)) list) + suc (length stored)) v y
+  puts_here = subst (λ n. PutsFew n v y) (next_puts list (length stored) i at) (by is.address refl is.block)
+    where
+      by : (a : Result ℕ Stopped) → is.address ≡ a → BlockStored t w i a is.filled is.between → PutsFew (suc (count_by is_put_intention (take (length stored) list) + length stored + (if is_put i.what then 1 else 0))) v y
+      by (Ok a) e block = let before = block_puts _ t v w i (Ok a) is.filled is.between p.store.later.count p.written block in let r = is.recorded a e in
+          puts_more _ v is.between y _ before.1 before.0 r.puts.put.others
+      by (Err a) e block = let before = block_puts _ t v w i (Err a) is.filled is.between p.store.later.count p.written block in
+          puts_suc _ v y (subst (λ z. PutsFew (count_by is_put_intention (take (length stored) list) + length stored + (if is_put i.what then 1 else 0)) v z) (sym (is.stopped (ap is_ok e)).2) before.0)
 
 -- ---- all of them
 
@@ -331,6 +346,8 @@ module _ (m : Memory) (v : StoreView) (head : WorkHead) (list : List FullIntenti
     done = λ ok. absurd (true≢false (sym ok ∙ e));
     stopped = λ _. stops_within m v (32 * length stored + 32) 768 u y (let few = may.few in omega (arith, longer, lt, few))
         (stops_here m v head list lacks stored records t w p may.now.held (slice_index_or list order d) at (plain_at list order d may.order.plain lt) b lacks_at answer new u y its table stopped);
+    written = puts_within _ _ v y (all_puts list (suc (length stored)) (omega (arith, longer, lt)))
+        (puts_here m v head list lacks stored records t w p may.now.held (slice_index_or list order d) at (plain_at list order d may.order.plain lt) b lacks_at answer new u y its table);
   }
 
 -- enough data pages are left for the next intention

@@ -24,7 +24,7 @@ use Rattle.jn_records.specs.StablePages.{root_by, data_place}
 use Rattle.jn_rows.specs.Stable.{Pick, Unchanged}
 use Rattle.jn_sets.specs.Pool.{IsRecord, is_free, free_count, is_prepared}
 use Rattle.jn_sets.specs.Sets.{Puts}
-use Rattle.jn_storage.specs.Calls.{state}
+use Rattle.jn_storage.specs.Calls.{state, PutsFew}
 use Rattle.jn_store.specs.Store.{StoreView, StoreLater, IsClean, IsOnly, IsServed, IsStop}
 use Rattle.jn_recovery.specs.Memory.{Memory, view_of, rubbish_in}
 use Rattle.jn_recovery.specs.Matches.{Matches, WorksMatch, FlagsMatch}
@@ -141,6 +141,8 @@ pub record IsPreparing (m : Memory) (v : StoreView) (work : WorkId) (list : List
   pub pool : PoolPreparing m work stored records
   pub pages : PagesPreparing m list lacks stored t w
   pub store : StorePreparing m v (32 * length stored) records w
+  -- for each intention its record was put, and for each put its block
+  pub written : PutsFew (count_by is_put_intention (take (length stored) list) + length stored) v w
 
 -- ---- all of them
 
@@ -162,3 +164,4 @@ pub record ListStored (m : Memory) (v : StoreView) (work : WorkId) (list : List 
   pub all : ok ≡ true → length stored ≡ length list
   pub done : ok ≡ true → IsPreparing m v work list lacks stored records t w
   pub stopped : ok ≡ false → StopsUnchanged m v 768 t w
+  pub written : PutsFew (count_by is_put_intention list + length list) v w

@@ -1,6 +1,6 @@
 -- What each call of a server's storage does.
-use Rattle.std.specs.Prelude.{◌≡◌, ◌≢◌, ◌⊎◌, ◌≤◌, ◌<◌, ◌+◌, ◌-◌, ℕ, Bool, true, false, nat_lt, if◌then◌else◌, List, [], ◌∷◌, map, All, slice_get, length, Option, Some, None, is_some, Result, Ok, Err, is_ok}
-use Rattle.std.specs.List.{list_all}
+use Rattle.std.specs.Prelude.{◌≡◌, ◌≢◌, ◌⊎◌, ◌≤◌, ◌<◌, ◌+◌, ◌-◌, ℕ, Bool, true, false, nat_lt, if◌then◌else◌, List, [], ◌∷◌, map, All, slice_get, length, Option, Some, None, is_some, Result, Ok, Err, is_ok, nat_eq, count_by}
+use Rattle.std.specs.List.{list_all, list_any}
 use Rattle.jn_base.specs.declared.device.Stopped.{Stopped}
 use Rattle.jn_base.specs.declared.names.FileNo.{FileNo}
 use Rattle.jn_base.specs.declared.names.BlockNo.{BlockNo}
@@ -20,8 +20,8 @@ use Rattle.jn_records.specs.declared.work.WorkHead.{WorkHead}
 use Rattle.jn_records.specs.declared.work.WorkState.{WorkState}
 use Rattle.jn_records.specs.Intentions.{intention_has_page}
 use Rattle.jn_records.specs.MapPlaces.{lacks_map, lacking, places_after}
-use Rattle.jn_records.specs.NetLists.{is_put}
-use Rattle.jn_store.specs.Store.{IsStop}
+use Rattle.jn_records.specs.NetLists.{is_put, is_put_intention}
+use Rattle.jn_store.specs.Store.{StoreView, IsSamePage, IsStop}
 use Rattle.jn_store.specs.DeviceCalls.{cleaned_get_calls, put_calls}
 use Rattle.jn_rows.specs.Stable.{StableState, Prepared, Pick, stable, AddReady, MarkGoing, CarryOut, RemoveWork, AddFlag, DropFlag, made_by, Changed, Unchanged, at_work, flag_state, is_ready, is_going}
 use Rattle.jn_storage.specs.declared.faults.PrepareFault.{PrepareFault}
@@ -135,6 +135,12 @@ with_work a work need lacks = record a {
   supplied = at_work a.supplied work lacks;
 }
 
+-- so many pages are put at most: the candidates of all others stay
+pub record PutsFew (n : ℕ) (v w : StoreView) : Type 0 where
+  pub pages : List ℕ
+  pub few : length pages ≤ n
+  pub others : (j : ℕ) → j < v.count → list_any (nat_eq j) pages ≡ false → IsSamePage v w j
+
 -- A work is prepared, whole or not at all. It names a map page exactly at the puts that lack one in their turn. Where
 -- something is short, or there is no memory for it, nothing changed and no device call was made.
 pub record WorkPrepared {A : Type 0} (v : StorageView) (head : WorkHead) (list : List Intention) (reads : List LockUnit) (answer : Result A PrepareFault) (w : StorageView) : Type 0 where
@@ -142,6 +148,8 @@ pub record WorkPrepared {A : Type 0} (v : StorageView) (head : WorkHead) (list :
   pub enough : reached answer ≡ true → shortage v.accounts (needed v.accounts.maps (state v) list) ≡ None
   pub kept : reached answer ≡ false → w ≡ v
   pub called : reached answer ≡ true → Called v prepare_calls (is_ok answer) w
+  -- the block of each put is put, and the record of each intention, and the ready record: no map page is
+  pub written : reached answer ≡ true → PutsFew (count_by is_put_intention list + length list + 1) v.store w.store
   pub change : reached answer ≡ true → Changed (state v) (AddReady head list reads) (is_ok answer) w.found
   pub accounts : is_ok answer ≡ true → w.accounts ≡ with_work v.accounts head.work (needed v.accounts.maps (state v) list) (lacking v.accounts.maps list)
 

@@ -1,4 +1,5 @@
 use Rattle.jn_intent.proofs.Common.{rules, Bool, false, slice_index_or, slice_get-get_or, maps_in, List, [], ◌∷◌, length, ap, sym, subst, ◌∙◌, true≢false, arith, length-append, err_from_is_err_and, is_ok, StoredIntention, Counts, page_count, IsPreparing}
+use Rattle.jn_intent.proofs.PutPages.{puts_within, all_puts}
 use Rattle.jn_intent.proofs.Storing.{plain_at, list_on, list_stops, pages_left, lacks_past}
 use Rattle.jn_intent.proofs.prepare.store_all.Goals as goal
 
@@ -40,6 +41,8 @@ returns g c m v begins = record {
   all = λ ok. c.loop-order.invariant.longer ∙ search rules;
   done = λ ok. c.loop-order.invariant.preparing m v begins;
   stopped = λ e. absurd (true≢false e);
+  written = let now = c.loop-order.invariant.preparing m v begins in
+      puts_within _ _ v _ (all_puts c.args.list.now (length c.loop-order.stored.items) (let all : length c.loop-order.stored.items ≡ length c.args.list.now = c.loop-order.invariant.longer ∙ search rules in omega (arith, all))) now.written;
 }
 
 pub returns-in_err-put : goal.returns-in_err-put
