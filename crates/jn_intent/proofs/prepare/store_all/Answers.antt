@@ -1,4 +1,4 @@
-use Rattle.jn_intent.proofs.Common.{rules, Bool, false, slice_index_or, slice_get-get_or, maps_in, List, [], ◌∷◌, length, ap, sym, subst, ◌∙◌, true≢false, arith, length-append, err_from_is_err_and, is_ok, StoredIntention, Counts, page_count, IsPreparing}
+use Rattle.jn_intent.proofs.Common.{◌≡◌, rules, Bool, false, slice_index_or, slice_get-get_or, maps_in, List, [], ◌∷◌, length, ap, sym, subst, ◌∙◌, true≢false, arith, length-append, err_from_is_err_and, is_ok, StoredIntention, Counts, page_count, IsPreparing}
 use Rattle.jn_intent.proofs.PutPages.{puts_within, all_puts}
 use Rattle.jn_intent.proofs.Storing.{plain_at, list_on, list_stops, pages_left, lacks_past}
 use Rattle.jn_intent.proofs.prepare.store_all.Goals as goal
