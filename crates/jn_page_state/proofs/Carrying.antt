@@ -1,5 +1,5 @@
 -- The put of a head or of a map page that a head names, as another layout at its place.
-use Rattle.jn_page_state.proofs.Common.{◌≡◌, ◌⊎◌, inl, inr, ⊎_elim, ◌<◌, ◌≤◌, ◌+◌, ◌^◌, ◌&&◌, ◌||◌, ℕ, zero, suc, Bool, true, false, if◌then◌else◌, List, [], ◌∷◌, map, take, length, Option, Some, None, refl, sym, ◌∙◌, ap, subst, arith, true≢false, nat_tests, nat_eq, nat_lt, nat_le, cases_eq, cases_lt, get_or-set_same, get_or-set_other, slice_index, slice_index_or, slice_set, option_and_then, list_all, find, ServerNo, WorkId, work_eq, work_tells, StoredIntention, What, Fresh, Gone, Cut, Put, FullIntention, Head, FreeHead, Record, Free, Intention, Ready, Going, FlagRecord, most_blocks, most_maps, head_blocks, head_map, map_page, Layout, Unused, map_cell, at_cell, kept_entry, layouts_by, layout_at, entry_in, Counts, Prepared, ready_work, record_in, is_prepared, is_intention, IsLoadable, Contents, head_in, entry_of, layouts_in, stored_in, intention_of, with_first, intentions_from, full_list, intended, works_in, prepared_by, heads_name, works_have, names_for_block, state_in, address_after, IsHeadPut, IsPartPut, LaysOut, HasIntentions, IsCompleteBy, Intends, AddressesDiffer, IsConsistent, names_block, PagePut, RootPut, RecordPut, HeadPut, BlockPut, MapPut, IsPagePut, put_in, is_written, rows_after, heads_after, row_at, held_contents, MayStand, IsLayoutPut, Lays, IsStanding, IsPutStep, MayChange, Makes, MakesFirst, StoreView, Pick, StableState, CarryOut, made_by, block_on, pages_by, has_page, get_or_past, FileNo, BlockNo, File, is_in_range, is_some, change, change_by, inside-was, Left, left_of, part_by, file_there}
+use Rattle.jn_page_state.proofs.Common.{◌≡◌, ◌⊎◌, inl, inr, ⊎_elim, ◌<◌, ◌≤◌, ◌+◌, ◌^◌, ◌&&◌, ◌||◌, ℕ, zero, suc, Bool, true, false, if◌then◌else◌, List, [], ◌∷◌, map, take, length, Option, Some, None, refl, sym, ◌∙◌, ap, subst, arith, true≢false, nat_tests, nat_eq, nat_lt, nat_le, cases_eq, cases_lt, get_or-set_same, get_or-set_other, slice_index, slice_index_or, slice_set, option_and_then, list_all, find, ServerNo, WorkId, work_eq, work_tells, StoredIntention, What, Fresh, Gone, Cut, Put, FullIntention, Head, FreeHead, Record, Free, Intention, Ready, Going, FlagRecord, most_blocks, most_maps, head_blocks, head_map, map_page, Layout, Unused, map_cell, at_cell, kept_entry, layouts_by, layout_at, entry_in, Counts, Prepared, ready_work, record_in, is_prepared, is_intention, IsLoadable, Contents, head_in, entry_of, layouts_in, stored_in, intention_of, with_first, intentions_from, full_list, intended, works_in, prepared_by, heads_name, works_have, names_for_block, state_in, address_after, IsHeadPut, IsPartPut, LaysOut, HasIntentions, IsCompleteBy, Intends, AddressesDiffer, IsConsistent, names_block, PagePut, RootPut, RecordPut, HeadPut, BlockPut, MapPut, IsPagePut, put_in, is_put_at, rows_after, heads_after, row_at, held_contents, MayStand, IsLayoutPut, Lays, IsStanding, IsPutStep, MayChange, Makes, MakesFirst, StoreView, Pick, StableState, CarryOut, made_by, block_on, pages_by, has_page, get_or_past, FileNo, BlockNo, File, is_in_range, is_some, change, change_by, inside-was, Left, left_of, part_by, file_there}
 use Rattle.jn_page_state.proofs.Found.{found_once}
 use Rattle.jn_page_state.proofs.Laying.{same_layouts, map_at}
 use Rattle.jn_page_state.proofs.MapPages.{row_entry}
@@ -199,10 +199,10 @@ module _ (server : ServerNo) (g : Counts) (few : g.leaves < 2 ^ 16) (c : Content
         ∙ lays.layouts ∙ ap (λ l. slice_set l place new) (sym (rows_said c.blocks rows c.heads says))
 
     -- it is the put of a head, or of a map page at a head's cell
-    pub map_cell_put : (d : ℕ) → is_written put d ≡ true → (i : ℕ) × (j : ℕ) × (at_cell (layout_at (layouts_in c) i) (map_cell j) ≡ suc d)
+    pub map_cell_put : (d : ℕ) → is_put_at put d ≡ true → (i : ℕ) × (j : ℕ) × (at_cell (layout_at (layouts_in c) i) (map_cell j) ≡ suc d)
     map_cell_put d written = by put lays.kind written
       where
-        by : (put : PagePut) → IsLayoutPut c.heads put → is_written put d ≡ true → (i : ℕ) × (j : ℕ) × (at_cell (layout_at (layouts_in c) i) (map_cell j) ≡ suc d)
+        by : (put : PagePut) → IsLayoutPut c.heads put → is_put_at put d ≡ true → (i : ℕ) × (j : ℕ) × (at_cell (layout_at (layouts_in c) i) (map_cell j) ≡ suc d)
         by (HeadPut at h) kind t = absurd (true≢false (sym t))
         by (MapPut x row) kind t = (kind.0, kind.1, map_at (entry_of c.blocks) c.heads kind.0 kind.1 kind.2 ∙ kind.3 ∙ ap suc (equal x d t))
         by (RootPut epoch) kind t = absurd kind
@@ -223,7 +223,7 @@ module _ (server : ServerNo) (g : Counts) (few : g.leaves < 2 ^ 16) (c : Content
     epoch_same (RecordPut slot r) kind = absurd kind
     epoch_same (BlockPut x block) kind = absurd kind
 
-    blocks_same : (put : PagePut) → IsLayoutPut c.heads put → (d : ℕ) → is_written put d ≡ false → (put_in put c).blocks d ≡ c.blocks d
+    blocks_same : (put : PagePut) → IsLayoutPut c.heads put → (d : ℕ) → is_put_at put d ≡ false → (put_in put c).blocks d ≡ c.blocks d
     blocks_same (HeadPut at h) kind d out = refl
     blocks_same (MapPut x row) kind d out = ap (λ b. if b then take 448 (map_page row) else c.blocks d) out
     blocks_same (RootPut epoch) kind d out = absurd kind
@@ -232,10 +232,10 @@ module _ (server : ServerNo) (g : Counts) (few : g.leaves < 2 ^ 16) (c : Content
 
     -- where the map page that it writes is named for no block
     module _ (unnamed : (i j d : ℕ) → at_cell (layout_at (layouts_in c) i) (map_cell j) ≡ suc d → (heads_name most_blocks (slice_set (layouts_in c) place new) (suc d) || works_have (names_for_block (suc d)) c.pool) ≡ true → ⊥) where
-      pub put_unwritten : (d : ℕ) → names_block (put_in put c) d ≡ true → is_written put d ≡ false
-      put_unwritten d named = by (is_written put d) refl
+      pub put_unwritten : (d : ℕ) → names_block (put_in put c) d ≡ true → is_put_at put d ≡ false
+      put_unwritten d named = by (is_put_at put d) refl
         where
-          by : (b : Bool) → is_written put d ≡ b → b ≡ false
+          by : (b : Bool) → is_put_at put d ≡ b → b ≡ false
           by false e = refl
           by true e = let at = map_cell_put d e in absurd (unnamed at.0 at.1 d at.2
               (sym (ap (λ l. heads_name most_blocks l (suc d) || works_have (names_for_block (suc d)) (put_in put c).pool) put_layouts
@@ -249,10 +249,10 @@ module _ (server : ServerNo) (g : Counts) (few : g.leaves < 2 ^ 16) (c : Content
         blocks = λ d named. blocks_same put lays.kind d (put_unwritten d named);
       }
 
-    pub before_unwritten : ((i j d : ℕ) → at_cell (layout_at (layouts_in c) i) (map_cell j) ≡ suc d → names_block c d ≡ true → ⊥) → (d : ℕ) → names_block c d ≡ true → is_written put d ≡ false
-    before_unwritten unnamed d named = by (is_written put d) refl
+    pub before_unwritten : ((i j d : ℕ) → at_cell (layout_at (layouts_in c) i) (map_cell j) ≡ suc d → names_block c d ≡ true → ⊥) → (d : ℕ) → names_block c d ≡ true → is_put_at put d ≡ false
+    before_unwritten unnamed d named = by (is_put_at put d) refl
       where
-        by : (b : Bool) → is_written put d ≡ b → b ≡ false
+        by : (b : Bool) → is_put_at put d ≡ b → b ≡ false
         by false e = refl
         by true e = let at = map_cell_put d e in absurd (unnamed at.0 at.1 d at.2 named)
 
@@ -295,7 +295,7 @@ module _ (server : ServerNo) (g : Counts) (v w : StoreView) (epoch : ℕ) (recor
       is_there : (c : Pick) → place < length (layouts_in (held_contents g v epoch records heads c))
       is_there c = subst (λ l. place < length l) (layouts_same c) there
 
-      quiet : (c : Pick) (d : ℕ) → names_block (held_contents g v epoch records heads c) d ≡ true → is_written put d ≡ false
+      quiet : (c : Pick) (d : ℕ) → names_block (held_contents g v epoch records heads c) d ≡ true → is_put_at put d ≡ false
       quiet c = before_unwritten server g standing.held.root_fits.leaves (held_contents g v epoch records heads c) rows standing.held.places standing.held.pages (its_rows c) put is.page (its_head c) place new lays
           (λ i j d here. before_unnamed (held_contents g v epoch records heads c) g.leaves (before c).addresses (ranges c) place new (is_there c) i j d here)
 

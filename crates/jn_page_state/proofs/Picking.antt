@@ -1,5 +1,5 @@
 -- What a pick of halves finds after a put, done or stopped.
-use Rattle.jn_page_state.proofs.Common.{◌∷◌, ◌≡◌, ◌≢◌, ◌⊎◌, inl, inr, ⊎_elim, ◌<◌, ◌≤◌, ℕ, Bool, true, false, if◌then◌else◌, List, [], refl, sym, ap, subst, ◌∙◌, arith, fun_ext, nat_eq, nat_lt, cases_eq, cases_lt, nat_tests, ServerNo, Counts, page_count, data_place, StableState, Pick, Change, made_by, Changed, Unchanged, StoreView, Candidate, IsClean, HasSamePages, StorePut, with_page, with_same, with_other, same_shrinks, state_in, half_of, pages_by, found_on, contents_of, state_of, IsOfFormat, IsLoadable, IsConsistent, IsFound, NamedAreClean, IsRecoverable, names_block, PagePut, RootPut, RecordPut, HeadPut, BlockPut, MapPut, put_place, put_page, IsPagePut, put_in, IsReadable, contents_by, is_written, KeepsClean, KeepsFound, IsPut, IsFewer, IsStopState, whole-stop}
+use Rattle.jn_page_state.proofs.Common.{◌∷◌, ◌≡◌, ◌≢◌, ◌⊎◌, inl, inr, ⊎_elim, ◌<◌, ◌≤◌, ℕ, Bool, true, false, if◌then◌else◌, List, [], refl, sym, ap, subst, ◌∙◌, arith, fun_ext, nat_eq, nat_lt, cases_eq, cases_lt, nat_tests, ServerNo, Counts, page_count, data_place, StableState, Pick, Change, made_by, Changed, Unchanged, StoreView, Candidate, IsClean, HasSamePages, StorePut, with_page, with_same, with_other, same_shrinks, state_in, half_of, pages_by, found_on, contents_of, state_of, IsOfFormat, IsLoadable, IsConsistent, IsFound, NamedAreClean, IsRecoverable, names_block, PagePut, RootPut, RecordPut, HeadPut, BlockPut, MapPut, put_place, put_page, IsPagePut, put_in, IsReadable, contents_by, is_put_at, KeepsClean, KeepsFound, IsPut, IsFewer, IsStopState, whole-stop}
 use Rattle.jn_page_state.specs.Puts.{Makes}
 use Rattle.jn_page_state.proofs.FilesOnPages.{state_on_pages}
 use Rattle.jn_page_state.proofs.PagePuts.{put_is_read, keeps_format}
@@ -136,13 +136,13 @@ module _ (server : ServerNo) (g : Counts) (v : StoreView) (put : PagePut) (ok : 
   -- ---- what has one candidate
 
   -- a data page that isn't written is as before
-  clean_on : (d : ℕ) → d < g.leaves → is_written put d ≡ false → IsClean v (data_place g d) → IsClean w (data_place g d)
+  clean_on : (d : ℕ) → d < g.leaves → is_put_at put d ≡ false → IsClean v (data_place g d) → IsClean w (data_place g d)
   clean_on d lt out clean =
       let ne : data_place g d ≢ put_place g put = by put is.page out in
       let same = is.step.others (data_place g d) (omega (arith, lt, count)) ne in
       same.first ∙ clean ∙ sym same.second
     where
-      by : (put : PagePut) → IsPagePut server g put → is_written put d ≡ false → data_place g d ≢ put_place g put
+      by : (put : PagePut) → IsPagePut server g put → is_put_at put d ≡ false → data_place g d ≢ put_place g put
       by (RootPut epoch) h out e = omega (arith, e)
       by (RecordPut slot r) h out e = let below = h.0 in omega (arith, e, below)
       by (HeadPut place k) h out e = let below = h.0 in omega (arith, e, below)

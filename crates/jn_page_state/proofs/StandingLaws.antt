@@ -1,5 +1,5 @@
 -- Puts on a store that stands.
-use Rattle.jn_page_state.proofs.Common.{◌≡◌, inl, inr, ◌⊎◌, ◌<◌, ℕ, Bool, true, false, List, [], ◌∷◌, sym, ap, subst, ◌∙◌, ServerNo, Head, Record, Counts, data_place, StableState, Pick, Change, made_by, IsStopState, IsLoadable, StoreView, IsClean, state_in, found_on, pages_by, PagePut, PutStep, put_in, IsReadable, IsPut, is_written, KeepsClean, contents_by, IsConsistent, IsRecoverable, names_block, MayStand, held_contents, epoch_after, records_after, heads_after, rows_after, IsStanding, standing_state, IsPutStep, MayChange, Makes, MakesNothing, MakesFirst, whole-stop}
+use Rattle.jn_page_state.proofs.Common.{◌≡◌, inl, inr, ◌⊎◌, ◌<◌, ℕ, Bool, true, false, List, [], ◌∷◌, sym, ap, subst, ◌∙◌, ServerNo, Head, Record, Counts, data_place, StableState, Pick, Change, made_by, IsStopState, IsLoadable, StoreView, IsClean, state_in, found_on, pages_by, PagePut, PutStep, put_in, IsReadable, IsPut, is_put_at, KeepsClean, contents_by, IsConsistent, IsRecoverable, names_block, MayStand, held_contents, epoch_after, records_after, heads_after, rows_after, IsStanding, standing_state, IsPutStep, MayChange, Makes, MakesNothing, MakesFirst, whole-stop}
 use Rattle.jn_page_state.proofs.CleanPages.{one_state}
 use Rattle.jn_page_state.proofs.FilesOnPages.{state_said as said_by_pages}
 use Rattle.jn_page_state.proofs.HeldAfter.{held_after}
@@ -40,8 +40,8 @@ module _ (server : ServerNo) (g : Counts) (v : StoreView) (epoch : ℕ) (records
   now_said c x e = ap (λ y. state_in (put_in put y)) (as_said c) ∙ e
 
   module _ (kept : (c : Pick) → IsConsistent g (put_in put (held_contents g v epoch records heads c)))
-      (names : (c : Pick) (d : ℕ) → d < g.leaves → names_block (put_in put (held_contents g v epoch records heads c)) d ≡ true → IsClean v (data_place g d) × (is_written put d ≡ false))
-      (unwritten : (c : Pick) (d : ℕ) → names_block (held_contents g v epoch records heads c) d ≡ true → is_written put d ≡ false) where
+      (names : (c : Pick) (d : ℕ) → d < g.leaves → names_block (put_in put (held_contents g v epoch records heads c)) d ≡ true → IsClean v (data_place g d) × (is_put_at put d ≡ false))
+      (unwritten : (c : Pick) (d : ℕ) → names_block (held_contents g v epoch records heads c) d ≡ true → is_put_at put d ≡ false) where
     keeps : KeepsClean g v put
     keeps = record {
       names = λ c d lt named. names c d lt (sym (ap (λ x. names_block (put_in put x) d) (as_said c)) ∙ named);

@@ -84,15 +84,15 @@ PutStep server g v put ok w = StorePut v (put_place g put) (put_page server g pu
 abbrev pub Makes : Counts → StoreView → PagePut → StableState → Type 0
 Makes g v put y = (c : Pick) → state_in (put_in put (contents_by g v c)) ≡ y
 
-abbrev pub is_written : PagePut → ℕ → Bool
-is_written (BlockPut k block) d = nat_eq k d
-is_written (MapPut k row) d = nat_eq k d
-is_written _ d = false
+abbrev pub is_put_at : PagePut → ℕ → Bool
+is_put_at (BlockPut k block) d = nat_eq k d
+is_put_at (MapPut k row) d = nat_eq k d
+is_put_at _ d = false
 
 -- The data pages that are named for blocks after a put have one candidate, and it writes none that is so named, before or after.
 pub record KeepsClean (g : Counts) (v : StoreView) (put : PagePut) : Type 0 where
-  pub names : (c : Pick) (d : ℕ) → d < g.leaves → names_block (put_in put (contents_by g v c)) d ≡ true → IsClean v (data_place g d) × (is_written put d ≡ false)
-  pub unwritten : (c : Pick) (d : ℕ) → d < g.leaves → names_block (contents_by g v c) d ≡ true → is_written put d ≡ false
+  pub names : (c : Pick) (d : ℕ) → d < g.leaves → names_block (put_in put (contents_by g v c)) d ≡ true → IsClean v (data_place g d) × (is_put_at put d ≡ false)
+  pub unwritten : (c : Pick) (d : ℕ) → d < g.leaves → names_block (contents_by g v c) d ≡ true → is_put_at put d ≡ false
 
 -- By each pick it leaves what a recovery asks.
 pub record KeepsFound (server : ServerNo) (g : Counts) (v : StoreView) (put : PagePut) : Type 0 where

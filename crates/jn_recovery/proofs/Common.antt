@@ -66,7 +66,7 @@ pub use Rattle.jn_storage.specs.Listing.{total, is_in, are_different, IsListing,
 pub use Rattle.jn_storage.specs.Storage.{IsCounted, is_stored, is_past_head, most_pages, IsServing, Accounts, map_eq, has_map}
 pub use Rattle.jn_storage.specs.Orderly.{file_there, list_of, intentions, IsLoadable, IsGiven, IsOrderly}
 pub use Rattle.jn_storage.proofs.Listings.{Tells, but, is_in-but, different-but, total-but, listing-less, listing-more, listing-same, total-same}
-pub use Rattle.jn_recovery.specs.Gathering.{collected, state_on, works_on, IsFew, names_page, all_needed, IsApart, MayHold, HoldsNamed, MayHoldAt, held_at, HoldsBoth, both_held, flags_on, MayPromise, IsGathered}
+pub use Rattle.jn_recovery.specs.Gathering.{collected, state_on, works_on, IsFew, record_names, all_needed, IsApart, MayHold, HoldsNamed, MayHoldAt, held_at, HoldsBoth, both_held, flags_on, MayPromise, IsGathered}
 pub use Rattle.jn_recovery.specs.Matches.{stored_work, HasMaps, HaveMaps, Matches, IsKeptMemory, FlagsMatch, flag_on, IsMade, WorksMatch, work_by, StoredWork}
 pub use Rattle.jn_recovery.specs.Pages.{heads_needed, supplied_on, supplied_by}
 pub use Rattle.std.proofs.lemmas.List.Folds.{find_at, find_past}

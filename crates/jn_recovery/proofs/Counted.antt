@@ -1,5 +1,5 @@
 -- Everything is counted: of what a recovery finds, and of what it keeps in memory.
-use Rattle.jn_recovery.proofs.Common.{◌≡◌, inl, inr, ◌⊎◌, ⊎_elim, ◌<◌, ◌≤◌, ◌^◌, ℕ, zero, suc, Bool, true, false, not, ◌||◌, ◌&&◌, if◌then◌else◌, List, [], ◌∷◌, length, map, Option, Some, None, refl, sym, ◌∙◌, ap, subst, true≢false, arith, cases_lt, nat_tests, get_or_past, sum_by-cons, All, nat_eq, nat_lt, count_by, is_some, option_map, option_and_then, find, list_any, list_all, ServerNo, Tid, WorkId, file_eq, work_eq, file_tells, work_tells, TableView, IsTable, is_held, Contents, state_in, with_first, intended, stored_list, intentions_from, intention_of, heads_name, stored_in, found_once, passes_at, IsConsistent, Intends, PassesOnce, FullIntention, StoredIntention, Head, Record, Free, Intention, Ready, Going, FlagRecord, WorkState, intention_has_page, needs_a_head, is_put, is_put_intention, has_page, RecordFits, Counts, record_in, is_prepared, is_intention, name_of, find_by, total, is_in, are_different, IsCounted, file_there, list_of, intentions, Tells, but, is_in-but, different-but, total-but, collected, state_on, works_on, IsFew, names_page, all_needed, stored_work, Memory, accounts_of, held_in, next_in, next_by, stored_by, rubbish_in, heads_needed, heads_of, ◌/◌, slice_get, nat_le, head_blocks, most_blocks, most_cells, unit_eq, table_layouts, layouts_in, entry_of, Gives, IsSuppliedIn, names_address, names_what_it_needs, map_cell, files_in, maps_in, Prepared, IsListing, IsLoadable, is_stored, is_past_head, most_pages, IsApart, HasMaps, HaveMaps, held_of}
+use Rattle.jn_recovery.proofs.Common.{◌≡◌, inl, inr, ◌⊎◌, ⊎_elim, ◌<◌, ◌≤◌, ◌^◌, ℕ, zero, suc, Bool, true, false, not, ◌||◌, ◌&&◌, if◌then◌else◌, List, [], ◌∷◌, length, map, Option, Some, None, refl, sym, ◌∙◌, ap, subst, true≢false, arith, cases_lt, nat_tests, get_or_past, sum_by-cons, All, nat_eq, nat_lt, count_by, is_some, option_map, option_and_then, find, list_any, list_all, ServerNo, Tid, WorkId, file_eq, work_eq, file_tells, work_tells, TableView, IsTable, is_held, Contents, state_in, with_first, intended, stored_list, intentions_from, intention_of, heads_name, stored_in, found_once, passes_at, IsConsistent, Intends, PassesOnce, FullIntention, StoredIntention, Head, Record, Free, Intention, Ready, Going, FlagRecord, WorkState, intention_has_page, needs_a_head, is_put, is_put_intention, has_page, RecordFits, Counts, record_in, is_prepared, is_intention, name_of, find_by, total, is_in, are_different, IsCounted, file_there, list_of, intentions, Tells, but, is_in-but, different-but, total-but, collected, state_on, works_on, IsFew, record_names, all_needed, stored_work, Memory, accounts_of, held_in, next_in, next_by, stored_by, rubbish_in, heads_needed, heads_of, ◌/◌, slice_get, nat_le, head_blocks, most_blocks, most_cells, unit_eq, table_layouts, layouts_in, entry_of, Gives, IsSuppliedIn, names_address, names_what_it_needs, map_cell, files_in, maps_in, Prepared, IsListing, IsLoadable, is_stored, is_past_head, most_pages, IsApart, HasMaps, HaveMaps, held_of}
 use Rattle.jn_recovery.proofs.TableCounted.{file_of_head, files_listed, heads_counted, all_units, blocks_listed, all_maps, maps_listed, holds_block, holds_map, pages_counted}
 use Rattle.std.proofs.lemmas.List.Elements.{All-nil, All-cons}
 use Rattle.jn_alloc.specs.Free.{free_count}
@@ -58,7 +58,7 @@ module _ (g : Counts) (c : Contents) (consistent : IsConsistent g c) (none_left 
   intends : (j : ℕ) (w : WorkId) (u : Tid) (k : ℕ) (s : StoredIntention) → record_in c.pool j ≡ Intention w u k s → Intends c.pool j s
   intends j w u k s e = record { work = w; tid = u; order = k; stands = e; prepared = prepared_for g c consistent none_left j w u k s e }
 
-  names_at : (j a : ℕ) → names_page a (record_in c.pool j) ≡ true → (s : StoredIntention) × (p : ℕ) × Intends c.pool j s × Gives s a p
+  names_at : (j a : ℕ) → record_names a (record_in c.pool j) ≡ true → (s : StoredIntention) × (p : ℕ) × Intends c.pool j s × Gives s a p
   names_at j a t = by (record_in c.pool j) refl t
     where
       gives : (s : StoredIntention) → names_address (suc a) s ≡ true → (p : ℕ) × Gives s a p
@@ -71,17 +71,17 @@ module _ (g : Counts) (c : Contents) (consistent : IsConsistent g c) (none_left 
           which true e h = (s.block.0, inl (equal s.address e, refl))
           which false e h = (map_cell (s.block.0 / head_blocks - 1), inr (equal s.map h, refl))
 
-      by : (r : Record) → record_in c.pool j ≡ r → names_page a r ≡ true → (s : StoredIntention) × (p : ℕ) × Intends c.pool j s × Gives s a p
+      by : (r : Record) → record_in c.pool j ≡ r → record_names a r ≡ true → (s : StoredIntention) × (p : ℕ) × Intends c.pool j s × Gives s a p
       by Free e h = absurd (true≢false (sym h))
       by (Intention w u k s) e h = let its = gives s h in (s, its.0, intends j w u k s e, its.1)
       by (Ready head n reads) e h = absurd (true≢false (sym h))
       by (Going head n reads) e h = absurd (true≢false (sym h))
       by (FlagRecord f) e h = absurd (true≢false (sym h))
 
-  pub pages_fit : (j a : ℕ) → names_page a (record_in c.pool j) ≡ true → a < g.leaves
+  pub pages_fit : (j a : ℕ) → record_names a (record_in c.pool j) ≡ true → a < g.leaves
   pages_fit j a t = let at = names_at j a t in consistent.addresses.works_fit a j at.1 at.0 at.2 at.3
 
-  pub pages_once : (a : ℕ) → PassesOnce (λ i. names_page a (record_in c.pool i))
+  pub pages_once : (a : ℕ) → PassesOnce (λ i. record_names a (record_in c.pool i))
   pages_once a i j x y = let p = names_at i a x in let q = names_at j a y in (consistent.addresses.works a i j p.1 q.1 p.0 q.0 p.2 q.2 p.3 q.3).0
 
   -- ---- what the works need
@@ -292,7 +292,7 @@ module _ (server : ServerNo) (g : Counts) (epoch : ℕ) (pool : List Record) (t 
       omega (arith, each, both, a, b, sum)
 
   -- everything is counted, where the pages that intentions name are held, and what the works need is promised
-  pub counted : (size : length pool ≡ g.pool) → ((a : ℕ) → is_held t a ≡ list_any (names_page a) pool) → t.free_heads.promised ≡ all_needed t.heads (works_on pool)
+  pub counted : (size : length pool ≡ g.pool) → ((a : ℕ) → is_held t a ≡ list_any (record_names a) pool) → t.free_heads.promised ≡ all_needed t.heads (works_on pool)
       → (m : Memory) → m.records ≡ pool → m.table ≡ t → m.works ≡ works_on pool → IsCounted (state_in (record { epoch = epoch; pool = pool; heads = t.heads; blocks = blocks })) (accounts_of m)
   counted size held promised m records tables works = subst (IsCounted (state_in c)) (sym (accounts_are m records tables works)) (record {
     works = collected named pool;

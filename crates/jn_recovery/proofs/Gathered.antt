@@ -1,5 +1,5 @@
 -- What is collected of the records, one after another.
-use Rattle.jn_recovery.proofs.Common.{◌≡◌, ⊎_elim, ◌<◌, ◌+◌, ◌-◌, ℕ, zero, suc, Bool, true, false, ◌||◌, List, [], ◌∷◌, ◌++◌, length, take, get_or, Some, None, refl, sym, ◌∙◌, ap, subst, arith, cases_eq, nat_tests, nat_eq, position, option_and_then, list_any, get_or-set_same, get_or-set_other, length-set, TableView, is_held, WorkId, with_first, stored_in, intention_of, intentions_from, Record, Free, Intention, Ready, Going, FlagRecord, StoredIntention, Counts, slice_set, record_in, is_intention, names_page, MayHold, HoldsNamed, names_address, IsApart, MayHoldAt, held_at, HoldsBoth, both_held}
+use Rattle.jn_recovery.proofs.Common.{◌≡◌, ⊎_elim, ◌<◌, ◌+◌, ◌-◌, ℕ, zero, suc, Bool, true, false, ◌||◌, List, [], ◌∷◌, ◌++◌, length, take, get_or, Some, None, refl, sym, ◌∙◌, ap, subst, arith, cases_eq, nat_tests, nat_eq, position, option_and_then, list_any, get_or-set_same, get_or-set_other, length-set, TableView, is_held, WorkId, with_first, stored_in, intention_of, intentions_from, Record, Free, Intention, Ready, Going, FlagRecord, StoredIntention, Counts, slice_set, record_in, is_intention, record_names, MayHold, HoldsNamed, names_address, IsApart, MayHoldAt, held_at, HoldsBoth, both_held}
 use Rattle.jn_recovery.proofs.Pool.{position_at, none_position}
 
 -- ---- the intentions of a work
@@ -92,7 +92,7 @@ held_then u (suc a) there b = ⊎_elim
     stays : (y e : Bool) → e ≡ false → y ≡ (y || e)
     stays y e h = grind (arith, h)
 
-both_then : (u : TableView) (r : Record) → ((a : ℕ) → names_page a r ≡ true → a < length u.held) → (b : ℕ) → is_held (both_held u r) b ≡ (is_held u b || names_page b r)
+both_then : (u : TableView) (r : Record) → ((a : ℕ) → record_names a r ≡ true → a < length u.held) → (b : ℕ) → is_held (both_held u r) b ≡ (is_held u b || record_names b r)
 both_then u Free there b = none (is_held u b)
   where
     none : (y : Bool) → y ≡ (y || false)
@@ -141,10 +141,10 @@ module _ (t u : TableView) (pool : List Record) (k : ℕ) (lt : k < length pool)
   kept = record { counts = before.counts; heads = before.heads; maps = before.maps; free_heads = before.free_heads; promised = before.promised; size = before.size; touched = before.touched }
 
   -- a page that the next record names is loose
-  loose : (a : ℕ) → names_page a (record_in pool k) ≡ true → is_held u a ≡ false
-  loose a here = before.held a ∙ none_earlier (names_page a) Free pool k here (may.once a)
+  loose : (a : ℕ) → record_names a (record_in pool k) ≡ true → is_held u a ≡ false
+  loose a here = before.held a ∙ none_earlier (record_names a) Free pool k here (may.once a)
 
-  there : (a : ℕ) → names_page a (record_in pool k) ≡ true → a < length u.held
+  there : (a : ℕ) → record_names a (record_in pool k) ≡ true → a < length u.held
   there a here = let fit = may.fit k a here in let size = may.size in let same = before.size in omega (arith, fit, size, same)
 
   pub may_hold_both : HoldsBoth u (record_in pool k)
@@ -162,7 +162,7 @@ module _ (t u : TableView) (pool : List Record) (k : ℕ) (lt : k < length pool)
       second zero (suc b) h apart = let p = h b refl in (p.0, p.1, none_promised)
       second (suc a) (suc b) h apart = let p = h b refl in (p.0, get_or-set_other u.held a b true false (λ e. apart a refl (ap suc e)) ∙ p.1, none_promised)
 
-      by : (r : Record) → ((a : ℕ) → names_page a r ≡ true → is_held u a ≡ false) → ((a : ℕ) → names_page a r ≡ true → a < length u.held) → ((a : ℕ) → names_page a r ≡ true → a < u.counts.leaves) → IsApart r → HoldsBoth u r
+      by : (r : Record) → ((a : ℕ) → record_names a r ≡ true → is_held u a ≡ false) → ((a : ℕ) → record_names a r ≡ true → a < length u.held) → ((a : ℕ) → record_names a r ≡ true → a < u.counts.leaves) → IsApart r → HoldsBoth u r
       by Free loose there fit apart = tt
       by (Intention w v o i) loose there fit apart =
           (first i.address (λ a e. (fit a (left a e), loose a (left a e))), second i.address i.map (λ a e. (fit a (right a e), loose a (right a e))) apart)
@@ -195,5 +195,5 @@ module _ (t u : TableView) (pool : List Record) (k : ℕ) (lt : k < length pool)
         promised = keeps.promised;
         size = keeps.size;
         touched = keeps.touched;
-        held = λ a. both_then u (record_in pool k) there a ∙ ap (λ b. b || names_page a (record_in pool k)) (before.held a) ∙ sym (any_more (names_page a) Free pool k lt);
+        held = λ a. both_then u (record_in pool k) there a ∙ ap (λ b. b || record_names a (record_in pool k)) (before.held a) ∙ sym (any_more (record_names a) Free pool k lt);
       }

@@ -1,5 +1,5 @@
 -- What a recovery keeps in memory is what stands on the pages, and the storage serves.
-use Rattle.jn_recovery.proofs.Common.{◌≡◌, inr, ◌<◌, ◌≤◌, ◌+◌, ◌*◌, ℕ, suc, true, false, List, [], Option, Some, None, get_or, refl, sym, ◌∙◌, ap, subst, arith, count_by-le-length, is_some, list_any, ServerNo, Tid, WorkId, work_eq, TableView, IsTable, is_held, is_touched, state_in, held_contents, found_on, pages_by, block_on, IsConsistent, IsRecoverable, Head, Record, Root, WorkState, Counts, slot_place, head_place, StableState, IsServing, state, TellsFlags, name_of, find_by, StoreView, works_on, flags_on, names_page, all_needed, MayHold, MayPromise, IsGathered, IsLoaded, IsDown, IsUntouched, Recovering, most_calls, Matches, IsMade, Memory, accounts_of, view_of, next_by, rubbish_in, Stands, IsBegun, NoMemory, Opened, IsOnly, root_page, root_by, table_layouts, layouts_in, maps_held, maps_in, maps_named, IsLoadable}
+use Rattle.jn_recovery.proofs.Common.{◌≡◌, inr, ◌<◌, ◌≤◌, ◌+◌, ◌*◌, ℕ, suc, true, false, List, [], Option, Some, None, get_or, refl, sym, ◌∙◌, ap, subst, arith, count_by-le-length, is_some, list_any, ServerNo, Tid, WorkId, work_eq, TableView, IsTable, is_held, is_touched, state_in, held_contents, found_on, pages_by, block_on, IsConsistent, IsRecoverable, Head, Record, Root, WorkState, Counts, slot_place, head_place, StableState, IsServing, state, TellsFlags, name_of, find_by, StoreView, works_on, flags_on, record_names, all_needed, MayHold, MayPromise, IsGathered, IsLoaded, IsDown, IsUntouched, Recovering, most_calls, Matches, IsMade, Memory, accounts_of, view_of, next_by, rubbish_in, Stands, IsBegun, NoMemory, Opened, IsOnly, root_page, root_by, table_layouts, layouts_in, maps_held, maps_in, maps_named, IsLoadable}
 use Rattle.jn_recovery.specs.Kept.{memory_kept}
 use Rattle.jn_recovery.specs.declared.gathering.Kept.{Kept as KeptParts}
 use Rattle.jn_recovery.specs.declared.load.Found.{Found}
@@ -33,7 +33,7 @@ module _ (server : ServerNo) (g : Counts) (v : StoreView) (most was : ℕ) (reco
   memory_gone last = memory_down server g v stands.before w recovering (record { read = stands.before; before_last = subst (λ n. n < 4294967295) (sym stands.old) last })
 
 module _ (server : ServerNo) (v : StoreView) (most was : ℕ) (pool : List Record) (w : StoreView) (u : TableView) (stands : Stands server u.counts v most was (was + 1) pool u.heads u.maps w) (power : w.power ≡ true)
-    (none_left : rubbish_in pool pool ≡ []) (root : IsOnly w 0 (root_page (root_by server u.counts (was + 1)))) (table : IsTable u) (held : (a : ℕ) → is_held u a ≡ list_any (names_page a) pool) (promised : u.free_heads.promised ≡ all_needed u.heads (works_on pool)) where
+    (none_left : rubbish_in pool pool ≡ []) (root : IsOnly w 0 (root_page (root_by server u.counts (was + 1)))) (table : IsTable u) (held : (a : ℕ) → is_held u a ≡ list_any (record_names a) pool) (promised : u.free_heads.promised ≡ all_needed u.heads (works_on pool)) where
   whole : IsConsistent u.counts (held_contents u.counts w (was + 1) pool u.heads (λ n. false))
   whole = consistent server u.counts w (was + 1) pool u.heads u.maps stands.standing
 
@@ -186,7 +186,7 @@ module _ (server : ServerNo) (g : Counts) (v : StoreView) (p : Opened) (epoch : 
     pub kept_untouched : IsUntouched k.table
     kept_untouched a = ap (λ t. is_touched t a) table.promises ∙ ap (λ l. get_or l a false) table.holds.touched ∙ at.table.untouched a
 
-    held : (a : ℕ) → is_held k.table a ≡ list_any (names_page a) p.sets
+    held : (a : ℕ) → is_held k.table a ≡ list_any (record_names a) p.sets
     held a = ap (λ t. is_held t a) table.promises ∙ table.holds.held a
 
     promised : k.table.free_heads.promised ≡ all_needed k.table.heads (works_on p.sets)

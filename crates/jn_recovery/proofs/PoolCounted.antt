@@ -1,5 +1,5 @@
 -- What is counted of the pool: its works, its flags and their records.
-use Rattle.jn_recovery.proofs.Common.{◌≡◌, ◌<◌, ◌≤◌, ◌+◌, ℕ, zero, suc, Bool, true, false, not, ◌||◌, ◌&&◌, if◌then◌else◌, List, [], ◌∷◌, length, map, get_or, Option, Some, None, refl, sym, ◌∙◌, ap, subst, true≢false, arith, nat_tests, length-map, sum_by-cons, nat_eq, nat_lt, nat_le, is_some, count_by, option_map, option_and_then, find, list_any, Tid, WorkId, tid_eq, work_eq, tid_tells, work_tells, Contents, state_in, stored_in, stored_list, intention_of, intentions_from, with_first, intended, prepared_by, flag_by, works_name, IsConsistent, HasIntentions, IsCompleteBy, PassesOnce, found_once, found_passes, found_any, none_at, passes_at, StoredIntention, Record, Free, Intention, Ready, Going, FlagRecord, WorkState, Counts, record_in, is_free, free_count, is_prepared, is_intention, is_flag, is_rubbish, name_of, tid_of, find_by, total, are_different, IsListing, intentions, list_of, collected, state_on, works_on, flags_on, names_page, stored_work, work_by, flag_on, WorksMatch, FlagsMatch, rubbish_in, holds_intention, names_address}
+use Rattle.jn_recovery.proofs.Common.{◌≡◌, ◌<◌, ◌≤◌, ◌+◌, ℕ, zero, suc, Bool, true, false, not, ◌||◌, ◌&&◌, if◌then◌else◌, List, [], ◌∷◌, length, map, get_or, Option, Some, None, refl, sym, ◌∙◌, ap, subst, true≢false, arith, nat_tests, length-map, sum_by-cons, nat_eq, nat_lt, nat_le, is_some, count_by, option_map, option_and_then, find, list_any, Tid, WorkId, tid_eq, work_eq, tid_tells, work_tells, Contents, state_in, stored_in, stored_list, intention_of, intentions_from, with_first, intended, prepared_by, flag_by, works_name, IsConsistent, HasIntentions, IsCompleteBy, PassesOnce, found_once, found_passes, found_any, none_at, passes_at, StoredIntention, Record, Free, Intention, Ready, Going, FlagRecord, WorkState, Counts, record_in, is_free, free_count, is_prepared, is_intention, is_flag, is_rubbish, name_of, tid_of, find_by, total, are_different, IsListing, intentions, list_of, collected, state_on, works_on, flags_on, record_names, stored_work, work_by, flag_on, WorksMatch, FlagsMatch, rubbish_in, holds_intention, names_address}
 use Rattle.jn_recovery.proofs.Counting.{is_of_work, none_counts, one_counts, found_at, same_counts, counts_plus, work_count, listed_length}
 use Rattle.jn_recovery.proofs.Erasing.{rubbish_length}
 use Rattle.jn_recovery.proofs.FlagCalls.{none_any}
@@ -240,14 +240,14 @@ module _ (g : Counts) (c : Contents) (consistent : IsConsistent g c) (none_left 
       by false h = absurd (true≢false h)
 
   -- the pages that the works name are those that the records name
-  pub works_name_is : (a : ℕ) → works_name c.pool (suc a) ≡ list_any (names_page a) c.pool
+  pub works_name_is : (a : ℕ) → works_name c.pool (suc a) ≡ list_any (record_names a) c.pool
   works_name_is a = all c.pool (λ j. by j (record_in c.pool j) refl)
     where
-      all : (rs : List Record) → ((j : ℕ) → holds_intention (names_address (suc a)) c.pool (record_in rs j) ≡ names_page a (record_in rs j)) → list_any (holds_intention (names_address (suc a)) c.pool) rs ≡ list_any (names_page a) rs
+      all : (rs : List Record) → ((j : ℕ) → holds_intention (names_address (suc a)) c.pool (record_in rs j) ≡ record_names a (record_in rs j)) → list_any (holds_intention (names_address (suc a)) c.pool) rs ≡ list_any (record_names a) rs
       all [] same = refl
-      all (r ∷ rs) same = ap (λ b. b || list_any (holds_intention (names_address (suc a)) c.pool) rs) (same 0) ∙ ap (λ b. names_page a r || b) (all rs (λ j. same (suc j)))
+      all (r ∷ rs) same = ap (λ b. b || list_any (holds_intention (names_address (suc a)) c.pool) rs) (same 0) ∙ ap (λ b. record_names a r || b) (all rs (λ j. same (suc j)))
 
-      by : (j : ℕ) (r : Record) → record_in c.pool j ≡ r → holds_intention (names_address (suc a)) c.pool r ≡ names_page a r
+      by : (j : ℕ) (r : Record) → record_in c.pool j ≡ r → holds_intention (names_address (suc a)) c.pool r ≡ record_names a r
       by j Free e = refl
       by j (Intention v u k i) e = ap (λ b. names_address (suc a) i && b) (prepared_for j v u k i e) ∙ same (names_address (suc a) i)
         where

@@ -1,5 +1,5 @@
 -- What is counted of the heads and the data pages.
-use Rattle.jn_recovery.proofs.Common.{◌≡◌, ◌⊎◌, inl, inr, ⊎_elim, ◌<◌, ◌≤◌, ◌+◌, ℕ, zero, suc, Bool, true, false, not, ◌||◌, ◌&&◌, if◌then◌else◌, List, [], ◌∷◌, ◌++◌, length, Option, Some, None, refl, sym, ◌∙◌, ap, subst, true≢false, arith, nat_tests, sum_by-cons, nat_eq, nat_lt, is_some, count_by, slice_index, slice_index_or, find, list_any, BlockNo, FileNo, File, Block, file_eq, file_tells, TableView, IsTable, is_held, is_of, head_in, exists, with_first, heads_name, PassesOnce, Head, FreeHead, Used, Record, Free, Intention, Ready, Going, FlagRecord, record_in, total, is_in, are_different, IsListing, file_there, is_stored, collected, names_page, unit_eq, Tells, cases_eq, get_or_past, block_tells, head_blocks, most_maps, most_blocks, most_cells, or_unused, IsUnnamed, StoredIntention, head_has_page, Layout, Unused, Of, map_cell, at_cell, kept_entry, layout_by, layouts_by, layout_at, is_layout_of, has_address, files_in, names_map, maps_in, has-found, map-cell-is, map_eq, has_map, IsApart, holds_page}
+use Rattle.jn_recovery.proofs.Common.{◌≡◌, ◌⊎◌, inl, inr, ⊎_elim, ◌<◌, ◌≤◌, ◌+◌, ℕ, zero, suc, Bool, true, false, not, ◌||◌, ◌&&◌, if◌then◌else◌, List, [], ◌∷◌, ◌++◌, length, Option, Some, None, refl, sym, ◌∙◌, ap, subst, true≢false, arith, nat_tests, sum_by-cons, nat_eq, nat_lt, is_some, count_by, slice_index, slice_index_or, find, list_any, BlockNo, FileNo, File, Block, file_eq, file_tells, TableView, IsTable, is_held, is_of, head_in, exists, with_first, heads_name, PassesOnce, Head, FreeHead, Used, Record, Free, Intention, Ready, Going, FlagRecord, record_in, total, is_in, are_different, IsListing, file_there, is_stored, collected, record_names, unit_eq, Tells, cases_eq, get_or_past, block_tells, head_blocks, most_maps, most_blocks, most_cells, or_unused, IsUnnamed, StoredIntention, head_has_page, Layout, Unused, Of, map_cell, at_cell, kept_entry, layout_by, layouts_by, layout_at, is_layout_of, has_address, files_in, names_map, maps_in, has-found, map-cell-is, map_eq, has_map, IsApart, holds_page}
 use Rattle.std.proofs.lemmas.List.{length-append}
 use Rattle.jn_alloc.specs.Free.{free_count, is_free as is_free_number}
 use Rattle.jn_base.specs.declared.names.LockUnit.{LockUnit}
@@ -405,14 +405,14 @@ module _ (t : TableView) (table : IsTable t) where
       sum : (x a b c d : ℕ) → x ≡ a + b → c ≡ a → d ≡ b → x ≡ c + d
       sum x a b c d e f h = omega (arith, e, f, h)
 
-  module _ (pool : List Record) (fit : (i a : ℕ) → names_page a (record_in pool i) ≡ true → a < t.counts.leaves) (apart : (i : ℕ) → IsApart (record_in pool i)) (once : (a : ℕ) → PassesOnce (λ i. names_page a (record_in pool i)))
-      (held : (a : ℕ) → is_held t a ≡ list_any (names_page a) pool) where
-    held_counted : below (λ a. one (list_any (names_page a) pool && not (heads_name most_cells (layouts_in t) (suc a)))) t.counts.leaves ≡ total (λ r. one (on_intention (holds_block (layouts_in t)) r) + one (on_intention (holds_map (layouts_in t)) r)) pool
+  module _ (pool : List Record) (fit : (i a : ℕ) → record_names a (record_in pool i) ≡ true → a < t.counts.leaves) (apart : (i : ℕ) → IsApart (record_in pool i)) (once : (a : ℕ) → PassesOnce (λ i. record_names a (record_in pool i)))
+      (held : (a : ℕ) → is_held t a ≡ list_any (record_names a) pool) where
+    held_counted : below (λ a. one (list_any (record_names a) pool && not (heads_name most_cells (layouts_in t) (suc a)))) t.counts.leaves ≡ total (λ r. one (on_intention (holds_block (layouts_in t)) r) + one (on_intention (holds_map (layouts_in t)) r)) pool
     held_counted =
-        below_same (λ a. one (list_any (names_page a) pool && not (heads_name most_cells (layouts_in t) (suc a)))) (λ a. total (λ r. one (names_page a r && not (heads_name most_cells (layouts_in t) (suc a)))) pool) t.counts.leaves
-        (λ a lt. any_total_if (names_page a) (not (heads_name most_cells (layouts_in t) (suc a))) Free pool (once a))
-        ∙ below_total (λ a r. one (names_page a r && not (heads_name most_cells (layouts_in t) (suc a)))) pool t.counts.leaves
-        ∙ total_same Free (λ r. below (λ a. one (names_page a r && not (heads_name most_cells (layouts_in t) (suc a)))) t.counts.leaves) (λ r. one (on_intention (holds_block (layouts_in t)) r) + one (on_intention (holds_map (layouts_in t)) r)) pool
+        below_same (λ a. one (list_any (record_names a) pool && not (heads_name most_cells (layouts_in t) (suc a)))) (λ a. total (λ r. one (record_names a r && not (heads_name most_cells (layouts_in t) (suc a)))) pool) t.counts.leaves
+        (λ a lt. any_total_if (record_names a) (not (heads_name most_cells (layouts_in t) (suc a))) Free pool (once a))
+        ∙ below_total (λ a r. one (record_names a r && not (heads_name most_cells (layouts_in t) (suc a)))) pool t.counts.leaves
+        ∙ total_same Free (λ r. below (λ a. one (record_names a r && not (heads_name most_cells (layouts_in t) (suc a)))) t.counts.leaves) (λ r. one (on_intention (holds_block (layouts_in t)) r) + one (on_intention (holds_map (layouts_in t)) r)) pool
         (λ j. by (record_in pool j) (fit j) (apart j))
       where
         free : ℕ → Bool
@@ -452,16 +452,16 @@ module _ (t : TableView) (table : IsTable t) where
             (λ a. either (nat_eq x (suc a)) (nat_eq y (suc a)) (free (suc a)) (λ d e. differ a (equal x (suc a) d) (equal y (suc a) e))) t.counts.leaves
             ∙ ap (λ n. n + below (λ a. one (nat_eq y (suc a) && free (suc a))) t.counts.leaves) a ∙ ap (λ n. one (nat_lt 0 x && free x) + n) b
 
-        by : (r : Record) → ((a : ℕ) → names_page a r ≡ true → a < t.counts.leaves) → IsApart r
-            → below (λ a. one (names_page a r && not (heads_name most_cells (layouts_in t) (suc a)))) t.counts.leaves ≡ one (on_intention (holds_block (layouts_in t)) r) + one (on_intention (holds_map (layouts_in t)) r)
+        by : (r : Record) → ((a : ℕ) → record_names a r ≡ true → a < t.counts.leaves) → IsApart r
+            → below (λ a. one (record_names a r && not (heads_name most_cells (layouts_in t) (suc a)))) t.counts.leaves ≡ one (on_intention (holds_block (layouts_in t)) r) + one (on_intention (holds_map (layouts_in t)) r)
         by Free fits differ = below_zeros t.counts.leaves
         by (Intention v u k i) fits differ = both i.address i.map fits differ
         by (Ready head n reads) fits differ = below_zeros t.counts.leaves
         by (Going head n reads) fits differ = below_zeros t.counts.leaves
         by (FlagRecord f) fits differ = below_zeros t.counts.leaves
 
-    each_page : (a : ℕ) → a < t.counts.leaves → 1 ≡ (one (is_free_number t.free_leaves a) + one (heads_name most_cells (layouts_in t) (suc a))) + one (list_any (names_page a) pool && not (heads_name most_cells (layouts_in t) (suc a)))
-    each_page a lt = by (is_free_number t.free_leaves a) (heads_name most_cells (layouts_in t) (suc a)) (list_any (names_page a) pool) refl refl refl
+    each_page : (a : ℕ) → a < t.counts.leaves → 1 ≡ (one (is_free_number t.free_leaves a) + one (heads_name most_cells (layouts_in t) (suc a))) + one (list_any (record_names a) pool && not (heads_name most_cells (layouts_in t) (suc a)))
+    each_page a lt = by (is_free_number t.free_leaves a) (heads_name most_cells (layouts_in t) (suc a)) (list_any (record_names a) pool) refl refl refl
       where
         unnamed : heads_name most_cells (layouts_in t) (suc a) ≡ false → IsUnnamed (layouts_in t) a
         unnamed none slot q e = true≢false (sym (named_cell (layouts_in t) most_cells slot q a (cell_below (kept_entry t.maps) t.heads slot q a e) e) ∙ none)
@@ -469,7 +469,7 @@ module _ (t : TableView) (table : IsTable t) where
         not_named : IsUnnamed (layouts_in t) a → heads_name most_cells (layouts_in t) (suc a) ≡ true → ⊥
         not_named none named = let at = cell_named (layouts_in t) most_cells a named in none at.0 at.1 at.3
 
-        by : (f n w : Bool) → is_free_number t.free_leaves a ≡ f → heads_name most_cells (layouts_in t) (suc a) ≡ n → list_any (names_page a) pool ≡ w → 1 ≡ (one f + one n) + one (w && not n)
+        by : (f n w : Bool) → is_free_number t.free_leaves a ≡ f → heads_name most_cells (layouts_in t) (suc a) ≡ n → list_any (record_names a) pool ≡ w → 1 ≡ (one f + one n) + one (w && not n)
         by true true w free named listed = absurd (not_named ((table.free_leaves a).0 free).unnamed named)
         by true false true free named listed = absurd (true≢false (sym listed ∙ sym (held a) ∙ ((table.free_leaves a).0 free).loose))
         by true false false free named listed = refl
@@ -484,8 +484,8 @@ module _ (t : TableView) (table : IsTable t) where
         let names = named_counted in
         let holds = held_counted in
         let two = below_plus (λ a. one (is_free_number t.free_leaves a)) (λ a. one (heads_name most_cells (layouts_in t) (suc a))) (λ a. one (is_free_number t.free_leaves a) + one (heads_name most_cells (layouts_in t) (suc a))) (λ a. refl) t.counts.leaves in
-        let three = below_plus (λ a. one (is_free_number t.free_leaves a) + one (heads_name most_cells (layouts_in t) (suc a))) (λ a. one (list_any (names_page a) pool && not (heads_name most_cells (layouts_in t) (suc a))))
-        (λ a. (one (is_free_number t.free_leaves a) + one (heads_name most_cells (layouts_in t) (suc a))) + one (list_any (names_page a) pool && not (heads_name most_cells (layouts_in t) (suc a)))) (λ a. refl) t.counts.leaves in
-        let all = below_same (λ a. 1) (λ a. (one (is_free_number t.free_leaves a) + one (heads_name most_cells (layouts_in t) (suc a))) + one (list_any (names_page a) pool && not (heads_name most_cells (layouts_in t) (suc a)))) t.counts.leaves each_page in
+        let three = below_plus (λ a. one (is_free_number t.free_leaves a) + one (heads_name most_cells (layouts_in t) (suc a))) (λ a. one (list_any (record_names a) pool && not (heads_name most_cells (layouts_in t) (suc a))))
+        (λ a. (one (is_free_number t.free_leaves a) + one (heads_name most_cells (layouts_in t) (suc a))) + one (list_any (record_names a) pool && not (heads_name most_cells (layouts_in t) (suc a)))) (λ a. refl) t.counts.leaves in
+        let all = below_same (λ a. 1) (λ a. (one (is_free_number t.free_leaves a) + one (heads_name most_cells (layouts_in t) (suc a))) + one (list_any (record_names a) pool && not (heads_name most_cells (layouts_in t) (suc a)))) t.counts.leaves each_page in
         let ones = below_ones t.counts.leaves in
         omega (arith, frees, names, holds, two, three, all, ones)

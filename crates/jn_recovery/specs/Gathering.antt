@@ -41,9 +41,9 @@ IsFew s = length s.list < 2 ^ 32
 -- ---- data pages
 
 -- an intention's record names data page a, for its block or as a map page
-abbrev pub names_page : ℕ → Record → Bool
-names_page a (Intention work tid order i) = is_at a i
-names_page a _ = false
+abbrev pub record_names : ℕ → Record → Bool
+record_names a (Intention work tid order i) = is_at a i
+record_names a _ = false
 
 -- and it doesn't name it as both
 abbrev pub IsApart : Record → Type 0
@@ -55,9 +55,9 @@ pub record MayHold (t : TableView) (pool : List Record) : Type 0 where
   pub loose : (a : ℕ) → is_held t a ≡ false
   pub unpromised : t.free_leaves.promised ≡ 0
   pub size : length t.held ≡ t.counts.leaves
-  pub fit : (i a : ℕ) → names_page a (record_in pool i) ≡ true → a < t.counts.leaves
+  pub fit : (i a : ℕ) → record_names a (record_in pool i) ≡ true → a < t.counts.leaves
   pub apart : (i : ℕ) → IsApart (record_in pool i)
-  pub once : (a : ℕ) → PassesOnce (λ i. names_page a (record_in pool i))
+  pub once : (a : ℕ) → PassesOnce (λ i. record_names a (record_in pool i))
 
 -- ---- one page after another
 
@@ -88,7 +88,7 @@ pub record HoldsNamed (t : TableView) (records : List Record) (u : TableView) : 
   pub promised : u.free_leaves.promised ≡ t.free_leaves.promised
   pub size : length u.held ≡ length t.held
   pub touched : u.touched ≡ t.touched
-  pub held : (a : ℕ) → is_held u a ≡ list_any (names_page a) records
+  pub held : (a : ℕ) → is_held u a ≡ list_any (record_names a) records
 
 -- ---- heads
 
