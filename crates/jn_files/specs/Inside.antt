@@ -8,14 +8,14 @@ use Rattle.jn_index.specs.Numbers.{number_at}
 use Rattle.jn_order.specs.Files.{Change, change}
 use Rattle.jn_records.specs.declared.head.Head.{Head}
 use Rattle.jn_records.specs.declared.head.Head.TheVariants.{Free, Used}
-use Rattle.jn_records.specs.Heads.{head_page, map_page, IsMapPage, IsMapRow}
+use Rattle.jn_records.specs.Heads.{head_page, map_page, IsMapPage, IsMapRow, head_in}
 use Rattle.jn_records.specs.Layouts.{Layout, at_cell, head_map, kept_entry, layout_by, layout_at, map_cell, through, row_at}
 use Rattle.jn_records.specs.MapPlaces.{is_in_range, range_of}
 use Rattle.jn_records.specs.StablePages.{Counts as PageCounts, data_place}
 use Rattle.jn_store.specs.DeviceCalls.{cleaned_get_calls}
 use Rattle.jn_store.specs.Store.{StoreView, StoreLater, Candidate, Shrinks, IsOnly, IsSamePage}
 use Rattle.jn_files.specs.Pages.{HoldsHeads}
-use Rattle.jn_files.specs.Table.{TableView, IsTable, AreHeads, AreRows, IsHeadOf, IsUnnamed, head_in, is_free, is_of, is_held, exists, files_of, layouts_of, layouts_in, layout_in, kept_maps}
+use Rattle.jn_files.specs.Table.{TableView, IsTable, AreHeads, AreRows, IsHeadOf, IsUnnamed, is_free, is_of, is_held, exists, files_of, layouts_of, layouts_in, layout_in, kept_maps}
 
 abbrev pub table_view : ℕ → List Head → List (List ℕ) → List Bool → List Bool → FreeNumbers → FreeNumbers → TableView
 table_view pool heads maps held touched free_heads free_leaves = record {
@@ -156,13 +156,6 @@ pub record Counts (v : FreeNumbers) (slot : ℕ) (is : Bool) (w : FreeNumbers) :
 pub record IsHeadAt (v : StoreView) (place leaves : ℕ) (h : Head) : Type 0 where
   pub only : IsOnly v place (head_page h)
   pub head : IsHeadOf leaves h
-
--- so many gets: no page changes
-pub record StoreRead (v : StoreView) (gets : ℕ) (w : StoreView) : Type 0 where
-  pub later : StoreLater v w
-  pub calls : w.calls ≤ v.calls + 8 * gets
-  pub puts : w.puts ≡ v.puts
-  pub same : (j : ℕ) → IsSamePage v w j
 
 pub record AreFreeHeads (heads : List Head) (free : FreeNumbers) : Type 0 where
   pub count : count_of free ≡ length heads

@@ -1,6 +1,7 @@
 //! The heads in memory, each found by its file's number.
 ghost use Rattle.std.specs.Prelude.{◌≡◌, ◌<◌, ◌≤◌, ℕ, true, length, List, slice_set, is_some, IfOk, IfSome};
 ghost use Rattle.jn_files.specs.Table as table;
+ghost use Rattle.jn_records.specs.Heads.{head_in};
 ghost use Rattle.jn_files.specs.Calls as calls;
 ghost use Rattle.jn_files.specs.Inside as inside;
 
@@ -48,15 +49,15 @@ impl Heads {
 
     pub fn slot(&self, slot: u16) -> &Slot
         requires { slot < length self.now }
-        ensures { result.now ≡ table.head_in self.now slot }
+        ensures { result.now ≡ head_in self.now slot }
     {
         &self.slots[slot as usize]
     }
 
     /// The slot of a file's head, the lowest where it has several.
     pub fn slot_of(&self, f: FileNo) -> Option<u16>
-        ensures found { IfSome result (λ slot. (slot < length self.now) × (table.is_of f (table.head_in self.now slot) ≡ true)) }
-        ensures lowest { IfSome result (λ slot. (k : ℕ) → table.is_of f (table.head_in self.now k) ≡ true → slot ≤ k) }
+        ensures found { IfSome result (λ slot. (slot < length self.now) × (table.is_of f (head_in self.now slot) ≡ true)) }
+        ensures lowest { IfSome result (λ slot. (k : ℕ) → table.is_of f (head_in self.now k) ≡ true → slot ≤ k) }
         ensures there { is_some result ≡ table.exists self.now f }
     {
         self.files.slot_from(f.0, 0)
@@ -72,7 +73,7 @@ impl Heads {
     /// Puts another head in place of the slot's, which it gives back.
     pub fn replace(&mut self, slot: u16, head: Slot) -> Slot
         requires { slot < length self.old }
-        ensures old { result ≡ table.head_in self.old slot }
+        ensures old { result ≡ head_in self.old slot }
         ensures new { self.new ≡ slice_set self.old slot head }
     {
         self.files.set(slot, head.number());

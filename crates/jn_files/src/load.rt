@@ -4,10 +4,10 @@ ghost use Rattle.jn_alloc.specs.Free.{is_free as is_free_number, count_of};
 ghost use Rattle.jn_base.specs.Limits.{most_maps};
 ghost use Rattle.jn_base.specs.declared.fault.CallFault.TheVariants.{Stopped as LoadStopped};
 ghost use Rattle.jn_records.specs.declared.head.Head.{Head as HeadOf};
-ghost use Rattle.jn_records.specs.Heads.{IsMapPage, map_page, IsMapRow};
+ghost use Rattle.jn_records.specs.Heads.{IsMapPage, map_page, IsMapRow, head_in};
 ghost use Rattle.jn_records.specs.MapPlaces.{map_count, maps_named};
 ghost use Rattle.jn_records.specs.StablePages.{counts_of, data_place, page_count};
-ghost use Rattle.jn_store.specs.Store.{IsCalm, IsServed, IsStop};
+ghost use Rattle.jn_store.specs.Store.{IsCalm, IsServed, IsStop, StoreRead};
 ghost use Rattle.jn_files.specs.Table as table;
 ghost use Rattle.jn_files.specs.Pages as pages;
 ghost use Rattle.jn_files.specs.Calls as calls;
@@ -60,7 +60,7 @@ fn read_slots<S: StableStore>(
     requires loadable { (heads : List HeadOf) × pages.MapsLoadable (counts_of root.now) heads (S.view store.old) }
     ensures heads { (heads : List HeadOf) → pages.MapsLoadable (counts_of root.now) heads (S.view store.old) → IfOk result (λ slots. slots.items ≡ heads) }
     ensures few { root.now.heads < 2 ^ 16 }
-    ensures read { inside.StoreRead (S.view store.old) root.now.heads (S.view store.new) }
+    ensures read { StoreRead (S.view store.old) root.now.heads (S.view store.new) }
     ensures served { IsOk result → 0 < root.now.heads → IsServed (S.view store.old) (S.view store.new) }
     ensures stops { IsOk result → (S.view store.new).stops ≡ (S.view store.old).stops }
     ensures stop { result ≡ Err LoadStopped → IsStop (S.view store.old) (S.view store.new) }
@@ -89,7 +89,7 @@ fn read_slot<S: StableStore>(
     requires there { place < (S.view store.old).count }
     requires readable { (h : HeadOf) × inside.IsHeadAt (S.view store.old) place leaves h }
     ensures found { (h : HeadOf) → inside.IsHeadAt (S.view store.old) place leaves h → IfOk result (λ slot. slot ≡ h) }
-    ensures read { inside.StoreRead (S.view store.old) 1 (S.view store.new) }
+    ensures read { StoreRead (S.view store.old) 1 (S.view store.new) }
     ensures served { IsOk result → IsServed (S.view store.old) (S.view store.new) }
     ensures stop { result ≡ Err LoadStopped → IsStop (S.view store.old) (S.view store.new) }
     ensures calm { IsCalm (S.view store.old) → result ≢ Err LoadStopped }
@@ -109,7 +109,7 @@ fn read_maps<S: StableStore>(
     slots: &[Slot],
 ) -> Result<Maps, LoadFault>
     requires fits { (S.view store.old).count ≡ page_count (counts_of root.now) }
-    requires heads { (slot : ℕ) → table.IsHeadOf root.now.leaves (table.head_in slots.now slot) }
+    requires heads { (slot : ℕ) → table.IsHeadOf root.now.leaves (head_in slots.now slot) }
     requires pages { inside.AreMapPages (counts_of root.now) (inside.IsMapOfHeads slots.now (length slots.now)) (S.view store.old) }
     ensures cleaned { inside.MapsCleaned (counts_of root.now) (inside.IsMapOfHeads slots.now (length slots.now)) (maps_named slots.now) (S.view store.old) (S.view store.new) }
     ensures read { IfOk result (λ maps. inside.MapsHeld (counts_of root.now) (inside.IsMapOfHeads slots.now (length slots.now)) maps (S.view store.new)) }
@@ -231,7 +231,7 @@ pub fn named_pages(
     slots: &[Slot],
     maps: &Maps,
 ) -> Result<Vec<bool>, AllocError>
-    requires heads { (slot : ℕ) → table.IsHeadOf leaves (table.head_in slots.now slot) }
+    requires heads { (slot : ℕ) → table.IsHeadOf leaves (head_in slots.now slot) }
     requires rows { table.AreRows leaves maps.now }
     ensures length { IfOk result (λ named. length named.items ≡ leaves) }
     ensures named { IfOk result (λ named. inside.AreNamed (table.layouts_of maps.now slots.now) named.items) }

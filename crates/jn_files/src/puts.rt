@@ -8,6 +8,7 @@ ghost use Rattle.jn_records.specs.Layouts.{head_map, row_at};
 ghost use Rattle.jn_records.specs.MapPlaces.{is_in_range, range_of};
 ghost use Rattle.jn_records.specs.NetLists.{among};
 ghost use Rattle.jn_files.specs.Table as table;
+ghost use Rattle.jn_records.specs.Heads.{head_in};
 ghost use Rattle.jn_files.specs.Calls as calls;
 ghost use Rattle.jn_files.specs.Inside as inside;
 
@@ -67,10 +68,10 @@ impl FileTable {
     ) -> Result<(), Stopped>
         requires fits { calls.HasPagesOfTable self.old (S.view store.old) }
         requires slot { slot < self.old.counts.heads }
-        requires used { table.is_free (table.head_in self.old.heads slot) ≡ false }
+        requires used { table.is_free (head_in self.old.heads slot) ≡ false }
         requires range { n.0 < most_blocks }
-        ensures { (f : FileNo) → table.is_of f (table.head_in self.old.heads slot) ≡ true → inside.IsCutInside (table.layout_in self.old slot) n.0
-            → calls.PutsHead self.old (S.view store.old) slot (table.cut_head n.0 (table.head_in self.old.heads slot)) self.old.maps (λ leaves. cut_from f n) (is_ok result) self.new (S.view store.new) }
+        ensures { (f : FileNo) → table.is_of f (head_in self.old.heads slot) ≡ true → inside.IsCutInside (table.layout_in self.old slot) n.0
+            → calls.PutsHead self.old (S.view store.old) slot (table.cut_head n.0 (head_in self.old.heads slot)) self.old.maps (λ leaves. cut_from f n) (is_ok result) self.new (S.view store.new) }
     {
         let head = self.heads.slot(slot).cut(n.0);
         self.put_head(store, slot, head, n.0)
@@ -87,8 +88,8 @@ impl FileTable {
         requires fits { calls.HasPagesOfTable self.old (S.view store.old) }
         requires slot { slot < self.old.counts.heads }
         requires range { n.0 < most_blocks }
-        requires map { table.cut_map n.0 (table.head_in self.old.heads slot) ≡ suc d }
-        ensures { (f : FileNo) → table.is_of f (table.head_in self.old.heads slot) ≡ true
+        requires map { table.cut_map n.0 (head_in self.old.heads slot) ≡ suc d }
+        ensures { (f : FileNo) → table.is_of f (head_in self.old.heads slot) ≡ true
             → calls.PutsMap self.old (S.view store.old) slot d (table.cut_addresses (n.0 % head_blocks) (row_at self.old.maps d)) (λ leaves. among (λ p. is_in_range (range_of n.0) p.0) (cut_from f n)) (is_ok result) self.new (S.view store.new) }
     {
         let row = cut_row(self.maps.row(d), n.0 as usize % HEAD_BLOCKS);
@@ -101,7 +102,7 @@ impl FileTable {
     fn set_cut_row(&mut self, slot: u16, d: u16, row: Row, n: BlockNo)
         requires slot { slot < self.old.counts.heads }
         requires range { n.0 < most_blocks }
-        requires map { table.cut_map n.0 (table.head_in self.old.heads slot) ≡ suc d }
+        requires map { table.cut_map n.0 (head_in self.old.heads slot) ≡ suc d }
         requires row { row ≡ table.cut_addresses (n.0 % head_blocks) (row_at self.old.maps d) }
         ensures { calls.IsChanged self.old self.old.heads (slice_set self.old.maps d row) self.new }
     {
@@ -126,8 +127,8 @@ impl FileTable {
         requires fits { calls.HasPagesOfTable self.old (S.view store.old) }
         requires block { p.0 < head_blocks }
         requires may { inside.MaySet self.old slot p.0 a }
-        ensures { (f : FileNo) → table.is_of f (table.head_in self.old.heads slot) ≡ true → calls.MayBecome self.old (S.view store.old) f p.0 a
-            → calls.PutsHead self.old (S.view store.old) slot (table.with_leaf p.0 a (table.head_in self.old.heads slot)) self.old.maps (calls.block_written f p a) (is_ok result) self.new (S.view store.new) }
+        ensures { (f : FileNo) → table.is_of f (head_in self.old.heads slot) ≡ true → calls.MayBecome self.old (S.view store.old) f p.0 a
+            → calls.PutsHead self.old (S.view store.old) slot (table.with_leaf p.0 a (head_in self.old.heads slot)) self.old.maps (calls.block_written f p a) (is_ok result) self.new (S.view store.new) }
     {
         let head = self.heads.slot(slot).with_leaf(p.0, a);
         store.put(self.head_page(slot), &head.page())?;
@@ -139,7 +140,7 @@ impl FileTable {
     fn set_leaf(&mut self, slot: u16, head: Slot, p: u16, a: u16)
         requires block { p < head_blocks }
         requires may { inside.MaySet self.old slot p a }
-        requires head { head ≡ table.with_leaf p a (table.head_in self.old.heads slot) }
+        requires head { head ≡ table.with_leaf p a (head_in self.old.heads slot) }
         ensures { calls.IsChanged self.old (slice_set self.old.heads slot head) self.old.maps self.new }
     {
         let old = self.heads.replace(slot, head);
@@ -164,9 +165,9 @@ impl FileTable {
         requires fits { calls.HasPagesOfTable self.old (S.view store.old) }
         requires block { head_blocks ≤ p.0 }
         requires range { p.0 < most_blocks }
-        requires map { head_map (table.head_in self.old.heads slot) (range_of p.0) ≡ suc d }
+        requires map { head_map (head_in self.old.heads slot) (range_of p.0) ≡ suc d }
         requires may { inside.MaySet self.old slot p.0 a }
-        ensures { (f : FileNo) → table.is_of f (table.head_in self.old.heads slot) ≡ true → calls.MayBecome self.old (S.view store.old) f p.0 a
+        ensures { (f : FileNo) → table.is_of f (head_in self.old.heads slot) ≡ true → calls.MayBecome self.old (S.view store.old) f p.0 a
             → calls.PutsMap self.old (S.view store.old) slot d (slice_set (row_at self.old.maps d) (p.0 % head_blocks) (suc a)) (calls.block_written f p a) (is_ok result) self.new (S.view store.new) }
     {
         let row = with_entry(self.maps.row(d), p.0 as usize % HEAD_BLOCKS, a);
@@ -179,7 +180,7 @@ impl FileTable {
     fn set_entry(&mut self, slot: u16, d: u16, row: Row, p: BlockNo, a: u16)
         requires block { head_blocks ≤ p.0 }
         requires range { p.0 < most_blocks }
-        requires map { head_map (table.head_in self.old.heads slot) (range_of p.0) ≡ suc d }
+        requires map { head_map (head_in self.old.heads slot) (range_of p.0) ≡ suc d }
         requires may { inside.MaySet self.old slot p.0 a }
         requires row { row ≡ slice_set (row_at self.old.maps d) (p.0 % head_blocks) (suc a) }
         ensures { calls.IsChanged self.old self.old.heads (slice_set self.old.maps d row) self.new }
@@ -205,7 +206,7 @@ impl FileTable {
     ) -> Result<(), Stopped>
         requires fits { calls.HasPagesOfTable self.old (S.view store.old) }
         requires may { inside.MaySetMap self.old slot p.0 a d }
-        ensures { (f : FileNo) → table.is_of f (table.head_in self.old.heads slot) ≡ true → calls.MayBecome self.old (S.view store.old) f p.0 a
+        ensures { (f : FileNo) → table.is_of f (head_in self.old.heads slot) ≡ true → calls.MayBecome self.old (S.view store.old) f p.0 a
             → calls.BringsMap self.old (S.view store.old) f p a slot d (is_ok result) self.new (S.view store.new) }
     {
         let _heads = &self.heads;
@@ -223,7 +224,7 @@ impl FileTable {
     /// The table has that head and map page.
     fn set_map(&mut self, slot: u16, head: Slot, d: u16, row: Row, p: u16, a: u16)
         requires may { inside.MaySetMap self.old slot p a d }
-        requires head { head ≡ table.with_map (range_of p) d (table.head_in self.old.heads slot) }
+        requires head { head ≡ table.with_map (range_of p) d (head_in self.old.heads slot) }
         requires row { row ≡ table.one_entry (p % head_blocks) a }
         ensures { calls.IsChanged self.old (slice_set self.old.heads slot head) (slice_set self.old.maps d row) self.new }
     {

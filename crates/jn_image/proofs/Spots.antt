@@ -499,8 +499,8 @@ module _ (m : sound.Image) (heads : List (Option Head)) (are : AreHeads m heads)
           subst (λ (n : ℕ). n ≤ leaves) e (head_within i (120 + j) (head_or heads i) (at_head i w.0.head))
       spot_within a (InMap d k) w =
           let page = maps_whole d w.0 w.1 in
-          let e = sym (map_entry leaves (m.bytes (data_place m.counts d)) are.few page.entries page.count page.within_leaves page.is_page k w.2) ∙ w.3 in
-          subst (λ (n : ℕ). n ≤ leaves) e (within_at leaves page.entries k page.within_leaves)
+          let e = sym (map_entry leaves (m.bytes (data_place m.counts d)) are.few page.entries page.row.count page.row.within_leaves page.is_page k w.2) ∙ w.3 in
+          subst (λ (n : ℕ). n ≤ leaves) e (within_at leaves page.entries k page.row.within_leaves)
 
       -- ---- how often
 

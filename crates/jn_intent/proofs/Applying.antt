@@ -1,5 +1,5 @@
 -- A work's next intention is carried out, by one put, by two or by none.
-use Rattle.jn_intent.proofs.Common.{◌≡◌, ◌≢◌, ◌⊎◌, inl, inr, ⊎_elim, ◌<◌, ◌≤◌, ◌+◌, ◌-◌, ◌/◌, ℕ, suc, Bool, true, false, not, ◌&&◌, ◌||◌, if◌then◌else◌, List, [], ◌∷◌, length, map, drop, Option, Some, None, Result, Ok, refl, sym, ◌∙◌, ap, subst, true≢false, arith, fun_ext, cases_eq, false_from_ne_true, nat_tests, get_or_read, sum_by-cons, slice_get-map, slice_get_within, nat_lt, nat_le, nat_eq, is_ok, is_some, slice_get, slice_set, slice_index_or, option_map, find, list_all, list_any, free_numbers, is_free_number, Stopped, FileNo, Block, WorkId, file_eq, work_eq, file_tells, work_tells, unit_eq, Files, change, written, TableView, IsTable, IsFreeLeaf, exists, layouts_in, kept_entry, intended, bytes_by, heads_name, works_have, names_for_block, held_contents, found_on, Intends, IsRecoverable, IsStanding, passes_at, FullIntention, StoredIntention, What, Fresh, Gone, Cut, Put, WorkState, intention_has_page, names_what_it_needs, is_fresh, is_put, is_put_intention, Counts, StableState, Pick, Changed, CarryOut, made_by, at_work, is_prepared, record_in, has_page, state, name_of, next_of, Called, CountsOn, PageTaken, PageStands, StepApplied, find_by, are_different, IsListing, total, is_in, but, is_in-but, total-but, total-same, IsServing, IsLoadable, file_there, is_stored, intentions, list_of, find-set, keys-set, made_there, there-after, StoreView, IsOnly, Carries, PutsWhole, PutsInTurn, MayCarry, heads_taken, is_gone, is_gone_already, counted_on, Matches, IsKeptMemory, IsMade, AreMade, HasMaps, HaveMaps, stored_work, Memory, accounts_of, view_of, next_by, next_in, stored_by, held_of, held_in, one, listed_length, serves_of, serving_by, loadable_found, there_found, prepared_of, stored_pages, root_page, root_by, Layout, Unused, at_cell, layout_at, is_layout_of, map_cell, maps_in, lacks_map, places_after, head_blocks, most_cells, behind, bare, there_by, is_in_range, names_maps, IsSuppliedBy, change_by, names_file, is_past_head, most_pages, map_eq, has_map, layouts_said, maps_fit}
+use Rattle.jn_intent.proofs.Common.{◌≡◌, ◌≢◌, ◌⊎◌, inl, inr, ⊎_elim, ◌<◌, ◌≤◌, ◌+◌, ◌-◌, ◌/◌, ℕ, suc, Bool, true, false, not, ◌&&◌, ◌||◌, if◌then◌else◌, List, [], ◌∷◌, length, map, drop, Option, Some, None, Result, Ok, refl, sym, ◌∙◌, ap, subst, true≢false, arith, fun_ext, cases_eq, false_from_ne_true, nat_tests, get_or_read, sum_by-cons, slice_get-map, slice_get_within, nat_lt, nat_le, nat_eq, is_ok, is_some, slice_get, slice_set, slice_index_or, option_map, find, list_all, list_any, free_numbers, is_free_number, Stopped, FileNo, Block, WorkId, file_eq, work_eq, file_tells, work_tells, unit_eq, Files, change, written, TableView, IsTable, IsFreeLeaf, exists, layouts_in, kept_entry, intended, bytes_by, heads_name, works_have, names_for_block, held_contents, found_on, Intends, IsRecoverable, IsStanding, passes_at, FullIntention, StoredIntention, What, Fresh, Gone, Cut, Put, WorkState, intention_has_page, names_what_it_needs, is_fresh, is_put, is_put_intention, Counts, StableState, Pick, Changed, CarryOut, made_by, at_work, is_prepared, record_in, has_page, state, name_of, next_of, Called, CountsOn, PageTaken, PageStands, StepApplied, find_by, are_different, IsListing, total, is_in, but, is_in-but, total-but, total-same, IsServing, IsLoadable, file_there, is_stored, intentions, list_of, find-set, keys-set, made_there, there-after, StoreView, IsOnly, Carries, PutsWhole, PutsInTurn, MayCarry, heads_taken, is_gone, is_gone_already, counted_on, Matches, IsKeptMemory, IsMade, AreMade, HasMaps, HaveMaps, stored_work, Memory, accounts_of, view_of, next_by, next_in, stored_by, held_of, held_in, one, listed_length, serves_of, serving_by, loadable_found, there_found, prepared_of, stored_pages, root_page, root_by, Layout, Unused, at_cell, layout_at, is_layout_of, map_cell, maps_in, lacks_map, places_after, head_blocks, most_cells, behind, bare, has_map_after, is_in_range, names_maps, IsSuppliedBy, change_by, names_file, is_past_head, most_pages, map_eq, has_map, layouts_said, maps_fit}
 use Rattle.jn_page_state.proofs.HeadLaws.{gone_law}
 use Rattle.jn_files.proofs.Lookup.{maps_absent}
 use Rattle.jn_storage.proofs.Laws.{called_not}
@@ -68,7 +68,7 @@ module _ (m : Memory) (v : StoreView) (now : Matches m v) (serving : IsServing (
   -- none is left
   pub none_left : slice_get s.list s.next ≡ None → StepApplied (view_of m v) work (Ok false) (view_of m v)
   none_left none = record {
-    called = called_not (view_of m v) 40 serving;
+    called = called_not (view_of m v) 32 serving;
     none_left = λ e. (refl, refl);
     carried = λ i e. absurd (no_next i (sym seen ∙ e));
     done = λ i e is. absurd (no_next i (sym seen ∙ e));
@@ -275,9 +275,9 @@ module _ (m : Memory) (v : StoreView) (now : Matches m v) (serving : IsServing (
     -- no map page of it is there
     gone_maps : is_gone_already m.table i ≡ true → maps_in m.table.heads ≡ places_after (bare i) (maps_in m.table.heads)
     gone_maps gone = fun_ext (λ f. fun_ext (λ j. ⊎_elim
-        (λ same. ap (λ g. maps_in m.table.heads g j) (sym same.1) ∙ maps_absent i.file m.table.heads j (absent_file gone) ∙ sym (ap (λ b. if b then there_by i.what i.block.0 j (maps_in m.table.heads f j) else maps_in m.table.heads f j) same.0
-        ∙ ap (λ w. there_by w i.block.0 j (maps_in m.table.heads f j)) (is_gone_so i.what (exists m.table.heads i.file) gone)))
-        (λ ne. sym (ap (λ b. if b then there_by i.what i.block.0 j (maps_in m.table.heads f j) else maps_in m.table.heads f j) ne.0))
+        (λ same. ap (λ g. maps_in m.table.heads g j) (sym same.1) ∙ maps_absent i.file m.table.heads j (absent_file gone) ∙ sym (ap (λ b. if b then has_map_after i.what i.block.0 j (maps_in m.table.heads f j) else maps_in m.table.heads f j) same.0
+        ∙ ap (λ w. has_map_after w i.block.0 j (maps_in m.table.heads f j)) (is_gone_so i.what (exists m.table.heads i.file) gone)))
+        (λ ne. sym (ap (λ b. if b then has_map_after i.what i.block.0 j (maps_in m.table.heads f j) else maps_in m.table.heads f j) ne.0))
         (file_tells i.file f)))
 
     stepped_none : is_gone_already m.table i ≡ true → IsStepped m.table v
@@ -397,7 +397,7 @@ module _ (m : Memory) (v : StoreView) (now : Matches m v) (serving : IsServing (
       supplied_other o ne (Some t) e has = by i.what refl
         where
           grows : (f : FileNo) (j : ℕ) → i.what ≡ Put → maps_in m.table.heads f j ≡ true → places_after (bare i) (maps_in m.table.heads) f j ≡ true
-          grows f j put there = ap (λ w. if file_eq i.file f then there_by w i.block.0 j (maps_in m.table.heads f j) else maps_in m.table.heads f j) put ∙ more (file_eq i.file f) (maps_in m.table.heads f j) (is_in_range j i.block.0) there
+          grows f j put there = ap (λ w. if file_eq i.file f then has_map_after w i.block.0 j (maps_in m.table.heads f j) else maps_in m.table.heads f j) put ∙ more (file_eq i.file f) (maps_in m.table.heads f j) (is_in_range j i.block.0) there
             where
               more : (b c d : Bool) → c ≡ true → (if b then c || d else c) ≡ true
               more true c d h = grind (arith, h)
@@ -409,7 +409,7 @@ module _ (m : Memory) (v : StoreView) (now : Matches m v) (serving : IsServing (
               let it = file_named (drop t.next t.list) f named in let index = left_at t.list t.next it.0 it.1 it.2 in
               ⊎_elim
               (λ same. absurd (true≢false (sym (ap is_put (together m v now serving work s here i at o ne t e index.0 it.1 index.1 (same.1 ∙ sym it.3)).0) ∙ un)))
-              (λ other. ap (λ b. if b then there_by i.what i.block.0 j (maps_in m.table.heads f j) else maps_in m.table.heads f j) other.0)
+              (λ other. ap (λ b. if b then has_map_after i.what i.block.0 j (maps_in m.table.heads f j) else maps_in m.table.heads f j) other.0)
               (file_tells i.file f)
 
           by : (k : What) → i.what ≡ k → IsSuppliedBy (places_after (bare i) (maps_in m.table.heads)) (drop t.next t.list)
@@ -581,7 +581,7 @@ module _ (m : Memory) (v : StoreView) (now : Matches m v) (serving : IsServing (
           (is.put_holds put)
 
       -- it is done
-      stepped_done : Called (view_of m v) 40 true (view_of (record m { table = u; works = works }) w) → StepApplied (view_of m v) work (Ok true) (view_of (record m { table = u; works = works }) w)
+      stepped_done : Called (view_of m v) 32 true (view_of (record m { table = u; works = works }) w) → StepApplied (view_of m v) work (Ok true) (view_of (record m { table = u; works = works }) w)
       stepped_done called = record {
         called = called;
         none_left = λ e. absurd (true≢false (sym (ap is_some next_is) ∙ ap is_some e));
@@ -610,7 +610,7 @@ module _ (m : Memory) (v : StoreView) (now : Matches m v) (serving : IsServing (
         let all = listed_length m.records work 0 its.count (λ k low high. its.has.all k (omega (arith, high))) in
         let few = its.few in omega (arith, lt, long, all, few)
 
-    called_carried : (ok : Bool) (u : TableView) (w : StoreView) → IsCarried 32 m.server m.table.counts m.epoch m.records before work full v ok u w → (n : Memory) → n.server ≡ m.server → n.table ≡ u → (ok ≡ true → IsServing (view_of n w)) → Called (view_of m v) 40 ok (view_of n w)
+    called_carried : (ok : Bool) (u : TableView) (w : StoreView) → IsCarried 32 m.server m.table.counts m.epoch m.records before work full v ok u w → (n : Memory) → n.server ≡ m.server → n.table ≡ u → (ok ≡ true → IsServing (view_of n w)) → Called (view_of m v) 32 ok (view_of n w)
     called_carried ok u w is n server table serves = record {
       later = record { server = server; pool = ap (λ (g : Counts). g.pool) counts; heads = ap (λ (g : Counts). g.heads) counts; leaves = ap (λ (g : Counts). g.leaves) counts; store = is.later };
       calls = let few = is.calls in omega (arith, few);
@@ -631,7 +631,7 @@ module _ (m : Memory) (v : StoreView) (now : Matches m v) (serving : IsServing (
           none : is_gone_already m.table i ≡ true → Matches (record m { works = works }) v × StepApplied (view_of m v) work (Ok true) (view_of (record m { works = works }) v)
           none e =
               let is = stepped_none e in
-              let same = called_not (view_of (record m { works = works }) v) 40 (stepped_serving m.table v is works stepped) in (
+              let same = called_not (view_of (record m { works = works }) v) 32 (stepped_serving m.table v is works stepped) in (
                 stepped_matches m.table v is works stepped,
                 stepped_done m.table v is works stepped (record {
                   later = record { server = refl; pool = refl; heads = refl; leaves = refl; store = same.later.store };
@@ -652,7 +652,7 @@ module _ (m : Memory) (v : StoreView) (now : Matches m v) (serving : IsServing (
               let is = stepped_put ok u w (c.puts e) done in (
                 stepped_matches u w is works stepped,
                 stepped_done u w is works stepped
-                    (subst (λ b. Called (view_of m v) 40 b (view_of (record m { table = u; works = works }) w)) done
+                    (subst (λ b. Called (view_of m v) 32 b (view_of (record m { table = u; works = works }) w)) done
                     (called_carried ok u w (carried_by ok u w (c.puts e)) (record m { table = u; works = works }) refl refl (λ d. stepped_serving u w is works stepped))),
               )
 
@@ -667,7 +667,7 @@ module _ (m : Memory) (v : StoreView) (now : Matches m v) (serving : IsServing (
           by false e =
               let is = carried_by ok u w (c.puts e) in
               record {
-                called = subst (λ b. Called (view_of m v) 40 b (view_of (record m { table = u }) w)) (sym same)
+                called = subst (λ b. Called (view_of m v) 32 b (view_of (record m { table = u }) w)) (sym same)
                     (called_carried ok u w is (record m { table = u }) refl refl (λ d. absurd (true≢false (sym d ∙ stopped))));
                 none_left = λ e. absurd (true≢false (sym (ap is_some next_is) ∙ ap is_some e));
                 carried = λ j e. subst (λ j. Changed before (CarryOut work j) (is_ok answer) (found_on u.counts w)) (some_is (sym next_is ∙ e))

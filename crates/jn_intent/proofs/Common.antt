@@ -16,7 +16,7 @@ pub use Rattle.jn_base.specs.declared.names.WorkId.{WorkId}
 pub use Rattle.jn_base.specs.Names.{file_eq, work_eq, unit_eq, tid_eq, block_eq}
 pub use Rattle.jn_base.proofs.Tells.{file_tells, work_tells, tid_tells}
 pub use Rattle.jn_order.specs.Files.{Files, change, written, created, removed, cut_from}
-pub use Rattle.jn_files.specs.Table.{TableView, IsTable, IsFreeLeaf, exists, layouts_in, IsUnnamed, AreRows, AreNamedOnce, cut_addresses, kept_maps, is_held, head_in, IsHeadOf, is_of, fresh_head, cut_head, cut_map, with_leaf, with_map, one_entry, layouts_of, address_for, is_mapped, is_touched}
+pub use Rattle.jn_files.specs.Table.{TableView, IsTable, IsFreeLeaf, exists, layouts_in, IsUnnamed, AreRows, AreNamedOnce, cut_addresses, kept_maps, is_held, IsHeadOf, is_of, fresh_head, cut_head, cut_map, with_leaf, with_map, one_entry, layouts_of, address_for, is_mapped, is_touched}
 pub use Rattle.jn_records.specs.Layouts.{kept_entry, Layout, Unused, at_cell, layout_at, is_layout_of, map_cell, behind, row_at, layout_by, laid, through, with_entries, cut_inside, layouts_by, Of, head_map, with_row, IsMapIn, IsRowChanged, block_in, IsNoMap, has_address}
 pub use Rattle.jn_page_state.specs.Contents.{intended, bytes_by, heads_name, works_have, names_for_block, layouts_in as layouts_said, stored_in, with_first, intentions_from, works_name, prepared_by, stored_list, holds_intention, Contents, intention_of, state_in}
 pub use Rattle.jn_page_state.specs.Held.{held_contents, MayStand, IsLayoutPut, epoch_after, records_after, heads_after, rows_after, IsMapStored}
@@ -39,12 +39,12 @@ pub use Rattle.jn_storage.specs.Calls.{state, name_of, next_of, Called, CountsOn
 pub use Rattle.jn_storage.specs.Finding.{find_by}
 pub use Rattle.jn_storage.specs.Listing.{are_different, IsListing, total, is_in}
 pub use Rattle.jn_storage.proofs.Listings.{but, is_in-but, total-but, total-same, listing-less, listing-more, listing-same, length-but, Tells}
-pub use Rattle.jn_storage.specs.Storage.{IsServing, is_stored, is_past_head, most_pages, map_eq, has_map, Accounts, StorageView}
-pub use Rattle.jn_storage.specs.Orderly.{IsLoadable, file_there, intentions, list_of, IsOrderly, IsPrepared, GoTogether, unit_of, unit_by, needs_file as needs_first, takes_away, first_of, needed, unit_in_range}
+pub use Rattle.jn_storage.specs.Storage.{IsServing, is_stored, most_pages, map_eq, has_map, Accounts, StorageView}
+pub use Rattle.jn_storage.specs.Orderly.{IsLoadable, file_there, intentions, list_of, IsOrderly, IsPrepared, GoTogether, unit_of, unit_by, needs_file, takes_away, first_of, needed, unit_in_range}
 pub use Rattle.jn_storage.proofs.Finds.{find-set, keys-set, find-at, find-listed, find-add, different-add, map-add, find-kept, keys-kept, different-kept}
 pub use Rattle.jn_storage.proofs.Intended.{made_there, there-after, one_if, entry-of, unit-of}
 pub use Rattle.jn_store.specs.Store.{StoreView, IsOnly, StoreLater, IsServed, IsStop, IsSamePage, StorePut, IsClean, HasSamePages, IsCalm, IsWholePage}
-pub use Rattle.jn_intent.specs.Carrying.{Carries, PutsWhole, PutsInTurn, MayCarry, heads_taken, is_gone, is_gone_already, counted_on, PutsOne, PutsPart, PutsMapPage, KeepsMaps, without_promise, with_fresh_promise, needs_file}
+pub use Rattle.jn_intent.specs.Carrying.{Carries, PutsWhole, PutsInTurn, MayCarry, heads_taken, is_gone, is_gone_already, counted_on, PutsOne, PutsPart, PutsMapPage, KeepsMaps, without_promise, with_fresh_promise, is_of_file}
 pub use Rattle.jn_recovery.specs.Matches.{Matches, IsKeptMemory, IsMade, AreMade, HasMaps, HaveMaps, stored_work, WorksMatch, StoredWork, work_by, FlagsMatch}
 pub use Rattle.jn_recovery.specs.Memory.{Memory, accounts_of, view_of, next_by, next_in, stored_by, held_of, held_in, holds_page, rubbish_of, rubbish_in, supplied_in}
 pub use Rattle.jn_recovery.proofs.Totals.{one}
@@ -53,7 +53,7 @@ pub use Rattle.jn_recovery.proofs.Serving.{serves_of, serving_by, loadable_found
 pub use Rattle.jn_recovery.proofs.Standing.{there_found, consistent, mapped_found, holds, files_are, standing_same, finds}
 pub use Rattle.jn_recovery.proofs.Telling.{prepared_of, stored_pages, works_seen, listed_pages, works_told, works_by, tells_works}
 pub use Rattle.jn_records.specs.Pages.{root_page}
-pub use Rattle.jn_records.specs.MapPlaces.{maps_in, lacks_map, places_after, bare, there_by, is_in_range, names_maps, IsSuppliedBy, keeps_map, range_of, names_map, MapPlaces, lacking, names_a_map}
+pub use Rattle.jn_records.specs.MapPlaces.{maps_in, lacks_map, places_after, bare, has_map_after, is_in_range, names_maps, IsSuppliedBy, is_past_head, keeps_map, range_of, names_map, MapPlaces, lacking, names_a_map}
 pub use Rattle.jn_base.specs.Limits.{head_blocks, most_cells, most_maps, most_blocks}
 pub use Rattle.jn_recovery.proofs.TableCounted.{maps_fit, map_tells, file_of_head, files_listed, heads_counted, all_units, blocks_listed, all_maps, maps_listed, named_counted}
 pub use Rattle.jn_page_state.specs.Puts.{PagePut, HeadPut, MapPut, RecordPut, BlockPut, put_place, RootPut, IsFewer}
@@ -63,7 +63,7 @@ pub use Rattle.jn_store.proofs.Laws.{later_trans, stop_since, same_refl, same_tr
 pub use Rattle.jn_files.proofs.Said.{same_only}
 pub use Rattle.jn_records.specs.declared.head.Head.{Head}
 pub use Rattle.jn_base.specs.declared.names.ServerNo.{ServerNo}
-pub use Rattle.jn_records.specs.Heads.{IsMapRow, head_page, map_page, all_within, within, has_page as head_has_page}
+pub use Rattle.jn_records.specs.Heads.{IsMapRow, head_in, head_page, map_page, all_within, within, has_page as head_has_page}
 pub use Rattle.jn_page_state.proofs.MapsKept.{used_there, entry_map}
 pub use Rattle.jn_base.specs.declared.names.LockUnit.{LockUnit}
 pub use Rattle.jn_storage.proofs.Kept.{makes_file, orderly-carried, promises-carried}

@@ -1,5 +1,5 @@
 -- Which map pages heads name once an intention is carried out.
-use Rattle.jn_intent.proofs.Common.{◌≡◌, ◌≢◌, ⊎_elim, ◌<◌, ◌≤◌, ◌+◌, ◌/◌, ℕ, zero, suc, Bool, true, false, ◌&&◌, ◌||◌, if◌then◌else◌, List, [], ◌∷◌, length, refl, sym, ◌∙◌, ap, subst, true≢false, arith, fun_ext, cases_lt, false_from_ne_true, nat_tests, nat_eq, nat_lt, slice_set, slice_index, slice_index_or, list_any, FileNo, file_eq, file_tells, TableView, IsTable, head_in, layouts_in, serves_for, is_head_after, map_after, IsHeadPut, any_same, at_set, passes_any, passes_at, Head, FreeHead, Used, StoredIntention, What, Fresh, Gone, Cut, Put, most_maps, most_cells, Layout, Unused, Of, at_cell, layout_at, is_layout_of, map_cell, layout_by, layouts_by, kept_entry, maps_in, places_after, get_or_past, bare, there_by, is_in_range, keeps_map, laid-map, laid-past, head_has_page}
+use Rattle.jn_intent.proofs.Common.{◌≡◌, ◌≢◌, ⊎_elim, ◌<◌, ◌≤◌, ◌+◌, ◌/◌, ℕ, zero, suc, Bool, true, false, ◌&&◌, ◌||◌, if◌then◌else◌, List, [], ◌∷◌, length, refl, sym, ◌∙◌, ap, subst, true≢false, arith, fun_ext, cases_lt, false_from_ne_true, nat_tests, nat_eq, nat_lt, slice_set, slice_index, slice_index_or, list_any, FileNo, file_eq, file_tells, TableView, IsTable, head_in, layouts_in, serves_for, is_head_after, map_after, IsHeadPut, any_same, at_set, passes_any, passes_at, Head, FreeHead, Used, StoredIntention, What, Fresh, Gone, Cut, Put, most_maps, most_cells, Layout, Unused, Of, at_cell, layout_at, is_layout_of, map_cell, layout_by, layouts_by, kept_entry, maps_in, places_after, get_or_past, bare, has_map_after, is_in_range, keeps_map, laid-map, laid-past, head_has_page}
 use Rattle.jn_intent.proofs.Census.{cell_below}
 
 both_ways : (b c : Bool) → (b ≡ true → c ≡ true) → (c ≡ true → b ≡ true) → b ≡ c
@@ -101,8 +101,8 @@ module _ (t : TableView) (is : IsTable t) (i : StoredIntention) (place : ℕ) (n
         ∙ ap (has_map i.file j) here
 
     module _ (j : ℕ) (brings : i.what ≡ Put → is_in_range j i.block.0 ≡ true → at_cell old (map_cell j) ≡ 0 → i.map ≢ 0) where
-      own_same : maps_in u.heads i.file j ≡ there_by i.what i.block.0 j (maps_in t.heads i.file j)
-      own_same = own_after j ∙ ⊎_elim low high (cases_lt j most_maps) ∙ ap (there_by i.what i.block.0 j) (sym (own_before j))
+      own_same : maps_in u.heads i.file j ≡ has_map_after i.what i.block.0 j (maps_in t.heads i.file j)
+      own_same = own_after j ∙ ⊎_elim low high (cases_lt j most_maps) ∙ ap (has_map_after i.what i.block.0 j) (sym (own_before j))
         where
           old_file : (w : What) → i.what ≡ w → serves_for w i.file old ≡ true
           old_file w e = subst (λ w. serves_for w i.file old ≡ true) e put.serves
@@ -144,13 +144,13 @@ module _ (t : TableView) (is : IsTable t) (i : StoredIntention) (place : ℕ) (n
               nothing false = refl
 
           -- a map page that a head may have
-          low : j < most_maps → has_map i.file j new ≡ there_by i.what i.block.0 j (has_map i.file j old)
+          low : j < most_maps → has_map i.file j new ≡ has_map_after i.what i.block.0 j (has_map i.file j old)
           low lt = by i.what refl
             where
               cell : (w : What) → i.what ≡ w → at_cell new (map_cell j) ≡ map_after w i.block.0 i.map j (at_cell old (map_cell j))
               cell w e = put.maps j lt ∙ ap (λ w. map_after w i.block.0 i.map j (at_cell old (map_cell j))) e
 
-              by : (w : What) → i.what ≡ w → has_map i.file j new ≡ there_by w i.block.0 j (has_map i.file j old)
+              by : (w : What) → i.what ≡ w → has_map i.file j new ≡ has_map_after w i.block.0 j (has_map i.file j old)
               by Fresh e = no_cell new (cell Fresh e)
               by Gone e = gone_left new (new_file Gone e)
               by Cut e = with_file new (cut_left new (new_file Cut e)) ∙ ap (nat_lt 0) (cell Cut e) ∙ kept (keeps_map i.block.0 j) (at_cell old (map_cell j))
@@ -186,7 +186,7 @@ module _ (t : TableView) (is : IsTable t) (i : StoredIntention) (place : ℕ) (n
                       there c = let a : nat_eq (suc c) 0 ≡ false = grind (arith, nat_tests) in let b : nat_lt 0 (suc c) ≡ true = grind (arith, nat_tests) in grind (arith, a, b)
 
           -- and none past those
-          high : most_maps ≤ j → has_map i.file j new ≡ there_by i.what i.block.0 j (has_map i.file j old)
+          high : most_maps ≤ j → has_map i.file j new ≡ has_map_after i.what i.block.0 j (has_map i.file j old)
           high ge = no_cell new none_after ∙ by i.what refl
             where
               zero_cell : (k : ℕ) → (a : ℕ) → k ≡ a → ((d : ℕ) → k ≡ suc d → ⊥) → k ≡ 0
@@ -209,7 +209,7 @@ module _ (t : TableView) (is : IsTable t) (i : StoredIntention) (place : ℕ) (n
               was : has_map i.file j old ≡ false
               was = no_cell old none_before
 
-              by : (w : What) → i.what ≡ w → false ≡ there_by w i.block.0 j (has_map i.file j old)
+              by : (w : What) → i.what ≡ w → false ≡ has_map_after w i.block.0 j (has_map i.file j old)
               by Fresh e = refl
               by Gone e = refl
               by Cut e = sym (ap (λ b. b && keeps_map i.block.0 j) was)
@@ -218,8 +218,8 @@ module _ (t : TableView) (is : IsTable t) (i : StoredIntention) (place : ℕ) (n
     -- all of them
     pub maps_after : ((j : ℕ) → i.what ≡ Put → is_in_range j i.block.0 ≡ true → at_cell (layout_at (layouts_in t) place) (map_cell j) ≡ 0 → i.map ≢ 0) → maps_in u.heads ≡ places_after (bare i) (maps_in t.heads)
     maps_after brings = fun_ext (λ f. fun_ext (λ j. ⊎_elim
-        (λ same. subst (λ g. maps_in u.heads g j ≡ places_after (bare i) (maps_in t.heads) g j) same.1 (own_same j (brings j) ∙ sym (ap (λ b. if b then there_by i.what i.block.0 j (maps_in t.heads i.file j) else maps_in t.heads i.file j) self)))
-        (λ ne. other f j ne.1 ∙ sym (ap (λ b. if b then there_by i.what i.block.0 j (maps_in t.heads f j) else maps_in t.heads f j) ne.0))
+        (λ same. subst (λ g. maps_in u.heads g j ≡ places_after (bare i) (maps_in t.heads) g j) same.1 (own_same j (brings j) ∙ sym (ap (λ b. if b then has_map_after i.what i.block.0 j (maps_in t.heads i.file j) else maps_in t.heads i.file j) self)))
+        (λ ne. other f j ne.1 ∙ sym (ap (λ b. if b then has_map_after i.what i.block.0 j (maps_in t.heads f j) else maps_in t.heads f j) ne.0))
         (file_tells i.file f)))
       where
         self : file_eq i.file i.file ≡ true

@@ -1,5 +1,5 @@
 -- Where the intentions of one file stand in a work's list.
-use Rattle.jn_intent.proofs.Common.{◌≡◌, inr, ◌<◌, ℕ, zero, suc, Bool, true, false, not, ◌&&◌, ◌||◌, if◌then◌else◌, List, [], ◌∷◌, map, Option, Some, None, refl, sym, ◌∙◌, ap, subst, true≢false, arith, nat_tests, slice_get, nat_eq, list_all, FileNo, File, Block, file_eq, file_tells, Files, What, Fresh, Gone, Cut, Put, in_order, entry, intention_place, is_put, is_fresh, as_first, first_by, place_by, Prepared, IsPrepared, GoTogether, unit_of, unit_by, needs_first, takes_away, first_of, file_there, entry-of, unit-of, needs_file}
+use Rattle.jn_intent.proofs.Common.{◌≡◌, inr, ◌<◌, ℕ, zero, suc, Bool, true, false, not, ◌&&◌, ◌||◌, if◌then◌else◌, List, [], ◌∷◌, map, Option, Some, None, refl, sym, ◌∙◌, ap, subst, true≢false, arith, nat_tests, slice_get, nat_eq, list_all, FileNo, File, Block, file_eq, file_tells, Files, What, Fresh, Gone, Cut, Put, in_order, entry, intention_place, is_put, is_fresh, as_first, first_by, place_by, Prepared, IsPrepared, GoTogether, unit_of, unit_by, needs_file, takes_away, first_of, file_there, entry-of, unit-of, is_of_file}
 use Rattle.jn_locks.specs.Locks.{is_unit}
 use Rattle.jn_locks.specs.declared.words.Mode.TheVariants.{Read, Commit}
 use Rattle.jn_records.specs.declared.intention.Intention.{Intention}
@@ -66,38 +66,38 @@ not_both p q k l i j apart at too same un none = true≢false (sym (apart (File 
 
 -- the file of a cut or a put is there, where what the list made before is
 pub file_needed : (files : Files) (p : Prepared) (k : ℕ) (i : Intention) → IsPrepared files p.list p.reads → slice_get p.list k ≡ Some i
-    → ((q : ℕ) (j : Intention) → q < k → slice_get p.list q ≡ Some j → is_fresh j.what ≡ true → file_there files j.file ≡ true) → needs_file i.what ≡ true → file_there files i.file ≡ true
+    → ((q : ℕ) (j : Intention) → q < k → slice_get p.list q ≡ Some j → is_fresh j.what ≡ true → file_there files j.file ≡ true) → is_of_file i.what ≡ true → file_there files i.file ≡ true
 file_needed files p k i is at made needs = by (entry p.list i.file zero) refl
   where
-    there : not (needs_first (first_of p.list i)) || file_there files i.file ≡ true
-    there = all_at (λ i. not (needs_first (first_of p.list i)) || file_there files i.file) p.list k i is.files_there at
+    there : not (needs_file (first_of p.list i)) || file_there files i.file ≡ true
+    there = all_at (λ i. not (needs_file (first_of p.list i)) || file_there files i.file) p.list k i is.files_there at
 
     lost : not (is_put i.what && takes_away (first_of p.list i)) ≡ true
     lost = all_at (λ i. not (is_put i.what && takes_away (first_of p.list i))) p.list k i is.no_lost_put at
 
-    needed : needs_first (first_of p.list i) ≡ true → file_there files i.file ≡ true
-    needed e = must (needs_first (first_of p.list i)) (file_there files i.file) e there
+    needed : needs_file (first_of p.list i) ≡ true → file_there files i.file ≡ true
+    needed e = must (needs_file (first_of p.list i)) (file_there files i.file) e there
       where
         must : (a b : Bool) → a ≡ true → (not a || b) ≡ true → b ≡ true
         must a b e h = grind (arith, e, h)
 
     by : (o : Option Intention) → entry p.list i.file zero ≡ o → file_there files i.file ≡ true
-    by None e = needed (ap (λ o. needs_first (as_first o)) e)
+    by None e = needed (ap (λ o. needs_file (as_first o)) e)
     by (Some j) e = of j.what refl (is_put i.what) refl
       where
         own : is_put i.what ≡ false → i ≡ j
         own t = some_is (sym (first_at p.list k i is.order.order at t) ∙ e)
 
         of : (w : What) → j.what ≡ w → (b : Bool) → is_put i.what ≡ b → file_there files i.file ≡ true
-        of Cut d b t = needed (ap (λ o. needs_first (as_first o)) e ∙ ap (λ w. needs_first (first_by w j.block)) d)
-        of Put d b t = needed (ap (λ o. needs_first (as_first o)) e ∙ ap (λ w. needs_first (first_by w j.block)) d)
+        of Cut d b t = needed (ap (λ o. needs_file (as_first o)) e ∙ ap (λ w. needs_file (first_by w j.block)) d)
+        of Put d b t = needed (ap (λ o. needs_file (as_first o)) e ∙ ap (λ w. needs_file (first_by w j.block)) d)
         of Gone d true t = absurd (gone (is_put i.what) (takes_away (first_of p.list i)) t (ap (λ o. takes_away (as_first o)) e ∙ ap (λ w. takes_away (first_by w j.block)) d) lost)
           where
             gone : (a b : Bool) → a ≡ true → b ≡ true → not (a && b) ≡ true → ⊥
             gone a b x y h = grind (arith, x, y, h)
         of Fresh d true t = let q = first_before p.list None k i j is.order.order at t e in subst (λ f. file_there files f ≡ true) q.3 (made q.0 j q.1 q.2 (ap is_fresh d))
-        of Fresh d false t = absurd (true≢false (sym needs ∙ ap (λ (x : Intention). needs_file x.what) (own t) ∙ ap needs_file d))
-        of Gone d false t = absurd (true≢false (sym needs ∙ ap (λ (x : Intention). needs_file x.what) (own t) ∙ ap needs_file d))
+        of Fresh d false t = absurd (true≢false (sym needs ∙ ap (λ (x : Intention). is_of_file x.what) (own t) ∙ ap is_of_file d))
+        of Gone d false t = absurd (true≢false (sym needs ∙ ap (λ (x : Intention). is_of_file x.what) (own t) ∙ ap is_of_file d))
 
 -- ---- the intentions of one unit
 

@@ -1,5 +1,5 @@
 -- The stored blocks and the map pages once a put is carried out, each once.
-use Rattle.jn_intent.proofs.Common.{◌≡◌, ⊎_elim, ◌<◌, ◌≤◌, ◌+◌, ◌-◌, ◌/◌, ℕ, Bool, true, false, not, ◌&&◌, ◌||◌, if◌then◌else◌, List, ◌∷◌, length, Some, None, refl, sym, ◌∙◌, ap, true≢false, arith, nat_tests, nat_eq, nat_le, is_some, FileNo, BlockNo, LockUnit, File, Block, file_eq, unit_eq, Files, change, written, StoredIntention, Put, is_put, IsListing, listing-more, listing-same, is_stored, one, MapPlaces, lacks_map, places_after, head_blocks, block_eq, bare, there_by, is_in_range, map_eq, has_map, map_tells}
+use Rattle.jn_intent.proofs.Common.{◌≡◌, ⊎_elim, ◌<◌, ◌≤◌, ◌+◌, ◌-◌, ◌/◌, ℕ, Bool, true, false, not, ◌&&◌, ◌||◌, if◌then◌else◌, List, ◌∷◌, length, Some, None, refl, sym, ◌∙◌, ap, true≢false, arith, nat_tests, nat_eq, nat_le, is_some, FileNo, BlockNo, LockUnit, File, Block, file_eq, unit_eq, Files, change, written, StoredIntention, Put, is_put, IsListing, listing-more, listing-same, is_stored, one, MapPlaces, lacks_map, places_after, head_blocks, block_eq, bare, has_map_after, is_in_range, map_eq, has_map, map_tells}
 use Rattle.jn_locks.proofs.Orders.{unit_tells}
 use Rattle.jn_intent.proofs.Numbers.{listing_length}
 
@@ -47,7 +47,7 @@ module _ (i : StoredIntention) (is : i.what ≡ Put) (places : MapPlaces) where
 
   -- a put past the head's blocks has its map page then
   map_there : head_blocks ≤ i.block.0 → (m : FileNo × ℕ) → has_map (places_after (bare i) places) m ≡ (map_eq (i.file, range) m || has_map places m)
-  map_there far m = ap (λ w. if file_eq i.file m.0 then there_by w i.block.0 m.1 (places m.0 m.1) else places m.0 m.1) is ∙ by (file_eq i.file m.0)
+  map_there far m = ap (λ w. if file_eq i.file m.0 then has_map_after w i.block.0 m.1 (places m.0 m.1) else places m.0 m.1) is ∙ by (file_eq i.file m.0)
       ∙ ap (λ b. (file_eq i.file m.0 && b) || has_map places m) same
     where
       same : is_in_range m.1 i.block.0 ≡ nat_eq range m.1
@@ -62,7 +62,7 @@ module _ (i : StoredIntention) (is : i.what ≡ Put) (places : MapPlaces) where
 
   -- and one in a head's block needs none
   map_none : i.block.0 < head_blocks → (m : FileNo × ℕ) → has_map (places_after (bare i) places) m ≡ has_map places m
-  map_none low m = ap (λ w. if file_eq i.file m.0 then there_by w i.block.0 m.1 (places m.0 m.1) else places m.0 m.1) is ∙ ap (λ b. if file_eq i.file m.0 then places m.0 m.1 || b else places m.0 m.1) out ∙ by (file_eq i.file m.0) (places m.0 m.1)
+  map_none low m = ap (λ w. if file_eq i.file m.0 then has_map_after w i.block.0 m.1 (places m.0 m.1) else places m.0 m.1) is ∙ ap (λ b. if file_eq i.file m.0 then places m.0 m.1 || b else places m.0 m.1) out ∙ by (file_eq i.file m.0) (places m.0 m.1)
     where
       out : is_in_range m.1 i.block.0 ≡ false
       out = grind (arith, nat_tests, low)

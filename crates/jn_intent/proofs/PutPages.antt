@@ -1,4 +1,4 @@
--- Which pages a preparation puts: none but its blocks' and its records'.
+-- How many pages a preparation changes: as many as it has blocks and records.
 use Rattle.jn_intent.proofs.Common.{◌≡◌, ◌≢◌, ◌<◌, ◌≤◌, ◌+◌, ◌||◌, ℕ, suc, Bool, true, false, if◌then◌else◌, List, [], ◌∷◌, ◌++◌, length, take, count_by, nat_eq, slice_get, Some, Result, Stopped, refl, sym, ◌∙◌, ap, subst, true≢false, arith, nat_tests, length-append, sum_by-append, sum_by-cons, sum_by-take-le, list_any, StoreView, IsSamePage, same_refl, data_place, is_put, is_put_intention, FullIntention, StoredIntention, TableView, BlockStored, same_trans, PutsFew}
 use Rattle.jn_intent.proofs.StoringPages.{take_more}
 

@@ -329,11 +329,11 @@ module _ (m : Memory) (v : StoreView) (now : Matches m v) (serving : IsServing (
           few_calls : x.calls ≤ v.calls + 784
           few_calls = let before = p.store.calls_few in let more = puts.put.calls in let few = its.length_fits in omega (arith, before, more, few, all)
 
-          -- a stop at the ready record
           -- the list's pages, and the ready record's
           written_all : PutsFew (count_by is_put_intention list + length list + 1) v x
           written_all = puts_within _ _ v x (all_puts_and_one list (length stored) (omega (arith, all))) (puts_more _ v w x _ p.store.later.count p.written puts.put.others)
 
+          -- a stop at the ready record
           pub ready_stopped : ok ≡ false → (k : Memory) → k.server ≡ m.server → k.table ≡ t → WorkPrepared {A = Unit {0}} (view_of m v) head list reads (Err Stops) (view_of k x)
           ready_stopped stopped k server table = record {
             refused = λ fault e short. absurd (no_stop fault (its_fault e) short);

@@ -4,7 +4,7 @@ use Rattle.jn_alloc.specs.Free.{free_count}
 use Rattle.jn_base.specs.declared.names.FileNo.{FileNo}
 use Rattle.jn_base.specs.declared.names.ServerNo.{ServerNo}
 use Rattle.jn_base.specs.Limits.{head_blocks, most_blocks, most_maps}
-use Rattle.jn_files.specs.Table.{TableView, IsTable, IsUnnamed, exists, head_in, layouts_in}
+use Rattle.jn_files.specs.Table.{TableView, IsTable, IsUnnamed, exists, layouts_in}
 use Rattle.jn_files.specs.Calls.{HasPagesOfTable, IsChanged, MayBecome, MayBring, with_promised_heads}
 use Rattle.jn_page_state.specs.Changes.{IsHeadPut, IsPartPut}
 use Rattle.jn_page_state.specs.Held.{IsMapStored, Lays, heads_after, rows_after}
@@ -13,7 +13,7 @@ use Rattle.jn_records.specs.declared.intention.StoredIntention.{StoredIntention}
 use Rattle.jn_records.specs.declared.intention.What.{What}
 use Rattle.jn_records.specs.declared.intention.What.TheVariants.{Gone, Cut, Put}
 use Rattle.jn_records.specs.declared.work.WorkState.{WorkState}
-use Rattle.jn_records.specs.Heads.{map_page, IsMapRow}
+use Rattle.jn_records.specs.Heads.{map_page, IsMapRow, head_in}
 use Rattle.jn_records.specs.Intentions.{intention_has_page}
 use Rattle.jn_records.specs.Layouts.{Layout, head_map, row_at}
 use Rattle.jn_records.specs.MapPlaces.{maps_in, range_of}
@@ -33,10 +33,10 @@ without_promise t i = with_promised_heads t (t.free_heads.promised - heads_taken
 abbrev pub with_fresh_promise : TableView → FileNo → TableView
 with_fresh_promise t f = with_promised_heads t (t.free_heads.promised - (if not (exists t.heads f) then 1 else 0))
 
-abbrev pub needs_file : What → Bool
-needs_file Cut = true
-needs_file Put = true
-needs_file _ = false
+abbrev pub is_of_file : What → Bool
+is_of_file Cut = true
+is_of_file Put = true
+is_of_file _ = false
 
 abbrev pub is_gone : What → Bool
 is_gone Gone = true
@@ -54,7 +54,7 @@ pub record MayCarry (t : TableView) (v : StoreView) (i : StoredIntention) : Type
   pub names : intention_has_page i ≡ true
   pub promised : heads_taken t i ≤ t.free_heads.promised
   pub free : t.free_heads.promised ≤ free_count t.free_heads
-  pub there : needs_file i.what ≡ true → exists t.heads i.file ≡ true
+  pub there : is_of_file i.what ≡ true → exists t.heads i.file ≡ true
   pub range : i.block.0 < most_blocks
   pub leaf : (a : ℕ) → i.address ≡ suc a → MayBecome t v i.file i.block.0 a
   pub map : (a : ℕ) → i.address ≡ suc a → head_blocks ≤ i.block.0 → maps_in t.heads i.file (range_of i.block.0) ≡ false → MayBring t i.file i.block.0 a i.map

@@ -141,7 +141,7 @@ pub record IsPreparing (m : Memory) (v : StoreView) (work : WorkId) (list : List
   pub pool : PoolPreparing m work stored records
   pub pages : PagesPreparing m list lacks stored t w
   pub store : StorePreparing m v (32 * length stored) records w
-  -- for each intention its record was put, and for each put its block
+  -- no more pages have changed than one for each intention, its record, and one for each put, its block
   pub written : PutsFew (count_by is_put_intention (take (length stored) list) + length stored) v w
 
 -- ---- all of them

@@ -24,13 +24,13 @@ pub use Rattle.jn_records.specs.declared.intention.StoredIntention.{StoredIntent
 pub use Rattle.jn_records.specs.declared.record.Record.{Record}
 pub use Rattle.jn_records.specs.declared.record.Record.TheVariants.{Free, Intention, Ready, Going, Flag as FlagRecord}
 pub use Rattle.jn_sets.specs.Pool.{record_in, is_intention, is_prepared, is_flag, slot_page, IsStored, Says, IsRecord, IsRecordPage, is_free, is_rubbish}
-pub use Rattle.jn_page_state.specs.Contents.{stored_in, intention_of, with_first, intentions_from, stored_list, layouts_in, heads_name, works_have, names_for_block, state_in, Contents, head_in, entry_of, full_list, intended, works_in, prepared_by, bytes_by, holds_intention, flags_in, flag_by}
+pub use Rattle.jn_page_state.specs.Contents.{stored_in, intention_of, with_first, intentions_from, stored_list, layouts_in, heads_name, works_have, names_for_block, state_in, Contents, entry_of, full_list, intended, works_in, prepared_by, bytes_by, holds_intention, flags_in, flag_by}
 pub use Rattle.jn_page_state.specs.Recoverable.{HasIntentions, HasFirst, HasNone, HasAt, IsWholeWork, IsRecoverable, names_block, reads_page, is_read, IsCompleteBy, Intends, AddressesDiffer, IsConsistent, NamedAreClean, MapsAreClean, Addresses, IsSuppliedIn, names_page, PassesOnce, IsDistinct, Gives, is_named, IsFound, AreFresh}
 pub use Rattle.jn_base.specs.declared.names.ServerNo.{ServerNo}
 pub use Rattle.jn_records.specs.declared.flag.Flag.{Flag}
 pub use Rattle.jn_records.specs.declared.head.Head.{Head}
 pub use Rattle.jn_records.specs.declared.work.WorkHead.{WorkHead}
-pub use Rattle.jn_records.specs.Heads.{has_page, head_at, head_page, IsHead, FileFits, IsMapPage, fits_version, addresses_bytes, IsMapRow, all_within}
+pub use Rattle.jn_records.specs.Heads.{head_in, has_page, head_at, head_page, IsHead, FileFits, IsMapPage, fits_version, addresses_bytes, IsMapRow, all_within}
 unfoldable pub use Rattle.jn_records.specs.Heads.{map_page}
 pub use Rattle.jn_records.specs.StablePages.{Counts, data_place, entry_in, page_count, slot_place, head_place, Pages, address_in, map_in, address_by, is_head_of as is_page_of, head_from, head_of, block_behind, block_in as block_on_page, files_of_pages, root_by, NamesMap, is_used, file_in, IsWholeMap}
 pub use Rattle.jn_storage.specs.Orderly.{IsLoadable, file_there, IsGiven, IsPrepared, needs_file, list_of, first_of as first_net, IsOrderly, unit_of, unit_by}
@@ -45,7 +45,7 @@ pub use Rattle.jn_page_state.specs.Standing.{IsStanding, IsPutStep, MayChange, M
 pub use Rattle.jn_rows.proofs.Left.{whole-stop, left-none}
 pub use Rattle.jn_records.specs.declared.head.Head.TheVariants.{Free as FreeHead, Used}
 pub use Rattle.jn_base.specs.declared.names.FileNo.{FileNo}
-pub use Rattle.jn_records.specs.MapPlaces.{is_in_range, keeps_map, maps_in, names_map, there_by, places_after, bare, IsSuppliedBy, MapPlaces, names_maps}
+pub use Rattle.jn_records.specs.MapPlaces.{is_in_range, keeps_map, maps_in, names_map, has_map_after, places_after, bare, IsSuppliedBy, MapPlaces, names_maps}
 pub use Rattle.jn_records.proofs.Layouts.{inside-was, has-at, get-map, same-map, laid-block, laid-entry, laid-past, map-cell-is, laid-none, has-found, block-put}
 pub use Rattle.jn_store.specs.Choices.{IsChoice, Agree, with_page}
 pub use Rattle.jn_records.specs.Reading.{root_at}

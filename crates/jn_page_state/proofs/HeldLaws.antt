@@ -87,7 +87,7 @@ module _ (server : ServerNo) (g : Counts) (v : StoreView) (epoch : ℕ) (records
   -- what a put asks of pages
   pub may_put : (put : PagePut) → MayStand g v heads rows put → (c : Pick) → MayPut g (pages_by v c) put
   may_put (HeadPut place h) may c = λ j d low t. let stored = may j d low t in
-      record { entries = row_at rows d; count = stored.whole.count; within_leaves = stored.whole.within_leaves; is_page = map_by c d (row_at rows d) stored }
+      record { entries = row_at rows d; row = stored.whole; is_page = map_by c d (row_at rows d) stored }
   may_put (BlockPut d block) may c = λ n. let at = named_held c d n in may at.0 at.1 at.2 at.3
   may_put (RootPut epoch) may c = tt
   may_put (RecordPut slot r) may c = tt

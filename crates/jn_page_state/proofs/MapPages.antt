@@ -30,7 +30,7 @@ row_tail row size =
 -- and it is a map page, whose entries are the row
 module _ (leaves : ℕ) (row : List ℕ) (is : IsMapRow leaves row) where
   pub row_page : IsMapPage leaves (map_page row)
-  row_page = record { entries = row; count = is.count; within_leaves = is.within_leaves; is_page = refl }
+  row_page = record { entries = row; row = is; is_page = refl }
 
   pub row_entry : leaves < 2 ^ 16 → (k : ℕ) → k < head_blocks → entry_in (take 448 (map_page row)) k ≡ slice_index_or row k 0
   row_entry few k below = block_entry (map_page row) k below ∙ map_entry leaves (map_page row) few row is.count is.within_leaves refl k below

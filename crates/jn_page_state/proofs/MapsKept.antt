@@ -1,5 +1,5 @@
 -- Which map pages heads name, and what the put of a layout leaves of them.
-use Rattle.jn_page_state.proofs.Common.{◌≡◌, ◌≢◌, ◌⊎◌, inl, inr, ⊎_elim, ℕ, ◌<◌, Bool, true, false, not, ◌&&◌, ◌||◌, if◌then◌else◌, List, length, cases_lt, get_or_past, slice_index, refl, sym, ◌∙◌, ap, subst, true≢false, and_parts, arith, nat_tests, nat_eq, nat_lt, nat_le, FileNo, file_eq, file_tells, head_blocks, most_maps, most_blocks, Head, FreeHead, Used, has_page, StoredIntention, What, Fresh, Gone, Cut, Put, is_in_range, keeps_map, maps_in, Layout, Unused, Of, map_cell, at_cell, layout_by, layouts_by, layout_at, is_layout_of, Contents, head_in, entry_of, layouts_in, address_after, map_after, serves_for, is_head_after, IsHeadPut, IsPartPut, LaysOut, names_what_it_needs, names_map, there_by, places_after, bare, get-map, laid-none, map-cell-is}
+use Rattle.jn_page_state.proofs.Common.{◌≡◌, ◌≢◌, ◌⊎◌, inl, inr, ⊎_elim, ℕ, ◌<◌, Bool, true, false, not, ◌&&◌, ◌||◌, if◌then◌else◌, List, length, cases_lt, get_or_past, slice_index, refl, sym, ◌∙◌, ap, subst, true≢false, and_parts, arith, nat_tests, nat_eq, nat_lt, nat_le, FileNo, file_eq, file_tells, head_blocks, most_maps, most_blocks, Head, FreeHead, Used, has_page, StoredIntention, What, Fresh, Gone, Cut, Put, is_in_range, keeps_map, maps_in, Layout, Unused, Of, map_cell, at_cell, layout_by, layouts_by, layout_at, is_layout_of, Contents, head_in, entry_of, layouts_in, address_after, map_after, serves_for, is_head_after, IsHeadPut, IsPartPut, LaysOut, names_what_it_needs, names_map, has_map_after, places_after, bare, get-map, laid-none, map-cell-is}
 use Rattle.jn_page_state.proofs.Slots.{passes_at, passes_any, at_set}
 
 both : (a b : Bool) → a ≡ true → b ≡ true → (a && b) ≡ true
@@ -169,7 +169,7 @@ module _ (c later : Contents) (i : StoredIntention) (place : ℕ) (new : Layout)
           by true false e = ne
           by false z e = ne
 
-      by_what : (what : What) → i.what ≡ what → i.file ≡ f → there_by what i.block.0 j (maps_in c.heads f j) ≡ true → maps_in later.heads f j ≡ true
+      by_what : (what : What) → i.what ≡ what → i.file ≡ f → has_map_after what i.block.0 j (maps_in c.heads f j) ≡ true → maps_in later.heads f j ≡ true
       by_what Fresh e same h = absurd (true≢false (sym h))
       by_what Gone e same h = absurd (true≢false (sym h))
       by_what Cut e same h = own_maps f j same (and_parts (maps_in c.heads f j) (keeps_map i.block.0 j) h).0 (subst (λ w. is_head_after w i.file new ≡ true) e put.file_after)
@@ -186,7 +186,7 @@ module _ (c later : Contents) (i : StoredIntention) (place : ℕ) (new : Layout)
               (ap (λ w. map_after w i.block.0 i.map j (at_cell (layout_at (layouts_in c) place) (map_cell j))) (sym e) ∙ none))
           either false was h = brought f j same e file h
 
-      by : (b : Bool) → file_eq i.file f ≡ b → (if b then there_by i.what i.block.0 j (maps_in c.heads f j) else maps_in c.heads f j) ≡ true → maps_in later.heads f j ≡ true
+      by : (b : Bool) → file_eq i.file f ≡ b → (if b then has_map_after i.what i.block.0 j (maps_in c.heads f j) else maps_in c.heads f j) ≡ true → maps_in later.heads f j ≡ true
       by true e h = by_what i.what refl (same_file i.file f e) h
       by false e h = other_maps f j e h
 

@@ -151,8 +151,8 @@ module _ (g : Counts) (pages : Pages) (few : g.leaves < 2 ^ 16) (format : (i : �
     where
       entry : (k : ℕ) → k < head_blocks → (page : List ℕ) → entry_in page k ≡ suc a → IsMapPage g.leaves page → a < g.leaves
       entry k below page here is =
-          let at = sym (map_entry g.leaves page few is.entries is.count is.within_leaves is.is_page k below) ∙ here in
-          let fit = within_at g.leaves is.entries k is.within_leaves in
+          let at = sym (map_entry g.leaves page few is.entries is.row.count is.row.within_leaves is.is_page k below) ∙ here in
+          let fit = within_at g.leaves is.entries k is.row.within_leaves in
           omega (arith, at, fit)
 
       by : i < g.heads → is_used (pages (head_place g i)) ≡ true → Cell g pages i q (suc a) → a < g.leaves

@@ -1,5 +1,5 @@
 -- A step of a prepared work leaves each prepared work the map pages that it needs.
-use Rattle.jn_page_state.proofs.Common.{◌≡◌, ◌≢◌, inl, inr, ℕ, zero, suc, ◌<◌, ◌≤◌, ◌+◌, Bool, true, false, ◌&&◌, ◌||◌, if◌then◌else◌, List, [], ◌∷◌, map, Option, Some, None, option_map, option_and_then, is_some, refl, sym, ◌∙◌, ap, subst, true≢false, and_parts, arith, nat_tests, nat_eq, list_all, find, FileNo, LockUnit, File, Block, WorkId, file_eq, work_eq, work_tells, FullIntention, StoredIntention, What, Fresh, Gone, Cut, Put, Record, Free, Intention, Ready, Going, FlagRecord, record_in, is_prepared, is_intention, Prepared, ready_work, is_in_range, IsSuppliedBy, Contents, state_in, stored_in, intention_of, with_first, intentions_from, stored_list, full_list, intended, prepared_by, works_in, HasIntentions, IsCompleteBy, IsDistinct, Intends, IsSuppliedIn, maps_in, Head, WorkHead, ServerNo, slice_get, in_order, stands_before, names_file, is_put, MapPlaces, places_after, there_by, bare, names_maps, IsOrderly, unit_of, unit_by, unit_eq, or_right, none-some, same_Some, slice_get-map}
+use Rattle.jn_page_state.proofs.Common.{◌≡◌, ◌≢◌, inl, inr, ℕ, zero, suc, ◌<◌, ◌≤◌, ◌+◌, Bool, true, false, ◌&&◌, ◌||◌, if◌then◌else◌, List, [], ◌∷◌, map, Option, Some, None, option_map, option_and_then, is_some, refl, sym, ◌∙◌, ap, subst, true≢false, and_parts, arith, nat_tests, nat_eq, list_all, find, FileNo, LockUnit, File, Block, WorkId, file_eq, work_eq, work_tells, FullIntention, StoredIntention, What, Fresh, Gone, Cut, Put, Record, Free, Intention, Ready, Going, FlagRecord, record_in, is_prepared, is_intention, Prepared, ready_work, is_in_range, IsSuppliedBy, Contents, state_in, stored_in, intention_of, with_first, intentions_from, stored_list, full_list, intended, prepared_by, works_in, HasIntentions, IsCompleteBy, IsDistinct, Intends, IsSuppliedIn, maps_in, Head, WorkHead, ServerNo, slice_get, in_order, stands_before, names_file, is_put, MapPlaces, places_after, has_map_after, bare, names_maps, IsOrderly, unit_of, unit_by, unit_eq, or_right, none-some, same_Some, slice_get-map}
 use Rattle.jn_locks.specs.Locks.{is_unit}
 use Rattle.jn_locks.specs.declared.words.Mode.TheVariants.{Read, Commit}
 use Rattle.jn_records.proofs.Supplied.{supplied-more, supplied-step, own-lacking}
@@ -189,7 +189,7 @@ module _ (c : Contents) (distinct : IsDistinct c) where
         whole : is_put i.what ≡ false → IsSuppliedBy (places_after (bare i) places) (stored_list c.pool w n)
         whole e = subst (λ (l : List Bool). (k : ℕ) → slice_get l k ≡ Some true → slice_get (names_maps (stored_list c.pool w n)) k ≡ Some true)
             (sym (own-lacking (map bare (stored_list c.pool w n)) places (places_after (bare i) places)
-            (λ f j h. skipped (file_eq i.file f) (there_by i.what i.block.0 j (places f j)) (places f j) (not_named w n reads other q e f h)))) before
+            (λ f j h. skipped (file_eq i.file f) (has_map_after i.what i.block.0 j (places f j)) (places f j) (not_named w n reads other q e f h)))) before
 
         more : (b there range : Bool) → there ≡ true → (if b then there || range else there) ≡ true
         more b there range h = grind (arith, h)
@@ -199,7 +199,7 @@ module _ (c : Contents) (distinct : IsDistinct c) where
         by Gone e = whole (ap is_put e)
         by Cut e = whole (ap is_put e)
         by Put e = supplied-more (map bare (stored_list c.pool w n)) (names_maps (stored_list c.pool w n)) places (places_after (bare i) places)
-            (λ f j h. ap (λ what. if file_eq i.file f then there_by what i.block.0 j (places f j) else places f j) e ∙ more (file_eq i.file f) (places f j) (is_in_range j i.block.0) h) before
+            (λ f j h. ap (λ what. if file_eq i.file f then has_map_after what i.block.0 j (places f j) else places f j) e ∙ more (file_eq i.file f) (places f j) (is_in_range j i.block.0) h) before
 
     -- each prepared work has after the step what it had
     step_supplied : (w : WorkId) (n : ℕ) (reads : List LockUnit) (places : MapPlaces) → HasWork c.pool c.blocks w n reads → HasIntentions c.pool w n

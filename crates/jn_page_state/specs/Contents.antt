@@ -1,11 +1,10 @@
 -- What the pages of a server say, apart from their bytes, and the stable state that follows from it.
-use Rattle.std.specs.Prelude.{ℕ, zero, suc, nat_eq, Bool, false, ◌&&◌, List, [], ◌∷◌, map, slice_index_or, Option, Some, None, option_and_then}
+use Rattle.std.specs.Prelude.{ℕ, zero, suc, nat_eq, Bool, false, ◌&&◌, List, [], ◌∷◌, map, Option, Some, None, option_and_then}
 use Rattle.std.specs.List.{find, list_any}
 use Rattle.jn_base.specs.declared.names.Tid.{Tid}
 use Rattle.jn_base.specs.declared.names.WorkId.{WorkId}
 use Rattle.jn_order.specs.Files.{zeros}
 use Rattle.jn_records.specs.declared.head.Head.{Head}
-use Rattle.jn_records.specs.declared.head.Head.TheVariants.{Free as FreeHead}
 use Rattle.jn_records.specs.declared.intention.Intention.{Intention}
 use Rattle.jn_records.specs.declared.intention.StoredIntention.{StoredIntention}
 use Rattle.jn_records.specs.declared.intention.What.{What}
@@ -26,9 +25,6 @@ pub record Contents : Type 0 where
   pub blocks : ℕ → List ℕ
 
 -- ---- the files
-
-abbrev pub head_in : List Head → ℕ → Head
-head_in heads i = slice_index_or heads i FreeHead
 
 -- what a data page says as a map page
 abbrev pub entry_of : (ℕ → List ℕ) → ℕ → ℕ → ℕ

@@ -4,14 +4,14 @@ use Rattle.jn_base.specs.declared.names.ServerNo.{ServerNo}
 use Rattle.jn_base.specs.Limits.{most_maps}
 use Rattle.jn_records.specs.declared.head.Head.{Head}
 use Rattle.jn_records.specs.declared.record.Record.{Record}
-use Rattle.jn_records.specs.Heads.{head_page, map_page, IsHead, FileFits, IsMapRow}
+use Rattle.jn_records.specs.Heads.{head_page, map_page, IsHead, FileFits, IsMapRow, head_in}
 use Rattle.jn_records.specs.Layouts.{Layout, layouts_by, kept_entry, head_map, IsNoMap, row_at}
 use Rattle.jn_records.specs.Pages.{root_page, IsRoot}
 use Rattle.jn_records.specs.StablePages.{Counts, page_count, head_place, data_place, root_by}
 use Rattle.jn_rows.specs.Stable.{Pick}
 use Rattle.jn_sets.specs.Pool.{HoldsRecords}
 use Rattle.jn_store.specs.Store.{StoreView, IsOnly}
-use Rattle.jn_page_state.specs.Contents.{Contents, head_in}
+use Rattle.jn_page_state.specs.Contents.{Contents}
 use Rattle.jn_page_state.specs.Pages.{block_on, pages_by}
 use Rattle.jn_page_state.specs.Puts.{PagePut, RootPut, RecordPut, HeadPut, BlockPut, MapPut}
 

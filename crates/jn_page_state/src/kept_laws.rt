@@ -10,11 +10,11 @@ ghost use Rattle.jn_records.specs.declared.intention.StoredIntention.{StoredInte
 ghost use Rattle.jn_records.specs.declared.record.Record.{Record};
 ghost use Rattle.jn_records.specs.declared.record.Record.TheVariants.{Free, Ready, Going, Flag as FlagRecord};
 ghost use Rattle.jn_records.specs.declared.work.WorkHead.{WorkHead};
-ghost use Rattle.jn_records.specs.Heads.{has_page};
+ghost use Rattle.jn_records.specs.Heads.{has_page, head_in};
 ghost use Rattle.jn_records.specs.Layouts.{Layout};
 ghost use Rattle.jn_records.specs.StablePages.{Counts};
 ghost use Rattle.jn_storage.specs.Orderly.{IsLoadable};
-ghost use Rattle.jn_page_state.specs.Contents.{Contents, head_in, layouts_in, state_in};
+ghost use Rattle.jn_page_state.specs.Contents.{Contents, layouts_in, state_in};
 ghost use Rattle.jn_page_state.specs.Changes.{with_record, with_block, with_epoch, IsIdlePut, IsReadyPut, IsReadySlot, IsPreparedSlot, IsFlagPut, IsFlagSlot, IsHeadPut, IsPartPut, LaysOut};
 ghost use Rattle.jn_page_state.specs.Recoverable.{IsConsistent, Intends, HasAt, IsWholeWork, names_page, is_named, names_block, is_read};
 

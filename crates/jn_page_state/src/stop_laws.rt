@@ -3,13 +3,13 @@ ghost use Rattle.std.specs.Prelude.{◌≡◌, ◌⊎◌, ◌<◌, ◌^◌, ℕ,
 ghost use Rattle.jn_base.specs.declared.names.ServerNo.{ServerNo};
 ghost use Rattle.jn_records.specs.declared.head.Head.{Head};
 ghost use Rattle.jn_records.specs.declared.record.Record.{Record};
-ghost use Rattle.jn_records.specs.Heads.{head_page, IsHead, FileFits};
+ghost use Rattle.jn_records.specs.Heads.{head_page, IsHead, FileFits, head_in};
 ghost use Rattle.jn_records.specs.StablePages.{Counts, Pages, head_place};
 ghost use Rattle.jn_rows.specs.Stable.{StableState, Change, Pick, Changed, Unchanged, IsUp, made_by};
 ghost use Rattle.jn_sets.specs.Pool.{Says};
 ghost use Rattle.jn_store.specs.Store.{StoreView, HasSamePages};
 ghost use Rattle.jn_store.specs.Choices.{with_page};
-ghost use Rattle.jn_page_state.specs.Contents.{state_in, head_in};
+ghost use Rattle.jn_page_state.specs.Contents.{state_in};
 ghost use Rattle.jn_page_state.specs.Pages.{pool_on, heads_on, contents_of, state_of, found_on, IsOfFormat};
 ghost use Rattle.jn_page_state.specs.Recoverable.{NamedAreClean, MapsAreClean, IsRecoverable};
 ghost use Rattle.jn_page_state.specs.Puts.{PagePut, put_place, put_page, put_in, contents_by, IsPagePut, MayPut, IsReadable, Makes, KeepsClean, KeepsFound, IsPut, IsFrontClean, IsFewer};

@@ -42,7 +42,7 @@ module _ {S : Type 0} (look : S → StoreView) where
     where
       by : (o : Option (RowOutcome Memory)) → work_of (view_with look p) ≡ o → is_some o ≡ true → Steps o (view_with look p) before (Ok done) (view_with look q) after → IsWorking look p (Some after) (Up q)
       by None e t h = absurd (true≢false (sym t))
-      by (Some row) e t h = record { row = row; row_is = e; ends = row-done 40 row p q before after h.0; sends = row-sends 40 row (view_with look p) before (view_with look q) after none h.0 }
+      by (Some row) e t h = record { row = row; row_is = e; ends = row-done 32 row p q before after h.0; sends = row-sends 32 row (view_with look p) before (view_with look q) after none h.0 }
 
   pub works-stopped : (a : Slot S) (p q : Parts S) (before after : Collected) → a ≡ Up p → has_work_at look a ≡ true
       → Steps (work_of (view_with look p)) (view_with look p) before (Err Stopped) (view_with look q) after → Works look a None (Up q)
@@ -50,7 +50,7 @@ module _ {S : Type 0} (look : S → StoreView) where
     where
       by : (o : Option (RowOutcome Memory)) → work_of (view_with look p) ≡ o → is_some o ≡ true → Steps o (view_with look p) before (Err Stopped) (view_with look q) after → IsWorking look p None (Up q)
       by None e t h = absurd (true≢false (sym t))
-      by (Some row) e t h = record { row = row; row_is = e; ends = row-stopped 40 row p q before after h.0; sends = tt }
+      by (Some row) e t h = record { row = row; row_is = e; ends = row-stopped 32 row p q before after h.0; sends = tt }
 
   pub worked-done : (a : Slot S) (p q : Parts S) (before after : Collected) (done : Bool) → a ≡ Up p → before ≡ nothing → has_work_at look a ≡ true
       → Steps (work_of (view_with look p)) (view_with look p) before (Ok done) (view_with look q) after → Answered look a (Up q) (Some after)
@@ -60,8 +60,8 @@ module _ {S : Type 0} (look : S → StoreView) where
       by None e t h = absurd (true≢false (sym t))
       by (Some row) e t h =
           let v = view_with look p in
-          let sent : row.messages ≡ after.messages = sym (ap (λ (c : Collected). c.messages) (row-sends 40 row v before (view_with look q) after none h.0)) in (
-            let d = step-draws (memory_of v) (state v.storage) (room_of v.storage) row e in done-called 40 (length after.messages) row v before (view_with look q) after h.0 (omega arith),
+          let sent : row.messages ≡ after.messages = sym (ap (λ (c : Collected). c.messages) (row-sends 32 row v before (view_with look q) after none h.0)) in (
+            let d = step-draws (memory_of v) (state v.storage) (room_of v.storage) row e in done-called 32 (length after.messages) row v before (view_with look q) after h.0 (omega arith),
             subst AllCanBeTaken sent (step-taken (memory_of v) (state v.storage) (room_of v.storage) row e),
           )
 
@@ -71,7 +71,7 @@ module _ {S : Type 0} (look : S → StoreView) where
     where
       by : (o : Option (RowOutcome Memory)) → work_of (view_with look p) ≡ o → is_some o ≡ true → Steps o (view_with look p) before (Err Stopped) (view_with look q) after → Answered look (Up p) (Up q) None
       by None e t h = absurd (true≢false (sym t))
-      by (Some row) e t h = stopped-called 40 0 row (view_with look p) before (view_with look q) after h.0
+      by (Some row) e t h = stopped-called 32 0 row (view_with look p) before (view_with look q) after h.0
 
   -- ---- a call that changes nothing
 

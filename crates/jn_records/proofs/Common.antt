@@ -16,7 +16,7 @@ pub use Rattle.jn_base.specs.declared.names.BlockNo.{BlockNo}
 pub use Rattle.jn_base.specs.declared.op.Op.TheVariants.{Create, Remove, Cut as CutBlocks, Read, Write}
 pub use Rattle.jn_base.specs.Names.{file_eq}
 pub use Rattle.jn_base.proofs.Tells.{file_tells, block_tells}
-pub use Rattle.jn_records.specs.NetEdits.{seen_by, cut_again, intention_for, front, in_its_place, with_intention, list_after}
+pub use Rattle.jn_records.specs.NetEdits.{seen_by, cut_again, intention_for, front, in_its_place, with_intention, there_by, list_after}
 pub use Rattle.std.proofs.lemmas.List.Sums.{length-filter, sum_by-cons}
 pub use Rattle.std.proofs.lemmas.Bool.{le-ltb, true≢false, false≢true}
 pub use Rattle.std.proofs.lemmas.List.{take_at, drop_at, drop-take, append-nil, length-set, get_or-set_same, get_or-set_other}
@@ -33,7 +33,7 @@ unfoldable pub use Rattle.jn_records.specs.Heads.{head_page, map_page, maps_at, 
 pub use Rattle.jn_base.specs.Limits.{head_blocks, most_maps, most_blocks, most_cells}
 pub use Rattle.jn_records.specs.StablePages.{is_used, file_in, address_in, map_in, entry_in, HasEntries}
 pub use Rattle.jn_records.specs.declared.head.Head.{Head}
-pub use Rattle.jn_records.specs.MapPlaces.{is_in_range, keeps_map, MapPlaces, there_by, lacks_map, lacking, places_after, places_then, need_of, bare, IsSupplied}
+pub use Rattle.jn_records.specs.MapPlaces.{is_in_range, keeps_map, MapPlaces, has_map_after, lacks_map, lacking, places_after, places_then, need_of, bare, IsSupplied}
 pub use Rattle.jn_records.specs.Layouts.{Layout, Of, map_cell, at_cell, through, laid, layout_by, layouts_by, layout_at, has_address, IsOnce, with_cell, with_entries, with_row, cut_inside, cut_cells, head_map, IsMapIn, IsNoMap, IsRowChanged, Unused, is_layout_of, behind, block_in, files_in, IsPartCut}
 pub use Rattle.jn_records.specs.declared.intention.StoredIntention.{StoredIntention}
 pub use Rattle.jn_base.specs.declared.names.Tid.{Tid}

@@ -1,6 +1,5 @@
 -- What is seen through a net list, and a net list after an operation was added.
-use Rattle.jn_records.proofs.Common.{◌≡◌, ◌≢◌, ◌⊎◌, ◌<◌, inl, inr, ◌+◌, ℕ, zero, suc, Bool, true, false, List, [], ◌∷◌, ◌++◌, length, take, drop, filter, Option, Some, None, refl, sym, ◌∙◌, ap, subst, arith, fun_ext, nat_tests, nat_eq, nat_lt, ◌&&◌, if◌then◌else◌, is_some, count_by, FileNo, BlockNo, File, Block, Op, Create, Remove, CutBlocks, Read, Write, file_eq, file_tells, Files, change, Intention, blocks_below, list_change, comes_behind, adds, length_with, intention_place, stands_before, in_order, InOrder, Plain, AllPlain, entry, First, Kept, MadeFresh, TakenAway, CutFrom, FileNet, as_first, as_put, net_of, added, net_change, stays_at, stays, seen_block, seen_by, cut_again, intention_for, front, in_its_place, with_intention, length-filter}
-use Rattle.jn_records.specs.NetEdits.{there_by}
+use Rattle.jn_records.proofs.Common.{◌≡◌, ◌≢◌, ◌⊎◌, ◌<◌, inl, inr, ◌+◌, ℕ, zero, suc, Bool, true, false, List, [], ◌∷◌, ◌++◌, length, take, drop, filter, Option, Some, None, refl, sym, ◌∙◌, ap, subst, arith, fun_ext, nat_tests, nat_eq, nat_lt, ◌&&◌, if◌then◌else◌, is_some, count_by, FileNo, BlockNo, File, Block, Op, Create, Remove, CutBlocks, Read, Write, file_eq, file_tells, Files, change, Intention, blocks_below, list_change, comes_behind, adds, length_with, intention_place, stands_before, in_order, InOrder, Plain, AllPlain, entry, First, Kept, MadeFresh, TakenAway, CutFrom, FileNet, as_first, as_put, net_of, added, net_change, stays_at, stays, seen_block, seen_by, cut_again, intention_for, front, in_its_place, with_intention, length-filter, there_by}
 use Rattle.jn_base.specs.Ops.{block_of}
 use Rattle.std.proofs.lemmas.Option.{same_Some}
 use Rattle.std.proofs.lemmas.List.Recursion.{is_count_by}

@@ -1,5 +1,5 @@
 -- A list that has its map pages has them again.
-use Rattle.jn_records.proofs.Common.{◌≡◌, ◌⊎◌, inl, inr, ◌≤◌, ◌-◌, ◌/◌, ℕ, zero, suc, Bool, true, false, not, ◌&&◌, ◌||◌, if◌then◌else◌, List, [], ◌∷◌, take, slice_get, Option, Some, None, refl, sym, ◌∙◌, ap, subst, arith, true≢false, nat_eq, nat_le, nat_tests, FileNo, Intention, What, Fresh, Gone, Cut, Put, file_eq, file_tells, names_file, is_put_intention, in_order, stands_before, head_blocks, is_in_range, keeps_map, is_put, MapPlaces, there_by, places_after, places_then, lacks_map, lacking, IsSupplied}
+use Rattle.jn_records.proofs.Common.{◌≡◌, ◌⊎◌, inl, inr, ◌≤◌, ◌-◌, ◌/◌, ℕ, zero, suc, Bool, true, false, not, ◌&&◌, ◌||◌, if◌then◌else◌, List, [], ◌∷◌, take, slice_get, Option, Some, None, refl, sym, ◌∙◌, ap, subst, arith, true≢false, nat_eq, nat_le, nat_tests, FileNo, Intention, What, Fresh, Gone, Cut, Put, file_eq, file_tells, names_file, is_put_intention, in_order, stands_before, head_blocks, is_in_range, keeps_map, is_put, MapPlaces, has_map_after, places_after, places_then, lacks_map, lacking, IsSupplied}
 
 left-of : (a b : Bool) → (a && b) ≡ true → a ≡ true
 left-of a b h = grind (arith, h)
@@ -9,12 +9,12 @@ right-of a b h = grind (arith, h)
 
 -- it takes away a map page that is there, and it has one there whatever was before
 abbrev drops : Intention → FileNo → ℕ → Bool
-drops i f j = file_eq i.file f && not (there_by i.what i.block.0 j true)
+drops i f j = file_eq i.file f && not (has_map_after i.what i.block.0 j true)
 
 abbrev brings : Intention → FileNo → ℕ → Bool
-brings i f j = file_eq i.file f && there_by i.what i.block.0 j false
+brings i f j = file_eq i.file f && has_map_after i.what i.block.0 j false
 
-after-by : (what : What) (n j : ℕ) (x b : Bool) → (if b then there_by what n j x else x) ≡ (if b && not (there_by what n j true) then false else if b && there_by what n j false then true else x)
+after-by : (what : What) (n j : ℕ) (x b : Bool) → (if b then has_map_after what n j x else x) ≡ (if b && not (has_map_after what n j true) then false else if b && has_map_after what n j false then true else x)
 after-by what n j x false = refl
 after-by Fresh n j x true = refl
 after-by Gone n j x true = refl
@@ -86,13 +86,13 @@ put-has i list p q more h = by (is_put_intention i) refl (nat_le head_blocks i.b
     itself = grind (arith, nat_tests)
 
     stays : is_put_intention i ≡ true → drops i i.file j ≡ false
-    stays e = ap (λ (w : What). file_eq i.file i.file && not (there_by w i.block.0 j true)) (is-put i.what e) ∙ and-false (file_eq i.file i.file)
+    stays e = ap (λ (w : What). file_eq i.file i.file && not (has_map_after w i.block.0 j true)) (is-put i.what e) ∙ and-false (file_eq i.file i.file)
       where
         and-false : (b : Bool) → (b && false) ≡ false
         and-false b = grind arith
 
     brought : is_put_intention i ≡ true → nat_le head_blocks i.block.0 ≡ true → brings i i.file j ≡ true
-    brought e g = ap (λ (w : What). file_eq i.file i.file && there_by w i.block.0 j false) (is-put i.what e) ∙ ap (λ (b : Bool). b && is_in_range j i.block.0) itself ∙ at-range i.block.0 g
+    brought e g = ap (λ (w : What). file_eq i.file i.file && has_map_after w i.block.0 j false) (is-put i.what e) ∙ ap (λ (b : Bool). b && is_in_range j i.block.0) itself ∙ at-range i.block.0 g
 
     not-first : (a b z : Bool) → a ≡ false → b ≡ true → (if a then true else if b then false else z) ≡ false
     not-first a b z x y = grind (arith, x, y)
@@ -169,7 +169,7 @@ puts-keep [] (suc n) p f j o h = h
 puts-keep (i ∷ list) (suc n) p f j o h = puts-keep list n (places_after i p) f j (right-of (not (file_eq i.file f) || is_put i.what) (only_puts f list) o)
     (kept i.what (file_eq i.file f) (p f j) (left-of (not (file_eq i.file f) || is_put i.what) (only_puts f list) o) h)
   where
-    kept : (what : What) (b x : Bool) → (not b || is_put what) ≡ true → x ≡ true → (if b then there_by what i.block.0 j x else x) ≡ true
+    kept : (what : What) (b x : Bool) → (not b || is_put what) ≡ true → x ≡ true → (if b then has_map_after what i.block.0 j x else x) ≡ true
     kept what false x o h = h
     kept Put true x o h = ap (λ (y : Bool). y || is_in_range j i.block.0) h
     kept Fresh true x o h = absurd (true≢false (sym o))
@@ -198,7 +198,7 @@ more-then (i ∷ list) (suc n) p o f j h = by (more-then list n (places_after i 
     by : (places_after i p f j ≡ true → (places_then (take n list) (places_after i p) f j ≡ true) ⊎ (drops_first list f j ≡ true)) → (a : Bool) → drops i f j ≡ a → (b : Bool) → brings i f j ≡ b
         → (places_then (take n list) (places_after i p) f j ≡ true) ⊎ (drops_first (i ∷ list) f j ≡ true)
     by m true d b e = inr (ap (λ (a : Bool). if a then true else if brings i f j then false else drops_first list f j) d)
-    by m false d true e = inl (puts-keep list n (places_after i p) f j (subst (λ (g : FileNo). only_puts g list ≡ true) (equal i.file f (left-of (file_eq i.file f) (there_by i.what i.block.0 j false) e)) its) (now false true d e))
+    by m false d true e = inl (puts-keep list n (places_after i p) f j (subst (λ (g : FileNo). only_puts g list ≡ true) (equal i.file f (left-of (file_eq i.file f) (has_map_after i.what i.block.0 j false) e)) its) (now false true d e))
     by m false d false e = on d e (m (now false false d e ∙ h))
 
 pub supplied-again : (list : List Intention) (named : List Bool) (places : MapPlaces) (n : ℕ) → in_order None list ≡ true → IsSupplied places list named → IsSupplied (places_then (take n list) places) list named
@@ -232,16 +232,16 @@ drops-there (x ∷ list) zero i f j o is d = subst (λ (z : Intention). (if drop
 drops-there (x ∷ list) (suc k) i f j o is d = by (drops-there list k i f j (right-of (only_puts x.file list) (firsts_come_first list) o) is d) (file_eq x.file f) refl
   where
     here : file_eq i.file f ≡ true
-    here = left-of (file_eq i.file f) (not (there_by i.what i.block.0 j true)) d
+    here = left-of (file_eq i.file f) (not (has_map_after i.what i.block.0 j true)) d
 
     put-stays : is_put i.what ≡ true → drops i f j ≡ false
-    put-stays e = ap (λ (w : What). file_eq i.file f && not (there_by w i.block.0 j true)) (is-put i.what e) ∙ and-false (file_eq i.file f)
+    put-stays e = ap (λ (w : What). file_eq i.file f && not (has_map_after w i.block.0 j true)) (is-put i.what e) ∙ and-false (file_eq i.file f)
       where
         and-false : (b : Bool) → (b && false) ≡ false
         and-false b = grind arith
 
     by : drops_first list f j ≡ true → (b : Bool) → file_eq x.file f ≡ b → drops_first (x ∷ list) f j ≡ true
-    by m false e = ap (λ (b : Bool). if b && not (there_by x.what x.block.0 j true) then true else if b && there_by x.what x.block.0 j false then false else drops_first list f j) e ∙ m
+    by m false e = ap (λ (b : Bool). if b && not (has_map_after x.what x.block.0 j true) then true else if b && has_map_after x.what x.block.0 j false then false else drops_first list f j) e ∙ m
     by m true e = absurd (true≢false (sym d ∙ put-stays (only-put list k i f (subst (λ (g : FileNo). only_puts g list ≡ true) (equal x.file f e) (left-of (only_puts x.file list) (firsts_come_first list) o)) is here)))
 
 step-more : (list : List Intention) (k : ℕ) (i : Intention) (p : MapPlaces) → firsts_come_first list ≡ true → slice_get list k ≡ Some i → IsMore list p (places_after i p)
@@ -276,7 +276,7 @@ own-lacking (i ∷ list) p q same = ap (λ (b : Bool). b ∷ lacking (places_aft
         or-right a b e = grind (arith, e)
 
     after : (f : FileNo) (j : ℕ) → names_file (i ∷ list) f ≡ true → places_after i q f j ≡ places_after i p f j
-    after f j h = ap (λ (b : Bool). if file_eq i.file f then there_by i.what i.block.0 j b else b) (same f j h)
+    after f j h = ap (λ (b : Bool). if file_eq i.file f then has_map_after i.what i.block.0 j b else b) (same f j h)
 
     lacks : lacks_map q i ≡ lacks_map p i
     lacks = ap (λ (b : Bool). is_put_intention i && nat_le head_blocks i.block.0 && not b) (same i.file (i.block.0 / head_blocks - 1) first)

@@ -1,5 +1,5 @@
 -- The heads of files and their map pages: their bytes, and how they are read.
-use Rattle.std.specs.Prelude.{◌≡◌, ◌<◌, ◌^◌, ◌++◌, ◌&&◌, ◌||◌, not, ℕ, List, [], length, Option, Some, None, nat_eq, nat_le, Bool, true, flat_map, if◌then◌else◌}
+use Rattle.std.specs.Prelude.{◌≡◌, ◌<◌, ◌^◌, ◌++◌, ◌&&◌, ◌||◌, not, ℕ, List, [], length, Option, Some, None, nat_eq, nat_le, Bool, true, flat_map, if◌then◌else◌, slice_index_or}
 use Rattle.std.specs.List.{list_all}
 use Rattle.jn_base.specs.Limits.{head_blocks, most_maps}
 use Rattle.jn_base.specs.declared.names.FileNo.{FileNo}
@@ -25,6 +25,10 @@ head_page h = padded (head_bytes h)
 abbrev pub has_page : Head → Bool
 has_page Free = true
 has_page (Used file addresses maps) = nat_eq (length addresses) head_blocks && nat_eq (length maps) most_maps
+
+-- the head at a place: free past the last one
+abbrev pub head_in : List Head → ℕ → Head
+head_in heads place = slice_index_or heads place Free
 
 -- no address is past the data pages: 0 is none, and a page's is its index and 1
 abbrev pub all_within : ℕ → List ℕ → Bool
@@ -79,6 +83,5 @@ pub record IsMapRow (leaves : ℕ) (row : List ℕ) : Type 0 where
 
 pub record IsMapPage (leaves : ℕ) (page : List ℕ) : Type 0 where
   pub entries : List ℕ
-  pub count : length entries ≡ head_blocks
-  pub within_leaves : all_within leaves entries ≡ true
+  pub row : IsMapRow leaves entries
   pub is_page : page ≡ map_page entries

@@ -9,6 +9,7 @@ use Rattle.jn_base.specs.declared.names.LockUnit.TheVariants.{File, Block}
 use Rattle.jn_order.specs.Files.{Files, there}
 use Rattle.jn_records.specs.declared.head.Head.{Head}
 use Rattle.jn_records.specs.declared.head.Head.TheVariants.{Free, Used}
+use Rattle.jn_records.specs.Heads.{head_in}
 use Rattle.jn_records.specs.MapPlaces.{is_in_range, keeps_map, range_of}
 
 -- The file that has a head, and of each cell the address there, 0 for none. Cell p is that of block p, and behind the blocks'
@@ -116,12 +117,12 @@ head_map (Used f addresses head_maps) j = slice_index head_maps j
 -- the head at a place names data page d as map page j, and no other head and no other cell names it as one
 pub record IsMapIn (heads : List Head) (d place j : ℕ) : Type 0 where
   pub below : j < most_maps
-  pub here : head_map (slice_index_or heads place Free) j ≡ suc d
-  pub alone : (i k : ℕ) → k < most_maps → head_map (slice_index_or heads i Free) k ≡ suc d → (i ≡ place) × (k ≡ j)
+  pub here : head_map (head_in heads place) j ≡ suc d
+  pub alone : (i k : ℕ) → k < most_maps → head_map (head_in heads i) k ≡ suc d → (i ≡ place) × (k ≡ j)
 
 -- no head names data page d as a map page
 abbrev pub IsNoMap : List Head → ℕ → Type 0
-IsNoMap heads d = (i k : ℕ) → k < most_maps → head_map (slice_index_or heads i Free) k ≢ suc d
+IsNoMap heads d = (i k : ℕ) → k < most_maps → head_map (head_in heads i) k ≢ suc d
 
 -- the entries of data page d are others, and those of all others stay
 pub record IsRowChanged (d : ℕ) (entries : ℕ → ℕ) (old new : ℕ → ℕ → ℕ) : Type 0 where

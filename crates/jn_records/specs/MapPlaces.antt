@@ -51,23 +51,27 @@ maps_named [] = 0
 maps_named (h ∷ heads) = map_count h + maps_named heads
 
 -- whether page j is there after an intention of its file
-abbrev pub there_by : What → ℕ → ℕ → Bool → Bool
-there_by Fresh n j there = false
-there_by Gone n j there = false
-there_by Cut n j there = there && keeps_map n j
-there_by Put p j there = there || is_in_range j p
+abbrev pub has_map_after : What → ℕ → ℕ → Bool → Bool
+has_map_after Fresh n j there = false
+has_map_after Gone n j there = false
+has_map_after Cut n j there = there && keeps_map n j
+has_map_after Put p j there = there || is_in_range j p
 
 abbrev pub places_after : Intention → MapPlaces → MapPlaces
-places_after i places f j = if file_eq i.file f then there_by i.what i.block.0 j (places f j) else places f j
+places_after i places f j = if file_eq i.file f then has_map_after i.what i.block.0 j (places f j) else places f j
 
 -- those that are there after a list
 abbrev pub places_then : List Intention → MapPlaces → MapPlaces
 places_then [] places = places
 places_then (i ∷ list) places = places_then list (places_after i places)
 
--- a put past the head's blocks, whose map page isn't there
+-- a put past the head's blocks, whose address stands in a map page
+abbrev pub is_past_head : Intention → Bool
+is_past_head i = is_put_intention i && nat_le head_blocks i.block.0
+
+-- and whose map page isn't there
 abbrev pub lacks_map : MapPlaces → Intention → Bool
-lacks_map places i = is_put_intention i && nat_le head_blocks i.block.0 && not (places i.file (range_of i.block.0))
+lacks_map places i = is_past_head i && not (places i.file (range_of i.block.0))
 
 -- of each intention of a list that is carried out, whether it is such a put in its turn
 abbrev pub lacking : MapPlaces → List Intention → List Bool

@@ -2,15 +2,15 @@
 ghost use Rattle.std.specs.Prelude.{◌≡◌, ◌<◌, ◌-◌, ◌/◌, ◌^◌, length, take, slice_get, Some};
 ghost use Rattle.jn_base.specs.Limits.{head_blocks};
 ghost use Rattle.jn_records.specs.declared.intention.Intention.{Intention as AnIntention};
-ghost use Rattle.jn_records.specs.MapPlaces.{MapPlaces, there_by, places_then, range_of};
+ghost use Rattle.jn_records.specs.MapPlaces.{MapPlaces, has_map_after, places_then, range_of};
 
 use crate::intention::{Intention, What};
 use jn_base::{BlockNo, FileNo, HEAD_BLOCKS};
 
 /// Whether map page `map` is there after an intention of its file.
-fn there_by(what: What, block: BlockNo, map: usize, there: bool) -> bool
+fn has_map_after(what: What, block: BlockNo, map: usize, there: bool) -> bool
     requires { map < 2 ^ 16 }
-    ensures { result ≡ there_by what block.0 map there }
+    ensures { result ≡ has_map_after what block.0 map there }
 {
     let block = usize::from(block.0);
     match what {
@@ -28,7 +28,7 @@ fn there_then(list: &[Intention], file: FileNo, map: usize, there: bool) -> bool
     let mut found = there;
     for intention in list {
         if intention.file == file {
-            found = there_by(intention.what, intention.block, map, found);
+            found = has_map_after(intention.what, intention.block, map, found);
         }
     }
     found

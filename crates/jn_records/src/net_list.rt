@@ -55,7 +55,7 @@ pub struct Need {
     pub records: u32,
     /// Heads: one for each fresh file that isn't there.
     pub heads: u32,
-    /// Data pages: one for each put.
+    /// Data pages: one for each put, and one for each map page that is lacking.
     pub pages: u32,
 }
 

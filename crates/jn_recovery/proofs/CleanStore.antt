@@ -158,8 +158,8 @@ module _ (server : ServerNo) (g : Counts) (u : StoreView) (recoverable : IsRecov
     leads : (place j d k : ℕ) → j < most_maps → head_map (head_in heads_there place) j ≡ suc d → k < head_blocks → entry_in (pages (data_place g d)) k ≤ g.leaves
     leads place j d k below e low =
         let at = its_map_page place j d below e in
-        let same = map_entry g.leaves (pages (data_place g d)) root_is.leaves at.entries at.count at.within_leaves at.is_page k low in
-        let le = address_at g.leaves at.entries k at.within_leaves in omega (arith, same, le)
+        let same = map_entry g.leaves (pages (data_place g d)) root_is.leaves at.entries at.row.count at.row.within_leaves at.is_page k low in
+        let le = address_at g.leaves at.entries k at.row.within_leaves in omega (arith, same, le)
 
     cell_leaf : (place p a : ℕ) → at_cell (layout_at (layouts_on g heads_there pages) place) p ≡ suc a → a < g.leaves
     cell_leaf place p a e =

@@ -1,7 +1,6 @@
 -- What is found on a store that stands, and what it holds in the words of the table of files.
-use Rattle.jn_recovery.proofs.Common.{◌≡◌, ⊎_elim, ◌<◌, ◌||◌, ℕ, suc, true, false, if◌then◌else◌, List, [], sym, ◌∙◌, ap, subst, arith, cases_lt, get_or_past, nat_tests, is_some, drop, nat_lt, BlockNo, FileNo, File, Block, ServerNo, exists, is_mapped, AreHeads, state_in, held_contents, found_on, pages_by, block_on, IsConsistent, IsStanding, contents_held, front_held, same_recoverable, Head, FreeHead, Record, head_page, record_page, Counts, page_count, head_place, data_place, Pick, IsUp, stable, slot_page, record_in, file_there, StoreView, HasSamePages, heads_name, most_blocks, HoldsHeads, leaves_in, layouts_of, row_at, files_said, same_leaves, says_choice, files_first, same_only, layouts_in, entry_of, names_for_block, works_have, names_block, pick_chooses, maps_held, layouts_held, map_page, at_cell, head_map, kept_entry, layout_at, layouts_by, IsLoadable}
+use Rattle.jn_recovery.proofs.Common.{◌≡◌, ⊎_elim, ◌<◌, ◌||◌, ℕ, suc, true, false, if◌then◌else◌, List, [], sym, ◌∙◌, ap, subst, arith, cases_lt, get_or_past, nat_tests, is_some, drop, nat_lt, BlockNo, FileNo, File, Block, ServerNo, exists, is_mapped, AreHeads, state_in, held_contents, found_on, pages_by, block_on, IsConsistent, IsStanding, contents_held, front_held, same_recoverable, Head, FreeHead, Record, head_page, record_page, Counts, page_count, head_place, data_place, Pick, IsUp, stable, slot_page, record_in, file_there, StoreView, HasSamePages, heads_name, most_blocks, HoldsHeads, leaves_in, layouts_of, row_at, files_said, same_leaves, says_choice, files_first, same_only, layouts_in, entry_of, names_for_block, works_have, names_block, pick_chooses, maps_held, layouts_held, map_page, at_cell, head_map, kept_entry, layout_at, layouts_by, IsLoadable, head_in}
 use Rattle.jn_files.specs.Pages.{files_in}
-use Rattle.jn_page_state.specs.Contents.{head_in}
 use Rattle.jn_page_state.specs.Puts.{IsReadable}
 use Rattle.jn_page_state.proofs.CleanPages.{one_state}
 use Rattle.jn_page_state.proofs.FilesOnPages.{state_said}

@@ -2,7 +2,8 @@
 use Rattle.jn_server.proofs.Common.{◌≡◌, ⊎_elim, ◌<◌, ◌+◌, ◌-◌, ℕ, suc, Bool, true, false, not, ◌&&◌, ◌||◌, if◌then◌else◌, List, [], ◌∷◌, length, get_or, Option, Some, None, refl, sym, ◌∙◌, ap, subst, true≢false, arith, nat_tests, is_some, count_by, nat_eq, nat_lt, slice_index_or, list_any, Tickets, WorkId, work_eq, work_tells, Counts, Pages, Work, StableState, Prepared, WorkerTable, work_at, intentions_of, promised, is_before, is_in, are_different, total, Accounts, IsCounted, intentions, list_of, state, StoreView, pool_on, heads_on, listed, Kept, view_of, rubbish_in, WorkerView, WorkFits, is_none, Remembered, ServerView, IsServer, IsRoomOfPages, CountsPages, file_there, most_cells, contents_of, stored_by, supplied_in, name_of, beside_of, fun_ext, option_map, option_and_then, find}
 use Rattle.std.proofs.lemmas.List.Sums.{sum_by-cons}
 use Rattle.jn_alloc.specs.Free.{free_count as free_numbers, is_free as is_free_number}
-use Rattle.jn_files.specs.Table.{TableView, IsTable, is_held, is_free, head_in, layouts_in, IsUnnamed}
+use Rattle.jn_files.specs.Table.{TableView, IsTable, is_held, is_free, layouts_in, IsUnnamed}
+use Rattle.jn_records.specs.Heads.{head_in}
 use Rattle.jn_files.proofs.Cells.{cell_below, layout_is}
 use Rattle.jn_records.specs.Layouts.{Layout, at_cell, layout_at}
 use Rattle.jn_records.specs.declared.head.Head.{Head}

@@ -19,9 +19,9 @@ module _ (v : ServerView) (serves : IsServer v) (before : Collected) (u : Worker
   stepped-by : (b : Bool) (o : Option (RowOutcome WorkerTable)) → step ≡ o → WorkerSteps o v.worker v.storage before v.tickets (Ok b) u w after v.tickets → Steps (of_step (memory_of v) o) v before (Ok b) now after
   stepped-by b None e h = (ap Ok (same-ok (Ok b) b false refl h.0), ap (λ (x : WorkerView). record now { worker = x }) h.1 ∙ ap (λ (x : StorageView). record v { storage = x }) h.2, h.3)
   stepped-by b (Some row) e h = (
-    worked 40 40 (omega arith) v serves row (step-aside v.worker.table (seen v.storage) v.tickets row e) before u w after v.tickets b h.0,
+    worked 32 32 (omega arith) v serves row (step-aside v.worker.table (seen v.storage) v.tickets row e) before u w after v.tickets b h.0,
     (λ ok. ap Ok (same-ok (Ok b) b true refl (h.1 refl))),
-    (λ ok. ((λ none. h.2 none refl), one-leaves 40 40 (omega arith) v serves row (step-aside v.worker.table (seen v.storage) v.tickets row e) before u w after v.tickets (h.0.counts refl))),
+    (λ ok. ((λ none. h.2 none refl), one-leaves 32 32 (omega arith) v serves row (step-aside v.worker.table (seen v.storage) v.tickets row e) before u w after v.tickets (h.0.counts refl))),
   )
 
   pub stepped : (b : Bool) → WorkerSteps step v.worker v.storage before v.tickets (Ok b) u w after v.tickets → Steps (of_step (memory_of v) step) v before (Ok b) now after
@@ -31,7 +31,7 @@ module _ (v : ServerView) (serves : IsServer v) (before : Collected) (u : Worker
       → WorkerSteps o v.worker v.storage before v.tickets (Err fault) u w after v.tickets → Steps (of_step (memory_of v) o) v before answer now after
   failed-by fault answer is why None e h = absurd (no-ok (Err fault) fault false refl h.0)
   failed-by fault answer is why (Some row) e h = (
-    worker_failed 40 40 (omega arith) v serves row (step-aside v.worker.table (seen v.storage) v.tickets row e) before u w after v.tickets _ fault answer is why h.0,
+    worker_failed 32 32 (omega arith) v serves row (step-aside v.worker.table (seen v.storage) v.tickets row e) before u w after v.tickets _ fault answer is why h.0,
     (λ ok. absurd (never answer is ok)),
     (λ ok. absurd (never answer is ok)),
   )

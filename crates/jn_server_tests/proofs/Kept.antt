@@ -92,7 +92,7 @@ module _ (n : PageCounts) (k : ℕ) (v w : ServerView) (on : IsOn n k v) where
     where
       by : (o : Option (RowOutcome WorkerTable)) → worker_step v.worker.table (storage_of (memory_of v) (state v.storage) (room_of v.storage)) v.tickets ≡ o → Steps (of_step (memory_of v) o) v before answer w after → LeavesServer n (k + 1) answer w
       by None e h = subst (λ (a : Result Bool CallFault). LeavesServer n (k + 1) a w) (sym h.0) (let on = same h.1 in record { serves = on.serves; of = on.of; count = on.count; drawn = let d = on.drawn in omega (arith, d) })
-      by (Some row) e h = done 40 (k + 1) _ answer before after (let few = one-more v.tickets row.tickets (step-aside v.worker.table (storage_of (memory_of v) (state v.storage) (room_of v.storage)) v.tickets row e).tickets in let drawn = on.drawn in omega (arith, few, drawn)) h.0
+      by (Some row) e h = done 32 (k + 1) _ answer before after (let few = one-more v.tickets row.tickets (step-aside v.worker.table (storage_of (memory_of v) (state v.storage) (room_of v.storage)) v.tickets row e).tickets in let drawn = on.drawn in omega (arith, few, drawn)) h.0
 
   pub timed-out : (T : Tid) (answer : Bool) → TimesOut T v answer w → IsOn n k w
   timed-out T answer t = record {

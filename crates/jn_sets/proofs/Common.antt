@@ -9,9 +9,9 @@ pub use Rattle.std.specs.Map.{values_of, lookup}
 pub use Rattle.jn_records.specs.declared.record.Record.{Record}
 pub use Rattle.jn_records.specs.declared.record.Record.TheVariants.{Free, Intention, Ready, Going, Flag as FlagRecord}
 pub use Rattle.jn_records.specs.Records.{has_page, record_page, record_at, UnitFits}
-pub use Rattle.jn_store.specs.Store.{StoreView, IsServed, IsOnly, IsSamePage, StorePut}
+pub use Rattle.jn_store.specs.Store.{StoreView, IsServed, StoreRead, IsOnly, IsSamePage, StorePut}
 pub use Rattle.jn_sets.specs.Pool.{slot_page, record_in, IsRecordPage, IsReadable, IsStored, HoldsRecords, is_free, prepares, is_wanted, record_number, number_wanted, spread, is_prepared, is_rubbish, rubbish_count, intends, intends_for, left_of, kept_by, is_ready, going_of, ready_of, marked, members_in, IsRecord, Says, members_of}
-pub use Rattle.jn_sets.specs.Sets.{IsIndex, StoreRead, AreCounted, ones, AreCleanTo, AreUsedTo, IsWatched, Puts}
+pub use Rattle.jn_sets.specs.Sets.{IsIndex, AreCounted, ones, AreCleanTo, AreUsedTo, IsWatched, Puts}
 pub use Rattle.std.proofs.lemmas.Bool.Decides.{nat_tests}
 pub use Rattle.std.proofs.lemmas.List.Sums.{position_or_len_is, sum_by-set, sum_by-append, sum_by-remove, sum_by-cons, count_by-le-length, length-filter}
 pub use Rattle.std.specs.Prelude.{position, nat_eq, nat_lt, slice_set, count_by, cond, ◌&&◌, filter, if◌then◌else◌, not, ◌||◌, is_some, slice_get}

@@ -1,10 +1,10 @@
 -- What the calls of a set of records do to it and to its store.
-use Rattle.std.specs.Prelude.{◌≡◌, ◌⊎◌, ℕ, ◌+◌, ◌*◌, ◌^◌, ◌≤◌, ◌<◌, Bool, true, false, if◌then◌else◌, List, length, count_by, slice_set, Option}
+use Rattle.std.specs.Prelude.{◌≡◌, ◌⊎◌, ℕ, ◌+◌, ◌^◌, ◌≤◌, ◌<◌, Bool, true, false, if◌then◌else◌, List, length, count_by, slice_set, Option}
 use Rattle.std.specs.List.{enumerate_from}
 use Rattle.std.specs.Map.{values_of}
 use Rattle.jn_records.specs.declared.record.Record.{Record}
 use Rattle.jn_records.specs.Records.{record_page, has_page}
-use Rattle.jn_store.specs.Store.{StoreView, StoreLater, StorePut, IsSamePage}
+use Rattle.jn_store.specs.Store.{StoreView, StorePut}
 use Rattle.jn_store.specs.Choices.{IsChoice}
 use Rattle.jn_sets.specs.Pool.{slot_page, record_in, record_number, is_free, free_count, prepares, is_rubbish, rubbish_count, HoldsRecords, Says}
 use Rattle.jn_index.specs.Numbers.{number_at}
@@ -44,13 +44,6 @@ pub record IsWatched (records : List Record) (rubbish clean used : ℕ) : Type 0
   pub count : rubbish ≡ rubbish_count records
   pub none_below : AreCleanTo records clean
   pub used_below : AreUsedTo records used
-
--- so many gets: no page changes
-pub record StoreRead (v : StoreView) (gets : ℕ) (w : StoreView) : Type 0 where
-  pub later : StoreLater v w
-  pub calls : w.calls ≤ v.calls + 8 * gets
-  pub puts : w.puts ≡ v.puts
-  pub same : (j : ℕ) → IsSamePage v w j
 
 -- one slot gets this record by one put of its page: the set and the store before, then after
 pub record Puts (old : List Record) (v : StoreView) (slot : ℕ) (value : Record) (ok : Bool) (new : List Record) (w : StoreView) : Type 0 where

@@ -3,10 +3,9 @@ ghost use Rattle.std.specs.Prelude.{◌≡◌, ◌<◌, ◌+◌, ℕ, true, fals
 ghost use Rattle.std.specs.List.{list_any};
 ghost use Rattle.jn_records.specs.declared.record.Record.TheVariants.{Free};
 ghost use Rattle.jn_records.specs.Records.{has_page, record_page};
-ghost use Rattle.jn_store.specs.Store.{IsCalm, IsServed, IsStop, StorePut};
+ghost use Rattle.jn_store.specs.Store.{IsCalm, IsServed, IsStop, StorePut, StoreRead};
 ghost use Rattle.jn_base.specs.declared.fault.CallFault.TheVariants.{Stopped as LoadStopped};
 ghost use Rattle.jn_sets.specs.Pool as pool;
-ghost use Rattle.jn_sets.specs.Sets.{StoreRead};
 
 use crate::fault::LoadFault;
 use crate::find::{

@@ -3,11 +3,11 @@ ghost use Rattle.std.specs.Prelude.{◌≡◌, ◌≢◌, ◌↔◌, ◌<◌, �
 ghost use Rattle.std.specs.List.{list_any};
 ghost use Rattle.jn_records.specs.declared.record.Record.TheVariants.{Free};
 ghost use Rattle.jn_records.specs.Records.{has_page};
-ghost use Rattle.jn_store.specs.Store.{IsCalm, IsServed, IsStop, StoreLater};
+ghost use Rattle.jn_store.specs.Store.{IsCalm, IsServed, IsStop, StoreLater, StoreRead};
 ghost use Rattle.jn_base.specs.declared.fault.CallFault.TheVariants.{Stopped as LoadStopped};
 ghost use Rattle.jn_sets.specs.declared.fault.SetFault.TheVariants.{Full};
 ghost use Rattle.jn_sets.specs.Pool as pool;
-ghost use Rattle.jn_sets.specs.Sets.{StoreRead, Puts, AreCleanTo, AreUsedTo};
+ghost use Rattle.jn_sets.specs.Sets.{Puts, AreCleanTo, AreUsedTo};
 
 use crate::by_slot::{Slots, write_slot};
 use crate::fault::{LoadFault, SetFault};

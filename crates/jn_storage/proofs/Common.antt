@@ -19,6 +19,6 @@ pub use Rattle.jn_locks.specs.Locks.{together, rebuilt, is_unit}
 pub use Rattle.jn_storage.specs.Orderly.{unit_of, file_there, IsOrderly, IsPrepared, IsGiven, GoTogether, unit_by, held_by, needs_file, first_of, intentions, list_of, IsLoadable}
 pub use Rattle.std.proofs.lemmas.List.Sums.{sum_by-cons, count_by-le-length}
 pub use Rattle.jn_rows.specs.Stable.{StableState, Prepared, MarkGoing, CarryOut, RemoveWork, AddFlag, DropFlag, made_by, at_work, gone_on, Pick}
-pub use Rattle.jn_records.specs.MapPlaces.{MapPlaces, lacks_map, lacking, places_after, places_then}
-pub use Rattle.jn_storage.specs.Storage.{is_past_head, StorageView, StorageLater, IsServing}
+pub use Rattle.jn_records.specs.MapPlaces.{MapPlaces, lacks_map, lacking, places_after, places_then, is_past_head}
+pub use Rattle.jn_storage.specs.Storage.{StorageView, StorageLater, IsServing}
 pub use Rattle.jn_storage.specs.Calls.{state, Called}

@@ -135,7 +135,7 @@ with_work a work need lacks = record a {
   supplied = at_work a.supplied work lacks;
 }
 
--- so many pages are put at most: the candidates of all others stay
+-- at most so many pages have other candidates: those of all others stay
 pub record PutsFew (n : ℕ) (v w : StoreView) : Type 0 where
   pub pages : List ℕ
   pub few : length pages ≤ n
@@ -148,7 +148,7 @@ pub record WorkPrepared {A : Type 0} (v : StorageView) (head : WorkHead) (list :
   pub enough : reached answer ≡ true → shortage v.accounts (needed v.accounts.maps (state v) list) ≡ None
   pub kept : reached answer ≡ false → w ≡ v
   pub called : reached answer ≡ true → Called v prepare_calls (is_ok answer) w
-  -- the block of each put is put, and the record of each intention, and the ready record: no map page is
+  -- no more pages change than there are blocks of puts, records of intentions, and the ready record: none is left for a map page
   pub written : reached answer ≡ true → PutsFew (count_by is_put_intention list + length list + 1) v.store w.store
   pub change : reached answer ≡ true → Changed (state v) (AddReady head list reads) (is_ok answer) w.found
   pub accounts : is_ok answer ≡ true → w.accounts ≡ with_work v.accounts head.work (needed v.accounts.maps (state v) list) (lacking v.accounts.maps list)

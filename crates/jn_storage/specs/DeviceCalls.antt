@@ -3,7 +3,7 @@ use Rattle.std.specs.Prelude.{ℕ}
 
 -- a step of a work that commits: two pages are put at most, a map page and a head
 abbrev pub step_calls : ℕ
-step_calls = 40
+step_calls = 32
 
 -- a preparation: for each intention a data page and a record are put, and then the ready record
 abbrev pub prepare_calls : ℕ

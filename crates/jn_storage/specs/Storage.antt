@@ -1,16 +1,16 @@
 -- What the layers above see of a server's storage.
-use Rattle.std.specs.Prelude.{◌≡◌, ◌≤◌, ◌<◌, ◌+◌, ◌&&◌, ℕ, Bool, true, false, nat_eq, nat_le, List, [], length, count_by, is_some}
+use Rattle.std.specs.Prelude.{◌≡◌, ◌≤◌, ◌<◌, ◌+◌, ◌&&◌, ℕ, Bool, true, false, nat_eq, List, [], length, count_by, is_some}
 use Rattle.jn_base.specs.declared.names.ServerNo.{ServerNo}
 use Rattle.jn_base.specs.declared.names.FileNo.{FileNo}
 use Rattle.jn_base.specs.declared.names.LockUnit.{LockUnit}
 use Rattle.jn_base.specs.declared.names.LockUnit.TheVariants.{File, Block}
 use Rattle.jn_base.specs.declared.names.Tid.{Tid}
 use Rattle.jn_base.specs.declared.names.WorkId.{WorkId}
-use Rattle.jn_base.specs.Limits.{head_blocks, most_maps}
+use Rattle.jn_base.specs.Limits.{most_maps}
 use Rattle.jn_base.specs.Names.{file_eq, tid_eq, work_eq, unit_eq}
 use Rattle.jn_order.specs.Files.{Files}
 use Rattle.jn_records.specs.declared.intention.Intention.{Intention}
-use Rattle.jn_records.specs.MapPlaces.{MapPlaces}
+use Rattle.jn_records.specs.MapPlaces.{MapPlaces, is_past_head}
 use Rattle.jn_records.specs.NetLists.{heads_of, is_put_intention}
 use Rattle.jn_store.specs.Store.{StoreView, StoreLater}
 use Rattle.jn_rows.specs.Stable.{StableState, Pick, stable, IsUp}
@@ -68,10 +68,6 @@ map_eq m n = file_eq m.0 n.0 && nat_eq m.1 n.1
 
 abbrev pub has_map : MapPlaces → FileNo × ℕ → Bool
 has_map maps m = maps m.0 m.1
-
--- a put past the head's blocks, whose address stands in a map page
-abbrev pub is_past_head : Intention → Bool
-is_past_head i = is_put_intention i && nat_le head_blocks i.block.0
 
 -- a list names so many data pages at most: one for each put, and a map page for each put past the head's blocks
 abbrev pub most_pages : List Intention → ℕ

@@ -5,11 +5,11 @@ ghost use Rattle.jn_order.specs.Files.{file_of, zeros};
 ghost use Rattle.jn_records.specs.NetLists.{heads_of};
 ghost use Rattle.jn_records.specs.MapPlaces as places;
 ghost use Rattle.jn_base.specs.Ops.{block_of, BlockInRange};
-ghost use Rattle.jn_storage.specs.Storage.{IsServing, is_past_head};
+ghost use Rattle.jn_storage.specs.Storage.{IsServing};
 ghost use Rattle.jn_storage.specs.Orderly.{file_there, needed};
 ghost use Rattle.jn_storage.specs.Calls.{state};
 ghost use Rattle.jn_storage.specs.Viewing.{Viewed, ReadOrZeros};
-ghost use Rattle.jn_records.specs.MapPlaces.{range_of};
+ghost use Rattle.jn_records.specs.MapPlaces.{range_of, is_past_head};
 
 use crate::{StoredFiles, ViewFault};
 use jn_base::{Answer, Block, BlockContent, BlockNo, FileNo, HEAD_BLOCKS, MOST_MAPS, Op, Stopped};

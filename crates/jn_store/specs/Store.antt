@@ -1,5 +1,5 @@
 -- A store of stable pages: each has one or two candidates, and a get answers one of them.
-use Rattle.std.specs.Prelude.{◌≡◌, ◌≢◌, ◌⊎◌, ℕ, ◌+◌, ◌≤◌, ◌<◌, Bool, true, false, List, [], Result, Ok, is_ok}
+use Rattle.std.specs.Prelude.{◌≡◌, ◌≢◌, ◌⊎◌, ℕ, ◌+◌, ◌*◌, ◌≤◌, ◌<◌, Bool, true, false, List, [], Result, Ok, is_ok}
 use Rattle.jn_base.specs.declared.device.Stopped.{Stopped}
 use Rattle.jn_base.specs.declared.device.Outside.{Outside}
 use Rattle.jn_device.specs.declared.Armed.{Armed}
@@ -96,6 +96,13 @@ pub record StoreGot (v : StoreView) (i : ℕ) (answer : Result (List ℕ) Stoppe
   pub served : is_ok answer ≡ true → IsServed v w
   pub stop : is_ok answer ≡ false → IsStop v w
   pub calm : IsCalm v → is_ok answer ≡ true
+
+-- so many gets: no page changes
+pub record StoreRead (v : StoreView) (gets : ℕ) (w : StoreView) : Type 0 where
+  pub later : StoreLater v w
+  pub calls : w.calls ≤ v.calls + 8 * gets
+  pub puts : w.puts ≡ v.puts
+  pub same : (j : ℕ) → IsSamePage v w j
 
 -- the store step of a put of a page at i
 pub record StorePut (v : StoreView) (i : ℕ) (page : List ℕ) (ok : Bool) (w : StoreView) : Type 0 where

@@ -101,24 +101,24 @@ wrong e = true≢false (ap told e)
 
 -- stopped while an intention is carried out
 pub carry_stopped : (t : WorkerView) (v w : StorageView) (before : Collected) (k : Tickets) (W : WorkId) (T : Tid) (answer : Result (Unit {0}) CallFault) (e : Stopped) → answer ≡ Err Stops → StepApplied v W (Err e) w
-    → Takes 40 (carried_row t.table k (new_work W T) (next_of v W)) t v before k answer t w before k
-carry_stopped t v w before k W T answer e is s = subst (λ answer. Takes 40 (carried_row t.table k (new_work W T) (next_of v W)) t v before k answer t w before k) (sym is) (by (next_of v W) refl)
+    → Takes 32 (carried_row t.table k (new_work W T) (next_of v W)) t v before k answer t w before k
+carry_stopped t v w before k W T answer e is s = subst (λ answer. Takes 32 (carried_row t.table k (new_work W T) (next_of v W)) t v before k answer t w before k) (sym is) (by (next_of v W) refl)
   where
     none : (r : Result Bool Stopped) → r ≡ Err e → r ≡ Ok false → ⊥
     none r a b = cc (sym a ∙ b)
 
-    by : (o : Option Intention) → next_of v W ≡ o → Takes {A = Unit {0}} 40 (carried_row t.table k (new_work W T) o) t v before k (Err Stops) t w before k
+    by : (o : Option Intention) → next_of v W ≡ o → Takes {A = Unit {0}} 32 (carried_row t.table k (new_work W T) o) t v before k (Err Stops) t w before k
     by None n = absurd (none (Err e) refl (s.none_left n).0)
-    by (Some i) n = one_stopped _ t t v w before before k k (CarryOut W i) 40 refl (omega arith) s.called (s.carried i n) refl
+    by (Some i) n = one_stopped _ t t v w before before k k (CarryOut W i) 32 refl (omega arith) s.called (s.carried i n) refl
 
 -- an intention is carried out
 pub carry_made : (t : WorkerView) (v w : StorageView) (before : Collected) (k : Tickets) (W : WorkId) (T : Tid) (l : Table) → Fits t v → LocksMatch t.table l → IsCompatible l → IsGoing v W → StepApplied v W (Ok true) w
-    → Takes 40 (carried_row t.table k (new_work W T) (next_of v W)) t v before k (Ok (tt {0})) t w before k
+    → Takes 32 (carried_row t.table k (new_work W T) (next_of v W)) t v before k (Ok (tt {0})) t w before k
 carry_made t v w before k W T l h locks compatible going s = by (next_of v W) refl
   where
-    by : (o : Option Intention) → next_of v W ≡ o → Takes 40 (carried_row t.table k (new_work W T) o) t v before k (Ok (tt {0})) t w before k
+    by : (o : Option Intention) → next_of v W ≡ o → Takes 32 (carried_row t.table k (new_work W T) o) t v before k (Ok (tt {0})) t w before k
     by None n = absurd (wrong (s.none_left n).0)
-    by (Some i) n = one_made (tt {0}) _ t t v w before before k k (CarryOut W i) 40 refl (omega arith) s.called (s.carried i n) refl (sym (append-nil before.messages)) (sym (append-nil before.notes)) refl
+    by (Some i) n = one_made (tt {0}) _ t t v w before before k k (CarryOut W i) 32 refl (omega arith) s.called (s.carried i n) refl (sym (append-nil before.messages)) (sym (append-nil before.notes)) refl
         (fits_carried t v w l W i h locks compatible going n s) (tickets_carried t.table v w W i k n s) (counts_on (state v) W i v.accounts w.accounts (s.done i n refl).1)
 
 -- nothing is left, and nothing has happened
@@ -136,18 +136,18 @@ over-row t v k W T n = ap (λ o. carried_row t k (new_work W T) o) n
 
 -- stopped while the work is forgotten
 pub over_stopped : (t u : WorkerView) (v x w : StorageView) (before : Collected) (k : Tickets) (W : WorkId) (T : Tid) (answer : Result (Unit {0}) CallFault) → answer ≡ Err Stops → StepApplied v W (Ok false) x → WorkRemoved x W false w
-    → Takes 40 (carried_row t.table k (new_work W T) (next_of v W)) t v before k answer u w before k
+    → Takes 32 (carried_row t.table k (new_work W T) (next_of v W)) t v before k answer u w before k
 over_stopped t u v x w before k W T answer is s m = let left = nothing_left v x W s in
-    subst (λ row. Takes 40 row t v before k answer u w before k) (sym (over-row t.table v k W T left.0)) (subst (λ answer. Takes {A = Unit {0}} 40 (carried_row t.table k (new_work W T) None) t v before k answer u w before k) (sym is)
-    (subst (λ x. WorkRemoved x W false w → Takes {A = Unit {0}} 40 (carried_row t.table k (new_work W T) None) t v before k (Err Stops) u w before k) (sym left.1)
+    subst (λ row. Takes 32 row t v before k answer u w before k) (sym (over-row t.table v k W T left.0)) (subst (λ answer. Takes {A = Unit {0}} 32 (carried_row t.table k (new_work W T) None) t v before k answer u w before k) (sym is)
+    (subst (λ x. WorkRemoved x W false w → Takes {A = Unit {0}} 32 (carried_row t.table k (new_work W T) None) t v before k (Err Stops) u w before k) (sym left.1)
     (λ m. one_stopped _ t u v w before before k k (RemoveWork W) 16 refl (omega arith) m.called m.change refl) m))
 
 -- without memory for its message
 pub over_untold : (t u : WorkerView) (v x w : StorageView) (before after : Collected) (k : Tickets) (W : WorkId) (T : Tid) (answer : Result (Unit {0}) CallFault) → answer ≡ Err Memory → StepApplied v W (Ok false) x → WorkRemoved x W true w
-    → Takes 40 (carried_row t.table k (new_work W T) (next_of v W)) t v before k answer u w after k
+    → Takes 32 (carried_row t.table k (new_work W T) (next_of v W)) t v before k answer u w after k
 over_untold t u v x w before after k W T answer is s m = let left = nothing_left v x W s in
-    subst (λ row. Takes 40 row t v before k answer u w after k) (sym (over-row t.table v k W T left.0)) (subst (λ answer. Takes {A = Unit {0}} 40 (carried_row t.table k (new_work W T) None) t v before k answer u w after k) (sym is)
-    (subst (λ x. WorkRemoved x W true w → Takes {A = Unit {0}} 40 (carried_row t.table k (new_work W T) None) t v before k (Err Memory) u w after k) (sym left.1)
+    subst (λ row. Takes 32 row t v before k answer u w after k) (sym (over-row t.table v k W T left.0)) (subst (λ answer. Takes {A = Unit {0}} 32 (carried_row t.table k (new_work W T) None) t v before k answer u w after k) (sym is)
+    (subst (λ x. WorkRemoved x W true w → Takes {A = Unit {0}} 32 (carried_row t.table k (new_work W T) None) t v before k (Err Memory) u w after k) (sym left.1)
     (λ m. one_untold _ t u v w before after k k (RemoveWork W) 16 refl (omega arith) m.called m.change) m))
 
 in-less : (W V : WorkId) (xs : List WorkId) → is_in work_eq V (filter (λ (other : WorkId). not (work_eq W other)) xs) ≡ (is_in work_eq V xs && not (work_eq W V))
@@ -161,14 +161,14 @@ in-less W V (x ∷ xs) = by (work_eq W x) refl (in-less W V xs)
 -- the work is over, and its coordinator told
 pub over_made : (t : WorkerView) (ws left : List Work) (gs others : List WorkId) (v x w : StorageView) (before after : Collected) (k : Tickets) (W : WorkId) (T : Tid) → record { table = ws; going = gs } ≡ t → Fits t v → are_rising ws ≡ true → is_some (work_at W t.table) ≡ true
     → StepApplied v W (Ok false) x → WorkRemoved x W true w → left ≡ without W ws → others ≡ filter (λ (other : WorkId). not (work_eq W other)) gs → after.notes ≡ before.notes → after.messages ≡ before.messages ++ (Server T.server, messages.Done T W) ∷ []
-    → Takes 40 (carried_row t.table k (new_work W T) (next_of v W)) t v before k (Ok (tt {0})) (record { table = left; going = others }) w after k
+    → Takes 32 (carried_row t.table k (new_work W T) (next_of v W)) t v before k (Ok (tt {0})) (record { table = left; going = others }) w after k
 over_made t ws left gs others v x w before after k W T e h rising live s m less fewer notes sent =
-    subst (λ row. Takes 40 row t v before k (Ok (tt {0})) (record { table = left; going = others }) w after k) (sym (over-row t.table v k W T (nothing_left v x W s).0))
-    (subst (λ x. WorkRemoved x W true w → Takes 40 (carried_row t.table k (new_work W T) None) t v before k (Ok (tt {0})) (record { table = left; going = others }) w after k) (sym (nothing_left v x W s).1)
-    (λ m. subst (λ (t : WorkerView). Fits t v → is_some (work_at W t.table) ≡ true → Takes 40 (carried_row t.table k (new_work W T) None) t v before k (Ok (tt {0})) (record { table = left; going = others }) w after k) e
+    subst (λ row. Takes 32 row t v before k (Ok (tt {0})) (record { table = left; going = others }) w after k) (sym (over-row t.table v k W T (nothing_left v x W s).0))
+    (subst (λ x. WorkRemoved x W true w → Takes 32 (carried_row t.table k (new_work W T) None) t v before k (Ok (tt {0})) (record { table = left; going = others }) w after k) (sym (nothing_left v x W s).1)
+    (λ m. subst (λ (t : WorkerView). Fits t v → is_some (work_at W t.table) ≡ true → Takes 32 (carried_row t.table k (new_work W T) None) t v before k (Ok (tt {0})) (record { table = left; going = others }) w after k) e
     (λ h live. by m h live) h live) m)
   where
-    by : WorkRemoved v W true w → Fits (record { table = ws; going = gs }) v → is_some (work_at W ws) ≡ true → Takes 40 (carried_row ws k (new_work W T) None) (record { table = ws; going = gs }) v before k (Ok (tt {0})) (record { table = left; going = others }) w after k
+    by : WorkRemoved v W true w → Fits (record { table = ws; going = gs }) v → is_some (work_at W ws) ≡ true → Takes 32 (carried_row ws k (new_work W T) None) (record { table = ws; going = gs }) v before k (Ok (tt {0})) (record { table = left; going = others }) w after k
     by m h live = one_made (tt {0}) _ (record { table = ws; going = gs }) _ v w before after k k (RemoveWork W) 16 refl (omega arith) m.called m.change less sent (notes ∙ sym (append-nil before.notes)) refl
         (subst (λ l. Fits (record { table = l; going = others }) w) (sym less) (fits_removed (record { table = ws; going = gs }) v w W others h rising (λ V. ap (λ l. is_in work_eq V l) fewer ∙ in-less W V gs) m))
         (λ f. subst (λ l. TicketsFit l w k) (sym less) (tickets_removed ws v w W k live m f)) (counts_off (state v) W v.accounts w.accounts (m.accounts refl))

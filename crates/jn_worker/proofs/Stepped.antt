@@ -130,10 +130,10 @@ step_left t v k h = by (going_in t.going t.table) refl
     by (Some w) e = ap is_some (one-going t v k w h e)
 
 retold : {A B : Type 0} (row : RowOutcome WorkerTable) (t u : WorkerView) (v w : StorageView) (before after : Collected) (k l : Tickets) (a : Result A CallFault) (b : Result B CallFault) → is_ok a ≡ is_ok b → has_stopped a ≡ has_stopped b
-    → Takes 40 row t v before k a u w after l → Takes 40 row t v before k b u w after l
+    → Takes 32 row t v before k a u w after l → Takes 32 row t v before k b u w after l
 retold row t u v w before after k l a b ok stopped h = record {
   performs = subst (λ ok. Performs row (state v) before ok u.table w.found after l) ok h.performs;
-  called = subst (λ s. Called v 40 (not s) w) stopped h.called;
+  called = subst (λ s. Called v 32 (not s) w) stopped h.called;
   silent = λ e. h.silent (stopped ∙ e);
   fits = λ e. h.fits (ok ∙ e);
   tickets_fit = λ e. h.tickets_fit (ok ∙ e);
@@ -144,12 +144,12 @@ some-change : (t : WorkerTable) (k : Tickets) (w : Work) (o : Option Intention) 
 some-change t k w None e = cc e
 some-change t k w (Some i) e = cc e
 
-pub going_made : (t u : WorkerView) (v w : StorageView) (before after : Collected) (k : Tickets) (g : Work) → Fits t v → going_in t.going t.table ≡ Some g → Takes 40 (carried_row t.table k (new_work g.name g.tid) (next_of v g.name)) t v before k (Ok (tt {0})) u w after k
+pub going_made : (t u : WorkerView) (v w : StorageView) (before after : Collected) (k : Tickets) (g : Work) → Fits t v → going_in t.going t.table ≡ Some g → Takes 32 (carried_row t.table k (new_work g.name g.tid) (next_of v g.name)) t v before k (Ok (tt {0})) u w after k
     → Steps (worker_step t.table (seen v) k) t v before k (Ok true) u w after k
 going_made t u v w before after k g h found takes = subst (λ row. Steps row t v before k (Ok true) u w after k) (sym (one-going t v k g h found)) (retold _ t u v w before after k k _ _ refl refl takes, λ _. refl, λ e _. absurd (some-change t.table k (new_work g.name g.tid) (next_of v g.name) e))
 
 pub going_failed : (t u : WorkerView) (v w : StorageView) (before after : Collected) (k : Tickets) (g : Work) (answer : Result Bool CallFault) (f : CallFault) → answer ≡ Err f → Fits t v → going_in t.going t.table ≡ Some g
-    → Takes {A = Unit {0}} 40 (carried_row t.table k (new_work g.name g.tid) (next_of v g.name)) t v before k (Err f) u w after k → Steps (worker_step t.table (seen v) k) t v before k answer u w after k
+    → Takes {A = Unit {0}} 32 (carried_row t.table k (new_work g.name g.tid) (next_of v g.name)) t v before k (Err f) u w after k → Steps (worker_step t.table (seen v) k) t v before k answer u w after k
 going_failed t u v w before after k g answer f is h found takes = subst (λ row. Steps row t v before k answer u w after k) (sym (one-going t v k g h found)) (subst (λ answer. Steps (Some (carried_row t.table k (new_work g.name g.tid) (next_of v g.name))) t v before k answer u w after k) (sym is)
     (retold _ t u v w before after k k _ (Err f) refl (same f) takes, λ e. absurd (cc e), λ _ e. absurd (cc e)))
   where

@@ -1,5 +1,4 @@
-use Rattle.jn_records.proofs.Common.{sym, subst, ◌≡◌, ◌∙◌, List, Intention, entry, as_first}
-use Rattle.jn_records.specs.NetEdits.{there_by}
+use Rattle.jn_records.proofs.Common.{sym, subst, ◌≡◌, ◌∙◌, List, Intention, entry, as_first, there_by}
 use Rattle.jn_records.proofs.EditLemmas.{list-there}
 use Rattle.jn_records.proofs.net_list.NetList.there.Goals as goal
 
