@@ -60,13 +60,15 @@ pub fn examine(
     let mut stores = Vec::new(alloc);
     for content in found {
         let server = ServerNo(stores.len() as u8);
-        stores.push(store_of(alloc, content, server)?)?;
+        stores.push(examine_image(alloc, content, server)?)?;
     }
     Ok(stores)
 }
 
-/// The disk of a server's image.
-fn store_of(
+/// The disk of a server's image that was loaded, with its counts of pages; or why it is refused: it is missing, is no image by
+/// its first fault, or is unsound. The disk has the image's pages, as they are, and no call was made to it; a restart finds the
+/// image's files there. What is refused names this server, by the rules of `docs/IMAGE.md`.
+pub fn examine_image(
     alloc: Global,
     content: &Option<Vec<u8>>,
     server: ServerNo,

@@ -1,8 +1,9 @@
 //! Images that are loaded.
 
 ghost use Rattle.std.specs.Prelude.{◌≡◌, ◌≢◌, ◌≤◌, Err, IfOk};
-ghost use Rattle.jn_host.specs.Outside.{Rose};
+ghost use Rattle.jn_host.specs.Outside.{Rose, found_bytes};
 ghost use Rattle.jn_host.specs.declared.KeepFailure.TheVariants.{Failed as CallFailed};
+ghost use Rattle.jn_image_files.specs.Kept.{Has, image_name};
 ghost use Rattle.jn_image_files.specs.Opened.{AreLoaded};
 
 use crate::names::image_name;
@@ -26,8 +27,25 @@ pub fn load_images<I: Keeper>(
 {
     let mut found = Vec::new(alloc);
     for server in 0..servers {
-        let own = image_name(alloc, name, ServerNo(server))?;
-        found.push(keeper.load(alloc, &own)?)?;
+        found.push(load_image(alloc, keeper, name, ServerNo(server))?)?;
     }
     Ok(found)
+}
+
+/// What the keeper holds under the name of a server's image, or `None` where it holds nothing: the bytes as they are, which
+/// nobody has looked at. Nothing that is kept changes. It fails where a call to the keeper does, or for want of memory.
+pub fn load_image<I: Keeper>(
+    alloc: Global,
+    keeper: &mut I,
+    name: &str,
+    server: ServerNo,
+) -> Result<Option<Vec<u8>>, KeepFailure>
+    ensures loaded { IfOk result (λ found. Has (I.kept keeper.old) (image_name name.now server.0) (found_bytes found)) }
+    ensures same { I.kept keeper.new ≡ I.kept keeper.old }
+    ensures count { I.faults keeper.old ≤ I.faults keeper.new }
+    ensures rose { result ≡ Err CallFailed → Rose (I.faults keeper.old) (I.faults keeper.new) }
+    ensures no_fault { result ≢ Err CallFailed → I.faults keeper.new ≡ I.faults keeper.old }
+{
+    let own = image_name(alloc, name, server)?;
+    keeper.load(alloc, &own)
 }

@@ -1,7 +1,7 @@
 use Rattle.jn_image_files.proofs.Common.{List, refl, sym, subst, Half, AreSound, HasPages, IsStoreOfPages, image_counts}
 use Rattle.jn_image.proofs.SoundPages.{sound_pages}
 use Rattle.jn_image_files.proofs.Disks.{look, device}
-use Rattle.jn_image_files.proofs.examining.store_of.Goals as goal
+use Rattle.jn_image_files.proofs.examining.examine_image.Goals as goal
 
 pub store_of_pages-requires : goal.store_of_pages-requires
 store_of_pages-requires c =
