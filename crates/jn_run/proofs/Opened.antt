@@ -42,6 +42,31 @@ pub images-of : {S : Type 0} (device : S → DeviceState) (stores : List (S × P
 unfolding images_of device_in
 images-of device stores n x at = ap (device_in device) at
 
+-- ---- the disk of one image
+
+module _ {S : Type 0} (look : S → StoreView) (device : S → DeviceState) (q : ServerNo) (content : Option (List ℕ)) (x : S × PageCounts) (s : IsStoreOf look device q content x) where
+  -- its root is of some epoch
+  pub root-of : HasRoot (image_of s.disk.image.version q (counts_by x.1) s.disk.image.pages)
+  root-of = subst (λ (g : Counts). HasRoot (image_of s.disk.image.version q g s.disk.image.pages)) s.disk.counts (sound_pages s.disk.image q s.disk.is_sound.form s.disk.is_sound.sound).sound.root
+
+  -- where the keeper has the image, the disk is one that a server is opened with
+  pub opened-of : (kept : Option Contents) (name : List ℕ) → Has kept (image_name name q.0) content → IsOpened kept name (counts_by x.1) (files_in (counts_by x.1) s.disk.image.pages) q (device x.0)
+  opened-of kept name has = record {
+    disk = record {
+      image = s.disk.image;
+      is_sound = s.disk.is_sound;
+      counts = s.disk.counts;
+      pages = s.disk.pages;
+      bytes = subst (λ (c : Option (List ℕ)). Has kept (image_name name q.0) c) s.disk.bytes has;
+    };
+    files_are = refl;
+    new = s.disk.new;
+  }
+
+  -- and a restart finds its files there
+  pub fresh-of : look x.0 ≡ pairs_view (device x.0) → IsFresh q (counts_by x.1) root-of.0 (files_in (counts_by x.1) s.disk.image.pages) (pairs_view (device x.0))
+  fresh-of seen = subst (λ (v : StoreView). IsFresh q (counts_by x.1) root-of.0 (files_in (counts_by x.1) s.disk.image.pages) v) seen (s.store.fresh root-of.0 root-of.1 root-of.2)
+
 -- ---- what a run begins with
 
 pub record Opened {S : Type 0} (device : S → DeviceState) (o : Options) (kept : Option Contents) (stores : List (S × PageCounts)) : Type 0 where
@@ -123,24 +148,11 @@ module _ {S : Type 0} (look : S → StoreView) (device : S → DeviceState) (see
       its : (x : S × PageCounts) → slice_get stores q.0 ≡ Some x → Its q counts files epoch x
       none : slice_get stores q.0 ≡ None → (u : LockUnit) → files u ≡ None
 
-    root-is : (q : ServerNo) (x : S × PageCounts) → (s : IsStoreOf look device q (found q.0) x) → HasRoot (image_of s.disk.image.version q (counts_by x.1) s.disk.image.pages)
-    root-is q x s = subst (λ (g : Counts). HasRoot (image_of s.disk.image.version q g s.disk.image.pages)) s.disk.counts (sound_pages s.disk.image q s.disk.is_sound.form s.disk.is_sound.sound).sound.root
-
-    its-is : (q : ServerNo) (x : S × PageCounts) → (s : IsStoreOf look device q (found q.0) x) → Its q (counts_by x.1) (files_in (counts_by x.1) s.disk.image.pages) (root-is q x s).0 x
+    its-is : (q : ServerNo) (x : S × PageCounts) → (s : IsStoreOf look device q (found q.0) x) → Its q (counts_by x.1) (files_in (counts_by x.1) s.disk.image.pages) (root-of look device q (found q.0) x s).0 x
     its-is q x s = record {
       counts_are = refl;
-      opened = λ lt. record {
-        disk = record {
-          image = s.disk.image;
-          is_sound = s.disk.is_sound;
-          counts = s.disk.counts;
-          pages = s.disk.pages;
-          bytes = subst (λ (content : Option (List ℕ)). Has kept (image_name name q.0) content) s.disk.bytes (held q.0 lt);
-        };
-        files_are = refl;
-        new = s.disk.new;
-      };
-      fresh = let r = root-is q x s in subst (λ (v : StoreView). IsFresh q (counts_by x.1) (root-is q x s).0 (files_in (counts_by x.1) s.disk.image.pages) v) (seen x.0) (s.store.fresh r.0 r.1 r.2);
+      opened = λ lt. opened-of look device q (found q.0) x s kept name (held q.0 lt);
+      fresh = fresh-of look device q (found q.0) x s (seen x.0);
       waiting = s.disk.new.waiting;
       told = s.disk.new.told;
       pages = ap (λ (v : StoreView). v.device.count) (sym (seen x.0)) ∙ s.store.device;
@@ -163,8 +175,8 @@ module _ {S : Type 0} (look : S → StoreView) (device : S → DeviceState) (see
             record {
               counts = counts_by x.1;
               files = files_in (counts_by x.1) s.disk.image.pages;
-              epoch = (root-is q x s).0;
-              its = λ y at. subst (λ (z : S × PageCounts). Its q (counts_by x.1) (files_in (counts_by x.1) s.disk.image.pages) (root-is q x s).0 z) (some-is x y (sym e ∙ at)) (its-is q x s);
+              epoch = (root-of look device q (found q.0) x s).0;
+              its = λ y at. subst (λ (z : S × PageCounts). Its q (counts_by x.1) (files_in (counts_by x.1) s.disk.image.pages) (root-of look device q (found q.0) x s).0 z) (some-is x y (sym e ∙ at)) (its-is q x s);
               none = λ no_store u. absurd (some-none x (sym e ∙ no_store));
             }
 

@@ -4,7 +4,7 @@ use Rattle.jn_device.specs.Device.{DeviceState}
 use Rattle.jn_host.specs.Outside.{Rose}
 use Rattle.jn_image_files.specs.Saved.{SavedTo}
 use Rattle.jn_recovery.specs.declared.counts.PageCounts.{PageCounts}
-use Rattle.jn_run.specs.Outcome.{KeeperState}
+use Rattle.jn_run.specs.Outside.{KeeperState}
 use Rattle.jn_run.specs.declared.status.Status.{Status}
 use Rattle.jn_run.specs.declared.status.Status.TheVariants as statuses
 

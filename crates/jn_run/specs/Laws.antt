@@ -13,7 +13,8 @@ use Rattle.jn_options.specs.declared.asked.Trial.{Trial as ATrial}
 use Rattle.jn_report.specs.Text.{report_text}
 use Rattle.jn_report.specs.declared.line.Line.{Line}
 use Rattle.jn_schedule.specs.declared.Event.{Event}
-use Rattle.jn_run.specs.Outcome.{Outside, Accepted, IsCutShort, IsWholeReport, OutcomeOf, RanTrial, TrialToLimit, Writes, most_bytes}
+use Rattle.jn_run.specs.Outcome.{Accepted, IsCutShort, IsWholeReport, OutcomeOf, RanTrial, TrialToLimit}
+use Rattle.jn_run.specs.Outside.{Outside, Writes, most_bytes}
 use Rattle.jn_run.specs.declared.status.Status.{Status}
 use Rattle.jn_run.specs.declared.status.Status.TheVariants as statuses
 

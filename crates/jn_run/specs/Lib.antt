@@ -3,6 +3,7 @@ pub mod Keeping
 pub mod Laws
 pub mod Opening
 pub mod Outcome
+pub mod Outside
 pub mod Parts
 pub mod Reading
 pub mod Running

@@ -1,24 +1,21 @@
 -- What a call of the program leaves, by its status: what is asked for, what a run begins with, what holds of its lines, what is kept, read and written,
 -- and each way to end.
-use Rattle.std.specs.Prelude.{◌≡◌, ◌≤◌, ◌<◌, ℕ, ◌+◌, false, List, ◌∷◌, [], ◌++◌, length, drop, Option, Some, None, option_map, codes, decimal, IfSome}
+use Rattle.std.specs.Prelude.{◌≡◌, ◌≤◌, ◌<◌, ℕ, ◌+◌, false, List, ◌∷◌, [], ◌++◌, length, Option, Some, None, codes, decimal, IfSome}
 use Rattle.jn_schedule.specs.declared.Event.{Event}
 use Rattle.jn_report.specs.declared.line.Line.{Line}
 use Rattle.jn_report.specs.Text.{report_text}
 use Rattle.jn_host.specs.Outside.{Contents, Rose}
 use Rattle.jn_schedule.specs.Grammar.{IsSchedule}
 use Rattle.jn_schedule.specs.Faults.{IsFirstFault}
-use Rattle.jn_writing.specs.Writing.{Took, TookFront}
 use Rattle.jn_base.specs.declared.names.LockUnit.{LockUnit}
 use Rattle.jn_base.specs.declared.names.ServerNo.{ServerNo}
-use Rattle.jn_device.specs.Device.{DeviceState}
-use Rattle.jn_order.specs.Files.{Files, AllFiles}
-use Rattle.jn_memdisk.specs.Disk.{IsNew}
+use Rattle.jn_order.specs.Files.{AllFiles}
 use Rattle.jn_records.specs.StablePages.{Counts, root_by}
 use Rattle.jn_store.specs.Pairs.{pairs_view}
-use Rattle.jn_disks.specs.Disks.{IsNewStore, files_in}
+use Rattle.jn_disks.specs.Disks.{IsNewStore}
 use Rattle.jn_image_files.specs.declared.refusal.Refusal.{Refusal}
 use Rattle.jn_image_files.specs.Examined.{IsFirstRefused}
-use Rattle.jn_image_files.specs.Kept.{Has, IsKept, IsSaved, image_name, OthersStay}
+use Rattle.jn_image_files.specs.Kept.{Has, IsSaved, image_name, OthersStay}
 use Rattle.jn_image_files.specs.Texts.{refusal_text}
 use Rattle.jn_options.specs.declared.asked.Command.{Command}
 use Rattle.jn_options.specs.declared.asked.Command.TheVariants.{Run, Trial}
@@ -39,36 +36,9 @@ use Rattle.jn_machine.specs.Devices.{Devices}
 use Rattle.jn_machine.specs.Tasks.{CutShort}
 use Rattle.jn_machine.specs.Whole.{IsWhole as IsWholeRun, IsPartOfRun}
 use Rattle.jn_summary.specs.Summary.{summary_text}
+use Rattle.jn_run.specs.Outside.{SourceState, SinkState, KeeperState, Outside, IsOpened, FailsToLoad, most_bytes, IsText, Gives, GivesSome, FailsToGive, Writes, WritesFront, FailsToWrite}
 use Rattle.jn_run.specs.declared.status.Status.{Status}
 use Rattle.jn_run.specs.declared.status.Status.TheVariants.{Done, Words, Schedule, Image, Read, Write, Keep, Limit, Memory}
-
--- ---- the outside at one moment
-
--- the bytes that a source has left and that a sink took, and what a keeper holds under each name, where they tell it; and how often a call of each failed
-pub record SourceState : Type 0 where
-  pub left : Option (List ℕ)
-  pub faults : ℕ
-
-pub record SinkState : Type 0 where
-  pub taken : Option (List ℕ)
-  pub faults : ℕ
-
-pub record KeeperState : Type 0 where
-  pub kept : Option Contents
-  pub faults : ℕ
-
-pub record Outside : Type 0 where
-  pub source : SourceState
-  pub sink : SinkState
-  pub keeper : KeeperState
-
--- what is seen of the three that a program has
-abbrev pub outside : {S K I : Type 0} → (S → Option (List ℕ)) → (S → ℕ) → (K → Option (List ℕ)) → (K → ℕ) → (I → Option Contents) → (I → ℕ) → S → K → I → Outside
-outside left read_faults taken write_faults kept keep_faults source sink keeper = record {
-  source = record { left = left source; faults = read_faults source };
-  sink = record { taken = taken sink; faults = write_faults sink };
-  keeper = record { kept = kept keeper; faults = keep_faults keeper };
-}
 
 -- ---- what a run begins with
 
@@ -81,12 +51,6 @@ AreNew g servers images = (q : ServerNo) → q.0 < servers → IsNewStore (root_
 
 abbrev pub no_files : AllFiles
 no_files s u = None
-
--- a server's disk is that of a kept image, sound for it, with these files; no call was made yet
-pub record IsOpened (kept : Option Contents) (name : List ℕ) (g : Counts) (files : Files) (q : ServerNo) (d : DeviceState) : Type 0 where
-  pub disk : IsKept kept name g q d
-  pub files_are : files_in g disk.image.pages ≡ files
-  pub new : IsNew d
 
 -- the disks are new, with so many pages, or those of the images of this name
 abbrev pub BeginsWith : Opening → Option Contents → Setup → AllFiles → Devices → Type 0
@@ -144,42 +108,13 @@ abbrev pub KeepsFirst : Option (List ℕ) → Setup → Devices → KeeperState 
 KeepsFirst None x closing before after = ⊥
 KeepsFirst (Some name) x closing before after = (n : ℕ) × (n < x.servers) × AreKept before.kept name n x closing after.kept
 
--- a load failed, and nothing was changed
-pub record FailsToLoad (before after : KeeperState) : Type 0 where
-  pub kept : after.kept ≡ before.kept
-  pub rose : Rose before.faults after.faults
-
 -- ---- what is read
 
--- the longest schedule
-abbrev pub most_bytes : ℕ
-most_bytes = 4194304
-
+-- the most events of a schedule
 abbrev pub most_events : ℕ
 most_events = 100000
 
--- the bytes that the source had, where it tells them
-abbrev pub IsText : Option (List ℕ) → List ℕ → Type 0
-IsText None text = Unit {0}
-IsText (Some bytes) text = text ≡ bytes
-
--- the source gave its first bytes, so many, and no call failed
-pub record Gives (count : ℕ) (before after : SourceState) : Type 0 where
-  pub left : after.left ≡ option_map (λ (bytes : List ℕ). drop count bytes) before.left
-  pub faults : after.faults ≡ before.faults
-
--- it gave so many, at most one more than the longest schedule has
-abbrev pub GivesSome : SourceState → SourceState → Type 0
-GivesSome before after = (count : ℕ) × (count ≤ most_bytes + 1) × Gives count before after
-
--- it gave at most as many as the longest schedule has, and then a call failed
-pub record FailsToGive (before after : SourceState) : Type 0 where
-  pub count : ℕ
-  pub few : count ≤ most_bytes
-  pub left : after.left ≡ option_map (λ (bytes : List ℕ). drop count bytes) before.left
-  pub rose : Rose before.faults after.faults
-
--- it had this text, and gave it whole
+-- the source had this text, and gave it whole
 pub record Reads (text : List ℕ) (before after : SourceState) : Type 0 where
   pub told : IsText before.left text
   pub fits : length text ≤ most_bytes
@@ -210,23 +145,9 @@ pub record HasTooManyEvents (before after : SourceState) : Type 0 where
   pub schedule : IsSchedule text events
   pub many : most_events < length events
 
--- ---- what is written
+-- ---- the texts that refuse
 
--- the sink took this text, and no call failed
-pub record Writes (text : List ℕ) (before after : SinkState) : Type 0 where
-  pub took : Took before.taken after.taken text
-  pub faults : after.faults ≡ before.faults
-
--- it took a front of it, and no call failed
-pub record WritesFront (text : List ℕ) (before after : SinkState) : Type 0 where
-  pub took : TookFront before.taken after.taken text
-  pub faults : after.faults ≡ before.faults
-
--- it took a front of it, and then a call failed
-pub record FailsToWrite (text : List ℕ) (before after : SinkState) : Type 0 where
-  pub took : TookFront before.taken after.taken text
-  pub rose : Rose before.faults after.faults
-
+-- words that are no command
 abbrev pub refused_words : List ℕ
 refused_words = codes "refused: words" ++ 10 ∷ []
 

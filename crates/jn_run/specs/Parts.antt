@@ -3,7 +3,8 @@ use Rattle.std.specs.Prelude.{◌≡◌, List, ℕ}
 use Rattle.jn_options.specs.declared.asked.Options.{Options}
 use Rattle.jn_run.specs.declared.status.Status.{Status}
 use Rattle.jn_run.specs.declared.status.Status.TheVariants as statuses
-use Rattle.jn_run.specs.Outcome.{SourceState, SinkState, KeeperState, Reads, Writes, FailsToWrite, RunEnds}
+use Rattle.jn_run.specs.Outcome.{Reads, RunEnds}
+use Rattle.jn_run.specs.Outside.{SourceState, SinkState, KeeperState, Writes, FailsToWrite}
 
 -- what a call leaves that has read this text, whole, for a run with these options
 abbrev pub EndsOn : Options → List ℕ → SinkState → KeeperState → Status → SinkState → KeeperState → Type 0

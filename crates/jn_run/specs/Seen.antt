@@ -1,7 +1,7 @@
 -- What is seen of a source, of a sink and of a keeper, each by itself.
 use Rattle.std.specs.Prelude.{ℕ, List, Option}
 use Rattle.jn_host.specs.Outside.{Contents}
-use Rattle.jn_run.specs.Outcome.{SourceState, SinkState, KeeperState}
+use Rattle.jn_run.specs.Outside.{SourceState, SinkState, KeeperState}
 
 -- as `outside` has them
 abbrev pub source_state : {S : Type 0} → (S → Option (List ℕ)) → (S → ℕ) → S → SourceState
