@@ -1,5 +1,6 @@
 -- A restart is counted in the root, and rubbish is erased.
-use Rattle.jn_recovery.proofs.Common.{◌≡◌, ◌⊎◌, inl, inr, ⊎_elim, ◌<◌, ◌≤◌, ◌+◌, ◌*◌, ℕ, suc, Bool, true, false, List, [], refl, sym, ◌∙◌, ap, subst, true≢false, arith, cases_eq, ServerNo, TableView, IsTableLoaded, found_on, root_by, RootPut, IsPutStep, MakesEpoch, standing_state, counts_on, Head, Record, Root, root_page, Counts, data_place, StableState, StoreView, StorePut, IsClean, IsOnly, IsWholePage, later_trans, same_trans, only_clean, stop_since, calm_on, IsSameOrNext, IsDown, front_count, reading_calls, most_calls, KeepsDataPages, rubbish_in, next_root, Stands, IsOpened, ErasesAll, EraseStopped, IsBegun, Stopped, Opened, same_only, maps_named}
+use Rattle.jn_recovery.proofs.Common.{◌≡◌, ◌⊎◌, inl, inr, ⊎_elim, ◌<◌, ◌≤◌, ◌+◌, ◌*◌, ℕ, suc, Bool, true, false, List, [], refl, sym, ◌∙◌, ap, subst, true≢false, arith, cases_eq, ServerNo, TableView, IsTableLoaded, found_on, root_by, RootPut, IsPutStep, MakesEpoch, standing_state, counts_on, Head, Record, Root, root_page, Counts, data_place, StableState, StoreView, StorePut, IsClean, IsOnly, IsWholePage, later_trans, same_trans, only_clean, stop_since, calm_on, IsSameOrNext, IsDown, front_count, reading_calls, most_calls, KeepsDataPages, rubbish_in, next_root, Stands, IsOpened, ErasesAll, EraseStopped, IsBegun, Stopped, Opened, same_only, maps_named, IsCleanBehindRoot}
+use Rattle.jn_recovery.proofs.CleanBehind.{root_behind}
 use Rattle.jn_recovery.proofs.Downs.{recovering_by, stopped_down}
 
 pub same_or_next_at : (x y : StableState) (e : ℕ) → y ≡ record x { epoch = e } → (e ≡ x.epoch) ⊎ (e ≡ suc x.epoch) → IsSameOrNext x y
@@ -34,6 +35,9 @@ module _ (server : ServerNo) (g : Counts) (v : StoreView) (o : Opened) (u : Stor
     makes : MakesEpoch server g u o.sets o.table.heads o.table.maps (o.root.epoch + 1) ok x
     makes = counts_on server g u x o.root.epoch o.sets o.table.heads o.table.maps ok at.stands.standing (o.root.epoch + 1) step (omega arith)
 
+    behind : IsCleanBehindRoot g x
+    behind = root_behind server g u o.root.epoch o.sets o.table.heads o.table.maps at.stands.standing (o.root.epoch + 1) ok x step.step
+
     pub put_down : ok ≡ false → IsDown server g v Stopped x
     put_down bad = stopped_down server g v at.stands.before x
         (recovering_by server g v at.stands.before x (later_trans v u x at.stands.later put.later) (let a = at.stands.calls in let b = put.calls in let e = ap maps_named at.stands.heads_read in put_calls _ _ a b e) makes.recoverable
@@ -43,7 +47,7 @@ module _ (server : ServerNo) (g : Counts) (v : StoreView) (o : Opened) (u : Stor
               (λ e. same_or_next_at (found_on g v at.stands.before) (found_on g x c) o.root.epoch (e ∙ state_was) (inl (sym at.stands.old)))
               (λ e. same_or_next_at (found_on g v at.stands.before) (found_on g x c) (o.root.epoch + 1) (e ∙ ap (λ (s : StableState). record s { epoch = o.root.epoch + 1 }) state_was) (inr (let old = at.stands.old in omega (arith, old))))
               (makes.stop c),
-        )) kept)
+        )) (inr behind) kept)
         (stop_since v u x at.stands.later put.later (put.stop bad)) (λ quiet. true≢false (sym (put.calm (at.stands.later.calm quiet)).0 ∙ bad))
       where
         put_calls : (m n : ℕ) → u.calls ≤ v.calls + (reading_calls g + 24 * m) → x.calls ≤ u.calls + 16 → m ≡ n → x.calls ≤ v.calls + most_calls g n
@@ -78,6 +82,7 @@ module _ (server : ServerNo) (g : Counts) (v : StoreView) (most was : ℕ) (reco
   erase_down few y stopped = stopped_down server g v at.before y
       (recovering_by server g v at.before y (later_trans v x y at.later stopped.later) (let a = at.calls in let b = stopped.calls in let e = ap maps_named at.heads_read in erase_calls _ _ a b e) stopped.recoverable
       (λ c. (at.before, same_or_next_at (found_on g v at.before) (found_on g y c) (was + 1) (stopped.unchanged c ∙ at.found (λ n. false)) (inr (let old = at.old in omega (arith, old)))))
+      (inr stopped.clean)
       (λ d lt none. same_trans v x y (data_place g d) (at.data_pages d lt none) (stopped.data_pages d lt)))
       (stop_since v x y at.later stopped.later stopped.stop) (λ quiet. calm_on x y stopped.later stopped.stop (at.later.calm quiet))
     where

@@ -1,23 +1,25 @@
 -- What a recovery leaves where it ends before there is a storage.
-use Rattle.jn_recovery.proofs.Common.{◌≡◌, inl, ⊎_elim, ◌≤◌, ◌+◌, Result, Err, sym, ◌∙◌, ap, subst, arith, ℕ, IfErr, ServerNo, found_on, IsFewer, IsRecoverable, fewer_picked, fewer_recoverable, pages_by, heads_on, Counts, StableState, Pick, StoreView, StoreLater, IsCalm, IsStop, IsSameOrNext, most_calls, KeepsDataPages, Recovering, IsDown, IsUsedUp, IsNotUsedUp, Stopped, EpochsUsedUp, maps_named, calls_by}
+use Rattle.jn_recovery.proofs.Common.{◌≡◌, inl, ⊎_elim, ◌≤◌, ◌+◌, Result, Err, sym, ◌∙◌, ap, subst, arith, ℕ, IfErr, ServerNo, found_on, IsFewer, IsRecoverable, fewer_picked, fewer_recoverable, pages_by, heads_on, Counts, StableState, Pick, StoreView, StoreLater, IsCalm, IsStop, IsSameOrNext, CountsRestartLast, most_calls, KeepsDataPages, Recovering, IsDown, IsUsedUp, IsNotUsedUp, Stopped, EpochsUsedUp, maps_named, calls_by}
 use Rattle.jn_recovery.specs.declared.load.DownCause.TheVariants.{Memory}
 
 same_or_next : (x y : StableState) → y ≡ x → IsSameOrNext x y
 same_or_next x y e = record { same = e ∙ ap (λ k. record x { epoch = k }) (sym (ap (λ (z : StableState). z.epoch) e)); epoch = inl (ap (λ (z : StableState). z.epoch) e) }
 
 module _ (server : ServerNo) (g : Counts) (v : StoreView) (pick : Pick) (w : StoreView) where
-  pub recovering_by : StoreLater v w → w.calls ≤ v.calls + calls_by g v pick → IsRecoverable server g w → ((c : Pick) → (b : Pick) × IsSameOrNext (found_on g v b) (found_on g w c)) → KeepsDataPages g v w → Recovering server g v pick w
-  recovering_by later calls recoverable each kept = record {
+  pub recovering_by : StoreLater v w → w.calls ≤ v.calls + calls_by g v pick → IsRecoverable server g w → ((c : Pick) → (b : Pick) × IsSameOrNext (found_on g v b) (found_on g w c)) → CountsRestartLast g v w → KeepsDataPages g v w → Recovering server g v pick w
+  recovering_by later calls recoverable each last kept = record {
     later = later;
     calls = calls;
     recoverable = recoverable;
     each = each;
+    counted_last = last;
     data_pages = kept;
     finds = λ c. let h = each c in (h.0, record { same = h.1.same; later = ⊎_elim (λ e. omega (arith, e)) (λ e. omega (arith, e)) h.1.epoch });
   }
 
   pub recovering_fewer : IsRecoverable server g v → IsFewer v w → StoreLater v w → w.calls ≤ v.calls + calls_by g v pick → KeepsDataPages g v w → Recovering server g v pick w
-  recovering_fewer recoverable fewer later calls kept = recovering_by later calls (fewer_recoverable v w fewer server g recoverable) (λ c. let h = fewer_picked v w fewer g c in (h.0, same_or_next (found_on g v h.0) (found_on g w c) h.1)) kept
+  recovering_fewer recoverable fewer later calls kept = recovering_by later calls (fewer_recoverable v w fewer server g recoverable) (λ c. let h = fewer_picked v w fewer g c in (h.0, same_or_next (found_on g v h.0) (found_on g w c) h.1))
+      (inl (λ c. let h = fewer_picked v w fewer g c in (h.0, ap (λ (x : StableState). x.epoch) h.1))) kept
 
   module _ (recovering : Recovering server g v pick w) where
     pub stopped_down : IsStop v w → (IsCalm v → ⊥) → IsDown server g v Stopped w

@@ -1,6 +1,7 @@
 -- Rubbish is erased, record by record.
-use Rattle.jn_recovery.proofs.Common.{◌≡◌, ⊎_elim, ◌<◌, ◌≤◌, ◌+◌, ℕ, Bool, true, false, List, [], ◌∷◌, length, Option, Some, None, Result, Ok, Err, refl, sym, ◌∙◌, ap, subst, true≢false, arith, cases_eq, count_by-le-length, is_ok, IfOk, OnErr, position, slice_set, ServerNo, WorkId, RecordPut, IsStanding, MakesNothing, standing_state, idles, Head, Record, Free, Counts, data_place, slot_page, is_rubbish, Puts, StoreView, IsClean, later_refl, later_trans, same_refl, same_trans, only_clean, stop_since, rubbish_in, Erases, EraseStopped, ErasesAll, KeepsAllData, supplied_on}
+use Rattle.jn_recovery.proofs.Common.{◌≡◌, ⊎_elim, ◌<◌, ◌≤◌, ◌+◌, ℕ, Bool, true, false, List, [], ◌∷◌, length, Option, Some, None, Result, Ok, Err, refl, sym, ◌∙◌, ap, subst, true≢false, arith, cases_eq, count_by-le-length, is_ok, IfOk, OnErr, position, slice_set, ServerNo, WorkId, RecordPut, IsStanding, IsPutStep, MakesNothing, standing_state, idles, Head, Record, Free, Counts, data_place, slot_page, is_rubbish, Puts, StoreView, IsClean, later_refl, later_trans, same_refl, same_trans, only_clean, stop_since, rubbish_in, Erases, EraseStopped, ErasesAll, KeepsAllData, supplied_on}
 use Rattle.jn_base.specs.declared.device.Stopped.{Stopped}
+use Rattle.jn_recovery.proofs.CleanBehind.{erased_behind}
 use Rattle.jn_recovery.proofs.Erasing.{rubbish_length, no_rubbish, rubbish_there, rubbish_idle, rubbish_less}
 use Rattle.jn_recovery.proofs.FlagCalls.{none_any, free_record}
 use Rattle.jn_recovery.proofs.Pool.{none_position, step_of, idle_work}
@@ -40,9 +41,11 @@ module _ (server : ServerNo) (g : Counts) (v : StoreView) (epoch : ℕ) (heads :
   }
 
   module _ (n : ℕ) (pool : List Record) (u : StoreView) (before : Erases server g v epoch heads maps n first pool u) (slot : ℕ) (at : position (is_rubbish pool) pool ≡ Some slot) (ok : Bool) (new : List Record) (w : StoreView) (puts : Puts pool u slot Free ok new w) where
+    step : IsPutStep server g u (RecordPut slot Free) ok w
+    step = step_of server g u slot Free ok w (subst (λ n. slot < n) before.standing.held.slots (rubbish_there pool slot at)) free_record puts.put
+
     makes : MakesNothing server g u epoch pool heads maps (RecordPut slot Free) ok w
-    makes = idles server g u w epoch pool heads maps ok before.standing slot Free
-        (step_of server g u slot Free ok w (subst (λ n. slot < n) before.standing.held.slots (rubbish_there pool slot at)) free_record puts.put) (rubbish_idle pool slot at)
+    makes = idles server g u w epoch pool heads maps ok before.standing slot Free step (rubbish_idle pool slot at)
 
     -- a record's page is no data page
     kept : KeepsAllData g v w
@@ -76,6 +79,7 @@ module _ (server : ServerNo) (g : Counts) (v : StoreView) (epoch : ℕ) (heads :
       stop = stop_since v u w before.later puts.put.later (puts.put.stop bad);
       recoverable = makes.recoverable;
       unchanged = λ c. makes.unchanged c ∙ same_state;
+      clean = erased_behind server g u epoch pool heads maps before.standing slot (rubbish_idle pool slot at) ok w step;
       data_pages = kept;
     }
 

@@ -12,6 +12,7 @@ pub mod Counting
 pub mod Gathered
 pub mod ErasingAll
 pub mod CleanStore
+pub mod CleanBehind
 pub mod Downs
 pub mod Openings
 pub mod Begins

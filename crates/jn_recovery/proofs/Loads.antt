@@ -4,6 +4,7 @@ use Rattle.jn_recovery.specs.Kept.{memory_kept}
 use Rattle.jn_recovery.specs.declared.gathering.Kept.{Kept as KeptParts}
 use Rattle.jn_recovery.specs.declared.load.Found.{Found}
 use Rattle.jn_recovery.proofs.Begins.{same_or_next_at}
+use Rattle.jn_recovery.proofs.CleanBehind.{standing_behind}
 use Rattle.jn_recovery.proofs.Counted.{pages_fit, pages_apart, pages_once, works_supplied, lists_few, heads_fit, counted, none_next, holds_fit}
 use Rattle.jn_recovery.proofs.Downs.{recovering_by, memory_down}
 use Rattle.jn_recovery.proofs.FlagCalls.{tells_flags}
@@ -27,7 +28,8 @@ module _ (server : ServerNo) (g : Counts) (v : StoreView) (most was : ℕ) (reco
 
   recovering : Recovering server g v stands.before w
   recovering = recovering_by server g v stands.before w stands.later (let c = stands.calls in let e = ap maps_named stands.heads_read in calls_few _ _ c e) stands.standing.recoverable
-      (λ c. (stands.before, same_or_next_at (found_on g v stands.before) (found_on g w c) (was + 1) (stands.found c) (inr (let old = stands.old in omega (arith, old))))) stands.data_pages
+      (λ c. (stands.before, same_or_next_at (found_on g v stands.before) (found_on g w c) (was + 1) (stands.found c) (inr (let old = stands.old in omega (arith, old)))))
+      (inr (standing_behind server g w (was + 1) records heads maps stands.standing)) stands.data_pages
 
   memory_gone : was < 4294967295 → IsDown server g v NoMemory w
   memory_gone last = memory_down server g v stands.before w recovering (record { read = stands.before; before_last = subst (λ n. n < 4294967295) (sym stands.old) last })

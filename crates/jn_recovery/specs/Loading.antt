@@ -3,6 +3,7 @@ use Rattle.std.specs.Prelude.{◌≡◌, ◌≢◌, ◌⊎◌, ◌≤◌, ◌<�
 use Rattle.jn_base.specs.declared.names.ServerNo.{ServerNo}
 use Rattle.jn_base.specs.declared.names.Tid.{Tid}
 use Rattle.jn_base.specs.declared.names.WorkId.{WorkId}
+use Rattle.jn_page_state.specs.Changes.{is_idle}
 use Rattle.jn_page_state.specs.Pages.{found_on, heads_on, pages_by, pool_on}
 use Rattle.jn_page_state.specs.Puts.{IsFewer, IsFrontClean, IsFrontWhole}
 use Rattle.jn_page_state.specs.Recoverable.{IsRecoverable, NamedAreClean, MapsAreClean}
@@ -11,11 +12,12 @@ use Rattle.jn_files.specs.Table.{TableView, is_touched}
 use Rattle.jn_records.specs.Layouts.{IsNoMap}
 use Rattle.jn_records.specs.MapPlaces.{maps_in}
 use Rattle.jn_records.specs.Pages.{root_page}
-use Rattle.jn_records.specs.StablePages.{Counts, root_by, data_place}
+use Rattle.jn_records.specs.StablePages.{Counts, root_by, slot_place, head_place, data_place}
 use Rattle.jn_rows.specs.Stable.{StableState, Pick}
+use Rattle.jn_sets.specs.Pool.{record_in}
 use Rattle.jn_storage.specs.Storage.{StorageView, IsRecovered}
 use Rattle.jn_storage.specs.Calls.{state, TellsFlags}
-use Rattle.jn_store.specs.Store.{StoreView, StoreLater, IsCalm, IsOnly, IsSamePage, IsStop}
+use Rattle.jn_store.specs.Store.{StoreView, StoreLater, IsCalm, IsClean, IsOnly, IsSamePage, IsStop}
 use Rattle.jn_recovery.specs.declared.load.DownCause.{DownCause}
 use Rattle.jn_recovery.specs.declared.load.DownCause.TheVariants.{Stopped, Memory, EpochsUsedUp}
 use Rattle.jn_recovery.specs.declared.load.Found.{Found}
@@ -43,15 +45,32 @@ KeepsDataPages g v w = (d : ℕ) → d < g.leaves → ((c : Pick) → IsNoMap (h
 abbrev pub IsUntouched : TableView → Type 0
 IsUntouched t = (a : ℕ) → is_touched t a ≡ false
 
+-- by each pick the record at a slot counts for nothing
+abbrev pub IsIdleSlot : Counts → StoreView → ℕ → Type 0
+IsIdleSlot g v slot = (c : Pick) → is_idle (pool_on g (pages_by v c)) (record_in (pool_on g (pages_by v c)) slot) ≡ true
+
+-- All but the root is clean: each record (or it counts for nothing, and its erasure was stopped), each head, and each map page that
+-- a head names.
+pub record IsCleanBehindRoot (g : Counts) (v : StoreView) : Type 0 where
+  pub records : (i : ℕ) → i < g.pool → IsClean v (slot_place g i) ⊎ IsIdleSlot g v i
+  pub heads : (i : ℕ) → i < g.heads → IsClean v (head_place g i)
+  pub maps : MapsAreClean g v
+
+-- The restart is counted last: each pick finds an epoch that some pick found before, or all but the root is clean. So no root with a
+-- new epoch is put before that.
+abbrev pub CountsRestartLast : Counts → StoreView → StoreView → Type 0
+CountsRestartLast g v w = ((c : Pick) → (b : Pick) × ((found_on g w c).epoch ≡ (found_on g v b).epoch)) ⊎ IsCleanBehindRoot g w
+
 -- What a recovery leaves, however it ended: the next one may begin there, and by each pick it finds what some pick found
 -- before, in the same epoch or the next. The data pages stay as they were, but for map pages. It has cleaned and read no more map pages
--- than heads name by this pick.
+-- than heads name by this pick, and counts itself in the root once all else is clean.
 pub record Recovering (server : ServerNo) (g : Counts) (v : StoreView) (pick : Pick) (w : StoreView) : Type 0 where
   pub later : StoreLater v w
   pub calls : w.calls ≤ v.calls + calls_by g v pick
   pub recoverable : IsRecoverable server g w
   pub each : (c : Pick) → (b : Pick) × IsSameOrNext (found_on g v b) (found_on g w c)
   pub finds : FindsSame g v w
+  pub counted_last : CountsRestartLast g v w
   pub data_pages : KeepsDataPages g v w
 
 -- There is a storage, of what some pick found before, in the next epoch. Root, records, heads and map pages are clean, and so is

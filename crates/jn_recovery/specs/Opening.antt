@@ -13,7 +13,7 @@ use Rattle.jn_records.specs.Pages.{root_page, format_version}
 use Rattle.jn_records.specs.StablePages.{Counts, root_by, data_place}
 use Rattle.jn_rows.specs.Stable.{Pick, Unchanged}
 use Rattle.jn_store.specs.Store.{StoreView, StoreLater, IsCalm, IsClean, IsOnly, IsSamePage, IsWholePage, IsStop}
-use Rattle.jn_recovery.specs.Loading.{reading_calls, front_count, KeepsDataPages}
+use Rattle.jn_recovery.specs.Loading.{reading_calls, front_count, KeepsDataPages, IsCleanBehindRoot}
 use Rattle.jn_recovery.specs.Counts.{most_calls}
 use Rattle.jn_recovery.specs.Pages.{supplied_on}
 use Rattle.jn_recovery.specs.Memory.{rubbish_in}
@@ -85,6 +85,7 @@ pub record EraseStopped (server : ServerNo) (g : Counts) (v : StoreView) (most :
   pub stop : IsStop v w
   pub recoverable : IsRecoverable server g w
   pub unchanged : Unchanged (standing_state g v) (found_on g w)
+  pub clean : IsCleanBehindRoot g w
   pub data_pages : KeepsAllData g v w
 
 -- no record is rubbish any more
