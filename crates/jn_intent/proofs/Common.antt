@@ -34,13 +34,13 @@ pub use Rattle.jn_records.specs.NetLists.{is_fresh, is_put, is_put_intention, ch
 pub use Rattle.jn_records.specs.StablePages.{Counts, root_by, data_place, head_place, page_count}
 pub use Rattle.jn_rows.specs.Stable.{StableState, Pick, Changed, CarryOut, made_by, at_work, IsStopState, Prepared, MarkGoing, is_ready, Unchanged, AddReady, ready_work, RemoveWork, is_going}
 pub use Rattle.jn_sets.specs.Pool.{is_prepared, record_in, is_free, is_intention, IsRecord, slot_page, is_flag, is_ready as is_ready_record, going_of, free_count, is_rubbish}
-pub use Rattle.jn_records.specs.Records.{has_page, record_page, RecordFits, ascends, reads_have_page, unit_has_page}
+pub use Rattle.jn_records.specs.Records.{has_page, record_page, RecordFits, ascends, reads_have_page}
 pub use Rattle.jn_storage.specs.Calls.{state, name_of, next_of, Called, CountsOn, PageTaken, PageStands, StepApplied, IsReady, MarkedGoing, FlagPromised, PutsFew, NextFile, BlockRead, NextBlock, shortage, with_work, MayPrepare, WorkPrepared, short_of, reached, is_shortage, WorkRemoved, HasFlag, FlagDropped, TellsFlags, MayPutFlag, FlagPut, PromiseReleased, IsGoing, RecordErased, TellsWorks}
 pub use Rattle.jn_storage.specs.Finding.{find_by}
 pub use Rattle.jn_storage.specs.Listing.{are_different, IsListing, total, is_in}
 pub use Rattle.jn_storage.proofs.Listings.{but, is_in-but, total-but, total-same, listing-less, listing-more, listing-same, length-but, Tells}
 pub use Rattle.jn_storage.specs.Storage.{IsServing, is_stored, most_pages, map_eq, has_map, Accounts, StorageView}
-pub use Rattle.jn_storage.specs.Orderly.{IsLoadable, file_there, intentions, list_of, IsOrderly, IsPrepared, GoTogether, unit_of, unit_by, needs_file, takes_away, first_of, needed, unit_in_range}
+pub use Rattle.jn_storage.specs.Orderly.{IsLoadable, file_there, intentions, list_of, IsOrderly, IsPrepared, GoTogether, unit_of, unit_by, needs_file, takes_away, first_of, needed}
 pub use Rattle.jn_storage.proofs.Finds.{find-set, keys-set, find-at, find-listed, find-add, different-add, map-add, find-kept, keys-kept, different-kept}
 pub use Rattle.jn_storage.proofs.Intended.{made_there, there-after, one_if, entry-of, unit-of}
 pub use Rattle.jn_store.specs.Store.{StoreView, IsOnly, StoreLater, IsServed, IsStop, IsSamePage, StorePut, IsClean, HasSamePages, IsCalm, IsWholePage}

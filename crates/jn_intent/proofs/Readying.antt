@@ -1,5 +1,6 @@
 -- A work is prepared: its intentions are stored, and then its ready record is put.
-use Rattle.jn_intent.proofs.Common.{◌≡◌, ◌<◌, ◌≤◌, ◌+◌, ◌-◌, ◌^◌, ◌&&◌, ◌||◌, ℕ, zero, suc, Bool, true, false, not, if◌then◌else◌, List, [], ◌∷◌, ◌++◌, length, map, take, Option, Some, None, refl, sym, ◌∙◌, ap, subst, true≢false, arith, fun_ext, take-length, nat_tests, sum_by-cons, Ok, Err, Result, is_ok, nat_eq, nat_lt, nat_le, position, slice_set, count_by, find, list_all, list_any, FreeNumbers, free_numbers, LockUnit, File, Block, WorkId, work_eq, TableView, IsTable, is_held, with_promised_heads, with_promised_leaves, IsReadyPut, intended, stored_list, prepared_by, heads_name, works_name, held_contents, found_on, block_on, pages_by, RecordPut, IsRecoverable, HasIntentions, IsWholeWork, IsStanding, Makes, readies, found_passes, FullIntention, StoredIntention, What, Fresh, Gone, Cut, Put, Need, Record, Free, Intention, Ready, Going, FlagRecord, WorkHead, WorkState, intention_has_page, names_what_it_needs, is_put, is_put_intention, RecordFits, ascends, reads_have_page, unit_has_page, Counts, Pick, AddReady, Changed, made_by, ready_work, at_work, IsRecord, is_free, free_count, is_prepared, Puts, Records, Pages, Heads, Stops, IsPrepared, unit_in_range, Accounts, StorageView, IsServing, IsLoadable, needed, state, name_of, Called, MayPrepare, WorkPrepared, shortage, short_of, reached, with_work, is_shortage, find_by, StoreView, StoreLater, IsStop, later_refl, later_trans, stop_since, Memory, accounts_of, view_of, next_by, next_in, held_in, holds_page, stored_by, rubbish_in, Matches, IsMade, IsKeptMemory, is_at, IsPreparing, StopsUnchanged, Begins, ListStored, none_any, step_of, Serves, serves_of, serving_by, may_load, loadable_found, works_seen, listed_pages, same_only, root_page, root_by, IsOnly, lacking, Layout, held_of, layouts_in, layouts_of, most_cells, names_for_block, total, HasMaps, one, slice_get, supplied_in, ◌*◌, MapPlaces, maps_in, names_maps, names_a_map, IsSuppliedBy, layouts_said, layouts_held, ServerNo, PutsFew}
+use Rattle.jn_intent.proofs.Common.{◌≡◌, ◌<◌, ◌≤◌, ◌+◌, ◌-◌, ◌^◌, ◌&&◌, ◌||◌, ℕ, zero, suc, Bool, true, false, not, if◌then◌else◌, List, [], ◌∷◌, ◌++◌, length, map, take, Option, Some, None, refl, sym, ◌∙◌, ap, subst, true≢false, arith, fun_ext, take-length, nat_tests, sum_by-cons, Ok, Err, Result, is_ok, nat_eq, nat_lt, nat_le, position, slice_set, count_by, find, list_all, list_any, FreeNumbers, free_numbers, LockUnit, File, Block, WorkId, work_eq, TableView, IsTable, is_held, with_promised_heads, with_promised_leaves, IsReadyPut, intended, stored_list, prepared_by, heads_name, works_name, held_contents, found_on, block_on, pages_by, RecordPut, IsRecoverable, HasIntentions, IsWholeWork, IsStanding, Makes, readies, found_passes, FullIntention, StoredIntention, What, Fresh, Gone, Cut, Put, Need, Record, Free, Intention, Ready, Going, FlagRecord, WorkHead, WorkState, intention_has_page, names_what_it_needs, is_put, is_put_intention, RecordFits, ascends, reads_have_page, Counts, Pick, AddReady, Changed, made_by, ready_work, at_work, IsRecord, is_free, free_count, is_prepared, Puts, Records, Pages, Heads, Stops, IsPrepared, Accounts, StorageView, IsServing, IsLoadable, needed, state, name_of, Called, MayPrepare, WorkPrepared, shortage, short_of, reached, with_work, is_shortage, find_by, StoreView, StoreLater, IsStop, later_refl, later_trans, stop_since, Memory, accounts_of, view_of, next_by, next_in, held_in, holds_page, stored_by, rubbish_in, Matches, IsMade, IsKeptMemory, is_at, IsPreparing, StopsUnchanged, Begins, ListStored, none_any, step_of, Serves, serves_of, serving_by, may_load, loadable_found, works_seen, listed_pages, same_only, root_page, root_by, IsOnly, lacking, Layout, held_of, layouts_in, layouts_of, most_cells, names_for_block, total, HasMaps, one, slice_get, supplied_in, ◌*◌, MapPlaces, maps_in, names_maps, names_a_map, IsSuppliedBy, layouts_said, layouts_held, ServerNo, PutsFew}
+use Rattle.jn_fields.specs.Names.{unit_in_range, unit_has_page}
 use Rattle.jn_intent.proofs.PutPages.{puts_none, puts_within, puts_and_one, puts_more, all_puts_and_one}
 use Rattle.jn_intent.proofs.LeftMaps.{same_lacking}
 use Rattle.jn_intent.proofs.Storing.{lacking_length}

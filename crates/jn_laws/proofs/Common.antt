@@ -55,7 +55,7 @@ pub use Rattle.jn_base.specs.Limits.{most_blocks}
 pub use Rattle.jn_locks.specs.declared.words.Mode.TheVariants.{Commit, IntentionWrite}
 pub use Rattle.jn_rows.specs.declared.worker.Phase.{Phase}
 pub use Rattle.jn_rows.specs.declared.worker.Phase.TheVariants.{Active, Broken, Prepared as Stored}
-pub use Rattle.jn_storage.specs.Orderly.{unit_in_range}
+pub use Rattle.jn_fields.specs.Names.{unit_in_range}
 pub use Rattle.jn_msgs.specs.Ranges.{CanBeTaken, InRange}
 pub use Rattle.jn_base.specs.Ops.{CommandInRange, BlockInRange}
 pub use Rattle.jn_row_ranges.proofs.Taking.{new-fits, scheduled-in-range, command-fits, take-fits, over-fits, servers-taken}

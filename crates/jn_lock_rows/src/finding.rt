@@ -1,6 +1,6 @@
 //! Finding works in a list of them, and changing one.
 ghost use Rattle.std.specs.Prelude.{◌≡◌};
-ghost use Rattle.jn_records.specs.Reading.{Gives};
+ghost use Rattle.jn_fields.specs.Reading.{Gives};
 ghost use Rattle.jn_rows.specs.Worker as rows;
 ghost use Rattle.jn_lock_rows.specs.Calls as calls;
 

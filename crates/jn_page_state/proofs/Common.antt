@@ -48,14 +48,13 @@ pub use Rattle.jn_base.specs.declared.names.FileNo.{FileNo}
 pub use Rattle.jn_records.specs.MapPlaces.{is_in_range, keeps_map, maps_in, names_map, has_map_after, places_after, bare, IsSuppliedBy, MapPlaces, names_maps}
 pub use Rattle.jn_records.proofs.Layouts.{inside-was, has-at, get-map, same-map, laid-block, laid-entry, laid-past, map-cell-is, laid-none, has-found, block-put}
 pub use Rattle.jn_store.specs.Choices.{IsChoice, Agree, with_page}
-pub use Rattle.jn_records.specs.Reading.{root_at}
+pub use Rattle.jn_records.specs.Pages.{root_at, root_page, format_version, IsRoot}
 pub use Rattle.jn_records.specs.Records.{record_at, record_page}
 pub use Rattle.std.proofs.Math.Path.{fun_ext}
 pub use Rattle.jn_records.proofs.Heads.{head_is_read}
 pub use Rattle.jn_records.proofs.HeadPages.{free_unused, used_kind, used_file, used_address, used_map, block_entry, map_entry}
 pub use Rattle.jn_records.specs.Intentions.{names_address, names_what_it_needs}
 pub use Rattle.std.proofs.lemmas.Option.{same_Some, none-some, slice_get-map}
-pub use Rattle.jn_records.specs.Pages.{root_page, format_version, IsRoot}
 pub use Rattle.jn_records.proofs.Roots.{root_is_read}
 pub use Rattle.jn_store.proofs.Laws.{same_shrinks, cleaned_kept}
 pub use Rattle.jn_records.specs.Sound.{Image, IsSound, Spot, InHead, AsMap, InMap, IsWrittenAt, AddressesOnce}

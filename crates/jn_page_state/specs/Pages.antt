@@ -7,8 +7,7 @@ use Rattle.jn_records.specs.declared.record.Record.{Record}
 use Rattle.jn_records.specs.declared.record.Record.TheVariants.{Free}
 use Rattle.jn_records.specs.declared.root.Root.{Root}
 use Rattle.jn_records.specs.Heads.{head_page, head_at, IsHead, FileFits}
-use Rattle.jn_records.specs.Pages.{root_page, IsRoot}
-use Rattle.jn_records.specs.Reading.{root_at}
+use Rattle.jn_records.specs.Pages.{root_page, root_at, IsRoot}
 use Rattle.jn_records.specs.Records.{record_at}
 use Rattle.jn_records.specs.StablePages.{Counts, Pages, slot_place, head_place, data_place, files_of_pages, root_by, IsWholeMap}
 use Rattle.jn_rows.specs.Stable.{StableState, Pick}

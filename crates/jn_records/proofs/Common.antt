@@ -1,5 +1,5 @@
 -- The names from below that these proofs cite, passed on from one place. Declares nothing.
-pub use Rattle.std.proofs.Common.{◌≡◌, ℕ, Bool, true, List, [], ◌∷◌, Option, None, Some, refl, sym, ◌∙◌, ap, subst, arith, ◌≢◌, ◌⊎◌, ◌<◌, inl, inr, ◌+◌, zero, suc, false, ◌++◌, length, take, drop, filter, ◌^◌, ltb, length-append, ◌≤◌, ◌*◌, ◌-◌, replicate, append_assoc, Result, map, add-zero, drop-cons, rules, Ok, Err}
+pub use Rattle.std.proofs.Common.{◌≡◌, ℕ, Bool, true, List, [], ◌∷◌, Option, None, Some, refl, sym, ◌∙◌, ap, subst, arith, ◌≢◌, ◌⊎◌, ◌<◌, inl, inr, ◌+◌, zero, suc, false, ◌++◌, length, take, drop, filter, ◌^◌, length-append, ◌≤◌, ◌*◌, ◌-◌, replicate, append_assoc, Result, map, add-zero, drop-cons, rules, Ok, Err}
 pub use Rattle.std.proofs.Math.Path.{fun_ext}
 pub use Rattle.std.specs.Prelude.{◌&&◌, nat_eq, nat_lt, if◌then◌else◌, is_some, count_by, ◌||◌, not, slice_index, nat_le, flat_map, IfOk, ◌/◌, ◌%◌, slice_index_or, slice_set, option_map, option_and_then, codes, slice_get, IfSome, IsOk, OnOk, vec_len, vec_capacity}
 pub use Rattle.jn_base.specs.declared.names.LockUnit.{LockUnit}
@@ -18,8 +18,8 @@ pub use Rattle.jn_base.specs.Names.{file_eq}
 pub use Rattle.jn_base.proofs.Tells.{file_tells, block_tells}
 pub use Rattle.jn_records.specs.NetEdits.{seen_by, cut_again, intention_for, front, in_its_place, with_intention, there_by, list_after}
 pub use Rattle.std.proofs.lemmas.List.Sums.{length-filter, sum_by-cons}
-pub use Rattle.std.proofs.lemmas.Bool.{le-ltb, true≢false, false≢true}
-pub use Rattle.std.proofs.lemmas.List.{take_at, drop_at, drop-take, append-nil, length-set, get_or-set_same, get_or-set_other}
+pub use Rattle.std.proofs.lemmas.Bool.{true≢false, false≢true}
+pub use Rattle.std.proofs.lemmas.List.{drop_at, drop-take, length-set, get_or-set_same, get_or-set_other}
 pub use Rattle.byteorder.specs.Endian.{big_bytes, big_number}
 pub use Rattle.jn_records.specs.Reading.{◌>>=◌}
 unfoldable pub use Rattle.jn_records.specs.Reading.{number_at, bytes_at, list_at, root_at}
@@ -42,8 +42,13 @@ pub use Rattle.jn_records.specs.Names.{tid_bytes, work_bytes, unit_bytes, TidFit
 unfoldable pub use Rattle.jn_records.specs.Names.{tid_at, work_at, unit_at}
 pub use Rattle.jn_records.specs.Intentions.{what_code, what_of, intention_bytes, IntentionFits}
 unfoldable pub use Rattle.jn_records.specs.Intentions.{intention_at}
-pub use Rattle.jn_records.specs.Records.{UnitFits, unit_has_page, prepared_bytes, record_bytes, reads_have_page, has_page, PreparedFits, FlagFits, RecordFits, prepared, ascends}
+pub use Rattle.jn_records.specs.Records.{prepared_bytes, record_bytes, reads_have_page, has_page, PreparedFits, FlagFits, RecordFits, prepared, ascends}
 unfoldable pub use Rattle.jn_records.specs.Records.{record_page, intention_record_at, work_head_at, prepared_at, flag_at, record_at}
 pub use Rattle.jn_records.specs.declared.root.Root.{Root}
 pub use Rattle.jn_records.specs.Pages.{root_bytes, IsRoot}
-unfoldable pub use Rattle.jn_records.specs.Pages.{root_page}
+unfoldable pub use Rattle.jn_records.specs.Pages.{root_page, root_at}
+unfoldable pub use Rattle.jn_fields.specs.Reading.{number_at, list_at}
+pub use Rattle.jn_fields.proofs.Fields.{number_again, bytes_again}
+pub use Rattle.jn_fields.proofs.Lists.{list_again}
+pub use Rattle.jn_fields.specs.Names.{tid_bytes, work_bytes, unit_bytes, WorkFits, work_at, unit_at, unit_has_page, UnitFits}
+pub use Rattle.jn_fields.proofs.NamesAgain.{UnitIsRead, tid_again, work_again, unit_again, length-unit}

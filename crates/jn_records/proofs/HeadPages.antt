@@ -1,5 +1,6 @@
 -- The pages of heads and map pages, field by field.
-use Rattle.jn_records.proofs.Common.{◌≡◌, ◌<◌, ◌≤◌, ◌+◌, ◌*◌, ◌^◌, ◌++◌, ◌-◌, ◌&&◌, ℕ, zero, suc, Bool, true, false, List, [], ◌∷◌, length, take, drop, replicate, refl, sym, ap, ◌∙◌, arith, slice_index, nat_eq, nat_le, flat_map, list_all, AllByRecursion, nat_tests, append_assoc, drop_at, length-append, big_bytes, FileNo, Free, Used, addresses_bytes, all_within, head_bytes, head_page, map_page, IsHead, FileFits, head_blocks, most_maps, big_number, big_number-reads_back, big_from-take, length-bytes_high_first, drop-take, is_used, file_in, address_in, map_in, entry_in, HasEntries}
+use Rattle.jn_records.proofs.Common.{◌≡◌, ◌<◌, ◌≤◌, ◌+◌, ◌*◌, ◌^◌, ◌++◌, ◌-◌, ◌&&◌, ℕ, zero, suc, Bool, true, false, List, [], ◌∷◌, length, take, drop, replicate, refl, sym, ap, ◌∙◌, arith, slice_index, nat_eq, nat_le, flat_map, list_all, AllByRecursion, nat_tests, append_assoc, drop_at, length-append, big_bytes, FileNo, Free, Used, addresses_bytes, all_within, head_bytes, head_page, map_page, IsHead, FileFits, head_blocks, most_maps, big_number, drop-take, is_used, file_in, address_in, map_in, entry_in, HasEntries}
+use Rattle.byteorder.specs.Numbers.{big_number-reads_back, big_from-take, length-bytes_high_first}
 use Rattle.jn_records.proofs.Lists.{length-fields}
 
 abbrev two : ℕ → List ℕ

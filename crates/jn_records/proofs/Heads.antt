@@ -1,7 +1,5 @@
 -- A head is read again from its page.
-use Rattle.jn_records.proofs.Common.{◌≡◌, ◌<◌, ◌^◌, ◌-◌, ℕ, true, List, [], ◌∷◌, ◌++◌, length, replicate, Some, Result, refl, sym, ap, subst, ◌∙◌, arith, append_assoc, nat_le, list_all, AllByRecursion, nat_tests, big_bytes, FileNo, Head, Free, Used, number_at, list_at, addresses_bytes, head_bytes, head_page, all_within, IsHead, FileFits, maps_at, used_at, head_at, IfOk, head_blocks, most_maps}
-use Rattle.jn_records.proofs.Fields.{number_again}
-use Rattle.jn_records.proofs.Lists.{list_again}
+use Rattle.jn_records.proofs.Common.{◌≡◌, ◌<◌, ◌^◌, ◌-◌, ℕ, true, List, [], ◌∷◌, ◌++◌, length, replicate, Some, Result, refl, sym, ap, subst, ◌∙◌, arith, append_assoc, nat_le, list_all, AllByRecursion, nat_tests, big_bytes, FileNo, Head, Free, Used, number_at, list_at, addresses_bytes, head_bytes, head_page, all_within, IsHead, FileFits, maps_at, used_at, head_at, IfOk, head_blocks, most_maps, number_again, list_again}
 
 addresses_fit : (leaves : ℕ) (xs : List ℕ) → leaves < 2 ^ 16 → list_all (λ a. nat_le a leaves) xs ≡ true → AllByRecursion (λ a. a < 256 ^ 2) xs
 addresses_fit leaves [] small all = tt

@@ -1,11 +1,10 @@
 mod Common
-pub mod Fields
 pub mod Roots
 pub mod Lists
 pub mod Heads
 pub mod HeadPages
 pub mod Malformed
-pub mod NamesAgain
+pub mod IntentionsAgain
 pub mod RecordsAgain
 pub mod NetLemmas
 pub mod CarriedLemmas

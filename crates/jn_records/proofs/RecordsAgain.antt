@@ -1,12 +1,11 @@
 -- A record is read again from its page.
-use Rattle.jn_records.proofs.Common.{◌≡◌, ◌<◌, ◌≤◌, ◌^◌, ◌-◌, ℕ, Bool, true, false, List, [], ◌∷◌, ◌++◌, length, replicate, Some, refl, ap, ◌∙◌, arith, flat_map, list_all, AllByRecursion, nat_tests, big_bytes, LockUnit, Tid, WorkId, StoredIntention, tid_bytes, work_bytes, unit_bytes, WorkFits, work_at, unit_at, intention_bytes, prepared_bytes, record_bytes, record_page, unit_has_page, reads_have_page, has_page, UnitFits, PreparedFits, FlagFits, RecordFits, intention_record_at, work_head_at, prepared, prepared_at, flag_at, record_at}
+use Rattle.jn_records.proofs.Common.{◌≡◌, ◌<◌, ◌≤◌, ◌^◌, ◌-◌, ℕ, Bool, true, false, List, [], ◌∷◌, ◌++◌, length, replicate, Some, refl, ap, ◌∙◌, arith, flat_map, list_all, AllByRecursion, nat_tests, big_bytes, LockUnit, WorkId, StoredIntention, tid_bytes, work_bytes, unit_bytes, WorkFits, work_at, unit_at, intention_bytes, prepared_bytes, record_bytes, record_page, unit_has_page, reads_have_page, has_page, UnitFits, PreparedFits, FlagFits, RecordFits, intention_record_at, work_head_at, prepared, prepared_at, flag_at, record_at, number_again, list_again, UnitIsRead, tid_again, work_again, unit_again}
+use Rattle.jn_base.specs.declared.names.Tid.{Tid}
 use Rattle.jn_records.specs.declared.flag.Flag.{Flag}
 use Rattle.jn_records.specs.declared.work.WorkHead.{WorkHead}
 use Rattle.jn_records.specs.declared.record.Record.{Record}
 use Rattle.jn_records.specs.declared.record.Record.TheVariants.{Free, Intention, Ready, Going, Flag as FlagRecord}
-use Rattle.jn_records.proofs.Fields.{number_again}
-use Rattle.jn_records.proofs.Lists.{list_again}
-use Rattle.jn_records.proofs.NamesAgain.{UnitIsRead, tid_again, work_again, unit_again, intention_again}
+use Rattle.jn_records.proofs.IntentionsAgain.{intention_again}
 
 units_are_read : (us : List LockUnit) → AllByRecursion UnitFits us → list_all (λ u. unit_has_page u) us ≡ true → AllByRecursion UnitIsRead us
 units_are_read [] fit pages = tt

@@ -1,6 +1,5 @@
 -- A root is read again from its page.
-use Rattle.jn_records.proofs.Common.{◌≡◌, ◌⊎◌, inl, inr, ◌<◌, ◌^◌, ℕ, List, ◌++◌, Some, refl, ap, ◌∙◌, arith, replicate, codes, big_bytes, Root, root_bytes, root_page, IsRoot, root_at}
-use Rattle.jn_records.proofs.Fields.{number_again, bytes_again}
+use Rattle.jn_records.proofs.Common.{◌≡◌, ◌⊎◌, inl, inr, ◌<◌, ◌^◌, ℕ, List, ◌++◌, Option, Some, refl, ap, ◌∙◌, arith, replicate, codes, big_bytes, Root, root_bytes, root_page, IsRoot, root_at, number_again, bytes_again}
 
 version_small : (n : ℕ) → (n ≡ 1) ⊎ (n ≡ 2) → n < 256 ^ 1
 version_small n (inl e) = omega (arith, e)
@@ -30,3 +29,12 @@ root_again r rest is =
 pub root_is_read : (page : List ℕ) (r : Root) → IsRoot r → page ≡ root_page r → root_at page ≡ Some (r, replicate 496 0)
 unfolding root_page
 root_is_read page r is e = ap root_at e ∙ root_again r (replicate 496 0) is
+
+abbrev found : {A B : Type 0} → A → B → Option (A × B)
+found x rest = Some (x, rest)
+
+-- what is read is one value
+pub value_is : {A B : Type 0} (x y : A) (p q : B) → found x p ≡ found y q → x ≡ y
+value_is {A} {B} x y p q e =
+    let pairs : ◌≡◌ {A = A × B} (x, p) (y, q) = cc in
+    ap (λ (t : A × B). t.0) pairs

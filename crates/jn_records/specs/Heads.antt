@@ -7,7 +7,7 @@ use Rattle.byteorder.specs.Endian.{big_bytes}
 use Rattle.jn_records.specs.declared.head.Head.{Head}
 use Rattle.jn_records.specs.declared.head.Head.TheVariants.{Free, Used}
 use Rattle.jn_records.specs.Pages.{padded}
-use Rattle.jn_records.specs.Reading.{◌>>=◌, number_at, list_at}
+use Rattle.jn_fields.specs.Reading.{◌>>=◌, number_at, list_at}
 
 -- two bytes for each
 abbrev pub addresses_bytes : List ℕ → List ℕ

@@ -5,7 +5,7 @@ use Rattle.jn_base.specs.Limits.{head_blocks}
 use Rattle.jn_records.specs.declared.intention.What.{What}
 use Rattle.jn_records.specs.declared.intention.What.TheVariants.{Fresh, Gone, Cut, Put}
 use Rattle.jn_records.specs.declared.intention.StoredIntention.{StoredIntention}
-use Rattle.jn_records.specs.Reading.{◌>>=◌, number_at}
+use Rattle.jn_fields.specs.Reading.{◌>>=◌, number_at}
 
 abbrev pub what_code : What → ℕ
 what_code Fresh = 1

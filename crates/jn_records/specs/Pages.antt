@@ -1,6 +1,7 @@
 -- The stable pages, byte by byte: what each value is spelled as. Numbers have their highest byte first.
-use Rattle.std.specs.Prelude.{◌≡◌, ◌<◌, ◌^◌, ◌-◌, ◌++◌, ◌⊎◌, ℕ, List, length, replicate, codes}
+use Rattle.std.specs.Prelude.{◌≡◌, ◌<◌, ◌^◌, ◌-◌, ◌++◌, ◌⊎◌, ℕ, List, length, replicate, codes, Option, Some}
 use Rattle.byteorder.specs.Endian.{big_bytes}
+use Rattle.jn_fields.specs.Reading.{◌>>=◌, number_at, bytes_at}
 use Rattle.jn_records.specs.declared.root.Root.{Root}
 
 -- zeros behind the bytes, to the end of the page
@@ -30,3 +31,15 @@ pub record IsRoot (r : Root) : Type 0 where
   pub heads : r.heads < 2 ^ 16
   pub leaves : r.leaves < 2 ^ 16
   pub epoch : r.epoch < 2 ^ 32
+
+-- the fields of a root, behind the four bytes of the format's name
+unfoldable pub root_at : List ℕ → Option (Root × List ℕ)
+root_at page = do
+  begin ← bytes_at 4 page
+  version ← number_at 1 begin.1
+  server ← number_at 1 version.1
+  pool ← number_at 2 server.1
+  heads ← number_at 2 pool.1
+  leaves ← number_at 2 heads.1
+  epoch ← number_at 4 leaves.1
+  Some (record { version = version.0; server = record { 0 = server.0 }; pool = pool.0; heads = heads.0; leaves = leaves.0; epoch = epoch.0 }, epoch.1)

@@ -1,19 +1,16 @@
 -- The records of the pool: their bytes, and how they are read.
-use Rattle.std.specs.Prelude.{◌<◌, ◌^◌, ◌++◌, ◌+◌, ℕ, List, [], ◌∷◌, length, Option, Some, None, nat_eq, nat_lt, nat_le, not, ◌&&◌, ◌||◌, Bool, true, false, flat_map, if◌then◌else◌}
+use Rattle.std.specs.Prelude.{◌<◌, ◌^◌, ◌++◌, ◌+◌, ℕ, List, [], ◌∷◌, length, Option, Some, None, nat_eq, nat_lt, nat_le, ◌&&◌, ◌||◌, Bool, true, false, flat_map, if◌then◌else◌}
 use Rattle.std.specs.List.{list_all, AllByRecursion}
 use Rattle.byteorder.specs.Endian.{big_bytes}
 use Rattle.jn_base.specs.declared.names.LockUnit.{LockUnit}
 use Rattle.jn_base.specs.declared.names.LockUnit.TheVariants.{File, Block}
-use Rattle.jn_base.specs.declared.names.Tid.{Tid}
-use Rattle.jn_base.specs.declared.names.WorkId.{WorkId}
-use Rattle.jn_records.specs.declared.intention.StoredIntention.{StoredIntention}
+use Rattle.jn_fields.specs.Reading.{◌>>=◌, number_at, list_at}
+use Rattle.jn_fields.specs.Names.{tid_bytes, work_bytes, unit_bytes, TidFits, WorkFits, UnitFits, unit_has_page, tid_at, work_at, unit_at}
 use Rattle.jn_records.specs.declared.flag.Flag.{Flag}
 use Rattle.jn_records.specs.declared.work.WorkHead.{WorkHead}
 use Rattle.jn_records.specs.declared.record.Record.{Record}
 use Rattle.jn_records.specs.declared.record.Record.TheVariants.{Free, Intention, Ready, Going, Flag as FlagRecord}
 use Rattle.jn_records.specs.Pages.{padded}
-use Rattle.jn_records.specs.Reading.{◌>>=◌, number_at, list_at}
-use Rattle.jn_records.specs.Names.{tid_bytes, work_bytes, unit_bytes, TidFits, WorkFits, tid_at, work_at, unit_at}
 use Rattle.jn_records.specs.Intentions.{intention_bytes, intention_has_page, IntentionFits, intention_at}
 
 -- ---- bytes
@@ -60,11 +57,6 @@ abbrev pub ascends : Option LockUnit → List LockUnit → Bool
 ascends last [] = true
 ascends last (unit ∷ units) = follows last unit && ascends (Some unit) units
 
--- a block doesn't have the number that stands for its file
-abbrev pub unit_has_page : LockUnit → Bool
-unit_has_page (File f) = true
-unit_has_page (Block f p) = not (nat_eq p.0 65535)
-
 -- 81 units have room, and they ascend
 abbrev pub reads_have_page : List LockUnit → Bool
 reads_have_page reads = nat_le (length reads) 81 && ascends None reads && list_all (λ u. unit_has_page u) reads
@@ -78,10 +70,6 @@ has_page (Going head intentions reads) = reads_have_page reads
 has_page (FlagRecord f) = nat_le (length f.works) 55
 
 -- ---- numbers of their types
-
-abbrev pub UnitFits : LockUnit → Type 0
-UnitFits (File f) = f.0 < 2 ^ 32
-UnitFits (Block f p) = (f.0 < 2 ^ 32) × (p.0 < 2 ^ 16)
 
 pub record PreparedFits (head : WorkHead) (intentions : ℕ) (reads : List LockUnit) : Type 0 where
   pub work : WorkFits head.work

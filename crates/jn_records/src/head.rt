@@ -5,10 +5,11 @@ ghost use Rattle.jn_records.specs.declared.head.Head.{Head};
 ghost use Rattle.jn_records.specs.declared.head.Head.TheVariants.{Used};
 ghost use Rattle.jn_records.specs.Heads.{head_page, has_page, all_within, within, fits_version, IsHead, FileFits, maps_at, used_at, head_at};
 
-use crate::field::{same_page, u8_at, u32_at};
-use crate::list::{ListOf, list_at};
+use crate::list::ListOf;
+use crate::page::same_page;
 use byteorder::{BigEndian, ByteOrder};
 use jn_base::{FileNo, HEAD_BLOCKS, MOST_MAPS, Page, PageWriter};
+use jn_fields::{list_at, u8_at, u32_at};
 use std::alloc::{AllocError, Global};
 
 /// The first byte of a head that no file has: its page is zeros.

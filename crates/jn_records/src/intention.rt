@@ -1,11 +1,11 @@
 //! Intentions: what a work will do to the files once its transaction has committed.
 ghost use Rattle.std.specs.Prelude.{◌≡◌, ◌≤◌, ◌+◌, ◌++◌, length};
 ghost use Rattle.byteorder.specs.Endian.{big_bytes};
-ghost use Rattle.jn_records.specs.Reading.{Gives};
+ghost use Rattle.jn_fields.specs.Reading.{Gives};
 ghost use Rattle.jn_records.specs.Intentions.{what_code, what_of, intention_bytes, intention_has_page, intention_at};
 
-use crate::field::{u8_at, u16_at, u32_at};
 use jn_base::{Block, BlockNo, FileNo, HEAD_BLOCKS, PageWriter};
+use jn_fields::{u8_at, u16_at, u32_at};
 
 /// What an intention does to its file.
 #[derive(Clone, Copy, Debug, PartialEq, Eq)]

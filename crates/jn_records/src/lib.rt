@@ -24,7 +24,6 @@
 #![tactic(auto)]
 
 mod distinct;
-mod field;
 mod flag;
 mod head;
 mod intention;
@@ -33,9 +32,9 @@ mod list;
 mod map;
 mod map_laws;
 mod map_places;
-mod name;
 mod net_laws;
 mod net_list;
+mod page;
 mod record;
 mod root;
 mod sound_laws;

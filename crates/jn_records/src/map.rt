@@ -4,8 +4,8 @@ ghost use Rattle.jn_base.specs.Limits.{head_blocks};
 ghost use Rattle.jn_records.specs.Heads.{all_within, map_page, IsMapPage};
 ghost use Rattle.jn_records.specs.StablePages.{HasEntries};
 
-use crate::field::same_page;
 use crate::head::all_within;
+use crate::page::same_page;
 use byteorder::{BigEndian, ByteOrder};
 use jn_base::{HEAD_BLOCKS, Page, PageWriter};
 

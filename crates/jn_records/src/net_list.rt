@@ -8,7 +8,7 @@ ghost use Rattle.jn_base.specs.declared.op.Op.TheVariants.{Read};
 ghost use Rattle.jn_base.specs.Names.{file_eq};
 ghost use Rattle.jn_order.specs.Files.{Files, change, effect, answer_to, file_of, or_else, zeros};
 ghost use Rattle.jn_order.specs.Changes.{and_then};
-ghost use Rattle.jn_records.specs.Reading.{Gives};
+ghost use Rattle.jn_fields.specs.Reading.{Gives};
 ghost use Rattle.jn_records.specs.NetLists.{InOrder, blocks_below, list_change, net_of, added, intention_place, stands_before, as_first, as_put, entry, stays, length_with, seen_block, answered, is_put_intention, needs_a_head};
 ghost use Rattle.jn_base.specs.Ops.{block_of};
 ghost use Rattle.jn_records.specs.NetEdits.{there_by, unput_by, seen_by, plain, cut_again, intention_for, list_after, front, in_its_place};

@@ -1,17 +1,17 @@
 //! The records of the pool.
 ghost use Rattle.std.specs.Prelude.{◌≡◌, ◌≤◌, true, false, Bool, ◌&&◌, [], length, List, Option, Some, None, IfOk, IfSome, IsTrue, ◌↔◌};
-ghost use Rattle.jn_records.specs.Reading.{Gives};
+ghost use Rattle.jn_fields.specs.Reading.{Gives};
 ghost use Rattle.jn_records.specs.declared.record.Record.{Record};
 ghost use Rattle.jn_records.specs.declared.record.Record.TheVariants.{Intention as IntentionRecord};
 ghost use Rattle.jn_records.specs.Records.{prepared_bytes, flag_bytes, record_bytes, record_page, reads_have_page, has_page, prepared, RecordFits, intention_record_at, work_head_at, prepared_at, flag_at, record_at};
 
-use crate::field::{same_page, u8_at, u32_at};
 use crate::flag::Flag;
 use crate::intention::{self, StoredIntention, intention_at, put_intention};
-use crate::list::{ListOf, list_at, put_list};
-use crate::name::{put_tid, put_work, tid_at, work_at};
+use crate::list::{ListOf, put_list};
+use crate::page::same_page;
 use crate::work::{WorkHead, all_have_pages, ascends};
 use jn_base::{ClientNo, LockUnit, Page, PageWriter, RequestNo, Tid, WorkId};
+use jn_fields::{Field, list_at, u8_at, u32_at};
 use std::alloc::{AllocError, Global};
 
 const FREE: u8 = 0;
@@ -153,8 +153,8 @@ fn put_intention_record(
     ensures { page.new ≡ record_bytes (IntentionRecord work tid order intention.now) }
 {
     page.put_u8(INTENTION);
-    put_work(page, work);
-    put_tid(page, tid);
+    page.put_bytes(&work.to_bytes());
+    page.put_bytes(&tid.to_bytes());
     page.put_u8(order);
     put_intention(page, intention);
 }
@@ -171,8 +171,8 @@ fn put_prepared(
     ensures { page.new ≡ prepared_bytes kind head.now intentions reads.now }
 {
     page.put_u8(kind);
-    put_work(page, head.work);
-    put_tid(page, head.tid);
+    page.put_bytes(&head.work.to_bytes());
+    page.put_bytes(&head.tid.to_bytes());
     page.put_u8(head.client.0);
     page.put_u8(intentions);
     page.put_u8(reads.len() as u8);
@@ -185,7 +185,7 @@ fn put_flag(page: &mut PageWriter, flag: &Flag)
     ensures { page.new ≡ flag_bytes flag.now }
 {
     page.put_u8(FLAG);
-    put_tid(page, flag.tid);
+    page.put_bytes(&flag.tid.to_bytes());
     page.put_u8(flag.client.0);
     page.put_u32(flag.request.0);
     let works = flag.works.as_slice();
@@ -197,8 +197,8 @@ fn put_flag(page: &mut PageWriter, flag: &Flag)
 fn intention_record_at(bytes: &[u8]) -> Option<Record>
     ensures { result ≡ intention_record_at bytes.now }
 {
-    let (work, rest) = work_at(bytes)?;
-    let (tid, rest) = tid_at(rest)?;
+    let (work, rest) = WorkId::at(bytes)?;
+    let (tid, rest) = Tid::at(rest)?;
     let (order, rest) = u8_at(rest)?;
     let (intention, _) = intention_at(rest)?;
     Some(Record::Intention {
@@ -213,8 +213,8 @@ fn intention_record_at(bytes: &[u8]) -> Option<Record>
 fn work_head_at(bytes: &[u8]) -> Option<(WorkHead, &[u8])>
     ensures { Gives (λ r. (r.0, r.1.now)) result (work_head_at bytes.now) }
 {
-    let (work, rest) = work_at(bytes)?;
-    let (tid, rest) = tid_at(rest)?;
+    let (work, rest) = WorkId::at(bytes)?;
+    let (tid, rest) = Tid::at(rest)?;
     let (client, rest) = u8_at(rest)?;
     let head = WorkHead {
         work,
@@ -266,7 +266,7 @@ fn prepared(going: bool, head: WorkHead, intentions: u8, reads: ListOf<LockUnit>
 fn flag_at(alloc: Global, bytes: &[u8]) -> Result<Option<Record>, AllocError>
     ensures { IfOk result (λ r. r ≡ flag_at bytes.now) }
 {
-    let Some((tid, rest)) = tid_at(bytes) else {
+    let Some((tid, rest)) = Tid::at(bytes) else {
         return Ok(None);
     };
     let Some((client, rest)) = u8_at(rest) else {

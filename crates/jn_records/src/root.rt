@@ -1,11 +1,12 @@
 //! The root of a server's pages.
 ghost use Rattle.std.specs.Prelude.{◌≡◌, ◌↔◌, Some, IfSome, IsTrue};
 ghost use Rattle.jn_records.specs.declared.root.Root.{Root};
-ghost use Rattle.jn_records.specs.Pages.{root_page, IsRoot, IsVersion};
-ghost use Rattle.jn_records.specs.Reading.{Gives, root_at};
+ghost use Rattle.jn_fields.specs.Reading.{Gives};
+ghost use Rattle.jn_records.specs.Pages.{root_page, root_at, IsRoot, IsVersion};
 
-use crate::field::{bytes_at, same_page, u8_at, u16_at, u32_at};
+use crate::page::same_page;
 use jn_base::{Page, PageWriter, ServerNo};
+use jn_fields::{bytes_at, u8_at, u16_at, u32_at};
 
 /// The name of the format, at the front of the root.
 const NAME: [u8; 4] = *b"JUN1";
@@ -71,7 +72,7 @@ impl Root {
     }
 }
 
-#[tactic(auto, unfolding(crate::specs::Reading::root_at))]
+#[tactic(auto, unfolding(crate::specs::Pages::root_at))]
 fn root_at(page: &[u8]) -> Option<(Root, &[u8])>
     ensures { Gives (λ r. (r.0, r.1.now)) result (root_at page.now) }
 {

@@ -1,7 +1,8 @@
 //! Prepared works.
 ghost use Rattle.std.specs.Prelude.{◌≡◌, true, Bool, Option, None};
 ghost use Rattle.std.specs.List.{list_all};
-ghost use Rattle.jn_records.specs.Records.{follows, ascends, unit_has_page, unit_lt, unit_file, place_in_file};
+ghost use Rattle.jn_fields.specs.Names.{unit_has_page};
+ghost use Rattle.jn_records.specs.Records.{follows, ascends, unit_lt, unit_file, place_in_file};
 
 use crate::intention::StoredIntention;
 use crate::list::ListOf;

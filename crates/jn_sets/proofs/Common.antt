@@ -8,7 +8,7 @@ pub use Rattle.std.specs.List.{enumerate_from, position_or_len, sum_by, remove, 
 pub use Rattle.std.specs.Map.{values_of, lookup}
 pub use Rattle.jn_records.specs.declared.record.Record.{Record}
 pub use Rattle.jn_records.specs.declared.record.Record.TheVariants.{Free, Intention, Ready, Going, Flag as FlagRecord}
-pub use Rattle.jn_records.specs.Records.{has_page, record_page, record_at, UnitFits}
+pub use Rattle.jn_records.specs.Records.{has_page, record_page, record_at}
 pub use Rattle.jn_store.specs.Store.{StoreView, IsServed, StoreRead, IsOnly, IsSamePage, StorePut}
 pub use Rattle.jn_sets.specs.Pool.{slot_page, record_in, IsRecordPage, IsReadable, IsStored, HoldsRecords, is_free, prepares, is_wanted, record_number, number_wanted, spread, is_prepared, is_rubbish, rubbish_count, intends, intends_for, left_of, kept_by, is_ready, going_of, ready_of, marked, members_in, IsRecord, Says, members_of}
 pub use Rattle.jn_sets.specs.Sets.{IsIndex, AreCounted, ones, AreCleanTo, AreUsedTo, IsWatched, Puts}
@@ -23,3 +23,4 @@ pub use Rattle.indexmap.specs.IndexMap.{IndexMap, set_value_at, insert_entry}
 pub use Rattle.indexmap.proofs.CallerLemmas.{insert_entry-new, index_map_len-with_value_at}
 pub use Rattle.std.proofs.lemmas.Option.{get_or_from_slice_get, slice_get-get_or, unwrap_or-slice_get}
 pub use Rattle.std.specs.Option.{unwrap_or}
+pub use Rattle.jn_fields.specs.Names.{UnitFits, WorkFits}

@@ -1,9 +1,9 @@
 //! A record's numbers fit their types: the proof is a walk over it.
 ghost use Rattle.std.specs.Prelude.{◌≡◌};
 ghost use Rattle.std.specs.List.{AllByRecursion};
-ghost use Rattle.jn_records.specs.Names.{TidFits, WorkFits};
+ghost use Rattle.jn_fields.specs.Names.{TidFits, WorkFits, UnitFits};
 ghost use Rattle.jn_records.specs.Intentions.{IntentionFits};
-ghost use Rattle.jn_records.specs.Records.{UnitFits, PreparedFits, FlagFits, RecordFits};
+ghost use Rattle.jn_records.specs.Records.{PreparedFits, FlagFits, RecordFits};
 
 use jn_base::{LockUnit, Tid, WorkId};
 use jn_records::{Flag, Record, StoredIntention, WorkHead};

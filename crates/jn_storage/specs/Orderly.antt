@@ -10,6 +10,7 @@ use Rattle.jn_base.specs.declared.names.Tid.{Tid}
 use Rattle.jn_base.specs.declared.names.WorkId.{WorkId}
 use Rattle.jn_base.specs.Names.{tid_eq, work_eq, file_eq}
 use Rattle.jn_base.specs.Limits.{most_blocks, most_intentions, most_reads, most_works, most_transactions}
+use Rattle.jn_fields.specs.Names.{unit_in_range}
 use Rattle.jn_order.specs.Files.{Files}
 use Rattle.jn_records.specs.Records.{ascends}
 use Rattle.jn_records.specs.declared.intention.Intention.{Intention}
@@ -36,10 +37,6 @@ unit_of i = unit_by i.what i.file i.block
 -- a prepared work holds the units of its intentions for commit, and those that it read for reading
 abbrev pub held_by : Prepared → Wants
 held_by p = rebuilt (map unit_of p.list) p.reads
-
-abbrev pub unit_in_range : LockUnit → Bool
-unit_in_range (File f) = true
-unit_in_range (Block f p) = nat_lt p.0 most_blocks
 
 -- a list that neither makes nor removes the file needs it there
 abbrev pub needs_file : First → Bool

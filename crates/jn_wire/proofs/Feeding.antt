@@ -1,18 +1,26 @@
 -- What feeding a piece does with a stream, by what reading it leads to.
-use Rattle.std.proofs.Common.{◌≡◌, ◌≤◌, ◌-◌, ℕ, true, false, List, [], ◌∷◌, ◌++◌, append-nil, length, take, sym, ◌∙◌, ap, subst, arith, Result, Err, Option, Some}
+use Rattle.std.proofs.Common.{◌≡◌, ◌≤◌, ◌<◌, ◌+◌, ◌-◌, ◌^◌, ℕ, true, false, List, [], ◌∷◌, ◌++◌, length, take, sym, ◌∙◌, ap, subst, arith, Result, Err, Option, Some, Bool, refl}
+use Rattle.std.specs.Prelude.{None}
 use Rattle.std.proofs.Math.Seq.{take-append_seam}
 use Rattle.jn_base.specs.declared.names.ServerNo.{ServerNo}
 use Rattle.jn_wire.specs.declared.frame.Framed.{Framed}
 use Rattle.jn_wire.specs.declared.fault.WireFault.{WireFault}
 use Rattle.jn_wire.specs.declared.fault.WireError.{WireError}
 use Rattle.jn_wire.specs.declared.fault.WireError.TheVariants as errors
-use Rattle.jn_wire.specs.Unframing.{Held, Unframed, unframed, in_front, holds, waiting, stopped}
+use Rattle.jn_wire.specs.Unframing.{Held, Unframed, unframed, in_front, waiting, stopped}
 use Rattle.jn_wire.specs.Reading.{Leads}
-use Rattle.jn_wire.specs.Stream.{Stream, Feeds, FeedsWhere, with_held}
-use Rattle.jn_wire.proofs.Meaning.{faulty-stays}
+use Rattle.jn_wire.specs.Stream.{Stream, Fed, Feeds, FeedsWhere, kept_by, kept_error, with_held}
 
-goes : (x : Stream) (piece : List ℕ) (out : List Framed) (result : Result Unit WireError) (y : Stream) (out' : List Framed) → x.over ≡ false → FeedsWhere false x piece out result y out' → Feeds x piece out result y out'
-goes x piece out result y out' e h = subst (λ b. FeedsWhere b x piece out result y out') (sym e) h
+goes : (x : Stream) (piece : List ℕ) (out : List Framed) (result : Result Unit WireError) (y : Stream) (out' : List Framed) → kept_error x ≡ None → Fed x (unframed x.server x.held piece) out result y out' → Feeds x piece out result y out'
+goes x piece out result y out' e h = subst (λ (k : Option WireError). FeedsWhere k x piece out result y out') (sym e) h
+
+-- nothing is kept of a stream that is read
+reads-on : (x : Stream) (at : ℕ) (bytes : List ℕ) → x.over ≡ false → x.held ≡ waiting at bytes → kept_error x ≡ None
+reads-on x at bytes e held = ap (λ (c : Bool). kept_by c x.held.fault) e ∙ ap (λ (h : Held). kept_by false h.fault) held
+
+-- a stream that is read has places for the piece
+pub has-places : (x : Stream) (n at : ℕ) (bytes : List ℕ) → x.over ≡ false → x.held ≡ waiting at bytes → (kept_error x ≡ None → x.held.at + length x.held.bytes + n < 2 ^ 64) → at + length bytes + n < 2 ^ 64
+has-places x n at bytes e held h = subst (λ (k : Held). k.at + length k.bytes + n < 2 ^ 64) held (h (reads-on x at bytes e held))
 
 -- what reading leads to where it failed so
 pub at-error : {X : Type 0} (next : X → Unframed) (u : Unframed) (r : Result X WireError) (out : List Framed) (e f : WireError) → r ≡ Err e → e ≡ f → Leads next u r out → Leads next u (Err f) out
@@ -20,13 +28,9 @@ at-error {X} next u r out e f failed same h = subst (λ (x : Result X WireError)
 
 -- a fault that was met before
 pub keeps-fault : (x : Stream) (piece : List ℕ) (out : List Framed) (f : WireFault) → x.over ≡ false → x.held.fault ≡ Some f → Feeds x piece out (Err (errors.Fault f)) x out
-keeps-fault x piece out f e met = goes x piece out (Err (errors.Fault f)) x out e ((ap (λ (u : Unframed). u.held.fault) stays ∙ met, ap (with_held x) (ap (λ (u : Unframed). u.held) (sym stays)), sym (ap (λ (u : Unframed). out ++ u.frames) stays ∙ none)), λ bad. absurd (cc bad))
-  where
-    stays : unframed x.server x.held piece ≡ holds x.held
-    stays = subst (λ (o : Option WireFault). unframed x.server (record { at = x.held.at; bytes = x.held.bytes; fault = o }) piece ≡ holds (record { at = x.held.at; bytes = x.held.bytes; fault = o })) (sym met) (faulty-stays x.server x.held.at x.held.bytes f piece)
-
-    none : out ++ [] ≡ out
-    none = simp append-nil
+keeps-fault x piece out f e met =
+    let kept : kept_error x ≡ Some (errors.Fault f) = ap (λ (c : Bool). kept_by c x.held.fault) e ∙ ap (kept_by false) met in
+    subst (λ (k : Option WireError). FeedsWhere k x piece out (Err (errors.Fault f)) x out) (sym kept) (refl, refl, refl)
 
 -- what is kept of a fault that is met
 pub stops-there : (z x : Stream) (f : WireFault) (at : ℕ) (bytes : List ℕ) → z ≡ x → at ≡ f.at → bytes ≡ [] → with_held z (record { at = at; bytes = bytes; fault = Some f }) ≡ with_held x (stopped f)
@@ -35,7 +39,7 @@ stops-there z x f at bytes same place nothing = ap (λ (n : ℕ). with_held z (r
 -- a fault that is met now
 pub meets-fault : (x : Stream) (piece : List ℕ) (out : List Framed) (f : WireFault) (y : Stream) (out' : List Framed) (s : ServerNo) (at : ℕ) (bytes : List ℕ) → x.over ≡ false → x.server ≡ s → x.held ≡ waiting at bytes
     → in_front out (unframed s (waiting at bytes) piece) ≡ record { held = stopped f; frames = out' } → y ≡ with_held x (stopped f) → Feeds x piece out (Err (errors.Fault f)) y out'
-meets-fault x piece out f y out' s at bytes e own held h is = goes x piece out (Err (errors.Fault f)) y out' e ((ap (λ (u : Unframed). u.held.fault) all, is ∙ ap (λ (u : Unframed). with_held x u.held) (sym all), ap (λ (u : Unframed). u.frames) (sym all)), λ bad. absurd (cc bad))
+meets-fault x piece out f y out' s at bytes e own held h is = goes x piece out (Err (errors.Fault f)) y out' (reads-on x at bytes e held) (ap (λ (u : Unframed). u.held.fault) all, is ∙ ap (λ (u : Unframed). with_held x u.held) (sym all), ap (λ (u : Unframed). u.frames) (sym all))
   where
     all : in_front out (unframed x.server x.held piece) ≡ record { held = stopped f; frames = out' }
     all = ap (λ (q : ServerNo). in_front out (unframed q x.held piece)) own ∙ ap (λ (k : Held). in_front out (unframed s k piece)) held ∙ h
@@ -55,14 +59,12 @@ front-of (f ∷ out) fs (g ∷ out') more e le =
 -- there is no memory
 pub lacks-memory : (x : Stream) (piece : List ℕ) (out : List Framed) (y : Stream) (out' : List Framed) (s : ServerNo) (at : ℕ) (bytes : List ℕ) → x.over ≡ false → x.server ≡ s → x.held ≡ waiting at bytes
     → (more : List Framed) × (out ++ (unframed s (waiting at bytes) piece).frames ≡ out' ++ more) → length out ≤ length out' → y.server ≡ s → y.over ≡ true → Feeds x piece out (Err errors.Memory) y out'
-lacks-memory x piece out y out' s at bytes e own held h kept same over = goes x piece out (Err errors.Memory) y out' e (
-  record {
-    server = same ∙ sym own;
-    count = length out' - length out;
-    given = front-of out (unframed x.server x.held piece).frames out' h.0 (ap (λ (fs : List Framed). out ++ fs) all ∙ h.1) kept;
-  },
-  λ is. over,
-)
+lacks-memory x piece out y out' s at bytes e own held h kept same over = goes x piece out (Err errors.Memory) y out' (reads-on x at bytes e held) (record {
+  server = same ∙ sym own;
+  over = over;
+  count = length out' - length out;
+  given = front-of out (unframed x.server x.held piece).frames out' h.0 (ap (λ (fs : List Framed). out ++ fs) all ∙ h.1) kept;
+})
   where
     all : (unframed x.server x.held piece).frames ≡ (unframed s (waiting at bytes) piece).frames
     all = ap (λ (q : ServerNo). (unframed q x.held piece).frames) own ∙ ap (λ (k : Held). (unframed s k piece).frames) held

@@ -19,7 +19,7 @@ front-joined s out u rest = in_front-twice out u.frames (unframed s u.held rest)
 -- a frame that becomes whole, and the bytes behind it
 pub frame-behind : (s : ServerNo) (out : List Framed) (at : ℕ) (h moved rest : List ℕ) → is_unfinished h ≡ true → is_whole (h ++ moved) ≡ true
     → in_front out (unframed s (waiting at h) (moved ++ rest)) ≡ joined s (in_front out (met at (h ++ moved) (decode s (drop 2 (h ++ moved))))) rest
-frame-behind s out at h moved rest u w = ap (in_front out) (unframed-append s (waiting at h) moved rest ∙ ap (λ (m : Unframed). joined s m rest) (frame-is-met s at h moved u w))
+frame-behind s out at h moved rest u w = ap (in_front out) (unframed-append (decode s) (waiting at h) moved rest ∙ ap (λ (m : Unframed). joined s m rest) (frame-is-met (decode s) at h moved u w))
     ∙ front-joined s out (met at (h ++ moved) (decode s (drop 2 (h ++ moved)))) rest
 
 -- reading ends with this error
@@ -47,7 +47,7 @@ pub turn : (s : ServerNo) (out : List Framed) (at : ℕ) (bytes frame rest : Lis
 turn s out at bytes frame rest h = ap (λ (b : List ℕ). in_front out (unframed s (nothing_held at) b)) h.same ∙ frame-behind s out at [] frame rest refl h.whole
 
 waits-there : (s : ServerNo) (out : List Framed) (at : ℕ) (h more : List ℕ) → is_unfinished (h ++ more) ≡ true → in_front out (unframed s (waiting at h) more) ≡ read_to at (h ++ more) out
-waits-there s out at h more u = ap (in_front out) (bytes-are-held s at h more u) ∙ ap (read_to at (h ++ more)) (append-nil out)
+waits-there s out at h more u = ap (in_front out) (bytes-are-held (decode s) at h more u) ∙ ap (read_to at (h ++ more)) (append-nil out)
 
 -- no whole frame in front
 pub rests : (s : ServerNo) (out : List Framed) (at : ℕ) (bytes : List ℕ) → is_unfinished bytes ≡ true → in_front out (unframed s (nothing_held at) bytes) ≡ read_to at bytes out

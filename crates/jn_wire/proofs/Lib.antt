@@ -1,6 +1,7 @@
 mod Joining
 mod Meaning
 mod ReadBack
+mod ToldBack
 mod Framing
 mod Whole
 mod Works

@@ -1,11 +1,9 @@
 -- Each field is read back, whatever follows it.
-use Rattle.std.proofs.Common.{◌≡◌, ◌≤◌, ◌<◌, ◌^◌, ℕ, suc, Bool, true, false, ◌&&◌, List, [], ◌∷◌, ◌++◌, length, take, drop, refl, sym, ◌∙◌, ap, subst, arith, append_assoc, append-nil, length-append, Ok, Option, Some, if◌then◌else◌}
+use Rattle.std.proofs.Common.{◌≡◌, ◌≤◌, ◌<◌, ◌^◌, ℕ, suc, Bool, true, false, ◌&&◌, List, [], ◌∷◌, ◌++◌, length, refl, sym, ◌∙◌, ap, subst, arith, append_assoc, append-nil, Ok, Option, Some, if◌then◌else◌}
 use Rattle.std.specs.Prelude.{not, nat_le, nat_eq, nat_lt}
 use Rattle.std.specs.List.{AllByRecursion}
 use Rattle.std.proofs.lemmas.Bool.Decides.{nat_tests}
-use Rattle.std.proofs.Math.Seq.{drop-append_seam, take-append_seam}
 use Rattle.byteorder.specs.Endian.{big_bytes}
-use Rattle.byteorder.specs.Numbers.{length-bytes_high_first, big_number-reads_back}
 use Rattle.jn_base.specs.Limits.{most_blocks}
 use Rattle.jn_base.specs.Names.{refusal_number}
 use Rattle.jn_base.specs.declared.names.ServerNo.{ServerNo}
@@ -24,6 +22,9 @@ use Rattle.jn_base.specs.declared.names.Party.{Party}
 use Rattle.jn_base.specs.declared.names.Party.TheVariants.{Client, Server}
 use Rattle.jn_base.specs.declared.op.Op.{Op}
 use Rattle.jn_base.specs.declared.op.Op.TheVariants as ops
+use Rattle.jn_fields.specs.Names.{tid_bytes, work_bytes, unit_bytes, unit_in_range}
+use Rattle.jn_fields.proofs.Fields.{number_again, bytes_again}
+use Rattle.jn_fields.proofs.NamesAgain.{tid_again, work_again, unit_again}
 use Rattle.jn_msgs.specs.declared.message.Message.{Message}
 use Rattle.jn_msgs.specs.declared.message.Message.TheVariants as messages
 use Rattle.jn_msgs.specs.declared.message.Vote.{Vote}
@@ -31,45 +32,32 @@ use Rattle.jn_msgs.specs.declared.message.Vote.TheVariants as votes
 use Rattle.jn_wire.specs.declared.frame.Body.{Body}
 use Rattle.jn_wire.specs.declared.frame.Body.TheVariants as bodies
 use Rattle.jn_wire.specs.declared.frame.Framed.{Framed}
-use Rattle.jn_wire.specs.Fields.{Reading, Got, Wrong, and_then, byte, number, content, client, sender, request, operation, tid, named_by, work, works, works_from, file, block, unit, unit_of, resource, out_of_range}
-use Rattle.jn_wire.specs.Spelling.{u32, tid_bytes, work_bytes, works_bytes, unit_bytes, held_bytes, op_bytes, vote_bytes, carried_bytes, body_bytes, party_bytes, Is32, ClientIn, ServerIn, TidIn, WorkIn, WorksIn, UnitIn, HeldIn, OpIn, VoteIn, IsParty, MessageIn, BodyIn, IsSent}
+use Rattle.jn_wire.specs.Fields.{Reading, Got, Wrong, and_then, in_range, byte, number, content, client, sender, request, operation, tid, work, works, works_from, file, block, unit, resource, out_of_range}
+use Rattle.jn_wire.specs.Spelling.{u32, works_bytes, held_bytes, op_bytes, vote_bytes, carried_bytes, body_bytes, party_bytes, Is32, ClientIn, ServerIn, TidIn, WorkIn, WorksIn, UnitIn, HeldIn, OpIn, VoteIn, IsParty, MessageIn, BodyIn, IsSent}
 use Rattle.jn_wire.specs.Decoding.{decode, op, op_of, vote, vote_of, client_body, server_body, any_body, begin_by, open_by, op_by, end_by, abort_by, thanks_by, prepare_in, vote_in, names_in, party_of, is_server, body_by, closed, framed_by, is_taken, is_of_client, is_of_server}
 
 -- the next field is read behind one that was
-onward : {A B : Type 0} {r : Reading A} {a : A} {rest : List ℕ} (next : A → List ℕ → Reading B) → r ≡ Got a rest → and_then r next ≡ next a rest
+pub onward : {A B : Type 0} {r : Reading A} {a : A} {rest : List ℕ} (next : A → List ℕ → Reading B) → r ≡ Got a rest → and_then r next ≡ next a rest
 onward next e = ap (λ r. and_then r next) e
 
-if-true : {A : Type 0} (b : Bool) (x y : A) → b ≡ true → (if b then x else y) ≡ x
+pub if-true : {A : Type 0} (b : Bool) (x y : A) → b ≡ true → (if b then x else y) ≡ x
 if-true b x y e = ap (λ (c : Bool). if c then x else y) e
 
-if-false : {A : Type 0} (b : Bool) (x y : A) → b ≡ false → (if b then x else y) ≡ y
+pub if-false : {A : Type 0} (b : Bool) (x y : A) → b ≡ false → (if b then x else y) ≡ y
 if-false b x y e = ap (λ (c : Bool). if c then x else y) e
 
 -- ---- numbers
 
-drop-front : (n : ℕ) (xs ys : List ℕ) → length xs ≡ n → drop n (xs ++ ys) ≡ ys
-drop-front n xs ys e = subst (λ (k : ℕ). drop k (xs ++ ys) ≡ ys) e (drop-append_seam xs ys)
-
-take-front : (n : ℕ) (xs ys : List ℕ) → length xs ≡ n → take n (xs ++ ys) ≡ xs
-take-front n xs ys e = subst (λ (k : ℕ). take k (xs ++ ys) ≡ xs) e (take-append_seam xs ys)
-
-long-enough : (n : ℕ) (xs ys : List ℕ) → length xs ≡ n → nat_lt (length (xs ++ ys)) n ≡ false
-long-enough n xs ys e = let more = length-append xs ys in grind (arith, more, e, nat_tests)
-
 pub number-back : (n x : ℕ) (rest : List ℕ) → x < 256 ^ n → number n (big_bytes n x ++ rest) ≡ Got x rest
 unfolding number
-number-back n x rest small = if-false _ _ _ (long-enough n (big_bytes n x) rest (length-bytes_high_first n x))
-    ∙ ap (λ (k : ℕ). Got k (drop n (big_bytes n x ++ rest))) (big_number-reads_back n x rest small)
-    ∙ ap (λ (bytes : List ℕ). Got x bytes) (drop-front n (big_bytes n x) rest (length-bytes_high_first n x))
+number-back n x rest small = ap (in_range (λ k. true)) (number_again n x rest small)
 
 pub u32-back : (x : ℕ) (rest : List ℕ) → Is32 x → number 4 (u32 x ++ rest) ≡ Got x rest
 u32-back x rest small = number-back 4 x rest (omega (arith, small))
 
 pub content-back : (bytes rest : List ℕ) → length bytes ≡ 448 → content (bytes ++ rest) ≡ Got bytes rest
 unfolding content
-content-back bytes rest e = if-false _ _ _ (long-enough 448 bytes rest e)
-    ∙ ap (λ (x : List ℕ). Got x (drop 448 (bytes ++ rest))) (take-front 448 bytes rest e)
-    ∙ ap (λ (x : List ℕ). Got bytes x) (drop-front 448 bytes rest e)
+content-back bytes rest e = ap (in_range (λ b. true)) (bytes_again 448 bytes rest e)
 
 -- ---- names
 
@@ -88,13 +76,13 @@ file-back f rest small = onward (λ n bytes. Got (record { 0 = n }) bytes) (u32-
 client-fits : (c : ClientNo) → ClientIn c → (nat_le 1 c.0 && nat_le c.0 8) ≡ true
 client-fits c h = let one = h.0 in let eight = h.1 in grind (arith, one, eight, nat_tests)
 
-equal : (n : ℕ) → nat_eq n n ≡ true
+pub equal : (n : ℕ) → nat_eq n n ≡ true
 equal n = grind (arith, nat_tests)
 
 fits-below : (n m : ℕ) → n < m → nat_lt n m ≡ true
 fits-below n m h = grind (arith, h, nat_tests)
 
-at-most : (n m : ℕ) → n ≤ m → nat_le n m ≡ true
+pub at-most : (n m : ℕ) → n ≤ m → nat_le n m ≡ true
 at-most n m h = grind (arith, h, nat_tests)
 
 no-file : (p : ℕ) → p < most_blocks → nat_eq p 65535 ≡ false
@@ -108,24 +96,17 @@ pub sender-back : (c : ClientNo) (rest : List ℕ) → ClientIn c → sender c (
 unfolding sender
 sender-back c rest h = onward (λ d bytes. if nat_eq d.0 c.0 then Got d bytes else Wrong out_of_range) (client-back c rest h) ∙ if-true _ _ _ (equal c.0)
 
-both-length : (a b : ℕ) → length (u32 a ++ u32 b) ≡ 8
-both-length a b = let one = length-append (u32 a) (u32 b) in let x = length-bytes_high_first 4 a in let y = length-bytes_high_first 4 b in omega (arith, one, x, y)
-
 pub tid-back : (t : Tid) (rest : List ℕ) → TidIn t → tid (tid_bytes t ++ rest) ≡ Got t rest
-unfolding tid byte
-tid-back t rest h = if-false _ _ _ (long-enough 9 (tid_bytes t) rest (ap suc (both-length t.epoch t.ticket)))
-    ∙ ap (λ (x : List ℕ). and_then (number 4 x) (λ e bytes. and_then (number 4 bytes) (named_by t.server.0 e))) (append_assoc (u32 t.epoch) (u32 t.ticket) rest)
-    ∙ onward (λ e bytes. and_then (number 4 bytes) (named_by t.server.0 e)) (u32-back t.epoch (u32 t.ticket ++ rest) h.epoch)
-    ∙ onward (named_by t.server.0 t.epoch) (u32-back t.ticket rest h.ticket)
-    ∙ if-true _ _ _ (at-most t.server.0 7 h.server)
-
-abbrev as_tid : WorkId → Tid
-as_tid w = record { server = w.server; epoch = w.epoch; ticket = w.ticket }
+unfolding tid
+tid-back t rest h =
+    let few = h.server in
+    ap (in_range (λ (x : Tid). nat_le x.server.0 7)) (tid_again t rest (record { server = omega (arith, few); epoch = h.epoch; ticket = h.ticket })) ∙ if-true _ _ _ (at-most t.server.0 7 few)
 
 pub work-back : (w : WorkId) (rest : List ℕ) → WorkIn w → work (work_bytes w ++ rest) ≡ Got w rest
 unfolding work
-work-back w rest h = onward (λ t bytes. Got (record { server = t.server; epoch = t.epoch; ticket = t.ticket }) bytes)
-    (tid-back (as_tid w) rest (record { server = h.server; epoch = h.epoch; ticket = h.ticket }))
+work-back w rest h =
+    let few = h.server in
+    ap (in_range (λ (x : WorkId). nat_le x.server.0 7)) (work_again w rest (record { server = omega (arith, few); epoch = h.epoch; ticket = h.ticket })) ∙ if-true _ _ _ (at-most w.server.0 7 few)
 
 works_from-back : (ws : List WorkId) (rest : List ℕ) → AllByRecursion WorkIn ws → works_from (length ws) (works_bytes ws ++ rest) ≡ Got ws rest
 unfolding works_from
@@ -146,11 +127,10 @@ block-back p rest small = onward (λ n bytes. if nat_lt n most_blocks then Got (
 
 pub unit-back : (u : LockUnit) (rest : List ℕ) → UnitIn u → unit (unit_bytes u ++ rest) ≡ Got u rest
 unfolding unit
-unit-back (units.File f) rest h = ap unit (append_assoc (u32 f.0) (big_bytes 2 65535) rest)
-    ∙ onward (λ g bytes. and_then (number 2 bytes) (unit_of g)) (file-back f (big_bytes 2 65535 ++ rest) h) ∙ onward (unit_of f) (number-back 2 65535 rest (omega arith))
-unit-back (units.Block f p) rest h = let small = h.1 in ap unit (append_assoc (u32 f.0) (big_bytes 2 p.0) rest)
-    ∙ onward (λ g bytes. and_then (number 2 bytes) (unit_of g)) (file-back f (big_bytes 2 p.0 ++ rest) h.0) ∙ onward (unit_of f) (number-back 2 p.0 rest (omega (arith, small)))
-    ∙ if-false _ _ _ (no-file p.0 small) ∙ if-true _ _ _ (fits-below p.0 most_blocks small)
+unit-back (units.File f) rest h = ap (in_range unit_in_range) (unit_again (units.File f) rest (h, refl))
+unit-back (units.Block f p) rest h =
+    let small = h.1 in
+    ap (in_range unit_in_range) (unit_again (units.Block f p) rest ((h.0, omega (arith, small)), ap not (no-file p.0 small))) ∙ if-true _ _ _ (fits-below p.0 most_blocks small)
 
 pub resource-back : (r : Resource) (rest : List ℕ) → resource (refusal_number r ∷ rest) ≡ Got r rest
 unfolding resource byte
@@ -159,7 +139,7 @@ resource-back resources.Pages rest = refl
 resource-back resources.Heads rest = refl
 
 -- at the end of a frame nothing follows
-last : {A : Type 0} (read : List ℕ → Reading A) (bytes : List ℕ) (a : A) → read (bytes ++ []) ≡ Got a [] → read bytes ≡ Got a []
+pub last : {A : Type 0} (read : List ℕ → Reading A) (bytes : List ℕ) (a : A) → read (bytes ++ []) ≡ Got a [] → read bytes ≡ Got a []
 last read bytes a e = ap read (sym (append-nil bytes)) ∙ e
 
 op-back : (o : Op) (rest : List ℕ) → OpIn o → op (op_bytes o ++ rest) ≡ Got o rest
@@ -174,12 +154,12 @@ op-back (ops.Write f p bytes) rest h = ap (op_of 5) (append_assoc (u32 f.0) (big
     ∙ onward (λ g xs. and_then (block xs) (λ q xs. and_then (content xs) (λ b xs. Got (ops.Write g q b) xs))) (file-back f (big_bytes 2 p.0 ++ bytes ++ rest) h.0)
     ∙ onward (λ q xs. and_then (content xs) (λ b xs. Got (ops.Write f q b) xs)) (block-back p (bytes ++ rest) h.1) ∙ onward (λ b xs. Got (ops.Write f p b) xs) (content-back bytes rest h.2)
 
-held-back : {A : Type 0} (make : LockUnit → Tid → A) (u : LockUnit) (t : Tid) (rest : List ℕ) → HeldIn u t
+pub held-back : {A : Type 0} (make : LockUnit → Tid → A) (u : LockUnit) (t : Tid) (rest : List ℕ) → HeldIn u t
     → and_then (unit (held_bytes u t ++ rest)) (λ v bytes. and_then (tid bytes) (λ x bytes. Got (make v x) bytes)) ≡ Got (make u t) rest
 held-back make u t rest h = ap (λ (x : List ℕ). and_then (unit x) (λ v bytes. and_then (tid bytes) (λ x bytes. Got (make v x) bytes))) (append_assoc (unit_bytes u) (tid_bytes t) rest)
     ∙ onward (λ v bytes. and_then (tid bytes) (λ x bytes. Got (make v x) bytes)) (unit-back u (tid_bytes t ++ rest) h.0) ∙ onward (λ x bytes. Got (make u x) bytes) (tid-back t rest h.1)
 
-two-back : {A : Type 0} (make : ℕ → ℕ → A) (a b : ℕ) (rest : List ℕ) → Is32 a → Is32 b
+pub two-back : {A : Type 0} (make : ℕ → ℕ → A) (a b : ℕ) (rest : List ℕ) → Is32 a → Is32 b
     → and_then (number 4 ((u32 a ++ u32 b) ++ rest)) (λ n bytes. and_then (number 4 bytes) (λ m bytes. Got (make n m) bytes)) ≡ Got (make a b) rest
 two-back make a b rest h k = ap (λ (x : List ℕ). and_then (number 4 x) (λ n bytes. and_then (number 4 bytes) (λ m bytes. Got (make n m) bytes))) (append_assoc (u32 a) (u32 b) rest)
     ∙ onward (λ n bytes. and_then (number 4 bytes) (λ m bytes. Got (make n m) bytes)) (u32-back a (u32 b ++ rest) h) ∙ onward (λ m bytes. Got (make a m) bytes) (u32-back b rest k)
@@ -198,10 +178,10 @@ both-names : {A : Type 0} (make : Tid → WorkId → A) (t : Tid) (w : WorkId) �
     → and_then (tid (tid_bytes t ++ work_bytes w)) (λ x bytes. and_then (work bytes) (λ v bytes. Got (make x v) bytes)) ≡ Got (make t w) []
 both-names make t w h k = onward (λ x bytes. and_then (work bytes) (λ v bytes. Got (make x v) bytes)) (tid-back t (work_bytes w) h) ∙ onward (λ v bytes. Got (make t v) bytes) (last work (work_bytes w) w (work-back w [] k))
 
-abbrev told : Message → Reading Body
+abbrev pub told : Message → Reading Body
 told m = Got (bodies.Message m) []
 
-began : {A : Type 0} (next : ClientNo → RequestNo → List ℕ → Reading A) (c : ClientNo) (r : RequestNo) (rest : List ℕ) → ClientIn c → Is32 r.0
+pub began : {A : Type 0} (next : ClientNo → RequestNo → List ℕ → Reading A) (c : ClientNo) (r : RequestNo) (rest : List ℕ) → ClientIn c → Is32 r.0
     → and_then (sender c (c.0 ∷ u32 r.0 ++ rest)) (λ d bytes. and_then (request bytes) (λ q bytes. next d q bytes)) ≡ next c r rest
 began next c r rest h k = onward (λ d bytes. and_then (request bytes) (λ q bytes. next d q bytes)) (sender-back c (u32 r.0 ++ rest) h) ∙ onward (λ q bytes. next c q bytes) (request-back r rest k)
 
@@ -254,10 +234,10 @@ timeout-back t h = onward (λ x bytes. Got (bodies.Timeout x) bytes) (last tid (
 abbrev IsBack : ServerNo → Party → Body → Type 0
 IsBack s from body = decode s (party_bytes from ++ (party_bytes (Server s) ++ carried_bytes body)) ≡ Ok (record { from = from; to = Server s; body = body })
 
-party-client : (c : ClientNo) → ClientIn c → party_of 1 c.0 ≡ Some (Client c)
+pub party-client : (c : ClientNo) → ClientIn c → party_of 1 c.0 ≡ Some (Client c)
 party-client c h = if-true _ _ _ (client-fits c h)
 
-party-server : (s : ServerNo) → ServerIn s → party_of 2 s.0 ≡ Some (Server s)
+pub party-server : (s : ServerNo) → ServerIn s → party_of 2 s.0 ≡ Some (Server s)
 party-server s h = if-true _ _ _ (at-most s.0 7 h)
 
 -- what is decided by the kind, then by the receiver, then by the sender

@@ -17,11 +17,16 @@ use Rattle.jn_base.specs.declared.names.WorkId.{WorkId}
 use Rattle.jn_base.specs.declared.names.RequestNo.{RequestNo}
 use Rattle.jn_base.specs.declared.names.OperationNo.{OperationNo}
 use Rattle.jn_base.specs.declared.names.LockUnit.{LockUnit}
+use Rattle.jn_base.specs.declared.names.LockUnit.TheVariants as units
 use Rattle.jn_base.specs.declared.names.Resource.{Resource}
 use Rattle.jn_base.specs.declared.names.Resource.TheVariants as resources
 use Rattle.jn_base.specs.declared.names.Party.{Party}
 use Rattle.jn_base.specs.declared.names.Party.TheVariants.{Client, Server}
 use Rattle.jn_base.specs.declared.op.Op.TheVariants as ops
+use Rattle.jn_fields.specs.Names.{tid_bytes, work_bytes, unit_bytes, unit_in_range}
+unfoldable use Rattle.jn_fields.specs.Names.{tid_at, work_at, unit_at}
+use Rattle.jn_fields.specs.Reading.{◌>>=◌}
+unfoldable use Rattle.jn_fields.specs.Reading.{number_at, bytes_at}
 use Rattle.jn_msgs.specs.declared.message.Message.{Message}
 use Rattle.jn_msgs.specs.declared.message.Message.TheVariants as messages
 use Rattle.jn_msgs.specs.declared.message.Vote.{Vote}
@@ -29,8 +34,8 @@ use Rattle.jn_msgs.specs.declared.message.Vote.TheVariants as votes
 use Rattle.jn_wire.specs.declared.frame.Body.{Body}
 use Rattle.jn_wire.specs.declared.frame.Body.TheVariants as bodies
 use Rattle.jn_wire.specs.declared.frame.Framed.{Framed}
-use Rattle.jn_wire.specs.Fields.{Reading, Got, Wrong, and_then, byte, number, content, client, sender, request, operation, tid, work, works, works_from, file, block, unit, resource, wrong_length, wrong_party, wrong_kind}
-use Rattle.jn_wire.specs.Spelling.{u8, u32, tid_bytes, work_bytes, works_bytes, unit_bytes, held_bytes, op_bytes, vote_bytes, carried_bytes, body_bytes, party_bytes, AreBytes, Is32, ClientIn, ServerIn, TidIn, WorkIn, WorksIn, UnitIn, HeldIn, OpIn, VoteIn, IsBy, IsParty, BodyIn, IsSent}
+use Rattle.jn_wire.specs.Fields.{Reading, Got, Wrong, and_then, in_range, byte, number, content, client, sender, request, operation, tid, work, works, works_from, file, block, unit, resource, wrong_length, wrong_party, wrong_kind}
+use Rattle.jn_wire.specs.Spelling.{u8, u32, works_bytes, held_bytes, op_bytes, vote_bytes, carried_bytes, body_bytes, party_bytes, AreBytes, Is32, ClientIn, ServerIn, TidIn, WorkIn, WorksIn, UnitIn, HeldIn, OpIn, VoteIn, IsBy, IsParty, BodyIn, IsSent}
 use Rattle.jn_wire.specs.Decoding.{decode, op, op_of, vote, vote_of, client_body, server_body, any_body, begin_by, open_by, op_by, end_by, abort_by, thanks_by, prepare_in, vote_in, names_in, party_of, is_server, body_by, closed, framed_by, is_taken, is_of_client, is_of_server}
 use Rattle.jn_wire.proofs.Numbers.{back-bytes, number-below, number-again}
 
@@ -69,6 +74,17 @@ weaker P Q bytes (Fails n) k = Fails n
 
 took : {A : Type 0} {P : A → List ℕ → Type 0} {bytes : List ℕ} {a : A} {rest : List ℕ} → Took P bytes (Got a rest) → (taken : List ℕ) × (bytes ≡ taken ++ rest) × P a taken
 took (Takes a taken rest e d p) = (taken, e, p)
+
+-- a number or bytes, where there are so many
+enough : {A : Type 0} (P : A → List ℕ → Type 0) (bytes : List ℕ) (short : Bool) (x : A × List ℕ) → (short ≡ false → Took P bytes (Got x.0 x.1)) → Took P bytes (in_range (λ a. true) (if short then None else Some x))
+enough P bytes true x k = Fails wrong_length
+enough P bytes false x k = k refl
+
+-- a part of a field, and then what is behind it; its range is tested at its end
+parts : {A B : Type 0} (read : Option (A × List ℕ)) (P : A → List ℕ → Type 0) (Q : B → List ℕ → Type 0) (bytes : List ℕ) (test : B → Bool) (next : A × List ℕ → Option (B × List ℕ)) → Took P bytes (in_range (λ a. true) read)
+    → ((a : A) (taken rest : List ℕ) → AreBytes rest → P a taken → Took (λ b more. Q b (taken ++ more)) rest (in_range test (next (a, rest)))) → Took Q bytes (in_range test (read >>= next))
+parts (Some x) P Q bytes test next took k = onwards P Q bytes (λ a rest. in_range test (next (a, rest))) took k
+parts None P Q bytes test next took k = Fails wrong_length
 
 -- ---- lists of bytes
 
@@ -109,8 +125,8 @@ byte-took [] h = Fails wrong_length
 byte-took (b ∷ bytes) h = Takes b (b ∷ []) bytes refl h.1 (record { same = refl; within = h.0 })
 
 number-took : (n : ℕ) (bytes : List ℕ) → AreBytes bytes → Took (Says (big_bytes n) (λ x. x < 256 ^ n)) bytes (number n bytes)
-unfolding number
-number-took n bytes h = either _ bytes (nat_lt (length bytes) n) _ _ (λ short. Fails _) (λ long.
+unfolding number number_at
+number-took n bytes h = enough (Says (big_bytes n) (λ x. x < 256 ^ n)) bytes (nat_lt (length bytes) n) (big_number n bytes, drop n bytes) (λ long.
     Takes (big_number n bytes) (take n bytes) (drop n bytes) (sym (take-append-drop n bytes)) (back-bytes (take n bytes) (drop n bytes) (subst AreBytes (sym (take-append-drop n bytes)) h))
     (record { same = number-again n bytes (not-below (length bytes) n long) h; within = number-below n bytes h }))
 
@@ -118,8 +134,8 @@ u32-took : (bytes : List ℕ) → AreBytes bytes → Took (Says u32 Is32) bytes 
 u32-took bytes h = weaker (Says (big_bytes 4) (λ x. x < 256 ^ 4)) (Says u32 Is32) bytes (number-took 4 bytes h) (λ x taken p. record { same = p.same; within = let w = p.within in omega (arith, w) })
 
 content-took : (bytes : List ℕ) → AreBytes bytes → Took (Says (λ b. b) (λ b. length b ≡ 448)) bytes (content bytes)
-unfolding content
-content-took bytes h = either _ bytes (nat_lt (length bytes) 448) _ _ (λ short. Fails _) (λ long.
+unfolding content bytes_at
+content-took bytes h = enough (Says (λ b. b) (λ b. length b ≡ 448)) bytes (nat_lt (length bytes) 448) (take 448 bytes, drop 448 bytes) (λ long.
     Takes (take 448 bytes) (take 448 bytes) (drop 448 bytes) (sym (take-append-drop 448 bytes)) (back-bytes (take 448 bytes) (drop 448 bytes) (subst AreBytes (sym (take-append-drop 448 bytes)) h))
     (record { same = refl; within = length-take-le 448 bytes (not-below (length bytes) 448 long) }))
 
@@ -154,17 +170,18 @@ block-took bytes h = onwards (Says (big_bytes 2) (λ x. x < 256 ^ 2)) (Says (λ 
     either _ r (nat_lt n most_blocks) _ _ (λ fits. done _ _ r b (record { same = ends p.same; within = is-below n most_blocks fits })) (λ no. Fails _))
 
 tid-took : (bytes : List ℕ) → AreBytes bytes → Took (Says tid_bytes TidIn) bytes (tid bytes)
-unfolding tid
-tid-took bytes h = either _ bytes (nat_lt (length bytes) 9) _ _ (λ short. Fails _) (λ long.
-    onwards (Says u8 (λ b. b < 256)) (Says tid_bytes TidIn) bytes _ (byte-took bytes h) (λ s t1 r1 b1 p1.
-    onwards (Says u32 Is32) _ r1 _ (u32-took r1 b1) (λ epoch t2 r2 b2 p2.
-    onwards (Says u32 Is32) _ r2 _ (u32-took r2 b2) (λ ticket t3 r3 b3 p3.
-    either _ r3 (nat_le s 7) _ _ (λ fits. done _ _ r3 b3 (record { same = both p1.same (both p2.same (ends p3.same)); within = record { server = is-within s 7 fits; epoch = p2.within; ticket = p3.within } })) (λ no. Fails _)))))
+unfolding tid tid_at number
+tid-took bytes h = parts (number_at 1 bytes) (Says (big_bytes 1) (λ x. x < 256 ^ 1)) (Says tid_bytes TidIn) bytes _ _ (number-took 1 bytes h) (λ s t1 r1 b1 p1.
+    parts (number_at 4 r1) (Says u32 Is32) _ r1 _ _ (u32-took r1 b1) (λ epoch t2 r2 b2 p2.
+    parts (number_at 4 r2) (Says u32 Is32) _ r2 _ _ (u32-took r2 b2) (λ ticket t3 r3 b3 p3.
+    either _ r3 (nat_le s 7) _ _ (λ fits. done _ _ r3 b3 (record { same = both p1.same (both p2.same (ends p3.same)); within = record { server = is-within s 7 fits; epoch = p2.within; ticket = p3.within } })) (λ no. Fails _))))
 
 work-took : (bytes : List ℕ) → AreBytes bytes → Took (Says work_bytes WorkIn) bytes (work bytes)
-unfolding work
-work-took bytes h = onwards (Says tid_bytes TidIn) (Says work_bytes WorkIn) bytes _ (tid-took bytes h) (λ x t r b p.
-    done _ _ r b (record { same = ends p.same; within = record { server = p.within.server; epoch = p.within.epoch; ticket = p.within.ticket } }))
+unfolding work work_at number
+work-took bytes h = parts (number_at 1 bytes) (Says (big_bytes 1) (λ x. x < 256 ^ 1)) (Says work_bytes WorkIn) bytes _ _ (number-took 1 bytes h) (λ s t1 r1 b1 p1.
+    parts (number_at 4 r1) (Says u32 Is32) _ r1 _ _ (u32-took r1 b1) (λ epoch t2 r2 b2 p2.
+    parts (number_at 4 r2) (Says u32 Is32) _ r2 _ _ (u32-took r2 b2) (λ ticket t3 r3 b3 p3.
+    either _ r3 (nat_le s 7) _ _ (λ fits. done _ _ r3 b3 (record { same = both p1.same (both p2.same (ends p3.same)); within = record { server = is-within s 7 fits; epoch = p2.within; ticket = p3.within } })) (λ no. Fails _))))
 
 abbrev AreWorks : ℕ → List WorkId → Type 0
 AreWorks n ws = (length ws ≡ n) × AllByRecursion WorkIn ws
@@ -185,12 +202,18 @@ works-took bytes h = onwards (Says u8 (λ b. b < 256)) (Says counted_works Works
     either _ r (nat_le n 8) _ _ (λ fits. weaker (Says works_bytes (AreWorks n)) _ r (works_from-took n r b) (λ ws more q.
     record { same = both p.same q.same ∙ ap (λ (k : ℕ). k ∷ works_bytes ws) (sym q.within.0); within = (subst (λ (k : ℕ). k ≤ 8) (sym q.within.0) (is-within n 8 fits), q.within.1) })) (λ no. Fails _))
 
+-- a unit, by its file and its block's number
+unit-behind : (f : FileNo) (n : ℕ) (t1 t2 rest : List ℕ) (whole : Bool) → nat_eq n 65535 ≡ whole → Is32 f.0 → t1 ≡ u32 f.0 → t2 ≡ big_bytes 2 n → AreBytes rest
+    → Took (λ u more. Says unit_bytes UnitIn u (t1 ++ (t2 ++ more))) rest (in_range unit_in_range (Some ((if whole then units.File f else units.Block f (record { 0 = n })), rest)))
+unit-behind f n t1 t2 rest true is small one two h = done _ (units.File f) rest h (record { same = both one (ends (two ∙ ap (big_bytes 2) (is-number n 65535 is))); within = small })
+unit-behind f n t1 t2 rest false is small one two h = either _ rest (nat_lt n most_blocks) _ _
+    (λ fits. done _ (units.Block f (record { 0 = n })) rest h (record { same = both one (ends two); within = (small, is-below n most_blocks fits) })) (λ no. Fails _)
+
 unit-took : (bytes : List ℕ) → AreBytes bytes → Took (Says unit_bytes UnitIn) bytes (unit bytes)
-unfolding unit
-unit-took bytes h = onwards (Says (λ (n : FileNo). u32 n.0) (λ n. Is32 n.0)) (Says unit_bytes UnitIn) bytes _ (file-took bytes h) (λ f t1 r1 b1 p1.
-    onwards (Says (big_bytes 2) (λ x. x < 256 ^ 2)) _ r1 _ (number-took 2 r1 b1) (λ n t2 r2 b2 p2.
-    either _ r2 (nat_eq n 65535) _ _ (λ all. done _ _ r2 b2 (record { same = both p1.same (ends (p2.same ∙ ap (big_bytes 2) (is-number n 65535 all))); within = p1.within }))
-    (λ no. either _ r2 (nat_lt n most_blocks) _ _ (λ fits. done _ _ r2 b2 (record { same = both p1.same (ends p2.same); within = (p1.within, is-below n most_blocks fits) })) (λ no. Fails _))))
+unfolding unit unit_at number
+unit-took bytes h = parts (number_at 4 bytes) (Says u32 Is32) (Says unit_bytes UnitIn) bytes _ _ (u32-took bytes h) (λ f t1 r1 b1 p1.
+    parts (number_at 2 r1) (Says (big_bytes 2) (λ x. x < 256 ^ 2)) _ r1 _ _ (number-took 2 r1 b1) (λ n t2 r2 b2 p2.
+    unit-behind (record { 0 = f }) n t1 t2 r2 (nat_eq n 65535) refl p1.within p1.same p2.same b2))
 
 resource-took : (bytes : List ℕ) → AreBytes bytes → Took (Says (λ r. u8 (refusal_number r)) (λ r. ⊤)) bytes (resource bytes)
 unfolding resource

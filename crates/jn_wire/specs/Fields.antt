@@ -1,6 +1,5 @@
 -- The fields of a frame, read from left to right: what a field says and the bytes behind it, or the number of its fault.
-use Rattle.std.specs.Prelude.{ℕ, zero, suc, ◌&&◌, nat_eq, nat_lt, nat_le, if◌then◌else◌, List, [], ◌∷◌, length, take, drop, ◌≡◌, ⊤, Result, Ok, Err}
-use Rattle.byteorder.specs.Endian.{big_number}
+use Rattle.std.specs.Prelude.{ℕ, zero, suc, Bool, true, ◌&&◌, nat_eq, nat_lt, nat_le, if◌then◌else◌, List, [], ◌∷◌, ◌≡◌, ⊤, Option, Some, None, Result, Ok, Err}
 use Rattle.jn_base.specs.Limits.{most_blocks}
 use Rattle.jn_base.specs.declared.names.ClientNo.{ClientNo}
 use Rattle.jn_base.specs.declared.names.FileNo.{FileNo}
@@ -10,9 +9,10 @@ use Rattle.jn_base.specs.declared.names.WorkId.{WorkId}
 use Rattle.jn_base.specs.declared.names.RequestNo.{RequestNo}
 use Rattle.jn_base.specs.declared.names.OperationNo.{OperationNo}
 use Rattle.jn_base.specs.declared.names.LockUnit.{LockUnit}
-use Rattle.jn_base.specs.declared.names.LockUnit.TheVariants as units
 use Rattle.jn_base.specs.declared.names.Resource.{Resource}
 use Rattle.jn_base.specs.declared.names.Resource.TheVariants as resources
+use Rattle.jn_fields.specs.Reading.{number_at, bytes_at}
+use Rattle.jn_fields.specs.Names.{tid_at, work_at, unit_at, unit_in_range}
 use Rattle.jn_wire.specs.declared.fields.ReadFault.{ReadFault}
 use Rattle.jn_wire.specs.declared.fields.ReadFault.TheVariants as faults
 
@@ -52,13 +52,18 @@ unfoldable pub byte : List ℕ → Reading ℕ
 byte [] = Wrong wrong_length
 byte (b ∷ bytes) = Got b bytes
 
+-- what was read, where it passes the test of its range
+abbrev pub in_range : {A : Type 0} → (A → Bool) → Option (A × List ℕ) → Reading A
+in_range test None = Wrong wrong_length
+in_range test (Some x) = if test x.0 then Got x.0 x.1 else Wrong out_of_range
+
 -- a number of so many bytes, the highest first
 unfoldable pub number : ℕ → List ℕ → Reading ℕ
-number n bytes = if nat_lt (length bytes) n then Wrong wrong_length else Got (big_number n bytes) (drop n bytes)
+number n bytes = in_range (λ k. true) (number_at n bytes)
 
 -- the 448 bytes of a block
 unfoldable pub content : List ℕ → Reading (List ℕ)
-content bytes = if nat_lt (length bytes) 448 then Wrong wrong_length else Got (take 448 bytes) (drop 448 bytes)
+content bytes = in_range (λ b. true) (bytes_at 448 bytes)
 
 -- ---- what is named
 
@@ -77,18 +82,11 @@ unfoldable pub operation : List ℕ → Reading OperationNo
 operation bytes = and_then (number 4 bytes) (λ n rest. Got (record { 0 = n }) rest)
 
 -- a name is one field of 9 bytes, whose first one is a server
-abbrev pub named_by : ℕ → ℕ → ℕ → List ℕ → Reading Tid
-named_by s epoch ticket rest = if nat_le s 7 then Got (record { server = record { 0 = s }; epoch = epoch; ticket = ticket }) rest else Wrong out_of_range
-
 unfoldable pub tid : List ℕ → Reading Tid
-tid bytes = if nat_lt (length bytes) 9 then Wrong wrong_length
-    else and_then (byte bytes) (λ s rest. and_then (number 4 rest) (λ epoch rest. and_then (number 4 rest) (named_by s epoch)))
-
-abbrev pub as_work : Tid → WorkId
-as_work t = record { server = t.server; epoch = t.epoch; ticket = t.ticket }
+tid bytes = in_range (λ t. nat_le t.server.0 7) (tid_at bytes)
 
 unfoldable pub work : List ℕ → Reading WorkId
-work bytes = and_then (tid bytes) (λ t rest. Got (as_work t) rest)
+work bytes = in_range (λ w. nat_le w.server.0 7) (work_at bytes)
 
 -- so many names
 unfoldable pub works_from : ℕ → List ℕ → Reading (List WorkId)
@@ -105,13 +103,8 @@ file bytes = and_then (number 4 bytes) (λ n rest. Got (record { 0 = n }) rest)
 unfoldable pub block : List ℕ → Reading BlockNo
 block bytes = and_then (number 2 bytes) (λ p rest. if nat_lt p most_blocks then Got (record { 0 = p }) rest else Wrong out_of_range)
 
--- 0xFFFF in the place of a block is the file itself
-abbrev pub unit_of : FileNo → ℕ → List ℕ → Reading LockUnit
-unit_of f p rest = if nat_eq p 65535 then Got (units.File f) rest
-    else (if nat_lt p most_blocks then Got (units.Block f (record { 0 = p })) rest else Wrong out_of_range)
-
 unfoldable pub unit : List ℕ → Reading LockUnit
-unit bytes = and_then (file bytes) (λ f rest. and_then (number 2 rest) (unit_of f))
+unit bytes = in_range unit_in_range (unit_at bytes)
 
 abbrev pub resource_of : ℕ → List ℕ → Reading Resource
 resource_of n rest = if nat_eq n 31 then Got resources.Records rest

@@ -3,6 +3,7 @@ pub mod Fields
 pub mod Spelling
 pub mod Sizes
 pub mod Decoding
+pub mod Answering
 pub mod Unframing
 pub mod Reading
 pub mod Stream

@@ -18,6 +18,7 @@ use Rattle.jn_base.specs.declared.op.Op.{Op}
 use Rattle.jn_base.specs.declared.op.Op.TheVariants as ops
 use Rattle.jn_base.specs.declared.op.Answer.{Answer}
 use Rattle.jn_base.specs.declared.op.Answer.TheVariants as answers
+use Rattle.jn_fields.specs.Names.{tid_bytes, work_bytes, unit_bytes}
 use Rattle.jn_msgs.specs.declared.message.Message.{Message}
 use Rattle.jn_msgs.specs.declared.message.Message.TheVariants as messages
 use Rattle.jn_msgs.specs.declared.message.Outcome.{Outcome}
@@ -36,19 +37,9 @@ u8 n = n ∷ []
 abbrev pub u32 : ℕ → List ℕ
 u32 n = big_bytes 4 n
 
-abbrev pub tid_bytes : Tid → List ℕ
-tid_bytes t = t.server.0 ∷ u32 t.epoch ++ u32 t.ticket
-
-abbrev pub work_bytes : WorkId → List ℕ
-work_bytes w = w.server.0 ∷ u32 w.epoch ++ u32 w.ticket
-
 abbrev pub works_bytes : List WorkId → List ℕ
 works_bytes [] = []
 works_bytes (w ∷ ws) = work_bytes w ++ works_bytes ws
-
-abbrev pub unit_bytes : LockUnit → List ℕ
-unit_bytes (units.File f) = u32 f.0 ++ big_bytes 2 65535
-unit_bytes (units.Block f p) = u32 f.0 ++ big_bytes 2 p.0
 
 -- a unit and the transaction that holds or broke it
 abbrev pub held_bytes : LockUnit → Tid → List ℕ

@@ -48,20 +48,25 @@ abbrev pub met : ℕ → List ℕ → Result Framed ℕ → Unframed
 met at bytes (Ok f) = record { held = nothing_held (at + length bytes); frames = f ∷ [] }
 met at bytes (Err n) = holds (stopped (record { at = at; number = n }))
 
-abbrev pub with_bytes : ServerNo → ℕ → List ℕ → Unframed
-with_bytes s at bytes = if is_whole bytes then met at bytes (decode s (drop 2 bytes)) else holds (waiting at bytes)
+-- by what a reader makes of the bytes behind a frame's length
+abbrev pub with_bytes : (List ℕ → Result Framed ℕ) → ℕ → List ℕ → Unframed
+with_bytes read at bytes = if is_whole bytes then met at bytes (read (drop 2 bytes)) else holds (waiting at bytes)
 
-abbrev pub after_byte : ServerNo → Held → Option WireFault → ℕ → Unframed
-after_byte s h (Some fault) b = holds h
-after_byte s h None b = with_bytes s h.at (h.bytes ++ b ∷ [])
+abbrev pub after_byte : (List ℕ → Result Framed ℕ) → Held → Option WireFault → ℕ → Unframed
+after_byte read h (Some fault) b = holds h
+after_byte read h None b = with_bytes read h.at (h.bytes ++ b ∷ [])
 
 abbrev pub in_front : List Framed → Unframed → Unframed
 in_front fs u = record { held = u.held; frames = fs ++ u.frames }
 
 -- byte by byte
+abbrev pub unframed_by : (List ℕ → Result Framed ℕ) → Held → List ℕ → Unframed
+unframed_by read h [] = holds h
+unframed_by read h (b ∷ bytes) = let u = after_byte read h h.fault b in in_front u.frames (unframed_by read u.held bytes)
+
+-- as this server reads
 abbrev pub unframed : ServerNo → Held → List ℕ → Unframed
-unframed s h [] = holds h
-unframed s h (b ∷ bytes) = let u = after_byte s h h.fault b in in_front u.frames (unframed s u.held bytes)
+unframed s h bytes = unframed_by (decode s) h bytes
 
 abbrev pub given : ServerNo → Held → List ℕ → List Framed
 given s h bytes = (unframed s h bytes).frames

@@ -6,10 +6,10 @@ ghost use Rattle.jn_wire.specs.Reading.{Decodes};
 
 use crate::fields::{
     OUT_OF_RANGE, ReadFault, WRONG_KIND, WRONG_LENGTH, WRONG_PARTY, block, byte, client, content,
-    file, operation, request, resource, sender, tid, u32_at, unit, work, works,
+    file, request, resource, sender, tid, u32_at, unit, work, works,
 };
 use crate::frame::{Body, Framed};
-use jn_base::{ClientNo, Op, Party, ServerNo};
+use jn_base::{ClientNo, Op, OperationNo, Party, ServerNo};
 use jn_msgs::{Message, Vote};
 use std::alloc::Global;
 
@@ -134,16 +134,16 @@ fn open_by(from: ClientNo, bytes: &[u8]) -> Result<(Body, &[u8]), ReadFault>
     Ok((Body::Message(Message::Open(client, request, tid)), rest))
 }
 
-#[tactic(auto, unfolding(crate::specs::Decoding::op_by))]
+#[tactic(auto, unfolding(crate::specs::Decoding::op_by, crate::specs::Fields::operation))]
 fn op_by(alloc: Global, from: ClientNo, bytes: &[u8]) -> Result<(Body, &[u8]), ReadFault>
     ensures { Gives (λ r. (r.0, r.1.now)) result (op_by from bytes.now) }
 {
     let (client, rest) = sender(from, bytes)?;
     let (request, rest) = request(rest)?;
     let (work, rest) = work(rest)?;
-    let (number, rest) = operation(rest)?;
+    let (number, rest) = u32_at(rest)?;
     let (op, rest) = op(alloc, rest)?;
-    let message = Message::Op(client, request, work, number, op);
+    let message = Message::Op(client, request, work, OperationNo(number), op);
     Ok((Body::Message(message), rest))
 }
 

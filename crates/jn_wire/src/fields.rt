@@ -1,13 +1,12 @@
 //! Fields read from the front of bytes, each number with its highest byte first.
 ghost use Rattle.std.specs.Prelude.{◌≡◌};
-ghost use Rattle.jn_wire.specs.Fields.{Gives, block, byte, client, content, file, number, operation, request, resource, sender, tid, unit, work, works, works_from};
+ghost use Rattle.jn_wire.specs.Fields.{Gives, block, byte, client, content, file, number, request, resource, sender, tid, unit, work, works, works_from};
 
-use crate::put::WHOLE_FILE;
-use byteorder::{BigEndian, ByteOrder};
 use jn_base::{
-    BlockContent, BlockNo, ClientNo, FileNo, LockUnit, MOST_BLOCKS, OperationNo, RequestNo,
-    Resource, ServerNo, Tid, WorkId,
+    BlockContent, BlockNo, ClientNo, FileNo, LockUnit, MOST_BLOCKS, RequestNo, Resource, Tid,
+    WorkId,
 };
+use jn_fields::Field;
 use jn_msgs::Works;
 use std::alloc::{AllocError, AllocFailed, Global};
 
@@ -63,24 +62,18 @@ pub fn byte(bytes: &[u8]) -> Result<(u8, &[u8]), ReadFault>
 pub fn u16_at(bytes: &[u8]) -> Result<(u16, &[u8]), ReadFault>
     ensures { Gives (λ r. (r.0, r.1.now)) result (number 2 bytes.now) }
 {
-    if bytes.len() < 2 {
-        return Err(ReadFault::Wrong(WRONG_LENGTH));
-    }
-    Ok((BigEndian::read_u16(bytes), &bytes[2..]))
+    jn_fields::u16_at(bytes).ok_or(ReadFault::Wrong(WRONG_LENGTH))
 }
 
 #[tactic(auto, unfolding(crate::specs::Fields::number))]
 pub fn u32_at(bytes: &[u8]) -> Result<(u32, &[u8]), ReadFault>
     ensures { Gives (λ r. (r.0, r.1.now)) result (number 4 bytes.now) }
 {
-    if bytes.len() < 4 {
-        return Err(ReadFault::Wrong(WRONG_LENGTH));
-    }
-    Ok((BigEndian::read_u32(bytes), &bytes[4..]))
+    jn_fields::u32_at(bytes).ok_or(ReadFault::Wrong(WRONG_LENGTH))
 }
 
 /// The 448 bytes of a block.
-#[tactic(auto, unfolding(crate::specs::Fields::content))]
+#[tactic(auto, unfolding(crate::specs::Fields::content, jn_fields::specs::Reading::bytes_at))]
 pub fn content(alloc: Global, bytes: &[u8]) -> Result<(BlockContent, &[u8]), ReadFault>
     ensures { Gives (λ r. (r.0, r.1.now)) result (content bytes.now) }
 {
@@ -127,47 +120,29 @@ pub fn request(bytes: &[u8]) -> Result<(RequestNo, &[u8]), ReadFault>
     Ok((RequestNo(n), rest))
 }
 
-#[tactic(auto, unfolding(crate::specs::Fields::operation))]
-pub fn operation(bytes: &[u8]) -> Result<(OperationNo, &[u8]), ReadFault>
-    ensures { Gives (λ r. (r.0, r.1.now)) result (operation bytes.now) }
-{
-    let (n, rest) = u32_at(bytes)?;
-    Ok((OperationNo(n), rest))
-}
-
 /// A name is one field of 9 bytes.
 #[tactic(auto, unfolding(crate::specs::Fields::tid))]
 pub fn tid(bytes: &[u8]) -> Result<(Tid, &[u8]), ReadFault>
     ensures { Gives (λ r. (r.0, r.1.now)) result (tid bytes.now) }
 {
-    if bytes.len() < 9 {
-        return Err(ReadFault::Wrong(WRONG_LENGTH));
+    let (tid, rest) = Tid::at(bytes).ok_or(ReadFault::Wrong(WRONG_LENGTH))?;
+    if tid.server.0 <= 7 {
+        Ok((tid, rest))
+    } else {
+        Err(ReadFault::Wrong(OUT_OF_RANGE))
     }
-    let (server, rest) = byte(bytes)?;
-    let (epoch, rest) = u32_at(rest)?;
-    let (ticket, rest) = u32_at(rest)?;
-    if server > 7 {
-        return Err(ReadFault::Wrong(OUT_OF_RANGE));
-    }
-    let tid = Tid {
-        server: ServerNo(server),
-        epoch,
-        ticket,
-    };
-    Ok((tid, rest))
 }
 
 #[tactic(auto, unfolding(crate::specs::Fields::work))]
 pub fn work(bytes: &[u8]) -> Result<(WorkId, &[u8]), ReadFault>
     ensures { Gives (λ r. (r.0, r.1.now)) result (work bytes.now) }
 {
-    let (tid, rest) = tid(bytes)?;
-    let work = WorkId {
-        server: tid.server,
-        epoch: tid.epoch,
-        ticket: tid.ticket,
-    };
-    Ok((work, rest))
+    let (work, rest) = WorkId::at(bytes).ok_or(ReadFault::Wrong(WRONG_LENGTH))?;
+    if work.server.0 <= 7 {
+        Ok((work, rest))
+    } else {
+        Err(ReadFault::Wrong(OUT_OF_RANGE))
+    }
 }
 
 /// At most 8 names, behind their count.
@@ -208,15 +183,10 @@ pub fn block(bytes: &[u8]) -> Result<(BlockNo, &[u8]), ReadFault>
 pub fn unit(bytes: &[u8]) -> Result<(LockUnit, &[u8]), ReadFault>
     ensures { Gives (λ r. (r.0, r.1.now)) result (unit bytes.now) }
 {
-    let (file, rest) = file(bytes)?;
-    let (n, rest) = u16_at(rest)?;
-    if n == WHOLE_FILE {
-        return Ok((LockUnit::File(file), rest));
-    }
-    if n < MOST_BLOCKS {
-        Ok((LockUnit::Block(file, BlockNo(n)), rest))
-    } else {
-        Err(ReadFault::Wrong(OUT_OF_RANGE))
+    let (unit, rest) = LockUnit::at(bytes).ok_or(ReadFault::Wrong(WRONG_LENGTH))?;
+    match unit {
+        LockUnit::Block(_, block) if block.0 >= MOST_BLOCKS => Err(ReadFault::Wrong(OUT_OF_RANGE)),
+        _ => Ok((unit, rest)),
     }
 }
 

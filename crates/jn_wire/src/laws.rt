@@ -2,21 +2,23 @@
 
 ghost use Rattle.std.specs.Prelude.{◌≡◌, ◌+◌, List, ℕ, ◌++◌, Ok, true, drop, length};
 ghost use Rattle.std.specs.List.{AllByRecursion};
+ghost use Rattle.jn_base.specs.declared.names.Party.{Party};
 ghost use Rattle.jn_base.specs.declared.names.ServerNo.{ServerNo};
 ghost use Rattle.jn_wire.specs.declared.frame.Framed.{Framed};
+ghost use Rattle.jn_wire.specs.Answering.{decode_by, IsSentTo};
 ghost use Rattle.jn_wire.specs.Spelling.{body_bytes, frame_bytes, stream_bytes, AreBytes, IsSent};
 ghost use Rattle.jn_wire.specs.Decoding.{decode};
-ghost use Rattle.jn_wire.specs.Unframing.{Held, unframed, IsUnframed, is_whole, nothing_held, joined};
+ghost use Rattle.jn_wire.specs.Unframing.{Held, unframed, unframed_by, IsUnframed, is_whole, nothing_held, joined};
 
-/// A frame is read back from the bytes that it is written as.
+/// A frame is read back by its receiver from the bytes that it is written as: kinds 7 to 10 by a client, the others by a server.
 pub fn frames_are_read_back()
-    ensures { (s : ServerNo) (f : Framed) → IsSent s f → decode s (body_bytes f) ≡ Ok f }
+    ensures { (p : Party) (f : Framed) → IsSentTo p f → decode_by p (body_bytes f) ≡ Ok f }
 {}
 
 /// Frames that are written one behind another are read back from a stream of them, and nothing is held then.
 pub fn streams_are_read_back()
-    ensures { (s : ServerNo) (at : ℕ) (fs : List Framed) → AllByRecursion (IsSent s) fs
-        → unframed s (nothing_held at) (stream_bytes fs) ≡ record { held = nothing_held (at + length (stream_bytes fs)); frames = fs } }
+    ensures { (p : Party) (at : ℕ) (fs : List Framed) → AllByRecursion (IsSentTo p) fs
+        → unframed_by (decode_by p) (nothing_held at) (stream_bytes fs) ≡ record { held = nothing_held (at + length (stream_bytes fs)); frames = fs } }
 {}
 
 /// No other bytes are read as a frame: what a whole one gives is what the server may be sent, and is written as these bytes.

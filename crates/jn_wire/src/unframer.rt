@@ -2,7 +2,7 @@
 ghost use Rattle.std.specs.Prelude.{◌≡◌, ◌≤◌, ◌<◌, ◌+◌, ◌-◌, ◌^◌, ◌++◌, ℕ, List, [], true, false, take, drop, length, Some, None, Ok, Err, IfOk, OnOk, OnErr, MatchOption};
 ghost use Rattle.jn_wire.specs.Decoding.{decode};
 ghost use Rattle.jn_wire.specs.Reading.{Fills, Leads, Splits, read_to};
-ghost use Rattle.jn_wire.specs.Stream.{Ends, Feeds};
+ghost use Rattle.jn_wire.specs.Stream.{Ends, Feeds, kept_error};
 ghost use Rattle.jn_wire.specs.Unframing.{in_front, is_unfinished, is_whole, met, nothing_held, unframed, waiting, whole_length};
 
 use crate::decode::decode;
@@ -62,7 +62,7 @@ impl Unframer {
     /// Reads a piece, and appends each frame whose last byte is in it. Where bytes aren't a frame, the frames in front
     /// of them are appended first; from then on each call answers that fault. Once memory ran out, each answers that.
     pub fn feed(&mut self, piece: &[u8], out: &mut Vec<Framed>) -> Result<(), WireError>
-        requires place { self.old.held.at + length self.old.held.bytes + length piece.now < 2 ^ 64 }
+        requires place { kept_error self.old ≡ None → self.old.held.at + length self.old.held.bytes + length piece.now < 2 ^ 64 }
         ensures fed { Feeds self.old piece.now out.old.items result self.new out.new.items }
         ensures place { OnOk result (self.new.held.at + length self.new.held.bytes ≡ self.old.held.at + length self.old.held.bytes + length piece.now) }
     {

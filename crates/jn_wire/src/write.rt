@@ -1,15 +1,16 @@
 //! Frames written as bytes.
-ghost use Rattle.std.specs.Prelude.{◌≡◌, ◌≤◌, ◌+◌, ◌++◌, ◌∷◌, ℕ, List, [], length, OnOk, OnErr};
+ghost use Rattle.std.specs.Prelude.{◌≡◌, ◌≤◌, ◌+◌, ◌++◌, ◌∷◌, ℕ, List, length, OnOk, OnErr};
 ghost use Rattle.byteorder.specs.Endian.{big_bytes};
 ghost use Rattle.jn_base.specs.Names.{refusal_number};
-ghost use Rattle.jn_wire.specs.Appending.{IsFrontKept};
+ghost use Rattle.jn_fields.specs.Names.{tid_bytes, work_bytes};
+ghost use Rattle.jn_wire.specs.Appending.{Appends, IsFrontKept};
 ghost use Rattle.jn_wire.specs.Sizes.{HasFewWorks, NamesFew, NamesFewIn};
-ghost use Rattle.jn_wire.specs.Spelling.{answer_bytes, body_bytes, carried_bytes, cause_bytes, frame_bytes, message_bytes, op_bytes, outcome_bytes, tid_bytes, tid_or, u32 as u32_bytes, vote_bytes, work_bytes, work_or, works_bytes};
+ghost use Rattle.jn_wire.specs.Spelling.{answer_bytes, body_bytes, carried_bytes, cause_bytes, frame_bytes, message_bytes, op_bytes, outcome_bytes, tid_or, u32 as u32_bytes, vote_bytes, work_or, works_bytes};
 
 use crate::frame::{Body, Framed};
 use crate::put::{
-    put_content, put_held, put_party, put_tid, put_two, put_u8, put_u16, put_u32, put_work,
-    put_works,
+    put_client, put_content, put_held, put_party, put_server, put_tid, put_two, put_u8, put_u16,
+    put_u32, put_work, put_works,
 };
 use byteorder::{BigEndian, ByteOrder};
 use jn_base::{
@@ -62,9 +63,7 @@ fn write_size(out: &mut Vec<u8>, at: usize, size: u16)
 /// What follows the length: the parties, the kind and the fields.
 fn put_body(out: &mut Vec<u8>, framed: &Framed) -> Result<(), AllocError>
     requires few { HasFewWorks framed.now }
-    ensures ok { OnOk result (out.new.items ≡ out.old.items ++ body_bytes framed.now) }
-    ensures size { OnOk result (length out.new.items ≤ length out.old.items + 478) }
-    ensures err { OnErr result (IsFrontKept out.old.items out.new.items) }
+    ensures { Appends (body_bytes framed.now) 478 out.old.items result out.new.items }
 {
     put_party(out, framed.from)?;
     put_party(out, framed.to)?;
@@ -73,9 +72,7 @@ fn put_body(out: &mut Vec<u8>, framed: &Framed) -> Result<(), AllocError>
 
 fn put_carried(out: &mut Vec<u8>, body: &Body) -> Result<(), AllocError>
     requires few { NamesFewIn body.now }
-    ensures ok { OnOk result (out.new.items ≡ out.old.items ++ carried_bytes body.now) }
-    ensures size { OnOk result (length out.new.items ≤ length out.old.items + 474) }
-    ensures err { OnErr result (IsFrontKept out.old.items out.new.items) }
+    ensures { Appends (carried_bytes body.now) 474 out.old.items result out.new.items }
 {
     match body {
         Body::Message(message) => put_message(out, message),
@@ -89,9 +86,7 @@ fn put_carried(out: &mut Vec<u8>, body: &Body) -> Result<(), AllocError>
 
 fn put_message(out: &mut Vec<u8>, message: &Message) -> Result<(), AllocError>
     requires few { NamesFew message.now }
-    ensures ok { OnOk result (out.new.items ≡ out.old.items ++ message_bytes message.now) }
-    ensures size { OnOk result (length out.new.items ≤ length out.old.items + 474) }
-    ensures err { OnErr result (IsFrontKept out.old.items out.new.items) }
+    ensures { Appends (message_bytes message.now) 474 out.old.items result out.new.items }
 {
     match message {
         Message::Begin(client, request) => put_request(out, 1, *client, *request),
@@ -138,31 +133,23 @@ fn put_request(
     client: ClientNo,
     request: RequestNo,
 ) -> Result<(), AllocError>
-    ensures ok { OnOk result (out.new.items ≡ out.old.items ++ (kind ∷ client.0 ∷ u32_bytes request.0)) }
-    ensures size { OnOk result (length out.new.items ≤ length out.old.items + 6) }
-    ensures err { OnErr result (IsFrontKept out.old.items out.new.items) }
+    ensures { Appends (kind ∷ client.0 ∷ u32_bytes request.0) 6 out.old.items result out.new.items }
 {
-    put_u8(out, kind)?;
-    put_u8(out, client.0)?;
+    put_client(out, kind, client)?;
     put_u32(out, request.0)
 }
 
 /// The kind, a client and its transaction.
 fn put_of_client(out: &mut Vec<u8>, kind: u8, client: ClientNo, tid: Tid) -> Result<(), AllocError>
-    ensures ok { OnOk result (out.new.items ≡ out.old.items ++ (kind ∷ client.0 ∷ tid_bytes tid)) }
-    ensures size { OnOk result (length out.new.items ≤ length out.old.items + 11) }
-    ensures err { OnErr result (IsFrontKept out.old.items out.new.items) }
+    ensures { Appends (kind ∷ client.0 ∷ tid_bytes tid) 11 out.old.items result out.new.items }
 {
-    put_u8(out, kind)?;
-    put_u8(out, client.0)?;
+    put_client(out, kind, client)?;
     put_tid(out, tid)
 }
 
 /// The kind and a transaction.
 fn put_kind(out: &mut Vec<u8>, kind: u8, tid: Tid) -> Result<(), AllocError>
-    ensures ok { OnOk result (out.new.items ≡ out.old.items ++ (kind ∷ tid_bytes tid)) }
-    ensures size { OnOk result (length out.new.items ≤ length out.old.items + 10) }
-    ensures err { OnErr result (IsFrontKept out.old.items out.new.items) }
+    ensures { Appends (kind ∷ tid_bytes tid) 10 out.old.items result out.new.items }
 {
     put_u8(out, kind)?;
     put_tid(out, tid)
@@ -170,9 +157,7 @@ fn put_kind(out: &mut Vec<u8>, kind: u8, tid: Tid) -> Result<(), AllocError>
 
 /// The kind, a transaction and its work.
 fn put_names(out: &mut Vec<u8>, kind: u8, tid: Tid, work: WorkId) -> Result<(), AllocError>
-    ensures ok { OnOk result (out.new.items ≡ out.old.items ++ (kind ∷ tid_bytes tid ++ work_bytes work)) }
-    ensures size { OnOk result (length out.new.items ≤ length out.old.items + 19) }
-    ensures err { OnErr result (IsFrontKept out.old.items out.new.items) }
+    ensures { Appends (kind ∷ tid_bytes tid ++ work_bytes work) 19 out.old.items result out.new.items }
 {
     put_kind(out, kind, tid)?;
     put_work(out, work)
@@ -186,9 +171,7 @@ fn put_open(
     request: RequestNo,
     tid: Tid,
 ) -> Result<(), AllocError>
-    ensures ok { OnOk result (out.new.items ≡ out.old.items ++ (kind ∷ client.0 ∷ u32_bytes request.0 ++ tid_bytes tid)) }
-    ensures size { OnOk result (length out.new.items ≤ length out.old.items + 15) }
-    ensures err { OnErr result (IsFrontKept out.old.items out.new.items) }
+    ensures { Appends (kind ∷ client.0 ∷ u32_bytes request.0 ++ tid_bytes tid) 15 out.old.items result out.new.items }
 {
     put_request(out, kind, client, request)?;
     put_tid(out, tid)
@@ -204,9 +187,7 @@ fn put_end(
     works: &Works,
 ) -> Result<(), AllocError>
     requires few { length works.now ≤ 8 }
-    ensures ok { OnOk result (out.new.items ≡ out.old.items ++ (kind ∷ client.0 ∷ u32_bytes request.0 ++ tid_bytes tid ++ length works.now ∷ works_bytes works.now)) }
-    ensures size { OnOk result (length out.new.items ≤ length out.old.items + 88) }
-    ensures err { OnErr result (IsFrontKept out.old.items out.new.items) }
+    ensures { Appends (kind ∷ client.0 ∷ u32_bytes request.0 ++ tid_bytes tid ++ length works.now ∷ works_bytes works.now) 88 out.old.items result out.new.items }
 {
     put_open(out, kind, client, request, tid)?;
     put_list(out, works.as_slice())
@@ -215,9 +196,7 @@ fn put_end(
 /// Names of works behind their count.
 fn put_list(out: &mut Vec<u8>, works: &[WorkId]) -> Result<(), AllocError>
     requires few { length works.now ≤ 8 }
-    ensures ok { OnOk result (out.new.items ≡ out.old.items ++ (length works.now ∷ works_bytes works.now)) }
-    ensures size { OnOk result (length out.new.items ≤ length out.old.items + 73) }
-    ensures err { OnErr result (IsFrontKept out.old.items out.new.items) }
+    ensures { Appends (length works.now ∷ works_bytes works.now) 73 out.old.items result out.new.items }
 {
     put_u8(out, works.len() as u8)?;
     put_works(out, works)
@@ -229,18 +208,14 @@ fn put_prepare(
     client: ClientNo,
     work: WorkId,
 ) -> Result<(), AllocError>
-    ensures ok { OnOk result (out.new.items ≡ out.old.items ++ (11 ∷ tid_bytes tid ++ client.0 ∷ work_bytes work)) }
-    ensures size { OnOk result (length out.new.items ≤ length out.old.items + 20) }
-    ensures err { OnErr result (IsFrontKept out.old.items out.new.items) }
+    ensures { Appends (11 ∷ tid_bytes tid ++ client.0 ∷ work_bytes work) 20 out.old.items result out.new.items }
 {
     put_kind(out, 11, tid)?;
     put_client_work(out, client, work)
 }
 
 fn put_client_work(out: &mut Vec<u8>, client: ClientNo, work: WorkId) -> Result<(), AllocError>
-    ensures ok { OnOk result (out.new.items ≡ out.old.items ++ (client.0 ∷ work_bytes work)) }
-    ensures size { OnOk result (length out.new.items ≤ length out.old.items + 10) }
-    ensures err { OnErr result (IsFrontKept out.old.items out.new.items) }
+    ensures { Appends (client.0 ∷ work_bytes work) 10 out.old.items result out.new.items }
 {
     put_u8(out, client.0)?;
     put_work(out, work)
@@ -254,31 +229,17 @@ fn put_operation(
     work: WorkId,
     number: OperationNo,
 ) -> Result<(), AllocError>
-    ensures ok { OnOk result (out.new.items ≡ out.old.items ++ (3 ∷ client.0 ∷ u32_bytes request.0 ++ work_bytes work ++ u32_bytes number.0)) }
-    ensures size { OnOk result (length out.new.items ≤ length out.old.items + 19) }
-    ensures err { OnErr result (IsFrontKept out.old.items out.new.items) }
+    ensures { Appends (3 ∷ client.0 ∷ u32_bytes request.0 ++ work_bytes work ++ u32_bytes number.0) 19 out.old.items result out.new.items }
 {
     put_request(out, 3, client, request)?;
     put_numbered(out, work, number)
 }
 
 fn put_numbered(out: &mut Vec<u8>, work: WorkId, number: OperationNo) -> Result<(), AllocError>
-    ensures ok { OnOk result (out.new.items ≡ out.old.items ++ (work_bytes work ++ u32_bytes number.0)) }
-    ensures size { OnOk result (length out.new.items ≤ length out.old.items + 13) }
-    ensures err { OnErr result (IsFrontKept out.old.items out.new.items) }
+    ensures { Appends (work_bytes work ++ u32_bytes number.0) 13 out.old.items result out.new.items }
 {
     put_work(out, work)?;
     put_u32(out, number.0)
-}
-
-/// A code and a server.
-fn put_server(out: &mut Vec<u8>, code: u8, server: ServerNo) -> Result<(), AllocError>
-    ensures ok { OnOk result (out.new.items ≡ out.old.items ++ (code ∷ server.0 ∷ [])) }
-    ensures size { OnOk result (length out.new.items ≤ length out.old.items + 2) }
-    ensures err { OnErr result (IsFrontKept out.old.items out.new.items) }
-{
-    put_u8(out, code)?;
-    put_u8(out, server.0)
 }
 
 /// 0 and the new transaction, or the refusal for want of room for one.
@@ -288,9 +249,7 @@ fn put_begun(
     request: RequestNo,
     tid: Option<Tid>,
 ) -> Result<(), AllocError>
-    ensures ok { OnOk result (out.new.items ≡ out.old.items ++ (7 ∷ client.0 ∷ u32_bytes request.0 ++ tid_or 21 tid)) }
-    ensures size { OnOk result (length out.new.items ≤ length out.old.items + 16) }
-    ensures err { OnErr result (IsFrontKept out.old.items out.new.items) }
+    ensures { Appends (7 ∷ client.0 ∷ u32_bytes request.0 ++ tid_or 21 tid) 16 out.old.items result out.new.items }
 {
     put_request(out, 7, client, request)?;
     match tid {
@@ -310,9 +269,7 @@ fn put_opened(
     tid: Tid,
     work: Option<WorkId>,
 ) -> Result<(), AllocError>
-    ensures ok { OnOk result (out.new.items ≡ out.old.items ++ (8 ∷ client.0 ∷ u32_bytes request.0 ++ tid_bytes tid ++ work_or 22 work)) }
-    ensures size { OnOk result (length out.new.items ≤ length out.old.items + 25) }
-    ensures err { OnErr result (IsFrontKept out.old.items out.new.items) }
+    ensures { Appends (8 ∷ client.0 ∷ u32_bytes request.0 ++ tid_bytes tid ++ work_or 22 work) 25 out.old.items result out.new.items }
 {
     put_open(out, 8, client, request, tid)?;
     match work {
@@ -325,9 +282,7 @@ fn put_opened(
 }
 
 fn put_op(out: &mut Vec<u8>, op: &Op) -> Result<(), AllocError>
-    ensures ok { OnOk result (out.new.items ≡ out.old.items ++ op_bytes op.now) }
-    ensures size { OnOk result (length out.new.items ≤ length out.old.items + 455) }
-    ensures err { OnErr result (IsFrontKept out.old.items out.new.items) }
+    ensures { Appends (op_bytes op.now) 455 out.old.items result out.new.items }
 {
     match op {
         Op::Create(file) => put_of_file(out, 1, *file),
@@ -342,27 +297,21 @@ fn put_op(out: &mut Vec<u8>, op: &Op) -> Result<(), AllocError>
 }
 
 fn put_of_file(out: &mut Vec<u8>, code: u8, file: FileNo) -> Result<(), AllocError>
-    ensures ok { OnOk result (out.new.items ≡ out.old.items ++ (code ∷ u32_bytes file.0)) }
-    ensures size { OnOk result (length out.new.items ≤ length out.old.items + 5) }
-    ensures err { OnErr result (IsFrontKept out.old.items out.new.items) }
+    ensures { Appends (code ∷ u32_bytes file.0) 5 out.old.items result out.new.items }
 {
     put_u8(out, code)?;
     put_u32(out, file.0)
 }
 
 fn put_of_block(out: &mut Vec<u8>, code: u8, file: FileNo, block: BlockNo) -> Result<(), AllocError>
-    ensures ok { OnOk result (out.new.items ≡ out.old.items ++ (code ∷ u32_bytes file.0 ++ big_bytes 2 block.0)) }
-    ensures size { OnOk result (length out.new.items ≤ length out.old.items + 7) }
-    ensures err { OnErr result (IsFrontKept out.old.items out.new.items) }
+    ensures { Appends (code ∷ u32_bytes file.0 ++ big_bytes 2 block.0) 7 out.old.items result out.new.items }
 {
     put_of_file(out, code, file)?;
     put_u16(out, block.0)
 }
 
 fn put_answer(out: &mut Vec<u8>, answer: &Answer) -> Result<(), AllocError>
-    ensures ok { OnOk result (out.new.items ≡ out.old.items ++ answer_bytes answer.now) }
-    ensures size { OnOk result (length out.new.items ≤ length out.old.items + 449) }
-    ensures err { OnErr result (IsFrontKept out.old.items out.new.items) }
+    ensures { Appends (answer_bytes answer.now) 449 out.old.items result out.new.items }
 {
     match answer {
         Answer::Did => put_u8(out, 0),
@@ -392,9 +341,7 @@ fn put_answer(out: &mut Vec<u8>, answer: &Answer) -> Result<(), AllocError>
 
 /// 0, the cause of an abort, or 5 and 6 with what else an End may be answered.
 fn put_outcome(out: &mut Vec<u8>, outcome: Outcome) -> Result<(), AllocError>
-    ensures ok { OnOk result (out.new.items ≡ out.old.items ++ outcome_bytes outcome) }
-    ensures size { OnOk result (length out.new.items ≤ length out.old.items + 17) }
-    ensures err { OnErr result (IsFrontKept out.old.items out.new.items) }
+    ensures { Appends (outcome_bytes outcome) 17 out.old.items result out.new.items }
 {
     match outcome {
         Outcome::Committed => put_u8(out, 0),
@@ -411,9 +358,7 @@ fn put_outcome(out: &mut Vec<u8>, outcome: Outcome) -> Result<(), AllocError>
 }
 
 fn put_cause(out: &mut Vec<u8>, cause: Cause) -> Result<(), AllocError>
-    ensures ok { OnOk result (out.new.items ≡ out.old.items ++ cause_bytes cause) }
-    ensures size { OnOk result (length out.new.items ≤ length out.old.items + 17) }
-    ensures err { OnErr result (IsFrontKept out.old.items out.new.items) }
+    ensures { Appends (cause_bytes cause) 17 out.old.items result out.new.items }
 {
     match cause {
         Cause::Requested => put_u8(out, 1),
@@ -431,18 +376,14 @@ fn put_cause(out: &mut Vec<u8>, cause: Cause) -> Result<(), AllocError>
 
 /// What there is too little of, by its refusal's number, what is free and what is needed.
 fn put_short(out: &mut Vec<u8>, resource: Resource, free: u32, need: u32) -> Result<(), AllocError>
-    ensures ok { OnOk result (out.new.items ≡ out.old.items ++ (refusal_number resource ∷ u32_bytes free ++ u32_bytes need)) }
-    ensures size { OnOk result (length out.new.items ≤ length out.old.items + 9) }
-    ensures err { OnErr result (IsFrontKept out.old.items out.new.items) }
+    ensures { Appends (refusal_number resource ∷ u32_bytes free ++ u32_bytes need) 9 out.old.items result out.new.items }
 {
     put_u8(out, resource.refusal_number())?;
     put_two(out, free, need)
 }
 
 fn put_vote(out: &mut Vec<u8>, vote: Vote) -> Result<(), AllocError>
-    ensures ok { OnOk result (out.new.items ≡ out.old.items ++ vote_bytes vote) }
-    ensures size { OnOk result (length out.new.items ≤ length out.old.items + 16) }
-    ensures err { OnErr result (IsFrontKept out.old.items out.new.items) }
+    ensures { Appends (vote_bytes vote) 16 out.old.items result out.new.items }
 {
     match vote {
         Vote::Ready => put_u8(out, 0),

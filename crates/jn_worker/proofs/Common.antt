@@ -27,7 +27,7 @@ pub use Rattle.jn_rows.specs.declared.worker.PreparedWork.{PreparedWork}
 pub use Rattle.jn_rows.specs.declared.worker.Phase.TheVariants.{Active, Broken, Prepared as Stored}
 pub use Rattle.jn_lock_rows.specs.Matching.{LocksMatch, are_rising, is_before, held_in, is_after, standing_in, standing_of, is_ordered, are_ordered, GoTogether, units_of, is_name_after}
 pub use Rattle.jn_lock_rows.proofs.Works.{none-behind, work_is, found-name, work_same, not-before, found-behind, at-less, in_phase, at-phase, at-grant, once_granted, at-more, none-front}
-pub use Rattle.jn_storage.specs.Orderly.{IsOrderly, IsPrepared, IsGiven, unit_of, intentions, list_of, needs_file, takes_away, first_of, unit_in_range, unit_by, needed}
+pub use Rattle.jn_storage.specs.Orderly.{IsOrderly, IsPrepared, IsGiven, unit_of, intentions, list_of, needs_file, takes_away, first_of, unit_by, needed}
 pub use Rattle.jn_storage.proofs.Listings.{listing-more, but, is_in-but, length-but}
 pub use Rattle.jn_base.specs.declared.device.Stopped.{Stopped}
 pub use Rattle.jn_base.specs.declared.names.Tid.{Tid}
@@ -66,6 +66,7 @@ pub use Rattle.jn_lock_rows.proofs.Edits.{rephased-is}
 pub use Rattle.jn_base.specs.declared.names.OperationNo.{OperationNo}
 pub use Rattle.jn_base.specs.declared.names.FileNo.{FileNo}
 pub use Rattle.jn_base.specs.declared.names.LockUnit.TheVariants.{File, Block}
+pub use Rattle.jn_fields.specs.Names.{unit_in_range}
 pub use Rattle.jn_msgs.specs.declared.message.Note.TheVariants.{Broke, Ignored}
 pub use Rattle.jn_locks.specs.declared.words.Broken.{Broken as BrokenAt}
 pub use Rattle.jn_locks.specs.Asked.{LocksFit, Rebuilds, Exposes}

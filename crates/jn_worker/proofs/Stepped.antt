@@ -1,7 +1,7 @@
 -- A step without a message.
 use Rattle.jn_worker.proofs.Common.{◌≡◌, ℕ, Bool, true, false, List, [], ◌∷◌, Option, Some, None, refl, sym, ◌∙◌, ap, subst, arith, true≢false, Result, Ok, Err, is_ok, is_some, not, ◌||◌, slice_get, if◌then◌else◌, append-nil, Stopped, Tickets, WorkId, work_eq, Intention, Collected, Work, RowOutcome, quiet, StableState, Prepared, is_going, WorkerTable, work_at, new_work, carried_row, going_work, going_row, worker_step, intentions_of, are_rising, is_in, StorageView, intentions, state, next_of, Called, RecordErased, CountsErased, IsGoing, CallFault, Stops, Memory, WorkerView, Fits, TicketsFit, WorkFits, WorkListFits, seen, is_none, going_in, Takes, Steps, has_stopped, whole-stop}
 use Rattle.jn_rows.specs.Performing.{Performs}
-use Rattle.jn_records.specs.Reading.{Gives}
+use Rattle.jn_fields.specs.Reading.{Gives}
 use Rattle.jn_worker.proofs.Edits.{going_by_name}
 use Rattle.jn_worker.proofs.Counts.{counts_erased}
 use Rattle.jn_worker.proofs.Exits.{called-within}

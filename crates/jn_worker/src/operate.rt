@@ -11,7 +11,7 @@ ghost use Rattle.jn_base.specs.Ops.{BlockInRange};
 ghost use Rattle.jn_storage.specs.DeviceCalls.{prepare_calls};
 ghost use Rattle.jn_locks.specs.declared.words.Mode.TheVariants as modes;
 ghost use Rattle.jn_msgs.specs.declared.message.Message.TheVariants as messages;
-ghost use Rattle.jn_records.specs.Reading.{Gives};
+ghost use Rattle.jn_fields.specs.Reading.{Gives};
 ghost use Rattle.jn_rows.specs.declared.worker.ActiveWork.{ActiveWork};
 ghost use Rattle.jn_rows.specs.Worker as rows;
 ghost use Rattle.jn_lock_rows.specs.Calls.{IsActive};

@@ -1,7 +1,7 @@
 //! Finding works in a list of them, and changing one.
 ghost use Rattle.std.specs.Prelude.{◌≡◌, filter, not};
 ghost use Rattle.jn_base.specs.Names.{work_eq};
-ghost use Rattle.jn_records.specs.Reading.{Gives};
+ghost use Rattle.jn_fields.specs.Reading.{Gives};
 ghost use Rattle.jn_locks.specs.declared.words.Mode.TheVariants.{Commit};
 ghost use Rattle.jn_locks.specs.Locks.{is_unit};
 ghost use Rattle.jn_rows.specs.Worker as rows;

@@ -1,8 +1,8 @@
 -- How many map pages heads name at most, whatever stands on their pages.
 use Rattle.jn_wrong.proofs.Common.{◌≡◌, ◌≤◌, ◌*◌, ℕ, zero, suc, Bool, true, false, List, ◌∷◌, length, Option, None, Some, refl, arith, if◌then◌else◌, nat_lt, nat_eq, Counts, heads_on, head_on, head_or_free, listed, Head, FreeHead, Used, FileNo, count_by-le-length, head_blocks, most_maps, map_count, maps_named, Pages}
 unfoldable use Rattle.jn_records.specs.Heads.{head_at, used_at, maps_at}
-use Rattle.jn_records.specs.Reading.{◌>>=◌, number_at}
-unfoldable use Rattle.jn_records.specs.Reading.{list_at}
+use Rattle.jn_fields.specs.Reading.{◌>>=◌, number_at}
+unfoldable use Rattle.jn_fields.specs.Reading.{list_at}
 
 -- ---- what is read of a list
 

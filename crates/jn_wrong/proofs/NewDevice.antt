@@ -6,7 +6,7 @@ use Rattle.jn_disks.proofs.NewStores.{new_is}
 use Rattle.jn_page_state.specs.Images.{CountsFit, IsFresh}
 use Rattle.jn_records.specs.Heads.{head_at}
 use Rattle.jn_records.specs.Pages.{root_page}
-use Rattle.jn_records.specs.Reading as reading
+use Rattle.jn_fields.specs.Reading as reading
 use Rattle.jn_records.specs.Records.{record_at}
 use Rattle.jn_wrong.proofs.Pairs.{the_counts}
 

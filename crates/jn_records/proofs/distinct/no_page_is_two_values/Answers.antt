@@ -1,6 +1,5 @@
 use Rattle.jn_records.proofs.Common.{◌≡◌, Option, Some, refl, replicate, sym, ◌∙◌, root_page, head_page, record_page}
-use Rattle.jn_records.proofs.Fields.{value_is}
-use Rattle.jn_records.proofs.Roots.{root_is_read}
+use Rattle.jn_records.proofs.Roots.{root_is_read, value_is}
 use Rattle.jn_records.proofs.Heads.{head_is_read}
 use Rattle.jn_records.proofs.RecordsAgain.{record_is_read}
 use Rattle.jn_records.proofs.distinct.no_page_is_two_values.Goals as goal

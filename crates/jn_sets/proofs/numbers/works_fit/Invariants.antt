@@ -1,5 +1,4 @@
-use Rattle.jn_sets.proofs.Common.{drop, AllByRecursion}
-use Rattle.jn_records.specs.Names.{WorkFits}
+use Rattle.jn_sets.proofs.Common.{drop, AllByRecursion, WorkFits}
 use Rattle.jn_sets.proofs.numbers.works_fit.Given as goal
 
 -- all fit where the others do

@@ -1,6 +1,5 @@
 use Rattle.jn_records.proofs.Common.{◌≡◌, Some, replicate, ap, sym, subst, ◌∙◌, Root, root_page, IsRoot}
-use Rattle.jn_records.proofs.Fields.{value_is}
-use Rattle.jn_records.proofs.Roots.{root_is_read}
+use Rattle.jn_records.proofs.Roots.{root_is_read, value_is}
 use Rattle.jn_records.proofs.root.Root.decode.Goals as goal
 
 pub returns-in_err-root-clause-only : goal.returns-in_err-root-clause-only

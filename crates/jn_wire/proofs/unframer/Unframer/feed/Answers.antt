@@ -1,7 +1,15 @@
-use Rattle.std.proofs.Common.{◌≡◌, refl, rules, sym, ◌∙◌, ap}
+use Rattle.std.proofs.Common.{◌≡◌, length, refl, rules, sym, ◌∙◌, ap}
 use Rattle.std.specs.Prelude.{None}
-use Rattle.jn_wire.proofs.Feeding.{at-error, keeps-fault, lacks-memory, meets-fault, stops-there}
+use Rattle.jn_wire.proofs.Feeding.{at-error, has-places, keeps-fault, lacks-memory, meets-fault, stops-there}
 use Rattle.jn_wire.proofs.unframer.Unframer.feed.Goals as goal
+
+pub read-requires-clause-place : goal.read-requires-clause-place
+read-requires-clause-place c =
+    let none : c.self.inside.fault ≡ None = search rules in
+    has-places c.args.self.now (length c.args.piece.now) c.self.inside.unfinished.at c.self.inside.unfinished.bytes.items
+    (ap (λ x. x.over) (sym c.self.view_is) ∙ c.if-self.false)
+    (ap (λ x. x.held) (sym c.self.view_is) ∙ ap (λ f. record { at = c.self.inside.unfinished.at; bytes = c.self.inside.unfinished.bytes.items; fault = f }) none)
+    c.requires.place
 
 pub returns-in-Some-clause-fed : goal.returns-in-Some-clause-fed
 returns-in-Some-clause-fed c = keeps-fault c.args.self.now c.args.piece.now c.args.out.now.items c.in-Some.fault (ap (λ x. x.over) (sym c.self.view_is) ∙ c.if-self.false) (ap (λ x. x.held.fault) (sym c.self.view_is) ∙ c.in-Some.is)

@@ -1,8 +1,8 @@
-//! Fields read from the front of bytes.
-ghost use Rattle.std.specs.Prelude.{◌≡◌, ◌↔◌, IsTrue};
-ghost use Rattle.jn_records.specs.Reading.{Gives, number_at, bytes_at};
+//! Numbers and bytes read from the front of bytes.
+ghost use Rattle.std.specs.Prelude.{◌≡◌};
+ghost use Rattle.jn_fields.specs.Reading.{Gives, number_at, bytes_at};
 
-use jn_base::{Page, take_bytes, take_u8, take_u16, take_u32};
+use jn_base::{take_bytes, take_u8, take_u16, take_u32};
 
 #[tactic(auto, unfolding(crate::specs::Reading::number_at))]
 pub fn u8_at(bytes: &[u8]) -> Option<(u8, &[u8])>
@@ -30,11 +30,4 @@ pub fn bytes_at(bytes: &[u8], n: usize) -> Option<(&[u8], &[u8])>
     ensures { Gives (λ r. (r.0.now, r.1.now)) result (bytes_at n bytes.now) }
 {
     take_bytes(bytes, n)
-}
-
-/// Whether two pages have the same bytes.
-pub fn same_page(a: &Page, b: &Page) -> bool
-    ensures { IsTrue result ↔ (a.now ≡ b.now) }
-{
-    a == b
 }

@@ -1,11 +1,12 @@
 -- The names of transactions and works, and lock units, as bytes and as they are read.
-use Rattle.std.specs.Prelude.{◌<◌, ◌^◌, ◌++◌, ℕ, List, Option, Some, nat_eq, if◌then◌else◌}
+use Rattle.std.specs.Prelude.{◌<◌, ◌^◌, ◌++◌, ℕ, Bool, true, not, List, Option, Some, nat_eq, nat_lt, if◌then◌else◌}
 use Rattle.byteorder.specs.Endian.{big_bytes}
+use Rattle.jn_base.specs.Limits.{most_blocks}
 use Rattle.jn_base.specs.declared.names.Tid.{Tid}
 use Rattle.jn_base.specs.declared.names.WorkId.{WorkId}
 use Rattle.jn_base.specs.declared.names.LockUnit.{LockUnit}
 use Rattle.jn_base.specs.declared.names.LockUnit.TheVariants.{File, Block}
-use Rattle.jn_records.specs.Reading.{◌>>=◌, number_at}
+use Rattle.jn_fields.specs.Reading.{◌>>=◌, number_at}
 
 abbrev pub tid_bytes : Tid → List ℕ
 tid_bytes t = big_bytes 1 t.server.0 ++ big_bytes 4 t.epoch ++ big_bytes 4 t.ticket
@@ -18,7 +19,8 @@ abbrev pub unit_bytes : LockUnit → List ℕ
 unit_bytes (File f) = big_bytes 4 f.0 ++ big_bytes 2 65535
 unit_bytes (Block f p) = big_bytes 4 f.0 ++ big_bytes 2 p.0
 
--- numbers of their types
+-- ---- numbers of their types
+
 pub record TidFits (t : Tid) : Type 0 where
   pub server : t.server.0 < 2 ^ 8
   pub epoch : t.epoch < 2 ^ 32
@@ -28,6 +30,22 @@ pub record WorkFits (w : WorkId) : Type 0 where
   pub server : w.server.0 < 2 ^ 8
   pub epoch : w.epoch < 2 ^ 32
   pub ticket : w.ticket < 2 ^ 32
+
+abbrev pub UnitFits : LockUnit → Type 0
+UnitFits (File f) = f.0 < 2 ^ 32
+UnitFits (Block f p) = (f.0 < 2 ^ 32) × (p.0 < 2 ^ 16)
+
+-- a block doesn't have the number that stands for its file
+abbrev pub unit_has_page : LockUnit → Bool
+unit_has_page (File f) = true
+unit_has_page (Block f p) = not (nat_eq p.0 65535)
+
+-- a file, or a block that a file may have
+abbrev pub unit_in_range : LockUnit → Bool
+unit_in_range (File f) = true
+unit_in_range (Block f p) = nat_lt p.0 most_blocks
+
+-- ---- reading
 
 unfoldable pub tid_at : List ℕ → Option (Tid × List ℕ)
 tid_at bytes = do

@@ -1,6 +1,14 @@
--- Names, units and intentions are read again from their bytes.
-use Rattle.jn_records.proofs.Common.{◌≡◌, ◌<◌, ◌^◌, ℕ, true, false, List, ◌++◌, length, Some, refl, ap, ◌∙◌, arith, nat_eq, nat_tests, big_bytes, LockUnit, File, Block, Tid, WorkId, What, Fresh, Gone, Cut, Put, StoredIntention, tid_bytes, work_bytes, unit_bytes, TidFits, WorkFits, tid_at, work_at, unit_at, what_code, what_of, intention_bytes, IntentionFits, intention_at, UnitFits, unit_has_page}
-use Rattle.jn_records.proofs.Fields.{number_again}
+-- Names and units are read again from their bytes.
+use Rattle.std.proofs.Common.{◌≡◌, ℕ, true, false, List, ◌++◌, length, Some, refl, ap, ◌∙◌, arith}
+use Rattle.std.specs.Prelude.{nat_eq}
+use Rattle.std.proofs.lemmas.Bool.Decides.{nat_tests}
+use Rattle.byteorder.specs.Endian.{big_bytes}
+use Rattle.jn_base.specs.declared.names.LockUnit.{LockUnit}
+use Rattle.jn_base.specs.declared.names.LockUnit.TheVariants.{File, Block}
+use Rattle.jn_base.specs.declared.names.Tid.{Tid}
+use Rattle.jn_base.specs.declared.names.WorkId.{WorkId}
+use Rattle.jn_fields.specs.Names.{tid_bytes, work_bytes, unit_bytes, TidFits, WorkFits, UnitFits, unit_has_page, tid_at, work_at, unit_at}
+use Rattle.jn_fields.proofs.Fields.{number_again}
 
 pub length-unit : (u : LockUnit) → length (unit_bytes u) ≡ 6
 length-unit (File f) = refl
@@ -37,25 +45,3 @@ unit_again (Block f p) rest is =
     let regrouped : unit_bytes (Block f p) ++ rest ≡ big_bytes 4 f.0 ++ behind = refl in
     let other : nat_eq p.0 65535 ≡ false = grind (arith, nat_tests, is.1) in
     ap unit_at regrouped ∙ rw (number_again 4 f.0 behind is.0.0, number_again 2 p.0 rest is.0.1, other) refl
-
-what_again : (w : What) → what_of (what_code w) ≡ Some w
-what_again Fresh = refl
-what_again Gone = refl
-what_again Cut = refl
-what_again Put = refl
-
-code_small : (w : What) → what_code w < 256 ^ 1
-code_small Fresh = omega arith
-code_small Gone = omega arith
-code_small Cut = omega arith
-code_small Put = omega arith
-
-pub intention_again : (i : StoredIntention) (rest : List ℕ) → IntentionFits i → intention_at (intention_bytes i ++ rest) ≡ Some (i, rest)
-unfolding intention_at
-intention_again i rest fits =
-    let after_address = big_bytes 2 i.map ++ rest in
-    let after_block = big_bytes 2 i.address ++ after_address in
-    let after_file = big_bytes 2 i.block.0 ++ after_block in
-    let after_what = big_bytes 4 i.file.0 ++ after_file in
-    let regrouped : intention_bytes i ++ rest ≡ big_bytes 1 (what_code i.what) ++ after_what = refl in
-    ap intention_at regrouped ∙ rw (number_again 1 (what_code i.what) after_what (code_small i.what), what_again i.what, number_again 4 i.file.0 after_file fits.file, number_again 2 i.block.0 after_block fits.block, number_again 2 i.address after_address fits.address, number_again 2 i.map rest fits.map) refl

@@ -1,6 +1,6 @@
-use Rattle.jn_records.proofs.Common.{list_at}
-use Rattle.jn_records.proofs.Lists.{goes_on, ends, is_done}
-use Rattle.jn_records.proofs.list.list_at.Goals as goal
+use Rattle.jn_fields.specs.Reading.{list_at}
+use Rattle.jn_fields.proofs.Lists.{goes_on, ends, is_done}
+use Rattle.jn_fields.proofs.field.list_at.Goals as goal
 
 pub returns-in_default : goal.returns-in_default
 returns-in_default g c = ends g.F.Field.read c.loop.list.items c.args.count c.loop.counter c.loop.rest.now (list_at g.F.Field.read c.args.count c.args.bytes.now) c.loop-test.true c.in_default.ensures c.loop.invariant

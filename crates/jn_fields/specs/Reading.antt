@@ -1,7 +1,6 @@
 -- Fields read from the front of bytes: each is a value and the bytes behind it, where there are enough.
 use Rattle.std.specs.Prelude.{◌≡◌, ℕ, zero, suc, List, [], ◌∷◌, length, take, drop, Option, Some, None, nat_lt, if◌then◌else◌}
 use Rattle.byteorder.specs.Endian.{big_number}
-use Rattle.jn_records.specs.declared.root.Root.{Root}
 
 infixl 10 ◌>>=◌
 abbrev pub ◌>>=◌ : {A B : Type 0} → Option A → (A → Option B) → Option B
@@ -18,18 +17,6 @@ number_at n bytes = if nat_lt (length bytes) n then None else Some (big_number n
 
 unfoldable pub bytes_at : ℕ → List ℕ → Option (List ℕ × List ℕ)
 bytes_at n bytes = if nat_lt (length bytes) n then None else Some (take n bytes, drop n bytes)
-
--- the fields of a root, behind the four bytes of the format's name
-unfoldable pub root_at : List ℕ → Option (Root × List ℕ)
-root_at page = do
-  begin ← bytes_at 4 page
-  version ← number_at 1 begin.1
-  server ← number_at 1 version.1
-  pool ← number_at 2 server.1
-  heads ← number_at 2 pool.1
-  leaves ← number_at 2 heads.1
-  epoch ← number_at 4 leaves.1
-  Some (record { version = version.0; server = record { 0 = server.0 }; pool = pool.0; heads = heads.0; leaves = leaves.0; epoch = epoch.0 }, epoch.1)
 
 -- so many values of one kind, one after another
 unfoldable pub list_at : {X : Type 0} → (List ℕ → Option (X × List ℕ)) → ℕ → List ℕ → Option (List X × List ℕ)
