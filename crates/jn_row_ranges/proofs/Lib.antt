@@ -7,3 +7,6 @@ pub mod NamedByCoordinators
 pub mod ServerRows
 pub mod WorldSteps
 pub mod WorldNumbers
+pub mod WorkerFits
+pub mod CoordinatorFits
+pub mod Lightening

@@ -1,9 +1,5 @@
 -- A coordinator names servers that there are.
-use Rattle.jn_row_ranges.proofs.Common.{◌≡◌, ℕ, Bool, true, false, List, [], ◌∷◌, ◌++◌, length, Some, refl, subst, arith, ◌&&◌, not, if◌then◌else◌, nat_lt, ClientNo, Tid, WorkId, Tickets, tid_eq, Message, Transaction, Stage, Open, Voting, Committed, Aborted, Change, RowOutcome, Sent, CoordinatorTable, transaction_at, with_stage, without, besides, drops, commits, prepares, after_closing, begun_by, coordinator_row, told_again, coordinator_again, close_clients_row, are_near, is_few, is_small_stage, is_near, are_both_near, names_near, are_within, is_transaction_within, are_transactions_within, are_changes_within, IsListed, WantsEnd, wants_to_commit, wants_to_abort, WantsOutcome, wants_outcome, votes_late, Saying, says_nothing, says_begun, says_unknown, prepares_again, says_committed, says_aborted, says_commit, says_drop, says_waiting, Committing, has_no_works, is_last_vote, Aborting, finds_no_record, stops_open, stops_voting, work_is_lost, work_is_broken, work_has_no_room, Noting, work_is_done, client_thanks, CoordinatorCase, is_ignored_by, is_left_by, begins_anew, finds_no_room, starts_voting, counts_vote, is_committed_by, is_aborted_by, notes_commit, forgets_commit, forgets_abort, coordinator-case}
-use Rattle.jn_base.specs.declared.names.Cause.{Cause}
-use Rattle.jn_rows.specs.declared.coordinator.Committed.{Committed as Commitment}
-use Rattle.jn_base.specs.declared.names.RequestNo.{RequestNo}
-use Rattle.jn_system.proofs.WholeSystem.Closes.{Closes, Empty, Stays, Goes, Waits, Forgets, client-closes, outcomes-close}
+use Rattle.jn_row_ranges.proofs.Common.{◌≡◌, ℕ, Bool, true, false, List, [], ◌∷◌, ◌++◌, length, Some, refl, subst, arith, ◌&&◌, not, if◌then◌else◌, nat_lt, ClientNo, Tid, WorkId, Tickets, tid_eq, Message, Transaction, Stage, Open, Voting, Committed, Aborted, Change, RowOutcome, Sent, CoordinatorTable, transaction_at, with_stage, without, besides, drops, commits, prepares, after_closing, begun_by, coordinator_row, told_again, coordinator_again, close_clients_row, are_near, is_few, is_small_stage, is_near, are_both_near, names_near, are_within, is_transaction_within, are_transactions_within, are_changes_within, IsListed, WantsEnd, wants_to_commit, wants_to_abort, WantsOutcome, wants_outcome, votes_late, Saying, says_nothing, says_begun, says_unknown, prepares_again, says_committed, says_aborted, says_commit, says_drop, says_waiting, Committing, has_no_works, is_last_vote, Aborting, finds_no_record, stops_open, stops_voting, work_is_lost, work_is_broken, work_has_no_room, Noting, work_is_done, client_thanks, CoordinatorCase, is_ignored_by, is_left_by, begins_anew, finds_no_room, starts_voting, counts_vote, is_committed_by, is_aborted_by, notes_commit, forgets_commit, forgets_abort, coordinator-case, Cause, Commitment, RequestNo, Closes, Empty, Stays, Goes, Waits, Forgets, client-closes, outcomes-close}
 
 -- ---- lists of works
 

@@ -1,7 +1,5 @@
 -- A worker names servers that there are.
-use Rattle.jn_row_ranges.proofs.Common.{◌≡◌, ℕ, true, List, [], ◌∷◌, ◌++◌, Option, Some, None, refl, subst, arith, Tid, WorkId, Tickets, Message, StableState, Change, RowOutcome, Sent, is_near, are_both_near, names_near, are_within, are_works_within, are_changes_within, WorkerTable, WorkStorage, Wanted, work_of, with_phase, after_grant, commit_wants, worker_row, going_work, worker_step, worker_again, timed_out, vulnerable, new_work, name_from, its_wants, Replies, is_open_already, is_full, votes_against, votes_broken, votes_again, votes_lost, is_done_already, WorkerCase, none_done, replies_only, opens_anew, refuses_next, performs_next, prepares_it, marks_it, drops_it, removes_it, WorkerStep, carries_out, is_over, erases_rubbish, worker-case, worker-step-case}
-use Rattle.jn_rows.specs.declared.worker.Work.{Work as WorkEntry}
-use Rattle.jn_rows.specs.declared.worker.Phase.{Phase}
+use Rattle.jn_row_ranges.proofs.Common.{◌≡◌, ℕ, true, List, [], ◌∷◌, ◌++◌, Option, Some, None, refl, subst, arith, Tid, WorkId, Tickets, Message, StableState, Change, RowOutcome, Sent, is_near, are_both_near, names_near, are_within, are_works_within, are_changes_within, WorkerTable, WorkStorage, Wanted, work_of, with_phase, after_grant, commit_wants, worker_row, going_work, worker_step, worker_again, timed_out, vulnerable, new_work, name_from, its_wants, Replies, is_open_already, is_full, votes_against, votes_broken, votes_again, votes_lost, is_done_already, WorkerCase, none_done, replies_only, opens_anew, refuses_next, performs_next, prepares_it, marks_it, drops_it, removes_it, WorkerStep, carries_out, is_over, erases_rubbish, worker-case, worker-step-case, WorkEntry, Phase}
 use Rattle.jn_rows.specs.Worker.{work_at, without}
 
 -- ---- the works of a table

@@ -1,5 +1,6 @@
 -- Servers send no requests, and draw a name only with a message.
-use Rattle.jn_row_ranges.proofs.Common.{◌≡◌, ℕ, ◌+◌, true, List, [], ◌∷◌, ◌++◌, Some, refl, arith, ClientNo, Tid, WorkId, Tickets, Message, Transaction, Stage, Open, Voting, Committed, Aborted, StableState, RowOutcome, Sent, CoordinatorTable, besides, drops, commits, prepares, coordinator_row, told_again, coordinator_again, is_from_server, are_from_server, AreDrawn, WorkerTable, WorkStorage, worker_row, worker_step, worker_again, Replies, is_open_already, WorkerCase, replies_only, opens_anew, WorkerStep, erases_rubbish, worker-case, worker-step-case, Saying, says_nothing, says_unknown, prepares_again, CoordinatorCase, is_left_by, begins_anew, starts_voting, is_committed_by, is_aborted_by, coordinator-case}
+use Rattle.jn_row_ranges.proofs.Common.{◌≡◌, ℕ, true, List, [], ◌∷◌, ◌++◌, Some, refl, arith, ClientNo, Tid, WorkId, Tickets, Message, Transaction, Stage, Open, Voting, Committed, Aborted, StableState, RowOutcome, Sent, CoordinatorTable, besides, drops, commits, prepares, coordinator_row, told_again, coordinator_again, is_from_server, are_from_server, AreDrawn, WorkerTable, WorkStorage, worker_row, worker_step, worker_again, Replies, is_open_already, WorkerCase, replies_only, opens_anew, WorkerStep, erases_rubbish, worker-case, worker-step-case, Saying, says_nothing, says_unknown, prepares_again, CoordinatorCase, is_left_by, begins_anew, starts_voting, is_committed_by, is_aborted_by, coordinator-case}
+use Rattle.std.proofs.Common.{◌+◌}
 
 -- ---- lists of messages
 

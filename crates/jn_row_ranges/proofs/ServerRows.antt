@@ -1,6 +1,5 @@
 -- The rows of a server, as those of its two tables.
-use Rattle.jn_row_ranges.proofs.Common.{◌≡◌, ℕ, Bool, true, false, List, [], ◌∷◌, take, zero, suc, Option, Some, None, refl, sym, ◌∙◌, ap, subst, arith, ◌&&◌, if◌then◌else◌, ServerNo, Tid, WorkId, Tickets, Message, StableState, Prepared, FlagState, Change, AddReady, MarkGoing, RemoveWork, AddFlag, DropFlag, made_by, made_all, RowOutcome, coordinator_row, coordinator_again, close_clients_row, restored_transaction, restored_transactions, Memory, Room, storage_of, server_row, server_step, server_again, server_timeout, of_worker, of_coordinator, of_step, of_timeout, is_for_worker, restored, are_from_server, AreDrawn, is_few, is_near, are_both_near, names_near, are_within, are_works_within, are_transactions_within, is_change_within, are_changes_within, StateWithin, MemoryWithin, RowWithin, WorkerTable, work_of, worker_row, worker_step, worker_again, timed_out, restored_work, restored_worker}
-use Rattle.jn_base.proofs.Tells.{tid_tells, work_tells}
+use Rattle.jn_row_ranges.proofs.Common.{◌≡◌, ℕ, Bool, true, false, List, [], ◌∷◌, take, zero, suc, Option, Some, None, refl, sym, ◌∙◌, ap, subst, arith, ◌&&◌, if◌then◌else◌, ServerNo, Tid, WorkId, Tickets, Message, StableState, Prepared, FlagState, Change, AddReady, MarkGoing, RemoveWork, AddFlag, DropFlag, made_by, made_all, RowOutcome, coordinator_row, coordinator_again, close_clients_row, restored_transaction, restored_transactions, Memory, Room, storage_of, server_row, server_step, server_again, server_timeout, of_worker, of_coordinator, of_step, of_timeout, is_for_worker, restored, are_from_server, AreDrawn, is_few, is_near, are_both_near, names_near, are_within, are_works_within, are_transactions_within, is_change_within, are_changes_within, StateWithin, MemoryWithin, RowWithin, WorkerTable, work_of, worker_row, worker_step, worker_again, timed_out, restored_work, restored_worker, tid_tells, work_tells}
 use Rattle.jn_row_ranges.proofs.Sending.{IsPlain, both, worker-plain, step-plain, worker-again-are, coordinator-plain, coordinator-again-are}
 use Rattle.jn_row_ranges.proofs.NamedByWorkers.{worker-within, step-within, timeout-within, worker-again-within, more-works}
 use Rattle.jn_row_ranges.proofs.NamedByCoordinators.{coordinator-within, close-within, coordinator-again-within, sent-both, more-transactions}

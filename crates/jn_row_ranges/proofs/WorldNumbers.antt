@@ -1,5 +1,6 @@
 -- Each step of the whole system sends a message for each name and each number that it draws.
-use Rattle.jn_row_ranges.proofs.Common.{Left, ◌≡◌, ◌∙◌, sym, ◌≤◌, ℕ, ◌+◌, List, [], ◌∷◌, length, length-append, Option, Some, None, ap, subst, arith, ServerNo, ClientNo, Tickets, AllFiles, Taken, ClientTable, take_row, RowOutcome, Sent, Pick, stable, World, Memory, at_server, new_memory, opening, server_timeout, restored, Step, after, run, DrawsOne, AreCovered, Text, Message, one-server, one-client, ClientRow, by_command, by_ignoring, by_answering, by_telling, ServerRow, of_message, of_work, of_closing, StepCase, client_row, row_done, row_stopped, gone_late, gone_down, come_up, found_anew, dismissed, quietly, step-case}
+use Rattle.jn_row_ranges.proofs.Common.{Left, ◌≡◌, ◌∙◌, sym, ◌≤◌, ℕ, List, [], ◌∷◌, length, length-append, Option, Some, None, ap, subst, arith, ServerNo, ClientNo, Tickets, AllFiles, Taken, ClientTable, take_row, RowOutcome, Sent, Pick, stable, World, Memory, at_server, new_memory, opening, server_timeout, restored, Step, after, run, DrawsOne, AreCovered, Text, Message, one-server, one-client, ClientRow, by_command, by_ignoring, by_answering, by_telling, ServerRow, of_message, of_work, of_closing, StepCase, client_row, row_done, row_stopped, gone_late, gone_down, come_up, found_anew, dismissed, quietly, step-case}
+use Rattle.std.proofs.Common.{◌+◌}
 use Rattle.jn_rows.specs.declared.client.Taken.TheVariants as taken
 use Rattle.jn_system.proofs.WholeSystem.Grows.{Grows, grows}
 use Rattle.jn_row_ranges.proofs.Taking.{command-draws, take-number}

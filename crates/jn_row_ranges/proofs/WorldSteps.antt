@@ -1,6 +1,5 @@
 -- Each step of the whole system leaves what is named at the servers that there are.
-use Rattle.jn_row_ranges.proofs.Common.{◌≡◌, ◌<◌, ℕ, Bool, true, false, List, [], ◌∷◌, ◌++◌, zero, suc, Option, Some, None, refl, subst, arith, ◌&&◌, if◌then◌else◌, slice_get, nat_tests, ServerNo, ClientNo, server_eq, AllFiles, Message, Outstanding, Taken, ClientTable, take_row, sent_again, RowOutcome, Sent, StableState, Prepared, FlagState, Pick, made_all, stable, World, Memory, at_server, new_memory, opening, server_timeout, restored, Step, after, run, sent_now, sent_for, is_near, names_near, is_within, are_within, is_again_within, ClientWithin, CommandWithin, StateWithin, MemoryWithin, RowWithin, Within, Text, one-server, one-found, one-client, ClientRow, by_command, by_ignoring, by_answering, by_telling, ServerRow, of_message, of_work, of_closing, FoundThen, by_narrowing, by_raising, Quiet, client_repeats, server_repeats, StepCase, client_row, row_done, row_stopped, gone_late, gone_down, come_up, found_anew, dismissed, quietly, step-case, with_epoch, Left, left_of}
-use Rattle.jn_base.specs.declared.names.Party.TheVariants.{Client, Server}
+use Rattle.jn_row_ranges.proofs.Common.{◌≡◌, ◌<◌, ℕ, Bool, true, false, List, [], ◌∷◌, ◌++◌, zero, suc, Option, Some, None, refl, subst, arith, ◌&&◌, if◌then◌else◌, slice_get, nat_tests, ServerNo, ClientNo, server_eq, AllFiles, Message, Outstanding, Taken, ClientTable, take_row, sent_again, RowOutcome, Sent, StableState, Prepared, FlagState, Pick, made_all, stable, World, Memory, at_server, new_memory, opening, server_timeout, restored, Step, after, run, sent_now, sent_for, is_near, names_near, is_within, are_within, is_again_within, ClientWithin, CommandWithin, StateWithin, MemoryWithin, RowWithin, Within, Text, one-server, one-found, one-client, ClientRow, by_command, by_ignoring, by_answering, by_telling, ServerRow, of_message, of_work, of_closing, FoundThen, by_narrowing, by_raising, Quiet, client_repeats, server_repeats, StepCase, client_row, row_done, row_stopped, gone_late, gone_down, come_up, found_anew, dismissed, quietly, step-case, with_epoch, Left, left_of, Client, Server}
 use Rattle.jn_rows.specs.declared.client.Taken.TheVariants as taken
 use Rattle.jn_row_ranges.proofs.NamedByClients.{new-within, command-within, take-within, over-within}
 use Rattle.jn_row_ranges.proofs.NamedByCoordinators.{sent-both}

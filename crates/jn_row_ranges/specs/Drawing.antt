@@ -1,11 +1,19 @@
 -- Names and numbers of requests that are drawn: never more than messages are sent.
-use Rattle.std.specs.Prelude.{◌≡◌, ◌≤◌, ◌+◌, ⊤, List, length, Some}
+use Rattle.std.specs.Prelude.{◌≡◌, ◌≤◌, ◌+◌, ⊤, Bool, true, false, List, length, Some}
 use Rattle.jn_base.specs.declared.names.ClientNo.{ClientNo}
 use Rattle.jn_base.specs.declared.names.ServerNo.{ServerNo}
 use Rattle.jn_base.specs.declared.names.Tickets.{Tickets}
+use Rattle.jn_msgs.specs.declared.message.Message.{Message}
+use Rattle.jn_msgs.specs.declared.message.Message.TheVariants.{Begin, Open}
 use Rattle.jn_rows.specs.Client.{ClientTable, Commanded, Refuses, Sends}
 use Rattle.jn_rows.specs.Outcomes.{Sent}
 use Rattle.jn_system.specs.WholeSystem.World.{World, Memory}
+
+-- a Begin may draw a transaction's name, and an Open a work's
+abbrev pub draws : Message → Bool
+draws (Begin client request) = true
+draws (Open client request T) = true
+draws message = false
 
 -- these tickets are as those, but for names that were drawn since, no more than these messages
 pub record AreDrawn (before : Tickets) (sent : List Sent) (after : Tickets) : Type 0 where

@@ -2,3 +2,5 @@ pub mod Taking
 pub mod Drawing
 pub mod Naming
 pub mod Within
+pub mod Sizes
+pub mod Weighing

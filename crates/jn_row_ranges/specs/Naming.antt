@@ -1,12 +1,10 @@
 -- Whatever is named is at one of so many servers: in messages, in tables and in what is stable.
-use Rattle.std.specs.Prelude.{◌≡◌, ℕ, Bool, true, nat_lt, ◌&&◌, ⊤, List, [], ◌∷◌, Option, Some, None}
-use Rattle.jn_base.specs.declared.names.ServerNo.{ServerNo}
+use Rattle.std.specs.Prelude.{◌≡◌, ℕ, Bool, true, ◌&&◌, ⊤, List, [], ◌∷◌, Option, Some, None}
 use Rattle.jn_base.specs.declared.names.Tid.{Tid}
 use Rattle.jn_base.specs.declared.names.WorkId.{WorkId}
 use Rattle.jn_base.specs.declared.names.Party.{Party}
 use Rattle.jn_base.specs.declared.names.Party.TheVariants.{Client, Server}
-use Rattle.jn_msgs.specs.declared.message.Message.{Message}
-use Rattle.jn_msgs.specs.declared.message.Message.TheVariants.{Open, Op, End, Abort, Thanks, Begun, Opened, Outcome, Prepare, Commit, Drop, Vote, Done, Inquire}
+use Rattle.jn_msgs.specs.Ranges.{is_near, is_any_near, are_both_near, is_few, names_near}
 use Rattle.jn_rows.specs.declared.client.Outstanding.{Outstanding}
 use Rattle.jn_rows.specs.declared.coordinator.Transaction.{Transaction}
 use Rattle.jn_rows.specs.Client.{ClientTable, Commanded, Refuses, Sends}
@@ -14,48 +12,13 @@ use Rattle.jn_rows.specs.ClientLaws.{IsClient}
 use Rattle.jn_rows.specs.Outcomes.{Sent}
 use Rattle.jn_rows.specs.Stable.{StableState, Prepared, FlagState, Change, AddReady, AddFlag}
 use Rattle.jn_rows.specs.Worker.{WorkerTable}
-use Rattle.jn_system.specs.WholeSystem.Near.{is_few, is_small_stage}
-
--- ---- names
-
-abbrev pub is_near : ℕ → ServerNo → Bool
-is_near servers s = nat_lt s.0 servers
-
-abbrev pub is_any_near : ℕ → Option Tid → Bool
-is_any_near servers None = true
-is_any_near servers (Some T) = is_near servers T.server
-
-abbrev pub is_any_work_near : ℕ → Option WorkId → Bool
-is_any_work_near servers None = true
-is_any_work_near servers (Some W) = is_near servers W.server
+use Rattle.jn_system.specs.WholeSystem.Near.{is_small_stage}
 
 -- ---- messages
 
 abbrev pub is_for_near : ℕ → Party → Bool
 is_for_near servers (Client c) = true
 is_for_near servers (Server s) = is_near servers s
-
-abbrev pub are_both_near : ℕ → Tid → WorkId → Bool
-are_both_near servers T W = is_near servers T.server && is_near servers W.server
-
--- The transaction and the works of a message; an End and an Abort name no more works than there are servers. What an answer
--- or an outcome says of other transactions is for lines alone.
-abbrev pub names_near : ℕ → Message → Bool
-names_near servers (Open c request T) = is_near servers T.server
-names_near servers (Op c request W number op) = is_near servers W.server
-names_near servers (End c request T works) = is_near servers T.server && is_few servers works
-names_near servers (Abort c request T works) = is_near servers T.server && is_few servers works
-names_near servers (Thanks c T) = is_near servers T.server
-names_near servers (Begun c request T) = is_any_near servers T
-names_near servers (Opened c request T W) = is_near servers T.server && is_any_work_near servers W
-names_near servers (Outcome c T outcome) = is_near servers T.server
-names_near servers (Prepare T c W) = are_both_near servers T W
-names_near servers (Commit T W) = are_both_near servers T W
-names_near servers (Drop T W) = are_both_near servers T W
-names_near servers (Vote T W vote) = are_both_near servers T W
-names_near servers (Done T W) = are_both_near servers T W
-names_near servers (Inquire T W) = are_both_near servers T W
-names_near servers message = true
 
 abbrev pub is_within : ℕ → Sent → Bool
 is_within servers x = is_for_near servers x.0 && names_near servers x.1

@@ -1,5 +1,6 @@
 //! What holds of each row by itself, whatever happened before: what is sent can be taken by any server, a name or a number is
 //! drawn only with a message, and what is named is at a server that there is. So it is after every run of the whole system.
+//! And a server leaves less to do than the message that it took.
 #![tactic(auto)]
 
 mod clients;
@@ -14,5 +15,6 @@ pub use names::{
 };
 pub use runs::{names_are_fewer_than_messages, names_are_within};
 pub use servers::{
-    a_name_goes_with_a_message, a_server_sends_no_request, what_a_server_sends_can_be_taken,
+    a_name_goes_with_a_message, a_server_lightens, a_server_sends_no_request,
+    only_a_beginning_draws_a_name, what_a_server_sends_can_be_taken,
 };

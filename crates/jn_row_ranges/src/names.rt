@@ -13,7 +13,8 @@ ghost use Rattle.jn_rows.specs.Outcomes.{RowOutcome};
 ghost use Rattle.jn_rows.specs.Stable.{StableState, Change, made_all};
 ghost use Rattle.jn_system.specs.WholeSystem.Servers.{Room, server_row, server_step, server_again, server_timeout, of_coordinator, restored};
 ghost use Rattle.jn_system.specs.WholeSystem.World.{Memory};
-ghost use Rattle.jn_row_ranges.specs.Naming.{is_near, names_near, are_within, are_changes_within, ClientWithin, CommandWithin, StateWithin};
+ghost use Rattle.jn_msgs.specs.Ranges.{is_near, names_near};
+ghost use Rattle.jn_row_ranges.specs.Naming.{are_within, are_changes_within, ClientWithin, CommandWithin, StateWithin};
 ghost use Rattle.jn_row_ranges.specs.Taking.{sent_for};
 ghost use Rattle.jn_row_ranges.specs.Within.{MemoryWithin, RowWithin};
 

@@ -22,5 +22,5 @@ pub use Rattle.jn_index.specs.Numbers.{number_at, IsSlotFrom}
 pub use Rattle.indexmap.specs.IndexMap.{IndexMap, set_value_at, insert_entry}
 pub use Rattle.indexmap.proofs.CallerLemmas.{insert_entry-new, index_map_len-with_value_at}
 pub use Rattle.std.proofs.lemmas.Option.{get_or_from_slice_get, slice_get-get_or, unwrap_or-slice_get}
-pub use Rattle.std.specs.Option.{unwrap_or}
 pub use Rattle.jn_fields.specs.Names.{UnitFits, WorkFits}
+pub use Rattle.std.specs.Option.{unwrap_or}

@@ -6,7 +6,8 @@ use Rattle.jn_net.specs.declared.Sent.{Sent as Posted}
 use Rattle.jn_world_refines.specs.Waiting.{Carries}
 use Rattle.jn_rows.specs.Outcomes.{Sent}
 use Rattle.jn_system.specs.WholeSystem.Course.{Course}
-use Rattle.jn_system_settling.specs.Settling.Weights.{goings, goings_at, sum_over, going_works}
+use Rattle.jn_row_ranges.specs.Weighing.{goings}
+use Rattle.jn_system_settling.specs.Settling.Weights.{goings_at, sum_over, going_works}
 use Rattle.jn_bounds.specs.Settles.{IsWithinBound, over as over_course}
 use Rattle.jn_settles.specs.Bounded.{how_many_wait, how_many_wait_no_more, goings_on, goings_of, most_messages_of_a_settle, IsBoundedWorld}
 

@@ -3,7 +3,8 @@ use Rattle.jn_settles.proofs.Common.{◌≡◌, ℕ, zero, suc, ◌<◌, Bool, t
 use Rattle.std.proofs.lemmas.Bool.Decides.{nat_tests}
 use Rattle.jn_base.specs.Names.{work_eq}
 use Rattle.jn_rows.specs.Worker.{WorkerTable, work_at}
-use Rattle.jn_row_ranges.specs.Naming.{are_works_within, are_both_near, is_near}
+use Rattle.jn_msgs.specs.Ranges.{is_near, are_both_near}
+use Rattle.jn_row_ranges.specs.Naming.{are_works_within}
 
 pub some-at : {A : Type 0} (xs : List A) (n : ℕ) → n < length xs → (x : A) × (slice_get xs n ≡ Some x)
 some-at [] n lt = absurd (omega (arith, lt))

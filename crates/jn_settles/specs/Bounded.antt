@@ -9,7 +9,7 @@ use Rattle.jn_rows.specs.Stable.{stable}
 use Rattle.jn_server.specs.Seen.{view_with, memory_of}
 use Rattle.jn_world_refines.specs.Stands.{Standing}
 use Rattle.jn_store.specs.Store.{StoreView}
-use Rattle.jn_system_settling.specs.Settling.Weights.{goings}
+use Rattle.jn_row_ranges.specs.Weighing.{goings}
 
 -- how many messages wait, and how many were sent and don't wait any more
 abbrev pub how_many_wait : Carried → ℕ

@@ -10,8 +10,8 @@ pub use Rattle.jn_msgs.specs.declared.message.Message.{Message}
 pub use Rattle.jn_rows.specs.Outcomes.{RowOutcome, Sent, sends as sends_row, ignored as ignored_row, quiet, ignored}
 pub use Rattle.jn_rows.specs.Worker.{WorkerTable, WorkStorage, worker_row, work_of, new_work, open_row, Wanted, work_at, with_phase, without, break_notes, breaks_at, broken_by, note_of, after_grant, granted_row, repeated, op_phase, op_row, refusal_of, wants_of, is_fit, commit_wants, conflict, vote_of, shortage, need_in, prepared_row, prepare_phase, prepare_row, commit_phase, drop_phase, drop_row, worker_step, going_work, going_row, carried_row, intentions_of, timed_out, timeout_row, vulnerable, written_unit, restored_work, restored_worker, Asked, worker_again, voted as voted_row, performed, by_number, Asked as AskedOp, Here}
 pub use Rattle.jn_rows.specs.Coordinator.{CoordinatorTable, besides, drops, commits, prepares, coordinator_row, transaction_at, abort_stage, abort_request, aborted_to, after_closing, changes_of_closing, begin_new, begin_again, begun_by, seen_now, name_from, coordinator_again, is_work, inquire_row, told_stage, dropped, commit_row, abort_row, staged, all_in, with_work, committed_to, end_stage, end_promised, end_row, counted_vote, vote_stage, vote_row, with_stage, forget_row, closed, begin_row, done_stage, done_row, thanks_stage, thanks_row, told_again, all_thanked, thanked, restored_transaction, restored_transactions, close_clients_row, seen_in_flags, seen_in_flag, commits as commits_of, without as without_tid}
-pub use Rattle.jn_system.proofs.WholeSystem.WorkerCases.{Replies, votes_against, votes_broken, votes_again, votes_lost, WorkerCase, replies_only, prepares_it, worker-case, asked_for, asked_here, marks_it, removes_it, its_wants, opens_anew, refuses_next, performs_next, drops_it, is_open_already, WorkerStep, carries_out, worker-step-case, none_done, is_over}
-pub use Rattle.jn_system.proofs.WholeSystem.CoordinatorCases.{Saying, says_nothing, says_unknown, prepares_again, CoordinatorCase, is_left_by, starts_voting, is_committed_by, is_aborted_by, coordinator-case, is_ignored_by, begins_anew, finds_no_room, counts_vote, notes_commit, forgets_commit, forgets_abort, IsListed, Committing, has_no_works, is_last_vote, says_begun, WantsEnd, wants_to_commit, wants_to_abort, WantsOutcome, wants_outcome, votes_late, says_committed, says_aborted, says_commit, says_drop, says_waiting, Aborting, finds_no_record, stops_open, stops_voting, work_is_lost, work_is_broken, work_has_no_room, Noting, work_is_done, client_thanks}
+pub use Rattle.jn_system.proofs.WholeSystem.WorkerCases.{Replies, votes_against, votes_broken, votes_again, votes_lost, WorkerCase, replies_only, prepares_it, worker-case, asked_for, asked_here, marks_it, removes_it, its_wants, opens_anew, refuses_next, performs_next, drops_it, is_open_already, WorkerStep, carries_out, worker-step-case}
+pub use Rattle.jn_system.proofs.WholeSystem.CoordinatorCases.{Saying, says_nothing, says_unknown, prepares_again, CoordinatorCase, is_left_by, starts_voting, is_committed_by, is_aborted_by, coordinator-case, transaction-named as found-name, transaction-named as tid-name, is_ignored_by, begins_anew, finds_no_room, counts_vote, notes_commit, forgets_commit, forgets_abort, IsListed, Committing, has_no_works, is_last_vote, says_begun}
 pub use Rattle.jn_report.specs.declared.line.Text.{Text}
 pub use Rattle.std.specs.List.{list_any, list_all, AllByRecursion}
 unfoldable pub use Rattle.std.specs.List.{IsDistinct}
@@ -24,7 +24,7 @@ pub use Rattle.jn_rows.specs.declared.worker.Work.{Work as WorkEntry, Work}
 pub use Rattle.jn_rows.specs.declared.client.Taken.{Taken}
 pub use Rattle.jn_rows.specs.declared.client.Taken.TheVariants.{Ignored}
 pub use Rattle.jn_rows.specs.declared.client.Outstanding.{Outstanding}
-pub use Rattle.jn_rows.specs.Stable.{Pick, stable, Left, StableState, Prepared, is_going, MarkGoing, at_work, gone_on, made_all, DropFlag, FlagState, RemoveWork, Change, AddReady, CarryOut, AddFlag, left_of, made_by, at_tid, is_ready, ready_work}
+pub use Rattle.jn_rows.specs.Stable.{Pick, stable, Left, StableState, Prepared, is_going, MarkGoing, at_work, gone_on, made_all, DropFlag, FlagState, RemoveWork, Change, AddReady, CarryOut, AddFlag, left_of, made_by, at_tid, is_ready}
 pub use Rattle.jn_rows.specs.Client.{ClientTable, command_row, take_row, is_current, is_tid, opens, opened_row, if_waits, outcome_row, is_end_or_abort, over, sent_again, is_begin, names_of, begun_row, again_row, is_end, told, work_at as open_at, is_operation, idle, answer_line, if_server, if_idle, if_transaction, if_no_transaction, if_open, if_not_open, with_operation, sends as sends_command, Commanded, Refuses, Sends, new_table, decided_row, sends}
 pub use Rattle.jn_rows.specs.ClientLaws.{after_command, are_apart, IsClient}
 pub use Rattle.jn_system.specs.WholeSystem.World.{World, Memory, servers_from, clients_from, at_server, opening, has_line, commits_in, at_client, new_memory, with_epoch}
@@ -58,8 +58,8 @@ pub use Rattle.jn_msgs.specs.declared.message.Note.{Note}
 pub use Rattle.jn_rows.specs.declared.worker.Phase.{Phase}
 pub use Rattle.jn_rows.specs.declared.worker.Phase.TheVariants.{Active, Broken, Prepared as Stored}
 pub use Rattle.jn_rows.specs.declared.worker.ActiveWork.{ActiveWork}
-pub use Rattle.jn_lock_rows.specs.Matching.{are_rising, is_after, is_before}
-pub use Rattle.jn_lock_rows.proofs.Works.{in_phase, at-phase, at-grant, once_granted, at-less, at-more, found-name, not-before, none-front}
+pub use Rattle.jn_lock_rows.specs.Matching.{are_rising, is_after}
+pub use Rattle.jn_lock_rows.proofs.Works.{in_phase, at-phase, at-grant, once_granted, at-less, at-more, not-before}
 pub use Rattle.jn_system_reports.proofs.Reporting.Lists.{In, in-first, in-second, each-in, get-in, Each}
 pub use Rattle.jn_system.proofs.WholeSystem.ServerRows.{row-either, row-of-step}
 pub use Rattle.jn_system.specs.SmallSteps.World.{World as Machine, Knowledge}
@@ -75,18 +75,23 @@ pub use Rattle.jn_system.specs.SmallSteps.Transactions.{Knows}
 pub use Rattle.jn_rows.specs.declared.coordinator.Voting.{Voting as Ballot}
 pub use Rattle.jn_rows.specs.declared.coordinator.Committed.{Committed as Commitment}
 pub use Rattle.jn_system_order.proofs.Mirroring.Transactions.{in_stage, at-stage, none-staged, none-less, found-is}
-pub use Rattle.jn_system.specs.WholeSystem.Near.{is_few, are_near, is_small_stage}
-pub use Rattle.jn_system_settling.specs.Settling.Sizes.{is_committed, committed_at, TableSizes, ServerSizes, Sizes, IsSmall, is_small, are_small_stages, sends_small, ClientSizes, AreFlagsOf, AreSmallFlags, AreAtMost64, StoredSizes}
+pub use Rattle.jn_msgs.specs.Ranges.{is_few, are_near, is_small}
+pub use Rattle.jn_system.specs.WholeSystem.Near.{is_small_stage}
+pub use Rattle.jn_row_ranges.specs.Sizes.{is_committed, committed_at, are_small_stages, AreFlagsOf, AreOrderly}
+pub use Rattle.jn_system_settling.specs.Settling.Sizes.{TableSizes, ServerSizes, Sizes, IsSmall, sends_small, ClientSizes, AreSmallFlags, AreAtMost64, StoredSizes}
 pub use Rattle.jn_system.proofs.WholeSystem.WorkerRows.{going-is, worker-keeps, step-keeps}
 pub use Rattle.jn_rows.specs.declared.client.OpenWork.{OpenWork}
 pub use Rattle.jn_system.specs.SmallSteps.Steps.{run as run_atoms, opening_world}
 pub use Rattle.jn_system.proofs.WholeSystem.Closes.{outcomes-close, Closes, Empty, Stays, Goes, Waits, Forgets, client-closes}
+pub use Rattle.jn_row_ranges.proofs.WorkerFits.{keep_flags, worker-fits, step-fits, weighs-some, length-phase}
 pub use Rattle.jn_base.specs.declared.names.Party.{Party}
-pub use Rattle.jn_system_settling.specs.Settling.Weights.{burden, weight_at, weigh, goings_at, sum_over, going_works, goings}
+pub use Rattle.jn_system_settling.specs.Settling.Weights.{burden, weight_at, weigh, goings_at, sum_over, going_works}
 pub use Rattle.jn_system.proofs.SmallSteps.Invariant.{Invariant, MayBeFound}
 pub use Rattle.jn_locks.specs.Locks.{work_before}
 pub use Rattle.std.proofs.Math.Path.{fun_ext}
 pub use Rattle.jn_system_order.proofs.Mirroring.StepMoves.{holds-of}
+pub use Rattle.jn_row_ranges.specs.Weighing.{weigh_all, goings}
+pub use Rattle.jn_row_ranges.proofs.CoordinatorFits.{weigh-commits, weigh-all-more, besides-few, few-of, CoordinatorFits, named_at, committed-named, flags_fit, coordinator-fits, close-fits}
 pub use Rattle.jn_system_settling.specs.Settling.Rests.{ComesNext, IsHalt, EachComes, IsBounded, in_two, asked as asked_again, EachInTurn, AreNext, NothingIsLeft, ComeToRest, chances_of, asked, both_parts}
 pub use Rattle.jn_msgs.specs.Weights.{weight}
 pub use Rattle.jn_system.proofs.WholeSystem.Steps.{locks-keep, opening-keeps}

@@ -1,7 +1,5 @@
 -- Settling as a plain function, its end and its bound.
 pub mod Reports
-pub mod WorkerFits
-pub mod CoordinatorFits
 pub mod SizeSteps
 pub mod ClientFits
 pub mod WorldSizes
@@ -13,4 +11,3 @@ pub mod Resting
 pub mod Settling
 pub mod Loops
 pub mod BoundedLoops
-pub mod MessageWeights

@@ -12,3 +12,4 @@ mod Numbers
 mod Spelled
 mod Streams
 mod Computed
+mod Taking

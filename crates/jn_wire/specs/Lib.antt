@@ -8,3 +8,4 @@ pub mod Unframing
 pub mod Reading
 pub mod Stream
 pub mod Examples
+pub mod Taking

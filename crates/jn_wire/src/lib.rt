@@ -8,6 +8,7 @@ mod fields;
 mod frame;
 mod laws;
 mod put;
+mod taken;
 mod unframer;
 mod write;
 
@@ -18,5 +19,6 @@ pub use laws::{
     frames_are_read_back, no_other_bytes_are_read, pieces_join, streams_are_read_back,
     what_is_held_is_no_frame,
 };
+pub use taken::what_is_read_can_be_taken;
 pub use unframer::Unframer;
 pub use write::encode;

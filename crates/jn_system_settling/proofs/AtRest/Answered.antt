@@ -1,12 +1,11 @@
 -- What a settle with all servers up answers.
-use Rattle.jn_system_settling.proofs.Common.{Text, ◌≡◌, inl, inr, ◌≤◌, ◌<◌, ℕ, zero, suc, ◌+◌, Bool, true, false, List, [], ◌∷◌, ◌++◌, Option, Some, None, true≢false, refl, sym, ◌∙◌, ap, subst, arith, if◌then◌else◌, slice_get, nat_eq, nat_lt, ◌&&◌, ◌||◌, length, map, list_any, nat_tests, ServerNo, ClientNo, Tid, WorkId, Client, Command, client_eq, server_eq, tid_eq, client_tells, server_tells, Message, WorkEntry, Taken, Ignored, Outstanding, Pick, stable, Sent, sends_row, work_of, new_work, open_row, ClientTable, command_row, take_row, is_current, is_tid, opens, opened_row, if_waits, outcome_row, is_end_or_abort, over, after_command, World, Memory, servers_from, Room, server_row, Step, Again, Deliver, Nudge, StopDelivery, StopWork, IsStep, after, handed, works, UpFact, ServerFact, of-found, Course, go, go_on, Chance, clients_from, first_busy, handing, working, next_step, onward, until_rest, ask_again, AllFiles, Requested, tid_tells, Outcome, Transaction, Stage, Open, Voting, Committed, Aborted, transaction_at, abort_stage, abort_request, drops, besides, aborted_to, Opening, openings, HasOpening, Reached, next-reached, request_eq, one-client, ClientRow, by_command, by_ignoring, by_answering, by_telling, StepCase, client_row, dismissed, step-case, Left}
+use Rattle.jn_system_settling.proofs.Common.{Text, ◌≡◌, inl, inr, ◌≤◌, ◌<◌, ℕ, zero, suc, ◌+◌, Bool, true, false, List, [], ◌∷◌, ◌++◌, Option, Some, None, true≢false, refl, sym, ◌∙◌, ap, subst, arith, if◌then◌else◌, slice_get, nat_eq, nat_lt, ◌&&◌, ◌||◌, length, map, list_any, nat_tests, ServerNo, ClientNo, Tid, WorkId, Client, Command, client_eq, server_eq, tid_eq, client_tells, server_tells, Message, WorkEntry, Taken, Ignored, Outstanding, Pick, stable, Sent, sends_row, work_of, new_work, open_row, ClientTable, command_row, take_row, is_current, is_tid, opens, opened_row, if_waits, outcome_row, is_end_or_abort, over, after_command, World, Memory, servers_from, Room, server_row, Step, Again, Deliver, Nudge, StopDelivery, StopWork, IsStep, after, handed, works, UpFact, ServerFact, of-found, Course, go, go_on, Chance, clients_from, first_busy, handing, working, next_step, onward, until_rest, ask_again, AllFiles, Requested, tid_tells, Outcome, Transaction, Stage, Open, Voting, Committed, Aborted, transaction_at, abort_stage, abort_request, drops, besides, aborted_to, Opening, openings, HasOpening, Reached, next-reached, request_eq, one-client, ClientRow, by_command, by_ignoring, by_answering, by_telling, StepCase, client_row, dismissed, step-case, Left, found-name}
 use Rattle.jn_base.specs.declared.op.Command.TheVariants as commands
 use Rattle.jn_msgs.specs.declared.message.Message.TheVariants as messages
 use Rattle.jn_rows.specs.Worker.{name_from}
 use Rattle.jn_system.specs.WholeSystem.Steps.{Work}
 use Rattle.jn_system_settling.proofs.Settling.Courses.{Sound, go-sound}
 use Rattle.jn_msgs.specs.declared.message.Outcome.TheVariants as outcomes
-use Rattle.jn_system_settling.proofs.Settling.CoordinatorFits.{found-name}
 use Rattle.jn_system_settling.proofs.AtRest.Owners.{owner_in, owned-found}
 use Rattle.jn_system_settling.proofs.AtRest.Within.{Within, within-step}
 use Rattle.jn_system_settling.proofs.AtRest.Talk.{IsStill, IsFitting, still-fits, command-fits, take-still}

@@ -1,5 +1,6 @@
 -- A work that goes goes on until it is over, and a Commit of a work that isn't over makes it go.
-use Rattle.jn_system_settling.proofs.Common.{◌≡◌, ◌≢◌, ◌⊎◌, inl, inr, ℕ, Bool, true, false, [], ◌∷◌, Option, Some, None, true≢false, refl, sym, ◌∙◌, ap, subst, arith, if◌then◌else◌, ServerNo, Tid, WorkId, Tickets, Server, work_eq, work_tells, AllFiles, Message, Work, Phase, Active, Broken, Stored, ActiveWork, StableState, Prepared, MarkGoing, at_work, gone_on, stable, is_going, made_all, RowOutcome, quiet, ignored, WorkerTable, WorkStorage, work_at, commit_phase, worker_row, coordinator_row, found-name, Machine, not_both, World, Memory, Room, storage_of, server_row, TableFact, IsSoundWork, UpFact, flags-all, coordinator-aside, active_in, working_of, working_in, each-in, Reached, LineFact, WorkerCase, prepares_it, marks_it, removes_it, worker-case, row-either}
+use Rattle.jn_system_settling.proofs.Common.{◌≡◌, ◌≢◌, ◌⊎◌, inl, inr, ℕ, Bool, true, false, [], ◌∷◌, Option, Some, None, true≢false, refl, sym, ◌∙◌, ap, subst, arith, if◌then◌else◌, ServerNo, Tid, WorkId, Tickets, Server, work_eq, work_tells, AllFiles, Message, Work, Phase, Active, Broken, Stored, ActiveWork, StableState, Prepared, MarkGoing, at_work, gone_on, stable, is_going, made_all, RowOutcome, quiet, ignored, WorkerTable, WorkStorage, work_at, commit_phase, worker_row, coordinator_row, Machine, not_both, World, Memory, Room, storage_of, server_row, TableFact, IsSoundWork, UpFact, flags-all, coordinator-aside, active_in, working_of, working_in, each-in, Reached, LineFact, WorkerCase, prepares_it, marks_it, removes_it, worker-case, row-either}
+use Rattle.jn_lock_rows.proofs.Works.{found-name}
 use Rattle.jn_msgs.specs.declared.message.Message.TheVariants as messages
 use Rattle.jn_report.specs.declared.line.Text.TheVariants as says
 use Rattle.jn_rows.specs.Worker.{commit_row}

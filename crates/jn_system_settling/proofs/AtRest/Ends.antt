@@ -1,6 +1,7 @@
 -- An End that a client waits for when a settle asks again is answered, or the client is told that it waits: each work that has no
 -- vote noted has a Prepare or a vote on its way.
-use Rattle.jn_system_settling.proofs.Common.{◌≡◌, ◌≢◌, ◌⊎◌, inl, inr, ◌≤◌, ℕ, zero, suc, Bool, true, false, List, [], ◌∷◌, ◌++◌, length, length-append, append-nil, drop, Option, Some, None, true≢false, refl, sym, ◌∙◌, ap, subst, arith, ◌&&◌, ◌||◌, not, if◌then◌else◌, nat_eq, nat_lt, slice_get, list_any, nat_tests, ServerNo, ClientNo, Tid, WorkId, LockUnit, Cause, Full, Tickets, Client, Server, End, server_eq, client_eq, tid_eq, work_eq, server_tells, tid_tells, work_tells, AllFiles, Message, Outcome, Vote, Text, Work, Phase, Active, Broken, Stored, ActiveWork, Outstanding, Taken, Transaction, Stage, Open, Voting, Committed, Aborted, Ballot, Commitment, stable, is_going, RowOutcome, Sent, quiet, ignored, WorkerTable, WorkStorage, worker_row, work_at, prepare_phase, prepare_row, prepared_row, conflict, commit_wants, vote_of, shortage, need_in, voted_row, CoordinatorTable, commit_row, abort_row, staged, transaction_at, all_in, is_work, with_work, besides, prepares, drops, commits, committed_to, aborted_to, end_stage, end_promised, end_row, counted_vote, vote_stage, vote_row, coordinator_row, ClientTable, take_row, outcome_row, is_current, is_tid, is_end, is_end_or_abort, if_waits, told, names_of, found-name, Machine, World, Memory, opening, Room, storage_of, server_row, of_worker, of_coordinator, is_for_worker, lines_of, took, taken_by, done, in_stage, at-stage, Course, In, get-in, Reached, tells_waiting, is_undecided, some-memory}
+use Rattle.jn_system_settling.proofs.Common.{◌≡◌, ◌≢◌, ◌⊎◌, inl, inr, ◌≤◌, ℕ, zero, suc, Bool, true, false, List, [], ◌∷◌, ◌++◌, length, length-append, append-nil, drop, Option, Some, None, true≢false, refl, sym, ◌∙◌, ap, subst, arith, ◌&&◌, ◌||◌, not, if◌then◌else◌, nat_eq, nat_lt, slice_get, list_any, nat_tests, ServerNo, ClientNo, Tid, WorkId, LockUnit, Cause, Full, Tickets, Client, Server, End, server_eq, client_eq, tid_eq, work_eq, server_tells, tid_tells, work_tells, AllFiles, Message, Outcome, Vote, Text, Work, Phase, Active, Broken, Stored, ActiveWork, Outstanding, Taken, Transaction, Stage, Open, Voting, Committed, Aborted, Ballot, Commitment, stable, is_going, RowOutcome, Sent, quiet, ignored, WorkerTable, WorkStorage, worker_row, work_at, prepare_phase, prepare_row, prepared_row, conflict, commit_wants, vote_of, shortage, need_in, voted_row, CoordinatorTable, commit_row, abort_row, staged, transaction_at, all_in, is_work, with_work, besides, prepares, drops, commits, committed_to, aborted_to, end_stage, end_promised, end_row, counted_vote, vote_stage, vote_row, coordinator_row, ClientTable, take_row, outcome_row, is_current, is_tid, is_end, is_end_or_abort, if_waits, told, names_of, Machine, World, Memory, opening, Room, storage_of, server_row, of_worker, of_coordinator, is_for_worker, lines_of, took, taken_by, done, in_stage, at-stage, Course, In, get-in, Reached, tells_waiting, is_undecided, some-memory, tid-name}
+use Rattle.jn_lock_rows.proofs.Works.{found-name}
 use Rattle.jn_rows.specs.Outcomes.{sends}
 use Rattle.jn_base.specs.declared.names.Resource.TheVariants as resources
 use Rattle.jn_msgs.specs.declared.message.Message.TheVariants as messages
@@ -8,7 +9,6 @@ use Rattle.jn_msgs.specs.declared.message.Outcome.TheVariants as outcomes
 use Rattle.jn_msgs.specs.declared.message.Vote.TheVariants as votes
 use Rattle.jn_report.specs.declared.line.Text.TheVariants as says
 use Rattle.jn_rows.specs.declared.client.Taken.TheVariants as taken
-use Rattle.jn_system_settling.proofs.Settling.CoordinatorFits.{found-name as tid-name}
 use Rattle.jn_system_settling.proofs.AtRest.Talk.{IsStill}
 use Rattle.jn_system_settling.proofs.AtRest.Ways.{any-left, any-right, Has, Waits, IsEnd, none-still, taken-still, taken-taken, took-memory}
 use Rattle.jn_system_settling.proofs.AtRest.Answered.{ends_outcome, its-client, outcome-ends}

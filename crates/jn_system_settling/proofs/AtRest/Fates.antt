@@ -1,12 +1,11 @@
 -- What becomes of a transaction in a row of its coordinator: it stays as it is, comes to another stage, is forgotten, or is
 -- closed by a later Begin of its client.
-use Rattle.jn_system_settling.proofs.Common.{◌≡◌, ◌≢◌, ◌⊎◌, inl, inr, ℕ, ◌+◌, Bool, true, false, List, [], ◌∷◌, ◌++◌, length, Option, Some, None, true≢false, refl, sym, ◌∙◌, ap, subst, arith, ◌&&◌, ◌||◌, not, if◌then◌else◌, nat_lt, nat_eq, ServerNo, ClientNo, Tid, WorkId, Tickets, Cause, Client, Server, client_eq, tid_eq, work_eq, client_tells, tid_tells, work_tells, Message, Note, Vote, Transaction, Stage, Open, Voting, Committed, Aborted, Ballot, Commitment, DropFlag, RowOutcome, Sent, quiet, ignored, CoordinatorTable, staged, transaction_at, with_stage, all_in, is_work, besides, drops, commits, committed_to, aborted_to, commit_row, abort_row, forget_row, closed, after_closing, changes_of_closing, seen_now, begin_new, begin_again, begun_by, begin_row, name_from, end_promised, end_stage, end_row, abort_stage, abort_request, told_stage, inquire_row, with_work, counted_vote, vote_stage, vote_row, done_stage, done_row, thanks_stage, thanks_row, coordinator_row, Machine, AreTransactions, in_stage, at-stage, none-staged, none-less, In, is_undecided, RequestNo}
+use Rattle.jn_system_settling.proofs.Common.{◌≡◌, ◌≢◌, ◌⊎◌, inl, inr, ℕ, ◌+◌, Bool, true, false, List, [], ◌∷◌, ◌++◌, length, Option, Some, None, true≢false, refl, sym, ◌∙◌, ap, subst, arith, ◌&&◌, ◌||◌, not, if◌then◌else◌, nat_lt, nat_eq, ServerNo, ClientNo, Tid, WorkId, Tickets, Cause, Client, Server, client_eq, tid_eq, work_eq, client_tells, tid_tells, work_tells, Message, Note, Vote, Transaction, Stage, Open, Voting, Committed, Aborted, Ballot, Commitment, DropFlag, RowOutcome, Sent, quiet, ignored, CoordinatorTable, staged, transaction_at, with_stage, all_in, is_work, besides, drops, commits, committed_to, aborted_to, commit_row, abort_row, forget_row, closed, after_closing, changes_of_closing, seen_now, begin_new, begin_again, begun_by, begin_row, name_from, end_promised, end_stage, end_row, abort_stage, abort_request, told_stage, inquire_row, with_work, counted_vote, vote_stage, vote_row, done_stage, done_row, thanks_stage, thanks_row, coordinator_row, Machine, AreTransactions, in_stage, at-stage, none-staged, none-less, In, is_undecided, RequestNo, found-name}
 use Rattle.jn_msgs.specs.declared.message.Message.TheVariants as messages
 use Rattle.jn_msgs.specs.declared.message.Note.TheVariants as notes
 use Rattle.jn_msgs.specs.declared.message.Vote.TheVariants as votes
 use Rattle.jn_rows.specs.Coordinator.{without}
 use Rattle.jn_system_order.proofs.Mirroring.Transactions.{at-less}
-use Rattle.jn_system_settling.proofs.Settling.CoordinatorFits.{found-name}
 use Rattle.jn_system_settling.proofs.AtRest.Ways.{Has}
 use Rattle.jn_system_settling.proofs.AtRest.Votes.{is_begin_message}
 use Rattle.jn_system_settling.proofs.AtRest.About.{is_about}

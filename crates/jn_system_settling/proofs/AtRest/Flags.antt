@@ -1,11 +1,10 @@
 -- A transaction that has committed is forgotten in a settle: each of its works is carried out, and its client thanks.
-use Rattle.jn_system_settling.proofs.Common.{◌≡◌, ◌≢◌, ◌⊎◌, inl, inr, ◌≤◌, ℕ, Bool, true, false, List, [], ◌∷◌, ◌++◌, append-nil, Option, Some, None, true≢false, refl, sym, ◌∙◌, ap, subst, arith, if◌then◌else◌, nat_eq, slice_get, list_any, nat_tests, ServerNo, ClientNo, Tid, WorkId, Cause, Client, Server, server_eq, client_eq, tid_eq, work_eq, server_tells, tid_tells, work_tells, AllFiles, Intention, Message, Text, Work, Outstanding, Taken, Transaction, Stage, Open, Voting, Committed, Aborted, Ballot, Commitment, stable, is_going, made_all, RowOutcome, Sent, work_at, worker_row, carried_row, intentions_of, going_work, worker_again, CoordinatorTable, transaction_at, is_work, besides, commits, committed_to, told_again, coordinator_again, coordinator_row, ClientTable, take_row, outcome_row, is_current, is_tid, is_end_or_abort, if_waits, over, Machine, Knows, not_both, World, Memory, opening, Room, storage_of, server_row, of_worker, of_coordinator, is_for_worker, took, taken_by, done, is_closing, IsStage, knowledge_in, Course, Reached, some-memory}
+use Rattle.jn_system_settling.proofs.Common.{◌≡◌, ◌≢◌, ◌⊎◌, inl, inr, ◌≤◌, ℕ, Bool, true, false, List, [], ◌∷◌, ◌++◌, append-nil, Option, Some, None, true≢false, refl, sym, ◌∙◌, ap, subst, arith, if◌then◌else◌, nat_eq, slice_get, list_any, nat_tests, ServerNo, ClientNo, Tid, WorkId, Cause, Client, Server, server_eq, client_eq, tid_eq, work_eq, server_tells, tid_tells, work_tells, AllFiles, Intention, Message, Text, Work, Outstanding, Taken, Transaction, Stage, Open, Voting, Committed, Aborted, Ballot, Commitment, stable, is_going, made_all, RowOutcome, Sent, work_at, worker_row, carried_row, intentions_of, going_work, worker_again, CoordinatorTable, transaction_at, is_work, besides, commits, committed_to, told_again, coordinator_again, coordinator_row, ClientTable, take_row, outcome_row, is_current, is_tid, is_end_or_abort, if_waits, over, Machine, Knows, not_both, World, Memory, opening, Room, storage_of, server_row, of_worker, of_coordinator, is_for_worker, took, taken_by, done, is_closing, IsStage, knowledge_in, Course, Reached, some-memory, tid-name}
 use Rattle.jn_msgs.specs.declared.message.Message.TheVariants as messages
 use Rattle.jn_msgs.specs.declared.message.Outcome.TheVariants as outcomes
 use Rattle.jn_report.specs.declared.line.Text.TheVariants as says
 use Rattle.jn_rows.specs.declared.client.Taken.TheVariants as taken
 use Rattle.jn_system_settling.proofs.Settling.ClientFits.{sent_with}
-use Rattle.jn_system_settling.proofs.Settling.CoordinatorFits.{found-name as tid-name}
 use Rattle.jn_system_settling.proofs.AtRest.Ways.{Has, Waits, took-memory}
 use Rattle.jn_system_settling.proofs.AtRest.Begins.{Good}
 use Rattle.jn_system_settling.proofs.AtRest.Fates.{has-after, has-before, has-commit, Move, starts, notes_one, commits_now, aborts_now, finishes, Fate, stays, moves, forgets, closes, row-fate, row-new, done-leaves, thanks-leaves}

@@ -1,6 +1,6 @@
 -- Each step of the whole system keeps each transaction with the client that began it.
-use Rattle.jn_system_settling.proofs.Common.{◌≡◌, ◌≤◌, ℕ, true, List, [], ◌∷◌, ◌++◌, Option, Some, None, true≢false, refl, sym, subst, ServerNo, Message, StableState, Pick, Change, AddReady, MarkGoing, CarryOut, RemoveWork, AddFlag, DropFlag, stable, made_all, RowOutcome, Sent, WorkerTable, work_of, timed_out, with_epoch, World, Memory, Room, storage_of, server_row, of_worker, of_timeout, server_timeout, restored, Step, IsStep, after, UpFact, ServerFact, LockFacts, Opening, openings, openings-more, Sizes, outcomes-close, ServerRow, of_message, of_work, of_closing, StepCase, client_row, row_done, row_stopped, gone_late, gone_down, come_up, found_anew, dismissed, quietly, step-case, memory-now, memory-gone, found-now, found-then, row-either, row-of-step, grows, Left, left_of}
-use Rattle.jn_system_settling.proofs.Settling.WorkerFits.{keep_flags, worker-fits, step-fits}
+use Rattle.jn_system_settling.proofs.Common.{◌≡◌, ◌≤◌, ℕ, true, List, [], ◌∷◌, ◌++◌, Option, Some, None, true≢false, refl, sym, subst, ServerNo, Message, StableState, Pick, Change, AddReady, MarkGoing, CarryOut, RemoveWork, AddFlag, DropFlag, stable, made_all, RowOutcome, Sent, WorkerTable, work_of, timed_out, with_epoch, World, Memory, Room, storage_of, server_row, of_worker, of_timeout, server_timeout, restored, Step, IsStep, after, UpFact, ServerFact, LockFacts, Opening, openings, openings-more, Sizes, outcomes-close, ServerRow, of_message, of_work, of_closing, StepCase, client_row, row_done, row_stopped, gone_late, gone_down, come_up, found_anew, dismissed, quietly, step-case, memory-now, memory-gone, found-now, found-then, row-either, row-of-step, grows, Left, left_of, keep_flags, worker-fits, step-fits}
+use Rattle.jn_system_settling.proofs.Settling.SizeSteps.{orderly}
 use Rattle.jn_system_settling.proofs.Settling.WorldSizes.{up-sizes}
 use Rattle.jn_system_settling.proofs.AtRest.Owners.{Owner, owner_in, owner-more, all_owned, FlagsOwned, flags_owned, grown, coordinator-owned, coordinator-flags, prefix-owned, all-changed-owned, restored-owned, closes-owned, closes-flags-owned}
 
@@ -46,7 +46,7 @@ module _ (n : ℕ) (at_most : n ≤ 8) (w : World) (sizes : Sizes n w) (locks : 
 
   row-owned : (s : ServerNo) (m : Memory) (room : Room) (message : Message) → w.memory s ≡ Some m → MemoryOwned os (server_row m (stable (w.found s)) room message)
   row-owned s m room message up = row-either (MemoryOwned os) m (stable (w.found s)) room message
-      (let sizes = up-sizes n at_most w sizes locks s m up in let fits = worker-fits (storage_of m (stable (w.found s)) room) m.tickets m.worker message fact.table sizes.works in at-worker s m _ up fits.flags)
+      (let sizes = up-sizes n at_most w sizes locks s m up in let fits = worker-fits (storage_of m (stable (w.found s)) room) m.tickets m.worker message (orderly fact.table) sizes.works in at-worker s m _ up fits.flags)
       (let h = coordinator-owned os m.coordinator room.free.records m.tickets message ((owned s).table m up) in record { table = h.table; flags = coordinator-flags (owner_in os) m.coordinator room.free.records m.tickets message ((owned s).table m up) })
     where
       fact : UpFact s m (w.found s)

@@ -1,12 +1,11 @@
 -- Each step of the whole system keeps what is said of clients' requests.
-use Rattle.jn_system_settling.proofs.Common.{◌≡◌, ◌≢◌, ◌⊎◌, inl, inr, ◌≤◌, ℕ, zero, suc, ◌+◌, Bool, true, false, List, [], ◌∷◌, ◌++◌, Option, Some, None, true≢false, append-nil, refl, sym, ◌∙◌, ap, subst, arith, ◌&&◌, if◌then◌else◌, nat_lt, slice_get, nat_tests, ServerNo, ClientNo, Tid, Party, Server, Command, client_eq, client_tells, Message, AllFiles, OpenWork, Outstanding, Taken, Transaction, StableState, FlagState, Pick, stable, made_all, RowOutcome, Sent, WorkerTable, work_of, timed_out, transaction_at, coordinator_row, close_clients_row, seen_in_flags, seen_in_flag, ClientTable, if_server, if_idle, if_transaction, if_no_transaction, if_open, if_not_open, with_operation, names_of, sends_command, Commanded, Refuses, Sends, command_row, take_row, again_row, sent_again, is_begin, over, with_epoch, World, Memory, at_client, Room, storage_of, server_row, server_again, of_coordinator, of_timeout, server_timeout, restored, Step, Tell, after, works, commanded, sent_now, UpFact, ServerFact, Opening, openings, openings-more, HasOpening, Course, go, request_of, operation_of, Text, ClientRow, by_command, by_ignoring, by_answering, by_telling, ServerRow, of_message, of_work, of_closing, Quiet, event_begins, none_changes, is_refused, client_repeats, server_repeats, is_lost, StepCase, client_row, row_done, row_stopped, gone_late, gone_down, come_up, found_anew, dismissed, quietly, step-case, memory-now, memory-gone, found-now, found-then, one-client, row-either, row-of-step, Left, left_of}
+use Rattle.jn_system_settling.proofs.Common.{◌≡◌, ◌≢◌, ◌⊎◌, inl, inr, ◌≤◌, ℕ, zero, suc, ◌+◌, Bool, true, false, List, [], ◌∷◌, ◌++◌, Option, Some, None, true≢false, append-nil, refl, sym, ◌∙◌, ap, subst, arith, ◌&&◌, if◌then◌else◌, nat_lt, slice_get, nat_tests, ServerNo, ClientNo, Tid, Party, Server, Command, client_eq, client_tells, Message, AllFiles, OpenWork, Outstanding, Taken, Transaction, StableState, FlagState, Pick, stable, made_all, RowOutcome, Sent, WorkerTable, work_of, timed_out, transaction_at, coordinator_row, close_clients_row, seen_in_flags, seen_in_flag, ClientTable, if_server, if_idle, if_transaction, if_no_transaction, if_open, if_not_open, with_operation, names_of, sends_command, Commanded, Refuses, Sends, command_row, take_row, again_row, sent_again, is_begin, over, with_epoch, World, Memory, at_client, Room, storage_of, server_row, server_again, of_coordinator, of_timeout, server_timeout, restored, Step, Tell, after, works, commanded, sent_now, UpFact, ServerFact, Opening, openings, openings-more, HasOpening, Course, go, request_of, operation_of, Text, ClientRow, by_command, by_ignoring, by_answering, by_telling, ServerRow, of_message, of_work, of_closing, Quiet, event_begins, none_changes, is_refused, client_repeats, server_repeats, is_lost, StepCase, client_row, row_done, row_stopped, gone_late, gone_down, come_up, found_anew, dismissed, quietly, step-case, memory-now, memory-gone, found-now, found-then, one-client, row-either, row-of-step, Left, left_of, worker-fits, step-fits, found-name}
 use Rattle.jn_base.specs.declared.op.Command.TheVariants as commands
 use Rattle.jn_msgs.specs.declared.message.Message.TheVariants as messages
 use Rattle.jn_report.specs.declared.line.Refusal.TheVariants as refusals
 use Rattle.jn_rows.specs.Client.{work_at}
-use Rattle.jn_system_settling.proofs.Settling.WorkerFits.{worker-fits, step-fits}
-use Rattle.jn_system_settling.proofs.Settling.CoordinatorFits.{found-name}
 use Rattle.jn_system_settling.proofs.Settling.ClientFits.{sent_with}
+use Rattle.jn_system_settling.proofs.Settling.SizeSteps.{orderly}
 use Rattle.jn_system_settling.proofs.Settling.WorldSizes.{up-sizes}
 use Rattle.jn_system_settling.proofs.AtRest.Talk.{IsStill, FitsCommand, take-still}
 use Rattle.jn_system_settling.proofs.AtRest.Ways.{Has}
@@ -174,7 +173,7 @@ module _ (n : ℕ) (at_most : n ≤ 8) (start : World) (files : AllFiles) (epoch
 
     row-requests : (s : ServerNo) (m : Memory) (room : Room) (message : Message) → w.memory s ≡ Some m → MessageFits w.clients (openings w.sent) message → RowRequests w.clients w.sent (server_row m (stable (w.found s)) room message)
     row-requests s m room message up fits = row-either (RowRequests w.clients w.sent) m (stable (w.found s)) room message
-        (let sizes = up-sizes n at_most w h.sound.sizes h.sound.locks s m up in let few = worker-fits (storage_of m (stable (w.found s)) room) m.tickets m.worker message fact.table sizes.works in
+        (let sizes = up-sizes n at_most w h.sound.sizes h.sound.locks s m up in let few = worker-fits (storage_of m (stable (w.found s)) room) m.tickets m.worker message (orderly fact.table) sizes.works in
         worker-requests w.clients w.sent m mine seen _ few.flags (worker-plain m.worker (storage_of m (stable (w.found s)) room) m.tickets message))
         (coordinated message fits (is_begin_message message) refl)
       where

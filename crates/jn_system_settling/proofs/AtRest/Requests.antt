@@ -1,7 +1,6 @@
 -- What messages, tables and flags say of clients' requests, and that it stays true.
-use Rattle.jn_system_settling.proofs.Common.{◌≡◌, ◌⊎◌, inl, inr, ◌≤◌, ◌<◌, ℕ, ◌+◌, Bool, true, false, List, [], ◌∷◌, ◌++◌, length, Option, Some, None, true≢false, refl, sym, ◌∙◌, ap, subst, arith, ◌&&◌, if◌then◌else◌, nat_lt, nat_eq, ClientNo, Tid, Tickets, Client, Message, Outstanding, Transaction, Open, Change, AddReady, MarkGoing, CarryOut, RemoveWork, AddFlag, DropFlag, RowOutcome, Sent, WorkerTable, client-closes, CoordinatorTable, after_closing, changes_of_closing, begin_again, begun_by, begin_row, seen_now, name_from, ClientTable, is_begin, Memory, of_worker, of_coordinator, Opening, request_of, RequestNo, one-client}
+use Rattle.jn_system_settling.proofs.Common.{◌≡◌, ◌⊎◌, inl, inr, ◌≤◌, ◌<◌, ℕ, ◌+◌, Bool, true, false, List, [], ◌∷◌, ◌++◌, length, Option, Some, None, true≢false, refl, sym, ◌∙◌, ap, subst, arith, ◌&&◌, if◌then◌else◌, nat_lt, nat_eq, ClientNo, Tid, Tickets, Client, Message, Outstanding, Transaction, Open, Change, AddReady, MarkGoing, CarryOut, RemoveWork, AddFlag, DropFlag, RowOutcome, Sent, WorkerTable, client-closes, CoordinatorTable, after_closing, changes_of_closing, begin_again, begun_by, begin_row, seen_now, name_from, ClientTable, is_begin, Memory, of_worker, of_coordinator, Opening, request_of, RequestNo, one-client, keep_flags}
 use Rattle.jn_msgs.specs.declared.message.Message.TheVariants as messages
-use Rattle.jn_system_settling.proofs.Settling.WorkerFits.{keep_flags}
 use Rattle.jn_system_settling.proofs.AtRest.Ways.{Has}
 use Rattle.jn_system_settling.proofs.AtRest.Owners.{owner_in, owner-more}
 use Rattle.jn_system_settling.proofs.AtRest.Votes.{is_plain, are_plain, Votings, FlagsOf, both-votings, closes-votings, closes-flags-of, RowVotes}

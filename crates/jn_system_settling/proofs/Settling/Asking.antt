@@ -1,11 +1,8 @@
 -- What clients and servers send once more in the middle of a settle.
-use Rattle.jn_system_settling.proofs.Common.{◌≡◌, ◌≤◌, ℕ, zero, suc, ◌+◌, ◌*◌, Bool, true, false, List, [], ◌∷◌, length, append-nil, Option, Some, None, refl, sym, ◌∙◌, ap, arith, if◌then◌else◌, map, slice_get, nat_tests, ServerNo, ClientNo, Server, Outstanding, Transaction, Stage, Open, Voting, Committed, Aborted, StableState, stable, is_going, Sent, WorkerTable, worker_again, commits, besides, told_again, coordinator_again, committed_to, again_row, sent_again, World, Memory, servers_from, server_again, Again, Nudge, after, nudge, sent_now, Course, go, go_on, Chances, clients_from, until_rest, ask_again, settled, weight_at, weigh, burden, are_small_stages, is_small_stage, deliveries, IsSettle}
-use Rattle.jn_system_settling.proofs.Settling.MessageWeights.{weigh_all}
+use Rattle.jn_system_settling.proofs.Common.{◌≡◌, ◌≤◌, ℕ, zero, suc, ◌+◌, ◌*◌, Bool, true, false, List, [], ◌∷◌, length, append-nil, Option, Some, None, refl, sym, ◌∙◌, ap, arith, if◌then◌else◌, map, slice_get, nat_tests, ServerNo, ClientNo, Server, Outstanding, Transaction, Stage, Open, Voting, Committed, Aborted, StableState, stable, is_going, Sent, WorkerTable, worker_again, commits, besides, told_again, coordinator_again, committed_to, again_row, sent_again, World, Memory, servers_from, server_again, Again, Nudge, after, nudge, sent_now, Course, go, go_on, Chances, clients_from, until_rest, ask_again, settled, weight_at, weigh, burden, are_small_stages, is_small_stage, deliveries, IsSettle, weigh_all, weigh-commits, weigh-all-more, besides-few, few-of, weighs-some}
 use Rattle.jn_msgs.specs.declared.message.Message.TheVariants as messages
-use Rattle.jn_system_settling.proofs.Settling.CoordinatorFits.{weigh-commits, weigh-all-more, besides-few, few-of}
 use Rattle.jn_system_settling.proofs.Settling.WorldSizes.{weighs, up-sizes}
 use Rattle.jn_system_settling.proofs.Settling.Burdens.{Leads, are_below}
-use Rattle.jn_system_settling.proofs.Settling.WorkerFits.{weighs-some}
 use Rattle.jn_system_settling.proofs.Settling.Courses.{Sound, IsBalanced, go-sound, go-balance, burden-after, deliveries-more}
 use Rattle.jn_system_settling.proofs.Settling.Parts.{get-some, part-bounded}
 

@@ -1,10 +1,8 @@
 -- What a step does to the weight of what waits and goes.
-use Rattle.jn_system_settling.proofs.Common.{◌≡◌, ◌≢◌, ◌⊎◌, inl, inr, ◌≤◌, ◌<◌, ℕ, zero, suc, ◌+◌, Bool, true, false, List, [], ◌∷◌, ◌++◌, length, length-append, append-nil, append_assoc, Option, Some, None, refl, sym, ap, subst, arith, if◌then◌else◌, slice_get, nat_lt, ◌&&◌, nat_tests, ServerNo, ClientNo, Client, Server, server_eq, server_tells, Taken, Pick, stable, made_all, RowOutcome, Sent, ClientTable, take_row, World, Memory, servers_from, Room, server_row, server_step, ends, done, stopped, at_memory, handed, took, sent_now, LockFacts, is_busy, first_busy, weight, weight_at, weigh, goings_at, sum_over, going_works, numbered, Sizes, IsSmall, holds-of, Left, left_of}
-use Rattle.jn_system_settling.proofs.Settling.MessageWeights.{weigh_all}
+use Rattle.jn_system_settling.proofs.Common.{◌≡◌, ◌≢◌, ◌⊎◌, inl, inr, ◌≤◌, ◌<◌, ℕ, zero, suc, ◌+◌, Bool, true, false, List, [], ◌∷◌, ◌++◌, length, length-append, append-nil, append_assoc, Option, Some, None, refl, sym, ap, subst, arith, if◌then◌else◌, slice_get, nat_lt, ◌&&◌, nat_tests, ServerNo, ClientNo, Client, Server, server_eq, server_tells, Taken, Pick, stable, made_all, RowOutcome, Sent, ClientTable, take_row, World, Memory, servers_from, Room, server_row, server_step, ends, done, stopped, at_memory, handed, took, sent_now, LockFacts, is_busy, first_busy, weight, weight_at, weigh, goings_at, sum_over, going_works, numbered, Sizes, IsSmall, holds-of, Left, left_of, weigh_all, weighs-some}
 use Rattle.jn_rows.specs.declared.client.Taken.TheVariants as taken
 use Rattle.jn_system_settling.proofs.Settling.SizeSteps.{RowSizes}
 use Rattle.jn_system_settling.proofs.Settling.WorldSizes.{row-at, step-at}
-use Rattle.jn_system_settling.proofs.Settling.WorkerFits.{weighs-some}
 use Rattle.jn_system_settling.proofs.Settling.ClientFits.{sent_with, take-light}
 
 -- ---- what waits

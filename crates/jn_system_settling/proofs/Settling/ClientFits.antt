@@ -1,6 +1,5 @@
 -- What a client's rows send is small, and weighs less than the message that it takes.
-use Rattle.jn_system_settling.proofs.Common.{◌≡◌, ◌≤◌, ℕ, ◌+◌, Bool, true, List, [], ◌∷◌, refl, ◌∙◌, subst, arith, ◌&&◌, nat_tests, Command, Begin, Do, End, Abort, Message, OpenWork, Taken, Sent, ClientTable, Commanded, Refuses, Sends, command_row, take_row, names_of, are_apart, IsClient, after_command, sent_now, weight, are_near, is_few, is_small, sends_small, ClientSizes}
-use Rattle.jn_system_settling.proofs.Settling.MessageWeights.{weigh_all}
+use Rattle.jn_system_settling.proofs.Common.{◌≡◌, ◌≤◌, ℕ, ◌+◌, Bool, true, List, [], ◌∷◌, refl, ◌∙◌, subst, arith, ◌&&◌, nat_tests, Command, Begin, Do, End, Abort, Message, OpenWork, Taken, Sent, ClientTable, Commanded, Refuses, Sends, command_row, take_row, names_of, are_apart, IsClient, after_command, sent_now, weight, are_near, is_few, is_small, sends_small, ClientSizes, weigh_all}
 use Rattle.jn_base.specs.declared.op.Command.TheVariants.{Open}
 use Rattle.jn_msgs.specs.declared.message.Message.TheVariants as messages
 use Rattle.jn_rows.specs.declared.client.Taken.TheVariants as taken

@@ -1,12 +1,9 @@
 -- What holds of the sizes of a server's tables and of what it has stored, after each of its steps.
-use Rattle.jn_system_settling.proofs.Common.{◌≡◌, ◌≢◌, ◌⊎◌, inl, inr, ◌≤◌, ℕ, zero, suc, ◌+◌, Bool, true, false, List, [], ◌∷◌, ◌++◌, length, take, Option, Some, None, true≢false, refl, sym, ◌∙◌, ap, subst, arith, is_some, map, list_any, list_all, IsDistinct, AllByRecursion, nat_tests, ServerNo, Tid, WorkId, tid_eq, work_eq, tid_tells, work_before, Message, Work, Transaction, StableState, Prepared, FlagState, Change, AddReady, MarkGoing, CarryOut, RemoveWork, AddFlag, DropFlag, made_by, made_all, at_tid, RowOutcome, WorkerTable, work_at, worker_row, restored_work, restored_worker, CoordinatorTable, coordinator_row, close_clients_row, restored_transaction, restored_transactions, not-before, Memory, Room, storage_of, of_worker, of_coordinator, server_row, server_step, restored, AreNames, tid_before, TableFact, worker-keeps, step-keeps, coordinator-aside, close-aside, are_of_flags, flags-keep, flags-all, weight, goings, goings_at, is_few, is_small, are_small_stages, committed_at, AreFlagsOf, AreSmallFlags, AreAtMost64, StoredSizes, TableSizes, row-either, row-of-step}
-use Rattle.jn_system_settling.proofs.Settling.MessageWeights.{weigh_all}
+use Rattle.jn_system_settling.proofs.Common.{◌≡◌, ◌≢◌, ◌⊎◌, inl, inr, ◌≤◌, ℕ, zero, suc, ◌+◌, Bool, true, false, List, [], ◌∷◌, ◌++◌, length, take, Option, Some, None, true≢false, refl, sym, ◌∙◌, ap, subst, arith, is_some, map, list_any, list_all, IsDistinct, AllByRecursion, nat_tests, ServerNo, Tid, WorkId, tid_eq, work_eq, tid_tells, work_before, Message, Work, Transaction, StableState, Prepared, FlagState, Change, AddReady, MarkGoing, CarryOut, RemoveWork, AddFlag, DropFlag, made_by, made_all, at_tid, RowOutcome, WorkerTable, work_at, worker_row, restored_work, restored_worker, CoordinatorTable, coordinator_row, close_clients_row, restored_transaction, restored_transactions, not-before, Memory, Room, storage_of, of_worker, of_coordinator, server_row, server_step, restored, AreNames, tid_before, TableFact, worker-keeps, step-keeps, coordinator-aside, close-aside, are_of_flags, flags-keep, flags-all, weight, goings, goings_at, is_few, is_small, are_small_stages, committed_at, AreFlagsOf, AreSmallFlags, AreAtMost64, StoredSizes, TableSizes, row-either, row-of-step, weigh_all, keep_flags, worker-fits, step-fits, CoordinatorFits, named_at, committed-named, flags_fit, coordinator-fits, close-fits, Tickets, AreOrderly}
 use Rattle.std.specs.Cmp.{IsEquivalence}
 use Rattle.std.proofs.lemmas.Map.Made.{length-le_from_is_member}
 use Rattle.jn_system.specs.WholeSystem.Steps.{are_rising}
 use Rattle.jn_system.proofs.WholeSystem.Rows.{RowKeeps}
-use Rattle.jn_system_settling.proofs.Settling.WorkerFits.{keep_flags, worker-fits, step-fits}
-use Rattle.jn_system_settling.proofs.Settling.CoordinatorFits.{CoordinatorFits, named_at, committed-named, flags_fit, coordinator-fits, close-fits}
 
 -- ---- names in a list
 
@@ -114,6 +111,10 @@ all-flags n xs (c ∷ cs) x h of = all-flags n xs cs (made_by c x) (grind (arith
 
 -- ---- rows
 
+-- what the rows of a worker ask of its table
+pub orderly : {t : WorkerTable} {k : Tickets} {stored : WorkId → Option Prepared} → TableFact t k stored → AreOrderly t k stored
+orderly fact = record { rising = fact.rising; before = fact.before; live = fact.live }
+
 -- A row of a server: what it leaves where it is done and where it is stopped, and what its messages and going works weigh.
 -- Where it takes a message of a weight they weigh less; a background step leaves no more than there was.
 pub record RowSizes (n : ℕ) (m : Memory) (x : StableState) (light less weight_of : ℕ) (row : RowOutcome Memory) : Type 0 where
@@ -166,7 +167,7 @@ module _ (n : ℕ) (at_most : n ≤ 8) (m : Memory) (x : StableState) (sizes : T
 
   pub row-sizes : (room : Room) (message : Message) → is_small n message ≡ true → RowSizes n m x (weight message) 1 (weight message) (server_row m x room message)
   row-sizes room message small = row-either (RowSizes n m x (weight message) 1 (weight message)) m x room message
-      (let fits = worker-fits (storage_of m x room) m.tickets m.worker message table sizes.works in
+      (let fits = worker-fits (storage_of m x room) m.tickets m.worker message (orderly table) sizes.works in
       of-worker (weight message) 1 (weight message) (worker_row m.worker (storage_of m x room) m.tickets message) (worker-keeps (storage_of m x room) m.tickets m.worker table message) fits.few fits.flags fits.sent fits.goes)
       (of-coordinator (weight message) (coordinator_row m.coordinator room.free.records m.tickets message) (coordinator-aside m.coordinator room.free.records m.tickets message).flags
       (coordinator-fits n at_most x m.coordinator m.tickets sizes.transactions sizes.stages sizes.flags room.free.records message small))

@@ -1,12 +1,10 @@
 -- Each step of the whole system keeps what holds of the sizes of tables and messages.
-use Rattle.jn_system_settling.proofs.Common.{Text, ◌≡◌, ◌≢◌, ◌⊎◌, inl, inr, ◌≤◌, ℕ, ◌+◌, Bool, true, false, List, [], ◌∷◌, ◌++◌, Option, Some, None, refl, sym, subst, arith, if◌then◌else◌, All, ServerNo, ClientNo, Tid, WorkId, Server, server_eq, server_tells, AllFiles, Message, WorkEntry, Transaction, Stage, Open, Voting, Committed, Aborted, Outstanding, Taken, StableState, FlagState, Pick, stable, made_all, is_going, RowOutcome, Sent, WorkerTable, timed_out, work_of, vulnerable, worker_again, commits, besides, told_again, coordinator_again, committed_to, ClientTable, take_row, sent_again, with_epoch, World, Memory, opening, at_server, Room, server_row, server_step, server_again, server_timeout, of_timeout, Step, IsStep, after, works, sent_now, UpFact, ServerFact, LockFacts, weight, IsSmall, ClientSizes, StoredSizes, TableSizes, ServerSizes, Sizes, is_small, sends_small, one-server, one-client, ClientRow, by_command, by_ignoring, by_answering, by_telling, ServerRow, of_message, of_work, of_closing, FoundThen, by_narrowing, by_raising, Quiet, client_repeats, server_repeats, StepCase, client_row, row_done, row_stopped, gone_late, gone_down, come_up, found_anew, dismissed, quietly, step-case, holds-of, Left, left_of}
-use Rattle.jn_system_settling.proofs.Settling.MessageWeights.{weigh_all}
+use Rattle.jn_system_settling.proofs.Common.{Text, ◌≡◌, ◌≢◌, ◌⊎◌, inl, inr, ◌≤◌, ℕ, ◌+◌, Bool, true, false, List, [], ◌∷◌, ◌++◌, Option, Some, None, refl, sym, subst, arith, if◌then◌else◌, All, ServerNo, ClientNo, Tid, WorkId, Server, server_eq, server_tells, AllFiles, Message, WorkEntry, Transaction, Stage, Open, Voting, Committed, Aborted, Outstanding, Taken, StableState, FlagState, Pick, stable, made_all, is_going, RowOutcome, Sent, WorkerTable, timed_out, work_of, vulnerable, worker_again, commits, besides, told_again, coordinator_again, committed_to, ClientTable, take_row, sent_again, with_epoch, World, Memory, opening, at_server, Room, server_row, server_step, server_again, server_timeout, of_timeout, Step, IsStep, after, works, sent_now, UpFact, ServerFact, LockFacts, weight, IsSmall, ClientSizes, StoredSizes, TableSizes, ServerSizes, Sizes, is_small, sends_small, one-server, one-client, ClientRow, by_command, by_ignoring, by_answering, by_telling, ServerRow, of_message, of_work, of_closing, FoundThen, by_narrowing, by_raising, Quiet, client_repeats, server_repeats, StepCase, client_row, row_done, row_stopped, gone_late, gone_down, come_up, found_anew, dismissed, quietly, step-case, holds-of, Left, left_of, weigh_all, length-phase}
 use Rattle.std.proofs.lemmas.List.Elements.{All-nil, All-cons, All-append}
 use Rattle.jn_msgs.specs.declared.message.Message.TheVariants as messages
 use Rattle.jn_rows.specs.declared.client.Taken.TheVariants as taken
 use Rattle.jn_system_settling.proofs.Settling.SizeSteps.{RowSizes, row-sizes, step-sizes, close-sizes, restart-sizes, up-stored}
 use Rattle.jn_system_settling.proofs.Settling.ClientFits.{CommandedSizes, command-sizes, sent_with, take-light, take-sizes}
-use Rattle.jn_system_settling.proofs.Settling.WorkerFits.{length-phase}
 
 -- ---- messages
 

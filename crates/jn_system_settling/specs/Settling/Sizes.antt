@@ -1,29 +1,20 @@
 -- What holds of the sizes of tables and messages between any two steps.
-use Rattle.std.specs.Prelude.{◌≡◌, ◌≤◌, ℕ, Bool, true, false, ◌&&◌, if◌then◌else◌, List, [], ◌∷◌, length, Option, Some, None, is_some, All}
+use Rattle.std.specs.Prelude.{◌≡◌, ◌≤◌, ℕ, Bool, true, List, length, Option, Some, None, is_some, All}
 use Rattle.std.specs.List.{list_any}
 use Rattle.jn_base.specs.declared.names.ClientNo.{ClientNo}
 use Rattle.jn_base.specs.declared.names.ServerNo.{ServerNo}
 use Rattle.jn_base.specs.declared.names.Tid.{Tid}
 use Rattle.jn_base.specs.Names.{tid_eq, work_eq}
-use Rattle.jn_msgs.specs.declared.message.Message.{Message}
-use Rattle.jn_msgs.specs.declared.message.Message.TheVariants.{End, Abort}
 use Rattle.jn_rows.specs.declared.client.Outstanding.{Outstanding}
-use Rattle.jn_rows.specs.declared.coordinator.Transaction.{Transaction}
-use Rattle.jn_rows.specs.declared.coordinator.Stage.{Stage}
-use Rattle.jn_rows.specs.declared.coordinator.Stage.TheVariants.{Committed}
 use Rattle.jn_rows.specs.Client.{ClientTable}
 use Rattle.jn_rows.specs.ClientLaws.{IsClient}
 use Rattle.jn_rows.specs.Outcomes.{Sent}
 use Rattle.jn_rows.specs.Stable.{StableState, FlagState, Pick, stable}
 use Rattle.jn_system.specs.WholeSystem.World.{World, Memory}
-use Rattle.jn_system.specs.WholeSystem.Near.{is_few, is_small_stage}
+use Rattle.jn_msgs.specs.Ranges.{is_few, is_small}
+use Rattle.jn_row_ranges.specs.Sizes.{are_small_stages, AreFlagsOf}
 
 -- ---- messages and clients
-
-abbrev pub is_small : ℕ → Message → Bool
-is_small servers (End c request T works) = is_few servers works
-is_small servers (Abort c request T works) = is_few servers works
-is_small servers message = true
 
 abbrev pub IsSmall : ℕ → Sent → Type 0
 IsSmall servers message = is_small servers message.1 ≡ true
@@ -37,29 +28,10 @@ pub record ClientSizes (servers : ℕ) (t : ClientTable) : Type 0 where
   pub servers_are : t.servers ≡ servers
   pub again : sends_small servers t.outstanding ≡ true
 
--- ---- a coordinator's transactions
-
-abbrev pub are_small_stages : ℕ → List Transaction → Bool
-are_small_stages servers [] = true
-are_small_stages servers (x ∷ xs) = is_small_stage servers x.stage && are_small_stages servers xs
-
-abbrev pub is_committed : Stage → Bool
-is_committed (Committed d) = true
-is_committed stage = false
-
--- whether the first transaction of this name has committed
-abbrev pub committed_at : Tid → List Transaction → Bool
-committed_at T [] = false
-committed_at T (x ∷ xs) = if tid_eq x.tid T then is_committed x.stage else committed_at T xs
-
--- each flag is that of a committed transaction
-abbrev pub AreFlagsOf : List Transaction → (Tid → Option FlagState) → Type 0
-AreFlagsOf xs flags = (T : Tid) → is_some (flags T) ≡ true → committed_at T xs ≡ true
+-- ---- servers
 
 abbrev pub AreSmallFlags : ℕ → (Tid → Option FlagState) → Type 0
 AreSmallFlags servers flags = (T : Tid) (flag : FlagState) → flags T ≡ Some flag → is_few servers flag.works ≡ true
-
--- ---- servers
 
 -- all that is there has its name in a list of at most 64
 pub record AreAtMost64 {A B : Type 0} (eq : A → A → Bool) (there : A → Option B) : Type 0 where

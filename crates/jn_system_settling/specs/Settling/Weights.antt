@@ -1,13 +1,12 @@
 -- Weights: what a message may still lead to. A message that is handed over weighs more than all that it leads to.
-use Rattle.std.specs.Prelude.{ℕ, ◌+◌, if◌then◌else◌, List, [], ◌∷◌, slice_get, Option, Some, None}
+use Rattle.std.specs.Prelude.{ℕ, ◌+◌, List, [], ◌∷◌, slice_get, Option, Some, None}
 use Rattle.jn_base.specs.declared.names.ServerNo.{ServerNo}
-use Rattle.jn_base.specs.declared.names.WorkId.{WorkId}
-use Rattle.jn_rows.specs.Stable.{Prepared, StableState, is_going, stable}
+use Rattle.jn_rows.specs.Stable.{StableState, stable}
 use Rattle.jn_rows.specs.Outcomes.{Sent}
-use Rattle.jn_rows.specs.Worker.{WorkerTable}
 use Rattle.jn_system.specs.WholeSystem.World.{World, Memory}
 use Rattle.jn_system.specs.WholeSystem.Course.{Course}
 use Rattle.jn_msgs.specs.Weights.{weight}
+use Rattle.jn_row_ranges.specs.Weighing.{goings}
 
 abbrev pub weight_at : Option Sent → ℕ
 weight_at None = 0
@@ -18,11 +17,7 @@ abbrev pub weigh : List Sent → List ℕ → ℕ
 weigh sent [] = 0
 weigh sent (k ∷ waiting) = weight_at (slice_get sent k) + weigh sent waiting
 
--- how many of the works go
-abbrev pub goings : (WorkId → Option Prepared) → WorkerTable → ℕ
-goings stored [] = 0
-goings stored (w ∷ ws) = if is_going (stored w.name) then goings stored ws + 1 else goings stored ws
-
+-- the works that go at a server
 abbrev pub goings_at : StableState → Option Memory → ℕ
 goings_at x None = 0
 goings_at x (Some m) = goings x.works m.worker

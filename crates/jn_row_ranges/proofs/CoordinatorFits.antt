@@ -1,10 +1,9 @@
 -- What a coordinator's row sends weighs less than the message, and its table stays small.
-use Rattle.jn_system_settling.proofs.Common.{◌≡◌, ◌≤◌, ℕ, ◌+◌, ◌*◌, Bool, true, false, List, [], ◌∷◌, ◌++◌, length, length-append, Some, true≢false, refl, sym, subst, arith, ◌&&◌, if◌then◌else◌, is_some, nat_tests, ClientNo, Tid, WorkId, Tickets, Cause, Client, tid_eq, tid_tells, Message, Transaction, Stage, Open, Voting, Committed, Aborted, Commitment, StableState, Change, AddFlag, DropFlag, made_by, made_all, RowOutcome, Sent, CoordinatorTable, transaction_at, with_stage, besides, drops, commits, prepares, commit_row, after_closing, changes_of_closing, name_from, coordinator_row, close_clients_row, committed_to, aborted_to, Closes, Empty, Stays, Goes, Waits, Forgets, client-closes, outcomes-close, weight, is_few, is_small, is_small_stage, are_small_stages, is_committed, committed_at, AreFlagsOf, RequestNo, IsListed, WantsEnd, wants_to_commit, wants_to_abort, WantsOutcome, wants_outcome, votes_late, Saying, says_nothing, says_begun, says_unknown, prepares_again, says_committed, says_aborted, says_commit, says_drop, says_waiting, Committing, has_no_works, is_last_vote, Aborting, finds_no_record, stops_open, stops_voting, work_is_lost, work_is_broken, work_has_no_room, Noting, work_is_done, client_thanks, CoordinatorCase, is_ignored_by, is_left_by, begins_anew, finds_no_room, starts_voting, counts_vote, is_committed_by, is_aborted_by, notes_commit, forgets_commit, forgets_abort, coordinator-case}
-use Rattle.jn_system_settling.proofs.Settling.MessageWeights.{weigh_all}
+use Rattle.jn_row_ranges.proofs.Common.{◌≡◌, ◌≤◌, ℕ, ◌*◌, Bool, true, false, List, [], ◌∷◌, ◌++◌, length-append, Some, true≢false, refl, sym, subst, arith, ◌+◌, ◌&&◌, if◌then◌else◌, is_some, nat_tests, ClientNo, Tid, WorkId, Tickets, Cause, Client, tid_eq, tid_tells, Message, Transaction, Stage, Open, Voting, Committed, Aborted, Commitment, StableState, Change, AddFlag, DropFlag, made_by, made_all, RowOutcome, Sent, CoordinatorTable, transaction_at, with_stage, besides, drops, commits, prepares, commit_row, after_closing, changes_of_closing, coordinator_row, close_clients_row, committed_to, aborted_to, Closes, Empty, Stays, Goes, Waits, Forgets, client-closes, outcomes-close, weight, is_few, is_small, is_small_stage, are_small_stages, is_committed, committed_at, AreFlagsOf, RequestNo, IsListed, WantsEnd, wants_to_commit, wants_to_abort, WantsOutcome, wants_outcome, votes_late, Saying, says_nothing, says_begun, says_unknown, prepares_again, says_committed, says_aborted, says_commit, says_drop, says_waiting, Committing, has_no_works, is_last_vote, Aborting, finds_no_record, stops_open, stops_voting, work_is_lost, work_is_broken, work_has_no_room, Noting, work_is_done, client_thanks, CoordinatorCase, is_ignored_by, is_left_by, begins_anew, finds_no_room, starts_voting, counts_vote, is_committed_by, is_aborted_by, notes_commit, forgets_commit, forgets_abort, coordinator-case, weigh_all, without}
+use Rattle.std.specs.Prelude.{length}
+use Rattle.jn_rows.specs.Coordinator.{name_from}
 use Rattle.jn_msgs.specs.declared.message.Message.TheVariants as messages
 use Rattle.jn_msgs.specs.declared.message.Outcome.TheVariants as outcomes
-use Rattle.jn_rows.specs.Coordinator.{without}
-pub use Rattle.jn_system.proofs.WholeSystem.CoordinatorCases.{transaction-named as found-name}
 
 -- ---- lists of works
 

@@ -1,9 +1,14 @@
 -- What a worker's row sends and sets going weighs less than the message, and its table stays small.
-use Rattle.jn_system_settling.proofs.Common.{◌≡◌, ◌≤◌, ℕ, ◌+◌, Bool, true, false, List, [], ◌∷◌, ◌++◌, length, length-append, Option, Some, None, true≢false, refl, sym, ◌∙◌, ap, arith, ◌&&◌, if◌then◌else◌, is_some, nat_tests, Tid, WorkId, LockUnit, Tickets, work_tells, change, Message, Work, Phase, Stored, StableState, Prepared, Change, AddFlag, DropFlag, made_all, is_going, at_work, gone_on, ready_work, RowOutcome, WorkerTable, WorkStorage, Wanted, with_phase, without, after_grant, broken_by, breaks_at, new_work, commit_wants, worker_row, going_work, worker_step, is_before, are_rising, none-front, TableFact, going-is, weight, goings, Sent, its_wants, Replies, is_open_already, WorkerCase, none_done, replies_only, opens_anew, refuses_next, performs_next, prepares_it, marks_it, drops_it, removes_it, worker-case, WorkerStep, is_over, worker-step-case}
-use Rattle.jn_system_settling.proofs.Settling.MessageWeights.{weigh_all}
+use Rattle.jn_row_ranges.proofs.Common.{◌≡◌, ◌≤◌, ℕ, Bool, true, false, List, [], ◌∷◌, ◌++◌, length-append, Option, Some, None, true≢false, refl, sym, ◌∙◌, ap, arith, ◌+◌, ◌&&◌, if◌then◌else◌, is_some, nat_tests, Tid, WorkId, Tickets, work_tells, Message, Work, Phase, StableState, Prepared, Change, AddFlag, DropFlag, made_all, is_going, at_work, gone_on, ready_work, RowOutcome, Sent, WorkerTable, WorkStorage, Wanted, with_phase, after_grant, broken_by, breaks_at, new_work, commit_wants, worker_row, going_work, worker_step, AreOrderly, weight, its_wants, Replies, is_open_already, WorkerCase, none_done, replies_only, opens_anew, refuses_next, performs_next, prepares_it, marks_it, drops_it, removes_it, worker-case, WorkerStep, is_over, worker-step-case, weigh_all, goings, name_from}
+use Rattle.std.specs.Prelude.{length}
+use Rattle.jn_base.specs.declared.names.LockUnit.{LockUnit}
+use Rattle.jn_rows.specs.declared.worker.Phase.TheVariants.{Prepared as Stored}
+use Rattle.jn_rows.specs.Worker.{without}
+use Rattle.jn_lock_rows.specs.Matching.{is_before, are_rising}
+use Rattle.jn_lock_rows.proofs.Works.{none-front}
+use Rattle.jn_system.proofs.WholeSystem.WorkerRows.{going-is}
 use Rattle.jn_locks.proofs.Orders.{work_before-irreflexive}
 use Rattle.jn_msgs.specs.declared.message.Message.TheVariants as messages
-use Rattle.jn_rows.specs.Worker.{name_from}
 
 abbrev Stable : Type 0
 Stable = WorkId → Option Prepared
@@ -120,14 +125,14 @@ module _ (s : WorkStorage) (k : Tickets) (t : WorkerTable) (few : length t ≤ 6
   light m x reply = omega arith
 
   -- the next name is stored nowhere
-  new-idle : TableFact t k s.state.works → is_going (s.state.works (name_from k)) ≡ false
+  new-idle : AreOrderly t k s.state.works → is_going (s.state.works (name_from k)) ≡ false
   new-idle fact = by (s.state.works (name_from k)) refl
     where
       by : (o : Option Prepared) → s.state.works (name_from k) ≡ o → is_going o ≡ false
       by None e = refl
       by (Some p) e = absurd (true≢false (sym (fact.live (name_from k) (ap is_some e)) ∙ ap is_some (none-front (name_from k) t fact.before)))
 
-  fits : TableFact t k s.state.works → (m : Message) (row : RowOutcome WorkerTable) → WorkerCase t s k m row → Fits (weight m) row
+  fits : AreOrderly t k s.state.works → (m : Message) (row : RowOutcome WorkerTable) → WorkerCase t s k m row → Fits (weight m) row
   fits fact _ _ (none_done m) = let some = weighs-some m in still _ _ refl refl refl (omega (arith, some))
   fits fact _ _ (replies_only m x reply) = let less = light m x reply in still _ _ refl refl refl (omega (arith, less))
   fits fact _ _ (opens_anew c q T e room) = record {
@@ -155,7 +160,7 @@ module _ (s : WorkStorage) (k : Tickets) (t : WorkerTable) (few : length t ≤ 6
     goes = let one = goings-without (at_work s.state.works W None) W t in let less = goings-at s.state.works W None t refl in omega (arith, one, less);
   }
 
-pub worker-fits : (s : WorkStorage) (k : Tickets) (t : WorkerTable) (m : Message) → TableFact t k s.state.works → length t ≤ 64 → WorkerFits s.state t (weight m) (worker_row t s k m)
+pub worker-fits : (s : WorkStorage) (k : Tickets) (t : WorkerTable) (m : Message) → AreOrderly t k s.state.works → length t ≤ 64 → WorkerFits s.state t (weight m) (worker_row t s k m)
 worker-fits s k t m fact few = fits s k t few fact m (worker_row t s k m) (worker-case t s k m)
 
 -- ---- a background step
