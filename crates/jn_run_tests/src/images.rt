@@ -101,8 +101,7 @@ fn scrubbed<S: StableStore + Drop>(storage: Intents<S>) -> Option<S>
     }
 }
 
-/// What the disk of an image is, examined: its counts of pages, where the server that starts on it and is closed at once is saved under
-/// the name `b`.
+/// The counts of pages of an image that was loaded, once its server has started, was closed and is saved under the name `b`.
 fn saved_again<I: Keeper>(
     alloc: Global,
     keeper: &mut I,
@@ -114,8 +113,8 @@ fn saved_again<I: Keeper>(
     let Ok((store, counts)) = examine_image(alloc, content, server) else {
         return None;
     };
-    let closed = closed(alloc, store, counts)?;
-    match save_image(alloc, keeper, "b", server, counts, closed) {
+    let left = closed(alloc, store, counts)?;
+    match save_image(alloc, keeper, "b", server, counts, left) {
         Ok(()) => Some(counts),
         Err(_failed) => None,
     }

@@ -1,11 +1,7 @@
-use Rattle.std.proofs.Common.{List, ℕ, subst, ◌∙◌, sym}
+use Rattle.std.proofs.Common.{◌∙◌, sym}
 use Rattle.std.proofs.lemmas.Option.{IfSome_then}
-use Rattle.jn_base.specs.declared.names.ServerNo.{ServerNo}
-use Rattle.jn_order.specs.Files.{Files}
-use Rattle.jn_page_state.specs.Images.{IsImage}
-use Rattle.jn_records.specs.StablePages.{Counts}
 use Rattle.jn_recovery.specs.Counts.{counts_by}
-use Rattle.jn_run_tests.proofs.Images.{idle, files-are, counts-are, count-is}
+use Rattle.jn_run_tests.proofs.Examined.{idle, image-so, count-is}
 use Rattle.jn_run_tests.proofs.images.closed.Goals as goal
 
 pub load-requires : goal.load-requires
@@ -24,10 +20,7 @@ scrubbed-requires g c =
 pub returns-in-Ok-clause-image : goal.returns-in-Ok-clause-image
 returns-in-Ok-clause-image g c = λ server epoch files fresh.
     let l = c.in-Ok.ensures.loaded server fresh.recoverable in
-    IfSome_then c.scrubbed.result c.scrubbed.ensures.image (λ s image.
-    subst (λ (q : ServerNo). IsImage q (counts_by c.args.counts) files (g.S.StableStore.view s)) l.server_is
-    (subst (λ (h : Counts). IsImage _ h files (g.S.StableStore.view s)) (counts-are server (counts_by c.args.counts) epoch files _ fresh _ _ l)
-    (subst (λ (fs : Files). IsImage _ _ fs (g.S.StableStore.view s)) (files-are server (counts_by c.args.counts) epoch files _ fresh _ _ l) image)))
+    IfSome_then c.scrubbed.result c.scrubbed.ensures.image (λ s image. image-so server (counts_by c.args.counts) epoch files _ fresh _ _ l (g.S.StableStore.view s) image)
 
 pub returns-in-Ok-clause-count : goal.returns-in-Ok-clause-count
 returns-in-Ok-clause-count g c =
