@@ -160,11 +160,12 @@ impl<S: StableStore> Server<S> {
         ensures shown { let v = view_with (λ s. S.view s) self.old in OnOk result (TellsPiece (is_at (BlockUnit file block)) v list.old.items (print_one (to_print v (BlockUnit file block))) (view_with (λ s. S.view s) self.new) list.new.items) }
         ensures cut { IfErr result (λ fault. CutsPiece fault (is_at (BlockUnit file block)) (view_with (λ s. S.view s) self.old) (view_with (λ s. S.view s) self.new)) }
     {
-        let Some(bytes) = self.read(file, block)? else {
-            unreachable!()
-        };
-        tell_page(alloc, list, file, block, &bytes)?;
-        Ok(())
+        // Its bytes are lent from where they were read, since a move copies them.
+        match &self.read(file, block) {
+            Ok(Some(bytes)) => Ok(tell_page(alloc, list, file, block, bytes)?),
+            Ok(None) => unreachable!(),
+            Err(stopped) => Err(ServerFault::from(*stopped)),
+        }
     }
 
     /// The transaction that holds the unit for commit.

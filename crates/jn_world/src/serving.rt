@@ -23,14 +23,14 @@ use jn_store::Powered;
 use std::alloc::AllocError;
 
 /// A line of a show.
-fn text_of(server: ServerNo, shown: &Shown) -> Result<Text, AllocError>
-    ensures { IfOk result (λ text. text ≡ text_shown server shown.now) }
+fn text_of(server: ServerNo, shown: Shown) -> Text
+    ensures { result ≡ text_shown server shown }
 {
-    Ok(match shown {
-        Shown::File(file) => Text::File(server, *file),
-        Shown::Locked(unit, tid) => Text::Locked(server, *unit, *tid),
-        Shown::Page(file, block, content) => Text::Page(server, *file, *block, content.copy()?),
-    })
+    match shown {
+        Shown::File(file) => Text::File(server, file),
+        Shown::Locked(unit, tid) => Text::Locked(server, unit, tid),
+        Shown::Page(file, block, content) => Text::Page(server, file, block, content),
+    }
 }
 
 /// The lines of a show.
@@ -38,13 +38,12 @@ fn tell_shown(
     lines: &mut Vec<Line>,
     when: When,
     server: ServerNo,
-    list: &[Shown],
+    list: Vec<Shown>,
 ) -> Result<(), AllocError>
-    ensures { OnOk result (lines.new.items ≡ lines.old.items ++ lines_at when (map (text_shown server) list.now)) }
+    ensures { OnOk result (lines.new.items ≡ lines.old.items ++ lines_at when (map (text_shown server) list.items)) }
 {
     for shown in list {
-        let text = text_of(server, shown)?;
-        tell(lines, when, text)?;
+        tell(lines, when, text_of(server, shown))?;
     }
     Ok(())
 }
@@ -60,7 +59,7 @@ fn tell_list(
 {
     match shown {
         None => Ok(()),
-        Some(list) => tell_shown(lines, when, server, &list),
+        Some(list) => tell_shown(lines, when, server, list),
     }
 }
 
