@@ -151,6 +151,18 @@ impl<S: Powered + Drop> Place<S> {
         Ok(list)
     }
 
+    /// Takes the list of a show back, if there is one, so that the next show needs no memory for its own.
+    pub fn keep_room(&mut self, list: Option<Vec<Shown>>)
+        ensures { self.new ≡ self.old }
+    {
+        let Some(list) = list else {
+            return;
+        };
+        if let Slot::Up(server) = &mut self.slot {
+            server.keep_room(list);
+        }
+    }
+
     /// Each pair of pages is cleaned.
     pub fn scrub(
         &mut self,

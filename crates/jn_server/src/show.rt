@@ -20,6 +20,7 @@ use jn_storage::StoredFiles;
 use jn_store::StableStore;
 use jn_works::{lesser_block, lesser_file};
 use std::alloc::{AllocError, Global};
+use std::mem::replace;
 
 /// What is reported of a file or a block.
 #[derive(Drop)]
@@ -41,13 +42,21 @@ impl<S: StableStore> Server<S> {
         ensures shown { IfOk result (λ list. IsShown (view_with (λ s. S.view s) self.old) list.items (view_with (λ s. S.view s) self.new)) }
         ensures cut_short { IfErr result (λ fault. CutsShort fault (view_with (λ s. S.view s) self.old) (view_with (λ s. S.view s) self.new)) }
     {
-        let mut list = Vec::new(alloc);
+        let mut list = replace(&mut self.room, Vec::new(alloc));
+        list.clear();
         let mut after = None;
         while let Some(file) = self.next_shown(after) {
             self.show_file(alloc, file, &mut list)?;
             after = Some(file);
         }
         Ok(list)
+    }
+
+    /// Takes a list back, so that the next show needs no memory for its own.
+    pub fn keep_room(&mut self, list: Vec<Shown>)
+        ensures { self.new ≡ self.old }
+    {
+        self.room = list;
     }
 
     /// The least file above `after` that is there or held for commit.

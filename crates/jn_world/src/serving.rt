@@ -33,16 +33,16 @@ fn text_of(server: ServerNo, shown: Shown) -> Text
     }
 }
 
-/// The lines of a show.
+/// The lines of a show, whose list is left empty.
 fn tell_shown(
     lines: &mut Vec<Line>,
     when: When,
     server: ServerNo,
-    list: Vec<Shown>,
+    list: &mut Vec<Shown>,
 ) -> Result<(), AllocError>
-    ensures { OnOk result (lines.new.items ≡ lines.old.items ++ lines_at when (map (text_shown server) list.items)) }
+    ensures { OnOk result (lines.new.items ≡ lines.old.items ++ lines_at when (map (text_shown server) list.old.items)) }
 {
-    for shown in list {
+    for shown in list.drain(..) {
         tell(lines, when, text_of(server, shown))?;
     }
     Ok(())
@@ -53,9 +53,9 @@ fn tell_list(
     lines: &mut Vec<Line>,
     when: When,
     server: ServerNo,
-    shown: Option<Vec<Shown>>,
+    shown: &mut Option<Vec<Shown>>,
 ) -> Result<(), AllocError>
-    ensures { OnOk result (lines.new.items ≡ lines.old.items ++ lines_at when (texts_shown server (items_of shown))) }
+    ensures { OnOk result (lines.new.items ≡ lines.old.items ++ lines_at when (texts_shown server (items_of shown.old))) }
 {
     match shown {
         None => Ok(()),
@@ -221,8 +221,9 @@ impl<S: Powered + Drop> World<S> {
         ensures does { DoesEvent (λ s. S.view s) (λ s. S.device s) (events.Show server) when (standing_of self.old) result (standing_of self.new) lines.old.items lines.new.items }
     {
         let place = &mut self.places[usize::from(server.0)];
-        let shown = place.show(self.alloc, server, when, lines)?;
-        tell_list(lines, when, server, shown)?;
+        let mut shown = place.show(self.alloc, server, when, lines)?;
+        tell_list(lines, when, server, &mut shown)?;
+        place.keep_room(shown);
         Ok(())
     }
 
