@@ -1,5 +1,5 @@
 -- The bytes of an image are read as that image, and what was read is the image of these bytes.
-use Rattle.jn_image.proofs.Common.{◌≡◌, ◌≤◌, ◌+◌, ◌*◌, ℕ, Bool, true, false, List, [], ◌++◌, length, take, drop, None, refl, sym, ap, ap₂, subst, ◌∙◌, append_assoc, arith, length-append, length-drop, ◌&&◌, nat_le, codes, bytes_eq, take-add, false≢true, nat_tests, append-nil, take_at, drop_at, sha256, Half, Counts, page_count, Image, bad_of, version_in, server_in, counts_in, in_range, within, statuses_fit, has_digest, image_counts, header_bytes, body_bytes, image_bytes, body_size, image_size, HasForm, IsWithin, PagesFit, halves_in, image_in}
+use Rattle.jn_image.proofs.Common.{◌≡◌, ◌≤◌, ◌+◌, ◌*◌, ℕ, Bool, true, false, List, [], ◌++◌, length, take, drop, None, refl, sym, ap, ap₂, subst, ◌∙◌, append_assoc, arith, length-append, length-drop, ◌&&◌, nat_le, codes, bytes_eq, take-add, false≢true, nat_tests, append-nil, take_at, drop_at, sha256, Half, Counts, page_count, Image, bad_of, version_in, server_in, counts_in, in_range, within, statuses_fit, has_digest, image_counts, header_bytes, body_bytes, image_bytes, body_size, image_size, HasForm, IsWithin, PagesFit, halves_in, image_in, IsVersion, format_version, ◌⊎◌, inl, inr, ⊎_elim, ◌<◌}
 use Rattle.std.proofs.lemmas.Slice.Eq.{bytes_eq-Decides}
 use Rattle.sha2.proofs.Facts256.{length-sha256}
 use Rattle.jn_image.proofs.Halves.{written, halves_again, statuses_again, length-written, length-halves_in, halves_fit, halves_written}
@@ -43,6 +43,13 @@ is_within limit n h = two (nat_le 1 n) (nat_le n limit) (at_most 1 n h.0) (at_mo
 
 within_is : (limit n : ℕ) → within limit n ≡ true → IsWithin limit n
 within_is limit n e = let h = of_two (nat_le 1 n) (nat_le n limit) e in (most_at 1 n h.0, most_at n limit h.1)
+
+version_within : {n : ℕ} → IsVersion n → within format_version n ≡ true
+version_within (inl e) = ap (within format_version) e
+version_within (inr e) = ap (within format_version) e
+
+version_in_format : (n : ℕ) → IsWithin format_version n → IsVersion n
+version_in_format n h = grind (arith, h)
 
 -- ---- what was written is read
 
@@ -100,7 +107,7 @@ module _ (m : Image) (form : HasForm m) (fit : PagesFit m) where
   all_passes = record {
     header = let whole = image_whole in omega (arith, whole);
     magic = ap (λ (xs : List ℕ). bytes_eq (take 8 xs) (codes "JUNIMAGE")) regrouped;
-    version = ap (within 2) version_is ∙ is_within 2 m.version form.version_within;
+    version = ap (within format_version) version_is ∙ version_within form.version;
     range = ap₂ in_range server_is counts_is ∙ in_range_is;
     behind = subst (λ h. PassesBehind h (image_bytes m)) (sym counts_is) (record { whole = image_whole; statuses = pages_fit; digest = digest_is });
   }
@@ -138,7 +145,7 @@ module _ (bytes : List ℕ) (fit : AreBytes bytes) (none : bad_of bytes ≡ None
       let p = was_passed bytes none in
       let range = of_four (nat_le (server_in bytes) 7) (within 1000 (counts_in bytes).pool) (within 1000 (counts_in bytes).heads) (within 8000 (counts_in bytes).leaves) p.range in
       record {
-        version_within = within_is 2 (version_in bytes) p.version;
+        version = version_in_format (version_in bytes) (within_is format_version (version_in bytes) p.version);
         server_within = most_at (server_in bytes) 7 range.0;
         pool_within = within_is 1000 (counts_in bytes).pool range.1;
         heads_within = within_is 1000 (counts_in bytes).heads range.2;

@@ -15,6 +15,8 @@ pub use Rattle.jn_image.specs.Form.{image_counts, header_bytes, body_bytes, body
 unfoldable pub use Rattle.jn_image.specs.Form.{image_bytes}
 pub use Rattle.jn_image.specs.Reading.{halves_in, half_in}
 unfoldable pub use Rattle.jn_image.specs.Reading.{image_in}
+pub use Rattle.jn_records.specs.Pages.{IsVersion, format_version, IsRoot, padded, root_bytes}
+unfoldable pub use Rattle.jn_records.specs.Pages.{root_page}
 pub use Rattle.jn_base.specs.declared.names.ServerNo.{ServerNo}
 pub use Rattle.jn_records.specs.Sound.{HasRoot, HasOneHead, IsSound, PagesGood, PairsAgree, SlotsFree, HeadsWhole, MapsWhole, AddressesOnce, TailsZeros, IsWholeHead, head_bytes_of, Spot, InHead, AsMap, InMap, IsWrittenAt}
 pub use Rattle.jn_image.specs.declared.fault.Unsound.{Unsound}
@@ -29,8 +31,6 @@ pub use Rattle.jn_records.proofs.HeadPages.{free_unused, used_kind, used_file, u
 pub use Rattle.byteorder.specs.Endian.{big_bytes, big_number}
 pub use Rattle.jn_image.specs.declared.fault.BadImage.{BadImage}
 pub use Rattle.jn_records.specs.declared.root.Root.{Root}
-pub use Rattle.jn_records.specs.Pages.{IsRoot, IsVersion, padded, root_bytes}
-unfoldable pub use Rattle.jn_records.specs.Pages.{root_page}
 pub use Rattle.jn_base.specs.Limits.{head_blocks, most_maps}
 pub use Rattle.jn_image.specs.Laws.{SoundImagesFit, BytesTellTheImage, SoundImagesHaveSoundPages}
 pub use Rattle.jn_records.specs.Heads.{addresses_bytes, head_bytes, has_page, all_within, IsMapPage}

@@ -1,5 +1,5 @@
 -- A header is read as it was written, and written as it was read.
-use Rattle.jn_image.proofs.Common.{◌≡◌, ◌<◌, ◌≤◌, ◌+◌, ◌*◌, ◌/◌, ◌%◌, ℕ, List, [], ◌∷◌, ◌++◌, length, take, drop, get_or, sym, ap, ap₂, ◌∙◌, arith, length-drop, slice_index, codes, take-add, drop-cons, get_or-drop, Counts, Image, version_in, server_in, counts_in, image_counts, header_bytes, HasForm, big_bytes, big_number}
+use Rattle.jn_image.proofs.Common.{◌≡◌, ◌<◌, ◌≤◌, ◌+◌, ◌*◌, ◌/◌, ◌%◌, ℕ, List, [], ◌∷◌, ◌++◌, length, take, drop, get_or, sym, ap, ap₂, ◌∙◌, arith, length-drop, slice_index, codes, take-add, drop-cons, get_or-drop, Counts, Image, version_in, server_in, counts_in, image_counts, header_bytes, HasForm, big_bytes, big_number, inl, inr, ⊎_elim}
 use Rattle.byteorder.specs.Numbers.{big_number-reads_back}
 
 abbrev counts_by : ℕ → ℕ → ℕ → Counts
@@ -12,10 +12,7 @@ module _ (m : Image) (form : HasForm m) (rest : List ℕ) where
   two n = big_bytes 2 n
 
   pub version_again : version_in (header_bytes m ++ rest) ≡ m.version
-  version_again = small m.version form.version_within.1
-    where
-      small : (v : ℕ) → v ≤ 2 → v % 256 ≡ v
-      small v few = omega (arith, few)
+  version_again = elim form.version [ inl e ↦ ap (λ n. n % 256) e ∙ sym e | inr e ↦ ap (λ n. n % 256) e ∙ sym e ]
 
   pub server_again : server_in (header_bytes m ++ rest) ≡ m.server.0
   server_again = small m.server.0 form.server_within

@@ -1,5 +1,5 @@
 -- What holds of bytes with which nothing is wrong.
-use Rattle.jn_image.proofs.Common.{◌≡◌, ◌≤◌, ◌*◌, ℕ, Bool, true, false, List, length, take, drop, Option, Some, None, refl, sym, ap, arith, not, nat_lt, codes, bytes_eq, if◌then◌else◌, false≢true, nat_tests, Counts, page_count, BadImage, bad_of, bad_behind_header, version_in, server_in, counts_in, in_range, within, statuses_fit, has_digest, body_size, image_size}
+use Rattle.jn_image.proofs.Common.{◌≡◌, ◌≤◌, ◌*◌, ℕ, Bool, true, false, List, length, take, drop, Option, Some, None, refl, sym, ap, arith, not, nat_lt, codes, bytes_eq, if◌then◌else◌, false≢true, nat_tests, Counts, page_count, BadImage, bad_of, bad_behind_header, version_in, server_in, counts_in, in_range, within, statuses_fit, has_digest, body_size, image_size, format_version}
 use Rattle.jn_image.specs.declared.fault.BadImage.TheVariants.{Short, Magic, Version, Geometry, Status, Digest, Trailing}
 
 pub record PassesBehind (g : Counts) (bytes : List ℕ) : Type 0 where
@@ -10,7 +10,7 @@ pub record PassesBehind (g : Counts) (bytes : List ℕ) : Type 0 where
 pub record Passes (bytes : List ℕ) : Type 0 where
   pub header : 16 ≤ length bytes
   pub magic : bytes_eq (take 8 bytes) (codes "JUNIMAGE") ≡ true
-  pub version : within 2 (version_in bytes) ≡ true
+  pub version : within format_version (version_in bytes) ≡ true
   pub range : in_range (server_in bytes) (counts_in bytes) ≡ true
   pub behind : PassesBehind (counts_in bytes) bytes
 
@@ -84,7 +84,7 @@ module _ (bytes : List ℕ) where
   begins = bytes_eq (take 8 bytes) (codes "JUNIMAGE")
 
   abbrev is_version : Bool
-  is_version = within 2 (version_in bytes)
+  is_version = within format_version (version_in bytes)
 
   abbrev ranges : Bool
   ranges = in_range (server_in bytes) (counts_in bytes)

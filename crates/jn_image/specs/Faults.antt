@@ -2,6 +2,7 @@
 use Rattle.std.specs.Prelude.{◌≡◌, ◌*◌, ℕ, zero, suc, Bool, true, ◌&&◌, not, nat_lt, nat_le, List, length, take, drop, codes, slice_index, bytes_eq, Option, Some, None, Result, Ok, Err, if◌then◌else◌}
 use Rattle.byteorder.specs.Endian.{big_number}
 use Rattle.sha2.specs.Sha256.{sha256}
+use Rattle.jn_records.specs.Pages.{format_version}
 use Rattle.jn_records.specs.StablePages.{Counts, page_count}
 use Rattle.jn_image.specs.declared.fault.BadImage.{BadImage}
 use Rattle.jn_image.specs.declared.fault.BadImage.TheVariants.{Short, Magic, Version, Geometry, Status, Digest, Trailing}
@@ -60,7 +61,7 @@ unfoldable pub bad_of : List ℕ → Option BadImage
 bad_of bytes =
     if nat_lt (length bytes) 16 then Some Short
     else if not (bytes_eq (take 8 bytes) (codes "JUNIMAGE")) then Some Magic
-    else if not (within 2 (version_in bytes)) then Some Version
+    else if not (within format_version (version_in bytes)) then Some Version
     else if not (in_range (server_in bytes) (counts_in bytes)) then Some Geometry
     else bad_behind_header (counts_in bytes) bytes
 

@@ -4,6 +4,7 @@ use Rattle.std.specs.List.{AllByRecursion}
 use Rattle.byteorder.specs.Endian.{big_bytes}
 use Rattle.sha2.specs.Sha256.{sha256}
 use Rattle.jn_device.specs.declared.Half.{Half}
+use Rattle.jn_records.specs.Pages.{IsVersion}
 use Rattle.jn_records.specs.StablePages.{Counts, page_count}
 use Rattle.jn_image.specs.declared.image.Image.{Image}
 
@@ -37,7 +38,7 @@ abbrev pub IsWithin : ℕ → ℕ → Type 0
 IsWithin limit n = (1 ≤ n) × (n ≤ limit)
 
 pub record HasForm (m : Image) : Type 0 where
-  pub version_within : IsWithin 2 m.version
+  pub version : IsVersion m.version
   pub server_within : m.server.0 ≤ 7
   pub pool_within : IsWithin 1000 m.pool
   pub heads_within : IsWithin 1000 m.heads

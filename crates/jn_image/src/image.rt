@@ -1,5 +1,6 @@
 //! A server's disk.
 ghost use Rattle.std.specs.Prelude.{◌≡◌, ◌<◌, ◌^◌, ◌↔◌, length, IsTrue};
+ghost use Rattle.jn_records.specs.Pages.{format_version};
 ghost use Rattle.jn_records.specs.StablePages.{page_count};
 ghost use Rattle.jn_image.specs.Faults.{within};
 ghost use Rattle.jn_image.specs.Form.{image_counts, HasForm};
@@ -83,7 +84,7 @@ impl Image {
 
 /// Whether images of this version are read and written.
 pub(crate) fn is_image_version(version: u8) -> bool
-    ensures { result ≡ within 2 version }
+    ensures { result ≡ within format_version version }
 {
     1 <= version && version <= FORMAT_VERSION
 }

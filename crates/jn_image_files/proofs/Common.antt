@@ -1,5 +1,5 @@
 -- The names from below that these proofs cite, passed on from one place. Declares nothing.
-pub use Rattle.std.proofs.Common.{◌≡◌, ℕ, List, Option, Some, None, sym, ◌∙◌, ap, subst, refl, ◌≢◌, zero, suc, ◌+◌, ◌<◌, ◌≤◌, Bool, true, false, [], ◌∷◌, length, slice_get, Result, Err, arith, true≢false, ◌++◌, Vec}
+pub use Rattle.std.proofs.Common.{◌≡◌, ℕ, List, Option, Some, None, sym, ◌∙◌, ap, subst, refl, ◌≢◌, zero, suc, ◌+◌, ◌<◌, ◌≤◌, Bool, true, false, [], ◌∷◌, length, slice_get, Result, Err, arith, true≢false, inr, ◌++◌, Vec}
 pub use Rattle.jn_device.specs.Device.{DeviceState}
 pub use Rattle.jn_store.specs.Store.{StoreView}
 pub use Rattle.jn_image.specs.declared.image.Image.{Image}

@@ -1,5 +1,5 @@
 -- What is kept, from save to save.
-use Rattle.jn_image_files.proofs.Common.{◌≡◌, ◌≢◌, ℕ, zero, suc, ◌+◌, ◌<◌, ◌≤◌, Bool, true, false, List, [], ◌∷◌, length, slice_get, Option, Some, None, Result, Err, refl, sym, ◌∙◌, ap, subst, arith, true≢false, nat_tests, nat_lt, is_some, is_ok, get_or, ServerNo, DeviceState, Contents, KeeperSaved, kept_at, image_counts, image_bytes, Image, Half, AreSound, HasPages, counts_by, PageCounts, Has, IsClosed, IsSoundImage, image_name, SavesOne, SavedTo, SavesAll, Rose, IsSaved, format_version}
+use Rattle.jn_image_files.proofs.Common.{◌≡◌, ◌≢◌, ℕ, zero, suc, ◌+◌, ◌<◌, ◌≤◌, Bool, true, false, List, [], ◌∷◌, length, slice_get, Option, Some, None, Result, Err, refl, sym, ◌∙◌, ap, subst, arith, true≢false, nat_tests, nat_lt, is_some, is_ok, get_or, ServerNo, DeviceState, Contents, KeeperSaved, kept_at, image_counts, image_bytes, Image, Half, AreSound, HasPages, counts_by, PageCounts, Has, IsClosed, IsSoundImage, image_name, SavesOne, SavedTo, SavesAll, Rose, IsSaved, format_version, inr}
 use Rattle.jn_records.specs.StablePages.{Counts}
 use Rattle.jn_host.specs.declared.KeepFailure.{KeepFailure}
 use Rattle.std.proofs.lemmas.Slice.Eq.{bytes_eq-Decides}
@@ -43,7 +43,7 @@ kept-still kept kept' name g q d told same is = let k = is.is_kept in record {
 -- the pages of a closed server's disk, sound, are those of an image that has bytes
 pub image-of : (q : ServerNo) (g : Counts) (d : DeviceState) (halves : List Half) → q.0 ≤ 7 → IsClosed q g d → AreSound format_version q g halves → IsSoundImage q (record { version = format_version; server = q; pool = g.pool; heads = g.heads; leaves = g.leaves; pages = halves })
 image-of q g d halves within closed are = record {
-  form = record { version_within = (omega arith, omega arith); server_within = within; pool_within = closed.within.pool; heads_within = closed.within.heads; leaves_within = closed.within.leaves; both_halves = are.size };
+  form = record { version = inr refl; server_within = within; pool_within = closed.within.pool; heads_within = closed.within.heads; leaves_within = closed.within.leaves; both_halves = are.size };
   sound = are.sound;
 }
 

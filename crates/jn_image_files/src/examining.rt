@@ -65,9 +65,9 @@ pub fn examine(
     Ok(stores)
 }
 
-/// The disk of a server's image that was loaded, with its counts of pages; or why it is refused: it is missing, is no image by
-/// its first fault, or is unsound. The disk has the image's pages, as they are, and no call was made to it; a restart finds the
-/// image's files there. What is refused names this server, by the rules of `docs/IMAGE.md`.
+/// The disk of a server's image that was loaded, with its counts of pages; or why the image is refused, by the rules of
+/// `docs/IMAGE.md`: it is missing, is no image, with its first fault, or isn't sound for this server, with the first reason. The
+/// disk has both halves of the image's pages, as they are, and no call was made to it. A restart finds the image's files there.
 pub fn examine_image(
     alloc: Global,
     content: &Option<Vec<u8>>,

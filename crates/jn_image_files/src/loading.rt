@@ -32,8 +32,9 @@ pub fn load_images<I: Keeper>(
     Ok(found)
 }
 
-/// What the keeper holds under the name of a server's image, or `None` where it holds nothing: the bytes as they are, which
-/// nobody has looked at. Nothing that is kept changes. It fails where a call to the keeper does, or for want of memory.
+/// What the keeper holds under the name of a server's image, which is the name of all of them with a dot and the server's number, or
+/// `None` where it holds nothing. The bytes are those that are kept, and nobody has looked at them. Nothing that is kept changes. It
+/// fails where the call to the keeper does, or for want of memory.
 pub fn load_image<I: Keeper>(
     alloc: Global,
     keeper: &mut I,

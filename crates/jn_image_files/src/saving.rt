@@ -46,9 +46,9 @@ pub fn save_images<I: Keeper>(
     Ok(())
 }
 
-/// Saves the disk of one server that was closed, with its counts of pages, as a whole image of version 2 under the server's
-/// name. Its pages are sound by now, so nobody looks at them again. Where the keeper fails or memory runs out, each name holds
-/// what it held.
+/// Saves the disk of one server that was closed, with its counts of pages, as a whole image of version 2 in the form of
+/// `docs/IMAGE.md`, under the name of the server's image. Its pages are sound by now, so nobody looks at them again. Where the call
+/// to the keeper fails or memory runs out, each name holds what it held.
 pub fn save_image<I: Keeper>(
     alloc: Global,
     keeper: &mut I,
