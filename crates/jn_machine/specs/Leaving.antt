@@ -1,25 +1,18 @@
 -- What each step leaves on a server's pages beside its stable state: rubbish records, which are those of intentions that no prepared work has, the map
 -- pages that there are, and which intentions name one. And that no record and no head is of anything else.
-use Rattle.std.specs.Prelude.{◌≡◌, ◌<◌, ◌+◌, ◌-◌, true, false, ◌&&◌, if◌then◌else◌, List, [], ◌∷◌, length, slice_get, Option, Some, None, is_some, is_none, count_by}
+use Rattle.std.specs.Prelude.{◌≡◌, ◌<◌, true, false, ◌&&◌, if◌then◌else◌, List, [], ◌∷◌, slice_get, Option, Some, None, is_some, is_none}
 use Rattle.std.specs.Option.{option_map, option_and_then, option_map_or}
 use Rattle.jn_base.specs.declared.names.ServerNo.{ServerNo}
 use Rattle.jn_base.specs.declared.names.Party.TheVariants.{Server}
-use Rattle.jn_base.specs.declared.names.FileNo.{FileNo}
-use Rattle.jn_base.specs.declared.names.Tid.{Tid}
-use Rattle.jn_base.specs.declared.names.WorkId.{WorkId}
-use Rattle.jn_base.specs.Names.{server_eq, file_eq, tid_eq, work_eq}
+use Rattle.jn_base.specs.Names.{server_eq}
 use Rattle.jn_device.specs.Device.{DeviceState}
-use Rattle.jn_page_state.specs.Pages.{pool_on, heads_on, pages_by}
-use Rattle.jn_records.specs.declared.head.Head.{Head}
-use Rattle.jn_records.specs.declared.record.Record.{Record}
-use Rattle.jn_records.specs.StablePages.{Counts, Pages}
+use Rattle.jn_page_state.specs.Pages.{pages_by}
 use Rattle.jn_rows.specs.Outcomes.{RowOutcome, Sent}
 use Rattle.jn_rows.specs.Stable.{StableState, Change, Pick, stable}
 use Rattle.jn_worker.specs.Leaving.{Beside, left_over}
-use Rattle.jn_server.specs.Standing.{standing_pages, is_free_head, beside_on}
-use Rattle.jn_sets.specs.Pool.{free_count, rubbish_count}
-use Rattle.jn_storage.specs.Listing.{IsListing, total}
-use Rattle.jn_storage.specs.Orderly.{file_there, list_of}
+use Rattle.jn_server.specs.Counted.{CountsAll}
+use Rattle.jn_server.specs.Handling.{left_by_work}
+use Rattle.jn_server.specs.Standing.{standing_pages, beside_on}
 use Rattle.jn_store.specs.Pairs.{pairs_view}
 use Rattle.jn_system.specs.WholeSystem.World.{World, Memory}
 use Rattle.jn_system.specs.WholeSystem.Servers.{Room, server_row, server_step}
@@ -47,7 +40,7 @@ row_at w q step = None
 
 -- A row leaves what its changes leave; a background step without changes erases a rubbish record.
 abbrev pub left_by_row : Step → StableState → List Change → Beside → Beside
-left_by_row (Work s room) x [] b = record b { rubbish = b.rubbish - 1 }
+left_by_row (Work s room) x changes b = left_by_work x changes b
 left_by_row step x changes b = left_over x changes b
 
 -- Without a row it stays. A server that comes up has what it reads, by a pick, and no rubbish.
@@ -69,22 +62,6 @@ AreLeft x steps w ds es = (q : ServerNo) → q.0 < x.servers → is_some ((run s
 
 -- ---- everything is counted
 
--- Each record is free, that of a flag, of a prepared work or of an intention of one, or rubbish, and each head is free or that of a file that is there.
--- There is no other, and none twice.
-pub record AreCounted (g : Counts) (y : StableState) (records : List Record) (heads : List Head) : Type 0 where
-  pub works : List WorkId
-  pub flags : List Tid
-  pub files : List FileNo
-  pub works_all : IsListing work_eq (λ W. is_some (y.works W)) works
-  pub flags_all : IsListing tid_eq (λ T. is_some (y.flags T)) flags
-  pub files_all : IsListing file_eq (file_there y.files) files
-  pub records_all : free_count records + length flags + length works + total (λ W. length (list_of y W)) works + rubbish_count records ≡ g.pool
-  pub heads_all : count_by is_free_head heads + length files ≡ g.heads
-
--- of these pages
-abbrev pub CountsAll : Counts → StableState → Pages → Type 0
-CountsAll g y pages = AreCounted g y (pool_on g pages) (heads_on g pages)
-
--- so on the pages of each server that is up
+-- on the pages of each server that is up: no record and no head is there that nothing names
 abbrev pub AreAllCounted : Setup → World → (ServerNo → DeviceState) → Type 0
 AreAllCounted x w ds = (q : ServerNo) → q.0 < x.servers → is_some (w.memory q) ≡ true → CountsAll (x.counts q) (stable (w.found q)) (standing_pages (pairs_view (ds q)))

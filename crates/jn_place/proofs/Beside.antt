@@ -1,6 +1,8 @@
 -- What calls of a server leave beside files, works and flags, and that a scrub leaves an image.
-use Rattle.jn_place.proofs.Common.{◌≡◌, ℕ, Bool, true, false, length, Option, Ok, refl, sym, ◌∙◌, ap, subst, ServerNo, DeviceState, cleared, Scrubbed, counts_in, Message, Collected, Files, Memory, Counts, RowOutcome, Befalls, Steps, ServerView, Parts, view_with, state, CountsErased, Accounts, pairs_view, StoreView, Slot, Up, Down, Gone, WhereUp, TakeLeaves, WorkLeaves, KeepsBeside, LeavesImage, work_of, WhereDone, IsAsBefore, Follows, LeavesOwnImage, Stands, IsClean, IsWholePage, LeavesClean, beside_of}
+use Rattle.jn_place.proofs.Common.{◌≡◌, ℕ, Bool, true, false, Option, Some, Ok, refl, sym, ◌∙◌, ap, subst, ServerNo, DeviceState, cleared, Scrubbed, counts_in, Message, Collected, Memory, Counts, RowOutcome, Befalls, Steps, ServerView, Parts, view_with, state, CountsErased, Accounts, pairs_view, StoreView, Slot, Up, Down, Gone, WhereUp, TakeLeaves, WorkLeaves, KeepsBeside, LeavesImage, work_of, WhereDone, IsAsBefore, Follows, LeavesOwnImage, Stands, IsClean, IsWholePage, LeavesClean, beside_of, LeavesByWork}
+use Rattle.jn_order.specs.Files.{Files}
 use Rattle.jn_page_state.specs.Images.{IsImage}
+use Rattle.jn_place.proofs.Calling.{was-done}
 use Rattle.jn_place.proofs.Ending.{Sees}
 
 -- what holds before and after a call holds once its faults are reported
@@ -18,8 +20,9 @@ module _ {S : Type 0} (look : S → StoreView) where
   down-so so (Down t) s = tt
   down-so so Gone s = tt
 
-  pub works-leave : (a : Slot S) (p q : Parts S) (before after : Collected) (done : Bool) → a ≡ Up p → Steps (work_of (view_with look p)) (view_with look p) before (Ok done) (view_with look q) after → WhereUp look WorkLeaves a (Up q)
-  works-leave a p q before after done is h = up-so WorkLeaves a p q is (λ row e. (let s = subst (λ (o : Option (RowOutcome Memory)). Steps o (view_with look p) before (Ok done) (view_with look q) after) e h in s.2 refl))
+  pub works-leave : (a : Slot S) (p q : Parts S) (before after : Collected) (done : Bool) → a ≡ Up p → Steps (work_of (view_with look p)) (view_with look p) before (Ok done) (view_with look q) after
+      → (done ≡ true → (row : RowOutcome Memory) → work_of (view_with look p) ≡ Some row → LeavesByWork (view_with look p) row (view_with look q)) → WhereUp look WorkLeaves a (Up q)
+  works-leave a p q before after done is h left = up-so WorkLeaves a p q is (λ row e. let s = subst (λ (o : Option (RowOutcome Memory)). Steps o (view_with look p) before (Ok done) (view_with look q) after) e h in (s.2 refl, left (was-done look row p q before after done s) row e))
 
   pub keeps-so : (a : Slot S) (p q : Parts S) → a ≡ Up p → (view_with look q).storage.accounts ≡ (view_with look p).storage.accounts → WhereUp look KeepsBeside a (Up q)
   keeps-so a p q is e = up-so KeepsBeside a p q is (ap beside_of e)
@@ -52,8 +55,11 @@ module _ {S : Type 0} (look : S → StoreView) where
     pub work-lasts : Outlasts look device WorkLeaves
     work-lasts v m b same after h row is =
         let leaves = h row is in (
-          λ none. subst (λ (a : Accounts). CountsErased v.storage.accounts a) (sym same.accounts) (leaves.0 none),
-          λ c one. ap beside_of same.accounts ∙ leaves.1 c one,
+          (
+            λ none. subst (λ (a : Accounts). CountsErased v.storage.accounts a) (sym same.accounts) (leaves.0.0 none),
+            λ c one. ap beside_of same.accounts ∙ leaves.0.1 c one,
+          ),
+          ap beside_of same.accounts ∙ leaves.1,
         )
 
     pub keeps-lasts : Outlasts look device KeepsBeside

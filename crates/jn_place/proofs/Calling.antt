@@ -1,5 +1,5 @@
 -- What a server's call does, by its row.
-use Rattle.jn_place.proofs.Common.{[], Scrubs, ◌≡◌, ◌≤◌, ◌+◌, ℕ, Bool, true, false, length, Option, Some, None, Ok, Err, is_some, true≢false, refl, sym, ◌∙◌, ap, subst, arith, List, Message, Collected, server_row, of_coordinator, Memory, table_of, Scrubbed, close_clients_row, RowOutcome, Unchanged, IsDone, IsStopped, Steps, Shown, ServerView, Parts, view_with, memory_of, room_of, state, Accounts, StorageLater, StoreView, IsCalm, added, AllCanBeTaken, Slot, Up, Answered, Sends, work_of, has_work_at, idle_row, IsRowDone, IsRowStopped, RowEnds, Handles, IsWorking, Works, Shows, Closes, row_calls}
+use Rattle.jn_place.proofs.Common.{[], Scrubs, ◌≡◌, ◌≤◌, ◌+◌, ℕ, Bool, true, false, length, Option, Some, None, Result, Ok, Err, is_some, true≢false, refl, sym, ◌∙◌, ap, subst, arith, List, Message, Collected, server_row, of_coordinator, Memory, table_of, Scrubbed, close_clients_row, RowOutcome, Unchanged, IsDone, IsStopped, Steps, Shown, ServerView, Parts, view_with, memory_of, room_of, state, Accounts, StorageLater, StoreView, IsCalm, added, AllCanBeTaken, Slot, Up, Answered, Sends, work_of, has_work_at, idle_row, IsRowDone, IsRowStopped, RowEnds, Handles, IsWorking, Works, Shows, Closes, row_calls}
 use Rattle.jn_base.specs.declared.fault.CallFault.TheVariants.{Stopped}
 use Rattle.jn_rows.proofs.Left.{whole-stop}
 use Rattle.jn_server.specs.Showing.{IsShown, IsCutShort}
@@ -33,8 +33,15 @@ module _ {S : Type 0} (look : S → StoreView) where
 
   -- ---- a background step
 
-  work-there : (a : Slot S) (p : Parts S) → a ≡ Up p → has_work_at look a ≡ true → is_some (work_of (view_with look p)) ≡ true
+  pub work-there : (a : Slot S) (p : Parts S) → a ≡ Up p → has_work_at look a ≡ true → is_some (work_of (view_with look p)) ≡ true
   work-there a p is there = subst (λ (x : Slot S). has_work_at look x ≡ true) is there
+
+  -- a step of which there is one is answered so
+  pub was-done : (row : RowOutcome Memory) (p q : Parts S) (before after : Collected) (done : Bool) → Steps (Some row) (view_with look p) before (Ok done) (view_with look q) after → done ≡ true
+  was-done row p q before after done h = same (Ok done) done true refl (h.1 refl)
+    where
+      same : {E : Type 0} (answer : Result Bool E) (a b : Bool) → answer ≡ Ok a → answer ≡ Ok b → a ≡ b
+      same answer a b d e = cc
 
   pub works-done : (a : Slot S) (p q : Parts S) (before after : Collected) (done : Bool) → a ≡ Up p → before ≡ nothing → has_work_at look a ≡ true
       → Steps (work_of (view_with look p)) (view_with look p) before (Ok done) (view_with look q) after → Works look a (Some after) (Up q)

@@ -1,5 +1,6 @@
--- What befalls the device of a server that is down, and how servers go down and come up.
-use Rattle.jn_place.proofs.Common.{◌≡◌, ℕ, true, [], sym, ◌∙◌, ap, subst, ServerNo, DeviceState, same_recoverable, IsRecoverable, Counts, counts_by, PageCounts, pairs_view, StoreView, HasSamePages, Place, Slot, Up, Down, Gone, LeavesStore, HoldsUp, Stands, NoneTold, IsPlace, IsDownAt, CountsAt}
+-- What befalls the device of a server, and how servers go down and come up.
+use Rattle.jn_place.proofs.Common.{◌≡◌, ℕ, true, [], sym, ◌∙◌, ap, subst, ServerNo, DeviceState, same_recoverable, IsRecoverable, Counts, counts_by, PageCounts, pairs_view, StoreView, HasSamePages, Place, Slot, Up, Down, Gone, LeavesStore, HoldsUp, Stands, NoneTold, IsPlace, IsDownAt, CountsAt, Parts, ServerView, view_with, Befalls, IsHeld, Accounts, counts_in}
+use Rattle.jn_server.specs.Reading.{StandsOnPages}
 use Rattle.jn_place.proofs.Steps.{down-stands}
 
 -- what a device has reported is what its store has
@@ -21,6 +22,23 @@ befallen-down look server most p s t is pages told h = record {
   stands = same_recoverable (look s) (look t) pages server (counts_by p.counts) (stands-at look server (counts_by p.counts) most p.slot s is h.stands);
   told = told ∙ told-at look p.slot s is h.told;
   counted = tt;
+}
+
+held-still : (server : ServerNo) (g : Counts) (most : ℕ) (v w : ServerView) → Befalls v w → IsHeld server g most true v → IsHeld server g most true w
+held-still server g most v w h k = record {
+  its = ap (λ (a : Accounts). a.server) h.storage.same ∙ k.its;
+  counts = ap counts_in h.storage.same ∙ k.counts;
+  size = k.size ∙ sym h.storage.pages.count;
+  serves = λ t. h.serves (k.serves t);
+  names = λ t. rw (ap (λ (y : ServerView). y.tickets.next) h.tables) (k.names t);
+}
+
+pub befallen-up : {S : Type 0} (look : S → StoreView) (server : ServerNo) (most : ℕ) (p : Place S) (a b : Parts S) → p.slot ≡ Up a → Befalls (view_with look a) (view_with look b)
+    → (look b.storage.0).told ≡ (look a.storage.0).told → StandsOnPages (view_with look b) → IsPlace look server most p → IsPlace look server most (record { counts = p.counts; slot = Up b })
+befallen-up {S} look server most p a b is befalls told counted h = record {
+  stands = held-still server (counts_by p.counts) most (view_with look a) (view_with look b) befalls (subst (λ (x : Slot S). Stands look server (counts_by p.counts) most x) is h.stands);
+  told = told ∙ subst (λ (x : Slot S). NoneTold look x) is h.told;
+  counted = counted;
 }
 
 -- what was reported is forgotten

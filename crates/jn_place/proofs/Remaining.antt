@@ -1,273 +1,43 @@
--- Each background step leaves one less to make.
-use Rattle.jn_place.proofs.Common.{◌≡◌, ◌≢◌, ◌⊎◌, inl, inr, ◌≤◌, ◌<◌, ℕ, ◌+◌, Bool, true, false, true≢false, List, [], ◌∷◌, length, Option, Some, None, is_some, refl, sym, ◌∙◌, ap, subst, arith, if◌then◌else◌, not, slice_get, work_tells, work_eq, DeviceState, Collected, Files, change, of_worker, of_step, storage_of, Memory, RowOutcome, quiet, StableState, Prepared, CarryOut, RemoveWork, is_going, at_work, made_by, made_all, StepLeaves, ServerView, view_with, memory_of, room_of, state, StoreView, Slot, Up, Down, Gone, WhereUp, WorkLeaves, work_of, Works, Follows, Beside}
-use Rattle.jn_storage.specs.Orderly.{intentions}
-use Rattle.std.proofs.lemmas.Option.{slice_get_within}
-use Rattle.jn_base.specs.declared.names.WorkId.{WorkId}
-use Rattle.jn_system.proofs.WholeSystem.WorkerRows.{going-is}
-use Rattle.jn_records.specs.NetLists.{intention_change}
-use Rattle.jn_records.specs.declared.intention.Intention.{Intention}
-use Rattle.jn_rows.specs.declared.worker.Work.{Work}
-use Rattle.jn_rows.specs.Worker.{WorkerTable, going_work, intentions_of, without, carried_row, going_row}
-use Rattle.jn_worker.specs.Fitting.{is_none}
-use Rattle.jn_place.specs.Remaining.{steps_of, steps_of_work, steps_of_works, steps_left, steps_at}
+-- Each background step at a place leaves one less to make.
+use Rattle.jn_place.proofs.Common.{◌≡◌, ◌<◌, ◌+◌, ℕ, Bool, true, false, length, Option, Some, None, Ok, is_some, true≢false, sym, ◌∙◌, ap, subst, DeviceState, Collected, Memory, RowOutcome, StableState, Pick, Steps, Parts, view_with, state, Accounts, StoreView, Slot, Up, Down, Gone, work_of, has_work_at, IsAsBefore, Follows, LeavesFewer}
+use Rattle.jn_server.specs.Remaining.{steps_of_works, steps_left}
+use Rattle.jn_place.proofs.Calling.{was-done, work-there}
+use Rattle.jn_place.specs.Remaining.{steps_at}
 
--- ---- numbers
+module _ {S : Type 0} (look : S → StoreView) where
+  -- ---- the server's own call
 
-both : (a b c d : ℕ) → a ≤ c → b ≤ d → a + b ≤ c + d
-both a b c d h k = omega (arith, h, k)
-
-first-less : (a b c d : ℕ) → a < c → b ≤ d → a + b < c + d
-first-less a b c d h k = omega (arith, h, k)
-
-rest-less : (a b c d : ℕ) → a ≤ c → b < d → a + b < c + d
-rest-less a b c d h k = omega (arith, h, k)
-
-some-work : (a b : Work) → Some a ≡ Some b → a ≡ b
-some-work a b e = cc
-
-no-work : (w : Work) → None ≡ Some w → ⊥
-no-work w e = cc
-
-abbrev Tells : WorkId → WorkId → Type 0
-Tells a b = ((work_eq a b ≡ true) × (a ≡ b)) ⊎ ((work_eq a b ≡ false) × (a ≢ b))
-
-same-name : (a : WorkId) → work_eq a a ≡ true
-same-name a = grind (arith, work_tells a a)
-
--- so many steps, if it goes
-abbrev if_goes : Bool → ℕ → ℕ → ℕ
-if_goes goes intentions next = if goes then steps_of intentions next else 0
-
--- ---- an intention is carried out
-
-abbrev one_on : Bool → ℕ → ℕ → ℕ
-one_on its k l = if its then k + 1 else l
-
-carried-most : (goes its : Bool) (n k l : ℕ) → (its ≡ true → k ≡ l) → if_goes goes n (one_on its k l) ≤ if_goes goes n l
-carried-most false its n k l same = omega arith
-carried-most true false n k l same = omega arith
-carried-most true true n k l same = let e = same refl in omega (arith, e)
-
-carried-one : (goes its : Bool) (n k l : ℕ) → goes ≡ true → its ≡ true → k ≡ l → l < n → if_goes goes n (one_on its k l) < if_goes goes n l
-carried-one false its n k l g i same h = absurd (true≢false (sym g))
-carried-one true false n k l g i same h = absurd (true≢false (sym i))
-carried-one true true n k l g i same h = omega (arith, same, h)
-
-module _ (x : StableState) (next : WorkId → ℕ) (W : WorkId) (files : Files) where
-  abbrev later : WorkId → ℕ
-  later = at_work next W (next W + 1)
-
-  abbrev written : StableState
-  written = record x { files = files }
-
-  its-count : (V : WorkId) → work_eq W V ≡ true → next W ≡ next V
-  its-count V e = by (work_tells W V)
+  -- where there is something to do it is done
+  pub fewer-done : (a : Slot S) (p q : Parts S) (before after : Collected) (done : Bool) → a ≡ Up p → has_work_at look a ≡ true
+      → Steps (work_of (view_with look p)) (view_with look p) before (Ok done) (view_with look q) after
+      → (done ≡ true → steps_left (view_with look q) < steps_left (view_with look p)) → LeavesFewer look a true (Up q)
+  fewer-done a p q before after done is there h less = subst (λ (x : Slot S). LeavesFewer look x true (Up q)) (sym is) (less (by (work_of (view_with look p)) (work-there look a p is there) h))
     where
-      by : Tells W V → next W ≡ next V
-      by (inl h) = ap next h.1
-      by (inr h) = absurd (true≢false (sym e ∙ h.0))
+      by : (o : Option (RowOutcome Memory)) → is_some o ≡ true → Steps o (view_with look p) before (Ok done) (view_with look q) after → done ≡ true
+      by None t s = absurd (true≢false (sym t))
+      by (Some row) t s = was-done look row p q before after done s
 
-  work-most : (V : WorkId) → steps_of_work written later V ≤ steps_of_work x next V
-  work-most V = carried-most (is_going (x.works V)) (work_eq W V) (length (intentions_of (x.works V))) (next W) (next V) (its-count V)
+  pub fewer-stopped : (a : Slot S) (p q : Parts S) → a ≡ Up p → has_work_at look a ≡ true → (is_some (work_of (view_with look p)) ≡ true → 0 < steps_left (view_with look p)) → LeavesFewer look a false (Up q)
+  fewer-stopped a p q is there some = subst (λ (x : Slot S). LeavesFewer look x false (Up q)) (sym is) (some (work-there look a p is there))
 
-  works-most : (t : WorkerTable) → steps_of_works written later t ≤ steps_of_works x next t
-  works-most [] = omega arith
-  works-most (v ∷ vs) = both _ _ _ _ (work-most v.name) (works-most vs)
+  -- ---- with what follows it
 
-  work-less : (V : WorkId) → W ≡ V → is_going (x.works W) ≡ true → next W < length (intentions_of (x.works W)) → steps_of_work written later V < steps_of_work x next V
-  work-less V same g h = subst (λ (U : WorkId). steps_of_work written later U < steps_of_work x next U) same
-      (carried-one (is_going (x.works W)) (work_eq W W) (length (intentions_of (x.works W))) (next W) (next W) g (same-name W) refl h)
+  as-many : (p q : Parts S) → IsAsBefore look p q → steps_left (view_with look q) ≡ steps_left (view_with look p)
+  as-many p q same =
+      let v = view_with look p in
+      let w = view_with look q in
+      ap (λ (f : Pick → StableState). steps_of_works (f (λ n. false)) w.storage.accounts.next w.worker.table + length w.storage.accounts.rubbish) same.found
+      ∙ ap (λ (a : Accounts). steps_of_works (state v.storage) a.next w.worker.table + length a.rubbish) same.accounts
+      ∙ ap (λ (m : Memory). steps_of_works (state v.storage) v.storage.accounts.next m.worker + length v.storage.accounts.rubbish) same.memory
 
-  carried-less : (t : WorkerTable) (w : Work) → going_work x t ≡ Some w → W ≡ w.name → is_going (x.works W) ≡ true → next W < length (intentions_of (x.works W)) → steps_of_works written later t < steps_of_works x next t
-  carried-less [] w e same g h = absurd (no-work w e)
-  carried-less (v ∷ vs) w e same g h = by (is_going (x.works v.name)) refl e (carried-less vs w)
-    where
-      by : (b : Bool) → is_going (x.works v.name) ≡ b → (if b then Some v else going_work x vs) ≡ Some w
-          → (going_work x vs ≡ Some w → W ≡ w.name → is_going (x.works W) ≡ true → next W < length (intentions_of (x.works W)) → steps_of_works written later vs < steps_of_works x next vs)
-          → steps_of_works written later (v ∷ vs) < steps_of_works x next (v ∷ vs)
-      by true b q again = first-less _ _ _ _ (work-less v.name (same ∙ sym (ap (λ (z : Work). z.name) (some-work v w q))) g h) (works-most vs)
-      by false b q again = rest-less _ _ _ _ (work-most v.name) (again q same g h)
-
--- ---- a work is over
-
-abbrev none_there : Bool → Option Prepared → Option Prepared
-none_there its o = if its then None else o
-
-gone-most : (its : Bool) (o : Option Prepared) (k l : ℕ) → if_goes (is_going (none_there its o)) (length (intentions_of (none_there its o))) (if its then k else l) ≤ if_goes (is_going o) (length (intentions_of o)) l
-gone-most true o k l = by (if_goes (is_going o) (length (intentions_of o)) l)
-  where
-    by : (n : ℕ) → 0 ≤ n
-    by n = omega arith
-gone-most false o k l = by (if_goes (is_going o) (length (intentions_of o)) l)
-  where
-    by : (n : ℕ) → n ≤ n
-    by n = omega arith
-
-module _ (x : StableState) (next : WorkId → ℕ) (W : WorkId) where
-  abbrev gone : StableState
-  gone = record x { works = at_work x.works W None }
-
-  abbrev forgotten : WorkId → ℕ
-  forgotten = at_work next W 0
-
-  left-most : (V : WorkId) → steps_of_work gone forgotten V ≤ steps_of_work x next V
-  left-most V = gone-most (work_eq W V) (x.works V) 0 (next V)
-
-  all-left-most : (t : WorkerTable) → steps_of_works gone forgotten t ≤ steps_of_works x next t
-  all-left-most [] = omega arith
-  all-left-most (v ∷ vs) = both _ _ _ _ (left-most v.name) (all-left-most vs)
-
-  -- its own steps are one more than the records that it leaves
-  leaves-less : (goes : Bool) (n k a b : ℕ) → goes ≡ true → a ≤ b → a + n < if_goes goes n k + b
-  leaves-less true n k a b g h = omega (arith, h)
-  leaves-less false n k a b g h = absurd (true≢false (sym g))
-
-  its-less : (v : Work) (vs : WorkerTable) → v.name ≡ W → is_going (x.works W) ≡ true → (if_removed : Bool) → work_eq v.name W ≡ if_removed
-      → steps_of_works gone forgotten (if if_removed then vs else v ∷ without W vs) + length (intentions_of (x.works W)) < steps_of_works x next (v ∷ vs)
-  its-less v vs same g true e = subst (λ (U : WorkId). steps_of_works gone forgotten vs + length (intentions_of (x.works W)) < steps_of_work x next U + steps_of_works x next vs) (sym same)
-      (leaves-less (is_going (x.works W)) (length (intentions_of (x.works W))) (next W) (steps_of_works gone forgotten vs) (steps_of_works x next vs) g (all-left-most vs))
-  its-less v vs same g false e = absurd (true≢false (sym (same-name W) ∙ ap (λ (U : WorkId). work_eq U W) (sym same) ∙ e))
-
-  sums : (a b c d n : ℕ) → a ≤ c → b + n < d → (a + b) + n < c + d
-  sums a b c d n h k = omega (arith, h, k)
-
-  over-less : (t : WorkerTable) (w : Work) → going_work x t ≡ Some w → w.name ≡ W → is_going (x.works W) ≡ true → steps_of_works gone forgotten (without W t) + length (intentions_of (x.works W)) < steps_of_works x next t
-  over-less [] w e same g = absurd (no-work w e)
-  over-less (v ∷ vs) w e same g = by (is_going (x.works v.name)) refl e (over-less vs w)
-    where
-      other : is_going (x.works v.name) ≡ false → (going_work x vs ≡ Some w → w.name ≡ W → is_going (x.works W) ≡ true → steps_of_works gone forgotten (without W vs) + length (intentions_of (x.works W)) < steps_of_works x next vs)
-          → going_work x vs ≡ Some w → (its : Bool) → work_eq v.name W ≡ its → Tells v.name W → steps_of_works gone forgotten (if its then vs else v ∷ without W vs) + length (intentions_of (x.works W)) < steps_of_works x next (v ∷ vs)
-      other stays again q true is (inl h) = absurd (true≢false (sym g ∙ ap (λ (U : WorkId). is_going (x.works U)) (sym h.1) ∙ stays))
-      other stays again q true is (inr h) = absurd (true≢false (sym is ∙ h.0))
-      other stays again q false is tells = sums _ _ _ _ _ (left-most v.name) (again q same g)
-
-      by : (b : Bool) → is_going (x.works v.name) ≡ b → (if b then Some v else going_work x vs) ≡ Some w
-          → (going_work x vs ≡ Some w → w.name ≡ W → is_going (x.works W) ≡ true → steps_of_works gone forgotten (without W vs) + length (intentions_of (x.works W)) < steps_of_works x next vs)
-          → steps_of_works gone forgotten (without W (v ∷ vs)) + length (intentions_of (x.works W)) < steps_of_works x next (v ∷ vs)
-      by true b q again = its-less v vs (ap (λ (z : Work). z.name) (some-work v w q) ∙ same) g (work_eq v.name W) refl
-      by false b q again = other b again q (work_eq v.name W) refl (work_tells v.name W)
-
--- ---- a work that goes has a step to make
-
-some-left : (goes : Bool) (n k : ℕ) → goes ≡ true → 0 < if_goes goes n k
-some-left true n k g = omega arith
-some-left false n k g = absurd (true≢false (sym g))
-
-some-first : (a b : ℕ) → 0 < a → 0 < a + b
-some-first a b h = omega (arith, h)
-
-some-rest : (a b : ℕ) → 0 < b → 0 < a + b
-some-rest a b h = omega (arith, h)
-
-goes-some : (x : StableState) (next : WorkId → ℕ) (t : WorkerTable) (w : Work) → going_work x t ≡ Some w → 0 < steps_of_works x next t
-goes-some x next [] w e = absurd (no-work w e)
-goes-some x next (v ∷ vs) w e = by (is_going (x.works v.name)) refl e (goes-some x next vs w)
-  where
-    by : (b : Bool) → is_going (x.works v.name) ≡ b → (if b then Some v else going_work x vs) ≡ Some w → (going_work x vs ≡ Some w → 0 < steps_of_works x next vs) → 0 < steps_of_works x next (v ∷ vs)
-    by true b q again = some-first _ _ (some-left (is_going (x.works v.name)) (length (intentions_of (x.works v.name))) (next v.name) b)
-    by false b q again = some-rest (steps_of_work x next v.name) _ (again q)
-
--- ---- a step of a server
-
-some-row : (a b : RowOutcome Memory) → Some a ≡ Some b → a ≡ b
-some-row a b e = cc
-
-no-row : (row : RowOutcome Memory) → None ≡ Some row → ⊥
-no-row row e = cc
-
--- the intentions of a work, by both names
-as-many : (o : Option Prepared) → length (intentions o) ≡ length (intentions_of o)
-as-many None = refl
-as-many (Some p) = refl
-
-carried-sum : (a b c r s : ℕ) → a ≡ b → b < c → r ≡ s → a + r < c + s
-carried-sum a b c r s e h k = omega (arith, e, h, k)
-
-ended-sum : (a b c r s d : ℕ) → a ≡ b → b + d < c → r ≡ s + d → a + r < c + s
-ended-sum a b c r s d e h k = omega (arith, e, h, k)
-
-erased-sum : (a b r s : ℕ) → a ≡ b → r + 1 ≡ s → a + r < b + s
-erased-sum a b r s e k = omega (arith, e, k)
-
-some-rubbish : (l : List WorkId) → not (is_none l) ≡ true → 0 < length l
-some-rubbish [] e = absurd (true≢false (sym e))
-some-rubbish (W ∷ Ws) e = omega arith
-
-module _ (v w : ServerView) where
-  abbrev m : Memory
-  m = memory_of v
-
-  abbrev x : StableState
-  x = state v.storage
-
-  abbrev next : WorkId → ℕ
-  next = v.storage.accounts.next
-
-  abbrev t : WorkerTable
-  t = v.worker.table
-
-  -- where this row is done, a step less is left
-  abbrev LessBy : RowOutcome Memory → Type 0
-  LessBy row = memory_of w ≡ row.table → state w.storage ≡ made_all row.changes x → StepLeaves v row w → steps_left w < steps_left v
-
-  counted : (s : StableState) (k : Memory) → memory_of w ≡ k → state w.storage ≡ s → steps_of_works (state w.storage) w.storage.accounts.next w.worker.table ≡ steps_of_works s k.next k.worker
-  counted s k mem st = ap (λ (z : StableState). steps_of_works z w.storage.accounts.next w.worker.table) st ∙ ap (λ (z : Memory). steps_of_works s z.next z.worker) mem
-
-  carries : (u : Work) (i : Intention) → going_work x t ≡ Some u → slice_get (intentions_of (x.works u.name)) (next u.name) ≡ Some i → LessBy (of_worker m (carried_row t v.tickets u (Some i)))
-  carries u i g e mem st leaves = carried-sum _ _ _ _ _ (counted (made_by (CarryOut u.name i) x) (of_worker m (carried_row t v.tickets u (Some i))).table mem st)
-      (carried-less x next u.name (change (intention_change i) x.files) t u g refl (going-is x t u g) (slice_get_within (intentions_of (x.works u.name)) (next u.name) i e))
-      (ap (λ (b : Beside). b.rubbish) (leaves.1 (CarryOut u.name i) refl))
-
-  ends : (u : Work) → going_work x t ≡ Some u → LessBy (of_worker m (carried_row t v.tickets u None))
-  ends u g mem st leaves = ended-sum _ _ _ _ _ (length (intentions_of (x.works u.name))) (counted (made_by (RemoveWork u.name) x) (of_worker m (carried_row t v.tickets u None)).table mem st)
-      (over-less x next u.name t u g refl (going-is x t u g))
-      (ap (λ (b : Beside). b.rubbish) (leaves.1 (RemoveWork u.name) refl) ∙ ap (λ (n : ℕ). length v.storage.accounts.rubbish + n) (as-many (x.works u.name)))
-
-  erases : LessBy (of_worker m (quiet t v.tickets))
-  erases mem st leaves = let one = leaves.0 refl in erased-sum _ _ _ _ (counted x (of_worker m (quiet t v.tickets)).table mem st) one.rubbish_less
-
-  pub row-less : (row : RowOutcome Memory) → work_of v ≡ Some row → LessBy row
-  row-less row e = by (going_work x t) refl e
-    where
-      at-next : (u : Work) → going_work x t ≡ Some u → (o : Option Intention) → slice_get (intentions_of (x.works u.name)) (next u.name) ≡ o → Some (of_worker m (carried_row t v.tickets u o)) ≡ Some row → LessBy row
-      at-next u g (Some i) is q = subst (λ (r : RowOutcome Memory). LessBy r) (some-row _ row q) (carries u i g is)
-      at-next u g None is q = subst (λ (r : RowOutcome Memory). LessBy r) (some-row _ row q) (ends u g)
-
-      at-rest : (b : Bool) → of_step m (if b then Some (quiet t v.tickets) else None) ≡ Some row → LessBy row
-      at-rest true q = subst (λ (r : RowOutcome Memory). LessBy r) (some-row _ row q) erases
-      at-rest false q = absurd (no-row row q)
-
-      by : (o : Option Work) → going_work x t ≡ o → of_step m (going_row t (storage_of m x (room_of v.storage)) v.tickets o) ≡ Some row → LessBy row
-      by (Some u) g q = at-next u g (slice_get (intentions_of (x.works u.name)) (next u.name)) refl q
-      by None g q = at-rest (room_of v.storage).rubbish q
-
-pub row-some : (v : ServerView) (row : RowOutcome Memory) → work_of v ≡ Some row → 0 < steps_left v
-row-some v row e = by (going_work x t) refl e
-  where
-    x : StableState
-    x = state v.storage
-
-    t : WorkerTable
-    t = v.worker.table
-
-    at-rest : (b : Bool) → (room_of v.storage).rubbish ≡ b → of_step (memory_of v) (if b then Some (quiet t v.tickets) else None) ≡ Some row → 0 < steps_left v
-    at-rest true is q = some-rest (steps_of_works x v.storage.accounts.next t) _ (some-rubbish v.storage.accounts.rubbish is)
-    at-rest false is q = absurd (no-row row q)
-
-    by : (o : Option Work) → going_work x t ≡ o → of_step (memory_of v) (going_row t (storage_of (memory_of v) x (room_of v.storage)) v.tickets o) ≡ Some row → 0 < steps_left v
-    by (Some u) g q = some-first _ _ (goes-some x v.storage.accounts.next t u g)
-    by None g q = at-rest (room_of v.storage).rubbish refl q
-
-pub step-less : {S : Type 0} (look : S → StoreView) (device : S → DeviceState) (a n b : Slot S) (answer : Option Collected) → Works look a answer n → WhereUp look WorkLeaves a b → Follows look device n (is_some answer) b → steps_at look b < steps_at look a
-step-less look device (Up p) (Up n) (Up b) (Some out) h leaves f = row-less (view_with look p) (view_with look b) h.row h.row_is (f.0.memory ∙ h.ends.memory) (ap (λ g. g (λ k. false)) f.0.found ∙ h.ends.found (λ k. false)) (leaves h.row h.row_is)
-step-less look device (Up p) (Up n) (Down s) (Some out) h leaves f = absurd f
-step-less look device (Up p) (Up n) Gone (Some out) h leaves f = absurd f
-step-less look device (Up p) (Down t) b (Some out) h leaves f = absurd h.ends
-step-less look device (Up p) Gone b (Some out) h leaves f = absurd h.ends
-step-less look device (Up p) (Up n) (Down s) None h leaves f = row-some (view_with look p) h.row h.row_is
-step-less look device (Up p) (Up n) (Up b) None h leaves f = absurd f
-step-less look device (Up p) (Up n) Gone None h leaves f = absurd f
-step-less look device (Up p) (Down t) b None h leaves f = absurd h.ends
-step-less look device (Up p) Gone b None h leaves f = absurd h.ends
-step-less look device (Down s) n b answer h leaves f = absurd h
-step-less look device Gone n b answer h leaves f = absurd h
+  pub fewer-left : (device : S → DeviceState) (a m b : Slot S) (done : Bool) → LeavesFewer look a done m → Follows look device m done b → steps_at look b < steps_at look a
+  fewer-left device (Up p) (Up m) (Up b) true h f = subst (λ (n : ℕ). n < steps_left (view_with look p)) (sym (as-many m b f.0)) h
+  fewer-left device (Up p) (Up m) (Up b) false h f = absurd f
+  fewer-left device (Up p) (Up m) (Down s) true h f = absurd f
+  fewer-left device (Up p) (Up m) (Down s) false h f = h
+  fewer-left device (Up p) (Up m) Gone true h f = absurd f
+  fewer-left device (Up p) (Up m) Gone false h f = absurd f
+  fewer-left device (Up p) (Down s) b done h f = absurd f
+  fewer-left device (Up p) Gone b done h f = absurd f
+  fewer-left device (Down s) m b done h f = absurd h
+  fewer-left device Gone m b done h f = absurd h

@@ -1,5 +1,7 @@
 -- A restart, from the store with power to the server.
-use Rattle.jn_place.proofs.Common.{◌≡◌, ◌≤◌, ◌<◌, ◌+◌, ℕ, suc, Bool, true, false, true≢false, List, [], ◌∷◌, ◌++◌, map, Option, Some, None, is_some, ⊎_elim, ◌||◌, refl, sym, ◌∙◌, ap, subst, arith, Result, Ok, Err, IfOk, ServerNo, Tid, tid_eq, tid_tells, DeviceState, PowersUp, powered_off, cleared, found_on, fewer_picked, restored, Memory, Counts, Found, Transaction, restored_transaction, restored_transactions, StableState, FlagState, IsRestarted, IsNotRestarted, Parts, view_with, memory_of, StoreView, IsCalm, work_eq, When, Line, Accounts, StoreLater, Restarted, Slot, Up, Down, Gone, lines_at, texts_of_step, IsTried, IsUpAt, IsStoppedUp, IsUsedUpAt, CameTo, IsRestart, IsCalmAt, ComesCalm, is_stopped, IsRisen, IsCutUp, IsAtLast, SaysSame, StaysAs, StandsUp, Rises, Lifts, told_at, CameUp, IsHeld, with_epoch, slot_place, head_place, pairs_view, IsWholePage, root_by, IsOnly, length, Pages, Pick, heads_on, pages_by, state_of, MapsAreClean, calls_by, most_calls, beside_of, IsSpent}
+use Rattle.jn_place.proofs.Common.{◌≡◌, ◌≤◌, ◌<◌, ◌+◌, ℕ, suc, Bool, true, false, true≢false, List, [], ◌∷◌, ◌++◌, map, Option, Some, None, is_some, ⊎_elim, ◌||◌, refl, sym, ◌∙◌, ap, subst, arith, Result, Ok, Err, IfOk, ServerNo, Tid, DeviceState, PowersUp, powered_off, cleared, found_on, fewer_picked, restored, Memory, Counts, Found, Transaction, restored_transaction, restored_transactions, StableState, FlagState, IsRestarted, IsNotRestarted, Parts, view_with, memory_of, StoreView, IsCalm, When, Line, Accounts, StoreLater, Restarted, Slot, Up, Down, Gone, lines_at, texts_of_step, IsTried, IsUpAt, IsStoppedUp, IsUsedUpAt, CameTo, IsRestart, IsCalmAt, ComesCalm, is_stopped, IsRisen, IsCutUp, IsAtLast, SaysSame, StaysAs, StandsUp, Rises, Lifts, told_at, CameUp, IsHeld, with_epoch, slot_place, head_place, pairs_view, IsWholePage, root_by, IsOnly, length, Pages, Pick, heads_on, pages_by, state_of, MapsAreClean, calls_by, most_calls, beside_of, IsSpent}
+use Rattle.jn_base.specs.Names.{tid_eq, work_eq}
+use Rattle.jn_base.proofs.Tells.{tid_tells}
 use Rattle.jn_records.specs.MapPlaces.{maps_named}
 use Rattle.jn_recovery.specs.Loading.{IsSameOrNext}
 use Rattle.jn_server.specs.Standing.{beside_on}

@@ -34,7 +34,7 @@ use Rattle.jn_rows.specs.Outcomes.{RowOutcome}
 use Rattle.jn_rows.specs.Stable.{Pick, IsStopState, made_all}
 use Rattle.jn_rows.specs.Worker.{timeout_row}
 use Rattle.jn_server.specs.declared.show.Shown.{Shown}
-use Rattle.jn_server.specs.Handling.{LeavesBeside, StepLeaves}
+use Rattle.jn_server.specs.Handling.{LeavesBeside, StepLeaves, LeavesByWork}
 use Rattle.jn_server.specs.Seen.{Parts, ServerView, view_with, memory_of, room_of}
 use Rattle.jn_server.specs.Showing.{print_of}
 use Rattle.jn_server.specs.Reading.{IsRoomOfPages}
@@ -201,7 +201,7 @@ TakeLeaves message v w = LeavesBeside v (server_row (memory_of v) (state v.stora
 
 -- a background step erases a rubbish record, or leaves what its row's change leaves
 abbrev pub WorkLeaves : ServerView → ServerView → Type 0
-WorkLeaves v w = (row : RowOutcome Memory) → work_of v ≡ Some row → StepLeaves v row w
+WorkLeaves v w = (row : RowOutcome Memory) → work_of v ≡ Some row → StepLeaves v row w × LeavesByWork v row w
 
 -- any other call leaves it as it is
 abbrev pub KeepsBeside : ServerView → ServerView → Type 0

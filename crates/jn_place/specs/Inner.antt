@@ -26,6 +26,7 @@ use Rattle.jn_rows.specs.Coordinator.{close_clients_row}
 use Rattle.jn_rows.specs.Outcomes.{RowOutcome}
 use Rattle.jn_rows.specs.Stable.{Pick, IsStopState, made_all}
 use Rattle.jn_server.specs.declared.show.Shown.{Shown}
+use Rattle.jn_server.specs.Remaining.{steps_left}
 use Rattle.jn_server.specs.Seen.{Parts, ServerView, view_with, memory_of, room_of}
 use Rattle.jn_server.specs.Standing.{beside_on}
 use Rattle.jn_storage.specs.Calls.{state}
@@ -81,6 +82,12 @@ pub record IsWorking {S : Type 0} (look : S → StoreView) (p : Parts S) (answer
 abbrev pub Works : {S : Type 0} → (S → StoreView) → Slot S → Option Collected → Slot S → Type 0
 Works look (Up p) answer after = IsWorking look p answer after
 Works look before answer after = ⊥
+
+-- it leaves fewer to make, and where it was stopped there was one to make
+abbrev pub LeavesFewer : {S : Type 0} → (S → StoreView) → Slot S → Bool → Slot S → Type 0
+LeavesFewer look (Up p) true (Up p') = steps_left (view_with look p') < steps_left (view_with look p)
+LeavesFewer look (Up p) false after = 0 < steps_left (view_with look p)
+LeavesFewer look before done after = ⊥
 
 -- one that changes nothing
 abbrev pub Idles : {S : Type 0} → (S → StoreView) → ℕ → Parts S → Bool → Slot S → Type 0

@@ -10,7 +10,7 @@ ghost use Rattle.jn_row_ranges.specs.Taking.{AllCanBeTaken};
 ghost use Rattle.jn_msgs.specs.Ranges.{CanBeTaken};
 ghost use Rattle.jn_place.specs.Calls.{Serves, Called, Answered, LeavesStore, CameUp, LeavesPlace, StandsOn};
 ghost use Rattle.jn_place.specs.Exact.{lines_at, texts_of_step, has_work_at, ReadsPages, items_of, Took, WorkedBy, ScrubbedBy, Showed, Closed, AsksAgain, TimedOut, Crashed, IsRestart, Befell, StaysCalm, ComesCalm, WhereUp, TakeLeaves, WorkLeaves, KeepsBeside, LeavesClean, LeavesImage};
-ghost use Rattle.jn_place.specs.Inner.{Handles, Works, Scrubs, Shows, Closes, told_at, SaysSame, StaysAs, Follows, StandsUp, Rises, Lifts, WhereDone, LeavesOwnImage};
+ghost use Rattle.jn_place.specs.Inner.{Handles, Works, LeavesFewer, Scrubs, Shows, Closes, told_at, SaysSame, StaysAs, Follows, StandsUp, Rises, Lifts, WhereDone, LeavesOwnImage};
 ghost use Rattle.jn_place.specs.Remaining.{steps_at};
 ghost use Rattle.jn_place.specs.Places.{HoldsUp, Stands, IsDownAt, IsPlace, NoneTold, HasPages, is_up, is_there};
 
@@ -151,6 +151,18 @@ impl<S: Powered + Drop> Place<S> {
         Ok(list)
     }
 
+    /// Takes the list of a show back, if there is one, so that the next show needs no memory for its own.
+    pub fn keep_room(&mut self, list: Option<Vec<Shown>>)
+        ensures { self.new ≡ self.old }
+    {
+        let Some(list) = list else {
+            return;
+        };
+        if let Slot::Up(server) = &mut self.slot {
+            server.keep_room(list);
+        }
+    }
+
     /// Each pair of pages is cleaned.
     pub fn scrub(
         &mut self,
@@ -251,6 +263,7 @@ impl<S: Powered + Drop> Place<S> {
         ensures answered { IfOk result (λ answer. Answered (λ s. S.view s) self.old.slot self.new.slot answer) }
         ensures worked { IfOk result (λ answer. Works (λ s. S.view s) self.old.slot answer self.new.slot) }
         ensures beside { IfOk result (λ answer. WhereDone (λ s. S.view s) WorkLeaves self.old.slot (is_some answer) self.new.slot) }
+        ensures less { IfOk result (λ answer. LeavesFewer (λ s. S.view s) self.old.slot (is_some answer) self.new.slot) }
         ensures counts { self.new.counts ≡ self.old.counts }
         ensures room { ReadsPages (λ s. S.view s) self.old.slot }
     {

@@ -8,7 +8,6 @@ use Rattle.jn_image_files.specs.declared.refusal.Refusal.{Refusal}
 use Rattle.jn_between.proofs.Ended.{at-the-end}
 use Rattle.jn_headline.proofs.Joined.{whole-report, part-report}
 use Rattle.jn_headline.specs.Headline.{IsTrueOfBegun, IsOfItsCommits}
-use Rattle.jn_world.specs.Images.{HasFilesAlone}
 use Rattle.jn_run.specs.declared.status.Status.TheVariants as statuses
 use Rattle.jn_run.specs.declared.running.RunFault.TheVariants as runs
 use Rattle.jn_run.specs.Keeping.{KeptWith}
@@ -136,14 +135,13 @@ module _ {S : Type 0} (device : S → DeviceState) (options : Options) (kept : O
         let (x, there) = some-at stores q.0 (subst (λ (n : ℕ). q.0 < n) (sym b.stores_are.servers) lt) in
         let same : b.opens.setup.counts q ≡ counts_by g = b.stores_are.counts q.0 x there ∙ ap (λ (h : PageCounts). counts_by h) (some-is x.1 g (sym (its-counts q x there) ∙ its)) in
         let found = end.found q (λ n. false) lt in
-        let alone : HasFilesAlone (stable (run.last.state.course.world.found q)) = record {
-          works = λ W. ap (λ (y : StableState). y.works W) found ∙ end.works q (λ n. false) W lt;
-          flags = λ T. ap (λ (y : StableState). y.flags T) found ∙ end.flags q (λ n. false) T lt;
-        } in
         record {
           within = subst (λ (h : PageCounts). AreWithin (counts_by h)) (some-is x.1 g (sym (its-counts q x there) ∙ its)) (within q.0 x there);
           files = (stable (run.last.state.course.world.found q)).files;
-          image = subst (λ (h : Counts). IsImage q h (stable (run.last.state.course.world.found q)).files (pairs_view (device s))) same (theirs.images q.0 s at alone);
+          image = subst (λ (h : Counts). IsImage q h (stable (run.last.state.course.world.found q)).files (pairs_view (device s))) same (theirs.images q.0 s at (record {
+            works = λ W. ap (λ (y : StableState). y.works W) found ∙ end.works q (λ n. false) W lt;
+            flags = λ T. ap (λ (y : StableState). y.flags T) found ∙ end.flags q (λ n. false) T lt;
+          }));
           count = subst (λ (h : Counts). page_count h ≡ (pairs_view (device s)).count) same (subst (λ (d : DeviceState). page_count (b.opens.setup.counts q) ≡ (pairs_view d).count) (theirs.each q.0 s at) (end.count q lt));
         }
       where

@@ -1,8 +1,7 @@
 -- What the coordinator does by its row, the whole server does.
-use Rattle.jn_server.proofs.Common.{◌≡◌, ◌⊎◌, inl, inr, ℕ, ◌+◌, ◌*◌, ◌≤◌, Bool, true, false, List, [], ◌∷◌, Option, Result, Ok, Err, refl, sym, ◌∙◌, ap, subst, arith, true≢false, length, ◌&&◌, IsErr, IsErrAnd, nat_tests, Tickets, WorkId, work_eq, work_before, is_after, Collected, StableState, Prepared, Change, AddReady, MarkGoing, CarryOut, RemoveWork, AddFlag, DropFlag, is_going, made_by, made_all, RowOutcome, Work, work_at, work_from, CoordinatorTable, Accounts, StorageView, state, is_in, calm_on, left_by, left_over, WorkFits, WorkListFits, Remembered, CoordinatorDone, CoordinatorStopped, CoordinatorDoes, CoordinatorTickets, of_coordinator, Aside, is_of_flag, are_of_flags, first-of, second-of, flags-all, epoch-all, DrawsOne, CallFault, ServerView, memory_of, IsServer, IsDone, IsStopped, Does, LeavesBeside, row_calls, Beside, beside_of}
+use Rattle.jn_server.proofs.Common.{◌≡◌, ◌⊎◌, inl, inr, ℕ, ◌+◌, ◌*◌, ◌≤◌, Bool, true, false, List, [], ◌∷◌, Option, Result, Ok, Err, refl, sym, ◌∙◌, ap, subst, arith, true≢false, length, ◌&&◌, IsErr, IsErrAnd, nat_tests, Tickets, WorkId, work_eq, work_before, is_after, Collected, StableState, Prepared, Change, AddReady, MarkGoing, CarryOut, RemoveWork, AddFlag, DropFlag, is_going, made_by, made_all, RowOutcome, Work, work_at, work_from, CoordinatorTable, Accounts, StorageView, state, is_in, calm_on, left_by, left_over, WorkFits, WorkListFits, Remembered, CoordinatorDone, CoordinatorStopped, CoordinatorDoes, CoordinatorTickets, of_coordinator, Aside, is_of_flag, are_of_flags, first-of, second-of, flags-all, epoch-all, DrawsOne, CallFault, ServerView, memory_of, IsServer, IsDone, IsStopped, Does, LeavesBeside, row_calls, Beside, beside_of, Files}
 use Rattle.jn_coord.specs.Handling.{Handles}
 use Rattle.jn_base.specs.declared.fault.CallFault.TheVariants as faults
-use Rattle.jn_order.specs.Files.{Files}
 
 -- changes of flags leave the files
 flags-files : (changes : List Change) (x : StableState) → are_of_flags changes ≡ true → (made_all changes x).files ≡ x.files

@@ -8,3 +8,7 @@ mod Listed
 mod Pieces
 mod Shows
 mod Room
+pub mod Counted
+pub mod Remaining
+pub mod Leaving
+pub mod Settled

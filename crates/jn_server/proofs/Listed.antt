@@ -1,5 +1,6 @@
 -- Names in rising order, as far as a number.
-use Rattle.jn_server.proofs.Common.{◌≡◌, ◌≢◌, ◌⊎◌, inl, inr, ℕ, ◌+◌, ◌<◌, ◌≤◌, Bool, true, false, ◌&&◌, ◌||◌, List, [], ◌∷◌, ◌++◌, Option, is_some, refl, sym, ◌∙◌, subst, arith, nat_lt, list_any, list_all, nat_tests, are_rising, AreNames, first-of, second-of}
+use Rattle.jn_server.proofs.Common.{◌≡◌, ◌≢◌, ◌⊎◌, inl, inr, ℕ, ◌+◌, ◌<◌, ◌≤◌, Bool, true, false, ◌&&◌, ◌||◌, List, [], ◌∷◌, ◌++◌, Option, is_some, refl, sym, ◌∙◌, subst, arith, nat_lt, list_any, list_all, nat_tests, first-of, second-of}
+use Rattle.jn_system.specs.WholeSystem.Steps.{are_rising, AreNames}
 use Rattle.std.proofs.lemmas.List.Folds.{list_any-append, list_all-append}
 
 both : {a b : Bool} → a ≡ true → b ≡ true → (a && b) ≡ true

@@ -186,9 +186,8 @@ module _ (v w : ServerView) (serves : IsServer v) (f : FileNo) (p : BlockNo) (an
     no_stop = h.called.no_stop (ap is_ok is);
   }
 
-  pub read-cut : {A : Type 0} (result : Result A CallFault) → is_ok answer ≡ false → IsErr result → IsErrAnd result (λ e. e ≡ Stopped) → IfErr result (λ fault. CutsPiece fault (is_at (Block f p)) v w)
-  read-cut (Ok x) stops e is = tt
-  read-cut (Err z) stops e is = subst (λ (y : CallFault). CutsPiece y (is_at (Block f p)) v w) (sym is) (record { looks = read-looks; stop = h.called.stop stops })
+  pub read-cut : (fault : CallFault) → is_ok answer ≡ false → fault ≡ Stopped → CutsPiece fault (is_at (Block f p)) v w
+  read-cut fault stops e = rw e (record { looks = read-looks; stop = h.called.stop stops })
 
 -- a unit that is held for commit
 pub tells-locked : (test : LockUnit → Bool) (v : ServerView) → IsServer v → (u : LockUnit) (T : Tid) → commit_holder u v.worker.table ≡ Some T → (old new : List Shown) → new ≡ old ++ shown.Locked u T ∷ []

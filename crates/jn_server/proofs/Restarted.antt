@@ -1,5 +1,6 @@
 -- A server that comes up is the restarted one of the whole system.
-use Rattle.jn_server.proofs.Common.{◌≡◌, ◌⊎◌, inl, inr, ℕ, suc, ◌+◌, ◌≤◌, ◌<◌, ◌^◌, Bool, true, false, List, [], ◌∷◌, ◌++◌, Option, Some, None, is_some, refl, sym, ◌∙◌, ap, subst, arith, true≢false, ◌&&◌, ◌||◌, list_all, list_any, nat_tests, ServerNo, Tickets, Tid, WorkId, tid_eq, work_eq, tid_tells, work_before, is_after, Counts, StableState, Prepared, FlagState, Change, Pick, restored_worker, restored_work, work_from, restored_coordinator, restored_transactions, restored_transaction, tid_from, seen_in_flags, seen_in_flag, is_in, StorageView, state, StoreView, found_on, WorkerView, Remembered, table_of, rises, are_above, are_before, restored, are_rising, tid_before, ServerView, memory_of, AreTables, IsRestarted, IsNotRestarted, IsWithin, Composes, fun_ext}
+use Rattle.jn_server.proofs.Common.{◌≡◌, ◌⊎◌, inl, inr, ℕ, suc, ◌+◌, ◌≤◌, ◌<◌, ◌^◌, Bool, true, false, List, [], ◌∷◌, ◌++◌, Option, Some, None, is_some, refl, sym, ◌∙◌, ap, subst, arith, true≢false, ◌&&◌, ◌||◌, list_all, list_any, nat_tests, ServerNo, Tickets, Tid, WorkId, tid_eq, work_eq, tid_tells, work_before, is_after, Counts, StableState, Prepared, FlagState, Change, Pick, restored_worker, restored_work, work_from, restored_coordinator, restored_transactions, restored_transaction, tid_from, seen_in_flags, seen_in_flag, is_in, StorageView, state, StoreView, found_on, WorkerView, Remembered, table_of, rises, are_above, are_before, restored, ServerView, memory_of, AreTables, IsRestarted, IsNotRestarted, IsWithin, Composes, fun_ext}
+use Rattle.jn_system.specs.WholeSystem.Steps.{are_rising, tid_before}
 use Rattle.jn_recovery.specs.Loading.{IsLoaded, IsDown, Recovering, IsSameOrNext}
 use Rattle.jn_recovery.specs.declared.load.Found.{Found}
 use Rattle.jn_recovery.specs.declared.load.DownCause.{DownCause}

@@ -3,7 +3,7 @@ use Rattle.jn_server.proofs.Common.{◌≡◌, Bool, true, false, ◌||◌, [], 
 use Rattle.jn_server.proofs.Room.{not_none}
 use Rattle.jn_server.proofs.Working.{worked, one-leaves, worker_failed}
 
-same-ok : {E : Type 0} (answer : Result Bool E) (a b : Bool) → answer ≡ Ok a → answer ≡ Ok b → a ≡ b
+pub same-ok : {E : Type 0} (answer : Result Bool E) (a b : Bool) → answer ≡ Ok a → answer ≡ Ok b → a ≡ b
 same-ok answer a b d e = cc
 
 no-ok : {E : Type 0} (answer : Result Bool E) (fault : E) (a : Bool) → answer ≡ Err fault → answer ≡ Ok a → ⊥

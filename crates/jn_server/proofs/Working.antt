@@ -1,5 +1,5 @@
 -- What the worker does by its row, the whole server does.
-use Rattle.jn_server.proofs.Common.{◌≡◌, inl, inr, ℕ, ◌+◌, ◌≤◌, true, false, List, [], ◌∷◌, Result, Ok, Err, refl, sym, ◌∙◌, ap, subst, arith, length, IsErr, IsErrAnd, nat_tests, Tickets, Collected, StableState, Change, RowOutcome, WorkerTable, name_from, Accounts, StorageView, state, calm_on, CallFault, Takes, CountsBy, WorkerView, flag_told, are_before, added, of_worker, epoch-all, DrawsOne, works-flags, ServerView, memory_of, IsServer, IsDone, IsStopped, Does, LeavesBeside, left_over, beside_of}
+use Rattle.jn_server.proofs.Common.{◌≡◌, inl, inr, ℕ, ◌+◌, ◌≤◌, true, false, List, [], ◌∷◌, Result, Ok, Err, refl, sym, ◌∙◌, ap, subst, arith, length, IsErr, IsErrAnd, nat_tests, Tickets, Collected, StableState, Change, RowOutcome, WorkerTable, name_from, StorageView, state, calm_on, CallFault, Takes, CountsBy, WorkerView, flag_told, are_before, added, of_worker, epoch-all, DrawsOne, works-flags, ServerView, memory_of, IsServer, IsDone, IsStopped, Does, LeavesBeside, left_over, beside_of}
 use Rattle.jn_rows.specs.declared.coordinator.Transaction.{Transaction}
 use Rattle.jn_base.specs.declared.fault.CallFault.TheVariants as faults
 use Rattle.jn_system.proofs.WholeSystem.WorkerChanges.{Aside}

@@ -1,16 +1,16 @@
 -- What a call of a server does whose row this is.
-use Rattle.std.specs.Prelude.{◌≡◌, ◌≤◌, ◌+◌, ℕ, Bool, true, false, ⊤, [], ◌∷◌, Option, Some, None, is_some, Result, Ok, Err, is_ok}
+use Rattle.std.specs.Prelude.{◌≡◌, ◌≤◌, ◌+◌, ◌-◌, ℕ, Bool, true, false, ⊤, List, [], ◌∷◌, Option, Some, None, is_some, Result, Ok, Err, is_ok}
 use Rattle.jn_base.specs.declared.names.Tid.{Tid}
 use Rattle.jn_msgs.specs.Collected.{Collected}
 use Rattle.jn_rows.specs.Outcomes.{RowOutcome}
 use Rattle.jn_rows.specs.Worker.{timeout_row}
-use Rattle.jn_rows.specs.Stable.{Change, Pick, IsStopState, made_all}
+use Rattle.jn_rows.specs.Stable.{StableState, Change, Pick, IsStopState, made_all}
 use Rattle.jn_storage.specs.Storage.{StorageLater}
 use Rattle.jn_storage.specs.Calls.{state, CountsErased}
 use Rattle.jn_storage.specs.DeviceCalls.{step_calls}
 use Rattle.jn_store.specs.Store.{IsCalm, IsStop}
 use Rattle.jn_transactions.specs.Telling.{added}
-use Rattle.jn_worker.specs.Leaving.{beside_of, left_over}
+use Rattle.jn_worker.specs.Leaving.{Beside, beside_of, left_over}
 use Rattle.jn_system.specs.WholeSystem.World.{Memory}
 use Rattle.jn_system.specs.WholeSystem.Servers.{server_timeout}
 use Rattle.jn_base.specs.declared.fault.CallFault.{CallFault}
@@ -50,6 +50,15 @@ Does most row v before (Err NoMemory) w after = ⊤
 -- what a step's row leaves: one without changes erases one rubbish record
 abbrev pub StepLeaves : ServerView → RowOutcome Memory → ServerView → Type 0
 StepLeaves v row w = (row.changes ≡ [] → CountsErased v.storage.accounts w.storage.accounts) × ((c : Change) → row.changes ≡ c ∷ [] → LeavesBeside v row w)
+
+-- a background step without changes erases a rubbish record, and any other leaves what its changes leave
+abbrev pub left_by_work : StableState → List Change → Beside → Beside
+left_by_work x [] b = record b { rubbish = b.rubbish - 1 }
+left_by_work x changes b = left_over x changes b
+
+-- what stands beside files, works and flags is what this row of a background step leaves of it
+abbrev pub LeavesByWork : ServerView → RowOutcome Memory → ServerView → Type 0
+LeavesByWork v row w = beside_of w.storage.accounts ≡ left_by_work (state v.storage) row.changes (beside_of v.storage.accounts)
 
 -- A background step whose row this is: it is answered true, and false where there is none and nothing is done.
 abbrev pub Steps : Option (RowOutcome Memory) → ServerView → Collected → Result Bool CallFault → ServerView → Collected → Type 0

@@ -1,7 +1,10 @@
 pub mod Seen
 pub mod Standing
+pub mod Counted
 pub mod Reading
 pub mod Handling
+pub mod Remaining
+pub mod Settled
 pub mod Restarting
 pub mod Befalling
 pub mod Showing

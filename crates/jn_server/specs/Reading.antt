@@ -5,7 +5,8 @@ use Rattle.jn_page_state.specs.Recoverable.{IsRecoverable}
 use Rattle.jn_intent.specs.Scrubbing.{counts_in}
 use Rattle.jn_records.specs.MapPlaces.{maps_in}
 use Rattle.jn_sets.specs.Pool.{free_count}
-use Rattle.jn_server.specs.Seen.{ServerView, memory_of, room_of}
+use Rattle.jn_server.specs.Counted.{CountsAll}
+use Rattle.jn_server.specs.Seen.{ServerView, memory_of, room_of, IsServer}
 use Rattle.jn_server.specs.Standing.{standing_pages, is_free_head, free_on, beside_on, has_rubbish}
 use Rattle.jn_storage.specs.Calls.{state}
 use Rattle.jn_worker.specs.Leaving.{beside_of}
@@ -25,7 +26,8 @@ pub record AreCountsOfPages (v : ServerView) : Type 0 where
 abbrev pub CountsPages : ServerView → Type 0
 CountsPages v = v.storage.store.power ≡ true → AreCountsOfPages v
 
--- A recovery may begin from its pages, with power or without, and it counts what is on them.
+-- A recovery may begin from its pages, with power or without, and it counts what is on them. While it serves, nothing else is there.
 pub record StandsOnPages (v : ServerView) : Type 0 where
   pub counts : CountsPages v
+  pub all : IsServer v → CountsAll (counts_in v.storage.accounts) (state v.storage) (standing_pages v.storage.store)
   pub recoverable : IsRecoverable v.storage.accounts.server (counts_in v.storage.accounts) v.storage.store

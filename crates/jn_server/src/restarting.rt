@@ -70,6 +70,7 @@ pub fn restart<S: StableStore>(
                     worker,
                     coordinator,
                     tickets,
+                    room: Vec::new(alloc),
                 };
                 Ok((up, found))
             }

@@ -1,6 +1,7 @@
 //! A server that is up.
 ghost use Rattle.std.specs.Prelude.{◌≡◌};
 
+use crate::show::Shown;
 use jn_base::Tickets;
 use jn_coord::Coordinator;
 use jn_intent::Intents;
@@ -17,6 +18,8 @@ pub struct Server<S: StableStore> {
     pub(crate) worker: Worker,
     pub(crate) coordinator: Coordinator,
     pub(crate) tickets: Tickets,
+    /// Room for what a show reports.
+    pub(crate) room: Vec<Shown>,
 }
 
 impl<S: StableStore> Model for Server<S> {

@@ -20,6 +20,7 @@ use jn_storage::StoredFiles;
 use jn_store::StableStore;
 use jn_works::{lesser_block, lesser_file};
 use std::alloc::{AllocError, Global};
+use std::mem::replace;
 
 /// What is reported of a file or a block.
 #[derive(Drop)]
@@ -41,13 +42,30 @@ impl<S: StableStore> Server<S> {
         ensures shown { IfOk result (λ list. IsShown (view_with (λ s. S.view s) self.old) list.items (view_with (λ s. S.view s) self.new)) }
         ensures cut_short { IfErr result (λ fault. CutsShort fault (view_with (λ s. S.view s) self.old) (view_with (λ s. S.view s) self.new)) }
     {
-        let mut list = Vec::new(alloc);
+        let mut list = self.take_room(alloc);
         let mut after = None;
         while let Some(file) = self.next_shown(after) {
             self.show_file(alloc, file, &mut list)?;
             after = Some(file);
         }
         Ok(list)
+    }
+
+    /// The room that was kept, with nothing in it.
+    fn take_room(&mut self, alloc: Global) -> Vec<Shown>
+        ensures same { self.new ≡ self.old }
+        ensures empty { result.items ≡ [] }
+    {
+        let mut room = replace(&mut self.room, Vec::new(alloc));
+        room.clear();
+        room
+    }
+
+    /// Takes a list back, so that the next show needs no memory for its own.
+    pub fn keep_room(&mut self, list: Vec<Shown>)
+        ensures { self.new ≡ self.old }
+    {
+        self.room = list;
     }
 
     /// The least file above `after` that is there or held for commit.
@@ -160,11 +178,12 @@ impl<S: StableStore> Server<S> {
         ensures shown { let v = view_with (λ s. S.view s) self.old in OnOk result (TellsPiece (is_at (BlockUnit file block)) v list.old.items (print_one (to_print v (BlockUnit file block))) (view_with (λ s. S.view s) self.new) list.new.items) }
         ensures cut { IfErr result (λ fault. CutsPiece fault (is_at (BlockUnit file block)) (view_with (λ s. S.view s) self.old) (view_with (λ s. S.view s) self.new)) }
     {
-        let Some(bytes) = self.read(file, block)? else {
-            unreachable!()
-        };
-        tell_page(alloc, list, file, block, &bytes)?;
-        Ok(())
+        // Its bytes are lent from where they were read, since a move copies them.
+        match &self.read(file, block) {
+            Ok(Some(bytes)) => Ok(tell_page(alloc, list, file, block, bytes)?),
+            Ok(None) => unreachable!(),
+            Err(stopped) => Err(ServerFault::from(*stopped)),
+        }
     }
 
     /// The transaction that holds the unit for commit.

@@ -10,7 +10,7 @@ use Rattle.jn_machine.specs.Whole.{IsWritten}
 use Rattle.jn_machine.proofs.Computed.{join}
 use Rattle.jn_between.specs.Between.{files_told, IsTrueAtEnd}
 use Rattle.jn_between.proofs.Ended.{at-the-end}
-use Rattle.jn_world.specs.Images.{HasFilesAlone}
+use Rattle.jn_server.specs.Settled.{IsSettledState}
 use Rattle.jn_settles.specs.Closed.{LeavesImages}
 
 module _ {S : Type 0} (device : S → DeviceState) (x : Setup) (few : x.servers ≤ 8) (schedule : List Event) (range : AllByRecursion EventInRange schedule) (images : Devices) (m : Moment) (h : IsWritten x schedule images m) (lines lines' : List Line) (same : m.state.lines ≡ lines) where
@@ -36,7 +36,7 @@ module _ {S : Type 0} (device : S → DeviceState) (x : Setup) (few : x.servers 
       found-there : (n : ℕ) → n < x.servers → c.last.state.course.world.found (record { 0 = n }) (λ i. false) ≡ found_on (x.counts (record { 0 = n })) (pairs_view (c.last.devices (record { 0 = n }))) (λ i. false)
       found-there n lt = end.found (record { 0 = n }) (λ i. false) lt
 
-      alone : (n : ℕ) → n < x.servers → HasFilesAlone (stable (c.last.state.course.world.found (record { 0 = n })))
+      alone : (n : ℕ) → n < x.servers → IsSettledState (stable (c.last.state.course.world.found (record { 0 = n })))
       alone n lt = record {
         works = λ W. ap (λ (y : StableState). y.works W) (found-there n lt) ∙ end.works (record { 0 = n }) (λ i. false) W lt;
         flags = λ T. ap (λ (y : StableState). y.flags T) (found-there n lt) ∙ end.flags (record { 0 = n }) (λ i. false) T lt;

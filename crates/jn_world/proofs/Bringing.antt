@@ -1,11 +1,9 @@
 -- A server that is down comes up, as the written machine has it.
-use Rattle.jn_world.proofs.Common.{◌≡◌, ◌≤◌, ◌<◌, ℕ, zero, suc, Bool, true, false, [], ◌∷◌, ◌++◌, get_or, length, length-append, append-nil, append_assoc, slice_set, Some, Ok, Err, true≢false, refl, sym, ◌∙◌, ap, subst, arith, ◌+◌, ◌||◌, if◌then◌else◌, IsErrAnd, count_by, list_any, with_item, fun_ext, ServerNo, Tid, tid_eq, DeviceState, Place, Restarted, Slot, Up, Down, Gone, IsRestart, IsPlace, StandsThere, CountsAt, commits_in, has_line, Counts, Pages, counts_by, Line, Text, When, EpochsUsedUp, pool_on, heads_on, standing_pages, is_free_head, free_count, rubbish_count, view_with, IsServer, state, WentOn, NoEpochLeft, WasCut, HasCounts, Standing, Stands, with_named, pairs_view, StoreView, Ended, Epoch, Memory, World, BroughtUp, texts_so_far, left_to_tell, is_among, newly_named, restart_texts, has_come, standing_of, DoesEvent, DoesTasks, is_going, Setup, Moment, lines_at, Task, ComesUp, when_of, IsRecoverable, Beside, beside_on}
+use Rattle.jn_world.proofs.Common.{◌≡◌, ◌≤◌, ◌<◌, ℕ, zero, suc, Bool, true, false, [], ◌∷◌, ◌++◌, get_or, length, length-append, append-nil, append_assoc, slice_set, Some, Ok, Err, true≢false, refl, sym, ◌∙◌, ap, subst, arith, ◌||◌, if◌then◌else◌, IsErrAnd, list_any, with_item, fun_ext, ServerNo, Tid, tid_eq, DeviceState, Place, Restarted, Slot, Up, Down, Gone, IsRestart, IsPlace, StandsThere, CountsAt, commits_in, has_line, Counts, counts_by, Line, Text, When, EpochsUsedUp, standing_pages, view_with, state, WentOn, NoEpochLeft, WasCut, HasCounts, Standing, Stands, with_named, pairs_view, StoreView, Ended, Epoch, Memory, World, BroughtUp, texts_so_far, left_to_tell, is_among, newly_named, restart_texts, has_come, standing_of, DoesEvent, DoesTasks, is_going, Setup, Moment, lines_at, Task, ComesUp, when_of, IsRecoverable, beside_on, CountsAll}
 use Rattle.std.proofs.Common.{List, drop, slice_get, Result}
 use Rattle.jn_place.specs.declared.place.Restarted.TheVariants as came
 use Rattle.jn_report.specs.declared.line.Text.TheVariants as says
 use Rattle.jn_schedule.specs.declared.Event.TheVariants as events
-use Rattle.jn_server.specs.Reading.{AreCountsOfPages}
-use Rattle.jn_storage.specs.Storage.{IsCounted}
 use Rattle.jn_world_refines.proofs.Restarts.{restarted-step, came-up-step}
 use Rattle.jn_world_refines.specs.Naming.{with_name, names_told}
 use Rattle.jn_world_refines.specs.Restarting.{texts_restarted, ComesTo}
@@ -79,39 +77,16 @@ pub same-place : {S : Type 0} (p q : Place S) → q.counts ≡ p.counts → reco
 same-place p q e = ap (λ (c : _). record q { counts = c }) (sym e)
 
 has-by : {S : Type 0} (look : S → StoreView) (q : ServerNo) (g : Counts) (most : ℕ) (slot : Slot S) → StandsThere look q g most slot → CountsAt look slot → HasCounts look q g slot
-has-by look q g most (Up p) h keeps = (
-  h.counts,
-  own.beside ∙ ap (λ (n : Counts). beside_on n pages) h.counts,
-  record {
-    works = counted.works;
-    flags = counted.flags;
-    works_all = counted.works_all;
-    flags_all = counted.flags_all;
-    files = counted.files;
-    files_all = counted.files_all;
-    records_all = all-records _ _ _ _ _ _ _ counted.records (own.free ∙ ap (λ (n : Counts). free_count (pool_on n pages)) h.counts) (ap (λ (b : Beside). b.rubbish) own.beside ∙ ap (λ (n : Counts). rubbish_count (pool_on n pages)) h.counts) (ap (λ (n : Counts). n.pool) h.counts);
-    heads_all = all-heads _ _ _ counted.heads_used (own.heads ∙ ap (λ (n : Counts). count_by is_free_head (heads_on n pages)) h.counts) (ap (λ (n : Counts). n.heads) h.counts);
-  },
-  subst (λ (s : ServerNo). IsRecoverable s g (look p.storage.0)) h.its (subst (λ (n : Counts). IsRecoverable (view_with look p).storage.accounts.server n (look p.storage.0)) h.counts keeps.recoverable),
-)
-  where
-    pages : Pages
-    pages = standing_pages (look p.storage.0)
-
-    serves : IsServer (view_with look p)
-    serves = h.serves refl
-
-    own : AreCountsOfPages (view_with look p)
-    own = keeps.counts serves.works.serving.power
-
-    counted : IsCounted (state (view_with look p).storage) (view_with look p).storage.accounts
-    counted = serves.works.serving.counted
-
-    all-records : (free flags works intentions rubbish free' rubbish' : ℕ) {pool pool' : ℕ} → free + flags + works + intentions + rubbish ≡ pool → free ≡ free' → rubbish ≡ rubbish' → pool ≡ pool' → free' + flags + works + intentions + rubbish' ≡ pool'
-    all-records free flags works intentions rubbish free' rubbish' e f r s = omega (arith, e, f, r, s)
-
-    all-heads : (free files free' : ℕ) {heads heads' : ℕ} → free + files ≡ heads → free ≡ free' → heads ≡ heads' → free' + files ≡ heads'
-    all-heads free files free' e f s = omega (arith, e, f, s)
+has-by look q g most (Up p) h keeps =
+    let v = view_with look p in
+    let pages = standing_pages (look p.storage.0) in
+    let serves = h.serves refl in
+    let own = keeps.counts serves.works.serving.power in (
+      h.counts,
+      own.beside ∙ ap (λ (n : Counts). beside_on n pages) h.counts,
+      subst (λ (n : Counts). CountsAll n (state v.storage) pages) h.counts (keeps.all serves),
+      subst (λ (s : ServerNo). IsRecoverable s g (look p.storage.0)) h.its (subst (λ (n : Counts). IsRecoverable v.storage.accounts.server n (look p.storage.0)) h.counts keeps.recoverable),
+    )
 has-by look q g most (Down s) h keeps = h
 has-by look q g most Gone h keeps = absurd h
 

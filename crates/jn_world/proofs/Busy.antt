@@ -1,5 +1,5 @@
 -- A server that is up takes a message, or makes a step where it has something to do, and which one is first.
-use Rattle.jn_world.proofs.Common.{inl, inr, append-nil, ◌≡◌, ◌≤◌, ◌<◌, ℕ, zero, suc, ◌+◌, Bool, true, false, List, [], ◌∷◌, ◌++◌, length, Option, Some, None, Result, Ok, Err, true≢false, refl, sym, ◌∙◌, ap, subst, arith, set, nat_tests, length-set, slice_get_within, ◌⊎◌, nat_lt, slice_get, IsErr, IsErrAnd, IfErr, OnOk, drop, is_some, Server, ServerNo, Tid, DeviceState, Collected, Carried, with_delivered, waiting, Posted, LeavesPlace, Place, Slot, Up, Down, Gone, Took, WorkedBy, AsksAgain, TimedOut, IsTimedOut, has_work_at, PlaceReads, WhereUp, TakeLeaves, WorkLeaves, StandsThere, IsPlace, is_up, server_timeout, of_timeout, ServerMemory, Counts, counts_by, NoSuchWork, Line, When, StableState, Pick, IsUp, Parts, view_with, memory_of, pool_on, standing_pages, rubbish_count, next-works, next-none, refused-step, WentOn, HasCounts, ReadsPages, IsIdleAt, Standing, Stands, StandsAt, PlaceStands, with_answer, texts_sent, state, pairs_view, StoreView, Ended, Messages, Epoch, Memory, AreIdleBelow, IsFirstBusy, ReadsAt, TellsBusy, is_up_at, is_up_in, works_at, works_in, DoesEvent, DoesTasks, EndsStep, GoesTo, TakesTurn, Setup, rubbish_on, next_in, has_work, refusal_of, unless, Moment, lines_at, Task, Meets, when_of, IsRecoverable, beside_of, beside_on}
+use Rattle.jn_world.proofs.Common.{inl, inr, append-nil, ◌≡◌, ◌≤◌, ◌<◌, ℕ, zero, suc, ◌+◌, Bool, true, false, List, [], ◌∷◌, ◌++◌, length, Option, Some, None, Result, Ok, Err, true≢false, refl, sym, ◌∙◌, ap, subst, arith, set, nat_tests, length-set, slice_get_within, ◌⊎◌, nat_lt, slice_get, IsErr, IsErrAnd, IfErr, OnOk, drop, is_some, Server, ServerNo, Tid, DeviceState, Collected, Carried, with_delivered, waiting, Posted, LeavesPlace, Place, Slot, Up, Down, Gone, Took, WorkedBy, AsksAgain, TimedOut, IsTimedOut, has_work_at, PlaceReads, WhereUp, TakeLeaves, WorkLeaves, StandsThere, IsPlace, is_up, server_timeout, of_timeout, ServerMemory, Counts, counts_by, NoSuchWork, Line, When, StableState, Pick, IsUp, Parts, view_with, memory_of, standing_pages, next-works, next-none, refused-step, WentOn, HasCounts, ReadsPages, IsIdleAt, Standing, Stands, StandsAt, PlaceStands, with_answer, texts_sent, state, pairs_view, StoreView, Ended, Messages, Epoch, Memory, AreIdleBelow, IsFirstBusy, ReadsAt, TellsBusy, is_up_at, is_up_in, works_at, works_in, DoesEvent, DoesTasks, EndsStep, GoesTo, TakesTurn, Setup, rubbish_on, next_in, has_work, refusal_of, unless, Moment, lines_at, Task, Meets, when_of, IsRecoverable, beside_of, beside_on, CountsAll}
 use Rattle.jn_recovery.specs.Memory.{Memory as Kept, view_of}
 use Rattle.jn_report.specs.declared.line.Text.TheVariants as says
 use Rattle.jn_rows.specs.Worker.{WorkerTable, timeout_row}
@@ -12,7 +12,6 @@ use Rattle.jn_world.proofs.Places.{up-within}
 use Rattle.jn_world.proofs.Refusing.{place-there, refused-up, meets-done}
 use Rattle.jn_world.proofs.ServerCalls.{took-does, worked-does, nudged-does, timed-out-does}
 use Rattle.jn_world.proofs.Turns.{next-first}
-use Rattle.jn_machine.specs.Leaving.{CountsAll}
 
 some-of : {X : Type 0} (a b : X) → Some a ≡ Some b → a ≡ b
 some-of a b e = cc

@@ -1,6 +1,6 @@
 -- The names from below that these proofs cite, passed on from one place. Declares nothing.
-pub use Rattle.std.proofs.Common.{◌≡◌, ◌≤◌, ◌<◌, ℕ, zero, suc, Bool, true, false, [], ◌∷◌, ◌++◌, get_or, length, length-append, append-nil, append_assoc, slice_set, Some, Ok, Err, true≢false, refl, sym, ◌∙◌, ap, subst, arith, ◌+◌, inl, inr, Option, None, ◌-◌, map, cond, length-drop, option_map, Bor}
-pub use Rattle.std.specs.Prelude.{◌||◌, if◌then◌else◌, IsErrAnd, count_by, List, Result, ◌⊎◌, nat_lt, slice_get, IsErr, IfErr, OnOk, drop, is_some, All, not, vec_len, take}
+pub use Rattle.std.proofs.Common.{◌≡◌, ◌≤◌, ◌<◌, ℕ, zero, suc, Bool, true, false, [], ◌∷◌, ◌++◌, get_or, length, length-append, append-nil, append_assoc, slice_set, Some, Ok, Err, true≢false, refl, sym, ◌∙◌, ap, subst, arith, inl, inr, ◌+◌, Option, None, ◌-◌, map, cond, length-drop, option_map, Bor}
+pub use Rattle.std.specs.Prelude.{◌||◌, if◌then◌else◌, IsErrAnd, List, Result, ◌⊎◌, nat_lt, slice_get, IsErr, IfErr, OnOk, drop, is_some, All, not, vec_len, take}
 pub use Rattle.std.specs.List.{list_any, position_from, AllByRecursion as ByRecursion}
 pub use Rattle.std.specs.Vec.{with_item}
 pub use Rattle.std.proofs.Math.Path.{fun_ext}
@@ -15,16 +15,14 @@ pub use Rattle.jn_place.specs.declared.place.Slot.TheVariants.{Up, Down, Gone}
 pub use Rattle.jn_place.specs.Exact.{IsRestart, Took, WorkedBy, AsksAgain, TimedOut, IsTimedOut, has_work_at, ReadsPages as PlaceReads, WhereUp, TakeLeaves, WorkLeaves, StaysCalm, ComesCalm, IsCalmAt, Befell, Crashed, Closed, KeepsBeside, ScrubbedBy, LeavesImage, work_of, Showed, LeavesClean, items_of}
 pub use Rattle.jn_place.specs.Places.{IsPlace, Stands as StandsThere, CountsAt, is_up}
 pub use Rattle.jn_system.specs.WholeSystem.World.{commits_in, has_line, Memory as ServerMemory, servers_from, clients_from, World as Protocol}
-pub use Rattle.jn_records.specs.StablePages.{Counts, Pages, page_count}
+pub use Rattle.jn_records.specs.StablePages.{Counts, page_count}
 pub use Rattle.jn_recovery.specs.Counts.{counts_by}
 pub use Rattle.jn_report.specs.declared.line.Line.{Line}
 pub use Rattle.jn_report.specs.declared.line.Text.{Text}
 pub use Rattle.jn_report.specs.declared.line.When.{When}
 pub use Rattle.jn_report.specs.declared.line.EventRefusal.TheVariants.{EpochsUsedUp, NoSuchWork, TooManyArmed, NoSuchServer, ServerDown, NoSuchMessage, ServerUp}
-pub use Rattle.jn_page_state.specs.Pages.{pool_on, heads_on}
-pub use Rattle.jn_server.specs.Standing.{standing_pages, is_free_head, beside_on}
-pub use Rattle.jn_sets.specs.Pool.{free_count, rubbish_count}
-pub use Rattle.jn_server.specs.Seen.{view_with, IsServer, Parts, memory_of, room_of}
+pub use Rattle.jn_server.specs.Standing.{standing_pages, beside_on}
+pub use Rattle.jn_server.specs.Seen.{view_with, Parts, memory_of, room_of}
 pub use Rattle.jn_storage.specs.Calls.{state}
 pub use Rattle.jn_world_refines.specs.Going.{WentOn, NoEpochLeft, WasCut, IsTold, NoMessageLeft, IsStepTo, Limit}
 pub use Rattle.jn_world_refines.specs.Pages.{HasCounts, ReadsPages, IsIdleAt}
@@ -42,7 +40,7 @@ pub use Rattle.jn_machine.specs.Runs.{Moment, none, DoesStep, more, Leads}
 pub use Rattle.jn_machine.specs.Steps.{lines_at, message_texts, traced, is_too_much, come_to, cut_short, made_to}
 pub use Rattle.jn_machine.specs.Tasks.{Task, ComesUp, when_of, Meets, Stage, when_at, InSchedule, AtEnd, CutShort, ClosesClients, CountsCommits, Acts, Begins, GoesDown, Dismisses, next_at, Rests, State, begun, next_task}
 pub use Rattle.jn_page_state.specs.Recoverable.{IsRecoverable}
-pub use Rattle.jn_worker.specs.Leaving.{Beside, beside_of}
+pub use Rattle.jn_server.specs.Counted.{CountsAll}
 pub use Rattle.std.proofs.Math.ListN.{set}
 pub use Rattle.std.proofs.lemmas.Bool.Decides.{nat_tests}
 pub use Rattle.std.proofs.lemmas.List.{length-set, map-append, length_push}
@@ -61,6 +59,7 @@ pub use Rattle.jn_world.specs.Standing.{is_up_at, is_up_in, works_at, works_in, 
 pub use Rattle.jn_machine.specs.Devices.{rubbish_on, Devices}
 pub use Rattle.jn_machine.specs.Events.{next_in, servers_of, ending, coming_up, settling, printing, acted, met, resting, deed_of, asking, told_unless}
 pub use Rattle.jn_machine.specs.Refusals.{has_work, refusal_of, unless, if_there, if_up, if_down}
+pub use Rattle.jn_worker.specs.Leaving.{beside_of, Beside}
 pub use Rattle.jn_base.specs.declared.names.ClientNo.{ClientNo}
 pub use Rattle.std.proofs.lemmas.List.Elements.{All-nil, All-set, All-get_or, All-from_get_or, All-append, All-map, All-cons, All-weaker, All-from_recursion, recursion_from_All, All-push}
 pub use Rattle.jn_device.specs.Events.{disarmed, is_within, Decays as PageDecays, Revives as PageRevives, Arms as FaultArmed}
@@ -83,7 +82,7 @@ pub use Rattle.jn_order.specs.Files.{AllFiles, Files}
 pub use Rattle.jn_schedule.specs.declared.Event.{Event as AnEvent, Event}
 pub use Rattle.jn_world_refines.specs.Starting.{IsFirst, IsStoreOf}
 pub use Rattle.jn_schedule.specs.declared.Event.TheVariants.{Show, Scrub, Restart, Again, Nudge, Step, Crash, Timeout, Deliver}
-pub use Rattle.jn_world.specs.Images.{HasFilesAlone, HasNoRubbish, AreClean, StayClean, HoldsImage, HoldsImageAt, HoldImages, IsScrubbedAt}
+pub use Rattle.jn_world.specs.Images.{HasNoRubbish, AreClean, StayClean, HoldsImage, HoldsImageAt, HoldImages, IsScrubbedAt}
 pub use Rattle.jn_base.specs.declared.names.Party.{Party}
 pub use Rattle.jn_world_refines.proofs.Losing.{never-sent, lost-step}
 pub use Rattle.jn_report.specs.declared.line.EventRefusal.{EventRefusal}

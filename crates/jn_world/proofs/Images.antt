@@ -1,5 +1,6 @@
 -- What a settle, a show and a scrub leave of images.
-use Rattle.jn_world.proofs.Common.{◌≡◌, ◌<◌, ◌≤◌, ℕ, ◌+◌, Bool, true, false, List, [], ◌∷◌, length, slice_get, Option, Some, None, Result, Ok, Err, is_some, inl, inr, true≢false, refl, sym, ◌∙◌, ap, subst, arith, set, All-set, slice_get_within, ◌⊎◌, not, OnOk, ServerNo, DeviceState, Carried, Files, Place, Slot, Up, Down, Gone, ScrubbedBy, WhereUp, KeepsBeside, LeavesImage, IsCalmAt, has_work_at, work_of, is_up, Counts, counts_by, Line, When, StableState, stable, view_with, memory_of, room_of, IsStoreOf, Standing, Stands, StandsAt, state, pairs_view, StoreView, IsUpAndCalm, AreUpAndCalm, HasFilesAlone, HasNoRubbish, AreClean, StayClean, HoldsImage, HoldsImageAt, HoldImages, IsScrubbedAt, IsAtRest, Setup, Moment, Beside}
+use Rattle.jn_world.proofs.Common.{◌≡◌, ◌<◌, ◌≤◌, ℕ, ◌+◌, Bool, true, false, List, [], ◌∷◌, length, slice_get, Option, Some, None, Result, Ok, Err, is_some, inl, inr, true≢false, refl, sym, ◌∙◌, ap, subst, arith, set, All-set, slice_get_within, ◌⊎◌, not, OnOk, ServerNo, DeviceState, Carried, Files, Place, Slot, Up, Down, Gone, ScrubbedBy, WhereUp, KeepsBeside, LeavesImage, IsCalmAt, has_work_at, work_of, is_up, Counts, counts_by, Line, When, StableState, stable, view_with, memory_of, room_of, IsStoreOf, Standing, Stands, StandsAt, state, pairs_view, StoreView, IsUpAndCalm, AreUpAndCalm, HasNoRubbish, AreClean, StayClean, HoldsImage, HoldsImageAt, HoldImages, IsScrubbedAt, IsAtRest, Setup, Moment, Beside}
+use Rattle.jn_server.specs.Settled.{IsSettledState}
 use Rattle.jn_base.specs.declared.names.WorkId.{WorkId}
 use Rattle.jn_page_state.specs.Images.{IsImage}
 use Rattle.jn_system.proofs.WholeSystem.BusyServers.{nothing}
@@ -54,8 +55,8 @@ module _ {S : Type 0} (look : S → StoreView) where
 
   -- ---- a scrub
 
-  files-alone : (y z : StableState) → z ≡ y → HasFilesAlone z → HasFilesAlone y
-  files-alone y z e h = subst (λ (x : StableState). HasFilesAlone x) e h
+  files-alone : (y z : StableState) → z ≡ y → IsSettledState z → IsSettledState y
+  files-alone y z e h = subst (λ (x : StableState). IsSettledState x) e h
 
   module _ (device : S → DeviceState) (q : ServerNo) (g : Counts) (when : When) where
     scrubbed-slot : (a b : Slot S) (done : Bool) (first later : List Line) → ScrubbedBy look device q g when a done b first later → WhereUp look (LeavesImage q g) a b → is_up b ≡ true → IsCalmAt look a → HasNoRubbish look a → HoldsImage look q g b
@@ -101,7 +102,7 @@ module _ {S : Type 0} (look : S → StoreView) where
 
   module _ (device : S → DeviceState) (seen : (s : S) → look s ≡ pairs_view (device s)) (x : Setup) (w : Standing S) (m : Moment) (stands : Stands look device x w m) where
     pub given-image : (n : ℕ) (p : Place S) (s : S) → slice_get w.places n ≡ Some p → IsStoreOf p.slot s → HoldsImageAt look n p
-        → HasFilesAlone (stable (m.state.course.world.found (record { 0 = n }))) → IsImage (record { 0 = n }) (x.counts (record { 0 = n })) (stable (m.state.course.world.found (record { 0 = n }))).files (pairs_view (device s))
+        → IsSettledState (stable (m.state.course.world.found (record { 0 = n }))) → IsImage (record { 0 = n }) (x.counts (record { 0 = n })) (stable (m.state.course.world.found (record { 0 = n }))).files (pairs_view (device s))
     given-image n p s at its holds alone =
         let there = stands.places n p at in
         subst (λ (g : Counts). IsImage (record { 0 = n }) g (stable (m.state.course.world.found (record { 0 = n }))).files (pairs_view (device s))) (sym there.counts)

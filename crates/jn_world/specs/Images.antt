@@ -1,24 +1,17 @@
 -- Servers whose stores are left as images: no record of them is rubbish, and their pages are cleaned.
-use Rattle.std.specs.Prelude.{◌≡◌, ℕ, ⊤, List, [], All, slice_get, Some, None}
+use Rattle.std.specs.Prelude.{◌≡◌, ℕ, ⊤, List, [], All, slice_get, Some}
 use Rattle.jn_base.specs.declared.names.ServerNo.{ServerNo}
-use Rattle.jn_base.specs.declared.names.Tid.{Tid}
-use Rattle.jn_base.specs.declared.names.WorkId.{WorkId}
 use Rattle.jn_page_state.specs.Images.{IsImage}
 use Rattle.jn_place.specs.declared.place.Place.{Place}
 use Rattle.jn_place.specs.declared.place.Slot.{Slot}
 use Rattle.jn_place.specs.declared.place.Slot.TheVariants.{Up, Down, Gone}
 use Rattle.jn_records.specs.StablePages.{Counts}
 use Rattle.jn_recovery.specs.Counts.{counts_by}
-use Rattle.jn_rows.specs.Stable.{StableState}
 use Rattle.jn_server.specs.Seen.{view_with}
+use Rattle.jn_server.specs.Settled.{IsSettledState}
 use Rattle.jn_storage.specs.Calls.{state}
 use Rattle.jn_store.specs.Store.{StoreView}
 use Rattle.jn_world.specs.Calm.{AreUpAndCalm}
-
--- nothing but files: no work is prepared, and no transaction has a flag
-pub record HasFilesAlone (y : StableState) : Type 0 where
-  pub works : (W : WorkId) → y.works W ≡ None
-  pub flags : (T : Tid) → y.flags T ≡ None
 
 -- no record of a server that is up is rubbish
 abbrev pub HasNoRubbish : {S : Type 0} → (S → StoreView) → Slot S → Type 0
@@ -35,7 +28,7 @@ StayClean look before after = AreUpAndCalm look before → AreClean look before 
 
 -- A server is up, and where it has nothing but files its store is that of a sound image, which holds these files.
 abbrev pub HoldsImage : {S : Type 0} → (S → StoreView) → ServerNo → Counts → Slot S → Type 0
-HoldsImage look q g (Up p) = let y = state (view_with look p).storage in HasFilesAlone y → IsImage q g y.files (look p.storage.0)
+HoldsImage look q g (Up p) = let y = state (view_with look p).storage in IsSettledState y → IsImage q g y.files (look p.storage.0)
 HoldsImage look q g (Down s) = ⊥
 HoldsImage look q g Gone = ⊥
 

@@ -19,7 +19,7 @@ use Rattle.jn_page_state.specs.Images.{IsImage}
 use Rattle.jn_rows.specs.Stable.{stable}
 use Rattle.jn_store.specs.Pairs.{pairs_view}
 use Rattle.jn_store.specs.Store.{StoreView}
-use Rattle.jn_world.specs.Images.{HasFilesAlone}
+use Rattle.jn_server.specs.Settled.{IsSettledState}
 use Rattle.jn_world.specs.declared.ended.Ended.{Ended}
 use Rattle.jn_world.specs.declared.ended.Ended.TheVariants.{Messages, Epoch, Memory}
 use Rattle.jn_world.specs.declared.world.World.{World}
@@ -134,7 +134,7 @@ Starts look device stores trace result lines lines' =
 
 -- where a server has nothing but files, this device has the pages of a sound image, which holds these files
 abbrev pub GivesImage : Setup → Moment → ServerNo → DeviceState → Type 0
-GivesImage x m q d = let y = stable (m.state.course.world.found q) in HasFilesAlone y → IsImage q (x.counts q) y.files (pairs_view d)
+GivesImage x m q d = let y = stable (m.state.course.world.found q) in IsSettledState y → IsImage q (x.counts q) y.files (pairs_view d)
 
 -- The end was done, and these stores are left, one of each server.
 pub record IsClosed {S : Type 0} (device : S → DeviceState) (x : Setup) (m : Moment) (stores : List S) (lines lines' : List Line) : Type 0 where

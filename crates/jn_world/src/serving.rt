@@ -23,28 +23,27 @@ use jn_store::Powered;
 use std::alloc::AllocError;
 
 /// A line of a show.
-fn text_of(server: ServerNo, shown: &Shown) -> Result<Text, AllocError>
-    ensures { IfOk result (λ text. text ≡ text_shown server shown.now) }
+fn text_of(server: ServerNo, shown: Shown) -> Text
+    ensures { result ≡ text_shown server shown }
 {
-    Ok(match shown {
-        Shown::File(file) => Text::File(server, *file),
-        Shown::Locked(unit, tid) => Text::Locked(server, *unit, *tid),
-        Shown::Page(file, block, content) => Text::Page(server, *file, *block, content.copy()?),
-    })
+    match shown {
+        Shown::File(file) => Text::File(server, file),
+        Shown::Locked(unit, tid) => Text::Locked(server, unit, tid),
+        Shown::Page(file, block, content) => Text::Page(server, file, block, content),
+    }
 }
 
-/// The lines of a show.
+/// The lines of a show, whose list is left empty.
 fn tell_shown(
     lines: &mut Vec<Line>,
     when: When,
     server: ServerNo,
-    list: &[Shown],
+    list: &mut Vec<Shown>,
 ) -> Result<(), AllocError>
-    ensures { OnOk result (lines.new.items ≡ lines.old.items ++ lines_at when (map (text_shown server) list.now)) }
+    ensures { OnOk result (lines.new.items ≡ lines.old.items ++ lines_at when (map (text_shown server) list.old.items)) }
 {
-    for shown in list {
-        let text = text_of(server, shown)?;
-        tell(lines, when, text)?;
+    for shown in list.drain(..) {
+        tell(lines, when, text_of(server, shown))?;
     }
     Ok(())
 }
@@ -54,13 +53,13 @@ fn tell_list(
     lines: &mut Vec<Line>,
     when: When,
     server: ServerNo,
-    shown: Option<Vec<Shown>>,
+    shown: &mut Option<Vec<Shown>>,
 ) -> Result<(), AllocError>
-    ensures { OnOk result (lines.new.items ≡ lines.old.items ++ lines_at when (texts_shown server (items_of shown))) }
+    ensures { OnOk result (lines.new.items ≡ lines.old.items ++ lines_at when (texts_shown server (items_of shown.old))) }
 {
     match shown {
         None => Ok(()),
-        Some(list) => tell_shown(lines, when, server, &list),
+        Some(list) => tell_shown(lines, when, server, list),
     }
 }
 
@@ -222,8 +221,9 @@ impl<S: Powered + Drop> World<S> {
         ensures does { DoesEvent (λ s. S.view s) (λ s. S.device s) (events.Show server) when (standing_of self.old) result (standing_of self.new) lines.old.items lines.new.items }
     {
         let place = &mut self.places[usize::from(server.0)];
-        let shown = place.show(self.alloc, server, when, lines)?;
-        tell_list(lines, when, server, shown)?;
+        let mut shown = place.show(self.alloc, server, when, lines)?;
+        tell_list(lines, when, server, &mut shown)?;
+        place.keep_room(shown);
         Ok(())
     }
 

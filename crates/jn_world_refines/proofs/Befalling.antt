@@ -1,5 +1,5 @@
 -- What befalls a server's device by an event: a page goes bad or good, or a fault is to wait.
-use Rattle.jn_world_refines.proofs.Common.{◌≡◌, ℕ, Bool, true, false, List, [], ◌++◌, append-nil, drop, slice_get, slice_set, Some, refl, sym, ap, subst, length, ServerNo, DeviceState, PageDecays, PageRevives, FaultArmed, Place, Slot, Befell, WhereUp, KeepsBeside, commits_in, counts_by, TooManyArmed, Line, Text, Event, pairs_view, StoreView, Setup, Chance, Use, Decays, Revives, Arms, uses, Devices, Alone, IsUsed, told_unless, acted, Moment, outside_texts, lines_at, Task, when_of, Standing, StandsAt, Stands, HasCounts, ActsNext, IsStepTo, WorkId, Up, Down, Allows, beside_by}
+use Rattle.jn_world_refines.proofs.Common.{◌≡◌, ℕ, Bool, true, false, List, [], ◌++◌, append-nil, drop, slice_get, slice_set, Some, refl, sym, ap, subst, ServerNo, DeviceState, PageDecays, PageRevives, FaultArmed, Place, Slot, Befell, WhereUp, KeepsBeside, commits_in, counts_by, TooManyArmed, Line, Text, Event, pairs_view, StoreView, Setup, Chance, Use, Decays, Revives, Arms, uses, Devices, Alone, IsUsed, told_unless, acted, Moment, outside_texts, lines_at, Task, when_of, Standing, StandsAt, Stands, HasCounts, ActsNext, IsStepTo, Up, Down, Allows, beside_by}
 use Rattle.jn_base.specs.declared.device.FaultKind.{FaultKind}
 use Rattle.jn_base.specs.declared.device.FaultKind.TheVariants as faults
 use Rattle.jn_report.specs.declared.line.Text.TheVariants as says

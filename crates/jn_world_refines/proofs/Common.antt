@@ -1,5 +1,5 @@
 -- The names from below that these proofs cite, passed on from one place. Declares nothing.
-pub use Rattle.std.proofs.Common.{◌≡◌, ℕ, Bool, true, false, List, [], ◌++◌, append-nil, drop, slice_set, Some, refl, sym, ap, subst, length, ◌-◌, ◌∷◌, Option, None, ◌∙◌, arith, ◌⊎◌, inl, inr, ◌≢◌, suc, ◌<◌, zero, true≢false, ◌≤◌, not, append_assoc, ◌+◌, length-append, length-drop}
+pub use Rattle.std.proofs.Common.{◌≡◌, ℕ, Bool, true, false, List, [], ◌++◌, append-nil, drop, slice_set, Some, refl, sym, ap, subst, ◌-◌, ◌∷◌, length, Option, None, ◌∙◌, arith, ◌⊎◌, inl, inr, ◌≢◌, suc, ◌<◌, zero, true≢false, ◌≤◌, not, append_assoc, ◌+◌, length-append, length-drop}
 pub use Rattle.std.specs.Prelude.{slice_get, if◌then◌else◌, ◌&&◌, nat_lt, map, is_some, ⊤, ◌||◌, ◌*◌, nat_eq, is_none}
 pub use Rattle.jn_base.specs.declared.names.ServerNo.{ServerNo}
 pub use Rattle.jn_device.specs.Device.{DeviceState}
@@ -25,29 +25,29 @@ pub use Rattle.jn_machine.specs.Tasks.{Task, when_of, ClosesClients, next_task, 
 pub use Rattle.jn_world_refines.specs.Stands.{Standing, StandsAt, Stands, is_client_number, posted_by, with_sent, PlaceStands, texts_sent, with_answer, with_named}
 pub use Rattle.jn_world_refines.specs.Pages.{HasCounts, ReadsPages, IsIdleAt}
 pub use Rattle.jn_world_refines.specs.Going.{ActsNext, IsStepTo, IsTold, Limit, WentOn, WasCut, NoMessageLeft, NoEpochLeft}
-pub use Rattle.jn_base.specs.declared.names.WorkId.{WorkId}
 pub use Rattle.jn_place.specs.declared.place.Slot.TheVariants.{Up, Down, Gone}
-pub use Rattle.jn_machine.specs.Leaving.{beside_by, AreLeft, AreAllCounted, left_by_step, left_by_steps, beside_at, CountsAll, left_by_row}
+pub use Rattle.jn_machine.specs.Leaving.{beside_by, AreLeft, AreAllCounted, left_by_step, left_by_steps, beside_at, left_by_row}
 pub use Rattle.std.proofs.lemmas.Bool.Decides.{nat_tests}
 pub use Rattle.jn_base.specs.declared.names.ClientNo.{ClientNo}
 pub use Rattle.jn_base.specs.declared.names.Party.TheVariants.{Client, Server}
 pub use Rattle.jn_base.specs.Names.{client_eq, server_eq, tid_eq, work_eq}
 pub use Rattle.jn_net.specs.declared.Sent.{Sent as Posted}
 pub use Rattle.jn_net.specs.Carried.{with_delivered, Carried, waiting}
-pub use Rattle.jn_system.specs.WholeSystem.Steps.{Deliver, after, took, taken_by, handed, CloseClients, IsIdle, done, close_clients, Tell, Again, commanded, sent_now, Step, run, IsRun, Crash, crash, Dismiss, StopWork, work, works, at_memory, are_rising, tid_before, Nudge, Timeout, nudge, timeout, NextEvent, handing, working, IsStep, Restart, AreNames, restart, restart_with, stopped, ends, Narrow, StopRestart, narrow, stop_restart, StopDelivery}
+pub use Rattle.jn_system.specs.WholeSystem.Steps.{Deliver, after, took, taken_by, handed, CloseClients, IsIdle, done, close_clients, Tell, Again, commanded, sent_now, Step, run, IsRun, Crash, crash, Dismiss, StopWork, work, works, at_memory, are_rising, tid_before, Nudge, Timeout, nudge, timeout, NextEvent, handing, working, IsStep, Restart, AreNames, restart, restart_with, stopped, ends, Narrow, StopRestart, narrow, stop_restart, StopDelivery, Work}
 pub use Rattle.jn_rows.specs.declared.client.Taken.{Taken}
 pub use Rattle.jn_rows.specs.Client.{ClientTable, new_table, take_row, if_waits, ignored, begun_row, opened_row, answer_line, is_current, decided_row, outcome_row, Commanded, Refuses, command_row, again_row, over}
-pub use Rattle.jn_rows.specs.Outcomes.{Sent, RowOutcome, quiet as quiet_row}
+pub use Rattle.jn_rows.specs.Outcomes.{Sent, RowOutcome}
 pub use Rattle.jn_world_refines.specs.Clients.{with_client, texts_taken, texts_commanded, sent_commanded, table_commanded}
 pub use Rattle.jn_machine.proofs.LeftBy.{left-told, left-sent, left_with, left-work}
 pub use Rattle.std.proofs.lemmas.List.{length-set, length-map, map-append, drop-append-le}
 pub use Rattle.jn_base.specs.declared.names.Tid.{Tid}
+pub use Rattle.jn_base.specs.declared.names.WorkId.{WorkId}
 pub use Rattle.jn_base.proofs.Tells.{client_tells, server_tells, tid_tells}
 pub use Rattle.jn_msgs.specs.declared.message.Message.{Message}
 pub use Rattle.std.proofs.Math.Path.{fun_ext}
 pub use Rattle.jn_base.specs.declared.device.Outside.{Outside}
 pub use Rattle.jn_place.specs.Places.{is_up}
-pub use Rattle.jn_system.specs.WholeSystem.Servers.{of_coordinator, Room, server_step, of_step, named_now, server_again, server_timeout, restored, lines_of, server_row, storage_of, of_worker, is_busy as has_going}
+pub use Rattle.jn_system.specs.WholeSystem.Servers.{of_coordinator, Room, server_step, of_step, named_now, server_again, server_timeout, restored, lines_of, server_row, is_busy as has_going}
 pub use Rattle.jn_rows.specs.Stable.{StableState, Pick, made_all, Left, IsUp, Change, stable, whole_only, left_of}
 pub use Rattle.jn_server.specs.Seen.{Parts, view_with, memory_of, ServerView, room_of}
 pub use Rattle.jn_system.specs.WholeSystem.Course.{go_on, Course, go, opening_course, without_number, still_waiting, numbered}
@@ -63,8 +63,6 @@ pub use Rattle.std.proofs.lemmas.Option.{slice_get_within, slice_get-map}
 pub use Rattle.jn_records.specs.StablePages.{Counts, page_count, root_by}
 pub use Rattle.jn_page_state.specs.Pages.{pool_on, heads_on, found_on, pages_by}
 pub use Rattle.jn_server.specs.Standing.{standing_pages, free_on, has_rubbish, beside_on}
-pub use Rattle.jn_rows.specs.declared.worker.Work.{Work, Work as WorkEntry}
-pub use Rattle.jn_rows.specs.Worker.{going_work, going_row, carried_row, intentions_of}
 pub use Rattle.jn_worker.specs.Leaving.{Beside, beside_of, left_over}
 pub use Rattle.std.specs.List.{list_any, list_all, position_from}
 pub use Rattle.jn_report.specs.declared.line.When.{When}

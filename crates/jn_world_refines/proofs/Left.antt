@@ -1,5 +1,5 @@
 -- What a step leaves beside the stable state on the pages of each server that is up afterwards.
-use Rattle.jn_world_refines.proofs.Common.{◌≡◌, ◌⊎◌, inl, inr, ◌≢◌, ℕ, true, false, List, length, slice_get, Option, Some, None, is_some, true≢false, refl, sym, ◌∙◌, ap, subst, ⊤, ServerNo, Server, server_eq, server_tells, DeviceState, Message, Place, Slot, Up, Down, Gone, WhereUp, Counts, counts_by, StableState, Pick, Parts, ServerView, view_with, standing_pages, pairs_view, StoreView, Room, World, Memory, Step, Deliver, run, Setup, Devices, left_by_step, left_by_steps, AreLeft, Moment, Standing, StandsAt, Stands, HasCounts, left-sent, pages_by, Beside, beside_of, beside_on, beside_by, beside_at}
+use Rattle.jn_world_refines.proofs.Common.{◌≡◌, ◌⊎◌, inl, inr, ◌≢◌, ℕ, true, false, List, slice_get, Option, Some, None, is_some, true≢false, refl, sym, ◌∙◌, ap, subst, ⊤, ServerNo, Server, server_eq, server_tells, DeviceState, Message, Place, Slot, Up, Down, Gone, WhereUp, Counts, counts_by, StableState, Pick, Parts, ServerView, view_with, standing_pages, pairs_view, StoreView, Room, World, Memory, Step, Deliver, run, Setup, Devices, left_by_step, left_by_steps, AreLeft, Moment, Standing, StandsAt, Stands, HasCounts, left-sent, pages_by, Beside, beside_of, beside_on, beside_by, beside_at}
 use Rattle.jn_world_refines.proofs.Servers.{IsAlone}
 
 -- steps change nothing of what a server has

@@ -1,5 +1,5 @@
 -- A scrub and a show.
-use Rattle.jn_world_refines.proofs.Common.{◌≡◌, ℕ, Bool, true, false, List, [], ◌∷◌, ◌++◌, append-nil, drop, map, slice_get, slice_set, Option, Some, None, is_some, not, refl, sym, ◌∙◌, ap, subst, length, ServerNo, Outside, DeviceState, Place, Slot, Up, Down, Gone, IsSpent, IsDoneAt, IsStoppedAt, IsStepOf, idle_row, ScrubbedBy, Prints, Showed, texts_of_step, WhereUp, KeepsBeside, World, Memory, counts_by, Line, Text, StableState, Pick, stable, Parts, view_with, memory_of, go_on, state, pairs_view, StoreView, Setup, Chance, Reads, Deed, Alone, IsServed, IsLookedOver, Moment, lines_at, Task, when_of, Standing, Stands, HasCounts, ActsNext, IsStepTo, WorkId, ◌*◌, Server, Counts, page_count, LeavesClean, IsCalm, IsClean, IsWholePage, Step, Cleans, plain, IsScrubbed, IsCalled, HasPrints, shown, Left, whole_only, beside_by}
+use Rattle.jn_world_refines.proofs.Common.{◌≡◌, ℕ, Bool, true, false, List, [], ◌∷◌, ◌++◌, append-nil, drop, map, slice_get, slice_set, Option, Some, None, is_some, not, refl, sym, ◌∙◌, ap, subst, ServerNo, Outside, DeviceState, Place, Slot, Up, Down, Gone, IsSpent, IsDoneAt, IsStoppedAt, IsStepOf, idle_row, ScrubbedBy, Prints, Showed, texts_of_step, WhereUp, KeepsBeside, World, Memory, counts_by, Line, Text, StableState, Pick, stable, Parts, view_with, memory_of, go_on, state, pairs_view, StoreView, Setup, Chance, Reads, Deed, Alone, IsServed, IsLookedOver, Moment, lines_at, Task, when_of, Standing, Stands, HasCounts, ActsNext, IsStepTo, ◌*◌, Server, Counts, page_count, LeavesClean, IsCalm, IsClean, IsWholePage, Step, Cleans, plain, IsScrubbed, IsCalled, HasPrints, shown, Left, whole_only, beside_by}
 use Rattle.std.specs.Prelude.{◌<◌}
 use Rattle.jn_store.specs.DeviceCalls.{put_calls, cleaned_get_calls}
 use Rattle.jn_world_refines.proofs.Moving.{device-here, does-next, led-to, net-quiet, devices-now, device-there, moved-step}

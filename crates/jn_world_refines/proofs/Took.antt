@@ -1,5 +1,5 @@
 -- A server that is up takes a message.
-use Rattle.jn_world_refines.proofs.Common.{◌≡◌, ◌+◌, ℕ, zero, suc, List, [], ◌∷◌, ◌++◌, length, slice_get, slice_set, drop, Option, Some, None, refl, ◌∙◌, ap, true, false, sym, ServerNo, Party, Server, Outside, DeviceState, Collected, Posted, with_delivered, Place, Slot, Up, Down, Gone, Took, WhereUp, TakeLeaves, Room, server_row, IsStep, after, ends, at_memory, handed, Deliver, Memory, counts_by, Line, sent_of, delivered_by, Sent, StableState, Pick, stable, Parts, view_with, memory_of, room_of, handing, state, pairs_view, StoreView, Setup, served, delivered, delivered_at, Moment, lines_at, Task, when_of, Standing, Stands, texts_sent, with_answer, HasCounts, ReadsPages, ActsNext, IsStepTo, left_by_step, server_eq, row_calls, Left, left-sent, left_over, Beside, beside_by}
+use Rattle.jn_world_refines.proofs.Common.{◌≡◌, ℕ, zero, suc, List, [], ◌∷◌, ◌++◌, length, slice_get, slice_set, drop, Option, Some, None, refl, ◌∙◌, ap, true, false, sym, ServerNo, Party, Server, Outside, DeviceState, Collected, Posted, with_delivered, Place, Slot, Up, Down, Gone, Took, WhereUp, TakeLeaves, Room, server_row, IsStep, after, ends, at_memory, handed, Deliver, Memory, counts_by, Line, sent_of, delivered_by, Sent, StableState, Pick, stable, Parts, view_with, memory_of, room_of, handing, state, pairs_view, StoreView, Setup, served, delivered, delivered_at, Moment, lines_at, Task, when_of, Standing, Stands, texts_sent, with_answer, HasCounts, ReadsPages, ActsNext, IsStepTo, left_by_step, server_eq, row_calls, Left, left-sent, left_over, Beside, beside_by}
 use Rattle.jn_schedule.specs.declared.Event.TheVariants as events
 use Rattle.jn_world_refines.proofs.Served.{chance, room-is, here, same-server}
 use Rattle.jn_world_refines.proofs.ServedSteps.{IsRowStep, row-step}

@@ -1,8 +1,5 @@
 -- Background steps of servers that are up.
-use Rattle.jn_world_refines.proofs.Common.{◌≡◌, ℕ, Bool, true, false, List, [], ◌∷◌, ◌++◌, length, slice_get, slice_set, drop, Option, Some, None, is_some, refl, sym, ◌∙◌, ap, subst, ◌+◌, ◌-◌, arith, ◌||◌, if◌then◌else◌, ServerNo, Outside, DeviceState, Collected, Place, Slot, Up, Down, Gone, has_work_at, work_of, WorkedBy, WhereUp, WorkLeaves, Room, server_step, storage_of, of_step, of_worker, IsStep, after, ends, work, works, World, Memory, counts_by, Line, delivered_by, RowOutcome, quiet_row, StableState, Change, Pick, stable, Parts, view_with, memory_of, room_of, ServerView, working, has_going, state, pairs_view, StoreView, Setup, served, nothing, is_busy, is_busy_with, working_steps, worked, rubbish_on, Moment, lines_at, Task, when_of, Standing, StandsAt, Stands, texts_sent, with_answer, HasCounts, ReadsPages, ActsNext, IsStepTo, left_by_row, left_by_step, WorkEntry, going_work, going_row, carried_row, intentions_of, server_eq, step_calls, Left, left_with, left-work, left_over, Beside, beside_of, beside_by}
-use Rattle.jn_storage.specs.Storage.{Accounts}
-use Rattle.jn_server.specs.Handling.{StepLeaves}
-use Rattle.jn_system.specs.WholeSystem.Steps.{Work}
+use Rattle.jn_world_refines.proofs.Common.{◌≡◌, Bool, true, false, List, [], ◌∷◌, ◌++◌, length, slice_get, slice_set, drop, Option, Some, None, is_some, refl, sym, ◌∙◌, ap, subst, ◌||◌, if◌then◌else◌, ServerNo, Outside, DeviceState, Collected, Place, Slot, Up, Down, Gone, has_work_at, work_of, WorkedBy, WhereUp, WorkLeaves, Room, server_step, IsStep, after, ends, work, works, World, Memory, counts_by, Line, delivered_by, RowOutcome, StableState, Change, Pick, stable, Parts, view_with, memory_of, room_of, working, has_going, state, pairs_view, StoreView, Setup, served, nothing, is_busy, is_busy_with, working_steps, worked, rubbish_on, Moment, lines_at, Task, when_of, Standing, StandsAt, Stands, texts_sent, with_answer, HasCounts, ReadsPages, ActsNext, IsStepTo, left_by_row, left_by_step, server_eq, step_calls, Left, left_with, left-work, Beside, beside_by, Work}
 use Rattle.jn_system.proofs.WholeSystem.BusyServers.{goes, erases, nothing as none-to-do}
 use Rattle.jn_schedule.specs.declared.Event.TheVariants as events
 use Rattle.jn_world_refines.proofs.Served.{chance, room-is, rubbish-is, here, same-server}
@@ -10,7 +7,6 @@ use Rattle.jn_world_refines.proofs.ServedSteps.{IsRowStep, row-step}
 use Rattle.jn_world_refines.proofs.Plain.{no-chance, nothing-step}
 use Rattle.jn_world_refines.proofs.Losing.{down-is}
 use Rattle.jn_world_refines.proofs.Left.{AreQuiet, Leaves, counted, leaves-by}
-use Rattle.jn_records.specs.declared.intention.Intention.{Intention}
 
 -- a server has a background step exactly where a work of its goes or a rubbish record is left
 busy-is : (a : Memory) (y : StableState) (its : Room) → is_some (server_step a y its) ≡ (has_going y (Some a) || its.rubbish)
@@ -23,31 +19,6 @@ busy-is a y its = by (server_step a y its) refl
     by : (o : Option (RowOutcome Memory)) → server_step a y its ≡ o → is_some o ≡ (has_going y (Some a) || its.rubbish)
     by (Some row) e = with-row row e row.changes refl
     by None e = let both = none-to-do a y its e in ap (λ (b : Bool). false || b) (sym both.1) ∙ ap (λ (b : Bool). b || its.rubbish) (sym both.0)
-
--- a background step makes one change at most
-one-change : (a : Memory) (y : StableState) (its : Room) (row : RowOutcome Memory) (c : Change) (cs : List Change) → server_step a y its ≡ Some row → row.changes ≡ c ∷ cs → cs ≡ []
-one-change a y its row c cs is changes = of (going_work y a.worker) is
-  where
-    some : (s t : RowOutcome Memory) → Some s ≡ Some t → s ≡ t
-    some s t e = cc
-
-    tail : (d : Change) → d ∷ [] ≡ c ∷ cs → cs ≡ []
-    tail d e = cc
-
-    none : [] ≡ c ∷ cs → cs ≡ []
-    none e = absurd (cc e)
-
-    of : (o : Option WorkEntry) → of_step a (going_row a.worker (storage_of a y its) a.tickets o) ≡ Some row → cs ≡ []
-    of (Some u) e = by (slice_get (intentions_of (y.works u.name)) (a.next u.name)) e
-      where
-        by : (o : Option Intention) → of_step a (Some (carried_row a.worker a.tickets u o)) ≡ Some row → cs ≡ []
-        by (Some i) q = tail _ (ap (λ (r : RowOutcome Memory). r.changes) (some _ row q) ∙ changes)
-        by None q = tail _ (ap (λ (r : RowOutcome Memory). r.changes) (some _ row q) ∙ changes)
-    of None e = by its.rubbish e
-      where
-        by : (b : Bool) → of_step a (if b then Some (quiet_row a.worker a.tickets) else None) ≡ Some row → cs ≡ []
-        by true q = none (ap (λ (r : RowOutcome Memory). r.changes) (some (of_worker a (quiet_row a.worker a.tickets)) row q) ∙ changes)
-        by false q = absurd (cc q)
 
 module _ {S : Type 0} (look : S → StoreView) (device : S → DeviceState) (seen : (s : S) → look s ≡ pairs_view (device s)) (x : Setup) (w : Standing S) (m : Moment) (stand : Stands look device x w m)
     (q : ServerNo) (place : Place S) (at : slice_get w.places q.0 ≡ Some place) (reads : ReadsPages look device (counts_by place.counts) place.slot) where
@@ -124,22 +95,8 @@ module _ {S : Type 0} (look : S → StoreView) (device : S → DeviceState) (see
         its : Room
         its = room_of (view_with look p).storage
 
-    leaves-so : (b : ServerView) → WorkLeaves (view_with look p) b → beside_of b.storage.accounts ≡ left_by_row (Work q (room_of (view_with look p).storage)) (state (view_with look p).storage) row.changes (counted look p)
-    leaves-so b h = by row.changes refl
-      where
-        its : StepLeaves (view_with look p) row b
-        its = h row row-is
-
-        less : (m n : ℕ) → m + 1 ≡ n → m ≡ n - 1
-        less m n e = omega (arith, e)
-
-        by : (changes : List Change) → row.changes ≡ changes → beside_of b.storage.accounts ≡ left_by_row (Work q (room_of (view_with look p).storage)) (state (view_with look p).storage) changes (counted look p)
-        by [] e = let one = its.0 e in λ i. record { rubbish = less _ _ one.rubbish_less i; maps = ap (λ (a : Accounts). a.maps) one.others i; supplied = ap (λ (a : Accounts). a.supplied) one.others i }
-        by (c ∷ cs) e = its.1 c (e ∙ ap (λ (l : List Change). c ∷ l) (one-change (memory_of (view_with look p)) (state (view_with look p).storage) (room_of (view_with look p).storage) row c cs row-is e))
-            ∙ ap (λ (l : List Change). left_over (state (view_with look p).storage) l (counted look p)) e
-
     work-leaves : (slot : Slot S) → WhereUp look WorkLeaves (Up p) slot → Leaves look (beside_by x m.devices q) v q (working q (room_of (view_with look p).storage) None ∷ []) slot (Up p)
-    work-leaves slot h = leaves-by look (beside_by x m.devices q) v q (working q (room_of (view_with look p).storage) None ∷ []) WorkLeaves p (λ b l. leaves-so b l ∙ sym (works-leave (counted look p))) slot h
+    work-leaves slot h = leaves-by look (beside_by x m.devices q) v q (working q (room_of (view_with look p).storage) None ∷ []) WorkLeaves p (λ b l. (l row row-is).1 ∙ sym (works-leave (counted look p))) slot h
 
   -- It makes its next background step, or is stopped in it.
   pub worked-step : (more : List Task) → ActsNext x m (events.Step q) more → (answer : Option Collected) (slot : Slot S) (told : List Line) → WorkedBy look device q (counts_by place.counts) (when_of m.state) place.slot answer slot [] told

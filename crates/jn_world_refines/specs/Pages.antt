@@ -11,13 +11,13 @@ use Rattle.jn_place.specs.Exact.{has_work_at}
 use Rattle.jn_records.specs.MapPlaces.{maps_in}
 use Rattle.jn_records.specs.StablePages.{Counts}
 use Rattle.jn_recovery.specs.Counts.{counts_by}
+use Rattle.jn_server.specs.Counted.{CountsAll}
 use Rattle.jn_server.specs.Seen.{view_with, memory_of, room_of}
 use Rattle.jn_server.specs.Standing.{standing_pages, free_on, beside_on, has_rubbish}
 use Rattle.jn_storage.specs.Calls.{state}
 use Rattle.jn_store.specs.Store.{StoreView}
 use Rattle.jn_worker.specs.Leaving.{beside_of}
 use Rattle.jn_machine.specs.Devices.{pages_of}
-use Rattle.jn_machine.specs.Leaving.{CountsAll}
 
 -- Its storage has so many pages, it counts what is on them beside files, works and flags, and no record and no head is there that nothing names. A recovery
 -- may begin from its pages, as from those of a server that is down.

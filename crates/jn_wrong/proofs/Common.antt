@@ -84,7 +84,8 @@ pub use Rattle.jn_machine.proofs.Texts.{More, gone-on, task-texts, Besides}
 pub use Rattle.jn_msgs.specs.declared.message.Message.{Message}
 pub use Rattle.jn_records.specs.declared.net_list.Need.{Need}
 pub use Rattle.jn_server.specs.Standing.{free_on, beside_on, is_free_head, promised_heads, has_rubbish, is_free_page}
-pub use Rattle.jn_machine.specs.Leaving.{beside_by, AreLeft, AreAllCounted, CountsAll, beside_at, left_by_row, left_by_steps, AreCounted}
+pub use Rattle.jn_machine.specs.Leaving.{beside_by, AreLeft, AreAllCounted, beside_at, left_by_row, left_by_steps}
+pub use Rattle.jn_server.specs.Counted.{CountsAll, AreCounted}
 pub use Rattle.jn_machine.proofs.LeftBy.{left-sent, left_with, left-work}
 pub use Rattle.jn_worker.specs.Leaving.{left_over, Beside, left_by}
 pub use Rattle.jn_wrong.specs.Settles.{HandsOver, ComesToRest}

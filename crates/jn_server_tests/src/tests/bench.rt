@@ -167,7 +167,19 @@ impl<S: StableStore> Bench<S> {
         ensures leaves { LeavesServer self.new.counts self.new.names result (view_with (λ s. S.view s) self.new.server) }
     {
         if !self.step_once()? {
-            self.said.word("idle")?;
+            self.rests()?;
+        }
+        Ok(())
+    }
+
+    /// Says that there is nothing to do, and whether a work or a flag is there all the same.
+    fn rests(&mut self) -> Result<(), ServerFault>
+        requires on { IsOn self.old.counts self.old.names (view_with (λ s. S.view s) self.old.server) }
+        ensures leaves { LeavesServer self.new.counts self.new.names result (view_with (λ s. S.view s) self.new.server) }
+    {
+        self.said.word("idle")?;
+        if self.server.unsettled() {
+            self.said.word("unsettled")?;
         }
         Ok(())
     }

@@ -133,7 +133,7 @@ show | file 7 page 7/3 nines locked 8 1.5.2
 do 3 0.2.0 5 read 7 3 | > c3 answer c3 9 read nines
 step |
 step |
-step | idle
+step | idle unsettled
 drop 1.5.2 0.1.0 |
 prepare 1.5.3 3 0.2.0 | > s1 vote 1.5.3 0.2.0 ready";
 

@@ -1,5 +1,5 @@
-use Rattle.jn_world.proofs.Common.{◌≡◌, ◌++◌, map, drop, text_shown, lines_at}
+use Rattle.jn_world.proofs.Common.{◌≡◌, ◌++◌, map, text_shown, lines_at}
 use Rattle.jn_world.proofs.serving.tell_shown.Given as goal
 
 abbrev pub invariant-loop-shown : goal.invariant-loop-shown
-invariant-loop-shown l = l.lines.items ++ lines_at l.when (map (text_shown l.server) (drop l.shown-index l.list)) ≡ l.initial.lines.items ++ lines_at l.when (map (text_shown l.server) l.list)
+invariant-loop-shown l = l.lines.items ≡ l.initial.lines.items ++ lines_at l.when (map (text_shown l.server) l.yielded)

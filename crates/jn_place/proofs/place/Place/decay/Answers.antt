@@ -1,8 +1,17 @@
 use Rattle.jn_place.proofs.Common.{DeviceState, Decays, StoreView, counts_by, KeepsBeside}
 use Rattle.jn_place.proofs.Befalling.{befell-up, befell-down}
-use Rattle.jn_place.proofs.Devices.{told-still, befallen-down}
+use Rattle.jn_place.proofs.Devices.{told-still, befallen-up, befallen-down}
 use Rattle.jn_place.proofs.Beside.{befell-keeps, down-so}
 use Rattle.jn_place.proofs.place.Place.decay.Goals as goal
+
+pub returns-in-Up-clause-place : goal.returns-in-Up-clause-place
+returns-in-Up-clause-place g c =
+    let look : g.row.S.Denot → StoreView = λ s. g.S.StableStore.view s in
+    let device : g.row.S.Denot → DeviceState = λ s. g.S.Powered.device s in
+    let s = c.in-Up.server.storage.0 in
+    let t = c.decay-allowed.new.self.storage.0 in
+    λ server most h. befallen-up look server most c.args.self.now c.in-Up.server c.decay-allowed.new.self c.in-Up.is c.decay-allowed.ensures.befalls
+    (told-still look device s t (g.met.S.Powered.seen s) (g.met.S.Powered.seen t) c.decay-allowed.ensures.decays.becomes.told) c.counts_pages.ensures h
 
 pub returns-in-Down-clause-place : goal.returns-in-Down-clause-place
 returns-in-Down-clause-place g c =

@@ -1,5 +1,5 @@
 use Rattle.jn_place.proofs.Common.{◌∙◌, subst, ℕ, Bool, ◌≡◌, ◌++◌, is_some, DeviceState, counts_by, StoreView, lines_at, texts_of_step, WorkLeaves, told_at, Follows, IsPlace}
-use Rattle.jn_place.proofs.Remaining.{step-less}
+use Rattle.jn_place.proofs.Remaining.{fewer-left}
 use Rattle.jn_place.proofs.Beside.{left-up, work-lasts}
 use Rattle.jn_place.proofs.Steps.{taken-left, follows-as}
 use Rattle.jn_place.proofs.Taking.{worked-by, worked-calm}
@@ -19,14 +19,13 @@ returns g c =
     let new = c.after_step.new.told.items in
     let follows = subst (λ (b : Bool). Follows look device q.slot b r.slot) c.is_some.ensures then-so.follows in
     let lines = subst (λ (b : Bool). new ≡ old ++ lines_at c.args.when (texts_of_step c.args.server (told_at device q.slot) b)) c.is_some.ensures then-so.lines in
-    let leaves = left-up look device WorkLeaves (work-lasts look device) p.slot q.slot r.slot (is_some answer) call.beside follows in
     record {
       left = λ most h. taken-left look c.args.server most p q r answer h call.answered call.counts
           (follows-as look c.args.server (is_some answer) c.is_some.result q (λ (m : ℕ). IsPlace look c.args.server m r) c.is_some.ensures then-so.place);
       worked = worked-by look device g.met.S.Powered.seen c.args.server (counts_by p.counts) 1000000 c.args.when old new p.slot q.slot r.slot answer c.requires.place.stands call.worked follows lines;
       calm = worked-calm look device g.met.S.Powered.seen c.args.server (counts_by p.counts) 1000000 c.args.when old new p.slot q.slot r.slot answer c.requires.place.stands call.worked follows;
-      beside = leaves;
-      less = step-less look device p.slot q.slot r.slot answer call.worked leaves follows;
+      beside = left-up look device WorkLeaves (work-lasts look device) p.slot q.slot r.slot (is_some answer) call.beside follows;
+      less = fewer-left look device p.slot q.slot r.slot (is_some answer) call.less follows;
       counts = then-so.counts ∙ call.counts;
       room = call.room;
     }

@@ -1,4 +1,4 @@
-use Rattle.jn_server.proofs.Common.{beside_of, ◌≡◌, [], ap, refl, subst, sym, StoreView, view_of, Accounts, table_of, close_clients_row, of_coordinator, close-aside, IsDone, Does, Parts, view_with, memory_of, IsServer, row_calls}
+use Rattle.jn_server.proofs.Common.{beside_of, ◌≡◌, [], ap, refl, subst, sym, StoreView, view_of, table_of, close_clients_row, of_coordinator, close-aside, IsDone, Does, Parts, view_with, memory_of, IsServer, row_calls}
 use Rattle.jn_server.proofs.Coordinating.{coordinated, closing_failed}
 use Rattle.jn_server.proofs.server.Server.close_clients.Goals as goal
 

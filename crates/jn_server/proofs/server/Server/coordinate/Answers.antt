@@ -1,4 +1,4 @@
-use Rattle.jn_server.proofs.Common.{beside_of, ap, subst, sym, view_of, Accounts, free_of, table_of, coordinator_row, of_coordinator, coordinator-aside, Parts, view_with, memory_of, IsServer, IsDone, Does, LeavesBeside, row_calls}
+use Rattle.jn_server.proofs.Common.{beside_of, ap, subst, sym, view_of, free_of, table_of, coordinator_row, of_coordinator, coordinator-aside, Parts, view_with, memory_of, IsServer, IsDone, Does, LeavesBeside, row_calls}
 use Rattle.jn_server.proofs.Coordinating.{coordinated, flags-leave-none, coordinator_failed}
 use Rattle.jn_server.proofs.server.Server.coordinate.Goals as goal
 

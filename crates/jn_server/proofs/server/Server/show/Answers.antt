@@ -1,13 +1,13 @@
-use Rattle.jn_server.proofs.Common.{◌+◌, arith, rules, StoreView, ServerView, view_with, ◌<◌, ◌^◌, FileNo, number_after}
+use Rattle.jn_server.proofs.Common.{◌+◌, ap, subst, sym, arith, rules, StoreView, ServerView, view_with, ◌<◌, ◌^◌, FileNo, number_after}
 use Rattle.jn_server.proofs.Pieces.{is_of_lesser}
-use Rattle.jn_server.proofs.Shows.{told-nothing, told-more, told-cut, shown-cut, shown-whole}
+use Rattle.jn_server.proofs.Shows.{ToldBelow, told-nothing, told-more, told-cut, shown-cut, shown-whole}
 use Rattle.jn_server.proofs.server.Server.show.Goals as goal
 
 pub loop-file-init : goal.loop-file-init
 loop-file-init g c =
     let look : g.row.S.Denot → StoreView = λ s. g.S.StableStore.view s in
     let v : ServerView = view_with look c.args.self.now in
-    told-nothing v c.requires.serves c.new-list.result.items c.new-list.ensures.items
+    subst (λ (w : ServerView). ToldBelow v 0 w c.take_room-list.result.items) (sym (ap (view_with look) c.take_room-list.ensures.same)) (told-nothing v c.requires.serves c.take_room-list.result.items c.take_room-list.ensures.empty)
 
 pub loop-file-preserved : goal.loop-file-preserved
 loop-file-preserved g c =

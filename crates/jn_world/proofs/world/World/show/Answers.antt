@@ -29,7 +29,7 @@ returns-clause-world g c =
     let place = place-here look w server i p c.from.ensures c.requires.up c.index_mut-place.ensures.value c.requires.world in
     let q = c.show.new.self in
     let step = c.in_ok-shown.ensures in
-    moved-quiet look w (record w { places = with_item w.places i q }) server i q c.from.ensures c.requires.world (step.left (length w.net.sent) place) refl refl refl
+    rw c.keep_room.ensures (moved-quiet look w (record w { places = with_item w.places i q }) server i q c.from.ensures c.requires.world (step.left (length w.net.sent) place) refl refl refl)
 
 pub returns-clause-does : goal.returns-clause-does
 returns-clause-does g c =
@@ -43,8 +43,9 @@ returns-clause-does g c =
     let q = c.show.new.self in
     let step = c.in_ok-shown.ensures in
     let limit = c.requires.world.limit in
-    showed-does look device g.met.S.Powered.seen (standing_of w) server p q i c.from.ensures c.show.ensures.counts {A = ℕ} c.args.when (Ok 0) (standing_of (record w { places = with_item w.places i q })) c.args.lines.now.items c.tell_list.new.lines.items
-    (place-is w server i p c.from.ensures c.requires.up c.index_mut-place.ensures.value) (has-counts look server (length w.net.sent) p q c.show.ensures.counts (step.left (length w.net.sent) place)) (items_of c.in_ok-shown.shown) c.show.new.told.items step.showed step.beside (refl, c.in_ok-tell_list.ensures, limit)
+    rw c.keep_room.ensures
+    (showed-does look device g.met.S.Powered.seen (standing_of w) server p q i c.from.ensures c.show.ensures.counts {A = ℕ} c.args.when (Ok 0) (standing_of (record w { places = with_item w.places i q })) c.args.lines.now.items c.tell_list.new.lines.items
+    (place-is w server i p c.from.ensures c.requires.up c.index_mut-place.ensures.value) (has-counts look server (length w.net.sent) p q c.show.ensures.counts (step.left (length w.net.sent) place)) (items_of c.in_ok-shown.shown) c.show.new.told.items step.showed step.beside (refl, c.in_ok-tell_list.ensures, limit))
 
 pub returns-clause-calm : goal.returns-clause-calm
 returns-clause-calm g c =
@@ -54,7 +55,7 @@ returns-clause-calm g c =
     let i = c.from.result in
     let p = c.index_mut-place.result.now in
     let step = c.in_ok-shown.ensures in
-    stay-put look w.places.items server.0 i p c.show.new.self (is_some c.in_ok-shown.shown) c.from.ensures (place-is w server i p c.from.ensures c.requires.up c.index_mut-place.ensures.value) step.calm
+    rw c.keep_room.ensures (stay-put look w.places.items server.0 i p c.show.new.self (is_some c.in_ok-shown.shown) c.from.ensures (place-is w server i p c.from.ensures c.requires.up c.index_mut-place.ensures.value) step.calm)
 
 pub returns-clause-clean : goal.returns-clause-clean
 returns-clause-clean g c =
@@ -64,4 +65,4 @@ returns-clause-clean g c =
     let i = c.from.result in
     let p = c.index_mut-place.result.now in
     let step = c.in_ok-shown.ensures in
-    clean-put look w.places.items server.0 i p c.show.new.self c.from.ensures (place-is w server i p c.from.ensures c.requires.up c.index_mut-place.ensures.value) step.beside
+    rw c.keep_room.ensures (clean-put look w.places.items server.0 i p c.show.new.self c.from.ensures (place-is w server i p c.from.ensures c.requires.up c.index_mut-place.ensures.value) step.beside)
