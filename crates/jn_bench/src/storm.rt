@@ -1,9 +1,13 @@
 //! A storm: random schedules of all words at 1 to 3 servers, each of whose reports is held against the definitions of a report and, each
-//! tenth, against what the top call writes.
+//! tenth, against what the top call writes. One in eight is two schedules, the second of which begins from the images that the first one leaves,
+//! set back to version 1.
 
+mod beginning;
 mod counting;
 mod drawing;
 mod judging;
+mod running;
+mod watching;
 
 use counting::Counts;
 use judging::{Failure, judge};
@@ -50,21 +54,31 @@ pub(crate) fn storm(
     if failure.is_none() {
         println!(rt; "{count} schedules hold")?;
     }
-    if let Some(failure) = failure {
-        let Failure {
-            number,
-            servers,
-            wrong,
-            schedule,
-        } = failure;
-        let schedule = str::from_utf8(&schedule).unwrap_or("?");
-        let pages = servers.pages;
-        println!(rt; "schedule {number} fails: {wrong:?}")?;
-        println!(rt;
-            "--servers {} --pool {} --heads {} --data {}",
-            servers.count, pages.pool, pages.heads, pages.leaves
-        )?;
-        println!(rt; "{schedule}")?;
+    match failure {
+        Some(failure) => tell_failure(rt, failure),
+        None => Ok(()),
     }
+}
+
+/// Prints a schedule that failed, with what is wrong.
+fn tell_failure(rt: &HostRuntime, failure: Failure) -> io::Result<()> {
+    let Failure {
+        number,
+        servers,
+        wrong,
+        first,
+        schedule,
+    } = failure;
+    let pages = servers.pages;
+    println!(rt; "schedule {number} fails: {wrong:?}")?;
+    println!(rt;
+        "--servers {} --pool {} --heads {} --data {}",
+        servers.count, pages.pool, pages.heads, pages.leaves
+    )?;
+    if let Some(first) = &first {
+        let first = str::from_utf8(first).unwrap_or("?");
+        println!(rt; "{first}\nbegins from what this leaves, in version 1:")?;
+    }
+    println!(rt; "{}", str::from_utf8(&schedule).unwrap_or("?"))?;
     Ok(())
 }

@@ -1,5 +1,6 @@
 //! What schedules exercised.
 
+use crate::storm::watching::MapCounts;
 use jn_base::{Cause, FaultKind, ServerNo};
 use jn_report::{Line, Text, When};
 use jn_schedule::Event;
@@ -26,6 +27,9 @@ pub(crate) struct Counts {
     pub(crate) messages_ignored: u64,
     pub(crate) waiting: u64,
     pub(crate) locked: u64,
+    pub(crate) maps: MapCounts,
+    pub(crate) beginnings: u64,
+    pub(crate) with_files: u64,
 }
 
 /// Which kinds of stops wait for a server's device calls. Once stops of two kinds waited together, nobody can tell by the lines which of them
@@ -122,11 +126,14 @@ impl Counts {
             messages_ignored: 0,
             waiting: 0,
             locked: 0,
+            maps: MapCounts::new(),
+            beginnings: 0,
+            with_files: 0,
         }
     }
 
     /// Each with its name.
-    pub(crate) fn named(&self) -> [(&'static str, u64); 19] {
+    pub(crate) fn named(&self) -> [(&'static str, u64); 26] {
         [
             ("schedules", self.schedules),
             ("events", self.events),
@@ -147,6 +154,13 @@ impl Counts {
             ("messages ignored", self.messages_ignored),
             ("votes that waited", self.waiting),
             ("units shown locked", self.locked),
+            ("fresh map pages", self.maps.fresh),
+            ("cuts inside of a map page", self.maps.inside),
+            ("cuts at a map page's first block", self.maps.first),
+            ("cuts found in part by a restart", self.maps.parts),
+            ("restarts that read map pages", self.maps.restarts),
+            ("beginnings from version 1", self.beginnings),
+            ("beginnings from version 1 with files", self.with_files),
         ]
     }
 
@@ -235,6 +249,14 @@ impl Counter {
             if let When::End = line.when {
                 self.add_line(None, &line.text);
             }
+        }
+    }
+
+    /// Counts that a run begins from images of version 1.
+    pub(crate) fn add_beginning(&mut self, has_files: bool) {
+        add(&mut self.counts.beginnings);
+        if has_files {
+            add(&mut self.counts.with_files);
         }
     }
 

@@ -1,15 +1,22 @@
 //! A random schedule. Most commands are those that a client would give next, if all that it asked for went well.
 ghost use Rattle.std.specs.Prelude.{◌<◌};
 
-use jn_base::{
-    BlockContent, BlockNo, ClientNo, Command, FaultKind, FileNo, MOST_BLOCKS, Op, ServerNo, Tid,
-};
+use jn_base::{BlockContent, BlockNo, ClientNo, Command, FaultKind, FileNo, Op, ServerNo, Tid};
 use jn_intent::PageCounts;
 use jn_run_tests::Servers;
 use jn_schedule::Event;
 use rand_core::utils::NextWord;
 use rand_pcg::Pcg32;
 use std::alloc::{AllocError, Global};
+
+/// The blocks that come in: some of the head, and the edges of map pages. A schedule has so many of them, from the first on, that few data
+/// pages are enough for several map pages.
+const BLOCKS: [u16; 17] = [
+    0, 1, 2, 3, 4, 119, 120, 121, 239, 240, 241, 359, 360, 2398, 2399, 2400, 2519,
+];
+
+/// How many of them a file of version 1 may have.
+const OLD_BLOCKS: u32 = 6;
 
 /// How far a client has come, as far as the schedule can know.
 #[derive(Clone, Copy, PartialEq, Eq)]
@@ -28,11 +35,26 @@ struct Guess {
     is_down: bool,
 }
 
+/// What a new server is taken for.
+const NEW: Guess = Guess {
+    epoch: 1,
+    ticket: 0,
+    is_down: false,
+};
+
 /// From what a schedule is drawn.
 #[derive(Drop)]
 pub(crate) struct Drawing {
     random: Pcg32,
     pub(crate) servers: Servers,
+    /// Whether this is the first of two schedules, whose files are those of version 1. The second one begins from its images.
+    pub(crate) begins: bool,
+    /// How many of `BLOCKS` come in.
+    blocks: u32,
+    /// Of twenty commands in a work that was opened, how many end its transaction.
+    ends: u32,
+    /// How many of ten commands that a client gives next have a settle behind them.
+    settles: u32,
     clients: u32,
     /// How many of a hundred events are misfortunes.
     misfortunes: u32,
@@ -55,12 +77,16 @@ fn below(random: &mut Pcg32, count: u32) -> u32
     random.next_word() % count
 }
 
-/// The servers of a schedule: 1 to 3, with few pages each, so that these run out.
-fn drawn_servers(random: &mut Pcg32) -> Servers {
-    let count = 1 + below(random, 3) as u8;
+/// The servers of a schedule: 1 to 3, or to 2 where it is the first of two, with few pages each, so that these run out.
+fn drawn_servers(random: &mut Pcg32, begins: bool) -> Servers {
+    let count = if begins {
+        1 + below(random, 2) as u8
+    } else {
+        1 + below(random, 3) as u8
+    };
     let pool = 3 + below(random, 8) as u16;
     let heads = 1 + below(random, 4) as u16;
-    let leaves = 1 + below(random, 8) as u16;
+    let leaves = 1 + below(random, 12) as u16;
     Servers {
         count,
         pages: PageCounts {
@@ -69,6 +95,15 @@ fn drawn_servers(random: &mut Pcg32) -> Servers {
             leaves,
         },
         trace: false,
+    }
+}
+
+/// How many blocks come in: those up to the second one of map page 0, of map page 1, or all.
+fn drawn_blocks(random: &mut Pcg32) -> u32 {
+    match below(random, 4) {
+        0 => 9,
+        1 => 12,
+        _ => 17,
     }
 }
 
@@ -82,31 +117,38 @@ fn drawn_stop(random: &mut Pcg32) -> Option<FaultKind> {
     }
 }
 
+fn drawn_stops(random: &mut Pcg32) -> [Option<FaultKind>; 3] {
+    [drawn_stop(random), drawn_stop(random), drawn_stop(random)]
+}
+
 impl Drawing {
     /// The schedule of this number among those of a seed.
     pub(crate) fn new(alloc: Global, seed: u64, number: u32) -> Result<Drawing, AllocError> {
         let mut random = Pcg32::new(seed, u64::from(number));
-        let servers = drawn_servers(&mut random);
+        let begins = below(&mut random, 8) == 0;
+        let blocks = if begins {
+            OLD_BLOCKS
+        } else {
+            drawn_blocks(&mut random)
+        };
+        let servers = drawn_servers(&mut random, begins);
+        let ends = 2 + 2 * below(&mut random, 3);
+        let settles = 6 + 3 * below(&mut random, 2);
         let clients = 1 + below(&mut random, 4);
         let misfortunes = below(&mut random, 5) * 5;
         let files = 1 + below(&mut random, 4);
-        let new = Guess {
-            epoch: 1,
-            ticket: 0,
-            is_down: false,
-        };
-        let stops = [
-            drawn_stop(&mut random),
-            drawn_stop(&mut random),
-            drawn_stop(&mut random),
-        ];
+        let stops = drawn_stops(&mut random);
         Ok(Drawing {
             random,
             servers,
+            begins,
+            blocks,
+            ends,
+            settles,
             clients,
             misfortunes,
             stops,
-            guesses: vec![in alloc; new, new, new]?,
+            guesses: vec![in alloc; NEW, NEW, NEW]?,
             files,
             stages: vec![in alloc; Stage::Idle, Stage::Idle, Stage::Idle, Stage::Idle]?,
             alloc,
@@ -174,16 +216,24 @@ impl Drawing {
         self.draw(256) % pages.max(1)
     }
 
+    /// A file, mostly one of the first ones, so that these grow.
     fn file(&mut self) -> FileNo {
-        FileNo(self.draw(64) % self.files.max(1))
+        let most = self.files.max(1);
+        FileNo((self.draw(64) % most).min(self.draw(64) % most))
     }
 
-    /// A block, one in twenty of which is the last one.
     fn block(&mut self) -> BlockNo {
-        match self.draw(20) {
-            19 => BlockNo(MOST_BLOCKS - 1),
-            drawn => BlockNo((drawn % 5) as u16),
+        let place = self.draw(self.blocks.max(1));
+        match BLOCKS.get(place as usize) {
+            Some(block) => BlockNo(*block),
+            None => BlockNo(0),
         }
+    }
+
+    /// A block at which a file is cut: one of those, or one before it.
+    fn cut(&mut self) -> BlockNo {
+        let BlockNo(block) = self.block();
+        BlockNo(block.saturating_sub((self.draw(3) / 2) as u16))
     }
 
     fn content(&mut self) -> Result<BlockContent, AllocError> {
@@ -195,11 +245,11 @@ impl Drawing {
     fn op(&mut self) -> Result<Op, AllocError> {
         let file = self.file();
         let block = self.block();
-        Ok(match self.draw(12) {
-            0..=2 => Op::Create(file),
-            3 => Op::Remove(file),
-            4 => Op::Cut(file, block),
-            5..=7 => Op::Read(file, block),
+        Ok(match self.draw(24) {
+            0..=4 => Op::Create(file),
+            5 => Op::Remove(file),
+            6..=8 => Op::Cut(file, self.cut()),
+            9..=12 => Op::Read(file, block),
             _ => Op::Write(file, block, self.content()?),
         })
     }
@@ -326,8 +376,10 @@ impl Drawing {
             (Stage::Begun(tid), _) => (Command::Open(server), Stage::Opened(server, tid)),
             (Stage::Opened(_, tid), 0 | 1) => (Command::Open(server), Stage::Opened(server, tid)),
             (Stage::Opened(..), 2) => (Command::Abort, Stage::Idle),
-            (Stage::Opened(..), 3..=7) => (Command::End, Stage::Idle),
-            (Stage::Opened(at, _), _) => (Command::Do(at, self.op()?), stage),
+            (Stage::Opened(at, _), drawn) if drawn.saturating_add(self.ends) < 20 => {
+                (Command::Do(at, self.op()?), stage)
+            }
+            (Stage::Opened(..), _) => (Command::End, Stage::Idle),
         })
     }
 
@@ -339,7 +391,7 @@ impl Drawing {
         self.set_stage(client, after);
         self.follow(&command);
         events.push(Event::Command(client, command))?;
-        if self.draw(10) < 6 {
+        if self.draw(10) < self.settles {
             events.push(Event::Settle)?;
         }
         Ok(())
@@ -436,9 +488,52 @@ impl Drawing {
         }
     }
 
-    /// All events of the schedule.
+    /// The second of two schedules is to be drawn. Each server was started for the end of the first one, and once more.
+    pub(crate) fn go_on(&mut self) {
+        self.begins = false;
+        self.blocks = drawn_blocks(&mut self.random);
+        for server in 0..self.servers.count {
+            self.turn(ServerNo(server), false);
+            self.turn(ServerNo(server), false);
+        }
+        for stage in &mut self.stages {
+            *stage = Stage::Idle;
+        }
+    }
+
+    /// Appends a command of client 1, and a settle.
+    fn push_settled(
+        &mut self,
+        events: &mut Vec<Event>,
+        command: Command,
+    ) -> Result<(), AllocError> {
+        self.follow(&command);
+        events.push(Event::Command(ClientNo(1), command))?;
+        events.push(Event::Settle)?;
+        Ok(())
+    }
+
+    /// Appends a transaction that makes file 0 of a server, with a few blocks.
+    fn push_file(&mut self, events: &mut Vec<Event>, server: ServerNo) -> Result<(), AllocError> {
+        let file = FileNo(0);
+        self.push_settled(events, Command::Begin(server))?;
+        self.push_settled(events, Command::Open(server))?;
+        self.push_settled(events, Command::Do(server, Op::Create(file)))?;
+        for _block in 0..2 + self.draw(4) {
+            let op = Op::Write(file, self.block(), self.content()?);
+            self.push_settled(events, Command::Do(server, op))?;
+        }
+        self.push_settled(events, Command::End)
+    }
+
+    /// All events of the schedule. Three in four begin with a file at each server.
     pub(crate) fn events(&mut self) -> Result<Vec<Event>, AllocError> {
         let mut events = Vec::new(self.alloc);
+        if self.draw(4) != 0 {
+            for server in 0..self.servers.count {
+                self.push_file(&mut events, ServerNo(server))?;
+            }
+        }
         let count = 40 + self.draw(120);
         for done in 0..count {
             self.push_event(&mut events, done)?;
