@@ -11,12 +11,13 @@ pub use Rattle.jn_options.specs.declared.asked.Options.{Options}
 pub use Rattle.jn_machine.specs.Chances.{Setup}
 pub use Rattle.jn_machine.specs.Devices.{Devices}
 pub use Rattle.jn_options.specs.declared.asked.Command.{Command}
-pub use Rattle.jn_options.specs.declared.asked.Command.TheVariants.{Run, Trial}
+pub use Rattle.jn_options.specs.declared.asked.Command.TheVariants.{Run, Trial, Node}
 pub use Rattle.jn_options.specs.declared.asked.Opening.{Opening}
 pub use Rattle.jn_schedule.specs.Faults.{IsFirstFault}
 pub use Rattle.jn_run.specs.Outside.{Outside, SourceState, SinkState, KeeperState, IsText, most_bytes, IsOpened, Writes, FailsToLoad, FailsToGive, Gives, GivesSome, outside, FailsToWrite}
 pub use Rattle.jn_run.specs.Outcome.{IsCutShort, IsWholeReport, Keeps, KeepsFirst, OutcomeOf, ReadsSchedule, RefusedImage, RefusedSchedule, RunEnds, TrialEnds, WordsEnd, words_refused, words_not_written, words_no_memory, done, not_read, too_many_bytes, too_many_events, schedule_refused, schedule_not_written, not_loaded, image_refused, image_not_written, at_limit, not_written, not_saved, no_memory, no_memory_inside, no_memory_saving, trial_done, trial_not_written, trial_at_limit, trial_no_memory, geometry_counts, AreNew, BeginsWith, Opens, no_files, IsUntouched, Accepted, AreKept, IsRefusedImage, LeavesFiles, most_events, Ran, Reads, refused_line, IsPart, BeginsFromImages, HasTooManyBytes, trial_options, RanTrial, TrialToLimit}
 pub use Rattle.jn_run.specs.declared.status.Status.{Status}
+pub use Rattle.jn_run.specs.NodeOutcome.{NodeEnds, node_done, node_not_loaded, node_refused, node_refusal_not_written, node_not_read, node_not_written, node_no_epoch, node_no_epoch_left, node_passed_limit, node_frame, node_unsettled, node_not_saved, node_no_memory, node_no_memory_inside}
 pub use Rattle.std.specs.Prelude.{is_ok, nat_lt, ◌*◌, option_map, take, IfSome}
 pub use Rattle.jn_report.specs.declared.line.Line.{Line}
 pub use Rattle.jn_writing.specs.Reporting.{Reporting, Reports, Joins}

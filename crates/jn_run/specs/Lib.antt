@@ -1,6 +1,9 @@
 pub mod Codes
 pub mod Keeping
 pub mod Laws
+pub mod NodeLaws
+pub mod NodeOutcome
+pub mod NodeParts
 pub mod Opening
 pub mod Outcome
 pub mod Outside
@@ -8,4 +11,5 @@ pub mod Parts
 pub mod Reading
 pub mod Running
 pub mod Seen
+pub mod Streams
 pub mod Trial

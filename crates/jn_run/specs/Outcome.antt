@@ -18,7 +18,7 @@ use Rattle.jn_image_files.specs.Examined.{IsFirstRefused}
 use Rattle.jn_image_files.specs.Kept.{Has, IsSaved, image_name, OthersStay}
 use Rattle.jn_image_files.specs.Texts.{refusal_text}
 use Rattle.jn_options.specs.declared.asked.Command.{Command}
-use Rattle.jn_options.specs.declared.asked.Command.TheVariants.{Run, Trial}
+use Rattle.jn_options.specs.declared.asked.Command.TheVariants.{Run, Trial, Node}
 use Rattle.jn_options.specs.declared.asked.Geometry.{Geometry}
 use Rattle.jn_options.specs.declared.asked.Opening.{Opening}
 use Rattle.jn_options.specs.declared.asked.Opening.TheVariants.{New, Images}
@@ -36,6 +36,7 @@ use Rattle.jn_machine.specs.Devices.{Devices}
 use Rattle.jn_machine.specs.Tasks.{CutShort}
 use Rattle.jn_machine.specs.Whole.{IsWhole as IsWholeRun, IsPartOfRun}
 use Rattle.jn_summary.specs.Summary.{summary_text}
+use Rattle.jn_run.specs.NodeOutcome.{NodeEnds}
 use Rattle.jn_run.specs.Outside.{SourceState, SinkState, KeeperState, Outside, IsOpened, FailsToLoad, most_bytes, IsText, Gives, GivesSome, FailsToGive, Writes, WritesFront, FailsToWrite}
 use Rattle.jn_run.specs.declared.status.Status.{Status}
 use Rattle.jn_run.specs.declared.status.Status.TheVariants.{Done, Words, Schedule, Image, Read, Write, Keep, Limit, Memory}
@@ -264,3 +265,4 @@ abbrev pub OutcomeOf : Option Command → Outside → Outside → Status → Typ
 OutcomeOf None before after status = IsUntouched before after × WordsEnd before.sink after.sink status
 OutcomeOf (Some (Run options)) before after status = RunEnds options before after status
 OutcomeOf (Some (Trial trial)) before after status = IsUntouched before after × TrialEnds trial before.keeper.kept before.sink after.sink status
+OutcomeOf (Some (Node node)) before after status = NodeEnds node before after status

@@ -21,10 +21,12 @@ use std::alloc::Global;
 
 mod keeping;
 mod laws;
+mod node;
 mod opening;
 mod reading;
 mod running;
 mod status;
+mod stream;
 mod trial;
 
 use jn_image_files::Refusal;
@@ -41,6 +43,7 @@ pub use laws::{
     a_run_that_can_be_done_is_done, a_run_without_images_leaves_the_keeper_alone, a_trial_is_done,
     counts_tell_the_status,
 };
+use node::serve;
 use opening::{OpenFault, counts_of, open_stores};
 use reading::{ReadFault, read_all};
 use running::{Disks, RunFault, run_from};
@@ -84,6 +87,7 @@ pub fn run<S: Source, K: Sink, I: Keeper>(
     match asked {
         Some(Command::Run(options)) => run_source(alloc, &options, source, sink, images),
         Some(Command::Trial(trial)) => run_trial(alloc, &trial, sink),
+        Some(Command::Node(node)) => serve(alloc, &node, source, sink, images),
         None => refuse_words(sink),
     }
 }
