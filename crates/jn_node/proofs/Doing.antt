@@ -11,13 +11,10 @@ use Rattle.jn_msgs.specs.declared.message.Message.{Message}
 use Rattle.jn_records.specs.StablePages.{Counts}
 use Rattle.jn_row_ranges.specs.Within.{MemoryWithin}
 use Rattle.jn_row_ranges.proofs.ServerRows.{timeout-memory-within}
-use Rattle.jn_page_state.specs.Pages.{found_on}
-use Rattle.jn_rows.specs.Stable.{stable}
-use Rattle.jn_base.specs.declared.names.Tickets.{Tickets}
 use Rattle.jn_rows.specs.Outcomes.{RowOutcome, Sent}
 use Rattle.jn_server.specs.Handling.{IsDone, LeavesBeside, LeavesByWork, Steps, TimesOut}
+use Rattle.jn_server.specs.Holding.{HoldsAll as ServerHolds}
 use Rattle.jn_server.specs.Reading.{IsRoomOfPages, StandsOnPages}
-use Rattle.jn_server.specs.Standing.{beside_on, standing_pages}
 use Rattle.jn_server.specs.Seen.{Parts, ServerView, memory_of, room_of, view_with}
 use Rattle.jn_storage.specs.Calls.{state}
 use Rattle.jn_storage.specs.DeviceCalls.{row_calls, step_calls}
@@ -27,9 +24,9 @@ use Rattle.jn_system.specs.WholeSystem.Servers.{server_row, server_step, server_
 use Rattle.jn_system.specs.WholeSystem.World.{Memory}
 use Rattle.jn_node.specs.Calls.{WorksBy}
 use Rattle.jn_node.specs.Nodes.{IsRunning, running_of}
-use Rattle.jn_node.specs.Running.{Running, HoldsAll, pages_named}
+use Rattle.jn_node.specs.Running.{HoldsAll}
 use Rattle.jn_node.specs.Serving.{IsTaken, row_for, step_of}
-use Rattle.jn_node.proofs.Moments.{Sees, moment, sees-at}
+use Rattle.jn_node.proofs.Moments.{Sees, holds-here, holds-there, moment, sees-at}
 use Rattle.jn_node.proofs.Rows.{DoesStep, does-step, row-names, runs-on, same-counts, same-row, same-step, step-names, stepped, taken}
 
 module _ {S : Type 0} (look : S → StoreView) (s : ServerNo) (g : Counts) (p q : Parts S) (runs : IsRunning s g (view_with look p)) where
@@ -49,12 +46,16 @@ module _ {S : Type 0} (look : S → StoreView) (s : ServerNo) (g : Counts) (p q 
 
   -- a message
   module _ (message : Message) (near : names_near 8 message ≡ true) (before after : Collected) (done : IsDone row_calls (server_row (memory_of v) (state v.storage) (room_of v.storage) message) v before w after)
-      (stands : StandsOnPages w) (room : IsRoomOfPages w) (order : are_rising w.worker.table ≡ true) (holds : HoldsAll g (running_of w)) where
+      (stands : StandsOnPages w) (room : IsRoomOfPages w) (order : are_rising w.worker.table ≡ true) (holds : ServerHolds v → ServerHolds w) where
     at-taken : Sees g w
     at-taken = sees-at look q g (same-counts s g v w runs at row_calls (server_row (memory_of v) (state v.storage) (room_of v.storage) message) before after done)
 
+    taken-holds : HoldsAll g (running_of w)
+    taken-holds = holds-here g w at-taken (same-counts s g v w runs at row_calls (server_row (memory_of v) (state v.storage) (room_of v.storage) message) before after done) done.serves stands
+        (holds (holds-there g v at runs.counts runs.serves runs.stands runs.moment.held))
+
     pub taken-runs : IsRunning s g w
-    taken-runs = runs-on s g v w runs at row_calls (server_row (memory_of v) (state v.storage) (room_of v.storage) message) before after done at-taken stands room order (row-names s g v runs at message near) holds
+    taken-runs = runs-on s g v w runs at row_calls (server_row (memory_of v) (state v.storage) (room_of v.storage) message) before after done at-taken stands room order (row-names s g v runs at message near) taken-holds
 
     pub taken-row : LeavesBeside v (server_row (memory_of v) (state v.storage) (room_of v.storage) message) w → IsTaken s g message (running_of v) (running_of w)
     taken-row leaves = taken s g v runs at message w row_calls before after done leaves at-taken taken-runs
@@ -65,12 +66,15 @@ module _ {S : Type 0} (look : S → StoreView) (s : ServerNo) (g : Counts) (p q 
   does before after did steps work = does-step v w before after did (server_step (memory_of v) (state v.storage) (room_of v.storage)) steps (ap is_some (same-step s g v runs at) ∙ work)
 
   module _ (before after : Collected) (did : Bool) (does : DoesStep v w before after did (server_step (memory_of v) (state v.storage) (room_of v.storage)))
-      (stands : StandsOnPages w) (room : IsRoomOfPages w) (order : are_rising w.worker.table ≡ true) (holds : HoldsAll g (running_of w)) where
+      (stands : StandsOnPages w) (room : IsRoomOfPages w) (order : are_rising w.worker.table ≡ true) (holds : ServerHolds v → ServerHolds w) where
     at-stepped : Sees g w
     at-stepped = sees-at look q g (same-counts s g v w runs at step_calls does.row before after does.done)
 
+    stepped-holds : HoldsAll g (running_of w)
+    stepped-holds = holds-here g w at-stepped (same-counts s g v w runs at step_calls does.row before after does.done) does.done.serves stands (holds (holds-there g v at runs.counts runs.serves runs.stands runs.moment.held))
+
     pub stepped-runs : IsRunning s g w
-    stepped-runs = runs-on s g v w runs at step_calls does.row before after does.done at-stepped stands room order (step-names s g v runs at does.row does.is) holds
+    stepped-runs = runs-on s g v w runs at step_calls does.row before after does.done at-stepped stands room order (step-names s g v runs at does.row does.is) stepped-holds
 
     pub stepped-by : ((row : RowOutcome Memory) → server_step (memory_of v) (state v.storage) (room_of v.storage) ≡ Some row → LeavesByWork v row w) → before.messages ≡ []
         → WorksBy s g (running_of v) after.messages (running_of w)
@@ -92,10 +96,8 @@ module _ {S : Type 0} (look : S → StoreView) (s : ServerNo) (g : Counts) (p q 
     timed-tickets = ap (λ (x : ServerView). x.tickets) times.others
 
     timed-holds : HoldsAll g (running_of w)
-    timed-holds W o there own first = ap (λ (x : StorageView). x.accounts.held W) storage-same ∙ runs.moment.held W o
-        (subst (λ (z : StoreView). (stable (found_on g z)).works W ≡ Some o) (ap (λ (x : StorageView). x.store) storage-same) there)
-        (own ∙ ap (λ (k : Tickets). k.epoch) timed-tickets) (ap (λ (x : StorageView). x.accounts.next W) (sym storage-same) ∙ first)
-        ∙ ap (λ (z : StoreView). pages_named o.list ((beside_on g (standing_pages z)).supplied W)) (sym (ap (λ (x : StorageView). x.store) storage-same))
+    timed-holds = holds-here g w (sees-at look q g timed-counts) timed-counts times.serves stands
+        (subst (λ (x : ServerView). ServerHolds x) (sym times.others) (holds-there g v at runs.counts runs.serves runs.stands runs.moment.held))
 
     pub timed-runs : IsRunning s g w
     timed-runs = record {

@@ -16,6 +16,7 @@ use Rattle.jn_records.specs.StablePages.{Counts}
 use Rattle.jn_records.specs.declared.net_list.Need.{Need}
 use Rattle.jn_rows.specs.Stable.{StableState, Prepared, Pick, IsUp, stable}
 use Rattle.jn_server.specs.Counted.{CountsAll}
+use Rattle.jn_server.specs.Holding.{HoldsAll as ServerHolds}
 use Rattle.jn_server.specs.Reading.{AreCountsOfPages, IsRoomOfPages, StandsOnPages}
 use Rattle.jn_server.specs.Seen.{Parts, ServerView, IsServer, memory_of, room_of, view_with}
 use Rattle.jn_server.specs.Standing.{standing_pages, beside_on, free_on, has_rubbish}
@@ -24,6 +25,7 @@ use Rattle.jn_storage.specs.Listing.{IsListing, total}
 use Rattle.jn_storage.specs.Storage.{Accounts, IsCounted, has_map, is_stored, map_eq}
 use Rattle.jn_store.specs.Store.{StoreView, StoreLater, IsCalm}
 use Rattle.jn_system.specs.WholeSystem.Servers.{Room}
+use Rattle.jn_worker.specs.Calls.{pages_named}
 use Rattle.jn_worker.specs.Leaving.{Beside, beside_of}
 use Rattle.jn_node.specs.Running.{Running, state_of, beside_at, room_on, ArePagesCounted, HoldsAll, IsMoment}
 use Rattle.jn_node.specs.Nodes.{running_of}
@@ -70,6 +72,19 @@ module _ (g : Counts) (v : ServerView) (at : Sees g v) where
   pub same-beside : counts_in v.storage.accounts ≡ g → IsServer v → StandsOnPages v → beside_of v.storage.accounts ≡ beside_at g (running_of v)
   same-beside e serves stands = let own : AreCountsOfPages v = stands.counts serves.works.serving.power in
       subst (λ h. beside_of v.storage.accounts ≡ beside_on h (standing_pages v.storage.store)) e own.beside
+
+-- ---- what works hold
+
+module _ (g : Counts) (v : ServerView) (at : Sees g v) (e : counts_in v.storage.accounts ≡ g) (serves : IsServer v) (stands : StandsOnPages v) where
+  -- with what stands beside the state
+  abbrev Holds : StableState → Beside → Type 0
+  Holds x b = (W : WorkId) (p : Prepared) → x.works W ≡ Some p → W.epoch ≡ x.epoch → v.storage.accounts.next W ≡ 0 → v.storage.accounts.held W ≡ pages_named p.list (b.supplied W)
+
+  pub holds-here : ServerHolds v → HoldsAll g (running_of v)
+  holds-here h = subst (λ (x : StableState). Holds x (beside_at g (running_of v))) (same-state g v at) (subst (λ (b : Beside). Holds (state v.storage) b) (same-beside g v at e serves stands) h)
+
+  pub holds-there : HoldsAll g (running_of v) → ServerHolds v
+  holds-there h = subst (λ (b : Beside). Holds (state v.storage) b) (sym (same-beside g v at e serves stands)) (subst (λ (x : StableState). Holds x (beside_at g (running_of v))) (sym (same-state g v at)) h)
 
 -- ---- the moment
 

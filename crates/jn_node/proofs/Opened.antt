@@ -46,13 +46,13 @@ module _ (s : ServerNo) (g : Counts) (v : StoreView) (told : Found) (w : ServerV
       by : (a b c : ℕ) → a ≡ b → b ≡ suc c → a < 4294967296 → c < 4294967295
       by a b c d e f = omega (arith, d, e, f)
 
-  no-earlier : (n k e : ℕ) → n < e → n ≡ k → k ≡ e → ⊥
-  no-earlier n k e a b c = omega (arith, a, b, c)
+  no-earlier : (n e : ℕ) → n < e → n ≡ e → ⊥
+  no-earlier n e a b = omega (arith, a, b)
 
   -- each work that it found is of an earlier epoch
   came-holds : Sees g w → HoldsAll g (running_of w)
-  came-holds at W p there own first = absurd (no-earlier W.epoch w.tickets.epoch (state w.storage).epoch
-      (r.loaded.works_earlier W (ap is_some (ap (λ (y : StableState). y.works W) (same-state g w at) ∙ there))) own r.serves.works_before.epoch)
+  came-holds at W p there own first = absurd (no-earlier W.epoch (state w.storage).epoch
+      (r.loaded.works_earlier W (ap is_some (ap (λ (y : StableState). y.works W) (same-state g w at) ∙ there))) (own ∙ sym (ap (λ (y : StableState). y.epoch) (same-state g w at))))
 
   module _ (calm : IsCalm v) (silent : v.told ≡ []) (low : s.0 ≤ 7) (names : (c : Pick) → StateWithin 8 (found_on g v c)) (at : Sees g w) (stands : StandsOnPages w) (room : IsRoomOfPages w) (order : are_rising w.worker.table ≡ true) where
     pub came-runs : IsRunning s g w

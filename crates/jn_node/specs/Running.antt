@@ -1,5 +1,5 @@
 -- A server that is up on its store, and how it changes by a row.
-use Rattle.std.specs.Prelude.{◌≡◌, ◌<◌, ◌+◌, ℕ, Bool, List, [], length, count_by, Some, is_some}
+use Rattle.std.specs.Prelude.{◌≡◌, ◌<◌, ◌+◌, ℕ, List, [], length, Some, is_some}
 use Rattle.jn_base.specs.Names.{tid_eq, unit_eq, work_eq}
 use Rattle.jn_base.specs.declared.names.FileNo.{FileNo}
 use Rattle.jn_base.specs.declared.names.LockUnit.{LockUnit}
@@ -12,9 +12,7 @@ use Rattle.jn_page_state.specs.Images.{IsImage}
 use Rattle.jn_page_state.specs.Pages.{found_on, heads_on, pages_by, pool_on}
 use Rattle.jn_page_state.specs.Recoverable.{IsRecoverable}
 use Rattle.jn_records.specs.MapPlaces.{maps_in}
-use Rattle.jn_records.specs.NetLists.{is_put_intention}
 use Rattle.jn_records.specs.StablePages.{Counts, page_count}
-use Rattle.jn_records.specs.declared.intention.Intention.{Intention}
 use Rattle.jn_rows.specs.Outcomes.{RowOutcome}
 use Rattle.jn_rows.specs.Stable.{StableState, Prepared, Pick, IsUp, made_all, stable}
 use Rattle.jn_server.specs.Counted.{CountsAll}
@@ -25,6 +23,7 @@ use Rattle.jn_store.specs.Store.{StoreView, IsCalm}
 use Rattle.jn_system.specs.WholeSystem.Servers.{Room, restored}
 use Rattle.jn_system.specs.WholeSystem.Steps.{AreNames, tid_before}
 use Rattle.jn_system.specs.WholeSystem.World.{Memory, with_epoch}
+use Rattle.jn_worker.specs.Calls.{pages_named}
 use Rattle.jn_worker.specs.Leaving.{Beside}
 
 -- what it remembers, the store that it stands on, and how many data pages each prepared work holds: those that its intentions name, for a
@@ -58,13 +57,9 @@ pub record ArePagesCounted (g : Counts) (x : Running) : Type 0 where
   pub maps_all : IsListing map_eq (has_map (beside_at g x).maps) maps
   pub pages_all : (room_on g x).free.pages + length blocks + length maps + total x.held works ≡ g.leaves
 
--- one page for each put of a list, and one for each map page that its records name
-abbrev pub pages_named : List Intention → List Bool → ℕ
-pages_named list supplied = count_by is_put_intention list + count_by (λ named. named) supplied
-
--- A work that was prepared since the server came up, and of which nothing is carried out yet, holds each page that it names.
+-- A work that was prepared in this epoch, and of which nothing is carried out yet, holds each page that it names.
 abbrev pub HoldsAll : Counts → Running → Type 0
-HoldsAll g x = (W : WorkId) (p : Prepared) → (state_of g x).works W ≡ Some p → W.epoch ≡ x.memory.tickets.epoch → x.memory.next W ≡ 0
+HoldsAll g x = (W : WorkId) (p : Prepared) → (state_of g x).works W ≡ Some p → W.epoch ≡ (state_of g x).epoch → x.memory.next W ≡ 0
     → x.held W ≡ pages_named p.list ((beside_at g x).supplied W)
 
 -- Each pick finds one state, no fault waits or was reported, and a recovery may begin. Records, heads and data pages are those of what is

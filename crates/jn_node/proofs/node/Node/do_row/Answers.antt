@@ -10,14 +10,14 @@ returns-in-Ok-clause-runs g c =
     let look : g.row.S.Denot → StoreView = λ s. g.S.StableStore.view s in
     let n = c.args.self.now in
     let h = c.in-Ok.ensures in
-    taken-runs look n.server (counts_at n) n.running c.handle.new.self c.requires.runs c.args.message.now c.requires.near c.new-out.result c.handle.new.out h.does c.counts_pages.ensures c.reads_pages.ensures.room c.reads_pages.ensures.order ?
+    taken-runs look n.server (counts_at n) n.running c.handle.new.self c.requires.runs c.args.message.now c.requires.near c.new-out.result c.handle.new.out h.does c.counts_pages.ensures c.reads_pages.ensures.room c.reads_pages.ensures.order h.holds
 
 pub returns-in-Ok-clause-taken : goal.returns-in-Ok-clause-taken
 returns-in-Ok-clause-taken g c =
     let look : g.row.S.Denot → StoreView = λ s. g.S.StableStore.view s in
     let n = c.args.self.now in
     let h = c.in-Ok.ensures in
-    taken-row look n.server (counts_at n) n.running c.handle.new.self c.requires.runs c.args.message.now c.requires.near c.new-out.result c.handle.new.out h.does c.counts_pages.ensures c.reads_pages.ensures.room c.reads_pages.ensures.order ? h.beside
+    taken-row look n.server (counts_at n) n.running c.handle.new.self c.requires.runs c.args.message.now c.requires.near c.new-out.result c.handle.new.out h.does c.counts_pages.ensures c.reads_pages.ensures.room c.reads_pages.ensures.order h.holds h.beside
 
 pub returns-in-Ok-clause-sends : goal.returns-in-Ok-clause-sends
 returns-in-Ok-clause-sends g c =

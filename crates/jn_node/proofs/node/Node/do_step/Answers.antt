@@ -19,7 +19,7 @@ returns-in-Ok-clause-runs g c =
     let n = c.args.self.now in
     let h = c.in-Ok.ensures in
     let one = does look n.server (counts_at n) n.running c.step.new.self c.requires.runs c.new-out.result c.step.new.out c.in-Ok._done h.steps c.requires.work in
-    stepped-runs look n.server (counts_at n) n.running c.step.new.self c.requires.runs c.new-out.result c.step.new.out c.in-Ok._done one c.counts_pages.ensures c.reads_pages.ensures.room c.reads_pages.ensures.order ?
+    stepped-runs look n.server (counts_at n) n.running c.step.new.self c.requires.runs c.new-out.result c.step.new.out c.in-Ok._done one c.counts_pages.ensures c.reads_pages.ensures.room c.reads_pages.ensures.order h.holds
 
 pub returns-in-Ok-clause-works : goal.returns-in-Ok-clause-works
 returns-in-Ok-clause-works g c =
@@ -27,7 +27,7 @@ returns-in-Ok-clause-works g c =
     let n = c.args.self.now in
     let h = c.in-Ok.ensures in
     let one = does look n.server (counts_at n) n.running c.step.new.self c.requires.runs c.new-out.result c.step.new.out c.in-Ok._done h.steps c.requires.work in
-    stepped-by look n.server (counts_at n) n.running c.step.new.self c.requires.runs c.new-out.result c.step.new.out c.in-Ok._done one c.counts_pages.ensures c.reads_pages.ensures.room c.reads_pages.ensures.order ? (h.left one.did_is)
+    stepped-by look n.server (counts_at n) n.running c.step.new.self c.requires.runs c.new-out.result c.step.new.out c.in-Ok._done one c.counts_pages.ensures c.reads_pages.ensures.room c.reads_pages.ensures.order h.holds (h.left one.did_is)
     (ap (λ (x : Collected). x.messages) c.new-out.ensures)
 
 pub returns-in-Ok-clause-less : goal.returns-in-Ok-clause-less
