@@ -4,7 +4,6 @@
 
 mod beginning;
 mod counting;
-mod drawing;
 mod judging;
 mod running;
 mod watching;

@@ -4,9 +4,9 @@ ghost use Rattle.jn_bench.specs.declared.storm.judging.Wrong.TheVariants as wron
 
 use crate::storm::beginning::{Start, set_back};
 use crate::storm::counting::{Counter, Counts};
-use crate::storm::drawing::Drawing;
 use crate::storm::running::lines_of;
 use jn_causing::caused;
+use jn_drawing::Drawing;
 use jn_following::follows;
 use jn_gen::text_of;
 use jn_image_files::Refusal;

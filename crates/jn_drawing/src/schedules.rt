@@ -44,11 +44,11 @@ const NEW: Guess = Guess {
 
 /// From what a schedule is drawn.
 #[derive(Drop)]
-pub(crate) struct Drawing {
+pub struct Drawing {
     random: Pcg32,
-    pub(crate) servers: Servers,
+    pub servers: Servers,
     /// Whether this is the first of two schedules, whose files are those of version 1. The second one begins from its images.
-    pub(crate) begins: bool,
+    pub begins: bool,
     /// How many of `BLOCKS` come in.
     blocks: u32,
     /// Of twenty commands in a work that was opened, how many end its transaction.
@@ -123,7 +123,7 @@ fn drawn_stops(random: &mut Pcg32) -> [Option<FaultKind>; 3] {
 
 impl Drawing {
     /// The schedule of this number among those of a seed.
-    pub(crate) fn new(alloc: Global, seed: u64, number: u32) -> Result<Drawing, AllocError> {
+    pub fn new(alloc: Global, seed: u64, number: u32) -> Result<Drawing, AllocError> {
         let mut random = Pcg32::new(seed, u64::from(number));
         let begins = below(&mut random, 8) == 0;
         let blocks = if begins {
@@ -489,7 +489,7 @@ impl Drawing {
     }
 
     /// The second of two schedules is to be drawn. Each server was started for the end of the first one, and once more.
-    pub(crate) fn go_on(&mut self) {
+    pub fn go_on(&mut self) {
         self.begins = false;
         self.blocks = drawn_blocks(&mut self.random);
         for server in 0..self.servers.count {
@@ -527,7 +527,7 @@ impl Drawing {
     }
 
     /// All events of the schedule. Three in four begin with a file at each server.
-    pub(crate) fn events(&mut self) -> Result<Vec<Event>, AllocError> {
+    pub fn events(&mut self) -> Result<Vec<Event>, AllocError> {
         let mut events = Vec::new(self.alloc);
         if self.draw(4) != 0 {
             for server in 0..self.servers.count {
