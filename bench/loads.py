@@ -2,6 +2,9 @@
 
 BLOCKS, INTENTIONS = 2520, 24
 
+# To clear 2,048 bytes and more the C library takes one instruction that repeats, which callgrind counts once for each byte. So it isn't let.
+COUNTED = {"GLIBC_TUNABLES": "glibc.cpu.x86_rep_stosb_threshold=1073741824"}
+
 
 def transaction(commands):
     """Returns a transaction of the first client, each command of which is followed by a settle."""

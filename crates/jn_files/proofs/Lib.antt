@@ -1,3 +1,4 @@
+mod MapRows
 mod Common
 pub mod Cells
 pub mod Places

@@ -1,5 +1,5 @@
 -- A table is loaded: heads and map pages are read, and what is free is counted out.
-use Rattle.jn_files.proofs.Common.{◌≡◌, ◌≢◌, ◌⊎◌, ⊎_elim, inl, inr, ◌<◌, ◌≤◌, ◌+◌, ◌-◌, ◌++◌, ℕ, zero, suc, Bool, true, List, [], ◌∷◌, length, take, Result, Ok, refl, sym, ap, subst, ◌∙◌, arith, slice_set, slice_index, count_by, is_ok, nat_lt, if◌then◌else◌, cases_eq, nat_tests, get_or-set_same, get_or-set_other, length-set, Stopped, FileNo, most_maps, Head, Free, Used, head_page, map_page, head_map, map_count, maps_named, PageCounts, head_place, data_place, page_count, StoreView, StoreCleaned, StoreGot, IsServed, IsOnly, Candidate, Shrinks, later_trans, same_trans, same_shrinks, head_in, row_at, IsHeadOf, IsMapRow, MapsLoadable, IsHeadAt, StoreRead, IsMapOfHead, IsMapOfHeads, one_if, AreMapPages, MapsCleaned, IsRowRead, IsRowKept, MapsRead, MapsHeld, KeepsPower}
+use Rattle.jn_files.proofs.Common.{◌≡◌, ◌≢◌, ◌⊎◌, ⊎_elim, inl, inr, ◌<◌, ◌≤◌, ◌+◌, ◌-◌, ◌++◌, ℕ, zero, suc, Bool, true, List, [], ◌∷◌, length, take, Result, Ok, refl, sym, ap, subst, ◌∙◌, arith, slice_set, slice_index, count_by, is_ok, nat_lt, if◌then◌else◌, cases_eq, nat_tests, get_or-set_same, get_or-set_other, length-set, Stopped, FileNo, most_maps, Head, Free, Used, head_page, map_page, head_map, map_count, maps_named, PageCounts, head_place, data_place, page_count, StoreView, StoreCleaned, StoreGot, IsServed, IsOnly, Candidate, Shrinks, later_trans, same_trans, same_shrinks, head_in, row_at, IsHeadOf, IsMapRow, MapsLoadable, IsHeadAt, StoreRead, IsMapOfHead, IsMapOfHeads, one_if, AreMapPages, MapsCleaned, MapsMended, IsWholePage, StoreLater, IsRowRead, IsRowKept, MapsRead, MapsHeld, KeepsPower}
 use Rattle.std.proofs.lemmas.List.Sums.{sum_by-cons}
 use Rattle.jn_files.proofs.Cells.{map_within}
 use Rattle.jn_files.proofs.Cutting.{maps_length}
@@ -136,6 +136,10 @@ module _ (g : PageCounts) where
             others = λ i lt none. same_trans v w x i (one_cleaned.others i lt none) (got.same i);
           }
 
+          pub one_mended : MapsMended g (λ d. address ≡ suc d) v x
+          one_mended = λ calm d lt t. got.later.whole (step.later.calm calm) (data_place g d) (let e = step.later.count in omega (arith, lt, fits, e))
+              (subst (IsWholePage w) (let e : place ≡ data_place g d = omega (arith, at, t) in e) (step.calm calm).1)
+
           -- the page that is found was a candidate before, and is the only one now
           pub was_candidate : (y : List ℕ) → page ≡ Ok y → Candidate v (data_place g (address - 1)) y
           was_candidate y e = subst (λ i. Candidate v i y) at (step.kept y (got.found y e))
@@ -170,6 +174,14 @@ module _ (g : PageCounts) where
                 only = rw row_is (subst (λ (i : ℕ). IsOnly x i (map_page row)) at (subst (λ (z : List ℕ). IsOnly x place z) spelled (only_now y e done)));
                 row = rw row_is is_row;
               })
+
+-- ---- which of them are whole
+
+-- what is whole stays so
+pub mended_then : (g : PageCounts) (A B C : ℕ → Type 0) (u v w : StoreView) → u.count ≡ page_count g → StoreLater u v → StoreLater v w → ((d : ℕ) → C d → A d ⊎ B d) → MapsMended g A u v → MapsMended g B v w → MapsMended g C u w
+mended_then g A B C u v w fits first second from before more calm d lt c = ⊎_elim
+    (λ a. second.whole (first.calm calm) (data_place g d) (let e = first.count in omega (arith, lt, fits, e)) (before calm d lt a))
+    (λ b. more (first.calm calm) d lt b) (from d c)
 
 -- ---- how many map pages
 
@@ -299,6 +311,11 @@ module _ (g : PageCounts) (h : Head) (head : IsHeadOf g.leaves h) (v : StoreView
   step_read n now w rows mid new so_far address is more = reads_then g (λ d. IsMapOfHead h n d) (λ d. address ≡ suc d) (λ d. IsMapOfHead h (n + 1) d) v now w rows mid new
       (λ d m. ⊎_elim (λ first. inl first) (λ e. inr (is ∙ e)) (map_of h n d m)) so_far more
 
+  pub step_mended : (n : ℕ) (now w : StoreView) → StoreLater v now → StoreLater now w → MapsMended g (λ d. IsMapOfHead h n d) v now → (address : ℕ) → address ≡ head_map h n → MapsMended g (λ d. address ≡ suc d) now w
+      → MapsMended g (λ d. IsMapOfHead h (n + 1) d) v w
+  step_mended n now w first second so_far address is more = mended_then g (λ d. IsMapOfHead h n d) (λ d. address ≡ suc d) (λ d. IsMapOfHead h (n + 1) d) v now w fits first second
+      (λ d m. ⊎_elim (λ before. inl before) (λ e. inr (is ∙ e)) (map_of h n d m)) so_far more
+
 module _ (g : PageCounts) (heads : List Head) (are : (slot : ℕ) → IsHeadOf g.leaves (head_in heads slot)) (v : StoreView) (fits : v.count ≡ page_count g) where
   pub heads_still : AreMapPages g (IsMapOfHeads heads (length heads)) v → (n : ℕ) → n < length heads → (now : StoreView) → MapsCleaned g (λ d. IsMapOfHeads heads n d) (heads_to heads n) v now → (h : Head) → h ≡ head_in heads n
       → AreMapPages g (IsMapOfHead h most_maps) now
@@ -322,3 +339,8 @@ module _ (g : PageCounts) (heads : List Head) (are : (slot : ℕ) → IsHeadOf g
       → MapsHeld g (λ d. IsMapOfHeads heads (n + 1) d) new w
   next_held n now w mid new so_far h is more = held_then g (λ d. IsMapOfHeads heads n d) (λ d. IsMapOfHead h most_maps d) (λ d. IsMapOfHeads heads (n + 1) d) now w mid new
       (λ d m. ⊎_elim (λ first. inl first) (λ its. inr (subst (λ (x : Head). IsMapOfHead x most_maps d) (sym is) its)) (head_of heads n d m)) so_far more
+
+  pub next_mended : (n : ℕ) (now w : StoreView) → StoreLater v now → StoreLater now w → MapsMended g (λ d. IsMapOfHeads heads n d) v now → (h : Head) → h ≡ head_in heads n → MapsMended g (λ d. IsMapOfHead h most_maps d) now w
+      → MapsMended g (λ d. IsMapOfHeads heads (n + 1) d) v w
+  next_mended n now w first second so_far h is more = mended_then g (λ d. IsMapOfHeads heads n d) (λ d. IsMapOfHead h most_maps d) (λ d. IsMapOfHeads heads (n + 1) d) v now w fits first second
+      (λ d m. ⊎_elim (λ before. inl before) (λ its. inr (subst (λ (x : Head). IsMapOfHead x most_maps d) (sym is) its)) (head_of heads n d m)) so_far more

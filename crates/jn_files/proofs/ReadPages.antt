@@ -1,5 +1,5 @@
 -- What a load has read: the heads that the store holds, and their map pages.
-use Rattle.jn_files.proofs.Common.{◌≡◌, inl, inr, ◌<◌, ◌^◌, ℕ, suc, List, length, refl, sym, ap, subst, ◌∙◌, arith, cases_eq, cases_lt, get_or_past, most_maps, most_blocks, Head, Free, head_page, map_page, IsMapPage, Layout, at_cell, head_map, kept_entry, layout_at, map_cell, IsNoMap, maps_named, Counts, head_place, data_place, page_count, StoreView, IsOnly, Candidate, IsChoice, with_page, with_same, with_other, later_trans, same_trans, same_shrinks, head_in, row_at, layouts_of, AreHeads, AreNamedOnce, HoldsHeads, MapsLoadable, IsMapChoice, layouts_on, LoadedFrom, StoreRead, IsMapOfHeads, AreMapPages, MapsCleaned, MapsHeld, IsReadFrom}
+use Rattle.jn_files.proofs.Common.{◌≡◌, inl, inr, ◌<◌, ◌^◌, ℕ, suc, List, length, refl, sym, ap, subst, ◌∙◌, arith, cases_eq, cases_lt, get_or_past, most_maps, most_blocks, Head, Free, head_page, map_page, IsMapPage, Layout, at_cell, head_map, kept_entry, layout_at, map_cell, IsNoMap, maps_named, Counts, head_place, data_place, page_count, StoreView, IsOnly, Candidate, IsChoice, with_page, with_same, with_other, later_trans, same_trans, same_shrinks, head_in, row_at, layouts_of, AreHeads, AreNamedOnce, HoldsHeads, MapsLoadable, IsMapChoice, layouts_on, LoadedFrom, StoreRead, IsMapOfHeads, AreMapPages, MapsCleaned, MapsHeld, MapsMended, MendsMaps, IsReadFrom}
 use Rattle.jn_files.proofs.Cutting.{map_page_below}
 use Rattle.jn_files.proofs.Lookup.{map_at_cell}
 use Rattle.jn_files.proofs.Said.{layouts_said, named_below, same_leaf, same_only}
@@ -42,6 +42,9 @@ module _ (g : Counts) (heads : List Head) (u : StoreView) (loadable : MapsLoadab
         where
           on : (i : ℕ) → i < u.count → i < v.count
           on i lt = let e = read.later.count in omega (arith, e, lt)
+
+      pub mends_maps : MapsMended g (IsMapOfHeads heads (length heads)) v w → MendsMaps g heads u w
+      mends_maps mended = λ calm d slot j lt low e. mended (read.later.calm calm) d lt (named_map heads slot j d low e)
 
       module _ (rows : List (List ℕ)) (held : MapsHeld g (IsMapOfHeads heads (length heads)) rows w) (small : g.leaves < 2 ^ 16) where
         first_choice : IsChoice u w.first

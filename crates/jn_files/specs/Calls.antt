@@ -5,7 +5,7 @@ use Rattle.jn_base.specs.declared.device.Stopped.{Stopped}
 use Rattle.jn_base.specs.declared.names.FileNo.{FileNo}
 use Rattle.jn_base.specs.declared.names.BlockNo.{BlockNo}
 use Rattle.jn_base.specs.declared.names.LockUnit.TheVariants.{Block}
-use Rattle.jn_base.specs.Limits.{head_blocks}
+use Rattle.jn_base.specs.Limits.{head_blocks, most_maps}
 use Rattle.jn_order.specs.Files.{Change, change, cut_from, written}
 use Rattle.jn_records.specs.declared.head.Head.{Head}
 use Rattle.jn_records.specs.Heads.{head_page, map_page, head_in}
@@ -42,6 +42,10 @@ pub record LoadedFrom (g : Counts) (heads : List Head) (v w : StoreView) : Type 
   pub calls : w.calls ≤ v.calls + (8 * g.heads + cleaned_get_calls * maps_named heads)
   pub fewer : (i : ℕ) → i < v.count → Shrinks v w i
   pub others : (i : ℕ) → i < v.count → ((d : ℕ) → i ≡ data_place g d → IsNoMap heads d) → IsSamePage v w i
+
+-- Where no fault waited, both halves of each map page that heads name are good once they are read.
+abbrev pub MendsMaps : Counts → List Head → StoreView → StoreView → Type 0
+MendsMaps g heads v w = IsCalm v → (d slot j : ℕ) → d < g.leaves → j < most_maps → head_map (head_in heads slot) j ≡ suc d → IsWholePage w (data_place g d)
 
 -- ---- heads and map pages
 

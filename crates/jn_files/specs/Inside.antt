@@ -13,7 +13,7 @@ use Rattle.jn_records.specs.Layouts.{Layout, at_cell, head_map, kept_entry, layo
 use Rattle.jn_records.specs.MapPlaces.{is_in_range, range_of}
 use Rattle.jn_records.specs.StablePages.{Counts as PageCounts, data_place}
 use Rattle.jn_store.specs.DeviceCalls.{cleaned_get_calls}
-use Rattle.jn_store.specs.Store.{StoreView, StoreLater, Candidate, Shrinks, IsOnly, IsSamePage}
+use Rattle.jn_store.specs.Store.{StoreView, StoreLater, Candidate, Shrinks, IsOnly, IsSamePage, IsCalm, IsWholePage}
 use Rattle.jn_files.specs.Pages.{HoldsHeads}
 use Rattle.jn_files.specs.Table.{TableView, IsTable, AreHeads, AreRows, IsHeadOf, IsUnnamed, is_free, is_of, is_held, exists, files_of, layouts_of, layouts_in, layout_in, kept_maps}
 
@@ -187,6 +187,10 @@ pub record MapsCleaned (g : PageCounts) (these : ℕ → Type 0) (count : ℕ) (
   pub calls : w.calls ≤ v.calls + cleaned_get_calls * count
   pub fewer : (i : ℕ) → i < v.count → Shrinks v w i
   pub others : (i : ℕ) → i < v.count → ((d : ℕ) → these d → i ≢ data_place g d) → IsSamePage v w i
+
+-- where no fault waited, both halves of these data pages are good then
+abbrev pub MapsMended : PageCounts → (ℕ → Type 0) → StoreView → StoreView → Type 0
+MapsMended g these v w = IsCalm v → (d : ℕ) → d < g.leaves → these d → IsWholePage w (data_place g d)
 
 -- a row is what stands at its data page
 pub record IsRowRead (g : PageCounts) (w : StoreView) (rows : List (List ℕ)) (d : ℕ) : Type 0 where

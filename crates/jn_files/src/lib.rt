@@ -15,7 +15,7 @@
 //! cleaned before the first get of it since the load, unless it was put since then: it is touched then.
 //!
 //! A data page may be held: it is that of an intention, and isn't free, whatever the heads name. No call but `load` takes
-//! memory: the rows of all map pages that there may be are taken at once.
+//! memory: room for the rows of all map pages that there may be is taken at once.
 #![tactic(auto)]
 
 mod fault;

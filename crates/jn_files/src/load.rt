@@ -39,6 +39,7 @@ pub fn read_pages<S: StableStore>(
     requires loadable { (heads : List HeadOf) × pages.MapsLoadable (counts_of root.now) heads (S.view store.old) }
     ensures found { (heads : List HeadOf) → pages.MapsLoadable (counts_of root.now) heads (S.view store.old) → IfOk result (λ r. inside.IsReadFrom (counts_of root.now) heads r.slots.items r.maps (S.view store.new)) }
     ensures read { (heads : List HeadOf) → pages.MapsLoadable (counts_of root.now) heads (S.view store.old) → calls.LoadedFrom (counts_of root.now) heads (S.view store.old) (S.view store.new) }
+    ensures mended { IsOk result → (heads : List HeadOf) → pages.MapsLoadable (counts_of root.now) heads (S.view store.old) → calls.MendsMaps (counts_of root.now) heads (S.view store.old) (S.view store.new) }
     ensures few { root.now.heads < 2 ^ 16 }
     ensures served { IsOk result → 0 < root.now.heads → IsServed (S.view store.old) (S.view store.new) }
     ensures stops { IsOk result → (S.view store.new).stops ≡ (S.view store.old).stops }
@@ -113,6 +114,7 @@ fn read_maps<S: StableStore>(
     requires pages { inside.AreMapPages (counts_of root.now) (inside.IsMapOfHeads slots.now (length slots.now)) (S.view store.old) }
     ensures cleaned { inside.MapsCleaned (counts_of root.now) (inside.IsMapOfHeads slots.now (length slots.now)) (maps_named slots.now) (S.view store.old) (S.view store.new) }
     ensures read { IfOk result (λ maps. inside.MapsHeld (counts_of root.now) (inside.IsMapOfHeads slots.now (length slots.now)) maps (S.view store.new)) }
+    ensures mended { IsOk result → inside.MapsMended (counts_of root.now) (inside.IsMapOfHeads slots.now (length slots.now)) (S.view store.old) (S.view store.new) }
     ensures few { root.now.leaves < 2 ^ 16 }
     ensures served { IsOk result → inside.KeepsPower (S.view store.old) (S.view store.new) }
     ensures stop { result ≡ Err LoadStopped → IsStop (S.view store.old) (S.view store.new) }
@@ -138,6 +140,7 @@ fn read_maps_of<S: StableStore>(
     requires pages { inside.AreMapPages (counts_of root.now) (inside.IsMapOfHead slot.now most_maps) (S.view store.old) }
     ensures cleaned { inside.MapsCleaned (counts_of root.now) (inside.IsMapOfHead slot.now most_maps) (map_count slot.now) (S.view store.old) (S.view store.new) }
     ensures read { IsOk result → inside.MapsRead (counts_of root.now) (inside.IsMapOfHead slot.now most_maps) (S.view store.old) maps.old (S.view store.new) maps.new }
+    ensures mended { IsOk result → inside.MapsMended (counts_of root.now) (inside.IsMapOfHead slot.now most_maps) (S.view store.old) (S.view store.new) }
     ensures served { IsOk result → inside.KeepsPower (S.view store.old) (S.view store.new) }
     ensures stop { IsErr result → IsStop (S.view store.old) (S.view store.new) }
     ensures calm { IsCalm (S.view store.old) → IsOk result }
@@ -161,6 +164,7 @@ fn read_map<S: StableStore>(
     requires pages { inside.AreMapPages (counts_of root.now) (λ d. address ≡ suc d) (S.view store.old) }
     ensures cleaned { inside.MapsCleaned (counts_of root.now) (λ d. address ≡ suc d) (inside.one_if address) (S.view store.old) (S.view store.new) }
     ensures read { IsOk result → inside.MapsRead (counts_of root.now) (λ d. address ≡ suc d) (S.view store.old) maps.old (S.view store.new) maps.new }
+    ensures mended { IsOk result → inside.MapsMended (counts_of root.now) (λ d. address ≡ suc d) (S.view store.old) (S.view store.new) }
     ensures served { IsOk result → inside.KeepsPower (S.view store.old) (S.view store.new) }
     ensures stop { IsErr result → IsStop (S.view store.old) (S.view store.new) }
     ensures calm { IsCalm (S.view store.old) → IsOk result }

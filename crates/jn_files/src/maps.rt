@@ -17,19 +17,25 @@ pub type Row = [u16; HEAD_BLOCKS];
 /// Of each map page its address likewise.
 pub type MapRow = [u16; MOST_MAPS];
 
-/// Of each data page its entries, where a head names it as a map page; of no meaning else. So no change of a map page takes memory.
-/// Contracts see a list.
+/// Of each data page its entries, where a head names it as a map page; of no meaning else. There is room for a row of each from the
+/// start, and a row is made when its data page is first given entries. So no change of a map page takes memory, and a start clears no
+/// row but one. Contracts see a list of rows, one of each data page.
 #[derive(Drop)]
 pub struct Maps {
+    /// Of each data page the place of its row, or 0, where the row without entries stands.
+    slots: Vec<u16>,
     rows: Vec<Row>,
 }
 
 impl Model for Maps {
-    ghost use Rattle.std.specs.Prelude.{List, ℕ};
+    ghost use Rattle.std.specs.Prelude.{List, ℕ, vec_capacity};
+    ghost use Rattle.jn_files.specs.Maps.{rows_by, AreRowsMade};
 
     ghost Value = { List (List ℕ) };
 
-    ghost view = { λ m. m.rows.items };
+    ghost view = { λ m. rows_by m.slots.items m.rows.items };
+
+    ghost invariant = { λ m. AreRowsMade m.slots.items m.rows.items (vec_capacity m.rows) };
 }
 
 impl Maps {
@@ -38,18 +44,18 @@ impl Maps {
         ensures count { IfOk result (λ maps. length maps ≡ leaves) }
         ensures rows { IfOk result (λ maps. (d : ℕ) → d < leaves → IsMapRow leaves (row_at maps d)) }
     {
-        let mut rows = Vec::with_capacity(alloc, leaves as usize)?;
-        for _ in 0..leaves {
-            rows.push([0; HEAD_BLOCKS])?;
-        }
-        Ok(Maps { rows })
+        let mut slots = Vec::with_capacity(alloc, leaves as usize)?;
+        slots.resize(leaves as usize, 0)?;
+        let mut rows = Vec::with_capacity(alloc, leaves as usize + 1)?;
+        rows.push_reserved([0; HEAD_BLOCKS]);
+        Ok(Maps { slots, rows })
     }
 
     pub fn row(&self, d: u16) -> &Row
         requires { d < length self.now }
         ensures { result.now ≡ row_at self.now d }
     {
-        &self.rows[d as usize]
+        &self.rows[self.slots[d as usize] as usize]
     }
 
     /// The entry of the map page that an address leads to, 0 where it leads to none.
@@ -61,7 +67,7 @@ impl Maps {
         if address == 0 {
             return 0;
         }
-        self.rows[address as usize - 1][k]
+        self.rows[self.slots[address as usize - 1] as usize][k]
     }
 
     /// Puts other entries in place of a data page's, which it gives back.
@@ -70,7 +76,13 @@ impl Maps {
         ensures old { result ≡ row_at self.old d }
         ensures new { self.new ≡ slice_set self.old d row }
     {
-        mem::replace(&mut self.rows[d as usize], row)
+        let slot = self.slots[d as usize];
+        if slot != 0 {
+            return mem::replace(&mut self.rows[slot as usize], row);
+        }
+        self.slots[d as usize] = self.rows.len() as u16;
+        self.rows.push_reserved(row);
+        [0; HEAD_BLOCKS]
     }
 }
 

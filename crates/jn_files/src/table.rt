@@ -72,6 +72,7 @@ impl FileTable {
         ensures heads { (heads : List HeadOf) → pages.MapsLoadable (counts_of root.now) heads (S.view store.old) → IfOk result (λ t. t.heads ≡ heads) }
         ensures holds { IfOk result (λ t. pages.HoldsTable t (S.view store.new)) }
         ensures read { (heads : List HeadOf) → pages.MapsLoadable (counts_of root.now) heads (S.view store.old) → calls.LoadedFrom (counts_of root.now) heads (S.view store.old) (S.view store.new) }
+        ensures mended { IsOk result → (heads : List HeadOf) → pages.MapsLoadable (counts_of root.now) heads (S.view store.old) → calls.MendsMaps (counts_of root.now) heads (S.view store.old) (S.view store.new) }
         ensures served { IsOk result → 0 < root.now.heads → IsServed (S.view store.old) (S.view store.new) }
         ensures stops { IsOk result → (S.view store.new).stops ≡ (S.view store.old).stops }
         ensures stop { result ≡ Err LoadStopped → IsStop (S.view store.old) (S.view store.new) }

@@ -77,7 +77,7 @@ module _ (server : ServerNo) (g : Counts) (v : StoreView) (epoch : ℕ) (records
   layouts_held c = same_layouts (kept_entry rows) (entry_of (block_on g (pages_by v c))) heads (λ i j d k low below t. entry_by c d k (row_at rows d) below (stored_at i j d low t))
 
   -- what a page names as a map page the head does
-  named_held : (c : Pick) (d : ℕ) → NamesMap g (pages_by v c) d → (i : ℕ) × (j : ℕ) × (j < most_maps) × (head_map (head_in heads i) j ≡ suc d)
+  pub named_held : (c : Pick) (d : ℕ) → NamesMap g (pages_by v c) d → (i : ℕ) × (j : ℕ) × (j < most_maps) × (head_map (head_in heads i) j ≡ suc d)
   named_held c d n = let stored = held.heads_stored n.head n.is_head in
       (n.head, n.at, n.below, sym (page_maps g.leaves (pages_by v c (head_place g n.head)) (head_in heads n.head) held.root_fits.leaves stored.whole stored.fits (head_by c n.head n.is_head) n.used n.at n.below) ∙ n.names)
 

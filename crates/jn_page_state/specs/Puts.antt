@@ -16,7 +16,7 @@ use Rattle.jn_store.specs.Store.{StoreView, StorePut, IsClean, IsWholePage, Shri
 use Rattle.jn_page_state.specs.Contents.{Contents, state_in}
 use Rattle.jn_page_state.specs.Changes.{with_record, with_head, with_block, with_epoch}
 use Rattle.jn_page_state.specs.Pages.{contents_of, pages_by, IsOfFormat}
-use Rattle.jn_page_state.specs.Recoverable.{names_block, IsConsistent}
+use Rattle.jn_page_state.specs.Recoverable.{names_block, IsConsistent, MapsAreWhole}
 
 pub data PagePut : Type 0 where
   -- the root, with an epoch
@@ -112,11 +112,12 @@ pub record IsFrontClean (g : Counts) (v : StoreView) : Type 0 where
   pub pool : (i : ℕ) → i < g.pool → IsClean v (slot_place g i)
   pub heads : (i : ℕ) → i < g.heads → IsClean v (head_place g i)
 
--- and both halves of each of them are good
+-- and both halves of each of them are good, and of each map page that a head names
 pub record IsFrontWhole (g : Counts) (v : StoreView) : Type 0 where
   pub root : IsWholePage v 0
   pub pool : (i : ℕ) → i < g.pool → IsWholePage v (slot_place g i)
   pub heads : (i : ℕ) → i < g.heads → IsWholePage v (head_place g i)
+  pub maps : MapsAreWhole g v
 
 -- no page has a new candidate, as after a get, a cleanup or a decay
 pub record IsFewer (v w : StoreView) : Type 0 where

@@ -17,7 +17,7 @@ use Rattle.jn_records.specs.StablePages.{Counts, Pages, page_count, data_place, 
 use Rattle.jn_rows.specs.Stable.{Pick}
 use Rattle.jn_sets.specs.Pool.{record_in, is_prepared, is_intention, is_flag}
 use Rattle.jn_storage.specs.Orderly.{IsLoadable}
-use Rattle.jn_store.specs.Store.{StoreView, IsClean}
+use Rattle.jn_store.specs.Store.{StoreView, IsClean, IsWholePage}
 use Rattle.jn_page_state.specs.Contents.{Contents, layouts_in, intention_of, heads_name, works_have, names_for_block, stored_list}
 use Rattle.jn_page_state.specs.Pages.{contents_of, pages_by, state_of, IsOfFormat}
 
@@ -123,6 +123,10 @@ NamedAreClean g v = (c : Pick) (d : ℕ) → d < g.leaves → names_block (conte
 -- each map page that a head names in some choice has one candidate
 abbrev pub MapsAreClean : Counts → StoreView → Type 0
 MapsAreClean g v = (c : Pick) (d : ℕ) → d < g.leaves → NamesMap g (pages_by v c) d → IsClean v (data_place g d)
+
+-- and both halves of each are good
+abbrev pub MapsAreWhole : Counts → StoreView → Type 0
+MapsAreWhole g v = (c : Pick) (d : ℕ) → d < g.leaves → NamesMap g (pages_by v c) d → IsWholePage v (data_place g d)
 
 -- a store from which a recovery may begin: so it is at every moment, whatever was stopped
 pub record IsRecoverable (server : ServerNo) (g : Counts) (v : StoreView) : Type 0 where

@@ -9,7 +9,7 @@ pub use Rattle.jn_page_state.specs.Pages.{found_on, state_of, heads_on, pages_by
 pub use Rattle.jn_page_state.proofs.Picking.{same_found, same_pages_by, same_recoverable, fewer_picked}
 pub use Rattle.jn_msgs.specs.Collected.{Collected}
 pub use Rattle.jn_system.specs.WholeSystem.Servers.{server_again, server_row, of_coordinator, restored, Room, server_step}
-pub use Rattle.jn_records.specs.StablePages.{Counts, slot_place, head_place, root_by, Pages}
+pub use Rattle.jn_records.specs.StablePages.{Counts, slot_place, head_place, root_by, Pages, data_place}
 pub use Rattle.jn_server.specs.Befalling.{Befalls}
 pub use Rattle.jn_server.specs.Handling.{TimesOut, Steps, LeavesByWork, IsDone, IsStopped}
 pub use Rattle.jn_server.specs.Seen.{Parts, view_with, memory_of, ServerView, room_of}

@@ -1,5 +1,5 @@
 -- A restart, from the store with power to the server.
-use Rattle.jn_place.proofs.Common.{◌≡◌, ◌≤◌, ◌<◌, ◌+◌, ℕ, suc, Bool, true, false, true≢false, List, [], ◌∷◌, ◌++◌, map, Option, Some, None, is_some, ⊎_elim, ◌||◌, refl, sym, ◌∙◌, ap, subst, arith, Result, Ok, Err, IfOk, ServerNo, Tid, DeviceState, PowersUp, powered_off, cleared, found_on, fewer_picked, restored, Memory, Counts, Found, Transaction, restored_transaction, restored_transactions, StableState, FlagState, IsRestarted, IsNotRestarted, Parts, view_with, memory_of, StoreView, IsCalm, When, Line, Accounts, StoreLater, Restarted, Slot, Up, Down, Gone, lines_at, texts_of_step, IsTried, IsUpAt, IsStoppedUp, IsUsedUpAt, CameTo, IsRestart, IsCalmAt, ComesCalm, is_stopped, IsRisen, IsCutUp, IsAtLast, SaysSame, StaysAs, StandsUp, Rises, Lifts, told_at, CameUp, IsHeld, with_epoch, slot_place, head_place, pairs_view, IsWholePage, root_by, IsOnly, length, Pages, Pick, heads_on, pages_by, state_of, MapsAreClean, calls_by, most_calls, beside_of, IsSpent}
+use Rattle.jn_place.proofs.Common.{◌≡◌, ◌≤◌, ◌<◌, ◌+◌, ℕ, suc, Bool, true, false, true≢false, List, [], ◌∷◌, ◌++◌, map, Option, Some, None, is_some, ⊎_elim, ◌||◌, refl, sym, ◌∙◌, ap, subst, arith, Result, Ok, Err, IfOk, ServerNo, Tid, DeviceState, PowersUp, powered_off, cleared, found_on, fewer_picked, restored, Memory, Counts, Found, Transaction, restored_transaction, restored_transactions, StableState, FlagState, IsRestarted, IsNotRestarted, Parts, view_with, memory_of, StoreView, IsCalm, When, Line, Accounts, StoreLater, Restarted, Slot, Up, Down, Gone, lines_at, texts_of_step, IsTried, IsUpAt, IsStoppedUp, IsUsedUpAt, CameTo, IsRestart, IsCalmAt, ComesCalm, is_stopped, IsRisen, IsCutUp, IsAtLast, SaysSame, StaysAs, StandsUp, Rises, Lifts, told_at, CameUp, IsHeld, with_epoch, slot_place, head_place, pairs_view, IsWholePage, root_by, IsOnly, length, Pages, Pick, heads_on, pages_by, state_of, MapsAreClean, calls_by, most_calls, beside_of, IsSpent, data_place}
 use Rattle.jn_base.specs.Names.{tid_eq, work_eq}
 use Rattle.jn_base.proofs.Tells.{tid_tells}
 use Rattle.jn_records.specs.MapPlaces.{maps_named}
@@ -146,7 +146,7 @@ module _ {S : Type 0} (look : S → StoreView) (device : S → DeviceState) (see
       page i w = record { both = w.both; clean = w.clean }
 
       by : IsFrontWhole g (pairs_view (device s)) → IsFrontWhole g (pairs_view (cleared (device s)))
-      by f = record { root = page 0 f.root; pool = λ i below. page (slot_place g i) (f.pool i below); heads = λ i below. page (head_place g i) (f.heads i below) }
+      by f = record { root = page 0 f.root; pool = λ i below. page (slot_place g i) (f.pool i below); heads = λ i below. page (head_place g i) (f.heads i below); maps = λ c d below names. page (data_place g d) (f.maps c d below names) }
 
   module _ (s lit : S) (powers : PowersUp (device s) (device lit)) (same : SaysSame look s lit) where
     -- the pages that a pick finds are those that the device has

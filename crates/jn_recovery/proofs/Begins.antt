@@ -72,6 +72,7 @@ module _ (server : ServerNo) (g : Counts) (v : StoreView) (o : Opened) (u : Stor
           (λ e. subst (IsWholePage x) (sym e) (put.calm (at.stands.later.calm quiet)).1)
           (λ ne. put.later.whole (at.stands.later.calm quiet) i (within i lt) (at.stands.whole quiet i lt))
           (cases_eq i 0);
+      mended = λ quiet d slot j lt low names. put.later.whole (at.stands.later.calm quiet) (data_place g d) (let e = at.stands.standing.held.count in omega (arith, e, lt)) (at.stands.mended quiet d slot j lt low names);
       data_pages = kept;
     }
 
@@ -102,6 +103,7 @@ module _ (server : ServerNo) (g : Counts) (v : StoreView) (most was : ℕ) (reco
     found = λ c. all.erases.unchanged c ∙ at.found (λ n. false);
     clean = λ i lt. all.erases.clean i (within i lt) (at.clean i lt);
     whole = λ quiet i lt. all.erases.later.whole (at.later.calm quiet) i (within i lt) (at.whole quiet i lt);
+    mended = λ quiet d slot j lt low names. all.erases.later.whole (at.later.calm quiet) (data_place g d) (let e = at.standing.held.count in omega (arith, e, lt)) (at.mended quiet d slot j lt low names);
     data_pages = λ d lt none. same_trans v x y (data_place g d) (at.data_pages d lt none) (all.erases.data_pages d lt);
   }
     where

@@ -3,7 +3,7 @@ pub use Rattle.std.proofs.Common.{◌≡◌, ◌⊎◌, inl, inr, ⊎_elim, ◌<
 pub use Rattle.std.proofs.lemmas.Bool.{cases_eq, cases_lt}
 pub use Rattle.jn_base.specs.declared.names.ServerNo.{ServerNo}
 pub use Rattle.jn_files.specs.Table.{TableView, is_of, exists, is_mapped, or_unused, IsHeadOf, AreHeads, layouts_of, AreRows, HaveOneHead, AreNamedOnce, IsTable, is_held, layouts_in as table_layouts, is_touched, IsUnnamed}
-pub use Rattle.jn_files.specs.Calls.{IsLoaded as IsTableLoaded, LoadedFrom}
+pub use Rattle.jn_files.specs.Calls.{IsLoaded as IsTableLoaded, LoadedFrom, MendsMaps}
 pub use Rattle.jn_page_state.specs.Pages.{found_on, half_of, pages_by, pool_on, contents_of, epoch_by, listed, head_on, head_or_free, heads_on, block_on, IsOfFormat, state_of}
 pub use Rattle.jn_records.specs.StablePages.{root_by, Counts, data_place, page_count, slot_place, head_place, NamesMap, is_used, map_in, entry_in, counts_of}
 pub use Rattle.jn_page_state.specs.Puts.{RootPut, RecordPut, IsFrontClean, put_page, IsFewer, contents_by}
@@ -40,7 +40,7 @@ pub use Rattle.jn_page_state.specs.Recoverable.{PassesOnce, MapsAreClean, IsReco
 pub use Rattle.jn_records.proofs.Layouts.{get-map, laid-block, laid-entry, laid-map, laid-past, has-at, has-found, map-cell-is, any-found}
 pub use Rattle.std.proofs.lemmas.List.{get_or-set_same, get_or_past, get_or-set_other, length-set, length-map}
 pub use Rattle.jn_page_state.specs.Changes.{IsIdlePut, is_idle, IsFlagSlot, IsFlagPut}
-pub use Rattle.jn_page_state.proofs.HeldLaws.{front_held, maps_held, contents_held, cleaned_fewer, fewer_trans, layouts_held}
+pub use Rattle.jn_page_state.proofs.HeldLaws.{front_held, maps_held, contents_held, cleaned_fewer, fewer_trans, named_held, layouts_held}
 pub use Rattle.jn_records.specs.declared.record.Record.TheVariants.{Free, Intention, Ready, Going, Flag as FlagRecord}
 pub use Rattle.jn_sets.specs.Pool.{record_in, slot_page, HoldsRecords, IsReadable, IsRecordPage, is_prepared, is_intention, is_rubbish, is_free, is_flag, IsRecord, free_count}
 pub use Rattle.jn_records.specs.Records.{record_page, has_page, RecordFits, FlagFits}

@@ -1,5 +1,5 @@
 -- What a recovery keeps in memory is what stands on the pages, and the storage serves.
-use Rattle.jn_recovery.proofs.Common.{◌≡◌, inr, ◌<◌, ◌≤◌, ◌+◌, ◌*◌, ℕ, suc, true, false, List, [], Option, Some, None, get_or, refl, sym, ◌∙◌, ap, subst, arith, count_by-le-length, is_some, list_any, ServerNo, Tid, WorkId, work_eq, TableView, IsTable, is_held, is_touched, state_in, held_contents, found_on, pages_by, block_on, IsConsistent, IsRecoverable, Head, Record, Root, WorkState, Counts, slot_place, head_place, StableState, IsServing, state, TellsFlags, name_of, find_by, StoreView, works_on, flags_on, record_names, all_needed, MayHold, MayPromise, IsGathered, IsLoaded, IsDown, IsUntouched, Recovering, most_calls, Matches, IsMade, Memory, accounts_of, view_of, next_by, rubbish_in, Stands, IsBegun, NoMemory, Opened, IsOnly, root_page, root_by, table_layouts, layouts_in, maps_held, maps_in, maps_named, IsLoadable}
+use Rattle.jn_recovery.proofs.Common.{◌≡◌, inr, ◌<◌, ◌≤◌, ◌+◌, ◌*◌, ℕ, suc, true, false, List, [], Option, Some, None, get_or, refl, sym, ◌∙◌, ap, subst, arith, count_by-le-length, is_some, list_any, ServerNo, Tid, WorkId, work_eq, TableView, IsTable, is_held, is_touched, state_in, held_contents, found_on, pages_by, block_on, IsConsistent, IsRecoverable, Head, Record, Root, WorkState, Counts, slot_place, head_place, StableState, IsServing, state, TellsFlags, name_of, find_by, StoreView, works_on, flags_on, record_names, all_needed, MayHold, MayPromise, IsGathered, IsLoaded, IsDown, IsUntouched, Recovering, most_calls, Matches, IsMade, Memory, accounts_of, view_of, next_by, rubbish_in, Stands, IsBegun, NoMemory, Opened, IsOnly, root_page, root_by, table_layouts, layouts_in, maps_held, named_held, maps_in, maps_named, IsLoadable}
 use Rattle.jn_recovery.specs.Kept.{memory_kept}
 use Rattle.jn_recovery.specs.declared.gathering.Kept.{Kept as KeptParts}
 use Rattle.jn_recovery.specs.declared.load.Found.{Found}
@@ -123,6 +123,7 @@ module _ (server : ServerNo) (v : StoreView) (most was : ℕ) (pool : List Recor
       root = stands.whole calm 0 (omega arith);
       pool = λ i lt. stands.whole calm (slot_place u.counts i) (omega (arith, lt));
       heads = λ i lt. stands.whole calm (head_place u.counts i) (omega (arith, lt));
+      maps = λ k d lt names. let at = named_held server u.counts w (was + 1) pool u.heads u.maps stands.standing.held k d names in stands.mended calm d at.0 at.1 lt at.2 at.3;
     };
     maps_clean = maps_held server u.counts w (was + 1) pool u.heads u.maps stands.standing.held;
     named = stands.standing.recoverable.clean;

@@ -1,5 +1,5 @@
 -- A store is cleaned and read.
-use Rattle.jn_recovery.proofs.Common.{◌≡◌, ◌≢◌, inr, ◌<◌, ◌≤◌, ◌+◌, ◌*◌, ℕ, Bool, true, false, if◌then◌else◌, List, [], length, Result, Ok, Err, refl, sym, ◌∙◌, ap, subst, true≢false, arith, nat_tests, nat_lt, ServerNo, TableView, IsTableLoaded, root_page, IsRoot, IsReadable, HoldsRecords, SetsRead, found_on, root_by, epoch_by, heads_on, half_of, pages_by, IsFewer, IsRecoverable, IsStanding, fewer_trans, fewer_picked, fewer_recoverable, Head, Record, Root, counts_of, Counts, data_place, root_is_read, StableState, Pick, StoreView, StoreLater, IsSamePage, IsCalm, IsStop, IsServed, IsOnly, later_trans, same_shrinks, same_trans, stop_since, down_of, Recovering, IsDown, IsNotUsedUp, front_count, reading_calls, most_calls, Stands, RootRead, IsOpened, Cleans, Opened, Stopped, EpochsUsedUp, IsClean, IsWholePage, KeepsDataPages, contents_held, held_contents, Contents, LoadedFrom, MapsLoadable, HoldsHeads, HoldsTable, AreRows, same_only, state_of, pool_on, contents_by, IsNoMap, maps_named, calls_by, KeepsAllData, supplied_on}
+use Rattle.jn_recovery.proofs.Common.{◌≡◌, ◌≢◌, inr, ◌<◌, ◌≤◌, ◌+◌, ◌*◌, ℕ, Bool, true, false, if◌then◌else◌, List, [], length, Result, Ok, Err, refl, sym, ◌∙◌, ap, subst, true≢false, arith, nat_tests, nat_lt, ServerNo, TableView, IsTableLoaded, MendsMaps, root_page, IsRoot, IsReadable, HoldsRecords, SetsRead, found_on, root_by, epoch_by, heads_on, half_of, pages_by, IsFewer, IsRecoverable, IsStanding, fewer_trans, fewer_picked, fewer_recoverable, Head, Record, Root, counts_of, Counts, data_place, root_is_read, StableState, Pick, StoreView, StoreLater, IsSamePage, IsCalm, IsStop, IsServed, IsOnly, later_trans, same_shrinks, same_trans, stop_since, down_of, Recovering, IsDown, IsNotUsedUp, front_count, reading_calls, most_calls, Stands, RootRead, IsOpened, Cleans, Opened, Stopped, EpochsUsedUp, IsClean, IsWholePage, KeepsDataPages, contents_held, held_contents, Contents, LoadedFrom, MapsLoadable, HoldsHeads, HoldsTable, AreRows, same_only, state_of, pool_on, contents_by, IsNoMap, maps_named, calls_by, KeepsAllData, supplied_on}
 use Rattle.jn_base.specs.declared.fault.CallFault.{CallFault}
 use Rattle.jn_base.specs.declared.fault.CallFault.TheVariants as faults
 use Rattle.jn_recovery.specs.declared.load.DownCause.{DownCause}
@@ -156,8 +156,8 @@ module _ (server : ServerNo) (g : Counts) (v : StoreView) where
     heads_earlier : heads ≡ heads_on g (pages_by v earlier)
     heads_earlier = sym (ap (λ (x : Contents). x.heads) said) ∙ ap (heads_on g) (fewer_pages v u before.fewer (λ n. false)).1
 
-    pub stands : u.stops ≡ v.stops → Stands server g v most epoch epoch records heads rows u
-    stands stops = record {
+    pub stands : MendsMaps g heads v u → u.stops ≡ v.stops → Stands server g v most epoch epoch records heads rows u
+    stands mended stops = record {
       later = before.later;
       calls = let a = before.calls in let e = ap maps_named same_heads in sum _ _ a e;
       stops = stops;
@@ -169,6 +169,7 @@ module _ (server : ServerNo) (g : Counts) (v : StoreView) where
       found = λ c. up server g u epoch records heads rows standing c ∙ found_there ∙ ap (λ k. record (found_on g v earlier) { epoch = k }) epoch_there;
       clean = before.clean;
       whole = before.whole;
+      mended = mended;
       data_pages = before.data_pages;
     }
       where
@@ -255,18 +256,21 @@ module _ (server : ServerNo) (g : Counts) (v : StoreView) (before : IsRecoverabl
         with_heads = subst (λ n. IsReadOn server g v n heads_were.0 z) (let e = pool_is in omega (arith, e))
             (reads_on server g v (16 * front_count g + 8 * 1 + 8 * o.pool) y with_pool z loaded_from)
 
-        pub opened : (records : List Record) → length records ≡ o.pool → HoldsRecords records y → (t : TableView) → IsTableLoaded (counts_of o) t → t.heads ≡ heads_on g (pages_by y (λ n. false)) → HoldsTable t z
+        pub opened : (records : List Record) → length records ≡ o.pool → HoldsRecords records y → (t : TableView) → IsTableLoaded (counts_of o) t → t.heads ≡ heads_on g (pages_by y (λ n. false)) → HoldsTable t z → MendsMaps (counts_of o) (heads_on g (pages_by y (λ n. false))) y z
             → IsServed u x → y.stops ≡ x.stops → z.stops ≡ y.stops → (w : Opened) → w.root ≡ o → w.sets ≡ records → w.table ≡ t → IsOpened server g v w z
-        opened records size hold t loaded heads holds one two three w a b c = record {
+        opened records size hold t loaded heads holds mended one two three w a b c = record {
           root = a ∙ good.0 ∙ sym (ap (λ (k : Root). record (root_by server g k.epoch) { version = k.version }) (a ∙ good.0));
           last = subst (λ n. n < 4294967295) (sym (ap (λ (k : Root). k.epoch) (a ∙ good.0))) good.1;
           table = subst (IsTableLoaded g) (sym c) (subst (λ k. IsTableLoaded k t) counts_are loaded);
-          stands = stands server g v (reading_calls g) heads_were.0 z with_heads w.root.epoch w.sets w.table.heads w.table.maps (ap (λ (k : TableView). k.heads) c ∙ heads ∙ heads_were.1) now
+          stands = stands server g v (reading_calls g) heads_were.0 z with_heads w.root.epoch w.sets w.table.heads w.table.maps (ap (λ (k : TableView). k.heads) c ∙ heads ∙ heads_were.1) now mended_here
               (three ∙ two ∙ one.stops ∙ to.stops);
         }
           where
             table_counts : t.counts ≡ g
             table_counts = loaded.counts ∙ counts_are
+
+            mended_here : MendsMaps g w.table.heads v z
+            mended_here = λ calm. subst (λ hs. MendsMaps g hs y z) (sym (ap (λ (k : TableView). k.heads) c ∙ heads)) (subst (λ k. MendsMaps k (heads_on g (pages_by y (λ n. false))) y z) counts_are mended) (with_pool.later.calm calm)
 
             rows_are : AreRows g.leaves t.maps
             rows_are = subst (λ (k : Counts). AreRows k.leaves t.maps) table_counts loaded.table.heads.map_rows

@@ -1,7 +1,7 @@
 -- What stands on the store while a recovery goes on: v is the store that it was given.
 use Rattle.std.specs.Prelude.{◌≡◌, ◌≤◌, ◌<◌, ◌+◌, ◌*◌, ℕ, true, List, [], Result, Ok, Err}
 use Rattle.jn_base.specs.declared.names.ServerNo.{ServerNo}
-use Rattle.jn_files.specs.Calls.{IsLoaded as IsTableLoaded}
+use Rattle.jn_files.specs.Calls.{IsLoaded as IsTableLoaded, MendsMaps}
 use Rattle.jn_page_state.specs.Pages.{found_on, heads_on, pages_by, pool_on}
 use Rattle.jn_page_state.specs.Standing.{IsStanding, standing_state}
 use Rattle.jn_page_state.specs.Recoverable.{IsRecoverable}
@@ -54,6 +54,7 @@ pub record Stands (server : ServerNo) (g : Counts) (v : StoreView) (most was epo
   pub found : (c : Pick) → found_on g w c ≡ record (found_on g v before) { epoch = epoch }
   pub clean : (i : ℕ) → i < front_count g → IsClean w i
   pub whole : IsCalm v → (i : ℕ) → i < front_count g → IsWholePage w i
+  pub mended : MendsMaps g heads v w
   pub data_pages : KeepsDataPages g v w
 
 -- root, records and heads were cleaned and read

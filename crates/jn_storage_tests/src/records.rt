@@ -1,4 +1,4 @@
-//! Pages of records, of a root and of a head written out by hand.
+//! Pages of records, of a root, of a head and of a map page, written out by hand.
 
 use jn_base::{
     BlockNo, ClientNo, FileNo, HEAD_BLOCKS, LockUnit, MOST_MAPS, Page, PageWriter, RequestNo,

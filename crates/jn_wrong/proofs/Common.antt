@@ -17,7 +17,7 @@ pub use Rattle.jn_machine.specs.Steps.{outside_texts, own_texts, message_texts, 
 pub use Rattle.jn_base.specs.declared.names.ServerNo.{ServerNo}
 pub use Rattle.jn_order.specs.Files.{no_files, AllFiles, Files, change, effect, answer_to, files_after, is_did}
 unfoldable pub use Rattle.jn_order.specs.Files.{zeros}
-pub use Rattle.jn_records.specs.StablePages.{Counts, Pages, slot_place, head_place, root_by, page_count}
+pub use Rattle.jn_records.specs.StablePages.{Counts, Pages, slot_place, head_place, data_place, root_by, page_count}
 pub use Rattle.jn_schedule.specs.declared.Event.{Event}
 pub use Rattle.jn_machine.specs.Whole.{before, AreImages, IsWhole, closed_world, IsFresh as IsFreshDevice, IsWritten}
 pub use Rattle.jn_wrong.specs.Wrong.{begins, begun_report, makes_one, full_of, IsNone, makes_and_reads, opens_and_loses, answered_too_soon, stopped_by_nothing, fault_of_nothing, lost_without_opening, file_left_out, file_locked, page_unwritten, other_bytes, named_again}

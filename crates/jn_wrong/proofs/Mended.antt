@@ -1,5 +1,5 @@
 -- Behind a restart root, records and heads are mended: each has one candidate, and where no fault waited either half of it may go bad.
-use Rattle.jn_wrong.proofs.Common.{◌≡◌, ◌<◌, ◌/◌, ◌+◌, ◌-◌, ℕ, Bool, true, false, not, ◌&&◌, if◌then◌else◌, [], ◌∷◌, Option, None, is_some, refl, ◌∙◌, ap, subst, arith, nat_tests, nat_lt, ServerNo, EventRefusal, EpochsUsedUp, World, run, Setup, Chance, Task, Meets, ComesUp, Use, Recovers, IsUsed, IsRecovery, Alone, deed_of, met, refusal_of, is_used_up, given_up, recovered, restarted, brought_up, Moment, DoesStep, DeviceState, PageState, decay_outside, pairs_view, IsWholePage, partner_at, slot_place, head_place, steps_in, IsUpBehind, MayDecay, AreMended}
+use Rattle.jn_wrong.proofs.Common.{◌≡◌, ◌<◌, ◌/◌, ◌+◌, ◌-◌, ℕ, Bool, true, false, not, ◌&&◌, if◌then◌else◌, [], ◌∷◌, Option, None, is_some, refl, ◌∙◌, ap, subst, arith, nat_tests, nat_lt, ServerNo, EventRefusal, EpochsUsedUp, World, run, Setup, Chance, Task, Meets, ComesUp, Use, Recovers, IsUsed, IsRecovery, Alone, deed_of, met, refusal_of, is_used_up, given_up, recovered, restarted, brought_up, Moment, DoesStep, DeviceState, PageState, decay_outside, pairs_view, IsWholePage, partner_at, slot_place, head_place, steps_in, IsUpBehind, MayDecay, AreMended, data_place}
 use Rattle.jn_schedule.specs.declared.Event.TheVariants as events
 use Rattle.jn_report.specs.declared.line.Text.TheVariants as says
 use Rattle.jn_wrong.proofs.Calls.{IsUnfailed, calls-unfailed}
@@ -70,10 +70,10 @@ module _ (x : Setup) (q : ServerNo) (a b : Moment) (d : DoesStep x a b) (there :
       called = calls-unfailed p recovery.powered recovery.called.last recovery.called.happens
           (record { waiting = recovery.power.waiting ∙ quiet; power = recovery.power.power_is; fails = ap (λ (y : PageState). y.fails) (recovery.power.pages_are p) })
 
-  within : (i : ℕ) → i < 1 + (x.counts q).pool + (x.counts q).heads → i < e.count / 2
+  within : (i : ℕ) → i < 1 + (x.counts q).pool + (x.counts q).heads + (x.counts q).leaves → i < e.count / 2
   within i l = below (x.counts q).pool (x.counts q).heads (x.counts q).leaves (e.count / 2) (let k = d.befalls.recoverable q there in k.count) l
     where
-      below : (pool heads leaves n : ℕ) → 1 + pool + heads + leaves ≡ n → i < 1 + pool + heads → i < n
+      below : (pool heads leaves n : ℕ) → 1 + pool + heads + leaves ≡ n → i < 1 + pool + heads + leaves → i < n
       below pool heads leaves n k m = omega (arith, k, m)
 
   mended : AreMended (x.counts q) (a.devices q) e
@@ -82,6 +82,7 @@ module _ (x : Setup) (q : ServerNo) (a b : Moment) (d : DoesStep x a b) (there :
     root = λ quiet. may-decay e (unfailed quiet) 0 (within 0 (omega arith)) (let whole = recovery.front_whole refl quiet in whole.root);
     pool = λ quiet i l. may-decay e (unfailed quiet) (slot_place (x.counts q) i) (within (slot_place (x.counts q) i) (omega (arith, l))) (let whole = recovery.front_whole refl quiet in whole.pool i l);
     heads = λ quiet i l. may-decay e (unfailed quiet) (head_place (x.counts q) i) (within (head_place (x.counts q) i) (omega (arith, l))) (let whole = recovery.front_whole refl quiet in whole.heads i l);
+    maps = λ quiet c i l names. may-decay e (unfailed quiet) (data_place (x.counts q) i) (within (data_place (x.counts q) i) (omega (arith, l))) (let whole = recovery.front_whole refl quiet in whole.maps c i l names);
   }
 
 -- its device recovers whether or not the epochs are used up

@@ -153,6 +153,7 @@ front-whole epoch power waiting t = record {
   root = record { both = refl; clean = refl };
   pool = λ i lt. record { both = refl; clean = halves-equal epoch (1 + i) (omega (arith, lt)) };
   heads = λ i lt. record { both = refl; clean = halves-equal epoch (1 + 32 + i) (omega (arith, lt)) };
+  maps = λ c d below named. record { both = refl; clean = halves-equal epoch (1 + 32 + 16 + d) (omega (arith, below)) };
 }
 
 -- how many map pages heads name there by a pick

@@ -7,11 +7,13 @@ use Rattle.jn_device.specs.Device.{DeviceState}
 use Rattle.jn_device.specs.Calls.{decay_outside}
 use Rattle.jn_device.specs.Events.{PowersUp, cleared, powered_off}
 use Rattle.jn_device.specs.Happens.{Happens}
+use Rattle.jn_page_state.specs.Pages.{pages_by}
 use Rattle.jn_page_state.specs.Puts.{IsFrontClean}
-use Rattle.jn_records.specs.StablePages.{Counts, slot_place, head_place}
+use Rattle.jn_records.specs.StablePages.{Counts, slot_place, head_place, data_place, NamesMap}
 use Rattle.jn_report.specs.declared.line.Text.{Text}
 use Rattle.jn_report.specs.declared.line.Text.TheVariants as says
 use Rattle.jn_report.specs.declared.line.Line.{Line}
+use Rattle.jn_rows.specs.Stable.{Pick}
 use Rattle.jn_store.specs.Pairs.{pairs_view}
 use Rattle.jn_machine.specs.Deeds.{Use, Calls, Cleans, Reads, Recovers, Decays}
 use Rattle.jn_machine.specs.Devices.{Devices, KeepsWhole}
@@ -74,9 +76,11 @@ pub record MayDecay (d : DeviceState) (i : ℕ) : Type 0 where
   pub first : decay_outside (d.count / 2) d.pages i ≡ false
   pub second : decay_outside (d.count / 2) d.pages (i + d.count / 2) ≡ false
 
--- The pages of root, records and heads have one candidate each. Where no fault had waited, either half of each may go bad.
+-- The pages of root, records and heads have one candidate each. Where no fault had waited, either half of each may go bad, and of each map page that a head
+-- names by some pick.
 pub record AreMended (g : Counts) (d e : DeviceState) : Type 0 where
   pub clean : IsFrontClean g (pairs_view e)
   pub root : d.waiting ≡ [] → MayDecay e 0
   pub pool : d.waiting ≡ [] → (i : ℕ) → i < g.pool → MayDecay e (slot_place g i)
   pub heads : d.waiting ≡ [] → (i : ℕ) → i < g.heads → MayDecay e (head_place g i)
+  pub maps : d.waiting ≡ [] → (c : Pick) (i : ℕ) → i < g.leaves → NamesMap g (pages_by (pairs_view e) c) i → MayDecay e (data_place g i)

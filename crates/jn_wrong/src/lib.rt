@@ -43,7 +43,7 @@ pub use room::{
 };
 pub use settling::{a_message_is_handed_over_once, a_settle_leaves_nothing_to_do};
 pub use telling::{
-    a_restart_mends_root_records_and_heads, a_scrub_leaves_no_old_half,
+    a_restart_mends_root_records_heads_and_maps, a_scrub_leaves_no_old_half,
     a_server_comes_up_and_goes_down_by_turns, a_show_prints_what_is_there_once,
     each_refused_fault_is_told, epochs_rise_from_those_of_the_images,
     no_line_stands_at_an_event_that_has_not_begun,

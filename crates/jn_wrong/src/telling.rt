@@ -34,8 +34,8 @@ pub fn a_scrub_leaves_no_old_half()
 {}
 
 /// Behind a restart that brings its server up, the two halves of the root, of each record and of each head hold the same bytes. Where no fault had waited,
-/// either half of each may go bad, so that no line reports its decay as refused.
-pub fn a_restart_mends_root_records_and_heads()
+/// either half of each may go bad, and of each map page that a head names, so that no line reports its decay as refused.
+pub fn a_restart_mends_root_records_heads_and_maps()
     ensures in_the_schedule { (x : Setup) (q : ServerNo) (a b : Moment) (d : DoesStep x a b) → q.0 < x.servers → d.task ≡ Meets (Restart q) → refusal_of x a.state.course.world (Restart q) ≡ None → IsUpBehind x a b d q
         → AreMended (x.counts q) (a.devices q) (b.devices q) }
     ensures at_start_and_end { (x : Setup) (q : ServerNo) (a b : Moment) (d : DoesStep x a b) → q.0 < x.servers → d.task ≡ ComesUp q → IsUpBehind x a b d q

@@ -1,5 +1,5 @@
 use Rattle.jn_files.proofs.Common.{refl, Ok, ◌-◌, arith, counts_of}
-use Rattle.jn_files.proofs.Loading.{one_cleaned, one_got, one_read, was_candidate}
+use Rattle.jn_files.proofs.Loading.{one_cleaned, one_got, one_mended, one_read, was_candidate}
 use Rattle.jn_files.proofs.load.read_map.Goals as goal
 
 pub returns-in_err-cleanup-clause-cleaned : goal.returns-in_err-cleanup-clause-cleaned
@@ -28,3 +28,8 @@ returns-clause-read g c = λ _.
     one_read (counts_of c.args.root.now) (g.S.StableStore.view c.args.store.now) c.args.address c.requires.fits c.requires.below c.if-address-eq0.false c.data_place-place.result c.data_place-place.ensures
     (Ok c.in_ok-cleanup.field-0) (g.S.StableStore.view c.cleanup.new.self) c.in_ok-cleanup.ensures.cleaned (Ok c.in_ok-page.page) (g.S.StableStore.view c.get.new.self) c.in_ok-page.ensures.got
     c.args.maps.now c.replace.new.self c.in_ok-page.page c.row_of.result refl refl c.requires.rows c.replace.ensures.new c.row_of.ensures.page c.row_of.ensures.row
+
+pub returns-clause-mended : goal.returns-clause-mended
+returns-clause-mended g c = λ _.
+    one_mended (counts_of c.args.root.now) (g.S.StableStore.view c.args.store.now) c.args.address c.requires.fits c.requires.below c.if-address-eq0.false c.data_place-place.result c.data_place-place.ensures
+    (Ok c.in_ok-cleanup.field-0) (g.S.StableStore.view c.cleanup.new.self) c.in_ok-cleanup.ensures.cleaned (Ok c.in_ok-page.page) (g.S.StableStore.view c.get.new.self) c.in_ok-page.ensures.got

@@ -1,5 +1,5 @@
-use Rattle.jn_files.proofs.Common.{◌≡◌, refl, arith, true, get_or_read, Free, counts_of, head_in}
-use Rattle.jn_files.proofs.Loading.{heads_still, next_cleaned, all_cleaned, next_held, power_then}
+use Rattle.jn_files.proofs.Common.{◌≡◌, refl, arith, true, length, get_or_read, Free, counts_of, head_in}
+use Rattle.jn_files.proofs.Loading.{head_first, heads_still, next_cleaned, all_cleaned, next_held, next_mended, power_then}
 use Rattle.jn_files.proofs.load.read_maps.Goals as goal
 
 pub read_maps_of-requires-clause-pages : goal.read_maps_of-requires-clause-pages
@@ -23,6 +23,8 @@ loop-slot-preserved g c =
           c.loop-slot.invariant.cleaned c.slot-item.result at c.read_maps_of.ensures.cleaned;
       held = next_held (counts_of c.args.root.now) c.args.slots.now c.requires.heads (g.S.StableStore.view c.args.store.now) c.requires.fits c.loop-slot.slot-index (g.S.StableStore.view c.loop-slot.store) (g.S.StableStore.view c.read_maps_of.new.store)
           c.loop-slot.maps c.read_maps_of.new.maps c.loop-slot.invariant.held c.slot-item.result at (c.in_ok-read_maps_of.ensures.read (refl {a = true}));
+      mended = next_mended (counts_of c.args.root.now) c.args.slots.now c.requires.heads (g.S.StableStore.view c.args.store.now) c.requires.fits c.loop-slot.slot-index (g.S.StableStore.view c.loop-slot.store) (g.S.StableStore.view c.read_maps_of.new.store)
+          c.loop-slot.invariant.cleaned.later c.read_maps_of.ensures.cleaned.later c.loop-slot.invariant.mended c.slot-item.result at (c.in_ok-read_maps_of.ensures.mended (refl {a = true}));
       served = power_then (g.S.StableStore.view c.args.store.now) (g.S.StableStore.view c.loop-slot.store) (g.S.StableStore.view c.read_maps_of.new.store) c.loop-slot.invariant.served (c.in_ok-read_maps_of.ensures.served (refl {a = true}));
     }
 
@@ -30,3 +32,6 @@ pub returns-clause-cleaned : goal.returns-clause-cleaned
 returns-clause-cleaned g c =
     all_cleaned (counts_of c.args.root.now) c.args.slots.now c.requires.heads (g.S.StableStore.view c.args.store.now) c.requires.fits c.loop-slot.slot-index (let end = c.loop-slot.auto.slot-index-end in omega (arith, end)) (g.S.StableStore.view c.loop-slot.store)
     c.loop-slot.invariant.cleaned
+
+pub returns-clause-mended : goal.returns-clause-mended
+returns-clause-mended g c = λ _ calm d lt m. c.loop-slot.invariant.mended calm d lt (head_first c.args.slots.now (length c.args.slots.now) c.loop-slot.slot-index d (let end = c.loop-slot.auto.slot-index-end in omega (arith, end)) m)

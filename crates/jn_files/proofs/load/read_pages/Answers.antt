@@ -1,5 +1,5 @@
-use Rattle.jn_files.proofs.Common.{◌≡◌, List, length, sym, subst, ◌∙◌, Head, maps_named, counts_of, AreMapPages, IsMapOfHeads, MapsCleaned, MapsHeld}
-use Rattle.jn_files.proofs.ReadPages.{are_map_pages, loaded_from, read_from}
+use Rattle.jn_files.proofs.Common.{◌≡◌, List, length, sym, subst, ◌∙◌, Head, maps_named, counts_of, AreMapPages, IsMapOfHeads, MapsCleaned, MapsHeld, MapsMended, refl, true}
+use Rattle.jn_files.proofs.ReadPages.{are_map_pages, loaded_from, mends_maps, read_from}
 use Rattle.jn_files.proofs.load.read_pages.Goals as goal
 
 pub read_maps-requires-clause-pages : goal.read_maps-requires-clause-pages
@@ -20,6 +20,13 @@ returns-clause-read g c heads loadable =
     let is : c.deref.result.now ≡ heads = c.deref.ensures.value ∙ c.in_ok-slots.ensures.heads heads loadable in
     loaded_from (counts_of c.args.root.now) heads (g.S.StableStore.view c.args.store.now) loadable c.requires.counts (g.S.StableStore.view c.read_slots.new.store) c.in_ok-slots.ensures.read (g.S.StableStore.view c.read_maps.new.store)
     (subst (λ (l : List Head). MapsCleaned (counts_of c.args.root.now) (IsMapOfHeads l (length l)) (maps_named l) (g.S.StableStore.view c.read_slots.new.store) (g.S.StableStore.view c.read_maps.new.store)) is c.read_maps.ensures.cleaned)
+
+pub returns-clause-mended : goal.returns-clause-mended
+returns-clause-mended g c = λ _ heads loadable.
+    let is : c.deref.result.now ≡ heads = c.deref.ensures.value ∙ c.in_ok-slots.ensures.heads heads loadable in
+    mends_maps (counts_of c.args.root.now) heads (g.S.StableStore.view c.args.store.now) loadable c.requires.counts (g.S.StableStore.view c.read_slots.new.store) c.in_ok-slots.ensures.read (g.S.StableStore.view c.read_maps.new.store)
+    (subst (λ (l : List Head). MapsCleaned (counts_of c.args.root.now) (IsMapOfHeads l (length l)) (maps_named l) (g.S.StableStore.view c.read_slots.new.store) (g.S.StableStore.view c.read_maps.new.store)) is c.in_ok-maps.ensures.cleaned)
+    (subst (λ (l : List Head). MapsMended (counts_of c.args.root.now) (IsMapOfHeads l (length l)) (g.S.StableStore.view c.read_slots.new.store) (g.S.StableStore.view c.read_maps.new.store)) is (c.in_ok-maps.ensures.mended (refl {a = true})))
 
 pub returns-clause-found : goal.returns-clause-found
 returns-clause-found g c heads loadable =

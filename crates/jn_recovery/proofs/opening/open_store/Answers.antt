@@ -79,5 +79,5 @@ returns-clause-opened g c = λ server before. let counts = counts_by c.args.coun
     c.read_root.result (g.S.StableStore.view c.read_root.new.store) c.read_root.ensures.read c.read_root.ensures.root c.in_ok-root.root c.in_ok-root.was (g.S.StableStore.view c.load.new.store) c.load.ensures.read in
     opened server counts (g.S.StableStore.view c.args.store.now) before (g.S.StableStore.view c.clean_pages.new.store) (front_cleaned _ _ _ _ c.front-front.ensures c.clean_pages.result c.clean_pages.ensures.cleaned (search rules))
     c.read_root.result (g.S.StableStore.view c.read_root.new.store) c.read_root.ensures.read c.read_root.ensures.root c.in_ok-root.root c.in_ok-root.was (g.S.StableStore.view c.load.new.store) c.load.ensures.read (g.S.StableStore.view c.load-2.new.store) (c.load-2.ensures.read heads may)
-    c.in_ok-sets.sets (search rules) (search rules) c.in_ok-table.table c.in_ok-table.ensures.loaded (c.in_ok-table.ensures.heads heads may) c.in_ok-table.ensures.holds
+    c.in_ok-sets.sets (search rules) (search rules) c.in_ok-table.table c.in_ok-table.ensures.loaded (c.in_ok-table.ensures.heads heads may) c.in_ok-table.ensures.holds (c.in_ok-table.ensures.mended (search rules) heads may)
     (c.read_root.ensures.served (search rules)) (c.load.ensures.stops (search rules)) (c.load-2.ensures.stops (search rules)) _ refl refl refl

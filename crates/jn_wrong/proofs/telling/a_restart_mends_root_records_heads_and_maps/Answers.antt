@@ -1,5 +1,5 @@
 use Rattle.jn_wrong.proofs.Mended.{mended-in-schedule, mended-at-start-and-end}
-use Rattle.jn_wrong.proofs.telling.a_restart_mends_root_records_and_heads.Goals as goal
+use Rattle.jn_wrong.proofs.telling.a_restart_mends_root_records_heads_and_maps.Goals as goal
 
 pub returns-clause-in_the_schedule : goal.returns-clause-in_the_schedule
 returns-clause-in_the_schedule c = mended-in-schedule
