@@ -1,5 +1,6 @@
 -- What the coordinator does by its row, the whole server does.
-use Rattle.jn_server.proofs.Common.{◌≡◌, ◌⊎◌, inl, inr, ℕ, ◌+◌, ◌*◌, ◌≤◌, Bool, true, false, List, [], ◌∷◌, Option, Result, Ok, Err, refl, sym, ◌∙◌, ap, subst, arith, true≢false, length, ◌&&◌, IsErr, IsErrAnd, nat_tests, Tickets, WorkId, work_eq, work_before, is_after, Collected, StableState, Prepared, Change, AddReady, MarkGoing, CarryOut, RemoveWork, AddFlag, DropFlag, is_going, made_by, made_all, RowOutcome, Work, work_at, work_from, CoordinatorTable, Accounts, StorageView, state, is_in, calm_on, left_by, left_over, WorkFits, WorkListFits, Remembered, CoordinatorDone, CoordinatorStopped, CoordinatorDoes, CoordinatorTickets, of_coordinator, Aside, is_of_flag, are_of_flags, first-of, second-of, flags-all, epoch-all, DrawsOne, CallFault, ServerView, memory_of, IsServer, IsDone, IsStopped, Does, LeavesBeside, row_calls, Beside, beside_of, Files}
+use Rattle.jn_server.proofs.Common.{◌≡◌, ◌⊎◌, inl, inr, ℕ, ◌+◌, ◌*◌, ◌≤◌, Bool, true, false, List, [], ◌∷◌, Option, Result, Ok, Err, refl, sym, ◌∙◌, ap, subst, arith, true≢false, length, ◌&&◌, IsErr, IsErrAnd, nat_tests, Tickets, WorkId, work_eq, work_before, is_after, Collected, StableState, Prepared, Change, AddReady, MarkGoing, CarryOut, RemoveWork, AddFlag, DropFlag, is_going, made_by, made_all, RowOutcome, Work, work_at, work_from, CoordinatorTable, Accounts, StorageView, state, is_in, calm_on, left_by, left_over, WorkFits, WorkListFits, Remembered, CoordinatorDone, CoordinatorStopped, CoordinatorDoes, CoordinatorTickets, of_coordinator, Aside, is_of_flag, are_of_flags, first-of, second-of, flags-all, epoch-all, DrawsOne, CallFault, ServerView, memory_of, IsServer, IsDone, IsStopped, Does, LeavesBeside, row_calls, Beside, beside_of, Files, HoldsAll}
+use Rattle.jn_server.proofs.Holding.{holds-flags}
 use Rattle.jn_coord.specs.Handling.{Handles}
 use Rattle.jn_base.specs.declared.fault.CallFault.TheVariants as faults
 
@@ -116,6 +117,12 @@ module _ (v : ServerView) (serves : IsServer v) (row : RowOutcome CoordinatorTab
 
     pub flags-leave-none : beside_of w.accounts ≡ beside_of v.storage.accounts → LeavesBeside v (of_coordinator (memory_of v) row) now
     flags-leave-none same = same ∙ sym (flags-leave row.changes (state v.storage) (beside_of v.storage.accounts) aside.flags)
+
+    -- and what works hold is as it was
+    pub coordinator-holds : CoordinatorDone row v.storage before r w after → HoldsAll v → HoldsAll now
+    coordinator-holds h = holds-flags v now (ap (λ (x : StableState). x.works) (h.made (λ n. false)) ∙ flags-all row.changes (state v.storage) aside.flags)
+        (ap (λ (x : StableState). x.epoch) (h.made (λ n. false)) ∙ epoch-all row.changes (state v.storage))
+        (ap (λ (a : Accounts). a.held) h.accounts) (ap (λ (a : Accounts). a.next) h.accounts) (ap (λ (a : Accounts). a.supplied) h.accounts)
 
     pub coordinator_stopped : CoordinatorStopped row v.storage w → after ≡ before → IsStopped row_calls (of_coordinator (memory_of v) row) v before now after
     coordinator_stopped h silent = record {

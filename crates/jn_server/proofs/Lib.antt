@@ -1,4 +1,5 @@
 mod Common
+mod Holding
 mod Working
 mod Coordinating
 mod Stepping

@@ -1,7 +1,6 @@
 -- Each background step leaves one less to make.
-use Rattle.jn_server.proofs.Common.{◌≡◌, ◌⊎◌, inl, inr, ◌≤◌, ◌<◌, ℕ, ◌+◌, Bool, true, false, true≢false, List, [], ◌∷◌, length, Option, Some, None, is_some, refl, sym, ◌∙◌, ap, subst, arith, if◌then◌else◌, not, work_tells, work_eq, of_worker, of_step, server_step, RowOutcome, StableState, Prepared, CarryOut, RemoveWork, is_going, made_by, made_all, ServerView, memory_of, room_of, state, Beside, WorkId, Work, WorkerTable, intentions_of, intentions, is_none, ◌≢◌, slice_get, Files, change, intention_change, quiet, at_work, going_work, without, carried_row, going_row, storage_of, Memory, StepLeaves, steps_of, steps_of_work, steps_of_works, steps_left}
+use Rattle.jn_server.proofs.Common.{◌≡◌, ◌⊎◌, inl, inr, ◌≤◌, ◌<◌, ℕ, ◌+◌, Bool, true, false, true≢false, List, [], ◌∷◌, length, Option, Some, None, is_some, refl, sym, ◌∙◌, ap, subst, arith, if◌then◌else◌, not, work_tells, work_eq, of_worker, of_step, server_step, RowOutcome, StableState, Prepared, CarryOut, RemoveWork, is_going, made_by, made_all, ServerView, memory_of, room_of, state, Beside, WorkId, Work, WorkerTable, intentions_of, intentions, is_none, ◌≢◌, slice_get, Files, change, intention_change, quiet, at_work, going_work, without, carried_row, going_row, storage_of, Memory, StepLeaves, steps_of, steps_of_work, steps_of_works, steps_left, Intention}
 use Rattle.std.proofs.lemmas.Option.{slice_get_within}
-use Rattle.jn_records.specs.declared.intention.Intention.{Intention}
 use Rattle.jn_system.proofs.WholeSystem.WorkerRows.{going-is}
 
 -- ---- numbers

@@ -1,5 +1,5 @@
 -- What the rows read of a storage is what stands on its pages.
-use Rattle.jn_server.proofs.Common.{◌≡◌, ⊎_elim, ◌<◌, ◌+◌, ◌-◌, ℕ, suc, Bool, true, false, not, ◌&&◌, ◌||◌, if◌then◌else◌, List, [], ◌∷◌, length, Option, Some, None, refl, sym, ◌∙◌, ap, subst, true≢false, arith, nat_tests, is_some, count_by, nat_lt, slice_index_or, list_any, Tickets, WorkId, work_eq, work_tells, Counts, Pages, Work, StableState, Prepared, WorkerTable, work_at, intentions_of, promised, is_before, is_in, are_different, total, Accounts, IsCounted, intentions, list_of, state, StoreView, pool_on, heads_on, listed, Kept, view_of, rubbish_in, WorkerView, WorkFits, is_none, Remembered, ServerView, IsServer, IsRoomOfPages, CountsPages, file_there, most_cells, contents_of, stored_by, supplied_in, name_of, beside_of, fun_ext, option_map, option_and_then, find, heads_of, standing_pages, beside_on, is_free_head, is_free_page, promised_heads, WorkState, are_rising}
+use Rattle.jn_server.proofs.Common.{◌≡◌, ⊎_elim, ◌<◌, ◌+◌, ◌-◌, ℕ, suc, Bool, true, false, not, ◌&&◌, ◌||◌, if◌then◌else◌, List, [], ◌∷◌, length, Option, Some, None, refl, sym, ◌∙◌, ap, subst, true≢false, arith, nat_tests, is_some, count_by, nat_lt, slice_index_or, list_any, Tickets, WorkId, work_eq, work_tells, Counts, Pages, Work, StableState, Prepared, WorkerTable, work_at, intentions_of, promised, is_before, is_in, are_different, total, Accounts, IsCounted, intentions, list_of, state, StoreView, pool_on, heads_on, listed, Kept, view_of, rubbish_in, WorkerView, WorkFits, is_none, Remembered, ServerView, IsServer, IsRoomOfPages, CountsPages, file_there, most_cells, contents_of, stored_by, supplied_in, name_of, beside_of, fun_ext, option_map, option_and_then, find, heads_of, standing_pages, beside_on, is_free_head, is_free_page, promised_heads, WorkState, are_rising, names_maps, maps_in}
 use Rattle.std.proofs.lemmas.List.Sums.{sum_by-cons}
 use Rattle.jn_alloc.specs.Free.{free_count as free_numbers, is_free as is_free_number}
 use Rattle.jn_files.specs.Table.{TableView, IsTable, is_held, is_free, layouts_in, IsUnnamed}
@@ -11,7 +11,6 @@ use Rattle.jn_records.specs.declared.head.Head.TheVariants.{Free as FreeHead, Us
 use Rattle.jn_records.specs.declared.net_list.Need.{Need}
 use Rattle.jn_records.specs.declared.record.Record.{Record}
 use Rattle.jn_records.specs.declared.record.Record.TheVariants.{Free, Intention as IntentionRecord, Ready, Going, Flag as FlagRecord}
-use Rattle.jn_records.specs.MapPlaces.{names_maps}
 use Rattle.jn_lock_rows.proofs.Works.{none-behind}
 use Rattle.jn_storage.proofs.Listings.{but, is_in-but, different-but, total-but}
 use Rattle.jn_sets.specs.Pool.{free_count, is_prepared, is_rubbish, rubbish_count}
@@ -25,7 +24,6 @@ use Rattle.jn_recovery.specs.Matches.{Matches, IsKeptMemory, StoredWork, stored_
 use Rattle.jn_recovery.specs.Pages.{supplied_by, supplied_on}
 use Rattle.jn_recovery.proofs.Erasing.{rubbish_length}
 use Rattle.jn_intent.proofs.Rubbish.{some_rubbish}
-use Rattle.jn_records.specs.MapPlaces.{maps_in}
 use Rattle.jn_storage.specs.Finding.{find_by}
 
 -- ---- the heads that are promised to prepared works

@@ -1,7 +1,7 @@
 -- A background step of the worker, and what is sent again, as the whole server's.
-use Rattle.jn_server.proofs.Common.{◌≡◌, Bool, true, false, ◌||◌, [], ◌++◌, length, append_assoc, Option, Some, None, refl, sym, ◌∙◌, ap, arith, Result, Ok, Err, OnOk, is_ok, is_some, nat_lt, IsErr, IsErrAnd, Collected, RowOutcome, WorkerTable, worker_step, worker_again, coordinator_again, StorageView, state, added, CallFault, WorkerSteps, AsksAgain, WorkerView, seen, of_step, server_step, server_again, step-aside, Steps, ServerView, memory_of, room_of, IsServer}
+use Rattle.jn_server.proofs.Common.{◌≡◌, Bool, true, false, ◌||◌, [], ◌++◌, length, append_assoc, Option, Some, None, refl, sym, ◌∙◌, ap, arith, Result, Ok, Err, OnOk, is_ok, is_some, nat_lt, IsErr, IsErrAnd, Collected, RowOutcome, WorkerTable, worker_step, worker_again, coordinator_again, StorageView, state, added, CallFault, WorkerSteps, AsksAgain, WorkerView, seen, of_step, server_step, server_again, step-aside, Steps, ServerView, memory_of, room_of, IsServer, subst, Accounts, HoldsAll}
 use Rattle.jn_server.proofs.Room.{not_none}
-use Rattle.jn_server.proofs.Working.{worked, one-leaves, worker_failed}
+use Rattle.jn_server.proofs.Working.{worked, one-leaves, works-hold, worker_failed}
 
 pub same-ok : {E : Type 0} (answer : Result Bool E) (a b : Bool) → answer ≡ Ok a → answer ≡ Ok b → a ≡ b
 same-ok answer a b d e = cc
@@ -26,6 +26,15 @@ module _ (v : ServerView) (serves : IsServer v) (before : Collected) (u : Worker
 
   pub stepped : (b : Bool) → WorkerSteps step v.worker v.storage before v.tickets (Ok b) u w after v.tickets → Steps (of_step (memory_of v) step) v before (Ok b) now after
   stepped b h = stepped-by b step refl h
+
+  holds-by : (b : Bool) (o : Option (RowOutcome WorkerTable)) → step ≡ o → WorkerSteps o v.worker v.storage before v.tickets (Ok b) u w after v.tickets → HoldsAll v → HoldsAll now
+  holds-by b None e h = subst (λ (z : ServerView). HoldsAll v → HoldsAll z) (sym (ap (λ (x : WorkerView). record now { worker = x }) h.1 ∙ ap (λ (x : StorageView). record v { storage = x }) h.2)) (λ old. old)
+  holds-by b (Some row) e h = works-hold 32 32 (omega arith) v serves row (step-aside v.worker.table (seen v.storage) v.tickets row e) before u w after v.tickets b h.0
+      (λ none. let erased = h.2 none refl in (ap (λ (a : Accounts). a.held) erased.others, ap (λ (a : Accounts). a.supplied) erased.others))
+
+  -- what works hold goes on
+  pub step-holds : (b : Bool) → WorkerSteps step v.worker v.storage before v.tickets (Ok b) u w after v.tickets → HoldsAll v → HoldsAll now
+  step-holds b h = holds-by b step refl h
 
   failed-by : (fault : CallFault) (answer : Result Bool CallFault) → IsErr answer → IsErrAnd answer (λ e. e ≡ fault) → (o : Option (RowOutcome WorkerTable)) → step ≡ o
       → WorkerSteps o v.worker v.storage before v.tickets (Err fault) u w after v.tickets → Steps (of_step (memory_of v) o) v before answer now after

@@ -1,8 +1,9 @@
 -- What the worker does by its row, the whole server does.
-use Rattle.jn_server.proofs.Common.{◌≡◌, inl, inr, ℕ, ◌+◌, ◌≤◌, true, false, List, [], ◌∷◌, Result, Ok, Err, refl, sym, ◌∙◌, ap, subst, arith, length, IsErr, IsErrAnd, nat_tests, Tickets, Collected, StableState, Change, RowOutcome, WorkerTable, name_from, StorageView, state, calm_on, CallFault, Takes, CountsBy, WorkerView, flag_told, are_before, added, of_worker, epoch-all, DrawsOne, works-flags, ServerView, memory_of, IsServer, IsDone, IsStopped, Does, LeavesBeside, left_over, beside_of}
+use Rattle.jn_server.proofs.Common.{◌≡◌, inl, inr, ℕ, ◌+◌, ◌≤◌, true, false, List, [], ◌∷◌, Result, Ok, Err, refl, sym, ◌∙◌, ap, subst, arith, length, IsErr, IsErrAnd, nat_tests, Tickets, Collected, StableState, Change, RowOutcome, WorkerTable, name_from, StorageView, state, calm_on, CallFault, Takes, CountsBy, WorkerView, flag_told, are_before, added, of_worker, epoch-all, DrawsOne, works-flags, ServerView, memory_of, IsServer, IsDone, IsStopped, Does, LeavesBeside, left_over, beside_of, HoldsAll}
 use Rattle.jn_rows.specs.declared.coordinator.Transaction.{Transaction}
 use Rattle.jn_base.specs.declared.fault.CallFault.TheVariants as faults
 use Rattle.jn_system.proofs.WholeSystem.WorkerChanges.{Aside}
+use Rattle.jn_server.proofs.Holding.{holds-on}
 
 -- a later ticket comes after the same names
 pub later-name : (xs : List Transaction) (k l : Tickets) → DrawsOne k l → are_before xs (name_from k) ≡ true → are_before xs (name_from l) ≡ true
@@ -58,6 +59,11 @@ module _ (most bound : ℕ) (within : most ≤ bound) (v : ServerView) (serves :
 
     pub one-leaves : CountsBy (state v.storage) row.changes v.storage.accounts w.accounts → (c : Change) → row.changes ≡ c ∷ [] → LeavesBeside v (of_worker (memory_of v) row) now
     one-leaves counts c e = counts.beside c e ∙ sym (ap (λ (cs : List Change). left_over (state v.storage) cs (beside_of v.storage.accounts)) e)
+
+    -- and what works hold goes on
+    pub works-hold : {A : Type 0} (x : A) → Takes {A = A} most row v.worker v.storage before v.tickets (Ok x) u w after l
+        → (row.changes ≡ [] → (w.accounts.held ≡ v.storage.accounts.held) × (w.accounts.supplied ≡ v.storage.accounts.supplied)) → HoldsAll v → HoldsAll now
+    works-hold x h still = holds-on v now row.changes aside.few (h.performs.changes.done refl (λ n. false)) (h.counts refl) still
 
     pub worker_stopped : {A : Type 0} → Takes {A = A} most row v.worker v.storage before v.tickets (Err faults.Stopped) u w after l → IsStopped bound (of_worker (memory_of v) row) v before now after
     worker_stopped h = record {

@@ -3,6 +3,7 @@ pub mod Standing
 pub mod Counted
 pub mod Reading
 pub mod Handling
+pub mod Holding
 pub mod Remaining
 pub mod Settled
 pub mod Restarting

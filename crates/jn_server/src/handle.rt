@@ -7,6 +7,7 @@ ghost use Rattle.jn_system.specs.WholeSystem.Servers.{of_worker, of_coordinator,
 ghost use Rattle.jn_rows.specs.Coordinator.{coordinator_row};
 ghost use Rattle.jn_rows.specs.Worker.{worker_row};
 ghost use Rattle.jn_server.specs.Handling.{Does, LeavesBeside};
+ghost use Rattle.jn_server.specs.Holding.{HoldsAll};
 ghost use Rattle.jn_storage.specs.DeviceCalls.{row_calls};
 ghost use Rattle.jn_server.specs.Seen.{view_with, memory_of, room_of, IsServer};
 ghost use Rattle.jn_server.specs.Reading.{IsRoomOfPages};
@@ -26,6 +27,7 @@ impl<S: StableStore> Server<S> {
         requires taken { CanBeTaken message.now }
         ensures does { let v = view_with (λ s. S.view s) self.old in Does row_calls (of_worker (memory_of v) (worker_row v.worker.table (seen v.storage) v.tickets message.now)) v out.old result (view_with (λ s. S.view s) self.new) out.new }
         ensures beside { let v = view_with (λ s. S.view s) self.old in OnOk result (LeavesBeside v (of_worker (memory_of v) (worker_row v.worker.table (seen v.storage) v.tickets message.now)) (view_with (λ s. S.view s) self.new)) }
+        ensures holds { OnOk result (HoldsAll (view_with (λ s. S.view s) self.old) → HoldsAll (view_with (λ s. S.view s) self.new)) }
     {
         self.worker
             .handle(&mut self.storage, message, &mut self.tickets, out)?;
@@ -39,6 +41,7 @@ impl<S: StableStore> Server<S> {
         requires taken { CanBeTaken message.now }
         ensures does { let v = view_with (λ s. S.view s) self.old in Does row_calls (of_coordinator (memory_of v) (coordinator_row (table_of v.coordinator) (free_of v.storage) v.tickets message.now)) v out.old result (view_with (λ s. S.view s) self.new) out.new }
         ensures beside { let v = view_with (λ s. S.view s) self.old in OnOk result (LeavesBeside v (of_coordinator (memory_of v) (coordinator_row (table_of v.coordinator) (free_of v.storage) v.tickets message.now)) (view_with (λ s. S.view s) self.new)) }
+        ensures holds { OnOk result (HoldsAll (view_with (λ s. S.view s) self.old) → HoldsAll (view_with (λ s. S.view s) self.new)) }
     {
         self.coordinator
             .handle(&mut self.storage, message, &mut self.tickets, out)?;
@@ -53,6 +56,7 @@ impl<S: StableStore> Server<S> {
         requires taken { CanBeTaken message.now }
         ensures does { let v = view_with (λ s. S.view s) self.old in Does row_calls (server_row (memory_of v) (state v.storage) (room_of v.storage) message.now) v out.old result (view_with (λ s. S.view s) self.new) out.new }
         ensures beside { let v = view_with (λ s. S.view s) self.old in OnOk result (LeavesBeside v (server_row (memory_of v) (state v.storage) (room_of v.storage) message.now) (view_with (λ s. S.view s) self.new)) }
+        ensures holds { OnOk result (HoldsAll (view_with (λ s. S.view s) self.old) → HoldsAll (view_with (λ s. S.view s) self.new)) }
         ensures room { IsRoomOfPages (view_with (λ s. S.view s) self.old) }
     {
         self.reads_pages();

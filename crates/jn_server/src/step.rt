@@ -6,6 +6,7 @@ ghost use Rattle.jn_rows.specs.Outcomes.{RowOutcome};
 ghost use Rattle.jn_system.specs.WholeSystem.Servers.{server_step, server_again};
 ghost use Rattle.jn_system.specs.WholeSystem.World.{Memory};
 ghost use Rattle.jn_server.specs.Counted.{CountsAll};
+ghost use Rattle.jn_server.specs.Holding.{HoldsAll};
 ghost use Rattle.jn_server.specs.Handling.{Steps, LeavesByWork, TimesOut};
 ghost use Rattle.jn_server.specs.Remaining.{steps_left};
 ghost use Rattle.jn_server.specs.Seen.{view_with, memory_of, room_of, IsServer};
@@ -68,6 +69,7 @@ impl<S: StableStore> Server<S> {
         requires serves { IsServer (view_with (λ s. S.view s) self.old) }
         ensures steps { let v = view_with (λ s. S.view s) self.old in Steps (server_step (memory_of v) (state v.storage) (room_of v.storage)) v out.old result (view_with (λ s. S.view s) self.new) out.new }
         ensures left { let v = view_with (λ s. S.view s) self.old in IfOk result (λ did. did ≡ true → (row : RowOutcome Memory) → server_step (memory_of v) (state v.storage) (room_of v.storage) ≡ Some row → LeavesByWork v row (view_with (λ s. S.view s) self.new)) }
+        ensures holds { OnOk result (HoldsAll (view_with (λ s. S.view s) self.old) → HoldsAll (view_with (λ s. S.view s) self.new)) }
         ensures less { IfOk result (λ did. did ≡ true → steps_left (view_with (λ s. S.view s) self.new) < steps_left (view_with (λ s. S.view s) self.old)) }
         ensures some { let v = view_with (λ s. S.view s) self.old in is_some (server_step (memory_of v) (state v.storage) (room_of v.storage)) ≡ true → 0 < steps_left v }
         ensures room { IsRoomOfPages (view_with (λ s. S.view s) self.old) }

@@ -11,7 +11,7 @@ pub use Rattle.jn_storage.specs.Listing.{is_in, are_different, AtMost}
 pub use Rattle.jn_storage.specs.Storage.{StorageView, Accounts, IsServing, IsRecovered}
 pub use Rattle.jn_storage.specs.Calls.{state, MayPrepare, IsGoing, next_of, StepApplied, CountsOn, WorkRemoved, with_work, CountsOff, CountsErased, MarkedGoing, Called, IsReady, name_of, outline, outline_of, IsTold, TellsWorks, RecordErased, WorkPrepared, reached, first_short, shortage as storage_shortage}
 pub use Rattle.jn_worker.specs.Fitting.{WorkerView, Fits, WorkFits, PhaseFits, WorkListFits, ListFits, is_stored, TicketsFit, are_written, is_none, seen, ActiveFits, is_active, is_active_phase, NameFits}
-pub use Rattle.jn_worker.specs.Calls.{asked_again, AsksAgain, Takes, CountsBy, Settles, settled, told_breaks, told_of, has_stopped, Granted, locked_by, vote_inactive, Steps, head_of, TimesOut, Stores}
+pub use Rattle.jn_worker.specs.Calls.{asked_again, AsksAgain, Takes, CountsBy, HoldsBy, Settles, settled, told_breaks, told_of, has_stopped, Granted, locked_by, vote_inactive, Steps, head_of, TimesOut, Stores}
 pub use Rattle.std.specs.Prelude.{◌+◌, not, if◌then◌else◌, ◌&&◌, ◌||◌, is_some, Result, Ok, Err, filter, slice_get, ◌⊎◌, nat_eq, nat_lt, All, is_ok}
 pub use Rattle.jn_base.specs.declared.names.LockUnit.{LockUnit}
 pub use Rattle.jn_base.proofs.Tells.{work_tells, file_tells}
@@ -27,7 +27,7 @@ pub use Rattle.jn_rows.specs.declared.worker.PreparedWork.{PreparedWork}
 pub use Rattle.jn_rows.specs.declared.worker.Phase.TheVariants.{Active, Broken, Prepared as Stored}
 pub use Rattle.jn_lock_rows.specs.Matching.{LocksMatch, are_rising, is_before, held_in, is_after, standing_in, standing_of, is_ordered, are_ordered, GoTogether, units_of, is_name_after}
 pub use Rattle.jn_lock_rows.proofs.Works.{none-behind, work_is, found-name, work_same, not-before, found-behind, at-less, in_phase, at-phase, at-grant, once_granted, at-more, none-front}
-pub use Rattle.jn_storage.specs.Orderly.{IsOrderly, IsPrepared, IsGiven, unit_of, intentions, list_of, needs_file, takes_away, first_of, unit_by, needed}
+pub use Rattle.jn_storage.specs.Orderly.{IsOrderly, IsPrepared, IsGiven, unit_of, intentions, list_of, needed, needs_file, takes_away, first_of, unit_by}
 pub use Rattle.jn_storage.proofs.Listings.{listing-more, but, is_in-but, length-but}
 pub use Rattle.jn_base.specs.declared.device.Stopped.{Stopped}
 pub use Rattle.jn_base.specs.declared.names.Tid.{Tid}
@@ -38,7 +38,6 @@ pub use Rattle.jn_records.specs.declared.intention.Intention.{Intention}
 pub use Rattle.jn_records.specs.NetLists.{intention_change, list_change, length_with, answered, InOrder, First, Kept, MadeFresh, TakenAway, CutFrom, FileNet, as_first, entry, net_of, added, file_added, stays, stands_before, is_put}
 pub use Rattle.jn_base.specs.declared.fault.CallFault.{CallFault}
 pub use Rattle.jn_base.specs.declared.fault.CallFault.TheVariants.{Stopped as Stops, Memory}
-pub use Rattle.jn_records.specs.declared.net_list.Need.{Need}
 pub use Rattle.jn_lock_rows.specs.Calls.{IsActive, rephased, Becomes, Grants, IsRefused, note_if, notes_of, stored}
 pub use Rattle.jn_worker.specs.Leaving.{Beside, beside_of, left_by}
 pub use Rattle.jn_rows.specs.Outcomes.{RowOutcome, quiet, ignored, sends}

@@ -1,6 +1,6 @@
 -- A work whose transaction's outcome is known.
 use Rattle.jn_worker.proofs.Common.{◌≡◌, Bool, true, false, List, [], ◌∷◌, ◌++◌, Option, Some, refl, sym, ◌∙◌, ap, subst, arith, ◌⊎◌, inl, inr, Ok, is_some, not, ◌&&◌, work_tells, append-nil, Tid, Tickets, WorkId, work_eq, Collected, Work, Phase, Active, Broken, Stored, RowOutcome, quiet, MarkGoing, RemoveWork, is_going, WorkerTable, WorkStorage, work_at, commit_row, commit_phase, drop_row, drop_phase, without, is_in, StorageView, state, MarkedGoing, WorkRemoved, WorkerView, Fits, is_stored, seen, Takes, are_rising, beside_of}
-use Rattle.jn_worker.proofs.Counts.{counts_same, counts_off, left_only, filled}
+use Rattle.jn_worker.proofs.Counts.{counts_same, counts_off, holds_only, left_only, filled}
 use Rattle.jn_worker.proofs.Exits.{without_change, one_made}
 use Rattle.jn_worker.proofs.Fit.{ready_here, fits_marked, tickets_marked, fits_let_go, tickets_let_go, fits_removed, tickets_removed}
 
@@ -19,7 +19,7 @@ made_going : (t : WorkerView) (v w : StorageView) (before : Collected) (k : Tick
 made_going t v w before k T W work h at stored out m = subst (λ row. Takes 16 row t v before k (Ok (tt {0})) (record { table = t.table; going = t.going ++ W ∷ [] }) w before k)
     (sym (marks t.table (seen v) k T W (work_at W t.table) work at stored (sym (h.going W) ∙ out)))
     (one_made (tt {0}) _ t _ v w before before k k (MarkGoing W) 16 refl (omega arith) m.called m.change refl (sym (append-nil before.messages)) (sym (append-nil before.notes)) refl
-    (fits_marked t v w W h (ready_here t v W work h at stored out) m) (tickets_marked t.table v w W k m) (counts_same (state v) (MarkGoing W ∷ []) v.accounts w.accounts (m.accounts refl) refl (λ c e. sym (left_only (state v) (MarkGoing W) c (beside_of v.accounts) e))))
+    (fits_marked t v w W h (ready_here t v W work h at stored out) m) (tickets_marked t.table v w W k m) (counts_same (state v) (MarkGoing W ∷ []) v.accounts w.accounts (m.accounts refl) refl (λ c e. sym (left_only (state v) (MarkGoing W) c (beside_of v.accounts) e)) (λ c e. holds_only v.accounts v.accounts (MarkGoing W) c e refl)))
 
 pub commit_made : (t : WorkerView) (ws : List Work) (gs more : List WorkId) (v w : StorageView) (before : Collected) (k : Tickets) (T : Tid) (W : WorkId) (work : Work) → record { table = ws; going = gs } ≡ t → Fits t v → work_at W ws ≡ Some work
     → is_stored work.phase ≡ true → is_in work_eq W gs ≡ false → MarkedGoing v W true w → more ≡ gs ++ W ∷ [] → Takes 16 (commit_row t.table (seen v) k T W (work_at W t.table)) t v before k (Ok (tt {0})) (record { table = ws; going = more }) w before k

@@ -1,5 +1,6 @@
 -- The exits of a call that prepares an active work.
-use Rattle.jn_worker.proofs.Common.{◌≡◌, ℕ, Bool, true, false, List, [], ◌∷◌, ◌++◌, Option, Some, None, refl, sym, ◌∙◌, ap, subst, arith, Result, Ok, Err, nat_lt, if◌then◌else◌, append-nil, ClientNo, Server, Tid, Tickets, WorkId, Need, BrokenAt, Collected, Vote, Work, Phase, ActiveWork, Active, Broken, Stored, RowOutcome, AddReady, WorkerTable, Held, work_at, with_phase, after_grant, break_notes, commit_wants, conflict, prepare_row, prepare_phase, prepared_row, voted, vote_of, need_in, shortage, IsActive, Grants, notes_of, stored, found-name, StorageView, needed, state, WorkPrepared, reached, first_short, storage_shortage, CallFault, Memory, WorkerView, Fits, seen, is_active, Takes, Stores, head_of}
+use Rattle.jn_worker.proofs.Common.{◌≡◌, ℕ, Bool, true, false, List, [], ◌∷◌, ◌++◌, Option, Some, None, refl, sym, ◌∙◌, ap, subst, arith, Result, Ok, Err, nat_lt, if◌then◌else◌, append-nil, ClientNo, Server, Tid, Tickets, WorkId, BrokenAt, Collected, Vote, Work, Phase, ActiveWork, Active, Broken, Stored, RowOutcome, AddReady, WorkerTable, Held, work_at, with_phase, after_grant, break_notes, commit_wants, conflict, prepare_row, prepare_phase, prepared_row, voted, vote_of, need_in, shortage, IsActive, Grants, notes_of, stored, found-name, StorageView, needed, state, WorkPrepared, reached, first_short, storage_shortage, CallFault, Memory, WorkerView, Fits, seen, is_active, Takes, Stores, head_of}
+use Rattle.jn_records.specs.declared.net_list.Need.{Need}
 use Rattle.jn_base.specs.declared.names.Resource.TheVariants as resources
 use Rattle.jn_msgs.specs.declared.message.Message.TheVariants as messages
 use Rattle.jn_msgs.specs.declared.message.Vote.TheVariants as votes
@@ -233,7 +234,7 @@ ready_told t u v w before after k T c W h active free prepared stores = subst (�
     (one_made (tt {0}) (ready_row t.table k T c W f.0 f.1) t _ v w before after k k (AddReady (head_of W f.0 c) f.1.list f.1.reads) 784 refl (omega arith) (p.called refl) (p.change refl) refl s.sent s.noted refl
     (fits_stored (record { table = after_grant f.0 W (commit_wants f.1.writes) t.table; going = t.going }) v w W i.work f.1 f.0 c (fits_broken t v f.0 W (commit_wants f.1.writes) h) (granted_itself f.0 W (commit_wants f.1.writes) t.table i.work i.found) i.tid i.phase p)
     (λ x. tickets_stored (after_grant f.0 W (commit_wants f.1.writes) t.table) v w W f.1 (head_of W f.0 c) k p (tickets_broken t.table v f.0 W (commit_wants f.1.writes) k x))
-    (counts_ready (state v) (head_of W f.0 c) f.1.list f.1.reads _ v.accounts w.accounts (none_carried t v f.0 W f.1 h i) (p.accounts refl))))
+    (counts_ready (state v) (head_of W f.0 c) f.1.list f.1.reads v.accounts w.accounts (none_carried t v f.0 W f.1 h i) (p.accounts refl))))
   where
     f : (T : Tid) × (a : ActiveWork) × IsActive t.table T W a
     f = found_active t.table W active

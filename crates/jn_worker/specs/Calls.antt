@@ -1,5 +1,5 @@
 -- What the calls of a worker do.
-use Rattle.std.specs.Prelude.{◌≡◌, ◌⊎◌, ◌+◌, ℕ, Bool, true, false, not, ◌||◌, if◌then◌else◌, List, [], ◌∷◌, ◌++◌, Option, Some, None, Result, Ok, Err, is_ok}
+use Rattle.std.specs.Prelude.{count_by, ◌≡◌, ◌⊎◌, ◌+◌, ℕ, Bool, true, false, not, ◌||◌, if◌then◌else◌, List, [], ◌∷◌, ◌++◌, Option, Some, None, Result, Ok, Err, is_ok}
 use Rattle.jn_base.specs.declared.names.Tickets.{Tickets}
 use Rattle.jn_base.specs.declared.names.Party.TheVariants.{Server}
 use Rattle.jn_base.specs.declared.names.ClientNo.{ClientNo}
@@ -28,7 +28,10 @@ use Rattle.jn_base.specs.declared.fault.CallFault.{CallFault}
 use Rattle.jn_base.specs.declared.fault.CallFault.TheVariants.{Stopped, Memory}
 use Rattle.jn_rows.specs.Outcomes.{RowOutcome, Sent}
 use Rattle.jn_rows.specs.Performing.{Performs}
-use Rattle.jn_rows.specs.Stable.{Change, RemoveWork, StableState, next_after}
+use Rattle.jn_records.specs.declared.intention.Intention.{Intention}
+use Rattle.jn_records.specs.MapPlaces.{lacking}
+use Rattle.jn_records.specs.NetLists.{is_put_intention}
+use Rattle.jn_rows.specs.Stable.{Change, AddReady, CarryOut, RemoveWork, StableState, at_work, next_after}
 use Rattle.jn_rows.specs.Worker.{WorkerTable, worker_again, timeout_row, with_phase, after_grant, break_notes, commit_wants, conflict, locked, counted, done, wants_of, is_fit, refusal_of as refusal_of_row}
 use Rattle.jn_storage.specs.Listing.{is_in}
 use Rattle.jn_storage.specs.Storage.{Accounts, StorageView}
@@ -47,14 +50,27 @@ is_removed n [] = false
 is_removed n (RemoveWork W ∷ changes) = work_eq W n || is_removed n changes
 is_removed n (c ∷ changes) = is_removed n changes
 
+-- one page for each put of a list, and one for each map page that its records name
+abbrev pub pages_named : List Intention → List Bool → ℕ
+pages_named list supplied = count_by is_put_intention list + count_by (λ named. named) supplied
+
+-- How many data pages works hold once a change is made: a work that is prepared holds each page that it names, and one that is removed none. Of
+-- one whose intention is carried out nothing is said here.
+abbrev pub HoldsBy : Accounts → Change → Accounts → Type 0
+HoldsBy a (AddReady head list reads) b = b.held ≡ at_work a.held head.work (pages_named list (lacking a.maps list))
+HoldsBy a (CarryOut W i) b = (V : WorkId) → work_eq W V ≡ false → b.held V ≡ a.held V
+HoldsBy a (RemoveWork W) b = b.held ≡ at_work a.held W 0
+HoldsBy a c b = b.held ≡ a.held
+
 -- What a row's changes leave of the accounts: the promises for flags stand, it is counted which intentions are carried
--- out, only a work that is removed leaves rubbish, and map pages and what works name of them change with each change. A row
+-- out, only a work that is removed leaves rubbish, and map pages, what works name of them and what works hold change with each change. A row
 -- has one change at most; where it has none, map pages are as they were, and so is the rubbish, or one record less after a step.
 pub record CountsBy (x : StableState) (changes : List Change) (a b : Accounts) : Type 0 where
   pub promised_records : b.promised_records ≡ a.promised_records
   pub next : b.next ≡ next_after changes a.next
   pub rubbish : (n : WorkId) → is_in work_eq n b.rubbish ≡ true → (is_in work_eq n a.rubbish ≡ true) ⊎ (is_removed n changes ≡ true)
   pub beside : (c : Change) → changes ≡ c ∷ [] → beside_of b ≡ left_by x c (beside_of a)
+  pub holds : (c : Change) → changes ≡ c ∷ [] → HoldsBy a c b
 
 -- A call whose row this is, with so many device calls at most. One that is stopped adds nothing to what its step sends
 -- and reports; one that has no memory has made some of the row's changes, from the first one on. While no call was stopped

@@ -1,5 +1,5 @@
-use Rattle.jn_server.proofs.Common.{beside_of, ap, subst, sym, view_of, free_of, table_of, coordinator_row, of_coordinator, coordinator-aside, Parts, view_with, memory_of, IsServer, IsDone, Does, LeavesBeside, row_calls}
-use Rattle.jn_server.proofs.Coordinating.{coordinated, flags-leave-none, coordinator_failed}
+use Rattle.jn_server.proofs.Common.{beside_of, ap, subst, sym, view_of, free_of, table_of, coordinator_row, of_coordinator, coordinator-aside, Parts, view_with, memory_of, IsServer, IsDone, Does, LeavesBeside, row_calls, HoldsAll}
+use Rattle.jn_server.proofs.Coordinating.{coordinated, coordinator-holds, flags-leave-none, coordinator_failed}
 use Rattle.jn_server.proofs.server.Server.coordinate.Goals as goal
 
 pub returns-clause-does : goal.returns-clause-does
@@ -27,6 +27,19 @@ returns-clause-beside g c =
     (view_with look (record { storage = c.handle.new.store; worker = c.self.inside.worker; coordinator = c.handle.new.self; tickets = c.handle.new.tickets }))) c.self.view_is
     (flags-leave-none v serves (coordinator_row (table_of v.coordinator) (free_of v.storage) v.tickets message) (coordinator-aside (table_of v.coordinator) (free_of v.storage) v.tickets message)
     c.args.out.now c.handle.new.self (view_of c.handle.new.store.1 (look c.handle.new.store.0)) c.handle.new.out c.handle.new.tickets (let done = h.handles.0 in ap beside_of done.accounts))
+
+pub returns-clause-holds : goal.returns-clause-holds
+returns-clause-holds g c =
+    let look : g.row.S.Denot → _ = λ s. g.S.StableStore.view s in
+    let inside : Parts g.row.S.Denot = record { storage = c.self.inside.storage; worker = c.self.inside.worker; coordinator = c.self.inside.coordinator; tickets = c.self.inside.tickets } in
+    let v = view_with look inside in
+    let serves : IsServer v = subst (λ (s : Parts g.row.S.Denot). IsServer (view_with look s)) (sym c.self.view_is) c.requires.serves in
+    let message = c.args.message.now in
+    let h = c.in_ok-handle.ensures in
+    subst (λ (s : Parts g.row.S.Denot). HoldsAll (view_with look s)
+    → HoldsAll (view_with look (record { storage = c.handle.new.store; worker = c.self.inside.worker; coordinator = c.handle.new.self; tickets = c.handle.new.tickets }))) c.self.view_is
+    (coordinator-holds v serves (coordinator_row (table_of v.coordinator) (free_of v.storage) v.tickets message) (coordinator-aside (table_of v.coordinator) (free_of v.storage) v.tickets message)
+    c.args.out.now c.handle.new.self (view_of c.handle.new.store.1 (look c.handle.new.store.0)) c.handle.new.out c.handle.new.tickets h.handles.0)
 
 pub returns-in_err-handle-clause-does : goal.returns-in_err-handle-clause-does
 returns-in_err-handle-clause-does g c =
