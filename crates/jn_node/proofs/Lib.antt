@@ -1,0 +1,14 @@
+pub mod Moments
+pub mod Rows
+pub mod Own
+pub mod Measures
+pub mod Sized
+pub mod Doing
+pub mod Opened
+pub mod Closed
+pub mod Following
+pub mod Sending
+pub mod Posting
+pub mod Resting
+pub mod Popping
+pub mod Beginning

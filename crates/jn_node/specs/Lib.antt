@@ -1,0 +1,4 @@
+pub mod Running
+pub mod Serving
+pub mod Nodes
+pub mod Calls
