@@ -10,11 +10,11 @@ _juniper_parts() {
         $1 == kind && (command == "" || $2 == command) { print (kind == "option" ? "--" : "") $at }' "$_juniper_table"
 }
 
-# Prints the options of `run` that don't stand among the words given.
+# Prints the options of a command that don't stand among the words behind it.
 _juniper_options_left() {
     local option
-    for option in $(_juniper_parts option run 3); do
-        case " $* " in *" $option "*) ;; *) echo "$option" ;; esac
+    for option in $(_juniper_parts option "$1" 3); do
+        case " ${*:2} " in *" $option "*) ;; *) echo "$option" ;; esac
     done
     echo --help
 }
@@ -23,8 +23,8 @@ _juniper_options_left() {
 _juniper_images() {
     local file
     while read -r file; do
-        if [ -d "$file" ]; then echo "$file/"; elif [[ $file == *.0 ]]; then echo "${file%.0}"; fi
-    done < <(compgen -f -- "$1")
+        if [ -d "$file" ]; then echo "$file/"; elif [[ $file == *.[0-7] ]]; then echo "${file%.?}"; fi
+    done < <(compgen -f -- "$1") | sort -u
 }
 
 _juniper() {
@@ -32,10 +32,12 @@ _juniper() {
     case "$COMP_CWORD ${COMP_WORDS[1]} ${COMP_WORDS[COMP_CWORD - 1]}" in
         1\ *) found="$(_juniper_parts command '' 2) help --help --version" ;;
         '2 help '*) found=$(_juniper_parts command '' 2) ;;
-        *' run --in' | *' run --out') mapfile -t COMPREPLY < <(_juniper_images "$word") && return ;;
+        *' run --in' | *' run --out' | *' node --in' | *' node --out') mapfile -t COMPREPLY < <(_juniper_images "$word") && return ;;
         *' run --servers') found=$(awk -F '|' '$3 == "servers" { for (i = $5; i <= $6; i++) print i }' "$_juniper_table") ;;
         *' run --pool' | *' run --heads' | *' run --data') ;;
-        *' run '*) found=$(_juniper_options_left "${COMP_WORDS[@]:2:COMP_CWORD-2}") ;;
+        *' run '*) found=$(_juniper_options_left run "${COMP_WORDS[@]:2:COMP_CWORD-2}") ;;
+        2\ node\ *) found="$(echo {0..7}) $(_juniper_options_left node)" ;;
+        *' node '*) found=$(_juniper_options_left node "${COMP_WORDS[@]:2:COMP_CWORD-2}") ;;
         '2 trial '*) found=--help ;;
     esac
     mapfile -t COMPREPLY < <(compgen -W "$found" -- "$word")

@@ -36,14 +36,14 @@ print_statuses() {
 print_help() {
     local name
     print_usage "$@"
-    [ $# -gt 0 ] || printf '       juniper help [run | trial], juniper --help, juniper --version\n'
-    for name in ${1-run trial}; do
+    [ $# -gt 0 ] || printf '       juniper help [run | trial | node], juniper --help, juniper --version\n'
+    for name in ${1-run trial node}; do
         printf '\n%s takes:\n' "$name"
         print_options "$name"
     done
     printf '\n'
     print_statuses
-    [ $# -gt 0 ] || printf '\ndocs/SCHEDULE.md has the words of a schedule, and docs/REPORT.md those of a report.\n'
+    [ $# -gt 0 ] || printf '\ndocs/SCHEDULE.md has the words of a schedule, docs/REPORT.md those of a report, and docs/FRAMES.md the bytes of frames.\n'
 }
 
 print_version() {
@@ -70,10 +70,10 @@ answer_help() {
         help)
             case "$# ${2-}" in
                 '1 ') answer_with print_help ;;
-                '2 run' | '2 trial') answer_with print_help "$2" ;;
+                '2 run' | '2 trial' | '2 node') answer_with print_help "$2" ;;
             esac
             ;;
-        run | trial)
+        run | trial | node)
             for word in "${@:2}"; do
                 case $word in
                     --) return 0 ;;
@@ -119,14 +119,15 @@ check_value() {
     fi
 }
 
-# Reads one option of `run` into `given`; its value may be the word behind it. Sets `taken`, how many words it has.
+# Reads one option of the command into `given`; its value may be the word behind it. Sets `taken`, how many words it has.
 read_option() {
-    local word=$1 name value kind least most
+    local command=$1 word=$2 name value kind least most
+    shift
     taken=1
     name=${word#--}
     name=${name%%=*}
-    if ! [[ $word =~ ^--[a-z]+(=|$) ]] || ! IFS='|' read -r kind least most < <(option_row "$name"); then
-        fault_is "$(show "$word"): run has no such option"
+    if ! [[ $word =~ ^--[a-z]+(=|$) ]] || ! IFS='|' read -r kind least most < <(option_row "$command" "$name"); then
+        fault_is "$(show "$word"): $command has no such option"
     elif [ -n "${given[$name]+given}" ]; then
         fault_is "--$name is given twice"
     elif [ -z "$kind" ]; then
@@ -144,9 +145,9 @@ read_option() {
     check_value "$name" "$value" "$kind" "$least" "$most"
 }
 
-# Prints what value an option of `run` has, with the least and the most, or fails where there is no such option.
+# Prints what value an option of a command has, with the least and the most, or fails where there is no such option.
 option_row() {
-    rows option | awk -F '|' -v name="$1" '$3 == name { print $4 "|" $5 "|" $6 }'
+    rows "option|$1" | awk -F '|' -v name="$2" '$3 == name { print $4 "|" $5 "|" $6 }'
 }
 
 # Images have their own counts of pages, and those that a run begins with aren't written over.
@@ -159,6 +160,10 @@ check_together() {
             return
         fi
     done
+    check_names
+}
+
+check_names() {
     [ "${given[in]}" != "${given[out]-}" ] || fault_is "$(show "${given[in]}"): --out needs another name than --in"
 }
 
@@ -168,7 +173,7 @@ check_run() {
             fault_is "$(show "$1"): run takes no such word"
             return
         fi
-        read_option "$@" || return
+        read_option run "$@" || return
         shift "$taken"
     done
     if [ $# -gt 1 ]; then
@@ -179,7 +184,7 @@ check_run() {
 }
 
 check_trial() {
-    local word name least most at=0 is_open=yes places=()
+    local word is_open=yes places=()
     for word; do
         if [ "$is_open" = yes ] && [ "$word" = -- ]; then
             is_open=no
@@ -190,15 +195,46 @@ check_trial() {
             places+=("$word")
         fi
     done
+    check_places trial "${places[@]}"
+}
+
+# Takes the words that are no options, each in its place.
+check_places() {
+    local command=$1 name least most at=0
+    shift
+    local places=("$@")
     while IFS='|' read -r _ _ name _ least most; do
         if [ "$at" -ge "${#places[@]}" ]; then
-            fault_is "trial needs $name behind it"
+            fault_is "$command needs $name behind it"
             return
         fi
         check_number "$name" "${places[at]}" "$least" "$most" || return
         at=$((at + 1))
-    done < <(rows place)
-    [ "${#places[@]}" -le "$at" ] || fault_is "$(show "${places[at]}"): trial takes $at numbers alone"
+    done < <(rows "place|$command")
+    [ "${#places[@]}" -le "$at" ] || fault_is "$(show "${places[at]}"): $command takes $at $([ "$at" -eq 1 ] && echo number || echo numbers) alone"
+}
+
+check_node() {
+    local name is_open=yes places=()
+    while [ $# -gt 0 ]; do
+        if [ "$is_open" = yes ] && [ "$1" = -- ]; then
+            is_open=no taken=1
+        elif [ "$is_open" = yes ] && [[ $1 == -?* ]]; then
+            read_option node "$@" || return
+        else
+            places+=("$1") taken=1
+        fi
+        shift "$taken"
+    done
+    check_places node "${places[@]}" || return
+    given[server]=${places[0]}
+    for name in in out; do
+        if [ -z "${given[$name]+given}" ]; then
+            fault_is "node needs --$name with a name"
+            return
+        fi
+    done
+    check_names
 }
 
 check_words() {
@@ -216,13 +252,14 @@ check_words() {
     case $1 in
         run) check_run "${@:2}" ;;
         trial) check_trial "${@:2}" ;;
+        node) check_node "${@:2}" ;;
         help) fault_is "$(show "${2-}"): there is no help on this" ;;
         *) fault_is "$(show "$1"): there is no such command" ;;
     esac
 }
 
-# Sets `fault` to what is wrong with the words, as the program takes them, or to nothing; and `given`, the options of a
-# run. Words are bytes here.
+# Sets `fault` to what is wrong with the words, as the program takes them, or to nothing; and `given`, the options of the
+# command. Words are bytes here.
 find_fault() {
     local LC_ALL=C
     fault=

@@ -1,7 +1,6 @@
 -- Pairs of pages on a disk in memory.
-use Rattle.jn_image_files.proofs.Common.{DeviceState, StoreView}
+use Rattle.jn_image_files.proofs.Common.{DeviceState, StoreView, pairs_view}
 use Rattle.jn_memdisk.specs.declared.disk.MemDisk.{MemDisk}
-use Rattle.jn_store.specs.Pairs.{pairs_view}
 
 -- what is seen of them
 abbrev pub look : MemDisk → StoreView

@@ -5,3 +5,4 @@ pub mod Kept
 pub mod Stores
 pub mod Disks
 pub mod Exclusive
+pub mod OneDisk

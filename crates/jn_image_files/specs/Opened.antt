@@ -3,7 +3,7 @@ use Rattle.std.specs.Prelude.{◌≡◌, ◌<◌, ℕ, List, length, slice_get, 
 use Rattle.std.specs.declared.alloc.Global.{Global}
 use Rattle.jn_base.specs.declared.names.ServerNo.{ServerNo}
 use Rattle.jn_device.specs.Device.{DeviceState}
-use Rattle.jn_disks.specs.Disks.{HasPages, IsStoreOfPages}
+use Rattle.jn_disks.specs.Disks.{HasPages, IsStoreOfPages, files_in}
 use Rattle.jn_host.specs.Outside.{Contents, found_bytes}
 use Rattle.jn_page_state.specs.Images.{IsImage}
 use Rattle.jn_image.specs.Form.{IsWithin, image_counts, image_bytes}
@@ -15,7 +15,7 @@ use Rattle.jn_recovery.specs.declared.counts.PageCounts.{PageCounts}
 use Rattle.jn_store.specs.Pairs.{pairs_view}
 use Rattle.jn_memdisk.specs.Disk.{IsNew}
 use Rattle.jn_store.specs.Store.{StoreView}
-use Rattle.jn_image_files.specs.Kept.{IsSoundImage, image_name, Has}
+use Rattle.jn_image_files.specs.Kept.{IsSoundImage, IsKept, image_name, Has}
 
 -- how many pages of each kind an image may have
 pub record AreWithin (g : Counts) : Type 0 where
@@ -57,3 +57,9 @@ pub record IsStoreOf {S : Type 0} (look : S → StoreView) (device : S → Devic
 
 abbrev pub AreStoresOf : {S : Type 0} → (S → StoreView) → (S → DeviceState) → (ℕ → Option (List ℕ)) → List (S × PageCounts) → Type 0
 AreStoresOf {S} look device found stores = (n : ℕ) (x : S × PageCounts) → slice_get stores n ≡ Some x → IsStoreOf look device (record { 0 = n }) (found n) x
+
+-- a server's disk is that of a kept image, sound for it, with these files; no call was made yet
+pub record IsOpened (kept : Option Contents) (name : List ℕ) (g : Counts) (files : Files) (q : ServerNo) (d : DeviceState) : Type 0 where
+  pub disk : IsKept kept name g q d
+  pub files_are : files_in g disk.image.pages ≡ files
+  pub new : IsNew d

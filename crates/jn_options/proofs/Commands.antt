@@ -1,15 +1,15 @@
 -- What `clap` makes of words for a command that is the program's.
-use Rattle.jn_options.proofs.Common.{◌≡◌, ◌≢◌, ◌∙◌, ap, subst, refl, true, List, [], inl, inr, App, HasMatchesOf, Text, fault_of, is_simple, is_simple_and_free, kind_of, subcommand_of, subcommand_rows_of, HasKind, IsAmong, clap_on_literals, program_app, run_app, trial_app}
+use Rattle.jn_options.proofs.Common.{◌≡◌, ◌≢◌, ◌∙◌, ap, subst, refl, true, List, [], inl, inr, App, HasMatchesOf, Text, fault_of, is_simple, is_simple_and_free, kind_of, subcommand_of, subcommand_rows_of, HasKind, IsAmong, clap_on_literals, program_app, run_app, trial_app, node_app}
 use Rattle.clap.specs.declared.error.Error.{Error}
 use Rattle.clap.specs.declared.error.kind.ErrorKind.TheVariants as kinds
 use Rattle.clap.specs.declared.parser.matches.ArgMatches.{ArgMatches}
 
 simple_and_free : is_simple_and_free program_app ≡ true
-unfolding clap_on_literals program_app run_app trial_app
+unfolding clap_on_literals program_app run_app trial_app node_app
 simple_and_free = refl
 
 simple : is_simple program_app ≡ true
-unfolding clap_on_literals program_app run_app trial_app
+unfolding clap_on_literals program_app run_app trial_app node_app
 simple = refl
 
 module _ (a : App) (is : a ≡ program_app) (words : List Text) where

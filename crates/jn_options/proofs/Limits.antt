@@ -1,9 +1,9 @@
 -- What holds of each command that words ask for.
-use Rattle.jn_options.proofs.Common.{◌≡◌, ◌≤◌, ◌^◌, ◌-◌, ◌&&◌, ℕ, Bool, true, false, cond, leb, leb-true, length, List, Option, Some, None, is_some, option_map, unwrap_or, refl, sym, subst, ap, arith, codes, IfSome, option_and_then, option_map_or, bytes_eq, and_parts, false≢true, Row, Text, fault_of, first_of, subcommand_of, is_empty, program_app, AreWithinLimits, IsCommandInRange, IsGeometry, IsOpening, IsTrialInRange, command_given, command_in, count_given, geometry_given, has_geometry, images_given, is_of, kept_as, number_given, number_in, opening_given, options_given, run_from, trial_given, New, Images, Options}
-use Rattle.jn_options.specs.Names.{IsName, name_in}
+use Rattle.jn_options.proofs.Common.{◌≡◌, ◌≤◌, ◌^◌, ◌-◌, ◌&&◌, ℕ, Bool, true, false, cond, leb, leb-true, length, List, Option, Some, None, is_some, option_map, unwrap_or, refl, sym, subst, ap, arith, codes, IfSome, option_and_then, option_map_or, bytes_eq, and_parts, false≢true, Row, Text, fault_of, first_of, subcommand_of, is_empty, program_app, AreWithinLimits, IsCommandInRange, IsGeometry, IsNodeInRange, IsOpening, IsTrialInRange, command_given, command_in, count_given, geometry_given, has_geometry, images_given, is_of, kept_as, name_given, node_given, number_given, number_in, opening_given, options_given, run_from, trial_given, New, Images, Options, IsName, name_in}
 use Rattle.jn_options.specs.declared.asked.Command.{Command}
 use Rattle.jn_options.specs.declared.asked.Command.TheVariants as commands
 use Rattle.jn_options.specs.declared.asked.Geometry.{Geometry}
+use Rattle.jn_options.specs.declared.asked.Node.{Node}
 use Rattle.jn_options.specs.declared.asked.Opening.{Opening}
 use Rattle.jn_options.specs.declared.asked.Trial.{Trial}
 use Rattle.jn_options.proofs.Numbers.{number_stands}
@@ -134,17 +134,44 @@ trial_limits rows trial is =
       events = given_limits (codes "events") 1 100000 events rows events_is;
     })
 
+name_limits : (name : Text) (rows : List Row) (text : Text) → name_given name rows ≡ Some text → IsName text
+name_limits name rows text is =
+    let (given, there, named) = then_some name_in (first_of name rows) text is in
+    (name_is given text named).1
+
+node_limits : (rows : List Row) (node : Node) → node_given rows ≡ Some node → IsNodeInRange node
+node_limits rows node is =
+    let (server, server_is, rest) = then_some _ _ node is in
+    let (opening, opening_is, last) = then_some _ _ node rest in
+    let (closing, closing_is, differ) = then_some _ _ node last in
+    go server opening closing (given_limits (codes "server") 0 7 server rows server_is).1 (name_limits (codes "in") rows opening opening_is) (name_limits (codes "out") rows closing closing_is) (bytes_eq opening closing) refl differ
+  where
+    go : (server : ℕ) (opening closing : Text) → server ≤ 7 → IsName opening → IsName closing → (test : Bool) → bytes_eq opening closing ≡ test
+        → cond test None (Some (record { server = record { 0 = server }; opening = opening; closing = closing })) ≡ Some node → IsNodeInRange node
+    go server opening closing small is_opening is_closing true same e = absurd (none≢some node e)
+    go server opening closing small is_opening is_closing false differ e =
+        subst IsNodeInRange (same_some (record { server = record { 0 = server }; opening = opening; closing = closing }) node e)
+        (record { server = small; opening = is_opening; closing = is_closing; differ = differ })
+
 given_in_range : (found : Text × List Row) (command : Command) → command_given found ≡ Some command → IsCommandInRange command
 given_in_range found command is = run (bytes_eq found.0 (codes "run")) is
   where
-    trial : (test : Bool) → cond test (option_map commands.Trial (trial_given found.1)) None ≡ Some command → IsCommandInRange command
-    trial false e = absurd (none≢some command e)
+    node : (test : Bool) → cond test (option_map commands.Node (node_given found.1)) None ≡ Some command → IsCommandInRange command
+    node false e = absurd (none≢some command e)
+    node true e =
+        let (asked, given, same) = map_some commands.Node (node_given found.1) command e in
+        subst IsCommandInRange same (node_limits found.1 asked given)
+
+    trial : (test : Bool) → cond test (option_map commands.Trial (trial_given found.1))
+        (cond (bytes_eq found.0 (codes "node")) (option_map commands.Node (node_given found.1)) None) ≡ Some command → IsCommandInRange command
+    trial false e = node (bytes_eq found.0 (codes "node")) e
     trial true e =
         let (asked, given, same) = map_some commands.Trial (trial_given found.1) command e in
         subst IsCommandInRange same (trial_limits found.1 asked given)
 
     run : (test : Bool) → cond test (option_map commands.Run (options_given found.1))
-        (cond (bytes_eq found.0 (codes "trial")) (option_map commands.Trial (trial_given found.1)) None) ≡ Some command → IsCommandInRange command
+        (cond (bytes_eq found.0 (codes "trial")) (option_map commands.Trial (trial_given found.1))
+        (cond (bytes_eq found.0 (codes "node")) (option_map commands.Node (node_given found.1)) None)) ≡ Some command → IsCommandInRange command
     run false e = trial (bytes_eq found.0 (codes "trial")) e
     run true e =
         let (options, given, same) = map_some commands.Run (options_given found.1) command e in

@@ -11,6 +11,7 @@ use Rattle.jn_options.specs.Names.{IsName, name_in}
 use Rattle.jn_options.specs.declared.asked.Command.{Command}
 use Rattle.jn_options.specs.declared.asked.Command.TheVariants as commands
 use Rattle.jn_options.specs.declared.asked.Geometry.{Geometry}
+use Rattle.jn_options.specs.declared.asked.Node.{Node}
 use Rattle.jn_options.specs.declared.asked.Opening.{Opening}
 use Rattle.jn_options.specs.declared.asked.Opening.TheVariants.{New, Images}
 use Rattle.jn_options.specs.declared.asked.Options.{Options}
@@ -105,6 +106,28 @@ trial_given rows =
     (number_given (codes "events") 1 100000 rows))
     (number_given (codes "seed") 0 (2 ^ 64 - 1) rows)
 
+-- ---- a node
+
+-- the name that is given to an option
+abbrev pub name_given : Text → List Row → Option Text
+name_given name rows = option_and_then name_in (first_of name rows)
+
+-- The node of this server that begins with the image of one name and is kept under another.
+abbrev pub node_from : Option ℕ → Option Text → Option Text → Option Node
+node_from server opening closing =
+    option_and_then (λ server.
+    option_and_then (λ opening.
+    option_and_then (λ closing.
+    if bytes_eq opening closing then None
+    else Some (record { server = record { 0 = server }; opening = opening; closing = closing }))
+    closing)
+    opening)
+    server
+
+-- the server and the names among what `node` was given
+abbrev pub node_given : List Row → Option Node
+node_given rows = node_from (number_given (codes "server") 0 7 rows) (name_given (codes "in") rows) (name_given (codes "out") rows)
+
 -- ---- a command
 
 -- the command of this name, with what it was given
@@ -112,7 +135,8 @@ abbrev pub command_given : Text × List Row → Option Command
 command_given found =
     if bytes_eq found.0 (codes "run") then option_map commands.Run (options_given found.1)
     else (if bytes_eq found.0 (codes "trial") then option_map commands.Trial (trial_given found.1)
-    else None)
+    else (if bytes_eq found.0 (codes "node") then option_map commands.Node (node_given found.1)
+    else None))
 
 -- The command of words, of which the first is the program's name. `fault_of` is empty exactly where `clap` takes the words;
 -- `subcommand_of` is then the command among them, if there is one, with what was found for its options.
@@ -136,7 +160,7 @@ abbrev pub IsOpening : Opening → Type 0
 IsOpening (New geometry) = IsGeometry geometry
 IsOpening (Images name) = IsName name
 
--- what each option may be; images that are read are never written
+-- what each option may be; no image is saved under the name that was read
 pub record AreWithinLimits (options : Options) : Type 0 where
   pub servers : (1 ≤ options.servers) × (options.servers ≤ 8)
   pub opening : IsOpening options.opening
@@ -147,6 +171,14 @@ pub record IsTrialInRange (trial : Trial) : Type 0 where
   pub seed : trial.seed < 2 ^ 64
   pub events : (1 ≤ trial.events) × (trial.events ≤ 100000)
 
+-- the image is saved under another name than that which was read
+pub record IsNodeInRange (node : Node) : Type 0 where
+  pub server : node.server.0 ≤ 7
+  pub opening : IsName node.opening
+  pub closing : IsName node.closing
+  pub differ : bytes_eq node.opening node.closing ≡ false
+
 abbrev pub IsCommandInRange : Command → Type 0
 IsCommandInRange (commands.Run options) = AreWithinLimits options
 IsCommandInRange (commands.Trial trial) = IsTrialInRange trial
+IsCommandInRange (commands.Node node) = IsNodeInRange node

@@ -3,6 +3,7 @@ ghost use Rattle.std.specs.Prelude.{◌≡◌};
 ghost use Rattle.jn_options.specs.Words.{is_of};
 
 use crate::name::Name;
+use jn_base::ServerNo;
 
 /// What the program is to do.
 #[derive(Drop)]
@@ -11,6 +12,8 @@ pub enum Command {
     Run(Options),
     /// To run a schedule that a seed makes.
     Trial(Trial),
+    /// To serve one server, whose messages come from outside.
+    Node(Node),
 }
 
 /// The options of a run.
@@ -53,6 +56,17 @@ pub struct Trial {
     pub seed: u64,
     /// How many events it has: 1 to 100,000.
     pub events: u32,
+}
+
+/// One server that is served.
+#[derive(Drop)]
+pub struct Node {
+    /// Which server it is: 0 to 7.
+    pub server: ServerNo,
+    /// The name of the images of which its disk is one at first.
+    pub opening: Name,
+    /// The name of the images of which its disk is one at the end: another.
+    pub closing: Name,
 }
 
 impl Opening {

@@ -2,7 +2,7 @@
 ghost use Rattle.std.specs.Prelude.{◌≡◌, ◌≢◌, [], IfOk, MatchOption, false, map, string_bytes};
 ghost use Rattle.clap.specs.Words.{app_of, fault_of, rule_of, subcommand_of, subcommand_rows_of};
 ghost use Rattle.clap.specs.declared.builder.command.Command.TheViews.{out-Command};
-ghost use Rattle.jn_options.specs.Command.{placed, program_app, run_app, switch, trial_app, valued};
+ghost use Rattle.jn_options.specs.Command.{needed, node_app, placed, program_app, run_app, switch, trial_app, valued};
 
 use clap::error::ErrorKind;
 use clap::{Arg, ArgAction, ArgMatches, Command};
@@ -34,11 +34,13 @@ fn program<'a>(alloc: Global) -> Result<Command<'a>, AllocError>
 {
     let run = run_command(alloc)?;
     let trial = trial_command(alloc)?;
+    let node = node_command(alloc)?;
     Command::new(alloc, "juniper")
         .disable_help_flag(true)
         .disable_help_subcommand(true)
         .subcommand(run)?
-        .subcommand(trial)
+        .subcommand(trial)?
+        .subcommand(node)
 }
 
 /// The command `run`.
@@ -66,12 +68,31 @@ fn trial_command<'a>(alloc: Global) -> Result<Command<'a>, AllocError>
         .arg(placed_value(alloc, "events"))
 }
 
+/// The command `node`.
+fn node_command<'a>(alloc: Global) -> Result<Command<'a>, AllocError>
+    ensures app { IfOk result (λ command. app_of command ≡ node_app) }
+    ensures local { IfOk result (λ command. (out-Command command).has_globals ≡ false) }
+{
+    Command::new(alloc, "node")
+        .arg(placed_value(alloc, "server"))?
+        .arg(needed_option(alloc, "in"))?
+        .arg(needed_option(alloc, "out"))
+}
+
 /// An option with one value.
 fn valued_option<'a>(alloc: Global, name: &'a str) -> Arg<'a>
     ensures rule { rule_of result ≡ valued name.entry.now }
     ensures local { result.global ≡ false }
 {
     Arg::new(alloc, name).long(name)
+}
+
+/// An option with one value, which has to be there.
+fn needed_option<'a>(alloc: Global, name: &'a str) -> Arg<'a>
+    ensures rule { rule_of result ≡ needed name.entry.now }
+    ensures local { result.global ≡ false }
+{
+    Arg::new(alloc, name).long(name).required(true)
 }
 
 /// An option without a value.

@@ -5,7 +5,7 @@ ghost use Rattle.jn_text.specs.Read.{IsNumberAt};
 ghost use Rattle.jn_options.specs.Command.{program_app};
 ghost use Rattle.jn_options.specs.Words.{IsCommandInRange, command_in, geometry_given, number_in, run_from};
 ghost use Rattle.jn_options.specs.declared.asked.Command.{Command as ACommand};
-ghost use Rattle.jn_options.specs.declared.asked.Command.TheVariants.{Run, Trial};
+ghost use Rattle.jn_options.specs.declared.asked.Command.TheVariants.{Node, Run, Trial};
 ghost use Rattle.jn_options.specs.declared.asked.Opening.TheVariants.{New, Images};
 
 /// A number is spelled as in a schedule: the whole word is the number that stands at its start.
@@ -82,6 +82,14 @@ pub fn trials_are_read()
         ≡ Some (Trial (record { seed = 7; events = 200 })) }
 {}
 
+/// A node has a server and two names, in any order.
+pub fn nodes_are_read()
+    ensures next_word { command_in (codes "juniper" ∷ codes "node" ∷ codes "3" ∷ codes "--in" ∷ codes "a" ∷ codes "--out" ∷ codes "b" ∷ [])
+        ≡ Some (Node (record { server = record { 0 = 3 }; opening = codes "a"; closing = codes "b" })) }
+    ensures any_order { command_in (codes "juniper" ∷ codes "node" ∷ codes "--out=b" ∷ codes "0" ∷ codes "--in=a" ∷ [])
+        ≡ Some (Node (record { server = record { 0 = 0 }; opening = codes "a"; closing = codes "b" })) }
+{}
+
 /// Other words are refused: no command or another one, more words, help, an option that is given
 /// twice, and a number that is missing, too large or begins with a zero.
 pub fn other_words_are_refused()
@@ -116,4 +124,20 @@ pub fn other_trials_are_refused()
     ensures large_seed { command_in (codes "juniper" ∷ codes "trial" ∷ codes "18446744073709551616" ∷ codes "1" ∷ []) ≡ None }
     ensures missing { command_in (codes "juniper" ∷ codes "trial" ∷ codes "7" ∷ []) ≡ None }
     ensures more { command_in (codes "juniper" ∷ codes "trial" ∷ codes "7" ∷ codes "200" ∷ codes "1" ∷ []) ≡ None }
+{}
+
+/// A node is refused without a server or with one past 7, without a name or with one name for both, and where an option is given
+/// twice or is one of another command.
+pub fn other_nodes_are_refused()
+    ensures no_server { command_in (codes "juniper" ∷ codes "node" ∷ codes "--in=a" ∷ codes "--out=b" ∷ []) ≡ None }
+    ensures large_server { command_in (codes "juniper" ∷ codes "node" ∷ codes "8" ∷ codes "--in=a" ∷ codes "--out=b" ∷ []) ≡ None }
+    ensures zero_first { command_in (codes "juniper" ∷ codes "node" ∷ codes "01" ∷ codes "--in=a" ∷ codes "--out=b" ∷ []) ≡ None }
+    ensures more { command_in (codes "juniper" ∷ codes "node" ∷ codes "0" ∷ codes "1" ∷ codes "--in=a" ∷ codes "--out=b" ∷ []) ≡ None }
+    ensures no_opening { command_in (codes "juniper" ∷ codes "node" ∷ codes "0" ∷ codes "--out=b" ∷ []) ≡ None }
+    ensures no_closing { command_in (codes "juniper" ∷ codes "node" ∷ codes "0" ∷ codes "--in=a" ∷ []) ≡ None }
+    ensures same { command_in (codes "juniper" ∷ codes "node" ∷ codes "0" ∷ codes "--in=a" ∷ codes "--out=a" ∷ []) ≡ None }
+    ensures empty { command_in (codes "juniper" ∷ codes "node" ∷ codes "0" ∷ codes "--in=" ∷ codes "--out=b" ∷ []) ≡ None }
+    ensures too_long { command_in (codes "juniper" ∷ codes "node" ∷ codes "0" ∷ codes "--in=a" ∷ codes "--out" ∷ replicate 101 97 ∷ []) ≡ None }
+    ensures twice { command_in (codes "juniper" ∷ codes "node" ∷ codes "0" ∷ codes "--in=a" ∷ codes "--in=c" ∷ codes "--out=b" ∷ []) ≡ None }
+    ensures other { command_in (codes "juniper" ∷ codes "node" ∷ codes "0" ∷ codes "--in=a" ∷ codes "--out=b" ∷ codes "--trace" ∷ []) ≡ None }
 {}

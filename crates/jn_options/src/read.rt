@@ -1,13 +1,14 @@
 //! Reads the command from what `clap` finds.
 ghost use Rattle.std.specs.Prelude.{◌≡◌, ◌≤◌, IfOk, IfSome, option_map};
 ghost use Rattle.clap.specs.Words.{found_of, rows_of};
-ghost use Rattle.jn_options.specs.Words.{IsCommandInRange, command_given, command_of, count_given, geometry_given, has_geometry, has_value, images_given, is_given, kept_as, kept_if_given, number_given, number_in, opening_given, options_given, run_from, trial_given};
+ghost use Rattle.jn_options.specs.Words.{IsCommandInRange, command_given, command_of, count_given, geometry_given, has_geometry, has_value, images_given, is_given, kept_as, kept_if_given, name_given, node_from, node_given, number_given, number_in, opening_given, options_given, run_from, trial_given};
 ghost use Rattle.jn_options.specs.declared.asked.Opening.TheVariants.{New};
 
-use crate::asked::{Command, Geometry, Opening, Options, Trial};
+use crate::asked::{Command, Geometry, Node, Opening, Options, Trial};
 use crate::command::matches_in;
 use crate::name::Name;
 use clap::ArgMatches;
+use jn_base::ServerNo;
 use jn_text::read_number;
 use std::alloc::{AllocError, Global};
 
@@ -21,8 +22,10 @@ const MOST_DATA_PAGES: u16 = 8000;
 
 const MOST_EVENTS: u64 = 100_000;
 
+const LAST_SERVER: u64 = 7;
+
 /// The command that the words ask for, where the first word is the program's name; `None` exactly
-/// where they ask for none: they aren't the command `run` or `trial` with what it takes, each option
+/// where they ask for none: they aren't the command `run`, `trial` or `node` with what it takes, each option
 /// given at most once, with numbers and names that it takes.
 pub fn read_command(alloc: Global, words: &[String]) -> Result<Option<Command>, AllocError>
     ensures exact { IfOk result (λ command. command ≡ command_of words.now) }
@@ -49,6 +52,8 @@ fn command_among(
         Ok(options_among(alloc, given)?.map(Command::Run))
     } else if name == "trial" {
         Ok(trial_among(given).map(Command::Trial))
+    } else if name == "node" {
+        Ok(node_among(alloc, given)?.map(Command::Node))
     } else {
         Ok(None)
     }
@@ -171,6 +176,44 @@ fn trial_among(given: &ArgMatches) -> Option<Trial>
         seed,
         events: events as u32,
     })
+}
+
+/// The server and the names among what `node` was given.
+fn node_among(alloc: Global, given: &ArgMatches) -> Result<Option<Node>, AllocError>
+    ensures { IfOk result (λ node. node ≡ node_given (rows_of (found_of given.now))) }
+{
+    let opening = name_among(alloc, given, "in")?;
+    let closing = name_among(alloc, given, "out")?;
+    let server = number_among(given, "server", 0, LAST_SERVER);
+    Ok(node_of(server, opening, closing))
+}
+
+/// The node of this server and these names, which differ.
+fn node_of(server: Option<u64>, opening: Option<Name>, closing: Option<Name>) -> Option<Node>
+    requires { IfSome server (λ number. number ≤ 7) }
+    ensures { result ≡ node_from server opening closing }
+{
+    let server = server?;
+    let opening = opening?;
+    let closing = closing?;
+    if opening.as_str() == closing.as_str() {
+        return None;
+    }
+    Some(Node {
+        server: ServerNo(server as u8),
+        opening,
+        closing,
+    })
+}
+
+/// The name that is given to an option.
+fn name_among(alloc: Global, given: &ArgMatches, name: &str) -> Result<Option<Name>, AllocError>
+    ensures { IfOk result (λ found. found ≡ name_given name.now (rows_of (found_of given.now))) }
+{
+    match given.get_str(name) {
+        Some(text) => Name::new(alloc, text),
+        None => Ok(None),
+    }
 }
 
 /// Whether an option without a value is given.

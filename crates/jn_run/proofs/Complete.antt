@@ -1,10 +1,11 @@
 -- What follows from what a call leaves.
-use Rattle.jn_run.proofs.Common.{◌≡◌, ◌≤◌, ◌<◌, ℕ, List, length, Option, Some, None, refl, ap, subst, arith, ServerNo, Contents, Event, IsSchedule, Has, image_name, Geometry, New, Images, Options, Setup, Devices, Command, Run, Trial, Opening, IsFirstFault, Outside, SourceState, SinkState, KeeperState, IsCutShort, IsText, IsWholeReport, Keeps, KeepsFirst, OutcomeOf, ReadsSchedule, RefusedImage, RefusedSchedule, RunEnds, TrialEnds, WordsEnd, most_bytes, words_refused, words_not_written, words_no_memory, done, not_read, too_many_bytes, too_many_events, schedule_refused, schedule_not_written, not_loaded, image_refused, image_not_written, at_limit, not_written, not_saved, no_memory, no_memory_inside, no_memory_saving, trial_done, trial_not_written, trial_at_limit, trial_no_memory, Status}
+use Rattle.jn_run.proofs.Common.{◌≡◌, ◌≤◌, ◌<◌, ℕ, List, length, Option, Some, None, refl, ap, subst, arith, ServerNo, Contents, Event, IsSchedule, Has, image_name, Geometry, New, Images, Options, Setup, Devices, Command, Run, Trial, Node, NodeEnds, node_done, node_not_loaded, node_refused, node_refusal_not_written, node_not_read, node_not_written, node_no_epoch, node_no_epoch_left, node_passed_limit, node_frame, node_unsettled, node_not_saved, node_no_memory, node_no_memory_inside, Opening, IsFirstFault, Outside, SourceState, SinkState, KeeperState, IsCutShort, IsText, IsWholeReport, Keeps, KeepsFirst, OutcomeOf, ReadsSchedule, RefusedImage, RefusedSchedule, RunEnds, TrialEnds, WordsEnd, most_bytes, words_refused, words_not_written, words_no_memory, done, not_read, too_many_bytes, too_many_events, schedule_refused, schedule_not_written, not_loaded, image_refused, image_not_written, at_limit, not_written, not_saved, no_memory, no_memory_inside, no_memory_saving, trial_done, trial_not_written, trial_at_limit, trial_no_memory, Status, NoneFails}
 use Rattle.jn_image_files.specs.Examined.{IsAccepted, IsRefused}
 use Rattle.jn_image_files.specs.declared.refusal.Cause.{Cause}
+use Rattle.jn_options.specs.declared.asked.Node.{Node as ANode}
 use Rattle.jn_options.specs.declared.asked.Trial.{Trial as ATrial}
-use Rattle.jn_run.specs.Laws.{NoneFails, HasImages, CanRun, OnlyItsCountRises, RunCompletes, run_done, run_at_limit, run_out_of_memory, TrialCompletes, trial_whole, trial_cut_short, trial_out_of_memory}
-use Rattle.jn_run.specs.declared.status.Status.TheVariants as statuses
+use Rattle.jn_run.specs.Laws.{HasImages, CanRun, OnlyItsCountRises, RunCompletes, run_done, run_at_limit, run_out_of_memory, TrialCompletes, trial_whole, trial_cut_short, trial_out_of_memory}
+use Rattle.jn_status.specs.declared.status.Status.TheVariants as statuses
 
 -- ---- the counts
 
@@ -64,9 +65,29 @@ module _ (before after : Outside) where
   run-count options status (no_memory_inside r keeper) = none-rose statuses.Memory r.read.reads.gave.faults r.written.faults (keeper-same before.keeper after.keeper keeper)
   run-count options status (no_memory_saving r keeper) = none-rose statuses.Memory r.read.reads.gave.faults r.written.faults keeper
 
+  unchanged : (status : Status) → after ≡ before → OnlyItsCountRises before after status
+  unchanged status same = none-rose status (ap (λ (o : Outside). o.source.faults) same) (ap (λ (o : Outside). o.sink.faults) same) (ap (λ (o : Outside). o.keeper.faults) same)
+
+  node-count : (node : ANode) (status : Status) → NodeEnds node before after status → OnlyItsCountRises before after status
+  node-count node status (node_done e saves) = none-rose statuses.Done e.faults e.told.written.faults saves.keeps.faults
+  node-count node status (node_not_loaded source sink fails) = keeper-rose (source-same before.source after.source source) (sink-same before.sink after.sink sink)
+  node-count node status (node_refused r source keeper) = none-rose statuses.Image (source-same before.source after.source source) r.written.faults (keeper-same before.keeper after.keeper keeper)
+  node-count node status (node_refusal_not_written r source keeper) = sink-rose (source-same before.source after.source source) (keeper-same before.keeper after.keeper keeper)
+  node-count node status (node_not_read t fault fits rose keeper) = source-rose t.written.faults (keeper-same before.keeper after.keeper keeper)
+  node-count node status (node_not_written t source keeper) = sink-rose source (keeper-same before.keeper after.keeper keeper)
+  node-count node status (node_no_epoch f is same) = unchanged statuses.Limit same
+  node-count node status (node_no_epoch_left e is keeper) = none-rose statuses.Limit e.faults e.told.written.faults (keeper-same before.keeper after.keeper keeper)
+  node-count node status (node_passed_limit t fault many source keeper) = none-rose statuses.Limit source t.written.faults (keeper-same before.keeper after.keeper keeper)
+  node-count node status (node_frame t meets source keeper) = none-rose statuses.Frame source t.written.faults (keeper-same before.keeper after.keeper keeper)
+  node-count node status (node_unsettled t end live source keeper) = none-rose statuses.Unsettled source t.written.faults (keeper-same before.keeper after.keeper keeper)
+  node-count node status (node_not_saved e room fails) = keeper-rose e.faults e.told.written.faults
+  node-count node status (node_no_memory same) = unchanged statuses.Memory same
+  node-count node status (node_no_memory_inside t source keeper) = none-rose statuses.Memory source t.written.faults (keeper-same before.keeper after.keeper keeper)
+
 pub counts-tell : (asked : Option Command) (before after : Outside) (status : Status) → OutcomeOf asked before after status → OnlyItsCountRises before after status
 counts-tell None before after status o = words-count before after status (source-same before.source after.source o.0.source) (keeper-same before.keeper after.keeper o.0.keeper) o.1
 counts-tell (Some (Run options)) before after status o = run-count before after options status o
+counts-tell (Some (Node node)) before after status o = node-count before after node status o
 counts-tell (Some (Trial trial)) before after status o = trial-count before after trial before.keeper.kept status (source-same before.source after.source o.0.source) (keeper-same before.keeper after.keeper o.0.keeper) o.1
 
 -- ---- the keeper

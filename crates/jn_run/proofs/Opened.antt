@@ -1,5 +1,6 @@
 -- What a run begins with, of the stores that were opened.
 use Rattle.jn_run.proofs.Common.{◌≡◌, ℕ, zero, suc, ◌≤◌, ◌<◌, Bool, true, false, List, [], ◌∷◌, length, slice_get, Option, Some, None, refl, sym, ◌∙◌, ap, subst, arith, slice_get_past, nat_lt, ServerNo, DeviceState, IsNewStore, IsNewDisk, image_of, files_in, IsFresh, Contents, sound_pages, IsStoreOf, AreStoresOfImages, AreWithin, Has, image_name, IsOpening, Geometry, New, Images, Options, Files, AllFiles, HasRoot, Counts, PageCounts, counts_by, StableState, Pick, pairs_view, StoreView, Setup, Devices, closed_world, AreImages, AreDisks, AreOpened, geometry_counts, root_by, AreNew, BeginsWith, IsOpened, Opens, no_files, ◌*◌, page_count, HasNewDevice, IsFreshDevice, Opening}
+use Rattle.jn_image_files.proofs.OneDisk.{root-of, opened-of, fresh-of}
 use Rattle.jn_store.specs.DeviceCalls.{put_calls}
 use Rattle.std.proofs.Math.Path.{fun_ext}
 use Rattle.jn_base.specs.declared.names.LockUnit.{LockUnit}
@@ -41,31 +42,6 @@ images_of device stores q = device_in device (slice_get stores q.0)
 pub images-of : {S : Type 0} (device : S → DeviceState) (stores : List (S × PageCounts)) → AreDevices device stores (images_of device stores)
 unfolding images_of device_in
 images-of device stores n x at = ap (device_in device) at
-
--- ---- the disk of one image
-
-module _ {S : Type 0} (look : S → StoreView) (device : S → DeviceState) (q : ServerNo) (content : Option (List ℕ)) (x : S × PageCounts) (s : IsStoreOf look device q content x) where
-  -- its root is of some epoch
-  pub root-of : HasRoot (image_of s.disk.image.version q (counts_by x.1) s.disk.image.pages)
-  root-of = subst (λ (g : Counts). HasRoot (image_of s.disk.image.version q g s.disk.image.pages)) s.disk.counts (sound_pages s.disk.image q s.disk.is_sound.form s.disk.is_sound.sound).sound.root
-
-  -- where the keeper has the image, the disk is one that a server is opened with
-  pub opened-of : (kept : Option Contents) (name : List ℕ) → Has kept (image_name name q.0) content → IsOpened kept name (counts_by x.1) (files_in (counts_by x.1) s.disk.image.pages) q (device x.0)
-  opened-of kept name has = record {
-    disk = record {
-      image = s.disk.image;
-      is_sound = s.disk.is_sound;
-      counts = s.disk.counts;
-      pages = s.disk.pages;
-      bytes = subst (λ (c : Option (List ℕ)). Has kept (image_name name q.0) c) s.disk.bytes has;
-    };
-    files_are = refl;
-    new = s.disk.new;
-  }
-
-  -- and a restart finds its files there
-  pub fresh-of : look x.0 ≡ pairs_view (device x.0) → IsFresh q (counts_by x.1) root-of.0 (files_in (counts_by x.1) s.disk.image.pages) (pairs_view (device x.0))
-  fresh-of seen = subst (λ (v : StoreView). IsFresh q (counts_by x.1) root-of.0 (files_in (counts_by x.1) s.disk.image.pages) v) seen (s.store.fresh root-of.0 root-of.1 root-of.2)
 
 -- ---- what a run begins with
 

@@ -1,5 +1,6 @@
 -- What a call leaves, by its status.
-use Rattle.jn_run.proofs.Common.{◌≡◌, ℕ, ◌≤◌, ◌<◌, List, length, map, slice_get, Option, Some, None, Result, Ok, Err, refl, sym, ap, subst, false, ◌∙◌, arith, slice_get-map, is_ok, option_map, AllByRecursion, ServerNo, DeviceState, Contents, IsImage, AreClosed, AreWithin, Counts, page_count, counts_by, PageCounts, StableState, stable, Event, EventInRange, IsSchedule, Command, Options, AllFiles, pairs_view, Devices, Moment, AreImages, IsWholeRun, IsLimited, IsPartOfRun, Line, RunFault, course_of, AreLeft, RunsFrom, TookWhole, ◌≢◌, drop, true≢false, OutcomeOf, IsUntouched, Outside, Accepted, AreKept, IsRefusedImage, Keeps, KeepsFirst, LeavesFiles, most_events, Ran, Reads, refused_line, IsWholeReport, IsPart, IsCutShort, SourceState, SinkState, KeeperState, sink_state, ReadsSchedule, Writes, FailsToLoad, BeginsFromImages, words_no_memory, trial_no_memory, done, too_many_events, schedule_refused, schedule_not_written, not_loaded, image_refused, image_not_written, at_limit, not_written, not_saved, no_memory, no_memory_inside, no_memory_saving, Setup, EndsOn, Refuses, IsFirstFault, Run, Trial, Status, IsSaved}
+use Rattle.jn_run.proofs.Common.{◌≡◌, ℕ, ◌≤◌, ◌<◌, List, length, map, slice_get, Option, Some, None, Result, Ok, Err, refl, sym, ap, subst, false, ◌∙◌, arith, slice_get-map, is_ok, option_map, AllByRecursion, ServerNo, DeviceState, Contents, IsImage, AreClosed, AreWithin, Counts, page_count, counts_by, PageCounts, StableState, stable, Event, EventInRange, IsSchedule, Command, Options, AllFiles, pairs_view, Devices, Moment, AreImages, IsWholeRun, IsLimited, IsPartOfRun, Line, RunFault, course_of, AreLeft, RunsFrom, TookWhole, ◌≢◌, drop, true≢false, OutcomeOf, IsUntouched, Outside, Accepted, AreKept, IsRefusedImage, Keeps, KeepsFirst, LeavesFiles, most_events, Ran, Reads, refused_line, IsWholeReport, IsPart, IsCutShort, SourceState, SinkState, KeeperState, sink_state, ReadsSchedule, Writes, KeeperFails, BeginsFromImages, words_no_memory, trial_no_memory, done, too_many_events, schedule_refused, schedule_not_written, not_loaded, image_refused, image_not_written, at_limit, not_written, not_saved, no_memory, no_memory_inside, no_memory_saving, Setup, EndsOn, IsFirstFault, Run, Trial, Node, node_no_memory, Status, IsSaved}
+use Rattle.jn_status.specs.Refusing.{Refuses}
 use Rattle.jn_writing.specs.Calls.{writes_to}
 use Rattle.jn_run.proofs.Told.{fault-is}
 use Rattle.jn_image_files.specs.Saved.{SavedTo}
@@ -8,7 +9,7 @@ use Rattle.jn_image_files.specs.declared.refusal.Refusal.{Refusal}
 use Rattle.jn_between.proofs.Ended.{at-the-end}
 use Rattle.jn_headline.proofs.Joined.{whole-report, part-report}
 use Rattle.jn_headline.specs.Headline.{IsTrueOfBegun, IsOfItsCommits}
-use Rattle.jn_run.specs.declared.status.Status.TheVariants as statuses
+use Rattle.jn_status.specs.declared.status.Status.TheVariants as statuses
 use Rattle.jn_run.specs.declared.running.RunFault.TheVariants as runs
 use Rattle.jn_run.specs.Keeping.{KeptWith}
 use Rattle.jn_run.proofs.Opened.{Opened, get-below, one-files, some-at}
@@ -33,6 +34,7 @@ pub memory-outcome : (asked : Option Command) (before : Outside) → OutcomeOf a
 memory-outcome None before = (untouched before, words_no_memory refl)
 memory-outcome (Some (Run options)) before = no_memory (0, omega arith, record { left = drop-none before.source.left; faults = refl }) refl refl
 memory-outcome (Some (Trial trial)) before = (untouched before, trial_no_memory refl)
+memory-outcome (Some (Node node)) before = node_no_memory refl
 
 -- or for what follows once the schedule was read
 pub memory-ends : (options : Options) (text : List ℕ) (sink sink' : SinkState) (keeper keeper' : KeeperState) → sink' ≡ sink → keeper' ≡ keeper → EndsOn options text sink keeper statuses.Memory sink' keeper'
@@ -50,6 +52,8 @@ line-ends options text line number sink keeper statuses.Image sink' is h = absur
 line-ends options text line number sink keeper statuses.Read sink' is h = absurd cc
 line-ends options text line number sink keeper statuses.Keep sink' is h = absurd cc
 line-ends options text line number sink keeper statuses.Limit sink' is h = absurd cc
+line-ends options text line number sink keeper statuses.Unsettled sink' is h = absurd cc
+line-ends options text line number sink keeper statuses.Frame sink' is h = absurd cc
 
 -- a schedule of too many events
 pub long-ends : (options : Options) (text : List ℕ) (sink : SinkState) (keeper : KeeperState) → (es : List Event) × IsSchedule text es × (most_events < length es) → EndsOn options text sink keeper statuses.Limit sink keeper
@@ -73,9 +77,11 @@ image-ends options text events r sink keeper statuses.Schedule sink' keeper' a i
 image-ends options text events r sink keeper statuses.Read sink' keeper' a is same h = absurd cc
 image-ends options text events r sink keeper statuses.Keep sink' keeper' a is same h = absurd cc
 image-ends options text events r sink keeper statuses.Limit sink' keeper' a is same h = absurd cc
+image-ends options text events r sink keeper statuses.Unsettled sink' keeper' a is same h = absurd cc
+image-ends options text events r sink keeper statuses.Frame sink' keeper' a is same h = absurd cc
 
 -- an image that wasn't loaded
-pub load-ends : (options : Options) (text : List ℕ) (events : List Event) (sink : SinkState) (keeper keeper' : KeeperState) → Accepted text events → FailsToLoad keeper keeper' → BeginsFromImages options
+pub load-ends : (options : Options) (text : List ℕ) (events : List Event) (sink : SinkState) (keeper keeper' : KeeperState) → Accepted text events → KeeperFails keeper keeper' → BeginsFromImages options
     → EndsOn options text sink keeper statuses.Keep sink keeper'
 load-ends options text events sink keeper keeper' a fails from = λ source source' reads. not_loaded from (read-so text events a source source' reads) refl fails
 
@@ -258,6 +264,8 @@ module _ {S K A : Type 0} (device : S → DeviceState) (options : Options) (text
     by (Some name) e statuses.Read k = absurd k
     by (Some name) e statuses.Write k = absurd k
     by (Some name) e statuses.Limit k = absurd k
+    by (Some name) e statuses.Unsettled k = absurd k
+    by (Some name) e statuses.Frame k = absurd k
 
     -- it was done, and then its disks were to be kept
     pub run-kept : (status : Status) → KeptWith device (items_of left) counts options.closing keeper status keeper' → EndsOn options text now keeper status later keeper'

@@ -1,5 +1,6 @@
 -- What a source gave, and how its reading ends.
-use Rattle.jn_run.proofs.Common.{◌≡◌, ◌≢◌, ℕ, List, [], ◌∷◌, ◌++◌, length, drop, option_map, Option, Some, None, Result, Ok, Err, Vec, refl, sym, ◌∙◌, ap, subst, true≢false, is_ok, Global, prepend_known, SourceState, FailsToGive, Gives, GivesSome, HasTooManyBytes, Reads}
+use Rattle.jn_run.proofs.Common.{◌≡◌, ◌≢◌, ℕ, List, [], ◌∷◌, ◌++◌, length, drop, option_map, Option, Some, None, Result, Ok, Err, Vec, refl, sym, ◌∙◌, ap, subst, true≢false, is_ok, Global, prepend_known, SourceState, HasTooManyBytes, Reads}
+use Rattle.jn_run.specs.Source.{FailsToGive, Gives, GivesSome}
 use Rattle.jn_run.specs.Reading.{ReadsAll}
 use Rattle.jn_run.specs.declared.reading.ReadFault.{ReadFault}
 use Rattle.jn_run.specs.declared.reading.ReadFault.TheVariants as reads

@@ -4,9 +4,9 @@ use Rattle.jn_device.specs.Device.{DeviceState}
 use Rattle.jn_host.specs.Outside.{Rose}
 use Rattle.jn_image_files.specs.Saved.{SavedTo}
 use Rattle.jn_recovery.specs.declared.counts.PageCounts.{PageCounts}
-use Rattle.jn_run.specs.Outside.{KeeperState}
-use Rattle.jn_run.specs.declared.status.Status.{Status}
-use Rattle.jn_run.specs.declared.status.Status.TheVariants as statuses
+use Rattle.jn_writing.specs.Outside.{KeeperState}
+use Rattle.jn_status.specs.declared.status.Status.{Status}
+use Rattle.jn_status.specs.declared.status.Status.TheVariants as statuses
 
 -- the stores are kept as images of this name, or the first of them where a save failed or memory ran out
 abbrev pub KeptAs : {S : Type 0} → (S → DeviceState) → List S → List PageCounts → List ℕ → KeeperState → Status → KeeperState → Type 0

@@ -14,9 +14,10 @@ use Rattle.jn_report.specs.Text.{report_text}
 use Rattle.jn_report.specs.declared.line.Line.{Line}
 use Rattle.jn_schedule.specs.declared.Event.{Event}
 use Rattle.jn_run.specs.Outcome.{Accepted, IsCutShort, IsWholeReport, OutcomeOf, RanTrial, TrialToLimit}
-use Rattle.jn_run.specs.Outside.{Outside, Writes, most_bytes}
-use Rattle.jn_run.specs.declared.status.Status.{Status}
-use Rattle.jn_run.specs.declared.status.Status.TheVariants as statuses
+use Rattle.jn_writing.specs.Outside.{NoneFails, Outside, Writes}
+use Rattle.jn_serving.specs.Input.{most_bytes}
+use Rattle.jn_status.specs.declared.status.Status.{Status}
+use Rattle.jn_status.specs.declared.status.Status.TheVariants as statuses
 
 -- ---- what stays as it was
 
@@ -34,12 +35,6 @@ abbrev pub KeeperIsLeftAlone : Type 0
 KeeperIsLeftAlone = (options : Options) (g : Geometry) (before after : Outside) (status : Status) → options.opening ≡ New g → options.closing ≡ None → OutcomeOf (Some (Run options)) before after status → after.keeper ≡ before.keeper
 
 -- ---- what can be done is done
-
--- no count rose
-pub record NoneFails (before after : Outside) : Type 0 where
-  pub source : Rose before.source.faults after.source.faults → ⊥
-  pub sink : Rose before.sink.faults after.sink.faults → ⊥
-  pub keeper : Rose before.keeper.faults after.keeper.faults → ⊥
 
 -- where the run is to begin with images, the keeper tells what it has, and has a sound one of each server
 abbrev pub HasImages : Opening → ℕ → Option Contents → Type 0

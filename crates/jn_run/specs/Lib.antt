@@ -1,11 +1,9 @@
-pub mod Codes
 pub mod Keeping
 pub mod Laws
 pub mod Opening
 pub mod Outcome
-pub mod Outside
 pub mod Parts
 pub mod Reading
 pub mod Running
-pub mod Seen
+pub mod Source
 pub mod Trial

@@ -18,7 +18,7 @@ use Rattle.jn_image_files.specs.Examined.{IsFirstRefused}
 use Rattle.jn_image_files.specs.Kept.{Has, IsSaved, image_name, OthersStay}
 use Rattle.jn_image_files.specs.Texts.{refusal_text}
 use Rattle.jn_options.specs.declared.asked.Command.{Command}
-use Rattle.jn_options.specs.declared.asked.Command.TheVariants.{Run, Trial}
+use Rattle.jn_options.specs.declared.asked.Command.TheVariants.{Run, Trial, Node}
 use Rattle.jn_options.specs.declared.asked.Geometry.{Geometry}
 use Rattle.jn_options.specs.declared.asked.Opening.{Opening}
 use Rattle.jn_options.specs.declared.asked.Opening.TheVariants.{New, Images}
@@ -36,9 +36,13 @@ use Rattle.jn_machine.specs.Devices.{Devices}
 use Rattle.jn_machine.specs.Tasks.{CutShort}
 use Rattle.jn_machine.specs.Whole.{IsWhole as IsWholeRun, IsPartOfRun}
 use Rattle.jn_summary.specs.Summary.{summary_text}
-use Rattle.jn_run.specs.Outside.{SourceState, SinkState, KeeperState, Outside, IsOpened, FailsToLoad, most_bytes, IsText, Gives, GivesSome, FailsToGive, Writes, WritesFront, FailsToWrite}
-use Rattle.jn_run.specs.declared.status.Status.{Status}
-use Rattle.jn_run.specs.declared.status.Status.TheVariants.{Done, Words, Schedule, Image, Read, Write, Keep, Limit, Memory}
+use Rattle.jn_node_run.specs.Outcome.{NodeEnds}
+use Rattle.jn_writing.specs.Outside.{SourceState, SinkState, KeeperState, Outside, KeeperFails, Writes, WritesFront, FailsToWrite}
+use Rattle.jn_image_files.specs.Opened.{IsOpened}
+use Rattle.jn_serving.specs.Input.{most_bytes, IsText}
+use Rattle.jn_run.specs.Source.{Gives, GivesSome, FailsToGive}
+use Rattle.jn_status.specs.declared.status.Status.{Status}
+use Rattle.jn_status.specs.declared.status.Status.TheVariants.{Done, Words, Schedule, Image, Read, Write, Keep, Limit, Memory}
 
 -- ---- what a run begins with
 
@@ -217,7 +221,7 @@ pub data RunEnds (options : Options) (before after : Outside) : Status → Type 
   schedule_refused : RefusedSchedule before after Writes → after.keeper ≡ before.keeper → RunEnds options before after Schedule
   schedule_not_written : RefusedSchedule before after FailsToWrite → after.keeper ≡ before.keeper → RunEnds options before after Write
   -- an image isn't loaded, or is refused
-  not_loaded : BeginsFromImages options → ReadsSchedule before.source after.source → after.sink ≡ before.sink → FailsToLoad before.keeper after.keeper → RunEnds options before after Keep
+  not_loaded : BeginsFromImages options → ReadsSchedule before.source after.source → after.sink ≡ before.sink → KeeperFails before.keeper after.keeper → RunEnds options before after Keep
   image_refused : RefusedImage options before after Writes → after.keeper ≡ before.keeper → RunEnds options before after Image
   image_not_written : RefusedImage options before after FailsToWrite → after.keeper ≡ before.keeper → RunEnds options before after Write
   -- the run is cut short by a limit, or its report isn't written, or its disks aren't kept
@@ -264,3 +268,4 @@ abbrev pub OutcomeOf : Option Command → Outside → Outside → Status → Typ
 OutcomeOf None before after status = IsUntouched before after × WordsEnd before.sink after.sink status
 OutcomeOf (Some (Run options)) before after status = RunEnds options before after status
 OutcomeOf (Some (Trial trial)) before after status = IsUntouched before after × TrialEnds trial before.keeper.kept before.sink after.sink status
+OutcomeOf (Some (Node node)) before after status = NodeEnds node before after status

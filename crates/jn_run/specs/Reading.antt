@@ -4,7 +4,8 @@ use Rattle.std.specs.declared.alloc.Global.{Global}
 use Rattle.jn_run.specs.declared.reading.ReadFault.{ReadFault}
 use Rattle.jn_run.specs.declared.reading.ReadFault.TheVariants as reads
 use Rattle.jn_run.specs.Outcome.{HasTooManyBytes, Reads}
-use Rattle.jn_run.specs.Outside.{SourceState, FailsToGive, GivesSome}
+use Rattle.jn_writing.specs.Outside.{SourceState}
+use Rattle.jn_run.specs.Source.{FailsToGive, GivesSome}
 
 -- a source was read to its end, or wasn't, by why
 pub record ReadsAll (before : SourceState) (answer : Result (Vec ℕ Global) ReadFault) (after : SourceState) : Type 0 where

@@ -3,16 +3,16 @@
 ghost use Rattle.std.specs.Prelude.{◌≡◌, ◌≤◌, length};
 ghost use Rattle.jn_image_files.specs.Opened.{AreClosed};
 ghost use Rattle.jn_run.specs.Keeping.{KeptAs, KeptWith};
-ghost use Rattle.jn_run.specs.Seen.{keeper_state};
+ghost use Rattle.jn_writing.specs.Outside.{keeper_state};
 
 use crate::running::Disks;
-use crate::status::Status;
 use jn_host::{KeepFailure, Keeper};
 use jn_image_files::save_images;
 use jn_intent::PageCounts;
 use jn_memdisk::MemDisk;
 use jn_options::Options;
 use jn_stable::Pairs;
+use jn_status::Status;
 use jn_store::Powered;
 use std::alloc::Global;
 

@@ -11,10 +11,10 @@ ghost use Rattle.jn_schedule.specs.Ranges.{EventInRange};
 ghost use Rattle.jn_world.specs.Standing.{AreStores};
 ghost use Rattle.jn_run.specs.Opening.{AreOpened};
 ghost use Rattle.jn_run.specs.Outcome.{OutcomeOf, RunEnds, TrialEnds, WordsEnd, refused_line};
-ghost use Rattle.jn_run.specs.Outside.{outside};
-ghost use Rattle.jn_run.specs.Seen.{sink_state, keeper_state};
-ghost use Rattle.jn_run.specs.Parts.{EndsOn, Refuses};
-ghost use Rattle.jn_run.specs.declared.status.Status.TheVariants as statuses;
+ghost use Rattle.jn_writing.specs.Outside.{outside, sink_state, keeper_state};
+ghost use Rattle.jn_run.specs.Parts.{EndsOn};
+ghost use Rattle.jn_status.specs.Refusing.{Refuses};
+ghost use Rattle.jn_status.specs.declared.status.Status.TheVariants as statuses;
 
 use jn_host::{Failed, Keeper, Sink, Source};
 use std::alloc::Global;
@@ -24,15 +24,16 @@ mod laws;
 mod opening;
 mod reading;
 mod running;
-mod status;
 mod trial;
 
-use jn_image_files::Refusal;
 use jn_intent::PageCounts;
 use jn_memdisk::MemDisk;
+use jn_node_run::serve;
 use jn_options::{Command, Options, Trial, read_command};
 use jn_schedule::{Event, ParseFault, parse_up_to};
 use jn_stable::Pairs;
+pub use jn_status::Status;
+use jn_status::refuse_image;
 use jn_store::{Powered, StableStore};
 use jn_text::push_number;
 use jn_writing::{Writer, write_all};
@@ -44,7 +45,6 @@ pub use laws::{
 use opening::{OpenFault, counts_of, open_stores};
 use reading::{ReadFault, read_all};
 use running::{Disks, RunFault, run_from};
-pub use status::Status;
 use std::alloc::AllocError;
 use trial::sum_up;
 
@@ -66,6 +66,10 @@ const MOST_EVENTS: usize = 100_000;
 /// A trial makes its schedule of the seed, runs it on two servers with new disks, and gives its whole report in one line, which is
 /// written once the run is done. It reads no source and keeps no disks, and writes nothing where a limit is reached or memory runs
 /// out.
+///
+/// With `node` and a server's number, one server comes up on its image and serves the frames of the source: what it sends to others by
+/// each frame is written before the next one is served. At the end its disk is saved under another name, unless others wait for it.
+/// A frame that is none, and a server that others wait for, have a status of their own.
 pub fn run<S: Source, K: Sink, I: Keeper>(
     alloc: Global,
     words: &[String],
@@ -84,6 +88,7 @@ pub fn run<S: Source, K: Sink, I: Keeper>(
     match asked {
         Some(Command::Run(options)) => run_source(alloc, &options, source, sink, images),
         Some(Command::Trial(trial)) => run_trial(alloc, &trial, sink),
+        Some(Command::Node(node)) => serve(alloc, &node, source, sink, images),
         None => refuse_words(sink),
     }
 }
@@ -219,19 +224,6 @@ fn refuse_line<K: Sink>(alloc: Global, line: usize, number: u8, sink: &mut K) ->
     match line_text(alloc, line, number) {
         Ok(text) => match write_all(sink, &text) {
             Ok(()) => Status::Schedule,
-            Err(Failed) => Status::Write,
-        },
-        Err(_refused) => Status::Memory,
-    }
-}
-
-/// Says which image is refused, and why.
-fn refuse_image<K: Sink>(alloc: Global, refusal: Refusal, sink: &mut K) -> Status
-    ensures refused { Refuses (refusal_text refusal) statuses.Image (sink_state K.taken K.faults sink.old) result (sink_state K.taken K.faults sink.new) }
-{
-    match refusal.text(alloc) {
-        Ok(text) => match write_all(sink, &text) {
-            Ok(()) => Status::Image,
             Err(Failed) => Status::Write,
         },
         Err(_refused) => Status::Memory,

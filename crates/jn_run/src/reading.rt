@@ -1,15 +1,13 @@
 //! The bytes that come in.
 
 ghost use Rattle.std.specs.Prelude.{◌≡◌};
-ghost use Rattle.jn_run.specs.Seen.{source_state};
+ghost use Rattle.jn_writing.specs.Outside.{source_state};
 ghost use Rattle.jn_run.specs.Reading.{ReadsAll};
 ghost use Rattle.jn_run.specs.declared.reading.ReadFault.TheVariants as reads;
 
 use jn_host::{Failed, Source};
+use jn_serving::MOST_BYTES;
 use std::alloc::{AllocError, Global};
-
-/// The longest schedule, in bytes.
-pub const MOST_BYTES: usize = 4_194_304;
 
 /// How many bytes are asked of the source at a time.
 const PIECE: usize = 4096;

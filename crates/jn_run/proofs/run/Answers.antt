@@ -22,6 +22,16 @@ returns-in-Some-Trial g c =
           c.run_trial.result) (sym e) (record { source = refl; keeper = refl }, c.run_trial.ensures.outcome (g.I.Keeper.kept c.args.images.now));
     }
 
+pub returns-in-Some-Node : goal.returns-in-Some-Node
+returns-in-Some-Node g c =
+    let e = sym c.in-Ok.ensures.exact ∙ c.in-Some-Node.is ∙ ap (λ (a : Command). Some a) c.in-Some-Node.field-0-is in
+    record {
+      outcome = subst (λ (a : Option Command). OutcomeOf a
+          (outside g.S.Source.left g.S.Source.faults g.K.Sink.taken g.K.Sink.faults g.I.Keeper.kept g.I.Keeper.faults c.args.source.now c.args.sink.now c.args.images.now)
+          (outside g.S.Source.left g.S.Source.faults g.K.Sink.taken g.K.Sink.faults g.I.Keeper.kept g.I.Keeper.faults c.serve.new.source c.serve.new.sink c.serve.new.keeper)
+          c.serve.result) (sym e) c.serve.ensures.outcome;
+    }
+
 pub returns-in-Err : goal.returns-in-Err
 returns-in-Err g c = record {
   outcome = memory-outcome (command_of c.args.words.now)

@@ -1,5 +1,4 @@
-use Rattle.jn_image_files.proofs.Common.{List, refl, sym, subst, Half, AreSound, HasPages, IsStoreOfPages, image_counts}
-use Rattle.jn_image.proofs.SoundPages.{sound_pages}
+use Rattle.jn_image_files.proofs.Common.{List, refl, sym, subst, Half, AreSound, HasPages, IsStoreOfPages, image_counts, sound_pages}
 use Rattle.jn_image_files.proofs.Disks.{look, device}
 use Rattle.jn_image_files.proofs.examining.examine_image.Goals as goal
 

@@ -14,4 +14,5 @@ returns c =
     let flag : app_of c.disable_help_flag.result ≡ without_flag (new_app (codes "juniper")) = ap app_of_fields c.disable_help_flag.ensures ∙ ap without_flag c.new.ensures.app in
     let bare : app_of c.disable_help_subcommand.result ≡ without_help (new_app (codes "juniper")) = ap app_of_fields c.disable_help_subcommand.ensures ∙ ap without_command flag in
     let first = c.in_ok-subcommand.ensures.shape c.in_ok-run.ensures.local ∙ ap₂ with_subcommand bare (ap (λ (a : App). a.top) c.in_ok-run.ensures.app) in
-    IfOk-weaker c.subcommand-2.result _ _ (λ command adds. adds.shape c.in_ok-trial.ensures.local ∙ ap₂ with_subcommand first (ap (λ (a : App). a.top) c.in_ok-trial.ensures.app)) c.subcommand-2.ensures
+    let second = c.in_ok-subcommand-2.ensures.shape c.in_ok-trial.ensures.local ∙ ap₂ with_subcommand first (ap (λ (a : App). a.top) c.in_ok-trial.ensures.app) in
+    IfOk-weaker c.subcommand-3.result _ _ (λ command adds. adds.shape c.in_ok-node.ensures.local ∙ ap₂ with_subcommand second (ap (λ (a : App). a.top) c.in_ok-node.ensures.app)) c.subcommand-3.ensures

@@ -1,6 +1,6 @@
-use Rattle.jn_options.proofs.Common.{refl, digits, clap_on_literals, program_app, run_app, trial_app}
+use Rattle.jn_options.proofs.Common.{refl, digits, clap_on_literals, program_app, run_app, trial_app, node_app}
 use Rattle.jn_options.proofs.laws.names_are_read.Goals as goal
 
 pub returns : goal.returns
-unfolding clap_on_literals program_app run_app trial_app digits
+unfolding clap_on_literals program_app run_app trial_app node_app digits
 returns c = record { both = refl; longest = refl }

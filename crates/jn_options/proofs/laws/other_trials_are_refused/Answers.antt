@@ -1,8 +1,8 @@
-use Rattle.jn_options.proofs.Common.{refl, digits, clap_on_literals, program_app, run_app, trial_app}
+use Rattle.jn_options.proofs.Common.{refl, digits, clap_on_literals, program_app, run_app, trial_app, node_app}
 use Rattle.jn_options.proofs.laws.other_trials_are_refused.Goals as goal
 
 pub returns : goal.returns
-unfolding clap_on_literals program_app run_app trial_app digits
+unfolding clap_on_literals program_app run_app trial_app node_app digits
 returns c = record {
   no_events = refl;
   many_events = refl;

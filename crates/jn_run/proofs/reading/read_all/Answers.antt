@@ -66,7 +66,7 @@ returns g c =
     record {
       read = long-so before after _ refl (record {
         many = longer before.left after.left bytes c.loop-piece.invariant.given (omega (arith, many));
-        gave = subst (λ (n : ℕ). Rattle.jn_run.specs.Outside.Gives n before after) many gave;
+        gave = subst (λ (n : ℕ). Rattle.jn_run.specs.Source.Gives n before after) many gave;
       });
     }
   where

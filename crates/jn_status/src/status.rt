@@ -1,7 +1,7 @@
 //! How a call of the program ends.
 
 ghost use Rattle.std.specs.Prelude.{◌≡◌};
-ghost use Rattle.jn_run.specs.Codes.{code_of};
+ghost use Rattle.jn_status.specs.Codes.{code_of};
 
 /// How a call of the program ended, each with the exit status of the process.
 #[derive(Clone, Copy, Debug, PartialEq, Eq)]
@@ -24,6 +24,10 @@ pub enum Status {
     Limit,
     /// 9: memory ran out.
     Memory,
+    /// 10: others wait for what a server has: a work is prepared, or a transaction has a flag.
+    Unsettled,
+    /// 11: the bytes aren't frames.
+    Frame,
 }
 
 impl Status {
@@ -41,6 +45,8 @@ impl Status {
             Status::Keep => 7,
             Status::Limit => 8,
             Status::Memory => 9,
+            Status::Unsettled => 10,
+            Status::Frame => 11,
         }
     }
 }

@@ -1,7 +1,7 @@
 -- The exit status of each outcome.
 use Rattle.std.specs.Prelude.{ℕ}
-use Rattle.jn_run.specs.declared.status.Status.{Status}
-use Rattle.jn_run.specs.declared.status.Status.TheVariants.{Done, Words, Schedule, Image, Read, Write, Keep, Limit, Memory}
+use Rattle.jn_status.specs.declared.status.Status.{Status}
+use Rattle.jn_status.specs.declared.status.Status.TheVariants.{Done, Words, Schedule, Image, Read, Write, Keep, Limit, Memory, Unsettled, Frame}
 
 abbrev pub code_of : Status → ℕ
 code_of Done = 0
@@ -13,3 +13,5 @@ code_of Write = 6
 code_of Keep = 7
 code_of Limit = 8
 code_of Memory = 9
+code_of Unsettled = 10
+code_of Frame = 11

@@ -1,0 +1,4 @@
+mod Common
+pub mod Keeping
+pub mod Own
+pub mod Ends
