@@ -1,0 +1,40 @@
+-- Two disks of the image that is kept under one name are of one image, so that servers come up on them alike.
+use Rattle.jn_node_laws.proofs.Common.{◌≡◌, ℕ, true, List, Option, Some, None, sym, ◌∙◌, ap, subst, true≢false, ServerNo, DeviceState, AreSound, HasPages, Contents, image_counts, image_name, one_image, found_on, Counts, Pick, pairs_view, Running, IsOpen, AreAlike, ImagesFixServers}
+use Rattle.std.specs.Prelude.{is_some}
+use Rattle.jn_image.specs.declared.image.Image.{Image}
+use Rattle.jn_image.proofs.SoundPages.{sound_pages}
+use Rattle.jn_image_files.specs.Opened.{IsOpened}
+use Rattle.jn_order.specs.Files.{Files}
+use Rattle.jn_page_state.specs.Pages as stands
+use Rattle.jn_node_laws.proofs.Pages.{pages-are, up-alike}
+
+-- the images of two disks
+pub one-of-two : (kept : Option Contents) (name : List ℕ) (s : ServerNo) (g h : Counts) (files more : Files) (d e : DeviceState) → is_some kept ≡ true
+    → (a : IsOpened kept name g files s d) (b : IsOpened kept name h more s e) → b.disk.image ≡ a.disk.image
+one-of-two None name s g h files more d e told a b = absurd (true≢false (sym told))
+one-of-two (Some holds) name s g h files more d e told a b = one_image s s (holds (image_name name s.0)) b.disk.image a.disk.image b.disk.is_sound b.disk.bytes a.disk.is_sound a.disk.bytes
+
+module _ (kept : Option Contents) (name : List ℕ) (s : ServerNo) (g h : Counts) (files more : Files) (d e : DeviceState) (told : is_some kept ≡ true) (a : IsOpened kept name g files s d)
+    (b : IsOpened kept name h more s e) where
+  same-image : b.disk.image ≡ a.disk.image
+  same-image = one-of-two kept name s g h files more d e told a b
+
+  pub same-counts : h ≡ g
+  same-counts = sym b.disk.counts ∙ ap image_counts same-image ∙ a.disk.counts
+
+  its-pages : HasPages a.disk.image.pages e
+  its-pages = subst (λ (m : Image). HasPages m.pages e) same-image b.disk.pages
+
+  sound : AreSound a.disk.image.version s g a.disk.image.pages
+  sound = subst (λ (k : Counts). AreSound a.disk.image.version s k a.disk.image.pages) a.disk.counts (sound_pages a.disk.image s a.disk.is_sound.form a.disk.is_sound.sound)
+
+  pub servers-alike : (x y : Running) → IsOpen s g (pairs_view d) x → IsOpen s h (pairs_view e) y → AreAlike s g x y
+  servers-alike x y up over = up-alike a.disk.image.version s g a.disk.image.pages sound d e a.disk.pages its-pages x y up (subst (λ (k : Counts). IsOpen s k (pairs_view e) y) same-counts over)
+
+  -- what is found on both
+  pub same-found : (c k : Pick) → found_on h (pairs_view e) k ≡ found_on g (pairs_view d) c
+  same-found c k = ap (λ (n : Counts). found_on n (pairs_view e) k) same-counts
+      ∙ ap (stands.state_of g) (pages-are a.disk.image.version s g a.disk.image.pages sound e its-pages k ∙ sym (pages-are a.disk.image.version s g a.disk.image.pages sound d a.disk.pages c))
+
+pub images-fix : ImagesFixServers
+images-fix kept name s g h files more d e x y told a b up over = (same-counts kept name s g h files more d e told a b, servers-alike kept name s g h files more d e told a b x y up over)
