@@ -1,4 +1,12 @@
-"""Schedules that bench/whole-file runs, as lists of lines."""
+"""Loads of bench/whole-file, bench/frames and bench/node: schedules as lists of lines, and frames of which clients and servers send a stream to server 0."""
+
+import os
+import sys
+from itertools import count, zip_longest
+
+sys.path.insert(0, os.path.join(os.path.dirname(os.path.dirname(os.path.realpath(__file__))), "tools"))
+from forms import MOST_BYTES
+from wire import BLOCK_BYTES, Frame, Name, Unit, encode
 
 BLOCKS, INTENTIONS = 2520, 24
 
@@ -118,3 +126,122 @@ def many_files(files):
     for file in range(0, files, 5):
         out += transaction([f"write 0 {file} {it} {it + 1:02x}" for it in range(8)])
     return [*out, "show 0", "crash 0", "restart 0", "scrub 0", "show 0"]
+
+
+# ---- sessions, which are a schedule or frames
+
+CLIENTS = 8
+
+
+def session(client, transactions):
+    """Gives the commands of a client that does so many transactions, each of 1 to 24 writes to 12 blocks of a file of its own."""
+    draw, _ = drawing(client)
+    for number in range(transactions):
+        yield from ("begin 0", "open 0", *[f"create 0 {client}"] * (number == 0))
+        for _ in range(1 + draw(INTENTIONS)):
+            yield f"write 0 {client} {draw(12)} {1 + draw(255):02x}"
+        yield "end"
+
+
+def turns(transactions):
+    """Gives turns of eight clients that do so many transactions each: a command of each client that has one, behind its number."""
+    for turn in zip_longest(*(session(it, transactions) for it in range(1, CLIENTS + 1))):
+        yield [(client, command) for client, command in enumerate(turn, 1) if command]
+
+
+def lines_of(turns):
+    """Returns such turns as events. All is settled behind each turn, and behind each end, so that the next one finds records and pages."""
+    out = []
+    for turn in turns:
+        for client, command in turn:
+            out += [f"c{client} {command}"] + ["settle"] * (command == "end")
+        out.append("settle")
+    return out
+
+
+class Sender:
+    """A client that knows beforehand what server 0 answers."""
+
+    def __init__(self, client):
+        self.client = client
+        self.request = self.last = 0
+        self.tid = self.work = None
+
+    def frame(self, kind, *fields):
+        return Frame(f"c{self.client}", "s0", kind, (self.client, *fields))
+
+    def frames(self, command, names):
+        """Returns the frames of a command. Names of transactions and of works are given in the order in which they are asked for."""
+        kind, *words = command.split()
+        self.request += 1
+        if kind == "begin":
+            self.tid = next(names)
+            return [self.frame("begin", self.request)]
+        if kind == "open":
+            self.work, self.last = next(names), 0
+            return [self.frame("open", self.request, self.tid)]
+        if kind == "end":
+            return [self.frame("end", self.request, self.tid, (self.work,)), self.frame("thanks", self.tid)]
+        self.last += 1
+        _, file, *block = words
+        data = (int(block[0]), bytes.fromhex(block[1]).ljust(BLOCK_BYTES, b"\0")) if kind == "write" else ()
+        return [self.frame("op", self.request, self.work, self.last, (kind, int(file), *data))]
+
+
+def frames_of(turns, epoch):
+    """Gives such turns as frames to server 0, which is in this epoch and has given no name. An outcome is thanked for at once."""
+    names, senders = (Name(0, epoch, it) for it in count()), [Sender(it) for it in range(CLIENTS + 1)]
+    for turn in turns:
+        for client, command in turn:
+            yield from senders[client].frames(command, names)
+
+
+# ---- frames
+
+def stream_of(frames):
+    """Returns as many bytes of frames as a stream may have."""
+    out, size = [], 0
+    for it in frames:
+        data = encode(it)
+        size += len(data)
+        if size > MOST_BYTES:
+            break
+        out.append(data)
+    return b"".join(out)
+
+
+def any_frames():
+    """Gives frames of each kind to server 0, in turn, that bring no block."""
+    draw, _ = drawing(15)
+
+    def name():
+        return Name(draw(8), draw(9), draw(2**16))
+
+    while True:
+        client, request, server = 1 + draw(8), draw(2**20), f"s{draw(8)}"
+        for op in (("create", draw(99)), ("remove", draw(99)), ("cut", draw(99), draw(BLOCKS)), ("read", draw(99), draw(BLOCKS))):
+            yield Frame(f"c{client}", "s0", "op", (client, request, name(), draw(99), op))
+        yield Frame(f"c{client}", "s0", "begin", (client, request))
+        yield Frame(f"c{client}", "s0", "open", (client, request, name()))
+        for kind in ("end", "abort"):
+            yield Frame(f"c{client}", "s0", kind, (client, request, name(), tuple(name() for _ in range(draw(3)))))
+        yield Frame(f"c{client}", "s0", "thanks", (client, name()))
+        yield Frame(server, "s0", "prepare", (name(), client, name()))
+        for kind in ("commit", "drop", "done", "inquire"):
+            yield Frame(server, "s0", kind, (name(), name()))
+        for vote in (("ready",), ("waiting", Unit(draw(99)), name()), ("broken", Unit(draw(99), draw(BLOCKS)), name()), ("lost", 2, 3), ("full", 31, 0, 1)):
+            yield Frame(server, "s0", "vote", (name(), name(), vote))
+        yield Frame(server, "s0", "nudge")
+        yield Frame(server, "s0", "timeout", (name(),))
+
+
+def writing_frames():
+    """Gives frames to server 0, three of four of which bring a block."""
+    draw, _ = drawing(16)
+    frames = any_frames()
+    while True:
+        yield next(frames)
+        for _ in range(3):
+            client = 1 + draw(8)
+            op = ("write", draw(99), draw(BLOCKS), bytes([1 + draw(255)]) * BLOCK_BYTES)
+            yield Frame(f"c{client}", "s0", "op", (client, draw(2**20), Name(0, 3, draw(99)), draw(99), op))

@@ -56,6 +56,20 @@ fn read(alloc: Global, first: &[u8], second: &[u8], out: &mut Vec<Framed>) -> Re
 }
 
 #[test]
+fn half_a_frame_is_at_fault(rt: HostRuntime) -> Result<(), Fail> {
+    let half = WireError::Fault(WireFault { at: 0, number: 1 });
+    let mut out = Vec::new(rt.alloc());
+    for at in 0..11usize {
+        assert_eq!(rt;
+            read(rt.alloc(), &WRITTEN[..at], &WRITTEN[at..11], &mut out),
+            Err(half)
+        );
+    }
+    assert_eq!(rt; out.len(), 0);
+    Ok(())
+}
+
+#[test]
 fn reads_a_stream_in_pieces(rt: HostRuntime) -> Result<(), Fail> {
     let unknown = WireError::Fault(WireFault { at: 19, number: 4 });
     let cut_off = WireError::Fault(WireFault { at: 12, number: 1 });
