@@ -13,7 +13,7 @@ use Rattle.jn_recovery.specs.Loading.{IsLoaded}
 use Rattle.jn_recovery.specs.declared.counts.PageCounts.{PageCounts}
 use Rattle.jn_recovery.specs.declared.load.Found.{Found}
 use Rattle.jn_rows.specs.Stable.{StableState}
-use Rattle.jn_run.proofs.Opened.{fresh-of, root-of}
+use Rattle.jn_image_files.proofs.OneDisk.{fresh-of, root-of}
 use Rattle.jn_run.proofs.Stores.{device, look}
 use Rattle.jn_storage.specs.Calls.{state}
 use Rattle.jn_storage.specs.Storage.{StorageView}
