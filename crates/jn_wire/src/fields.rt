@@ -77,13 +77,10 @@ pub fn u32_at(bytes: &[u8]) -> Result<(u32, &[u8]), ReadFault>
 pub fn content(alloc: Global, bytes: &[u8]) -> Result<(BlockContent, &[u8]), ReadFault>
     ensures { Gives (λ r. (r.0, r.1.now)) result (content bytes.now) }
 {
-    if bytes.len() < 448 {
+    let Some((block, rest)) = bytes.split_first_chunk::<448>() else {
         return Err(ReadFault::Wrong(WRONG_LENGTH));
-    }
-    let (front, rest) = bytes.split_at(448);
-    let mut block = [0; 448];
-    block.copy_from_slice(front);
-    Ok((BlockContent::from_block(alloc, &block)?, rest))
+    };
+    Ok((BlockContent::from_block(alloc, block)?, rest))
 }
 
 /// A client, 1 to 8.

@@ -41,10 +41,14 @@ pub fn put_two(out: &mut Vec<u8>, first: u32, second: u32) -> Result<(), AllocEr
     put_u32(out, second)
 }
 
-/// The 448 bytes of a block.
+/// The 448 bytes of a block, which are copied once where it doesn't end in zeros.
 pub fn put_content(out: &mut Vec<u8>, content: &BlockContent) -> Result<(), AllocError>
     ensures { Appends (content.now) 448 out.old.items result out.new.items }
 {
+    let first = content.first_bytes();
+    if first.len() == 448 {
+        return out.extend_from_slice(first);
+    }
     out.extend_from_slice(&content.to_block())
 }
 

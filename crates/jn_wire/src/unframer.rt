@@ -251,15 +251,21 @@ impl Unfinished {
     }
 }
 
-/// Holds more bytes, until there are so many, and answers those behind them.
+/// Holds more bytes, until there are so many, and answers those behind them. One byte alone is pushed, which takes less
+/// than a copy.
 fn hold<'a>(held: &mut Vec<u8>, size: usize, piece: &'a [u8]) -> Result<&'a [u8], AllocError>
     ensures held { IfOk result (λ _. held.new.items ≡ held.old.items ++ take (size - length held.old.items) piece.now) }
     ensures rest { IfOk result (λ rest. rest.now ≡ drop (size - length held.old.items) piece.now) }
     ensures err { OnErr result (held.new.items ≡ held.old.items) }
 {
-    let wanted = size.saturating_sub(held.len());
-    let (more, rest) = piece.split_at(min(wanted, piece.len()));
-    held.extend_from_slice(more)?;
+    if size <= held.len() {
+        return Ok(piece);
+    }
+    let (more, rest) = piece.split_at(min(size - held.len(), piece.len()));
+    match more {
+        [byte] => held.push(*byte)?,
+        _ => held.extend_from_slice(more)?,
+    }
     Ok(rest)
 }
 
