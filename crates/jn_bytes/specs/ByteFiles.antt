@@ -5,7 +5,8 @@ use Rattle.byteorder.specs.Endian.{big_bytes, big_number}
 use Rattle.jn_base.specs.declared.names.FileNo.{FileNo}
 use Rattle.jn_base.specs.declared.names.LockUnit.TheVariants.{Block}
 use Rattle.jn_order.specs.Files.{Files, or_else, zeros}
-use Rattle.jn_bytes.specs.Limits.{block_size, most_blocks, most_bytes}
+use Rattle.jn_bytes.specs.Limits.{block_size, most_bytes}
+use Rattle.jn_base.specs.Limits.{most_blocks}
 
 -- block 0 of a file with so many bytes: "JBYT", their number, zeros
 unfoldable pub length_block : ℕ → List ℕ

@@ -11,7 +11,8 @@ use Rattle.jn_bytes.specs.declared.stage.Stage.{Stage}
 use Rattle.jn_bytes.specs.declared.stage.Stage.TheVariants as stages
 use Rattle.jn_bytes.specs.declared.stage.Turn.{Turn}
 use Rattle.jn_bytes.specs.declared.stage.Turn.TheVariants.{Sends, Over}
-use Rattle.jn_bytes.specs.Limits.{block_size, most_blocks, most_bytes}
+use Rattle.jn_bytes.specs.Limits.{block_size, most_bytes}
+use Rattle.jn_base.specs.Limits.{most_blocks}
 use Rattle.jn_bytes.specs.Calls.{file_of_call}
 use Rattle.jn_bytes.specs.Turns.{second_part}
 

@@ -1,7 +1,8 @@
 //! The turns of a read.
 
 ghost use Rattle.std.specs.Prelude.{◌≡◌, ◌≤◌, ◌<◌, ◌+◌, ◌-◌, ◌++◌, drop, take, IfOk, OnErr};
-ghost use Rattle.jn_bytes.specs.Limits.{block_size, most_blocks, most_bytes};
+ghost use Rattle.jn_bytes.specs.Limits.{block_size, most_bytes};
+ghost use Rattle.jn_base.specs.Limits.{most_blocks};
 ghost use Rattle.jn_bytes.specs.Turns.{read_from, read_of};
 
 use crate::byte_string::ByteString;

@@ -18,7 +18,7 @@ pub use Rattle.jn_rows.specs.declared.coordinator.Committed.{Committed as Commit
 pub use Rattle.jn_rows.specs.declared.coordinator.Voting.{Voting as Ballot}
 pub use Rattle.jn_rows.specs.Stable.{Change, DropFlag, StableState, made_by, made_all, left_of, AddReady, MarkGoing, CarryOut, RemoveWork, AddFlag, FlagState, flag_state, Changed}
 pub use Rattle.jn_rows.specs.Outcomes.{RowOutcome, Sent, ignored, sends}
-pub use Rattle.jn_rows.specs.Coordinator.{CoordinatorTable, transaction_at, is_work, with_work, all_in, drops, commits, prepares, committed_to, aborted_to, abort_row, commit_row, not_known, after_closing, changes_of_closing, seen_now, begun_by, begin_new, begin_again, begin_row, end_promised, end_stage, end_row, abort_stage, abort_request, forget_row, thanks_stage, thanks_row, told_stage, inquire_row, counted_vote, vote_stage, vote_row, done_stage, done_row, coordinator_row, is_voting, promised, closed, thanked_changes, name_from, without, thanked, with_stage, close_clients_row, all_thanked, flags_of_thanked, restored_transaction, restored_transactions, seen_in_flag, seen_in_flags, noted, dropped}
+pub use Rattle.jn_rows.specs.Coordinator.{CoordinatorTable, transaction_at, is_work, with_work, all_in, drops, commits, prepares, committed_to, aborted_to, abort_row, commit_row, not_known, after_closing, changes_of_closing, seen_now, begun_by, begin_new, begin_again, begin_row, end_promised, end_stage, end_row, abort_stage, abort_request, forget_row, thanks_stage, thanks_row, told_stage, inquire_row, counted_vote, vote_stage, vote_row, done_stage, done_row, coordinator_row, is_voting, promised, closed, thanked_changes, name_from, without, thanked, is_committed, with_stage, close_clients_row, all_thanked, flags_of_thanked, restored_transaction, restored_transactions, seen_in_flag, seen_in_flags, noted, dropped}
 pub use Rattle.jn_coord.specs.Calls.{committed_at, committed_as, ballot_fits, ballots_fit, FitsStorage, IsDone, flag_told, Releases, FitsWith, stage_in, Reaches, IsStopped, Does, IsPromised, is_memory, ballot_row, spare_of, works_in, voting_in, ballot_in, ballot_of, waiting_row, CountsRecords}
 pub use Rattle.jn_base.specs.declared.names.RequestNo.{RequestNo}
 pub use Rattle.std.proofs.Math.Path.{fun_ext}
@@ -33,7 +33,7 @@ pub use Rattle.jn_transactions.specs.Listed.{name_below, restored_from, inserted
 pub use Rattle.jn_coord.specs.Remembered.{Remembered, table_of, seen_by, are_above, rises}
 pub use Rattle.jn_transactions.specs.Telling.{added, Longer, Adds}
 pub use Rattle.jn_base.specs.declared.fault.CallFault.{CallFault}
-pub use Rattle.jn_transactions.specs.Stages.{goes, is_committed, is_decided, is_aborted}
+pub use Rattle.jn_transactions.specs.Stages.{goes, is_decided, is_aborted}
 pub use Rattle.jn_coord.specs.Closing.{ClientClosed, ClosesClient, left_by, changes_by, going_in, LetsGo, GoneFrom, StaysOrGoes, ClosesOn, ClosesNext, ClosingStopped, ClosesAll}
 pub use Rattle.jn_transactions.specs.Closing.{count_left, takes_part, next_closing, tid_in, is_of, known_stage, known, knowing}
 pub use Rattle.jn_coord.specs.Beginning.{are_before, TicketsFit, new_transaction, with_request, with_begun}

@@ -95,8 +95,11 @@ pub record FillsMap (t : TableView) (v : StoreView) (d : ℕ) (row : List ℕ) (
   pub files : HoldsTable t v → (pages : Pages) → IsChoice w pages → files_of_pages t.counts pages ≡ files_in t.counts v
 
 -- the slot of a file's head, or the lowest free one where it has none
+abbrev pub IsPlace : List Head → FreeNumbers → FileNo → ℕ → Type 0
+IsPlace heads free_heads f slot = (is_of f (head_in heads slot) ≡ true) ⊎ ((exists heads f ≡ false) × IsLeastFree free_heads slot)
+
 abbrev pub IsPlaceOf : TableView → FileNo → ℕ → Type 0
-IsPlaceOf t f slot = (is_of f (head_in t.heads slot) ≡ true) ⊎ ((exists t.heads f ≡ false) × IsLeastFree t.free_heads slot)
+IsPlaceOf t f slot = IsPlace t.heads t.free_heads f slot
 
 -- a file is made empty or gone: its head is put
 pub record SetsHead (t : TableView) (v : StoreView) (f : FileNo) (h : Head) (c : Change) (ok : Bool) (u : TableView) (w : StoreView) : Type 0 where

@@ -1,6 +1,6 @@
 -- How the table keeps its parts.
 use Rattle.std.specs.Prelude.{◌≡◌, ◌≢◌, ◌⊎◌, ◌+◌, ◌*◌, ◌-◌, ◌%◌, ◌^◌, ◌<◌, ◌≤◌, ℕ, zero, suc, Bool, true, false, not, ◌&&◌, nat_eq, nat_lt, nat_le, if◌then◌else◌, List, [], ◌∷◌, length, drop, slice_set, slice_index, slice_index_or, Some, None, Option}
-use Rattle.jn_alloc.specs.Free.{FreeNumbers, count_of, free_count, is_free as is_free_number, with_free, IsLeastFree}
+use Rattle.jn_alloc.specs.Free.{FreeNumbers, count_of, free_count, is_free as is_free_number, with_free}
 use Rattle.jn_base.specs.declared.names.BlockNo.{BlockNo}
 use Rattle.jn_base.specs.declared.names.FileNo.{FileNo}
 use Rattle.jn_base.specs.Limits.{head_blocks, most_maps, most_blocks}
@@ -8,14 +8,14 @@ use Rattle.jn_index.specs.Numbers.{number_at}
 use Rattle.jn_order.specs.Files.{Change, change}
 use Rattle.jn_records.specs.declared.head.Head.{Head}
 use Rattle.jn_records.specs.declared.head.Head.TheVariants.{Free, Used}
-use Rattle.jn_records.specs.Heads.{head_page, map_page, IsMapPage, IsMapRow, head_in}
+use Rattle.jn_records.specs.Heads.{head_page, map_page, IsMapPage, IsMapRow, head_in, is_free}
 use Rattle.jn_records.specs.Layouts.{Layout, at_cell, head_map, kept_entry, layout_by, layout_at, map_cell, through, row_at}
 use Rattle.jn_records.specs.MapPlaces.{is_in_range, range_of}
 use Rattle.jn_records.specs.StablePages.{Counts as PageCounts, data_place}
 use Rattle.jn_store.specs.DeviceCalls.{cleaned_get_calls}
 use Rattle.jn_store.specs.Store.{StoreView, StoreLater, Candidate, Shrinks, IsOnly, IsSamePage, IsCalm, IsWholePage}
 use Rattle.jn_files.specs.Pages.{HoldsHeads}
-use Rattle.jn_files.specs.Table.{TableView, IsTable, AreHeads, AreRows, IsHeadOf, IsUnnamed, is_free, is_of, is_held, exists, files_of, layouts_of, layouts_in, layout_in, kept_maps}
+use Rattle.jn_files.specs.Table.{TableView, IsTable, AreHeads, AreRows, IsHeadOf, IsUnnamed, is_of, is_held, files_of, layouts_of, layouts_in, layout_in, kept_maps}
 
 abbrev pub table_view : ℕ → List Head → List (List ℕ) → List Bool → List Bool → FreeNumbers → FreeNumbers → TableView
 table_view pool heads maps held touched free_heads free_leaves = record {
@@ -141,9 +141,6 @@ pub record MaySetMap (t : TableView) (slot p a d : ℕ) : Type 0 where
   pub leaf : MaySet t slot p a
   pub map : MaySet t slot (map_cell (range_of p)) d
   pub differs : d ≢ a
-
-abbrev pub IsPlace : List Head → FreeNumbers → FileNo → ℕ → Type 0
-IsPlace heads free_heads f slot = (is_of f (head_in heads slot) ≡ true) ⊎ ((exists heads f ≡ false) × IsLeastFree free_heads slot)
 
 -- one number is free or isn't
 pub record Counts (v : FreeNumbers) (slot : ℕ) (is : Bool) (w : FreeNumbers) : Type 0 where

@@ -8,7 +8,7 @@ use Rattle.jn_base.specs.Limits.{head_blocks, most_maps, most_blocks}
 use Rattle.jn_order.specs.Files.{Files}
 use Rattle.jn_records.specs.declared.head.Head.{Head}
 use Rattle.jn_records.specs.declared.head.Head.TheVariants.{Free, Used}
-use Rattle.jn_records.specs.Heads.{IsHead, FileFits, head_in, all_within, IsMapRow}
+use Rattle.jn_records.specs.Heads.{IsHead, FileFits, head_in, is_free, IsMapRow}
 use Rattle.jn_records.specs.Layouts.{Layout, Unused, at_cell, kept_entry, layouts_by, layout_at, is_layout_of, files_in, head_map, row_at}
 use Rattle.jn_records.specs.StablePages.{Counts}
 use Rattle.jn_records.specs.MapPlaces.{range_of}
@@ -29,10 +29,6 @@ pub record TableView : Type 0 where
   pub free_leaves : FreeNumbers
 
 -- ---- heads and what they say together with their map pages
-
-abbrev pub is_free : Head → Bool
-is_free Free = true
-is_free (Used f xs maps) = false
 
 abbrev pub is_of : FileNo → Head → Bool
 is_of f Free = false

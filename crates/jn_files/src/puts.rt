@@ -7,6 +7,7 @@ ghost use Rattle.jn_order.specs.Files.{Change, cut_from};
 ghost use Rattle.jn_records.specs.Layouts.{head_map, row_at};
 ghost use Rattle.jn_records.specs.MapPlaces.{is_in_range, range_of};
 ghost use Rattle.jn_records.specs.NetLists.{among};
+ghost use Rattle.jn_records.specs.Heads as heads;
 ghost use Rattle.jn_files.specs.Table as table;
 ghost use Rattle.jn_records.specs.Heads.{head_in};
 ghost use Rattle.jn_files.specs.Calls as calls;
@@ -68,7 +69,7 @@ impl FileTable {
     ) -> Result<(), Stopped>
         requires fits { calls.HasPagesOfTable self.old (S.view store.old) }
         requires slot { slot < self.old.counts.heads }
-        requires used { table.is_free (head_in self.old.heads slot) ≡ false }
+        requires used { heads.is_free (head_in self.old.heads slot) ≡ false }
         requires range { n.0 < most_blocks }
         ensures { (f : FileNo) → table.is_of f (head_in self.old.heads slot) ≡ true → inside.IsCutInside (table.layout_in self.old slot) n.0
             → calls.PutsHead self.old (S.view store.old) slot (table.cut_head n.0 (head_in self.old.heads slot)) self.old.maps (λ leaves. cut_from f n) (is_ok result) self.new (S.view store.new) }

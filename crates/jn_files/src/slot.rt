@@ -6,6 +6,7 @@ ghost use Rattle.jn_index.specs.Least.{LeastFrom};
 ghost use Rattle.jn_records.specs.declared.head.Head.TheVariants.{Free};
 ghost use Rattle.jn_records.specs.Heads.{head_page, has_page};
 ghost use Rattle.jn_records.specs.Layouts.{head_map};
+ghost use Rattle.jn_records.specs.Heads as heads;
 ghost use Rattle.jn_files.specs.Table as table;
 ghost use Rattle.jn_files.specs.Inside as inside;
 
@@ -88,7 +89,7 @@ impl Slot {
     }
 
     pub fn is_free(&self) -> bool
-        ensures { result ≡ table.is_free self.now }
+        ensures { result ≡ heads.is_free self.now }
     {
         self.file.is_none()
     }

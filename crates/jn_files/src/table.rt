@@ -474,7 +474,7 @@ fn set_all(flags: &mut Vec<bool>)
 /// The slot of a file's head, or the lowest free one.
 fn place_of(heads: &Heads, free_heads: &FreeList, f: FileNo) -> u16
     requires room { table.exists heads.now f ≡ false → 0 < free_count free_heads.now }
-    ensures { inside.IsPlace heads.now free_heads.now f result }
+    ensures { calls.IsPlace heads.now free_heads.now f result }
 {
     if let Some(slot) = heads.slot_of(f) {
         return slot;

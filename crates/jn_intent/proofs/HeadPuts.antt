@@ -1,7 +1,6 @@
 -- What the table of files puts carries out an intention: the page of a head or of a map page, or one and then the other.
 use Rattle.jn_intent.proofs.Common.{◌≡◌, ◌≢◌, ◌⊎◌, inl, inr, ⊎_elim, ◌<◌, ◌≤◌, ◌+◌, ◌-◌, ◌/◌, ◌%◌, ℕ, zero, suc, Bool, true, false, not, ◌&&◌, ◌||◌, if◌then◌else◌, List, [], ◌∷◌, length, Option, Some, None, replicate, refl, sym, ◌∙◌, ap, subst, true≢false, arith, cases_eq, cases_lt, false_from_ne_true, passes_at, nat_tests, get_or-set_same, get_or-set_other, length-set, length-map, nat_eq, nat_lt, nat_le, is_some, slice_set, slice_index, slice_index_or, find, list_all, FileNo, file_eq, file_tells, created, removed, cut_from, TableView, IsTable, IsHeadOf, head_in, is_of, exists, fresh_head, cut_head, cut_addresses, cut_map, with_leaf, with_map, one_entry, row_at, layouts_in, SetsHead, CutsFile, CutsTwice, SetsBlock, BringsMap, PutsHead, MayBecome, MayBring, IsPlaceOf, IsChanged, with_promised_heads, serves_for, is_head_after, address_after, map_after, IsHeadPut, HeadPut, MapPut, IsMapRow, Head, FreeHead, Used, StoredIntention, What, Fresh, Gone, Cut, Put, intention_has_page, is_fresh, data_place, head_place, Counts, StoreView, StorePut, IsOnly, MayCarry, PutsOne, PutsWhole, PutsInTurn, KeepsMaps, Carries, without_promise, with_fresh_promise, is_gone, head_blocks, most_blocks, most_maps, Layout, Unused, Of, at_cell, layout_at, is_layout_of, map_cell, layout_by, layouts_by, kept_entry, head_map, maps_in, get-map, set-map, map-cell-is, none_at, none_any, cut_kept, cut_gone, range_of, IsMapStored, laid, through, with_row, with_entries, IsMapIn, IsRowChanged, is_in_range, names_map, laid-block, laid-entry, laid-map, map-put, head_page, map_page, all_within, within}
-use Rattle.jn_files.specs.Table.{is_free}
-use Rattle.jn_records.specs.Heads.{has_page}
+use Rattle.jn_records.specs.Heads.{is_free, has_page}
 use Rattle.jn_intent.proofs.Naming.{page_of_put}
 use Rattle.jn_intent.proofs.Cells.{cut_cell, cut_map_cell, leaf_cell, map_brought, with_map_cell, entry_cell, cut_entry_cell, zeros_at, is_range}
 

@@ -35,7 +35,7 @@ pub use Rattle.jn_machine.specs.Refusals.{unless, refusal_of}
 pub use Rattle.std.specs.List.{list_any, list_all, AllByRecursion}
 pub use Rattle.jn_base.specs.declared.names.Tid.{Tid}
 pub use Rattle.jn_rows.specs.Coordinator.{CoordinatorTable, is_work, all_in, with_work, vote_row, vote_stage, counted_vote, commit_row, staged, coordinator_row, close_clients_row}
-pub use Rattle.jn_rows.specs.Worker.{WorkerTable, WorkStorage, Wanted, break_notes, note_of, breaks_at, commit_wants, work_at, commit_holder, holds, is_fit, list_with, intentions_of, restored_work, restored_worker, timeout_row, units_for, vulnerable, wants_of, worker_row, worker_step}
+pub use Rattle.jn_rows.specs.Worker.{WorkerTable, WorkStorage, Wanted, break_notes, note_of, breaks_at, commit_wants, work_at, commit_holder, holds, is_fit, intentions_of, restored_work, restored_worker, timeout_row, units_for, vulnerable, wants_of, worker_row, worker_step}
 pub use Rattle.jn_system.proofs.WholeSystem.CoordinatorCases.{CoordinatorCase, is_ignored_by, coordinator-case, transaction-named, begins_anew, finds_no_room}
 pub use Rattle.jn_report.specs.Kinds.{is_answer, is_up}
 pub use Rattle.jn_base.specs.declared.names.LockUnit.{LockUnit}

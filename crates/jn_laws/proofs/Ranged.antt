@@ -1,5 +1,6 @@
 -- No work, no message and no stable state has a block from `most_blocks` on, whatever steps come one after another.
-use Rattle.jn_laws.proofs.Common.{◌≡◌, ◌≢◌, ◌⊎◌, inl, inr, ℕ, Bool, true, false, true≢false, List, [], ◌∷◌, ◌++◌, length, take, zero, suc, Option, Some, None, refl, sym, ◌∙◌, ap, subst, ◌&&◌, if◌then◌else◌, nat_lt, nat_le, slice_get, ⊤, list_all, AllByRecursion, take-length, All-nil, All-cons, All-append, ServerNo, ClientNo, FileNo, BlockNo, WorkId, Tid, Block, Party, Server, most_blocks, file_eq, block_eq, work_eq, block_tells, Files, change, or_else, IntentionWrite, Message, Text, Taken, Transaction, ActiveWork, Phase, Active, Broken, Stored, Work, ClientTable, take_row, CoordinatorTable, coordinator_row, close_clients_row, RowOutcome, Sent, StableState, Prepared, Pick, Change, AddReady, MarkGoing, CarryOut, RemoveWork, AddFlag, DropFlag, gone_on, ready_work, made_by, made_all, stable, WorkerTable, WorkStorage, is_fit, list_with, intentions_of, restored_work, restored_worker, timeout_row, units_for, vulnerable, wants_of, worker_row, worker_step, unit_in_range, World, Memory, with_epoch, Room, storage_of, server_row, server_step, server_again, server_timeout, of_worker, of_coordinator, of_step, of_timeout, is_for_worker, restored, Step, Tell, after, run, sent_now, CoordinatorCase, begins_anew, finds_no_room, coordinator-case, WorkerCase, prepares_it, WorkerStep, carries_out, worker-case, worker-step-case, CanBeTaken, CommandInRange, command-fits, take-fits, over-fits, servers-taken, both, first-of, second-of, some-more, wants-in-range, list-in-range, BlockInRange, InRange, Left, left_of}
+use Rattle.jn_laws.proofs.Common.{◌≡◌, ◌≢◌, ◌⊎◌, inl, inr, ℕ, Bool, true, false, true≢false, List, [], ◌∷◌, ◌++◌, length, take, zero, suc, Option, Some, None, refl, sym, ◌∙◌, ap, subst, ◌&&◌, if◌then◌else◌, nat_lt, nat_le, slice_get, ⊤, list_all, AllByRecursion, take-length, All-nil, All-cons, All-append, ServerNo, ClientNo, FileNo, BlockNo, WorkId, Tid, Block, Party, Server, most_blocks, file_eq, block_eq, work_eq, block_tells, Files, change, or_else, IntentionWrite, Message, Text, Taken, Transaction, ActiveWork, Phase, Active, Broken, Stored, Work, ClientTable, take_row, CoordinatorTable, coordinator_row, close_clients_row, RowOutcome, Sent, StableState, Prepared, Pick, Change, AddReady, MarkGoing, CarryOut, RemoveWork, AddFlag, DropFlag, gone_on, ready_work, made_by, made_all, stable, WorkerTable, WorkStorage, is_fit, intentions_of, restored_work, restored_worker, timeout_row, units_for, vulnerable, wants_of, worker_row, worker_step, unit_in_range, World, Memory, with_epoch, Room, storage_of, server_row, server_step, server_again, server_timeout, of_worker, of_coordinator, of_step, of_timeout, is_for_worker, restored, Step, Tell, after, run, sent_now, CoordinatorCase, begins_anew, finds_no_room, coordinator-case, WorkerCase, prepares_it, WorkerStep, carries_out, worker-case, worker-step-case, CanBeTaken, CommandInRange, command-fits, take-fits, over-fits, servers-taken, both, first-of, second-of, some-more, wants-in-range, list-in-range, BlockInRange, InRange, Left, left_of}
+use Rattle.jn_records.specs.NetEdits.{list_after}
 use Rattle.jn_row_ranges.specs.Taking.{AllCanBeTaken, ClientFits, CommandFits, sent_for}
 use Rattle.jn_base.specs.declared.names.Tickets.{Tickets}
 use Rattle.jn_base.specs.declared.op.Op.{Op}
@@ -69,7 +70,7 @@ StepInRange step = ⊤
 
 -- ---- a worker's rows
 
-listed : (b : Bool) (a : ActiveWork) (op : Op) → BlockInRange op → are_in_range a.list ≡ true → are_in_range (if b then list_with (intention_for a.list op) op a.list else a.list) ≡ true
+listed : (b : Bool) (a : ActiveWork) (op : Op) → BlockInRange op → are_in_range a.list ≡ true → are_in_range (if b then list_after (intention_for a.list op) op a.list else a.list) ≡ true
 listed true a op r h = all_after is_in_range is_in_range op a.list (intention_for a.list op) refl (λ i stays p. p) (λ new e. new_in_range a.list op new e r) h
 listed false a op r h = h
 

@@ -1,4 +1,4 @@
--- A run in which a server is stopped between the two puts of a cut, and one in which it is stopped while it puts a flag.
+-- A run in which a server is stopped within the first of the two puts of a cut, and one in which it is stopped while it puts a flag.
 use Rattle.std.specs.Prelude.{◌≡◌, ℕ, Bool, true, false, ◌&&◌, ◌||◌, nat_eq, nat_lt, nat_le, if◌then◌else◌, List, [], ◌∷◌, ◌++◌, Option, Some, None}
 use Rattle.jn_base.specs.declared.names.BlockNo.{BlockNo}
 use Rattle.jn_base.specs.declared.names.LockUnit.{LockUnit}
@@ -62,7 +62,7 @@ before steps = stable ((run steps start).found the_server)
 abbrev pub behind : List Step → Step → Pick → StableState
 behind steps stop c = (after stop (run steps start)).found the_server c
 
--- ---- a stop between the two puts of the cut
+-- ---- a stop within the first put of the cut
 
 abbrev pub the_cut : Intention
 the_cut = record { what = Cut; file = the_file; block = record { 0 = 150 }; bytes = zeros }

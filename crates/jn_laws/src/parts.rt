@@ -9,7 +9,7 @@ ghost use Rattle.jn_system.specs.WholeSystem.Steps.{IsRun, run};
 ghost use Rattle.jn_system.specs.WholeSystem.Example.{the_server, the_file, the_work};
 ghost use Rattle.jn_laws.specs.Parts.{to_the_flag, to_the_cut, all_steps, start, before, behind, blocks_of, the_cut, its_maps, its_changes, stopped_in_part, first_halves, flag_changes, stopped_at_the_flag};
 
-/// A server is stopped between the two puts of a cut that falls inside of a map page. Some picks find then what was there before, and others find
+/// A server is stopped within the first of the two puts of a cut, which falls inside of a map page. Some picks find then what was there before, and others find
 /// the blocks of that map page gone and the next one's still there: neither what was there nor what the cut leaves. The restart carries the cut out whole.
 pub fn a_cut_is_found_in_part()
     ensures steps { IsRun all_steps start }

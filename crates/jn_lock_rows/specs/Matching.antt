@@ -86,9 +86,13 @@ units_of_mode m (want ∷ wants) = if mode_eq want.mode m then want.unit ∷ uni
 
 -- ---- after a restart
 
--- the units that a prepared work writes
+-- the units that a prepared work holds for commit
+abbrev pub commit_units : List Intention → List LockUnit
+commit_units list = map (λ (i : Intention). written_unit i.what i.file i.block) list
+
+-- those that it writes
 abbrev pub units_of : Prepared → List LockUnit
-units_of p = map (λ (i : Intention). written_unit i.what i.file i.block) p.list
+units_of p = commit_units p.list
 
 -- what it holds
 abbrev pub wants_of : Prepared → Wants

@@ -8,6 +8,7 @@ use Rattle.jn_report.specs.declared.line.EventRefusal.TheVariants.{EpochsUsedUp}
 use Rattle.jn_report.specs.declared.line.Text.{Text}
 use Rattle.jn_report.specs.declared.line.Text.TheVariants as says
 use Rattle.jn_records.specs.MapPlaces.{no_maps}
+use Rattle.jn_records.specs.Pages.{last_epoch}
 use Rattle.jn_rows.specs.Stable.{StableState, Pick, stable, Left, whole_only}
 use Rattle.jn_rows.specs.Outcomes.{Sent}
 use Rattle.jn_system.specs.WholeSystem.World.{World, Memory}
@@ -142,9 +143,6 @@ recovers q steps = record (plain (Server q) steps) { device = Recovers q }
 
 abbrev pub recovered : Chance → ServerNo → Deed
 recovered h q = recovers q (recovering h q h.stop)
-
-abbrev pub last_epoch : ℕ
-last_epoch = 4294967295
 
 -- whether the restart finds the last epoch
 abbrev pub is_used_up : Chance → ServerNo → World → Bool

@@ -18,7 +18,8 @@ use Rattle.jn_coord.specs.Calls.{flag_told, committed_as, committed_at as told_a
 use Rattle.jn_server.specs.Seen.{ServerView, IsServer, memory_of}
 use Rattle.jn_row_ranges.specs.Naming.{are_transactions_within}
 use Rattle.jn_row_ranges.specs.Within.{MemoryWithin}
-use Rattle.jn_row_ranges.specs.Sizes.{are_small_stages, is_committed, committed_at, HasSizes}
+use Rattle.jn_row_ranges.specs.Sizes.{are_small_stages, committed_at, HasSizes}
+use Rattle.jn_rows.specs.Coordinator.{is_committed}
 
 stages-small : (n : ℕ) (xs : List Transaction) → are_transactions_within n xs ≡ true → are_small_stages n xs ≡ true
 stages-small n [] h = refl

@@ -11,10 +11,12 @@ use Rattle.jn_locks.specs.Locks.{work_before}
 use Rattle.jn_page_state.specs.Images.{IsImage}
 use Rattle.jn_page_state.specs.Pages.{found_on, heads_on, pages_by, pool_on}
 use Rattle.jn_page_state.specs.Recoverable.{IsRecoverable}
+use Rattle.jn_page_state.specs.Standing.{standing_state}
 use Rattle.jn_records.specs.MapPlaces.{maps_in}
 use Rattle.jn_records.specs.StablePages.{Counts, page_count}
+use Rattle.jn_records.specs.Pages.{last_epoch}
 use Rattle.jn_rows.specs.Outcomes.{RowOutcome}
-use Rattle.jn_rows.specs.Stable.{StableState, Prepared, Pick, IsUp, made_all, stable}
+use Rattle.jn_rows.specs.Stable.{StableState, Prepared, Pick, IsUp, made_all}
 use Rattle.jn_server.specs.Counted.{CountsAll}
 use Rattle.jn_server.specs.Standing.{standing_pages, free_on, beside_on, has_rubbish}
 use Rattle.jn_storage.specs.Listing.{IsListing, total}
@@ -34,7 +36,7 @@ pub record Running : Type 0 where
   pub held : WorkId → ℕ
 
 abbrev pub state_of : Counts → Running → StableState
-state_of g x = stable (found_on g x.store)
+state_of g x = standing_state g x.store
 
 -- rubbish, map pages, and which intentions name one
 abbrev pub beside_at : Counts → Running → Beside
@@ -93,14 +95,14 @@ pub record IsOpen (s : ServerNo) (g : Counts) (v : StoreView) (x : Running) : Ty
   pub flag_names : AreNames tid_eq tid_before (found_on g v pick).flags tids
   pub memory : x.memory ≡ restored s (found_on g v pick) works tids
   pub found : (c : Pick) → found_on g x.store c ≡ with_epoch (found_on g v pick)
-  pub before_last : (found_on g v pick).epoch < 4294967295
+  pub before_last : (found_on g v pick).epoch < last_epoch
   pub beside : beside_at g x ≡ record (beside_on g (pages_by v pick)) { rubbish = 0 }
   pub happens : Happens v.device x.store.device
   pub moment : IsMoment s g x
 
 -- It went down and came up once more, in the next epoch, and its pages are then those of a sound image of its files.
 pub record IsClosedTo (s : ServerNo) (g : Counts) (x : Running) (v : StoreView) : Type 0 where
-  pub before_last : (state_of g x).epoch < 4294967295
+  pub before_last : (state_of g x).epoch < last_epoch
   pub found : (c : Pick) → found_on g v c ≡ with_epoch (state_of g x)
   pub image : IsImage s g (state_of g x).files v
   pub count : page_count g ≡ v.count

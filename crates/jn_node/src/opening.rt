@@ -7,6 +7,7 @@ ghost use Rattle.jn_node.specs.declared.fault.NodeFault.TheVariants.{UsedUp};
 ghost use Rattle.jn_page_state.specs.Pages.{found_on};
 ghost use Rattle.jn_page_state.specs.Recoverable.{IsRecoverable};
 ghost use Rattle.jn_base.specs.declared.names.ServerNo.{ServerNo as AServer};
+ghost use Rattle.jn_records.specs.Pages.{last_epoch};
 ghost use Rattle.jn_recovery.specs.Counts.{counts_by};
 ghost use Rattle.jn_row_ranges.specs.Naming.{StateWithin};
 ghost use Rattle.jn_rows.specs.Stable.{Pick};
@@ -39,7 +40,7 @@ pub fn open<S: StableStore + Drop>(
     ensures node { IfOk result (λ n. IsNode (λ s. S.view s) n) }
     ensures open { IfOk result (λ n. IsOpen server (counts_by counts) (S.view store) (running_at (λ s. S.view s) n)) }
     ensures fresh { IfOk result (λ n. (n.server ≡ server) × (n.counts ≡ counts) × (n.running.tickets.next ≡ 0) × (n.answers.items ≡ [])) }
-    ensures used_up { result ≡ Err UsedUp → (c : Pick) × ((found_on (counts_by counts) (S.view store) c).epoch ≡ 4294967295) }
+    ensures used_up { result ≡ Err UsedUp → (c : Pick) × ((found_on (counts_by counts) (S.view store) c).epoch ≡ last_epoch) }
 {
     let (running, _found) = come_up(alloc, store, counts)?;
     running.counts_pages();
@@ -61,7 +62,7 @@ impl<S: StableStore + Drop> Node<S> {
         requires node { IsNode (λ s. S.view s) self }
         requires settled { IsSettledState (state_of (counts_at self) (running_at (λ s. S.view s) self)) }
         ensures closed { IfOk result (λ store. IsClosedTo self.server (counts_at self) (running_at (λ s. S.view s) self) (S.view store)) }
-        ensures used_up { result ≡ Err UsedUp → (state_of (counts_at self) (running_at (λ s. S.view s) self)).epoch ≡ 4294967295 }
+        ensures used_up { result ≡ Err UsedUp → (state_of (counts_at self) (running_at (λ s. S.view s) self)).epoch ≡ last_epoch }
     {
         let Node {
             alloc,
@@ -96,7 +97,7 @@ fn come_up<S: StableStore + Drop>(
     requires recoverable { (server : AServer) × IsRecoverable server (counts_by counts) (S.view store) }
     requires calm { IsCalm (S.view store) }
     ensures up { (server : AServer) → IsRecoverable server (counts_by counts) (S.view store) → IfOk result (λ r. IsRestarted server (counts_by counts) (S.view store) r.1 (view_with (λ s. S.view s) r.0)) }
-    ensures used_up { result ≡ Err UsedUp → (c : Pick) × ((found_on (counts_by counts) (S.view store) c).epoch ≡ 4294967295) }
+    ensures used_up { result ≡ Err UsedUp → (c : Pick) × ((found_on (counts_by counts) (S.view store) c).epoch ≡ last_epoch) }
 {
     match restart(alloc, store, counts) {
         Ok(up) => Ok(up),

@@ -1,12 +1,14 @@
 -- Of two servers that are alike the same is free, and a row leaves them alike.
-use Rattle.jn_node_laws.proofs.Common.{◌≡◌, ℕ, Bool, true, false, length, Option, Some, None, is_some, refl, sym, ◌∙◌, ap, subst, arith, ◌-◌, if◌then◌else◌, nat_lt, count_by, ServerNo, WorkId, file_eq, tid_eq, unit_eq, work_eq, file_tells, tid_tells, work_tells, heads_on, pool_on, Counts, Pages, promised, RowOutcome, quiet, StableState, Prepared, made_all, going_row, going_work, Work, is_free_head, promised_heads, standing_pages, IsListing, epoch-all, Room, of_step, server_step, storage_of, Memory, Beside, Running, state_of, beside_at, room_on, IsMade, IsMoment, step_of, AreAlike, AreNamed}
+use Rattle.jn_node_laws.proofs.Common.{◌≡◌, ℕ, Bool, true, false, length, Option, Some, None, is_some, refl, sym, ◌∙◌, ap, subst, arith, ◌-◌, if◌then◌else◌, nat_lt, count_by, ServerNo, WorkId, file_eq, tid_eq, unit_eq, work_eq, file_tells, tid_tells, work_tells, heads_on, pool_on, Counts, Pages, promised, RowOutcome, quiet, StableState, Prepared, made_all, going_row, going_work, Work, promised_heads, standing_pages, IsListing, epoch-all, Room, of_step, server_step, storage_of, Memory, Beside, Running, state_of, beside_at, room_on, IsMade, IsMoment, step_of, AreAlike, AreNamed}
+use Rattle.jn_records.specs.Heads.{is_free}
 use Rattle.jn_locks.proofs.Orders.{unit_tells}
 use Rattle.jn_server.specs.Counted.{CountsAll}
 use Rattle.jn_sets.specs.Pool.{free_count, is_rubbish, rubbish_count}
 use Rattle.jn_storage.specs.Orderly.{file_there, list_of}
 use Rattle.jn_storage.specs.Storage.{has_map, is_stored, map_eq}
 use Rattle.jn_worker.specs.Calls.{pages_named}
-use Rattle.jn_node_laws.proofs.Lists.{any-counted, same-length, same-total}
+use Rattle.jn_intent.proofs.Numbers.{listing_length}
+use Rattle.jn_node_laws.proofs.Lists.{any-counted, same-total}
 use Rattle.jn_recovery.proofs.TableCounted.{map_tells}
 use Rattle.jn_node_laws.proofs.Rows.{AllWhole}
 
@@ -16,15 +18,15 @@ module _ (g : Counts) (z : StableState) (pages more : Pages) (c : CountsAll g z 
   same-records : rubbish_count (pool_on g more) ≡ rubbish_count (pool_on g pages) → free_count (pool_on g more) ≡ free_count (pool_on g pages)
   same-records rubbish =
       let mine = c.records_all in let its = d.records_all in
-      let works = same-length work_eq work_tells (λ W. is_some (z.works W)) c.works d.works c.works_all d.works_all in
-      let flags = same-length tid_eq tid_tells (λ T. is_some (z.flags T)) c.flags d.flags c.flags_all d.flags_all in
+      let works = listing_length work_eq work_tells (λ W. is_some (z.works W)) c.works d.works c.works_all d.works_all in
+      let flags = listing_length tid_eq tid_tells (λ T. is_some (z.flags T)) c.flags d.flags c.flags_all d.flags_all in
       let lists = same-total work_eq work_tells (λ W. length (list_of z W)) (λ W. length (list_of z W)) (λ W. is_some (z.works W)) c.works d.works c.works_all d.works_all (λ W h. refl) in
       omega (arith, mine, its, works, flags, lists, rubbish)
 
-  same-heads : count_by is_free_head (heads_on g more) ≡ count_by is_free_head (heads_on g pages)
+  same-heads : count_by is_free (heads_on g more) ≡ count_by is_free (heads_on g pages)
   same-heads =
       let mine = c.heads_all in let its = d.heads_all in
-      let files = same-length file_eq file_tells (file_there z.files) c.files d.files c.files_all d.files_all in
+      let files = listing_length file_eq file_tells (file_there z.files) c.files d.files c.files_all d.files_all in
       omega (arith, mine, its, files)
 
 -- ---- near ones: a part of a work may be carried out
@@ -84,8 +86,8 @@ module _ (s : ServerNo) (g : Counts) (x y : Running) (n : IsNear s g x y) where
         let maps : IsListing map_eq (has_map (beside_at g x).maps) its.maps = subst (λ (b : Beside). IsListing map_eq (has_map b.maps) its.maps) n.beside its.maps_all in
         let a = mine.pages_all in let b = its.pages_all in
         let w = same-total work_eq work_tells x.held y.held (λ W. is_some ((state_of g x).works W)) mine.works its.works mine.works_all works held-same in
-        let u = same-length unit_eq unit_tells (is_stored (state_of g x).files) mine.blocks its.blocks mine.blocks_all blocks in
-        let m = same-length map_eq map_tells (has_map (beside_at g x).maps) mine.maps its.maps mine.maps_all maps in
+        let u = listing_length unit_eq unit_tells (is_stored (state_of g x).files) mine.blocks its.blocks mine.blocks_all blocks in
+        let m = listing_length map_eq map_tells (has_map (beside_at g x).maps) mine.maps its.maps mine.maps_all maps in
         omega (arith, a, b, w, u, m)
 
     pub same-room : room_on g y ≡ room_on g x
@@ -105,8 +107,8 @@ module _ (s : ServerNo) (g : Counts) (x y : Running) (n : IsNear s g x y) where
 
         heads : (room_on g y).free.heads ≡ (room_on g x).free.heads
         heads = ap (λ (k : ℕ). k - promised_heads (state_of g y) y.memory.worker) (same-heads g (state_of g x) (standing_pages x.store) (standing_pages y.store) n.moment.counted counted)
-            ∙ ap (λ (z : StableState). count_by is_free_head (heads_on g (standing_pages x.store)) - promised_heads z y.memory.worker) n.found
-            ∙ ap (λ (m : Memory). count_by is_free_head (heads_on g (standing_pages x.store)) - promised_heads (state_of g x) m.worker) n.memory
+            ∙ ap (λ (z : StableState). count_by is_free (heads_on g (standing_pages x.store)) - promised_heads z y.memory.worker) n.found
+            ∙ ap (λ (m : Memory). count_by is_free (heads_on g (standing_pages x.store)) - promised_heads (state_of g x) m.worker) n.memory
 
 -- ---- a row
 

@@ -12,7 +12,7 @@ pub use Rattle.jn_rows.specs.Outcomes.{RowOutcome, quiet, Sent}
 pub use Rattle.jn_rows.specs.Stable.{StableState, Prepared, made_all, Pick, at_work, gone_on, ready_work}
 pub use Rattle.jn_rows.specs.Worker.{going_row, going_work, WorkerTable, Wanted, after_grant, breaks_at, broken_by, commit_wants, counted, done, name_from, new_work, timed_out, timeout_row, vulnerable, with_phase, without, work_at, work_of, worker_row}
 pub use Rattle.jn_rows.specs.declared.worker.Work.{Work}
-pub use Rattle.jn_server.specs.Standing.{is_free_head, promised_heads, standing_pages, beside_on}
+pub use Rattle.jn_server.specs.Standing.{promised_heads, standing_pages, beside_on}
 pub use Rattle.jn_storage.specs.Listing.{IsListing, is_in, are_different, total}
 pub use Rattle.jn_system.proofs.WholeSystem.CoordinatorRows.{epoch-all, Aside, coordinator-aside, flags-all}
 pub use Rattle.jn_system.specs.WholeSystem.Servers.{Room, of_step, server_step, storage_of, restored, of_coordinator, of_timeout, of_worker, server_row, server_timeout, server_again}

@@ -8,7 +8,8 @@ use Rattle.jn_options.specs.declared.asked.Node.{Node}
 use Rattle.jn_server.specs.Settled.{IsSettledState}
 use Rattle.jn_status.specs.declared.status.Status.{Status}
 use Rattle.jn_status.specs.declared.status.Status.TheVariants.{Done, Image, Limit, Memory, Unsettled, Frame}
-use Rattle.jn_node_run.specs.Outcome.{IsFound, NodeEnds, RefusedOwn, Served, ServedWhole, epoch_found, last_epoch, state_then, node_done, node_not_loaded, node_refused, node_refusal_not_written, node_not_read, node_not_written, node_no_epoch, node_no_epoch_left, node_passed_limit, node_frame, node_unsettled, node_not_saved, node_no_memory, node_no_memory_inside}
+use Rattle.jn_node_run.specs.Outcome.{IsFound, NodeEnds, RefusedOwn, Served, ServedWhole, epoch_found, state_then, node_done, node_not_loaded, node_refused, node_refusal_not_written, node_not_read, node_not_written, node_no_epoch, node_no_epoch_left, node_passed_limit, node_frame, node_unsettled, node_not_saved, node_no_memory, node_no_memory_inside}
+use Rattle.jn_records.specs.Pages.{last_epoch}
 use Rattle.jn_node_laws.specs.Ends.{NodesComplete, NodesEndInOneWay}
 use Rattle.jn_node_laws.proofs.Images.{same-counts, same-found, servers-alike}
 use Rattle.jn_node_laws.proofs.Inputs.{Breaks, Ends, Passes, PiecesJoin, at-end-ends, ends-whole, fault-breaks, no-two, passes-whole, past-passes, unframed_of}

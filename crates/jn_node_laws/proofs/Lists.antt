@@ -1,5 +1,5 @@
 -- Two listings of the same keys, and what is counted in lists.
-use Rattle.jn_node_laws.proofs.Common.{◌≡◌, ⊎_elim, ℕ, ◌+◌, Bool, true, false, List, [], ◌∷◌, length, refl, sym, ◌∙◌, ap, subst, arith, true≢false, ◌&&◌, not, if◌then◌else◌, nat_lt, count_by, list_any, nat_tests, is_in, are_different, IsListing, total, Tells, but, listing-less, total-but}
+use Rattle.jn_node_laws.proofs.Common.{◌≡◌, ⊎_elim, ℕ, ◌+◌, Bool, true, false, List, [], ◌∷◌, refl, sym, ◌∙◌, ap, subst, arith, true≢false, ◌&&◌, not, if◌then◌else◌, nat_lt, count_by, list_any, nat_tests, is_in, are_different, IsListing, total, Tells, but, listing-less, total-but}
 use Rattle.std.proofs.lemmas.List.Sums.{sum_by-cons}
 
 -- ---- listings
@@ -38,13 +38,6 @@ module _ {A : Type 0} (eq : A → A → Bool) (tells : Tells eq) where
     where
       later : (x a : A) (xs : List A) → is_in eq a xs ≡ true → is_in eq a (x ∷ xs) ≡ true
       later x a xs i = grind (arith, i)
-
-  ones : (xs : List A) → total (λ a. 1) xs ≡ length xs
-  ones [] = refl
-  ones (x ∷ xs) = let again = ones xs in omega (arith, again)
-
-  pub same-length : (holds : A → Bool) (xs ys : List A) → IsListing eq holds xs → IsListing eq holds ys → length xs ≡ length ys
-  same-length holds xs ys l m = sym (ones xs) ∙ same-total (λ a. 1) (λ a. 1) holds xs ys l m (λ a h. refl) ∙ ones ys
 
 -- ---- counts
 

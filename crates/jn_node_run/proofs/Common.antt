@@ -4,7 +4,8 @@ pub use Rattle.std.specs.Prelude.{◌↔◌, IsFalse, is_ok, is_some}
 pub use Rattle.jn_image_files.specs.Kept.{Has, image_name}
 pub use Rattle.jn_image_files.specs.Opened.{AreWithin, IsClosed}
 pub use Rattle.jn_node.specs.declared.fault.NodeFault.{NodeFault}
-pub use Rattle.jn_node_run.specs.Outcome.{EndsSettled, IsFound, NodeEnds, RefusedOwn, ServedWhole, ServedFront, last_epoch, epoch_found, node_done, node_not_loaded, node_refused, node_refusal_not_written, node_not_read, node_not_written, node_no_epoch, node_no_epoch_left, node_passed_limit, node_frame, node_unsettled, node_not_saved, node_no_memory, node_no_memory_inside, KeepsOwn}
+pub use Rattle.jn_node_run.specs.Outcome.{EndsSettled, IsFound, NodeEnds, RefusedOwn, ServedWhole, ServedFront, epoch_found, node_done, node_not_loaded, node_refused, node_refusal_not_written, node_not_read, node_not_written, node_no_epoch, node_no_epoch_left, node_passed_limit, node_frame, node_unsettled, node_not_saved, node_no_memory, node_no_memory_inside, KeepsOwn}
+pub use Rattle.jn_records.specs.Pages.{last_epoch}
 pub use Rattle.jn_node_run.specs.Parts.{ServerKept, DiskKept, status_of, status_then, IsOwnStore}
 pub use Rattle.jn_options.specs.declared.asked.Node.{Node}
 pub use Rattle.jn_records.specs.StablePages.{Counts}

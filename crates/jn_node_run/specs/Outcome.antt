@@ -15,6 +15,7 @@ use Rattle.jn_options.specs.declared.asked.Node.{Node}
 use Rattle.jn_order.specs.Files.{Files}
 use Rattle.jn_page_state.specs.Pages.{found_on}
 use Rattle.jn_records.specs.StablePages.{Counts}
+use Rattle.jn_records.specs.Pages.{last_epoch}
 use Rattle.jn_rows.specs.Outcomes.{Sent}
 use Rattle.jn_rows.specs.Stable.{StableState, stable}
 use Rattle.jn_server.specs.Settled.{IsSettledState}
@@ -26,9 +27,6 @@ use Rattle.jn_status.specs.declared.status.Status.{Status}
 use Rattle.jn_status.specs.declared.status.Status.TheVariants.{Done, Image, Read, Write, Keep, Limit, Memory, Unsettled, Frame}
 
 -- ---- the server's image
-
-abbrev pub last_epoch : ℕ
-last_epoch = 4294967295
 
 -- the disk of the sound image that is kept under the server's name
 pub record IsFound (node : Node) (kept : Option Contents) : Type 0 where

@@ -14,7 +14,8 @@ use Rattle.jn_server.specs.Settled.{IsSettledState}
 use Rattle.jn_serving.specs.declared.fault.StreamFault.{StreamFault}
 use Rattle.jn_serving.specs.declared.fault.StreamFault.TheVariants as streams
 use Rattle.jn_store.specs.Store.{StoreView}
-use Rattle.jn_node_run.specs.Outcome.{KeepsOwn, SavesOwn, last_epoch}
+use Rattle.jn_node_run.specs.Outcome.{KeepsOwn, SavesOwn}
+use Rattle.jn_records.specs.Pages.{last_epoch}
 use Rattle.jn_writing.specs.Outside.{KeeperState, KeeperFails}
 use Rattle.jn_status.specs.declared.status.Status.{Status}
 use Rattle.jn_status.specs.declared.status.Status.TheVariants as statuses

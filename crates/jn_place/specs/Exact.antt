@@ -21,7 +21,7 @@ use Rattle.jn_system.specs.WholeSystem.Printing.{ArePrints, prints_in}
 use Rattle.jn_system.specs.WholeSystem.Servers.{server_row, server_step, server_again, server_timeout, of_coordinator, restored}
 use Rattle.jn_system.specs.WholeSystem.Steps.{AreNames, tid_before}
 use Rattle.jn_system.specs.WholeSystem.World.{Memory, with_epoch}
-use Rattle.jn_records.specs.Pages.{root_page}
+use Rattle.jn_records.specs.Pages.{root_page, last_epoch}
 use Rattle.jn_records.specs.StablePages.{Counts, root_by}
 use Rattle.jn_recovery.specs.Loading.{IsSameOrNext}
 use Rattle.jn_recovery.specs.Counts.{calls_by}
@@ -241,7 +241,7 @@ pub record IsUpAt {S : Type 0} (look : S → StoreView) (device : S → DeviceSt
   pub remembers : memory_of (view_with look p') ≡ restored q (found_on g (look s) pick) works tids
   pub finds : (c : Pick) → (view_with look p').storage.found c ≡ with_epoch (found_on g (look s) pick)
   pub epoch_is : epoch ≡ (found_on g (look s) pick).epoch + 1
-  pub before_last : (found_on g (look s) pick).epoch < 4294967295
+  pub before_last : (found_on g (look s) pick).epoch < last_epoch
   -- map pages are those that this pick found, and no record is rubbish any more
   pub beside : beside_of (view_with look p').storage.accounts ≡ record (beside_on g (pages_by (pairs_view (device s)) pick)) { rubbish = 0 }
   pub clean : (view_with look p').storage.accounts.rubbish ≡ []
@@ -265,7 +265,7 @@ pub record IsUsedUpAt {S : Type 0} (look : S → StoreView) (device : S → Devi
   pub tried : IsTried g some told true (device s) called
   pub device_is : device s' ≡ powered_off called
   pub each : (c : Pick) → (b : Pick) × (found_on g (look s') c ≡ found_on g (look s) b)
-  pub last : (c : Pick) → (found_on g (look s') c).epoch ≡ 4294967295
+  pub last : (c : Pick) → (found_on g (look s') c).epoch ≡ last_epoch
 
 abbrev pub CameTo : {S : Type 0} → (S → StoreView) → (S → DeviceState) → ServerNo → Counts → List Outside → Slot S → Restarted → Slot S → Type 0
 CameTo look device q g told (Down s) (came.Up epoch tids) (Up p') = IsUpAt look device q g told s epoch tids.items p'

@@ -17,7 +17,7 @@ use Rattle.jn_msgs.specs.Collected.{Collected}
 use Rattle.jn_system.specs.WholeSystem.Servers.{server_row, of_coordinator, restored}
 use Rattle.jn_system.specs.WholeSystem.Steps.{AreNames, tid_before}
 use Rattle.jn_system.specs.WholeSystem.World.{Memory, with_epoch}
-use Rattle.jn_records.specs.Pages.{root_page}
+use Rattle.jn_records.specs.Pages.{root_page, last_epoch}
 use Rattle.jn_records.specs.StablePages.{Counts, root_by}
 use Rattle.jn_recovery.specs.Loading.{IsSameOrNext}
 use Rattle.jn_recovery.specs.Counts.{calls_by}
@@ -160,7 +160,7 @@ pub record IsRisen {S : Type 0} (look : S → StoreView) (q : ServerNo) (g : Cou
   pub remembers : memory_of (view_with look p') ≡ restored q (found_on g (look s) pick) works tids
   pub finds : (c : Pick) → (view_with look p').storage.found c ≡ with_epoch (found_on g (look s) pick)
   pub epoch_is : epoch ≡ (found_on g (look s) pick).epoch + 1
-  pub before_last : (found_on g (look s) pick).epoch < 4294967295
+  pub before_last : (found_on g (look s) pick).epoch < last_epoch
   pub beside : beside_of (view_with look p').storage.accounts ≡ record (beside_on g (pages_by (look s) pick)) { rubbish = 0 }
   pub clean : (view_with look p').storage.accounts.rubbish ≡ []
   pub front : IsFrontClean g (look p'.storage.0)
@@ -186,7 +186,7 @@ pub record IsAtLast {S : Type 0} (look : S → StoreView) (device : S → Device
   pub power : (look called).power ≡ true
   pub device_is : device s' ≡ powered_off (device called)
   pub each : (c : Pick) → (b : Pick) × (found_on g (look s') c ≡ found_on g (look s) b)
-  pub last : (c : Pick) → (found_on g (look s') c).epoch ≡ 4294967295
+  pub last : (c : Pick) → (found_on g (look s') c).epoch ≡ last_epoch
 
 abbrev pub Rises : {S : Type 0} → (S → StoreView) → (S → DeviceState) → ServerNo → Counts → S → Restarted → Slot S → Type 0
 Rises look device q g s (came.Up epoch tids) (Up p') = IsRisen look q g s epoch tids.items p'

@@ -36,8 +36,8 @@ pub use Rattle.jn_records.specs.declared.intention.StoredIntention.{StoredIntent
 pub use Rattle.jn_records.specs.Intentions.{what_code, what_of, intention_bytes, IntentionFits}
 unfoldable pub use Rattle.jn_records.specs.Intentions.{intention_at}
 pub use Rattle.std.proofs.lemmas.Bool.{true≢false, false≢true}
-pub use Rattle.jn_records.specs.MapPlaces.{is_in_range, keeps_map, MapPlaces, has_map_after, lacks_map, lacking, places_after, places_then, need_of, bare, IsSupplied}
-pub use Rattle.jn_records.specs.Layouts.{Layout, Of, map_cell, at_cell, through, laid, layout_by, layouts_by, layout_at, has_address, IsOnce, with_cell, with_entries, with_row, cut_inside, cut_cells, head_map, IsMapIn, IsNoMap, IsRowChanged, Unused, is_layout_of, behind, block_in, files_in, IsPartCut}
+pub use Rattle.jn_records.specs.MapPlaces.{is_in_range, MapPlaces, has_map_after, lacks_map, lacking, places_after, places_then, need_of, bare, keeps_map, IsSupplied}
+pub use Rattle.jn_records.specs.Layouts.{Layout, Of, map_cell, at_cell, through, laid, layout_by, layouts_by, layout_at, has_address, with_entries, with_row, cut_inside, head_map, IsMapIn, IsNoMap, IsRowChanged, Unused, is_layout_of, behind, block_in, files_in, IsPartCut}
 pub use Rattle.jn_base.specs.declared.names.WorkId.{WorkId}
 pub use Rattle.jn_fields.specs.Names.{tid_bytes, work_bytes, unit_bytes, WorkFits, work_at, unit_at, unit_has_page, UnitFits}
 pub use Rattle.jn_records.specs.Records.{prepared_bytes, record_bytes, reads_have_page, has_page, PreparedFits, FlagFits, RecordFits, prepared, ascends}

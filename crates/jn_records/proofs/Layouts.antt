@@ -1,5 +1,5 @@
 -- What a put of one page makes of layouts, and which addresses they have.
-use Rattle.jn_records.proofs.Common.{◌≡◌, ◌≢◌, ◌<◌, ◌≤◌, ◌-◌, ◌/◌, ◌%◌, ℕ, zero, suc, Bool, true, false, ◌&&◌, ◌||◌, if◌then◌else◌, List, [], ◌∷◌, map, slice_index, slice_index_or, slice_set, refl, sym, ◌∙◌, ap, arith, fun_ext, true≢false, nat_eq, nat_lt, nat_le, nat_tests, Head, Free, Used, head_blocks, most_maps, most_blocks, most_cells, is_in_range, keeps_map, Layout, Of, map_cell, at_cell, through, laid, layout_by, layouts_by, layout_at, has_address, IsOnce, with_cell, with_entries, with_row, cut_inside, cut_cells, head_map, IsMapIn, IsNoMap, IsRowChanged}
+use Rattle.jn_records.proofs.Common.{◌≡◌, ◌≢◌, ◌<◌, ◌≤◌, ◌-◌, ◌/◌, ◌%◌, ℕ, zero, suc, Bool, true, false, ◌&&◌, ◌||◌, if◌then◌else◌, List, [], ◌∷◌, map, slice_index, slice_index_or, slice_set, refl, sym, ◌∙◌, ap, arith, fun_ext, true≢false, nat_eq, nat_lt, nat_le, nat_tests, Head, Free, Used, head_blocks, most_maps, most_blocks, most_cells, is_in_range, Layout, Of, map_cell, at_cell, through, laid, layout_by, layouts_by, layout_at, has_address, with_entries, with_row, cut_inside, head_map, IsMapIn, IsNoMap, IsRowChanged}
 unfoldable use Rattle.jn_records.specs.Layouts.{any_below}
 pub use Rattle.std.proofs.lemmas.List.{map-set as set-map}
 pub use Rattle.std.proofs.Math.ListN.{get_or-map as get-map}
@@ -163,23 +163,8 @@ has-found h n a k = let r = any-found n (λ p. nat_eq (at_cell h p) a) k in (r.0
 
 -- ---- each page once
 
-pub cut-was : (cells : ℕ → ℕ) (n a p : ℕ) → cut_cells n cells p ≡ suc a → cells p ≡ suc a
-cut-was cells n a p h = by (nat_lt p most_blocks) (nat_le n p) (keeps_map n (p - most_blocks)) h
-  where
-    by : (x y z : Bool) → (if x then (if y then 0 else cells p) else (if z then cells p else 0)) ≡ suc a → cells p ≡ suc a
-    by x y z e = grind (arith, e)
-
 pub inside-was : (cells : ℕ → ℕ) (n j a p : ℕ) → cut_inside n j cells p ≡ suc a → cells p ≡ suc a
 inside-was cells n j a p h = by (nat_lt p most_blocks && (is_in_range j p && nat_le n p)) h
   where
     by : (x : Bool) → (if x then 0 else cells p) ≡ suc a → cells p ≡ suc a
     by x e = grind (arith, e)
-
-pub cell-once : (cells : ℕ → ℕ) (p a : ℕ) → IsOnce cells → ((q : ℕ) → cells q ≢ suc a) → IsOnce (with_cell p (suc a) cells)
-cell-once cells p a once new b x y h k = by (nat_eq x p) (nat_eq y p) refl refl h k
-  where
-    by : (s t : Bool) → nat_eq x p ≡ s → nat_eq y p ≡ t → (if s then suc a else cells x) ≡ suc b → (if t then suc a else cells y) ≡ suc b → x ≡ y
-    by true true d e u v = equal x p d ∙ sym (equal y p e)
-    by true false d e u v = absurd (new y (v ∙ sym u))
-    by false true d e u v = absurd (new x (u ∙ sym v))
-    by false false d e u v = once b x y u v

@@ -1,5 +1,5 @@
 -- The heads of files and their map pages: their bytes, and how they are read.
-use Rattle.std.specs.Prelude.{◌≡◌, ◌<◌, ◌^◌, ◌++◌, ◌&&◌, ◌||◌, not, ℕ, List, [], length, Option, Some, None, nat_eq, nat_le, Bool, true, flat_map, if◌then◌else◌, slice_index_or}
+use Rattle.std.specs.Prelude.{◌≡◌, ◌<◌, ◌^◌, ◌++◌, ◌&&◌, ◌||◌, not, ℕ, List, [], length, Option, Some, None, nat_eq, nat_le, Bool, true, false, flat_map, if◌then◌else◌, slice_index_or}
 use Rattle.std.specs.List.{list_all}
 use Rattle.jn_base.specs.Limits.{head_blocks, most_maps}
 use Rattle.jn_base.specs.declared.names.FileNo.{FileNo}
@@ -29,6 +29,10 @@ has_page (Used file addresses maps) = nat_eq (length addresses) head_blocks && n
 -- the head at a place: free past the last one
 abbrev pub head_in : List Head → ℕ → Head
 head_in heads place = slice_index_or heads place Free
+
+abbrev pub is_free : Head → Bool
+is_free Free = true
+is_free (Used file addresses maps) = false
 
 -- no address is past the data pages: 0 is none, and a page's is its index and 1
 abbrev pub all_within : ℕ → List ℕ → Bool

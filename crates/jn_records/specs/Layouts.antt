@@ -1,5 +1,5 @@
 -- What the heads of files say together with their map pages: of each file, where its pages are.
-use Rattle.std.specs.Prelude.{◌≡◌, ◌≢◌, ◌<◌, ◌+◌, ◌-◌, ◌/◌, ◌%◌, ℕ, zero, suc, Bool, true, false, ◌&&◌, ◌||◌, nat_eq, nat_lt, nat_le, if◌then◌else◌, List, [], map, slice_index, slice_index_or, Option, None, Some, option_map, option_and_then}
+use Rattle.std.specs.Prelude.{◌≡◌, ◌≢◌, ◌<◌, ◌+◌, ◌-◌, ◌%◌, ℕ, zero, suc, Bool, true, false, ◌&&◌, ◌||◌, nat_eq, nat_lt, nat_le, if◌then◌else◌, List, [], map, slice_index, slice_index_or, Option, None, Some, option_map, option_and_then}
 use Rattle.std.specs.List.{find}
 use Rattle.jn_base.specs.Limits.{head_blocks, most_maps, most_blocks, most_cells}
 use Rattle.jn_base.specs.Names.{file_eq}
@@ -10,7 +10,7 @@ use Rattle.jn_order.specs.Files.{Files, there}
 use Rattle.jn_records.specs.declared.head.Head.{Head}
 use Rattle.jn_records.specs.declared.head.Head.TheVariants.{Free, Used}
 use Rattle.jn_records.specs.Heads.{head_in}
-use Rattle.jn_records.specs.MapPlaces.{is_in_range, keeps_map, range_of}
+use Rattle.jn_records.specs.MapPlaces.{is_in_range, range_of}
 
 -- The file that has a head, and of each cell the address there, 0 for none. Cell p is that of block p, and behind the blocks'
 -- stand those of the map pages.
@@ -67,10 +67,6 @@ any_below (suc n) test = test n || any_below n test
 abbrev pub has_address : ℕ → ℕ → Layout → Bool
 has_address n a h = any_below n (λ q. nat_eq (at_cell h q) a)
 
--- no page has two cells
-abbrev pub IsOnce : (ℕ → ℕ) → Type 0
-IsOnce cells = (a p q : ℕ) → cells p ≡ suc a → cells q ≡ suc a → p ≡ q
-
 -- ---- the files
 
 -- what an address leads to: 0 to nothing, and any other to the data page whose index and 1 it is
@@ -103,10 +99,6 @@ with_row j entries (Of f cells) = Of f (with_entries j entries cells)
 -- map page j without its blocks from n on: the first put of a cut that falls inside of it
 abbrev pub cut_inside : ℕ → ℕ → (ℕ → ℕ) → ℕ → ℕ
 cut_inside n j cells q = if nat_lt q most_blocks && (is_in_range j q && nat_le n q) then 0 else cells q
-
--- no blocks from n on, and no map pages whose first block is n or above: the head's put
-abbrev pub cut_cells : ℕ → (ℕ → ℕ) → ℕ → ℕ
-cut_cells n cells q = if nat_lt q most_blocks then (if nat_le n q then 0 else cells q) else if keeps_map n (q - most_blocks) then cells q else 0
 
 -- ---- whose map page a data page is
 

@@ -16,6 +16,10 @@ format_version = 2
 abbrev pub IsVersion : ℕ → Type 0
 IsVersion n = (n ≡ 1) ⊎ (n ≡ 2)
 
+-- the last epoch that a root has: no restart begins behind it
+abbrev pub last_epoch : ℕ
+last_epoch = 4294967295
+
 -- the root: the format's name, its version, then its fields
 abbrev pub root_bytes : Root → List ℕ
 root_bytes r = codes "JUN1" ++ big_bytes 1 r.version ++ big_bytes 1 r.server.0 ++ big_bytes 2 r.pool ++ big_bytes 2 r.heads ++ big_bytes 2 r.leaves ++ big_bytes 4 r.epoch

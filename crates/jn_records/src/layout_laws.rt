@@ -1,10 +1,10 @@
 //! What one put of a page makes of layouts and of the files.
-ghost use Rattle.std.specs.Prelude.{◌≡◌, ◌≢◌, ◌<◌, ℕ, suc, true, List, slice_set};
+ghost use Rattle.std.specs.Prelude.{◌≡◌, ◌<◌, ℕ, true, List, slice_set};
 ghost use Rattle.jn_base.specs.declared.names.BlockNo.{BlockNo};
 ghost use Rattle.jn_base.specs.declared.names.FileNo.{FileNo};
 ghost use Rattle.jn_order.specs.Files.{change, cut_from};
 ghost use Rattle.jn_records.specs.declared.head.Head.{Head};
-ghost use Rattle.jn_records.specs.Layouts.{Layout, at_cell, layout_by, layouts_by, layout_at, has_address, IsOnce, files_in, with_cell, with_row, cut_inside, cut_cells, IsMapIn, IsNoMap, IsRowChanged, IsPartCut};
+ghost use Rattle.jn_records.specs.Layouts.{Layout, at_cell, layout_by, layouts_by, layout_at, has_address, files_in, with_row, IsMapIn, IsNoMap, IsRowChanged, IsPartCut};
 ghost use Rattle.jn_records.specs.MapPlaces.{is_in_range};
 ghost use Rattle.jn_records.specs.NetLists.{among};
 
@@ -12,13 +12,6 @@ ghost use Rattle.jn_records.specs.NetLists.{among};
 pub fn a_layout_has_what_stands_at_a_cell()
     ensures at { (h : Layout) (n a q : ℕ) → q < n → at_cell h q ≡ a → has_address n a h ≡ true }
     ensures found { (h : Layout) (n a : ℕ) → has_address n a h ≡ true → (q : ℕ) × (q < n) × (at_cell h q ≡ a) }
-{}
-
-/// What one put of a page makes of cells names no data page twice.
-pub fn a_layout_names_each_page_once()
-    ensures cell { (cells : ℕ → ℕ) (p a : ℕ) → IsOnce cells → ((q : ℕ) → cells q ≢ suc a) → IsOnce (with_cell p (suc a) cells) }
-    ensures cut { (cells : ℕ → ℕ) (n : ℕ) → IsOnce cells → IsOnce (cut_cells n cells) }
-    ensures inside { (cells : ℕ → ℕ) (n j : ℕ) → IsOnce cells → IsOnce (cut_inside n j cells) }
 {}
 
 /// Each put of a page changes one layout, or none.

@@ -45,8 +45,7 @@ pub use flag::Flag;
 pub use head::{Head, used_page};
 pub use intention::{Intention, StoredIntention, What};
 pub use layout_laws::{
-    a_layout_has_what_stands_at_a_cell, a_layout_in_part_is_a_cut_in_part,
-    a_layout_names_each_page_once, a_put_changes_one_layout,
+    a_layout_has_what_stands_at_a_cell, a_layout_in_part_is_a_cut_in_part, a_put_changes_one_layout,
 };
 pub use list::ListOf;
 pub use map::{is_map_page, map_entries, map_page, read_entries};

@@ -3,7 +3,8 @@ use Rattle.jn_recovery.proofs.Common.{◌≡◌, ◌⊎◌, inl, inr, ⊎_elim, 
 use Rattle.std.proofs.lemmas.List.{length-append}
 use Rattle.jn_alloc.specs.Free.{free_count, is_free as is_free_number}
 use Rattle.jn_base.specs.declared.names.LockUnit.{LockUnit}
-use Rattle.jn_files.specs.Table.{is_free, layouts_in}
+use Rattle.jn_files.specs.Table.{layouts_in}
+use Rattle.jn_records.specs.Heads.{is_free}
 use Rattle.jn_recovery.proofs.Bridge.{same_there, same_mapped}
 use Rattle.jn_recovery.proofs.Cells.{same_test, table_fits, one_layout, named_cell, cell_named, cell_below}
 use Rattle.jn_recovery.proofs.Keys.{is_key, on_key, keys_length, keys_in, keys_differ}

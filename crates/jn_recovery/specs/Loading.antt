@@ -11,7 +11,7 @@ use Rattle.jn_page_state.specs.Recovery.{FindsSame}
 use Rattle.jn_files.specs.Table.{TableView, is_touched}
 use Rattle.jn_records.specs.Layouts.{IsNoMap}
 use Rattle.jn_records.specs.MapPlaces.{maps_in}
-use Rattle.jn_records.specs.Pages.{root_page}
+use Rattle.jn_records.specs.Pages.{root_page, last_epoch}
 use Rattle.jn_records.specs.StablePages.{Counts, root_by, slot_place, head_place, data_place}
 use Rattle.jn_rows.specs.Stable.{StableState, Pick}
 use Rattle.jn_sets.specs.Pool.{record_in}
@@ -105,17 +105,17 @@ pub record IsLoaded (server : ServerNo) (g : Counts) (v : StoreView) (told : Fou
 -- the root that was read has the last epoch, and nothing was put but by cleanups
 pub record IsUsedUp (g : Counts) (v w : StoreView) : Type 0 where
   pub read : Pick
-  pub last : (found_on g v read).epoch ≡ 4294967295
+  pub last : (found_on g v read).epoch ≡ last_epoch
   pub fewer : IsFewer v w
   -- each pick reads that root now
-  pub all : (c : Pick) → (found_on g w c).epoch ≡ 4294967295
+  pub all : (c : Pick) → (found_on g w c).epoch ≡ last_epoch
   -- no call was stopped
   pub power : w.power ≡ true
 
 -- the root that was read has an epoch before the last
 pub record IsNotUsedUp (g : Counts) (v : StoreView) : Type 0 where
   pub read : Pick
-  pub before_last : (found_on g v read).epoch < 4294967295
+  pub before_last : (found_on g v read).epoch < last_epoch
 
 -- There is no storage.
 pub record IsDown (server : ServerNo) (g : Counts) (v : StoreView) (cause : DownCause) (w : StoreView) : Type 0 where

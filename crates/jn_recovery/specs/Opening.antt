@@ -9,7 +9,7 @@ use Rattle.jn_records.specs.declared.head.Head.{Head}
 use Rattle.jn_records.specs.declared.record.Record.{Record}
 use Rattle.jn_records.specs.declared.root.Root.{Root}
 use Rattle.jn_records.specs.MapPlaces.{maps_named}
-use Rattle.jn_records.specs.Pages.{root_page, format_version}
+use Rattle.jn_records.specs.Pages.{root_page, format_version, last_epoch}
 use Rattle.jn_records.specs.StablePages.{Counts, root_by, data_place}
 use Rattle.jn_rows.specs.Stable.{Pick, Unchanged}
 use Rattle.jn_store.specs.Store.{StoreView, StoreLater, IsCalm, IsClean, IsOnly, IsSamePage, IsWholePage, IsStop}
@@ -25,9 +25,9 @@ use Rattle.jn_recovery.specs.declared.opening.Opened.{Opened}
 
 -- a root is read, unless its epoch is the last
 abbrev pub RootRead : Root → Result Root DownCause → Type 0
-RootRead root (Ok r) = (r ≡ root) × (root.epoch < 4294967295)
+RootRead root (Ok r) = (r ≡ root) × (root.epoch < last_epoch)
 RootRead root (Err Stopped) = Unit {0}
-RootRead root (Err EpochsUsedUp) = root.epoch ≡ 4294967295
+RootRead root (Err EpochsUsedUp) = root.epoch ≡ last_epoch
 RootRead root (Err Memory) = ⊥
 
 -- of the version that is written, whichever was read
@@ -60,7 +60,7 @@ pub record Stands (server : ServerNo) (g : Counts) (v : StoreView) (most was epo
 -- root, records and heads were cleaned and read
 pub record IsOpened (server : ServerNo) (g : Counts) (v : StoreView) (o : Opened) (w : StoreView) : Type 0 where
   pub root : o.root ≡ record (root_by server g o.root.epoch) { version = o.root.version }
-  pub last : o.root.epoch < 4294967295
+  pub last : o.root.epoch < last_epoch
   pub table : IsTableLoaded g o.table
   pub stands : Stands server g v (reading_calls g) o.root.epoch o.root.epoch o.sets o.table.heads o.table.maps w
 
@@ -99,7 +99,7 @@ pub record ErasesAll (server : ServerNo) (g : Counts) (v : StoreView) (epoch : �
 -- the root has the next epoch and the version that is written, and no record is rubbish
 pub record IsBegun (server : ServerNo) (g : Counts) (v : StoreView) (o : Opened) (epoch : ℕ) (w : StoreView) : Type 0 where
   pub root : o.root ≡ record (root_by server g o.root.epoch) { version = o.root.version }
-  pub last : o.root.epoch < 4294967295
+  pub last : o.root.epoch < last_epoch
   pub next : epoch ≡ o.root.epoch + 1
   pub table : IsTableLoaded g o.table
   pub stands : Stands server g v (most_calls g 0) o.root.epoch epoch o.sets o.table.heads o.table.maps w

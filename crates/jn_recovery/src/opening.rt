@@ -5,7 +5,7 @@ ghost use Rattle.jn_page_state.specs.Recoverable.{IsRecoverable};
 ghost use Rattle.jn_page_state.specs.Standing.{IsStanding};
 ghost use Rattle.jn_records.specs.declared.head.Head.{Head};
 ghost use Rattle.jn_records.specs.declared.root.Root.{Root as RootOf};
-ghost use Rattle.jn_records.specs.Pages.{root_page, IsRoot};
+ghost use Rattle.jn_records.specs.Pages.{root_page, IsRoot, last_epoch};
 ghost use Rattle.jn_records.specs.StablePages.{Counts};
 ghost use Rattle.jn_store.specs.Store.{IsCalm, IsOnly, IsServed, IsStop, StorePut, StoreRead};
 ghost use Rattle.jn_recovery.specs.Loading.{IsDown};
@@ -89,7 +89,7 @@ fn read_root<S: StableStore>(store: &mut S) -> Result<Root, DownCause>
 /// Puts the root with the next epoch, in the version that is written.
 fn count_restart<S: StableStore>(store: &mut S, root: &Root) -> Result<u32, Stopped>
     requires there { 0 < (S.view store.old).count }
-    requires before_last { root.now.epoch < 4294967295 }
+    requires before_last { root.now.epoch < last_epoch }
     ensures epoch { IfOk result (λ epoch. epoch ≡ root.now.epoch + 1) }
     ensures put { StorePut (S.view store.old) 0 (root_page (next_root root.now)) (is_ok result) (S.view store.new) }
 {

@@ -17,12 +17,12 @@ pub use Rattle.jn_rows.specs.declared.coordinator.Stage.TheVariants.{Open, Votin
 pub use Rattle.jn_rows.specs.declared.coordinator.Committed.{Committed as Commitment}
 pub use Rattle.jn_rows.specs.Stable.{StableState, Change, AddFlag, DropFlag, made_by, made_all, Prepared, FlagState, AddReady, MarkGoing, RemoveWork, is_going, at_work, gone_on, ready_work, Left, Pick, stable, left_of}
 pub use Rattle.jn_rows.specs.Outcomes.{RowOutcome, Sent}
-pub use Rattle.jn_rows.specs.Coordinator.{CoordinatorTable, transaction_at, with_stage, besides, drops, commits, prepares, commit_row, after_closing, changes_of_closing, coordinator_row, close_clients_row, committed_to, aborted_to, without, begun_by, told_again, coordinator_again, restored_transaction, restored_transactions}
+pub use Rattle.jn_rows.specs.Coordinator.{CoordinatorTable, transaction_at, with_stage, besides, drops, commits, prepares, commit_row, after_closing, changes_of_closing, coordinator_row, close_clients_row, committed_to, aborted_to, is_committed, without, begun_by, told_again, coordinator_again, restored_transaction, restored_transactions}
 pub use Rattle.jn_system.proofs.WholeSystem.Closes.{Closes, Empty, Stays, Goes, Waits, Forgets, client-closes, outcomes-close}
 pub use Rattle.jn_msgs.specs.Weights.{weight}
 pub use Rattle.jn_msgs.specs.Ranges.{is_few, is_small, are_near, is_near, is_any_near, names_near, are_both_near, CanBeTaken}
 pub use Rattle.jn_system.specs.WholeSystem.Near.{is_small_stage}
-pub use Rattle.jn_row_ranges.specs.Sizes.{are_small_stages, is_committed, committed_at, AreFlagsOf, HasSizes, AreOrderly}
+pub use Rattle.jn_row_ranges.specs.Sizes.{are_small_stages, committed_at, AreFlagsOf, HasSizes, AreOrderly}
 pub use Rattle.jn_base.specs.declared.names.RequestNo.{RequestNo}
 pub use Rattle.jn_system.proofs.WholeSystem.CoordinatorCases.{IsListed, WantsEnd, wants_to_commit, wants_to_abort, WantsOutcome, wants_outcome, votes_late, Saying, says_nothing, says_begun, says_unknown, prepares_again, says_committed, says_aborted, says_commit, says_drop, says_waiting, Committing, has_no_works, is_last_vote, Aborting, finds_no_record, stops_open, stops_voting, work_is_lost, work_is_broken, work_has_no_room, Noting, work_is_done, client_thanks, CoordinatorCase, is_ignored_by, is_left_by, begins_anew, finds_no_room, starts_voting, counts_vote, is_committed_by, is_aborted_by, notes_commit, forgets_commit, forgets_abort, coordinator-case}
 pub use Rattle.jn_row_ranges.specs.Weighing.{weigh_all, goings, Lightens}

@@ -4,9 +4,8 @@ use Rattle.jn_base.specs.declared.names.Tid.{Tid}
 use Rattle.jn_base.specs.declared.names.WorkId.{WorkId}
 use Rattle.jn_base.specs.declared.names.Tickets.{Tickets}
 use Rattle.jn_base.specs.Names.{tid_eq}
+use Rattle.jn_rows.specs.Coordinator.{is_committed}
 use Rattle.jn_rows.specs.declared.coordinator.Transaction.{Transaction}
-use Rattle.jn_rows.specs.declared.coordinator.Stage.{Stage}
-use Rattle.jn_rows.specs.declared.coordinator.Stage.TheVariants.{Committed}
 use Rattle.jn_rows.specs.Stable.{StableState, Prepared, FlagState}
 use Rattle.jn_rows.specs.Worker.{WorkerTable, work_at, name_from}
 use Rattle.jn_lock_rows.specs.Matching.{are_rising, is_after}
@@ -18,10 +17,6 @@ use Rattle.jn_system.specs.WholeSystem.Near.{is_small_stage}
 abbrev pub are_small_stages : ℕ → List Transaction → Bool
 are_small_stages servers [] = true
 are_small_stages servers (x ∷ xs) = is_small_stage servers x.stage && are_small_stages servers xs
-
-abbrev pub is_committed : Stage → Bool
-is_committed (Committed d) = true
-is_committed stage = false
 
 -- whether the first transaction of this name has committed
 abbrev pub committed_at : Tid → List Transaction → Bool

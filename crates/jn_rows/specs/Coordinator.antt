@@ -41,6 +41,10 @@ abbrev pub transaction_at : Tid → List Transaction → Option Transaction
 transaction_at T [] = None
 transaction_at T (x ∷ xs) = if tid_eq x.tid T then Some x else transaction_at T xs
 
+abbrev pub is_committed : Stage → Bool
+is_committed (Committed d) = true
+is_committed stage = false
+
 abbrev pub with_stage : Tid → Stage → List Transaction → List Transaction
 with_stage T stage [] = []
 with_stage T stage (x ∷ xs) = if tid_eq x.tid T then record x { stage = stage } ∷ xs else x ∷ with_stage T stage xs

@@ -25,7 +25,7 @@ use Rattle.jn_records.specs.declared.intention.Intention.{Intention}
 use Rattle.jn_records.specs.declared.net_list.Need.{Need}
 use Rattle.jn_records.specs.NetLists.{list_change, length_with}
 use Rattle.jn_records.specs.MapPlaces.{MapPlaces, need_of}
-use Rattle.jn_records.specs.NetEdits.{intention_for, with_intention}
+use Rattle.jn_records.specs.NetEdits.{intention_for, list_after}
 use Rattle.jn_locks.specs.declared.words.Mode.{Mode}
 use Rattle.jn_locks.specs.declared.words.Mode.TheVariants.{Read, IntentionWrite, Commit}
 use Rattle.jn_locks.specs.Locks.{together, mode_eq, some_mode, is_unit, unit_before}
@@ -215,11 +215,6 @@ is_fit NoFile = false
 is_fit Exists = false
 is_fit answer = true
 
--- the list once an operation is done
-abbrev pub list_with : Option Intention → Op → List Intention → List Intention
-list_with None op list = list
-list_with (Some new) op list = with_intention op list new
-
 -- an operation has used up its number, and its answer is kept
 abbrev pub counted : ActiveWork → Answer → ActiveWork
 counted a answer = record a { last = a.last + 1; kept = Some answer }
@@ -227,7 +222,7 @@ counted a answer = record a { last = a.last + 1; kept = Some answer }
 -- once its wants are granted too
 abbrev pub done : ActiveWork → Op → Answer → List Wanted → ActiveWork
 done a op answer wants = record (counted a answer) {
-  list = if is_fit answer then list_with (intention_for a.list op) op a.list else a.list;
+  list = if is_fit answer then list_after (intention_for a.list op) op a.list else a.list;
   reads = with_units (units_for Read wants) a.reads;
   writes = with_units (units_for IntentionWrite wants) a.writes;
 }

@@ -16,7 +16,7 @@ pub use Rattle.jn_node_run.specs.Outcome.{NodeEnds, node_done, node_not_loaded, 
 pub use Rattle.jn_options.specs.declared.asked.Opening.{Opening}
 pub use Rattle.jn_schedule.specs.Faults.{IsFirstFault}
 pub use Rattle.jn_writing.specs.Outside.{Outside, SourceState, SinkState, KeeperState, NoneFails, sink_state, Writes, KeeperFails, source_state, outside, keeper_state, FailsToWrite}
-pub use Rattle.jn_run.specs.Outcome.{IsCutShort, IsWholeReport, Keeps, KeepsFirst, OutcomeOf, ReadsSchedule, RefusedImage, RefusedSchedule, RunEnds, TrialEnds, WordsEnd, words_refused, words_not_written, words_no_memory, done, not_read, too_many_bytes, too_many_events, schedule_refused, schedule_not_written, not_loaded, image_refused, image_not_written, at_limit, not_written, not_saved, no_memory, no_memory_inside, no_memory_saving, trial_done, trial_not_written, trial_at_limit, trial_no_memory, geometry_counts, AreNew, BeginsWith, Opens, no_files, IsUntouched, Accepted, AreKept, IsRefusedImage, LeavesFiles, most_events, Ran, Reads, refused_line, IsPart, BeginsFromImages, HasTooManyBytes, trial_options, RanTrial, TrialToLimit}
+pub use Rattle.jn_run.specs.Outcome.{IsCutShort, IsWholeReport, Keeps, KeepsFirst, OutcomeOf, ReadsSchedule, RefusedImage, RefusedSchedule, RunEnds, TrialEnds, WordsEnd, words_refused, words_not_written, words_no_memory, done, not_read, too_many_bytes, too_many_events, schedule_refused, schedule_not_written, not_loaded, image_refused, image_not_written, at_limit, not_written, not_saved, no_memory, no_memory_inside, no_memory_saving, trial_done, trial_not_written, trial_at_limit, trial_no_memory, geometry_counts, AreNew, BeginsWith, Opens, IsUntouched, Accepted, AreKept, IsRefusedImage, LeavesFiles, most_events, Ran, Reads, refused_line, IsPart, BeginsFromImages, HasTooManyBytes, trial_options, RanTrial, TrialToLimit}
 pub use Rattle.jn_serving.specs.Input.{IsText, most_bytes}
 pub use Rattle.jn_status.specs.declared.status.Status.{Status}
 pub use Rattle.std.specs.Prelude.{is_ok, nat_lt, ◌*◌, option_map, take, IfSome}
@@ -30,7 +30,7 @@ pub use Rattle.jn_page_state.specs.Images.{IsFresh, IsImage}
 pub use Rattle.jn_image.proofs.SoundPages.{sound_pages}
 pub use Rattle.jn_image_files.specs.Opened.{IsStoreOf, AreStoresOf as AreStoresOfImages, AreWithin, IsOpened, AreClosed, AreStoresOf, found_at}
 pub use Rattle.jn_options.specs.Words.{IsOpening, command_of}
-pub use Rattle.jn_order.specs.Files.{Files, AllFiles}
+pub use Rattle.jn_order.specs.Files.{Files, AllFiles, no_files}
 pub use Rattle.jn_records.specs.Sound.{HasRoot}
 pub use Rattle.jn_records.specs.StablePages.{Counts, root_by, page_count}
 pub use Rattle.jn_recovery.specs.declared.counts.PageCounts.{PageCounts}

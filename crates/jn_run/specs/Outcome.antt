@@ -9,7 +9,7 @@ use Rattle.jn_schedule.specs.Grammar.{IsSchedule}
 use Rattle.jn_schedule.specs.Faults.{IsFirstFault}
 use Rattle.jn_base.specs.declared.names.LockUnit.{LockUnit}
 use Rattle.jn_base.specs.declared.names.ServerNo.{ServerNo}
-use Rattle.jn_order.specs.Files.{AllFiles}
+use Rattle.jn_order.specs.Files.{AllFiles, no_files}
 use Rattle.jn_records.specs.StablePages.{Counts, root_by}
 use Rattle.jn_store.specs.Pairs.{pairs_view}
 use Rattle.jn_disks.specs.Disks.{IsNewStore}
@@ -52,9 +52,6 @@ geometry_counts g = record { pool = g.pool; heads = g.heads; leaves = g.leaves }
 -- each server's disk is new: good pages of zeros behind a root of version 2 and epoch 0, with power and no fault
 abbrev pub AreNew : Geometry → ℕ → Devices → Type 0
 AreNew g servers images = (q : ServerNo) → q.0 < servers → IsNewStore (root_by q (geometry_counts g) 0) (pairs_view (images q))
-
-abbrev pub no_files : AllFiles
-no_files s u = None
 
 -- the disks are new, with so many pages, or those of the images of this name
 abbrev pub BeginsWith : Opening → Option Contents → Setup → AllFiles → Devices → Type 0

@@ -35,7 +35,7 @@ pub use Rattle.jn_server.specs.Holding.{HoldsAll}
 pub use Rattle.jn_server.specs.Reading.{CountsPages, AreCountsOfPages, IsRoomOfPages, StandsOnPages}
 pub use Rattle.jn_intent.specs.Scrubbing.{counts_in, Scrubbed}
 pub use Rattle.jn_server.specs.Counted.{CountsAll}
-pub use Rattle.jn_server.specs.Standing.{standing_pages, beside_on, is_free_head, is_free_page, promised_heads}
+pub use Rattle.jn_server.specs.Standing.{standing_pages, beside_on, is_free_page, promised_heads}
 pub use Rattle.jn_worker.specs.Calls.{CountsBy, HoldsBy, pages_named, TimesOut as WorkerTimesOut, Steps as WorkerSteps, AsksAgain, Takes}
 pub use Rattle.jn_base.proofs.Tells.{work_tells, file_tells, block_tells, tid_tells}
 pub use Rattle.jn_records.specs.MapPlaces.{lacking, names_maps, maps_in}

@@ -1,13 +1,12 @@
 -- What the rows read of a storage is what stands on its pages.
-use Rattle.jn_server.proofs.Common.{◌≡◌, ⊎_elim, ◌<◌, ◌+◌, ◌-◌, ℕ, suc, Bool, true, false, not, ◌&&◌, ◌||◌, if◌then◌else◌, List, [], ◌∷◌, length, Option, Some, None, refl, sym, ◌∙◌, ap, subst, true≢false, arith, nat_tests, is_some, count_by, nat_lt, slice_index_or, list_any, Tickets, WorkId, work_eq, work_tells, Counts, Pages, Work, StableState, Prepared, WorkerTable, work_at, intentions_of, promised, is_before, is_in, are_different, total, Accounts, IsCounted, intentions, list_of, state, StoreView, pool_on, heads_on, listed, Kept, view_of, rubbish_in, WorkerView, WorkFits, is_none, Remembered, ServerView, IsServer, IsRoomOfPages, CountsPages, file_there, most_cells, contents_of, stored_by, supplied_in, name_of, beside_of, fun_ext, option_map, option_and_then, find, heads_of, standing_pages, beside_on, is_free_head, is_free_page, promised_heads, WorkState, are_rising, names_maps, maps_in}
+use Rattle.jn_server.proofs.Common.{◌≡◌, ⊎_elim, ◌<◌, ◌+◌, ◌-◌, ℕ, suc, Bool, true, false, not, ◌&&◌, ◌||◌, if◌then◌else◌, List, [], ◌∷◌, length, Option, Some, None, refl, sym, ◌∙◌, ap, subst, true≢false, arith, nat_tests, is_some, count_by, nat_lt, slice_index_or, list_any, Tickets, WorkId, work_eq, work_tells, Counts, Pages, Work, StableState, Prepared, WorkerTable, work_at, intentions_of, promised, is_before, is_in, are_different, total, Accounts, IsCounted, intentions, list_of, state, StoreView, pool_on, heads_on, listed, Kept, view_of, rubbish_in, WorkerView, WorkFits, is_none, Remembered, ServerView, IsServer, IsRoomOfPages, CountsPages, file_there, most_cells, contents_of, stored_by, supplied_in, name_of, beside_of, fun_ext, option_map, option_and_then, find, heads_of, standing_pages, beside_on, is_free_page, promised_heads, WorkState, are_rising, names_maps, maps_in}
 use Rattle.std.proofs.lemmas.List.Sums.{sum_by-cons}
 use Rattle.jn_alloc.specs.Free.{free_count as free_numbers, is_free as is_free_number}
-use Rattle.jn_files.specs.Table.{TableView, IsTable, is_held, is_free, layouts_in, IsUnnamed}
-use Rattle.jn_records.specs.Heads.{head_in}
+use Rattle.jn_files.specs.Table.{TableView, IsTable, is_held, layouts_in, IsUnnamed}
+use Rattle.jn_records.specs.Heads.{is_free, head_in}
 use Rattle.jn_files.proofs.Cells.{cell_below, layout_is}
 use Rattle.jn_records.specs.Layouts.{Layout, at_cell, layout_at}
 use Rattle.jn_records.specs.declared.head.Head.{Head}
-use Rattle.jn_records.specs.declared.head.Head.TheVariants.{Free as FreeHead, Used}
 use Rattle.jn_records.specs.declared.net_list.Need.{Need}
 use Rattle.jn_records.specs.declared.record.Record.{Record}
 use Rattle.jn_records.specs.declared.record.Record.TheVariants.{Free, Intention as IntentionRecord, Ready, Going, Flag as FlagRecord}
@@ -109,19 +108,15 @@ promises_are x a ws counted rising fits = counted.promises ∙ sym (promised_nam
 
 -- ---- heads and data pages
 
-heads_are : (flags : List Bool) (heads : List Head) → length flags ≡ length heads → ((j : ℕ) → j < length heads → slice_index_or flags j false ≡ is_free (head_in heads j)) → count_by (λ b. b) flags ≡ count_by is_free_head heads
+heads_are : (flags : List Bool) (heads : List Head) → length flags ≡ length heads → ((j : ℕ) → j < length heads → slice_index_or flags j false ≡ is_free (head_in heads j)) → count_by (λ b. b) flags ≡ count_by is_free heads
 heads_are [] [] size same = refl
 heads_are [] (h ∷ hs) size same = absurd (omega (arith, size))
 heads_are (b ∷ flags) [] size same = absurd (omega (arith, size))
 heads_are (b ∷ flags) (h ∷ hs) size same =
     let one_more = sum_by-cons (λ (b : Bool). if b then 1 else 0) b flags in
-    let head_more = sum_by-cons (λ h. if is_free_head h then 1 else 0) h hs in
+    let head_more = sum_by-cons (λ h. if is_free h then 1 else 0) h hs in
     let again = heads_are flags hs (omega (arith, size)) (λ j lt. same (suc j) (omega (arith, lt))) in
-    let here : b ≡ is_free_head h = same 0 (omega arith) ∙ test h in grind (arith, one_more, head_more, again, here)
-  where
-    test : (h : Head) → is_free h ≡ is_free_head h
-    test FreeHead = refl
-    test (Used f xs maps) = refl
+    let here : b ≡ is_free h = same 0 (omega arith) in grind (arith, one_more, head_more, again, here)
 
 pages_are : (flags : List Bool) (test : ℕ → Bool) (from : ℕ) → ((j : ℕ) → j < length flags → slice_index_or flags j false ≡ test (from + j)) → count_by (λ b. b) flags ≡ count_by test (listed (λ d. d) from (length flags))
 pages_are [] test from same = refl
@@ -160,7 +155,7 @@ module _ (t : TableView) (table : IsTable t) (pool : List Record) (held : (a : �
       pages_are t.free_leaves.flags is_loose 0 (λ j lt. free_page j (subst (λ (n : ℕ). j < n) table.leaf_count lt) ∙ ap is_loose (omega arith))
       ∙ ap (λ n. count_by is_loose (listed (λ d. d) 0 n)) table.leaf_count
 
-  pub heads_free : free_numbers t.free_heads ≡ count_by is_free_head t.heads
+  pub heads_free : free_numbers t.free_heads ≡ count_by is_free t.heads
   heads_free = heads_are t.free_heads.flags t.heads (let a = table.head_count in let b = table.slots in omega (arith, a, b)) (λ j lt. table.free_heads j (let b = table.slots in omega (arith, lt, b)))
 
 -- ---- the map pages that works name
@@ -216,8 +211,8 @@ module _ (m : Kept) (s : StoreView) (t : WorkerView) (r : Remembered) (k : Ticke
   heads_held : Matches m s → heads_on g pages ≡ m.table.heads
   heads_held now = ap (λ (x : Contents). x.heads) (contents_are now)
 
-  heads_counted : Matches m s → free_numbers m.table.free_heads ≡ count_by is_free_head (heads_on g pages)
-  heads_counted now = heads_free m.table now.table m.records now.held ∙ ap (λ (l : List Head). count_by is_free_head l) (sym (heads_held now))
+  heads_counted : Matches m s → free_numbers m.table.free_heads ≡ count_by is_free (heads_on g pages)
+  heads_counted now = heads_free m.table now.table m.records now.held ∙ ap (λ (l : List Head). count_by is_free l) (sym (heads_held now))
 
   beside_are : Matches m s → beside_of (view_of m s).accounts ≡ beside_on g pages
   beside_are now = λ i. record { rubbish = rubbish_are i; maps = maps_in (sym (heads_held now) i); supplied = supplied_are i }
@@ -251,7 +246,7 @@ module _ (m : Kept) (s : StoreView) (t : WorkerView) (r : Remembered) (k : Ticke
     abbrev promises : ℕ
     promises = promised_heads (state (view_of m s)) t.table
 
-    heads_free_are : (free_numbers m.table.free_heads - m.table.free_heads.promised) ≡ (count_by is_free_head (heads_on g pages) - promises)
+    heads_free_are : (free_numbers m.table.free_heads - m.table.free_heads.promised) ≡ (count_by is_free (heads_on g pages) - promises)
     heads_free_are = ap (λ n. free_numbers m.table.free_heads - n) (promises_are (state (view_of m s)) (view_of m s).accounts t.table serves.works.serving.counted rising serves.works.stored)
         ∙ ap (λ n. n - promises) (heads_counted now)
 

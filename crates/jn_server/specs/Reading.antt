@@ -1,5 +1,6 @@
 -- What the rows of a server read of its storage, as it stands on the pages.
 use Rattle.std.specs.Prelude.{◌≡◌, true, count_by}
+use Rattle.jn_records.specs.Heads.{is_free}
 use Rattle.jn_page_state.specs.Pages.{pool_on, heads_on}
 use Rattle.jn_page_state.specs.Recoverable.{IsRecoverable}
 use Rattle.jn_intent.specs.Scrubbing.{counts_in}
@@ -7,7 +8,7 @@ use Rattle.jn_records.specs.MapPlaces.{maps_in}
 use Rattle.jn_sets.specs.Pool.{free_count}
 use Rattle.jn_server.specs.Counted.{CountsAll}
 use Rattle.jn_server.specs.Seen.{ServerView, memory_of, room_of, IsServer}
-use Rattle.jn_server.specs.Standing.{standing_pages, is_free_head, free_on, beside_on, has_rubbish}
+use Rattle.jn_server.specs.Standing.{standing_pages, free_on, beside_on, has_rubbish}
 use Rattle.jn_storage.specs.Calls.{state}
 use Rattle.jn_worker.specs.Leaving.{beside_of}
 
@@ -21,7 +22,7 @@ pub record IsRoomOfPages (v : ServerView) : Type 0 where
 pub record AreCountsOfPages (v : ServerView) : Type 0 where
   pub free : v.storage.accounts.free_records ≡ free_count (pool_on (counts_in v.storage.accounts) (standing_pages v.storage.store))
   pub beside : beside_of v.storage.accounts ≡ beside_on (counts_in v.storage.accounts) (standing_pages v.storage.store)
-  pub heads : v.storage.accounts.free_heads ≡ count_by is_free_head (heads_on (counts_in v.storage.accounts) (standing_pages v.storage.store))
+  pub heads : v.storage.accounts.free_heads ≡ count_by is_free (heads_on (counts_in v.storage.accounts) (standing_pages v.storage.store))
 
 abbrev pub CountsPages : ServerView → Type 0
 CountsPages v = v.storage.store.power ≡ true → AreCountsOfPages v

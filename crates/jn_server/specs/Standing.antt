@@ -1,8 +1,7 @@
 -- What is free on the pages of a server that is up, and what stands there beside the files, works and flags.
-use Rattle.std.specs.Prelude.{ℕ, ◌+◌, ◌-◌, Bool, true, false, not, List, [], ◌∷◌, count_by}
+use Rattle.std.specs.Prelude.{ℕ, ◌+◌, ◌-◌, Bool, false, not, List, [], ◌∷◌, count_by}
 use Rattle.std.specs.List.{list_any}
-use Rattle.jn_records.specs.declared.head.Head.{Head}
-use Rattle.jn_records.specs.declared.head.Head.TheVariants.{Free as FreeHead, Used}
+use Rattle.jn_records.specs.Heads.{is_free}
 use Rattle.jn_records.specs.declared.net_list.Need.{Need}
 use Rattle.jn_records.specs.declared.record.Record.{Record}
 use Rattle.jn_records.specs.MapPlaces.{maps_in}
@@ -24,10 +23,6 @@ use Rattle.jn_worker.specs.Leaving.{Beside}
 abbrev pub standing_pages : StoreView → Pages
 standing_pages v = pages_by v (λ n. false)
 
-abbrev pub is_free_head : Head → Bool
-is_free_head FreeHead = true
-is_free_head (Used f addresses maps) = false
-
 -- no head, no map page and no prepared work names the data page
 abbrev pub is_free_page : Counts → Pages → ℕ → Bool
 is_free_page g pages d = not (is_named (contents_of g pages) d)
@@ -41,7 +36,7 @@ promised_heads x (w ∷ ws) = heads_of (intentions_of (x.works w.name)) (file_th
 abbrev pub free_on : Counts → Pages → StableState → Memory → Need
 free_on g pages x m = record {
   records = free_count (pool_on g pages) - promised m.coordinator.transactions;
-  heads = count_by is_free_head (heads_on g pages) - promised_heads x m.worker;
+  heads = count_by is_free (heads_on g pages) - promised_heads x m.worker;
   pages = count_by (is_free_page g pages) (listed (λ d. d) 0 g.leaves);
 }
 

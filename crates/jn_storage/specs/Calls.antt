@@ -148,7 +148,7 @@ pub record WorkPrepared {A : Type 0} (v : StorageView) (head : WorkHead) (list :
   pub enough : reached answer ≡ true → shortage v.accounts (needed v.accounts.maps (state v) list) ≡ None
   pub kept : reached answer ≡ false → w ≡ v
   pub called : reached answer ≡ true → Called v prepare_calls (is_ok answer) w
-  -- no more pages change than there are blocks of puts, records of intentions, and the ready record: none is left for a map page
+  -- no more pages change than there are blocks of puts, records of intentions, and the ready record
   pub written : reached answer ≡ true → PutsFew (count_by is_put_intention list + length list + 1) v.store w.store
   pub change : reached answer ≡ true → Changed (state v) (AddReady head list reads) (is_ok answer) w.found
   pub accounts : is_ok answer ≡ true → w.accounts ≡ with_work v.accounts head.work (needed v.accounts.maps (state v) list) (lacking v.accounts.maps list)

@@ -11,7 +11,8 @@ pub use Rattle.jn_records.specs.NetLists.{intention_change, list_change, change_
 pub use Rattle.jn_rows.specs.Stable.{StableState, Prepared, Pick, MarkGoing, CarryOut, RemoveWork, made_by, gone_on, carried_at, FlagState, AddReady, AddFlag, DropFlag, at_work, ready_work, flag_state, at_tid, Change, stable, made_all, is_going, next_after, Left, left_of}
 pub use Rattle.jn_locks.specs.Locks.{is_unit, together, unit_before}
 unfoldable pub use Rattle.jn_locks.specs.Locks.{work_before}
-pub use Rattle.jn_system.specs.SmallSteps.Held.{commit_units, HoldsForCommit, Writes, HasRead, ReadsFiles, file_unit}
+pub use Rattle.jn_lock_rows.specs.Matching.{commit_units, are_rising, is_after, is_before}
+pub use Rattle.jn_system.specs.SmallSteps.Held.{HoldsForCommit, Writes, HasRead, ReadsFiles, file_unit}
 pub use Rattle.jn_system.specs.SmallSteps.World.{World, Working, Knowledge, Unknown, Begun, Voting, Committed, replay, IsSerial}
 pub use Rattle.jn_system.specs.SmallSteps.Steps.{count_to, crash, found_of, restart, put, narrow, lose, Atom, after, run, Prepare, Make, Name, Decide, Narrow, RaiseEpoch, Crash, Restart, server_of, always, name_it, CarryPart, Perform, End, perform, end_it, trace_of, opening_world, begin_it, learn, note_ready, note_over, abort, close, Begin, Open, NoteReady, NoteOver, Abort, Close, open_work, Lose, Learn, Count}
 pub use Rattle.jn_system.specs.SmallSteps.Premises.{MayGoOn, MayCarryOut, MayRemove, MayCount, MayRestart, MayPrepare, MayFlag, MayRun, MayMake, May, MayPerform, MayEnd, MayLearn, MayBeOver, MayAbort, MayBegin, MayOpen, MayName}
@@ -20,13 +21,13 @@ pub use Rattle.jn_base.specs.declared.names.Tid.{Tid}
 pub use Rattle.jn_system.specs.SmallSteps.Transactions.{AllOver, Knows, AllReady, AreParts}
 pub use Rattle.jn_records.specs.declared.flag.Flag.{Flag}
 pub use Rattle.jn_system.specs.SmallSteps.Traces.{asked, effects, Agrees, asks, effect_of, Answered, asks_block}
-pub use Rattle.jn_system.specs.WholeSystem.World.{changed, with_epoch, Memory, at_server, servers_from, at_client, opening}
+pub use Rattle.jn_system.specs.WholeSystem.World.{changed, with_epoch, at_server, Memory, servers_from, at_client, opening}
 pub use Rattle.jn_order.specs.Changes.{and_then, or_also}
 pub use Rattle.jn_rows.specs.Coordinator.{is_work, all_in, closed, thanked, thanked_changes, after_closing, changes_of_closing, all_thanked, flags_of_thanked, CoordinatorTable, transaction_at, with_work, commit_row, forget_row, begin_again, begun_by, seen_now, end_promised, end_stage, end_row, abort_stage, abort_request, told_stage, inquire_row, counted_vote, vote_stage, vote_row, done_stage, done_row, thanks_stage, thanks_row, coordinator_row, abort_row, aborted_to, besides, commits, committed_to, drops, prepares, staged, close_clients_row}
 pub use Rattle.jn_base.specs.declared.names.LockUnit.TheVariants.{File, Block}
 pub use Rattle.jn_base.specs.declared.names.FileNo.{FileNo}
 pub use Rattle.jn_base.specs.declared.names.BlockNo.{BlockNo}
-pub use Rattle.jn_rows.specs.Worker.{written_unit, going_work, going_row, carried_row, intentions_of, WorkerTable, Wanted, Held, has_mode, units_for, holds, gives_way, collides_at, collision, holder_at, held_by, conflict, breaks_at, work_at, broken_by, after_grant, with_phase, name_from, restored_work, restored_worker, with_units, wants_of, commit_wants, list_with, is_fit, worker_row, worker_step, timeout_row, work_of, without, new_work, with_unit, WorkStorage, open_row, Asked, Here, granted_row, repeated, op_phase, op_row, refusal_of, counted, vote_of, shortage, need_in, prepared_row, prepare_phase, prepare_row, commit_phase, commit_row as work_commit_row, drop_phase, drop_row, first_of_two, locked, vulnerable, timed_out}
+pub use Rattle.jn_rows.specs.Worker.{written_unit, going_work, going_row, carried_row, intentions_of, WorkerTable, Wanted, Held, has_mode, units_for, holds, gives_way, collides_at, collision, holder_at, held_by, conflict, breaks_at, work_at, broken_by, after_grant, with_phase, name_from, restored_work, restored_worker, with_units, wants_of, commit_wants, is_fit, worker_row, worker_step, timeout_row, work_of, without, new_work, with_unit, WorkStorage, open_row, Asked, Here, granted_row, repeated, op_phase, op_row, refusal_of, counted, vote_of, shortage, need_in, prepared_row, prepare_phase, prepare_row, commit_phase, commit_row as work_commit_row, drop_phase, drop_row, first_of_two, locked, vulnerable, timed_out}
 pub use Rattle.jn_system.specs.SmallSteps.Order.{has_committed, CommitsOnce, HasTraces, IsDone, IsInOrder}
 pub use Rattle.jn_msgs.specs.declared.message.Message.{Message}
 pub use Rattle.jn_msgs.specs.declared.message.Vote.{Vote}
@@ -52,11 +53,10 @@ pub use Rattle.jn_base.specs.declared.names.Tickets.{Tickets}
 pub use Rattle.jn_base.specs.declared.names.Party.TheVariants.{Client, Server}
 pub use Rattle.jn_msgs.specs.declared.message.Note.{Note}
 pub use Rattle.jn_rows.specs.declared.worker.Phase.TheVariants.{Broken, Active, Prepared as Stored}
-pub use Rattle.jn_lock_rows.specs.Matching.{are_rising, is_after, is_before}
 pub use Rattle.jn_lock_rows.proofs.Works.{work_is, work_same, found-name, in_phase, at-phase, rising-phase, once_granted, at-grant, rising-grant, at-more, rising-more, at-less, rising-less, none-front, found-behind, not-before}
 pub use Rattle.jn_rows.specs.Client.{ClientTable, again_row, Commanded, Refuses, Sends, command_row, take_row, over}
 pub use Rattle.jn_system.specs.WholeSystem.LockFacts.{GoTogether, IsSoundWork, TableFact, IsSoundPrepared, ReadFiles, StoredFact, stored_phase, IsSoundActive, UpFact, ServerFact, LockFacts}
 pub use Rattle.std.specs.List.{list_any, list_all, AllByRecursion}
 pub use Rattle.jn_rows.specs.declared.worker.PreparedWork.{PreparedWork}
-pub use Rattle.jn_records.specs.NetEdits.{intention_for, with_intention, cut_again, front}
+pub use Rattle.jn_records.specs.NetEdits.{intention_for, list_after, with_intention, cut_again, front}
 pub use Rattle.jn_rows.specs.declared.worker.ActiveWork.{ActiveWork}

@@ -37,7 +37,7 @@ pub use Rattle.jn_order.specs.Changes.{or_also, and_then}
 pub use Rattle.jn_records.specs.declared.intention.Intention.{Intention}
 pub use Rattle.jn_records.specs.NetLists.{intention_change, list_change, InOrder, net_change, net_of}
 pub use Rattle.jn_rows.specs.declared.worker.Work.{Work}
-pub use Rattle.jn_rows.specs.Worker.{WorkerTable, work_at, carried_row, intentions_of, worker_step, Wanted, worker_again, wants_of, units_for, is_fit, after_grant, with_phase, granted_row, conflict, holds, list_with, commit_wants, prepared_row, new_work, restored_worker, worker_row, work_of, timed_out, vulnerable, counted, WorkStorage, breaks_at, note_of, break_notes, timeout_row, commit_holder}
+pub use Rattle.jn_rows.specs.Worker.{WorkerTable, work_at, carried_row, intentions_of, worker_step, Wanted, worker_again, wants_of, units_for, is_fit, after_grant, with_phase, granted_row, conflict, holds, commit_wants, prepared_row, new_work, restored_worker, worker_row, work_of, timed_out, vulnerable, counted, WorkStorage, breaks_at, note_of, break_notes, timeout_row, commit_holder}
 pub use Rattle.jn_lock_rows.proofs.Works.{at-less, work_same, found-behind, not-before, at-more, at-phase, in_phase, work_is, found-name}
 pub use Rattle.jn_system.proofs.SmallSteps.TraceLemmas.{take_zero}
 pub use Rattle.jn_system.proofs.WholeSystem.WorkerRows.{going-is, no-lock, no-conflict}
@@ -46,7 +46,7 @@ pub use Rattle.jn_system.proofs.WholeSystem.WorkerCases.{WorkerStep, carries_out
 pub use Rattle.std.proofs.Math.Path.{fun_ext}
 pub use Rattle.jn_rows.proofs.Left.{part-is, left-is, left-none}
 pub use Rattle.jn_base.specs.declared.names.LockUnit.TheVariants.{File, Block}
-pub use Rattle.jn_system.specs.WholeSystem.Steps.{Step, again, sent_now, done, stopped, AreNames, are_rising, tid_before, restart_with, works, IsStep, after, commanded, Tell, Dismiss, IsRun}
+pub use Rattle.jn_system.specs.WholeSystem.Steps.{Step, again, sent_now, done, stopped, AreNames, tid_before, restart_with, works, IsStep, after, commanded, Tell, Dismiss, IsRun}
 pub use Rattle.jn_report.specs.declared.line.Text.{Text}
 pub use Rattle.jn_rows.specs.declared.client.Outstanding.{Outstanding}
 pub use Rattle.jn_rows.specs.declared.client.Taken.{Taken}
@@ -69,12 +69,13 @@ pub use Rattle.jn_msgs.specs.declared.message.Message.TheVariants.{Inquire}
 pub use Rattle.jn_rows.specs.declared.worker.Phase.{Phase}
 pub use Rattle.jn_system.proofs.WholeSystem.Granted.{Origin, Mine, Kept, Broke, Regrants, granted}
 pub use Rattle.jn_msgs.specs.declared.message.Note.{Note}
+pub use Rattle.jn_lock_rows.specs.Matching.{is_before, are_rising, commit_units}
 pub use Rattle.jn_base.specs.declared.op.Op.{Op}
 pub use Rattle.jn_locks.specs.declared.words.Mode.TheVariants.{Read, Commit}
 pub use Rattle.jn_locks.specs.Locks.{is_unit}
 pub use Rattle.jn_rows.specs.declared.worker.Phase.TheVariants.{Active, Broken, Prepared as Stored}
 pub use Rattle.jn_rows.specs.declared.worker.ActiveWork.{ActiveWork}
-pub use Rattle.jn_system.specs.SmallSteps.Held.{HoldsForCommit, HasRead, file_unit, commit_units}
+pub use Rattle.jn_system.specs.SmallSteps.Held.{HoldsForCommit, HasRead, file_unit}
 pub use Rattle.jn_system.specs.SmallSteps.Traces.{Answered, asks, effect_of}
 pub use Rattle.jn_system.proofs.WholeSystem.Rows.{done-keeps, prepared-keeps, by-name}
 pub use Rattle.jn_system.proofs.WholeSystem.Units.{with_units-is, reads-file}

@@ -20,7 +20,7 @@ pub use Rattle.jn_rows.specs.declared.worker.Phase.TheVariants.{Active, Broken, 
 pub use Rattle.jn_rows.specs.declared.worker.ActiveWork.{ActiveWork}
 pub use Rattle.jn_rows.specs.Stable.{is_going, stable, StableState, Pick, Prepared, Change, AddReady, MarkGoing, CarryOut, RemoveWork, AddFlag, DropFlag, at_work, gone_on, ready_work, made_by, carried_at, Left, FlagState, at_tid, made_all, left_of}
 pub use Rattle.jn_rows.specs.Outcomes.{RowOutcome, Sent, ignored}
-pub use Rattle.jn_rows.specs.Worker.{WorkerTable, WorkStorage, Wanted, Held, gives_way, work_at, work_of, without, new_work, name_from, open_row, conflict, commit_wants, wants_of, is_fit, past_limit, units_for, with_units, refusal_of, counted, done as performed-work, granted_row, performed, repeated, op_phase, op_row, vote_of, shortage, need_in, prepared_row, prepare_phase, prepare_row, commit_phase, drop_phase, drop_row, worker_row, going_work, intentions_of, carried_row, going_row, worker_step, vulnerable, timed_out, timeout_row, Asked, Here, worker_again, with_phase, after_grant, breaks_at, broken_by, note_of, break_notes, restored_work, restored_worker, collision, has_mode, list_with, locked, first_of_two, commit_holder}
+pub use Rattle.jn_rows.specs.Worker.{WorkerTable, WorkStorage, Wanted, Held, gives_way, work_at, work_of, without, new_work, name_from, open_row, conflict, commit_wants, wants_of, is_fit, past_limit, units_for, with_units, refusal_of, counted, done as performed-work, granted_row, performed, repeated, op_phase, op_row, vote_of, shortage, need_in, prepared_row, prepare_phase, prepare_row, commit_phase, drop_phase, drop_row, worker_row, going_work, intentions_of, carried_row, going_row, worker_step, vulnerable, timed_out, timeout_row, Asked, Here, worker_again, with_phase, after_grant, breaks_at, broken_by, note_of, break_notes, restored_work, restored_worker, collision, has_mode, locked, first_of_two, commit_holder}
 pub use Rattle.jn_rows.specs.Coordinator.{coordinator_row, close_clients_row, is_work, CoordinatorTable, transaction_at, with_stage, all_in, besides, drops, commits, prepares, aborted_to, committed_to, closed, after_closing, begun_by, is_begun, coordinator_again, told_again, with_work, commit_row, changes_of_closing, all_thanked, seen_now, seen_in_flag, seen_in_flags, restored_transaction, restored_transactions, abort_row, forget_row, begin_again, begin_row, end_promised, end_stage, end_row, abort_stage, abort_request, not_known, told_stage, inquire_row, noted, counted_vote, vote_stage, vote_row, done_stage, done_row, thanks_stage, thanks_row}
 pub use Rattle.jn_lock_rows.specs.Matching.{are_rising, is_after, is_before}
 pub use Rattle.jn_lock_rows.proofs.Works.{at-more, at-less, work_same, work_is, found-name, at-phase, in_phase, at-grant, once_granted, found-behind, not-before, none-front}

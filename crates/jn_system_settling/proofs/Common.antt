@@ -9,7 +9,7 @@ pub use Rattle.jn_base.specs.Names.{tid_eq, client_eq, server_eq, request_eq, re
 pub use Rattle.jn_msgs.specs.declared.message.Message.{Message}
 pub use Rattle.jn_rows.specs.Outcomes.{RowOutcome, Sent, sends as sends_row, ignored as ignored_row, quiet, ignored}
 pub use Rattle.jn_rows.specs.Worker.{WorkerTable, WorkStorage, worker_row, work_of, new_work, open_row, Wanted, work_at, with_phase, without, break_notes, breaks_at, broken_by, note_of, after_grant, granted_row, repeated, op_phase, op_row, refusal_of, wants_of, is_fit, commit_wants, conflict, vote_of, shortage, need_in, prepared_row, prepare_phase, prepare_row, commit_phase, drop_phase, drop_row, worker_step, going_work, going_row, carried_row, intentions_of, timed_out, timeout_row, vulnerable, written_unit, restored_work, restored_worker, Asked, worker_again, voted as voted_row, performed, by_number, Asked as AskedOp, Here}
-pub use Rattle.jn_rows.specs.Coordinator.{CoordinatorTable, besides, drops, commits, prepares, coordinator_row, transaction_at, abort_stage, abort_request, aborted_to, after_closing, changes_of_closing, begin_new, begin_again, begun_by, seen_now, name_from, coordinator_again, is_work, inquire_row, told_stage, dropped, commit_row, abort_row, staged, all_in, with_work, committed_to, end_stage, end_promised, end_row, counted_vote, vote_stage, vote_row, with_stage, forget_row, closed, begin_row, done_stage, done_row, thanks_stage, thanks_row, told_again, all_thanked, thanked, restored_transaction, restored_transactions, close_clients_row, seen_in_flags, seen_in_flag, commits as commits_of, without as without_tid}
+pub use Rattle.jn_rows.specs.Coordinator.{CoordinatorTable, besides, drops, commits, prepares, coordinator_row, transaction_at, abort_stage, abort_request, aborted_to, after_closing, changes_of_closing, begin_new, begin_again, begun_by, seen_now, name_from, coordinator_again, is_work, inquire_row, told_stage, dropped, commit_row, abort_row, staged, all_in, with_work, committed_to, end_stage, end_promised, end_row, counted_vote, vote_stage, vote_row, with_stage, forget_row, closed, begin_row, done_stage, done_row, thanks_stage, thanks_row, told_again, is_committed, all_thanked, thanked, restored_transaction, restored_transactions, close_clients_row, seen_in_flags, seen_in_flag, commits as commits_of, without as without_tid}
 pub use Rattle.jn_system.proofs.WholeSystem.WorkerCases.{Replies, votes_against, votes_broken, votes_again, votes_lost, WorkerCase, replies_only, prepares_it, worker-case, asked_for, asked_here, marks_it, removes_it, its_wants, opens_anew, refuses_next, performs_next, drops_it, is_open_already, WorkerStep, carries_out, worker-step-case}
 pub use Rattle.jn_system.proofs.WholeSystem.CoordinatorCases.{Saying, says_nothing, says_unknown, prepares_again, CoordinatorCase, is_left_by, starts_voting, is_committed_by, is_aborted_by, coordinator-case, transaction-named as found-name, transaction-named as tid-name, is_ignored_by, begins_anew, finds_no_room, counts_vote, notes_commit, forgets_commit, forgets_abort, IsListed, Committing, has_no_works, is_last_vote, says_begun}
 pub use Rattle.jn_report.specs.declared.line.Text.{Text}
@@ -77,7 +77,7 @@ pub use Rattle.jn_rows.specs.declared.coordinator.Committed.{Committed as Commit
 pub use Rattle.jn_system_order.proofs.Mirroring.Transactions.{in_stage, at-stage, none-staged, none-less, found-is}
 pub use Rattle.jn_msgs.specs.Ranges.{is_few, are_near, is_small}
 pub use Rattle.jn_system.specs.WholeSystem.Near.{is_small_stage}
-pub use Rattle.jn_row_ranges.specs.Sizes.{is_committed, committed_at, are_small_stages, AreFlagsOf, AreOrderly}
+pub use Rattle.jn_row_ranges.specs.Sizes.{committed_at, are_small_stages, AreFlagsOf, AreOrderly}
 pub use Rattle.jn_system_settling.specs.Settling.Sizes.{TableSizes, ServerSizes, Sizes, IsSmall, sends_small, ClientSizes, AreSmallFlags, AreAtMost64, StoredSizes}
 pub use Rattle.jn_system.proofs.WholeSystem.WorkerRows.{going-is, worker-keeps, step-keeps}
 pub use Rattle.jn_rows.specs.declared.client.OpenWork.{OpenWork}

@@ -9,10 +9,6 @@ abbrev pub is_aborted : Stage → Bool
 is_aborted (Aborted cause) = true
 is_aborted stage = false
 
-abbrev pub is_committed : Stage → Bool
-is_committed (Committed d) = true
-is_committed stage = false
-
 abbrev pub is_decided : Stage → Bool
 is_decided (Committed d) = true
 is_decided (Aborted cause) = true

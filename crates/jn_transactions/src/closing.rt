@@ -3,8 +3,8 @@ ghost use Rattle.std.specs.Prelude.{◌≡◌};
 ghost use Rattle.std.specs.Option.{option_copied};
 ghost use Rattle.jn_base.specs.declared.names.Tickets.{Tickets};
 ghost use Rattle.jn_rows.specs.Coordinator as rows;
-ghost use Rattle.jn_rows.specs.Coordinator.{CoordinatorTable};
-ghost use Rattle.jn_transactions.specs.Stages.{goes, is_committed, is_decided};
+ghost use Rattle.jn_rows.specs.Coordinator.{CoordinatorTable, is_committed};
+ghost use Rattle.jn_transactions.specs.Stages.{goes, is_decided};
 ghost use Rattle.jn_transactions.specs.Telling.{Adds};
 ghost use Rattle.jn_transactions.specs.Closing.{is_of, takes_part, known, knowing, next_closing, tid_in, left_of, count_left};
 

@@ -6,7 +6,7 @@ pub use Rattle.jn_base.specs.Names.{work_eq, unit_eq, tid_eq, file_eq}
 pub use Rattle.jn_msgs.specs.Collected.{Collected}
 pub use Rattle.jn_rows.specs.declared.worker.Work.{Work}
 pub use Rattle.jn_rows.specs.Stable.{StableState, is_going, Prepared, at_work, ready_work, CarryOut, RemoveWork, made_by, Change, AddReady, next_after, MarkGoing, Changed, ChangedAll, Pick, gone_on, is_ready}
-pub use Rattle.jn_rows.specs.Worker.{worker_again, WorkerTable, work_at, wanted, holds, commit_wants, conflict, holder_at, held_by, collides_at, gives_way, without, new_work, carried_row, WorkStorage, commit_row, commit_phase, drop_row, drop_phase, with_phase, after_grant, Asked, Here, op_row, op_phase, performed, repeated, granted_row, refusal_of, past_limit, first_of_two, locked, wants_of, with_units, units_for, is_fit, counted, done, Wanted, work_of, breaks_at, broken_by, name_from, open_row, vote_of, shortage, need_in, prepared_row, prepare_phase, prepare_row, worker_row, going_work, intentions_of, going_row, worker_step, vulnerable, timed_out, timeout_row, break_notes, list_with, collision, note_of, voted, replies, written_unit, restored_work, restored_worker, with_unit, Held}
+pub use Rattle.jn_rows.specs.Worker.{worker_again, WorkerTable, work_at, wanted, holds, commit_wants, conflict, holder_at, held_by, collides_at, gives_way, without, new_work, carried_row, WorkStorage, commit_row, commit_phase, drop_row, drop_phase, with_phase, after_grant, Asked, Here, op_row, op_phase, performed, repeated, granted_row, refusal_of, past_limit, first_of_two, locked, wants_of, with_units, units_for, is_fit, counted, done, Wanted, work_of, breaks_at, broken_by, name_from, open_row, vote_of, shortage, need_in, prepared_row, prepare_phase, prepare_row, worker_row, going_work, intentions_of, going_row, worker_step, vulnerable, timed_out, timeout_row, break_notes, collision, note_of, voted, replies, written_unit, restored_work, restored_worker, with_unit, Held}
 pub use Rattle.jn_storage.specs.Listing.{is_in, are_different, AtMost}
 pub use Rattle.jn_storage.specs.Storage.{StorageView, Accounts, IsServing, IsRecovered}
 pub use Rattle.jn_storage.specs.Calls.{state, MayPrepare, IsGoing, next_of, StepApplied, CountsOn, WorkRemoved, with_work, CountsOff, CountsErased, MarkedGoing, Called, IsReady, name_of, outline, outline_of, IsTold, TellsWorks, RecordErased, WorkPrepared, reached, first_short, shortage as storage_shortage}
@@ -58,7 +58,7 @@ pub use Rattle.std.proofs.lemmas.Result.{err_from_is_err_and}
 pub use Rattle.jn_rows.proofs.Left.{whole-stop}
 pub use Rattle.jn_base.specs.declared.op.Answer.TheVariants.{Did, TooManyReads, TooManyWrites, Locked}
 pub use Rattle.jn_base.specs.declared.op.Op.TheVariants.{Create, Remove, Cut as CutBlocks, Read as ReadOp, Write as WriteOp, Write}
-pub use Rattle.jn_records.specs.NetEdits.{intention_for, there_by, cut_again, front, in_its_place, list_after}
+pub use Rattle.jn_records.specs.NetEdits.{intention_for, list_after, there_by, cut_again, front, in_its_place}
 pub use Rattle.jn_storage.specs.Viewing.{Viewed, reads_stored, served}
 pub use Rattle.jn_worker.specs.Reading.{ReadSettles, OnlyReads, answer_now, asks_now, asks_in, asks_for, is_unknown}
 pub use Rattle.jn_lock_rows.proofs.Edits.{rephased-is}

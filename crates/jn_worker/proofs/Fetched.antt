@@ -1,5 +1,5 @@
 -- An operation whose answer is a stored block.
-use Rattle.jn_worker.proofs.Common.{most_blocks, ◌≡◌, ◌<◌, ◌+◌, ℕ, Bool, true, false, not, List, [], ◌∷◌, ◌++◌, length, take, Option, Some, None, Result, Ok, Err, if◌then◌else◌, refl, sym, ◌∙◌, ap, subst, arith, true≢false, ◌&&◌, is_some, IsErrAnd, err_from_is_err_and, take_at, Client, Tid, Tickets, WorkId, Answer, Did, Op, Create, Remove, CutBlocks, ReadOp, WriteOp, work_eq, Collected, Files, answer_to, change, Intention, list_change, length_with, block_of, answered, intention_for, Read, IntentionWrite, Active, ActiveWork, RowOutcome, WorkerTable, work_at, with_phase, after_grant, break_notes, Asked, op_row, conflict, locked, wants_of, with_units, units_for, is_fit, past_limit, first_of_two, refusal_of, list_with, counted, done, IsActive, rephased, is_in, StorageView, IsServing, state, Viewed, reads_stored, served, CallFault, Stops, Memory, WorkerView, Fits, is_active, is_active_phase, tallied, Takes, CountsBy, Settles, has_stopped, ReadSettles, OnlyReads, answer_now, asks_now, asks_in, asks_for, is_unknown, rephased-is, OperationNo}
+use Rattle.jn_worker.proofs.Common.{most_blocks, ◌≡◌, ◌<◌, ◌+◌, ℕ, Bool, true, false, not, List, [], ◌∷◌, ◌++◌, length, take, Option, Some, None, Result, Ok, Err, if◌then◌else◌, refl, sym, ◌∙◌, ap, subst, arith, true≢false, ◌&&◌, is_some, IsErrAnd, err_from_is_err_and, take_at, Client, Tid, Tickets, WorkId, Answer, Did, Op, Create, Remove, CutBlocks, ReadOp, WriteOp, work_eq, Collected, Files, answer_to, change, Intention, list_change, length_with, block_of, answered, intention_for, Read, IntentionWrite, Active, ActiveWork, RowOutcome, WorkerTable, work_at, with_phase, after_grant, break_notes, Asked, op_row, conflict, locked, wants_of, with_units, units_for, is_fit, past_limit, first_of_two, refusal_of, list_after, counted, done, IsActive, rephased, is_in, StorageView, IsServing, state, Viewed, reads_stored, served, CallFault, Stops, Memory, WorkerView, Fits, is_active, is_active_phase, tallied, Takes, CountsBy, Settles, has_stopped, ReadSettles, OnlyReads, answer_now, asks_now, asks_in, asks_for, is_unknown, rephased-is, OperationNo}
 use Rattle.std.proofs.Math.Seq.{take-length}
 use Rattle.jn_msgs.specs.declared.message.Message.TheVariants as messages
 use Rattle.jn_msgs.specs.declared.message.Note.{Note}
@@ -50,7 +50,7 @@ module _ (t u : WorkerView) (T : Tid) (W : WorkId) (a : ActiveWork) (op : Op) (a
       kept = rephased-is W (tallied number.0 answer) (with_phase W (Active next) rest) (record i.work { phase = Active next }) (at-with W (Active next) rest i.work (granted_itself T W (wants_of op true) t.table i.work i.found))
           ∙ (phase_twice W (Active (record next { last = number.0; kept = Some answer })) (Active next) rest
           ∙ (ap (λ n. with_phase W (Active (record next { last = n; kept = Some answer })) rest) count
-          ∙ ap (λ b. with_phase W (Active (record (counted a answer) { list = if b then list_with (intention_for a.list op) op a.list else a.list; reads = with_units (units_for Read (wants_of op b)) a.reads; writes = with_units (units_for IntentionWrite (wants_of op b)) a.writes })) (after_grant T W (wants_of op b) t.table)) (sym fit)))
+          ∙ ap (λ b. with_phase W (Active (record (counted a answer) { list = if b then list_after (intention_for a.list op) op a.list else a.list; reads = with_units (units_for Read (wants_of op b)) a.reads; writes = with_units (units_for IntentionWrite (wants_of op b)) a.writes })) (after_grant T W (wants_of op b) t.table)) (sym fit)))
 
 -- it is active still
 still-active : (t u : WorkerView) (T : Tid) (W : WorkId) (a : ActiveWork) (op : Op) (before after : Collected) → IsActive t.table T W a → Settles t T W a op Did None before u after → IsActive u.table T W (done a op Did (wants_of op true))
@@ -72,7 +72,7 @@ granted_active t u T W a op o before after i none settles =
 -- the block of a granted read
 viewed-list : (t u : WorkerView) (v w : StorageView) (T : Tid) (W : WorkId) (a : ActiveWork) (op : Op) (r : Result Answer CallFault) (before after : Collected) → IsActive t.table T W a → is_unknown a op v → Settles t T W a op Did None before u after
     → ((T : Tid) (a : ActiveWork) → IsActive u.table T W a → Viewed a.list v op r w) → Viewed a.list v op r w
-viewed-list t u v w T W a op r before after i unknown s viewed = subst (λ o. Viewed (list_with o op a.list) v op r w) (unknown-none a.list op (change (list_change a.list) (state v).files) (state v).files unknown)
+viewed-list t u v w T W a op r before after i unknown s viewed = subst (λ o. Viewed (list_after o op a.list) v op r w) (unknown-none a.list op (change (list_change a.list) (state v).files) (state v).files unknown)
     (viewed T (done a op Did (wants_of op true)) (still-active t u T W a op before after i s))
 
 pub granted_reads : (t u : WorkerView) (v w : StorageView) (T : Tid) (W : WorkId) (a : ActiveWork) (op : Op) (o : Option Answer) (r : Result Answer CallFault) (before after : Collected) → IsActive t.table T W a → is_unknown a op v → o ≡ None → Settles t T W a op Did o before u after

@@ -1,5 +1,5 @@
 -- An active work could still be prepared after one more operation.
-use Rattle.jn_worker.proofs.Common.{most_blocks, ◌≡◌, ◌<◌, zero, suc, Bool, true, false, not, List, [], ◌∷◌, ◌++◌, take, drop, length, Option, Some, None, if◌then◌else◌, refl, sym, ◌∙◌, ap, subst, arith, ◌&&◌, ◌||◌, is_some, filter, nat_lt, list_all, nat_tests, FileNo, LockUnit, File, Block, Op, Create, Remove, CutBlocks, Write, file_eq, file_tells, Files, change, answer_to, file_of, Intention, InOrder, First, Kept, MadeFresh, TakenAway, CutFrom, FileNet, as_first, entry, net_of, added, file_added, stays, stands_before, is_put, list_change, length_with, block_of, there_by, cut_again, intention_for, front, in_its_place, is_fit, list_with, needs_file, takes_away, first_of, unit_of}
+use Rattle.jn_worker.proofs.Common.{most_blocks, ◌≡◌, ◌<◌, zero, suc, Bool, true, false, not, List, [], ◌∷◌, ◌++◌, take, drop, length, Option, Some, None, if◌then◌else◌, refl, sym, ◌∙◌, ap, subst, arith, ◌&&◌, ◌||◌, is_some, filter, nat_lt, list_all, nat_tests, FileNo, LockUnit, File, Block, Op, Create, Remove, CutBlocks, Write, file_eq, file_tells, Files, change, answer_to, file_of, Intention, InOrder, First, Kept, MadeFresh, TakenAway, CutFrom, FileNet, as_first, entry, net_of, added, file_added, stays, stands_before, is_put, list_change, length_with, block_of, there_by, cut_again, intention_for, front, in_its_place, is_fit, list_after, needs_file, takes_away, first_of, unit_of}
 use Rattle.jn_base.specs.declared.op.Op.TheVariants.{Read}
 use Rattle.jn_records.proofs.EditLemmas.{list-there, edited-in_order, edited-length, unchanged-length, unchanged-net, edited-net}
 
@@ -41,23 +41,23 @@ none-dropped list (CutBlocks f n) i e = absurd (cc e)
 none-dropped list (Read f p) i e = refl
 none-dropped list (Write f p bytes) i e = absurd (cc e)
 
-pub all_after : (P Q : Intention → Bool) (op : Op) (list : List Intention) (o : Option Intention) → intention_for list op ≡ o → ((i : Intention) → stays op i ≡ true → P i ≡ true → Q i ≡ true) → ((new : Intention) → intention_for list op ≡ Some new → Q new ≡ true) → list_all P list ≡ true → list_all Q (list_with o op list) ≡ true
+pub all_after : (P Q : Intention → Bool) (op : Op) (list : List Intention) (o : Option Intention) → intention_for list op ≡ o → ((i : Intention) → stays op i ≡ true → P i ≡ true → Q i ≡ true) → ((new : Intention) → intention_for list op ≡ Some new → Q new ≡ true) → list_all P list ≡ true → list_all Q (list_after o op list) ≡ true
 all_after P Q op list None e f n h = all-same P Q list (λ i p. f i (none-dropped list op i e) p) h
 all_after P Q op list (Some new) e f n h = all-placed Q new (filter (λ (i : Intention). stays op i) list) (n new e) (all-kept P Q (λ (i : Intention). stays op i) list f h)
 
-pub order_after : (op : Op) (list : List Intention) (o : Option Intention) → intention_for list op ≡ o → InOrder list → InOrder (list_with o op list)
+pub order_after : (op : Op) (list : List Intention) (o : Option Intention) → intention_for list op ≡ o → InOrder list → InOrder (list_after o op list)
 order_after op list None e h = h
 order_after op list (Some new) e h = edited-in_order op list new e h
 
-pub length_after : (op : Op) (list : List Intention) (o : Option Intention) → intention_for list op ≡ o → length (list_with o op list) ≡ length_with list op
+pub length_after : (op : Op) (list : List Intention) (o : Option Intention) → intention_for list op ≡ o → length (list_after o op list) ≡ length_with list op
 length_after op list None e = unchanged-length op list e
 length_after op list (Some new) e = edited-length op list new e
 
-net-after : (op : Op) (list : List Intention) (o : Option Intention) → intention_for list op ≡ o → net_of (list_with o op list) ≡ added (net_of list) op
+net-after : (op : Op) (list : List Intention) (o : Option Intention) → intention_for list op ≡ o → net_of (list_after o op list) ≡ added (net_of list) op
 net-after op list None e = unchanged-net op list e
 net-after op list (Some new) e = edited-net op list new e
 
-pub first_after : (op : Op) (list : List Intention) (o : Option Intention) (i : Intention) → intention_for list op ≡ o → first_of (list_with o op list) i ≡ (added (net_of list) op i.file).first
+pub first_after : (op : Op) (list : List Intention) (o : Option Intention) (i : Intention) → intention_for list op ≡ o → first_of (list_after o op list) i ≡ (added (net_of list) op i.file).first
 first_after op list o i e = ap (λ n. (n i.file).first) (net-after op list o e)
 
 -- ---- what an operation adds
@@ -188,7 +188,7 @@ module _ (op : Op) (list : List Intention) (files : Files) (h : InOrder list) (f
   file-is g e = let t = file_tells (file_of op) g in grind (arith, e)
 
   pub there_after : list_all (λ i. not (needs_file (first_of list i)) || is_some (files (File i.file))) list ≡ true
-      → list_all (λ i. not (needs_file (first_of (list_with (intention_for list op) op list) i)) || is_some (files (File i.file))) (list_with (intention_for list op) op list) ≡ true
+      → list_all (λ i. not (needs_file (first_of (list_after (intention_for list op) op list) i)) || is_some (files (File i.file))) (list_after (intention_for list op) op list) ≡ true
   there_after old = all_after _ _ op list (intention_for list op) refl (λ i s p. at i p) (λ new e. at_file new (subst (λ g. file_eq (file_of op) g ≡ true) (sym (new_file list op new e)) (self (file_of op)))) old
     where
       self : (g : FileNo) → file_eq g g ≡ true
@@ -198,30 +198,30 @@ module _ (op : Op) (list : List Intention) (files : Files) (h : InOrder list) (f
       by i true e p = subst (λ g. needs_at g (file_added (net_of list g) op).first ≡ true) (file-is i.file e) (needs-ok op (net_of list (file_of op)) (as_first (entry list (file_of op) zero)) (is_some (files (File (file_of op)))) refl fits)
       by i false e p = p refl
 
-      at : (i : Intention) → needs_at i.file (first_of list i) ≡ true → needs_at i.file (first_of (list_with (intention_for list op) op list) i) ≡ true
+      at : (i : Intention) → needs_at i.file (first_of list i) ≡ true → needs_at i.file (first_of (list_after (intention_for list op) op list) i) ≡ true
       at i p = ap (λ x. needs_at i.file x) (first_after op list (intention_for list op) i refl) ∙ by i (file_eq (file_of op) i.file) refl (λ _. p)
 
-      at_file : (i : Intention) → file_eq (file_of op) i.file ≡ true → needs_at i.file (first_of (list_with (intention_for list op) op list) i) ≡ true
+      at_file : (i : Intention) → file_eq (file_of op) i.file ≡ true → needs_at i.file (first_of (list_after (intention_for list op) op list) i) ≡ true
       at_file i e = ap (λ x. needs_at i.file x) (first_after op list (intention_for list op) i refl) ∙ by i (file_eq (file_of op) i.file) refl (λ f. absurd (wrong (sym e ∙ f)))
         where
           wrong : true ≡ false → ⊥
           wrong e = cc e
 
   pub lost_after : list_all (λ i. not (is_put i.what && takes_away (first_of list i))) list ≡ true
-      → list_all (λ i. not (is_put i.what && takes_away (first_of (list_with (intention_for list op) op list) i))) (list_with (intention_for list op) op list) ≡ true
+      → list_all (λ i. not (is_put i.what && takes_away (first_of (list_after (intention_for list op) op list) i))) (list_after (intention_for list op) op list) ≡ true
   lost_after old = all_after _ _ op list (intention_for list op) refl at at_new old
     where
       by : (i : Intention) (b : Bool) → file_eq (file_of op) i.file ≡ b → stays op i ≡ true → not (is_put i.what && takes_away (net_of list i.file).first) ≡ true → not (is_put i.what && takes_away (if b then file_added (net_of list i.file) op else net_of list i.file).first) ≡ true
       by i true e s p = subst (λ g. not (is_put i.what && takes_away (file_added (net_of list g) op).first) ≡ true) (file-is i.file e) (lost-ok op (net_of list (file_of op)) (as_first (entry list (file_of op) zero)) (is_some (files (File (file_of op)))) (is_put i.what) i refl fits s e)
       by i false e s p = p
 
-      at : (i : Intention) → stays op i ≡ true → not (is_put i.what && takes_away (first_of list i)) ≡ true → not (is_put i.what && takes_away (first_of (list_with (intention_for list op) op list) i)) ≡ true
+      at : (i : Intention) → stays op i ≡ true → not (is_put i.what && takes_away (first_of list i)) ≡ true → not (is_put i.what && takes_away (first_of (list_after (intention_for list op) op list) i)) ≡ true
       at i s p = ap (λ x. not (is_put i.what && takes_away x)) (first_after op list (intention_for list op) i refl) ∙ by i (file_eq (file_of op) i.file) refl s p
 
       self : (g : FileNo) → file_eq g g ≡ true
       self g = let t = file_tells g g in grind arith
 
-      at_new : (new : Intention) → intention_for list op ≡ Some new → not (is_put new.what && takes_away (first_of (list_with (intention_for list op) op list) new)) ≡ true
+      at_new : (new : Intention) → intention_for list op ≡ Some new → not (is_put new.what && takes_away (first_of (list_after (intention_for list op) op list) new)) ≡ true
       at_new new e = ap (λ x. not (is_put new.what && takes_away x)) (first_after op list (intention_for list op) new refl) ∙ subst (λ g. not (is_put new.what && takes_away (added (net_of list) op g).first) ≡ true) (sym (new_file list op new e))
           (ap (λ b. not (is_put new.what && takes_away (if b then file_added (net_of list (file_of op)) op else net_of list (file_of op)).first)) (self (file_of op))
           ∙ lost-new list op new (net_of list (file_of op)) (as_first (entry list (file_of op) zero)) (is_some (files (File (file_of op)))) e refl fits)

@@ -1,5 +1,5 @@
 -- An active work after one more operation, and after a change that its locks don't see.
-use Rattle.jn_worker.proofs.Common.{most_blocks, ◌≡◌, ◌≤◌, ◌<◌, ◌+◌, ℕ, Bool, true, false, List, [], ◌∷◌, length, Option, Some, None, if◌then◌else◌, refl, sym, ap, subst, arith, nat_lt, list_all, nat_tests, LockUnit, File, Block, Answer, TooManyReads, TooManyWrites, Op, Create, Remove, CutBlocks, ReadOp, WriteOp, Files, change, answer_to, file_of, Intention, list_change, length_with, block_of, intention_for, Read, IntentionWrite, is_unit, ActiveWork, with_units, units_for, wants_of, is_fit, list_with, done, past_limit, unit_of, unit_in_range, ActiveFits}
+use Rattle.jn_worker.proofs.Common.{most_blocks, ◌≡◌, ◌≤◌, ◌<◌, ◌+◌, ℕ, Bool, true, false, List, [], ◌∷◌, length, Option, Some, None, if◌then◌else◌, refl, sym, ap, subst, arith, nat_lt, list_all, nat_tests, LockUnit, File, Block, Answer, TooManyReads, TooManyWrites, Op, Create, Remove, CutBlocks, ReadOp, WriteOp, Files, change, answer_to, file_of, Intention, list_change, length_with, block_of, intention_for, Read, IntentionWrite, is_unit, ActiveWork, with_units, units_for, wants_of, is_fit, list_after, done, past_limit, unit_of, unit_in_range, ActiveFits}
 use Rattle.jn_worker.proofs.Units.{ascends_more, all_more, kept_more, there_one}
 use Rattle.jn_worker.proofs.Listed.{all_after, order_after, length_after, new_file, new_in_range, target, new_unit, there_after, lost_after}
 
@@ -68,7 +68,7 @@ module _ (files : Files) (a : ActiveWork) (op : Op) (f : ActiveFits files a) (ra
   }
 
   fit_after : is_fit (answer_to op (change (list_change a.list) files)) ≡ true → length (reads_with a op true) ≤ 40 → length_with a.list op ≤ 24
-      → ActiveFits files (record a { list = list_with (intention_for a.list op) op a.list; reads = reads_with a op true; writes = writes_with a op true })
+      → ActiveFits files (record a { list = list_after (intention_for a.list op) op a.list; reads = reads_with a op true; writes = writes_with a op true })
   fit_after fit reads intentions = record {
     prepared = record {
       order = order_after op a.list (intention_for a.list op) refl f.prepared.order;
@@ -91,6 +91,6 @@ module _ (files : Files) (a : ActiveWork) (op : Op) (f : ActiveFits files a) (ra
   active_after answer is limit = by (is_fit answer) (ap is_fit (sym is)) limit
     where
       by : (b : Bool) → is_fit (answer_to op (change (list_change a.list) files)) ≡ b → past_limit (length (reads_with a op b)) (if b then length_with a.list op else length a.list) ≡ None
-          → ActiveFits files (record a { list = if b then list_with (intention_for a.list op) op a.list else a.list; reads = reads_with a op b; writes = writes_with a op b; last = a.last + 1; kept = Some answer })
+          → ActiveFits files (record a { list = if b then list_after (intention_for a.list op) op a.list else a.list; reads = reads_with a op b; writes = writes_with a op b; last = a.last + 1; kept = Some answer })
       by true e l = let w = within _ _ l in let g = fit_after e w.0 w.1 in record { prepared = g.prepared; writes = g.writes }
       by false e l = let w = within _ _ l in let g = unfit_after w.0 w.1 in record { prepared = g.prepared; writes = g.writes }

@@ -1,5 +1,5 @@
 -- An operation is granted, or refused.
-use Rattle.jn_worker.proofs.Common.{◌≡◌, ◌+◌, ℕ, Bool, true, false, List, [], ◌∷◌, ◌++◌, Option, Some, None, if◌then◌else◌, refl, sym, ◌∙◌, ap, subst, Ok, Result, append-nil, Tid, WorkId, LockUnit, Answer, Locked, Op, work_eq, Collected, Broke, Intention, intention_for, list_after, BrokenAt, Read, IntentionWrite, Work, Phase, ActiveWork, Active, work_at, with_phase, after_grant, break_notes, conflict, locked, counted, done, wants_of, with_units, units_for, is_fit, list_with, IsActive, Becomes, Grants, IsRefused, note_if, notes_of, rephased, at-phase, in_phase, work_same, CallFault, WorkerView, relisted, tallied, Granted, locked_by, rephased-is, OperationNo}
+use Rattle.jn_worker.proofs.Common.{◌≡◌, ◌+◌, Bool, true, false, List, [], ◌∷◌, ◌++◌, Option, Some, None, if◌then◌else◌, refl, sym, ◌∙◌, ap, subst, Ok, Result, append-nil, Tid, WorkId, LockUnit, Answer, Locked, Op, work_eq, Collected, Broke, Intention, intention_for, list_after, BrokenAt, Read, IntentionWrite, Work, Phase, ActiveWork, Active, work_at, with_phase, after_grant, break_notes, conflict, locked, counted, done, wants_of, with_units, units_for, is_fit, IsActive, Becomes, Grants, IsRefused, note_if, notes_of, rephased, at-phase, in_phase, work_same, CallFault, WorkerView, relisted, tallied, Granted, locked_by, rephased-is, OperationNo}
 use Rattle.jn_lock_rows.specs.declared.grants.Refused.{Refused}
 use Rattle.jn_lock_rows.specs.declared.grants.Refused.TheVariants.{Held as HeldBy, Memory as NotGranted}
 use Rattle.jn_works.specs.Changing.{list_of}
@@ -176,12 +176,8 @@ grant_done t ws found given taken kept after shown full gs W x T a b next op ans
                 lost : work_at W (after_grant x.tid W (wants_of op fit) taken) ≡ None → ⊥
                 lost e = cc (sym e ∙ granted_itself x.tid W (wants_of op fit) taken (record x { phase = Active (record a { list = empty }) }) (ap (λ l. work_at W l) emptied ∙ at-with W (Active (record a { list = empty })) ws x at))
 
-        lists : longer ≡ (if is_fit answer then list_with (intention_for a.list op) op a.list else a.list)
-        lists = longer_is ∙ (ap (λ b. if b then list_after (intention_for list op) op list else list) fits ∙ (ap (λ l. if is_fit answer then list_after (intention_for l op) op l else l) old ∙ ap (λ l. if is_fit answer then l else a.list) (as_with (intention_for a.list op))))
-          where
-            as_with : (o : Option Intention) → list_after o op a.list ≡ list_with o op a.list
-            as_with None = refl
-            as_with (Some new) = refl
+        lists : longer ≡ (if is_fit answer then list_after (intention_for a.list op) op a.list else a.list)
+        lists = longer_is ∙ (ap (λ b. if b then list_after (intention_for list op) op list else list) fits ∙ ap (λ l. if is_fit answer then list_after (intention_for l op) op l else l) old)
 
         next_is : record next { list = longer } ≡ done a op answer (wants_of op (is_fit answer))
         next_is = λ j. record { list = lists j; reads = reads j; writes = writes j; last = (number_is ∙ count) j; kept = kept_answer j; vulnerable = (vulnerable ∙ ap (λ (z : ActiveWork). z.vulnerable) (is_phase b a (sym phase ∙ active))) j }

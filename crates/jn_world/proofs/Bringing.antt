@@ -1,5 +1,5 @@
 -- A server that is down comes up, as the written machine has it.
-use Rattle.jn_world.proofs.Common.{◌≡◌, ◌≤◌, ◌<◌, ℕ, zero, suc, Bool, true, false, [], ◌∷◌, ◌++◌, get_or, length, length-append, append-nil, append_assoc, slice_set, Some, Ok, Err, true≢false, refl, sym, ◌∙◌, ap, subst, arith, ◌||◌, if◌then◌else◌, IsErrAnd, list_any, with_item, fun_ext, ServerNo, Tid, tid_eq, DeviceState, Place, Restarted, Slot, Up, Down, Gone, IsRestart, IsPlace, StandsThere, CountsAt, commits_in, has_line, Counts, counts_by, Line, Text, When, EpochsUsedUp, standing_pages, view_with, state, WentOn, NoEpochLeft, WasCut, HasCounts, Standing, Stands, with_named, pairs_view, StoreView, Ended, Epoch, Memory, World, BroughtUp, texts_so_far, left_to_tell, is_among, newly_named, restart_texts, has_come, standing_of, DoesEvent, DoesTasks, is_going, Setup, Moment, lines_at, Task, ComesUp, when_of, IsRecoverable, beside_on, CountsAll}
+use Rattle.jn_world.proofs.Common.{◌≡◌, ◌≤◌, ◌<◌, ℕ, zero, suc, Bool, true, false, [], ◌∷◌, ◌++◌, get_or, length, length-append, append-nil, append_assoc, slice_set, Some, Ok, Err, true≢false, refl, sym, ◌∙◌, ap, subst, arith, ◌||◌, if◌then◌else◌, IsErrAnd, list_any, with_item, fun_ext, ServerNo, Tid, tid_eq, DeviceState, Place, Restarted, Slot, Up, Down, Gone, IsRestart, IsPlace, StandsThere, CountsAt, commits_in, has_line, Counts, counts_by, Line, Text, When, EpochsUsedUp, standing_pages, view_with, state, WentOn, NoEpochLeft, WasCut, HasCounts, Standing, Stands, with_named, pairs_view, StoreView, Ended, Epoch, Memory, World, BroughtUp, texts_so_far, left_to_tell, has_tid, newly_named, restart_texts, has_come, standing_of, DoesEvent, DoesTasks, is_going, Setup, Moment, lines_at, Task, ComesUp, when_of, IsRecoverable, beside_on, CountsAll}
 use Rattle.std.proofs.Common.{List, drop, slice_get, Result}
 use Rattle.jn_place.specs.declared.place.Restarted.TheVariants as came
 use Rattle.jn_report.specs.declared.line.Text.TheVariants as says
@@ -22,25 +22,25 @@ any-more p (x ∷ xs) ys = ap (λ (b : Bool). p x || b) (any-more p xs ys) ∙ t
     turn a b c = grind arith
 
 -- the list's names are those of the test, with what these lines name
-among-more : (names : List Tid) (texts : List Text) → is_among (names ++ commits_in texts) ≡ (λ T. has_line T texts || is_among names T)
+among-more : (names : List Tid) (texts : List Text) → has_tid (names ++ commits_in texts) ≡ (λ T. has_line T texts || has_tid names T)
 among-more names texts = fun_ext (λ T. any-more (λ U. tid_eq U T) names (commits_in texts))
 
-among-one : (names : List Tid) (T : Tid) → is_among (names ++ T ∷ []) ≡ with_name T (is_among names)
-among-one names T = fun_ext (λ U. any-more (λ V. tid_eq V U) names (T ∷ []) ∙ ap (λ (b : Bool). b || is_among names U) (last (tid_eq T U)))
+among-one : (names : List Tid) (T : Tid) → has_tid (names ++ T ∷ []) ≡ with_name T (has_tid names)
+among-one names T = fun_ext (λ U. any-more (λ V. tid_eq V U) names (T ∷ []) ∙ ap (λ (b : Bool). b || has_tid names U) (last (tid_eq T U)))
   where
     last : (a : Bool) → (a || false) ≡ a
     last a = grind arith
 
-named-as : (Ts names : List Tid) → newly_named Ts names ≡ names_told Ts (is_among names)
+named-as : (Ts names : List Tid) → newly_named Ts names ≡ names_told Ts (has_tid names)
 named-as [] names = refl
-named-as (T ∷ Ts) names = by (is_among names T) (named-as Ts names) (named-as Ts (names ++ T ∷ []))
+named-as (T ∷ Ts) names = by (has_tid names T) (named-as Ts names) (named-as Ts (names ++ T ∷ []))
   where
-    by : (b : Bool) → newly_named Ts names ≡ names_told Ts (is_among names) → newly_named Ts (names ++ T ∷ []) ≡ names_told Ts (is_among (names ++ T ∷ []))
-        → (if b then newly_named Ts names else says.Commit T ∷ newly_named Ts (names ++ T ∷ [])) ≡ (if b then names_told Ts (is_among names) else says.Commit T ∷ names_told Ts (with_name T (is_among names)))
+    by : (b : Bool) → newly_named Ts names ≡ names_told Ts (has_tid names) → newly_named Ts (names ++ T ∷ []) ≡ names_told Ts (has_tid (names ++ T ∷ []))
+        → (if b then newly_named Ts names else says.Commit T ∷ newly_named Ts (names ++ T ∷ [])) ≡ (if b then names_told Ts (has_tid names) else says.Commit T ∷ names_told Ts (with_name T (has_tid names)))
     by true known new = known
     by false known new = ap (λ (ts : List Text). says.Commit T ∷ ts) (new ∙ ap (λ (f : Tid → Bool). names_told Ts f) (among-one names T))
 
-so-far : (q : ServerNo) (names : List Tid) (r : Restarted) → restart_texts q names r ≡ texts_so_far q (is_among names) r
+so-far : (q : ServerNo) (names : List Tid) (r : Restarted) → restart_texts q names r ≡ texts_so_far q (has_tid names) r
 so-far q names (came.Up epoch tids) = ap (λ (ts : List Text). says.Up q epoch ∷ ts) (named-as tids.items names)
 so-far q names came.Stopped = refl
 so-far q names came.UsedUp = refl
@@ -55,13 +55,13 @@ named-standing : {S : Type 0} (a b : World S) (q : ServerNo) (r : Restarted) →
     → standing_of b ≡ with_named (texts_restarted q (standing_of a).named r) (standing_of a)
 named-standing {S} a b q r e names =
     ap (λ (w : World S). standing_of w) e
-    ∙ ap (λ (ns : List Tid). record (standing_of a) { named = is_among ns; commits = length ns })
-    (names ∙ ap (λ (ns : List Tid). a.named.names.items ++ ns) (ap commits_in (so-far q a.named.names.items r) ∙ commits-so-far q (is_among a.named.names.items) r))
+    ∙ ap (λ (ns : List Tid). record (standing_of a) { named = has_tid ns; commits = length ns })
+    (names ∙ ap (λ (ns : List Tid). a.named.names.items ++ ns) (ap commits_in (so-far q a.named.names.items r) ∙ commits-so-far q (has_tid a.named.names.items) r))
     ∙ ap (λ (f : Tid → Bool). record (standing_of a) { named = f; commits = length (a.named.names.items ++ commits_in texts) }) (among-more a.named.names.items texts)
-    ∙ ap (λ (n : ℕ). record (standing_of a) { named = λ T. has_line T texts || is_among a.named.names.items T; commits = n }) (length-append a.named.names.items (commits_in texts))
+    ∙ ap (λ (n : ℕ). record (standing_of a) { named = λ T. has_line T texts || has_tid a.named.names.items T; commits = n }) (length-append a.named.names.items (commits_in texts))
   where
     texts : List Text
-    texts = texts_restarted q (is_among a.named.names.items) r
+    texts = texts_restarted q (has_tid a.named.names.items) r
 
 -- ---- the place that an index reads
 
@@ -111,8 +111,8 @@ module _ {S : Type 0} (look : S → StoreView) (device : S → DeviceState) wher
     restart = restart;
     counts = counts;
     here = named-standing (record w { places = with_item w.places i p' }) b q r others names
-        ∙ ap (λ (k : ℕ). with_named (texts_restarted q (is_among w.named.names.items) r) (record (standing_of w) { places = slice_set w.places.items k p' })) at
-        ∙ ap (λ (x : Place S). with_named (texts_restarted q (is_among w.named.names.items) r) (record (standing_of w) { places = slice_set w.places.items q.0 x })) (sym (same-place p p' same));
+        ∙ ap (λ (k : ℕ). with_named (texts_restarted q (has_tid w.named.names.items) r) (record (standing_of w) { places = slice_set w.places.items k p' })) at
+        ∙ ap (λ (x : Place S). with_named (texts_restarted q (has_tid w.named.names.items) r) (record (standing_of w) { places = slice_set w.places.items q.0 x })) (sym (same-place p p' same));
     told = told ∙ ap (λ (ts : List Text). now ++ lines_at when ts) (so-far q w.named.names.items r);
     came_is = e;
   }

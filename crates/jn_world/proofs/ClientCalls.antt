@@ -3,7 +3,8 @@ use Rattle.jn_world.proofs.Common.{posted_by, ◌≡◌, ◌<◌, ℕ, zero, suc
 use Rattle.std.proofs.Math.ListN.{get_or}
 use Rattle.jn_report.specs.declared.line.Text.TheVariants as says
 use Rattle.jn_schedule.specs.declared.Event.TheVariants as events
-use Rattle.jn_world_refines.specs.Clients.{with_client, texts_taken, texts_commanded, sent_commanded, table_commanded}
+use Rattle.jn_world_refines.specs.Clients.{with_client, texts_taken, texts_commanded, sent_commanded}
+use Rattle.jn_rows.specs.ClientLaws.{after_command}
 use Rattle.jn_world_refines.proofs.ClientSteps.{client-took-step, other-took-step}
 use Rattle.jn_world_refines.proofs.Commands.{told-step, asked-step}
 use Rattle.jn_report.specs.declared.line.Refusal.{Refusal}
@@ -44,18 +45,18 @@ module _ {S : Type 0} (look : S → StoreView) (device : S → DeviceState) (see
 
     -- a command
     pub commanded-does : (number : ℕ) (command : Command) (row : Commanded) → command_row t number command ≡ row
-        → EndsStep r (with_sent (posted_by (Client c) (sent_commanded row)) (record w { clients = set w.clients i (table_commanded t row) })) u first
+        → EndsStep r (with_sent (posted_by (Client c) (sent_commanded row)) (record w { clients = set w.clients i (after_command row t) })) u first
         (first ++ lines_at (AtEvent number) (texts_commanded c number row ++ traced w.trace (message_texts (Client c) (length w.net.sent) (sent_commanded row)))) later
         → DoesEvent look device (events.Command c command) (AtEvent number) w r u first later
     commanded-does number command row row-is ends x m more stands next when =
         let same = event-number m.state.stage m.state.course.world.event number when in
-        let now : Standing S = with_sent (posted_by (Client c) (sent_commanded row)) (record w { clients = set w.clients i (table_commanded t row) }) in
+        let now : Standing S = with_sent (posted_by (Client c) (sent_commanded row)) (record w { clients = set w.clients i (after_command row t) }) in
         step-ends look device x m (more ++ drop 1 m.state.tasks) now u r first (first ++ lines_at (AtEvent number) (texts_commanded c number row ++ traced w.trace (message_texts (Client c) (length w.net.sent) (sent_commanded row)))) later
-        (subst (λ (n : ℕ). IsStepTo look device x m (more ++ drop 1 m.state.tasks) (with_sent (posted_by (Client c) (sent_commanded row)) (record w { clients = set w.clients n (table_commanded t row) })) first
+        (subst (λ (n : ℕ). IsStepTo look device x m (more ++ drop 1 m.state.tasks) (with_sent (posted_by (Client c) (sent_commanded row)) (record w { clients = set w.clients n (after_command row t) })) first
         (first ++ lines_at (AtEvent number) (texts_commanded c number row ++ traced w.trace (message_texts (Client c) (length w.net.sent) (sent_commanded row))))) (sym index-is)
-        (subst (λ (e : When). IsStepTo look device x m (more ++ drop 1 m.state.tasks) (with_sent (posted_by (Client c) (sent_commanded row)) (with_client c (table_commanded t row) w)) first
+        (subst (λ (e : When). IsStepTo look device x m (more ++ drop 1 m.state.tasks) (with_sent (posted_by (Client c) (sent_commanded row)) (with_client c (after_command row t) w)) first
         (first ++ lines_at e (texts_commanded c number row ++ traced w.trace (message_texts (Client c) (length w.net.sent) (sent_commanded row))))) when
-        (subst (λ (n : ℕ). IsStepTo look device x m (more ++ drop 1 m.state.tasks) (with_sent (posted_by (Client c) (sent_commanded row)) (with_client c (table_commanded t row) w)) first
+        (subst (λ (n : ℕ). IsStepTo look device x m (more ++ drop 1 m.state.tasks) (with_sent (posted_by (Client c) (sent_commanded row)) (with_client c (after_command row t) w)) first
         (first ++ lines_at (when_of m.state) (texts_commanded c n row ++ traced w.trace (message_texts (Client c) (length w.net.sent) (sent_commanded row))))) same
         (told-step look device seen x w m stands c is t its more command next row (ap (λ (n : ℕ). command_row t n command) same ∙ row-is) first))))
         ends

@@ -33,7 +33,8 @@ pub use Rattle.jn_world.specs.declared.ended.Ended.{Ended}
 pub use Rattle.jn_world.specs.declared.ended.Ended.TheVariants.{Epoch, Memory, Messages}
 pub use Rattle.jn_world.specs.declared.world.World.{World}
 pub use Rattle.jn_world.specs.Bringing.{BroughtUp, texts_so_far, left_to_tell}
-pub use Rattle.jn_world.specs.Naming.{is_among, newly_named, restart_texts, has_come}
+pub use Rattle.jn_serial.specs.Lines.{has_tid}
+pub use Rattle.jn_world.specs.Naming.{newly_named, restart_texts, has_come}
 pub use Rattle.jn_world.specs.Written.{standing_of, DoesEvent, DoesTasks, is_going, EndsStep, GoesTo, TakesTurn, IsSentTo, EndsPart, Starts, AreStoresOf, GivesImage, IsClosed, Closes, KeepsOn, DoesScheduled, GoesTurn}
 pub use Rattle.jn_machine.specs.Chances.{Setup, Chance, physical_pages}
 pub use Rattle.jn_machine.specs.Runs.{Moment, none, DoesStep, more, Leads}
@@ -80,7 +81,6 @@ pub use Rattle.jn_world_refines.proofs.Dismissing.{there-is, dismissed-step}
 pub use Rattle.jn_world.specs.Closing.{AreIdle, AreTheirs, going_down, closing_clients, showing_all, scrubbing_all, turning, thanking, telling, finishing, HasStore}
 pub use Rattle.jn_order.specs.Files.{AllFiles, Files}
 pub use Rattle.jn_schedule.specs.declared.Event.{Event as AnEvent, Event}
-pub use Rattle.jn_world_refines.specs.Starting.{IsFirst, IsStoreOf}
 pub use Rattle.jn_schedule.specs.declared.Event.TheVariants.{Show, Scrub, Restart, Again, Nudge, Step, Crash, Timeout, Deliver}
 pub use Rattle.jn_world.specs.Images.{HasNoRubbish, AreClean, StayClean, HoldsImage, HoldsImageAt, HoldImages, IsScrubbedAt}
 pub use Rattle.jn_base.specs.declared.names.Party.{Party}

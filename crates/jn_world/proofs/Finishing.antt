@@ -1,5 +1,6 @@
 -- The start and the end of a run, as the written machine has them.
-use Rattle.jn_world.proofs.Common.{◌≡◌, ◌≤◌, ◌<◌, ℕ, zero, suc, ◌+◌, Bool, true, List, [], ◌∷◌, ◌++◌, map, drop, length, append_assoc, append-nil, slice_get, Some, Result, Ok, Err, inl, inr, true≢false, refl, sym, ◌∙◌, ap, subst, arith, set, ◌⊎◌, IsErr, IsErrAnd, ServerNo, DeviceState, AllFiles, Place, PageCounts, Line, AtEvent, End, AnEvent, dismissed-step, IsDisarmed, AreDisarmed, dismissed, BeganEnd, WentOn, Limit, NoMessageLeft, NoEpochLeft, WasCut, Standing, Stands, IsFirst, pairs_view, StoreView, Ended, Messages, Epoch, Memory, World, Carried, ClientTable, over, Show, Scrub, AreTheirs, going_down, closing_clients, showing_all, scrubbing_all, turning, thanking, telling, finishing, standing_of, GoesTo, DoesTasks, Starts, AreStoresOf, GivesImage, IsClosed, Closes, is_going, Setup, Devices, ending, coming_up, settling, printing, servers_of, Moment, DoesStep, Task, Acts, Begins, GoesDown, ComesUp, ClosesClients, Dismisses, CountsCommits, Stage, InSchedule, AtEnd, when_at, next_at}
+use Rattle.jn_world.proofs.Common.{◌≡◌, ◌≤◌, ◌<◌, ℕ, zero, suc, ◌+◌, Bool, true, List, [], ◌∷◌, ◌++◌, map, drop, length, append_assoc, append-nil, slice_get, Some, Result, Ok, Err, inl, inr, true≢false, refl, sym, ◌∙◌, ap, subst, arith, set, ◌⊎◌, IsErr, IsErrAnd, ServerNo, DeviceState, AllFiles, Place, PageCounts, Line, AtEvent, End, AnEvent, dismissed-step, IsDisarmed, AreDisarmed, dismissed, BeganEnd, WentOn, Limit, NoMessageLeft, NoEpochLeft, WasCut, Standing, Stands, pairs_view, StoreView, Ended, Messages, Epoch, Memory, World, Carried, ClientTable, over, Show, Scrub, AreTheirs, going_down, closing_clients, showing_all, scrubbing_all, turning, thanking, telling, finishing, standing_of, GoesTo, DoesTasks, Starts, AreStoresOf, GivesImage, IsClosed, Closes, is_going, Setup, Devices, ending, coming_up, settling, printing, servers_of, Moment, DoesStep, Task, Acts, Begins, GoesDown, ComesUp, ClosesClients, Dismisses, CountsCommits, Stage, InSchedule, AtEnd, when_at, next_at}
+use Rattle.jn_world_refines.specs.Starting.{IsFirst}
 use Rattle.jn_machine.proofs.Computed.{join}
 use Rattle.jn_world_refines.proofs.Starting.{first-stands, closed-stores}
 use Rattle.jn_world.proofs.Calls.{told-then, servers-quiet}

@@ -1,5 +1,5 @@
 -- What a settle, a show and a scrub leave of images.
-use Rattle.jn_world.proofs.Common.{◌≡◌, ◌<◌, ◌≤◌, ℕ, ◌+◌, Bool, true, false, List, [], ◌∷◌, length, slice_get, Option, Some, None, Result, Ok, Err, is_some, inl, inr, true≢false, refl, sym, ◌∙◌, ap, subst, arith, set, All-set, slice_get_within, ◌⊎◌, not, OnOk, ServerNo, DeviceState, Carried, Files, Place, Slot, Up, Down, Gone, ScrubbedBy, WhereUp, KeepsBeside, LeavesImage, IsCalmAt, has_work_at, work_of, is_up, Counts, counts_by, Line, When, StableState, stable, view_with, memory_of, room_of, IsStoreOf, Standing, Stands, StandsAt, state, pairs_view, StoreView, IsUpAndCalm, AreUpAndCalm, HasNoRubbish, AreClean, StayClean, HoldsImage, HoldsImageAt, HoldImages, IsScrubbedAt, IsAtRest, Setup, Moment, Beside}
+use Rattle.jn_world.proofs.Common.{◌≡◌, ◌<◌, ◌≤◌, ℕ, ◌+◌, Bool, true, false, List, [], ◌∷◌, length, slice_get, Option, Some, None, Result, Ok, Err, is_some, inl, inr, true≢false, refl, sym, ◌∙◌, ap, subst, arith, set, All-set, slice_get_within, ◌⊎◌, not, OnOk, ServerNo, DeviceState, Carried, Files, Place, Slot, Up, Down, Gone, ScrubbedBy, WhereUp, KeepsBeside, LeavesImage, IsCalmAt, has_work_at, work_of, is_up, Counts, counts_by, Line, When, StableState, stable, view_with, memory_of, room_of, StandsOn, Standing, Stands, StandsAt, state, pairs_view, StoreView, IsUpAndCalm, AreUpAndCalm, HasNoRubbish, AreClean, StayClean, HoldsImage, HoldsImageAt, HoldImages, IsScrubbedAt, IsAtRest, Setup, Moment, Beside}
 use Rattle.jn_server.specs.Settled.{IsSettledState}
 use Rattle.jn_base.specs.declared.names.WorkId.{WorkId}
 use Rattle.jn_page_state.specs.Images.{IsImage}
@@ -101,7 +101,7 @@ module _ {S : Type 0} (look : S → StoreView) where
   -- ---- the stores that are given back
 
   module _ (device : S → DeviceState) (seen : (s : S) → look s ≡ pairs_view (device s)) (x : Setup) (w : Standing S) (m : Moment) (stands : Stands look device x w m) where
-    pub given-image : (n : ℕ) (p : Place S) (s : S) → slice_get w.places n ≡ Some p → IsStoreOf p.slot s → HoldsImageAt look n p
+    pub given-image : (n : ℕ) (p : Place S) (s : S) → slice_get w.places n ≡ Some p → StandsOn p.slot s → HoldsImageAt look n p
         → IsSettledState (stable (m.state.course.world.found (record { 0 = n }))) → IsImage (record { 0 = n }) (x.counts (record { 0 = n })) (stable (m.state.course.world.found (record { 0 = n }))).files (pairs_view (device s))
     given-image n p s at its holds alone =
         let there = stands.places n p at in
@@ -109,7 +109,7 @@ module _ {S : Type 0} (look : S → StoreView) where
         (by p.slot there.stands its holds)
       where
         by : (a : Slot S) → StandsAt look device (counts_by p.counts) a (m.state.course.world.memory (record { 0 = n })) (m.state.course.world.found (record { 0 = n })) (m.devices (record { 0 = n }))
-            → IsStoreOf a s → HoldsImage look (record { 0 = n }) (counts_by p.counts) a → IsImage (record { 0 = n }) (counts_by p.counts) (stable (m.state.course.world.found (record { 0 = n }))).files (pairs_view (device s))
+            → StandsOn a s → HoldsImage look (record { 0 = n }) (counts_by p.counts) a → IsImage (record { 0 = n }) (counts_by p.counts) (stable (m.state.course.world.found (record { 0 = n }))).files (pairs_view (device s))
         by (Up a) st is image =
             let same : stable (m.state.course.world.found (record { 0 = n })) ≡ state (view_with look a).storage = ap stable st.1 in
             subst (λ (v : StoreView). IsImage (record { 0 = n }) (counts_by p.counts) (stable (m.state.course.world.found (record { 0 = n }))).files v) (ap look (sym is) ∙ seen s)

@@ -1,5 +1,5 @@
 -- Lists that are built one by one.
-use Rattle.jn_world.proofs.Common.{◌≡◌, ℕ, false, zero, suc, ◌+◌, List, [], ◌∷◌, ◌++◌, map, length, slice_get, Some, refl, sym, ◌∙◌, ap, subst, arith, Tid, DeviceState, Place, Slot, Up, Down, Gone, StandsOn, PageCounts, ClientTable, new_table, Standing, IsStoreOf, HasStore, AreTheirs, AreNew, Opens, counts_by}
+use Rattle.jn_world.proofs.Common.{◌≡◌, ℕ, false, zero, suc, ◌+◌, List, [], ◌∷◌, ◌++◌, map, length, slice_get, Some, refl, sym, ◌∙◌, ap, subst, arith, Tid, DeviceState, Place, Slot, Up, Down, Gone, StandsOn, PageCounts, ClientTable, new_table, Standing, HasStore, AreTheirs, AreNew, Opens, counts_by}
 
 -- the server is down on its store
 pub record StandsFor {S : Type 0} (stores : List (S × PageCounts)) (n : ℕ) (p : Place S) : Type 0 where
@@ -35,7 +35,7 @@ got-last : {A : Type 0} (xs : List A) (y : A) → slice_get (xs ++ y ∷ []) (le
 got-last [] y = refl
 got-last (x ∷ xs) y = got-last xs y
 
-store-of : {S : Type 0} (slot : Slot S) (s : S) → StandsOn slot s → IsStoreOf slot s
+store-of : {S : Type 0} (slot : Slot S) (s : S) → StandsOn slot s → StandsOn slot s
 store-of (Up p) s h = h
 store-of (Down t) s h = h
 store-of Gone s h = absurd h

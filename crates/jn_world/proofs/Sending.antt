@@ -1,5 +1,5 @@
 -- Messages and notes of a step one after another, and what the world has then.
-use Rattle.jn_world.proofs.Common.{posted_by, ◌≡◌, ◌≤◌, ◌<◌, ℕ, suc, ◌+◌, Bool, true, false, ◌||◌, List, [], ◌∷◌, ◌++◌, length, length-append, append_assoc, Option, Some, Result, refl, sym, ◌∙◌, ap, arith, fun_ext, map-append, Party, Server, ServerNo, Tid, tid_eq, Posted, lines_of, commits_in, has_line, Line, Text, When, Sent, Collected, Standing, with_sent, with_named, with_answer, texts_sent, Ended, World, is_among, standing_of, EndsPart, lines_at, message_texts, traced, lines-append}
+use Rattle.jn_world.proofs.Common.{posted_by, ◌≡◌, ◌≤◌, ◌<◌, ℕ, suc, ◌+◌, Bool, true, false, ◌||◌, List, [], ◌∷◌, ◌++◌, length, length-append, append_assoc, Option, Some, Result, refl, sym, ◌∙◌, ap, arith, fun_ext, map-append, Party, Server, ServerNo, Tid, tid_eq, Posted, lines_of, commits_in, has_line, Line, Text, When, Sent, Collected, Standing, with_sent, with_named, with_answer, texts_sent, Ended, World, has_tid, standing_of, EndsPart, lines_at, message_texts, traced, lines-append}
 use Rattle.std.proofs.lemmas.List.Folds.{list_any-append}
 use Rattle.std.proofs.Math.Bool.{or_comm}
 use Rattle.jn_msgs.specs.declared.message.Note.{Note}
@@ -27,18 +27,18 @@ posted-append from a b = map-append (λ (m : Sent). record { from = from; to = m
 
 -- ---- what the world has
 
-pub among-append : (a b : List Tid) (T : Tid) → is_among (a ++ b) T ≡ (is_among b T || is_among a T)
-among-append a b T = list_any-append (λ U. tid_eq U T) a b ∙ or_comm (is_among a T) (is_among b T)
+pub among-append : (a b : List Tid) (T : Tid) → has_tid (a ++ b) T ≡ (has_tid b T || has_tid a T)
+among-append a b T = list_any-append (λ U. tid_eq U T) a b ∙ or_comm (has_tid a T) (has_tid b T)
 
 -- these lines were reported
 pub named-so : {S : Type 0} (a b : World S) (texts : List Text) → b ≡ record a { named = b.named } → b.named.names.items ≡ a.named.names.items ++ commits_in texts → standing_of b ≡ with_named texts (standing_of a)
 named-so {S} a b texts others names =
-    let rest : standing_of b ≡ record (standing_of a) { named = is_among b.named.names.items; commits = length b.named.names.items } = ap (λ (w : World S). standing_of w) others in
-    let among : is_among b.named.names.items ≡ (λ T. has_line T texts || is_among a.named.names.items T) =
-    fun_ext (λ (T : Tid). ap (λ (ts : List Tid). is_among ts T) names ∙ among-append a.named.names.items (commits_in texts) T) in
+    let rest : standing_of b ≡ record (standing_of a) { named = has_tid b.named.names.items; commits = length b.named.names.items } = ap (λ (w : World S). standing_of w) others in
+    let among : has_tid b.named.names.items ≡ (λ T. has_line T texts || has_tid a.named.names.items T) =
+    fun_ext (λ (T : Tid). ap (λ (ts : List Tid). has_tid ts T) names ∙ among-append a.named.names.items (commits_in texts) T) in
     let many : length b.named.names.items ≡ length a.named.names.items + length (commits_in texts) = ap length names ∙ length-append a.named.names.items (commits_in texts) in
     rest ∙ ap (λ (f : Tid → Bool). record (standing_of a) { named = f; commits = length b.named.names.items }) among
-    ∙ ap (λ (n : ℕ). record (standing_of a) { named = λ T. has_line T texts || is_among a.named.names.items T; commits = n }) many
+    ∙ ap (λ (n : ℕ). record (standing_of a) { named = λ T. has_line T texts || has_tid a.named.names.items T; commits = n }) many
 
 -- messages are sent one after another
 pub sent-then : {S : Type 0} (from : Party) (a b c : Standing S) (xs ys : List Sent) → b ≡ with_sent (posted_by from xs) a → c ≡ with_sent (posted_by from ys) b → c ≡ with_sent (posted_by from (xs ++ ys)) a

@@ -5,7 +5,7 @@ use Rattle.jn_place.specs.declared.place.Place.{Place}
 use Rattle.jn_system.specs.WholeSystem.Steps.{IsIdle}
 use Rattle.jn_rows.specs.Client.{ClientTable}
 use Rattle.jn_schedule.specs.declared.Event.TheVariants.{Scrub, Show}
-use Rattle.jn_world_refines.specs.Starting.{IsStoreOf}
+use Rattle.jn_place.specs.Calls.{StandsOn}
 use Rattle.jn_machine.specs.Chances.{Setup}
 use Rattle.jn_machine.specs.Events.{servers_of, coming_up, settling, printing}
 use Rattle.jn_machine.specs.Tasks.{Task, Acts, GoesDown, ClosesClients, CountsCommits}
@@ -46,7 +46,7 @@ AreIdle clients = (n : ℕ) (t : ClientTable) → slice_get clients n ≡ Some t
 pub record HasStore {S : Type 0} (places : List (Place S)) (n : ℕ) (s : S) : Type 0 where
   pub place : Place S
   pub at : slice_get places n ≡ Some place
-  pub its : IsStoreOf place.slot s
+  pub its : StandsOn place.slot s
 
 abbrev pub AreTheirs : {S : Type 0} → List (Place S) → List S → Type 0
 AreTheirs places stores = (n : ℕ) (s : _) → slice_get stores n ≡ Some s → HasStore places n s

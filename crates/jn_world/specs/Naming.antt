@@ -1,21 +1,17 @@
 -- Which transactions have a commit line, and which a restart names.
 use Rattle.std.specs.Prelude.{Bool, true, false, if◌then◌else◌, List, [], ◌∷◌, ◌++◌}
-use Rattle.std.specs.List.{list_any}
+use Rattle.jn_serial.specs.Lines.{has_tid}
 use Rattle.jn_base.specs.declared.names.ServerNo.{ServerNo}
 use Rattle.jn_base.specs.declared.names.Tid.{Tid}
-use Rattle.jn_base.specs.Names.{tid_eq}
 use Rattle.jn_place.specs.declared.place.Restarted.{Restarted}
 use Rattle.jn_place.specs.declared.place.Restarted.TheVariants as came
 use Rattle.jn_report.specs.declared.line.Text.{Text}
 use Rattle.jn_report.specs.declared.line.Text.TheVariants as says
 
-abbrev pub is_among : List Tid → Tid → Bool
-is_among names T = list_any (λ U. tid_eq U T) names
-
 -- each of these that has no line yet is named, and has one then
 abbrev pub newly_named : List Tid → List Tid → List Text
 newly_named [] names = []
-newly_named (T ∷ Ts) names = if is_among names T then newly_named Ts names else says.Commit T ∷ newly_named Ts (names ++ T ∷ [])
+newly_named (T ∷ Ts) names = if has_tid names T then newly_named Ts names else says.Commit T ∷ newly_named Ts (names ++ T ∷ [])
 
 -- how a restart ended
 abbrev pub restart_texts : ServerNo → List Tid → Restarted → List Text

@@ -23,7 +23,7 @@ use Rattle.jn_server.specs.Settled.{IsSettledState}
 use Rattle.jn_world.specs.declared.ended.Ended.{Ended}
 use Rattle.jn_world.specs.declared.ended.Ended.TheVariants.{Messages, Epoch, Memory}
 use Rattle.jn_world.specs.declared.world.World.{World}
-use Rattle.jn_world.specs.Naming.{is_among}
+use Rattle.jn_serial.specs.Lines.{has_tid}
 use Rattle.jn_machine.specs.Chances.{Setup}
 use Rattle.jn_machine.specs.Runs.{Moment, Leads}
 use Rattle.jn_machine.specs.Tasks.{Task, Begins, Rests, Stage, InSchedule, CutShort, AtEnd, when_of}
@@ -35,7 +35,7 @@ standing_of w = record {
   places = w.places.items;
   clients = w.clients.items;
   net = w.net;
-  named = is_among w.named.names.items;
+  named = has_tid w.named.names.items;
   commits = length w.named.names.items;
   trace = w.trace;
 }

@@ -1,7 +1,7 @@
 //! The transactions that have a commit line.
 ghost use Rattle.std.specs.Prelude.{◌≡◌, ◌<◌, ◌^◌, ◌++◌, ◌∷◌, [], length, vec_len, OnOk};
 ghost use Rattle.jn_base.specs.Names.{tid_eq};
-ghost use Rattle.jn_world.specs.Naming.{is_among};
+ghost use Rattle.jn_serial.specs.Lines.{has_tid};
 
 use jn_base::Tid;
 use std::alloc::{AllocError, Global};
@@ -21,7 +21,7 @@ fn is_same(a: Tid, b: Tid) -> bool
 
 /// Whether the transaction is among these, looked for from the last one on.
 fn is_in(names: &[Tid], tid: Tid) -> bool
-    ensures { result ≡ is_among names.now tid }
+    ensures { result ≡ has_tid names.now tid }
 {
     let mut left = names.len();
     while left > 0 {
@@ -44,7 +44,7 @@ impl Named {
 
     /// Whether the transaction has a line.
     pub fn has(&self, tid: Tid) -> bool
-        ensures { result ≡ is_among self.now.names.items tid }
+        ensures { result ≡ has_tid self.now.names.items tid }
     {
         is_in(&self.names, tid)
     }

@@ -1,5 +1,6 @@
 -- Steps of clients without a message: each is told a command, or sends once more.
-use Rattle.jn_world_refines.proofs.Common.{◌≡◌, ◌-◌, ℕ, Bool, true, false, List, [], ◌++◌, append-nil, length, slice_get, drop, Some, refl, sym, ◌∙◌, ap, subst, arith, if◌then◌else◌, nat_tests, ClientNo, Client, client_eq, DeviceState, Tell, Again, after, commanded, sent_now, World, commits_in, Line, ClientTable, Commanded, Refuses, command_row, again_row, pairs_view, StoreView, Setup, Moment, message_texts, traced, lines_at, Task, when_of, Standing, is_client_number, Stands, posted_by, with_sent, with_client, texts_commanded, sent_commanded, table_commanded, ActsNext, IsStepTo}
+use Rattle.jn_world_refines.proofs.Common.{◌≡◌, ◌-◌, ℕ, Bool, true, false, List, [], ◌++◌, append-nil, length, slice_get, drop, Some, refl, sym, ◌∙◌, ap, subst, arith, if◌then◌else◌, nat_tests, ClientNo, Client, client_eq, DeviceState, Tell, Again, after, commanded, sent_now, World, commits_in, Line, ClientTable, Commanded, Refuses, command_row, again_row, pairs_view, StoreView, Setup, Moment, message_texts, traced, lines_at, Task, when_of, Standing, is_client_number, Stands, posted_by, with_sent, with_client, texts_commanded, sent_commanded, ActsNext, IsStepTo}
+use Rattle.jn_rows.specs.ClientLaws.{after_command}
 use Rattle.jn_base.specs.declared.op.Command.{Command}
 use Rattle.jn_rows.specs.Client.{Sends}
 use Rattle.jn_schedule.specs.declared.Event.TheVariants as events
@@ -14,7 +15,7 @@ same-client c = grind (arith, nat_tests)
 record DoesSo (c : ClientNo) (t : ClientTable) (row : Commanded) (v now : World) : Type 0 where
   pub memory : now.memory ≡ v.memory
   pub found : now.found ≡ v.found
-  pub here : now.clients c ≡ table_commanded t row
+  pub here : now.clients c ≡ after_command row t
   pub others : (d : ClientNo) → client_eq c d ≡ false → now.clients d ≡ v.clients d
   pub sent : now.sent ≡ v.sent ++ sent_commanded row
   pub lines : now.lines ≡ v.lines ++ texts_commanded c v.event row
@@ -44,11 +45,11 @@ module _ {S : Type 0} (look : S → StoreView) (device : S → DeviceState) (see
 
   -- A client is told a command: it is refused with its line, or its message is sent.
   pub told-step : (command : Command) → ActsNext x m (events.Command c command) more → (row : Commanded) → command_row t v.event command ≡ row → (lines : List Line)
-      → IsStepTo look device x m (more ++ drop 1 m.state.tasks) (with_sent (posted_by (Client c) (sent_commanded row)) (with_client c (table_commanded t row) w))
+      → IsStepTo look device x m (more ++ drop 1 m.state.tasks) (with_sent (posted_by (Client c) (sent_commanded row)) (with_client c (after_command row t) w))
       lines (lines ++ lines_at (when_of m.state) (texts_commanded c v.event row ++ traced w.trace (message_texts (Client c) (length w.net.sent) (sent_commanded row))))
   told-step command next row row-is lines = plain-step look device seen x w m stand (events.Command c command) more next (Client c) (Tell c command) refl tt (λ s reads n. refl) (sent_commanded row) (texts_commanded c v.event row) (names-none c v.event row) so.sent so.lines
       w.places (servers-same look device seen x w m stand _ (record { memory = λ q. ap (λ f. f q) so.memory; found = λ q. ap (λ f. f q) so.found; devices = λ q. refl }))
-      _ (client-moved look device seen x w m stand c is (table_commanded t row) (after (Tell c command) v) so.here so.others) w.net.sent refl lines
+      _ (client-moved look device seen x w m stand c is (after_command row t) (after (Tell c command) v) so.here so.others) w.net.sent refl lines
     where
       so : DoesSo c t row v (after (Tell c command) v)
       so = subst (λ (u : World). DoesSo c t row v u) (sym (ap (λ (a : ClientTable). commanded c (command_row a v.event command) v) here-is ∙ ap (λ (r : Commanded). commanded c r v) row-is)) (does-so c t row v here-is)

@@ -1,8 +1,7 @@
 -- A server comes up, or is stopped while it does.
-use Rattle.jn_world_refines.proofs.Common.{◌≡◌, ◌<◌, ℕ, ◌+◌, Bool, true, false, not, List, [], ◌∷◌, ◌++◌, append-nil, drop, length, map, slice_get, slice_set, Option, Some, None, is_some, refl, sym, ◌∙◌, ap, subst, arith, ◌||◌, if◌then◌else◌, nat_eq, fun_ext, nat_tests, ServerNo, Tid, WorkId, Outside, tid_eq, work_eq, DeviceState, powered_off, found_on, with_epoch, Place, Slot, Up, Down, IsTried, IsUpAt, texts_of_step, World, Memory, commits_in, has_line, restored, named_now, Restart, AreNames, tid_before, restart, restart_with, counts_by, Line, Text, StableState, Pick, Parts, go_on, pairs_view, StoreView, Setup, Chance, Deed, recovered, last_epoch, is_used_up, IsRecovery, rubbish_on, Moment, lines_at, when_of, names_told, HasCounts, Standing, StandsAt, Stands, with_named, IsStepTo, left_by_step, Counts, Recovered, Left, root_by, IsOnly, is_none, ◌&&◌, Beside, beside_by, pages_by, MapsAreClean, beside_on, pick_read}
+use Rattle.jn_world_refines.proofs.Common.{◌≡◌, ◌<◌, ℕ, ◌+◌, Bool, true, false, not, List, [], ◌∷◌, ◌++◌, append-nil, drop, length, map, slice_get, slice_set, Option, Some, None, is_some, refl, sym, ◌∙◌, ap, subst, arith, ◌||◌, if◌then◌else◌, nat_eq, fun_ext, nat_tests, ServerNo, Tid, WorkId, Outside, tid_eq, work_eq, DeviceState, powered_off, found_on, with_epoch, Place, Slot, Up, Down, IsTried, IsUpAt, texts_of_step, World, Memory, commits_in, has_line, restored, named_now, Restart, AreNames, tid_before, restart, restart_with, counts_by, Line, Text, StableState, Pick, Parts, go_on, pairs_view, StoreView, Setup, Chance, Deed, recovered, last_epoch, is_used_up, IsRecovery, rubbish_on, Moment, lines_at, when_of, names_told, HasCounts, Standing, StandsAt, Stands, with_named, IsStepTo, left_by_step, Counts, Recovered, Left, root_by, IsOnly, is_none, ◌&&◌, Beside, beside_by, pages_by, MapsAreClean, beside_on, pick_read, root_page}
 use Rattle.jn_page_state.specs.Puts.{IsFrontClean, IsFrontWhole}
 use Rattle.jn_locks.specs.Locks.{work_before}
-use Rattle.jn_records.specs.Pages.{root_page}
 use Rattle.jn_report.specs.declared.line.Text.TheVariants as says
 use Rattle.jn_world_refines.proofs.Naming.{told-names}
 use Rattle.jn_world_refines.proofs.Posted.{lines-in-two}

@@ -1,6 +1,7 @@
 -- Where a run starts, and what it leaves at its end.
 use Rattle.jn_world_refines.proofs.Common.{◌≡◌, ◌<◌, ℕ, Bool, true, false, List, Some, None, refl, sym, ◌∙◌, ap, subst, arith, true≢false, Option, nat_lt, if◌then◌else◌, slice_get, is_some, fun_ext, nat_tests, slice_get_within, ServerNo, DeviceState, found_on, AllFiles, Place, Slot, Up, Down, Gone, Memory, new_memory, Counts, Carries, counts_by, Event, pairs_view, StoreView, Within, opening-within, Setup, Devices, AreFound, Moment, closed_world, before, Standing, StandsAt, PlaceStands, Stands, HasCounts, IsRecoverable, AreRecoverable}
-use Rattle.jn_world_refines.specs.Starting.{IsFirst, IsStoreOf}
+use Rattle.jn_world_refines.specs.Starting.{IsFirst}
+use Rattle.jn_place.specs.Calls.{StandsOn}
 
 closed-within : (n : ℕ) (files : AllFiles) (epochs : ServerNo → ℕ) → Within n (closed_world n files epochs)
 closed-within n files epochs = let o = opening-within n files epochs in record {
@@ -59,11 +60,11 @@ module _ {S : Type 0} (look : S → StoreView) (device : S → DeviceState) (see
       places n p e = let d = first.places n p e in at n p (subst (λ k. n < k) first.servers (slice_get_within w.places n p e)) d.counts d.store d.down d.image
 
   -- the stores that the servers stood on
-  pub closed-stores : (m : Moment) → Stands look device x w m → (n : ℕ) (p : Place S) (s : S) → slice_get w.places n ≡ Some p → IsStoreOf p.slot s → m.devices (record { 0 = n }) ≡ device s
+  pub closed-stores : (m : Moment) → Stands look device x w m → (n : ℕ) (p : Place S) (s : S) → slice_get w.places n ≡ Some p → StandsOn p.slot s → m.devices (record { 0 = n }) ≡ device s
   closed-stores m stands n p s e is = by p.slot (stands.places n p e).stands is
     where
       by : (a : Slot S) → StandsAt look device (counts_by p.counts) a (m.state.course.world.memory (record { 0 = n })) (m.state.course.world.found (record { 0 = n })) (m.devices (record { 0 = n }))
-          → IsStoreOf a s → m.devices (record { 0 = n }) ≡ device s
+          → StandsOn a s → m.devices (record { 0 = n }) ≡ device s
       by (Up q) h k = h.2 ∙ ap device (sym k)
       by (Down t) h k = h.2 ∙ ap device (sym k)
       by Gone h k = absurd h

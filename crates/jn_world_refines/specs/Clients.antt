@@ -27,8 +27,3 @@ texts_commanded c event (Sends t to message) = []
 abbrev pub sent_commanded : Commanded → List Sent
 sent_commanded (Refuses refusal) = []
 sent_commanded (Sends t to message) = (to, message) ∷ []
-
--- the table then, of one that had this table
-abbrev pub table_commanded : ClientTable → Commanded → ClientTable
-table_commanded t (Refuses refusal) = t
-table_commanded t (Sends now to message) = now

@@ -3,8 +3,7 @@ use Rattle.std.specs.Prelude.{◌≡◌, ℕ, suc, false, length, slice_get, Som
 use Rattle.jn_base.specs.declared.names.Tid.{Tid}
 use Rattle.jn_device.specs.Device.{DeviceState}
 use Rattle.jn_place.specs.declared.place.Place.{Place}
-use Rattle.jn_place.specs.declared.place.Slot.{Slot}
-use Rattle.jn_place.specs.declared.place.Slot.TheVariants.{Up, Down, Gone}
+use Rattle.jn_place.specs.declared.place.Slot.TheVariants.{Down}
 use Rattle.jn_recovery.specs.Counts.{counts_by}
 use Rattle.jn_rows.specs.Client.{ClientTable, new_table}
 use Rattle.jn_machine.specs.Chances.{Setup}
@@ -28,9 +27,3 @@ pub record IsFirst {S : Type 0} (device : S → DeviceState) (x : Setup) (images
   pub named : (T : Tid) → w.named T ≡ false
   pub commits : w.commits ≡ 0
   pub trace : w.trace ≡ x.trace
-
--- the store that a server stands on
-abbrev pub IsStoreOf : {S : Type 0} → Slot S → S → Type 0
-IsStoreOf (Up p) s = s ≡ p.storage.0
-IsStoreOf (Down t) s = s ≡ t
-IsStoreOf Gone s = ⊥

@@ -16,7 +16,8 @@ ghost use Rattle.jn_machine.specs.Runs.{Moment};
 ghost use Rattle.jn_machine.specs.Steps.{message_texts, traced, lines_at};
 ghost use Rattle.jn_machine.specs.Tasks.{Task, when_of};
 ghost use Rattle.jn_world_refines.specs.Stands.{Standing, is_client_number, Stands, posted_by, with_sent};
-ghost use Rattle.jn_world_refines.specs.Clients.{with_client, texts_taken, texts_commanded, sent_commanded, table_commanded};
+ghost use Rattle.jn_world_refines.specs.Clients.{with_client, texts_taken, texts_commanded, sent_commanded};
+ghost use Rattle.jn_rows.specs.ClientLaws.{after_command};
 ghost use Rattle.jn_world_refines.specs.Going.{ActsNext, IsStepTo};
 
 use jn_store::Powered;
@@ -45,7 +46,7 @@ pub fn a_command_is_a_step<S: Powered>()
         → (more : List Task) (command : Command) → ActsNext x m (events.Command c command) more
         → (row : Commanded) → command_row t m.state.course.world.event command ≡ row → (lines : List Line)
         → IsStepTo (λ s. S.view s) (λ s. S.device s) x m (more ++ drop 1 m.state.tasks)
-        (with_sent (posted_by (Client c) (sent_commanded row)) (with_client c (table_commanded t row) w))
+        (with_sent (posted_by (Client c) (sent_commanded row)) (with_client c (after_command row t) w))
         lines (lines ++ lines_at (when_of m.state) (texts_commanded c m.state.course.world.event row ++ traced w.trace (message_texts (Client c) (length w.net.sent) (sent_commanded row)))) }
     ensures again { (x : Setup) (w : Standing S) (m : Moment) → Stands (λ s. S.view s) (λ s. S.device s) x w m
         → (c : ClientNo) → is_client_number c.0 ≡ true → (t : ClientTable) → slice_get w.clients (c.0 - 1) ≡ Some t

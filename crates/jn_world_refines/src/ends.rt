@@ -14,7 +14,8 @@ ghost use Rattle.jn_machine.specs.Whole.{closed_world, before, AreImages, IsWhol
 ghost use Rattle.jn_world_refines.specs.Ending.{AreDisarmed, dismissed, BeginsEnd};
 ghost use Rattle.jn_world_refines.specs.Going.{IsTold};
 ghost use Rattle.jn_world_refines.specs.Stands.{Standing, Stands};
-ghost use Rattle.jn_world_refines.specs.Starting.{IsFirst, IsStoreOf};
+ghost use Rattle.jn_world_refines.specs.Starting.{IsFirst};
+ghost use Rattle.jn_place.specs.Calls.{StandsOn};
 ghost use Rattle.jn_world_refines.specs.Written.{IsReported};
 
 use jn_store::Powered;
@@ -24,7 +25,7 @@ use jn_store::Powered;
 pub fn a_run_starts_and_ends_on_its_stores<S: Powered>()
     ensures first { (x : Setup) (w : Standing S) (schedule : List Event) (files : AllFiles) (epochs : ServerNo → ℕ) (images : Devices) → IsFirst (λ s. S.device s) x images w
         → AreFound x (closed_world x.servers files epochs) images → AreRecoverable x images → Stands (λ s. S.view s) (λ s. S.device s) x w (record { state = before x schedule files epochs; devices = images }) }
-    ensures closing { (x : Setup) (w : Standing S) (m : Moment) → Stands (λ s. S.view s) (λ s. S.device s) x w m → (n : ℕ) (p : Place S) (s : S) → slice_get w.places n ≡ Some p → IsStoreOf p.slot s
+    ensures closing { (x : Setup) (w : Standing S) (m : Moment) → Stands (λ s. S.view s) (λ s. S.device s) x w m → (n : ℕ) (p : Place S) (s : S) → slice_get w.places n ≡ Some p → StandsOn p.slot s
         → m.devices (record { 0 = n }) ≡ S.device s }
 {}
 

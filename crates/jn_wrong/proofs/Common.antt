@@ -11,7 +11,7 @@ pub use Rattle.jn_system.specs.WholeSystem.Steps.{Step, Restart, tid_before, aft
 pub use Rattle.jn_system.specs.WholeSystem.Course.{Course, go, go_on, newly_sent, course_to, without_number, still_waiting, numbered}
 pub use Rattle.jn_machine.specs.Chances.{Setup, Chance, prints_found, works_found, tids_found, allowed, maps_found, none_free, Allows}
 pub use Rattle.jn_machine.specs.Tasks.{Task, Begins, Meets, Acts, Rests, ComesUp, Dismisses, GoesDown, ClosesClients, CountsCommits, State, when_of, begun, next_task, AtEnd, InSchedule, Stage, CutShort, next_at, when_at}
-pub use Rattle.jn_machine.specs.Deeds.{Deed, Reads, last_epoch, stopped_idle, shown, showing, pick_read, recovering, recovered, given_up, is_used_up, brought_up, plain, served, crashed_at, scrubbed, Use, uses, Arms, Decays, Revives, room, no_room, delivered, delivered_at, nothing, is_busy, Recovers, restarted, Cleans, PowersOff, Nothing, Calls, Disarms, worked, working_steps, is_busy_with, recovers}
+pub use Rattle.jn_machine.specs.Deeds.{Deed, Reads, stopped_idle, shown, showing, pick_read, recovering, recovered, given_up, is_used_up, brought_up, plain, served, crashed_at, scrubbed, Use, uses, Arms, Decays, Revives, room, no_room, delivered, delivered_at, nothing, is_busy, Recovers, restarted, Cleans, PowersOff, Nothing, Calls, Disarms, worked, working_steps, is_busy_with, recovers}
 pub use Rattle.jn_machine.specs.Events.{deed_of, met, acted, ending, told_unless, first_busy, servers_of, next_event, resting, next_in, asking, settling}
 pub use Rattle.jn_machine.specs.Steps.{outside_texts, own_texts, message_texts, traced, lines_at, most_messages, is_too_much, come_to, cut_short, made, done, next, next_by, texts_of}
 pub use Rattle.jn_base.specs.declared.names.ServerNo.{ServerNo}
@@ -40,6 +40,7 @@ pub use Rattle.jn_rows.specs.Stable.{StableState, Pick, Left, FlagState, Prepare
 pub use Rattle.jn_locks.specs.Locks.{work_before, unit_before}
 pub use Rattle.jn_system.specs.WholeSystem.Printing.{Printed, ArePrints, print_files, file_before, FileThere, PageStored, UnitLocked, print_unit, print_one, print_blocks, print_file, block_before}
 pub use Rattle.jn_system.specs.WholeSystem.PrintedLines.{prints_of, text_printed}
+pub use Rattle.jn_records.specs.Pages.{last_epoch, root_page}
 pub use Rattle.jn_machine.specs.Devices.{Devices, IsLookedOver, IsRecovery, Alone, Befalls, IsServed, IsScrubbed, IsCalled, IsUsed, pages_of, rubbish_on}
 pub use Rattle.jn_report.specs.declared.line.EventRefusal.{EventRefusal}
 pub use Rattle.jn_report.specs.declared.line.EventRefusal.TheVariants.{NoSuchServer, ServerDown, TooManyArmed, EpochsUsedUp}
@@ -83,7 +84,7 @@ pub use Rattle.jn_report.specs.Kinds.{is_up, is_down, is_stopped, is_commit, is_
 pub use Rattle.jn_machine.proofs.Texts.{More, gone-on, task-texts, Besides}
 pub use Rattle.jn_msgs.specs.declared.message.Message.{Message}
 pub use Rattle.jn_records.specs.declared.net_list.Need.{Need}
-pub use Rattle.jn_server.specs.Standing.{free_on, beside_on, is_free_head, promised_heads, has_rubbish, is_free_page}
+pub use Rattle.jn_server.specs.Standing.{free_on, beside_on, promised_heads, has_rubbish, is_free_page}
 pub use Rattle.jn_machine.specs.Leaving.{beside_by, AreLeft, AreAllCounted, beside_at, left_by_row, left_by_steps}
 pub use Rattle.jn_server.specs.Counted.{CountsAll, AreCounted}
 pub use Rattle.jn_machine.proofs.LeftBy.{left-sent, left_with, left-work}
@@ -112,6 +113,8 @@ pub use Rattle.jn_wrong.specs.Telling.{MayDecay, AreMended, outside_lines, outsi
 pub use Rattle.jn_page_state.specs.Recoverable.{IsRecoverable, MapsAreClean}
 pub use Rattle.jn_records.specs.declared.record.Record.{Record}
 pub use Rattle.jn_records.specs.declared.record.Record.TheVariants.{Free, Intention, Going, Flag}
+pub use Rattle.jn_records.specs.Heads.{is_free as is_free_head}
+unfoldable pub use Rattle.jn_records.specs.Heads.{head_at}
 pub use Rattle.jn_sets.specs.Pool.{free_count, rubbish_count, is_free, is_rubbish}
 pub use Rattle.jn_wrong.specs.Showing.{unit_printed, prints_unit, AreThere, PrintsAll, printed_lines, Shows}
 pub use Rattle.jn_system.specs.WholeSystem.LockFacts.{LockFacts, ServerFact, UpFact}

@@ -1,11 +1,9 @@
 -- The device of a server on which nothing is stored: zeros behind the root, whatever befell its halves.
-use Rattle.jn_wrong.proofs.Common.{nat_tests, not, ◌&&◌, PageDecays, ◌≡◌, ◌-◌, subst, Some, Option, ◌≤◌, ◌<◌, ◌+◌, ◌||◌, ℕ, Bool, true, false, true≢false, nat_eq, nat_lt, if◌then◌else◌, List, [], refl, sym, ◌∙◌, ap, inl, arith, inr, fun_ext, blank, DeviceState, PageState, bumped, Armed, Happens, put, joined, pairs_view, found_on, Pick, s0, pages_of, pages_by, ◌^◌, replicate, blank_page, pool_on, heads_on, record_or_free, head_or_free, IsRecoverable, Head, FreeHead, Record, Free, root_by, Candidate, StorePut, StoreLater, Decay, Revive, page_met, PageRevives, IsBlank}
+use Rattle.jn_wrong.proofs.Common.{nat_tests, not, ◌&&◌, PageDecays, ◌≡◌, ◌-◌, subst, Some, Option, ◌≤◌, ◌<◌, ◌+◌, ◌||◌, ℕ, Bool, true, false, true≢false, nat_eq, nat_lt, if◌then◌else◌, List, [], refl, sym, ◌∙◌, ap, inl, arith, inr, fun_ext, blank, DeviceState, PageState, bumped, Armed, Happens, put, joined, pairs_view, found_on, Pick, s0, pages_of, pages_by, ◌^◌, replicate, blank_page, pool_on, heads_on, record_or_free, head_or_free, IsRecoverable, Head, FreeHead, Record, Free, root_by, Candidate, StorePut, StoreLater, Decay, Revive, page_met, PageRevives, IsBlank, root_page, head_at}
 use Rattle.jn_device.proofs.Happening.{happens_later}
 use Rattle.jn_disks.specs.Disks.{no_files as nothing_there, IsNewStore, IsNewDisk}
 use Rattle.jn_disks.proofs.NewStores.{new_is}
 use Rattle.jn_page_state.specs.Images.{CountsFit, IsFresh}
-use Rattle.jn_records.specs.Heads.{head_at}
-use Rattle.jn_records.specs.Pages.{root_page}
 use Rattle.jn_fields.specs.Reading as reading
 use Rattle.jn_records.specs.Records.{record_at}
 use Rattle.jn_wrong.proofs.Pairs.{the_counts}

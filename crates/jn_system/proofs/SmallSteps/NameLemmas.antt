@@ -1,7 +1,6 @@
 -- Names are given once.
-use Rattle.jn_system.proofs.Common.{◌≡◌, ◌≢◌, ◌⊎◌, inl, inr, ℕ, ◌+◌, ◌≤◌, ◌<◌, Bool, true, false, if◌then◌else◌, refl, sym, ◌∙◌, ap, subst, arith, ServerNo, Tid, WorkId, server_eq, server_tells, Change, StableState, Pick, AddReady, MarkGoing, CarryOut, RemoveWork, AddFlag, DropFlag, made_by, World, Prepare, lose, Atom, Begin, Open, Make, Decide, Narrow, RaiseEpoch, Crash, Restart, server_of, put, with_epoch, always, restart, after, MayBegin, MayOpen, MayRestart, May, carried_at, CarryPart}
+use Rattle.jn_system.proofs.Common.{◌≡◌, ◌≢◌, ◌⊎◌, inl, inr, ℕ, ◌+◌, ◌≤◌, ◌<◌, Bool, true, false, if◌then◌else◌, refl, sym, ◌∙◌, ap, subst, arith, ServerNo, Tid, WorkId, server_eq, server_tells, Change, StableState, Pick, AddReady, MarkGoing, CarryOut, RemoveWork, AddFlag, DropFlag, made_by, World, Prepare, lose, Atom, Begin, Open, Make, Decide, Narrow, RaiseEpoch, Crash, Restart, server_of, put, with_epoch, always, restart, after, MayBegin, MayOpen, MayRestart, May, carried_at, CarryPart, at_server}
 use Rattle.jn_system.proofs.SmallSteps.Invariant.{IsGiven, NamesFact}
-use Rattle.jn_system.specs.SmallSteps.World.{at_server}
 use Rattle.jn_system.proofs.SmallSteps.Updates.{TellsServer, not_both, false_unless, at_work_cases, at_tid_cases}
 
 -- a new name was never given

@@ -1,5 +1,5 @@
 -- Each row of a worker keeps what holds of its works and locks.
-use Rattle.jn_system.proofs.Common.{◌≡◌, ◌≢◌, ◌⊎◌, inl, inr, ℕ, zero, suc, Bool, true, false, List, [], ◌∷◌, take, Option, Some, None, refl, sym, ◌∙◌, subst, arith, ◌||◌, if◌then◌else◌, WorkId, Tickets, LockUnit, Op, Answer, Intention, InOrder, intention_for, Mode, Read, IntentionWrite, Commit, is_unit, Work, Phase, Active, Stored, ActiveWork, StableState, Prepared, Change, made_all, is_going, next_after, RowOutcome, WorkerTable, Wanted, units_for, with_units, wants_of, commit_wants, holds, work_at, with_phase, after_grant, conflict, list_with, is_fit, written_unit, HoldsForCommit, HasRead, file_unit, found-name, IsSoundWork, IsSoundActive, IsSoundPrepared, ReadFiles, TableFact}
+use Rattle.jn_system.proofs.Common.{◌≡◌, ◌≢◌, ◌⊎◌, inl, inr, ℕ, zero, suc, Bool, true, false, List, [], ◌∷◌, take, Option, Some, None, refl, sym, ◌∙◌, subst, arith, ◌||◌, if◌then◌else◌, WorkId, Tickets, LockUnit, Op, Answer, Intention, InOrder, intention_for, Mode, Read, IntentionWrite, Commit, is_unit, Work, Phase, Active, Stored, ActiveWork, StableState, Prepared, Change, made_all, is_going, next_after, RowOutcome, WorkerTable, Wanted, units_for, with_units, wants_of, commit_wants, holds, work_at, with_phase, after_grant, conflict, list_after, is_fit, written_unit, HoldsForCommit, HasRead, file_unit, found-name, IsSoundWork, IsSoundActive, IsSoundPrepared, ReadFiles, TableFact}
 use Rattle.jn_rows.specs.Worker.{done}
 use Rattle.jn_records.proofs.EditLemmas.{edited-in_order}
 use Rattle.jn_system.proofs.WholeSystem.Granted.{phase_changed, granted}
@@ -49,11 +49,11 @@ done-holds a op answer wants u Read h = is-either (is_unit (units_for Read wants
 done-holds a op answer wants u IntentionWrite h = is-either (is_unit (units_for IntentionWrite wants) u) (is_unit a.writes u) _ (sym (with_units-is (units_for IntentionWrite wants) a.writes u) ∙ h) (λ e. inr e) (λ e. inl e)
 done-holds a op answer wants u Commit h = absurd (grind arith)
 
-list-in_order : (o : Option Intention) (op : Op) (list : List Intention) → intention_for list op ≡ o → InOrder list → InOrder (list_with o op list)
+list-in_order : (o : Option Intention) (op : Op) (list : List Intention) → intention_for list op ≡ o → InOrder list → InOrder (list_after o op list)
 list-in_order None op list e h = h
 list-in_order (Some new) op list e h = edited-in_order op list new e h
 
-list-units : (o : Option Intention) (op : Op) (list : List Intention) (u : LockUnit) → intention_for list op ≡ o → HoldsForCommit (list_with o op list) u
+list-units : (o : Option Intention) (op : Op) (list : List Intention) (u : LockUnit) → intention_for list op ≡ o → HoldsForCommit (list_after o op list) u
     → (is_unit (units_for IntentionWrite (wants_of op true)) u ≡ true) ⊎ HoldsForCommit list u
 list-units None op list u e h = inr h
 list-units (Some new) op list u e h = by (units-more op list new u h)
@@ -63,7 +63,7 @@ list-units (Some new) op list u e h = by (units-more op list new u h)
     by (inr p) = inr p
 
 done-covers : (a : ActiveWork) (op : Op) (answer : Answer) (fit : Bool) → is_fit answer ≡ fit → ((u : LockUnit) → HoldsForCommit a.list u → is_unit a.writes u ≡ true)
-    → (u : LockUnit) → HoldsForCommit (if fit then list_with (intention_for a.list op) op a.list else a.list) u → is_unit (with_units (units_for IntentionWrite (wants_of op fit)) a.writes) u ≡ true
+    → (u : LockUnit) → HoldsForCommit (if fit then list_after (intention_for a.list op) op a.list else a.list) u → is_unit (with_units (units_for IntentionWrite (wants_of op fit)) a.writes) u ≡ true
 done-covers a op answer true e covers u h = with_units-is (units_for IntentionWrite (wants_of op true)) a.writes u ∙ by (list-units (intention_for a.list op) op a.list u refl h)
   where
     by : (is_unit (units_for IntentionWrite (wants_of op true)) u ≡ true) ⊎ HoldsForCommit a.list u → (is_unit (units_for IntentionWrite (wants_of op true)) u || is_unit a.writes u) ≡ true
@@ -95,7 +95,7 @@ done-sound stored a op answer h = record {
   files = done-files a op (is_fit answer) h.files;
 }
   where
-    ordered : (b : Bool) → InOrder (if b then list_with (intention_for a.list op) op a.list else a.list)
+    ordered : (b : Bool) → InOrder (if b then list_after (intention_for a.list op) op a.list else a.list)
     ordered true = list-in_order (intention_for a.list op) op a.list refl h.in_order
     ordered false = h.in_order
 

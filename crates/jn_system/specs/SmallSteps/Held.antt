@@ -1,15 +1,11 @@
 -- The units that a work holds: those that it has read, and for commit those that its intentions write.
-use Rattle.std.specs.Prelude.{◌≡◌, ◌⊎◌, true, List, map, is_some}
+use Rattle.std.specs.Prelude.{◌≡◌, ◌⊎◌, true, List, is_some}
+use Rattle.jn_lock_rows.specs.Matching.{commit_units}
 use Rattle.jn_base.specs.declared.names.LockUnit.{LockUnit}
 use Rattle.jn_base.specs.declared.names.LockUnit.TheVariants.{File, Block}
 use Rattle.jn_records.specs.declared.intention.Intention.{Intention}
 use Rattle.jn_records.specs.NetLists.{list_change}
-use Rattle.jn_rows.specs.Worker.{written_unit}
 use Rattle.jn_locks.specs.Locks.{is_unit}
-
--- the units that a prepared work holds for commit
-abbrev pub commit_units : List Intention → List LockUnit
-commit_units list = map (λ (i : Intention). written_unit i.what i.file i.block) list
 
 abbrev pub HoldsForCommit : List Intention → LockUnit → Type 0
 HoldsForCommit list u = is_unit (commit_units list) u ≡ true

@@ -13,7 +13,8 @@ use Rattle.jn_records.specs.NetLists.{intention_change, list_change}
 use Rattle.jn_rows.specs.Stable.{StableState, Prepared, Pick, Change, AddReady, MarkGoing, CarryOut, RemoveWork, AddFlag, DropFlag}
 use Rattle.jn_locks.specs.Locks.{is_unit}
 use Rattle.jn_system.specs.SmallSteps.Traces.{Answered, effect_of, asks}
-use Rattle.jn_system.specs.SmallSteps.Held.{commit_units, HoldsForCommit, HasRead, Writes, ReadsFiles}
+use Rattle.jn_system.specs.SmallSteps.Held.{HoldsForCommit, HasRead, Writes, ReadsFiles}
+use Rattle.jn_lock_rows.specs.Matching.{commit_units}
 use Rattle.jn_system.specs.SmallSteps.World.{World, Working, Knowledge}
 use Rattle.jn_system.specs.SmallSteps.Transactions.{AllReady, AllOver, AreParts, Knows}
 use Rattle.jn_system.specs.SmallSteps.Steps.{Atom, Prepare, Begin, Open, Perform, Lose, End, Learn, NoteReady, NoteOver, Abort, Close, Make, CarryPart, Count, Name, Decide, Narrow, RaiseEpoch, Crash, Restart, server_of, after}

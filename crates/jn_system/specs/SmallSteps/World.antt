@@ -1,10 +1,9 @@
 -- The state of all servers, with what has happened.
-use Rattle.std.specs.Prelude.{ℕ, Bool, List, [], ◌∷◌, Option, if◌then◌else◌}
+use Rattle.std.specs.Prelude.{ℕ, Bool, List, [], ◌∷◌, Option}
 use Rattle.jn_base.specs.declared.names.ServerNo.{ServerNo}
 use Rattle.jn_base.specs.declared.names.LockUnit.{LockUnit}
 use Rattle.jn_base.specs.declared.names.Tid.{Tid}
 use Rattle.jn_base.specs.declared.names.WorkId.{WorkId}
-use Rattle.jn_base.specs.Names.{server_eq}
 use Rattle.jn_order.specs.Files.{AllFiles, change}
 use Rattle.jn_records.specs.declared.intention.Intention.{Intention}
 use Rattle.jn_rows.specs.Stable.{StableState, Pick}
@@ -71,6 +70,3 @@ replay files (c ∷ history) = λ s. change (effects (c.traces s)) (replay files
 abbrev pub IsSerial : AllFiles → List Commit → Type 0
 IsSerial files [] = Unit {0}
 IsSerial files (c ∷ history) = ((s : ServerNo) → Agrees (replay files history s) (c.traces s)) × IsSerial files history
-
-abbrev pub at_server : {A : Type 0} → (ServerNo → A) → ServerNo → A → ServerNo → A
-at_server f s x q = if server_eq s q then x else f q

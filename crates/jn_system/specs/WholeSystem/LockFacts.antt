@@ -15,8 +15,8 @@ use Rattle.jn_rows.specs.declared.worker.ActiveWork.{ActiveWork}
 use Rattle.jn_rows.specs.declared.worker.PreparedWork.{PreparedWork}
 use Rattle.jn_rows.specs.Stable.{StableState, Prepared, Pick, IsUp, stable, is_going}
 use Rattle.jn_rows.specs.Worker.{WorkerTable, work_at, holds, name_from}
-use Rattle.jn_lock_rows.specs.Matching.{are_rising, is_after}
-use Rattle.jn_system.specs.SmallSteps.Held.{commit_units, HoldsForCommit, HasRead, ReadsFiles, file_unit}
+use Rattle.jn_lock_rows.specs.Matching.{are_rising, is_after, commit_units}
+use Rattle.jn_system.specs.SmallSteps.Held.{HoldsForCommit, HasRead, ReadsFiles, file_unit}
 use Rattle.jn_system.specs.WholeSystem.World.{World, Memory}
 
 -- what one work holds goes with what another holds

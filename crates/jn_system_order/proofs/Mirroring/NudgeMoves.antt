@@ -1,7 +1,6 @@
 -- What a server sends again is true.
-use Rattle.jn_system_order.proofs.Common.{◌≡◌, ◌≢◌, ◌⊎◌, inl, inr, Bool, true, false, List, [], ◌∷◌, ◌++◌, Some, None, refl, sym, ◌∙◌, ap, subst, arith, ◌&&◌, if◌then◌else◌, All, All-nil, All-cons, All-append, ServerNo, Tid, WorkId, Server, tid_eq, tid_tells, Message, Work, Transaction, Stage, Open, Voting, Committed, Aborted, StableState, stable, is_going, Sent, WorkerTable, work_at, worker_again, transaction_at, besides, commits, committed_to, aborted_to, told_again, coordinator_again, work_same, found-behind, not-before, Machine, Knows, Invariant, Atom, run, MayRun, Says, World, Memory, server_again, UpFact, Mirrors, IsTrue, IsAddressed, IsStage, AreTransactions, knowledge_in, knowledge_of}
+use Rattle.jn_system_order.proofs.Common.{◌≡◌, ◌≢◌, ◌⊎◌, inl, inr, Bool, true, false, List, [], ◌∷◌, ◌++◌, Some, None, refl, sym, ◌∙◌, ap, subst, arith, ◌&&◌, if◌then◌else◌, All, All-nil, All-cons, All-append, ServerNo, Tid, WorkId, Server, tid_eq, tid_tells, Message, Work, Transaction, Stage, Open, Voting, Committed, Aborted, StableState, stable, is_going, Sent, WorkerTable, work_at, worker_again, transaction_at, besides, commits, committed_to, aborted_to, told_again, coordinator_again, work_same, found-behind, not-before, Machine, Knows, Invariant, Atom, run, MayRun, Says, World, Memory, server_again, UpFact, Mirrors, IsTrue, IsAddressed, IsStage, AreTransactions, knowledge_in, knowledge_of, is_before, are_rising}
 use Rattle.jn_msgs.specs.declared.message.Message.TheVariants as messages
-use Rattle.jn_lock_rows.specs.Matching.{is_before, are_rising}
 use Rattle.jn_system_order.proofs.Mirroring.Transactions.{in-besides, All-works}
 use Rattle.jn_system_order.proofs.Mirroring.StageMoves.{knows, place, begun}
 

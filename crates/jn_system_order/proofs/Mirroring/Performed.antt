@@ -1,5 +1,6 @@
 -- What an operation that is granted does, as the machine's step sees it.
-use Rattle.jn_system_order.proofs.Common.{◌≡◌, ◌⊎◌, inl, inr, Bool, true, false, List, Option, Some, None, is_some, refl, sym, ◌∙◌, ap, subst, arith, if◌then◌else◌, LockUnit, Op, Answer, file_eq, file_tells, Files, nothing, effect, file_of, answer_to, is_did, and_then, Intention, InOrder, list_change, net_change, net_of, Read, is_unit, wants_of, units_for, is_fit, list_with, asks, effect_of, reads-file, File, Block}
+use Rattle.jn_system_order.proofs.Common.{◌≡◌, ◌⊎◌, inl, inr, Bool, true, false, List, Option, Some, None, is_some, refl, sym, ◌∙◌, ap, subst, arith, if◌then◌else◌, LockUnit, Op, Answer, file_eq, file_tells, Files, nothing, effect, file_of, answer_to, is_did, and_then, Intention, InOrder, list_change, net_change, net_of, Read, is_unit, wants_of, units_for, is_fit, asks, effect_of, reads-file, File, Block}
+use Rattle.jn_records.specs.NetEdits.{list_after}
 use Rattle.jn_base.specs.declared.names.FileNo.{FileNo}
 use Rattle.jn_base.specs.declared.op.Op.TheVariants as ops
 use Rattle.jn_base.specs.declared.op.Answer.TheVariants as answers
@@ -47,21 +48,21 @@ no-effect (ops.Remove f) list h = absurd (grind arith)
 no-effect (ops.Cut f n) list h = absurd (grind arith)
 no-effect (ops.Write f p bytes) list h = absurd (grind arith)
 
-with-list : (o : Option Intention) (op : Op) (list : List Intention) → intention_for list op ≡ o → InOrder list → list_change (list_with o op list) ≡ and_then (list_change list) (effect op)
+with-list : (o : Option Intention) (op : Op) (list : List Intention) → intention_for list op ≡ o → InOrder list → list_change (list_after o op list) ≡ and_then (list_change list) (effect op)
 with-list (Some new) op list e h = added-list op list new e h
 with-list None op list e h = ap (λ (c : Change). and_then (list_change list) c) (sym (no-effect op list e))
 
 pub done-changes : (op : Op) (list : List Intention) (files : Files) → InOrder list
-    → list_change (if is_fit (answer_to op files) then list_with (intention_for list op) op list else list) ≡ and_then (list_change list) (effect_of (record { op = op; answer = answer_to op files }))
+    → list_change (if is_fit (answer_to op files) then list_after (intention_for list op) op list else list) ≡ and_then (list_change list) (effect_of (record { op = op; answer = answer_to op files }))
 done-changes op list files h = by (is_fit (answer_to op files)) (is_did (answer_to op files)) (fit-did op list files)
   where
     by : (fit did : Bool) → (fit ≡ did) ⊎ ((intention_for list op ≡ None) × (effect op ≡ nothing))
-        → list_change (if fit then list_with (intention_for list op) op list else list) ≡ and_then (list_change list) (if did then effect op else nothing)
+        → list_change (if fit then list_after (intention_for list op) op list else list) ≡ and_then (list_change list) (if did then effect op else nothing)
     by true true e = with-list (intention_for list op) op list refl h
     by false false e = refl
     by true false (inl e) = absurd (grind arith)
     by false true (inl e) = absurd (grind arith)
-    by true false (inr e) = ap (λ o. list_change (list_with o op list)) e.0
+    by true false (inr e) = ap (λ o. list_change (list_after o op list)) e.0
     by false true (inr e) = ap (λ (c : Change). and_then (list_change list) c) (sym e.1)
 
 -- what its answer depends on it wants to read

@@ -1,5 +1,6 @@
 -- A restart as steps of the machine: fewer states may be found, what its flags say is named, and the server comes up.
-use Rattle.jn_system_order.proofs.Common.{◌≡◌, ◌≢◌, ◌⊎◌, inl, inr, ◌+◌, Bool, true, false, List, [], ◌∷◌, ◌++◌, Option, Some, None, is_some, refl, sym, ◌∙◌, ap, subst, arith, ◌&&◌, ◌||◌, if◌then◌else◌, list_any, list_all, nat_tests, ServerNo, Tid, WorkId, server_eq, tid_eq, server_tells, tid_tells, Message, Text, Work, Committed, StableState, FlagState, Pick, at_tid, work_at, restored_worker, transaction_at, restored_transaction, restored_transactions, Machine, Unknown, Finishes, MayBeFound, HasFlag, Invariant, Atom, Name, with_epoch, name_it, found_of, run, MayRun, MayName, MayRestart, Says, not_both, at_tid_here, at_tid_other, some_of, some_is, World, Memory, at_server, has_line, commits_in, restored, named_now, AreNames, are_rising, tid_before, restart_with, Mirrors, MovesTo, IsTransaction, AreTransactions, commits_of, working_of, active_in, next_in, knowledge_of, known_in, restored-is, Narrow, Restart, narrow}
+use Rattle.jn_system_order.proofs.Common.{◌≡◌, ◌≢◌, ◌⊎◌, inl, inr, ◌+◌, Bool, true, false, List, [], ◌∷◌, ◌++◌, Option, Some, None, is_some, refl, sym, ◌∙◌, ap, subst, arith, ◌&&◌, ◌||◌, if◌then◌else◌, list_any, list_all, nat_tests, ServerNo, Tid, WorkId, server_eq, tid_eq, server_tells, tid_tells, Message, Text, Work, Committed, StableState, FlagState, Pick, at_tid, work_at, restored_worker, transaction_at, restored_transaction, restored_transactions, Machine, Unknown, Finishes, MayBeFound, HasFlag, Invariant, Atom, Name, with_epoch, name_it, found_of, run, MayRun, MayName, MayRestart, Says, not_both, at_tid_here, at_tid_other, some_of, some_is, World, Memory, at_server, has_line, commits_in, restored, named_now, AreNames, tid_before, restart_with, Mirrors, MovesTo, IsTransaction, AreTransactions, commits_of, working_of, active_in, next_in, knowledge_of, known_in, restored-is, Narrow, Restart, narrow}
+use Rattle.jn_system.specs.WholeSystem.Steps.{are_rising}
 use Rattle.jn_msgs.specs.declared.message.Message.TheVariants as messages
 use Rattle.jn_report.specs.declared.line.Text.TheVariants as says
 use Rattle.jn_system_order.proofs.Mirroring.Losing.{run-append, may-append}

@@ -1,5 +1,6 @@
 -- What a worker answers can be the answer of what was asked, and so can what it keeps.
-use Rattle.jn_system_reports.proofs.Common.{◌≡◌, ◌⊎◌, inl, inr, ◌≤◌, ℕ, ◌+◌, Bool, true, false, List, [], ◌∷◌, ◌++◌, Option, Some, None, refl, sym, ◌∙◌, ap, subst, arith, if◌then◌else◌, nat_eq, nat_lt, length, is_some, nat_tests, ClientNo, Tid, WorkId, Tickets, LockUnit, File, Block, Server, Op, Answer, tid_eq, work_eq, Files, change, answer_to, or_else, zeros, Intention, list_change, length_with, Message, Work, Phase, Active, Broken, Stored, ActiveWork, StableState, Prepared, is_going, RowOutcome, Sent, WorkerTable, WorkStorage, Wanted, Held, work_at, work_of, with_phase, without, after_grant, breaks_at, broken_by, units_for, with_units, is_fit, list_with, locked, first_of_two, refusal_of, conflict, commit_wants, worker_row, worker_step, worker_again, timed_out, timeout_row, vulnerable, restored_worker, restored_work, Read, found-name, work_is, operation_of, OperationNo, RequestNo, WorkerCase, replies_only, opens_anew, refuses_next, performs_next, prepares_it, drops_it, removes_it, Replies, is_repeated, is_broken_for, is_closing_for, is_gone_for, WorkerStep, is_over, its_answer, its_wants, worker-case, worker-step-case}
+use Rattle.jn_system_reports.proofs.Common.{◌≡◌, ◌⊎◌, inl, inr, ◌≤◌, ℕ, ◌+◌, Bool, true, false, List, [], ◌∷◌, ◌++◌, Option, Some, None, refl, sym, ◌∙◌, ap, subst, arith, if◌then◌else◌, nat_eq, nat_lt, length, is_some, nat_tests, ClientNo, Tid, WorkId, Tickets, LockUnit, File, Block, Server, Op, Answer, tid_eq, work_eq, Files, change, answer_to, or_else, zeros, Intention, list_change, length_with, Message, Work, Phase, Active, Broken, Stored, ActiveWork, StableState, Prepared, is_going, RowOutcome, Sent, WorkerTable, WorkStorage, Wanted, Held, work_at, work_of, with_phase, without, after_grant, breaks_at, broken_by, units_for, with_units, is_fit, locked, first_of_two, refusal_of, conflict, commit_wants, worker_row, worker_step, worker_again, timed_out, timeout_row, vulnerable, restored_worker, restored_work, Read, found-name, work_is, operation_of, OperationNo, RequestNo, WorkerCase, replies_only, opens_anew, refuses_next, performs_next, prepares_it, drops_it, removes_it, Replies, is_repeated, is_broken_for, is_closing_for, is_gone_for, WorkerStep, is_over, its_answer, its_wants, worker-case, worker-step-case}
+use Rattle.jn_records.specs.NetEdits.{list_after}
 use Rattle.jn_base.specs.declared.op.Op.TheVariants as ops
 use Rattle.jn_base.specs.declared.op.Answer.TheVariants as answers
 use Rattle.jn_records.specs.NetEdits.{intention_for}
@@ -78,7 +79,7 @@ refusal-fits t W a op answer wants refusal few h = by (nat_lt 40 (reads-with a w
     by false false e None k = absurd (none k)
 
 -- its list stays short
-length-done : (o : Option Intention) (op : Op) (list : List Intention) → intention_for list op ≡ o → length (list_with o op list) ≡ length_with list op
+length-done : (o : Option Intention) (op : Op) (list : List Intention) → intention_for list op ≡ o → length (list_after o op list) ≡ length_with list op
 length-done None op list e = unchanged-length op list e
 length-done (Some new) op list e = edited-length op list new e
 
@@ -100,7 +101,7 @@ short-done t W a op answer wants few h = by (is_fit answer) (nat_lt 40 (length (
     below false false o k = refl
 
     by : (b c : Bool) (o : Option Held) → first_of_two (if c then Some answers.TooManyReads else (if nat_lt 24 (if b then length_with a.list op else length a.list) then Some answers.TooManyWrites else None)) (locked o) ≡ None
-        → length (if b then list_with (intention_for a.list op) op a.list else a.list) ≤ 24
+        → length (if b then list_after (intention_for a.list op) op a.list else a.list) ≤ 24
     by true c o k = subst (λ n. n ≤ 24) (sym (length-done (intention_for a.list op) op a.list refl)) (not-over (length_with a.list op) (below c (nat_lt 24 (length_with a.list op)) o k))
     by false c o k = few
 

@@ -1,4 +1,4 @@
-use Rattle.jn_world.proofs.Common.{ℕ, ◌+◌, ◌∷◌, [], ◌++◌, length, List, sym, subst, ◌∙◌, ap, arith, Tid, DeviceState, PageCounts, World, is_among, AreNew, standing_of, YieldsList-from_vec, YieldsList-turn, YieldsList-end, length_push, Carried, StoreView, Place, Down, ArePlaces}
+use Rattle.jn_world.proofs.Common.{ℕ, ◌+◌, ◌∷◌, [], ◌++◌, length, List, sym, subst, ◌∙◌, ap, arith, Tid, DeviceState, PageCounts, World, has_tid, AreNew, standing_of, YieldsList-from_vec, YieldsList-turn, YieldsList-end, length_push, Carried, StoreView, Place, Down, ArePlaces}
 use Rattle.jn_world.proofs.Pushed.{StandFor, stand-more, opens, yielded-all}
 use Rattle.jn_world.proofs.Places.{store-place, places-push, start-world}
 use Rattle.jn_world.proofs.Calm.{stand-down}
@@ -43,5 +43,5 @@ returns g c =
           (omega arith) c.loop-store.invariant.places clients.0 clients.1 (ap (λ (n : Carried). n.sent) c.new.ensures);
       all_down = stand-down xs c.loop-store.places.items stand;
       opens = opens device xs (standing_of w) (many ∙ all) stand (omega (arith, clients.0, c.in_ok-new_clients.field-0.ok.0)) (subst (λ (k : ℕ). AreNew k c.in_ok-new_clients.field-0.items) (omega arith) clients.2)
-          c.new.ensures (λ T. ap (λ (ns : List Tid). is_among ns T) c.new-2.ensures) (ap (λ (ns : List Tid). length ns) c.new-2.ensures);
+          c.new.ensures (λ T. ap (λ (ns : List Tid). has_tid ns T) c.new-2.ensures) (ap (λ (ns : List Tid). length ns) c.new-2.ensures);
     }
