@@ -10,7 +10,7 @@ from wire import Frame, Name, Stream, encode
 
 LAST = 2**32 - 1
 # A node that is silent for so long is ended.
-SECONDS = 60
+SECONDS = 600
 
 
 def echo_of(server: int) -> Frame:
