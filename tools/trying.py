@@ -52,6 +52,14 @@ def run_tool(name: str, *words: str, given: bytes = b"") -> Ended:
     return Ended(done.returncode, done.stdout.decode("utf-8", "replace"), done.stderr.decode("utf-8", "replace"))
 
 
+def run_shown(text: str, program: str, room: str) -> Ended:
+    """Runs lines that a page shows, with this program in place of bin/juniper, and with files of this folder in place of those in /tmp."""
+    script = 'set -o pipefail\njuniper() { (exec -a juniper "$program" "$@"); }\n' + text.replace("bin/juniper", "juniper").replace("/tmp/", '"$room"/')
+    given = {**os.environ, "program": program, "room": os.path.abspath(room)}
+    done = subprocess.run(["bash", "-c", script], capture_output=True, check=False, cwd=TOP, env=given)
+    return Ended(done.returncode, done.stdout.decode("utf-8", "replace"), done.stderr.decode("utf-8", "replace"))
+
+
 def load_script(path: str):
     """Loads a script that has no ending as a module; the path is from the top."""
     loader = importlib.machinery.SourceFileLoader(os.path.basename(path), os.path.join(TOP, path))
