@@ -9,7 +9,7 @@ use Rattle.jn_order.specs.Files.{Files}
 use Rattle.jn_records.specs.declared.head.Head.{Head}
 use Rattle.jn_records.specs.declared.head.Head.TheVariants.{Free, Used}
 use Rattle.jn_records.specs.Heads.{IsHead, FileFits, head_in, is_free, IsMapRow}
-use Rattle.jn_records.specs.Layouts.{Layout, Unused, at_cell, kept_entry, layouts_by, layout_at, is_layout_of, files_in, head_map, row_at}
+use Rattle.jn_records.specs.Layouts.{Layout, Unused, at_cell, kept_entry, layouts_by, layout_at, is_layout_of, files_in, head_map, row_at, AreNamedOnce}
 use Rattle.jn_records.specs.StablePages.{Counts}
 use Rattle.jn_records.specs.MapPlaces.{range_of}
 
@@ -50,10 +50,6 @@ IsUnnamed layouts a = (slot q : ℕ) → at_cell (layout_at layouts slot) q ≢ 
 -- no file has two heads
 abbrev pub HaveOneHead : List Head → Type 0
 HaveOneHead heads = (f : FileNo) (i j : ℕ) → is_of f (head_in heads i) ≡ true → is_of f (head_in heads j) ≡ true → i ≡ j
-
--- no data page is named twice
-abbrev pub AreNamedOnce : List Layout → Type 0
-AreNamedOnce layouts = (a i p j q : ℕ) → at_cell (layout_at layouts i) p ≡ suc a → at_cell (layout_at layouts j) q ≡ suc a → (i ≡ j) × (p ≡ q)
 
 -- each head has a page, and leads to data pages that there are
 pub record IsHeadOf (leaves : ℕ) (h : Head) : Type 0 where

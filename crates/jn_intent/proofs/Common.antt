@@ -16,8 +16,8 @@ pub use Rattle.jn_base.specs.declared.names.WorkId.{WorkId}
 pub use Rattle.jn_base.specs.Names.{file_eq, work_eq, unit_eq, tid_eq, block_eq}
 pub use Rattle.jn_base.proofs.Tells.{file_tells, work_tells, tid_tells}
 pub use Rattle.jn_order.specs.Files.{Files, change, written, created, removed, cut_from}
-pub use Rattle.jn_files.specs.Table.{TableView, IsTable, IsFreeLeaf, exists, layouts_in, IsUnnamed, AreRows, AreNamedOnce, cut_addresses, kept_maps, is_held, IsHeadOf, is_of, fresh_head, cut_head, cut_map, with_leaf, with_map, one_entry, layouts_of, address_for, is_mapped, is_touched}
-pub use Rattle.jn_records.specs.Layouts.{kept_entry, Layout, Unused, at_cell, layout_at, is_layout_of, map_cell, behind, row_at, layout_by, laid, through, with_entries, cut_inside, layouts_by, Of, head_map, with_row, IsMapIn, IsRowChanged, block_in, IsNoMap, has_address}
+pub use Rattle.jn_files.specs.Table.{TableView, IsTable, IsFreeLeaf, exists, layouts_in, IsUnnamed, AreRows, cut_addresses, kept_maps, is_held, IsHeadOf, is_of, fresh_head, cut_head, cut_map, with_leaf, with_map, one_entry, layouts_of, address_for, is_mapped, is_touched}
+pub use Rattle.jn_records.specs.Layouts.{kept_entry, Layout, Unused, at_cell, layout_at, is_layout_of, map_cell, behind, row_at, layout_by, AreNamedOnce, laid, through, with_entries, cut_inside, layouts_by, Of, head_map, with_row, IsMapIn, IsRowChanged, block_in, IsNoMap, has_address}
 pub use Rattle.jn_page_state.specs.Contents.{intended, bytes_by, heads_name, works_have, names_for_block, layouts_in as layouts_said, stored_in, with_first, intentions_from, works_name, prepared_by, stored_list, holds_intention, Contents, intention_of, state_in}
 pub use Rattle.jn_page_state.specs.Held.{held_contents, MayStand, IsLayoutPut, epoch_after, records_after, heads_after, rows_after, IsMapStored}
 pub use Rattle.jn_page_state.specs.Pages.{found_on, block_on, pages_by}

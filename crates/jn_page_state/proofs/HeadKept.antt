@@ -157,7 +157,7 @@ module _ (c later : Contents) (i : StoredIntention) (place : ℕ) (new : Layout)
 
     module _ (leaves : ℕ) (before : AddressesDiffer leaves c) where
       heads_differ : (d j k p q : ℕ) → (Addresses (layouts_in c) j p d ⊎ ((j ≡ place) × Gives i d p)) → (Addresses (layouts_in c) k q d ⊎ ((k ≡ place) × Gives i d q)) → (j ≡ k) × (p ≡ q)
-      heads_differ d j k p q (inl x) (inl y) = before.heads d j k p q x y
+      heads_differ d j k p q (inl x) (inl y) = before.heads d j p k q x y
       heads_differ d j k p q (inl x) (inr y) = let h = before.carried d slot j q p i stands y.1 x in (put.only j h.0 ∙ sym y.0, h.1)
       heads_differ d j k p q (inr x) (inl y) = let h = before.carried d slot k p q i stands x.1 y in (x.0 ∙ sym (put.only k h.0), sym h.1)
       heads_differ d j k p q (inr x) (inr y) = (x.0 ∙ sym y.0, (before.works d slot slot p q i i stands stands x.1 y.1).1)
@@ -171,7 +171,7 @@ module _ (c later : Contents) (i : StoredIntention) (place : ℕ) (new : Layout)
 
       addresses_put : AddressesDiffer leaves later
       addresses_put = record {
-        heads = λ d j k p q x y. heads_differ d j k p q (split j p d x) (split k q d y);
+        heads = λ d j p k q x y. heads_differ d j k p q (split j p d x) (split k q d y);
         works = λ d j k p q s t x y. before.works d j k p q s t (pool_intends c later place new put.there lays j s x) (pool_intends c later place new put.there lays k t y);
         works_fit = λ d k p s x. before.works_fit d k p s (pool_intends c later place new put.there lays k s x);
         carried = λ d k j p q s x a h. carried d k j p q s (pool_intends c later place new put.there lays k s x) a h (split j q d h);
@@ -241,7 +241,7 @@ module _ (c later : Contents) (i : StoredIntention) (m place : ℕ) (new : Layou
 
   part_addresses : (leaves : ℕ) → AddressesDiffer leaves c → AddressesDiffer leaves later
   part_addresses leaves before = record {
-    heads = λ d j k p q x y. before.heads d j k p q (part_split j p d x) (part_split k q d y);
+    heads = λ d j p k q x y. before.heads d j p k q (part_split j p d x) (part_split k q d y);
     works = λ d j k p q s t x y. before.works d j k p q s t (pool_intends c later place new below_last lays j s x) (pool_intends c later place new below_last lays k t y);
     works_fit = λ d k p s x. before.works_fit d k p s (pool_intends c later place new below_last lays k s x);
     carried = λ d k j p q s x a h. let b = before.carried d k j p q s (pool_intends c later place new below_last lays k s x) a (part_split j q d h) in (part_file s.file j b.0, b.1);

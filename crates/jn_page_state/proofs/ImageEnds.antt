@@ -140,7 +140,7 @@ module _ (server : ServerNo) (g : Counts) (v : StoreView) (epoch : ℕ) (records
   addressed a x y u w =
       let h = located a x u in
       let k = located a y w in
-      let same = all.addresses.heads a h.place k.place h.cell k.cell h.stands k.stands in
+      let same = all.addresses.heads a h.place h.cell k.place k.cell h.stands k.stands in
       one_spot g (pages_by v (λ n. false)) x y h.place h.cell h.holds
       (subst (λ i. Holds g (pages_by v (λ n. false)) y i h.cell) (sym same.0) (subst (λ q. Holds g (pages_by v (λ n. false)) y k.place q) (sym same.1) k.holds))
 

@@ -178,7 +178,7 @@ module _ (s : ServerNo) (m : Image) (sound : IsSound s m) (fit : CountsFit s m.c
 
   image_addresses : AddressesDiffer m.counts.leaves (contents_of m.counts (pages_by v c))
   image_addresses = record {
-    heads = λ d i j p q x y. one_cell m sound.addresses d i j p q (written i p d x) (written j q d y);
+    heads = λ d i p j q x y. one_cell m sound.addresses d i j p q (written i p d x) (written j q d y);
     works = λ d i j p q t u x y a b. absurd (no_intention i t x);
     works_fit = λ d i p t x a. absurd (no_intention i t x);
     carried = λ d i j p q t x a y. absurd (no_intention i t x);

@@ -11,7 +11,7 @@ use Rattle.jn_records.specs.declared.intention.StoredIntention.{StoredIntention}
 use Rattle.jn_records.specs.declared.record.Record.{Record}
 use Rattle.jn_records.specs.declared.record.Record.TheVariants.{Intention as IntentionRecord, Ready, Going}
 use Rattle.jn_records.specs.Intentions.{names_address}
-use Rattle.jn_records.specs.Layouts.{Layout, map_cell, at_cell, layout_at, is_layout_of}
+use Rattle.jn_records.specs.Layouts.{Layout, map_cell, at_cell, layout_at, is_layout_of, AreNamedOnce}
 use Rattle.jn_records.specs.MapPlaces.{maps_in, IsSuppliedBy, range_of}
 use Rattle.jn_records.specs.StablePages.{Counts, Pages, page_count, data_place, NamesMap}
 use Rattle.jn_rows.specs.Stable.{Pick}
@@ -71,9 +71,8 @@ abbrev pub Gives : StoredIntention → ℕ → ℕ → Type 0
 Gives s d q = ((s.address ≡ suc d) × (q ≡ s.block.0)) ⊎ ((s.map ≡ suc d) × (q ≡ map_cell (range_of s.block.0)))
 
 pub record AddressesDiffer (leaves : ℕ) (c : Contents) : Type 0 where
-  -- no data page stands at two cells
-  pub heads : (d i j p q : ℕ) → Addresses (layouts_in c) i p d → Addresses (layouts_in c) j q d → (i ≡ j) × (p ≡ q)
-  -- nor is one named twice by the intentions of prepared works, and each that they name is there
+  pub heads : AreNamedOnce (layouts_in c)
+  -- nor is a data page named twice by the intentions of prepared works, and each that they name is there
   pub works : (d i j p q : ℕ) (s t : StoredIntention) → Intends c.pool i s → Intends c.pool j t → Gives s d p → Gives t d q → (i ≡ j) × (p ≡ q)
   pub works_fit : (d i p : ℕ) (s : StoredIntention) → Intends c.pool i s → Gives s d p → d < leaves
   -- a layout has the data page of such an intention in its file and at its cell alone

@@ -56,6 +56,10 @@ abbrev pub is_layout_of : FileNo → Layout → Bool
 is_layout_of f Unused = false
 is_layout_of f (Of g cells) = file_eq g f
 
+-- no data page stands at two cells
+abbrev pub AreNamedOnce : List Layout → Type 0
+AreNamedOnce layouts = (a i p j q : ℕ) → at_cell (layout_at layouts i) p ≡ suc a → at_cell (layout_at layouts j) q ≡ suc a → (i ≡ j) × (p ≡ q)
+
 -- ---- which addresses a layout has
 
 -- the test passes at some number below n

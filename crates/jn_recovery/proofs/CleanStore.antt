@@ -174,7 +174,7 @@ module _ (server : ServerNo) (g : Counts) (u : StoreView) (recoverable : IsRecov
     map_choice : IsMapChoice g heads_there u pages
     map_choice = record {
       whole = its_map_page;
-      once = subst AreNamedOnce (sym layouts_as) (λ a i p j q x y. (recoverable.each c).consistent.addresses.heads a i j p q x y);
+      once = subst AreNamedOnce (sym layouts_as) (recoverable.each c).consistent.addresses.heads;
       leaves = λ place p a below e. let lt = cell_leaf place p a e in record {
         clean = recoverable.clean c a lt (named place p a below e);
         tail = ap (drop 448) (sym (page_first (data_place g a) (omega (arith, lt)))) ∙ format.data_pages a lt;
