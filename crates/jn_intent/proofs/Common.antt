@@ -16,7 +16,7 @@ pub use Rattle.jn_base.specs.declared.names.WorkId.{WorkId}
 pub use Rattle.jn_base.specs.Names.{file_eq, work_eq, unit_eq, tid_eq, block_eq}
 pub use Rattle.jn_base.proofs.Tells.{file_tells, work_tells, tid_tells}
 pub use Rattle.jn_order.specs.Files.{Files, change, written, created, removed, cut_from}
-pub use Rattle.jn_files.specs.Table.{TableView, IsTable, IsFreeLeaf, exists, layouts_in, IsUnnamed, AreRows, cut_addresses, kept_maps, is_held, IsHeadOf, is_of, fresh_head, cut_head, cut_map, with_leaf, with_map, one_entry, layouts_of, address_for, is_mapped, is_touched}
+pub use Rattle.jn_files.specs.Table.{TableView, IsTable, IsFreeLeaf, exists, layouts_in, IsUnnamed, AreRows, cut_addresses, kept_maps, is_held, IsHeadOf, fresh_head, cut_head, cut_map, with_leaf, with_map, one_entry, layouts_of, address_for, is_mapped, is_touched}
 pub use Rattle.jn_records.specs.Layouts.{kept_entry, Layout, Unused, at_cell, layout_at, is_layout_of, map_cell, behind, row_at, layout_by, AreNamedOnce, laid, through, with_entries, cut_inside, layouts_by, Of, head_map, with_row, IsMapIn, IsRowChanged, block_in, IsNoMap, has_address}
 pub use Rattle.jn_page_state.specs.Contents.{intended, bytes_by, heads_name, works_have, names_for_block, layouts_in as layouts_said, stored_in, with_first, intentions_from, works_name, prepared_by, stored_list, holds_intention, Contents, intention_of, state_in}
 pub use Rattle.jn_page_state.specs.Held.{held_contents, MayStand, IsLayoutPut, epoch_after, records_after, heads_after, rows_after, IsMapStored}
@@ -63,12 +63,12 @@ pub use Rattle.jn_store.proofs.Laws.{later_trans, stop_since, same_refl, same_tr
 pub use Rattle.jn_files.proofs.Said.{same_only}
 pub use Rattle.jn_records.specs.declared.head.Head.{Head}
 pub use Rattle.jn_base.specs.declared.names.ServerNo.{ServerNo}
-pub use Rattle.jn_records.specs.Heads.{IsMapRow, head_in, head_page, map_page, all_within, within, has_page as head_has_page}
+pub use Rattle.jn_records.specs.Heads.{IsMapRow, head_in, is_of, head_page, map_page, all_within, within, has_page as head_has_page}
 pub use Rattle.jn_page_state.proofs.MapsKept.{used_there, entry_map}
 pub use Rattle.jn_base.specs.declared.names.LockUnit.{LockUnit}
 pub use Rattle.jn_storage.proofs.Kept.{makes_file, orderly-carried, promises-carried}
 pub use Rattle.jn_files.proofs.Cutting.{cut_kept, cut_gone}
-pub use Rattle.jn_records.proofs.Layouts.{laid-block, laid-entry, laid-map, get-map, laid-past, set-map, map-cell-is, map-put, block-put, has-at, has-found}
+pub use Rattle.jn_records.proofs.Layouts.{laid-block, laid-entry, laid-map, get-map, laid-past, set-map, map-cell-is, map-put, file-at, own-file, block-put, has-at, has-found}
 pub use Rattle.jn_records.specs.declared.head.Head.TheVariants.{Free as FreeHead, Used}
 pub use Rattle.jn_files.specs.Calls.{SetsHead, CutsFile, CutsTwice, SetsBlock, BringsMap, PutsHead, MayBecome, MayBring, IsPlaceOf, IsChanged, with_promised_heads, LetsGo, NextFile as NextHead, Touches, BlockGot, NextBlock as NextHeadBlock, with_promised_leaves, TouchesAll, with_held, with_touched}
 pub use Rattle.jn_page_state.specs.Changes.{serves_for, is_head_after, address_after, map_after, IsHeadPut, IsPartPut, IsReadySlot, IsReadyPut, IsIdlePut}

@@ -30,7 +30,7 @@ pub use Rattle.jn_base.specs.declared.names.ServerNo.{ServerNo}
 pub use Rattle.jn_records.specs.declared.flag.Flag.{Flag}
 pub use Rattle.jn_records.specs.declared.head.Head.{Head}
 pub use Rattle.jn_records.specs.declared.work.WorkHead.{WorkHead}
-pub use Rattle.jn_records.specs.Heads.{head_in, has_page, head_at, head_page, IsHead, FileFits, IsMapPage, fits_version, addresses_bytes, IsMapRow, all_within}
+pub use Rattle.jn_records.specs.Heads.{head_in, has_page, head_at, head_page, IsHead, FileFits, IsMapPage, fits_version, HaveOneHead, addresses_bytes, IsMapRow, all_within}
 unfoldable pub use Rattle.jn_records.specs.Heads.{map_page}
 pub use Rattle.jn_records.specs.StablePages.{Counts, data_place, entry_in, page_count, slot_place, head_place, Pages, address_in, map_in, address_by, is_head_of as is_page_of, head_from, head_of, block_behind, block_in as block_on_page, files_of_pages, root_by, NamesMap, is_used, file_in, IsWholeMap}
 pub use Rattle.jn_storage.specs.Orderly.{IsLoadable, file_there, IsGiven, IsPrepared, needs_file, list_of, first_of as first_net, IsOrderly, unit_of, unit_by}
@@ -46,7 +46,7 @@ pub use Rattle.jn_rows.proofs.Left.{whole-stop, left-none}
 pub use Rattle.jn_records.specs.declared.head.Head.TheVariants.{Free as FreeHead, Used}
 pub use Rattle.jn_base.specs.declared.names.FileNo.{FileNo}
 pub use Rattle.jn_records.specs.MapPlaces.{is_in_range, keeps_map, maps_in, names_map, has_map_after, places_after, bare, IsSuppliedBy, MapPlaces, names_maps}
-pub use Rattle.jn_records.proofs.Layouts.{inside-was, has-at, get-map, same-map, laid-block, laid-entry, laid-past, map-cell-is, laid-none, has-found, block-put}
+pub use Rattle.jn_records.proofs.Layouts.{inside-was, has-at, file-at, get-map, same-map, laid-block, laid-entry, laid-past, map-cell-is, laid-none, has-found, block-put}
 pub use Rattle.jn_store.specs.Choices.{IsChoice, Agree, with_page}
 pub use Rattle.jn_records.specs.Pages.{root_at, root_page, format_version, IsRoot}
 pub use Rattle.jn_records.specs.Records.{record_at, record_page}

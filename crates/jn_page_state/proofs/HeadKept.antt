@@ -1,5 +1,6 @@
 -- The put of a layout leaves what a recovery asks.
 use Rattle.jn_page_state.proofs.Common.{◌≡◌, ◌⊎◌, inl, inr, ⊎_elim, ℕ, suc, ◌<◌, ◌-◌, ◌/◌, Bool, true, false, ◌&&◌, if◌then◌else◌, List, length, refl, sym, ◌∙◌, ap, subst, true≢false, arith, nat_tests, cases_lt, slice_set, nat_eq, nat_le, FileNo, ServerNo, file_tells, head_blocks, most_maps, most_blocks, most_cells, StoredIntention, What, Fresh, Gone, Cut, Put, Record, record_in, is_prepared, is_flag, is_in_range, keeps_map, names_address, Layout, Unused, Of, map_cell, at_cell, layout_at, is_layout_of, has_page, Counts, IsLoadable, Contents, head_in, entry_of, layouts_in, state_in, stored_in, heads_name, works_have, names_for_block, address_after, map_after, serves_for, is_head_after, IsHeadPut, IsPartPut, LaysOut, PassesOnce, IsDistinct, Intends, Addresses, Gives, AddressesDiffer, IsCompleteBy, IsSuppliedIn, IsConsistent, names_page, is_named, names_block, or_left, or_right, same_Some, inside-was}
+use Rattle.jn_page_state.proofs.Images.{heads_once, layouts_once}
 use Rattle.jn_page_state.proofs.Slots.{once_set}
 use Rattle.jn_page_state.proofs.Naming.{either, intends_held, gives_address, cell_named, named_cell, cell_within}
 use Rattle.jn_page_state.proofs.MapsKept.{one_file, serves_one, at_later, used_there, head_maps, part_maps}
@@ -74,7 +75,7 @@ module _ (c later : Contents) (place : ℕ) (new : Layout) (there : place < leng
   distinct_later files before = record {
     works = λ w. subst (λ (pool : List Record). PassesOnce (λ j. is_prepared w (record_in pool j))) (sym lays.pool) (before.works w);
     flags = λ t. subst (λ (pool : List Record). PassesOnce (λ j. is_flag t (record_in pool j))) (sym lays.pool) (before.flags t);
-    files = files;
+    files = heads_once (entry_of later.blocks) later.heads files;
   }
 
   pool_intends : (k : ℕ) (s : StoredIntention) → Intends later.pool k s → Intends c.pool k s
@@ -179,7 +180,7 @@ module _ (c later : Contents) (i : StoredIntention) (place : ℕ) (new : Layout)
 
     pub head_consistent : (server : ServerNo) (g : Counts) → ((k : ℕ) → has_page (head_in c.heads k) ≡ true) → IsLoadable server g.heads (state_in c) → IsConsistent g c → IsConsistent g later
     head_consistent server g pages loadable before = record {
-      distinct = distinct_later c later place new put.there lays (files_once before.distinct.files) before.distinct;
+      distinct = distinct_later c later place new put.there lays (files_once (layouts_once (entry_of c.blocks) c.heads before.distinct.files)) before.distinct;
       complete = complete_later c later place new put.there lays before.complete;
       supplied = supplied_later c later place new put.there lays (heads_supplied c before.distinct before.complete server loadable.orderly slot i stands c.heads later.heads (head_maps c later i place new put lays pages) before.supplied);
       addresses = addresses_put g.leaves before.addresses;
@@ -249,7 +250,7 @@ module _ (c later : Contents) (i : StoredIntention) (m place : ℕ) (new : Layou
 
   pub part_consistent : (g : Counts) → ((k : ℕ) → has_page (head_in c.heads k) ≡ true) → IsConsistent g c → IsConsistent g later
   part_consistent g pages before = record {
-    distinct = distinct_later c later place new below_last lays (part_once before.distinct.files) before.distinct;
+    distinct = distinct_later c later place new below_last lays (part_once (layouts_once (entry_of c.blocks) c.heads before.distinct.files)) before.distinct;
     complete = complete_later c later place new below_last lays before.complete;
     supplied = supplied_later c later place new below_last lays (λ k. more_supplied c.pool c.heads later.heads (part_maps c later i m place new put lays pages) (record_in c.pool k) (before.supplied k));
     addresses = part_addresses g.leaves before.addresses;

@@ -1,12 +1,12 @@
 -- What a recovery asks of a server's pages, whichever halves it will read.
-use Rattle.std.specs.Prelude.{◌≡◌, ◌⊎◌, ℕ, suc, ◌<◌, ◌-◌, ◌/◌, Bool, true, false, ◌||◌, List, length, is_some}
+use Rattle.std.specs.Prelude.{◌≡◌, ◌⊎◌, ℕ, suc, ◌<◌, Bool, true, false, ◌||◌, List, length, is_some}
 use Rattle.std.specs.List.{list_any}
-use Rattle.jn_base.specs.declared.names.FileNo.{FileNo}
 use Rattle.jn_base.specs.declared.names.ServerNo.{ServerNo}
 use Rattle.jn_base.specs.declared.names.Tid.{Tid}
 use Rattle.jn_base.specs.declared.names.WorkId.{WorkId}
-use Rattle.jn_base.specs.Limits.{head_blocks, most_blocks, most_cells}
+use Rattle.jn_base.specs.Limits.{most_blocks, most_cells}
 use Rattle.jn_records.specs.declared.head.Head.{Head}
+use Rattle.jn_records.specs.Heads.{HaveOneHead}
 use Rattle.jn_records.specs.declared.intention.StoredIntention.{StoredIntention}
 use Rattle.jn_records.specs.declared.record.Record.{Record}
 use Rattle.jn_records.specs.declared.record.Record.TheVariants.{Intention as IntentionRecord, Ready, Going}
@@ -31,7 +31,7 @@ PassesOnce test = (i j : ℕ) → test i ≡ true → test j ≡ true → i ≡ 
 pub record IsDistinct (c : Contents) : Type 0 where
   pub works : (w : WorkId) → PassesOnce (λ i. is_prepared w (record_in c.pool i))
   pub flags : (t : Tid) → PassesOnce (λ i. is_flag t (record_in c.pool i))
-  pub files : (f : FileNo) → PassesOnce (λ i. is_layout_of f (layout_at (layouts_in c) i))
+  pub files : HaveOneHead c.heads
 
 -- ---- the intentions of prepared works
 

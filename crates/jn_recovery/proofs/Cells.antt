@@ -1,12 +1,8 @@
 -- What stands at the cells of layouts: which data pages there are, and which map pages they follow from.
-use Rattle.jn_recovery.proofs.Common.{◌≡◌, ⊎_elim, ◌<◌, ◌≤◌, ◌-◌, ℕ, zero, suc, Bool, true, false, if◌then◌else◌, List, [], ◌∷◌, refl, sym, ◌∙◌, ap, arith, fun_ext, cases_lt, nat_tests, nat_lt, slice_index, ◌&&◌, FileNo, Head, FreeHead, Used, head_in, is_of, heads_name, passes_any, passes_at, PassesOnce, ◌/◌, ◌%◌, head_blocks, most_maps, most_blocks, most_cells, IsHeadOf, AreHeads, layouts_of, row_at, all_within, within, Layout, Unused, Of, map_cell, at_cell, through, laid, kept_entry, layout_by, layouts_by, layout_at, is_layout_of, has_address, head_map, get-map, laid-block, laid-entry, laid-map, laid-past, has-at, has-found}
+use Rattle.jn_recovery.proofs.Common.{◌≡◌, ⊎_elim, ◌<◌, ◌≤◌, ◌-◌, ℕ, zero, suc, Bool, true, false, if◌then◌else◌, List, [], ◌∷◌, refl, sym, ◌∙◌, ap, arith, fun_ext, cases_lt, nat_tests, nat_lt, slice_index, ◌&&◌, FileNo, Head, FreeHead, Used, head_in, heads_name, passes_any, passes_at, PassesOnce, ◌/◌, ◌%◌, head_blocks, most_maps, most_blocks, most_cells, IsHeadOf, AreHeads, layouts_of, row_at, all_within, within, Layout, Unused, Of, map_cell, at_cell, through, laid, kept_entry, layout_by, layouts_by, layout_at, is_layout_of, has_address, head_map, get-map, laid-block, laid-entry, laid-map, laid-past, has-at, has-found, file-at}
 use Rattle.std.proofs.Math.Nat.{mod-lt}
 
 -- ---- a head and its layout
-
-pub same_test : (maps : ℕ → ℕ → ℕ) (f : FileNo) (h : Head) → is_of f h ≡ is_layout_of f (layout_by maps h)
-same_test maps f FreeHead = refl
-same_test maps f (Used g xs ms) = refl
 
 pub at_place : (maps : ℕ → ℕ → ℕ) (heads : List Head) (i : ℕ) → layout_at (layouts_by maps heads) i ≡ layout_by maps (head_in heads i)
 at_place maps heads i = get-map (layout_by maps) heads i FreeHead
@@ -111,10 +107,7 @@ module _ (leaves : ℕ) (rows : List (List ℕ)) (heads : List Head) (are : AreH
 
   -- no file has two layouts
   pub one_layout : (f : FileNo) → PassesOnce (λ i. is_layout_of f (layout_at (layouts_of rows heads) i))
-  one_layout f i j x y = are.files f i j (at i x) (at j y)
-    where
-      at : (i : ℕ) → is_layout_of f (layout_at (layouts_of rows heads) i) ≡ true → is_of f (head_in heads i) ≡ true
-      at i x = same_test (kept_entry rows) f (head_in heads i) ∙ sym (ap (is_layout_of f) (at_place (kept_entry rows) heads i)) ∙ x
+  one_layout f i j x y = are.files f i j (sym (file-at (kept_entry rows) f heads i) ∙ x) (sym (file-at (kept_entry rows) f heads j) ∙ y)
 
 -- ---- a data page that some layout has at a cell is named
 
