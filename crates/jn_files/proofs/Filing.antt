@@ -1,8 +1,8 @@
 -- What each put makes of the files of a table.
-use Rattle.jn_files.proofs.Common.{◌≡◌, ◌⊎◌, inl, inr, ⊎_elim, ◌<◌, ◌≤◌, ◌-◌, ◌%◌, ℕ, suc, Bool, true, false, List, replicate, take, refl, sym, ap, subst, ◌∙◌, arith, slice_set, nat_eq, nat_lt, nat_le, if◌then◌else◌, div-add-mod, mod-lt, cases_eq, cases_lt, nat_tests, head_blocks, most_maps, most_blocks, FileNo, BlockNo, Change, change, cut_from, Head, Layout, at_cell, through, kept_entry, layout_by, is_layout_of, with_cell, cut_inside, is_in_range, among, part-files, TableView, IsTable, head_in, is_of, layouts_in, layout_in, files_of, fresh_head, kept_maps, range_of, block_written, IsChange, IsCutInside, cells_kept, file-at}
+use Rattle.jn_files.proofs.Common.{◌≡◌, ◌⊎◌, inl, inr, ⊎_elim, ◌<◌, ◌≤◌, ◌-◌, ◌%◌, ℕ, suc, Bool, true, false, List, replicate, take, refl, sym, ap, subst, ◌∙◌, arith, slice_set, nat_eq, nat_lt, nat_le, if◌then◌else◌, div-add-mod, mod-lt, cases_eq, cases_lt, nat_tests, head_blocks, most_maps, most_blocks, FileNo, BlockNo, Change, change, cut_from, Head, Layout, at_cell, through, kept_entry, layout_by, is_layout_of, cut_inside, is_in_range, among, part-files, TableView, IsTable, head_in, is_of, layouts_in, layout_in, files_of, fresh_head, kept_maps, range_of, block_written, IsChange, IsCutInside, cells_kept, file-at}
 use Rattle.jn_records.specs.Layouts.{files_in}
 use Rattle.jn_files.proofs.Cells.{CellCase, InHead, InMap, OfMap, Past, cell_case}
-use Rattle.jn_files.proofs.Changing.{layout_tells, becomes_cut, becomes_written}
+use Rattle.jn_files.proofs.Changing.{with_cell, layout_tells, becomes_cut, becomes_written}
 use Rattle.jn_files.proofs.Cutting.{zeros_at}
 use Rattle.jn_files.proofs.Laying.{cells, in_head, in_map, of_map, past_all, kept_head, kept_map, kept_of, or_zero, and_zero, zero_or, zero_and, lt_true, lt_false, le_true, le_false}
 use Rattle.jn_files.proofs.Turning.{Turns, there}

@@ -33,7 +33,7 @@ pub use Rattle.jn_records.specs.Intentions.{intention_has_page, names_what_it_ne
 pub use Rattle.jn_records.specs.NetLists.{is_fresh, is_put, is_put_intention, change_by, names_file, intention_change, heads_of, in_order, place_by, entry, intention_place, as_first, first_by, AllPlain, Plain}
 pub use Rattle.jn_records.specs.StablePages.{Counts, root_by, data_place, head_place, page_count}
 pub use Rattle.jn_rows.specs.Stable.{StableState, Pick, Changed, CarryOut, made_by, at_work, IsStopState, Prepared, MarkGoing, is_ready, Unchanged, AddReady, ready_work, RemoveWork, is_going}
-pub use Rattle.jn_sets.specs.Pool.{is_prepared, record_in, is_free, is_intention, IsRecord, slot_page, is_flag, is_ready as is_ready_record, going_of, free_count, is_rubbish}
+pub use Rattle.jn_sets.specs.Pool.{is_prepared, record_in, is_free, is_intention, IsRecord, slot_page, is_flag, is_ready as is_ready_record, going_of, free_count, is_rubbish, intends_for}
 pub use Rattle.jn_records.specs.Records.{has_page, record_page, RecordFits, ascends, reads_have_page}
 pub use Rattle.jn_storage.specs.Calls.{state, name_of, next_of, Called, CountsOn, PageTaken, PageStands, StepApplied, IsReady, MarkedGoing, FlagPromised, PutsFew, NextFile, BlockRead, NextBlock, shortage, with_work, MayPrepare, WorkPrepared, short_of, reached, is_shortage, WorkRemoved, HasFlag, FlagDropped, TellsFlags, MayPutFlag, FlagPut, PromiseReleased, IsGoing, RecordErased, TellsWorks}
 pub use Rattle.jn_storage.specs.Finding.{find_by}
@@ -48,7 +48,7 @@ pub use Rattle.jn_intent.specs.Carrying.{Carries, PutsWhole, PutsInTurn, MayCarr
 pub use Rattle.jn_recovery.specs.Matches.{Matches, IsKeptMemory, IsMade, AreMade, HasMaps, HaveMaps, stored_work, WorksMatch, StoredWork, work_by, FlagsMatch}
 pub use Rattle.jn_recovery.specs.Memory.{Memory, accounts_of, view_of, next_by, next_in, stored_by, held_of, held_in, holds_page, rubbish_of, rubbish_in, supplied_in}
 pub use Rattle.jn_recovery.proofs.Totals.{one}
-pub use Rattle.jn_recovery.proofs.Counting.{listed_length, found_at, gone_found, prepared_gone, removed_rubbish, removed_names, counts_plus, is_of_work}
+pub use Rattle.jn_recovery.proofs.Counting.{listed_length, found_at, gone_found, prepared_gone, removed_rubbish, removed_names, counts_plus}
 pub use Rattle.jn_recovery.proofs.Serving.{serves_of, serving_by, loadable_found, Serves, may_load, called_put}
 pub use Rattle.jn_recovery.proofs.Standing.{there_found, consistent, mapped_found, holds, files_are, standing_same, finds}
 pub use Rattle.jn_recovery.proofs.Telling.{prepared_of, stored_pages, works_seen, listed_pages, works_told, works_by, tells_works}

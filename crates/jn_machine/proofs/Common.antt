@@ -21,7 +21,7 @@ pub use Rattle.jn_machine.specs.Deeds.{Deed, delivered, worked, shown, crashed_a
 pub use Rattle.jn_machine.specs.Refusals.{refusal_of}
 pub use Rattle.jn_machine.specs.Events.{servers_of, first_busy, next_event, told_unless, acted, met, resting, deed_of, asking, settling, next_in, printing, coming_up, ending, tasks_of}
 pub use Rattle.jn_machine.specs.Steps.{texts_of, done, next_by, is_too_much, come_to, cut_short, made_to, made, outside_texts, own_texts, message_texts, traced, lines_at, most_messages}
-pub use Rattle.jn_report.specs.Kinds.{no_refusal, commit_in, commit_in as committed_in, no_message, is_answer, is_up, is_stopped, is_down}
+pub use Rattle.jn_report.specs.Kinds.{no_refusal, commit_in, commit_in as committed_in, no_message, is_answer, is_up, is_stopped}
 pub use Rattle.jn_machine.specs.Kinds.{refused_while, or_else, cause_of, events_left, none_before, are_in_order, are_quiet, counts_right, count_right}
 pub use Rattle.jn_machine.specs.Runs.{Steps, none, more, MayLead, Moment, Leads, MayStep, DoesStep, IsOnCourse}
 pub use Rattle.jn_order.specs.Files.{AllFiles}

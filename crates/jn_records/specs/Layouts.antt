@@ -88,10 +88,6 @@ files_in layouts blocks (Block f p) = option_and_then (block_in blocks p) (find 
 
 -- ---- what one put of a page makes of cells
 
--- another address at one cell
-abbrev pub with_cell : ℕ → ℕ → (ℕ → ℕ) → ℕ → ℕ
-with_cell p a cells q = if nat_eq q p then a else cells q
-
 -- other entries in map page j
 abbrev pub with_entries : ℕ → (ℕ → ℕ) → (ℕ → ℕ) → ℕ → ℕ
 with_entries j entries cells q = if nat_lt q most_blocks && is_in_range j q then entries (q % head_blocks) else cells q

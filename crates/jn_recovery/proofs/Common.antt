@@ -42,7 +42,7 @@ pub use Rattle.std.proofs.lemmas.List.{get_or-set_same, get_or_past, get_or-set_
 pub use Rattle.jn_page_state.specs.Changes.{IsIdlePut, is_idle, IsFlagSlot, IsFlagPut}
 pub use Rattle.jn_page_state.proofs.HeldLaws.{front_held, maps_held, contents_held, cleaned_fewer, fewer_trans, named_held, layouts_held}
 pub use Rattle.jn_records.specs.declared.record.Record.TheVariants.{Free, Intention, Ready, Going, Flag as FlagRecord}
-pub use Rattle.jn_sets.specs.Pool.{record_in, slot_page, HoldsRecords, IsReadable, IsRecordPage, is_prepared, is_intention, is_rubbish, is_free, is_flag, IsRecord, free_count}
+pub use Rattle.jn_sets.specs.Pool.{record_in, slot_page, HoldsRecords, IsReadable, IsRecordPage, is_prepared, is_intention, intends_for, is_rubbish, is_free, is_flag, IsRecord, free_count}
 pub use Rattle.jn_records.specs.Records.{record_page, has_page, RecordFits, FlagFits}
 pub use Rattle.jn_page_state.proofs.Picking.{picks, fewer_recoverable, fewer_picked, same_recoverable}
 pub use Rattle.jn_recovery.specs.Cleaning.{Cleans}

@@ -79,8 +79,8 @@ pub use Rattle.jn_recovery.specs.Counts.{most_calls}
 pub use Rattle.jn_records.specs.declared.head.Head.{Head}
 pub use Rattle.jn_records.specs.declared.head.Head.TheVariants.{Free as FreeHead, Used}
 pub use Rattle.std.proofs.lemmas.List.Sums.{count_by-le-length, sum_by-cons}
-pub use Rattle.jn_machine.proofs.Telling.{may_tell, is_of_delivery, is_note, weaker, Tells, take-tells, noted, noted-with}
-pub use Rattle.jn_report.specs.Kinds.{is_up, is_down, is_stopped, is_commit, is_outside, is_answer, is_print as is_printed}
+pub use Rattle.jn_machine.proofs.Telling.{may_tell, is_of_delivery, is_down, is_note, weaker, Tells, take-tells, noted, noted-with}
+pub use Rattle.jn_report.specs.Kinds.{is_up, is_stopped, is_commit, is_outside, is_answer, is_print as is_printed}
 pub use Rattle.jn_machine.proofs.Texts.{More, gone-on, task-texts, Besides}
 pub use Rattle.jn_msgs.specs.declared.message.Message.{Message}
 pub use Rattle.jn_records.specs.declared.net_list.Need.{Need}
