@@ -1,7 +1,7 @@
 -- What follows from a count of faults that rose.
 use Rattle.std.specs.Prelude.{ℕ, ◌≤◌}
 use Rattle.std.proofs.Common.{arith}
-use Rattle.jn_host.specs.Outside.{Rose}
+use Rattle.jn_base.specs.Counts.{Rose}
 
 -- it rose in a later call, so it rose since
 pub rose_since : (a b c : ℕ) → a ≤ b → b ≤ c → Rose b c → Rose a c

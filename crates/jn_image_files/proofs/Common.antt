@@ -8,7 +8,7 @@ pub use Rattle.jn_image.specs.Form.{image_bytes, HasForm, PagesFit, image_counts
 pub use Rattle.std.proofs.lemmas.Bool.Decides.{nat_tests}
 pub use Rattle.std.specs.Prelude.{nat_lt, is_some, is_ok, get_or, codes, decimal}
 pub use Rattle.jn_base.specs.declared.names.ServerNo.{ServerNo}
-pub use Rattle.jn_host.specs.Outside.{Contents, KeeperSaved, kept_at, Rose, found_bytes}
+pub use Rattle.jn_host.specs.Outside.{Contents, KeeperSaved, kept_at, found_bytes}
 pub use Rattle.jn_device.specs.declared.Half.{Half}
 pub use Rattle.jn_disks.specs.Disks.{AreSound, HasPages, image_of, files_in, IsStoreOfPages}
 pub use Rattle.jn_recovery.specs.Counts.{counts_by}

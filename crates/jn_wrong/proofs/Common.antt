@@ -26,8 +26,9 @@ pub use Rattle.jn_wrong.specs.NewImages.{IsOnly, IsNoneOfNew, blank, AreNew, IsN
 pub use Rattle.std.proofs.lemmas.Bool.Decides.{nat_tests}
 pub use Rattle.jn_base.specs.declared.device.FaultKind.{FaultKind}
 pub use Rattle.jn_base.specs.declared.device.FaultKind.TheVariants.{StopBefore, StopAfter, Decay, Revive, Null, Bad}
-pub use Rattle.jn_device.specs.Device.{DeviceState, bumped, PageState, partner_at, page_met, decayed, may_decay_at}
+pub use Rattle.jn_device.specs.Device.{DeviceState, PageState, partner_at, page_met, decayed, may_decay_at}
 unfoldable pub use Rattle.jn_device.specs.Device.{blank_page}
+pub use Rattle.jn_base.specs.Counts.{bumped}
 pub use Rattle.jn_device.specs.Calls.{due, strike, GetStep, PutStep, told_of, got_outside, put_outside, decay_outside, waiting_on, CallStep, struck_page, get_stops, get_outcome, get_is_done, put_stops, put_outcome, put_is_done}
 pub use Rattle.jn_device.specs.Happens.{Happens, get, put, joined}
 pub use Rattle.jn_base.specs.declared.names.FileNo.{FileNo}
