@@ -3,7 +3,7 @@ pub use Rattle.std.proofs.Common.{ap, ◌≡◌, ℕ, Bool, true, false, List, [
 pub use Rattle.jn_machine.specs.Chances.{Chance, Setup, prints_found, allowed, Allows, Recovered}
 pub use Rattle.std.specs.Prelude.{◌/◌, if◌then◌else◌, slice_get, drop, not, nat_lt, is_some, ◌&&◌, ◌||◌}
 pub use Rattle.jn_device.specs.Device.{DeviceState}
-pub use Rattle.jn_device.specs.Later.{Later, count_kind, count_told, is_stop, darkness}
+pub use Rattle.jn_device.specs.Later.{Later, count_kind, count_told, darkness}
 pub use Rattle.jn_machine.specs.Devices.{IsCalled}
 pub use Rattle.std.specs.List.{list_all}
 pub use Rattle.jn_base.specs.declared.names.ServerNo.{ServerNo}
@@ -32,7 +32,7 @@ pub use Rattle.jn_system.specs.WholeSystem.Servers.{Room, server_row, server_ste
 pub use Rattle.jn_system.specs.WholeSystem.Steps.{Step, NextEvent, handing, working, IsStep, IsRun, after, run, Deliver, Work, StopDelivery, Tell, StopWork, Crash, StopRestart, Restart, CloseClients}
 pub use Rattle.jn_machine.specs.Whole.{before, closed_world}
 pub use Rattle.jn_storage.specs.DeviceCalls.{step_calls}
-pub use Rattle.jn_base.specs.Names.{server_eq, client_eq}
+pub use Rattle.jn_base.specs.Names.{server_eq, is_stop, client_eq}
 pub use Rattle.jn_msgs.specs.declared.message.Message.{Message}
 pub use Rattle.std.proofs.Math.Seq.{drop-append_seam}
 pub use Rattle.jn_base.specs.declared.names.Tid.{Tid}

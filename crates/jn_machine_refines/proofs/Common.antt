@@ -23,12 +23,12 @@ pub use Rattle.jn_machine.proofs.Telling.{may_tell, Adds, adds, is_of_delivery, 
 pub use Rattle.jn_machine_refines.specs.Retold.{behind, IsAsIn, IsToldBy, IsRetold, IsRetoldInPart}
 pub use Rattle.jn_system.specs.WholeSystem.Printing.{Printed, FileThere, PageStored, UnitLocked}
 pub use Rattle.jn_base.specs.declared.device.FaultKind.{FaultKind}
-pub use Rattle.jn_base.specs.Names.{server_eq, tid_eq, client_eq, work_eq}
+pub use Rattle.jn_base.specs.Names.{server_eq, is_stop, tid_eq, client_eq, work_eq}
 pub use Rattle.jn_base.proofs.Tells.{server_tells}
 pub use Rattle.jn_device.specs.declared.Armed.{Armed}
 pub use Rattle.jn_device.specs.Device.{DeviceState}
 pub use Rattle.jn_device.specs.Events.{powered_off, Becomes, Decays as PageDecays, Arms as FaultArmed}
-pub use Rattle.jn_device.specs.Later.{count_kind, is_stop, count_told}
+pub use Rattle.jn_device.specs.Later.{count_kind, count_told}
 pub use Rattle.jn_report.specs.declared.line.EventRefusal.{EventRefusal}
 pub use Rattle.jn_machine.specs.Devices.{Devices, Alone, IsUsed, Befalls, IsLookedOver, IsCalled, IsRecovery}
 pub use Rattle.jn_base.specs.declared.names.Party.TheVariants.{Server, Client}
