@@ -40,7 +40,8 @@ pub use Rattle.jn_storage.specs.Finding.{find_by}
 pub use Rattle.jn_storage.specs.Listing.{are_different, IsListing, total, is_in}
 pub use Rattle.jn_storage.proofs.Listings.{but, is_in-but, total-but, total-same, listing-less, listing-more, listing-same, length-but, Tells}
 pub use Rattle.jn_storage.specs.Storage.{IsServing, is_stored, most_pages, map_eq, has_map, Accounts, StorageView}
-pub use Rattle.jn_storage.specs.Orderly.{IsLoadable, file_there, intentions, list_of, IsOrderly, IsPrepared, GoTogether, unit_of, unit_by, needs_file, takes_away, first_of, needed}
+pub use Rattle.jn_storage.specs.Orderly.{IsLoadable, file_there, list_of, IsOrderly, IsPrepared, GoTogether, unit_of, unit_by, needs_file, takes_away, first_of, needed}
+pub use Rattle.jn_rows.specs.Worker.{intentions_of}
 pub use Rattle.jn_storage.proofs.Finds.{find-set, keys-set, find-at, find-listed, find-add, different-add, map-add, find-kept, keys-kept, different-kept}
 pub use Rattle.jn_storage.proofs.Intended.{made_there, there-after, one_if, entry-of, unit-of}
 pub use Rattle.jn_store.specs.Store.{StoreView, IsOnly, StoreLater, IsServed, IsStop, IsSamePage, StorePut, IsClean, HasSamePages, IsCalm, IsWholePage}

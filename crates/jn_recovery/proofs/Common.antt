@@ -65,7 +65,8 @@ pub use Rattle.jn_storage.specs.Calls.{name_of, state, Called, RecordErased, Cou
 pub use Rattle.jn_storage.specs.Finding.{find_by}
 pub use Rattle.jn_storage.specs.Listing.{total, is_in, are_different, IsListing, AtMost}
 pub use Rattle.jn_storage.specs.Storage.{IsCounted, is_stored, most_pages, IsServing, Accounts, map_eq, has_map}
-pub use Rattle.jn_storage.specs.Orderly.{file_there, list_of, intentions, IsLoadable, IsGiven, IsOrderly}
+pub use Rattle.jn_storage.specs.Orderly.{file_there, list_of, IsLoadable, IsGiven, IsOrderly}
+pub use Rattle.jn_rows.specs.Worker.{intentions_of}
 pub use Rattle.jn_storage.proofs.Listings.{Tells, but, is_in-but, different-but, total-but, listing-less, listing-more, listing-same, total-same}
 pub use Rattle.jn_recovery.specs.Gathering.{collected, state_on, works_on, IsFew, record_names, all_needed, IsApart, MayHold, HoldsNamed, MayHoldAt, held_at, HoldsBoth, both_held, flags_on, MayPromise, IsGathered}
 pub use Rattle.jn_recovery.specs.Matches.{stored_work, HasMaps, HaveMaps, Matches, IsKeptMemory, FlagsMatch, flag_on, IsMade, WorksMatch, work_by, StoredWork}

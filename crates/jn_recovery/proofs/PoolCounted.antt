@@ -1,5 +1,5 @@
 -- What is counted of the pool: its works, its flags and their records.
-use Rattle.jn_recovery.proofs.Common.{◌≡◌, ◌<◌, ◌≤◌, ◌+◌, ℕ, zero, suc, Bool, true, false, not, ◌||◌, ◌&&◌, if◌then◌else◌, List, [], ◌∷◌, length, map, get_or, Option, Some, None, refl, sym, ◌∙◌, ap, subst, true≢false, arith, nat_tests, length-map, sum_by-cons, nat_eq, nat_lt, nat_le, is_some, count_by, option_map, option_and_then, find, list_any, Tid, WorkId, tid_eq, work_eq, tid_tells, work_tells, Contents, state_in, stored_in, stored_list, intention_of, intentions_from, with_first, intended, prepared_by, flag_by, works_name, IsConsistent, HasIntentions, IsCompleteBy, PassesOnce, found_once, found_passes, found_any, none_at, passes_at, StoredIntention, Record, Free, Intention, Ready, Going, FlagRecord, WorkState, Counts, record_in, is_free, free_count, is_prepared, is_intention, is_flag, is_rubbish, name_of, tid_of, find_by, total, are_different, IsListing, intentions, list_of, collected, state_on, works_on, flags_on, record_names, stored_work, work_by, flag_on, WorksMatch, FlagsMatch, rubbish_in, holds_intention, names_address, intends_for}
+use Rattle.jn_recovery.proofs.Common.{◌≡◌, ◌<◌, ◌≤◌, ◌+◌, ℕ, zero, suc, Bool, true, false, not, ◌||◌, ◌&&◌, if◌then◌else◌, List, [], ◌∷◌, length, map, get_or, Option, Some, None, refl, sym, ◌∙◌, ap, subst, true≢false, arith, nat_tests, length-map, sum_by-cons, nat_eq, nat_lt, nat_le, is_some, count_by, option_map, option_and_then, find, list_any, Tid, WorkId, tid_eq, work_eq, tid_tells, work_tells, Contents, state_in, stored_in, stored_list, intention_of, intentions_from, with_first, intended, prepared_by, flag_by, works_name, IsConsistent, HasIntentions, IsCompleteBy, PassesOnce, found_once, found_passes, found_any, none_at, passes_at, StoredIntention, Record, Free, Intention, Ready, Going, FlagRecord, WorkState, Counts, record_in, is_free, free_count, is_prepared, is_intention, is_flag, is_rubbish, name_of, tid_of, find_by, total, are_different, IsListing, intentions_of, list_of, collected, state_on, works_on, flags_on, record_names, stored_work, work_by, flag_on, WorksMatch, FlagsMatch, rubbish_in, holds_intention, names_address, intends_for}
 use Rattle.jn_recovery.proofs.Counting.{none_counts, one_counts, found_at, same_counts, counts_plus, work_count, listed_length}
 use Rattle.jn_recovery.proofs.Erasing.{rubbish_length}
 use Rattle.jn_recovery.proofs.FlagCalls.{none_any}
@@ -290,7 +290,7 @@ module _ (g : Counts) (c : Contents) (consistent : IsConsistent g c) (none_left 
       by (Ready head n reads) h e = record {
         count = n;
         has = subst (λ v. HasIntentions c.pool v n) (some_is e) (subst (IsCompleteBy c.pool) h (consistent.complete j));
-        list = ap (λ o. intentions (prepared_by c.pool c.blocks w o)) (found_here (Ready head n reads) h (own head.work (some_is e)));
+        list = ap (λ o. intentions_of (prepared_by c.pool c.blocks w o)) (found_here (Ready head n reads) h (own head.work (some_is e)));
         state = record { head = head; list = stored_list c.pool head.work n; reads = reads; going = false; next = 0 };
         found = work_found (Ready head n reads) h (own head.work (some_is e));
         listed = ap (λ v. stored_list c.pool v n) (some_is e);
@@ -299,7 +299,7 @@ module _ (g : Counts) (c : Contents) (consistent : IsConsistent g c) (none_left 
       by (Going head n reads) h e = record {
         count = n;
         has = subst (λ v. HasIntentions c.pool v n) (some_is e) (subst (IsCompleteBy c.pool) h (consistent.complete j));
-        list = ap (λ o. intentions (prepared_by c.pool c.blocks w o)) (found_here (Going head n reads) h (own head.work (some_is e)));
+        list = ap (λ o. intentions_of (prepared_by c.pool c.blocks w o)) (found_here (Going head n reads) h (own head.work (some_is e)));
         state = record { head = head; list = stored_list c.pool head.work n; reads = reads; going = true; next = 0 };
         found = work_found (Going head n reads) h (own head.work (some_is e));
         listed = ap (λ v. stored_list c.pool v n) (some_is e);
