@@ -34,7 +34,7 @@ pub use Rattle.jn_rows.specs.Outcomes.{Sent, RowOutcome}
 pub use Rattle.jn_system.specs.WholeSystem.Servers.{Room, server_timeout, server_step, is_busy as has_going}
 pub use Rattle.jn_storage.specs.DeviceCalls.{step_calls}
 pub use Rattle.std.proofs.Math.Seq.{drop-length, drop-append_seam}
-pub use Rattle.jn_machine.specs.Steps.{is_too_much, come_to, cut_short, outside_texts, message_texts, traced, own_texts, texts_of, lines_at}
+pub use Rattle.jn_machine.specs.Steps.{is_too_much, come_to, cut_short, outside_texts, message_texts, traced, own_texts, texts_of}
 pub use Rattle.jn_machine_refines.specs.Retold.{behind}
 pub use Rattle.jn_system_settling.specs.Settling.Rests.{ComesNext, AreNext, ComeToRest, chances_of, asked}
 pub use Rattle.jn_system_settling.proofs.Settling.Loops.{in-turn, reached}

@@ -28,7 +28,7 @@ pub use Rattle.jn_schedule.specs.declared.Event.{Event}
 pub use Rattle.jn_report.specs.declared.line.Text.{Text}
 pub use Rattle.jn_machine.specs.Events.{acted, met, resting, next_in, deed_of, next_event, first_busy, servers_of, asking, settling, coming_up, printing, ending}
 pub use Rattle.std.proofs.lemmas.Bool.Decides.{nat_tests}
-pub use Rattle.jn_machine.specs.Steps.{outside_texts, own_texts, message_texts, traced, texts_of, lines_at, most_messages, come_to, cut_short, made, is_too_much}
+pub use Rattle.jn_machine.specs.Steps.{outside_texts, own_texts, message_texts, traced, texts_of, most_messages, come_to, cut_short, made, is_too_much}
 pub use Rattle.jn_report.specs.declared.line.EventRefusal.TheVariants.{NoSuchMessage, EpochsUsedUp}
 pub use Rattle.jn_system.specs.WholeSystem.Course.{Course, go, newly_sent, go_on}
 pub use Rattle.jn_machine.specs.Refusals.{unless, refusal_of}

@@ -1,12 +1,11 @@
 -- One step of a run, with its lines, and many of them.
 use Rattle.std.specs.Prelude.{ℕ, zero, suc, ◌+◌, Bool, nat_lt, ◌||◌, if◌then◌else◌, List, [], ◌∷◌, ◌++◌, map, length, drop, Option, Some, None}
+use Rattle.jn_report.specs.Lines.{lines_at}
 use Rattle.jn_base.specs.declared.names.Party.{Party}
 use Rattle.jn_base.specs.declared.device.Outside.{Outside}
 use Rattle.jn_msgs.specs.Kinds.{kind_of}
-use Rattle.jn_report.specs.declared.line.When.{When}
 use Rattle.jn_report.specs.declared.line.Text.{Text}
 use Rattle.jn_report.specs.declared.line.Text.TheVariants as says
-use Rattle.jn_report.specs.declared.line.Line.{Line}
 use Rattle.jn_rows.specs.Outcomes.{Sent}
 use Rattle.jn_system.specs.WholeSystem.World.{World}
 use Rattle.jn_system.specs.WholeSystem.Course.{Course, go_on, newly_sent}
@@ -41,9 +40,6 @@ traced trace texts = if trace then texts else []
 abbrev pub texts_of : Setup → Chance → Deed → World → World → List Text
 texts_of x h deed before now = outside_texts deed.device h.told ++ own_texts before now ++ deed.texts
     ++ traced x.trace (message_texts deed.actor (length before.sent) (newly_sent before now))
-
-abbrev pub lines_at : When → List Text → List Line
-lines_at when texts = map (λ (text : Text). record { when = when; text = text }) texts
 
 -- ---- one step
 

@@ -18,7 +18,8 @@ pub use Rattle.jn_aside.proofs.Plain.{plain-append, plain-none}
 pub use Rattle.jn_machine.specs.Chances.{Setup, Chance, allowed, prints_found, works_found, tids_found, halves_found}
 pub use Rattle.jn_machine.specs.Deeds.{Use, Calls, Reads, Recovers, Deed, is_used_up, Cleans, nobody, no_room, plain as plain_deed, stopped_idle, tells, served, nothing, delivered, delivered_at, is_busy, working_steps, shown, crashed_at, given_up, recovered, room, scrubbed, showing, pick_read, restarted, recovering, brought_up}
 pub use Rattle.jn_machine.specs.Events.{acted, settling, met, servers_of, asking, told_unless, ending, deed_of, first_busy, next_event, resting}
-pub use Rattle.jn_machine.specs.Steps.{outside_texts, own_texts, message_texts, traced, texts_of, lines_at, most_messages, is_too_much, come_to, cut_short, made}
+pub use Rattle.jn_machine.specs.Steps.{outside_texts, own_texts, message_texts, traced, texts_of, most_messages, is_too_much, come_to, cut_short, made}
+pub use Rattle.jn_report.specs.Lines.{lines_at}
 pub use Rattle.jn_machine.proofs.Telling.{may_tell, Adds, adds, is_of_delivery, weaker, is_note}
 pub use Rattle.jn_machine_refines.specs.Retold.{behind, IsAsIn, IsToldBy, IsRetold, IsRetoldInPart}
 pub use Rattle.jn_system.specs.WholeSystem.Printing.{Printed, FileThere, PageStored, UnitLocked}
