@@ -12,7 +12,7 @@ pub use Rattle.jn_report.specs.declared.line.EventRefusal.{EventRefusal}
 pub use Rattle.jn_report.specs.declared.line.EventRefusal.TheVariants.{TooManyArmed, EpochsUsedUp}
 pub use Rattle.jn_report.specs.declared.line.Text.{Text}
 pub use Rattle.jn_rows.specs.Stable.{Pick, Left, StableState, stable, whole_only}
-pub use Rattle.jn_system.specs.WholeSystem.World.{World, Memory, clients_from, commits_in, servers_from, has_line}
+pub use Rattle.jn_system.specs.WholeSystem.World.{World, Memory, clients_from, commits_in, own_texts, servers_from, has_line}
 pub use Rattle.jn_system.specs.WholeSystem.Printing.{Printed, FileThere, PageStored, UnitLocked}
 pub use Rattle.jn_system.specs.WholeSystem.Course.{go_on, Course, go, newly_sent}
 pub use Rattle.jn_system.specs.WholeSystem.PrintedLines.{text_printed}
@@ -20,7 +20,7 @@ pub use Rattle.jn_machine.specs.Tasks.{Task, Begins, Meets, Acts, Rests, ComesUp
 pub use Rattle.jn_machine.specs.Deeds.{Deed, delivered, worked, shown, crashed_at, is_used_up, brought_up, given_up, recovered, delivered_at, is_busy, working_steps, served, nothing, stopped_idle, restarted, recovering, Use, Calls, Reads, Recovers, Cleans, nobody, tells}
 pub use Rattle.jn_machine.specs.Refusals.{refusal_of}
 pub use Rattle.jn_machine.specs.Events.{servers_of, first_busy, next_event, told_unless, acted, met, resting, deed_of, asking, settling, next_in, printing, coming_up, ending, tasks_of}
-pub use Rattle.jn_machine.specs.Steps.{texts_of, done, next_by, is_too_much, come_to, cut_short, made_to, made, outside_texts, own_texts, message_texts, traced, most_messages}
+pub use Rattle.jn_machine.specs.Steps.{texts_of, done, next_by, is_too_much, come_to, cut_short, made_to, made, outside_texts, message_texts, traced, most_messages}
 pub use Rattle.jn_report.specs.Kinds.{no_refusal, commit_in, commit_in as committed_in, no_message, is_answer, is_up, is_stopped}
 pub use Rattle.jn_machine.specs.Kinds.{refused_while, or_else, cause_of, events_left, none_before, are_in_order, are_quiet, counts_right, count_right}
 pub use Rattle.jn_machine.specs.Runs.{Steps, none, more, MayLead, Moment, Leads, MayStep, DoesStep, IsOnCourse}

@@ -3,7 +3,7 @@ pub use Rattle.std.proofs.Common.{◌≡◌, ℕ, Bool, true, false, List, [], �
 pub use Rattle.std.proofs.Math.Seq.{drop-append_seam}
 pub use Rattle.jn_report.specs.declared.line.Line.{Line}
 pub use Rattle.jn_rows.specs.Outcomes.{Sent, RowOutcome}
-pub use Rattle.jn_system.specs.WholeSystem.World.{World, Memory, with_epoch, new_memory, has_line, at_server}
+pub use Rattle.jn_system.specs.WholeSystem.World.{World, own_texts, Memory, with_epoch, new_memory, has_line, at_server}
 pub use Rattle.std.specs.Prelude.{◌||◌, if◌then◌else◌, nat_lt, nat_eq, ◌&&◌, slice_get, ◌*◌, not, take, filter, is_none, ◌^◌, replicate, count_by, map, Ok, Err}
 pub use Rattle.jn_base.specs.declared.names.Party.{Party}
 pub use Rattle.jn_report.specs.declared.line.Text.{Text}
@@ -13,7 +13,7 @@ pub use Rattle.jn_machine.specs.Chances.{Setup, Chance, prints_found, works_foun
 pub use Rattle.jn_machine.specs.Tasks.{Task, Begins, Meets, Acts, Rests, ComesUp, Dismisses, GoesDown, ClosesClients, CountsCommits, State, when_of, begun, next_task, AtEnd, InSchedule, Stage, CutShort, next_at, when_at}
 pub use Rattle.jn_machine.specs.Deeds.{Deed, Reads, stopped_idle, shown, showing, pick_read, recovering, recovered, given_up, is_used_up, brought_up, plain, served, crashed_at, scrubbed, Use, uses, Arms, Decays, Revives, room, no_room, delivered, delivered_at, nothing, is_busy, Recovers, restarted, Cleans, PowersOff, Nothing, Calls, Disarms, worked, working_steps, is_busy_with, recovers}
 pub use Rattle.jn_machine.specs.Events.{deed_of, met, acted, ending, told_unless, first_busy, servers_of, next_event, resting, next_in, asking, settling}
-pub use Rattle.jn_machine.specs.Steps.{outside_texts, own_texts, message_texts, traced, most_messages, is_too_much, come_to, cut_short, made, done, next, next_by, texts_of}
+pub use Rattle.jn_machine.specs.Steps.{outside_texts, message_texts, traced, most_messages, is_too_much, come_to, cut_short, made, done, next, next_by, texts_of}
 pub use Rattle.jn_report.specs.Lines.{lines_at}
 pub use Rattle.jn_base.specs.declared.names.ServerNo.{ServerNo}
 pub use Rattle.jn_order.specs.Files.{no_files, AllFiles, Files, change, effect, answer_to, files_after, is_did}
