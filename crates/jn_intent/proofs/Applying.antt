@@ -308,9 +308,6 @@ module _ (m : Memory) (v : StoreView) (now : Matches m v) (serving : IsServing (
     -- ---- what is kept in memory then
 
     module _ (u : TableView) (w : StoreView) (is : IsStepped u w) (works : List WorkState) (stepped : IsSteppedTo m.works work s works) where
-      abbrev after : Memory
-      after = record m { table = u; works = works }
-
       there_after : (f : FileNo) → exists u.heads f ≡ made_there i.what (file_eq i.file f) (exists m.table.heads f)
       there_after f = there_found m.server u.counts w m.epoch m.records u.heads u.maps is.standing f ∙ ap (λ (y : StableState). file_there y.files f) (is.found (λ n. false)) ∙ there-after full before.files f
           ∙ ap (made_there i.what (file_eq i.file f)) (sym (there_found m.server m.table.counts v m.epoch m.records m.table.heads m.table.maps now.standing f))

@@ -14,9 +14,6 @@ both_ways true false f g = absurd (true≢false (sym (f refl)))
 both_ways false true f g = absurd (true≢false (sym (g refl)))
 both_ways false false f g = refl
 
-some_is : {A : Type 0} {a b : A} → Some a ≡ Some b → a ≡ b
-some_is e = cc e
-
 -- ---- where an address stands after an intention: it was there, or is the intention's own
 
 came_block : (w : What) (n a p old d : ℕ) → address_after w n a p old ≡ suc d → (old ≡ suc d) ⊎ ((a ≡ suc d) × (p ≡ n))

@@ -34,9 +34,6 @@ module _ (m : Memory) (v : StoreView) (kept : IsKeptMemory m v) (serving : IsSer
   now : Matches m v
   now = kept serving.power
 
-  abbrev first_blocks : ℕ → List ℕ
-  first_blocks = block_on m.table.counts (pages_by v (λ n. false))
-
   pub work_slotted : position (is_prepared work) m.records ≡ None → ⊥
   work_slotted none = true≢false (sym some ∙ ap is_some (works_seen m v now serving work ∙ ap (prepared_by m.records (block_on m.table.counts (pages_by v (λ n. false))) work) (none_position (is_prepared work) m.records none)))
 
@@ -102,9 +99,6 @@ module _ (m : Memory) (v : StoreView) (kept : IsKeptMemory m v) (serving : IsSer
 
       pub may_let_go : MayLetGo s.list (with_promised_heads m.table (m.table.free_heads.promised - heads_needed m.table.heads s.list))
       may_let_go = gone.may
-
-      after : Memory
-      after = without_work m slot work s.list
 
       kept_found : (w : WorkId) → find_by work_eq name_of (filter (λ (t : WorkState). not (work_eq work (name_of t))) m.works) w ≡ (if not (work_eq work w) then find_by work_eq name_of m.works w else None)
       kept_found w = find-kept work_eq work_tells name_of (λ k. not (work_eq work k)) m.works w

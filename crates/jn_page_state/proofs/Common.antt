@@ -37,7 +37,7 @@ pub use Rattle.jn_storage.specs.Orderly.{IsLoadable, file_there, IsGiven, IsPrep
 pub use Rattle.jn_store.specs.Store.{StoreView, IsClean, Candidate, IsOnly, StoreGot, StoreCleaned, IsWholePage, HasSamePages, StorePut}
 pub use Rattle.jn_base.specs.Limits.{most_blocks, most_cells, most_maps, head_blocks}
 pub use Rattle.jn_records.specs.Layouts.{layouts_by, kept_entry, IsNoMap, head_map, Layout, Unused, map_cell, at_cell, layout_at, row_at, layout_by, is_layout_of, behind, block_in, files_in, has_address, Of, through, laid, AreNamedOnce}
-pub use Rattle.jn_page_state.specs.Changes.{IsIdlePut, IsReadyPut, IsReadySlot, IsPreparedSlot, IsFlagPut, IsFlagSlot, with_block, address_after, IsHeadPut, IsPartPut, LaysOut, with_record, is_idle, map_after, serves_for, is_head_after, with_epoch, with_head, IsFreeSlot}
+pub use Rattle.jn_page_state.specs.Changes.{IsIdlePut, IsReadyPut, IsReadySlot, IsPreparedSlot, IsFlagPut, IsFlagSlot, with_block, address_after, IsHeadPut, IsPartPut, LaysOut, with_record, is_idle, map_after, is_head_after, serves_for, with_epoch, with_head, IsFreeSlot}
 pub use Rattle.jn_page_state.specs.Held.{held_contents, MayStand, rows_after, heads_after, IsLayoutPut, Lays, IsHeadStored, IsMapStored, HasMapsStored, IsHeld, epoch_after, records_after}
 pub use Rattle.jn_page_state.specs.Pages.{block_on, pages_by, half_of, found_on, contents_of, epoch_by, record_or_free, head_or_free, record_on, head_on, heads_on, listed, IsHeadPage, IsOfFormat, state_of, epoch_in, pool_on, IsRootPage, IsDataPage}
 pub use Rattle.jn_page_state.specs.Puts.{RootPut, RecordPut, BlockPut, MapPut, put_in, contents_by, IsPut, PagePut, HeadPut, IsPagePut, is_put_at, IsReadable, IsFrontClean, put_place, PutStep, IsFewer, MayPut, put_page, KeepsClean, KeepsFound}

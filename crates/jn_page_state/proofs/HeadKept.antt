@@ -1,5 +1,5 @@
 -- The put of a layout leaves what a recovery asks.
-use Rattle.jn_page_state.proofs.Common.{◌≡◌, ◌⊎◌, inl, inr, ⊎_elim, ℕ, suc, ◌<◌, ◌-◌, ◌/◌, Bool, true, false, ◌&&◌, if◌then◌else◌, List, length, refl, sym, ◌∙◌, ap, subst, true≢false, arith, nat_tests, cases_lt, slice_set, nat_eq, nat_le, FileNo, ServerNo, file_tells, head_blocks, most_maps, most_blocks, most_cells, StoredIntention, What, Fresh, Gone, Cut, Put, Record, record_in, is_prepared, is_flag, is_in_range, keeps_map, names_address, Layout, Unused, Of, map_cell, at_cell, layout_at, is_layout_of, has_page, Counts, IsLoadable, Contents, head_in, entry_of, layouts_in, state_in, stored_in, heads_name, works_have, names_for_block, address_after, map_after, serves_for, is_head_after, IsHeadPut, IsPartPut, LaysOut, PassesOnce, IsDistinct, Intends, Addresses, Gives, AddressesDiffer, IsCompleteBy, IsSuppliedIn, IsConsistent, names_page, is_named, names_block, or_left, or_right, same_Some, inside-was}
+use Rattle.jn_page_state.proofs.Common.{◌≡◌, ◌⊎◌, inl, inr, ⊎_elim, ℕ, suc, ◌<◌, ◌-◌, ◌/◌, Bool, true, false, ◌&&◌, if◌then◌else◌, List, length, refl, sym, ◌∙◌, ap, subst, true≢false, arith, nat_tests, cases_lt, slice_set, nat_eq, nat_le, FileNo, ServerNo, file_tells, head_blocks, most_maps, most_blocks, most_cells, StoredIntention, What, Fresh, Gone, Cut, Put, Record, record_in, is_prepared, is_flag, is_in_range, keeps_map, names_address, Layout, Unused, Of, map_cell, at_cell, layout_at, is_layout_of, has_page, Counts, IsLoadable, Contents, head_in, entry_of, layouts_in, state_in, stored_in, heads_name, works_have, names_for_block, address_after, map_after, is_head_after, IsHeadPut, IsPartPut, LaysOut, PassesOnce, IsDistinct, Intends, Addresses, Gives, AddressesDiffer, IsCompleteBy, IsSuppliedIn, IsConsistent, names_page, is_named, names_block, or_left, or_right, same_Some, inside-was}
 use Rattle.jn_page_state.proofs.Images.{heads_once, layouts_once}
 use Rattle.jn_page_state.proofs.Slots.{once_set}
 use Rattle.jn_page_state.proofs.Naming.{either, intends_held, gives_address, cell_named, named_cell, cell_within}
@@ -36,14 +36,6 @@ map_from Put n j m d old e = by (is_in_range j n) refl (nat_eq old 0) e
     by true h true e = inr (e, h)
     by true h false e = inl e
     by false h z e = inl e
-
--- a layout that serves an intention and has an address is its file's
-serves_its : (what : What) (f : FileNo) (h : Layout) (q d : ℕ) → serves_for what f h ≡ true → at_cell h q ≡ suc d → is_layout_of f h ≡ true
-serves_its what f Unused q d s e = absurd (omega (arith, e))
-serves_its Fresh f (Of g cells) q d s e = s
-serves_its Gone f (Of g cells) q d s e = s
-serves_its Cut f (Of g cells) q d s e = s
-serves_its Put f (Of g cells) q d s e = s
 
 after_its : (what : What) (f : FileNo) (h : Layout) (q d : ℕ) → is_head_after what f h ≡ true → at_cell h q ≡ suc d → is_layout_of f h ≡ true
 after_its what f Unused q d s e = absurd (omega (arith, e))

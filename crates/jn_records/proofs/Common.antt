@@ -36,7 +36,7 @@ pub use Rattle.jn_records.specs.declared.intention.StoredIntention.{StoredIntent
 pub use Rattle.jn_records.specs.Intentions.{what_code, what_of, intention_bytes, IntentionFits}
 unfoldable pub use Rattle.jn_records.specs.Intentions.{intention_at}
 pub use Rattle.std.proofs.lemmas.Bool.{true≢false, false≢true}
-pub use Rattle.jn_records.specs.MapPlaces.{is_in_range, MapPlaces, has_map_after, lacks_map, lacking, places_after, places_then, need_of, bare, keeps_map, IsSupplied}
+pub use Rattle.jn_records.specs.MapPlaces.{is_in_range, MapPlaces, has_map_after, places_after, places_then, need_of, keeps_map, lacks_map, lacking, IsSupplied}
 pub use Rattle.jn_records.specs.Layouts.{Layout, Of, map_cell, at_cell, through, laid, layout_by, layouts_by, layout_at, has_address, with_entries, with_row, cut_inside, head_map, IsMapIn, IsNoMap, IsRowChanged, is_layout_of, Unused, behind, block_in, files_in, IsPartCut}
 pub use Rattle.jn_base.specs.declared.names.WorkId.{WorkId}
 pub use Rattle.jn_fields.specs.Names.{tid_bytes, work_bytes, unit_bytes, WorkFits, work_at, unit_at, unit_has_page, UnitFits}

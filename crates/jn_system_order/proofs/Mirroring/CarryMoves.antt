@@ -13,12 +13,12 @@ one-more : (n : ℕ) → suc n ≡ n + 1
 one-more n = omega arith
 
 -- whether a part of an intention has written a register
-abbrev gone_at : Option (BlockNo → Bool) → What → LockUnit → Bool
+abbrev pub gone_at : Option (BlockNo → Bool) → What → LockUnit → Bool
 gone_at (Some gone) Cut (Block f p) = gone p
 gone_at _ _ _ = false
 
 -- whether an intention has written a register where a stop has left this of it
-abbrev is_written : Left → Intention → LockUnit → Bool
+abbrev pub is_written : Left → Intention → LockUnit → Bool
 is_written l i u = if nat_lt 0 l.whole then true else gone_at l.gone i.what u
 
 -- of a part that is gone the registers are as after the whole change
