@@ -1,5 +1,5 @@
 -- What stands at the cells of layouts: which data pages there are, and which map pages they follow from.
-use Rattle.jn_recovery.proofs.Common.{◌≡◌, ⊎_elim, ◌<◌, ◌≤◌, ◌-◌, ℕ, zero, suc, Bool, true, false, if◌then◌else◌, List, [], ◌∷◌, refl, sym, ◌∙◌, ap, arith, fun_ext, cases_lt, nat_tests, nat_lt, slice_index, ◌&&◌, FileNo, Head, FreeHead, Used, head_in, heads_name, passes_any, passes_at, PassesOnce, ◌/◌, ◌%◌, head_blocks, most_maps, most_blocks, most_cells, IsHeadOf, AreHeads, layouts_of, row_at, all_within, within, Layout, Unused, Of, map_cell, at_cell, through, laid, kept_entry, layout_by, layouts_by, layout_at, is_layout_of, has_address, head_map, get-map, laid-block, laid-entry, laid-map, laid-past, has-at, has-found, file-at}
+use Rattle.jn_recovery.proofs.Common.{◌≡◌, ⊎_elim, ◌<◌, ◌≤◌, ◌-◌, ℕ, zero, suc, Bool, true, false, if◌then◌else◌, List, [], ◌∷◌, refl, sym, ◌∙◌, ap, arith, fun_ext, cases_lt, nat_tests, nat_lt, slice_index, FileNo, Head, FreeHead, Used, head_in, heads_name, passes_any, passes_at, PassesOnce, ◌/◌, ◌%◌, head_blocks, most_maps, most_blocks, most_cells, IsHeadOf, AreHeads, layouts_of, row_at, all_within, within, Layout, Unused, Of, map_cell, at_cell, through, laid, kept_entry, layout_by, layouts_by, layout_at, is_layout_of, has_address, head_map, get-map, laid-block, laid-entry, laid-map, laid-past, has-at, has-found, file-at, and_parts}
 use Rattle.std.proofs.Math.Nat.{mod-lt}
 
 -- ---- a head and its layout
@@ -14,17 +14,11 @@ address_at leaves [] k h = omega arith
 address_at leaves (x ∷ xs) zero h = grind (arith, nat_tests, h)
 address_at leaves (x ∷ xs) (suc k) h = address_at leaves xs k (grind (arith, h))
 
-both-left : (a b : Bool) → (a && b) ≡ true → a ≡ true
-both-left a b h = grind (arith, h)
-
-both-right : (a b : Bool) → (a && b) ≡ true → b ≡ true
-both-right a b h = grind (arith, h)
-
 module _ (leaves : ℕ) where
   -- a head's map pages are data pages that there are
   pub map_below : (h : Head) (j d : ℕ) → within leaves h ≡ true → head_map h j ≡ suc d → d < leaves
   map_below FreeHead j d w e = absurd (omega (arith, e))
-  map_below (Used f xs ms) j d w e = let le = address_at leaves ms j (both-right (all_within leaves xs) (all_within leaves ms) w) in omega (arith, le, e)
+  map_below (Used f xs ms) j d w e = let le = address_at leaves ms j (and_parts (all_within leaves xs) (all_within leaves ms) w).1 in omega (arith, le, e)
 
   module _ (maps : ℕ → ℕ → ℕ) where
     -- and these lead to such
@@ -38,12 +32,12 @@ module _ (leaves : ℕ) where
     pub cell_fits : (h : Head) (q : ℕ) → within leaves h ≡ true → LeadIn h → at_cell (layout_by maps h) q ≤ leaves
     cell_fits FreeHead q w lead = omega arith
     cell_fits (Used f xs ms) q w lead = ⊎_elim
-        (λ low. let le = address_at leaves xs q (both-left (all_within leaves xs) (all_within leaves ms) w) in let e = laid-block maps blocks its_maps q low in omega (arith, le, e))
+        (λ low. let le = address_at leaves xs q (and_parts (all_within leaves xs) (all_within leaves ms) w).0 in let e = laid-block maps blocks its_maps q low in omega (arith, le, e))
         (λ high. ⊎_elim
         (λ below. let le = through_below (its_maps (q / head_blocks - 1)) (q % head_blocks) (λ d e. lead (q / head_blocks - 1) d (q % head_blocks) (range_below q high below) e (rest_below q)) in
         let e = laid-entry maps blocks its_maps q high below in omega (arith, le, e))
         (λ past. ⊎_elim
-        (λ inside. let le = address_at leaves ms (q - 2520) (both-right (all_within leaves xs) (all_within leaves ms) w) in
+        (λ inside. let le = address_at leaves ms (q - 2520) (and_parts (all_within leaves xs) (all_within leaves ms) w).1 in
         let is : q ≡ map_cell (q - 2520) = omega (arith, past) in
         let e = ap (laid maps blocks its_maps) is ∙ laid-map maps blocks its_maps (q - 2520) (omega (arith, inside, past)) in omega (arith, le, e))
         (λ behind. let e = laid-past maps blocks its_maps q behind in omega (arith, e))

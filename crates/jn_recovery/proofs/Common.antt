@@ -1,6 +1,6 @@
 -- The names from below that these proofs cite, passed on from one place. Declares nothing.
 pub use Rattle.std.proofs.Common.{◌≡◌, ◌⊎◌, inl, inr, ⊎_elim, ◌<◌, ◌≤◌, ◌+◌, ◌*◌, ℕ, suc, Bool, true, false, List, [], refl, sym, ◌∙◌, ap, subst, true≢false, arith, zero, if◌then◌else◌, ◌∷◌, Option, Some, None, ◌-◌, ◌≢◌, ◌||◌, length, get_or, ◌^◌, not, map, ◌++◌, length-append, rules}
-pub use Rattle.std.proofs.lemmas.Bool.{cases_eq, cases_lt}
+pub use Rattle.std.proofs.lemmas.Bool.{cases_eq, cases_lt, and_parts}
 pub use Rattle.jn_base.specs.declared.names.ServerNo.{ServerNo}
 pub use Rattle.jn_files.specs.Table.{TableView, exists, is_mapped, or_unused, IsHeadOf, AreHeads, layouts_of, AreRows, IsTable, is_held, layouts_in as table_layouts, is_touched, IsUnnamed}
 pub use Rattle.jn_files.specs.Calls.{IsLoaded as IsTableLoaded, LoadedFrom, MendsMaps}
