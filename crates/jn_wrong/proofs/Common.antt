@@ -95,7 +95,7 @@ pub use Rattle.jn_wrong.specs.Settles.{HandsOver, ComesToRest}
 pub use Rattle.jn_base.specs.declared.names.Cause.{Cause}
 pub use Rattle.jn_base.specs.declared.names.Resource.{Resource}
 pub use Rattle.jn_base.specs.declared.op.Answer.TheVariants.{Did, Exists, Read as Found}
-pub use Rattle.jn_wrong.specs.Room.{IsOnlyOfLacking, for_a_file, for_a_block, full_at_block, IsOnlyWhereLacking, one_record, lacking, made_report, in_room}
+pub use Rattle.jn_wrong.specs.Room.{IsOnlyOfLacking, for_a_file, for_a_block, full_at_block, IsOnlyWhereLacking, one_record, one_page, writes_at, for_a_map_page, lacking, made_report, in_room}
 pub use Rattle.jn_msgs.specs.declared.message.Vote.TheVariants.{Full, Ready}
 pub use Rattle.jn_rows.specs.declared.worker.ActiveWork.{ActiveWork}
 pub use Rattle.jn_base.specs.declared.names.Cause.TheVariants.{Full as FullAt}
