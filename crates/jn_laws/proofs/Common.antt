@@ -1,5 +1,5 @@
 -- The names from below that these proofs cite, passed on from one place. Declares nothing.
-pub use Rattle.std.proofs.Common.{◌≡◌, ◌≢◌, ℕ, Bool, true, false, List, [], ◌∷◌, ◌++◌, append-nil, length, length-append, Option, Some, None, is_some, refl, sym, ◌∙◌, ap, subst, arith, ◌⊎◌, inl, inr, drop, ◌≤◌, ◌<◌, true≢false, take, zero, suc, ◌+◌, append_assoc, Result, Ok, Err, ◌-◌, get_or}
+pub use Rattle.std.proofs.Common.{◌≡◌, ◌≢◌, ℕ, Bool, true, false, List, [], ◌∷◌, ◌++◌, append-nil, length, length-append, Option, Some, None, is_some, refl, sym, ◌∙◌, ap, subst, arith, ◌≤◌, ◌⊎◌, inl, inr, drop, ◌<◌, true≢false, take, zero, suc, ◌+◌, append_assoc, Result, Ok, Err, ◌-◌, get_or}
 pub use Rattle.std.specs.Prelude.{if◌then◌else◌, slice_get, ◌||◌, nat_lt, not, map, ◌&&◌, option_and_then, ⊤, nat_le, nat_eq}
 pub use Rattle.jn_base.specs.declared.names.ServerNo.{ServerNo}
 pub use Rattle.jn_base.specs.declared.names.Party.{Party}
@@ -22,6 +22,12 @@ pub use Rattle.jn_machine.specs.Tasks.{CutShort, Task, Meets, Acts, Rests, Stage
 pub use Rattle.jn_laws.specs.Handing.{HandsOver, Answer, tells_alone, room_on, row_on, of_row, of_server, of_taken, its_answer, IsGiven, IsDone, IsTaken, IsStopped, stopped_at, IsTooLong, IsStale, number_in, number_by, faults_in, tells_ignored, IsVoting, IsLast, commits_with}
 pub use Rattle.jn_storage.specs.DeviceCalls.{row_calls, step_calls}
 pub use Rattle.jn_base.specs.declared.names.ClientNo.{ClientNo}
+pub use Rattle.std.proofs.lemmas.Option.{slice_get_within, get_or_from_slice_get}
+pub use Rattle.jn_device.specs.Device.{DeviceState}
+pub use Rattle.jn_records.specs.StablePages.{Counts, Pages, block_in, block_behind, address_by, head_of, files_of_pages}
+pub use Rattle.jn_store.specs.Store.{StoreView}
+pub use Rattle.jn_world.specs.Written.{standing_of, GoesTo, DoesScheduled, AreStoresOf, IsClosed}
+pub use Rattle.jn_world_refines.specs.Stands.{Stands, StandsAt, PlaceStands}
 pub use Rattle.jn_base.specs.declared.names.WorkId.{WorkId}
 pub use Rattle.std.proofs.Math.Seq.{drop-append_seam, take-length, take-append_seam, drop-append-add}
 pub use Rattle.jn_schedule.specs.declared.Event.{Event}
