@@ -1,5 +1,5 @@
 -- The names from below that these proofs cite, passed on from one place. Declares nothing.
-pub use Rattle.std.proofs.Common.{◌≡◌, ◌≢◌, ℕ, Bool, true, false, List, [], ◌∷◌, ◌++◌, append-nil, length, length-append, Option, Some, None, is_some, refl, sym, ◌∙◌, ap, subst, arith, ◌≤◌, ◌⊎◌, inl, inr, drop, ◌<◌, true≢false, take, zero, suc, ◌+◌, append_assoc, Result, Ok, Err, ◌-◌, get_or}
+pub use Rattle.std.proofs.Common.{◌≡◌, ◌≢◌, ℕ, Bool, true, false, List, [], ◌∷◌, ◌++◌, append-nil, length, length-append, Option, Some, None, is_some, refl, sym, ◌∙◌, ap, subst, arith, ◌⊎◌, inl, inr, drop, ◌≤◌, ◌<◌, true≢false, take, zero, suc, ◌+◌, append_assoc, Result, Ok, Err, ◌-◌, get_or}
 pub use Rattle.std.specs.Prelude.{if◌then◌else◌, slice_get, ◌||◌, nat_lt, not, map, ◌&&◌, option_and_then, ⊤, nat_le, nat_eq}
 pub use Rattle.jn_base.specs.declared.names.ServerNo.{ServerNo}
 pub use Rattle.jn_base.specs.declared.names.Party.{Party}

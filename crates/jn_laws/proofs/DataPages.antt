@@ -1,5 +1,5 @@
 -- Each data page of a server of a world is in use for one thing, or free.
-use Rattle.jn_laws.proofs.Common.{◌≡◌, ◌≤◌, ℕ, List, Some, refl, sym, ◌∙◌, ap, subst, length, slice_get, slice_get_within, get_or_from_slice_get, DeviceState, Setup, Moment, Counts, stable, StoreView, standing_of, Stands, StandsAt, PlaceStands}
+use Rattle.jn_laws.proofs.Common.{◌≡◌, ℕ, Some, refl, sym, ◌∙◌, ap, subst, length, slice_get, slice_get_within, get_or_from_slice_get, DeviceState, Setup, Moment, Counts, stable, StoreView, standing_of, Stands, StandsAt, PlaceStands}
 use Rattle.jn_node.proofs.Moments.{pages-counted, same-state, sees-at}
 use Rattle.jn_place.specs.declared.place.Place.{Place}
 use Rattle.jn_place.specs.declared.place.Slot.{Slot}

@@ -7,7 +7,6 @@ use Rattle.jn_node.specs.Running.{Running, ArePagesCounted, state_of}
 use Rattle.jn_place.specs.declared.place.Slot.{Slot}
 use Rattle.jn_place.specs.declared.place.Slot.TheVariants.{Up, Down, Gone}
 use Rattle.jn_place.specs.Exact.{ReadsPages}
-use Rattle.jn_records.specs.StablePages.{Counts}
 use Rattle.jn_rows.specs.Stable.{stable}
 use Rattle.jn_server.specs.Seen.{view_with}
 use Rattle.jn_store.specs.Store.{StoreView}
