@@ -13,7 +13,7 @@ pub use Rattle.jn_aside.specs.Aside.{is_aside, plain, is_show}
 pub use Rattle.jn_base.specs.declared.names.ServerNo.{ServerNo}
 pub use Rattle.jn_base.specs.declared.names.ClientNo.{ClientNo}
 pub use Rattle.jn_base.specs.declared.names.Tid.{Tid}
-pub use Rattle.jn_base.specs.Names.{server_eq, client_eq}
+pub use Rattle.jn_base.specs.Names.{server_eq, client_eq, is_stop}
 pub use Rattle.jn_report.specs.declared.line.When.{When}
 pub use Rattle.jn_serial.specs.Begun.{is_in, begun_after, begun_then, is_tid}
 pub use Rattle.jn_order.specs.Files.{AllFiles}

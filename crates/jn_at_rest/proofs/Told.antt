@@ -1,5 +1,6 @@
 -- What the system reports in a run is in its lines.
-use Rattle.jn_at_rest.proofs.Common.{◌≡◌, ◌⊎◌, inl, inr, Bool, true, false, List, [], ◌∷◌, ◌++◌, append_assoc, append-nil, length, drop, refl, sym, ◌∙◌, ap, subst, arith, map, ◌||◌, if◌then◌else◌, list_any, drop-append_seam, map-append, Text, World, run, go_on, newly_sent, told_since, on-world, Setup, Task, Dismisses, State, begun, when_of, Deed, deed_of, outside_texts, message_texts, traced, own_texts, texts_of, lines_at, is_too_much, come_to, cut_short, none, more, Moment, DoesStep, Leads, texts_since, Line}
+use Rattle.jn_at_rest.proofs.Common.{◌≡◌, ◌⊎◌, inl, inr, Bool, true, false, List, [], ◌∷◌, ◌++◌, append_assoc, append-nil, length, drop, refl, sym, ◌∙◌, ap, subst, arith, map, ◌||◌, if◌then◌else◌, list_any, drop-append_seam, map-append, Text, World, run, go_on, newly_sent, own_texts, on-world, Setup, Task, Dismisses, State, begun, when_of, Deed, deed_of, outside_texts, message_texts, traced, texts_of, is_too_much, come_to, cut_short, none, more, Moment, DoesStep, Leads, texts_since, Line}
+use Rattle.jn_report.specs.Lines.{lines_at}
 use Rattle.jn_report.specs.declared.line.When.{When}
 use Rattle.jn_machine_refines.proofs.Acts.{Grown, grown, grown-own}
 
@@ -94,7 +95,7 @@ module _ (x : Setup) where
   told-all a b (none m) = told-none a.state
   told-all a b (more u c v d rest) = told-then a.state c.state b.state (told-one a c d) (told-all c b rest)
 
-  pub told-in-lines : (a b : Moment) → Leads x a b → (is : Text → Bool) → list_any is (told_since a.state.course.world b.state.course.world) ≡ true → list_any is (texts_since a.state.lines b.state.lines) ≡ true
+  pub told-in-lines : (a b : Moment) → Leads x a b → (is : Text → Bool) → list_any is (own_texts a.state.course.world b.state.course.world) ≡ true → list_any is (texts_since a.state.lines b.state.lines) ≡ true
   told-in-lines a b leads is h = let t = told-all a b leads in
       subst (λ (ls : List Line). list_any is (map (λ (l : Line). l.text) ls) ≡ true) (sym (ap (drop (length a.state.lines)) t.report ∙ drop-append_seam a.state.lines t.lines))
       (t.each is (subst (λ (ts : List Text). list_any is ts ≡ true) (ap (drop (length a.state.course.world.lines)) t.world ∙ drop-append_seam a.state.course.world.lines t.texts) h))

@@ -1,5 +1,6 @@
--- Whether two names are the same, the request and the operation of a number, the numbers of refusals, and the words of faults.
-use Rattle.std.specs.Prelude.{ℕ, Bool, false, nat_eq, ◌&&◌, List, codes}
+-- Whether two names are the same, the request and the operation of a number, the numbers of refusals, the words of faults, and which of
+-- these stop a server.
+use Rattle.std.specs.Prelude.{ℕ, Bool, true, false, nat_eq, ◌&&◌, List, codes}
 use Rattle.jn_base.specs.declared.names.ServerNo.{ServerNo}
 use Rattle.jn_base.specs.declared.names.ClientNo.{ClientNo}
 use Rattle.jn_base.specs.declared.names.FileNo.{FileNo}
@@ -54,6 +55,12 @@ refusal_number Pages = 32
 refusal_number Heads = 33
 
 -- the word of a fault, in a schedule and in a report
+abbrev pub is_stop : FaultKind → Bool
+is_stop faults.StopBefore = true
+is_stop faults.StopTorn = true
+is_stop faults.StopAfter = true
+is_stop _ = false
+
 abbrev pub fault_word : FaultKind → List ℕ
 fault_word faults.Soft = codes "soft"
 fault_word faults.Null = codes "null"

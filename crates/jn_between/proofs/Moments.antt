@@ -144,9 +144,6 @@ first_between [] = false
 first_between (task ∷ tasks) = is_between task
 
 module _ (x : Setup) (files : AllFiles) (epochs : ServerNo → ℕ) where
-  abbrev Left : List Event → List Task
-  Left rest = map (λ (e : Event). Begins e) rest ++ ending x
-
   left-first : (rest : List Event) → first_between (map (λ (e : Event). Begins e) rest ++ ending x) ≡ true
   left-first [] = refl
   left-first (e ∷ rest) = refl
@@ -250,9 +247,6 @@ module _ (x : Setup) (schedule : List Event) (images : Devices) (m : Moment) (fe
   found-now going = found-then x (record { state = before x schedule h.files h.epochs; devices = images }) m h.are_images.found h.leads going
 
   module _ (rest : List Event) (stage : m.state.stage ≡ InSchedule) (tasks : m.state.tasks ≡ map (λ (e : Event). Begins e) rest ++ ending x) where
-    abbrev Answer : Type 0
-    Answer = (done : List Event) × (done ++ rest ≡ schedule) × IsTrueBetween x h.files done m
-
     apart : InSchedule ≡ CutShort → ⊥
     apart z = cc
 

@@ -14,8 +14,15 @@ use Rattle.jn_bytes.specs.declared.call.Call.TheVariants.{ReadBytes, WriteBytes}
 use Rattle.jn_bytes.specs.declared.stage.Stage.{Stage}
 use Rattle.jn_bytes.specs.declared.stage.Stage.TheVariants as stages
 unfoldable use Rattle.jn_bytes.specs.ByteFiles.{length_in}
-use Rattle.jn_bytes.specs.Turns.{block_at, place_in_block, read_from, read_of, first_part, second_part, filled, write_all, grown, with_first, write_of, with_length, go_on, turn, turn_by, block_given, first_turn}
-use Rattle.jn_bytes.specs.Ranges.{Fits, AreOfCall, StageFits, TurnFits}
+use Rattle.jn_bytes.specs.Turns.{block_at, place_in_block, read_from, read_of, first_part, second_part, filled, write_all, grown, with_first, write_of, with_length, go_on, turn, turn_by, block_given}
+use Rattle.jn_bytes.specs.declared.stage.Turn.{Turn}
+use Rattle.jn_bytes.specs.declared.stage.Turn.TheVariants.{Sends, Over}
+use Rattle.jn_bytes.specs.Ranges.{Fits, AreOfCall, IsOfCall, SendsOfCall, StageFits}
+
+-- what a turn asks is of the call, and it comes to a stage that fits
+abbrev pub TurnFits : Call → Turn → Type 0
+TurnFits call (Sends op stage) = IsOfCall call op × StageFits call stage
+TurnFits call (Over next) = SendsOfCall call next
 
 -- block 0 doesn't tell of more bytes than there can be
 pub length-most : (block : List ℕ) (n : ℕ) → length_in block ≡ Some n → n ≤ 1128512
@@ -107,10 +114,6 @@ module _ (f : FileNo) (offset : ℕ) (bytes : List ℕ) (few : length bytes ≤ 
 goes-on : (call : Call) (stage : Stage) (b : List ℕ) → Fits call → StageFits call stage → TurnFits call (go_on call stage b)
 goes-on (ReadBytes f offset count) stage b fits stays = reads-on f offset count stage b stays
 goes-on (WriteBytes f offset bytes) stage b fits stays = writes-on f offset bytes fits.0 fits.1 stage b stays
-
-pub first_fits : (call : Call) → TurnFits call (first_turn call)
-first_fits (ReadBytes f offset count) = ((refl, omega arith), tt)
-first_fits (WriteBytes f offset bytes) = ((refl, omega arith), tt)
 
 -- each turn of a call that fits, at any answer
 pub turn_fits : (call : Call) (stage : Stage) (answer : Answer) → Fits call → StageFits call stage → TurnFits call (turn call stage answer)

@@ -9,8 +9,6 @@ use Rattle.jn_bytes.specs.declared.next.Next.{Next}
 use Rattle.jn_bytes.specs.declared.next.Next.TheVariants.{Send}
 use Rattle.jn_bytes.specs.declared.stage.Stage.{Stage}
 use Rattle.jn_bytes.specs.declared.stage.Stage.TheVariants as stages
-use Rattle.jn_bytes.specs.declared.stage.Turn.{Turn}
-use Rattle.jn_bytes.specs.declared.stage.Turn.TheVariants.{Sends, Over}
 use Rattle.jn_bytes.specs.Limits.{block_size, most_bytes}
 use Rattle.jn_base.specs.Limits.{most_blocks}
 use Rattle.jn_bytes.specs.Calls.{file_of_call}
@@ -46,7 +44,3 @@ WaitFits call (Some stage) = StageFits call stage
 abbrev pub SendsOfCall : Call → Next → Type 0
 SendsOfCall call (Send op) = IsOfCall call op
 SendsOfCall call next = ⊤
-
-abbrev pub TurnFits : Call → Turn → Type 0
-TurnFits call (Sends op stage) = IsOfCall call op × StageFits call stage
-TurnFits call (Over next) = SendsOfCall call next

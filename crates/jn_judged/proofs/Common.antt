@@ -8,7 +8,7 @@ pub use Rattle.jn_order.specs.Files.{AllFiles, no_files, Files as OneFiles, answ
 pub use Rattle.jn_report.specs.declared.line.When.TheVariants.{Event as AtEvent, End}
 pub use Rattle.jn_serial.specs.Example.{made_and_removed, told_twice, opened_and_down, lost_after, refused_line, begun_line, first_server, second_server, one_client, one_transaction, file_7}
 pub use Rattle.jn_judged.specs.Example.{made_twice, answered_then, there_already, made_again, made_line, commit_line, committed_line, file_line, count_line}
-pub use Rattle.jn_judged.specs.Faults.{BreaksOrder, BreaksShows, BreaksOutcomes, BreaksCauses, BreaksFollowing, IsFault, InLine, LeftOut, AtTheEnd, OfFile, IsFaultless, CountsCommits, LeavesOut, Shows, Breaks, lines_up_to, IsLeastFault, Keeps, KeepsAll, OfBlock, ByEvent}
+pub use Rattle.jn_judged.specs.Faults.{BreaksOrder, BreaksShows, BreaksCauses, BreaksFollowing, IsFault, InLine, LeftOut, AtTheEnd, OfFile, IsFaultless, CountsCommits, LeavesOut, Shows, Breaks, BreaksOutcomes, lines_up_to, IsLeastFault, Keeps, KeepsAll, OfBlock, ByEvent}
 pub use Rattle.std.specs.Prelude.{Option, None, nat_lt, nat_eq, is_some, map}
 pub use Rattle.std.proofs.lemmas.Bool.{cases_Bool, true≢false, ltb-true, ltb-false}
 pub use Rattle.jn_report.specs.declared.line.Text.{Text}

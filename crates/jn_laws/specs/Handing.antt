@@ -30,7 +30,8 @@ use Rattle.jn_machine.specs.Chances.{Setup, Chance}
 use Rattle.jn_machine.specs.Devices.{pages_of, rubbish_on}
 use Rattle.jn_machine.specs.Events.{next_in, deed_of}
 use Rattle.jn_machine.specs.Runs.{Moment, DoesStep}
-use Rattle.jn_machine.specs.Steps.{outside_texts, message_texts, traced, lines_at, most_messages}
+use Rattle.jn_machine.specs.Steps.{outside_texts, message_texts, traced, most_messages}
+use Rattle.jn_report.specs.Lines.{lines_at}
 use Rattle.jn_machine.specs.Tasks.{Task, Meets, Acts, Rests, State, when_of}
 
 -- ---- which message a step hands over

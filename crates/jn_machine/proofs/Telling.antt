@@ -1,5 +1,5 @@
 -- What each step of the system adds to the lines, and the event under way after it.
-use Rattle.jn_machine.proofs.Common.{Left, ◌≡◌, ℕ, ◌+◌, Bool, true, false, List, [], ◌∷◌, ◌++◌, append-nil, Option, Some, None, refl, sym, subst, arith, ◌&&◌, ◌||◌, if◌then◌else◌, list_all, ServerNo, ClientNo, Tid, Text, Pick, stable, RowOutcome, Sent, World, Memory, has_line, Room, server_row, of_coordinator, lines_of, named_now, Step, NextEvent, Deliver, StopDelivery, after, is_answer, is_up, is_stopped, StableState, Tell, Work, StopWork, Crash, StopRestart, Restart, CloseClients, is_down, client_eq, Message}
+use Rattle.jn_machine.proofs.Common.{Left, ◌≡◌, ℕ, ◌+◌, Bool, true, false, List, [], ◌∷◌, ◌++◌, append-nil, Option, Some, None, refl, sym, subst, arith, ◌&&◌, ◌||◌, if◌then◌else◌, list_all, ServerNo, ClientNo, Tid, Text, Pick, stable, RowOutcome, Sent, World, Memory, has_line, Room, server_row, of_coordinator, lines_of, named_now, Step, NextEvent, Deliver, StopDelivery, after, is_answer, is_up, is_stopped, StableState, Tell, Work, StopWork, Crash, StopRestart, Restart, CloseClients, client_eq, Message}
 use Rattle.jn_base.specs.declared.names.WorkId.{WorkId}
 use Rattle.jn_base.specs.declared.op.Answer.{Answer}
 use Rattle.jn_base.specs.declared.op.Answer.TheVariants as answers
@@ -26,6 +26,10 @@ abbrev pub is_of_delivery : Text → Bool
 is_of_delivery (says.Ignored k) = true
 is_of_delivery (says.Lost k) = true
 is_of_delivery text = is_answer text || is_note text
+
+abbrev pub is_down : Text → Bool
+is_down (says.Down s) = true
+is_down text = false
 
 -- what each step of the system may tell
 abbrev pub may_tell : Step → Text → Bool

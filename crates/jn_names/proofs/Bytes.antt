@@ -76,10 +76,6 @@ pub are-long : (k : ℕ) (slots : List Slot) → all_belong k slots ≡ true →
 are-long k [] h = tt
 are-long k (slot ∷ slots) h = (length-slot k slot slots (left _ _ h), are-long k slots (right _ _ h))
 
-pub length-slots : (slots : List Slot) → AreLong slots → length (slots_bytes slots) ≡ 34 + 69 * length slots
-length-slots [] h = length-replicate {A = ℕ} 34 0
-length-slots (slot ∷ slots) h = let e = length-slots slots h.1 in let l = length-append (slot_bytes slot) (slots_bytes slots) in let f : length (slot_bytes slot) ≡ 69 = h.0 in omega (arith, e, l, f)
-
 take-behind : (n m : ℕ) (xs ys : List ℕ) → length xs ≡ n → take (n + m) (xs ++ ys) ≡ xs ++ take m ys
 take-behind n m xs ys e = subst (λ (k : ℕ). take (k + m) (xs ++ ys) ≡ xs ++ take m ys) e (take-append-add xs ys m)
 

@@ -28,10 +28,6 @@ use Rattle.jn_names.proofs.ReadBack.{bucket-of}
 use Rattle.jn_names.proofs.Slots.{entry, Puts, Binds, Replaced, Added, Full, binds, Frees, Freed, Absent, frees, find-bound, find-added, find-unbound, found-put, put-somewhere, bucket-replaced, bucket-added, bucket-freed, full-counts, counted-full}
 use Rattle.jn_names.proofs.Tests.{eq-true, eq-of}
 
--- the names of one bucket are found there, and no name of another bucket is this one
-same-bucket : (k : ℕ) (name : List ℕ) → nat_eq k (bucket_of name) ≡ true → bucket_of name ≡ k
-same-bucket k name m = sym (eqb-true k (bucket_of name) m)
-
 other-name : (name other : List ℕ) → nat_eq (bucket_of name) (bucket_of other) ≡ false → bytes_eq name other ≡ false
 other-name name other m = elim (cases_Bool (bytes_eq name other)) [
   | inl e ↦ absurd (cc (sym (eq-eqb (bucket_of name) (bucket_of other) (ap bucket_of (eq-true name other e))) ∙ m))

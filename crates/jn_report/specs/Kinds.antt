@@ -16,10 +16,6 @@ abbrev pub is_up : Text → Bool
 is_up (says.Up s epoch) = true
 is_up text = false
 
-abbrev pub is_down : Text → Bool
-is_down (says.Down s) = true
-is_down text = false
-
 abbrev pub is_stopped : Text → Bool
 is_stopped (says.Stopped s) = true
 is_stopped text = false
@@ -31,10 +27,6 @@ is_message text = false
 -- it is no message's line
 abbrev pub no_message : Text → Bool
 no_message text = not (is_message text)
-
-abbrev pub no_refusal : Text → Bool
-no_refusal (says.RefusedEvent refusal) = false
-no_refusal text = true
 
 abbrev pub is_commit : Text → Bool
 is_commit (says.Commit t) = true
@@ -84,6 +76,10 @@ breaks s t u by _ = false
 abbrev pub refuses_event : Text → Bool
 refuses_event (says.RefusedEvent refusal) = true
 refuses_event _ = false
+
+-- it refuses no event
+abbrev pub no_refusal : Text → Bool
+no_refusal text = not (refuses_event text)
 
 abbrev pub stops : ServerNo → Text → Bool
 stops s (says.Stopped r) = server_eq r s

@@ -4,7 +4,8 @@ use Rattle.std.specs.Prelude.{◌≡◌, ◌≤◌, ◌<◌, ℕ, ◌+◌, false
 use Rattle.jn_schedule.specs.declared.Event.{Event}
 use Rattle.jn_report.specs.declared.line.Line.{Line}
 use Rattle.jn_report.specs.Text.{report_text}
-use Rattle.jn_host.specs.Outside.{Contents, Rose}
+use Rattle.jn_host.specs.Outside.{Contents}
+use Rattle.jn_base.specs.Counts.{Rose}
 use Rattle.jn_schedule.specs.Grammar.{IsSchedule}
 use Rattle.jn_schedule.specs.Faults.{IsFirstFault}
 use Rattle.jn_base.specs.declared.names.LockUnit.{LockUnit}

@@ -1,11 +1,8 @@
 -- The order of commits, on the same files and on lists joined end to end.
-use Rattle.jn_serial.proofs.Common.{ℕ, length, ◌≡◌, Bool, ◌||◌, List, [], ◌∷◌, ◌++◌, filter, refl, sym, ap, ◌∙◌, inl, inr, append_assoc, ◌+◌, ◌<◌, ◌↔◌, drop, get_or, Option, None, cases_Bool, ClientNo, Tid, tid_eq, AllFiles, Performed, AreSame, files_then, GivesAnswers, AreSame-from_equal, drop_here, Event, When, Text, Line, when_eq, is_before, lines_at, lines_before, says, has_tid, ops_of, replay, AgreesFrom, NamesNone}
+use Rattle.jn_serial.proofs.Common.{ℕ, length, ◌≡◌, Bool, ◌||◌, List, [], ◌∷◌, ◌++◌, filter, refl, sym, ap, ◌∙◌, inl, inr, append_assoc, ◌+◌, ◌<◌, ◌↔◌, drop, get_or, Option, None, cases_Bool, ClientNo, Tid, tid_eq, AllFiles, Performed, AreSame, files_then, GivesAnswers, drop_here, Event, When, Text, Line, when_eq, is_before, lines_at, lines_before, says, has_tid, ops_of, AgreesFrom, NamesNone}
 use Rattle.jn_serial.proofs.LineByLine.{answered_by, owner_after, told_from, ops_told}
 use Rattle.std.specs.List.{list_any}
 use Rattle.jn_order.proofs.FilesLemmas.{same_files}
-
-pub replay-same : (events : List Event) (lines : List Line) (ts : List Tid) (a b : AllFiles) → AreSame a b → AreSame (replay a events lines ts) (replay b events lines ts)
-replay-same events lines ts a b same = AreSame-from_equal (replay a events lines ts) (replay b events lines ts) (ap (λ (f : AllFiles). replay f events lines ts) (same_files a b same))
 
 -- whose transaction T is after these lines
 abbrev pub owner_then : Tid → Option ClientNo → List Line → Option ClientNo

@@ -7,7 +7,7 @@ pub use Rattle.jn_base.specs.declared.names.Tid.{Tid}
 pub use Rattle.jn_base.specs.declared.names.WorkId.{WorkId}
 pub use Rattle.jn_base.specs.declared.names.Tickets.{Tickets}
 pub use Rattle.jn_base.specs.declared.op.Answer.{Answer}
-pub use Rattle.jn_base.specs.Names.{work_eq, tid_eq, request_of, server_eq, client_eq, request_eq, unit_eq, operation_of, file_eq, block_eq}
+pub use Rattle.jn_base.specs.Names.{work_eq, tid_eq, request_of, server_eq, client_eq, request_eq, unit_eq, is_stop, operation_of, file_eq, block_eq}
 pub use Rattle.jn_order.specs.Files.{Files, change, answer_to, AllFiles, or_else, zeros, there, files_after, all_files_after, effect, is_did, nothing}
 pub use Rattle.jn_records.specs.NetLists.{list_change, length_with, intention_change}
 pub use Rattle.jn_locks.specs.declared.words.Mode.TheVariants.{Read, IntentionWrite}
@@ -94,7 +94,7 @@ pub use Rattle.jn_msgs.specs.declared.message.Outcome.{Outcome}
 pub use Rattle.jn_rows.specs.declared.client.Taken.{Taken}
 pub use Rattle.jn_report.specs.declared.line.When.{When}
 pub use Rattle.jn_report.specs.declared.line.When.TheVariants.{Event as AtEvent, End as AtEnd}
-pub use Rattle.jn_serial.specs.Caused.{is_caused_by, is_caused, CausedFrom, Caused, any_event, lines_after, aborts, asks, joins, loses, count_events, is_stop, arms_stop, gives_fault, is_accepted}
+pub use Rattle.jn_serial.specs.Caused.{is_caused_by, is_caused, CausedFrom, Caused, any_event, lines_after, aborts, asks, joins, loses, count_events, arms_stop, gives_fault, is_accepted}
 pub use Rattle.jn_system_reports.specs.Reporting.Armed.{ArmedFrom, AreArmed}
 pub use Rattle.jn_system.specs.WholeSystem.Printing.{Printed, FileThere, PageStored, UnitLocked, print_unit, print_one, print_blocks, print_file, print_files}
 pub use Rattle.jn_system.specs.WholeSystem.PrintedLines.{text_printed, IsPrinted, prints_of}

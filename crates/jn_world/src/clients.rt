@@ -14,7 +14,8 @@ ghost use Rattle.jn_world.specs.Opening.{AreNew};
 ghost use Rattle.jn_world.specs.Settling.{handed};
 ghost use Rattle.jn_world.specs.Standing.{IsWorld, IsClientOf};
 ghost use Rattle.jn_world.specs.Written.{DoesEvent, EndsStep, IsSentTo, standing_of};
-ghost use Rattle.jn_machine.specs.Steps.{lines_at, message_texts, traced, most_messages};
+ghost use Rattle.jn_machine.specs.Steps.{message_texts, traced, most_messages};
+ghost use Rattle.jn_report.specs.Lines.{lines_at};
 
 use crate::ended::Ended;
 use crate::world::{CLIENTS, World, is_client_number};

@@ -20,7 +20,8 @@ pub use Rattle.jn_machine.specs.Deeds.{Use, Decays, Revives, Arms, uses, plain, 
 pub use Rattle.jn_machine.specs.Devices.{Devices, Alone, IsUsed, AreFound, rubbish_on, AreRecoverable, IsCalled, pages_of, IsServed, IsLookedOver, IsScrubbed, Befalls, IsRecovery}
 pub use Rattle.jn_machine.specs.Events.{told_unless, acted, deed_of, dismissing, met, servers_of, asking, settling, next_in, resting, first_busy, next_event}
 pub use Rattle.jn_machine.specs.Runs.{Moment, Leads, DoesStep, none, more}
-pub use Rattle.jn_machine.specs.Steps.{outside_texts, lines_at, message_texts, traced, texts_of, come_to, is_too_much, cut_short, made_to}
+pub use Rattle.jn_machine.specs.Steps.{outside_texts, message_texts, traced, texts_of, come_to, is_too_much, cut_short, made_to}
+pub use Rattle.jn_report.specs.Lines.{lines_at}
 pub use Rattle.jn_machine.specs.Tasks.{Task, when_of, ClosesClients, next_task, State, begun, Dismisses, AtEnd, Meets, Acts, GoesDown, Begins, Rests, ComesUp, CountsCommits, Stage, InSchedule, CutShort, when_at, next_at}
 pub use Rattle.jn_world_refines.specs.Stands.{Standing, StandsAt, Stands, is_client_number, posted_by, with_sent, PlaceStands, texts_sent, with_answer, with_named}
 pub use Rattle.jn_world_refines.specs.Pages.{HasCounts, ReadsPages, IsIdleAt}

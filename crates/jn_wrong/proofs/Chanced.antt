@@ -90,9 +90,6 @@ module _ (x : Setup) (h : Chance) (s : State) (ds es : Devices) (quiet : IsQuiet
                 → (bare (made x h (recovered h q) u) ≡ bare (made x still (recovered still q) u)) × IsQuiet x (go_on (recovering h q h.stop) s.course).world es
             at r = (made-same x h (recovered h q) (Restarts (pick_read still) [] [] ∷ []) u (no-faults q h.told r.told) refl course, subst (λ (steps : List Step). IsQuiet x (go_on steps s.course).world es) (sym steps) calm)
               where
-                read : Pick
-                read = pick_read h
-
                 steps : recovering h q h.stop ≡ Restarts (pick_read h) (works_found h.found) (tids_found h.found) ∷ []
                 steps = ap (λ (o : Option (Pick → Left)). recovering h q o) r.stop
 

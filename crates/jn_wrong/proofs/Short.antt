@@ -35,9 +35,6 @@ abbrev hands_nothing : Step → Bool
 hands_nothing (Deliver k room) = false
 hands_nothing step = true
 
-both : (a b : Bool) → a ≡ true → b ≡ true → (a && b) ≡ true
-both a b h k = grind arith
-
 first : (a b : Bool) → (a && b) ≡ true → a ≡ true
 first a b h = grind arith
 

@@ -1,5 +1,5 @@
 -- What the lines report of works that may yet commit stands in the files that the commits so far leave.
-use Rattle.jn_system_reports.proofs.Common.{◌≡◌, inl, inr, ℕ, false, List, [], ◌∷◌, ◌++◌, append-nil, None, refl, sym, ◌∙◌, ap, subst, list_any, ServerNo, Tid, WorkId, tid_eq, AllFiles, Event, Line, Text, StableState, commit_in, history_of, ops_of, replay-lines, work_same, Agrees, Machine, Invariant, run_atoms, opening_world, IsInOrder, IsTold, run_told, opening_told, in_order, run_kept, opening_kept, false_unless, World, opening, committed_in, commits_in, has_line, active_in, working_in, working_of, committed-any, Item, events_of, steps_of, world_of, IsReported, at_place}
+use Rattle.jn_system_reports.proofs.Common.{◌≡◌, inl, inr, ℕ, false, List, [], ◌∷◌, ◌++◌, append-nil, None, refl, sym, ◌∙◌, ap, subst, list_any, ServerNo, Tid, WorkId, tid_eq, AllFiles, Event, Line, Text, StableState, commit_in, history_of, ops_of, replay-lines, work_same, Agrees, Invariant, run_atoms, opening_world, IsInOrder, IsTold, run_told, opening_told, in_order, run_kept, opening_kept, false_unless, World, opening, committed_in, commits_in, has_line, active_in, working_in, working_of, committed-any, Item, events_of, steps_of, world_of, IsReported, at_place}
 use Rattle.jn_system_reports.proofs.Telling.TransactionLines.{ops_in}
 use Rattle.jn_report.specs.declared.line.Text.TheVariants as says
 use Rattle.jn_msgs.specs.declared.message.Message.TheVariants as messages
@@ -24,9 +24,6 @@ history-texts [] = refl
 history-texts (l ∷ lines) = ap (λ z. z ++ history_of lines) (commit-text l.text) ∙ ap (λ z. committed_in l.text ++ z) (history-texts lines)
 
 module _ (events : List Event) (files : AllFiles) (epochs : ServerNo → ℕ) (r : World) (lines : List Line) (h : HearsAll events files epochs r) (ops : (T : Tid) → ops_of events lines T ≡ ops_in events T None r.lines) (commits : history_of lines ≡ commits_in r.lines) where
-  w : Machine
-  w = run_atoms h.atoms (opening_world files epochs)
-
   inv : Invariant (run_atoms h.atoms (opening_world files epochs))
   inv = run_kept h.atoms (opening_world files epochs) h.may (opening_kept files epochs)
 
