@@ -1,5 +1,6 @@
 -- Stable states change, or fewer may be found.
-use Rattle.jn_system.proofs.Common.{◌≡◌, ◌≢◌, ◌⊎◌, inl, inr, Bool, true, false, List, Option, Some, None, is_some, if◌then◌else◌, refl, sym, ◌∙◌, subst, arith, ServerNo, LockUnit, Tid, WorkId, server_eq, server_tells, tid_tells, work_tells, Intention, Flag, list_change, StableState, Prepared, FlagState, Pick, AddReady, AddFlag, DropFlag, at_work, made_by, ready_work, flag_state, is_unit, asked, effects, FilesAnswer, commit_units, HoldsForCommit, HasRead, ReadsFiles, World, Working, AllOver, changed, put, narrow, lose, MayPrepare, MayFlag}
+use Rattle.jn_system.proofs.Common.{◌≡◌, ◌≢◌, ◌⊎◌, inl, inr, Bool, true, false, List, Option, Some, None, is_some, if◌then◌else◌, refl, sym, ◌∙◌, subst, arith, ServerNo, LockUnit, Tid, WorkId, server_eq, server_tells, tid_tells, work_tells, Intention, Flag, list_change, StableState, Prepared, FlagState, Pick, AddReady, AddFlag, DropFlag, at_work, made_by, ready_work, flag_state, is_unit, asked, effects, FilesAnswer, commit_units, HoldsForCommit, HasRead, ReadsFiles, World, Working, AllOver, changed, put, lose, MayPrepare, MayFlag}
+use Rattle.jn_system.specs.SmallSteps.Steps.{narrow}
 use Rattle.jn_system.proofs.SmallSteps.Invariant.{CoreFacts, IsActive, IsPrepared, HasFlag, MayBeFound, base}
 use Rattle.jn_records.specs.declared.work.WorkHead.{WorkHead}
 use Rattle.jn_system.proofs.SmallSteps.Updates.{none_unless, false_unless, not_both, at_work_here, at_work_other, at_work_cases, at_tid_other, at_tid_cases, some_is, none_some}
