@@ -1,9 +1,8 @@
 -- The laws that are the machine's, in the words of the whole system.
-use Rattle.jn_system_reports.proofs.Common.{◌≡◌, ◌⊎◌, inl, inr, ◌≤◌, ◌<◌, ℕ, Bool, true, false, List, [], Option, Some, None, is_some, refl, sym, ◌∙◌, ap, subst, ServerNo, ClientNo, LockUnit, Tid, WorkId, AllFiles, Intention, Message, ActiveWork, StableState, Pick, OpenWork, is_work, Sent, Machine, Working, HasRead, Invariant, run_atoms, opening_world, IsGiven, Says, not_both, some_is, false_unless, clash, run_told, opening_told, IsTold, opening_kept, World, Memory, has_line, ServerFact, UpFact, found-open, IsTrue, IsCurrent, active_in, working_in, working_of, holds-of, Opening, opening_in, openings, Has, all-have-theirs, WasSent, HasCommitLine, WasEnded, IsFlagged, IsPrepared, IsCarriedOut, DoWorksStay, IsActive, AreAsPrepared, AreReadsKept, RequestNo, FilesAnswer}
+use Rattle.jn_system_reports.proofs.Common.{◌≡◌, ◌⊎◌, inl, inr, ◌≤◌, ◌<◌, ℕ, Bool, true, false, List, [], Option, Some, None, is_some, refl, sym, ◌∙◌, ap, subst, ServerNo, ClientNo, LockUnit, Tid, WorkId, AllFiles, Intention, Message, ActiveWork, StableState, Pick, OpenWork, is_work, Sent, Machine, Working, HasRead, Invariant, run_atoms, opening_world, IsGiven, Says, not_both, some_is, false_unless, clash, run_told, opening_told, IsTold, opening_kept, World, Memory, has_line, ServerFact, UpFact, found-open, IsTrue, IsCurrent, active_in, working_in, working_of, holds-of, Opening, opening_in, openings, Has, all-have-theirs, WasSent, HasCommitLine, WasEnded, IsFlagged, IsPrepared, IsCarriedOut, DoWorksStay, IsActive, AreAsPrepared, AreReadsKept, RequestNo, FilesAnswer, replay}
 use Rattle.jn_msgs.specs.declared.message.Message.TheVariants as messages
 use Rattle.jn_msgs.specs.declared.message.Outcome.TheVariants as outcomes
 use Rattle.jn_rows.specs.Client.{work_at}
-use Rattle.jn_system.specs.SmallSteps.World.{replay}
 use Rattle.jn_system.proofs.SmallSteps.Invariant as states
 use Rattle.jn_system_order.proofs.Ordering.Facts.{opening}
 use Rattle.jn_system_reports.specs.BetweenSteps.Names.{WasMade, AreMadeOnce}
