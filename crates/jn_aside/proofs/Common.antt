@@ -17,6 +17,6 @@ pub use Rattle.jn_base.specs.Names.{server_eq, client_eq, is_stop}
 pub use Rattle.jn_report.specs.declared.line.When.{When}
 pub use Rattle.jn_serial.specs.Begun.{is_in, begun_after, begun_then, is_tid}
 pub use Rattle.jn_order.specs.Files.{AllFiles}
-pub use Rattle.jn_serial.specs.Order.{answer_told, first_told, performed, op_in, ops_from, ops_of, replay, AgreesFrom, Agrees}
+pub use Rattle.jn_serial.specs.Order.{answer_told, first_answer_told, performed, operation_in, operations_from, operations_of, replay_operations, OperationsAgreeFrom, OperationsAgree}
 pub use Rattle.jn_order.specs.Changes.{or_also}
 pub use Rattle.jn_serial.specs.Shown.{IsAsIn, AllAsIn, prints_file, accounts_file, accounts_block, ShowsFiles, ShownSoFar, ShownAtEnd}

@@ -3,9 +3,10 @@
 ghost use Rattle.std.specs.Prelude.{ℕ, List};
 ghost use Rattle.jn_base.specs.declared.names.FileNo.{FileNo};
 ghost use Rattle.jn_order.specs.Files.{Files};
+ghost use Rattle.jn_order.specs.Answers.{Answered};
 ghost use Rattle.jn_bytes.specs.declared.call.Call.{Call};
 ghost use Rattle.jn_bytes.specs.declared.next.Next.{Next};
-ghost use Rattle.jn_bytes.specs.Exchanges.{Answered, ExchangeIsCall, ReadIsOfItsBytes, WriteIsOfItsBytes};
+ghost use Rattle.jn_bytes.specs.Exchanges.{ExchangeIsCall, ReadIsOfItsBytes, WriteIsOfItsBytes};
 
 /// The operations of a call, each answered by the files as they are then, do and are answered what the call is.
 pub fn an_exchange_is_its_call()

@@ -16,7 +16,7 @@ pub use Rattle.jn_serial.specs.Lines.{says as any_says, event_at, history_of, li
 pub use Rattle.jn_base.specs.declared.names.ServerNo.{ServerNo}
 pub use Rattle.jn_base.specs.declared.names.LockUnit.TheVariants.{File, Block}
 pub use Rattle.jn_base.specs.Names.{server_eq, file_eq, tid_eq}
-pub use Rattle.jn_serial.specs.Order.{replay, Agrees, answer_told, first_told, performed, op_in, ops_from, ops_of, AgreesFrom}
+pub use Rattle.jn_serial.specs.Order.{replay_operations, OperationsAgree, answer_told, first_answer_told, performed, operation_in, operations_from, operations_of, OperationsAgreeFrom}
 pub use Rattle.jn_serial.specs.Shown.{accounts_file, IsAsIn, AllAsIn, ShowsFiles, Shown}
 pub use Rattle.jn_serial.specs.Follows.{IsOfEvent, Follows, Outstanding, nothing_asked, after_event, after_one, after_answer, after_answers, fits, AllFit, own_in_place, AllOwnInPlace, AllOfEvents, FollowsEvent, FollowsFrom}
 pub use Rattle.jn_report.specs.declared.line.When.{When}

@@ -17,7 +17,7 @@ pub use Rattle.jn_schedule.specs.declared.Event.{Event}
 pub use Rattle.jn_serial.specs.Follows.{Outstanding, FollowsEvent, FollowsFrom, after_one, Asked, nothing_asked, with_asked, answers_command, fits, fits_asked, after_answer, AllFit, after_answers, after_event, refuses_own, AllOwnInPlace, own_in_place, IsOfEvent, AllOfEvents, Follows, is_command_of}
 pub use Rattle.jn_base.specs.declared.op.Answer.{Answer}
 pub use Rattle.jn_replay.specs.declared.files.Performed.{Performed}
-pub use Rattle.jn_serial.specs.Order.{answer_told, first_told, performed, op_in, ops_from, ops_of, replay, AgreesFrom, Agrees}
+pub use Rattle.jn_serial.specs.Order.{answer_told, first_answer_told, performed, operation_in, operations_from, operations_of, replay_operations, OperationsAgreeFrom, OperationsAgree}
 pub use Rattle.jn_report.specs.Kinds.{answer_in, is_answer, is_own, is_own_refusal}
 pub use Rattle.jn_order.specs.Files.{AllFiles}
 pub use Rattle.jn_replay.specs.Operations.{files_then, GivesAnswers}

@@ -44,5 +44,5 @@ told_from events t owner [] = []
 told_from events t owner (l ∷ ls) = answered_by events owner l.text ++ told_from events t (owner_after t owner l.text) ls
 
 -- what T did by these lines
-abbrev pub ops_told : List Event → List Line → Tid → List Performed
-ops_told events lines t = told_from events t None lines
+abbrev pub operations_told : List Event → List Line → Tid → List Performed
+operations_told events lines t = told_from events t None lines
