@@ -68,6 +68,7 @@ module _ (x : Setup) (size : ℕ) (size_is : length (settling x) ≡ size) where
 
     acted-few : (event : Event) → weigh (acted x h event w).tasks ≤ size
     acted-few (events.Command c command) = none-left size
+    acted-few (events.Call c s call) = none-left size
     acted-few (events.Again c) = none-left size
     acted-few (events.Deliver k) = delivered-few k (slice_get w.sent k)
     acted-few events.Settle = same-few (weigh (settling x)) (settle-weighs (settling x) settling-in ∙ size_is)

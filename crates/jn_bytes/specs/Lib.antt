@@ -1,4 +1,3 @@
-pub mod Limits
 pub mod ByteFiles
 pub mod Calls
 pub mod Turns

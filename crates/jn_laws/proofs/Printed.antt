@@ -127,6 +127,7 @@ module _ (x : Setup) where
 
     acted-fits : (event : Event) (w : World) → EventFits event → DeedFits (acted x h event w)
     acted-fits (events.Command c command) w r = ((r, tt), tt)
+    acted-fits (events.Call c s call) w r = (tt, tt)
     acted-fits (events.Again c) w r = ((tt, tt), tt)
     acted-fits (events.Deliver k) w r = delivered-fits w k (slice_get w.sent k)
     acted-fits events.Settle w r = (tt, settling-fits)

@@ -24,6 +24,7 @@ silent deed e = subst (λ (ls : List Text). list_all no_refusal ls ≡ true) (sy
 
 acts : (x : Setup) (h : Chance) (event : Event) (w : World) → refused_while h event w ≡ None → list_all no_refusal (acted x h event w).texts ≡ true
 acts x h (events.Command c command) w e = refl
+acts x h (events.Call c s call) w e = refl
 acts x h (events.Again c) w e = refl
 acts x h (events.Deliver k) w e = silent (delivered h k w (slice_get w.sent k)) (delivers h k w (slice_get w.sent k))
 acts x h events.Settle w e = refl

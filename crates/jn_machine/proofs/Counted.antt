@@ -85,6 +85,7 @@ up-within h q w = by-test (is_used_up h q w) _ (recovered h q) (record { steps =
 
 acted-within : (x : Setup) (h : Chance) (event : Event) (w : World) → IsWithin (acted x h event w)
 acted-within x h (events.Command c command) w = record { steps = refl; tasks = refl }
+acted-within x h (events.Call c s call) w = record { steps = refl; tasks = refl }
 acted-within x h (events.Again c) w = record { steps = refl; tasks = refl }
 acted-within x h (events.Deliver k) w = delivered-within h k w (slice_get w.sent k)
 acted-within x h events.Settle w = record { steps = refl; tasks = settles-within x }

@@ -125,6 +125,7 @@ module _ (test : Text → Bool) (b : Besides test) where
 
   pub acts : (x : Setup) (h : Chance) (event : Event) (w : World) → list_all test (acted x h event w).texts ≡ true
   acts x h (events.Command c command) w = refl
+  acts x h (events.Call c s call) w = refl
   acts x h (events.Again c) w = refl
   acts x h (events.Deliver k) w = silent (delivered h k w (slice_get w.sent k)) (delivers h k w (slice_get w.sent k))
   acts x h events.Settle w = refl

@@ -56,6 +56,7 @@ told_unless is_so text = if is_so then [] else text ∷ []
 -- what an event does that isn't refused beforehand
 abbrev pub acted : Setup → Chance → Event → World → Deed
 acted x h (events.Command c command) w = plain (Client c) (Tell c command ∷ [])
+acted x h (events.Call c s call) w = nothing
 acted x h (events.Again c) w = plain (Client c) (Again c ∷ [])
 acted x h (events.Deliver k) w = delivered h k w (slice_get w.sent k)
 acted x h events.Settle w = leaves (settling x)

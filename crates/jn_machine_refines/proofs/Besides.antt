@@ -16,6 +16,7 @@ is_settling task = false
 
 pub besides-told : (x : Setup) (h : Chance) (event : Event) (w u : World) → told_in (besides h event w) u ≡ (acted x h event w).texts
 besides-told x h (events.Command c command) w u = refl
+besides-told x h (events.Call c s call) w u = refl
 besides-told x h (events.Again c) w u = refl
 besides-told x h (events.Deliver k) w u = sym (delivers h k w (slice_get w.sent k))
 besides-told x h events.Settle w u = refl
@@ -49,6 +50,7 @@ besides-told x h (events.Show q) w u = by h.stop
 -- a settle alone leaves something to be done
 pub acted-tasks : (x : Setup) (h : Chance) (event : Event) (w : World) → ((acted x h event w).tasks ≡ []) ⊎ ((event ≡ events.Settle) × ((acted x h event w).tasks ≡ settling x))
 acted-tasks x h (events.Command c command) w = inl refl
+acted-tasks x h (events.Call c s call) w = inl refl
 acted-tasks x h (events.Again c) w = inl refl
 acted-tasks x h (events.Deliver k) w = inl (by (slice_get w.sent k))
   where

@@ -198,6 +198,7 @@ module _ (x : Setup) (h : Chance) (w : World) (ds es : Devices) (z : Waiting) (s
     pub acted-befell : (event : Event) → IsReady x.servers w event → IsUsed x h (acted x h event w).device w (run (acted x h event w).steps w) ds es
         → Befell x.servers event (texts_by h (acted x h event w) w (run (acted x h event w).steps w)) w (run (acted x h event w).steps w) es z
     acted-befell (events.Command c command) r used = as-event _ _ _ refl (calm (after (Tell c command) w) (tells-calm c command) used)
+    acted-befell (events.Call c s call) r used = as-event _ _ _ refl (calm w stays used)
     acted-befell (events.Again c) r used = as-event _ _ _ refl (calm (after (Again c) w) (again-calm c) used)
     acted-befell (events.Deliver k) r used = as-event _ _ _ refl (delivers k (slice_get w.sent k) refl used)
     acted-befell events.Settle r used = as-event _ _ _ refl (calm w stays used)

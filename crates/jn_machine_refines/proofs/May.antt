@@ -88,6 +88,7 @@ same-tid T = grind (arith, nat_tests)
 
 pub acts-under : (x : Setup) (h : Chance) (event : Event) (w : World) → IsUnder event (acts_by x h event w)
 acts-under x h (events.Command c command) w = refl
+acts-under x h (events.Call c s call) w = refl
 acts-under x h (events.Again c) w = both _ true (same-client c) refl
 acts-under x h (events.Deliver k) w = delivered-may (may_act (events.Deliver k)) h w k (λ r. same-number k) (λ r made. same-number k) (λ q fault. refl) (slice_get w.sent k)
 acts-under x h events.Settle w = refl

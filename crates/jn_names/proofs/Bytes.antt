@@ -7,7 +7,8 @@ use Rattle.std.proofs.lemmas.List.{append-nil, length-replicate, drop-replicate,
 use Rattle.std.proofs.Math.Seq.{drop-append_seam, take-append_seam, take-append-add, drop-append-add}
 use Rattle.byteorder.specs.Endian.{big_bytes, big_number}
 use Rattle.jn_names.specs.declared.entry.Entry.{Entry}
-use Rattle.jn_names.specs.Names.{is_letter, is_name, bucket_of}
+use Rattle.jn_base.specs.Names.{is_letter, is_name}
+use Rattle.jn_names.specs.Names.{bucket_of}
 use Rattle.jn_names.specs.Buckets.{Slot, slot_bytes, slots_bytes, find_in, belongs, all_belong}
 use Rattle.jn_names.proofs.Tests.{left, right}
 

@@ -8,7 +8,7 @@ use Rattle.jn_base.specs.declared.names.FileNo.{FileNo}
 use Rattle.jn_base.specs.declared.names.BlockNo.{BlockNo}
 use Rattle.jn_base.specs.declared.names.LockUnit.{LockUnit}
 use Rattle.jn_base.specs.declared.names.LockUnit.TheVariants.{File, Block}
-use Rattle.jn_base.specs.Names.{file_eq, block_eq, unit_eq}
+use Rattle.jn_base.specs.Names.{file_eq, block_eq, unit_eq, is_name}
 use Rattle.jn_order.specs.Files.{Files, change, written, or_else}
 unfoldable use Rattle.jn_order.specs.Files.{zeros}
 use Rattle.jn_order.specs.Changes.{or_also}
@@ -16,7 +16,7 @@ use Rattle.jn_names.specs.declared.entry.Entry.{Entry}
 use Rattle.jn_names.specs.declared.next.NameNext.{NameNext}
 use Rattle.jn_names.specs.declared.next.NameNext.TheVariants.{Did, Names, Refused}
 use Rattle.jn_names.specs.declared.next.NameRefusal.TheVariants.{BucketFull, NoName}
-use Rattle.jn_names.specs.Names.{is_name, bucket_of}
+use Rattle.jn_names.specs.Names.{bucket_of}
 unfoldable use Rattle.jn_names.specs.Names.{buckets}
 use Rattle.jn_names.specs.Buckets.{Slot, find_in, belongs, all_belong, IsBucket, place_of}
 unfoldable use Rattle.jn_names.specs.Buckets.{bucket_in, bucket_bytes}

@@ -14,8 +14,8 @@ unfoldable use Rattle.jn_order.specs.Files.{zeros}
 use Rattle.jn_order.specs.Changes.{files_then}
 use Rattle.jn_order.specs.Answers.{Answered, ops_of, FilesAnswer}
 use Rattle.jn_names.specs.declared.entry.Entry.{Entry}
-use Rattle.jn_names.specs.declared.next.NameCommand.{NameCommand}
-use Rattle.jn_names.specs.declared.next.NameCommand.TheVariants as calls
+use Rattle.jn_base.specs.declared.call.NameCommand.{NameCommand}
+use Rattle.jn_base.specs.declared.call.NameCommand.TheVariants as calls
 use Rattle.jn_names.specs.declared.next.NameNext.{NameNext}
 use Rattle.jn_names.specs.declared.next.NameNext.TheVariants.{Did, Names, Refused}
 use Rattle.jn_names.specs.declared.next.NameRefusal.TheVariants.{Operation, NotDirectory}

@@ -8,8 +8,8 @@ use Rattle.jn_base.specs.declared.op.Answer.{Answer}
 use Rattle.jn_base.specs.declared.op.Answer.TheVariants as answers
 unfoldable use Rattle.jn_order.specs.Files.{zeros}
 use Rattle.jn_names.specs.declared.entry.Entry.{Entry}
-use Rattle.jn_names.specs.declared.next.NameCommand.{NameCommand}
-use Rattle.jn_names.specs.declared.next.NameCommand.TheVariants as calls
+use Rattle.jn_base.specs.declared.call.NameCommand.{NameCommand}
+use Rattle.jn_base.specs.declared.call.NameCommand.TheVariants as calls
 use Rattle.jn_names.specs.declared.next.NameNext.{NameNext}
 use Rattle.jn_names.specs.declared.next.NameNext.TheVariants.{Refused}
 use Rattle.jn_names.specs.declared.next.NameRefusal.{NameRefusal}
@@ -17,7 +17,8 @@ use Rattle.jn_names.specs.declared.next.NameRefusal.TheVariants.{NotDirectory}
 use Rattle.jn_names.specs.declared.turn.Stage.{Stage}
 use Rattle.jn_names.specs.declared.turn.Stage.TheVariants as stages
 use Rattle.jn_names.specs.declared.turn.Turn.TheVariants.{Sends, Over}
-use Rattle.jn_names.specs.Names.{is_name, bucket_of}
+use Rattle.jn_base.specs.Names.{is_name}
+use Rattle.jn_names.specs.Names.{bucket_of}
 unfoldable use Rattle.jn_names.specs.Names.{buckets}
 use Rattle.jn_names.specs.Buckets.{Slot, belongs, all_belong}
 unfoldable use Rattle.jn_names.specs.Buckets.{bucket_in, bucket_bytes, places_in}

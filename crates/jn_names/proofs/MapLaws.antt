@@ -6,15 +6,15 @@ use Rattle.std.proofs.lemmas.Bool.{cases_Bool}
 use Rattle.jn_base.specs.declared.names.FileNo.{FileNo}
 use Rattle.jn_base.specs.declared.names.LockUnit.{LockUnit}
 use Rattle.jn_base.specs.declared.names.LockUnit.TheVariants.{File, Block}
-use Rattle.jn_base.specs.Names.{unit_eq}
+use Rattle.jn_base.specs.Names.{unit_eq, is_name}
 use Rattle.jn_order.specs.Files.{Files}
 use Rattle.jn_names.specs.declared.entry.Entry.{Entry}
-use Rattle.jn_names.specs.declared.next.NameCommand.{NameCommand}
-use Rattle.jn_names.specs.declared.next.NameCommand.TheVariants as calls
+use Rattle.jn_base.specs.declared.call.NameCommand.{NameCommand}
+use Rattle.jn_base.specs.declared.call.NameCommand.TheVariants as calls
 use Rattle.jn_names.specs.declared.next.NameNext.{NameNext}
 use Rattle.jn_names.specs.declared.next.NameNext.TheVariants.{Did, Found, Names, Refused}
 use Rattle.jn_names.specs.declared.next.NameRefusal.TheVariants.{BucketFull, NoName}
-use Rattle.jn_names.specs.Names.{is_name, bucket_of}
+use Rattle.jn_names.specs.Names.{bucket_of}
 unfoldable use Rattle.jn_names.specs.Names.{buckets}
 use Rattle.jn_names.specs.Buckets.{Slot, find_in, all_belong, IsBucket, place_of, bound_in, unbound_in}
 unfoldable use Rattle.jn_names.specs.Buckets.{bucket_in, bucket_bytes}

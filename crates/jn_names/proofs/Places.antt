@@ -6,7 +6,7 @@ use Rattle.jn_base.specs.declared.names.FileNo.{FileNo}
 use Rattle.jn_names.specs.Buckets.{Slot, slot_front, slots_front, name_in, find_in, place_of}
 unfoldable use Rattle.jn_names.specs.Buckets.{places_in}
 use Rattle.jn_names.specs.declared.entry.Entry.{Entry}
-use Rattle.jn_names.specs.Names.{is_name}
+use Rattle.jn_base.specs.Names.{is_name}
 use Rattle.jn_names.specs.Calls.{entries_of}
 use Rattle.jn_names.specs.Places.{file_at, are_named}
 use Rattle.jn_names.proofs.Bytes.{name-some}

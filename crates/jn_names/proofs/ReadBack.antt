@@ -6,7 +6,8 @@ use Rattle.byteorder.specs.Endian.{big_bytes, big_number}
 use Rattle.byteorder.specs.Numbers.{big_from-bytes, big_number-reads_back}
 use Rattle.jn_base.specs.declared.names.FileNo.{FileNo}
 use Rattle.jn_names.specs.declared.entry.Entry.{Entry}
-use Rattle.jn_names.specs.Names.{is_name, bucket_of}
+use Rattle.jn_base.specs.Names.{is_name}
+use Rattle.jn_names.specs.Names.{bucket_of}
 use Rattle.jn_names.specs.Buckets.{Slot, slot_bytes, slots_bytes, slot_front, slots_front, find_in, belongs, all_belong, FileFits, AllFit, IsBucket}
 unfoldable use Rattle.jn_names.specs.Buckets.{bucket_bytes, places_in, bucket_in}
 use Rattle.jn_names.proofs.Bytes.{take-front, drop-front, name-some, name-few, length-filled, length-slot, AreLong, are-long}

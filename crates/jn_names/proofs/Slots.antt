@@ -5,7 +5,8 @@ use Rattle.std.proofs.lemmas.Bool.{cases_Bool}
 use Rattle.jn_base.specs.declared.names.FileNo.{FileNo}
 use Rattle.jn_order.specs.Changes.{or_also}
 use Rattle.jn_names.specs.declared.entry.Entry.{Entry}
-use Rattle.jn_names.specs.Names.{is_name, bucket_of}
+use Rattle.jn_base.specs.Names.{is_name}
+use Rattle.jn_names.specs.Names.{bucket_of}
 use Rattle.jn_names.specs.Buckets.{Slot, find_in, belongs, all_belong, FileFits, AllFit, IsBucket, name_in, place_of, bound_in, unbound_in}
 use Rattle.jn_names.specs.Calls.{entries_of}
 use Rattle.jn_names.proofs.Bytes.{name-some}

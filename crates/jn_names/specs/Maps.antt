@@ -8,12 +8,13 @@ use Rattle.jn_base.specs.declared.names.LockUnit.{LockUnit}
 use Rattle.jn_base.specs.declared.names.LockUnit.TheVariants.{File, Block}
 use Rattle.jn_order.specs.Files.{Files}
 use Rattle.jn_names.specs.declared.entry.Entry.{Entry}
-use Rattle.jn_names.specs.declared.next.NameCommand.{NameCommand}
-use Rattle.jn_names.specs.declared.next.NameCommand.TheVariants as calls
+use Rattle.jn_base.specs.declared.call.NameCommand.{NameCommand}
+use Rattle.jn_base.specs.declared.call.NameCommand.TheVariants as calls
 use Rattle.jn_names.specs.declared.next.NameNext.{NameNext}
 use Rattle.jn_names.specs.declared.next.NameNext.TheVariants.{Did, Names, Refused}
 use Rattle.jn_names.specs.declared.next.NameRefusal.TheVariants.{BucketFull, NoName}
-use Rattle.jn_names.specs.Names.{buckets, is_name, bucket_of}
+use Rattle.jn_base.specs.Names.{is_name}
+use Rattle.jn_names.specs.Names.{buckets, bucket_of}
 use Rattle.jn_names.specs.Buckets.{Slot}
 use Rattle.jn_names.specs.Calls.{directory_of, name_of, bucket_at, entries_of, entries_from, found, reply_to, files_after_call}
 

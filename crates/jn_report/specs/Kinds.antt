@@ -97,6 +97,8 @@ is_own refusals.HasTransaction = true
 is_own refusals.NotOpen = true
 is_own refusals.AlreadyOpen = true
 is_own refusals.NoSuchServer = true
+is_own refusals.Spoiled = true
+is_own refusals.TooFar = true
 is_own _ = false
 
 -- a refusal by a client itself
@@ -126,6 +128,9 @@ speaks_to (says.Begun c j t) = addressed c j
 speaks_to (says.Opened c j s) = addressed c j
 speaks_to (says.Did c j) = addressed c j
 speaks_to (says.Read c j bytes) = addressed c j
+speaks_to (says.Bytes c j bytes) = addressed c j
+speaks_to (says.Found c j f) = addressed c j
+speaks_to (says.Name c j name f) = addressed c j
 speaks_to (says.Refused c j refusal) = addressed c j
 speaks_to (says.Waiting c j s u t) = addressed c j
 speaks_to (says.Committed c j t) = addressed c j

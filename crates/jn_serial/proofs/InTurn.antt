@@ -240,6 +240,7 @@ event-so-far es ls out e here h = record {
           | inr f ↦ old c a (sym (ap (λ (b : Bool). if b then Some (record { number = length es + 1; command = command }) else out c) f.0) ∙ k)
         ]
     waits (events.Again d) is c a k = old c a k
+    waits (events.Call d s call) is c a k = old c a k
     waits (events.Deliver n) is c a k = old c a k
     waits events.Settle is c a k = old c a k
     waits (events.Step s) is c a k = old c a k
@@ -419,6 +420,9 @@ module _ (es : List Event) (ls : List Line) (out : Outstanding) (l : Line) (h : 
   line-adds e (says.Waiting d j s u t) is fit own = plain-line (says.Waiting d j s u t) is tt (λ c i. refl) (λ c. refl) (λ c b. refl)
   line-adds e (says.Did d j) is fit own = from-files d j answers.Did (says.Did d j) is fit refl refl refl refl (λ n k. k) (λ c i. refl) (λ c. refl) (λ c b. refl)
   line-adds e (says.Read d j bytes) is fit own = from-files d j (answers.Read bytes) (says.Read d j bytes) is fit refl refl refl refl (λ n k. k) (λ c i. refl) (λ c. refl) (λ c b. refl)
+  line-adds e (says.Bytes d j bytes) is fit own = plain-answer d (says.Bytes d j bytes) is tt (λ c i. refl) (λ c. refl) (λ c ne b. refl)
+  line-adds e (says.Found d j f) is fit own = plain-answer d (says.Found d j f) is tt (λ c i. refl) (λ c. refl) (λ c ne b. refl)
+  line-adds e (says.Name d j name f) is fit own = plain-answer d (says.Name d j name f) is tt (λ c i. refl) (λ c. refl) (λ c ne b. refl)
   line-adds e (says.Refused d j refusals.NoFile) is fit own = from-files d j answers.NoFile (says.Refused d j refusals.NoFile) is fit refl refl refl refl (λ n k. k) (λ c i. refl) (λ c. refl) (λ c b. refl)
   line-adds e (says.Refused d j refusals.Exists) is fit own = from-files d j answers.Exists (says.Refused d j refusals.Exists) is fit refl refl refl refl (λ n k. k) (λ c i. refl) (λ c. refl) (λ c b. refl)
   line-adds e (says.Refused d j refusals.ClientBusy) is fit own = plain-line (says.Refused d j refusals.ClientBusy) is (not-own (length es) j _ own) (λ c i. refl) (λ c. refl) (λ c b. refl)
@@ -427,6 +431,8 @@ module _ (es : List Event) (ls : List Line) (out : Outstanding) (l : Line) (h : 
   line-adds e (says.Refused d j refusals.NotOpen) is fit own = plain-line (says.Refused d j refusals.NotOpen) is (not-own (length es) j _ own) (λ c i. refl) (λ c. refl) (λ c b. refl)
   line-adds e (says.Refused d j refusals.AlreadyOpen) is fit own = plain-line (says.Refused d j refusals.AlreadyOpen) is (not-own (length es) j _ own) (λ c i. refl) (λ c. refl) (λ c b. refl)
   line-adds e (says.Refused d j refusals.NoSuchServer) is fit own = plain-line (says.Refused d j refusals.NoSuchServer) is (not-own (length es) j _ own) (λ c i. refl) (λ c. refl) (λ c b. refl)
+  line-adds e (says.Refused d j refusals.Spoiled) is fit own = plain-line (says.Refused d j refusals.Spoiled) is (not-own (length es) j _ own) (λ c i. refl) (λ c. refl) (λ c b. refl)
+  line-adds e (says.Refused d j refusals.TooFar) is fit own = plain-line (says.Refused d j refusals.TooFar) is (not-own (length es) j _ own) (λ c i. refl) (λ c. refl) (λ c b. refl)
   line-adds e (says.Refused d j refusals.TooManyTransactions) is fit own = plain-answer d (says.Refused d j refusals.TooManyTransactions) is (asked-within d j _ fit) (λ c i. refl) (λ c. refl) (λ c ne b. refl)
   line-adds e (says.Refused d j refusals.TooManyWorks) is fit own = plain-answer d (says.Refused d j refusals.TooManyWorks) is (asked-within d j _ fit) (λ c i. refl) (λ c. refl) (λ c ne b. refl)
   line-adds e (says.Refused d j (refusals.Locked u t)) is fit own = plain-answer d (says.Refused d j (refusals.Locked u t)) is (asked-within d j _ fit) (λ c i. refl) (λ c. refl) (λ c ne b. refl)
@@ -435,6 +441,11 @@ module _ (es : List Event) (ls : List Line) (out : Outstanding) (l : Line) (h : 
   line-adds e (says.Refused d j (refusals.Broken u t)) is fit own = plain-answer d (says.Refused d j (refusals.Broken u t)) is (asked-within d j _ fit) (λ c i. refl) (λ c. refl) (λ c ne b. refl)
   line-adds e (says.Refused d j (refusals.Lost epoch now)) is fit own = plain-answer d (says.Refused d j (refusals.Lost epoch now)) is (asked-within d j _ fit) (λ c i. refl) (λ c. refl) (λ c ne b. refl)
   line-adds e (says.Refused d j refusals.Closing) is fit own = plain-answer d (says.Refused d j refusals.Closing) is (asked-within d j _ fit) (λ c i. refl) (λ c. refl) (λ c ne b. refl)
+  line-adds e (says.Refused d j refusals.NotBytes) is fit own = plain-answer d (says.Refused d j refusals.NotBytes) is (asked-within d j _ fit) (λ c i. refl) (λ c. refl) (λ c ne b. refl)
+  line-adds e (says.Refused d j (refusals.PastEnd n)) is fit own = plain-answer d (says.Refused d j (refusals.PastEnd n)) is (asked-within d j _ fit) (λ c i. refl) (λ c. refl) (λ c ne b. refl)
+  line-adds e (says.Refused d j refusals.BucketFull) is fit own = plain-answer d (says.Refused d j refusals.BucketFull) is (asked-within d j _ fit) (λ c i. refl) (λ c. refl) (λ c ne b. refl)
+  line-adds e (says.Refused d j refusals.NoName) is fit own = plain-answer d (says.Refused d j refusals.NoName) is (asked-within d j _ fit) (λ c i. refl) (λ c. refl) (λ c ne b. refl)
+  line-adds e (says.Refused d j refusals.NotDirectory) is fit own = plain-answer d (says.Refused d j refusals.NotDirectory) is (asked-within d j _ fit) (λ c i. refl) (λ c. refl) (λ c ne b. refl)
   line-adds e x is fit own = plain-line x is tt (λ c i. refl) (λ c. refl) (λ c b. refl)
 
 -- ---- the lines of an event, and all events
@@ -485,6 +496,9 @@ no-answer (says.Begun c j t) h = absurd (true≢false h)
 no-answer (says.Opened c j s) h = absurd (true≢false h)
 no-answer (says.Did c j) h = absurd (true≢false h)
 no-answer (says.Read c j bytes) h = absurd (true≢false h)
+no-answer (says.Bytes c j bytes) h = absurd (true≢false h)
+no-answer (says.Found c j f) h = absurd (true≢false h)
+no-answer (says.Name c j name f) h = absurd (true≢false h)
 no-answer (says.Refused c j r) h = absurd (true≢false h)
 no-answer (says.Waiting c j s u t) h = absurd (true≢false h)
 no-answer (says.Committed c j t) h = absurd (true≢false h)

@@ -114,6 +114,7 @@ module _ (n : ℕ) where
 
   acted-counts : (x : Setup) (h : Chance) (event : Event) (w : World) → Counts n n (acted x h event w)
   acted-counts x h (events.Command c command) w = plain-counts (acted x h (events.Command c command) w) refl refl
+  acted-counts x h (events.Call c s call) w = plain-counts (acted x h (events.Call c s call) w) refl refl
   acted-counts x h (events.Again c) w = plain-counts (acted x h (events.Again c) w) refl refl
   acted-counts x h (events.Deliver k) w = delivered-counts h k w (slice_get w.sent k)
   acted-counts x h events.Settle w = plain-counts (acted x h events.Settle w) refl (settling-begins x)

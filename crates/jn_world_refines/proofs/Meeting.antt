@@ -35,6 +35,7 @@ restarts h q w = by (is_used_up h q w)
 
 acts : (x : Setup) (h : Chance) (event : Event) (w : World) → is_settle event ≡ false → (acted x h event w).tasks ≡ []
 acts x h (events.Command c command) w e = refl
+acts x h (events.Call c s call) w e = refl
 acts x h (events.Again c) w e = refl
 acts x h (events.Deliver k) w e = delivers h k w (slice_get w.sent k)
 acts x h events.Settle w e = absurd (clash e)

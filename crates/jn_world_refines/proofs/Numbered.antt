@@ -102,6 +102,7 @@ comes h q w = by (is_used_up h q w)
 
 acts : (x : Setup) (h : Chance) (event : Event) (w : World) → Quiet (acted x h event w)
 acts x h (events.Command c command) w = record { steps = refl; tasks = refl }
+acts x h (events.Call c s call) w = record { steps = refl; tasks = refl }
 acts x h (events.Again c) w = record { steps = refl; tasks = refl }
 acts x h (events.Deliver k) w = delivers h k w (slice_get w.sent k)
 acts x h events.Settle w = record { steps = refl; tasks = settles-none x }

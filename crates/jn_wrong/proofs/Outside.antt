@@ -81,6 +81,7 @@ raised-just h q w = by (is_used_up h q w)
 
 acts-just : (x : Setup) (h : Chance) (event : Event) (w : World) → Tells_just h (acted x h event w)
 acts-just x h (events.Command c command) w = refl
+acts-just x h (events.Call c s call) w = refl
 acts-just x h (events.Again c) w = refl
 acts-just x h (events.Deliver k) w = delivered-just h k w (slice_get w.sent k)
 acts-just x h events.Settle w = refl

@@ -227,6 +227,7 @@ module _ (x : Setup) (start now : Moment) where
     acts-find : (event : Event) → DoesFind (acted x h event w)
     acts-find (events.Deliver k) next used = delivered-finds k (slice_get w.sent k) refl next used
     acts-find (events.Command c command) next used = (tt, tt)
+    acts-find (events.Call c s call) next used = tt
     acts-find (events.Again c) next used = (tt, tt)
     acts-find events.Settle next used = tt
     acts-find (events.Step q) next used = quietly (worked h q w) (worked-none h q w) next used

@@ -148,6 +148,7 @@ module _ (events : List Event) (files : AllFiles) (epochs : ServerNo → ℕ) (e
   event-acts (kinds.Command c command) acts r h k i under e = subst (λ l. Told r (run (steps_in l) r) (told_in l r)) (sym under) (command-acts c command r h k e)
   event-acts (kinds.Show s) acts r h k i under e = quiet-acts acts r h k i (under-quiet (kinds.Show s) acts tt under)
   event-acts (kinds.Again c) acts r h k i under e = quiet-acts acts r h k i (under-quiet (kinds.Again c) acts tt under)
+  event-acts (kinds.Call c s call) acts r h k i under e = quiet-acts acts r h k i (under-quiet (kinds.Call c s call) acts tt under)
   event-acts (kinds.Deliver n) acts r h k i under e = quiet-acts acts r h k i (under-quiet (kinds.Deliver n) acts tt under)
   event-acts kinds.Settle acts r h k i under e = quiet-acts acts r h k i (under-quiet kinds.Settle acts tt under)
   event-acts (kinds.Step s) acts r h k i under e = quiet-acts acts r h k i (under-quiet (kinds.Step s) acts tt under)

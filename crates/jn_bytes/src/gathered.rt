@@ -1,17 +1,17 @@
-//! Bytes in a row.
+//! The bytes that a read gathers.
 
 ghost use Rattle.std.specs.Prelude.{◌≡◌, ◌++◌, [], is_ok, if◌then◌else◌};
 
 use std::alloc::{AllocError, Global};
 use std::marker::Model;
 
-/// Bytes in a row: contracts see the list.
+/// The bytes of a read, gathered block by block: contracts see the list.
 #[derive(Drop)]
-pub struct ByteString {
+pub struct Gathered {
     bytes: Vec<u8>,
 }
 
-impl Model for ByteString {
+impl Model for Gathered {
     ghost use Rattle.std.specs.Prelude.{List, ℕ};
 
     ghost Value = { List ℕ };
@@ -19,17 +19,17 @@ impl Model for ByteString {
     ghost view = { λ s. s.bytes.items };
 }
 
-impl ByteString {
-    pub fn from_vec(bytes: Vec<u8>) -> ByteString
+impl Gathered {
+    pub fn from_vec(bytes: Vec<u8>) -> Gathered
         ensures { result ≡ bytes.items }
     {
-        ByteString { bytes }
+        Gathered { bytes }
     }
 
     pub fn into_vec(self) -> Vec<u8>
         ensures { result.items ≡ self }
     {
-        let ByteString { bytes } = self;
+        let Gathered { bytes } = self;
         bytes
     }
 
@@ -40,10 +40,10 @@ impl ByteString {
     }
 
     /// No bytes.
-    pub(crate) fn new(alloc: Global) -> ByteString
+    pub(crate) fn new(alloc: Global) -> Gathered
         ensures { result ≡ [] }
     {
-        ByteString {
+        Gathered {
             bytes: Vec::new(alloc),
         }
     }

@@ -1,7 +1,7 @@
 use Rattle.std.proofs.Common.{◌≡◌, drop}
 use Rattle.std.specs.List.{list_all}
-use Rattle.jn_names.specs.Names.{is_letter}
-use Rattle.jn_names.proofs.name.are_letters.Given as goal
+use Rattle.jn_base.specs.Names.{is_letter}
+use Rattle.jn_base.proofs.letters.are_letters.Given as goal
 
 -- the answer for the rest is the answer for all
 abbrev pub invariant-loop-byte : goal.invariant-loop-byte
