@@ -8,6 +8,7 @@ use Rattle.std.proofs.lemmas.Bool.Decides.{nat_tests}
 use Rattle.jn_base.specs.declared.names.FileNo.{FileNo}
 use Rattle.jn_base.specs.declared.op.Op.{Op}
 use Rattle.jn_base.specs.declared.op.Answer.{Answer}
+use Rattle.jn_order.specs.Answers.{Answered}
 use Rattle.jn_base.specs.declared.call.ByteCommand.{ByteCommand}
 use Rattle.jn_base.specs.declared.call.ByteCommand.TheVariants.{ReadBytes, WriteBytes}
 use Rattle.jn_bytes.specs.declared.next.Next.{Next}
@@ -17,7 +18,7 @@ use Rattle.jn_bytes.specs.declared.stage.Turn.{Turn}
 use Rattle.jn_bytes.specs.declared.stage.Turn.TheVariants.{Sends, Over}
 unfoldable use Rattle.jn_bytes.specs.ByteFiles.{length_in}
 use Rattle.jn_bytes.specs.Turns.{block_at, place_in_block, read_from, read_of, first_part, second_part, filled, write_all, grown, with_first, write_of, with_length, go_on, turn, turn_by, block_given, first_turn}
-use Rattle.jn_bytes.specs.Exchanges.{Answered, GoesOn, IsExchange}
+use Rattle.jn_bytes.specs.Exchanges.{GoesOn, IsExchange}
 use Rattle.jn_bytes.specs.Counting.{blocks_of, blocks_touched, left_behind, left_from, most_operations, turn_behind, is_over}
 
 -- ---- blocks

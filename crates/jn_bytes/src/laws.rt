@@ -4,13 +4,14 @@ ghost use Rattle.std.specs.Prelude.{◌≡◌, ◌≤◌, ℕ, List, length, tru
 ghost use Rattle.jn_base.specs.declared.names.FileNo.{FileNo};
 ghost use Rattle.jn_base.specs.declared.op.Answer.{Answer};
 ghost use Rattle.jn_order.specs.Files.{Files};
+ghost use Rattle.jn_order.specs.Answers.{Answered};
 ghost use Rattle.jn_base.specs.declared.call.ByteCommand.{ByteCommand};
 ghost use Rattle.jn_base.specs.declared.call.ByteCommand.TheVariants.{ReadBytes, WriteBytes};
 ghost use Rattle.jn_bytes.specs.declared.next.Next.{Next};
 ghost use Rattle.jn_bytes.specs.declared.stage.Stage.{Stage};
 ghost use Rattle.jn_bytes.specs.Turns.{first_turn, turn};
 ghost use Rattle.jn_bytes.specs.Counting.{left_behind, left_from, most_operations, turn_behind, is_over};
-ghost use Rattle.jn_bytes.specs.Exchanges.{Answered, IsExchange, ExchangeIsCall, ReadIsOfItsBytes, WriteIsOfItsBytes};
+ghost use Rattle.jn_bytes.specs.Exchanges.{IsExchange, ExchangeIsCall, ReadIsOfItsBytes, WriteIsOfItsBytes};
 
 /// The operations of a call, each answered by the files as they are then, do and are answered what the call is.
 pub fn an_exchange_is_its_call()

@@ -5,7 +5,7 @@ pub use Rattle.jn_base.specs.declared.names.LockUnit.{LockUnit}
 pub use Rattle.jn_base.specs.declared.names.WorkId.{WorkId}
 pub use Rattle.jn_base.specs.Names.{work_eq, server_eq, tid_eq, unit_eq, file_eq, block_eq, client_eq}
 pub use Rattle.jn_base.proofs.Tells.{work_tells, server_tells, tid_tells, client_tells}
-pub use Rattle.jn_order.specs.Files.{Files, or_else, change, no_files, AllFiles, answer_to, file_of, zeros}
+pub use Rattle.jn_order.specs.Files.{Files, or_else, change, no_files, AllFiles, answer_to, file_of, nothing, effect, is_did, files_after, zeros}
 pub use Rattle.jn_records.specs.declared.intention.Intention.{Intention}
 pub use Rattle.jn_records.specs.NetLists.{intention_change, list_change, change_by, InOrder, First, Kept, MadeFresh, TakenAway, CutFrom, as_first, entry, stays}
 pub use Rattle.jn_rows.specs.Stable.{StableState, Prepared, Pick, MarkGoing, CarryOut, RemoveWork, made_by, gone_on, carried_at, FlagState, AddReady, AddFlag, DropFlag, at_work, ready_work, flag_state, at_tid, Change, stable, made_all, is_going, next_after, Left, left_of}
@@ -20,7 +20,8 @@ pub use Rattle.std.specs.Prelude.{if◌then◌else◌, ◌||◌, not, ◌&&◌, 
 pub use Rattle.jn_base.specs.declared.names.Tid.{Tid}
 pub use Rattle.jn_system.specs.SmallSteps.Transactions.{AllOver, Knows, AllReady, AreParts}
 pub use Rattle.jn_records.specs.declared.flag.Flag.{Flag}
-pub use Rattle.jn_system.specs.SmallSteps.Traces.{asked, effects, Agrees, asks, effect_of, Answered, asks_block}
+pub use Rattle.jn_system.specs.SmallSteps.Traces.{asked, effects, asks, effect_of, asks_block}
+pub use Rattle.jn_order.specs.Answers.{FilesAnswer, Answered}
 pub use Rattle.jn_system.specs.WholeSystem.World.{changed, with_epoch, at_server, Memory, servers_from, at_client, opening}
 pub use Rattle.jn_order.specs.Changes.{and_then, or_also}
 pub use Rattle.jn_rows.specs.Coordinator.{is_work, all_in, closed, thanked, thanked_changes, after_closing, changes_of_closing, all_thanked, flags_of_thanked, CoordinatorTable, transaction_at, with_work, commit_row, forget_row, begin_again, begun_by, seen_now, end_promised, end_stage, end_row, abort_stage, abort_request, told_stage, inquire_row, counted_vote, vote_stage, vote_row, done_stage, done_row, thanks_stage, thanks_row, coordinator_row, abort_row, aborted_to, besides, commits, committed_to, drops, prepares, staged, close_clients_row}

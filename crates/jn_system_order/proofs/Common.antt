@@ -76,7 +76,6 @@ pub use Rattle.jn_locks.specs.Locks.{is_unit}
 pub use Rattle.jn_rows.specs.declared.worker.Phase.TheVariants.{Active, Broken, Prepared as Stored}
 pub use Rattle.jn_rows.specs.declared.worker.ActiveWork.{ActiveWork}
 pub use Rattle.jn_system.specs.SmallSteps.Held.{HoldsForCommit, HasRead, file_unit}
-pub use Rattle.jn_system.specs.SmallSteps.Traces.{Answered, asks, effect_of}
 pub use Rattle.jn_system.proofs.WholeSystem.Rows.{done-keeps, prepared-keeps, by-name}
 pub use Rattle.jn_system.proofs.WholeSystem.Units.{with_units-is, reads-file}
 pub use Rattle.jn_base.specs.declared.names.OperationNo.{OperationNo}

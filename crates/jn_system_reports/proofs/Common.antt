@@ -8,7 +8,7 @@ pub use Rattle.jn_base.specs.declared.names.WorkId.{WorkId}
 pub use Rattle.jn_base.specs.declared.names.Tickets.{Tickets}
 pub use Rattle.jn_base.specs.declared.op.Answer.{Answer}
 pub use Rattle.jn_base.specs.Names.{work_eq, tid_eq, request_of, server_eq, client_eq, request_eq, unit_eq, operation_of, file_eq, block_eq}
-pub use Rattle.jn_order.specs.Files.{Files, change, answer_to, AllFiles, or_else, zeros, there, files_after, all_files_after, effect, is_did, nothing}
+pub use Rattle.jn_order.specs.Files.{Files, change, answer_to, AllFiles, or_else, zeros, there, files_after, all_files_after}
 pub use Rattle.jn_records.specs.NetLists.{list_change, length_with, intention_change}
 pub use Rattle.jn_locks.specs.declared.words.Mode.TheVariants.{Read, IntentionWrite}
 pub use Rattle.jn_records.specs.declared.intention.Intention.{Intention}
@@ -70,11 +70,12 @@ pub use Rattle.jn_schedule.specs.declared.Event.{Event}
 pub use Rattle.jn_serial.specs.Lines.{event_at, history_of, says, lines_at, lines_before, count_lines, has_tid, says as says_it, says as says_of}
 pub use Rattle.jn_serial.proofs.Growth.{event_at-next, AreWithin, AreWithin-wider, AreWithin-append, lines_at-earlier, lines_at-outside, lines_at-newest, IsWithin, follows-same}
 pub use Rattle.jn_rows.specs.declared.client.OpenWork.{OpenWork}
-pub use Rattle.jn_system.specs.SmallSteps.Traces.{Answered, effect_of, Agrees, effects}
+pub use Rattle.jn_order.specs.Answers.{Answered, FilesAnswer}
 pub use Rattle.jn_system.proofs.WholeSystem.Steps.{locks-keep, opening-keeps}
 pub use Rattle.jn_system_order.proofs.Mirroring.Losing.{run-append, may-append}
 pub use Rattle.jn_system_reports.specs.Reporting.Reported.{Act, Does, Refuses as Refused, Tells as Faults, Shows, Item, events_of, steps_in, steps_of, after_item, IsUnder, AreUnder, world_of, IsReported, Tells, told_by, told_in, told_under, at_event, lines_of as lines_of_items, may_act, Waiting, none_wait, one_more, armed, with_event, strike_all, AreStruck, FaultsWait, strikes, IsStruck, may_do, Does as Done, GoesOver, IsShow, IsShown, AreShown}
 pub use Rattle.jn_system_reports.specs.Telling.Told.{at_place}
+pub use Rattle.jn_order.proofs.AnswerLemmas.{answers-front}
 pub use Rattle.jn_base.specs.declared.names.LockUnit.{LockUnit}
 pub use Rattle.jn_system.specs.SmallSteps.Held.{HasRead, Writes, file_unit}
 pub use Rattle.jn_system.proofs.SmallSteps.History.{run_told, opening_told, IsTold, in_order}
@@ -135,4 +136,5 @@ pub use Rattle.jn_schedule.specs.declared.Event.TheVariants.{Show, Command as Co
 pub use Rattle.jn_replay.specs.declared.files.Performed.{Performed}
 pub use Rattle.jn_replay.specs.Operations.{files_then, GivesAnswers}
 pub use Rattle.jn_system.proofs.WholeSystem.Rows.{by-name}
+pub use Rattle.jn_system.specs.SmallSteps.Traces.{effects, effect_of}
 pub use Rattle.jn_system_reports.specs.Showing.Example.{a_commit_is_named, carried_out, shown, an_end}

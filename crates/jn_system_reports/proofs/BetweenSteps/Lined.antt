@@ -1,5 +1,5 @@
 -- What the lines report of works that may yet commit stands in the files that the commits so far leave.
-use Rattle.jn_system_reports.proofs.Common.{◌≡◌, inl, inr, ℕ, false, List, [], ◌∷◌, ◌++◌, append-nil, None, refl, sym, ◌∙◌, ap, subst, list_any, ServerNo, Tid, WorkId, tid_eq, AllFiles, Event, Line, Text, StableState, commit_in, history_of, ops_of, replay-lines, work_same, Agrees, Machine, Invariant, run_atoms, opening_world, IsInOrder, IsTold, run_told, opening_told, in_order, run_kept, opening_kept, false_unless, World, opening, committed_in, commits_in, has_line, active_in, working_in, working_of, committed-any, Item, events_of, steps_of, world_of, IsReported, at_place}
+use Rattle.jn_system_reports.proofs.Common.{◌≡◌, inl, inr, ℕ, false, List, [], ◌∷◌, ◌++◌, append-nil, None, refl, sym, ◌∙◌, ap, subst, list_any, ServerNo, Tid, WorkId, tid_eq, AllFiles, Event, Line, Text, StableState, commit_in, history_of, ops_of, replay-lines, work_same, FilesAnswer, Machine, Invariant, run_atoms, opening_world, IsInOrder, IsTold, run_told, opening_told, in_order, run_kept, opening_kept, false_unless, World, opening, committed_in, commits_in, has_line, active_in, working_in, working_of, committed-any, Item, events_of, steps_of, world_of, IsReported, at_place}
 use Rattle.jn_system_reports.proofs.Telling.TransactionLines.{ops_in}
 use Rattle.jn_report.specs.declared.line.Text.TheVariants as says
 use Rattle.jn_msgs.specs.declared.message.Message.TheVariants as messages
@@ -43,11 +43,11 @@ module _ (events : List Event) (files : AllFiles) (epochs : ServerNo → ℕ) (r
 
   -- a work whose answers the commits so far give
   stands : (W : WorkId) (T : Tid) → (run_atoms h.atoms (opening_world files epochs)).owner W ≡ T → WasAsked r W → IsPresent (run_atoms h.atoms (opening_world files epochs)) W
-      → Agrees (replay (run_atoms h.atoms (opening_world files epochs)).opening (run_atoms h.atoms (opening_world files epochs)).history W.server) ((run_atoms h.atoms (opening_world files epochs)).trace W) → StandAt files events lines T W.server
-  stands W T own asked present agrees = subst (λ (f : AllFiles). Agrees (f W.server) (at_place W.server (ops_of events lines T))) same-replay (subst (λ l. Agrees (replay files (run_atoms h.atoms (opening_world files epochs)).history W.server) (at_place W.server l)) (sym (ops T))
-      (subst (λ (U : Tid). Agrees (replay files (run_atoms h.atoms (opening_world files epochs)).history W.server) (said events U W.server r.lines)) own
+      → FilesAnswer (replay (run_atoms h.atoms (opening_world files epochs)).opening (run_atoms h.atoms (opening_world files epochs)).history W.server) ((run_atoms h.atoms (opening_world files epochs)).trace W) → StandAt files events lines T W.server
+  stands W T own asked present agrees = subst (λ (f : AllFiles). FilesAnswer (f W.server) (at_place W.server (ops_of events lines T))) same-replay (subst (λ l. FilesAnswer (replay files (run_atoms h.atoms (opening_world files epochs)).history W.server) (at_place W.server l)) (sym (ops T))
+      (subst (λ (U : Tid). FilesAnswer (replay files (run_atoms h.atoms (opening_world files epochs)).history W.server) (said events U W.server r.lines)) own
       (h.heard W (sent-op W r.sent asked.sent.number (asked.sent.to, messages.Op asked.client asked.request W asked.number asked.op) asked.sent.is (work_same W)) present (replay files (run_atoms h.atoms (opening_world files epochs)).history W.server)
-      (subst (λ (f : AllFiles). Agrees (replay f (run_atoms h.atoms (opening_world files epochs)).history W.server) ((run_atoms h.atoms (opening_world files epochs)).trace W)) told.opening agrees))))
+      (subst (λ (f : AllFiles). FilesAnswer (replay f (run_atoms h.atoms (opening_world files epochs)).history W.server) ((run_atoms h.atoms (opening_world files epochs)).trace W)) told.opening agrees))))
 
   named : (T : Tid) → (run_atoms h.atoms (opening_world files epochs)).named T ≡ has_line T r.lines
   named T = told.named T ∙ committed-any T (run_atoms h.atoms (opening_world files epochs)).history ∙ ap (λ l. list_any (λ (V : Tid). tid_eq V T) l) h.mirrors.commits

@@ -1,5 +1,5 @@
 -- The commits of the lines are those of the machine, with what its works did.
-use Rattle.jn_system_reports.proofs.Common.{◌≡◌, ◌⊎◌, inl, inr, ℕ, Bool, true, false, List, [], ◌∷◌, ◌++◌, Option, Some, None, refl, sym, ◌∙◌, ap, subst, arith, fun_ext, ◌||◌, list_any, All-nil, ServerNo, LockUnit, Tid, WorkId, tid_eq, tid_tells, AllFiles, change, Event, Line, Pick, stable, history_of, Performed, files_then, GivesAnswers, ops_of, replay-lines, AgreesFrom, Answered, effects, Agrees, Machine, Commit, IsSerial, Atom, trace_of, run_atoms, opening_world, MayRun, Invariant, has_committed, HasTraces, InOrder, not_both, false_unless, run_kept, opening_kept, run_grows, Text, IsTold, run_told, opening_told, in_order, World, commits_in, opening, Step, IsStep, after, LockFacts, ServerFact, locks-keep, opening-keeps, Mirrors, commits_of, run-append, may-append, committed-any, opening-mirrors, IsDone, Facts, opening-facts, at_place, AreAsTold}
+use Rattle.jn_system_reports.proofs.Common.{◌≡◌, ◌⊎◌, inl, inr, ℕ, Bool, true, false, List, [], ◌∷◌, ◌++◌, Option, Some, None, refl, sym, ◌∙◌, ap, subst, arith, fun_ext, ◌||◌, list_any, All-nil, ServerNo, LockUnit, Tid, WorkId, tid_eq, tid_tells, AllFiles, change, Event, Line, Pick, stable, history_of, Performed, files_then, GivesAnswers, ops_of, replay-lines, AgreesFrom, Answered, effects, FilesAnswer, Machine, Commit, IsSerial, Atom, trace_of, run_atoms, opening_world, MayRun, Invariant, has_committed, HasTraces, InOrder, not_both, false_unless, run_kept, opening_kept, run_grows, Text, IsTold, run_told, opening_told, in_order, World, commits_in, opening, Step, IsStep, after, LockFacts, ServerFact, locks-keep, opening-keeps, Mirrors, commits_of, run-append, may-append, committed-any, opening-mirrors, IsDone, Facts, opening-facts, at_place, AreAsTold}
 use Rattle.jn_system_reports.proofs.Telling.TransactionLines.{ops_in}
 use Rattle.jn_system.specs.SmallSteps.World.{replay}
 use Rattle.jn_system_order.proofs.Ordering.Unlocked.{writes-nothing}
@@ -112,7 +112,7 @@ module _ (events : List Event) (lines : List Line) where
   replay-last files (t ∷ ts) T = replay-last (files_then (ops_of events lines t) files) ts T
 
   -- where a commit more does what was reported, the lines still agree, and give the same files
-  told-last : (files : AllFiles) (c : Commit) (history : List Commit) → ((s : ServerNo) → SaysAs (at_place s (ops_of events lines c.tid)) (c.traces s)) → ((s : ServerNo) → Agrees (replay files history s) (c.traces s))
+  told-last : (files : AllFiles) (c : Commit) (history : List Commit) → ((s : ServerNo) → SaysAs (at_place s (ops_of events lines c.tid)) (c.traces s)) → ((s : ServerNo) → FilesAnswer (replay files history s) (c.traces s))
       → AgreesFrom files events lines (commits_of history) × (replay-lines files events lines (commits_of history) ≡ replay files history)
       → AgreesFrom files events lines (commits_of (c ∷ history)) × (replay-lines files events lines (commits_of (c ∷ history)) ≡ replay files (c ∷ history))
   told-last files c history told serial before = (
