@@ -14,5 +14,7 @@ mod writing;
 
 pub use byte_call::ByteCall;
 pub use gathered::Gathered;
-pub use laws::{a_read_is_of_its_bytes, a_write_is_of_its_bytes, an_exchange_is_its_call};
+pub use laws::{
+    a_call_has_its_end, a_read_is_of_its_bytes, a_write_is_of_its_bytes, an_exchange_is_its_call,
+};
 pub use next::{ByteRefusal, Next};

@@ -66,7 +66,7 @@ falls command stage (answers.Broken u t) = omega arith
 falls command stage (answers.Lost then' now) = omega arith
 falls command stage answers.Closing = omega arith
 
-begins : (command : NameCommand) → left_from command (first_turn command) ≤ most_operations command
+pub begins : (command : NameCommand) → left_from command (first_turn command) ≤ most_operations command
 unfolding buckets
 begins (calls.Bind d name file) = let z : 1 + 1 ≤ 1 + 1 = omega arith in z
 begins (calls.Unbind d name) = let z : 1 + 1 ≤ 1 + 1 = omega arith in z
