@@ -4,3 +4,4 @@ pub mod Calls
 pub mod Turns
 pub mod Ranges
 pub mod Exchanges
+pub mod Counting

@@ -17,6 +17,8 @@ mod writing;
 
 pub use byte_call::ByteCall;
 pub use byte_string::ByteString;
-pub use laws::{a_read_is_of_its_bytes, a_write_is_of_its_bytes, an_exchange_is_its_call};
+pub use laws::{
+    a_call_has_its_end, a_read_is_of_its_bytes, a_write_is_of_its_bytes, an_exchange_is_its_call,
+};
 pub use limits::{MOST_BYTES, MOST_WRITTEN};
 pub use next::{ByteRefusal, Next};
