@@ -2,6 +2,8 @@
 //! calls yet.
 #![tactic(auto)]
 
+mod examples;
 mod laws;
 
+pub use examples::{a_write_counts_once, a_write_that_is_cut_short_is_not_whole};
 pub use laws::{calls_are_as_their_operations, whole_transactions_unfold};
