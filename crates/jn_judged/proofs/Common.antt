@@ -1,5 +1,5 @@
 -- The names from below that these proofs cite, passed on from one place. Declares nothing.
-pub use Rattle.std.proofs.Common.{List, [], ◌∷◌, ◌++◌, ap, not, ◌↔◌, refl, ◌≡◌, inl, inr, ℕ, zero, suc, ◌≤◌, true, false, ◌&&◌, Some, sym, ◌∙◌, arith, ◌⊎◌, if◌then◌else◌, length, subst, ◌+◌, ◌<◌, Bool, ◌||◌, append_assoc, append-nil, cond}
+pub use Rattle.std.proofs.Common.{List, [], ◌∷◌, ◌++◌, ap, not, ◌↔◌, refl, ◌≡◌, inl, inr, ℕ, zero, suc, ◌≤◌, false, ◌&&◌, Some, sym, ◌∙◌, arith, ◌⊎◌, true, if◌then◌else◌, length, subst, ◌+◌, ◌<◌, Bool, ◌||◌, append_assoc, append-nil, cond}
 pub use Rattle.jn_schedule.specs.declared.Event.{Event}
 pub use Rattle.jn_report.specs.declared.line.Line.{Line}
 pub use Rattle.jn_serial.specs.Caused.{is_caused, CausedFrom, Caused}

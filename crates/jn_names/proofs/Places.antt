@@ -1,8 +1,7 @@
 -- Places at the front of bytes, one after another.
-use Rattle.std.proofs.Common.{◌≡◌, ℕ, zero, suc, ◌+◌, ◌-◌, ◌≤◌, ◌<◌, Bool, true, false, List, [], ◌∷◌, length, drop, Option, Some, None, option_map, refl, sym, ◌∙◌, ◌++◌, ap, arith, append_assoc}
+use Rattle.std.proofs.Common.{◌≡◌, ℕ, zero, suc, ◌+◌, ◌-◌, ◌≤◌, ◌<◌, true, false, List, [], ◌∷◌, length, drop, Option, Some, None, option_map, refl, sym, ◌∙◌, ◌++◌, ap, arith, append_assoc}
 use Rattle.std.proofs.lemmas.List.{append-nil}
-use Rattle.std.specs.Prelude.{bytes_eq, if◌then◌else◌}
-use Rattle.jn_base.specs.declared.names.FileNo.{FileNo}
+use Rattle.std.specs.Prelude.{bytes_eq}
 use Rattle.jn_names.specs.Buckets.{Slot, slot_front, slots_front, name_in, find_in, place_of}
 unfoldable use Rattle.jn_names.specs.Buckets.{places_in}
 use Rattle.jn_names.specs.declared.entry.Entry.{Entry}

@@ -49,7 +49,11 @@ fn answer_told(client: ClientNo, number: usize, text: &Text) -> Result<Option<An
 }
 
 /// The answer of the first line that gives one.
-fn first_answer_told(client: ClientNo, number: usize, lines: &[Line]) -> Result<Option<Answer>, AllocError>
+fn first_answer_told(
+    client: ClientNo,
+    number: usize,
+    lines: &[Line],
+) -> Result<Option<Answer>, AllocError>
     ensures { IfOk result (λ a. a ≡ order.first_answer_told client number lines.now) }
 {
     for line in lines {

@@ -11,6 +11,6 @@ numberless (Some o) = Some (record o { event = 0 })
 abbrev pub plain_client : ClientTable → ClientTable
 plain_client t = record t { outstanding = numberless t.outstanding }
 
--- all that rows look at
+-- without the number of the event under way too, and without lines
 abbrev pub plain_world : World → World
 plain_world w = record { memory = w.memory; found = w.found; clients = λ c. plain_client (w.clients c); sent = w.sent; lines = []; event = 0 }
