@@ -24,6 +24,11 @@ outside_texts (Reads q) told = map (λ (fault : Outside). says.Outside q fault) 
 outside_texts (Recovers q) told = map (λ (fault : Outside). says.Outside q fault) told
 outside_texts device told = []
 
+-- what a deed says in place of that
+abbrev pub reported : Option (List Text) → List Text → List Text
+reported None own = own
+reported (Some texts) own = texts
+
 -- messages that a party sends, of which the first has this number
 abbrev pub message_texts : Party → ℕ → List Sent → List Text
 message_texts from k [] = []
@@ -32,9 +37,9 @@ message_texts from k (sent ∷ more) = says.Message k from sent.0 (kind_of sent.
 abbrev pub traced : Bool → List Text → List Text
 traced trace texts = if trace then texts else []
 
--- the faults that are reported, then the step's own texts, then its messages
+-- the faults that are reported, then what the step or its client says, then its messages
 abbrev pub texts_of : Setup → Chance → Deed → World → World → List Text
-texts_of x h deed before now = outside_texts deed.device h.told ++ own_texts before now ++ deed.texts
+texts_of x h deed before now = outside_texts deed.device h.told ++ reported deed.said (own_texts before now) ++ deed.texts
     ++ traced x.trace (message_texts deed.actor (length before.sent) (newly_sent before now))
 
 -- ---- one step
@@ -48,6 +53,7 @@ is_too_much deed c = deed.cuts || nat_lt most_messages (length c.world.sent)
 abbrev pub come_to : Setup → Chance → Deed → Course → State → State
 come_to x h deed c s = record {
   course = c;
+  clients = deed.clients s.clients;
   tasks = deed.tasks ++ s.tasks;
   lines = s.lines ++ lines_at (when_of s) (texts_of x h deed s.course.world c.world);
   stage = s.stage;

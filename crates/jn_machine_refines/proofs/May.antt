@@ -34,7 +34,7 @@ module _ (test : Act → Bool) where
       at-may q None = both _ true (handed (room h q)) refl
       at-may q (Some m) = parts h (delivered_at h k q (Some m)) [] (told-may q h.told (tells q)) (both _ true (handing-may (room h q) h.stop) refl) refl
 
-      pub delivered-may : (o : Option Sent) → list_all test (acts_of h (delivered h k w o) []) ≡ true
+      pub delivered-may : (o : Option Sent) → list_all test (acts_of h (delivered h k w.clients w o) []) ≡ true
       delivered-may None = refl
       delivered-may (Some (Client c, message)) = both _ true (handed no_room) refl
       delivered-may (Some (Server q, message)) = at-may q (w.memory q)

@@ -1,5 +1,6 @@
 -- A world whose call settled is settled.
 use Rattle.jn_settles.proofs.Common.{◌≡◌, ◌⊎◌, inl, inr, ℕ, suc, ◌≤◌, ◌<◌, Bool, true, false, List, Option, Some, None, true≢false, sym, ◌∙◌, ap, subst, arith, slice_get, list_any, slice_get_within, WorkId, DeviceState, pool_on, waiting, Place, Slot, Up, Down, Gone, is_up, Counts, counts_by, Line, Work, StableState, Pick, view_with, memory_of, StoreView, World, Memory, own_texts, tells_waiting, tells_outcome, holds_undecided, live_at, Setup, pages_of, Moment, IsTold, Standing, StandsAt, Stands, texts_since, LeavesSettled, memory_at, live_in, AllUp}
+use Rattle.jn_base.specs.declared.names.ClientNo.{ClientNo}
 use Rattle.jn_report.specs.declared.line.Text.{Text}
 use Rattle.jn_base.specs.declared.op.Command.TheVariants.{End}
 use Rattle.jn_rows.specs.declared.client.Outstanding.{Outstanding}
@@ -42,7 +43,7 @@ module _ {S : Type 0} (look : S → StoreView) (device : S → DeviceState) (x :
   clients-are n t o at is = (l.settled.answers (record { 0 = suc n }) o (low n) (high n within) there, in-lines (tells_waiting (record { 0 = suc n }) o.event) (l.settled.ends (record { 0 = suc n }) o (low n) (high n within) there))
     where
       there : (now.clients (record { 0 = suc n })).outstanding ≡ Some o
-      there = ap (λ (u : ClientTable). u.outstanding) (stands.clients n t at) ∙ is
+      there = ap (λ (f : ClientNo → ClientTable). (f (record { 0 = suc n })).outstanding) (sym stands.tables) ∙ ap (λ (u : ClientTable). u.outstanding) (stands.clients n t at) ∙ is
 
       within : n < 8
       within = subst (λ (k : ℕ). n < k) stands.eight (slice_get_within after.clients n t at)

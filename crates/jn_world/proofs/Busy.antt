@@ -177,6 +177,7 @@ module _ {S : Type 0} (look : S → StoreView) (device : S → DeviceState) (see
       eight = stands.eight;
       clients = stands.clients;
       other_clients = stands.other_clients;
+      tables = stands.tables;
       net = stands.net;
       named = stands.named;
       commits = stands.commits;

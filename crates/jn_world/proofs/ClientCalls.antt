@@ -3,7 +3,8 @@ use Rattle.jn_world.proofs.Common.{posted_by, ◌≡◌, ◌<◌, ℕ, zero, suc
 use Rattle.std.proofs.Math.ListN.{get_or}
 use Rattle.jn_report.specs.declared.line.Text.TheVariants as says
 use Rattle.jn_schedule.specs.declared.Event.TheVariants as events
-use Rattle.jn_world_refines.specs.Clients.{with_client, texts_taken, texts_commanded, sent_commanded}
+use Rattle.jn_machine.specs.Deeds.{texts_taken, texts_commanded}
+use Rattle.jn_world_refines.specs.Clients.{with_client, sent_commanded}
 use Rattle.jn_rows.specs.ClientLaws.{after_command}
 use Rattle.jn_world_refines.proofs.ClientSteps.{client-took-step, other-took-step}
 use Rattle.jn_world_refines.proofs.Commands.{told-step, asked-step}

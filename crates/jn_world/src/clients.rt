@@ -5,7 +5,7 @@ ghost use Rattle.jn_net.specs.Carried.{with_delivered};
 ghost use Rattle.jn_report.specs.declared.line.When.TheVariants.{Event as AtEvent};
 ghost use Rattle.jn_rows.specs.Client.{new_table, take_row};
 ghost use Rattle.jn_schedule.specs.declared.Event.TheVariants as events;
-ghost use Rattle.jn_world_refines.specs.Clients.{texts_taken};
+ghost use Rattle.jn_machine.specs.Deeds.{texts_taken};
 ghost use Rattle.jn_world_refines.specs.Stands.{is_client_number, posted_by, with_sent};
 ghost use Rattle.jn_row_ranges.specs.Taking.{sent_for, AllCanBeTaken};
 ghost use Rattle.jn_base.specs.Ops.{CommandInRange};

@@ -38,7 +38,8 @@ pub use Rattle.jn_system.specs.WholeSystem.Steps.{Deliver, after, took, taken_by
 pub use Rattle.jn_rows.specs.declared.client.Taken.{Taken}
 pub use Rattle.jn_rows.specs.Client.{ClientTable, new_table, take_row, if_waits, ignored, begun_row, opened_row, answer_line, is_current, decided_row, outcome_row, Commanded, Refuses, command_row, again_row, over}
 pub use Rattle.jn_rows.specs.Outcomes.{Sent, RowOutcome}
-pub use Rattle.jn_world_refines.specs.Clients.{with_client, texts_taken, texts_commanded, sent_commanded}
+pub use Rattle.jn_world_refines.specs.Clients.{with_client, sent_commanded}
+pub use Rattle.jn_machine.specs.Deeds.{texts_taken, texts_commanded}
 pub use Rattle.jn_machine.proofs.LeftBy.{left-told, left-sent, left_with, left-work}
 pub use Rattle.std.proofs.lemmas.List.{length-set, length-map, map-append, drop-append-le}
 pub use Rattle.jn_base.specs.declared.names.Tid.{Tid}

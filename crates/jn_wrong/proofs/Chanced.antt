@@ -45,7 +45,7 @@ module _ (x : Setup) (h : Chance) (s : State) (q : ServerNo) (is : PrintsNothing
       ∙ made-same x h (asked []) [] begun_here (no-faults q h.told untold) refl (ap (λ (o : Option (Pick → Left)). bare_course (go_on (stopped_idle q o) s.course)) stop)
 
   pub is-met : (g : Chance) → deed_of x g (Meets (events.Show q)) s ≡ showing g q
-  is-met g = ap (λ (o : Option EventRefusal). met x g (events.Show q) here o) (ap (λ (b : Bool). unless b NoSuchServer (unless (is_some (here.memory q)) ServerDown None)) is.below
+  is-met g = ap (λ (o : Option EventRefusal). met x g (events.Show q) s.clients here o) (ap (λ (b : Bool). unless b NoSuchServer (unless (is_some (here.memory q)) ServerDown None)) is.below
       ∙ ap (λ (o : Option Memory). unless (is_some o) ServerDown None) is.up)
 
 module _ (x : Setup) (h : Chance) (s : State) (ds es : Devices) (quiet : IsQuiet x s.course.world ds) where
