@@ -1,6 +1,5 @@
 -- The tasks of a settle one after another: what comes between two of them, and that a server that is down stays down.
-use Rattle.jn_at_rest.proofs.Common.{◌≡◌, ◌⊎◌, inl, inr, ℕ, suc, ◌+◌, ◌<◌, Bool, true, false, List, [], ◌∷◌, ◌++◌, append_assoc, length, length-append, Option, Some, None, is_some, true≢false, refl, sym, ◌∙◌, ap, subst, arith, ◌&&◌, if◌then◌else◌, slice_get, list_all, ServerNo, ClientNo, Client, Server, Sent, Pick, Event, World, Memory, at_server, Step, Restart, after, run, handing, working, Room, server_timeout, Course, go_on, AreUp, on-world, Setup, Chance, Task, Acts, Rests, CutShort, State, begun, room, nothing, served, delivered, delivered_at, is_busy, working_steps, deed_of, resting, next_event, first_busy, next_in, servers_of, none, more, Steps, Moment, DoesStep, DoesEarlier, GoesOn, IsCut, does, stays, longer, forget, step_calls, Left}
-use Rattle.jn_rows.specs.Client.{ClientTable}
+use Rattle.jn_at_rest.proofs.Common.{◌≡◌, ◌⊎◌, inl, inr, ℕ, suc, ◌+◌, ◌<◌, Bool, true, false, List, [], ◌∷◌, ◌++◌, append_assoc, length, length-append, Option, Some, None, is_some, true≢false, refl, sym, ◌∙◌, ap, subst, arith, ◌&&◌, if◌then◌else◌, slice_get, list_all, ServerNo, ClientNo, Client, Server, Sent, Pick, Event, World, Memory, at_server, Step, Restart, after, run, handing, working, Room, server_timeout, Course, go_on, AreUp, on-world, Setup, Chance, Task, Acts, Rests, CutShort, State, begun, room, nothing, served, delivered, delivered_at, is_busy, working_steps, deed_of, resting, next_event, first_busy, next_in, servers_of, none, more, Steps, Moment, DoesStep, DoesEarlier, GoesOn, IsCut, does, stays, longer, forget, step_calls, Left, ClientTable}
 use Rattle.jn_schedule.specs.declared.Event.TheVariants as events
 use Rattle.jn_system.proofs.WholeSystem.OneChange.{one-server}
 use Rattle.jn_system.proofs.WholeSystem.StepCases.{StepCase, row_done, row_stopped, gone_late, gone_down, come_up, step-case}

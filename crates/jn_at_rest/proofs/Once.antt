@@ -1,7 +1,5 @@
 -- A run comes once to where these tasks are left, unless a rest is the first of them.
-use Rattle.jn_at_rest.proofs.Common.{◌≡◌, ◌⊎◌, inl, inr, ℕ, suc, ◌+◌, ◌≤◌, ◌<◌, Bool, true, false, List, [], ◌∷◌, ◌++◌, length, Option, Some, None, refl, sym, ◌∙◌, ap, subst, arith, if◌then◌else◌, slice_get, ServerNo, Client, Server, Sent, Event, World, Memory, Setup, Chance, Task, Begins, Meets, Acts, Rests, ComesUp, Dismisses, GoesDown, ClosesClients, CountsCommits, Stage, InSchedule, AtEnd, CutShort, State, next_at, first_of_tasks, delivered, delivered_at, is_busy, served, working_steps, nothing, crashed_at, is_used_up, given_up, recovered, settling, asking, acted, met, resting, next_in, deed_of, none, more, Moment, DoesStep, Leads, GoesOn, IsCut, does, step_calls}
-use Rattle.jn_base.specs.declared.names.ClientNo.{ClientNo}
-use Rattle.jn_rows.specs.Client.{ClientTable}
+use Rattle.jn_at_rest.proofs.Common.{◌≡◌, ◌⊎◌, inl, inr, ℕ, suc, ◌+◌, ◌≤◌, ◌<◌, Bool, true, false, List, [], ◌∷◌, ◌++◌, length, Option, Some, None, refl, sym, ◌∙◌, ap, subst, arith, if◌then◌else◌, slice_get, ServerNo, Client, Server, Sent, Event, World, Memory, Setup, Chance, Task, Begins, Meets, Acts, Rests, ComesUp, Dismisses, GoesDown, ClosesClients, CountsCommits, Stage, InSchedule, AtEnd, CutShort, State, next_at, first_of_tasks, delivered, delivered_at, is_busy, served, working_steps, nothing, crashed_at, is_used_up, given_up, recovered, settling, asking, acted, met, resting, next_in, deed_of, none, more, Moment, DoesStep, Leads, GoesOn, IsCut, does, step_calls, ClientNo, ClientTable}
 use Rattle.jn_report.specs.declared.line.EventRefusal.{EventRefusal}
 use Rattle.jn_report.specs.declared.line.EventRefusal.TheVariants.{EpochsUsedUp}
 use Rattle.jn_report.specs.declared.line.Text.TheVariants as says

@@ -1,8 +1,6 @@
 -- What the system reports in a run is in its lines.
-use Rattle.jn_at_rest.proofs.Common.{◌≡◌, ◌⊎◌, inl, inr, Bool, true, false, List, [], ◌∷◌, ◌++◌, append_assoc, append-nil, length, drop, refl, sym, ◌∙◌, ap, subst, arith, map, ◌||◌, if◌then◌else◌, list_any, drop-append_seam, map-append, Text, World, run, go_on, newly_sent, own_texts, on-world, Setup, Task, Dismisses, State, begun, when_of, Deed, deed_of, outside_texts, message_texts, traced, texts_of, is_too_much, come_to, cut_short, none, more, Moment, DoesStep, Leads, texts_since, Line}
+use Rattle.jn_at_rest.proofs.Common.{◌≡◌, ◌⊎◌, inl, inr, Bool, true, false, List, [], ◌∷◌, ◌++◌, append_assoc, append-nil, length, drop, refl, sym, ◌∙◌, ap, subst, arith, map, ◌||◌, if◌then◌else◌, list_any, drop-append_seam, map-append, Text, World, run, go_on, newly_sent, own_texts, on-world, Setup, Task, Dismisses, State, begun, when_of, Deed, deed_of, outside_texts, message_texts, traced, texts_of, is_too_much, come_to, cut_short, none, more, Moment, DoesStep, Leads, texts_since, Line, reported, HasTables, does-tables, begun-said}
 use Rattle.jn_report.specs.Lines.{lines_at}
-use Rattle.jn_machine.specs.Steps.{reported}
-use Rattle.jn_machine.proofs.Clients.{HasTables, does-tables, begun-said}
 use Rattle.jn_report.specs.declared.line.When.{When}
 use Rattle.jn_machine_refines.proofs.Acts.{Grown, grown, grown-own}
 

@@ -1,6 +1,5 @@
 -- Every settle of every run settles where it isn't cut short and all servers are up as it ends.
-use Rattle.jn_at_rest.proofs.Common.{◌≡◌, ◌⊎◌, inl, inr, ℕ, suc, ◌≤◌, ◌<◌, List, [], ◌∷◌, ◌++◌, length, Option, sym, ◌∙◌, ap, subst, arith, Event, Text, ServerNo, World, Memory, Course, AreUp, AreDecided, EndsWait, Setup, Task, Begins, Meets, CutShort, settling, Devices, none, more, Steps, Moment, DoesStep, Leads, IsWritten, DoesEarlier, IsOver, IsUnderWay, GoesOn, IsCut, does, stays, comes-through, ComesThrough, LeavesSettled}
-use Rattle.jn_machine.proofs.Clients.{HasTables, written-tables}
+use Rattle.jn_at_rest.proofs.Common.{◌≡◌, ◌⊎◌, inl, inr, ℕ, suc, ◌≤◌, ◌<◌, List, [], ◌∷◌, ◌++◌, length, Option, sym, ◌∙◌, ap, subst, arith, Event, Text, ServerNo, World, Memory, Course, AreUp, AreDecided, EndsWait, Setup, Task, Begins, Meets, CutShort, settling, Devices, none, more, Steps, Moment, DoesStep, Leads, IsWritten, DoesEarlier, IsOver, IsUnderWay, GoesOn, IsCut, does, stays, comes-through, ComesThrough, LeavesSettled, HasTables, written-tables}
 use Rattle.jn_schedule.specs.declared.Event.TheVariants as events
 use Rattle.jn_machine.proofs.Computed.{join}
 use Rattle.jn_at_rest.proofs.Held.{written-held}

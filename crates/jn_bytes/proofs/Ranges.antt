@@ -14,7 +14,7 @@ use Rattle.jn_base.specs.declared.call.ByteCommand.TheVariants.{ReadBytes, Write
 use Rattle.jn_bytes.specs.declared.stage.Stage.{Stage}
 use Rattle.jn_bytes.specs.declared.stage.Stage.TheVariants as stages
 unfoldable use Rattle.jn_bytes.specs.ByteFiles.{length_in}
-use Rattle.jn_bytes.specs.Turns.{block_at, place_in_block, read_from, read_of, first_part, second_part, filled, write_all, grown, with_first, write_of, with_length, go_on, turn, turn_by, block_given}
+use Rattle.jn_bytes.specs.Turns.{block_at, place_in_block, read_from, read_of, first_part, second_part, filled, write_all, grown, with_first, write_of, with_length, go_on, turn, turn_by, first_turn, block_given}
 use Rattle.jn_bytes.specs.declared.stage.Turn.{Turn}
 use Rattle.jn_bytes.specs.declared.stage.Turn.TheVariants.{Sends, Over}
 use Rattle.jn_bytes.specs.Ranges.{Fits, AreOfCall, IsOfCall, SendsOfCall, StageFits}
@@ -114,6 +114,10 @@ module _ (f : FileNo) (offset : ℕ) (bytes : List ℕ) (few : length bytes ≤ 
 goes-on : (call : ByteCommand) (stage : Stage) (b : List ℕ) → Fits call → StageFits call stage → TurnFits call (go_on call stage b)
 goes-on (ReadBytes f offset count) stage b fits stays = reads-on f offset count stage b stays
 goes-on (WriteBytes f offset bytes) stage b fits stays = writes-on f offset bytes fits.0 fits.1 stage b stays
+
+pub first_fits : (call : ByteCommand) → TurnFits call (first_turn call)
+first_fits (ReadBytes f offset count) = ((refl, omega arith), tt)
+first_fits (WriteBytes f offset bytes) = ((refl, omega arith), tt)
 
 -- each turn of a call that fits, at any answer
 pub turn_fits : (call : ByteCommand) (stage : Stage) (answer : Answer) → Fits call → StageFits call stage → TurnFits call (turn call stage answer)

@@ -22,8 +22,8 @@ use Rattle.jn_bytes.specs.declared.stage.Stage.TheVariants as byte_stages
 use Rattle.jn_bytes.specs.declared.stage.Turn.{Turn as ByteTurn}
 use Rattle.jn_bytes.specs.declared.stage.Turn.TheVariants as byte_turns
 use Rattle.jn_bytes.specs.Turns.{Calling as ByteCalling, first_turn as first_of_bytes, turn as turn_of_bytes, turn_from, turn_by, go_on as bytes_go_on, block_given, with_length, read_from, read_of, write_of, with_first, write_all, first_part, second_part, filled, place_in_block}
-use Rattle.jn_bytes.specs.Ranges.{Fits as BytesFit, WaitFits, TurnFits as BytesTurnFits}
-use Rattle.jn_bytes.proofs.Ranges.{first_fits, turn_fits}
+use Rattle.jn_bytes.specs.Ranges.{Fits as BytesFit, WaitFits}
+use Rattle.jn_bytes.proofs.Ranges.{TurnFits as BytesTurnFits, first_fits, turn_fits}
 unfoldable use Rattle.jn_bytes.specs.ByteFiles.{length_in}
 use Rattle.jn_names.specs.declared.entry.Entry.{Entry}
 use Rattle.jn_names.specs.declared.next.NameNext.TheVariants as name_nexts

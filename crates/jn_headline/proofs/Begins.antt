@@ -1,6 +1,5 @@
 -- The end of a run begins: what it comes to from there.
-use Rattle.jn_headline.proofs.Common.{◌≡◌, ◌⊎◌, inl, ℕ, ◌<◌, Bool, true, false, List, [], ◌∷◌, ◌++◌, append-nil, length, drop, Option, Some, None, is_some, refl, sym, ◌∙◌, ap, subst, slice_get, if◌then◌else◌, ServerNo, Server, Message, AllFiles, DeviceState, Text, Line, plain, World, Memory, opening, Step, Dismiss, after, run, Course, go, go_on, newly_sent, Item, steps_of, world_of, lines_of, at_end, Setup, Chance, Task, Dismisses, InSchedule, AtEnd, CutShort, Stage, State, next_at, begun, Befalls, ending, deed_of, dismissing, own_texts, is_too_much, come_to, cut_short, made, done, none, more, Moment, Leads, IsToldBy}
-use Rattle.jn_machine.proofs.Clients.{does-tables}
+use Rattle.jn_headline.proofs.Common.{◌≡◌, ◌⊎◌, inl, ℕ, ◌<◌, Bool, true, false, List, [], ◌∷◌, ◌++◌, append-nil, length, drop, Option, Some, None, is_some, refl, sym, ◌∙◌, ap, subst, slice_get, if◌then◌else◌, ServerNo, Server, Message, AllFiles, DeviceState, Text, Line, plain, World, Memory, opening, Step, Dismiss, after, run, Course, go, go_on, newly_sent, Item, steps_of, world_of, lines_of, at_end, Setup, Chance, Task, Dismisses, InSchedule, AtEnd, CutShort, Stage, State, next_at, begun, Befalls, ending, deed_of, dismissing, own_texts, is_too_much, come_to, cut_short, made, done, none, more, Moment, Leads, IsToldBy, does-tables}
 use Rattle.jn_row_ranges.proofs.WorldSteps.{run-within, opening-within, sent-near}
 use Rattle.jn_headline.proofs.Behind.{GoesWith, go-behind}
 use Rattle.jn_headline.proofs.Texts.{no-messages, lines-left, lines-more}

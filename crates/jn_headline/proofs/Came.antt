@@ -1,9 +1,7 @@
 -- A run that has come so far within its end, step by step.
-use Rattle.jn_headline.proofs.Common.{◌≡◌, ◌⊎◌, inl, inr, ℕ, Bool, true, false, List, [], ◌∷◌, ◌++◌, append_assoc, append-nil, length, drop, Some, None, refl, sym, ◌∙◌, ap, subst, arith, ◌&&◌, if◌then◌else◌, list_all, Text, Line, plain, Sent, World, Step, IsStep, IsRun, after, run, Course, numbered, newly_sent, still_waiting, go, go_on, on-world, Does, told_by, told_by_steps, at_end, is_of_end, is_print, Setup, Chance, Task, AtEnd, CutShort, Stage, State, when_at, next_at, begun, is_up, Deed, Befalls, deed_of, outside_texts, own_texts, texts_of, is_too_much, come_to, cut_short, made, done, none, more, Moment, DoesStep, Leads, both, behind}
-use Rattle.jn_machine.proofs.Clients.{HasTables}
+use Rattle.jn_headline.proofs.Common.{◌≡◌, ◌⊎◌, inl, inr, ℕ, Bool, true, false, List, [], ◌∷◌, ◌++◌, append_assoc, append-nil, length, drop, Some, None, refl, sym, ◌∙◌, ap, subst, arith, ◌&&◌, if◌then◌else◌, list_all, Text, Line, plain, Sent, World, Step, IsStep, IsRun, after, run, Course, numbered, newly_sent, still_waiting, go, go_on, on-world, Does, told_by, told_by_steps, at_end, is_of_end, is_print, Setup, Chance, Task, AtEnd, CutShort, Stage, State, when_at, next_at, begun, is_up, Deed, Befalls, deed_of, outside_texts, own_texts, texts_of, is_too_much, come_to, cut_short, made, done, none, more, Moment, DoesStep, Leads, both, behind, HasTables, reported}
 use Rattle.std.proofs.Math.Seq.{drop-append_seam}
 use Rattle.jn_report.specs.Lines.{lines_at}
-use Rattle.jn_machine.specs.Steps.{reported}
 use Rattle.jn_machine_refines.proofs.Items.{is-run-both}
 use Rattle.jn_headline.proofs.Behind.{GoesWith, go-behind, may-behind, own-behind}
 use Rattle.jn_headline.proofs.Texts.{told-append, no-messages, lines-left, lines-more}

@@ -1,6 +1,5 @@
 -- Where a run is cut off within its end, and where it goes on behind a task.
-use Rattle.jn_headline.proofs.Common.{◌≡◌, ◌⊎◌, inl, inr, true, List, [], ◌∷◌, ◌++◌, append_assoc, append-nil, sym, ◌∙◌, ap, subst, map, list_all, AllByRecursion, Text, Line, plain, World, Step, IsRun, Course, on-world, told_by_steps, at_end, is_of_end, is_print, Setup, Task, AtEnd, CutShort, State, cut_short, none, more, Moment, Leads}
-use Rattle.jn_machine.proofs.Clients.{HasTables, does-tables}
+use Rattle.jn_headline.proofs.Common.{◌≡◌, ◌⊎◌, inl, inr, true, List, [], ◌∷◌, ◌++◌, append_assoc, append-nil, sym, ◌∙◌, ap, subst, map, list_all, AllByRecursion, Text, Line, plain, World, Step, IsRun, Course, on-world, told_by_steps, at_end, is_of_end, is_print, Setup, Task, AtEnd, CutShort, State, cut_short, none, more, Moment, Leads, HasTables, does-tables}
 use Rattle.jn_headline.proofs.Numbered.{end-begins-none}
 use Rattle.jn_headline.proofs.Came.{Came, Makes, IsOrdinary, one-step, stuck}
 

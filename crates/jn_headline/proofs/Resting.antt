@@ -1,8 +1,5 @@
 -- A rest within the end: its steps, but for erasures, are each what comes next.
-use Rattle.jn_headline.proofs.Common.{◌≡◌, ◌⊎◌, inl, inr, ℕ, ◌+◌, ◌<◌, ◌≤◌, Bool, true, false, List, [], ◌∷◌, ◌++◌, append_assoc, append-nil, Option, Some, None, is_some, refl, sym, ◌∙◌, ap, subst, arith, ◌&&◌, slice_get, if◌then◌else◌, list_all, ServerNo, Client, Server, server_eq, Message, Text, Line, Sent, Pick, stable, World, Memory, servers_from, Room, Step, Deliver, Work, after, run, Course, go_on, first_going, has_going, handing, working, next_step, on-world, ComesNext, AreNext, ComeToRest, in-turn, settles, Setup, Chance, Task, Rests, Deed, served, room, no_room, delivered, delivered_at, is_busy_with, worked, working_steps, Befalls, IsServed, Alone, first_busy, next_event, resting, is_up, come_to, cut_short, none, more, Moment, Leads, Left, nothing}
-use Rattle.jn_rows.specs.Client.{take_row}
-use Rattle.jn_machine.specs.Deeds.{took_message}
-use Rattle.jn_machine.proofs.Clients.{HasTables, does-tables, delivered-says}
+use Rattle.jn_headline.proofs.Common.{◌≡◌, ◌⊎◌, inl, inr, ℕ, ◌+◌, ◌<◌, ◌≤◌, Bool, true, false, List, [], ◌∷◌, ◌++◌, append_assoc, append-nil, Option, Some, None, is_some, refl, sym, ◌∙◌, ap, subst, arith, ◌&&◌, slice_get, if◌then◌else◌, list_all, ServerNo, Client, Server, server_eq, Message, Text, Line, Sent, Pick, stable, World, Memory, servers_from, Room, Step, Deliver, Work, after, run, Course, go_on, first_going, has_going, handing, working, next_step, on-world, ComesNext, AreNext, ComeToRest, in-turn, settles, Setup, Chance, Task, Rests, Deed, served, room, no_room, delivered, delivered_at, is_busy_with, worked, working_steps, Befalls, IsServed, Alone, first_busy, next_event, resting, is_up, come_to, cut_short, none, more, Moment, Leads, Left, nothing, take_row, took_message, HasTables, does-tables, delivered-says}
 use Rattle.jn_system.proofs.WholeSystem.BusyServers.{first-is, first-none}
 use Rattle.jn_machine.specs.Deeds.{plain}
 use Rattle.jn_headline.proofs.Quiet.{Calm, called-calm, quiet-same, quiet-called, delivered-up, worked-up}

@@ -1,6 +1,5 @@
 -- Shows and scrubs at the end: what each server prints, and that nothing else happens.
-use Rattle.jn_headline.proofs.Common.{◌≡◌, ◌⊎◌, inl, inr, ℕ, zero, suc, ◌+◌, ◌<◌, ◌≤◌, true, false, List, [], ◌∷◌, ◌++◌, append_assoc, append-nil, length, Option, is_some, refl, sym, ap, subst, arith, map, list_all, ServerNo, server_eq, Text, Line, Pick, World, servers_from, Printed, FileThere, PageStored, UnitLocked, Step, Course, go_on, text_printed, is_print, Setup, Chance, Task, Acts, Deed, Reads, stopped_idle, shown, showing, scrubbed, IsLookedOver, Alone, is_up, come_to, Moment, Leads, both, Server, Cleans, IsScrubbed, prints_found, behind, IsPrinted, ArePrinted, texts_from, Left}
-use Rattle.jn_machine.proofs.Clients.{HasTables}
+use Rattle.jn_headline.proofs.Common.{◌≡◌, ◌⊎◌, inl, inr, ℕ, zero, suc, ◌+◌, ◌<◌, ◌≤◌, true, false, List, [], ◌∷◌, ◌++◌, append_assoc, append-nil, length, Option, is_some, refl, sym, ap, subst, arith, map, list_all, ServerNo, server_eq, Text, Line, Pick, World, servers_from, Printed, FileThere, PageStored, UnitLocked, Step, Course, go_on, text_printed, is_print, Setup, Chance, Task, Acts, Deed, Reads, stopped_idle, shown, showing, scrubbed, IsLookedOver, Alone, is_up, come_to, Moment, Leads, both, Server, Cleans, IsScrubbed, prints_found, behind, IsPrinted, ArePrinted, texts_from, Left, HasTables}
 use Rattle.jn_schedule.specs.declared.Event.TheVariants as events
 use Rattle.jn_headline.proofs.Quiet.{Calm, called-calm, quiet-called}
 use Rattle.jn_headline.proofs.Came.{Came, came-none, tasks-then}

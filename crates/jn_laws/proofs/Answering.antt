@@ -1,9 +1,5 @@
 -- What becomes of a message that is handed over: it is answered, or its server is stopped, or the run is cut short.
-use Rattle.jn_laws.proofs.Common.{◌≡◌, ◌≢◌, ℕ, Bool, true, false, List, [], ◌∷◌, ◌++◌, append-nil, length, length-append, Option, Some, None, is_some, refl, sym, ◌∙◌, ap, subst, arith, if◌then◌else◌, slice_get, ServerNo, Party, Client, Server, client_eq, server_eq, client_tells, server_tells, Message, Taken, ClientTable, take_row, RowOutcome, Sent, Pick, stable, made_all, World, Memory, Room, server_row, Deliver, handing, after, run, handed, at_memory, ends, took, Setup, Use, Nothing, Deed, room, no_room, delivered_at, IsUsed, rubbish_on, Moment, DoesStep, CutShort, HandsOver, Answer, tells_alone, room_on, row_on, of_row, of_server, of_taken, its_answer, IsGiven, IsDone, IsTaken, IsStopped, stopped_at, IsTooLong, IsStale, Calls, free_found, row_calls, ClientNo, Left, maps_found, pages_of}
-use Rattle.jn_system.specs.WholeSystem.World.{at_client}
-use Rattle.jn_system.specs.WholeSystem.Steps.{taken_by}
-use Rattle.jn_machine.specs.Deeds.{texts_taken}
-use Rattle.jn_machine.proofs.Clients.{does-tables}
+use Rattle.jn_laws.proofs.Common.{◌≡◌, ◌≢◌, ℕ, Bool, true, false, List, [], ◌∷◌, ◌++◌, append-nil, length, length-append, Option, Some, None, is_some, refl, sym, ◌∙◌, ap, subst, arith, if◌then◌else◌, slice_get, ServerNo, Party, Client, Server, client_eq, server_eq, client_tells, server_tells, Message, Taken, ClientTable, take_row, RowOutcome, Sent, Pick, stable, made_all, World, Memory, Room, server_row, Deliver, handing, after, run, handed, at_memory, ends, took, Setup, Use, Nothing, Deed, room, no_room, delivered_at, IsUsed, rubbish_on, Moment, DoesStep, CutShort, HandsOver, Answer, tells_alone, room_on, row_on, of_row, of_server, of_taken, its_answer, IsGiven, IsDone, IsTaken, IsStopped, stopped_at, IsTooLong, IsStale, Calls, free_found, row_calls, ClientNo, Left, maps_found, pages_of, at_client, taken_by, texts_taken, does-tables}
 use Rattle.jn_records.specs.declared.net_list.Need.{Need}
 use Rattle.jn_records.specs.MapPlaces.{MapPlaces}
 use Rattle.jn_server.specs.Standing.{free_on}

@@ -1,12 +1,6 @@
 -- What a step that hands over a message does: one step of the system, and what it reports and sends.
-use Rattle.jn_laws.proofs.Common.{◌≡◌, ◌≢◌, ◌⊎◌, inl, inr, ℕ, Bool, true, false, List, [], ◌∷◌, ◌++◌, append-nil, length, drop, Option, Some, None, refl, sym, ◌∙◌, ap, subst, arith, drop-append_seam, if◌then◌else◌, nat_lt, slice_get, Party, Message, Event, Text, Sent, World, Step, after, Setup, Chance, Use, Deed, delivered, acted, met, resting, next_in, deed_of, Moment, DoesStep, Task, Meets, Acts, Rests, Stage, CutShort, State, next_at, when_of, begun, number_in, number_by, Answer, faults_in, IsGiven, IsTooLong, nat_tests, outside_texts, own_texts, message_texts, traced, texts_of, most_messages, come_to, cut_short, made, NoSuchMessage, Course, go, newly_sent, unless, slice_get_within}
+use Rattle.jn_laws.proofs.Common.{◌≡◌, ◌≢◌, ◌⊎◌, inl, inr, ℕ, Bool, true, false, List, [], ◌∷◌, ◌++◌, append-nil, length, drop, Option, Some, None, refl, sym, ◌∙◌, ap, subst, arith, drop-append_seam, if◌then◌else◌, nat_lt, slice_get, Party, Message, Event, Text, Sent, World, Step, after, Setup, Chance, Use, Deed, delivered, acted, met, resting, next_in, deed_of, Moment, DoesStep, Task, Meets, Acts, Rests, Stage, CutShort, State, next_at, when_of, begun, number_in, number_by, Answer, faults_in, IsGiven, IsTooLong, nat_tests, outside_texts, own_texts, message_texts, traced, texts_of, most_messages, come_to, cut_short, made, NoSuchMessage, Course, go, newly_sent, unless, slice_get_within, ClientNo, ClientTable, go_on, reported, HasTables, own-said}
 use Rattle.jn_report.specs.Lines.{lines_at}
-use Rattle.jn_base.specs.declared.names.ClientNo.{ClientNo}
-use Rattle.jn_rows.specs.Client.{ClientTable}
-use Rattle.jn_system.specs.WholeSystem.Course.{go_on}
-use Rattle.jn_machine.specs.Steps.{reported}
-use Rattle.jn_machine.proofs.Clients.{HasTables, own-said}
-use Rattle.std.proofs.lemmas.Option.{slice_get_within}
 use Rattle.jn_schedule.specs.declared.Event.TheVariants as events
 
 -- a deed of one step of the system

@@ -1,6 +1,5 @@
 -- What is printed at each moment of a run.
-use Rattle.jn_laws.proofs.Common.{◌≡◌, ◌≢◌, ◌⊎◌, inl, inr, ℕ, ◌≤◌, ◌<◌, Bool, true, false, true≢false, List, [], ◌∷◌, ◌++◌, Option, Some, None, refl, sym, ◌∙◌, ap, subst, arith, ◌||◌, if◌then◌else◌, nat_lt, slice_get, map, option_and_then, ⊤, list_all, AllByRecursion, nat_tests, All-nil, ServerNo, ClientNo, FileNo, BlockNo, Tid, LockUnit, Block, Client, Server, most_blocks, unit_eq, Commit, AllFiles, Event, EventInRange, EpochsUsedUp, Phase, Active, Broken, Stored, Sent, Pick, StableState, stable, WorkerTable, commit_holder, holds, step_calls, unit_in_range, Room, handing, working, run, World, Memory, new_memory, clients_from, go_on, CanBeTaken, CommandInRange, new-fits, scheduled-in-range, Setup, Chance, prints_found, Use, Reads, Deed, room, delivered, delivered_at, is_busy, worked, served, nothing, working_steps, stopped_idle, crashed_at, recovering, recovered, given_up, restarted, brought_up, is_used_up, Devices, IsUsed, IsLookedOver, acted, met, resting, next_event, first_busy, servers_of, asking, settling, coming_up, printing, ending, deed_of, refusal_of, none, more, Moment, DoesStep, Leads, is_too_much, come_to, cut_short, Task, Begins, Meets, Acts, Rests, ComesUp, Dismisses, GoesDown, ClosesClients, CountsCommits, InSchedule, AtEnd, CutShort, Stage, State, next_at, begun, closed_world, AreImages, IsWritten, first-of, second-of, Left, is_unit, Counts, Pages, block_in, block_behind, address_by, head_of, files_of_pages}
-use Rattle.jn_rows.specs.Client.{ClientTable}
+use Rattle.jn_laws.proofs.Common.{◌≡◌, ◌≢◌, ◌⊎◌, inl, inr, ℕ, ◌≤◌, ◌<◌, Bool, true, false, true≢false, List, [], ◌∷◌, ◌++◌, Option, Some, None, refl, sym, ◌∙◌, ap, subst, arith, ◌||◌, if◌then◌else◌, nat_lt, slice_get, map, option_and_then, ⊤, list_all, AllByRecursion, nat_tests, All-nil, ServerNo, ClientNo, FileNo, BlockNo, Tid, LockUnit, Block, Client, Server, most_blocks, unit_eq, Commit, AllFiles, Event, EventInRange, EpochsUsedUp, Phase, Active, Broken, Stored, Sent, Pick, StableState, stable, WorkerTable, commit_holder, holds, step_calls, unit_in_range, Room, handing, working, run, World, Memory, new_memory, clients_from, go_on, CanBeTaken, CommandInRange, new-fits, scheduled-in-range, Setup, Chance, prints_found, Use, Reads, Deed, room, delivered, delivered_at, is_busy, worked, served, nothing, working_steps, stopped_idle, crashed_at, recovering, recovered, given_up, restarted, brought_up, is_used_up, Devices, IsUsed, IsLookedOver, acted, met, resting, next_event, first_busy, servers_of, asking, settling, coming_up, printing, ending, deed_of, refusal_of, none, more, Moment, DoesStep, Leads, is_too_much, come_to, cut_short, Task, Begins, Meets, Acts, Rests, ComesUp, Dismisses, GoesDown, ClosesClients, CountsCommits, InSchedule, AtEnd, CutShort, Stage, State, next_at, begun, closed_world, AreImages, IsWritten, first-of, second-of, Left, is_unit, Counts, Pages, block_in, block_behind, address_by, head_of, files_of_pages, ClientTable}
 use Rattle.std.specs.Prelude.{drop, is_some}
 use Rattle.jn_locks.proofs.Orders.{unit_tells}
 use Rattle.jn_schedule.specs.declared.Event.TheVariants as events

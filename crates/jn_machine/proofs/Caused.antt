@@ -1,9 +1,8 @@
 -- A refusal is reported only where its cause holds.
-use Rattle.jn_machine.proofs.Common.{◌≡◌, ℕ, Bool, true, false, List, [], ◌∷◌, map, Option, Some, None, refl, sym, subst, arith, if◌then◌else◌, slice_get, list_all, ServerNo, ClientNo, Event, EventRefusal, TooManyArmed, EpochsUsedUp, Text, Pick, World, Printed, FileThere, PageStored, UnitLocked, go_on, text_printed, Setup, Chance, prints_found, allowed, Task, Begins, Meets, Acts, Rests, ComesUp, Dismisses, GoesDown, ClosesClients, CountsCommits, State, Deed, delivered, worked, shown, crashed_at, is_used_up, brought_up, given_up, recovered, refusal_of, servers_of, first_busy, next_event, told_unless, acted, met, resting, deed_of, texts_of, no_refusal, refused_while, or_else, cause_of, Left}
+use Rattle.jn_machine.proofs.Common.{◌≡◌, ℕ, Bool, true, false, List, [], ◌∷◌, map, Option, Some, None, refl, sym, subst, arith, if◌then◌else◌, slice_get, list_all, ServerNo, ClientNo, Event, EventRefusal, TooManyArmed, EpochsUsedUp, Text, Pick, World, Printed, FileThere, PageStored, UnitLocked, go_on, text_printed, Setup, Chance, prints_found, allowed, Task, Begins, Meets, Acts, Rests, ComesUp, Dismisses, GoesDown, ClosesClients, CountsCommits, State, Deed, delivered, worked, shown, crashed_at, is_used_up, brought_up, given_up, recovered, refusal_of, servers_of, first_busy, next_event, told_unless, acted, met, resting, deed_of, texts_of, no_refusal, refused_while, or_else, cause_of, Left, ClientTable}
 use Rattle.jn_base.specs.declared.device.FaultKind.TheVariants as faults
 use Rattle.jn_schedule.specs.declared.Event.TheVariants as events
 use Rattle.jn_report.specs.declared.line.Text.TheVariants as says
-use Rattle.jn_rows.specs.Client.{ClientTable}
 use Rattle.jn_machine.proofs.Clients.{task-says}
 use Rattle.jn_machine.proofs.Texts.{deed-texts, delivers, works, crashes, comes}
 use Rattle.jn_machine.proofs.Quiet.{is_of_system, of-step}

@@ -1,20 +1,10 @@
 -- What a deed makes of the clients' tables and reports of them, and that this is what its steps make of the system's and report.
-use Rattle.jn_machine.proofs.Common.{◌≡◌, ℕ, Bool, true, false, List, [], ◌∷◌, ◌++◌, append-nil, length, drop, Option, Some, None, refl, sym, ◌∙◌, ap, subst, arith, whole_only, if◌then◌else◌, slice_get, list_all, drop-append_seam, AllFiles, ServerNo, ClientNo, Client, Server, Event, EventRefusal, EpochsUsedUp, Text, Pick, Left, RowOutcome, Sent, World, Memory, stable, Room, server_step, Message, Step, Tell, Deliver, CloseClients, StopWork, handing, working, run, after, is_answer, Course, go, go_on, Setup, Chance, Task, Begins, Meets, Acts, Rests, ComesUp, Dismisses, GoesDown, ClosesClients, CountsCommits, State, begun, Deed, delivered, delivered_at, is_busy, worked, working_steps, served, nothing, stopped_idle, crashed_at, restarted, recovered, recovering, given_up, brought_up, is_used_up, acted, met, resting, deed_of, next_in, refusal_of, own_texts, is_too_much, come_to, cut_short, made, none, more, MayStep, MayLead, before, step_calls, Moment, DoesStep}
+use Rattle.jn_machine.proofs.Common.{◌≡◌, ℕ, Bool, true, false, List, [], ◌∷◌, ◌++◌, append-nil, length, drop, Option, Some, None, refl, sym, ◌∙◌, ap, subst, arith, whole_only, if◌then◌else◌, slice_get, list_all, drop-append_seam, AllFiles, ServerNo, ClientNo, Client, Server, Event, EventRefusal, EpochsUsedUp, Text, Pick, Left, RowOutcome, Sent, World, Memory, stable, Room, server_step, Message, Step, Tell, Deliver, CloseClients, StopWork, handing, working, run, after, is_answer, Course, go, go_on, Setup, Chance, Task, Begins, Meets, Acts, Rests, ComesUp, Dismisses, GoesDown, ClosesClients, CountsCommits, State, begun, Deed, delivered, delivered_at, is_busy, worked, working_steps, served, nothing, stopped_idle, crashed_at, restarted, recovered, recovering, given_up, brought_up, is_used_up, acted, met, resting, deed_of, next_in, refusal_of, own_texts, is_too_much, come_to, cut_short, made, none, more, MayStep, MayLead, before, step_calls, Moment, DoesStep, Tid, WorkId, Taken, ClientTable, Commanded, Refuses, Sends, command_row, take_row, over, at_client, Dismiss, nudge, timeout, commanded, took, handed, at_memory, ends, work, works, crash, narrow, stop_restart, restart, close_clients, room, no_room, tables_commanded, texts_commanded, texts_taken, reported, Devices, IsWritten}
 use Rattle.std.proofs.Math.Path.{fun_ext}
 use Rattle.jn_base.specs.declared.op.Command.{Command}
-use Rattle.jn_base.specs.declared.names.Tid.{Tid}
-use Rattle.jn_base.specs.declared.names.WorkId.{WorkId}
 use Rattle.jn_schedule.specs.declared.Event.TheVariants as events
 use Rattle.jn_report.specs.declared.line.Text.TheVariants as says
-use Rattle.jn_rows.specs.declared.client.Taken.{Taken}
 use Rattle.jn_rows.specs.declared.client.Taken.TheVariants as taken
-use Rattle.jn_rows.specs.Client.{ClientTable, Commanded, Refuses, Sends, command_row, take_row, over}
-use Rattle.jn_system.specs.WholeSystem.World.{at_client}
-use Rattle.jn_system.specs.WholeSystem.Steps.{Dismiss, nudge, timeout, commanded, took, handed, at_memory, ends, work, works, crash, narrow, stop_restart, restart, close_clients}
-use Rattle.jn_machine.specs.Deeds.{room, no_room, tables_commanded, texts_commanded, texts_taken}
-use Rattle.jn_machine.specs.Steps.{reported}
-use Rattle.jn_machine.specs.Devices.{Devices}
-use Rattle.jn_machine.specs.Whole.{IsWritten}
 use Rattle.jn_machine.proofs.Computed.{may-lead}
 use Rattle.jn_machine.proofs.Telling.{may_tell, is_of_delivery, both, Tells, take-tells}
 

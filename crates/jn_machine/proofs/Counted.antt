@@ -1,8 +1,7 @@
 -- Each event begins once: those that began and those that are left are all.
-use Rattle.jn_machine.proofs.Common.{◌≡◌, ℕ, ◌+◌, Bool, true, false, List, [], ◌∷◌, ◌++◌, map, length, Option, Some, None, refl, sym, ◌∙◌, ap, subst, arith, if◌then◌else◌, drop, slice_get, list_all, AllFiles, ServerNo, ClientNo, Client, Server, Event, EventRefusal, Sent, Pick, Room, World, Memory, Step, NextEvent, Course, go, go_on, Setup, Chance, Task, Begins, Meets, Acts, Rests, ComesUp, Dismisses, GoesDown, ClosesClients, CountsCommits, Stage, InSchedule, AtEnd, CutShort, State, next_at, begun, Deed, delivered, delivered_at, is_busy, worked, working_steps, served, nothing, stopped_idle, crashed_at, restarted, recovered, recovering, brought_up, is_used_up, servers_of, asking, settling, acted, met, resting, next_in, deed_of, printing, coming_up, ending, tasks_of, refusal_of, is_too_much, come_to, cut_short, made_to, none, more, MayStep, MayLead, before, events_left, handing, working, step_calls, clients_from, Left}
+use Rattle.jn_machine.proofs.Common.{◌≡◌, ℕ, ◌+◌, Bool, true, false, List, [], ◌∷◌, ◌++◌, map, length, Option, Some, None, refl, sym, ◌∙◌, ap, subst, arith, if◌then◌else◌, drop, slice_get, list_all, AllFiles, ServerNo, ClientNo, Client, Server, Event, EventRefusal, Sent, Pick, Room, World, Memory, Step, NextEvent, Course, go, go_on, Setup, Chance, Task, Begins, Meets, Acts, Rests, ComesUp, Dismisses, GoesDown, ClosesClients, CountsCommits, Stage, InSchedule, AtEnd, CutShort, State, next_at, begun, Deed, delivered, delivered_at, is_busy, worked, working_steps, served, nothing, stopped_idle, crashed_at, restarted, recovered, recovering, brought_up, is_used_up, servers_of, asking, settling, acted, met, resting, next_in, deed_of, printing, coming_up, ending, tasks_of, refusal_of, is_too_much, come_to, cut_short, made_to, none, more, MayStep, MayLead, before, events_left, handing, working, step_calls, clients_from, Left, ClientTable}
 use Rattle.jn_machine.proofs.Telling.{event_after, adds}
 use Rattle.jn_schedule.specs.declared.Event.TheVariants as events
-use Rattle.jn_rows.specs.Client.{ClientTable}
 
 -- ---- lists of tasks
 

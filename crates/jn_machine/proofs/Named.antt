@@ -1,8 +1,7 @@
 -- The commits that the lines name are those that the system names.
-use Rattle.jn_machine.proofs.Common.{◌≡◌, ℕ, ◌+◌, Bool, true, false, List, [], ◌∷◌, ◌++◌, append-nil, append_assoc, length, drop, map, refl, sym, ◌∙◌, ap, subst, if◌then◌else◌, list_all, drop-append_seam, ServerNo, Tid, Party, Outside, When, Text, Line, commit_in, history_of, Sent, World, committed_in, commits_in, Step, Course, go_on, newly_sent, Setup, Chance, Task, Begins, Meets, Acts, Rests, ComesUp, Dismisses, GoesDown, ClosesClients, CountsCommits, State, when_of, begun, Use, Calls, Reads, Recovers, Deed, deed_of, outside_texts, own_texts, message_texts, traced, texts_of, lines_at, is_too_much, come_to, cut_short, made, none, more, MayStep, MayLead, Cleans}
+use Rattle.jn_machine.proofs.Common.{◌≡◌, ℕ, ◌+◌, Bool, true, false, List, [], ◌∷◌, ◌++◌, append-nil, append_assoc, length, drop, map, refl, sym, ◌∙◌, ap, subst, if◌then◌else◌, list_all, drop-append_seam, ServerNo, Tid, Party, Outside, When, Text, Line, commit_in, history_of, Sent, World, committed_in, commits_in, Step, Course, go_on, newly_sent, Setup, Chance, Task, Begins, Meets, Acts, Rests, ComesUp, Dismisses, GoesDown, ClosesClients, CountsCommits, State, when_of, begun, Use, Calls, Reads, Recovers, Deed, deed_of, outside_texts, own_texts, message_texts, traced, texts_of, lines_at, is_too_much, come_to, cut_short, made, none, more, MayStep, MayLead, Cleans, reported}
 use Rattle.jn_report.specs.declared.line.Text.TheVariants as says
 use Rattle.jn_machine.proofs.Telling.{first, second}
-use Rattle.jn_machine.specs.Steps.{reported}
 use Rattle.jn_machine.proofs.Texts.{gone-on, More, task-texts, Besides}
 use Rattle.jn_machine.proofs.Clients.{HasTables, begun-said, step-tables}
 

@@ -1,9 +1,8 @@
 -- Messages have lines only where they are asked for, and each line that counts commits counts those before it.
-use Rattle.jn_machine.proofs.Common.{◌≡◌, ℕ, Bool, true, false, List, [], ◌∷◌, ◌++◌, append-nil, append_assoc, length, drop, refl, sym, ◌∙◌, subst, arith, if◌then◌else◌, list_all, drop-append_seam, list_all-append, When, Text, Line, history_of, Sent, Step, go_on, newly_sent, Setup, Chance, Task, Dismisses, CountsCommits, State, when_of, begun, Deed, nobody, deed_of, own_texts, texts_of, lines_at, is_too_much, come_to, cut_short, made_to, traced, message_texts, none, more, MayStep, MayLead, no_message, are_quiet, counts_right, count_right, NextEvent}
+use Rattle.jn_machine.proofs.Common.{◌≡◌, ℕ, Bool, true, false, List, [], ◌∷◌, ◌++◌, append-nil, append_assoc, length, drop, refl, sym, ◌∙◌, subst, arith, if◌then◌else◌, list_all, drop-append_seam, list_all-append, When, Text, Line, history_of, Sent, Step, go_on, newly_sent, Setup, Chance, Task, Dismisses, CountsCommits, State, when_of, begun, Deed, nobody, deed_of, own_texts, texts_of, lines_at, is_too_much, come_to, cut_short, made_to, traced, message_texts, none, more, MayStep, MayLead, no_message, are_quiet, counts_right, count_right, NextEvent, reported}
 use Rattle.jn_machine.proofs.Telling.{may_tell, both, first, second}
 use Rattle.jn_report.specs.declared.line.Text.TheVariants as says
 use Rattle.jn_machine.proofs.Ordered.{begun-lines}
-use Rattle.jn_machine.specs.Steps.{reported}
 use Rattle.jn_machine.proofs.Clients.{task-says}
 use Rattle.jn_machine.proofs.Texts.{deed-texts, task-texts, Besides}
 

@@ -1,5 +1,5 @@
 -- What holds of all that is reported, where it holds of what each step of the system may report and of what deeds report besides.
-use Rattle.jn_machine.proofs.Common.{◌≡◌, ℕ, ◌+◌, Bool, true, false, List, [], ◌∷◌, ◌++◌, append-nil, append_assoc, map, length, drop, Option, Some, None, refl, sym, ◌∙◌, ap, subst, if◌then◌else◌, slice_get, list_all, drop-append_seam, list_all-append, ServerNo, ClientNo, Tid, Party, Client, Server, Outside, Event, EventRefusal, EpochsUsedUp, Text, Pick, Sent, World, Memory, Step, after, Printed, FileThere, PageStored, UnitLocked, Course, go, go_on, newly_sent, text_printed, Setup, Chance, prints_found, allowed, Task, Begins, Meets, Acts, Rests, ComesUp, Dismisses, GoesDown, ClosesClients, CountsCommits, State, Use, Calls, Reads, Recovers, Deed, delivered, delivered_at, is_busy, worked, shown, crashed_at, is_used_up, restarted, brought_up, given_up, recovered, served, nothing, working_steps, refusal_of, told_unless, acted, met, next_in, resting, deed_of, outside_texts, own_texts, message_texts, traced, texts_of, Cleans, step_calls, Left}
+use Rattle.jn_machine.proofs.Common.{◌≡◌, ℕ, ◌+◌, Bool, true, false, List, [], ◌∷◌, ◌++◌, append-nil, append_assoc, map, length, drop, Option, Some, None, refl, sym, ◌∙◌, ap, subst, if◌then◌else◌, slice_get, list_all, drop-append_seam, list_all-append, ServerNo, ClientNo, Tid, Party, Client, Server, Outside, Event, EventRefusal, EpochsUsedUp, Text, Pick, Sent, World, Memory, Step, after, Printed, FileThere, PageStored, UnitLocked, Course, go, go_on, newly_sent, text_printed, Setup, Chance, prints_found, allowed, Task, Begins, Meets, Acts, Rests, ComesUp, Dismisses, GoesDown, ClosesClients, CountsCommits, State, Use, Calls, Reads, Recovers, Deed, delivered, delivered_at, is_busy, worked, shown, crashed_at, is_used_up, restarted, brought_up, given_up, recovered, served, nothing, working_steps, refusal_of, told_unless, acted, met, next_in, resting, deed_of, outside_texts, own_texts, message_texts, traced, texts_of, Cleans, step_calls, Left, ClientTable, reported}
 use Rattle.jn_machine.proofs.Telling.{may_tell, event_after, both, Adds, adds, weaker}
 use Rattle.jn_base.specs.declared.names.FileNo.{FileNo}
 use Rattle.jn_base.specs.declared.names.BlockNo.{BlockNo}
@@ -7,8 +7,6 @@ use Rattle.jn_base.specs.declared.names.LockUnit.{LockUnit}
 use Rattle.jn_base.specs.declared.names.MsgKind.{MsgKind}
 use Rattle.jn_schedule.specs.declared.Event.TheVariants as events
 use Rattle.jn_report.specs.declared.line.Text.TheVariants as says
-use Rattle.jn_rows.specs.Client.{ClientTable}
-use Rattle.jn_machine.specs.Steps.{reported}
 
 -- ---- a deed's texts
 

@@ -1,7 +1,5 @@
 -- What a deed does and reports, as acts under an event.
-use Rattle.jn_machine_refines.proofs.Common.{◌≡◌, ℕ, ◌+◌, Bool, true, false, List, [], ◌∷◌, ◌++◌, append-nil, append_assoc, length, drop, map, Option, Some, None, refl, sym, ◌∙◌, ap, subst, if◌then◌else◌, list_all, ServerNo, Outside, Event, TooManyArmed, EpochsUsedUp, Text, Line, Pick, Sent, World, Step, after, run, Act, Does, Refuses, Tells, Shows, steps_in, told_in, is_aside, plain, plain-append, plain-none, Setup, Chance, Use, Calls, Reads, Recovers, Deed, is_used_up, acted, outside_texts, own_texts, message_texts, traced, texts_of, lines_at, may_tell, Adds, adds, behind, Cleans, allowed, prints_found, Printed, Left}
-use Rattle.jn_machine.specs.Steps.{reported}
-use Rattle.jn_system.specs.WholeSystem.Course.{newly_sent}
+use Rattle.jn_machine_refines.proofs.Common.{◌≡◌, ℕ, ◌+◌, Bool, true, false, List, [], ◌∷◌, ◌++◌, append-nil, append_assoc, length, drop, map, Option, Some, None, refl, sym, ◌∙◌, ap, subst, if◌then◌else◌, list_all, ServerNo, Outside, Event, TooManyArmed, EpochsUsedUp, Text, Line, Pick, Sent, World, Step, after, run, Act, Does, Refuses, Tells, Shows, steps_in, told_in, is_aside, plain, plain-append, plain-none, Setup, Chance, Use, Calls, Reads, Recovers, Deed, is_used_up, acted, outside_texts, own_texts, message_texts, traced, texts_of, lines_at, may_tell, Adds, adds, behind, Cleans, allowed, prints_found, Printed, Left, reported, newly_sent}
 use Rattle.std.proofs.Math.Seq.{drop-append_seam}
 use Rattle.jn_base.specs.declared.names.Party.{Party}
 use Rattle.jn_base.specs.declared.device.FaultKind.TheVariants as faults

@@ -1,7 +1,5 @@
 -- An event begins, and then it is refused or done.
-use Rattle.jn_machine_refines.proofs.Common.{◌≡◌, ◌⊎◌, inl, inr, ◌<◌, ℕ, Bool, true, false, List, [], ◌∷◌, ◌++◌, append-nil, drop, length, Option, Some, None, refl, sym, ◌∙◌, ap, subst, nat_lt, slice_get, is_some, ServerNo, Server, Message, AllFiles, Event, EventRefusal, Line, Text, RowOutcome, Sent, Pick, stable, Room, server_step, World, Memory, opening, NextEvent, run, after, work, works, Item, Act, Does, Refuses, Waiting, IsUnder, IsShown, AreStruck, steps_in, world_of, with_event, strike_all, told_in, at_event, lines_of, none_wait, plain, is_show, plain-append, sent-near, Setup, Chance, Task, Begins, Meets, Rests, State, Deed, nobody, no_room, plain_deed, stopped_idle, tells, refusal_of, settling, acted, met, go_on, most_messages, is_too_much, come_to, cut_short, made, own_texts, IsUsed, Befalls, Moment, DoesStep, behind, Left, whole_only}
-use Rattle.jn_machine.specs.Steps.{reported}
-use Rattle.jn_machine.proofs.Clients.{HasTables, event-says}
+use Rattle.jn_machine_refines.proofs.Common.{◌≡◌, ◌⊎◌, inl, inr, ◌<◌, ℕ, Bool, true, false, List, [], ◌∷◌, ◌++◌, append-nil, drop, length, Option, Some, None, refl, sym, ◌∙◌, ap, subst, nat_lt, slice_get, is_some, ServerNo, Server, Message, AllFiles, Event, EventRefusal, Line, Text, RowOutcome, Sent, Pick, stable, Room, server_step, World, Memory, opening, NextEvent, run, after, work, works, Item, Act, Does, Refuses, Waiting, IsUnder, IsShown, AreStruck, steps_in, world_of, with_event, strike_all, told_in, at_event, lines_of, none_wait, plain, is_show, plain-append, sent-near, Setup, Chance, Task, Begins, Meets, Rests, State, Deed, nobody, no_room, plain_deed, stopped_idle, tells, refusal_of, settling, acted, met, go_on, most_messages, is_too_much, come_to, cut_short, made, own_texts, IsUsed, Befalls, Moment, DoesStep, behind, Left, whole_only, reported, HasTables, event-says}
 use Rattle.jn_schedule.specs.declared.Event.TheVariants as events
 use Rattle.jn_report.specs.declared.line.Text.TheVariants as says
 use Rattle.jn_machine_refines.proofs.Behind.{ups-name-none}

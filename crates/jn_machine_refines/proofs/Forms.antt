@@ -1,6 +1,5 @@
 -- Where a run under its schedule stands: between two events, with one that has begun, or within a settle.
-use Rattle.jn_machine_refines.proofs.Common.{◌≡◌, ◌<◌, ℕ, Bool, ◌+◌, true, false, List, [], ◌∷◌, ◌++◌, append-nil, append_assoc, length, map, refl, sym, ◌∙◌, ap, subst, arith, ◌||◌, list_all, list_any, ServerNo, AllFiles, Event, World, opening, NextEvent, after, run, Text, Item, Act, Waiting, IsReported, events_of, world_of, after_item, waiting_in, strike_all, told_under, lines_of, none_wait, plain, is_show, Setup, Task, Begins, Meets, CutShort, ending, is_up, Moment, behind, IsAsIn, IsToldBy, IsRetold, IsRetoldInPart}
-use Rattle.jn_machine.proofs.Clients.{HasTables}
+use Rattle.jn_machine_refines.proofs.Common.{◌≡◌, ◌<◌, ℕ, Bool, ◌+◌, true, false, List, [], ◌∷◌, ◌++◌, append-nil, append_assoc, length, map, refl, sym, ◌∙◌, ap, subst, arith, ◌||◌, list_all, list_any, ServerNo, AllFiles, Event, World, opening, NextEvent, after, run, Text, Item, Act, Waiting, IsReported, events_of, world_of, after_item, waiting_in, strike_all, told_under, lines_of, none_wait, plain, is_show, Setup, Task, Begins, Meets, CutShort, ending, is_up, Moment, behind, IsAsIn, IsToldBy, IsRetold, IsRetoldInPart, HasTables}
 use Rattle.jn_schedule.specs.declared.Event.TheVariants as events
 use Rattle.jn_machine_refines.proofs.Items.{waits_after, IsNext, one_more, reported-more, world-more, waits-more, events-more, length-more}
 use Rattle.jn_machine_refines.proofs.Besides.{is_settling}

@@ -1,10 +1,6 @@
 -- Where a run under its schedule stands, and how a step of it goes on.
-use Rattle.jn_machine_refines.proofs.Common.{◌≡◌, ◌⊎◌, inl, inr, Bool, true, false, List, [], ◌∷◌, ◌++◌, length, Some, refl, sym, ◌∙◌, ap, subst, arith, ◌||◌, nat_lt, if◌then◌else◌, list_all, AtEvent, Line, Text, World, commits_in, Step, IsRun, run, Course, go, go_on, Act, Waiting, steps_in, told_in, at_event, plain, plain-append, run-within, Setup, Chance, Task, Stage, InSchedule, State, when_at, when_of, next_at, begun, Deed, deed_of, texts_of, lines_at, most_messages, is_too_much, come_to, cut_short, made, Devices, Befalls, is_up, Moment, DoesStep, behind}
-use Rattle.jn_base.specs.declared.names.ClientNo.{ClientNo}
+use Rattle.jn_machine_refines.proofs.Common.{◌≡◌, ◌⊎◌, inl, inr, Bool, true, false, List, [], ◌∷◌, ◌++◌, length, Some, refl, sym, ◌∙◌, ap, subst, arith, ◌||◌, nat_lt, if◌then◌else◌, list_all, AtEvent, Line, Text, World, commits_in, Step, IsRun, run, Course, go, go_on, Act, Waiting, steps_in, told_in, at_event, plain, plain-append, run-within, Setup, Chance, Task, Stage, InSchedule, State, when_at, when_of, next_at, begun, Deed, deed_of, texts_of, lines_at, most_messages, is_too_much, come_to, cut_short, made, Devices, Befalls, is_up, Moment, DoesStep, behind, ClientNo, own_texts, reported, HasTables}
 use Rattle.jn_rows.specs.Client.{ClientTable}
-use Rattle.jn_system.specs.WholeSystem.World.{own_texts}
-use Rattle.jn_machine.specs.Steps.{reported}
-use Rattle.jn_machine.proofs.Clients.{HasTables}
 use Rattle.jn_row_ranges.specs.Within.{Within}
 use Rattle.jn_machine_refines.proofs.Behind.{ups-name-none, run-behind}
 use Rattle.jn_machine_refines.proofs.Acts.{texts_by, plain-texts}

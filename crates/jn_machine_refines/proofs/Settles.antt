@@ -1,7 +1,5 @@
 -- A step of a settle.
-use Rattle.jn_machine_refines.proofs.Common.{◌≡◌, ◌⊎◌, inl, inr, ◌<◌, ℕ, zero, suc, ◌+◌, Bool, true, false, List, [], ◌∷◌, ◌++◌, append-nil, append_assoc, drop, Option, Some, None, refl, sym, ◌∙◌, ap, subst, arith, ◌&&◌, if◌then◌else◌, slice_get, list_all, list_all-append, ServerNo, Server, Message, AllFiles, Event, Line, AtEvent, Text, World, opening, servers_from, Step, NextEvent, IsRun, run, after, go_on, Item, Act, Waiting, AreStruck, may_act, steps_in, world_of, after_item, strike_all, told_in, at_event, lines_of, none_wait, plain, plain-append, sent-near, Setup, Chance, Task, Acts, Rests, State, Deed, nothing, is_busy, servers_of, first_busy, next_event, resting, acted, is_too_much, come_to, cut_short, made, own_texts, Befalls, Moment, DoesStep, behind}
-use Rattle.jn_machine.specs.Steps.{reported}
-use Rattle.jn_machine.proofs.Clients.{HasTables, event-says}
+use Rattle.jn_machine_refines.proofs.Common.{◌≡◌, ◌⊎◌, inl, inr, ◌<◌, ℕ, zero, suc, ◌+◌, Bool, true, false, List, [], ◌∷◌, ◌++◌, append-nil, append_assoc, drop, Option, Some, None, refl, sym, ◌∙◌, ap, subst, arith, ◌&&◌, if◌then◌else◌, slice_get, list_all, list_all-append, ServerNo, Server, Message, AllFiles, Event, Line, AtEvent, Text, World, opening, servers_from, Step, NextEvent, IsRun, run, after, go_on, Item, Act, Waiting, AreStruck, may_act, steps_in, world_of, after_item, strike_all, told_in, at_event, lines_of, none_wait, plain, plain-append, sent-near, Setup, Chance, Task, Acts, Rests, State, Deed, nothing, is_busy, servers_of, first_busy, next_event, resting, acted, is_too_much, come_to, cut_short, made, own_texts, Befalls, Moment, DoesStep, behind, reported, HasTables, event-says}
 use Rattle.jn_schedule.specs.declared.Event.TheVariants as events
 use Rattle.jn_machine_refines.proofs.Behind.{ups-name-none}
 use Rattle.jn_machine_refines.proofs.Items.{waits_after, one_more, run-both, is-run-both, lines-more, steps-join, told-join, strike-join, struck-join}

@@ -1,6 +1,5 @@
 -- Every written run is retold.
-use Rattle.jn_machine_refines.proofs.Common.{◌≡◌, ◌⊎◌, inl, inr, ◌≤◌, ◌<◌, ℕ, zero, suc, ◌+◌, List, [], ◌∷◌, append-nil, Some, None, refl, sym, ◌∙◌, ap, subst, arith, AllByRecursion, ServerNo, AllFiles, Event, Item, events_of, Setup, Task, InSchedule, AtEnd, CutShort, Stage, next_at, Devices, none, more, Moment, DoesStep, Leads, before, AreImages, IsWritten, IsRetold, IsRetoldInPart}
-use Rattle.jn_machine.proofs.Clients.{HasTables, does-tables}
+use Rattle.jn_machine_refines.proofs.Common.{◌≡◌, ◌⊎◌, inl, inr, ◌≤◌, ◌<◌, ℕ, zero, suc, ◌+◌, List, [], ◌∷◌, append-nil, Some, None, refl, sym, ◌∙◌, ap, subst, arith, AllByRecursion, ServerNo, AllFiles, Event, Item, events_of, Setup, Task, InSchedule, AtEnd, CutShort, Stage, next_at, Devices, none, more, Moment, DoesStep, Leads, before, AreImages, IsWritten, IsRetold, IsRetoldInPart, HasTables, does-tables}
 use Rattle.jn_schedule.specs.Ranges.{EventInRange}
 use Rattle.jn_machine.proofs.Computed.{join}
 use Rattle.jn_machine_refines.proofs.Forms.{Between, Held, between, meeting, settling, cut, ended, between-part, meeting-part, amid-part, told-by}

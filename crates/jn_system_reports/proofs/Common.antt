@@ -8,7 +8,7 @@ pub use Rattle.jn_base.specs.declared.names.WorkId.{WorkId}
 pub use Rattle.jn_base.specs.declared.names.Tickets.{Tickets}
 pub use Rattle.jn_base.specs.declared.op.Answer.{Answer}
 pub use Rattle.jn_base.specs.Names.{work_eq, tid_eq, request_of, server_eq, client_eq, request_eq, unit_eq, is_stop, operation_of, file_eq, block_eq}
-pub use Rattle.jn_order.specs.Files.{Files, change, answer_to, AllFiles, or_else, zeros, there, files_after, all_files_after, effect, is_did, nothing}
+pub use Rattle.jn_order.specs.Files.{Files, change, answer_to, AllFiles, or_else, zeros, there, files_after, all_files_after}
 pub use Rattle.jn_records.specs.NetLists.{list_change, length_with, intention_change}
 pub use Rattle.jn_locks.specs.declared.words.Mode.TheVariants.{Read, IntentionWrite}
 pub use Rattle.jn_records.specs.declared.intention.Intention.{Intention}

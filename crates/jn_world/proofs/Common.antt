@@ -76,6 +76,7 @@ pub use Rattle.jn_rows.specs.Outcomes.{Sent}
 pub use Rattle.jn_row_ranges.specs.Taking.{sent_for, AllCanBeTaken, ClientFits, CommandFits}
 pub use Rattle.jn_machine.specs.Steps.{message_texts, traced, is_too_much, come_to, cut_short, made_to}
 pub use Rattle.jn_world_refines.proofs.Posted.{none-traced, lines-append}
+pub use Rattle.jn_machine.specs.Deeds.{texts_taken, texts_commanded, Deed, nothing, served, working_steps, given_up, delivered, delivered_at, worked, is_busy, room, stopped_idle, scrubbed, showing, crashed_at, recovering, recovered, is_used_up, restarted, brought_up}
 pub use Rattle.jn_row_ranges.proofs.Taking.{over-fits, command-fits, command-draws, take-fits, take-number, new-fits}
 pub use Rattle.jn_world_refines.proofs.Crashing.{down-already-step, crashed-step}
 pub use Rattle.jn_world_refines.proofs.Dismissing.{there-is, dismissed-step}

@@ -1,13 +1,11 @@
 -- The event under way changes only as one begins.
-use Rattle.jn_world.proofs.Common.{◌≡◌, ℕ, ◌+◌, Bool, true, false, List, [], ◌∷◌, ◌++◌, map, drop, Option, Some, None, is_some, true≢false, refl, sym, ◌∙◌, ap, subst, arith, if◌then◌else◌, slice_get, ClientNo, ServerNo, Client, Server, EventRefusal, Sent, Pick, Event, clients_from, handing, working, is_going, Setup, Chance, EpochsUsedUp, acted, met, resting, deed_of, settling, asking, servers_of, next_in, refusal_of, none, more, Moment, DoesStep, Leads, is_too_much, come_to, cut_short, made_to, Task, Begins, Meets, Acts, Rests, ComesUp, Dismisses, GoesDown, ClosesClients, CountsCommits, Stage, InSchedule, AtEnd, CutShort, State, begun, next_at, Left}
-use Rattle.jn_rows.specs.Client.{ClientTable}
+use Rattle.jn_world.proofs.Common.{◌≡◌, ℕ, ◌+◌, Bool, true, false, List, [], ◌∷◌, ◌++◌, map, drop, Option, Some, None, is_some, true≢false, refl, sym, ◌∙◌, ap, subst, arith, if◌then◌else◌, slice_get, ClientNo, ServerNo, Client, Server, EventRefusal, Sent, Pick, Event, clients_from, handing, working, is_going, Setup, Chance, EpochsUsedUp, acted, met, resting, deed_of, settling, asking, servers_of, next_in, refusal_of, none, more, Moment, DoesStep, Leads, is_too_much, come_to, cut_short, made_to, Task, Begins, Meets, Acts, Rests, ComesUp, Dismisses, GoesDown, ClosesClients, CountsCommits, Stage, InSchedule, AtEnd, CutShort, State, begun, next_at, Left, ClientTable, Deed, nothing, served, working_steps, given_up, delivered, delivered_at, worked, is_busy, room, stopped_idle, scrubbed, showing, crashed_at, recovering, recovered, is_used_up, restarted, brought_up}
 use Rattle.jn_storage.specs.DeviceCalls.{step_calls}
 use Rattle.jn_system.specs.WholeSystem.Steps.{Step}
 use Rattle.jn_system.specs.WholeSystem.World.{World, Memory}
 use Rattle.jn_schedule.specs.declared.Event.TheVariants as events
 use Rattle.jn_system.specs.WholeSystem.Course.{Course, go, go_on}
 use Rattle.jn_report.specs.declared.line.Text.TheVariants as says
-use Rattle.jn_machine.specs.Deeds.{Deed, nothing, served, working_steps, given_up, delivered, delivered_at, worked, is_busy, room, stopped_idle, scrubbed, showing, crashed_at, recovering, recovered, is_used_up, restarted, brought_up}
 use Rattle.jn_machine.proofs.Telling.{adds, event_after}
 
 -- how many events are still to begin

@@ -1,10 +1,9 @@
 -- Steps of clients: each takes a message, is told a command, or sends once more.
-use Rattle.jn_world_refines.proofs.Common.{◌≡◌, ◌-◌, ℕ, Bool, true, false, List, [], ◌∷◌, ◌++◌, append-nil, length, drop, Option, Some, None, refl, sym, ◌∙◌, ap, subst, if◌then◌else◌, nat_tests, ClientNo, Client, client_eq, DeviceState, Posted, with_delivered, Deliver, after, took, taken_by, handed, World, at_client, Line, Taken, ClientTable, new_table, take_row, Sent, pairs_view, StoreView, Setup, plain, delivered, no_room, Moment, message_texts, traced, lines_at, Task, when_of, Standing, is_client_number, Stands, posted_by, with_sent, with_client, texts_taken, ActsNext, IsStepTo, arith, left-told}
+use Rattle.jn_world_refines.proofs.Common.{◌≡◌, ◌-◌, ℕ, Bool, true, false, List, [], ◌∷◌, ◌++◌, append-nil, length, drop, Option, Some, None, refl, sym, ◌∙◌, ap, subst, if◌then◌else◌, nat_tests, ClientNo, Client, client_eq, DeviceState, Posted, with_delivered, Deliver, after, took, taken_by, handed, World, at_client, Line, Taken, ClientTable, new_table, take_row, Sent, pairs_view, StoreView, Setup, plain, delivered, no_room, Moment, message_texts, traced, lines_at, Task, when_of, Standing, is_client_number, Stands, posted_by, with_sent, with_client, texts_taken, ActsNext, IsStepTo, arith, left-told, took_message}
 use Rattle.std.proofs.Common.{slice_get}
 use Rattle.jn_rows.specs.declared.client.Taken.TheVariants as taken
 use Rattle.jn_schedule.specs.declared.Event.TheVariants as events
 use Rattle.jn_row_ranges.specs.Taking.{sent_for}
-use Rattle.jn_machine.specs.Deeds.{took_message}
 use Rattle.jn_world_refines.proofs.Core.{ClientsStand, client-is, other-is}
 use Rattle.jn_world_refines.proofs.Servers.{servers-same}
 use Rattle.jn_world_refines.proofs.Clients.{one-of, client-moved, other-stays, taken-none, new-stays}

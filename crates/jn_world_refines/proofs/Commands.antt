@@ -1,9 +1,8 @@
 -- Steps of clients without a message: each is told a command, or sends once more.
-use Rattle.jn_world_refines.proofs.Common.{◌≡◌, ◌-◌, ℕ, Bool, true, false, List, [], ◌++◌, append-nil, length, slice_get, drop, Some, None, refl, sym, ◌∙◌, ap, subst, arith, if◌then◌else◌, nat_tests, ClientNo, Client, client_eq, DeviceState, Tell, Again, after, commanded, sent_now, World, commits_in, Line, ClientTable, Commanded, Refuses, command_row, again_row, pairs_view, StoreView, Setup, Moment, message_texts, traced, lines_at, Task, when_of, Standing, is_client_number, Stands, posted_by, with_sent, with_client, texts_commanded, sent_commanded, ActsNext, IsStepTo}
+use Rattle.jn_world_refines.proofs.Common.{◌≡◌, ◌-◌, ℕ, Bool, true, false, List, [], ◌++◌, append-nil, length, slice_get, drop, Some, None, refl, sym, ◌∙◌, ap, subst, arith, if◌then◌else◌, nat_tests, ClientNo, Client, client_eq, DeviceState, Tell, Again, after, commanded, sent_now, World, commits_in, Line, ClientTable, Commanded, Refuses, command_row, again_row, pairs_view, StoreView, Setup, Moment, message_texts, traced, lines_at, Task, when_of, Standing, is_client_number, Stands, posted_by, with_sent, with_client, texts_commanded, sent_commanded, ActsNext, IsStepTo, tables_commanded}
 use Rattle.jn_rows.specs.ClientLaws.{after_command}
 use Rattle.jn_base.specs.declared.op.Command.{Command}
 use Rattle.jn_rows.specs.Client.{Sends}
-use Rattle.jn_machine.specs.Deeds.{tables_commanded}
 use Rattle.jn_world_refines.proofs.Core.{client-is}
 use Rattle.jn_schedule.specs.declared.Event.TheVariants as events
 use Rattle.jn_world_refines.proofs.Servers.{servers-same, clients-same}

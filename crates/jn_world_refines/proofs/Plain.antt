@@ -1,10 +1,6 @@
 -- A step of the system for which no device is called.
-use Rattle.jn_world_refines.proofs.Common.{◌≡◌, ℕ, ◌+◌, Bool, List, [], ◌∷◌, ◌++◌, append-nil, length, drop, Some, None, refl, sym, ◌∙◌, ap, subst, arith, ◌||◌, list_any, ServerNo, Tid, Party, tid_eq, DeviceState, Posted, Place, Step, IsStep, after, World, commits_in, has_line, Text, Line, Carries, delivered_by, ClientTable, Sent, Event, go, pairs_view, StoreView, Setup, Chance, plain, nothing, acted, deed_of, Moment, message_texts, traced, lines_at, Task, when_of, next_task, begun, Standing, Stands, posted_by, with_sent, ActsNext, IsStepTo, left_by_step, none_free, no_maps, Pick, Beside}
-use Rattle.jn_base.specs.declared.names.ClientNo.{ClientNo}
+use Rattle.jn_world_refines.proofs.Common.{◌≡◌, ℕ, ◌+◌, Bool, List, [], ◌∷◌, ◌++◌, append-nil, length, drop, Some, None, refl, sym, ◌∙◌, ap, subst, arith, ◌||◌, list_any, ServerNo, Tid, Party, tid_eq, DeviceState, Posted, Place, Step, IsStep, after, World, commits_in, has_line, Text, Line, Carries, delivered_by, ClientTable, Sent, Event, go, pairs_view, StoreView, Setup, Chance, plain, nothing, acted, deed_of, Moment, message_texts, traced, lines_at, Task, when_of, next_task, begun, Standing, Stands, posted_by, with_sent, ActsNext, IsStepTo, left_by_step, none_free, no_maps, Pick, Beside, ClientNo, Deed, own_texts, reported}
 use Rattle.std.specs.Prelude.{Option}
-use Rattle.jn_machine.specs.Deeds.{Deed}
-use Rattle.jn_system.specs.WholeSystem.World.{own_texts}
-use Rattle.jn_machine.specs.Steps.{reported}
 use Rattle.jn_world_refines.proofs.Made.{carried-length, quiet-texts}
 use Rattle.jn_world_refines.proofs.Posted.{sent-posted, new-posted, none-traced, texts-are}
 use Rattle.jn_world_refines.proofs.Core.{ServersStand, ClientsStand, NetStands, chance-of, last-by, last-of, deed-made, step-made, says-own}

@@ -1,9 +1,6 @@
 -- States but for the steps so far, which nothing looks at.
-use Rattle.jn_wrong.proofs.Common.{◌≡◌, ℕ, Bool, true, false, List, [], ◌∷◌, ◌++◌, append-nil, length, drop, refl, sym, ◌∙◌, ap, subst, drop-append_seam, Line, Sent, World, ◌||◌, if◌then◌else◌, nat_lt, Party, Text, Step, Course, go, go_on, newly_sent, Setup, Chance, Task, Begins, Meets, Acts, Rests, ComesUp, Dismisses, GoesDown, ClosesClients, CountsCommits, State, when_of, begun, Deed, deed_of, outside_texts, own_texts, message_texts, traced, lines_at, most_messages, is_too_much, come_to, cut_short, made, done}
-use Rattle.jn_base.specs.declared.names.ClientNo.{ClientNo}
-use Rattle.jn_rows.specs.Client.{ClientTable}
+use Rattle.jn_wrong.proofs.Common.{◌≡◌, ℕ, Bool, true, false, List, [], ◌∷◌, ◌++◌, append-nil, length, drop, refl, sym, ◌∙◌, ap, subst, drop-append_seam, Line, Sent, World, ◌||◌, if◌then◌else◌, nat_lt, Party, Text, Step, Course, go, go_on, newly_sent, Setup, Chance, Task, Begins, Meets, Acts, Rests, ComesUp, Dismisses, GoesDown, ClosesClients, CountsCommits, State, when_of, begun, Deed, deed_of, outside_texts, own_texts, message_texts, traced, lines_at, most_messages, is_too_much, come_to, cut_short, made, done, ClientNo, ClientTable, reported}
 use Rattle.std.specs.Prelude.{Option, None}
-use Rattle.jn_machine.specs.Steps.{reported}
 use Rattle.jn_wrong.proofs.StillRuns.{still}
 
 abbrev pub bare_course : Course → Course

@@ -13,8 +13,10 @@ pub use Rattle.jn_machine.specs.Chances.{Setup, Chance, prints_found, works_foun
 pub use Rattle.jn_machine.specs.Tasks.{Task, Begins, Meets, Acts, Rests, ComesUp, Dismisses, GoesDown, ClosesClients, CountsCommits, State, when_of, begun, next_task, AtEnd, InSchedule, Stage, CutShort, next_at, when_at}
 pub use Rattle.jn_machine.specs.Deeds.{Deed, Reads, stopped_idle, shown, showing, pick_read, recovering, recovered, given_up, is_used_up, brought_up, plain, served, crashed_at, scrubbed, Use, uses, Arms, Decays, Revives, room, no_room, delivered, delivered_at, nothing, is_busy, Recovers, restarted, Cleans, PowersOff, Nothing, Calls, Disarms, worked, working_steps, is_busy_with, recovers}
 pub use Rattle.jn_machine.specs.Events.{deed_of, met, acted, ending, told_unless, first_busy, servers_of, next_event, resting, next_in, asking, settling}
-pub use Rattle.jn_machine.specs.Steps.{outside_texts, message_texts, traced, most_messages, is_too_much, come_to, cut_short, made, done, next, next_by, texts_of}
+pub use Rattle.jn_machine.specs.Steps.{outside_texts, message_texts, traced, most_messages, is_too_much, come_to, cut_short, made, done, reported, next, next_by, texts_of}
 pub use Rattle.jn_report.specs.Lines.{lines_at}
+pub use Rattle.jn_base.specs.declared.names.ClientNo.{ClientNo}
+pub use Rattle.jn_rows.specs.Client.{ClientTable, Commanded, Refuses, Sends, command_row, new_table, over, if_server, if_idle, if_transaction, if_no_transaction, if_open, if_not_open, work_at as open_at, take_row, again_row, sent_again, if_waits, begun_row, opened_row, answer_line, outcome_row, decided_row, is_current}
 pub use Rattle.jn_base.specs.declared.names.ServerNo.{ServerNo}
 pub use Rattle.jn_order.specs.Files.{no_files, AllFiles, Files, change, effect, answer_to, files_after, is_did}
 unfoldable pub use Rattle.jn_order.specs.Files.{zeros}
@@ -55,9 +57,7 @@ pub use Rattle.jn_report.specs.declared.line.When.{When}
 pub use Rattle.jn_report.specs.declared.line.When.TheVariants.{Event as AtEvent, End}
 pub use Rattle.jn_machine.specs.Examples.{calm, setup, one_write, calmly, at_step, stopped, report, line}
 unfoldable pub use Rattle.jn_machine.specs.Examples.{block_of}
-pub use Rattle.jn_base.specs.declared.names.ClientNo.{ClientNo}
 pub use Rattle.jn_base.specs.declared.op.Command.{Command}
-pub use Rattle.jn_rows.specs.Client.{Commanded, Refuses, Sends, command_row, new_table, over, ClientTable, if_server, if_idle, if_transaction, if_no_transaction, if_open, if_not_open, work_at as open_at, take_row, again_row, sent_again, if_waits, begun_row, opened_row, answer_line, outcome_row, decided_row, is_current}
 pub use Rattle.jn_storage.specs.DeviceCalls.{row_calls, step_calls}
 pub use Rattle.jn_base.specs.declared.device.Outside.{Outside}
 pub use Rattle.jn_machine.specs.Runs.{none, more, Moment, Leads, DoesStep, MayLead}
@@ -118,6 +118,7 @@ pub use Rattle.jn_records.specs.declared.record.Record.TheVariants.{Free, Intent
 pub use Rattle.jn_records.specs.Heads.{is_free as is_free_head}
 unfoldable pub use Rattle.jn_records.specs.Heads.{head_at}
 pub use Rattle.jn_sets.specs.Pool.{free_count, rubbish_count, is_free, is_rubbish}
+pub use Rattle.jn_machine.proofs.Clients.{task-says, HasTables, begun-said, begun-tables, become}
 pub use Rattle.jn_wrong.specs.Showing.{unit_printed, prints_unit, AreThere, PrintsAll, printed_lines, Shows}
 pub use Rattle.jn_system.specs.WholeSystem.LockFacts.{LockFacts, ServerFact, UpFact}
 pub use Rattle.jn_wrong.specs.Wanting.{IsShort, WasShort, OfText, OfLines, OfCause}

@@ -1,7 +1,5 @@
 -- A message that a settle hands over waits no more, so that no settle hands it over again.
-use Rattle.jn_wrong.proofs.Common.{◌≡◌, ◌<◌, ℕ, ◌+◌, Bool, true, false, List, [], ◌∷◌, ◌++◌, length, length-append, drop, Option, Some, None, refl, sym, ◌∙◌, ap, subst, arith, ◌&&◌, not, nat_eq, nat_lt, if◌then◌else◌, slice_get, drop-append_seam, nat_tests, ServerNo, Client, Server, AllFiles, Event, Sent, Pick, World, Memory, Room, Step, Deliver, StopDelivery, after, Course, without_number, still_waiting, numbered, go, go_on, handing, Setup, Chance, Task, Rests, Dismisses, Stage, CutShort, State, next_at, next_task, begun, Deed, room, no_room, delivered, delivered_at, servers_of, first_busy, next_event, next_in, resting, deed_of, is_too_much, come_to, cut_short, made, done, none, more, MayLead, before, HandsOver, Left}
-use Rattle.jn_base.specs.declared.names.ClientNo.{ClientNo}
-use Rattle.jn_rows.specs.Client.{ClientTable}
+use Rattle.jn_wrong.proofs.Common.{◌≡◌, ◌<◌, ℕ, ◌+◌, Bool, true, false, List, [], ◌∷◌, ◌++◌, length, length-append, drop, Option, Some, None, refl, sym, ◌∙◌, ap, subst, arith, ◌&&◌, not, nat_eq, nat_lt, if◌then◌else◌, slice_get, drop-append_seam, nat_tests, ServerNo, Client, Server, AllFiles, Event, Sent, Pick, World, Memory, Room, Step, Deliver, StopDelivery, after, Course, without_number, still_waiting, numbered, go, go_on, handing, Setup, Chance, Task, Rests, Dismisses, Stage, CutShort, State, next_at, next_task, begun, Deed, room, no_room, delivered, delivered_at, servers_of, first_busy, next_event, next_in, resting, deed_of, is_too_much, come_to, cut_short, made, done, none, more, MayLead, before, HandsOver, Left, ClientNo, ClientTable}
 use Rattle.jn_schedule.specs.declared.Event.TheVariants as events
 use Rattle.jn_system_settling.proofs.Settling.Burdens.{are_below, below-both, below-more, below-new}
 use Rattle.jn_system_settling.proofs.Settling.Courses.{below-still}

@@ -1,10 +1,5 @@
 -- The lines of a step that report refused faults are those that its device reported.
-use Rattle.jn_wrong.proofs.Common.{◌≡◌, ◌≢◌, ◌⊎◌, inl, inr, ℕ, ◌+◌, Bool, true, false, List, [], ◌∷◌, ◌++◌, append-nil, map, length, Option, Some, None, is_some, refl, ◌∙◌, ap, arith, not, filter, if◌then◌else◌, slice_get, ServerNo, Party, Client, Server, Outside, DeviceState, Event, EventRefusal, TooManyArmed, EpochsUsedUp, Text, Line, Sent, Pick, World, Memory, Printed, FileThere, PageStored, UnitLocked, Step, run, Course, go_on, newly_sent, text_printed, Setup, Chance, prints_found, allowed, Task, Begins, Meets, Acts, Rests, ComesUp, Dismisses, GoesDown, ClosesClients, CountsCommits, CutShort, State, when_of, begun, Use, Nothing, Calls, Reads, Recovers, PowersOff, Decays, Revives, Arms, Disarms, Deed, delivered, delivered_at, is_busy, worked, served, working_steps, nothing, shown, crashed_at, is_used_up, restarted, recovered, given_up, brought_up, Devices, IsCalled, IsRecovery, IsUsed, refusal_of, told_unless, acted, met, next_in, resting, deed_of, outside_texts, own_texts, message_texts, traced, texts_of, lines_at, is_too_much, come_to, cut_short, Moment, DoesStep, may_tell, begun-lines, powered_off, Cleans, step_calls, is_outside, outside_lines, outside_at, TellsOf, TellsRaised, AreToldBy, TellsFaults, Left}
-use Rattle.jn_base.specs.declared.names.ClientNo.{ClientNo}
-use Rattle.jn_rows.specs.Client.{ClientTable}
-use Rattle.std.specs.List.{list_all}
-use Rattle.jn_machine.specs.Steps.{reported}
-use Rattle.jn_machine.proofs.Clients.{task-says}
+use Rattle.jn_wrong.proofs.Common.{◌≡◌, ◌≢◌, ◌⊎◌, inl, inr, ℕ, ◌+◌, Bool, true, false, List, [], ◌∷◌, ◌++◌, append-nil, map, length, Option, Some, None, is_some, refl, ◌∙◌, ap, arith, not, filter, if◌then◌else◌, slice_get, ServerNo, Party, Client, Server, Outside, DeviceState, Event, EventRefusal, TooManyArmed, EpochsUsedUp, Text, Line, Sent, Pick, World, Memory, Printed, FileThere, PageStored, UnitLocked, Step, run, Course, go_on, newly_sent, text_printed, Setup, Chance, prints_found, allowed, Task, Begins, Meets, Acts, Rests, ComesUp, Dismisses, GoesDown, ClosesClients, CountsCommits, CutShort, State, when_of, begun, Use, Nothing, Calls, Reads, Recovers, PowersOff, Decays, Revives, Arms, Disarms, Deed, delivered, delivered_at, is_busy, worked, served, working_steps, nothing, shown, crashed_at, is_used_up, restarted, recovered, given_up, brought_up, Devices, IsCalled, IsRecovery, IsUsed, refusal_of, told_unless, acted, met, next_in, resting, deed_of, outside_texts, own_texts, message_texts, traced, texts_of, lines_at, is_too_much, come_to, cut_short, Moment, DoesStep, may_tell, begun-lines, powered_off, Cleans, step_calls, is_outside, outside_lines, outside_at, TellsOf, TellsRaised, AreToldBy, TellsFaults, Left, ClientNo, ClientTable, list_all, reported, task-says}
 use Rattle.jn_base.specs.declared.device.FaultKind.TheVariants as faults
 use Rattle.jn_schedule.specs.declared.Event.TheVariants as events
 use Rattle.jn_report.specs.declared.line.Text.TheVariants as says

@@ -1,7 +1,5 @@
 -- What the lines of a run report, read one after another: what holds of it at each step of the system holds of the run.
-use Rattle.jn_wrong.proofs.Common.{◌≡◌, ℕ, ◌+◌, Bool, true, false, List, [], ◌∷◌, ◌++◌, append-nil, append_assoc, map, length, drop, refl, sym, ◌∙◌, ap, subst, arith, ◌&&◌, if◌then◌else◌, list_all, drop-append_seam, ServerNo, Tid, Party, Outside, When, Text, Line, Sent, World, has_line, named_now, Step, after, Course, go, go_on, newly_sent, Setup, Chance, Task, Begins, Meets, Acts, Rests, ComesUp, Dismisses, GoesDown, ClosesClients, CountsCommits, State, when_of, begun, Use, Nothing, Calls, Reads, Recovers, PowersOff, Decays, Revives, Arms, Disarms, Deed, deed_of, outside_texts, own_texts, message_texts, traced, texts_of, lines_at, is_too_much, come_to, cut_short, done, none, more, MayLead, is_note, is_of_delivery, is_answer, begun-lines, task-texts, Besides, are_read, Cleans}
-use Rattle.jn_machine.specs.Steps.{reported}
-use Rattle.jn_machine.proofs.Clients.{HasTables, begun-said, begun-tables, become}
+use Rattle.jn_wrong.proofs.Common.{◌≡◌, ℕ, ◌+◌, Bool, true, false, List, [], ◌∷◌, ◌++◌, append-nil, append_assoc, map, length, drop, refl, sym, ◌∙◌, ap, subst, arith, ◌&&◌, if◌then◌else◌, list_all, drop-append_seam, ServerNo, Tid, Party, Outside, When, Text, Line, Sent, World, has_line, named_now, Step, after, Course, go, go_on, newly_sent, Setup, Chance, Task, Begins, Meets, Acts, Rests, ComesUp, Dismisses, GoesDown, ClosesClients, CountsCommits, State, when_of, begun, Use, Nothing, Calls, Reads, Recovers, PowersOff, Decays, Revives, Arms, Disarms, Deed, deed_of, outside_texts, own_texts, message_texts, traced, texts_of, lines_at, is_too_much, come_to, cut_short, done, none, more, MayLead, is_note, is_of_delivery, is_answer, begun-lines, task-texts, Besides, are_read, Cleans, reported, HasTables, begun-said, begun-tables, become}
 use Rattle.jn_report.specs.declared.line.Text.TheVariants as says
 
 both : (a b : Bool) → a ≡ true → b ≡ true → (a && b) ≡ true

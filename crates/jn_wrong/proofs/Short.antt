@@ -1,6 +1,5 @@
 -- In any run, each abort that is reported for want of room was short of it at a step.
-use Rattle.jn_wrong.proofs.Common.{◌≡◌, ℕ, zero, suc, ◌+◌, Bool, true, false, List, [], ◌∷◌, ◌++◌, map, length, drop, Option, Some, None, refl, sym, ◌∙◌, ap, subst, arith, if◌then◌else◌, ◌&&◌, nat_lt, slice_get, list_all, ServerNo, ClientNo, Party, Client, Server, Resource, Outside, AllFiles, Need, Message, Event, EventRefusal, EpochsUsedUp, When, Text, Line, Sent, Pick, World, Memory, new_memory, Room, Step, Deliver, IsRun, run, after, LockFacts, ServerFact, Course, go, go_on, handing, working, on-world, Setup, Chance, Task, Begins, Meets, Acts, Rests, ComesUp, Dismisses, GoesDown, ClosesClients, CountsCommits, State, when_of, begun, Use, Nothing, Calls, Reads, Recovers, PowersOff, Decays, Revives, Arms, Disarms, Deed, room, delivered, delivered_at, is_busy, worked, working_steps, served, nothing, stopped_idle, crashed_at, recovering, recovered, restarted, given_up, brought_up, is_used_up, Devices, IsServed, Alone, IsUsed, refusal_of, acted, met, next_in, resting, deed_of, outside_texts, message_texts, traced, texts_of, lines_at, is_too_much, come_to, cut_short, none, more, Moment, DoesStep, Leads, before, closed_world, IsWritten, begun-lines, task-texts, Besides, IsShort, WasShort, OfText, OfLines, join, Cleans, step_calls, Left}
-use Rattle.jn_machine.proofs.Clients.{HasTables, begun-said, begun-tables, become}
+use Rattle.jn_wrong.proofs.Common.{◌≡◌, ℕ, zero, suc, ◌+◌, Bool, true, false, List, [], ◌∷◌, ◌++◌, map, length, drop, Option, Some, None, refl, sym, ◌∙◌, ap, subst, arith, if◌then◌else◌, ◌&&◌, nat_lt, slice_get, list_all, ServerNo, ClientNo, Party, Client, Server, Resource, Outside, AllFiles, Need, Message, Event, EventRefusal, EpochsUsedUp, When, Text, Line, Sent, Pick, World, Memory, new_memory, Room, Step, Deliver, IsRun, run, after, LockFacts, ServerFact, Course, go, go_on, handing, working, on-world, Setup, Chance, Task, Begins, Meets, Acts, Rests, ComesUp, Dismisses, GoesDown, ClosesClients, CountsCommits, State, when_of, begun, Use, Nothing, Calls, Reads, Recovers, PowersOff, Decays, Revives, Arms, Disarms, Deed, room, delivered, delivered_at, is_busy, worked, working_steps, served, nothing, stopped_idle, crashed_at, recovering, recovered, restarted, given_up, brought_up, is_used_up, Devices, IsServed, Alone, IsUsed, refusal_of, acted, met, next_in, resting, deed_of, outside_texts, message_texts, traced, texts_of, lines_at, is_too_much, come_to, cut_short, none, more, Moment, DoesStep, Leads, before, closed_world, IsWritten, begun-lines, task-texts, Besides, IsShort, WasShort, OfText, OfLines, join, Cleans, step_calls, Left, HasTables, begun-said, begun-tables, become}
 use Rattle.jn_schedule.specs.declared.Event.TheVariants as events
 use Rattle.jn_report.specs.declared.line.Text.TheVariants as says
 use Rattle.jn_system.proofs.WholeSystem.Steps.{locks-keep, run-keeps, opening-keeps}
