@@ -112,6 +112,7 @@ module _ (x : Setup) (h : Chance) (t : ClientNo → ClientTable) (w : World) whe
 
   pub event-handles : (event : Event) → HandlesBy (acted x h event t w)
   event-handles (events.Command c command) = by_command c command
+  event-handles (events.Call c s call) = plainly [] refl
   event-handles (events.Again c) = plainly _ refl
   event-handles (events.Deliver k) = delivers k (slice_get w.sent k) refl
   event-handles events.Settle = plainly [] refl
