@@ -1,12 +1,12 @@
 -- What stands before an abort, a stop and a refused fault, without lines aside.
-use Rattle.jn_aside.proofs.Common.{◌≡◌, ℕ, Bool, true, false, not, nat_le, ◌&&◌, List, [], ◌∷◌, ◌++◌, append-nil, refl, sym, ◌∙◌, ap, ServerNo, ClientNo, Tid, server_eq, client_eq, Event, When, AtEvent, Text, Line, is_before, when_eq, lines_at, says_it, count_lines, is_in, refuses_own, is_aside, plain, begins, goes_down, breaks, refuses_event, stops, refuses_fault}
+use Rattle.jn_aside.proofs.Common.{◌≡◌, ℕ, Bool, true, false, not, nat_le, ◌&&◌, List, [], ◌∷◌, ◌++◌, append-nil, refl, sym, ◌∙◌, ap, ServerNo, ClientNo, Tid, server_eq, client_eq, Event, When, AtEvent, Text, Line, is_before, when_eq, lines_at, says_it, count_lines, is_in, refuses_own, is_aside, plain, begins, goes_down, breaks, refuses_event, stops, refuses_fault, is_stop}
 use Rattle.std.proofs.Math.Path.{fun_ext}
 use Rattle.jn_base.specs.declared.names.Cause.{Cause}
 use Rattle.jn_base.specs.declared.names.Cause.TheVariants as causes
 use Rattle.jn_base.specs.declared.op.Command.TheVariants as commands
 use Rattle.jn_schedule.specs.declared.Event.TheVariants as events
 use Rattle.jn_report.specs.declared.line.Text.TheVariants as says
-use Rattle.jn_serial.specs.Caused.{any_event, count_events, lines_after, aborts, asks, joins, loses, is_caused_by, is_stop, is_accepted, arms_stop, gives_fault, is_caused, CausedFrom, Caused}
+use Rattle.jn_serial.specs.Caused.{any_event, count_events, lines_after, aborts, asks, joins, loses, is_caused_by, is_accepted, arms_stop, gives_fault, is_caused, CausedFrom, Caused}
 use Rattle.jn_aside.proofs.Plain.{of-aside, IsMute, mute, plain-append, plain-aside, plain-other, filter-plain, says-plain, count-plain, is_in-plain, Passes, passes-aside}
 
 -- ---- lines of one event and of later ones

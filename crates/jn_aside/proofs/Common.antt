@@ -13,10 +13,10 @@ pub use Rattle.jn_aside.specs.Aside.{is_aside, plain, is_show}
 pub use Rattle.jn_base.specs.declared.names.ServerNo.{ServerNo}
 pub use Rattle.jn_base.specs.declared.names.ClientNo.{ClientNo}
 pub use Rattle.jn_base.specs.declared.names.Tid.{Tid}
-pub use Rattle.jn_base.specs.Names.{server_eq, client_eq}
+pub use Rattle.jn_base.specs.Names.{server_eq, client_eq, is_stop}
 pub use Rattle.jn_report.specs.declared.line.When.{When}
 pub use Rattle.jn_serial.specs.Begun.{is_in, begun_after, begun_then, is_tid}
 pub use Rattle.jn_order.specs.Files.{AllFiles}
-pub use Rattle.jn_serial.specs.Order.{answer_told, first_told, performed, op_in, ops_from, ops_of, replay, AgreesFrom, Agrees}
+pub use Rattle.jn_serial.specs.Order.{answer_told, first_answer_told, performed, operation_in, operations_from, operations_of, replay_operations, OperationsAgreeFrom, OperationsAgree}
 pub use Rattle.jn_order.specs.Changes.{or_also}
 pub use Rattle.jn_serial.specs.Shown.{IsAsIn, AllAsIn, prints_file, accounts_file, accounts_block, ShowsFiles, ShownSoFar, ShownAtEnd}

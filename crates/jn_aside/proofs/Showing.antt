@@ -1,5 +1,5 @@
 -- What transactions did, and what shows print, without lines aside.
-use Rattle.jn_aside.proofs.Common.{◌≡◌, inl, inr, ℕ, ◌+◌, Bool, List, [], ◌∷◌, ◌++◌, None, refl, sym, ◌∙◌, ap, subst, if◌then◌else◌, cases_Bool, ServerNo, ClientNo, Tid, AllFiles, Event, AtEvent, End, Text, Line, when_eq, is_before, lines_at, lines_before, says_it, history_of, is_in, answer_told, or_also, first_told, performed, op_in, ops_from, ops_of, replay, AgreesFrom, Agrees, IsAsIn, AllAsIn, prints_file, accounts_file, accounts_block, ShowsFiles, is_no_show, is_locked, ShownSoFar, ShownAtEnd, is_aside, plain}
+use Rattle.jn_aside.proofs.Common.{◌≡◌, inl, inr, ℕ, ◌+◌, Bool, List, [], ◌∷◌, ◌++◌, None, refl, sym, ◌∙◌, ap, subst, if◌then◌else◌, cases_Bool, ServerNo, ClientNo, Tid, AllFiles, Event, AtEvent, End, Text, Line, when_eq, is_before, lines_at, lines_before, says_it, history_of, is_in, answer_told, or_also, first_answer_told, performed, operation_in, operations_from, operations_of, replay_operations, OperationsAgreeFrom, OperationsAgree, IsAsIn, AllAsIn, prints_file, accounts_file, accounts_block, ShowsFiles, is_no_show, is_locked, ShownSoFar, ShownAtEnd, is_aside, plain}
 use Rattle.jn_base.specs.declared.op.Command.TheVariants as commands
 use Rattle.jn_replay.specs.Operations.{files_then, GivesAnswers}
 use Rattle.jn_schedule.specs.declared.Event.TheVariants as events
@@ -7,43 +7,43 @@ use Rattle.jn_aside.proofs.Plain.{of-aside, IsMute, mute, same-of, filter-aside,
 
 -- ---- what a transaction did
 
-told-plain : (c : ClientNo) (j : ℕ) (xs : List Line) → first_told c j (plain xs) ≡ first_told c j xs
+told-plain : (c : ClientNo) (j : ℕ) (xs : List Line) → first_answer_told c j (plain xs) ≡ first_answer_told c j xs
 told-plain c j [] = refl
 told-plain c j (l ∷ xs) = elim (cases_Bool (is_aside l.text)) [
   | inl e ↦ rw (e, of-aside (λ x. answer_told c j x ≡ None) (λ s n. refl) (λ k a b kind. refl) l.text e) (told-plain c j xs)
   | inr e ↦ rw e (ap (or_also (answer_told c j l.text)) (told-plain c j xs))
 ]
 
-op-plain : (t : Tid) (xs : List Line) (j : ℕ) (e : Event) → op_in t (plain xs) j e ≡ op_in t xs j e
-op-plain t xs j (events.Command c (commands.Do s op)) = ap (λ (b : Bool). if b then performed s op (first_told c j (plain xs)) else []) (is_in-plain c t j xs) ∙ ap (λ o. if is_in c t j xs then performed s op o else []) (told-plain c j xs)
+op-plain : (t : Tid) (xs : List Line) (j : ℕ) (e : Event) → operation_in t (plain xs) j e ≡ operation_in t xs j e
+op-plain t xs j (events.Command c (commands.Do s op)) = ap (λ (b : Bool). if b then performed s op (first_answer_told c j (plain xs)) else []) (is_in-plain c t j xs) ∙ ap (λ o. if is_in c t j xs then performed s op o else []) (told-plain c j xs)
 op-plain t xs j _ = refl
 
-ops-plain : (t : Tid) (xs : List Line) (j : ℕ) (es : List Event) → ops_from t (plain xs) j es ≡ ops_from t xs j es
+ops-plain : (t : Tid) (xs : List Line) (j : ℕ) (es : List Event) → operations_from t (plain xs) j es ≡ operations_from t xs j es
 ops-plain t xs j [] = refl
-ops-plain t xs j (e ∷ es) = ap (λ ps. ps ++ ops_from t (plain xs) (j + 1) es) (op-plain t xs j e) ∙ ap (λ ps. op_in t xs j e ++ ps) (ops-plain t xs (j + 1) es)
+ops-plain t xs j (e ∷ es) = ap (λ ps. ps ++ operations_from t (plain xs) (j + 1) es) (op-plain t xs j e) ∙ ap (λ ps. operation_in t xs j e ++ ps) (ops-plain t xs (j + 1) es)
 
 module _ (events : List Event) (a b : List Line) (same : plain a ≡ plain b) where
-  pub ops-aside : (t : Tid) → ops_of events a t ≡ ops_of events b t
-  ops-aside t = same-of (λ xs. ops_of events xs t) (λ xs. ops-plain t xs 1 events) a b same
+  pub ops-aside : (t : Tid) → operations_of events a t ≡ operations_of events b t
+  ops-aside t = same-of (λ xs. operations_of events xs t) (λ xs. ops-plain t xs 1 events) a b same
 
   pub history-aside : history_of a ≡ history_of b
   history-aside = same-of history_of history-plain a b same
 
   -- ---- the commits one after another
 
-  pub replay-aside : (files : AllFiles) (ts : List Tid) → replay files events a ts ≡ replay files events b ts
+  pub replay-aside : (files : AllFiles) (ts : List Tid) → replay_operations files events a ts ≡ replay_operations files events b ts
   replay-aside files [] = refl
-  replay-aside files (t ∷ ts) = ap (λ ps. replay (files_then ps files) events a ts) (ops-aside t) ∙ replay-aside (files_then (ops_of events b t) files) ts
+  replay-aside files (t ∷ ts) = ap (λ ps. replay_operations (files_then ps files) events a ts) (ops-aside t) ∙ replay-aside (files_then (operations_of events b t) files) ts
 
-  agrees-from : (files : AllFiles) (ts : List Tid) → AgreesFrom files events a ts → AgreesFrom files events b ts
+  agrees-from : (files : AllFiles) (ts : List Tid) → OperationsAgreeFrom files events a ts → OperationsAgreeFrom files events b ts
   agrees-from files [] h = tt
   agrees-from files (t ∷ ts) h = (
     subst (λ ps. GivesAnswers files ps) (ops-aside t) h.0,
-    agrees-from (files_then (ops_of events b t) files) ts (subst (λ ps. AgreesFrom (files_then ps files) events a ts) (ops-aside t) h.1),
+    agrees-from (files_then (operations_of events b t) files) ts (subst (λ ps. OperationsAgreeFrom (files_then ps files) events a ts) (ops-aside t) h.1),
   )
 
-  pub agrees-aside : (files : AllFiles) → Agrees files events a → Agrees files events b
-  agrees-aside files h = subst (λ ts. AgreesFrom files events b ts) history-aside (agrees-from files (history_of a) h)
+  pub agrees-aside : (files : AllFiles) → OperationsAgree files events a → OperationsAgree files events b
+  agrees-aside files h = subst (λ ts. OperationsAgreeFrom files events b ts) history-aside (agrees-from files (history_of a) h)
 
 -- ---- the lines of a show
 
@@ -69,11 +69,11 @@ module _ (files : AllFiles) (events : List Event) (a b : List Line) (same : plai
   so-far-aside h i s e silent =
       let here = filter-aside (λ w. when_eq w (AtEvent i)) a b same in
       let earlier = filter-aside (λ w. is_before w (AtEvent i)) a b same in
-      subst (λ f. ShowsFiles f s (lines_at (AtEvent i) b)) (replay-aside events a b same files (history_of (lines_before (AtEvent i) a)) ∙ ap (replay files events b) (same-of history_of history-plain (lines_before (AtEvent i) a) (lines_before (AtEvent i) b) earlier))
+      subst (λ f. ShowsFiles f s (lines_at (AtEvent i) b)) (replay-aside events a b same files (history_of (lines_before (AtEvent i) a)) ∙ ap (replay_operations files events b) (same-of history_of history-plain (lines_before (AtEvent i) a) (lines_before (AtEvent i) b) earlier))
       (shows-aside _ s (lines_at (AtEvent i) a) (lines_at (AtEvent i) b) here (h i s e (says-aside is_no_show (mute is_no_show (λ r n. refl) (λ j x y kind. refl)) (lines_at (AtEvent i) a) (lines_at (AtEvent i) b) here ∙ silent)))
 
   pub at-end-aside : ShownAtEnd files events a → ShownAtEnd files events b
   at-end-aside h = let here = filter-aside (λ w. when_eq w End) a b same in record {
-    all = λ s. subst (λ f. ShowsFiles f s (lines_at End b)) (replay-aside events a b same files (history_of a) ∙ ap (replay files events b) (history-aside events a b same)) (shows-aside _ s (lines_at End a) (lines_at End b) here (h.all s));
+    all = λ s. subst (λ f. ShowsFiles f s (lines_at End b)) (replay-aside events a b same files (history_of a) ∙ ap (replay_operations files events b) (history-aside events a b same)) (shows-aside _ s (lines_at End a) (lines_at End b) here (h.all s));
     unlocked = sym (says-aside is_locked (mute is_locked (λ r n. refl) (λ j x y kind. refl)) (lines_at End a) (lines_at End b) here) ∙ h.unlocked;
   }

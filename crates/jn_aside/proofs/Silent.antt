@@ -1,5 +1,5 @@
 -- One more event, that no line reports.
-use Rattle.jn_aside.proofs.Common.{◌≡◌, ◌⊎◌, inl, inr, ℕ, zero, suc, ◌+◌, ◌<◌, ◌≤◌, Bool, true, false, nat_eq, ◌&&◌, if◌then◌else◌, List, [], ◌∷◌, ◌++◌, append-nil, length, Option, Some, None, refl, sym, ◌∙◌, ap, subst, arith, cases_Bool, ServerNo, ClientNo, Tid, client_eq, AllFiles, Event, When, AtEvent, End, Text, Line, when_eq, lines_at, lines_before, event_at, says_it, history_of, is_in, answer_told, or_also, first_told, performed, op_in, ops_from, ops_of, Agrees, ShowsFiles, ShownSoFar, Outstanding, nothing_asked, with_asked, answer_in, is_last, fits_asked, fits, after_answer, AllFit, after_answers, refuses_own, after_event, FollowsEvent, after_one, FollowsFrom, is_answer, IsOfEvent, AllOfEvents, Follows, is_show}
+use Rattle.jn_aside.proofs.Common.{◌≡◌, ◌⊎◌, inl, inr, ℕ, zero, suc, ◌+◌, ◌<◌, ◌≤◌, Bool, true, false, nat_eq, ◌&&◌, if◌then◌else◌, List, [], ◌∷◌, ◌++◌, append-nil, length, Option, Some, None, refl, sym, ◌∙◌, ap, subst, arith, cases_Bool, ServerNo, ClientNo, Tid, client_eq, AllFiles, Event, When, AtEvent, End, Text, Line, when_eq, lines_at, lines_before, event_at, says_it, history_of, is_in, answer_told, or_also, first_answer_told, performed, operation_in, operations_from, operations_of, OperationsAgree, ShowsFiles, ShownSoFar, Outstanding, nothing_asked, with_asked, answer_in, is_last, fits_asked, fits, after_answer, AllFit, after_answers, refuses_own, after_event, FollowsEvent, after_one, FollowsFrom, is_answer, IsOfEvent, AllOfEvents, Follows, is_show}
 use Rattle.std.proofs.lemmas.Bool.Decides.{nat_tests}
 use Rattle.jn_base.specs.declared.op.Answer.{Answer}
 use Rattle.jn_base.specs.declared.op.Command.TheVariants as commands
@@ -10,7 +10,7 @@ use Rattle.jn_report.specs.declared.line.Text.TheVariants as says
 use Rattle.jn_serial.specs.declared.following.Asked.{Asked}
 use Rattle.jn_report.specs.declared.kinds.Addressed.{Addressed}
 use Rattle.jn_serial.proofs.Growth.{outstanding_after, follows-more}
-use Rattle.jn_serial.proofs.Ops.{DidTheSame, replay-by_ops, AgreesFrom-by_ops}
+use Rattle.jn_serial.proofs.Ops.{DidTheSame, replay_operations-by_ops, OperationsAgreeFrom-by_ops}
 
 abbrev In : Line → List Line → Type 0
 In l [] = ⊥
@@ -134,13 +134,13 @@ unanswered (says.Read d k bytes) e n = absurd (cc e)
 unanswered (says.Refused d k refusal) e n = absurd (cc e)
 unanswered _ e n = λ c j l. refl
 
-first-untold : (n : ℕ) (ls : List Line) → ((l : Line) → In l ls → IsUntold n l.text) → (c : ClientNo) (j : ℕ) → n < j → first_told c j ls ≡ None
+first-untold : (n : ℕ) (ls : List Line) → ((l : Line) → In l ls → IsUntold n l.text) → (c : ClientNo) (j : ℕ) → n < j → first_answer_told c j ls ≡ None
 first-untold n [] h c j l = refl
-first-untold n (x ∷ xs) h c j l = ap (λ o. or_also o (first_told c j xs)) (h x (inl refl) c j l) ∙ first-untold n xs (λ z i. h z (inr i)) c j l
+first-untold n (x ∷ xs) h c j l = ap (λ o. or_also o (first_answer_told c j xs)) (h x (inl refl) c j l) ∙ first-untold n xs (λ z i. h z (inr i)) c j l
 
 -- ---- what a transaction did
 
-op-none : (t : Tid) (ls : List Line) (j : ℕ) (e : Event) → ((c : ClientNo) → first_told c j ls ≡ None) → op_in t ls j e ≡ []
+op-none : (t : Tid) (ls : List Line) (j : ℕ) (e : Event) → ((c : ClientNo) → first_answer_told c j ls ≡ None) → operation_in t ls j e ≡ []
 op-none t ls j (events.Command c (commands.Do s op)) h = ap (λ o. if is_in c t j ls then performed s op o else []) (h c) ∙ by (is_in c t j ls)
   where
     nothing : List Performed
@@ -151,12 +151,12 @@ op-none t ls j (events.Command c (commands.Do s op)) h = ap (λ o. if is_in c t 
     by false = refl
 op-none t ls j _ h = refl
 
-ops-last : (t : Tid) (ls : List Line) (j : ℕ) (es : List Event) (e : Event) → op_in t ls (j + length es) e ≡ [] → ops_from t ls j (es ++ e ∷ []) ≡ ops_from t ls j es
-ops-last t ls j [] e h = append-nil (op_in t ls j e) ∙ ap (λ n. op_in t ls n e) (plus-none j) ∙ h
+ops-last : (t : Tid) (ls : List Line) (j : ℕ) (es : List Event) (e : Event) → operation_in t ls (j + length es) e ≡ [] → operations_from t ls j (es ++ e ∷ []) ≡ operations_from t ls j es
+ops-last t ls j [] e h = append-nil (operation_in t ls j e) ∙ ap (λ n. operation_in t ls n e) (plus-none j) ∙ h
   where
     plus-none : (n : ℕ) → n ≡ n + 0
     plus-none n = omega arith
-ops-last t ls j (x ∷ es) e h = ap (λ ps. op_in t ls j x ++ ps) (ops-last t ls (j + 1) es e (ap (λ n. op_in t ls n e) (shift j (length es)) ∙ h))
+ops-last t ls j (x ∷ es) e h = ap (λ ps. operation_in t ls j x ++ ps) (ops-last t ls (j + 1) es e (ap (λ n. operation_in t ls n e) (shift j (length es)) ∙ h))
   where
     shift : (a b : ℕ) → a + 1 + b ≡ a + suc b
     shift a b = omega arith
@@ -184,7 +184,7 @@ module _ (es : List Event) (e : Event) (ls : List Line) (h : Follows es ls) wher
       by true q k = at l.when refl (k q)
       by false q k = unanswered l.text q (length es)
 
-  same-ops : (t : Tid) → ops_of (es ++ e ∷ []) ls t ≡ ops_of es ls t
+  same-ops : (t : Tid) → operations_of (es ++ e ∷ []) ls t ≡ operations_of es ls t
   same-ops t = ops-last t ls 1 es e (op-none t ls (1 + length es) e (λ c. first-untold (length es) ls all-untold c (1 + length es) (next (length es))))
     where
       next : (n : ℕ) → n < 1 + n
@@ -194,11 +194,11 @@ module _ (es : List Event) (e : Event) (ls : List Line) (h : Follows es ls) wher
   did-the-same [] = tt
   did-the-same (t ∷ ts) = (same-ops t, did-the-same ts)
 
-  pub silent-agrees : (files : AllFiles) → Agrees files es ls → Agrees files (es ++ e ∷ []) ls
-  silent-agrees files a = AgreesFrom-by_ops files es ls (es ++ e ∷ []) ls (history_of ls) (did-the-same (history_of ls)) a
+  pub silent-agrees : (files : AllFiles) → OperationsAgree files es ls → OperationsAgree files (es ++ e ∷ []) ls
+  silent-agrees files a = OperationsAgreeFrom-by_ops files es ls (es ++ e ∷ []) ls (history_of ls) (did-the-same (history_of ls)) a
 
   pub silent-shown : (files : AllFiles) → is_show e ≡ false → ShownSoFar files es ls → ShownSoFar files (es ++ e ∷ []) ls
-  silent-shown files other shown i s k n = subst (λ f. ShowsFiles f s (lines_at (AtEvent i) ls)) (sym (replay-by_ops files es ls (es ++ e ∷ []) ls (history_of (lines_before (AtEvent i) ls)) (did-the-same (history_of (lines_before (AtEvent i) ls))))) (shown i s (before es i s other k) n)
+  silent-shown files other shown i s k n = subst (λ f. ShowsFiles f s (lines_at (AtEvent i) ls)) (sym (replay_operations-by_ops files es ls (es ++ e ∷ []) ls (history_of (lines_before (AtEvent i) ls)) (did-the-same (history_of (lines_before (AtEvent i) ls))))) (shown i s (before es i s other k) n)
     where
       no-show : (x : Event) (s : ServerNo) → is_show x ≡ false → Some x ≡ Some (events.Show s) → ⊥
       no-show (events.Show r) s a b = cc a

@@ -1,15 +1,13 @@
 -- Lines aside: that a server came up, and that a message was sent.
-use Rattle.std.specs.Prelude.{Bool, true, false, not, List, filter}
+use Rattle.std.specs.Prelude.{Bool, true, false, ◌||◌, not, List, filter}
 use Rattle.jn_schedule.specs.declared.Event.{Event}
 use Rattle.jn_schedule.specs.declared.Event.TheVariants.{Show}
 use Rattle.jn_report.specs.declared.line.Text.{Text}
-use Rattle.jn_report.specs.declared.line.Text.TheVariants as says
+use Rattle.jn_report.specs.Kinds.{is_up, is_message}
 use Rattle.jn_report.specs.declared.line.Line.{Line}
 
 abbrev pub is_aside : Text → Bool
-is_aside (says.Up s epoch) = true
-is_aside (says.Message k from to kind) = true
-is_aside _ = false
+is_aside text = is_up text || is_message text
 
 -- all other lines
 abbrev pub plain : List Line → List Line

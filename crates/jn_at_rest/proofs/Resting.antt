@@ -84,7 +84,7 @@ module _ (x : Setup) (texts : List Text) (mute : commits_in texts ≡ []) (d : C
       handed q None does = steps-on (Deliver k (room h q)) (comes (room h q) None) does.1 does.0
       handed q (Some memory) does = steps-on (handing k (room h q) h.stop) (comes (room h q) h.stop) does.1 does.0
 
-      delivers : (o : Option Sent) → Does (on (delivered h k w o)) → Rested e
+      delivers : (o : Option Sent) → Does (on (delivered h k m.state.clients w o)) → Rested e
       delivers None does = stays-on (subst (λ (z : Course). IsLined texts z here) (sym does.1) lined) does.0
       delivers (Some (Client client, message)) does = steps-on (Deliver k no_room) (comes no_room None) does.1 does.0
       delivers (Some (Server q, message)) does = handed q (w.memory q) does
@@ -166,12 +166,12 @@ module _ (x : Setup) (texts : List Text) (mute : commits_in texts ≡ []) (d : C
 
     -- ---- whichever it is
 
-    whichever : (waiting : List ℕ) → m.state.course.waiting ≡ waiting → (busy : Option ServerNo) → first_busy h.rubbish w (servers_from 0 x.servers) ≡ busy → Does (resting x h w (next_event waiting busy)) → Rested e
+    whichever : (waiting : List ℕ) → m.state.course.waiting ≡ waiting → (busy : Option ServerNo) → first_busy h.rubbish w (servers_from 0 x.servers) ≡ busy → Does (resting x h m.state.clients w (next_event waiting busy)) → Rested e
     whichever (k ∷ ks) waits busy b does = delivers k ks waits (slice_get w.sent k) does
     whichever [] waits (Some q) b does = works-at waits q b does
     whichever [] waits None b does = over waits b does
 
-    pub rests-once : Does (resting x h w (next_event m.state.course.waiting (first_busy h.rubbish w (servers_from 0 x.servers)))) → Rested e
+    pub rests-once : Does (resting x h m.state.clients w (next_event m.state.course.waiting (first_busy h.rubbish w (servers_from 0 x.servers)))) → Rested e
     rests-once does = whichever m.state.course.waiting refl (first_busy h.rubbish w (servers_from 0 x.servers)) refl does
 
   rests-on : (rest : List Task) (m e : Moment) → Steps Moment (DoesEarlier x rest) m e → AreUp x.servers e.state.course.world → e.state.tasks ≡ rest → (e.state.stage ≡ CutShort → ⊥) → m.state.tasks ≡ Rests ∷ rest

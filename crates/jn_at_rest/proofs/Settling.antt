@@ -1,5 +1,5 @@
 -- What a settle of a run leaves where all servers are up as it ends.
-use Rattle.jn_at_rest.proofs.Common.{◌≡◌, ◌⊎◌, inl, inr, ℕ, ◌+◌, ◌≤◌, ◌<◌, true, false, List, [], ◌∷◌, ◌++◌, append_assoc, length, drop, None, refl, sym, ◌∙◌, ap, subst, arith, list_any, ServerNo, AllFiles, Text, World, servers_from, commits_in, Course, go_on, Befalling, clients_from, ask_again, until_rest, settled, NothingGoes, AreUp, AreAnswered, AreForgotten, AreDecided, EndsWait, IsSettled, LeavesBetween, told_since, tells_waiting, tells_outcome, holds_undecided, live_at, chances_of, asked, reached, Setup, Task, Rests, CutShort, asking, settling, rubbish_on, Steps, Moment, behind, DoesEarlier}
+use Rattle.jn_at_rest.proofs.Common.{◌≡◌, ◌⊎◌, inl, inr, ℕ, ◌+◌, ◌≤◌, ◌<◌, true, false, List, [], ◌∷◌, ◌++◌, append_assoc, length, drop, None, refl, sym, ◌∙◌, ap, subst, arith, list_any, ServerNo, AllFiles, Text, World, servers_from, commits_in, Course, go_on, Befalling, clients_from, ask_again, until_rest, settled, NothingGoes, AreUp, AreAnswered, AreForgotten, AreDecided, EndsWait, IsSettled, LeavesBetween, own_texts, tells_waiting, tells_outcome, holds_undecided, live_at, chances_of, asked, reached, Setup, Task, Rests, CutShort, asking, settling, rubbish_on, Steps, Moment, behind, DoesEarlier}
 use Rattle.jn_system_settling.proofs.AtRest.Decided.{settle-settles}
 use Rattle.jn_at_rest.proofs.Lined.{IsLined, on-lined}
 use Rattle.jn_at_rest.proofs.Downs.{downs, downs-mute}
@@ -15,14 +15,14 @@ module _ (texts : List Text) where
   drop-behind [] before now = refl
   drop-behind (t ∷ front) before now = drop-behind front before now
 
-  same-told : (before now : World) → told_since (behind texts before) (behind texts now) ≡ told_since before now
+  same-told : (before now : World) → own_texts (behind texts before) (behind texts now) ≡ own_texts before now
   same-told before now = drop-behind texts before.lines now.lines
 
   decided-behind : (n : ℕ) (before now : World) → AreDecided n (behind texts before) (behind texts now) → AreDecided n before now
   decided-behind n before now h W w near live = by (h W w near live)
     where
-      by : (holds_undecided (now.memory w.tid.server) w.tid ≡ true) ⊎ ((list_any (tells_outcome w.tid) (told_since (behind texts before) (behind texts now)) ≡ true) ⊎ (live_at before W ≡ None))
-          → (holds_undecided (now.memory w.tid.server) w.tid ≡ true) ⊎ ((list_any (tells_outcome w.tid) (told_since before now) ≡ true) ⊎ (live_at before W ≡ None))
+      by : (holds_undecided (now.memory w.tid.server) w.tid ≡ true) ⊎ ((list_any (tells_outcome w.tid) (own_texts (behind texts before) (behind texts now)) ≡ true) ⊎ (live_at before W ≡ None))
+          → (holds_undecided (now.memory w.tid.server) w.tid ≡ true) ⊎ ((list_any (tells_outcome w.tid) (own_texts before now) ≡ true) ⊎ (live_at before W ≡ None))
       by (inl e) = inl e
       by (inr (inl e)) = inr (inl (ap (list_any (tells_outcome w.tid)) (sym (same-told before now)) ∙ e))
       by (inr (inr e)) = inr (inr e)

@@ -1,5 +1,6 @@
 -- What the system reports in a run is in its lines.
-use Rattle.jn_at_rest.proofs.Common.{◌≡◌, ◌⊎◌, inl, inr, Bool, true, false, List, [], ◌∷◌, ◌++◌, append_assoc, append-nil, length, drop, refl, sym, ◌∙◌, ap, subst, arith, map, ◌||◌, if◌then◌else◌, list_any, drop-append_seam, map-append, Text, World, run, go_on, newly_sent, told_since, on-world, Setup, Task, Dismisses, State, begun, when_of, Deed, deed_of, outside_texts, message_texts, traced, own_texts, texts_of, lines_at, is_too_much, come_to, cut_short, none, more, Moment, DoesStep, Leads, texts_since, Line}
+use Rattle.jn_at_rest.proofs.Common.{◌≡◌, ◌⊎◌, inl, inr, Bool, true, false, List, [], ◌∷◌, ◌++◌, append_assoc, append-nil, length, drop, refl, sym, ◌∙◌, ap, subst, arith, map, ◌||◌, if◌then◌else◌, list_any, drop-append_seam, map-append, Text, World, run, go_on, newly_sent, own_texts, on-world, Setup, Task, Dismisses, State, begun, when_of, Deed, deed_of, outside_texts, message_texts, traced, texts_of, is_too_much, come_to, cut_short, none, more, Moment, DoesStep, Leads, texts_since, Line, reported, HasTables, does-tables, begun-said}
+use Rattle.jn_report.specs.Lines.{lines_at}
 use Rattle.jn_report.specs.declared.line.When.{When}
 use Rattle.jn_machine_refines.proofs.Acts.{Grown, grown, grown-own}
 
@@ -56,8 +57,8 @@ module _ (x : Setup) where
   told-begun Dismisses s = record { texts = []; lines = []; world = sym (append-nil s.course.world.lines); report = sym (append-nil s.lines); each = λ is h. h }
   told-begun task s = record { texts = []; lines = []; world = sym (append-nil s.course.world.lines); report = sym (append-nil s.lines); each = λ is h. h }
 
-  told-one : (a c : Moment) → DoesStep x a c → IsTold a.state c.state
-  told-one a c d = told-then a.state s c.state (told-begun d.task a.state) (subst (IsTold s) (sym d.state_is) (by (is_too_much deed (go_on deed.steps s.course))))
+  told-one : (a c : Moment) → HasTables a.state → DoesStep x a c → IsTold a.state c.state
+  told-one a c has d = told-then a.state s c.state (told-begun d.task a.state) (subst (IsTold s) (sym d.state_is) (by (is_too_much deed (go_on deed.steps s.course))))
     where
       s : State
       s = begun d.task a.state
@@ -85,16 +86,16 @@ module _ (x : Setup) where
         world = lines-now;
         report = refl;
         each = λ is h. subst (λ (ts : List Text). list_any is ts ≡ true) (sym (texts-at (when_of s) all))
-            (any-first is (outside_texts deed.device d.chance.told ++ own_texts s.course.world now ++ deed.texts) (traced x.trace (message_texts deed.actor (length s.course.world.sent) (newly_sent s.course.world now)))
-            (any-first is (outside_texts deed.device d.chance.told ++ own_texts s.course.world now) deed.texts
-            (any-second is (outside_texts deed.device d.chance.told) (own_texts s.course.world now) (subst (λ (ts : List Text). list_any is ts ≡ true) (sym (grown-own s.course.world now grows.texts lines-now)) h))));
+            (any-first is (outside_texts deed.device d.chance.told ++ reported deed.said (own_texts s.course.world now) ++ deed.texts) (traced x.trace (message_texts deed.actor (length s.course.world.sent) (newly_sent s.course.world now)))
+            (any-first is (outside_texts deed.device d.chance.told ++ reported deed.said (own_texts s.course.world now)) deed.texts
+            (any-second is (outside_texts deed.device d.chance.told) (reported deed.said (own_texts s.course.world now)) (subst (λ (ts : List Text). list_any is ts ≡ true) (sym (begun-said x d.chance d.task a.state has ∙ grown-own s.course.world now grows.texts lines-now)) h))));
       }
 
-  told-all : (a b : Moment) → Leads x a b → IsTold a.state b.state
-  told-all a b (none m) = told-none a.state
-  told-all a b (more u c v d rest) = told-then a.state c.state b.state (told-one a c d) (told-all c b rest)
+  told-all : (a b : Moment) → HasTables a.state → Leads x a b → IsTold a.state b.state
+  told-all a b has (none m) = told-none a.state
+  told-all a b has (more u c v d rest) = told-then a.state c.state b.state (told-one a c has d) (told-all c b (does-tables x a c d has) rest)
 
-  pub told-in-lines : (a b : Moment) → Leads x a b → (is : Text → Bool) → list_any is (told_since a.state.course.world b.state.course.world) ≡ true → list_any is (texts_since a.state.lines b.state.lines) ≡ true
-  told-in-lines a b leads is h = let t = told-all a b leads in
+  pub told-in-lines : (a b : Moment) → HasTables a.state → Leads x a b → (is : Text → Bool) → list_any is (own_texts a.state.course.world b.state.course.world) ≡ true → list_any is (texts_since a.state.lines b.state.lines) ≡ true
+  told-in-lines a b has leads is h = let t = told-all a b has leads in
       subst (λ (ls : List Line). list_any is (map (λ (l : Line). l.text) ls) ≡ true) (sym (ap (drop (length a.state.lines)) t.report ∙ drop-append_seam a.state.lines t.lines))
       (t.each is (subst (λ (ts : List Text). list_any is ts ≡ true) (ap (drop (length a.state.course.world.lines)) t.world ∙ drop-append_seam a.state.course.world.lines t.texts) h))

@@ -6,7 +6,8 @@ use Rattle.jn_report.specs.declared.line.Line.{Line}
 use Rattle.jn_report.specs.declared.line.Text.{Text}
 use Rattle.jn_schedule.specs.declared.Event.{Event}
 use Rattle.jn_schedule.specs.declared.Event.TheVariants as events
-use Rattle.jn_system_settling.specs.AtRest.Settled.{AreUp, told_since, IsSettled}
+use Rattle.jn_system_settling.specs.AtRest.Settled.{AreUp, IsSettled}
+use Rattle.jn_system.specs.WholeSystem.World.{own_texts}
 use Rattle.jn_machine.specs.Chances.{Setup}
 use Rattle.jn_machine.specs.Devices.{rubbish_on}
 use Rattle.jn_machine.specs.Events.{servers_of, settling, ending, printing}
@@ -30,7 +31,7 @@ pub record ComesThrough (x : Setup) (tasks behind : List Task) (a b : Moment) : 
 pub record LeavesSettled (x : Setup) (a b : Moment) : Type 0 where
   pub settled : IsSettled x.servers a.state.course b.state.course
   -- whatever the system reported in this settle is in a line of it
-  pub told : (is : Text → Bool) → list_any is (told_since a.state.course.world b.state.course.world) ≡ true → list_any is (texts_since a.state.lines b.state.lines) ≡ true
+  pub told : (is : Text → Bool) → list_any is (own_texts a.state.course.world b.state.course.world) ≡ true → list_any is (texts_since a.state.lines b.state.lines) ≡ true
   -- and no record on a server's pages is rubbish
   pub rubbish : (q : ServerNo) → q.0 < x.servers → rubbish_on x b.devices q ≡ false
 

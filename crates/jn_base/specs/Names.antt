@@ -1,5 +1,7 @@
--- Whether two names are the same, the request and the operation of a number, the numbers of refusals, and the words of faults.
-use Rattle.std.specs.Prelude.{ℕ, Bool, false, nat_eq, ◌&&◌, List, codes}
+-- Whether two names are the same, which bytes are a name in a directory, the request and the operation of a number, the numbers of refusals, the words of
+-- faults, and which of these stop a server.
+use Rattle.std.specs.Prelude.{ℕ, Bool, true, false, nat_eq, nat_le, ◌&&◌, ◌||◌, List, length, codes}
+use Rattle.std.specs.List.{list_all}
 use Rattle.jn_base.specs.declared.names.ServerNo.{ServerNo}
 use Rattle.jn_base.specs.declared.names.ClientNo.{ClientNo}
 use Rattle.jn_base.specs.declared.names.FileNo.{FileNo}
@@ -41,6 +43,14 @@ tid_eq a b = server_eq a.server b.server && (nat_eq a.epoch b.epoch && nat_eq a.
 abbrev pub work_eq : WorkId → WorkId → Bool
 work_eq a b = server_eq a.server b.server && (nat_eq a.epoch b.epoch && nat_eq a.ticket b.ticket)
 
+-- a to z, 0 to 9, `.`, `_`, `-`
+abbrev pub is_letter : ℕ → Bool
+is_letter b = nat_le 97 b && nat_le b 122 || (nat_le 48 b && nat_le b 57 || (nat_eq b 46 || (nat_eq b 95 || nat_eq b 45)))
+
+-- a name in a directory: 1 to 64 letters
+abbrev pub is_name : List ℕ → Bool
+is_name name = nat_le 1 (length name) && nat_le (length name) 64 && list_all is_letter name
+
 abbrev pub request_of : ℕ → RequestNo
 request_of n = record { 0 = n }
 
@@ -52,6 +62,13 @@ abbrev pub refusal_number : Resource → ℕ
 refusal_number Records = 31
 refusal_number Pages = 32
 refusal_number Heads = 33
+
+-- a fault that stops a server
+abbrev pub is_stop : FaultKind → Bool
+is_stop faults.StopBefore = true
+is_stop faults.StopTorn = true
+is_stop faults.StopAfter = true
+is_stop _ = false
 
 -- the word of a fault, in a schedule and in a report
 abbrev pub fault_word : FaultKind → List ℕ

@@ -9,7 +9,7 @@ pub use Rattle.jn_schedule.specs.declared.Event.{Event}
 pub use Rattle.jn_schedule.specs.Ranges.{EventInRange}
 pub use Rattle.jn_report.specs.declared.line.Line.{Line}
 pub use Rattle.jn_serial.specs.Lines.{history_of}
-pub use Rattle.jn_serial.specs.Order.{replay, ops_of}
+pub use Rattle.jn_serial.specs.Order.{replay_operations, operations_of}
 pub use Rattle.jn_rows.specs.Stable.{StableState, Pick, IsUp}
 pub use Rattle.jn_aside.specs.Aside.{plain}
 pub use Rattle.jn_aside.proofs.Showing.{history-aside, replay-aside, ops-aside}

@@ -1,5 +1,6 @@
 -- What holds at each moment, and between two events.
-use Rattle.jn_between.proofs.Common.{◌≡◌, ◌⊎◌, inl, inr, ◌≤◌, ◌<◌, ℕ, ◌+◌, Bool, true, false, List, [], ◌∷◌, ◌++◌, append-nil, length, map, drop, Some, refl, sym, ◌∙◌, ap, subst, arith, ◌&&◌, list_all, AllByRecursion, ServerNo, AllFiles, Event, EventInRange, Line, history_of, replay, StableState, Pick, plain, history-aside, replay-aside, World, opening, Step, NextEvent, IsRun, run, after, Item, events_of, steps_of, world_of, lines_of, IsReported, AreAsTold, Setup, Task, Begins, Dismisses, InSchedule, AtEnd, CutShort, Stage, State, begun, first_of_tasks, Devices, AreFound, ending, dismissing, none, more, Moment, Leads, is_too_much, come_to, cut_short, before, IsWritten, go_on, behind, IsAsIn, IsToldBy, IsRetold, IsRetoldInPart, ups-name-none, run-behind, as-behind, Between, between, meeting, settling, cut, ended, between-part, meeting-part, amid-part, Next, does-next, goes-or-cut, run-both, is-run-both, part-so-far, run-so-far, IsConsistent, state_on, files_told, AreOnPages, IsTrueBetween}
+use Rattle.jn_between.proofs.Common.{◌≡◌, ◌⊎◌, inl, inr, ◌≤◌, ◌<◌, ℕ, ◌+◌, Bool, true, false, List, [], ◌∷◌, ◌++◌, append-nil, length, map, drop, Some, refl, sym, ◌∙◌, ap, subst, arith, ◌&&◌, list_all, AllByRecursion, ServerNo, AllFiles, Event, EventInRange, Line, history_of, replay_operations, StableState, Pick, plain, history-aside, replay-aside, World, opening, Step, NextEvent, IsRun, run, after, Item, events_of, steps_of, world_of, lines_of, IsReported, AreAsTold, Setup, Task, Begins, Dismisses, InSchedule, AtEnd, CutShort, Stage, State, begun, first_of_tasks, Devices, AreFound, ending, dismissing, none, more, Moment, Leads, is_too_much, come_to, cut_short, before, IsWritten, go_on, behind, IsAsIn, IsToldBy, IsRetold, IsRetoldInPart, ups-name-none, run-behind, as-behind, Between, between, meeting, settling, cut, ended, between-part, meeting-part, amid-part, Next, does-next, goes-or-cut, run-both, is-run-both, part-so-far, run-so-far, IsConsistent, state_on, files_told, AreOnPages, IsTrueBetween}
+use Rattle.jn_machine.proofs.Clients.{HasTables}
 use Rattle.std.proofs.lemmas.List.{length-map}
 use Rattle.jn_system_reports.proofs.Telling.Reports.{run-as-told}
 use Rattle.jn_system_reports.proofs.BetweenSteps.Standing.{Standing, stand}
@@ -104,8 +105,8 @@ module _ (x : Setup) (files : AllFiles) (epochs : ServerNo → ℕ) (items : Lis
   as-told = run-as-told x.servers files epochs items reported
 
   -- the files that the lines leave, with those aside
-  same-files : replay files events ls (history_of ls) ≡ files_told files (events_of items) m.state.lines
-  same-files = ap (λ Ts. replay files events ls Ts) (history-aside events ls m.state.lines (sym lines)) ∙ replay-aside events ls m.state.lines (sym lines) files (history_of m.state.lines)
+  same-files : replay_operations files events ls (history_of ls) ≡ files_told files (events_of items) m.state.lines
+  same-files = ap (λ Ts. replay_operations files events ls Ts) (history-aside events ls m.state.lines (sym lines)) ∙ replay-aside events ls m.state.lines (sym lines) files (history_of m.state.lines)
 
   its-state : (q : ServerNo) (c : Pick) → q.0 < x.servers → state_on (x.counts q) (m.devices q) c ≡ w.found q c
   its-state q c l = sym (found q c l) ∙ ap (λ (f : ServerNo → Pick → StableState). f q c) as-in.found
@@ -144,9 +145,6 @@ first_between [] = false
 first_between (task ∷ tasks) = is_between task
 
 module _ (x : Setup) (files : AllFiles) (epochs : ServerNo → ℕ) where
-  abbrev Left : List Event → List Task
-  Left rest = map (λ (e : Event). Begins e) rest ++ ending x
-
   left-first : (rest : List Event) → first_between (map (λ (e : Event). Begins e) rest ++ ending x) ≡ true
   left-first [] = refl
   left-first (e ∷ rest) = refl
@@ -183,9 +181,9 @@ module _ (x : Setup) (files : AllFiles) (epochs : ServerNo → ℕ) where
   settles-not task h = refl
 
   -- where the end is about to begin and no step was done, it is still about to
-  still : (a b : Moment) → Leads x a b → a.state.stage ≡ InSchedule → a.state.tasks ≡ ending x → b.state.stage ≡ InSchedule → b ≡ a
-  still a b (none m) stage tasks in-schedule = refl
-  still a b (more u v t d rest) stage tasks in-schedule = absurd (ended-stays x v t rest (over (does-next x Dismisses (drop 1 (ending x)) u v d stage tasks)) in-schedule)
+  still : (a b : Moment) → HasTables a.state → Leads x a b → a.state.stage ≡ InSchedule → a.state.tasks ≡ ending x → b.state.stage ≡ InSchedule → b ≡ a
+  still a b has (none m) stage tasks in-schedule = refl
+  still a b has (more u v t d rest) stage tasks in-schedule = absurd (ended-stays x v t rest (over (does-next x Dismisses (drop 1 (ending x)) u v has d stage tasks)) in-schedule)
     where
       cut-apart : CutShort ≡ InSchedule → ⊥
       cut-apart z = cc
@@ -250,9 +248,6 @@ module _ (x : Setup) (schedule : List Event) (images : Devices) (m : Moment) (fe
   found-now going = found-then x (record { state = before x schedule h.files h.epochs; devices = images }) m h.are_images.found h.leads going
 
   module _ (rest : List Event) (stage : m.state.stage ≡ InSchedule) (tasks : m.state.tasks ≡ map (λ (e : Event). Begins e) rest ++ ending x) where
-    abbrev Answer : Type 0
-    Answer = (done : List Event) × (done ++ rest ≡ schedule) × IsTrueBetween x h.files done m
-
     apart : InSchedule ≡ CutShort → ⊥
     apart z = cc
 
@@ -286,4 +281,4 @@ module _ (x : Setup) (schedule : List Event) (images : Devices) (m : Moment) (fe
         by (held (meeting items e those b)) = absurd (other x h.files h.epochs m.state.tasks rest tasks (ap first_between b.tasks))
         by (held (settling items acts task pending those b are)) = absurd (other x h.files h.epochs m.state.tasks rest tasks (ap first_between b.tasks ∙ settles-not x h.files h.epochs task (first-of (is_settling task) (list_all is_settling pending) are)))
         by (held (cut c)) = absurd (apart (sym stage ∙ c.cut))
-        by (held (ended r)) = of-ended r (still x h.files h.epochs r.last m r.leads r.stage r.tasks stage)
+        by (held (ended r)) = of-ended r (still x h.files h.epochs r.last m r.told.tables r.leads r.stage r.tasks stage)

@@ -1,5 +1,5 @@
 -- A settle, task by task, is within its bound.
-use Rattle.jn_bounds.proofs.Common.{◌≡◌, ◌⊎◌, inl, inr, ◌≤◌, ◌<◌, ℕ, ◌+◌, ◌*◌, List, [], ◌∷◌, ◌++◌, append_assoc, length, Option, Some, None, refl, sym, ◌∙◌, ap, subst, arith, map, ServerNo, ClientNo, Event, World, servers_from, Course, go_on, clients_from, Sound, IsBalanced, Bounded, Asked, servers-length, waiting-light, waiting-weighs, Setup, Chance, Task, Acts, Rests, State, begun, servers_of, settling, next_in, resting, deed_of, none, more, Steps, Moment, DoesStep, DoesEarlier, Settles, IsWithinBound}
+use Rattle.jn_bounds.proofs.Common.{◌≡◌, ◌⊎◌, inl, inr, ◌≤◌, ◌<◌, ℕ, ◌+◌, ◌*◌, List, [], ◌∷◌, ◌++◌, append_assoc, length, Option, Some, None, refl, sym, ◌∙◌, ap, subst, arith, map, ServerNo, ClientNo, Event, World, servers_from, Course, go_on, clients_from, Sound, IsBalanced, Bounded, Asked, servers-length, waiting-light, waiting-weighs, Setup, Chance, Task, Acts, Rests, State, begun, servers_of, settling, next_in, resting, deed_of, none, more, Steps, Moment, DoesStep, DoesEarlier, Settles, IsWithinBound, ClientTable}
 use Rattle.jn_schedule.specs.declared.Event.TheVariants as events
 use Rattle.jn_system_settling.specs.Settling.Weights.{burden}
 use Rattle.jn_system_settling.specs.Settling.Bounds.{deliveries}
@@ -89,9 +89,9 @@ module _ (x : Setup) (at_most : x.servers ≤ 8) (start : World) where
     all : AllInSettle left
     lighter : Lighter a.state.course c.state.course before (add_all left)
 
-  rest-tasks : (h : Chance) (w : World) (o : Option Event) → AllInSettle (resting x h w o).tasks × (add_all (resting x h w o).tasks ≡ 0)
-  rest-tasks h w None = (tt, refl)
-  rest-tasks h w (Some event) = ((a_rest, tt), refl)
+  rest-tasks : (h : Chance) (t : ClientNo → ClientTable) (w : World) (o : Option Event) → AllInSettle (resting x h t w o).tasks × (add_all (resting x h t w o).tasks ≡ 0)
+  rest-tasks h t w None = (tt, refl)
+  rest-tasks h t w (Some event) = ((a_rest, tt), refl)
 
   -- what a task leaves to do
   record Leaves (h : Chance) (t : Task) (a : Moment) : Type 0 where
@@ -100,8 +100,8 @@ module _ (x : Setup) (at_most : x.servers ≤ 8) (start : World) where
     lighter : Lighter a.state.course (go_on (deed_of x h t a.state).steps a.state.course) (adds t) 0
 
   leaves : (h : Chance) (t : Task) (a : Moment) → InSettle t → Sound x.servers start a.state.course → Leaves h t a
-  leaves h t a a_rest s = let ts = rest-tasks h a.state.course.world (next_in x h.rubbish a.state.course) in
-      record { all = ts.0; nothing = ts.1; lighter = as-bounded a.state.course _ (rests x at_most start h a.state.course s) }
+  leaves h t a a_rest s = let ts = rest-tasks h a.state.clients a.state.course.world (next_in x h.rubbish a.state.course) in
+      record { all = ts.0; nothing = ts.1; lighter = as-bounded a.state.course _ (rests x at_most start h a.state.clients a.state.course s) }
   leaves h t a (a_client c) s = record { all = tt; nothing = refl; lighter = as-asked a.state.course _ 161 (client-asks x.servers at_most start a.state.course c s) }
   leaves h t a (a_server q) s = record { all = tt; nothing = refl; lighter = as-asked a.state.course _ 103040 (server-asks x.servers at_most start a.state.course q s) }
 

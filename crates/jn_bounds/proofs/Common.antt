@@ -14,6 +14,7 @@ pub use Rattle.jn_machine.specs.Tasks.{Task, Acts, Rests, State, begun, Dismisse
 pub use Rattle.jn_machine.specs.Events.{servers_of, settling, next_in, resting, deed_of, first_busy, next_event, coming_up, ending, printing}
 pub use Rattle.jn_machine.specs.Runs.{none, more, Steps, Moment, DoesStep, Leads}
 pub use Rattle.jn_bounds.specs.Settles.{DoesEarlier, Settles, IsWithinBound, IsOver, IsUnderWay, HasSettle, HasItsSettles}
+pub use Rattle.jn_rows.specs.Client.{ClientTable}
 pub use Rattle.jn_machine.specs.Deeds.{Deed, room, no_room, nothing, served, delivered, delivered_at, is_busy, working_steps}
 pub use Rattle.jn_machine.specs.Steps.{is_too_much, come_to, cut_short, done}
 pub use Rattle.jn_system.specs.WholeSystem.Steps.{Again, Nudge, Work, StopWork, after, work, works, handing, working, IsRun}

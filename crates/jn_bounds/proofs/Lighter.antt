@@ -1,5 +1,5 @@
 -- What each task of a settle does to what waits and goes: it adds no more than it weighs itself, and each message that is handed over weighs less than before.
-use Rattle.jn_bounds.proofs.Common.{◌≡◌, inl, inr, ◌≤◌, ◌<◌, ℕ, zero, suc, ◌+◌, Bool, true, false, List, [], ◌∷◌, append-nil, Option, Some, None, refl, sym, ap, arith, if◌then◌else◌, slice_get, ServerNo, ClientNo, World, Memory, servers_from, Again, Nudge, Work, StopWork, after, work, works, Course, go, go_on, handing, working, Sound, go-sound, go-balance, burden-after, deliveries-more, Bounded, Asked, asked, Setup, Chance, Deed, room, no_room, nothing, served, delivered, delivered_at, is_busy, working_steps, servers_of, first_busy, next_event, next_in, resting}
+use Rattle.jn_bounds.proofs.Common.{◌≡◌, inl, inr, ◌≤◌, ◌<◌, ℕ, zero, suc, ◌+◌, Bool, true, false, List, [], ◌∷◌, append-nil, Option, Some, None, refl, sym, ap, arith, if◌then◌else◌, slice_get, ServerNo, ClientNo, World, Memory, servers_from, Again, Nudge, Work, StopWork, after, work, works, Course, go, go_on, handing, working, Sound, go-sound, go-balance, burden-after, deliveries-more, Bounded, Asked, asked, Setup, Chance, Deed, room, no_room, nothing, served, delivered, delivered_at, is_busy, working_steps, servers_of, first_busy, next_event, next_in, resting, ClientTable}
 use Rattle.jn_system.specs.WholeSystem.Settle.{Chance as Befalling, first_busy as first_going, next_step}
 use Rattle.jn_base.specs.declared.names.Party.TheVariants.{Client, Server}
 use Rattle.jn_rows.specs.Stable.{Pick, stable, Left}
@@ -39,10 +39,10 @@ module _ (n : ℕ) (at_most : n ≤ 8) (start : World) where
       chance : Befalling
       chance = record { room = r; stop = stop }
 
-  delivers : (h : Chance) (c : Course) → Sound n start c → (k : ℕ) (ks : List ℕ) → c.waiting ≡ k ∷ ks → (o : Option Sent) → Within c (go_on (delivered h k c.world o).steps c)
-  delivers h c sound k ks waits None = idle c sound
-  delivers h c sound k ks waits (Some (Client d, message)) = hands c sound k ks waits no_room None
-  delivers h c sound k ks waits (Some (Server q, message)) = by (c.world.memory q)
+  delivers : (h : Chance) (t : ClientNo → ClientTable) (c : Course) → Sound n start c → (k : ℕ) (ks : List ℕ) → c.waiting ≡ k ∷ ks → (o : Option Sent) → Within c (go_on (delivered h k t c.world o).steps c)
+  delivers h t c sound k ks waits None = idle c sound
+  delivers h t c sound k ks waits (Some (Client d, message)) = hands c sound k ks waits no_room None
+  delivers h t c sound k ks waits (Some (Server q, message)) = by (c.world.memory q)
     where
       by : (o : Option Memory) → Within c (go_on (delivered_at h k q o).steps c)
       by None = hands c sound k ks waits (room h q) None
@@ -83,7 +83,7 @@ module _ (n : ℕ) (at_most : n ≤ 8) (start : World) where
 
 -- ---- a rest
 
-module _ (x : Setup) (at_most : x.servers ≤ 8) (start : World) (h : Chance) (c : Course) (sound : Sound x.servers start c) where
+module _ (x : Setup) (at_most : x.servers ≤ 8) (start : World) (h : Chance) (t : ClientNo → ClientTable) (c : Course) (sound : Sound x.servers start c) where
   abbrev WithinRest : Deed → Type 0
   WithinRest deed = Bounded x.servers at_most start c (go_on deed.steps c)
 
@@ -91,10 +91,10 @@ module _ (x : Setup) (at_most : x.servers ≤ 8) (start : World) (h : Chance) (c
   busy true q below = works-on x.servers at_most start c sound q (room h q) below h.stop
   busy false q below = idle x.servers at_most start c sound
 
-  whichever : (waiting : List ℕ) → c.waiting ≡ waiting → (o : Option ServerNo) → first_busy h.rubbish c.world (servers_of x) ≡ o → WithinRest (resting x h c.world (next_event waiting o))
-  whichever (k ∷ ks) waits o e = delivers x.servers at_most start h c sound k ks waits (slice_get c.world.sent k)
+  whichever : (waiting : List ℕ) → c.waiting ≡ waiting → (o : Option ServerNo) → first_busy h.rubbish c.world (servers_of x) ≡ o → WithinRest (resting x h t c.world (next_event waiting o))
+  whichever (k ∷ ks) waits o e = delivers x.servers at_most start h t c sound k ks waits (slice_get c.world.sent k)
   whichever [] waits (Some q) e = busy (is_busy h.rubbish c.world q) q (let l = busy-within h.rubbish c.world x.servers 0 q e in omega (arith, l))
   whichever [] waits None e = idle x.servers at_most start c sound
 
-  pub rests : WithinRest (resting x h c.world (next_in x h.rubbish c))
+  pub rests : WithinRest (resting x h t c.world (next_in x h.rubbish c))
   rests = whichever c.waiting refl (first_busy h.rubbish c.world (servers_of x)) refl

@@ -14,7 +14,7 @@ use Rattle.jn_base.specs.declared.op.Answer.TheVariants.{NoFile}
 use Rattle.jn_base.specs.Names.{file_eq}
 use Rattle.jn_order.specs.Files.{Files, change, or_else}
 unfoldable use Rattle.jn_order.specs.Files.{zeros}
-use Rattle.jn_bytes.specs.declared.call.Call.TheVariants.{WriteBytes}
+use Rattle.jn_base.specs.declared.call.ByteCommand.TheVariants.{WriteBytes}
 use Rattle.jn_bytes.specs.declared.next.Next.{Next}
 use Rattle.jn_bytes.specs.declared.next.Next.TheVariants.{Did, Refused}
 use Rattle.jn_bytes.specs.declared.next.ByteRefusal.{ByteRefusal}

@@ -7,10 +7,11 @@ use Rattle.jn_base.specs.declared.op.Op.{Op}
 use Rattle.jn_base.specs.declared.op.Answer.{Answer}
 use Rattle.jn_order.specs.Files.{Files, change, written, answer_to, files_after}
 use Rattle.jn_order.specs.Changes.{files_then}
+use Rattle.jn_order.specs.Answers.{Answered, ops_of, FilesAnswer}
 unfoldable use Rattle.jn_order.specs.Files.{zeros}
 unfoldable use Rattle.jn_bytes.specs.ByteFiles.{sized}
-use Rattle.jn_bytes.specs.declared.call.Call.{Call}
-use Rattle.jn_bytes.specs.declared.call.Call.TheVariants.{WriteBytes}
+use Rattle.jn_base.specs.declared.call.ByteCommand.{ByteCommand}
+use Rattle.jn_base.specs.declared.call.ByteCommand.TheVariants.{WriteBytes}
 use Rattle.jn_bytes.specs.declared.next.Next.{Next}
 use Rattle.jn_bytes.specs.declared.next.Next.TheVariants.{Did}
 use Rattle.jn_bytes.specs.declared.stage.Stage.{Stage}
@@ -19,35 +20,35 @@ use Rattle.jn_bytes.specs.declared.stage.Turn.{Turn}
 use Rattle.jn_bytes.specs.declared.stage.Turn.TheVariants.{Sends, Over}
 use Rattle.jn_bytes.specs.ByteFiles.{block_in}
 use Rattle.jn_bytes.specs.Turns.{read_op, write_op, write_all, go_on, turn}
-use Rattle.jn_bytes.specs.Exchanges.{Answered, GiveAnswers, GoesOn, ops_of}
+use Rattle.jn_bytes.specs.Exchanges.{GoesOn}
 
-pub record ComesTo (call : Call) (t : Turn) (files : Files) (reply : Next) (left : Files) : Type 0 where
-  pub each : (os : List Answered) (last : Next) → GiveAnswers files os → GoesOn call t os last → (last ≡ reply) × (files_then (ops_of os) files ≡ left)
+pub record ComesTo (call : ByteCommand) (t : Turn) (files : Files) (reply : Next) (left : Files) : Type 0 where
+  pub each : (os : List Answered) (last : Next) → FilesAnswer files os → GoesOn call t os last → (last ≡ reply) × (files_then (ops_of os) files ≡ left)
 
-pub over : (call : Call) (reply : Next) (files : Files) → ComesTo call (Over reply) files reply files
+pub over : (call : ByteCommand) (reply : Next) (files : Files) → ComesTo call (Over reply) files reply files
 over call reply files = record { each = by }
   where
-    by : (os : List Answered) (last : Next) → GiveAnswers files os → GoesOn call (Over reply) os last → (last ≡ reply) × (files_then (ops_of os) files ≡ files)
+    by : (os : List Answered) (last : Next) → FilesAnswer files os → GoesOn call (Over reply) os last → (last ≡ reply) × (files_then (ops_of os) files ≡ files)
     by [] last a g = (sym g, refl)
     by (o ∷ os) last a g = absurd g
 
-pub sends : (call : Call) (op : Op) (stage : Stage) (files : Files) (reply : Next) (left : Files)
+pub sends : (call : ByteCommand) (op : Op) (stage : Stage) (files : Files) (reply : Next) (left : Files)
     → ComesTo call (turn call stage (answer_to op files)) (files_after op files) reply left → ComesTo call (Sends op stage) files reply left
 sends call op stage files reply left h = record { each = by }
   where
-    by : (os : List Answered) (last : Next) → GiveAnswers files os → GoesOn call (Sends op stage) os last → (last ≡ reply) × (files_then (ops_of os) files ≡ left)
+    by : (os : List Answered) (last : Next) → FilesAnswer files os → GoesOn call (Sends op stage) os last → (last ≡ reply) × (files_then (ops_of os) files ≡ left)
     by [] last a g = absurd g
     by (o ∷ os) last a g =
         let k = subst (λ (x : Op). ComesTo call (turn call stage (answer_to x files)) (files_after x files) reply left) (sym g.0) h in
         k.each os last a.1 (subst (λ (x : Answer). GoesOn call (turn call stage x) os last) (sym a.0) g.1)
 
 -- a block is read of a file that is there
-pub reads : (call : Call) (f : FileNo) (p : ℕ) (stage : Stage) (files : Files) (reply : Next) (left : Files) → is_some (files (File f)) ≡ true
+pub reads : (call : ByteCommand) (f : FileNo) (p : ℕ) (stage : Stage) (files : Files) (reply : Next) (left : Files) → is_some (files (File f)) ≡ true
     → ComesTo call (go_on call stage (block_in files f p)) files reply left → ComesTo call (Sends (read_op f p) stage) files reply left
 reads call f p stage files reply left there h = sends call (read_op f p) stage files reply left (rw there h)
 
 -- one is written
-writes-one : (call : Call) (f : FileNo) (p : ℕ) (bytes : List ℕ) (stage : Stage) (files : Files) (reply : Next) (left : Files) → is_some (files (File f)) ≡ true
+writes-one : (call : ByteCommand) (f : FileNo) (p : ℕ) (bytes : List ℕ) (stage : Stage) (files : Files) (reply : Next) (left : Files) → is_some (files (File f)) ≡ true
     → ComesTo call (go_on call stage (sized zeros)) (change (written f (record { 0 = p }) bytes) files) reply left → ComesTo call (Sends (write_op f p bytes) stage) files reply left
 writes-one call f p bytes stage files reply left there h = sends call (write_op f p bytes) stage files reply left (rw there h)
 

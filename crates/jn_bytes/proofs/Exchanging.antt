@@ -13,8 +13,8 @@ use Rattle.jn_base.specs.declared.names.LockUnit.TheVariants.{File, Block}
 use Rattle.jn_base.specs.declared.op.Answer.TheVariants.{NoFile}
 use Rattle.jn_base.specs.Names.{file_eq}
 use Rattle.jn_order.specs.Files.{Files, change}
-use Rattle.jn_bytes.specs.declared.call.Call.{Call}
-use Rattle.jn_bytes.specs.declared.call.Call.TheVariants.{ReadBytes, WriteBytes}
+use Rattle.jn_base.specs.declared.call.ByteCommand.{ByteCommand}
+use Rattle.jn_base.specs.declared.call.ByteCommand.TheVariants.{ReadBytes, WriteBytes}
 use Rattle.jn_bytes.specs.declared.next.Next.TheVariants.{Did, Refused}
 use Rattle.jn_bytes.specs.declared.next.ByteRefusal.TheVariants.{Operation, NotBytes, PastEnd}
 use Rattle.jn_bytes.specs.declared.stage.Stage.TheVariants.{Length, First, Second}
@@ -43,7 +43,7 @@ module _ (f : FileNo) (offset n : ℕ) (bytes : List ℕ) (files : Files) (there
   below : offset % 448 < 448
   below = mod_below offset 448 (omega arith)
 
-  abbrev its_write : Call
+  abbrev its_write : ByteCommand
   its_write = WriteBytes f offset bytes
 
   abbrev its_first : List ℕ
@@ -119,21 +119,21 @@ module _ (f : FileNo) (offset : ℕ) (files : Files) (there : is_some (files (Fi
 
 -- ---- every call
 
-begins : (call : Call) (files : Files) → is_some (files (File (file_of_call call))) ≡ true → Fits call
+begins : (call : ByteCommand) (files : Files) → is_some (files (File (file_of_call call))) ≡ true → Fits call
     → ComesTo call (go_on call Length (block_in files (file_of_call call) 0)) files (reply_of call (bytes_of files (file_of_call call))) (files_left call files (bytes_of files (file_of_call call)) (reply_of call (bytes_of files (file_of_call call))))
 begins (ReadBytes f offset count) files there fits = read-by-length f offset count files there (length_in (block_in files f 0)) (length-most (block_in files f 0))
 begins (WriteBytes f offset bytes) files there fits = write-by-length f offset files there bytes fits.0 (length_in (block_in files f 0)) (length-most (block_in files f 0))
 
 -- a refused call leaves the files
-unchanged : (call : Call) (files : Files) (all : Option (List ℕ)) → files_left call files all (Refused (Operation NoFile)) ≡ files
+unchanged : (call : ByteCommand) (files : Files) (all : Option (List ℕ)) → files_left call files all (Refused (Operation NoFile)) ≡ files
 unchanged (ReadBytes f offset count) files all = refl
 unchanged (WriteBytes f offset bytes) files None = refl
 unchanged (WriteBytes f offset bytes) files (Some all) = refl
 
-absent : (call : Call) (files : Files) → is_some (files (File (file_of_call call))) ≡ false → ComesTo call (first_turn call) files (Refused (Operation NoFile)) files
+absent : (call : ByteCommand) (files : Files) → is_some (files (File (file_of_call call))) ≡ false → ComesTo call (first_turn call) files (Refused (Operation NoFile)) files
 absent call files gone = sends call (read_op (file_of_call call) 0) Length files (Refused (Operation NoFile)) files (rw gone (over call (Refused (Operation NoFile)) files))
 
-pub each-call : (call : Call) (files : Files) → Fits call → ComesTo call (first_turn call) files (reply_to call files) (files_after_call call files)
+pub each-call : (call : ByteCommand) (files : Files) → Fits call → ComesTo call (first_turn call) files (reply_to call files) (files_after_call call files)
 each-call call files fits = elim (cases_Bool (is_some (files (File (file_of_call call))))) [
   | inl h ↦ rw h (reads call (file_of_call call) 0 Length files _ _ h (begins call files h fits))
   | inr h ↦ rw (h, unchanged call files (bytes_of files (file_of_call call))) (absent call files h)

@@ -8,3 +8,4 @@ pub mod Puts
 pub mod Putting
 pub mod Exchanging
 pub mod After
+pub mod Ending

@@ -9,13 +9,20 @@ use Rattle.std.proofs.lemmas.List.{length-drop}
 use Rattle.jn_base.specs.declared.names.FileNo.{FileNo}
 use Rattle.jn_base.specs.declared.op.Op.{Op}
 use Rattle.jn_base.specs.declared.op.Answer.{Answer}
-use Rattle.jn_bytes.specs.declared.call.Call.{Call}
-use Rattle.jn_bytes.specs.declared.call.Call.TheVariants.{ReadBytes, WriteBytes}
+use Rattle.jn_base.specs.declared.call.ByteCommand.{ByteCommand}
+use Rattle.jn_base.specs.declared.call.ByteCommand.TheVariants.{ReadBytes, WriteBytes}
 use Rattle.jn_bytes.specs.declared.stage.Stage.{Stage}
 use Rattle.jn_bytes.specs.declared.stage.Stage.TheVariants as stages
 unfoldable use Rattle.jn_bytes.specs.ByteFiles.{length_in}
-use Rattle.jn_bytes.specs.Turns.{block_at, place_in_block, read_from, read_of, first_part, second_part, filled, write_all, grown, with_first, write_of, with_length, go_on, turn, turn_by, block_given, first_turn}
-use Rattle.jn_bytes.specs.Ranges.{Fits, AreOfCall, StageFits, TurnFits}
+use Rattle.jn_bytes.specs.Turns.{block_at, place_in_block, read_from, read_of, first_part, second_part, filled, write_all, grown, with_first, write_of, with_length, go_on, turn, turn_by, first_turn, block_given}
+use Rattle.jn_bytes.specs.declared.stage.Turn.{Turn}
+use Rattle.jn_bytes.specs.declared.stage.Turn.TheVariants.{Sends, Over}
+use Rattle.jn_bytes.specs.Ranges.{Fits, AreOfCall, IsOfCall, SendsOfCall, StageFits}
+
+-- what a turn asks is of the call, and it comes to a stage that fits
+abbrev pub TurnFits : ByteCommand → Turn → Type 0
+TurnFits call (Sends op stage) = IsOfCall call op × StageFits call stage
+TurnFits call (Over next) = SendsOfCall call next
 
 -- block 0 doesn't tell of more bytes than there can be
 pub length-most : (block : List ℕ) (n : ℕ) → length_in block ≡ Some n → n ≤ 1128512
@@ -25,7 +32,7 @@ length-most block n e = grind (arith, nat_tests, e)
 -- ---- a read
 
 module _ (f : FileNo) (offset count : ℕ) where
-  abbrev reads : Call
+  abbrev reads : ByteCommand
   reads = ReadBytes f offset count
 
   read-from : (p from left : ℕ) (bytes : List ℕ) → 1 ≤ p → from < 448 → (1 ≤ left → 448 * (p - 1) + (from + left) ≤ 1128512) → TurnFits reads (read_from f p from left bytes)
@@ -51,7 +58,7 @@ module _ (f : FileNo) (offset count : ℕ) where
 -- ---- a write
 
 module _ (f : FileNo) (offset : ℕ) (bytes : List ℕ) (few : length bytes ≤ 448) (within : offset + length bytes ≤ 1128512) where
-  abbrev writes : Call
+  abbrev writes : ByteCommand
   writes = WriteBytes f offset bytes
 
   place : 448 * (offset / 448) + offset % 448 ≡ offset
@@ -104,16 +111,16 @@ module _ (f : FileNo) (offset : ℕ) (bytes : List ℕ) (few : length bytes ≤ 
 
 -- ---- every call
 
-goes-on : (call : Call) (stage : Stage) (b : List ℕ) → Fits call → StageFits call stage → TurnFits call (go_on call stage b)
+goes-on : (call : ByteCommand) (stage : Stage) (b : List ℕ) → Fits call → StageFits call stage → TurnFits call (go_on call stage b)
 goes-on (ReadBytes f offset count) stage b fits stays = reads-on f offset count stage b stays
 goes-on (WriteBytes f offset bytes) stage b fits stays = writes-on f offset bytes fits.0 fits.1 stage b stays
 
-pub first_fits : (call : Call) → TurnFits call (first_turn call)
+pub first_fits : (call : ByteCommand) → TurnFits call (first_turn call)
 first_fits (ReadBytes f offset count) = ((refl, omega arith), tt)
 first_fits (WriteBytes f offset bytes) = ((refl, omega arith), tt)
 
 -- each turn of a call that fits, at any answer
-pub turn_fits : (call : Call) (stage : Stage) (answer : Answer) → Fits call → StageFits call stage → TurnFits call (turn call stage answer)
+pub turn_fits : (call : ByteCommand) (stage : Stage) (answer : Answer) → Fits call → StageFits call stage → TurnFits call (turn call stage answer)
 turn_fits call stage answer fits stays = by (block_given answer)
   where
     by : (o : Option (List ℕ)) → TurnFits call (turn_by call stage answer o)

@@ -10,8 +10,8 @@ use Rattle.jn_base.specs.declared.names.FileNo.{FileNo}
 use Rattle.jn_base.specs.declared.names.LockUnit.TheVariants.{File, Block}
 use Rattle.jn_order.specs.Files.{Files, or_else}
 unfoldable use Rattle.jn_order.specs.Files.{zeros}
-use Rattle.jn_bytes.specs.declared.call.Call.{Call}
-use Rattle.jn_bytes.specs.declared.call.Call.TheVariants.{ReadBytes}
+use Rattle.jn_base.specs.declared.call.ByteCommand.{ByteCommand}
+use Rattle.jn_base.specs.declared.call.ByteCommand.TheVariants.{ReadBytes}
 use Rattle.jn_bytes.specs.declared.next.Next.TheVariants.{Done, Refused}
 use Rattle.jn_bytes.specs.declared.next.ByteRefusal.TheVariants.{NotBytes}
 use Rattle.jn_bytes.specs.declared.stage.Stage.TheVariants.{Block as AsksBlock}
@@ -55,7 +55,7 @@ length-places files f = by 2519 refl
 -- ---- block by block
 
 module _ (f : FileNo) (offset count : ℕ) (files : Files) (there : is_some (files (File f)) ≡ true) where
-  abbrev its_read : Call
+  abbrev its_read : ByteCommand
   its_read = ReadBytes f offset count
 
   read-all : (m p from left : ℕ) (out : List ℕ) → from < 448 → from + left ≤ 448 * m

@@ -5,8 +5,7 @@ use Rattle.byteorder.specs.Endian.{big_bytes, big_number}
 use Rattle.jn_base.specs.declared.names.FileNo.{FileNo}
 use Rattle.jn_base.specs.declared.names.LockUnit.TheVariants.{Block}
 use Rattle.jn_order.specs.Files.{Files, or_else, zeros}
-use Rattle.jn_bytes.specs.Limits.{block_size, most_bytes}
-use Rattle.jn_base.specs.Limits.{most_blocks}
+use Rattle.jn_base.specs.Limits.{block_size, most_file_bytes, most_blocks}
 
 -- block 0 of a file with so many bytes: "JBYT", their number, zeros
 unfoldable pub length_block : ℕ → List ℕ
@@ -20,7 +19,7 @@ told_length block = big_number 4 (drop 4 block)
 unfoldable pub length_in : List ℕ → Option ℕ
 length_in block =
     if bytes_eq block zeros then Some 0
-    else (if bytes_eq block (length_block (told_length block)) && nat_le (told_length block) most_bytes then Some (told_length block) else None)
+    else (if bytes_eq block (length_block (told_length block)) && nat_le (told_length block) most_file_bytes then Some (told_length block) else None)
 
 -- cut or filled to the size of a block
 unfoldable pub sized : List ℕ → List ℕ

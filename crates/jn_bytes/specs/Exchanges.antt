@@ -1,15 +1,14 @@
 -- A whole call: its operations with their answers, and what they come to.
-use Rattle.std.specs.Prelude.{◌≡◌, ⊤, ℕ, ◌+◌, ◌++◌, Bool, not, List, [], ◌∷◌, length, take, drop, map, Some, is_some, true}
+use Rattle.std.specs.Prelude.{◌≡◌, ℕ, ◌+◌, ◌++◌, Bool, not, List, [], ◌∷◌, length, take, drop, Some, is_some, true}
 use Rattle.jn_base.specs.declared.names.FileNo.{FileNo}
 use Rattle.jn_base.specs.declared.names.LockUnit.{LockUnit}
 use Rattle.jn_base.specs.declared.names.LockUnit.TheVariants.{File, Block}
-use Rattle.jn_base.specs.declared.op.Op.{Op}
-use Rattle.jn_base.specs.declared.op.Answer.{Answer}
 use Rattle.jn_base.specs.Names.{file_eq}
-use Rattle.jn_order.specs.Files.{Files, answer_to, files_after}
+use Rattle.jn_order.specs.Files.{Files}
 use Rattle.jn_order.specs.Changes.{files_then}
-use Rattle.jn_bytes.specs.declared.call.Call.{Call}
-use Rattle.jn_bytes.specs.declared.call.Call.TheVariants.{ReadBytes, WriteBytes}
+use Rattle.jn_order.specs.Answers.{Answered, ops_of, FilesAnswer}
+use Rattle.jn_base.specs.declared.call.ByteCommand.{ByteCommand}
+use Rattle.jn_base.specs.declared.call.ByteCommand.TheVariants.{ReadBytes, WriteBytes}
 use Rattle.jn_bytes.specs.declared.next.Next.{Next}
 use Rattle.jn_bytes.specs.declared.next.Next.TheVariants.{Done, Did}
 use Rattle.jn_bytes.specs.declared.stage.Turn.{Turn}
@@ -19,32 +18,19 @@ use Rattle.jn_bytes.specs.Calls.{reply_to, files_after_call}
 use Rattle.jn_bytes.specs.Turns.{turn, first_turn}
 use Rattle.jn_bytes.specs.Ranges.{Fits}
 
--- an operation with its answer
-pub record Answered : Type 0 where
-  pub op : Op
-  pub answer : Answer
-
-abbrev pub ops_of : List Answered → List Op
-ops_of os = map (λ a. a.op) os
-
--- the files give these answers, one operation after another
-abbrev pub GiveAnswers : Files → List Answered → Type 0
-GiveAnswers files [] = ⊤
-GiveAnswers files (a ∷ more) = (answer_to a.op files ≡ a.answer) × GiveAnswers (files_after a.op files) more
-
 -- the call asks these operations from this turn on, is answered so, and ends with this reply
-abbrev pub GoesOn : Call → Turn → List Answered → Next → Type 0
+abbrev pub GoesOn : ByteCommand → Turn → List Answered → Next → Type 0
 GoesOn call (Over last) [] reply = last ≡ reply
 GoesOn call (Sends op stage) (a ∷ more) reply = (a.op ≡ op) × GoesOn call (turn call stage a.answer) more reply
 GoesOn call _ _ reply = ⊥
 
 -- these are the operations of a call from its first one to its last
-abbrev pub IsExchange : Call → List Answered → Next → Type 0
+abbrev pub IsExchange : ByteCommand → List Answered → Next → Type 0
 IsExchange call os reply = GoesOn call (first_turn call) os reply
 
 -- operations that files answer one after another, and that are a call's, do and are answered what the call is on these files
-abbrev pub ExchangeIsCall : Call → Files → List Answered → Next → Type 0
-ExchangeIsCall call files os reply = Fits call → GiveAnswers files os → IsExchange call os reply
+abbrev pub ExchangeIsCall : ByteCommand → Files → List Answered → Next → Type 0
+ExchangeIsCall call files os reply = Fits call → FilesAnswer files os → IsExchange call os reply
     → (reply ≡ reply_to call files) × (files_then (ops_of os) files ≡ files_after_call call files)
 
 -- a register of another file, or whether a file is there

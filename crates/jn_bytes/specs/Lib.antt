@@ -1,6 +1,6 @@
-pub mod Limits
 pub mod ByteFiles
 pub mod Calls
 pub mod Turns
 pub mod Ranges
 pub mod Exchanges
+pub mod Counting

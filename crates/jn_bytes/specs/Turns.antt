@@ -6,8 +6,8 @@ use Rattle.jn_base.specs.declared.op.Op.TheVariants.{Read, Write}
 use Rattle.jn_base.specs.declared.op.Answer.{Answer}
 use Rattle.jn_base.specs.declared.op.Answer.TheVariants as answers
 use Rattle.jn_order.specs.Files.{zeros}
-use Rattle.jn_bytes.specs.declared.call.Call.{Call}
-use Rattle.jn_bytes.specs.declared.call.Call.TheVariants.{ReadBytes, WriteBytes}
+use Rattle.jn_base.specs.declared.call.ByteCommand.{ByteCommand}
+use Rattle.jn_base.specs.declared.call.ByteCommand.TheVariants.{ReadBytes, WriteBytes}
 use Rattle.jn_bytes.specs.declared.next.Next.{Next}
 use Rattle.jn_bytes.specs.declared.next.Next.TheVariants.{Send, Done, Did, Refused}
 use Rattle.jn_bytes.specs.declared.next.ByteRefusal.TheVariants.{Operation, NotBytes, PastEnd}
@@ -15,7 +15,7 @@ use Rattle.jn_bytes.specs.declared.stage.Stage.{Stage}
 use Rattle.jn_bytes.specs.declared.stage.Stage.TheVariants as stages
 use Rattle.jn_bytes.specs.declared.stage.Turn.{Turn}
 use Rattle.jn_bytes.specs.declared.stage.Turn.TheVariants.{Sends, Over}
-use Rattle.jn_bytes.specs.Limits.{block_size}
+use Rattle.jn_base.specs.Limits.{block_size}
 use Rattle.jn_bytes.specs.ByteFiles.{length_block, length_in, sized}
 use Rattle.jn_bytes.specs.Calls.{file_of_call}
 
@@ -32,7 +32,7 @@ block_at offset = offset / block_size + 1
 abbrev pub place_in_block : ℕ → ℕ
 place_in_block offset = offset % block_size
 
-abbrev pub first_turn : Call → Turn
+abbrev pub first_turn : ByteCommand → Turn
 first_turn call = Sends (read_op (file_of_call call) 0) stages.Length
 
 -- where block 0 isn't of the format the call is over
@@ -95,7 +95,7 @@ write_of f offset bytes n =
 -- ---- every turn
 
 -- by the block that was read
-abbrev pub go_on : Call → Stage → List ℕ → Turn
+abbrev pub go_on : ByteCommand → Stage → List ℕ → Turn
 go_on (ReadBytes f offset count) stages.Length b = with_length (length_in b) (λ n. read_of f offset count n)
 go_on (ReadBytes f offset count) (stages.Block p from left bytes) b = read_from f (p + 1) 0 (left - (block_size - from)) (bytes ++ take left (drop from b))
 go_on (WriteBytes f offset bytes) stages.Length b = with_length (length_in b) (λ n. write_of f offset bytes n)
@@ -111,27 +111,27 @@ block_given answers.Did = Some (sized zeros)
 block_given (answers.Read b) = Some (sized b)
 block_given refusal = None
 
-abbrev pub turn_by : Call → Stage → Answer → Option (List ℕ) → Turn
+abbrev pub turn_by : ByteCommand → Stage → Answer → Option (List ℕ) → Turn
 turn_by call stage answer (Some b) = go_on call stage b
 turn_by call stage answer None = Over (Refused (Operation answer))
 
 -- an operation that is refused ends the call
-abbrev pub turn : Call → Stage → Answer → Turn
+abbrev pub turn : ByteCommand → Stage → Answer → Turn
 turn call stage answer = turn_by call stage answer (block_given answer)
 
 -- ---- a call under way
 
 -- which call, and which answer it waits for
 pub record Calling : Type 0 where
-  pub call : Call
+  pub call : ByteCommand
   pub waits : Option Stage
 
 -- before its first turn
-abbrev pub begun : Call → Calling
+abbrev pub begun : ByteCommand → Calling
 begun call = record { call = call; waits = None }
 
 -- without an answer that is waited for the call begins anew
-abbrev pub turn_from : Call → Option Stage → Option Answer → Turn
+abbrev pub turn_from : ByteCommand → Option Stage → Option Answer → Turn
 turn_from call (Some stage) (Some answer) = turn call stage answer
 turn_from call _ _ = first_turn call
 

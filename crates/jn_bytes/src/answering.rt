@@ -1,25 +1,24 @@
 //! What a call does at an answer.
 
 ghost use Rattle.std.specs.Prelude.{◌≡◌, IfOk, OnErr};
-ghost use Rattle.jn_bytes.specs.declared.call.Call.TheVariants.{ReadBytes, WriteBytes};
+ghost use Rattle.jn_base.specs.declared.call.ByteCommand.TheVariants.{ReadBytes, WriteBytes};
 ghost use Rattle.jn_bytes.specs.Ranges.{Fits, StageFits};
 ghost use Rattle.jn_bytes.specs.Turns as turns;
 
 use crate::block::length_in;
-use crate::call::Call;
 use crate::next::{ByteRefusal, Next};
 use crate::ops::Ops;
 use crate::reading::{read_of, read_on};
 use crate::stage::{Stage, Turn};
 use crate::writing::{first_read, second_read, write_all, write_of};
-use jn_base::{Answer, Block, FileNo};
+use jn_base::{Answer, Block, ByteCommand, FileNo};
 use std::alloc::{AllocError, Global};
 use std::mem::replace;
 
 /// The turn at an answer. Without memory the stage is as it was.
 pub fn turn_at(
     alloc: Global,
-    call: &Call,
+    call: &ByteCommand,
     stage: &mut Stage,
     answer: &Answer,
 ) -> Result<Turn, AllocError>
@@ -49,16 +48,21 @@ fn block_given(answer: &Answer) -> Option<Block>
 }
 
 /// The turn by the block that was read.
-fn go_on(alloc: Global, call: &Call, stage: &mut Stage, read: &Block) -> Result<Turn, AllocError>
+fn go_on(
+    alloc: Global,
+    call: &ByteCommand,
+    stage: &mut Stage,
+    read: &Block,
+) -> Result<Turn, AllocError>
     requires { Fits call.now × StageFits call.now stage.old }
     ensures ok { IfOk result (λ turn. turn ≡ turns.go_on call.now stage.old read.now) }
     ensures err { OnErr result (stage.new ≡ stage.old) }
 {
     match call {
-        Call::ReadBytes(file, offset, count) => go_on_reading(
+        ByteCommand::ReadBytes(file, offset, count) => go_on_reading(
             alloc, *file, *offset, *count, stage, read,
         ),
-        Call::WriteBytes(file, offset, bytes) => go_on_writing(
+        ByteCommand::WriteBytes(file, offset, bytes) => go_on_writing(
             alloc,
             *file,
             *offset,

@@ -1,13 +1,12 @@
 //! The bytes of blocks.
 
 ghost use Rattle.std.specs.Prelude.{◌≡◌, ◌≤◌, ◌+◌, length, IfSome};
-ghost use Rattle.jn_bytes.specs.Limits.{most_bytes};
+ghost use Rattle.jn_base.specs.Limits.{most_file_bytes};
 ghost use Rattle.jn_bytes.specs.ByteFiles.{length_block, length_in};
 ghost use Rattle.jn_bytes.specs.Turns.{filled};
 
-use crate::limits::MOST_BYTES;
 use byteorder::{BigEndian, ByteOrder};
-use jn_base::Block;
+use jn_base::{Block, MOST_FILE_BYTES};
 
 /// Block 0 of a file with so many bytes.
 #[tactic(auto, unfolding(crate::specs::ByteFiles::length_block))]
@@ -24,13 +23,13 @@ pub fn length_block(length: u32) -> Block
 #[tactic(auto, unfolding(crate::specs::ByteFiles::length_in, jn_order::specs::Files::zeros))]
 pub fn length_in(block: &Block) -> Option<u32>
     ensures length { result ≡ length_in block.now }
-    ensures most { IfSome result (λ n. n ≤ most_bytes) }
+    ensures most { IfSome result (λ n. n ≤ most_file_bytes) }
 {
     if *block == [0; 448] {
         return Some(0);
     }
     let length = BigEndian::read_u32(&block[4..]);
-    if *block == length_block(length) && length <= MOST_BYTES {
+    if *block == length_block(length) && length <= MOST_FILE_BYTES {
         Some(length)
     } else {
         None

@@ -1,17 +1,15 @@
 //! Calls on the bytes of a file.
 
 ghost use Rattle.std.specs.Prelude.{◌≡◌, ◌≤◌, ◌+◌, length, option_map, IfOk, OnOk, OnErr};
-ghost use Rattle.jn_bytes.specs.declared.call.Call.TheVariants.{ReadBytes, WriteBytes};
-ghost use Rattle.jn_bytes.specs.Limits.{block_size, most_bytes};
+ghost use Rattle.jn_base.specs.declared.call.ByteCommand.TheVariants.{ReadBytes, WriteBytes};
+ghost use Rattle.jn_base.specs.Limits.{block_size, most_file_bytes};
 ghost use Rattle.jn_bytes.specs.Ranges.{SendsOfCall};
 ghost use Rattle.jn_bytes.specs.Turns as turns;
 
 use crate::answering::turn_at;
-use crate::call::Call;
-use crate::few_bytes::FewBytes;
 use crate::next::Next;
 use crate::stage::{Stage, Turn};
-use jn_base::{Answer, BlockNo, FileNo, Op};
+use jn_base::{Answer, BlockNo, ByteCommand, ByteString, FileNo, Op};
 use std::alloc::{AllocError, Global};
 use std::marker::Model;
 
@@ -19,10 +17,10 @@ use std::marker::Model;
 /// is waited for.
 ///
 /// Block 0 of a file of bytes has the four letters JBYT, the number of bytes in four bytes, highest first, at most
-/// `MOST_BYTES`, and zeros; or it is all zeros, and there are no bytes. Byte o stands in block 1 + o / 448 at o modulo 448.
+/// `MOST_FILE_BYTES`, and zeros; or it is all zeros, and there are no bytes. Byte o stands in block 1 + o / 448 at o modulo 448.
 #[derive(Drop)]
 pub struct ByteCall {
-    call: Call,
+    call: ByteCommand,
     waits: Option<Stage>,
 }
 
@@ -43,19 +41,19 @@ impl ByteCall {
         ensures { result ≡ turns.begun (ReadBytes file offset count) }
     {
         ByteCall {
-            call: Call::ReadBytes(file, offset, count),
+            call: ByteCommand::ReadBytes(file, offset, count),
             waits: None,
         }
     }
 
-    /// A write of bytes from byte `offset` on: at most 448 of them, which end within the `MOST_BYTES` of a file.
-    pub fn write(file: FileNo, offset: u32, bytes: &[u8]) -> ByteCall
-        requires few { length bytes.now ≤ block_size }
-        requires within { offset + length bytes.now ≤ most_bytes }
-        ensures { result ≡ turns.begun (WriteBytes file offset bytes.now) }
+    /// A write of bytes from byte `offset` on: at most 448 of them, which end within the `MOST_FILE_BYTES` of a file.
+    pub fn write(file: FileNo, offset: u32, bytes: ByteString) -> ByteCall
+        requires few { length bytes ≤ block_size }
+        requires within { offset + length bytes ≤ most_file_bytes }
+        ensures { result ≡ turns.begun (WriteBytes file offset bytes) }
     {
         ByteCall {
-            call: Call::WriteBytes(file, offset, FewBytes::new(bytes)),
+            call: ByteCommand::WriteBytes(file, offset, bytes),
             waits: None,
         }
     }
@@ -89,8 +87,8 @@ impl ByteCall {
         ensures range { SendsOfCall self.old.call result }
     {
         let file = match &self.call {
-            Call::ReadBytes(file, _, _) => *file,
-            Call::WriteBytes(file, _, _) => *file,
+            ByteCommand::ReadBytes(file, _, _) => *file,
+            ByteCommand::WriteBytes(file, _, _) => *file,
         };
         self.waits = Some(Stage::Length);
         Next::Send(Op::Read(file, BlockNo(0)))

@@ -4,11 +4,8 @@
 mod answering;
 mod block;
 mod byte_call;
-mod byte_string;
-mod call;
-mod few_bytes;
+mod gathered;
 mod laws;
-mod limits;
 mod next;
 mod ops;
 mod reading;
@@ -16,7 +13,8 @@ mod stage;
 mod writing;
 
 pub use byte_call::ByteCall;
-pub use byte_string::ByteString;
-pub use laws::{a_read_is_of_its_bytes, a_write_is_of_its_bytes, an_exchange_is_its_call};
-pub use limits::{MOST_BYTES, MOST_WRITTEN};
+pub use gathered::Gathered;
+pub use laws::{
+    a_call_has_its_end, a_read_is_of_its_bytes, a_write_is_of_its_bytes, an_exchange_is_its_call,
+};
 pub use next::{ByteRefusal, Next};

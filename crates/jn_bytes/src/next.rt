@@ -1,6 +1,6 @@
 //! What a call does next, and why it is refused.
 
-use crate::byte_string::ByteString;
+use crate::gathered::Gathered;
 use jn_base::{Answer, Op};
 
 /// What a call does next.
@@ -9,7 +9,7 @@ pub enum Next {
     /// It asks this operation, and waits for its answer.
     Send(Op),
     /// A read is over, with these bytes.
-    Done(ByteString),
+    Done(Gathered),
     /// A write is over.
     Did,
     /// It is over, and did nothing but the operations that it asked so far.

@@ -1,6 +1,6 @@
 //! What is asked next, and which answer is waited for then.
 
-use crate::byte_string::ByteString;
+use crate::gathered::Gathered;
 use crate::next::Next;
 use crate::ops::Ops;
 use jn_base::{BlockContent, Op};
@@ -12,7 +12,7 @@ pub enum Stage {
     Length,
     /// Of the read of a block of which bytes are wanted: its number, the place of the first of them there, how many are
     /// still wanted, here and behind it, and the bytes so far.
-    Block(u16, u16, u16, ByteString),
+    Block(u16, u16, u16, Gathered),
     /// Of the read of the first block that a write covers in part, with how many bytes the file has.
     First(u32),
     /// Of the read of the second one, with how many bytes the file has and what is to be in the first one.

@@ -1,7 +1,7 @@
 //! The turns of a write.
 
 ghost use Rattle.std.specs.Prelude.{◌≡◌, ◌≤◌, ◌<◌, ◌+◌, ◌-◌, ◌++◌, length, IfOk, OnOk};
-ghost use Rattle.jn_bytes.specs.Limits.{block_size, most_bytes};
+ghost use Rattle.jn_base.specs.Limits.{block_size, most_file_bytes};
 ghost use Rattle.jn_bytes.specs.Turns as turns;
 
 use crate::block::{filled, length_block};
@@ -19,7 +19,7 @@ pub fn write_of(
     bytes: &[u8],
     had: u32,
 ) -> Result<Turn, AllocError>
-    requires { (length bytes.now ≤ block_size) × (offset + length bytes.now ≤ most_bytes) }
+    requires { (length bytes.now ≤ block_size) × (offset + length bytes.now ≤ most_file_bytes) }
     ensures { IfOk result (λ turn. turn ≡ turns.write_of file offset bytes.now had) }
 {
     if had < offset {
@@ -46,7 +46,7 @@ pub fn first_read(
     had: u32,
     read: &Block,
 ) -> Result<Turn, AllocError>
-    requires { (1 ≤ length bytes.now) × (length bytes.now ≤ block_size) × (offset + length bytes.now ≤ most_bytes) }
+    requires { (1 ≤ length bytes.now) × (length bytes.now ≤ block_size) × (offset + length bytes.now ≤ most_file_bytes) }
     ensures { IfOk result (λ turn. turn ≡ turns.with_first file offset bytes.now had (turns.filled (turns.place_in_block offset) (turns.first_part offset bytes.now) read.now)) }
 {
     let first = filled(place_in_block(offset), first_part(offset, bytes), read);
@@ -63,7 +63,7 @@ fn with_first(
     had: u32,
     first: BlockContent,
 ) -> Result<Turn, AllocError>
-    requires { (1 ≤ length bytes.now) × (length bytes.now ≤ block_size) × (offset + length bytes.now ≤ most_bytes) }
+    requires { (1 ≤ length bytes.now) × (length bytes.now ≤ block_size) × (offset + length bytes.now ≤ most_file_bytes) }
     ensures { IfOk result (λ turn. turn ≡ turns.with_first file offset bytes.now had first) }
 {
     if second_part(offset, bytes).is_empty() {
@@ -86,7 +86,7 @@ pub fn second_read(
     first: &BlockContent,
     read: &Block,
 ) -> Result<Turn, AllocError>
-    requires { (1 ≤ length bytes.now) × (length bytes.now ≤ block_size) × (offset + length bytes.now ≤ most_bytes) }
+    requires { (1 ≤ length bytes.now) × (length bytes.now ≤ block_size) × (offset + length bytes.now ≤ most_file_bytes) }
     ensures { IfOk result (λ turn. turn ≡ turns.with_second file offset bytes.now had first.now (turns.filled 0 (turns.second_part offset bytes.now) read.now)) }
 {
     let second = filled(0, second_part(offset, bytes), read);
@@ -127,7 +127,7 @@ pub fn write_all(mut ops: Ops) -> Turn
 
 /// The block of a byte.
 fn block_at(offset: u32) -> u16
-    requires { offset ≤ most_bytes }
+    requires { offset ≤ most_file_bytes }
     ensures { result ≡ turns.block_at offset }
 {
     (offset / 448 + 1) as u16

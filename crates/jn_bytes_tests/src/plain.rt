@@ -1,6 +1,8 @@
 //! A file with its blocks, and the same bytes in memory.
 
-use jn_base::{Answer, BlockContent, BlockNo, FileNo, Op, ServerNo};
+ghost use Rattle.std.specs.Prelude.{◌≤◌, ◌+◌, length};
+
+use jn_base::{Answer, BlockContent, BlockNo, ByteString, FileNo, Op, ServerNo};
 use jn_bytes::{ByteCall, Next};
 use jn_replay::{Files, do_op};
 use std::alloc::{AllocError, Global};
@@ -47,6 +49,29 @@ pub fn finish(alloc: Global, files: &mut Files, call: &mut ByteCall) -> Result<E
         next = call.next(alloc, Some(&answer))?;
     }
     Ok(Ended { next, steps })
+}
+
+/// A write of these bytes.
+pub fn write_call(alloc: Global, offset: u32, bytes: &[u8]) -> Result<ByteCall, AllocError>
+    requires few { length bytes.now ≤ 448 }
+    requires within { offset + length bytes.now ≤ 1128512 }
+{
+    let string = ByteString::new(alloc, Vec::from_slice(alloc, bytes)?)?;
+    Ok(ByteCall::write(FILE, offset, string))
+}
+
+/// Does it on the files.
+pub fn write(
+    alloc: Global,
+    files: &mut Files,
+    offset: u32,
+    bytes: &[u8],
+) -> Result<Ended, AllocError>
+    requires few { length bytes.now ≤ 448 }
+    requires within { offset + length bytes.now ≤ 1128512 }
+{
+    let mut call = write_call(alloc, offset, bytes)?;
+    finish(alloc, files, &mut call)
 }
 
 /// Writes the first bytes of a block, and zeros behind them.

@@ -1,8 +1,8 @@
 //! Rows worked by hand: a small file, one that is as long as a file can be, and blocks 0 that are none.
 
-use crate::plain::{FILE, SERVER, Step, block_of, finish, header, put};
-use jn_base::{Answer, Op};
-use jn_bytes::{ByteCall, ByteRefusal, MOST_BYTES, Next};
+use crate::plain::{FILE, SERVER, Step, block_of, finish, header, put, write, write_call};
+use jn_base::{Answer, MOST_FILE_BYTES, Op};
+use jn_bytes::{ByteCall, ByteRefusal, Next};
 use jn_replay::{Files, do_op};
 use std::alloc::{AllocError, Global};
 use std::test::Fail;
@@ -22,17 +22,13 @@ fn gives(next: &Next, bytes: &[u8]) -> bool {
 fn small_writes_are_read_again(rt: HostRuntime) -> Result<(), Fail> {
     let alloc = rt.alloc();
     let mut files = created(alloc)?;
-    let end = finish(
-        alloc,
-        &mut files,
-        &mut ByteCall::write(FILE, 0, &[0x61, 0x62, 0]),
-    )?;
+    let end = write(alloc, &mut files, 0, &[0x61, 0x62, 0])?;
     assert!(rt; matches!(end.next, Next::Did));
-    let end = finish(alloc, &mut files, &mut ByteCall::write(FILE, 1, &[0x63]))?;
+    let end = write(alloc, &mut files, 1, &[0x63])?;
     assert!(rt; matches!(end.next, Next::Did));
     let end = finish(alloc, &mut files, &mut ByteCall::read(FILE, 1, 9))?;
     assert!(rt; gives(&end.next, &[0x63, 0]));
-    let end = finish(alloc, &mut files, &mut ByteCall::write(FILE, 4, &[0x64]))?;
+    let end = write(alloc, &mut files, 4, &[0x64])?;
     assert!(rt; matches!(end.next, Next::Refused(ByteRefusal::PastEnd(3))));
     let head = block_of(alloc, &mut files, 0)?;
     assert!(rt; head.starts_with(&[0x4a, 0x42, 0x59, 0x54, 0, 0, 0, 3, 0]));
@@ -45,17 +41,13 @@ fn small_writes_are_read_again(rt: HostRuntime) -> Result<(), Fail> {
 fn a_block_that_is_covered_whole_is_not_read(rt: HostRuntime) -> Result<(), Fail> {
     let alloc = rt.alloc();
     let mut files = created(alloc)?;
-    let end = finish(alloc, &mut files, &mut ByteCall::write(FILE, 0, &[1; 448]))?;
+    let end = write(alloc, &mut files, 0, &[1; 448])?;
     assert!(rt; matches!(end.next, Next::Did));
     assert_eq!(rt;
         end.steps.as_slice(),
         [Step::Reads(0), Step::Writes(1), Step::Writes(0)].as_slice()
     );
-    let end = finish(
-        alloc,
-        &mut files,
-        &mut ByteCall::write(FILE, 447, &[0x61, 0x62]),
-    )?;
+    let end = write(alloc, &mut files, 447, &[0x61, 0x62])?;
     assert!(rt; matches!(end.next, Next::Did));
     let end = finish(alloc, &mut files, &mut ByteCall::read(FILE, 447, 9))?;
     assert!(rt; gives(&end.next, &[0x61, 0x62]));
@@ -65,14 +57,10 @@ fn a_block_that_is_covered_whole_is_not_read(rt: HostRuntime) -> Result<(), Fail
 #[test]
 fn the_last_byte_of_a_file_is_reached(rt: HostRuntime) -> Result<(), Fail> {
     let alloc = rt.alloc();
-    assert_eq!(rt; MOST_BYTES, 1_128_512);
+    assert_eq!(rt; MOST_FILE_BYTES, 1_128_512);
     let mut files = created(alloc)?;
     put(alloc, &mut files, 0, &header(1_128_511))?;
-    let end = finish(
-        alloc,
-        &mut files,
-        &mut ByteCall::write(FILE, 1_128_511, &[5]),
-    )?;
+    let end = write(alloc, &mut files, 1_128_511, &[5])?;
     assert!(rt; matches!(end.next, Next::Did));
     let steps = [
         Step::Reads(0),
@@ -87,11 +75,7 @@ fn the_last_byte_of_a_file_is_reached(rt: HostRuntime) -> Result<(), Fail> {
         &mut ByteCall::read(FILE, 1_128_510, 65_535),
     )?;
     assert!(rt; gives(&end.next, &[0, 5]));
-    let end = finish(
-        alloc,
-        &mut files,
-        &mut ByteCall::write(FILE, 1_128_512, &[]),
-    )?;
+    let end = write(alloc, &mut files, 1_128_512, &[])?;
     assert!(rt; matches!(end.next, Next::Did));
     let end = finish(
         alloc,
@@ -133,7 +117,7 @@ fn block_0_is_of_the_format_or_it_is_not(rt: HostRuntime) -> Result<(), Fail> {
 fn a_refused_operation_ends_its_call(rt: HostRuntime) -> Result<(), Fail> {
     let alloc = rt.alloc();
     let mut files = Files::new(alloc);
-    let mut call = ByteCall::write(FILE, 0, &[1]);
+    let mut call = write_call(alloc, 0, &[1])?;
     let end = finish(alloc, &mut files, &mut call)?;
     assert!(rt;
         matches!(

@@ -1,8 +1,8 @@
 //! Reads and writes around the size of a block, over files of five lengths, beside bytes in memory.
 
 use crate::plain::{
-    FILE, block_of, file_of, finish, header, pattern, read_of, read_steps, size_of, write_steps,
-    written,
+    FILE, block_of, file_of, finish, header, pattern, read_of, read_steps, size_of, write,
+    write_steps, written,
 };
 use jn_bytes::{ByteCall, ByteRefusal, Next};
 use std::alloc::{AllocError, Global};
@@ -59,11 +59,7 @@ fn writes_right(alloc: Global, length: u32, offset: u32, count: u32) -> Result<b
     if others.len() > 448 || offset > 1000 {
         return Ok(false);
     }
-    let end = finish(
-        alloc,
-        &mut files,
-        &mut ByteCall::write(FILE, offset, &others),
-    )?;
+    let end = write(alloc, &mut files, offset, &others)?;
     match &end.next {
         Next::Did => {
             let now = written(alloc, &bytes, offset, &others)?;

@@ -8,7 +8,7 @@ pub use Rattle.std.specs.Prelude.{IsErr, is_err}
 pub use Rattle.jn_base.specs.declared.device.Stopped.{Stopped}
 pub use Rattle.jn_device.specs.declared.Look.{Look}
 pub use Rattle.jn_device.specs.declared.Look.TheVariants.{Good, LooksBad}
-pub use Rattle.jn_device.specs.Device.{DeviceState, partner_of, Rose}
+pub use Rattle.jn_device.specs.Device.{DeviceState, partner_of}
 pub use Rattle.jn_device.specs.Calls.{GetStep, due, PutStep}
 pub use Rattle.jn_device.specs.Later.{Later, Struck}
 pub use Rattle.jn_device.proofs.Steps.{get_later, get_struck, get_bytes, put_later, put_struck, put_bytes, put_bytes_at}

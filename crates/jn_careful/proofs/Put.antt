@@ -1,5 +1,6 @@
 -- The turns of a careful put.
-use Rattle.jn_careful.proofs.Common.{Happens, get, joined, later_refl, ◌<◌, ◌≡◌, ◌≢◌, ◌⊎◌, inl, inr, ⊎_elim, ℕ, ◌+◌, ◌*◌, ◌≤◌, Bool, true, false, List, [], ap, Result, Ok, Err, refl, sym, ◌∙◌, subst, arith, nat_tests, IsErr, is_err, Stopped, Look, Good, LooksBad, DeviceState, Rose, GetStep, PutStep, Later, Struck, later_trans, struck_trans, rose_since, rose_then, get_later, put_later, get_struck, put_struck, get_bytes, put_bytes, put_bytes_at, Found, Same, Other, FoundBad, look_compared, IsCompared, PutCompared, CarefulPut, IsServed, IsStopped, putting, ArePutInVain, no_put, put_once_more, PutRun, puts, PutsCarefully}
+use Rattle.jn_careful.proofs.Common.{Happens, get, joined, later_refl, ◌<◌, ◌≡◌, ◌≢◌, ◌⊎◌, inl, inr, ⊎_elim, ℕ, ◌+◌, ◌*◌, ◌≤◌, Bool, true, false, List, [], ap, Result, Ok, Err, refl, sym, ◌∙◌, subst, arith, nat_tests, IsErr, is_err, Stopped, Look, Good, LooksBad, DeviceState, GetStep, PutStep, Later, Struck, later_trans, struck_trans, rose_since, rose_then, get_later, put_later, get_struck, put_struck, get_bytes, put_bytes, put_bytes_at, Found, Same, Other, FoundBad, look_compared, IsCompared, PutCompared, CarefulPut, IsServed, IsStopped, putting, ArePutInVain, no_put, put_once_more, PutRun, puts, PutsCarefully}
+use Rattle.jn_base.specs.Counts.{Rose}
 use Rattle.jn_careful.proofs.Get.{gets_up}
 
 -- after n puts whose page was not there

@@ -1,7 +1,8 @@
 -- What a careful get and a careful put do.
 use Rattle.std.specs.Prelude.{◌≡◌, ◌≢◌, ◌⊎◌, ℕ, ◌+◌, ◌≤◌, Bool, true, false, List, [], Option, Some, None, Result, Ok, Err}
 use Rattle.jn_base.specs.declared.device.Stopped.{Stopped}
-use Rattle.jn_device.specs.Device.{DeviceState, Rose, partner_of}
+use Rattle.jn_device.specs.Device.{DeviceState, partner_of}
+use Rattle.jn_base.specs.Counts.{Rose}
 use Rattle.jn_device.specs.Later.{Later, Struck}
 use Rattle.jn_device.specs.Happens.{Happens}
 use Rattle.jn_phys.specs.declared.Found.{Found}

@@ -1,6 +1,7 @@
 //! What stands before an abort, a stop and a refused fault.
 
 ghost use Rattle.std.specs.Prelude.{◌≡◌, ◌↔◌, ◌&&◌, not, IsTrue};
+ghost use Rattle.jn_base.specs.Names.{is_stop};
 ghost use Rattle.jn_base.specs.declared.names.Cause.TheVariants as reasons;
 ghost use Rattle.jn_report.specs.Kinds.{begins, breaks, goes_down, refuses_event, refuses_fault, stops};
 ghost use Rattle.jn_report.specs.declared.line.When.TheVariants.{Event as AtEvent};
@@ -137,7 +138,7 @@ fn is_caused_by(
 }
 
 fn is_stop(kind: FaultKind) -> bool
-    ensures { result ≡ caused.is_stop kind }
+    ensures { result ≡ is_stop kind }
 {
     matches!(
         kind,

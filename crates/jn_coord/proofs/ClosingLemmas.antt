@@ -1,5 +1,5 @@
 -- A client's transactions are closed one by one.
-use Rattle.jn_coord.proofs.Common.{◌≡◌, ℕ, Bool, true, false, ◌+◌, ◌≤◌, ◌&&◌, if◌then◌else◌, List, [], ◌∷◌, ◌++◌, Option, Some, None, Result, Ok, Err, length, refl, sym, ◌∙◌, ap, subst, arith, length-append, append_assoc, ClientNo, Tid, tid_eq, tid_tells, Transaction, Stage, Open, Voting, Committed, Aborted, Change, DropFlag, StableState, made_all, made_by, transaction_at, without, is_voting, all_in, closed, thanked, thanked_changes, StorageView, IsLoadable, state, FlagDropped, storage_refl, storage_trans, Remembered, are_above, rises, is_ok, CallFault, Memory, Stopped, flag_told, committed_as, FitsStorage, Releases, goes, is_committed, is_decided, takes_part, next_closing, tid_in, left_by, changes_by, going_in, LetsGo, GoneFrom, StaysOrGoes, ClosesOn, ClosesNext, ClosingStopped, ClosesAll, left_of}
+use Rattle.jn_coord.proofs.Common.{◌≡◌, Bool, true, false, ◌+◌, ◌≤◌, ◌&&◌, if◌then◌else◌, List, [], ◌∷◌, ◌++◌, Option, Some, None, Result, Ok, Err, length, refl, sym, ◌∙◌, ap, subst, arith, length-append, append_assoc, ClientNo, Tid, tid_eq, tid_tells, Transaction, Stage, Open, Voting, Committed, Aborted, Change, DropFlag, StableState, made_all, made_by, transaction_at, without, is_voting, all_in, closed, thanked, thanked_changes, StorageView, IsLoadable, state, FlagDropped, storage_refl, storage_trans, Remembered, are_above, rises, is_ok, CallFault, Memory, Stopped, flag_told, committed_as, FitsStorage, Releases, goes, is_committed, is_decided, takes_part, next_closing, tid_in, left_by, changes_by, going_in, LetsGo, GoneFrom, StaysOrGoes, ClosesOn, ClosesNext, ClosingStopped, ClosesAll, left_of}
 use Rattle.jn_rows.proofs.Left.{stop-first, left-past}
 use Rattle.jn_store.proofs.Laws.{stop_since}
 use Rattle.jn_coord.proofs.Tables.{at-named, for-found, counted, counted-then}
@@ -251,17 +251,9 @@ stopped-after c r s u v w f g = record {
   stop = stop_since u.store v.store w.store f.later.store g.later.store g.stop;
 }
 
-none-left : (c : Option ClientNo) (xs : List Transaction) (n : ℕ) → length xs + n ≤ n → next_closing c xs ≡ None
-none-left c [] n h = refl
-none-left c (x ∷ xs) n h = absurd (omega (arith, h))
-
 -- where s is the table before the step
 pub step-on : (c : Option ClientNo) (r s t : Remembered) (u v w : StorageView) (a : Result Bool CallFault) (b : Bool) → ClosesOn c r u s v → ClosesNext c s v a t w → a ≡ Ok b → b ≡ true → ClosesOn c r u t w × (length t.transactions + 1 ≤ length s.transactions)
 step-on c r s t u v w a b f g e go = let h = subst (λ d. ClosesNext c s v (Ok d) t w) go (subst (λ d. ClosesNext c s v d t w) e g) in (closes-more c r s t u v w f h.0, h.1)
-
-pub step-ends : (c : Option ClientNo) (r s t : Remembered) (u v w : StorageView) (a : Result Bool CallFault) (b : Bool) → ClosesOn c r u s v → ClosesNext c s v a t w → a ≡ Ok b → b ≡ false → ClosesOn c r u t w × (next_closing c t.transactions ≡ None)
-step-ends c r s t u v w a b f g e stop = let h = subst (λ d. ClosesNext c s v (Ok d) t w) stop (subst (λ d. ClosesNext c s v d t w) e g) in
-    (subst (λ z. ClosesOn c r u t z) (sym h.2) (subst (λ z. ClosesOn c r u z v) (sym h.1) f), subst (λ z. next_closing c z.transactions ≡ None) (sym h.1) h.0)
 
 pub step-stopped : (c : Option ClientNo) (r s t : Remembered) (u v w : StorageView) (a : Result Bool CallFault) (fault : CallFault) → ClosesOn c r u s v → ClosesNext c s v a t w → a ≡ Err fault → ClosingStopped c r u w
 step-stopped c r s t u v w a Memory f g e = absurd (subst (λ d. ClosesNext c s v d t w) e g)

@@ -3,7 +3,8 @@ use Rattle.std.proofs.Common.{ℕ, ◌≤◌, Bool, List, refl, ◌∙◌, arith
 use Rattle.std.proofs.lemmas.Bool.Decides.{nat_tests}
 use Rattle.jn_base.specs.declared.device.Outside.{Outside}
 use Rattle.jn_device.specs.declared.Armed.{Armed}
-use Rattle.jn_device.specs.Device.{DeviceState, Rose}
+use Rattle.jn_device.specs.Device.{DeviceState}
+use Rattle.jn_base.specs.Counts.{Rose}
 use Rattle.jn_device.specs.Later.{Later, Spends, Struck, touches}
 
 -- what rose since a moment rose since an earlier one

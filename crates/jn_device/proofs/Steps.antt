@@ -11,7 +11,8 @@ use Rattle.jn_device.specs.declared.Look.{Look}
 use Rattle.jn_device.specs.Device.{DeviceState, page_met, IsSoundDevice}
 use Rattle.jn_device.specs.Calls.{due, waiting_on, strike, CallStep, GetStep, PutStep, told_of}
 use Rattle.jn_device.specs.Events.{Becomes, Decays}
-use Rattle.jn_device.specs.Later.{Later, Struck, count_kind, count_told, is_stop, touches, darkness}
+use Rattle.jn_device.specs.Later.{Later, Struck, count_kind, count_told, touches, darkness}
+use Rattle.jn_base.specs.Names.{is_stop}
 
 -- 1 where the fault that strikes is of these kinds
 abbrev struck_count : (FaultKind → Bool) → Option FaultKind → ℕ

@@ -11,7 +11,8 @@ use Rattle.jn_device.specs.declared.GetOutcome.{GetOutcome}
 use Rattle.jn_device.specs.declared.GetOutcome.TheVariants.{Unread, Reads, Misreads, ReadsAndStops}
 use Rattle.jn_device.specs.declared.PutOutcome.{PutOutcome}
 use Rattle.jn_device.specs.declared.PutOutcome.TheVariants.{Unwritten, Writes, Misses, Spoils, Tears, WritesAndStops}
-use Rattle.jn_device.specs.Device.{PageState, DeviceState, bumped, partner_of, partner_at, may_fail, may_decay_at, page_met}
+use Rattle.jn_device.specs.Device.{PageState, DeviceState, partner_of, partner_at, may_fail, may_decay_at, page_met}
+use Rattle.jn_base.specs.Counts.{bumped}
 
 -- the fault that meets the next call
 abbrev pub due : List Armed → Option FaultKind

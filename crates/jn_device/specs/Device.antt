@@ -1,5 +1,5 @@
 -- The device's state: its pages, its power, the faults that wait and its counts.
-use Rattle.std.specs.Prelude.{◌≡◌, ◌⊎◌, ℕ, ◌+◌, ◌-◌, ◌<◌, ◌≤◌, ◌^◌, ◌/◌, nat_lt, nat_eq, Bool, true, false, ◌&&◌, ◌||◌, if◌then◌else◌, List, replicate, Option, Some}
+use Rattle.std.specs.Prelude.{◌≡◌, ℕ, ◌+◌, ◌-◌, ◌<◌, ◌/◌, nat_lt, nat_eq, Bool, true, false, ◌&&◌, ◌||◌, if◌then◌else◌, List, replicate, Option, Some}
 use Rattle.jn_base.specs.declared.device.FaultKind.{FaultKind}
 use Rattle.jn_base.specs.declared.device.FaultKind.TheVariants.{Decay, Revive}
 use Rattle.jn_base.specs.declared.device.Outside.{Outside}
@@ -33,14 +33,6 @@ pub record DeviceState : Type 0 where
 -- 512 zeros
 unfoldable pub blank_page : List ℕ
 blank_page = replicate 512 0
-
--- a count of 64 bits rises by one, or stands at its last value
-abbrev pub bumped : ℕ → ℕ
-bumped n = if nat_lt n (2 ^ 64 - 1) then n + 1 else n
-
--- a count rose, or stood at its last value
-abbrev pub Rose : ℕ → ℕ → Type 0
-Rose before after = (before < after) ⊎ (2 ^ 64 - 1 ≤ before)
 
 -- stable page i is kept at i and at i + half: the other of the two
 abbrev pub partner_at : ℕ → ℕ → ℕ

@@ -1,7 +1,8 @@
 -- What every run of calls keeps.
 use Rattle.std.specs.Prelude.{◌≡◌, ◌⊎◌, ℕ, ◌+◌, ◌≤◌, ◌<◌, Bool, true, false, if◌then◌else◌, nat_eq, List, [], ◌∷◌}
+use Rattle.jn_base.specs.Names.{is_stop}
 use Rattle.jn_base.specs.declared.device.FaultKind.{FaultKind}
-use Rattle.jn_base.specs.declared.device.FaultKind.TheVariants.{Decay, Revive, StopBefore, StopTorn, StopAfter}
+use Rattle.jn_base.specs.declared.device.FaultKind.TheVariants.{Decay, Revive}
 use Rattle.jn_base.specs.declared.device.Outside.{Outside}
 use Rattle.jn_device.specs.declared.Armed.{Armed}
 use Rattle.jn_device.specs.Device.{DeviceState, IsSoundDevice}
@@ -15,12 +16,6 @@ count_kind f (w ∷ ws) = (if f w.kind then 1 else 0) + count_kind f ws
 abbrev pub count_told : (FaultKind → Bool) → List Outside → ℕ
 count_told f [] = 0
 count_told f (o ∷ os) = (if f o.kind then 1 else 0) + count_told f os
-
-abbrev pub is_stop : FaultKind → Bool
-is_stop StopBefore = true
-is_stop StopTorn = true
-is_stop StopAfter = true
-is_stop _ = false
 
 -- a fault that strikes page q by itself
 abbrev pub touches : ℕ → FaultKind → Bool

@@ -1,5 +1,5 @@
 -- The pages of a server that was closed, as a store, and a store's as those of a server that is closed.
-use Rattle.jn_disks.proofs.Common.{◌≡◌, ⊎_elim, ◌<◌, ◌≤◌, ◌+◌, ◌*◌, ◌/◌, ◌-◌, ◌^◌, ◌&&◌, ℕ, Bool, true, false, if◌then◌else◌, List, [], length, sym, ◌∙◌, ap, subst, arith, nat_lt, take, drop, Half, DeviceState, HasHalves, IsNew, Files, Image, IsSound, Counts, Pages, page_count, slot_place, head_place, data_place, is_used, file_in, address_in, pairs_view, IsStoreOf, IsImage, image_on, files_agree, image_fresh, AreSound, HasPages, image_of, files_in, IsStoreOfPages, nat_tests, format_version, IsMapPage, Spot, InHead, AsMap, InMap, IsUsedAt, IsWrittenAt, NamesMap, map_in, entry_in}
+use Rattle.jn_disks.proofs.Common.{◌≡◌, ⊎_elim, ◌<◌, ◌≤◌, ◌+◌, ◌*◌, ◌/◌, ◌-◌, ◌&&◌, ℕ, Bool, true, false, if◌then◌else◌, List, [], length, sym, ◌∙◌, ap, subst, arith, nat_lt, take, drop, Half, DeviceState, HasHalves, IsNew, Files, Image, IsSound, Counts, Pages, page_count, slot_place, head_place, data_place, is_used, file_in, address_in, pairs_view, IsStoreOf, IsImage, image_on, files_agree, image_fresh, AreSound, HasPages, image_of, files_in, IsStoreOfPages, nat_tests, format_version, IsMapPage, Spot, InHead, AsMap, InMap, IsUsedAt, IsWrittenAt, NamesMap, map_in, entry_in}
 use Rattle.jn_base.specs.Limits.{head_blocks, most_maps}
 use Rattle.jn_base.specs.declared.names.ServerNo.{ServerNo}
 use Rattle.std.proofs.lemmas.Bool.{cases_lt}
@@ -56,9 +56,6 @@ module _ (version : ℕ) (s server : ServerNo) (g : Counts) (good_one good_two :
 -- ---- a disk of the pages
 
 module _ (version : ℕ) (server : ServerNo) (g : Counts) (halves : List Half) (are : AreSound version server g halves) where
-  pub few : length halves < 2 ^ 32
-  few = let size = are.size in let pool = are.fit.pool in let heads = are.fit.heads in let leaves = are.fit.leaves in omega (arith, size, pool, heads, leaves)
-
   pub even : 2 * (length halves / 2) ≡ length halves
   even = let size = are.size in omega (arith, size)
 
@@ -114,9 +111,6 @@ past_is : (a b : ℕ) → b ≤ a → nat_lt a b ≡ false
 past_is a b h = grind (arith, nat_tests)
 
 module _ (server : ServerNo) (g : Counts) (files : Files) (s : DeviceState) (image : IsImage server g files (pairs_view s)) (count : page_count g ≡ s.count / 2) (halves : List Half) (holds : HasHalves halves s) where
-  abbrev taken : List Half
-  taken = take (2 * (s.count / 2)) halves
-
   taken_at : (p : ℕ) → p < 2 * page_count g → half_at (take (2 * (s.count / 2)) halves) p ≡ half_at halves p
   taken_at p lt = get_or-take (2 * (s.count / 2)) halves p (record { good = false; bytes = [] }) (omega (arith, lt, count))
 

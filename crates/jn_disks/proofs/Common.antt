@@ -1,5 +1,5 @@
 -- The names from below that these proofs cite, passed on from one place. Declares nothing.
-pub use Rattle.std.proofs.Common.{◌≡◌, ⊎_elim, ◌<◌, ◌≤◌, ◌+◌, ◌*◌, ◌/◌, ◌-◌, ◌^◌, ◌&&◌, ℕ, Bool, true, false, if◌then◌else◌, List, [], length, sym, ◌∙◌, ap, subst, arith, inr, zero, suc, nat_eq, true≢false, ◌∷◌, Some, None, replicate, refl}
+pub use Rattle.std.proofs.Common.{◌≡◌, ⊎_elim, ◌<◌, ◌≤◌, ◌+◌, ◌*◌, ◌/◌, ◌-◌, ◌&&◌, ℕ, Bool, true, false, if◌then◌else◌, List, [], length, sym, ◌∙◌, ap, subst, arith, inr, zero, suc, ◌^◌, nat_eq, true≢false, ◌∷◌, Some, None, replicate, refl}
 pub use Rattle.std.specs.Prelude.{nat_lt, take, drop, option_map, option_and_then}
 pub use Rattle.jn_device.specs.declared.Half.{Half}
 pub use Rattle.jn_device.specs.Device.{DeviceState}

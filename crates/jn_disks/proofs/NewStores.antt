@@ -1,5 +1,5 @@
 -- A store of zeros with a root, as a new server has it: its pages fix what a recovery finds there.
-use Rattle.jn_disks.proofs.Common.{◌≡◌, inr, ℕ, zero, suc, ◌+◌, ◌<◌, ◌^◌, ◌&&◌, ◌≤◌, nat_eq, nat_lt, ◌*◌, ◌-◌, Bool, true, false, true≢false, if◌then◌else◌, List, [], ◌∷◌, Some, None, drop, replicate, refl, sym, ◌∙◌, ap, subst, arith, option_map, option_and_then, there, blank_page, IsNewStore, IsNewDisk, new_page, no_files, CountsFit, IsFresh, IsImage, image_on, counts_of, image_fresh, Image, IsSound, Counts, page_count, slot_place, head_place, data_place, is_used, file_in, is_head_of, head_from, block_in, files_of_pages, StoreView, StorePut, IsBlank, IsOnly, StoreLater, nat_tests, place_in, root_by, format_version, root_page, Spot, InHead, AsMap, InMap, IsWrittenAt, head_page}
+use Rattle.jn_disks.proofs.Common.{◌≡◌, inr, ℕ, zero, suc, ◌+◌, ◌<◌, ◌^◌, ◌&&◌, ◌≤◌, nat_eq, nat_lt, ◌*◌, ◌-◌, Bool, true, false, true≢false, if◌then◌else◌, List, [], ◌∷◌, Some, None, drop, replicate, refl, sym, ◌∙◌, ap, subst, arith, option_map, option_and_then, there, blank_page, IsNewStore, IsNewDisk, new_page, no_files, CountsFit, IsFresh, IsImage, image_on, counts_of, image_fresh, Image, IsSound, page_count, slot_place, head_place, data_place, is_used, file_in, is_head_of, head_from, block_in, files_of_pages, StoreView, StorePut, IsBlank, IsOnly, StoreLater, nat_tests, place_in, root_by, format_version, root_page, Spot, InHead, AsMap, InMap, IsWrittenAt, head_page}
 use Rattle.std.proofs.Math.Path.{fun_ext}
 use Rattle.jn_base.specs.declared.device.Outside.{Outside}
 use Rattle.jn_base.specs.declared.names.FileNo.{FileNo}
@@ -49,9 +49,6 @@ behind root p least = ap (λ b. if b then root_page root else blank_page) (not_f
     not_first a l = grind (arith, nat_tests, l)
 
 module _ (root : Root) (version : root.version ≡ format_version) (epoch_fits : root.epoch < 2 ^ 32) (fit : CountsFit root.server (counts_of root)) (v : StoreView) (new : IsNewStore root v) where
-  abbrev g : Counts
-  g = counts_of root
-
   abbrev image : Image
   image = image_on root.server (counts_of root) v
 

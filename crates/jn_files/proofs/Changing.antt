@@ -1,7 +1,11 @@
 -- What another layout in a slot makes of the files.
-use Rattle.jn_files.proofs.Common.{◌≡◌, ◌≢◌, inl, inr, ◌<◌, ℕ, suc, Bool, true, false, List, [], ◌∷◌, length, Option, Some, None, refl, sym, ap, subst, ◌∙◌, arith, true≢false, fun_ext, cases_eq, false_from_ne_true, eq-eqb, nat_tests, get_or-set_same, get_or-set_other, length-set, find, slice_set, slice_index_or, nat_eq, nat_lt, nat_le, ◌&&◌, if◌then◌else◌, option_map, option_and_then, most_blocks, file_eq, block_eq, FileNo, BlockNo, LockUnit, File, Block, Files, Change, change, or_else, there, created, removed, cut_from, written, Layout, Unused, Of, at_cell, layout_at, is_layout_of, behind, block_in, with_cell, find-only}
+use Rattle.jn_files.proofs.Common.{◌≡◌, ◌≢◌, inl, inr, ◌<◌, ℕ, suc, Bool, true, false, List, [], ◌∷◌, length, Option, Some, None, refl, sym, ap, subst, ◌∙◌, arith, true≢false, fun_ext, cases_eq, false_from_ne_true, eq-eqb, nat_tests, get_or-set_same, get_or-set_other, length-set, find, slice_set, slice_index_or, nat_eq, nat_lt, nat_le, ◌&&◌, if◌then◌else◌, option_map, option_and_then, most_blocks, file_eq, block_eq, FileNo, BlockNo, LockUnit, File, Block, Files, Change, change, or_else, there, created, removed, cut_from, written, Layout, Unused, Of, at_cell, layout_at, is_layout_of, behind, block_in, find-only}
 use Rattle.std.proofs.lemmas.List.Folds.{find_past}
 use Rattle.jn_records.specs.Layouts.{files_in}
+
+-- another address at one cell
+abbrev pub with_cell : ℕ → ℕ → (ℕ → ℕ) → ℕ → ℕ
+with_cell p a cells q = if nat_eq q p then a else cells q
 
 find_none : {A : Type 0} (t : A → Bool) (xs : List A) (d : A) → ((k : ℕ) → t (slice_index_or xs k d) ≡ false) → find t xs ≡ None
 find_none t [] d none = refl

@@ -1,16 +1,15 @@
 -- What each put makes of the files of a table.
-use Rattle.jn_files.proofs.Common.{◌≡◌, ◌⊎◌, inl, inr, ⊎_elim, ◌<◌, ◌≤◌, ◌-◌, ◌%◌, ℕ, suc, Bool, true, false, List, replicate, take, refl, sym, ap, subst, ◌∙◌, arith, slice_set, nat_eq, nat_lt, nat_le, if◌then◌else◌, div-add-mod, mod-lt, cases_eq, cases_lt, nat_tests, head_blocks, most_maps, most_blocks, FileNo, BlockNo, Change, change, cut_from, Head, Layout, at_cell, through, kept_entry, layout_by, is_layout_of, with_cell, cut_inside, is_in_range, among, part-files, TableView, IsTable, head_in, is_of, layouts_in, layout_in, files_of, fresh_head, kept_maps, range_of, block_written, IsChange, IsCutInside, cells_kept}
+use Rattle.jn_files.proofs.Common.{◌≡◌, ◌⊎◌, inl, inr, ⊎_elim, ◌<◌, ◌≤◌, ◌-◌, ◌%◌, ℕ, suc, Bool, true, false, List, replicate, take, refl, sym, ap, subst, ◌∙◌, arith, slice_set, nat_eq, nat_lt, nat_le, if◌then◌else◌, div-add-mod, mod-lt, cases_eq, cases_lt, nat_tests, head_blocks, most_maps, most_blocks, FileNo, BlockNo, Change, change, cut_from, Head, Layout, at_cell, through, kept_entry, layout_by, is_layout_of, cut_inside, is_in_range, among, part-files, TableView, IsTable, head_in, is_of, layouts_in, layout_in, files_of, fresh_head, kept_maps, range_of, block_written, IsChange, IsCutInside, cells_kept, file-at}
 use Rattle.jn_records.specs.Layouts.{files_in}
 use Rattle.jn_files.proofs.Cells.{CellCase, InHead, InMap, OfMap, Past, cell_case}
-use Rattle.jn_files.proofs.Changing.{layout_tells, becomes_cut, becomes_written}
+use Rattle.jn_files.proofs.Changing.{with_cell, layout_tells, becomes_cut, becomes_written}
 use Rattle.jn_files.proofs.Cutting.{zeros_at}
 use Rattle.jn_files.proofs.Laying.{cells, in_head, in_map, of_map, past_all, kept_head, kept_map, kept_of, or_zero, and_zero, zero_or, zero_and, lt_true, lt_false, le_true, le_false}
-use Rattle.jn_files.proofs.Lookup.{layout_is, layout_is_of}
 use Rattle.jn_files.proofs.Turning.{Turns, there}
 
 -- whose a slot's layout is
 pub layout_own : (t : TableView) (f : FileNo) (k : ℕ) → is_layout_of f (layout_in t k) ≡ is_of f (head_in t.heads k)
-layout_own t f k = ap (is_layout_of f) (layout_is (kept_entry t.maps) t.heads k) ∙ layout_is_of (kept_entry t.maps) f (head_in t.heads k)
+layout_own t f k = file-at (kept_entry t.maps) f t.heads k
 
 -- ---- a file that stays
 

@@ -1,5 +1,6 @@
 -- The cells of a head or a map page with other addresses.
-use Rattle.jn_files.proofs.Common.{◌≡◌, ◌≢◌, ◌⊎◌, inl, inr, ◌<◌, ◌≤◌, ◌+◌, ◌*◌, ◌-◌, ◌%◌, ℕ, zero, suc, Bool, true, false, List, length, drop, refl, sym, ap, subst, ◌∙◌, arith, true≢false, slice_index, slice_set, nat_eq, nat_lt, nat_le, ◌&&◌, if◌then◌else◌, cases_eq, cases_lt, nat_tests, get_or-set_same, get_or-set_other, head_blocks, most_maps, most_blocks, most_cells, map_cell, through, laid, kept_entry, with_cell, with_entries, cut_inside, is_in_range, laid-block, laid-entry, laid-map, laid-past, cut_addresses, kept_maps, range_of, one_entry, cells_kept}
+use Rattle.jn_files.proofs.Common.{◌≡◌, ◌≢◌, ◌⊎◌, inl, inr, ◌<◌, ◌≤◌, ◌+◌, ◌*◌, ◌-◌, ◌%◌, ℕ, zero, suc, Bool, true, false, List, length, drop, refl, sym, ap, subst, ◌∙◌, arith, true≢false, slice_index, slice_set, nat_eq, nat_lt, nat_le, ◌&&◌, if◌then◌else◌, cases_eq, cases_lt, nat_tests, get_or-set_same, get_or-set_other, head_blocks, most_maps, most_blocks, most_cells, map_cell, through, laid, kept_entry, with_entries, cut_inside, is_in_range, laid-block, laid-entry, laid-map, laid-past, cut_addresses, kept_maps, range_of, one_entry, cells_kept}
+use Rattle.jn_files.proofs.Changing.{with_cell}
 use Rattle.std.specs.Prelude.{replicate}
 use Rattle.jn_files.proofs.Cells.{CellCase, InHead, InMap, OfMap, Past, cell_case}
 use Rattle.jn_files.proofs.Cutting.{cut_kept, cut_gone, zeros_at, there_below, index_below}

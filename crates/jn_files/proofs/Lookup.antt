@@ -1,5 +1,5 @@
 -- The head of a file among the heads, and what it says together with its map pages.
-use Rattle.jn_files.proofs.Common.{◌≡◌, ◌≤◌, ◌<◌, ℕ, zero, suc, Bool, true, false, List, [], ◌∷◌, length, Option, Some, None, refl, sym, ap, subst, ◌∙◌, arith, is_some, option_map, if◌then◌else◌, nat_lt, ◌&&◌, ◌||◌, find, fun_ext, false_from_ne_true, and_parts, nat_tests, FileNo, BlockNo, most_maps, most_blocks, LeastFrom, Head, Free, Used, Layout, at_cell, layout_by, layouts_by, layout_at, is_layout_of, head_map, map_cell, kept_entry, names_map, maps_in, get-map, map-cell-is, head_in, is_of, is_free, exists, address_for, is_mapped, layouts_of, or_unused, has_block}
+use Rattle.jn_files.proofs.Common.{◌≡◌, ◌≤◌, ◌<◌, ℕ, zero, suc, Bool, true, false, List, [], ◌∷◌, length, Option, Some, None, refl, sym, ap, subst, ◌∙◌, arith, is_some, option_map, if◌then◌else◌, nat_lt, ◌&&◌, ◌||◌, find, fun_ext, false_from_ne_true, and_parts, FileNo, BlockNo, most_maps, most_blocks, LeastFrom, Head, Free, Used, Layout, at_cell, layout_by, layouts_by, layout_at, is_layout_of, head_map, map_cell, kept_entry, names_map, maps_in, get-map, map-cell-is, head_in, is_of, is_free, exists, address_for, is_mapped, layouts_of, or_unused, has_block, own-file}
 use Rattle.std.proofs.lemmas.Bool.{true≢false}
 
 -- either one, by a test that is known
@@ -17,16 +17,12 @@ not_free f (Used g xs maps) e = refl
 
 -- ---- a head with its map pages
 
-pub layout_is_of : (maps : ℕ → ℕ → ℕ) (f : FileNo) (h : Head) → is_layout_of f (layout_by maps h) ≡ is_of f h
-layout_is_of maps f Free = refl
-layout_is_of maps f (Used g xs ms) = refl
-
 pub layout_is : (maps : ℕ → ℕ → ℕ) (heads : List Head) (slot : ℕ) → layout_at (layouts_by maps heads) slot ≡ layout_by maps (head_in heads slot)
 layout_is maps heads slot = get-map (layout_by maps) heads slot Free
 
 pub find_layout : (maps : ℕ → ℕ → ℕ) (f : FileNo) (heads : List Head) → find (is_layout_of f) (layouts_by maps heads) ≡ option_map (layout_by maps) (find (is_of f) heads)
 find_layout maps f [] = refl
-find_layout maps f (h ∷ heads) = rw (layout_is_of maps f h) (by (is_of f h) (find_layout maps f heads))
+find_layout maps f (h ∷ heads) = rw (own-file maps f h) (by (is_of f h) (find_layout maps f heads))
   where
     by : (b : Bool) → find (is_layout_of f) (layouts_by maps heads) ≡ option_map (layout_by maps) (find (is_of f) heads)
         → (if b then Some (layout_by maps h) else find (is_layout_of f) (layouts_by maps heads)) ≡ option_map (layout_by maps) (if b then Some h else find (is_of f) heads)

@@ -83,12 +83,6 @@ module _ (slots : List ℕ) (rows : List (List ℕ)) (room : ℕ) (are : AreRows
     pub has-room : length rows < room
     has-room = let m = made-fewer slots d lt none in let c = are.count in let f = are.room_is in omega (arith, m, c, f)
 
-    slots' : List ℕ
-    slots' = slice_set slots d (length rows)
-
-    rows' : List (List ℕ)
-    rows' = rows ++ row ∷ []
-
     is-some : length rows ≢ 0
     is-some p = let c = are.count in absurd (omega (arith, c, p))
 

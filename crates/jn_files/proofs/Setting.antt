@@ -1,5 +1,6 @@
 -- What comes to a layout and what goes, put by put.
-use Rattle.jn_files.proofs.Common.{◌≡◌, ◌≢◌, ◌⊎◌, inl, inr, ⊎_elim, ◌<◌, ◌≤◌, ◌+◌, ◌*◌, ◌-◌, ◌%◌, ℕ, suc, Bool, true, false, List, [], length, drop, refl, sym, ap, subst, ◌∙◌, arith, slice_index, nat_lt, nat_le, ◌&&◌, if◌then◌else◌, cases_eq, cases_lt, nat_tests, get_or_past, head_blocks, most_blocks, Head, Free, Used, Layout, at_cell, kept_entry, layout_by, layout_at, with_cell, cut_inside, is_in_range, inside-was, AreRows, IsHeadOf, row_at, range_of, cells_kept, unnamed_head}
+use Rattle.jn_files.proofs.Common.{◌≡◌, ◌≢◌, ◌⊎◌, inl, inr, ⊎_elim, ◌<◌, ◌≤◌, ◌+◌, ◌*◌, ◌-◌, ◌%◌, ℕ, suc, Bool, true, false, List, [], length, drop, refl, sym, ap, subst, ◌∙◌, arith, slice_index, nat_lt, nat_le, ◌&&◌, if◌then◌else◌, cases_eq, cases_lt, nat_tests, get_or_past, head_blocks, most_blocks, Head, Free, Used, Layout, at_cell, kept_entry, layout_by, layout_at, cut_inside, is_in_range, inside-was, AreRows, IsHeadOf, row_at, range_of, cells_kept, unnamed_head}
+use Rattle.jn_files.proofs.Changing.{with_cell}
 use Rattle.jn_files.proofs.Between.{Moves, Nothing, One, Two}
 use Rattle.jn_files.proofs.Cutting.{whole_length, maps_length, there_below}
 use Rattle.jn_files.proofs.Freeing.{Clears, LeadsFrom, clears_from, index_past, clears_nothing}

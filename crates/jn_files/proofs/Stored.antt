@@ -1,5 +1,6 @@
 -- Where the pages of heads and map pages stand over each put.
-use Rattle.jn_files.proofs.Common.{◌≡◌, ◌≢◌, inl, inr, ⊎_elim, ◌<◌, ◌≤◌, ◌%◌, ℕ, suc, Bool, true, false, List, [], length, drop, refl, sym, ap, subst, ◌∙◌, arith, true≢false, slice_index, slice_set, cases_eq, get_or-set_same, get_or-set_other, length-set, head_blocks, most_maps, most_blocks, FileNo, BlockNo, Change, cut_from, Head, Free, Used, head_page, map_page, Layout, Unused, Of, at_cell, map_cell, kept_entry, layout_by, layout_at, is_layout_of, head_map, with_cell, with_row, is_in_range, among, Counts, head_place, data_place, map-cell-is, StoreView, IsOnly, StorePut, TableView, IsTable, IsUnnamed, head_in, is_of, row_at, layouts_of, layouts_in, layout_in, with_leaf, with_map, one_entry, cut_addresses, range_of, IsLeaf, HoldsHeads, HoldsTable, HasPagesOfTable, FillsMap, IsChanged, PutsHead, PutsMap, MayBecome, block_written, IsChange, MayPutHead, MaySet, MaySetMap}
+use Rattle.jn_files.proofs.Common.{◌≡◌, ◌≢◌, inl, inr, ⊎_elim, ◌<◌, ◌≤◌, ◌%◌, ℕ, suc, Bool, true, false, List, [], length, drop, refl, sym, ap, subst, ◌∙◌, arith, true≢false, slice_index, slice_set, cases_eq, get_or-set_same, get_or-set_other, length-set, head_blocks, most_maps, most_blocks, FileNo, BlockNo, Change, cut_from, Head, Free, Used, head_page, map_page, Layout, Unused, Of, at_cell, map_cell, kept_entry, layout_by, layout_at, is_layout_of, head_map, with_row, is_in_range, among, Counts, head_place, data_place, map-cell-is, StoreView, IsOnly, StorePut, TableView, IsTable, IsUnnamed, head_in, is_of, row_at, layouts_of, layouts_in, layout_in, with_leaf, with_map, one_entry, cut_addresses, range_of, IsLeaf, HoldsHeads, HoldsTable, HasPagesOfTable, FillsMap, IsChanged, PutsHead, PutsMap, MayBecome, block_written, IsChange, MayPutHead, MaySet, MaySetMap}
+use Rattle.jn_files.proofs.Changing.{with_cell}
 use Rattle.jn_files.proofs.Between.{Nothing, One, Two, layout_off}
 use Rattle.jn_files.proofs.Filing.{layout_own, change_written, change_brought, change_part}
 use Rattle.jn_files.proofs.Laying.{kept_was}

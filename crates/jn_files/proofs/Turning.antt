@@ -1,5 +1,6 @@
 -- Each put of a page makes one slot's layout another.
-use Rattle.jn_files.proofs.Common.{◌≡◌, ◌≢◌, inl, inr, ◌<◌, ◌≤◌, ◌%◌, ℕ, suc, Bool, true, false, List, [], length, drop, refl, sym, ap, subst, ◌∙◌, arith, true≢false, slice_index, slice_set, nat_eq, ◌&&◌, cases_eq, get_or-set_same, get_or-set_other, length-set, length-map, head_blocks, most_maps, most_blocks, FileNo, Head, Free, Used, all_within, Layout, at_cell, map_cell, through, kept_entry, layout_by, layout_at, head_map, with_cell, with_entries, with_row, cut_inside, IsMapIn, IsNoMap, IsRowChanged, is_in_range, set-map, map-put, block-put, map-cell-is, TableView, IsTable, AreHeads, AreRows, IsMapRow, IsHeadOf, HaveOneHead, head_in, is_of, is_free, is_held, row_at, layouts_of, layouts_in, layout_in, cut_addresses, with_leaf, with_map, one_entry, range_of, AreNamed, MayPutHead, MaySet, MaySetMap}
+use Rattle.jn_files.proofs.Common.{◌≡◌, ◌≢◌, inl, inr, ◌<◌, ◌≤◌, ◌%◌, ℕ, suc, Bool, true, false, List, [], length, drop, refl, sym, ap, subst, ◌∙◌, arith, true≢false, slice_index, slice_set, nat_eq, ◌&&◌, cases_eq, get_or-set_same, get_or-set_other, length-set, length-map, head_blocks, most_maps, most_blocks, FileNo, Head, Free, Used, all_within, Layout, at_cell, map_cell, through, kept_entry, layout_by, layout_at, head_map, with_entries, with_row, cut_inside, IsMapIn, IsNoMap, IsRowChanged, is_in_range, set-map, map-put, block-put, map-cell-is, TableView, IsTable, AreHeads, AreRows, IsMapRow, IsHeadOf, HaveOneHead, head_in, is_of, is_free, is_held, row_at, layouts_of, layouts_in, layout_in, cut_addresses, with_leaf, with_map, one_entry, range_of, AreNamed, MayPutHead, MaySet, MaySetMap}
+use Rattle.jn_files.proofs.Changing.{with_cell}
 use Rattle.std.specs.Prelude.{replicate}
 use Rattle.jn_files.proofs.Between.{Moves, Marks, Nothing, One, Two, named_once, moves_once, moves_named, layout_here, set_below}
 use Rattle.jn_files.proofs.Cutting.{cut_length, cut_within, set_within, zeros_within, whole_length, maps_length, within_parts, map_page_below}

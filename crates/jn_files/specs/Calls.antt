@@ -8,7 +8,7 @@ use Rattle.jn_base.specs.declared.names.LockUnit.TheVariants.{Block}
 use Rattle.jn_base.specs.Limits.{head_blocks, most_maps}
 use Rattle.jn_order.specs.Files.{Change, change, cut_from, written}
 use Rattle.jn_records.specs.declared.head.Head.{Head}
-use Rattle.jn_records.specs.Heads.{head_page, map_page, head_in}
+use Rattle.jn_records.specs.Heads.{head_page, map_page, head_in, is_of}
 use Rattle.jn_records.specs.Layouts.{at_cell, head_map, layout_at, map_cell, IsNoMap, row_at}
 use Rattle.jn_records.specs.MapPlaces.{is_in_range, maps_named, range_of}
 use Rattle.jn_records.specs.NetLists.{among}
@@ -16,7 +16,7 @@ use Rattle.jn_records.specs.StablePages.{Counts, Pages, head_place, data_place, 
 use Rattle.jn_store.specs.Store.{StoreView, StoreLater, StoreGot, StorePut, StoreCleaned, Shrinks, IsSamePage, IsCalm, IsServed, IsStop, IsWholePage}
 use Rattle.jn_store.specs.Choices.{IsChoice}
 use Rattle.jn_store.specs.DeviceCalls.{cleaned_get_calls}
-use Rattle.jn_files.specs.Table.{TableView, IsTable, AreHeads, is_of, exists, is_held, is_touched, IsUnnamed, files_of, is_mapped, layouts_of, layouts_in, layout_in, with_leaf, with_map, one_entry, cut_head, cut_addresses, cut_map}
+use Rattle.jn_files.specs.Table.{TableView, IsTable, AreHeads, exists, is_held, is_touched, IsUnnamed, files_of, is_mapped, layouts_of, layouts_in, layout_in, with_leaf, with_map, one_entry, cut_head, cut_addresses, cut_map}
 use Rattle.jn_files.specs.Pages.{Says, IsLeaf, leaf_page, HoldsTable, files_in}
 use Rattle.jn_index.specs.Least.{NextAfter}
 

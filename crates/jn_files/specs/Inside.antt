@@ -8,14 +8,14 @@ use Rattle.jn_index.specs.Numbers.{number_at}
 use Rattle.jn_order.specs.Files.{Change, change}
 use Rattle.jn_records.specs.declared.head.Head.{Head}
 use Rattle.jn_records.specs.declared.head.Head.TheVariants.{Free, Used}
-use Rattle.jn_records.specs.Heads.{head_page, map_page, IsMapPage, IsMapRow, head_in, is_free}
+use Rattle.jn_records.specs.Heads.{head_page, map_page, IsMapPage, IsMapRow, head_in, is_free, is_of}
 use Rattle.jn_records.specs.Layouts.{Layout, at_cell, head_map, kept_entry, layout_by, layout_at, map_cell, through, row_at}
 use Rattle.jn_records.specs.MapPlaces.{is_in_range, range_of}
 use Rattle.jn_records.specs.StablePages.{Counts as PageCounts, data_place}
 use Rattle.jn_store.specs.DeviceCalls.{cleaned_get_calls}
 use Rattle.jn_store.specs.Store.{StoreView, StoreLater, Candidate, Shrinks, IsOnly, IsSamePage, IsCalm, IsWholePage}
 use Rattle.jn_files.specs.Pages.{HoldsHeads}
-use Rattle.jn_files.specs.Table.{TableView, IsTable, AreHeads, AreRows, IsHeadOf, IsUnnamed, is_of, is_held, files_of, layouts_of, layouts_in, layout_in, kept_maps}
+use Rattle.jn_files.specs.Table.{TableView, IsTable, AreHeads, AreRows, IsHeadOf, IsUnnamed, is_held, files_of, layouts_of, layouts_in, layout_in, kept_maps}
 
 abbrev pub table_view : ℕ → List Head → List (List ℕ) → List Bool → List Bool → FreeNumbers → FreeNumbers → TableView
 table_view pool heads maps held touched free_heads free_leaves = record {

@@ -3,12 +3,12 @@ use Rattle.std.specs.Prelude.{◌≡◌, ℕ, suc, ◌<◌, ◌++◌, List, leng
 use Rattle.jn_base.specs.Limits.{most_blocks, most_maps}
 use Rattle.jn_order.specs.Files.{Files}
 use Rattle.jn_records.specs.declared.head.Head.{Head}
-use Rattle.jn_records.specs.Heads.{head_page, map_page, IsMapPage, head_in}
-use Rattle.jn_records.specs.Layouts.{Layout, at_cell, head_map, layout_at, layouts_by, row_at}
+use Rattle.jn_records.specs.Heads.{head_page, map_page, IsMapPage, head_in, HaveOneHead}
+use Rattle.jn_records.specs.Layouts.{Layout, at_cell, head_map, layout_at, layouts_by, row_at, AreNamedOnce}
 use Rattle.jn_records.specs.StablePages.{Counts, Pages, head_place, data_place, entry_in, files_of_pages}
 use Rattle.jn_store.specs.Choices.{IsChoice}
 use Rattle.jn_store.specs.Store.{StoreView, IsClean, IsOnly}
-use Rattle.jn_files.specs.Table.{TableView, layouts_of, HaveOneHead, AreNamedOnce, IsHeadOf}
+use Rattle.jn_files.specs.Table.{TableView, layouts_of, IsHeadOf}
 
 -- the pages have these heads, and these entries where the heads name map pages
 pub record Says (g : Counts) (pages : Pages) (rows : List (List ℕ)) (heads : List Head) : Type 0 where

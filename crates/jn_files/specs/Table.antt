@@ -3,13 +3,12 @@ use Rattle.std.specs.Prelude.{◌≡◌, ◌≢◌, ◌↔◌, ◌-◌, ◌/◌,
 use Rattle.std.specs.List.{find}
 use Rattle.jn_alloc.specs.Free.{FreeNumbers, count_of, is_free as is_free_number}
 use Rattle.jn_base.specs.declared.names.FileNo.{FileNo}
-use Rattle.jn_base.specs.Names.{file_eq}
 use Rattle.jn_base.specs.Limits.{head_blocks, most_maps, most_blocks}
 use Rattle.jn_order.specs.Files.{Files}
 use Rattle.jn_records.specs.declared.head.Head.{Head}
 use Rattle.jn_records.specs.declared.head.Head.TheVariants.{Free, Used}
-use Rattle.jn_records.specs.Heads.{IsHead, FileFits, head_in, is_free, IsMapRow}
-use Rattle.jn_records.specs.Layouts.{Layout, Unused, at_cell, kept_entry, layouts_by, layout_at, is_layout_of, files_in, head_map, row_at}
+use Rattle.jn_records.specs.Heads.{IsHead, FileFits, head_in, is_free, is_of, HaveOneHead, IsMapRow}
+use Rattle.jn_records.specs.Layouts.{Layout, Unused, at_cell, kept_entry, layouts_by, layout_at, is_layout_of, files_in, head_map, row_at, AreNamedOnce}
 use Rattle.jn_records.specs.StablePages.{Counts}
 use Rattle.jn_records.specs.MapPlaces.{range_of}
 
@@ -30,10 +29,6 @@ pub record TableView : Type 0 where
 
 -- ---- heads and what they say together with their map pages
 
-abbrev pub is_of : FileNo → Head → Bool
-is_of f Free = false
-is_of f (Used g xs maps) = file_eq g f
-
 abbrev pub layouts_of : List (List ℕ) → List Head → List Layout
 layouts_of rows heads = layouts_by (kept_entry rows) heads
 
@@ -46,14 +41,6 @@ layout_in t slot = layout_at (layouts_in t) slot
 -- data page a is named by no head and by no map page
 abbrev pub IsUnnamed : List Layout → ℕ → Type 0
 IsUnnamed layouts a = (slot q : ℕ) → at_cell (layout_at layouts slot) q ≢ suc a
-
--- no file has two heads
-abbrev pub HaveOneHead : List Head → Type 0
-HaveOneHead heads = (f : FileNo) (i j : ℕ) → is_of f (head_in heads i) ≡ true → is_of f (head_in heads j) ≡ true → i ≡ j
-
--- no data page is named twice
-abbrev pub AreNamedOnce : List Layout → Type 0
-AreNamedOnce layouts = (a i p j q : ℕ) → at_cell (layout_at layouts i) p ≡ suc a → at_cell (layout_at layouts j) q ≡ suc a → (i ≡ j) × (p ≡ q)
 
 -- each head has a page, and leads to data pages that there are
 pub record IsHeadOf (leaves : ℕ) (h : Head) : Type 0 where

@@ -1,7 +1,7 @@
 //! The heads in memory, each found by its file's number.
 ghost use Rattle.std.specs.Prelude.{◌≡◌, ◌<◌, ◌≤◌, ℕ, true, length, List, slice_set, is_some, IfOk, IfSome};
 ghost use Rattle.jn_files.specs.Table as table;
-ghost use Rattle.jn_records.specs.Heads.{head_in};
+ghost use Rattle.jn_records.specs.Heads.{head_in, is_of};
 ghost use Rattle.jn_files.specs.Calls as calls;
 ghost use Rattle.jn_files.specs.Inside as inside;
 
@@ -56,8 +56,8 @@ impl Heads {
 
     /// The slot of a file's head, the lowest where it has several.
     pub fn slot_of(&self, f: FileNo) -> Option<u16>
-        ensures found { IfSome result (λ slot. (slot < length self.now) × (table.is_of f (head_in self.now slot) ≡ true)) }
-        ensures lowest { IfSome result (λ slot. (k : ℕ) → table.is_of f (head_in self.now k) ≡ true → slot ≤ k) }
+        ensures found { IfSome result (λ slot. (slot < length self.now) × (is_of f (head_in self.now slot) ≡ true)) }
+        ensures lowest { IfSome result (λ slot. (k : ℕ) → is_of f (head_in self.now k) ≡ true → slot ≤ k) }
         ensures there { is_some result ≡ table.exists self.now f }
     {
         self.files.slot_from(f.0, 0)

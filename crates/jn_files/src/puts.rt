@@ -9,7 +9,7 @@ ghost use Rattle.jn_records.specs.MapPlaces.{is_in_range, range_of};
 ghost use Rattle.jn_records.specs.NetLists.{among};
 ghost use Rattle.jn_records.specs.Heads as heads;
 ghost use Rattle.jn_files.specs.Table as table;
-ghost use Rattle.jn_records.specs.Heads.{head_in};
+ghost use Rattle.jn_records.specs.Heads.{head_in, is_of};
 ghost use Rattle.jn_files.specs.Calls as calls;
 ghost use Rattle.jn_files.specs.Inside as inside;
 
@@ -71,7 +71,7 @@ impl FileTable {
         requires slot { slot < self.old.counts.heads }
         requires used { heads.is_free (head_in self.old.heads slot) ≡ false }
         requires range { n.0 < most_blocks }
-        ensures { (f : FileNo) → table.is_of f (head_in self.old.heads slot) ≡ true → inside.IsCutInside (table.layout_in self.old slot) n.0
+        ensures { (f : FileNo) → is_of f (head_in self.old.heads slot) ≡ true → inside.IsCutInside (table.layout_in self.old slot) n.0
             → calls.PutsHead self.old (S.view store.old) slot (table.cut_head n.0 (head_in self.old.heads slot)) self.old.maps (λ leaves. cut_from f n) (is_ok result) self.new (S.view store.new) }
     {
         let head = self.heads.slot(slot).cut(n.0);
@@ -90,7 +90,7 @@ impl FileTable {
         requires slot { slot < self.old.counts.heads }
         requires range { n.0 < most_blocks }
         requires map { table.cut_map n.0 (head_in self.old.heads slot) ≡ suc d }
-        ensures { (f : FileNo) → table.is_of f (head_in self.old.heads slot) ≡ true
+        ensures { (f : FileNo) → is_of f (head_in self.old.heads slot) ≡ true
             → calls.PutsMap self.old (S.view store.old) slot d (table.cut_addresses (n.0 % head_blocks) (row_at self.old.maps d)) (λ leaves. among (λ p. is_in_range (range_of n.0) p.0) (cut_from f n)) (is_ok result) self.new (S.view store.new) }
     {
         let row = cut_row(self.maps.row(d), n.0 as usize % HEAD_BLOCKS);
@@ -128,7 +128,7 @@ impl FileTable {
         requires fits { calls.HasPagesOfTable self.old (S.view store.old) }
         requires block { p.0 < head_blocks }
         requires may { inside.MaySet self.old slot p.0 a }
-        ensures { (f : FileNo) → table.is_of f (head_in self.old.heads slot) ≡ true → calls.MayBecome self.old (S.view store.old) f p.0 a
+        ensures { (f : FileNo) → is_of f (head_in self.old.heads slot) ≡ true → calls.MayBecome self.old (S.view store.old) f p.0 a
             → calls.PutsHead self.old (S.view store.old) slot (table.with_leaf p.0 a (head_in self.old.heads slot)) self.old.maps (calls.block_written f p a) (is_ok result) self.new (S.view store.new) }
     {
         let head = self.heads.slot(slot).with_leaf(p.0, a);
@@ -168,7 +168,7 @@ impl FileTable {
         requires range { p.0 < most_blocks }
         requires map { head_map (head_in self.old.heads slot) (range_of p.0) ≡ suc d }
         requires may { inside.MaySet self.old slot p.0 a }
-        ensures { (f : FileNo) → table.is_of f (head_in self.old.heads slot) ≡ true → calls.MayBecome self.old (S.view store.old) f p.0 a
+        ensures { (f : FileNo) → is_of f (head_in self.old.heads slot) ≡ true → calls.MayBecome self.old (S.view store.old) f p.0 a
             → calls.PutsMap self.old (S.view store.old) slot d (slice_set (row_at self.old.maps d) (p.0 % head_blocks) (suc a)) (calls.block_written f p a) (is_ok result) self.new (S.view store.new) }
     {
         let row = with_entry(self.maps.row(d), p.0 as usize % HEAD_BLOCKS, a);
@@ -207,7 +207,7 @@ impl FileTable {
     ) -> Result<(), Stopped>
         requires fits { calls.HasPagesOfTable self.old (S.view store.old) }
         requires may { inside.MaySetMap self.old slot p.0 a d }
-        ensures { (f : FileNo) → table.is_of f (head_in self.old.heads slot) ≡ true → calls.MayBecome self.old (S.view store.old) f p.0 a
+        ensures { (f : FileNo) → is_of f (head_in self.old.heads slot) ≡ true → calls.MayBecome self.old (S.view store.old) f p.0 a
             → calls.BringsMap self.old (S.view store.old) f p a slot d (is_ok result) self.new (S.view store.new) }
     {
         let _heads = &self.heads;

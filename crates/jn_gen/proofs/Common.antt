@@ -10,5 +10,6 @@ unfoldable pub use Rattle.jn_gen.specs.Trial.{draw, events_from, next_state}
 pub use Rattle.std.specs.List.{AllByRecursion, onto_first, slice_split}
 pub use Rattle.jn_schedule.specs.Ranges.{EventInRange, PartsInRange, PartInRange}
 pub use Rattle.jn_gen.specs.Spell.{IsOfBytes, spelled}
-pub use Rattle.jn_gen.specs.Texts.{event_words, joined, line_of, spaced, text_of, part_word, tid_word}
+pub use Rattle.jn_gen.specs.Texts.{event_words, joined, line_of, text_of, part_word}
+pub use Rattle.jn_report.specs.Text.{spaced, tid_word}
 pub use Rattle.jn_base.specs.declared.device.FaultKind.{FaultKind}

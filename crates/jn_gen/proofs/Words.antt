@@ -74,6 +74,7 @@ kind_plain kinds.StopAfter = refl
 
 event_plain : (e : Event) → are_plain (parts_of e) ≡ true
 event_plain (events.Command c command) = command_plain command
+event_plain (events.Call c s call) = refl
 event_plain (events.Again c) = refl
 event_plain (events.Deliver k) = refl
 event_plain events.Settle = refl

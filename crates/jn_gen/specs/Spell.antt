@@ -3,7 +3,8 @@ use Rattle.std.specs.Prelude.{ℕ, List, ◌++◌, codes, decimal, map}
 use Rattle.std.specs.List.{AllByRecursion}
 use Rattle.jn_schedule.specs.Grammar.{Part, Bytes, IsByte}
 use Rattle.jn_text.specs.Words.{block_word}
-use Rattle.jn_gen.specs.Texts.{line_of, part_word, tid_word}
+use Rattle.jn_gen.specs.Texts.{line_of, part_word}
+use Rattle.jn_report.specs.Text.{tid_word}
 use Rattle.jn_gen.specs.declared.word.Word.{Word}
 use Rattle.jn_gen.specs.declared.word.Word.TheVariants.{Keyword, Client, Server, Number, Transaction, Block}
 

@@ -1,12 +1,9 @@
 -- A schedule's text: a line for each event, of the words of its parts with a space between two.
 use Rattle.std.specs.Prelude.{ℕ, List, [], ◌∷◌, ◌++◌, codes, decimal, map}
-use Rattle.jn_base.specs.declared.names.Tid.{Tid}
+use Rattle.jn_report.specs.Text.{tid_word, spaced}
 use Rattle.jn_schedule.specs.declared.Event.{Event}
 use Rattle.jn_schedule.specs.Grammar.{Part, Keyword, Client, Number, Name, Bytes, parts_of}
 use Rattle.jn_text.specs.Words.{block_word}
-
-abbrev pub tid_word : Tid → List ℕ
-tid_word t = decimal t.server.0 ++ codes "." ++ decimal t.epoch ++ codes "." ++ decimal t.ticket
 
 -- a block is spelled without the zeros at its end
 abbrev pub part_word : Part → List ℕ
@@ -15,11 +12,6 @@ part_word (Client c) = codes "c" ++ decimal c
 part_word (Number low high n) = decimal n
 part_word (Name t) = tid_word t
 part_word (Bytes stored) = block_word stored
-
--- each word with a space before it
-abbrev pub spaced : List (List ℕ) → List ℕ
-spaced [] = []
-spaced (w ∷ ws) = (32 ∷ w) ++ spaced ws
 
 -- a space between two words
 abbrev pub joined : List (List ℕ) → List ℕ

@@ -32,6 +32,8 @@ fn push_event(out: &mut Vec<u8>, event: &Event) -> Result<(), AllocError>
 {
     match event {
         Event::Command(client, command) => push_command(out, *client, command),
+        // The one number of its line is out of its range, so no schedule has the line.
+        Event::Call(_, _, _) => push_line(out, &[Number(0)]),
         Event::Again(client) => push_line(out, &[Client(*client), Keyword("again")]),
         Event::Deliver(message) => push_line(out, &[Keyword("deliver"), Number(*message)]),
         Event::Settle => push_line(out, &[Keyword("settle")]),

@@ -1,7 +1,8 @@
 //! The words of an event's line.
 ghost use Rattle.std.specs.Prelude.{◌≡◌, ◌++◌, map, OnOk};
 ghost use Rattle.jn_gen.specs.Spell.{spelled};
-ghost use Rattle.jn_gen.specs.Texts.{joined, line_of, spaced, tid_word};
+ghost use Rattle.jn_gen.specs.Texts.{joined, line_of};
+ghost use Rattle.jn_report.specs.Text.{tid_word, spaced};
 
 use jn_base::{ClientNo, ServerNo, Tid};
 use jn_text::{push_hex, push_number};

@@ -1,7 +1,7 @@
 -- A run that has come so far within its end, step by step.
-use Rattle.jn_headline.proofs.Common.{◌≡◌, ◌⊎◌, inl, inr, ℕ, Bool, true, false, List, [], ◌∷◌, ◌++◌, append_assoc, append-nil, length, drop, Some, None, refl, sym, ◌∙◌, ap, subst, arith, ◌&&◌, if◌then◌else◌, list_all, Text, Line, plain, Sent, World, Step, IsStep, IsRun, after, run, Course, numbered, newly_sent, still_waiting, go, go_on, on-world, Does, told_by, told_by_steps, at_end, is_of_end, is_print, Setup, Chance, Task, AtEnd, CutShort, Stage, State, when_at, next_at, begun, is_up, Deed, Befalls, deed_of, outside_texts, own_texts, texts_of, is_too_much, come_to, cut_short, made, done, none, more, Moment, DoesStep, Leads, both, behind}
+use Rattle.jn_headline.proofs.Common.{◌≡◌, ◌⊎◌, inl, inr, ℕ, Bool, true, false, List, [], ◌∷◌, ◌++◌, append_assoc, append-nil, length, drop, Some, None, refl, sym, ◌∙◌, ap, subst, arith, ◌&&◌, if◌then◌else◌, list_all, Text, Line, plain, Sent, World, Step, IsStep, IsRun, after, run, Course, numbered, newly_sent, still_waiting, go, go_on, on-world, Does, told_by, told_by_steps, at_end, is_of_end, is_print, Setup, Chance, Task, AtEnd, CutShort, Stage, State, when_at, next_at, begun, is_up, Deed, Befalls, deed_of, outside_texts, own_texts, texts_of, is_too_much, come_to, cut_short, made, done, none, more, Moment, DoesStep, Leads, both, behind, HasTables, reported}
 use Rattle.std.proofs.Math.Seq.{drop-append_seam}
-use Rattle.jn_machine.specs.Steps.{lines_at}
+use Rattle.jn_report.specs.Lines.{lines_at}
 use Rattle.jn_machine_refines.proofs.Items.{is-run-both}
 use Rattle.jn_headline.proofs.Behind.{GoesWith, go-behind, may-behind, own-behind}
 use Rattle.jn_headline.proofs.Texts.{told-append, no-messages, lines-left, lines-more}
@@ -73,6 +73,7 @@ stuck x a b (more u v t d rest) e = absurd (never (ap (λ (s : Stage). next_at s
 pub record Came (x : Setup) (ups : List Text) (start : Course) (before : List Line) (m : Moment) (steps : List Step) (printed : List Text) : Type 0 where
   pub stage : m.state.stage ≡ AtEnd
   pub goes : GoesWith ups m.state.course (go_on steps start)
+  pub tables : HasTables m.state
   pub is_run : IsRun steps start.world
   pub of_end : list_all is_of_end steps ≡ true
   pub prints : list_all is_print printed ≡ true
@@ -80,7 +81,8 @@ pub record Came (x : Setup) (ups : List Text) (start : Course) (before : List Li
   pub quiet : IsQuiet x m.state.course.world m.devices
 
 module _ (x : Setup) (ups : List Text) (are_up : list_all is_up ups ≡ true) (start : Course) (before : List Line) where
-  module _ (m n : Moment) (h : Chance) (deed : Deed) (rest : List Task) (state_is : n.state ≡ come_to x h deed (go_on deed.steps m.state.course) (record m.state { tasks = rest })) (steps : List Step) (printed : List Text) (came : Came x ups start before m steps printed) where
+  module _ (m n : Moment) (h : Chance) (deed : Deed) (rest : List Task) (state_is : n.state ≡ come_to x h deed (go_on deed.steps m.state.course) (record m.state { tasks = rest }))
+      (says : reported deed.said (own_texts m.state.course.world (go_on deed.steps m.state.course).world) ≡ own_texts m.state.course.world (go_on deed.steps m.state.course).world) (tables : HasTables n.state) (steps : List Step) (printed : List Text) (came : Came x ups start before m steps printed) where
     abbrev old : Course
     old = m.state.course
 
@@ -92,7 +94,7 @@ module _ (x : Setup) (ups : List Text) (are_up : list_all is_up ups ≡ true) (s
         → plain n.state.lines ≡ plain (before ++ at_end (told_by_steps steps start.world ++ printed ++ texts))
     lines-then texts silent same = ap (λ (s : State). plain s.lines) state_is ∙ ap (λ (s : Stage). plain (m.state.lines ++ lines_at (when_at s old.world.event) new)) came.stage
         ∙ lines-more before m.state.lines (at_end new) (told_by_steps steps start.world ++ printed) texts came.lines
-        (lines-left (outside_texts deed.device h.told) (own_texts old.world (go_on deed.steps old).world) deed.texts _ silent (no-messages x.trace deed.actor (length old.world.sent) (newly_sent old.world (go_on deed.steps old).world)) ∙ ap (λ (ts : List Text). plain (at_end ts)) same)
+        (lines-left (outside_texts deed.device h.told) (reported deed.said (own_texts old.world (go_on deed.steps old).world)) deed.texts _ silent (no-messages x.trace deed.actor (length old.world.sent) (newly_sent old.world (go_on deed.steps old).world)) ∙ ap (λ (ts : List Text). plain (at_end (ts ++ deed.texts))) says ∙ ap (λ (ts : List Text). plain (at_end ts)) same)
       where
         new : List Text
         new = texts_of x h deed old.world (go_on deed.steps old).world
@@ -108,6 +110,7 @@ module _ (x : Setup) (ups : List Text) (are_up : list_all is_up ups ≡ true) (s
     came-none no_steps prints silent quiet = record {
       stage = stage-then;
       goes = subst (λ (c : Course). GoesWith ups c model) (sym same) came.goes;
+      tables = tables;
       is_run = came.is_run;
       of_end = came.of_end;
       prints = all-append is_print printed deed.texts came.prints prints;
@@ -125,6 +128,7 @@ module _ (x : Setup) (ups : List Text) (are_up : list_all is_up ups ≡ true) (s
     came-same step one_step no_texts idle kept silent quiet = record {
       stage = stage-then;
       goes = record { world = world ∙ came.goes.world; waiting = ap (λ (c : Course). c.waiting) now ∙ waiting ∙ came.goes.waiting };
+      tables = tables;
       is_run = came.is_run;
       of_end = came.of_end;
       prints = came.prints;
@@ -148,7 +152,8 @@ module _ (x : Setup) (ups : List Text) (are_up : list_all is_up ups ≡ true) (s
     pub tasks-then : n.state.tasks ≡ deed.tasks ++ rest
     tasks-then = ap (λ (s : State). s.tasks) state_is
 
-  module _ (m n : Moment) (h : Chance) (deed : Deed) (rest : List Task) (state_is : n.state ≡ come_to x h deed (go_on deed.steps m.state.course) (record m.state { tasks = rest })) (steps : List Step) (came : Came x ups start before m steps []) (step : Step) where
+  module _ (m n : Moment) (h : Chance) (deed : Deed) (rest : List Task) (state_is : n.state ≡ come_to x h deed (go_on deed.steps m.state.course) (record m.state { tasks = rest }))
+      (says : reported deed.said (own_texts m.state.course.world (go_on deed.steps m.state.course).world) ≡ own_texts m.state.course.world (go_on deed.steps m.state.course).world) (tables : HasTables n.state) (steps : List Step) (came : Came x ups start before m steps []) (step : Step) where
     abbrev here : Course
     here = go_on steps start
 
@@ -159,17 +164,18 @@ module _ (x : Setup) (ups : List Text) (are_up : list_all is_up ups ≡ true) (s
     pub came-one : deed.steps ≡ step ∷ [] → deed.texts ≡ [] → outside_texts deed.device h.told ≡ [] → IsStep step m.state.course.world → is_of_end step ≡ true → IsQuiet x (after step m.state.course.world) n.devices
         → Came x ups start before n (steps ++ step ∷ []) []
     came-one one_step no_texts silent may ends quiet = record {
-      stage = stage-then m n h deed rest state_is steps [] came;
+      stage = stage-then m n h deed rest state_is says tables steps [] came;
+      tables = tables;
       goes = subst (λ (c : Course). GoesWith ups c (go_on (steps ++ step ∷ []) start)) (sym now) (subst (λ (c : Course). GoesWith ups (go step m.state.course) c) (sym (on-append steps (step ∷ []) start)) (go-behind ups are_up step m.state.course here came.goes));
       is_run = is-run-both steps (step ∷ []) start.world came.is_run (subst (λ (w : World). IsStep step w) here-is (may-behind ups are_up here.world step (subst (λ (w : World). IsStep step w) came.goes.world may)), tt);
       of_end = all-append is_of_end steps (step ∷ []) came.of_end (both (is_of_end step) true ends refl);
       prints = refl;
-      lines = lines-then m n h deed rest state_is steps [] came (told_by (Does step) here.world) silent own ∙ ap (λ (ts : List Text). plain (before ++ at_end ts)) texts;
+      lines = lines-then m n h deed rest state_is says tables steps [] came (told_by (Does step) here.world) silent own ∙ ap (λ (ts : List Text). plain (before ++ at_end ts)) texts;
       quiet = subst (λ (c : Course). IsQuiet x c.world n.devices) (sym now) quiet;
     }
       where
         now : n.state.course ≡ go step m.state.course
-        now = course-then m n h deed rest state_is steps [] came ∙ ap (λ (ss : List Step). go_on ss m.state.course) one_step
+        now = course-then m n h deed rest state_is says tables steps [] came ∙ ap (λ (ss : List Step). go_on ss m.state.course) one_step
 
         own : own_texts m.state.course.world (go_on deed.steps m.state.course).world ++ deed.texts ≡ told_by (Does step) here.world
         own = ap (λ (ts : List Text). own_texts m.state.course.world (go_on deed.steps m.state.course).world ++ ts) no_texts ∙ append-nil _ ∙ ap (λ (ss : List Step). own_texts m.state.course.world (go_on ss m.state.course).world) one_step
@@ -185,6 +191,7 @@ module _ (x : Setup) (ups : List Text) (are_up : list_all is_up ups ≡ true) (s
   came-extra m steps came step may ends idle kept = record {
     stage = came.stage;
     goes = subst (λ (c : Course). GoesWith ups m.state.course c) (sym (on-append steps (step ∷ []) start)) (record { world = came.goes.world ∙ ap (behind ups) (sym idle); waiting = came.goes.waiting ∙ sym waiting });
+    tables = came.tables;
     is_run = is-run-both steps (step ∷ []) start.world came.is_run (subst (λ (w : World). IsStep step w) (on-world steps start) may, tt);
     of_end = all-append is_of_end steps (step ∷ []) came.of_end (both (is_of_end step) true ends refl);
     prints = refl;

@@ -9,7 +9,7 @@ pub use Rattle.jn_device.specs.Device.{DeviceState}
 pub use Rattle.jn_report.specs.declared.line.Text.{Text}
 pub use Rattle.jn_report.specs.declared.line.Line.{Line}
 pub use Rattle.jn_aside.specs.Aside.{plain, is_show, is_aside}
-pub use Rattle.jn_system.specs.WholeSystem.World.{World, Memory, opening, commits_in, servers_from, AreFilesOf, at_server, clients_from}
+pub use Rattle.jn_system.specs.WholeSystem.World.{World, Memory, opening, own_texts, commits_in, servers_from, AreFilesOf, at_server, clients_from}
 pub use Rattle.jn_system.specs.WholeSystem.Steps.{Step, Dismiss, after, run, IsStep, Work, IsRun, NextEvent, Tell, StopDelivery, StopWork, StopRestart, Deliver, Nudge, Again, Crash, CloseClients, Restart, at_memory, handed, work, works, nudge, crash, close_clients, restart, took, handing, working, Narrow, narrow, AreNames, tid_before}
 pub use Rattle.jn_system.specs.WholeSystem.Course.{Course, go, go_on, newly_sent, numbered, still_waiting, opening_course}
 pub use Rattle.jn_system_reports.specs.Reporting.Reported.{Item, steps_of, world_of, lines_of, Does, told_by, events_of, IsReported, Act, Refuses, Tells, Shows, steps_in, may_do, may_act, IsUnder, AreUnder, at_event}
@@ -18,16 +18,17 @@ pub use Rattle.jn_machine.specs.Chances.{Setup, Chance, prints_found, works_foun
 pub use Rattle.jn_machine.specs.Tasks.{Task, Dismisses, InSchedule, AtEnd, CutShort, Stage, State, next_at, begun, when_at, Rests, Acts, ComesUp, GoesDown, ClosesClients, CountsCommits}
 pub use Rattle.jn_machine.specs.Devices.{Befalls, Devices, IsCalled, IsRecovery, IsServed, Alone, IsLookedOver, IsScrubbed}
 pub use Rattle.jn_machine.specs.Events.{ending, deed_of, dismissing, first_busy, next_event, resting, servers_of, settling, coming_up, printing, counting}
-pub use Rattle.jn_machine.specs.Steps.{own_texts, is_too_much, come_to, cut_short, made, done, outside_texts, texts_of, message_texts, traced}
+pub use Rattle.jn_machine.specs.Steps.{is_too_much, come_to, cut_short, made, done, outside_texts, texts_of, reported, message_texts, traced}
 pub use Rattle.jn_machine.specs.Runs.{none, more, Moment, Leads, DoesStep}
 pub use Rattle.jn_machine_refines.specs.Retold.{IsToldBy, behind, IsRetold, IsRetoldInPart}
+pub use Rattle.jn_machine.proofs.Clients.{does-tables, HasTables, delivered-says}
 pub use Rattle.std.specs.List.{list_all, AllByRecursion}
 pub use Rattle.jn_report.specs.Kinds.{is_up, is_print, commit_in, is_answer, commit_in as committed_in}
 pub use Rattle.std.proofs.lemmas.Bool.Decides.{nat_tests}
 pub use Rattle.jn_rows.specs.Outcomes.{RowOutcome, Sent}
 pub use Rattle.jn_rows.specs.Stable.{StableState, Change, stable, Pick, Left, Prepared, FlagState, at_work, at_tid}
 pub use Rattle.jn_system.specs.WholeSystem.Servers.{Room, server_step, is_busy as has_going, server_row, of_coordinator, restored}
-pub use Rattle.jn_machine.specs.Deeds.{is_busy, is_busy_with, Deed, served, room, no_room, delivered, delivered_at, worked, working_steps, nothing, Reads, stopped_idle, shown, showing, scrubbed, Cleans, crashed_at, recovers, recovering, recovered, given_up, is_used_up, pick_read, tells}
+pub use Rattle.jn_machine.specs.Deeds.{is_busy, is_busy_with, Deed, served, room, no_room, delivered, delivered_at, worked, working_steps, nothing, took_message, Reads, stopped_idle, shown, showing, scrubbed, Cleans, crashed_at, recovers, recovering, recovered, given_up, is_used_up, pick_read, tells}
 pub use Rattle.jn_system_settling.proofs.Settling.Settling.{on-world}
 pub use Rattle.jn_headline.specs.CutReports.Cut.{is_of_end, CutEnd, IsCutEnd, cut_lines}
 pub use Rattle.jn_machine.proofs.Telling.{both, adds, first, second, event_after}
@@ -62,4 +63,5 @@ pub use Rattle.jn_headline.specs.WholeReports.Whole.{IsSettledEnd, course_at_end
 pub use Rattle.jn_base.specs.declared.names.Tid.{Tid}
 pub use Rattle.jn_base.specs.Names.{server_eq, tid_eq, work_eq, file_eq}
 pub use Rattle.jn_base.proofs.Tells.{server_tells, work_tells, tid_tells}
+pub use Rattle.jn_rows.specs.Client.{ClientTable, take_row}
 pub use Rattle.jn_aside.proofs.Plain.{filter-aside, plain-append, plain-none, history-plain, same-of}

@@ -1,5 +1,5 @@
 -- Where a run is cut off within its end, and where it goes on behind a task.
-use Rattle.jn_headline.proofs.Common.{◌≡◌, ◌⊎◌, inl, inr, true, List, [], ◌∷◌, ◌++◌, append_assoc, append-nil, sym, ◌∙◌, ap, subst, map, list_all, AllByRecursion, Text, Line, plain, World, Step, IsRun, Course, on-world, told_by_steps, at_end, is_of_end, is_print, Setup, Task, AtEnd, CutShort, State, cut_short, none, more, Moment, Leads}
+use Rattle.jn_headline.proofs.Common.{◌≡◌, ◌⊎◌, inl, inr, true, List, [], ◌∷◌, ◌++◌, append_assoc, append-nil, sym, ◌∙◌, ap, subst, map, list_all, AllByRecursion, Text, Line, plain, World, Step, IsRun, Course, on-world, told_by_steps, at_end, is_of_end, is_print, Setup, Task, AtEnd, CutShort, State, cut_short, none, more, Moment, Leads, HasTables, does-tables}
 use Rattle.jn_headline.proofs.Numbered.{end-begins-none}
 use Rattle.jn_headline.proofs.Came.{Came, Makes, IsOrdinary, one-step, stuck}
 
@@ -26,6 +26,7 @@ pub record Past (x : Setup) (ups : List Text) (start : Course) (before : List Li
 pub record Onward (x : Setup) (m now : Moment) (t : Task) (rest : List Task) : Type 0 where
   pub moment : Moment
   pub makes : Makes x m moment t rest
+  pub tables : HasTables moment.state
   pub leads : Leads x moment now
 
 pub same-event : (x : Setup) (ups : List Text) (start : Course) (before : List Line) (m : Moment) (steps : List Step) (printed : List Text) → Came x ups start before m steps printed → m.state.course.world.event ≡ start.world.event
@@ -72,7 +73,7 @@ module _ (x : Setup) (ups : List Text) (start : Course) (before : List Line) whe
     where
       by : (n.state ≡ cut_short (record m.state { tasks = rest })) ⊎ Makes x m n t rest → Part start before now ⊎ Onward x m now t rest
       by (inl e) = inl (cut-off m n now steps printed came rest e leads)
-      by (inr makes) = inr (record { moment = n; makes = makes; leads = leads })
+      by (inr makes) = inr (record { moment = n; makes = makes; tables = does-tables x m n d came.tables; leads = leads })
 
   -- ---- many tasks, each of which makes one step
 

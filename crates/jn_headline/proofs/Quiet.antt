@@ -1,11 +1,10 @@
 -- Devices at which no fault waits strike nothing, and stay so.
-use Rattle.jn_headline.proofs.Common.{◌≡◌, ◌≢◌, ◌⊎◌, inl, inr, ℕ, ◌<◌, Bool, true, false, List, [], Option, Some, None, is_some, refl, sym, ◌∙◌, ap, subst, not, if◌then◌else◌, slice_get, ServerNo, ClientNo, Tid, Client, Server, server_eq, server_tells, Message, DeviceState, RowOutcome, Sent, Pick, stable, World, Memory, at_server, Room, server_row, server_step, of_coordinator, restored, Deliver, Work, Nudge, Crash, Restart, CloseClients, after, at_memory, handed, work, works, nudge, crash, close_clients, restart, took, Setup, Chance, Devices, IsCalled, IsRecovery}
+use Rattle.jn_headline.proofs.Common.{◌≡◌, ◌≢◌, ◌⊎◌, inl, inr, ℕ, ◌<◌, Bool, true, false, List, [], Option, Some, None, is_some, refl, sym, ◌∙◌, ap, subst, not, if◌then◌else◌, slice_get, ServerNo, ClientNo, Tid, Client, Server, server_eq, server_tells, Message, DeviceState, RowOutcome, Sent, Pick, stable, World, Memory, at_server, Room, server_row, server_step, of_coordinator, restored, Deliver, Work, Nudge, Crash, Restart, CloseClients, after, at_memory, handed, work, works, nudge, crash, close_clients, restart, took, Setup, Chance, Devices, IsCalled, IsRecovery, ClientTable, take_row}
 use Rattle.jn_records.specs.StablePages.{Counts}
 use Rattle.jn_base.specs.declared.names.WorkId.{WorkId}
 use Rattle.jn_device.specs.Events.{powered_off}
 use Rattle.jn_rows.specs.declared.client.Taken.{Taken}
 use Rattle.jn_rows.specs.declared.client.Taken.TheVariants as taken
-use Rattle.jn_rows.specs.Client.{ClientTable, take_row}
 use Rattle.jn_rows.specs.Coordinator.{close_clients_row}
 use Rattle.jn_machine.proofs.Struck.{nothing-strikes}
 use Rattle.jn_machine.proofs.Called.{called-later}

@@ -1,5 +1,5 @@
 -- Shows and scrubs at the end: what each server prints, and that nothing else happens.
-use Rattle.jn_headline.proofs.Common.{◌≡◌, ◌⊎◌, inl, inr, ℕ, zero, suc, ◌+◌, ◌<◌, ◌≤◌, true, false, List, [], ◌∷◌, ◌++◌, append_assoc, append-nil, length, Option, is_some, refl, sym, ap, subst, arith, map, list_all, ServerNo, server_eq, Text, Line, Pick, World, servers_from, Printed, FileThere, PageStored, UnitLocked, Step, Course, go_on, text_printed, is_print, Setup, Chance, Task, Acts, Deed, Reads, stopped_idle, shown, showing, scrubbed, IsLookedOver, Alone, is_up, come_to, Moment, Leads, both, Server, Cleans, IsScrubbed, prints_found, behind, IsPrinted, ArePrinted, texts_from, Left}
+use Rattle.jn_headline.proofs.Common.{◌≡◌, ◌⊎◌, inl, inr, ℕ, zero, suc, ◌+◌, ◌<◌, ◌≤◌, true, false, List, [], ◌∷◌, ◌++◌, append_assoc, append-nil, length, Option, is_some, refl, sym, ap, subst, arith, map, list_all, ServerNo, server_eq, Text, Line, Pick, World, servers_from, Printed, FileThere, PageStored, UnitLocked, Step, Course, go_on, text_printed, is_print, Setup, Chance, Task, Acts, Deed, Reads, stopped_idle, shown, showing, scrubbed, IsLookedOver, Alone, is_up, come_to, Moment, Leads, both, Server, Cleans, IsScrubbed, prints_found, behind, IsPrinted, ArePrinted, texts_from, Left, HasTables}
 use Rattle.jn_schedule.specs.declared.Event.TheVariants as events
 use Rattle.jn_headline.proofs.Quiet.{Calm, called-calm, quiet-called}
 use Rattle.jn_headline.proofs.Came.{Came, came-none, tasks-then}
@@ -26,7 +26,7 @@ module _ (x : Setup) (ups : List Text) (are_up : list_all is_up ups ≡ true) (s
     pub is_printed : IsPrinted q here prints
     pub past : Past x ups start before now steps (printed ++ map (text_printed q) prints) rest
 
-  module _ (q : ServerNo) (below : q.0 < x.servers) (m now : Moment) (printed : List Text) (rest : List Task) (came : Came x ups start before m steps printed) (n : Moment) (l : Leads x n now) (h : Chance) where
+  module _ (q : ServerNo) (below : q.0 < x.servers) (m now : Moment) (printed : List Text) (rest : List Task) (came : Came x ups start before m steps printed) (n : Moment) (tables : HasTables n.state) (l : Leads x n now) (h : Chance) where
     abbrev was : World
     was = m.state.course.world
 
@@ -49,9 +49,9 @@ module _ (x : Setup) (ups : List Text) (are_up : list_all is_up ups ≡ true) (s
       is_printed = bare (subst (λ (v : World). IsPrinted q v found) came.goes.world p);
       past = record {
         moment = n;
-        came = came-none x ups are_up start before m n h (deed [] (map (text_printed q) found)) rest d steps printed came refl (all-print q found) (no-faults q h.told calm.told)
+        came = came-none x ups are_up start before m n h (deed [] (map (text_printed q) found)) rest d refl tables steps printed came refl (all-print q found) (no-faults q h.told calm.told)
             (quiet-called x was was m.devices n.devices came.quiet h q (λ s z. z) others calm);
-        tasks = tasks-then x ups are_up start before m n h (deed [] (map (text_printed q) found)) rest d steps printed came;
+        tasks = tasks-then x ups are_up start before m n h (deed [] (map (text_printed q) found)) rest d refl tables steps printed came;
         leads = l;
       };
     }
@@ -67,7 +67,7 @@ module _ (x : Setup) (ups : List Text) (are_up : list_all is_up ups ≡ true) (s
     where
       by : Part start before now ⊎ Onward x m now (Acts (events.Show q)) rest → Part start before now ⊎ Shows now printed q rest
       by (inl part) = inl part
-      by (inr on) = inr (looks q below m now printed rest came on.moment on.leads on.makes.chance on.makes.state_is (let b = on.makes.befalls in b.used))
+      by (inr on) = inr (looks q below m now printed rest came on.moment on.tables on.leads on.makes.chance on.makes.state_is (let b = on.makes.befalls in b.used))
 
   -- all of them, one after another
   pub record AllShow (now : Moment) (printed : List Text) (first count : ℕ) (rest : List Task) : Type 0 where
@@ -109,7 +109,7 @@ module _ (x : Setup) (ups : List Text) (are_up : list_all is_up ups ≡ true) (s
 
   -- ---- scrubs
 
-  module _ (q : ServerNo) (below : q.0 < x.servers) (m now : Moment) (printed : List Text) (rest : List Task) (came : Came x ups start before m steps printed) (n : Moment) (l : Leads x n now) (h : Chance) where
+  module _ (q : ServerNo) (below : q.0 < x.servers) (m now : Moment) (printed : List Text) (rest : List Task) (came : Came x ups start before m steps printed) (n : Moment) (tables : HasTables n.state) (l : Leads x n now) (h : Chance) where
     abbrev cleans : List Step → Deed
     cleans ss = record (plain (Server q) ss) { device = Cleans q }
 
@@ -119,9 +119,9 @@ module _ (x : Setup) (ups : List Text) (are_up : list_all is_up ups ≡ true) (s
     idles : Calm h (n.devices q) → ((s : ServerNo) → server_eq q s ≡ false → n.devices s ≡ m.devices s) → ScrubsBy (cleans []) → Past x ups start before now steps printed rest
     idles calm others d = record {
       moment = n;
-      came = subst (λ (ts : List Text). Came x ups start before n steps ts) (append-nil printed) (came-none x ups are_up start before m n h (cleans []) rest d steps printed came refl refl (no-faults q h.told calm.told)
+      came = subst (λ (ts : List Text). Came x ups start before n steps ts) (append-nil printed) (came-none x ups are_up start before m n h (cleans []) rest d refl tables steps printed came refl refl (no-faults q h.told calm.told)
           (quiet-called x m.state.course.world m.state.course.world m.devices n.devices came.quiet h q (λ s z. z) others calm));
-      tasks = tasks-then x ups are_up start before m n h (cleans []) rest d steps printed came;
+      tasks = tasks-then x ups are_up start before m n h (cleans []) rest d refl tables steps printed came;
       leads = l;
     }
 
@@ -135,7 +135,7 @@ module _ (x : Setup) (ups : List Text) (are_up : list_all is_up ups ≡ true) (s
     where
       by : Part start before now ⊎ Onward x m now (Acts (events.Scrub q)) rest → Part start before now ⊎ Past x ups start before now steps printed rest
       by (inl part) = inl part
-      by (inr on) = inr (calls q below m now printed rest came on.moment on.leads on.makes.chance on.makes.state_is (let b = on.makes.befalls in b.used))
+      by (inr on) = inr (calls q below m now printed rest came on.moment on.tables on.leads on.makes.chance on.makes.state_is (let b = on.makes.befalls in b.used))
 
   pub scrub-all : (count first : ℕ) → first + count ≤ x.servers → (m now : Moment) (printed : List Text) (rest : List Task) → Came x ups start before m steps printed
       → m.state.tasks ≡ map (λ (q : ServerNo). Acts (events.Scrub q)) (servers_from first count) ++ rest → Leads x m now → Part start before now ⊎ Past x ups start before now steps printed rest

@@ -1,5 +1,5 @@
 -- What each of an end's tasks does that makes a step.
-use Rattle.jn_headline.proofs.Common.{◌≡◌, ◌≢◌, ◌⊎◌, inl, inr, ℕ, zero, suc, ◌+◌, ◌<◌, ◌≤◌, Bool, true, false, List, [], ◌∷◌, ◌++◌, append_assoc, append-nil, length, Option, Some, None, is_some, refl, sym, ◌∙◌, ap, subst, arith, map, if◌then◌else◌, list_all, ServerNo, ClientNo, Client, Server, server_eq, server_tells, DeviceState, Text, Line, Pick, World, Memory, servers_from, Step, Again, Nudge, Crash, Restart, CloseClients, after, run, crash, Course, go_on, Comeback, restarts_from, Setup, Chance, Task, Acts, ComesUp, GoesDown, ClosesClients, Deed, crashed_at, recovers, recovering, recovered, given_up, is_used_up, pick_read, Befalls, IsServed, IsRecovery, Alone, is_up, is_too_much, come_to, Moment, Leads, deed_of, works_found, tids_found, Left}
+use Rattle.jn_headline.proofs.Common.{◌≡◌, ◌≢◌, ◌⊎◌, inl, inr, ℕ, zero, suc, ◌+◌, ◌<◌, ◌≤◌, Bool, true, false, List, [], ◌∷◌, ◌++◌, append_assoc, append-nil, length, Option, Some, None, is_some, refl, sym, ◌∙◌, ap, subst, arith, map, if◌then◌else◌, list_all, ServerNo, ClientNo, Client, Server, server_eq, server_tells, DeviceState, Text, Line, Pick, World, Memory, servers_from, Step, Again, Nudge, Crash, Restart, CloseClients, after, run, crash, Course, go_on, Comeback, restarts_from, Setup, Chance, Task, Acts, ComesUp, GoesDown, ClosesClients, Deed, crashed_at, recovers, recovering, recovered, given_up, is_used_up, pick_read, Befalls, IsServed, IsRecovery, Alone, is_up, is_too_much, come_to, Moment, Leads, deed_of, works_found, tids_found, Left, HasTables}
 use Rattle.jn_base.specs.declared.device.Outside.{Outside}
 use Rattle.jn_schedule.specs.declared.Event.TheVariants as events
 use Rattle.jn_report.specs.declared.line.Text.TheVariants as says
@@ -24,7 +24,7 @@ module _ (x : Setup) (ups : List Text) (are_up : list_all is_up ups ≡ true) (s
 
   -- ---- servers go down
 
-  module _ (q : ServerNo) (below : q.0 < x.servers) (m now : Moment) (steps : List Step) (rest : List Task) (came : Came x ups start before m steps []) (n : Moment) (l : Leads x n now) (h : Chance) where
+  module _ (q : ServerNo) (below : q.0 < x.servers) (m now : Moment) (steps : List Step) (rest : List Task) (came : Came x ups start before m steps []) (n : Moment) (tables : HasTables n.state) (l : Leads x n now) (h : Chance) where
     abbrev GoesDownBy : Option Memory → Type 0
     GoesDownBy o = n.state ≡ come_to x h (crashed_at q o) (go_on (crashed_at q o).steps m.state.course) (record m.state { tasks = rest })
 
@@ -33,13 +33,13 @@ module _ (x : Setup) (ups : List Text) (are_up : list_all is_up ups ≡ true) (s
 
     down-by : (o : Option Memory) → m.state.course.world.memory q ≡ o → GoesDownBy o → Befalls x h (crashed_at q o) m.state.course.world m.devices n.devices → After now (steps ++ Crash q ∷ []) rest
     down-by None down state b = past-down (came-extra x ups are_up start before n steps
-        (came-none x ups are_up start before m n h (crashed_at q None) rest state steps [] came refl refl refl (quiet-same x m.state.course.world m.state.course.world m.devices n.devices came.quiet (λ s z. z) b.used))
+        (came-none x ups are_up start before m n h (crashed_at q None) rest state refl tables steps [] came refl refl refl (quiet-same x m.state.course.world m.state.course.world m.devices n.devices came.quiet (λ s z. z) b.used))
         (Crash q) tt refl (ap (λ (o : Option Memory). crash q o (go_on steps start).world) (ap (λ (v : World). v.memory q) (sym came.goes.world) ∙ down)) (λ ks. refl))
-        (tasks-then x ups are_up start before m n h (crashed_at q None) rest state steps [] came)
-    down-by (Some mm) up state b = past-down (came-one x ups are_up start before m n h (crashed_at q (Some mm)) rest state steps came (Crash q) refl refl refl tt refl
+        (tasks-then x ups are_up start before m n h (crashed_at q None) rest state refl tables steps [] came)
+    down-by (Some mm) up state b = past-down (came-one x ups are_up start before m n h (crashed_at q (Some mm)) rest state refl tables steps came (Crash q) refl refl refl tt refl
         (quiet-alone x m.state.course.world (after (Crash q) m.state.course.world) m.devices n.devices came.quiet q (λ s e. crashed-up m.state.course.world s q) (let a = b.used in a.others) (λ z. absurd (dark z))
         (ap (λ (d : DeviceState). d.told) (let a = b.used in a.its) ∙ came.quiet.told q below) (ap (λ (d : DeviceState). d.waiting) (let a = b.used in a.its) ∙ came.quiet.waiting q below)))
-        (tasks-then x ups are_up start before m n h (crashed_at q (Some mm)) rest state steps [] came)
+        (tasks-then x ups are_up start before m n h (crashed_at q (Some mm)) rest state refl tables steps [] came)
       where
         dark : is_some ((after (Crash q) m.state.course.world).memory q) ≡ true → ⊥
         dark z = clash (sym (ap (λ (o : Option Memory). is_some ((crash q o m.state.course.world).memory q)) up ∙ ap (λ (c : Bool). is_some (if c then None else m.state.course.world.memory q)) (itself q)) ∙ z)
@@ -52,7 +52,7 @@ module _ (x : Setup) (ups : List Text) (are_up : list_all is_up ups ≡ true) (s
     where
       by : Part start before now ⊎ Onward x m now (GoesDown q) rest → After now (steps ++ Crash q ∷ []) rest
       by (inl part) = inl part
-      by (inr on) = down-by q below m now steps rest came on.moment on.leads on.makes.chance (m.state.course.world.memory q) refl on.makes.state_is on.makes.befalls
+      by (inr on) = down-by q below m now steps rest came on.moment on.tables on.leads on.makes.chance (m.state.course.world.memory q) refl on.makes.state_is on.makes.befalls
 
   -- ---- each outcome counts as thanked
 
@@ -72,9 +72,9 @@ module _ (x : Setup) (ups : List Text) (are_up : list_all is_up ups ≡ true) (s
           goes : (most : ℕ) → Alone q (IsServed (x.counts q) most h w q) m.devices on.moment.devices → After now (steps ++ CloseClients q ∷ []) rest
           goes most a = let calm = called-calm most h (m.devices q) (on.moment.devices q) a.its.called (came.quiet.power q below (ap is_some a.its.up)) (came.quiet.told q below) (came.quiet.waiting q below) in inr (record {
             moment = on.moment;
-            came = came-one x ups are_up start before m on.moment h (deed_of x h (ClosesClients q) m.state) rest on.makes.state_is steps came (CloseClients q) refl refl (no-faults q h.told calm.told) (let b = on.makes.befalls in b.steps.0) refl
+            came = came-one x ups are_up start before m on.moment h (deed_of x h (ClosesClients q) m.state) rest on.makes.state_is refl on.tables steps came (CloseClients q) refl refl (no-faults q h.told calm.told) (let b = on.makes.befalls in b.steps.0) refl
                 (quiet-called x w (after (CloseClients q) w) m.devices on.moment.devices came.quiet h q (λ s. closed-up w s q) a.others calm);
-            tasks = tasks-then x ups are_up start before m on.moment h (deed_of x h (ClosesClients q) m.state) rest on.makes.state_is steps [] came;
+            tasks = tasks-then x ups are_up start before m on.moment h (deed_of x h (ClosesClients q) m.state) rest on.makes.state_is refl on.tables steps [] came;
             leads = on.leads;
           })
 
@@ -87,9 +87,9 @@ module _ (x : Setup) (ups : List Text) (are_up : list_all is_up ups ≡ true) (s
       by (inl part) = inl part
       by (inr on) = inr (record {
         moment = on.moment;
-        came = came-one x ups are_up start before m on.moment on.makes.chance (plain (Client c) (Again c ∷ [])) rest on.makes.state_is steps came (Again c) refl refl refl tt refl
+        came = came-one x ups are_up start before m on.moment on.makes.chance (plain (Client c) (Again c ∷ [])) rest on.makes.state_is refl on.tables steps came (Again c) refl refl refl tt refl
             (quiet-same x m.state.course.world (after (Again c) m.state.course.world) m.devices on.moment.devices came.quiet (λ s z. z) (let b = on.makes.befalls in b.used));
-        tasks = tasks-then x ups are_up start before m on.moment on.makes.chance (plain (Client c) (Again c ∷ [])) rest on.makes.state_is steps [] came;
+        tasks = tasks-then x ups are_up start before m on.moment on.makes.chance (plain (Client c) (Again c ∷ [])) rest on.makes.state_is refl on.tables steps [] came;
         leads = on.leads;
       })
 
@@ -100,9 +100,9 @@ module _ (x : Setup) (ups : List Text) (are_up : list_all is_up ups ≡ true) (s
       by (inl part) = inl part
       by (inr on) = inr (record {
         moment = on.moment;
-        came = came-one x ups are_up start before m on.moment on.makes.chance (plain (Server q) (Nudge q ∷ [])) rest on.makes.state_is steps came (Nudge q) refl refl refl tt refl
+        came = came-one x ups are_up start before m on.moment on.makes.chance (plain (Server q) (Nudge q ∷ [])) rest on.makes.state_is refl on.tables steps came (Nudge q) refl refl refl tt refl
             (quiet-same x m.state.course.world (after (Nudge q) m.state.course.world) m.devices on.moment.devices came.quiet (λ s. nudged-up m.state.course.world s q) (let b = on.makes.befalls in b.used));
-        tasks = tasks-then x ups are_up start before m on.moment on.makes.chance (plain (Server q) (Nudge q ∷ [])) rest on.makes.state_is steps [] came;
+        tasks = tasks-then x ups are_up start before m on.moment on.makes.chance (plain (Server q) (Nudge q ∷ [])) rest on.makes.state_is refl on.tables steps [] came;
         leads = on.leads;
       })
 
@@ -112,7 +112,7 @@ module _ (x : Setup) (ups : List Text) (are_up : list_all is_up ups ≡ true) (s
     pub back : Comeback
     pub past : Past x ups start before now (steps ++ Restart q back.pick back.works back.tids ∷ []) [] rest
 
-  module _ (q : ServerNo) (below : q.0 < x.servers) (m now : Moment) (steps : List Step) (rest : List Task) (came : Came x ups start before m steps []) (n : Moment) (l : Leads x n now) (h : Chance) where
+  module _ (q : ServerNo) (below : q.0 < x.servers) (m now : Moment) (steps : List Step) (rest : List Task) (came : Came x ups start before m steps []) (n : Moment) (tables : HasTables n.state) (l : Leads x n now) (h : Chance) where
     abbrev was : World
     was = m.state.course.world
 
@@ -127,9 +127,9 @@ module _ (x : Setup) (ups : List Text) (are_up : list_all is_up ups ≡ true) (s
           back = record { pick = pick_read h; works = works_found h.found; tids = tids_found h.found };
           past = record {
             moment = n;
-            came = came-one x ups are_up start before m n h (recovers q (raised ∷ [])) rest state steps came raised refl refl (no-faults q h.told r.told) b.steps.0 refl
+            came = came-one x ups are_up start before m n h (recovers q (raised ∷ [])) rest state refl tables steps came raised refl refl (no-faults q h.told r.told) b.steps.0 refl
                 (quiet-alone x was (after raised was) m.devices n.devices came.quiet q (λ s e. restarted-up was s q (pick_read h) (works_found h.found) (tids_found h.found) e) a.others r.power r.nothing_told r.nothing_waits);
-            tasks = tasks-then x ups are_up start before m n h (recovers q (raised ∷ [])) rest state steps [] came;
+            tasks = tasks-then x ups are_up start before m n h (recovers q (raised ∷ [])) rest state refl tables steps [] came;
             leads = l;
           };
         }
@@ -160,7 +160,7 @@ module _ (x : Setup) (ups : List Text) (are_up : list_all is_up ups ≡ true) (s
     where
       by : Part start before now ⊎ Onward x m now (ComesUp q) rest → Part start before now ⊎ CameUp now steps q rest
       by (inl part) = inl part
-      by (inr on) = inr (up-by q below m now steps rest came on.moment on.leads on.makes.chance (is_used_up on.makes.chance q m.state.course.world) (on.makes.goes_on, on.makes.state_is, on.makes.befalls))
+      by (inr on) = inr (up-by q below m now steps rest came on.moment on.tables on.leads on.makes.chance (is_used_up on.makes.chance q m.state.course.world) (on.makes.goes_on, on.makes.state_is, on.makes.befalls))
 
   -- all of them, one after another
   pub record AllUp (now : Moment) (steps : List Step) (first count : ℕ) (rest : List Task) : Type 0 where

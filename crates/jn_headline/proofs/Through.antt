@@ -121,13 +121,13 @@ module _ (x : Setup) (ups : List Text) (are_up : list_all is_up ups ≡ true) (s
         event = ap (λ (z : Moment). z.state.course.world.event) now-is ∙ ap (λ (s : State). s.course.world.event) on.makes.state_is ∙ same-event x ups start before m steps printed came;
         world = ap (λ (z : Moment). z.state.course.world) now-is ∙ ap (λ (s : State). s.course.world) on.makes.state_is ∙ came.goes.world;
         lines = ap (λ (z : Moment). plain z.state.lines) now-is
-            ∙ lines-then x ups are_up start before m on.moment on.makes.chance deed [] on.makes.state_is steps printed came (counting m.state.lines) refl (ap (λ (ts : List Text). ts ++ counting m.state.lines) (drop-all m.state.course.world.lines))
+            ∙ lines-then x ups are_up start before m on.moment on.makes.chance deed [] on.makes.state_is refl on.tables steps printed came (counting m.state.lines) refl (ap (λ (ts : List Text). ts ++ counting m.state.lines) (drop-all m.state.course.world.lines))
             ∙ ap plain (ap (λ (ls : List Line). before ++ ls) (at-end-append (told_by_steps steps start.world ++ printed) (counting m.state.lines)) ∙ sym (append_assoc before (at_end (told_by_steps steps start.world ++ printed)) (at_end (counting m.state.lines))))
             ∙ ap (λ (Ts : List Tid). plain (told ++ at_end (Commits (length Ts) ∷ []))) (same-of history_of history-plain m.state.lines told came.lines);
       }
         where
           none-left : on.moment.state.tasks ≡ []
-          none-left = tasks-then x ups are_up start before m on.moment on.makes.chance deed [] on.makes.state_is steps printed came
+          none-left = tasks-then x ups are_up start before m on.moment on.makes.chance deed [] on.makes.state_is refl on.tables steps printed came
 
           stage : on.moment.state.stage ≡ AtEnd
           stage = ap (λ (s : State). s.stage) on.makes.state_is ∙ came.stage

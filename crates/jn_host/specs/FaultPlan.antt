@@ -3,7 +3,7 @@ use Rattle.std.specs.Prelude.{ℕ, ◌≡◌, Bool, nat_eq, Vec}
 use Rattle.std.specs.List.{list_any}
 use Rattle.std.specs.declared.alloc.Global.{Global}
 use Rattle.jn_host.specs.declared.fault_plan.FaultPlan.{FaultPlan}
-use Rattle.jn_host.specs.Outside.{bumped}
+use Rattle.jn_base.specs.Counts.{bumped}
 
 -- no call was made yet, and those of these numbers are to fail
 abbrev pub Plans : Vec ℕ Global → FaultPlan → Type 0

@@ -1,19 +1,12 @@
 -- The outside of the program: a source of bytes, a sink of bytes, and a keeper of named byte strings.
-use Rattle.std.specs.Prelude.{◌≡◌, ◌≢◌, ◌⊎◌, ℕ, ◌+◌, ◌-◌, ◌≤◌, ◌<◌, ◌^◌, nat_lt, true, false, if◌then◌else◌, List, [], ◌++◌, length, take, drop, Option, Some, None, Result, Ok, Err, is_ok, is_some, Vec}
+use Rattle.std.specs.Prelude.{◌≡◌, ◌≢◌, ℕ, ◌+◌, ◌≤◌, ◌<◌, true, false, List, [], ◌++◌, length, take, drop, Option, Some, None, Result, Ok, Err, is_ok, is_some, Vec}
+use Rattle.jn_base.specs.Counts.{Rose}
 use Rattle.std.specs.Option.{option_map}
 use Rattle.std.specs.Io.KnownBytes.{append_known}
 use Rattle.std.specs.declared.alloc.Global.{Global}
 use Rattle.jn_host.specs.declared.Failed.{Failed}
 use Rattle.jn_host.specs.declared.KeepFailure.{KeepFailure}
 use Rattle.jn_host.specs.declared.KeepFailure.TheVariants.{Failed as CallFailed}
-
--- a count of 64 bits rose in a call; it stays at its last value
-abbrev pub Rose : ℕ → ℕ → Type 0
-Rose before after = (before < after) ⊎ (2 ^ 64 - 1 ≤ before)
-
--- the count after one more fault
-abbrev pub bumped : ℕ → ℕ
-bumped n = if nat_lt n (2 ^ 64 - 1) then n + 1 else n
 
 -- a source that had these bytes left put the first n of them into the room, and has the others left
 pub record Took (bytes : List ℕ) (room : List ℕ) (n : ℕ) (left : Option (List ℕ)) (room' : List ℕ) : Type 0 where

@@ -1,7 +1,7 @@
 //! Which calls of an object in memory are to fail, and how often one did.
 
 ghost use Rattle.std.specs.Prelude.{◌≡◌};
-ghost use Rattle.jn_host.specs.Outside.{bumped};
+ghost use Rattle.jn_base.specs.Counts.{bumped};
 ghost use Rattle.jn_host.specs.FaultPlan.{Plans, after_call, fails_next};
 
 use crate::Failed;

@@ -2,7 +2,7 @@
 
 ghost use Rattle.std.specs.Prelude.{◌≡◌, ◌≢◌, ◌++◌, None, Some, Ok, Err, IfOk, IfErr, IfSome, codes, take, string_bytes};
 ghost use Rattle.std.specs.IoError.{error_kind};
-ghost use Rattle.jn_host.specs.Outside.{bumped};
+ghost use Rattle.jn_base.specs.Counts.{bumped};
 ghost use Rattle.jn_host.specs.declared.KeepFailure.TheVariants.{Failed as CallFailed, Memory};
 
 use crate::fault_plan::failed;

@@ -54,9 +54,6 @@ version_in_format n h = grind (arith, h)
 -- ---- what was written is read
 
 module _ (m : Image) (form : HasForm m) (fit : PagesFit m) where
-  abbrev g : Counts
-  g = image_counts m
-
   abbrev digest : List ℕ
   digest = sha256 (body_bytes m)
 

@@ -1,5 +1,5 @@
 -- The addresses of an image as one list: those of its heads, and behind them those of its map pages.
-use Rattle.jn_image.proofs.Common.{◌≡◌, ⊎_elim, ◌<◌, ◌≤◌, ◌+◌, ◌*◌, ◌-◌, ◌/◌, ◌%◌, ◌&&◌, ℕ, zero, suc, Bool, true, false, List, [], ◌∷◌, ◌++◌, length, get_or, replicate, Option, Some, None, refl, sym, ap, ap₂, subst, ◌∙◌, arith, nat_le, nat_lt, flat_map, slice_index, if◌then◌else◌, AllByRecursion, cases_lt, false≢true, nat_tests, get_or_past, get_or-append-add, length-append, length-replicate, head_blocks, most_maps, Head, Free, Used, Finds, IsHeadAt, AreHeads, HeadsWhole, MapsWhole, AddressesOnce, head_bytes_of, is_used, address_in, map_in, entry_in, data_place, NamesMap, Spot, InHead, AsMap, InMap, IsWrittenAt, all_within, noted_all, no_times, maps_noted, all_maps_noted, head_noted, heads_noted, AreEntries, page_noted, pages_noted, all_noted, IsMapWhereNamed, IsNotTwice, get_or-append, list_all, free_unused, used_kind, used_address, used_map, whole, whole_maps, map_entry}
+use Rattle.jn_image.proofs.Common.{◌≡◌, ⊎_elim, ◌<◌, ◌≤◌, ◌+◌, ◌*◌, ◌-◌, ◌/◌, ◌%◌, ◌&&◌, ℕ, zero, suc, Bool, true, false, List, [], ◌∷◌, ◌++◌, length, get_or, replicate, Option, Some, None, refl, sym, ap, ap₂, subst, ◌∙◌, arith, nat_le, nat_lt, flat_map, slice_index, if◌then◌else◌, AllByRecursion, cases_lt, false≢true, nat_tests, get_or_past, get_or-append-add, length-append, length-replicate, head_blocks, most_maps, Head, Free, Used, Finds, IsHeadAt, AreHeads, HeadsWhole, MapsWhole, AddressesOnce, head_bytes_of, is_used, address_in, map_in, entry_in, data_place, NamesMap, Spot, InHead, AsMap, InMap, IsWrittenAt, all_within, noted_all, no_times, maps_noted, all_maps_noted, head_noted, heads_noted, AreEntries, page_noted, pages_noted, all_noted, IsMapWhereNamed, IsNotTwice, get_or-append, list_all, free_unused, used_kind, used_address, used_map, whole, whole_maps, map_entry, and_parts}
 use Rattle.jn_records.specs.Sound as sound
 use Rattle.jn_image.proofs.HeadLists.{finds_same, head_or}
 use Rattle.jn_image.proofs.Rows.{begin, row, rows_length, sizes, zeros_there, numbered, numbered_length, numbered_at}
@@ -118,12 +118,6 @@ within_at leaves (x ∷ xs) (suc k) all = within_at leaves xs k (rest (nat_le x 
   where
     rest : (a b : Bool) → (a && b) ≡ true → b ≡ true
     rest a b h = grind (arith, h)
-
-left-of : (a b : Bool) → (a && b) ≡ true → a ≡ true
-left-of a b h = grind (arith, h)
-
-right-of : (a b : Bool) → (a && b) ≡ true → b ≡ true
-right-of a b h = grind (arith, h)
 
 tests_some : (n : ℕ) → 0 < n → nat_lt 0 n ≡ true
 tests_some n h = grind (arith, nat_tests, h)
@@ -483,12 +477,12 @@ module _ (m : sound.Image) (heads : List (Option Head)) (are : AreHeads m heads)
       head_within : (i k : ℕ) (o : Option Head) → IsHeadAt m i o → get_or (head_row o) k 0 ≤ leaves
       head_within i k None at = let none = zeros_there 140 k in omega (arith, none)
       head_within i k (Some Free) at = let none = zeros_there 140 k in omega (arith, none)
-      head_within i k (Some (Used f xs maps)) at = both xs maps k (left-of (all_within leaves xs) (all_within leaves maps) at.0.within_leaves) (right-of (all_within leaves xs) (all_within leaves maps) at.0.within_leaves)
+      head_within i k (Some (Used f xs maps)) at = both xs maps k (and_parts (all_within leaves xs) (all_within leaves maps) at.0.within_leaves).0 (and_parts (all_within leaves xs) (all_within leaves maps) at.0.within_leaves).1
         where
           both : (xs ys : List ℕ) (k : ℕ) → all_within leaves xs ≡ true → all_within leaves ys ≡ true → get_or (xs ++ ys) k 0 ≤ leaves
           both [] ys k a b = within_at leaves ys k b
           both (x ∷ xs) ys zero a b = within_at leaves (x ∷ xs) zero a
-          both (x ∷ xs) ys (suc k) a b = both xs ys k (right-of (nat_le x leaves) (list_all (λ a. nat_le a leaves) xs) a) b
+          both (x ∷ xs) ys (suc k) a b = both xs ys k (and_parts (nat_le x leaves) (list_all (λ a. nat_le a leaves) xs) a).1 b
 
       spot_within : (a : ℕ) (x : Spot) → IsWrittenAt m a x → a ≤ leaves
       spot_within a (InHead i k) w =

@@ -12,9 +12,6 @@ same_fault : (f g : BadImage) → Some f ≡ Some g → f ≡ g
 same_fault f g e = cc
 
 module _ (bytes : List ℕ) where
-  abbrev Found : Image → Type 0
-  Found m = HasForm m × PagesFit m × (bytes ≡ image_bytes m)
-
   pub told_found : AreBytes bytes → (r : Result Image DecodeError) → TellsImage (bad_of bytes) r → IfOk r (λ m. m ≡ image_in bytes) → IfOk r (λ m. HasForm m × PagesFit m × (bytes ≡ image_bytes m))
   told_found fit (Ok m) told is = subst (λ (v : Image). HasForm v × PagesFit v × (bytes ≡ image_bytes v)) (sym is) (found_form bytes fit told, found_fit bytes fit told, found_bytes bytes fit told)
   told_found fit (Err e) told is = tt

@@ -1,9 +1,9 @@
 //! A server's disk.
-ghost use Rattle.std.specs.Prelude.{◌≡◌, ◌<◌, ◌^◌, ◌↔◌, length, IsTrue};
+ghost use Rattle.std.specs.Prelude.{◌≡◌, ◌<◌, ◌^◌, length};
 ghost use Rattle.jn_records.specs.Pages.{format_version};
 ghost use Rattle.jn_records.specs.StablePages.{page_count};
 ghost use Rattle.jn_image.specs.Faults.{within};
-ghost use Rattle.jn_image.specs.Form.{image_counts, HasForm};
+ghost use Rattle.jn_image.specs.Form.{image_counts};
 ghost use Rattle.jn_memdisk.specs.Pages.{half_at};
 
 use jn_base::{Page, ServerNo};
@@ -29,18 +29,6 @@ pub struct Image {
 }
 
 impl Image {
-    /// Whether the image has bytes: the version, the server and the counts are in their ranges, and there are so many pages.
-    pub fn has_form(&self) -> bool
-        ensures { IsTrue result ↔ HasForm self.now }
-    {
-        is_image_version(self.version)
-            && self.server.0 <= 7
-            && is_within(1000, self.pool)
-            && is_within(1000, self.heads)
-            && is_within(8000, self.leaves)
-            && self.pages.as_slice().len() == 2 * self.count()
-    }
-
     /// How many stable pages there are.
     pub(crate) fn count(&self) -> usize
         ensures count { result ≡ page_count (image_counts self.now) }

@@ -1,5 +1,6 @@
 -- What is kept, from save to save.
-use Rattle.jn_image_files.proofs.Common.{◌≡◌, ◌≢◌, ℕ, zero, suc, ◌+◌, ◌<◌, ◌≤◌, Bool, true, false, List, [], ◌∷◌, length, slice_get, Option, Some, None, Result, Err, refl, sym, ◌∙◌, ap, subst, arith, true≢false, nat_tests, nat_lt, is_some, is_ok, get_or, ServerNo, DeviceState, Contents, KeeperSaved, kept_at, image_counts, image_bytes, Image, Half, AreSound, HasPages, counts_by, PageCounts, Has, IsClosed, IsSoundImage, image_name, SavesOne, SavedTo, SavesAll, Rose, IsSaved, format_version, inr, Counts}
+use Rattle.jn_image_files.proofs.Common.{◌≡◌, ◌≢◌, ℕ, zero, suc, ◌+◌, ◌<◌, ◌≤◌, Bool, true, false, List, [], ◌∷◌, length, slice_get, Option, Some, None, Result, Err, refl, sym, ◌∙◌, ap, subst, arith, true≢false, nat_tests, nat_lt, is_some, is_ok, get_or, ServerNo, DeviceState, Contents, KeeperSaved, kept_at, image_counts, image_bytes, Image, Half, AreSound, HasPages, counts_by, PageCounts, Has, IsClosed, IsSoundImage, image_name, SavesOne, SavedTo, SavesAll, IsSaved, format_version, inr, Counts}
+use Rattle.jn_base.specs.Counts.{Rose}
 use Rattle.jn_host.specs.declared.KeepFailure.{KeepFailure}
 use Rattle.std.proofs.lemmas.Slice.Eq.{bytes_eq-Decides}
 use Rattle.std.specs.Str.{bytes_eq}

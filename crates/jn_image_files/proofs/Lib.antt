@@ -1,6 +1,5 @@
 mod Common
 pub mod Naming
-pub mod Loaded
 pub mod Kept
 pub mod Stores
 pub mod Disks

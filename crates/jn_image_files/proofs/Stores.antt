@@ -1,5 +1,6 @@
 -- The stores of images, one after another.
-use Rattle.jn_image_files.proofs.Common.{◌≡◌, ℕ, zero, suc, ◌<◌, ◌≤◌, Bool, true, false, List, [], ◌∷◌, ◌++◌, length, slice_get, Option, Some, None, Result, Err, Vec, refl, sym, ◌∙◌, ap, subst, arith, nat_tests, nat_lt, get_or, Global, ServerNo, DeviceState, PageCounts, StoreView, found_bytes, AreStoresOf, IsStoreOf, found_at}
+use Rattle.jn_image_files.proofs.Common.{◌≡◌, ℕ, zero, suc, ◌<◌, ◌≤◌, Bool, true, false, List, [], ◌∷◌, ◌++◌, length, slice_get, Option, Some, None, Result, Err, Vec, refl, sym, ◌∙◌, ap, subst, arith, nat_tests, nat_lt, get_or, ServerNo, DeviceState, PageCounts, StoreView, found_bytes, AreStoresOf, IsStoreOf, found_at}
+use Rattle.std.specs.declared.alloc.Global.{Global}
 use Rattle.jn_image_files.specs.Examined.{IsAccepted, IsFirstRefused, IsRefused}
 use Rattle.jn_image_files.specs.declared.examining.ExamineFault.{ExamineFault}
 use Rattle.jn_image_files.specs.declared.examining.ExamineFault.TheVariants as faults

@@ -2,7 +2,8 @@
 use Rattle.std.specs.Prelude.{◌≡◌, ◌≢◌, ◌≤◌, ◌<◌, ℕ, true, false, List, length, slice_get, Option, Some, Result, Err, is_ok, is_some}
 use Rattle.jn_base.specs.declared.names.ServerNo.{ServerNo}
 use Rattle.jn_device.specs.Device.{DeviceState}
-use Rattle.jn_host.specs.Outside.{Contents, Rose, kept_at}
+use Rattle.jn_host.specs.Outside.{Contents, kept_at}
+use Rattle.jn_base.specs.Counts.{Rose}
 use Rattle.jn_host.specs.declared.KeepFailure.{KeepFailure}
 use Rattle.jn_host.specs.declared.KeepFailure.TheVariants.{Failed as CallFailed}
 use Rattle.jn_records.specs.StablePages.{Counts}

@@ -1,7 +1,8 @@
 //! Images that are loaded.
 
 ghost use Rattle.std.specs.Prelude.{◌≡◌, ◌≢◌, ◌≤◌, Err, IfOk};
-ghost use Rattle.jn_host.specs.Outside.{Rose, found_bytes};
+ghost use Rattle.jn_host.specs.Outside.{found_bytes};
+ghost use Rattle.jn_base.specs.Counts.{Rose};
 ghost use Rattle.jn_host.specs.declared.KeepFailure.TheVariants.{Failed as CallFailed};
 ghost use Rattle.jn_image_files.specs.Kept.{Has, image_name};
 ghost use Rattle.jn_image_files.specs.Opened.{AreLoaded};

@@ -7,9 +7,6 @@ before_then a b c ab bc = grind (arith, nat_tests, ab, bc)
 pub not_itself : (a : Entry) → is_before a a ≡ false
 not_itself a = grind (arith, nat_tests)
 
-pub not_both : (a b : Entry) → is_before a b ≡ true → is_before b a ≡ false
-not_both a b ab = grind (arith, nat_tests, ab)
-
 pub before_or_same : (a b : Entry) → is_before a b ≡ false → (a ≡ b) ⊎ (is_before b a ≡ true)
 before_or_same a b no_ab = elim (cases_eq a.number b.number) [
   | inl same ↦ elim (cases_eq a.slot b.slot) [

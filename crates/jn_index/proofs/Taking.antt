@@ -1,6 +1,6 @@
 -- An index that takes its numbers one after another, in whichever order.
-use Rattle.jn_index.proofs.Common.{◌≡◌, ◌⊎◌, inl, inr, ◌<◌, ◌≤◌, ◌+◌, ℕ, List, [], ◌∷◌, ◌++◌, length, Option, Some, None, refl, sym, ap, subst, ◌∙◌, arith, cases_eq, get_or-set_same, get_or-set_other, length-set, same_lists, get_or_default, Contains, slice_set, slice_index_or, All, number_at, AreOf}
-use Rattle.std.proofs.lemmas.List.Elements.{All-get_or, All-push, Contains-append_left, Contains-push}
+use Rattle.jn_index.proofs.Common.{◌≡◌, ◌⊎◌, inl, inr, ◌<◌, ◌≤◌, ◌+◌, ℕ, List, length, Option, Some, None, refl, sym, ap, ◌∙◌, arith, cases_eq, get_or-set_same, get_or-set_other, length-set, same_lists, get_or_default, Contains, slice_set, slice_index_or, All, number_at, AreOf}
+use Rattle.std.proofs.lemmas.List.Elements.{All-get_or}
 use Rattle.jn_index.proofs.Editing.{has_slot}
 
 abbrev pub pair_at : List (ℕ × ℕ) → ℕ → ℕ × ℕ
@@ -12,32 +12,6 @@ pair_at pairs i = slice_index_or pairs i (0, 0)
 pub record AreOfFirst (numbers : List (Option ℕ)) (slots : ℕ) (pairs : List (ℕ × ℕ)) : Type 0 where
   pub right : All (λ (p : ℕ × ℕ). number_at numbers p.1 ≡ Some p.0) pairs
   pub all : (slot number : ℕ) → slot < slots → number_at numbers slot ≡ Some number → Contains pairs (number, slot)
-
-pub one_more : (numbers : List (Option ℕ)) (slot number : ℕ) (pairs : List (ℕ × ℕ)) → number_at numbers slot ≡ Some number → AreOfFirst numbers slot pairs → AreOfFirst numbers (slot + 1) (pairs ++ (number, slot) ∷ [])
-one_more numbers slot number pairs has are = record {
-  right = All-push (λ (p : ℕ × ℕ). number_at numbers p.1 ≡ Some p.0) pairs (number, slot) are.right has;
-  all = λ k n lt e. elim (cases_eq k slot) [
-    | inl same ↦
-        let number_is : number ≡ n = some_is (sym has ∙ ap (number_at numbers) (sym same) ∙ e) in
-        subst (λ (p : ℕ × ℕ). Contains (pairs ++ (number, slot) ∷ []) p) (ap (λ (m : ℕ). (m, slot)) number_is ∙ ap (λ (m : ℕ). (n, m)) (sym same)) (Contains-push pairs (number, slot))
-    | inr ne ↦ Contains-append_left pairs ((number, slot) ∷ []) (n, k) (are.all k n (omega arith) e)
-  ];
-}
-  where
-    some_is : {A : Type 0} {a b : A} → Some a ≡ Some b → a ≡ b
-    some_is e = cc e
-
-pub none_more : (numbers : List (Option ℕ)) (slot : ℕ) (pairs : List (ℕ × ℕ)) → number_at numbers slot ≡ None → AreOfFirst numbers slot pairs → AreOfFirst numbers (slot + 1) pairs
-none_more numbers slot pairs none are = record {
-  right = are.right;
-  all = λ k n lt e. elim (cases_eq k slot) [
-    | inl same ↦ absurd (clash (sym (ap (number_at numbers) same ∙ none) ∙ e))
-    | inr ne ↦ are.all k n (omega arith) e
-  ];
-}
-  where
-    clash : {n : ℕ} → None ≡ Some n → ⊥
-    clash e = cc e
 
 pub all_first : (numbers : List (Option ℕ)) (slots : ℕ) (pairs : List (ℕ × ℕ)) → length numbers ≤ slots → AreOfFirst numbers slots pairs → AreOf numbers pairs
 all_first numbers slots pairs end are = record { right = are.right; all = λ slot number e. let lt = has_slot numbers slot number e in are.all slot number (omega arith) e }

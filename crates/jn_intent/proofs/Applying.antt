@@ -1,5 +1,5 @@
 -- A work's next intention is carried out, by one put, by two or by none.
-use Rattle.jn_intent.proofs.Common.{◌≡◌, ◌≢◌, ◌⊎◌, inl, inr, ⊎_elim, ◌<◌, ◌≤◌, ◌+◌, ◌-◌, ◌/◌, ℕ, suc, Bool, true, false, not, ◌&&◌, ◌||◌, if◌then◌else◌, List, [], ◌∷◌, length, map, drop, Option, Some, None, Result, Ok, refl, sym, ◌∙◌, ap, subst, true≢false, arith, fun_ext, cases_eq, false_from_ne_true, nat_tests, get_or_read, sum_by-cons, slice_get-map, slice_get_within, nat_lt, nat_le, nat_eq, is_ok, is_some, slice_get, slice_set, slice_index_or, option_map, find, list_all, list_any, free_numbers, is_free_number, Stopped, FileNo, Block, WorkId, file_eq, work_eq, file_tells, work_tells, unit_eq, Files, change, written, TableView, IsTable, IsFreeLeaf, exists, layouts_in, kept_entry, intended, bytes_by, heads_name, works_have, names_for_block, held_contents, found_on, Intends, IsRecoverable, IsStanding, passes_at, FullIntention, StoredIntention, What, Fresh, Gone, Cut, Put, WorkState, intention_has_page, names_what_it_needs, is_fresh, is_put, is_put_intention, Counts, StableState, Pick, Changed, CarryOut, made_by, at_work, is_prepared, record_in, has_page, state, name_of, next_of, Called, CountsOn, PageTaken, PageStands, StepApplied, find_by, are_different, IsListing, total, is_in, but, is_in-but, total-but, total-same, IsServing, IsLoadable, file_there, is_stored, intentions, list_of, find-set, keys-set, made_there, there-after, StoreView, IsOnly, Carries, PutsWhole, PutsInTurn, MayCarry, heads_taken, is_gone, is_gone_already, counted_on, Matches, IsKeptMemory, IsMade, AreMade, HasMaps, HaveMaps, stored_work, Memory, accounts_of, view_of, next_by, next_in, stored_by, held_of, held_in, one, listed_length, serves_of, serving_by, loadable_found, there_found, prepared_of, stored_pages, root_page, root_by, Layout, Unused, at_cell, layout_at, is_layout_of, map_cell, maps_in, lacks_map, places_after, head_blocks, most_cells, behind, bare, has_map_after, is_in_range, names_maps, IsSuppliedBy, change_by, names_file, is_past_head, most_pages, map_eq, has_map, layouts_said, maps_fit}
+use Rattle.jn_intent.proofs.Common.{◌≡◌, ◌≢◌, ◌⊎◌, inl, inr, ⊎_elim, ◌<◌, ◌≤◌, ◌+◌, ◌-◌, ◌/◌, ℕ, suc, Bool, true, false, not, ◌&&◌, ◌||◌, if◌then◌else◌, List, [], ◌∷◌, length, map, drop, Option, Some, None, Result, Ok, refl, sym, ◌∙◌, ap, subst, true≢false, arith, fun_ext, cases_eq, false_from_ne_true, nat_tests, get_or_read, sum_by-cons, slice_get-map, slice_get_within, nat_lt, nat_le, nat_eq, is_ok, is_some, slice_get, slice_set, slice_index_or, option_map, find, list_all, list_any, free_numbers, is_free_number, Stopped, FileNo, Block, WorkId, file_eq, work_eq, file_tells, work_tells, unit_eq, Files, change, written, TableView, IsTable, IsFreeLeaf, exists, layouts_in, kept_entry, intended, bytes_by, heads_name, works_have, names_for_block, held_contents, found_on, Intends, IsRecoverable, IsStanding, passes_at, FullIntention, StoredIntention, What, Fresh, Gone, Cut, Put, WorkState, intention_has_page, names_what_it_needs, is_fresh, is_put, is_put_intention, Counts, StableState, Pick, Changed, CarryOut, made_by, at_work, is_prepared, record_in, has_page, state, name_of, next_of, Called, CountsOn, PageTaken, PageStands, StepApplied, find_by, are_different, IsListing, total, is_in, but, is_in-but, total-but, total-same, IsServing, IsLoadable, file_there, is_stored, intentions_of, list_of, find-set, keys-set, made_there, there-after, StoreView, IsOnly, Carries, PutsWhole, PutsInTurn, MayCarry, heads_taken, is_gone, is_gone_already, counted_on, Matches, IsKeptMemory, IsMade, AreMade, HasMaps, HaveMaps, stored_work, Memory, accounts_of, view_of, next_by, next_in, stored_by, held_of, held_in, one, listed_length, serves_of, serving_by, loadable_found, there_found, prepared_of, stored_pages, root_page, root_by, Layout, Unused, at_cell, layout_at, is_layout_of, map_cell, maps_in, lacks_map, places_after, head_blocks, most_cells, behind, bare, has_map_after, is_in_range, names_maps, IsSuppliedBy, change_by, names_file, is_past_head, most_pages, map_eq, has_map, layouts_said, maps_fit}
 use Rattle.jn_page_state.proofs.HeadLaws.{gone_law}
 use Rattle.jn_files.proofs.Lookup.{maps_absent}
 use Rattle.jn_storage.proofs.Laws.{called_not}
@@ -308,9 +308,6 @@ module _ (m : Memory) (v : StoreView) (now : Matches m v) (serving : IsServing (
     -- ---- what is kept in memory then
 
     module _ (u : TableView) (w : StoreView) (is : IsStepped u w) (works : List WorkState) (stepped : IsSteppedTo m.works work s works) where
-      abbrev after : Memory
-      after = record m { table = u; works = works }
-
       there_after : (f : FileNo) → exists u.heads f ≡ made_there i.what (file_eq i.file f) (exists m.table.heads f)
       there_after f = there_found m.server u.counts w m.epoch m.records u.heads u.maps is.standing f ∙ ap (λ (y : StableState). file_there y.files f) (is.found (λ n. false)) ∙ there-after full before.files f
           ∙ ap (made_there i.what (file_eq i.file f)) (sym (there_found m.server m.table.counts v m.epoch m.records m.table.heads m.table.maps now.standing f))
@@ -465,7 +462,7 @@ module _ (m : Memory) (v : StoreView) (now : Matches m v) (serving : IsServing (
           by : (t : Option WorkState) → find_by work_eq name_of m.works o ≡ t → total (held_of (layouts_in u)) (stored_by t) ≤ most_pages (list_of before o)
           by None e = omega arith
           by (Some t) e = subst (λ l. total (held_of (layouts_in u)) t.list ≤ most_pages l)
-              (sym (ap intentions (work_told m v now o ∙ ap (λ o. option_map (prepared_of (first_blocks m v)) (option_map stored_work o)) e)))
+              (sym (ap intentions_of (work_told m v now o ∙ ap (λ o. option_map (prepared_of (first_blocks m v)) (option_map stored_work o)) e)))
               (held_most (layouts_in u) (first_blocks m v) t.list
               (stored_pages m.records o pages (find (is_prepared o) m.records) (stored_work t) (sym (now.works.each o) ∙ ap (option_map stored_work) e)))
 

@@ -1,5 +1,5 @@
 -- A storage serves on once an intention of a work is carried out.
-use Rattle.jn_intent.proofs.Common.{◌≡◌, ⊎_elim, ◌≤◌, ◌+◌, ℕ, Bool, true, false, not, ◌&&◌, ◌||◌, if◌then◌else◌, List, ◌∷◌, length, Some, refl, sym, ◌∙◌, ap, subst, arith, slice_get_within, slice_get, FileNo, LockUnit, WorkId, file_eq, work_eq, file_tells, work_tells, unit_eq, Files, change, What, Fresh, Gone, Cut, Put, intention_change, StableState, Prepared, CarryOut, made_by, at_work, IsListing, total, IsOrderly, Accounts, IsLoadable, file_there, is_stored, intentions, list_of, made_there, there-after, one_if, makes_file, orderly-carried, promises-carried, but, listing-less, listing-more, listing-same, length-but, Serves, heads_of, ◌<◌, most_maps, most_pages, map_eq, has_map}
+use Rattle.jn_intent.proofs.Common.{◌≡◌, ⊎_elim, ◌≤◌, ◌+◌, ℕ, Bool, true, false, not, ◌&&◌, ◌||◌, if◌then◌else◌, List, ◌∷◌, length, Some, refl, sym, ◌∙◌, ap, subst, arith, slice_get_within, slice_get, FileNo, LockUnit, WorkId, file_eq, work_eq, file_tells, work_tells, unit_eq, Files, change, What, Fresh, Gone, Cut, Put, intention_change, StableState, Prepared, CarryOut, made_by, at_work, IsListing, total, IsOrderly, Accounts, IsLoadable, file_there, is_stored, intentions_of, list_of, made_there, there-after, one_if, makes_file, orderly-carried, promises-carried, but, listing-less, listing-more, listing-same, length-but, Serves, heads_of, ◌<◌, most_maps, most_pages, map_eq, has_map}
 use Rattle.jn_records.specs.declared.intention.Intention.{Intention}
 use Rattle.jn_intent.proofs.Numbers.{listing_length}
 
@@ -124,5 +124,5 @@ module _ (x : StableState) (a : Accounts) (work : WorkId) (p : Prepared) (k : �
       next_by : (w : WorkId) (c : Bool) → work_eq work w ≡ c → (if c then k + 1 else a.next w) ≤ length (list_of x w)
       next_by w true e =
           let same : work ≡ w = (let t = work_tells work w in grind (arith, e)) in
-          let long = ap (λ o. length (intentions o)) (ap x.works (sym same) ∙ stands) in let lt = slice_get_within p.list k i here in omega (arith, long, lt)
+          let long = ap (λ o. length (intentions_of o)) (ap x.works (sym same) ∙ stands) in let lt = slice_get_within p.list k i here in omega (arith, long, lt)
       next_by w false e = s.next_fits w

@@ -16,8 +16,8 @@ pub use Rattle.jn_base.specs.declared.names.WorkId.{WorkId}
 pub use Rattle.jn_base.specs.Names.{file_eq, work_eq, unit_eq, tid_eq, block_eq}
 pub use Rattle.jn_base.proofs.Tells.{file_tells, work_tells, tid_tells}
 pub use Rattle.jn_order.specs.Files.{Files, change, written, created, removed, cut_from}
-pub use Rattle.jn_files.specs.Table.{TableView, IsTable, IsFreeLeaf, exists, layouts_in, IsUnnamed, AreRows, AreNamedOnce, cut_addresses, kept_maps, is_held, IsHeadOf, is_of, fresh_head, cut_head, cut_map, with_leaf, with_map, one_entry, layouts_of, address_for, is_mapped, is_touched}
-pub use Rattle.jn_records.specs.Layouts.{kept_entry, Layout, Unused, at_cell, layout_at, is_layout_of, map_cell, behind, row_at, layout_by, laid, through, with_entries, cut_inside, layouts_by, Of, head_map, with_row, IsMapIn, IsRowChanged, block_in, IsNoMap, has_address}
+pub use Rattle.jn_files.specs.Table.{TableView, IsTable, IsFreeLeaf, exists, layouts_in, IsUnnamed, AreRows, cut_addresses, kept_maps, is_held, IsHeadOf, fresh_head, cut_head, cut_map, with_leaf, with_map, one_entry, layouts_of, address_for, is_mapped, is_touched}
+pub use Rattle.jn_records.specs.Layouts.{kept_entry, Layout, Unused, at_cell, layout_at, is_layout_of, map_cell, behind, row_at, layout_by, AreNamedOnce, laid, through, with_entries, cut_inside, layouts_by, Of, head_map, with_row, IsMapIn, IsRowChanged, block_in, IsNoMap, has_address}
 pub use Rattle.jn_page_state.specs.Contents.{intended, bytes_by, heads_name, works_have, names_for_block, layouts_in as layouts_said, stored_in, with_first, intentions_from, works_name, prepared_by, stored_list, holds_intention, Contents, intention_of, state_in}
 pub use Rattle.jn_page_state.specs.Held.{held_contents, MayStand, IsLayoutPut, epoch_after, records_after, heads_after, rows_after, IsMapStored}
 pub use Rattle.jn_page_state.specs.Pages.{found_on, block_on, pages_by}
@@ -33,14 +33,15 @@ pub use Rattle.jn_records.specs.Intentions.{intention_has_page, names_what_it_ne
 pub use Rattle.jn_records.specs.NetLists.{is_fresh, is_put, is_put_intention, change_by, names_file, intention_change, heads_of, in_order, place_by, entry, intention_place, as_first, first_by, AllPlain, Plain}
 pub use Rattle.jn_records.specs.StablePages.{Counts, root_by, data_place, head_place, page_count}
 pub use Rattle.jn_rows.specs.Stable.{StableState, Pick, Changed, CarryOut, made_by, at_work, IsStopState, Prepared, MarkGoing, is_ready, Unchanged, AddReady, ready_work, RemoveWork, is_going}
-pub use Rattle.jn_sets.specs.Pool.{is_prepared, record_in, is_free, is_intention, IsRecord, slot_page, is_flag, is_ready as is_ready_record, going_of, free_count, is_rubbish}
+pub use Rattle.jn_sets.specs.Pool.{is_prepared, record_in, is_free, is_intention, IsRecord, slot_page, is_flag, is_ready as is_ready_record, going_of, free_count, is_rubbish, intends_for}
 pub use Rattle.jn_records.specs.Records.{has_page, record_page, RecordFits, ascends, reads_have_page}
 pub use Rattle.jn_storage.specs.Calls.{state, name_of, next_of, Called, CountsOn, PageTaken, PageStands, StepApplied, IsReady, MarkedGoing, FlagPromised, PutsFew, NextFile, BlockRead, NextBlock, shortage, with_work, MayPrepare, WorkPrepared, short_of, reached, is_shortage, WorkRemoved, HasFlag, FlagDropped, TellsFlags, MayPutFlag, FlagPut, PromiseReleased, IsGoing, RecordErased, TellsWorks}
 pub use Rattle.jn_storage.specs.Finding.{find_by}
 pub use Rattle.jn_storage.specs.Listing.{are_different, IsListing, total, is_in}
 pub use Rattle.jn_storage.proofs.Listings.{but, is_in-but, total-but, total-same, listing-less, listing-more, listing-same, length-but, Tells}
 pub use Rattle.jn_storage.specs.Storage.{IsServing, is_stored, most_pages, map_eq, has_map, Accounts, StorageView}
-pub use Rattle.jn_storage.specs.Orderly.{IsLoadable, file_there, intentions, list_of, IsOrderly, IsPrepared, GoTogether, unit_of, unit_by, needs_file, takes_away, first_of, needed}
+pub use Rattle.jn_storage.specs.Orderly.{IsLoadable, file_there, list_of, IsOrderly, IsPrepared, GoTogether, unit_of, unit_by, needs_file, takes_away, first_of, needed}
+pub use Rattle.jn_rows.specs.Worker.{intentions_of}
 pub use Rattle.jn_storage.proofs.Finds.{find-set, keys-set, find-at, find-listed, find-add, different-add, map-add, find-kept, keys-kept, different-kept}
 pub use Rattle.jn_storage.proofs.Intended.{made_there, there-after, one_if, entry-of, unit-of}
 pub use Rattle.jn_store.specs.Store.{StoreView, IsOnly, StoreLater, IsServed, IsStop, IsSamePage, StorePut, IsClean, HasSamePages, IsCalm, IsWholePage}
@@ -48,7 +49,7 @@ pub use Rattle.jn_intent.specs.Carrying.{Carries, PutsWhole, PutsInTurn, MayCarr
 pub use Rattle.jn_recovery.specs.Matches.{Matches, IsKeptMemory, IsMade, AreMade, HasMaps, HaveMaps, stored_work, WorksMatch, StoredWork, work_by, FlagsMatch}
 pub use Rattle.jn_recovery.specs.Memory.{Memory, accounts_of, view_of, next_by, next_in, stored_by, held_of, held_in, holds_page, rubbish_of, rubbish_in, supplied_in}
 pub use Rattle.jn_recovery.proofs.Totals.{one}
-pub use Rattle.jn_recovery.proofs.Counting.{listed_length, found_at, gone_found, prepared_gone, removed_rubbish, removed_names, counts_plus, is_of_work}
+pub use Rattle.jn_recovery.proofs.Counting.{listed_length, found_at, gone_found, prepared_gone, removed_rubbish, removed_names, counts_plus}
 pub use Rattle.jn_recovery.proofs.Serving.{serves_of, serving_by, loadable_found, Serves, may_load, called_put}
 pub use Rattle.jn_recovery.proofs.Standing.{there_found, consistent, mapped_found, holds, files_are, standing_same, finds}
 pub use Rattle.jn_recovery.proofs.Telling.{prepared_of, stored_pages, works_seen, listed_pages, works_told, works_by, tells_works}
@@ -63,12 +64,12 @@ pub use Rattle.jn_store.proofs.Laws.{later_trans, stop_since, same_refl, same_tr
 pub use Rattle.jn_files.proofs.Said.{same_only}
 pub use Rattle.jn_records.specs.declared.head.Head.{Head}
 pub use Rattle.jn_base.specs.declared.names.ServerNo.{ServerNo}
-pub use Rattle.jn_records.specs.Heads.{IsMapRow, head_in, head_page, map_page, all_within, within, has_page as head_has_page}
+pub use Rattle.jn_records.specs.Heads.{IsMapRow, head_in, is_of, head_page, map_page, all_within, within, has_page as head_has_page}
 pub use Rattle.jn_page_state.proofs.MapsKept.{used_there, entry_map}
 pub use Rattle.jn_base.specs.declared.names.LockUnit.{LockUnit}
 pub use Rattle.jn_storage.proofs.Kept.{makes_file, orderly-carried, promises-carried}
 pub use Rattle.jn_files.proofs.Cutting.{cut_kept, cut_gone}
-pub use Rattle.jn_records.proofs.Layouts.{laid-block, laid-entry, laid-map, get-map, laid-past, set-map, map-cell-is, map-put, block-put, has-at, has-found}
+pub use Rattle.jn_records.proofs.Layouts.{laid-block, laid-entry, laid-map, get-map, laid-past, set-map, map-cell-is, map-put, file-at, own-file, block-put, has-at, has-found}
 pub use Rattle.jn_records.specs.declared.head.Head.TheVariants.{Free as FreeHead, Used}
 pub use Rattle.jn_files.specs.Calls.{SetsHead, CutsFile, CutsTwice, SetsBlock, BringsMap, PutsHead, MayBecome, MayBring, IsPlaceOf, IsChanged, with_promised_heads, LetsGo, NextFile as NextHead, Touches, BlockGot, NextBlock as NextHeadBlock, with_promised_leaves, TouchesAll, with_held, with_touched}
 pub use Rattle.jn_page_state.specs.Changes.{serves_for, is_head_after, address_after, map_after, IsHeadPut, IsPartPut, IsReadySlot, IsReadyPut, IsIdlePut}

@@ -1,5 +1,5 @@
 -- What the table of files puts carries out an intention: the page of a head or of a map page, or one and then the other.
-use Rattle.jn_intent.proofs.Common.{◌≡◌, ◌≢◌, ◌⊎◌, inl, inr, ⊎_elim, ◌<◌, ◌≤◌, ◌+◌, ◌-◌, ◌/◌, ◌%◌, ℕ, zero, suc, Bool, true, false, not, ◌&&◌, ◌||◌, if◌then◌else◌, List, [], ◌∷◌, length, Option, Some, None, replicate, refl, sym, ◌∙◌, ap, subst, true≢false, arith, cases_eq, cases_lt, false_from_ne_true, passes_at, nat_tests, get_or-set_same, get_or-set_other, length-set, length-map, nat_eq, nat_lt, nat_le, is_some, slice_set, slice_index, slice_index_or, find, list_all, FileNo, file_eq, file_tells, created, removed, cut_from, TableView, IsTable, IsHeadOf, head_in, is_of, exists, fresh_head, cut_head, cut_addresses, cut_map, with_leaf, with_map, one_entry, row_at, layouts_in, SetsHead, CutsFile, CutsTwice, SetsBlock, BringsMap, PutsHead, MayBecome, MayBring, IsPlaceOf, IsChanged, with_promised_heads, serves_for, is_head_after, address_after, map_after, IsHeadPut, HeadPut, MapPut, IsMapRow, Head, FreeHead, Used, StoredIntention, What, Fresh, Gone, Cut, Put, intention_has_page, is_fresh, data_place, head_place, Counts, StoreView, StorePut, IsOnly, MayCarry, PutsOne, PutsWhole, PutsInTurn, KeepsMaps, Carries, without_promise, with_fresh_promise, is_gone, head_blocks, most_blocks, most_maps, Layout, Unused, Of, at_cell, layout_at, is_layout_of, map_cell, layout_by, layouts_by, kept_entry, head_map, maps_in, get-map, set-map, map-cell-is, none_at, none_any, cut_kept, cut_gone, range_of, IsMapStored, laid, through, with_row, with_entries, IsMapIn, IsRowChanged, is_in_range, names_map, laid-block, laid-entry, laid-map, map-put, head_page, map_page, all_within, within}
+use Rattle.jn_intent.proofs.Common.{◌≡◌, ◌≢◌, ◌⊎◌, inl, inr, ⊎_elim, ◌<◌, ◌≤◌, ◌+◌, ◌-◌, ◌/◌, ◌%◌, ℕ, zero, suc, Bool, true, false, not, ◌&&◌, ◌||◌, if◌then◌else◌, List, [], ◌∷◌, length, Option, Some, None, replicate, refl, sym, ◌∙◌, ap, subst, true≢false, arith, cases_eq, cases_lt, false_from_ne_true, passes_at, nat_tests, get_or-set_same, get_or-set_other, length-set, length-map, nat_eq, nat_lt, nat_le, is_some, slice_set, slice_index, slice_index_or, find, list_all, FileNo, file_eq, file_tells, created, removed, cut_from, TableView, IsTable, IsHeadOf, head_in, is_of, exists, fresh_head, cut_head, cut_addresses, cut_map, with_leaf, with_map, one_entry, row_at, layouts_in, SetsHead, CutsFile, CutsTwice, SetsBlock, BringsMap, PutsHead, MayBecome, MayBring, IsPlaceOf, IsChanged, with_promised_heads, serves_for, is_head_after, address_after, map_after, IsHeadPut, HeadPut, MapPut, IsMapRow, Head, FreeHead, Used, StoredIntention, What, Fresh, Gone, Cut, Put, intention_has_page, is_fresh, data_place, head_place, Counts, StoreView, StorePut, IsOnly, MayCarry, PutsOne, PutsWhole, PutsInTurn, KeepsMaps, Carries, without_promise, with_fresh_promise, is_gone, head_blocks, most_blocks, most_maps, Layout, Unused, Of, at_cell, layout_at, is_layout_of, map_cell, layout_by, layouts_by, kept_entry, head_map, maps_in, get-map, set-map, map-cell-is, none_at, none_any, cut_kept, cut_gone, range_of, IsMapStored, laid, through, with_row, with_entries, IsMapIn, IsRowChanged, is_in_range, names_map, laid-block, laid-entry, laid-map, map-put, head_page, map_page, all_within, within, file-at, own-file}
 use Rattle.jn_records.specs.Heads.{is_free, has_page}
 use Rattle.jn_intent.proofs.Naming.{page_of_put}
 use Rattle.jn_intent.proofs.Cells.{cut_cell, cut_map_cell, leaf_cell, map_brought, with_map_cell, entry_cell, cut_entry_cell, zeros_at, is_range}
@@ -9,13 +9,9 @@ use Rattle.jn_intent.proofs.Cells.{cut_cell, cut_map_cell, leaf_cell, map_brough
 pub layout_in_head : (rows : List (List ℕ)) (heads : List Head) (k : ℕ) → layout_at (layouts_by (kept_entry rows) heads) k ≡ layout_by (kept_entry rows) (head_in heads k)
 layout_in_head rows heads k = get-map (layout_by (kept_entry rows)) heads k FreeHead
 
-pub layout_of_head : (maps : ℕ → ℕ → ℕ) (f : FileNo) (h : Head) → is_layout_of f (layout_by maps h) ≡ is_of f h
-layout_of_head maps f FreeHead = refl
-layout_of_head maps f (Used g xs ms) = refl
-
 -- the file of a slot by its layout
 pub own_layout : (t : TableView) (f : FileNo) (slot : ℕ) → is_layout_of f (layout_at (layouts_in t) slot) ≡ is_of f (head_in t.heads slot)
-own_layout t f slot = ap (is_layout_of f) (layout_in_head t.maps t.heads slot) ∙ layout_of_head (kept_entry t.maps) f (head_in t.heads slot)
+own_layout t f slot = file-at (kept_entry t.maps) f t.heads slot
 
 -- and its map pages
 pub own_map : (t : TableView) (slot j : ℕ) → j < most_maps → at_cell (layout_at (layouts_in t) slot) (map_cell j) ≡ head_map (head_in t.heads slot) j
@@ -213,7 +209,7 @@ module _ (t : TableView) (v : StoreView) (i : StoredIntention) (may : MayCarry t
 
       serves : serves_for Fresh i.file (layout_by (kept_entry t.maps) (head_in t.heads s.slot)) ≡ true
       serves = ⊎_elim
-          (λ own. own_serves Fresh i.file (layout_by (kept_entry t.maps) (head_in t.heads s.slot)) (layout_of_head (kept_entry t.maps) i.file (head_in t.heads s.slot) ∙ own))
+          (λ own. own_serves Fresh i.file (layout_by (kept_entry t.maps) (head_in t.heads s.slot)) (own-file (kept_entry t.maps) i.file (head_in t.heads s.slot) ∙ own))
           (λ other. free (head_in t.heads s.slot) (sym (may.table.free_heads s.slot s.below) ∙ other.1.is_free_itself))
           s.place
         where

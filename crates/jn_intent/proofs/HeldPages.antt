@@ -1,21 +1,12 @@
 -- What works hold once an intention is carried out.
 use Rattle.jn_intent.proofs.Common.{◌≡◌, ◌≢◌, ◌⊎◌, inl, inr, ⊎_elim, ◌<◌, ◌≤◌, ◌+◌, ◌-◌, ◌*◌, ◌/◌, ℕ, zero, suc, Bool, true, false, not, ◌&&◌, if◌then◌else◌, List, length, Option, Some, None, refl, sym, ◌∙◌, ap, subst, true≢false, arith, cases_lt, false_from_ne_true, nat_tests, slice_get-map, nat_lt, nat_le, nat_eq, slice_get, slice_set, option_map, option_and_then, find, BlockNo, FileNo, Block, Tid, WorkId, file_tells, work_eq, layouts_in, address_after, map_after, serves_for, IsHeadPut, intended, heads_name, is_at, Intends, Gives, FullIntention, StoredIntention, What, Fresh, Gone, Cut, Put, Intention, WorkState, intention_has_page, is_put, in_order, place_by, has_page, Files, record_in, is_prepared, state, name_of, find_by, total, IsServing, StoreView, Matches, stored_work, Memory, view_of, stored_by, holds_page, held_of, one, prepared_of, stored_pages, at_set, found_once, head_blocks, most_blocks, most_maps, most_cells, Layout, Unused, Of, at_cell, layout_at, is_layout_of, map_cell, maps_in, lacks_map, kept_entry, behind, block_in, bare, is_in_range, entry_map}
 use Rattle.jn_intent.proofs.Listed.{not_map_cell}
-use Rattle.jn_intent.proofs.MapsAfter.{map_before}
+use Rattle.jn_intent.proofs.MapsAfter.{both_ways, map_before}
 use Rattle.jn_intent.proofs.Naming.{found_cell, cell_named, given_cell, gives_named, put_gives, map_of_head_put}
 use Rattle.jn_intent.proofs.NetOrder.{all_at, one_index}
 use Rattle.jn_intent.proofs.NextIntention.{its_slot, brought, together}
 use Rattle.jn_intent.proofs.Numbers.{total_members, total_but_one}
 use Rattle.jn_intent.proofs.WorkPages.{first_blocks, its_list, work_told, stands_listed, pages_differ, ranged, files_found}
-
-both_ways : (b c : Bool) → (b ≡ true → c ≡ true) → (c ≡ true → b ≡ true) → b ≡ c
-both_ways true true f g = refl
-both_ways true false f g = absurd (true≢false (sym (f refl)))
-both_ways false true f g = absurd (true≢false (sym (g refl)))
-both_ways false false f g = refl
-
-some_is : {A : Type 0} {a b : A} → Some a ≡ Some b → a ≡ b
-some_is e = cc e
 
 -- ---- where an address stands after an intention: it was there, or is the intention's own
 

@@ -2,7 +2,7 @@
 use Rattle.jn_intent.proofs.Common.{◌≡◌, ◌≢◌, ⊎_elim, ◌<◌, ◌≤◌, ◌+◌, ◌/◌, ℕ, zero, suc, Bool, true, false, ◌&&◌, ◌||◌, if◌then◌else◌, List, [], ◌∷◌, length, refl, sym, ◌∙◌, ap, subst, true≢false, arith, fun_ext, cases_lt, false_from_ne_true, nat_tests, nat_eq, nat_lt, slice_set, slice_index, slice_index_or, list_any, FileNo, file_eq, file_tells, TableView, IsTable, head_in, layouts_in, serves_for, is_head_after, map_after, IsHeadPut, any_same, at_set, passes_any, passes_at, Head, FreeHead, Used, StoredIntention, What, Fresh, Gone, Cut, Put, most_maps, most_cells, Layout, Unused, Of, at_cell, layout_at, is_layout_of, map_cell, layout_by, layouts_by, kept_entry, maps_in, places_after, get_or_past, bare, has_map_after, is_in_range, keeps_map, laid-map, laid-past, head_has_page}
 use Rattle.jn_intent.proofs.Census.{cell_below}
 
-both_ways : (b c : Bool) → (b ≡ true → c ≡ true) → (c ≡ true → b ≡ true) → b ≡ c
+pub both_ways : (b c : Bool) → (b ≡ true → c ≡ true) → (c ≡ true → b ≡ true) → b ≡ c
 both_ways true true f g = refl
 both_ways true false f g = absurd (true≢false (sym (f refl)))
 both_ways false true f g = absurd (true≢false (sym (g refl)))

@@ -1,5 +1,5 @@
 -- Which data pages layouts and prepared works name, cell by cell.
-use Rattle.jn_intent.proofs.Common.{◌≡◌, ◌⊎◌, inl, inr, ◌<◌, ◌-◌, ◌/◌, ℕ, zero, suc, Bool, true, false, not, ◌&&◌, ◌||◌, List, refl, sym, ◌∙◌, ap, subst, true≢false, arith, false_from_ne_true, nat_tests, nat_eq, nat_le, list_any, What, Fresh, Gone, Cut, Put, Contents, heads_name, AddressesDiffer, Intends, StoredIntention, Record, Free, Intention, Ready, Going, FlagRecord, record_in, is_prepared, intention_has_page, names_what_it_needs, passes_at, passes_any, head_blocks, works_have, holds_intention, layouts_said, Addresses, Gives, names_address, Layout, Unused, at_cell, layout_at, is_layout_of, map_cell, has_address, has-at, has-found}
+use Rattle.jn_intent.proofs.Common.{◌≡◌, ◌⊎◌, inl, inr, ◌<◌, ◌-◌, ◌/◌, ℕ, zero, suc, Bool, true, false, not, ◌&&◌, ◌||◌, List, refl, sym, ◌∙◌, ap, subst, true≢false, arith, false_from_ne_true, nat_tests, nat_eq, nat_le, list_any, What, Fresh, Gone, Cut, Put, Contents, heads_name, AddressesDiffer, Intends, StoredIntention, Record, Free, Intention, Ready, Going, FlagRecord, record_in, is_prepared, intention_has_page, names_what_it_needs, passes_at, passes_any, head_blocks, works_have, holds_intention, layouts_said, Addresses, Gives, names_address, Layout, Unused, at_cell, layout_at, is_layout_of, map_cell, has_address, has-at, has-found, AreNamedOnce}
 
 -- ---- layouts
 
@@ -105,9 +105,8 @@ map_of_head_put w n k m h e lt = by (subst (λ w. names_what_it_needs w n k m �
 -- ---- what a recovery asks, over layouts
 
 pub record AreApart (leaves : ℕ) (layouts : List Layout) (pool : List Record) : Type 0 where
-  -- no data page stands at two cells
-  pub heads : (d i j p q : ℕ) → Addresses layouts i p d → Addresses layouts j q d → (i ≡ j) × (p ≡ q)
-  -- nor is one named twice by the intentions of prepared works, and each that they name is there
+  pub heads : AreNamedOnce layouts
+  -- nor is a data page named twice by the intentions of prepared works, and each that they name is there
   pub works : (d i j p q : ℕ) (s t : StoredIntention) → Intends pool i s → Intends pool j t → Gives s d p → Gives t d q → (i ≡ j) × (p ≡ q)
   pub works_fit : (d i p : ℕ) (s : StoredIntention) → Intends pool i s → Gives s d p → d < leaves
   -- a layout has the data page of such an intention in its file and at its cell alone

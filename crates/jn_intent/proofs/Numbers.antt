@@ -1,5 +1,5 @@
 -- How many numbers below a bound pass a test, and what is listed by numbers.
-use Rattle.jn_intent.proofs.Common.{◌≡◌, ◌≢◌, ⊎_elim, ◌<◌, ◌≤◌, ◌+◌, ℕ, zero, suc, Bool, true, false, not, ◌&&◌, if◌then◌else◌, List, [], ◌∷◌, length, Some, refl, sym, ◌∙◌, ap, true≢false, arith, cases_eq, sum_by-cons, count_by, slice_get, slice_index_or, is_in, are_different, IsListing, total, Tells, but, listing-less, one}
+use Rattle.jn_intent.proofs.Common.{◌≡◌, ◌≢◌, ◌<◌, ◌≤◌, ◌+◌, ℕ, zero, suc, Bool, true, false, not, ◌&&◌, if◌then◌else◌, List, [], ◌∷◌, length, Some, refl, sym, ◌∙◌, ap, true≢false, arith, sum_by-cons, count_by, slice_get, slice_index_or, is_in, are_different, IsListing, total, Tells, but, listing-less, one}
 use Rattle.jn_recovery.proofs.FlagStates.{length-one}
 
 abbrev pub how_many : (ℕ → Bool) → ℕ → ℕ
@@ -28,25 +28,6 @@ more_pass p q (suc n) each = let again = more_pass p q n each in let here = by (
     by : (b c : Bool) → (b ≡ true → c ≡ true) → one b ≤ one c
     by true c h = let e = h refl in grind (arith, e)
     by false c h = omega arith
-
--- two tests that agree at all numbers, or at all but one
-pub same_pass : (p q : ℕ → Bool) (n : ℕ) → ((a : ℕ) → p a ≡ q a) → how_many p n ≡ how_many q n
-same_pass p q zero same = refl
-same_pass p q (suc n) same = let again = same_pass p q n same in let here = ap one (same n) in omega (arith, again, here)
-
-pub all_but_one : (p q : ℕ → Bool) (d n : ℕ) → d < n → ((a : ℕ) → a ≢ d → p a ≡ q a) → how_many q n + one (p d) ≡ how_many p n + one (q d)
-all_but_one p q d zero below same = absurd (omega (arith, below))
-all_but_one p q d (suc n) below same = ⊎_elim
-    (λ e. last n e (below_same n (λ a lt. same a (λ h. let no_way : ⊥ = omega (arith, lt, h, e) in no_way))))
-    (λ ne. let again = all_but_one p q d n (omega (arith, below, ne)) same in let here = ap one (same n (λ h. ne (sym h))) in omega (arith, again, here))
-    (cases_eq d n)
-  where
-    below_same : (n : ℕ) → ((a : ℕ) → a < n → p a ≡ q a) → how_many p n ≡ how_many q n
-    below_same zero same = refl
-    below_same (suc n) same = let again = below_same n (λ a lt. same a (omega (arith, lt))) in let here = ap one (same n (omega arith)) in omega (arith, again, here)
-
-    last : (n : ℕ) → d ≡ n → how_many p n ≡ how_many q n → how_many q n + one (q n) + one (p d) ≡ how_many p n + one (p n) + one (q d)
-    last n e rest = let here = ap (λ k. one (p k)) e in let there = ap (λ k. one (q k)) e in omega (arith, rest, here, there)
 
 pub same_members : {X : Type 0} (p q : X → Bool) (xs : List X) → ((j : ℕ) (x : X) → slice_get xs j ≡ Some x → p x ≡ q x) → count_by p xs ≡ count_by q xs
 same_members p q [] same = refl

@@ -1,5 +1,5 @@
 -- A storage serves on with a work that is prepared.
-use Rattle.jn_intent.proofs.Common.{◌≡◌, ◌≤◌, ◌+◌, ℕ, Bool, true, false, ◌||◌, if◌then◌else◌, List, ◌∷◌, length, Option, Some, None, refl, sym, ◌∙◌, ap, subst, true≢false, arith, is_some, LockUnit, WorkId, work_eq, work_tells, Need, WorkHead, StableState, Prepared, AddReady, made_by, ready_work, at_work, is_in, total, IsOrderly, IsPrepared, Accounts, intentions, list_of, needed, shortage, with_work, listing-more, total-same, Serves, count_by, is_put_intention, heads_of, file_there, one, sum_by-cons, nat_le, not, ◌&&◌, ◌-◌, ◌/◌, [], MapPlaces, lacking, lacks_map, places_after, head_blocks, is_past_head, most_pages}
+use Rattle.jn_intent.proofs.Common.{◌≡◌, ◌≤◌, ◌+◌, ℕ, Bool, true, false, ◌||◌, if◌then◌else◌, List, ◌∷◌, length, Option, Some, None, refl, sym, ◌∙◌, ap, subst, true≢false, arith, is_some, LockUnit, WorkId, work_eq, work_tells, Need, WorkHead, StableState, Prepared, AddReady, made_by, ready_work, at_work, is_in, total, IsOrderly, IsPrepared, Accounts, intentions_of, list_of, needed, shortage, with_work, listing-more, total-same, Serves, count_by, is_put_intention, heads_of, file_there, one, sum_by-cons, nat_le, not, ◌&&◌, ◌-◌, ◌/◌, [], MapPlaces, lacking, lacks_map, places_after, head_blocks, is_past_head, most_pages}
 use Rattle.jn_records.specs.declared.intention.Intention.{Intention}
 use Rattle.jn_intent.proofs.StoringPool.{same_work}
 
@@ -32,10 +32,10 @@ lacking_most places (i ∷ list) =
 
 module _ (x : StableState) (a : Accounts) (head : WorkHead) (list : List Intention) (reads : List LockUnit) (s : Serves x a) (new : x.works head.work ≡ None) (orderly : IsOrderly a.server (made_by (AddReady head list reads) x)) (room : HasRoom a (needed a.maps x list)) where
   own_list : list_of (made_by (AddReady head list reads) x) head.work ≡ list
-  own_list = ap (λ b. intentions (if b then Some (ready_work head list reads) else x.works head.work)) (same_work head.work)
+  own_list = ap (λ b. intentions_of (if b then Some (ready_work head list reads) else x.works head.work)) (same_work head.work)
 
   list_else : (v : WorkId) → work_eq head.work v ≡ false → list_of (made_by (AddReady head list reads) x) v ≡ list_of x v
-  list_else v e = ap (λ b. intentions (if b then Some (ready_work head list reads) else x.works v)) e
+  list_else v e = ap (λ b. intentions_of (if b then Some (ready_work head list reads) else x.works v)) e
 
   -- the work as it is prepared
   pub its_work : IsPrepared x.files list reads

@@ -1,5 +1,5 @@
 -- A prepared work is removed, by one put of its record.
-use Rattle.jn_intent.proofs.Common.{◌≡◌, ◌≢◌, ⊎_elim, ◌<◌, ◌≤◌, ◌+◌, ◌-◌, ◌^◌, ℕ, suc, Bool, true, false, not, ◌&&◌, if◌then◌else◌, List, [], length, map, Option, Some, None, refl, sym, ◌∙◌, ap, subst, true≢false, arith, fun_ext, length-map, is_some, position, slice_set, slice_index_or, filter, option_map, option_and_then, find, list_any, FreeNumbers, free_numbers, WorkId, work_eq, work_tells, TableView, IsTable, layouts_in, layouts_of, maps_in, with_promised_heads, intended, stored_list, prepared_by, works_name, held_contents, block_on, pages_by, found_on, RecordPut, IsRecoverable, IsConsistent, IsStanding, Makes, removes, found_any, FullIntention, StoredIntention, Record, Free, WorkState, record_page, Counts, Changed, Prepared, RemoveWork, made_by, is_ready, is_going, record_in, slot_page, is_free, is_prepared, Puts, is_in, are_different, IsServing, IsLoadable, file_there, intentions, list_of, state, name_of, WorkRemoved, find_by, find-at, find-kept, find-listed, keys-kept, different-kept, total, total-but, StoreView, Memory, accounts_of, view_of, next_by, stored_by, held_of, rubbish_in, Matches, IsKeptMemory, IsMade, HasMaps, WorksMatch, stored_work, work_by, pages_let_go, MayLetGo, heads_needed, is_at, ArePagesApart, listed_length, gone_found, prepared_gone, removed_rubbish, removed_names, free_record, position_at, none_position, step_of, free_less, work_stays, flags_stay, Serves, serves_of, serving_by, may_load, called_put, consistent, works_seen, works_told, prepared_of, IsRemoved, serves_removed, same_only, root_page, root_by, IsOnly, heads_of, names_maps}
+use Rattle.jn_intent.proofs.Common.{◌≡◌, ◌≢◌, ⊎_elim, ◌<◌, ◌≤◌, ◌+◌, ◌-◌, ◌^◌, ℕ, suc, Bool, true, false, not, ◌&&◌, if◌then◌else◌, List, [], length, map, Option, Some, None, refl, sym, ◌∙◌, ap, subst, true≢false, arith, fun_ext, length-map, is_some, position, slice_set, slice_index_or, filter, option_map, option_and_then, find, list_any, FreeNumbers, free_numbers, WorkId, work_eq, work_tells, TableView, IsTable, layouts_in, layouts_of, maps_in, with_promised_heads, intended, stored_list, prepared_by, works_name, held_contents, block_on, pages_by, found_on, RecordPut, IsRecoverable, IsConsistent, IsStanding, Makes, removes, found_any, FullIntention, StoredIntention, Record, Free, WorkState, record_page, Counts, Changed, Prepared, RemoveWork, made_by, is_ready, is_going, record_in, slot_page, is_free, is_prepared, Puts, is_in, are_different, IsServing, IsLoadable, file_there, intentions_of, list_of, state, name_of, WorkRemoved, find_by, find-at, find-kept, find-listed, keys-kept, different-kept, total, total-but, StoreView, Memory, accounts_of, view_of, next_by, stored_by, held_of, rubbish_in, Matches, IsKeptMemory, IsMade, HasMaps, WorksMatch, stored_work, work_by, pages_let_go, MayLetGo, heads_needed, is_at, ArePagesApart, listed_length, gone_found, prepared_gone, removed_rubbish, removed_names, free_record, position_at, none_position, step_of, free_less, work_stays, flags_stay, Serves, serves_of, serving_by, may_load, called_put, consistent, works_seen, works_told, prepared_of, IsRemoved, serves_removed, same_only, root_page, root_by, IsOnly, heads_of, names_maps}
 use Rattle.jn_recovery.proofs.HeadsNeeded.{heads_are}
 use Rattle.jn_intent.proofs.LettingGo.{AreLetGo, let_go, table_taken}
 use Rattle.jn_intent.proofs.Listed.{names_after}
@@ -33,9 +33,6 @@ without_work m slot work list = record m { records = slice_set m.records slot Fr
 module _ (m : Memory) (v : StoreView) (kept : IsKeptMemory m v) (serving : IsServing (view_of m v)) (work : WorkId) (some : is_some ((state (view_of m v)).works work) ≡ true) where
   now : Matches m v
   now = kept serving.power
-
-  abbrev first_blocks : ℕ → List ℕ
-  first_blocks = block_on m.table.counts (pages_by v (λ n. false))
 
   pub work_slotted : position (is_prepared work) m.records ≡ None → ⊥
   work_slotted none = true≢false (sym some ∙ ap is_some (works_seen m v now serving work ∙ ap (prepared_by m.records (block_on m.table.counts (pages_by v (λ n. false))) work) (none_position (is_prepared work) m.records none)))
@@ -74,7 +71,7 @@ module _ (m : Memory) (v : StoreView) (kept : IsKeptMemory m v) (serving : IsSer
       list_few = let e = ap (λ (l : List StoredIntention). length l) list_is in let n = listed_length m.records work 0 its.count (λ k low high. its.has.all k (omega (arith, high))) in let few = its.few in omega (arith, e, n, few)
 
       full : list_of (state (view_of m v)) work ≡ map (intended (block_on m.table.counts (pages_by v (λ n. false)))) s.list
-      full = ap intentions (works_told m v now serving work ∙ ap (λ o. option_map (prepared_of (block_on m.table.counts (pages_by v (λ n. false)))) (option_map stored_work o)) here)
+      full = ap intentions_of (works_told m v now serving work ∙ ap (λ o. option_map (prepared_of (block_on m.table.counts (pages_by v (λ n. false)))) (option_map stored_work o)) here)
 
       full_length : length (list_of (state (view_of m v)) work) ≡ its.count
       full_length = ap (λ (l : List FullIntention). length l) full ∙ length-map s.list (intended (block_on m.table.counts (pages_by v (λ n. false)))) ∙ ap (λ (l : List StoredIntention). length l) list_is
@@ -102,9 +99,6 @@ module _ (m : Memory) (v : StoreView) (kept : IsKeptMemory m v) (serving : IsSer
 
       pub may_let_go : MayLetGo s.list (with_promised_heads m.table (m.table.free_heads.promised - heads_needed m.table.heads s.list))
       may_let_go = gone.may
-
-      after : Memory
-      after = without_work m slot work s.list
 
       kept_found : (w : WorkId) → find_by work_eq name_of (filter (λ (t : WorkState). not (work_eq work (name_of t))) m.works) w ≡ (if not (work_eq work w) then find_by work_eq name_of m.works w else None)
       kept_found w = find-kept work_eq work_tells name_of (λ k. not (work_eq work k)) m.works w

@@ -1,5 +1,5 @@
 -- How many data pages are held for the intentions of works, and named by no head and no map page.
-use Rattle.jn_intent.proofs.Common.{◌≡◌, ◌≢◌, ◌⊎◌, inl, inr, ⊎_elim, ◌<◌, ◌≤◌, ◌+◌, ◌^◌, ℕ, zero, suc, Bool, true, false, not, ◌&&◌, ◌||◌, if◌then◌else◌, List, [], ◌∷◌, length, map, Option, Some, None, refl, sym, ◌∙◌, ap, subst, true≢false, arith, fun_ext, cases_eq, nat_tests, sum_by-cons, nat_lt, nat_le, nat_eq, is_some, count_by, slice_get, option_map, option_and_then, find, list_all, list_any, free_numbers, FileNo, LockUnit, Tid, WorkId, file_eq, work_eq, work_tells, unit_eq, heads_name, works_name, names_address, stored_in, with_first, intentions_from, stored_list, intended, held_contents, block_on, pages_by, Contents, IsConsistent, IsCompleteBy, HasIntentions, PassesOnce, found_any, found_passes, StoredIntention, FullIntention, Record, Free, Intention, Ready, Going, FlagRecord, WorkState, RecordFits, StableState, record_in, is_prepared, is_intention, state, name_of, find_by, file_there, is_stored, is_in, are_different, IsListing, total, Tells, but, is_in-but, total-but, total-same, StoreView, Memory, view_of, stored_by, holds_page, held_of, held_in, is_at, ArePagesApart, Matches, stored_work, work_by, one, found_at, counts_plus, none_any, finds, consistent, prepared_of, works_by, Files, Layout, layouts_in, kept_entry, is_layout_of, layout_at, maps_in, most_blocks, most_cells, map_eq, has_map, state_in, layouts_said, layouts_held, file_of_head, files_listed, heads_counted, all_units, blocks_listed, all_maps, maps_listed, named_counted}
+use Rattle.jn_intent.proofs.Common.{◌≡◌, ◌≢◌, ◌⊎◌, inl, inr, ⊎_elim, ◌<◌, ◌≤◌, ◌+◌, ◌^◌, ℕ, zero, suc, Bool, true, false, not, ◌&&◌, ◌||◌, if◌then◌else◌, List, [], ◌∷◌, length, map, Option, Some, None, refl, sym, ◌∙◌, ap, subst, true≢false, arith, fun_ext, cases_eq, nat_tests, sum_by-cons, nat_lt, nat_le, nat_eq, is_some, count_by, slice_get, option_map, option_and_then, find, list_all, list_any, free_numbers, FileNo, LockUnit, Tid, WorkId, file_eq, work_eq, work_tells, unit_eq, heads_name, works_name, names_address, stored_in, with_first, intentions_from, stored_list, intended, held_contents, block_on, pages_by, IsConsistent, IsCompleteBy, HasIntentions, PassesOnce, found_any, found_passes, StoredIntention, FullIntention, Record, Free, Intention, Ready, Going, FlagRecord, WorkState, RecordFits, StableState, record_in, is_prepared, is_intention, state, name_of, find_by, file_there, is_stored, is_in, are_different, IsListing, total, Tells, but, is_in-but, total-but, total-same, StoreView, Memory, view_of, stored_by, holds_page, held_of, held_in, is_at, ArePagesApart, Matches, stored_work, work_by, one, found_at, counts_plus, none_any, finds, consistent, prepared_of, works_by, Files, Layout, layouts_in, kept_entry, is_layout_of, layout_at, maps_in, most_blocks, most_cells, map_eq, has_map, state_in, layouts_said, layouts_held, file_of_head, files_listed, heads_counted, all_units, blocks_listed, all_maps, maps_listed, named_counted}
 use Rattle.jn_records.specs.Layouts.{files_in}
 use Rattle.jn_recovery.specs.Gathering.{collected}
 use Rattle.jn_intent.proofs.Census.{pages_counted, below_counts}
@@ -106,9 +106,6 @@ abbrev pub first_blocks : Memory → StoreView → ℕ → List ℕ
 first_blocks m v = block_on m.table.counts (pages_by v (λ n. false))
 
 module _ (m : Memory) (v : StoreView) (now : Matches m v) where
-  abbrev contents : Contents
-  contents = held_contents m.table.counts v m.epoch m.records m.table.heads (λ n. false)
-
   -- the layouts are those that memory keeps
   pub layouts_kept : layouts_said (held_contents m.table.counts v m.epoch m.records m.table.heads (λ n. false)) ≡ layouts_in m.table
   layouts_kept = layouts_held m.server m.table.counts v m.epoch m.records m.table.heads m.table.maps now.standing.held (λ n. false)

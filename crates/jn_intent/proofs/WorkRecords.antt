@@ -1,5 +1,5 @@
 -- The record of a prepared work.
-use Rattle.jn_intent.proofs.Common.{◌≡◌, ◌≢◌, ◌<◌, ◌^◌, ℕ, true, false, List, Some, refl, sym, ap, subst, true≢false, arith, Tid, WorkId, work_tells, stored_list, IsCompleteBy, HasIntentions, Record, Free, Intention, Ready, Going, FlagRecord, RecordFits, is_free, is_prepared, is_intention, is_flag, is_rubbish, StoredWork, work_by, is_of_work}
+use Rattle.jn_intent.proofs.Common.{◌≡◌, ◌≢◌, ◌<◌, ◌^◌, ℕ, true, false, List, Some, refl, sym, ap, subst, true≢false, arith, Tid, WorkId, work_tells, stored_list, IsCompleteBy, HasIntentions, Record, Free, Intention, Ready, Going, FlagRecord, RecordFits, is_free, is_prepared, is_intention, is_flag, is_rubbish, StoredWork, work_by, intends_for}
 
 pub record IsWorkRecord (pool : List Record) (work : WorkId) (r : Record) : Type 0 where
   pub count : ℕ
@@ -9,7 +9,7 @@ pub record IsWorkRecord (pool : List Record) (work : WorkId) (r : Record) : Type
   pub no_flag : (t : Tid) → is_flag t r ≡ false
   pub used : is_free r ≡ false
   pub no_rubbish : (pool : List Record) → is_rubbish pool r ≡ false
-  pub not_of : (w : WorkId) → is_of_work w r ≡ false
+  pub not_of : (w : WorkId) → intends_for w r ≡ false
   pub others : (w : WorkId) → work ≢ w → is_prepared w r ≡ false
   pub few : count < 2 ^ 8
 

@@ -1,5 +1,5 @@
 -- The names from below that these proofs cite, passed on from one place. Declares nothing.
-pub use Rattle.std.proofs.Common.{List, [], ◌∷◌, ◌++◌, ap, not, ◌↔◌, refl, ◌≡◌, inl, inr, ℕ, zero, suc, ◌≤◌, true, false, ◌&&◌, Some, sym, ◌∙◌, arith, ◌⊎◌, if◌then◌else◌, length, subst, ◌+◌, ◌<◌, Bool, ◌||◌, append_assoc, append-nil, cond}
+pub use Rattle.std.proofs.Common.{List, [], ◌∷◌, ◌++◌, ap, not, ◌↔◌, refl, ◌≡◌, inl, inr, ℕ, zero, suc, ◌≤◌, false, ◌&&◌, Some, sym, ◌∙◌, arith, ◌⊎◌, true, if◌then◌else◌, length, subst, ◌+◌, ◌<◌, Bool, ◌||◌, append_assoc, append-nil, cond}
 pub use Rattle.jn_schedule.specs.declared.Event.{Event}
 pub use Rattle.jn_report.specs.declared.line.Line.{Line}
 pub use Rattle.jn_serial.specs.Caused.{is_caused, CausedFrom, Caused}
@@ -8,7 +8,7 @@ pub use Rattle.jn_order.specs.Files.{AllFiles, no_files, Files as OneFiles, answ
 pub use Rattle.jn_report.specs.declared.line.When.TheVariants.{Event as AtEvent, End}
 pub use Rattle.jn_serial.specs.Example.{made_and_removed, told_twice, opened_and_down, lost_after, refused_line, begun_line, first_server, second_server, one_client, one_transaction, file_7}
 pub use Rattle.jn_judged.specs.Example.{made_twice, answered_then, there_already, made_again, made_line, commit_line, committed_line, file_line, count_line}
-pub use Rattle.jn_judged.specs.Faults.{BreaksOrder, BreaksShows, BreaksOutcomes, BreaksCauses, BreaksFollowing, IsFault, InLine, LeftOut, AtTheEnd, OfFile, IsFaultless, CountsCommits, LeavesOut, Shows, Breaks, lines_up_to, IsLeastFault, Keeps, KeepsAll, OfBlock, ByEvent}
+pub use Rattle.jn_judged.specs.Faults.{BreaksOrder, BreaksShows, BreaksCauses, BreaksFollowing, IsFault, InLine, LeftOut, AtTheEnd, OfFile, IsFaultless, CountsCommits, LeavesOut, Shows, Breaks, BreaksOutcomes, lines_up_to, IsLeastFault, Keeps, KeepsAll, OfBlock, ByEvent}
 pub use Rattle.std.specs.Prelude.{Option, None, nat_lt, nat_eq, is_some, map}
 pub use Rattle.std.proofs.lemmas.Bool.{cases_Bool, true≢false, ltb-true, ltb-false}
 pub use Rattle.jn_report.specs.declared.line.Text.{Text}
@@ -16,7 +16,7 @@ pub use Rattle.jn_serial.specs.Lines.{says as any_says, event_at, history_of, li
 pub use Rattle.jn_base.specs.declared.names.ServerNo.{ServerNo}
 pub use Rattle.jn_base.specs.declared.names.LockUnit.TheVariants.{File, Block}
 pub use Rattle.jn_base.specs.Names.{server_eq, file_eq, tid_eq}
-pub use Rattle.jn_serial.specs.Order.{replay, Agrees, answer_told, first_told, performed, op_in, ops_from, ops_of, AgreesFrom}
+pub use Rattle.jn_serial.specs.Order.{replay_operations, OperationsAgree, answer_told, first_answer_told, performed, operation_in, operations_from, operations_of, OperationsAgreeFrom}
 pub use Rattle.jn_serial.specs.Shown.{accounts_file, IsAsIn, AllAsIn, ShowsFiles, Shown}
 pub use Rattle.jn_serial.specs.Follows.{IsOfEvent, Follows, Outstanding, nothing_asked, after_event, after_one, after_answer, after_answers, fits, AllFit, own_in_place, AllOwnInPlace, AllOfEvents, FollowsEvent, FollowsFrom}
 pub use Rattle.jn_report.specs.declared.line.When.{When}

@@ -1,5 +1,5 @@
 -- The short reports, computed.
-use Rattle.jn_judged.proofs.Common.{List, [], ◌∷◌, refl, AllFiles, Event, AtEvent, End, no_files, made_and_removed, told_twice, opened_and_down, lost_after, refused_line, begun_line, first_server, second_server, one_client, one_transaction, file_7, made_twice, answered_then, there_already, made_again, made_line, commit_line, committed_line, file_line, count_line, BreaksOrder, BreaksShows, BreaksOutcomes, BreaksCauses, BreaksFollowing, IsFault, InLine, LeftOut, AtTheEnd, OfFile}
+use Rattle.jn_judged.proofs.Common.{[], ◌∷◌, refl, AllFiles, AtEvent, End, no_files, made_and_removed, told_twice, opened_and_down, lost_after, refused_line, begun_line, first_server, second_server, one_client, one_transaction, file_7, made_twice, answered_then, there_already, made_again, made_line, commit_line, committed_line, file_line, count_line, BreaksOrder, BreaksShows, BreaksCauses, BreaksFollowing, IsFault, InLine, LeftOut, AtTheEnd, OfFile}
 use Rattle.jn_base.specs.declared.names.Cause.TheVariants as causes
 use Rattle.jn_report.specs.declared.line.Text.TheVariants as says
 
@@ -14,12 +14,6 @@ not-there = InLine [] file_line (count_line 0 ∷ []) 11 refl (BreaksShows refl)
 
 pub counted-wrongly : IsFault no_files made_twice (answered_then there_already (file_line ∷ count_line 2 ∷ [])) 7 11
 counted-wrongly = InLine (begun_line ∷ made_line ∷ there_already ∷ commit_line ∷ committed_line ∷ file_line ∷ []) (count_line 2) [] 11 refl (BreaksShows refl)
-
-pub named-twice : (files : AllFiles) (events : List Event) → IsFault files events (commit_line ∷ commit_line ∷ []) 2 12
-named-twice files events = InLine (commit_line ∷ []) commit_line [] 12 refl (BreaksOutcomes refl)
-
-pub named-late : (files : AllFiles) (events : List Event) → IsFault files events (committed_line ∷ commit_line ∷ []) 1 12
-named-late files events = InLine [] committed_line (commit_line ∷ []) 12 refl (BreaksOutcomes refl)
 
 pub no-cause : (files : AllFiles) → IsFault files opened_and_down (lost_after refused_line) 4 13
 no-cause files = InLine (begun_line ∷ refused_line ∷ (record { when = AtEvent 5; text = says.Down second_server }) ∷ []) (record { when = AtEvent 7; text = says.Aborted one_client 6 one_transaction (causes.Lost second_server) }) [] 13 refl (BreaksCauses refl)

@@ -1,5 +1,5 @@
 -- Answers that are those of the order of commits, line by line.
-use Rattle.jn_judged.proofs.Common.{◌≡◌, ℕ, ◌+◌, Bool, true, false, ◌&&◌, ◌||◌, not, if◌then◌else◌, List, [], ◌∷◌, ◌++◌, Option, Some, None, map, is_some, refl, sym, ◌∙◌, ap, subst, append_assoc, ◌↔◌, list_any, Tid, AllFiles, Event, Line, history_of, bytes_eq-Decides, File, Block, OneFiles, answer_to, all_files_after, or_else, zeros, answer_told, first_told, performed, op_in, ops_from, ops_of, AgreesFrom, Agrees, Answered, done_by, answered_from, same_answer, one_unless, differing, differing_in, answers_first, breaks_order}
+use Rattle.jn_judged.proofs.Common.{◌≡◌, ℕ, ◌+◌, Bool, true, false, ◌&&◌, ◌||◌, not, if◌then◌else◌, List, [], ◌∷◌, ◌++◌, Option, Some, None, map, is_some, refl, sym, ◌∙◌, ap, subst, append_assoc, ◌↔◌, list_any, Tid, AllFiles, Event, Line, history_of, bytes_eq-Decides, File, Block, OneFiles, answer_to, all_files_after, or_else, zeros, answer_told, first_answer_told, performed, operation_in, operations_from, operations_of, OperationsAgreeFrom, OperationsAgree, Answered, done_by, answered_from, same_answer, one_unless, differing, differing_in, answers_first, breaks_order}
 use Rattle.std.proofs.lemmas.List.{map-append}
 use Rattle.jn_base.specs.declared.op.Op.{Op}
 use Rattle.jn_base.specs.declared.op.Op.TheVariants as ops
@@ -59,18 +59,18 @@ equal-same op files b e = subst (λ (x : Answer). same_answer (answer_to op file
 abbrev done_of : List Answered → List Performed
 done_of ds = map (λ (d : Answered). d.done) ds
 
-done-by : (t : Tid) (lines : List Line) (j : ℕ) (e : Event) → done_of (done_by j e (op_in t lines j e)) ≡ op_in t lines j e
-done-by t lines j (events.Command c command) = each (op_in t lines j (events.Command c command))
+done-by : (t : Tid) (lines : List Line) (j : ℕ) (e : Event) → done_of (done_by j e (operation_in t lines j e)) ≡ operation_in t lines j e
+done-by t lines j (events.Command c command) = each (operation_in t lines j (events.Command c command))
   where
     each : (ps : List Performed) → done_of (map (λ (p : Performed). record { client = c; number = j; done = p }) ps) ≡ ps
     each [] = refl
     each (p ∷ ps) = ap (λ (qs : List Performed). p ∷ qs) (each ps)
 done-by t lines j _ = refl
 
-done-from : (t : Tid) (lines : List Line) (j : ℕ) (es : List Event) → done_of (answered_from t lines j es) ≡ ops_from t lines j es
+done-from : (t : Tid) (lines : List Line) (j : ℕ) (es : List Event) → done_of (answered_from t lines j es) ≡ operations_from t lines j es
 done-from t lines j [] = refl
-done-from t lines j (e ∷ es) = map-append (λ (d : Answered). d.done) (done_by j e (op_in t lines j e)) (answered_from t lines (j + 1) es) ∙ ap (λ (ps : List Performed). ps ++ done_of (answered_from t lines (j + 1) es)) (done-by t lines j e)
-    ∙ ap (λ (ps : List Performed). op_in t lines j e ++ ps) (done-from t lines (j + 1) es)
+done-from t lines j (e ∷ es) = map-append (λ (d : Answered). d.done) (done_by j e (operation_in t lines j e)) (answered_from t lines (j + 1) es) ∙ ap (λ (ps : List Performed). ps ++ done_of (answered_from t lines (j + 1) es)) (done-by t lines j e)
+    ∙ ap (λ (ps : List Performed). operation_in t lines j e ++ ps) (done-from t lines (j + 1) es)
 
 -- ---- nothing differs
 
@@ -91,20 +91,20 @@ differing-from : (files : AllFiles) (ds : List Answered) → GivesAnswers files 
 differing-from files [] h = refl
 differing-from files (d ∷ ds) h = ap (λ (b : Bool). one_unless b d ++ differing (all_files_after d.done.server d.done.op files) ds) (equal-same d.done.op (files d.done.server) d.done.answer h.0) ∙ differing-from (all_files_after d.done.server d.done.op files) ds h.1
 
-agrees-to : (files : AllFiles) (es : List Event) (lines : List Line) (ts : List Tid) → differing_in files es lines ts ≡ [] → AgreesFrom files es lines ts
+agrees-to : (files : AllFiles) (es : List Event) (lines : List Line) (ts : List Tid) → differing_in files es lines ts ≡ [] → OperationsAgreeFrom files es lines ts
 agrees-to files es lines [] h = tt
-agrees-to files es lines (t ∷ ts) h = let parts = both-empty (differing files (answered_from t lines 1 es)) (differing_in (files_then (ops_of es lines t) files) es lines ts) h in
-    (subst (GivesAnswers files) (done-from t lines 1 es) (differing-to files (answered_from t lines 1 es) parts.0), agrees-to (files_then (ops_of es lines t) files) es lines ts parts.1)
+agrees-to files es lines (t ∷ ts) h = let parts = both-empty (differing files (answered_from t lines 1 es)) (differing_in (files_then (operations_of es lines t) files) es lines ts) h in
+    (subst (GivesAnswers files) (done-from t lines 1 es) (differing-to files (answered_from t lines 1 es) parts.0), agrees-to (files_then (operations_of es lines t) files) es lines ts parts.1)
 
-agrees-from : (files : AllFiles) (es : List Event) (lines : List Line) (ts : List Tid) → AgreesFrom files es lines ts → differing_in files es lines ts ≡ []
+agrees-from : (files : AllFiles) (es : List Event) (lines : List Line) (ts : List Tid) → OperationsAgreeFrom files es lines ts → differing_in files es lines ts ≡ []
 agrees-from files es lines [] h = refl
-agrees-from files es lines (t ∷ ts) h = ap (λ (ds : List Answered). ds ++ differing_in (files_then (ops_of es lines t) files) es lines ts) (differing-from files (answered_from t lines 1 es) (subst (GivesAnswers files) (sym (done-from t lines 1 es)) h.0))
-    ∙ agrees-from (files_then (ops_of es lines t) files) es lines ts h.1
+agrees-from files es lines (t ∷ ts) h = ap (λ (ds : List Answered). ds ++ differing_in (files_then (operations_of es lines t) files) es lines ts) (differing-from files (answered_from t lines 1 es) (subst (GivesAnswers files) (sym (done-from t lines 1 es)) h.0))
+    ∙ agrees-from (files_then (operations_of es lines t) files) es lines ts h.1
 
 -- ---- each that differs has a line
 
 abbrev IsTold : List Line → Answered → Type 0
-IsTold lines d = is_some (first_told d.client d.number lines) ≡ true
+IsTold lines d = is_some (first_answer_told d.client d.number lines) ≡ true
 
 abbrev AllTold : List Line → List Answered → Type 0
 AllTold lines [] = Unit {0}
@@ -114,10 +114,10 @@ told-append : (lines : List Line) (xs ys : List Answered) → AllTold lines xs �
 told-append lines [] ys h k = k
 told-append lines (d ∷ xs) ys h k = (h.0, told-append lines xs ys h.1 k)
 
-told-in : (t : Tid) (lines : List Line) (j : ℕ) (e : Event) → AllTold lines (done_by j e (op_in t lines j e))
-told-in t lines j (events.Command c (commands.Do s op)) = by (is_in c t j lines) (first_told c j lines) refl
+told-in : (t : Tid) (lines : List Line) (j : ℕ) (e : Event) → AllTold lines (done_by j e (operation_in t lines j e))
+told-in t lines j (events.Command c (commands.Do s op)) = by (is_in c t j lines) (first_answer_told c j lines) refl
   where
-    by : (b : Bool) (a : Option Answer) → first_told c j lines ≡ a → AllTold lines (done_by j (events.Command c (commands.Do s op)) (if b then performed s op a else []))
+    by : (b : Bool) (a : Option Answer) → first_answer_told c j lines ≡ a → AllTold lines (done_by j (events.Command c (commands.Do s op)) (if b then performed s op a else []))
     by true None e = tt
     by true (Some x) e = (ap is_some e, tt)
     by false a e = tt
@@ -125,7 +125,7 @@ told-in t lines j _ = tt
 
 told-from : (t : Tid) (lines : List Line) (j : ℕ) (es : List Event) → AllTold lines (answered_from t lines j es)
 told-from t lines j [] = tt
-told-from t lines j (e ∷ es) = told-append lines (done_by j e (op_in t lines j e)) (answered_from t lines (j + 1) es) (told-in t lines j e) (told-from t lines (j + 1) es)
+told-from t lines j (e ∷ es) = told-append lines (done_by j e (operation_in t lines j e)) (answered_from t lines (j + 1) es) (told-in t lines j e) (told-from t lines (j + 1) es)
 
 told-differing : (lines : List Line) (files : AllFiles) (ds : List Answered) → AllTold lines ds → AllTold lines (differing files ds)
 told-differing lines files [] h = tt
@@ -137,7 +137,7 @@ told-differing lines files (d ∷ ds) h = told-append lines (one_unless (same_an
 
 told-all : (files : AllFiles) (es : List Event) (lines : List Line) (ts : List Tid) → AllTold lines (differing_in files es lines ts)
 told-all files es lines [] = tt
-told-all files es lines (t ∷ ts) = told-append lines (differing files (answered_from t lines 1 es)) (differing_in (files_then (ops_of es lines t) files) es lines ts) (told-differing lines files (answered_from t lines 1 es) (told-from t lines 1 es)) (told-all (files_then (ops_of es lines t) files) es lines ts)
+told-all files es lines (t ∷ ts) = told-append lines (differing files (answered_from t lines 1 es)) (differing_in (files_then (operations_of es lines t) files) es lines ts) (told-differing lines files (answered_from t lines 1 es) (told-from t lines 1 es)) (told-all (files_then (operations_of es lines t) files) es lines ts)
 
 -- the first line that answers
 record HasFirst (d : Answered) (lines : List Line) : Type 0 where
@@ -157,12 +157,12 @@ has-first d (l ∷ ls) h = by (answer_told d.client d.number l.text) refl (λ k.
       line = a.line;
       after = a.after;
       is = ap (λ (xs : List Line). l ∷ xs) a.is;
-      answers = subst (λ (o : Option Answer). (is_some (answer_told d.client d.number a.line.text) && not (is_some (or_also o (first_told d.client d.number a.before)))) ≡ true) (sym e) a.answers;
+      answers = subst (λ (o : Option Answer). (is_some (answer_told d.client d.number a.line.text) && not (is_some (or_also o (first_answer_told d.client d.number a.before)))) ≡ true) (sym e) a.answers;
     }
 
     by : (o : Option Answer) → answer_told d.client d.number l.text ≡ o → (IsTold ls d → HasFirst d ls) → HasFirst d (l ∷ ls)
     by (Some x) e more = record { before = []; line = l; after = ls; is = refl; answers = subst (λ (o : Option Answer). (is_some o && true) ≡ true) (sym e) refl }
-    by None e more = later e (more (subst (λ (o : Option Answer). is_some (or_also o (first_told d.client d.number ls)) ≡ true) e h))
+    by None e more = later e (more (subst (λ (o : Option Answer). is_some (or_also o (first_answer_told d.client d.number ls)) ≡ true) e h))
 
 nothing-differs : (files : AllFiles) (es : List Event) (lines : List Line) → NoneBreaks (breaks_order files es) lines → differing_in files es lines (history_of lines) ≡ []
 nothing-differs files es lines h = by (differing_in files es lines (history_of lines)) refl
@@ -186,7 +186,7 @@ none-differs files es lines before (l ∷ ls) same h = (
   none-differs files es lines (before ++ l ∷ []) ls (append_assoc before (l ∷ []) ls ∙ same) h,
 )
 
-pub agrees-by-lines : (files : AllFiles) (es : List Event) (lines : List Line) → NoneBreaks (breaks_order files es) lines ↔ Agrees files es lines
+pub agrees-by-lines : (files : AllFiles) (es : List Event) (lines : List Line) → NoneBreaks (breaks_order files es) lines ↔ OperationsAgree files es lines
 agrees-by-lines files es lines = (
   λ h. agrees-to files es lines (history_of lines) (nothing-differs files es lines h),
   λ h. none-differs files es lines [] lines refl (agrees-from files es lines (history_of lines) h),

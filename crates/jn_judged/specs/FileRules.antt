@@ -20,7 +20,7 @@ use Rattle.jn_report.specs.declared.line.Text.TheVariants as says
 use Rattle.jn_report.specs.declared.line.Line.{Line}
 use Rattle.jn_report.specs.Kinds.{is_no_show, is_locked}
 use Rattle.jn_serial.specs.Lines.{history_of, lines_at, lines_before, says as any_says, event_at}
-use Rattle.jn_serial.specs.Order.{answer_told, first_told, op_in, ops_of, replay}
+use Rattle.jn_serial.specs.Order.{answer_told, first_answer_told, operation_in, operations_of, replay_operations}
 use Rattle.jn_judged.specs.Rules.{Rule}
 
 -- ---- answers of the order of commits
@@ -39,7 +39,7 @@ done_by j _ ps = []
 -- what T did in these events, numbered from j on
 abbrev pub answered_from : Tid → List Line → ℕ → List Event → List Answered
 answered_from t lines j [] = []
-answered_from t lines j (e ∷ es) = done_by j e (op_in t lines j e) ++ answered_from t lines (j + 1) es
+answered_from t lines j (e ∷ es) = done_by j e (operation_in t lines j e) ++ answered_from t lines (j + 1) es
 
 -- only answers from the files are compared
 abbrev pub same_answer : Answer → Answer → Bool
@@ -63,11 +63,11 @@ differing files (d ∷ ds) =
 abbrev pub differing_in : AllFiles → List Event → List Line → List Tid → List Answered
 differing_in files events lines [] = []
 differing_in files events lines (t ∷ ts) =
-    differing files (answered_from t lines 1 events) ++ differing_in (files_then (ops_of events lines t) files) events lines ts
+    differing files (answered_from t lines 1 events) ++ differing_in (files_then (operations_of events lines t) files) events lines ts
 
 -- the text is the first one that answers the operation from the files
 abbrev pub answers_first : List Line → Text → Answered → Bool
-answers_first before text d = is_some (answer_told d.client d.number text) && not (is_some (first_told d.client d.number before))
+answers_first before text d = is_some (answer_told d.client d.number text) && not (is_some (first_answer_told d.client d.number before))
 
 -- the line answers an operation of a committed transaction, and the commits run one after another give another answer
 abbrev pub breaks_order : AllFiles → List Event → Rule
@@ -97,8 +97,8 @@ has_printed events lines End = true
 
 -- the files that are to be printed there: those that the commits of earlier events leave
 abbrev pub files_when : AllFiles → List Event → List Line → When → AllFiles
-files_when files events lines (AtEvent i) = replay files events lines (history_of (lines_before (AtEvent i) lines))
-files_when files events lines End = replay files events lines (history_of lines)
+files_when files events lines (AtEvent i) = replay_operations files events lines (history_of (lines_before (AtEvent i) lines))
+files_when files events lines End = replay_operations files events lines (history_of lines)
 
 abbrev pub is_locked_at_end : When → Text → Bool
 is_locked_at_end End text = is_locked text

@@ -1,5 +1,5 @@
 -- What becomes of a message that is handed over: it is answered, or its server is stopped, or the run is cut short.
-use Rattle.jn_laws.proofs.Common.{◌≡◌, ◌≢◌, ℕ, Bool, true, false, List, [], ◌∷◌, ◌++◌, append-nil, length, length-append, Option, Some, None, is_some, refl, sym, ◌∙◌, ap, subst, arith, if◌then◌else◌, slice_get, ServerNo, Party, Client, Server, client_eq, server_eq, client_tells, server_tells, Message, Taken, ClientTable, take_row, RowOutcome, Sent, Pick, stable, made_all, World, Memory, Room, server_row, Deliver, handing, after, run, handed, at_memory, ends, took, Setup, Use, Nothing, Deed, room, no_room, delivered_at, IsUsed, rubbish_on, Moment, DoesStep, CutShort, HandsOver, Answer, tells_alone, room_on, row_on, of_row, of_server, of_taken, its_answer, IsGiven, IsDone, IsTaken, IsStopped, stopped_at, IsTooLong, IsStale, Calls, free_found, row_calls, ClientNo, Left, maps_found, pages_of}
+use Rattle.jn_laws.proofs.Common.{◌≡◌, ◌≢◌, ℕ, Bool, true, false, List, [], ◌∷◌, ◌++◌, append-nil, length, length-append, Option, Some, None, is_some, refl, sym, ◌∙◌, ap, subst, arith, if◌then◌else◌, slice_get, ServerNo, Party, Client, Server, client_eq, server_eq, client_tells, server_tells, Message, Taken, ClientTable, take_row, RowOutcome, Sent, Pick, stable, made_all, World, Memory, Room, server_row, Deliver, handing, after, run, handed, at_memory, ends, took, Setup, Use, Nothing, Deed, room, no_room, delivered_at, IsUsed, rubbish_on, Moment, DoesStep, CutShort, HandsOver, Answer, tells_alone, room_on, row_on, of_row, of_server, of_taken, its_answer, IsGiven, IsDone, IsTaken, IsStopped, stopped_at, IsTooLong, IsStale, Calls, free_found, row_calls, ClientNo, Left, maps_found, pages_of, at_client, taken_by, texts_taken, does-tables}
 use Rattle.jn_records.specs.declared.net_list.Need.{Need}
 use Rattle.jn_records.specs.MapPlaces.{MapPlaces}
 use Rattle.jn_server.specs.Standing.{free_on}
@@ -36,13 +36,13 @@ module _ (x : Setup) (a b : Moment) (d : DoesStep x a b) (k : ℕ) where
 
   module _ (c : ClientNo) (message : Message) (hands : HandsOver x a b d k (Client c) message) where
     abbrev row : ClientTable × Taken
-    row = take_row (w.clients c) message
+    row = take_row (a.state.clients c) message
 
     at-client : DoesOne x d.chance d.task a.state (Client c) Nothing (Deliver k no_room)
-    at-client = does-one x d.chance a.state k (Client c) message hands.is Nothing (Deliver k no_room) refl d.task hands.number
+    at-client = does-one x d.chance a.state k (Client c) message hands.is Nothing (Deliver k no_room) (λ f. at_client f c row.0) (Some (texts_taken k row.1)) refl d.task hands.number
 
     client-after : after (Deliver k no_room) w ≡ took c k row.0 row.1 w
-    client-after = ap (λ (o : Option Sent). handed k no_room None o w) hands.is
+    client-after = ap (λ (o : Option Sent). handed k no_room None o w) hands.is ∙ ap (λ (f : ClientNo → ClientTable). taken_by c k (take_row (f c) message) w) (sym hands.tables)
 
     took-lines : (t : ClientTable) (what : Taken) → (took c k t what w).lines ≡ w.lines ++ (of_taken k what).texts
     took-lines t taken.Ignored = refl
@@ -67,12 +67,12 @@ module _ (x : Setup) (a b : Moment) (d : DoesStep x a b) (k : ℕ) where
 
     client-gives : b.state.stage ≢ CutShort → IsGiven x a b d (Client c) (of_taken k row.1) × IsTaken a b (Client c) message
     client-gives goes = (
-      gives x a b d (Client c) Nothing (Deliver k no_room) at-client (of_taken k row.1) client-lines client-sent goes,
-      ap (λ (v : World). v.clients c) (world-after x a b d (Client c) Nothing (Deliver k no_room) at-client goes ∙ client-after) ∙ took-table row.0 row.1,
+      gives x a b d (Client c) Nothing (Deliver k no_room) at-client hands.tables (of_taken k row.1) client-lines client-sent goes,
+      ap (λ (f : ClientNo → ClientTable). f c) (does-tables x a b d hands.tables) ∙ ap (λ (v : World). v.clients c) (world-after x a b d (Client c) Nothing (Deliver k no_room) at-client goes ∙ client-after) ∙ took-table row.0 row.1,
     )
 
     client-long : b.state.stage ≡ CutShort → IsTooLong a b (of_taken k row.1)
-    client-long = is-long x a b d (Client c) Nothing (Deliver k no_room) at-client (of_taken k row.1) client-lines client-sent
+    client-long = is-long x a b d (Client c) Nothing (Deliver k no_room) at-client hands.tables (of_taken k row.1) client-lines client-sent
 
   -- ---- at a server
 
@@ -80,16 +80,16 @@ module _ (x : Setup) (a b : Moment) (d : DoesStep x a b) (k : ℕ) where
     -- it is down
     module _ (down : w.memory q ≡ None) where
       at-down : DoesOne x d.chance d.task a.state (Server q) Nothing (Deliver k (room d.chance q))
-      at-down = does-one x d.chance a.state k (Server q) message hands.is Nothing (Deliver k (room d.chance q)) (ap (λ (o : Option Memory). delivered_at d.chance k q o) down) d.task hands.number
+      at-down = does-one x d.chance a.state k (Server q) message hands.is Nothing (Deliver k (room d.chance q)) (λ f. f) None (ap (λ (o : Option Memory). delivered_at d.chance k q o) down) d.task hands.number
 
       down-after : after (Deliver k (room d.chance q)) w ≡ record w { lines = w.lines ++ says.Lost k ∷ [] }
       down-after = ap (λ (o : Option Sent). handed k (room d.chance q) None o w) hands.is ∙ ap (λ (o : Option Memory). at_memory q k (room d.chance q) None message o w) down
 
       down-gives : b.state.stage ≢ CutShort → IsGiven x a b d (Server q) (tells_alone (says.Lost k))
-      down-gives = gives x a b d (Server q) Nothing (Deliver k (room d.chance q)) at-down (tells_alone (says.Lost k)) (ap (λ (v : World). v.lines) down-after) (ap (λ (v : World). v.sent) down-after ∙ sym (append-nil w.sent))
+      down-gives = gives x a b d (Server q) Nothing (Deliver k (room d.chance q)) at-down hands.tables (tells_alone (says.Lost k)) (ap (λ (v : World). v.lines) down-after) (ap (λ (v : World). v.sent) down-after ∙ sym (append-nil w.sent))
 
       down-long : b.state.stage ≡ CutShort → IsTooLong a b (tells_alone (says.Lost k))
-      down-long = is-long x a b d (Server q) Nothing (Deliver k (room d.chance q)) at-down (tells_alone (says.Lost k)) (ap (λ (v : World). v.lines) down-after) (ap (λ (v : World). v.sent) down-after ∙ sym (append-nil w.sent))
+      down-long = is-long x a b d (Server q) Nothing (Deliver k (room d.chance q)) at-down hands.tables (tells_alone (says.Lost k)) (ap (λ (v : World). v.lines) down-after) (ap (λ (v : World). v.sent) down-after ∙ sym (append-nil w.sent))
 
     -- it is up
     module _ (m : Memory) (up : w.memory q ≡ Some m) where
@@ -97,7 +97,7 @@ module _ (x : Setup) (a b : Moment) (d : DoesStep x a b) (k : ℕ) where
       device = Calls q row_calls
 
       at-up : DoesOne x d.chance d.task a.state (Server q) device (handing k (room d.chance q) d.chance.stop)
-      at-up = does-one x d.chance a.state k (Server q) message hands.is device (handing k (room d.chance q) d.chance.stop) (ap (λ (o : Option Memory). delivered_at d.chance k q o) up) d.task hands.number
+      at-up = does-one x d.chance a.state k (Server q) message hands.is device (handing k (room d.chance q) d.chance.stop) (λ f. f) None (ap (λ (o : Option Memory). delivered_at d.chance k q o) up) d.task hands.number
 
       used : IsUsed x d.chance device w (run (handing k (room d.chance q) d.chance.stop ∷ []) w) a.devices b.devices
       used = subst (λ (y : Deed). IsUsed x d.chance y.device w (run y.steps w) a.devices b.devices) at-up.deed d.befalls.used
@@ -131,10 +131,10 @@ module _ (x : Setup) (a b : Moment) (d : DoesStep x a b) (k : ℕ) where
       -- it isn't stopped
       module _ (whole : d.chance.stop ≡ None) where
         up-gives : b.state.stage ≢ CutShort → IsGiven x a b d (Server q) (of_row q k its-row)
-        up-gives = gives x a b d (Server q) device (handing k (room d.chance q) d.chance.stop) at-up (of_row q k its-row) (ap (λ (v : World). v.lines) (up-after None whole)) (ap (λ (v : World). v.sent) (up-after None whole))
+        up-gives = gives x a b d (Server q) device (handing k (room d.chance q) d.chance.stop) at-up hands.tables (of_row q k its-row) (ap (λ (v : World). v.lines) (up-after None whole)) (ap (λ (v : World). v.sent) (up-after None whole))
 
         up-long : b.state.stage ≡ CutShort → IsTooLong a b (of_row q k its-row)
-        up-long = is-long x a b d (Server q) device (handing k (room d.chance q) d.chance.stop) at-up (of_row q k its-row) (ap (λ (v : World). v.lines) (up-after None whole)) (ap (λ (v : World). v.sent) (up-after None whole))
+        up-long = is-long x a b d (Server q) device (handing k (room d.chance q) d.chance.stop) at-up hands.tables (of_row q k its-row) (ap (λ (v : World). v.lines) (up-after None whole)) (ap (λ (v : World). v.sent) (up-after None whole))
 
         up-world : b.state.stage ≢ CutShort → b.state.course.world ≡ ends q (Some k) None its-row w
         up-world goes = world-after x a b d (Server q) device (handing k (room d.chance q) d.chance.stop) at-up goes ∙ up-after None whole
@@ -148,10 +148,10 @@ module _ (x : Setup) (a b : Moment) (d : DoesStep x a b) (k : ℕ) where
       -- it is
       module _ (made : Pick → Left) (stop : d.chance.stop ≡ Some made) where
         halt-gives : b.state.stage ≢ CutShort → IsGiven x a b d (Server q) (tells_alone (says.Stopped q))
-        halt-gives = gives x a b d (Server q) device (handing k (room d.chance q) d.chance.stop) at-up (tells_alone (says.Stopped q)) (ap (λ (v : World). v.lines) (up-after (Some made) stop)) (ap (λ (v : World). v.sent) (up-after (Some made) stop) ∙ sym (append-nil w.sent))
+        halt-gives = gives x a b d (Server q) device (handing k (room d.chance q) d.chance.stop) at-up hands.tables (tells_alone (says.Stopped q)) (ap (λ (v : World). v.lines) (up-after (Some made) stop)) (ap (λ (v : World). v.sent) (up-after (Some made) stop) ∙ sym (append-nil w.sent))
 
         halt-long : b.state.stage ≡ CutShort → IsTooLong a b (tells_alone (says.Stopped q))
-        halt-long = is-long x a b d (Server q) device (handing k (room d.chance q) d.chance.stop) at-up (tells_alone (says.Stopped q)) (ap (λ (v : World). v.lines) (up-after (Some made) stop)) (ap (λ (v : World). v.sent) (up-after (Some made) stop) ∙ sym (append-nil w.sent))
+        halt-long = is-long x a b d (Server q) device (handing k (room d.chance q) d.chance.stop) at-up hands.tables (tells_alone (says.Stopped q)) (ap (λ (v : World). v.lines) (up-after (Some made) stop)) (ap (λ (v : World). v.sent) (up-after (Some made) stop) ∙ sym (append-nil w.sent))
 
         is-down : b.state.stage ≢ CutShort → b.state.course.world.memory q ≡ None
         is-down goes = ap (λ (v : World). v.memory q) (world-after x a b d (Server q) device (handing k (room d.chance q) d.chance.stop) at-up goes ∙ up-after (Some made) stop)

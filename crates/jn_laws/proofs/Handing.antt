@@ -1,11 +1,11 @@
 -- What a step that hands over a message does: one step of the system, and what it reports and sends.
-use Rattle.jn_laws.proofs.Common.{◌≡◌, ◌≢◌, ◌⊎◌, inl, inr, ℕ, Bool, true, false, List, [], ◌∷◌, ◌++◌, append-nil, length, drop, Option, Some, None, refl, sym, ◌∙◌, ap, subst, arith, drop-append_seam, if◌then◌else◌, nat_lt, slice_get, Party, Message, Event, Text, Sent, World, Step, after, Setup, Chance, Use, Deed, delivered, acted, met, resting, next_in, deed_of, Moment, DoesStep, Task, Meets, Acts, Rests, Stage, CutShort, State, next_at, when_of, begun, number_in, number_by, Answer, faults_in, IsGiven, IsTooLong, nat_tests, outside_texts, own_texts, message_texts, traced, texts_of, lines_at, most_messages, come_to, cut_short, made, NoSuchMessage, Course, go, newly_sent, unless}
-use Rattle.std.proofs.lemmas.Option.{slice_get_within}
+use Rattle.jn_laws.proofs.Common.{◌≡◌, ◌≢◌, ◌⊎◌, inl, inr, ℕ, Bool, true, false, List, [], ◌∷◌, ◌++◌, append-nil, length, drop, Option, Some, None, refl, sym, ◌∙◌, ap, subst, arith, drop-append_seam, if◌then◌else◌, nat_lt, slice_get, Party, Message, Event, Text, Sent, World, Step, after, Setup, Chance, Use, Deed, delivered, acted, met, resting, next_in, deed_of, Moment, DoesStep, Task, Meets, Acts, Rests, Stage, CutShort, State, next_at, when_of, begun, number_in, number_by, Answer, faults_in, IsGiven, IsTooLong, nat_tests, outside_texts, own_texts, message_texts, traced, texts_of, most_messages, come_to, cut_short, made, NoSuchMessage, Course, go, newly_sent, unless, slice_get_within, ClientNo, ClientTable, go_on, reported, HasTables, own-said}
+use Rattle.jn_report.specs.Lines.{lines_at}
 use Rattle.jn_schedule.specs.declared.Event.TheVariants as events
 
 -- a deed of one step of the system
-abbrev pub one_step : Party → Use → Step → List Task → Deed
-one_step actor device step tasks = record { actor = actor; device = device; steps = step ∷ []; texts = []; tasks = tasks; cuts = false }
+abbrev pub one_step : Party → Use → Step → ((ClientNo → ClientTable) → ClientNo → ClientTable) → Option (List Text) → List Task → Deed
+one_step actor device step becomes said tasks = record { actor = actor; device = device; steps = step ∷ []; clients = becomes; said = said; texts = []; tasks = tasks; cuts = false }
 
 pub itself : {A : Type 0} (eq : A → A → Bool) (a : A) → ((eq a a ≡ true) × (a ≡ a)) ⊎ ((eq a a ≡ false) × (a ≢ a)) → eq a a ≡ true
 itself eq a (inl t) = t.0
@@ -19,33 +19,35 @@ no-number k e = cc
 
 -- a task does one step of the system, and nothing else
 pub record DoesOne (x : Setup) (h : Chance) (task : Task) (s : State) (actor : Party) (device : Use) (step : Step) : Type 0 where
+  pub becomes : (ClientNo → ClientTable) → ClientNo → ClientTable
+  pub said : Option (List Text)
   pub tasks : List Task
-  pub deed : deed_of x h task s ≡ one_step actor device step tasks
+  pub deed : deed_of x h task s ≡ one_step actor device step becomes said tasks
   pub begun_is : begun task s ≡ record s { tasks = drop 1 s.tasks }
 
-module _ (x : Setup) (h : Chance) (s : State) (k : ℕ) (to : Party) (message : Message) (is : slice_get s.course.world.sent k ≡ Some (to, message)) (device : Use) (step : Step)
-    (deed-is : delivered h k s.course.world (Some (to, message)) ≡ one_step to device step []) where
+module _ (x : Setup) (h : Chance) (s : State) (k : ℕ) (to : Party) (message : Message) (is : slice_get s.course.world.sent k ≡ Some (to, message)) (device : Use) (step : Step) (becomes : (ClientNo → ClientTable) → ClientNo → ClientTable)
+    (said : Option (List Text)) (deed-is : delivered h k s.clients s.course.world (Some (to, message)) ≡ one_step to device step becomes said []) where
   abbrev w : World
   w = s.course.world
 
-  acts-so : (j : ℕ) → j ≡ k → acted x h (events.Deliver j) w ≡ one_step to device step []
-  acts-so j e = subst (λ (i : ℕ). delivered h i w (slice_get w.sent i) ≡ one_step to device step []) (sym e) (ap (λ (o : Option Sent). delivered h k w o) is ∙ deed-is)
+  acts-so : (j : ℕ) → j ≡ k → acted x h (events.Deliver j) s.clients w ≡ one_step to device step becomes said []
+  acts-so j e = subst (λ (i : ℕ). delivered h i s.clients w (slice_get w.sent i) ≡ one_step to device step becomes said []) (sym e) (ap (λ (o : Option Sent). delivered h k s.clients w o) is ∙ deed-is)
 
   is-there : (j : ℕ) → j ≡ k → nat_lt j (length w.sent) ≡ true
   is-there j e = let below = slice_get_within w.sent k (to, message) is in grind (arith, nat_tests, e, below)
 
-  meets-so : (j : ℕ) → j ≡ k → met x h (events.Deliver j) w (unless (nat_lt j (length w.sent)) NoSuchMessage None) ≡ one_step to device step []
-  meets-so j e = ap (λ (b : Bool). met x h (events.Deliver j) w (unless b NoSuchMessage None)) (is-there j e) ∙ acts-so j e
+  meets-so : (j : ℕ) → j ≡ k → met x h (events.Deliver j) s.clients w (unless (nat_lt j (length w.sent)) NoSuchMessage None) ≡ one_step to device step becomes said []
+  meets-so j e = ap (λ (b : Bool). met x h (events.Deliver j) s.clients w (unless b NoSuchMessage None)) (is-there j e) ∙ acts-so j e
 
-  rests-so : (o : Option Event) → number_in o ≡ Some k → resting x h w o ≡ one_step to device step (Rests ∷ [])
+  rests-so : (o : Option Event) → number_in o ≡ Some k → resting x h s.clients w o ≡ one_step to device step becomes said (Rests ∷ [])
   rests-so None e = absurd (no-number k e)
   rests-so (Some (events.Deliver j)) e = ap (λ (d : Deed). record d { tasks = Rests ∷ [] }) (acts-so j (some-number j k e))
   rests-so (Some event) e = absurd (no-number k e)
 
   pub does-one : (task : Task) → number_by x h task s ≡ Some k → DoesOne x h task s to device step
-  does-one (Meets (events.Deliver j)) e = record { tasks = []; deed = meets-so j (some-number j k e); begun_is = refl }
-  does-one (Acts (events.Deliver j)) e = record { tasks = []; deed = acts-so j (some-number j k e); begun_is = refl }
-  does-one Rests e = record { tasks = Rests ∷ []; deed = rests-so (next_in x h.rubbish s.course) e; begun_is = refl }
+  does-one (Meets (events.Deliver j)) e = record { becomes = becomes; said = said; tasks = []; deed = meets-so j (some-number j k e); begun_is = refl }
+  does-one (Acts (events.Deliver j)) e = record { becomes = becomes; said = said; tasks = []; deed = acts-so j (some-number j k e); begun_is = refl }
+  does-one Rests e = record { becomes = becomes; said = said; tasks = Rests ∷ []; deed = rests-so (next_in x h.rubbish s.course) e; begun_is = refl }
   does-one task e = absurd (no-number k e)
 
 -- ---- what it reports and sends
@@ -58,7 +60,7 @@ module _ (x : Setup) (a b : Moment) (d : DoesStep x a b) (to : Party) (device : 
   left = record a.state { tasks = drop 1 a.state.tasks }
 
   abbrev deed : Deed
-  deed = one_step to device step one.tasks
+  deed = one_step to device step one.becomes one.said one.tasks
 
   abbrev now : Course
   now = go step a.state.course
@@ -94,9 +96,12 @@ module _ (x : Setup) (a b : Moment) (d : DoesStep x a b) (to : Party) (device : 
   pub world-after : b.state.stage ≢ CutShort → b.state.course.world ≡ after step world
   world-after not-cut = ap (λ (s : State). s.course.world) (came-only not-cut)
 
-  module _ (answer : Answer) (lines-are : (after step world).lines ≡ world.lines ++ answer.texts) (sent-are : (after step world).sent ≡ world.sent ++ answer.messages) where
-    own : own_texts world (after step world) ≡ answer.texts
-    own = ap (λ (texts : List Text). drop (length world.lines) texts) lines-are ∙ drop-append_seam world.lines answer.texts
+  module _ (has : HasTables a.state) (answer : Answer) (lines-are : (after step world).lines ≡ world.lines ++ answer.texts) (sent-are : (after step world).sent ≡ world.sent ++ answer.messages) where
+    says : reported one.said (own_texts world (after step world)) ≡ own_texts world (after step world)
+    says = subst (λ (y : Deed). reported y.said (own_texts world (go_on y.steps a.state.course).world) ≡ own_texts world (go_on y.steps a.state.course).world) one.deed (own-said x d.chance d.task a.state has a.state.course refl)
+
+    own : reported one.said (own_texts world (after step world)) ≡ answer.texts
+    own = says ∙ ap (λ (texts : List Text). drop (length world.lines) texts) lines-are ∙ drop-append_seam world.lines answer.texts
 
     new : newly_sent world (after step world) ≡ answer.messages
     new = ap (λ (sent : List Sent). drop (length world.sent) sent) sent-are ∙ drop-append_seam world.sent answer.messages

@@ -85,7 +85,7 @@ module _ (t : ClientTable) where
 -- ---- each
 
 pub only-stale : (x : Setup) (m : Moment) (k : ℕ) (to : Party) (message : Message) → list_any tells_ignored (its_answer x m k to message).texts ≡ true → IsStale x m to message
-only-stale x m k (Client c) message e = let t = m.state.course.world.clients c in client-only t k (take_row t message) (stays t message) (take-tells t message) e
+only-stale x m k (Client c) message e = let t = m.state.clients c in client-only t k (take_row t message) (stays t message) (take-tells t message) e
 only-stale x m k (Server q) message e = by (m.state.course.world.memory q) refl e
   where
     by : (o : Option Memory) → m.state.course.world.memory q ≡ o → list_any tells_ignored (of_server x m k q message o).texts ≡ true → IsStale x m (Server q) message

@@ -6,6 +6,7 @@ pub mod Last
 pub mod Example
 pub mod Kept
 pub mod Reaching
+pub mod DataPages
 pub mod Ranged
 pub mod Printed
 pub mod ReadBack

@@ -1,8 +1,7 @@
 -- What is printed at each moment of a run.
-use Rattle.jn_laws.proofs.Common.{◌≡◌, ◌≢◌, ◌⊎◌, inl, inr, ℕ, ◌≤◌, ◌<◌, Bool, true, false, true≢false, List, [], ◌∷◌, ◌++◌, Option, Some, None, refl, sym, ◌∙◌, ap, subst, arith, ◌||◌, if◌then◌else◌, nat_lt, slice_get, map, option_and_then, ⊤, list_all, AllByRecursion, nat_tests, All-nil, ServerNo, ClientNo, FileNo, BlockNo, Tid, LockUnit, Block, Client, Server, most_blocks, unit_eq, Commit, AllFiles, Event, EventInRange, EpochsUsedUp, Phase, Active, Broken, Stored, Sent, Pick, StableState, stable, WorkerTable, commit_holder, holds, step_calls, unit_in_range, Room, handing, working, run, World, Memory, new_memory, clients_from, go_on, CanBeTaken, CommandInRange, new-fits, scheduled-in-range, Setup, Chance, prints_found, Use, Reads, Deed, room, delivered, delivered_at, is_busy, worked, served, nothing, working_steps, stopped_idle, crashed_at, recovering, recovered, given_up, restarted, brought_up, is_used_up, Devices, IsUsed, IsLookedOver, acted, met, resting, next_event, first_busy, servers_of, asking, settling, coming_up, printing, ending, deed_of, refusal_of, none, more, Moment, DoesStep, Leads, is_too_much, come_to, cut_short, Task, Begins, Meets, Acts, Rests, ComesUp, Dismisses, GoesDown, ClosesClients, CountsCommits, InSchedule, AtEnd, CutShort, Stage, State, next_at, begun, closed_world, AreImages, IsWritten, first-of, second-of, Left, is_unit}
+use Rattle.jn_laws.proofs.Common.{◌≡◌, ◌≢◌, ◌⊎◌, inl, inr, ℕ, ◌≤◌, ◌<◌, Bool, true, false, true≢false, List, [], ◌∷◌, ◌++◌, Option, Some, None, refl, sym, ◌∙◌, ap, subst, arith, ◌||◌, if◌then◌else◌, nat_lt, slice_get, map, option_and_then, ⊤, list_all, AllByRecursion, nat_tests, All-nil, ServerNo, ClientNo, FileNo, BlockNo, Tid, LockUnit, Block, Client, Server, most_blocks, unit_eq, Commit, AllFiles, Event, EventInRange, EpochsUsedUp, Phase, Active, Broken, Stored, Sent, Pick, StableState, stable, WorkerTable, commit_holder, holds, step_calls, unit_in_range, Room, handing, working, run, World, Memory, new_memory, clients_from, go_on, CanBeTaken, CommandInRange, new-fits, scheduled-in-range, Setup, Chance, prints_found, Use, Reads, Deed, room, delivered, delivered_at, is_busy, worked, served, nothing, working_steps, stopped_idle, crashed_at, recovering, recovered, given_up, restarted, brought_up, is_used_up, Devices, IsUsed, IsLookedOver, acted, met, resting, next_event, first_busy, servers_of, asking, settling, coming_up, printing, ending, deed_of, refusal_of, none, more, Moment, DoesStep, Leads, is_too_much, come_to, cut_short, Task, Begins, Meets, Acts, Rests, ComesUp, Dismisses, GoesDown, ClosesClients, CountsCommits, InSchedule, AtEnd, CutShort, Stage, State, next_at, begun, closed_world, AreImages, IsWritten, first-of, second-of, Left, is_unit, Counts, Pages, block_in, block_behind, address_by, head_of, files_of_pages, ClientTable}
 use Rattle.std.specs.Prelude.{drop, is_some}
 use Rattle.jn_locks.proofs.Orders.{unit_tells}
-use Rattle.jn_records.specs.StablePages.{Counts, Pages, block_in, block_behind, address_by, head_of, files_of_pages}
 use Rattle.jn_schedule.specs.declared.Event.TheVariants as events
 use Rattle.jn_report.specs.declared.line.EventRefusal.{EventRefusal}
 use Rattle.jn_report.specs.declared.line.Text.TheVariants as says
@@ -84,10 +83,10 @@ module _ (x : Setup) where
     working-fits q r None = tt
     working-fits q r (Some made) = tt
 
-    delivered-fits : (w : World) (k : ℕ) (o : Option Sent) → DeedFits (delivered h k w o)
-    delivered-fits w k None = (tt, tt)
-    delivered-fits w k (Some (Client c, message)) = ((tt, tt), tt)
-    delivered-fits w k (Some (Server q, message)) = by (w.memory q)
+    delivered-fits : (t : ClientNo → ClientTable) (w : World) (k : ℕ) (o : Option Sent) → DeedFits (delivered h k t w o)
+    delivered-fits t w k None = (tt, tt)
+    delivered-fits t w k (Some (Client c, message)) = ((tt, tt), tt)
+    delivered-fits t w k (Some (Server q, message)) = by (w.memory q)
       where
         by : (o : Option Memory) → DeedFits (delivered_at h k q o)
         by None = ((tt, tt), tt)
@@ -126,36 +125,37 @@ module _ (x : Setup) where
         by true = ((tt, tt), tt)
         by false = (recovering-fits q h.stop, tt)
 
-    acted-fits : (event : Event) (w : World) → EventFits event → DeedFits (acted x h event w)
-    acted-fits (events.Command c command) w r = ((r, tt), tt)
-    acted-fits (events.Again c) w r = ((tt, tt), tt)
-    acted-fits (events.Deliver k) w r = delivered-fits w k (slice_get w.sent k)
-    acted-fits events.Settle w r = (tt, settling-fits)
-    acted-fits (events.Step q) w r = worked-fits w q
-    acted-fits (events.Nudge q) w r = ((tt, tt), tt)
-    acted-fits (events.Timeout q T) w r = ((tt, tt), tt)
-    acted-fits (events.Scrub q) w r = (stopped-fits q h.stop, tt)
-    acted-fits (events.Decay q p) w r = (tt, tt)
-    acted-fits (events.Revive q p) w r = (tt, tt)
-    acted-fits (events.Arm q n kind) w r = (tt, tt)
-    acted-fits (events.Crash q) w r = crashed-fits q (w.memory q)
-    acted-fits (events.Restart q) w r = restarted-fits q w
-    acted-fits (events.Show q) w r = (stopped-fits q h.stop, tt)
+    acted-fits : (event : Event) (t : ClientNo → ClientTable) (w : World) → EventFits event → DeedFits (acted x h event t w)
+    acted-fits (events.Command c command) t w r = ((r, tt), tt)
+    acted-fits (events.Call c s call) t w r = (tt, tt)
+    acted-fits (events.Again c) t w r = ((tt, tt), tt)
+    acted-fits (events.Deliver k) t w r = delivered-fits t w k (slice_get w.sent k)
+    acted-fits events.Settle t w r = (tt, settling-fits)
+    acted-fits (events.Step q) t w r = worked-fits w q
+    acted-fits (events.Nudge q) t w r = ((tt, tt), tt)
+    acted-fits (events.Timeout q T) t w r = ((tt, tt), tt)
+    acted-fits (events.Scrub q) t w r = (stopped-fits q h.stop, tt)
+    acted-fits (events.Decay q p) t w r = (tt, tt)
+    acted-fits (events.Revive q p) t w r = (tt, tt)
+    acted-fits (events.Arm q n kind) t w r = (tt, tt)
+    acted-fits (events.Crash q) t w r = crashed-fits q (w.memory q)
+    acted-fits (events.Restart q) t w r = restarted-fits q w
+    acted-fits (events.Show q) t w r = (stopped-fits q h.stop, tt)
 
-    met-fits : (event : Event) (w : World) (o : Option EventRefusal) → EventFits event → DeedFits (met x h event w o)
-    met-fits event w (Some refusal) r = (tt, tt)
-    met-fits event w None r = acted-fits event w r
+    met-fits : (event : Event) (t : ClientNo → ClientTable) (w : World) (o : Option EventRefusal) → EventFits event → DeedFits (met x h event t w o)
+    met-fits event t w (Some refusal) r = (tt, tt)
+    met-fits event t w None r = acted-fits event t w r
 
-    rests-fits : (w : World) (waiting : List ℕ) (busy : Option ServerNo) → DeedFits (resting x h w (next_event waiting busy))
-    rests-fits w (k ∷ waiting) busy = ((acted-fits (events.Deliver k) w tt).0, (tt, tt))
-    rests-fits w [] (Some q) = ((acted-fits (events.Step q) w tt).0, (tt, tt))
-    rests-fits w [] None = (tt, tt)
+    rests-fits : (t : ClientNo → ClientTable) (w : World) (waiting : List ℕ) (busy : Option ServerNo) → DeedFits (resting x h t w (next_event waiting busy))
+    rests-fits t w (k ∷ waiting) busy = ((acted-fits (events.Deliver k) t w tt).0, (tt, tt))
+    rests-fits t w [] (Some q) = ((acted-fits (events.Step q) t w tt).0, (tt, tt))
+    rests-fits t w [] None = (tt, tt)
 
     deed-fits : (task : Task) (s : State) → TaskFits task → DeedFits (deed_of x h task s)
     deed-fits (Begins event) s r = ((tt, tt), (r, tt))
-    deed-fits (Meets event) s r = met-fits event s.course.world (refusal_of x s.course.world event) r
-    deed-fits (Acts event) s r = acted-fits event s.course.world r
-    deed-fits Rests s r = rests-fits s.course.world s.course.waiting (first_busy h.rubbish s.course.world (servers_of x))
+    deed-fits (Meets event) s r = met-fits event s.clients s.course.world (refusal_of x s.course.world event) r
+    deed-fits (Acts event) s r = acted-fits event s.clients s.course.world r
+    deed-fits Rests s r = rests-fits s.clients s.course.world s.course.waiting (first_busy h.rubbish s.course.world (servers_of x))
     deed-fits (ComesUp q) s r = brought-fits q s.course.world
     deed-fits Dismisses s r = ((tt, tt), tt)
     deed-fits (GoesDown q) s r = crashed-fits q (s.course.world.memory q)

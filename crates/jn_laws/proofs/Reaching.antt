@@ -1,20 +1,16 @@
 -- Where a world stands that has started and done events.
-use Rattle.jn_laws.proofs.Common.{◌≡◌, ℕ, ◌+◌, ◌≤◌, List, [], ◌∷◌, ◌++◌, append-nil, append_assoc, length, refl, sym, ◌∙◌, ap, subst, drop, Result, Ok, Err, drop-append_seam, map, AllByRecursion, ServerNo, AllFiles, Event, EventInRange, always, between-events, Setup, Devices, ending, Moment, DoesStep, Leads, Begins, InSchedule, AtEnd, before, AreImages, IsWritten}
+use Rattle.jn_laws.proofs.Common.{◌≡◌, ℕ, ◌+◌, ◌≤◌, List, [], ◌∷◌, ◌++◌, append-nil, append_assoc, length, refl, sym, ◌∙◌, ap, subst, drop, Result, Ok, Err, drop-append_seam, map, AllByRecursion, ServerNo, AllFiles, Event, EventInRange, always, between-events, Setup, Devices, ending, Moment, DoesStep, Leads, Begins, InSchedule, AtEnd, before, AreImages, IsWritten, DeviceState, StoreView, Stands, standing_of, GoesTo, DoesScheduled, AreStoresOf, IsClosed}
 use Rattle.std.proofs.lemmas.List.{append_cancel_right}
-use Rattle.jn_device.specs.Device.{DeviceState}
 use Rattle.jn_recovery.specs.declared.counts.PageCounts.{PageCounts}
 use Rattle.jn_report.specs.declared.line.Line.{Line}
-use Rattle.jn_store.specs.Store.{StoreView}
 use Rattle.jn_headline.specs.Headline.{IsTrueOfBegun}
 use Rattle.jn_between.specs.Between.{IsTrueBetween, IsTrueAtEnd}
 use Rattle.jn_between.proofs.Ended.{at-the-end}
-use Rattle.jn_world_refines.specs.Stands.{Stands}
 use Rattle.jn_world_refines.proofs.Joined.{cut-leads}
 use Rattle.jn_world_refines.specs.Going.{IsTold, Limit, NoMessageLeft, NoEpochLeft, WentOn, WasCut}
 use Rattle.jn_world.specs.declared.ended.Ended.{Ended}
 use Rattle.jn_world.specs.declared.ended.Ended.TheVariants.{Messages, Epoch, Memory}
 use Rattle.jn_world.specs.declared.world.World.{World}
-use Rattle.jn_world.specs.Written.{standing_of, GoesTo, DoesScheduled, AreStoresOf, IsClosed}
 use Rattle.jn_machine.proofs.Computed.{join}
 use Rattle.jn_laws.specs.Worlds.{added, HasDone, started, did, IsReached, is_limit, IsTrueWhereEnded, Gives, IsTrueWhereClosed}
 

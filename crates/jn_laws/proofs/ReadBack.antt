@@ -1,6 +1,7 @@
 -- What is written of a block's bytes is read again.
 use Rattle.jn_laws.proofs.Common.{◌≡◌, ℕ, zero, suc, ◌+◌, ◌-◌, ◌<◌, ◌≤◌, Bool, true, false, List, [], ◌∷◌, ◌++◌, length, take, drop, get_or, arith, ap, ◌∙◌, sym, nat_tests, drop-append_seam, take-append_seam, drop-append-add, nat_eq, if◌then◌else◌}
-use Rattle.std.proofs.lemmas.List.{length-append, get_or-drop}
+use Rattle.std.proofs.lemmas.List.{get_or-drop}
+use Rattle.std.proofs.lemmas.List.{length-append}
 use Rattle.hex.specs.Hex.{IsBytes}
 use Rattle.jn_text.specs.Read.{is_lower_hex_digit, IsHexAt}
 use Rattle.jn_text.specs.Words.{before_zeros, without_end_zeros, block_word}

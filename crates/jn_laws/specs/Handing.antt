@@ -30,7 +30,8 @@ use Rattle.jn_machine.specs.Chances.{Setup, Chance}
 use Rattle.jn_machine.specs.Devices.{pages_of, rubbish_on}
 use Rattle.jn_machine.specs.Events.{next_in, deed_of}
 use Rattle.jn_machine.specs.Runs.{Moment, DoesStep}
-use Rattle.jn_machine.specs.Steps.{outside_texts, message_texts, traced, lines_at, most_messages}
+use Rattle.jn_machine.specs.Steps.{outside_texts, message_texts, traced, most_messages}
+use Rattle.jn_report.specs.Lines.{lines_at}
 use Rattle.jn_machine.specs.Tasks.{Task, Meets, Acts, Rests, State, when_of}
 
 -- ---- which message a step hands over
@@ -47,10 +48,11 @@ number_by x h (Acts event) s = number_in (Some event)
 number_by x h Rests s = number_in (next_in x h.rubbish s.course)
 number_by x h task s = None
 
--- the step hands over the message of this number, which is for this client or server
+-- The step hands over the message of this number, which is for this client or server. The clients' own tables are the system's, as at each moment of a run.
 pub record HandsOver (x : Setup) (a b : Moment) (d : DoesStep x a b) (k : ℕ) (to : Party) (message : Message) : Type 0 where
   pub number : number_by x d.chance d.task a.state ≡ Some k
   pub is : slice_get a.state.course.world.sent k ≡ Some (to, message)
+  pub tables : a.state.clients ≡ a.state.course.world.clients
 
 -- ---- what its row answers
 
@@ -88,7 +90,7 @@ of_taken k (taken.Send to message) = record { texts = []; messages = (to, messag
 of_taken k (taken.Told line answer) = record { texts = line ∷ []; messages = sent_now answer }
 
 abbrev pub its_answer : Setup → Moment → ℕ → Party → Message → Answer
-its_answer x m k (Client c) message = of_taken k (take_row (m.state.course.world.clients c) message).1
+its_answer x m k (Client c) message = of_taken k (take_row (m.state.clients c) message).1
 its_answer x m k (Server q) message = of_server x m k q message (m.state.course.world.memory q)
 
 -- ---- in the event
@@ -110,7 +112,7 @@ pub record IsDone (a b : Moment) (q : ServerNo) (row : RowOutcome Memory) : Type
 
 -- a client takes it as its table says
 abbrev pub IsTaken : Moment → Moment → Party → Message → Type 0
-IsTaken a b (Client c) message = b.state.course.world.clients c ≡ (take_row (a.state.course.world.clients c) message).0
+IsTaken a b (Client c) message = b.state.clients c ≡ (take_row (a.state.clients c) message).0
 IsTaken a b (Server q) message = Unit {0}
 
 -- the server that it is for was up and is down behind the step
@@ -133,7 +135,7 @@ pub record IsTooLong (a b : Moment) (answer : Answer) : Type 0 where
 
 -- the table of the one that it is for ignores it
 abbrev pub IsStale : Setup → Moment → Party → Message → Type 0
-IsStale x m (Client c) message = take_row (m.state.course.world.clients c) message ≡ (m.state.course.world.clients c, taken.Ignored)
+IsStale x m (Client c) message = take_row (m.state.clients c) message ≡ (m.state.clients c, taken.Ignored)
 IsStale x m (Server q) message = (memory : Memory) × (m.state.course.world.memory q ≡ Some memory) × (row_on x m q memory message ≡ ignored memory memory.tickets)
 
 -- a message is reported as ignored

@@ -26,10 +26,6 @@ asymmetric V W h = by (work_before W V) refl
     by true e = not_both (sym (work_before-transitive V W V h e) ∙ work_before-irreflexive V)
     by false e = e
 
-pub before-onward : (V W : WorkId) (ws : List Work) → work_before V W ≡ true → is_before W ws ≡ true → is_before V ws ≡ true
-before-onward V W [] h k = refl
-before-onward V W (w ∷ ws) h k = grind (arith, before-onward V W ws h, work_before-transitive V W w.name h)
-
 -- no work of that name stands behind
 pub none-behind : (V : WorkId) (ws : List Work) → is_before V ws ≡ true → work_at V ws ≡ None
 none-behind V [] h = refl

@@ -1,5 +1,5 @@
 -- Each event begins once: those that began and those that are left are all.
-use Rattle.jn_machine.proofs.Common.{◌≡◌, ℕ, ◌+◌, Bool, true, false, List, [], ◌∷◌, ◌++◌, map, length, Option, Some, None, refl, sym, ◌∙◌, ap, subst, arith, if◌then◌else◌, drop, slice_get, list_all, AllFiles, ServerNo, ClientNo, Client, Server, Event, EventRefusal, Sent, Pick, Room, World, Memory, Step, NextEvent, Course, go, go_on, Setup, Chance, Task, Begins, Meets, Acts, Rests, ComesUp, Dismisses, GoesDown, ClosesClients, CountsCommits, Stage, InSchedule, AtEnd, CutShort, State, next_at, begun, Deed, delivered, delivered_at, is_busy, worked, working_steps, served, nothing, stopped_idle, crashed_at, restarted, recovered, recovering, brought_up, is_used_up, servers_of, asking, settling, acted, met, resting, next_in, deed_of, printing, coming_up, ending, tasks_of, refusal_of, is_too_much, come_to, cut_short, made_to, none, more, MayStep, MayLead, before, events_left, handing, working, step_calls, clients_from, Left}
+use Rattle.jn_machine.proofs.Common.{◌≡◌, ℕ, ◌+◌, Bool, true, false, List, [], ◌∷◌, ◌++◌, map, length, Option, Some, None, refl, sym, ◌∙◌, ap, subst, arith, if◌then◌else◌, drop, slice_get, list_all, AllFiles, ServerNo, ClientNo, Client, Server, Event, EventRefusal, Sent, Pick, Room, World, Memory, Step, NextEvent, Course, go, go_on, Setup, Chance, Task, Begins, Meets, Acts, Rests, ComesUp, Dismisses, GoesDown, ClosesClients, CountsCommits, Stage, InSchedule, AtEnd, CutShort, State, next_at, begun, Deed, delivered, delivered_at, is_busy, worked, working_steps, served, nothing, stopped_idle, crashed_at, restarted, recovered, recovering, brought_up, is_used_up, servers_of, asking, settling, acted, met, resting, next_in, deed_of, printing, coming_up, ending, tasks_of, refusal_of, is_too_much, come_to, cut_short, made_to, none, more, MayStep, MayLead, before, events_left, handing, working, step_calls, clients_from, Left, ClientTable}
 use Rattle.jn_machine.proofs.Telling.{event_after, adds}
 use Rattle.jn_schedule.specs.declared.Event.TheVariants as events
 
@@ -57,10 +57,10 @@ at-within : (h : Chance) (k : ℕ) (q : ServerNo) (m : Option Memory) → IsWith
 at-within h k q None = record { steps = refl; tasks = refl }
 at-within h k q (Some m) = record { steps = handing-stays k _ h.stop; tasks = refl }
 
-delivered-within : (h : Chance) (k : ℕ) (w : World) (sent : Option Sent) → IsWithin (delivered h k w sent)
-delivered-within h k w None = record { steps = refl; tasks = refl }
-delivered-within h k w (Some (Client c, message)) = record { steps = refl; tasks = refl }
-delivered-within h k w (Some (Server q, message)) = at-within h k q (w.memory q)
+delivered-within : (h : Chance) (k : ℕ) (t : ClientNo → ClientTable) (w : World) (sent : Option Sent) → IsWithin (delivered h k t w sent)
+delivered-within h k t w None = record { steps = refl; tasks = refl }
+delivered-within h k t w (Some (Client c, message)) = record { steps = refl; tasks = refl }
+delivered-within h k t w (Some (Server q, message)) = at-within h k q (w.memory q)
 
 by-test : (b : Bool) (d e : Deed) → IsWithin d → IsWithin e → IsWithin (if b then d else e)
 by-test true d e p q = p
@@ -83,29 +83,30 @@ restarted-within h q w = by-test (is_used_up h q w) _ (recovered h q) (record { 
 up-within : (h : Chance) (q : ServerNo) (w : World) → IsWithin (brought_up h q w)
 up-within h q w = by-test (is_used_up h q w) _ (recovered h q) (record { steps = refl; tasks = refl }) (record { steps = recovering-stays h q h.stop; tasks = refl })
 
-acted-within : (x : Setup) (h : Chance) (event : Event) (w : World) → IsWithin (acted x h event w)
-acted-within x h (events.Command c command) w = record { steps = refl; tasks = refl }
-acted-within x h (events.Again c) w = record { steps = refl; tasks = refl }
-acted-within x h (events.Deliver k) w = delivered-within h k w (slice_get w.sent k)
-acted-within x h events.Settle w = record { steps = refl; tasks = settles-within x }
-acted-within x h (events.Step q) w = worked-within h q w
-acted-within x h (events.Nudge q) w = record { steps = refl; tasks = refl }
-acted-within x h (events.Timeout q T) w = record { steps = refl; tasks = refl }
-acted-within x h (events.Scrub q) w = record { steps = idle-stays q h.stop; tasks = refl }
-acted-within x h (events.Decay q p) w = record { steps = refl; tasks = refl }
-acted-within x h (events.Revive q p) w = record { steps = refl; tasks = refl }
-acted-within x h (events.Arm q n kind) w = record { steps = refl; tasks = refl }
-acted-within x h (events.Crash q) w = crashed-within q (w.memory q)
-acted-within x h (events.Restart q) w = restarted-within h q w
-acted-within x h (events.Show q) w = record { steps = idle-stays q h.stop; tasks = refl }
+acted-within : (x : Setup) (h : Chance) (event : Event) (t : ClientNo → ClientTable) (w : World) → IsWithin (acted x h event t w)
+acted-within x h (events.Command c command) t w = record { steps = refl; tasks = refl }
+acted-within x h (events.Call c s call) t w = record { steps = refl; tasks = refl }
+acted-within x h (events.Again c) t w = record { steps = refl; tasks = refl }
+acted-within x h (events.Deliver k) t w = delivered-within h k t w (slice_get w.sent k)
+acted-within x h events.Settle t w = record { steps = refl; tasks = settles-within x }
+acted-within x h (events.Step q) t w = worked-within h q w
+acted-within x h (events.Nudge q) t w = record { steps = refl; tasks = refl }
+acted-within x h (events.Timeout q T) t w = record { steps = refl; tasks = refl }
+acted-within x h (events.Scrub q) t w = record { steps = idle-stays q h.stop; tasks = refl }
+acted-within x h (events.Decay q p) t w = record { steps = refl; tasks = refl }
+acted-within x h (events.Revive q p) t w = record { steps = refl; tasks = refl }
+acted-within x h (events.Arm q n kind) t w = record { steps = refl; tasks = refl }
+acted-within x h (events.Crash q) t w = crashed-within q (w.memory q)
+acted-within x h (events.Restart q) t w = restarted-within h q w
+acted-within x h (events.Show q) t w = record { steps = idle-stays q h.stop; tasks = refl }
 
-met-within : (x : Setup) (h : Chance) (event : Event) (w : World) (refusal : Option EventRefusal) → IsWithin (met x h event w refusal)
-met-within x h event w None = acted-within x h event w
-met-within x h event w (Some refusal) = record { steps = refl; tasks = refl }
+met-within : (x : Setup) (h : Chance) (event : Event) (t : ClientNo → ClientTable) (w : World) (refusal : Option EventRefusal) → IsWithin (met x h event t w refusal)
+met-within x h event t w None = acted-within x h event t w
+met-within x h event t w (Some refusal) = record { steps = refl; tasks = refl }
 
-rests-within : (x : Setup) (h : Chance) (w : World) (next : Option Event) → IsWithin (resting x h w next)
-rests-within x h w None = record { steps = refl; tasks = refl }
-rests-within x h w (Some event) = record { steps = (acted-within x h event w).steps; tasks = refl }
+rests-within : (x : Setup) (h : Chance) (t : ClientNo → ClientTable) (w : World) (next : Option Event) → IsWithin (resting x h t w next)
+rests-within x h t w None = record { steps = refl; tasks = refl }
+rests-within x h t w (Some event) = record { steps = (acted-within x h event t w).steps; tasks = refl }
 
 -- ---- the count
 
@@ -178,9 +179,9 @@ not-cut AtEnd tasks task h e = cc
 
 step-counts : (x : Setup) (h : Chance) (task : Task) (s : State) (n : ℕ) → s.tasks ≡ task ∷ drop 1 s.tasks → count_of s ≡ n → Counts n (made_to x h (deed_of x h task s) (go_on (deed_of x h task s).steps (begun task s).course) (begun task s))
 step-counts x h (Begins event) s n t is = made-counts x h (deed_of x h (Begins event) s) (begun (Begins event) s) n _ (let a = ap events_left t in grind (arith, a, is))
-step-counts x h (Meets event) s n t is = within-counts x h _ (begun (Meets event) s) n (met-within x h event s.course.world (refusal_of x s.course.world event)) (let a = ap events_left t in grind (arith, a, is))
-step-counts x h (Acts event) s n t is = within-counts x h _ (begun (Acts event) s) n (acted-within x h event s.course.world) (let a = ap events_left t in grind (arith, a, is))
-step-counts x h Rests s n t is = within-counts x h _ (begun Rests s) n (rests-within x h s.course.world (next_in x h.rubbish s.course)) (let a = ap events_left t in grind (arith, a, is))
+step-counts x h (Meets event) s n t is = within-counts x h _ (begun (Meets event) s) n (met-within x h event s.clients s.course.world (refusal_of x s.course.world event)) (let a = ap events_left t in grind (arith, a, is))
+step-counts x h (Acts event) s n t is = within-counts x h _ (begun (Acts event) s) n (acted-within x h event s.clients s.course.world) (let a = ap events_left t in grind (arith, a, is))
+step-counts x h Rests s n t is = within-counts x h _ (begun Rests s) n (rests-within x h s.clients s.course.world (next_in x h.rubbish s.course)) (let a = ap events_left t in grind (arith, a, is))
 step-counts x h (ComesUp q) s n t is = within-counts x h _ (begun (ComesUp q) s) n (up-within h q s.course.world) (let a = ap events_left t in grind (arith, a, is))
 step-counts x h Dismisses s n t is = within-counts x h (deed_of x h Dismisses s) (begun Dismisses s) n (record { steps = refl; tasks = refl }) (let a = ap events_left t in grind (arith, a, is))
 step-counts x h (GoesDown q) s n t is = within-counts x h _ (begun (GoesDown q) s) n (crashed-within q (s.course.world.memory q)) (let a = ap events_left t in grind (arith, a, is))

@@ -5,6 +5,7 @@ pub mod Telling
 pub mod Ordered
 pub mod Counted
 pub mod Texts
+pub mod Clients
 pub mod Quiet
 pub mod Resting
 pub mod Refuted

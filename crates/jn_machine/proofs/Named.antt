@@ -1,8 +1,9 @@
 -- The commits that the lines name are those that the system names.
-use Rattle.jn_machine.proofs.Common.{◌≡◌, ℕ, ◌+◌, Bool, true, false, List, [], ◌∷◌, ◌++◌, append-nil, append_assoc, length, drop, map, refl, sym, ◌∙◌, ap, subst, if◌then◌else◌, list_all, drop-append_seam, ServerNo, Tid, Party, Outside, When, Text, Line, commit_in, history_of, Sent, World, committed_in, commits_in, Step, Course, go_on, newly_sent, Setup, Chance, Task, Begins, Meets, Acts, Rests, ComesUp, Dismisses, GoesDown, ClosesClients, CountsCommits, State, when_of, begun, Use, Calls, Reads, Recovers, Deed, deed_of, outside_texts, own_texts, message_texts, traced, texts_of, lines_at, is_too_much, come_to, cut_short, made, none, more, MayStep, MayLead, Cleans}
+use Rattle.jn_machine.proofs.Common.{◌≡◌, ℕ, ◌+◌, Bool, true, false, List, [], ◌∷◌, ◌++◌, append-nil, append_assoc, length, drop, map, refl, sym, ◌∙◌, ap, subst, if◌then◌else◌, list_all, drop-append_seam, ServerNo, Tid, Party, Outside, When, Text, Line, commit_in, history_of, Sent, World, committed_in, commits_in, Step, Course, go_on, newly_sent, Setup, Chance, Task, Begins, Meets, Acts, Rests, ComesUp, Dismisses, GoesDown, ClosesClients, CountsCommits, State, when_of, begun, Use, Calls, Reads, Recovers, Deed, deed_of, outside_texts, own_texts, message_texts, traced, texts_of, lines_at, is_too_much, come_to, cut_short, made, none, more, MayStep, MayLead, Cleans, reported}
 use Rattle.jn_report.specs.declared.line.Text.TheVariants as says
 use Rattle.jn_machine.proofs.Telling.{first, second}
 use Rattle.jn_machine.proofs.Texts.{gone-on, More, task-texts, Besides}
+use Rattle.jn_machine.proofs.Clients.{HasTables, begun-said, step-tables}
 
 -- ---- commits in texts and lines
 
@@ -93,8 +94,9 @@ abbrev AreNamed : State → Type 0
 AreNamed s = history_of s.lines ≡ commits_in s.course.world.lines
 
 module _ (x : Setup) (h : Chance) (deed : Deed) (s : State) where
-  makes : list_all no_commit deed.texts ≡ true → AreNamed s → AreNamed (made x h deed s)
-  makes t old = by (is_too_much deed (go_on deed.steps s.course))
+  makes : reported deed.said (own_texts s.course.world (go_on deed.steps s.course).world) ≡ own_texts s.course.world (go_on deed.steps s.course).world → list_all no_commit deed.texts ≡ true
+      → AreNamed s → AreNamed (made x h deed s)
+  makes says t old = by (is_too_much deed (go_on deed.steps s.course))
     where
       now : World
       now = (go_on deed.steps s.course).world
@@ -103,8 +105,9 @@ module _ (x : Setup) (h : Chance) (deed : Deed) (s : State) where
       texts = texts_of x h deed s.course.world now
 
       told : commits_in texts ≡ commits_in (own_texts s.course.world now)
-      told = middle (outside_texts deed.device h.told) (own_texts s.course.world now) deed.texts (traced x.trace (message_texts deed.actor (length s.course.world.sent) (newly_sent s.course.world now)))
+      told = middle (outside_texts deed.device h.told) (reported deed.said (own_texts s.course.world now)) deed.texts (traced x.trace (message_texts deed.actor (length s.course.world.sent) (newly_sent s.course.world now)))
           (outside-none deed.device h.told) (none-in deed.texts t) (traced-none x.trace deed.actor (length s.course.world.sent) (newly_sent s.course.world now))
+          ∙ ap commits_in says
 
       by : (b : Bool) → AreNamed (if b then cut_short s else come_to x h deed (go_on deed.steps s.course) s)
       by true = old
@@ -116,9 +119,10 @@ begins : (task : Task) (s : State) → AreNamed s → AreNamed (begun task s)
 begins Dismisses s e = e
 begins task s e = e
 
-step-names : (x : Setup) (s t : State) → MayStep x s t → AreNamed s → AreNamed t
-step-names x s t m e = subst (λ (u : State). AreNamed u) (sym m.state_is) (makes x m.chance (deed_of x m.chance m.task s) (begun m.task s) (texts-none x m.chance m.task s) (begins m.task s e))
+step-names : (x : Setup) (s t : State) → MayStep x s t → HasTables s → AreNamed s → AreNamed t
+step-names x s t m has e = subst (λ (u : State). AreNamed u) (sym m.state_is)
+    (makes x m.chance (deed_of x m.chance m.task s) (begun m.task s) (begun-said x m.chance m.task s has) (texts-none x m.chance m.task s) (begins m.task s e))
 
-pub names : (x : Setup) (s t : State) → MayLead x s t → history_of s.lines ≡ commits_in s.course.world.lines → history_of t.lines ≡ commits_in t.course.world.lines
-names x s t (none u) e = e
-names x s t (more a b c m rest) e = names x b t rest (step-names x s b m e)
+pub names : (x : Setup) (s t : State) → MayLead x s t → HasTables s → history_of s.lines ≡ commits_in s.course.world.lines → history_of t.lines ≡ commits_in t.course.world.lines
+names x s t (none u) has e = e
+names x s t (more a b c m rest) has e = names x b t rest (step-tables x s b m has) (step-names x s b m has e)

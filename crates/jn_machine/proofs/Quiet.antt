@@ -1,8 +1,9 @@
 -- Messages have lines only where they are asked for, and each line that counts commits counts those before it.
-use Rattle.jn_machine.proofs.Common.{◌≡◌, ℕ, Bool, true, false, List, [], ◌∷◌, ◌++◌, append-nil, append_assoc, length, drop, refl, sym, ◌∙◌, subst, arith, if◌then◌else◌, list_all, drop-append_seam, list_all-append, When, Text, Line, history_of, Sent, Step, go_on, newly_sent, Setup, Chance, Task, Dismisses, CountsCommits, State, when_of, begun, Deed, nobody, deed_of, own_texts, texts_of, lines_at, is_too_much, come_to, cut_short, made_to, traced, message_texts, none, more, MayStep, MayLead, no_message, are_quiet, counts_right, count_right, NextEvent}
+use Rattle.jn_machine.proofs.Common.{◌≡◌, ℕ, Bool, true, false, List, [], ◌∷◌, ◌++◌, append-nil, append_assoc, length, drop, refl, sym, ◌∙◌, subst, arith, if◌then◌else◌, list_all, drop-append_seam, list_all-append, When, Text, Line, history_of, Sent, Step, go_on, newly_sent, Setup, Chance, Task, Dismisses, CountsCommits, State, when_of, begun, Deed, nobody, deed_of, own_texts, texts_of, lines_at, is_too_much, come_to, cut_short, made_to, traced, message_texts, none, more, MayStep, MayLead, no_message, are_quiet, counts_right, count_right, NextEvent, reported}
 use Rattle.jn_machine.proofs.Telling.{may_tell, both, first, second}
 use Rattle.jn_report.specs.declared.line.Text.TheVariants as says
 use Rattle.jn_machine.proofs.Ordered.{begun-lines}
+use Rattle.jn_machine.proofs.Clients.{task-says}
 use Rattle.jn_machine.proofs.Texts.{deed-texts, task-texts, Besides}
 
 -- ---- what no step of the system reports
@@ -41,8 +42,8 @@ module _ (x : Setup) (quiet : x.trace ≡ false) where
       clash : false ≡ true → ⊥
       clash z = cc
 
-  made-quiet : (h : Chance) (deed : Deed) (s : State) → list_all no_message deed.texts ≡ true → are_quiet s.lines ≡ true → are_quiet (made_to x h deed (go_on deed.steps s.course) s).lines ≡ true
-  made-quiet h deed s t old = by (is_too_much deed (go_on deed.steps s.course))
+  made-quiet : (h : Chance) (deed : Deed) (s : State) → list_all no_message (reported deed.said []) ≡ true → list_all no_message deed.texts ≡ true → are_quiet s.lines ≡ true → are_quiet (made_to x h deed (go_on deed.steps s.course) s).lines ≡ true
+  made-quiet h deed s r t old = by (is_too_much deed (go_on deed.steps s.course))
     where
       texts : List Text
       texts = texts_of x h deed s.course.world (go_on deed.steps s.course).world
@@ -50,11 +51,11 @@ module _ (x : Setup) (quiet : x.trace ≡ false) where
       by : (b : Bool) → are_quiet (if b then cut_short s else come_to x h deed (go_on deed.steps s.course) s).lines ≡ true
       by true = old
       by false = list_all-append (λ (l : Line). no_message l.text) s.lines (lines_at (when_of s) texts) ∙ both (are_quiet s.lines) (are_quiet (lines_at (when_of s) texts)) old (at-lines no_message (when_of s) texts
-          (deed-texts no_message (λ step text k. of-system text (of-step step text k)) (λ q fault. refl) x (λ k a b kind e. absurd (silent x.trace refl e)) h deed s.course t))
+          (deed-texts no_message (λ step text k. of-system text (of-step step text k)) (λ q fault. refl) x (λ k a b kind e. absurd (silent x.trace refl e)) h deed s.course r t))
 
   step-quiet : (s t : State) → MayStep x s t → are_quiet s.lines ≡ true → are_quiet t.lines ≡ true
   step-quiet s t m old = subst (λ (u : State). are_quiet u.lines ≡ true) (sym m.state_is)
-      (made-quiet m.chance (deed_of x m.chance m.task s) (begun m.task s) (task-quiet x m.chance m.task s) (subst (λ (ls : List Line). are_quiet ls ≡ true) (sym (begun-lines m.task s)) old))
+      (made-quiet m.chance (deed_of x m.chance m.task s) (begun m.task s) (task-says no_message (λ step text k. of-system text (of-step step text k)) x m.chance m.task s) (task-quiet x m.chance m.task s) (subst (λ (ls : List Line). are_quiet ls ≡ true) (sym (begun-lines m.task s)) old))
 
   pub quiet-run : (s t : State) → MayLead x s t → are_quiet s.lines ≡ true → are_quiet t.lines ≡ true
   quiet-run s t (none u) old = old
@@ -85,8 +86,8 @@ counts-none w old (text ∷ texts) h = both _ _ (right text (first _ _ h)) (coun
     right text k = grind arith
 
 module _ (x : Setup) where
-  quiet-made : (h : Chance) (deed : Deed) (s : State) → list_all no_count deed.texts ≡ true → count_right [] s.lines ≡ true → count_right [] (made_to x h deed (go_on deed.steps s.course) s).lines ≡ true
-  quiet-made h deed s t old = by (is_too_much deed (go_on deed.steps s.course))
+  quiet-made : (h : Chance) (deed : Deed) (s : State) → list_all no_count (reported deed.said []) ≡ true → list_all no_count deed.texts ≡ true → count_right [] s.lines ≡ true → count_right [] (made_to x h deed (go_on deed.steps s.course) s).lines ≡ true
+  quiet-made h deed s r t old = by (is_too_much deed (go_on deed.steps s.course))
     where
       texts : List Text
       texts = texts_of x h deed s.course.world (go_on deed.steps s.course).world
@@ -94,7 +95,7 @@ module _ (x : Setup) where
       by : (b : Bool) → count_right [] (if b then cut_short s else come_to x h deed (go_on deed.steps s.course) s).lines ≡ true
       by true = old
       by false = counts-join [] s.lines (lines_at (when_of s) texts) old (counts-none (when_of s) s.lines texts
-          (deed-texts no_count (λ step text k. system-counts text (of-step step text k)) (λ q fault. refl) x (λ k a b kind e. refl) h deed s.course t))
+          (deed-texts no_count (λ step text k. system-counts text (of-step step text k)) (λ q fault. refl) x (λ k a b kind e. refl) h deed s.course r t))
 
   first-count : (n : ℕ) (w : When) (old : List Line) → n ≡ length (history_of old) → count_right old ((record { when = w; text = says.Commits n }) ∷ []) ≡ true
   first-count n w old e = grind arith
@@ -132,8 +133,8 @@ module _ (x : Setup) where
     where
       by : (task : Task) → count_right [] (made_to x m.chance (deed_of x m.chance task s) (go_on (deed_of x m.chance task s).steps (begun task s).course) (begun task s)).lines ≡ true
       by CountsCommits = counting-made m.chance s old
-      by Dismisses = quiet-made m.chance (deed_of x m.chance Dismisses s) (begun Dismisses s) refl old
-      by task = quiet-made m.chance (deed_of x m.chance task s) (begun task s) (task-texts no_count none-besides x m.chance task s (λ e. cc)) old
+      by Dismisses = quiet-made m.chance (deed_of x m.chance Dismisses s) (begun Dismisses s) refl refl old
+      by task = quiet-made m.chance (deed_of x m.chance task s) (begun task s) (task-says no_count (λ step text k. system-counts text (of-step step text k)) x m.chance task s) (task-texts no_count none-besides x m.chance task s (λ e. cc)) old
 
   pub count-run : (s t : State) → MayLead x s t → count_right [] s.lines ≡ true → count_right [] t.lines ≡ true
   count-run s t (none u) old = old

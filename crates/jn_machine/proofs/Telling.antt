@@ -1,6 +1,5 @@
 -- What each step of the system adds to the lines, and the event under way after it.
-use Rattle.jn_machine.proofs.Common.{Left, ◌≡◌, ℕ, ◌+◌, Bool, true, false, List, [], ◌∷◌, ◌++◌, append-nil, Option, Some, None, refl, sym, subst, arith, ◌&&◌, ◌||◌, if◌then◌else◌, list_all, ServerNo, ClientNo, Tid, Text, Pick, stable, RowOutcome, Sent, World, Memory, has_line, Room, server_row, of_coordinator, lines_of, named_now, Step, NextEvent, Deliver, StopDelivery, after, is_answer, is_up, is_stopped, StableState, Tell, Work, StopWork, Crash, StopRestart, Restart, CloseClients, is_down, client_eq, Message}
-use Rattle.jn_base.specs.declared.names.WorkId.{WorkId}
+use Rattle.jn_machine.proofs.Common.{Left, ◌≡◌, ℕ, ◌+◌, Bool, true, false, List, [], ◌∷◌, ◌++◌, append-nil, Option, Some, None, refl, sym, subst, arith, ◌&&◌, ◌||◌, if◌then◌else◌, list_all, ServerNo, ClientNo, Tid, Text, Pick, stable, RowOutcome, Sent, World, Memory, has_line, Room, server_row, of_coordinator, lines_of, named_now, Step, NextEvent, Deliver, StopDelivery, after, is_answer, is_up, is_stopped, StableState, Tell, Work, StopWork, Crash, StopRestart, Restart, CloseClients, client_eq, Message, WorkId, Taken, ClientTable, take_row, if_waits, begun_row, opened_row, answer_line, outcome_row, is_current, decided_row}
 use Rattle.jn_base.specs.declared.op.Answer.{Answer}
 use Rattle.jn_base.specs.declared.op.Answer.TheVariants as answers
 use Rattle.jn_msgs.specs.declared.message.Message.TheVariants as messages
@@ -10,9 +9,7 @@ use Rattle.jn_msgs.specs.declared.message.Note.{Note}
 use Rattle.jn_msgs.specs.declared.message.Note.TheVariants as notes
 use Rattle.jn_report.specs.declared.line.Text.TheVariants as says
 use Rattle.jn_rows.specs.declared.client.Outstanding.{Outstanding}
-use Rattle.jn_rows.specs.declared.client.Taken.{Taken}
 use Rattle.jn_rows.specs.declared.client.Taken.TheVariants as taken
-use Rattle.jn_rows.specs.Client.{ClientTable, take_row, if_waits, begun_row, opened_row, answer_line, outcome_row, is_current, decided_row}
 use Rattle.jn_rows.specs.Coordinator.{close_clients_row}
 use Rattle.jn_system.proofs.WholeSystem.StepCases.{ClientRow, by_command, by_ignoring, by_answering, by_telling, ServerRow, of_message, of_work, of_closing, FoundThen, by_narrowing, by_raising, Quiet, event_begins, is_refused, is_lost, StepCase, client_row, row_done, row_stopped, gone_late, gone_down, come_up, found_anew, dismissed, quietly, step-case, handing}
 
@@ -26,6 +23,10 @@ abbrev pub is_of_delivery : Text → Bool
 is_of_delivery (says.Ignored k) = true
 is_of_delivery (says.Lost k) = true
 is_of_delivery text = is_answer text || is_note text
+
+abbrev pub is_down : Text → Bool
+is_down (says.Down s) = true
+is_down text = false
 
 -- what each step of the system may tell
 abbrev pub may_tell : Step → Text → Bool

@@ -1,5 +1,5 @@
 -- What holds of all that is reported, where it holds of what each step of the system may report and of what deeds report besides.
-use Rattle.jn_machine.proofs.Common.{◌≡◌, ℕ, ◌+◌, Bool, true, false, List, [], ◌∷◌, ◌++◌, append-nil, append_assoc, map, length, drop, Option, Some, None, refl, sym, ◌∙◌, ap, subst, if◌then◌else◌, slice_get, list_all, drop-append_seam, list_all-append, ServerNo, Tid, Party, Client, Server, Outside, Event, EventRefusal, EpochsUsedUp, Text, Pick, Sent, World, Memory, Step, after, Printed, FileThere, PageStored, UnitLocked, Course, go, go_on, newly_sent, text_printed, Setup, Chance, prints_found, allowed, Task, Begins, Meets, Acts, Rests, ComesUp, Dismisses, GoesDown, ClosesClients, CountsCommits, State, Use, Calls, Reads, Recovers, Deed, delivered, delivered_at, is_busy, worked, shown, crashed_at, is_used_up, restarted, brought_up, given_up, recovered, served, nothing, working_steps, refusal_of, told_unless, acted, met, next_in, resting, deed_of, outside_texts, own_texts, message_texts, traced, texts_of, Cleans, step_calls, Left}
+use Rattle.jn_machine.proofs.Common.{◌≡◌, ℕ, ◌+◌, Bool, true, false, List, [], ◌∷◌, ◌++◌, append-nil, append_assoc, map, length, drop, Option, Some, None, refl, sym, ◌∙◌, ap, subst, if◌then◌else◌, slice_get, list_all, drop-append_seam, list_all-append, ServerNo, ClientNo, Tid, Party, Client, Server, Outside, Event, EventRefusal, EpochsUsedUp, Text, Pick, Sent, World, Memory, Step, after, Printed, FileThere, PageStored, UnitLocked, Course, go, go_on, newly_sent, text_printed, Setup, Chance, prints_found, allowed, Task, Begins, Meets, Acts, Rests, ComesUp, Dismisses, GoesDown, ClosesClients, CountsCommits, State, Use, Calls, Reads, Recovers, Deed, delivered, delivered_at, is_busy, worked, shown, crashed_at, is_used_up, restarted, brought_up, given_up, recovered, served, nothing, working_steps, refusal_of, told_unless, acted, met, next_in, resting, deed_of, outside_texts, own_texts, message_texts, traced, texts_of, Cleans, step_calls, Left, ClientTable, reported}
 use Rattle.jn_machine.proofs.Telling.{may_tell, event_after, both, Adds, adds, weaker}
 use Rattle.jn_base.specs.declared.names.FileNo.{FileNo}
 use Rattle.jn_base.specs.declared.names.BlockNo.{BlockNo}
@@ -55,10 +55,15 @@ module _ (test : Text → Bool) where
         messages true e from k [] = refl
         messages true e from k (one ∷ sent) = both _ _ (traces k from one.0 _ e) (messages true e from (k + 1) sent)
 
-        pub deed-texts : (h : Chance) (deed : Deed) (c : Course) → list_all test deed.texts ≡ true → list_all test (texts_of x h deed c.world (go_on deed.steps c).world) ≡ true
-        deed-texts h deed c t = joined (outside_texts deed.device h.told ++ own_texts c.world (go_on deed.steps c).world ++ deed.texts) _
-            (joined (outside_texts deed.device h.told ++ own_texts c.world (go_on deed.steps c).world) deed.texts
-            (joined (outside_texts deed.device h.told) (own_texts c.world (go_on deed.steps c).world) (outsides deed.device h.told) (own deed.steps c)) t)
+        -- of what a client says, and of what the steps report where nothing else is said
+        reports : (said : Option (List Text)) (texts : List Text) → list_all test (reported said []) ≡ true → list_all test texts ≡ true → list_all test (reported said texts) ≡ true
+        reports None texts s k = k
+        reports (Some instead) texts s k = s
+
+        pub deed-texts : (h : Chance) (deed : Deed) (c : Course) → list_all test (reported deed.said []) ≡ true → list_all test deed.texts ≡ true → list_all test (texts_of x h deed c.world (go_on deed.steps c).world) ≡ true
+        deed-texts h deed c s t = joined (outside_texts deed.device h.told ++ reported deed.said (own_texts c.world (go_on deed.steps c).world) ++ deed.texts) _
+            (joined (outside_texts deed.device h.told ++ reported deed.said (own_texts c.world (go_on deed.steps c).world)) deed.texts
+            (joined (outside_texts deed.device h.told) (reported deed.said (own_texts c.world (go_on deed.steps c).world)) (outsides deed.device h.told) (reports deed.said _ s (own deed.steps c))) t)
             (messages x.trace refl deed.actor (length c.world.sent) (newly_sent c.world (go_on deed.steps c).world))
 
 -- ---- what deeds report besides
@@ -71,10 +76,10 @@ pub record Besides (test : Text → Bool) : Type 0 where
   pub refused : (refusal : EventRefusal) → test (says.RefusedEvent refusal) ≡ true
   pub outside : (q : ServerNo) (fault : Outside) → test (says.Outside q fault) ≡ true
 
-pub delivers : (h : Chance) (k : ℕ) (w : World) (o : Option Sent) → (delivered h k w o).texts ≡ []
-delivers h k w None = refl
-delivers h k w (Some (Client c, message)) = refl
-delivers h k w (Some (Server q, message)) = by (w.memory q)
+pub delivers : (h : Chance) (k : ℕ) (t : ClientNo → ClientTable) (w : World) (o : Option Sent) → (delivered h k t w o).texts ≡ []
+delivers h k t w None = refl
+delivers h k t w (Some (Client c, message)) = refl
+delivers h k t w (Some (Server q, message)) = by (w.memory q)
   where
     by : (o : Option Memory) → (delivered_at h k q o).texts ≡ []
     by None = refl
@@ -123,35 +128,36 @@ module _ (test : Text → Bool) (b : Besides test) where
       by true = both _ true (b.refused _) refl
       by false = refl
 
-  pub acts : (x : Setup) (h : Chance) (event : Event) (w : World) → list_all test (acted x h event w).texts ≡ true
-  acts x h (events.Command c command) w = refl
-  acts x h (events.Again c) w = refl
-  acts x h (events.Deliver k) w = silent (delivered h k w (slice_get w.sent k)) (delivers h k w (slice_get w.sent k))
-  acts x h events.Settle w = refl
-  acts x h (events.Step q) w = silent (worked h q w) (works h q w)
-  acts x h (events.Nudge q) w = refl
-  acts x h (events.Timeout q T) w = refl
-  acts x h (events.Scrub q) w = refl
-  acts x h (events.Decay q p) w = unless-so (allowed h.found) _ (b.outside q _)
-  acts x h (events.Revive q p) w = refl
-  acts x h (events.Arm q n kind) w = unless-so (allowed h.found) _ (b.refused _)
-  acts x h (events.Crash q) w = silent (crashed_at q (w.memory q)) (crashes q (w.memory q))
-  acts x h (events.Restart q) w = restarts h q w
-  acts x h (events.Show q) w = shows q (prints_found h.found) h.stop
+  pub acts : (x : Setup) (h : Chance) (event : Event) (t : ClientNo → ClientTable) (w : World) → list_all test (acted x h event t w).texts ≡ true
+  acts x h (events.Command c command) t w = refl
+  acts x h (events.Call c s call) t w = refl
+  acts x h (events.Again c) t w = refl
+  acts x h (events.Deliver k) t w = silent (delivered h k t w (slice_get w.sent k)) (delivers h k t w (slice_get w.sent k))
+  acts x h events.Settle t w = refl
+  acts x h (events.Step q) t w = silent (worked h q w) (works h q w)
+  acts x h (events.Nudge q) t w = refl
+  acts x h (events.Timeout q T) t w = refl
+  acts x h (events.Scrub q) t w = refl
+  acts x h (events.Decay q p) t w = unless-so (allowed h.found) _ (b.outside q _)
+  acts x h (events.Revive q p) t w = refl
+  acts x h (events.Arm q n kind) t w = unless-so (allowed h.found) _ (b.refused _)
+  acts x h (events.Crash q) t w = silent (crashed_at q (w.memory q)) (crashes q (w.memory q))
+  acts x h (events.Restart q) t w = restarts h q w
+  acts x h (events.Show q) t w = shows q (prints_found h.found) h.stop
 
-  meets : (x : Setup) (h : Chance) (event : Event) (w : World) (o : Option EventRefusal) → list_all test (met x h event w o).texts ≡ true
-  meets x h event w (Some refusal) = both _ true (b.refused refusal) refl
-  meets x h event w None = acts x h event w
+  meets : (x : Setup) (h : Chance) (event : Event) (t : ClientNo → ClientTable) (w : World) (o : Option EventRefusal) → list_all test (met x h event t w o).texts ≡ true
+  meets x h event t w (Some refusal) = both _ true (b.refused refusal) refl
+  meets x h event t w None = acts x h event t w
 
-  rests : (x : Setup) (h : Chance) (w : World) (o : Option Event) → list_all test (resting x h w o).texts ≡ true
-  rests x h w None = refl
-  rests x h w (Some event) = acts x h event w
+  rests : (x : Setup) (h : Chance) (t : ClientNo → ClientTable) (w : World) (o : Option Event) → list_all test (resting x h t w o).texts ≡ true
+  rests x h t w None = refl
+  rests x h t w (Some event) = acts x h event t w
 
   pub task-texts : (x : Setup) (h : Chance) (task : Task) (s : State) → (task ≡ CountsCommits → ⊥) → list_all test (deed_of x h task s).texts ≡ true
   task-texts x h (Begins event) s k = refl
-  task-texts x h (Meets event) s k = meets x h event s.course.world (refusal_of x s.course.world event)
-  task-texts x h (Acts event) s k = acts x h event s.course.world
-  task-texts x h Rests s k = rests x h s.course.world (next_in x h.rubbish s.course)
+  task-texts x h (Meets event) s k = meets x h event s.clients s.course.world (refusal_of x s.course.world event)
+  task-texts x h (Acts event) s k = acts x h event s.clients s.course.world
+  task-texts x h Rests s k = rests x h s.clients s.course.world (next_in x h.rubbish s.course)
   task-texts x h (ComesUp q) s k = silent (brought_up h q s.course.world) (comes h q s.course.world)
   task-texts x h Dismisses s k = refl
   task-texts x h (GoesDown q) s k = silent (crashed_at q (s.course.world.memory q)) (crashes q (s.course.world.memory q))

@@ -1,19 +1,24 @@
 -- What a step does: with a device, in the system, and what it reports.
 use Rattle.std.specs.Prelude.{ℕ, Bool, true, false, nat_eq, nat_lt, ◌&&◌, ◌||◌, if◌then◌else◌, List, [], ◌∷◌, map, Option, Some, None, is_some}
 use Rattle.jn_base.specs.declared.names.ServerNo.{ServerNo}
+use Rattle.jn_base.specs.declared.names.ClientNo.{ClientNo}
 use Rattle.jn_base.specs.declared.names.Party.{Party}
 use Rattle.jn_base.specs.declared.names.Party.TheVariants.{Client, Server}
 use Rattle.jn_base.specs.declared.device.FaultKind.{FaultKind}
+use Rattle.jn_base.specs.declared.op.Command.{Command}
 use Rattle.jn_report.specs.declared.line.EventRefusal.TheVariants.{EpochsUsedUp}
 use Rattle.jn_report.specs.declared.line.Text.{Text}
 use Rattle.jn_report.specs.declared.line.Text.TheVariants as says
 use Rattle.jn_records.specs.MapPlaces.{no_maps}
 use Rattle.jn_records.specs.Pages.{last_epoch}
+use Rattle.jn_rows.specs.declared.client.Taken.{Taken}
+use Rattle.jn_rows.specs.declared.client.Taken.TheVariants as taken
+use Rattle.jn_rows.specs.Client.{ClientTable, Commanded, Refuses, Sends, take_row}
 use Rattle.jn_rows.specs.Stable.{StableState, Pick, stable, Left, whole_only}
 use Rattle.jn_rows.specs.Outcomes.{Sent}
-use Rattle.jn_system.specs.WholeSystem.World.{World, Memory}
+use Rattle.jn_system.specs.WholeSystem.World.{World, Memory, at_client}
 use Rattle.jn_system.specs.WholeSystem.Servers.{Room, is_busy as has_going}
-use Rattle.jn_system.specs.WholeSystem.Steps.{Step, Deliver, StopWork, Crash, Narrow, StopRestart, Restart, handing, working}
+use Rattle.jn_system.specs.WholeSystem.Steps.{Step, Tell, Deliver, StopWork, Crash, Narrow, StopRestart, Restart, handing, working}
 use Rattle.jn_system.specs.WholeSystem.Printing.{Printed}
 use Rattle.jn_system.specs.WholeSystem.PrintedLines.{text_printed}
 use Rattle.jn_storage.specs.DeviceCalls.{step_calls, row_calls}
@@ -41,16 +46,20 @@ pub record Deed : Type 0 where
   pub actor : Party
   pub device : Use
   pub steps : List Step
-  -- what it reports behind what these report
+  -- what the clients' tables become by it
+  pub clients : (ClientNo → ClientTable) → ClientNo → ClientTable
+  -- what it reports in place of what its steps report; none: what they report
+  pub said : Option (List Text)
+  -- and what behind that
   pub texts : List Text
   -- what is to be done next, before all that was left
   pub tasks : List Task
   -- whether the run can't go on
   pub cuts : Bool
 
--- steps without a device
+-- steps without a device, which leave the clients' tables and report what they report
 abbrev pub plain : Party → List Step → Deed
-plain actor steps = record { actor = actor; device = Nothing; steps = steps; texts = []; tasks = []; cuts = false }
+plain actor steps = record { actor = actor; device = Nothing; steps = steps; clients = λ f. f; said = None; texts = []; tasks = []; cuts = false }
 
 -- steps of a server that calls its device so many times at most
 abbrev pub served : ServerNo → ℕ → List Step → Deed
@@ -72,6 +81,26 @@ leaves tasks = record nothing { tasks = tasks }
 abbrev pub uses : ServerNo → Use → List Text → Deed
 uses q device texts = record (plain (Server q) []) { device = device; texts = texts }
 
+-- ---- clients
+
+-- what a command of event j makes of its client's table, and what it reports
+abbrev pub tables_commanded : ClientNo → Commanded → (ClientNo → ClientTable) → ClientNo → ClientTable
+tables_commanded c (Refuses refusal) f = f
+tables_commanded c (Sends t to message) f = at_client f c t
+
+abbrev pub texts_commanded : ClientNo → ℕ → Commanded → List Text
+texts_commanded c j (Refuses refusal) = says.Refused c j refusal ∷ []
+texts_commanded c j (Sends t to message) = []
+
+abbrev pub told_command : ClientNo → Command → ℕ → Commanded → Deed
+told_command c command j row = record (plain (Client c) (Tell c command ∷ [])) { clients = tables_commanded c row; said = Some (texts_commanded c j row) }
+
+-- what a client reports of the message of this number
+abbrev pub texts_taken : ℕ → Taken → List Text
+texts_taken k taken.Ignored = says.Ignored k ∷ []
+texts_taken k (taken.Send to message) = []
+texts_taken k (taken.Told line answer) = line ∷ []
+
 -- ---- messages and background steps
 
 abbrev pub room : Chance → ServerNo → Room
@@ -85,11 +114,14 @@ delivered_at h k q (Some m) = served q row_calls (handing k (room h q) h.stop �
 abbrev pub no_room : Room
 no_room = record { free = none_free; maps = no_maps; rubbish = false }
 
+abbrev pub took_message : ClientNo → ℕ → ClientTable × Taken → Deed
+took_message c k row = record (plain (Client c) (Deliver k no_room ∷ [])) { clients = λ f. at_client f c row.0; said = Some (texts_taken k row.1) }
+
 -- the message of this number is handed over
-abbrev pub delivered : Chance → ℕ → World → Option Sent → Deed
-delivered h k w None = nothing
-delivered h k w (Some (Client c, message)) = plain (Client c) (Deliver k no_room ∷ [])
-delivered h k w (Some (Server q, message)) = delivered_at h k q (w.memory q)
+abbrev pub delivered : Chance → ℕ → (ClientNo → ClientTable) → World → Option Sent → Deed
+delivered h k t w None = nothing
+delivered h k t w (Some (Client c, message)) = took_message c k (take_row (t c) message)
+delivered h k t w (Some (Server q, message)) = delivered_at h k q (w.memory q)
 
 -- a server that is up has something to do where a work of its goes, or a rubbish record is left
 abbrev pub is_busy_with : StableState → Option Memory → Bool → Bool

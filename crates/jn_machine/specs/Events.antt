@@ -12,13 +12,14 @@ use Rattle.jn_report.specs.declared.line.Line.{Line}
 use Rattle.jn_report.specs.declared.line.Text.{Text}
 use Rattle.jn_report.specs.declared.line.Text.TheVariants as says
 use Rattle.jn_serial.specs.Lines.{history_of}
+use Rattle.jn_rows.specs.Client.{ClientTable, command_row, over}
 use Rattle.jn_system.specs.WholeSystem.World.{World, servers_from, clients_from}
-use Rattle.jn_system.specs.WholeSystem.Steps.{NextEvent, Tell, Again, Nudge, Timeout, Dismiss, CloseClients}
+use Rattle.jn_system.specs.WholeSystem.Steps.{NextEvent, Again, Nudge, Timeout, Dismiss, CloseClients}
 use Rattle.jn_system.specs.WholeSystem.Course.{Course}
 use Rattle.jn_storage.specs.DeviceCalls.{row_calls}
 use Rattle.jn_machine.specs.Chances.{Setup, Chance, allowed}
 use Rattle.jn_machine.specs.Tasks.{Task, Begins, Meets, Acts, Rests, ComesUp, Dismisses, GoesDown, ClosesClients, CountsCommits, State}
-use Rattle.jn_machine.specs.Deeds.{Decays, Revives, Arms, Disarms, Deed, plain, served, nobody, nothing, tells, leaves, uses, delivered, is_busy, worked, scrubbed, showing, crashed_at, restarted, brought_up}
+use Rattle.jn_machine.specs.Deeds.{Decays, Revives, Arms, Disarms, Deed, plain, served, nobody, nothing, tells, leaves, uses, told_command, delivered, is_busy, worked, scrubbed, showing, crashed_at, restarted, brought_up}
 use Rattle.jn_machine.specs.Refusals.{refusal_of}
 
 abbrev pub servers_of : Setup → List ServerNo
@@ -53,36 +54,37 @@ next_in x rubbish c = next_event c.waiting (first_busy rubbish c.world (servers_
 abbrev pub told_unless : Bool → Text → List Text
 told_unless is_so text = if is_so then [] else text ∷ []
 
--- what an event does that isn't refused beforehand
-abbrev pub acted : Setup → Chance → Event → World → Deed
-acted x h (events.Command c command) w = plain (Client c) (Tell c command ∷ [])
-acted x h (events.Again c) w = plain (Client c) (Again c ∷ [])
-acted x h (events.Deliver k) w = delivered h k w (slice_get w.sent k)
-acted x h events.Settle w = leaves (settling x)
-acted x h (events.Step q) w = worked h q w
-acted x h (events.Nudge q) w = plain (Server q) (Nudge q ∷ [])
-acted x h (events.Timeout q T) w = plain (Server q) (Timeout q T ∷ [])
-acted x h (events.Scrub q) w = scrubbed h q
-acted x h (events.Decay q p) w = uses q (Decays q p) (told_unless (allowed h.found) (says.Outside q (record { kind = faults.Decay p; page = p })))
-acted x h (events.Revive q p) w = uses q (Revives q p) []
-acted x h (events.Arm q n kind) w = uses q (Arms q n kind) (told_unless (allowed h.found) (says.RefusedEvent TooManyArmed))
-acted x h (events.Crash q) w = crashed_at q (w.memory q)
-acted x h (events.Restart q) w = restarted h q w
-acted x h (events.Show q) w = showing h q
+-- what an event does that isn't refused beforehand; the tables are the clients' own
+abbrev pub acted : Setup → Chance → Event → (ClientNo → ClientTable) → World → Deed
+acted x h (events.Command c command) t w = told_command c command w.event (command_row (t c) w.event command)
+acted x h (events.Call c s call) t w = nothing
+acted x h (events.Again c) t w = plain (Client c) (Again c ∷ [])
+acted x h (events.Deliver k) t w = delivered h k t w (slice_get w.sent k)
+acted x h events.Settle t w = leaves (settling x)
+acted x h (events.Step q) t w = worked h q w
+acted x h (events.Nudge q) t w = plain (Server q) (Nudge q ∷ [])
+acted x h (events.Timeout q T) t w = plain (Server q) (Timeout q T ∷ [])
+acted x h (events.Scrub q) t w = scrubbed h q
+acted x h (events.Decay q p) t w = uses q (Decays q p) (told_unless (allowed h.found) (says.Outside q (record { kind = faults.Decay p; page = p })))
+acted x h (events.Revive q p) t w = uses q (Revives q p) []
+acted x h (events.Arm q n kind) t w = uses q (Arms q n kind) (told_unless (allowed h.found) (says.RefusedEvent TooManyArmed))
+acted x h (events.Crash q) t w = crashed_at q (w.memory q)
+acted x h (events.Restart q) t w = restarted h q w
+acted x h (events.Show q) t w = showing h q
 
 -- it is refused, or done
-abbrev pub met : Setup → Chance → Event → World → Option EventRefusal → Deed
-met x h event w (Some refusal) = tells (says.RefusedEvent refusal ∷ [])
-met x h event w None = acted x h event w
+abbrev pub met : Setup → Chance → Event → (ClientNo → ClientTable) → World → Option EventRefusal → Deed
+met x h event t w (Some refusal) = tells (says.RefusedEvent refusal ∷ [])
+met x h event t w None = acted x h event t w
 
 -- ---- every task
 
-abbrev pub resting : Setup → Chance → World → Option Event → Deed
-resting x h w None = nothing
-resting x h w (Some event) = record (acted x h event w) { tasks = Rests ∷ [] }
+abbrev pub resting : Setup → Chance → (ClientNo → ClientTable) → World → Option Event → Deed
+resting x h t w None = nothing
+resting x h t w (Some event) = record (acted x h event t w) { tasks = Rests ∷ [] }
 
 abbrev pub dismissing : Deed
-dismissing = record (plain nobody (Dismiss ∷ [])) { device = Disarms }
+dismissing = record (plain nobody (Dismiss ∷ [])) { device = Disarms; clients = λ f c. over (f c) }
 
 -- how many commits the report names
 abbrev pub counting : List Line → List Text
@@ -90,9 +92,9 @@ counting lines = says.Commits (length (history_of lines)) ∷ []
 
 abbrev pub deed_of : Setup → Chance → Task → State → Deed
 deed_of x h (Begins event) s = record (plain nobody (NextEvent ∷ [])) { tasks = Meets event ∷ [] }
-deed_of x h (Meets event) s = met x h event s.course.world (refusal_of x s.course.world event)
-deed_of x h (Acts event) s = acted x h event s.course.world
-deed_of x h Rests s = resting x h s.course.world (next_in x h.rubbish s.course)
+deed_of x h (Meets event) s = met x h event s.clients s.course.world (refusal_of x s.course.world event)
+deed_of x h (Acts event) s = acted x h event s.clients s.course.world
+deed_of x h Rests s = resting x h s.clients s.course.world (next_in x h.rubbish s.course)
 deed_of x h (ComesUp q) s = brought_up h q s.course.world
 deed_of x h Dismisses s = dismissing
 deed_of x h (GoesDown q) s = crashed_at q (s.course.world.memory q)

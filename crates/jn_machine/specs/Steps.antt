@@ -1,14 +1,13 @@
 -- One step of a run, with its lines, and many of them.
-use Rattle.std.specs.Prelude.{ℕ, zero, suc, ◌+◌, Bool, nat_lt, ◌||◌, if◌then◌else◌, List, [], ◌∷◌, ◌++◌, map, length, drop, Option, Some, None}
+use Rattle.std.specs.Prelude.{ℕ, zero, suc, ◌+◌, Bool, nat_lt, ◌||◌, if◌then◌else◌, List, [], ◌∷◌, ◌++◌, map, length, Option, Some, None}
+use Rattle.jn_system.specs.WholeSystem.World.{own_texts, World}
+use Rattle.jn_report.specs.Lines.{lines_at}
 use Rattle.jn_base.specs.declared.names.Party.{Party}
 use Rattle.jn_base.specs.declared.device.Outside.{Outside}
 use Rattle.jn_msgs.specs.Kinds.{kind_of}
-use Rattle.jn_report.specs.declared.line.When.{When}
 use Rattle.jn_report.specs.declared.line.Text.{Text}
 use Rattle.jn_report.specs.declared.line.Text.TheVariants as says
-use Rattle.jn_report.specs.declared.line.Line.{Line}
 use Rattle.jn_rows.specs.Outcomes.{Sent}
-use Rattle.jn_system.specs.WholeSystem.World.{World}
 use Rattle.jn_system.specs.WholeSystem.Course.{Course, go_on, newly_sent}
 use Rattle.jn_machine.specs.Chances.{Setup, Chance}
 use Rattle.jn_machine.specs.Tasks.{Task, CutShort, State, when_of, next_task, begun}
@@ -25,9 +24,10 @@ outside_texts (Reads q) told = map (λ (fault : Outside). says.Outside q fault) 
 outside_texts (Recovers q) told = map (λ (fault : Outside). says.Outside q fault) told
 outside_texts device told = []
 
--- what the second world has reported that the first one hadn't
-abbrev pub own_texts : World → World → List Text
-own_texts before now = drop (length before.lines) now.lines
+-- what a deed says in place of that
+abbrev pub reported : Option (List Text) → List Text → List Text
+reported None own = own
+reported (Some texts) own = texts
 
 -- messages that a party sends, of which the first has this number
 abbrev pub message_texts : Party → ℕ → List Sent → List Text
@@ -37,13 +37,10 @@ message_texts from k (sent ∷ more) = says.Message k from sent.0 (kind_of sent.
 abbrev pub traced : Bool → List Text → List Text
 traced trace texts = if trace then texts else []
 
--- the faults that are reported, then the step's own texts, then its messages
+-- the faults that are reported, then what the step or its client says, then its messages
 abbrev pub texts_of : Setup → Chance → Deed → World → World → List Text
-texts_of x h deed before now = outside_texts deed.device h.told ++ own_texts before now ++ deed.texts
+texts_of x h deed before now = outside_texts deed.device h.told ++ reported deed.said (own_texts before now) ++ deed.texts
     ++ traced x.trace (message_texts deed.actor (length before.sent) (newly_sent before now))
-
-abbrev pub lines_at : When → List Text → List Line
-lines_at when texts = map (λ (text : Text). record { when = when; text = text }) texts
 
 -- ---- one step
 
@@ -56,6 +53,7 @@ is_too_much deed c = deed.cuts || nat_lt most_messages (length c.world.sent)
 abbrev pub come_to : Setup → Chance → Deed → Course → State → State
 come_to x h deed c s = record {
   course = c;
+  clients = deed.clients s.clients;
   tasks = deed.tasks ++ s.tasks;
   lines = s.lines ++ lines_at (when_of s) (texts_of x h deed s.course.world c.world);
   stage = s.stage;

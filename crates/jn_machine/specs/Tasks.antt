@@ -1,10 +1,12 @@
 -- How a run stands between two steps, and what is left to do.
 use Rattle.std.specs.Prelude.{ℕ, List, [], ◌∷◌, drop, Option, Some, None}
 use Rattle.jn_base.specs.declared.names.ServerNo.{ServerNo}
+use Rattle.jn_base.specs.declared.names.ClientNo.{ClientNo}
 use Rattle.jn_schedule.specs.declared.Event.{Event}
 use Rattle.jn_report.specs.declared.line.When.{When}
 use Rattle.jn_report.specs.declared.line.When.TheVariants.{Event as AtEvent, End}
 use Rattle.jn_report.specs.declared.line.Line.{Line}
+use Rattle.jn_rows.specs.Client.{ClientTable}
 use Rattle.jn_system.specs.WholeSystem.Course.{Course}
 
 pub data Task : Type 0 where
@@ -33,6 +35,8 @@ pub data Stage : Type 0 where
 pub record State : Type 0 where
   -- the world, the messages that wait, and the steps of the system so far
   pub course : Course
+  -- each client's own table, which decides what it reports
+  pub clients : ClientNo → ClientTable
   -- what is left to do, the next task first
   pub tasks : List Task
   pub lines : List Line

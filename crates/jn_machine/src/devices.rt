@@ -4,7 +4,8 @@ ghost use Rattle.std.specs.Prelude.{◌≡◌, ◌≤◌, ◌+◌, ℕ, Bool, tr
 ghost use Rattle.jn_base.specs.declared.names.ServerNo.{ServerNo};
 ghost use Rattle.jn_base.specs.declared.device.FaultKind.{FaultKind};
 ghost use Rattle.jn_device.specs.Device.{DeviceState};
-ghost use Rattle.jn_device.specs.Later.{count_kind, count_told, is_stop};
+ghost use Rattle.jn_device.specs.Later.{count_kind, count_told};
+ghost use Rattle.jn_base.specs.Names.{is_stop};
 ghost use Rattle.jn_order.specs.Files.{AllFiles};
 ghost use Rattle.jn_schedule.specs.declared.Event.{Event};
 ghost use Rattle.jn_store.specs.Pairs.{pairs_view};

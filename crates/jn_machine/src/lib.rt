@@ -8,6 +8,7 @@ mod wrong;
 
 ghost use Rattle.std.specs.Prelude.{◌≡◌, ◌+◌, ℕ, true, false, List, [], ◌∷◌, ◌++◌, length};
 ghost use Rattle.jn_base.specs.declared.names.ServerNo.{ServerNo};
+ghost use Rattle.jn_base.specs.declared.names.ClientNo.{ClientNo};
 ghost use Rattle.jn_order.specs.Files.{AllFiles};
 ghost use Rattle.jn_schedule.specs.declared.Event.{Event};
 ghost use Rattle.jn_report.specs.declared.line.Line.{Line};
@@ -77,4 +78,10 @@ pub fn each_event_begins_once()
 pub fn commits_are_the_systems()
     ensures { (x : Setup) (schedule : List Event) (files : AllFiles) (epochs : ServerNo → ℕ) (t : State) → MayLead x (before x schedule files epochs) t
         → history_of t.lines ≡ commits_in t.course.world.lines }
+{}
+
+/// Each client's own table is the one that the system has of it.
+pub fn tables_are_the_systems()
+    ensures { (x : Setup) (schedule : List Event) (files : AllFiles) (epochs : ServerNo → ℕ) (t : State) → MayLead x (before x schedule files epochs) t
+        → (c : ClientNo) → t.clients c ≡ t.course.world.clients c }
 {}

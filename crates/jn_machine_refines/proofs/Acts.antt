@@ -1,5 +1,5 @@
 -- What a deed does and reports, as acts under an event.
-use Rattle.jn_machine_refines.proofs.Common.{◌≡◌, ℕ, ◌+◌, Bool, true, false, List, [], ◌∷◌, ◌++◌, append-nil, append_assoc, length, drop, map, Option, Some, None, refl, sym, ◌∙◌, ap, subst, if◌then◌else◌, list_all, ServerNo, Outside, Event, TooManyArmed, EpochsUsedUp, Text, Line, Pick, Sent, World, Step, after, run, Act, Does, Refuses, Tells, Shows, steps_in, told_in, is_aside, plain, plain-append, plain-none, Setup, Chance, Use, Calls, Reads, Recovers, Deed, is_used_up, acted, outside_texts, own_texts, message_texts, traced, texts_of, lines_at, may_tell, Adds, adds, behind, Cleans, allowed, prints_found, Printed, Left}
+use Rattle.jn_machine_refines.proofs.Common.{◌≡◌, ℕ, ◌+◌, Bool, true, false, List, [], ◌∷◌, ◌++◌, append-nil, append_assoc, length, drop, map, Option, Some, None, refl, sym, ◌∙◌, ap, subst, if◌then◌else◌, list_all, ServerNo, Outside, Event, TooManyArmed, EpochsUsedUp, Text, Line, Pick, Sent, World, Step, after, run, Act, Does, Refuses, Tells, Shows, steps_in, told_in, is_aside, plain, plain-append, plain-none, Setup, Chance, Use, Calls, Reads, Recovers, Deed, is_used_up, acted, outside_texts, own_texts, message_texts, traced, texts_of, lines_at, may_tell, Adds, adds, behind, Cleans, allowed, prints_found, Printed, Left, reported, newly_sent}
 use Rattle.std.proofs.Math.Seq.{drop-append_seam}
 use Rattle.jn_base.specs.declared.names.Party.{Party}
 use Rattle.jn_base.specs.declared.device.FaultKind.TheVariants as faults
@@ -36,7 +36,7 @@ abbrev pub acts_of : Chance → Deed → List Act → List Act
 acts_of h deed more = outside_acts deed.device h.told ++ all_done deed.steps ++ more
 
 abbrev pub acts_by : Setup → Chance → Event → World → List Act
-acts_by x h event w = acts_of h (acted x h event w) (besides h event w)
+acts_by x h event w = acts_of h (acted x h event w.clients w) (besides h event w)
 
 -- ---- how lines grow
 
@@ -160,6 +160,7 @@ pub plain-lines-join : (w : When) (a b : List Text) → plain (lines_at w (a ++ 
 plain-lines-join w a b = ap plain (lines-join w a b) ∙ plain-append (lines_at w a) (lines_at w b)
 
 -- a step's lines, but for its messages
-pub plain-texts : (x : Setup) (h : Chance) (deed : Deed) (w now : World) (when : When) → plain (lines_at when (texts_of x h deed w now)) ≡ plain (lines_at when (texts_by h deed w now))
-plain-texts x h deed w now when = plain-lines-join when (texts_by h deed w now) _
+pub plain-texts : (x : Setup) (h : Chance) (deed : Deed) (w now : World) → reported deed.said (own_texts w now) ≡ own_texts w now → (when : When) → plain (lines_at when (texts_of x h deed w now)) ≡ plain (lines_at when (texts_by h deed w now))
+plain-texts x h deed w now says when = ap (λ (own : List Text). plain (lines_at when (outside_texts deed.device h.told ++ own ++ deed.texts ++ traced x.trace (message_texts deed.actor (length w.sent) (newly_sent w now))))) says
+    ∙ plain-lines-join when (texts_by h deed w now) _
     ∙ ap (λ (ls : List Line). plain (lines_at when (texts_by h deed w now)) ++ ls) (traced-none when x.trace deed.actor _ _) ∙ append-nil _

@@ -3,7 +3,6 @@ use Rattle.jn_machine_refines.proofs.Common.{◌≡◌, ◌≢◌, ◌⊎◌, in
 use Rattle.jn_base.specs.declared.device.FaultKind.TheVariants as faults
 use Rattle.jn_report.specs.declared.line.Text.TheVariants as says
 use Rattle.jn_schedule.specs.declared.Event.TheVariants as events
-use Rattle.jn_serial.specs.Caused.{is_stop as stops_server}
 use Rattle.jn_machine_refines.proofs.Strikes.{any, is_harmless, same-server, Strikes, unstruck, none-strike, fault-strikes}
 use Rattle.jn_machine_refines.proofs.Standing.{Stands, alone-stands}
 
@@ -130,9 +129,6 @@ module _ (n : ℕ) (q : ServerNo) (l : q.0 < n) (w : World) (ds es : Devices) (x
   decay-befell p true d = record { struck = tt; stands = becomes-stands d.becomes; number = refl }
   decay-befell p false d = decay-told (record { kind = faults.Decay p; page = p }) (becomes-stands d.becomes)
 
-  same-stop : (kind : FaultKind) → stops_server kind ≡ is_stop kind
-  same-stop kind = grind arith
-
   count-end : (f : FaultKind → Bool) (ws : List Armed) (one : Armed) → count_kind f (ws ++ one ∷ []) ≡ count_kind f ws + (if f one.kind then 1 else 0)
   count-end f [] one = zero-end (if f one.kind then 1 else 0)
     where
@@ -174,9 +170,9 @@ module _ (n : ℕ) (q : ServerNo) (l : q.0 < n) (w : World) (ds es : Devices) (x
       stop-off false s e = refl
 
       stand : Stands n w es (armed q kind x)
-      stand = with-waiting (armed q kind x) (λ s e. stop-off (stops_server kind) s e) (λ s e. more-off x.faults s e)
+      stand = with-waiting (armed q kind x) (λ s e. stop-off (is_stop kind) s e) (λ s e. more-off x.faults s e)
           (ap (λ (d : DeviceState). d.power) a.armed) (ap (λ (d : DeviceState). d.told) a.armed)
-          (sum _ _ _ _ _ (ap (count_kind is_stop) waiting ∙ count-end is_stop (ds q).waiting one) (h.stops q l) (stop-more (stops_server kind) ∙ ap (λ (b : Bool). x.stops q + (if b then 1 else 0)) (same-stop kind)))
+          (sum _ _ _ _ _ (ap (count_kind is_stop) waiting ∙ count-end is_stop (ds q).waiting one) (h.stops q l) (stop-more (is_stop kind)))
           (sum _ _ _ _ _ (ap (count_kind any) waiting ∙ count-end any (ds q).waiting one) (h.faults q l) (more-on x.faults))
   arm-befell k kind false a = record { struck = (tt, tt); stands = same-waiting x (λ s. refl) (λ s. refl) (ap (λ (d : DeviceState). d.power) a.armed) (ap (λ (d : DeviceState). d.told) a.armed) (ap (λ (d : DeviceState). d.waiting) a.armed); number = refl }
 

@@ -1,5 +1,5 @@
 -- An event begins, and then it is refused or done.
-use Rattle.jn_machine_refines.proofs.Common.{◌≡◌, ◌⊎◌, inl, inr, ◌<◌, ℕ, Bool, true, false, List, [], ◌∷◌, ◌++◌, append-nil, drop, length, Option, Some, None, refl, sym, ◌∙◌, ap, subst, nat_lt, slice_get, is_some, ServerNo, Server, Message, AllFiles, Event, EventRefusal, Line, Text, RowOutcome, Sent, Pick, stable, Room, server_step, World, Memory, opening, NextEvent, run, after, work, works, Item, Act, Does, Refuses, Waiting, IsUnder, IsShown, AreStruck, steps_in, world_of, with_event, strike_all, told_in, at_event, lines_of, none_wait, plain, is_show, plain-append, sent-near, Setup, Chance, Task, Begins, Meets, Rests, State, Deed, nobody, no_room, plain_deed, stopped_idle, tells, refusal_of, settling, acted, met, go_on, most_messages, is_too_much, come_to, cut_short, made, own_texts, IsUsed, Befalls, Moment, DoesStep, behind, Left, whole_only}
+use Rattle.jn_machine_refines.proofs.Common.{◌≡◌, ◌⊎◌, inl, inr, ◌<◌, ℕ, Bool, true, false, List, [], ◌∷◌, ◌++◌, append-nil, drop, length, Option, Some, None, refl, sym, ◌∙◌, ap, subst, nat_lt, slice_get, is_some, ServerNo, Server, Message, AllFiles, Event, EventRefusal, Line, Text, RowOutcome, Sent, Pick, stable, Room, server_step, World, Memory, opening, NextEvent, run, after, work, works, Item, Act, Does, Refuses, Waiting, IsUnder, IsShown, AreStruck, steps_in, world_of, with_event, strike_all, told_in, at_event, lines_of, none_wait, plain, is_show, plain-append, sent-near, Setup, Chance, Task, Begins, Meets, Rests, State, Deed, nobody, no_room, plain_deed, stopped_idle, tells, refusal_of, settling, acted, met, go_on, most_messages, is_too_much, come_to, cut_short, made, own_texts, IsUsed, Befalls, Moment, DoesStep, behind, Left, whole_only, reported, HasTables, event-says}
 use Rattle.jn_schedule.specs.declared.Event.TheVariants as events
 use Rattle.jn_report.specs.declared.line.Text.TheVariants as says
 use Rattle.jn_machine_refines.proofs.Behind.{ups-name-none}
@@ -37,8 +37,8 @@ module _ (x : Setup) (files : AllFiles) (epochs : ServerNo → ℕ) (schedule : 
 
   -- ---- an event begins
 
-  pub begin-step : (items : List Item) (e : Event) (rest : List Event) (a b : Moment) → Between x files epochs schedule items (e ∷ rest) a → DoesStep x a b → Held x files epochs schedule b
-  begin-step items e rest a b h d = by (goes-or-cut x n.chance deed before b.state n.state_is)
+  pub begin-step : (items : List Item) (e : Event) (rest : List Event) (a b : Moment) → Between x files epochs schedule items (e ∷ rest) a → HasTables a.state → DoesStep x a b → Held x files epochs schedule b
+  begin-step items e rest a b h has d = by (goes-or-cut x n.chance deed before b.state n.state_is)
     where
       w : World
       w = world_of items start
@@ -50,7 +50,7 @@ module _ (x : Setup) (files : AllFiles) (epochs : ServerNo → ℕ) (schedule : 
       v = behind h.at.ups w
 
       n : Next x (Begins e) a b
-      n = does-next x (Begins e) (left x files epochs schedule rest) a b d h.at.stage h.tasks
+      n = does-next x (Begins e) (left x files epochs schedule rest) a b has d h.at.stage h.tasks
 
       deed : Deed
       deed = record (plain_deed nobody (NextEvent ∷ [])) { tasks = Meets e ∷ [] }
@@ -82,7 +82,7 @@ module _ (x : Setup) (files : AllFiles) (epochs : ServerNo → ℕ) (schedule : 
 
       by : ((b.state ≡ cut_short before) × (is_too_much deed (go_on deed.steps before.course) ≡ true)) ⊎ ((b.state ≡ come_to x n.chance deed (go_on deed.steps before.course) before) × (is_too_much deed (go_on deed.steps before.course) ≡ false)) → Held x files epochs schedule b
       by (inl k) = cut (record { part = between-part x files epochs schedule items (e ∷ rest) a b h (ap (λ (s : State). s.lines) k.0) (ap (λ (s : State). s.course.world) k.0); cut = ap (λ (s : State). s.stage) k.0 })
-      by (inr k) = meeting items e rest (meets (goes-on x a b w z z h.at n.chance deed acts (drop 1 a.state.tasks) refl refl befalls stands k.0 k.1))
+      by (inr k) = meeting items e rest (meets (goes-on x a b w z z h.at n.chance deed acts (drop 1 a.state.tasks) refl refl befalls stands refl k.0 k.1))
 
   -- ---- an event is refused or done
 
@@ -101,7 +101,7 @@ module _ (x : Setup) (files : AllFiles) (epochs : ServerNo → ℕ) (schedule : 
 
     module _ (chance : Chance) (deed : Deed) (acts : List Act) (does : steps_in acts ≡ deed.steps) (tells : told_in acts v ≡ texts_by chance deed v (run deed.steps v))
         (befalls : Befalls x chance deed v a.devices b.devices) (befell : Befell x.servers e (texts_by chance deed v (run deed.steps v)) v (run deed.steps v) b.devices z)
-        (under : IsUnder e acts) (shown : IsShown e v acts) (tasks : (deed.tasks ≡ []) ⊎ ((e ≡ events.Settle) × (deed.tasks ≡ settling x))) (quiet : is_show e ≡ true → is_too_much deed (go_on deed.steps a.state.course) ≡ false) where
+        (says : reported deed.said (own_texts v (run deed.steps v)) ≡ own_texts v (run deed.steps v)) (under : IsUnder e acts) (shown : IsShown e v acts) (tasks : (deed.tasks ≡ []) ⊎ ((e ≡ events.Settle) × (deed.tasks ≡ settling x))) (quiet : is_show e ≡ true → is_too_much deed (go_on deed.steps a.state.course) ≡ false) where
       abbrev item : Item
       item = record { event = e; acts = acts }
 
@@ -149,7 +149,7 @@ module _ (x : Setup) (files : AllFiles) (epochs : ServerNo → ℕ) (schedule : 
 
           by : ((b.state ≡ cut_short before) × (is_too_much deed (go_on deed.steps before.course) ≡ true)) ⊎ ((b.state ≡ come_to x chance deed (go_on deed.steps before.course) before) × (is_too_much deed (go_on deed.steps before.course) ≡ false)) → Held x files epochs schedule b
           by (inl k) = cut (record { part = meeting-part x files epochs schedule items e rest a b h (ap (λ (s : State). s.lines) k.0) (ap (λ (s : State). s.course.world) k.0) (λ cut. unshown (is_show e) refl k.1); cut = ap (λ (s : State). s.stage) k.0 })
-          by (inr k) = over deed.tasks (amid (goes-on x a b w z y h.at chance deed acts (drop 1 a.state.tasks) does tells befalls stands k.0 k.1)) tasks
+          by (inr k) = over deed.tasks (amid (goes-on x a b w z y h.at chance deed acts (drop 1 a.state.tasks) does tells befalls stands says k.0 k.1)) tasks
 
     near : (k : ℕ) (q : ServerNo) (message : Message) → slice_get v.sent k ≡ Some (Server q, message) → q.0 < x.servers
     near k q message k' = sent-near x.servers w h.at.within k q message k'
@@ -160,25 +160,25 @@ module _ (x : Setup) (files : AllFiles) (epochs : ServerNo → ℕ) (schedule : 
     no-own : own_texts v v ≡ []
     no-own = grown-own v v [] (sym (append-nil v.lines))
 
-    done-shown : (event : Event) (chance : Chance) → IsUsed x chance (acted x chance event v).device v (run (acted x chance event v).steps v) a.devices b.devices → IsShown event v (acts_by x chance event v)
+    done-shown : (event : Event) (chance : Chance) → IsUsed x chance (acted x chance event v.clients v).device v (run (acted x chance event v.clients v).steps v) a.devices b.devices → IsShown event v (acts_by x chance event v)
     done-shown (events.Show q) chance used = shown-acts (x.counts q) q v chance (a.devices q) (b.devices q) used.its
     done-shown event chance used = tt
 
     -- a show sends nothing
-    show-quiet : (event : Event) (chance : Chance) → is_show event ≡ true → is_too_much (acted x chance event v) (go_on (acted x chance event v).steps a.state.course) ≡ false
+    show-quiet : (event : Event) (chance : Chance) → is_show event ≡ true → is_too_much (acted x chance event v.clients v) (go_on (acted x chance event v.clients v).steps a.state.course) ≡ false
     show-quiet (events.Show q) chance k = ap (λ (u : World). nat_lt most_messages (length u.sent)) (go-world (stopped_idle q chance.stop) a.state.course)
         ∙ ap (λ (sent : List Sent). nat_lt most_messages (length sent)) (idle-sent q chance.stop a.state.course.world) ∙ h.at.few
     show-quiet event chance k = absurd (cc k)
 
-    by-cause : (chance : Chance) (o : Option EventRefusal) → refusal_of x v e ≡ o → b.state ≡ made x chance (met x chance e v o) before → Befalls x chance (met x chance e v o) v a.devices b.devices → Held x files epochs schedule b
+    by-cause : (chance : Chance) (o : Option EventRefusal) → refusal_of x v e ≡ o → b.state ≡ made x chance (met x chance e v.clients v o) before → Befalls x chance (met x chance e v.clients v o) v a.devices b.devices → Held x files epochs schedule b
     by-cause chance (Some refusal) k is befalls = met-step chance (tells (says.RefusedEvent refusal ∷ [])) (Refuses refusal ∷ []) refl (ap (λ (own : List Text). own ++ says.RefusedEvent refusal ∷ []) (sym no-own)) befalls
-        (refused-befell x chance v a.devices b.devices z st near e refusal befalls.used) (refusal-under x v e refusal k) (refused-shown e refusal v) (inl refl) (λ show. h.at.few) is
-    by-cause chance None k is befalls = met-step chance (acted x chance e v) (acts_by x chance e v) (steps-of-acts chance (acted x chance e v) (besides chance e v) (besides-steps chance e v))
-        (told-of-acts chance (acted x chance e v) (besides chance e v) (besides-told x chance e v) v) befalls
-        (acted-befell x chance v a.devices b.devices z st near e (is-ready x v e k) befalls.used) (acts-under x chance e v) (done-shown e chance befalls.used) (acted-tasks x chance e v) (show-quiet e chance) is
+        (refused-befell x chance v a.devices b.devices z st near e refusal befalls.used) refl (refusal-under x v e refusal k) (refused-shown e refusal v) (inl refl) (λ show. h.at.few) is
+    by-cause chance None k is befalls = met-step chance (acted x chance e v.clients v) (acts_by x chance e v) (steps-of-acts chance (acted x chance e v.clients v) (besides chance e v) (besides-steps chance e v))
+        (told-of-acts chance (acted x chance e v.clients v) (besides chance e v) (besides-told x chance e v) v) befalls
+        (acted-befell x chance v a.devices b.devices z st near e (is-ready x v e k) befalls.used) (event-says x chance e v) (acts-under x chance e v) (done-shown e chance befalls.used) (acted-tasks x chance e v) (show-quiet e chance) is
 
-    pub meet-step : DoesStep x a b → Held x files epochs schedule b
-    meet-step d = let n = does-next x (Meets e) (left x files epochs schedule rest) a b d h.at.stage h.tasks in
+    pub meet-step : HasTables a.state → DoesStep x a b → Held x files epochs schedule b
+    meet-step has d = let n = does-next x (Meets e) (left x files epochs schedule rest) a b has d h.at.stage h.tasks in
         by-cause n.chance (refusal_of x v e) refl
-        (subst (λ (u : World). b.state ≡ made x n.chance (met x n.chance e u (refusal_of x u e)) before) h.at.world n.state_is)
-        (subst (λ (u : World). Befalls x n.chance (met x n.chance e u (refusal_of x u e)) u a.devices b.devices) h.at.world n.befalls)
+        (subst (λ (u : World). b.state ≡ made x n.chance (met x n.chance e u.clients u (refusal_of x u e)) before) h.at.world n.state_is)
+        (subst (λ (u : World). Befalls x n.chance (met x n.chance e u.clients u (refusal_of x u e)) u a.devices b.devices) h.at.world n.befalls)

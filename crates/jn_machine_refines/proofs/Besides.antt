@@ -14,10 +14,11 @@ is_settling task = false
 
 -- ---- what an event reports besides
 
-pub besides-told : (x : Setup) (h : Chance) (event : Event) (w u : World) → told_in (besides h event w) u ≡ (acted x h event w).texts
+pub besides-told : (x : Setup) (h : Chance) (event : Event) (w u : World) → told_in (besides h event w) u ≡ (acted x h event w.clients w).texts
 besides-told x h (events.Command c command) w u = refl
+besides-told x h (events.Call c s call) w u = refl
 besides-told x h (events.Again c) w u = refl
-besides-told x h (events.Deliver k) w u = sym (delivers h k w (slice_get w.sent k))
+besides-told x h (events.Deliver k) w u = sym (delivers h k w.clients w (slice_get w.sent k))
 besides-told x h events.Settle w u = refl
 besides-told x h (events.Step q) w u = sym (works h q w)
 besides-told x h (events.Nudge q) w u = refl
@@ -47,8 +48,9 @@ besides-told x h (events.Show q) w u = by h.stop
     by (Some made) = refl
 
 -- a settle alone leaves something to be done
-pub acted-tasks : (x : Setup) (h : Chance) (event : Event) (w : World) → ((acted x h event w).tasks ≡ []) ⊎ ((event ≡ events.Settle) × ((acted x h event w).tasks ≡ settling x))
+pub acted-tasks : (x : Setup) (h : Chance) (event : Event) (w : World) → ((acted x h event w.clients w).tasks ≡ []) ⊎ ((event ≡ events.Settle) × ((acted x h event w.clients w).tasks ≡ settling x))
 acted-tasks x h (events.Command c command) w = inl refl
+acted-tasks x h (events.Call c s call) w = inl refl
 acted-tasks x h (events.Again c) w = inl refl
 acted-tasks x h (events.Deliver k) w = inl (by (slice_get w.sent k))
   where
@@ -56,7 +58,7 @@ acted-tasks x h (events.Deliver k) w = inl (by (slice_get w.sent k))
     at q None = refl
     at q (Some m) = refl
 
-    by : (o : Option Sent) → (delivered h k w o).tasks ≡ []
+    by : (o : Option Sent) → (delivered h k w.clients w o).tasks ≡ []
     by None = refl
     by (Some (Client c, message)) = refl
     by (Some (Server q, message)) = at q (w.memory q)

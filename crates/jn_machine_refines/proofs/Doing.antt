@@ -114,8 +114,8 @@ module _ (x : Setup) (h : Chance) (w : World) (ds es : Devices) (z : Waiting) (s
     to-server k q message e (Some m) up used = let now = run (delivered_at h k q (Some m)).steps w in let t = delivery-turns w q (same-server q) m up k message (room h q) h.stop e in let l = near k q message e in
         turned q l now used.others (call-spends _ h (is_some (now.memory q)) (ds q) (es q) used.its.called (st.power q m l up) (st.told q l)) [] refl h.stop refl t
 
-    delivers : (k : ℕ) (o : Option Sent) → slice_get w.sent k ≡ o → IsUsed x h (delivered h k w o).device w (run (delivered h k w o).steps w) ds es
-        → JustBefell x.servers (texts_by h (delivered h k w o) w (run (delivered h k w o).steps w)) w (run (delivered h k w o).steps w) es z
+    delivers : (k : ℕ) (o : Option Sent) → slice_get w.sent k ≡ o → IsUsed x h (delivered h k w.clients w o).device w (run (delivered h k w.clients w o).steps w) ds es
+        → JustBefell x.servers (texts_by h (delivered h k w.clients w o) w (run (delivered h k w.clients w o).steps w)) w (run (delivered h k w.clients w o).steps w) es z
     delivers k None e used = calm w stays used
     delivers k (Some (Client c, message)) e used = calm (after (Deliver k no_room) w) (calm-by (after (Deliver k no_room) w) is_of_delivery delivery-harmless (adds w (Deliver k no_room)) (same-up (after (Deliver k no_room) w) same)) used
       where
@@ -195,9 +195,10 @@ module _ (x : Setup) (h : Chance) (w : World) (ds es : Devices) (z : Waiting) (s
       number = b.number;
     }
 
-    pub acted-befell : (event : Event) → IsReady x.servers w event → IsUsed x h (acted x h event w).device w (run (acted x h event w).steps w) ds es
-        → Befell x.servers event (texts_by h (acted x h event w) w (run (acted x h event w).steps w)) w (run (acted x h event w).steps w) es z
+    pub acted-befell : (event : Event) → IsReady x.servers w event → IsUsed x h (acted x h event w.clients w).device w (run (acted x h event w.clients w).steps w) ds es
+        → Befell x.servers event (texts_by h (acted x h event w.clients w) w (run (acted x h event w.clients w).steps w)) w (run (acted x h event w.clients w).steps w) es z
     acted-befell (events.Command c command) r used = as-event _ _ _ refl (calm (after (Tell c command) w) (tells-calm c command) used)
+    acted-befell (events.Call c s call) r used = as-event _ _ _ refl (calm w stays used)
     acted-befell (events.Again c) r used = as-event _ _ _ refl (calm (after (Again c) w) (again-calm c) used)
     acted-befell (events.Deliver k) r used = as-event _ _ _ refl (delivers k (slice_get w.sent k) refl used)
     acted-befell events.Settle r used = as-event _ _ _ refl (calm w stays used)

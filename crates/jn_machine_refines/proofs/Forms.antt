@@ -1,5 +1,5 @@
 -- Where a run under its schedule stands: between two events, with one that has begun, or within a settle.
-use Rattle.jn_machine_refines.proofs.Common.{◌≡◌, ◌<◌, ℕ, Bool, ◌+◌, true, false, List, [], ◌∷◌, ◌++◌, append-nil, append_assoc, length, map, refl, sym, ◌∙◌, ap, subst, arith, ◌||◌, list_all, list_any, ServerNo, AllFiles, Event, World, opening, NextEvent, after, run, Text, Item, Act, Waiting, IsReported, events_of, world_of, after_item, waiting_in, strike_all, told_under, lines_of, none_wait, plain, is_show, Setup, Task, Begins, Meets, CutShort, ending, is_up, Moment, behind, IsAsIn, IsToldBy, IsRetold, IsRetoldInPart}
+use Rattle.jn_machine_refines.proofs.Common.{◌≡◌, ◌<◌, ℕ, Bool, ◌+◌, true, false, List, [], ◌∷◌, ◌++◌, append-nil, append_assoc, length, map, refl, sym, ◌∙◌, ap, subst, arith, ◌||◌, list_all, list_any, ServerNo, AllFiles, Event, World, opening, NextEvent, after, run, Text, Item, Act, Waiting, IsReported, events_of, world_of, after_item, waiting_in, strike_all, told_under, lines_of, none_wait, plain, is_show, Setup, Task, Begins, Meets, CutShort, ending, is_up, Moment, behind, IsAsIn, IsToldBy, IsRetold, IsRetoldInPart, HasTables}
 use Rattle.jn_schedule.specs.declared.Event.TheVariants as events
 use Rattle.jn_machine_refines.proofs.Items.{waits_after, IsNext, one_more, reported-more, world-more, waits-more, events-more, length-more}
 use Rattle.jn_machine_refines.proofs.Besides.{is_settling}
@@ -126,12 +126,13 @@ module _ (x : Setup) (files : AllFiles) (epochs : ServerNo → ℕ) (schedule : 
 
   -- ---- the end begins
 
-  pub told-by : (items : List Item) (m : Moment) → Between items [] m → IsToldBy x files epochs items m
-  told-by items m h = record {
+  pub told-by : (items : List Item) (m : Moment) → Between items [] m → HasTables m.state → IsToldBy x files epochs items m
+  told-by items m h has = record {
     reported = h.reported;
     ups = h.at.ups;
     are_up = h.at.are_up;
     world = h.at.world;
+    tables = has;
     lines = h.lines;
     well = record { power = λ q memory l up. h.at.stands.power q memory l (sym (ap (λ (w : World). w.memory q) h.at.world) ∙ up); told = h.at.stands.told };
   }

@@ -1,5 +1,6 @@
 -- Where a run under its schedule stands, and how a step of it goes on.
-use Rattle.jn_machine_refines.proofs.Common.{◌≡◌, ◌⊎◌, inl, inr, Bool, true, false, List, [], ◌∷◌, ◌++◌, length, Some, refl, sym, ◌∙◌, ap, subst, arith, ◌||◌, nat_lt, if◌then◌else◌, list_all, AtEvent, Line, Text, World, commits_in, Step, IsRun, run, Course, go, go_on, Act, Waiting, steps_in, told_in, at_event, plain, plain-append, run-within, Setup, Chance, Task, Stage, InSchedule, State, when_at, when_of, next_at, begun, Deed, deed_of, texts_of, lines_at, most_messages, is_too_much, come_to, cut_short, made, Devices, Befalls, is_up, Moment, DoesStep, behind}
+use Rattle.jn_machine_refines.proofs.Common.{◌≡◌, ◌⊎◌, inl, inr, Bool, true, false, List, [], ◌∷◌, ◌++◌, length, Some, refl, sym, ◌∙◌, ap, subst, arith, ◌||◌, nat_lt, if◌then◌else◌, list_all, AtEvent, Line, Text, World, commits_in, Step, IsRun, run, Course, go, go_on, Act, Waiting, steps_in, told_in, at_event, plain, plain-append, run-within, Setup, Chance, Task, Stage, InSchedule, State, when_at, when_of, next_at, begun, Deed, deed_of, texts_of, lines_at, most_messages, is_too_much, come_to, cut_short, made, Devices, Befalls, is_up, Moment, DoesStep, behind, ClientNo, own_texts, reported, HasTables}
+use Rattle.jn_rows.specs.Client.{ClientTable}
 use Rattle.jn_row_ranges.specs.Within.{Within}
 use Rattle.jn_machine_refines.proofs.Behind.{ups-name-none, run-behind}
 use Rattle.jn_machine_refines.proofs.Acts.{texts_by, plain-texts}
@@ -8,19 +9,25 @@ use Rattle.jn_machine_refines.proofs.Standing.{Stands}
 
 -- ---- the next task
 
+-- with the system's tables of the clients
+abbrev pub as_systems : State → State
+as_systems s = record s { clients = s.course.world.clients }
+
 pub record Next (x : Setup) (task : Task) (a b : Moment) : Type 0 where
   pub chance : Chance
-  pub state_is : b.state ≡ made x chance (deed_of x chance task a.state) (begun task a.state)
-  pub befalls : Befalls x chance (deed_of x chance task a.state) a.state.course.world a.devices b.devices
+  pub state_is : b.state ≡ made x chance (deed_of x chance task (as_systems a.state)) (begun task a.state)
+  pub befalls : Befalls x chance (deed_of x chance task (as_systems a.state)) a.state.course.world a.devices b.devices
 
 its-task : (stage : Stage) (tasks ts : List Task) (t task : Task) → stage ≡ InSchedule → tasks ≡ t ∷ ts → next_at stage tasks ≡ Some task → task ≡ t
 its-task stage tasks ts t task e k h = cc (h, e, k)
 
-pub does-next : (x : Setup) (t : Task) (ts : List Task) (a b : Moment) → DoesStep x a b → a.state.stage ≡ InSchedule → a.state.tasks ≡ t ∷ ts → Next x t a b
-does-next x t ts a b d e k = let same = its-task a.state.stage a.state.tasks ts t d.task e k d.task_is in record {
+pub does-next : (x : Setup) (t : Task) (ts : List Task) (a b : Moment) → HasTables a.state → DoesStep x a b → a.state.stage ≡ InSchedule → a.state.tasks ≡ t ∷ ts → Next x t a b
+does-next x t ts a b has d e k = let same = its-task a.state.stage a.state.tasks ts t d.task e k d.task_is in record {
   chance = d.chance;
-  state_is = subst (λ (task : Task). b.state ≡ made x d.chance (deed_of x d.chance task a.state) (begun task a.state)) same d.state_is;
-  befalls = subst (λ (task : Task). Befalls x d.chance (deed_of x d.chance task a.state) a.state.course.world a.devices b.devices) same d.befalls;
+  state_is = subst (λ (task : Task). b.state ≡ made x d.chance (deed_of x d.chance task (as_systems a.state)) (begun task a.state)) same
+      (subst (λ (f : ClientNo → ClientTable). b.state ≡ made x d.chance (deed_of x d.chance d.task (record a.state { clients = f })) (begun d.task a.state)) has d.state_is);
+  befalls = subst (λ (task : Task). Befalls x d.chance (deed_of x d.chance task (as_systems a.state)) a.state.course.world a.devices b.devices) same
+      (subst (λ (f : ClientNo → ClientTable). Befalls x d.chance (deed_of x d.chance d.task (record a.state { clients = f })) a.state.course.world a.devices b.devices) has d.befalls);
 }
 
 -- either it goes on, or too many messages would be sent
@@ -78,15 +85,17 @@ module _ (x : Setup) where
     before = record a.state { tasks = ts }
 
     -- the lines of the step
-    told : plain (lines_at (when_of before) (texts_of x h deed a.state.course.world (go_on deed.steps a.state.course).world)) ≡ plain (at_event w.event (told_in acts w))
-    told = ap (λ (now : World). plain (lines_at (when_of before) (texts_of x h deed a.state.course.world now))) (go-world deed.steps a.state.course)
+    told : reported deed.said (own_texts (behind at.ups w) (run deed.steps (behind at.ups w))) ≡ own_texts (behind at.ups w) (run deed.steps (behind at.ups w))
+        → plain (lines_at (when_of before) (texts_of x h deed a.state.course.world (go_on deed.steps a.state.course).world)) ≡ plain (at_event w.event (told_in acts w))
+    told says = ap (λ (now : World). plain (lines_at (when_of before) (texts_of x h deed a.state.course.world now))) (go-world deed.steps a.state.course)
         ∙ ap (λ (v : World). plain (lines_at (when_at a.state.stage v.event) (texts_of x h deed v (run deed.steps v)))) at.world
         ∙ ap (λ (stage : Stage). plain (lines_at (when_at stage w.event) (texts_of x h deed (behind at.ups w) (run deed.steps (behind at.ups w))))) at.stage
-        ∙ plain-texts x h deed (behind at.ups w) (run deed.steps (behind at.ups w)) (AtEvent w.event)
+        ∙ plain-texts x h deed (behind at.ups w) (run deed.steps (behind at.ups w)) says (AtEvent w.event)
         ∙ ap (λ (texts : List Text). plain (lines_at (AtEvent w.event) texts)) (sym tells ∙ told-behind at.ups mute acts w)
 
-    pub goes-on : b.state ≡ come_to x h deed (go_on deed.steps before.course) before → is_too_much deed (go_on deed.steps before.course) ≡ false → Goes a w y (steps_in acts) (told_in acts w) (deed.tasks ++ ts) b
-    goes-on e fits = record {
+    pub goes-on : reported deed.said (own_texts (behind at.ups w) (run deed.steps (behind at.ups w))) ≡ own_texts (behind at.ups w) (run deed.steps (behind at.ups w))
+        → b.state ≡ come_to x h deed (go_on deed.steps before.course) before → is_too_much deed (go_on deed.steps before.course) ≡ false → Goes a w y (steps_in acts) (told_in acts w) (deed.tasks ++ ts) b
+    goes-on says e fits = record {
       at = record {
         ups = at.ups;
         are_up = at.are_up;
@@ -97,7 +106,7 @@ module _ (x : Setup) where
         few = ap (λ (s : State). nat_lt most_messages (length s.course.world.sent)) e ∙ neither deed.cuts (nat_lt most_messages (length (go_on deed.steps a.state.course).world.sent)) fits;
       };
       may = subst (λ (steps : List Step). IsRun steps w) (sym does) (may-run at.ups mute deed.steps w befalls.steps);
-      lines = ap (λ (s : State). plain s.lines) e ∙ plain-append a.state.lines _ ∙ ap (λ (ls : List Line). plain a.state.lines ++ ls) told;
+      lines = ap (λ (s : State). plain s.lines) e ∙ plain-append a.state.lines _ ∙ ap (λ (ls : List Line). plain a.state.lines ++ ls) (told says);
       tasks_are = ap (λ (s : State). s.tasks) e;
     }
       where

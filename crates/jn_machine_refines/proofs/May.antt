@@ -34,7 +34,7 @@ module _ (test : Act → Bool) where
       at-may q None = both _ true (handed (room h q)) refl
       at-may q (Some m) = parts h (delivered_at h k q (Some m)) [] (told-may q h.told (tells q)) (both _ true (handing-may (room h q) h.stop) refl) refl
 
-      pub delivered-may : (o : Option Sent) → list_all test (acts_of h (delivered h k w o) []) ≡ true
+      pub delivered-may : (o : Option Sent) → list_all test (acts_of h (delivered h k w.clients w o) []) ≡ true
       delivered-may None = refl
       delivered-may (Some (Client c, message)) = both _ true (handed no_room) refl
       delivered-may (Some (Server q, message)) = at-may q (w.memory q)
@@ -88,6 +88,7 @@ same-tid T = grind (arith, nat_tests)
 
 pub acts-under : (x : Setup) (h : Chance) (event : Event) (w : World) → IsUnder event (acts_by x h event w)
 acts-under x h (events.Command c command) w = refl
+acts-under x h (events.Call c s call) w = refl
 acts-under x h (events.Again c) w = both _ true (same-client c) refl
 acts-under x h (events.Deliver k) w = delivered-may (may_act (events.Deliver k)) h w k (λ r. same-number k) (λ r made. same-number k) (λ q fault. refl) (slice_get w.sent k)
 acts-under x h events.Settle w = refl

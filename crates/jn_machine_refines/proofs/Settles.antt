@@ -1,5 +1,5 @@
 -- A step of a settle.
-use Rattle.jn_machine_refines.proofs.Common.{◌≡◌, ◌⊎◌, inl, inr, ◌<◌, ℕ, zero, suc, ◌+◌, Bool, true, false, List, [], ◌∷◌, ◌++◌, append-nil, append_assoc, drop, Option, Some, None, refl, sym, ◌∙◌, ap, subst, arith, ◌&&◌, if◌then◌else◌, slice_get, list_all, list_all-append, ServerNo, Server, Message, AllFiles, Event, Line, AtEvent, Text, World, opening, servers_from, Step, NextEvent, IsRun, run, after, go_on, Item, Act, Waiting, AreStruck, may_act, steps_in, world_of, after_item, strike_all, told_in, at_event, lines_of, none_wait, plain, plain-append, sent-near, Setup, Chance, Task, Acts, Rests, State, Deed, nothing, is_busy, servers_of, first_busy, next_event, resting, acted, is_too_much, come_to, cut_short, made, own_texts, Befalls, Moment, DoesStep, behind}
+use Rattle.jn_machine_refines.proofs.Common.{◌≡◌, ◌⊎◌, inl, inr, ◌<◌, ℕ, zero, suc, ◌+◌, Bool, true, false, List, [], ◌∷◌, ◌++◌, append-nil, append_assoc, drop, Option, Some, None, refl, sym, ◌∙◌, ap, subst, arith, ◌&&◌, if◌then◌else◌, slice_get, list_all, list_all-append, ServerNo, Server, Message, AllFiles, Event, Line, AtEvent, Text, World, opening, servers_from, Step, NextEvent, IsRun, run, after, go_on, Item, Act, Waiting, AreStruck, may_act, steps_in, world_of, after_item, strike_all, told_in, at_event, lines_of, none_wait, plain, plain-append, sent-near, Setup, Chance, Task, Acts, Rests, State, Deed, nothing, is_busy, servers_of, first_busy, next_event, resting, acted, is_too_much, come_to, cut_short, made, own_texts, Befalls, Moment, DoesStep, behind, reported, HasTables, event-says}
 use Rattle.jn_schedule.specs.declared.Event.TheVariants as events
 use Rattle.jn_machine_refines.proofs.Behind.{ups-name-none}
 use Rattle.jn_machine_refines.proofs.Items.{waits_after, one_more, run-both, is-run-both, lines-more, steps-join, told-join, strike-join, struck-join}
@@ -68,7 +68,7 @@ module _ (x : Setup) (files : AllFiles) (epochs : ServerNo → ℕ) (schedule : 
 
   module _ (chance : Chance) (deed : Deed) (acts : List Act) (does : steps_in acts ≡ deed.steps) (tells : told_in acts v ≡ texts_by chance deed v (run deed.steps v))
       (befalls : Befalls x chance deed v a.devices b.devices) (befell : JustBefell x.servers (texts_by chance deed v (run deed.steps v)) v (run deed.steps v) b.devices z)
-      (may : list_all (may_act events.Settle) acts ≡ true) (more : list_all is_settling deed.tasks ≡ true) where
+      (says : reported deed.said (own_texts v (run deed.steps v)) ≡ own_texts v (run deed.steps v)) (may : list_all (may_act events.Settle) acts ≡ true) (more : list_all is_settling deed.tasks ≡ true) where
     abbrev item : Item
     item = record { event = events.Settle; acts = done ++ acts }
 
@@ -125,7 +125,7 @@ module _ (x : Setup) (files : AllFiles) (epochs : ServerNo → ℕ) (schedule : 
       where
         by : ((b.state ≡ cut_short before) × (is_too_much deed (go_on deed.steps before.course) ≡ true)) ⊎ ((b.state ≡ come_to x chance deed (go_on deed.steps before.course) before) × (is_too_much deed (go_on deed.steps before.course) ≡ false)) → Held x files epochs schedule b
         by (inl k) = cut (record { part = amid-part x files epochs schedule items (record { event = events.Settle; acts = done }) (task ∷ pending) rest a b h (ap (λ (s : State). s.lines) k.0) (ap (λ (s : State). s.course.world) k.0); cut = ap (λ (s : State). s.stage) k.0 })
-        by (inr k) = over (deed.tasks ++ pending) (amid (goes-on x a b w z y h.at chance deed acts (drop 1 a.state.tasks) does tells befalls stands k.0 k.1))
+        by (inr k) = over (deed.tasks ++ pending) (amid (goes-on x a b w z y h.at chance deed acts (drop 1 a.state.tasks) does tells befalls stands says k.0 k.1))
             (list_all-append is_settling deed.tasks pending ∙ both _ _ more (second-of _ _ are))
 
   near : (k : ℕ) (q : ServerNo) (message : Message) → slice_get v.sent k ≡ Some (Server q, message) → q.0 < x.servers
@@ -134,24 +134,24 @@ module _ (x : Setup) (files : AllFiles) (epochs : ServerNo → ℕ) (schedule : 
   st : Stands x.servers v a.devices z
   st = stands-behind x h.at.ups w a.devices z h.at.stands
 
-  rests : (chance : Chance) (waiting : List ℕ) (busy : Option ServerNo) → ((q : ServerNo) → busy ≡ Some q → q.0 < x.servers) → b.state ≡ made x chance (resting x chance v (next_event waiting busy)) before
-      → Befalls x chance (resting x chance v (next_event waiting busy)) v a.devices b.devices → Held x files epochs schedule b
+  rests : (chance : Chance) (waiting : List ℕ) (busy : Option ServerNo) → ((q : ServerNo) → busy ≡ Some q → q.0 < x.servers) → b.state ≡ made x chance (resting x chance v.clients v (next_event waiting busy)) before
+      → Befalls x chance (resting x chance v.clients v (next_event waiting busy)) v a.devices b.devices → Held x files epochs schedule b
   rests chance (k ∷ waiting) busy there is befalls = let e = acted-befell x chance v a.devices b.devices z st near (events.Deliver k) tt befalls.used in
-      goes chance (record (acted x chance (events.Deliver k) v) { tasks = Rests ∷ [] }) (acts_by x chance (events.Deliver k) v) (steps-of-acts chance (acted x chance (events.Deliver k) v) [] refl)
-      (told-of-acts chance (acted x chance (events.Deliver k) v) [] (besides-told x chance (events.Deliver k) v) v) befalls (record { struck = e.struck; stands = e.stands; number = e.number }) (settle-delivers x chance k v) refl is
+      goes chance (record (acted x chance (events.Deliver k) v.clients v) { tasks = Rests ∷ [] }) (acts_by x chance (events.Deliver k) v) (steps-of-acts chance (acted x chance (events.Deliver k) v.clients v) [] refl)
+      (told-of-acts chance (acted x chance (events.Deliver k) v.clients v) [] (besides-told x chance (events.Deliver k) v) v) befalls (record { struck = e.struck; stands = e.stands; number = e.number }) (event-says x chance (events.Deliver k) v) (settle-delivers x chance k v) refl is
   rests chance [] (Some q) there is befalls = let e = acted-befell x chance v a.devices b.devices z st near (events.Step q) (there q refl) befalls.used in
-      goes chance (record (acted x chance (events.Step q) v) { tasks = Rests ∷ [] }) (acts_by x chance (events.Step q) v) (steps-of-acts chance (acted x chance (events.Step q) v) [] refl)
-      (told-of-acts chance (acted x chance (events.Step q) v) [] (besides-told x chance (events.Step q) v) v) befalls (record { struck = e.struck; stands = e.stands; number = e.number }) (settle-works x chance q v) refl is
+      goes chance (record (acted x chance (events.Step q) v.clients v) { tasks = Rests ∷ [] }) (acts_by x chance (events.Step q) v) (steps-of-acts chance (acted x chance (events.Step q) v.clients v) [] refl)
+      (told-of-acts chance (acted x chance (events.Step q) v.clients v) [] (besides-told x chance (events.Step q) v) v) befalls (record { struck = e.struck; stands = e.stands; number = e.number }) (event-says x chance (events.Step q) v) (settle-works x chance q v) refl is
   rests chance [] None there is befalls = let e = acted-befell x chance v a.devices b.devices z st near events.Settle tt befalls.used in
-      goes chance nothing [] refl (sym (append-nil (own_texts v v) ∙ grown-own v v [] (sym (append-nil v.lines)))) befalls (record { struck = e.struck; stands = e.stands; number = e.number }) refl refl is
+      goes chance nothing [] refl (sym (append-nil (own_texts v v) ∙ grown-own v v [] (sym (append-nil v.lines)))) befalls (record { struck = e.struck; stands = e.stands; number = e.number }) refl refl refl is
 
-  asks : (chance : Chance) (event : Event) → list_all (may_act events.Settle) (acts_by x chance event v) ≡ true → ((acted x chance event v).tasks ≡ []) → b.state ≡ made x chance (acted x chance event v) before
-      → Befalls x chance (acted x chance event v) v a.devices b.devices → JustBefell x.servers (texts_by chance (acted x chance event v) v (run (acted x chance event v).steps v)) v (run (acted x chance event v).steps v) b.devices z
-      → steps_in (acts_by x chance event v) ≡ (acted x chance event v).steps → told_in (acts_by x chance event v) v ≡ texts_by chance (acted x chance event v) v (run (acted x chance event v).steps v) → Held x files epochs schedule b
-  asks chance event may none is befalls just does tells = goes chance (acted x chance event v) (acts_by x chance event v) does tells befalls just may (ap (λ (ts : List Task). list_all is_settling ts) none) is
+  asks : (chance : Chance) (event : Event) → list_all (may_act events.Settle) (acts_by x chance event v) ≡ true → ((acted x chance event v.clients v).tasks ≡ []) → b.state ≡ made x chance (acted x chance event v.clients v) before
+      → Befalls x chance (acted x chance event v.clients v) v a.devices b.devices → JustBefell x.servers (texts_by chance (acted x chance event v.clients v) v (run (acted x chance event v.clients v).steps v)) v (run (acted x chance event v.clients v).steps v) b.devices z
+      → steps_in (acts_by x chance event v) ≡ (acted x chance event v.clients v).steps → told_in (acts_by x chance event v) v ≡ texts_by chance (acted x chance event v.clients v) v (run (acted x chance event v.clients v).steps v) → Held x files epochs schedule b
+  asks chance event may none is befalls just does tells = goes chance (acted x chance event v.clients v) (acts_by x chance event v) does tells befalls just (event-says x chance event v) may (ap (λ (ts : List Task). list_all is_settling ts) none) is
 
-  by-task : (t : Task) → task ≡ t → is_settling t ≡ true → DoesStep x a b → Held x files epochs schedule b
-  by-task t same ok d = go t same ok
+  by-task : (t : Task) → task ≡ t → is_settling t ≡ true → HasTables a.state → DoesStep x a b → Held x files epochs schedule b
+  by-task t same ok has d = go t same ok
     where
       no-more : (m n : ℕ) → m < 0 + n → m < n
       no-more m n l = omega (arith, l)
@@ -160,19 +160,19 @@ module _ (x : Setup) (files : AllFiles) (epochs : ServerNo → ℕ) (schedule : 
       first = h.tasks
 
       go : (t : Task) → task ≡ t → is_settling t ≡ true → Held x files epochs schedule b
-      go Rests k ok = let n = does-next x Rests (pending ++ left x files epochs schedule rest) a b d h.at.stage (subst (λ (t : Task). a.state.tasks ≡ t ∷ (pending ++ left x files epochs schedule rest)) k first) in
+      go Rests k ok = let n = does-next x Rests (pending ++ left x files epochs schedule rest) a b has d h.at.stage (subst (λ (t : Task). a.state.tasks ≡ t ∷ (pending ++ left x files epochs schedule rest)) k first) in
           rests n.chance a.state.course.waiting (first_busy n.chance.rubbish v (servers_of x)) (λ q e. no-more q.0 x.servers (busy-near n.chance.rubbish v 0 x.servers q e))
-          (subst (λ (u : World). b.state ≡ made x n.chance (resting x n.chance u (next_event a.state.course.waiting (first_busy n.chance.rubbish u (servers_of x)))) before) h.at.world n.state_is)
-          (subst (λ (u : World). Befalls x n.chance (resting x n.chance u (next_event a.state.course.waiting (first_busy n.chance.rubbish u (servers_of x)))) u a.devices b.devices) h.at.world n.befalls)
-      go (Acts (events.Again c)) k ok = let n = does-next x (Acts (events.Again c)) (pending ++ left x files epochs schedule rest) a b d h.at.stage (subst (λ (t : Task). a.state.tasks ≡ t ∷ (pending ++ left x files epochs schedule rest)) k first) in
-          let f = subst (λ (u : World). Befalls x n.chance (acted x n.chance (events.Again c) u) u a.devices b.devices) h.at.world n.befalls in
+          (subst (λ (u : World). b.state ≡ made x n.chance (resting x n.chance u.clients u (next_event a.state.course.waiting (first_busy n.chance.rubbish u (servers_of x)))) before) h.at.world n.state_is)
+          (subst (λ (u : World). Befalls x n.chance (resting x n.chance u.clients u (next_event a.state.course.waiting (first_busy n.chance.rubbish u (servers_of x)))) u a.devices b.devices) h.at.world n.befalls)
+      go (Acts (events.Again c)) k ok = let n = does-next x (Acts (events.Again c)) (pending ++ left x files epochs schedule rest) a b has d h.at.stage (subst (λ (t : Task). a.state.tasks ≡ t ∷ (pending ++ left x files epochs schedule rest)) k first) in
+          let f = subst (λ (u : World). Befalls x n.chance (acted x n.chance (events.Again c) u.clients u) u a.devices b.devices) h.at.world n.befalls in
           let e = acted-befell x n.chance v a.devices b.devices z st near (events.Again c) tt f.used in
           asks n.chance (events.Again c) refl refl n.state_is f (record { struck = e.struck; stands = e.stands; number = e.number }) refl refl
-      go (Acts (events.Nudge q)) k ok = let n = does-next x (Acts (events.Nudge q)) (pending ++ left x files epochs schedule rest) a b d h.at.stage (subst (λ (t : Task). a.state.tasks ≡ t ∷ (pending ++ left x files epochs schedule rest)) k first) in
-          let f = subst (λ (u : World). Befalls x n.chance (acted x n.chance (events.Nudge q) u) u a.devices b.devices) h.at.world n.befalls in
+      go (Acts (events.Nudge q)) k ok = let n = does-next x (Acts (events.Nudge q)) (pending ++ left x files epochs schedule rest) a b has d h.at.stage (subst (λ (t : Task). a.state.tasks ≡ t ∷ (pending ++ left x files epochs schedule rest)) k first) in
+          let f = subst (λ (u : World). Befalls x n.chance (acted x n.chance (events.Nudge q) u.clients u) u a.devices b.devices) h.at.world n.befalls in
           let e = acted-befell x n.chance v a.devices b.devices z st near (events.Nudge q) tt f.used in
           asks n.chance (events.Nudge q) refl refl n.state_is f (record { struck = e.struck; stands = e.stands; number = e.number }) refl refl
       go t k ok = absurd (cc ok)
 
-  pub settle-step : DoesStep x a b → Held x files epochs schedule b
-  settle-step d = by-task task refl (first-of _ _ are) d
+  pub settle-step : HasTables a.state → DoesStep x a b → Held x files epochs schedule b
+  settle-step has d = by-task task refl (first-of _ _ are) has d

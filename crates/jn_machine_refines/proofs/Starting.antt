@@ -1,5 +1,5 @@
 -- Until every server has come up.
-use Rattle.jn_machine_refines.proofs.Common.{◌≡◌, ◌⊎◌, inl, inr, ◌≤◌, ◌<◌, ℕ, suc, ◌+◌, Bool, true, false, List, [], ◌∷◌, ◌++◌, append-nil, map, drop, Option, Some, None, refl, sym, ◌∙◌, ap, subst, arith, length, not, ◌&&◌, ◌||◌, if◌then◌else◌, nat_lt, is_some, list_all, list_all-append, nat_tests, ServerNo, Tid, WorkId, Outside, server_eq, tid_eq, work_eq, server_tells, Armed, DeviceState, powered_off, count_kind, is_stop, AllFiles, Event, Line, Text, Pick, World, Memory, new_memory, opening, servers_from, Step, Restart, IsRun, run, after, tid_before, go_on, IsReported, plain, plain-append, opening-within, Setup, Chance, Task, Begins, ComesUp, InSchedule, State, when_at, pick_read, is_used_up, given_up, recovering, recovered, brought_up, ending, is_too_much, most_messages, own_texts, texts_of, lines_at, come_to, cut_short, made, IsRecovery, Befalls, is_up, Moment, DoesStep, nothing-strikes, IsAsIn, IsRetoldInPart, Counts, called-later, works_found, tids_found, Left}
+use Rattle.jn_machine_refines.proofs.Common.{◌≡◌, ◌⊎◌, inl, inr, ◌≤◌, ◌<◌, ℕ, suc, ◌+◌, Bool, true, false, List, [], ◌∷◌, ◌++◌, append-nil, map, drop, Option, Some, None, refl, sym, ◌∙◌, ap, subst, arith, length, not, ◌&&◌, ◌||◌, if◌then◌else◌, nat_lt, is_some, list_all, list_all-append, nat_tests, ServerNo, Tid, WorkId, Outside, server_eq, tid_eq, work_eq, server_tells, Armed, DeviceState, powered_off, count_kind, is_stop, AllFiles, Event, Line, Text, Pick, World, Memory, new_memory, opening, servers_from, Step, Restart, IsRun, run, after, tid_before, go_on, IsReported, plain, plain-append, opening-within, Setup, Chance, Task, Begins, ComesUp, InSchedule, State, when_at, pick_read, is_used_up, given_up, recovering, recovered, brought_up, ending, is_too_much, most_messages, own_texts, texts_of, lines_at, come_to, cut_short, made, IsRecovery, Befalls, is_up, Moment, DoesStep, nothing-strikes, IsAsIn, IsRetoldInPart, Counts, called-later, works_found, tids_found, Left, HasTables}
 use Rattle.jn_locks.specs.Locks.{work_before}
 use Rattle.jn_report.specs.declared.line.Text.TheVariants as says
 use Rattle.jn_machine_refines.proofs.Acts.{texts_by, grown-own, plain-texts}
@@ -197,7 +197,7 @@ module _ (x : Setup) (files : AllFiles) (epochs : ServerNo → ℕ) (schedule : 
           shift k r n e = omega (arith, e)
 
           quiet-lines : plain (lines_at (when_at before.stage a.state.course.world.event) (texts_of x h (recovered h q) a.state.course.world (go_on (recovered h q).steps a.state.course).world)) ≡ []
-          quiet-lines = plain-texts x h (recovered h q) a.state.course.world (go_on (recovered h q).steps a.state.course).world (when_at before.stage a.state.course.world.event)
+          quiet-lines = plain-texts x h (recovered h q) a.state.course.world (go_on (recovered h q).steps a.state.course).world refl (when_at before.stage a.state.course.world.event)
               ∙ ap (λ (w : World). plain (lines_at (when_at before.stage a.state.course.world.event) (texts_by h (recovered h q) a.state.course.world w))) (go-world (recovered h q).steps a.state.course)
               ∙ ap (λ (w : World). plain (lines_at (when_at before.stage w.event) (texts_by h (recovered h q) w (run (recovered h q).steps w)))) s.world
               ∙ ap (λ (texts : List Text). plain (lines_at (when_at before.stage v.event) texts)) one-told
@@ -232,8 +232,8 @@ module _ (x : Setup) (files : AllFiles) (epochs : ServerNo → ℕ) (schedule : 
         by (inl c) = inl (cut (record { part = start-part k a b s.ups s.are_up s.world s.lines (ap (λ (t : State). t.lines) c.0) (ap (λ (t : State). t.course.world) c.0); cut = ap (λ (t : State). t.stage) c.0 }))
         by (inr c) = inr (comes h befalls c.0)
 
-    pub start-step : DoesStep x a b → Here b ⊎ Starts (k + 1) r b
-    start-step d = let n = does-next x (ComesUp q) (map ComesUp (servers_from (k + 1) r) ++ map Begins schedule ++ ending x) a b d s.stage s.tasks in
+    pub start-step : HasTables a.state → DoesStep x a b → Here b ⊎ Starts (k + 1) r b
+    start-step has d = let n = does-next x (ComesUp q) (map ComesUp (servers_from (k + 1) r) ++ map Begins schedule ++ ending x) a b has d s.stage s.tasks in
         by-epoch n.chance (is_used_up n.chance q v) refl
         (subst (λ (u : World). b.state ≡ made x n.chance (brought_up n.chance q u) before) s.world n.state_is)
         (subst (λ (u : World). Befalls x n.chance (brought_up n.chance q u) u a.devices b.devices) s.world n.befalls)

@@ -1,5 +1,5 @@
 -- Every written run is retold.
-use Rattle.jn_machine_refines.proofs.Common.{◌≡◌, ◌⊎◌, inl, inr, ◌≤◌, ◌<◌, ℕ, zero, suc, ◌+◌, List, [], ◌∷◌, append-nil, Some, None, refl, sym, ◌∙◌, ap, subst, arith, AllByRecursion, ServerNo, AllFiles, Event, Item, events_of, Setup, Task, InSchedule, AtEnd, CutShort, Stage, next_at, Devices, none, more, Moment, DoesStep, Leads, before, AreImages, IsWritten, IsRetold, IsRetoldInPart}
+use Rattle.jn_machine_refines.proofs.Common.{◌≡◌, ◌⊎◌, inl, inr, ◌≤◌, ◌<◌, ℕ, zero, suc, ◌+◌, List, [], ◌∷◌, append-nil, Some, None, refl, sym, ◌∙◌, ap, subst, arith, AllByRecursion, ServerNo, AllFiles, Event, Item, events_of, Setup, Task, InSchedule, AtEnd, CutShort, Stage, next_at, Devices, none, more, Moment, DoesStep, Leads, before, AreImages, IsWritten, IsRetold, IsRetoldInPart, HasTables, does-tables}
 use Rattle.jn_schedule.specs.Ranges.{EventInRange}
 use Rattle.jn_machine.proofs.Computed.{join}
 use Rattle.jn_machine_refines.proofs.Forms.{Between, Held, between, meeting, settling, cut, ended, between-part, meeting-part, amid-part, told-by}
@@ -23,13 +23,13 @@ module _ (x : Setup) (few : x.servers ≤ 8) (files : AllFiles) (epochs : Server
       all k n e = omega (arith, e)
   started k (suc r) m s = starting k r s
 
-  end-step : (items : List Item) (a b : Moment) → Between x files last schedule items [] a → DoesStep x a b → IsRetold x schedule files b
-  end-step items a b h d = record {
+  end-step : (items : List Item) (a b : Moment) → Between x files last schedule items [] a → HasTables a.state → DoesStep x a b → IsRetold x schedule files b
+  end-step items a b h has d = record {
     epochs = last;
     items = items;
     events = sym (append-nil (events_of items)) ∙ h.events;
     last = a;
-    told = told-by x files last schedule items a h;
+    told = told-by x files last schedule items a h has;
     stage = h.at.stage;
     tasks = h.tasks;
     leads = more a b b d (none b);
@@ -41,25 +41,25 @@ module _ (x : Setup) (few : x.servers ≤ 8) (files : AllFiles) (epochs : Server
       clash : None ≡ Some task → ⊥
       clash z = cc
 
-  held-step : (a b : Moment) → Held x files last schedule a → DoesStep x a b → Held x files last schedule b
-  held-step a b (between items [] h) d = ended (end-step items a b h d)
-  held-step a b (between items (e ∷ rest) h) d = begin-step x files last schedule items e rest a b h d
-  held-step a b (meeting items e rest h) d = meet-step x files last schedule items e rest a b h d
-  held-step a b (settling items acts task pending rest h are) d = settle-step x files last schedule items acts task pending rest a b h are d
-  held-step a b (cut c) d = absurd (no-next a.state.stage a.state.tasks d.task c.cut d.task_is)
-  held-step a b (ended r) d = ended (record { epochs = r.epochs; items = r.items; events = r.events; last = r.last; told = r.told; stage = r.stage; tasks = r.tasks; leads = join Moment (DoesStep x) r.last a b r.leads (more a b b d (none b)) })
+  held-step : (a b : Moment) → Held x files last schedule a → HasTables a.state → DoesStep x a b → Held x files last schedule b
+  held-step a b (between items [] h) has d = ended (end-step items a b h has d)
+  held-step a b (between items (e ∷ rest) h) has d = begin-step x files last schedule items e rest a b h has d
+  held-step a b (meeting items e rest h) has d = meet-step x files last schedule items e rest a b h has d
+  held-step a b (settling items acts task pending rest h are) has d = settle-step x files last schedule items acts task pending rest a b h are has d
+  held-step a b (cut c) has d = absurd (no-next a.state.stage a.state.tasks d.task c.cut d.task_is)
+  held-step a b (ended r) has d = ended (record { epochs = r.epochs; items = r.items; events = r.events; last = r.last; told = r.told; stage = r.stage; tasks = r.tasks; leads = join Moment (DoesStep x) r.last a b r.leads (more a b b d (none b)) })
 
-  so-step : (a b : Moment) → So a → DoesStep x a b → So b
-  so-step a b (held h) d = held (held-step a b h d)
-  so-step a b (starting k r s) d = by (start-step x files epochs schedule k r a b s d)
+  so-step : (a b : Moment) → So a → HasTables a.state → DoesStep x a b → So b
+  so-step a b (held h) has d = held (held-step a b h has d)
+  so-step a b (starting k r s) has d = by (start-step x files epochs schedule k r a b s has d)
     where
       by : Held x files last schedule b ⊎ Starts x files epochs schedule (k + 1) r b → So b
       by (inl h) = held h
       by (inr t) = started (k + 1) r b t
 
-  so-run : (a b : Moment) → So a → Leads x a b → So b
-  so-run a b s (none m) = s
-  so-run a b s (more u v w d rest) = so-run v b (so-step u v s d) rest
+  so-run : (a b : Moment) → So a → HasTables a.state → Leads x a b → So b
+  so-run a b s has (none m) = s
+  so-run a b s has (more u v w d rest) = so-run v b (so-step u v s has d) (does-tables x u v d has) rest
 
   -- ---- where a run begins
 
@@ -83,7 +83,7 @@ module _ (x : Setup) (few : x.servers ≤ 8) (files : AllFiles) (epochs : Server
       none-below m l = omega (arith, l)
 
   pub so-written : (images : Devices) (now : Moment) → AreImages x files epochs images → Leads x (record { state = before x schedule files epochs; devices = images }) now → So now
-  so-written images now h leads = so-run _ now (started 0 x.servers _ (images-start images h)) leads
+  so-written images now h leads = so-run _ now (started 0 x.servers _ (images-start images h)) refl leads
 
   -- ---- what it comes to
 

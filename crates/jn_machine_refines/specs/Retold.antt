@@ -43,6 +43,8 @@ pub record IsToldBy (x : Setup) (files : AllFiles) (epochs : ServerNo → ℕ) (
   pub ups : List Text
   pub are_up : list_all is_up ups ≡ true
   pub world : m.state.course.world ≡ behind ups (world_of items (opening x.servers files epochs))
+  -- the clients' own tables are the system's
+  pub tables : m.state.clients ≡ m.state.course.world.clients
   pub lines : plain m.state.lines ≡ plain (lines_of items (opening x.servers files epochs))
   pub well : IsWell x m
 

@@ -1,5 +1,6 @@
 // What becomes of one call, and of the page that it is at.
 ghost use Rattle.std.specs.Prelude.{◌≡◌, ◌≤◌, ◌<◌, ◌+◌, ℕ, if◌then◌else◌, not, true, false};
+ghost use Rattle.jn_base.specs.Counts.{bumped};
 ghost use Rattle.jn_device.specs.Calls as calls;
 ghost use Rattle.jn_device.specs.Device as device;
 ghost use Rattle.jn_memdisk.specs.Pages.{page_state};
@@ -107,7 +108,7 @@ pub(crate) fn leave_put(outcome: PutOutcome, page: &Page, half: &mut Half, marks
 
 /// A count rises by one, or stands at its last value.
 pub(crate) fn bumped(n: u64) -> u64
-    ensures { result ≡ device.bumped n }
+    ensures { result ≡ bumped n }
 {
     if n < u64::MAX { n + 1 } else { n }
 }

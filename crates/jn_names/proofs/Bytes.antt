@@ -1,13 +1,14 @@
 -- A bucket's bytes, and its places read from them.
-use Rattle.std.proofs.Common.{◌≡◌, ℕ, zero, suc, ◌+◌, ◌-◌, ◌*◌, ◌≤◌, ◌<◌, ◌^◌, Bool, true, false, List, [], ◌∷◌, ◌++◌, length, take, drop, replicate, Option, Some, None, refl, sym, ◌∙◌, ap, subst, arith, append_assoc, length-append}
-use Rattle.std.specs.Prelude.{⊤, ◌&&◌, slice_set, nat_le}
+use Rattle.std.proofs.Common.{◌≡◌, ℕ, zero, suc, ◌+◌, ◌-◌, ◌*◌, ◌≤◌, ◌<◌, true, List, [], ◌∷◌, ◌++◌, length, take, drop, replicate, Some, None, refl, sym, ◌∙◌, ap, subst, arith, append_assoc, length-append}
+use Rattle.std.specs.Prelude.{⊤, slice_set, nat_le}
 use Rattle.std.specs.List.{list_all}
 use Rattle.std.proofs.lemmas.Bool.Decides.{nat_tests}
 use Rattle.std.proofs.lemmas.List.{append-nil, length-replicate, drop-replicate, replicate-append-replicate}
 use Rattle.std.proofs.Math.Seq.{drop-append_seam, take-append_seam, take-append-add, drop-append-add}
-use Rattle.byteorder.specs.Endian.{big_bytes, big_number}
+use Rattle.byteorder.specs.Endian.{big_bytes}
 use Rattle.jn_names.specs.declared.entry.Entry.{Entry}
-use Rattle.jn_names.specs.Names.{is_letter, is_name, bucket_of}
+use Rattle.jn_base.specs.Names.{is_letter, is_name}
+use Rattle.jn_names.specs.Names.{bucket_of}
 use Rattle.jn_names.specs.Buckets.{Slot, slot_bytes, slots_bytes, find_in, belongs, all_belong}
 use Rattle.jn_names.proofs.Tests.{left, right}
 
@@ -75,10 +76,6 @@ AreLong (slot ∷ slots) = (length (slot_bytes slot) ≡ 69) × AreLong slots
 pub are-long : (k : ℕ) (slots : List Slot) → all_belong k slots ≡ true → AreLong slots
 are-long k [] h = tt
 are-long k (slot ∷ slots) h = (length-slot k slot slots (left _ _ h), are-long k slots (right _ _ h))
-
-pub length-slots : (slots : List Slot) → AreLong slots → length (slots_bytes slots) ≡ 34 + 69 * length slots
-length-slots [] h = length-replicate {A = ℕ} 34 0
-length-slots (slot ∷ slots) h = let e = length-slots slots h.1 in let l = length-append (slot_bytes slot) (slots_bytes slots) in let f : length (slot_bytes slot) ≡ 69 = h.0 in omega (arith, e, l, f)
 
 take-behind : (n m : ℕ) (xs ys : List ℕ) → length xs ≡ n → take (n + m) (xs ++ ys) ≡ xs ++ take m ys
 take-behind n m xs ys e = subst (λ (k : ℕ). take (k + m) (xs ++ ys) ≡ xs ++ take m ys) e (take-append-add xs ys m)

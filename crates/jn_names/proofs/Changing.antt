@@ -1,13 +1,11 @@
 -- How a bucket's block changes.
-use Rattle.std.proofs.Common.{◌≡◌, ℕ, zero, suc, ◌+◌, ◌*◌, ◌<◌, Bool, true, false, List, [], ◌∷◌, ◌++◌, length, take, drop, Option, Some, None, option_map, refl, sym, ◌∙◌, ap, subst, arith}
-use Rattle.std.specs.Prelude.{slice_set, is_some, ⊤}
-use Rattle.jn_base.specs.declared.names.FileNo.{FileNo}
-use Rattle.jn_order.specs.Changes.{or_also}
-use Rattle.jn_names.specs.Buckets.{Slot, slot_bytes, slots_bytes, slots_front, place_of, bound_in, unbound_in}
+use Rattle.std.proofs.Common.{◌≡◌, ℕ, ◌+◌, ◌*◌, ◌<◌, true, false, List, ◌++◌, length, take, drop, Option, Some, None, option_map, refl, sym, ◌∙◌, ap, arith}
+use Rattle.std.specs.Prelude.{slice_set}
+use Rattle.jn_names.specs.Buckets.{Slot, slot_bytes, slots_bytes}
 unfoldable use Rattle.jn_names.specs.Buckets.{places_in, bucket_in, bucket_bytes}
-use Rattle.jn_names.specs.Places.{IsPut, are_named}
+use Rattle.jn_names.specs.Places.{IsPut}
 use Rattle.jn_names.proofs.Bytes.{are-long, slots-set}
-use Rattle.jn_names.proofs.Checking.{Parts, parts}
+use Rattle.jn_names.proofs.Checking.{parts}
 
 pub six-places : (block : List ℕ) → length (places_in block) ≡ 6
 unfolding places_in

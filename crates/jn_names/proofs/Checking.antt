@@ -1,8 +1,9 @@
 -- A block is a bucket exactly where its places are, one after another.
-use Rattle.std.proofs.Common.{◌≡◌, ℕ, zero, suc, ◌+◌, ◌-◌, ◌*◌, ◌≤◌, ◌<◌, Bool, true, false, not, List, [], ◌∷◌, ◌++◌, length, take, drop, replicate, Option, Some, None, refl, sym, ◌∙◌, ap, subst, arith, length-drop}
+use Rattle.std.proofs.Common.{◌≡◌, ℕ, zero, suc, ◌+◌, ◌-◌, ◌*◌, ◌≤◌, ◌<◌, Bool, true, false, not, List, [], ◌++◌, length, take, drop, replicate, Option, Some, None, refl, sym, ◌∙◌, ap, arith, length-drop}
 use Rattle.std.specs.Prelude.{bytes_eq, ◌&&◌, is_some, is_none, nat_eq, if◌then◌else◌}
 use Rattle.jn_base.specs.declared.names.FileNo.{FileNo}
-use Rattle.jn_names.specs.Names.{is_name, bucket_of}
+use Rattle.jn_base.specs.Names.{is_name}
+use Rattle.jn_names.specs.Names.{bucket_of}
 use Rattle.jn_names.specs.Buckets.{Slot, slot_bytes, slots_bytes, slot_front, slots_front, name_in, find_in, belongs, all_belong}
 unfoldable use Rattle.jn_names.specs.Buckets.{bucket_bytes, places_in, bucket_in}
 use Rattle.jn_names.specs.Places.{is_place, is_only_place}

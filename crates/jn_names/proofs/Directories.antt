@@ -1,14 +1,13 @@
 -- A directory of the format as a map, and what a call makes of it.
-use Rattle.std.proofs.Common.{◌≡◌, ℕ, zero, suc, ◌+◌, ◌%◌, ◌≤◌, ◌<◌, ◌^◌, Bool, true, false, List, [], ◌∷◌, ◌++◌, length, Option, Some, None, option_map, Result, Ok, Err, inl, inr, refl, sym, ◌∙◌, ap, subst, arith, eqb-true, eq-eqb}
-use Rattle.std.specs.Prelude.{bytes_eq, ◌&&◌, ◌↔◌, ◌⊎◌, ⊤, nat_eq, is_none, is_some, sum, option_and_then, if◌then◌else◌}
+use Rattle.std.proofs.Common.{◌≡◌, ℕ, zero, suc, ◌+◌, ◌%◌, ◌≤◌, ◌<◌, Bool, true, false, List, [], ◌∷◌, ◌++◌, Option, Some, None, option_map, Result, Ok, Err, inl, inr, refl, sym, ◌∙◌, ap, subst, arith, eqb-true, eq-eqb}
+use Rattle.std.specs.Prelude.{bytes_eq, nat_eq, is_none, is_some, sum, option_and_then, if◌then◌else◌}
 use Rattle.std.proofs.Math.Nat.{mod-lt}
 use Rattle.std.proofs.Math.Path.{fun_ext}
 use Rattle.std.proofs.lemmas.Bool.{cases_Bool}
 use Rattle.jn_base.specs.declared.names.FileNo.{FileNo}
-use Rattle.jn_base.specs.declared.names.BlockNo.{BlockNo}
 use Rattle.jn_base.specs.declared.names.LockUnit.{LockUnit}
 use Rattle.jn_base.specs.declared.names.LockUnit.TheVariants.{File, Block}
-use Rattle.jn_base.specs.Names.{file_eq, block_eq, unit_eq}
+use Rattle.jn_base.specs.Names.{file_eq, block_eq, unit_eq, is_name}
 use Rattle.jn_order.specs.Files.{Files, change, written, or_else}
 unfoldable use Rattle.jn_order.specs.Files.{zeros}
 use Rattle.jn_order.specs.Changes.{or_also}
@@ -16,14 +15,14 @@ use Rattle.jn_names.specs.declared.entry.Entry.{Entry}
 use Rattle.jn_names.specs.declared.next.NameNext.{NameNext}
 use Rattle.jn_names.specs.declared.next.NameNext.TheVariants.{Did, Names, Refused}
 use Rattle.jn_names.specs.declared.next.NameRefusal.TheVariants.{BucketFull, NoName}
-use Rattle.jn_names.specs.Names.{is_name, bucket_of}
+use Rattle.jn_names.specs.Names.{bucket_of}
 unfoldable use Rattle.jn_names.specs.Names.{buckets}
-use Rattle.jn_names.specs.Buckets.{Slot, find_in, belongs, all_belong, IsBucket, place_of}
+use Rattle.jn_names.specs.Buckets.{Slot, find_in, belongs, all_belong, IsBucket}
 unfoldable use Rattle.jn_names.specs.Buckets.{bucket_in, bucket_bytes}
 use Rattle.jn_names.specs.Calls.{bucket_at, entries_of, entries_from, with_bucket}
 use Rattle.jn_names.specs.Maps.{NameMap, file_in, names_of}
 use Rattle.jn_names.proofs.Checking.{parts}
-use Rattle.jn_names.proofs.ReadBack.{bucket-back, bucket-of}
+use Rattle.jn_names.proofs.ReadBack.{bucket-back}
 use Rattle.jn_names.proofs.Listing.{Distinct, file-append}
 use Rattle.jn_names.proofs.Tests.{left, right, eq-true, eq-fails, next-one}
 

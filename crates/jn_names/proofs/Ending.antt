@@ -6,9 +6,10 @@ use Rattle.jn_base.specs.declared.names.FileNo.{FileNo}
 use Rattle.jn_base.specs.declared.op.Answer.{Answer}
 use Rattle.jn_base.specs.declared.op.Answer.TheVariants as answers
 unfoldable use Rattle.jn_order.specs.Files.{zeros}
+use Rattle.jn_order.specs.Answers.{Answered}
 use Rattle.jn_names.specs.declared.entry.Entry.{Entry}
-use Rattle.jn_names.specs.declared.next.NameCommand.{NameCommand}
-use Rattle.jn_names.specs.declared.next.NameCommand.TheVariants as calls
+use Rattle.jn_base.specs.declared.call.NameCommand.{NameCommand}
+use Rattle.jn_base.specs.declared.call.NameCommand.TheVariants as calls
 use Rattle.jn_names.specs.declared.next.NameNext.{NameNext}
 use Rattle.jn_names.specs.declared.turn.Stage.{Stage}
 use Rattle.jn_names.specs.declared.turn.Stage.TheVariants as stages
@@ -19,7 +20,7 @@ unfoldable use Rattle.jn_names.specs.Names.{buckets}
 use Rattle.jn_names.specs.Buckets.{Slot}
 unfoldable use Rattle.jn_names.specs.Buckets.{bucket_in}
 use Rattle.jn_names.specs.Calls.{directory_of, name_of, made_at, entries_of}
-use Rattle.jn_names.specs.Turns.{ask_each, first_turn, write_made, add_each, go_on, turn, Served, GoesOn, writes_of, left_behind, left_from, most_operations, turn_behind, is_over}
+use Rattle.jn_names.specs.Turns.{ask_each, first_turn, write_made, add_each, go_on, turn, GoesOn, writes_of, left_behind, left_from, most_operations, turn_behind, is_over}
 
 one-write : (command : NameCommand) (r : Result (List Slot) NameNext) → left_from command (write_made command r) ≤ 1
 one-write command (Ok slots) = omega arith
@@ -65,7 +66,7 @@ falls command stage (answers.Broken u t) = omega arith
 falls command stage (answers.Lost then' now) = omega arith
 falls command stage answers.Closing = omega arith
 
-begins : (command : NameCommand) → left_from command (first_turn command) ≤ most_operations command
+pub begins : (command : NameCommand) → left_from command (first_turn command) ≤ most_operations command
 unfolding buckets
 begins (calls.Bind d name file) = let z : 1 + 1 ≤ 1 + 1 = omega arith in z
 begins (calls.Unbind d name) = let z : 1 + 1 ≤ 1 + 1 = omega arith in z
@@ -83,7 +84,7 @@ over command (Sends op stage) (a ∷ given) h =
 pub ends : (command : NameCommand) (given : List Answer) → most_operations command ≤ length given → is_over (turn_behind command (first_turn command) given) ≡ true
 ends command given h = let b = begins command in over command (first_turn command) given (omega (arith, b, h))
 
-asked : (command : NameCommand) (t : Turn) (served : List Served) (reply : NameNext) → GoesOn command t served reply → length served ≤ left_from command t
+asked : (command : NameCommand) (t : Turn) (os : List Answered) (reply : NameNext) → GoesOn command t os reply → length os ≤ left_from command t
 asked command (Over last) [] reply h = omega arith
 asked command (Over last) (s ∷ more) reply h = absurd h
 asked command (Sends op stage) [] reply h = absurd h
@@ -92,5 +93,5 @@ asked command (Sends op stage) (s ∷ more) reply h =
     let m = asked command (turn command stage s.answer) more reply h.1 in
     let z : suc (length more) ≤ 1 + left_behind command stage = omega (arith, f, m) in z
 
-pub few : (command : NameCommand) (served : List Served) (reply : NameNext) → GoesOn command (first_turn command) served reply → length served ≤ most_operations command
-few command served reply h = let b = begins command in let a = asked command (first_turn command) served reply h in omega (arith, a, b)
+pub few : (command : NameCommand) (os : List Answered) (reply : NameNext) → GoesOn command (first_turn command) os reply → length os ≤ most_operations command
+few command os reply h = let b = begins command in let a = asked command (first_turn command) os reply h in omega (arith, a, b)

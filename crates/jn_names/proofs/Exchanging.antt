@@ -1,6 +1,6 @@
 -- A call's operations are answered and do what the call is and does.
-use Rattle.std.proofs.Common.{◌≡◌, ℕ, zero, suc, ◌+◌, ◌<◌, Bool, true, false, List, [], ◌∷◌, ◌++◌, Option, Some, None, inl, inr, option_map, Result, Ok, Err, refl, sym, ◌∙◌, ap, subst, arith, append_assoc}
-use Rattle.std.specs.Prelude.{is_some, nat_lt, if◌then◌else◌, option_and_then}
+use Rattle.std.proofs.Common.{◌≡◌, ℕ, zero, suc, ◌+◌, true, false, List, [], ◌∷◌, ◌++◌, Option, Some, None, inl, inr, option_map, Result, Ok, Err, refl, sym, ap, subst, arith, append_assoc}
+use Rattle.std.specs.Prelude.{is_some, nat_lt, option_and_then}
 use Rattle.std.proofs.lemmas.Bool.{cases_Bool}
 use Rattle.std.proofs.lemmas.List.{append-nil}
 use Rattle.jn_base.specs.declared.names.FileNo.{FileNo}
@@ -12,9 +12,10 @@ use Rattle.jn_base.specs.declared.op.Answer.TheVariants.{NoFile}
 use Rattle.jn_order.specs.Files.{Files, change, written, or_else, answer_to, files_after}
 unfoldable use Rattle.jn_order.specs.Files.{zeros}
 use Rattle.jn_order.specs.Changes.{files_then}
+use Rattle.jn_order.specs.Answers.{Answered, ops_of, FilesAnswer}
 use Rattle.jn_names.specs.declared.entry.Entry.{Entry}
-use Rattle.jn_names.specs.declared.next.NameCommand.{NameCommand}
-use Rattle.jn_names.specs.declared.next.NameCommand.TheVariants as calls
+use Rattle.jn_base.specs.declared.call.NameCommand.{NameCommand}
+use Rattle.jn_base.specs.declared.call.NameCommand.TheVariants as calls
 use Rattle.jn_names.specs.declared.next.NameNext.{NameNext}
 use Rattle.jn_names.specs.declared.next.NameNext.TheVariants.{Did, Names, Refused}
 use Rattle.jn_names.specs.declared.next.NameRefusal.TheVariants.{Operation, NotDirectory}
@@ -27,28 +28,28 @@ unfoldable use Rattle.jn_names.specs.Names.{buckets}
 use Rattle.jn_names.specs.Buckets.{Slot}
 unfoldable use Rattle.jn_names.specs.Buckets.{bucket_in, bucket_bytes}
 use Rattle.jn_names.specs.Calls.{directory_of, name_of, bucket_at, made_at, entries_of, entries_from, ascending, listed, replied, reply_at, reply_to, with_bucket, files_after_call}
-use Rattle.jn_names.specs.Turns.{read_bucket, ask_each, first_turn, write_made, add_each, go_on, turn, Served, AreServed, ops_of, GoesOn}
+use Rattle.jn_names.specs.Turns.{read_bucket, ask_each, first_turn, write_made, add_each, go_on, turn, GoesOn}
 use Rattle.jn_names.proofs.Tests.{lt-holds, lt-fails}
 
 -- whatever is asked from this turn on, where the files answer, the call is over with this reply and leaves these files
 pub record Right (command : NameCommand) (t : Turn) (files : Files) (reply : NameNext) (left : Files) : Type 0 where
-  pub each : (served : List Served) (last : NameNext) → AreServed files served → GoesOn command t served last → (last ≡ reply) × (files_then (ops_of served) files ≡ left)
+  pub each : (os : List Answered) (last : NameNext) → FilesAnswer files os → GoesOn command t os last → (last ≡ reply) × (files_then (ops_of os) files ≡ left)
 
 over : (command : NameCommand) (reply : NameNext) (files : Files) → Right command (Over reply) files reply files
 over command reply files = record { each = by }
   where
-    by : (served : List Served) (last : NameNext) → AreServed files served → GoesOn command (Over reply) served last → (last ≡ reply) × (files_then (ops_of served) files ≡ files)
+    by : (os : List Answered) (last : NameNext) → FilesAnswer files os → GoesOn command (Over reply) os last → (last ≡ reply) × (files_then (ops_of os) files ≡ files)
     by [] last a f = (sym f, refl)
     by (s ∷ more) last a f = absurd f
 
 sends : (command : NameCommand) (op : Op) (stage : Stage) (files : Files) (reply : NameNext) (left : Files) → Right command (turn command stage (answer_to op files)) (files_after op files) reply left → Right command (Sends op stage) files reply left
 sends command op stage files reply left h = record { each = by }
   where
-    same : (s : Served) (more : List Served) (last : NameNext) (q : Op) → answer_to q files ≡ s.answer → AreServed (files_after q files) more → GoesOn command (turn command stage s.answer) more last
+    same : (s : Answered) (more : List Answered) (last : NameNext) (q : Op) → answer_to q files ≡ s.answer → FilesAnswer (files_after q files) more → GoesOn command (turn command stage s.answer) more last
         → Right command (turn command stage (answer_to q files)) (files_after q files) reply left → (last ≡ reply) × (files_then (ops_of more) (files_after q files) ≡ left)
     same s more last q a rest f k = k.each more last rest (subst (λ (x : Answer). GoesOn command (turn command stage x) more last) (sym a) f)
 
-    by : (served : List Served) (last : NameNext) → AreServed files served → GoesOn command (Sends op stage) served last → (last ≡ reply) × (files_then (ops_of served) files ≡ left)
+    by : (os : List Answered) (last : NameNext) → FilesAnswer files os → GoesOn command (Sends op stage) os last → (last ≡ reply) × (files_then (ops_of os) files ≡ left)
     by [] last a f = absurd f
     by (s ∷ more) last a f = same s more last s.op a.0 a.1 f.1 (subst (λ (x : Op). Right command (turn command stage (answer_to x files)) (files_after x files) reply left) (sym f.0) h)
 

@@ -1,6 +1,6 @@
 -- What the code makes of a bucket is what is made of it, and a bucket that is asked for is one of a directory's.
-use Rattle.std.proofs.Common.{◌≡◌, ℕ, ◌+◌, ◌<◌, Bool, true, false, List, [], ◌∷◌, ◌++◌, Option, Some, None, Result, Ok, Err, inl, inr, refl, sym, ◌∙◌, ap, subst}
-use Rattle.std.specs.Prelude.{⊤, ◌&&◌, is_some, nat_lt, if◌then◌else◌}
+use Rattle.std.proofs.Common.{◌≡◌, ℕ, ◌+◌, Bool, true, false, List, [], ◌∷◌, ◌++◌, Option, Some, None, Result, Ok, Err, inl, inr, refl, sym, ◌∙◌, ap, subst}
+use Rattle.std.specs.Prelude.{is_some, nat_lt, if◌then◌else◌}
 use Rattle.std.proofs.lemmas.Bool.{cases_Bool, ltb-true}
 use Rattle.jn_base.specs.declared.names.FileNo.{FileNo}
 use Rattle.jn_base.specs.declared.op.Op.TheVariants.{Write}
@@ -8,8 +8,8 @@ use Rattle.jn_base.specs.declared.op.Answer.{Answer}
 use Rattle.jn_base.specs.declared.op.Answer.TheVariants as answers
 unfoldable use Rattle.jn_order.specs.Files.{zeros}
 use Rattle.jn_names.specs.declared.entry.Entry.{Entry}
-use Rattle.jn_names.specs.declared.next.NameCommand.{NameCommand}
-use Rattle.jn_names.specs.declared.next.NameCommand.TheVariants as calls
+use Rattle.jn_base.specs.declared.call.NameCommand.{NameCommand}
+use Rattle.jn_base.specs.declared.call.NameCommand.TheVariants as calls
 use Rattle.jn_names.specs.declared.next.NameNext.{NameNext}
 use Rattle.jn_names.specs.declared.next.NameNext.TheVariants.{Refused}
 use Rattle.jn_names.specs.declared.next.NameRefusal.{NameRefusal}
@@ -17,13 +17,14 @@ use Rattle.jn_names.specs.declared.next.NameRefusal.TheVariants.{NotDirectory}
 use Rattle.jn_names.specs.declared.turn.Stage.{Stage}
 use Rattle.jn_names.specs.declared.turn.Stage.TheVariants as stages
 use Rattle.jn_names.specs.declared.turn.Turn.TheVariants.{Sends, Over}
-use Rattle.jn_names.specs.Names.{is_name, bucket_of}
+use Rattle.jn_base.specs.Names.{is_name}
+use Rattle.jn_names.specs.Names.{bucket_of}
 unfoldable use Rattle.jn_names.specs.Names.{buckets}
 use Rattle.jn_names.specs.Buckets.{Slot, belongs, all_belong}
 unfoldable use Rattle.jn_names.specs.Buckets.{bucket_in, bucket_bytes, places_in}
 use Rattle.jn_names.specs.Calls.{directory_of, name_of, or_refused, made_of, made_at, entries_of}
 use Rattle.jn_names.specs.Places.{IsPut, IsMade, are_named}
-use Rattle.jn_names.specs.Turns.{ask_each, first_turn, write_made, add_each, go_on, turn, StageFits, TurnFits}
+use Rattle.jn_names.specs.Turns.{ask_each, first_turn, write_made, add_each, go_on, turn, TurnFits}
 use Rattle.jn_names.proofs.Checking.{parts}
 use Rattle.jn_names.proofs.Slots.{no-name}
 use Rattle.jn_names.proofs.Tests.{left, right, both}

@@ -1,36 +1,32 @@
 -- On a directory each call is that of a map.
-use Rattle.std.proofs.Common.{◌≡◌, ℕ, ◌≤◌, ◌<◌, ◌^◌, Bool, true, false, List, [], ◌∷◌, length, Option, Some, None, Result, Ok, Err, inl, inr, refl, sym, ◌∙◌, ap, subst, arith, eqb-true, eq-eqb}
-use Rattle.std.specs.Prelude.{bytes_eq, ◌↔◌, ◌⊎◌, ⊤, nat_eq, is_some, if◌then◌else◌}
+use Rattle.std.proofs.Common.{◌≡◌, ℕ, ◌<◌, ◌^◌, true, false, List, [], Option, Some, None, Ok, inl, inr, refl, sym, ◌∙◌, ap, subst, eqb-true, eq-eqb}
+use Rattle.std.specs.Prelude.{bytes_eq, ◌↔◌, nat_eq, is_some, if◌then◌else◌}
 use Rattle.std.proofs.Math.Path.{fun_ext}
 use Rattle.std.proofs.lemmas.Bool.{cases_Bool}
 use Rattle.jn_base.specs.declared.names.FileNo.{FileNo}
 use Rattle.jn_base.specs.declared.names.LockUnit.{LockUnit}
 use Rattle.jn_base.specs.declared.names.LockUnit.TheVariants.{File, Block}
-use Rattle.jn_base.specs.Names.{unit_eq}
+use Rattle.jn_base.specs.Names.{unit_eq, is_name}
 use Rattle.jn_order.specs.Files.{Files}
 use Rattle.jn_names.specs.declared.entry.Entry.{Entry}
-use Rattle.jn_names.specs.declared.next.NameCommand.{NameCommand}
-use Rattle.jn_names.specs.declared.next.NameCommand.TheVariants as calls
+use Rattle.jn_base.specs.declared.call.NameCommand.{NameCommand}
+use Rattle.jn_base.specs.declared.call.NameCommand.TheVariants as calls
 use Rattle.jn_names.specs.declared.next.NameNext.{NameNext}
 use Rattle.jn_names.specs.declared.next.NameNext.TheVariants.{Did, Found, Names, Refused}
 use Rattle.jn_names.specs.declared.next.NameRefusal.TheVariants.{BucketFull, NoName}
-use Rattle.jn_names.specs.Names.{is_name, bucket_of}
+use Rattle.jn_names.specs.Names.{bucket_of}
 unfoldable use Rattle.jn_names.specs.Names.{buckets}
-use Rattle.jn_names.specs.Buckets.{Slot, find_in, all_belong, IsBucket, place_of, bound_in, unbound_in}
+use Rattle.jn_names.specs.Buckets.{Slot, find_in, IsBucket, bound_in, unbound_in}
 unfoldable use Rattle.jn_names.specs.Buckets.{bucket_in, bucket_bytes}
-use Rattle.jn_names.specs.Calls.{directory_of, name_of, bucket_at, found, or_refused, made_at, entries_of, entries_from, ascending, listed, replied, reply_to, with_bucket, files_after_call}
-use Rattle.jn_names.specs.Maps.{NameMap, file_in, names_of, bound, unbound, Lists, gone, IsOfMap, Fits, IsFull}
+use Rattle.jn_names.specs.Calls.{directory_of, name_of, bucket_at, found, or_refused, made_at, ascending, listed, replied, reply_to, with_bucket, files_after_call}
+use Rattle.jn_names.specs.Maps.{NameMap, names_of, bound, unbound, Lists, gone, IsOfMap, Fits, IsFull}
 use Rattle.jn_names.proofs.Bytes.{name-some}
 use Rattle.jn_names.proofs.Directories.{IsMap, is-map, HasBucket, has-bucket, names-set, others-stay, distinct-all}
 use Rattle.jn_names.proofs.Exchanging.{names-leave}
 use Rattle.jn_names.proofs.Listing.{lists-ascending}
 use Rattle.jn_names.proofs.ReadBack.{bucket-of}
-use Rattle.jn_names.proofs.Slots.{entry, Puts, Binds, Replaced, Added, Full, binds, Frees, Freed, Absent, frees, find-bound, find-added, find-unbound, found-put, put-somewhere, bucket-replaced, bucket-added, bucket-freed, full-counts, counted-full}
-use Rattle.jn_names.proofs.Tests.{eq-true, eq-of}
-
--- the names of one bucket are found there, and no name of another bucket is this one
-same-bucket : (k : ℕ) (name : List ℕ) → nat_eq k (bucket_of name) ≡ true → bucket_of name ≡ k
-same-bucket k name m = sym (eqb-true k (bucket_of name) m)
+use Rattle.jn_names.proofs.Slots.{entry, Binds, Replaced, Added, Full, binds, Frees, Freed, Absent, frees, find-bound, find-added, find-unbound, found-put, put-somewhere, bucket-replaced, bucket-added, bucket-freed, full-counts, counted-full}
+use Rattle.jn_names.proofs.Tests.{eq-true}
 
 other-name : (name other : List ℕ) → nat_eq (bucket_of name) (bucket_of other) ≡ false → bytes_eq name other ≡ false
 other-name name other m = elim (cases_Bool (bytes_eq name other)) [

@@ -1,12 +1,11 @@
 -- Places at the front of bytes, one after another.
-use Rattle.std.proofs.Common.{◌≡◌, ℕ, zero, suc, ◌+◌, ◌-◌, ◌≤◌, ◌<◌, Bool, true, false, List, [], ◌∷◌, length, drop, Option, Some, None, option_map, refl, sym, ◌∙◌, ◌++◌, ap, arith, append_assoc}
+use Rattle.std.proofs.Common.{◌≡◌, ℕ, zero, suc, ◌+◌, ◌-◌, ◌≤◌, ◌<◌, true, false, List, [], ◌∷◌, length, drop, Option, Some, None, option_map, refl, sym, ◌∙◌, ◌++◌, ap, arith, append_assoc}
 use Rattle.std.proofs.lemmas.List.{append-nil}
-use Rattle.std.specs.Prelude.{bytes_eq, if◌then◌else◌}
-use Rattle.jn_base.specs.declared.names.FileNo.{FileNo}
+use Rattle.std.specs.Prelude.{bytes_eq}
 use Rattle.jn_names.specs.Buckets.{Slot, slot_front, slots_front, name_in, find_in, place_of}
 unfoldable use Rattle.jn_names.specs.Buckets.{places_in}
 use Rattle.jn_names.specs.declared.entry.Entry.{Entry}
-use Rattle.jn_names.specs.Names.{is_name}
+use Rattle.jn_base.specs.Names.{is_name}
 use Rattle.jn_names.specs.Calls.{entries_of}
 use Rattle.jn_names.specs.Places.{file_at, are_named}
 use Rattle.jn_names.proofs.Bytes.{name-some}
@@ -68,18 +67,6 @@ place-end i m bytes name all e same = rw e at same
 
 -- ---- the entries
 
-entries-here : (slot : Slot) (slots : List Slot) (bytes : List ℕ) → slot ≡ slot_front bytes → 1 ≤ length (name_in slot) → entries_of (slot ∷ slots) ≡ record { name = name_in slot; file = file_at bytes } ∷ entries_of slots
-entries-here None slots bytes s h = absurd (omega (arith, h))
-entries-here (Some x) slots [] s h = absurd (cc s)
-entries-here (Some x) slots (zero ∷ bytes) s h = absurd (cc s)
-entries-here (Some x) slots (suc n ∷ bytes) s h = ap (λ (e : Entry). e ∷ entries_of slots) (by x _ s)
-  where
-    same : (a b : Entry) → Some a ≡ Some b → a ≡ b
-    same a b e = cc
-
-    by : (a b : Entry) → Some a ≡ Some b → a ≡ record { name = a.name; file = b.file }
-    by a b e = rw (← same a b e) refl
-
 named-here : (slot : Slot) (slots : List Slot) → are_named (slot ∷ slots) ≡ true → 1 ≤ length (name_in slot) → is_name (name_in slot) ≡ true
 named-here None slots h some = absurd (omega (arith, some))
 named-here (Some e) slots h some = left (is_name e.name) (are_named slots) h
@@ -101,10 +88,6 @@ names-go m n bytes rest some e d named = rw (d, ← e) (named-behind (slot_front
 -- the name of an entry is one
 pub name-here : (bytes name : List ℕ) → name ≡ name_in (slot_front bytes) → 1 ≤ length name → are_named (slot_front bytes ∷ []) ≡ true → is_name name ≡ true
 name-here bytes name e some named = rw e (named-here (slot_front bytes) [] named (rw (← e) some))
-
--- a place gives its entry
-pub entry-here : (bytes name : List ℕ) (done now : List Entry) → name ≡ name_in (slot_front bytes) → 1 ≤ length name → now ≡ done ++ record { name = name; file = file_at bytes } ∷ [] → now ≡ done ++ entries_of (slot_front bytes ∷ [])
-entry-here bytes name done now e some h = h ∙ ap (λ (x : List ℕ). done ++ record { name = x; file = file_at bytes } ∷ []) e ∙ sym (ap (λ (x : List Entry). done ++ x) (entries-here (slot_front bytes) [] bytes refl (rw (← e) some)))
 
 none-here : (slot : Slot) → are_named (slot ∷ []) ≡ true → length (name_in slot) ≡ 0 → entries_of (slot ∷ []) ≡ []
 none-here None h none = refl

@@ -1,17 +1,18 @@
 -- A block is read as a bucket exactly where it is what the bucket is written as.
-use Rattle.std.proofs.Common.{◌≡◌, ℕ, zero, suc, ◌+◌, ◌-◌, ◌%◌, ◌≤◌, ◌<◌, ◌^◌, Bool, true, false, List, [], ◌∷◌, ◌++◌, length, take, drop, replicate, Option, Some, None, refl, sym, ◌∙◌, ap, subst, arith, append_assoc, length-append}
-use Rattle.std.specs.Prelude.{⊤, ◌&&◌, ◌↔◌, is_none}
+use Rattle.std.proofs.Common.{◌≡◌, ℕ, zero, suc, ◌-◌, ◌%◌, ◌≤◌, ◌<◌, ◌^◌, true, List, [], ◌∷◌, ◌++◌, length, take, drop, replicate, Some, None, refl, sym, ◌∙◌, ap, subst, arith, append_assoc, length-append}
+use Rattle.std.specs.Prelude.{◌↔◌, is_none}
 use Rattle.std.proofs.Math.Nat.{mod-lt}
 use Rattle.byteorder.specs.Endian.{big_bytes, big_number}
 use Rattle.byteorder.specs.Numbers.{big_from-bytes, big_number-reads_back}
 use Rattle.jn_base.specs.declared.names.FileNo.{FileNo}
 use Rattle.jn_names.specs.declared.entry.Entry.{Entry}
-use Rattle.jn_names.specs.Names.{is_name, bucket_of}
+use Rattle.jn_base.specs.Names.{is_name}
+use Rattle.jn_names.specs.Names.{bucket_of}
 use Rattle.jn_names.specs.Buckets.{Slot, slot_bytes, slots_bytes, slot_front, slots_front, find_in, belongs, all_belong, FileFits, AllFit, IsBucket}
 unfoldable use Rattle.jn_names.specs.Buckets.{bucket_bytes, places_in, bucket_in}
 use Rattle.jn_names.proofs.Bytes.{take-front, drop-front, name-some, name-few, length-filled, length-slot, AreLong, are-long}
 use Rattle.jn_names.proofs.Changing.{six-places}
-use Rattle.jn_names.proofs.Checking.{Parts, parts, of-parts}
+use Rattle.jn_names.proofs.Checking.{parts, of-parts}
 use Rattle.jn_names.proofs.Tests.{left, right}
 
 -- ---- what was written is read

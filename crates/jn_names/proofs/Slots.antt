@@ -1,15 +1,16 @@
 -- A bucket's places as a map, and that a changed bucket is a bucket.
-use Rattle.std.proofs.Common.{◌≡◌, ℕ, zero, suc, ◌+◌, ◌≤◌, ◌<◌, ◌^◌, Bool, true, false, List, [], ◌∷◌, length, Option, Some, None, option_map, inl, inr, refl, sym, ◌∙◌, ap, subst, arith, eq-eqb}
-use Rattle.std.specs.Prelude.{bytes_eq, ◌&&◌, ◌↔◌, ◌⊎◌, ⊤, slice_set, nat_eq, is_none, is_some, if◌then◌else◌}
+use Rattle.std.proofs.Common.{◌≡◌, ℕ, zero, suc, ◌≤◌, ◌<◌, ◌^◌, Bool, true, false, List, [], ◌∷◌, length, Option, Some, None, option_map, inl, inr, refl, sym, ◌∙◌, ap, subst, arith, eq-eqb}
+use Rattle.std.specs.Prelude.{bytes_eq, ◌&&◌, ◌⊎◌, slice_set, nat_eq, is_none, is_some, if◌then◌else◌}
 use Rattle.std.proofs.lemmas.Bool.{cases_Bool}
 use Rattle.jn_base.specs.declared.names.FileNo.{FileNo}
 use Rattle.jn_order.specs.Changes.{or_also}
 use Rattle.jn_names.specs.declared.entry.Entry.{Entry}
-use Rattle.jn_names.specs.Names.{is_name, bucket_of}
+use Rattle.jn_base.specs.Names.{is_name}
+use Rattle.jn_names.specs.Names.{bucket_of}
 use Rattle.jn_names.specs.Buckets.{Slot, find_in, belongs, all_belong, FileFits, AllFit, IsBucket, name_in, place_of, bound_in, unbound_in}
 use Rattle.jn_names.specs.Calls.{entries_of}
 use Rattle.jn_names.proofs.Bytes.{name-some}
-use Rattle.jn_names.proofs.Tests.{left, right, both, eq-true, eq-of, same-test, turned}
+use Rattle.jn_names.proofs.Tests.{left, right, both, eq-true, same-test, turned}
 
 abbrev pub entry : List ℕ → FileNo → Entry
 entry name file = record { name = name; file = file }

@@ -27,9 +27,6 @@ eq-true a b e = (bytes_eq-Decides a b).0 e
 pub eq-of : (a b : List ℕ) → a ≡ b → bytes_eq a b ≡ true
 eq-of a b e = (bytes_eq-Decides a b).1 e
 
-pub eq-self : (a : List ℕ) → bytes_eq a a ≡ true
-eq-self a = eq-of a a refl
-
 -- the test at a name that is another one's
 pub same-test : (a b other : List ℕ) → bytes_eq a b ≡ true → bytes_eq a other ≡ bytes_eq b other
 same-test a b other e = ap (λ (x : List ℕ). bytes_eq x other) (eq-true a b e)

@@ -9,9 +9,10 @@ use Rattle.jn_base.specs.declared.op.Answer.{Answer}
 use Rattle.jn_base.specs.declared.op.Answer.TheVariants as answers
 use Rattle.jn_order.specs.Files.{is_did}
 unfoldable use Rattle.jn_order.specs.Files.{zeros}
+use Rattle.jn_order.specs.Answers.{Answered}
 use Rattle.jn_names.specs.declared.entry.Entry.{Entry}
-use Rattle.jn_names.specs.declared.next.NameCommand.{NameCommand}
-use Rattle.jn_names.specs.declared.next.NameCommand.TheVariants as calls
+use Rattle.jn_base.specs.declared.call.NameCommand.{NameCommand}
+use Rattle.jn_base.specs.declared.call.NameCommand.TheVariants as calls
 use Rattle.jn_names.specs.declared.next.NameNext.{NameNext}
 use Rattle.jn_names.specs.declared.next.NameNext.TheVariants.{Refused}
 use Rattle.jn_names.specs.declared.next.NameRefusal.{NameRefusal}
@@ -24,7 +25,7 @@ unfoldable use Rattle.jn_names.specs.Names.{buckets}
 use Rattle.jn_names.specs.Buckets.{Slot}
 unfoldable use Rattle.jn_names.specs.Buckets.{bucket_in}
 use Rattle.jn_names.specs.Calls.{directory_of, name_of, made_at, entries_of}
-use Rattle.jn_names.specs.Turns.{ask_each, first_turn, write_made, add_each, go_on, turn, Served, GoesOn, is_write, has_written}
+use Rattle.jn_names.specs.Turns.{ask_each, first_turn, write_made, add_each, go_on, turn, GoesOn, is_write, has_written}
 
 -- what is sent is no write, or is one behind which nothing comes
 abbrev WritesLast : Turn → Type 0
@@ -73,7 +74,7 @@ or-false : (a b : Bool) → a ≡ false → b ≡ false → (a || b) ≡ false
 or-false a b h k = rw (h, k) refl
 
 -- the write of a call that is refused wasn't done
-not-did : (command : NameCommand) (answer : Answer) (more : List Served) (why : NameRefusal) → GoesOn command (turn command stages.Write answer) more (Refused why) → is_did answer ≡ false
+not-did : (command : NameCommand) (answer : Answer) (more : List Answered) (why : NameRefusal) → GoesOn command (turn command stages.Write answer) more (Refused why) → is_did answer ≡ false
 not-did command answers.Did [] why h = absurd (cc h)
 not-did command answers.Did (s ∷ more) why h = absurd h
 not-did command (answers.Read block) more why h = refl
@@ -86,7 +87,7 @@ not-did command (answers.Broken u t) more why h = refl
 not-did command (answers.Lost then' now) more why h = refl
 not-did command answers.Closing more why h = refl
 
-from-turn : (command : NameCommand) (t : Turn) (served : List Served) (why : NameRefusal) → WritesLast t → GoesOn command t served (Refused why) → list_any has_written served ≡ false
+from-turn : (command : NameCommand) (t : Turn) (os : List Answered) (why : NameRefusal) → WritesLast t → GoesOn command t os (Refused why) → list_any has_written os ≡ false
 from-turn command (Over last) [] why w h = refl
 from-turn command (Over last) (s ∷ more) why w h = absurd h
 from-turn command (Sends op stage) [] why w h = absurd h
@@ -96,5 +97,5 @@ from-turn command (Sends op stage) (s ∷ more) why w h = or-false (has_written 
     here (inl e) = subst (λ (x : Op). (is_write x && is_did s.answer) ≡ false) (sym h.0) (rw e refl)
     here (inr e) = and-false (is_write s.op) (is_did s.answer) (not-did command s.answer more why (subst (λ (x : Stage). GoesOn command (turn command x s.answer) more (Refused why)) e h.1))
 
-pub unwritten : (command : NameCommand) (served : List Served) (why : NameRefusal) → GoesOn command (first_turn command) served (Refused why) → list_any has_written served ≡ false
-unwritten command served why h = from-turn command (first_turn command) served why (first-last command) h
+pub unwritten : (command : NameCommand) (os : List Answered) (why : NameRefusal) → GoesOn command (first_turn command) os (Refused why) → list_any has_written os ≡ false
+unwritten command os why h = from-turn command (first_turn command) os why (first-last command) h

@@ -4,7 +4,8 @@ use Rattle.byteorder.specs.Endian.{big_bytes, big_number}
 use Rattle.jn_base.specs.declared.names.FileNo.{FileNo}
 use Rattle.jn_order.specs.Changes.{or_also}
 use Rattle.jn_names.specs.declared.entry.Entry.{Entry}
-use Rattle.jn_names.specs.Names.{is_name, bucket_of}
+use Rattle.jn_base.specs.Names.{is_name}
+use Rattle.jn_names.specs.Names.{bucket_of}
 
 -- a free place, or an entry
 abbrev pub Slot : Type 0

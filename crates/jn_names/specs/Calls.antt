@@ -1,15 +1,16 @@
 -- What the files answer a call on a directory, and which files it leaves.
-use Rattle.std.specs.Prelude.{ℕ, zero, suc, ◌+◌, ◌++◌, Bool, List, [], ◌∷◌, Option, Some, None, is_some, option_map, option_and_then, Result, Ok, Err, if◌then◌else◌}
+use Rattle.std.specs.Prelude.{◌≡◌, ⊤, ℕ, zero, suc, ◌+◌, ◌++◌, Bool, true, List, [], ◌∷◌, Option, Some, None, is_some, option_map, option_and_then, Result, Ok, Err, if◌then◌else◌}
 use Rattle.std.specs.Ordering.{nat_cmp, ordering_then, is_lt}
 use Rattle.std.specs.declared.cmp.Ordering.{Ordering}
 use Rattle.std.specs.Cmp.Lexicographic.{slice_cmp}
 use Rattle.jn_base.specs.declared.names.FileNo.{FileNo}
 use Rattle.jn_base.specs.declared.names.LockUnit.TheVariants.{File, Block}
 use Rattle.jn_base.specs.declared.op.Answer.TheVariants.{NoFile}
+use Rattle.jn_base.specs.Names.{is_name}
 use Rattle.jn_order.specs.Files.{Files, change, written, or_else, zeros}
 use Rattle.jn_names.specs.declared.entry.Entry.{Entry}
-use Rattle.jn_names.specs.declared.next.NameCommand.{NameCommand}
-use Rattle.jn_names.specs.declared.next.NameCommand.TheVariants as calls
+use Rattle.jn_base.specs.declared.call.NameCommand.{NameCommand}
+use Rattle.jn_base.specs.declared.call.NameCommand.TheVariants as calls
 use Rattle.jn_names.specs.declared.next.NameNext.{NameNext}
 use Rattle.jn_names.specs.declared.next.NameNext.TheVariants.{Did, Found, Names, Refused}
 use Rattle.jn_names.specs.declared.next.NameRefusal.{NameRefusal}
@@ -28,6 +29,13 @@ name_of (calls.Bind d name file) = name
 name_of (calls.Unbind d name) = name
 name_of (calls.Find d name) = name
 name_of (calls.Names d) = []
+
+-- the name of a call is one
+abbrev pub Named : NameCommand → Type 0
+Named (calls.Bind d name file) = is_name name ≡ true
+Named (calls.Unbind d name) = is_name name ≡ true
+Named (calls.Find d name) = is_name name ≡ true
+Named (calls.Names d) = ⊤
 
 -- bucket k of a directory: a block that is not stored is all zeros
 abbrev pub bucket_at : Files → FileNo → ℕ → Option (List Slot)

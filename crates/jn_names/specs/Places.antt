@@ -3,7 +3,7 @@ use Rattle.std.specs.Prelude.{◌≡◌, ℕ, Bool, true, false, ◌&&◌, bytes
 use Rattle.byteorder.specs.Endian.{big_number}
 use Rattle.jn_base.specs.declared.names.FileNo.{FileNo}
 use Rattle.jn_names.specs.declared.next.NameNext.{NameNext}
-use Rattle.jn_names.specs.Names.{is_name}
+use Rattle.jn_base.specs.Names.{is_name}
 use Rattle.jn_names.specs.Buckets.{Slot, slot_front, slots_front, slot_bytes, bucket_bytes, belongs}
 
 -- the file of an entry

@@ -1,15 +1,15 @@
 -- A call takes operations one after another: what it asks next, by the answers so far.
-use Rattle.std.specs.Prelude.{◌≡◌, ◌<◌, ⊤, ℕ, ◌+◌, ◌-◌, Bool, true, false, ◌&&◌, ◌++◌, nat_lt, List, [], ◌∷◌, map, Option, Some, None, Result, Ok, Err, if◌then◌else◌}
+use Rattle.std.specs.Prelude.{◌≡◌, ◌<◌, ⊤, ℕ, ◌+◌, ◌-◌, Bool, true, false, ◌&&◌, ◌++◌, nat_lt, List, [], ◌∷◌, Option, Some, None, Result, Ok, Err, if◌then◌else◌}
 use Rattle.jn_base.specs.declared.names.FileNo.{FileNo}
 use Rattle.jn_base.specs.declared.op.Op.{Op}
 use Rattle.jn_base.specs.declared.op.Op.TheVariants.{Read, Write}
 use Rattle.jn_base.specs.declared.op.Answer.{Answer}
 use Rattle.jn_base.specs.declared.op.Answer.TheVariants as answers
-use Rattle.jn_order.specs.Files.{Files, answer_to, is_did, files_after, zeros}
-use Rattle.jn_order.specs.Changes.{files_then}
+use Rattle.jn_order.specs.Files.{is_did, zeros}
+use Rattle.jn_order.specs.Answers.{Answered}
 use Rattle.jn_names.specs.declared.entry.Entry.{Entry}
-use Rattle.jn_names.specs.declared.next.NameCommand.{NameCommand}
-use Rattle.jn_names.specs.declared.next.NameCommand.TheVariants as calls
+use Rattle.jn_base.specs.declared.call.NameCommand.{NameCommand}
+use Rattle.jn_base.specs.declared.call.NameCommand.TheVariants as calls
 use Rattle.jn_names.specs.declared.next.NameNext.{NameNext}
 use Rattle.jn_names.specs.declared.next.NameNext.TheVariants.{Send, Did, Names, Refused}
 use Rattle.jn_names.specs.declared.next.NameRefusal.TheVariants.{Operation, NotDirectory}
@@ -86,37 +86,23 @@ given (Over reply) = (reply, None)
 
 -- ---- a whole call
 
--- an operation with its answer
-pub record Served : Type 0 where
-  pub op : Op
-  pub answer : Answer
-
--- these files give these answers, one operation after another
-abbrev pub AreServed : Files → List Served → Type 0
-AreServed files [] = ⊤
-AreServed files (s ∷ more) = (answer_to s.op files ≡ s.answer) × AreServed (files_after s.op files) more
-
 abbrev pub is_write : Op → Bool
 is_write (Write f p bytes) = true
 is_write _ = false
 
-abbrev pub ops_of : List Served → List Op
-ops_of [] = []
-ops_of (s ∷ more) = s.op ∷ ops_of more
-
 -- it changes files, and was done
-abbrev pub has_written : Served → Bool
+abbrev pub has_written : Answered → Bool
 has_written s = is_write s.op && is_did s.answer
 
 -- from this turn on the call asks these operations, is answered so, and is over with this reply
-abbrev pub GoesOn : NameCommand → Turn → List Served → NameNext → Type 0
+abbrev pub GoesOn : NameCommand → Turn → List Answered → NameNext → Type 0
 GoesOn command (Over last) [] reply = last ≡ reply
 GoesOn command (Over last) (s ∷ more) reply = ⊥
 GoesOn command (Sends op stage) [] reply = ⊥
 GoesOn command (Sends op stage) (s ∷ more) reply = (s.op ≡ op) × GoesOn command (turn command stage s.answer) more reply
 
-abbrev pub IsExchange : NameCommand → List Served → NameNext → Type 0
-IsExchange command served reply = GoesOn command (first_turn command) served reply
+abbrev pub IsExchange : NameCommand → List Answered → NameNext → Type 0
+IsExchange command os reply = GoesOn command (first_turn command) os reply
 
 -- ---- how many operations a call takes
 

@@ -1,13 +1,13 @@
 //! A call on a directory.
 ghost use Rattle.std.specs.Prelude.{◌≡◌, true, option_map, IfOk, OnErr};
-ghost use Rattle.jn_names.specs.declared.next.NameCommand.TheVariants as commands;
-ghost use Rattle.jn_names.specs.Names.{is_name};
+ghost use Rattle.jn_base.specs.declared.call.NameCommand.TheVariants as commands;
+ghost use Rattle.jn_base.specs.Names.{is_name};
+ghost use Rattle.jn_names.specs.Calls.{Named};
 ghost use Rattle.jn_names.specs.Turns.{begun, first_turn, turn_of, given};
 
-use crate::name::Name;
-use crate::next::{NameCommand, NameNext};
+use crate::next::NameNext;
 use crate::turn::{Stage, first_turn, follow, turn_at};
-use jn_base::{Answer, FileNo};
+use jn_base::{Answer, ByteString, FileNo, NameCommand};
 use std::alloc::{AllocError, Global};
 use std::marker::Model;
 
@@ -19,38 +19,39 @@ pub struct NameCall {
 }
 
 impl Model for NameCall {
+    ghost use Rattle.jn_names.specs.Calls.{Named};
     ghost use Rattle.jn_names.specs.Turns.{Calling, WaitsFits};
 
     ghost Value = { Calling };
 
     ghost view = { λ c. record { command = c.command; waits = c.waits } };
 
-    ghost invariant = { λ c. WaitsFits c.waits };
+    ghost invariant = { λ c. Named c.command × WaitsFits c.waits };
 }
 
 impl NameCall {
     /// Gives a name its file, whatever it had.
-    pub fn bind(directory: FileNo, name: &[u8], file: FileNo) -> NameCall
-        requires { is_name name.now ≡ true }
-        ensures { result ≡ begun (commands.Bind directory name.now file) }
+    pub fn bind(directory: FileNo, name: ByteString, file: FileNo) -> NameCall
+        requires { is_name name ≡ true }
+        ensures { result ≡ begun (commands.Bind directory name file) }
     {
-        NameCall::of(NameCommand::Bind(directory, Name::new(name), file))
+        NameCall::of(NameCommand::Bind(directory, name, file))
     }
 
     /// Takes a name away.
-    pub fn unbind(directory: FileNo, name: &[u8]) -> NameCall
-        requires { is_name name.now ≡ true }
-        ensures { result ≡ begun (commands.Unbind directory name.now) }
+    pub fn unbind(directory: FileNo, name: ByteString) -> NameCall
+        requires { is_name name ≡ true }
+        ensures { result ≡ begun (commands.Unbind directory name) }
     {
-        NameCall::of(NameCommand::Unbind(directory, Name::new(name)))
+        NameCall::of(NameCommand::Unbind(directory, name))
     }
 
     /// Asks for the file of a name.
-    pub fn find(directory: FileNo, name: &[u8]) -> NameCall
-        requires { is_name name.now ≡ true }
-        ensures { result ≡ begun (commands.Find directory name.now) }
+    pub fn find(directory: FileNo, name: ByteString) -> NameCall
+        requires { is_name name ≡ true }
+        ensures { result ≡ begun (commands.Find directory name) }
     {
-        NameCall::of(NameCommand::Find(directory, Name::new(name)))
+        NameCall::of(NameCommand::Find(directory, name))
     }
 
     /// Asks for all names with their files.
@@ -61,6 +62,7 @@ impl NameCall {
     }
 
     fn of(command: NameCommand) -> NameCall
+        requires { Named command }
         ensures { result ≡ begun command }
     {
         NameCall {

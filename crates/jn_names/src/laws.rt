@@ -6,28 +6,29 @@ ghost use Rattle.jn_base.specs.declared.names.FileNo.{FileNo};
 ghost use Rattle.jn_base.specs.declared.names.BlockNo.{BlockNo};
 ghost use Rattle.jn_base.specs.declared.names.LockUnit.{LockUnit};
 ghost use Rattle.jn_base.specs.declared.names.LockUnit.TheVariants.{Block};
-ghost use Rattle.jn_base.specs.Names.{unit_eq};
+ghost use Rattle.jn_base.specs.Names.{unit_eq, is_name};
 ghost use Rattle.jn_base.specs.declared.op.Answer.{Answer};
 ghost use Rattle.jn_order.specs.Files.{Files};
 ghost use Rattle.jn_order.specs.Changes.{files_then};
-ghost use Rattle.jn_names.specs.declared.next.NameCommand.{NameCommand};
-ghost use Rattle.jn_names.specs.declared.next.NameCommand.TheVariants as commands;
+ghost use Rattle.jn_order.specs.Answers.{Answered, ops_of, FilesAnswer};
+ghost use Rattle.jn_base.specs.declared.call.NameCommand.{NameCommand};
+ghost use Rattle.jn_base.specs.declared.call.NameCommand.TheVariants as commands;
 ghost use Rattle.jn_names.specs.declared.entry.Entry.{Entry};
 ghost use Rattle.jn_names.specs.declared.next.NameNext.{NameNext};
 ghost use Rattle.jn_names.specs.declared.next.NameNext.TheVariants.{Refused};
 ghost use Rattle.jn_names.specs.declared.next.NameRefusal.{NameRefusal};
 ghost use Rattle.jn_names.specs.declared.next.NameRefusal.TheVariants.{BucketFull};
 ghost use Rattle.jn_names.specs.declared.turn.Stage.{Stage};
-ghost use Rattle.jn_names.specs.Names.{is_name, bucket_of};
+ghost use Rattle.jn_names.specs.Names.{bucket_of};
 ghost use Rattle.jn_names.specs.Buckets.{Slot, IsBucket, bucket_in, bucket_bytes, bound_in, unbound_in};
 ghost use Rattle.jn_names.specs.Calls.{directory_of, name_of, bucket_at, reply_to, files_after_call};
-ghost use Rattle.jn_names.specs.Turns.{first_turn, turn, Served, AreServed, ops_of, has_written, IsExchange, left_behind, left_from, most_operations, turn_behind, is_over};
+ghost use Rattle.jn_names.specs.Turns.{first_turn, turn, has_written, IsExchange, left_behind, left_from, most_operations, turn_behind, is_over};
 ghost use Rattle.jn_names.specs.Maps.{NameMap, names_of, IsOfMap, Fits, IsFull};
 
 /// A call's operations, each answered by the files as they are then, do what the call does and are answered what it is.
 pub fn an_exchange_is_its_call()
-    ensures { (command : NameCommand) (files : Files) (served : List Served) (reply : NameNext) → AreServed files served → IsExchange command served reply
-        → (reply ≡ reply_to command files) × (files_then (ops_of served) files ≡ files_after_call command files) }
+    ensures { (command : NameCommand) (files : Files) (os : List Answered) (reply : NameNext) → FilesAnswer files os → IsExchange command os reply
+        → (reply ≡ reply_to command files) × (files_then (ops_of os) files ≡ files_after_call command files) }
 {}
 
 /// A call has its end, whatever its operations are answered: a bind and an unbind take two at most, a find one, and
@@ -36,7 +37,7 @@ pub fn a_call_has_its_end()
     // Behind so many answers it is over.
     ensures ends { (command : NameCommand) (answers : List Answer) → most_operations command ≤ length answers → is_over (turn_behind command (first_turn command) answers) ≡ true }
     // So no exchange is longer.
-    ensures few { (command : NameCommand) (served : List Served) (reply : NameNext) → IsExchange command served reply → length served ≤ most_operations command }
+    ensures few { (command : NameCommand) (os : List Answered) (reply : NameNext) → IsExchange command os reply → length os ≤ most_operations command }
     // Each answer leaves fewer operations to come.
     ensures falls { (command : NameCommand) (stage : Stage) (answer : Answer) → left_from command (turn command stage answer) ≤ left_behind command stage }
 {}
@@ -47,7 +48,7 @@ pub fn a_call_that_is_not_done_changes_nothing()
     ensures listed { (d : FileNo) (files : Files) → files_after_call (commands.Names d) files ≡ files }
     ensures refused { (command : NameCommand) (files : Files) (why : NameRefusal) → reply_to command files ≡ Refused why → files_after_call command files ≡ files }
     // Nor has a call that is refused for a lock, or for any other answer, written anything.
-    ensures unwritten { (command : NameCommand) (served : List Served) (why : NameRefusal) → IsExchange command served (Refused why) → list_any has_written served ≡ false }
+    ensures unwritten { (command : NameCommand) (os : List Answered) (why : NameRefusal) → IsExchange command os (Refused why) → list_any has_written os ≡ false }
 {}
 
 /// A block is read as a bucket exactly where it is what that bucket is written as.

@@ -23,5 +23,5 @@ pub use laws::{
     a_changed_bucket_is_a_bucket, an_entry_keeps_its_place, an_exchange_is_its_call,
     names_are_a_map,
 };
-pub use name::{Name, is_name};
+pub use name::{Name, bucket_of};
 pub use next::{NameNext, NameRefusal};

@@ -1,12 +1,9 @@
 //! Names.
 ghost use Rattle.std.specs.Prelude.{◌≡◌, ◌≤◌, true, length};
-ghost use Rattle.std.specs.List.{list_all};
-ghost use Rattle.jn_names.specs.Names.{is_letter, is_name, bucket_of};
+ghost use Rattle.jn_base.specs.Names.{is_name};
+ghost use Rattle.jn_names.specs.Names.{bucket_of};
 
 use std::marker::Model;
-
-/// How many bytes a name has at most.
-pub const MOST_LETTERS: usize = 64;
 
 /// A name in a directory: contracts see its bytes.
 #[derive(Drop)]
@@ -17,7 +14,7 @@ pub struct Name {
 
 impl Model for Name {
     ghost use Rattle.std.specs.Prelude.{◌≡◌, ◌≤◌, true, List, ℕ, take};
-    ghost use Rattle.jn_names.specs.Names.{is_name};
+    ghost use Rattle.jn_base.specs.Names.{is_name};
 
     ghost Value = { List ℕ };
 
@@ -47,30 +44,6 @@ impl Name {
     {
         &self.bytes[..self.length]
     }
-}
-
-fn is_letter(byte: u8) -> bool
-    ensures { result ≡ is_letter byte }
-{
-    matches!(byte, b'a'..=b'z' | b'0'..=b'9' | b'.' | b'_' | b'-')
-}
-
-fn are_letters(bytes: &[u8]) -> bool
-    ensures { result ≡ list_all is_letter bytes.now }
-{
-    for byte in bytes {
-        if !is_letter(*byte) {
-            return false;
-        }
-    }
-    true
-}
-
-/// Whether the bytes are a name: 1 to 64 of `a` to `z`, `0` to `9`, `.`, `_` and `-`.
-pub fn is_name(bytes: &[u8]) -> bool
-    ensures { result ≡ is_name bytes.now }
-{
-    1 <= bytes.len() && bytes.len() <= MOST_LETTERS && are_letters(bytes)
 }
 
 /// The bucket of a name: the sum of its bytes modulo 32.

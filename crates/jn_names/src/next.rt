@@ -1,19 +1,7 @@
-//! Calls on directories, and what comes of them.
+//! What comes of calls on directories.
 
 use crate::entry::Entries;
-use crate::name::Name;
-use jn_base::{Answer, FileNo, Op};
-
-/// What is asked of a directory.
-#[derive(Drop)]
-pub enum NameCommand {
-    /// The name is to have the file, whatever it had.
-    Bind(FileNo, Name, FileNo),
-    Unbind(FileNo, Name),
-    Find(FileNo, Name),
-    /// All names with their files.
-    Names(FileNo),
-}
+use jn_base::{Answer, Op};
 
 /// Why a call isn't done.
 #[derive(Drop)]

@@ -3,9 +3,9 @@ ghost use Rattle.std.specs.Prelude.{◌≡◌, ◌≤◌, ◌+◌, ◌*◌, ◌+
 ghost use Rattle.jn_names.specs.Buckets.{slot_front, slots_front, slot_bytes, name_in, find_in};
 ghost use Rattle.jn_names.specs.Places.{file_at, is_place, is_only_place};
 
-use crate::name::{MOST_LETTERS, bucket_of, is_name};
+use crate::name::bucket_of;
 use byteorder::{BigEndian, ByteOrder};
-use jn_base::FileNo;
+use jn_base::{FileNo, is_name};
 
 /// The bytes of a place.
 pub const PLACE: usize = 69;

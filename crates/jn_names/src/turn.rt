@@ -5,15 +5,15 @@ ghost use Rattle.jn_names.specs.declared.next.NameRefusal.TheVariants.{BucketFul
 ghost use Rattle.jn_names.specs.declared.turn.Turn.TheVariants.{Over};
 ghost use Rattle.jn_names.specs.Names.{bucket_of};
 ghost use Rattle.jn_names.specs.Buckets.{Slot, bucket_in, bound_in, unbound_in, find_in};
-ghost use Rattle.jn_names.specs.Calls.{directory_of, name_of, found, or_refused, made_of, made_at};
+ghost use Rattle.jn_names.specs.Calls.{directory_of, name_of, Named, found, or_refused, made_of, made_at};
 ghost use Rattle.jn_names.specs.Places.{IsMade};
 ghost use Rattle.jn_names.specs.Turns.{ask_each, first_turn, write_made, add_each, go_on, turn, given, StageFits, TurnFits, WaitsFits};
 
 use crate::bucket::{add_entries, bind, find_name, is_bucket, unbind};
 use crate::entry::Entries;
 use crate::name::bucket_of;
-use crate::next::{NameCommand, NameNext, NameRefusal};
-use jn_base::{Answer, Block, BlockContent, BlockNo, FileNo, Op};
+use crate::next::{NameNext, NameRefusal};
+use jn_base::{Answer, Block, BlockContent, BlockNo, FileNo, NameCommand, Op};
 use std::alloc::{AllocError, Global};
 
 /// The buckets of a directory.
@@ -57,12 +57,13 @@ fn directory_of(command: &NameCommand) -> FileNo
 }
 
 fn bucket_of_name(command: &NameCommand) -> u16
+    requires { Named command.now }
     ensures { result ≡ bucket_of (name_of command.now) }
 {
     match command {
-        NameCommand::Bind(_, name, _) => bucket_of(name.as_bytes()),
-        NameCommand::Unbind(_, name) => bucket_of(name.as_bytes()),
-        NameCommand::Find(_, name) => bucket_of(name.as_bytes()),
+        NameCommand::Bind(_, name, _) => bucket_of(name.as_slice()),
+        NameCommand::Unbind(_, name) => bucket_of(name.as_slice()),
+        NameCommand::Find(_, name) => bucket_of(name.as_slice()),
         NameCommand::Names(_) => 0,
     }
 }
@@ -83,6 +84,7 @@ fn ask_each(directory: FileNo, bucket: u16, entries: Entries) -> Turn
 }
 
 pub fn first_turn(alloc: Global, command: &NameCommand) -> Turn
+    requires { Named command.now }
     ensures { result ≡ first_turn command.now }
 {
     match command {
@@ -139,18 +141,20 @@ fn found_in(block: &Block, name: &[u8]) -> NameNext
 
 /// None where the block is to be written as it is then, or a reply.
 fn made_of(command: &NameCommand, block: &mut Block) -> Option<NameNext>
+    requires { Named command.now }
     ensures { (k : ℕ) (slots : List Slot) → bucket_in k block.old ≡ Some slots → IsMade (made_of command.now slots) result block.new }
 {
     match command {
-        NameCommand::Bind(_, name, file) => bound(block, name.as_bytes(), *file),
-        NameCommand::Unbind(_, name) => unbound(block, name.as_bytes()),
-        NameCommand::Find(_, name) => Some(found_in(block, name.as_bytes())),
+        NameCommand::Bind(_, name, file) => bound(block, name.as_slice(), *file),
+        NameCommand::Unbind(_, name) => unbound(block, name.as_slice()),
+        NameCommand::Find(_, name) => Some(found_in(block, name.as_slice())),
         NameCommand::Names(_) => Some(NameNext::Did),
     }
 }
 
 /// The bucket of the name was read.
 fn by_bucket(alloc: Global, command: &NameCommand, block: &Block) -> Result<Turn, AllocError>
+    requires { Named command.now }
     ensures { IfOk result (λ t. t ≡ write_made command.now (made_at command.now (bucket_in (bucket_of (name_of command.now)) block.now))) }
 {
     let bucket = bucket_of_name(command);
@@ -199,7 +203,7 @@ fn go_on(
     stage: &mut Stage,
     block: &Block,
 ) -> Result<Turn, AllocError>
-    requires { StageFits stage.old }
+    requires { Named command.now × StageFits stage.old }
     ensures ok { IfOk result (λ t. t ≡ go_on command.now stage.old block.now) }
     ensures err { OnErr result (stage.new ≡ stage.old) }
 {
@@ -223,7 +227,7 @@ pub fn turn_at(
     stage: &mut Stage,
     answer: &Answer,
 ) -> Result<Turn, AllocError>
-    requires { StageFits stage.old }
+    requires { Named command.now × StageFits stage.old }
     ensures ok { IfOk result (λ t. t ≡ turn command.now stage.old answer.now) }
     ensures err { OnErr result (stage.new ≡ stage.old) }
 {

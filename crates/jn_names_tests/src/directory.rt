@@ -1,7 +1,9 @@
 //! A directory in memory, and calls on it.
 
-use jn_base::{Answer, Block, BlockContent, FileNo, Op};
-use jn_names::{Entries, NameCall, NameNext, NameRefusal, is_name};
+ghost use Rattle.std.specs.Prelude.{◌≡◌, IfOk};
+
+use jn_base::{Answer, Block, BlockContent, ByteString, FileNo, Op, is_name};
+use jn_names::{Entries, NameCall, NameNext, NameRefusal};
 use std::alloc::{AllocError, Global};
 
 /// The file that is the directory.
@@ -96,26 +98,35 @@ impl Directory {
         if !is_name(name) {
             return Ok(Ended::Wrong);
         }
-        self.run(alloc, NameCall::bind(DIRECTORY, name, FileNo(file)))
+        let string = string_of(alloc, name)?;
+        self.run(alloc, NameCall::bind(DIRECTORY, string, FileNo(file)))
     }
 
     pub fn unbind(&mut self, alloc: Global, name: &[u8]) -> Result<Ended, AllocError> {
         if !is_name(name) {
             return Ok(Ended::Wrong);
         }
-        self.run(alloc, NameCall::unbind(DIRECTORY, name))
+        let string = string_of(alloc, name)?;
+        self.run(alloc, NameCall::unbind(DIRECTORY, string))
     }
 
     pub fn find(&mut self, alloc: Global, name: &[u8]) -> Result<Ended, AllocError> {
         if !is_name(name) {
             return Ok(Ended::Wrong);
         }
-        self.run(alloc, NameCall::find(DIRECTORY, name))
+        let string = string_of(alloc, name)?;
+        self.run(alloc, NameCall::find(DIRECTORY, string))
     }
 
     pub fn names(&mut self, alloc: Global) -> Result<Ended, AllocError> {
         self.run(alloc, NameCall::names(DIRECTORY))
     }
+}
+
+fn string_of(alloc: Global, name: &[u8]) -> Result<ByteString, AllocError>
+    ensures { IfOk result (λ string. string ≡ name.now) }
+{
+    ByteString::new(alloc, name.to_vec(alloc)?)
 }
 
 fn finish(alloc: Global, next: NameNext) -> Result<Ended, AllocError> {

@@ -18,7 +18,6 @@ use Rattle.jn_system.specs.WholeSystem.World.{Memory}
 use Rattle.jn_system.proofs.WholeSystem.CoordinatorCases.{CoordinatorCase, begins_anew, coordinator-case}
 use Rattle.jn_system.proofs.WholeSystem.ServerRows.{row-either}
 use Rattle.jn_system.proofs.WholeSystem.WorkerCases.{WorkerCase, opens_anew, worker-case}
-use Rattle.jn_wire.specs.Sizes.{NamesFew}
 use Rattle.jn_node.specs.Nodes.{are_own}
 use Rattle.jn_node.specs.Serving.{is_own, to_itself}
 
@@ -38,11 +37,6 @@ pub own-small : (m : Message) → is_from_server m ≡ true → is_small 8 m ≡
 own-small (messages.End c q T works) h = absurd (true≢false (sym h))
 own-small (messages.Abort c q T works) h = absurd (true≢false (sym h))
 own-small m h = refl
-
-pub own-few : (m : Message) → is_from_server m ≡ true → NamesFew m
-own-few (messages.Abort c q T works) h = absurd (true≢false (sym h))
-own-few (messages.End c q T works) h = absurd (true≢false (sym h))
-own-few m h = tt
 
 -- ---- messages of a row
 

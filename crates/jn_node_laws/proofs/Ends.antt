@@ -1,18 +1,9 @@
 -- How a node ends follows from what it was given.
-use Rattle.jn_node_laws.proofs.Common.{◌≡◌, ◌≢◌, ℕ, ◌<◌, true, false, List, Option, Some, None, is_some, refl, sym, ◌∙◌, ap, subst, arith, true≢false, ServerNo, Contents, image_bytes, Has, image_name, accepted_is_not_refused, one_cause, found_on, Counts, StableState, Pick, frames_of, pairs_view, Framed, Unframed, NoneFails, Outside, SinkState, Writes, state_of, ServesFrames, sent_bytes, AreAlike}
-use Rattle.std.specs.Io.KnownBytes.{append_known}
-use Rattle.jn_image_files.specs.declared.refusal.Cause.{Cause}
-use Rattle.jn_image_files.specs.Examined.{IsRefused}
-use Rattle.jn_image_files.specs.Texts.{refusal_text}
-use Rattle.jn_options.specs.declared.asked.Node.{Node}
-use Rattle.jn_server.specs.Settled.{IsSettledState}
-use Rattle.jn_status.specs.declared.status.Status.{Status}
+use Rattle.jn_node_laws.proofs.Common.{◌≡◌, ◌≢◌, ℕ, ◌<◌, true, false, List, [], take, Option, Some, None, is_some, refl, sym, ◌∙◌, ap, subst, arith, true≢false, same_Some, ServerNo, Contents, image_bytes, Has, image_name, accepted_is_not_refused, one_cause, found_on, Counts, StableState, Pick, Sent, frames_of, pairs_view, Framed, Unframed, NoneFails, Outside, SinkState, Writes, WritesFront, state_of, ServesFrames, sent_bytes, AreAlike, append_known, Cause, IsRefused, refusal_text, Node, Status, IsFound, NodeEnds, Served, ServedFront, ServedWhole, epoch_found, state_then, node_done, node_not_loaded, node_refused, node_refusal_not_written, node_not_read, node_not_written, node_no_epoch, node_no_epoch_left, node_passed_limit, node_frame, node_unsettled, node_not_saved, node_no_memory, node_no_memory_inside, last_epoch, CanServe, GivenCanServe, NodesAreCutShort, NodesComplete, NodesEndAsGiven, NodesEndInOneWay, NodesEndOnce, OneEndIsGiven, Tell, is_own_end, EndsAsGiven, EndsBy, EndsWhole, HasNoFrame, IsGiven, PassesLimit, as_given, cut_short, given_frames, given_no_epoch, given_refused, has_no_epoch, has_no_frame, has_waiting, is_done, is_too_long}
 use Rattle.jn_status.specs.declared.status.Status.TheVariants.{Done, Image, Limit, Memory, Unsettled, Frame}
-use Rattle.jn_node_run.specs.Outcome.{IsFound, NodeEnds, RefusedOwn, Served, ServedWhole, epoch_found, state_then, node_done, node_not_loaded, node_refused, node_refusal_not_written, node_not_read, node_not_written, node_no_epoch, node_no_epoch_left, node_passed_limit, node_frame, node_unsettled, node_not_saved, node_no_memory, node_no_memory_inside}
-use Rattle.jn_records.specs.Pages.{last_epoch}
-use Rattle.jn_node_laws.specs.Ends.{NodesComplete, NodesEndInOneWay}
+use Rattle.jn_node_laws.proofs.Fronts.{front-of-all, front-sent, known-nothing, serves-first}
 use Rattle.jn_node_laws.proofs.Images.{same-counts, same-found, servers-alike}
-use Rattle.jn_node_laws.proofs.Inputs.{Breaks, Ends, Passes, PiecesJoin, at-end-ends, ends-whole, fault-breaks, no-two, passes-whole, past-passes, unframed_of}
+use Rattle.jn_node_laws.proofs.Inputs.{PiecesJoin, at-end-ends, ends-whole, fault-breaks, front-frames, no-two, passes-whole, past-passes, unframed_of}
 use Rattle.jn_node_laws.proofs.Stepping.{frames-fix}
 
 -- ---- by what it was given
@@ -35,28 +26,20 @@ nodes-complete node before after _ fails (node_no_memory_inside t source keeper)
 
 -- ---- how the stream ends
 
--- by all that the source has, and by what stands on the pages then
-data Way (s : ServerNo) (text : List ℕ) (z : StableState) : Status → Type 0 where
-  is_done : Ends s text → IsSettledState z → z.epoch < last_epoch → Way s text z Done
-  has_no_epoch : Ends s text → IsSettledState z → z.epoch ≡ last_epoch → Way s text z Limit
-  has_waiting : Ends s text → (IsSettledState z → ⊥) → Way s text z Unsettled
-  is_too_long : Passes s text → Way s text z Limit
-  has_no_frame : Breaks s text → Way s text z Frame
-
 none-left : (n : ℕ) → n < last_epoch → n ≡ last_epoch → ⊥
 none-left n h k = omega (arith, h, k)
 
 module _ (s : ServerNo) (text : List ℕ) (z : StableState) where
-  long : (P : Type 0) → Ends s text → Passes s text → P
+  long : (P : Type 0) → EndsWhole s text → PassesLimit s text → P
   long P ends passes = absurd (no-two _ ends.fits passes.past)
 
-  broken : (P : Type 0) → Ends s text → Breaks s text → P
+  broken : (P : Type 0) → EndsWhole s text → HasNoFrame s text → P
   broken P ends breaks = absurd (ends-whole s text ends breaks)
 
-  both : (P : Type 0) → Passes s text → Breaks s text → P
+  both : (P : Type 0) → PassesLimit s text → HasNoFrame s text → P
   both P passes breaks = absurd (passes-whole s text passes breaks)
 
-  one-way : (a b : Status) → Way s text z a → Way s text z b → a ≡ b
+  one-way : (a b : Status) → EndsBy s text z a → EndsBy s text z b → a ≡ b
   one-way _ _ (is_done e settled less) (is_done f too few) = refl
   one-way _ _ (is_done e settled less) (has_no_epoch f too last) = absurd (none-left z.epoch less last)
   one-way _ _ (is_done e settled less) (has_waiting f waits) = absurd (waits settled)
@@ -83,37 +66,14 @@ module _ (s : ServerNo) (text : List ℕ) (z : StableState) where
   one-way _ _ (has_no_frame b) (is_too_long p) = both _ p b
   one-way _ _ (has_no_frame b) (has_no_frame c) = refl
 
--- ---- how the node ends
+  way-own : (status : Status) → EndsBy s text z status → is_own_end status ≡ true
+  way-own _ (is_done e settled less) = refl
+  way-own _ (has_no_epoch e settled last) = refl
+  way-own _ (has_waiting e waits) = refl
+  way-own _ (is_too_long p) = refl
+  way-own _ (has_no_frame b) = refl
 
-data Ending (node : Node) (before after : Outside) (text : List ℕ) : Status → Type 0 where
-  refuses : RefusedOwn node before after Writes → Ending node before after text Image
-  is_used_up : (f : IsFound node before.keeper.kept) → epoch_found f ≡ last_epoch → after ≡ before → Ending node before after text Limit
-  was_told : (status : Status) (t : ServedWhole node before after) → unframed_of node.server t.read ≡ unframed_of node.server text → Way node.server text (state_then t.served) status
-      → Ending node before after text status
-
-module _ (pieces : PiecesJoin) (node : Node) (before after : Outside) (fails : NoneFails before after) (text : List ℕ) (left : before.source.left ≡ Some text) where
-  ending : (status : Status) → NodeEnds node before after status → status ≢ Memory → Ending node before after text status
-  ending _ (node_done e saves) lacks =
-      let t = e.told in let end = at-end-ends node.server text before.source left t.read e.end in let closed = saves.closed in
-      was_told Done t end.0 (is_done end.1 e.settled closed.before_last)
-  ending _ (node_not_loaded source sink keeper) lacks = absurd (fails.keeper keeper.rose)
-  ending _ (node_refused r source keeper) lacks = refuses r
-  ending _ (node_refusal_not_written r source keeper) lacks = absurd (fails.sink (let w = r.written in w.rose))
-  ending _ (node_not_read t none fits rose keeper) lacks = absurd (fails.source rose)
-  ending _ (node_not_written t source keeper) lacks = absurd (fails.sink (let w = t.written in w.rose))
-  ending _ (node_no_epoch f last same) lacks = is_used_up f last same
-  ending _ (node_no_epoch_left e last keeper) lacks =
-      let t = e.told in let end = at-end-ends node.server text before.source left t.read e.end in
-      was_told Limit t end.0 (has_no_epoch end.1 e.settled last)
-  ending _ (node_passed_limit t none past source keeper) lacks = let end = past-passes node.server text before.source left t.read after.source t.gave none past in was_told Limit t end.0
-      (is_too_long end.1)
-  ending _ (node_frame t meets source keeper) lacks = let end = fault-breaks node.server text before.source left t.read after.source t.gave pieces meets in was_told Frame t end.0 (has_no_frame end.1)
-  ending _ (node_unsettled t at waits source keeper) lacks = let end = at-end-ends node.server text before.source left t.read at in was_told Unsettled t end.0 (has_waiting end.1 waits)
-  ending _ (node_not_saved e less keeper) lacks = absurd (fails.keeper keeper.rose)
-  ending _ (node_no_memory same) lacks = absurd (lacks refl)
-  ending _ (node_no_memory_inside t source keeper) lacks = absurd (lacks refl)
-
--- ---- two calls from one outside
+-- ---- what is given
 
 -- what a sink took
 writes-same : (one two : List ℕ) (sink now then : SinkState) → two ≡ one → Writes one sink now → Writes two sink then → now ≡ then
@@ -125,28 +85,43 @@ writes-same one two sink now then same a b = λ i. record { taken = taken i; fau
     faults : now.faults ≡ then.faults
     faults = a.faults ∙ sym b.faults
 
+writes-nothing : (sink : SinkState) → Writes [] sink sink
+writes-nothing sink = record { took = sym (known-nothing sink.taken); faults = refl }
+
 -- what a keeper has under one name
 has-one : (kept : Option Contents) (name : List ℕ) (one two : Option (List ℕ)) → is_some kept ≡ true → Has kept name one → Has kept name two → two ≡ one
 has-one None name one two told a b = absurd (true≢false (sym told))
 has-one (Some holds) name one two told a b = sym b ∙ a
 
+-- the same frames by another name
+abbrev renamed : {node : Node} {kept : Option Contents} (frames more : List Framed) → more ≡ frames → Served node kept frames → Served node kept more
+renamed {node} frames more e v = record {
+  found = v.found;
+  first = v.first;
+  opens = v.opens;
+  sent = v.sent;
+  last = v.last;
+  serves = subst (λ (fs : List Framed). ServesFrames node.server v.found.counts v.first fs v.sent v.last) (sym e) v.serves;
+}
+
+pub given-own : (node : Node) (before : Outside) (status : Status) (text : List ℕ) → IsGiven node before status text → is_own_end status ≡ true
+given-own node before _ _ (given_refused content cause has refused) = refl
+given-own node before _ _ (given_no_epoch f last) = refl
+given-own node before _ _ (given_frames text status left served way) = way-own node.server text (state_then served) status way
+
 module _ (node : Node) (before : Outside) (tells : is_some before.keeper.kept ≡ true) where
   -- an image is refused, or found
-  not-found : (after : Outside) → RefusedOwn node before after Writes → IsFound node before.keeper.kept → ⊥
-  not-found after r f = let disk = f.opened in let kept = disk.disk in
-      accepted_is_not_refused node.server r.content r.cause
-      (kept.image, kept.is_sound, has-one before.keeper.kept (image_name node.opening node.server.0) (Some (image_bytes kept.image)) r.content tells kept.bytes r.has) r.refused
+  not-found : (content : Option (List ℕ)) (cause : Cause) → Has before.keeper.kept (image_name node.opening node.server.0) content → IsRefused node.server content cause
+      → IsFound node before.keeper.kept → ⊥
+  not-found content cause has refused f = let disk = f.opened in let kept = disk.disk in
+      accepted_is_not_refused node.server content cause
+      (kept.image, kept.is_sound, has-one before.keeper.kept (image_name node.opening node.server.0) (Some (image_bytes kept.image)) content tells kept.bytes has) refused
 
-  one-refusal : (after other : Outside) → RefusedOwn node before after Writes → RefusedOwn node before other Writes → after.sink ≡ other.sink
-  one-refusal after other a b = writes-same (refusal_text (record { server = node.server; cause = a.cause }))
-      (refusal_text (record { server = node.server; cause = b.cause })) before.sink after.sink other.sink
-      (ap (λ (c : Cause). refusal_text (record { server = node.server; cause = c })) same) a.written b.written
-    where
-      content : b.content ≡ a.content
-      content = has-one before.keeper.kept (image_name node.opening node.server.0) a.content b.content tells a.has b.has
-
-      same : b.cause ≡ a.cause
-      same = one_cause node.server a.content b.cause a.cause (subst (λ (c : Option (List ℕ)). IsRefused node.server c b.cause) content b.refused) a.refused
+  one-refusal : (content more : Option (List ℕ)) (cause other : Cause) → Has before.keeper.kept (image_name node.opening node.server.0) content
+      → Has before.keeper.kept (image_name node.opening node.server.0) more → IsRefused node.server content cause → IsRefused node.server more other → cause ≡ other
+  one-refusal content more cause other has too refused again =
+      one_cause node.server content cause other refused (subst (λ (c : Option (List ℕ)). IsRefused node.server c other)
+      (has-one before.keeper.kept (image_name node.opening node.server.0) content more tells has too) again)
 
   module _ (f h : IsFound node before.keeper.kept) where
     counts-same : h.counts ≡ f.counts
@@ -170,40 +145,127 @@ module _ (node : Node) (before : Outside) (tells : is_some before.keeper.kept �
     serves = subst (λ (fs : List Framed). ServesFrames node.server a.found.counts b.first fs b.sent b.last) same
         (subst (λ (g : Counts). ServesFrames node.server g b.first more b.sent b.last) (counts-same a.found b.found) b.serves)
 
-    end-alike : (b.sent ≡ a.sent) × AreAlike node.server a.found.counts a.last b.last
+    pub end-alike : (b.sent ≡ a.sent) × AreAlike node.server a.found.counts a.last b.last
     end-alike = frames-fix node.server a.found.counts a.first b.first frames a.sent b.sent a.last b.last begin-alike a.serves serves
 
     states-same : state_then b ≡ state_then a
     states-same = ap (λ (g : Counts). state_of g b.last) (counts-same a.found b.found) ∙ (let alike = end-alike.1 in alike.found)
 
-  module _ (after other : Outside) (text : List ℕ) where
-    told-same : (a b : Status) (t : ServedWhole node before after) (u : ServedWhole node before other) → unframed_of node.server t.read ≡ unframed_of node.server text
-        → unframed_of node.server u.read ≡ unframed_of node.server text
-        → Way node.server text (state_then t.served) a → Way node.server text (state_then u.served) b → (a ≡ b) × (after.sink ≡ other.sink)
-    told-same a b t u reads too way its =
-        let frames : frames_of node.server u.read ≡ frames_of node.server t.read = ap (λ (x : Unframed). x.frames) (too ∙ sym reads) in
-        let alike = end-alike (frames_of node.server t.read) (frames_of node.server u.read) t.served u.served frames in
-        let states = states-same (frames_of node.server t.read) (frames_of node.server u.read) t.served u.served frames in (
-          one-way node.server text (state_then t.served) a b way (subst (λ (z : StableState). Way node.server text z b) states its),
-          writes-same (sent_bytes node.server t.served.sent) (sent_bytes node.server u.served.sent) before.sink after.sink other.sink (ap (sent_bytes node.server) alike.0) t.written u.written,
-        )
+  -- frames of one source
+  frames-given : (text more : List ℕ) (a b : Status) → before.source.left ≡ Some text → before.source.left ≡ Some more
+      → (t : Served node before.keeper.kept (frames_of node.server text)) (u : Served node before.keeper.kept (frames_of node.server more))
+      → EndsBy node.server text (state_then t) a → EndsBy node.server more (state_then u) b → (a ≡ b) × (sent_bytes node.server t.sent ≡ sent_bytes node.server u.sent)
+  frames-given text more a b left too t u way its =
+      let same : more ≡ text = same_Some more text (sym too ∙ left) in
+      let alike = end-alike (frames_of node.server text) (frames_of node.server more) t u (ap (frames_of node.server) same) in
+      let states = states-same (frames_of node.server text) (frames_of node.server more) t u (ap (frames_of node.server) same) in (
+        one-way node.server text (state_then t) a b way (subst (λ (z : StableState). EndsBy node.server text z b) states
+            (subst (λ (l : List ℕ). EndsBy node.server l (state_then u) b) same its)),
+        ap (sent_bytes node.server) (sym alike.0),
+      )
 
-    ends-same : (a b : Status) → Ending node before after text a → Ending node before other text b → (a ≡ b) × (after.sink ≡ other.sink)
-    ends-same _ _ (refuses r) (refuses q) = (refl, one-refusal after other r q)
-    ends-same _ _ (refuses r) (is_used_up f last same) = absurd (not-found after r f)
-    ends-same _ _ (refuses r) (was_told status t reads way) = absurd (not-found after r (let s = t.served in s.found))
-    ends-same _ _ (is_used_up f last same) (refuses q) = absurd (not-found other q f)
-    ends-same _ _ (is_used_up f last same) (is_used_up h end too) = (refl, ap (λ (o : Outside). o.sink) (same ∙ sym too))
-    ends-same _ _ (is_used_up f last same) (was_told status t reads way) = absurd (not-used-up f _ t.served last)
-    ends-same _ _ (was_told status t reads way) (refuses q) = absurd (not-found other q (let s = t.served in s.found))
-    ends-same _ _ (was_told status t reads way) (is_used_up h end too) = absurd (not-used-up h _ t.served end)
-    ends-same _ _ (was_told status t reads way) (was_told state u too its) = told-same status state t u reads too way its
+  given-same : (a b : Status) (text more : List ℕ) → IsGiven node before a text → IsGiven node before b more → (a ≡ b) × (text ≡ more)
+  given-same _ _ _ _ (given_refused content cause has refused) (given_refused other why too again) =
+      (refl, ap (λ (c : Cause). refusal_text (record { server = node.server; cause = c })) (one-refusal content other cause why has too refused again))
+  given-same _ _ _ _ (given_refused content cause has refused) (given_no_epoch h end) = absurd (not-found content cause has refused h)
+  given-same _ _ _ _ (given_refused content cause has refused) (given_frames more b too u its) = absurd (not-found content cause has refused u.found)
+  given-same _ _ _ _ (given_no_epoch f last) (given_refused other why too again) = absurd (not-found other why too again f)
+  given-same _ _ _ _ (given_no_epoch f last) (given_no_epoch h end) = (refl, refl)
+  given-same _ _ _ _ (given_no_epoch f last) (given_frames more b too u its) = absurd (not-used-up f _ u last)
+  given-same _ _ _ _ (given_frames text a left t way) (given_refused other why too again) = absurd (not-found other why too again t.found)
+  given-same _ _ _ _ (given_frames text a left t way) (given_no_epoch h end) = absurd (not-used-up h _ t end)
+  given-same _ _ _ _ (given_frames text a left t way) (given_frames more b too u its) = frames-given text more a b left too t u way its
 
-left-some : (o : Option (List ℕ)) → is_some o ≡ true → (text : List ℕ) × (o ≡ Some text)
+  -- whoever else is found serves the same frames
+  can-serve : (status : Status) (text : List ℕ) → IsGiven node before status text → CanServe node before
+  can-serve _ _ (given_refused content cause has refused) more too f less = absurd (not-found content cause has refused f)
+  can-serve _ _ (given_no_epoch h end) more too f less = absurd (none-left _ less (ap (λ (z : StableState). z.epoch) (found-same h f (λ n. false) (λ n. false)) ∙ end))
+  can-serve _ _ (given_frames text status left t way) more too f less =
+      renamed (frames_of node.server text) (frames_of node.server more) (ap (frames_of node.server) (same_Some more text (sym too ∙ left))) t
+
+pub given-serves : GivenCanServe
+given-serves node before status text tells given = can-serve node before tells.keeper status text given
+
+pub one-given : OneEndIsGiven
+one-given node before a b text more tells given its = let same = given-same node before tells.keeper a b text more given its in (given-own node before a text given, same.0, same.1)
+
+-- ---- as it was given
+
+module _ (pieces : PiecesJoin) (node : Node) (before after : Outside) (tells : Tell before) (fails : NoneFails before after) where
+  -- served to the front of the text
+  cut : (text : List ℕ) → before.source.left ≡ Some text → (served : Served node before.keeper.kept (frames_of node.server text)) → ServedFront node before after WritesFront
+      → WritesFront (sent_bytes node.server served.sent) before.sink after.sink
+  cut text left served t =
+      let (more, e) = front-frames node.server text before.source left t.read after.source t.gave pieces t.front in
+      let h = serves-first node.server served.found.counts served.first (frames_of node.server (take t.front t.read)) more served.sent served.last
+      (subst (λ (fs : List Framed). ServesFrames node.server served.found.counts served.first fs served.sent served.last) e served.serves) in
+      let begun : Served node before.keeper.kept (frames_of node.server (take t.front t.read)) =
+      record { found = served.found; first = served.first; opens = served.opens; sent = h.first; last = h.last; serves = h.serves } in
+      let alike = end-alike node before tells.keeper (frames_of node.server (take t.front t.read)) (frames_of node.server (take t.front t.read)) begun t.served refl in
+      front-sent node.server served.sent h.first h.later before.sink after.sink h.both (subst (λ (l : List Sent). WritesFront (sent_bytes node.server l) before.sink after.sink) alike.0 t.written)
+
+  cut-given : (status : Status) (text : List ℕ) → ServedFront node before after WritesFront → IsGiven node before status text → WritesFront text before.sink after.sink
+  cut-given _ _ t (given_refused content cause has refused) = absurd (not-found node before tells.keeper content cause has refused (let s = t.served in s.found))
+  cut-given _ _ t (given_no_epoch f last) = absurd (not-used-up node before tells.keeper f _ t.served last)
+  cut-given _ _ t (given_frames text status left served way) = cut text left served t
+
+  module _ (text : List ℕ) (left : before.source.left ≡ Some text) where
+    told : (status : Status) (t : ServedWhole node before after) → unframed_of node.server t.read ≡ unframed_of node.server text → EndsBy node.server text (state_then t.served) status
+        → EndsAsGiven node before after.sink status
+    told status t same way = let e = ap (λ (u : Unframed). u.frames) (sym same) in
+        as_given status (sent_bytes node.server t.served.sent)
+        (given_frames text status left (renamed (frames_of node.server t.read) (frames_of node.server text) e t.served) way) t.written
+
+    ending : (status : Status) → NodeEnds node before after status → EndsAsGiven node before after.sink status
+    ending _ (node_done e saves) =
+        let t = e.told in let end = at-end-ends node.server text before.source left t.read e.end in let closed = saves.closed in
+        told Done t end.0 (is_done end.1 e.settled closed.before_last)
+    ending _ (node_not_loaded source sink keeper) = absurd (fails.keeper keeper.rose)
+    ending _ (node_refused r source keeper) = as_given Image (refusal_text (record { server = node.server; cause = r.cause })) (given_refused r.content r.cause r.has r.refused) r.written
+    ending _ (node_refusal_not_written r source keeper) = absurd (fails.sink (let w = r.written in w.rose))
+    ending _ (node_not_read t none fits rose keeper) = absurd (fails.source rose)
+    ending _ (node_not_written t source keeper) = absurd (fails.sink (let w = t.written in w.rose))
+    ending _ (node_no_epoch f last same) = as_given Limit [] (given_no_epoch f last) (subst (λ (o : Outside). Writes [] before.sink o.sink) (sym same) (writes-nothing before.sink))
+    ending _ (node_no_epoch_left e last keeper) =
+        let t = e.told in let end = at-end-ends node.server text before.source left t.read e.end in
+        told Limit t end.0 (has_no_epoch end.1 e.settled last)
+    ending _ (node_passed_limit t none past source keeper) = let end = past-passes node.server text before.source left t.read after.source t.gave none past in told Limit t end.0 (is_too_long end.1)
+    ending _ (node_frame t meets source keeper) = let end = fault-breaks node.server text before.source left t.read after.source t.gave pieces meets in told Frame t end.0 (has_no_frame end.1)
+    ending _ (node_unsettled t at waits source keeper) = let end = at-end-ends node.server text before.source left t.read at in told Unsettled t end.0 (has_waiting end.1 waits)
+    ending _ (node_not_saved e less keeper) = absurd (fails.keeper keeper.rose)
+    ending _ (node_no_memory same) = cut_short (λ status text given. subst (λ (o : Outside). WritesFront text before.sink o.sink) (sym same) (front-of-all text before.sink))
+    ending _ (node_no_memory_inside t source keeper) = cut_short (λ status text given. cut-given status text t given)
+
+pub left-some : (o : Option (List ℕ)) → is_some o ≡ true → (text : List ℕ) × (o ≡ Some text)
 left-some None h = absurd (true≢false (sym h))
 left-some (Some text) h = (text, refl)
 
+pub nodes-as-given : PiecesJoin → NodesEndAsGiven
+nodes-as-given pieces node before after status tells fails h = let (text, left) = left-some before.source.left tells.source in ending pieces node before after tells fails text left status h
+
+-- ---- two calls from one outside
+
+module _ (node : Node) (before : Outside) (sink : SinkState) where
+  was-given : (status : Status) → EndsAsGiven node before sink status → status ≢ Memory → (text : List ℕ) × IsGiven node before status text × Writes text before.sink sink
+  was-given _ (as_given status text given writes) lacks = (text, given, writes)
+  was-given _ (cut_short front) lacks = absurd (lacks refl)
+
+  was-cut : EndsAsGiven node before sink Memory → (status : Status) (text : List ℕ) → IsGiven node before status text → WritesFront text before.sink sink
+  was-cut (as_given _ own given writes) status text its = absurd (true≢false (sym (given-own node before Memory own given)))
+  was-cut (cut_short front) status text its = front status text its
+
 pub nodes-end-in-one-way : PiecesJoin → NodesEndInOneWay
 nodes-end-in-one-way pieces node before after other a b tells fails fail h k lacks lack =
-    let (text, left) = left-some before.source.left tells.source in
-    ends-same node before tells.keeper after other text a b (ending pieces node before after fails text left a h lacks) (ending pieces node before other fail text left b k lack)
+    let (one, given, writes) = was-given node before after.sink a (nodes-as-given pieces node before after a tells fails h) lacks in
+    let (two, its, writes_too) = was-given node before other.sink b (nodes-as-given pieces node before other b tells fail k) lack in
+    let same = given-same node before tells.keeper a b one two given its in
+    (same.0, writes-same one two before.sink after.sink other.sink (sym same.1) writes writes_too)
+
+pub nodes-end-once : PiecesJoin → NodesEndOnce
+nodes-end-once pieces node before after a b tells fails h k lacks lack =
+    let same = nodes-end-in-one-way pieces node before after after a b tells fails fails h k lacks lack in same.0
+
+pub nodes-cut-short : PiecesJoin → NodesAreCutShort
+nodes-cut-short pieces node before after other status tells fails fail h k lacks =
+    let (text, given, writes) = was-given node before other.sink status (nodes-as-given pieces node before other status tells fail k) lacks in
+    (text, writes, was-cut node before after.sink (nodes-as-given pieces node before after Memory tells fails h) status text given)

@@ -1,8 +1,6 @@
 -- Two disks of the image that is kept under one name are of one image, so that servers come up on them alike.
-use Rattle.jn_node_laws.proofs.Common.{◌≡◌, ℕ, true, List, Option, Some, None, sym, ◌∙◌, ap, subst, true≢false, ServerNo, DeviceState, AreSound, HasPages, Contents, image_counts, image_name, one_image, found_on, Counts, Pick, pairs_view, Running, IsOpen, AreAlike, ImagesFixServers}
+use Rattle.jn_node_laws.proofs.Common.{◌≡◌, ℕ, true, List, Option, Some, None, sym, ◌∙◌, ap, subst, true≢false, ServerNo, DeviceState, AreSound, HasPages, Contents, image_counts, image_name, one_image, found_on, Counts, Pick, pairs_view, Running, IsOpen, AreAlike, ImagesFixServers, Image, sound_pages}
 use Rattle.std.specs.Prelude.{is_some}
-use Rattle.jn_image.specs.declared.image.Image.{Image}
-use Rattle.jn_image.proofs.SoundPages.{sound_pages}
 use Rattle.jn_image_files.specs.Opened.{IsOpened}
 use Rattle.jn_order.specs.Files.{Files}
 use Rattle.jn_page_state.specs.Pages as stands

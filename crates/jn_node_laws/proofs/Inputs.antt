@@ -1,11 +1,9 @@
 -- What a source has fixes the frames that are read of it, and how reading ends: it is read to its end, it is too long, or bytes are no frame.
-use Rattle.jn_node_laws.proofs.Common.{◌≡◌, ◌⊎◌, inl, inr, ⊎_elim, ℕ, ◌+◌, ◌≤◌, ◌<◌, true, List, [], ◌∷◌, ◌++◌, length, take, drop, Option, Some, None, is_some, refl, sym, ◌∙◌, ap, subst, arith, true≢false, length-append, ◌-◌, IfSome, ServerNo, Gave, IsAtEnd, IsText, MeetsFault, inside, at_end, held_of, most_bytes, Framed, Held, Unframed, after_byte, holds, in_front, joined, nothing_held, unframed, unframed_by, SourceState}
+use Rattle.jn_node_laws.proofs.Common.{◌≡◌, ⊎_elim, ℕ, ◌+◌, ◌≤◌, ◌<◌, true, List, [], ◌∷◌, ◌++◌, length, take, drop, Option, Some, None, is_some, refl, sym, ◌∙◌, ap, subst, arith, true≢false, none-some, length-append, ◌-◌, IfSome, ServerNo, frames_of, Gave, IsAtEnd, IsText, MeetsFault, inside, at_end, held_of, most_bytes, Framed, Held, Unframed, after_byte, holds, in_front, joined, nothing_held, unframed, unframed_by, SourceState, take-append-add, cases_lt, append-nil, append_assoc, take-append-drop, take-append-le, WireFault, Result, Ok, Err, if◌then◌else◌, is_whole, waiting, EndsWhole, HasNoFrame, PassesLimit, is_at_fault, is_cut_off}
 use Rattle.std.proofs.Math.ListN.{drop_of_length-le}
-use Rattle.std.proofs.Math.Seq.{take-append-add}
-use Rattle.std.proofs.lemmas.Bool.{cases_lt}
-use Rattle.std.proofs.lemmas.List.{append-nil, take-append-drop, take-append-le}
-use Rattle.jn_wire.specs.declared.fault.WireFault.{WireFault}
+use Rattle.std.specs.Prelude.{Bool, false}
 use Rattle.jn_wire.specs.Decoding.{decode}
+use Rattle.jn_wire.specs.Unframing as unframing
 
 -- bytes that are fed in two pieces give what they give in one
 abbrev pub PiecesJoin : Type 0
@@ -42,6 +40,50 @@ module _ (s : ServerNo) (h : Held) (met : is_some h.fault ≡ true) where
       by (Some f) e again = ap (in_front []) again
       by None e again = absurd (true≢false (sym e))
 
+-- without a fault each byte has its place
+no-more : (at n : ℕ) → at + n ≡ at + n + 0
+no-more at n = omega arith
+
+all-given : (at n l : ℕ) → l ≡ n + 1 → at + l + 0 ≡ at + n + 1
+all-given at n l e = omega (arith, e)
+
+one-held : (at n l : ℕ) → l ≡ n + 1 → at + l ≡ at + n + 1
+one-held at n l e = omega (arith, e)
+
+one-first : (x u h n l : ℕ) → l ≡ n + 1 → u ≡ h + 1 → x ≡ u + n → x ≡ h + l
+one-first x u h n l e first rest = omega (arith, e, first, rest)
+
+one-longer : (b : ℕ) (bytes : List ℕ) → length (b ∷ bytes) ≡ length bytes + 1
+one-longer b bytes = omega arith
+
+module _ (s : ServerNo) where
+  step : (h : Held) (o : Option WireFault) (b : ℕ) → o ≡ h.fault → (after_byte (decode s) h o b).held.fault ≡ None
+      → (after_byte (decode s) h o b).held.at + length (after_byte (decode s) h o b).held.bytes ≡ h.at + length h.bytes + 1
+  step h (Some f) b is none = absurd (none-some f (sym none ∙ sym is))
+  step h None b is none = by (is_whole (h.bytes ++ b ∷ [])) (decode s (drop 2 (h.bytes ++ b ∷ []))) none
+    where
+      by : (w : Bool) (r : Result Framed ℕ) → (if w then unframing.met h.at (h.bytes ++ b ∷ []) r else holds (waiting h.at (h.bytes ++ b ∷ []))).held.fault ≡ None
+          → (if w then unframing.met h.at (h.bytes ++ b ∷ []) r else holds (waiting h.at (h.bytes ++ b ∷ []))).held.at
+          + length (if w then unframing.met h.at (h.bytes ++ b ∷ []) r else holds (waiting h.at (h.bytes ++ b ∷ []))).held.bytes ≡ h.at + length h.bytes + 1
+      by true (Ok f) none = all-given h.at (length h.bytes) (length (h.bytes ++ b ∷ [])) (length-append h.bytes (b ∷ []))
+      by true (Err n) none = absurd (none-some _ (sym none))
+      by false r none = one-held h.at (length h.bytes) (length (h.bytes ++ b ∷ [])) (length-append h.bytes (b ∷ []))
+
+  pub place : (h : Held) (bytes : List ℕ) → (unframed s h bytes).held.fault ≡ None
+      → (unframed s h bytes).held.at + length (unframed s h bytes).held.bytes ≡ h.at + length h.bytes + length bytes
+  place h [] none = no-more h.at (length h.bytes)
+  place h (b ∷ bytes) none = by (after_byte (decode s) h h.fault b).held.fault refl (place (after_byte (decode s) h h.fault b).held bytes none)
+    where
+      by : (o : Option WireFault) → (after_byte (decode s) h h.fault b).held.fault ≡ o
+          → (unframed s h (b ∷ bytes)).held.at + length (unframed s h (b ∷ bytes)).held.bytes
+          ≡ (after_byte (decode s) h h.fault b).held.at + length (after_byte (decode s) h h.fault b).held.bytes + length bytes
+          → (unframed s h (b ∷ bytes)).held.at + length (unframed s h (b ∷ bytes)).held.bytes ≡ h.at + length h.bytes + length (b ∷ bytes)
+      by (Some f) e rest = absurd (none-some f (sym none
+          ∙ ap (λ (u : Unframed). u.held.fault) (fault-stays s (after_byte (decode s) h h.fault b).held (ap is_some e) bytes) ∙ e))
+      by None e rest = one-first ((unframed s h (b ∷ bytes)).held.at + length (unframed s h (b ∷ bytes)).held.bytes)
+          ((after_byte (decode s) h h.fault b).held.at + length (after_byte (decode s) h h.fault b).held.bytes) (h.at + length h.bytes) (length bytes) (length (b ∷ bytes))
+          (one-longer b bytes) (step h h.fault b refl e) rest
+
 -- what is given by the first bytes of a text
 abbrev pub unframed_of : ServerNo → List ℕ → Unframed
 unframed_of s read = unframed s (nothing_held 0) (take most_bytes read)
@@ -55,20 +97,14 @@ module _ (pieces : PiecesJoin) (s : ServerNo) where
   met-in-front : (read rest : List ℕ) → is_some (held_of s read).fault ≡ true → unframed_of s (read ++ rest) ≡ unframed_of s read
   met-in-front read rest met = let (more, e) = firsts most_bytes read rest in ap (unframed s (nothing_held 0)) e ∙ fault-read (take most_bytes read) more met
 
+  -- the frames of a front are the first of the whole
+  frames-front : (read rest : List ℕ) → (more : List Framed) × (frames_of s (read ++ rest) ≡ frames_of s read ++ more)
+  frames-front read rest = let (more, e) = firsts most_bytes read rest in (
+    (unframed s (unframed s (nothing_held 0) (take most_bytes read)).held more).frames,
+    ap (λ (l : List ℕ). (unframed s (nothing_held 0) l).frames) e ∙ ap (λ (u : Unframed). u.frames) (pieces s (nothing_held 0) (take most_bytes read) more),
+  )
+
 -- ---- how reading ends, by all that the source has
-
-pub record Ends (s : ServerNo) (text : List ℕ) : Type 0 where
-  pub fits : length text ≤ most_bytes
-  pub whole : held_of s text ≡ nothing_held (length text)
-
-pub record Passes (s : ServerNo) (text : List ℕ) : Type 0 where
-  pub none : (held_of s text).fault ≡ None
-  pub past : most_bytes < length text
-
--- inside of the text, or at its end
-pub record Breaks (s : ServerNo) (text : List ℕ) : Type 0 where
-  pub fits : ((held_of s text).fault ≡ None) → length text ≤ most_bytes
-  pub broken : (is_some (held_of s text).fault ≡ true) ⊎ (0 < length (held_of s text).bytes)
 
 pub no-two : (n : ℕ) → n ≤ most_bytes → most_bytes < n → ⊥
 no-two n h k = omega (arith, h, k)
@@ -76,16 +112,13 @@ no-two n h k = omega (arith, h, k)
 empty : 0 < 0 → ⊥
 empty h = omega (arith, h)
 
--- what holds nothing is neither broken off nor stopped
-not-both : (h : Held) (n : ℕ) → h ≡ nothing_held n → (is_some h.fault ≡ true) ⊎ (0 < length h.bytes) → ⊥
-not-both h n none (inl met) = true≢false (sym met ∙ ap (λ (k : Held). is_some k.fault) none)
-not-both h n none (inr some) = empty (subst (λ (k : Held). 0 < length k.bytes) none some)
+pub ends-whole : (s : ServerNo) (text : List ℕ) → EndsWhole s text → HasNoFrame s text → ⊥
+ends-whole s text ends (is_at_fault met) = true≢false (sym met ∙ ap (λ (h : Held). is_some h.fault) ends.whole)
+ends-whole s text ends (is_cut_off fits none some) = empty (subst (λ (h : Held). 0 < length h.bytes) ends.whole some)
 
-pub ends-whole : (s : ServerNo) (text : List ℕ) → Ends s text → Breaks s text → ⊥
-ends-whole s text ends breaks = not-both (held_of s text) (length text) ends.whole breaks.broken
-
-pub passes-whole : (s : ServerNo) (text : List ℕ) → Passes s text → Breaks s text → ⊥
-passes-whole s text passes breaks = no-two (length text) (breaks.fits passes.none) passes.past
+pub passes-whole : (s : ServerNo) (text : List ℕ) → PassesLimit s text → HasNoFrame s text → ⊥
+passes-whole s text passes (is_at_fault met) = true≢false (sym met ∙ ap is_some passes.none)
+passes-whole s text passes (is_cut_off fits none some) = no-two (length text) fits passes.past
 
 -- ---- what was read of the source
 
@@ -93,9 +126,9 @@ module _ (s : ServerNo) (text : List ℕ) (source : SourceState) (left : source.
   is-text : (read : List ℕ) → IsText source.left read → read ≡ text
   is-text read is = subst (λ (o : Option (List ℕ)). IsText o read) left is
 
-  pub at-end-ends : (read : List ℕ) → IsAtEnd s source.left read → (unframed_of s read ≡ unframed_of s text) × Ends s text
+  pub at-end-ends : (read : List ℕ) → IsAtEnd s source.left read → (unframed_of s read ≡ unframed_of s text) × EndsWhole s text
   at-end-ends read e = let same = is-text read e.all in
-      (ap (unframed_of s) same, subst (λ (l : List ℕ). Ends s l) same (record { fits = e.fits; whole = e.whole }))
+      (ap (unframed_of s) same, subst (λ (l : List ℕ). EndsWhole s l) same (record { fits = e.fits; whole = e.whole }))
 
   module _ (read : List ℕ) (later : SourceState) (gave : Gave read source later) where
     -- what it has left stands behind what was read
@@ -108,20 +141,21 @@ module _ (s : ServerNo) (text : List ℕ) (source : SourceState) (left : source.
     longer : length read ≤ length text
     longer = let both = length-append read (drop (length read) text) in let all = ap length read-and-rest in omega (arith, both, all)
 
-    pub past-passes : (held_of s read).fault ≡ None → most_bytes < length read → (unframed_of s read ≡ unframed_of s text) × Passes s text
+    pub past-passes : (held_of s read).fault ≡ None → most_bytes < length read → (unframed_of s read ≡ unframed_of s text) × PassesLimit s text
     past-passes none past = (same, record { none = ap (λ (u : Unframed). u.held.fault) (sym same) ∙ none; past = let more = longer in omega (arith, past, more) })
       where
         same : unframed_of s read ≡ unframed_of s text
         same = ap (unframed s (nothing_held 0)) (sym (firsts-past most_bytes read (drop (length read) text) past)) ∙ ap (unframed_of s) read-and-rest
 
-    pub fault-breaks : PiecesJoin → MeetsFault s source.left read → (unframed_of s read ≡ unframed_of s text) × Breaks s text
+    pub fault-breaks : PiecesJoin → MeetsFault s source.left read → (unframed_of s read ≡ unframed_of s text) × HasNoFrame s text
     fault-breaks pieces (inside front near before met) =
-        let same : unframed_of s read ≡ unframed_of s text = sym (met-in-front pieces s read (drop (length read) text) met) ∙ ap (unframed_of s) read-and-rest in (
-          same,
-          record {
-            fits = λ none. absurd (true≢false (sym (sym (ap (λ (u : Unframed). is_some u.held.fault) same) ∙ met) ∙ ap is_some none));
-            broken = inl (sym (ap (λ (u : Unframed). is_some u.held.fault) same) ∙ met);
-          },
-        )
-    fault-breaks pieces (at_end all fits none some) = let same = is-text read all in
-        (ap (unframed_of s) same, subst (λ (l : List ℕ). Breaks s l) same (record { fits = λ n. fits; broken = inr some }))
+        let same : unframed_of s read ≡ unframed_of s text = sym (met-in-front pieces s read (drop (length read) text) met) ∙ ap (unframed_of s) read-and-rest in
+        (same, is_at_fault (sym (ap (λ (u : Unframed). is_some u.held.fault) same) ∙ met))
+    fault-breaks pieces (at_end all fits none some) = let same = is-text read all in (ap (unframed_of s) same, subst (λ (l : List ℕ). HasNoFrame s l) same (is_cut_off fits none some))
+
+    -- the first bytes of what was read are a front of the text, and their frames are the first of all
+    pub front-frames : PiecesJoin → (front : ℕ) → (more : List Framed) × (frames_of s text ≡ frames_of s (take front read) ++ more)
+    front-frames pieces front = let (more, e) = frames-front pieces s (take front read) (drop front read ++ drop (length read) text) in (more, ap (frames_of s) (sym whole) ∙ e)
+      where
+        whole : take front read ++ (drop front read ++ drop (length read) text) ≡ text
+        whole = sym (append_assoc (take front read) (drop front read) (drop (length read) text)) ∙ ap (λ (l : List ℕ). l ++ drop (length read) text) (take-append-drop front read) ∙ read-and-rest

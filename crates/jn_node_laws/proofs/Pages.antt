@@ -1,9 +1,8 @@
 -- Servers that come up on the pages of one sound image are alike.
-use Rattle.jn_node_laws.proofs.Common.{◌≡◌, ℕ, ◌<◌, ◌+◌, ◌*◌, Bool, true, false, List, [], ◌∷◌, Option, is_some, refl, sym, ◌∙◌, ap, subst, arith, true≢false, ◌/◌, ◌||◌, if◌then◌else◌, nat_lt, list_any, nat_tests, ServerNo, Tid, WorkId, tid_eq, work_eq, tid_tells, work_tells, DeviceState, AreSound, HasPages, files_in, image_of, found_on, half_of, pages_by, Counts, Pages, page_count, Pick, StableState, beside_on, Tells, pairs_view, restored, Memory, with_epoch, Running, state_of, IsOpen, AreAlike, AreNamed}
+use Rattle.jn_node_laws.proofs.Common.{◌≡◌, ℕ, ◌<◌, ◌+◌, ◌*◌, Bool, true, false, List, [], ◌∷◌, Option, is_some, refl, sym, ◌∙◌, ap, subst, arith, true≢false, ◌/◌, ◌||◌, if◌then◌else◌, nat_lt, list_any, nat_tests, ServerNo, Tid, WorkId, tid_eq, work_eq, tid_tells, work_tells, DeviceState, AreSound, HasPages, files_in, image_of, found_on, half_of, pages_by, Counts, Pages, page_count, Pick, StableState, beside_on, Tells, pairs_view, restored, Memory, with_epoch, Running, state_of, IsOpen, AreAlike, AreNamed, half_at}
 use Rattle.std.proofs.Math.Path.{fun_ext}
 use Rattle.jn_device.specs.declared.Half.{Half}
 use Rattle.jn_locks.specs.Locks.{work_before}
-use Rattle.jn_memdisk.specs.Pages.{half_at}
 use Rattle.jn_page_state.specs.Images.{IsFresh, IsStoreOf, only_files}
 use Rattle.jn_page_state.specs.Pages as stands
 use Rattle.jn_page_state.proofs.ImageStates.{image_fresh}

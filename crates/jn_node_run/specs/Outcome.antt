@@ -3,7 +3,8 @@
 use Rattle.std.specs.Prelude.{◌≡◌, ◌≢◌, ◌≤◌, ◌<◌, ℕ, ◌+◌, true, List, length, take, drop, Option, None, is_some, option_map, IfSome}
 use Rattle.jn_base.specs.declared.names.ServerNo.{ServerNo}
 use Rattle.jn_device.specs.Device.{DeviceState}
-use Rattle.jn_host.specs.Outside.{Contents, Rose, kept_at}
+use Rattle.jn_host.specs.Outside.{Contents, kept_at}
+use Rattle.jn_base.specs.Counts.{Rose}
 use Rattle.jn_image_files.specs.declared.refusal.Cause.{Cause}
 use Rattle.jn_image_files.specs.Examined.{IsRefused}
 use Rattle.jn_image_files.specs.Kept.{Has, IsSaved, image_name}

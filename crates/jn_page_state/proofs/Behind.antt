@@ -14,9 +14,6 @@ none_first pool work none = record {
 }
 
 module _ (pool : List Record) (slot : ℕ) (work : WorkId) (tid : Tid) (n : ℕ) (i : StoredIntention) (there : slot < length pool) (free : record_in pool slot ≡ Free) (has : HasIntentions pool work n) where
-  abbrev new : Record
-  new = Intention work tid n i
-
   old_fails : (k : ℕ) → is_intention work k (record_in pool slot) ≡ false
   old_fails k = ap (is_intention work k) free
 

@@ -116,7 +116,7 @@ module _ (c : Contents) (leaves : ℕ) (before : AddressesDiffer leaves c) (rang
   of_heads : ((p : ℕ) → p < most_blocks → at_cell new p ≡ suc d → (at_cell (layout_at (layouts_in c) place) p ≡ suc d) ⊎ ⊥) → heads_name most_blocks (slice_set (layouts_in c) place new) (suc d) ≡ true → ⊥
   of_heads from named =
       let at = named_cell most_blocks (slice_set (layouts_in c) place new) d named in
-      let stood : (k : ℕ) → at_cell (layout_at (layouts_in c) k) at.1 ≡ suc d → ⊥ = λ k e. apart at.1 at.2 (before.heads d i k (map_cell j) at.1 here e).1 in
+      let stood : (k : ℕ) → at_cell (layout_at (layouts_in c) k) at.1 ≡ suc d → ⊥ = λ k e. apart at.1 at.2 (before.heads d i (map_cell j) k at.1 here e).1 in
       ⊎_elim
       (λ same. ⊎_elim (λ e. stood place e) (λ never. never) (from at.1 at.2 (ap (λ h. at_cell h at.1) (sym same.1) ∙ at.3)))
       (λ other. stood at.0 (ap (λ h. at_cell h at.1) (sym other.1) ∙ at.3))
@@ -133,7 +133,7 @@ module _ (c : Contents) (leaves : ℕ) (before : AddressesDiffer leaves c) (rang
   -- nor was it before
   pub before_unnamed : (heads_name most_blocks (layouts_in c) (suc d) || works_have (names_for_block (suc d)) c.pool) ≡ true → ⊥
   before_unnamed named = ⊎_elim
-      (λ t. let at = named_cell most_blocks (layouts_in c) d t in apart at.1 at.2 (before.heads d i at.0 (map_cell j) at.1 here at.3).1)
+      (λ t. let at = named_cell most_blocks (layouts_in c) d t in apart at.1 at.2 (before.heads d i (map_cell j) at.0 at.1 here at.3).1)
       (λ t. of_works t)
       (either (heads_name most_blocks (layouts_in c) (suc d)) (works_have (names_for_block (suc d)) c.pool) named)
 

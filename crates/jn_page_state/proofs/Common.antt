@@ -30,14 +30,14 @@ pub use Rattle.jn_base.specs.declared.names.ServerNo.{ServerNo}
 pub use Rattle.jn_records.specs.declared.flag.Flag.{Flag}
 pub use Rattle.jn_records.specs.declared.head.Head.{Head}
 pub use Rattle.jn_records.specs.declared.work.WorkHead.{WorkHead}
-pub use Rattle.jn_records.specs.Heads.{head_in, has_page, head_at, head_page, IsHead, FileFits, IsMapPage, fits_version, addresses_bytes, IsMapRow, all_within}
+pub use Rattle.jn_records.specs.Heads.{head_in, has_page, head_at, head_page, IsHead, FileFits, IsMapPage, fits_version, HaveOneHead, addresses_bytes, IsMapRow, all_within}
 unfoldable pub use Rattle.jn_records.specs.Heads.{map_page}
 pub use Rattle.jn_records.specs.StablePages.{Counts, data_place, entry_in, page_count, slot_place, head_place, Pages, address_in, map_in, address_by, is_head_of as is_page_of, head_from, head_of, block_behind, block_in as block_on_page, files_of_pages, root_by, NamesMap, is_used, file_in, IsWholeMap}
 pub use Rattle.jn_storage.specs.Orderly.{IsLoadable, file_there, IsGiven, IsPrepared, needs_file, list_of, first_of as first_net, IsOrderly, unit_of, unit_by}
 pub use Rattle.jn_store.specs.Store.{StoreView, IsClean, Candidate, IsOnly, StoreGot, StoreCleaned, IsWholePage, HasSamePages, StorePut}
 pub use Rattle.jn_base.specs.Limits.{most_blocks, most_cells, most_maps, head_blocks}
-pub use Rattle.jn_records.specs.Layouts.{layouts_by, kept_entry, IsNoMap, head_map, Layout, Unused, map_cell, at_cell, layout_at, row_at, layout_by, is_layout_of, behind, block_in, files_in, has_address, Of, through, laid}
-pub use Rattle.jn_page_state.specs.Changes.{IsIdlePut, IsReadyPut, IsReadySlot, IsPreparedSlot, IsFlagPut, IsFlagSlot, with_block, address_after, IsHeadPut, IsPartPut, LaysOut, with_record, is_idle, map_after, serves_for, is_head_after, with_epoch, with_head, IsFreeSlot}
+pub use Rattle.jn_records.specs.Layouts.{layouts_by, kept_entry, IsNoMap, head_map, Layout, Unused, map_cell, at_cell, layout_at, row_at, layout_by, is_layout_of, behind, block_in, files_in, has_address, Of, through, laid, AreNamedOnce}
+pub use Rattle.jn_page_state.specs.Changes.{IsIdlePut, IsReadyPut, IsReadySlot, IsPreparedSlot, IsFlagPut, IsFlagSlot, with_block, address_after, IsHeadPut, IsPartPut, LaysOut, with_record, is_idle, map_after, is_head_after, serves_for, with_epoch, with_head, IsFreeSlot}
 pub use Rattle.jn_page_state.specs.Held.{held_contents, MayStand, rows_after, heads_after, IsLayoutPut, Lays, IsHeadStored, IsMapStored, HasMapsStored, IsHeld, epoch_after, records_after}
 pub use Rattle.jn_page_state.specs.Pages.{block_on, pages_by, half_of, found_on, contents_of, epoch_by, record_or_free, head_or_free, record_on, head_on, heads_on, listed, IsHeadPage, IsOfFormat, state_of, epoch_in, pool_on, IsRootPage, IsDataPage}
 pub use Rattle.jn_page_state.specs.Puts.{RootPut, RecordPut, BlockPut, MapPut, put_in, contents_by, IsPut, PagePut, HeadPut, IsPagePut, is_put_at, IsReadable, IsFrontClean, put_place, PutStep, IsFewer, MayPut, put_page, KeepsClean, KeepsFound}
@@ -46,7 +46,7 @@ pub use Rattle.jn_rows.proofs.Left.{whole-stop, left-none}
 pub use Rattle.jn_records.specs.declared.head.Head.TheVariants.{Free as FreeHead, Used}
 pub use Rattle.jn_base.specs.declared.names.FileNo.{FileNo}
 pub use Rattle.jn_records.specs.MapPlaces.{is_in_range, keeps_map, maps_in, names_map, has_map_after, places_after, bare, IsSuppliedBy, MapPlaces, names_maps}
-pub use Rattle.jn_records.proofs.Layouts.{inside-was, has-at, get-map, same-map, laid-block, laid-entry, laid-past, map-cell-is, laid-none, has-found, block-put}
+pub use Rattle.jn_records.proofs.Layouts.{inside-was, has-at, file-at, get-map, same-map, laid-block, laid-entry, laid-past, map-cell-is, laid-none, has-found, block-put}
 pub use Rattle.jn_store.specs.Choices.{IsChoice, Agree, with_page}
 pub use Rattle.jn_records.specs.Pages.{root_at, root_page, format_version, IsRoot}
 pub use Rattle.jn_records.specs.Records.{record_at, record_page}

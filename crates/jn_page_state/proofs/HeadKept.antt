@@ -1,5 +1,6 @@
 -- The put of a layout leaves what a recovery asks.
-use Rattle.jn_page_state.proofs.Common.{◌≡◌, ◌⊎◌, inl, inr, ⊎_elim, ℕ, suc, ◌<◌, ◌-◌, ◌/◌, Bool, true, false, ◌&&◌, if◌then◌else◌, List, length, refl, sym, ◌∙◌, ap, subst, true≢false, arith, nat_tests, cases_lt, slice_set, nat_eq, nat_le, FileNo, ServerNo, file_tells, head_blocks, most_maps, most_blocks, most_cells, StoredIntention, What, Fresh, Gone, Cut, Put, Record, record_in, is_prepared, is_flag, is_in_range, keeps_map, names_address, Layout, Unused, Of, map_cell, at_cell, layout_at, is_layout_of, has_page, Counts, IsLoadable, Contents, head_in, entry_of, layouts_in, state_in, stored_in, heads_name, works_have, names_for_block, address_after, map_after, serves_for, is_head_after, IsHeadPut, IsPartPut, LaysOut, PassesOnce, IsDistinct, Intends, Addresses, Gives, AddressesDiffer, IsCompleteBy, IsSuppliedIn, IsConsistent, names_page, is_named, names_block, or_left, or_right, same_Some, inside-was}
+use Rattle.jn_page_state.proofs.Common.{◌≡◌, ◌⊎◌, inl, inr, ⊎_elim, ℕ, suc, ◌<◌, ◌-◌, ◌/◌, Bool, true, false, ◌&&◌, if◌then◌else◌, List, length, refl, sym, ◌∙◌, ap, subst, true≢false, arith, nat_tests, cases_lt, slice_set, nat_eq, nat_le, FileNo, ServerNo, file_tells, head_blocks, most_maps, most_blocks, most_cells, StoredIntention, What, Fresh, Gone, Cut, Put, Record, record_in, is_prepared, is_flag, is_in_range, keeps_map, names_address, Layout, Unused, Of, map_cell, at_cell, layout_at, is_layout_of, has_page, Counts, IsLoadable, Contents, head_in, entry_of, layouts_in, state_in, stored_in, heads_name, works_have, names_for_block, address_after, map_after, is_head_after, IsHeadPut, IsPartPut, LaysOut, PassesOnce, IsDistinct, Intends, Addresses, Gives, AddressesDiffer, IsCompleteBy, IsSuppliedIn, IsConsistent, names_page, is_named, names_block, or_left, or_right, same_Some, inside-was}
+use Rattle.jn_page_state.proofs.Images.{heads_once, layouts_once}
 use Rattle.jn_page_state.proofs.Slots.{once_set}
 use Rattle.jn_page_state.proofs.Naming.{either, intends_held, gives_address, cell_named, named_cell, cell_within}
 use Rattle.jn_page_state.proofs.MapsKept.{one_file, serves_one, at_later, used_there, head_maps, part_maps}
@@ -36,14 +37,6 @@ map_from Put n j m d old e = by (is_in_range j n) refl (nat_eq old 0) e
     by true h false e = inl e
     by false h z e = inl e
 
--- a layout that serves an intention and has an address is its file's
-serves_its : (what : What) (f : FileNo) (h : Layout) (q d : ℕ) → serves_for what f h ≡ true → at_cell h q ≡ suc d → is_layout_of f h ≡ true
-serves_its what f Unused q d s e = absurd (omega (arith, e))
-serves_its Fresh f (Of g cells) q d s e = s
-serves_its Gone f (Of g cells) q d s e = s
-serves_its Cut f (Of g cells) q d s e = s
-serves_its Put f (Of g cells) q d s e = s
-
 after_its : (what : What) (f : FileNo) (h : Layout) (q d : ℕ) → is_head_after what f h ≡ true → at_cell h q ≡ suc d → is_layout_of f h ≡ true
 after_its what f Unused q d s e = absurd (omega (arith, e))
 after_its Fresh f (Of g cells) q d s e = s
@@ -74,7 +67,7 @@ module _ (c later : Contents) (place : ℕ) (new : Layout) (there : place < leng
   distinct_later files before = record {
     works = λ w. subst (λ (pool : List Record). PassesOnce (λ j. is_prepared w (record_in pool j))) (sym lays.pool) (before.works w);
     flags = λ t. subst (λ (pool : List Record). PassesOnce (λ j. is_flag t (record_in pool j))) (sym lays.pool) (before.flags t);
-    files = files;
+    files = heads_once (entry_of later.blocks) later.heads files;
   }
 
   pool_intends : (k : ℕ) (s : StoredIntention) → Intends later.pool k s → Intends c.pool k s
@@ -157,7 +150,7 @@ module _ (c later : Contents) (i : StoredIntention) (place : ℕ) (new : Layout)
 
     module _ (leaves : ℕ) (before : AddressesDiffer leaves c) where
       heads_differ : (d j k p q : ℕ) → (Addresses (layouts_in c) j p d ⊎ ((j ≡ place) × Gives i d p)) → (Addresses (layouts_in c) k q d ⊎ ((k ≡ place) × Gives i d q)) → (j ≡ k) × (p ≡ q)
-      heads_differ d j k p q (inl x) (inl y) = before.heads d j k p q x y
+      heads_differ d j k p q (inl x) (inl y) = before.heads d j p k q x y
       heads_differ d j k p q (inl x) (inr y) = let h = before.carried d slot j q p i stands y.1 x in (put.only j h.0 ∙ sym y.0, h.1)
       heads_differ d j k p q (inr x) (inl y) = let h = before.carried d slot k p q i stands x.1 y in (x.0 ∙ sym (put.only k h.0), sym h.1)
       heads_differ d j k p q (inr x) (inr y) = (x.0 ∙ sym y.0, (before.works d slot slot p q i i stands stands x.1 y.1).1)
@@ -171,7 +164,7 @@ module _ (c later : Contents) (i : StoredIntention) (place : ℕ) (new : Layout)
 
       addresses_put : AddressesDiffer leaves later
       addresses_put = record {
-        heads = λ d j k p q x y. heads_differ d j k p q (split j p d x) (split k q d y);
+        heads = λ d j p k q x y. heads_differ d j k p q (split j p d x) (split k q d y);
         works = λ d j k p q s t x y. before.works d j k p q s t (pool_intends c later place new put.there lays j s x) (pool_intends c later place new put.there lays k t y);
         works_fit = λ d k p s x. before.works_fit d k p s (pool_intends c later place new put.there lays k s x);
         carried = λ d k j p q s x a h. carried d k j p q s (pool_intends c later place new put.there lays k s x) a h (split j q d h);
@@ -179,7 +172,7 @@ module _ (c later : Contents) (i : StoredIntention) (place : ℕ) (new : Layout)
 
     pub head_consistent : (server : ServerNo) (g : Counts) → ((k : ℕ) → has_page (head_in c.heads k) ≡ true) → IsLoadable server g.heads (state_in c) → IsConsistent g c → IsConsistent g later
     head_consistent server g pages loadable before = record {
-      distinct = distinct_later c later place new put.there lays (files_once before.distinct.files) before.distinct;
+      distinct = distinct_later c later place new put.there lays (files_once (layouts_once (entry_of c.blocks) c.heads before.distinct.files)) before.distinct;
       complete = complete_later c later place new put.there lays before.complete;
       supplied = supplied_later c later place new put.there lays (heads_supplied c before.distinct before.complete server loadable.orderly slot i stands c.heads later.heads (head_maps c later i place new put lays pages) before.supplied);
       addresses = addresses_put g.leaves before.addresses;
@@ -241,7 +234,7 @@ module _ (c later : Contents) (i : StoredIntention) (m place : ℕ) (new : Layou
 
   part_addresses : (leaves : ℕ) → AddressesDiffer leaves c → AddressesDiffer leaves later
   part_addresses leaves before = record {
-    heads = λ d j k p q x y. before.heads d j k p q (part_split j p d x) (part_split k q d y);
+    heads = λ d j p k q x y. before.heads d j p k q (part_split j p d x) (part_split k q d y);
     works = λ d j k p q s t x y. before.works d j k p q s t (pool_intends c later place new below_last lays j s x) (pool_intends c later place new below_last lays k t y);
     works_fit = λ d k p s x. before.works_fit d k p s (pool_intends c later place new below_last lays k s x);
     carried = λ d k j p q s x a h. let b = before.carried d k j p q s (pool_intends c later place new below_last lays k s x) a (part_split j q d h) in (part_file s.file j b.0, b.1);
@@ -249,7 +242,7 @@ module _ (c later : Contents) (i : StoredIntention) (m place : ℕ) (new : Layou
 
   pub part_consistent : (g : Counts) → ((k : ℕ) → has_page (head_in c.heads k) ≡ true) → IsConsistent g c → IsConsistent g later
   part_consistent g pages before = record {
-    distinct = distinct_later c later place new below_last lays (part_once before.distinct.files) before.distinct;
+    distinct = distinct_later c later place new below_last lays (part_once (layouts_once (entry_of c.blocks) c.heads before.distinct.files)) before.distinct;
     complete = complete_later c later place new below_last lays before.complete;
     supplied = supplied_later c later place new below_last lays (λ k. more_supplied c.pool c.heads later.heads (part_maps c later i m place new put lays pages) (record_in c.pool k) (before.supplied k));
     addresses = part_addresses g.leaves before.addresses;

@@ -1,5 +1,6 @@
 -- A store without records, each page of which is whole, is one of a sound image.
-use Rattle.jn_page_state.proofs.Common.{if◌then◌else◌, ◌≡◌, inr, ◌<◌, ◌≤◌, ◌+◌, ◌*◌, ◌-◌, ◌^◌, ℕ, zero, suc, Bool, true, false, List, [], refl, sym, ◌∙◌, ap, subst, arith, nat_tests, nat_lt, drop, ServerNo, Head, FreeHead, Used, Record, Free, root_page, root_by, format_version, record_page, Image, IsSound, Counts, Pages, page_count, slot_place, head_place, data_place, is_used, file_in, address_in, map_in, entry_in, IsMapPage, record_in, slot_page, StoreView, IsOnly, IsWholePage, head_blocks, most_maps, map_cell, head_in, entry_of, layouts_in, layout_at, is_layout_of, image_on, place_in, IsImage, pages_by, block_on, contents_of, IsOfFormat, IsConsistent, Addresses, IsStanding, standing_state, fits_version, Spot, InHead, AsMap, InMap, IsWrittenAt}
+use Rattle.jn_page_state.proofs.Common.{if◌then◌else◌, ◌≡◌, inr, ◌<◌, ◌≤◌, ◌+◌, ◌*◌, ◌-◌, ◌^◌, ℕ, zero, suc, Bool, true, false, List, [], refl, sym, ◌∙◌, ap, subst, arith, nat_tests, nat_lt, drop, ServerNo, Head, FreeHead, Used, Record, Free, root_page, root_by, format_version, record_page, Image, IsSound, Counts, Pages, page_count, slot_place, head_place, data_place, is_used, file_in, address_in, map_in, entry_in, IsMapPage, record_in, slot_page, StoreView, IsOnly, IsWholePage, head_blocks, most_maps, map_cell, head_in, entry_of, layouts_in, layout_at, is_layout_of, image_on, place_in, IsImage, pages_by, block_on, contents_of, IsOfFormat, IsConsistent, Addresses, IsStanding, standing_state, fits_version, Spot, InHead, AsMap, InMap, IsWrittenAt, heads_on}
+use Rattle.jn_page_state.proofs.Images.{layouts_once}
 use Rattle.jn_page_state.proofs.ImageStates.{files_agree}
 use Rattle.jn_page_state.proofs.Laying.{entry_cell}
 use Rattle.jn_page_state.proofs.Spots.{HeadCell, EntryCell, MapCell, cell_of_page, file_of_page, names_same}
@@ -101,7 +102,7 @@ module _ (server : ServerNo) (g : Counts) (v : StoreView) (epoch : ℕ) (records
   used_at i lt used = ap is_used (head_at i lt) ∙ used
 
   one_head : (f i j : ℕ) → i < g.heads → j < g.heads → is_used (m.bytes (head_place g i)) ≡ true → file_in (m.bytes (head_place g i)) ≡ f → is_used (m.bytes (head_place g j)) ≡ true → file_in (m.bytes (head_place g j)) ≡ f → i ≡ j
-  one_head f i j a b used is used' is' = all.distinct.files (record { 0 = f }) i j (of_file i a used is) (of_file j b used' is')
+  one_head f i j a b used is used' is' = layouts_once (entry_of (block_on g (pages_by v (λ n. false)))) (heads_on g (pages_by v (λ n. false))) all.distinct.files (record { 0 = f }) i j (of_file i a used is) (of_file j b used' is')
     where
       of_file : (i : ℕ) → i < g.heads → is_used (m.bytes (head_place g i)) ≡ true → file_in (m.bytes (head_place g i)) ≡ f → is_layout_of (record { 0 = f }) (layout_at (layouts_in (contents_of g (pages_by v (λ n. false)))) i) ≡ true
       of_file i lt used is = file_of_page g (pages_by v (λ n. false)) few format.heads (entry_of (block_on g (pages_by v (λ n. false)))) i (record { 0 = f }) lt (used_at i lt used) (ap file_in (head_at i lt) ∙ is)
@@ -140,7 +141,7 @@ module _ (server : ServerNo) (g : Counts) (v : StoreView) (epoch : ℕ) (records
   addressed a x y u w =
       let h = located a x u in
       let k = located a y w in
-      let same = all.addresses.heads a h.place k.place h.cell k.cell h.stands k.stands in
+      let same = all.addresses.heads a h.place h.cell k.place k.cell h.stands k.stands in
       one_spot g (pages_by v (λ n. false)) x y h.place h.cell h.holds
       (subst (λ i. Holds g (pages_by v (λ n. false)) y i h.cell) (sym same.0) (subst (λ q. Holds g (pages_by v (λ n. false)) y k.place q) (sym same.1) k.holds))
 

@@ -1,5 +1,5 @@
 -- The files of layouts, as a list.
-use Rattle.jn_page_state.proofs.Common.{if◌then◌else◌, ◌≡◌, ◌≤◌, zero, suc, Bool, true, false, not, ◌&&◌, ◌||◌, List, [], ◌∷◌, length, Some, refl, sym, ◌∙◌, true≢false, arith, is_some, option_map, find, list_any, FileNo, file_eq, file_tells, there, Layout, Unused, Of, layout_at, is_layout_of, PassesOnce, is_in, are_different, IsListing}
+use Rattle.jn_page_state.proofs.Common.{if◌then◌else◌, ◌≡◌, ◌≤◌, zero, suc, Bool, true, false, not, ◌&&◌, ◌||◌, List, [], ◌∷◌, length, Some, refl, sym, ◌∙◌, true≢false, arith, is_some, option_map, find, list_any, FileNo, file_eq, file_tells, there, Layout, Unused, Of, layout_at, is_layout_of, PassesOnce, is_in, are_different, IsListing, ℕ, layouts_by, Head, HaveOneHead, file-at}
 use Rattle.jn_page_state.proofs.Slots.{passes_at}
 
 -- ---- the files of layouts, each once
@@ -20,6 +20,13 @@ listed_all (Of g cells ∷ layouts) f = by (file_eq g f) (listed_all layouts f)
     by : (b : Bool) → is_in file_eq f (listed_files layouts) ≡ has_layout layouts f → (b || is_in file_eq f (listed_files layouts)) ≡ is_some (option_map (λ h. there) (if b then Some (Of g cells) else find (is_layout_of f) layouts))
     by true rest = refl
     by false rest = rest
+
+-- no file has two heads, and so none has two layouts
+pub layouts_once : (maps : ℕ → ℕ → ℕ) (heads : List Head) → HaveOneHead heads → (f : FileNo) → PassesOnce (λ i. is_layout_of f (layout_at (layouts_by maps heads) i))
+layouts_once maps heads once f i j a b = once f i j (sym (file-at maps f heads i) ∙ a) (sym (file-at maps f heads j) ∙ b)
+
+pub heads_once : (maps : ℕ → ℕ → ℕ) (heads : List Head) → ((f : FileNo) → PassesOnce (λ i. is_layout_of f (layout_at (layouts_by maps heads) i))) → HaveOneHead heads
+heads_once maps heads once f i j a b = once f i j (file-at maps f heads i ∙ a) (file-at maps f heads j ∙ b)
 
 found_is_any : (layouts : List Layout) (f : FileNo) → has_layout layouts f ≡ true → list_any (is_layout_of f) layouts ≡ true
 found_is_any [] f t = absurd (true≢false (sym t))

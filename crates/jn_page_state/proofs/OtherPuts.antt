@@ -1,5 +1,5 @@
 -- The puts of a data page and of the root leave what a recovery asks.
-use Rattle.jn_page_state.proofs.Common.{◌≡◌, ◌≢◌, ℕ, suc, ◌<◌, ◌≤◌, ◌+◌, Bool, true, false, not, ◌||◌, if◌then◌else◌, List, length, refl, sym, ◌∙◌, ap, subst, true≢false, arith, nat_tests, fun_ext, nat_eq, list_all, FileNo, ServerNo, FullIntention, most_cells, Files, FreeHead, Layout, map_cell, at_cell, layout_by, layouts_by, layout_at, is_layout_of, IsNoMap, entry_in, Counts, IsLoadable, IsGiven, StableState, Prepared, Contents, head_in, entry_of, layouts_in, heads_name, works_have, names_for_block, with_block, with_epoch, PassesOnce, Addresses, IsConsistent, is_read, IsPrepared, file_there, needs_file, list_of, heads_of, first_net, total, block-put, get-map, map-cell-is, or_left}
+use Rattle.jn_page_state.proofs.Common.{◌≡◌, ◌≢◌, ℕ, suc, ◌<◌, ◌≤◌, ◌+◌, Bool, true, false, not, ◌||◌, if◌then◌else◌, List, length, refl, sym, ◌∙◌, ap, subst, true≢false, arith, nat_tests, fun_ext, nat_eq, list_all, FileNo, ServerNo, FullIntention, most_cells, Files, FreeHead, Layout, map_cell, at_cell, layout_by, layouts_by, layout_at, is_layout_of, IsNoMap, entry_in, Counts, IsLoadable, IsGiven, StableState, Prepared, Contents, head_in, entry_of, layouts_in, heads_name, works_have, names_for_block, with_block, with_epoch, Addresses, IsConsistent, is_read, IsPrepared, file_there, needs_file, list_of, heads_of, first_net, total, block-put, get-map, map-cell-is, or_left, AreNamedOnce}
 use Rattle.jn_page_state.proofs.Naming.{cell_named}
 
 -- a data page that isn't read is no map page
@@ -35,12 +35,12 @@ same_layouts g c epoch blocks same before = record {
   distinct = record {
     works = before.distinct.works;
     flags = before.distinct.flags;
-    files = subst (λ (ls : List Layout). (f : FileNo) → PassesOnce (λ i. is_layout_of f (layout_at ls i))) (sym same) before.distinct.files;
+    files = before.distinct.files;
   };
   complete = before.complete;
   supplied = before.supplied;
   addresses = record {
-    heads = λ d i j p q x y. before.addresses.heads d i j p q (subst (λ (ls : List Layout). Addresses ls i p d) same x) (subst (λ (ls : List Layout). Addresses ls j q d) same y);
+    heads = subst AreNamedOnce (sym same) before.addresses.heads;
     works = before.addresses.works;
     works_fit = before.addresses.works_fit;
     carried = λ d i j p q s x a y. subst (λ (ls : List Layout). (is_layout_of s.file (layout_at ls j) ≡ true) × (q ≡ p)) (sym same) (before.addresses.carried d i j p q s x a (subst (λ (ls : List Layout). Addresses ls j q d) same y));

@@ -1,15 +1,9 @@
 -- What a recovery asks of a pool goes on over the put of a record.
-use Rattle.jn_page_state.proofs.Common.{◌≡◌, ◌⊎◌, ⊎_elim, ℕ, ◌<◌, true, false, ◌&&◌, List, length, refl, sym, ◌∙◌, ap, subst, true≢false, arith, find_past, slice_set, nat_eq, option_and_then, is_some, list_any, Tid, WorkId, work_eq, work_tells, nat_tests, StoredIntention, Record, Free, Intention, Ready, Going, FlagRecord, record_in, is_prepared, is_intention, is_flag, Contents, stored_in, with_record, IsDistinct, HasIntentions, IsCompleteBy, IsSuppliedIn, Intends, AddressesDiffer, maps_in, IsSuppliedBy, intentions_from}
+use Rattle.jn_page_state.proofs.Common.{◌≡◌, ◌⊎◌, ⊎_elim, ℕ, ◌<◌, true, false, ◌&&◌, length, refl, sym, ◌∙◌, ap, subst, true≢false, arith, find_past, slice_set, nat_eq, option_and_then, is_some, list_any, Tid, WorkId, work_eq, work_tells, nat_tests, StoredIntention, Record, Free, Intention, Ready, Going, FlagRecord, record_in, is_prepared, is_intention, is_flag, Contents, stored_in, with_record, IsDistinct, HasIntentions, IsCompleteBy, IsSuppliedIn, Intends, AddressesDiffer, maps_in, IsSuppliedBy, intentions_from}
 use Rattle.jn_page_state.proofs.Slots.{passes_any, at_set, once_set, any_fewer}
 use Rattle.jn_page_state.proofs.PoolLemmas.{intentions_kept}
 
 module _ (c : Contents) (slot : ℕ) (new : Record) (there : slot < length c.pool) where
-  abbrev old : Record
-  old = record_in c.pool slot
-
-  abbrev changed : List Record
-  changed = slice_set c.pool slot new
-
   -- a work's or a transaction's record comes where it was, or where none was
   pub distinct_kept : ((w : WorkId) → is_prepared w new ≡ true → (is_prepared w (record_in c.pool slot) ≡ true) ⊎ (list_any (is_prepared w) c.pool ≡ false))
       → ((t : Tid) → is_flag t new ≡ true → (is_flag t (record_in c.pool slot) ≡ true) ⊎ (list_any (is_flag t) c.pool ≡ false))

@@ -2,7 +2,7 @@
 use Rattle.jn_page_state.proofs.Common.{if◌then◌else◌, ◌≡◌, ⊎_elim, ◌<◌, ◌≤◌, ◌+◌, ℕ, suc, Bool, true, false, [], length, Option, Some, None, refl, sym, ap, subst, ◌∙◌, true≢false, arith, nat_eq, nat_lt, is_some, drop, cases_lt, nat_tests, get_or_past, FileNo, ServerNo, Tid, WorkId, StoredIntention, Free, Intention, root_page, Image, IsSound, page_count, slot_place, head_place, data_place, is_used, file_in, address_in, map_in, entry_in, IsWholeMap, IsMapPage, record_is_read, Pick, record_in, is_prepared, is_flag, IsLoadable, StoreView, IsOnly, Contents, entry_of, layouts_in, layout_at, layout_by, is_layout_of, map_cell, state_in, works_in, flags_in, flag_by, prepared_by, CountsFit, IsStoreOf, record_or_free, record_on, pool_on, head_on, heads_on, block_on, contents_of, state_of, pages_by, half_of, root_by, IsOfFormat, IsHeadPage, PassesOnce, IsCompleteBy, IsSuppliedIn, Intends, Addresses, AddressesDiffer, IsConsistent, IsRecoverable, length-map, Spot, InHead, AsMap, InMap, IsWrittenAt, AddressesOnce}
 use Rattle.jn_page_state.proofs.FilesOnPages.{loadable_found}
 use Rattle.jn_page_state.proofs.Found.{none_found}
-use Rattle.jn_page_state.proofs.Images.{listed_files, files_listing}
+use Rattle.jn_page_state.proofs.Images.{heads_once, listed_files, files_listing}
 use Rattle.jn_page_state.proofs.Laying.{entry_cell}
 use Rattle.jn_page_state.proofs.PageChanges.{length-listed}
 use Rattle.jn_page_state.proofs.MapPages.{listed_at}
@@ -178,7 +178,7 @@ module _ (s : ServerNo) (m : Image) (sound : IsSound s m) (fit : CountsFit s m.c
 
   image_addresses : AddressesDiffer m.counts.leaves (contents_of m.counts (pages_by v c))
   image_addresses = record {
-    heads = λ d i j p q x y. one_cell m sound.addresses d i j p q (written i p d x) (written j q d y);
+    heads = λ d i p j q x y. one_cell m sound.addresses d i j p q (written i p d x) (written j q d y);
     works = λ d i j p q t u x y a b. absurd (no_intention i t x);
     works_fit = λ d i p t x a. absurd (no_intention i t x);
     carried = λ d i j p q t x a y. absurd (no_intention i t x);
@@ -189,7 +189,7 @@ module _ (s : ServerNo) (m : Image) (sound : IsSound s m) (fit : CountsFit s m.c
     distinct = record {
       works = λ w i j a b. absurd (true≢false (sym a ∙ ap (is_prepared w) (all_free i)));
       flags = λ t i j a b. absurd (true≢false (sym a ∙ ap (is_flag t) (all_free i)));
-      files = files_once;
+      files = heads_once (entry_of (block_on m.counts (pages_by v c))) (heads_on m.counts (pages_by v c)) files_once;
     };
     complete = λ i. subst (IsCompleteBy (pool_on m.counts (pages_by v c))) (sym (all_free i)) tt;
     supplied = λ i. subst (IsSuppliedIn (heads_on m.counts (pages_by v c)) (pool_on m.counts (pages_by v c))) (sym (all_free i)) tt;

@@ -1,17 +1,17 @@
 -- What a recovery asks of a server's pages, whichever halves it will read.
-use Rattle.std.specs.Prelude.{◌≡◌, ◌⊎◌, ℕ, suc, ◌<◌, ◌-◌, ◌/◌, Bool, true, false, ◌||◌, List, length, is_some}
+use Rattle.std.specs.Prelude.{◌≡◌, ◌⊎◌, ℕ, suc, ◌<◌, Bool, true, false, ◌||◌, List, length, is_some}
 use Rattle.std.specs.List.{list_any}
-use Rattle.jn_base.specs.declared.names.FileNo.{FileNo}
 use Rattle.jn_base.specs.declared.names.ServerNo.{ServerNo}
 use Rattle.jn_base.specs.declared.names.Tid.{Tid}
 use Rattle.jn_base.specs.declared.names.WorkId.{WorkId}
-use Rattle.jn_base.specs.Limits.{head_blocks, most_blocks, most_cells}
+use Rattle.jn_base.specs.Limits.{most_blocks, most_cells}
 use Rattle.jn_records.specs.declared.head.Head.{Head}
+use Rattle.jn_records.specs.Heads.{HaveOneHead}
 use Rattle.jn_records.specs.declared.intention.StoredIntention.{StoredIntention}
 use Rattle.jn_records.specs.declared.record.Record.{Record}
 use Rattle.jn_records.specs.declared.record.Record.TheVariants.{Intention as IntentionRecord, Ready, Going}
 use Rattle.jn_records.specs.Intentions.{names_address}
-use Rattle.jn_records.specs.Layouts.{Layout, map_cell, at_cell, layout_at, is_layout_of}
+use Rattle.jn_records.specs.Layouts.{Layout, map_cell, at_cell, layout_at, is_layout_of, AreNamedOnce}
 use Rattle.jn_records.specs.MapPlaces.{maps_in, IsSuppliedBy, range_of}
 use Rattle.jn_records.specs.StablePages.{Counts, Pages, page_count, data_place, NamesMap}
 use Rattle.jn_rows.specs.Stable.{Pick}
@@ -31,7 +31,7 @@ PassesOnce test = (i j : ℕ) → test i ≡ true → test j ≡ true → i ≡ 
 pub record IsDistinct (c : Contents) : Type 0 where
   pub works : (w : WorkId) → PassesOnce (λ i. is_prepared w (record_in c.pool i))
   pub flags : (t : Tid) → PassesOnce (λ i. is_flag t (record_in c.pool i))
-  pub files : (f : FileNo) → PassesOnce (λ i. is_layout_of f (layout_at (layouts_in c) i))
+  pub files : HaveOneHead c.heads
 
 -- ---- the intentions of prepared works
 
@@ -71,9 +71,8 @@ abbrev pub Gives : StoredIntention → ℕ → ℕ → Type 0
 Gives s d q = ((s.address ≡ suc d) × (q ≡ s.block.0)) ⊎ ((s.map ≡ suc d) × (q ≡ map_cell (range_of s.block.0)))
 
 pub record AddressesDiffer (leaves : ℕ) (c : Contents) : Type 0 where
-  -- no data page stands at two cells
-  pub heads : (d i j p q : ℕ) → Addresses (layouts_in c) i p d → Addresses (layouts_in c) j q d → (i ≡ j) × (p ≡ q)
-  -- nor is one named twice by the intentions of prepared works, and each that they name is there
+  pub heads : AreNamedOnce (layouts_in c)
+  -- nor is a data page named twice by the intentions of prepared works, and each that they name is there
   pub works : (d i j p q : ℕ) (s t : StoredIntention) → Intends c.pool i s → Intends c.pool j t → Gives s d p → Gives t d q → (i ≡ j) × (p ≡ q)
   pub works_fit : (d i p : ℕ) (s : StoredIntention) → Intends c.pool i s → Gives s d p → d < leaves
   -- a layout has the data page of such an intention in its file and at its cell alone

@@ -20,7 +20,7 @@ pub use Rattle.jn_transactions.specs.Telling.{added}
 pub use Rattle.jn_place.specs.declared.place.Slot.{Slot}
 pub use Rattle.jn_place.specs.declared.place.Slot.TheVariants.{Up, Down, Gone}
 pub use Rattle.jn_place.specs.Calls.{LeavesStore, Answered, CameUp, IsCalled, Serves, Called, LeavesPlace}
-pub use Rattle.jn_place.specs.Exact.{AsksAgain, TimedOut, Crashed, Befell, WhereUp, TakeLeaves, WorkLeaves, KeepsBeside, LeavesImage, work_of, LeavesClean, Sends, has_work_at, idle_row, IsSpent, lines_at, texts_of_step, IsStepOf, StaysCalm, IsTried, IsUpAt, IsStoppedUp, IsUsedUpAt, CameTo, IsRestart, IsCalmAt, ComesCalm, is_stopped, Took, WorkedBy, ScrubbedBy, Showed, Closed, items_of}
+pub use Rattle.jn_place.specs.Exact.{AsksAgain, TimedOut, Crashed, Befell, WhereUp, TakeLeaves, WorkLeaves, KeepsBeside, LeavesImage, work_of, LeavesClean, Sends, has_work_at, idle_row, IsSpent, texts_of_step, IsStepOf, StaysCalm, IsTried, IsUpAt, IsStoppedUp, IsUsedUpAt, CameTo, IsRestart, IsCalmAt, ComesCalm, is_stopped, Took, WorkedBy, ScrubbedBy, Showed, Closed, items_of}
 pub use Rattle.jn_place.specs.Inner.{SaysSame, IsAsBefore, StaysAs, WhereDone, Follows, LeavesOwnImage, Scrubs, IsRowDone, IsRowStopped, RowEnds, Handles, IsWorking, Works, Shows, Closes, told_at, LeavesFewer, IsRisen, IsCutUp, IsAtLast, StandsUp, Rises, Lifts, Idles}
 pub use Rattle.jn_place.specs.Places.{Stands, HoldsUp, NoneTold, IsPlace, IsDownAt, CountsAt, IsHeld, is_up, HasPages, is_there}
 pub use Rattle.jn_intent.specs.Scrubbing.{Scrubbed, counts_in}
@@ -42,6 +42,7 @@ pub use Rattle.jn_place.specs.declared.place.Place.{Place}
 pub use Rattle.jn_base.specs.declared.device.Outside.{Outside}
 pub use Rattle.jn_report.specs.declared.line.When.{When}
 pub use Rattle.jn_report.specs.declared.line.Line.{Line}
+pub use Rattle.jn_report.specs.Lines.{lines_at}
 pub use Rattle.jn_recovery.specs.declared.load.Found.{Found}
 pub use Rattle.jn_rows.specs.declared.coordinator.Transaction.{Transaction}
 pub use Rattle.jn_server.specs.Restarting.{IsRestarted, IsNotRestarted}

@@ -1,5 +1,6 @@
 -- What each call of a place does, exactly: to the server, to its device, and in lines.
 use Rattle.std.specs.Prelude.{◌≡◌, ◌≤◌, ◌<◌, ◌+◌, ◌*◌, ℕ, Bool, true, false, ⊤, if◌then◌else◌, List, [], ◌∷◌, ◌++◌, map, Option, Some, None, is_some}
+use Rattle.jn_report.specs.Lines.{lines_at}
 use Rattle.std.specs.Global.{Vec}
 use Rattle.jn_base.specs.declared.names.ServerNo.{ServerNo}
 use Rattle.jn_base.specs.declared.names.Tid.{Tid}
@@ -64,9 +65,6 @@ pub record IsSpent (most : ℕ) (told : List Outside) (power : Bool) (d e : Devi
   pub after : e ≡ cleared last
 
 -- ---- lines
-
-abbrev pub lines_at : When → List Text → List Line
-lines_at when texts = map (λ (text : Text). record { when = when; text = text }) texts
 
 -- the faults that the device refused, and that the server was stopped
 abbrev pub texts_of_step : ServerNo → List Outside → Bool → List Text

@@ -1,6 +1,7 @@
 //! Lines of a step.
 ghost use Rattle.std.specs.Prelude.{◌≡◌, ◌++◌, ◌∷◌, [], true, OnOk};
-ghost use Rattle.jn_place.specs.Exact.{lines_at, texts_of_step};
+ghost use Rattle.jn_place.specs.Exact.{texts_of_step};
+ghost use Rattle.jn_report.specs.Lines.{lines_at};
 
 use jn_base::{Outside, ServerNo};
 use jn_report::{Line, Text, When};

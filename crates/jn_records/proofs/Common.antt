@@ -24,10 +24,11 @@ pub use Rattle.std.specs.List.{list_all, AllByRecursion, find}
 pub use Rattle.std.proofs.lemmas.List.{drop_at, drop-take, length-set, get_or-set_same, get_or-set_other}
 pub use Rattle.byteorder.specs.Endian.{big_bytes, big_number}
 pub use Rattle.jn_records.specs.declared.head.Head.TheVariants.{Free, Used}
-pub use Rattle.jn_records.specs.Heads.{addresses_bytes, all_within, head_bytes, IsHead, FileFits, within, fits_version, IsMapPage}
+pub use Rattle.jn_records.specs.Heads.{addresses_bytes, all_within, head_bytes, IsHead, FileFits, is_of, head_in, within, fits_version, IsMapPage}
 unfoldable pub use Rattle.jn_records.specs.Heads.{head_page, map_page, maps_at, used_at, head_at}
 pub use Rattle.jn_base.specs.Limits.{head_blocks, most_maps, most_blocks, most_cells}
 pub use Rattle.jn_records.specs.StablePages.{is_used, file_in, address_in, map_in, entry_in, HasEntries}
+pub use Rattle.std.proofs.lemmas.Bool.{and_parts, true≢false, false≢true}
 pub use Rattle.jn_records.specs.declared.head.Head.{Head}
 unfoldable pub use Rattle.jn_fields.specs.Reading.{number_at, list_at}
 pub use Rattle.jn_fields.proofs.Fields.{number_again, bytes_again}
@@ -35,9 +36,8 @@ pub use Rattle.jn_fields.proofs.Lists.{list_again}
 pub use Rattle.jn_records.specs.declared.intention.StoredIntention.{StoredIntention}
 pub use Rattle.jn_records.specs.Intentions.{what_code, what_of, intention_bytes, IntentionFits}
 unfoldable pub use Rattle.jn_records.specs.Intentions.{intention_at}
-pub use Rattle.std.proofs.lemmas.Bool.{true≢false, false≢true}
-pub use Rattle.jn_records.specs.MapPlaces.{is_in_range, MapPlaces, has_map_after, lacks_map, lacking, places_after, places_then, need_of, bare, keeps_map, IsSupplied}
-pub use Rattle.jn_records.specs.Layouts.{Layout, Of, map_cell, at_cell, through, laid, layout_by, layouts_by, layout_at, has_address, with_entries, with_row, cut_inside, head_map, IsMapIn, IsNoMap, IsRowChanged, Unused, is_layout_of, behind, block_in, files_in, IsPartCut}
+pub use Rattle.jn_records.specs.MapPlaces.{is_in_range, MapPlaces, has_map_after, places_after, places_then, need_of, keeps_map, lacks_map, lacking, IsSupplied}
+pub use Rattle.jn_records.specs.Layouts.{Layout, Of, map_cell, at_cell, through, laid, layout_by, layouts_by, layout_at, has_address, with_entries, with_row, cut_inside, head_map, IsMapIn, IsNoMap, IsRowChanged, is_layout_of, Unused, behind, block_in, files_in, IsPartCut}
 pub use Rattle.jn_base.specs.declared.names.WorkId.{WorkId}
 pub use Rattle.jn_fields.specs.Names.{tid_bytes, work_bytes, unit_bytes, WorkFits, work_at, unit_at, unit_has_page, UnitFits}
 pub use Rattle.jn_records.specs.Records.{prepared_bytes, record_bytes, reads_have_page, has_page, PreparedFits, FlagFits, RecordFits, prepared, ascends}

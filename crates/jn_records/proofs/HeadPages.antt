@@ -1,5 +1,5 @@
 -- The pages of heads and map pages, field by field.
-use Rattle.jn_records.proofs.Common.{◌≡◌, ◌<◌, ◌≤◌, ◌+◌, ◌*◌, ◌^◌, ◌++◌, ◌-◌, ◌&&◌, ℕ, zero, suc, Bool, true, false, List, [], ◌∷◌, length, take, drop, replicate, refl, sym, ap, ◌∙◌, arith, slice_index, nat_eq, nat_le, flat_map, list_all, AllByRecursion, nat_tests, append_assoc, drop_at, length-append, big_bytes, FileNo, Free, Used, addresses_bytes, all_within, head_bytes, head_page, map_page, IsHead, FileFits, head_blocks, most_maps, big_number, drop-take, is_used, file_in, address_in, map_in, entry_in, HasEntries}
+use Rattle.jn_records.proofs.Common.{◌≡◌, ◌<◌, ◌≤◌, ◌+◌, ◌*◌, ◌^◌, ◌++◌, ◌-◌, ℕ, zero, suc, true, false, List, [], ◌∷◌, length, take, drop, replicate, refl, sym, ap, ◌∙◌, arith, slice_index, nat_eq, nat_le, flat_map, list_all, AllByRecursion, nat_tests, append_assoc, drop_at, length-append, big_bytes, FileNo, Free, Used, addresses_bytes, all_within, head_bytes, head_page, map_page, IsHead, FileFits, head_blocks, most_maps, big_number, drop-take, is_used, file_in, address_in, map_in, entry_in, HasEntries, and_parts}
 use Rattle.byteorder.specs.Numbers.{big_number-reads_back, big_from-take, length-bytes_high_first}
 use Rattle.jn_records.proofs.Lists.{length-fields}
 
@@ -25,12 +25,6 @@ address_again front n (x ∷ xs) rest (suc p) size below fits =
 fits_all : (leaves : ℕ) (xs : List ℕ) → leaves < 2 ^ 16 → list_all (λ a. nat_le a leaves) xs ≡ true → AllByRecursion (λ a. a < 256 ^ 2) xs
 fits_all leaves [] small all = tt
 fits_all leaves (x ∷ xs) small all = (grind (arith, nat_tests), fits_all leaves xs small (grind (arith, nat_tests)))
-
-left-of : (a b : Bool) → (a && b) ≡ true → a ≡ true
-left-of a b h = grind (arith, h)
-
-right-of : (a b : Bool) → (a && b) ≡ true → b ≡ true
-right-of a b h = grind (arith, h)
 
 same_list : (xs ys : List ℕ) → length xs ≡ length ys → ((k : ℕ) → k < length xs → slice_index xs k ≡ slice_index ys k) → xs ≡ ys
 same_list [] [] size same = refl
@@ -68,14 +62,14 @@ module _ (leaves : ℕ) (page : List ℕ) (few : leaves < 2 ^ 16) where
     equal m n h = grind (arith, nat_tests, h)
 
     pub whole : length xs ≡ head_blocks
-    whole = equal (length xs) head_blocks (left-of (nat_eq (length xs) head_blocks) (nat_eq (length maps) most_maps) is.whole)
+    whole = equal (length xs) head_blocks (and_parts (nat_eq (length xs) head_blocks) (nat_eq (length maps) most_maps) is.whole).0
 
     pub whole_maps : length maps ≡ most_maps
-    whole_maps = equal (length maps) most_maps (right-of (nat_eq (length xs) head_blocks) (nat_eq (length maps) most_maps) is.whole)
+    whole_maps = equal (length maps) most_maps (and_parts (nat_eq (length xs) head_blocks) (nat_eq (length maps) most_maps) is.whole).1
 
     pub used_address : (p : ℕ) → p < head_blocks → address_in page p ≡ slice_index xs p
     used_address p below = ap (λ (l : List ℕ). address_in l p) regrouped
-        ∙ address_again (1 ∷ big_bytes 4 f.0) 5 xs behind p refl (omega (arith, below, whole)) (fits_all leaves xs few (left-of (all_within leaves xs) (all_within leaves maps) is.within_leaves))
+        ∙ address_again (1 ∷ big_bytes 4 f.0) 5 xs behind p refl (omega (arith, below, whole)) (fits_all leaves xs few (and_parts (all_within leaves xs) (all_within leaves maps) is.within_leaves).0)
 
     -- what stands before the addresses of map pages
     abbrev before : List ℕ
@@ -92,7 +86,7 @@ module _ (leaves : ℕ) (page : List ℕ) (few : leaves < 2 ^ 16) where
 
     pub used_map : (j : ℕ) → j < most_maps → map_in page j ≡ slice_index maps j
     used_map j below = ap (λ (l : List ℕ). map_in l j) behind_blocks
-        ∙ address_again before 245 maps zeros_behind j before_size (omega (arith, below, whole_maps)) (fits_all leaves maps few (right-of (all_within leaves xs) (all_within leaves maps) is.within_leaves))
+        ∙ address_again before 245 maps zeros_behind j before_size (omega (arith, below, whole_maps)) (fits_all leaves maps few (and_parts (all_within leaves xs) (all_within leaves maps) is.within_leaves).1)
 
   module _ (entries : List ℕ) (count : length entries ≡ head_blocks) (within : all_within leaves entries ≡ true) (e : page ≡ map_page entries) where
     map_spelled : map_page entries ≡ [] ++ (addresses_bytes entries ++ replicate (512 - length (addresses_bytes entries)) 0)

@@ -1,5 +1,5 @@
 -- What a put of one page makes of layouts, and which addresses they have.
-use Rattle.jn_records.proofs.Common.{◌≡◌, ◌≢◌, ◌<◌, ◌≤◌, ◌-◌, ◌/◌, ◌%◌, ℕ, zero, suc, Bool, true, false, ◌&&◌, ◌||◌, if◌then◌else◌, List, [], ◌∷◌, map, slice_index, slice_index_or, slice_set, refl, sym, ◌∙◌, ap, arith, fun_ext, true≢false, nat_eq, nat_lt, nat_le, nat_tests, Head, Free, Used, head_blocks, most_maps, most_blocks, most_cells, is_in_range, Layout, Of, map_cell, at_cell, through, laid, layout_by, layouts_by, layout_at, has_address, with_entries, with_row, cut_inside, head_map, IsMapIn, IsNoMap, IsRowChanged}
+use Rattle.jn_records.proofs.Common.{◌≡◌, ◌≢◌, ◌<◌, ◌≤◌, ◌-◌, ◌/◌, ◌%◌, ℕ, zero, suc, Bool, true, false, ◌&&◌, ◌||◌, if◌then◌else◌, List, [], ◌∷◌, map, slice_index, slice_index_or, slice_set, refl, sym, ◌∙◌, ap, arith, fun_ext, true≢false, nat_eq, nat_lt, nat_le, nat_tests, Head, Free, Used, head_blocks, most_maps, most_blocks, most_cells, is_in_range, Layout, Of, map_cell, at_cell, through, laid, layout_by, layouts_by, layout_at, has_address, with_entries, with_row, cut_inside, head_map, IsMapIn, IsNoMap, IsRowChanged, FileNo, is_layout_of, is_of, head_in}
 unfoldable use Rattle.jn_records.specs.Layouts.{any_below}
 pub use Rattle.std.proofs.lemmas.List.{map-set as set-map}
 pub use Rattle.std.proofs.Math.ListN.{get_or-map as get-map}
@@ -15,6 +15,15 @@ changed-map f g [] zero d v h e = refl
 changed-map f g [] (suc i) d v h e = refl
 changed-map f g (x ∷ xs) zero d v h e = ap (λ y. y ∷ map g xs) e ∙ ap (λ l. v ∷ l) (same-map f g xs d (λ k. h (suc k) (λ q. omega (arith, q))))
 changed-map f g (x ∷ xs) (suc i) d v h e = ap (λ y. y ∷ map g xs) (h 0 (λ q. omega (arith, q))) ∙ ap (λ l. f x ∷ l) (changed-map f g xs i d v (λ k ne. h (suc k) (λ q. ne (omega (arith, q)))) e)
+
+-- ---- whose a layout is
+
+pub own-file : (maps : ℕ → ℕ → ℕ) (f : FileNo) (h : Head) → is_layout_of f (layout_by maps h) ≡ is_of f h
+own-file maps f Free = refl
+own-file maps f (Used g addresses head_maps) = refl
+
+pub file-at : (maps : ℕ → ℕ → ℕ) (f : FileNo) (heads : List Head) (i : ℕ) → is_layout_of f (layout_at (layouts_by maps heads) i) ≡ is_of f (head_in heads i)
+file-at maps f heads i = ap (is_layout_of f) (get-map (layout_by maps) heads i Free) ∙ own-file maps f (head_in heads i)
 
 -- ---- the cells of a head
 

@@ -1,5 +1,5 @@
 -- Which map pages are there after a list, and which it lacks.
-use Rattle.jn_records.proofs.Common.{◌≡◌, ◌+◌, ◌-◌, ◌&&◌, ◌≤◌, ℕ, zero, suc, Bool, true, false, not, if◌then◌else◌, List, [], ◌∷◌, length, drop, refl, ap, ◌∙◌, arith, nat_tests, nat_lt, nat_le, count_by, list_all, map, FileNo, file_eq, Intention, StoredIntention, is_put_intention, add-zero, sum_by-cons, ◌/◌, head_blocks, MapPlaces, has_map_after, lacks_map, lacking, places_after, places_then, need_of, bare}
+use Rattle.jn_records.proofs.Common.{◌≡◌, ◌+◌, ◌-◌, ◌&&◌, ◌≤◌, ℕ, zero, suc, Bool, true, false, not, if◌then◌else◌, List, [], ◌∷◌, length, drop, refl, ap, ◌∙◌, arith, nat_tests, nat_lt, nat_le, count_by, list_all, FileNo, file_eq, Intention, is_put_intention, add-zero, sum_by-cons, ◌/◌, head_blocks, MapPlaces, has_map_after, places_after, places_then, need_of}
 
 -- whether a file's map page is there after a list, by whether it is there before
 abbrev pub there_at : List Intention → FileNo → ℕ → Bool → Bool
@@ -17,9 +17,3 @@ none-left [] zero f j there past = refl
 none-left [] (suc i) f j there past = refl
 none-left (x ∷ list) zero f j there past = absurd (omega (arith, past))
 none-left (x ∷ list) (suc i) f j there past = none-left list i f j there (omega (arith, past))
-
--- a list looks at its own records alone, and at no bytes
-pub lacking-bare : (bytes : StoredIntention → List ℕ) (places : MapPlaces) (stored : List StoredIntention)
-    → lacking places (map (λ (s : StoredIntention). record { what = s.what; file = s.file; block = s.block; bytes = bytes s }) stored) ≡ lacking places (map bare stored)
-lacking-bare bytes places [] = refl
-lacking-bare bytes places (s ∷ stored) = ap (λ (l : List Bool). lacks_map places (bare s) ∷ l) (lacking-bare bytes (places_after (bare s) places) stored)

@@ -1,11 +1,5 @@
 -- A list that has its map pages has them again.
-use Rattle.jn_records.proofs.Common.{◌≡◌, ◌⊎◌, inl, inr, ◌≤◌, ◌-◌, ◌/◌, ℕ, zero, suc, Bool, true, false, not, ◌&&◌, ◌||◌, if◌then◌else◌, List, [], ◌∷◌, take, slice_get, Option, Some, None, refl, sym, ◌∙◌, ap, subst, arith, true≢false, nat_eq, nat_le, nat_tests, FileNo, Intention, What, Fresh, Gone, Cut, Put, file_eq, file_tells, names_file, is_put_intention, in_order, stands_before, head_blocks, is_in_range, keeps_map, is_put, MapPlaces, has_map_after, places_after, places_then, lacks_map, lacking, IsSupplied}
-
-left-of : (a b : Bool) → (a && b) ≡ true → a ≡ true
-left-of a b h = grind (arith, h)
-
-right-of : (a b : Bool) → (a && b) ≡ true → b ≡ true
-right-of a b h = grind (arith, h)
+use Rattle.jn_records.proofs.Common.{◌≡◌, ◌⊎◌, inl, inr, ◌≤◌, ◌-◌, ◌/◌, ℕ, zero, suc, Bool, true, false, not, ◌&&◌, ◌||◌, if◌then◌else◌, List, [], ◌∷◌, take, slice_get, Option, Some, None, refl, sym, ◌∙◌, ap, subst, arith, true≢false, nat_eq, nat_le, nat_tests, FileNo, Intention, What, Fresh, Gone, Cut, Put, file_eq, file_tells, names_file, is_put_intention, in_order, stands_before, head_blocks, is_in_range, keeps_map, is_put, MapPlaces, has_map_after, places_after, places_then, lacks_map, lacking, IsSupplied, and_parts}
 
 -- it takes away a map page that is there, and it has one there whatever was before
 abbrev drops : Intention → FileNo → ℕ → Bool
@@ -137,10 +131,10 @@ both a b x y = grind (arith, x, y)
 
 puts-behind : (f : FileNo) (last : Intention) (list : List Intention) → f.0 ≤ last.file.0 → in_order (Some last) list ≡ true → only_puts f list ≡ true
 puts-behind f last [] le h = refl
-puts-behind f last (i ∷ list) le h = both (not (file_eq i.file f) || is_put i.what) (only_puts f list) (here i.what refl) (puts-behind f i list further (right-of (stands_before last i) (in_order (Some i) list) h))
+puts-behind f last (i ∷ list) le h = both (not (file_eq i.file f) || is_put i.what) (only_puts f list) (here i.what refl) (puts-behind f i list further (and_parts (stands_before last i) (in_order (Some i) list) h).1)
   where
     before : stands_before last i ≡ true
-    before = left-of (stands_before last i) (in_order (Some i) list) h
+    before = (and_parts (stands_before last i) (in_order (Some i) list) h).0
 
     further : f.0 ≤ i.file.0
     further = grind (arith, nat_tests, before, le)
@@ -154,7 +148,7 @@ puts-behind f last (i ∷ list) le h = both (not (file_eq i.file f) || is_put i.
 firsts : (last : Option Intention) (list : List Intention) → in_order last list ≡ true → firsts_come_first list ≡ true
 firsts last [] h = refl
 firsts None (i ∷ list) h = both (only_puts i.file list) (firsts_come_first list) (puts-behind i.file i list (omega arith) h) (firsts (Some i) list h)
-firsts (Some last) (i ∷ list) h = let rest = right-of (stands_before last i) (in_order (Some i) list) h in
+firsts (Some last) (i ∷ list) h = let rest = (and_parts (stands_before last i) (in_order (Some i) list) h).1 in
     both (only_puts i.file list) (firsts_come_first list) (puts-behind i.file i list (omega arith) rest) (firsts (Some i) list rest)
 
 equal : (a b : FileNo) → file_eq a b ≡ true → a ≡ b
@@ -166,8 +160,8 @@ equal a b h = grind (arith, nat_tests, h)
 puts-keep : (list : List Intention) (n : ℕ) (p : MapPlaces) (f : FileNo) (j : ℕ) → only_puts f list ≡ true → p f j ≡ true → places_then (take n list) p f j ≡ true
 puts-keep list zero p f j o h = h
 puts-keep [] (suc n) p f j o h = h
-puts-keep (i ∷ list) (suc n) p f j o h = puts-keep list n (places_after i p) f j (right-of (not (file_eq i.file f) || is_put i.what) (only_puts f list) o)
-    (kept i.what (file_eq i.file f) (p f j) (left-of (not (file_eq i.file f) || is_put i.what) (only_puts f list) o) h)
+puts-keep (i ∷ list) (suc n) p f j o h = puts-keep list n (places_after i p) f j (and_parts (not (file_eq i.file f) || is_put i.what) (only_puts f list) o).1
+    (kept i.what (file_eq i.file f) (p f j) (and_parts (not (file_eq i.file f) || is_put i.what) (only_puts f list) o).0 h)
   where
     kept : (what : What) (b x : Bool) → (not b || is_put what) ≡ true → x ≡ true → (if b then has_map_after what i.block.0 j x else x) ≡ true
     kept what false x o h = h
@@ -179,10 +173,10 @@ puts-keep (i ∷ list) (suc n) p f j o h = puts-keep list n (places_after i p) f
 more-then : (list : List Intention) (n : ℕ) (p : MapPlaces) → firsts_come_first list ≡ true → IsMore list p (places_then (take n list) p)
 more-then list zero p o f j h = inl h
 more-then [] (suc n) p o f j h = inl h
-more-then (i ∷ list) (suc n) p o f j h = by (more-then list n (places_after i p) (right-of (only_puts i.file list) (firsts_come_first list) o) f j) (drops i f j) refl (brings i f j) refl
+more-then (i ∷ list) (suc n) p o f j h = by (more-then list n (places_after i p) (and_parts (only_puts i.file list) (firsts_come_first list) o).1 f j) (drops i f j) refl (brings i f j) refl
   where
     its : only_puts i.file list ≡ true
-    its = left-of (only_puts i.file list) (firsts_come_first list) o
+    its = (and_parts (only_puts i.file list) (firsts_come_first list) o).0
 
     now : (a b : Bool) → drops i f j ≡ a → brings i f j ≡ b → places_after i p f j ≡ (if a then false else if b then true else p f j)
     now a b d e = after-is i p f j ∙ ap (λ (a : Bool). if a then false else if brings i f j then true else p f j) d ∙ ap (λ (b : Bool). if a then false else if b then true else p f j) e
@@ -198,7 +192,7 @@ more-then (i ∷ list) (suc n) p o f j h = by (more-then list n (places_after i 
     by : (places_after i p f j ≡ true → (places_then (take n list) (places_after i p) f j ≡ true) ⊎ (drops_first list f j ≡ true)) → (a : Bool) → drops i f j ≡ a → (b : Bool) → brings i f j ≡ b
         → (places_then (take n list) (places_after i p) f j ≡ true) ⊎ (drops_first (i ∷ list) f j ≡ true)
     by m true d b e = inr (ap (λ (a : Bool). if a then true else if brings i f j then false else drops_first list f j) d)
-    by m false d true e = inl (puts-keep list n (places_after i p) f j (subst (λ (g : FileNo). only_puts g list ≡ true) (equal i.file f (left-of (file_eq i.file f) (has_map_after i.what i.block.0 j false) e)) its) (now false true d e))
+    by m false d true e = inl (puts-keep list n (places_after i p) f j (subst (λ (g : FileNo). only_puts g list ≡ true) (equal i.file f (and_parts (file_eq i.file f) (has_map_after i.what i.block.0 j false) e).0) its) (now false true d e))
     by m false d false e = on d e (m (now false false d e ∙ h))
 
 pub supplied-again : (list : List Intention) (named : List Bool) (places : MapPlaces) (n : ℕ) → in_order None list ≡ true → IsSupplied places list named → IsSupplied (places_then (take n list) places) list named
@@ -213,14 +207,14 @@ no-item (suc k) i e = cc
 -- what stands behind an intention of a file is a put
 only-put : (list : List Intention) (k : ℕ) (i : Intention) (f : FileNo) → only_puts f list ≡ true → slice_get list k ≡ Some i → file_eq i.file f ≡ true → is_put i.what ≡ true
 only-put [] k i f o is h = absurd (no-item k i is)
-only-put (x ∷ list) zero i f o is h = subst (λ (z : Intention). is_put z.what ≡ true) same (its (file_eq x.file f) (is_put x.what) (left-of (not (file_eq x.file f) || is_put x.what) (only_puts f list) o) (ap (λ (z : Intention). file_eq z.file f) same ∙ h))
+only-put (x ∷ list) zero i f o is h = subst (λ (z : Intention). is_put z.what ≡ true) same (its (file_eq x.file f) (is_put x.what) (and_parts (not (file_eq x.file f) || is_put x.what) (only_puts f list) o).0 (ap (λ (z : Intention). file_eq z.file f) same ∙ h))
   where
     same : x ≡ i
     same = cc
 
     its : (a b : Bool) → (not a || b) ≡ true → a ≡ true → b ≡ true
     its a b e d = grind (arith, e, d)
-only-put (x ∷ list) (suc k) i f o is h = only-put list k i f (right-of (not (file_eq x.file f) || is_put x.what) (only_puts f list) o) is h
+only-put (x ∷ list) (suc k) i f o is h = only-put list k i f (and_parts (not (file_eq x.file f) || is_put x.what) (only_puts f list) o).1 is h
 
 -- an intention that takes a map page away is the first of its file
 drops-there : (list : List Intention) (k : ℕ) (i : Intention) (f : FileNo) (j : ℕ) → firsts_come_first list ≡ true → slice_get list k ≡ Some i → drops i f j ≡ true → drops_first list f j ≡ true
@@ -229,10 +223,10 @@ drops-there (x ∷ list) zero i f j o is d = subst (λ (z : Intention). (if drop
   where
     same : x ≡ i
     same = cc
-drops-there (x ∷ list) (suc k) i f j o is d = by (drops-there list k i f j (right-of (only_puts x.file list) (firsts_come_first list) o) is d) (file_eq x.file f) refl
+drops-there (x ∷ list) (suc k) i f j o is d = by (drops-there list k i f j (and_parts (only_puts x.file list) (firsts_come_first list) o).1 is d) (file_eq x.file f) refl
   where
     here : file_eq i.file f ≡ true
-    here = left-of (file_eq i.file f) (not (has_map_after i.what i.block.0 j true)) d
+    here = (and_parts (file_eq i.file f) (not (has_map_after i.what i.block.0 j true)) d).0
 
     put-stays : is_put i.what ≡ true → drops i f j ≡ false
     put-stays e = ap (λ (w : What). file_eq i.file f && not (has_map_after w i.block.0 j true)) (is-put i.what e) ∙ and-false (file_eq i.file f)
@@ -242,7 +236,7 @@ drops-there (x ∷ list) (suc k) i f j o is d = by (drops-there list k i f j (ri
 
     by : drops_first list f j ≡ true → (b : Bool) → file_eq x.file f ≡ b → drops_first (x ∷ list) f j ≡ true
     by m false e = ap (λ (b : Bool). if b && not (has_map_after x.what x.block.0 j true) then true else if b && has_map_after x.what x.block.0 j false then false else drops_first list f j) e ∙ m
-    by m true e = absurd (true≢false (sym d ∙ put-stays (only-put list k i f (subst (λ (g : FileNo). only_puts g list ≡ true) (equal x.file f e) (left-of (only_puts x.file list) (firsts_come_first list) o)) is here)))
+    by m true e = absurd (true≢false (sym d ∙ put-stays (only-put list k i f (subst (λ (g : FileNo). only_puts g list ≡ true) (equal x.file f e) (and_parts (only_puts x.file list) (firsts_come_first list) o).0) is here)))
 
 step-more : (list : List Intention) (k : ℕ) (i : Intention) (p : MapPlaces) → firsts_come_first list ≡ true → slice_get list k ≡ Some i → IsMore list p (places_after i p)
 step-more list k i p o is f j h = by (drops i f j) refl

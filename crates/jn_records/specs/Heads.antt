@@ -3,6 +3,7 @@ use Rattle.std.specs.Prelude.{◌≡◌, ◌<◌, ◌^◌, ◌++◌, ◌&&◌, �
 use Rattle.std.specs.List.{list_all}
 use Rattle.jn_base.specs.Limits.{head_blocks, most_maps}
 use Rattle.jn_base.specs.declared.names.FileNo.{FileNo}
+use Rattle.jn_base.specs.Names.{file_eq}
 use Rattle.byteorder.specs.Endian.{big_bytes}
 use Rattle.jn_records.specs.declared.head.Head.{Head}
 use Rattle.jn_records.specs.declared.head.Head.TheVariants.{Free, Used}
@@ -33,6 +34,15 @@ head_in heads place = slice_index_or heads place Free
 abbrev pub is_free : Head → Bool
 is_free Free = true
 is_free (Used file addresses maps) = false
+
+-- the head is that of the file
+abbrev pub is_of : FileNo → Head → Bool
+is_of f Free = false
+is_of f (Used g addresses maps) = file_eq g f
+
+-- no file has two heads
+abbrev pub HaveOneHead : List Head → Type 0
+HaveOneHead heads = (f : FileNo) (i j : ℕ) → is_of f (head_in heads i) ≡ true → is_of f (head_in heads j) ≡ true → i ≡ j
 
 -- no address is past the data pages: 0 is none, and a page's is its index and 1
 abbrev pub all_within : ℕ → List ℕ → Bool

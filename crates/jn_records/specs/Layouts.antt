@@ -56,6 +56,10 @@ abbrev pub is_layout_of : FileNo → Layout → Bool
 is_layout_of f Unused = false
 is_layout_of f (Of g cells) = file_eq g f
 
+-- no data page stands at two cells
+abbrev pub AreNamedOnce : List Layout → Type 0
+AreNamedOnce layouts = (a i p j q : ℕ) → at_cell (layout_at layouts i) p ≡ suc a → at_cell (layout_at layouts j) q ≡ suc a → (i ≡ j) × (p ≡ q)
+
 -- ---- which addresses a layout has
 
 -- the test passes at some number below n
@@ -83,10 +87,6 @@ files_in layouts blocks (File f) = option_map (λ h. there) (find (is_layout_of 
 files_in layouts blocks (Block f p) = option_and_then (block_in blocks p) (find (is_layout_of f) layouts)
 
 -- ---- what one put of a page makes of cells
-
--- another address at one cell
-abbrev pub with_cell : ℕ → ℕ → (ℕ → ℕ) → ℕ → ℕ
-with_cell p a cells q = if nat_eq q p then a else cells q
 
 -- other entries in map page j
 abbrev pub with_entries : ℕ → (ℕ → ℕ) → (ℕ → ℕ) → ℕ → ℕ

@@ -1,11 +1,10 @@
 -- The words for heads of the table of files, and those of what is found on pages, say the same.
-use Rattle.jn_recovery.proofs.Common.{◌≡◌, ℕ, zero, suc, Bool, true, false, if◌then◌else◌, List, [], ◌∷◌, Option, Some, None, refl, sym, true≢false, arith, nat_tests, nat_lt, is_some, option_map, option_and_then, find, ◌&&◌, BlockNo, FileNo, Head, is_of, exists, is_mapped, most_blocks, or_unused, Layout, at_cell, layout_by, layouts_by, is_layout_of, behind, block_in}
+use Rattle.jn_recovery.proofs.Common.{◌≡◌, ℕ, zero, suc, Bool, true, false, if◌then◌else◌, List, [], ◌∷◌, Option, Some, None, refl, sym, true≢false, arith, nat_tests, nat_lt, is_some, option_map, option_and_then, find, ◌&&◌, BlockNo, FileNo, Head, is_of, exists, is_mapped, most_blocks, or_unused, Layout, at_cell, layout_by, layouts_by, is_layout_of, behind, block_in, own-file}
 use Rattle.jn_order.specs.Files.{there}
-use Rattle.jn_recovery.proofs.Cells.{same_test}
 
 pub same_there : (maps : ℕ → ℕ → ℕ) (heads : List Head) (f : FileNo) → exists heads f ≡ is_some (option_map (λ h. there) (find (is_layout_of f) (layouts_by maps heads)))
 same_there maps [] f = refl
-same_there maps (h ∷ hs) f = by (is_of f h) (is_layout_of f (layout_by maps h)) (same_test maps f h) (same_there maps hs f)
+same_there maps (h ∷ hs) f = by (is_of f h) (is_layout_of f (layout_by maps h)) (sym (own-file maps f h)) (same_there maps hs f)
   where
     by : (a b : Bool) → a ≡ b → is_some (find (is_of f) hs) ≡ is_some (option_map (λ h. there) (find (is_layout_of f) (layouts_by maps hs)))
         → is_some (if a then Some h else find (is_of f) hs) ≡ is_some (option_map (λ h. there) (if b then Some (layout_by maps h) else find (is_layout_of f) (layouts_by maps hs)))

@@ -1,12 +1,8 @@
 -- What stands at the cells of layouts: which data pages there are, and which map pages they follow from.
-use Rattle.jn_recovery.proofs.Common.{◌≡◌, ⊎_elim, ◌<◌, ◌≤◌, ◌-◌, ℕ, zero, suc, Bool, true, false, if◌then◌else◌, List, [], ◌∷◌, refl, sym, ◌∙◌, ap, arith, fun_ext, cases_lt, nat_tests, nat_lt, slice_index, ◌&&◌, FileNo, Head, FreeHead, Used, head_in, is_of, heads_name, passes_any, passes_at, PassesOnce, ◌/◌, ◌%◌, head_blocks, most_maps, most_blocks, most_cells, IsHeadOf, AreHeads, layouts_of, row_at, all_within, within, Layout, Unused, Of, map_cell, at_cell, through, laid, kept_entry, layout_by, layouts_by, layout_at, is_layout_of, has_address, head_map, get-map, laid-block, laid-entry, laid-map, laid-past, has-at, has-found}
+use Rattle.jn_recovery.proofs.Common.{◌≡◌, ⊎_elim, ◌<◌, ◌≤◌, ◌-◌, ℕ, zero, suc, Bool, true, false, if◌then◌else◌, List, [], ◌∷◌, refl, sym, ◌∙◌, ap, arith, fun_ext, cases_lt, nat_tests, nat_lt, slice_index, FileNo, Head, FreeHead, Used, head_in, heads_name, passes_any, passes_at, PassesOnce, ◌/◌, ◌%◌, head_blocks, most_maps, most_blocks, most_cells, IsHeadOf, AreHeads, layouts_of, row_at, all_within, within, Layout, Unused, Of, map_cell, at_cell, through, laid, kept_entry, layout_by, layouts_by, layout_at, is_layout_of, has_address, head_map, get-map, laid-block, laid-entry, laid-map, laid-past, has-at, has-found, file-at, and_parts}
 use Rattle.std.proofs.Math.Nat.{mod-lt}
 
 -- ---- a head and its layout
-
-pub same_test : (maps : ℕ → ℕ → ℕ) (f : FileNo) (h : Head) → is_of f h ≡ is_layout_of f (layout_by maps h)
-same_test maps f FreeHead = refl
-same_test maps f (Used g xs ms) = refl
 
 pub at_place : (maps : ℕ → ℕ → ℕ) (heads : List Head) (i : ℕ) → layout_at (layouts_by maps heads) i ≡ layout_by maps (head_in heads i)
 at_place maps heads i = get-map (layout_by maps) heads i FreeHead
@@ -18,17 +14,11 @@ address_at leaves [] k h = omega arith
 address_at leaves (x ∷ xs) zero h = grind (arith, nat_tests, h)
 address_at leaves (x ∷ xs) (suc k) h = address_at leaves xs k (grind (arith, h))
 
-both-left : (a b : Bool) → (a && b) ≡ true → a ≡ true
-both-left a b h = grind (arith, h)
-
-both-right : (a b : Bool) → (a && b) ≡ true → b ≡ true
-both-right a b h = grind (arith, h)
-
 module _ (leaves : ℕ) where
   -- a head's map pages are data pages that there are
   pub map_below : (h : Head) (j d : ℕ) → within leaves h ≡ true → head_map h j ≡ suc d → d < leaves
   map_below FreeHead j d w e = absurd (omega (arith, e))
-  map_below (Used f xs ms) j d w e = let le = address_at leaves ms j (both-right (all_within leaves xs) (all_within leaves ms) w) in omega (arith, le, e)
+  map_below (Used f xs ms) j d w e = let le = address_at leaves ms j (and_parts (all_within leaves xs) (all_within leaves ms) w).1 in omega (arith, le, e)
 
   module _ (maps : ℕ → ℕ → ℕ) where
     -- and these lead to such
@@ -42,12 +32,12 @@ module _ (leaves : ℕ) where
     pub cell_fits : (h : Head) (q : ℕ) → within leaves h ≡ true → LeadIn h → at_cell (layout_by maps h) q ≤ leaves
     cell_fits FreeHead q w lead = omega arith
     cell_fits (Used f xs ms) q w lead = ⊎_elim
-        (λ low. let le = address_at leaves xs q (both-left (all_within leaves xs) (all_within leaves ms) w) in let e = laid-block maps blocks its_maps q low in omega (arith, le, e))
+        (λ low. let le = address_at leaves xs q (and_parts (all_within leaves xs) (all_within leaves ms) w).0 in let e = laid-block maps blocks its_maps q low in omega (arith, le, e))
         (λ high. ⊎_elim
         (λ below. let le = through_below (its_maps (q / head_blocks - 1)) (q % head_blocks) (λ d e. lead (q / head_blocks - 1) d (q % head_blocks) (range_below q high below) e (rest_below q)) in
         let e = laid-entry maps blocks its_maps q high below in omega (arith, le, e))
         (λ past. ⊎_elim
-        (λ inside. let le = address_at leaves ms (q - 2520) (both-right (all_within leaves xs) (all_within leaves ms) w) in
+        (λ inside. let le = address_at leaves ms (q - 2520) (and_parts (all_within leaves xs) (all_within leaves ms) w).1 in
         let is : q ≡ map_cell (q - 2520) = omega (arith, past) in
         let e = ap (laid maps blocks its_maps) is ∙ laid-map maps blocks its_maps (q - 2520) (omega (arith, inside, past)) in omega (arith, le, e))
         (λ behind. let e = laid-past maps blocks its_maps q behind in omega (arith, e))
@@ -111,10 +101,7 @@ module _ (leaves : ℕ) (rows : List (List ℕ)) (heads : List Head) (are : AreH
 
   -- no file has two layouts
   pub one_layout : (f : FileNo) → PassesOnce (λ i. is_layout_of f (layout_at (layouts_of rows heads) i))
-  one_layout f i j x y = are.files f i j (at i x) (at j y)
-    where
-      at : (i : ℕ) → is_layout_of f (layout_at (layouts_of rows heads) i) ≡ true → is_of f (head_in heads i) ≡ true
-      at i x = same_test (kept_entry rows) f (head_in heads i) ∙ sym (ap (is_layout_of f) (at_place (kept_entry rows) heads i)) ∙ x
+  one_layout f i j x y = are.files f i j (sym (file-at (kept_entry rows) f heads i) ∙ x) (sym (file-at (kept_entry rows) f heads j) ∙ y)
 
 -- ---- a data page that some layout has at a cell is named
 

@@ -1,10 +1,10 @@
 -- What stands on a store of which root, records and heads are clean, before its map pages are read and after.
-use Rattle.jn_recovery.proofs.Common.{◌≡◌, ⊎_elim, ◌<◌, ◌≤◌, ◌+◌, ◌||◌, ℕ, zero, suc, Bool, true, false, if◌then◌else◌, List, [], length, get_or, refl, sym, ◌∙◌, ap, subst, arith, fun_ext, cases_lt, nat_tests, get_or_past, nat_lt, drop, inl, inr, ServerNo, head_in, IsHeadOf, is_of, IsHeadStored, found_on, pages_by, half_of, root_by, epoch_by, listed, head_on, head_or_free, heads_on, block_on, IsOfFormat, IsRecoverable, IsStanding, Head, FreeHead, Used, Record, Root, head_page, record_page, root_page, IsRoot, Counts, page_count, slot_place, head_place, data_place, root_is_read, slot_page, record_in, HoldsRecords, IsReadable, IsRecordPage, IsFewer, fewer_recoverable, Pick, StoreView, IsClean, IsOnly, IsSamePage, front_count, head_blocks, most_maps, most_blocks, LoadedFrom, HoldsHeads, layouts_on, IsMapChoice, MapsLoadable, AreRows, HaveOneHead, AreNamedOnce, same_only, layouts_in, entry_of, names_for_block, works_have, contents_of, pool_on, names_block, choice_picked, IsHead, FileFits, IsMapPage, head_at, at_cell, head_map, is_layout_of, layout_at, layouts_by, NamesMap, entry_in, Candidate}
+use Rattle.jn_recovery.proofs.Common.{◌≡◌, ⊎_elim, ◌<◌, ◌≤◌, ◌+◌, ◌||◌, ℕ, zero, suc, Bool, true, false, if◌then◌else◌, List, [], length, get_or, refl, sym, ◌∙◌, ap, subst, arith, fun_ext, cases_lt, nat_tests, get_or_past, nat_lt, drop, inl, inr, ServerNo, head_in, IsHeadOf, IsHeadStored, found_on, pages_by, half_of, root_by, epoch_by, listed, head_on, head_or_free, heads_on, block_on, IsOfFormat, IsRecoverable, IsStanding, Head, FreeHead, Used, Record, Root, head_page, record_page, root_page, IsRoot, Counts, page_count, slot_place, head_place, data_place, root_is_read, slot_page, record_in, HoldsRecords, IsReadable, IsRecordPage, IsFewer, fewer_recoverable, Pick, StoreView, IsClean, IsOnly, IsSamePage, front_count, head_blocks, most_maps, most_blocks, LoadedFrom, HoldsHeads, layouts_on, IsMapChoice, MapsLoadable, AreRows, HaveOneHead, AreNamedOnce, same_only, layouts_in, entry_of, names_for_block, works_have, contents_of, pool_on, names_block, choice_picked, IsHead, FileFits, IsMapPage, head_at, at_cell, head_map, layout_at, layouts_by, NamesMap, entry_in, Candidate}
 use Rattle.jn_page_state.proofs.PageChanges.{length-listed, listed_same}
 use Rattle.jn_records.proofs.HeadPages.{used_kind, used_map, map_entry, block_entry}
 use Rattle.jn_records.proofs.Heads.{head_is_read}
 use Rattle.jn_store.specs.Choices.{IsChoice, Agree}
-use Rattle.jn_recovery.proofs.Cells.{same_test, at_place, address_at, map_below, cell_fits, same_layouts, named_cell}
+use Rattle.jn_recovery.proofs.Cells.{at_place, address_at, map_below, cell_fits, same_layouts, named_cell}
 
 -- where no candidate came, each pick finds the pages of one before
 pub fewer_pages : (v w : StoreView) → IsFewer v w → (c : Pick) → (b : Pick) × (pages_by w c ≡ pages_by v b)
@@ -124,10 +124,7 @@ module _ (server : ServerNo) (g : Counts) (u : StoreView) (recoverable : IsRecov
   heads_same c = listed_same (head_on g (pages_by u (λ n. false))) (head_on g (pages_by u c)) 0 g.heads (λ i low high. ap (λ x. head_or_free (head_at x)) (one_page c (head_place g i) (clean (head_place g i) (omega (arith, high)))))
 
   one_head : HaveOneHead heads_there
-  one_head f i j x y = (recoverable.each (λ n. false)).consistent.distinct.files f i j (at i x) (at j y)
-    where
-      at : (i : ℕ) → is_of f (head_in heads_there i) ≡ true → is_layout_of f (layout_at (layouts_in (contents_of g (pages_by u (λ n. false)))) i) ≡ true
-      at i x = ap (is_layout_of f) (at_place (entry_of (block_on g (pages_by u (λ n. false)))) heads_there i) ∙ sym (same_test (entry_of (block_on g (pages_by u (λ n. false)))) f (head_in heads_there i)) ∙ x
+  one_head = (recoverable.each (λ n. false)).consistent.distinct.files
 
   -- ---- their map pages, by each pick
 
@@ -174,7 +171,7 @@ module _ (server : ServerNo) (g : Counts) (u : StoreView) (recoverable : IsRecov
     map_choice : IsMapChoice g heads_there u pages
     map_choice = record {
       whole = its_map_page;
-      once = subst AreNamedOnce (sym layouts_as) (λ a i p j q x y. (recoverable.each c).consistent.addresses.heads a i j p q x y);
+      once = subst AreNamedOnce (sym layouts_as) (recoverable.each c).consistent.addresses.heads;
       leaves = λ place p a below e. let lt = cell_leaf place p a e in record {
         clean = recoverable.clean c a lt (named place p a below e);
         tail = ap (drop 448) (sym (page_first (data_place g a) (omega (arith, lt)))) ∙ format.data_pages a lt;

@@ -1,8 +1,8 @@
 -- The names from below that these proofs cite, passed on from one place. Declares nothing.
 pub use Rattle.std.proofs.Common.{◌≡◌, ◌⊎◌, inl, inr, ⊎_elim, ◌<◌, ◌≤◌, ◌+◌, ◌*◌, ℕ, suc, Bool, true, false, List, [], refl, sym, ◌∙◌, ap, subst, true≢false, arith, zero, if◌then◌else◌, ◌∷◌, Option, Some, None, ◌-◌, ◌≢◌, ◌||◌, length, get_or, ◌^◌, not, map, ◌++◌, length-append, rules}
-pub use Rattle.std.proofs.lemmas.Bool.{cases_eq, cases_lt}
+pub use Rattle.std.proofs.lemmas.Bool.{cases_eq, cases_lt, and_parts}
 pub use Rattle.jn_base.specs.declared.names.ServerNo.{ServerNo}
-pub use Rattle.jn_files.specs.Table.{TableView, is_of, exists, is_mapped, or_unused, IsHeadOf, AreHeads, layouts_of, AreRows, HaveOneHead, AreNamedOnce, IsTable, is_held, layouts_in as table_layouts, is_touched, IsUnnamed}
+pub use Rattle.jn_files.specs.Table.{TableView, exists, is_mapped, or_unused, IsHeadOf, AreHeads, layouts_of, AreRows, IsTable, is_held, layouts_in as table_layouts, is_touched, IsUnnamed}
 pub use Rattle.jn_files.specs.Calls.{IsLoaded as IsTableLoaded, LoadedFrom, MendsMaps}
 pub use Rattle.jn_page_state.specs.Pages.{found_on, half_of, pages_by, pool_on, contents_of, epoch_by, listed, head_on, head_or_free, heads_on, block_on, IsOfFormat, state_of}
 pub use Rattle.jn_records.specs.StablePages.{root_by, Counts, data_place, page_count, slot_place, head_place, NamesMap, is_used, map_in, entry_in, counts_of}
@@ -29,20 +29,20 @@ pub use Rattle.std.specs.Prelude.{nat_lt, is_some, option_map, option_and_then, 
 pub use Rattle.std.specs.List.{find, list_any, list_all, position_or_len, AllByRecursion}
 pub use Rattle.jn_base.specs.declared.names.BlockNo.{BlockNo}
 pub use Rattle.jn_base.specs.declared.names.FileNo.{FileNo}
+pub use Rattle.jn_records.specs.Heads.{is_of, head_in, all_within, within, head_page, HaveOneHead, IsHead, FileFits, IsMapPage, head_at, map_page, has_page as head_has_page}
 pub use Rattle.jn_base.specs.Limits.{most_blocks, head_blocks, most_maps, most_cells}
-pub use Rattle.jn_records.specs.Layouts.{Layout, at_cell, layout_by, layouts_by, is_layout_of, behind, block_in, row_at, Unused, Of, map_cell, through, laid, kept_entry, layout_at, has_address, head_map, files_in, IsNoMap}
+pub use Rattle.jn_records.specs.Layouts.{Layout, at_cell, layout_by, layouts_by, is_layout_of, behind, block_in, row_at, Unused, Of, map_cell, through, laid, kept_entry, layout_at, has_address, head_map, AreNamedOnce, files_in, IsNoMap}
+pub use Rattle.jn_records.proofs.Layouts.{own-file, get-map, laid-block, laid-entry, laid-map, laid-past, has-at, has-found, file-at, map-cell-is, any-found}
 pub use Rattle.std.proofs.Math.Path.{fun_ext}
 pub use Rattle.jn_records.specs.declared.head.Head.TheVariants.{Free as FreeHead, Used}
-pub use Rattle.jn_records.specs.Heads.{head_in, all_within, within, head_page, IsHead, FileFits, IsMapPage, head_at, map_page, has_page as head_has_page}
 pub use Rattle.jn_page_state.specs.Contents.{heads_name, Contents, layouts_in, entry_of, names_for_block, works_have, state_in, with_first, intended, stored_list, intentions_from, intention_of, stored_in, holds_intention, flag_by, flags_in, works_name, prepared_by, works_in}
 pub use Rattle.jn_page_state.proofs.Slots.{passes_any, passes_at, at_set}
 pub use Rattle.jn_page_state.specs.Recoverable.{PassesOnce, MapsAreClean, IsRecoverable, names_block, IsConsistent, Intends, Gives, IsSuppliedIn, HasIntentions, IsCompleteBy}
-pub use Rattle.jn_records.proofs.Layouts.{get-map, laid-block, laid-entry, laid-map, laid-past, has-at, has-found, map-cell-is, any-found}
 pub use Rattle.std.proofs.lemmas.List.{get_or-set_same, get_or_past, get_or-set_other, length-set, length-map}
 pub use Rattle.jn_page_state.specs.Changes.{IsIdlePut, is_idle, IsFlagSlot, IsFlagPut}
 pub use Rattle.jn_page_state.proofs.HeldLaws.{front_held, maps_held, contents_held, cleaned_fewer, fewer_trans, named_held, layouts_held}
 pub use Rattle.jn_records.specs.declared.record.Record.TheVariants.{Free, Intention, Ready, Going, Flag as FlagRecord}
-pub use Rattle.jn_sets.specs.Pool.{record_in, slot_page, HoldsRecords, IsReadable, IsRecordPage, is_prepared, is_intention, is_rubbish, is_free, is_flag, IsRecord, free_count}
+pub use Rattle.jn_sets.specs.Pool.{record_in, slot_page, HoldsRecords, IsReadable, IsRecordPage, is_prepared, is_intention, intends_for, is_rubbish, is_free, is_flag, IsRecord, free_count}
 pub use Rattle.jn_records.specs.Records.{record_page, has_page, RecordFits, FlagFits}
 pub use Rattle.jn_page_state.proofs.Picking.{picks, fewer_recoverable, fewer_picked, same_recoverable}
 pub use Rattle.jn_recovery.specs.Cleaning.{Cleans}
@@ -65,7 +65,8 @@ pub use Rattle.jn_storage.specs.Calls.{name_of, state, Called, RecordErased, Cou
 pub use Rattle.jn_storage.specs.Finding.{find_by}
 pub use Rattle.jn_storage.specs.Listing.{total, is_in, are_different, IsListing, AtMost}
 pub use Rattle.jn_storage.specs.Storage.{IsCounted, is_stored, most_pages, IsServing, Accounts, map_eq, has_map}
-pub use Rattle.jn_storage.specs.Orderly.{file_there, list_of, intentions, IsLoadable, IsGiven, IsOrderly}
+pub use Rattle.jn_storage.specs.Orderly.{file_there, list_of, IsLoadable, IsGiven, IsOrderly}
+pub use Rattle.jn_rows.specs.Worker.{intentions_of}
 pub use Rattle.jn_storage.proofs.Listings.{Tells, but, is_in-but, different-but, total-but, listing-less, listing-more, listing-same, total-same}
 pub use Rattle.jn_recovery.specs.Gathering.{collected, state_on, works_on, IsFew, record_names, all_needed, IsApart, MayHold, HoldsNamed, MayHoldAt, held_at, HoldsBoth, both_held, flags_on, MayPromise, IsGathered}
 pub use Rattle.jn_recovery.specs.Matches.{stored_work, HasMaps, HaveMaps, Matches, IsKeptMemory, FlagsMatch, flag_on, IsMade, WorksMatch, work_by, StoredWork}

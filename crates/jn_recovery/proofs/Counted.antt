@@ -1,11 +1,10 @@
 -- Everything is counted: of what a recovery finds, and of what it keeps in memory.
-use Rattle.jn_recovery.proofs.Common.{◌≡◌, inl, inr, ◌⊎◌, ⊎_elim, ◌<◌, ◌≤◌, ◌^◌, ℕ, zero, suc, Bool, true, false, not, ◌||◌, ◌&&◌, if◌then◌else◌, List, [], ◌∷◌, length, map, Option, Some, None, refl, sym, ◌∙◌, ap, subst, true≢false, arith, cases_lt, nat_tests, get_or_past, sum_by-cons, All, nat_eq, nat_lt, count_by, is_some, option_map, option_and_then, find, list_any, list_all, ServerNo, Tid, WorkId, file_eq, work_eq, file_tells, work_tells, TableView, IsTable, is_held, Contents, state_in, with_first, intended, stored_list, intentions_from, intention_of, heads_name, stored_in, found_once, passes_at, IsConsistent, Intends, PassesOnce, FullIntention, StoredIntention, Head, Record, Free, Intention, Ready, Going, FlagRecord, WorkState, intention_has_page, needs_a_head, is_put, is_put_intention, has_page, RecordFits, Counts, record_in, is_prepared, is_intention, name_of, find_by, total, is_in, are_different, IsCounted, file_there, list_of, intentions, Tells, but, is_in-but, different-but, total-but, collected, state_on, works_on, IsFew, record_names, all_needed, stored_work, Memory, accounts_of, held_in, next_in, next_by, stored_by, rubbish_in, heads_needed, heads_of, ◌/◌, slice_get, nat_le, head_blocks, most_blocks, most_cells, unit_eq, table_layouts, layouts_in, entry_of, Gives, IsSuppliedIn, names_address, names_what_it_needs, map_cell, files_in, maps_in, Prepared, IsListing, IsLoadable, is_stored, is_past_head, most_pages, IsApart, HasMaps, HaveMaps, held_of}
+use Rattle.jn_recovery.proofs.Common.{◌≡◌, inl, inr, ◌⊎◌, ⊎_elim, ◌<◌, ◌≤◌, ◌^◌, ℕ, zero, suc, Bool, true, false, not, ◌||◌, ◌&&◌, if◌then◌else◌, List, [], ◌∷◌, length, map, Option, Some, None, refl, sym, ◌∙◌, ap, subst, true≢false, arith, cases_lt, nat_tests, get_or_past, sum_by-cons, All, nat_eq, nat_lt, count_by, is_some, option_map, option_and_then, find, list_any, list_all, ServerNo, Tid, WorkId, file_eq, work_eq, file_tells, work_tells, TableView, IsTable, is_held, Contents, state_in, with_first, intended, stored_list, intentions_from, intention_of, heads_name, stored_in, found_once, passes_at, IsConsistent, Intends, PassesOnce, FullIntention, StoredIntention, Head, Record, Free, Intention, Ready, Going, FlagRecord, WorkState, intention_has_page, needs_a_head, is_put, is_put_intention, has_page, RecordFits, Counts, record_in, is_prepared, is_intention, name_of, find_by, total, is_in, are_different, IsCounted, file_there, list_of, intentions_of, Tells, but, is_in-but, different-but, total-but, collected, state_on, works_on, IsFew, record_names, all_needed, stored_work, Memory, accounts_of, held_in, next_in, next_by, stored_by, rubbish_in, heads_needed, heads_of, ◌/◌, slice_get, nat_le, head_blocks, most_blocks, most_cells, unit_eq, table_layouts, layouts_in, entry_of, Gives, IsSuppliedIn, names_address, names_what_it_needs, map_cell, files_in, maps_in, Prepared, IsListing, IsLoadable, is_stored, is_past_head, most_pages, IsApart, HasMaps, HaveMaps, held_of, intends_for}
 use Rattle.jn_recovery.proofs.TableCounted.{file_of_head, files_listed, heads_counted, all_units, blocks_listed, all_maps, maps_listed, holds_block, holds_map, pages_counted}
 use Rattle.std.proofs.lemmas.List.Elements.{All-nil, All-cons}
 use Rattle.jn_alloc.specs.Free.{free_count}
 use Rattle.jn_records.specs.declared.intention.What.{What}
 use Rattle.jn_records.specs.declared.intention.What.TheVariants.{Fresh, Gone, Cut, Put}
-use Rattle.jn_recovery.proofs.Counting.{is_of_work}
 use Rattle.jn_recovery.proofs.Keys.{on_key, keys_total, keys_same}
 use Rattle.jn_recovery.proofs.PoolCounted.{named, flagged, on_intention, counts_listed, works_match, prepared_for, IsPreparedAt, prepared_at, works_listed, flags_listed, tested_intentions, records_counted}
 use Rattle.jn_recovery.proofs.HeadsNeeded.{heads_are}
@@ -175,7 +174,7 @@ module _ (g : Counts) (c : Contents) (consistent : IsConsistent g c) (none_left 
     list_in_range : (w : WorkId) → list_all (λ (i : FullIntention). nat_lt i.block.0 most_blocks) (list_of (state_in c) w) ≡ true
     list_in_range w = by ((state_in c).works w) refl
       where
-        by : (o : Option Prepared) → (state_in c).works w ≡ o → list_all (λ (i : FullIntention). nat_lt i.block.0 most_blocks) (intentions o) ≡ true
+        by : (o : Option Prepared) → (state_in c).works w ≡ o → list_all (λ (i : FullIntention). nat_lt i.block.0 most_blocks) (intentions_of o) ≡ true
         by None e = refl
         by (Some p) e = (loadable.orderly.prepared w p e).in_range
 
@@ -267,10 +266,10 @@ module _ (server : ServerNo) (g : Counts) (epoch : ℕ) (pool : List Record) (t 
 
   -- of a work's intentions, those that hold the page of their block, and those that hold a map page
   abbrev blocks_held : WorkId → ℕ
-  blocks_held w = count_by (λ r. is_of_work w r && on_intention (holds_block (table_layouts t)) r) pool
+  blocks_held w = count_by (λ r. intends_for w r && on_intention (holds_block (table_layouts t)) r) pool
 
   abbrev maps_held : WorkId → ℕ
-  maps_held w = count_by (λ r. is_of_work w r && on_intention (holds_map (table_layouts t)) r) pool
+  maps_held w = count_by (λ r. intends_for w r && on_intention (holds_map (table_layouts t)) r) pool
 
   held_list : (list : List StoredIntention) → total (held_of (table_layouts t)) list ≡ count_by (holds_block (table_layouts t)) list + count_by (holds_map (table_layouts t)) list
   held_list list =
@@ -320,8 +319,8 @@ module _ (server : ServerNo) (g : Counts) (epoch : ℕ) (pool : List Record) (t 
 
   -- ---- a work's list and what it holds
 
-  list_is : (w : WorkId) → list_of (state_in c) w ≡ intentions (option_map (prepared_of blocks) (option_map stored_work (find_by work_eq name_of (works_on pool) w)))
-  list_is w = ap intentions (works_by pool blocks w (find (is_prepared w) pool) ∙ ap (option_map (prepared_of blocks)) (sym ((works_match pool consistent.distinct.works).each w)))
+  list_is : (w : WorkId) → list_of (state_in c) w ≡ intentions_of (option_map (prepared_of blocks) (option_map stored_work (find_by work_eq name_of (works_on pool) w)))
+  list_is w = ap intentions_of (works_by pool blocks w (find (is_prepared w) pool) ∙ ap (option_map (prepared_of blocks)) (sym ((works_match pool consistent.distinct.works).each w)))
 
   pub none_next : (w : WorkId) → next_in (works_on pool) w ≡ 0
   none_next w = all pool
@@ -390,6 +389,6 @@ module _ (server : ServerNo) (g : Counts) (epoch : ℕ) (pool : List Record) (t 
   pub holds_fit : ((slot : ℕ) → slot < length pool → has_page (record_in pool slot) ≡ true) → (w : WorkId) → held_in (works_on pool) (table_layouts t) w ≤ most_pages (list_of (state_in (record { epoch = epoch; pool = pool; heads = t.heads; blocks = blocks })) w)
   holds_fit pages w = subst (λ l. held_in (works_on pool) (table_layouts t) w ≤ most_pages l) (sym (list_is w)) (by (find_by work_eq name_of (works_on pool) w) refl)
     where
-      by : (o : Option WorkState) → find_by work_eq name_of (works_on pool) w ≡ o → total (held_of (table_layouts t)) (stored_by o) ≤ most_pages (intentions (option_map (prepared_of blocks) (option_map stored_work o)))
+      by : (o : Option WorkState) → find_by work_eq name_of (works_on pool) w ≡ o → total (held_of (table_layouts t)) (stored_by o) ≤ most_pages (intentions_of (option_map (prepared_of blocks) (option_map stored_work o)))
       by None e = omega arith
       by (Some s) e = holds_pages s.list (stored_pages pool w pages (find (is_prepared w) pool) (stored_work s) (sym ((works_match pool consistent.distinct.works).each w) ∙ ap (option_map stored_work) e))

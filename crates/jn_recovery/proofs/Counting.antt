@@ -1,5 +1,5 @@
 -- How many records are intentions of a work, and how many are rubbish once it is removed.
-use Rattle.jn_recovery.proofs.Common.{◌≡◌, ◌≢◌, ⊎_elim, ◌<◌, ◌≤◌, ◌+◌, ℕ, zero, suc, Bool, true, false, not, ◌&&◌, ◌||◌, if◌then◌else◌, List, [], ◌∷◌, length, Option, Some, None, get_or, refl, sym, ◌∙◌, ap, subst, true≢false, arith, nat_tests, find_at, sum_by-cons, sum_by-set, slice_get_within, get_or_from_slice_get, is_some, nat_eq, nat_lt, count_by, slice_set, option_and_then, find, list_any, position_or_len, WorkId, work_eq, work_tells, stored_in, intention_of, with_first, intentions_from, PassesOnce, HasIntentions, none_found, found_passes, any_same, at_set, StoredIntention, Record, Free, Intention, Ready, Going, FlagRecord, record_in, is_prepared, is_intention, is_rubbish, is_in, rubbish_of, rubbish_in}
+use Rattle.jn_recovery.proofs.Common.{◌≡◌, ◌≢◌, ⊎_elim, ◌<◌, ◌≤◌, ◌+◌, ℕ, zero, suc, Bool, true, false, not, ◌&&◌, ◌||◌, if◌then◌else◌, List, [], ◌∷◌, length, Option, Some, None, get_or, refl, sym, ◌∙◌, ap, subst, true≢false, arith, nat_tests, find_at, sum_by-cons, sum_by-set, slice_get_within, get_or_from_slice_get, is_some, nat_eq, nat_lt, count_by, slice_set, option_and_then, find, list_any, position_or_len, WorkId, work_eq, work_tells, stored_in, intention_of, with_first, intentions_from, PassesOnce, HasIntentions, none_found, found_passes, any_same, at_set, StoredIntention, Record, Free, Intention, Ready, Going, FlagRecord, record_in, is_prepared, is_intention, is_rubbish, is_in, rubbish_of, rubbish_in, intends_for}
 use Rattle.jn_recovery.proofs.Erasing.{rubbish_length, rubbish_fewer, in_both}
 use Rattle.jn_recovery.proofs.FlagCalls.{none_any}
 use Rattle.jn_recovery.proofs.Totals.{one}
@@ -42,10 +42,6 @@ counts_plus p q r is (x ∷ xs) =
 
 -- ---- the intentions of a work
 
-abbrev pub is_of_work : WorkId → Record → Bool
-is_of_work w (Intention v u k i) = work_eq v w
-is_of_work w _ = false
-
 abbrev is_below : WorkId → ℕ → Record → Bool
 is_below w n (Intention v u k i) = work_eq v w && nat_lt k n
 is_below w n _ = false
@@ -83,10 +79,10 @@ module _ (pool : List Record) (w : WorkId) where
       let last = one_counts Free (is_intention w n) pool at.0 at.1 at.3 (λ j t. once n j at.0 t at.3) in
       omega (arith, more, again, last)
 
-  pub work_count : (n : ℕ) → HasIntentions pool w n → count_by (is_of_work w) pool ≡ n
-  work_count n has = same_counts Free (is_of_work w) (is_below w n) pool (λ j. by (record_in pool j) (λ order t. has.no_more order j t)) ∙ below_count n has.all has.once
+  pub work_count : (n : ℕ) → HasIntentions pool w n → count_by (intends_for w) pool ≡ n
+  work_count n has = same_counts Free (intends_for w) (is_below w n) pool (λ j. by (record_in pool j) (λ order t. has.no_more order j t)) ∙ below_count n has.all has.once
     where
-      by : (r : Record) → ((order : ℕ) → is_intention w order r ≡ true → order < n) → is_of_work w r ≡ is_below w n r
+      by : (r : Record) → ((order : ℕ) → is_intention w order r ≡ true → order < n) → intends_for w r ≡ is_below w n r
       by Free less = refl
       by (Intention v u k i) less = own (work_eq v w) refl
         where
@@ -136,7 +132,7 @@ module _ (pool : List Record) (slot : ℕ) (work : WorkId) (below : slot < lengt
       stays true e h = grind (arith, h)
       stays false e h = refl
 
-  rubbish_more : (r : Record) → one (is_rubbish (slice_set pool slot Free) r) ≡ one (is_rubbish pool r) + one (is_of_work work r)
+  rubbish_more : (r : Record) → one (is_rubbish (slice_set pool slot Free) r) ≡ one (is_rubbish pool r) + one (intends_for work r)
   rubbish_more Free = refl
   rubbish_more (Intention v u k i) = ap (λ b. one (not b)) (prepared_gone v) ∙ ⊎_elim
       (λ h. own (list_any (is_prepared v) pool) (work_eq work v) (work_eq v work) (subst (λ x. list_any (is_prepared x) pool ≡ true) h.1 some) h.0 (let t = work_tells v work in let e = h.1 in grind (arith, e)))
@@ -156,12 +152,12 @@ module _ (pool : List Record) (slot : ℕ) (work : WorkId) (below : slot < lengt
   past : (p : Record → Bool) → p Free ≡ false → p (record_in pool slot) ≡ false → count_by p (slice_set pool slot Free) ≡ count_by p pool
   past p free old = let e = sum_by-set (λ r. if p r then 1 else 0) pool slot Free Free below in grind (arith, free, old)
 
-  pub removed_rubbish : (n : ℕ) → HasIntentions pool work n → is_rubbish pool (record_in pool slot) ≡ false → is_of_work work (record_in pool slot) ≡ false
+  pub removed_rubbish : (n : ℕ) → HasIntentions pool work n → is_rubbish pool (record_in pool slot) ≡ false → intends_for work (record_in pool slot) ≡ false
       → length (rubbish_in (slice_set pool slot Free) (slice_set pool slot Free)) ≡ length (rubbish_in pool pool) + n
   removed_rubbish n has old own =
       let all = rubbish_length (slice_set pool slot Free) (slice_set pool slot Free) in
-      let split = counts_plus (is_rubbish pool) (is_of_work work) (is_rubbish (slice_set pool slot Free)) rubbish_more (slice_set pool slot Free) in
-      let a = past (is_rubbish pool) refl old in let b = past (is_of_work work) refl own in let c = work_count pool work n has in let before = rubbish_length pool pool in
+      let split = counts_plus (is_rubbish pool) (intends_for work) (is_rubbish (slice_set pool slot Free)) rubbish_more (slice_set pool slot Free) in
+      let a = past (is_rubbish pool) refl old in let b = past (intends_for work) refl own in let c = work_count pool work n has in let before = rubbish_length pool pool in
       omega (arith, all, split, a, b, c, before)
 
   names_more : (rs : List Record) (n : WorkId) → is_in work_eq n (rubbish_in (slice_set pool slot Free) rs) ≡ true → (work_eq work n || is_in work_eq n (rubbish_in pool rs)) ≡ true

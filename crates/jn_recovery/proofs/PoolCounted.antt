@@ -1,6 +1,6 @@
 -- What is counted of the pool: its works, its flags and their records.
-use Rattle.jn_recovery.proofs.Common.{◌≡◌, ◌<◌, ◌≤◌, ◌+◌, ℕ, zero, suc, Bool, true, false, not, ◌||◌, ◌&&◌, if◌then◌else◌, List, [], ◌∷◌, length, map, get_or, Option, Some, None, refl, sym, ◌∙◌, ap, subst, true≢false, arith, nat_tests, length-map, sum_by-cons, nat_eq, nat_lt, nat_le, is_some, count_by, option_map, option_and_then, find, list_any, Tid, WorkId, tid_eq, work_eq, tid_tells, work_tells, Contents, state_in, stored_in, stored_list, intention_of, intentions_from, with_first, intended, prepared_by, flag_by, works_name, IsConsistent, HasIntentions, IsCompleteBy, PassesOnce, found_once, found_passes, found_any, none_at, passes_at, StoredIntention, Record, Free, Intention, Ready, Going, FlagRecord, WorkState, Counts, record_in, is_free, free_count, is_prepared, is_intention, is_flag, is_rubbish, name_of, tid_of, find_by, total, are_different, IsListing, intentions, list_of, collected, state_on, works_on, flags_on, record_names, stored_work, work_by, flag_on, WorksMatch, FlagsMatch, rubbish_in, holds_intention, names_address}
-use Rattle.jn_recovery.proofs.Counting.{is_of_work, none_counts, one_counts, found_at, same_counts, counts_plus, work_count, listed_length}
+use Rattle.jn_recovery.proofs.Common.{◌≡◌, ◌<◌, ◌≤◌, ◌+◌, ℕ, zero, suc, Bool, true, false, not, ◌||◌, ◌&&◌, if◌then◌else◌, List, [], ◌∷◌, length, map, get_or, Option, Some, None, refl, sym, ◌∙◌, ap, subst, true≢false, arith, nat_tests, length-map, sum_by-cons, nat_eq, nat_lt, nat_le, is_some, count_by, option_map, option_and_then, find, list_any, Tid, WorkId, tid_eq, work_eq, tid_tells, work_tells, Contents, state_in, stored_in, stored_list, intention_of, intentions_from, with_first, intended, prepared_by, flag_by, works_name, IsConsistent, HasIntentions, IsCompleteBy, PassesOnce, found_once, found_passes, found_any, none_at, passes_at, StoredIntention, Record, Free, Intention, Ready, Going, FlagRecord, WorkState, Counts, record_in, is_free, free_count, is_prepared, is_intention, is_flag, is_rubbish, name_of, tid_of, find_by, total, are_different, IsListing, intentions_of, list_of, collected, state_on, works_on, flags_on, record_names, stored_work, work_by, flag_on, WorksMatch, FlagsMatch, rubbish_in, holds_intention, names_address, intends_for}
+use Rattle.jn_recovery.proofs.Counting.{none_counts, one_counts, found_at, same_counts, counts_plus, work_count, listed_length}
 use Rattle.jn_recovery.proofs.Erasing.{rubbish_length}
 use Rattle.jn_recovery.proofs.FlagCalls.{none_any}
 use Rattle.jn_recovery.proofs.Keys.{is_key, on_key, keys_of, keys_length, keys_same, keys_in, keys_differ, found_by}
@@ -167,10 +167,10 @@ module _ (pool : List Record) (w : WorkId) (q : StoredIntention → Bool) where
           let first = sum_by-cons (λ (i : StoredIntention). if q i then 1 else 0) s (intentions_from pool w (suc order) n) in
           omega (arith, here, first, more, again)
 
-  pub counts_listed : (n : ℕ) → HasIntentions pool w n → count_by q (stored_list pool w n) ≡ count_by (λ r. is_of_work w r && on_intention q r) pool
-  counts_listed n has = counts_from 0 n (λ k low high. has.all k (omega (arith, high))) has.once ∙ same_counts Free (between q w 0 n) (λ r. is_of_work w r && on_intention q r) pool (λ j. by (record_in pool j) (λ order t. has.no_more order j t))
+  pub counts_listed : (n : ℕ) → HasIntentions pool w n → count_by q (stored_list pool w n) ≡ count_by (λ r. intends_for w r && on_intention q r) pool
+  counts_listed n has = counts_from 0 n (λ k low high. has.all k (omega (arith, high))) has.once ∙ same_counts Free (between q w 0 n) (λ r. intends_for w r && on_intention q r) pool (λ j. by (record_in pool j) (λ order t. has.no_more order j t))
     where
-      by : (r : Record) → ((order : ℕ) → is_intention w order r ≡ true → order < n) → between q w 0 n r ≡ (is_of_work w r && on_intention q r)
+      by : (r : Record) → ((order : ℕ) → is_intention w order r ≡ true → order < n) → between q w 0 n r ≡ (intends_for w r && on_intention q r)
       by Free less = refl
       by (Intention v u k i) less = own (work_eq v w) refl
         where
@@ -290,7 +290,7 @@ module _ (g : Counts) (c : Contents) (consistent : IsConsistent g c) (none_left 
       by (Ready head n reads) h e = record {
         count = n;
         has = subst (λ v. HasIntentions c.pool v n) (some_is e) (subst (IsCompleteBy c.pool) h (consistent.complete j));
-        list = ap (λ o. intentions (prepared_by c.pool c.blocks w o)) (found_here (Ready head n reads) h (own head.work (some_is e)));
+        list = ap (λ o. intentions_of (prepared_by c.pool c.blocks w o)) (found_here (Ready head n reads) h (own head.work (some_is e)));
         state = record { head = head; list = stored_list c.pool head.work n; reads = reads; going = false; next = 0 };
         found = work_found (Ready head n reads) h (own head.work (some_is e));
         listed = ap (λ v. stored_list c.pool v n) (some_is e);
@@ -299,7 +299,7 @@ module _ (g : Counts) (c : Contents) (consistent : IsConsistent g c) (none_left 
       by (Going head n reads) h e = record {
         count = n;
         has = subst (λ v. HasIntentions c.pool v n) (some_is e) (subst (IsCompleteBy c.pool) h (consistent.complete j));
-        list = ap (λ o. intentions (prepared_by c.pool c.blocks w o)) (found_here (Going head n reads) h (own head.work (some_is e)));
+        list = ap (λ o. intentions_of (prepared_by c.pool c.blocks w o)) (found_here (Going head n reads) h (own head.work (some_is e)));
         state = record { head = head; list = stored_list c.pool head.work n; reads = reads; going = true; next = 0 };
         found = work_found (Going head n reads) h (own head.work (some_is e));
         listed = ap (λ v. stored_list c.pool v n) (some_is e);
@@ -324,25 +324,25 @@ module _ (g : Counts) (c : Contents) (consistent : IsConsistent g c) (none_left 
       none false = refl
 
   -- what passes a test of the intentions of works is counted over the records
-  pub tested_intentions : (q : StoredIntention → Bool) → total (λ w. count_by (λ r. is_of_work w r && on_intention q r) c.pool) (collected named c.pool) ≡ total (λ r. one (on_intention q r)) c.pool
+  pub tested_intentions : (q : StoredIntention → Bool) → total (λ w. count_by (λ r. intends_for w r && on_intention q r) c.pool) (collected named c.pool) ≡ total (λ r. one (on_intention q r)) c.pool
   tested_intentions q =
-      total_same (record { server = record { 0 = 0 }; epoch = 0; ticket = 0 }) (λ w. count_by (λ r. is_of_work w r && on_intention q r) c.pool) (λ w. total (λ r. one (is_of_work w r && on_intention q r)) c.pool) (collected named c.pool)
-      (λ i. count_total (λ r. is_of_work (get_or (collected named c.pool) i (record { server = record { 0 = 0 }; epoch = 0; ticket = 0 })) r && on_intention q r) c.pool)
-      ∙ swapped (λ w r. one (is_of_work w r && on_intention q r)) (collected named c.pool) c.pool
-      ∙ total_same Free (λ r. total (λ w. one (is_of_work w r && on_intention q r)) (collected named c.pool)) (λ r. one (on_intention q r)) c.pool (λ j. by j (record_in c.pool j) refl)
+      total_same (record { server = record { 0 = 0 }; epoch = 0; ticket = 0 }) (λ w. count_by (λ r. intends_for w r && on_intention q r) c.pool) (λ w. total (λ r. one (intends_for w r && on_intention q r)) c.pool) (collected named c.pool)
+      (λ i. count_total (λ r. intends_for (get_or (collected named c.pool) i (record { server = record { 0 = 0 }; epoch = 0; ticket = 0 })) r && on_intention q r) c.pool)
+      ∙ swapped (λ w r. one (intends_for w r && on_intention q r)) (collected named c.pool) c.pool
+      ∙ total_same Free (λ r. total (λ w. one (intends_for w r && on_intention q r)) (collected named c.pool)) (λ r. one (on_intention q r)) c.pool (λ j. by j (record_in c.pool j) refl)
     where
-      by : (j : ℕ) (r : Record) → record_in c.pool j ≡ r → total (λ w. one (is_of_work w r && on_intention q r)) (collected named c.pool) ≡ one (on_intention q r)
+      by : (j : ℕ) (r : Record) → record_in c.pool j ≡ r → total (λ w. one (intends_for w r && on_intention q r)) (collected named c.pool) ≡ one (on_intention q r)
       by j Free e = total_none (collected named c.pool)
       by j (Intention v u k i) e = of_works j (q i) v u k i e
       by j (Ready head n reads) e = total_none (collected named c.pool)
       by j (Going head n reads) e = total_none (collected named c.pool)
       by j (FlagRecord f) e = total_none (collected named c.pool)
 
-  list_length : (j : ℕ) (w : WorkId) (at : IsPreparedAt j w) → length (list_of (state_in c) w) ≡ count_by (λ r. is_of_work w r && on_intention (λ i. true) r) c.pool
+  list_length : (j : ℕ) (w : WorkId) (at : IsPreparedAt j w) → length (list_of (state_in c) w) ≡ count_by (λ r. intends_for w r && on_intention (λ i. true) r) c.pool
   list_length j w at = ap (λ l. length l) at.list ∙ length-map (stored_list c.pool w at.count) (intended c.blocks) ∙ listed_length c.pool w 0 at.count (λ k low high. at.has.all k (omega (arith, high)))
-      ∙ sym (work_count c.pool w at.count at.has) ∙ same_counts Free (is_of_work w) (λ r. is_of_work w r && on_intention (λ i. true) r) c.pool (λ j. by (record_in c.pool j))
+      ∙ sym (work_count c.pool w at.count at.has) ∙ same_counts Free (intends_for w) (λ r. intends_for w r && on_intention (λ i. true) r) c.pool (λ j. by (record_in c.pool j))
     where
-      by : (r : Record) → is_of_work w r ≡ (is_of_work w r && on_intention (λ i. true) r)
+      by : (r : Record) → intends_for w r ≡ (intends_for w r && on_intention (λ i. true) r)
       by Free = refl
       by (Intention v u k i) = same (work_eq v w)
         where
@@ -358,7 +358,7 @@ module _ (g : Counts) (c : Contents) (consistent : IsConsistent g c) (none_left 
       let frees = count_total is_free c.pool in
       let flags = keys_length flagged c.pool in
       let works = keys_length named c.pool in
-      let lists = keys_same named Free (λ w. length (list_of (state_in c) w)) (λ w. count_by (λ r. is_of_work w r && on_intention (λ i. true) r) c.pool) c.pool (λ j w e. list_length j w (prepared_at j w e)) ∙ tested_intentions (λ i. true) in
+      let lists = keys_same named Free (λ w. length (list_of (state_in c) w)) (λ w. count_by (λ r. intends_for w r && on_intention (λ i. true) r) c.pool) c.pool (λ j w e. list_length j w (prepared_at j w e)) ∙ tested_intentions (λ i. true) in
       let one_two = total_plus (λ r. one (is_free r)) (λ r. on_key (λ k. 1) (flagged r)) (λ r. one (is_free r) + on_key (λ k. 1) (flagged r)) (λ r. refl) c.pool in
       let three = total_plus (λ r. one (is_free r) + on_key (λ k. 1) (flagged r)) (λ r. on_key (λ k. 1) (named r)) (λ r. one (is_free r) + on_key (λ k. 1) (flagged r) + on_key (λ k. 1) (named r)) (λ r. refl) c.pool in
       let four = total_plus (λ r. one (is_free r) + on_key (λ k. 1) (flagged r) + on_key (λ k. 1) (named r)) (λ r. one (on_intention (λ i. true) r)) (λ r. 1) each c.pool in

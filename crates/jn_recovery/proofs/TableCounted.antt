@@ -1,12 +1,12 @@
 -- What is counted of the heads and the data pages.
-use Rattle.jn_recovery.proofs.Common.{◌≡◌, ◌⊎◌, inl, inr, ⊎_elim, ◌<◌, ◌≤◌, ◌+◌, ℕ, zero, suc, Bool, true, false, not, ◌||◌, ◌&&◌, if◌then◌else◌, List, [], ◌∷◌, ◌++◌, length, Option, Some, None, refl, sym, ◌∙◌, ap, subst, true≢false, arith, nat_tests, sum_by-cons, nat_eq, nat_lt, is_some, count_by, slice_index, slice_index_or, find, list_any, BlockNo, FileNo, File, Block, file_eq, file_tells, TableView, IsTable, is_held, is_of, head_in, exists, with_first, heads_name, PassesOnce, Head, FreeHead, Used, Record, Free, Intention, Ready, Going, FlagRecord, record_in, total, is_in, are_different, IsListing, file_there, is_stored, collected, record_names, unit_eq, Tells, cases_eq, get_or_past, block_tells, head_blocks, most_maps, most_blocks, most_cells, or_unused, IsUnnamed, StoredIntention, head_has_page, Layout, Unused, Of, map_cell, at_cell, kept_entry, layout_by, layouts_by, layout_at, is_layout_of, has_address, files_in, names_map, maps_in, has-found, map-cell-is, map_eq, has_map, IsApart, holds_page}
+use Rattle.jn_recovery.proofs.Common.{◌≡◌, ◌⊎◌, inl, inr, ⊎_elim, ◌<◌, ◌≤◌, ◌+◌, ℕ, zero, suc, Bool, true, false, not, ◌||◌, ◌&&◌, if◌then◌else◌, List, [], ◌∷◌, ◌++◌, length, Option, Some, None, refl, sym, ◌∙◌, ap, subst, true≢false, arith, nat_tests, sum_by-cons, nat_eq, nat_lt, is_some, count_by, slice_index, slice_index_or, find, list_any, BlockNo, FileNo, File, Block, file_eq, file_tells, TableView, IsTable, is_held, is_of, head_in, exists, with_first, heads_name, PassesOnce, Head, FreeHead, Used, Record, Free, Intention, Ready, Going, FlagRecord, record_in, total, is_in, are_different, IsListing, file_there, is_stored, collected, record_names, unit_eq, Tells, cases_eq, get_or_past, block_tells, head_blocks, most_maps, most_blocks, most_cells, or_unused, IsUnnamed, StoredIntention, head_has_page, Layout, Unused, Of, map_cell, at_cell, kept_entry, layout_by, layouts_by, layout_at, is_layout_of, has_address, files_in, names_map, maps_in, has-found, map-cell-is, map_eq, has_map, IsApart, holds_page, own-file}
 use Rattle.std.proofs.lemmas.List.{length-append}
 use Rattle.jn_alloc.specs.Free.{free_count, is_free as is_free_number}
 use Rattle.jn_base.specs.declared.names.LockUnit.{LockUnit}
 use Rattle.jn_files.specs.Table.{layouts_in}
 use Rattle.jn_records.specs.Heads.{is_free}
 use Rattle.jn_recovery.proofs.Bridge.{same_there, same_mapped}
-use Rattle.jn_recovery.proofs.Cells.{same_test, table_fits, one_layout, named_cell, cell_named, cell_below}
+use Rattle.jn_recovery.proofs.Cells.{table_fits, one_layout, named_cell, cell_named, cell_below}
 use Rattle.jn_recovery.proofs.Keys.{is_key, on_key, keys_length, keys_in, keys_differ}
 use Rattle.jn_recovery.proofs.PoolCounted.{on_intention}
 unfoldable use Rattle.jn_recovery.proofs.Totals.{below}
@@ -331,7 +331,7 @@ module _ (maps : ℕ → ℕ → ℕ) where
       by : (b : Bool) → is_layout_of f (layout_by maps h) ≡ b → maps_in hs f j ≡ (nat_lt j most_maps && nat_lt 0 (at_cell (or_unused (find (is_layout_of f) (layouts_by maps hs))) (map_cell j)))
           → ((b && (nat_lt j most_maps && nat_lt 0 (at_cell (layout_by maps h) (map_cell j)))) || maps_in hs f j)
           ≡ (nat_lt j most_maps && nat_lt 0 (at_cell (or_unused (if b then Some (layout_by maps h) else find (is_layout_of f) (layouts_by maps hs))) (map_cell j)))
-      by true e again = ap (λ b. (nat_lt j most_maps && nat_lt 0 (at_cell (layout_by maps h) (map_cell j))) || b) (none_named hs f j (none_later (is_of f) FreeHead h hs (same_test maps f h ∙ e) (once f)))
+      by true e again = ap (λ b. (nat_lt j most_maps && nat_lt 0 (at_cell (layout_by maps h) (map_cell j))) || b) (none_named hs f j (none_later (is_of f) FreeHead h hs (sym (own-file maps f h) ∙ e) (once f)))
           ∙ or_none (nat_lt j most_maps && nat_lt 0 (at_cell (layout_by maps h) (map_cell j)))
       by false e again = again
 

@@ -1,5 +1,5 @@
 -- A storage serves on with a work that goes, and with a rubbish record less.
-use Rattle.jn_recovery.proofs.Common.{◌≡◌, ◌≤◌, ◌+◌, ◌&&◌, ℕ, Bool, true, false, not, if◌then◌else◌, length, Option, Some, None, refl, sym, ◌∙◌, ap, subst, arith, fun_ext, is_some, WorkId, work_eq, work_tells, StableState, Prepared, MarkGoing, RemoveWork, made_by, gone_on, at_work, is_in, total, IsOrderly, Accounts, intentions, list_of, CountsErased, CountsOff, orderly-marked, orderly-removed, but, is_in-but, listing-same, listing-less, total-but, total-same, file_there, heads_of, MapPlaces, IsListing, most_pages, map_eq, has_map}
+use Rattle.jn_recovery.proofs.Common.{◌≡◌, ◌≤◌, ◌+◌, ◌&&◌, ℕ, Bool, true, false, not, if◌then◌else◌, length, Option, Some, None, refl, sym, ◌∙◌, ap, subst, arith, fun_ext, is_some, WorkId, work_eq, work_tells, StableState, Prepared, MarkGoing, RemoveWork, made_by, gone_on, at_work, is_in, total, IsOrderly, Accounts, intentions_of, list_of, CountsErased, CountsOff, orderly-marked, orderly-removed, but, is_in-but, listing-same, listing-less, total-but, total-same, file_there, heads_of, MapPlaces, IsListing, most_pages, map_eq, has_map}
 use Rattle.jn_recovery.proofs.FlagStates.{length-one}
 use Rattle.jn_recovery.proofs.Serving.{Serves}
 
@@ -10,12 +10,12 @@ module _ (x : StableState) (work : WorkId) where
   list_marked : (v : WorkId) → list_of (made_by (MarkGoing work) x) v ≡ list_of x v
   list_marked v = by (work_eq work v) refl
     where
-      goes : (o : Option Prepared) → intentions (gone_on o) ≡ intentions o
+      goes : (o : Option Prepared) → intentions_of (gone_on o) ≡ intentions_of o
       goes None = refl
       goes (Some p) = refl
 
-      by : (b : Bool) → work_eq work v ≡ b → intentions (if b then gone_on (x.works work) else x.works v) ≡ intentions (x.works v)
-      by true e = goes (x.works work) ∙ ap (λ w. intentions (x.works w)) (same_work v e)
+      by : (b : Bool) → work_eq work v ≡ b → intentions_of (if b then gone_on (x.works work) else x.works v) ≡ intentions_of (x.works v)
+      by true e = goes (x.works work) ∙ ap (λ w. intentions_of (x.works w)) (same_work v e)
       by false e = refl
 
   some_marked : (v : WorkId) → is_some ((made_by (MarkGoing work) x).works v) ≡ is_some (x.works v)
@@ -105,7 +105,7 @@ module _ (x : StableState) (a b : Accounts) (work : WorkId) (s : Serves x a) (so
       summed k l m n e f = omega (arith, e, f)
 
   list_else : (v : WorkId) → work_eq work v ≡ false → list_of (made_by (RemoveWork work) x) v ≡ list_of x v
-  list_else v e = ap (λ c. intentions (if c then None else x.works v)) e
+  list_else v e = ap (λ c. intentions_of (if c then None else x.works v)) e
 
   at_else : (f : WorkId → ℕ) (v : WorkId) → work_eq work v ≡ false → at_work f work 0 v ≡ f v
   at_else f v e = ap (λ c. if c then 0 else f v) e

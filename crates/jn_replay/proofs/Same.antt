@@ -2,9 +2,6 @@
 use Rattle.jn_replay.proofs.Common.{ℕ, length, ◌≡◌, ◌<◌, List, ◌∷◌, sym, ap, ◌∙◌, subst, ◌+◌, ◌↔◌, drop, get_or, add-one, drop-cons, Answer, AllFiles, answer_to, all_files_after, same_files, AreSame, files_then, GivesAnswers}
 use Rattle.jn_replay.specs.declared.files.Performed.{Performed}
 
-pub AreSame-from_equal : (a b : AllFiles) → a ≡ b → AreSame a b
-AreSame-from_equal a b e s u = ap (λ (f : AllFiles). f s u) e
-
 pub drop_here : {X : Type 0} (xs : List X) (i : ℕ) (d : X) → i < length xs → drop i xs ≡ get_or xs i d ∷ drop (i + 1) xs
 drop_here xs i d h = rw add-one (drop-cons xs i d h)
 

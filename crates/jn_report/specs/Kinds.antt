@@ -16,10 +16,6 @@ abbrev pub is_up : Text → Bool
 is_up (says.Up s epoch) = true
 is_up text = false
 
-abbrev pub is_down : Text → Bool
-is_down (says.Down s) = true
-is_down text = false
-
 abbrev pub is_stopped : Text → Bool
 is_stopped (says.Stopped s) = true
 is_stopped text = false
@@ -31,10 +27,6 @@ is_message text = false
 -- it is no message's line
 abbrev pub no_message : Text → Bool
 no_message text = not (is_message text)
-
-abbrev pub no_refusal : Text → Bool
-no_refusal (says.RefusedEvent refusal) = false
-no_refusal text = true
 
 abbrev pub is_commit : Text → Bool
 is_commit (says.Commit t) = true
@@ -85,6 +77,10 @@ abbrev pub refuses_event : Text → Bool
 refuses_event (says.RefusedEvent refusal) = true
 refuses_event _ = false
 
+-- it refuses no event
+abbrev pub no_refusal : Text → Bool
+no_refusal text = not (refuses_event text)
+
 abbrev pub stops : ServerNo → Text → Bool
 stops s (says.Stopped r) = server_eq r s
 stops s _ = false
@@ -101,6 +97,8 @@ is_own refusals.HasTransaction = true
 is_own refusals.NotOpen = true
 is_own refusals.AlreadyOpen = true
 is_own refusals.NoSuchServer = true
+is_own refusals.Spoiled = true
+is_own refusals.TooFar = true
 is_own _ = false
 
 -- a refusal by a client itself
@@ -130,6 +128,9 @@ speaks_to (says.Begun c j t) = addressed c j
 speaks_to (says.Opened c j s) = addressed c j
 speaks_to (says.Did c j) = addressed c j
 speaks_to (says.Read c j bytes) = addressed c j
+speaks_to (says.Bytes c j bytes) = addressed c j
+speaks_to (says.Found c j f) = addressed c j
+speaks_to (says.Name c j name f) = addressed c j
 speaks_to (says.Refused c j refusal) = addressed c j
 speaks_to (says.Waiting c j s u t) = addressed c j
 speaks_to (says.Committed c j t) = addressed c j

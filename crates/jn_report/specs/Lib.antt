@@ -1,3 +1,4 @@
 pub mod Append
 pub mod Text
 pub mod Kinds
+pub mod Lines

@@ -12,7 +12,7 @@ use Rattle.jn_base.specs.declared.names.Party.{Party}
 use Rattle.jn_base.specs.declared.names.Party.TheVariants.{Client, Server}
 use Rattle.jn_base.specs.declared.names.MsgKind.{MsgKind}
 use Rattle.jn_base.specs.declared.names.MsgKind.TheVariants as kinds
-use Rattle.jn_text.specs.Words.{block_word}
+use Rattle.jn_text.specs.Words.{block_word, hex_word}
 use Rattle.jn_report.specs.declared.line.When.{When}
 use Rattle.jn_report.specs.declared.line.When.TheVariants.{Event, End}
 use Rattle.jn_report.specs.declared.line.Refusal.{Refusal}
@@ -72,6 +72,7 @@ refusal_words refusals.HasTransaction = codes "3" ∷ []
 refusal_words refusals.NotOpen = codes "4" ∷ []
 refusal_words refusals.AlreadyOpen = codes "5" ∷ []
 refusal_words refusals.NoSuchServer = codes "6" ∷ []
+refusal_words refusals.Spoiled = codes "7" ∷ []
 refusal_words refusals.NoFile = codes "11" ∷ []
 refusal_words refusals.Exists = codes "12" ∷ []
 refusal_words (refusals.Locked u t) = codes "13" ∷ held_words u t
@@ -82,6 +83,12 @@ refusal_words (refusals.Lost then now) = codes "17" ∷ decimal then ∷ decimal
 refusal_words refusals.Closing = codes "18" ∷ []
 refusal_words refusals.TooManyTransactions = codes "21" ∷ []
 refusal_words refusals.TooManyWorks = codes "22" ∷ []
+refusal_words refusals.NotBytes = codes "51" ∷ []
+refusal_words refusals.TooFar = codes "52" ∷ []
+refusal_words (refusals.PastEnd n) = codes "53" ∷ decimal n ∷ []
+refusal_words refusals.BucketFull = codes "54" ∷ []
+refusal_words refusals.NoName = codes "55" ∷ []
+refusal_words refusals.NotDirectory = codes "56" ∷ []
 
 abbrev pub event_refusal_word : EventRefusal → Word
 event_refusal_word events.NoSuchServer = codes "6"
@@ -113,6 +120,9 @@ words_of (says.Begun c j t) = client_word c ∷ codes "begun" ∷ decimal j ∷ 
 words_of (says.Opened c j s) = client_word c ∷ codes "opened" ∷ decimal j ∷ server_word s ∷ []
 words_of (says.Did c j) = client_word c ∷ codes "did" ∷ decimal j ∷ []
 words_of (says.Read c j bytes) = client_word c ∷ codes "read" ∷ decimal j ∷ block_word bytes ∷ []
+words_of (says.Bytes c j bytes) = client_word c ∷ codes "bytes" ∷ decimal j ∷ hex_word bytes ∷ []
+words_of (says.Found c j f) = client_word c ∷ codes "found" ∷ decimal j ∷ decimal f.0 ∷ []
+words_of (says.Name c j name f) = client_word c ∷ codes "name" ∷ decimal j ∷ name ∷ decimal f.0 ∷ []
 words_of (says.Refused c j refusal) = client_word c ∷ codes "refused" ∷ decimal j ∷ refusal_words refusal
 words_of (says.Waiting c j s u t) = client_word c ∷ codes "waiting" ∷ decimal j ∷ server_word s ∷ held_words u t
 words_of (says.Committed c j t) = client_word c ∷ codes "committed" ∷ decimal j ∷ tid_word t ∷ []

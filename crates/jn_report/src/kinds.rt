@@ -28,6 +28,9 @@ pub fn answer_in(text: &Text) -> Option<Addressed>
         Text::Opened(client, number, _) => to_client(*client, *number),
         Text::Did(client, number) => to_client(*client, *number),
         Text::Read(client, number, _) => to_client(*client, *number),
+        Text::Bytes(client, number, _) => to_client(*client, *number),
+        Text::Found(client, number, _) => to_client(*client, *number),
+        Text::Name(client, number, _, _) => to_client(*client, *number),
         Text::Refused(client, number, refusal) => {
             if is_own(*refusal) {
                 None
@@ -52,6 +55,9 @@ pub fn is_answer(text: &Text) -> bool
             | Text::Opened(_, _, _)
             | Text::Did(_, _)
             | Text::Read(_, _, _)
+            | Text::Bytes(_, _, _)
+            | Text::Found(_, _, _)
+            | Text::Name(_, _, _, _)
             | Text::Refused(_, _, _)
             | Text::Waiting(_, _, _, _, _)
             | Text::Committed(_, _, _)
@@ -71,6 +77,8 @@ pub fn is_own(refusal: Refusal) -> bool
             | Refusal::NotOpen
             | Refusal::AlreadyOpen
             | Refusal::NoSuchServer
+            | Refusal::Spoiled
+            | Refusal::TooFar
     )
 }
 

@@ -1,6 +1,6 @@
 //! Appends a line to the text of a report.
-ghost use Rattle.std.specs.Prelude.{◌≡◌, ◌++◌, ◌∷◌, codes, decimal, OnOk, OnErr};
-ghost use Rattle.jn_text.specs.Words.{block_word};
+ghost use Rattle.std.specs.Prelude.{◌≡◌, ◌++◌, [], ◌∷◌, codes, decimal, OnOk, OnErr};
+ghost use Rattle.jn_text.specs.Words.{block_word, hex_word};
 ghost use Rattle.jn_report.specs.Append.{IsFrontKept};
 ghost use Rattle.jn_report.specs.Text.{cause_words, client_word, event_refusal_word, kind_word, refusal_words, spaced, text_of, when_word, words_of};
 ghost use Rattle.jn_base.specs.Names.{fault_word};
@@ -9,9 +9,10 @@ use crate::digits::push_digits;
 use crate::line::{EventRefusal, Line, Refusal, Text, When};
 use crate::word::{push_byte, push_held, push_name, push_number, push_route, push_tid};
 use jn_base::{
-    BlockContent, BlockNo, Cause, ClientNo, FaultKind, FileNo, MsgKind, Outside, Party, ServerNo,
+    BlockContent, BlockNo, ByteString, Cause, ClientNo, FaultKind, FileNo, MsgKind, Outside, Party,
+    ServerNo,
 };
-use jn_text::push_hex;
+use jn_text::{push_all_hex, push_hex};
 use std::alloc::AllocError;
 
 /// Appends the text of a line, with its line feed. Where there is no memory, nothing is appended.
@@ -82,6 +83,18 @@ fn push_text(out: &mut Vec<u8>, text: &Text) -> Result<(), AllocError>
             push_told(out, client, " read ", at)?;
             push_block(out, content)
         }
+        Text::Bytes(client, at, ref bytes) => {
+            push_told(out, client, " bytes ", at)?;
+            push_bytes(out, bytes)
+        }
+        Text::Found(client, at, file) => {
+            push_told(out, client, " found ", at)?;
+            push_number(out, " ", file.0)
+        }
+        Text::Name(client, at, ref name, file) => {
+            push_told(out, client, " name ", at)?;
+            push_entry(out, name, file)
+        }
         Text::Refused(client, at, refusal) => {
             push_told(out, client, " refused ", at)?;
             push_refusal(out, refusal)
@@ -135,6 +148,25 @@ fn push_block(out: &mut Vec<u8>, content: &BlockContent) -> Result<(), AllocErro
 {
     push_byte(out, b' ')?;
     push_hex(out, content.first_bytes())
+}
+
+/// Appends bytes, each of them, with a space before them.
+fn push_bytes(out: &mut Vec<u8>, bytes: &ByteString) -> Result<(), AllocError>
+    ensures ok { OnOk result (out.new.items ≡ out.old.items ++ (codes " " ++ hex_word bytes.now)) }
+    ensures err { OnErr result (IsFrontKept out.old.items out.new.items) }
+{
+    push_byte(out, b' ')?;
+    push_all_hex(out, bytes.as_slice())
+}
+
+/// Appends a name and its file, each with a space before it.
+fn push_entry(out: &mut Vec<u8>, name: &ByteString, file: FileNo) -> Result<(), AllocError>
+    ensures ok { OnOk result (out.new.items ≡ out.old.items ++ spaced (name.now ∷ decimal file.0 ∷ [])) }
+    ensures err { OnErr result (IsFrontKept out.old.items out.new.items) }
+{
+    push_byte(out, b' ')?;
+    out.extend_from_slice(name.as_slice())?;
+    push_number(out, " ", file.0)
 }
 
 /// Appends that a fault was refused.
@@ -203,6 +235,7 @@ fn push_refusal(out: &mut Vec<u8>, refusal: Refusal) -> Result<(), AllocError>
         Refusal::NotOpen => push_name(out, " 4"),
         Refusal::AlreadyOpen => push_name(out, " 5"),
         Refusal::NoSuchServer => push_name(out, " 6"),
+        Refusal::Spoiled => push_name(out, " 7"),
         Refusal::NoFile => push_name(out, " 11"),
         Refusal::Exists => push_name(out, " 12"),
         Refusal::Locked(unit, tid) => {
@@ -222,6 +255,12 @@ fn push_refusal(out: &mut Vec<u8>, refusal: Refusal) -> Result<(), AllocError>
         Refusal::Closing => push_name(out, " 18"),
         Refusal::TooManyTransactions => push_name(out, " 21"),
         Refusal::TooManyWorks => push_name(out, " 22"),
+        Refusal::NotBytes => push_name(out, " 51"),
+        Refusal::TooFar => push_name(out, " 52"),
+        Refusal::PastEnd(length) => push_number(out, " 53 ", length),
+        Refusal::BucketFull => push_name(out, " 54"),
+        Refusal::NoName => push_name(out, " 55"),
+        Refusal::NotDirectory => push_name(out, " 56"),
     }
 }
 

@@ -1,9 +1,8 @@
 -- What is stable at one server, how it changes, and what may be found of it after a stop.
-use Rattle.std.specs.Prelude.{◌≡◌, ℕ, ◌+◌, Bool, true, false, List, [], ◌∷◌, take, slice_get, Option, Some, None, nat_lt, if◌then◌else◌}
+use Rattle.std.specs.Prelude.{◌≡◌, ℕ, ◌+◌, Bool, true, false, List, [], ◌∷◌, take, slice_get, Option, Some, None, if◌then◌else◌}
 use Rattle.jn_base.specs.declared.names.BlockNo.{BlockNo}
 use Rattle.jn_base.specs.declared.names.ClientNo.{ClientNo}
 use Rattle.jn_base.specs.declared.names.LockUnit.{LockUnit}
-use Rattle.jn_base.specs.declared.names.LockUnit.TheVariants.{Block}
 use Rattle.jn_base.specs.declared.names.RequestNo.{RequestNo}
 use Rattle.jn_base.specs.declared.names.Tid.{Tid}
 use Rattle.jn_base.specs.declared.names.WorkId.{WorkId}
@@ -140,15 +139,6 @@ is_cut _ = false
 abbrev pub carries_cut : Change → Bool
 carries_cut (CarryOut w i) = is_cut i.what
 carries_cut _ = false
-
--- whether a part of an intention has written a register
-abbrev pub gone_at : Option (BlockNo → Bool) → What → LockUnit → Bool
-gone_at (Some gone) Cut (Block f p) = gone p
-gone_at _ _ _ = false
-
--- whether an intention has written a register where a stop has left this of it
-abbrev pub is_written : Left → Intention → LockUnit → Bool
-is_written l i u = if nat_lt 0 l.whole then true else gone_at l.gone i.what u
 
 abbrev pub carried_at : (LockUnit → Bool) → Intention → StableState → StableState
 carried_at is i x = record x { files = λ u. if is u then change (intention_change i) x.files u else x.files u }

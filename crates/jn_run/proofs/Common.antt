@@ -1,7 +1,7 @@
 -- The names from below that these proofs cite, passed on from one place. Declares nothing.
 pub use Rattle.std.proofs.Common.{◌≡◌, ◌≤◌, ◌<◌, ℕ, List, length, Option, Some, None, refl, ap, subst, arith, ◌∙◌, sym, true≢false, true, Result, zero, suc, Bool, false, [], ◌∷◌, slice_get, map, Ok, Err, ◌≢◌, drop, ◌++◌, Vec, ◌+◌, inl, inr, drop-cons, get_or, append-nil, ◌-◌, rules, lit<}
 pub use Rattle.jn_base.specs.declared.names.ServerNo.{ServerNo}
-pub use Rattle.jn_host.specs.Outside.{Contents, Rose}
+pub use Rattle.jn_host.specs.Outside.{Contents}
 pub use Rattle.jn_schedule.specs.declared.Event.{Event}
 pub use Rattle.jn_schedule.specs.Grammar.{IsSchedule, word_lines}
 pub use Rattle.jn_image_files.specs.Kept.{Has, image_name, IsSaved}
@@ -50,5 +50,6 @@ pub use Rattle.std.specs.Io.KnownBytes.{prepend_known}
 pub use Rattle.jn_memdisk.specs.declared.disk.MemDisk.{MemDisk}
 pub use Rattle.jn_world.specs.Standing.{AreStores, IsWorld}
 pub use Rattle.std.proofs.lemmas.List.{length-drop, length-take, take-append-drop, length-append, length-map}
+pub use Rattle.jn_base.specs.Counts.{Rose}
 pub use Rattle.std.proofs.lemmas.Grind.{common_steps}
 pub use Rattle.std.proofs.lemmas.Result.{err_from_is_err_and}

@@ -1,7 +1,7 @@
 -- The disks that a run leaves are kept.
 use Rattle.std.specs.Prelude.{◌≡◌, ◌<◌, ℕ, List, length, Option, Some, None}
 use Rattle.jn_device.specs.Device.{DeviceState}
-use Rattle.jn_host.specs.Outside.{Rose}
+use Rattle.jn_base.specs.Counts.{Rose}
 use Rattle.jn_image_files.specs.Saved.{SavedTo}
 use Rattle.jn_recovery.specs.declared.counts.PageCounts.{PageCounts}
 use Rattle.jn_writing.specs.Outside.{KeeperState}

@@ -1,6 +1,7 @@
 -- What follows from what a call leaves: which counts rise, when the keeper stays as it was, and that what can be done is done.
 use Rattle.std.specs.Prelude.{◌≡◌, ◌≢◌, ◌≤◌, ◌<◌, ℕ, List, length, Option, Some, None}
-use Rattle.jn_host.specs.Outside.{Contents, Rose}
+use Rattle.jn_host.specs.Outside.{Contents}
+use Rattle.jn_base.specs.Counts.{Rose}
 use Rattle.jn_image_files.specs.Examined.{IsAccepted}
 use Rattle.jn_image_files.specs.Kept.{image_name}
 use Rattle.jn_options.specs.declared.asked.Command.{Command}

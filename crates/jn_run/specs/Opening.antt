@@ -2,7 +2,8 @@
 use Rattle.std.specs.Prelude.{◌≡◌, ◌≢◌, ◌<◌, ℕ, List, length, slice_get, Option, Some, Result, Err}
 use Rattle.jn_device.specs.Device.{DeviceState}
 use Rattle.jn_disks.specs.Disks.{IsNewDisk, HasNewDevice}
-use Rattle.jn_host.specs.Outside.{Contents, Rose}
+use Rattle.jn_host.specs.Outside.{Contents}
+use Rattle.jn_base.specs.Counts.{Rose}
 use Rattle.jn_image_files.specs.Opened.{AreStoresOf}
 use Rattle.jn_image_files.specs.Kept.{Has, image_name}
 use Rattle.jn_options.specs.declared.asked.Geometry.{Geometry}

@@ -2,7 +2,7 @@
 use Rattle.std.specs.Prelude.{◌≡◌, ◌≢◌, ◌≤◌, ℕ, false, List, [], ◌++◌, map, length, slice_get, Some, Result, Ok, Err, is_ok}
 use Rattle.jn_device.specs.Device.{DeviceState}
 use Rattle.jn_page_state.specs.Recoverable.{IsRecoverable}
-use Rattle.jn_host.specs.Outside.{Rose}
+use Rattle.jn_base.specs.Counts.{Rose}
 use Rattle.jn_recovery.specs.declared.counts.PageCounts.{PageCounts}
 use Rattle.jn_recovery.specs.Counts.{counts_by}
 use Rattle.jn_store.specs.Store.{StoreView}

@@ -1,6 +1,6 @@
 -- What a source that has a schedule gave.
 use Rattle.std.specs.Prelude.{◌≡◌, ◌≤◌, ℕ, ◌+◌, List, drop, option_map}
-use Rattle.jn_host.specs.Outside.{Rose}
+use Rattle.jn_base.specs.Counts.{Rose}
 use Rattle.jn_serving.specs.Input.{most_bytes}
 use Rattle.jn_writing.specs.Outside.{SourceState}
 

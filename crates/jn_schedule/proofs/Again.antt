@@ -201,6 +201,8 @@ spelled_read (events.Command c command) [] spells = absurd spells
 spelled_read (events.Command c command) (w ∷ []) spells = absurd (command_some command spells.1)
 spelled_read (events.Command c command) (w ∷ v ∷ args) spells =
     client_line c (events.Command c command) (command_parts command) w (v ∷ args) spells.0 (command_again c command v args spells.1) (command_placed command v args spells.1) refl
+spelled_read (events.Call c s call) [] spells = absurd spells
+spelled_read (events.Call c s call) (w ∷ args) spells = absurd (omega (arith, spells.0.0, spells.0.1))
 spelled_read (events.Again c) [] spells = absurd spells
 spelled_read (events.Again c) (w ∷ []) spells = absurd spells.1
 spelled_read (events.Again c) (w ∷ v ∷ args) spells =

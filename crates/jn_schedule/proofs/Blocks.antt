@@ -1,9 +1,9 @@
 -- Words that spell blocks.
-use Rattle.jn_schedule.proofs.Common.{◌≡◌, ℕ, ◌<◌, ◌≤◌, ◌&&◌, Bool, true, false, cond, List, [], ◌∷◌, length, Option, Some, None, Result, Ok, Err, ok_or, nat_le, nat_lt, refl, sym, ap, ◌∙◌, arith, nat_tests, cond_some, bytes_eq-Decides, AllByRecursion, FromHexError, decode_of, encode_lower, lower_digits, decode_of-ok, decode_of-encode_lower, length-encode_with, hex_word, same, IsByte, SpellsBlock, filled, Reads, block_if, block_in, bytes_of}
+use Rattle.jn_schedule.proofs.Common.{◌≡◌, ℕ, ◌<◌, ◌≤◌, ◌&&◌, Bool, true, false, cond, List, [], ◌∷◌, length, Option, Some, None, Result, Ok, Err, ok_or, nat_le, nat_lt, refl, sym, ap, ◌∙◌, arith, nat_tests, cond_some, bytes_eq-Decides, AllByRecursion, FromHexError, decode_of, encode_lower, lower_digits, decode_of-ok, decode_of-encode_lower, length-encode_with, hex_word, same, IsByte, SpellsBlock, filled, block_if, block_in, bytes_of}
 use Rattle.jn_schedule.specs.declared.fault.LineFault.TheVariants as faults
 use Rattle.jn_schedule.proofs.HexWords.{bytes_at, bytes_from, hex_word-some}
 use Rattle.jn_schedule.proofs.Numbers.{both, all_of, is-le, le-is}
-use Rattle.jn_schedule.proofs.Told.{reads_same}
+use Rattle.jn_schedule.proofs.Told.{Reads, reads_same}
 
 pub some_is : {X : Type 0} (x y : X) → ◌≡◌ {A = Option X} (Some x) (Some y) → x ≡ y
 some_is x y e = cc

@@ -1,5 +1,5 @@
 -- The names from below that these proofs cite, passed on from one place. Declares nothing.
-pub use Rattle.std.proofs.Common.{codes, ◌≡◌, ℕ, ◌+◌, ◌-◌, inl, inr, Bool, true, false, cond, nat_eq, nat_le, List, [], ◌∷◌, length, map, Option, Some, None, Result, Ok, Err, MatchResult, MatchBool, refl, sym, ap, ◌∙◌, subst, arith, ◌≢◌, ◌<◌, ◌≤◌, ◌&&◌, ok_or, nat_lt, ◌++◌, MatchOption, zero, suc, ◌*◌, ◌/◌, ◌%◌, not, ◌||◌, eqb, get_or, ◌⊎◌, IfOk, append_assoc, ◌^◌, decimal, if◌then◌else◌, replicate, filter, take, drop, is_ok, OnOk, option_map}
+pub use Rattle.std.proofs.Common.{codes, ◌≡◌, ℕ, ◌+◌, ◌-◌, inl, inr, Bool, true, false, cond, nat_eq, nat_le, List, [], ◌∷◌, length, map, Option, Some, None, Result, Ok, Err, MatchResult, MatchBool, refl, sym, ap, ◌∙◌, subst, arith, ◌≢◌, ◌<◌, ◌≤◌, ◌&&◌, ok_or, nat_lt, ◌++◌, MatchOption, zero, suc, ◌*◌, ◌/◌, ◌%◌, not, ◌||◌, eqb, get_or, ◌⊎◌, IfOk, append_assoc, ◌^◌, decimal, replicate, if◌then◌else◌, filter, take, drop, option_map}
 pub use Rattle.std.proofs.lemmas.Bool.Decides.{nat_tests}
 pub use Rattle.jn_base.specs.declared.device.FaultKind.{FaultKind}
 pub use Rattle.jn_base.specs.declared.names.BlockNo.{BlockNo}
@@ -10,9 +10,9 @@ pub use Rattle.jn_base.specs.declared.names.Tid.{Tid}
 pub use Rattle.jn_base.specs.declared.op.Command.{Command}
 pub use Rattle.jn_schedule.specs.declared.Event.{Event}
 pub use Rattle.jn_schedule.specs.declared.fault.LineFault.{LineFault}
-pub use Rattle.jn_schedule.specs.Grammar.{Part, Spells, SpellsClient, SpellsParts, begins_comment, block_part, command_parts, file_part, is_passed, kind_parts, page_part, parts_of, server_part, SpellsPart, IsByte, SpellsBlock, filled, AreLines, IsSchedule, word_lines, SpellsNumber, event_line, Keyword, Client, Number, Name, Bytes, has_bytes, lines_of, words_of, SpellsName, line_of_event}
+pub use Rattle.jn_schedule.specs.Grammar.{Part, Spells, SpellsClient, SpellsParts, begins_comment, block_part, command_parts, file_part, is_passed, kind_parts, page_part, parts_of, server_part, SpellsPart, IsByte, SpellsBlock, filled, AreLines, IsSchedule, word_lines, SpellsNumber, Keyword, Client, Number, Name, Bytes, has_bytes, lines_of, words_of, SpellsName, event_line, line_of_event}
 pub use Rattle.jn_schedule.specs.Faults.{FirstUnfilled, HasFault, Place, PlacesFault, command_places, is_client_word, places_of, Fills, block_place, file_place, page_place, server_place, same, arm_places, places_by, IsFirstFault, LinesFault, line_fault_number, fault_at}
-pub use Rattle.jn_schedule.specs.Reading.{◌>>=◌, Reads, block_if, kind_words, lookup, opening_words, verb_words, AddsLine, Fails, GivesUpTo, in_front, then_lines, lacks, lines_from, with_first, texts}
+pub use Rattle.jn_schedule.specs.Reading.{◌>>=◌, block_if, kind_words, lookup, opening_words, verb_words, AddsLine, Fails, GivesUpTo, in_front, then_lines, lacks, lines_from, with_first, texts}
 unfoldable pub use Rattle.jn_schedule.specs.Reading.{arm_of, by_client, client_event, client_of, command_of, event_of, fault_kind_of, has_count, kind_of, message_alone, no_client_event, nothing, one, opening_of, other_event, page_alone, server_alone, server_file, server_file_block, server_name, server_of, server_page, value_of, verb_of, write_of, written, block_no_of, bytes_of, file_of, name_of, page_of, block_in, read_line, read_lines, number_in, cut_at_stop, name_in, server_in}
 pub use Rattle.std.proofs.lemmas.Option.{cond_some, some_pair_parts, option_and_then_some}
 pub use Rattle.std.proofs.lemmas.Slice.Eq.{bytes_eq-Decides}

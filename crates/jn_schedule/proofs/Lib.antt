@@ -6,7 +6,6 @@ mod Events
 mod HexWords
 mod Lines
 mod Numbers
-mod Places
 mod Splits
 mod TextParts
 mod Told

@@ -93,10 +93,6 @@ pub is_done : (front : List Event) (n : ℕ) (total : Result (List Event) (ℕ �
 unfolding read_lines
 is_done front n total so_far = sym so_far ∙ ap (λ (l : List Event). Ok l) (append-nil front)
 
-pub starts : (read : Result (List Event) (ℕ × LineFault)) → in_front [] read ≡ read
-starts (Ok es) = refl
-starts (Err e) = refl
-
 -- the exit at a line that isn't read, whatever is kept of the events in front
 pub exits : (front : List Event) (n : ℕ) (ws : List (List ℕ)) (lines : List (List (List ℕ))) (total : Result (List Event) (ℕ × LineFault)) (e : ParseFault)
     → (before after : List Event) → AddsLine (Err e) n (read_line ws) before after → in_front front (read_lines n (ws ∷ lines)) ≡ total → Fails e total

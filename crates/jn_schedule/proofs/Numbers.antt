@@ -1,9 +1,9 @@
 -- Words that spell numbers.
-use Rattle.jn_schedule.proofs.Common.{◌≡◌, ◌≢◌, ◌⊎◌, inl, inr, ℕ, ◌^◌, ◌<◌, ◌≤◌, ◌&&◌, Bool, true, false, List, length, Option, Some, decimal, nat_le, refl, ap, ◌∙◌, subst, arith, nat_tests, digits_value-decimal, common_steps, get_or_past, cond_some, bytes_eq-Decides, is_ascii_digit, IsNumberAt, same, SpellsNumber, number_in, Reads}
+use Rattle.jn_schedule.proofs.Common.{◌≡◌, ◌≢◌, ◌⊎◌, inl, inr, ℕ, ◌^◌, ◌<◌, ◌≤◌, ◌&&◌, Bool, true, false, List, length, Option, Some, decimal, nat_le, refl, ap, ◌∙◌, subst, arith, nat_tests, digits_value-decimal, common_steps, get_or_past, cond_some, bytes_eq-Decides, is_ascii_digit, IsNumberAt, same, SpellsNumber, number_in}
 use Rattle.std.proofs.lemmas.Str.Parse.{IsNumeralModel, numerals_by_value, tells_digits}
 use Rattle.std.specs.Str.Parse.{AllDigits, digits_value}
 use Rattle.jn_text.proofs.Numbers.{number_is_one}
-use Rattle.jn_schedule.proofs.Told.{reads_same}
+use Rattle.jn_schedule.proofs.Told.{Reads, reads_same}
 
 own : IsNumeralModel (AllDigits 10) (digits_value 10)
 own = numerals_by_value (AllDigits 10) tells_digits

@@ -125,9 +125,14 @@ kind_parts (kinds.Decay g) = Keyword (codes "decay") ∷ page_part g ∷ []
 kind_parts (kinds.Revive g) = Keyword (codes "revive") ∷ page_part g ∷ []
 kind_parts kind = Keyword (fault_word kind) ∷ []
 
--- the words of each event
+-- no word spells it, and no number is in its range
+abbrev pub no_word : Part
+no_word = Number 1 0 0
+
+-- the words of each event; calls have none yet
 abbrev pub parts_of : Event → List Part
 parts_of (events.Command c command) = Client c.0 ∷ command_parts command
+parts_of (events.Call c s call) = no_word ∷ []
 parts_of (events.Again c) = Client c.0 ∷ Keyword (codes "again") ∷ []
 parts_of (events.Deliver k) = Keyword (codes "deliver") ∷ Number 0 999999 k ∷ []
 parts_of events.Settle = Keyword (codes "settle") ∷ []

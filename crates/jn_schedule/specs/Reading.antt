@@ -1,5 +1,5 @@
 -- How the words of a line are read, one after the other: an event, or a fault.
-use Rattle.std.specs.Prelude.{◌≡◌, ℕ, ◌+◌, ◌-◌, ◌^◌, ◌++◌, ◌≤◌, ◌<◌, Bool, true, not, ◌&&◌, nat_eq, nat_le, nat_lt, List, [], ◌∷◌, length, map, drop, Option, Some, None, MatchOption, Result, Ok, Err, option_and_then, option_map, ok_or, if◌then◌else◌, codes, decimal}
+use Rattle.std.specs.Prelude.{◌≡◌, ℕ, ◌+◌, ◌-◌, ◌^◌, ◌++◌, ◌≤◌, ◌<◌, Bool, true, not, ◌&&◌, nat_eq, nat_le, nat_lt, List, [], ◌∷◌, length, map, drop, Option, Some, None, Result, Ok, Err, option_and_then, option_map, ok_or, if◌then◌else◌, codes, decimal}
 use Rattle.std.specs.Borrow.{Bor}
 use Rattle.std.specs.Str.Parse.{digits_value}
 use Rattle.hex.specs.Hex.{decode_of, encode_lower}
@@ -35,10 +35,6 @@ use Rattle.jn_base.specs.Limits.{most_blocks}
 
 abbrev pub texts : List (Bor (List ℕ)) → List (List ℕ)
 texts ws = map (λ w. w.now) ws
-
--- a reader answers a value that is spelled so, and none only where no value is
-abbrev pub Reads : {X : Type 0} → (X → Type 0) → Option X → Type 0
-Reads {X} P found = MatchOption found ((x : X) → ¬ P x) P
 
 infixl 10 ◌>>=◌
 abbrev pub ◌>>=◌ : {A B : Type 0} → Result A LineFault → (A → Result B LineFault) → Result B LineFault

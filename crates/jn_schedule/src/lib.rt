@@ -9,7 +9,7 @@ mod word;
 mod words;
 
 pub use fault::{LineFault, ParseFault};
-use jn_base::{ClientNo, Command, FaultKind, ServerNo, Tid};
+use jn_base::{Call, ClientNo, Command, FaultKind, ServerNo, Tid};
 pub use place::line_of_event;
 pub use schedule::{
     a_schedule_has_one_list_of_events, a_text_is_a_schedule_or_has_a_fault,
@@ -21,6 +21,8 @@ pub use schedule::{
 pub enum Event {
     /// A client is told to do something: `c1 begin S` and so on, each command of `Command`.
     Command(ClientNo, Command),
+    /// A client is told to call the server. No words give it yet.
+    Call(ClientNo, ServerNo, Call),
     /// A client sends its outstanding message once more.
     Again(ClientNo),
     /// The message of this number is handed over.

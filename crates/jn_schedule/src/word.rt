@@ -4,7 +4,7 @@ ghost use Rattle.std.specs.Char.{is_ascii_uppercase};
 ghost use Rattle.std.specs.List.{AllByRecursion, list_any};
 ghost use Rattle.hex.specs.Hex.{encode_lower};
 ghost use Rattle.jn_schedule.specs.Grammar.{IsByte, SpellsBlock};
-ghost use Rattle.jn_schedule.specs.Reading.{Reads, TellsRead, block_no_of, bytes_of, client_of, cut_at_stop, file_of, name_in, name_of, number_in, page_of, server_of, server_in, value_of};
+ghost use Rattle.jn_schedule.specs.Reading.{TellsRead, block_no_of, bytes_of, client_of, cut_at_stop, file_of, name_in, name_of, number_in, page_of, server_of, server_in, value_of};
 
 use crate::fault::{LineFault, ReadFault};
 use jn_base::{BlockContent, BlockNo, ClientNo, FileNo, MOST_BLOCKS, ServerNo, Tid};

@@ -1,5 +1,5 @@
 -- One more event, with its lines: what stands before an abort, a stop and a refused fault is kept.
-use Rattle.jn_serial.proofs.Common.{◌≡◌, ℕ, ◌+◌, ◌<◌, ◌≤◌, Bool, true, false, nat_le, List, [], ◌∷◌, ◌++◌, Option, Some, refl, ap, arith, inl, inr, append_assoc, append-nil, cases_Bool, nat_tests, ClientNo, Tid, Event, When, AtEvent, End, Text, Line, is_before, lines_before, event_at, begun_after, begun_then, is_in, Abort, Command}
+use Rattle.jn_serial.proofs.Common.{◌≡◌, ℕ, ◌+◌, ◌≤◌, Bool, true, false, nat_le, List, [], ◌∷◌, ◌++◌, Option, refl, ap, arith, inl, inr, append_assoc, append-nil, cases_Bool, nat_tests, ClientNo, Tid, Event, When, AtEvent, End, Text, Line, is_before, lines_before, begun_after, begun_then}
 use Rattle.jn_base.specs.declared.names.Cause.{Cause}
 use Rattle.jn_base.specs.declared.names.Cause.TheVariants as causes
 use Rattle.jn_report.specs.declared.line.Text.TheVariants as says
@@ -37,6 +37,9 @@ is_caused-more es fs lines w (says.Begun c j t) h = refl
 is_caused-more es fs lines w (says.Opened c j s) h = refl
 is_caused-more es fs lines w (says.Did c j) h = refl
 is_caused-more es fs lines w (says.Read c j bytes) h = refl
+is_caused-more es fs lines w (says.Bytes c j bytes) h = refl
+is_caused-more es fs lines w (says.Found c j f) h = refl
+is_caused-more es fs lines w (says.Name c j name f) h = refl
 is_caused-more es fs lines w (says.Refused c j refusal) h = refl
 is_caused-more es fs lines w (says.Waiting c j s u t) h = refl
 is_caused-more es fs lines w (says.Committed c j t) h = refl
@@ -93,6 +96,9 @@ no_cause_needed es lines w (says.Begun c j t) h = refl
 no_cause_needed es lines w (says.Opened c j s) h = refl
 no_cause_needed es lines w (says.Did c j) h = refl
 no_cause_needed es lines w (says.Read c j bytes) h = refl
+no_cause_needed es lines w (says.Bytes c j bytes) h = refl
+no_cause_needed es lines w (says.Found c j f) h = refl
+no_cause_needed es lines w (says.Name c j name f) h = refl
 no_cause_needed es lines w (says.Refused c j refusal) h = refl
 no_cause_needed es lines w (says.Waiting c j s u t) h = refl
 no_cause_needed es lines w (says.Committed c j t) h = refl
@@ -129,10 +135,3 @@ lines_before-whole low i (l ∷ ls) within = take l ls (lines_before-whole low i
 
     take : (l : Line) (ls : List Line) → lines_before (AtEvent i) ls ≡ ls → is_before l.when (AtEvent i) ≡ true → lines_before (AtEvent i) (l ∷ ls) ≡ l ∷ ls
     take l ls rest g = rw g (ap (λ (m : List Line). l ∷ m) rest)
-
--- an abort of the client was given in T, in an event below high
-pub record AbortStands (es : List Event) (ls : List Line) (c : ClientNo) (t : Tid) (high : ℕ) : Type 0 where
-  pub number : ℕ
-  pub event : event_at es number ≡ Some (Command c Abort)
-  pub earlier : number < high
-  pub in_it : is_in c t number ls ≡ true

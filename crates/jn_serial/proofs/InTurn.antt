@@ -1,6 +1,6 @@
 -- Where each answer follows its command, what a transaction did by its lines is what it did by its commands.
-use Rattle.jn_serial.proofs.Common.{◌≡◌, ◌≢◌, ◌⊎◌, inl, inr, ℕ, zero, suc, ◌+◌, ◌<◌, ◌≤◌, nat_eq, nat_lt, Bool, true, false, ◌&&◌, if◌then◌else◌, List, [], ◌∷◌, ◌++◌, length, Option, Some, None, refl, sym, ◌∙◌, ap, subst, arith, append_assoc, append-nil, length-append, true≢false, nat_tests, ClientNo, Tid, Answer, client_eq, client_tells, Performed, Event, When, AtEvent, End, Text, Line, when_eq, is_before, lines_at, lines_before, says, event_at, begun_after, begun_then, last_begun, is_tid, is_in, answer_told, first_told, performed, op_in, ops_from, ops_of, Outstanding, Asked, nothing_asked, with_asked, answers_command, answer_in, fits, fits_asked, after_answer, AllFit, after_answers, after_event, refuses_own, AllOwnInPlace, own_in_place, FollowsEvent, after_one, FollowsFrom, is_answer, IsOfEvent, AllOfEvents, Follows}
-use Rattle.jn_serial.proofs.LineByLine.{performed_in, answered, answered_by, is_its_client, ops_told}
+use Rattle.jn_serial.proofs.Common.{◌≡◌, ◌≢◌, ◌⊎◌, inl, inr, ℕ, zero, suc, ◌+◌, ◌<◌, ◌≤◌, nat_eq, nat_lt, Bool, true, false, ◌&&◌, if◌then◌else◌, List, [], ◌∷◌, ◌++◌, length, Option, Some, None, refl, sym, ◌∙◌, ap, subst, arith, append_assoc, append-nil, length-append, true≢false, nat_tests, ClientNo, Tid, Answer, client_eq, client_tells, Performed, Event, When, AtEvent, End, Text, Line, when_eq, is_before, lines_at, lines_before, says, event_at, begun_after, begun_then, last_begun, is_tid, is_in, answer_told, first_answer_told, performed, operation_in, operations_from, operations_of, Outstanding, Asked, nothing_asked, with_asked, answers_command, answer_in, fits, fits_asked, after_answer, AllFit, after_answers, after_event, refuses_own, AllOwnInPlace, own_in_place, FollowsEvent, after_one, FollowsFrom, is_answer, IsOfEvent, AllOfEvents, Follows}
+use Rattle.jn_serial.proofs.LineByLine.{performed_in, answered, answered_by, is_its_client, operations_told}
 use Rattle.jn_order.specs.Changes.{or_also}
 use Rattle.jn_base.specs.declared.names.ServerNo.{ServerNo}
 use Rattle.jn_base.specs.declared.op.Op.{Op}
@@ -12,20 +12,20 @@ use Rattle.jn_report.specs.declared.line.Refusal.TheVariants as refusals
 use Rattle.jn_report.specs.declared.line.Text.TheVariants as says
 use Rattle.jn_serial.proofs.Growth.{IsWithin, AreWithin, AreWithin-wider, AreWithin-append, lines_at-outside, lines_at-whole}
 use Rattle.jn_serial.proofs.Ops.{AnswersWithin, AllAnswerWithin, AllAnswerWithin-append, AllAnswerWithin-wider, told_from-events}
-use Rattle.jn_serial.proofs.Orders.{owner_then, ops_told-append, lines_at-append, lines_before-append}
+use Rattle.jn_serial.proofs.Orders.{owner_then, operations_told-append, lines_at-append, lines_before-append}
 use Rattle.jn_serial.proofs.Beginners.{HasOneClient, one-front, owner-is, in-says, not-both, self-client}
 
 -- ---- the lines so far
 
-first_told-more : (c : ClientNo) (j : ℕ) (ls : List Line) (l : Line) → first_told c j (ls ++ l ∷ []) ≡ or_also (first_told c j ls) (answer_told c j l.text)
-first_told-more c j [] l = last (answer_told c j l.text)
+first_answer_told-more : (c : ClientNo) (j : ℕ) (ls : List Line) (l : Line) → first_answer_told c j (ls ++ l ∷ []) ≡ or_also (first_answer_told c j ls) (answer_told c j l.text)
+first_answer_told-more c j [] l = last (answer_told c j l.text)
   where
     last : (o : Option Answer) → or_also o None ≡ o
     last None = refl
     last (Some a) = refl
-first_told-more c j (x ∷ ls) l = by (answer_told c j x.text) (first_told-more c j ls l)
+first_answer_told-more c j (x ∷ ls) l = by (answer_told c j x.text) (first_answer_told-more c j ls l)
   where
-    by : (o : Option Answer) → first_told c j (ls ++ l ∷ []) ≡ or_also (first_told c j ls) (answer_told c j l.text) → or_also o (first_told c j (ls ++ l ∷ [])) ≡ or_also (or_also o (first_told c j ls)) (answer_told c j l.text)
+    by : (o : Option Answer) → first_answer_told c j (ls ++ l ∷ []) ≡ or_also (first_answer_told c j ls) (answer_told c j l.text) → or_also o (first_answer_told c j (ls ++ l ∷ [])) ≡ or_also (or_also o (first_answer_told c j ls)) (answer_told c j l.text)
     by None on = on
     by (Some a) on = refl
 
@@ -40,9 +40,9 @@ told-later n c j (says.Refused d k refusals.NoFile) l h = if-same c d n j k _ h 
 told-later n c j (says.Refused d k refusals.Exists) l h = if-same c d n j k _ h l
 told-later n c j _ l h = refl
 
-untold-later : (n : ℕ) (c : ClientNo) (j : ℕ) (ls : List Line) → n < j → AllAnswerWithin n ls → first_told c j ls ≡ None
+untold-later : (n : ℕ) (c : ClientNo) (j : ℕ) (ls : List Line) → n < j → AllAnswerWithin n ls → first_answer_told c j ls ≡ None
 untold-later n c j [] l h = refl
-untold-later n c j (x ∷ ls) l h = ap (λ o. or_also o (first_told c j ls)) (told-later n c j x.text l h.0) ∙ untold-later n c j ls l h.1
+untold-later n c j (x ∷ ls) l h = ap (λ o. or_also o (first_answer_told c j ls)) (told-later n c j x.text l h.0) ∙ untold-later n c j ls l h.1
 
 before-all : (n : ℕ) (ls : List Line) → AreWithin 0 n ls → lines_before (AtEvent n) ls ≡ ls
 before-all n [] h = refl
@@ -96,10 +96,10 @@ stands-last j (d ∷ es) e = inr (subst (λ n. StandsAt (j + 1) (es ++ e ∷ [])
     shift : (a b : ℕ) → (a + 1) + b ≡ a + suc b
     shift a b = omega arith
 
-ops_from-append : (t : Tid) (ls : List Line) (j : ℕ) (es fs : List Event) → ops_from t ls j (es ++ fs) ≡ ops_from t ls j es ++ ops_from t ls (j + length es) fs
-ops_from-append t ls j [] fs = ap (λ n. ops_from t ls n fs) (omega arith)
-ops_from-append t ls j (e ∷ es) fs = ap (λ z. op_in t ls j e ++ z) (ops_from-append t ls (j + 1) es fs ∙ ap (λ n. ops_from t ls (j + 1) es ++ ops_from t ls n fs) (shift j (length es)))
-    ∙ sym (append_assoc (op_in t ls j e) (ops_from t ls (j + 1) es) (ops_from t ls (j + suc (length es)) fs))
+operations_from-append : (t : Tid) (ls : List Line) (j : ℕ) (es fs : List Event) → operations_from t ls j (es ++ fs) ≡ operations_from t ls j es ++ operations_from t ls (j + length es) fs
+operations_from-append t ls j [] fs = ap (λ n. operations_from t ls n fs) (omega arith)
+operations_from-append t ls j (e ∷ es) fs = ap (λ z. operation_in t ls j e ++ z) (operations_from-append t ls (j + 1) es fs ∙ ap (λ n. operations_from t ls (j + 1) es ++ operations_from t ls n fs) (shift j (length es)))
+    ∙ sym (append_assoc (operation_in t ls j e) (operations_from t ls (j + 1) es) (operations_from t ls (j + suc (length es)) fs))
   where
     shift : (a b : ℕ) → (a + 1) + b ≡ a + suc b
     shift a b = omega arith
@@ -107,8 +107,8 @@ ops_from-append t ls j (e ∷ es) fs = ap (λ z. op_in t ls j e ++ z) (ops_from-
 -- ---- one more line
 
 -- an event does the same by other lines, where the client is in the same transaction and was told the same
-op-same : (t : Tid) (ls ms : List Line) (i : ℕ) (e : Event) → ((c : ClientNo) → is_in c t i ms ≡ is_in c t i ls) → ((c : ClientNo) → first_told c i ms ≡ first_told c i ls) → op_in t ms i e ≡ op_in t ls i e
-op-same t ls ms i (events.Command c (commands.Do s op)) f g = ap (λ (b : Bool). if b then performed s op (first_told c i ms) else []) (f c) ∙ ap (λ o. if is_in c t i ls then performed s op o else []) (g c)
+op-same : (t : Tid) (ls ms : List Line) (i : ℕ) (e : Event) → ((c : ClientNo) → is_in c t i ms ≡ is_in c t i ls) → ((c : ClientNo) → first_answer_told c i ms ≡ first_answer_told c i ls) → operation_in t ms i e ≡ operation_in t ls i e
+op-same t ls ms i (events.Command c (commands.Do s op)) f g = ap (λ (b : Bool). if b then performed s op (first_answer_told c i ms) else []) (f c) ∙ ap (λ o. if is_in c t i ls then performed s op o else []) (g c)
 op-same t ls ms i (events.Command c (commands.Begin s)) f g = refl
 op-same t ls ms i (events.Command c (commands.Open s)) f g = refl
 op-same t ls ms i (events.Command c commands.End) f g = refl
@@ -116,10 +116,10 @@ op-same t ls ms i (events.Command c commands.Abort) f g = refl
 op-same t ls ms i _ f g = refl
 
 -- an event in which no client that is in T was answered
-op-none : (t : Tid) (ls : List Line) (i : ℕ) (e : Event) → ((c : ClientNo) → is_in c t i ls ≡ true → first_told c i ls ≡ None) → op_in t ls i e ≡ []
+op-none : (t : Tid) (ls : List Line) (i : ℕ) (e : Event) → ((c : ClientNo) → is_in c t i ls ≡ true → first_answer_told c i ls ≡ None) → operation_in t ls i e ≡ []
 op-none t ls i (events.Command c (commands.Do s op)) f = by (is_in c t i ls) (f c)
   where
-    by : (b : Bool) → (b ≡ true → first_told c i ls ≡ None) → (if b then performed s op (first_told c i ls) else []) ≡ []
+    by : (b : Bool) → (b ≡ true → first_answer_told c i ls ≡ None) → (if b then performed s op (first_answer_told c i ls) else []) ≡ []
     by true g = ap (performed s op) (g refl)
     by false g = refl
 op-none t ls i (events.Command c (commands.Begin s)) f = refl
@@ -129,18 +129,18 @@ op-none t ls i (events.Command c commands.Abort) f = refl
 op-none t ls i _ f = refl
 
 abbrev pub NoneFrom : Tid → List Line → ℕ → Type 0
-NoneFrom t ls k = (i : ℕ) (c : ClientNo) → k ≤ i → is_in c t i ls ≡ true → first_told c i ls ≡ None
+NoneFrom t ls k = (i : ℕ) (c : ClientNo) → k ≤ i → is_in c t i ls ≡ true → first_answer_told c i ls ≡ None
 
-ops-none : (t : Tid) (ls : List Line) (j : ℕ) (es : List Event) → NoneFrom t ls j → ops_from t ls j es ≡ []
+ops-none : (t : Tid) (ls : List Line) (j : ℕ) (es : List Event) → NoneFrom t ls j → operations_from t ls j es ≡ []
 ops-none t ls j [] f = refl
-ops-none t ls j (e ∷ es) f = ap (λ z. z ++ ops_from t ls (j + 1) es) (op-none t ls j e (λ c. f j c (omega arith))) ∙ ops-none t ls (j + 1) es (λ i c l. f i c (omega (arith, l)))
+ops-none t ls j (e ∷ es) f = ap (λ z. z ++ operations_from t ls (j + 1) es) (op-none t ls j e (λ c. f j c (omega arith))) ∙ ops-none t ls (j + 1) es (λ i c l. f i c (omega (arith, l)))
 
 module _ (t : Tid) (n : ℕ) (ls : List Line) (l : Line) (w : (i : ℕ) → i ≤ n → is_before l.when (AtEvent i) ≡ false) where
   -- a line that answers no command from the files
-  ops-quiet : (j : ℕ) (es : List Event) → j + length es ≤ n + 1 → ((c : ClientNo) (i : ℕ) → answer_told c i l.text ≡ None) → ops_from t (ls ++ l ∷ []) j es ≡ ops_from t ls j es
+  ops-quiet : (j : ℕ) (es : List Event) → j + length es ≤ n + 1 → ((c : ClientNo) (i : ℕ) → answer_told c i l.text ≡ None) → operations_from t (ls ++ l ∷ []) j es ≡ operations_from t ls j es
   ops-quiet j [] h none = refl
-  ops-quiet j (e ∷ es) h none = ap (λ z. z ++ ops_from t (ls ++ l ∷ []) (j + 1) es) (op-same t ls (ls ++ l ∷ []) j e (λ c. in-more c t n j ls l (omega (arith, h)) w) (λ c. first_told-more c j ls l ∙ ap (λ o. or_also (first_told c j ls) o) (none c j) ∙ last (first_told c j ls)))
-      ∙ ap (λ z. op_in t ls j e ++ z) (ops-quiet (j + 1) es (omega (arith, h)) none)
+  ops-quiet j (e ∷ es) h none = ap (λ z. z ++ operations_from t (ls ++ l ∷ []) (j + 1) es) (op-same t ls (ls ++ l ∷ []) j e (λ c. in-more c t n j ls l (omega (arith, h)) w) (λ c. first_answer_told-more c j ls l ∙ ap (λ o. or_also (first_answer_told c j ls) o) (none c j) ∙ last (first_answer_told c j ls)))
+      ∙ ap (λ z. operation_in t ls j e ++ z) (ops-quiet (j + 1) es (omega (arith, h)) none)
     where
       last : (o : Option Answer) → or_also o None ≡ o
       last None = refl
@@ -148,58 +148,58 @@ module _ (t : Tid) (n : ℕ) (ls : List Line) (l : Line) (w : (i : ℕ) → i �
 
   -- a line that answers one command
   module _ (d : ClientNo) (k : ℕ) (s : ServerNo) (op : Op) (a : Answer) (its : answer_told d k l.text ≡ Some a) (others : (c : ClientNo) (i : ℕ) → (c ≢ d) ⊎ (i ≢ k) → answer_told c i l.text ≡ None)
-      (untold : first_told d k ls ≡ None) (after : is_in d t k ls ≡ true → NoneFrom t ls (k + 1)) where
+      (untold : first_answer_told d k ls ≡ None) (after : is_in d t k ls ≡ true → NoneFrom t ls (k + 1)) where
     abbrev more : List Performed
     more = if is_in d t k ls then performed s op (Some a) else []
 
-    told-same : (i : ℕ) (c : ClientNo) → (c ≢ d) ⊎ (i ≢ k) → first_told c i (ls ++ l ∷ []) ≡ first_told c i ls
-    told-same i c ne = first_told-more c i ls l ∙ ap (λ o. or_also (first_told c i ls) o) (others c i ne) ∙ last (first_told c i ls)
+    told-same : (i : ℕ) (c : ClientNo) → (c ≢ d) ⊎ (i ≢ k) → first_answer_told c i (ls ++ l ∷ []) ≡ first_answer_told c i ls
+    told-same i c ne = first_answer_told-more c i ls l ∙ ap (λ o. or_also (first_answer_told c i ls) o) (others c i ne) ∙ last (first_answer_told c i ls)
       where
         last : (o : Option Answer) → or_also o None ≡ o
         last None = refl
         last (Some x) = refl
 
-    ops-other : (j : ℕ) (es : List Event) → k < j → j + length es ≤ n + 1 → ops_from t (ls ++ l ∷ []) j es ≡ ops_from t ls j es
+    ops-other : (j : ℕ) (es : List Event) → k < j → j + length es ≤ n + 1 → operations_from t (ls ++ l ∷ []) j es ≡ operations_from t ls j es
     ops-other j [] b h = refl
-    ops-other j (e ∷ es) b h = ap (λ z. z ++ ops_from t (ls ++ l ∷ []) (j + 1) es) (op-same t ls (ls ++ l ∷ []) j e (λ c. in-more c t n j ls l (omega (arith, h)) w) (λ c. told-same j c (inr (λ z. omega (arith, z, b)))))
-        ∙ ap (λ z. op_in t ls j e ++ z) (ops-other (j + 1) es (omega (arith, b)) (omega (arith, h)))
+    ops-other j (e ∷ es) b h = ap (λ z. z ++ operations_from t (ls ++ l ∷ []) (j + 1) es) (op-same t ls (ls ++ l ∷ []) j e (λ c. in-more c t n j ls l (omega (arith, h)) w) (λ c. told-same j c (inr (λ z. omega (arith, z, b)))))
+        ∙ ap (λ z. operation_in t ls j e ++ z) (ops-other (j + 1) es (omega (arith, b)) (omega (arith, h)))
 
-    ops-one : (j : ℕ) (es : List Event) → StandsAt j es k (events.Command d (commands.Do s op)) → j + length es ≤ n + 1 → ops_from t (ls ++ l ∷ []) j es ≡ ops_from t ls j es ++ more
+    ops-one : (j : ℕ) (es : List Event) → StandsAt j es k (events.Command d (commands.Do s op)) → j + length es ≤ n + 1 → operations_from t (ls ++ l ∷ []) j es ≡ operations_from t ls j es ++ more
     ops-one j [] st h = absurd st
-    ops-one j (e ∷ es) (inl st) h = ap (λ z. z ++ ops_from t (ls ++ l ∷ []) (j + 1) es) new ∙ ap (λ z. more ++ z) (ops-other (j + 1) es (let p = st.0 in omega (arith, p)) (omega (arith, h))) ∙ turn (is_in d t k ls) refl
-        ∙ ap (λ z. (z ++ ops_from t ls (j + 1) es) ++ more) (sym old)
+    ops-one j (e ∷ es) (inl st) h = ap (λ z. z ++ operations_from t (ls ++ l ∷ []) (j + 1) es) new ∙ ap (λ z. more ++ z) (ops-other (j + 1) es (let p = st.0 in omega (arith, p)) (omega (arith, h))) ∙ turn (is_in d t k ls) refl
+        ∙ ap (λ z. (z ++ operations_from t ls (j + 1) es) ++ more) (sym old)
       where
-        new : op_in t (ls ++ l ∷ []) j e ≡ more
-        new = ap (λ i. op_in t (ls ++ l ∷ []) i e) st.0 ∙ ap (λ z. op_in t (ls ++ l ∷ []) k z) st.1
-            ∙ ap (λ (b : Bool). if b then performed s op (first_told d k (ls ++ l ∷ [])) else []) (in-more d t n k ls l (let p = st.0 in omega (arith, h, p)) w)
-            ∙ ap (λ o. if is_in d t k ls then performed s op o else []) (first_told-more d k ls l ∙ ap (λ o. or_also o (answer_told d k l.text)) untold ∙ its)
+        new : operation_in t (ls ++ l ∷ []) j e ≡ more
+        new = ap (λ i. operation_in t (ls ++ l ∷ []) i e) st.0 ∙ ap (λ z. operation_in t (ls ++ l ∷ []) k z) st.1
+            ∙ ap (λ (b : Bool). if b then performed s op (first_answer_told d k (ls ++ l ∷ [])) else []) (in-more d t n k ls l (let p = st.0 in omega (arith, h, p)) w)
+            ∙ ap (λ o. if is_in d t k ls then performed s op o else []) (first_answer_told-more d k ls l ∙ ap (λ o. or_also o (answer_told d k l.text)) untold ∙ its)
 
-        old : op_in t ls j e ≡ []
-        old = ap (λ i. op_in t ls i e) st.0 ∙ ap (λ z. op_in t ls k z) st.1 ∙ ap (λ o. if is_in d t k ls then performed s op o else []) untold ∙ none (is_in d t k ls)
+        old : operation_in t ls j e ≡ []
+        old = ap (λ i. operation_in t ls i e) st.0 ∙ ap (λ z. operation_in t ls k z) st.1 ∙ ap (λ o. if is_in d t k ls then performed s op o else []) untold ∙ none (is_in d t k ls)
           where
             none : (b : Bool) → (if b then performed s op None else []) ≡ []
             none true = refl
             none false = refl
 
-        turn : (b : Bool) → is_in d t k ls ≡ b → (if b then performed s op (Some a) else []) ++ ops_from t ls (j + 1) es ≡ ops_from t ls (j + 1) es ++ (if b then performed s op (Some a) else [])
-        turn false e = sym (append-nil (ops_from t ls (j + 1) es))
+        turn : (b : Bool) → is_in d t k ls ≡ b → (if b then performed s op (Some a) else []) ++ operations_from t ls (j + 1) es ≡ operations_from t ls (j + 1) es ++ (if b then performed s op (Some a) else [])
+        turn false e = sym (append-nil (operations_from t ls (j + 1) es))
         turn true e = let rest = ops-none t ls (j + 1) es (λ i c b. after e i c (let p = st.0 in omega (arith, b, p))) in ap (λ z. performed s op (Some a) ++ z) rest ∙ ap (λ z. z ++ performed s op (Some a)) (sym rest)
-    ops-one j (e ∷ es) (inr st) h = ap (λ z. z ++ ops_from t (ls ++ l ∷ []) (j + 1) es) (op-same t ls (ls ++ l ∷ []) j e (λ c. in-more c t n j ls l (omega (arith, h)) w) (λ c. told-same j c (inr (λ z. let b = (stands-from (j + 1) es k _ st).0 in omega (arith, z, b)))))
-        ∙ ap (λ z. op_in t ls j e ++ z) (ops-one (j + 1) es st (omega (arith, h))) ∙ sym (append_assoc (op_in t ls j e) (ops_from t ls (j + 1) es) more)
+    ops-one j (e ∷ es) (inr st) h = ap (λ z. z ++ operations_from t (ls ++ l ∷ []) (j + 1) es) (op-same t ls (ls ++ l ∷ []) j e (λ c. in-more c t n j ls l (omega (arith, h)) w) (λ c. told-same j c (inr (λ z. let b = (stands-from (j + 1) es k _ st).0 in omega (arith, z, b)))))
+        ∙ ap (λ z. operation_in t ls j e ++ z) (ops-one (j + 1) es st (omega (arith, h))) ∙ sym (append_assoc (operation_in t ls j e) (operations_from t ls (j + 1) es) more)
 
 -- ---- what holds after some events and their lines
 
 -- the command that a client waits for stands among the events, no line has answered it or a later one, and the client has begun nothing since
 pub record IsOpen (es : List Event) (ls : List Line) (c : ClientNo) (a : Asked) : Type 0 where
   stands : StandsAt 1 es a.number (events.Command c a.command)
-  untold : (j : ℕ) → a.number ≤ j → first_told c j ls ≡ None
+  untold : (j : ℕ) → a.number ≤ j → first_answer_told c j ls ≡ None
   begun : last_begun c (lines_before (AtEvent a.number) ls) ≡ last_begun c ls
 
 pub record InTurnSoFar (es : List Event) (ls : List Line) (out : Outstanding) : Type 0 where
   pub within : AreWithin 0 (length es + 1) ls
   pub below : AllAnswerWithin (length es) ls
   pub waits : (c : ClientNo) (a : Asked) → out c ≡ Some a → IsOpen es ls c a
-  pub same : (t : Tid) → HasOneClient t ls → ops_of es ls t ≡ ops_told es ls t
+  pub same : (t : Tid) → HasOneClient t ls → operations_of es ls t ≡ operations_told es ls t
 
 length-more : (es : List Event) (e : Event) → length (es ++ e ∷ []) ≡ length es + 1
 length-more es e = length-append es (e ∷ [])
@@ -216,7 +216,7 @@ event-so-far es ls out e here h = record {
   within = subst (λ n. AreWithin 0 (n + 1) ls) (sym (length-more es e)) (AreWithin-wider 0 (length es + 1) 0 (length es + 1 + 1) ls (omega arith) (omega arith) h.within);
   below = subst (λ n. AllAnswerWithin n ls) (sym (length-more es e)) (AllAnswerWithin-wider (length es) (length es + 1) ls (omega arith) h.below);
   waits = waits e refl;
-  same = λ t one. ops_from-append t ls 1 es (e ∷ []) ∙ ap (λ z. ops_of es ls t ++ (z ++ [])) (op-none t ls (1 + length es) e (λ c k. untold-later (length es) c (1 + length es) ls (omega arith) h.below)) ∙ append-nil (ops_of es ls t)
+  same = λ t one. operations_from-append t ls 1 es (e ∷ []) ∙ ap (λ z. operations_of es ls t ++ (z ++ [])) (op-none t ls (1 + length es) e (λ c k. untold-later (length es) c (1 + length es) ls (omega arith) h.below)) ∙ append-nil (operations_of es ls t)
       ∙ h.same t one ∙ sym (told_from-events es (e ∷ []) t None ls h.below);
 }
   where
@@ -240,6 +240,7 @@ event-so-far es ls out e here h = record {
           | inr f ↦ old c a (sym (ap (λ (b : Bool). if b then Some (record { number = length es + 1; command = command }) else out c) f.0) ∙ k)
         ]
     waits (events.Again d) is c a k = old c a k
+    waits (events.Call d s call) is c a k = old c a k
     waits (events.Deliver n) is c a k = old c a k
     waits events.Settle is c a k = old c a k
     waits (events.Step s) is c a k = old c a k
@@ -257,7 +258,7 @@ event-so-far es ls out e here h = record {
 record Adds (es : List Event) (ls : List Line) (out : Outstanding) (l : Line) (out' : Outstanding) : Type 0 where
   within : AnswersWithin (length es) l.text
   waits : (c : ClientNo) (a : Asked) → out' c ≡ Some a → (out c ≡ Some a) × (((j : ℕ) → answer_told c j l.text ≡ None) × ((b : Option Tid) → begun_after c b l.text ≡ b))
-  same : (t : Tid) → HasOneClient t (ls ++ l ∷ []) → ops_of es (ls ++ l ∷ []) t ≡ ops_told es (ls ++ l ∷ []) t
+  same : (t : Tid) → HasOneClient t (ls ++ l ∷ []) → operations_of es (ls ++ l ∷ []) t ≡ operations_told es (ls ++ l ∷ []) t
 
 line-so-far : (es : List Event) (ls : List Line) (out out' : Outstanding) (l : Line) → InTurnSoFar es ls out → ((i : ℕ) → i ≤ length es → is_before l.when (AtEvent i) ≡ false) → IsWithin 0 (length es + 1) l.when → Adds es ls out l out' → InTurnSoFar es (ls ++ l ∷ []) out'
 line-so-far es ls out out' l h w at adds = record {
@@ -265,7 +266,7 @@ line-so-far es ls out out' l h w at adds = record {
   below = AllAnswerWithin-append (length es) ls (l ∷ []) h.below (adds.within, tt);
   waits = λ c a k. let n = adds.waits c a k in let o = h.waits c a n.0 in let low = stands-from 1 es a.number (events.Command c a.command) o.stands in let most = low.1 in record {
     stands = o.stands;
-    untold = λ j b. first_told-more c j ls l ∙ ap (λ x. or_also x (answer_told c j l.text)) (o.untold j b) ∙ n.1.0 j;
+    untold = λ j b. first_answer_told-more c j ls l ∙ ap (λ x. or_also x (answer_told c j l.text)) (o.untold j b) ∙ n.1.0 j;
     begun = ap (λ m. last_begun c m) (before-more (length es) a.number ls l (omega (arith, most)) w) ∙ o.begun ∙ sym (begun_then-more c None ls l ∙ n.1.1 (last_begun c ls));
   };
   same = adds.same;
@@ -279,7 +280,7 @@ quiet-adds es ls out out' l h w within none silent waits = record {
   within = within;
   waits = λ c a k. ((waits c a k).0, (λ j. none c j, (waits c a k).1));
   same = λ t one. ops-quiet t (length es) ls l w 1 es (omega arith) none ∙ h.same t (one-front t ls (l ∷ []) one)
-      ∙ sym (ops_told-append es t ls (l ∷ []) ∙ ap (λ z. ops_told es ls t ++ (z ++ [])) (silent (owner_then t None ls)) ∙ append-nil (ops_told es ls t));
+      ∙ sym (operations_told-append es t ls (l ∷ []) ∙ ap (λ z. operations_told es ls t ++ (z ++ [])) (silent (owner_then t None ls)) ∙ append-nil (operations_told es ls t));
 }
 
 -- a line that answers a client's operation from the files
@@ -294,7 +295,7 @@ told-adds es ls out l d x s op a h w asked command within its others told none =
   same = λ t one. let alone = one-front t ls (l ∷ []) one in
       ops-one t (length es) ls l w d x.number s op a its others (o.untold x.number (omega arith)) (later t alone) 1 es stands (omega arith)
       ∙ ap (λ z. z ++ (if is_in d t x.number ls then performed s op (Some a) else [])) (h.same t alone)
-      ∙ sym (ops_told-append es t ls (l ∷ []) ∙ ap (λ z. ops_told es ls t ++ z) (append-nil (answered_by es (owner_then t None ls) l.text) ∙ told (owner_then t None ls)
+      ∙ sym (operations_told-append es t ls (l ∷ []) ∙ ap (λ z. operations_told es ls t ++ z) (append-nil (answered_by es (owner_then t None ls) l.text) ∙ told (owner_then t None ls)
       ∙ ap (λ (b : Bool). if b then performed_in d a (event_at es x.number) else []) (owner-is t d ls alone ∙ ap (λ m. is_tid m t) (sym o.begun))
       ∙ ap (λ z. if is_in d t x.number ls then z else []) (ap (λ z. performed_in d a z) (stands-event es x.number (events.Command d (commands.Do s op)) stands) ∙ ap (λ (b : Bool). if b then (record { server = s; op = op; answer = a }) ∷ [] else []) (self-client d))));
 }
@@ -316,7 +317,7 @@ told-adds es ls out l d x s op a h w asked command within its others told none =
     by c y k (inr f) = (sym (ap (λ (b : Bool). if b then None else out c) f.0) ∙ k, (λ j. others c j (inl (λ g. f.1 (sym g))), none c))
 
     later : (t : Tid) → HasOneClient t ls → is_in d t x.number ls ≡ true → NoneFrom t ls (x.number + 1)
-    later t alone k i c b e = subst (λ (z : ClientNo). first_told z i ls ≡ None) (alone d c (in-says d t x.number ls k) (in-says c t i ls e)) (o.untold i (omega (arith, b)))
+    later t alone k i c b e = subst (λ (z : ClientNo). first_answer_told z i ls ≡ None) (alone d c (in-says d t x.number ls k) (in-says c t i ls e)) (o.untold i (omega (arith, b)))
 
 -- ---- each line by what it says
 
@@ -419,6 +420,9 @@ module _ (es : List Event) (ls : List Line) (out : Outstanding) (l : Line) (h : 
   line-adds e (says.Waiting d j s u t) is fit own = plain-line (says.Waiting d j s u t) is tt (λ c i. refl) (λ c. refl) (λ c b. refl)
   line-adds e (says.Did d j) is fit own = from-files d j answers.Did (says.Did d j) is fit refl refl refl refl (λ n k. k) (λ c i. refl) (λ c. refl) (λ c b. refl)
   line-adds e (says.Read d j bytes) is fit own = from-files d j (answers.Read bytes) (says.Read d j bytes) is fit refl refl refl refl (λ n k. k) (λ c i. refl) (λ c. refl) (λ c b. refl)
+  line-adds e (says.Bytes d j bytes) is fit own = plain-answer d (says.Bytes d j bytes) is tt (λ c i. refl) (λ c. refl) (λ c ne b. refl)
+  line-adds e (says.Found d j f) is fit own = plain-answer d (says.Found d j f) is tt (λ c i. refl) (λ c. refl) (λ c ne b. refl)
+  line-adds e (says.Name d j name f) is fit own = plain-answer d (says.Name d j name f) is tt (λ c i. refl) (λ c. refl) (λ c ne b. refl)
   line-adds e (says.Refused d j refusals.NoFile) is fit own = from-files d j answers.NoFile (says.Refused d j refusals.NoFile) is fit refl refl refl refl (λ n k. k) (λ c i. refl) (λ c. refl) (λ c b. refl)
   line-adds e (says.Refused d j refusals.Exists) is fit own = from-files d j answers.Exists (says.Refused d j refusals.Exists) is fit refl refl refl refl (λ n k. k) (λ c i. refl) (λ c. refl) (λ c b. refl)
   line-adds e (says.Refused d j refusals.ClientBusy) is fit own = plain-line (says.Refused d j refusals.ClientBusy) is (not-own (length es) j _ own) (λ c i. refl) (λ c. refl) (λ c b. refl)
@@ -427,6 +431,8 @@ module _ (es : List Event) (ls : List Line) (out : Outstanding) (l : Line) (h : 
   line-adds e (says.Refused d j refusals.NotOpen) is fit own = plain-line (says.Refused d j refusals.NotOpen) is (not-own (length es) j _ own) (λ c i. refl) (λ c. refl) (λ c b. refl)
   line-adds e (says.Refused d j refusals.AlreadyOpen) is fit own = plain-line (says.Refused d j refusals.AlreadyOpen) is (not-own (length es) j _ own) (λ c i. refl) (λ c. refl) (λ c b. refl)
   line-adds e (says.Refused d j refusals.NoSuchServer) is fit own = plain-line (says.Refused d j refusals.NoSuchServer) is (not-own (length es) j _ own) (λ c i. refl) (λ c. refl) (λ c b. refl)
+  line-adds e (says.Refused d j refusals.Spoiled) is fit own = plain-line (says.Refused d j refusals.Spoiled) is (not-own (length es) j _ own) (λ c i. refl) (λ c. refl) (λ c b. refl)
+  line-adds e (says.Refused d j refusals.TooFar) is fit own = plain-line (says.Refused d j refusals.TooFar) is (not-own (length es) j _ own) (λ c i. refl) (λ c. refl) (λ c b. refl)
   line-adds e (says.Refused d j refusals.TooManyTransactions) is fit own = plain-answer d (says.Refused d j refusals.TooManyTransactions) is (asked-within d j _ fit) (λ c i. refl) (λ c. refl) (λ c ne b. refl)
   line-adds e (says.Refused d j refusals.TooManyWorks) is fit own = plain-answer d (says.Refused d j refusals.TooManyWorks) is (asked-within d j _ fit) (λ c i. refl) (λ c. refl) (λ c ne b. refl)
   line-adds e (says.Refused d j (refusals.Locked u t)) is fit own = plain-answer d (says.Refused d j (refusals.Locked u t)) is (asked-within d j _ fit) (λ c i. refl) (λ c. refl) (λ c ne b. refl)
@@ -435,6 +441,11 @@ module _ (es : List Event) (ls : List Line) (out : Outstanding) (l : Line) (h : 
   line-adds e (says.Refused d j (refusals.Broken u t)) is fit own = plain-answer d (says.Refused d j (refusals.Broken u t)) is (asked-within d j _ fit) (λ c i. refl) (λ c. refl) (λ c ne b. refl)
   line-adds e (says.Refused d j (refusals.Lost epoch now)) is fit own = plain-answer d (says.Refused d j (refusals.Lost epoch now)) is (asked-within d j _ fit) (λ c i. refl) (λ c. refl) (λ c ne b. refl)
   line-adds e (says.Refused d j refusals.Closing) is fit own = plain-answer d (says.Refused d j refusals.Closing) is (asked-within d j _ fit) (λ c i. refl) (λ c. refl) (λ c ne b. refl)
+  line-adds e (says.Refused d j refusals.NotBytes) is fit own = plain-answer d (says.Refused d j refusals.NotBytes) is (asked-within d j _ fit) (λ c i. refl) (λ c. refl) (λ c ne b. refl)
+  line-adds e (says.Refused d j (refusals.PastEnd n)) is fit own = plain-answer d (says.Refused d j (refusals.PastEnd n)) is (asked-within d j _ fit) (λ c i. refl) (λ c. refl) (λ c ne b. refl)
+  line-adds e (says.Refused d j refusals.BucketFull) is fit own = plain-answer d (says.Refused d j refusals.BucketFull) is (asked-within d j _ fit) (λ c i. refl) (λ c. refl) (λ c ne b. refl)
+  line-adds e (says.Refused d j refusals.NoName) is fit own = plain-answer d (says.Refused d j refusals.NoName) is (asked-within d j _ fit) (λ c i. refl) (λ c. refl) (λ c ne b. refl)
+  line-adds e (says.Refused d j refusals.NotDirectory) is fit own = plain-answer d (says.Refused d j refusals.NotDirectory) is (asked-within d j _ fit) (λ c i. refl) (λ c. refl) (λ c ne b. refl)
   line-adds e x is fit own = plain-line x is tt (λ c i. refl) (λ c. refl) (λ c b. refl)
 
 -- ---- the lines of an event, and all events
@@ -485,6 +496,9 @@ no-answer (says.Begun c j t) h = absurd (true≢false h)
 no-answer (says.Opened c j s) h = absurd (true≢false h)
 no-answer (says.Did c j) h = absurd (true≢false h)
 no-answer (says.Read c j bytes) h = absurd (true≢false h)
+no-answer (says.Bytes c j bytes) h = absurd (true≢false h)
+no-answer (says.Found c j f) h = absurd (true≢false h)
+no-answer (says.Name c j name f) h = absurd (true≢false h)
 no-answer (says.Refused c j r) h = absurd (true≢false h)
 no-answer (says.Waiting c j s u t) h = absurd (true≢false h)
 no-answer (says.Committed c j t) h = absurd (true≢false h)
@@ -492,10 +506,10 @@ no-answer (says.Aborted c j t cause) h = absurd (true≢false h)
 no-answer x h = (λ c i. refl, λ es c. refl)
 
 -- lines of the end, none of which answers a client
-end-same : (es : List Event) (t : Tid) (n : ℕ) (ls ends : List Line) → AreAtEnd ends → AllOfEvents n ends → ops_of es ls t ≡ ops_told es ls t → ops_of es (ls ++ ends) t ≡ ops_told es (ls ++ ends) t
-end-same es t n ls [] at of h = subst (λ m. ops_of es m t ≡ ops_told es m t) (sym (append-nil ls)) h
-end-same es t n ls (l ∷ ends) at of h = subst (λ m. ops_of es m t ≡ ops_told es m t) (append_assoc ls (l ∷ []) ends) (end-same es t n (ls ++ l ∷ []) ends at.1 of.1
-    (ops-quiet t (length es) ls l (λ i le. ap (λ w. is_before w (AtEvent i)) at.0) 1 es (omega arith) quiet.0 ∙ h ∙ sym (ops_told-append es t ls (l ∷ []) ∙ ap (λ z. ops_told es ls t ++ (z ++ [])) (silent (owner_then t None ls)) ∙ append-nil (ops_told es ls t))))
+end-same : (es : List Event) (t : Tid) (n : ℕ) (ls ends : List Line) → AreAtEnd ends → AllOfEvents n ends → operations_of es ls t ≡ operations_told es ls t → operations_of es (ls ++ ends) t ≡ operations_told es (ls ++ ends) t
+end-same es t n ls [] at of h = subst (λ m. operations_of es m t ≡ operations_told es m t) (sym (append-nil ls)) h
+end-same es t n ls (l ∷ ends) at of h = subst (λ m. operations_of es m t ≡ operations_told es m t) (append_assoc ls (l ∷ []) ends) (end-same es t n (ls ++ l ∷ []) ends at.1 of.1
+    (ops-quiet t (length es) ls l (λ i le. ap (λ w. is_before w (AtEvent i)) at.0) 1 es (omega arith) quiet.0 ∙ h ∙ sym (operations_told-append es t ls (l ∷ []) ∙ ap (λ z. operations_told es ls t ++ (z ++ [])) (silent (owner_then t None ls)) ∙ append-nil (operations_told es ls t))))
   where
     quiet : ((c : ClientNo) (i : ℕ) → answer_told c i l.text ≡ None) × ((es : List Event) (c : ClientNo) → answered es c l.text ≡ [])
     quiet = by (is_answer l.text) refl
@@ -513,11 +527,11 @@ of-later n [] later h = h
 of-later n (l ∷ here) later h = of-later n here later h.1
 
 pub all-in-turn : (count : ℕ) (t : Tid) (es rest : List Event) (ls later : List Line) (out : Outstanding) → InTurnSoFar es ls out → AreInTurn (length es + 1) rest later → FollowsFrom out (length es + 1) rest (ls ++ later) → AllOfEvents count later → HasOneClient t (ls ++ later)
-    → ops_of (es ++ rest) (ls ++ later) t ≡ ops_told (es ++ rest) (ls ++ later) t
-all-in-turn count t es [] ls later out h turn follows of one = subst (λ m. ops_of m (ls ++ later) t ≡ ops_told m (ls ++ later) t) (sym (append-nil es)) (end-same es t count ls later turn of (h.same t (one-front t ls later one)))
+    → operations_of (es ++ rest) (ls ++ later) t ≡ operations_told (es ++ rest) (ls ++ later) t
+all-in-turn count t es [] ls later out h turn follows of one = subst (λ m. operations_of m (ls ++ later) t ≡ operations_told m (ls ++ later) t) (sym (append-nil es)) (end-same es t count ls later turn of (h.same t (one-front t ls later one)))
 all-in-turn count t es (e ∷ rest) ls later out h (here, (after, (is, (within, turn)))) follows of one =
-    subst (λ m. ops_of m (ls ++ later) t ≡ ops_told m (ls ++ later) t) (append_assoc es (e ∷ []) rest)
-    (subst (λ m. ops_of ((es ++ e ∷ []) ++ rest) m t ≡ ops_told ((es ++ e ∷ []) ++ rest) m t) lines
+    subst (λ m. operations_of m (ls ++ later) t ≡ operations_told m (ls ++ later) t) (append_assoc es (e ∷ []) rest)
+    (subst (λ m. operations_of ((es ++ e ∷ []) ++ rest) m t ≡ operations_told ((es ++ e ∷ []) ++ rest) m t) lines
     (all-in-turn count t (es ++ e ∷ []) rest (ls ++ here) after (after_one out (length es + 1) e here) now
     (subst (λ n. AreInTurn (n + 1) rest after) (sym (length-more es e)) turn)
     (subst (λ m. FollowsFrom (after_one out (length es + 1) e here) (length (es ++ e ∷ []) + 1) rest m) (sym lines)
@@ -541,7 +555,7 @@ all-in-turn count t es (e ∷ rest) ls later out h (here, (after, (is, (within, 
 
 -- Where the lines stand in turn and answer what clients were told to do, a transaction that no two clients have did by its
 -- commands what its lines report, one after another.
-pub ops-in-turn : (events : List Event) (lines : List Line) (t : Tid) → AreInTurn 1 events lines → Follows events lines → HasOneClient t lines → ops_of events lines t ≡ ops_told events lines t
+pub ops-in-turn : (events : List Event) (lines : List Line) (t : Tid) → AreInTurn 1 events lines → Follows events lines → HasOneClient t lines → operations_of events lines t ≡ operations_told events lines t
 ops-in-turn events lines t turn follows one = all-in-turn (length events) t [] events [] lines nothing_asked (record {
   within = tt;
   below = tt;

@@ -1,6 +1,8 @@
 -- What a transaction did, read line by line. Where each answer follows its command, and no two clients have one transaction,
 -- that is what its commands did.
-use Rattle.jn_serial.proofs.Common.{Option, None, ClientNo, Tid, Answer, Do, client_eq, tid_eq, Event, Command, Text, Line, Performed, event_at}
+use Rattle.jn_serial.proofs.Common.{Option, None, ClientNo, Tid, Answer, client_eq, tid_eq, Event, Text, Line, Performed, event_at}
+use Rattle.jn_base.specs.declared.op.Command.TheVariants.{Do}
+use Rattle.jn_schedule.specs.declared.Event.TheVariants.{Command}
 use Rattle.std.specs.Prelude.{Bool, false, ◌&&◌, if◌then◌else◌, List, [], ◌∷◌, ◌++◌, Some}
 use Rattle.jn_base.specs.declared.op.Answer.TheVariants as answers
 use Rattle.jn_report.specs.declared.line.Refusal.TheVariants as refusals
@@ -42,5 +44,5 @@ told_from events t owner [] = []
 told_from events t owner (l ∷ ls) = answered_by events owner l.text ++ told_from events t (owner_after t owner l.text) ls
 
 -- what T did by these lines
-abbrev pub ops_told : List Event → List Line → Tid → List Performed
-ops_told events lines t = told_from events t None lines
+abbrev pub operations_told : List Event → List Line → Tid → List Performed
+operations_told events lines t = told_from events t None lines

@@ -1,5 +1,5 @@
 -- What a transaction did, and what the commits give, with more events and more lines.
-use Rattle.jn_serial.proofs.Common.{◌≡◌, ℕ, ◌≤◌, cond, List, [], ◌∷◌, ◌++◌, length, Option, Some, None, refl, sym, ◌∙◌, ap, subst, arith, ClientNo, Tid, Answer, client_eq, AllFiles, files_then, GivesAnswers, Event, Text, Line, Performed, event_at, ops_of, replay, AgreesFrom}
+use Rattle.jn_serial.proofs.Common.{◌≡◌, ℕ, ◌≤◌, cond, List, [], ◌∷◌, ◌++◌, length, Option, Some, None, refl, sym, ◌∙◌, ap, subst, arith, ClientNo, Tid, Answer, client_eq, AllFiles, files_then, GivesAnswers, Event, Text, Line, Performed, event_at, operations_of, replay_operations, OperationsAgreeFrom}
 use Rattle.jn_serial.proofs.LineByLine.{performed_in, answered, answered_by, owner_after, told_from}
 use Rattle.jn_report.specs.declared.line.Refusal.TheVariants as refusals
 use Rattle.jn_report.specs.declared.line.Text.TheVariants as says
@@ -30,6 +30,9 @@ AnswersWithin-wider n m (says.Commit t) h w = tt
 AnswersWithin-wider n m (says.Broke s t u by) h w = tt
 AnswersWithin-wider n m (says.Begun c j t) h w = tt
 AnswersWithin-wider n m (says.Opened c j s) h w = tt
+AnswersWithin-wider n m (says.Bytes c j bytes) h w = tt
+AnswersWithin-wider n m (says.Found c j f) h w = tt
+AnswersWithin-wider n m (says.Name c j name f) h w = tt
 AnswersWithin-wider n m (says.Waiting c j s u t) h w = tt
 AnswersWithin-wider n m (says.Committed c j t) h w = tt
 AnswersWithin-wider n m (says.Aborted c j t cause) h w = tt
@@ -73,16 +76,16 @@ told_from-events es fs t owner (l ∷ ls) h =
 -- the commits depend on what their transactions did alone
 abbrev pub DidTheSame : List Event → List Line → List Event → List Line → List Tid → Type 0
 DidTheSame es ls fs ms [] = Unit {0}
-DidTheSame es ls fs ms (t ∷ ts) = (ops_of fs ms t ≡ ops_of es ls t) × DidTheSame es ls fs ms ts
+DidTheSame es ls fs ms (t ∷ ts) = (operations_of fs ms t ≡ operations_of es ls t) × DidTheSame es ls fs ms ts
 
-pub replay-by_ops : (files : AllFiles) (es : List Event) (ls : List Line) (fs : List Event) (ms : List Line) (ts : List Tid) → DidTheSame es ls fs ms ts → replay files fs ms ts ≡ replay files es ls ts
-replay-by_ops files es ls fs ms [] h = refl
-replay-by_ops files es ls fs ms (t ∷ ts) h =
-    replay-by_ops (files_then (ops_of fs ms t) files) es ls fs ms ts h.1 ∙ ap (λ (ps : List Performed). replay (files_then ps files) es ls ts) h.0
+pub replay_operations-by_ops : (files : AllFiles) (es : List Event) (ls : List Line) (fs : List Event) (ms : List Line) (ts : List Tid) → DidTheSame es ls fs ms ts → replay_operations files fs ms ts ≡ replay_operations files es ls ts
+replay_operations-by_ops files es ls fs ms [] h = refl
+replay_operations-by_ops files es ls fs ms (t ∷ ts) h =
+    replay_operations-by_ops (files_then (operations_of fs ms t) files) es ls fs ms ts h.1 ∙ ap (λ (ps : List Performed). replay_operations (files_then ps files) es ls ts) h.0
 
-pub AgreesFrom-by_ops : (files : AllFiles) (es : List Event) (ls : List Line) (fs : List Event) (ms : List Line) (ts : List Tid) → DidTheSame es ls fs ms ts → AgreesFrom files es ls ts → AgreesFrom files fs ms ts
-AgreesFrom-by_ops files es ls fs ms [] h a = tt
-AgreesFrom-by_ops files es ls fs ms (t ∷ ts) h a = (
+pub OperationsAgreeFrom-by_ops : (files : AllFiles) (es : List Event) (ls : List Line) (fs : List Event) (ms : List Line) (ts : List Tid) → DidTheSame es ls fs ms ts → OperationsAgreeFrom files es ls ts → OperationsAgreeFrom files fs ms ts
+OperationsAgreeFrom-by_ops files es ls fs ms [] h a = tt
+OperationsAgreeFrom-by_ops files es ls fs ms (t ∷ ts) h a = (
   subst (λ (ps : List Performed). GivesAnswers files ps) (sym h.0) a.0,
-  AgreesFrom-by_ops (files_then (ops_of fs ms t) files) es ls fs ms ts h.1 (subst (λ (ps : List Performed). AgreesFrom (files_then ps files) es ls ts) (sym h.0) a.1),
+  OperationsAgreeFrom-by_ops (files_then (operations_of fs ms t) files) es ls fs ms ts h.1 (subst (λ (ps : List Performed). OperationsAgreeFrom (files_then ps files) es ls ts) (sym h.0) a.1),
 )

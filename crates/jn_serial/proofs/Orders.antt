@@ -1,11 +1,8 @@
 -- The order of commits, on the same files and on lists joined end to end.
-use Rattle.jn_serial.proofs.Common.{ℕ, length, ◌≡◌, Bool, ◌||◌, List, [], ◌∷◌, ◌++◌, filter, refl, sym, ap, ◌∙◌, inl, inr, append_assoc, ◌+◌, ◌<◌, ◌↔◌, drop, get_or, Option, None, cases_Bool, ClientNo, Tid, tid_eq, AllFiles, Performed, AreSame, files_then, GivesAnswers, AreSame-from_equal, drop_here, Event, When, Text, Line, when_eq, is_before, lines_at, lines_before, says, has_tid, ops_of, replay, AgreesFrom, NamesNone}
-use Rattle.jn_serial.proofs.LineByLine.{answered_by, owner_after, told_from, ops_told}
+use Rattle.jn_serial.proofs.Common.{ℕ, length, ◌≡◌, Bool, ◌||◌, List, [], ◌∷◌, ◌++◌, filter, refl, sym, ap, ◌∙◌, inl, inr, append_assoc, ◌+◌, ◌<◌, ◌↔◌, drop, get_or, Option, None, cases_Bool, ClientNo, Tid, tid_eq, AllFiles, Performed, AreSame, files_then, GivesAnswers, drop_here, Event, When, Text, Line, when_eq, is_before, lines_at, lines_before, says, has_tid, operations_of, replay_operations, OperationsAgreeFrom, NamesNone}
+use Rattle.jn_serial.proofs.LineByLine.{answered_by, owner_after, told_from, operations_told}
 use Rattle.std.specs.List.{list_any}
 use Rattle.jn_order.proofs.FilesLemmas.{same_files}
-
-pub replay-same : (events : List Event) (lines : List Line) (ts : List Tid) (a b : AllFiles) → AreSame a b → AreSame (replay a events lines ts) (replay b events lines ts)
-replay-same events lines ts a b same = AreSame-from_equal (replay a events lines ts) (replay b events lines ts) (ap (λ (f : AllFiles). replay f events lines ts) (same_files a b same))
 
 -- whose transaction T is after these lines
 abbrev pub owner_then : Tid → Option ClientNo → List Line → Option ClientNo
@@ -18,8 +15,8 @@ told_from-append events t owner (l ∷ xs) ys =
     ap (λ (ps : List Performed). answered_by events owner l.text ++ ps) (told_from-append events t (owner_after t owner l.text) xs ys)
     ∙ sym (append_assoc (answered_by events owner l.text) (told_from events t (owner_after t owner l.text) xs) (told_from events t (owner_then t (owner_after t owner l.text) xs) ys))
 
-pub ops_told-append : (events : List Event) (t : Tid) (xs ys : List Line) → ops_told events (xs ++ ys) t ≡ ops_told events xs t ++ told_from events t (owner_then t None xs) ys
-ops_told-append events t xs ys = told_from-append events t None xs ys
+pub operations_told-append : (events : List Event) (t : Tid) (xs ys : List Line) → operations_told events (xs ++ ys) t ≡ operations_told events xs t ++ told_from events t (owner_then t None xs) ys
+operations_told-append events t xs ys = told_from-append events t None xs ys
 
 filter-append : {X : Type 0} (p : X → Bool) (xs ys : List X) → filter p (xs ++ ys) ≡ filter p xs ++ filter p ys
 filter-append p [] ys = refl
@@ -46,6 +43,6 @@ NamesNone-append named [] ys h k = k
 NamesNone-append named (l ∷ xs) ys h k = (h.0, NamesNone-append named xs ys h.1 k)
 
 -- one step of a loop over committed transactions
-pub AgreesFrom-step : (events : List Event) (lines : List Line) (ts : List Tid) (i : ℕ) (d : Tid) (ps : List Performed) (before after : AllFiles) → i < length ts → ps ≡ ops_of events lines (get_or ts i d) → GivesAnswers before ps → AreSame after (files_then ps before) → AgreesFrom before events lines (drop i ts) ↔ AgreesFrom after events lines (drop (i + 1) ts)
-AgreesFrom-step events lines ts i d ps before after h e gives same =
+pub OperationsAgreeFrom-step : (events : List Event) (lines : List Line) (ts : List Tid) (i : ℕ) (d : Tid) (ps : List Performed) (before after : AllFiles) → i < length ts → ps ≡ operations_of events lines (get_or ts i d) → GivesAnswers before ps → AreSame after (files_then ps before) → OperationsAgreeFrom before events lines (drop i ts) ↔ OperationsAgreeFrom after events lines (drop (i + 1) ts)
+OperationsAgreeFrom-step events lines ts i d ps before after h e gives same =
     rw (drop_here ts i d h, same_files after (files_then ps before) same, ← e) (λ k. k.1, λ k. (gives, k))

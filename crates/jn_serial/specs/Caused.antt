@@ -6,9 +6,7 @@ use Rattle.jn_base.specs.declared.names.Tid.{Tid}
 use Rattle.jn_base.specs.declared.names.Cause.{Cause}
 use Rattle.jn_base.specs.declared.names.Cause.TheVariants as causes
 use Rattle.jn_base.specs.declared.op.Command.TheVariants as commands
-use Rattle.jn_base.specs.declared.device.FaultKind.{FaultKind}
-use Rattle.jn_base.specs.declared.device.FaultKind.TheVariants.{StopBefore, StopTorn, StopAfter}
-use Rattle.jn_base.specs.Names.{server_eq, client_eq}
+use Rattle.jn_base.specs.Names.{server_eq, client_eq, is_stop}
 use Rattle.jn_schedule.specs.declared.Event.{Event}
 use Rattle.jn_schedule.specs.declared.Event.TheVariants as events
 use Rattle.jn_report.specs.declared.line.When.{When}
@@ -61,12 +59,6 @@ is_caused_by es lines w c t causes.Requested = any_event (asks c t lines w) 1 es
 is_caused_by es lines w c t (causes.Broken s u by) = says (breaks s t u by) lines
 is_caused_by es lines w c t (causes.Lost s) = any_event (loses c t s lines) 1 es
 is_caused_by es lines w c t (causes.Full s refusal free need) = nat_lt free need
-
-abbrev pub is_stop : FaultKind → Bool
-is_stop StopBefore = true
-is_stop StopTorn = true
-is_stop StopAfter = true
-is_stop _ = false
 
 -- the event was before, and was not refused
 abbrev pub is_accepted : List Line → When → ℕ → Bool

@@ -30,38 +30,38 @@ answer_told c j (says.Refused d k refusals.Exists) = if client_eq c d && nat_eq 
 answer_told c j _ = None
 
 -- the first line that gives one counts
-abbrev pub first_told : ClientNo → ℕ → List Line → Option Answer
-first_told c j [] = None
-first_told c j (l ∷ ls) = or_also (answer_told c j l.text) (first_told c j ls)
+abbrev pub first_answer_told : ClientNo → ℕ → List Line → Option Answer
+first_answer_told c j [] = None
+first_answer_told c j (l ∷ ls) = or_also (answer_told c j l.text) (first_answer_told c j ls)
 
 abbrev pub performed : ServerNo → Op → Option Answer → List Performed
 performed s op None = []
 performed s op (Some a) = (record { server = s; op = op; answer = a }) ∷ []
 
 -- what T did in event j: the operation of a client that is in T, where it was answered from the files
-abbrev pub op_in : Tid → List Line → ℕ → Event → List Performed
-op_in t lines j (Command c (Do s op)) = if is_in c t j lines then performed s op (first_told c j lines) else []
-op_in t lines j _ = []
+abbrev pub operation_in : Tid → List Line → ℕ → Event → List Performed
+operation_in t lines j (Command c (Do s op)) = if is_in c t j lines then performed s op (first_answer_told c j lines) else []
+operation_in t lines j _ = []
 
 -- what T did in these events, numbered from j on
-abbrev pub ops_from : Tid → List Line → ℕ → List Event → List Performed
-ops_from t lines j [] = []
-ops_from t lines j (e ∷ es) = op_in t lines j e ++ ops_from t lines (j + 1) es
+abbrev pub operations_from : Tid → List Line → ℕ → List Event → List Performed
+operations_from t lines j [] = []
+operations_from t lines j (e ∷ es) = operation_in t lines j e ++ operations_from t lines (j + 1) es
 
 -- the operations of a transaction that the files answered, each once, in the order of their events, each with its answer
-abbrev pub ops_of : List Event → List Line → Tid → List Performed
-ops_of events lines t = ops_from t lines 1 events
+abbrev pub operations_of : List Event → List Line → Tid → List Performed
+operations_of events lines t = operations_from t lines 1 events
 
 -- the files after these transactions, one after another
-abbrev pub replay : AllFiles → List Event → List Line → List Tid → AllFiles
-replay files events lines [] = files
-replay files events lines (t ∷ ts) = replay (files_then (ops_of events lines t) files) events lines ts
+abbrev pub replay_operations : AllFiles → List Event → List Line → List Tid → AllFiles
+replay_operations files events lines [] = files
+replay_operations files events lines (t ∷ ts) = replay_operations (files_then (operations_of events lines t) files) events lines ts
 
-abbrev pub AgreesFrom : AllFiles → List Event → List Line → List Tid → Type 0
-AgreesFrom files events lines [] = Unit {0}
-AgreesFrom files events lines (t ∷ ts) =
-    GivesAnswers files (ops_of events lines t) × AgreesFrom (files_then (ops_of events lines t) files) events lines ts
+abbrev pub OperationsAgreeFrom : AllFiles → List Event → List Line → List Tid → Type 0
+OperationsAgreeFrom files events lines [] = Unit {0}
+OperationsAgreeFrom files events lines (t ∷ ts) =
+    GivesAnswers files (operations_of events lines t) × OperationsAgreeFrom (files_then (operations_of events lines t) files) events lines ts
 
 -- each answer from the files to a committed transaction is that of the commits run one after another
-abbrev pub Agrees : AllFiles → List Event → List Line → Type 0
-Agrees files events lines = AgreesFrom files events lines (history_of lines)
+abbrev pub OperationsAgree : AllFiles → List Event → List Line → Type 0
+OperationsAgree files events lines = OperationsAgreeFrom files events lines (history_of lines)

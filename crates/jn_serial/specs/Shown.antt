@@ -3,6 +3,7 @@ use Rattle.std.specs.Prelude.{◌≡◌, ℕ, Bool, true, false, ◌&&◌, List,
 use Rattle.jn_base.specs.declared.names.ServerNo.{ServerNo}
 use Rattle.jn_base.specs.declared.names.FileNo.{FileNo}
 use Rattle.jn_base.specs.declared.names.BlockNo.{BlockNo}
+use Rattle.jn_base.specs.declared.names.Tid.{Tid}
 use Rattle.jn_base.specs.declared.names.LockUnit.TheVariants.{File, Block}
 use Rattle.jn_base.specs.Names.{server_eq, file_eq, block_eq}
 use Rattle.jn_order.specs.Files.{AllFiles}
@@ -13,7 +14,7 @@ use Rattle.jn_report.specs.declared.line.Text.{Text}
 use Rattle.jn_report.specs.declared.line.Text.TheVariants as says
 use Rattle.jn_report.specs.declared.line.Line.{Line}
 use Rattle.jn_serial.specs.Lines.{lines_at, lines_before, says, event_at, history_of}
-use Rattle.jn_serial.specs.Order.{replay}
+use Rattle.jn_serial.specs.Order.{replay_operations}
 use Rattle.jn_report.specs.Kinds.{is_locked, is_no_show}
 
 -- a line that prints a file or a page prints what is there
@@ -48,17 +49,27 @@ pub record ShowsFiles (files : AllFiles) (s : ServerNo) (lines : List Line) : Ty
   pub no_other_file : (f : FileNo) → says (accounts_file s f) lines ≡ false → files s (File f) ≡ None
   pub no_other_block : (f : FileNo) (p : BlockNo) → says (prints_file s f) lines ≡ true → says (accounts_block s f p) lines ≡ false → files s (Block f p) ≡ None
 
--- each show that printed shows the files after the commits before it
-abbrev pub ShownSoFar : AllFiles → List Event → List Line → Type 0
-ShownSoFar files events lines =
+-- each show that printed shows the files after the commits before it, by what a history of commits leaves
+abbrev pub ShownSoFarBy : (List Tid → AllFiles) → List Event → List Line → Type 0
+ShownSoFarBy replayed events lines =
     (i : ℕ) (s : ServerNo) → event_at events i ≡ Some (Show s) → says is_no_show (lines_at (AtEvent i) lines) ≡ false
-    → ShowsFiles (replay files events lines (history_of (lines_before (AtEvent i) lines))) s (lines_at (AtEvent i) lines)
+    → ShowsFiles (replayed (history_of (lines_before (AtEvent i) lines))) s (lines_at (AtEvent i) lines)
 
 -- the end shows the files of every server after all commits, and nothing locked
-pub record ShownAtEnd (files : AllFiles) (events : List Event) (lines : List Line) : Type 0 where
-  pub all : (s : ServerNo) → ShowsFiles (replay files events lines (history_of lines)) s (lines_at End lines)
+pub record ShownAtEndBy (replayed : List Tid → AllFiles) (lines : List Line) : Type 0 where
+  pub all : (s : ServerNo) → ShowsFiles (replayed (history_of lines)) s (lines_at End lines)
   pub unlocked : says is_locked (lines_at End lines) ≡ false
 
-pub record Shown (files : AllFiles) (events : List Event) (lines : List Line) : Type 0 where
-  pub so_far : ShownSoFar files events lines
-  pub at_end : ShownAtEnd files events lines
+pub record ShownBy (replayed : List Tid → AllFiles) (events : List Event) (lines : List Line) : Type 0 where
+  pub so_far : ShownSoFarBy replayed events lines
+  pub at_end : ShownAtEndBy replayed lines
+
+-- so it is where a history leaves what its operations do to these files
+abbrev pub ShownSoFar : AllFiles → List Event → List Line → Type 0
+ShownSoFar files events lines = ShownSoFarBy (replay_operations files events lines) events lines
+
+abbrev pub ShownAtEnd : AllFiles → List Event → List Line → Type 0
+ShownAtEnd files events lines = ShownAtEndBy (replay_operations files events lines) lines
+
+abbrev pub Shown : AllFiles → List Event → List Line → Type 0
+Shown files events lines = ShownBy (replay_operations files events lines) events lines

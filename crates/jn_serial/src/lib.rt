@@ -18,4 +18,4 @@ pub use laws::{
 pub use lines::{history, is_after_event, is_at, lines_at_end, lines_at_event, lines_before_event};
 pub use order::{agrees, replay};
 pub use outcomes::told;
-pub use transactions::ops_of;
+pub use transactions::operations_of;

@@ -5,7 +5,7 @@ ghost use Rattle.jn_replay.specs.Stored.{files_of, AreSame};
 ghost use Rattle.jn_serial.specs.Order as order;
 
 use crate::lines::history;
-use crate::transactions::ops_of;
+use crate::transactions::operations_of;
 use jn_base::Tid;
 use jn_replay::{Files, do_all, gives_answers};
 use jn_report::Line;
@@ -21,11 +21,11 @@ pub fn replay(
     list: &[Tid],
 ) -> Result<Files, AllocError>
     ensures { IfOk result (λ fs. AreSame (files_of fs)
-        (order.replay (files_of files.now) events.now lines.now list.now)) }
+        (order.replay_operations (files_of files.now) events.now lines.now list.now)) }
 {
     let mut after = files.copy(alloc)?;
     for t in list {
-        let ops = ops_of(alloc, events, lines, *t)?;
+        let ops = operations_of(alloc, events, lines, *t)?;
         do_all(alloc, &mut after, &ops)?;
     }
     Ok(after)
@@ -39,12 +39,12 @@ pub fn agrees(
     events: &[Event],
     lines: &[Line],
 ) -> Result<bool, AllocError>
-    ensures { IfOk result (λ b. IsTrue b ↔ order.Agrees (files_of files.now) events.now lines.now) }
+    ensures { IfOk result (λ b. IsTrue b ↔ order.OperationsAgree (files_of files.now) events.now lines.now) }
 {
     let list = history(alloc, lines)?;
     let mut after = files.copy(alloc)?;
     for t in &list {
-        let ops = ops_of(alloc, events, lines, *t)?;
+        let ops = operations_of(alloc, events, lines, *t)?;
         if !gives_answers(alloc, &mut after, &ops)? {
             return Ok(false);
         }

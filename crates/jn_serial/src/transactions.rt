@@ -49,8 +49,12 @@ fn answer_told(client: ClientNo, number: usize, text: &Text) -> Result<Option<An
 }
 
 /// The answer of the first line that gives one.
-fn first_told(client: ClientNo, number: usize, lines: &[Line]) -> Result<Option<Answer>, AllocError>
-    ensures { IfOk result (λ a. a ≡ order.first_told client number lines.now) }
+fn first_answer_told(
+    client: ClientNo,
+    number: usize,
+    lines: &[Line],
+) -> Result<Option<Answer>, AllocError>
+    ensures { IfOk result (λ a. a ≡ order.first_answer_told client number lines.now) }
 {
     for line in lines {
         let answer = answer_told(client, number, &line.text)?;
@@ -62,13 +66,13 @@ fn first_told(client: ClientNo, number: usize, lines: &[Line]) -> Result<Option<
 }
 
 /// What the transaction did in an event, if it did anything.
-fn op_in(
+fn operation_in(
     t: Tid,
     lines: &[Line],
     number: usize,
     event: &Event,
 ) -> Result<Option<Performed>, AllocError>
-    ensures { IfOk result (λ p. option_to_list p ≡ order.op_in t lines.now number event.now) }
+    ensures { IfOk result (λ p. option_to_list p ≡ order.operation_in t lines.now number event.now) }
 {
     let Event::Command(client, Command::Do(server, op)) = event else {
         return Ok(None);
@@ -76,7 +80,7 @@ fn op_in(
     if !is_in(*client, t, number, lines) {
         return Ok(None);
     }
-    let Some(answer) = first_told(*client, number, lines)? else {
+    let Some(answer) = first_answer_told(*client, number, lines)? else {
         return Ok(None);
     };
     let op = op.copy()?;
@@ -99,17 +103,17 @@ fn push_performed(performed: &mut Vec<Performed>, one: Option<Performed>) -> Res
 /// The operations of a transaction that the files answered, each once, in the order of their
 /// events, each with the first answer reported. They are those of a client between the line that says
 /// that it began the transaction and the client's next such line.
-pub fn ops_of(
+pub fn operations_of(
     alloc: Global,
     events: &[Event],
     lines: &[Line],
     t: Tid,
 ) -> Result<Vec<Performed>, AllocError>
-    ensures { IfOk result (λ ps. ps.items ≡ order.ops_of events.now lines.now t) }
+    ensures { IfOk result (λ ps. ps.items ≡ order.operations_of events.now lines.now t) }
 {
     let mut performed = Vec::new(alloc);
     for (i, event) in events.iter().enumerate() {
-        let one = op_in(t, lines, i + 1, event)?;
+        let one = operation_in(t, lines, i + 1, event)?;
         push_performed(&mut performed, one)?;
     }
     Ok(performed)

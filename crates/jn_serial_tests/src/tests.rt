@@ -4,7 +4,7 @@ use jn_base::{Answer, BlockContent, BlockNo, ClientNo, Command, FileNo, Op, Serv
 use jn_replay::{Files, do_op};
 use jn_report::{Line, Refusal, Text, When};
 use jn_schedule::Event;
-use jn_serial::{agrees, history, ops_of, replay, told};
+use jn_serial::{agrees, history, operations_of, replay, told};
 use std::alloc::{AllocError, Global};
 use std::test::Fail;
 
@@ -159,7 +159,7 @@ fn replayed(alloc: Global) -> Result<(Files, usize), AllocError> {
     let events = schedule(alloc)?;
     let lines = report(alloc, Text::Did(CLIENT, 7), 1)?;
     let named = history(alloc, &lines)?;
-    let ops = ops_of(alloc, &events, &lines, BEGUN)?;
+    let ops = operations_of(alloc, &events, &lines, BEGUN)?;
     let after = replay(alloc, &Files::new(alloc), &events, &lines, &named)?;
     Ok((after, ops.len()))
 }

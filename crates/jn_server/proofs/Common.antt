@@ -55,7 +55,6 @@ pub use Rattle.jn_server.specs.declared.show.Shown.{Shown}
 pub use Rattle.jn_server.specs.Showing.{print_of, Looks, IsShown, CutsShort}
 pub use Rattle.jn_server.specs.Pieces.{one_if, count_of, is_at, to_print, LooksOver, TellsPiece, CutsPiece, is_of, TellsBlocks, TellsFile}
 pub use Rattle.jn_index.specs.Least.{IsLeastFrom, lesser, LeastFrom, NextAfter, number_after}
-pub use Rattle.jn_storage.specs.Orderly.{intentions, list_of, file_there, IsGiven}
 pub use Rattle.jn_records.specs.NetLists.{intention_change, heads_of}
 pub use Rattle.jn_base.specs.declared.names.ServerNo.{ServerNo}
 pub use Rattle.jn_records.specs.StablePages.{Counts, Pages, block_behind, block_in, head_of, address_by}
@@ -63,6 +62,7 @@ pub use Rattle.jn_store.specs.Store.{StoreView}
 pub use Rattle.jn_page_state.specs.Pages.{found_on, pool_on, heads_on, listed, contents_of, pages_by}
 pub use Rattle.jn_server.specs.Restarting.{AreTables, IsRestarted, IsNotRestarted, IsWithin, Composes, IsLeft}
 pub use Rattle.std.proofs.Math.Path.{fun_ext}
+pub use Rattle.jn_storage.specs.Orderly.{list_of, file_there, IsGiven}
 pub use Rattle.jn_recovery.specs.Memory.{Memory as Kept, view_of, rubbish_in, stored_by, supplied_in}
 pub use Rattle.jn_base.specs.Limits.{most_cells, most_blocks}
 pub use Rattle.jn_records.specs.declared.work.WorkState.{WorkState}

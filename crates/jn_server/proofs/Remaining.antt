@@ -1,5 +1,5 @@
 -- Each background step leaves one less to make.
-use Rattle.jn_server.proofs.Common.{◌≡◌, ◌⊎◌, inl, inr, ◌≤◌, ◌<◌, ℕ, ◌+◌, Bool, true, false, true≢false, List, [], ◌∷◌, length, Option, Some, None, is_some, refl, sym, ◌∙◌, ap, subst, arith, if◌then◌else◌, not, work_tells, work_eq, of_worker, of_step, server_step, RowOutcome, StableState, Prepared, CarryOut, RemoveWork, is_going, made_by, made_all, ServerView, memory_of, room_of, state, Beside, WorkId, Work, WorkerTable, intentions_of, intentions, is_none, ◌≢◌, slice_get, Files, change, intention_change, quiet, at_work, going_work, without, carried_row, going_row, storage_of, Memory, StepLeaves, steps_of, steps_of_work, steps_of_works, steps_left, Intention}
+use Rattle.jn_server.proofs.Common.{◌≡◌, ◌⊎◌, inl, inr, ◌≤◌, ◌<◌, ℕ, ◌+◌, Bool, true, false, true≢false, List, [], ◌∷◌, length, Option, Some, None, is_some, refl, sym, ◌∙◌, ap, subst, arith, if◌then◌else◌, not, work_tells, work_eq, of_worker, of_step, server_step, RowOutcome, StableState, Prepared, CarryOut, RemoveWork, is_going, made_by, made_all, ServerView, memory_of, room_of, state, Beside, WorkId, Work, WorkerTable, intentions_of, is_none, ◌≢◌, slice_get, Files, change, intention_change, quiet, at_work, going_work, without, carried_row, going_row, storage_of, Memory, StepLeaves, steps_of, steps_of_work, steps_of_works, steps_left, Intention}
 use Rattle.std.proofs.lemmas.Option.{slice_get_within}
 use Rattle.jn_system.proofs.WholeSystem.WorkerRows.{going-is}
 
@@ -167,11 +167,6 @@ some-row a b e = cc
 no-row : (row : RowOutcome Memory) → None ≡ Some row → ⊥
 no-row row e = cc
 
--- the intentions of a work, by both names
-as-many : (o : Option Prepared) → length (intentions o) ≡ length (intentions_of o)
-as-many None = refl
-as-many (Some p) = refl
-
 carried-sum : (a b c r s : ℕ) → a ≡ b → b < c → r ≡ s → a + r < c + s
 carried-sum a b c r s e h k = omega (arith, e, h, k)
 
@@ -213,7 +208,7 @@ module _ (v w : ServerView) where
   ends : (u : Work) → going_work x t ≡ Some u → LessBy (of_worker m (carried_row t v.tickets u None))
   ends u g mem st leaves = ended-sum _ _ _ _ _ (length (intentions_of (x.works u.name))) (counted (made_by (RemoveWork u.name) x) (of_worker m (carried_row t v.tickets u None)).table mem st)
       (over-less x next u.name t u g refl (going-is x t u g))
-      (ap (λ (b : Beside). b.rubbish) (leaves.1 (RemoveWork u.name) refl) ∙ ap (λ (n : ℕ). length v.storage.accounts.rubbish + n) (as-many (x.works u.name)))
+      (ap (λ (b : Beside). b.rubbish) (leaves.1 (RemoveWork u.name) refl))
 
   erases : LessBy (of_worker m (quiet t v.tickets))
   erases mem st leaves = let one = leaves.0 refl in erased-sum _ _ _ _ (counted x (of_worker m (quiet t v.tickets)).table mem st) one.rubbish_less

@@ -1,5 +1,5 @@
 -- What the rows read of a storage is what stands on its pages.
-use Rattle.jn_server.proofs.Common.{◌≡◌, ⊎_elim, ◌<◌, ◌+◌, ◌-◌, ℕ, suc, Bool, true, false, not, ◌&&◌, ◌||◌, if◌then◌else◌, List, [], ◌∷◌, length, Option, Some, None, refl, sym, ◌∙◌, ap, subst, true≢false, arith, nat_tests, is_some, count_by, nat_lt, slice_index_or, list_any, Tickets, WorkId, work_eq, work_tells, Counts, Pages, Work, StableState, Prepared, WorkerTable, work_at, intentions_of, promised, is_before, is_in, are_different, total, Accounts, IsCounted, intentions, list_of, state, StoreView, pool_on, heads_on, listed, Kept, view_of, rubbish_in, WorkerView, WorkFits, is_none, Remembered, ServerView, IsServer, IsRoomOfPages, CountsPages, file_there, most_cells, contents_of, stored_by, supplied_in, name_of, beside_of, fun_ext, option_map, option_and_then, find, heads_of, standing_pages, beside_on, is_free_page, promised_heads, WorkState, are_rising, names_maps, maps_in}
+use Rattle.jn_server.proofs.Common.{◌≡◌, ⊎_elim, ◌<◌, ◌+◌, ◌-◌, ℕ, suc, Bool, true, false, not, ◌&&◌, ◌||◌, if◌then◌else◌, List, [], ◌∷◌, length, Option, Some, None, refl, sym, ◌∙◌, ap, subst, true≢false, arith, nat_tests, is_some, count_by, nat_lt, slice_index_or, list_any, Tickets, WorkId, work_eq, work_tells, Counts, Pages, Work, StableState, Prepared, WorkerTable, work_at, intentions_of, promised, is_before, is_in, are_different, total, Accounts, IsCounted, list_of, state, StoreView, pool_on, heads_on, listed, Kept, view_of, rubbish_in, WorkerView, WorkFits, is_none, Remembered, ServerView, IsServer, IsRoomOfPages, CountsPages, file_there, most_cells, contents_of, stored_by, supplied_in, name_of, beside_of, fun_ext, option_map, option_and_then, find, heads_of, standing_pages, beside_on, is_free_page, promised_heads, WorkState, are_rising, names_maps, maps_in}
 use Rattle.std.proofs.lemmas.List.Sums.{sum_by-cons}
 use Rattle.jn_alloc.specs.Free.{free_count as free_numbers, is_free as is_free_number}
 use Rattle.jn_files.specs.Table.{TableView, IsTable, is_held, layouts_in, IsUnnamed}
@@ -84,13 +84,9 @@ total_more f ks (j ∷ js) dk dj within none =
     outside true b n o = absurd (true≢false (sym n))
     outside false b n o = o
 
-same_need : (x : StableState) (p : Option Prepared) → heads_of (intentions_of p) (file_there x.files) ≡ heads_of (intentions p) (file_there x.files)
-same_need x None = refl
-same_need x (Some p) = refl
-
 promised_names : (x : StableState) (ws : WorkerTable) → promised_heads x ws ≡ total (λ w. heads_of (list_of x w) (file_there x.files)) (names_of ws)
 promised_names x [] = refl
-promised_names x (w ∷ ws) = let here = same_need x (x.works w.name) in let again = promised_names x ws in omega (arith, here, again)
+promised_names x (w ∷ ws) = ap (λ n. heads_of (list_of x w.name) (file_there x.files) + n) (promised_names x ws)
 
 promises_are : (x : StableState) (a : Accounts) (ws : WorkerTable) → IsCounted x a → are_rising ws ≡ true → ((W : WorkId) → WorkFits (work_at W ws) (x.works W)) → a.promised_heads ≡ promised_heads x ws
 promises_are x a ws counted rising fits = counted.promises ∙ sym (promised_names x ws ∙ total_more (λ w. heads_of (list_of x w) (file_there x.files)) (names_of ws) counted.works (names_differ ws rising) counted.works_all.different
@@ -102,7 +98,7 @@ promises_are x a ws counted rising fits = counted.promises ∙ sym (promised_nam
     live None None f e = absurd (true≢false (sym e))
     live None (Some p) f e = absurd f
 
-    nothing : (p : Option Prepared) → is_some p ≡ false → heads_of (intentions p) (file_there x.files) ≡ 0
+    nothing : (p : Option Prepared) → is_some p ≡ false → heads_of (intentions_of p) (file_there x.files) ≡ 0
     nothing None e = refl
     nothing (Some p) e = absurd (true≢false e)
 

@@ -2,7 +2,6 @@
 use Rattle.std.proofs.Common.{◌≡◌, ◌⊎◌, ℕ, ◌≤◌, ◌+◌, Bool, true, false, Option, Some, None, Result, Ok, Err, refl, sym, ◌∙◌, subst, ap, arith, inl, inr}
 use Rattle.std.specs.Prelude.{if◌then◌else◌}
 use Rattle.jn_base.specs.declared.names.Tickets.{Tickets}
-use Rattle.jn_base.specs.declared.names.Tid.{Tid}
 use Rattle.jn_msgs.specs.Collected.{Collected}
 use Rattle.jn_msgs.specs.declared.message.Message.{Message}
 use Rattle.jn_rows.specs.Outcomes.{RowOutcome}
@@ -24,7 +23,7 @@ use Rattle.jn_server_tests.specs.Restarts.{MayBegin, IsOf}
 use Rattle.jn_server_tests.proofs.Starts.{later_of, loaded_of, may_begin}
 use Rattle.jn_base.specs.declared.fault.CallFault.{CallFault}
 use Rattle.jn_base.specs.declared.fault.CallFault.TheVariants.{Stopped, Memory as NoMemory}
-use Rattle.jn_server.specs.Handling.{Does, Steps, TimesOut}
+use Rattle.jn_server.specs.Handling.{Does, Steps}
 use Rattle.jn_storage.specs.DeviceCalls.{row_calls}
 use Rattle.jn_server.specs.Restarting.{IsRestarted, IsLeft}
 use Rattle.jn_server.specs.Seen.{ServerView, memory_of, room_of}
@@ -93,11 +92,3 @@ module _ (n : PageCounts) (k : ℕ) (v w : ServerView) (on : IsOn n k v) where
       by : (o : Option (RowOutcome WorkerTable)) → worker_step v.worker.table (storage_of (memory_of v) (state v.storage) (room_of v.storage)) v.tickets ≡ o → Steps (of_step (memory_of v) o) v before answer w after → LeavesServer n (k + 1) answer w
       by None e h = subst (λ (a : Result Bool CallFault). LeavesServer n (k + 1) a w) (sym h.0) (let on = same h.1 in record { serves = on.serves; of = on.of; count = on.count; drawn = let d = on.drawn in omega (arith, d) })
       by (Some row) e h = done 32 (k + 1) _ answer before after (let few = one-more v.tickets row.tickets (step-aside v.worker.table (storage_of (memory_of v) (state v.storage) (room_of v.storage)) v.tickets row e).tickets in let drawn = on.drawn in omega (arith, few, drawn)) h.0
-
-  pub timed-out : (T : Tid) (answer : Bool) → TimesOut T v answer w → IsOn n k w
-  timed-out T answer t = record {
-    serves = t.serves;
-    of = subst (λ (u : ServerView). IsOf the_server n u.storage) (sym t.others) on.of;
-    count = subst (λ (u : ServerView). u.storage.store.count ≡ page_count (counts_by n)) (sym t.others) on.count;
-    drawn = subst (λ (u : ServerView). u.tickets.next ≤ k) (sym t.others) on.drawn;
-  }

@@ -10,7 +10,7 @@ pub use Rattle.jn_wire.specs.Unframing.{Held, Unframed, after_byte, holds, in_fr
 pub use Rattle.jn_serving.specs.Input.{frames_of, held_of, most_bytes, Gave, IsText, MeetsFault, inside, at_end, most_piece}
 pub use Rattle.jn_serving.specs.Pieces.{fitting, Came, ReadsPiece, ServesRead, done_of}
 pub use Rattle.std.specs.Io.KnownBytes.{prepend_known, append_known}
-pub use Rattle.jn_host.specs.Outside.{Rose, SourceRead}
+pub use Rattle.jn_base.specs.Counts.{Rose}
 pub use Rattle.jn_node.specs.Running.{Running}
 pub use Rattle.jn_records.specs.StablePages.{Counts}
 pub use Rattle.jn_wire.specs.Stream.{Stream, kept_by, kept_error, with_held}

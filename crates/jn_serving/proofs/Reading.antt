@@ -1,5 +1,6 @@
 -- A stream that is read piece by piece, and how it ends.
-use Rattle.jn_serving.proofs.Common.{◌≡◌, ◌≤◌, ◌<◌, ℕ, zero, suc, ◌+◌, ◌-◌, min, List, [], ◌∷◌, ◌++◌, length, take, drop, refl, sym, ◌∙◌, ap, subst, arith, append_assoc, append-nil, length-append, Option, Some, Result, Ok, Err, None, true, false, is_ok, is_some, option_map, IfSome, prepend_known, take-append_seam, drop-append_seam, take-append-le, ServerNo, Rose, SourceRead, Running, Counts, WireFault, Framed, Stream, kept_by, kept_error, with_held, Held, Unframed, nothing_held, unframed, SourceState, SinkState, Writes, WritesFront, FailsToWrite, Gave, IsText, MeetsFault, inside, at_end, frames_of, held_of, most_bytes, most_piece, Came, ReadsPiece, ServesRead, done_of, fitting, EndsStream, ServesFirst, ServesPiece, ServesTo, Start, StreamedFront, StreamsTo, start_of, StreamFault}
+use Rattle.jn_serving.proofs.Common.{◌≡◌, ◌≤◌, ◌<◌, ℕ, zero, suc, ◌+◌, ◌-◌, min, List, [], ◌∷◌, ◌++◌, length, take, drop, refl, sym, ◌∙◌, ap, subst, arith, append_assoc, append-nil, length-append, Option, Some, Result, Ok, Err, None, true, false, is_ok, is_some, option_map, IfSome, prepend_known, take-append_seam, drop-append_seam, take-append-le, ServerNo, Rose, Running, Counts, WireFault, Framed, Stream, kept_by, kept_error, with_held, Held, Unframed, nothing_held, unframed, SourceState, SinkState, Writes, WritesFront, FailsToWrite, Gave, IsText, MeetsFault, inside, at_end, frames_of, held_of, most_bytes, most_piece, Came, ReadsPiece, ServesRead, done_of, fitting, EndsStream, ServesFirst, ServesPiece, ServesTo, Start, StreamedFront, StreamsTo, start_of, StreamFault}
+use Rattle.jn_host.specs.Outside.{SourceRead}
 use Rattle.jn_host.proofs.Reading.{reads_join}
 use Rattle.jn_host.specs.declared.Failed.{Failed}
 use Rattle.jn_serving.specs.declared.fault.StreamFault.TheVariants as streams

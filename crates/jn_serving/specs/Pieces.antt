@@ -1,7 +1,7 @@
 -- What one read of a source leads to.
 use Rattle.std.specs.Prelude.{◌≡◌, ◌≢◌, ◌≤◌, ℕ, ◌+◌, ◌-◌, List, [], length, take, Result, Ok, Err}
 use Rattle.std.specs.Io.KnownBytes.{prepend_known}
-use Rattle.jn_host.specs.Outside.{Rose}
+use Rattle.jn_base.specs.Counts.{Rose}
 use Rattle.jn_node.specs.Running.{Running}
 use Rattle.jn_wire.specs.Stream.{Stream, with_held}
 use Rattle.jn_wire.specs.Unframing.{Unframed, unframed}

@@ -1,7 +1,7 @@
 -- What is served of a source, piece by piece.
 use Rattle.std.specs.Prelude.{◌≡◌, ◌≢◌, ◌≤◌, ◌<◌, ℕ, ◌+◌, true, List, [], ◌∷◌, length, take, None, is_some, Result, Ok, Err}
 use Rattle.jn_base.specs.declared.names.ServerNo.{ServerNo}
-use Rattle.jn_host.specs.Outside.{Rose}
+use Rattle.jn_base.specs.Counts.{Rose}
 use Rattle.jn_node.specs.Running.{Running}
 use Rattle.jn_node.specs.Serving.{ServesFrame, ServesFrames, sent_bytes}
 use Rattle.jn_records.specs.StablePages.{Counts}

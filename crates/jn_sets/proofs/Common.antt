@@ -1,5 +1,5 @@
 -- The names from below that these proofs cite, passed on from one place. Declares nothing.
-pub use Rattle.std.proofs.Common.{◌≡◌, inl, inr, ℕ, true, ◌+◌, ◌<◌, ◌^◌, List, [], ◌∷◌, ◌++◌, length, refl, sym, ◌∙◌, ap, subst, arith, ⊎_elim, ◌≤◌, Bool, false, Option, Some, None, ◌≢◌, zero, suc, true≢false, ◌⊎◌, ◌-◌, map, drop, rules}
+pub use Rattle.std.proofs.Common.{◌≡◌, inl, inr, ℕ, true, ◌+◌, ◌<◌, ◌^◌, List, [], ◌∷◌, ◌++◌, length, sym, ◌∙◌, ap, subst, arith, ⊎_elim, ◌≤◌, Bool, false, Option, Some, None, refl, ◌≢◌, zero, suc, true≢false, ◌⊎◌, ◌-◌, map, drop, rules}
 pub use Rattle.std.proofs.Math.ListN.{get_or-append}
 pub use Rattle.std.proofs.Math.Seq.{get_or-append_seam}
 pub use Rattle.std.proofs.lemmas.Bool.{cases_lt, cases_eq, false_from_ne_true}

@@ -1,6 +1,6 @@
 -- A pool that is loaded, slot by slot.
-use Rattle.jn_sets.proofs.Common.{◌≡◌, inl, inr, ℕ, true, ◌+◌, ◌<◌, ◌^◌, List, [], ◌∷◌, ◌++◌, length, refl, sym, ◌∙◌, ap, subst, arith, get_or-append, get_or-append_seam, cases_lt, length-append, get_or_past, enumerate_from, values_of, Record, Free, has_page, StoreView, IsServed, slot_page, record_in, IsRecordPage, IsReadable, IsStored, HoldsRecords, IsIndex, StoreRead}
-use Rattle.jn_store.proofs.Laws.{later_refl, later_trans, same_refl, same_trans}
+use Rattle.jn_sets.proofs.Common.{◌≡◌, inl, inr, ℕ, true, ◌+◌, ◌<◌, ◌^◌, List, [], ◌∷◌, ◌++◌, length, sym, ◌∙◌, ap, subst, arith, get_or-append, get_or-append_seam, cases_lt, length-append, get_or_past, enumerate_from, values_of, Record, Free, has_page, StoreView, IsServed, slot_page, record_in, IsRecordPage, IsReadable, IsStored, HoldsRecords, IsIndex, StoreRead}
+use Rattle.jn_store.proofs.Laws.{later_trans, same_trans}
 use Rattle.jn_sets.proofs.Slots.{push_numbered, values_push}
 
 -- the index has the first slots' records, which the store held at first and holds still
@@ -11,9 +11,6 @@ pub record LoadedTo (v : StoreView) (slots : ℕ) (index : List (ℕ × Record))
   pub read : StoreRead v slots w
   pub power : 0 < slots → w.power ≡ true
   pub stops : w.stops ≡ v.stops
-
-pub read_none : (v : StoreView) → StoreRead v 0 v
-read_none v = record { later = later_refl v; calls = omega arith; puts = refl; same = λ j. same_refl v j }
 
 pub read_more : (u v w : StoreView) (n : ℕ) → StoreRead u n v → StoreRead v 1 w → StoreRead u (n + 1) w
 read_more u v w n before after = record {

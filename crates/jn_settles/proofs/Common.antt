@@ -12,7 +12,7 @@ pub use Rattle.jn_recovery.specs.Counts.{counts_by}
 pub use Rattle.jn_rows.specs.Stable.{StableState, Pick, stable}
 pub use Rattle.jn_server.specs.Seen.{view_with, memory_of}
 pub use Rattle.jn_store.specs.Store.{StoreView}
-pub use Rattle.jn_system.specs.WholeSystem.World.{Memory, servers_from, World}
+pub use Rattle.jn_system.specs.WholeSystem.World.{Memory, servers_from, World, own_texts}
 pub use Rattle.jn_machine.specs.Chances.{Setup}
 pub use Rattle.jn_machine.specs.Runs.{Moment, DoesStep}
 pub use Rattle.jn_world_refines.specs.Stands.{Standing, StandsAt, Stands}
@@ -30,5 +30,5 @@ pub use Rattle.jn_at_rest.specs.Settled.{texts_since, ComesThrough, LeavesSettle
 pub use Rattle.jn_base.specs.declared.names.WorkId.{WorkId}
 pub use Rattle.jn_place.specs.Places.{is_up}
 pub use Rattle.jn_rows.specs.declared.worker.Work.{Work}
-pub use Rattle.jn_system_settling.specs.AtRest.Settled.{AreUp, entry_in, live_at, told_since, tells_waiting, tells_outcome, holds_undecided}
+pub use Rattle.jn_system_settling.specs.AtRest.Settled.{AreUp, entry_in, live_at, tells_waiting, tells_outcome, holds_undecided}
 pub use Rattle.jn_settles.specs.Tables.{memory_on, memory_in, memory_at, live_in, AllUp}

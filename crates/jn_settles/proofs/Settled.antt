@@ -1,5 +1,6 @@
 -- A world whose call settled is settled.
-use Rattle.jn_settles.proofs.Common.{◌≡◌, ◌⊎◌, inl, inr, ℕ, suc, ◌≤◌, ◌<◌, Bool, true, false, List, Option, Some, None, true≢false, sym, ◌∙◌, ap, subst, arith, slice_get, list_any, slice_get_within, WorkId, DeviceState, pool_on, waiting, Place, Slot, Up, Down, Gone, is_up, Counts, counts_by, Line, Work, StableState, Pick, view_with, memory_of, StoreView, World, Memory, told_since, tells_waiting, tells_outcome, holds_undecided, live_at, Setup, pages_of, Moment, IsTold, Standing, StandsAt, Stands, texts_since, LeavesSettled, memory_at, live_in, AllUp}
+use Rattle.jn_settles.proofs.Common.{◌≡◌, ◌⊎◌, inl, inr, ℕ, suc, ◌≤◌, ◌<◌, Bool, true, false, List, Option, Some, None, true≢false, sym, ◌∙◌, ap, subst, arith, slice_get, list_any, slice_get_within, WorkId, DeviceState, pool_on, waiting, Place, Slot, Up, Down, Gone, is_up, Counts, counts_by, Line, Work, StableState, Pick, view_with, memory_of, StoreView, World, Memory, own_texts, tells_waiting, tells_outcome, holds_undecided, live_at, Setup, pages_of, Moment, IsTold, Standing, StandsAt, Stands, texts_since, LeavesSettled, memory_at, live_in, AllUp}
+use Rattle.jn_base.specs.declared.names.ClientNo.{ClientNo}
 use Rattle.jn_report.specs.declared.line.Text.{Text}
 use Rattle.jn_base.specs.declared.op.Command.TheVariants.{End}
 use Rattle.jn_rows.specs.declared.client.Outstanding.{Outstanding}
@@ -17,7 +18,7 @@ module _ {S : Type 0} (look : S → StoreView) (device : S → DeviceState) (x :
   now = last.state.course.world
 
   -- what was reported is in the lines
-  in-lines : (is : Text → Bool) → list_any is (told_since m.state.course.world last.state.course.world) ≡ true → list_any is (texts_since lines lines') ≡ true
+  in-lines : (is : Text → Bool) → list_any is (own_texts m.state.course.world last.state.course.world) ≡ true → list_any is (texts_since lines lines') ≡ true
   in-lines is e = ap (list_any is) (sym (same-texts m last lines lines' told)) ∙ l.told is e
 
   none-waits : waiting after.net ≡ None
@@ -42,7 +43,7 @@ module _ {S : Type 0} (look : S → StoreView) (device : S → DeviceState) (x :
   clients-are n t o at is = (l.settled.answers (record { 0 = suc n }) o (low n) (high n within) there, in-lines (tells_waiting (record { 0 = suc n }) o.event) (l.settled.ends (record { 0 = suc n }) o (low n) (high n within) there))
     where
       there : (now.clients (record { 0 = suc n })).outstanding ≡ Some o
-      there = ap (λ (u : ClientTable). u.outstanding) (stands.clients n t at) ∙ is
+      there = ap (λ (f : ClientNo → ClientTable). (f (record { 0 = suc n })).outstanding) (sym stands.tables) ∙ ap (λ (u : ClientTable). u.outstanding) (stands.clients n t at) ∙ is
 
       within : n < 8
       within = subst (λ (k : ℕ). n < k) stands.eight (slice_get_within after.clients n t at)
@@ -63,7 +64,7 @@ module _ {S : Type 0} (look : S → StoreView) (device : S → DeviceState) (x :
       there : live_at now W ≡ Some v
       there = live-there look device x after last stands W near ∙ live
 
-      by : (holds_undecided (now.memory v.tid.server) v.tid ≡ true) ⊎ ((list_any (tells_outcome v.tid) (told_since m.state.course.world now) ≡ true) ⊎ (live_at m.state.course.world W ≡ None))
+      by : (holds_undecided (now.memory v.tid.server) v.tid ≡ true) ⊎ ((list_any (tells_outcome v.tid) (own_texts m.state.course.world now) ≡ true) ⊎ (live_at m.state.course.world W ≡ None))
           → (holds_undecided (memory_at look after.places v.tid.server) v.tid ≡ true) ⊎ ((list_any (tells_outcome v.tid) (texts_since lines lines') ≡ true) ⊎ (live_in look before.places W ≡ None))
       by (inl e) = inl (ap (λ (o : Option Memory). holds_undecided o v.tid) (sym (memory-there look device x after last stands v.tid.server (tid-near look device x after last stands W v there))) ∙ e)
       by (inr (inl e)) = inr (inl (in-lines (tells_outcome v.tid) e))

@@ -3,7 +3,8 @@ use Rattle.std.proofs.Common.{◌≡◌, ◌≢◌, ◌⊎◌, inl, inr, ⊎_eli
 use Rattle.std.proofs.lemmas.Bool.{cases_eq}
 use Rattle.std.specs.Prelude.{◌&&◌, IsErr, is_ok, is_err}
 use Rattle.jn_base.specs.declared.device.Stopped.{Stopped}
-use Rattle.jn_device.specs.Device.{DeviceState, Rose}
+use Rattle.jn_device.specs.Device.{DeviceState}
+use Rattle.jn_base.specs.Counts.{Rose}
 use Rattle.jn_device.specs.Later.{Later}
 use Rattle.jn_device.proofs.Later.{later_trans, rose_since}
 use Rattle.jn_phys.specs.Answers.{IsCompared}

@@ -1,5 +1,6 @@
 -- Each change of the stable state keeps what a recovery asks of it.
-use Rattle.jn_storage.proofs.Common.{◌≡◌, ◌≢◌, ⊎_elim, ◌+◌, ℕ, zero, Bool, true, false, not, ◌&&◌, ◌||◌, List, [], ◌∷◌, Option, Some, None, refl, sym, ◌∙◌, ap, subst, arith, map, add-zero, true≢false, slice_get, is_some, list_all, FileNo, LockUnit, File, file_eq, tid_eq, work_eq, Files, change, What, Fresh, Gone, Cut, Put, Intention, intention_change, intention_place, in_order, entry, first_by, as_first, net_of, is_put, is_fresh, Mode, Read, IntentionWrite, Commit, rebuilt, is_unit, together, StableState, Prepared, MarkGoing, CarryOut, RemoveWork, AddFlag, DropFlag, made_by, at_work, gone_on, is_in, IsListing, AtMost, total, IsOrderly, IsPrepared, IsGiven, GoTogether, unit_by, unit_of, held_by, needs_file, first_of, file_there, intentions, list_of, heads_of}
+use Rattle.jn_storage.proofs.Common.{◌≡◌, ◌≢◌, ⊎_elim, ◌+◌, ℕ, zero, Bool, true, false, not, ◌&&◌, ◌||◌, List, [], ◌∷◌, Option, Some, None, refl, sym, ◌∙◌, ap, subst, arith, map, add-zero, true≢false, slice_get, is_some, list_all, FileNo, LockUnit, File, file_eq, tid_eq, work_eq, Files, change, What, Fresh, Gone, Cut, Put, Intention, intention_change, intention_place, in_order, entry, first_by, as_first, net_of, is_put, is_fresh, Mode, Read, IntentionWrite, Commit, rebuilt, is_unit, together, StableState, Prepared, MarkGoing, CarryOut, RemoveWork, AddFlag, DropFlag, made_by, at_work, gone_on, is_in, IsListing, AtMost, total, IsOrderly, IsPrepared, IsGiven, GoTogether, unit_by, unit_of, held_by, needs_file, first_of, file_there, list_of, heads_of}
+use Rattle.jn_rows.specs.Worker.{intentions_of}
 use Rattle.jn_base.specs.declared.names.WorkId.{WorkId}
 use Rattle.jn_base.proofs.Tells.{file_tells, tid_tells, work_tells}
 use Rattle.jn_records.specs.declared.flag.Flag.{Flag}
@@ -279,7 +280,7 @@ needs-other : (server : ServerNo) (x : StableState) (w v : WorkId) (p : Prepared
     → needs (file_there (change (intention_change i) x.files)) (list_of x v) ≡ needs (file_there x.files) (list_of x v)
 needs-other server x w v p k i o at here ne = by (x.works v) refl
   where
-    by : (q : Option Prepared) → x.works v ≡ q → needs (file_there (change (intention_change i) x.files)) (intentions q) ≡ needs (file_there x.files) (intentions q)
+    by : (q : Option Prepared) → x.works v ≡ q → needs (file_there (change (intention_change i) x.files)) (intentions_of q) ≡ needs (file_there x.files) (intentions_of q)
     by None e = refl
     by (Some q) e = needs-same _ _ q.list (others-there i k x.files p.list q.list q.reads here (apart-reads p q (o.apart w v p q ne at e)) (o.prepared v q e))
 
@@ -293,7 +294,7 @@ promises-carried server x w p k i keys o at here l = summed _ _ _ _ _ _ _ (total
     stands = l.all w ∙ ap (λ q. is_some q) at
 
     own : needs (file_there (change (intention_change i) x.files)) (list_of x w) + one_if (makes_file i x.files) ≡ needs (file_there x.files) (list_of x w)
-    own = subst (λ q. needs (file_there (change (intention_change i) x.files)) (intentions q) + one_if (makes_file i x.files) ≡ needs (file_there x.files) (intentions q)) (sym at)
+    own = subst (λ q. needs (file_there (change (intention_change i) x.files)) (intentions_of q) + one_if (makes_file i x.files) ≡ needs (file_there x.files) (intentions_of q)) (sym at)
         (needs-own i k x.files p.list (o.prepared w p at).order.order here)
 
     others : total (λ v. needs (file_there (change (intention_change i) x.files)) (list_of x v)) (but work_eq w keys) ≡ total (λ v. needs (file_there x.files) (list_of x v)) (but work_eq w keys)

@@ -40,19 +40,6 @@ counts-to (x ∷ flags) (suc k) b e =
 pub count-more : (flags : List Bool) (k : ℕ) (b : Bool) → slice_get flags k ≡ Some b → count_by (λ (b : Bool). b) (take k flags) + (if b then 1 else 0) ≡ count_by (λ (b : Bool). b) (take (k + 1) flags)
 count-more flags k b e = subst (λ n. count_by (λ (b : Bool). b) (take k flags) + (if b then 1 else 0) ≡ count_by (λ (b : Bool). b) (take n flags)) (next k) (counts-to flags k b e)
 
-pub count-below : (flags : List Bool) (k : ℕ) → count_by (λ (b : Bool). b) (take k flags) ≤ k
-count-below [] zero = omega arith
-count-below [] (suc k) = omega arith
-count-below (x ∷ flags) zero = omega arith
-count-below (x ∷ flags) (suc k) =
-    let again = count-below flags k in
-    let one = sum_by-cons (λ (b : Bool). if b then 1 else 0) x (take k flags) in
-    let most = at_most x in
-    omega (arith, again, one, most)
-  where
-    at_most : (b : Bool) → (if b then 1 else 0) ≤ 1
-    at_most b = grind arith
-
 pub whole : (flags : List Bool) (k : ℕ) → length flags ≤ k → take k flags ≡ flags
 whole [] zero h = refl
 whole [] (suc k) h = refl

@@ -1,5 +1,5 @@
 -- What holds of the stable state of a server at every moment, and what a recovery may ask of it.
-use Rattle.std.specs.Prelude.{◌≡◌, ◌≢◌, ◌≤◌, ℕ, zero, Bool, true, false, not, nat_lt, ◌&&◌, ◌||◌, List, map, length, Some, None, is_some, Option, ◌+◌, []}
+use Rattle.std.specs.Prelude.{◌≡◌, ◌≢◌, ◌≤◌, ℕ, zero, Bool, true, false, not, nat_lt, ◌&&◌, ◌||◌, List, map, length, Some, None, is_some, ◌+◌}
 use Rattle.std.specs.List.{list_all}
 use Rattle.jn_base.specs.declared.names.ServerNo.{ServerNo}
 use Rattle.jn_base.specs.declared.names.FileNo.{FileNo}
@@ -20,6 +20,7 @@ use Rattle.jn_records.specs.NetLists.{InOrder, First, Kept, TakenAway, CutFrom, 
 use Rattle.jn_records.specs.MapPlaces.{MapPlaces, need_of}
 use Rattle.jn_locks.specs.declared.words.Mode.{Mode}
 use Rattle.jn_locks.specs.Locks.{Wants, together, is_unit, rebuilt}
+use Rattle.jn_rows.specs.Worker.{intentions_of}
 use Rattle.jn_rows.specs.Stable.{StableState, Prepared}
 use Rattle.jn_storage.specs.Listing.{AtMost, IsListing, total}
 use Rattle.jn_records.specs.declared.net_list.Need.{Need}
@@ -95,13 +96,8 @@ file_there files f = is_some (files (File f))
 abbrev pub needed : MapPlaces → StableState → List Intention → Need
 needed maps x list = need_of list (file_there x.files) maps
 
--- the intentions of a prepared work
-abbrev pub intentions : Option Prepared → List Intention
-intentions None = []
-intentions (Some p) = p.list
-
 abbrev pub list_of : StableState → WorkId → List Intention
-list_of x w = intentions (x.works w)
+list_of x w = intentions_of (x.works w)
 
 -- So many heads are enough for the files that are there and for those that prepared works will make.
 pub record IsLoadable (server : ServerNo) (heads : ℕ) (x : StableState) : Type 0 where

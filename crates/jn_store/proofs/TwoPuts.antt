@@ -4,7 +4,8 @@ use Rattle.std.specs.Prelude.{nat_eq, nat_lt, if◌then◌else◌, slice_set, sl
 use Rattle.std.proofs.lemmas.Bool.{cases_eq}
 use Rattle.std.proofs.lemmas.Bool.Decides.{nat_tests}
 use Rattle.std.proofs.lemmas.List.{get_or-set_same, get_or-set_other, length-set}
-use Rattle.jn_device.specs.Device.{DeviceState, bumped}
+use Rattle.jn_device.specs.Device.{DeviceState}
+use Rattle.jn_base.specs.Counts.{bumped}
 use Rattle.jn_device.specs.Calls.{PutStep}
 use Rattle.jn_device.specs.Happens.{Happens, put, joined}
 use Rattle.jn_base.specs.declared.device.Stopped.{Stopped}

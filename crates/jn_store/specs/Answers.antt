@@ -1,6 +1,7 @@
 -- When a call of a store is answered Ok, whatever faults wait.
 use Rattle.std.specs.Prelude.{◌≡◌, ◌-◌, ◌^◌, ◌<◌, Bool, true, false}
-use Rattle.jn_device.specs.Later.{count_kind, is_stop}
+use Rattle.jn_device.specs.Later.{count_kind}
+use Rattle.jn_base.specs.Names.{is_stop}
 use Rattle.jn_store.specs.Store.{StoreView}
 
 -- there is power, and of the faults that wait none is a stop

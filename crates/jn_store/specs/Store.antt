@@ -3,7 +3,8 @@ use Rattle.std.specs.Prelude.{◌≡◌, ◌≢◌, ◌⊎◌, ℕ, ◌+◌, ◌
 use Rattle.jn_base.specs.declared.device.Stopped.{Stopped}
 use Rattle.jn_base.specs.declared.device.Outside.{Outside}
 use Rattle.jn_device.specs.declared.Armed.{Armed}
-use Rattle.jn_device.specs.Device.{DeviceState, Rose, blank_page}
+use Rattle.jn_device.specs.Device.{DeviceState, blank_page}
+use Rattle.jn_base.specs.Counts.{Rose}
 use Rattle.jn_device.specs.Happens.{Happens}
 use Rattle.jn_device.specs.Later.{Spends}
 

@@ -1,6 +1,6 @@
 // A plain list of pages, which has no fault.
 ghost use Rattle.std.specs.Prelude.{◌≡◌, ◌≤◌, ◌<◌, ◌^◌, ℕ, vec_len, IfOk, [], true, slice_index_or};
-ghost use Rattle.jn_device.specs.Device.{bumped};
+ghost use Rattle.jn_base.specs.Counts.{bumped};
 ghost use Rattle.jn_store.specs.PlainList.{array_view};
 ghost use Rattle.jn_store.specs.Store.{IsBlank};
 

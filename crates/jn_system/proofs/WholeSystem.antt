@@ -18,4 +18,5 @@ pub mod StepCases
 pub mod Steps
 pub mod Grows
 pub mod BusyServers
+pub mod Numbers
 pub mod LostCommits

@@ -3,6 +3,7 @@ pub mod World
 pub mod Servers
 pub mod Near
 pub mod Steps
+pub mod Numbers
 pub mod Course
 pub mod Settle
 pub mod Printing

@@ -14,5 +14,5 @@ pub use machine::{
 };
 pub use protocol::{
     a_commit_is_found_again, a_transaction_commits, an_end_forgets, locks_go_together,
-    wrong_rows_lose_a_commit, wrong_rows_mix_the_order,
+    numbers_change_nothing, wrong_rows_lose_a_commit, wrong_rows_mix_the_order,
 };

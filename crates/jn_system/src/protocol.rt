@@ -8,8 +8,9 @@ ghost use Rattle.jn_base.specs.declared.names.LockUnit.TheVariants.{File};
 ghost use Rattle.jn_order.specs.Files.{AllFiles, there};
 ghost use Rattle.jn_report.specs.declared.line.Text.TheVariants as says;
 ghost use Rattle.jn_rows.specs.Stable.{Pick};
-ghost use Rattle.jn_system.specs.WholeSystem.World.{opening};
-ghost use Rattle.jn_system.specs.WholeSystem.Steps.{Step, run, IsRun};
+ghost use Rattle.jn_system.specs.WholeSystem.World.{World, opening};
+ghost use Rattle.jn_system.specs.WholeSystem.Steps.{Step, after, run, IsStep, IsRun};
+ghost use Rattle.jn_system.specs.WholeSystem.Numbers.{plain_world};
 ghost use Rattle.jn_system.specs.WholeSystem.LockFacts.{LockFacts};
 ghost use Rattle.jn_system.specs.WholeSystem.Example.{the_server, the_client, the_file, the_transaction, the_work, start, to_the_vote, to_the_end, with_a_stop, the_end};
 
@@ -48,4 +49,11 @@ pub fn an_end_forgets()
 pub fn locks_go_together()
     ensures { (servers : ℕ) (files : AllFiles) (epochs : ServerNo → ℕ) (steps : List Step) → IsRun steps (opening servers files epochs)
         → LockFacts (run steps (opening servers files epochs)) }
+{}
+
+/// The numbers of events change nothing, nor do the lines so far: worlds that are the same but for both may make the same steps,
+/// and are then the same but for both.
+pub fn numbers_change_nothing()
+    ensures may { (step : Step) (v w : World) → plain_world v ≡ plain_world w → IsStep step v → IsStep step w }
+    ensures same { (step : Step) (v w : World) → plain_world v ≡ plain_world w → plain_world (after step v) ≡ plain_world (after step w) }
 {}

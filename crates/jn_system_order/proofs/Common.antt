@@ -11,7 +11,7 @@ pub use Rattle.jn_base.proofs.Tells.{server_tells, tid_tells, work_tells, file_t
 pub use Rattle.jn_msgs.specs.declared.message.Message.{Message}
 pub use Rattle.jn_rows.specs.declared.coordinator.Transaction.{Transaction}
 pub use Rattle.jn_rows.specs.declared.coordinator.Stage.TheVariants.{Open, Voting, Committed, Aborted}
-pub use Rattle.jn_rows.specs.Stable.{StableState, made_all, at_tid, Prepared, Pick, CarryOut, RemoveWork, is_going, made_by, at_work, stable, Left, left_of, is_written, carried_at, gone_at, part_by, Change, DropFlag, part_of, MarkGoing, next_after, AddReady, AddFlag, ready_work, FlagState, whole_only}
+pub use Rattle.jn_rows.specs.Stable.{StableState, made_all, at_tid, Prepared, Pick, CarryOut, RemoveWork, is_going, made_by, at_work, stable, Left, left_of, carried_at, part_by, Change, DropFlag, part_of, MarkGoing, next_after, AddReady, AddFlag, ready_work, FlagState, whole_only}
 pub use Rattle.jn_rows.specs.Outcomes.{RowOutcome, Sent}
 pub use Rattle.jn_rows.specs.Coordinator.{CoordinatorTable, transaction_at, after_closing, changes_of_closing, seen_now, name_from, begin_again, begun_by, begin_row, is_begun, is_work, all_in, close_clients_row, besides, with_work, drops, commits, prepares, committed_to, aborted_to, staged, without, commit_row, abort_row, forget_row, not_known, end_promised, end_stage, end_row, abort_stage, abort_request, told_stage, inquire_row, counted_vote, vote_stage, vote_row, done_stage, done_row, thanks_stage, thanks_row, told_again, coordinator_again, restored_transaction, restored_transactions, with_stage, coordinator_row}
 pub use Rattle.jn_system.specs.SmallSteps.World.{World as Machine, Begun, Knowledge, Unknown, Voting as Notes, Committed as Finishes, Working, replay}
@@ -76,7 +76,6 @@ pub use Rattle.jn_locks.specs.Locks.{is_unit}
 pub use Rattle.jn_rows.specs.declared.worker.Phase.TheVariants.{Active, Broken, Prepared as Stored}
 pub use Rattle.jn_rows.specs.declared.worker.ActiveWork.{ActiveWork}
 pub use Rattle.jn_system.specs.SmallSteps.Held.{HoldsForCommit, HasRead, file_unit}
-pub use Rattle.jn_system.specs.SmallSteps.Traces.{Answered, asks, effect_of}
 pub use Rattle.jn_system.proofs.WholeSystem.Rows.{done-keeps, prepared-keeps, by-name}
 pub use Rattle.jn_system.proofs.WholeSystem.Units.{with_units-is, reads-file}
 pub use Rattle.jn_base.specs.declared.names.OperationNo.{OperationNo}

@@ -7,8 +7,8 @@ pub use Rattle.jn_base.specs.declared.names.Tid.{Tid}
 pub use Rattle.jn_base.specs.declared.names.WorkId.{WorkId}
 pub use Rattle.jn_base.specs.declared.names.Tickets.{Tickets}
 pub use Rattle.jn_base.specs.declared.op.Answer.{Answer}
-pub use Rattle.jn_base.specs.Names.{work_eq, tid_eq, request_of, server_eq, client_eq, request_eq, unit_eq, operation_of, file_eq, block_eq}
-pub use Rattle.jn_order.specs.Files.{Files, change, answer_to, AllFiles, or_else, zeros, there, files_after, all_files_after, effect, is_did, nothing}
+pub use Rattle.jn_base.specs.Names.{work_eq, tid_eq, request_of, server_eq, client_eq, request_eq, unit_eq, is_stop, operation_of, file_eq, block_eq}
+pub use Rattle.jn_order.specs.Files.{Files, change, answer_to, AllFiles, or_else, zeros, there, files_after, all_files_after}
 pub use Rattle.jn_records.specs.NetLists.{list_change, length_with, intention_change}
 pub use Rattle.jn_locks.specs.declared.words.Mode.TheVariants.{Read, IntentionWrite}
 pub use Rattle.jn_records.specs.declared.intention.Intention.{Intention}
@@ -41,7 +41,7 @@ pub use Rattle.jn_system.proofs.WholeSystem.StepCases.{ServerRow, of_message, of
 pub use Rattle.jn_system.proofs.WholeSystem.ServerRows.{row-either, row-of-step}
 pub use Rattle.jn_system.proofs.WholeSystem.WorkerCases.{asked_for, asked_here, WorkerCase, replies_only, opens_anew, refuses_next, performs_next, prepares_it, drops_it, removes_it, Replies, is_open_already, votes_against, votes_broken, votes_lost, WorkerStep, is_over, its_wants, worker-case, worker-step-case, none_done, is_repeated, is_broken_for, is_closing_for, is_gone_for, its_answer, marks_it, carries_out, erases_rubbish}
 pub use Rattle.std.specs.List.{list_any, list_all, fold, AllByRecursion}
-pub use Rattle.jn_system.specs.SmallSteps.World.{World as Machine, Working, Unknown, Commit, IsSerial}
+pub use Rattle.jn_system.specs.SmallSteps.World.{World as Machine, Working, replay, Unknown, Commit, IsSerial}
 pub use Rattle.jn_system.proofs.SmallSteps.Invariant.{Invariant, IsGiven, NamesFact, IsPart}
 pub use Rattle.jn_system.specs.SmallSteps.Steps.{Atom, run as run_atoms, opening_world, End as Ends, Perform, Lose, Prepare, NoteReady, Make, Decide, RaiseEpoch, server_of, Crash, Narrow, Restart, CarryPart, Learn, NoteOver, Close, Count, Name, trace_of, end_it}
 pub use Rattle.jn_system.specs.SmallSteps.Premises.{MayRun, MayCarryOut, MayRemove, MayMake, May}
@@ -70,11 +70,12 @@ pub use Rattle.jn_schedule.specs.declared.Event.{Event}
 pub use Rattle.jn_serial.specs.Lines.{event_at, history_of, says, lines_at, lines_before, count_lines, has_tid, says as says_it, says as says_of}
 pub use Rattle.jn_serial.proofs.Growth.{event_at-next, AreWithin, AreWithin-wider, AreWithin-append, lines_at-earlier, lines_at-outside, lines_at-newest, IsWithin, follows-same}
 pub use Rattle.jn_rows.specs.declared.client.OpenWork.{OpenWork}
-pub use Rattle.jn_system.specs.SmallSteps.Traces.{Answered, effect_of, Agrees, effects}
+pub use Rattle.jn_order.specs.Answers.{Answered, FilesAnswer}
 pub use Rattle.jn_system.proofs.WholeSystem.Steps.{locks-keep, opening-keeps}
 pub use Rattle.jn_system_order.proofs.Mirroring.Losing.{run-append, may-append}
 pub use Rattle.jn_system_reports.specs.Reporting.Reported.{Act, Does, Refuses as Refused, Tells as Faults, Shows, Item, events_of, steps_in, steps_of, after_item, IsUnder, AreUnder, world_of, IsReported, Tells, told_by, told_in, told_under, at_event, lines_of as lines_of_items, may_act, Waiting, none_wait, one_more, armed, with_event, strike_all, AreStruck, FaultsWait, strikes, IsStruck, may_do, Does as Done, GoesOver, IsShow, IsShown, AreShown}
 pub use Rattle.jn_system_reports.specs.Telling.Told.{at_place}
+pub use Rattle.jn_order.proofs.AnswerLemmas.{answers-front}
 pub use Rattle.jn_base.specs.declared.names.LockUnit.{LockUnit}
 pub use Rattle.jn_system.specs.SmallSteps.Held.{HasRead, Writes, file_unit}
 pub use Rattle.jn_system.proofs.SmallSteps.History.{run_told, opening_told, IsTold, in_order}
@@ -84,7 +85,7 @@ pub use Rattle.jn_system_order.proofs.Ordering.ClientFacts.{all-have-theirs, Com
 pub use Rattle.jn_system_reports.specs.BetweenSteps.Works.{IsFlagged, IsPrepared, IsCarriedOut, DoWorksStay, IsActive, AreAsPrepared, AreReadsKept, AreCarriedOut}
 pub use Rattle.jn_report.specs.declared.line.Line.{Line}
 pub use Rattle.jn_report.specs.Kinds.{commit_in, commit_in as committed_in, is_own, is_fault, begins, is_answer, goes_down, breaks, refuses_event, stops, refuses_fault, addressed, answer_in, is_locked, is_no_show}
-pub use Rattle.jn_serial.specs.Order.{ops_of, replay as replay-lines, replay, AgreesFrom}
+pub use Rattle.jn_serial.specs.Order.{operations_of, replay_operations, OperationsAgreeFrom}
 pub use Rattle.jn_system.specs.SmallSteps.Order.{IsInOrder, CommitsOnce, has_committed, HasTraces, IsInOrder as InOrder}
 pub use Rattle.jn_base.specs.declared.names.Party.{Party}
 pub use Rattle.jn_system.proofs.SmallSteps.NameLemmas.{fresh_work}
@@ -94,7 +95,7 @@ pub use Rattle.jn_msgs.specs.declared.message.Outcome.{Outcome}
 pub use Rattle.jn_rows.specs.declared.client.Taken.{Taken}
 pub use Rattle.jn_report.specs.declared.line.When.{When}
 pub use Rattle.jn_report.specs.declared.line.When.TheVariants.{Event as AtEvent, End as AtEnd}
-pub use Rattle.jn_serial.specs.Caused.{is_caused_by, is_caused, CausedFrom, Caused, any_event, lines_after, aborts, asks, joins, loses, count_events, is_stop, arms_stop, gives_fault, is_accepted}
+pub use Rattle.jn_serial.specs.Caused.{is_caused_by, is_caused, CausedFrom, Caused, any_event, lines_after, aborts, asks, joins, loses, count_events, arms_stop, gives_fault, is_accepted}
 pub use Rattle.jn_system_reports.specs.Reporting.Armed.{ArmedFrom, AreArmed}
 pub use Rattle.jn_system.specs.WholeSystem.Printing.{Printed, FileThere, PageStored, UnitLocked, print_unit, print_one, print_blocks, print_file, print_files}
 pub use Rattle.jn_system.specs.WholeSystem.PrintedLines.{text_printed, IsPrinted, prints_of}
@@ -135,4 +136,5 @@ pub use Rattle.jn_schedule.specs.declared.Event.TheVariants.{Show, Command as Co
 pub use Rattle.jn_replay.specs.declared.files.Performed.{Performed}
 pub use Rattle.jn_replay.specs.Operations.{files_then, GivesAnswers}
 pub use Rattle.jn_system.proofs.WholeSystem.Rows.{by-name}
+pub use Rattle.jn_system.specs.SmallSteps.Traces.{effects, effect_of}
 pub use Rattle.jn_system_reports.specs.Showing.Example.{a_commit_is_named, carried_out, shown, an_end}

@@ -8,7 +8,7 @@ ghost use Rattle.jn_report.specs.declared.line.When.TheVariants.{Event as AtEven
 ghost use Rattle.jn_report.specs.declared.line.Text.TheVariants as lines;
 ghost use Rattle.jn_rows.specs.Stable.{stable};
 ghost use Rattle.jn_serial.specs.Lines.{lines_at, says, history_of};
-ghost use Rattle.jn_serial.specs.Order.{replay, Agrees};
+ghost use Rattle.jn_serial.specs.Order.{replay_operations, OperationsAgree};
 ghost use Rattle.jn_serial.specs.Shown.{ShowsFiles, ShownSoFar, Shown};
 ghost use Rattle.jn_report.specs.Kinds.{is_locked};
 ghost use Rattle.jn_system.specs.WholeSystem.World.{opening, AreFilesOf};
@@ -30,13 +30,13 @@ pub fn shows_are_of_commits()
 /// what those before it left.
 pub fn the_end_is_of_commits()
     ensures shown { (servers : ℕ) (files : AllFiles) (epochs : ServerNo → ℕ) (items : List Item) (e : Ending) → IsWholeRun servers files epochs items e → (s : ServerNo) → s.0 < servers
-        → ShowsFiles (replay files (events_of items) (all_lines servers files epochs items e) (history_of (all_lines servers files epochs items e))) s (lines_at AtEnd (all_lines servers files epochs items e)) }
+        → ShowsFiles (replay_operations files (events_of items) (all_lines servers files epochs items e) (history_of (all_lines servers files epochs items e))) s (lines_at AtEnd (all_lines servers files epochs items e)) }
     ensures all { (servers : ℕ) (files : AllFiles) (epochs : ServerNo → ℕ) (items : List Item) (e : Ending) → IsWholeRun servers files epochs items e → AreFilesOf servers files → (s : ServerNo)
-        → ShowsFiles (replay files (events_of items) (all_lines servers files epochs items e) (history_of (all_lines servers files epochs items e))) s (lines_at AtEnd (all_lines servers files epochs items e)) }
+        → ShowsFiles (replay_operations files (events_of items) (all_lines servers files epochs items e) (history_of (all_lines servers files epochs items e))) s (lines_at AtEnd (all_lines servers files epochs items e)) }
     ensures so_far { (servers : ℕ) (files : AllFiles) (epochs : ServerNo → ℕ) (items : List Item) (e : Ending) → IsWholeRun servers files epochs items e → ShownSoFar files (events_of items) (all_lines servers files epochs items e) }
     ensures whole { (servers : ℕ) (files : AllFiles) (epochs : ServerNo → ℕ) (items : List Item) (e : Ending) → IsWholeRun servers files epochs items e → AreFilesOf servers files
         → says is_locked (lines_at AtEnd (all_lines servers files epochs items e)) ≡ false → Shown files (events_of items) (all_lines servers files epochs items e) }
-    ensures agrees { (servers : ℕ) (files : AllFiles) (epochs : ServerNo → ℕ) (items : List Item) (e : Ending) → IsWholeRun servers files epochs items e → Agrees files (events_of items) (all_lines servers files epochs items e) }
+    ensures agrees { (servers : ℕ) (files : AllFiles) (epochs : ServerNo → ℕ) (items : List Item) (e : Ending) → IsWholeRun servers files epochs items e → OperationsAgree files (events_of items) (all_lines servers files epochs items e) }
 {}
 
 /// There are such runs: here a client makes a file and its transaction is named; a show before it is carried out prints the

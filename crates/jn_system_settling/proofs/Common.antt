@@ -27,9 +27,9 @@ pub use Rattle.jn_rows.specs.declared.client.Outstanding.{Outstanding}
 pub use Rattle.jn_rows.specs.Stable.{Pick, stable, Left, StableState, Prepared, is_going, MarkGoing, at_work, gone_on, made_all, DropFlag, FlagState, RemoveWork, Change, AddReady, CarryOut, AddFlag, left_of, made_by, at_tid, is_ready}
 pub use Rattle.jn_rows.specs.Client.{ClientTable, command_row, take_row, is_current, is_tid, opens, opened_row, if_waits, outcome_row, is_end_or_abort, over, sent_again, is_begin, names_of, begun_row, again_row, is_end, told, work_at as open_at, is_operation, idle, answer_line, if_server, if_idle, if_transaction, if_no_transaction, if_open, if_not_open, with_operation, sends as sends_command, Commanded, Refuses, Sends, new_table, decided_row, sends}
 pub use Rattle.jn_rows.specs.ClientLaws.{after_command, are_apart, IsClient}
-pub use Rattle.jn_system.specs.WholeSystem.World.{World, Memory, servers_from, clients_from, at_server, opening, has_line, commits_in, at_client, new_memory, with_epoch}
+pub use Rattle.jn_system.specs.WholeSystem.World.{World, Memory, servers_from, clients_from, at_server, opening, own_texts, has_line, commits_in, at_client, new_memory, with_epoch}
 pub use Rattle.jn_system.specs.WholeSystem.Servers.{Room, server_row, server_timeout, storage_of, of_timeout, restored, line_of, lines_of, of_worker, of_step, server_again, is_busy, of_coordinator, is_for_worker, server_step}
-pub use Rattle.jn_system.specs.WholeSystem.Steps.{Step, Again, Deliver, Nudge, StopDelivery, StopWork, IsStep, after, handed, works, handing, working, IsRun, run, sent_now, taken_by, done, at_memory, work, nudge, took, Tell, commanded, NextEvent, Timeout, Crash, Narrow, StopRestart, Restart, Dismiss, CloseClients, AreNames, tid_before, ends, timeout, crash, narrow, stop_restart, restart, close_clients, Work as WorkStep, stopped}
+pub use Rattle.jn_system.specs.WholeSystem.Steps.{Step, Again, Deliver, Nudge, StopDelivery, StopWork, IsStep, after, handed, works, handing, working, IsRun, run, sent_now, taken_by, done, at_memory, work, nudge, took, Tell, commanded, NextEvent, Dismiss, Restart, Crash, Narrow, CloseClients, crash, restart, close_clients, Work as WorkStep, ends, stopped, AreNames, tid_before}
 pub use Rattle.jn_system.specs.WholeSystem.LockFacts.{UpFact, ServerFact, LockFacts, TableFact, IsSoundWork}
 pub use Rattle.jn_system.proofs.WholeSystem.Tables.{of-found}
 pub use Rattle.jn_system.specs.WholeSystem.Course.{Course, go, go_on, numbered, without_number, still_waiting, opening_course}
@@ -45,7 +45,7 @@ pub use Rattle.jn_system_reports.proofs.Reporting.Reached.{Reached, next-reached
 pub use Rattle.jn_system.proofs.WholeSystem.OneChange.{one-client, one-server, some-memory, none-memory, memory-now, memory-gone}
 pub use Rattle.jn_system.proofs.WholeSystem.StepCases.{ClientRow, by_command, by_ignoring, by_answering, by_telling, StepCase, client_row, dismissed, step-case, ServerRow, of_message, of_work, of_closing, row_done, row_stopped, gone_late, gone_down, come_up, found_anew, quietly, found-now, found-then, Quiet, event_begins, none_changes, is_refused, client_repeats, server_repeats, is_lost, FoundThen, by_narrowing, by_raising}
 pub use Rattle.jn_base.specs.declared.op.Op.{Op}
-pub use Rattle.jn_system_settling.specs.AtRest.Settled.{AreUp, AreAnswered, entry_in, live_at, holds_undecided, tells_outcome, told_since, AreDecided, IsSettled, LeavesBetween, is_undecided, is_held, tells_waiting, EndsWait, AreForgotten}
+pub use Rattle.jn_system_settling.specs.AtRest.Settled.{AreUp, AreAnswered, entry_in, live_at, holds_undecided, tells_outcome, AreDecided, IsSettled, LeavesBetween, is_undecided, is_held, tells_waiting, EndsWait, AreForgotten}
 pub use Rattle.std.proofs.lemmas.Option.{slice_get_within}
 pub use Rattle.jn_base.specs.declared.names.RequestNo.{RequestNo}
 pub use Rattle.jn_system.proofs.WholeSystem.Grows.{Grows, grows}
@@ -82,17 +82,17 @@ pub use Rattle.jn_system_settling.specs.Settling.Sizes.{TableSizes, ServerSizes,
 pub use Rattle.jn_system.proofs.WholeSystem.WorkerRows.{going-is, worker-keeps, step-keeps}
 pub use Rattle.jn_rows.specs.declared.client.OpenWork.{OpenWork}
 pub use Rattle.jn_system.specs.SmallSteps.Steps.{run as run_atoms, opening_world}
+pub use Rattle.jn_system.specs.WholeSystem.Numbers.{numberless, plain_client, plain_world}
 pub use Rattle.jn_system.proofs.WholeSystem.Closes.{outcomes-close, Closes, Empty, Stays, Goes, Waits, Forgets, client-closes}
 pub use Rattle.jn_row_ranges.proofs.WorkerFits.{keep_flags, worker-fits, step-fits, weighs-some, length-phase}
 pub use Rattle.jn_base.specs.declared.names.Party.{Party}
 pub use Rattle.jn_system_settling.specs.Settling.Weights.{burden, weight_at, weigh, goings_at, sum_over, going_works}
 pub use Rattle.jn_system.proofs.SmallSteps.Invariant.{Invariant, MayBeFound}
-pub use Rattle.jn_locks.specs.Locks.{work_before}
-pub use Rattle.std.proofs.Math.Path.{fun_ext}
 pub use Rattle.jn_system_order.proofs.Mirroring.StepMoves.{holds-of}
 pub use Rattle.jn_row_ranges.specs.Weighing.{weigh_all, goings}
 pub use Rattle.jn_row_ranges.proofs.CoordinatorFits.{weigh-commits, weigh-all-more, besides-few, few-of, CoordinatorFits, named_at, committed-named, flags_fit, coordinator-fits, close-fits}
 pub use Rattle.jn_system_settling.specs.Settling.Rests.{ComesNext, IsHalt, EachComes, IsBounded, in_two, asked as asked_again, EachInTurn, AreNext, NothingIsLeft, ComeToRest, chances_of, asked, both_parts}
 pub use Rattle.jn_msgs.specs.Weights.{weight}
 pub use Rattle.jn_system.proofs.WholeSystem.Steps.{locks-keep, opening-keeps}
+pub use Rattle.jn_locks.specs.Locks.{work_before}
 pub use Rattle.jn_system_settling.specs.Settling.Events.{line, AreSteps, Event, Does, Settles, Told, after_events}

@@ -1,7 +1,7 @@
 //! Appends numbers and bytes to a text.
 ghost use Rattle.std.specs.Prelude.{◌≡◌, ◌<◌, ◌++◌, decimal, OnOk, OnErr};
 ghost use Rattle.hex.specs.Hex.{encode_lower};
-ghost use Rattle.jn_text.specs.Words.{block_word, without_end_zeros};
+ghost use Rattle.jn_text.specs.Words.{block_word, hex_word, without_end_zeros};
 
 use itoa::Buffer;
 use std::alloc::AllocError;
@@ -34,11 +34,18 @@ pub fn push_hex(out: &mut Vec<u8>, bytes: &[u8]) -> Result<(), AllocError>
     ensures ok { OnOk result (out.new.items ≡ out.old.items ++ block_word bytes.now) }
     ensures err { OnErr result (out.new.items ≡ out.old.items) }
 {
-    let used = before_end_zeros(bytes);
-    if used.is_empty() {
+    push_all_hex(out, before_end_zeros(bytes))
+}
+
+/// Appends bytes as pairs of lower-case hexadecimal digits; `-` where there are none.
+pub fn push_all_hex(out: &mut Vec<u8>, bytes: &[u8]) -> Result<(), AllocError>
+    ensures ok { OnOk result (out.new.items ≡ out.old.items ++ hex_word bytes.now) }
+    ensures err { OnErr result (out.new.items ≡ out.old.items) }
+{
+    if bytes.is_empty() {
         return out.extend_from_slice(b"-");
     }
-    push_pairs(out, used)
+    push_pairs(out, bytes)
 }
 
 /// The bytes without the zeros at their end.

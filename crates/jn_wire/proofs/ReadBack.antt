@@ -296,9 +296,6 @@ told-back s from (bodies.Message m) here h = message-back s from m here h
 told-back s from bodies.Nudge here h = party-back s from 17 [] bodies.Nudge refl refl refl here h refl
 told-back s from (bodies.Timeout t) here h = party-back s from 18 (tid_bytes t) (bodies.Timeout t) refl refl refl here h.0 (timeout-back t h.1)
 
-in-parts : (f : Framed) → body_bytes f ≡ party_bytes f.from ++ (party_bytes f.to ++ carried_bytes f.body)
-in-parts f = refl
-
 pub frame-back : (s : ServerNo) (f : Framed) → IsSent s f → decode s (body_bytes f) ≡ Ok f
 frame-back s f h = subst (λ (x : Party). decode s (party_bytes f.from ++ (party_bytes x ++ carried_bytes f.body)) ≡ Ok (record { from = f.from; to = x; body = f.body }))
     (sym h.to) (told-back s f.from f.body h.server h.body)

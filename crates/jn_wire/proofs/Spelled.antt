@@ -35,9 +35,12 @@ use Rattle.jn_wire.specs.declared.frame.Body.{Body}
 use Rattle.jn_wire.specs.declared.frame.Body.TheVariants as bodies
 use Rattle.jn_wire.specs.declared.frame.Framed.{Framed}
 use Rattle.jn_wire.specs.Fields.{Reading, Got, Wrong, and_then, in_range, byte, number, content, client, sender, request, operation, tid, work, works, works_from, file, block, unit, resource, wrong_length, wrong_party, wrong_kind}
-use Rattle.jn_wire.specs.Spelling.{u8, u32, works_bytes, held_bytes, op_bytes, vote_bytes, carried_bytes, body_bytes, party_bytes, AreBytes, Is32, ClientIn, ServerIn, TidIn, WorkIn, WorksIn, UnitIn, HeldIn, OpIn, VoteIn, IsBy, IsParty, BodyIn, IsSent}
+use Rattle.jn_wire.specs.Spelling.{u32, works_bytes, held_bytes, op_bytes, vote_bytes, carried_bytes, body_bytes, party_bytes, AreBytes, Is32, ClientIn, ServerIn, TidIn, WorkIn, WorksIn, UnitIn, HeldIn, OpIn, VoteIn, IsBy, IsParty, BodyIn, IsSent}
 use Rattle.jn_wire.specs.Decoding.{decode, op, op_of, vote, vote_of, client_body, server_body, any_body, begin_by, open_by, op_by, end_by, abort_by, thanks_by, prepare_in, vote_in, names_in, party_of, is_server, body_by, closed, framed_by, is_taken, is_of_client, is_of_server}
 use Rattle.jn_wire.proofs.Numbers.{back-bytes, number-below, number-again}
+
+abbrev pub u8 : ℕ → List ℕ
+u8 n = n ∷ []
 
 -- ---- what reading took
 

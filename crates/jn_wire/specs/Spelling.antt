@@ -31,9 +31,6 @@ use Rattle.jn_wire.specs.declared.frame.Framed.{Framed}
 
 -- ---- names
 
-abbrev pub u8 : ℕ → List ℕ
-u8 n = n ∷ []
-
 abbrev pub u32 : ℕ → List ℕ
 u32 n = big_bytes 4 n
 

@@ -1,5 +1,6 @@
 -- A going work is carried on.
-use Rattle.jn_worker.proofs.Common.{◌≡◌, ◌≢◌, Bool, true, false, List, [], ◌∷◌, ◌++◌, Option, Some, None, map, refl, sym, ◌∙◌, ap, subst, arith, true≢false, Result, Ok, Err, is_some, not, ◌&&◌, ◌||◌, filter, slice_get, if◌then◌else◌, append-nil, Stopped, Tid, Tickets, WorkId, LockUnit, Server, work_eq, work_tells, change, Intention, intention_change, Read, Commit, Table, IsCompatible, is_unit, unit_eq, unit_tells, Collected, Work, Phase, ActiveWork, Active, Broken, Stored, Prepared, CarryOut, RemoveWork, made_by, is_going, WorkerTable, work_at, without, new_work, carried_row, holds, LocksMatch, are_rising, held_in, is_in, unit_of, StorageView, intentions, state, IsGoing, next_of, StepApplied, CountsOn, WorkRemoved, CallFault, Stops, Memory, WorkerView, Fits, TicketsFit, WorkFits, PhaseFits, WorkListFits, ListFits, are_written, Takes}
+use Rattle.jn_worker.proofs.Common.{◌≡◌, ◌≢◌, Bool, true, false, List, [], ◌∷◌, ◌++◌, Option, Some, None, map, refl, sym, ◌∙◌, ap, subst, arith, true≢false, Result, Ok, Err, is_some, not, ◌&&◌, ◌||◌, filter, if◌then◌else◌, append-nil, Stopped, Tid, Tickets, WorkId, LockUnit, Server, work_eq, work_tells, change, Intention, intention_change, Read, Commit, Table, IsCompatible, is_unit, unit_eq, unit_tells, Collected, Work, Phase, ActiveWork, Active, Broken, Stored, Prepared, CarryOut, RemoveWork, made_by, is_going, WorkerTable, work_at, without, new_work, carried_row, holds, LocksMatch, are_rising, held_in, is_in, unit_of, StorageView, intentions_of, state, IsGoing, next_of, StepApplied, CountsOn, WorkRemoved, CallFault, Stops, Memory, WorkerView, Fits, TicketsFit, WorkFits, PhaseFits, WorkListFits, ListFits, are_written, Takes}
+use Rattle.std.specs.Prelude.{slice_get}
 use Rattle.jn_msgs.specs.declared.message.Message.TheVariants as messages
 use Rattle.jn_storage.proofs.Kept.{AreApart, prepared-carried}
 use Rattle.jn_worker.proofs.Counts.{counts_on, counts_off}
@@ -62,7 +63,7 @@ fits_carried t v w l W i h locks compatible going next s = record {
             with_work None m g o at = absurd (cc g)
             with_work (Some q) m g None at = absurd (subst (λ p. WorkFits None p) m (subst (λ o. WorkFits o ((state v).works W)) at (h.stored W)))
             with_work (Some q) m g (Some w) at = record {
-              prepared = prepared-carried i (v.accounts.next W) (state v).files q.list a.list a.reads (sym (ap (λ p. slice_get (intentions p) (v.accounts.next W)) m) ∙ next)
+              prepared = prepared-carried i (v.accounts.next W) (state v).files q.list a.list a.reads (sym (ap (λ p. slice_get (intentions_of p) (v.accounts.next W)) m) ∙ next)
                   (apart-locks t.table l W V w x q a locks compatible (other w at here) at here e p) f.prepared;
               writes = f.writes;
             }

@@ -1,18 +1,18 @@
 -- The names from below that these proofs cite, passed on from one place. Declares nothing.
-pub use Rattle.std.proofs.Common.{◌≡◌, ◌≤◌, ℕ, zero, suc, true, List, [], ◌∷◌, ◌++◌, length, drop, refl, sym, ◌∙◌, ap, arith, ◌≢◌, Bool, false, Option, Some, None, map, subst, true≢false, inl, inr, ◌<◌, take, slice_index_or}
+pub use Rattle.std.proofs.Common.{◌≡◌, ◌≤◌, ℕ, zero, suc, true, List, [], ◌∷◌, ◌++◌, length, drop, refl, sym, ◌∙◌, ap, arith, ◌≢◌, Bool, false, Option, Some, None, map, subst, true≢false, inl, inr, ◌<◌, slice_get, take, slice_index_or}
 pub use Rattle.std.proofs.lemmas.List.{append-nil, take_at, take_more, with_items_is}
 pub use Rattle.jn_base.specs.declared.names.WorkId.{WorkId}
 pub use Rattle.jn_base.specs.Names.{work_eq, unit_eq, tid_eq, file_eq}
 pub use Rattle.jn_msgs.specs.Collected.{Collected}
 pub use Rattle.jn_rows.specs.declared.worker.Work.{Work}
 pub use Rattle.jn_rows.specs.Stable.{StableState, is_going, Prepared, at_work, ready_work, CarryOut, RemoveWork, made_by, Change, AddReady, next_after, MarkGoing, Changed, ChangedAll, Pick, gone_on, is_ready}
-pub use Rattle.jn_rows.specs.Worker.{worker_again, WorkerTable, work_at, wanted, holds, commit_wants, conflict, holder_at, held_by, collides_at, gives_way, without, new_work, carried_row, WorkStorage, commit_row, commit_phase, drop_row, drop_phase, with_phase, after_grant, Asked, Here, op_row, op_phase, performed, repeated, granted_row, refusal_of, past_limit, first_of_two, locked, wants_of, with_units, units_for, is_fit, counted, done, Wanted, work_of, breaks_at, broken_by, name_from, open_row, vote_of, shortage, need_in, prepared_row, prepare_phase, prepare_row, worker_row, going_work, intentions_of, going_row, worker_step, vulnerable, timed_out, timeout_row, break_notes, collision, note_of, voted, replies, written_unit, restored_work, restored_worker, with_unit, Held}
+pub use Rattle.jn_rows.specs.Worker.{worker_again, WorkerTable, work_at, wanted, holds, commit_wants, conflict, holder_at, held_by, collides_at, gives_way, without, new_work, carried_row, intentions_of, WorkStorage, commit_row, commit_phase, drop_row, drop_phase, with_phase, after_grant, Asked, Here, op_row, op_phase, performed, repeated, granted_row, refusal_of, past_limit, first_of_two, locked, wants_of, with_units, units_for, is_fit, counted, done, Wanted, work_of, breaks_at, broken_by, name_from, open_row, vote_of, shortage, need_in, prepared_row, prepare_phase, prepare_row, worker_row, going_work, going_row, worker_step, vulnerable, timed_out, timeout_row, break_notes, collision, note_of, voted, replies, written_unit, restored_work, restored_worker, with_unit, Held}
 pub use Rattle.jn_storage.specs.Listing.{is_in, are_different, AtMost}
 pub use Rattle.jn_storage.specs.Storage.{StorageView, Accounts, IsServing, IsRecovered}
 pub use Rattle.jn_storage.specs.Calls.{state, MayPrepare, IsGoing, next_of, StepApplied, CountsOn, WorkRemoved, with_work, CountsOff, CountsErased, MarkedGoing, Called, IsReady, name_of, outline, outline_of, IsTold, TellsWorks, RecordErased, WorkPrepared, reached, first_short, shortage as storage_shortage}
 pub use Rattle.jn_worker.specs.Fitting.{WorkerView, Fits, WorkFits, PhaseFits, WorkListFits, ListFits, is_stored, TicketsFit, are_written, is_none, seen, ActiveFits, is_active, is_active_phase, NameFits}
 pub use Rattle.jn_worker.specs.Calls.{asked_again, AsksAgain, Takes, CountsBy, HoldsBy, Settles, settled, told_breaks, told_of, has_stopped, Granted, locked_by, vote_inactive, Steps, head_of, TimesOut, Stores}
-pub use Rattle.std.specs.Prelude.{◌+◌, not, if◌then◌else◌, ◌&&◌, ◌||◌, is_some, Result, Ok, Err, filter, slice_get, ◌⊎◌, nat_eq, nat_lt, All, is_ok}
+pub use Rattle.std.specs.Prelude.{◌+◌, not, if◌then◌else◌, ◌&&◌, ◌||◌, is_some, Result, Ok, Err, filter, ◌⊎◌, nat_eq, nat_lt, All, is_ok}
 pub use Rattle.jn_base.specs.declared.names.LockUnit.{LockUnit}
 pub use Rattle.jn_base.proofs.Tells.{work_tells, file_tells}
 pub use Rattle.jn_records.specs.declared.work.WorkHead.{WorkHead}
@@ -27,7 +27,7 @@ pub use Rattle.jn_rows.specs.declared.worker.PreparedWork.{PreparedWork}
 pub use Rattle.jn_rows.specs.declared.worker.Phase.TheVariants.{Active, Broken, Prepared as Stored}
 pub use Rattle.jn_lock_rows.specs.Matching.{LocksMatch, are_rising, is_before, held_in, is_after, standing_in, standing_of, is_ordered, are_ordered, GoTogether, units_of, is_name_after}
 pub use Rattle.jn_lock_rows.proofs.Works.{none-behind, work_is, found-name, work_same, not-before, found-behind, at-less, in_phase, at-phase, at-grant, once_granted, at-more, none-front}
-pub use Rattle.jn_storage.specs.Orderly.{IsOrderly, IsPrepared, IsGiven, unit_of, intentions, list_of, needed, needs_file, takes_away, first_of, unit_by}
+pub use Rattle.jn_storage.specs.Orderly.{IsOrderly, IsPrepared, IsGiven, unit_of, list_of, needed, needs_file, takes_away, first_of, unit_by}
 pub use Rattle.jn_storage.proofs.Listings.{listing-more, but, is_in-but, length-but}
 pub use Rattle.jn_base.specs.declared.device.Stopped.{Stopped}
 pub use Rattle.jn_base.specs.declared.names.Tid.{Tid}

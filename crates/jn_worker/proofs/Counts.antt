@@ -1,5 +1,5 @@
 -- What a row's changes leave of the accounts.
-use Rattle.jn_worker.proofs.Common.{◌≡◌, ℕ, Bool, true, false, List, [], ◌∷◌, length, Option, Some, None, if◌then◌else◌, refl, sym, ◌∙◌, ap, subst, arith, inl, inr, not, ◌+◌, ◌⊎◌, ◌||◌, LockUnit, Tid, WorkId, work_eq, work_is, Intention, WorkHead, ActiveWork, Active, Change, StableState, Prepared, AddReady, CarryOut, RemoveWork, next_after, IsActive, is_in, Accounts, StorageView, intentions, list_of, state, with_work, CountsOn, CountsOff, CountsErased, is_none, WorkerView, Fits, WorkFits, PhaseFits, CountsBy, Beside, beside_of, left_by, needed, HoldsBy}
+use Rattle.jn_worker.proofs.Common.{◌≡◌, ℕ, Bool, true, false, List, [], ◌∷◌, length, Option, Some, None, if◌then◌else◌, refl, sym, ◌∙◌, ap, subst, arith, inl, inr, not, ◌+◌, ◌⊎◌, ◌||◌, LockUnit, Tid, WorkId, work_eq, work_is, Intention, WorkHead, ActiveWork, Active, Change, StableState, Prepared, AddReady, CarryOut, RemoveWork, next_after, IsActive, is_in, Accounts, StorageView, intentions_of, list_of, state, with_work, CountsOn, CountsOff, CountsErased, is_none, WorkerView, Fits, WorkFits, PhaseFits, CountsBy, Beside, beside_of, left_by, needed, HoldsBy}
 use Rattle.std.proofs.Math.Path.{fun_ext}
 use Rattle.jn_records.specs.MapPlaces.{lacking}
 
@@ -46,7 +46,7 @@ pub none_carried : (t : WorkerView) (v : StorageView) (T : Tid) (W : WorkId) (a 
 none_carried t v T W a h i = let few = h.serving.next_fits W in
     omega (arith, few, none ((state v).works W) (subst (λ phase. PhaseFits phase i.work.tid ((state v).works W)) i.phase (subst (λ o. WorkFits o ((state v).works W)) i.found (h.stored W))))
   where
-    none : (p : Option Prepared) → PhaseFits (Active a) i.work.tid p → length (intentions p) ≡ 0
+    none : (p : Option Prepared) → PhaseFits (Active a) i.work.tid p → length (intentions_of p) ≡ 0
     none None f = refl
     none (Some p) f = absurd f
 

@@ -1,6 +1,6 @@
 -- Each row of a worker keeps what holds of each work's phase, and its changes are allowed, whatever these are.
-use Rattle.jn_worker.proofs.Common.{◌≡◌, Bool, true, false, List, [], ◌∷◌, ◌++◌, length, Option, Some, None, refl, subst, arith, AllByRecursion, list_all, ClientNo, LockUnit, Tid, Tickets, WorkId, Answer, Op, tid_eq, work_eq, Message, Vote, answer_to, change, Intention, list_change, ActiveWork, Phase, Active, Broken, Stored, Work, RowOutcome, Change, AddReady, MarkGoing, CarryOut, RemoveWork, is_going, WorkerTable, WorkStorage, Wanted, work_at, work_of, with_phase, without, wants_of, is_fit, counted, done, breaks_at, broken_by, after_grant, name_from, new_work, open_row, granted_row, refusal_of, repeated, op_phase, Asked, Here, op_row, conflict, commit_wants, vote_of, shortage, need_in, prepared_row, prepare_phase, prepare_row, commit_phase, commit_row, drop_phase, drop_row, worker_row, going_work, intentions_of, carried_row, going_row, worker_step, vulnerable, timed_out, timeout_row, BlockInRange, RequestNo, InRange, most_works}
-use Rattle.std.proofs.Common.{◌+◌, if◌then◌else◌, nat_eq, nat_lt, slice_get}
+use Rattle.jn_worker.proofs.Common.{◌≡◌, Bool, true, false, List, [], ◌∷◌, ◌++◌, length, Option, Some, None, refl, subst, arith, AllByRecursion, list_all, ClientNo, LockUnit, Tid, Tickets, WorkId, Answer, Op, tid_eq, work_eq, Message, Vote, answer_to, change, Intention, list_change, ActiveWork, Phase, Active, Broken, Stored, Work, RowOutcome, Change, AddReady, MarkGoing, CarryOut, RemoveWork, is_going, WorkerTable, WorkStorage, Wanted, work_at, work_of, with_phase, without, wants_of, is_fit, counted, done, breaks_at, broken_by, after_grant, name_from, new_work, open_row, granted_row, refusal_of, repeated, op_phase, Asked, Here, op_row, conflict, commit_wants, vote_of, shortage, need_in, prepared_row, prepare_phase, prepare_row, commit_phase, commit_row, drop_phase, drop_row, worker_row, going_work, intentions_of, carried_row, going_row, worker_step, vulnerable, timed_out, timeout_row, BlockInRange, RequestNo, InRange, most_works, slice_get}
+use Rattle.std.proofs.Common.{◌+◌, if◌then◌else◌, nat_eq, nat_lt}
 use Rattle.jn_msgs.specs.declared.message.Message.TheVariants as messages
 use Rattle.jn_msgs.specs.declared.message.Vote.TheVariants as votes
 

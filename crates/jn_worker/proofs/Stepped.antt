@@ -1,5 +1,5 @@
 -- A step without a message.
-use Rattle.jn_worker.proofs.Common.{◌≡◌, ℕ, Bool, true, false, List, [], ◌∷◌, Option, Some, None, refl, sym, ◌∙◌, ap, subst, arith, true≢false, Result, Ok, Err, is_ok, is_some, not, ◌||◌, slice_get, if◌then◌else◌, append-nil, Stopped, Tickets, WorkId, work_eq, Intention, Collected, Work, RowOutcome, quiet, StableState, Prepared, is_going, WorkerTable, work_at, new_work, carried_row, going_work, going_row, worker_step, intentions_of, are_rising, is_in, StorageView, intentions, state, next_of, Called, RecordErased, CountsErased, IsGoing, CallFault, Stops, Memory, WorkerView, Fits, TicketsFit, WorkFits, WorkListFits, seen, is_none, going_in, Takes, Steps, has_stopped, whole-stop}
+use Rattle.jn_worker.proofs.Common.{◌≡◌, ℕ, Bool, true, false, List, [], ◌∷◌, Option, Some, None, refl, sym, ◌∙◌, ap, subst, arith, true≢false, Result, Ok, Err, is_ok, is_some, not, ◌||◌, if◌then◌else◌, append-nil, Stopped, Tickets, WorkId, work_eq, Intention, Collected, Work, RowOutcome, quiet, StableState, is_going, WorkerTable, work_at, new_work, carried_row, going_work, going_row, worker_step, are_rising, is_in, StorageView, state, next_of, Called, RecordErased, CountsErased, IsGoing, CallFault, Stops, Memory, WorkerView, Fits, TicketsFit, WorkFits, WorkListFits, seen, is_none, going_in, Takes, Steps, has_stopped, whole-stop}
 use Rattle.jn_rows.specs.Performing.{Performs}
 use Rattle.jn_fields.specs.Reading.{Gives}
 use Rattle.jn_worker.proofs.Edits.{going_by_name}
@@ -105,13 +105,9 @@ carried-same : (t : WorkerTable) (k : Tickets) (w : Work) (o : Option Intention)
 carried-same t k w None = refl
 carried-same t k w (Some i) = refl
 
-same-list : (p : Option Prepared) → intentions_of p ≡ intentions p
-same-list None = refl
-same-list (Some p) = refl
-
 one-going : (t : WorkerView) (v : StorageView) (k : Tickets) (w : Work) → Fits t v → going_in t.going t.table ≡ Some w → worker_step t.table (seen v) k ≡ Some (carried_row t.table k (new_work w.name w.tid) (next_of v w.name))
 one-going t v k w h found = ap (λ o. going_row t.table (seen v) k o) (sym (going-same t.going (state v) t.table h.going) ∙ found)
-    ∙ ap (λ r. Some r) (carried-same t.table k w _ ∙ ap (λ l. carried_row t.table k (new_work w.name w.tid) (slice_get l (v.accounts.next w.name))) (same-list ((state v).works w.name)))
+    ∙ ap (λ r. Some r) (carried-same t.table k w _)
 
 -- whether a step is left
 pub some_given : {X Y : Type 0} (view : X → Y) (o : Option X) (r : Option Y) → Gives view o r → is_some o ≡ is_some r

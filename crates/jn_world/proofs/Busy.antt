@@ -94,10 +94,6 @@ module _ {S : Type 0} (look : S → StoreView) (device : S → DeviceState) (see
   tells-false q ps true is h = absurd (true≢false is)
   tells-false q ps false is h = h
 
-  -- none before the first, and one more
-  pub idle-none : (ps : List (Place S)) → AreIdleBelow look device 0 ps
-  idle-none ps i p less at = absurd (omega (arith, less))
-
   pub idle-more : (n : ℕ) (ps : List (Place S)) → AreIdleBelow look device n ps → ((p : Place S) → slice_get ps n ≡ Some p → IsIdleAt look device p) → AreIdleBelow look device (n + 1) ps
   idle-more n ps before here i p less at = by (below i n less)
     where
@@ -181,6 +177,7 @@ module _ {S : Type 0} (look : S → StoreView) (device : S → DeviceState) (see
       eight = stands.eight;
       clients = stands.clients;
       other_clients = stands.other_clients;
+      tables = stands.tables;
       net = stands.net;
       named = stands.named;
       commits = stands.commits;

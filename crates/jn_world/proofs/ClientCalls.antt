@@ -1,9 +1,9 @@
 -- What a call of a client does, and its messages, is an event of the written machine.
-use Rattle.jn_world.proofs.Common.{posted_by, ◌≡◌, ◌<◌, ℕ, zero, suc, ◌+◌, ◌-◌, true, false, List, [], ◌∷◌, ◌++◌, length, append-nil, Option, Some, None, Result, refl, sym, ◌∙◌, ap, subst, arith, set, nat_tests, slice_get-get_or, drop, slice_get, ClientNo, Client, Command, DeviceState, Carried, with_delivered, Taken, Posted, sent_now, Line, Text, When, AtEvent, ClientTable, Commanded, Refuses, command_row, take_row, again_row, new_table, Sent, IsStepTo, Standing, is_client_number, with_sent, pairs_view, StoreView, sent_for, Ended, DoesEvent, EndsStep, IsSentTo, lines_at, message_texts, traced, Stage, InSchedule, AtEnd, CutShort, when_at, when_of, none-traced}
+use Rattle.jn_world.proofs.Common.{posted_by, ◌≡◌, ◌<◌, ℕ, zero, suc, ◌+◌, ◌-◌, true, false, List, [], ◌∷◌, ◌++◌, length, append-nil, Option, Some, None, Result, refl, sym, ◌∙◌, ap, subst, arith, set, nat_tests, slice_get-get_or, drop, slice_get, ClientNo, Client, Command, DeviceState, Carried, with_delivered, Taken, Posted, sent_now, Line, Text, When, AtEvent, ClientTable, Commanded, Refuses, command_row, take_row, again_row, new_table, Sent, IsStepTo, Standing, is_client_number, with_sent, pairs_view, StoreView, sent_for, Ended, DoesEvent, EndsStep, IsSentTo, lines_at, message_texts, traced, Stage, InSchedule, AtEnd, CutShort, when_at, when_of, none-traced, texts_taken, texts_commanded}
 use Rattle.std.proofs.Math.ListN.{get_or}
 use Rattle.jn_report.specs.declared.line.Text.TheVariants as says
 use Rattle.jn_schedule.specs.declared.Event.TheVariants as events
-use Rattle.jn_world_refines.specs.Clients.{with_client, texts_taken, texts_commanded, sent_commanded}
+use Rattle.jn_world_refines.specs.Clients.{with_client, sent_commanded}
 use Rattle.jn_rows.specs.ClientLaws.{after_command}
 use Rattle.jn_world_refines.proofs.ClientSteps.{client-took-step, other-took-step}
 use Rattle.jn_world_refines.proofs.Commands.{told-step, asked-step}

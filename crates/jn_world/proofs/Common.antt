@@ -38,7 +38,7 @@ pub use Rattle.jn_world.specs.Naming.{newly_named, restart_texts, has_come}
 pub use Rattle.jn_world.specs.Written.{standing_of, DoesEvent, DoesTasks, is_going, EndsStep, GoesTo, TakesTurn, IsSentTo, EndsPart, Starts, AreStoresOf, GivesImage, IsClosed, Closes, KeepsOn, DoesScheduled, GoesTurn}
 pub use Rattle.jn_machine.specs.Chances.{Setup, Chance, physical_pages}
 pub use Rattle.jn_machine.specs.Runs.{Moment, none, DoesStep, more, Leads}
-pub use Rattle.jn_machine.specs.Steps.{lines_at, message_texts, traced, is_too_much, come_to, cut_short, made_to}
+pub use Rattle.jn_report.specs.Lines.{lines_at}
 pub use Rattle.jn_machine.specs.Tasks.{Task, ComesUp, when_of, Meets, Stage, when_at, InSchedule, AtEnd, CutShort, ClosesClients, CountsCommits, Acts, Begins, GoesDown, Dismisses, next_at, Rests, State, begun, next_task}
 pub use Rattle.jn_page_state.specs.Recoverable.{IsRecoverable}
 pub use Rattle.jn_server.specs.Counted.{CountsAll}
@@ -74,7 +74,9 @@ pub use Rattle.jn_report.specs.declared.line.When.TheVariants.{Event as AtEvent,
 pub use Rattle.jn_rows.specs.Client.{ClientTable, Commanded, Refuses, command_row, take_row, again_row, new_table, over, Sends, sent_again}
 pub use Rattle.jn_rows.specs.Outcomes.{Sent}
 pub use Rattle.jn_row_ranges.specs.Taking.{sent_for, AllCanBeTaken, ClientFits, CommandFits}
+pub use Rattle.jn_machine.specs.Steps.{message_texts, traced, is_too_much, come_to, cut_short, made_to}
 pub use Rattle.jn_world_refines.proofs.Posted.{none-traced, lines-append}
+pub use Rattle.jn_machine.specs.Deeds.{texts_taken, texts_commanded, Deed, nothing, served, working_steps, given_up, delivered, delivered_at, worked, is_busy, room, stopped_idle, scrubbed, showing, crashed_at, recovering, recovered, is_used_up, restarted, brought_up}
 pub use Rattle.jn_row_ranges.proofs.Taking.{over-fits, command-fits, command-draws, take-fits, take-number, new-fits}
 pub use Rattle.jn_world_refines.proofs.Crashing.{down-already-step, crashed-step}
 pub use Rattle.jn_world_refines.proofs.Dismissing.{there-is, dismissed-step}

@@ -18,17 +18,6 @@ ends-unsent fault (Ok a) w now lines wanted many is which = absurd (true≢false
 ends-unsent {S} {A} Limit (Err e) w now lines wanted many is which = subst (λ (f : Ended). EndsStep {S = S} {A = A} (Err f) w now lines wanted lines) (sym which) (many refl, refl)
 ends-unsent {S} {A} NoMemory (Err e) w now lines wanted many is which = subst (λ (f : Ended). EndsStep {S = S} {A = A} (Err f) w now lines wanted lines) (sym which) tt
 
--- the end of a step, of which the last part is this
-pub part-ends : {S A B : Type 0} (r : Result A Ended) (s : Result B Ended) (e : Ended) (w now : Standing S) (wanted first later all : List Line) → r ≡ Err e → IsErr s → IsErrAnd s (λ f. f ≡ e) → EndsPart r w now wanted later → EndsStep s w now first all first
-part-ends r (Ok b) e w now wanted first later all was is which h = absurd (true≢false (sym is))
-part-ends {S} {A} {B} r (Err f) e w now wanted first later all was is which h =
-    subst (λ (g : Ended). EndsStep {S = S} {A = B} (Err g) w now first all first) (sym which) (by e (subst (λ (s : Result A Ended). EndsPart s w now wanted later) was h))
-  where
-    by : (e : Ended) → EndsPart {S = S} {A = A} (Err e) w now wanted later → EndsStep {S = S} {A = B} (Err e) w now first all first
-    by Messages h = (h, refl)
-    by (Epoch q) h = h
-    by Memory h = tt
-
 pub part-as : {S A : Type 0} (r : Result A Ended) (w v now : Standing S) (wanted other later : List Line) → w ≡ v → wanted ≡ other → EndsPart r w now wanted later → EndsPart r v now other later
 part-as {S} r w v now wanted other later same lines h = subst (λ (u : Standing S). EndsPart r u now other later) same (subst (λ (l : List Line). EndsPart r w now l later) lines h)
 

@@ -1,12 +1,11 @@
 -- The event under way changes only as one begins.
-use Rattle.jn_world.proofs.Common.{◌≡◌, ℕ, ◌+◌, Bool, true, false, List, [], ◌∷◌, ◌++◌, map, drop, Option, Some, None, is_some, true≢false, refl, sym, ◌∙◌, ap, subst, arith, if◌then◌else◌, slice_get, ClientNo, ServerNo, Client, Server, EventRefusal, Sent, Pick, Event, clients_from, handing, working, is_going, Setup, Chance, EpochsUsedUp, acted, met, resting, deed_of, settling, asking, servers_of, next_in, refusal_of, none, more, Moment, DoesStep, Leads, is_too_much, come_to, cut_short, made_to, Task, Begins, Meets, Acts, Rests, ComesUp, Dismisses, GoesDown, ClosesClients, CountsCommits, Stage, InSchedule, AtEnd, CutShort, State, begun, next_at, Left}
+use Rattle.jn_world.proofs.Common.{◌≡◌, ℕ, ◌+◌, Bool, true, false, List, [], ◌∷◌, ◌++◌, map, drop, Option, Some, None, is_some, true≢false, refl, sym, ◌∙◌, ap, subst, arith, if◌then◌else◌, slice_get, ClientNo, ServerNo, Client, Server, EventRefusal, Sent, Pick, Event, clients_from, handing, working, is_going, Setup, Chance, EpochsUsedUp, acted, met, resting, deed_of, settling, asking, servers_of, next_in, refusal_of, none, more, Moment, DoesStep, Leads, is_too_much, come_to, cut_short, made_to, Task, Begins, Meets, Acts, Rests, ComesUp, Dismisses, GoesDown, ClosesClients, CountsCommits, Stage, InSchedule, AtEnd, CutShort, State, begun, next_at, Left, ClientTable, Deed, nothing, served, working_steps, given_up, delivered, delivered_at, worked, is_busy, room, stopped_idle, scrubbed, showing, crashed_at, recovering, recovered, is_used_up, restarted, brought_up}
 use Rattle.jn_storage.specs.DeviceCalls.{step_calls}
 use Rattle.jn_system.specs.WholeSystem.Steps.{Step}
 use Rattle.jn_system.specs.WholeSystem.World.{World, Memory}
 use Rattle.jn_schedule.specs.declared.Event.TheVariants as events
 use Rattle.jn_system.specs.WholeSystem.Course.{Course, go, go_on}
 use Rattle.jn_report.specs.declared.line.Text.TheVariants as says
-use Rattle.jn_machine.specs.Deeds.{Deed, nothing, served, working_steps, given_up, delivered, delivered_at, worked, is_busy, room, stopped_idle, scrubbed, showing, crashed_at, recovering, recovered, is_used_up, restarted, brought_up}
 use Rattle.jn_machine.proofs.Telling.{adds, event_after}
 
 -- how many events are still to begin
@@ -78,10 +77,10 @@ module _ (n : ℕ) where
   recovering-same h q None = refl
   recovering-same h q (Some made) = refl
 
-  delivered-counts : (h : Chance) (k : ℕ) (w : World) (o : Option Sent) → Counts n n (delivered h k w o)
-  delivered-counts h k w None = plain-counts (delivered h k w None) refl refl
-  delivered-counts h k w (Some (Client c, message)) = plain-counts (delivered h k w (Some (Client c, message))) refl refl
-  delivered-counts h k w (Some (Server q, message)) = at (w.memory q)
+  delivered-counts : (h : Chance) (k : ℕ) (t : ClientNo → ClientTable) (w : World) (o : Option Sent) → Counts n n (delivered h k t w o)
+  delivered-counts h k t w None = plain-counts (delivered h k t w None) refl refl
+  delivered-counts h k t w (Some (Client c, message)) = plain-counts (delivered h k t w (Some (Client c, message))) refl refl
+  delivered-counts h k t w (Some (Server q, message)) = at (w.memory q)
     where
       at : (o : Option Memory) → Counts n n (delivered_at h k q o)
       at None = plain-counts (delivered_at h k q None) refl refl
@@ -112,41 +111,42 @@ module _ (n : ℕ) where
       by true = plain-counts (served q step_calls (working_steps h q)) (working-same h q h.stop) refl
       by false = plain-counts nothing refl refl
 
-  acted-counts : (x : Setup) (h : Chance) (event : Event) (w : World) → Counts n n (acted x h event w)
-  acted-counts x h (events.Command c command) w = plain-counts (acted x h (events.Command c command) w) refl refl
-  acted-counts x h (events.Again c) w = plain-counts (acted x h (events.Again c) w) refl refl
-  acted-counts x h (events.Deliver k) w = delivered-counts h k w (slice_get w.sent k)
-  acted-counts x h events.Settle w = plain-counts (acted x h events.Settle w) refl (settling-begins x)
-  acted-counts x h (events.Step q) w = worked-counts h q w
-  acted-counts x h (events.Nudge q) w = plain-counts (acted x h (events.Nudge q) w) refl refl
-  acted-counts x h (events.Timeout q T) w = plain-counts (acted x h (events.Timeout q T) w) refl refl
-  acted-counts x h (events.Scrub q) w = plain-counts (scrubbed h q) (stopped-same q h.stop) refl
-  acted-counts x h (events.Decay q p) w = plain-counts (acted x h (events.Decay q p) w) refl refl
-  acted-counts x h (events.Revive q p) w = plain-counts (acted x h (events.Revive q p) w) refl refl
-  acted-counts x h (events.Arm q a kind) w = plain-counts (acted x h (events.Arm q a kind) w) refl refl
-  acted-counts x h (events.Crash q) w = crashed-counts q (w.memory q)
-  acted-counts x h (events.Restart q) w = restarted-counts h q w
-  acted-counts x h (events.Show q) w = plain-counts (showing h q) (stopped-same q h.stop) refl
+  acted-counts : (x : Setup) (h : Chance) (event : Event) (t : ClientNo → ClientTable) (w : World) → Counts n n (acted x h event t w)
+  acted-counts x h (events.Command c command) t w = plain-counts (acted x h (events.Command c command) t w) refl refl
+  acted-counts x h (events.Call c s call) t w = plain-counts (acted x h (events.Call c s call) t w) refl refl
+  acted-counts x h (events.Again c) t w = plain-counts (acted x h (events.Again c) t w) refl refl
+  acted-counts x h (events.Deliver k) t w = delivered-counts h k t w (slice_get w.sent k)
+  acted-counts x h events.Settle t w = plain-counts (acted x h events.Settle t w) refl (settling-begins x)
+  acted-counts x h (events.Step q) t w = worked-counts h q w
+  acted-counts x h (events.Nudge q) t w = plain-counts (acted x h (events.Nudge q) t w) refl refl
+  acted-counts x h (events.Timeout q T) t w = plain-counts (acted x h (events.Timeout q T) t w) refl refl
+  acted-counts x h (events.Scrub q) t w = plain-counts (scrubbed h q) (stopped-same q h.stop) refl
+  acted-counts x h (events.Decay q p) t w = plain-counts (acted x h (events.Decay q p) t w) refl refl
+  acted-counts x h (events.Revive q p) t w = plain-counts (acted x h (events.Revive q p) t w) refl refl
+  acted-counts x h (events.Arm q a kind) t w = plain-counts (acted x h (events.Arm q a kind) t w) refl refl
+  acted-counts x h (events.Crash q) t w = crashed-counts q (w.memory q)
+  acted-counts x h (events.Restart q) t w = restarted-counts h q w
+  acted-counts x h (events.Show q) t w = plain-counts (showing h q) (stopped-same q h.stop) refl
 
-  met-counts : (x : Setup) (h : Chance) (event : Event) (w : World) (o : Option EventRefusal) → Counts n n (met x h event w o)
-  met-counts x h event w None = acted-counts x h event w
-  met-counts x h event w (Some r) = plain-counts (met x h event w (Some r)) refl refl
+  met-counts : (x : Setup) (h : Chance) (event : Event) (t : ClientNo → ClientTable) (w : World) (o : Option EventRefusal) → Counts n n (met x h event t w o)
+  met-counts x h event t w None = acted-counts x h event t w
+  met-counts x h event t w (Some r) = plain-counts (met x h event t w (Some r)) refl refl
 
-  rests-counts : (x : Setup) (h : Chance) (w : World) (o : Option Event) → Counts n n (resting x h w o)
-  rests-counts x h w None = plain-counts (resting x h w None) refl refl
-  rests-counts x h w (Some event) = let own = acted-counts x h event w in plain-counts (resting x h w (Some event)) own.steps refl
+  rests-counts : (x : Setup) (h : Chance) (t : ClientNo → ClientTable) (w : World) (o : Option Event) → Counts n n (resting x h t w o)
+  rests-counts x h t w None = plain-counts (resting x h t w None) refl refl
+  rests-counts x h t w (Some event) = let own = acted-counts x h event t w in plain-counts (resting x h t w (Some event)) own.steps refl
 
   deed-counts : (x : Setup) (h : Chance) (task : Task) (s : State) → Counts n (n + begins_in task) (deed_of x h task s)
   deed-counts x h (Begins event) s = record { steps = refl; tasks = refl }
-  deed-counts x h (Meets event) s = wide (met-counts x h event s.course.world (refusal_of x s.course.world event))
+  deed-counts x h (Meets event) s = wide (met-counts x h event s.clients s.course.world (refusal_of x s.course.world event))
     where
       wide : Counts n n (deed_of x h (Meets event) s) → Counts n (n + 0) (deed_of x h (Meets event) s)
       wide c = let steps = c.steps in record { steps = omega arith; tasks = c.tasks }
-  deed-counts x h (Acts event) s = wide (acted-counts x h event s.course.world)
+  deed-counts x h (Acts event) s = wide (acted-counts x h event s.clients s.course.world)
     where
       wide : Counts n n (deed_of x h (Acts event) s) → Counts n (n + 0) (deed_of x h (Acts event) s)
       wide c = let steps = c.steps in record { steps = omega arith; tasks = c.tasks }
-  deed-counts x h Rests s = wide (rests-counts x h s.course.world (next_in x h.rubbish s.course))
+  deed-counts x h Rests s = wide (rests-counts x h s.clients s.course.world (next_in x h.rubbish s.course))
     where
       wide : Counts n n (deed_of x h Rests s) → Counts n (n + 0) (deed_of x h Rests s)
       wide c = let steps = c.steps in record { steps = omega arith; tasks = c.tasks }

@@ -26,6 +26,7 @@ module _ {S : Type 0} (look : S → StoreView) (device : S → DeviceState) (w :
   befalls-nothing (events.Revive s p) its none x m stands = ap (λ (r : ServerNo). refusal_of x m.state.course.world (events.Revive r p)) its ∙ not-there look device x w m stands q (unless (nat_lt p (physical_pages x q)) refusals.NoSuchPage None) none
   befalls-nothing (events.Arm s n kind) its none x m stands = ap (λ (r : ServerNo). refusal_of x m.state.course.world (events.Arm r n kind)) its ∙ not-there look device x w m stands q (unless (is_within (physical_pages x q) kind) refusals.NoSuchPage None) none
   befalls-nothing (events.Command c command) its none x m stands = absurd its
+  befalls-nothing (events.Call c s call) its none x m stands = absurd its
   befalls-nothing (events.Again c) its none x m stands = absurd its
   befalls-nothing (events.Deliver k) its none x m stands = absurd its
   befalls-nothing events.Settle its none x m stands = absurd its

@@ -65,6 +65,7 @@ module _ {S : Type 0} (look : S → StoreView) (device : S → DeviceState) wher
   at-up x v q (events.Crash s) h = ap (λ (r : ServerNo). if_up x r v None) h
   at-up x v q (events.Show s) h = ap (λ (r : ServerNo). if_up x r v None) h
   at-up x v q (events.Command c command) h = absurd h
+  at-up x v q (events.Call c s call) h = absurd h
   at-up x v q (events.Again c) h = absurd h
   at-up x v q (events.Deliver k) h = absurd h
   at-up x v q events.Settle h = absurd h

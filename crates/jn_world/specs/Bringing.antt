@@ -19,7 +19,7 @@ use Rattle.jn_world_refines.specs.Restarting.{texts_restarted}
 use Rattle.jn_world_refines.specs.Stands.{Standing, with_named}
 use Rattle.jn_store.specs.Store.{StoreView}
 use Rattle.jn_world.specs.Naming.{has_come}
-use Rattle.jn_machine.specs.Steps.{lines_at}
+use Rattle.jn_report.specs.Lines.{lines_at}
 
 -- where no epoch is left nothing is reported yet
 abbrev pub texts_so_far : ServerNo → (Tid → Bool) → Restarted → List Text

@@ -5,7 +5,7 @@ ghost use Rattle.jn_net.specs.Carried.{with_delivered};
 ghost use Rattle.jn_report.specs.declared.line.When.TheVariants.{Event as AtEvent};
 ghost use Rattle.jn_rows.specs.Client.{new_table, take_row};
 ghost use Rattle.jn_schedule.specs.declared.Event.TheVariants as events;
-ghost use Rattle.jn_world_refines.specs.Clients.{texts_taken};
+ghost use Rattle.jn_machine.specs.Deeds.{texts_taken};
 ghost use Rattle.jn_world_refines.specs.Stands.{is_client_number, posted_by, with_sent};
 ghost use Rattle.jn_row_ranges.specs.Taking.{sent_for, AllCanBeTaken};
 ghost use Rattle.jn_base.specs.Ops.{CommandInRange};
@@ -14,7 +14,8 @@ ghost use Rattle.jn_world.specs.Opening.{AreNew};
 ghost use Rattle.jn_world.specs.Settling.{handed};
 ghost use Rattle.jn_world.specs.Standing.{IsWorld, IsClientOf};
 ghost use Rattle.jn_world.specs.Written.{DoesEvent, EndsStep, IsSentTo, standing_of};
-ghost use Rattle.jn_machine.specs.Steps.{lines_at, message_texts, traced, most_messages};
+ghost use Rattle.jn_machine.specs.Steps.{message_texts, traced, most_messages};
+ghost use Rattle.jn_report.specs.Lines.{lines_at};
 
 use crate::ended::Ended;
 use crate::world::{CLIENTS, World, is_client_number};

@@ -6,7 +6,8 @@ ghost use Rattle.jn_system.specs.WholeSystem.World.{commits_in};
 ghost use Rattle.jn_world_refines.specs.Stands.{posted_by, texts_sent, with_answer, with_sent};
 ghost use Rattle.jn_world.specs.Standing.{messages_in};
 ghost use Rattle.jn_world.specs.Written.{EndsPart, EndsStep, standing_of};
-ghost use Rattle.jn_machine.specs.Steps.{lines_at, message_texts, traced, most_messages};
+ghost use Rattle.jn_machine.specs.Steps.{message_texts, traced, most_messages};
+ghost use Rattle.jn_report.specs.Lines.{lines_at};
 
 use crate::ended::Ended;
 use crate::world::World;

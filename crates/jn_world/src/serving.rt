@@ -9,7 +9,7 @@ ghost use Rattle.jn_world.specs.Images.{AreClean, IsScrubbedAt, StayClean};
 ghost use Rattle.jn_world.specs.Settling.{handed, steps_of_all};
 ghost use Rattle.jn_world.specs.Standing.{IsWorld, is_up_at, works_at};
 ghost use Rattle.jn_world.specs.Written.{DoesEvent, DoesTasks, standing_of};
-ghost use Rattle.jn_machine.specs.Steps.{lines_at};
+ghost use Rattle.jn_report.specs.Lines.{lines_at};
 ghost use Rattle.jn_machine.specs.Tasks.{ClosesClients, Meets};
 
 use crate::ended::Ended;

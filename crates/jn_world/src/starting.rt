@@ -10,7 +10,7 @@ ghost use Rattle.jn_world.specs.Standing.{AreStores, IsWorld, is_up_at};
 ghost use Rattle.jn_world.specs.Written.{DoesEvent, DoesTasks, Starts, standing_of};
 ghost use Rattle.jn_world.specs.declared.ended.Ended.TheVariants.{Memory};
 ghost use Rattle.jn_machine.specs.Events.{coming_up};
-ghost use Rattle.jn_machine.specs.Steps.{lines_at};
+ghost use Rattle.jn_report.specs.Lines.{lines_at};
 ghost use Rattle.jn_machine.specs.Tasks.{ComesUp, Meets};
 
 use crate::clients::new_clients;

@@ -58,6 +58,8 @@ impl<S: Powered + Drop> World<S> {
         let when = When::Event(number);
         match event {
             Event::Command(client, command) => self.command(*client, number, command, lines),
+            // No call is in range yet.
+            Event::Call(_, _, _) => unreachable!(),
             Event::Again(client) => self.again(*client, when, lines),
             Event::Deliver(k) => self.deliver(*k, when, lines),
             Event::Settle => self.settle_at(when, lines),

@@ -7,7 +7,7 @@ use Rattle.jn_msgs.specs.declared.message.Outcome.{Outcome}
 use Rattle.jn_msgs.specs.declared.message.Outcome.TheVariants.{Committed, Aborted, Waiting, NotKnown}
 use Rattle.jn_rows.specs.declared.client.Outstanding.{Outstanding}
 use Rattle.jn_world_refines.proofs.Placed.{each-set}
-use Rattle.jn_world_refines.proofs.Core.{ClientsStand}
+use Rattle.jn_world_refines.proofs.Core.{ClientsStand, client-is, other-is}
 
 -- ---- clients of a world
 
@@ -34,8 +34,8 @@ module _ {S : Type 0} (look : S → StoreView) (device : S → DeviceState) (see
   client-moved c is t u here others = record {
     eight = length-set w.clients (c.0 - 1) t ∙ stand.eight;
     clients = each-set (λ n a. u.clients (record { 0 = suc n }) ≡ a) w.clients (c.0 - 1) t (subst (λ (n : ℕ). u.clients (record { 0 = n }) ≡ t) (sym (one-of c is)) here)
-        (λ n a d e. others (record { 0 = suc n }) (other-client c n (not-first (nat_lt 0 c.0) (nat_lt c.0 9) is) d) ∙ stand.clients n a e);
-    others = λ d o. others d (apart d o (client_tells c d)) ∙ stand.other_clients d o;
+        (λ n a d e. others (record { 0 = suc n }) (other-client c n (not-first (nat_lt 0 c.0) (nat_lt c.0 9) is) d) ∙ client-is look device x w m stand n a e);
+    others = λ d o. others d (apart d o (client_tells c d)) ∙ other-is look device x w m stand d o;
   }
     where
       apart : (d : ClientNo) → is_client_number d.0 ≡ false → ((client_eq c d ≡ true) × (c ≡ d)) ⊎ ((client_eq c d ≡ false) × (c ≢ d)) → client_eq c d ≡ false
@@ -55,12 +55,12 @@ module _ {S : Type 0} (look : S → StoreView) (device : S → DeviceState) (see
   }
     where
       clients-are : (n : ℕ) (t : ClientTable) → slice_get w.clients n ≡ Some t → ((client_eq c (record { 0 = suc n }) ≡ true) × (c ≡ record { 0 = suc n })) ⊎ ((client_eq c (record { 0 = suc n }) ≡ false) × (c ≢ record { 0 = suc n })) → u.clients (record { 0 = suc n }) ≡ t
-      clients-are n t e (inl z) = subst (λ (d : ClientNo). u.clients d ≡ t) z.1 (here ∙ sym (stand.other_clients c is) ∙ ap m.state.course.world.clients z.1 ∙ stand.clients n t e)
-      clients-are n t e (inr z) = others (record { 0 = suc n }) z.0 ∙ stand.clients n t e
+      clients-are n t e (inl z) = subst (λ (d : ClientNo). u.clients d ≡ t) z.1 (here ∙ sym (other-is look device x w m stand c is) ∙ ap m.state.course.world.clients z.1 ∙ client-is look device x w m stand n t e)
+      clients-are n t e (inr z) = others (record { 0 = suc n }) z.0 ∙ client-is look device x w m stand n t e
 
       others-are : (d : ClientNo) → is_client_number d.0 ≡ false → ((client_eq c d ≡ true) × (c ≡ d)) ⊎ ((client_eq c d ≡ false) × (c ≢ d)) → u.clients d ≡ new_table d x.servers
       others-are d o (inl z) = subst (λ (e : ClientNo). u.clients e ≡ new_table e x.servers) z.1 here
-      others-are d o (inr z) = others d z.0 ∙ stand.other_clients d o
+      others-are d o (inr z) = others d z.0 ∙ other-is look device x w m stand d o
 
 -- ---- a client's lines name no commit
 

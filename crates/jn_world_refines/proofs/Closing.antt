@@ -1,6 +1,7 @@
 -- Each outcome at a server counts as thanked, once the clients are dismissed.
 use Rattle.jn_world_refines.proofs.Common.{◌≡◌, ◌<◌, ℕ, zero, suc, Bool, true, false, List, [], ◌∷◌, ◌++◌, append-nil, drop, slice_get, slice_set, Option, Some, None, refl, sym, ◌∙◌, ap, subst, arith, true≢false, if◌then◌else◌, nat_lt, fun_ext, nat_tests, ServerNo, ClientNo, Outside, DeviceState, Place, Slot, Up, Down, Gone, IsDoneAt, Closed, texts_of_step, WhereUp, KeepsBeside, is_up, World, Memory, of_coordinator, CloseClients, IsIdle, after, done, close_clients, counts_by, Line, Text, ClientTable, RowOutcome, StableState, Pick, made_all, Parts, view_with, memory_of, go_on, state, pairs_view, StoreView, Setup, Chance, served, Moment, lines_at, ClosesClients, when_of, next_task, Standing, is_client_number, Stands, HasCounts, IsStepTo, row_calls, beside_by}
 use Rattle.jn_rows.specs.Coordinator.{close_clients_row}
+use Rattle.jn_world_refines.proofs.Core.{client-is, other-is}
 use Rattle.jn_world_refines.proofs.Dismissing.{there-is}
 use Rattle.jn_world_refines.proofs.Moving.{same-server, carries-on, net-quiet, device-here, device-there, moved-step}
 use Rattle.jn_world_refines.proofs.Idle.{here, idling, calling}
@@ -12,10 +13,10 @@ module _ {S : Type 0} (look : S → StoreView) (device : S → DeviceState) (see
   all-idle idle c = by c.0
     where
       others : (k : ℕ) → is_client_number k ≡ false → IsIdle (m.state.course.world.clients (record { 0 = k }))
-      others k e = subst (λ (t : ClientTable). IsIdle t) (sym (stand.other_clients (record { 0 = k }) e)) (refl, refl)
+      others k e = subst (λ (t : ClientTable). IsIdle t) (sym (other-is look device x w m stand (record { 0 = k }) e)) (refl, refl)
 
       one : (n : ℕ) → (t : ClientTable) × (slice_get w.clients n ≡ Some t) → IsIdle (m.state.course.world.clients (record { 0 = suc n }))
-      one n (t, e) = subst (λ (u : ClientTable). IsIdle u) (sym (stand.clients n t e)) (idle n t e)
+      one n (t, e) = subst (λ (u : ClientTable). IsIdle u) (sym (client-is look device x w m stand n t e)) (idle n t e)
 
       below : (n : ℕ) → nat_lt n 8 ≡ true → n < 8
       below n e = grind (arith, nat_tests, e)

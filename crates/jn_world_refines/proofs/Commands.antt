@@ -1,8 +1,9 @@
 -- Steps of clients without a message: each is told a command, or sends once more.
-use Rattle.jn_world_refines.proofs.Common.{◌≡◌, ◌-◌, ℕ, Bool, true, false, List, [], ◌++◌, append-nil, length, slice_get, drop, Some, refl, sym, ◌∙◌, ap, subst, arith, if◌then◌else◌, nat_tests, ClientNo, Client, client_eq, DeviceState, Tell, Again, after, commanded, sent_now, World, commits_in, Line, ClientTable, Commanded, Refuses, command_row, again_row, pairs_view, StoreView, Setup, Moment, message_texts, traced, lines_at, Task, when_of, Standing, is_client_number, Stands, posted_by, with_sent, with_client, texts_commanded, sent_commanded, ActsNext, IsStepTo}
+use Rattle.jn_world_refines.proofs.Common.{◌≡◌, ◌-◌, ℕ, Bool, true, false, List, [], ◌++◌, append-nil, length, slice_get, drop, Some, None, refl, sym, ◌∙◌, ap, subst, arith, if◌then◌else◌, nat_tests, ClientNo, Client, client_eq, DeviceState, Tell, Again, after, commanded, sent_now, World, commits_in, Line, ClientTable, Commanded, Refuses, command_row, again_row, pairs_view, StoreView, Setup, Moment, message_texts, traced, lines_at, Task, when_of, Standing, is_client_number, Stands, posted_by, with_sent, with_client, texts_commanded, sent_commanded, ActsNext, IsStepTo, tables_commanded}
 use Rattle.jn_rows.specs.ClientLaws.{after_command}
 use Rattle.jn_base.specs.declared.op.Command.{Command}
 use Rattle.jn_rows.specs.Client.{Sends}
+use Rattle.jn_world_refines.proofs.Core.{client-is}
 use Rattle.jn_schedule.specs.declared.Event.TheVariants as events
 use Rattle.jn_world_refines.proofs.Servers.{servers-same, clients-same}
 use Rattle.jn_world_refines.proofs.Clients.{one-of, client-moved}
@@ -41,13 +42,13 @@ module _ {S : Type 0} (look : S → StoreView) (device : S → DeviceState) (see
   v = m.state.course.world
 
   here-is : v.clients c ≡ t
-  here-is = subst (λ (n : ℕ). v.clients (record { 0 = n }) ≡ t) (one-of c is) (stand.clients (c.0 - 1) t at)
+  here-is = subst (λ (n : ℕ). v.clients (record { 0 = n }) ≡ t) (one-of c is) (client-is look device x w m stand (c.0 - 1) t at)
 
   -- A client is told a command: it is refused with its line, or its message is sent.
   pub told-step : (command : Command) → ActsNext x m (events.Command c command) more → (row : Commanded) → command_row t v.event command ≡ row → (lines : List Line)
       → IsStepTo look device x m (more ++ drop 1 m.state.tasks) (with_sent (posted_by (Client c) (sent_commanded row)) (with_client c (after_command row t) w))
       lines (lines ++ lines_at (when_of m.state) (texts_commanded c v.event row ++ traced w.trace (message_texts (Client c) (length w.net.sent) (sent_commanded row))))
-  told-step command next row row-is lines = plain-step look device seen x w m stand (events.Command c command) more next (Client c) (Tell c command) refl tt (λ s reads n. refl) (sent_commanded row) (texts_commanded c v.event row) (names-none c v.event row) so.sent so.lines
+  told-step command next row row-is lines = plain-step look device seen x w m stand (events.Command c command) more next (Client c) (Tell c command) (tables_commanded c (command_row (m.state.clients c) v.event command)) (Some (texts_commanded c v.event (command_row (m.state.clients c) v.event command))) refl tt (λ s reads n. refl) (sent_commanded row) (texts_commanded c v.event row) (names-none c v.event row) so.sent so.lines
       w.places (servers-same look device seen x w m stand _ (record { memory = λ q. ap (λ f. f q) so.memory; found = λ q. ap (λ f. f q) so.found; devices = λ q. refl }))
       _ (client-moved look device seen x w m stand c is (after_command row t) (after (Tell c command) v) so.here so.others) w.net.sent refl lines
     where
@@ -58,7 +59,7 @@ module _ {S : Type 0} (look : S → StoreView) (device : S → DeviceState) (see
   pub asked-step : ActsNext x m (events.Again c) more → (lines : List Line)
       → IsStepTo look device x m (more ++ drop 1 m.state.tasks) (with_sent (posted_by (Client c) (sent_now (again_row t))) w)
       lines (lines ++ lines_at (when_of m.state) (traced w.trace (message_texts (Client c) (length w.net.sent) (sent_now (again_row t)))))
-  asked-step next lines = plain-step look device seen x w m stand (events.Again c) more next (Client c) (Again c) refl tt (λ s reads n. refl) (sent_now (again_row t)) [] refl
+  asked-step next lines = plain-step look device seen x w m stand (events.Again c) more next (Client c) (Again c) (λ f. f) None refl tt (λ s reads n. refl) (sent_now (again_row t)) [] refl
       (ap (λ (a : ClientTable). v.sent ++ sent_now (again_row a)) here-is) (sym (append-nil v.lines))
       w.places (servers-same look device seen x w m stand _ (record { memory = λ q. refl; found = λ q. refl; devices = λ q. refl }))
       w.clients (clients-same look device seen x w m stand (after (Again c) v) refl) w.net.sent refl lines

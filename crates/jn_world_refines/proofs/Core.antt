@@ -1,6 +1,7 @@
 -- From the next task to where the code stands once it is done.
-use Rattle.jn_world_refines.proofs.Common.{◌≡◌, ◌≤◌, ℕ, suc, Bool, false, List, [], ◌∷◌, ◌++◌, length, slice_get, drop, Option, Some, refl, sym, ◌∙◌, ap, subst, ServerNo, ClientNo, Tid, Outside, DeviceState, Carried, Place, World, commits_in, has_line, Step, run, IsRun, Line, Carries, ClientTable, new_table, Pick, Event, Course, go, go_on, StoreView, Within, run-within, Setup, Chance, Deed, Devices, IsUsed, AreFound, rubbish_on, acted, deed_of, AreLeft, AreAllCounted, Moment, Leads, texts_of, lines_at, come_to, Task, State, when_of, next_task, begun, may-lead, Standing, is_client_number, PlaceStands, Stands, ActsNext, IsStepTo, AreRecoverable, Free, Left, MapPlaces}
+use Rattle.jn_world_refines.proofs.Common.{◌≡◌, ◌≤◌, ℕ, suc, Bool, false, List, [], ◌∷◌, ◌++◌, length, slice_get, drop, Option, Some, refl, sym, ◌∙◌, ap, subst, ServerNo, ClientNo, Tid, Outside, DeviceState, Carried, Place, World, commits_in, has_line, Step, run, IsRun, Line, Carries, ClientTable, new_table, Pick, Event, Course, go, go_on, StoreView, Within, run-within, Setup, Chance, Deed, Devices, IsUsed, AreFound, rubbish_on, acted, deed_of, AreLeft, AreAllCounted, Moment, Leads, texts_of, lines_at, come_to, Task, State, when_of, next_task, begun, may-lead, Standing, is_client_number, PlaceStands, Stands, ActsNext, IsStepTo, AreRecoverable, Free, Left, MapPlaces, own_texts, reported}
 use Rattle.jn_records.specs.declared.net_list.Need.{Need}
+use Rattle.jn_machine.proofs.Clients.{own-said, tables-lead}
 use Rattle.jn_machine.proofs.Named.{names}
 use Rattle.jn_world_refines.proofs.Made.{Makes, made-leads, made-cut, carried-length, not-too-much}
 
@@ -39,23 +40,40 @@ pub record PartsStand {S : Type 0} (look : S → StoreView) (device : S → Devi
   pub net : NetStands w.net w.named w.commits m.state.course
 
 module _ {S : Type 0} (look : S → StoreView) (device : S → DeviceState) (x : Setup) (w : Standing S) (m : Moment) (stand : Stands look device x w m) where
+  -- the system's tables of these clients
+  pub client-is : (n : ℕ) (t : ClientTable) → slice_get w.clients n ≡ Some t → m.state.course.world.clients (record { 0 = suc n }) ≡ t
+  client-is n t e = rw (← stand.tables) (stand.clients n t e)
+
+  pub other-is : (c : ClientNo) → is_client_number c.0 ≡ false → m.state.course.world.clients c ≡ new_table c x.servers
+  other-is c e = rw (← stand.tables) (stand.other_clients c e)
+
+  -- a deed reports what its steps report
+  pub says-own : (h : Chance) (task : Task) (deed : Deed) → deed_of x h task m.state ≡ deed
+      → reported deed.said (own_texts m.state.course.world (go_on deed.steps m.state.course).world) ≡ own_texts m.state.course.world (go_on deed.steps m.state.course).world
+  says-own h task deed e = subst (λ (d : Deed). reported d.said (own_texts m.state.course.world (go_on d.steps m.state.course).world) ≡ own_texts m.state.course.world (go_on d.steps m.state.course).world) e
+      (own-said x h task m.state stand.tables m.state.course refl)
+
   pub parts-after : (last : Moment) (w' : Standing S) (steps : List Step) → Leads x m last → last.state.course ≡ go_on steps m.state.course → PartsStand look device x w' last → Stands look device x w' last
   parts-after last w' steps leads course parts = record {
     servers = parts.servers.servers;
     trace = parts.trace;
     places = parts.servers.places;
     eight = parts.clients.eight;
-    clients = parts.clients.clients;
-    other_clients = parts.clients.others;
+    clients = λ n t e. rw tables (parts.clients.clients n t e);
+    other_clients = λ c e. rw tables (parts.clients.others c e);
+    tables = tables;
     net = parts.net.net;
     named = parts.net.named;
     commits = parts.net.commits;
-    history = names x m.state last.state (may-lead x m last leads) stand.history;
+    history = names x m.state last.state (may-lead x m last leads) stand.tables stand.history;
     within = subst (λ (v : World). Within x.servers v) (sym (ap (λ (c : Course). c.world) course ∙ run-is steps m.state.course)) (run-within x.servers steps m.state.course.world stand.within);
     found = parts.servers.found;
     counted = parts.servers.counted;
     recoverable = parts.servers.recoverable;
   }
+    where
+      tables : last.state.clients ≡ last.state.course.world.clients
+      tables = tables-lead x m.state last.state (may-lead x m last leads) stand.tables
 
   abbrev pub left : State
   left = record m.state { tasks = drop 1 m.state.tasks }
@@ -114,7 +132,7 @@ module _ {S : Type 0} (look : S → StoreView) (device : S → DeviceState) (x :
 
   -- So where the next task does this event.
   pub step-made : (event : Event) (more : List Task) → ActsNext x m event more → (h : Chance) → ((q : ServerNo) → h.rubbish q ≡ rubbish_on x m.devices q)
-      → (deed : Deed) → acted x h event m.state.course.world ≡ deed → deed.cuts ≡ false
+      → (deed : Deed) → acted x h event m.state.clients m.state.course.world ≡ deed → deed.cuts ≡ false
       → (es : Devices) → IsRun deed.steps m.state.course.world → IsUsed x h deed.device m.state.course.world (run deed.steps m.state.course.world) m.devices es
       → AreLeft x deed.steps m.state.course.world m.devices es
       → (w' : Standing S) → PartsStand look device x w' (last-of h deed more es)

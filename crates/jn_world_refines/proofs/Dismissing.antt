@@ -66,13 +66,13 @@ module _ {S : Type 0} (look : S → StoreView) (device : S → DeviceState) (x :
   still-recoverable : AreRecoverable x es
   still-recoverable q l = let h = stands.recoverable q l in record { count = h.count; each = h.each; clean = h.clean }
 
-  client : (n : ℕ) (t : ClientTable) → slice_get (map (λ (t : ClientTable). over t) w.clients) n ≡ Some t → over (m.state.course.world.clients (record { 0 = suc n })) ≡ t
+  client : (n : ℕ) (t : ClientTable) → slice_get (map (λ (t : ClientTable). over t) w.clients) n ≡ Some t → over (m.state.clients (record { 0 = suc n })) ≡ t
   client n t e = by (slice_get w.clients n) refl (sym (slice_get-map (λ (t : ClientTable). over t) w.clients n) ∙ e)
     where
       some : (a b : ClientTable) → Some a ≡ Some b → a ≡ b
       some a b q = cc
 
-      by : (o : Option ClientTable) → slice_get w.clients n ≡ o → option_map (λ (t : ClientTable). over t) o ≡ Some t → over (m.state.course.world.clients (record { 0 = suc n })) ≡ t
+      by : (o : Option ClientTable) → slice_get w.clients n ≡ o → option_map (λ (t : ClientTable). over t) o ≡ Some t → over (m.state.clients (record { 0 = suc n })) ≡ t
       by None q h = absurd (cc h)
       by (Some old) q h = ap (λ (t : ClientTable). over t) (stands.clients n old q) ∙ some (over old) t h
 
@@ -84,6 +84,7 @@ module _ {S : Type 0} (look : S → StoreView) (device : S → DeviceState) (x :
     eight = length-map w.clients (λ (t : ClientTable). over t) ∙ stands.eight;
     clients = client;
     other_clients = λ c e. ap (λ (t : ClientTable). over t) (stands.other_clients c e);
+    tables = ap dismissing.clients stands.tables;
     net = subst (λ (sent : List Posted). Carries (record w.net { sent = sent; forgotten = length w.net.sent }) (go Dismiss begun_course)) (append-nil w.net.sent)
         (carries-step (record w.net { forgotten = length w.net.sent }) begun_course Dismiss [] (carries-forgotten w.net m.state.course m.state.course.steps stands.net) refl (sym (append-nil m.state.course.world.sent)));
     named = stands.named;

@@ -1,5 +1,5 @@
 -- Commits in texts and lines that are joined.
-use Rattle.jn_world_refines.proofs.Common.{◌≡◌, ◌+◌, Bool, List, [], ◌∷◌, ◌++◌, append-nil, append_assoc, length, length-append, refl, sym, ◌∙◌, ap, arith, ◌||◌, map, list_any, ServerNo, Tid, Outside, tid_eq, When, Text, Line, history_of, commits_in, has_line, lines_at}
+use Rattle.jn_world_refines.proofs.Common.{◌≡◌, ◌+◌, Bool, List, [], ◌∷◌, ◌++◌, append-nil, append_assoc, length, length-append, refl, sym, ◌∙◌, ap, arith, ◌||◌, list_any, Tid, tid_eq, When, Text, Line, history_of, commits_in, has_line, lines_at}
 use Rattle.jn_report.specs.Kinds.{commit_in, commit_in as committed_in}
 use Rattle.jn_report.specs.declared.line.Text.TheVariants as says
 
@@ -35,7 +35,3 @@ line-append T a b = ap (list_any (λ U. tid_eq U T)) (commits-append a b) ∙ an
 
 pub count-append : (a b : List Text) → length (commits_in (a ++ b)) ≡ length (commits_in a) + length (commits_in b)
 count-append a b = ap length (commits-append a b) ∙ length-append (commits_in a) (commits_in b)
-
-pub faults-none : (q : ServerNo) (told : List Outside) → commits_in (map (λ (fault : Outside). says.Outside q fault) told) ≡ []
-faults-none q [] = refl
-faults-none q (fault ∷ told) = faults-none q told

@@ -93,7 +93,7 @@ module _ {S : Type 0} (look : S → StoreView) (device : S → DeviceState) wher
 
 -- ---- what a step reports in a world that stays
 
-pub quiet-texts : (x : Setup) (h : Chance) (deed : Deed) (w : World) → texts_of x h (record deed { device = Nothing }) w w ≡ deed.texts
+pub quiet-texts : (x : Setup) (h : Chance) (deed : Deed) (w : World) → texts_of x h (record deed { device = Nothing; said = None }) w w ≡ deed.texts
 quiet-texts x h deed w = ap (λ (own : List Text). own ++ deed.texts ++ traced x.trace (message_texts deed.actor (length w.sent) (drop (length w.sent) w.sent))) (drop-length w.lines)
     ∙ ap (λ (sent : List Sent). deed.texts ++ traced x.trace (message_texts deed.actor (length w.sent) sent)) (drop-length w.sent)
     ∙ ap (λ (texts : List Text). deed.texts ++ texts) (nothing-traced x.trace)

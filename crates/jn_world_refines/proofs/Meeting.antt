@@ -1,15 +1,15 @@
 -- An event that isn't refused, and one of a settle or of the end, is what the next task does.
-use Rattle.jn_world_refines.proofs.Common.{◌≡◌, ℕ, Bool, true, false, List, [], ◌∷◌, Option, Some, None, refl, ◌∙◌, ap, if◌then◌else◌, slice_get, ServerNo, Client, Server, EpochsUsedUp, Event, Sent, World, Memory, Setup, Chance, Task, Meets, Acts, GoesDown, next_task, Deed, served, nothing, delivered_at, delivered, is_busy, working_steps, worked, crashed_at, is_used_up, given_up, recovered, restarted, acted, met, refusal_of, Moment, ActsNext, is_settle, step_calls}
+use Rattle.jn_world_refines.proofs.Common.{◌≡◌, ℕ, Bool, true, false, List, [], ◌∷◌, Option, Some, None, refl, ◌∙◌, ap, if◌then◌else◌, slice_get, ServerNo, Client, Server, EpochsUsedUp, Event, Sent, World, Memory, Setup, Chance, Task, Meets, Acts, GoesDown, next_task, Deed, served, nothing, delivered_at, delivered, is_busy, working_steps, worked, crashed_at, is_used_up, given_up, recovered, restarted, acted, met, refusal_of, Moment, ActsNext, is_settle, step_calls, ClientNo, ClientTable}
 use Rattle.jn_report.specs.declared.line.Text.TheVariants as says
 use Rattle.jn_schedule.specs.declared.Event.TheVariants as events
 
 no-tasks : (d : Deed) → d.tasks ≡ [] → d ≡ record d { tasks = [] }
 no-tasks d e = ap (λ (tasks : List Task). record d { tasks = tasks }) e
 
-delivers : (h : Chance) (k : ℕ) (w : World) (o : Option Sent) → (delivered h k w o).tasks ≡ []
-delivers h k w None = refl
-delivers h k w (Some (Client c, message)) = refl
-delivers h k w (Some (Server q, message)) = by (w.memory q)
+delivers : (h : Chance) (k : ℕ) (t : ClientNo → ClientTable) (w : World) (o : Option Sent) → (delivered h k t w o).tasks ≡ []
+delivers h k t w None = refl
+delivers h k t w (Some (Client c, message)) = refl
+delivers h k t w (Some (Server q, message)) = by (w.memory q)
   where
     by : (o : Option Memory) → (delivered_at h k q o).tasks ≡ []
     by None = refl
@@ -33,31 +33,32 @@ restarts h q w = by (is_used_up h q w)
     by true = refl
     by false = refl
 
-acts : (x : Setup) (h : Chance) (event : Event) (w : World) → is_settle event ≡ false → (acted x h event w).tasks ≡ []
-acts x h (events.Command c command) w e = refl
-acts x h (events.Again c) w e = refl
-acts x h (events.Deliver k) w e = delivers h k w (slice_get w.sent k)
-acts x h events.Settle w e = absurd (clash e)
+acts : (x : Setup) (h : Chance) (event : Event) (t : ClientNo → ClientTable) (w : World) → is_settle event ≡ false → (acted x h event t w).tasks ≡ []
+acts x h (events.Command c command) t w e = refl
+acts x h (events.Call c s call) t w e = refl
+acts x h (events.Again c) t w e = refl
+acts x h (events.Deliver k) t w e = delivers h k t w (slice_get w.sent k)
+acts x h events.Settle t w e = absurd (clash e)
   where
     clash : true ≡ false → ⊥
     clash z = cc
-acts x h (events.Step q) w e = works h q w
-acts x h (events.Nudge q) w e = refl
-acts x h (events.Timeout q T) w e = refl
-acts x h (events.Scrub q) w e = refl
-acts x h (events.Decay q p) w e = refl
-acts x h (events.Revive q p) w e = refl
-acts x h (events.Arm q n kind) w e = refl
-acts x h (events.Crash q) w e = crashes q (w.memory q)
-acts x h (events.Restart q) w e = restarts h q w
-acts x h (events.Show q) w e = refl
+acts x h (events.Step q) t w e = works h q w
+acts x h (events.Nudge q) t w e = refl
+acts x h (events.Timeout q T) t w e = refl
+acts x h (events.Scrub q) t w e = refl
+acts x h (events.Decay q p) t w e = refl
+acts x h (events.Revive q p) t w e = refl
+acts x h (events.Arm q n kind) t w e = refl
+acts x h (events.Crash q) t w e = crashes q (w.memory q)
+acts x h (events.Restart q) t w e = restarts h q w
+acts x h (events.Show q) t w e = refl
 
 -- an event of the schedule
 pub meets-acts : (x : Setup) (m : Moment) (event : Event) → next_task m.state ≡ Some (Meets event) → is_settle event ≡ false → refusal_of x m.state.course.world event ≡ None → ActsNext x m event []
 meets-acts x m event e s r = record {
   task = Meets event;
   next = e;
-  deed = λ h rubbish. ap (met x h event m.state.course.world) r ∙ no-tasks (acted x h event m.state.course.world) (acts x h event m.state.course.world s);
+  deed = λ h rubbish. ap (met x h event m.state.clients m.state.course.world) r ∙ no-tasks (acted x h event m.state.clients m.state.course.world) (acts x h event m.state.clients m.state.course.world s);
   begun_is = refl;
 }
 
@@ -66,7 +67,7 @@ pub acts-acts : (x : Setup) (m : Moment) (event : Event) → next_task m.state �
 acts-acts x m event e s = record {
   task = Acts event;
   next = e;
-  deed = λ h rubbish. no-tasks (acted x h event m.state.course.world) (acts x h event m.state.course.world s);
+  deed = λ h rubbish. no-tasks (acted x h event m.state.clients m.state.course.world) (acts x h event m.state.clients m.state.course.world s);
   begun_is = refl;
 }
 

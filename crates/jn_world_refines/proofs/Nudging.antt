@@ -34,7 +34,7 @@ module _ {S : Type 0} (look : S → StoreView) (device : S → DeviceState) (see
           made : StandsAt look device (counts_by place.counts) (Up p) (v.memory q) (v.found q) (m.devices q)
               → IsStepTo look device x m (more ++ drop 1 m.state.tasks) (with_answer q None (Some out-of) w) lines (lines ++ lines_at (when_of m.state) (texts_sent q None w.trace (length w.net.sent) (Some out-of)))
           made h = subst (λ (n : ℕ). IsStepTo look device x m (more ++ drop 1 m.state.tasks) (record (with_answer q None (Some out-of) w) { commits = n }) lines (lines ++ lines_at (when_of m.state) (texts_sent q None w.trace (length w.net.sent) (Some out-of)))) plus-none
-              (plain-step look device seen x w m stand (events.Nudge q) more next (Server q) (Nudge q) refl tt (λ s reads n. refl) out-of.messages [] refl (ap (λ (u : World). u.sent) after-is) (ap (λ (u : World). u.lines) after-is ∙ sym (append-nil v.lines))
+              (plain-step look device seen x w m stand (events.Nudge q) more next (Server q) (Nudge q) (λ f. f) None refl tt (λ s reads n. refl) out-of.messages [] refl (ap (λ (u : World). u.sent) after-is) (ap (λ (u : World). u.lines) after-is ∙ sym (append-nil v.lines))
               w.places (servers-same look device seen x w m stand _ (record { memory = λ r. ap (λ (u : World). u.memory r) after-is; found = λ r. ap (λ (u : World). u.found r) after-is; devices = λ r. refl }))
               w.clients (clients-same look device seen x w m stand _ (ap (λ (u : World). u.clients) after-is)) w.net.sent refl lines)
             where

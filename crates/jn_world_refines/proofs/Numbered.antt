@@ -1,5 +1,5 @@
 -- The number of the event under way rises where an event begins, and nowhere else.
-use Rattle.jn_world_refines.proofs.Common.{◌≡◌, ℕ, ◌+◌, Bool, true, false, List, [], ◌∷◌, ◌++◌, drop, map, Option, Some, None, refl, sym, ◌∙◌, ap, arith, ◌&&◌, if◌then◌else◌, slice_get, list_all, ServerNo, ClientNo, Client, Server, DeviceState, EventRefusal, EpochsUsedUp, Line, Sent, Pick, Event, StoreView, World, Memory, Room, Step, NextEvent, Course, go, go_on, handing, working, clients_from, Setup, Chance, Task, Begins, Meets, Acts, Rests, ComesUp, Dismisses, GoesDown, ClosesClients, CountsCommits, Stage, InSchedule, CutShort, AtEnd, State, when_at, when_of, next_at, next_task, begun, Deed, served, nothing, delivered_at, delivered, is_busy, working_steps, worked, stopped_idle, crashed_at, recovering, is_used_up, given_up, recovered, restarted, brought_up, servers_of, asking, settling, next_in, acted, met, resting, deed_of, refusal_of, Moment, DoesStep, Leads, none, more, is_too_much, come_to, cut_short, Standing, WentOn, begun_by, begins_in, step_calls, free_found, Left, maps_found}
+use Rattle.jn_world_refines.proofs.Common.{◌≡◌, ℕ, ◌+◌, Bool, true, false, List, [], ◌∷◌, ◌++◌, drop, map, Option, Some, None, refl, sym, ◌∙◌, ap, arith, ◌&&◌, if◌then◌else◌, slice_get, list_all, ServerNo, ClientNo, Client, Server, DeviceState, EventRefusal, EpochsUsedUp, Line, Sent, Pick, Event, StoreView, World, Memory, Room, Step, NextEvent, Course, go, go_on, handing, working, clients_from, Setup, Chance, Task, Begins, Meets, Acts, Rests, ComesUp, Dismisses, GoesDown, ClosesClients, CountsCommits, Stage, InSchedule, CutShort, AtEnd, State, when_at, when_of, next_at, next_task, begun, Deed, served, nothing, delivered_at, delivered, is_busy, working_steps, worked, stopped_idle, crashed_at, recovering, is_used_up, given_up, recovered, restarted, brought_up, servers_of, asking, settling, next_in, acted, met, resting, deed_of, refusal_of, Moment, DoesStep, Leads, none, more, is_too_much, come_to, cut_short, Standing, WentOn, begun_by, begins_in, step_calls, free_found, Left, maps_found, ClientTable}
 use Rattle.jn_report.specs.declared.line.Text.TheVariants as says
 use Rattle.jn_schedule.specs.declared.Event.TheVariants as events
 use Rattle.jn_machine.proofs.Telling.{event_after, adds}
@@ -54,10 +54,10 @@ hands : (h : Chance) (k : ℕ) (room : Room) (stop : Option (Pick → Left)) →
 hands h k room None = refl
 hands h k room (Some made) = refl
 
-delivers : (h : Chance) (k : ℕ) (w : World) (o : Option Sent) → Quiet (delivered h k w o)
-delivers h k w None = record { steps = refl; tasks = refl }
-delivers h k w (Some (Client c, message)) = record { steps = refl; tasks = refl }
-delivers h k w (Some (Server q, message)) = by (w.memory q)
+delivers : (h : Chance) (k : ℕ) (t : ClientNo → ClientTable) (w : World) (o : Option Sent) → Quiet (delivered h k t w o)
+delivers h k t w None = record { steps = refl; tasks = refl }
+delivers h k t w (Some (Client c, message)) = record { steps = refl; tasks = refl }
+delivers h k t w (Some (Server q, message)) = by (w.memory q)
   where
     by : (o : Option Memory) → Quiet (delivered_at h k q o)
     by None = record { steps = refl; tasks = refl }
@@ -100,37 +100,38 @@ comes h q w = by (is_used_up h q w)
     by true = record { steps = refl; tasks = refl }
     by false = record { steps = recovers-so h q h.stop; tasks = refl }
 
-acts : (x : Setup) (h : Chance) (event : Event) (w : World) → Quiet (acted x h event w)
-acts x h (events.Command c command) w = record { steps = refl; tasks = refl }
-acts x h (events.Again c) w = record { steps = refl; tasks = refl }
-acts x h (events.Deliver k) w = delivers h k w (slice_get w.sent k)
-acts x h events.Settle w = record { steps = refl; tasks = settles-none x }
-acts x h (events.Step q) w = works h q w
-acts x h (events.Nudge q) w = record { steps = refl; tasks = refl }
-acts x h (events.Timeout q T) w = record { steps = refl; tasks = refl }
-acts x h (events.Scrub q) w = record { steps = idles q h.stop; tasks = refl }
-acts x h (events.Decay q p) w = record { steps = refl; tasks = refl }
-acts x h (events.Revive q p) w = record { steps = refl; tasks = refl }
-acts x h (events.Arm q n kind) w = record { steps = refl; tasks = refl }
-acts x h (events.Crash q) w = crashes q (w.memory q)
-acts x h (events.Restart q) w = restarts h q w
-acts x h (events.Show q) w = record { steps = idles q h.stop; tasks = refl }
+acts : (x : Setup) (h : Chance) (event : Event) (t : ClientNo → ClientTable) (w : World) → Quiet (acted x h event t w)
+acts x h (events.Command c command) t w = record { steps = refl; tasks = refl }
+acts x h (events.Call c s call) t w = record { steps = refl; tasks = refl }
+acts x h (events.Again c) t w = record { steps = refl; tasks = refl }
+acts x h (events.Deliver k) t w = delivers h k t w (slice_get w.sent k)
+acts x h events.Settle t w = record { steps = refl; tasks = settles-none x }
+acts x h (events.Step q) t w = works h q w
+acts x h (events.Nudge q) t w = record { steps = refl; tasks = refl }
+acts x h (events.Timeout q T) t w = record { steps = refl; tasks = refl }
+acts x h (events.Scrub q) t w = record { steps = idles q h.stop; tasks = refl }
+acts x h (events.Decay q p) t w = record { steps = refl; tasks = refl }
+acts x h (events.Revive q p) t w = record { steps = refl; tasks = refl }
+acts x h (events.Arm q n kind) t w = record { steps = refl; tasks = refl }
+acts x h (events.Crash q) t w = crashes q (w.memory q)
+acts x h (events.Restart q) t w = restarts h q w
+acts x h (events.Show q) t w = record { steps = idles q h.stop; tasks = refl }
 
-meets : (x : Setup) (h : Chance) (event : Event) (w : World) (o : Option EventRefusal) → Quiet (met x h event w o)
-meets x h event w (Some refusal) = record { steps = refl; tasks = refl }
-meets x h event w None = acts x h event w
+meets : (x : Setup) (h : Chance) (event : Event) (t : ClientNo → ClientTable) (w : World) (o : Option EventRefusal) → Quiet (met x h event t w o)
+meets x h event t w (Some refusal) = record { steps = refl; tasks = refl }
+meets x h event t w None = acts x h event t w
 
-rests : (x : Setup) (h : Chance) (w : World) (o : Option Event) → Quiet (resting x h w o)
-rests x h w None = record { steps = refl; tasks = refl }
-rests x h w (Some event) = let a = acts x h event w in record { steps = a.steps; tasks = refl }
+rests : (x : Setup) (h : Chance) (t : ClientNo → ClientTable) (w : World) (o : Option Event) → Quiet (resting x h t w o)
+rests x h t w None = record { steps = refl; tasks = refl }
+rests x h t w (Some event) = let a = acts x h event t w in record { steps = a.steps; tasks = refl }
 
 -- ---- a task
 
 quiet-task : (x : Setup) (h : Chance) (task : Task) (s : State) → begun_by task ≡ 0 → Quiet (deed_of x h task s)
 quiet-task x h (Begins event) s e = absurd (cc e)
-quiet-task x h (Meets event) s e = meets x h event s.course.world (refusal_of x s.course.world event)
-quiet-task x h (Acts event) s e = acts x h event s.course.world
-quiet-task x h Rests s e = rests x h s.course.world (next_in x h.rubbish s.course)
+quiet-task x h (Meets event) s e = meets x h event s.clients s.course.world (refusal_of x s.course.world event)
+quiet-task x h (Acts event) s e = acts x h event s.clients s.course.world
+quiet-task x h Rests s e = rests x h s.clients s.course.world (next_in x h.rubbish s.course)
 quiet-task x h (ComesUp q) s e = comes h q s.course.world
 quiet-task x h Dismisses s e = record { steps = refl; tasks = refl }
 quiet-task x h (GoesDown q) s e = crashes q (s.course.world.memory q)

@@ -1,8 +1,9 @@
 -- A step of the system for which no device is called.
-use Rattle.jn_world_refines.proofs.Common.{◌≡◌, ℕ, ◌+◌, Bool, List, [], ◌∷◌, ◌++◌, append-nil, length, drop, Some, None, refl, sym, ◌∙◌, ap, subst, arith, ◌||◌, list_any, ServerNo, Tid, Party, tid_eq, DeviceState, Posted, Place, Step, IsStep, after, World, commits_in, has_line, Text, Line, Carries, delivered_by, ClientTable, Sent, Event, go, pairs_view, StoreView, Setup, Chance, plain, nothing, acted, deed_of, Moment, message_texts, traced, lines_at, Task, when_of, next_task, begun, Standing, Stands, posted_by, with_sent, ActsNext, IsStepTo, left_by_step, none_free, no_maps, Pick, Beside}
+use Rattle.jn_world_refines.proofs.Common.{◌≡◌, ℕ, ◌+◌, Bool, List, [], ◌∷◌, ◌++◌, append-nil, length, drop, Some, None, refl, sym, ◌∙◌, ap, subst, arith, ◌||◌, list_any, ServerNo, Tid, Party, tid_eq, DeviceState, Posted, Place, Step, IsStep, after, World, commits_in, has_line, Text, Line, Carries, delivered_by, ClientTable, Sent, Event, go, pairs_view, StoreView, Setup, Chance, plain, nothing, acted, deed_of, Moment, message_texts, traced, lines_at, Task, when_of, next_task, begun, Standing, Stands, posted_by, with_sent, ActsNext, IsStepTo, left_by_step, none_free, no_maps, Pick, Beside, ClientNo, Deed, own_texts, reported}
+use Rattle.std.specs.Prelude.{Option}
 use Rattle.jn_world_refines.proofs.Made.{carried-length, quiet-texts}
 use Rattle.jn_world_refines.proofs.Posted.{sent-posted, new-posted, none-traced, texts-are}
-use Rattle.jn_world_refines.proofs.Core.{ServersStand, ClientsStand, NetStands, chance-of, last-by, last-of, deed-made, step-made}
+use Rattle.jn_world_refines.proofs.Core.{ServersStand, ClientsStand, NetStands, chance-of, last-by, last-of, deed-made, step-made, says-own}
 use Rattle.jn_world_refines.proofs.Servers.{AreSame, servers-same, clients-same, net-moved, net-same}
 use Rattle.jn_world_refines.proofs.Left.{left-same}
 
@@ -32,11 +33,18 @@ module _ {S : Type 0} (look : S → StoreView) (device : S → DeviceState) (see
 
   -- ---- one step
 
-  module _ (event : Event) (more : List Task) (next : ActsNext x m event more) (actor : Party) (step : Step) (acts : acted x no-chance event v ≡ plain actor (step ∷ [])) (may : IsStep step v)
+  module _ (event : Event) (more : List Task) (next : ActsNext x m event more) (actor : Party) (step : Step) (becomes : (ClientNo → ClientTable) → ClientNo → ClientTable) (said : Option (List Text))
+      (acts : acted x no-chance event m.state.clients v ≡ record (plain actor (step ∷ [])) { clients = becomes; said = said }) (may : IsStep step v)
       (quiet : (s : ServerNo) (reads : Pick → Beside) (before : Beside) → left_by_step reads v s step before ≡ before)
       (messages : List Sent) (texts : List Text) (none : commits_in texts ≡ []) (sent : (after step v).sent ≡ v.sent ++ messages) (told : (after step v).lines ≡ v.lines ++ texts) where
+    abbrev deed : Deed
+    deed = record (plain actor (step ∷ [])) { clients = becomes; said = said }
+
     abbrev pub last : Moment
-    last = last-of look device x w m stand no-chance (plain actor (step ∷ [])) more m.devices
+    last = last-of look device x w m stand no-chance deed more m.devices
+
+    says : reported said (own_texts v (after step v)) ≡ own_texts v (after step v)
+    says = says-own look device x w m stand no-chance next.task (record deed { tasks = more }) (next.deed no-chance (λ q. refl) ∙ ap (λ (d : Deed). record d { tasks = more }) acts)
 
     net-then : (ms : List Posted) → delivered_by step w.net.sent ≡ ms → NetStands (record w.net { sent = ms ++ posted_by actor messages }) w.named w.commits (go step m.state.course)
     net-then ms e = by (net-moved look device seen x w m stand step (posted_by actor messages) texts (record { new = new-posted actor messages; sent = sent ∙ ap (λ (ns : List Sent). v.sent ++ ns) (sym (sent-posted actor messages)); lines = told }))
@@ -56,17 +64,17 @@ module _ {S : Type 0} (look : S → StoreView) (device : S → DeviceState) (see
     pub plain-step : (ps : List (Place S)) → ServersStand look device x ps last → (ts : List ClientTable) → ClientsStand x ts (after step v) → (ms : List Posted) → delivered_by step w.net.sent ≡ ms → (lines : List Line)
         → IsStepTo look device x m (more ++ drop 1 m.state.tasks) (with_sent (posted_by actor messages) (record w { places = ps; clients = ts; net = record w.net { sent = ms } }))
         lines (lines ++ lines_at (when_of m.state) (texts ++ traced w.trace (message_texts actor (length w.net.sent) messages)))
-    plain-step ps servers ts clients ms e lines = step-made look device x w m stand event more next no-chance (λ q. refl) (plain actor (step ∷ [])) acts refl m.devices (may, tt) (λ q. refl) (left-same x v (step ∷ []) m.devices m.devices (λ s. refl) quiet)
+    plain-step ps servers ts clients ms e lines = step-made look device x w m stand event more next no-chance (λ q. refl) deed acts refl m.devices (may, tt) (λ q. refl) (left-same x v (step ∷ []) m.devices m.devices (λ s. refl) quiet)
         (with_sent (posted_by actor messages) (record w { places = ps; clients = ts; net = record w.net { sent = ms } }))
         (record { trace = stand.trace; servers = servers; clients = clients; net = net-then ms e })
         lines _ (ap (λ (ns : List Text). lines ++ lines_at (when_of m.state) ns) (sym (
-        texts-are x no-chance (plain actor (step ∷ [])) v (after step v) texts messages told sent
+        texts-are x no-chance deed v (after step v) texts messages says told sent
         ∙ ap (λ (b : Bool). texts ++ [] ++ traced b (message_texts actor (length v.sent) messages)) (sym stand.trace)
         ∙ ap (λ (n : ℕ). texts ++ [] ++ traced w.trace (message_texts actor n messages)) (let net = stand.net in carried-length w.net.sent m.state.course net.sent)
         ∙ ap (λ (ns : List Text). ns ++ traced w.trace (message_texts actor (length w.net.sent) messages)) (append-nil texts))))
 
   -- a step of the system that sends nothing
-  module _ (event : Event) (more : List Task) (next : ActsNext x m event more) (actor : Party) (step : Step) (acts : acted x no-chance event v ≡ plain actor (step ∷ [])) (may : IsStep step v)
+  module _ (event : Event) (more : List Task) (next : ActsNext x m event more) (actor : Party) (step : Step) (acts : acted x no-chance event m.state.clients v ≡ plain actor (step ∷ [])) (may : IsStep step v)
       (quiet : (s : ServerNo) (reads : Pick → Beside) (before : Beside) → left_by_step reads v s step before ≡ before)
       (texts : List Text) (none : commits_in texts ≡ []) (sent : (after step v).sent ≡ v.sent) (told : (after step v).lines ≡ v.lines ++ texts) where
     pub silent-step : (ps : List (Place S)) → ServersStand look device x ps (last-of look device x w m stand no-chance (plain actor (step ∷ [])) more m.devices) → (ts : List ClientTable) → ClientsStand x ts (after step v)
@@ -75,4 +83,4 @@ module _ {S : Type 0} (look : S → StoreView) (device : S → DeviceState) (see
     silent-step ps servers ts clients ms e lines = subst (λ (ns : List Posted). IsStepTo look device x m (more ++ drop 1 m.state.tasks) (record w { places = ps; clients = ts; net = record w.net { sent = ns } }) lines (lines ++ lines_at (when_of m.state) texts)) (append-nil ms)
         (subst (λ (ns : List Text). IsStepTo look device x m (more ++ drop 1 m.state.tasks) (record w { places = ps; clients = ts; net = record w.net { sent = ms ++ [] } }) lines (lines ++ lines_at (when_of m.state) ns))
         (ap (λ (ns : List Text). texts ++ ns) (none-traced w.trace) ∙ append-nil texts)
-        (plain-step event more next actor step acts may quiet [] texts none (sent ∙ sym (append-nil v.sent)) told ps servers ts clients ms e lines))
+        (plain-step event more next actor step (λ f. f) None acts may quiet [] texts none (sent ∙ sym (append-nil v.sent)) told ps servers ts clients ms e lines))

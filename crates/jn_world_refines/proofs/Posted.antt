@@ -1,5 +1,5 @@
 -- What a step reports and sends, as the machine and the code have it.
-use Rattle.jn_world_refines.proofs.Common.{◌≡◌, Bool, true, false, List, [], ◌∷◌, ◌++◌, append_assoc, length, drop, refl, sym, ◌∙◌, ap, drop-append_seam, map-append, Party, World, When, Text, Line, sent_of, are_new, Sent, Setup, Chance, Deed, outside_texts, message_texts, traced, texts_of, lines_at, posted_by}
+use Rattle.jn_world_refines.proofs.Common.{◌≡◌, Bool, true, false, List, [], ◌∷◌, ◌++◌, append_assoc, length, drop, refl, sym, ◌∙◌, ap, drop-append_seam, map-append, Party, World, When, Text, Line, sent_of, are_new, Sent, Setup, Chance, Deed, outside_texts, message_texts, traced, texts_of, lines_at, posted_by, own_texts, reported}
 
 pub sent-posted : (from : Party) (messages : List Sent) → sent_of (posted_by from messages) ≡ messages
 sent-posted from [] = refl
@@ -14,11 +14,11 @@ none-traced true = refl
 none-traced false = refl
 
 -- the texts of a step, where what the system reported and sent in it is known
-pub texts-are : (x : Setup) (h : Chance) (deed : Deed) (before now : World) (own : List Text) (sent : List Sent) → now.lines ≡ before.lines ++ own → now.sent ≡ before.sent ++ sent
+pub texts-are : (x : Setup) (h : Chance) (deed : Deed) (before now : World) (own : List Text) (sent : List Sent) → reported deed.said (own_texts before now) ≡ own_texts before now → now.lines ≡ before.lines ++ own → now.sent ≡ before.sent ++ sent
     → texts_of x h deed before now ≡ outside_texts deed.device h.told ++ own ++ deed.texts ++ traced x.trace (message_texts deed.actor (length before.sent) sent)
-texts-are x h deed before now own sent lines-are sent-are =
+texts-are x h deed before now own sent says lines-are sent-are =
     ap (λ (texts : List Text). outside_texts deed.device h.told ++ texts ++ deed.texts ++ traced x.trace (message_texts deed.actor (length before.sent) (drop (length before.sent) now.sent)))
-    (ap (λ (ls : List Text). drop (length before.lines) ls) lines-are ∙ drop-append_seam before.lines own)
+    (says ∙ ap (λ (ls : List Text). drop (length before.lines) ls) lines-are ∙ drop-append_seam before.lines own)
     ∙ ap (λ (ms : List Sent). outside_texts deed.device h.told ++ own ++ deed.texts ++ traced x.trace (message_texts deed.actor (length before.sent) ms))
     (ap (λ (ms : List Sent). drop (length before.sent) ms) sent-are ∙ drop-append_seam before.sent sent)
 

@@ -1,5 +1,5 @@
 -- A restart of the schedule, and a server that comes up at the start or the end.
-use Rattle.jn_world_refines.proofs.Common.{◌≡◌, ℕ, ◌+◌, Bool, true, false, List, [], ◌∷◌, ◌++◌, drop, length, slice_get, slice_set, Some, refl, sym, ◌∙◌, ap, subst, arith, ◌||◌, if◌then◌else◌, fun_ext, ServerNo, Tid, Outside, DeviceState, Place, Slot, Up, Down, Gone, CameTo, IsRestart, texts_of_step, World, commits_in, has_line, counts_by, EpochsUsedUp, Line, Text, pairs_view, StoreView, Setup, recovered, given_up, Moment, lines_at, Task, ComesUp, when_of, next_task, Standing, Stands, with_named, HasCounts, ActsNext, IsStepTo, names_told}
+use Rattle.jn_world_refines.proofs.Common.{◌≡◌, ℕ, ◌+◌, Bool, true, false, List, [], ◌∷◌, ◌++◌, drop, length, slice_get, slice_set, Some, refl, sym, ◌∙◌, ap, subst, arith, ◌||◌, if◌then◌else◌, fun_ext, ServerNo, Tid, Outside, DeviceState, Place, Slot, Up, Down, Gone, CameTo, IsRestart, texts_of_step, commits_in, has_line, counts_by, EpochsUsedUp, Line, Text, pairs_view, StoreView, Setup, recovered, given_up, Moment, lines_at, Task, ComesUp, when_of, next_task, Standing, Stands, with_named, HasCounts, ActsNext, IsStepTo, names_told}
 use Rattle.jn_place.specs.declared.place.Restarted.{Restarted}
 use Rattle.jn_place.specs.declared.place.Restarted.TheVariants as came
 use Rattle.jn_report.specs.declared.line.Text.TheVariants as says
@@ -11,9 +11,6 @@ use Rattle.jn_world_refines.proofs.Stopping.{stopped-chance, stopped-step, used-
 
 module _ {S : Type 0} (look : S → StoreView) (device : S → DeviceState) (seen : (s : S) → look s ≡ pairs_view (device s)) (x : Setup) (w : Standing S) (m : Moment) (stand : Stands look device x w m)
     (q : ServerNo) (place : Place S) (at : slice_get w.places q.0 ≡ Some place) where
-  abbrev world : World
-  world = m.state.course.world
-
   abbrev standing : Slot S → Standing S
   standing slot = record w { places = slice_set w.places q.0 (record place { slot = slot }) }
 

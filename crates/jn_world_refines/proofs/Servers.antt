@@ -4,7 +4,7 @@ use Rattle.jn_server.specs.Counted.{CountsAll}
 use Rattle.jn_world_refines.proofs.WaitingNumbers.{carries-step}
 use Rattle.jn_world_refines.proofs.Placed.{each-set}
 use Rattle.jn_world_refines.proofs.Lines.{line-append, count-append}
-use Rattle.jn_world_refines.proofs.Core.{ServersStand, ClientsStand, NetStands}
+use Rattle.jn_world_refines.proofs.Core.{ServersStand, ClientsStand, NetStands, client-is, other-is}
 
 module _ {S : Type 0} (look : S → StoreView) (device : S → DeviceState) (seen : (s : S) → look s ≡ pairs_view (device s)) (x : Setup) (w : Standing S) (m : Moment) (stand : Stands look device x w m) where
   -- ---- servers
@@ -119,8 +119,8 @@ module _ {S : Type 0} (look : S → StoreView) (device : S → DeviceState) (see
   pub clients-same : (v : World) → v.clients ≡ m.state.course.world.clients → ClientsStand x w.clients v
   clients-same v e = record {
     eight = stand.eight;
-    clients = λ n t g. ap (λ (f : ClientNo → ClientTable). f (record { 0 = suc n })) e ∙ stand.clients n t g;
-    others = λ c o. ap (λ (f : ClientNo → ClientTable). f c) e ∙ stand.other_clients c o;
+    clients = λ n t g. ap (λ (f : ClientNo → ClientTable). f (record { 0 = suc n })) e ∙ client-is look device x w m stand n t g;
+    others = λ c o. ap (λ (f : ClientNo → ClientTable). f c) e ∙ other-is look device x w m stand c o;
   }
 
   -- ---- the network, and what was named

@@ -64,9 +64,11 @@ pub record Stands {S : Type 0} (look : S → StoreView) (device : S → DeviceSt
   pub trace : w.trace ≡ x.trace
   pub places : (n : ℕ) (p : Place S) → slice_get w.places n ≡ Some p → PlaceStands look device x m n p
   pub eight : length w.clients ≡ 8
-  pub clients : (n : ℕ) (t : ClientTable) → slice_get w.clients n ≡ Some t → m.state.course.world.clients (record { 0 = suc n }) ≡ t
+  pub clients : (n : ℕ) (t : ClientTable) → slice_get w.clients n ≡ Some t → m.state.clients (record { 0 = suc n }) ≡ t
   -- a client that isn't one of the eight stays as it begins
-  pub other_clients : (c : ClientNo) → is_client_number c.0 ≡ false → m.state.course.world.clients c ≡ new_table c x.servers
+  pub other_clients : (c : ClientNo) → is_client_number c.0 ≡ false → m.state.clients c ≡ new_table c x.servers
+  -- and the system has the same tables
+  pub tables : m.state.clients ≡ m.state.course.world.clients
   pub net : Carries w.net m.state.course
   pub named : (T : Tid) → w.named T ≡ has_line T m.state.course.world.lines
   pub commits : w.commits ≡ length (commits_in m.state.course.world.lines)

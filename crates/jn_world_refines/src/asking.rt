@@ -13,10 +13,12 @@ ghost use Rattle.jn_schedule.specs.declared.Event.TheVariants as events;
 ghost use Rattle.jn_row_ranges.specs.Taking.{sent_for};
 ghost use Rattle.jn_machine.specs.Chances.{Setup};
 ghost use Rattle.jn_machine.specs.Runs.{Moment};
-ghost use Rattle.jn_machine.specs.Steps.{message_texts, traced, lines_at};
+ghost use Rattle.jn_machine.specs.Steps.{message_texts, traced};
+ghost use Rattle.jn_report.specs.Lines.{lines_at};
 ghost use Rattle.jn_machine.specs.Tasks.{Task, when_of};
 ghost use Rattle.jn_world_refines.specs.Stands.{Standing, is_client_number, Stands, posted_by, with_sent};
-ghost use Rattle.jn_world_refines.specs.Clients.{with_client, texts_taken, texts_commanded, sent_commanded};
+ghost use Rattle.jn_machine.specs.Deeds.{texts_taken, texts_commanded};
+ghost use Rattle.jn_world_refines.specs.Clients.{with_client, sent_commanded};
 ghost use Rattle.jn_rows.specs.ClientLaws.{after_command};
 ghost use Rattle.jn_world_refines.specs.Going.{ActsNext, IsStepTo};
 

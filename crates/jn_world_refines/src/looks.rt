@@ -14,7 +14,7 @@ ghost use Rattle.jn_schedule.specs.declared.Event.TheVariants as events;
 ghost use Rattle.jn_server.specs.declared.show.Shown.{Shown};
 ghost use Rattle.jn_machine.specs.Chances.{Setup};
 ghost use Rattle.jn_machine.specs.Runs.{Moment};
-ghost use Rattle.jn_machine.specs.Steps.{lines_at};
+ghost use Rattle.jn_report.specs.Lines.{lines_at};
 ghost use Rattle.jn_machine.specs.Tasks.{Task, ClosesClients, when_of, next_task};
 ghost use Rattle.jn_world_refines.specs.Going.{ActsNext, IsStepTo};
 ghost use Rattle.jn_world_refines.specs.Pages.{HasCounts};

@@ -13,7 +13,7 @@ ghost use Rattle.jn_report.specs.declared.line.Text.TheVariants as says;
 ghost use Rattle.jn_schedule.specs.declared.Event.TheVariants as events;
 ghost use Rattle.jn_machine.specs.Chances.{Setup};
 ghost use Rattle.jn_machine.specs.Runs.{Moment};
-ghost use Rattle.jn_machine.specs.Steps.{lines_at};
+ghost use Rattle.jn_report.specs.Lines.{lines_at};
 ghost use Rattle.jn_machine.specs.Tasks.{Task, ComesUp, when_of, next_task};
 ghost use Rattle.jn_world_refines.specs.Going.{ActsNext, IsStepTo};
 ghost use Rattle.jn_world_refines.specs.Pages.{HasCounts};

@@ -17,7 +17,7 @@ ghost use Rattle.jn_report.specs.declared.line.Line.{Line};
 ghost use Rattle.jn_schedule.specs.declared.Event.TheVariants as events;
 ghost use Rattle.jn_machine.specs.Chances.{Setup};
 ghost use Rattle.jn_machine.specs.Runs.{Moment};
-ghost use Rattle.jn_machine.specs.Steps.{lines_at};
+ghost use Rattle.jn_report.specs.Lines.{lines_at};
 ghost use Rattle.jn_machine.specs.Tasks.{Task, when_of};
 ghost use Rattle.jn_world_refines.specs.Stands.{Standing, Stands, texts_sent, with_answer};
 ghost use Rattle.jn_world_refines.specs.Pages.{HasCounts, ReadsPages};

@@ -1,7 +1,7 @@
 -- What the calls that write leave.
 use Rattle.std.specs.Prelude.{◌≡◌, ◌≤◌, ℕ, Bool, true, false, List, Option}
 use Rattle.jn_report.specs.Text.{report_text}
-use Rattle.jn_host.specs.Outside.{Rose}
+use Rattle.jn_base.specs.Counts.{Rose}
 use Rattle.jn_writing.specs.Reporting.{Reporting}
 use Rattle.jn_writing.specs.Writing.{Took, TookFront}
 

@@ -1,6 +1,7 @@
 -- The outside at one moment, and what calls to it leave: what was written, and whether a call failed.
 use Rattle.std.specs.Prelude.{◌≡◌, ℕ, List, Option}
-use Rattle.jn_host.specs.Outside.{Contents, Rose}
+use Rattle.jn_host.specs.Outside.{Contents}
+use Rattle.jn_base.specs.Counts.{Rose}
 use Rattle.jn_writing.specs.Writing.{Took, TookFront}
 
 -- ---- the outside at one moment

@@ -1,7 +1,7 @@
 -- What an output took of a report's lines.
 use Rattle.std.specs.Prelude.{◌≡◌, ◌≢◌, ◌≤◌, ℕ, true, false, List, [], ◌++◌, Result, Err, is_ok}
 use Rattle.jn_report.specs.declared.line.Line.{Line}
-use Rattle.jn_host.specs.Outside.{Rose}
+use Rattle.jn_base.specs.Counts.{Rose}
 use Rattle.jn_writing.specs.declared.fault.ReportFault.{ReportFault}
 use Rattle.jn_writing.specs.declared.fault.ReportFault.TheVariants as reports
 

@@ -45,7 +45,7 @@ module _ (x : Setup) (h : Chance) (s : State) (q : ServerNo) (is : PrintsNothing
       ∙ made-same x h (asked []) [] begun_here (no-faults q h.told untold) refl (ap (λ (o : Option (Pick → Left)). bare_course (go_on (stopped_idle q o) s.course)) stop)
 
   pub is-met : (g : Chance) → deed_of x g (Meets (events.Show q)) s ≡ showing g q
-  is-met g = ap (λ (o : Option EventRefusal). met x g (events.Show q) here o) (ap (λ (b : Bool). unless b NoSuchServer (unless (is_some (here.memory q)) ServerDown None)) is.below
+  is-met g = ap (λ (o : Option EventRefusal). met x g (events.Show q) s.clients here o) (ap (λ (b : Bool). unless b NoSuchServer (unless (is_some (here.memory q)) ServerDown None)) is.below
       ∙ ap (λ (o : Option Memory). unless (is_some o) ServerDown None) is.up)
 
 module _ (x : Setup) (h : Chance) (s : State) (ds es : Devices) (quiet : IsQuiet x s.course.world ds) where
@@ -90,9 +90,6 @@ module _ (x : Setup) (h : Chance) (s : State) (ds es : Devices) (quiet : IsQuiet
                 → (bare (made x h (recovered h q) u) ≡ bare (made x still (recovered still q) u)) × IsQuiet x (go_on (recovering h q h.stop) s.course).world es
             at r = (made-same x h (recovered h q) (Restarts (pick_read still) [] [] ∷ []) u (no-faults q h.told r.told) refl course, subst (λ (steps : List Step). IsQuiet x (go_on steps s.course).world es) (sym steps) calm)
               where
-                read : Pick
-                read = pick_read h
-
                 steps : recovering h q h.stop ≡ Restarts (pick_read h) (works_found h.found) (tids_found h.found) ∷ []
                 steps = ap (λ (o : Option (Pick → Left)). recovering h q o) r.stop
 

@@ -3,7 +3,7 @@ pub use Rattle.std.proofs.Common.{◌≡◌, ℕ, Bool, true, false, List, [], �
 pub use Rattle.std.proofs.Math.Seq.{drop-append_seam}
 pub use Rattle.jn_report.specs.declared.line.Line.{Line}
 pub use Rattle.jn_rows.specs.Outcomes.{Sent, RowOutcome}
-pub use Rattle.jn_system.specs.WholeSystem.World.{World, Memory, with_epoch, new_memory, has_line, at_server}
+pub use Rattle.jn_system.specs.WholeSystem.World.{World, own_texts, Memory, with_epoch, new_memory, has_line, at_server}
 pub use Rattle.std.specs.Prelude.{◌||◌, if◌then◌else◌, nat_lt, nat_eq, ◌&&◌, slice_get, ◌*◌, not, take, filter, is_none, ◌^◌, replicate, count_by, map, Ok, Err}
 pub use Rattle.jn_base.specs.declared.names.Party.{Party}
 pub use Rattle.jn_report.specs.declared.line.Text.{Text}
@@ -13,7 +13,10 @@ pub use Rattle.jn_machine.specs.Chances.{Setup, Chance, prints_found, works_foun
 pub use Rattle.jn_machine.specs.Tasks.{Task, Begins, Meets, Acts, Rests, ComesUp, Dismisses, GoesDown, ClosesClients, CountsCommits, State, when_of, begun, next_task, AtEnd, InSchedule, Stage, CutShort, next_at, when_at}
 pub use Rattle.jn_machine.specs.Deeds.{Deed, Reads, stopped_idle, shown, showing, pick_read, recovering, recovered, given_up, is_used_up, brought_up, plain, served, crashed_at, scrubbed, Use, uses, Arms, Decays, Revives, room, no_room, delivered, delivered_at, nothing, is_busy, Recovers, restarted, Cleans, PowersOff, Nothing, Calls, Disarms, worked, working_steps, is_busy_with, recovers}
 pub use Rattle.jn_machine.specs.Events.{deed_of, met, acted, ending, told_unless, first_busy, servers_of, next_event, resting, next_in, asking, settling}
-pub use Rattle.jn_machine.specs.Steps.{outside_texts, own_texts, message_texts, traced, lines_at, most_messages, is_too_much, come_to, cut_short, made, done, next, next_by, texts_of}
+pub use Rattle.jn_machine.specs.Steps.{outside_texts, message_texts, traced, most_messages, is_too_much, come_to, cut_short, made, done, reported, next, next_by, texts_of}
+pub use Rattle.jn_report.specs.Lines.{lines_at}
+pub use Rattle.jn_base.specs.declared.names.ClientNo.{ClientNo}
+pub use Rattle.jn_rows.specs.Client.{ClientTable, Commanded, Refuses, Sends, command_row, new_table, over, if_server, if_idle, if_transaction, if_no_transaction, if_open, if_not_open, work_at as open_at, take_row, again_row, sent_again, if_waits, begun_row, opened_row, answer_line, outcome_row, decided_row, is_current}
 pub use Rattle.jn_base.specs.declared.names.ServerNo.{ServerNo}
 pub use Rattle.jn_order.specs.Files.{no_files, AllFiles, Files, change, effect, answer_to, files_after, is_did}
 unfoldable pub use Rattle.jn_order.specs.Files.{zeros}
@@ -26,8 +29,9 @@ pub use Rattle.jn_wrong.specs.NewImages.{IsOnly, IsNoneOfNew, blank, AreNew, IsN
 pub use Rattle.std.proofs.lemmas.Bool.Decides.{nat_tests}
 pub use Rattle.jn_base.specs.declared.device.FaultKind.{FaultKind}
 pub use Rattle.jn_base.specs.declared.device.FaultKind.TheVariants.{StopBefore, StopAfter, Decay, Revive, Null, Bad}
-pub use Rattle.jn_device.specs.Device.{DeviceState, bumped, PageState, partner_at, page_met, decayed, may_decay_at}
+pub use Rattle.jn_device.specs.Device.{DeviceState, PageState, partner_at, page_met, decayed, may_decay_at}
 unfoldable pub use Rattle.jn_device.specs.Device.{blank_page}
+pub use Rattle.jn_base.specs.Counts.{bumped}
 pub use Rattle.jn_device.specs.Calls.{due, strike, GetStep, PutStep, told_of, got_outside, put_outside, decay_outside, waiting_on, CallStep, struck_page, get_stops, get_outcome, get_is_done, put_stops, put_outcome, put_is_done}
 pub use Rattle.jn_device.specs.Happens.{Happens, get, put, joined}
 pub use Rattle.jn_base.specs.declared.names.FileNo.{FileNo}
@@ -53,9 +57,7 @@ pub use Rattle.jn_report.specs.declared.line.When.{When}
 pub use Rattle.jn_report.specs.declared.line.When.TheVariants.{Event as AtEvent, End}
 pub use Rattle.jn_machine.specs.Examples.{calm, setup, one_write, calmly, at_step, stopped, report, line}
 unfoldable pub use Rattle.jn_machine.specs.Examples.{block_of}
-pub use Rattle.jn_base.specs.declared.names.ClientNo.{ClientNo}
 pub use Rattle.jn_base.specs.declared.op.Command.{Command}
-pub use Rattle.jn_rows.specs.Client.{Commanded, Refuses, Sends, command_row, new_table, over, ClientTable, if_server, if_idle, if_transaction, if_no_transaction, if_open, if_not_open, work_at as open_at, take_row, again_row, sent_again, if_waits, begun_row, opened_row, answer_line, outcome_row, decided_row, is_current}
 pub use Rattle.jn_storage.specs.DeviceCalls.{row_calls, step_calls}
 pub use Rattle.jn_base.specs.declared.device.Outside.{Outside}
 pub use Rattle.jn_machine.specs.Runs.{none, more, Moment, Leads, DoesStep, MayLead}
@@ -79,8 +81,8 @@ pub use Rattle.jn_recovery.specs.Counts.{most_calls}
 pub use Rattle.jn_records.specs.declared.head.Head.{Head}
 pub use Rattle.jn_records.specs.declared.head.Head.TheVariants.{Free as FreeHead, Used}
 pub use Rattle.std.proofs.lemmas.List.Sums.{count_by-le-length, sum_by-cons}
-pub use Rattle.jn_machine.proofs.Telling.{may_tell, is_of_delivery, is_note, weaker, Tells, take-tells, noted, noted-with}
-pub use Rattle.jn_report.specs.Kinds.{is_up, is_down, is_stopped, is_commit, is_outside, is_answer, is_print as is_printed}
+pub use Rattle.jn_machine.proofs.Telling.{may_tell, is_of_delivery, is_down, is_note, weaker, Tells, take-tells, noted, noted-with}
+pub use Rattle.jn_report.specs.Kinds.{is_up, is_stopped, is_commit, is_outside, is_answer, is_print as is_printed}
 pub use Rattle.jn_machine.proofs.Texts.{More, gone-on, task-texts, Besides}
 pub use Rattle.jn_msgs.specs.declared.message.Message.{Message}
 pub use Rattle.jn_records.specs.declared.net_list.Need.{Need}
@@ -93,7 +95,7 @@ pub use Rattle.jn_wrong.specs.Settles.{HandsOver, ComesToRest}
 pub use Rattle.jn_base.specs.declared.names.Cause.{Cause}
 pub use Rattle.jn_base.specs.declared.names.Resource.{Resource}
 pub use Rattle.jn_base.specs.declared.op.Answer.TheVariants.{Did, Exists, Read as Found}
-pub use Rattle.jn_wrong.specs.Room.{IsOnlyOfLacking, for_a_file, for_a_block, full_at_block, IsOnlyWhereLacking, one_record, lacking, made_report, in_room}
+pub use Rattle.jn_wrong.specs.Room.{IsOnlyOfLacking, for_a_file, for_a_block, full_at_block, IsOnlyWhereLacking, one_record, one_page, writes_at, for_a_map_page, lacking, made_report, in_room}
 pub use Rattle.jn_msgs.specs.declared.message.Vote.TheVariants.{Full, Ready}
 pub use Rattle.jn_rows.specs.declared.worker.ActiveWork.{ActiveWork}
 pub use Rattle.jn_base.specs.declared.names.Cause.TheVariants.{Full as FullAt}
@@ -116,6 +118,7 @@ pub use Rattle.jn_records.specs.declared.record.Record.TheVariants.{Free, Intent
 pub use Rattle.jn_records.specs.Heads.{is_free as is_free_head}
 unfoldable pub use Rattle.jn_records.specs.Heads.{head_at}
 pub use Rattle.jn_sets.specs.Pool.{free_count, rubbish_count, is_free, is_rubbish}
+pub use Rattle.jn_machine.proofs.Clients.{task-says, HasTables, begun-said, begun-tables, become}
 pub use Rattle.jn_wrong.specs.Showing.{unit_printed, prints_unit, AreThere, PrintsAll, printed_lines, Shows}
 pub use Rattle.jn_system.specs.WholeSystem.LockFacts.{LockFacts, ServerFact, UpFact}
 pub use Rattle.jn_wrong.specs.Wanting.{IsShort, WasShort, OfText, OfLines, OfCause}

@@ -80,13 +80,13 @@ module _ (x : Setup) (one : x.servers ≡ 1) (last : Moment) (over : next_task l
 
   -- what befalls the device between its calls is done
   pub answers-one : (s : State) (e : Event) (device : Use) (texts : Bool → List Text) (answer : Bool) (P P' : DeviceState → Type 0) → next_task s ≡ Some (Meets e) → refusal_of x s.course.world e ≡ None
-      → ((h : Chance) → acted x h e s.course.world ≡ uses s0 device (texts (allowed h.found))) → ((told : List Outside) → outside_texts device told ≡ [])
+      → ((h : Chance) → acted x h e s.clients s.course.world ≡ uses s0 device (texts (allowed h.found))) → ((told : List Outside) → outside_texts device told ≡ [])
       → ((h : Chance) (ds es : Devices) → IsUsed x h device s.course.world s.course.world ds es → P (ds s0) → (allowed h.found ≡ answer) × P' (es s0))
       → Stand x last s P → Stand x last (answered x s e device (texts answer)) P'
   answers-one s e device texts answer P P' n unrefused acts silent tells h = by (drive s (Meets e) h.moment h.leads h.state n)
     where
       deed-is : (g : Chance) → deed_of x g (Meets e) s ≡ uses s0 device (texts (allowed g.found))
-      deed-is g = ap (λ (o : Option EventRefusal). met x g e s.course.world o) unrefused ∙ acts g
+      deed-is g = ap (λ (o : Option EventRefusal). met x g e s.clients s.course.world o) unrefused ∙ acts g
 
       by : Driven s (Meets e) h.moment → Stand x last (answered x s e device (texts answer)) P'
       by d = at (subst (λ (deed : Deed). Befalls x d.chance deed s.course.world h.moment.devices d.next.devices) (deed-is d.chance) d.befalls)
@@ -103,13 +103,13 @@ module _ (x : Setup) (one : x.servers ≡ 1) (last : Moment) (over : next_task l
 
   -- the same, where it gives no answer
   pub silently-one : (s : State) (e : Event) (device : Use) (P P' : DeviceState → Type 0) → next_task s ≡ Some (Meets e) → refusal_of x s.course.world e ≡ None
-      → ((h : Chance) → acted x h e s.course.world ≡ uses s0 device []) → ((told : List Outside) → outside_texts device told ≡ [])
+      → ((h : Chance) → acted x h e s.clients s.course.world ≡ uses s0 device []) → ((told : List Outside) → outside_texts device told ≡ [])
       → ((h : Chance) (ds es : Devices) → IsUsed x h device s.course.world s.course.world ds es → P (ds s0) → P' (es s0))
       → Stand x last s P → Stand x last (answered x s e device []) P'
   silently-one s e device P P' n unrefused acts silent becomes h = by (drive s (Meets e) h.moment h.leads h.state n)
     where
       deed-is : (g : Chance) → deed_of x g (Meets e) s ≡ uses s0 device []
-      deed-is g = ap (λ (o : Option EventRefusal). met x g e s.course.world o) unrefused ∙ acts g
+      deed-is g = ap (λ (o : Option EventRefusal). met x g e s.clients s.course.world o) unrefused ∙ acts g
 
       by : Driven s (Meets e) h.moment → Stand x last (answered x s e device []) P'
       by d = at (subst (λ (deed : Deed). Befalls x d.chance deed s.course.world h.moment.devices d.next.devices) (deed-is d.chance) d.befalls)
@@ -129,7 +129,7 @@ module _ (x : Setup) (one : x.servers ≡ 1) (last : Moment) (over : next_task l
   crashes-one s m P P' n unrefused is-up goes-off h = by (drive s (Meets (events.Crash s0)) h.moment h.leads h.state n)
     where
       deed-is : (g : Chance) → deed_of x g (Meets (events.Crash s0)) s ≡ crashed_at s0 (Some m)
-      deed-is g = ap (λ (o : Option EventRefusal). met x g (events.Crash s0) s.course.world o) unrefused ∙ ap (crashed_at s0) is-up
+      deed-is g = ap (λ (o : Option EventRefusal). met x g (events.Crash s0) s.clients s.course.world o) unrefused ∙ ap (crashed_at s0) is-up
 
       by : Driven s (Meets (events.Crash s0)) h.moment → Stand x last (done x still (Meets (events.Crash s0)) s) P'
       by d = at (subst (λ (deed : Deed). Befalls x d.chance deed s.course.world h.moment.devices d.next.devices) (deed-is d.chance) d.befalls)
@@ -152,7 +152,7 @@ module _ (x : Setup) (one : x.servers ≡ 1) (last : Moment) (over : next_task l
   scrubs-one s P P' n unrefused quiet cleans h = by (drive s (Meets (events.Scrub s0)) h.moment h.leads h.state n)
     where
       deed-is : (g : Chance) → deed_of x g (Meets (events.Scrub s0)) s ≡ scrubbed g s0
-      deed-is g = ap (λ (o : Option EventRefusal). met x g (events.Scrub s0) s.course.world o) unrefused
+      deed-is g = ap (λ (o : Option EventRefusal). met x g (events.Scrub s0) s.clients s.course.world o) unrefused
 
       by : Driven s (Meets (events.Scrub s0)) h.moment → Stand x last (done x still (Meets (events.Scrub s0)) s) P'
       by d = at (subst (λ (deed : Deed). Befalls x d.chance deed s.course.world h.moment.devices d.next.devices) (deed-is d.chance) d.befalls)

@@ -69,6 +69,7 @@ module _ (a : ℕ) (few : a < 1000) (rest : ServerNo → Option Memory) (others 
       waiting = [];
       steps = steps;
     };
+    clients = λ c. over (new_table c 1);
     tasks = drop 2 (ending (setup 1));
     lines = lines;
     stage = AtEnd;
@@ -143,6 +144,7 @@ module _ (a : ℕ) (few : a < 1000) (memory : Memory) (rest : ServerNo → Optio
       waiting = [];
       steps = steps;
     };
+    clients = λ c. new_table c 1;
     tasks = ending (setup 1);
     lines = lines;
     stage = InSchedule;
@@ -191,6 +193,7 @@ module _ (a : ℕ) (few : a < 1000) (rest : ServerNo → Option Memory) (others 
       waiting = [];
       steps = steps;
     };
+    clients = λ c. new_table c 1;
     tasks = ending (setup 1);
     lines = lines;
     stage = InSchedule;

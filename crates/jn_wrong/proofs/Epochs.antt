@@ -97,4 +97,4 @@ module _ (q : ServerNo) where
     step-rises step = by-case step (after step w) (step-case w step)
 
   pub rise : (x : Setup) (schedule : List Event) (files : AllFiles) (epochs : ServerNo → ℕ) (t : State) → MayLead x (before x schedule files epochs) t → epochs_rise q (epochs q) t.lines ≡ true
-  rise x schedule files epochs t leads = run-read ℕ (epoch_after q) (may_rise q) aside AtLeast (λ w step last h. step-rises w last h step) (epochs q) x (before x schedule files epochs) t refl (λ c. itself (epochs q)) leads
+  rise x schedule files epochs t leads = run-read ℕ (epoch_after q) (may_rise q) aside AtLeast (λ w step last h. step-rises w last h step) (epochs q) x (before x schedule files epochs) t refl refl (λ c. itself (epochs q)) leads

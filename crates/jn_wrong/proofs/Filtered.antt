@@ -1,5 +1,5 @@
 -- The lines of one kind among those that a step reports.
-use Rattle.jn_wrong.proofs.Common.{◌≡◌, Bool, true, false, List, [], ◌∷◌, ◌++◌, length, drop, refl, ◌∙◌, ap, arith, ◌||◌, ◌&&◌, not, filter, if◌then◌else◌, list_all, drop-append_seam, When, Text, Line, Step, Course, go_on, own_texts, lines_at, may_tell, is_of_delivery, is_up, is_down, is_stopped, More, gone-on, NextEvent}
+use Rattle.jn_wrong.proofs.Common.{◌≡◌, Bool, true, false, List, [], ◌∷◌, ◌++◌, length, drop, refl, ◌∙◌, ap, arith, ◌||◌, ◌&&◌, not, filter, if◌then◌else◌, list_all, drop-append_seam, When, Text, Line, Step, Course, go_on, own_texts, lines_at, may_tell, is_of_delivery, is_up, is_stopped, More, gone-on, NextEvent, is_down}
 
 pub filter-both : {A : Type 0} (test : A → Bool) (xs ys : List A) → filter test (xs ++ ys) ≡ filter test xs ++ filter test ys
 filter-both test [] ys = refl

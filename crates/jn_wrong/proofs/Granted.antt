@@ -10,12 +10,12 @@ with_room free maps rubbish = record { free = free; maps = maps; rubbish = rubbi
 
 -- once the server's row for message k, which waits first, is this
 abbrev pub by_row : Setup → State → ℕ → RowOutcome Memory → State
-by_row x s k row = made_of [] [] (Server s0) (Rests ∷ []) false x.trace (bare_course (course_to (steps.done s0 (Some k) row s.course.world) (Deliver k no_room) s.course)) (bare (begun Rests s))
+by_row x s k row = made_of (λ f. f) None [] [] (Server s0) (Rests ∷ []) false x.trace (bare_course (course_to (steps.done s0 (Some k) row s.course.world) (Deliver k no_room) s.course)) (bare (begun Rests s))
 
-bare-made-of : (tasks : List Task) (trace : Bool) (c : Course) (s : State) → bare (made_of [] [] (Server s0) tasks false trace (bare_course c) (bare s)) ≡ made_of [] [] (Server s0) tasks false trace (bare_course c) (bare s)
+bare-made-of : (tasks : List Task) (trace : Bool) (c : Course) (s : State) → bare (made_of (λ f. f) None [] [] (Server s0) tasks false trace (bare_course c) (bare s)) ≡ made_of (λ f. f) None [] [] (Server s0) tasks false trace (bare_course c) (bare s)
 bare-made-of tasks trace c s = by (nat_lt most_messages (length c.world.sent))
   where
-    by : (b : Bool) → bare (if b then bare (cut_short (bare s)) else came_of [] [] (Server s0) tasks trace (bare_course c) (bare s)) ≡ (if b then bare (cut_short (bare s)) else came_of [] [] (Server s0) tasks trace (bare_course c) (bare s))
+    by : (b : Bool) → bare (if b then bare (cut_short (bare s)) else came_of (λ f. f) None [] [] (Server s0) tasks trace (bare_course c) (bare s)) ≡ (if b then bare (cut_short (bare s)) else came_of (λ f. f) None [] [] (Server s0) tasks trace (bare_course c) (bare s))
     by true = refl
     by false = refl
 
@@ -44,8 +44,8 @@ module _ (x : Setup) (one : x.servers ≡ 1) (last : Moment) (over : next_task l
     step_with r stop = record (served s0 row_calls (handing k r stop ∷ [])) { tasks = Rests ∷ [] }
 
     deed-is : (h : Chance) → deed_of x h Rests s ≡ step_with (room h s0) h.stop
-    deed-is h = ap (λ (ks : List ℕ). resting x h w (next_event ks (first_busy h.rubbish w (servers_of x)))) waits
-        ∙ ap (λ (o : Option Sent). record (delivered h k w o) { tasks = Rests ∷ [] }) sent
+    deed-is h = ap (λ (ks : List ℕ). resting x h s.clients w (next_event ks (first_busy h.rubbish w (servers_of x)))) waits
+        ∙ ap (λ (o : Option Sent). record (delivered h k s.clients w o) { tasks = Rests ∷ [] }) sent
         ∙ ap (λ (o : Option Memory). record (delivered_at h k s0 o) { tasks = Rests ∷ [] }) up
 
     after-is : (r : Room) → after (Deliver k r) w ≡ steps.done s0 (Some k) (server_row m y r message) w
@@ -84,8 +84,8 @@ module _ (x : Setup) (one : x.servers ≡ 1) (last : Moment) (over : next_task l
                     moment = z.next;
                     leads = z.leads;
                     state = z.state ∙ ap (λ (deed : Deed). bare (made x f deed s')) (deed-is f) ∙ bare-made x f (step_with (room f s0) f.stop) s'
-                        ∙ ap (λ (out : List Text). made_of out [] (Server s0) (Rests ∷ []) false x.trace (bare_course (go_on (handing k (room f s0) f.stop ∷ []) s.course)) (bare s')) (no-faults s0 f.told quietly.told)
-                        ∙ ap (λ (c : Course). made_of [] [] (Server s0) (Rests ∷ []) false x.trace c (bare s')) course
+                        ∙ ap (λ (out : List Text). made_of (λ f. f) None out [] (Server s0) (Rests ∷ []) false x.trace (bare_course (go_on (handing k (room f s0) f.stop ∷ []) s.course)) (bare s')) (no-faults s0 f.told quietly.told)
+                        ∙ ap (λ (c : Course). made_of (λ f. f) None [] [] (Server s0) (Rests ∷ []) false x.trace c (bare s')) course
                         ∙ sym (bare-made-of (Rests ∷ []) x.trace (course_to now (Deliver k no_room) s.course) s');
                     device = becomes d (es s0) h.device (record { waiting = quietly.nothing_waits; told = quietly.nothing_told; power = quietly.power }) counted left;
                   }
@@ -123,11 +123,11 @@ module _ (x : Setup) (one : x.servers ≡ 1) (last : Moment) (over : next_task l
   told-one s k waiting c message P rests' waits sent h = by (drive x one last over s Rests h.moment h.leads h.state rests')
     where
       deed : Deed
-      deed = record (delivered still k s.course.world (Some (Client c, message))) { tasks = Rests ∷ [] }
+      deed = record (delivered still k s.clients s.course.world (Some (Client c, message))) { tasks = Rests ∷ [] }
 
       deed-is : (g : Chance) → deed_of x g Rests s ≡ deed
-      deed-is g = ap (λ (ks : List ℕ). resting x g s.course.world (next_event ks (first_busy g.rubbish s.course.world (servers_of x)))) waits
-          ∙ ap (λ (o : Option Sent). record (delivered g k s.course.world o) { tasks = Rests ∷ [] }) sent
+      deed-is g = ap (λ (ks : List ℕ). resting x g s.clients s.course.world (next_event ks (first_busy g.rubbish s.course.world (servers_of x)))) waits
+          ∙ ap (λ (o : Option Sent). record (delivered g k s.clients s.course.world o) { tasks = Rests ∷ [] }) sent
 
       by : Driven x one last over s Rests h.moment → Stand x last (done x still Rests s) P
       by d = at (subst (λ (z : Deed). Befalls x d.chance z s.course.world h.moment.devices d.next.devices) (deed-is d.chance) d.befalls)

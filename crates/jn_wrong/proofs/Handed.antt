@@ -1,5 +1,5 @@
 -- A message that a settle hands over waits no more, so that no settle hands it over again.
-use Rattle.jn_wrong.proofs.Common.{◌≡◌, ◌<◌, ℕ, ◌+◌, Bool, true, false, List, [], ◌∷◌, ◌++◌, length, length-append, drop, Option, Some, None, refl, sym, ◌∙◌, ap, subst, arith, ◌&&◌, not, nat_eq, nat_lt, if◌then◌else◌, slice_get, drop-append_seam, nat_tests, ServerNo, Client, Server, AllFiles, Event, Sent, Pick, World, Memory, Room, Step, Deliver, StopDelivery, after, Course, without_number, still_waiting, numbered, go, go_on, handing, Setup, Chance, Task, Rests, Dismisses, Stage, CutShort, State, next_at, next_task, begun, Deed, room, no_room, delivered, delivered_at, servers_of, first_busy, next_event, next_in, resting, deed_of, is_too_much, come_to, cut_short, made, done, none, more, MayLead, before, HandsOver, Left}
+use Rattle.jn_wrong.proofs.Common.{◌≡◌, ◌<◌, ℕ, ◌+◌, Bool, true, false, List, [], ◌∷◌, ◌++◌, length, length-append, drop, Option, Some, None, refl, sym, ◌∙◌, ap, subst, arith, ◌&&◌, not, nat_eq, nat_lt, if◌then◌else◌, slice_get, drop-append_seam, nat_tests, ServerNo, Client, Server, AllFiles, Event, Sent, Pick, World, Memory, Room, Step, Deliver, StopDelivery, after, Course, without_number, still_waiting, numbered, go, go_on, handing, Setup, Chance, Task, Rests, Dismisses, Stage, CutShort, State, next_at, next_task, begun, Deed, room, no_room, delivered, delivered_at, servers_of, first_busy, next_event, next_in, resting, deed_of, is_too_much, come_to, cut_short, made, done, none, more, MayLead, before, HandsOver, Left, ClientNo, ClientTable}
 use Rattle.jn_schedule.specs.declared.Event.TheVariants as events
 use Rattle.jn_system_settling.proofs.Settling.Burdens.{are_below, below-both, below-more, below-new}
 use Rattle.jn_system_settling.proofs.Settling.Courses.{below-still}
@@ -177,16 +177,16 @@ module _ (k : ℕ) where
   at-takes h q None = by-step (Deliver k (room h q)) (λ ks. refl)
   at-takes h q (Some m) = handing-takes (room h q) h.stop
 
-  takes : (h : Chance) (w : World) (y : Sent) → Takes (delivered h k w (Some y))
-  takes h w (Client c, message) = by-step (Deliver k no_room) (λ ks. refl)
-  takes h w (Server q, message) = at-takes h q (w.memory q)
+  takes : (h : Chance) (t : ClientNo → ClientTable) (w : World) (y : Sent) → Takes (delivered h k t w (Some y))
+  takes h t w (Client c, message) = by-step (Deliver k no_room) (λ ks. refl)
+  takes h t w (Server q, message) = at-takes h q (w.memory q)
 
   -- afterwards it waits no more, or the run is cut short
   handed : (x : Setup) (s t : State) → Tidy s.course → HandsOver x k s t → (t.stage ≡ CutShort → ⊥) → Gone k t.course
   handed x s t tidy d goes = subst (λ (u : State). Gone k u.course) (sym d.state_is) (by (is_too_much deed (go_on deed.steps s.course)) (λ e. goes (ap (λ (u : State). u.stage) d.state_is ∙ e)))
     where
       deed : Deed
-      deed = resting x d.chance s.course.world (next_in x d.chance.rubbish s.course)
+      deed = resting x d.chance s.clients s.course.world (next_in x d.chance.rubbish s.course)
 
       now : List ℕ
       now = s.course.waiting
@@ -208,10 +208,10 @@ module _ (k : ℕ) where
           (subst (λ b. are_absent k (if b then drop 1 now else k ∷ without_number k (drop 1 now)) ≡ true) (sym same) (first (are_absent k (drop 1 now)) (are_single (drop 1 now)) (subst (λ ks. are_single ks ≡ true) is-first tidy.single)))
 
       taken : Gone k (go_on deed.steps s.course)
-      taken = subst (λ o. Gone k (go_on (resting x d.chance s.course.world o).steps s.course)) (sym d.is_next) (there (get-some s.course.world.sent k was-sent))
+      taken = subst (λ o. Gone k (go_on (resting x d.chance s.clients s.course.world o).steps s.course)) (sym d.is_next) (there (get-some s.course.world.sent k was-sent))
         where
-          there : (y : Sent) × (slice_get s.course.world.sent k ≡ Some y) → Gone k (go_on (delivered d.chance k s.course.world (slice_get s.course.world.sent k)).steps s.course)
-          there (y, e) = subst (λ o. Gone k (go_on (delivered d.chance k s.course.world o).steps s.course)) (sym e) (takes d.chance s.course.world y s.course was-sent absent)
+          there : (y : Sent) × (slice_get s.course.world.sent k ≡ Some y) → Gone k (go_on (delivered d.chance k s.clients s.course.world (slice_get s.course.world.sent k)).steps s.course)
+          there (y, e) = subst (λ o. Gone k (go_on (delivered d.chance k s.clients s.course.world o).steps s.course)) (sym e) (takes d.chance s.clients s.course.world y s.course was-sent absent)
 
       by : (b : Bool) → ((if b then cut_short (begun Rests s) else come_to x d.chance deed (go_on deed.steps s.course) (begun Rests s)).stage ≡ CutShort → ⊥)
           → Gone k (if b then cut_short (begun Rests s) else come_to x d.chance deed (go_on deed.steps s.course) (begun Rests s)).course

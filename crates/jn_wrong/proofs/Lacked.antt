@@ -1,5 +1,5 @@
 -- The schedules that make a file, and write a block of it, computed up to where their transaction ends, and from there.
-use Rattle.jn_wrong.proofs.Common.{Bool, true, ap, list_any, Cause, Line, Text, Setup, State, next_task, ◌≡◌, ℕ, false, List, [], ◌∷◌, Some, None, refl, ServerNo, no_files, before, Counts, Resource, setup, makes_one, full_of, file, block, File, Block, zeros, block_of, IsNoneOf, Did, IsOnlyOfLacking, for_a_file, Full, ActiveWork, one_write, for_a_block, full_at_block, FullAt, Aborted, IsOnlyOf, IsOnlyWhereLacking, one_record}
+use Rattle.jn_wrong.proofs.Common.{Bool, true, ap, list_any, Cause, Line, Text, Setup, State, next_task, ◌≡◌, ℕ, false, List, [], ◌∷◌, Some, None, refl, ServerNo, no_files, before, Counts, Resource, setup, makes_one, full_of, file, block, File, Block, zeros, block_of, IsNoneOf, Did, IsOnlyOfLacking, for_a_file, Full, ActiveWork, one_write, for_a_block, full_at_block, FullAt, Aborted, IsOnlyOf, IsOnlyWhereLacking, one_record, head_blocks, one_page, writes_at, for_a_map_page}
 use Rattle.jn_base.specs.declared.names.Resource.TheVariants.{Records, Pages}
 use Rattle.jn_wrong.proofs.StillRuns.{goes}
 use Rattle.jn_locks.specs.Locks as locks
@@ -168,4 +168,76 @@ pub none-full-written : (bytes : List ℕ) (resource : Resource) (free need : �
 none-full-written bytes resource free need images closing new whole = clash (written-lacking bytes (setup 1) images closing resource free need refl refl new whole)
   where
     clash : None ≡ Some (Full resource free need) → ⊥
+    clash k = cc
+
+-- ---- and a block of it that is past those of a head, for which a map page is lacking too
+
+abbrev writes_block_120 : List ℕ → ActiveWork
+writes_block_120 bytes = record {
+  list = (record { what = Fresh; file = file 7; block = block 0; bytes = zeros }) ∷ (record { what = Put; file = file 7; block = block 120; bytes = block_of bytes }) ∷ [];
+  reads = File (file 7) ∷ [];
+  writes = File (file 7) ∷ Block (file 7) (block 120) ∷ [];
+  last = 2;
+  kept = Some Did;
+  vulnerable = false;
+}
+
+mapped-so : (bytes : List ℕ) (counts : ServerNo → Counts) (epochs : ServerNo → ℕ) → IsSo (writes_at head_blocks bytes) 71 (writes_block_120 bytes) (record { 0 = 5 }) 11 for_a_map_page counts epochs
+unfolding locks.unit_before
+mapped-so bytes counts epochs = record {
+  so = pieces-so (setup_of 1 false counts) (0 ∷ 69 ∷ []) (before (setup_of 1 false counts) (writes_at head_blocks bytes) no_files (new_epochs 1 epochs)) (
+    refl,
+    record { epoch = 0; below = refl; found = λ c. refl; not_last = refl },
+    (
+      refl,
+      refl,
+      tt,
+    ),
+  );
+  rests = refl;
+  tasks = refl;
+  waits = refl;
+  rests_on = refl;
+  busy = λ r. refl;
+  up = refl;
+  empty = refl;
+  begins = refl;
+  meets = refl;
+  then_settles = refl;
+  settles = refl;
+  still_empty = refl;
+  asks = record { rests = refl; waits = refl; sent = refl; up = refl };
+  refuses = record { rests = refl; waits = refl; sent = refl; up = refl };
+  tells_so = record { outcome = _; rests = refl; waits = refl; sent = refl };
+  is_told = λ new. refl;
+  empty_on = refl;
+  prepares = record { rests = refl; waits = refl; sent = refl; up = refl };
+  alone = refl;
+  needs_are = λ maps. refl;
+  votes = record { rests = refl; waits = refl; sent = refl; up = refl };
+  commits = refl;
+  refuses_work = λ resource free need. record { rests = refl; waits = refl; sent = refl; up = refl };
+  drops = λ resource free need. record { rests = refl; waits = refl; sent = refl; up = refl };
+  tells_outcome = λ resource free need. record { outcome = _; rests = refl; waits = refl; sent = refl };
+  outcome_told = λ resource free need new. refl;
+}
+
+pub mapped-lacking : (bytes : List ℕ) → IsOnlyOfLacking for_a_map_page (writes_at head_blocks bytes) full_at_block
+mapped-lacking bytes = only-lacking (writes_at head_blocks bytes) 71 (writes_block_120 bytes) (record { 0 = 5 }) 11 for_a_map_page (mapped-so bytes) full_at_block (λ resource free need. (refl, refl))
+
+mapped-tells : (bytes : List ℕ) (counts : ServerNo → Counts) (epochs : ServerNo → ℕ) → TellsSo (writes_at head_blocks bytes) 71 (writes_block_120 bytes) (record { 0 = 5 }) 11 for_a_map_page counts epochs 30 full_at_block
+unfolding locks.unit_before
+mapped-tells bytes counts epochs = record {
+  no_flag = goes-on (setup_of 1 false counts) _ _ (refl, record { epoch = 1; below = refl; found = λ c. refl; not_last = refl }, (refl, record { memory = _; below = refl; up = refl; nothing = λ f. refl }, (refl, refl, tt))) refl refl;
+  no_work = λ resource free need. goes-on (setup_of 1 false counts) _ _ (refl, record { epoch = 1; below = refl; found = λ c. refl; not_last = refl }, (refl, record { memory = _; below = refl; up = refl; nothing = λ f. refl }, (refl, refl, tt))) refl refl;
+}
+
+pub mapped-where-lacking : (bytes : List ℕ) → IsOnlyWhereLacking for_a_map_page (writes_at head_blocks bytes) full_at_block
+mapped-where-lacking bytes = only-where-lacking (writes_at head_blocks bytes) 71 (writes_block_120 bytes) (record { 0 = 5 }) 11 for_a_map_page (mapped-so bytes) full_at_block 30 (mapped-tells bytes)
+
+-- where one data page is free, of the two that are needed
+pub not-without-map : (bytes : List ℕ) → IsNoneOf one_page (writes_at head_blocks bytes) (full_at_block Pages 0 1)
+not-without-map bytes images closing new whole = clash (mapped-lacking bytes one_page images closing Pages 0 1 refl refl new whole)
+  where
+    clash : Some (Full Pages 1 2) ≡ Some (Full Pages 0 1) → ⊥
     clash k = cc

@@ -30,7 +30,7 @@ module _ (x : Setup) where
     ended a c b d leads goes is again = by (next_in x d.chance.rubbish a.state.course) refl
       where
         now : Option Event → Deed
-        now o = resting x d.chance a.state.course.world o
+        now o = resting x d.chance a.state.clients a.state.course.world o
 
         left : (o : Option Event) → next_in x d.chance.rubbish a.state.course ≡ o → c.state.tasks ≡ (now o).tasks ++ rest
         left o n = (goes-so a c b d leads goes Rests rest is).tasks ∙ ap (λ (o : Option Event). (now o).tasks ++ rest) n

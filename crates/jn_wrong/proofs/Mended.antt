@@ -103,7 +103,7 @@ rises h q w = by (is_used_up h q w)
 pub mended-in-schedule : (x : Setup) (q : ServerNo) (a b : Moment) (d : DoesStep x a b) → q.0 < x.servers → d.task ≡ Meets (events.Restart q) → refusal_of x a.state.course.world (events.Restart q) ≡ None → IsUpBehind x a b d q
     → AreMended (x.counts q) (a.devices q) (b.devices q)
 mended-in-schedule x q a b d there task unrefused up = mended x q a b d there (ap (λ (t : Task). (deed_of x d.chance t a.state).device) task
-    ∙ ap (λ (o : Option EventRefusal). (met x d.chance (events.Restart q) a.state.course.world o).device) unrefused ∙ restarts d.chance q a.state.course.world) up
+    ∙ ap (λ (o : Option EventRefusal). (met x d.chance (events.Restart q) a.state.clients a.state.course.world o).device) unrefused ∙ restarts d.chance q a.state.course.world) up
 
 pub mended-at-start-and-end : (x : Setup) (q : ServerNo) (a b : Moment) (d : DoesStep x a b) → q.0 < x.servers → d.task ≡ ComesUp q → IsUpBehind x a b d q → AreMended (x.counts q) (a.devices q) (b.devices q)
 mended-at-start-and-end x q a b d there task up = mended x q a b d there (ap (λ (t : Task). (deed_of x d.chance t a.state).device) task ∙ rises d.chance q a.state.course.world) up

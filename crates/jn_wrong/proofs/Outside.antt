@@ -1,9 +1,9 @@
 -- The lines of a step that report refused faults are those that its device reported.
-use Rattle.jn_wrong.proofs.Common.{◌≡◌, ◌≢◌, ◌⊎◌, inl, inr, ℕ, ◌+◌, Bool, true, false, List, [], ◌∷◌, ◌++◌, append-nil, map, length, Option, Some, None, is_some, refl, ◌∙◌, ap, arith, not, filter, if◌then◌else◌, slice_get, ServerNo, Party, Client, Server, Outside, DeviceState, Event, EventRefusal, TooManyArmed, EpochsUsedUp, Text, Line, Sent, Pick, World, Memory, Printed, FileThere, PageStored, UnitLocked, Step, run, Course, go_on, newly_sent, text_printed, Setup, Chance, prints_found, allowed, Task, Begins, Meets, Acts, Rests, ComesUp, Dismisses, GoesDown, ClosesClients, CountsCommits, CutShort, State, when_of, begun, Use, Nothing, Calls, Reads, Recovers, PowersOff, Decays, Revives, Arms, Disarms, Deed, delivered, delivered_at, is_busy, worked, served, working_steps, nothing, shown, crashed_at, is_used_up, restarted, recovered, given_up, brought_up, Devices, IsCalled, IsRecovery, IsUsed, refusal_of, told_unless, acted, met, next_in, resting, deed_of, outside_texts, own_texts, message_texts, traced, texts_of, lines_at, is_too_much, come_to, cut_short, Moment, DoesStep, may_tell, begun-lines, powered_off, Cleans, step_calls, is_outside, outside_lines, outside_at, TellsOf, TellsRaised, AreToldBy, TellsFaults, Left}
+use Rattle.jn_wrong.proofs.Common.{◌≡◌, ◌≢◌, ◌⊎◌, inl, inr, ℕ, ◌+◌, Bool, true, false, List, [], ◌∷◌, ◌++◌, append-nil, map, length, Option, Some, None, is_some, refl, ◌∙◌, ap, arith, not, filter, if◌then◌else◌, slice_get, ServerNo, Party, Client, Server, Outside, DeviceState, Event, EventRefusal, TooManyArmed, EpochsUsedUp, Text, Line, Sent, Pick, World, Memory, Printed, FileThere, PageStored, UnitLocked, Step, run, Course, go_on, newly_sent, text_printed, Setup, Chance, prints_found, allowed, Task, Begins, Meets, Acts, Rests, ComesUp, Dismisses, GoesDown, ClosesClients, CountsCommits, CutShort, State, when_of, begun, Use, Nothing, Calls, Reads, Recovers, PowersOff, Decays, Revives, Arms, Disarms, Deed, delivered, delivered_at, is_busy, worked, served, working_steps, nothing, shown, crashed_at, is_used_up, restarted, recovered, given_up, brought_up, Devices, IsCalled, IsRecovery, IsUsed, refusal_of, told_unless, acted, met, next_in, resting, deed_of, outside_texts, own_texts, message_texts, traced, texts_of, lines_at, is_too_much, come_to, cut_short, Moment, DoesStep, may_tell, begun-lines, powered_off, Cleans, step_calls, is_outside, outside_lines, outside_at, TellsOf, TellsRaised, AreToldBy, TellsFaults, Left, ClientNo, ClientTable, list_all, reported, task-says}
 use Rattle.jn_base.specs.declared.device.FaultKind.TheVariants as faults
 use Rattle.jn_schedule.specs.declared.Event.TheVariants as events
 use Rattle.jn_report.specs.declared.line.Text.TheVariants as says
-use Rattle.jn_wrong.proofs.Filtered.{filter-both, lines-left, is_of_step, step-tells, own-filtered}
+use Rattle.jn_wrong.proofs.Filtered.{filter-both, lines-left, none-left, is_of_step, step-tells, own-filtered}
 
 abbrev no_fault : Text → Bool
 no_fault text = not (is_outside text)
@@ -16,6 +16,11 @@ of-step step text h = by (step-tells step text h)
 
 own-none : (steps : List Step) (c : Course) → filter is_outside (own_texts c.world (go_on steps c).world) ≡ []
 own-none steps c = own-filtered is_outside of-step steps c
+
+-- what a client says in place of that
+said-none : (said : Option (List Text)) (own : List Text) → list_all no_fault (reported said []) ≡ true → filter is_outside own ≡ [] → filter is_outside (reported said own) ≡ []
+said-none None own h e = e
+said-none (Some texts) own h e = none-left is_outside texts h
 
 messages-none : (from : Party) (k : ℕ) (sent : List Sent) → filter is_outside (message_texts from k sent) ≡ []
 messages-none from k [] = refl
@@ -49,10 +54,10 @@ at-just : (h : Chance) (k : ℕ) (q : ServerNo) (o : Option Memory) → Tells_ju
 at-just h k q None = refl
 at-just h k q (Some m) = refl
 
-delivered-just : (h : Chance) (k : ℕ) (w : World) (o : Option Sent) → Tells_just h (delivered h k w o)
-delivered-just h k w None = refl
-delivered-just h k w (Some (Client c, message)) = refl
-delivered-just h k w (Some (Server q, message)) = at-just h k q (w.memory q)
+delivered-just : (h : Chance) (k : ℕ) (t : ClientNo → ClientTable) (w : World) (o : Option Sent) → Tells_just h (delivered h k t w o)
+delivered-just h k t w None = refl
+delivered-just h k t w (Some (Client c, message)) = refl
+delivered-just h k t w (Some (Server q, message)) = at-just h k q (w.memory q)
 
 worked-just : (h : Chance) (q : ServerNo) (w : World) → Tells_just h (worked h q w)
 worked-just h q w = by (is_busy h.rubbish w q)
@@ -79,16 +84,17 @@ raised-just h q w = by (is_used_up h q w)
     by true = refl
     by false = refl
 
-acts-just : (x : Setup) (h : Chance) (event : Event) (w : World) → Tells_just h (acted x h event w)
-acts-just x h (events.Command c command) w = refl
-acts-just x h (events.Again c) w = refl
-acts-just x h (events.Deliver k) w = delivered-just h k w (slice_get w.sent k)
-acts-just x h events.Settle w = refl
-acts-just x h (events.Step q) w = worked-just h q w
-acts-just x h (events.Nudge q) w = refl
-acts-just x h (events.Timeout q T) w = refl
-acts-just x h (events.Scrub q) w = refl
-acts-just x h (events.Decay q p) w = by (allowed h.found)
+acts-just : (x : Setup) (h : Chance) (event : Event) (t : ClientNo → ClientTable) (w : World) → Tells_just h (acted x h event t w)
+acts-just x h (events.Command c command) t w = refl
+acts-just x h (events.Call c s call) t w = refl
+acts-just x h (events.Again c) t w = refl
+acts-just x h (events.Deliver k) t w = delivered-just h k t w (slice_get w.sent k)
+acts-just x h events.Settle t w = refl
+acts-just x h (events.Step q) t w = worked-just h q w
+acts-just x h (events.Nudge q) t w = refl
+acts-just x h (events.Timeout q T) t w = refl
+acts-just x h (events.Scrub q) t w = refl
+acts-just x h (events.Decay q p) t w = by (allowed h.found)
   where
     fault : Text
     fault = says.Outside q (record { kind = faults.Decay p; page = p })
@@ -96,29 +102,29 @@ acts-just x h (events.Decay q p) w = by (allowed h.found)
     by : (b : Bool) → filter is_outside (told_unless b (says.Outside q (record { kind = faults.Decay p; page = p }))) ≡ told_unless b (says.Outside q (record { kind = faults.Decay p; page = p }))
     by true = refl
     by false = refl
-acts-just x h (events.Revive q p) w = refl
-acts-just x h (events.Arm q n kind) w = by (allowed h.found)
+acts-just x h (events.Revive q p) t w = refl
+acts-just x h (events.Arm q n kind) t w = by (allowed h.found)
   where
     by : (b : Bool) → filter is_outside (told_unless b (says.RefusedEvent TooManyArmed)) ≡ []
     by true = refl
     by false = refl
-acts-just x h (events.Crash q) w = crashed-just h q (w.memory q)
-acts-just x h (events.Restart q) w = restarted-just h q w
-acts-just x h (events.Show q) w = shown-none q (prints_found h.found) h.stop
+acts-just x h (events.Crash q) t w = crashed-just h q (w.memory q)
+acts-just x h (events.Restart q) t w = restarted-just h q w
+acts-just x h (events.Show q) t w = shown-none q (prints_found h.found) h.stop
 
-meets-just : (x : Setup) (h : Chance) (event : Event) (w : World) (o : Option EventRefusal) → Tells_just h (met x h event w o)
-meets-just x h event w (Some refusal) = refl
-meets-just x h event w None = acts-just x h event w
+meets-just : (x : Setup) (h : Chance) (event : Event) (t : ClientNo → ClientTable) (w : World) (o : Option EventRefusal) → Tells_just h (met x h event t w o)
+meets-just x h event t w (Some refusal) = refl
+meets-just x h event t w None = acts-just x h event t w
 
-rests-just : (x : Setup) (h : Chance) (w : World) (o : Option Event) → Tells_just h (resting x h w o)
-rests-just x h w None = refl
-rests-just x h w (Some event) = acts-just x h event w
+rests-just : (x : Setup) (h : Chance) (t : ClientNo → ClientTable) (w : World) (o : Option Event) → Tells_just h (resting x h t w o)
+rests-just x h t w None = refl
+rests-just x h t w (Some event) = acts-just x h event t w
 
 deed-just : (x : Setup) (h : Chance) (task : Task) (s : State) → Tells_just h (deed_of x h task s)
 deed-just x h (Begins event) s = refl
-deed-just x h (Meets event) s = meets-just x h event s.course.world (refusal_of x s.course.world event)
-deed-just x h (Acts event) s = acts-just x h event s.course.world
-deed-just x h Rests s = rests-just x h s.course.world (next_in x h.rubbish s.course)
+deed-just x h (Meets event) s = meets-just x h event s.clients s.course.world (refusal_of x s.course.world event)
+deed-just x h (Acts event) s = acts-just x h event s.clients s.course.world
+deed-just x h Rests s = rests-just x h s.clients s.course.world (next_in x h.rubbish s.course)
 deed-just x h (ComesUp q) s = raised-just h q s.course.world
 deed-just x h Dismisses s = refl
 deed-just x h (GoesDown q) s = crashed-just h q (s.course.world.memory q)
@@ -141,8 +147,8 @@ device-told (Revives q p) told = refl
 device-told (Arms q n kind) told = refl
 device-told Disarms told = refl
 
-faults-of : (x : Setup) (h : Chance) (deed : Deed) (c : Course) → Tells_just h deed → filter is_outside (texts_of x h deed c.world (go_on deed.steps c).world) ≡ outside_texts deed.device h.told ++ of_decay deed.device h
-faults-of x h deed c just = filter-both is_outside (told ++ own ++ deed.texts) messages
+faults-of : (x : Setup) (h : Chance) (deed : Deed) (c : Course) → list_all no_fault (reported deed.said []) ≡ true → Tells_just h deed → filter is_outside (texts_of x h deed c.world (go_on deed.steps c).world) ≡ outside_texts deed.device h.told ++ of_decay deed.device h
+faults-of x h deed c says just = filter-both is_outside (told ++ own ++ deed.texts) messages
     ∙ ap (λ (texts : List Text). filter is_outside (told ++ own ++ deed.texts) ++ texts) (traced-none x.trace deed.actor (length c.world.sent) (newly_sent c.world (go_on deed.steps c).world))
     ∙ append-nil (filter is_outside (told ++ own ++ deed.texts))
     ∙ filter-both is_outside (told ++ own) deed.texts
@@ -153,13 +159,13 @@ faults-of x h deed c just = filter-both is_outside (told ++ own ++ deed.texts) m
     told = outside_texts deed.device h.told
 
     own : List Text
-    own = own_texts c.world (go_on deed.steps c).world
+    own = reported deed.said (own_texts c.world (go_on deed.steps c).world)
 
     messages : List Text
     messages = traced x.trace (message_texts deed.actor (length c.world.sent) (newly_sent c.world (go_on deed.steps c).world))
 
     before : filter is_outside (told ++ own) ≡ told
-    before = filter-both is_outside told own ∙ ap (λ (texts : List Text). filter is_outside told ++ texts) (own-none deed.steps c) ∙ append-nil (filter is_outside told) ∙ device-told deed.device h.told
+    before = filter-both is_outside told own ∙ ap (λ (texts : List Text). filter is_outside told ++ texts) (said-none deed.said (own_texts c.world (go_on deed.steps c).world) says (own-none deed.steps c)) ∙ append-nil (filter is_outside told) ∙ device-told deed.device h.told
 
 -- ---- and by which device
 
@@ -214,4 +220,4 @@ faults-told x a b d goes = record {
     by true n = absurd (n refl)
     by false n = filter-both (λ (l : Line). is_outside l.text) u.lines (lines_at (when_of u) texts)
         ∙ ap (λ (ls : List Line). outside_lines ls ++ outside_lines (lines_at (when_of u) texts)) (begun-lines d.task a.state)
-        ∙ ap (λ (ls : List Line). outside_lines a.state.lines ++ ls) (lines-left is_outside (when_of u) texts ∙ ap (λ (ts : List Text). lines_at (when_of u) ts) (faults-of x d.chance deed u.course (deed-just x d.chance d.task a.state)))
+        ∙ ap (λ (ls : List Line). outside_lines a.state.lines ++ ls) (lines-left is_outside (when_of u) texts ∙ ap (λ (ts : List Text). lines_at (when_of u) ts) (faults-of x d.chance deed u.course (task-says no_fault of-step x d.chance d.task a.state) (deed-just x d.chance d.task a.state)))

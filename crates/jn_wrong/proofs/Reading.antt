@@ -1,5 +1,5 @@
 -- What the lines of a run report, read one after another: what holds of it at each step of the system holds of the run.
-use Rattle.jn_wrong.proofs.Common.{◌≡◌, ℕ, ◌+◌, Bool, true, false, List, [], ◌∷◌, ◌++◌, append-nil, append_assoc, map, length, drop, refl, sym, ◌∙◌, ap, subst, arith, ◌&&◌, if◌then◌else◌, list_all, drop-append_seam, ServerNo, Tid, Party, Outside, When, Text, Line, Sent, World, has_line, named_now, Step, after, Course, go, go_on, newly_sent, Setup, Chance, Task, Begins, Meets, Acts, Rests, ComesUp, Dismisses, GoesDown, ClosesClients, CountsCommits, State, when_of, begun, Use, Nothing, Calls, Reads, Recovers, PowersOff, Decays, Revives, Arms, Disarms, Deed, deed_of, outside_texts, own_texts, message_texts, traced, texts_of, lines_at, is_too_much, come_to, cut_short, done, none, more, MayLead, is_note, is_of_delivery, is_answer, begun-lines, task-texts, Besides, are_read, Cleans}
+use Rattle.jn_wrong.proofs.Common.{◌≡◌, ℕ, ◌+◌, Bool, true, false, List, [], ◌∷◌, ◌++◌, append-nil, append_assoc, map, length, drop, refl, sym, ◌∙◌, ap, subst, arith, ◌&&◌, if◌then◌else◌, list_all, drop-append_seam, ServerNo, Tid, Party, Outside, When, Text, Line, Sent, World, has_line, named_now, Step, after, Course, go, go_on, newly_sent, Setup, Chance, Task, Begins, Meets, Acts, Rests, ComesUp, Dismisses, GoesDown, ClosesClients, CountsCommits, State, when_of, begun, Use, Nothing, Calls, Reads, Recovers, PowersOff, Decays, Revives, Arms, Disarms, Deed, deed_of, outside_texts, own_texts, message_texts, traced, texts_of, lines_at, is_too_much, come_to, cut_short, done, none, more, MayLead, is_note, is_of_delivery, is_answer, begun-lines, task-texts, Besides, are_read, Cleans, reported, HasTables, begun-said, begun-tables, become}
 use Rattle.jn_report.specs.declared.line.Text.TheVariants as says
 
 both : (a b : Bool) → a ≡ true → b ≡ true → (a && b) ≡ true
@@ -160,9 +160,10 @@ module _ (A : Type 0) (next : A → Text → A) (may : A → Text → Bool) (asi
           by : Reading was c.world (go_on steps c).world → Tells was (go_on steps c).world (own_texts c.world (go_on steps c).world)
           by t = subst (λ (texts : List Text). Tells was (go_on steps c).world texts) (sym (ap (λ (ls : List Text). drop (length c.world.lines) ls) t.lines ∙ drop-append_seam c.world.lines t.texts)) (record { read = t.read; stands = t.stands })
 
-      texts-tell : (x : Setup) (h : Chance) (deed : Deed) (c : Course) (was : A) → Stands was c.world → list_all no_turn deed.texts ≡ true → Tells was (go_on deed.steps c).world (texts_of x h deed c.world (go_on deed.steps c).world)
-      texts-tell x h deed c was stands quiet = quiet-last was now (told ++ own ++ deed.texts) messages (quiet-last was now (told ++ own) deed.texts (quiet-first was now told own (of-outside deed.device h.told) (own-tells deed.steps c was stands)) quiet)
-          (of-traced x.trace deed.actor (length c.world.sent) (newly_sent c.world (go_on deed.steps c).world))
+      texts-tell : (x : Setup) (h : Chance) (deed : Deed) (c : Course) → reported deed.said (own_texts c.world (go_on deed.steps c).world) ≡ own_texts c.world (go_on deed.steps c).world
+          → (was : A) → Stands was c.world → list_all no_turn deed.texts ≡ true → Tells was (go_on deed.steps c).world (texts_of x h deed c.world (go_on deed.steps c).world)
+      texts-tell x h deed c says was stands quiet = subst (λ (texts : List Text). Tells was now (told ++ texts ++ deed.texts ++ messages)) (sym says) (quiet-last was now (told ++ own ++ deed.texts) messages (quiet-last was now (told ++ own) deed.texts (quiet-first was now told own (of-outside deed.device h.told) (own-tells deed.steps c was stands)) quiet)
+          (of-traced x.trace deed.actor (length c.world.sent) (newly_sent c.world (go_on deed.steps c).world)))
         where
           now : World
           now = (go_on deed.steps c).world
@@ -181,6 +182,7 @@ module _ (A : Type 0) (next : A → Text → A) (may : A → Text → Bool) (asi
       record Holds (was : A) (s : State) : Type 0 where
         read : are_read next may was s.lines ≡ true
         stands : Stands (line_behind was s.lines) s.course.world
+        tables : HasTables s
 
       world-begun : (task : Task) (s : State) → (begun task s).course.world ≡ s.course.world
       world-begun Dismisses s = refl
@@ -205,24 +207,26 @@ module _ (A : Type 0) (next : A → Text → A) (may : A → Text → Bool) (asi
           texts = texts_of x h deed u.course.world (go_on deed.steps u.course).world
 
           tells : Tells (line_behind was u.lines) (go_on deed.steps u.course).world texts
-          tells = texts-tell x h deed u.course (line_behind was u.lines) stands-now (deed-tells x h task s)
+          tells = texts-tell x h deed u.course (begun-said x h task s holds.tables) (line_behind was u.lines) stands-now (deed-tells x h task s)
 
           by : (b : Bool) → Holds was (if b then cut_short u else come_to x h deed (go_on deed.steps u.course) u)
-          by true = record { read = read-now; stands = stands-now }
+          by true = record { read = read-now; stands = stands-now; tables = begun-tables task s holds.tables }
           by false = record {
             read = lines-both was (when_of u) u.lines texts read-now tells.read;
             stands = subst (λ (z : A). Stands z (go_on deed.steps u.course).world) (sym (lines-behind was (when_of u) u.lines texts)) tells.stands;
+            tables = become x h task s holds.tables;
           }
 
       all-steps : (was : A) (x : Setup) (s t : State) → MayLead x s t → Holds was s → Holds was t
       all-steps was x s t (none u) holds = holds
       all-steps was x s t (more a b c m rest) holds = all-steps was x b t rest (subst (Holds was) (sym m.state_is) (one-step was x m.chance m.task s holds))
 
-      pub run-read : (was : A) (x : Setup) (s t : State) → s.lines ≡ [] → Stands was s.course.world → MayLead x s t → are_read next may was t.lines ≡ true
-      run-read was x s t no_line stands leads = let end = all-steps was x s t leads start in end.read
+      pub run-read : (was : A) (x : Setup) (s t : State) → s.lines ≡ [] → HasTables s → Stands was s.course.world → MayLead x s t → are_read next may was t.lines ≡ true
+      run-read was x s t no_line tables stands leads = let end = all-steps was x s t leads start in end.read
         where
           start : Holds was s
           start = record {
             read = ap (λ (ls : List Line). are_read next may was ls) no_line;
             stands = subst (λ (ls : List Line). Stands (line_behind was ls) s.course.world) (sym no_line) stands;
+            tables = tables;
           }

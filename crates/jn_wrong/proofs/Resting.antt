@@ -91,7 +91,7 @@ module _ (x : Setup) (h : Chance) (s : State) (ds es : Devices) (quiet : IsQuiet
                 (quiet-called x w (after (Deliver k (room h q)) w) ds es quiet h q (λ p. delivered-up w p k (room h q)) a.others calm),
           )
 
-  delivers : (k : ℕ) (o : Option Sent) → slice_get w.sent k ≡ o → is_sent_so x w o ≡ true → Befalls x h (on (delivered h k w o)) w ds es → Same (on (delivered h k w o)) (on (delivered still k w o))
+  delivers : (k : ℕ) (o : Option Sent) → slice_get w.sent k ≡ o → is_sent_so x w o ≡ true → Befalls x h (on (delivered h k s.clients w o)) w ds es → Same (on (delivered h k s.clients w o)) (on (delivered still k s.clients w o))
   delivers k None e so b = never so
   delivers k (Some (Client c, message)) e so b = (refl, quiet-same x w (after (Deliver k no_room) w) ds es quiet (λ p. delivered-up w p k no_room) b.used)
   delivers k (Some (Server q, message)) e so b = handed-over k q message (w.memory q) e refl so b
@@ -117,7 +117,7 @@ module _ (x : Setup) (h : Chance) (s : State) (ds es : Devices) (quiet : IsQuiet
               made-same x h (on (served q step_calls (working_steps h q))) [] s' (no-faults q h.told calm.told) refl
                   (ap (λ (o : Option (Pick → Left)). bare_course (go_on (working q (room h q) o ∷ []) s.course)) calm.stop
                   ∙ ap (λ (now : World). bare_course (course_to now (Works q (room h q)) s.course)) still-so ∙ idle-course)
-                  ∙ idles x (on (served q step_calls [])) s s' few refl refl refl refl refl (sym tasks),
+                  ∙ idles x (on (served q step_calls [])) s s' few refl refl refl refl refl refl refl (sym tasks),
               quiet-called x w w ds es quiet h q (λ p z. z) a.others calm,
             )
               where
@@ -131,8 +131,8 @@ module _ (x : Setup) (h : Chance) (s : State) (ds es : Devices) (quiet : IsQuiet
                 idle-course = ap (λ (sent : List Sent). record { world = w; waiting = s.course.waiting ++ numbered (length w.sent) sent; steps = [] }) nothing-sent
                     ∙ ap (λ (ks : List ℕ). record { world = w; waiting = ks; steps = [] }) (append-nil s.course.waiting)
 
-    works : (o : Option ServerNo) → first_busy h.rubbish w (servers_of x) ≡ o → first_busy (λ q. false) w (servers_of x) ≡ None → Befalls x h (resting x h w (next_event [] o)) w ds es
-        → Same (resting x h w (next_event [] o)) nothing ⊎ Stays (resting x h w (next_event [] o))
+    works : (o : Option ServerNo) → first_busy h.rubbish w (servers_of x) ≡ o → first_busy (λ q. false) w (servers_of x) ≡ None → Befalls x h (resting x h s.clients w (next_event [] o)) w ds es
+        → Same (resting x h s.clients w (next_event [] o)) nothing ⊎ Stays (resting x h s.clients w (next_event [] o))
     works None e none b = inl (refl, quiet-same x w w ds es quiet (λ q z. z) b.used)
     works (Some q) e none b = inr (subst (λ (deed : Deed). Stays (on deed)) (sym is-worked) (erases-one q l is.busy idle (subst (λ (deed : Deed). Befalls x h (on deed) w ds es) is-worked b)))
       where
@@ -157,10 +157,10 @@ module _ (x : Setup) (h : Chance) (s : State) (ds es : Devices) (quiet : IsQuiet
   rests tasks so b = by s.course.waiting refl so b
     where
       now : List ℕ → Deed
-      now waiting = resting x h w (next_event waiting (first_busy h.rubbish w (servers_of x)))
+      now waiting = resting x h s.clients w (next_event waiting (first_busy h.rubbish w (servers_of x)))
 
       calmly : List ℕ → Deed
-      calmly waiting = resting x still w (next_event waiting (first_busy (λ q. false) w (servers_of x)))
+      calmly waiting = resting x still s.clients w (next_event waiting (first_busy (λ q. false) w (servers_of x)))
 
       is-none : (o : Option ServerNo) → not (is_some o) ≡ true → o ≡ None
       is-none None e = refl
@@ -176,4 +176,4 @@ module _ (x : Setup) (h : Chance) (s : State) (ds es : Devices) (quiet : IsQuiet
       by [] e z f = let t = both (not (is_some (first_busy (λ q. false) w (servers_of x)))) (not (nat_lt most_messages (length w.sent))) z in at (is-none (first_busy (λ q. false) w (servers_of x)) t.0) (is-few (nat_lt most_messages (length w.sent)) t.1)
         where
           at : first_busy (λ q. false) w (servers_of x) ≡ None → nat_lt most_messages (length w.sent) ≡ false → Same (now []) (calmly []) ⊎ Stays (now [])
-          at none few = subst (λ (o : Option ServerNo). Same (now []) (resting x still w (next_event [] o)) ⊎ Stays (now [])) (sym none) (works few e tasks (first_busy h.rubbish w (servers_of x)) refl none f)
+          at none few = subst (λ (o : Option ServerNo). Same (now []) (resting x still s.clients w (next_event [] o)) ⊎ Stays (now [])) (sym none) (works few e tasks (first_busy h.rubbish w (servers_of x)) refl none f)

@@ -1,6 +1,6 @@
 -- The right reports of schedules of which wrong ones are refuted, computed.
-use Rattle.jn_wrong.proofs.Common.{◌≡◌, ℕ, [], ◌∷◌, refl, arms_first, arms_in_order, arms_null, null_told, makes_one, calm, calmly, at_step, stopped, report, stop_met, outside_in_order, made_report, full_of, false, quiet_report, decays_once, decays_both, both_report, decays_behind_scrub, decays_with_power, forgiven_report, decays_behind_restart, restarted_report, arms_two, arms_far, Allows, Computes, IsComputed, one_record, in_room, whole_only}
-use Rattle.jn_base.specs.declared.names.Resource.TheVariants.{Records}
+use Rattle.jn_wrong.proofs.Common.{◌≡◌, ℕ, [], ◌∷◌, refl, arms_first, arms_in_order, arms_null, null_told, makes_one, calm, calmly, at_step, stopped, report, stop_met, outside_in_order, made_report, full_of, false, quiet_report, decays_once, decays_both, both_report, decays_behind_scrub, decays_with_power, forgiven_report, decays_behind_restart, restarted_report, arms_two, arms_far, Allows, Computes, IsComputed, one_record, in_room, whole_only, head_blocks, one_page, writes_at, full_at_block}
+use Rattle.jn_base.specs.declared.names.Resource.TheVariants.{Records, Pages}
 use Rattle.jn_base.specs.declared.device.FaultKind.TheVariants as faults
 use Rattle.jn_locks.specs.Locks as locks
 
@@ -41,3 +41,7 @@ makes-file = refl
 pub lacks-records : IsComputed one_record (in_room one_record) 100 makes_one (full_of Records 0 2)
 unfolding locks.unit_before
 lacks-records = record { lines_are = refl; stage = refl; tasks = refl }
+
+pub lacks-map-page : IsComputed one_page (in_room one_page) 100 (writes_at head_blocks []) (full_at_block Pages 1 2)
+unfolding locks.unit_before
+lacks-map-page = record { lines_are = refl; stage = refl; tasks = refl }

@@ -31,7 +31,7 @@ module _ (x : Setup) (q : ServerNo) (a b : Moment) (d : DoesStep x a b) (there :
 
 pub scrubbed-in-schedule : (x : Setup) (q : ServerNo) (a b : Moment) (d : DoesStep x a b) → q.0 < x.servers → d.task ≡ Meets (events.Scrub q) → refusal_of x a.state.course.world (events.Scrub q) ≡ None → d.chance.stop ≡ None
     → (c r : Pick) → found_on (x.counts q) (pairs_view (b.devices q)) c ≡ found_on (x.counts q) (pairs_view (b.devices q)) r
-scrubbed-in-schedule x q a b d there task unrefused unstopped = one-found x q a b d there unstopped (ap (λ (t : Task). deed_of x d.chance t a.state) task ∙ ap (λ (o : Option EventRefusal). met x d.chance (events.Scrub q) a.state.course.world o) unrefused)
+scrubbed-in-schedule x q a b d there task unrefused unstopped = one-found x q a b d there unstopped (ap (λ (t : Task). deed_of x d.chance t a.state) task ∙ ap (λ (o : Option EventRefusal). met x d.chance (events.Scrub q) a.state.clients a.state.course.world o) unrefused)
 
 pub scrubbed-at-end : (x : Setup) (q : ServerNo) (a b : Moment) (d : DoesStep x a b) → q.0 < x.servers → d.task ≡ Acts (events.Scrub q) → d.chance.stop ≡ None
     → (c r : Pick) → found_on (x.counts q) (pairs_view (b.devices q)) c ≡ found_on (x.counts q) (pairs_view (b.devices q)) r

@@ -72,10 +72,10 @@ module _ (x : Setup) (one : x.servers ≡ 1) (last : Moment) (over : next_task l
       pub rubbish : rubbish_count (pool_on (x.counts s0) (pages_of d)) ≡ 0
 
     abbrev deed_with : Chance → Bool → Deed
-    deed_with h r = resting x h w (next_event [] (if r then Some s0 else None))
+    deed_with h r = resting x h s.clients w (next_event [] (if r then Some s0 else None))
 
     deed-is : (h : Chance) → deed_of x h Rests s ≡ deed_with h (h.rubbish s0)
-    deed-is h = ap (λ (ks : List ℕ). resting x h w (next_event ks (first_busy h.rubbish w (servers_of x)))) waits ∙ ap (λ (o : Option ServerNo). resting x h w (next_event [] o)) (busy h.rubbish)
+    deed-is h = ap (λ (ks : List ℕ). resting x h s.clients w (next_event ks (first_busy h.rubbish w (servers_of x)))) waits ∙ ap (λ (o : Option ServerNo). resting x h s.clients w (next_event [] o)) (busy h.rubbish)
 
     -- while a record is erased, no event begins
     not-begun : (h : Chance) → next_task (made x h (deed_with h true) s') ≡ Some (Begins e) → ⊥

@@ -1,5 +1,5 @@
 -- In any run, each abort that is reported for want of room was short of it at a step.
-use Rattle.jn_wrong.proofs.Common.{◌≡◌, ℕ, zero, suc, ◌+◌, Bool, true, false, List, [], ◌∷◌, ◌++◌, map, length, drop, Option, Some, None, refl, sym, ◌∙◌, ap, subst, arith, if◌then◌else◌, ◌&&◌, nat_lt, slice_get, list_all, ServerNo, ClientNo, Party, Client, Server, Resource, Outside, AllFiles, Need, Message, Event, EventRefusal, EpochsUsedUp, When, Text, Line, Sent, Pick, World, Memory, new_memory, Room, Step, Deliver, IsRun, run, after, LockFacts, ServerFact, Course, go, go_on, handing, working, on-world, Setup, Chance, Task, Begins, Meets, Acts, Rests, ComesUp, Dismisses, GoesDown, ClosesClients, CountsCommits, State, when_of, begun, Use, Nothing, Calls, Reads, Recovers, PowersOff, Decays, Revives, Arms, Disarms, Deed, room, delivered, delivered_at, is_busy, worked, working_steps, served, nothing, stopped_idle, crashed_at, recovering, recovered, restarted, given_up, brought_up, is_used_up, Devices, IsServed, Alone, IsUsed, refusal_of, acted, met, next_in, resting, deed_of, outside_texts, message_texts, traced, texts_of, lines_at, is_too_much, come_to, cut_short, none, more, Moment, DoesStep, Leads, before, closed_world, IsWritten, begun-lines, task-texts, Besides, IsShort, WasShort, OfText, OfLines, join, Cleans, step_calls, Left}
+use Rattle.jn_wrong.proofs.Common.{◌≡◌, ℕ, zero, suc, ◌+◌, Bool, true, false, List, [], ◌∷◌, ◌++◌, map, length, drop, Option, Some, None, refl, sym, ◌∙◌, ap, subst, arith, if◌then◌else◌, ◌&&◌, nat_lt, slice_get, list_all, ServerNo, ClientNo, Party, Client, Server, Resource, Outside, AllFiles, Need, Message, Event, EventRefusal, EpochsUsedUp, When, Text, Line, Sent, Pick, World, Memory, new_memory, Room, Step, Deliver, IsRun, run, after, LockFacts, ServerFact, Course, go, go_on, handing, working, on-world, Setup, Chance, Task, Begins, Meets, Acts, Rests, ComesUp, Dismisses, GoesDown, ClosesClients, CountsCommits, State, when_of, begun, Use, Nothing, Calls, Reads, Recovers, PowersOff, Decays, Revives, Arms, Disarms, Deed, room, delivered, delivered_at, is_busy, worked, working_steps, served, nothing, stopped_idle, crashed_at, recovering, recovered, restarted, given_up, brought_up, is_used_up, Devices, IsServed, Alone, IsUsed, refusal_of, acted, met, next_in, resting, deed_of, outside_texts, message_texts, traced, texts_of, lines_at, is_too_much, come_to, cut_short, none, more, Moment, DoesStep, Leads, before, closed_world, IsWritten, begun-lines, task-texts, Besides, IsShort, WasShort, OfText, OfLines, join, Cleans, step_calls, Left, HasTables, begun-said, begun-tables, become}
 use Rattle.jn_schedule.specs.declared.Event.TheVariants as events
 use Rattle.jn_report.specs.declared.line.Text.TheVariants as says
 use Rattle.jn_system.proofs.WholeSystem.Steps.{locks-keep, run-keeps, opening-keeps}
@@ -34,9 +34,6 @@ one-memory m n e = cc
 abbrev hands_nothing : Step → Bool
 hands_nothing (Deliver k room) = false
 hands_nothing step = true
-
-both : (a b : Bool) → a ≡ true → b ≡ true → (a && b) ≡ true
-both a b h k = grind arith
 
 first : (a b : Bool) → (a && b) ≡ true → a ≡ true
 first a b h = grind arith
@@ -181,6 +178,7 @@ module _ (x : Setup) (start now : Moment) where
     world : OfWorld P s.course.world
     locks : LockFacts s.course.world
     lines : OfLines P s.lines
+    tables : HasTables s
 
   module _ (m n : Moment) (to : Leads x start m) (d : DoesStep x m n) (on : Leads x n now) where
     abbrev w : World
@@ -216,7 +214,7 @@ module _ (x : Setup) (start now : Moment) where
     at-finds k q message e None down next used = ((λ s memory other here up number has need short. no-memory memory (sym down ∙ ap w.memory (sym (one-server s q (received (Server s, other) (Server q, message) (sym here ∙ e)))) ∙ up)), tt)
     at-finds k q message e (Some mm) up next used = handing-finds _ k q message e used h.stop
 
-    delivered-finds : (k : ℕ) (o : Option Sent) → slice_get w.sent k ≡ o → (next : World) → IsUsed x h (delivered h k w o).device w next m.devices n.devices → AllFind (delivered h k w o).steps w
+    delivered-finds : (k : ℕ) (o : Option Sent) → slice_get w.sent k ≡ o → (next : World) → IsUsed x h (delivered h k m.state.clients w o).device w next m.devices n.devices → AllFind (delivered h k m.state.clients w o).steps w
     delivered-finds k None e next used = tt
     delivered-finds k (Some (Client c, message)) e next used = ((λ s memory other here up number has need short. absurd (no-client c s (received (Server s, other) (Client c, message) (sym here ∙ e)))), tt)
     delivered-finds k (Some (Server q, message)) e next used = at-finds k q message e (w.memory q) refl next used
@@ -227,9 +225,10 @@ module _ (x : Setup) (start now : Moment) where
     quietly : (deed : Deed) → HandsNothing deed → DoesFind deed
     quietly deed z next used = none-find deed.steps w z
 
-    acts-find : (event : Event) → DoesFind (acted x h event w)
+    acts-find : (event : Event) → DoesFind (acted x h event m.state.clients w)
     acts-find (events.Deliver k) next used = delivered-finds k (slice_get w.sent k) refl next used
     acts-find (events.Command c command) next used = (tt, tt)
+    acts-find (events.Call c s call) next used = tt
     acts-find (events.Again c) next used = (tt, tt)
     acts-find events.Settle next used = tt
     acts-find (events.Step q) next used = quietly (worked h q w) (worked-none h q w) next used
@@ -243,11 +242,11 @@ module _ (x : Setup) (start now : Moment) where
     acts-find (events.Restart q) next used = quietly (restarted h q w) (restarted-none h q w) next used
     acts-find (events.Show q) next used = none-find (stopped_idle q h.stop) w (idle-none q h.stop)
 
-    meets-find : (event : Event) (o : Option EventRefusal) → DoesFind (met x h event w o)
+    meets-find : (event : Event) (o : Option EventRefusal) → DoesFind (met x h event m.state.clients w o)
     meets-find event (Some refusal) next used = tt
     meets-find event None next used = acts-find event next used
 
-    rests-find : (o : Option Event) → DoesFind (resting x h w o)
+    rests-find : (o : Option Event) → DoesFind (resting x h m.state.clients w o)
     rests-find None next used = tt
     rests-find (Some event) next used = acts-find event next used
 
@@ -297,15 +296,17 @@ module _ (x : Setup) (start now : Moment) where
         lines = subst (λ (ls : List Line). OfLines P ls) (sym (begun-lines d.task m.state)) holds.lines
 
         told : OfTexts P (texts_of x h deed u.course.world (go_on deed.steps u.course).world)
-        told = both-tell P _ _ (both-tell P _ _ (both-tell P _ _ (of-outside deed.device h.told) (of-rest (length u.course.world.lines) (go_on deed.steps u.course).world.lines world.lines)) (of-texts deed.texts (deed-tells x h d.task m.state)))
+        told = both-tell P _ _ (both-tell P _ _ (both-tell P _ _ (of-outside deed.device h.told)
+            (subst (λ (texts : List Text). OfTexts P texts) (sym (begun-said x h d.task m.state holds.tables)) (of-rest (length u.course.world.lines) (go_on deed.steps u.course).world.lines world.lines))) (of-texts deed.texts (deed-tells x h d.task m.state)))
             (of-traced x.trace deed.actor (length u.course.world.sent) (drop (length u.course.world.sent) (go_on deed.steps u.course).world.sent))
 
         by : (b : Bool) → Holds (if b then cut_short u else come_to x h deed (go_on deed.steps u.course) u)
-        by true = record { world = old; locks = locks; lines = lines }
+        by true = record { world = old; locks = locks; lines = lines; tables = begun-tables d.task m.state holds.tables }
         by false = record {
           world = world;
           locks = subst LockFacts (sym (on-world deed.steps u.course)) (run-keeps deed.steps u.course.world is-run locks);
           lines = both-lines u.lines _ lines (of-lines (when_of u) _ told);
+          tables = become x h d.task m.state holds.tables;
         }
 
   all-steps : (m last : Moment) → last ≡ now → Leads x start m → Leads x m last → Holds m.state → Holds last.state
@@ -337,6 +338,7 @@ was-short x schedule images now run = let end = all-steps x start now start now 
     opening : Holds x start now start.state
     opening = record {
       world = record { sent = tt; tables = λ q m e. none-there q m (nat_lt q.0 x.servers) e; asked = λ c. tt; lines = tt };
+      tables = refl;
       locks = closed-locks x.servers run.files run.epochs;
       lines = tt;
     }

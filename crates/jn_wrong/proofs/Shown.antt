@@ -111,4 +111,4 @@ pub at-end : (x : Setup) (q : ServerNo) (a b : Moment) (d : DoesStep x a b) → 
 at-end x q a b d task unstopped goes = shows-all x q a b d goes unstopped (ap (λ (t : Task). deed_of x d.chance t a.state) task)
 
 pub in-schedule : (x : Setup) (q : ServerNo) (a b : Moment) (d : DoesStep x a b) → d.task ≡ Meets (events.Show q) → refusal_of x a.state.course.world (events.Show q) ≡ None → d.chance.stop ≡ None → b.state.stage ≢ CutShort → Shows x q a b d
-in-schedule x q a b d task done' unstopped goes = shows-all x q a b d goes unstopped (ap (λ (t : Task). deed_of x d.chance t a.state) task ∙ ap (λ (o : Option EventRefusal). met x d.chance (events.Show q) a.state.course.world o) done')
+in-schedule x q a b d task done' unstopped goes = shows-all x q a b d goes unstopped (ap (λ (t : Task). deed_of x d.chance t a.state) task ∙ ap (λ (o : Option EventRefusal). met x d.chance (events.Show q) a.state.clients a.state.course.world o) done')

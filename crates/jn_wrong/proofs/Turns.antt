@@ -119,7 +119,7 @@ module _ (q : ServerNo) where
       }
 
   pub by-turns : (x : Setup) (schedule : List Event) (files : AllFiles) (epochs : ServerNo → ℕ) (t : State) → q.0 < x.servers → MayLead x (before x schedule files epochs) t → takes_turns q t.lines ≡ true
-  by-turns x schedule files epochs t below leads = run-read Bool (is_up_after q) (may_be_told q) aside (λ (was : Bool) (w : World). was ≡ up w) each false x (before x schedule files epochs) t refl
+  by-turns x schedule files epochs t below leads = run-read Bool (is_up_after q) (may_be_told q) aside (λ (was : Bool) (w : World). was ≡ up w) each false x (before x schedule files epochs) t refl refl
       (sym (down (nat_lt q.0 x.servers) (is-below q.0 x.servers below))) leads
     where
       is-below : (a n : ℕ) → a < n → nat_lt a n ≡ true

@@ -2,6 +2,8 @@
 use Rattle.std.specs.Prelude.{◌≡◌, ◌-◌, ℕ, false, nat_lt, if◌then◌else◌, List, [], ◌∷◌, ◌++◌, Option, Some, None}
 use Rattle.jn_base.specs.declared.names.Cause.TheVariants.{Full as FullAt}
 use Rattle.jn_base.specs.declared.names.Resource.{Resource}
+use Rattle.jn_base.specs.declared.op.Command.TheVariants as commands
+use Rattle.jn_base.specs.declared.op.Op.TheVariants as ops
 use Rattle.jn_base.specs.declared.names.Resource.TheVariants.{Records}
 use Rattle.jn_msgs.specs.declared.message.Vote.{Vote}
 use Rattle.jn_msgs.specs.declared.message.Vote.TheVariants.{Full}
@@ -12,14 +14,14 @@ use Rattle.jn_rows.specs.Worker.{shortage}
 use Rattle.jn_schedule.specs.declared.Event.{Event}
 use Rattle.jn_report.specs.declared.line.Line.{Line}
 use Rattle.jn_report.specs.declared.line.Text.TheVariants as says
-use Rattle.jn_system.specs.WholeSystem.ExampleNames.{s0, c1, tid, file}
+use Rattle.jn_system.specs.WholeSystem.ExampleNames.{s0, c1, tid, file, block}
 use Rattle.jn_rows.specs.Coordinator.{promised}
 use Rattle.jn_system.specs.WholeSystem.World.{Memory}
 use Rattle.jn_machine.specs.Chances.{Setup, Chance, Free, none_free}
 use Rattle.jn_machine.specs.Tasks.{Task, Rests, State, next_task}
 use Rattle.jn_machine.specs.Devices.{Devices}
 use Rattle.jn_machine.specs.Whole.{IsWhole}
-use Rattle.jn_machine.specs.Examples.{setup, calm, calm_at, line, at_end}
+use Rattle.jn_machine.specs.Examples.{setup, calm, calm_at, line, at_end, block_of, makes_file, then_settle}
 use Rattle.jn_wrong.specs.NewImages.{AreNew}
 use Rattle.jn_wrong.specs.Wrong.{a_file_made, the_end}
 
@@ -45,6 +47,14 @@ for_a_file = record { records = 2; heads = 1; pages = 0 }
 abbrev pub for_a_block : Need
 for_a_block = record { records = 3; heads = 1; pages = 1 }
 
+-- and where the block is past those of a head: a data page for its map page too
+abbrev pub for_a_map_page : Need
+for_a_map_page = record { records = 3; heads = 1; pages = 2 }
+
+-- a client makes file 7, writes this block of it, and ends
+abbrev pub writes_at : ℕ → List ℕ → List Event
+writes_at p bytes = makes_file s0 (then_settle c1 (commands.Do s0 (ops.Write (file 7) (block p) (block_of bytes))) (then_settle c1 commands.End []))
+
 -- where a block was written: it aborts for want of these, of which so many are free and so many are needed
 abbrev pub full_at_block : Resource → ℕ → ℕ → List Line
 full_at_block resource free need = line 0 (says.Up s0 1) ∷ line 2 (says.Begun c1 1 (tid s0 0)) ∷ line 4 (says.Opened c1 3 s0) ∷ line 6 (says.Did c1 5) ∷ line 8 (says.Did c1 7)
@@ -54,10 +64,13 @@ full_at_block resource free need = line 0 (says.Up s0 1) ∷ line 2 (says.Begun 
 abbrev pub made_report : List Line
 made_report = a_file_made ++ at_end (says.File s0 (file 7)) ∷ at_end (says.Commits 1) ∷ []
 
--- ---- one server with one record, which it promises to a transaction's flag
+-- ---- one server with one record, which it promises to a transaction's flag, or with one data page
 
 abbrev pub one_record : Setup
 one_record = record (setup 1) { counts = λ q. record { pool = 1; heads = 16; leaves = 128 } }
+
+abbrev pub one_page : Setup
+one_page = record (setup 1) { counts = λ q. record { pool = 32; heads = 16; leaves = 1 } }
 
 -- where nothing is stored, all is free but the records that are promised
 abbrev unpromised : Counts → Option Memory → Need

@@ -15,7 +15,7 @@ use Rattle.jn_system.specs.WholeSystem.Printing.{Printed, FileThere, PageStored,
 use Rattle.jn_system.specs.WholeSystem.PrintedLines.{text_printed, prints_of}
 use Rattle.jn_machine.specs.Chances.{Setup}
 use Rattle.jn_machine.specs.Tasks.{when_of, begun}
-use Rattle.jn_machine.specs.Steps.{lines_at}
+use Rattle.jn_report.specs.Lines.{lines_at}
 use Rattle.jn_machine.specs.Runs.{Moment, DoesStep}
 use Rattle.jn_report.specs.Kinds.{is_print as is_printed}
 

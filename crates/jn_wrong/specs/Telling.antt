@@ -19,7 +19,7 @@ use Rattle.jn_machine.specs.Deeds.{Use, Calls, Cleans, Reads, Recovers, Decays}
 use Rattle.jn_machine.specs.Devices.{Devices, KeepsWhole}
 use Rattle.jn_machine.specs.Events.{told_unless, deed_of}
 use Rattle.jn_machine.specs.Chances.{Setup}
-use Rattle.jn_machine.specs.Steps.{lines_at}
+use Rattle.jn_report.specs.Lines.{lines_at}
 use Rattle.jn_machine.specs.Tasks.{when_of, begun}
 use Rattle.jn_machine.specs.Runs.{Moment, DoesStep}
 use Rattle.jn_report.specs.Kinds.{is_outside}

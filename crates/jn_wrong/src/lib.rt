@@ -37,9 +37,10 @@ pub use new::{
     other_bytes_before_an_abort_are_none, reports_are_the_only_ones,
 };
 pub use room::{
-    a_transaction_that_finds_room_commits, a_transaction_that_lacks_records_is_told_so,
-    an_abort_comes_where_room_is_lacking, an_abort_for_want_of_pages_that_are_free_is_none,
-    an_abort_for_want_of_what_is_free_is_none, an_abort_tells_what_is_lacking,
+    a_transaction_that_finds_room_commits, a_transaction_that_lacks_a_map_page_is_told_so,
+    a_transaction_that_lacks_records_is_told_so, an_abort_comes_where_room_is_lacking,
+    an_abort_for_want_of_pages_that_are_free_is_none, an_abort_for_want_of_what_is_free_is_none,
+    an_abort_tells_what_is_lacking, an_abort_that_leaves_out_the_map_page_is_none,
 };
 pub use settling::{a_message_is_handed_over_once, a_settle_leaves_nothing_to_do};
 pub use telling::{

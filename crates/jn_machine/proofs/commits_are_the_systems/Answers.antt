@@ -3,4 +3,4 @@ use Rattle.jn_machine.proofs.Named.{names}
 use Rattle.jn_machine.proofs.commits_are_the_systems.Goals as goal
 
 pub returns : goal.returns
-returns c x schedule files epochs t m = names x (before x schedule files epochs) t m refl
+returns c x schedule files epochs t m = names x (before x schedule files epochs) t m refl refl

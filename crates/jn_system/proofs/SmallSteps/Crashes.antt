@@ -1,5 +1,6 @@
 -- A server goes down, and is up again.
-use Rattle.jn_system.proofs.Common.{◌≡◌, ◌≢◌, ◌⊎◌, inl, inr, ℕ, Bool, true, false, List, take, Option, Some, None, is_some, if◌then◌else◌, refl, sym, ◌∙◌, ap, subst, arith, ServerNo, LockUnit, Tid, WorkId, server_eq, server_tells, list_change, StableState, Prepared, Pick, World, Working, Knowledge, Unknown, Begun, Voting, Committed, AllOver, Knows, crash, found_of, restart, MayRestart}
+use Rattle.jn_system.proofs.Common.{◌≡◌, ◌≢◌, ◌⊎◌, inl, inr, ℕ, Bool, true, false, List, take, Option, Some, None, is_some, if◌then◌else◌, refl, sym, ◌∙◌, ap, subst, arith, ServerNo, LockUnit, Tid, WorkId, server_eq, server_tells, list_change, StableState, Prepared, Pick, World, Working, Knowledge, Unknown, Begun, Voting, Committed, AllOver, Knows, found_of, restart, MayRestart}
+use Rattle.jn_system.specs.SmallSteps.Steps.{crash}
 use Rattle.jn_system.proofs.SmallSteps.Invariant.{CoreFacts, IsAborted, MayBeFound}
 use Rattle.jn_system.proofs.SmallSteps.TraceLemmas.{take_zero}
 use Rattle.jn_system.proofs.SmallSteps.Updates.{TellsServer, none_of, false_unless, not_both, some_of}

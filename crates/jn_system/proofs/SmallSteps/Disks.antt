@@ -1,5 +1,6 @@
 -- Stable states change, or fewer may be found.
-use Rattle.jn_system.proofs.Common.{◌≡◌, ◌≢◌, ◌⊎◌, inl, inr, Bool, true, false, List, Option, Some, None, is_some, if◌then◌else◌, refl, sym, ◌∙◌, subst, arith, ServerNo, LockUnit, Tid, WorkId, server_eq, server_tells, tid_tells, work_tells, Intention, Flag, list_change, StableState, Prepared, FlagState, Pick, AddReady, AddFlag, DropFlag, at_work, made_by, ready_work, flag_state, is_unit, asked, effects, Agrees, commit_units, HoldsForCommit, HasRead, ReadsFiles, World, Working, AllOver, changed, put, narrow, lose, MayPrepare, MayFlag}
+use Rattle.jn_system.proofs.Common.{◌≡◌, ◌≢◌, ◌⊎◌, inl, inr, Bool, true, false, List, Option, Some, None, is_some, if◌then◌else◌, refl, sym, ◌∙◌, subst, arith, ServerNo, LockUnit, Tid, WorkId, server_eq, server_tells, tid_tells, work_tells, Intention, Flag, list_change, StableState, Prepared, FlagState, Pick, AddReady, AddFlag, DropFlag, at_work, made_by, ready_work, flag_state, is_unit, asked, effects, FilesAnswer, commit_units, HoldsForCommit, HasRead, ReadsFiles, World, Working, AllOver, changed, put, lose, MayPrepare, MayFlag}
+use Rattle.jn_system.specs.SmallSteps.Steps.{narrow}
 use Rattle.jn_system.proofs.SmallSteps.Invariant.{CoreFacts, IsActive, IsPrepared, HasFlag, MayBeFound, base}
 use Rattle.jn_records.specs.declared.work.WorkHead.{WorkHead}
 use Rattle.jn_system.proofs.SmallSteps.Updates.{none_unless, false_unless, not_both, at_work_here, at_work_other, at_work_cases, at_tid_other, at_tid_cases, some_is, none_some}
@@ -76,7 +77,7 @@ pub record Prepares (w : World) (x : StableState) (W : WorkId) (p : Prepared) : 
   pub not_active : w.active W ≡ None
   pub not_named : w.named (w.owner W) ≡ false
   pub not_going : p.going ≡ false
-  pub agrees : Agrees (base w W.server) (w.trace W)
+  pub agrees : FilesAnswer (base w W.server) (w.trace W)
   pub nowhere : x.works W ≡ None
   -- what it holds for commit no other work holds, and what another holds for commit it doesn't hold
   pub mine : (V : WorkId) (q : Prepared) → x.works V ≡ Some q → (u : LockUnit) → HoldsForCommit p.list u → (is_unit (commit_units q.list) u ≡ false) × (is_unit q.reads u ≡ false)

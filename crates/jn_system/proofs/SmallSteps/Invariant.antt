@@ -1,5 +1,5 @@
 -- What holds between any two steps of the machine.
-use Rattle.jn_system.proofs.Common.{ServerNo, Files, World, replay, Working, Unknown, IsSerial, LockUnit, Tid, WorkId, list_change, StableState, Prepared, FlagState, Pick, is_unit, asked, effects, Agrees, commit_units, HoldsForCommit, HasRead, ReadsFiles, AllReady, AllOver, AreParts, Knows}
+use Rattle.jn_system.proofs.Common.{ServerNo, Files, World, replay, Working, Unknown, IsSerial, LockUnit, Tid, WorkId, list_change, StableState, Prepared, FlagState, Pick, is_unit, asked, effects, FilesAnswer, commit_units, HoldsForCommit, HasRead, ReadsFiles, AllReady, AllOver, AreParts, Knows}
 use Rattle.std.specs.Prelude.{◌≡◌, ◌≢◌, ◌⊎◌, true, false, List, take, Option, Some, None, is_some, ℕ, ◌≤◌, ◌<◌, Bool, []}
 
 -- the files of a server after the commits so far
@@ -26,7 +26,7 @@ IsPrepared w s x W p = record {
   -- what was carried out since its server came up
   next : p.going ≡ true → (u : LockUnit) (v : Option (List ℕ)) → list_change (take (w.next W) p.list) u ≡ Some v → x.files u ≡ v;
   -- until it is named, its answers are those of the commits so far
-  agrees : w.named (w.owner W) ≡ false → Agrees (base w s) (w.trace W);
+  agrees : w.named (w.owner W) ≡ false → FilesAnswer (base w s) (w.trace W);
   -- once it is named, the commits so far have left what it will write
   written : w.named (w.owner W) ≡ true → (u : LockUnit) (v : Option (List ℕ)) → list_change p.list u ≡ Some v → base w s u ≡ v;
 }
@@ -71,7 +71,7 @@ IsActive w W a = record {
   not_over : w.over W ≡ false;
   not_ready : w.was_ready W ≡ false;
   -- its answers are those of the commits so far
-  agrees : Agrees (base w W.server) (w.trace W);
+  agrees : FilesAnswer (base w W.server) (w.trace W);
 }
 
 abbrev pub ActiveFact : World → Type 0

@@ -1,8 +1,7 @@
 -- What a message says stays true.
-use Rattle.jn_system.proofs.Common.{◌≡◌, ◌≢◌, ◌⊎◌, inl, inr, ℕ, Bool, true, false, List, [], ◌∷◌, Option, Some, None, not, refl, sym, ◌∙◌, ap, subst, arith, ◌&&◌, ◌||◌, ServerNo, Tid, WorkId, server_eq, tid_tells, work_tells, AllFiles, at_work, at_tid, World, Atom, Begin, Open, End, NoteReady, NoteOver, Abort, Close, Name, Decide, Restart, after, run, opening_world, May, MayRun, Message, Vote}
+use Rattle.jn_system.proofs.Common.{◌≡◌, ◌≢◌, ◌⊎◌, inl, inr, ℕ, Bool, true, false, List, [], ◌∷◌, Option, Some, None, not, refl, sym, ◌∙◌, ap, subst, arith, ◌&&◌, ◌||◌, ServerNo, Tid, WorkId, server_eq, tid_tells, work_tells, AllFiles, at_work, at_tid, World, Atom, Begin, Open, End, NoteReady, NoteOver, Abort, Close, Name, Decide, Restart, after, run, opening_world, May, MayRun, Message, Vote, Outcome}
 use Rattle.jn_system.proofs.SmallSteps.Invariant.{Invariant, NamesFact}
 use Rattle.jn_msgs.specs.declared.message.Message.TheVariants as messages
-use Rattle.jn_msgs.specs.declared.message.Outcome.{Outcome}
 use Rattle.jn_msgs.specs.declared.message.Outcome.TheVariants as outcomes
 use Rattle.jn_msgs.specs.declared.message.Vote.TheVariants as votes
 use Rattle.jn_system.specs.SmallSteps.Messages.{IsPartOf, IsWorkOf, BegunSays, OpenedSays, OutcomeSays, VoteSays, DropSays, Says}

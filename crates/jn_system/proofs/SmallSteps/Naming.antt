@@ -1,5 +1,5 @@
 -- The commit point: a transaction is named.
-use Rattle.jn_system.proofs.Common.{◌≡◌, ◌≢◌, ◌⊎◌, inl, inr, ℕ, Bool, true, false, List, Option, Some, None, is_some, if◌then◌else◌, refl, sym, ◌∙◌, ap, subst, arith, ServerNo, LockUnit, Tid, WorkId, tid_eq, tid_tells, Files, or_else, change, list_change, Prepared, FlagState, Pick, is_unit, Answered, asked, effects, Agrees, Writes, World, Working, Knowledge, Unknown, Begun, Voting, Committed, IsSerial, AllOver, Knows, trace_of, name_it, MayName}
+use Rattle.jn_system.proofs.Common.{◌≡◌, ◌≢◌, ◌⊎◌, inl, inr, ℕ, Bool, true, false, List, Option, Some, None, is_some, if◌then◌else◌, refl, sym, ◌∙◌, ap, subst, arith, ServerNo, LockUnit, Tid, WorkId, tid_eq, tid_tells, Files, or_else, change, list_change, Prepared, FlagState, Pick, is_unit, Answered, asked, effects, FilesAnswer, Writes, World, Working, Knowledge, Unknown, Begun, Voting, Committed, IsSerial, AllOver, Knows, trace_of, name_it, MayName}
 use Rattle.jn_system.proofs.SmallSteps.Invariant.{CoreFacts, IsNamed, HasFlag, MayBeFound, base}
 use Rattle.jn_system.proofs.SmallSteps.TraceLemmas.{agrees_local}
 use Rattle.jn_system.proofs.SmallSteps.HeldLemmas.{reads_apart, writes_apart}
@@ -49,7 +49,7 @@ module _ (w : World) (T : Tid) (may : MayName w T) (inv : CoreFacts w) where
   named_was U n = grind (arith, tid_tells)
 
   -- the answers of T's works are right
-  right : (s : ServerNo) (o : Option WorkId) → w.part T s ≡ o → Agrees (base w s) (trace_of w.trace o)
+  right : (s : ServerNo) (o : Option WorkId) → w.part T s ≡ o → FilesAnswer (base w s) (trace_of w.trace o)
   right s None is = tt
   right s (Some W) is = let k = its s some_pick W is in let h = (inv.states s some_pick).prepared W k.0 k.1 in
       h.agrees (subst (λ z. w.named z ≡ false) (sym (inv.parts T s W is).owner) may.not_named)
@@ -80,7 +80,7 @@ module _ (w : World) (T : Tid) (may : MayName w T) (inv : CoreFacts w) where
   no_true b h = false_unless b h
 
   -- a trace whose reads T does not write
-  still_agrees : (s : ServerNo) (t : List Answered) → ((W : WorkId) → w.part T s ≡ Some W → (u : LockUnit) → asked t u ≡ true → is_some (effects (w.trace W) u) ≡ false) → Agrees (base w s) t → Agrees (base v s) t
+  still_agrees : (s : ServerNo) (t : List Answered) → ((W : WorkId) → w.part T s ≡ Some W → (u : LockUnit) → asked t u ≡ true → is_some (effects (w.trace W) u) ≡ false) → FilesAnswer (base w s) t → FilesAnswer (base v s) t
   still_agrees s t free h = agrees_local t (base w s) (base v s) (λ u q. sym (same_base s u (λ W is. free W is u q))) h
 
   name_serial : IsSerial v.opening v.history
@@ -126,7 +126,7 @@ module _ (w : World) (T : Tid) (may : MayName w T) (inv : CoreFacts w) where
       named_by U at n (inl (t, e)) = inl (subst (λ s. is_some ((w.found s c).flags U) ≡ true) at (subst (λ (z : Tid). is_some ((w.found z.server c).flags z) ≡ true) e (may.flagged c)))
       named_by U at n (inr (t, ne)) = (inv.states s c).named U at (sym (was_named U ne) ∙ n)
 
-  active_still : (V : WorkId) (a : Working) → w.active V ≡ Some a → Agrees (base v V.server) (w.trace V)
+  active_still : (V : WorkId) (a : Working) → w.active V ≡ Some a → FilesAnswer (base v V.server) (w.trace V)
   active_still V a is = let h = inv.active V a is in still_agrees V.server (w.trace V) (λ W part u q. no_true (is_some (effects (w.trace W) u)) (λ r. let k = its V.server some_pick W part in
       not_both (is_unit a.reads u) (h.reads u q) (reads_apart k.0.list a.list a.reads ((inv.states V.server some_pick).no_reader V W a k.0 is k.1 refl) h.reads_files u
       (subst (λ o. is_some o ≡ true) (sym (((inv.states V.server some_pick).prepared W k.0 k.1).list u)) r)))) h.agrees

@@ -1,5 +1,5 @@
 -- A work is opened, and an operation is answered.
-use Rattle.jn_system.proofs.Common.{◌≡◌, ◌≢◌, ◌⊎◌, inl, inr, ℕ, Bool, true, false, List, [], ◌∷◌, ◌++◌, Option, Some, None, is_some, refl, sym, ◌∙◌, ap, subst, arith, ServerNo, LockUnit, Tid, WorkId, work_tells, Files, change, answer_to, or_also, list_change, Prepared, Pick, at_work, is_unit, Answered, asks, asked, effect_of, effects, Agrees, HoldsForCommit, HasRead, file_unit, World, Working, open_work, perform, MayPerform}
+use Rattle.jn_system.proofs.Common.{◌≡◌, ◌≢◌, ◌⊎◌, inl, inr, ℕ, Bool, true, false, List, [], ◌∷◌, ◌++◌, Option, Some, None, is_some, refl, sym, ◌∙◌, ap, subst, arith, ServerNo, LockUnit, Tid, WorkId, work_tells, Files, change, answer_to, or_also, list_change, Prepared, Pick, at_work, is_unit, Answered, asks, asked, effect_of, effects, FilesAnswer, HoldsForCommit, HasRead, file_unit, World, Working, open_work, perform, MayPerform}
 use Rattle.jn_system.proofs.SmallSteps.Invariant.{CoreFacts, IsActive, MayBeFound, base}
 use Rattle.jn_system.specs.SmallSteps.Steps.{new_work}
 use Rattle.jn_order.specs.Files.{Change}
@@ -59,7 +59,7 @@ module _ (w : World) (W : WorkId) (T : Tid) (fresh : w.opened W ≡ false) (up :
     reads_files = no_units;
     not_over = new_over;
     not_ready = new_ready;
-    agrees = subst (λ t. Agrees (base w W.server) t) (sym e) tt;
+    agrees = subst (λ t. FilesAnswer (base w W.server) t) (sym e) tt;
   }
 
   open_by : (V : WorkId) (a : Working) → (((W ≡ V) × (Some new_work ≡ Some a)) ⊎ ((W ≢ V) × (w.active V ≡ Some a))) → IsActive (open_work W T w) V a
@@ -121,12 +121,12 @@ module _ (w : World) (W : WorkId) (l : Answered) (a : Working) (may : MayPerform
   perform_for : (t : List Answered) → t ≡ trace → record {
     list : (u : LockUnit) → list_change a.list u ≡ effects t u;
     reads : (u : LockUnit) → asked t u ≡ true → HasRead a.reads u;
-    agrees : Agrees (base w W.server) t;
+    agrees : FilesAnswer (base w W.server) t;
   }
   perform_for t e = let h = inv.active W may.before may.is in subst (λ t. record {
     list : (u : LockUnit) → list_change a.list u ≡ effects t u;
     reads : (u : LockUnit) → asked t u ≡ true → HasRead a.reads u;
-    agrees : Agrees (base w W.server) t;
+    agrees : FilesAnswer (base w W.server) t;
   }) (sym e) (record {
     list = λ u. more_change (effects (w.trace W)) (list_change may.before.list) (effect_of l u) (list_change a.list u) u (sym (h.list u)) (may.list u) ∙ sym (effects_more (w.trace W) l u);
     reads = λ u q. reads_more (w.trace W) l (λ v. is_unit a.reads v) (λ v. is_unit may.before.reads v) u (h.reads u) (may.kept u) (may.reads u) q;
@@ -153,7 +153,7 @@ module _ (w : World) (W : WorkId) (l : Answered) (a : Working) (may : MayPerform
     reads_files = h.reads_files;
     not_over = h.not_over;
     not_ready = h.not_ready;
-    agrees = subst (λ t. Agrees (base w V.server) t) e h.agrees;
+    agrees = subst (λ t. FilesAnswer (base w V.server) t) e h.agrees;
   }
 
   reader_now : (s : ServerNo) (c : Pick) (A V : WorkId) (x : Working) (q : Prepared) → (((W ≡ A) × (Some a ≡ Some x)) ⊎ ((W ≢ A) × (w.active A ≡ Some x))) → (w.found s c).works V ≡ Some q → A.server ≡ s
@@ -178,7 +178,7 @@ module _ (w : World) (W : WorkId) (l : Answered) (a : Working) (may : MayPerform
           not_active = at_work_other w.active W (Some a) V ne ∙ h.not_active;
           going = h.going;
           next = h.next;
-          agrees = λ n. subst (λ t. Agrees (base w s) t) e (h.agrees n);
+          agrees = λ n. subst (λ t. FilesAnswer (base w s) t) e (h.agrees n);
           written = h.written;
         };
     apart = f.apart;

@@ -1,7 +1,8 @@
 -- Traces: what their answers depend on, one more operation, and lists of intentions carried out in part.
-use Rattle.jn_system.proofs.Common.{◌≡◌, ℕ, zero, suc, true, false, List, [], ◌∷◌, ◌++◌, take, Option, is_some, if◌then◌else◌, refl, sym, subst, arith, nat_tests, ◌&&◌, FileNo, BlockNo, LockUnit, File, Block, Op, Answer, Found, file_eq, block_eq, Files, change, file_of, answer_to, and_then, or_also, Intention, intention_change, list_change, Answered, asks_block, asks, asked, effect_of, effects, Agrees}
+use Rattle.jn_system.proofs.Common.{◌≡◌, ℕ, zero, suc, Bool, true, false, List, [], ◌∷◌, ◌++◌, take, Option, is_some, if◌then◌else◌, refl, sym, ◌∙◌, ap, subst, arith, nat_tests, ◌&&◌, FileNo, BlockNo, LockUnit, File, Block, Op, Answer, Found, file_eq, block_eq, Files, change, file_of, answer_to, and_then, or_also, Intention, intention_change, list_change, Answered, asks_block, asks, asked, effect_of, effects, FilesAnswer, nothing, effect, is_did, files_after}
 use Rattle.jn_base.specs.declared.op.Op.TheVariants.{Create, Remove, Cut, Read, Write}
 use Rattle.jn_order.specs.Files.{Change}
+use Rattle.jn_order.proofs.ChangeLemmas.{change-nothing}
 use Rattle.jn_system.proofs.SmallSteps.Updates.{not_both}
 
 change_then : (a b : Change) (files : Files) (u : LockUnit) → change (and_then a b) files u ≡ change b (change a files) u
@@ -25,11 +26,19 @@ answer_local a fs gs same right = local_by a.op a.answer fs gs (same (File (file
     self : (f : FileNo) → file_eq f f ≡ true
     self f = grind (arith, nat_tests)
 
-pub agrees_local : (trace : List Answered) (fs gs : Files) → ((u : LockUnit) → asked trace u ≡ true → fs u ≡ gs u) → Agrees fs trace → Agrees gs trace
+-- an operation that these files answer so changes them as its answer says
+pub after_answer : (a : Answered) (files : Files) → answer_to a.op files ≡ a.answer → files_after a.op files ≡ change (effect_of a) files
+after_answer a files right = by (is_did (answer_to a.op files)) ∙ ap (λ (x : Answer). change (if is_did x then effect a.op else nothing) files) right
+  where
+    by : (b : Bool) → (if b then change (effect a.op) files else files) ≡ change (if b then effect a.op else nothing) files
+    by true = refl
+    by false = sym (change-nothing files)
+
+pub agrees_local : (trace : List Answered) (fs gs : Files) → ((u : LockUnit) → asked trace u ≡ true → fs u ≡ gs u) → FilesAnswer fs trace → FilesAnswer gs trace
 agrees_local [] fs gs same h = h
-agrees_local (a ∷ trace) fs gs same h = (
-  answer_local a fs gs (λ u q. same u (grind arith)) h.0,
-  agrees_local trace (change (effect_of a) fs) (change (effect_of a) gs) (λ u q. grind (arith, same u)) h.1,
+agrees_local (a ∷ trace) fs gs same h = let right = answer_local a fs gs (λ u q. same u (grind arith)) h.0 in (
+  right,
+  rw (after_answer a gs right) (agrees_local trace (change (effect_of a) fs) (change (effect_of a) gs) (λ u q. grind (arith, same u)) (rw (← after_answer a fs h.0) h.1)),
 )
 
 -- one more operation
@@ -41,12 +50,12 @@ pub asked_more : (trace : List Answered) (a : Answered) (u : LockUnit) → asked
 asked_more [] a u = grind arith
 asked_more (b ∷ trace) a u = grind (arith, asked_more trace a u)
 
-pub agrees_more : (trace : List Answered) (a : Answered) (files : Files) → Agrees files trace → answer_to a.op (change (effects trace) files) ≡ a.answer → Agrees files (trace ++ a ∷ [])
+pub agrees_more : (trace : List Answered) (a : Answered) (files : Files) → FilesAnswer files trace → answer_to a.op (change (effects trace) files) ≡ a.answer → FilesAnswer files (trace ++ a ∷ [])
 agrees_more [] a files h e = (e, tt)
 agrees_more (b ∷ trace) a files h e = (
   h.0,
-  agrees_more trace a (change (effect_of b) files) h.1
-      (answer_local a (change (effects (b ∷ trace)) files) (change (effects trace) (change (effect_of b) files)) (λ u q. change_then (effect_of b) (effects trace) files u) e),
+  rw (after_answer b files h.0) (agrees_more trace a (change (effect_of b) files) (rw (← after_answer b files h.0) h.1)
+      (answer_local a (change (effects (b ∷ trace)) files) (change (effects trace) (change (effect_of b) files)) (λ u q. change_then (effect_of b) (effects trace) files u) e)),
 )
 
 -- ---- lists of intentions carried out in part

@@ -1,7 +1,6 @@
 -- Which servers have something to do, and that an erasure changes nothing.
-use Rattle.jn_system.proofs.Common.{◌≡◌, ◌≢◌, inl, inr, ◌≤◌, ◌<◌, ℕ, zero, suc, ◌+◌, Bool, true, false, List, [], ◌∷◌, ◌++◌, append-nil, Option, Some, None, refl, sym, ◌∙◌, ap, subst, arith, if◌then◌else◌, slice_get, nat_tests, ServerNo, RowOutcome, Sent, quiet, StableState, Change, Pick, stable, made_all, Memory, at_server, servers_from, changed, Room, storage_of, server_step, of_worker, of_step, is_busy, done, work, works, server_eq, server_tells, Intention, Text, WorkEntry, going_work, going_row, carried_row, intentions_of}
+use Rattle.jn_system.proofs.Common.{◌≡◌, ◌≢◌, inl, inr, ◌≤◌, ◌<◌, ℕ, zero, suc, ◌+◌, Bool, true, false, List, [], ◌∷◌, ◌++◌, append-nil, Option, Some, None, refl, sym, ◌∙◌, ap, subst, arith, if◌then◌else◌, slice_get, nat_tests, ServerNo, RowOutcome, Sent, quiet, StableState, Change, Pick, stable, made_all, Memory, at_server, servers_from, changed, Room, storage_of, server_step, of_worker, of_step, is_busy, done, work, works, server_eq, server_tells, Intention, Text, WorkEntry, going_work, going_row, carried_row, intentions_of, fun_ext}
 use Rattle.std.specs.Prelude.{◌⊎◌, is_some}
-use Rattle.std.proofs.Math.Path.{fun_ext}
 use Rattle.jn_system.specs.WholeSystem.World.{World}
 use Rattle.jn_system.specs.WholeSystem.Steps.{Work, after}
 use Rattle.jn_system.specs.WholeSystem.Settle.{first_busy}

@@ -1,16 +1,14 @@
 -- What each step of the whole system changes, in nine cases: a client's row, a server's row that is done or stopped, a late
 -- transaction, a server that goes down or comes up, what is found of a server that is down, the clients dismissed, and steps that
 -- leave every table and state.
-use Rattle.jn_system.proofs.Common.{Bool, ◌≡◌, ℕ, ◌+◌, List, [], ◌∷◌, ◌++◌, Option, Some, None, refl, if◌then◌else◌, slice_get, ServerNo, ClientNo, Tid, WorkId, server_eq, Message, StableState, Pick, stable, RowOutcome, Sent, close_clients_row, with_epoch, Step, NextEvent, Tell, Again, Deliver, Nudge, Timeout, StopDelivery, StopWork, StopRestart, Dismiss, CloseClients, at_memory, handed, work, works, nudge, timeout, stop_restart, close_clients, commanded, took, Text, Memory, at_server, at_client, Room, server_row, server_step, server_again, server_timeout, of_coordinator, sent_now, stopped, restart_with, true, false, Client, Server, Commanded, Refuses, Sends, ClientTable, command_row, take_row, again_row, over, done, Left}
+use Rattle.jn_system.proofs.Common.{Bool, ◌≡◌, ℕ, ◌+◌, List, [], ◌∷◌, ◌++◌, Option, Some, None, refl, if◌then◌else◌, slice_get, ServerNo, ClientNo, Tid, WorkId, server_eq, Message, StableState, Pick, stable, RowOutcome, Sent, close_clients_row, with_epoch, Step, NextEvent, Tell, Again, Deliver, Nudge, Timeout, StopDelivery, StopWork, StopRestart, Dismiss, CloseClients, at_memory, handed, work, works, nudge, timeout, stop_restart, close_clients, commanded, took, Text, Memory, at_server, at_client, Room, server_row, server_step, server_again, server_timeout, of_coordinator, sent_now, stopped, restart_with, true, false, Client, Server, Commanded, Refuses, Sends, ClientTable, command_row, take_row, again_row, over, done, Left, Command, Taken, crash, narrow}
 use Rattle.jn_base.specs.declared.names.Party.{Party}
-use Rattle.jn_base.specs.declared.op.Command.{Command}
 use Rattle.jn_report.specs.declared.line.Refusal.{Refusal}
 use Rattle.jn_report.specs.declared.line.Text.TheVariants as says
-use Rattle.jn_rows.specs.declared.client.Taken.{Taken}
 use Rattle.jn_rows.specs.declared.client.Taken.TheVariants as taken
 use Rattle.jn_system.specs.WholeSystem.World.{World}
 pub use Rattle.jn_system.specs.WholeSystem.Steps.{handing, working}
-use Rattle.jn_system.specs.WholeSystem.Steps.{Work, Crash, Narrow, Restart, after, crash, narrow, restart}
+use Rattle.jn_system.specs.WholeSystem.Steps.{Work, Crash, Narrow, Restart, after, restart}
 use Rattle.jn_system.proofs.WholeSystem.OneChange.{one-found}
 
 -- a client's row: its table then, and all that was sent and reported then

@@ -17,7 +17,7 @@ use Rattle.jn_records.specs.declared.intention.Intention.{Intention}
 use Rattle.jn_records.specs.declared.work.WorkHead.{WorkHead}
 use Rattle.jn_records.specs.declared.flag.Flag.{Flag}
 use Rattle.jn_rows.specs.Stable.{StableState, MarkGoing, CarryOut, RemoveWork, AddFlag, DropFlag, at_work}
-use Rattle.jn_system.specs.SmallSteps.Traces.{Answered}
+use Rattle.jn_order.specs.Answers.{Answered}
 use Rattle.jn_system.specs.SmallSteps.World.{World, Working, Voting}
 use Rattle.jn_system.specs.SmallSteps.Steps.{Atom, Begin, Open, Perform, Prepare, End, Learn, NoteReady, NoteOver, Close, Make, Count, Name, Narrow, Crash, Restart, always, run, opening_world}
 

@@ -9,7 +9,7 @@ use Rattle.jn_base.specs.Names.{tid_eq}
 use Rattle.jn_order.specs.Files.{AllFiles}
 use Rattle.jn_records.specs.NetLists.{list_change}
 use Rattle.jn_rows.specs.Stable.{StableState, Prepared, Pick}
-use Rattle.jn_system.specs.SmallSteps.Traces.{Answered}
+use Rattle.jn_order.specs.Answers.{Answered}
 use Rattle.jn_system.specs.SmallSteps.World.{World, Commit, IsSerial, replay}
 use Rattle.jn_system.specs.SmallSteps.Steps.{trace_of}
 

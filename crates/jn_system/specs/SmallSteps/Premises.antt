@@ -12,7 +12,8 @@ use Rattle.jn_records.specs.declared.work.WorkHead.{WorkHead}
 use Rattle.jn_records.specs.NetLists.{intention_change, list_change}
 use Rattle.jn_rows.specs.Stable.{StableState, Prepared, Pick, Change, AddReady, MarkGoing, CarryOut, RemoveWork, AddFlag, DropFlag}
 use Rattle.jn_locks.specs.Locks.{is_unit}
-use Rattle.jn_system.specs.SmallSteps.Traces.{Answered, effect_of, asks}
+use Rattle.jn_order.specs.Answers.{Answered}
+use Rattle.jn_system.specs.SmallSteps.Traces.{effect_of, asks}
 use Rattle.jn_system.specs.SmallSteps.Held.{HoldsForCommit, HasRead, Writes, ReadsFiles}
 use Rattle.jn_lock_rows.specs.Matching.{commit_units}
 use Rattle.jn_system.specs.SmallSteps.World.{World, Working, Knowledge}

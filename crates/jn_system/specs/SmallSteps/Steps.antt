@@ -11,7 +11,7 @@ use Rattle.jn_records.specs.declared.flag.Flag.{Flag}
 use Rattle.jn_records.specs.declared.intention.Intention.{Intention}
 use Rattle.jn_records.specs.declared.work.WorkHead.{WorkHead}
 use Rattle.jn_rows.specs.Stable.{StableState, Pick, Change, AddReady, MarkGoing, CarryOut, RemoveWork, AddFlag, DropFlag, at_work, at_tid, made_by, carried_at}
-use Rattle.jn_system.specs.SmallSteps.Traces.{Answered}
+use Rattle.jn_order.specs.Answers.{Answered}
 use Rattle.jn_system.specs.SmallSteps.World.{World, Working, Knowledge, Unknown, Begun, Committed}
 use Rattle.jn_system.specs.WholeSystem.World.{at_server, changed, with_epoch}
 

@@ -1,5 +1,5 @@
 -- What a work did at a server: operations with their answers, what the answers depend on, and what they change.
-use Rattle.std.specs.Prelude.{◌≡◌, Bool, true, false, ◌&&◌, if◌then◌else◌, List, [], ◌∷◌}
+use Rattle.std.specs.Prelude.{Bool, true, false, ◌&&◌, if◌then◌else◌, List, [], ◌∷◌}
 use Rattle.jn_base.specs.declared.names.FileNo.{FileNo}
 use Rattle.jn_base.specs.declared.names.BlockNo.{BlockNo}
 use Rattle.jn_base.specs.declared.names.LockUnit.{LockUnit}
@@ -9,13 +9,9 @@ use Rattle.jn_base.specs.declared.op.Op.TheVariants.{Read}
 use Rattle.jn_base.specs.declared.op.Answer.{Answer}
 use Rattle.jn_base.specs.declared.op.Answer.TheVariants.{Read as Found}
 use Rattle.jn_base.specs.Names.{file_eq, block_eq}
-use Rattle.jn_order.specs.Files.{Files, Change, change, nothing, effect, file_of, answer_to, is_did}
+use Rattle.jn_order.specs.Files.{Change, nothing, effect, file_of, is_did}
 use Rattle.jn_order.specs.Changes.{and_then}
-
--- an operation with its answer
-pub record Answered : Type 0 where
-  pub op : Op
-  pub answer : Answer
+use Rattle.jn_order.specs.Answers.{Answered}
 
 -- a block is asked for only where it is read, and not where its file is absent
 abbrev pub asks_block : Op → Answer → FileNo → BlockNo → Bool
@@ -39,8 +35,3 @@ effect_of a = if is_did a.answer then effect a.op else nothing
 abbrev pub effects : List Answered → Change
 effects [] = nothing
 effects (a ∷ trace) = and_then (effect_of a) (effects trace)
-
--- these files give these answers, one operation after another
-abbrev pub Agrees : Files → List Answered → Type 0
-Agrees files [] = Unit {0}
-Agrees files (a ∷ trace) = (answer_to a.op files ≡ a.answer) × Agrees (change (effect_of a) files) trace

@@ -7,7 +7,8 @@ use Rattle.jn_base.specs.declared.names.WorkId.{WorkId}
 use Rattle.jn_order.specs.Files.{AllFiles, change}
 use Rattle.jn_records.specs.declared.intention.Intention.{Intention}
 use Rattle.jn_rows.specs.Stable.{StableState, Pick}
-use Rattle.jn_system.specs.SmallSteps.Traces.{Answered, effects, Agrees}
+use Rattle.jn_order.specs.Answers.{Answered, FilesAnswer}
+use Rattle.jn_system.specs.SmallSteps.Traces.{effects}
 
 -- a work that goes on: its intentions, and the units that it has read
 pub record Working : Type 0 where
@@ -69,4 +70,4 @@ replay files (c ∷ history) = λ s. change (effects (c.traces s)) (replay files
 -- what each committed transaction was answered is what the commits before it left
 abbrev pub IsSerial : AllFiles → List Commit → Type 0
 IsSerial files [] = Unit {0}
-IsSerial files (c ∷ history) = ((s : ServerNo) → Agrees (replay files history s) (c.traces s)) × IsSerial files history
+IsSerial files (c ∷ history) = ((s : ServerNo) → FilesAnswer (replay files history s) (c.traces s)) × IsSerial files history

@@ -1,6 +1,6 @@
 -- The whole system between two steps: what each server and client remembers, what is stable at each server, every message
 -- that was sent, and every line that was reported.
-use Rattle.std.specs.Prelude.{ℕ, zero, suc, ◌+◌, Bool, if◌then◌else◌, List, [], ◌∷◌, ◌++◌, Option, Some, None, ◌≡◌, ◌≤◌}
+use Rattle.std.specs.Prelude.{ℕ, zero, suc, ◌+◌, Bool, if◌then◌else◌, List, [], ◌∷◌, ◌++◌, length, drop, Option, Some, None, ◌≡◌, ◌≤◌}
 use Rattle.std.specs.List.{list_any}
 use Rattle.jn_base.specs.declared.names.ServerNo.{ServerNo}
 use Rattle.jn_base.specs.declared.names.ClientNo.{ClientNo}
@@ -38,6 +38,10 @@ pub record World : Type 0 where
   pub lines : List Text
   -- the number of the event under way
   pub event : ℕ
+
+-- what the second world has reported that the first one hadn't
+abbrev pub own_texts : World → World → List Text
+own_texts before now = drop (length before.lines) now.lines
 
 abbrev pub at_server : {A : Type 0} → (ServerNo → A) → ServerNo → A → ServerNo → A
 at_server f s x q = if server_eq s q then x else f q

@@ -1,5 +1,5 @@
 -- What a worker does with a prepared work, as steps of the machine: its next intention is carried out, or it goes.
-use Rattle.jn_system_order.proofs.Common.{nat_lt, nat_tests, BlockNo, ◌≡◌, ◌≢◌, ◌⊎◌, inl, inr, ℕ, suc, ◌+◌, Bool, true, false, List, [], ◌∷◌, take, Option, Some, None, is_some, refl, sym, ◌∙◌, ap, subst, arith, if◌then◌else◌, slice_get, All, All-nil, All-cons, ServerNo, Tid, WorkId, LockUnit, Server, server_eq, work_eq, server_tells, work_tells, change, or_else, or_also, Intention, intention_change, list_change, Message, Work, StableState, Prepared, Pick, CarryOut, RemoveWork, is_going, made_by, at_work, stable, RowOutcome, Sent, WorkerTable, work_at, carried_row, intentions_of, worker_step, at-less, Machine, Invariant, Atom, Count, Make, NoteOver, always, run, MayRun, MayCount, MayCarryOut, MayRemove, MayBeOver, IsPrepared, Says, take_zero, World, Memory, UpFact, Mirrors, IsTrue, IsAddressed, working_of, next_in, Room, storage_of, going-is, stored-fact, WorkerStep, carries_out, is_over, erases_rubbish, worker-step-case, Left, left_of, CarryPart, is_written, carried_at, gone_at, fun_ext, zero, part-is, File, Block, Files, FilesChange, part_by}
+use Rattle.jn_system_order.proofs.Common.{nat_lt, nat_tests, BlockNo, ◌≡◌, ◌≢◌, ◌⊎◌, inl, inr, ℕ, suc, ◌+◌, Bool, true, false, List, [], ◌∷◌, take, Option, Some, None, is_some, refl, sym, ◌∙◌, ap, subst, arith, if◌then◌else◌, slice_get, All, All-nil, All-cons, ServerNo, Tid, WorkId, LockUnit, Server, server_eq, work_eq, server_tells, work_tells, change, or_else, or_also, Intention, intention_change, list_change, Message, Work, StableState, Prepared, Pick, CarryOut, RemoveWork, is_going, made_by, at_work, stable, RowOutcome, Sent, WorkerTable, work_at, carried_row, intentions_of, worker_step, at-less, Machine, Invariant, Atom, Count, Make, NoteOver, always, run, MayRun, MayCount, MayCarryOut, MayRemove, MayBeOver, IsPrepared, Says, take_zero, World, Memory, UpFact, Mirrors, IsTrue, IsAddressed, working_of, next_in, Room, storage_of, going-is, stored-fact, WorkerStep, carries_out, is_over, erases_rubbish, worker-step-case, Left, left_of, CarryPart, carried_at, fun_ext, zero, part-is, File, Block, Files, FilesChange, part_by}
 use Rattle.jn_records.specs.declared.intention.What.{What}
 use Rattle.jn_records.specs.declared.intention.What.TheVariants.{Fresh, Gone, Cut, Put}
 use Rattle.jn_msgs.specs.declared.message.Message.TheVariants as messages
@@ -11,6 +11,15 @@ use Rattle.jn_system_order.proofs.Mirroring.Intended.{step-writes, step-more, ta
 
 one-more : (n : ℕ) → suc n ≡ n + 1
 one-more n = omega arith
+
+-- whether a part of an intention has written a register
+abbrev pub gone_at : Option (BlockNo → Bool) → What → LockUnit → Bool
+gone_at (Some gone) Cut (Block f p) = gone p
+gone_at _ _ _ = false
+
+-- whether an intention has written a register where a stop has left this of it
+abbrev pub is_written : Left → Intention → LockUnit → Bool
+is_written l i u = if nat_lt 0 l.whole then true else gone_at l.gone i.what u
 
 -- of a part that is gone the registers are as after the whole change
 part-written : (gone : BlockNo → Bool) (what : What) (c : FilesChange) (files : Files) (u : LockUnit) → change (part_by gone what c) files u ≡ (if gone_at (Some gone) what u then change c files u else files u)

@@ -1,5 +1,6 @@
 -- An operation that is granted, as steps of the machine: the works that break are lost, and the operation is performed.
-use Rattle.jn_system_order.proofs.Common.{◌≡◌, ◌≢◌, ◌⊎◌, inl, inr, Bool, true, false, List, [], ◌∷◌, ◌++◌, Option, Some, None, refl, sym, ◌∙◌, ap, subst, arith, ◌||◌, if◌then◌else◌, All-nil, All-cons, ServerNo, ClientNo, WorkId, LockUnit, Client, Op, Answer, work_eq, work_tells, change, answer_to, list_change, Read, Commit, is_unit, Message, Work, Phase, Active, ActiveWork, StableState, Prepared, at_work, stable, WorkerTable, work_at, wants_of, units_for, is_fit, after_grant, with_phase, granted_row, conflict, holds, HoldsForCommit, HasRead, file_unit, Answered, Machine, Working, Atom, Perform, perform, run, MayRun, MayPerform, Says, World, Memory, UpFact, TableFact, IsSoundWork, IsSoundActive, Mirrors, IsTrue, IsAddressed, working_of, working_in, next_in, Regrants, granted, done-keeps, Entry, entry-of, with_units-is, RequestNo, OperationNo, asked_for, asked_here}
+use Rattle.jn_system_order.proofs.Common.{◌≡◌, ◌≢◌, ◌⊎◌, inl, inr, Bool, true, false, List, [], ◌∷◌, ◌++◌, Option, Some, None, refl, sym, ◌∙◌, ap, subst, arith, ◌||◌, if◌then◌else◌, All-nil, All-cons, ServerNo, ClientNo, WorkId, LockUnit, Client, Op, Answer, work_eq, work_tells, change, answer_to, list_change, Read, Commit, is_unit, Message, Work, Phase, Active, ActiveWork, StableState, Prepared, at_work, stable, WorkerTable, work_at, wants_of, units_for, is_fit, after_grant, with_phase, granted_row, conflict, holds, HoldsForCommit, HasRead, file_unit, Machine, Working, Atom, Perform, perform, run, MayRun, MayPerform, Says, World, Memory, UpFact, TableFact, IsSoundWork, IsSoundActive, Mirrors, IsTrue, IsAddressed, working_of, working_in, next_in, Regrants, granted, done-keeps, Entry, entry-of, with_units-is, RequestNo, OperationNo, asked_for, asked_here}
+use Rattle.jn_order.specs.Answers.{Answered}
 use Rattle.jn_msgs.specs.declared.message.Message.TheVariants as messages
 use Rattle.jn_rows.specs.Worker.{done}
 use Rattle.jn_system_order.proofs.Mirroring.Performed.{done-changes, wants-asked}

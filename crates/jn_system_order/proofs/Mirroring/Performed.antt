@@ -1,5 +1,6 @@
 -- What an operation that is granted does, as the machine's step sees it.
-use Rattle.jn_system_order.proofs.Common.{◌≡◌, ◌⊎◌, inl, inr, Bool, true, false, List, Option, Some, None, is_some, refl, sym, ◌∙◌, ap, subst, arith, if◌then◌else◌, LockUnit, Op, Answer, file_eq, file_tells, Files, nothing, effect, file_of, answer_to, is_did, and_then, Intention, InOrder, list_change, net_change, net_of, Read, is_unit, wants_of, units_for, is_fit, asks, effect_of, reads-file, File, Block}
+use Rattle.jn_system_order.proofs.Common.{◌≡◌, ◌⊎◌, inl, inr, Bool, true, false, List, Option, Some, None, is_some, refl, sym, ◌∙◌, ap, subst, arith, if◌then◌else◌, LockUnit, Op, Answer, file_eq, file_tells, Files, nothing, effect, file_of, answer_to, is_did, and_then, Intention, InOrder, list_change, net_change, net_of, Read, is_unit, wants_of, units_for, is_fit, reads-file, File, Block}
+use Rattle.jn_system.specs.SmallSteps.Traces.{asks, effect_of}
 use Rattle.jn_records.specs.NetEdits.{list_after}
 use Rattle.jn_base.specs.declared.names.FileNo.{FileNo}
 use Rattle.jn_base.specs.declared.op.Op.TheVariants as ops

@@ -1,5 +1,5 @@
 -- Whatever files give a work's operations the answers that it gave give those that the lines report of them.
-use Rattle.jn_system_reports.proofs.Common.{◌≡◌, ◌⊎◌, inl, inr, ℕ, suc, ◌+◌, true, false, List, [], ◌∷◌, ◌++◌, append_assoc, length, Option, Some, None, refl, sym, ◌∙◌, ap, subst, arith, ServerNo, Tid, WorkId, Op, Files, AllFiles, change, Event, event_at, event_at-next, ActiveWork, OpenWork, Commanded, Refuses, Sends, command_row, open_at, Machine, Answered, effect_of, Agrees, Invariant, Atom, run_atoms, opening_world, MayRun, run_grows, run_kept, opening_kept, clash, World, opening, Step, NextEvent, Tell, IsStep, IsRun, after, run, commanded, LockFacts, locks-keep, opening-keeps, Mirrors, run-append, may-append, opening-mirrors, Facts, opening-facts, Act, Does, Refused, Faults, Shows, Item, events_of, steps_in, steps_of, after_item, IsUnder, AreUnder, at_place}
+use Rattle.jn_system_reports.proofs.Common.{◌≡◌, ◌⊎◌, inl, inr, ℕ, suc, ◌+◌, true, false, List, [], ◌∷◌, ◌++◌, append_assoc, length, Option, Some, None, refl, sym, ◌∙◌, ap, subst, arith, ServerNo, Tid, WorkId, Op, Files, AllFiles, Event, event_at, event_at-next, ActiveWork, OpenWork, Commanded, Refuses, Sends, command_row, open_at, Machine, Answered, FilesAnswer, Invariant, Atom, run_atoms, opening_world, MayRun, run_grows, run_kept, opening_kept, clash, World, opening, Step, NextEvent, Tell, IsStep, IsRun, after, run, commanded, LockFacts, locks-keep, opening-keeps, Mirrors, run-append, may-append, opening-mirrors, Facts, opening-facts, Act, Does, Refused, Faults, Shows, Item, events_of, steps_in, steps_of, after_item, IsUnder, AreUnder, at_place, answers-front}
 use Rattle.jn_system_reports.proofs.Telling.TransactionLines.{ops_in}
 use Rattle.jn_schedule.specs.declared.Event.TheVariants as kinds
 use Rattle.jn_system_reports.proofs.Reporting.Lists.{Each}
@@ -13,15 +13,11 @@ use Rattle.jn_system_reports.proofs.Telling.Facts.{said, counts, op_asked, op_se
 use Rattle.jn_system_reports.proofs.Telling.Runs.{TellsAs, goes-on}
 use Rattle.jn_system_reports.proofs.BetweenSteps.Telling.{GoesOn, Tells, step-tells}
 
-pub agrees-front : (a b : List Answered) (files : Files) → Agrees files (a ++ b) → Agrees files a
-agrees-front [] b files h = tt
-agrees-front (x ∷ a) b files h = (h.0, agrees-front a b (change (effect_of x) files) h.1)
-
 -- of each work that is somewhere, and for which an operation was sent
 abbrev pub HeardFact : List Event → World → Machine → Type 0
-HeardFact events r w = (W : WorkId) → op_sent W r.sent ≡ true → IsPresent w W → (files : Files) → Agrees files (w.trace W) → Agrees files (said events (w.owner W) W.server r.lines)
+HeardFact events r w = (W : WorkId) → op_sent W r.sent ≡ true → IsPresent w W → (files : Files) → FilesAnswer files (w.trace W) → FilesAnswer files (said events (w.owner W) W.server r.lines)
 
-module _ (events : List Event) (q : World) (v : Machine) (mirrors : Mirrors q v) (facts : Facts q v) (inv : Invariant v) (talk : Talk events q v) (W : WorkId) (sent : op_sent W q.sent ≡ true) (present : IsPresent v W) (files : Files) (agrees : Agrees files (v.trace W)) (goes : GoesOn q (v.owner W)) where
+module _ (events : List Event) (q : World) (v : Machine) (mirrors : Mirrors q v) (facts : Facts q v) (inv : Invariant v) (talk : Talk events q v) (W : WorkId) (sent : op_sent W q.sent ≡ true) (present : IsPresent v W) (files : Files) (agrees : FilesAnswer files (v.trace W)) (goes : GoesOn q (v.owner W)) where
   not-part : v.part (v.owner W) W.server ≡ Some W → ⊥
   not-part e = clash (v.part (v.owner W) W.server) W e (inv.core.rest.no_end (v.owner W) ((facts.clients goes.0).fresh (v.owner W) goes.1 goes.2) W.server)
 
@@ -33,16 +29,16 @@ module _ (events : List Event) (q : World) (v : Machine) (mirrors : Mirrors q v)
       by (inr (inl k)) = absurd (not-part (((inv.core.states W.server k.pick).prepared W k.work k.is).part))
       by (inr (inr k)) = absurd (not-part (inv.core.rest.part_of W k))
 
-  hears : (told : List Answered) (op : Option Op) (x : OpenWork) (a : ActiveWork) → Hears op x a told (v.trace W) → Agrees files told
+  hears : (told : List Answered) (op : Option Op) (x : OpenWork) (a : ActiveWork) → Hears op x a told (v.trace W) → FilesAnswer files told
   hears told None x a h = h.1.agrees files agrees
   hears told (Some op) x a (inl h) = h.1.agrees files agrees
-  hears told (Some op) x a (inr h) = agrees-front told (counts op h.1.0) files (h.1.1.1.agrees files agrees)
+  hears told (Some op) x a (inr h) = answers-front told (counts op h.1.0) files (h.1.1.1.agrees files agrees)
 
   -- its client goes on, and has the work
-  going-heard : Agrees files (said events (v.owner W) W.server q.lines)
+  going-heard : FilesAnswer files (said events (v.owner W) W.server q.lines)
   going-heard = by (open_at W.server (q.clients goes.0).works) ((talk.known W sent).its goes.0 goes.1) ((talk.clients goes.0).running (v.owner W) goes.1 goes.2 W.server)
     where
-      by : (o : Option OpenWork) → IsOpenAt W o → IsRunningAt events q v (v.owner W) (q.clients goes.0).outstanding W.server o → Agrees files (said events (v.owner W) W.server q.lines)
+      by : (o : Option OpenWork) → IsOpenAt W o → IsRunningAt events q v (v.owner W) (q.clients goes.0).outstanding W.server o → FilesAnswer files (said events (v.owner W) W.server q.lines)
       by None is k = absurd is
       by (Some x) is k = hears (said events (v.owner W) W.server q.lines) (op_asked (q.clients goes.0).outstanding x.work) x its-acting.0
           (subst (λ (U : WorkId). Hears (op_asked (q.clients goes.0).outstanding x.work) x its-acting.0 (said events (v.owner W) W.server q.lines) (v.trace U)) is (k.1 its-acting.0 (subst (λ (U : WorkId). acting q U ≡ Some its-acting.0) (sym is) its-acting.1)))
@@ -55,19 +51,19 @@ module _ (events : List Event) (r q : World) (w : Machine) (atoms : List Atom) (
   heard-on : HeardFact events q (run_atoms atoms w)
   heard-on W sent present files agrees = by (tells.asked W sent)
     where
-      going : GoesOn q (v.owner W) → Agrees files (said events (v.owner W) W.server q.lines)
+      going : GoesOn q (v.owner W) → FilesAnswer files (said events (v.owner W) W.server q.lines)
       going goes = going-heard events q v mirrors' facts' (run_kept atoms w may inv) talk' W sent present files agrees goes
 
-      was : op_sent W r.sent ≡ true → Agrees files (said events (v.owner W) W.server r.lines)
-      was e = let opened = (talk.known W e).opened in let x = extends atoms w W in subst (λ (T : Tid). Agrees files (said events T W.server r.lines)) (sym ((run_grows atoms w may inv).owner W opened))
-          (heard W e (present-back atoms w W may inv opened present) files (agrees-front (w.trace W) x.more files (subst (λ z. Agrees files z) x.is agrees)))
+      was : op_sent W r.sent ≡ true → FilesAnswer files (said events (v.owner W) W.server r.lines)
+      was e = let opened = (talk.known W e).opened in let x = extends atoms w W in subst (λ (T : Tid). FilesAnswer files (said events T W.server r.lines)) (sym ((run_grows atoms w may inv).owner W opened))
+          (heard W e (present-back atoms w W may inv opened present) files (answers-front (w.trace W) x.more files (subst (λ z. FilesAnswer files z) x.is agrees)))
 
-      by : (op_sent W r.sent ≡ true) ⊎ GoesOn q (v.owner W) → Agrees files (said events (v.owner W) W.server q.lines)
+      by : (op_sent W r.sent ≡ true) ⊎ GoesOn q (v.owner W) → FilesAnswer files (said events (v.owner W) W.server q.lines)
       by (inr goes) = going goes
       by (inl e) = at (tells.ops (v.owner W))
         where
-          at : (ops_in events (v.owner W) None q.lines ≡ ops_in events (v.owner W) None r.lines) ⊎ GoesOn q (v.owner W) → Agrees files (said events (v.owner W) W.server q.lines)
-          at (inl same) = subst (λ l. Agrees files (at_place W.server l)) (sym same) (was e)
+          at : (ops_in events (v.owner W) None q.lines ≡ ops_in events (v.owner W) None r.lines) ⊎ GoesOn q (v.owner W) → FilesAnswer files (said events (v.owner W) W.server q.lines)
+          at (inl same) = subst (λ l. FilesAnswer files (at_place W.server l)) (sym same) (was e)
           at (inr goes) = going goes
 
 -- ---- runs

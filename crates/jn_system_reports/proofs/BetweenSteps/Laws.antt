@@ -1,9 +1,8 @@
 -- The laws that are the machine's, in the words of the whole system.
-use Rattle.jn_system_reports.proofs.Common.{◌≡◌, ◌⊎◌, inl, inr, ◌≤◌, ◌<◌, ℕ, Bool, true, false, List, [], Option, Some, None, is_some, refl, sym, ◌∙◌, ap, subst, ServerNo, ClientNo, LockUnit, Tid, WorkId, AllFiles, Intention, Message, ActiveWork, StableState, Pick, OpenWork, is_work, Sent, Machine, Working, HasRead, Invariant, run_atoms, opening_world, IsGiven, Says, not_both, some_is, false_unless, clash, run_told, opening_told, IsTold, opening_kept, World, Memory, has_line, ServerFact, UpFact, found-open, IsTrue, IsCurrent, active_in, working_in, working_of, holds-of, Opening, opening_in, openings, Has, all-have-theirs, WasSent, HasCommitLine, WasEnded, IsFlagged, IsPrepared, IsCarriedOut, DoWorksStay, IsActive, AreAsPrepared, AreReadsKept, RequestNo}
+use Rattle.jn_system_reports.proofs.Common.{◌≡◌, ◌⊎◌, inl, inr, ◌≤◌, ◌<◌, ℕ, Bool, true, false, List, [], Option, Some, None, is_some, refl, sym, ◌∙◌, ap, subst, ServerNo, ClientNo, LockUnit, Tid, WorkId, AllFiles, Intention, Message, ActiveWork, StableState, Pick, OpenWork, is_work, Sent, Machine, Working, HasRead, Invariant, run_atoms, opening_world, IsGiven, Says, not_both, some_is, false_unless, clash, run_told, opening_told, IsTold, opening_kept, World, Memory, has_line, ServerFact, UpFact, found-open, IsTrue, IsCurrent, active_in, working_in, working_of, holds-of, Opening, opening_in, openings, Has, all-have-theirs, WasSent, HasCommitLine, WasEnded, IsFlagged, IsPrepared, IsCarriedOut, DoWorksStay, IsActive, AreAsPrepared, AreReadsKept, RequestNo, FilesAnswer, replay}
 use Rattle.jn_msgs.specs.declared.message.Message.TheVariants as messages
 use Rattle.jn_msgs.specs.declared.message.Outcome.TheVariants as outcomes
 use Rattle.jn_rows.specs.Client.{work_at}
-use Rattle.jn_system.specs.SmallSteps.World.{replay}
 use Rattle.jn_system.proofs.SmallSteps.Invariant as states
 use Rattle.jn_system_order.proofs.Ordering.Facts.{opening}
 use Rattle.jn_system_reports.specs.BetweenSteps.Names.{WasMade, AreMadeOnce}
@@ -96,9 +95,9 @@ module _ (files : AllFiles) (epochs : ServerNo → ℕ) (r : World) (h : Standin
     serial = subst (λ (f : AllFiles). Rattle.jn_system.specs.SmallSteps.World.IsSerial f w.history) its-told.opening inv.core.serial;
     did = w.trace;
     active = λ W a k. let f = inv.core.active W (record { list = a.list; reads = a.reads }) (active-is W a k) in
-        record { agrees = subst (λ (x : AllFiles). Rattle.jn_system.specs.SmallSteps.Traces.Agrees (replay x w.history W.server) (w.trace W)) its-told.opening f.agrees; effects = f.list; reads = f.reads };
+        record { agrees = subst (λ (x : AllFiles). FilesAnswer (replay x w.history W.server) (w.trace W)) its-told.opening f.agrees; effects = f.list; reads = f.reads };
     ready = λ W c p e no. let f = (inv.core.states W.server c).prepared W p (ap (λ (x : StableState). x.works W) (h.mirrors.found W.server c) ∙ e) in
-        record { agrees = subst (λ (x : AllFiles). Rattle.jn_system.specs.SmallSteps.Traces.Agrees (replay x w.history W.server) (w.trace W)) its-told.opening (f.agrees (not-named (w.owner W) (λ y. no (ap (λ (T : Tid). has_line T r.lines) f.tid ∙ y)))); effects = f.list; reads = f.reads };
+        record { agrees = subst (λ (x : AllFiles). FilesAnswer (replay x w.history W.server) (w.trace W)) its-told.opening (f.agrees (not-named (w.owner W) (λ y. no (ap (λ (T : Tid). has_line T r.lines) f.tid ∙ y)))); effects = f.list; reads = f.reads };
   }
 
   -- ---- works

@@ -1,9 +1,8 @@
 -- What the lines report of works that may yet commit stands in the files that the commits so far leave.
-use Rattle.jn_system_reports.proofs.Common.{◌≡◌, inl, inr, ℕ, false, List, [], ◌∷◌, ◌++◌, append-nil, None, refl, sym, ◌∙◌, ap, subst, list_any, ServerNo, Tid, WorkId, tid_eq, AllFiles, Event, Line, Text, StableState, commit_in, history_of, ops_of, replay-lines, work_same, Agrees, Machine, Invariant, run_atoms, opening_world, IsInOrder, IsTold, run_told, opening_told, in_order, run_kept, opening_kept, false_unless, World, opening, committed_in, commits_in, has_line, active_in, working_in, working_of, committed-any, Item, events_of, steps_of, world_of, IsReported, at_place}
+use Rattle.jn_system_reports.proofs.Common.{◌≡◌, inl, inr, ℕ, false, List, [], ◌∷◌, ◌++◌, append-nil, None, refl, sym, ◌∙◌, ap, subst, list_any, ServerNo, Tid, WorkId, tid_eq, AllFiles, Event, Line, Text, StableState, commit_in, history_of, operations_of, replay_operations, work_same, FilesAnswer, Invariant, run_atoms, opening_world, IsInOrder, IsTold, run_told, opening_told, in_order, run_kept, opening_kept, false_unless, World, opening, committed_in, commits_in, has_line, active_in, working_in, working_of, committed-any, Item, events_of, steps_of, world_of, IsReported, at_place, replay}
 use Rattle.jn_system_reports.proofs.Telling.TransactionLines.{ops_in}
 use Rattle.jn_report.specs.declared.line.Text.TheVariants as says
 use Rattle.jn_msgs.specs.declared.message.Message.TheVariants as messages
-use Rattle.jn_system.specs.SmallSteps.World.{replay}
 use Rattle.jn_system_reports.specs.Reporting.Reported.{lines_of}
 use Rattle.jn_system_reports.proofs.Reporting.Reached.{opening-reached}
 use Rattle.jn_system_reports.proofs.Telling.Tellings.{texts_of}
@@ -23,10 +22,7 @@ history-texts : (lines : List Line) → history_of lines ≡ commits_in (texts_o
 history-texts [] = refl
 history-texts (l ∷ lines) = ap (λ z. z ++ history_of lines) (commit-text l.text) ∙ ap (λ z. committed_in l.text ++ z) (history-texts lines)
 
-module _ (events : List Event) (files : AllFiles) (epochs : ServerNo → ℕ) (r : World) (lines : List Line) (h : HearsAll events files epochs r) (ops : (T : Tid) → ops_of events lines T ≡ ops_in events T None r.lines) (commits : history_of lines ≡ commits_in r.lines) where
-  w : Machine
-  w = run_atoms h.atoms (opening_world files epochs)
-
+module _ (events : List Event) (files : AllFiles) (epochs : ServerNo → ℕ) (r : World) (lines : List Line) (h : HearsAll events files epochs r) (ops : (T : Tid) → operations_of events lines T ≡ ops_in events T None r.lines) (commits : history_of lines ≡ commits_in r.lines) where
   inv : Invariant (run_atoms h.atoms (opening_world files epochs))
   inv = run_kept h.atoms (opening_world files epochs) h.may (opening_kept files epochs)
 
@@ -36,18 +32,18 @@ module _ (events : List Event) (files : AllFiles) (epochs : ServerNo → ℕ) (r
   order : IsInOrder files (run_atoms h.atoms (opening_world files epochs))
   order = in_order files epochs h.atoms h.may
 
-  same-replay : replay files (run_atoms h.atoms (opening_world files epochs)).history ≡ replay-lines files events lines (history_of lines)
+  same-replay : replay files (run_atoms h.atoms (opening_world files epochs)).history ≡ replay_operations files events lines (history_of lines)
   same-replay = sym (told-agree events lines files (run_atoms h.atoms (opening_world files epochs)).history
-      (commits-told events r (run_atoms h.atoms (opening_world files epochs)) inv h.talk (λ T s. at_place s (ops_of events lines T)) (λ T k s. ap (λ z. at_place s z) (ops T)) (run_atoms h.atoms (opening_world files epochs)).history (λ T k. told.named T ∙ k) told.traces) order.serial).1
-      ∙ ap (λ ts. replay-lines files events lines ts) (h.mirrors.commits ∙ sym commits)
+      (commits-told events r (run_atoms h.atoms (opening_world files epochs)) inv h.talk (λ T s. at_place s (operations_of events lines T)) (λ T k s. ap (λ z. at_place s z) (ops T)) (run_atoms h.atoms (opening_world files epochs)).history (λ T k. told.named T ∙ k) told.traces) order.serial).1
+      ∙ ap (λ ts. replay_operations files events lines ts) (h.mirrors.commits ∙ sym commits)
 
   -- a work whose answers the commits so far give
   stands : (W : WorkId) (T : Tid) → (run_atoms h.atoms (opening_world files epochs)).owner W ≡ T → WasAsked r W → IsPresent (run_atoms h.atoms (opening_world files epochs)) W
-      → Agrees (replay (run_atoms h.atoms (opening_world files epochs)).opening (run_atoms h.atoms (opening_world files epochs)).history W.server) ((run_atoms h.atoms (opening_world files epochs)).trace W) → StandAt files events lines T W.server
-  stands W T own asked present agrees = subst (λ (f : AllFiles). Agrees (f W.server) (at_place W.server (ops_of events lines T))) same-replay (subst (λ l. Agrees (replay files (run_atoms h.atoms (opening_world files epochs)).history W.server) (at_place W.server l)) (sym (ops T))
-      (subst (λ (U : Tid). Agrees (replay files (run_atoms h.atoms (opening_world files epochs)).history W.server) (said events U W.server r.lines)) own
+      → FilesAnswer (replay (run_atoms h.atoms (opening_world files epochs)).opening (run_atoms h.atoms (opening_world files epochs)).history W.server) ((run_atoms h.atoms (opening_world files epochs)).trace W) → StandAt files events lines T W.server
+  stands W T own asked present agrees = subst (λ (f : AllFiles). FilesAnswer (f W.server) (at_place W.server (operations_of events lines T))) same-replay (subst (λ l. FilesAnswer (replay files (run_atoms h.atoms (opening_world files epochs)).history W.server) (at_place W.server l)) (sym (ops T))
+      (subst (λ (U : Tid). FilesAnswer (replay files (run_atoms h.atoms (opening_world files epochs)).history W.server) (said events U W.server r.lines)) own
       (h.heard W (sent-op W r.sent asked.sent.number (asked.sent.to, messages.Op asked.client asked.request W asked.number asked.op) asked.sent.is (work_same W)) present (replay files (run_atoms h.atoms (opening_world files epochs)).history W.server)
-      (subst (λ (f : AllFiles). Agrees (replay f (run_atoms h.atoms (opening_world files epochs)).history W.server) ((run_atoms h.atoms (opening_world files epochs)).trace W)) told.opening agrees))))
+      (subst (λ (f : AllFiles). FilesAnswer (replay f (run_atoms h.atoms (opening_world files epochs)).history W.server) ((run_atoms h.atoms (opening_world files epochs)).trace W)) told.opening agrees))))
 
   named : (T : Tid) → (run_atoms h.atoms (opening_world files epochs)).named T ≡ has_line T r.lines
   named T = told.named T ∙ committed-any T (run_atoms h.atoms (opening_world files epochs)).history ∙ ap (λ l. list_any (λ (V : Tid). tid_eq V T) l) h.mirrors.commits

@@ -90,9 +90,6 @@ module _ (n : ℕ) (es : List Event) (before : List Line) (texts : List Text) (x
   arm-gives : (r : ServerNo) (k : ℕ) (kind : FaultKind) → Each IsRefusal texts → EventArms (events.Arm r k kind)
   arm-gives r k kind refusals = record { stop = λ s. by-stop s (server_tells r s); fault = λ s. by-fault s (server_tells r s); may = all texts refusals }
     where
-      accepted : Bool
-      accepted = nat_lt n (n + 1) && not (says refuses_event (lines_at (AtEvent n) (before ++ at_event n texts)))
-
       is-accepted : (nat_lt n (n + 1) && not (says refuses_event (lines_at (AtEvent n) (before ++ at_event n texts)))) ≡ not (list_any refuses_event texts)
       is-accepted = ap (λ (b : Bool). b && not (says refuses_event (lines_at (AtEvent n) (before ++ at_event n texts)))) is-next ∙ ap (λ l. not (says refuses_event l)) here-lines ∙ ap not (said refuses_event n texts)
 
@@ -164,6 +161,7 @@ module _ (n : ℕ) (es : List Event) (before : List Line) (texts : List Text) (x
   event-arms (events.Arm s k kind) acts r is under = arm-gives s k kind (subst (λ l. Each IsRefusal l) (sym is) (arm-texts s k kind acts r under))
   event-arms (events.Decay s page) acts r is under = decay-gives s page
   event-arms (events.Command c command) acts r is under = gives-none _ refl (λ s. refl) (λ s. refl)
+  event-arms (events.Call c t call) acts r is under = gives-none _ refl (λ s. refl) (λ s. refl)
   event-arms (events.Again c) acts r is under = gives-none _ refl (λ s. refl) (λ s. refl)
   event-arms (events.Deliver k) acts r is under = gives-none _ refl (λ s. refl) (λ s. refl)
   event-arms events.Settle acts r is under = gives-none _ refl (λ s. refl) (λ s. refl)

@@ -18,10 +18,6 @@ count-same f g k (e ∷ es) h = ap (λ (b : Bool). (if b then 1 else 0) + count_
     on : (j k n : ℕ) → j < k + 1 + n → j < k + suc n
     on j k n l = omega (arith, l)
 
-count-append : (f : ℕ → Event → Bool) (k : ℕ) (es fs : List Event) → count_events f k es ≤ count_events f k (es ++ fs)
-count-append f k [] fs = omega arith
-count-append f k (e ∷ es) fs = omega (arith, count-append f (k + 1) es fs)
-
 -- one more event counts too
 count-next : (f : ℕ → Event → Bool) (k : ℕ) (es fs : List Event) (e : Event) → count_events f k es + (if f (k + length es) e then 1 else 0) ≤ count_events f k (es ++ e ∷ fs)
 count-next f k [] fs e = subst (λ n. 0 + (if f n e then 1 else 0) ≤ (if f k e then 1 else 0) + count_events f (k + 1) fs) (none k) (least (if f k e then 1 else 0) (count_events f (k + 1) fs))
@@ -211,6 +207,9 @@ module _ (n : ℕ) (es : List Event) (e : Event) (before : List Line) (gs gf : S
   caused-one fs x here (says.Opened c j s) h cs cf within may k = absurd (grind arith)
   caused-one fs x here (says.Did c j) h cs cf within may k = absurd (grind arith)
   caused-one fs x here (says.Read c j bytes) h cs cf within may k = absurd (grind arith)
+  caused-one fs x here (says.Bytes c j bytes) h cs cf within may k = absurd (grind arith)
+  caused-one fs x here (says.Found c j f) h cs cf within may k = absurd (grind arith)
+  caused-one fs x here (says.Name c j name f) h cs cf within may k = absurd (grind arith)
   caused-one fs x here (says.Refused c j refusal) h cs cf within may k = absurd (grind arith)
   caused-one fs x here (says.Waiting c j s u T) h cs cf within may k = absurd (grind arith)
   caused-one fs x here (says.Committed c j T) h cs cf within may k = absurd (grind arith)

@@ -15,6 +15,7 @@ use Rattle.jn_system_reports.proofs.Reporting.Hearing.{IsQuiet, StepHeard, told-
 
 tell-is-none : (e : Event) (c : ClientNo) (command : Command) → may_do e (Tell c command) ≡ false
 tell-is-none (events.Command d other) c command = refl
+tell-is-none (events.Call d s call) c command = refl
 tell-is-none (events.Again d) c command = refl
 tell-is-none (events.Deliver k) c command = refl
 tell-is-none events.Settle c command = refl
@@ -31,6 +32,7 @@ tell-is-none (events.Show s) c command = refl
 
 none-may : (e : Event) → (may_do e NextEvent ≡ false) × (may_do e Dismiss ≡ false)
 none-may (events.Command d other) = (refl, refl)
+none-may (events.Call d s call) = (refl, refl)
 none-may (events.Again d) = (refl, refl)
 none-may (events.Deliver k) = (refl, refl)
 none-may events.Settle = (refl, refl)
@@ -81,6 +83,7 @@ pub under-quiet : (e : Event) (acts : List Act) → IsPlain e → IsUnder e acts
 under-quiet (events.Command c command) acts p h = absurd p
 under-quiet (events.Show s) acts p h = all-quiet (events.Show s) acts h
 under-quiet (events.Again d) acts p h = all-quiet (events.Again d) acts h
+under-quiet (events.Call d s call) acts p h = all-quiet (events.Call d s call) acts h
 under-quiet (events.Deliver k) acts p h = all-quiet (events.Deliver k) acts h
 under-quiet events.Settle acts p h = all-quiet events.Settle acts h
 under-quiet (events.Step s) acts p h = all-quiet (events.Step s) acts h
@@ -232,6 +235,7 @@ module _ (files : AllFiles) (epochs : ServerNo → ℕ) where
   event-follows out (events.Command c command) acts r reached i waits under = subst (λ (l : List Act). IsRun (steps_in l) r → EventFollows out r.event (events.Command c command) (told_in l r) (run (steps_in l) r)) (sym under)
       (λ k. command-follows out c command r waits (next-reached files epochs r (Tell c command) k.0 reached)) i
   event-follows out (events.Again d) acts r reached i waits under = plain-follows out (events.Again d) acts r reached i waits tt under
+  event-follows out (events.Call d s call) acts r reached i waits under = plain-follows out (events.Call d s call) acts r reached i waits tt under
   event-follows out (events.Deliver k) acts r reached i waits under = plain-follows out (events.Deliver k) acts r reached i waits tt under
   event-follows out events.Settle acts r reached i waits under = plain-follows out events.Settle acts r reached i waits tt under
   event-follows out (events.Step s) acts r reached i waits under = plain-follows out (events.Step s) acts r reached i waits tt under

@@ -69,9 +69,6 @@ module _ (files : AllFiles) (epochs : ServerNo → ℕ) where
     pub commits : commits_in q.lines ≡ commits_in r.lines ++ commits_in texts
     pub before : (number : ℕ) → NamesBefore (commits_in r.lines) (at_event number texts)
 
-  append-append : (a b c : List Tid) → (a ++ b) ++ c ≡ a ++ (b ++ c)
-  append-append a b c = append_assoc a b c
-
   told-more : (number : ℕ) (xs ys : List Text) → at_event number (xs ++ ys) ≡ at_event number xs ++ at_event number ys
   told-more number [] ys = refl
   told-more number (x ∷ xs) ys = ap (λ l. (record { when = AtEvent number; text = x }) ∷ l) (told-more number xs ys)

@@ -102,9 +102,6 @@ module _ (r : World) (w : Machine) (atoms : List Atom) (may : MayRun atoms w) (m
     (ends : EndsAsked r.sent w) (lines : Each (LineFact r.sent w) r.lines) (named : (T : Tid) → w.named T ≡ has_line T r.lines) (step : Step) (i : IsStep step r)
     (mirrors' : Mirrors (after step r) (run_atoms atoms w)) (facts' : Facts (after step r) (run_atoms atoms w)) (locks' : LockFacts (after step r)) (talk' : Talk (after step r) (run_atoms atoms w))
     (named' : (T : Tid) → (run_atoms atoms w).named T ≡ has_line T (after step r).lines) (ended : (T : Tid) → (run_atoms atoms w).ended T ≡ true → (w.ended T ≡ true) ⊎ EndsNow (after step r) (run_atoms atoms w) T) where
-  abbrev v : Machine
-  v = run_atoms atoms w
-
   inv' : Invariant (run_atoms atoms w)
   inv' = run_kept atoms w may inv
 

@@ -1,5 +1,5 @@
 -- The end of a run prints what all commits leave.
-use Rattle.jn_system_reports.proofs.Common.{◌≡◌, ◌⊎◌, inl, inr, ℕ, suc, ◌+◌, ◌≤◌, ◌<◌, Bool, true, false, List, [], ◌∷◌, ◌++◌, append-nil, append_assoc, length, Some, None, refl, sym, ◌∙◌, ap, subst, arith, ◌&&◌, map, nat_lt, nat_tests, list_all, ServerNo, FileNo, LockUnit, File, Block, server_eq, file_eq, server_tells, AllFiles, AtEnd, Text, Line, lines_at, says_it, history_of, replay, IsAsIn, AllAsIn, prints_file, is_locked, ShowsFiles, ShownSoFar, Shown, Follows, lines_at-append, AreAtEnd, AreInTurn, turn-to-end, run_atoms, opening_world, commits-more, commit_holder, World, Memory, opening, commits_in, servers_from, Step, NextEvent, Tell, CloseClients, after, run, IsRun, Printed, FileThere, PageStored, UnitLocked, text_printed, IsPrinted, Does, Item, events_of, steps_of, told_by, told_under, world_of, after_item, at_event, IsReported, Comeback, Ending, AreFilesOf, restarts_from, steps_at_end, world_at_end, settles, ArePrinted, IsEnding, told_by_steps, texts_from, at_end, lines_to_end, AreAsTold}
+use Rattle.jn_system_reports.proofs.Common.{◌≡◌, ◌⊎◌, inl, inr, ℕ, suc, ◌+◌, ◌≤◌, ◌<◌, Bool, true, false, List, [], ◌∷◌, ◌++◌, append-nil, append_assoc, length, Some, None, refl, sym, ◌∙◌, ap, subst, arith, ◌&&◌, map, nat_lt, nat_tests, list_all, ServerNo, FileNo, LockUnit, File, Block, server_eq, file_eq, server_tells, AllFiles, AtEnd, Text, Line, lines_at, says_it, history_of, replay_operations, IsAsIn, AllAsIn, prints_file, is_locked, ShowsFiles, ShownSoFar, Shown, Follows, lines_at-append, AreAtEnd, AreInTurn, turn-to-end, run_atoms, opening_world, commits-more, commit_holder, World, Memory, opening, commits_in, servers_from, Step, NextEvent, Tell, CloseClients, after, run, IsRun, Printed, FileThere, PageStored, UnitLocked, text_printed, IsPrinted, Does, Item, events_of, steps_of, told_by, told_under, world_of, after_item, at_event, IsReported, Comeback, Ending, AreFilesOf, restarts_from, steps_at_end, world_at_end, settles, ArePrinted, IsEnding, told_by_steps, texts_from, at_end, lines_to_end, AreAsTold}
 use Rattle.jn_system.specs.WholeSystem.Steps.{Crash}
 use Rattle.jn_report.specs.declared.line.Text.TheVariants as says
 use Rattle.jn_system_reports.specs.Reporting.Reported.{lines_of}
@@ -333,15 +333,15 @@ module _ (servers : ℕ) (files : AllFiles) (epochs : ServerNo → ℕ) (items :
   of-steps y j = told-of-step files epochs (world_at_end servers e w) reached y
       (subst (λ l. In y l) (sym (lines-then files epochs steps w (last-reached servers files epochs [] items h steps k.steps calm (printed ++ count) silent.0 silent.1) k.steps)) (in-second y w.lines told_then j))
 
-  pub end-shown : (s : ServerNo) → s.0 < servers → ShowsFiles (replay files (events_of items) lines (history_of lines)) s (lines_at AtEnd lines)
-  end-shown s up = subst (λ l. ShowsFiles (replay files (events_of items) lines (history_of lines)) s l) (sym lines-then-end)
-      (all-shown (replay files (events_of items) lines (history_of lines)) (world_at_end servers e w) (λ t. as-told.unlocked t) told_then of-steps e.prints k.prints _ s (subst (λ n. s.0 < n) (sym k.all_print) up))
+  pub end-shown : (s : ServerNo) → s.0 < servers → ShowsFiles (replay_operations files (events_of items) lines (history_of lines)) s (lines_at AtEnd lines)
+  end-shown s up = subst (λ l. ShowsFiles (replay_operations files (events_of items) lines (history_of lines)) s l) (sym lines-then-end)
+      (all-shown (replay_operations files (events_of items) lines (history_of lines)) (world_at_end servers e w) (λ t. as-told.unlocked t) told_then of-steps e.prints k.prints _ s (subst (λ n. s.0 < n) (sym k.all_print) up))
 
   pub end-agrees : AreAsTold files (events_of items) lines lines (world_at_end servers e w)
   end-agrees = as-told
 
   -- a server that there isn't has no files
-  beyond : AreFilesOf servers files → (s : ServerNo) → servers ≤ s.0 → (u : LockUnit) → replay files (events_of items) lines (history_of lines) s u ≡ None
+  beyond : AreFilesOf servers files → (s : ServerNo) → servers ≤ s.0 → (u : LockUnit) → replay_operations files (events_of items) lines (history_of lines) s u ≡ None
   beyond few s out u = ap (λ f. f u) (replay-same servers (events_of items) lines (history_of lines) files s out
       (λ T. subst (λ l. Each (IsAt servers (events_of items)) l) (sym (end-ops servers files epochs [] items h steps k.steps calm (printed ++ count) silent.0 silent.1 lines same-texts turn follows T)) (ops-at servers (events_of items) T None (world_at_end servers e w).lines within.lines))) ∙ few s u out
     where
@@ -355,7 +355,7 @@ module _ (servers : ℕ) (files : AllFiles) (epochs : ServerNo → ℕ) (items :
       within = run-within servers (events_of items) files epochs (steps_at_end servers e) (world_of items start) (last-reached servers files epochs [] items h steps k.steps calm (printed ++ count) silent.0 silent.1) k.steps
           (calm-tell servers (events_of items) files epochs (steps_at_end servers e) (world_of items start) calm) before
 
-  pub end-all : AreFilesOf servers files → (s : ServerNo) → ShowsFiles (replay files (events_of items) lines (history_of lines)) s (lines_at AtEnd lines)
+  pub end-all : AreFilesOf servers files → (s : ServerNo) → ShowsFiles (replay_operations files (events_of items) lines (history_of lines)) s (lines_at AtEnd lines)
   end-all few s = by (nat_lt s.0 servers) refl
     where
       below : nat_lt s.0 servers ≡ true → s.0 < servers
@@ -364,10 +364,10 @@ module _ (servers : ℕ) (files : AllFiles) (epochs : ServerNo → ℕ) (items :
       not-below : nat_lt s.0 servers ≡ false → servers ≤ s.0
       not-below q = grind (arith, nat_tests)
 
-      by : (b : Bool) → nat_lt s.0 servers ≡ b → ShowsFiles (replay files (events_of items) lines (history_of lines)) s (lines_at AtEnd lines)
+      by : (b : Bool) → nat_lt s.0 servers ≡ b → ShowsFiles (replay_operations files (events_of items) lines (history_of lines)) s (lines_at AtEnd lines)
       by true q = end-shown s (below q)
       by false q = record {
-        printed = subst (λ l. AllAsIn (replay files (events_of items) lines (history_of lines)) l) (sym lines-then-end) (all-files (replay files (events_of items) lines (history_of lines)) (world_at_end servers e w) (λ t. as-told.unlocked t) told_then of-steps e.prints k.prints _);
+        printed = subst (λ l. AllAsIn (replay_operations files (events_of items) lines (history_of lines)) l) (sym lines-then-end) (all-files (replay_operations files (events_of items) lines (history_of lines)) (world_at_end servers e w) (λ t. as-told.unlocked t) told_then of-steps e.prints k.prints _);
         no_other_file = λ f z. beyond few s (not-below q) (File f);
         no_other_block = λ f p y z. beyond few s (not-below q) (Block f p);
       }
@@ -388,9 +388,9 @@ module _ (servers : ℕ) (files : AllFiles) (epochs : ServerNo → ℕ) (items :
       one : (y : Text) → IsOfStep y ⊎ FromPrint 0 e.prints y → is_locked y ≡ false
       one y (inl j) = step-free y j
       one y (inr q) = let x = from-texts q.server q.prints y q.is_in in let p = printed-of 0 (world_at_end servers e w) e.prints q.server q.prints k.prints q.is in
-          subst (λ (z : Text). is_locked z ≡ false) x.text (none-locked (replay files (events_of items) lines (history_of lines)) q.server (world_at_end servers e w) (as-told.unlocked q.server) q.prints p (λ u. free q.server p.memory u p.up) x.print x.is_in)
+          subst (λ (z : Text). is_locked z ≡ false) x.text (none-locked (replay_operations files (events_of items) lines (history_of lines)) q.server (world_at_end servers e w) (as-told.unlocked q.server) q.prints p (λ u. free q.server p.memory u p.up) x.print x.is_in)
 
       by : (b : Bool) → says_it is_locked (at_end (told_then ++ (printed ++ count))) ≡ b → b ≡ false
       by false q = refl
       by true q = let y = said-it AtEnd is_locked (told_then ++ (printed ++ count)) q in
-          absurd (not-both (is_locked y.text) y.passes (one y.text (origin (replay files (events_of items) lines (history_of lines)) (world_at_end servers e w) (λ t. as-told.unlocked t) told_then of-steps e.prints k.prints _ y.text y.is_in)))
+          absurd (not-both (is_locked y.text) y.passes (one y.text (origin (replay_operations files (events_of items) lines (history_of lines)) (world_at_end servers e w) (λ t. as-told.unlocked t) told_then of-steps e.prints k.prints _ y.text y.is_in)))

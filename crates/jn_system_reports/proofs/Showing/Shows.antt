@@ -1,5 +1,5 @@
 -- Each show of a run prints what the commits before it leave.
-use Rattle.jn_system_reports.proofs.Common.{◌≡◌, ℕ, zero, suc, ◌+◌, ◌≤◌, Bool, true, false, List, [], ◌∷◌, ◌++◌, append-nil, length, Some, None, refl, sym, ◌∙◌, ap, subst, arith, ◌&&◌, map, list_all, ServerNo, FileNo, server_eq, server_tells, AllFiles, Event, Show, AtEvent, Text, Line, lines_at, lines_before, says_it, event_at, history_of, replay, IsAsIn, prints_file, is_no_show, ShowsFiles, ShownSoFar, nothing_asked, AreWithin, AreWithin-wider, lines_at-append, lines_before-append, lines_before-later, lines_before-whole, World, opening, NextEvent, after, IsRun, Printed, text_printed, IsPrinted, Act, Does, Tells, Shows, Item, events_of, steps_in, steps_of, world_of, told_in, told_under, after_item, at_event, may_act, IsUnder, AreUnder, GoesOver, IsShow, IsShown, AreShown, IsReported, at_end, AreAsTold}
+use Rattle.jn_system_reports.proofs.Common.{◌≡◌, ℕ, zero, suc, ◌+◌, ◌≤◌, Bool, true, false, List, [], ◌∷◌, ◌++◌, append-nil, length, Some, None, refl, sym, ◌∙◌, ap, subst, arith, ◌&&◌, map, list_all, ServerNo, FileNo, server_eq, server_tells, AllFiles, Event, Show, AtEvent, Text, Line, lines_at, lines_before, says_it, event_at, history_of, replay_operations, IsAsIn, prints_file, is_no_show, ShowsFiles, ShownSoFar, nothing_asked, AreWithin, AreWithin-wider, lines_at-append, lines_before-append, lines_before-later, lines_before-whole, World, opening, NextEvent, after, IsRun, Printed, text_printed, IsPrinted, Act, Does, Tells, Shows, Item, events_of, steps_in, steps_of, world_of, told_in, told_under, after_item, at_event, may_act, IsUnder, AreUnder, GoesOver, IsShow, IsShown, AreShown, IsReported, at_end, AreAsTold}
 use Rattle.jn_system_reports.specs.Reporting.Reported.{Refuses, lines_of}
 use Rattle.jn_system_reports.proofs.Reporting.Reached.{Reached, next-reached, opening-reached}
 use Rattle.jn_system_reports.proofs.Reporting.Fitting.{asked_of}
@@ -92,7 +92,7 @@ shown-split (x ∷ before) item rest w h = subst (λ (z : World). IsShown item.e
 
 -- a show under this event prints what the commits before it leave
 abbrev ShowsAt : AllFiles → List Event → List Line → ℕ → ServerNo → Type 0
-ShowsAt files events lines i s = says_it is_no_show (lines_at (AtEvent i) lines) ≡ false → ShowsFiles (replay files events lines (history_of (lines_before (AtEvent i) lines))) s (lines_at (AtEvent i) lines)
+ShowsAt files events lines i s = says_it is_no_show (lines_at (AtEvent i) lines) ≡ false → ShowsFiles (replay_operations files events lines (history_of (lines_before (AtEvent i) lines))) s (lines_at (AtEvent i) lines)
 
 no-end-at : (n : ℕ) (texts : List Text) → lines_at (AtEvent n) (at_end texts) ≡ []
 no-end-at n [] = refl
@@ -180,16 +180,16 @@ module _ (files : AllFiles) (epochs : ServerNo → ℕ) where
         self : (n : ℕ) → n ≤ n
         self n = omega arith
 
-    shown-here : says_it is_no_show here ≡ false → ShowsFiles (replay files events lines (history_of (lines_of before start))) s here
+    shown-here : says_it is_no_show here ≡ false → ShowsFiles (replay_operations files events lines (history_of (lines_of before start))) s here
     shown-here silent = by item.event show under.1.0 (shown-split before item rest start h.shows)
       where
-        by : (e : Event) → e ≡ Show s → IsUnder e item.acts → IsShown e (after NextEvent r) item.acts → ShowsFiles (replay files events lines (history_of (lines_of before start))) s here
-        by e is u k = show-shown (r.event + 1) (replay files events lines (history_of (lines_of before start))) s (after NextEvent r) (as-told.unlocked s) item.acts (subst (λ (d : Event). IsUnder d item.acts) is u) (subst (λ (d : Event). IsShown d (after NextEvent r) item.acts) is k) silent
+        by : (e : Event) → e ≡ Show s → IsUnder e item.acts → IsShown e (after NextEvent r) item.acts → ShowsFiles (replay_operations files events lines (history_of (lines_of before start))) s here
+        by e is u k = show-shown (r.event + 1) (replay_operations files events lines (history_of (lines_of before start))) s (after NextEvent r) (as-told.unlocked s) item.acts (subst (λ (d : Event). IsUnder d item.acts) is u) (subst (λ (d : Event). IsShown d (after NextEvent r) item.acts) is k) silent
 
     shown-at : (i : ℕ) → i ≡ length before + 1 → ShowsAt files events lines i s
     shown-at i e = subst (λ j. ShowsAt files events lines j s) (ap (λ n. n + 1) reached.event ∙ nothing (length before) ∙ sym e)
-        (λ silent. subst (λ l. ShowsFiles (replay files events lines (history_of l)) s (lines_at (AtEvent (r.event + 1)) lines)) (sym is-before)
-        (subst (λ l. ShowsFiles (replay files events lines (history_of (lines_of before start))) s l) (sym is-here) (shown-here (subst (λ l. says_it is_no_show l ≡ false) is-here silent))))
+        (λ silent. subst (λ l. ShowsFiles (replay_operations files events lines (history_of l)) s (lines_at (AtEvent (r.event + 1)) lines)) (sym is-before)
+        (subst (λ l. ShowsFiles (replay_operations files events lines (history_of (lines_of before start))) s l) (sym is-here) (shown-here (subst (λ l. says_it is_no_show l ≡ false) is-here silent))))
       where
         nothing : (n : ℕ) → 0 + n + 1 ≡ n + 1
         nothing n = omega arith

@@ -1,5 +1,5 @@
 -- No operation is reported at a server that there isn't.
-use Rattle.jn_system_reports.proofs.Common.{◌≡◌, ◌≢◌, ◌⊎◌, inl, inr, ℕ, suc, ◌+◌, ◌≤◌, ◌<◌, Bool, true, false, List, [], ◌∷◌, ◌++◌, append_assoc, length, Option, Some, None, refl, sym, ◌∙◌, ap, subst, arith, ◌&&◌, if◌then◌else◌, nat_eq, nat_lt, nat_tests, ServerNo, ClientNo, Tid, WorkId, Op, Answer, Command, Begin, Open, Do, End, Abort, server_eq, client_eq, server_tells, AllFiles, files_after, all_files_after, Message, Outcome, Event, CommandOf, Text, Line, Outstanding, OpenWork, Taken, Sent, ClientTable, Commanded, Refuses, Sends, if_server, if_idle, if_transaction, if_no_transaction, if_open, if_not_open, command_row, is_current, is_end, is_end_or_abort, if_waits, begun_row, opened_row, decided_row, outcome_row, take_row, Performed, Waited, with_asked, answer_in, is_last, fits, fits_asked, answers_command, after_answer, event_at, files_then, ops_of, replay, performed_in, answered, answered_by, owner_after, event_at-next, World, at_client, opening, Step, NextEvent, Tell, Dismiss, after, run, IsRun, commanded, Act, Does, Refused, Tells, Shows, Item, events_of, steps_in, steps_of, after_item, IsUnder, AreUnder, one-client, ClientRow, by_command, by_ignoring, by_answering, by_telling, StepCase, client_row, row_done, row_stopped, gone_late, gone_down, come_up, found_anew, dismissed, quietly, step-case}
+use Rattle.jn_system_reports.proofs.Common.{◌≡◌, ◌≢◌, ◌⊎◌, inl, inr, ℕ, suc, ◌+◌, ◌≤◌, ◌<◌, Bool, true, false, List, [], ◌∷◌, ◌++◌, append_assoc, length, Option, Some, None, refl, sym, ◌∙◌, ap, subst, arith, ◌&&◌, if◌then◌else◌, nat_eq, nat_lt, nat_tests, ServerNo, ClientNo, Tid, WorkId, Op, Answer, Command, Begin, Open, Do, End, Abort, server_eq, client_eq, server_tells, AllFiles, files_after, all_files_after, Message, Outcome, Event, CommandOf, Text, Line, Outstanding, OpenWork, Taken, Sent, ClientTable, Commanded, Refuses, Sends, if_server, if_idle, if_transaction, if_no_transaction, if_open, if_not_open, command_row, is_current, is_end, is_end_or_abort, if_waits, begun_row, opened_row, decided_row, outcome_row, take_row, Performed, Waited, with_asked, answer_in, is_last, fits, fits_asked, answers_command, after_answer, event_at, files_then, operations_of, replay_operations, performed_in, answered, answered_by, owner_after, event_at-next, World, at_client, opening, Step, NextEvent, Tell, Dismiss, after, run, IsRun, commanded, Act, Does, Refused, Tells, Shows, Item, events_of, steps_in, steps_of, after_item, IsUnder, AreUnder, one-client, ClientRow, by_command, by_ignoring, by_answering, by_telling, StepCase, client_row, row_done, row_stopped, gone_late, gone_down, come_up, found_anew, dismissed, quietly, step-case}
 use Rattle.jn_system_reports.proofs.Telling.TransactionLines.{ops_in}
 use Rattle.jn_serial.specs.declared.following.Asked.{Asked}
 use Rattle.jn_msgs.specs.declared.message.Message.TheVariants as messages
@@ -342,6 +342,6 @@ module _ (servers : ℕ) where
         other (inl k) = absurd (apart p.server.0 s.0 h.0 out (ap (λ (z : ServerNo). z.0) k.1))
         other (inr k) = ap (λ (b : Bool). if b then files_after p.op (files s) else files s) k.0
 
-    pub replay-same : (lines : List Line) (ts : List Tid) (files : AllFiles) (s : ServerNo) → servers ≤ s.0 → ((T : Tid) → Each IsAt (ops_of events lines T)) → replay files events lines ts s ≡ files s
+    pub replay-same : (lines : List Line) (ts : List Tid) (files : AllFiles) (s : ServerNo) → servers ≤ s.0 → ((T : Tid) → Each IsAt (operations_of events lines T)) → replay_operations files events lines ts s ≡ files s
     replay-same lines [] files s out h = refl
-    replay-same lines (T ∷ ts) files s out h = replay-same lines ts (files_then (ops_of events lines T) files) s out h ∙ files-same (ops_of events lines T) files s out (h T)
+    replay-same lines (T ∷ ts) files s out h = replay-same lines ts (files_then (operations_of events lines T) files) s out h ∙ files-same (operations_of events lines T) files s out (h T)

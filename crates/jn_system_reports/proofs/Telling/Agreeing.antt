@@ -1,7 +1,6 @@
 -- The commits of the lines are those of the machine, with what its works did.
-use Rattle.jn_system_reports.proofs.Common.{◌≡◌, ◌⊎◌, inl, inr, ℕ, Bool, true, false, List, [], ◌∷◌, ◌++◌, Option, Some, None, refl, sym, ◌∙◌, ap, subst, arith, fun_ext, ◌||◌, list_any, All-nil, ServerNo, LockUnit, Tid, WorkId, tid_eq, tid_tells, AllFiles, change, Event, Line, Pick, stable, history_of, Performed, files_then, GivesAnswers, ops_of, replay-lines, AgreesFrom, Answered, effects, Agrees, Machine, Commit, IsSerial, Atom, trace_of, run_atoms, opening_world, MayRun, Invariant, has_committed, HasTraces, InOrder, not_both, false_unless, run_kept, opening_kept, run_grows, Text, IsTold, run_told, opening_told, in_order, World, commits_in, opening, Step, IsStep, after, LockFacts, ServerFact, locks-keep, opening-keeps, Mirrors, commits_of, run-append, may-append, committed-any, opening-mirrors, IsDone, Facts, opening-facts, at_place, AreAsTold}
+use Rattle.jn_system_reports.proofs.Common.{◌≡◌, ◌⊎◌, inl, inr, ℕ, Bool, true, false, List, [], ◌∷◌, ◌++◌, Option, Some, None, refl, sym, ◌∙◌, ap, subst, arith, fun_ext, ◌||◌, list_any, All-nil, ServerNo, LockUnit, Tid, WorkId, tid_eq, tid_tells, AllFiles, change, Event, Line, Pick, stable, history_of, Performed, files_then, GivesAnswers, operations_of, replay_operations, OperationsAgreeFrom, Answered, effects, FilesAnswer, Machine, Commit, IsSerial, Atom, trace_of, run_atoms, opening_world, MayRun, Invariant, has_committed, HasTraces, InOrder, not_both, false_unless, run_kept, opening_kept, run_grows, Text, IsTold, run_told, opening_told, in_order, World, commits_in, opening, Step, IsStep, after, LockFacts, ServerFact, locks-keep, opening-keeps, Mirrors, commits_of, run-append, may-append, committed-any, opening-mirrors, IsDone, Facts, opening-facts, at_place, AreAsTold, replay}
 use Rattle.jn_system_reports.proofs.Telling.TransactionLines.{ops_in}
-use Rattle.jn_system.specs.SmallSteps.World.{replay}
 use Rattle.jn_system_order.proofs.Ordering.Unlocked.{writes-nothing}
 use Rattle.jn_system_reports.proofs.Telling.Tellings.{SaysAs, as-itself, all-answers}
 use Rattle.jn_system_reports.proofs.Telling.Facts.{said, IsDrawn, IsEndedAt, Talk}
@@ -103,31 +102,31 @@ module _ (events : List Event) (r : World) (w : Machine) (inv : Invariant w) (ta
 -- ---- one commit more
 
 module _ (events : List Event) (lines : List Line) where
-  agrees-last : (files : AllFiles) (ts : List Tid) (T : Tid) → AgreesFrom files events lines ts → GivesAnswers (replay-lines files events lines ts) (ops_of events lines T) → AgreesFrom files events lines (ts ++ T ∷ [])
+  agrees-last : (files : AllFiles) (ts : List Tid) (T : Tid) → OperationsAgreeFrom files events lines ts → GivesAnswers (replay_operations files events lines ts) (operations_of events lines T) → OperationsAgreeFrom files events lines (ts ++ T ∷ [])
   agrees-last files [] T h g = (g, tt)
-  agrees-last files (t ∷ ts) T h g = (h.0, agrees-last (files_then (ops_of events lines t) files) ts T h.1 g)
+  agrees-last files (t ∷ ts) T h g = (h.0, agrees-last (files_then (operations_of events lines t) files) ts T h.1 g)
 
-  replay-last : (files : AllFiles) (ts : List Tid) (T : Tid) → replay-lines files events lines (ts ++ T ∷ []) ≡ files_then (ops_of events lines T) (replay-lines files events lines ts)
+  replay-last : (files : AllFiles) (ts : List Tid) (T : Tid) → replay_operations files events lines (ts ++ T ∷ []) ≡ files_then (operations_of events lines T) (replay_operations files events lines ts)
   replay-last files [] T = refl
-  replay-last files (t ∷ ts) T = replay-last (files_then (ops_of events lines t) files) ts T
+  replay-last files (t ∷ ts) T = replay-last (files_then (operations_of events lines t) files) ts T
 
   -- where a commit more does what was reported, the lines still agree, and give the same files
-  told-last : (files : AllFiles) (c : Commit) (history : List Commit) → ((s : ServerNo) → SaysAs (at_place s (ops_of events lines c.tid)) (c.traces s)) → ((s : ServerNo) → Agrees (replay files history s) (c.traces s))
-      → AgreesFrom files events lines (commits_of history) × (replay-lines files events lines (commits_of history) ≡ replay files history)
-      → AgreesFrom files events lines (commits_of (c ∷ history)) × (replay-lines files events lines (commits_of (c ∷ history)) ≡ replay files (c ∷ history))
+  told-last : (files : AllFiles) (c : Commit) (history : List Commit) → ((s : ServerNo) → SaysAs (at_place s (operations_of events lines c.tid)) (c.traces s)) → ((s : ServerNo) → FilesAnswer (replay files history s) (c.traces s))
+      → OperationsAgreeFrom files events lines (commits_of history) × (replay_operations files events lines (commits_of history) ≡ replay files history)
+      → OperationsAgreeFrom files events lines (commits_of (c ∷ history)) × (replay_operations files events lines (commits_of (c ∷ history)) ≡ replay files (c ∷ history))
   told-last files c history told serial before = (
     agrees-last files (commits_of history) c.tid before.0 (subst (λ f. GivesAnswers f ops) (sym before.1) answers.0),
     replay-last files (commits_of history) c.tid ∙ ap (λ f. files_then ops f) before.1 ∙ fun_ext (λ s. answers.1 s ∙ ap (λ z. change z (replay files history s)) (told s).effects),
   )
     where
       ops : List Performed
-      ops = ops_of events lines c.tid
+      ops = operations_of events lines c.tid
 
-      answers : GivesAnswers (replay files history) (ops_of events lines c.tid) × ((s : ServerNo) → files_then (ops_of events lines c.tid) (replay files history) s ≡ change (effects (at_place s (ops_of events lines c.tid))) (replay files history s))
-      answers = all-answers (ops_of events lines c.tid) (replay files history) (λ s. (told s).agrees (replay files history s) (serial s))
+      answers : GivesAnswers (replay files history) (operations_of events lines c.tid) × ((s : ServerNo) → files_then (operations_of events lines c.tid) (replay files history) s ≡ change (effects (at_place s (operations_of events lines c.tid))) (replay files history s))
+      answers = all-answers (operations_of events lines c.tid) (replay files history) (λ s. (told s).agrees (replay files history s) (serial s))
 
-  pub told-agree : (files : AllFiles) (history : List Commit) → AreTold (λ T s. at_place s (ops_of events lines T)) history → IsSerial files history
-      → AgreesFrom files events lines (commits_of history) × (replay-lines files events lines (commits_of history) ≡ replay files history)
+  pub told-agree : (files : AllFiles) (history : List Commit) → AreTold (λ T s. at_place s (operations_of events lines T)) history → IsSerial files history
+      → OperationsAgreeFrom files events lines (commits_of history) × (replay_operations files events lines (commits_of history) ≡ replay files history)
   told-agree files [] told serial = (tt, refl)
   told-agree files (c ∷ history) told serial = told-last files c history told.0 serial.0 (told-agree files history told.1 serial.1)
 
@@ -135,13 +134,13 @@ module _ (events : List Event) (lines : List Line) where
 
 -- these lines report of each transaction that was ended what the world's do
 pub record SaySo (events : List Event) (lines so_far : List Line) (r : World) (ended : Tid → Bool) : Type 0 where
-  pub ops : (T : Tid) → ended T ≡ true → ops_of events lines T ≡ ops_in events T None r.lines
+  pub ops : (T : Tid) → ended T ≡ true → operations_of events lines T ≡ ops_in events T None r.lines
   pub commits : history_of so_far ≡ commits_in r.lines
 
 pub stands-told : (events : List Event) (files : AllFiles) (epochs : ServerNo → ℕ) (ended : Tid → Bool) (before : List Text) (r : World) (lines so_far : List Line) (h : Stands events files epochs ended before r)
     → SaySo events lines so_far r (run_atoms h.atoms (opening_world files epochs)).ended → AreAsTold files events lines so_far r
 stands-told events files epochs ended before r lines so_far h so = record {
-  agrees = subst (λ ts. AgreesFrom files events lines ts) names both.0;
+  agrees = subst (λ ts. OperationsAgreeFrom files events lines ts) names both.0;
   shown = shown;
   unlocked = λ s n u is free file. shown s (λ k. false) u (λ W p e k. writes-nothing n.worker n.tickets (stable (r.found s)).works (subst (λ o. ServerFact s o (r.found s)) is (h.locks s)).table u free file W p e);
 }
@@ -158,19 +157,19 @@ stands-told events files epochs ended before r lines so_far h so = record {
     order : InOrder files (run_atoms h.atoms (opening_world files epochs))
     order = in_order files epochs h.atoms h.may
 
-    are-told : AreTold (λ T s. at_place s (ops_of events lines T)) (run_atoms h.atoms (opening_world files epochs)).history
-    are-told = commits-told events r w inv h.talk (λ T s. at_place s (ops_of events lines T)) (λ T k s. ap (λ z. at_place s z) (so.ops T (inv.core.named T k).ended)) w.history (λ T k. told.named T ∙ k) told.traces
+    are-told : AreTold (λ T s. at_place s (operations_of events lines T)) (run_atoms h.atoms (opening_world files epochs)).history
+    are-told = commits-told events r w inv h.talk (λ T s. at_place s (operations_of events lines T)) (λ T k s. ap (λ z. at_place s z) (so.ops T (inv.core.named T k).ended)) w.history (λ T k. told.named T ∙ k) told.traces
 
-    both : AgreesFrom files events lines (commits_of (run_atoms h.atoms (opening_world files epochs)).history) × (replay-lines files events lines (commits_of (run_atoms h.atoms (opening_world files epochs)).history) ≡ replay files (run_atoms h.atoms (opening_world files epochs)).history)
+    both : OperationsAgreeFrom files events lines (commits_of (run_atoms h.atoms (opening_world files epochs)).history) × (replay_operations files events lines (commits_of (run_atoms h.atoms (opening_world files epochs)).history) ≡ replay files (run_atoms h.atoms (opening_world files epochs)).history)
     both = told-agree events lines files w.history are-told order.serial
 
     names : commits_of (run_atoms h.atoms (opening_world files epochs)).history ≡ history_of so_far
     names = h.mirrors.commits ∙ sym so.commits
 
-    same-replay : replay files (run_atoms h.atoms (opening_world files epochs)).history ≡ replay-lines files events lines (history_of so_far)
-    same-replay = sym both.1 ∙ ap (λ ts. replay-lines files events lines ts) names
+    same-replay : replay files (run_atoms h.atoms (opening_world files epochs)).history ≡ replay_operations files events lines (history_of so_far)
+    same-replay = sym both.1 ∙ ap (λ ts. replay_operations files events lines ts) names
 
-    shown : (s : ServerNo) (c : Pick) (u : LockUnit) → IsDone r (r.found s c) u → (r.found s c).files u ≡ replay-lines files events lines (history_of so_far) s u
+    shown : (s : ServerNo) (c : Pick) (u : LockUnit) → IsDone r (r.found s c) u → (r.found s c).files u ≡ replay_operations files events lines (history_of so_far) s u
     shown s c u free = ap (λ x. x.files u) (sym (h.mirrors.found s c))
         ∙ order.shown s c u (λ W p e k. free W p (ap (λ x. x.works W) (sym (h.mirrors.found s c)) ∙ e) (ap (λ l. list_any (λ (V : Tid). tid_eq V p.tid) l) (sym h.mirrors.commits) ∙ sym (committed-any p.tid w.history) ∙ k))
         ∙ ap (λ f. f s u) same-replay

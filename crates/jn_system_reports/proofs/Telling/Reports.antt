@@ -1,5 +1,5 @@
 -- What the lines of a run with its schedule report of a transaction is what the world's lines report.
-use Rattle.jn_system_reports.proofs.Common.{Bool, true, false, ◌≡◌, ℕ, suc, ◌+◌, List, [], ◌∷◌, ◌++◌, append-nil, append_assoc, length, Option, Some, None, refl, sym, ◌∙◌, ap, subst, arith, map, ◌||◌, ServerNo, ClientNo, Tid, Command, AllFiles, Event, Text, Line, Commanded, Refuses, Sends, command_row, commit_in, history_of, event_at, says_of, begins_for, Follows, event_at-next, ops_of, any-append, AreInTurn, ops-in-turn, run_atoms, opening_world, commits-more, World, opening, committed_in, commits_in, Step, NextEvent, Tell, Dismiss, IsStep, IsRun, after, run, commanded, Printed, FileThere, PageStored, UnitLocked, text_printed, Act, Does, Refused, Tells, Shows, Item, events_of, steps_in, steps_of, world_of, told_by, told_in, told_under, after_item, at_event, IsUnder, AreUnder, IsReported, told_by_steps, AreAsTold}
+use Rattle.jn_system_reports.proofs.Common.{Bool, true, false, ◌≡◌, ℕ, suc, ◌+◌, List, [], ◌∷◌, ◌++◌, append-nil, append_assoc, length, Option, Some, None, refl, sym, ◌∙◌, ap, subst, arith, map, ◌||◌, ServerNo, ClientNo, Tid, Command, AllFiles, Event, Text, Line, Commanded, Refuses, Sends, command_row, commit_in, history_of, event_at, says_of, begins_for, Follows, event_at-next, operations_of, any-append, AreInTurn, ops-in-turn, run_atoms, opening_world, commits-more, World, opening, committed_in, commits_in, Step, NextEvent, Tell, Dismiss, IsStep, IsRun, after, run, commanded, Printed, FileThere, PageStored, UnitLocked, text_printed, Act, Does, Refused, Tells, Shows, Item, events_of, steps_in, steps_of, world_of, told_by, told_in, told_under, after_item, at_event, IsUnder, AreUnder, IsReported, told_by_steps, AreAsTold}
 use Rattle.jn_system_reports.proofs.Telling.TransactionLines.{ops_in, owner_in, is_begun, begun_by}
 use Rattle.jn_schedule.specs.declared.Event.TheVariants as kinds
 use Rattle.jn_report.specs.declared.line.Text.TheVariants as says
@@ -148,6 +148,7 @@ module _ (events : List Event) (files : AllFiles) (epochs : ServerNo → ℕ) (e
   event-acts (kinds.Command c command) acts r h k i under e = subst (λ l. Told r (run (steps_in l) r) (told_in l r)) (sym under) (command-acts c command r h k e)
   event-acts (kinds.Show s) acts r h k i under e = quiet-acts acts r h k i (under-quiet (kinds.Show s) acts tt under)
   event-acts (kinds.Again c) acts r h k i under e = quiet-acts acts r h k i (under-quiet (kinds.Again c) acts tt under)
+  event-acts (kinds.Call c s call) acts r h k i under e = quiet-acts acts r h k i (under-quiet (kinds.Call c s call) acts tt under)
   event-acts (kinds.Deliver n) acts r h k i under e = quiet-acts acts r h k i (under-quiet (kinds.Deliver n) acts tt under)
   event-acts kinds.Settle acts r h k i under e = quiet-acts acts r h k i (under-quiet kinds.Settle acts tt under)
   event-acts (kinds.Step s) acts r h k i under e = quiet-acts acts r h k i (under-quiet (kinds.Step s) acts tt under)
@@ -302,7 +303,7 @@ module _ (servers : ℕ) (files : AllFiles) (epochs : ServerNo → ℕ) (items l
         started : is_begun T final.lines ≡ true → c ≡ d
         started g = let y = after-all.stands.talk.started T g in y.its c (its c h) ∙ sym (y.its d (its d k))
 
-    pub end-ops : (T : Tid) → ops_of all lines T ≡ ops_in all T None final.lines
+    pub end-ops : (T : Tid) → operations_of all lines T ≡ ops_in all T None final.lines
     end-ops T = ops-in-turn all lines T turn follows (one-client T) ∙ ops-of-texts all T None lines ∙ ap (λ l. ops_in all T None l) is ∙ same.ops T None ∙ ap (λ l. ops_in all T None l) (sym its-lines)
 
     pub end-as-told : AreAsTold files all lines lines (run steps (world_of (items ++ later) start))
@@ -329,6 +330,6 @@ module _ (servers : ℕ) (files : AllFiles) (epochs : ServerNo → ℕ) where
       (run-in-turn files epochs servers items h) (run-follows files epochs servers items h)
 
   -- what a transaction did by its commands is what the world's lines report of it
-  pub run-ops : (items : List Item) → IsReported items (opening servers files epochs) → (T : Tid) → ops_of (events_of items) (lines_of items (opening servers files epochs)) T ≡ ops_in (events_of items) T None (world_of items (opening servers files epochs)).lines
+  pub run-ops : (items : List Item) → IsReported items (opening servers files epochs) → (T : Tid) → operations_of (events_of items) (lines_of items (opening servers files epochs)) T ≡ ops_in (events_of items) T None (world_of items (opening servers files epochs)).lines
   run-ops items h = end-ops servers files epochs [] items h [] tt tt [] tt refl (lines_of items (opening servers files epochs)) (sym (append-nil (texts_of (lines_of items (opening servers files epochs)))))
       (run-in-turn files epochs servers items h) (run-follows files epochs servers items h)

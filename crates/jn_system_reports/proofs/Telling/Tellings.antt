@@ -1,10 +1,10 @@
 -- What the lines report of a transaction, with more lines, and what its operations do at each server.
-use Rattle.jn_system_reports.proofs.Common.{◌≡◌, ◌≢◌, ◌⊎◌, inl, inr, Bool, true, false, List, [], ◌∷◌, ◌++◌, Option, Some, None, refl, sym, ◌∙◌, ap, subst, arith, if◌then◌else◌, map, ◌||◌, ◌&&◌, ServerNo, ClientNo, Tid, server_eq, client_eq, tid_eq, server_tells, Files, AllFiles, change, effect, answer_to, is_did, files_after, all_files_after, nothing, Event, Text, Line, Performed, files_then, GivesAnswers, answered_by, begins_for, owner_after, told_from, Answered, effect_of, effects, Agrees, says_of, at_place}
+use Rattle.jn_system_reports.proofs.Common.{◌≡◌, ◌≢◌, ◌⊎◌, inl, inr, Bool, true, false, List, [], ◌∷◌, ◌++◌, Option, Some, None, refl, sym, ◌∙◌, ap, subst, arith, if◌then◌else◌, map, ◌||◌, ◌&&◌, ServerNo, ClientNo, Tid, server_eq, client_eq, tid_eq, server_tells, Files, AllFiles, change, answer_to, files_after, all_files_after, Event, Text, Line, Performed, files_then, GivesAnswers, answered_by, begins_for, owner_after, told_from, Answered, effect_of, effects, FilesAnswer, says_of, at_place, answers-front}
 use Rattle.jn_system_reports.proofs.Telling.TransactionLines.{ops_in, owner_in, begins_it, is_begun, begun_by}
 use Rattle.jn_order.specs.Changes.{and_then}
 use Rattle.jn_order.proofs.ChangeLemmas.{change-then, change-nothing, and_then-assoc, nothing-then}
 use Rattle.jn_report.specs.declared.line.Text.TheVariants as says
-use Rattle.jn_system.proofs.SmallSteps.TraceLemmas.{agrees_more}
+use Rattle.jn_system.proofs.SmallSteps.TraceLemmas.{after_answer, agrees_more}
 
 -- ---- lists
 
@@ -88,7 +88,7 @@ none-told events T (x ∷ texts) h =
 -- Operations that change as much as others, and that are answered so by whatever files answer those so.
 pub record SaysAs (told trace : List Answered) : Type 0 where
   pub effects : effects told ≡ effects trace
-  pub agrees : (files : Files) → Agrees files trace → Agrees files told
+  pub agrees : (files : Files) → FilesAnswer files trace → FilesAnswer files told
 
 pub as-itself : (trace : List Answered) → SaysAs trace trace
 as-itself trace = record { effects = refl; agrees = λ files h. h }
@@ -97,42 +97,29 @@ effects-append : (a b : List Answered) → effects (a ++ b) ≡ and_then (effect
 effects-append [] b = sym (nothing-then (effects b))
 effects-append (x ∷ a) b = ap (λ z. and_then (effect_of x) z) (effects-append a b) ∙ sym (and_then-assoc (effect_of x) (effects a) (effects b))
 
-agrees-front : (a b : List Answered) (files : Files) → Agrees files (a ++ b) → Agrees files a
-agrees-front [] b files h = tt
-agrees-front (x ∷ a) b files h = (h.0, agrees-front a b (change (effect_of x) files) h.1)
-
-agrees-last : (a : List Answered) (x : Answered) (files : Files) → Agrees files (a ++ x ∷ []) → answer_to x.op (change (effects a) files) ≡ x.answer
+agrees-last : (a : List Answered) (x : Answered) (files : Files) → FilesAnswer files (a ++ x ∷ []) → answer_to x.op (change (effects a) files) ≡ x.answer
 agrees-last [] x files h = ap (λ f. answer_to x.op f) (change-nothing files) ∙ h.0
-agrees-last (y ∷ a) x files h = ap (λ f. answer_to x.op f) (change-then (effect_of y) (effects a) files) ∙ agrees-last a x (change (effect_of y) files) h.1
+agrees-last (y ∷ a) x files h = ap (λ f. answer_to x.op f) (change-then (effect_of y) (effects a) files) ∙ agrees-last a x (change (effect_of y) files) (rw (← after_answer y files h.0) h.1)
 
 -- one more operation on both sides
 pub both-more : (told trace : List Answered) (x : Answered) → SaysAs told trace → SaysAs (told ++ x ∷ []) (trace ++ x ∷ [])
 both-more told trace x h = record {
   effects = effects-append told (x ∷ []) ∙ ap (λ z. and_then z (effects (x ∷ []))) h.effects ∙ sym (effects-append trace (x ∷ []));
-  agrees = λ files k. agrees_more told x files (h.agrees files (agrees-front trace (x ∷ []) files k)) (ap (λ z. answer_to x.op (change z files)) h.effects ∙ agrees-last trace x files k);
+  agrees = λ files k. agrees_more told x files (h.agrees files (answers-front trace (x ∷ []) files k)) (ap (λ z. answer_to x.op (change z files)) h.effects ∙ agrees-last trace x files k);
 }
 
 -- operations more, which change nothing in all
 pub trace-more : (told trace more : List Answered) → effects (trace ++ more) ≡ effects trace → SaysAs told trace → SaysAs told (trace ++ more)
-trace-more told trace more same h = record { effects = h.effects ∙ sym same; agrees = λ files k. h.agrees files (agrees-front trace more files k) }
+trace-more told trace more same h = record { effects = h.effects ∙ sym same; agrees = λ files k. h.agrees files (answers-front trace more files k) }
 
 -- ---- servers share no files
 
 abbrev Tells : ServerNo → ServerNo → Type 0
 Tells s q = ((server_eq s q ≡ true) × (s ≡ q)) ⊎ ((server_eq s q ≡ false) × (s ≢ q))
 
--- an operation answered so changes the files as its answer says
-after-is : (op : _) (a : Answered) (files : Files) → a.op ≡ op → answer_to op files ≡ a.answer → files_after op files ≡ change (effect_of a) files
-after-is op a files e h = by (is_did (answer_to op files)) refl
-  where
-    by : (b : Bool) → is_did (answer_to op files) ≡ b → (if is_did (answer_to op files) then change (effect op) files else files) ≡ change (if is_did a.answer then effect a.op else nothing) files
-    by true k = ap (λ (b : Bool). if b then change (effect op) files else files) k ∙ ap (λ z. change (effect z) files) (sym e)
-        ∙ sym (ap (λ (b : Bool). change (if b then effect a.op else nothing) files) (ap is_did (sym h) ∙ k))
-    by false k = ap (λ (b : Bool). if b then change (effect op) files else files) k ∙ sym (change-nothing files) ∙ sym (ap (λ (b : Bool). change (if b then effect a.op else nothing) files) (ap is_did (sym h) ∙ k))
-
 -- Where each server's files give its operations their answers, all files give all of them theirs, and change at each server
 -- as its own operations say.
-pub all-answers : (ops : List Performed) (files : AllFiles) → ((s : ServerNo) → Agrees (files s) (at_place s ops))
+pub all-answers : (ops : List Performed) (files : AllFiles) → ((s : ServerNo) → FilesAnswer (files s) (at_place s ops))
     → GivesAnswers files ops × ((s : ServerNo) → files_then ops files s ≡ change (effects (at_place s ops)) (files s))
 all-answers [] files h = (tt, λ s. sym (change-nothing (files s)))
 all-answers (p ∷ ops) files h = let rest = all-answers ops (all_files_after p.server p.op files) (λ s. on s (server_tells p.server s)) in
@@ -142,20 +129,20 @@ all-answers (p ∷ ops) files h = let rest = all-answers ops (all_files_after p.
     a = record { op = p.op; answer = p.answer }
 
     here : Tells p.server p.server → answer_to p.op (files p.server) ≡ p.answer
-    here (inl (t, e)) = (subst (λ (b : Bool). Agrees (files p.server) (if b then a ∷ at_place p.server ops else at_place p.server ops)) t (h p.server)).0
+    here (inl (t, e)) = (subst (λ (b : Bool). FilesAnswer (files p.server) (if b then a ∷ at_place p.server ops else at_place p.server ops)) t (h p.server)).0
     here (inr (t, ne)) = absurd (ne refl)
 
     gives : answer_to p.op (files p.server) ≡ p.answer
     gives = here (server_tells p.server p.server)
 
     its : (s : ServerNo) → p.server ≡ s → files_after p.op (files s) ≡ change (effect_of a) (files s)
-    its s e = after-is p.op a (files s) refl (subst (λ (q : ServerNo). answer_to p.op (files q) ≡ p.answer) e gives)
+    its s e = after_answer a (files s) (subst (λ (q : ServerNo). answer_to p.op (files q) ≡ p.answer) e gives)
 
-    on : (s : ServerNo) → Tells p.server s → Agrees (all_files_after p.server p.op files s) (at_place s ops)
-    on s (inl (t, e)) = subst (λ (b : Bool). Agrees (if b then files_after p.op (files s) else files s) (at_place s ops)) (sym t)
-        (subst (λ (f : Files). Agrees f (at_place s ops)) (sym (its s e)) (subst (λ (b : Bool). Agrees (files s) (if b then a ∷ at_place s ops else at_place s ops)) t (h s)).1)
-    on s (inr (t, ne)) = subst (λ (b : Bool). Agrees (if b then files_after p.op (files s) else files s) (at_place s ops)) (sym t)
-        (subst (λ (b : Bool). Agrees (files s) (if b then a ∷ at_place s ops else at_place s ops)) t (h s))
+    on : (s : ServerNo) → Tells p.server s → FilesAnswer (all_files_after p.server p.op files s) (at_place s ops)
+    on s (inl (t, e)) = subst (λ (b : Bool). FilesAnswer (if b then files_after p.op (files s) else files s) (at_place s ops)) (sym t)
+        (subst (λ (b : Bool). FilesAnswer (files s) (if b then a ∷ at_place s ops else at_place s ops)) t (h s)).1
+    on s (inr (t, ne)) = subst (λ (b : Bool). FilesAnswer (if b then files_after p.op (files s) else files s) (at_place s ops)) (sym t)
+        (subst (λ (b : Bool). FilesAnswer (files s) (if b then a ∷ at_place s ops else at_place s ops)) t (h s))
 
     one : (s : ServerNo) → Tells p.server s → change (effects (at_place s ops)) (all_files_after p.server p.op files s) ≡ change (effects (at_place s (p ∷ ops))) (files s)
     one s (inl (t, e)) = ap (λ (b : Bool). change (effects (at_place s ops)) (if b then files_after p.op (files s) else files s)) t ∙ ap (λ f. change (effects (at_place s ops)) f) (its s e)

@@ -7,7 +7,8 @@ use Rattle.jn_records.specs.declared.intention.Intention.{Intention}
 use Rattle.jn_records.specs.NetLists.{list_change}
 use Rattle.jn_rows.specs.declared.worker.ActiveWork.{ActiveWork}
 use Rattle.jn_rows.specs.Stable.{Prepared, Pick}
-use Rattle.jn_system.specs.SmallSteps.Traces.{Answered, asked, effects, Agrees}
+use Rattle.jn_order.specs.Answers.{Answered, FilesAnswer}
+use Rattle.jn_system.specs.SmallSteps.Traces.{asked, effects}
 use Rattle.jn_system.specs.SmallSteps.Held.{HasRead}
 use Rattle.jn_system.specs.SmallSteps.World.{Commit, IsSerial, replay}
 use Rattle.jn_system.specs.WholeSystem.World.{World, commits_in}
@@ -18,7 +19,7 @@ use Rattle.jn_system_reports.specs.BetweenSteps.Works.{IsActive}
 -- These files give its operations the answers that it gave. Its intentions do what these operations do, and it has read each
 -- register that an answer depends on.
 pub record Stands (files : Files) (did : List Answered) (list : List Intention) (units : List LockUnit) : Type 0 where
-  pub agrees : Agrees files did
+  pub agrees : FilesAnswer files did
   pub effects : (u : LockUnit) → list_change list u ≡ effects did u
   pub reads : (u : LockUnit) → asked did u ≡ true → HasRead units u
 

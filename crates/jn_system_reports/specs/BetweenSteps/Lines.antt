@@ -14,8 +14,8 @@ use Rattle.jn_msgs.specs.declared.message.Message.TheVariants as messages
 use Rattle.jn_rows.specs.declared.worker.ActiveWork.{ActiveWork}
 use Rattle.jn_rows.specs.Stable.{Prepared, Pick}
 use Rattle.jn_serial.specs.Lines.{history_of}
-use Rattle.jn_serial.specs.Order.{ops_of, replay}
-use Rattle.jn_system.specs.SmallSteps.Traces.{Agrees}
+use Rattle.jn_serial.specs.Order.{operations_of, replay_operations}
+use Rattle.jn_order.specs.Answers.{FilesAnswer}
 use Rattle.jn_system.specs.WholeSystem.World.{World}
 use Rattle.jn_system_reports.specs.Telling.Told.{at_place}
 use Rattle.jn_system_reports.specs.BetweenSteps.Sent.{WasSent, HasCommitLine}
@@ -31,7 +31,7 @@ pub record WasAsked (r : World) (W : WorkId) : Type 0 where
 
 -- the files that the commits of the lines leave at the server answer what the lines report of the transaction there as they report it
 abbrev pub StandAt : AllFiles → List Event → List Line → Tid → ServerNo → Type 0
-StandAt files events lines T s = Agrees (replay files events lines (history_of lines) s) (at_place s (ops_of events lines T))
+StandAt files events lines T s = FilesAnswer (replay_operations files events lines (history_of lines) s) (at_place s (operations_of events lines T))
 
 -- So it is of a work to which an operation was sent while it is active, and while a pick finds it prepared and its transaction
 -- has no commit line.

@@ -4,7 +4,7 @@ use Rattle.std.specs.List.{list_all, list_any}
 use Rattle.jn_base.specs.declared.names.ServerNo.{ServerNo}
 use Rattle.jn_base.specs.declared.device.Outside.{Outside}
 use Rattle.jn_base.specs.declared.device.FaultKind.{FaultKind}
-use Rattle.jn_base.specs.Names.{server_eq, client_eq, tid_eq}
+use Rattle.jn_base.specs.Names.{server_eq, client_eq, tid_eq, is_stop}
 use Rattle.jn_schedule.specs.declared.Event.{Event}
 use Rattle.jn_schedule.specs.declared.Event.TheVariants as events
 use Rattle.jn_report.specs.declared.line.EventRefusal.{EventRefusal}
@@ -13,7 +13,6 @@ use Rattle.jn_report.specs.declared.line.When.TheVariants.{Event as AtEvent}
 use Rattle.jn_report.specs.declared.line.Text.{Text}
 use Rattle.jn_report.specs.declared.line.Text.TheVariants as says
 use Rattle.jn_report.specs.declared.line.Line.{Line}
-use Rattle.jn_serial.specs.Caused.{is_stop}
 use Rattle.jn_report.specs.Kinds.{refuses_event, refuses_fault}
 use Rattle.jn_system.specs.WholeSystem.World.{World, at_server}
 use Rattle.jn_system.specs.WholeSystem.Steps.{Step, NextEvent, Tell, Again, Deliver, Work, Nudge, Timeout, StopDelivery, StopWork, Crash, Narrow, StopRestart, Restart, after, run, IsRun}

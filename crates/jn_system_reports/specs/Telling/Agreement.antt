@@ -7,7 +7,7 @@ use Rattle.jn_order.specs.Files.{AllFiles}
 use Rattle.jn_schedule.specs.declared.Event.{Event}
 use Rattle.jn_report.specs.declared.line.Line.{Line}
 use Rattle.jn_serial.specs.Lines.{history_of}
-use Rattle.jn_serial.specs.Order.{replay, AgreesFrom}
+use Rattle.jn_serial.specs.Order.{replay_operations, OperationsAgreeFrom}
 use Rattle.jn_rows.specs.Stable.{Pick, stable}
 use Rattle.jn_rows.specs.Worker.{commit_holder}
 use Rattle.jn_system.specs.SmallSteps.Held.{file_unit}
@@ -16,9 +16,9 @@ use Rattle.jn_system_order.specs.Ordering.Runs.{IsDone}
 
 -- of the commits that the lines so far name, and the world after them: the answers and the files are those that all lines report
 pub record AreAsTold (files : AllFiles) (events : List Event) (lines so_far : List Line) (r : World) : Type 0 where
-  pub agrees : AgreesFrom files events lines (history_of so_far)
+  pub agrees : OperationsAgreeFrom files events lines (history_of so_far)
   -- each register of each state that may be found is as the commits leave it, but for what is still to be carried out
-  pub shown : (s : ServerNo) (c : Pick) (u : LockUnit) → IsDone r (r.found s c) u → (r.found s c).files u ≡ replay files events lines (history_of so_far) s u
+  pub shown : (s : ServerNo) (c : Pick) (u : LockUnit) → IsDone r (r.found s c) u → (r.found s c).files u ≡ replay_operations files events lines (history_of so_far) s u
   -- at a server that is up: each unit that is held for commit neither itself nor as its file
   pub unlocked : (s : ServerNo) (m : Memory) (u : LockUnit) → r.memory s ≡ Some m → commit_holder u m.worker ≡ None → commit_holder (file_unit u) m.worker ≡ None
-      → (stable (r.found s)).files u ≡ replay files events lines (history_of so_far) s u
+      → (stable (r.found s)).files u ≡ replay_operations files events lines (history_of so_far) s u

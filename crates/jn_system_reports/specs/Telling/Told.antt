@@ -3,7 +3,7 @@ use Rattle.std.specs.Prelude.{if◌then◌else◌, List, [], ◌∷◌}
 use Rattle.jn_base.specs.declared.names.ServerNo.{ServerNo}
 use Rattle.jn_base.specs.Names.{server_eq}
 use Rattle.jn_replay.specs.declared.files.Performed.{Performed}
-use Rattle.jn_system.specs.SmallSteps.Traces.{Answered}
+use Rattle.jn_order.specs.Answers.{Answered}
 
 -- the operations at one server
 abbrev pub at_place : ServerNo → List Performed → List Answered

@@ -209,10 +209,6 @@ module _ (n : ℕ) (at_most : n ≤ 8) (start : World) where
           handing-still k None = refl
           handing-still k (Some made) = refl
 
-          working-still : (s : ServerNo) (stop : Option (Pick → Left)) → still_waiting (working s (chances 0).room stop) d.waiting ≡ d.waiting
-          working-still s None = refl
-          working-still s (Some made) = refl
-
           good-hand : (k : ℕ) (stop : Option (Pick → Left)) → Good (go (handing k (chances 0).room stop) d)
           good-hand k None = good d (Deliver k (chances 0).room) h tt
           good-hand k (Some made) = good d (StopDelivery k (chances 0).room made) h tt

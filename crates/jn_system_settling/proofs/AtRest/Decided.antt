@@ -1,6 +1,6 @@
 -- A settle with these servers up leaves a live work only of a transaction that is undecided or was reported, or that it opened; and so
 -- it settles.
-use Rattle.jn_system_settling.proofs.Common.{◌≡◌, ◌≢◌, ◌⊎◌, inl, inr, ◌≤◌, ◌<◌, ℕ, Bool, true, false, List, [], ◌∷◌, length, Option, Some, None, is_some, true≢false, refl, sym, ◌∙◌, ap, subst, arith, ◌&&◌, ◌||◌, if◌then◌else◌, nat_eq, list_any, ServerNo, ClientNo, Tid, WorkId, Server, Command, Begin, OpenAt, Do, End, Abort, client_eq, tid_eq, work_eq, client_tells, tid_tells, work_tells, AllFiles, Outstanding, Work, StableState, stable, is_going, Sent, WorkerTable, work_at, worker_again, coordinator_again, ClientTable, is_tid, is_current, is_end_or_abort, sent_again, again_row, World, Memory, opening, servers_from, sent_now, is_closing, Course, Chance, clients_from, until_rest, IsAtRest, get-in, AreUp, entry_in, live_at, holds_undecided, tells_outcome, told_since, AreDecided, IsSettled, LeavesBetween, some-memory}
+use Rattle.jn_system_settling.proofs.Common.{◌≡◌, ◌≢◌, ◌⊎◌, inl, inr, ◌≤◌, ◌<◌, ℕ, Bool, true, false, List, [], ◌∷◌, length, Option, Some, None, is_some, true≢false, refl, sym, ◌∙◌, ap, subst, arith, ◌&&◌, ◌||◌, if◌then◌else◌, nat_eq, list_any, ServerNo, ClientNo, Tid, WorkId, Server, Command, Begin, OpenAt, Do, End, Abort, client_eq, tid_eq, work_eq, client_tells, tid_tells, work_tells, AllFiles, Outstanding, Work, StableState, stable, is_going, Sent, WorkerTable, work_at, worker_again, coordinator_again, ClientTable, is_tid, is_current, is_end_or_abort, sent_again, again_row, World, Memory, opening, servers_from, sent_now, is_closing, Course, Chance, clients_from, until_rest, IsAtRest, get-in, AreUp, entry_in, live_at, holds_undecided, tells_outcome, own_texts, AreDecided, IsSettled, LeavesBetween, some-memory}
 use Rattle.jn_msgs.specs.declared.message.Message.TheVariants as messages
 use Rattle.jn_system_settling.proofs.Settling.Settling.{nothing-goes}
 use Rattle.jn_system_settling.proofs.AtRest.Ways.{Has}
@@ -210,7 +210,7 @@ module _ (n : ℕ) (at_most : n ≤ 8) (files : AllFiles) (epochs : ServerNo →
         same-tid : v.tid ≡ z.tid
         same-tid = let at = entry-of last.world W z there in sym (its-work n at_most files epochs (reached n at_most files epochs) (broken n at_most files epochs) W T (length c.world.lines) last last-good on-way.asked).1 ∙ ((reached n at_most files epochs last last-good).mirrors.owner W.server at.0 W z at.1 at.2).1
 
-        decided : (holds_undecided (last.world.memory T.server) T ≡ true) ⊎ (list_any (tells_outcome T) (told_since c.world last.world) ≡ true)
+        decided : (holds_undecided (last.world.memory T.server) T ≡ true) ⊎ (list_any (tells_outcome T) (own_texts c.world last.world) ≡ true)
         decided = by on-way.state
           where
             way : Way n at_most files epochs (reached n at_most files epochs) (broken n at_most files epochs) W T (length c.world.lines) last → holds_undecided (last.world.memory T.server) T ≡ true
@@ -222,13 +222,13 @@ module _ (n : ℕ) (at_most : n ≤ 8) (files : AllFiles) (epochs : ServerNo →
             way (over q) = absurd (not-there last.world W z there q)
             way (held q none) = q
 
-            by : (list_any (tells_outcome T) (told_since c.world last.world) ≡ true) ⊎ (Way n at_most files epochs (reached n at_most files epochs) (broken n at_most files epochs) W T (length c.world.lines) last × Voice n at_most files epochs (reached n at_most files epochs) (broken n at_most files epochs) W T (length c.world.lines) last)
-                → (holds_undecided (last.world.memory T.server) T ≡ true) ⊎ (list_any (tells_outcome T) (told_since c.world last.world) ≡ true)
+            by : (list_any (tells_outcome T) (own_texts c.world last.world) ≡ true) ⊎ (Way n at_most files epochs (reached n at_most files epochs) (broken n at_most files epochs) W T (length c.world.lines) last × Voice n at_most files epochs (reached n at_most files epochs) (broken n at_most files epochs) W T (length c.world.lines) last)
+                → (holds_undecided (last.world.memory T.server) T ≡ true) ⊎ (list_any (tells_outcome T) (own_texts c.world last.world) ≡ true)
             by (inl q) = inr q
             by (inr p) = inl (way p.0)
 
     abbrev Decides : WorkId → Work → Type 0
-    Decides W z = (holds_undecided (last.world.memory z.tid.server) z.tid ≡ true) ⊎ ((list_any (tells_outcome z.tid) (told_since c.world last.world) ≡ true) ⊎ (live_at c.world W ≡ None))
+    Decides W z = (holds_undecided (last.world.memory z.tid.server) z.tid ≡ true) ⊎ ((list_any (tells_outcome z.tid) (own_texts c.world last.world) ≡ true) ⊎ (live_at c.world W ≡ None))
 
     pub are-decided : AreDecided n c.world last.world
     are-decided W z near there = by (live_at c.world W) refl
@@ -251,9 +251,9 @@ module _ (n : ℕ) (at_most : n ≤ 8) (files : AllFiles) (epochs : ServerNo →
             same : u.tid ≡ z.tid
             same = same-tid W near u memory-d.0 memory-d.1 q z there
 
-            on : (holds_undecided (last.world.memory u.tid.server) u.tid ≡ true) ⊎ (list_any (tells_outcome u.tid) (told_since c.world last.world) ≡ true) → Decides W z
+            on : (holds_undecided (last.world.memory u.tid.server) u.tid ≡ true) ⊎ (list_any (tells_outcome u.tid) (own_texts c.world last.world) ≡ true) → Decides W z
             on (inl a) = inl (subst (λ (U : Tid). holds_undecided (last.world.memory U.server) U ≡ true) same a)
-            on (inr a) = inr (inl (subst (λ (U : Tid). list_any (tells_outcome U) (told_since c.world last.world) ≡ true) same a))
+            on (inr a) = inr (inl (subst (λ (U : Tid). list_any (tells_outcome U) (own_texts c.world last.world) ≡ true) same a))
 
         by : (o : Option Work) → live_at c.world W ≡ o → Decides W z
         by None e = inr (inr e)

@@ -1,5 +1,5 @@
 -- Each end that a settle with these servers up leaves was reported to wait.
-use Rattle.jn_system_settling.proofs.Common.{◌≡◌, ◌⊎◌, inl, inr, ◌≤◌, ℕ, true, length, length-append, Option, Some, None, is_some, true≢false, refl, sym, ◌∙◌, ap, subst, arith, list_any, ServerNo, Tid, Server, Command, End, AllFiles, stable, Sent, ClientTable, sent_again, take_row, World, Memory, opening, new_memory, servers_from, server_row, lines_of, Course, Chance, clients_from, until_rest, IsAtRest, Reached, AreUp, tells_waiting, told_since, EndsWait, some-memory}
+use Rattle.jn_system_settling.proofs.Common.{◌≡◌, ◌⊎◌, inl, inr, ◌≤◌, ℕ, true, length, length-append, Option, Some, None, is_some, true≢false, refl, sym, ◌∙◌, ap, subst, arith, list_any, ServerNo, Tid, Server, Command, End, AllFiles, stable, Sent, ClientTable, sent_again, take_row, World, Memory, opening, new_memory, servers_from, server_row, lines_of, Course, Chance, clients_from, until_rest, IsAtRest, Reached, AreUp, tells_waiting, own_texts, EndsWait, some-memory}
 use Rattle.jn_system_settling.proofs.Settling.Courses.{Sound}
 use Rattle.jn_system_settling.proofs.AtRest.Talk.{FitsCommand}
 use Rattle.jn_system_settling.proofs.AtRest.Within.{Within}
@@ -119,8 +119,8 @@ module _ (n : ℕ) (at_most : n ≤ 8) (files : AllFiles) (epochs : ServerNo →
                   (asked.from_client e (among-clients n at_most start files epochs 8 1 e low (omega (arith, high))) (o.to, o.message) (ap sent_again waits)));
             })
 
-        by : ((last.world.clients e).outstanding ≡ None) ⊎ (list_any (tells_waiting e o.event) (told_since c.world last.world) ≡ true)
-            → list_any (tells_waiting e o.event) (told_since c.world last.world) ≡ true
+        by : ((last.world.clients e).outstanding ≡ None) ⊎ (list_any (tells_waiting e o.event) (own_texts c.world last.world) ≡ true)
+            → list_any (tells_waiting e o.event) (own_texts c.world last.world) ≡ true
         by (inl q) = absurd (none (sym q ∙ is))
           where
             none : None ≡ Some o → ⊥

@@ -168,9 +168,6 @@ none-closed T c (y ∷ xs) h = by (client_eq y.client c) y.stage (tid_eq y.tid T
 -- ---- every row
 
 module _ (w : Machine) (s : ServerNo) (t : CoordinatorTable) (free : ℕ) (k : Tickets) (all : AreTransactions w s t.transactions) (T : Tid) (x : Transaction) (found : transaction_at T t.transactions ≡ Some x) where
-  here : tid_eq T T ≡ true
-  here = grind (arith, tid_tells T T)
-
   -- it is that transaction, or another one
   from-kind : (U : Tid) (y : Transaction) (m : Message) (row : RowOutcome CoordinatorTable) → transaction_at U t.transactions ≡ Some y → Kind U y t row → Fate T x t m row
   from-kind U y m row e (keeps now) = stays (ap (transaction_at T) now ∙ found)

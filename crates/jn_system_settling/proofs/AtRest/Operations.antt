@@ -1,12 +1,12 @@
 -- An operation that a client waits for is answered: its work performs it next, has performed it last, or is closed for operations.
-use Rattle.jn_system_settling.proofs.Common.{◌≡◌, ◌⊎◌, inl, inr, ℕ, ◌+◌, Bool, true, false, List, [], ◌∷◌, Option, Some, None, refl, sym, ◌∙◌, ap, subst, arith, ◌&&◌, if◌then◌else◌, nat_eq, nat_tests, ServerNo, ClientNo, WorkId, Client, Op, Answer, Command, Do, client_eq, work_eq, work_tells, Message, AllFiles, change, answer_to, list_change, Work, Phase, Active, Broken, Stored, ActiveWork, OpenWork, Outstanding, Taken, Ignored, stable, RowOutcome, ignored, WorkerTable, Wanted, work_at, granted_row, performed, repeated, by_number, op_phase, op_row, refusal_of, wants_of, is_fit, ClientTable, open_at, is_operation, is_end_or_abort, if_waits, told, idle, answer_line, Machine, run_atoms, opening_world, World, Memory, Room, server_row, IsCurrent, is_closing, operation_of, request_eq, RequestNo, AskedOp, Here, asked_for, asked_here}
+use Rattle.jn_system_settling.proofs.Common.{◌≡◌, ◌⊎◌, inl, inr, ℕ, ◌+◌, Bool, true, false, List, [], ◌∷◌, Option, Some, None, refl, sym, ◌∙◌, ap, subst, arith, ◌&&◌, if◌then◌else◌, nat_eq, nat_tests, ServerNo, ClientNo, WorkId, Client, Op, Answer, Command, Do, client_eq, work_eq, work_tells, Message, AllFiles, change, answer_to, list_change, Work, Phase, Active, Broken, Stored, ActiveWork, OpenWork, Outstanding, Taken, Ignored, stable, RowOutcome, ignored, WorkerTable, Wanted, work_at, granted_row, performed, repeated, by_number, op_phase, op_row, refusal_of, wants_of, is_fit, ClientTable, open_at, is_operation, is_end_or_abort, if_waits, told, idle, answer_line, Machine, run_atoms, opening_world, World, Memory, Room, server_row, IsCurrent, is_closing, operation_of, request_eq, RequestNo, AskedOp, Here, asked_for, asked_here, numberless, plain_client}
 use Rattle.jn_base.specs.declared.op.Answer.TheVariants.{Broken as BrokenAnswer, Lost as LostAnswer, Closing}
 use Rattle.jn_msgs.specs.declared.message.Message.TheVariants as messages
 use Rattle.jn_system_order.proofs.Mirroring.ClientRows.{found-open}
 use Rattle.jn_system_reports.proofs.Telling.Acting.{acting_at, acting_of, acting_in}
 use Rattle.jn_system_reports.proofs.Telling.Facts.{said, op_in, op_asked, IsOperation, IsAsking, Hears, IsRunningAt}
 use Rattle.jn_system_settling.proofs.AtRest.Ways.{Has, Reply, IsEnd}
-use Rattle.jn_system_settling.proofs.AtRest.Twins.{numberless, plain_client, HasTwin}
+use Rattle.jn_system_settling.proofs.AtRest.Twins.{HasTwin}
 
 -- what a client waits for, but for the number of its event
 record SameWaits (o p : Outstanding) : Type 0 where

@@ -261,9 +261,6 @@ module _ (n : ℕ) (at_most : n ≤ 8) (start : World) (c : ClientNo) (t : Clien
           kept None = left
           kept (Some made) = left
 
-      some : (x y : Sent) → Some x ≡ Some y → x ≡ y
-      some x y e = cc
-
       at : (j : ℕ) → nat_eq j k ≡ true → j ≡ k
       at j e = grind (arith, nat_tests, e)
 

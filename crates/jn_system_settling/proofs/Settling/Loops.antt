@@ -1,5 +1,6 @@
 -- A loop's steps are those of a settle.
-use Rattle.jn_system_settling.proofs.Common.{◌≡◌, ◌≤◌, ℕ, zero, suc, List, [], ◌∷◌, ◌++◌, None, refl, ◌∙◌, ap, arith, fun_ext, ServerNo, servers_from, Step, Course, go, go_on, Chance, first_busy, next_step, onward, until_rest, settled, EachInTurn, AreNext, NothingIsLeft, ComeToRest, chances_of, asked, in_two, both_parts}
+use Rattle.jn_system_settling.proofs.Common.{◌≡◌, ◌≤◌, ℕ, zero, suc, List, [], ◌∷◌, ◌++◌, None, refl, ◌∙◌, ap, arith, ServerNo, servers_from, Step, Course, go, go_on, Chance, first_busy, next_step, onward, until_rest, settled, EachInTurn, AreNext, NothingIsLeft, ComeToRest, chances_of, asked, in_two, both_parts}
+use Rattle.std.proofs.Math.Path.{fun_ext}
 use Rattle.std.proofs.Common.{◌+◌, length}
 
 pub in-turn : (P : Course → Step → Type 0) (steps more : List Step) (c : Course) → EachInTurn P steps c → EachInTurn P more (go_on steps c) → EachInTurn P (steps ++ more) c

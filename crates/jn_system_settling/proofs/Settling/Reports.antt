@@ -4,7 +4,8 @@ use Rattle.jn_base.specs.declared.names.LockUnit.TheVariants.{File, Block}
 use Rattle.jn_locks.specs.Locks as locks
 use Rattle.jn_report.specs.declared.line.Refusal.TheVariants.{Locked}
 use Rattle.jn_report.specs.declared.line.Text.TheVariants as says
-use Rattle.jn_system_settling.specs.Settling.Rows.{padded, start, told, report, without_stale, one_write, stopped_at_prepare, two_at_a_block, a_reader_breaks, two_wait, half_prepared, not_prepared, revived_and_prepared, half_committed, not_committed, goes_on_beside}
+use Rattle.jn_system_settling.specs.Settling.Rows.{start, told, report, without_stale, one_write, stopped_at_prepare, two_at_a_block, a_reader_breaks, two_wait, half_prepared, not_prepared, revived_and_prepared, half_committed, not_committed, goes_on_beside}
+use Rattle.jn_schedule.specs.Grammar.{filled}
 use Rattle.jn_system.specs.WholeSystem.ExampleNames.{s0, s1, c1, c2, tid, file, block, the_work}
 use Rattle.jn_system_settling.specs.Settling.RowReports.{one_client_writes_report, a_prepare_is_stopped_report, a_write_waits_for_a_reader_report, a_reader_gives_way_report, two_clients_wait_report, a_stopped_prepare_is_found_report, a_stopped_prepare_is_lost_report, a_stopped_prepare_comes_back_report, a_stopped_commit_is_found_report, a_stopped_commit_is_lost_report}
 
@@ -24,15 +25,15 @@ one-flag p = record { each = λ a. grind (arith, tid_tells); rising = refl }
 
 -- ---- the runs
 
-pub one_client_writes_page : (c : Pick) → ((told 1 (one_write (padded (104 ∷ 105 ∷ [])))).course.world.found s0 c).files (Block (file 7) (block 0)) ≡ Some (padded (104 ∷ 105 ∷ []))
+pub one_client_writes_page : (c : Pick) → ((told 1 (one_write (filled (104 ∷ 105 ∷ [])))).course.world.found s0 c).files (Block (file 7) (block 0)) ≡ Some (filled (104 ∷ 105 ∷ []))
 unfolding locks.unit_before
 one_client_writes_page c = refl
 
-pub one_client_writes : report 1 (one_write (padded (104 ∷ 105 ∷ []))) ≡ one_client_writes_report
+pub one_client_writes : report 1 (one_write (filled (104 ∷ 105 ∷ []))) ≡ one_client_writes_report
 unfolding locks.unit_before
 one_client_writes = refl
 
-pub one_client_writes_steps : AreSteps 1 (one_write (padded (104 ∷ 105 ∷ []))) (start 1)
+pub one_client_writes_steps : AreSteps 1 (one_write (filled (104 ∷ 105 ∷ []))) (start 1)
 unfolding locks.unit_before
 one_client_writes_steps = ((tt, tt), ((tt, tt), ((tt, tt), ((tt, tt), ((tt, tt), tt)))))
 
@@ -52,7 +53,7 @@ pub a_write_waits_for_a_reader_steps : AreSteps 1 two_at_a_block (start 1)
 unfolding locks.unit_before
 a_write_waits_for_a_reader_steps = ((tt, tt), ((tt, tt), ((tt, tt), ((tt, tt), ((tt, tt), ((tt, tt), ((tt, tt), ((tt, tt), ((tt, tt), ((tt, tt), ((tt, tt), ((tt, tt), tt))))))))))))
 
-pub a_reader_gives_way_page : (c : Pick) → ((told 1 a_reader_breaks).course.world.found s0 c).files (Block (file 7) (block 0)) ≡ Some (padded (98 ∷ []))
+pub a_reader_gives_way_page : (c : Pick) → ((told 1 a_reader_breaks).course.world.found s0 c).files (Block (file 7) (block 0)) ≡ Some (filled (98 ∷ []))
 unfolding locks.unit_before
 a_reader_gives_way_page c = refl
 

@@ -1,6 +1,6 @@
 -- What a settle leaves behind where all of so many servers are up.
 -- Rubbish records are no part of these states, so nothing is said of them.
-use Rattle.std.specs.Prelude.{◌⊎◌, Option, ◌≡◌, ◌≤◌, ◌<◌, ℕ, Bool, true, false, nat_eq, ◌&&◌, List, [], drop, length, Some, None, is_some}
+use Rattle.std.specs.Prelude.{◌⊎◌, Option, ◌≡◌, ◌≤◌, ◌<◌, ℕ, Bool, true, false, nat_eq, ◌&&◌, [], Some, None, is_some}
 use Rattle.std.specs.List.{list_any}
 use Rattle.jn_base.specs.declared.names.ServerNo.{ServerNo}
 use Rattle.jn_base.specs.declared.names.ClientNo.{ClientNo}
@@ -18,7 +18,7 @@ use Rattle.jn_rows.specs.declared.coordinator.Stage.{Stage}
 use Rattle.jn_rows.specs.declared.coordinator.Stage.TheVariants.{Open, Voting}
 use Rattle.jn_rows.specs.Worker.{work_at}
 use Rattle.jn_rows.specs.Coordinator.{transaction_at}
-use Rattle.jn_system.specs.WholeSystem.World.{World, Memory}
+use Rattle.jn_system.specs.WholeSystem.World.{World, Memory, own_texts}
 use Rattle.jn_system.specs.WholeSystem.Course.{Course}
 use Rattle.jn_system.specs.WholeSystem.Settle.{Chance, settled}
 use Rattle.jn_system_settling.specs.Settling.Bounds.{NothingGoes}
@@ -35,13 +35,9 @@ abbrev pub tells_waiting : ClientNo → ℕ → Text → Bool
 tells_waiting c j (says.Waiting d i s u by) = client_eq c d && nat_eq j i
 tells_waiting c j text = false
 
--- what was reported from one world to a later one
-abbrev pub told_since : World → World → List Text
-told_since before now = drop (length before.lines) now.lines
-
 -- each end that a client waits for was reported to wait
 abbrev pub EndsWait : World → World → Type 0
-EndsWait before now = (c : ClientNo) (o : Outstanding) → 1 ≤ c.0 → c.0 ≤ 8 → (now.clients c).outstanding ≡ Some o → list_any (tells_waiting c o.event) (told_since before now) ≡ true
+EndsWait before now = (c : ClientNo) (o : Outstanding) → 1 ≤ c.0 → c.0 ≤ 8 → (now.clients c).outstanding ≡ Some o → list_any (tells_waiting c o.event) (own_texts before now) ≡ true
 
 -- no flag is found at any of so many servers
 abbrev pub AreForgotten : ℕ → World → Type 0
@@ -80,7 +76,7 @@ tells_outcome T text = false
 -- abort was reported since, or it wasn't live before.
 abbrev pub AreDecided : ℕ → World → World → Type 0
 AreDecided servers before now = (W : WorkId) (w : Work) → W.server.0 < servers → live_at now W ≡ Some w
-    → (holds_undecided (now.memory w.tid.server) w.tid ≡ true) ⊎ ((list_any (tells_outcome w.tid) (told_since before now) ≡ true) ⊎ (live_at before W ≡ None))
+    → (holds_undecided (now.memory w.tid.server) w.tid ≡ true) ⊎ ((list_any (tells_outcome w.tid) (own_texts before now) ≡ true) ⊎ (live_at before W ≡ None))
 
 -- ---- the whole
 

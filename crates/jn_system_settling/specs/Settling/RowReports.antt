@@ -5,7 +5,7 @@ use Rattle.jn_base.specs.declared.names.Cause.TheVariants.{Requested, Lost, Brok
 use Rattle.jn_report.specs.declared.line.Refusal.TheVariants.{NoFile}
 use Rattle.jn_report.specs.declared.line.Text.TheVariants as says
 use Rattle.jn_system_settling.specs.Settling.Events.{line}
-use Rattle.jn_system_settling.specs.Settling.Rows.{padded}
+use Rattle.jn_schedule.specs.Grammar.{filled}
 use Rattle.jn_system.specs.WholeSystem.ExampleNames.{s0, s1, c1, c2, tid, file, block}
 use Rattle.jn_report.specs.declared.line.Line.{Line}
 
@@ -41,7 +41,7 @@ a_write_waits_for_a_reader_report = line 2 (says.Begun c1 1 (tid s0 0))
     ∷ line 16 (says.Did c1 15)
     ∷ line 18 (says.Begun c2 17 (tid s0 4))
     ∷ line 20 (says.Opened c2 19 s0)
-    ∷ line 22 (says.Read c2 21 (padded (97 ∷ [])))
+    ∷ line 22 (says.Read c2 21 (filled (97 ∷ [])))
     ∷ line 24 (says.Waiting c1 23 s0 (Block (file 7) (block 0)) (tid s0 4))
     ∷ line 24 (says.Waiting c1 23 s0 (Block (file 7) (block 0)) (tid s0 4))
     ∷ []
@@ -58,7 +58,7 @@ a_reader_gives_way_report = line 2 (says.Begun c1 1 (tid s0 0))
     ∷ line 16 (says.Did c1 15)
     ∷ line 18 (says.Begun c2 17 (tid s0 4))
     ∷ line 20 (says.Opened c2 19 s0)
-    ∷ line 22 (says.Read c2 21 (padded (97 ∷ [])))
+    ∷ line 22 (says.Read c2 21 (filled (97 ∷ [])))
     ∷ line 24 (says.Waiting c1 23 s0 (Block (file 7) (block 0)) (tid s0 4))
     ∷ line 24 (says.Waiting c1 23 s0 (Block (file 7) (block 0)) (tid s0 4))
     ∷ line 27 (says.Broke s0 (tid s0 4) (Block (file 7) (block 0)) (tid s0 2))

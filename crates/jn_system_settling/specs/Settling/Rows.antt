@@ -1,5 +1,6 @@
 -- Runs of the whole system as schedules give them.
-use Rattle.std.specs.Prelude.{ℕ, ◌-◌, Bool, true, false, nat_eq, if◌then◌else◌, List, [], ◌∷◌, ◌++◌, replicate, length, filter, Some, None}
+use Rattle.std.specs.Prelude.{ℕ, Bool, true, false, nat_eq, if◌then◌else◌, List, [], ◌∷◌, ◌++◌, filter, Some, None}
+use Rattle.jn_schedule.specs.Grammar.{filled}
 use Rattle.jn_records.specs.MapPlaces.{no_maps}
 use Rattle.jn_base.specs.declared.names.ServerNo.{ServerNo}
 use Rattle.jn_base.specs.declared.names.ClientNo.{ClientNo}
@@ -19,12 +20,6 @@ use Rattle.jn_system.specs.WholeSystem.Course.{opening_course, Course}
 use Rattle.jn_system.specs.WholeSystem.Settle.{Chance}
 use Rattle.jn_system_settling.specs.Settling.Events.{Event, Does, Settles, Told, told_by}
 use Rattle.jn_system.specs.WholeSystem.ExampleNames.{s0, s1, c1, c2, tid, file, block, the_work, half_made}
-
--- ---- names
-
--- the bytes of a block, with zeros behind these
-abbrev pub padded : List ℕ → List ℕ
-padded bytes = bytes ++ replicate (448 - length bytes) 0
 
 -- ---- events
 
@@ -93,8 +88,8 @@ stopped_at_prepare =
 -- one reads the block that the other has written anew, so the other waits
 abbrev pub two_at_a_block : List Event
 two_at_a_block =
-    one_write (padded (97 ∷ [])) ++ then_settle c1 (Begin s0) (then_settle c1 (Open s0)
-    (then_settle c1 (Do s0 (ops.Write (file 7) (block 0) (padded (98 ∷ [])))) (then_settle c2 (Begin s0)
+    one_write (filled (97 ∷ [])) ++ then_settle c1 (Begin s0) (then_settle c1 (Open s0)
+    (then_settle c1 (Do s0 (ops.Write (file 7) (block 0) (filled (98 ∷ [])))) (then_settle c2 (Begin s0)
     (then_settle c2 (Open s0) (then_settle c2 (Do s0 (ops.Read (file 7) (block 0))) (then_settle c1 End []))))))
 
 -- and then the reader has had its time

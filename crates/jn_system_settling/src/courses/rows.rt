@@ -7,15 +7,16 @@ ghost use Rattle.jn_rows.specs.Stable.{Pick};
 ghost use Rattle.jn_report.specs.declared.line.Refusal.TheVariants.{Locked};
 ghost use Rattle.jn_report.specs.declared.line.Text.TheVariants as says;
 ghost use Rattle.jn_system_settling.specs.Settling.Events.{line, AreSteps};
-ghost use Rattle.jn_system_settling.specs.Settling.Rows.{padded, start, told, report, without_stale, one_write, stopped_at_prepare, two_at_a_block, a_reader_breaks, two_wait, half_prepared, not_prepared, revived_and_prepared, half_committed, not_committed, goes_on_beside};
+ghost use Rattle.jn_system_settling.specs.Settling.Rows.{start, told, report, without_stale, one_write, stopped_at_prepare, two_at_a_block, a_reader_breaks, two_wait, half_prepared, not_prepared, revived_and_prepared, half_committed, not_committed, goes_on_beside};
+ghost use Rattle.jn_schedule.specs.Grammar.{filled};
 ghost use Rattle.jn_system.specs.WholeSystem.ExampleNames.{s0, s1, c1, c2, tid, file, block};
 ghost use Rattle.jn_system_settling.specs.Settling.RowReports.{one_client_writes_report, a_prepare_is_stopped_report, a_write_waits_for_a_reader_report, a_reader_gives_way_report, two_clients_wait_report, a_stopped_prepare_is_found_report, a_stopped_prepare_is_lost_report, a_stopped_prepare_comes_back_report, a_stopped_commit_is_found_report, a_stopped_commit_is_lost_report};
 
 /// A client makes a file, writes a block and ends, with a settle after each command.
 pub fn one_client_writes()
-    ensures steps { AreSteps 1 (one_write (padded (104 ∷ 105 ∷ []))) (start 1) }
-    ensures lines { report 1 (one_write (padded (104 ∷ 105 ∷ []))) ≡ one_client_writes_report }
-    ensures page { (c : Pick) → ((told 1 (one_write (padded (104 ∷ 105 ∷ [])))).course.world.found s0 c).files (Block (file 7) (block 0)) ≡ Some (padded (104 ∷ 105 ∷ [])) }
+    ensures steps { AreSteps 1 (one_write (filled (104 ∷ 105 ∷ []))) (start 1) }
+    ensures lines { report 1 (one_write (filled (104 ∷ 105 ∷ []))) ≡ one_client_writes_report }
+    ensures page { (c : Pick) → ((told 1 (one_write (filled (104 ∷ 105 ∷ [])))).course.world.found s0 c).files (Block (file 7) (block 0)) ≡ Some (filled (104 ∷ 105 ∷ [])) }
 {}
 
 /// A server is stopped while it prepares a work, which it has lost after its restart.
@@ -34,7 +35,7 @@ pub fn a_write_waits_for_a_reader()
 pub fn a_reader_gives_way()
     ensures steps { AreSteps 1 a_reader_breaks (start 1) }
     ensures lines { report 1 a_reader_breaks ≡ a_reader_gives_way_report }
-    ensures page { (c : Pick) → ((told 1 a_reader_breaks).course.world.found s0 c).files (Block (file 7) (block 0)) ≡ Some (padded (98 ∷ [])) }
+    ensures page { (c : Pick) → ((told 1 a_reader_breaks).course.world.found s0 c).files (Block (file 7) (block 0)) ≡ Some (filled (98 ∷ [])) }
 {}
 
 /// Two clients wait for one another, until one gives up.

@@ -1,4 +1,4 @@
-use Rattle.std.proofs.Common.{◌≡◌, ◌+◌, ◌-◌, ◌++◌, length, length-drop, arith}
+use Rattle.std.proofs.Common.{◌+◌, ◌-◌, ◌++◌, length-drop, arith}
 use Rattle.jn_names.specs.Buckets.{places_in}
 use Rattle.jn_names.specs.Calls.{entries_of}
 use Rattle.jn_names.proofs.Places.{entries-begin, names-begin, names-first, names-go, entries-go, entries-end}

@@ -1,6 +1,6 @@
-use Rattle.std.proofs.Common.{◌≡◌, ◌≤◌, length, arith}
+use Rattle.std.proofs.Common.{arith}
 use Rattle.std.proofs.lemmas.Bool.Decides.{nat_tests}
-use Rattle.jn_names.proofs.Places.{name-here, entry-here, free-here}
+use Rattle.jn_names.proofs.Places.{name-here, free-here}
 use Rattle.jn_names.proofs.bucket.add_entry.Goals as goal
 
 pub returns-then-is_empty : goal.returns-then-is_empty

@@ -1,4 +1,4 @@
-use Rattle.std.proofs.Common.{Some, None, refl, [], ◌∙◌}
+use Rattle.std.proofs.Common.{Some, None, refl, []}
 use Rattle.jn_order.specs.Changes.{or_also}
 use Rattle.jn_names.specs.Buckets.{place_of}
 use Rattle.jn_names.proofs.Bytes.{length-entry}

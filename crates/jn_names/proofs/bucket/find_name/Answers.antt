@@ -1,4 +1,3 @@
-use Rattle.std.proofs.Common.{◌≡◌}
 unfoldable use Rattle.jn_names.specs.Buckets.{places_in}
 use Rattle.jn_names.proofs.bucket.find_name.Goals as goal
 

@@ -1,4 +1,4 @@
-use Rattle.std.proofs.Common.{◌≡◌, ◌+◌, ◌-◌, ◌*◌, ◌<◌, ◌∙◌, Bool, true, false, length, length-drop, sym, ap, arith, refl, List, ℕ}
+use Rattle.std.proofs.Common.{◌≡◌, ◌+◌, ◌-◌, ◌∙◌, length-drop, sym, ap, arith, List, ℕ}
 use Rattle.std.specs.Prelude.{is_some, bytes_eq}
 use Rattle.jn_names.specs.Buckets.{bucket_in}
 use Rattle.jn_names.proofs.Checking.{bucket-checked, places-fail, places-go, places-end}

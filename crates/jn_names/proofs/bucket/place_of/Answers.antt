@@ -1,4 +1,4 @@
-use Rattle.std.proofs.Common.{◌≡◌, ◌+◌, ◌-◌, ◌*◌, ◌<◌, ◌∙◌, length, length-drop, sym, arith}
+use Rattle.std.proofs.Common.{◌+◌, ◌-◌, length-drop, arith}
 use Rattle.jn_names.specs.Buckets.{places_in, place_of}
 use Rattle.jn_names.proofs.Places.{place-begin, place-found, place-go, place-end}
 use Rattle.jn_names.proofs.bucket.place_of.Goals as goal

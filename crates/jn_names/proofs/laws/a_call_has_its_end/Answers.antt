@@ -5,7 +5,7 @@ pub returns-clause-ends : goal.returns-clause-ends
 returns-clause-ends c = λ command answers h. ends command answers h
 
 pub returns-clause-few : goal.returns-clause-few
-returns-clause-few c = λ command served reply h. few command served reply h
+returns-clause-few c = λ command os reply h. few command os reply h
 
 pub returns-clause-falls : goal.returns-clause-falls
 returns-clause-falls c = λ command stage answer. falls command stage answer

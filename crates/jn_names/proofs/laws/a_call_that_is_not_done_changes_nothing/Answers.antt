@@ -12,4 +12,4 @@ pub returns-clause-refused : goal.returns-clause-refused
 returns-clause-refused c = λ command files why h. refused-leaves command files why h
 
 pub returns-clause-unwritten : goal.returns-clause-unwritten
-returns-clause-unwritten c = λ command served why h. unwritten command served why h
+returns-clause-unwritten c = λ command os why h. unwritten command os why h

@@ -1,4 +1,4 @@
-use Rattle.std.proofs.Common.{◌≡◌, ◌≤◌, ◌-◌, length, drop, length-drop, arith}
+use Rattle.std.proofs.Common.{◌-◌, length, drop, length-drop, arith}
 use Rattle.std.proofs.lemmas.List.{take_all}
 use Rattle.jn_names.proofs.place.behind.Goals as goal
 

@@ -1,4 +1,4 @@
-use Rattle.std.proofs.Common.{◌≡◌, length, refl}
+use Rattle.std.proofs.Common.{length, refl}
 use Rattle.jn_names.proofs.Bytes.{entry-filled}
 use Rattle.jn_names.proofs.place.entry_bytes.Goals as goal
 

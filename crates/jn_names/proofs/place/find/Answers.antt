@@ -1,4 +1,4 @@
-use Rattle.std.proofs.Common.{rules, arith, ◌≡◌, ◌<◌, ◌+◌, ◌-◌, sym, ◌∙◌, ap, Some, length, drop, length-drop}
+use Rattle.std.proofs.Common.{arith, ◌≡◌, ◌+◌, ◌-◌, sym, ◌∙◌, ap, Some, length-drop}
 use Rattle.jn_names.proofs.Places.{find-found, find-passed}
 use Rattle.jn_names.proofs.place.find.Goals as goal
 

@@ -1,4 +1,4 @@
-use Rattle.std.proofs.Common.{◌≡◌, ◌≤◌, ◌∙◌, Bool, true, false, length, length-drop, sym, arith}
+use Rattle.std.proofs.Common.{◌∙◌, length-drop, sym, arith}
 use Rattle.std.proofs.lemmas.Bool.Decides.{nat_tests}
 use Rattle.jn_names.proofs.Checking.{only-not, only-else}
 use Rattle.jn_names.proofs.place.is_only_place.Goals as goal

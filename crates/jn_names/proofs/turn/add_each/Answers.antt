@@ -1,4 +1,4 @@
-use Rattle.std.proofs.Common.{◌≡◌, List, ◌++◌, ◌∙◌, ap, sym}
+use Rattle.std.proofs.Common.{List, ◌++◌, ◌∙◌, ap, sym}
 use Rattle.jn_names.specs.declared.entry.Entry.{Entry}
 use Rattle.jn_names.specs.Buckets.{bucket_in, places_in}
 use Rattle.jn_names.specs.Calls.{entries_of}

@@ -1,4 +1,4 @@
-use Rattle.std.proofs.Common.{◌≡◌, ◌∙◌, sym, Some, None}
+use Rattle.std.proofs.Common.{◌∙◌, sym}
 use Rattle.jn_names.proofs.Fitting.{by-none, by-reply, by-write}
 use Rattle.jn_names.proofs.turn.by_bucket.Goals as goal
 

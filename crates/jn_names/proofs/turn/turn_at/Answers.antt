@@ -1,4 +1,3 @@
-use Rattle.std.proofs.Common.{◌≡◌}
 unfoldable use Rattle.jn_order.specs.Files.{zeros}
 use Rattle.jn_names.proofs.turn.turn_at.Goals as goal
 

@@ -1,4 +1,4 @@
-use Rattle.std.proofs.Common.{◌≡◌, sym, subst}
+use Rattle.std.proofs.Common.{sym, subst}
 use Rattle.jn_names.specs.Turns.{TurnFits}
 use Rattle.jn_names.proofs.Fitting.{turn-fits}
 use Rattle.jn_names.proofs.call.NameCall.next.Goals as goal

@@ -1,5 +1,5 @@
 use Rattle.std.proofs.Common.{◌<◌, ◌∙◌, ap, subst}
-use Rattle.jn_device.specs.Device.{bumped}
+use Rattle.jn_base.specs.Counts.{bumped}
 use Rattle.jn_store.proofs.TwoPuts.{array_stored}
 use Rattle.jn_store.proofs.array.ArrayStoreStableStore.put.Goals as goal
 

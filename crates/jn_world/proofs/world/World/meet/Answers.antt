@@ -1,5 +1,6 @@
-use Rattle.jn_world.proofs.Common.{◌∷◌, [], refl, sym, subst, DeviceState, AtEvent, Event, Again, StoreView, DoesTasks, standing_of, Meets}
+use Rattle.jn_world.proofs.Common.{◌∷◌, [], refl, sym, subst, arith, DeviceState, AtEvent, Event, Again, StoreView, DoesTasks, standing_of, Meets}
 use Rattle.jn_schedule.specs.declared.Event.TheVariants.{Command}
+use Rattle.jn_schedule.specs.Ranges.{EventInRange}
 use Rattle.jn_world.proofs.Refusing.{meets-done}
 use Rattle.jn_world.proofs.Scheduled.{meets-settle}
 use Rattle.jn_world.proofs.world.World.meet.Goals as goal
@@ -30,3 +31,7 @@ returns-in-Settle-clause-does g c =
     let first = c.args.lines.now.items in
     subst (λ (e : Event). DoesTasks look device (λ x. Meets e ∷ []) (AtEvent c.args.number) w c.settle_at.result (standing_of c.settle_at.new.self) first c.settle_at.new.lines.items) (sym c.in-Settle.is)
     (meets-settle look device (AtEvent c.args.number) c.settle_at.result w (standing_of c.settle_at.new.self) first c.settle_at.new.lines.items (let has = c.requires.world in has.limit) c.settle_at.ensures.does)
+
+-- no number is in the range of a call's
+pub unreachable-requires : goal.unreachable-requires
+unreachable-requires g c = let range = subst (λ (e : Event). EventInRange e) c.in-Call.is c.requires.range in absurd (omega (arith, range.0.0))

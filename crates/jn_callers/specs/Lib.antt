@@ -1,0 +1,4 @@
+pub mod Callers
+pub mod Laws
+pub mod Texts
+pub mod Examples

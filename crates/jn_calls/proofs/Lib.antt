@@ -1,0 +1,4 @@
+pub mod Exchanging
+pub mod Fewer
+pub mod Fitting
+pub mod Given

@@ -1,0 +1,5 @@
+use Rattle.jn_node_laws.proofs.Existing.{some-given}
+use Rattle.jn_node_laws.proofs.some_end_is_given.Goals as goal
+
+pub returns : goal.returns
+returns c = some-given

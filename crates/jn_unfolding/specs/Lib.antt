@@ -1,0 +1,4 @@
+pub mod Replies
+pub mod Unfolding
+pub mod Logs
+pub mod Example
