@@ -1,10 +1,9 @@
 -- How a node ends follows from what it was given.
-use Rattle.jn_node_laws.proofs.Common.{◌≡◌, ◌≢◌, ℕ, ◌<◌, true, false, List, [], take, Option, Some, None, is_some, refl, sym, ◌∙◌, ap, subst, arith, true≢false, same_Some, ServerNo, Contents, image_bytes, Has, image_name, accepted_is_not_refused, one_cause, found_on, Counts, StableState, Pick, Sent, frames_of, pairs_view, Framed, Unframed, NoneFails, Outside, SinkState, Writes, WritesFront, state_of, ServesFrames, sent_bytes, AreAlike, append_known, Cause, IsRefused, refusal_text, Node, Status, IsFound, NodeEnds, Served, ServedFront, ServedWhole, epoch_found, state_then, node_done, node_not_loaded, node_refused, node_refusal_not_written, node_not_read, node_not_written, node_no_epoch, node_no_epoch_left, node_passed_limit, node_frame, node_unsettled, node_not_saved, node_no_memory, node_no_memory_inside, last_epoch, CanServe, GivenCanServe, NodesAreCutShort, NodesComplete, NodesEndAsGiven, NodesEndInOneWay, NodesEndOnce, OneEndIsGiven, Tell, is_own_end, EndsAsGiven, EndsBy, EndsWhole, HasNoFrame, IsGiven, PassesLimit, as_given, cut_short, given_frames, given_no_epoch, given_refused, has_no_epoch, has_no_frame, has_waiting, is_done, is_too_long}
+use Rattle.jn_node_laws.proofs.Common.{◌≡◌, ◌≢◌, ℕ, ◌<◌, true, false, List, [], take, Option, Some, None, is_some, refl, sym, ◌∙◌, ap, subst, arith, true≢false, same_Some, ServerNo, Contents, image_bytes, Has, image_name, accepted_is_not_refused, one_cause, StableState, Sent, frames_of, pairs_view, Framed, Unframed, NoneFails, Outside, SinkState, Writes, WritesFront, sent_bytes, append_known, Cause, IsRefused, refusal_text, Node, Status, IsFound, NodeEnds, ServedFront, ServedWhole, epoch_found, state_then, node_done, node_not_loaded, node_refused, node_refusal_not_written, node_not_read, node_not_written, node_no_epoch, node_no_epoch_left, node_passed_limit, node_frame, node_unsettled, node_not_saved, node_no_memory, node_no_memory_inside, last_epoch, NodesAreCutShort, NodesComplete, NodesEndAsGiven, NodesEndInOneWay, NodesEndOnce, OneEndIsGiven, Tell, is_own_end, EndsAsGiven, EndsBy, EndsWhole, HasNoFrame, IsGiven, PassesLimit, as_given, cut_short, given_frames, given_no_epoch, given_refused, has_no_epoch, has_no_frame, has_waiting, is_done, is_too_long, Books, BooksServeAll, first_books, Leads, writes-nothing}
 use Rattle.jn_status.specs.declared.status.Status.TheVariants.{Done, Image, Limit, Memory, Unsettled, Frame}
-use Rattle.jn_node_laws.proofs.Fronts.{front-of-all, front-sent, known-nothing, serves-first}
-use Rattle.jn_node_laws.proofs.Images.{same-counts, same-found, servers-alike}
+use Rattle.jn_node_laws.proofs.Fronts.{front-of-all, front-sent, leads-first}
 use Rattle.jn_node_laws.proofs.Inputs.{PiecesJoin, at-end-ends, ends-whole, fault-breaks, front-frames, no-two, passes-whole, past-passes, unframed_of}
-use Rattle.jn_node_laws.proofs.Stepping.{frames-fix}
+use Rattle.jn_node_laws.proofs.Leading.{found-same, leads-of, leads-once, renamed}
 
 -- ---- by what it was given
 
@@ -85,29 +84,15 @@ writes-same one two sink now then same a b = λ i. record { taken = taken i; fau
     faults : now.faults ≡ then.faults
     faults = a.faults ∙ sym b.faults
 
-writes-nothing : (sink : SinkState) → Writes [] sink sink
-writes-nothing sink = record { took = sym (known-nothing sink.taken); faults = refl }
-
 -- what a keeper has under one name
 has-one : (kept : Option Contents) (name : List ℕ) (one two : Option (List ℕ)) → is_some kept ≡ true → Has kept name one → Has kept name two → two ≡ one
 has-one None name one two told a b = absurd (true≢false (sym told))
 has-one (Some holds) name one two told a b = sym b ∙ a
 
--- the same frames by another name
-abbrev renamed : {node : Node} {kept : Option Contents} (frames more : List Framed) → more ≡ frames → Served node kept frames → Served node kept more
-renamed {node} frames more e v = record {
-  found = v.found;
-  first = v.first;
-  opens = v.opens;
-  sent = v.sent;
-  last = v.last;
-  serves = subst (λ (fs : List Framed). ServesFrames node.server v.found.counts v.first fs v.sent v.last) (sym e) v.serves;
-}
-
 pub given-own : (node : Node) (before : Outside) (status : Status) (text : List ℕ) → IsGiven node before status text → is_own_end status ≡ true
 given-own node before _ _ (given_refused content cause has refused) = refl
 given-own node before _ _ (given_no_epoch f last) = refl
-given-own node before _ _ (given_frames text status left served way) = way-own node.server text (state_then served) status way
+given-own node before _ _ (given_frames text status left leads way) = way-own node.server text leads.last.found status way
 
 module _ (node : Node) (before : Outside) (tells : is_some before.keeper.kept ≡ true) where
   -- an image is refused, or found
@@ -123,45 +108,20 @@ module _ (node : Node) (before : Outside) (tells : is_some before.keeper.kept �
       one_cause node.server content cause other refused (subst (λ (c : Option (List ℕ)). IsRefused node.server c other)
       (has-one before.keeper.kept (image_name node.opening node.server.0) content more tells has too) again)
 
-  module _ (f h : IsFound node before.keeper.kept) where
-    counts-same : h.counts ≡ f.counts
-    counts-same = same-counts before.keeper.kept node.opening node.server f.counts h.counts f.files h.files f.disk h.disk tells f.opened h.opened
-
-    found-same : (c k : Pick) → found_on h.counts (pairs_view h.disk) k ≡ found_on f.counts (pairs_view f.disk) c
-    found-same c k = same-found before.keeper.kept node.opening node.server f.counts h.counts f.files h.files f.disk h.disk tells f.opened h.opened c k
-
   -- a server that came up had an epoch left
-  not-used-up : (f : IsFound node before.keeper.kept) (frames : List Framed) (served : Served node before.keeper.kept frames) → epoch_found f ≡ last_epoch → ⊥
-  not-used-up f frames served last = none-left _ (let opens = served.opens in opens.before_last)
-      (ap (λ (z : StableState). z.epoch) (found-same f served.found (λ n. false) (let opens = served.opens in opens.pick)) ∙ last)
-
-  -- two servers that served the same frames
-  module _ (frames more : List Framed) (a : Served node before.keeper.kept frames) (b : Served node before.keeper.kept more) (same : more ≡ frames) where
-    begin-alike : AreAlike node.server a.found.counts a.first b.first
-    begin-alike = servers-alike before.keeper.kept node.opening node.server a.found.counts b.found.counts a.found.files b.found.files
-        a.found.disk b.found.disk tells a.found.opened b.found.opened a.first b.first a.opens b.opens
-
-    serves : ServesFrames node.server a.found.counts b.first frames b.sent b.last
-    serves = subst (λ (fs : List Framed). ServesFrames node.server a.found.counts b.first fs b.sent b.last) same
-        (subst (λ (g : Counts). ServesFrames node.server g b.first more b.sent b.last) (counts-same a.found b.found) b.serves)
-
-    pub end-alike : (b.sent ≡ a.sent) × AreAlike node.server a.found.counts a.last b.last
-    end-alike = frames-fix node.server a.found.counts a.first b.first frames a.sent b.sent a.last b.last begin-alike a.serves serves
-
-    states-same : state_then b ≡ state_then a
-    states-same = ap (λ (g : Counts). state_of g b.last) (counts-same a.found b.found) ∙ (let alike = end-alike.1 in alike.found)
+  not-used-up : (f : IsFound node before.keeper.kept) (frames : List Framed) (leads : Leads node before.keeper.kept frames) → epoch_found f ≡ last_epoch → ⊥
+  not-used-up f frames leads last = none-left _ leads.before_last (ap (λ (z : StableState). z.epoch) (found-same node before.keeper.kept tells f leads.found (λ n. false) (λ n. false)) ∙ last)
 
   -- frames of one source
   frames-given : (text more : List ℕ) (a b : Status) → before.source.left ≡ Some text → before.source.left ≡ Some more
-      → (t : Served node before.keeper.kept (frames_of node.server text)) (u : Served node before.keeper.kept (frames_of node.server more))
-      → EndsBy node.server text (state_then t) a → EndsBy node.server more (state_then u) b → (a ≡ b) × (sent_bytes node.server t.sent ≡ sent_bytes node.server u.sent)
+      → (t : Leads node before.keeper.kept (frames_of node.server text)) (u : Leads node before.keeper.kept (frames_of node.server more))
+      → EndsBy node.server text t.last.found a → EndsBy node.server more u.last.found b → (a ≡ b) × (sent_bytes node.server t.sent ≡ sent_bytes node.server u.sent)
   frames-given text more a b left too t u way its =
       let same : more ≡ text = same_Some more text (sym too ∙ left) in
-      let alike = end-alike (frames_of node.server text) (frames_of node.server more) t u (ap (frames_of node.server) same) in
-      let states = states-same (frames_of node.server text) (frames_of node.server more) t u (ap (frames_of node.server) same) in (
-        one-way node.server text (state_then t) a b way (subst (λ (z : StableState). EndsBy node.server text z b) states
-            (subst (λ (l : List ℕ). EndsBy node.server l (state_then u) b) same its)),
-        ap (sent_bytes node.server) (sym alike.0),
+      let one = leads-once node before.keeper.kept tells (frames_of node.server text) (frames_of node.server more) t u (ap (frames_of node.server) same) in (
+        one-way node.server text t.last.found a b way (subst (λ (z : Books). EndsBy node.server text z.found b) one.1
+            (subst (λ (l : List ℕ). EndsBy node.server l u.last.found b) same its)),
+        ap (sent_bytes node.server) (sym one.0),
       )
 
   given-same : (a b : Status) (text more : List ℕ) → IsGiven node before a text → IsGiven node before b more → (a ≡ b) × (text ≡ more)
@@ -176,16 +136,6 @@ module _ (node : Node) (before : Outside) (tells : is_some before.keeper.kept �
   given-same _ _ _ _ (given_frames text a left t way) (given_no_epoch h end) = absurd (not-used-up h _ t end)
   given-same _ _ _ _ (given_frames text a left t way) (given_frames more b too u its) = frames-given text more a b left too t u way its
 
-  -- whoever else is found serves the same frames
-  can-serve : (status : Status) (text : List ℕ) → IsGiven node before status text → CanServe node before
-  can-serve _ _ (given_refused content cause has refused) more too f less = absurd (not-found content cause has refused f)
-  can-serve _ _ (given_no_epoch h end) more too f less = absurd (none-left _ less (ap (λ (z : StableState). z.epoch) (found-same h f (λ n. false) (λ n. false)) ∙ end))
-  can-serve _ _ (given_frames text status left t way) more too f less =
-      renamed (frames_of node.server text) (frames_of node.server more) (ap (frames_of node.server) (same_Some more text (sym too ∙ left))) t
-
-pub given-serves : GivenCanServe
-given-serves node before status text tells given = can-serve node before tells.keeper status text given
-
 pub one-given : OneEndIsGiven
 one-given node before a b text more tells given its = let same = given-same node before tells.keeper a b text more given its in (given-own node before a text given, same.0, same.1)
 
@@ -193,28 +143,31 @@ one-given node before a b text more tells given its = let same = given-same node
 
 module _ (pieces : PiecesJoin) (node : Node) (before after : Outside) (tells : Tell before) (fails : NoneFails before after) where
   -- served to the front of the text
-  cut : (text : List ℕ) → before.source.left ≡ Some text → (served : Served node before.keeper.kept (frames_of node.server text)) → ServedFront node before after WritesFront
-      → WritesFront (sent_bytes node.server served.sent) before.sink after.sink
-  cut text left served t =
+  cut : (text : List ℕ) → before.source.left ≡ Some text → (leads : Leads node before.keeper.kept (frames_of node.server text)) → ServedFront node before after WritesFront
+      → WritesFront (sent_bytes node.server leads.sent) before.sink after.sink
+  cut text left leads t =
       let (more, e) = front-frames node.server text before.source left t.read after.source t.gave pieces t.front in
-      let h = serves-first node.server served.found.counts served.first (frames_of node.server (take t.front t.read)) more served.sent served.last
-      (subst (λ (fs : List Framed). ServesFrames node.server served.found.counts served.first fs served.sent served.last) e served.serves) in
-      let begun : Served node before.keeper.kept (frames_of node.server (take t.front t.read)) =
-      record { found = served.found; first = served.first; opens = served.opens; sent = h.first; last = h.last; serves = h.serves } in
-      let alike = end-alike node before tells.keeper (frames_of node.server (take t.front t.read)) (frames_of node.server (take t.front t.read)) begun t.served refl in
-      front-sent node.server served.sent h.first h.later before.sink after.sink h.both (subst (λ (l : List Sent). WritesFront (sent_bytes node.server l) before.sink after.sink) alike.0 t.written)
+      let begins = first_books node.server leads.found.counts (pairs_view leads.found.disk) in
+      let h = leads-first node.server leads.found.counts begins (frames_of node.server (take t.front t.read)) more leads.sent leads.last
+      (subst (λ (fs : List Framed). BooksServeAll node.server leads.found.counts begins fs leads.sent leads.last) e leads.serves) in
+      let begun : Leads node before.keeper.kept (frames_of node.server (take t.front t.read)) =
+      record { found = leads.found; before_last = leads.before_last; sent = h.first; last = h.last; serves = h.serves } in
+      let its = leads-of node before.keeper.kept tells.keeper (frames_of node.server (take t.front t.read)) t.served in
+      let one = leads-once node before.keeper.kept tells.keeper (frames_of node.server (take t.front t.read)) (frames_of node.server (take t.front t.read)) begun its refl in
+      front-sent node.server leads.sent h.first h.later before.sink after.sink h.both (subst (λ (l : List Sent). WritesFront (sent_bytes node.server l) before.sink after.sink) one.0 t.written)
 
   cut-given : (status : Status) (text : List ℕ) → ServedFront node before after WritesFront → IsGiven node before status text → WritesFront text before.sink after.sink
   cut-given _ _ t (given_refused content cause has refused) = absurd (not-found node before tells.keeper content cause has refused (let s = t.served in s.found))
-  cut-given _ _ t (given_no_epoch f last) = absurd (not-used-up node before tells.keeper f _ t.served last)
-  cut-given _ _ t (given_frames text status left served way) = cut text left served t
+  cut-given _ _ t (given_no_epoch f last) = absurd (not-used-up node before tells.keeper f _ (leads-of node before.keeper.kept tells.keeper _ t.served) last)
+  cut-given _ _ t (given_frames text status left leads way) = cut text left leads t
 
   module _ (text : List ℕ) (left : before.source.left ≡ Some text) where
     told : (status : Status) (t : ServedWhole node before after) → unframed_of node.server t.read ≡ unframed_of node.server text → EndsBy node.server text (state_then t.served) status
         → EndsAsGiven node before after.sink status
     told status t same way = let e = ap (λ (u : Unframed). u.frames) (sym same) in
+        let leads = leads-of node before.keeper.kept tells.keeper (frames_of node.server t.read) t.served in
         as_given status (sent_bytes node.server t.served.sent)
-        (given_frames text status left (renamed (frames_of node.server t.read) (frames_of node.server text) e t.served) way) t.written
+        (given_frames text status left (renamed (frames_of node.server t.read) (frames_of node.server text) e leads) way) t.written
 
     ending : (status : Status) → NodeEnds node before after status → EndsAsGiven node before after.sink status
     ending _ (node_done e saves) =

@@ -1,21 +1,37 @@
--- Where its frames can be served, a node is given one end. Whether an image is sound or a state settled isn't computed here, so what is shown is that it
--- can't be that none is given.
-use Rattle.jn_node_laws.proofs.Common.{◌≡◌, ⊎_elim, ℕ, ◌+◌, ◌≤◌, ◌<◌, true, false, List, [], ◌∷◌, length, take, Option, Some, None, is_some, refl, sym, ap, subst, arith, true≢false, ServerNo, Contents, image_bytes, image_counts, Has, image_name, DeviceState, AreSound, HasPages, files_in, pages_by, Counts, StableState, frames_of, held_of, most_bytes, nothing_held, Outside, sent_bytes, ◌^◌, cases_lt, take_all, sound_pages, seen, Image, IsSoundImage, refusal_text, Cause, IsRefused, half_at, page_state, IsFound, Served, epoch_found, state_then, Node, epoch_by, last_epoch, root_by, Status, WireFault, CanServe, KeepsBytes, SomeEndIsGiven, Tell, EndsBy, EndsWhole, IsGiven, given_frames, given_no_epoch, given_refused, has_no_epoch, has_no_frame, has_waiting, is_at_fault, is_cut_off, is_done, is_too_long}
+-- A node whose image is found is given an end. Whether an image is sound isn't computed here, so of any node it is shown that it can't be that none is given.
+use Rattle.jn_node_laws.proofs.Common.{◌≡◌, ⊎_elim, ℕ, ◌+◌, ◌≤◌, ◌<◌, true, false, List, [], ◌∷◌, length, take, Option, Some, None, is_some, refl, sym, ap, subst, arith, true≢false, ServerNo, Contents, image_bytes, image_counts, Has, image_name, DeviceState, HasPages, files_in, StableState, frames_of, held_of, most_bytes, nothing_held, Outside, sent_bytes, ◌^◌, cases_lt, take_all, seen, Image, IsSoundImage, refusal_text, Cause, IsRefused, half_at, page_state, IsFound, epoch_found, Node, last_epoch, Status, WireFault, KeepsBytes, Framed, pairs_view, SomeEndIsGiven, EndsBy, EndsWhole, IsGiven, given_frames, given_no_epoch, given_refused, has_no_epoch, has_no_frame, has_waiting, is_at_fault, is_cut_off, is_done, is_too_long, first_books, Leads, AreListed, Books, FoundIsGiven, ◌⊎◌, inl, inr, WorkId, Tid, work_eq, tid_eq, work_tells, tid_tells, IsListing}
+use Rattle.jn_node_laws.proofs.Lists.{itself}
+use Rattle.jn_server.proofs.Settled.{none-listed, none-there}
+use Rattle.jn_server.specs.Settled.{IsSettledState}
 use Rattle.jn_image.proofs.Again.{found_bytes, found_fit, found_form}
 use Rattle.jn_image.specs.Faults.{bad_of}
 use Rattle.jn_image.specs.Reading.{image_in}
 use Rattle.jn_image.specs.declared.fault.BadImage.{BadImage}
 use Rattle.jn_image_files.specs.declared.refusal.Cause.TheVariants as causes
 use Rattle.jn_memdisk.specs.Disk.{IsNew}
-use Rattle.jn_records.proofs.Roots.{root_is_read}
 use Rattle.jn_status.specs.declared.status.Status.TheVariants.{Done, Image as Refused, Limit, Unsettled, Frame}
-use Rattle.jn_node_laws.proofs.Ends.{end-alike, left-some}
+use Rattle.jn_node_laws.proofs.Ends.{left-some}
+use Rattle.jn_node_laws.proofs.Images.{image-fresh}
+use Rattle.jn_node_laws.proofs.Lasting.{all-epoch}
+use Rattle.jn_node_laws.proofs.Leading.{ReadCanBeTaken, leads-somewhere}
 use Rattle.jn_node_laws.proofs.Inputs.{place}
-use Rattle.jn_node_laws.proofs.Pages.{is-fresh}
 use Rattle.jn_node_laws.proofs.Refusals.{is-sound}
 
 at-last : (n : ℕ) → last_epoch ≤ n → n < 2 ^ 32 → n ≡ last_epoch
 at-last n past few = omega (arith, past, few)
+
+same-epoch : (n : ℕ) → last_epoch ≤ n → n ≤ last_epoch → n ≡ last_epoch
+same-epoch n past few = omega (arith, past, few)
+
+-- whether nobody waits for a server is seen by what is listed of it
+settled-or-not : (b : Books) → AreListed b → IsSettledState b.found ⊎ (IsSettledState b.found → ⊥)
+settled-or-not b l = by l.works l.works_all l.flags l.flags_all
+  where
+    by : (works : List WorkId) → IsListing work_eq (λ W. is_some (b.found.works W)) works → (flags : List Tid) → IsListing tid_eq (λ T. is_some (b.found.flags T)) flags
+        → IsSettledState b.found ⊎ (IsSettledState b.found → ⊥)
+    by [] w [] f = inl (record { works = none-there work_eq b.found.works [] w refl; flags = none-there tid_eq b.found.flags [] f refl })
+    by (W ∷ works) w flags f = inr (λ settled. let e = none-listed work_eq b.found.works (itself work_eq work_tells) (W ∷ works) w settled.works in absurd (omega (arith, e)))
+    by [] w (T ∷ flags) f = inr (λ settled. let e = none-listed tid_eq b.found.flags (itself tid_eq tid_tells) (T ∷ flags) f settled.flags in absurd (omega (arith, e)))
 
 -- ---- a disk of an image
 
@@ -56,58 +72,59 @@ module _ (node : Node) (before : Outside) where
 
   found-epoch : (f : IsFound node before.keeper.kept) → epoch_found f < 2 ^ 32
   found-epoch f =
-      let opened = f.opened in let kept = opened.disk in let is = kept.is_sound in
-      let are : AreSound kept.image.version node.server f.counts kept.image.pages = subst (λ (g : Counts). AreSound kept.image.version node.server g kept.image.pages) kept.counts
-      (sound_pages kept.image node.server is.form is.sound) in
-      let fresh = is-fresh kept.image.version node.server f.counts kept.image.pages are f.disk kept.pages in
-      let sound = are.sound in
-      subst (λ (n : ℕ). n < 2 ^ 32) (sym (ap (λ (z : StableState). z.epoch) (fresh.found (λ n. false)))) sound.root.1
+      let alone = image-fresh before.keeper.kept node.opening node.server f.counts f.files f.disk f.opened in let fresh = alone.fresh in
+      subst (λ (n : ℕ). n < 2 ^ 32) (sym (ap (λ (z : StableState). z.epoch) (fresh.found (λ n. false)))) alone.small
 
-  module _ (tells : Tell before) (text : List ℕ) (served : Served node before.keeper.kept (frames_of node.server text)) where
-    state-epoch : (state_then served).epoch < 2 ^ 32
-    state-epoch =
-        let alike = end-alike node before tells.keeper (frames_of node.server text) (frames_of node.server text) served served refl in
-        let moment = let a = alike.1 in a.moment in
-        let found = let r = moment.recoverable in r.each (λ n. false) in
-        let (version, epoch, is, page) = let o = found.of_format in o.root in
-        subst (λ (n : ℕ). n < 2 ^ 32)
-        (sym (ap epoch_by (root_is_read (pages_by served.last.store (λ n. false) 0) (record (root_by node.server served.found.counts epoch) { version = version }) is page))) is.epoch
+  -- it comes up in the next epoch, and serves all frames in that
+  epoch-left : (frames : List Framed) (leads : Leads node before.keeper.kept frames) → leads.last.found.epoch ≤ last_epoch
+  epoch-left frames leads =
+      let same = all-epoch node.server leads.found.counts (first_books node.server leads.found.counts (pairs_view leads.found.disk)) leads.last frames leads.sent leads.serves in
+      no-later leads.last.found.epoch (epoch_found leads.found) same leads.before_last
+    where
+      no-later : (now was : ℕ) → now ≡ was + 1 → was < last_epoch → now ≤ last_epoch
+      no-later now was e less = omega (arith, e, less)
 
   -- ---- one of the ends
 
-  module _ (tells : Tell before) (small : KeepsBytes node before) (can : CanServe node before) (none : (status : Status) (text : List ℕ) → IsGiven node before status text → ⊥) where
-    module _ (text : List ℕ) (left : before.source.left ≡ Some text) (served : Served node before.keeper.kept (frames_of node.server text)) where
-      not-by : (status : Status) → EndsBy node.server text (state_then served) status → ⊥
-      not-by status way = none status (sent_bytes node.server served.sent) (given_frames text status left served way)
+  abbrev HasEnd : Type 0
+  HasEnd = (status : Status) × (text : List ℕ) × IsGiven node before status text
 
-      at-whole : EndsWhole node.server text → ⊥
-      at-whole whole = not-by Unsettled (has_waiting whole (λ settled. ⊎_elim
-          (λ less. not-by Done (is_done whole settled less))
-          (λ past. not-by Limit (has_no_epoch whole settled (at-last (state_then served).epoch past (state-epoch tells text served))))
-          (cases_lt (state_then served).epoch last_epoch)))
+  module _ (text : List ℕ) (left : before.source.left ≡ Some text) (leads : Leads node before.keeper.kept (frames_of node.server text)) (listed : AreListed leads.last) where
+    ends-by : (status : Status) → EndsBy node.server text leads.last.found status → HasEnd
+    ends-by status way = (status, sent_bytes node.server leads.sent, given_frames text status left leads way)
 
-      at-end : length text ≤ most_bytes → (held_of node.server text).fault ≡ None → (held_of node.server text).bytes ≡ [] → (held_of node.server text).at ≡ length text
-      at-end fits free none =
-          let all : (held_of node.server text).at + length (held_of node.server text).bytes ≡ 0 + 0 + length (take most_bytes text) = place node.server (nothing_held 0) (take most_bytes text) free in
-          let held : length (held_of node.server text).bytes ≡ 0 = ap length none in
-          let whole = ap length (take_all most_bytes text fits) in
-          omega (arith, all, held, whole)
+    at-whole : EndsWhole node.server text → HasEnd
+    at-whole whole = ⊎_elim
+        (λ settled. ⊎_elim
+        (λ less. ends-by Done (is_done whole settled less))
+        (λ past. ends-by Limit (has_no_epoch whole settled (same-epoch leads.last.found.epoch past (epoch-left (frames_of node.server text) leads))))
+        (cases_lt leads.last.found.epoch last_epoch))
+        (λ waits. ends-by Unsettled (has_waiting whole waits))
+        (settled-or-not leads.last listed)
 
-      by-bytes : length text ≤ most_bytes → (held_of node.server text).fault ≡ None → (bytes : List ℕ) → (held_of node.server text).bytes ≡ bytes → ⊥
-      by-bytes fits free [] e = at-whole (record { fits = fits; whole = λ i. record { at = at-end fits free e i; bytes = e i; fault = free i } })
-      by-bytes fits free (b ∷ bytes) e = not-by Frame (has_no_frame (is_cut_off fits free (subst (λ (l : List ℕ). 0 < length l) (sym e) (omega arith))))
+    at-end : length text ≤ most_bytes → (held_of node.server text).fault ≡ None → (held_of node.server text).bytes ≡ [] → (held_of node.server text).at ≡ length text
+    at-end fits free none =
+        let all : (held_of node.server text).at + length (held_of node.server text).bytes ≡ 0 + 0 + length (take most_bytes text) = place node.server (nothing_held 0) (take most_bytes text) free in
+        let held : length (held_of node.server text).bytes ≡ 0 = ap length none in
+        let whole = ap length (take_all most_bytes text fits) in
+        omega (arith, all, held, whole)
 
-      by-fault : (o : Option WireFault) → (held_of node.server text).fault ≡ o → ⊥
-      by-fault (Some f) e = not-by Frame (has_no_frame (is_at_fault (ap is_some e)))
-      by-fault None e = ⊎_elim (λ past. not-by Limit (is_too_long (record { none = e; past = past }))) (λ fits. by-bytes fits e (held_of node.server text).bytes refl)
-          (cases_lt most_bytes (length text))
+    by-bytes : length text ≤ most_bytes → (held_of node.server text).fault ≡ None → (bytes : List ℕ) → (held_of node.server text).bytes ≡ bytes → HasEnd
+    by-bytes fits free [] e = at-whole (record { fits = fits; whole = λ i. record { at = at-end fits free e i; bytes = e i; fault = free i } })
+    by-bytes fits free (b ∷ bytes) e = ends-by Frame (has_no_frame (is_cut_off fits free (subst (λ (l : List ℕ). 0 < length l) (sym e) (omega arith))))
 
-    by-found : (text : List ℕ) → before.source.left ≡ Some text → IsFound node before.keeper.kept → ⊥
-    by-found text left f = ⊎_elim
-        (λ less. by-fault text left (can text left f less) (held_of node.server text).fault refl)
-        (λ past. none Limit [] (given_no_epoch f (at-last (epoch_found f) past (found-epoch f))))
-        (cases_lt (epoch_found f) last_epoch)
+    by-fault : (o : Option WireFault) → (held_of node.server text).fault ≡ o → HasEnd
+    by-fault (Some f) e = ends-by Frame (has_no_frame (is_at_fault (ap is_some e)))
+    by-fault None e = ⊎_elim (λ past. ends-by Limit (is_too_long (record { none = e; past = past }))) (λ fits. by-bytes fits e (held_of node.server text).bytes refl)
+        (cases_lt most_bytes (length text))
 
+  by-found : ReadCanBeTaken → (text : List ℕ) → before.source.left ≡ Some text → IsFound node before.keeper.kept → HasEnd
+  by-found may text left f = ⊎_elim
+      (λ less. let led = leads-somewhere may node before.keeper.kept text f less in by-fault text left led.0 led.1 (held_of node.server text).fault refl)
+      (λ past. (Limit, [], given_no_epoch f (at-last (epoch_found f) past (found-epoch f))))
+      (cases_lt (epoch_found f) last_epoch)
+
+  module _ (small : KeepsBytes node before) (may : ReadCanBeTaken) (none : (status : Status) (text : List ℕ) → IsGiven node before status text → ⊥) where
     module _ (text : List ℕ) (left : before.source.left ≡ Some text) where
       refused : (content : Option (List ℕ)) → Has before.keeper.kept (image_name node.opening node.server.0) content → (cause : Cause) → IsRefused node.server content cause → ⊥
       refused content has cause is = none Refused (refusal_text (record { server = node.server; cause = cause })) (given_refused content cause has is)
@@ -120,8 +137,8 @@ module _ (node : Node) (before : Outside) where
           let same = ap (λ (l : List ℕ). Some l) (found_bytes bytes fit e) in
           is-sound node.server (seen (image_in bytes))
           (λ fault first. refused (Some bytes) has (causes.Unsound fault) (image_in bytes, form, found_fit bytes fit e, same, first))
-          (λ sound. by-found text left (found-of (image_in bytes) (record { form = form; sound = sound })
-          (subst (λ (o : Option (List ℕ)). Has before.keeper.kept (image_name node.opening node.server.0) o) same has)))
+          (λ sound. let (status, its, given) = by-found may text left (found-of (image_in bytes) (record { form = form; sound = sound })
+          (subst (λ (o : Option (List ℕ)). Has before.keeper.kept (image_name node.opening node.server.0) o) same has)) in none status its given)
 
       by-content : (content : Option (List ℕ)) → Has before.keeper.kept (image_name node.opening node.server.0) content → ⊥
       by-content None has = refused None has causes.Missing refl
@@ -131,8 +148,11 @@ holds-some : (kept : Option Contents) (name : List ℕ) → is_some kept ≡ tru
 holds-some None name h = absurd (true≢false (sym h))
 holds-some (Some holds) name h = (holds name, refl)
 
-pub some-given : SomeEndIsGiven
-some-given node before tells small can none =
+pub found-given : ReadCanBeTaken → FoundIsGiven
+found-given may node before tells f = let (text, left) = left-some before.source.left tells.source in by-found node before may text left f
+
+pub some-given : ReadCanBeTaken → SomeEndIsGiven
+some-given may node before tells small none =
     let (text, left) = left-some before.source.left tells.source in
     let (content, has) = holds-some before.keeper.kept (image_name node.opening node.server.0) tells.keeper in
-    by-content node before tells small can none text left content has
+    by-content node before small may none text left content has

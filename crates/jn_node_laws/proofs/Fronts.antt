@@ -1,25 +1,25 @@
--- What a server that served the first of some frames has sent is a front of what it sends by all of them.
-use Rattle.jn_node_laws.proofs.Common.{◌≡◌, ⊎_elim, ℕ, List, [], ◌∷◌, ◌++◌, length, take, Option, Some, None, refl, sym, ◌∙◌, ap, arith, ServerNo, Counts, Sent, Framed, Running, NoFrame, OneMore, ServesFrames, sent_bytes, WritesFront, SinkState, take-append_seam, cases_lt, append-nil, append_assoc, take-append-le, take_all, append_known}
+-- What a server sends by the first of some frames is a front of what it sends by all of them.
+use Rattle.jn_node_laws.proofs.Common.{◌≡◌, ⊎_elim, ℕ, List, [], ◌∷◌, ◌++◌, length, take, Option, Some, None, refl, sym, ◌∙◌, ap, arith, ServerNo, Counts, Sent, Framed, sent_bytes, WritesFront, SinkState, take-append_seam, cases_lt, append-nil, append_assoc, take-append-le, take_all, append_known, Books, BooksServeAll, ServeNone, ServeOneMore, writes-nothing}
 use Rattle.jn_node.proofs.Following.{bytes-both}
 
 -- ---- frames
 
--- it serves the first of them before the others
-pub record ServesFirst (s : ServerNo) (g : Counts) (x : Running) (frames : List Framed) (sent : List Sent) : Type 0 where
-  pub last : Running
+-- the first of them lead on to the others
+pub record LeadsFirst (s : ServerNo) (g : Counts) (b : Books) (frames : List Framed) (sent : List Sent) : Type 0 where
+  pub last : Books
   pub first : List Sent
   pub later : List Sent
-  pub serves : ServesFrames s g x frames first last
+  pub serves : BooksServeAll s g b frames first last
   pub both : sent ≡ first ++ later
 
-pub serves-first : (s : ServerNo) (g : Counts) (x : Running) (frames more : List Framed) (sent : List Sent) (z : Running) → ServesFrames s g x (frames ++ more) sent z → ServesFirst s g x frames sent
-serves-first s g x [] more sent z h = record { last = x; first = []; later = sent; serves = NoFrame x; both = refl }
-serves-first s g x (f ∷ frames) more _ z (OneMore _ y _ _ _ sent rest one all) =
-    let h = serves-first s g y frames more rest z all in record {
+pub leads-first : (s : ServerNo) (g : Counts) (b : Books) (frames more : List Framed) (sent : List Sent) (d : Books) → BooksServeAll s g b (frames ++ more) sent d → LeadsFirst s g b frames sent
+leads-first s g b [] more sent d h = record { last = b; first = []; later = sent; serves = ServeNone b; both = refl }
+leads-first s g b (f ∷ frames) more _ d (ServeOneMore _ c _ _ _ sent rest one all) =
+    let h = leads-first s g c frames more rest d all in record {
       last = h.last;
       first = sent ++ h.first;
       later = h.later;
-      serves = OneMore x y h.last f frames sent h.first one h.serves;
+      serves = ServeOneMore b c h.last f frames sent h.first one h.serves;
       both = ap (λ (l : List Sent). sent ++ l) h.both ∙ sym (append_assoc sent h.first h.later);
     }
 
@@ -37,12 +37,8 @@ front-of-longer text more sink now h = let (n, took) = h.took in let (m, same) =
     record { took = (m, took ∙ ap (append_known sink.taken) (sym same)); faults = h.faults }
 
 -- nothing is a front of each text
-pub known-nothing : (o : Option (List ℕ)) → append_known o [] ≡ o
-known-nothing None = refl
-known-nothing (Some l) = ap (λ (k : List ℕ). Some k) (append-nil l)
-
 pub front-of-all : (text : List ℕ) (sink : SinkState) → WritesFront text sink sink
-front-of-all text sink = record { took = (0, sym (known-nothing sink.taken)); faults = refl }
+front-of-all text sink = record { took = (0, (writes-nothing sink).took); faults = refl }
 
 pub front-sent : (s : ServerNo) (sent first later : List Sent) (sink now : SinkState) → sent ≡ first ++ later → WritesFront (sent_bytes s first) sink now → WritesFront (sent_bytes s sent) sink now
 front-sent s sent first later sink now both h =

@@ -131,7 +131,7 @@ module _ (s : ServerNo) (text : List ℕ) (source : SourceState) (left : source.
       (ap (unframed_of s) same, subst (λ (l : List ℕ). EndsWhole s l) same (record { fits = e.fits; whole = e.whole }))
 
   module _ (read : List ℕ) (later : SourceState) (gave : Gave read source later) where
-    -- what it has left stands behind what was read
+    -- what it has left follows what was read
     read-and-rest : read ++ drop (length read) text ≡ text
     read-and-rest = ap (λ (l : List ℕ). l ++ drop (length read) text) (sym front) ∙ take-append-drop (length read) text
       where

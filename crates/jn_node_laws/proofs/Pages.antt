@@ -1,13 +1,15 @@
--- Servers that come up on the pages of one sound image are alike.
-use Rattle.jn_node_laws.proofs.Common.{◌≡◌, ℕ, ◌<◌, ◌+◌, ◌*◌, Bool, true, false, List, [], ◌∷◌, Option, is_some, refl, sym, ◌∙◌, ap, subst, arith, true≢false, ◌/◌, ◌||◌, if◌then◌else◌, nat_lt, list_any, nat_tests, ServerNo, Tid, WorkId, tid_eq, work_eq, tid_tells, work_tells, DeviceState, AreSound, HasPages, files_in, image_of, found_on, half_of, pages_by, Counts, Pages, page_count, Pick, StableState, beside_on, Tells, pairs_view, restored, Memory, with_epoch, Running, state_of, IsOpen, AreAlike, AreNamed, half_at}
+-- A server that comes up on the pages of a sound image has its first books, which are the same on all disks of that image.
+use Rattle.jn_node_laws.proofs.Common.{◌≡◌, ℕ, ◌<◌, ◌+◌, ◌*◌, Bool, true, false, List, [], ◌∷◌, Option, is_some, refl, sym, ◌∙◌, ap, subst, arith, true≢false, ◌/◌, ◌||◌, if◌then◌else◌, nat_lt, list_any, nat_tests, ServerNo, Tid, WorkId, tid_eq, work_eq, tid_tells, work_tells, DeviceState, AreSound, HasPages, files_in, image_of, found_on, half_of, pages_by, Counts, Pages, page_count, Pick, StableState, beside_on, Tells, pairs_view, restored, with_epoch, Running, state_of, IsOpen, AreAlike, AreNamed, half_at, IsFresh, IsStoreOf, only_files, standing_pages, beside_at, Books, first_books}
 use Rattle.std.proofs.Math.Path.{fun_ext}
 use Rattle.jn_device.specs.declared.Half.{Half}
 use Rattle.jn_locks.specs.Locks.{work_before}
-use Rattle.jn_page_state.specs.Images.{IsFresh, IsStoreOf, only_files}
 use Rattle.jn_page_state.specs.Pages as stands
 use Rattle.jn_page_state.proofs.ImageStates.{image_fresh}
 use Rattle.jn_system.specs.WholeSystem.Steps.{AreNames, tid_before}
 use Rattle.jn_node_laws.proofs.Lists.{itself}
+use Rattle.jn_node_laws.proofs.Rooms.{books_of}
+use Rattle.jn_node_laws.proofs.Rows.{AllWhole}
+use Rattle.jn_node_laws.proofs.Stepping.{IsBetween}
 
 -- ---- a disk of these pages
 
@@ -65,21 +67,14 @@ module _ (s : ServerNo) (z : StableState) (works : List WorkId) (tids : List Tid
 pub restored-names : (s : ServerNo) (z : StableState) → ((W : WorkId) → is_some (z.works W) ≡ false) → AreNamed (z.epoch + 1) (restored s z [] []) (with_epoch z)
 restored-names s z none = record { tickets = refl; live = tt; prepared = λ W h. absurd (true≢false (sym h ∙ none W)) }
 
--- ---- two servers
+-- ---- a server that comes up
 
-module _ (version : ℕ) (s : ServerNo) (g : Counts) (halves : List Half) (are : AreSound version s g halves) (d e : DeviceState) (mine : HasPages halves d) (its : HasPages halves e) (x y : Running)
-    (up : IsOpen s g (pairs_view d) x) (over : IsOpen s g (pairs_view e) y) where
+module _ (version : ℕ) (s : ServerNo) (g : Counts) (halves : List Half) (are : AreSound version s g halves) (d : DeviceState) (has : HasPages halves d) where
   abbrev z : StableState
-  z = found_on g (pairs_view d) up.pick
-
-  same-found-pages : pages_by (pairs_view e) over.pick ≡ pages_by (pairs_view d) up.pick
-  same-found-pages = pages-are version s g halves are e its over.pick ∙ sym (pages-are version s g halves are d mine up.pick)
-
-  same-z : found_on g (pairs_view e) over.pick ≡ z
-  same-z = ap (stands.state_of g) same-found-pages
+  z = found_on g (pairs_view d) (λ n. false)
 
   files-alone : z ≡ only_files (let sound = are.sound in sound.root.0) (files_in g halves)
-  files-alone = let fresh = is-fresh version s g halves are d mine in fresh.found up.pick
+  files-alone = let fresh = is-fresh version s g halves are d has in fresh.found (λ n. false)
 
   no-works : (W : WorkId) → is_some (z.works W) ≡ false
   no-works W = ap (λ (k : StableState). is_some (k.works W)) files-alone
@@ -87,24 +82,50 @@ module _ (version : ℕ) (s : ServerNo) (g : Counts) (halves : List Half) (are :
   no-flags : (T : Tid) → is_some (z.flags T) ≡ false
   no-flags T = ap (λ (k : StableState). is_some (k.flags T)) files-alone
 
-  x-remembers : x.memory ≡ restored s z [] []
-  x-remembers = up.memory ∙ restored-is s z up.works up.tids up.work_names up.flag_names no-works no-flags
+  module _ (x : Running) (up : IsOpen s g (pairs_view d) x) where
+    same-pages : pages_by (pairs_view d) up.pick ≡ standing_pages (pairs_view d)
+    same-pages = pages-are version s g halves are d has up.pick ∙ sym (pages-are version s g halves are d has (λ n. false))
 
-  y-remembers : y.memory ≡ restored s z [] []
-  y-remembers = over.memory ∙ ap (λ (k : StableState). restored s k over.works over.tids) same-z
-      ∙ restored-is s z over.works over.tids (subst (λ (k : StableState). AreNames work_eq work_before k.works over.works) same-z over.work_names)
-      (subst (λ (k : StableState). AreNames tid_eq tid_before k.flags over.tids) same-z over.flag_names) no-works no-flags
+    same-z : found_on g (pairs_view d) up.pick ≡ z
+    same-z = ap (stands.state_of g) same-pages
 
-  x-state : state_of g x ≡ with_epoch z
-  x-state = up.found (λ n. false)
+    remembers : x.memory ≡ restored s z [] []
+    remembers = up.memory ∙ ap (λ (k : StableState). restored s k up.works up.tids) same-z
+        ∙ restored-is s z up.works up.tids (subst (λ (k : StableState). AreNames work_eq work_before k.works up.works) same-z up.work_names)
+        (subst (λ (k : StableState). AreNames tid_eq tid_before k.flags up.tids) same-z up.flag_names) no-works no-flags
 
-  pub up-alike : AreAlike s g x y
-  up-alike = record {
-    memory = y-remembers ∙ sym x-remembers;
-    found = over.found (λ n. false) ∙ ap with_epoch same-z ∙ sym x-state;
-    beside = over.beside ∙ ap (λ (p : Pages). record (beside_on g p) { rubbish = 0 }) same-found-pages ∙ sym up.beside;
-    named = subst (λ (k : StableState). AreNamed k.epoch x.memory k) (sym x-state) (subst (λ (m : Memory). AreNamed (z.epoch + 1) m (with_epoch z)) (sym x-remembers) (restored-names s z no-works));
-    whole = λ W. ap (λ (m : Memory). m.next W) x-remembers;
-    moment = up.moment;
-    other = over.moment;
-  }
+    pub up-books : books_of g x ≡ first_books s g (pairs_view d)
+    up-books = λ i. record { memory = remembers i; found = found i; beside = beside i }
+      where
+        found : state_of g x ≡ with_epoch z
+        found = up.found (λ n. false) ∙ ap with_epoch same-z
+
+        beside : beside_at g x ≡ record (beside_on g (standing_pages (pairs_view d))) { rubbish = 0 }
+        beside = up.beside ∙ ap (λ (p : Pages). record (beside_on g p) { rubbish = 0 }) same-pages
+
+    pub up-between : IsBetween s g x
+    up-between = record {
+      steady = record { named = subst (λ (b : Books). AreNamed b.found.epoch b.memory b.found) (sym up-books) (restored-names s z no-works); moment = up.moment };
+      whole = subst (λ (b : Books). AllWhole b.memory.next) (sym up-books) (λ W. refl);
+    }
+
+-- ---- two disks of one image
+
+module _ (version : ℕ) (s : ServerNo) (g : Counts) (halves : List Half) (are : AreSound version s g halves) (d e : DeviceState) (mine : HasPages halves d) (its : HasPages halves e) where
+  pub same-first : first_books s g (pairs_view e) ≡ first_books s g (pairs_view d)
+  same-first = ap (λ (p : Pages). record { memory = restored s (stands.state_of g p) [] []; found = with_epoch (stands.state_of g p); beside = record (beside_on g p) { rubbish = 0 } })
+      (pages-are version s g halves are e its (λ n. false) ∙ sym (pages-are version s g halves are d mine (λ n. false)))
+
+  pub up-alike : (x y : Running) → IsOpen s g (pairs_view d) x → IsOpen s g (pairs_view e) y → AreAlike s g x y
+  up-alike x y up over =
+      let same = up-books version s g halves are e its y over ∙ same-first ∙ sym (up-books version s g halves are d mine x up) in
+      let between = up-between version s g halves are d mine x up in let steady = between.steady in
+      record {
+        memory = ap (λ (b : Books). b.memory) same;
+        found = ap (λ (b : Books). b.found) same;
+        beside = ap (λ (b : Books). b.beside) same;
+        named = steady.named;
+        whole = between.whole;
+        moment = up.moment;
+        other = over.moment;
+      }

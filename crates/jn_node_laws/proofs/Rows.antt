@@ -1,12 +1,8 @@
 -- What each row of a server keeps: all works are of one epoch, and a part of one is carried out only between two steps.
-use Rattle.jn_node_laws.proofs.Common.{◌≡◌, ◌⊎◌, inl, inr, ⊎_elim, ℕ, ◌+◌, Bool, true, false, List, [], ◌∷◌, ◌++◌, Option, Some, None, is_some, refl, sym, ◌∙◌, ap, subst, true≢false, if◌then◌else◌, AllByRecursion, none-some, same_Some, Tid, WorkId, work_eq, work_tells, Message, CoordinatorTable, RowOutcome, Sent, StableState, Prepared, at_work, gone_on, made_all, ready_work, WorkerTable, Wanted, after_grant, breaks_at, broken_by, commit_wants, counted, done, going_work, name_from, new_work, timed_out, timeout_row, vulnerable, with_phase, without, work_at, work_of, worker_row, Work, Room, of_coordinator, of_timeout, of_worker, server_row, server_step, server_timeout, storage_of, Memory, Aside, coordinator-aside, flags-all, coordinator_row, AreNamed, IsNamedIn}
-use Rattle.jn_base.specs.declared.names.LockUnit.{LockUnit}
-use Rattle.jn_base.specs.declared.names.Tickets.{Tickets}
+use Rattle.jn_node_laws.proofs.Common.{◌≡◌, ◌⊎◌, inl, inr, ⊎_elim, ℕ, ◌+◌, Bool, true, false, List, [], ◌∷◌, ◌++◌, Option, Some, None, is_some, refl, sym, ◌∙◌, ap, subst, true≢false, if◌then◌else◌, AllByRecursion, none-some, same_Some, Tid, WorkId, work_eq, work_tells, Message, CoordinatorTable, RowOutcome, Sent, StableState, Prepared, at_work, gone_on, made_all, ready_work, WorkerTable, Wanted, after_grant, breaks_at, broken_by, commit_wants, counted, done, going_work, name_from, new_work, timed_out, timeout_row, vulnerable, with_phase, without, work_at, work_of, worker_row, Work, Room, of_coordinator, of_timeout, of_worker, server_row, server_step, server_timeout, storage_of, Memory, Aside, coordinator-aside, flags-all, coordinator_row, AreNamed, IsNamedIn, LockUnit, Tickets, row-either, row-of-step, WorkerCase, opens_anew, refuses_next, performs_next, prepares_it, marks_it, drops_it, removes_it, WorkerStep, carries_out, is_over, erases_rubbish, its_answer, its_wants, worker-case, worker-step-case}
 use Rattle.jn_msgs.specs.declared.message.Note.{Note}
 use Rattle.jn_rows.specs.declared.worker.Phase.{Phase}
 use Rattle.jn_rows.specs.declared.worker.Phase.TheVariants.{Active, Prepared as Prepares}
-use Rattle.jn_system.proofs.WholeSystem.ServerRows.{row-either, row-of-step}
-use Rattle.jn_system.proofs.WholeSystem.WorkerCases.{WorkerCase, opens_anew, refuses_next, performs_next, prepares_it, marks_it, drops_it, removes_it, WorkerStep, carries_out, is_over, erases_rubbish, its_answer, its_wants, worker-case, worker-step-case}
 
 -- ---- the works of a table
 

@@ -1,14 +1,16 @@
 -- What follows from what a node leaves: with an outside that tells and doesn't fail it ends in one way, or for want of memory.
-use Rattle.std.specs.Prelude.{◌≡◌, ◌≢◌, ◌<◌, ℕ, Bool, true, false, List, get_or, Some, is_some}
+use Rattle.std.specs.Prelude.{◌≡◌, ◌≢◌, ◌<◌, ℕ, Bool, true, false, List, get_or, Option, Some, is_some}
+use Rattle.jn_host.specs.Outside.{Contents}
 use Rattle.jn_image_files.specs.Kept.{Has, image_name}
-use Rattle.jn_node_laws.specs.Given.{EndsAsGiven, IsGiven}
+use Rattle.jn_node_laws.specs.Given.{EndsAsGiven, IsGiven, Leads}
 use Rattle.jn_options.specs.declared.asked.Node.{Node}
 use Rattle.jn_writing.specs.Outside.{NoneFails, Outside, Writes, WritesFront}
-use Rattle.jn_node_run.specs.Outcome.{IsFound, NodeEnds, Served, epoch_found}
+use Rattle.jn_node_run.specs.Outcome.{IsFound, NodeEnds, Served, epoch_found, state_then}
 use Rattle.jn_records.specs.Pages.{last_epoch}
 use Rattle.jn_serving.specs.Input.{frames_of}
 use Rattle.jn_status.specs.declared.status.Status.{Status}
 use Rattle.jn_status.specs.declared.status.Status.TheVariants.{Done, Image, Limit, Unsettled, Frame, Memory}
+use Rattle.jn_wire.specs.declared.frame.Framed.{Framed}
 
 -- the source tells what it has left, and the keeper what it has
 pub record Tell (before : Outside) : Type 0 where
@@ -60,15 +62,25 @@ NodesAreCutShort = (node : Node) (before after other : Outside) (status : Status
 abbrev pub KeepsBytes : Node → Outside → Type 0
 KeepsBytes node before = (bytes : List ℕ) → Has before.keeper.kept (image_name node.opening node.server.0) (Some bytes) → (i : ℕ) → get_or bytes i 0 < 256
 
--- Whoever is found there with an epoch left can serve all whole frames of the source. So it is where its rows have the memory that they take.
-abbrev pub CanServe : Node → Outside → Type 0
-CanServe node before = (text : List ℕ) → before.source.left ≡ Some text → (f : IsFound node before.keeper.kept) → epoch_found f < last_epoch
-    → Served node before.keeper.kept (frames_of node.server text)
+-- By its books whoever is found there with an epoch left comes to an end with all whole frames of a source.
+abbrev pub FramesLead : Type 0
+FramesLead = (node : Node) (kept : Option Contents) (text : List ℕ) (f : IsFound node kept) → epoch_found f < last_epoch → Leads node kept (frames_of node.server text)
 
--- then it can't be that none is given,
+-- So where an image is found, an end and a text are computed,
+abbrev pub FoundIsGiven : Type 0
+FoundIsGiven = (node : Node) (before : Outside) → Tell before → IsFound node before.keeper.kept → (status : Status) × (text : List ℕ) × IsGiven node before status text
+
+-- and in any case it can't be that none is given.
 abbrev pub SomeEndIsGiven : Type 0
-SomeEndIsGiven = (node : Node) (before : Outside) → Tell before → KeepsBytes node before → CanServe node before → ((status : Status) (text : List ℕ) → IsGiven node before status text → ⊥) → ⊥
+SomeEndIsGiven = (node : Node) (before : Outside) → Tell before → KeepsBytes node before → ((status : Status) (text : List ℕ) → IsGiven node before status text → ⊥) → ⊥
 
--- and where one is given, that is so
-abbrev pub GivenCanServe : Type 0
-GivenCanServe = (node : Node) (before : Outside) (status : Status) (text : List ℕ) → Tell before → IsGiven node before status text → CanServe node before
+-- ---- that it is what is served
+
+-- frames lead to one end by the books
+abbrev pub BooksLeadOnce : Type 0
+BooksLeadOnce = (node : Node) (kept : Option Contents) (frames : List Framed) (leads more : Leads node kept frames) → is_some kept ≡ true → (more.sent ≡ leads.sent) × (more.last ≡ leads.last)
+
+-- and what was served, on the pages of a store, they lead to
+abbrev pub ServedAsBooksLead : Type 0
+ServedAsBooksLead = (node : Node) (kept : Option Contents) (frames : List Framed) (served : Served node kept frames) → is_some kept ≡ true
+    → (leads : Leads node kept frames) × (leads.sent ≡ served.sent) × (leads.last.found ≡ state_then served)

@@ -27,7 +27,7 @@ pub record AreNamed (epoch : ℕ) (m : Memory) (x : StableState) : Type 0 where
   pub live : AllByRecursion (IsNamedIn epoch) m.worker
   pub prepared : (W : WorkId) → is_some (x.works W) ≡ true → W.epoch ≡ epoch
 
--- Between two rows they remember the same, the same is found, and the same stands beside it. All works are of this epoch, and of none is a part
+-- Between two rows they remember the same, the same is found, and the pages hold the same beside it. All works are of this epoch, and of none is a part
 -- carried out.
 pub record AreAlike (s : ServerNo) (g : Counts) (x y : Running) : Type 0 where
   pub memory : y.memory ≡ x.memory

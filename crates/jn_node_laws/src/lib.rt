@@ -1,10 +1,10 @@
 //! What follows from what a node leaves.
 #![tactic(auto)]
 
-ghost use Rattle.jn_node_laws.specs.Ends.{GivenCanServe, NodesAreCutShort, NodesComplete, NodesEndAsGiven, NodesEndInOneWay, NodesEndOnce, OneEndIsGiven, SomeEndIsGiven};
+ghost use Rattle.jn_node_laws.specs.Ends.{BooksLeadOnce, FoundIsGiven, FramesLead, NodesAreCutShort, NodesComplete, NodesEndAsGiven, NodesEndInOneWay, NodesEndOnce, OneEndIsGiven, ServedAsBooksLead, SomeEndIsGiven};
 ghost use Rattle.jn_node_laws.specs.Lockstep.{FramesFixWhatIsSent, ImagesFixServers};
 
-use jn_wire::pieces_join;
+use jn_wire::{pieces_join, what_is_read_can_be_taken};
 
 /// Of two servers of one number and counts that are alike, and are given the same frames, what is sent is the same, and they are alike again.
 pub fn what_is_sent_is_fixed_by_the_frames()
@@ -27,14 +27,35 @@ pub fn one_end_is_given()
     ensures { OneEndIsGiven }
 {}
 
-/// It asks for one, where the frames can be served.
+/// Where its image is found, the end and the text that it asks for are computed.
+pub fn an_image_that_is_found_is_given_an_end()
+    ensures { FoundIsGiven }
+{
+    what_is_read_can_be_taken();
+}
+
+/// In any case it can't be that it asks for none, where what is kept are bytes.
 pub fn some_end_is_given()
     ensures { SomeEndIsGiven }
+{
+    what_is_read_can_be_taken();
+}
+
+/// Whatever bytes a source has, what their whole frames lead to is given by the books of the server.
+pub fn whole_frames_lead_to_an_end()
+    ensures { FramesLead }
+{
+    what_is_read_can_be_taken();
+}
+
+/// What frames lead to by the books is one thing.
+pub fn frames_lead_to_one_end()
+    ensures { BooksLeadOnce }
 {}
 
-/// And where it asks for one, they can be served.
-pub fn what_is_given_can_be_served()
-    ensures { GivenCanServe }
+/// And it is what a server sends and leaves that served the frames on its pages.
+pub fn what_is_served_is_what_the_books_lead_to()
+    ensures { ServedAsBooksLead }
 {}
 
 /// Where no call fails, a node comes to the end that was given and has written that text, or memory runs out and it has written a front of it.
