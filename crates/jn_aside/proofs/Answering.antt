@@ -1,5 +1,6 @@
 -- Answers to clients, without lines aside.
 use Rattle.jn_aside.proofs.Common.{◌≡◌, inl, inr, ℕ, ◌+◌, ◌≤◌, Bool, true, List, [], ◌∷◌, length, Some, None, refl, ◌∙◌, ap, subst, if◌then◌else◌, cases_Bool, Event, AtEvent, Text, Line, when_eq, lines_at, Outstanding, nothing_asked, with_asked, answer_in, fits, after_answer, AllFit, after_answers, refuses_own, after_event, own_in_place, AllOwnInPlace, is_own_refusal, FollowsEvent, after_one, FollowsFrom, is_answer, IsOfEvent, AllOfEvents, Follows, is_aside, plain, count_lines}
+use Rattle.jn_calls.specs.declared.order.Order.TheVariants as orders
 use Rattle.jn_schedule.specs.declared.Event.TheVariants as events
 use Rattle.jn_aside.proofs.Plain.{of-aside, mute, same-of, filter-aside, says-plain, count-plain, Passes, passes-aside, whole}
 
@@ -24,7 +25,8 @@ answers-plain out (l ∷ ls) = elim (cases_Bool (is_aside l.text)) [
 ]
 
 event-plain : (out : Outstanding) (number : ℕ) (e : Event) (ls : List Line) → after_event out number e (plain ls) ≡ after_event out number e ls
-event-plain out number (events.Command c command) ls = ap (λ (b : Bool). if b then out else with_asked out c (Some (record { number = number; command = command }))) (says-plain (refuses_own c number) (mute (refuses_own c number) (λ s n. refl) (λ k a b kind. refl)) ls)
+event-plain out number (events.Command c command) ls = ap (λ (b : Bool). if b then out else with_asked out c (Some (record { number = number; order = orders.Command command }))) (says-plain (refuses_own c number) (mute (refuses_own c number) (λ s n. refl) (λ k a b kind. refl)) ls)
+event-plain out number (events.Call c s call) ls = ap (λ (b : Bool). if b then out else with_asked out c (Some (record { number = number; order = orders.Call s call }))) (says-plain (refuses_own c number) (mute (refuses_own c number) (λ s n. refl) (λ k a b kind. refl)) ls)
 event-plain out number _ ls = refl
 
 one-plain : (out : Outstanding) (number : ℕ) (e : Event) (ls : List Line) → after_one out number e (plain ls) ≡ after_one out number e ls

@@ -1,16 +1,18 @@
 -- One more event, that no line reports.
-use Rattle.jn_aside.proofs.Common.{◌≡◌, ◌⊎◌, inl, inr, ℕ, zero, suc, ◌+◌, ◌<◌, ◌≤◌, Bool, true, false, nat_eq, ◌&&◌, if◌then◌else◌, List, [], ◌∷◌, ◌++◌, append-nil, length, Option, Some, None, refl, sym, ◌∙◌, ap, subst, arith, cases_Bool, ServerNo, ClientNo, Tid, client_eq, AllFiles, Event, When, AtEvent, End, Text, Line, when_eq, lines_at, lines_before, event_at, says_it, history_of, is_in, answer_told, or_also, first_answer_told, performed, operation_in, operations_from, operations_of, OperationsAgree, ShowsFiles, ShownSoFar, Outstanding, nothing_asked, with_asked, answer_in, is_last, fits_asked, fits, after_answer, AllFit, after_answers, refuses_own, after_event, FollowsEvent, after_one, FollowsFrom, is_answer, IsOfEvent, AllOfEvents, Follows, is_show}
+use Rattle.jn_aside.proofs.Common.{◌≡◌, ◌⊎◌, inl, inr, ℕ, zero, suc, ◌+◌, ◌<◌, ◌≤◌, Bool, true, false, nat_eq, ◌&&◌, if◌then◌else◌, List, [], ◌∷◌, ◌++◌, append-nil, length, Option, Some, None, refl, sym, ◌∙◌, ap, subst, arith, cases_Bool, ServerNo, ClientNo, Tid, client_eq, AllFiles, Event, When, AtEvent, End, Text, Line, when_eq, lines_at, lines_before, event_at, says_it, history_of, is_in, answer_told, or_also, reply_told, names_listed, first_reply, replied, done_in, done_from, done_of, Agrees, ShowsFiles, ShownSoFar, Outstanding, nothing_asked, with_asked, answer_in, is_last, fits_asked, fits, after_answer, AllFit, after_answers, refuses_own, after_event, FollowsEvent, after_one, FollowsFrom, is_answer, IsOfEvent, AllOfEvents, Follows, is_show, option_map, is_some, Entry, Wish, call_fits, speaks_to, is_own_refusal, is_addressed, call_reply, DoneTheSame, replay-by_done, AgreesFrom-by_done}
 use Rattle.std.proofs.lemmas.Bool.Decides.{nat_tests}
 use Rattle.jn_base.specs.declared.op.Answer.{Answer}
 use Rattle.jn_base.specs.declared.op.Command.TheVariants as commands
-use Rattle.jn_replay.specs.declared.files.Performed.{Performed}
+use Rattle.jn_calls.specs.declared.order.Order.TheVariants as orders
+use Rattle.jn_calls.specs.declared.reply.Reply.TheVariants as replies
+use Rattle.jn_calls.specs.declared.reply.Wish.TheVariants as wishes
+use Rattle.jn_replay.specs.declared.replied.Replied.{Replied}
 use Rattle.jn_schedule.specs.declared.Event.TheVariants as events
 use Rattle.jn_report.specs.declared.line.Refusal.TheVariants as refusals
 use Rattle.jn_report.specs.declared.line.Text.TheVariants as says
 use Rattle.jn_serial.specs.declared.following.Asked.{Asked}
 use Rattle.jn_report.specs.declared.kinds.Addressed.{Addressed}
 use Rattle.jn_serial.proofs.Growth.{outstanding_after, follows-more}
-use Rattle.jn_serial.proofs.Ops.{DidTheSame, replay_operations-by_ops, OperationsAgreeFrom-by_ops}
 
 abbrev In : Line → List Line → Type 0
 In l [] = ⊥
@@ -40,7 +42,12 @@ below-with n out c o h k d = by (client_eq c d)
 below-event : (n : ℕ) (out : Outstanding) (number : ℕ) (e : Event) (ls : List Line) → number ≤ n → AreBelow n out → AreBelow n (after_event out number e ls)
 below-event n out number (events.Command c command) ls l h = by (says_it (refuses_own c number) ls)
   where
-    by : (b : Bool) → AreBelow n (if b then out else with_asked out c (Some (record { number = number; command = command })))
+    by : (b : Bool) → AreBelow n (if b then out else with_asked out c (Some (record { number = number; order = orders.Command command })))
+    by true = h
+    by false = below-with n out c _ l h
+below-event n out number (events.Call c s call) ls l h = by (says_it (refuses_own c number) ls)
+  where
+    by : (b : Bool) → AreBelow n (if b then out else with_asked out c (Some (record { number = number; order = orders.Call s call })))
     by true = h
     by false = below-with n out c _ l h
 below-event n out number _ ls l h = h
@@ -60,12 +67,20 @@ below-answers : (n : ℕ) (out : Outstanding) (ls : List Line) → AreBelow n ou
 below-answers n out [] h = h
 below-answers n out (l ∷ ls) h = below-answers n (after_answer out (answer_in l.text) l.text) ls (below-answer n out l.text h)
 
--- it answers no later command from the files
+-- it answers no later operation from the files
+abbrev IsSilent : ℕ → Text → Type 0
+IsSilent n x = (c : ClientNo) (j : ℕ) → n < j → answer_told c j x ≡ None
+
+-- nor a later call
 abbrev IsUntold : ℕ → Text → Type 0
-IsUntold n x = (c : ClientNo) (j : ℕ) → n < j → answer_told c j x ≡ None
+IsUntold n x = (wish : Wish) (c : ClientNo) (j : ℕ) (es : List Entry) → n < j → reply_told wish c j es x ≡ None
 
 untold-wider : (n m : ℕ) (x : Text) → n ≤ m → IsUntold n x → IsUntold m x
-untold-wider n m x l h c j k = h c j (omega (arith, l, k))
+untold-wider n m x l h wish c j es k = h wish c j es (omega (arith, l, k))
+
+both-untold : (n : ℕ) (x : Text) → IsSilent n x → ((c : ClientNo) (j : ℕ) → n < j → is_addressed c j (answer_in x) ≡ false) → IsUntold n x
+both-untold n x h k (wishes.Operation op) c j es l = ap (option_map (λ a. replies.Answered a)) (h c j l)
+both-untold n x h k (wishes.Call call) c j es l = ap (λ (b : Bool). if b then call_reply call es x else None) (k c j l)
 
 fits-below : (n : ℕ) (o : Option Asked) (k : ℕ) (x : Text) → Below n o → fits_asked o k x ≡ true → k ≤ n
 fits-below n None k x h f = absurd (cc f)
@@ -74,12 +89,19 @@ fits-below n (Some a) k x h f = grind (arith, nat_tests, h, f)
 other-number : (n : ℕ) (c d : ClientNo) (j k : ℕ) (a : Answer) → k ≤ n → n < j → (if client_eq c d && nat_eq j k then Some a else None) ≡ None
 other-number n c d j k a l h = grind (arith, nat_tests, l, h)
 
+fit-silent : (n : ℕ) (out : Outstanding) (x : Text) → AreBelow n out → fits out (answer_in x) x ≡ true → IsSilent n x
+fit-silent n out (says.Did d k) h f = λ c j l. other-number n c d j k _ (fits-below n (out d) k _ (h d) f) l
+fit-silent n out (says.Read d k bytes) h f = λ c j l. other-number n c d j k _ (fits-below n (out d) k _ (h d) f) l
+fit-silent n out (says.Refused d k refusals.NoFile) h f = λ c j l. other-number n c d j k _ (fits-below n (out d) k _ (h d) f) l
+fit-silent n out (says.Refused d k refusals.Exists) h f = λ c j l. other-number n c d j k _ (fits-below n (out d) k _ (h d) f) l
+fit-silent n out _ h f = λ c j l. refl
+
+other-addressed : (n : ℕ) (out : Outstanding) (o : Option Addressed) (x : Text) → AreBelow n out → fits out o x ≡ true → (c : ClientNo) (j : ℕ) → n < j → is_addressed c j o ≡ false
+other-addressed n out None x h f c j l = refl
+other-addressed n out (Some a) x h f c j l = let b = fits-below n (out a.client) a.number x (h a.client) f in grind (arith, nat_tests, b, l)
+
 fit-untold : (n : ℕ) (out : Outstanding) (x : Text) → AreBelow n out → fits out (answer_in x) x ≡ true → IsUntold n x
-fit-untold n out (says.Did d k) h f = λ c j l. other-number n c d j k _ (fits-below n (out d) k _ (h d) f) l
-fit-untold n out (says.Read d k bytes) h f = λ c j l. other-number n c d j k _ (fits-below n (out d) k _ (h d) f) l
-fit-untold n out (says.Refused d k refusals.NoFile) h f = λ c j l. other-number n c d j k _ (fits-below n (out d) k _ (h d) f) l
-fit-untold n out (says.Refused d k refusals.Exists) h f = λ c j l. other-number n c d j k _ (fits-below n (out d) k _ (h d) f) l
-fit-untold n out _ h f = λ c j l. refl
+fit-untold n out x h f = both-untold n x (fit-silent n out x h f) (other-addressed n out (answer_in x) x h f)
 
 fit-lines : (n : ℕ) (out : Outstanding) (ls : List Line) → AreBelow n out → AllFit out ls → (l : Line) → In l ls → IsUntold n l.text
 fit-lines n out [] h f l i = absurd i
@@ -128,35 +150,45 @@ at-its-event w (x ∷ xs) l e (inl q) = subst (λ (z : List Line). In l z) (sym 
     taken x xs h = rw h refl
 at-its-event w (x ∷ xs) l e (inr i) = elim (cases_Bool (when_eq x.when w)) [ inl h ↦ rw h (inr (at-its-event w xs l e i)) | inr h ↦ rw h (at-its-event w xs l e i) ]
 
-unanswered : (x : Text) → is_answer x ≡ false → (n : ℕ) → IsUntold n x
-unanswered (says.Did d k) e n = absurd (cc e)
-unanswered (says.Read d k bytes) e n = absurd (cc e)
-unanswered (says.Refused d k refusal) e n = absurd (cc e)
-unanswered _ e n = λ c j l. refl
+silent-unless : (x : Text) → is_answer x ≡ false → (n : ℕ) → IsSilent n x
+silent-unless (says.Did d k) e n = absurd (cc e)
+silent-unless (says.Read d k bytes) e n = absurd (cc e)
+silent-unless (says.Refused d k refusal) e n = absurd (cc e)
+silent-unless _ e n = λ c j l. refl
 
-first-untold : (n : ℕ) (ls : List Line) → ((l : Line) → In l ls → IsUntold n l.text) → (c : ClientNo) (j : ℕ) → n < j → first_answer_told c j ls ≡ None
-first-untold n [] h c j l = refl
-first-untold n (x ∷ xs) h c j l = ap (λ o. or_also o (first_answer_told c j xs)) (h x (inl refl) c j l) ∙ first-untold n xs (λ z i. h z (inr i)) c j l
+unaddressed : (b : Bool) (o : Option Addressed) → is_some o ≡ false → (c : ClientNo) (j : ℕ) → is_addressed c j (if b then None else o) ≡ false
+unaddressed true o e c j = refl
+unaddressed false None e c j = refl
+unaddressed false (Some a) e c j = absurd (cc e)
+
+unanswered : (x : Text) → is_answer x ≡ false → (n : ℕ) → IsUntold n x
+unanswered x e n = both-untold n x (silent-unless x e n) (λ c j l. unaddressed (is_own_refusal x) (speaks_to x) e c j)
+
+first-untold : (n : ℕ) (ls : List Line) → ((l : Line) → In l ls → IsUntold n l.text) → (wish : Wish) (c : ClientNo) (j : ℕ) (es : List Entry) → n < j → first_reply wish c j es ls ≡ None
+first-untold n [] h wish c j es l = refl
+first-untold n (x ∷ xs) h wish c j es l =
+    ap (λ o. or_also o (first_reply wish c j (es ++ names_listed c j x.text) xs)) (h x (inl refl) wish c j es l) ∙ first-untold n xs (λ z i. h z (inr i)) wish c j (es ++ names_listed c j x.text) l
 
 -- ---- what a transaction did
 
-op-none : (t : Tid) (ls : List Line) (j : ℕ) (e : Event) → ((c : ClientNo) → first_answer_told c j ls ≡ None) → operation_in t ls j e ≡ []
-op-none t ls j (events.Command c (commands.Do s op)) h = ap (λ o. if is_in c t j ls then performed s op o else []) (h c) ∙ by (is_in c t j ls)
-  where
-    nothing : List Performed
-    nothing = []
+abbrev nothing : List Replied
+nothing = []
 
-    by : (b : Bool) → (if b then nothing else []) ≡ []
-    by true = refl
-    by false = refl
-op-none t ls j _ h = refl
+nothing-by : (b : Bool) → (if b then nothing else []) ≡ []
+nothing-by true = refl
+nothing-by false = refl
 
-ops-last : (t : Tid) (ls : List Line) (j : ℕ) (es : List Event) (e : Event) → operation_in t ls (j + length es) e ≡ [] → operations_from t ls j (es ++ e ∷ []) ≡ operations_from t ls j es
-ops-last t ls j [] e h = append-nil (operation_in t ls j e) ∙ ap (λ n. operation_in t ls n e) (plus-none j) ∙ h
+done-none : (t : Tid) (ls : List Line) (j : ℕ) (e : Event) → ((wish : Wish) (c : ClientNo) → first_reply wish c j [] ls ≡ None) → done_in t ls j e ≡ []
+done-none t ls j (events.Command c (commands.Do s op)) h = ap (λ o. if is_in c t j ls then replied s (wishes.Operation op) o else []) (h (wishes.Operation op) c) ∙ nothing-by (is_in c t j ls)
+done-none t ls j (events.Call c s call) h = ap (λ o. if is_in c t j ls && call_fits call then replied s (wishes.Call call) o else []) (h (wishes.Call call) c) ∙ nothing-by (is_in c t j ls && call_fits call)
+done-none t ls j _ h = refl
+
+done-last : (t : Tid) (ls : List Line) (j : ℕ) (es : List Event) (e : Event) → done_in t ls (j + length es) e ≡ [] → done_from t ls j (es ++ e ∷ []) ≡ done_from t ls j es
+done-last t ls j [] e h = append-nil (done_in t ls j e) ∙ ap (λ n. done_in t ls n e) (plus-none j) ∙ h
   where
     plus-none : (n : ℕ) → n ≡ n + 0
     plus-none n = omega arith
-ops-last t ls j (x ∷ es) e h = ap (λ ps. operation_in t ls j x ++ ps) (ops-last t ls (j + 1) es e (ap (λ n. operation_in t ls n e) (shift j (length es)) ∙ h))
+done-last t ls j (x ∷ es) e h = ap (λ rs. done_in t ls j x ++ rs) (done-last t ls (j + 1) es e (ap (λ n. done_in t ls n e) (shift j (length es)) ∙ h))
   where
     shift : (a b : ℕ) → a + 1 + b ≡ a + suc b
     shift a b = omega arith
@@ -184,21 +216,21 @@ module _ (es : List Event) (e : Event) (ls : List Line) (h : Follows es ls) wher
       by true q k = at l.when refl (k q)
       by false q k = unanswered l.text q (length es)
 
-  same-ops : (t : Tid) → operations_of (es ++ e ∷ []) ls t ≡ operations_of es ls t
-  same-ops t = ops-last t ls 1 es e (op-none t ls (1 + length es) e (λ c. first-untold (length es) ls all-untold c (1 + length es) (next (length es))))
+  same-done : (t : Tid) → done_of (es ++ e ∷ []) ls t ≡ done_of es ls t
+  same-done t = done-last t ls 1 es e (done-none t ls (1 + length es) e (λ wish c. first-untold (length es) ls all-untold wish c (1 + length es) [] (next (length es))))
     where
       next : (n : ℕ) → n < 1 + n
       next n = omega arith
 
-  did-the-same : (ts : List Tid) → DidTheSame es ls (es ++ e ∷ []) ls ts
+  did-the-same : (ts : List Tid) → DoneTheSame es ls (es ++ e ∷ []) ls ts
   did-the-same [] = tt
-  did-the-same (t ∷ ts) = (same-ops t, did-the-same ts)
+  did-the-same (t ∷ ts) = (same-done t, did-the-same ts)
 
-  pub silent-agrees : (files : AllFiles) → OperationsAgree files es ls → OperationsAgree files (es ++ e ∷ []) ls
-  silent-agrees files a = OperationsAgreeFrom-by_ops files es ls (es ++ e ∷ []) ls (history_of ls) (did-the-same (history_of ls)) a
+  pub silent-agrees : (files : AllFiles) → Agrees files es ls → Agrees files (es ++ e ∷ []) ls
+  silent-agrees files a = AgreesFrom-by_done files es ls (es ++ e ∷ []) ls (history_of ls) (did-the-same (history_of ls)) a
 
   pub silent-shown : (files : AllFiles) → is_show e ≡ false → ShownSoFar files es ls → ShownSoFar files (es ++ e ∷ []) ls
-  silent-shown files other shown i s k n = subst (λ f. ShowsFiles f s (lines_at (AtEvent i) ls)) (sym (replay_operations-by_ops files es ls (es ++ e ∷ []) ls (history_of (lines_before (AtEvent i) ls)) (did-the-same (history_of (lines_before (AtEvent i) ls))))) (shown i s (before es i s other k) n)
+  silent-shown files other shown i s k n = subst (λ f. ShowsFiles f s (lines_at (AtEvent i) ls)) (sym (replay-by_done files es ls (es ++ e ∷ []) ls (history_of (lines_before (AtEvent i) ls)) (did-the-same (history_of (lines_before (AtEvent i) ls))))) (shown i s (before es i s other k) n)
     where
       no-show : (x : Event) (s : ServerNo) → is_show x ≡ false → Some x ≡ Some (events.Show s) → ⊥
       no-show (events.Show r) s a b = cc a

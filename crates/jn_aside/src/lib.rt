@@ -11,14 +11,14 @@ ghost use Rattle.jn_report.specs.declared.line.Line.{Line};
 ghost use Rattle.jn_serial.specs.Lines.{lines_at};
 ghost use Rattle.jn_serial.specs.Caused.{Caused};
 ghost use Rattle.jn_serial.specs.Follows.{Follows};
-ghost use Rattle.jn_serial.specs.Order.{OperationsAgree};
+ghost use Rattle.jn_serial.specs.Order.{Agrees};
 ghost use Rattle.jn_serial.specs.Shown.{ShownSoFar, ShownAtEnd};
 ghost use Rattle.jn_serial.specs.Told.{Told};
 ghost use Rattle.jn_aside.specs.Aside.{is_aside, is_show, plain};
 
 /// The answers from the files are those of the commits run one after another.
 pub fn answers_agree_aside()
-    ensures { (files : AllFiles) (events : List Event) (a b : List Line) → plain a ≡ plain b → OperationsAgree files events a → OperationsAgree files events b }
+    ensures { (files : AllFiles) (events : List Event) (a b : List Line) → plain a ≡ plain b → Agrees files events a → Agrees files events b }
 {}
 
 /// Each show that printed, and the end, show the files after the commits before them.
@@ -51,7 +51,7 @@ pub fn parts_are_plain()
 /// With one more event, that is no show and that no line reports, as it may be where a run is cut off in its last event, each
 /// promise still holds.
 pub fn a_silent_event_changes_nothing()
-    ensures agrees { (files : AllFiles) (events : List Event) (e : Event) (lines : List Line) → Follows events lines → OperationsAgree files events lines → OperationsAgree files (events ++ e ∷ []) lines }
+    ensures agrees { (files : AllFiles) (events : List Event) (e : Event) (lines : List Line) → Follows events lines → Agrees files events lines → Agrees files (events ++ e ∷ []) lines }
     ensures so_far { (files : AllFiles) (events : List Event) (e : Event) (lines : List Line) → Follows events lines → is_show e ≡ false → ShownSoFar files events lines → ShownSoFar files (events ++ e ∷ []) lines }
     ensures caused { (events : List Event) (e : Event) (lines : List Line) → Caused events lines → Caused (events ++ e ∷ []) lines }
     ensures follows { (events : List Event) (e : Event) (lines : List Line) → lines_at (AtEvent (1 + length events)) lines ≡ [] → Follows events lines → Follows (events ++ e ∷ []) lines }

@@ -9,10 +9,10 @@ pub use Rattle.jn_schedule.specs.declared.Event.{Event}
 pub use Rattle.jn_schedule.specs.Ranges.{EventInRange}
 pub use Rattle.jn_report.specs.declared.line.Line.{Line}
 pub use Rattle.jn_serial.specs.Lines.{history_of}
-pub use Rattle.jn_serial.specs.Order.{replay_operations, operations_of}
+pub use Rattle.jn_serial.specs.Order.{replay_operations, replay, operations_of}
 pub use Rattle.jn_rows.specs.Stable.{StableState, Pick, IsUp}
 pub use Rattle.jn_aside.specs.Aside.{plain}
-pub use Rattle.jn_aside.proofs.Showing.{history-aside, replay-aside, ops-aside}
+pub use Rattle.jn_aside.proofs.Showing.{history-aside, replay-aside, ops-aside, operations-aside}
 pub use Rattle.jn_system.specs.WholeSystem.World.{World, Memory, opening, commits_in}
 pub use Rattle.jn_system_reports.specs.Reporting.Reported.{events_of, steps_of, world_of, IsReported, Item, lines_of}
 pub use Rattle.jn_system.specs.WholeSystem.Course.{go_on}
@@ -27,6 +27,8 @@ pub use Rattle.jn_machine_refines.proofs.Forms.{as-behind, Between, between, mee
 pub use Rattle.jn_machine_refines.proofs.Items.{run-both, is-run-both}
 pub use Rattle.jn_headline.proofs.Headline.{whole-run, part-so-far, run-so-far}
 pub use Rattle.jn_between.specs.Between.{IsConsistent, state_on, files_told, IsTrueAtEnd, AreOnPages, IsTrueBetween}
+pub use Rattle.jn_serial.proofs.WithCalls.{replay_is_of_operations}
+pub use Rattle.jn_system_reports.proofs.Reporting.Following.{no-calls}
 pub use Rattle.jn_base.specs.Names.{server_eq, tid_eq}
 pub use Rattle.jn_system.specs.WholeSystem.Steps.{Step, IsRun, run, NextEvent, after}
 pub use Rattle.jn_machine.specs.Events.{deed_of, ending, dismissing}

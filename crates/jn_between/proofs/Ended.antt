@@ -1,5 +1,5 @@
 -- What holds after the end.
-use Rattle.jn_between.proofs.Common.{◌≡◌, ◌⊎◌, inl, inr, ◌≤◌, ◌<◌, ℕ, true, false, List, [], ◌++◌, Option, Some, None, is_some, refl, sym, ◌∙◌, ap, subst, AllByRecursion, ServerNo, Tid, WorkId, AllFiles, Event, EventInRange, Line, history_of, replay_operations, StableState, Pick, plain, history-aside, replay-aside, World, Memory, opening, events_of, steps_of, world_of, IsReported, go_on, AreAsTold, Setup, Devices, AreFound, Moment, AtEnd, CutShort, before, IsWritten, behind, IsAsIn, IsRetold, as-behind, run-both, is-run-both, whole-run, IsConsistent, state_on, files_told, IsTrueAtEnd}
+use Rattle.jn_between.proofs.Common.{◌≡◌, ◌⊎◌, inl, inr, ◌≤◌, ◌<◌, ℕ, true, false, List, [], ◌++◌, Option, Some, None, is_some, refl, sym, ◌∙◌, ap, subst, AllByRecursion, ServerNo, Tid, WorkId, AllFiles, Event, EventInRange, Line, history_of, replay_operations, StableState, Pick, plain, history-aside, replay-aside, World, Memory, opening, events_of, steps_of, world_of, IsReported, go_on, AreAsTold, Setup, Devices, AreFound, Moment, AtEnd, CutShort, before, IsWritten, behind, IsAsIn, IsRetold, as-behind, run-both, is-run-both, whole-run, IsConsistent, state_on, files_told, IsTrueAtEnd, replay, replay_is_of_operations, no-calls}
 use Rattle.jn_base.specs.declared.names.LockUnit.{LockUnit}
 use Rattle.jn_rows.specs.Worker.{commit_holder}
 use Rattle.jn_system.specs.SmallSteps.Held.{file_unit}
@@ -55,7 +55,7 @@ module _ (x : Setup) (few : x.servers ≤ 8) (files : AllFiles) (schedule : List
   same-lines = lines-are x.servers few files r.epochs r.items reported m whole
 
   same-files : replay_operations files (events_of r.items) ls (history_of ls) ≡ files_told files schedule m.state.lines
-  same-files = ap (λ Ts. replay_operations files (events_of r.items) ls Ts) (history-aside (events_of r.items) ls m.state.lines (sym same-lines)) ∙ replay-aside (events_of r.items) ls m.state.lines (sym same-lines) files (history_of m.state.lines)
+  same-files = sym (replay_is_of_operations files (events_of r.items) ls (history_of ls) (no-calls r.items reported.under)) ∙ ap (λ Ts. replay files (events_of r.items) ls Ts) (history-aside (events_of r.items) ls m.state.lines (sym same-lines)) ∙ replay-aside (events_of r.items) ls m.state.lines (sym same-lines) files (history_of m.state.lines)
       ∙ ap (λ (es : List Event). files_told files es m.state.lines) r.events
 
   is-up : (q : ServerNo) → q.0 < x.servers → is_some (w.memory q) ≡ true

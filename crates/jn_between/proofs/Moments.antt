@@ -1,5 +1,5 @@
 -- What holds at each moment, and between two events.
-use Rattle.jn_between.proofs.Common.{◌≡◌, ◌⊎◌, inl, inr, ◌≤◌, ◌<◌, ℕ, ◌+◌, Bool, true, false, List, [], ◌∷◌, ◌++◌, append-nil, length, map, drop, Some, refl, sym, ◌∙◌, ap, subst, arith, ◌&&◌, list_all, AllByRecursion, ServerNo, AllFiles, Event, EventInRange, Line, history_of, replay_operations, StableState, Pick, plain, history-aside, replay-aside, World, opening, Step, NextEvent, IsRun, run, after, Item, events_of, steps_of, world_of, lines_of, IsReported, AreAsTold, Setup, Task, Begins, Dismisses, InSchedule, AtEnd, CutShort, Stage, State, begun, first_of_tasks, Devices, AreFound, ending, dismissing, none, more, Moment, Leads, is_too_much, come_to, cut_short, before, IsWritten, go_on, behind, IsAsIn, IsToldBy, IsRetold, IsRetoldInPart, ups-name-none, run-behind, as-behind, Between, between, meeting, settling, cut, ended, between-part, meeting-part, amid-part, Next, does-next, goes-or-cut, run-both, is-run-both, part-so-far, run-so-far, IsConsistent, state_on, files_told, AreOnPages, IsTrueBetween}
+use Rattle.jn_between.proofs.Common.{◌≡◌, ◌⊎◌, inl, inr, ◌≤◌, ◌<◌, ℕ, ◌+◌, Bool, true, false, List, [], ◌∷◌, ◌++◌, append-nil, length, map, drop, Some, refl, sym, ◌∙◌, ap, subst, arith, ◌&&◌, list_all, AllByRecursion, ServerNo, AllFiles, Event, EventInRange, Line, history_of, replay_operations, StableState, Pick, plain, history-aside, replay-aside, World, opening, Step, NextEvent, IsRun, run, after, Item, events_of, steps_of, world_of, lines_of, IsReported, AreAsTold, Setup, Task, Begins, Dismisses, InSchedule, AtEnd, CutShort, Stage, State, begun, first_of_tasks, Devices, AreFound, ending, dismissing, none, more, Moment, Leads, is_too_much, come_to, cut_short, before, IsWritten, go_on, behind, IsAsIn, IsToldBy, IsRetold, IsRetoldInPart, ups-name-none, run-behind, as-behind, Between, between, meeting, settling, cut, ended, between-part, meeting-part, amid-part, Next, does-next, goes-or-cut, run-both, is-run-both, part-so-far, run-so-far, IsConsistent, state_on, files_told, AreOnPages, IsTrueBetween, replay, replay_is_of_operations, no-calls}
 use Rattle.jn_machine.proofs.Clients.{HasTables}
 use Rattle.std.proofs.lemmas.List.{length-map}
 use Rattle.jn_system_reports.proofs.Telling.Reports.{run-as-told}
@@ -106,7 +106,7 @@ module _ (x : Setup) (files : AllFiles) (epochs : ServerNo → ℕ) (items : Lis
 
   -- the files that the lines leave, with those aside
   same-files : replay_operations files events ls (history_of ls) ≡ files_told files (events_of items) m.state.lines
-  same-files = ap (λ Ts. replay_operations files events ls Ts) (history-aside events ls m.state.lines (sym lines)) ∙ replay-aside events ls m.state.lines (sym lines) files (history_of m.state.lines)
+  same-files = sym (replay_is_of_operations files events ls (history_of ls) (no-calls items reported.under)) ∙ ap (λ Ts. replay files events ls Ts) (history-aside events ls m.state.lines (sym lines)) ∙ replay-aside events ls m.state.lines (sym lines) files (history_of m.state.lines)
 
   its-state : (q : ServerNo) (c : Pick) → q.0 < x.servers → state_on (x.counts q) (m.devices q) c ≡ w.found q c
   its-state q c l = sym (found q c l) ∙ ap (λ (f : ServerNo → Pick → StableState). f q c) as-in.found

@@ -1,5 +1,5 @@
 -- What holds of a world holds of one that is the same but for lines of servers that came up, and for servers that haven't come up yet.
-use Rattle.jn_between.proofs.Common.{◌≡◌, ◌⊎◌, inl, inr, ◌≤◌, ◌<◌, ℕ, List, ◌++◌, Option, Some, None, is_some, refl, sym, ◌∙◌, ap, subst, slice_get, list_any, ServerNo, Tid, WorkId, tid_eq, AllFiles, Line, Event, StableState, Pick, IsUp, history_of, operations_of, replay_operations, plain, ops-aside, history-aside, replay-aside, World, Memory, commits_in, IsAsIn, ups-name-none, IsConsistent}
+use Rattle.jn_between.proofs.Common.{◌≡◌, ◌⊎◌, inl, inr, ◌≤◌, ◌<◌, ℕ, List, ◌++◌, Option, Some, None, is_some, refl, sym, ◌∙◌, ap, subst, slice_get, list_any, ServerNo, Tid, WorkId, tid_eq, AllFiles, Line, Event, StableState, Pick, IsUp, history_of, operations_of, replay_operations, plain, ops-aside, history-aside, operations-aside, World, Memory, commits_in, IsAsIn, ups-name-none, IsConsistent}
 use Rattle.jn_base.specs.declared.names.ClientNo.{ClientNo}
 use Rattle.jn_msgs.specs.declared.message.Message.{Message}
 use Rattle.jn_rows.specs.Outcomes.{Sent}
@@ -172,5 +172,5 @@ module _ (w v : World) (k : IsAsIn w v) where
       asked-in W q = record { client = q.client; request = q.request; number = q.number; op = q.op; sent = sent-in _ q.sent }
 
       stands : (T : Tid) (s : ServerNo) → StandAt files events a T s → StandAt files events b T s
-      stands T s h = subst (λ (f : AllFiles). FilesAnswer (f s) (at_place s (operations_of events b T))) (ap (λ (Ts : List Tid). replay_operations files events a Ts) (history-aside events a b same) ∙ replay-aside events a b same files (history_of b))
+      stands T s h = subst (λ (f : AllFiles). FilesAnswer (f s) (at_place s (operations_of events b T))) (ap (λ (Ts : List Tid). replay_operations files events a Ts) (history-aside events a b same) ∙ operations-aside events a b same files (history_of b))
           (subst (λ (ps : List Performed). FilesAnswer (replay_operations files events a (history_of a) s) (at_place s ps)) (ops-aside events a b same T) h)

@@ -12,7 +12,7 @@ use Rattle.jn_store.specs.Pairs.{pairs_view}
 use Rattle.jn_schedule.specs.declared.Event.{Event}
 use Rattle.jn_report.specs.declared.line.Line.{Line}
 use Rattle.jn_serial.specs.Lines.{history_of}
-use Rattle.jn_serial.specs.Order.{replay_operations}
+use Rattle.jn_serial.specs.Order.{replay}
 use Rattle.jn_rows.specs.Stable.{StableState, Pick, IsUp}
 use Rattle.jn_rows.specs.Worker.{WorkerTable, commit_holder}
 use Rattle.jn_system.specs.SmallSteps.Held.{file_unit}
@@ -54,7 +54,7 @@ state_on g d c = found_on g (pairs_view d) c
 
 -- the files that the commits of the lines leave, run one after another
 abbrev pub files_told : AllFiles → List Event → List Line → AllFiles
-files_told files events lines = replay_operations files events lines (history_of lines)
+files_told files events lines = replay files events lines (history_of lines)
 
 -- no prepared work holds the unit for commit, and none its file
 abbrev pub IsFree : LockUnit → WorkerTable → Type 0

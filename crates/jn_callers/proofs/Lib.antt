@@ -2,3 +2,4 @@ pub mod Kept
 pub mod Plain
 pub mod Fewer
 pub mod Sending
+pub mod Told

@@ -1,9 +1,11 @@
--- The lines that report how a call ends.
-use Rattle.std.specs.Prelude.{ℕ, List, [], ◌∷◌, ◌++◌, map}
+-- The lines that report how a call ends: each tells its client, of its event.
+use Rattle.std.specs.Prelude.{◌≡◌, ℕ, List, [], ◌∷◌, ◌++◌, map}
+use Rattle.std.specs.List.{AllByRecursion}
 use Rattle.jn_base.specs.declared.names.ClientNo.{ClientNo}
 use Rattle.jn_report.specs.declared.line.Refusal.TheVariants as refusals
 use Rattle.jn_report.specs.declared.line.Text.{Text}
 use Rattle.jn_report.specs.declared.line.Text.TheVariants as says
+use Rattle.jn_report.specs.Kinds.{addressed, answer_in}
 use Rattle.jn_rows.specs.Client.{answer_line}
 use Rattle.jn_bytes.specs.declared.next.Next.TheVariants as byte_nexts
 use Rattle.jn_bytes.specs.declared.next.ByteRefusal.{ByteRefusal}
@@ -38,3 +40,11 @@ texts_of_reply c j (replies.OfNames name_nexts.Did) = says.Did c j ∷ []
 texts_of_reply c j (replies.OfNames (name_nexts.Found f)) = says.Found c j (record { 0 = f }) ∷ []
 texts_of_reply c j (replies.OfNames (name_nexts.Names es)) = map (λ (e : Entry). says.Name c j e.name e.file) es ++ says.Did c j ∷ []
 texts_of_reply c j (replies.OfNames (name_nexts.Refused refusal)) = names_refused c j refusal ∷ []
+
+-- the client is told by it, of the event j
+abbrev pub Tells : ClientNo → ℕ → Text → Type 0
+Tells c j text = answer_in text ≡ addressed c j
+
+-- what each call ends with is told to its client, of its event
+abbrev pub RepliesAreTold : Type 0
+RepliesAreTold = (c : ClientNo) (j : ℕ) (reply : Reply) → AllByRecursion (Tells c j) (texts_of_reply c j reply)

@@ -13,6 +13,7 @@ ghost use Rattle.jn_calls.specs.declared.order.Order.{Order};
 ghost use Rattle.jn_calls.specs.declared.order.Order.TheVariants as orders;
 ghost use Rattle.jn_callers.specs.declared.doing.Doing.{Doing};
 ghost use Rattle.jn_callers.specs.Callers.{Caller, Refused, Sent, new_caller, of_table, command_of, order_row, take_call_row, as_table};
+ghost use Rattle.jn_callers.specs.Texts.{RepliesAreTold};
 ghost use Rattle.jn_callers.specs.Laws.{IsCaller, after_order, by_table, is_sent, operations_sent, still, waits_at};
 
 /// What a client sends at an order is what its table sends at the order's command, a call's first operation; and what the table
@@ -51,4 +52,9 @@ pub fn a_caller_without_calls_is_its_table()
 /// Of the operations that a call may still ask, a message takes away those that are sent for it. It never adds any.
 pub fn a_caller_asks_fewer()
     ensures { (c : Caller) (m : Message) → operations_sent (take_call_row c m).1 + still (take_call_row c m).0.doing ≤ still c.doing }
+{}
+
+/// The lines that report how a call ends tell its client, of the event that asked for it.
+pub fn a_reply_is_told_to_its_client()
+    ensures { RepliesAreTold }
 {}

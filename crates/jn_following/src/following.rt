@@ -1,20 +1,23 @@
-//! Whether each answer to a client answers its outstanding command.
+//! Whether each answer to a client answers its outstanding order, a command or a call.
 
-ghost use Rattle.std.specs.Prelude.{◌≡◌, ◌↔◌, true, IfOk, OnOk, IsTrue, length};
+ghost use Rattle.std.specs.Prelude.{◌≡◌, ◌↔◌, true, Some, IfOk, OnOk, IsTrue, length};
 ghost use Rattle.jn_base.specs.declared.names.ServerNo.{ServerNo};
 ghost use Rattle.jn_base.specs.declared.op.Command.TheVariants as commands;
 ghost use Rattle.jn_following.specs.Asked.{outstanding_of};
+ghost use Rattle.jn_report.specs.declared.line.Refusal.TheVariants as refusals;
 ghost use Rattle.jn_report.specs.Kinds.{answer_in, is_own_refusal};
 ghost use Rattle.jn_serial.specs.Follows as follows;
 ghost use Rattle.jn_serial.specs.Lines.{count_lines, says};
 
-use jn_base::{ClientNo, Command, Op};
+use jn_base::{ByteCommand, Call, ClientNo, Command, Op};
+use jn_calls::Order;
+use jn_replay::call_fits;
 use jn_report::{Line, Refusal, Text, When, answer_in, is_answer, is_own, is_own_refusal};
 use jn_schedule::Event;
 use jn_serial::{Asked, lines_at_event, refuses_own};
 use std::alloc::{AllocError, Global};
 
-/// A command that a client waits for from now on, or none.
+/// An order that a client waits for from now on, or none.
 #[derive(Drop)]
 pub struct Entry {
     pub client: ClientNo,
@@ -101,7 +104,75 @@ fn answers_command(command: &Command, text: &Text) -> bool
     }
 }
 
-/// Whether it is the last answer to its command.
+/// Whether a read of a call can be refused so.
+fn is_of_reads(refusal: Refusal) -> bool
+    ensures { result ≡ follows.is_of_reads refusal }
+{
+    matches!(
+        refusal,
+        Refusal::NoFile
+            | Refusal::Locked(_, _)
+            | Refusal::TooManyReads
+            | Refusal::Broken(_, _)
+            | Refusal::Lost(_, _)
+            | Refusal::Closing
+    )
+}
+
+/// Whether it is a write of some bytes, so that it can be refused for the number of its writes.
+fn writes_some(command: &ByteCommand) -> bool
+    ensures { result ≡ follows.bytes_can_have command.now refusals.TooManyWrites }
+{
+    match command {
+        ByteCommand::WriteBytes(_, _, bytes) => 0 < bytes.as_slice().len(),
+        ByteCommand::ReadBytes(_, _, _) => false,
+    }
+}
+
+/// Whether the call on bytes can be refused so.
+fn bytes_can_have(command: &ByteCommand, refusal: Refusal) -> bool
+    ensures { result ≡ follows.bytes_can_have command.now refusal }
+{
+    match refusal {
+        Refusal::NotBytes => true,
+        Refusal::PastEnd(_) => matches!(command, ByteCommand::WriteBytes(_, _, _)),
+        Refusal::TooManyWrites => writes_some(command),
+        _ => is_of_reads(refusal),
+    }
+}
+
+fn answers_bytes(command: &ByteCommand, text: &Text) -> bool
+    ensures { result ≡ follows.answers_bytes command.now text.now }
+{
+    match text {
+        Text::Bytes(_, _, _) => matches!(command, ByteCommand::ReadBytes(_, _, _)),
+        Text::Did(_, _) => matches!(command, ByteCommand::WriteBytes(_, _, _)),
+        Text::Refused(_, _, refusal) => bytes_can_have(command, *refusal),
+        _ => false,
+    }
+}
+
+/// Whether the text has a form that answers the call.
+fn answers_call(call: &Call, text: &Text) -> bool
+    ensures { result ≡ follows.answers_call call.now text.now }
+{
+    match call {
+        Call::OfBytes(command) => call_fits(call) && answers_bytes(command, text),
+        Call::OfNames(_) => false,
+    }
+}
+
+/// Whether the text has a form that answers the order.
+fn answers_order(order: &Order, text: &Text) -> bool
+    ensures { result ≡ follows.answers_order order.now text.now }
+{
+    match order {
+        Order::Command(command) => answers_command(command, text),
+        Order::Call(_, call) => answers_call(call, text),
+    }
+}
+
+/// Whether it is the last answer to its order.
 fn is_last(text: &Text) -> bool
     ensures { result ≡ follows.is_last text.now }
 {
@@ -112,7 +183,7 @@ fn fits_asked(asked: &Option<Asked>, number: u32, text: &Text) -> bool
     ensures { result ≡ follows.fits_asked asked.now number text.now }
 {
     match asked {
-        Some(a) => a.number == number as usize && answers_command(&a.command, text),
+        Some(a) => a.number == number as usize && answers_order(&a.order, text),
         None => false,
     }
 }
@@ -181,9 +252,25 @@ fn is_refused_own(client: ClientNo, number: usize, here: &[Line]) -> bool
 }
 
 #[tactic(auto, using(crate::proofs::Entries::outstanding_of_more))]
-/// The event's command, unless the client refused it, replaces what was outstanding.
-fn take_command(
-    alloc: Global,
+/// The client waits for this order from now on.
+fn take_order(
+    entries: &mut Vec<Entry>,
+    number: usize,
+    client: ClientNo,
+    order: Order,
+) -> Result<(), AllocError>
+    ensures { OnOk result (outstanding_of entries.new.items
+        ≡ follows.with_asked (outstanding_of entries.old.items) client (Some (record { number = number; order = order }))) }
+{
+    entries.push(Entry {
+        client,
+        asked: Some(Asked { number, order }),
+    })?;
+    Ok(())
+}
+
+/// The event's order, unless the client refused it, replaces what was outstanding.
+fn take_event(
     entries: &mut Vec<Entry>,
     number: usize,
     event: &Event,
@@ -192,18 +279,23 @@ fn take_command(
     ensures { OnOk result (outstanding_of entries.new.items
         ≡ follows.after_event (outstanding_of entries.old.items) number event.now here.now) }
 {
-    let Event::Command(client, command) = event else {
-        return Ok(());
-    };
-    if is_refused_own(*client, number, here) {
-        return Ok(());
+    match event {
+        Event::Command(client, command) => {
+            if is_refused_own(*client, number, here) {
+                return Ok(());
+            }
+            let order = Order::Command(command.copy()?);
+            take_order(entries, number, *client, order)
+        }
+        Event::Call(client, server, call) => {
+            if is_refused_own(*client, number, here) {
+                return Ok(());
+            }
+            let order = Order::Call(*server, call.copy()?);
+            take_order(entries, number, *client, order)
+        }
+        _ => Ok(()),
     }
-    let command = command.copy()?;
-    entries.push(Entry {
-        client: *client,
-        asked: Some(Asked { number, command }),
-    })?;
-    Ok(())
 }
 
 fn is_command_of(event: &Event, client: ClientNo) -> bool
@@ -211,6 +303,7 @@ fn is_command_of(event: &Event, client: ClientNo) -> bool
 {
     match event {
         Event::Command(by, _) => *by == client,
+        Event::Call(by, _, _) => *by == client,
         _ => false,
     }
 }
@@ -253,7 +346,6 @@ fn own_refusals(here: &[Line]) -> usize
 
 /// Whether the lines of an event answer what is outstanding then.
 fn follows_event(
-    alloc: Global,
     entries: &mut Vec<Entry>,
     number: usize,
     event: &Event,
@@ -264,7 +356,7 @@ fn follows_event(
     ensures after { IfOk result (λ b. b ≡ true → outstanding_of entries.new.items
         ≡ follows.after_one (outstanding_of entries.old.items) number event.now here.now) }
 {
-    take_command(alloc, entries, number, event, here)?;
+    take_event(entries, number, event, here)?;
     Ok(all_fit(entries, here)? && all_own_in_place(number, event, here) && own_refusals(here) <= 1)
 }
 
@@ -276,7 +368,7 @@ fn follow_events(alloc: Global, events: &[Event], lines: &[Line]) -> Result<bool
     let mut entries = Vec::new(alloc);
     for (i, event) in events.iter().enumerate() {
         let here = lines_at_event(alloc, lines, i + 1)?;
-        if !follows_event(alloc, &mut entries, i + 1, event, &here)? {
+        if !follows_event(&mut entries, i + 1, event, &here)? {
             return Ok(false);
         }
     }
@@ -304,9 +396,9 @@ fn all_of_events(count: usize, lines: &[Line]) -> bool
     true
 }
 
-/// Whether each answer to a client in a report names its outstanding command and has a form of
-/// that command, the client's own refusals stand in the command's own event, and no command has two
-/// last answers, two such refusals, or an answer after another command replaced it.
+/// Whether each answer to a client in a report names its outstanding order and has a form of
+/// that order, the client's own refusals stand in the order's own event, and no order has two
+/// last answers, two such refusals, or an answer after another order replaced it.
 pub fn follows(alloc: Global, events: &[Event], lines: &[Line]) -> Result<bool, AllocError>
     ensures { IfOk result (λ b. IsTrue b ↔ follows.Follows events.now lines.now) }
 {

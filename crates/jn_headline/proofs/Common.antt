@@ -22,7 +22,7 @@ pub use Rattle.jn_machine.specs.Steps.{is_too_much, come_to, cut_short, made, do
 pub use Rattle.jn_machine.specs.Runs.{none, more, Moment, Leads, DoesStep}
 pub use Rattle.jn_machine_refines.specs.Retold.{IsToldBy, behind, IsRetold, IsRetoldInPart}
 pub use Rattle.jn_machine.proofs.Clients.{does-tables, HasTables, delivered-says}
-pub use Rattle.std.specs.List.{list_all, AllByRecursion}
+pub use Rattle.std.specs.List.{list_all, list_any, AllByRecursion}
 pub use Rattle.jn_report.specs.Kinds.{is_up, is_print, commit_in, is_answer, commit_in as committed_in}
 pub use Rattle.std.proofs.lemmas.Bool.Decides.{nat_tests}
 pub use Rattle.jn_rows.specs.Outcomes.{RowOutcome, Sent}
@@ -37,11 +37,10 @@ pub use Rattle.jn_schedule.specs.declared.Event.{Event}
 pub use Rattle.jn_report.specs.declared.line.When.TheVariants.{Event as AtEvent, End}
 pub use Rattle.jn_serial.specs.Lines.{lines_at, when_eq, history_of, has_tid}
 pub use Rattle.jn_serial.specs.Follows.{nothing_asked, Follows}
-pub use Rattle.jn_serial.specs.Shown.{ShownSoFar, Shown}
 pub use Rattle.jn_serial.proofs.CausedGrowth.{Caused-events}
 pub use Rattle.jn_serial.proofs.Growth.{lines_at-outside}
 pub use Rattle.jn_system_reports.proofs.Reporting.Lists.{Each, each-append, In, in-first, in-second, in-either, each-in}
-pub use Rattle.jn_system_reports.proofs.Reporting.Following.{items-follow, run-in-turn, run-follows, run-split}
+pub use Rattle.jn_system_reports.proofs.Reporting.Following.{items-follow, run-in-turn, run-follows, no-calls, run-split}
 pub use Rattle.jn_system_reports.proofs.Reporting.Reached.{opening-reached, Reached, LineFact, named-is, invariant, next-reached}
 pub use Rattle.jn_system_reports.proofs.Reporting.Unnamed.{IsApart, run-outcomes, lines-in}
 pub use Rattle.jn_system_reports.proofs.Causing.Ends.{IsOfEnd, IsFinal, dismissed-told, with-end, end-causes, end-told}
@@ -49,6 +48,8 @@ pub use Rattle.jn_system_reports.proofs.Telling.Reports.{IsCalm, texts-more, end
 pub use Rattle.jn_system_reports.proofs.Showing.Follows.{follows-to-end, counted-follows}
 pub use Rattle.jn_aside.proofs.Silent.{silent-agrees, silent-shown, silent-follows}
 pub use Rattle.jn_headline.specs.Headline.{IsTrueSoFar, IsOfItsCommits, IsTrueOfBegun, but_shows}
+pub use Rattle.jn_serial.specs.Shown.{OperationsShownSoFar, OperationsShown, ShownSoFar}
+pub use Rattle.jn_serial.proofs.WithCalls.{agrees_as_operations, so_far_as_operations, at_end_as_operations}
 pub use Rattle.jn_system.specs.WholeSystem.Printing.{Printed, FileThere, PageStored, UnitLocked}
 pub use Rattle.jn_system.specs.WholeSystem.PrintedLines.{text_printed, IsPrinted}
 pub use Rattle.jn_base.specs.declared.names.ClientNo.{ClientNo}
@@ -60,6 +61,7 @@ pub use Rattle.jn_system_settling.specs.Closing.Ending.{IsEmpty, Start, restarts
 pub use Rattle.jn_system_settling.specs.Settling.Rests.{ComeToRest, chances_of, asked, ComesNext, AreNext}
 pub use Rattle.jn_system_settling.proofs.Settling.Loops.{reached, in-turn}
 pub use Rattle.jn_headline.specs.WholeReports.Whole.{IsSettledEnd, course_at_end}
+pub use Rattle.jn_serial.specs.Order.{is_call, Agrees}
 pub use Rattle.jn_base.specs.declared.names.Tid.{Tid}
 pub use Rattle.jn_base.specs.Names.{server_eq, tid_eq, work_eq, file_eq}
 pub use Rattle.jn_base.proofs.Tells.{server_tells, work_tells, tid_tells}

@@ -1,5 +1,5 @@
 -- What a run comes to whose schedule is retold.
-use Rattle.jn_headline.proofs.Common.{◌≡◌, ◌⊎◌, inl, inr, ℕ, ◌+◌, ◌≤◌, List, [], append-nil, length, sym, ◌∙◌, ap, subst, arith, length-map, ServerNo, AllFiles, Event, plain, opening, Item, events_of, world_of, IsReported, Ending, IsWholeRun, AreFilesOf, all_lines, run-follows, end-causes, end-told, follows-to-end, counted-follows, IsSettledEnd, IsOfItsCommits, CutEnd, IsCutEnd, IsTrueSoFar, cut_lines, Setup, AtEnd, Moment, IsRetold, IsRetoldInPart, IsTrueOfBegun, Shown}
+use Rattle.jn_headline.proofs.Common.{◌≡◌, ◌⊎◌, inl, inr, ℕ, ◌+◌, ◌≤◌, List, [], append-nil, length, sym, ◌∙◌, ap, subst, arith, length-map, ServerNo, AllFiles, Event, plain, opening, Item, events_of, world_of, IsReported, Ending, IsWholeRun, AreFilesOf, all_lines, run-follows, end-causes, end-told, follows-to-end, counted-follows, IsSettledEnd, IsOfItsCommits, CutEnd, IsCutEnd, IsTrueSoFar, cut_lines, Setup, AtEnd, Moment, IsRetold, IsRetoldInPart, IsTrueOfBegun, false, list_any, is_call, OperationsShown, agrees_as_operations, so_far_as_operations, at_end_as_operations, no-calls}
 use Rattle.jn_system_reports.proofs.Showing.Ends.{end-agrees, end-whole, end-free}
 use Rattle.jn_headline.proofs.WholeReports.Outcomes.{told-to-end}
 use Rattle.jn_headline.proofs.WholeReports.Whole.{end-holds}
@@ -38,16 +38,19 @@ pub of-commits : (servers : ℕ) (files : AllFiles) (epochs : ServerNo → ℕ) 
     → IsOfItsCommits files (events_of items) (all_lines servers files epochs items e)
 of-commits servers files epochs items e few of h rest = record {
   so_far = record {
-    agrees = (end-agrees servers files epochs items e h.reported h.ending).agrees;
-    shown = shows.so_far;
+    agrees = (agrees_as_operations files (events_of items) (all_lines servers files epochs items e) _ plain-items).1 (end-agrees servers files epochs items e h.reported h.ending).agrees;
+    shown = (so_far_as_operations files (events_of items) (all_lines servers files epochs items e) plain-items).1 shows.so_far;
     told = told-to-end files epochs servers items e h.reported h.ending;
     caused = end-causes files epochs servers items e h.reported h.ending;
     follows = counted-follows _ _ (follows-to-end _ _ _ (end-told servers e (world_of items (opening servers files epochs)) h.ending.settling) (run-follows files epochs servers items h.reported));
   };
-  at_end = shows.at_end;
+  at_end = (at_end_as_operations files (events_of items) (all_lines servers files epochs items e) plain-items).1 shows.at_end;
 }
   where
-    shows : Shown files (events_of items) (all_lines servers files epochs items e)
+    plain-items : list_any is_call (events_of items) ≡ false
+    plain-items = no-calls items h.reported.under
+
+    shows : OperationsShown files (events_of items) (all_lines servers files epochs items e)
     shows = end-whole servers files epochs items e h.reported h.ending of (end-free servers files epochs items e h.reported h.ending (end-holds servers few files epochs items e h.reported h.ending rest))
 
 module _ (x : Setup) (schedule : List Event) (files : AllFiles) (now : Moment) (r : IsRetold x schedule files now) where

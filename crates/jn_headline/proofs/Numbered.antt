@@ -35,7 +35,7 @@ acts-begin-none event (Shows s prints ∷ acts) w h = acts-begin-none event acts
 
 under-begin-none : (event : Event) (acts : List Act) (w : World) → IsUnder event acts → (run (steps_in acts) w).event ≡ w.event
 under-begin-none (events.Command c command) acts w h = ap (λ (l : List Act). (run (steps_in l) w).event) h ∙ (let a = adds w (Tell c command) in a.event_is)
-under-begin-none (events.Call c s call) acts w h = acts-begin-none (events.Call c s call) acts w h
+under-begin-none (events.Call c s call) acts w h = absurd h
 under-begin-none (events.Again c) acts w h = acts-begin-none (events.Again c) acts w h
 under-begin-none (events.Deliver k) acts w h = acts-begin-none (events.Deliver k) acts w h
 under-begin-none events.Settle acts w h = acts-begin-none events.Settle acts w h

@@ -1,6 +1,5 @@
 -- The report of a run that was cut off, and that of a whole run.
-use Rattle.jn_headline.proofs.Common.{◌≡◌, inr, ℕ, suc, ◌+◌, ◌≤◌, ◌<◌, Bool, true, false, List, [], ◌∷◌, ◌++◌, append-nil, length, refl, sym, ◌∙◌, ap, subst, arith, length-map, not, if◌then◌else◌, ServerNo, AllFiles, Event, AtEvent, Text, Line, when_eq, lines_at, ShownSoFar, nothing_asked, Follows, Caused-events, lines_at-outside, plain, is_show, filter-aside, silent-agrees, silent-follows, opening, Item, events_of, world_of, lines_of, IsReported, told_by_steps, at_end, items-follow, opening-reached, IsOfItsCommits, IsCutEnd, IsTrueSoFar, cut_lines, Moment, IsTrueOfBegun, but_shows}
-use Rattle.jn_serial.specs.Order.{OperationsAgree}
+use Rattle.jn_headline.proofs.Common.{◌≡◌, inr, ℕ, suc, ◌+◌, ◌≤◌, ◌<◌, Bool, true, false, List, [], ◌∷◌, ◌++◌, append-nil, length, refl, sym, ◌∙◌, ap, subst, arith, length-map, not, if◌then◌else◌, ServerNo, AllFiles, Event, AtEvent, Text, Line, when_eq, lines_at, ShownSoFar, nothing_asked, Follows, Caused-events, lines_at-outside, plain, is_show, filter-aside, silent-agrees, silent-follows, opening, Item, events_of, world_of, lines_of, IsReported, told_by_steps, at_end, items-follow, opening-reached, IsOfItsCommits, IsCutEnd, IsTrueSoFar, cut_lines, Moment, IsTrueOfBegun, but_shows, Agrees}
 use Rattle.jn_serial.specs.Caused.{Caused}
 use Rattle.jn_aside.proofs.Telling.{told-aside}
 use Rattle.jn_aside.proofs.Answering.{follows-aside}
@@ -35,7 +34,7 @@ none-silent files begun rest schedule count lines e n t = record {
   begun = omega (arith, n);
   untold = λ z k. absurd (none-left z k);
   so_far = record {
-    agrees = subst (λ (es : List Event). OperationsAgree files es lines) (sym (append-nil begun)) t.agrees;
+    agrees = subst (λ (es : List Event). Agrees files es lines) (sym (append-nil begun)) t.agrees;
     shown = subst (λ (es : List Event). ShownSoFar files es lines) (sym (append-nil begun)) t.shown;
     told = t.told;
     caused = subst (λ (es : List Event). Caused es lines) (sym (append-nil begun)) t.caused;

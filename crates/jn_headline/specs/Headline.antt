@@ -5,7 +5,7 @@ use Rattle.jn_schedule.specs.declared.Event.{Event}
 use Rattle.jn_report.specs.declared.line.When.TheVariants.{Event as AtEvent}
 use Rattle.jn_report.specs.declared.line.Line.{Line}
 use Rattle.jn_serial.specs.Lines.{lines_at}
-use Rattle.jn_serial.specs.Order.{OperationsAgree}
+use Rattle.jn_serial.specs.Order.{Agrees}
 use Rattle.jn_serial.specs.Shown.{ShownSoFar, ShownAtEnd}
 use Rattle.jn_serial.specs.Told.{Told}
 use Rattle.jn_serial.specs.Caused.{Caused}
@@ -15,7 +15,7 @@ use Rattle.jn_aside.specs.Aside.{is_show, plain}
 -- What committed transactions are answered, and what these shows print, is what the commits leave, one after another; outcomes are reported as they are; each
 -- abort, stop and refused fault has its cause; each answer is its command's.
 pub record IsTrueSoFar (files : AllFiles) (events shows : List Event) (lines : List Line) : Type 0 where
-  pub agrees : OperationsAgree files events lines
+  pub agrees : Agrees files events lines
   pub shown : ShownSoFar files shows lines
   pub told : Told lines
   pub caused : Caused events lines

@@ -1,6 +1,5 @@
 -- A short report without a fault.
-use Rattle.jn_judged.proofs.Common.{◌≡◌, inl, inr, ℕ, zero, suc, ◌≤◌, false, ◌&&◌, List, [], ◌∷◌, ◌++◌, Option, Some, None, refl, sym, ◌∙◌, ap, arith, cases_Bool, true≢false, AllFiles, AtEvent, Text, Line, any_says, event_at, history_of, ServerNo, File, Block, server_eq, file_eq, no_files, first_server, file_7, replay_operations, accounts_file, IsOfEvent, Follows, made_twice, answered_then, there_already, file_line, count_line, IsFaultless, CountsCommits}
-use Rattle.jn_base.specs.declared.names.FileNo.{FileNo}
+use Rattle.jn_judged.proofs.Common.{◌≡◌, inl, inr, ℕ, zero, suc, ◌≤◌, false, ◌&&◌, List, [], ◌∷◌, ◌++◌, Option, Some, None, refl, sym, ◌∙◌, ap, arith, cases_Bool, true≢false, AllFiles, AtEvent, Text, Line, any_says, event_at, history_of, ServerNo, File, Block, server_eq, file_eq, no_files, first_server, file_7, replay, accounts_file, IsOfEvent, Follows, made_twice, answered_then, there_already, file_line, count_line, IsFaultless, CountsCommits, FileNo}
 use Rattle.jn_base.specs.declared.names.BlockNo.{BlockNo}
 use Rattle.jn_schedule.specs.declared.Event.TheVariants.{Show}
 use Rattle.jn_report.specs.declared.line.Text.TheVariants.{Commits}
@@ -11,7 +10,7 @@ abbrev right_lines : List Line
 right_lines = answered_then there_already (file_line ∷ count_line 1 ∷ [])
 
 abbrev left_files : AllFiles
-left_files = replay_operations no_files made_twice right_lines (history_of right_lines)
+left_files = replay no_files made_twice right_lines (history_of right_lines)
 
 file-none : (s : ServerNo) (f : FileNo) → any_says (accounts_file s f) (file_line ∷ count_line 1 ∷ []) ≡ false → left_files s (File f) ≡ None
 file-none s f h = elim (cases_Bool (server_eq first_server s)) [

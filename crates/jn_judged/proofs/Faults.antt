@@ -1,5 +1,6 @@
 -- No line is at fault by a rule exactly where none breaks it, but for what a show or the end leaves out.
-use Rattle.jn_judged.proofs.Common.{nat_lt, ltb-true, ltb-false, ◌≡◌, ◌⊎◌, ◌↔◌, inl, inr, ℕ, zero, suc, cases_Bool, true, false, if◌then◌else◌, nat_eq, List, length, refl, sym, subst, arith, ◌+◌, ◌<◌, ◌≤◌, AllFiles, Event, When, Line, lines_at, ServerNo, Rule, breaks_outcomes, breaks_causes, breaks_following, breaks_order, breaks_shows, files_when, LeavesOut, Shows, Breaks, BreaksOrder, BreaksShows, BreaksOutcomes, BreaksCauses, BreaksFollowing, IsFault, InLine, LeftOut, lines_up_to, IsLeastFault, Keeps, IsFaultless}
+use Rattle.jn_judged.proofs.Common.{ltb-true, ltb-false, ◌≡◌, ◌⊎◌, ◌↔◌, inl, inr, ℕ, zero, suc, cases_Bool, true, false, if◌then◌else◌, nat_eq, List, length, refl, sym, subst, arith, ◌+◌, ◌<◌, ◌≤◌, AllFiles, Event, When, Line, lines_at, ServerNo, Rule, breaks_outcomes, breaks_causes, breaks_following, breaks_order, breaks_shows, files_when, LeavesOut, Shows, Breaks, BreaksOrder, BreaksShows, BreaksOutcomes, BreaksCauses, BreaksFollowing, IsFault, InLine, LeftOut, lines_up_to, IsLeastFault, Keeps, IsFaultless}
+use Rattle.std.specs.Prelude.{nat_lt}
 use Rattle.jn_judged.proofs.Sets.{clash, not-so}
 use Rattle.jn_judged.proofs.Splits.{NoneBreaks, none-breaks, split-of}
 

@@ -1,5 +1,5 @@
 -- What each rule says of the whole report.
-use Rattle.jn_judged.proofs.Common.{List, arith, ◌↔◌, AllFiles, Event, Line, OperationsAgree, Told, Caused, Follows, breaks_outcomes, breaks_causes, breaks_following, breaks_order, BreaksOrder, BreaksOutcomes, BreaksCauses, BreaksFollowing, Keeps, IsFaultless, KeepsAll}
+use Rattle.jn_judged.proofs.Common.{List, arith, ◌↔◌, AllFiles, Event, Line, Agrees, Told, Caused, Follows, breaks_outcomes, breaks_causes, breaks_following, breaks_order, BreaksOrder, BreaksOutcomes, BreaksCauses, BreaksFollowing, Keeps, IsFaultless, KeepsAll}
 use Rattle.jn_judged.proofs.Faults.{keeps-to, keeps-from, one-of}
 use Rattle.jn_judged.proofs.Order.{agrees-by-lines}
 use Rattle.jn_judged.proofs.Shows.{shows-kept}
@@ -7,7 +7,7 @@ use Rattle.jn_judged.proofs.Outcomes.{told-by-lines}
 use Rattle.jn_judged.proofs.Causes.{caused-by-lines}
 use Rattle.jn_judged.proofs.Following.{follows-by-lines}
 
-pub order-kept : (files : AllFiles) (es : List Event) (lines : List Line) → Keeps files es lines 10 ↔ OperationsAgree files es lines
+pub order-kept : (files : AllFiles) (es : List Event) (lines : List Line) → Keeps files es lines 10 ↔ Agrees files es lines
 order-kept files es lines = (
   λ h. (agrees-by-lines files es lines).0 (keeps-to files es lines (breaks_order files es) 10 (λ before l after b. BreaksOrder b) h),
   λ h. keeps-from files es lines 10 ((agrees-by-lines files es lines).1 h) (λ e. absurd (omega (arith, e))),

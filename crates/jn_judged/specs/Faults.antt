@@ -12,7 +12,7 @@ use Rattle.jn_report.specs.declared.line.When.TheVariants.{Event as AtEvent, End
 use Rattle.jn_report.specs.declared.line.Line.{Line}
 use Rattle.jn_report.specs.declared.line.Text.TheVariants.{Commits}
 use Rattle.jn_serial.specs.Lines.{is_before, lines_at, says, event_at, history_of}
-use Rattle.jn_serial.specs.Order.{OperationsAgree}
+use Rattle.jn_serial.specs.Order.{Agrees}
 use Rattle.jn_serial.specs.Shown.{Shown as ShowsAll, accounts_file, accounts_block, prints_file}
 use Rattle.jn_serial.specs.Told.{Told as IsTold}
 use Rattle.jn_serial.specs.Caused.{Caused as IsCaused}
@@ -68,7 +68,7 @@ CountsCommits lines = (before : List Line) (l : Line) (n : ℕ) → lines ≡ be
 
 -- the report is that of its commits
 pub record KeepsAll (files : AllFiles) (events : List Event) (lines : List Line) : Type 0 where
-  pub agrees : OperationsAgree files events lines
+  pub agrees : Agrees files events lines
   pub shown : ShowsAll files events lines
   pub told : IsTold lines
   pub caused : IsCaused events lines

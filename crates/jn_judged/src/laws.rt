@@ -4,7 +4,7 @@ ghost use Rattle.std.specs.Prelude.{◌↔◌, ◌≡◌, ℕ, List};
 ghost use Rattle.jn_order.specs.Files.{AllFiles};
 ghost use Rattle.jn_schedule.specs.declared.Event.{Event};
 ghost use Rattle.jn_report.specs.declared.line.Line.{Line};
-ghost use Rattle.jn_serial.specs.Order.{OperationsAgree};
+ghost use Rattle.jn_serial.specs.Order.{Agrees};
 ghost use Rattle.jn_serial.specs.Shown.{Shown};
 ghost use Rattle.jn_serial.specs.Told.{Told};
 ghost use Rattle.jn_serial.specs.Caused.{Caused};
@@ -13,7 +13,7 @@ ghost use Rattle.jn_judged.specs.Faults.{Keeps, IsFaultless, IsLeastFault, Count
 
 /// Rule 10: the answers from the files are those of the commits run one after another.
 pub fn answers_agree_line_by_line()
-    ensures { (files : AllFiles) (events : List Event) (lines : List Line) → Keeps files events lines 10 ↔ OperationsAgree files events lines }
+    ensures { (files : AllFiles) (events : List Event) (lines : List Line) → Keeps files events lines 10 ↔ Agrees files events lines }
 {}
 
 /// Rule 11: each show that printed, and the end, show the files after the commits before them, and the last line, if it is a

@@ -1,7 +1,6 @@
 -- Each operation, from what it does to the list of stored files.
-use Rattle.jn_replay.proofs.Common.{◌≡◌, ℕ, ◌+◌, ◌≤◌, nat_lt, Bool, true, false, not, ◌&&◌, if◌then◌else◌, List, [], ◌∷◌, ◌++◌, length, filter, set, Option, Some, None, refl, sym, ap, ◌∙◌, subst, inl, inr, arith, length-append, eqb-true, option_map, option_and_then, Result, Ok, Err, IsErr, MatchResult, cases_Bool, cond-false, and_left, nat_tests, ServerNo, FileNo, BlockNo, LockUnit, File, Block, Answer, server_eq, file_eq, block_eq, there, zeros, or_else, change, effect, answer_to, is_did, all_files_after, server_eq-true, server_eq-refl, all_files_after-here, all_files_after-elsewhere, files_after-did, files_after-not_did, StoredBlock, StoredFile, stored_file, stored_block, registers, AreSame, is_file, Does, Keeps}
+use Rattle.jn_replay.proofs.Common.{◌≡◌, ℕ, ◌+◌, ◌≤◌, nat_lt, Bool, true, false, not, ◌&&◌, if◌then◌else◌, List, [], ◌∷◌, ◌++◌, length, filter, set, Option, Some, None, refl, sym, ap, ◌∙◌, subst, inl, inr, arith, length-append, eqb-true, option_map, option_and_then, Result, Ok, Err, IsErr, MatchResult, cases_Bool, cond-false, and_left, nat_tests, ServerNo, FileNo, BlockNo, LockUnit, File, Block, Answer, server_eq, file_eq, block_eq, there, zeros, or_else, change, effect, answer_to, is_did, all_files_after, server_eq-true, server_eq-refl, all_files_after-here, all_files_after-elsewhere, files_after-did, files_after-not_did, StoredBlock, StoredFile, stored_file, stored_block, registers, AreSame, is_file, Does, Keeps, Op}
 use Rattle.std.proofs.Math.ListN.{length-set}
-use Rattle.jn_base.specs.declared.op.Op.{Op}
 use Rattle.jn_base.specs.declared.op.Op.TheVariants.{Create, Remove, Cut, Read, Write}
 use Rattle.jn_base.specs.declared.op.Answer.TheVariants.{Did, Read as Found, NoFile, Exists}
 use Rattle.jn_replay.proofs.StoredLemmas.{IsPlace, stored_file-set, stored_file-push, stored_file-filter, stored_block-filter, block_count-set, block_count-push, block_count-filter, length-filter}

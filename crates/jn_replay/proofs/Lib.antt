@@ -2,3 +2,4 @@ mod Common
 pub mod StoredLemmas
 pub mod DoesLemmas
 pub mod Same
+pub mod Replying

@@ -1,3 +1,4 @@
 pub mod Stored
 pub mod Edits
 pub mod Operations
+pub mod Replies

@@ -1,15 +1,15 @@
 -- Where each answer follows its command, what a transaction did by its lines is what it did by its commands.
-use Rattle.jn_serial.proofs.Common.{◌≡◌, ◌≢◌, ◌⊎◌, inl, inr, ℕ, zero, suc, ◌+◌, ◌<◌, ◌≤◌, nat_eq, nat_lt, Bool, true, false, ◌&&◌, if◌then◌else◌, List, [], ◌∷◌, ◌++◌, length, Option, Some, None, refl, sym, ◌∙◌, ap, subst, arith, append_assoc, append-nil, length-append, true≢false, nat_tests, ClientNo, Tid, Answer, client_eq, client_tells, Performed, Event, When, AtEvent, End, Text, Line, when_eq, is_before, lines_at, lines_before, says, event_at, begun_after, begun_then, last_begun, is_tid, is_in, answer_told, first_answer_told, performed, operation_in, operations_from, operations_of, Outstanding, Asked, nothing_asked, with_asked, answers_command, answer_in, fits, fits_asked, after_answer, AllFit, after_answers, after_event, refuses_own, AllOwnInPlace, own_in_place, FollowsEvent, after_one, FollowsFrom, is_answer, IsOfEvent, AllOfEvents, Follows}
+use Rattle.jn_serial.proofs.Common.{◌≡◌, ◌≢◌, ◌⊎◌, inl, inr, ℕ, zero, suc, ◌+◌, ◌<◌, ◌≤◌, nat_eq, nat_lt, Bool, true, false, ◌&&◌, if◌then◌else◌, List, [], ◌∷◌, ◌++◌, length, Option, Some, None, refl, sym, ◌∙◌, ap, subst, arith, append_assoc, append-nil, length-append, true≢false, nat_tests, ClientNo, Tid, Answer, client_eq, client_tells, Performed, Event, When, AtEvent, End, Text, Line, when_eq, is_before, lines_at, lines_before, says, event_at, begun_after, begun_then, last_begun, is_tid, is_in, answer_told, first_answer_told, performed, operation_in, operations_from, operations_of, is_call, Outstanding, Asked, nothing_asked, with_asked, answers_command, answers_order, answer_in, fits, fits_asked, after_answer, after_answers, after_event, refuses_own, AllOwnInPlace, own_in_place, FollowsEvent, after_one, FollowsFrom, is_answer, IsOfEvent, AllOfEvents, Follows, list_any, or_also, ServerNo, Op, AllFit}
 use Rattle.jn_serial.proofs.LineByLine.{performed_in, answered, answered_by, is_its_client, operations_told}
-use Rattle.jn_order.specs.Changes.{or_also}
-use Rattle.jn_base.specs.declared.names.ServerNo.{ServerNo}
-use Rattle.jn_base.specs.declared.op.Op.{Op}
 use Rattle.jn_base.specs.declared.op.Answer.TheVariants as answers
 use Rattle.jn_base.specs.declared.op.Command.{Command}
 use Rattle.jn_base.specs.declared.op.Command.TheVariants as commands
+use Rattle.jn_calls.specs.declared.order.Order.{Order}
+use Rattle.jn_calls.specs.declared.order.Order.TheVariants as orders
 use Rattle.jn_schedule.specs.declared.Event.TheVariants as events
 use Rattle.jn_report.specs.declared.line.Refusal.TheVariants as refusals
 use Rattle.jn_report.specs.declared.line.Text.TheVariants as says
+use Rattle.jn_serial.proofs.WithCalls.{no-call-first, no-call-rest}
 use Rattle.jn_serial.proofs.Growth.{IsWithin, AreWithin, AreWithin-wider, AreWithin-append, lines_at-outside, lines_at-whole}
 use Rattle.jn_serial.proofs.Ops.{AnswersWithin, AllAnswerWithin, AllAnswerWithin-append, AllAnswerWithin-wider, told_from-events}
 use Rattle.jn_serial.proofs.Orders.{owner_then, operations_told-append, lines_at-append, lines_before-append}
@@ -189,9 +189,11 @@ module _ (t : Tid) (n : ℕ) (ls : List Line) (l : Line) (w : (i : ℕ) → i �
 
 -- ---- what holds after some events and their lines
 
--- the command that a client waits for stands among the events, no line has answered it or a later one, and the client has begun nothing since
+-- what a client waits for is a command, which stands among the events, no line has answered it or a later one, and the client has begun nothing since
 pub record IsOpen (es : List Event) (ls : List Line) (c : ClientNo) (a : Asked) : Type 0 where
-  stands : StandsAt 1 es a.number (events.Command c a.command)
+  command : Command
+  is : a.order ≡ orders.Command command
+  stands : StandsAt 1 es a.number (events.Command c command)
   untold : (j : ℕ) → a.number ≤ j → first_answer_told c j ls ≡ None
   begun : last_begun c (lines_before (AtEvent a.number) ls) ≡ last_begun c ls
 
@@ -210,9 +212,9 @@ some-asked a b e = cc
 none-asked : (a : Asked) → None ≡ Some a → ⊥
 none-asked a e = cc
 
--- one more event, of which nothing is reported yet
-event-so-far : (es : List Event) (ls : List Line) (out : Outstanding) (e : Event) (here : List Line) → InTurnSoFar es ls out → InTurnSoFar (es ++ e ∷ []) ls (after_event out (length es + 1) e here)
-event-so-far es ls out e here h = record {
+-- one more event, which is no call and of which nothing is reported yet
+event-so-far : (es : List Event) (ls : List Line) (out : Outstanding) (e : Event) (here : List Line) → is_call e ≡ false → InTurnSoFar es ls out → InTurnSoFar (es ++ e ∷ []) ls (after_event out (length es + 1) e here)
+event-so-far es ls out e here plain h = record {
   within = subst (λ n. AreWithin 0 (n + 1) ls) (sym (length-more es e)) (AreWithin-wider 0 (length es + 1) 0 (length es + 1 + 1) ls (omega arith) (omega arith) h.within);
   below = subst (λ n. AllAnswerWithin n ls) (sym (length-more es e)) (AllAnswerWithin-wider (length es) (length es + 1) ls (omega arith) h.below);
   waits = waits e refl;
@@ -221,26 +223,28 @@ event-so-far es ls out e here h = record {
 }
   where
     old : (c : ClientNo) (a : Asked) → out c ≡ Some a → IsOpen (es ++ e ∷ []) ls c a
-    old c a k = let o = h.waits c a k in record { stands = stands-more 1 es (e ∷ []) a.number (events.Command c a.command) o.stands; untold = o.untold; begun = o.begun }
+    old c a k = let o = h.waits c a k in record { command = o.command; is = o.is; stands = stands-more 1 es (e ∷ []) a.number (events.Command c o.command) o.stands; untold = o.untold; begun = o.begun }
 
     waits : (x : Event) → e ≡ x → (c : ClientNo) (a : Asked) → after_event out (length es + 1) x here c ≡ Some a → IsOpen (es ++ e ∷ []) ls c a
     waits (events.Command d command) is c a k = by (says (refuses_own d (length es + 1)) here) k
       where
-        new : d ≡ c → record { number = length es + 1; command = command } ≡ a → IsOpen (es ++ e ∷ []) ls c a
+        new : d ≡ c → record { number = length es + 1; order = orders.Command command } ≡ a → IsOpen (es ++ e ∷ []) ls c a
         new f g = subst (λ (z : ClientNo). IsOpen (es ++ e ∷ []) ls z a) f (subst (λ (z : Asked). IsOpen (es ++ e ∷ []) ls d z) g (record {
+          command = command;
+          is = refl;
           stands = subst (λ n. StandsAt 1 (es ++ e ∷ []) n (events.Command d command)) (omega arith) (subst (λ (z : Event). StandsAt 1 (es ++ e ∷ []) (1 + length es) z) is (stands-last 1 es e));
           untold = λ j l. untold-later (length es) d j ls (omega (arith, l)) h.below;
           begun = ap (λ m. last_begun d m) (before-all (length es + 1) ls h.within);
         }))
 
-        by : (b : Bool) → (if b then out else with_asked out d (Some (record { number = length es + 1; command = command }))) c ≡ Some a → IsOpen (es ++ e ∷ []) ls c a
+        by : (b : Bool) → (if b then out else with_asked out d (Some (record { number = length es + 1; order = orders.Command command }))) c ≡ Some a → IsOpen (es ++ e ∷ []) ls c a
         by true k = old c a k
         by false k = elim (client_tells d c) [
-          | inl f ↦ new f.1 (some-asked _ a (sym (ap (λ (b : Bool). if b then Some (record { number = length es + 1; command = command }) else out c) f.0) ∙ k))
-          | inr f ↦ old c a (sym (ap (λ (b : Bool). if b then Some (record { number = length es + 1; command = command }) else out c) f.0) ∙ k)
+          | inl f ↦ new f.1 (some-asked _ a (sym (ap (λ (b : Bool). if b then Some (record { number = length es + 1; order = orders.Command command }) else out c) f.0) ∙ k))
+          | inr f ↦ old c a (sym (ap (λ (b : Bool). if b then Some (record { number = length es + 1; order = orders.Command command }) else out c) f.0) ∙ k)
         ]
     waits (events.Again d) is c a k = old c a k
-    waits (events.Call d s call) is c a k = old c a k
+    waits (events.Call d s call) is c a k = absurd (true≢false (sym (ap is_call is) ∙ plain))
     waits (events.Deliver n) is c a k = old c a k
     waits events.Settle is c a k = old c a k
     waits (events.Step s) is c a k = old c a k
@@ -264,7 +268,9 @@ line-so-far : (es : List Event) (ls : List Line) (out out' : Outstanding) (l : L
 line-so-far es ls out out' l h w at adds = record {
   within = AreWithin-append 0 (length es + 1) ls (l ∷ []) h.within (at, tt);
   below = AllAnswerWithin-append (length es) ls (l ∷ []) h.below (adds.within, tt);
-  waits = λ c a k. let n = adds.waits c a k in let o = h.waits c a n.0 in let low = stands-from 1 es a.number (events.Command c a.command) o.stands in let most = low.1 in record {
+  waits = λ c a k. let n = adds.waits c a k in let o = h.waits c a n.0 in let low = stands-from 1 es a.number (events.Command c o.command) o.stands in let most = low.1 in record {
+    command = o.command;
+    is = o.is;
     stands = o.stands;
     untold = λ j b. first_answer_told-more c j ls l ∙ ap (λ x. or_also x (answer_told c j l.text)) (o.untold j b) ∙ n.1.0 j;
     begun = ap (λ m. last_begun c m) (before-more (length es) a.number ls l (omega (arith, most)) w) ∙ o.begun ∙ sym (begun_then-more c None ls l ∙ n.1.1 (last_begun c ls));
@@ -283,9 +289,12 @@ quiet-adds es ls out out' l h w within none silent waits = record {
       ∙ sym (operations_told-append es t ls (l ∷ []) ∙ ap (λ z. operations_told es ls t ++ (z ++ [])) (silent (owner_then t None ls)) ∙ append-nil (operations_told es ls t));
 }
 
+same-command : (a b : Command) → orders.Command a ≡ orders.Command b → a ≡ b
+same-command a b e = cc
+
 -- a line that answers a client's operation from the files
 told-adds : (es : List Event) (ls : List Line) (out : Outstanding) (l : Line) (d : ClientNo) (x : Asked) (s : ServerNo) (op : Op) (a : Answer) → InTurnSoFar es ls out → ((i : ℕ) → i ≤ length es → is_before l.when (AtEvent i) ≡ false)
-    → out d ≡ Some x → x.command ≡ commands.Do s op → AnswersWithin x.number l.text
+    → out d ≡ Some x → x.order ≡ orders.Command (commands.Do s op) → AnswersWithin x.number l.text
     → answer_told d x.number l.text ≡ Some a → ((c : ClientNo) (i : ℕ) → (c ≢ d) ⊎ (i ≢ x.number) → answer_told c i l.text ≡ None)
     → ((o : Option ClientNo) → answered_by es o l.text ≡ (if is_its_client o d then performed_in d a (event_at es x.number) else []))
     → ((c : ClientNo) (b : Option Tid) → begun_after c b l.text ≡ b) → Adds es ls out l (with_asked out d None)
@@ -304,10 +313,10 @@ told-adds es ls out l d x s op a h w asked command within its others told none =
     o = h.waits d x asked
 
     stands : StandsAt 1 es x.number (events.Command d (commands.Do s op))
-    stands = subst (λ (z : Command). StandsAt 1 es x.number (events.Command d z)) command o.stands
+    stands = subst (λ (z : Command). StandsAt 1 es x.number (events.Command d z)) (same-command o.command (commands.Do s op) (sym o.is ∙ command)) o.stands
 
     most : x.number < 1 + length es
-    most = (stands-from 1 es x.number (events.Command d x.command) o.stands).1
+    most = (stands-from 1 es x.number (events.Command d o.command) o.stands).1
 
     AnswersWithin-most : (text : Text) → x.number ≤ length es → AnswersWithin x.number text → AnswersWithin (length es) text
     AnswersWithin-most text le k = (AllAnswerWithin-wider x.number (length es) ((record { when = End; text = text }) ∷ []) le (k, tt)).0
@@ -321,7 +330,7 @@ told-adds es ls out l d x s op a h w asked command within its others told none =
 
 -- ---- each line by what it says
 
-asked-is : (o : Option Asked) (j : ℕ) (text : Text) → fits_asked o j text ≡ true → (x : Asked) × ((o ≡ Some x) × ((x.number ≡ j) × (answers_command x.command text ≡ true)))
+asked-is : (o : Option Asked) (j : ℕ) (text : Text) → fits_asked o j text ≡ true → (x : Asked) × ((o ≡ Some x) × ((x.number ≡ j) × (answers_order x.order text ≡ true)))
 asked-is None j text h = absurd (true≢false (sym h))
 asked-is (Some x) j text h = (x, (refl, (grind (arith, nat_tests, h), grind (arith, h))))
 
@@ -347,7 +356,7 @@ op-is commands.Abort text a b c d h = absurd (not-both _ h d)
 
 module _ (es : List Event) (ls : List Line) (out : Outstanding) (l : Line) (h : InTurnSoFar es ls out) (w : (i : ℕ) → i ≤ length es → is_before l.when (AtEvent i) ≡ false) where
   asked-within : (d : ClientNo) (j : ℕ) (text : Text) → fits_asked (out d) j text ≡ true → j ≤ length es
-  asked-within d j text k = let a = asked-is (out d) j text k in let low = (stands-from 1 es a.0.number (events.Command d a.0.command) (h.waits d a.0 a.1.0).stands).1 in let is = a.1.1.0 in omega (arith, low, is)
+  asked-within d j text k = let a = asked-is (out d) j text k in let o = h.waits d a.0 a.1.0 in let low = (stands-from 1 es a.0.number (events.Command d o.command) o.stands).1 in let is = a.1.1.0 in omega (arith, low, is)
 
   clears : (d c : ClientNo) (a : Asked) → with_asked out d None c ≡ Some a → (out c ≡ Some a) × (client_eq d c ≡ false)
   clears d c a = by (client_eq d c) refl
@@ -381,8 +390,9 @@ module _ (es : List Event) (ls : List Line) (out : Outstanding) (l : Line) (h : 
       → ((n : ℕ) → j ≤ n → AnswersWithin n x) → ((c : ClientNo) (i : ℕ) → answer_told c i x ≡ (if client_eq c d && nat_eq i j then Some a else None)) → ((c : ClientNo) → answered es c x ≡ (if client_eq c d then performed_in c a (event_at es j) else []))
       → ((c : ClientNo) (b : Option Tid) → begun_after c b x ≡ b) → Adds es ls out l (with_asked out d None)
   from-files d j a x is fit p q r u within told does keeps =
-      let y = asked-is (out d) j x fit in let o = op-is y.0.command x p q r u y.1.1.1 in
-      told-adds es ls out l d y.0 o.0 o.1.0 a h w y.1.0 o.1.1 (subst (λ z. AnswersWithin y.0.number z) (sym is) (within y.0.number (let e = y.1.1.0 in omega (arith, e))))
+      let y = asked-is (out d) j x fit in let open-so = h.waits d y.0 y.1.0 in
+      let o = op-is open-so.command x p q r u (subst (λ (z : Order). answers_order z x ≡ true) open-so.is y.1.1.1) in
+      told-adds es ls out l d y.0 o.0 o.1.0 a h w y.1.0 (open-so.is ∙ ap (λ (z : Command). orders.Command z) o.1.1) (subst (λ z. AnswersWithin y.0.number z) (sym is) (within y.0.number (let e = y.1.1.0 in omega (arith, e))))
       (ap (λ z. answer_told d y.0.number z) is ∙ told d y.0.number ∙ ap (λ (b : Bool). if b then Some a else None) (both (client_eq d d) (nat_eq y.0.number j) (self-client d) (let e = y.1.1.0 in grind (arith, nat_tests, e))))
       (λ c i ne. ap (λ z. answer_told c i z) is ∙ told c i ∙ ap (λ (b : Bool). if b then Some a else None) (other c i y.0.number y.1.1.0 ne))
       (λ o. ap (λ z. answered_by es o z) is ∙ does-by o ∙ ap (λ i. if is_its_client o d then performed_in d a (event_at es i) else []) (sym y.1.1.0))
@@ -526,13 +536,13 @@ of-later : (n : ℕ) (here later : List Line) → AllOfEvents n (here ++ later) 
 of-later n [] later h = h
 of-later n (l ∷ here) later h = of-later n here later h.1
 
-pub all-in-turn : (count : ℕ) (t : Tid) (es rest : List Event) (ls later : List Line) (out : Outstanding) → InTurnSoFar es ls out → AreInTurn (length es + 1) rest later → FollowsFrom out (length es + 1) rest (ls ++ later) → AllOfEvents count later → HasOneClient t (ls ++ later)
+pub all-in-turn : (count : ℕ) (t : Tid) (es rest : List Event) (ls later : List Line) (out : Outstanding) → list_any is_call rest ≡ false → InTurnSoFar es ls out → AreInTurn (length es + 1) rest later → FollowsFrom out (length es + 1) rest (ls ++ later) → AllOfEvents count later → HasOneClient t (ls ++ later)
     → operations_of (es ++ rest) (ls ++ later) t ≡ operations_told (es ++ rest) (ls ++ later) t
-all-in-turn count t es [] ls later out h turn follows of one = subst (λ m. operations_of m (ls ++ later) t ≡ operations_told m (ls ++ later) t) (sym (append-nil es)) (end-same es t count ls later turn of (h.same t (one-front t ls later one)))
-all-in-turn count t es (e ∷ rest) ls later out h (here, (after, (is, (within, turn)))) follows of one =
+all-in-turn count t es [] ls later out plain h turn follows of one = subst (λ m. operations_of m (ls ++ later) t ≡ operations_told m (ls ++ later) t) (sym (append-nil es)) (end-same es t count ls later turn of (h.same t (one-front t ls later one)))
+all-in-turn count t es (e ∷ rest) ls later out plain h (here, (after, (is, (within, turn)))) follows of one =
     subst (λ m. operations_of m (ls ++ later) t ≡ operations_told m (ls ++ later) t) (append_assoc es (e ∷ []) rest)
     (subst (λ m. operations_of ((es ++ e ∷ []) ++ rest) m t ≡ operations_told ((es ++ e ∷ []) ++ rest) m t) lines
-    (all-in-turn count t (es ++ e ∷ []) rest (ls ++ here) after (after_one out (length es + 1) e here) now
+    (all-in-turn count t (es ++ e ∷ []) rest (ls ++ here) after (after_one out (length es + 1) e here) (no-call-rest e rest plain) now
     (subst (λ n. AreInTurn (n + 1) rest after) (sym (length-more es e)) turn)
     (subst (λ m. FollowsFrom (after_one out (length es + 1) e here) (length (es ++ e ∷ []) + 1) rest m) (sym lines)
     (subst (λ n. FollowsFrom (after_one out (length es + 1) e here) (n + 1) rest (ls ++ later)) (sym (length-more es e)) (subst (λ m. FollowsFrom (after_one out (length es + 1) e m) (length es + 1 + 1) rest (ls ++ later)) its follows.1)))
@@ -550,13 +560,13 @@ all-in-turn count t es (e ∷ rest) ls later out h (here, (after, (is, (within, 
     event = subst (λ m. FollowsEvent out (length es + 1) e m) its follows.0
 
     now : InTurnSoFar (es ++ e ∷ []) (ls ++ here) (after_one out (length es + 1) e here)
-    now = lines-so-far (es ++ e ∷ []) e ls here (after_event out (length es + 1) e here) (event-so-far es ls out e here h)
+    now = lines-so-far (es ++ e ∷ []) e ls here (after_event out (length es + 1) e here) (event-so-far es ls out e here (no-call-first e rest plain) h)
         (subst (λ n. AreWithin n (n + 1) here) (sym (length-more es e)) within) event.fit (subst (λ n. AllOwnInPlace n e here) (sym (length-more es e)) event.own)
 
--- Where the lines stand in turn and answer what clients were told to do, a transaction that no two clients have did by its
+-- Where no event is a call and the lines stand in turn and answer what clients were told to do, a transaction that no two clients have did by its
 -- commands what its lines report, one after another.
-pub ops-in-turn : (events : List Event) (lines : List Line) (t : Tid) → AreInTurn 1 events lines → Follows events lines → HasOneClient t lines → operations_of events lines t ≡ operations_told events lines t
-ops-in-turn events lines t turn follows one = all-in-turn (length events) t [] events [] lines nothing_asked (record {
+pub ops-in-turn : (events : List Event) (lines : List Line) (t : Tid) → list_any is_call events ≡ false → AreInTurn 1 events lines → Follows events lines → HasOneClient t lines → operations_of events lines t ≡ operations_told events lines t
+ops-in-turn events lines t plain turn follows one = all-in-turn (length events) t [] events [] lines nothing_asked plain (record {
   within = tt;
   below = tt;
   waits = λ c a k. absurd (none-asked a k);

@@ -1,5 +1,6 @@
 mod Common
 pub mod Growth
+pub mod WithCalls
 pub mod Refused
 pub mod Ops
 pub mod Beginners

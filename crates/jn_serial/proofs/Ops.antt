@@ -1,5 +1,5 @@
 -- What a transaction did, and what the commits give, with more events and more lines.
-use Rattle.jn_serial.proofs.Common.{◌≡◌, ℕ, ◌≤◌, cond, List, [], ◌∷◌, ◌++◌, length, Option, Some, None, refl, sym, ◌∙◌, ap, subst, arith, ClientNo, Tid, Answer, client_eq, AllFiles, files_then, GivesAnswers, Event, Text, Line, Performed, event_at, operations_of, replay_operations, OperationsAgreeFrom}
+use Rattle.jn_serial.proofs.Common.{◌≡◌, ℕ, ◌≤◌, cond, List, [], ◌∷◌, ◌++◌, length, Option, Some, None, refl, ◌∙◌, ap, arith, ClientNo, Tid, Answer, client_eq, AllFiles, files_then, Event, Text, Line, Performed, event_at, operations_of, replay_operations}
 use Rattle.jn_serial.proofs.LineByLine.{performed_in, answered, answered_by, owner_after, told_from}
 use Rattle.jn_report.specs.declared.line.Refusal.TheVariants as refusals
 use Rattle.jn_report.specs.declared.line.Text.TheVariants as says
@@ -82,10 +82,3 @@ pub replay_operations-by_ops : (files : AllFiles) (es : List Event) (ls : List L
 replay_operations-by_ops files es ls fs ms [] h = refl
 replay_operations-by_ops files es ls fs ms (t ∷ ts) h =
     replay_operations-by_ops (files_then (operations_of fs ms t) files) es ls fs ms ts h.1 ∙ ap (λ (ps : List Performed). replay_operations (files_then ps files) es ls ts) h.0
-
-pub OperationsAgreeFrom-by_ops : (files : AllFiles) (es : List Event) (ls : List Line) (fs : List Event) (ms : List Line) (ts : List Tid) → DidTheSame es ls fs ms ts → OperationsAgreeFrom files es ls ts → OperationsAgreeFrom files fs ms ts
-OperationsAgreeFrom-by_ops files es ls fs ms [] h a = tt
-OperationsAgreeFrom-by_ops files es ls fs ms (t ∷ ts) h a = (
-  subst (λ (ps : List Performed). GivesAnswers files ps) (sym h.0) a.0,
-  OperationsAgreeFrom-by_ops (files_then (operations_of fs ms t) files) es ls fs ms ts h.1 (subst (λ (ps : List Performed). OperationsAgreeFrom (files_then ps files) es ls ts) (sym h.0) a.1),
-)

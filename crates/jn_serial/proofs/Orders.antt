@@ -1,8 +1,6 @@
 -- The order of commits, on the same files and on lists joined end to end.
-use Rattle.jn_serial.proofs.Common.{ℕ, length, ◌≡◌, Bool, ◌||◌, List, [], ◌∷◌, ◌++◌, filter, refl, sym, ap, ◌∙◌, inl, inr, append_assoc, ◌+◌, ◌<◌, ◌↔◌, drop, get_or, Option, None, cases_Bool, ClientNo, Tid, tid_eq, AllFiles, Performed, AreSame, files_then, GivesAnswers, drop_here, Event, When, Text, Line, when_eq, is_before, lines_at, lines_before, says, has_tid, operations_of, replay_operations, OperationsAgreeFrom, NamesNone}
+use Rattle.jn_serial.proofs.Common.{ℕ, length, ◌≡◌, Bool, ◌||◌, List, [], ◌∷◌, ◌++◌, filter, refl, sym, ap, ◌∙◌, inl, inr, append_assoc, ◌+◌, ◌<◌, ◌↔◌, drop, get_or, Option, None, cases_Bool, ClientNo, Tid, tid_eq, AllFiles, Performed, AreSame, files_then, GivesAnswers, drop_here, Event, When, Text, Line, when_eq, is_before, lines_at, lines_before, says, has_tid, operations_of, OperationsAgreeFrom, NamesNone, list_any, same_files}
 use Rattle.jn_serial.proofs.LineByLine.{answered_by, owner_after, told_from, operations_told}
-use Rattle.std.specs.List.{list_any}
-use Rattle.jn_order.proofs.FilesLemmas.{same_files}
 
 -- whose transaction T is after these lines
 abbrev pub owner_then : Tid → Option ClientNo → List Line → Option ClientNo

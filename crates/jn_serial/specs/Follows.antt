@@ -1,12 +1,19 @@
--- Each answer to a client answers its outstanding command, in a form of that command, and a command that its client refuses is
+-- Each answer to a client answers its outstanding order, a command or a call, in a form of that order, and an order that its client refuses is
 -- refused once.
-use Rattle.std.specs.Prelude.{◌≡◌, ℕ, ◌+◌, ◌≤◌, Bool, true, false, nat_eq, ◌&&◌, ◌||◌, not, if◌then◌else◌, List, [], ◌∷◌, length, Option, Some, None}
+use Rattle.std.specs.Prelude.{◌≡◌, ℕ, ◌+◌, ◌≤◌, Bool, true, false, nat_eq, nat_lt, ◌&&◌, ◌||◌, not, if◌then◌else◌, List, [], ◌∷◌, length, Option, Some, None}
 use Rattle.jn_base.specs.declared.names.ClientNo.{ClientNo}
 use Rattle.jn_base.specs.declared.op.Op.{Op}
 use Rattle.jn_base.specs.declared.op.Op.TheVariants as ops
 use Rattle.jn_base.specs.declared.op.Command.{Command}
 use Rattle.jn_base.specs.declared.op.Command.TheVariants as commands
+use Rattle.jn_base.specs.declared.call.ByteCommand.{ByteCommand}
+use Rattle.jn_base.specs.declared.call.ByteCommand.TheVariants.{ReadBytes, WriteBytes}
+use Rattle.jn_base.specs.declared.call.Call.{Call}
+use Rattle.jn_base.specs.declared.call.Call.TheVariants.{OfBytes, OfNames}
 use Rattle.jn_base.specs.Names.{client_eq}
+use Rattle.jn_calls.specs.declared.order.Order.{Order}
+use Rattle.jn_calls.specs.declared.order.Order.TheVariants as orders
+use Rattle.jn_replay.specs.Replies.{bytes_fit}
 use Rattle.jn_schedule.specs.declared.Event.{Event}
 use Rattle.jn_schedule.specs.declared.Event.TheVariants as events
 use Rattle.jn_report.specs.declared.line.When.{When}
@@ -66,6 +73,39 @@ answers_command commands.Abort (says.Committed c j t) = true
 answers_command commands.Abort (says.Aborted c j t cause) = true
 answers_command command text = false
 
+-- the refusals that a read of a call can have
+abbrev pub is_of_reads : Refusal → Bool
+is_of_reads refusals.NoFile = true
+is_of_reads (refusals.Locked u t) = true
+is_of_reads refusals.TooManyReads = true
+is_of_reads (refusals.Broken u t) = true
+is_of_reads (refusals.Lost epoch now) = true
+is_of_reads refusals.Closing = true
+is_of_reads _ = false
+
+-- which calls on bytes a refusal can answer: of a write that it begins behind the end, or, where it has bytes, that they can't be written
+abbrev pub bytes_can_have : ByteCommand → Refusal → Bool
+bytes_can_have command refusals.NotBytes = true
+bytes_can_have (WriteBytes f offset bytes) (refusals.PastEnd n) = true
+bytes_can_have (WriteBytes f offset bytes) refusals.TooManyWrites = nat_lt 0 (length bytes)
+bytes_can_have command refusal = is_of_reads refusal
+
+-- which texts answer a call on bytes
+abbrev pub answers_bytes : ByteCommand → Text → Bool
+answers_bytes (ReadBytes f offset count) (says.Bytes c j bytes) = true
+answers_bytes (WriteBytes f offset bytes) (says.Did c j) = true
+answers_bytes command (says.Refused c j refusal) = bytes_can_have command refusal
+answers_bytes command text = false
+
+-- A call that no client makes is answered by none. Nor is one on names: no schedule has any.
+abbrev pub answers_call : Call → Text → Bool
+answers_call (OfBytes command) text = bytes_fit command && answers_bytes command text
+answers_call (OfNames command) text = false
+
+abbrev pub answers_order : Order → Text → Bool
+answers_order (orders.Command command) text = answers_command command text
+answers_order (orders.Call s call) text = answers_call call text
+
 -- whether it is the last answer
 abbrev pub is_last : Text → Bool
 is_last (says.Waiting c j s u t) = false
@@ -73,7 +113,7 @@ is_last _ = true
 
 abbrev pub fits_asked : Option Asked → ℕ → Text → Bool
 fits_asked None j text = false
-fits_asked (Some a) j text = nat_eq a.number j && answers_command a.command text
+fits_asked (Some a) j text = nat_eq a.number j && answers_order a.order text
 
 abbrev pub fits : Outstanding → Option Addressed → Text → Bool
 fits out None text = true
@@ -97,14 +137,17 @@ abbrev pub refuses_own : ClientNo → ℕ → Text → Bool
 refuses_own c number (says.Refused d j refusal) = is_own refusal && (client_eq c d && nat_eq number j)
 refuses_own c number _ = false
 
--- what is outstanding once an event's command is given: it replaces what was
+-- what is outstanding once an event's order is given: it replaces what was
 abbrev pub after_event : Outstanding → ℕ → Event → List Line → Outstanding
 after_event out number (events.Command c command) lines =
-    if says (refuses_own c number) lines then out else with_asked out c (Some (record { number = number; command = command }))
+    if says (refuses_own c number) lines then out else with_asked out c (Some (record { number = number; order = orders.Command command }))
+after_event out number (events.Call c s call) lines =
+    if says (refuses_own c number) lines then out else with_asked out c (Some (record { number = number; order = orders.Call s call }))
 after_event out number _ lines = out
 
 abbrev pub is_command_of : Event → ClientNo → Bool
 is_command_of (events.Command c command) d = client_eq c d
+is_command_of (events.Call c s call) d = client_eq c d
 is_command_of _ d = false
 
 -- the client's own refusals stand in the command's own event

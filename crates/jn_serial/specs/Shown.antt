@@ -14,7 +14,7 @@ use Rattle.jn_report.specs.declared.line.Text.{Text}
 use Rattle.jn_report.specs.declared.line.Text.TheVariants as says
 use Rattle.jn_report.specs.declared.line.Line.{Line}
 use Rattle.jn_serial.specs.Lines.{lines_at, lines_before, says, event_at, history_of}
-use Rattle.jn_serial.specs.Order.{replay_operations}
+use Rattle.jn_serial.specs.Order.{replay, replay_operations}
 use Rattle.jn_report.specs.Kinds.{is_locked, is_no_show}
 
 -- a line that prints a file or a page prints what is there
@@ -64,12 +64,22 @@ pub record ShownBy (replayed : List Tid → AllFiles) (events : List Event) (lin
   pub so_far : ShownSoFarBy replayed events lines
   pub at_end : ShownAtEndBy replayed lines
 
--- so it is where a history leaves what its operations do to these files
+-- so it is where a history leaves what its transactions do to these files
 abbrev pub ShownSoFar : AllFiles → List Event → List Line → Type 0
-ShownSoFar files events lines = ShownSoFarBy (replay_operations files events lines) events lines
+ShownSoFar files events lines = ShownSoFarBy (replay files events lines) events lines
 
 abbrev pub ShownAtEnd : AllFiles → List Event → List Line → Type 0
-ShownAtEnd files events lines = ShownAtEndBy (replay_operations files events lines) lines
+ShownAtEnd files events lines = ShownAtEndBy (replay files events lines) lines
 
 abbrev pub Shown : AllFiles → List Event → List Line → Type 0
-Shown files events lines = ShownBy (replay_operations files events lines) events lines
+Shown files events lines = ShownBy (replay files events lines) events lines
+
+-- and operation by operation
+abbrev pub OperationsShownSoFar : AllFiles → List Event → List Line → Type 0
+OperationsShownSoFar files events lines = ShownSoFarBy (replay_operations files events lines) events lines
+
+abbrev pub OperationsShownAtEnd : AllFiles → List Event → List Line → Type 0
+OperationsShownAtEnd files events lines = ShownAtEndBy (replay_operations files events lines) lines
+
+abbrev pub OperationsShown : AllFiles → List Event → List Line → Type 0
+OperationsShown files events lines = ShownBy (replay_operations files events lines) events lines

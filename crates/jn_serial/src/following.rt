@@ -3,14 +3,15 @@
 ghost use Rattle.std.specs.Prelude.{◌≡◌};
 ghost use Rattle.jn_serial.specs.Follows as follows;
 
-use jn_base::{ClientNo, Command};
+use jn_base::ClientNo;
+use jn_calls::Order;
 use jn_report::{Text, is_own};
 
-/// A command with the number of its event.
+/// An order, which is a command or a call, with the number of its event.
 #[derive(Drop)]
 pub struct Asked {
     pub number: usize,
-    pub command: Command,
+    pub order: Order,
 }
 
 /// Whether the text says that the client itself refused its command of the event.

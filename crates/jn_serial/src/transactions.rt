@@ -29,7 +29,11 @@ fn if_asked(
 }
 
 /// The answer from the files that a line gives to the client's command of an event.
-fn answer_told(client: ClientNo, number: usize, text: &Text) -> Result<Option<Answer>, AllocError>
+pub(crate) fn answer_told(
+    client: ClientNo,
+    number: usize,
+    text: &Text,
+) -> Result<Option<Answer>, AllocError>
     ensures { IfOk result (λ a. a ≡ order.answer_told client number text.now) }
 {
     match text {

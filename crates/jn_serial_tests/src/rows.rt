@@ -1,8 +1,8 @@
 //! Whole reports by hand, and forged ones.
 
 use jn_base::{
-    BlockContent, BlockNo, Cause, ClientNo, Command, FaultKind, FileNo, LockUnit, Op, Resource,
-    ServerNo, Tid,
+    BlockContent, BlockNo, ByteCommand, ByteString, Call, Cause, ClientNo, Command, FaultKind,
+    FileNo, LockUnit, NameCommand, Op, Resource, ServerNo, Tid,
 };
 use jn_causing::caused;
 use jn_following::follows;
@@ -453,5 +453,117 @@ fn shows(rt: HostRuntime) -> Result<(), Fail> {
         (Forgery::Text(8, Text::Ignored(0)), NOT_SHOWN),
     ];
     assert_eq!(rt; first_misjudged(alloc, &events, &lines, &expected)?, None);
+    Ok(())
+}
+
+fn string(alloc: Global, bytes: &[u8]) -> Result<ByteString, AllocError> {
+    ByteString::new(alloc, Vec::from_slice(alloc, bytes)?)
+}
+
+/// A transaction that creates file 7 and makes two calls.
+fn called(alloc: Global, first: Call, second: Call) -> Result<Vec<Event>, AllocError> {
+    let listed = vec![in alloc;
+        told_to(C1, Command::Begin(S0)),
+        Event::Settle,
+        told_to(C1, Command::Open(S0)),
+        Event::Settle,
+        told_to(C1, Command::Do(S0, Op::Create(SEVEN))),
+        Event::Settle,
+        Event::Call(C1, S0, first),
+        Event::Settle,
+        Event::Call(C1, S0, second),
+        Event::Settle,
+        told_to(C1, Command::End),
+        Event::Settle,
+    ]?;
+    Ok(listed)
+}
+
+/// The lines of that transaction, where the second call is answered so.
+fn called_lines(answer: Text) -> [Line; 7] {
+    [
+        at(2, Text::Begun(C1, 1, tid(0))),
+        at(4, Text::Opened(C1, 3, S0)),
+        at(6, Text::Did(C1, 5)),
+        at(8, Text::Did(C1, 7)),
+        at(10, answer),
+        at(12, Text::Commit(tid(0))),
+        at(12, Text::Committed(C1, 11, tid(0))),
+    ]
+}
+
+/// The lines of the end, where the file has bytes: its length, and the bytes.
+fn byte_lines(length: BlockContent, bytes: BlockContent) -> [Line; 5] {
+    [
+        at_end(Text::Down(S0)),
+        at_end(Text::File(S0, SEVEN)),
+        at_end(Text::Page(S0, SEVEN, BlockNo(0), length)),
+        at_end(Text::Page(S0, SEVEN, BlockNo(1), bytes)),
+        at_end(Text::Commits(1)),
+    ]
+}
+
+/// Three bytes are written, and ten are asked for.
+#[test]
+fn bytes_in_a_commit(rt: HostRuntime) -> Result<(), Fail> {
+    let alloc = rt.alloc();
+    let write = Call::OfBytes(ByteCommand::WriteBytes(SEVEN, 0, string(alloc, &[0x61, 0x62, 0])?));
+    let events = called(
+        alloc,
+        write,
+        Call::OfBytes(ByteCommand::ReadBytes(SEVEN, 0, 10)),
+    )?;
+    let right = Text::Bytes(C1, 9, string(alloc, &[0x61, 0x62, 0])?);
+    let length = BlockContent::new(alloc, &[0x4a, 0x42, 0x59, 0x54, 0, 0, 0, 3])?;
+    let end = byte_lines(length, block(alloc, 0x61, 0x62)?);
+    let lines = joined(alloc, &[&called_lines(right.copy()?), &end])?;
+    let changed = Text::Bytes(C1, 9, string(alloc, &[0x61, 0x63, 0])?);
+    let short = Text::Bytes(C1, 9, string(alloc, &[0x61, 0x62])?);
+    let elsewhere = Text::Bytes(C1, 7, string(alloc, &[0x61, 0x62, 0])?);
+    let page = Text::Page(S0, SEVEN, BlockNo(1), block(alloc, 0x61, 0x63)?);
+    let expected = [
+        (Forgery::Nothing, RIGHT),
+        (Forgery::Text(4, changed), NOT_AGREED),
+        (Forgery::Text(4, short), NOT_AGREED),
+        (
+            Forgery::Text(4, Text::Refused(C1, 9, Refusal::NotBytes)),
+            NOT_AGREED,
+        ),
+        (Forgery::Text(4, elsewhere), NOT_FOLLOWING),
+        (
+            Forgery::Text(4, Text::Refused(C1, 9, Refusal::TooManyWrites)),
+            NOT_FOLLOWING,
+        ),
+        (Forgery::Inserted(5, at(10, right)), NOT_FOLLOWING),
+        (Forgery::Text(10, page), NOT_SHOWN),
+    ];
+    assert_eq!(rt; first_misjudged(alloc, &events, &lines, &expected)?, None);
+    Ok(())
+}
+
+/// Whether the order of commits lists a name, which was bound before.
+fn lists_names(alloc: Global, name: &[u8], listed: Text) -> Result<bool, AllocError> {
+    let bind = NameCommand::Bind(SEVEN, string(alloc, name)?, FileNo(9));
+    let events = called(
+        alloc,
+        Call::OfNames(bind),
+        Call::OfNames(NameCommand::Names(SEVEN)),
+    )?;
+    let inserted = Forgery::Inserted(4, at(10, listed));
+    let lines = forged(alloc, &called_lines(Text::Did(C1, 9)), &inserted)?;
+    let none = Files::new(alloc);
+    agrees(alloc, &none, &events, &lines)
+}
+
+#[test]
+fn names_in_a_commit(rt: HostRuntime) -> Result<(), Fail> {
+    let alloc = rt.alloc();
+    let listed = Text::Name(C1, 9, string(alloc, b"a.b")?, FileNo(9));
+    assert!(rt; lists_names(alloc, b"a.b", listed)?);
+    let other = Text::Name(C1, 9, string(alloc, b"a.c")?, FileNo(9));
+    assert!(rt; !lists_names(alloc, b"a.b", other)?);
+    // A call whose name is none counts for nothing, and a line whose name is none lists nothing.
+    let none = Text::Name(C1, 9, string(alloc, b"A")?, FileNo(9));
+    assert!(rt; lists_names(alloc, b"A", none)?);
     Ok(())
 }

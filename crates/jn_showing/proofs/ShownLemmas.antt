@@ -18,7 +18,7 @@ use Rattle.jn_report.specs.declared.line.Text.TheVariants as says
 use Rattle.jn_report.specs.declared.line.Line.{Line}
 use Rattle.jn_replay.specs.declared.files.StoredBlock.{StoredBlock}
 use Rattle.jn_replay.specs.Edits.{is_file}
-use Rattle.jn_serial.specs.Order.{replay_operations}
+use Rattle.jn_serial.specs.Order.{replay}
 
 both : (a b : Bool) → (a && b) ≡ true → (a ≡ true) × (b ≡ true)
 both true b h = (refl, h)
@@ -323,21 +323,21 @@ file_there s f xs = elim (cases_Bool (is_some (position (is_file s f) xs))) [
     none_of (Some n) h = absurd (false≢true (sym h))
 
 -- what is found in lists of their own, on files that are the same
-pub server_where : (files after : AllFiles) (all : List Event) (lines : List Line) (number : ℕ) (s : ServerNo) (here before : List Line) (named : List Tid) → here ≡ lines_at (AtEvent number) lines → before ≡ lines_before (AtEvent number) lines → named ≡ history_of before → AreSame after (replay_operations files all lines named) → says is_no_show here ≡ false → ShowsFiles after s here ↔ ShowsServer files all lines number s
+pub server_where : (files after : AllFiles) (all : List Event) (lines : List Line) (number : ℕ) (s : ServerNo) (here before : List Line) (named : List Tid) → here ≡ lines_at (AtEvent number) lines → before ≡ lines_before (AtEvent number) lines → named ≡ history_of before → AreSame after (replay files all lines named) → says is_no_show here ≡ false → ShowsFiles after s here ↔ ShowsServer files all lines number s
 server_where files after all lines number s here before named at earlier list same printed =
-    let e : after ≡ replay_operations files all lines (history_of (lines_before (AtEvent number) lines)) = same_files after (replay_operations files all lines named) same ∙ ap (replay_operations files all lines) (list ∙ ap history_of earlier) in (
-      λ h no. subst (λ (ls : List Line). ShowsFiles (replay_operations files all lines (history_of (lines_before (AtEvent number) lines))) s ls) at (subst (λ (f : AllFiles). ShowsFiles f s here) e h),
-      λ h. subst (λ (f : AllFiles). ShowsFiles f s here) (sym e) (subst (λ (ls : List Line). ShowsFiles (replay_operations files all lines (history_of (lines_before (AtEvent number) lines))) s ls) (sym at) (h (sym (ap (says is_no_show) at) ∙ printed))),
+    let e : after ≡ replay files all lines (history_of (lines_before (AtEvent number) lines)) = same_files after (replay files all lines named) same ∙ ap (replay files all lines) (list ∙ ap history_of earlier) in (
+      λ h no. subst (λ (ls : List Line). ShowsFiles (replay files all lines (history_of (lines_before (AtEvent number) lines))) s ls) at (subst (λ (f : AllFiles). ShowsFiles f s here) e h),
+      λ h. subst (λ (f : AllFiles). ShowsFiles f s here) (sym e) (subst (λ (ls : List Line). ShowsFiles (replay files all lines (history_of (lines_before (AtEvent number) lines))) s ls) (sym at) (h (sym (ap (says is_no_show) at) ∙ printed))),
     )
 
 pub no_show_where : (files : AllFiles) (all : List Event) (lines : List Line) (number : ℕ) (s : ServerNo) (here : List Line) → here ≡ lines_at (AtEvent number) lines → says is_no_show here ≡ true → IsTrue true ↔ ShowsServer files all lines number s
 no_show_where files all lines number s here at stopped = (λ h no. absurd (false≢true (sym no ∙ sym (ap (says is_no_show) at) ∙ stopped)), λ h. refl)
 
-pub end_where : (files after : AllFiles) (all : List Event) (lines here : List Line) (named : List Tid) → here ≡ lines_at End lines → named ≡ history_of lines → AreSame after (replay_operations files all lines named) → (((s : ServerNo) → ShowsFiles after s here) × (says is_locked here ≡ false)) ↔ ShownAtEnd files all lines
+pub end_where : (files after : AllFiles) (all : List Event) (lines here : List Line) (named : List Tid) → here ≡ lines_at End lines → named ≡ history_of lines → AreSame after (replay files all lines named) → (((s : ServerNo) → ShowsFiles after s here) × (says is_locked here ≡ false)) ↔ ShownAtEnd files all lines
 end_where files after all lines here named at list same =
-    let e : after ≡ replay_operations files all lines (history_of lines) = same_files after (replay_operations files all lines named) same ∙ ap (replay_operations files all lines) list in (
-      λ h. record { all = λ s. subst (λ (ls : List Line). ShowsFiles (replay_operations files all lines (history_of lines)) s ls) at (subst (λ (f : AllFiles). ShowsFiles f s here) e (h.0 s)); unlocked = sym (ap (says is_locked) at) ∙ h.1 },
-      λ h. (λ s. subst (λ (f : AllFiles). ShowsFiles f s here) (sym e) (subst (λ (ls : List Line). ShowsFiles (replay_operations files all lines (history_of lines)) s ls) (sym at) (h.all s)), ap (says is_locked) at ∙ h.unlocked),
+    let e : after ≡ replay files all lines (history_of lines) = same_files after (replay files all lines named) same ∙ ap (replay files all lines) list in (
+      λ h. record { all = λ s. subst (λ (ls : List Line). ShowsFiles (replay files all lines (history_of lines)) s ls) at (subst (λ (f : AllFiles). ShowsFiles f s here) e (h.0 s)); unlocked = sym (ap (says is_locked) at) ∙ h.1 },
+      λ h. (λ s. subst (λ (f : AllFiles). ShowsFiles f s here) (sym e) (subst (λ (ls : List Line). ShowsFiles (replay files all lines (history_of lines)) s ls) (sym at) (h.all s)), ap (says is_locked) at ∙ h.unlocked),
     )
 
 pub shown_where : (files : AllFiles) (all : List Event) (lines : List Line) → (ShowsFrom files all lines 1 all × ShownAtEnd files all lines) ↔ Shown files all lines

@@ -15,7 +15,7 @@ use Rattle.jn_replay.specs.declared.files.StoredBlock.{StoredBlock}
 use Rattle.jn_replay.specs.declared.files.StoredFile.{StoredFile}
 use Rattle.jn_replay.specs.Stored.{stored_file}
 use Rattle.jn_serial.specs.Lines.{lines_at, lines_before, says, history_of}
-use Rattle.jn_serial.specs.Order.{replay_operations}
+use Rattle.jn_serial.specs.Order.{replay}
 use Rattle.jn_serial.specs.Shown.{accounts_file, accounts_block, ShowsFiles}
 use Rattle.jn_report.specs.Kinds.{is_no_show}
 
@@ -43,7 +43,7 @@ is_accounted stored lines s = list_all (file_accounted s lines) stored && list_a
 abbrev pub ShowsServer : AllFiles → List Event → List Line → ℕ → ServerNo → Type 0
 ShowsServer files events lines number s =
     says is_no_show (lines_at (AtEvent number) lines) ≡ false
-    → ShowsFiles (replay_operations files events lines (history_of (lines_before (AtEvent number) lines))) s (lines_at (AtEvent number) lines)
+    → ShowsFiles (replay files events lines (history_of (lines_before (AtEvent number) lines))) s (lines_at (AtEvent number) lines)
 
 abbrev pub ShowsEvent : AllFiles → List Event → List Line → ℕ → Event → Type 0
 ShowsEvent files events lines number (Show s) = ShowsServer files events lines number s

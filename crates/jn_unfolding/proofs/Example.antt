@@ -4,7 +4,7 @@ unfoldable use Rattle.jn_order.specs.Files.{zeros}
 use Rattle.jn_order.specs.Files.{no_files}
 use Rattle.jn_replay.specs.Operations.{GivesAnswers}
 unfoldable use Rattle.jn_bytes.specs.ByteFiles.{length_in, sized}
-use Rattle.jn_bytes.specs.Ranges.{Fits}
+use Rattle.jn_calls.specs.Calls.{Fits}
 use Rattle.jn_unfolding.specs.Logs.{log_of, IsWhole}
 use Rattle.jn_unfolding.specs.Example.{one_byte, all_written, cut_short, two_done}
 

@@ -1,21 +1,29 @@
 -- Calls are replied, and do, what their operations are answered and do.
-use Rattle.std.proofs.Common.{◌≡◌, List, [], ◌∷◌, ◌++◌, refl, sym, ◌∙◌, ap, subst, inl, inr}
+use Rattle.std.proofs.Common.{◌≡◌, if◌then◌else◌, List, [], ◌∷◌, ◌++◌, refl, sym, ◌∙◌, ap, subst, inl, inr}
 use Rattle.std.proofs.Math.Path.{fun_ext}
 use Rattle.std.proofs.lemmas.Bool.{cases_Bool, cond-true}
 use Rattle.jn_base.specs.declared.names.ServerNo.{ServerNo}
+use Rattle.jn_base.specs.declared.op.Answer.{Answer}
 use Rattle.jn_base.specs.Names.{server_eq}
 use Rattle.jn_order.specs.Files.{Files, AllFiles, answer_to, is_did, files_after, all_files_after}
 use Rattle.jn_order.specs.Changes.{files_then as ops_then}
 use Rattle.jn_order.proofs.FilesLemmas.{server_eq-true, server_eq-refl, files_after-not_did}
 use Rattle.jn_replay.specs.declared.files.Performed.{Performed}
 use Rattle.jn_replay.specs.Operations.{files_then, GivesAnswers}
-use Rattle.jn_bytes.specs.Calls.{files_after_call}
+use Rattle.jn_replay.specs.declared.replied.Replied.{Replied}
+use Rattle.jn_replay.specs.Replies.{files_by_all, GivesReplies}
 use Rattle.jn_order.specs.Answers.{Answered, ops_of, FilesAnswer}
-use Rattle.jn_bytes.proofs.Exchanging.{each-call}
-use Rattle.jn_unfolding.specs.Replies.{OfOperation, OfBytes, Done, at_server, files_after_all, GivesReplies}
+use Rattle.jn_calls.specs.declared.reply.Reply.TheVariants as replies
+use Rattle.jn_calls.specs.declared.reply.Wish.TheVariants as wishes
+use Rattle.jn_calls.specs.Calls.{files_by}
+use Rattle.jn_calls.proofs.Exchanging.{is-its-call}
 use Rattle.jn_unfolding.specs.Unfolding.{Unfolds, nothing, operation, call, left_over, performed_at}
 
 -- ---- changes at one server
+
+-- the files of all servers, where those of one change
+abbrev at_server : ServerNo → (Files → Files) → AllFiles → AllFiles
+at_server s f files q = if server_eq s q then f (files q) else files q
 
 there : (s : ServerNo) (f : Files → Files) (files : AllFiles) → at_server s f files s ≡ f (files s)
 there s f files = cond-true (server_eq s s) (f (files s)) (files s) (server_eq-refl s)
@@ -60,9 +68,9 @@ exchanged s (a ∷ more) os f files (h, k) =
 
 -- ---- all that was done
 
-pub unfolded : (files : AllFiles) (done : List Done) (operations : List Performed) → Unfolds done operations → GivesAnswers files operations → GivesReplies files done × (files_then operations files ≡ files_after_all done files)
+pub unfolded : (files : AllFiles) (done : List Replied) (operations : List Performed) → Unfolds done operations → GivesAnswers files operations → GivesReplies files done × (files_then operations files ≡ files_by_all done files)
 unfolded files _ _ nothing h = (tt, refl)
-unfolded files _ _ (operation p ds os u) (h, k) = let again = unfolded (all_files_after p.server p.op files) ds os u k in ((ap OfOperation h, again.0), again.1)
+unfolded files _ _ (operation p ds os u) (h, k) = let again = unfolded (all_files_after p.server p.op files) ds os u k in ((ap (λ (a : Answer). replies.Answered a) h, again.0), again.1)
 unfolded files _ _ (left_over p ds os is u) (h, k) =
     let same : all_files_after p.server p.op files ≡ files
     = same-there p.server (files_after p.op) (λ x. x) files (files_after-not_did p.op (files p.server) (ap is_did h ∙ is)) ∙ none-there p.server files in
@@ -70,7 +78,7 @@ unfolded files _ _ (left_over p ds os is u) (h, k) =
 unfolded files _ _ (call s c exchange reply ds os fits is u) h =
     let start : files ≡ at_server s (λ x. x) files = sym (none-there s files) in
     let parts = exchanged s exchange os (λ x. x) files (subst (λ (now : AllFiles). GivesAnswers now (performed_at s exchange ++ os)) start h) in
-    let one = (each-call c (files s) fits).each exchange reply parts.0 is in
-    let same : left_by s exchange (λ x. x) files ≡ at_server s (files_after_call c) files = same-there s (ops_then (ops_of exchange)) (files_after_call c) files one.1 in
-    let again = unfolded (at_server s (files_after_call c) files) ds os u (subst (λ (now : AllFiles). GivesAnswers now os) same parts.1) in
-    ((ap OfBytes (sym one.0), again.0), ap (files_then (performed_at s exchange ++ os)) start ∙ parts.2 ∙ ap (files_then os) same ∙ again.1)
+    let one = is-its-call c (files s) exchange reply fits parts.0 is in
+    let same : left_by s exchange (λ x. x) files ≡ at_server s (files_by (wishes.Call c)) files = same-there s (ops_then (ops_of exchange)) (files_by (wishes.Call c)) files one.1 in
+    let again = unfolded (at_server s (files_by (wishes.Call c)) files) ds os u (subst (λ (now : AllFiles). GivesAnswers now os) same parts.1) in
+    ((sym one.0, again.0), ap (files_then (performed_at s exchange ++ os)) start ∙ parts.2 ∙ ap (files_then os) same ∙ again.1)

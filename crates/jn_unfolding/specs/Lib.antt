@@ -1,4 +1,3 @@
-pub mod Replies
 pub mod Unfolding
 pub mod Logs
 pub mod Example

@@ -7,33 +7,30 @@ use Rattle.jn_base.specs.declared.op.Answer.{Answer}
 use Rattle.jn_base.specs.declared.op.Answer.TheVariants as answers
 use Rattle.jn_order.specs.Files.{is_did}
 use Rattle.jn_replay.specs.declared.files.Performed.{Performed}
-use Rattle.jn_base.specs.declared.call.ByteCommand.{ByteCommand}
-use Rattle.jn_bytes.specs.declared.stage.Stage.{Stage}
-use Rattle.jn_bytes.specs.declared.stage.Stage.TheVariants.{Length}
-use Rattle.jn_bytes.specs.declared.stage.Turn.{Turn}
-use Rattle.jn_bytes.specs.declared.stage.Turn.TheVariants.{Sends, Over}
-use Rattle.jn_bytes.specs.Calls.{file_of_call}
-use Rattle.jn_bytes.specs.Ranges.{Fits}
-use Rattle.jn_bytes.specs.Turns.{read_op, turn}
+use Rattle.jn_replay.specs.declared.replied.Replied.{Replied}
+use Rattle.jn_base.specs.declared.call.Call.{Call}
 use Rattle.jn_order.specs.Answers.{Answered}
-use Rattle.jn_unfolding.specs.Replies.{Done}
-use Rattle.jn_unfolding.specs.Unfolding.{done_operation, done_call, performed}
+use Rattle.jn_calls.specs.declared.state.CallState.{CallState}
+use Rattle.jn_calls.specs.Calls.{Fits}
+use Rattle.jn_calls.specs.Turns.{Turn, Asks as AsksNext, Over, first_op, begun as call_begun, turn}
+use Rattle.jn_serial.specs.Order.{as_replied}
+use Rattle.jn_unfolding.specs.Unfolding.{replied_call, performed}
 
 -- what a client does in a transaction, and what it hears
 pub data LogStep : Type 0 where
   Asks : ServerNo → Op → LogStep
-  Calls : ServerNo → (call : ByteCommand) → Fits call → LogStep
+  Calls : ServerNo → (call : Call) → Fits call → LogStep
   Hears : Answer → LogStep
   GivesUp : LogStep
 
 pub data UnderWay : Type 0 where
   Idle : UnderWay
   InOperation : ServerNo → Op → UnderWay
-  -- a call: the operation that is asked, which answer is waited for, and the operations before it
-  InCall : ServerNo → ByteCommand → Op → Stage → List Answered → UnderWay
+  -- a call: the operation that is asked, where the call stands then, and the operations before it
+  InCall : ServerNo → Call → Op → CallState → List Answered → UnderWay
 
 pub record Log : Type 0 where
-  pub done : List Done
+  pub done : List Replied
   pub operations : List Performed
   pub under_way : UnderWay
   -- a call was cut short behind a write of its own
@@ -52,31 +49,31 @@ abbrev pub counted : Log → Performed → Log
 counted l p = record l { operations = l.operations ++ p ∷ [] }
 
 -- one more thing is done, and nothing is under way
-abbrev pub completed : Log → Done → Log
+abbrev pub completed : Log → Replied → Log
 completed l d = record l { done = l.done ++ d ∷ []; under_way = Idle }
 
 -- a call goes on, or is done
-abbrev pub after_turn : Log → ServerNo → ByteCommand → List Answered → Turn → Log
-after_turn l s call exchange (Sends op stage) = record l { under_way = InCall s call op stage exchange }
-after_turn l s call exchange (Over reply) = completed l (done_call s call reply)
+abbrev pub after_turn : Log → ServerNo → Call → List Answered → Turn → Log
+after_turn l s call exchange (AsksNext op state) = record l { under_way = InCall s call op state exchange }
+after_turn l s call exchange (Over reply) = completed l (replied_call s call reply)
 
 -- an operation is answered by the files, by itself or in a call
 abbrev pub with_operation : Log → Performed → Log
-with_operation l p = completed (counted l p) (done_operation p)
+with_operation l p = completed (counted l p) (as_replied p)
 
-abbrev pub with_answered : Log → ServerNo → ByteCommand → Stage → List Answered → Answered → Log
-with_answered l s call stage exchange a = after_turn (counted l (performed s a)) s call (exchange ++ a ∷ []) (turn call stage a.answer)
+abbrev pub with_answered : Log → ServerNo → Call → CallState → List Answered → Answered → Log
+with_answered l s call state exchange a = after_turn (counted l (performed s a)) s call (exchange ++ a ∷ []) (turn state a.answer)
 
 abbrev pub answered : Log → UnderWay → Answer → Log
 answered l Idle answer = l
 answered l (InOperation s op) answer = with_operation l (record { server = s; op = op; answer = answer })
-answered l (InCall s call op stage exchange) answer = with_answered l s call stage exchange (record { op = op; answer = answer })
+answered l (InCall s call op state exchange) answer = with_answered l s call state exchange (record { op = op; answer = answer })
 
 -- what is under way is given up, and counts for nothing
 abbrev pub given_up : Log → UnderWay → Log
 given_up l Idle = l
 given_up l (InOperation s op) = record l { under_way = Idle }
-given_up l (InCall s call op stage exchange) = record l { under_way = Idle; half_written = l.half_written || list_any (λ a. is_did a.answer) exchange }
+given_up l (InCall s call op state exchange) = record l { under_way = Idle; half_written = l.half_written || list_any (λ a. is_did a.answer) exchange }
 
 -- an answer of the files: none for a lock, a limit, or a work that is gone
 abbrev pub is_of_files : Answer → Bool
@@ -88,7 +85,7 @@ is_of_files _ = false
 
 abbrev pub after : LogStep → Log → Log
 after (Asks s op) l = begun l l.under_way (InOperation s op)
-after (Calls s call fits) l = begun l l.under_way (InCall s call (read_op (file_of_call call) 0) Length [])
+after (Calls s call fits) l = begun l l.under_way (InCall s call (first_op call) (call_begun call) [])
 after (Hears answer) l = if is_of_files answer then answered l l.under_way answer else given_up l l.under_way
 after GivesUp l = given_up l l.under_way
 
@@ -100,7 +97,7 @@ abbrev pub log_of : List LogStep → Log
 log_of steps = after_all steps no_log
 
 abbrev pub is_in_call : UnderWay → Bool
-is_in_call (InCall s call op stage exchange) = true
+is_in_call (InCall s call op state exchange) = true
 is_in_call _ = false
 
 -- no call is under way, and none was cut short behind a write of its own

@@ -3,7 +3,7 @@
 ghost use Rattle.std.specs.Prelude.{◌≡◌, true};
 ghost use Rattle.jn_order.specs.Files.{no_files};
 ghost use Rattle.jn_replay.specs.Operations.{GivesAnswers};
-ghost use Rattle.jn_bytes.specs.Ranges.{Fits};
+ghost use Rattle.jn_calls.specs.Calls.{Fits};
 ghost use Rattle.jn_unfolding.specs.Logs.{log_of, IsWhole};
 ghost use Rattle.jn_unfolding.specs.Example.{one_byte, all_written, cut_short, two_done};
 

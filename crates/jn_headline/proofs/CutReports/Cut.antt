@@ -1,5 +1,5 @@
 -- What the lines say up to where the end of a run is cut off.
-use Rattle.jn_headline.proofs.Common.{◌≡◌, ℕ, ◌+◌, ◌≤◌, inr, length, Bool, true, false, List, [], ◌∷◌, ◌++◌, refl, sym, ◌∙◌, ap, subst, arith, length-map, ◌&&◌, list_all, ServerNo, AllFiles, Event, AtEvent, Text, Line, lines_at, nothing_asked, Follows, ShownSoFar, Caused-events, lines_at-outside, World, opening, commits_in, Step, NextEvent, Tell, StopDelivery, StopWork, StopRestart, Dismiss, run, IsRun, Item, events_of, lines_of, world_of, IsReported, told_by_steps, at_end, Each, each-append, items-follow, run-in-turn, run-follows, opening-reached, IsApart, run-outcomes, IsOfEnd, IsFinal, dismissed-told, with-end, IsCalm, texts-more, end-as-told, beginning-told, run-as-told, follows-to-end, is_show, silent-agrees, silent-shown, silent-follows, CutEnd, IsCutEnd, IsTrueSoFar, is_of_end, is_print, cut_lines}
+use Rattle.jn_headline.proofs.Common.{◌≡◌, ℕ, ◌+◌, ◌≤◌, inr, length, Bool, true, false, List, [], ◌∷◌, ◌++◌, refl, sym, ◌∙◌, ap, subst, arith, length-map, ◌&&◌, list_all, ServerNo, AllFiles, Event, AtEvent, Text, Line, lines_at, nothing_asked, Follows, Caused-events, lines_at-outside, World, opening, commits_in, Step, NextEvent, Tell, StopDelivery, StopWork, StopRestart, Dismiss, run, IsRun, Item, events_of, lines_of, world_of, IsReported, told_by_steps, at_end, Each, each-append, items-follow, run-in-turn, run-follows, opening-reached, IsApart, run-outcomes, IsOfEnd, IsFinal, dismissed-told, with-end, IsCalm, texts-more, end-as-told, beginning-told, run-as-told, follows-to-end, is_show, silent-agrees, silent-shown, silent-follows, CutEnd, IsCutEnd, IsTrueSoFar, is_of_end, is_print, cut_lines, OperationsShownSoFar, agrees_as_operations, so_far_as_operations, no-calls}
 use Rattle.jn_report.specs.declared.line.Text.TheVariants as says
 use Rattle.jn_serial.proofs.InTurn.{AreAtEnd, AreInTurn, turn-to-end}
 use Rattle.jn_system_reports.proofs.Causing.Causing.{run-causes}
@@ -100,15 +100,15 @@ module _ (servers : ℕ) (files : AllFiles) (epochs : ServerNo → ℕ) (items :
   as-told : AreAsTold files (events_of items) lines lines (run steps w)
   as-told = end-as-told servers files epochs [] items h steps k.steps calm e.printed prints.dumb prints.names lines same-texts turn follows
 
-  shown : ShownSoFar files (events_of items) (cut_lines items e (opening servers files epochs))
+  shown : OperationsShownSoFar files (events_of items) (cut_lines items e (opening servers files epochs))
   shown = shown-with files epochs servers items h lines texts refl
       (λ before later q. subst (λ l. (g : IsReported l start) (j : IsRun steps (world_of l start)) → texts_of lines ≡ texts_of (lines_of l start) ++ (told_by_steps steps (world_of l start) ++ e.printed) → AreInTurn 1 (events_of l) lines → Follows (events_of l) lines → AreAsTold files (events_of l) lines (lines_of before start) (world_of before start)) (sym q)
       (λ g j x t f. beginning-told servers files epochs before later g steps j calm e.printed prints.dumb prints.names lines x t f) h k.steps same-texts turn follows)
 
   pub cut-true : IsTrueSoFar files (events_of items) (events_of items) (cut_lines items e (opening servers files epochs))
   cut-true = record {
-    agrees = as-told.agrees;
-    shown = shown;
+    agrees = (agrees_as_operations files (events_of items) (cut_lines items e (opening servers files epochs)) _ (no-calls items h.under)).1 as-told.agrees;
+    shown = (so_far_as_operations files (events_of items) (cut_lines items e (opening servers files epochs)) (no-calls items h.under)).1 shown;
     told = told-with files epochs servers items h steps k.steps e.printed prints.apart ends;
     caused = with-end files epochs servers items texts h ends;
     follows = follows;
@@ -118,8 +118,8 @@ module _ (servers : ℕ) (files : AllFiles) (epochs : ServerNo → ℕ) (items :
 
 pub run-true : (servers : ℕ) (files : AllFiles) (epochs : ServerNo → ℕ) (items : List Item) → IsReported items (opening servers files epochs) → IsTrueSoFar files (events_of items) (events_of items) (lines_of items (opening servers files epochs))
 run-true servers files epochs items h = record {
-  agrees = (run-as-told servers files epochs items h).agrees;
-  shown = run-shown servers files epochs items h;
+  agrees = (agrees_as_operations files (events_of items) (lines_of items (opening servers files epochs)) _ (no-calls items h.under)).1 (run-as-told servers files epochs items h).agrees;
+  shown = (so_far_as_operations files (events_of items) (lines_of items (opening servers files epochs)) (no-calls items h.under)).1 (run-shown servers files epochs items h);
   told = run-outcomes files epochs items servers h;
   caused = run-causes files epochs servers items h;
   follows = run-follows files epochs servers items h;
