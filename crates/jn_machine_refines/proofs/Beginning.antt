@@ -1,5 +1,5 @@
 -- An event begins, and then it is refused or done.
-use Rattle.jn_machine_refines.proofs.Common.{◌≡◌, ◌⊎◌, inl, inr, ◌<◌, ℕ, Bool, true, false, List, [], ◌∷◌, ◌++◌, append-nil, drop, length, Option, Some, None, refl, sym, ◌∙◌, ap, subst, nat_lt, slice_get, is_some, ServerNo, Server, Message, AllFiles, Event, EventRefusal, Line, Text, RowOutcome, Sent, Pick, stable, Room, server_step, World, Memory, opening, NextEvent, run, after, work, works, Item, Act, Does, Refuses, Waiting, IsUnder, IsShown, AreStruck, steps_in, world_of, with_event, strike_all, told_in, at_event, lines_of, none_wait, plain, is_show, plain-append, sent-near, Setup, Chance, Task, Begins, Meets, Rests, State, Deed, nobody, no_room, plain_deed, stopped_idle, tells, refusal_of, settling, acted, met, go_on, most_messages, is_too_much, come_to, cut_short, made, own_texts, IsUsed, Befalls, Moment, DoesStep, behind, Left, whole_only, reported, HasTables, event-says}
+use Rattle.jn_machine_refines.proofs.Common.{◌≡◌, ◌⊎◌, inl, inr, ◌<◌, ℕ, Bool, true, false, List, [], ◌∷◌, ◌++◌, append-nil, drop, length, Option, Some, None, refl, sym, ◌∙◌, ap, subst, nat_lt, slice_get, is_some, ServerNo, Server, Message, AllFiles, Event, EventRefusal, Line, Text, RowOutcome, Sent, Pick, stable, Room, server_step, World, Memory, opening, NextEvent, run, after, work, works, Item, Act, Does, Refuses, Waiting, IsUnder, IsShown, AreStruck, steps_in, world_of, with_event, strike_all, told_in, at_event, lines_of, none_wait, plain, is_show, plain-append, sent-near, Setup, Chance, Task, Begins, Meets, Rests, State, Deed, nobody, no_room, plain_deed, stopped_idle, tells, refusal_of, settling, acted, met, go_on, most_messages, is_too_much, come_to, cut_short, made, own_texts, IsUsed, Befalls, Moment, DoesStep, behind, Left, whole_only, reported, HasTables, event-says, is_call}
 use Rattle.jn_schedule.specs.declared.Event.TheVariants as events
 use Rattle.jn_report.specs.declared.line.Text.TheVariants as says
 use Rattle.jn_machine_refines.proofs.Behind.{ups-name-none}
@@ -86,7 +86,7 @@ module _ (x : Setup) (files : AllFiles) (epochs : ServerNo → ℕ) (schedule : 
 
   -- ---- an event is refused or done
 
-  module _ (items : List Item) (e : Event) (rest : List Event) (a b : Moment) (h : Meeting x files epochs schedule items e rest a) where
+  module _ (items : List Item) (e : Event) (rest : List Event) (a b : Moment) (h : Meeting x files epochs schedule items e rest a) (uncalled : is_call e ≡ false) where
     abbrev w : World
     w = after NextEvent (world_of items start)
 
@@ -175,7 +175,7 @@ module _ (x : Setup) (files : AllFiles) (epochs : ServerNo → ℕ) (schedule : 
         (refused-befell x chance v a.devices b.devices z st near e refusal befalls.used) refl (refusal-under x v e refusal k) (refused-shown e refusal v) (inl refl) (λ show. h.at.few) is
     by-cause chance None k is befalls = met-step chance (acted x chance e v.clients v) (acts_by x chance e v) (steps-of-acts chance (acted x chance e v.clients v) (besides chance e v) (besides-steps chance e v))
         (told-of-acts chance (acted x chance e v.clients v) (besides chance e v) (besides-told x chance e v) v) befalls
-        (acted-befell x chance v a.devices b.devices z st near e (is-ready x v e k) befalls.used) (event-says x chance e v) (acts-under x chance e v) (done-shown e chance befalls.used) (acted-tasks x chance e v) (show-quiet e chance) is
+        (acted-befell x chance v a.devices b.devices z st near e (is-ready x v e k) befalls.used) (event-says x chance e v) (acts-under x chance e v uncalled) (done-shown e chance befalls.used) (acted-tasks x chance e v) (show-quiet e chance) is
 
     pub meet-step : HasTables a.state → DoesStep x a b → Held x files epochs schedule b
     meet-step has d = let n = does-next x (Meets e) (left x files epochs schedule rest) a b has d h.at.stage h.tasks in

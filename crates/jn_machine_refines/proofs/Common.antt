@@ -42,6 +42,7 @@ pub use Rattle.jn_machine.specs.Tasks.{Task, Begins, Meets, Rests, State, Acts, 
 pub use Rattle.jn_machine.specs.Refusals.{refusal_of, if_down}
 pub use Rattle.jn_machine.specs.Runs.{Moment, DoesStep, none, more, Leads}
 pub use Rattle.jn_machine.proofs.Clients.{HasTables, event-says, does-tables}
+pub use Rattle.jn_serial.specs.Order.{is_call}
 pub use Rattle.jn_base.specs.declared.names.ClientNo.{ClientNo}
 pub use Rattle.jn_base.specs.declared.names.Tid.{Tid}
 pub use Rattle.jn_base.specs.declared.names.WorkId.{WorkId}

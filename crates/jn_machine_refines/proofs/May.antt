@@ -1,5 +1,5 @@
 -- What is done under each event is what it may have, and what is known of an event that isn't refused.
-use Rattle.jn_machine_refines.proofs.Common.{◌≡◌, ◌<◌, ℕ, Bool, true, false, List, [], ◌∷◌, ◌++◌, map, Option, Some, None, refl, ◌∙◌, arith, ◌&&◌, if◌then◌else◌, nat_eq, slice_get, list_all, nat_tests, list_all-append, ServerNo, ClientNo, Tid, WorkId, Client, Server, Outside, client_eq, tid_eq, EventRefusal, EpochsUsedUp, TooManyArmed, Event, Pick, Sent, World, Memory, Printed, Room, Deliver, StopDelivery, Work, StopWork, Narrow, StopRestart, Restart, handing, working, Act, Does, Refuses, Tells, Shows, may_refuse, may_act, IsUnder, Setup, Chance, Deed, served, nothing, delivered, delivered_at, is_busy, no_room, working_steps, stopped_idle, scrubbed, showing, given_up, recovering, recovered, crashed_at, is_used_up, room, refusal_of, if_down, step_calls, allowed, prints_found, Left}
+use Rattle.jn_machine_refines.proofs.Common.{◌≡◌, ◌<◌, ℕ, Bool, true, false, List, [], ◌∷◌, ◌++◌, map, Option, Some, None, refl, ◌∙◌, arith, ◌&&◌, if◌then◌else◌, nat_eq, slice_get, list_all, nat_tests, list_all-append, ServerNo, ClientNo, Tid, WorkId, Client, Server, Outside, client_eq, tid_eq, EventRefusal, EpochsUsedUp, TooManyArmed, Event, Pick, Sent, World, Memory, Printed, Room, Deliver, StopDelivery, Work, StopWork, Narrow, StopRestart, Restart, handing, working, Act, Does, Refuses, Tells, Shows, may_refuse, may_act, IsUnder, Setup, Chance, Deed, served, nothing, delivered, delivered_at, is_busy, no_room, working_steps, stopped_idle, scrubbed, showing, given_up, recovering, recovered, crashed_at, is_used_up, room, refusal_of, if_down, step_calls, allowed, prints_found, Left, is_call}
 use Rattle.jn_base.specs.declared.device.FaultKind.TheVariants as faults
 use Rattle.jn_report.specs.declared.line.Text.TheVariants as says
 use Rattle.jn_schedule.specs.declared.Event.TheVariants as events
@@ -86,26 +86,26 @@ same-number k = grind (arith, nat_tests)
 same-tid : (T : Tid) → tid_eq T T ≡ true
 same-tid T = grind (arith, nat_tests)
 
-pub acts-under : (x : Setup) (h : Chance) (event : Event) (w : World) → IsUnder event (acts_by x h event w)
-acts-under x h (events.Command c command) w = refl
-acts-under x h (events.Call c s call) w = refl
-acts-under x h (events.Again c) w = both _ true (same-client c) refl
-acts-under x h (events.Deliver k) w = delivered-may (may_act (events.Deliver k)) h w k (λ r. same-number k) (λ r made. same-number k) (λ q fault. refl) (slice_get w.sent k)
-acts-under x h events.Settle w = refl
-acts-under x h (events.Step q) w = worked-may (may_act (events.Step q)) h w q (λ fault. same-server q) (λ r. same-server q) (λ r made. same-server q) (is_busy h.rubbish w q)
-acts-under x h (events.Nudge q) w = both _ true (same-server q) refl
-acts-under x h (events.Timeout q T) w = both _ true (both _ _ (same-server q) (same-tid T)) refl
-acts-under x h (events.Scrub q) w = scrubbed-may (may_act (events.Scrub q)) h w q (λ fault. same-server q) (λ r made. same-server q)
-acts-under x h (events.Decay q p) w = unless-may (may_act (events.Decay q p)) (allowed h.found) (Tells q (record { kind = faults.Decay p; page = p })) (same-server q)
-acts-under x h (events.Revive q p) w = refl
-acts-under x h (events.Arm q k kind) w = unless-may (may_act (events.Arm q k kind)) (allowed h.found) (Refuses TooManyArmed) refl
-acts-under x h (events.Crash q) w = by (w.memory q)
+pub acts-under : (x : Setup) (h : Chance) (event : Event) (w : World) → is_call event ≡ false → IsUnder event (acts_by x h event w)
+acts-under x h (events.Command c command) w uncalled = refl
+acts-under x h (events.Call c s call) w uncalled = absurd (cc uncalled)
+acts-under x h (events.Again c) w uncalled = both _ true (same-client c) refl
+acts-under x h (events.Deliver k) w uncalled = delivered-may (may_act (events.Deliver k)) h w k (λ r. same-number k) (λ r made. same-number k) (λ q fault. refl) (slice_get w.sent k)
+acts-under x h events.Settle w uncalled = refl
+acts-under x h (events.Step q) w uncalled = worked-may (may_act (events.Step q)) h w q (λ fault. same-server q) (λ r. same-server q) (λ r made. same-server q) (is_busy h.rubbish w q)
+acts-under x h (events.Nudge q) w uncalled = both _ true (same-server q) refl
+acts-under x h (events.Timeout q T) w uncalled = both _ true (both _ _ (same-server q) (same-tid T)) refl
+acts-under x h (events.Scrub q) w uncalled = scrubbed-may (may_act (events.Scrub q)) h w q (λ fault. same-server q) (λ r made. same-server q)
+acts-under x h (events.Decay q p) w uncalled = unless-may (may_act (events.Decay q p)) (allowed h.found) (Tells q (record { kind = faults.Decay p; page = p })) (same-server q)
+acts-under x h (events.Revive q p) w uncalled = refl
+acts-under x h (events.Arm q k kind) w uncalled = unless-may (may_act (events.Arm q k kind)) (allowed h.found) (Refuses TooManyArmed) refl
+acts-under x h (events.Crash q) w uncalled = by (w.memory q)
   where
     by : (o : Option Memory) → list_all (may_act (events.Crash q)) (acts_of h (crashed_at q o) []) ≡ true
     by None = refl
     by (Some m) = both _ true (same-server q) refl
-acts-under x h (events.Restart q) w = restarted-may (may_act (events.Restart q)) h w q (λ fault. same-server q) (λ g. same-server q) (λ raised. same-server q) (λ pick Ws Ts. same-server q) refl (is_used_up h q w)
-acts-under x h (events.Show q) w = showing-may (may_act (events.Show q)) h w q (λ fault. same-server q) (λ r made. same-server q) (λ prints. same-server q)
+acts-under x h (events.Restart q) w uncalled = restarted-may (may_act (events.Restart q)) h w q (λ fault. same-server q) (λ g. same-server q) (λ raised. same-server q) (λ pick Ws Ts. same-server q) refl (is_used_up h q w)
+acts-under x h (events.Show q) w uncalled = showing-may (may_act (events.Show q)) h w q (λ fault. same-server q) (λ r made. same-server q) (λ prints. same-server q)
 
 -- under a settle
 pub settle-delivers : (x : Setup) (h : Chance) (k : ℕ) (w : World) → list_all (may_act events.Settle) (acts_by x h (events.Deliver k) w) ≡ true
@@ -132,7 +132,8 @@ refused-under x w (events.Restart q) refusal e = by (w.memory q) e
     by (Some m) k = grind (arith, k)
 refused-under x w event refusal e = grind (arith, e)
 
--- a refusal alone, under any event but a command
+-- a refusal alone, under any event but an order
 pub refusal-under : (x : Setup) (w : World) (event : Event) (refusal : EventRefusal) → refusal_of x w event ≡ Some refusal → IsUnder event (Refuses refusal ∷ [])
 refusal-under x w (events.Command c command) refusal e = absurd (cc e)
+refusal-under x w (events.Call c s call) refusal e = absurd (cc e)
 refusal-under x w event refusal e = both _ true (refused-under x w event refusal e) refl

@@ -1,12 +1,22 @@
 -- Every written run is retold.
-use Rattle.jn_machine_refines.proofs.Common.{◌≡◌, ◌⊎◌, inl, inr, ◌≤◌, ◌<◌, ℕ, zero, suc, ◌+◌, List, [], ◌∷◌, append-nil, Some, None, refl, sym, ◌∙◌, ap, subst, arith, AllByRecursion, ServerNo, AllFiles, Event, Item, events_of, Setup, Task, InSchedule, AtEnd, CutShort, Stage, next_at, Devices, none, more, Moment, DoesStep, Leads, before, AreImages, IsWritten, IsRetold, IsRetoldInPart, HasTables, does-tables}
+use Rattle.jn_machine_refines.proofs.Common.{◌++◌, false, ◌≡◌, ◌⊎◌, inl, inr, ◌≤◌, ◌<◌, ℕ, zero, suc, ◌+◌, List, [], ◌∷◌, append-nil, Some, None, refl, sym, ◌∙◌, ap, subst, arith, AllByRecursion, ServerNo, AllFiles, Event, Item, events_of, Setup, Task, InSchedule, AtEnd, CutShort, Stage, next_at, Devices, none, more, Moment, DoesStep, Leads, before, AreImages, IsWritten, IsRetold, IsRetoldInPart, HasTables, does-tables, is_call}
 use Rattle.jn_schedule.specs.Ranges.{EventInRange}
+use Rattle.jn_schedule.specs.declared.Event.TheVariants as events
 use Rattle.jn_machine.proofs.Computed.{join}
 use Rattle.jn_machine_refines.proofs.Forms.{Between, Held, between, meeting, settling, cut, ended, between-part, meeting-part, amid-part, told-by}
 use Rattle.jn_machine_refines.proofs.Beginning.{begin-step, meet-step}
 use Rattle.jn_machine_refines.proofs.Settles.{settle-step}
 use Rattle.jn_machine_refines.proofs.Partly.{raised, none-up}
 use Rattle.jn_machine_refines.proofs.Starting.{Starts, all-started, start-part, start-step}
+
+-- a call is in no range
+no-call : (e : Event) → EventInRange e → is_call e ≡ false
+no-call (events.Call c s call) h = let low = h.0.0 in let high = h.0.1 in absurd (omega (arith, low, high))
+no-call _ h = refl
+
+its-range : (done : List Event) (e : Event) (rest : List Event) → AllByRecursion EventInRange (done ++ e ∷ rest) → EventInRange e
+its-range [] e rest h = h.0
+its-range (d ∷ done) e rest h = its-range done e rest h.1
 
 module _ (x : Setup) (few : x.servers ≤ 8) (files : AllFiles) (epochs : ServerNo → ℕ) (schedule : List Event) (ranges : AllByRecursion EventInRange schedule) where
   abbrev last : ServerNo → ℕ
@@ -41,10 +51,14 @@ module _ (x : Setup) (few : x.servers ≤ 8) (files : AllFiles) (epochs : Server
       clash : None ≡ Some task → ⊥
       clash z = cc
 
+  -- no event of the schedule is a call
+  in-schedule : (done : List Event) (e : Event) (rest : List Event) → done ++ e ∷ rest ≡ schedule → is_call e ≡ false
+  in-schedule done e rest is = no-call e (its-range done e rest (subst (λ (es : List Event). AllByRecursion EventInRange es) (sym is) ranges))
+
   held-step : (a b : Moment) → Held x files last schedule a → HasTables a.state → DoesStep x a b → Held x files last schedule b
   held-step a b (between items [] h) has d = ended (end-step items a b h has d)
   held-step a b (between items (e ∷ rest) h) has d = begin-step x files last schedule items e rest a b h has d
-  held-step a b (meeting items e rest h) has d = meet-step x files last schedule items e rest a b h has d
+  held-step a b (meeting items e rest h) has d = meet-step x files last schedule items e rest a b h (in-schedule (events_of items) e rest h.events) has d
   held-step a b (settling items acts task pending rest h are) has d = settle-step x files last schedule items acts task pending rest a b h are has d
   held-step a b (cut c) has d = absurd (no-next a.state.stage a.state.tasks d.task c.cut d.task_is)
   held-step a b (ended r) has d = ended (record { epochs = r.epochs; items = r.items; events = r.events; last = r.last; told = r.told; stage = r.stage; tasks = r.tasks; leads = join Moment (DoesStep x) r.last a b r.leads (more a b b d (none b)) })

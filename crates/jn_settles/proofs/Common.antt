@@ -22,7 +22,7 @@ pub use Rattle.jn_page_state.specs.Pages.{found_on, pool_on}
 pub use Rattle.jn_report.specs.declared.line.Line.{Line}
 pub use Rattle.jn_machine.specs.Devices.{Devices, pages_of}
 pub use Rattle.jn_world.specs.declared.ended.Ended.{Ended}
-pub use Rattle.jn_world.specs.Written.{IsClosed, Closes, GoesTo, DoesTasks, DoesScheduled, is_going}
+pub use Rattle.jn_events.specs.Written.{IsClosed, Closes, DoesTasks, DoesScheduled, is_going}
 pub use Rattle.jn_machine.specs.Events.{settling}
 pub use Rattle.jn_machine.specs.Tasks.{Task, Begins, Rests, InSchedule, first_of_tasks, when_of}
 pub use Rattle.jn_world_refines.specs.Going.{IsTold, WentOn}

@@ -1,5 +1,6 @@
 -- Where a call of the world that settles has come, in the written machine.
-use Rattle.jn_settles.proofs.Common.{◌≡◌, ℕ, ◌+◌, true, false, List, ◌∷◌, ◌++◌, length, drop, Some, sym, ◌∙◌, ap, subst, map, Result, Ok, DeviceState, Line, StoreView, Setup, settling, Moment, Task, Begins, Rests, InSchedule, first_of_tasks, when_of, IsTold, WentOn, Standing, Stands, Ended, GoesTo, DoesTasks, DoesScheduled, is_going, texts_since, ComesThrough}
+use Rattle.jn_settles.proofs.Common.{◌≡◌, ℕ, ◌+◌, true, false, List, ◌∷◌, ◌++◌, length, drop, Some, sym, ◌∙◌, ap, subst, map, Result, Ok, DeviceState, Line, StoreView, Setup, settling, Moment, Task, Begins, Rests, InSchedule, first_of_tasks, when_of, IsTold, WentOn, Standing, Stands, Ended, DoesTasks, DoesScheduled, is_going, texts_since, ComesThrough}
+use Rattle.jn_world.specs.Written.{GoesTo}
 use Rattle.std.proofs.Math.Seq.{drop-append_seam}
 use Rattle.jn_report.specs.declared.line.When.{When}
 use Rattle.jn_schedule.specs.declared.Event.TheVariants as events

@@ -14,7 +14,7 @@ ghost use Rattle.jn_settles.specs.Settled.{IsSettledWorld};
 ghost use Rattle.jn_settles.specs.Tables.{AllUp};
 ghost use Rattle.jn_world_refines.specs.Stands.{Standing, Stands};
 ghost use Rattle.jn_world.specs.declared.ended.Ended.{Ended};
-ghost use Rattle.jn_world.specs.Written.{DoesTasks, DoesScheduled, Closes, is_going};
+ghost use Rattle.jn_events.specs.Written.{DoesTasks, DoesScheduled, Closes, is_going};
 ghost use Rattle.jn_machine.specs.Chances.{Setup};
 ghost use Rattle.jn_machine.specs.Devices.{Devices};
 ghost use Rattle.jn_machine.specs.Events.{settling, ending};

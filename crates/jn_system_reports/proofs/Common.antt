@@ -85,7 +85,7 @@ pub use Rattle.jn_system_order.proofs.Ordering.ClientFacts.{all-have-theirs, Com
 pub use Rattle.jn_system_reports.specs.BetweenSteps.Works.{IsFlagged, IsPrepared, IsCarriedOut, DoWorksStay, IsActive, AreAsPrepared, AreReadsKept, AreCarriedOut}
 pub use Rattle.jn_report.specs.declared.line.Line.{Line}
 pub use Rattle.jn_report.specs.Kinds.{commit_in, commit_in as committed_in, is_own, is_fault, begins, is_answer, goes_down, breaks, refuses_event, stops, refuses_fault, addressed, answer_in, is_locked, is_no_show}
-pub use Rattle.jn_serial.specs.Order.{operations_of, replay_operations, OperationsAgreeFrom}
+pub use Rattle.jn_serial.specs.Order.{operations_of, replay_operations, is_call, OperationsAgreeFrom}
 pub use Rattle.jn_system.specs.SmallSteps.Order.{IsInOrder, CommitsOnce, has_committed, HasTraces, IsInOrder as InOrder}
 pub use Rattle.jn_base.specs.declared.names.Party.{Party}
 pub use Rattle.jn_system.proofs.SmallSteps.NameLemmas.{fresh_work}
@@ -111,7 +111,7 @@ pub use Rattle.jn_rows.specs.declared.coordinator.Stage.{Stage}
 pub use Rattle.jn_rows.specs.declared.coordinator.Committed.{Committed as Commitment}
 pub use Rattle.jn_system.proofs.WholeSystem.CoordinatorCases.{IsListed, wants_to_commit, wants_to_abort, WantsOutcome, wants_outcome, votes_late, Unneeded, is_not_here, is_carried_out, has_aborted, Saying, says_nothing, says_begun, says_unknown, prepares_again, says_drop, Noting, work_is_done, client_thanks, CoordinatorCase, is_ignored_by, is_left_by, begins_anew, finds_no_room, starts_voting, counts_vote, is_committed_by, is_aborted_by, notes_commit, forgets_commit, forgets_abort, coordinator-case, says_committed, says_aborted, Committing, has_no_works, is_last_vote, Aborting, finds_no_record, stops_open, stops_voting, work_is_lost, work_is_broken, work_has_no_room}
 pub use Rattle.jn_system_reports.specs.Reporting.Ending.{Comeback, Ending, restarts_from, steps_at_end, settles, IsEnding, told_by_steps, texts_from, at_end, lines_to_end, world_at_end, ArePrinted}
-pub use Rattle.jn_serial.specs.Follows.{refuses_own, answers_command, can_have, is_read, Outstanding as Waited, is_last, fits, after_answer, nothing_asked, with_asked, AllFit, after_answers, after_event, own_in_place, is_command_of, AllOwnInPlace, FollowsEvent, after_one, FollowsFrom, IsOfEvent, AllOfEvents, Follows, fits_asked}
+pub use Rattle.jn_serial.specs.Follows.{refuses_own, answers_command, can_have, is_read, Outstanding as Waited, is_last, fits, after_answer, nothing_asked, with_asked, AllFit, after_answers, after_event, own_in_place, is_command_of, AllOwnInPlace, FollowsEvent, after_one, FollowsFrom, IsOfEvent, AllOfEvents, Follows, fits_asked, answers_order}
 pub use Rattle.jn_serial.proofs.Orders.{lines_before-append, lines_at-append, any-append}
 pub use Rattle.jn_system_order.proofs.Mirroring.Closing.{still-says, same-server}
 pub use Rattle.jn_system.specs.SmallSteps.Transactions.{Knows}
@@ -128,11 +128,11 @@ pub use Rattle.std.proofs.Math.Path.{fun_ext}
 pub use Rattle.std.proofs.lemmas.List.Elements.{All-head, All-tail, All-nil, All-cons, All-append}
 pub use Rattle.jn_base.specs.declared.names.LockUnit.TheVariants.{File, Block}
 pub use Rattle.jn_base.specs.declared.names.FileNo.{FileNo}
-pub use Rattle.jn_serial.specs.Shown.{IsAsIn, AllAsIn, prints_file, ShowsFiles, ShownSoFar, Shown, accounts_file, accounts_block}
+pub use Rattle.jn_serial.specs.Shown.{IsAsIn, AllAsIn, prints_file, ShowsFiles, OperationsShownSoFar, OperationsShown, accounts_file, accounts_block}
 pub use Rattle.jn_system_reports.specs.Telling.Agreement.{AreAsTold}
 pub use Rattle.jn_base.specs.declared.names.BlockNo.{BlockNo}
 pub use Rattle.jn_system.specs.WholeSystem.Example.{the_server, the_transaction, the_work, the_file, start}
-pub use Rattle.jn_schedule.specs.declared.Event.TheVariants.{Show, Command as CommandOf}
+pub use Rattle.jn_schedule.specs.declared.Event.TheVariants.{Show, Command as CommandOf, Call as CallOf}
 pub use Rattle.jn_replay.specs.declared.files.Performed.{Performed}
 pub use Rattle.jn_replay.specs.Operations.{files_then, GivesAnswers}
 pub use Rattle.jn_system.proofs.WholeSystem.Rows.{by-name}

@@ -9,7 +9,7 @@ ghost use Rattle.jn_report.specs.declared.line.Text.TheVariants as lines;
 ghost use Rattle.jn_rows.specs.Stable.{stable};
 ghost use Rattle.jn_serial.specs.Lines.{lines_at, says, history_of};
 ghost use Rattle.jn_serial.specs.Order.{replay_operations, OperationsAgree};
-ghost use Rattle.jn_serial.specs.Shown.{ShowsFiles, ShownSoFar, Shown};
+ghost use Rattle.jn_serial.specs.Shown.{ShowsFiles, OperationsShownSoFar, OperationsShown};
 ghost use Rattle.jn_report.specs.Kinds.{is_locked};
 ghost use Rattle.jn_system.specs.WholeSystem.World.{opening, AreFilesOf};
 ghost use Rattle.jn_system.specs.WholeSystem.Example.{the_server, the_file, the_transaction, start};
@@ -22,7 +22,7 @@ ghost use Rattle.jn_system_reports.specs.Showing.Example.{a_commit_is_named, a_f
 /// but for those that it names as locked.
 pub fn shows_are_of_commits()
     ensures { (servers : ℕ) (files : AllFiles) (epochs : ServerNo → ℕ) (items : List Item) → IsReported items (opening servers files epochs)
-        → ShownSoFar files (events_of items) (lines_of items (opening servers files epochs)) }
+        → OperationsShownSoFar files (events_of items) (lines_of items (opening servers files epochs)) }
 {}
 
 /// With the end of such a run: each show prints so by all lines, and the end prints of each server the files and blocks that
@@ -33,9 +33,9 @@ pub fn the_end_is_of_commits()
         → ShowsFiles (replay_operations files (events_of items) (all_lines servers files epochs items e) (history_of (all_lines servers files epochs items e))) s (lines_at AtEnd (all_lines servers files epochs items e)) }
     ensures all { (servers : ℕ) (files : AllFiles) (epochs : ServerNo → ℕ) (items : List Item) (e : Ending) → IsWholeRun servers files epochs items e → AreFilesOf servers files → (s : ServerNo)
         → ShowsFiles (replay_operations files (events_of items) (all_lines servers files epochs items e) (history_of (all_lines servers files epochs items e))) s (lines_at AtEnd (all_lines servers files epochs items e)) }
-    ensures so_far { (servers : ℕ) (files : AllFiles) (epochs : ServerNo → ℕ) (items : List Item) (e : Ending) → IsWholeRun servers files epochs items e → ShownSoFar files (events_of items) (all_lines servers files epochs items e) }
+    ensures so_far { (servers : ℕ) (files : AllFiles) (epochs : ServerNo → ℕ) (items : List Item) (e : Ending) → IsWholeRun servers files epochs items e → OperationsShownSoFar files (events_of items) (all_lines servers files epochs items e) }
     ensures whole { (servers : ℕ) (files : AllFiles) (epochs : ServerNo → ℕ) (items : List Item) (e : Ending) → IsWholeRun servers files epochs items e → AreFilesOf servers files
-        → says is_locked (lines_at AtEnd (all_lines servers files epochs items e)) ≡ false → Shown files (events_of items) (all_lines servers files epochs items e) }
+        → says is_locked (lines_at AtEnd (all_lines servers files epochs items e)) ≡ false → OperationsShown files (events_of items) (all_lines servers files epochs items e) }
     ensures agrees { (servers : ℕ) (files : AllFiles) (epochs : ServerNo → ℕ) (items : List Item) (e : Ending) → IsWholeRun servers files epochs items e → OperationsAgree files (events_of items) (all_lines servers files epochs items e) }
 {}
 
@@ -58,5 +58,5 @@ pub fn a_run_ends()
 /// still to be carried out.
 pub fn shows_need_locks()
     ensures found { (stable ((world_of a_commit_is_named start).found the_server)).files (File the_file) ≡ None }
-    ensures wrong { ShownSoFar no_files (events_of locks_are_passed) (lines_of locks_are_passed start) → ⊥ }
+    ensures wrong { OperationsShownSoFar no_files (events_of locks_are_passed) (lines_of locks_are_passed start) → ⊥ }
 {}

@@ -1,11 +1,16 @@
 //! Settling: that it ends and how soon, what it leaves where all servers are up, and that an end that settles leaves nothing open.
 #![tactic(auto)]
 
+mod calls;
 mod closed;
 mod courses;
 mod rests;
 mod settled;
 
+pub use calls::{
+    a_client_goes_on, a_settle_with_calls_settles, no_operation_is_told_behind_the_askings,
+    operations_are_on_their_way,
+};
 pub use closed::{a_stopped_commit_ends, an_end_leaves_nothing, an_end_leaves_what_was_committed};
 pub use courses::{
     a_commit_is_named_at_a_restart, a_prepare_is_stopped, a_reader_gives_way,

@@ -1,5 +1,5 @@
 -- What runs report, computed: of one server and of two.
-use Rattle.jn_wrong.proofs.Common.{◌≡◌, ℕ, Bool, true, false, List, [], ◌∷◌, None, refl, ServerNo, no_files, Counts, Event, Line, Setup, State, next_task, before, begins, begun_report, traced_report, two_begin, two_report, opens_other, opened_report, settles_twice, settled_report, reads_and_aborts, read_report, shows_unmade, shown_report, begins_and_aborts, aborted_report, IsOnly}
+use Rattle.jn_wrong.proofs.Common.{◌≡◌, ℕ, Bool, true, false, List, [], ◌∷◌, None, refl, ServerNo, no_files, Counts, Event, Line, Setup, State, next_task, before, begins, begun_report, traced_report, two_begin, two_report, opens_other, opened_report, settles_twice, reads_and_aborts, read_report, shows_unmade, shown_report, begins_and_aborts, aborted_report, IsOnly}
 use Rattle.jn_wrong.proofs.StillRuns.{goes}
 use Rattle.jn_locks.specs.Locks as locks
 use Rattle.jn_wrong.proofs.Exact.{new_epochs, setup_of, IsRunOf, only}
@@ -55,8 +55,8 @@ traced-only = only 1 true begins 36 traced_report (λ counts epochs. is-run 1 tr
   ),
 ) refl refl)
 
-pub settled-only : IsOnly 1 false settles_twice settled_report
-settled-only = only 1 false settles_twice 49 settled_report (λ counts epochs. is-run 1 false settles_twice (0 ∷ 32 ∷ 12 ∷ 1 ∷ []) settled_report counts epochs (
+pub settled-only : IsOnly 1 false settles_twice begun_report
+settled-only = only 1 false settles_twice 49 begun_report (λ counts epochs. is-run 1 false settles_twice (0 ∷ 32 ∷ 12 ∷ 1 ∷ []) begun_report counts epochs (
   refl,
   record { epoch = 0; below = refl; found = λ c. refl; not_last = refl },
   (

@@ -23,8 +23,8 @@ unfoldable pub use Rattle.jn_order.specs.Files.{zeros}
 pub use Rattle.jn_records.specs.StablePages.{Counts, Pages, slot_place, head_place, data_place, root_by, page_count}
 pub use Rattle.jn_schedule.specs.declared.Event.{Event}
 pub use Rattle.jn_machine.specs.Whole.{before, AreImages, IsWhole, closed_world, IsFresh as IsFreshDevice, IsWritten}
-pub use Rattle.jn_wrong.specs.Wrong.{begins, begun_report, makes_one, full_of, IsNone, makes_and_reads, opens_and_loses, answered_too_soon, stopped_by_nothing, fault_of_nothing, lost_without_opening, file_left_out, file_locked, page_unwritten, other_bytes, named_again}
-pub use Rattle.jn_wrong.specs.Reports.{traced_report, two_begin, two_report, opens_other, opened_report, settles_twice, settled_report, reads_and_aborts, read_report, shows_unmade, shown_report, begins_and_aborts, aborted_report}
+pub use Rattle.jn_wrong.specs.Wrong.{begins, begun_report, quiet_report, makes_one, full_of, IsNone, makes_and_reads, opens_and_loses, answered_too_soon, stopped_by_nothing, fault_of_nothing, lost_without_opening, file_left_out, file_locked, page_unwritten, other_bytes, named_again}
+pub use Rattle.jn_wrong.specs.Reports.{traced_report, two_begin, two_report, opens_other, opened_report, settles_twice, reads_and_aborts, read_report, shows_unmade, shown_report, begins_and_aborts, aborted_report}
 pub use Rattle.jn_wrong.specs.NewImages.{IsOnly, IsNoneOfNew, blank, AreNew, IsNoneOf, IsOnlyOf}
 pub use Rattle.std.proofs.lemmas.Bool.Decides.{nat_tests}
 pub use Rattle.jn_base.specs.declared.device.FaultKind.{FaultKind}
@@ -67,7 +67,7 @@ pub use Rattle.jn_device.specs.Events.{disarmed, powered_off, may_arm, Arms as F
 pub use Rattle.jn_page_state.specs.Pages.{found_on, pages_by, heads_on, head_on, head_or_free, listed, pool_on, record_or_free, state_of, record_on, contents_of}
 pub use Rattle.jn_store.specs.Pairs.{pairs_view}
 pub use Rattle.jn_device.specs.declared.Armed.{Armed}
-pub use Rattle.jn_wrong.specs.Faults.{IsOneOfGood, IsOnlyOfGood, arms_far, quiet_report, decays_with_power, forgiven_report, IsNoneOfGood, decays_once, first_decay_told, decays_both, both_report, decays_behind_scrub, nothing_mended, nothing_forgiven, decays_behind_restart, restarted_report, left_unmended, arms_two, armed_too_many, show_stopped, AreGood, arms_first, arms_in_order, arms_null, null_told, stop_met, outside_in_order, Computes, IsComputed, stop_passed_by, outside_swapped}
+pub use Rattle.jn_wrong.specs.Faults.{IsOneOfGood, IsOnlyOfGood, arms_far, decays_with_power, forgiven_report, IsNoneOfGood, decays_once, first_decay_told, decays_both, both_report, decays_behind_scrub, nothing_mended, nothing_forgiven, decays_behind_restart, restarted_report, left_unmended, arms_two, armed_too_many, show_stopped, AreGood, arms_first, arms_in_order, arms_null, null_told, stop_met, outside_in_order, Computes, IsComputed, stop_passed_by, outside_swapped}
 pub use Rattle.jn_system.specs.WholeSystem.Servers.{named_now, Room, server_row, of_worker, of_coordinator, server_step, storage_of, is_busy as has_going, is_for_worker, of_step, server_again, of_timeout, server_timeout, restored, line_of, lines_of}
 pub use Rattle.jn_wrong.specs.Turns.{epoch_after, may_rise, epochs_rise, is_by, are_by, are_read, is_up_after, may_be_told, takes_turns}
 pub use Rattle.jn_system.proofs.WholeSystem.OneChange.{one-found, one-server, one-client}
@@ -120,6 +120,7 @@ unfoldable pub use Rattle.jn_records.specs.Heads.{head_at}
 pub use Rattle.jn_sets.specs.Pool.{free_count, rubbish_count, is_free, is_rubbish}
 pub use Rattle.jn_machine.proofs.Clients.{task-says, HasTables, begun-said, begun-tables, become}
 pub use Rattle.jn_wrong.specs.Showing.{unit_printed, prints_unit, AreThere, PrintsAll, printed_lines, Shows}
+pub use Rattle.jn_base.specs.declared.op.Answer.{Answer}
 pub use Rattle.jn_system.specs.WholeSystem.LockFacts.{LockFacts, ServerFact, UpFact}
 pub use Rattle.jn_wrong.specs.Wanting.{IsShort, WasShort, OfText, OfLines, OfCause}
 pub use Rattle.jn_base.specs.declared.names.Tickets.{Tickets}

@@ -1,8 +1,8 @@
 -- Reports that differ from the only one.
-use Rattle.jn_wrong.proofs.Common.{◌≡◌, ℕ, Bool, true, false, List, length, Option, Some, None, refl, sym, ◌∙◌, ap, ◌&&◌, nat_eq, slice_get, list_any, zeros, Event, EventRefusal, When, AtEvent, Text, Line, block_of, IsOnly, IsNoneOfNew, begins, begun_report, traced_report, settles_twice, settled_report, two_begin, two_report, reads_and_aborts, read_report, opens_other, opened_report, shows_unmade, shown_report, begins_and_aborts, aborted_report}
+use Rattle.jn_wrong.proofs.Common.{quiet_report, ◌≡◌, ℕ, Bool, true, false, List, length, Option, Some, None, refl, sym, ◌∙◌, ap, ◌&&◌, nat_eq, slice_get, list_any, zeros, Event, EventRefusal, When, AtEvent, Text, Line, block_of, IsOnly, IsNoneOfNew, begins, begun_report, traced_report, settles_twice, two_begin, two_report, reads_and_aborts, read_report, opens_other, opened_report, shows_unmade, shown_report, begins_and_aborts, aborted_report}
 use Rattle.jn_report.specs.declared.line.Refusal.{Refusal}
 use Rattle.jn_report.specs.declared.line.Text.TheVariants as says
-use Rattle.jn_wrong.specs.Others.{nothing_answered, refused_by_client, refused_as_event, with_another, ended_with_another, commit_of_nobody, answered_later, one_for_two, aborted_for_another, committed_for_another, opened_another, answered_at_once, epoch_skipped, downs_swapped, ups_swapped, read_otherwise, show_tells, messages_swapped, thanked_too_soon}
+use Rattle.jn_wrong.specs.Others.{refused_by_client, refused_as_event, with_another, ended_with_another, commit_of_nobody, answered_later, one_for_two, aborted_for_another, committed_for_another, opened_another, answered_at_once, epoch_skipped, downs_swapped, ups_swapped, read_otherwise, show_tells, messages_swapped, thanked_too_soon}
 use Rattle.jn_wrong.proofs.Exact.{differs}
 use Rattle.jn_wrong.proofs.Begun.{begun-only, traced-only, settled-only, two-only, read-only, opened-only, shown-only, aborted-only}
 
@@ -68,8 +68,8 @@ comes_up k epoch text = false
 
 -- ---- a client begins
 
-pub unanswered : IsNoneOfNew 1 false begins nothing_answered
-unanswered = by-test 1 false begins begun_report nothing_answered begun-only (are 5) refl refl
+pub unanswered : IsNoneOfNew 1 false begins quiet_report
+unanswered = by-test 1 false begins begun_report quiet_report begun-only (are 5) refl refl
 
 pub by-client : (refusal : Refusal) → IsNoneOfNew 1 false begins (refused_by_client refusal)
 by-client refusal = by-test 1 false begins begun_report (refused_by_client refusal) begun-only (some_text is_begun) refl refl
@@ -87,7 +87,7 @@ pub nobodys-commit : IsNoneOfNew 1 false begins commit_of_nobody
 nobodys-commit = by-test 1 false begins begun_report commit_of_nobody begun-only (are 5) refl refl
 
 pub later : IsNoneOfNew 1 false settles_twice answered_later
-later = by-test 1 false settles_twice settled_report answered_later settled-only (λ lines. list_any (λ (l : Line). is_at 2 l.when) lines) refl refl
+later = by-test 1 false settles_twice begun_report answered_later settled-only (λ lines. list_any (λ (l : Line). is_at 2 l.when) lines) refl refl
 
 pub at-once : IsNoneOfNew 1 false begins answered_at_once
 at-once = by-test 1 false begins begun_report answered_at_once begun-only (λ lines. list_any (λ (l : Line). is_at 2 l.when) lines) refl refl

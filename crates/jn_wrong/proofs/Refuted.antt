@@ -1,7 +1,8 @@
 -- Reports that aren't those of their commits.
-use Rattle.jn_wrong.proofs.Common.{◌≡◌, ℕ, Bool, true, false, List, [], ◌∷◌, refl, sym, ◌∙◌, ap, arith, Option, Some, None, is_some, if◌then◌else◌, slice_get, nat_eq, nat_lt, File, Block, block_of, AllByRecursion, AllFiles, Files, change, effect, answer_to, files_after, is_did, zeros, ServerNo, Event, Line, AreImages, IsNone, begins, makes_one, makes_and_reads, opens_and_loses, answered_too_soon, stopped_by_nothing, fault_of_nothing, lost_without_opening, file_left_out, file_locked, page_unwritten, other_bytes, named_again, full_of, Resource, s0, file, block, Did, Exists, Found}
+use Rattle.jn_wrong.proofs.Common.{◌≡◌, ℕ, Bool, true, false, List, [], ◌∷◌, refl, sym, ◌∙◌, ap, arith, Option, Some, None, is_some, if◌then◌else◌, slice_get, nat_eq, nat_lt, File, Block, block_of, AllByRecursion, AllFiles, Files, change, effect, answer_to, files_after, is_did, zeros, ServerNo, Event, Line, AreImages, IsNone, begins, makes_one, makes_and_reads, opens_and_loses, answered_too_soon, stopped_by_nothing, fault_of_nothing, lost_without_opening, file_left_out, file_locked, page_unwritten, other_bytes, named_again, full_of, Resource, s0, file, block, Did, Exists, Found, Answer}
 use Rattle.jn_base.specs.declared.op.Op.{Op}
 use Rattle.jn_base.specs.declared.op.Op.TheVariants as ops
+use Rattle.jn_calls.specs.declared.reply.Reply.TheVariants as replies
 use Rattle.jn_schedule.specs.Ranges.{EventInRange}
 use Rattle.jn_headline.specs.Headline.{IsOfItsCommits}
 use Rattle.jn_headline.proofs.Joined.{whole-report}
@@ -15,6 +16,10 @@ by-clause schedule lines ranges no' x images closing few h = by (whole-report x 
 
 clash : false ≡ true → ⊥
 clash e = cc
+
+-- what an operation was replied is its answer
+answered : {a b : Answer} → replies.Answered a ≡ replies.Answered b → a ≡ b
+answered e = cc
 
 begins-in-range : AllByRecursion EventInRange begins
 begins-in-range = grind arith
@@ -70,13 +75,13 @@ module _ (f : Files) where
   read-new e = ap (answer_to (ops.Read (file 7) (block 0))) (after e)
 
 pub left-out : IsNone makes_one file_left_out
-left-out = by-clause makes_one file_left_out makes-in-range (λ files r. is-there (files s0) r.so_far.agrees.0.0 ((r.at_end.all s0).no_other_file (file 7) refl))
+left-out = by-clause makes_one file_left_out makes-in-range (λ files r. is-there (files s0) (answered r.so_far.agrees.0.0) ((r.at_end.all s0).no_other_file (file 7) refl))
 
 pub as-locked : IsNone makes_one file_locked
 as-locked = by-clause makes_one file_locked makes-in-range (λ files r. clash (sym r.at_end.unlocked))
 
 pub unwritten : IsNone makes_one page_unwritten
-unwritten = by-clause makes_one page_unwritten makes-in-range (λ files r. no' (sym (not-stored (files s0) r.so_far.agrees.0.0) ∙ (r.at_end.all s0).printed.1.1.1.0))
+unwritten = by-clause makes_one page_unwritten makes-in-range (λ files r. no' (sym (not-stored (files s0) (answered r.so_far.agrees.0.0)) ∙ (r.at_end.all s0).printed.1.1.1.0))
   where
     no' : None ≡ Some (block_of (104 ∷ [])) → ⊥
     no' z = cc
@@ -97,7 +102,7 @@ differ : zeros ≡ block_of (104 ∷ []) → ⊥
 differ e = clash (sym other-first ∙ ap (λ (bytes : List ℕ). is_zero (slice_get bytes 0)) (sym e) ∙ zeros-first)
 
 pub bytes : IsNone makes_and_reads other_bytes
-bytes = by-clause makes_and_reads other_bytes reads-in-range (λ files r. differ (same (sym (read-new (files s0) r.so_far.agrees.0.0) ∙ r.so_far.agrees.0.1.0)))
+bytes = by-clause makes_and_reads other_bytes reads-in-range (λ files r. differ (same (sym (read-new (files s0) (answered r.so_far.agrees.0.0)) ∙ answered r.so_far.agrees.0.1.0)))
   where
     same : {a b : List ℕ} → Found a ≡ Found b → a ≡ b
     same e = cc

@@ -42,6 +42,6 @@ pub lacks-records : IsComputed one_record (in_room one_record) 100 makes_one (fu
 unfolding locks.unit_before
 lacks-records = record { lines_are = refl; stage = refl; tasks = refl }
 
-pub lacks-map-page : IsComputed one_page (in_room one_page) 100 (writes_at head_blocks []) (full_at_block Pages 1 2)
+pub lacks-map-page : IsComputed one_page (in_room one_page) 200 (writes_at head_blocks []) (full_at_block Pages 1 2)
 unfolding locks.unit_before
 lacks-map-page = record { lines_are = refl; stage = refl; tasks = refl }

@@ -1,6 +1,5 @@
 -- And so of the whole system, step by step: of all messages, outcomes and lines.
-use Rattle.jn_wrong.proofs.Common.{◌≡◌, ◌≢◌, ◌⊎◌, inl, inr, ℕ, Bool, true, false, List, [], ◌∷◌, ◌++◌, Option, Some, None, refl, sym, ◌∙◌, ap, subst, if◌then◌else◌, nat_lt, slice_get, ServerNo, ClientNo, Tid, WorkId, Client, Server, Resource, Command, client_eq, work_eq, work_tells, Message, Outcome, Text, Work, StableState, Pick, stable, RowOutcome, Sent, ClientTable, Commanded, Refuses, Sends, command_row, if_server, if_idle, if_transaction, if_no_transaction, if_open, if_not_open, open_at, take_row, again_row, sent_again, if_waits, begun_row, opened_row, answer_line, outcome_row, decided_row, is_current, WorkerTable, work_at, worker_row, worker_step, timeout_row, coordinator_row, World, Memory, at_server, has_line, Room, storage_of, of_worker, of_coordinator, is_for_worker, server_row, of_step, server_again, of_timeout, server_timeout, restored, line_of, lines_of, named_now, Step, Deliver, after, sent_now, LockFacts, ServerFact, UpFact, IsShort, OfText, Note, one-server, one-client, ClientRow, by_command, by_ignoring, by_answering, by_telling, ServerRow, of_message, of_work, of_closing, FoundThen, by_narrowing, by_raising, Quiet, is_refused, client_repeats, server_repeats, is_lost, StepCase, client_row, row_done, row_stopped, gone_late, gone_down, come_up, found_anew, dismissed, quietly, step-case}
-use Rattle.jn_base.specs.declared.op.Answer.{Answer}
+use Rattle.jn_wrong.proofs.Common.{◌≡◌, ◌≢◌, ◌⊎◌, inl, inr, ℕ, Bool, true, false, List, [], ◌∷◌, ◌++◌, Option, Some, None, refl, sym, ◌∙◌, ap, subst, if◌then◌else◌, nat_lt, slice_get, ServerNo, ClientNo, Tid, WorkId, Client, Server, Resource, Command, client_eq, work_eq, work_tells, Message, Outcome, Text, Work, StableState, Pick, stable, RowOutcome, Sent, ClientTable, Commanded, Refuses, Sends, command_row, if_server, if_idle, if_transaction, if_no_transaction, if_open, if_not_open, open_at, take_row, again_row, sent_again, if_waits, begun_row, opened_row, answer_line, outcome_row, decided_row, is_current, WorkerTable, work_at, worker_row, worker_step, timeout_row, coordinator_row, World, Memory, at_server, has_line, Room, storage_of, of_worker, of_coordinator, is_for_worker, server_row, of_step, server_again, of_timeout, server_timeout, restored, line_of, lines_of, named_now, Step, Deliver, after, sent_now, LockFacts, ServerFact, UpFact, IsShort, OfText, Note, one-server, one-client, ClientRow, by_command, by_ignoring, by_answering, by_telling, ServerRow, of_message, of_work, of_closing, FoundThen, by_narrowing, by_raising, Quiet, is_refused, client_repeats, server_repeats, is_lost, StepCase, client_row, row_done, row_stopped, gone_late, gone_down, come_up, found_anew, dismissed, quietly, step-case, Answer}
 use Rattle.jn_rows.specs.declared.client.Taken.{Taken}
 use Rattle.jn_base.specs.declared.names.Resource.TheVariants as resources
 use Rattle.jn_base.specs.declared.op.Answer.TheVariants as answers

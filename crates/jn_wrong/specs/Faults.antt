@@ -19,7 +19,7 @@ use Rattle.jn_machine.specs.Steps.{after}
 use Rattle.jn_machine.specs.Whole.{before, IsWhole}
 use Rattle.jn_machine.specs.Examples.{setup, line, at_end}
 use Rattle.jn_wrong.specs.NewImages.{AreNew}
-use Rattle.jn_wrong.specs.Wrong.{the_end}
+use Rattle.jn_wrong.specs.Wrong.{the_end, up}
 
 -- ---- one server of 177 stable pages
 
@@ -56,12 +56,6 @@ pub record IsComputed (x : Setup) (chances : ℕ → State → Chance) (steps : 
 
 abbrev pub Computes : (ℕ → State → Chance) → List Event → List Line → Type 0
 Computes chances schedule report = IsComputed (setup 1) chances 60 schedule report
-
-abbrev up : Line
-up = line 0 (says.Up s0 1)
-
-abbrev pub quiet_report : List Line
-quiet_report = up ∷ the_end
 
 -- a fault is reported at its own page
 abbrev pub decay_told : ℕ → ℕ → Line

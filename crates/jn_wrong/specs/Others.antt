@@ -11,19 +11,12 @@ use Rattle.jn_report.specs.declared.line.Text.TheVariants as says
 use Rattle.jn_report.specs.declared.line.Line.{Line}
 use Rattle.jn_system.specs.WholeSystem.ExampleNames.{s0, s1, c1, c2, tid}
 use Rattle.jn_machine.specs.Examples.{block_of, line, at_end}
-use Rattle.jn_wrong.specs.Wrong.{the_end}
-
-abbrev up : Line
-up = line 0 (says.Up s0 1)
+use Rattle.jn_wrong.specs.Wrong.{the_end, up}
 
 abbrev begun : Line
 begun = line 2 (says.Begun c1 1 (tid s0 0))
 
 -- ---- a client begins
-
--- nothing is answered
-abbrev pub nothing_answered : List Line
-nothing_answered = up ∷ the_end
 
 -- its client refuses the command, or the event is refused
 abbrev pub refused_by_client : Refusal → List Line

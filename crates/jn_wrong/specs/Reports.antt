@@ -22,9 +22,6 @@ traced_report = line 0 (says.Up s0 1) ∷ line 1 (says.Message 0 (Client c1) (Se
 abbrev pub settles_twice : List Event
 settles_twice = begins ++ events.Settle ∷ []
 
-abbrev pub settled_report : List Line
-settled_report = line 0 (says.Up s0 1) ∷ line 2 (says.Begun c1 1 (tid s0 0)) ∷ the_end
-
 -- two clients begin, and one aborts
 abbrev pub two_begin : List Event
 two_begin = then_settle c1 (commands.Begin s0) (then_settle c2 (commands.Begin s0) (then_settle c1 commands.Abort []))

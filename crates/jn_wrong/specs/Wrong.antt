@@ -44,9 +44,16 @@ makes_and_reads = makes_file s0 (then_settle c1 (commands.Do s0 (ops.Read (file 
 abbrev pub the_end : List Line
 the_end = at_end (says.Down s0) ∷ at_end (says.Up s0 2) ∷ at_end (says.Commits 0) ∷ []
 
--- what a run of one server reports in which a client begins
+abbrev pub up : Line
+up = line 0 (says.Up s0 1)
+
+-- what a run of one server reports in which nothing is answered,
+abbrev pub quiet_report : List Line
+quiet_report = up ∷ the_end
+
+-- and one in which a client begins
 abbrev pub begun_report : List Line
-begun_report = line 0 (says.Up s0 1) ∷ line 2 (says.Begun c1 1 (tid s0 0)) ∷ the_end
+begun_report = up ∷ line 2 (says.Begun c1 1 (tid s0 0)) ∷ the_end
 
 -- an answer stands before its command
 abbrev pub answered_too_soon : List Line

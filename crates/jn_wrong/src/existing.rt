@@ -3,7 +3,8 @@
 
 ghost use Rattle.std.specs.Prelude.{[]};
 ghost use Rattle.jn_base.specs.declared.device.FaultKind.TheVariants.{Null};
-ghost use Rattle.jn_wrong.specs.Faults.{IsOneOfGood, quiet_report, decays_once, decays_both, both_report, decays_behind_scrub, decays_with_power, forgiven_report, decays_behind_restart, restarted_report, arms_two, arms_far, arms_first, stop_met, arms_in_order, outside_in_order, arms_null, null_told};
+ghost use Rattle.jn_wrong.specs.Wrong.{quiet_report};
+ghost use Rattle.jn_wrong.specs.Faults.{IsOneOfGood, decays_once, decays_both, both_report, decays_behind_scrub, decays_with_power, forgiven_report, decays_behind_restart, restarted_report, arms_two, arms_far, arms_first, stop_met, arms_in_order, outside_in_order, arms_null, null_told};
 
 /// A run without events comes to its end, from the image of a new server.
 pub fn a_run_without_events_is_there()

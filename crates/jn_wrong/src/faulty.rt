@@ -5,7 +5,8 @@ ghost use Rattle.jn_base.specs.declared.device.FaultKind.{FaultKind};
 ghost use Rattle.jn_base.specs.declared.device.FaultKind.TheVariants.{Null, Bad};
 ghost use Rattle.jn_machine.specs.Chances.{Allows};
 ghost use Rattle.jn_machine.specs.Examples.{calm, calmly, at_step, stopped, report};
-ghost use Rattle.jn_wrong.specs.Faults.{IsOnlyOfGood, IsNoneOfGood, Computes, quiet_report, decays_once, first_decay_told, decays_both, both_report, decays_behind_scrub, nothing_mended, decays_with_power, forgiven_report, nothing_forgiven, decays_behind_restart, restarted_report, left_unmended, arms_two, armed_too_many, arms_far, show_stopped, arms_first, stop_met, stop_passed_by, arms_in_order, outside_in_order, outside_swapped, arms_null, null_told};
+ghost use Rattle.jn_wrong.specs.Wrong.{quiet_report};
+ghost use Rattle.jn_wrong.specs.Faults.{IsOnlyOfGood, IsNoneOfGood, Computes, decays_once, first_decay_told, decays_both, both_report, decays_behind_scrub, nothing_mended, decays_with_power, forgiven_report, nothing_forgiven, decays_behind_restart, restarted_report, left_unmended, arms_two, armed_too_many, arms_far, show_stopped, arms_first, stop_met, stop_passed_by, arms_in_order, outside_in_order, outside_swapped, arms_null, null_told};
 ghost use Rattle.jn_rows.specs.Stable.{whole_only};
 
 /// Each whole run of these schedules reports exactly this, whatever befalls it.

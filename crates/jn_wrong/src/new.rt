@@ -6,14 +6,14 @@ ghost use Rattle.jn_report.specs.declared.line.Refusal.{Refusal};
 ghost use Rattle.jn_report.specs.declared.line.Text.{Text};
 ghost use Rattle.jn_report.specs.declared.line.Text.TheVariants.{RefusedEvent};
 ghost use Rattle.jn_wrong.specs.NewImages.{IsOnly, IsNoneOfNew};
-ghost use Rattle.jn_wrong.specs.Wrong.{begins, begun_report};
-ghost use Rattle.jn_wrong.specs.Reports.{traced_report, settles_twice, settled_report, two_begin, two_report, reads_and_aborts, read_report, opens_other, opened_report, shows_unmade, shown_report, begins_and_aborts, aborted_report};
-ghost use Rattle.jn_wrong.specs.Others.{nothing_answered, refused_by_client, refused_as_event, with_another, ended_with_another, commit_of_nobody, answered_later, one_for_two, aborted_for_another, committed_for_another, opened_another, answered_at_once, epoch_skipped, downs_swapped, ups_swapped, read_otherwise, show_tells, messages_swapped, thanked_too_soon};
+ghost use Rattle.jn_wrong.specs.Wrong.{begins, begun_report, quiet_report};
+ghost use Rattle.jn_wrong.specs.Reports.{traced_report, settles_twice, two_begin, two_report, reads_and_aborts, read_report, opens_other, opened_report, shows_unmade, shown_report, begins_and_aborts, aborted_report};
+ghost use Rattle.jn_wrong.specs.Others.{refused_by_client, refused_as_event, with_another, ended_with_another, commit_of_nobody, answered_later, one_for_two, aborted_for_another, committed_for_another, opened_another, answered_at_once, epoch_skipped, downs_swapped, ups_swapped, read_otherwise, show_tells, messages_swapped, thanked_too_soon};
 
 /// From new images each whole run of these schedules reports exactly this, whatever befalls it.
 pub fn reports_are_the_only_ones()
     ensures begins { IsOnly 1 false begins begun_report }
-    ensures settles_twice { IsOnly 1 false settles_twice settled_report }
+    ensures settles_twice { IsOnly 1 false settles_twice begun_report }
     ensures two_clients { IsOnly 1 false two_begin two_report }
     ensures reads { IsOnly 1 false reads_and_aborts read_report }
     ensures shows { IsOnly 1 false shows_unmade shown_report }
@@ -24,7 +24,7 @@ pub fn reports_are_the_only_ones()
 
 /// Nothing is answered, although all settles.
 pub fn a_report_that_answers_nothing_is_none()
-    ensures { IsNoneOfNew 1 false begins nothing_answered }
+    ensures { IsNoneOfNew 1 false begins quiet_report }
 {}
 
 /// A command is refused without a cause, by its client or as an event; or a show at a server that is up.

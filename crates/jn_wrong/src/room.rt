@@ -56,5 +56,5 @@ pub fn a_transaction_that_lacks_records_is_told_so()
 
 /// And where its server has one data page, and it writes the first block past those of a head: of the two pages that this needs one is free.
 pub fn a_transaction_that_lacks_a_map_page_is_told_so()
-    ensures { IsComputed one_page (in_room one_page) 100 (writes_at head_blocks []) (full_at_block Pages 1 2) }
+    ensures { IsComputed one_page (in_room one_page) 200 (writes_at head_blocks []) (full_at_block Pages 1 2) }
 {}

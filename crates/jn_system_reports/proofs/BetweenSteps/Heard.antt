@@ -149,6 +149,7 @@ module _ (events : List Event) (files : AllFiles) (epochs : ServerNo → ℕ) wh
           by : (row : Commanded) → (commanded c row r).event ≡ r.event
           by (Refuses refusal) = refl
           by (Sends t to message) = refl
+  event-under (kinds.Call c s call) acts r h i under e = absurd under
   event-under event acts r h i under e = quiet-under acts r h i (under-quiet event acts tt under)
 
   pub steps-told : (items : List Item) (r : World) (es later : List Event) → events ≡ es ++ (events_of items ++ later) → length es ≡ r.event → Reached files epochs r → IsRun (steps_of items) r → AreUnder items → AreTold events (steps_of items) r

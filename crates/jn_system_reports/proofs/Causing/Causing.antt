@@ -158,7 +158,7 @@ module _ (files : AllFiles) (epochs : ServerNo → ℕ) where
     pub event-stays : (e : Event) (acts : List Act) → r.event ≡ 1 + length es → AreWithin 0 (1 + length es) ls → IsRun (steps_in acts) r → IsUnder e acts → EventStays es ls e acts r
     event-stays (events.Command c command) acts now within i under = subst (λ (l : List Act). IsRun (steps_in l) r → EventStays es ls (events.Command c command) l r) (sym under) (λ k. command-stays c command now within k) i
     event-stays (events.Again c) acts now within i under = plain-stays (events.Again c) acts i tt under
-    event-stays (events.Call c s call) acts now within i under = plain-stays (events.Call c s call) acts i tt under
+    event-stays (events.Call c s call) acts now within i under = absurd under
     event-stays (events.Deliver k) acts now within i under = plain-stays (events.Deliver k) acts i tt under
     event-stays events.Settle acts now within i under = plain-stays events.Settle acts i tt under
     event-stays (events.Step s) acts now within i under = plain-stays (events.Step s) acts i tt under

@@ -161,7 +161,7 @@ module _ (n : ℕ) (es : List Event) (before : List Line) (texts : List Text) (x
   event-arms (events.Arm s k kind) acts r is under = arm-gives s k kind (subst (λ l. Each IsRefusal l) (sym is) (arm-texts s k kind acts r under))
   event-arms (events.Decay s page) acts r is under = decay-gives s page
   event-arms (events.Command c command) acts r is under = gives-none _ refl (λ s. refl) (λ s. refl)
-  event-arms (events.Call c t call) acts r is under = gives-none _ refl (λ s. refl) (λ s. refl)
+  event-arms (events.Call c t call) acts r is under = absurd under
   event-arms (events.Again c) acts r is under = gives-none _ refl (λ s. refl) (λ s. refl)
   event-arms (events.Deliver k) acts r is under = gives-none _ refl (λ s. refl) (λ s. refl)
   event-arms events.Settle acts r is under = gives-none _ refl (λ s. refl) (λ s. refl)

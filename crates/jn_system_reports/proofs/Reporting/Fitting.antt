@@ -8,6 +8,7 @@ use Rattle.jn_msgs.specs.declared.message.Outcome.TheVariants as outcomes
 use Rattle.jn_report.specs.declared.line.Refusal.TheVariants as refusals
 use Rattle.jn_report.specs.declared.line.Text.TheVariants as says
 use Rattle.jn_rows.specs.declared.client.Taken.TheVariants as taken
+use Rattle.jn_calls.specs.declared.order.Order.TheVariants as orders
 use Rattle.jn_system_reports.proofs.Reporting.Lists.{Each, each-append}
 use Rattle.jn_system_reports.proofs.Reporting.Asking.{can_answer, fits-op}
 use Rattle.jn_system_reports.proofs.Reporting.Known.{Does}
@@ -16,7 +17,7 @@ use Rattle.jn_system_reports.proofs.Reporting.Known.{Does}
 
 abbrev pub asked_of : Option Outstanding → Option Asked
 asked_of None = None
-asked_of (Some o) = Some (record { number = o.event; command = o.command })
+asked_of (Some o) = Some (record { number = o.event; order = orders.Command o.command })
 
 abbrev pub Waits : Waited → (ClientNo → ClientTable) → Type 0
 Waits out clients = (c : ClientNo) → out c ≡ asked_of (clients c).outstanding

@@ -1,6 +1,7 @@
 -- The lines of a run answer what its clients were told to do.
-use Rattle.jn_system_reports.proofs.Common.{◌≡◌, ℕ, suc, ◌+◌, ◌≤◌, ◌<◌, Bool, true, false, List, [], ◌∷◌, ◌++◌, append-nil, append_assoc, length, drop, Some, None, refl, sym, ◌∙◌, ap, subst, arith, ◌&&◌, ◌||◌, not, nat_eq, if◌then◌else◌, map, list_all, nat_tests, drop-append_seam, ServerNo, ClientNo, Party, Command, Message, client_eq, client_tells, AllFiles, Event, When, AtEvent, AtEnd, Refusal, Text, Line, ClientTable, Commanded, Refuses, Sends, command_row, lines_at, Waited, nothing_asked, with_asked, is_own, answer_in, AllFit, after_answers, after_answer, after_event, own_in_place, is_command_of, AllOwnInPlace, FollowsEvent, after_one, FollowsFrom, IsOfEvent, AllOfEvents, Follows, fits, addressed, AreInTurn, IsWithin, AreWithin, lines_at-earlier, lines_at-newest, AreWithin-wider, AreWithin-append, World, opening, Step, NextEvent, Tell, Dismiss, after, run, IsRun, commanded, Printed, FileThere, PageStored, UnitLocked, text_printed, Act, Does, Refused, Tells, Shows, Item, events_of, steps_in, steps_of, told_in, told_under, after_item, at_event, may_do, may_act, IsUnder, AreUnder, IsReported}
+use Rattle.jn_system_reports.proofs.Common.{◌≡◌, ℕ, suc, ◌+◌, ◌≤◌, ◌<◌, Bool, true, false, List, [], ◌∷◌, ◌++◌, append-nil, append_assoc, length, drop, Some, None, refl, sym, ◌∙◌, ap, subst, arith, ◌&&◌, ◌||◌, not, nat_eq, if◌then◌else◌, map, list_all, nat_tests, drop-append_seam, ServerNo, ClientNo, Party, Command, Message, client_eq, client_tells, AllFiles, Event, When, AtEvent, AtEnd, Refusal, Text, Line, ClientTable, Commanded, Refuses, Sends, command_row, lines_at, Waited, nothing_asked, with_asked, is_own, answer_in, AllFit, after_answers, after_answer, after_event, own_in_place, is_command_of, AllOwnInPlace, FollowsEvent, after_one, FollowsFrom, IsOfEvent, AllOfEvents, Follows, fits, addressed, AreInTurn, IsWithin, AreWithin, lines_at-earlier, lines_at-newest, AreWithin-wider, AreWithin-append, World, opening, Step, NextEvent, Tell, Dismiss, after, run, IsRun, commanded, Printed, FileThere, PageStored, UnitLocked, text_printed, Act, Does, Refused, Tells, Shows, Item, events_of, steps_in, steps_of, told_in, told_under, after_item, at_event, may_do, may_act, IsUnder, AreUnder, IsReported, list_any, is_call}
 use Rattle.std.proofs.lemmas.List.{length-map}
+use Rattle.jn_calls.specs.declared.order.Order.TheVariants as orders
 use Rattle.jn_schedule.specs.declared.Event.TheVariants as events
 use Rattle.jn_report.specs.declared.line.Text.TheVariants as says
 use Rattle.jn_serial.proofs.Refused.{refused-nowhere, refused-once}
@@ -74,16 +75,17 @@ all-quiet e (act ∷ acts) h = (act-quiet e act (first-of (may_act e act) (list_
     second-of : (a b : Bool) → (a && b) ≡ true → b ≡ true
     second-of a b k = grind arith
 
--- an event is a command, or its acts are quiet
+-- an event is an order, or its acts are quiet
 abbrev pub IsPlain : Event → Type 0
 IsPlain (events.Command c command) = ⊥
+IsPlain (events.Call c s call) = ⊥
 IsPlain e = Unit {0}
 
 pub under-quiet : (e : Event) (acts : List Act) → IsPlain e → IsUnder e acts → Each IsQuietAct acts
 under-quiet (events.Command c command) acts p h = absurd p
 under-quiet (events.Show s) acts p h = all-quiet (events.Show s) acts h
 under-quiet (events.Again d) acts p h = all-quiet (events.Again d) acts h
-under-quiet (events.Call d s call) acts p h = all-quiet (events.Call d s call) acts h
+under-quiet (events.Call d s call) acts p h = absurd h
 under-quiet (events.Deliver k) acts p h = all-quiet (events.Deliver k) acts h
 under-quiet events.Settle acts p h = all-quiet events.Settle acts h
 under-quiet (events.Step s) acts p h = all-quiet (events.Step s) acts h
@@ -95,6 +97,15 @@ under-quiet (events.Revive s g) acts p h = all-quiet (events.Revive s g) acts h
 under-quiet (events.Arm s n kind) acts p h = all-quiet (events.Arm s n kind) acts h
 under-quiet (events.Crash s) acts p h = all-quiet (events.Crash s) acts h
 under-quiet (events.Restart s) acts p h = all-quiet (events.Restart s) acts h
+
+-- no event is a call
+pub no-calls : (items : List Item) → AreUnder items → list_any is_call (events_of items) ≡ false
+no-calls [] h = refl
+no-calls (item ∷ items) h = ap (λ (b : Bool). b || list_any is_call (events_of items)) (none item.event item.acts h.0) ∙ no-calls items h.1
+  where
+    none : (e : Event) (acts : List Act) → IsUnder e acts → is_call e ≡ false
+    none (events.Call c s call) acts u = absurd u
+    none _ acts u = refl
 
 print-mute : (s : ServerNo) (x : Printed) → IsMute (text_printed s x)
 print-mute s (FileThere f) = (refl, tt)
@@ -171,10 +182,12 @@ module _ (files : AllFiles) (epochs : ServerNo → ℕ) where
 
   no-command : (e : Event) → IsPlain e → (c : ClientNo) → is_command_of e c ≡ false
   no-command (events.Command d command) p c = absurd p
+  no-command (events.Call d s call) p c = absurd p
   no-command _ p c = refl
 
   plain-event : (out : Waited) (number : ℕ) (e : Event) (lines : List Line) → IsPlain e → after_event out number e lines ≡ out
   plain-event out number (events.Command c command) lines p = absurd p
+  plain-event out number (events.Call c s call) lines p = absurd p
   plain-event out number _ lines p = refl
 
   plain-follows : (out : Waited) (e : Event) (acts : List Act) (r : World) → Reached files epochs r → IsRun (steps_in acts) r → Waits out r.clients → IsPlain e → IsUnder e acts → EventFollows out r.event e (told_in acts r) (run (steps_in acts) r)
@@ -209,14 +222,14 @@ module _ (files : AllFiles) (epochs : ServerNo → ℕ) where
         in-place : (b : Bool) → b ≡ true → (not b || (nat_eq r.event r.event && client_eq c c)) ≡ true
         in-place b k = grind (arith, nat_tests, client_tells c c)
 
-        left-is : (b : Bool) → b ≡ true → (d : ClientNo) → after_answer (if (b && (client_eq c c && nat_eq r.event r.event)) || false then out else with_asked out c (Some (record { number = r.event; command = command }))) (if b then None else addressed c r.event) (says.Refused c r.event refusal) d ≡ out d
-        left-is true k d = ap (λ (t : Bool). (if (t || false) then out else with_asked out c (Some (record { number = r.event; command = command }))) d) (itself c r.event)
+        left-is : (b : Bool) → b ≡ true → (d : ClientNo) → after_answer (if (b && (client_eq c c && nat_eq r.event r.event)) || false then out else with_asked out c (Some (record { number = r.event; order = orders.Command command }))) (if b then None else addressed c r.event) (says.Refused c r.event refusal) d ≡ out d
+        left-is true k d = ap (λ (t : Bool). (if (t || false) then out else with_asked out c (Some (record { number = r.event; order = orders.Command command }))) d) (itself c r.event)
           where
             itself : (c : ClientNo) (n : ℕ) → (client_eq c c && nat_eq n n) ≡ true
             itself c n = grind (arith, nat_tests, client_tells c c)
         left-is false k d = absurd (grind arith)
 
-    sent-follows : (u : ClientTable) (to : Party) (message : Message) → asked_of u.outstanding ≡ Some (record { number = r.event; command = command }) → Reached files epochs (commanded c (Sends u to message) r) → EventFollows out r.event (events.Command c command) [] (commanded c (Sends u to message) r)
+    sent-follows : (u : ClientTable) (to : Party) (message : Message) → asked_of u.outstanding ≡ Some (record { number = r.event; order = orders.Command command }) → Reached files epochs (commanded c (Sends u to message) r) → EventFollows out r.event (events.Command c command) [] (commanded c (Sends u to message) r)
     sent-follows u to message h reached = record { reached = reached; same_event = refl; follows = record { fit = tt; own = tt; once = omega arith }; now = new-waits r.clients c u out waits _ h }
 
     nothing-more : (l : List Text) → drop (length l) l ++ [] ≡ []
@@ -235,7 +248,7 @@ module _ (files : AllFiles) (epochs : ServerNo → ℕ) where
   event-follows out (events.Command c command) acts r reached i waits under = subst (λ (l : List Act). IsRun (steps_in l) r → EventFollows out r.event (events.Command c command) (told_in l r) (run (steps_in l) r)) (sym under)
       (λ k. command-follows out c command r waits (next-reached files epochs r (Tell c command) k.0 reached)) i
   event-follows out (events.Again d) acts r reached i waits under = plain-follows out (events.Again d) acts r reached i waits tt under
-  event-follows out (events.Call d s call) acts r reached i waits under = plain-follows out (events.Call d s call) acts r reached i waits tt under
+  event-follows out (events.Call d s call) acts r reached i waits under = absurd under
   event-follows out (events.Deliver k) acts r reached i waits under = plain-follows out (events.Deliver k) acts r reached i waits tt under
   event-follows out events.Settle acts r reached i waits under = plain-follows out events.Settle acts r reached i waits tt under
   event-follows out (events.Step s) acts r reached i waits under = plain-follows out (events.Step s) acts r reached i waits tt under

@@ -6,6 +6,7 @@ use Rattle.jn_report.specs.declared.line.Refusal.TheVariants as refusals
 use Rattle.jn_report.specs.declared.line.Text.TheVariants as says
 use Rattle.jn_rows.specs.declared.client.Taken.TheVariants as taken
 use Rattle.jn_rows.specs.Client.{work_at}
+use Rattle.jn_calls.specs.declared.order.Order.TheVariants as orders
 use Rattle.jn_system_reports.proofs.Reporting.Lists.{Each, each-in, get-in}
 use Rattle.jn_system_reports.proofs.Reporting.Asking.{can_answer, IsAnswered}
 use Rattle.jn_system_reports.proofs.Reporting.Known.{Does}
@@ -48,7 +49,7 @@ module _ (clients : ClientNo → ClientTable) (c : ClientNo) (u : ClientTable) (
       to : answer_in line ≡ addressed c h.outstanding.event
       to = h.addressed_it ∙ ap (λ (z : ClientNo). addressed z h.outstanding.event) name
 
-      is : out c ≡ Some (record { number = h.outstanding.event; command = h.outstanding.command })
+      is : out c ≡ Some (record { number = h.outstanding.event; order = orders.Command h.outstanding.command })
       is = waits c ∙ ap asked_of h.was
 
       same-number : (n : ℕ) (b : Bool) → b ≡ true → (nat_eq n n && b) ≡ true
@@ -135,7 +136,7 @@ module _ (r : World) (w : Machine) (facts : Facts r w) (talk : Talk r w) where
 -- a command that the client refuses itself, or that it waits for from now on
 abbrev pub Commands : ℕ → Command → Commanded → Type 0
 Commands j command (Refuses refusal) = is_own refusal ≡ true
-Commands j command (Sends u to message) = asked_of u.outstanding ≡ Some (record { number = j; command = command })
+Commands j command (Sends u to message) = asked_of u.outstanding ≡ Some (record { number = j; order = orders.Command command })
 
 pub commands : (t : ClientTable) (j : ℕ) (command : Command) → Commands j command (command_row t j command)
 commands t j command = by command

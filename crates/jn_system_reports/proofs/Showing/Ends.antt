@@ -1,5 +1,5 @@
 -- The end of a run prints what all commits leave.
-use Rattle.jn_system_reports.proofs.Common.{◌≡◌, ◌⊎◌, inl, inr, ℕ, suc, ◌+◌, ◌≤◌, ◌<◌, Bool, true, false, List, [], ◌∷◌, ◌++◌, append-nil, append_assoc, length, Some, None, refl, sym, ◌∙◌, ap, subst, arith, ◌&&◌, map, nat_lt, nat_tests, list_all, ServerNo, FileNo, LockUnit, File, Block, server_eq, file_eq, server_tells, AllFiles, AtEnd, Text, Line, lines_at, says_it, history_of, replay_operations, IsAsIn, AllAsIn, prints_file, is_locked, ShowsFiles, ShownSoFar, Shown, Follows, lines_at-append, AreAtEnd, AreInTurn, turn-to-end, run_atoms, opening_world, commits-more, commit_holder, World, Memory, opening, commits_in, servers_from, Step, NextEvent, Tell, CloseClients, after, run, IsRun, Printed, FileThere, PageStored, UnitLocked, text_printed, IsPrinted, Does, Item, events_of, steps_of, told_by, told_under, world_of, after_item, at_event, IsReported, Comeback, Ending, AreFilesOf, restarts_from, steps_at_end, world_at_end, settles, ArePrinted, IsEnding, told_by_steps, texts_from, at_end, lines_to_end, AreAsTold}
+use Rattle.jn_system_reports.proofs.Common.{◌≡◌, ◌⊎◌, inl, inr, ℕ, suc, ◌+◌, ◌≤◌, ◌<◌, Bool, true, false, List, [], ◌∷◌, ◌++◌, append-nil, append_assoc, length, Some, None, refl, sym, ◌∙◌, ap, subst, arith, ◌&&◌, map, nat_lt, nat_tests, list_all, ServerNo, FileNo, LockUnit, File, Block, server_eq, file_eq, server_tells, AllFiles, AtEnd, Text, Line, lines_at, says_it, history_of, replay_operations, IsAsIn, AllAsIn, prints_file, is_locked, ShowsFiles, OperationsShownSoFar, OperationsShown, Follows, lines_at-append, AreAtEnd, AreInTurn, turn-to-end, run_atoms, opening_world, commits-more, commit_holder, World, Memory, opening, commits_in, servers_from, Step, NextEvent, Tell, CloseClients, after, run, IsRun, Printed, FileThere, PageStored, UnitLocked, text_printed, IsPrinted, Does, Item, events_of, steps_of, told_by, told_under, world_of, after_item, at_event, IsReported, Comeback, Ending, AreFilesOf, restarts_from, steps_at_end, world_at_end, settles, ArePrinted, IsEnding, told_by_steps, texts_from, at_end, lines_to_end, AreAsTold}
 use Rattle.jn_system.specs.WholeSystem.Steps.{Crash}
 use Rattle.jn_report.specs.declared.line.Text.TheVariants as says
 use Rattle.jn_system_reports.specs.Reporting.Reported.{lines_of}
@@ -373,12 +373,12 @@ module _ (servers : ℕ) (files : AllFiles) (epochs : ServerNo → ℕ) (items :
       }
 
   -- the shows before it, by all lines
-  pub so-far : ShownSoFar files (events_of items) (lines_to_end servers items e start)
+  pub so-far : OperationsShownSoFar files (events_of items) (lines_to_end servers items e start)
   so-far = shown-with files epochs servers items h lines (told_then ++ printed ++ count) (append_assoc (lines_of items start) (at_end (told_then ++ printed)) (at_end count) ∙ ap (λ l. lines_of items start ++ l) (sym (at-end-more (told_then ++ printed) count)))
       (λ before later q. subst (λ l. (g : IsReported l start) (j : IsRun steps (world_of l start)) → texts_of lines ≡ texts_of (lines_of l start) ++ (told_by_steps steps (world_of l start) ++ (printed ++ count)) → AreInTurn 1 (events_of l) lines → Follows (events_of l) lines → AreAsTold files (events_of l) lines (lines_of before start) (world_of before start)) (sym q)
       (λ g j x t f. beginning-told servers files epochs before later g steps j calm (printed ++ count) silent.0 silent.1 lines x t f) h k.steps same-texts turn follows)
 
-  pub end-whole : AreFilesOf servers files → says_it is_locked (lines_at AtEnd (lines_to_end servers items e start)) ≡ false → Shown files (events_of items) (lines_to_end servers items e start)
+  pub end-whole : AreFilesOf servers files → says_it is_locked (lines_at AtEnd (lines_to_end servers items e start)) ≡ false → OperationsShown files (events_of items) (lines_to_end servers items e start)
   end-whole few free = record { so_far = so-far; at_end = record { all = end-all few; unlocked = free } }
 
   -- where nothing is held for commit, nothing is locked

@@ -1,5 +1,5 @@
 -- Each show of a run prints what the commits before it leave.
-use Rattle.jn_system_reports.proofs.Common.{◌≡◌, ℕ, zero, suc, ◌+◌, ◌≤◌, Bool, true, false, List, [], ◌∷◌, ◌++◌, append-nil, length, Some, None, refl, sym, ◌∙◌, ap, subst, arith, ◌&&◌, map, list_all, ServerNo, FileNo, server_eq, server_tells, AllFiles, Event, Show, AtEvent, Text, Line, lines_at, lines_before, says_it, event_at, history_of, replay_operations, IsAsIn, prints_file, is_no_show, ShowsFiles, ShownSoFar, nothing_asked, AreWithin, AreWithin-wider, lines_at-append, lines_before-append, lines_before-later, lines_before-whole, World, opening, NextEvent, after, IsRun, Printed, text_printed, IsPrinted, Act, Does, Tells, Shows, Item, events_of, steps_in, steps_of, world_of, told_in, told_under, after_item, at_event, may_act, IsUnder, AreUnder, GoesOver, IsShow, IsShown, AreShown, IsReported, at_end, AreAsTold}
+use Rattle.jn_system_reports.proofs.Common.{◌≡◌, ℕ, zero, suc, ◌+◌, ◌≤◌, Bool, true, false, List, [], ◌∷◌, ◌++◌, append-nil, length, Some, None, refl, sym, ◌∙◌, ap, subst, arith, ◌&&◌, map, list_all, ServerNo, FileNo, server_eq, server_tells, AllFiles, Event, Show, AtEvent, Text, Line, lines_at, lines_before, says_it, event_at, history_of, replay_operations, IsAsIn, prints_file, is_no_show, ShowsFiles, OperationsShownSoFar, nothing_asked, AreWithin, AreWithin-wider, lines_at-append, lines_before-append, lines_before-later, lines_before-whole, World, opening, NextEvent, after, IsRun, Printed, text_printed, IsPrinted, Act, Does, Tells, Shows, Item, events_of, steps_in, steps_of, world_of, told_in, told_under, after_item, at_event, may_act, IsUnder, AreUnder, GoesOver, IsShow, IsShown, AreShown, IsReported, at_end, AreAsTold}
 use Rattle.jn_system_reports.specs.Reporting.Reported.{Refuses, lines_of}
 use Rattle.jn_system_reports.proofs.Reporting.Reached.{Reached, next-reached, opening-reached}
 use Rattle.jn_system_reports.proofs.Reporting.Fitting.{asked_of}
@@ -196,7 +196,7 @@ module _ (files : AllFiles) (epochs : ServerNo → ℕ) where
 
   -- the shows of a run, by its lines with some that stand at its end
   pub shown-with : (servers : ℕ) (items : List Item) (h : IsReported items (opening servers files epochs)) (lines : List Line) (tail : List Text) → lines ≡ lines_of items (opening servers files epochs) ++ at_end tail
-      → ((before later : List Item) → items ≡ before ++ later → AreAsTold files (events_of items) lines (lines_of before (opening servers files epochs)) (world_of before (opening servers files epochs))) → ShownSoFar files (events_of items) lines
+      → ((before later : List Item) → items ≡ before ++ later → AreAsTold files (events_of items) lines (lines_of before (opening servers files epochs)) (world_of before (opening servers files epochs))) → OperationsShownSoFar files (events_of items) lines
   shown-with servers items h lines tail is told i s e = let f = find items i (Show s) e in
       subst (λ l. IsReported l start → lines ≡ lines_of l start ++ at_end tail → AreAsTold files (events_of l) lines (lines_of f.before start) (world_of f.before start) → ShowsAt files (events_of l) lines i s) (sym f.is)
       (λ k q a. shown-at servers f.before f.item f.rest k s f.event lines tail q a i f.place) h is (told f.before (f.item ∷ f.rest) f.is)
@@ -204,7 +204,7 @@ module _ (files : AllFiles) (epochs : ServerNo → ℕ) where
       start : World
       start = opening servers files epochs
 
-pub run-shown : (servers : ℕ) (files : AllFiles) (epochs : ServerNo → ℕ) (items : List Item) → IsReported items (opening servers files epochs) → ShownSoFar files (events_of items) (lines_of items (opening servers files epochs))
+pub run-shown : (servers : ℕ) (files : AllFiles) (epochs : ServerNo → ℕ) (items : List Item) → IsReported items (opening servers files epochs) → OperationsShownSoFar files (events_of items) (lines_of items (opening servers files epochs))
 run-shown servers files epochs items h = shown-with files epochs servers items h (lines_of items start) [] (sym (append-nil (lines_of items start)))
     (λ before later e. subst (λ l. IsReported l start → AreAsTold files (events_of l) (lines_of l start) (lines_of before start) (world_of before start)) (sym e) (beginning-as-told servers files epochs before later) h)
   where

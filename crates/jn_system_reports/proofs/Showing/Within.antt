@@ -1,5 +1,5 @@
 -- No operation is reported at a server that there isn't.
-use Rattle.jn_system_reports.proofs.Common.{◌≡◌, ◌≢◌, ◌⊎◌, inl, inr, ℕ, suc, ◌+◌, ◌≤◌, ◌<◌, Bool, true, false, List, [], ◌∷◌, ◌++◌, append_assoc, length, Option, Some, None, refl, sym, ◌∙◌, ap, subst, arith, ◌&&◌, if◌then◌else◌, nat_eq, nat_lt, nat_tests, ServerNo, ClientNo, Tid, WorkId, Op, Answer, Command, Begin, Open, Do, End, Abort, server_eq, client_eq, server_tells, AllFiles, files_after, all_files_after, Message, Outcome, Event, CommandOf, Text, Line, Outstanding, OpenWork, Taken, Sent, ClientTable, Commanded, Refuses, Sends, if_server, if_idle, if_transaction, if_no_transaction, if_open, if_not_open, command_row, is_current, is_end, is_end_or_abort, if_waits, begun_row, opened_row, decided_row, outcome_row, take_row, Performed, Waited, with_asked, answer_in, is_last, fits, fits_asked, answers_command, after_answer, event_at, files_then, operations_of, replay_operations, performed_in, answered, answered_by, owner_after, event_at-next, World, at_client, opening, Step, NextEvent, Tell, Dismiss, after, run, IsRun, commanded, Act, Does, Refused, Tells, Shows, Item, events_of, steps_in, steps_of, after_item, IsUnder, AreUnder, one-client, ClientRow, by_command, by_ignoring, by_answering, by_telling, StepCase, client_row, row_done, row_stopped, gone_late, gone_down, come_up, found_anew, dismissed, quietly, step-case}
+use Rattle.jn_system_reports.proofs.Common.{◌≡◌, ◌≢◌, ◌⊎◌, inl, inr, ℕ, suc, ◌+◌, ◌≤◌, ◌<◌, Bool, true, false, List, [], ◌∷◌, ◌++◌, append_assoc, length, Option, Some, None, refl, sym, ◌∙◌, ap, subst, arith, ◌&&◌, if◌then◌else◌, nat_eq, nat_lt, nat_tests, ServerNo, ClientNo, Tid, WorkId, Op, Answer, Command, Begin, Open, Do, End, Abort, server_eq, client_eq, server_tells, AllFiles, files_after, all_files_after, Message, Outcome, Event, CommandOf, Text, Line, Outstanding, OpenWork, Taken, Sent, ClientTable, Commanded, Refuses, Sends, if_server, if_idle, if_transaction, if_no_transaction, if_open, if_not_open, command_row, is_current, is_end, is_end_or_abort, if_waits, begun_row, opened_row, decided_row, outcome_row, take_row, Performed, Waited, with_asked, answer_in, is_last, fits, fits_asked, after_answer, event_at, files_then, operations_of, replay_operations, performed_in, answered, answered_by, owner_after, event_at-next, World, at_client, opening, Step, NextEvent, Tell, Dismiss, after, run, IsRun, commanded, Act, Does, Refused, Tells, Shows, Item, events_of, steps_in, steps_of, after_item, IsUnder, AreUnder, one-client, ClientRow, by_command, by_ignoring, by_answering, by_telling, StepCase, client_row, row_done, row_stopped, gone_late, gone_down, come_up, found_anew, dismissed, quietly, step-case, CallOf, answers_order}
 use Rattle.jn_system_reports.proofs.Telling.TransactionLines.{ops_in}
 use Rattle.jn_serial.specs.declared.following.Asked.{Asked}
 use Rattle.jn_msgs.specs.declared.message.Message.TheVariants as messages
@@ -179,7 +179,7 @@ module _ (servers : ℕ) where
 
         by : (o : Option Asked) → out b.client ≡ o → fits_asked o b.number x ≡ true → IsFor b.number
         by None l m = absurd (not-both true refl (sym m))
-        by (Some d) l m = subst IsFor (same d.number b.number (first-of (nat_eq d.number b.number) (answers_command d.command x) m)) (k b.client d l)
+        by (Some d) l m = subst IsFor (same d.number b.number (first-of (nat_eq d.number b.number) (answers_order d.order x) m)) (k b.client d l)
 
     answer-left : (out : Waited) (x : Text) (o : Option Addressed) → Asks out → Asks (after_answer out o x)
     answer-left out x None k = k
@@ -272,6 +272,7 @@ module _ (servers : ℕ) where
 
       event-tell : (e : Event) (acts : List Act) (r : World) → IsUnder e acts → event_at events r.event ≡ Some e → AllTell (steps_in acts) r
       event-tell (CommandOf c command) acts r under k = subst (λ l. AllTell (steps_in l) r) (sym under) (k, tt)
+      event-tell (CallOf c s call) acts r under k = absurd under
       event-tell e acts r under k = quiet-tell acts r (under-quiet e acts tt under)
 
       length-more : (es : List Event) (e : Event) → length (es ++ e ∷ []) ≡ length es + 1

@@ -7,7 +7,7 @@ use Rattle.jn_serial.proofs.Beginners.{HasOneClient}
 use Rattle.jn_system_reports.specs.Reporting.Reported.{lines_of}
 use Rattle.jn_system_reports.proofs.Reporting.Lists.{Each}
 use Rattle.jn_system_reports.proofs.Reporting.Hearing.{IsQuiet, step-hears}
-use Rattle.jn_system_reports.proofs.Reporting.Following.{IsQuietAct, under-quiet, run-split, run-in-turn, run-follows}
+use Rattle.jn_system_reports.proofs.Reporting.Following.{IsQuietAct, under-quiet, no-calls, run-split, run-in-turn, run-follows}
 use Rattle.jn_system_reports.proofs.Reporting.Reached.{Reached, next-reached, opening-reached}
 use Rattle.jn_system_reports.proofs.Reporting.Naming.{adds}
 use Rattle.jn_system_reports.proofs.Telling.Tellings.{texts_of, ops-of-texts, ops-more, owner-more, by-begun, by-texts}
@@ -148,7 +148,7 @@ module _ (events : List Event) (files : AllFiles) (epochs : ServerNo → ℕ) (e
   event-acts (kinds.Command c command) acts r h k i under e = subst (λ l. Told r (run (steps_in l) r) (told_in l r)) (sym under) (command-acts c command r h k e)
   event-acts (kinds.Show s) acts r h k i under e = quiet-acts acts r h k i (under-quiet (kinds.Show s) acts tt under)
   event-acts (kinds.Again c) acts r h k i under e = quiet-acts acts r h k i (under-quiet (kinds.Again c) acts tt under)
-  event-acts (kinds.Call c s call) acts r h k i under e = quiet-acts acts r h k i (under-quiet (kinds.Call c s call) acts tt under)
+  event-acts (kinds.Call c s call) acts r h k i under e = absurd under
   event-acts (kinds.Deliver n) acts r h k i under e = quiet-acts acts r h k i (under-quiet (kinds.Deliver n) acts tt under)
   event-acts kinds.Settle acts r h k i under e = quiet-acts acts r h k i (under-quiet kinds.Settle acts tt under)
   event-acts (kinds.Step s) acts r h k i under e = quiet-acts acts r h k i (under-quiet (kinds.Step s) acts tt under)
@@ -304,7 +304,7 @@ module _ (servers : ℕ) (files : AllFiles) (epochs : ServerNo → ℕ) (items l
         started g = let y = after-all.stands.talk.started T g in y.its c (its c h) ∙ sym (y.its d (its d k))
 
     pub end-ops : (T : Tid) → operations_of all lines T ≡ ops_in all T None final.lines
-    end-ops T = ops-in-turn all lines T turn follows (one-client T) ∙ ops-of-texts all T None lines ∙ ap (λ l. ops_in all T None l) is ∙ same.ops T None ∙ ap (λ l. ops_in all T None l) (sym its-lines)
+    end-ops T = ops-in-turn all lines T (no-calls (items ++ later) h.under) turn follows (one-client T) ∙ ops-of-texts all T None lines ∙ ap (λ l. ops_in all T None l) is ∙ same.ops T None ∙ ap (λ l. ops_in all T None l) (sym its-lines)
 
     pub end-as-told : AreAsTold files all lines lines (run steps (world_of (items ++ later) start))
     end-as-told = stands-told all files epochs ended between.lines final lines lines after-all.stands (record { ops = λ T e. end-ops T; commits = history-texts lines ∙ ap commits_in is ∙ same.commits ∙ ap commits_in (sym its-lines) })

@@ -160,9 +160,11 @@ may_act event (Refuses refusal) = may_refuse refusal event
 may_act event (Tells t fault) = may_tell event t
 may_act event (Shows t prints) = may_show event t
 
--- a command is the one step that tells its client; each other event has any of what it may have, but for what shows ask besides
+-- a command is the one step that tells its client, and no event is a call; each other event has any of what it may have, but for what shows ask
+-- besides
 abbrev pub IsUnder : Event → List Act → Type 0
 IsUnder (events.Command c command) acts = acts ≡ Does (Tell c command) ∷ []
+IsUnder (events.Call c s call) acts = ⊥
 IsUnder event acts = list_all (may_act event) acts ≡ true
 
 abbrev pub AreUnder : List Item → Type 0

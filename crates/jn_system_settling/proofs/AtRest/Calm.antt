@@ -74,24 +74,27 @@ new-has xs (y ∷ ys) k x h e = by (nat_eq k (length xs)) refl h (new-has (xs ++
     by false q z again = inr (again (subst (λ m. list_any (nat_eq k) (numbered m ys) ≡ true) (sym (length-append xs (y ∷ []))) z) (ap (λ l. slice_get l k) (append_assoc xs (y ∷ []) ys) ∙ e))
 
 module _ (n : ℕ) (at_most : n ≤ 8) (start : World) where
+  -- what waits after a step waited before it, or is new
+  pub came-from : (d : Course) (step : Step) (more : List Sent) → Sound n start d → (after step d.world).sent ≡ d.world.sent ++ more → (x : Sent) → Waits (go step d).world.sent (go step d).waiting x → Waits d.world.sent d.waiting x ⊎ Has x more
+  came-from d step more sound f x h = by (any-either (nat_eq h.number) (still_waiting step d.waiting) (numbered (length d.world.sent) more)
+      (subst (λ ks. list_any (nat_eq h.number) ks ≡ true) (waiting-is n at_most start d step more f) h.waits))
+    where
+      by : (list_any (nat_eq h.number) (still_waiting step d.waiting) ≡ true) ⊎ (list_any (nat_eq h.number) (numbered (length d.world.sent) more) ≡ true) → Waits d.world.sent d.waiting x ⊎ Has x more
+      by (inl k) = let old = still-old h.number step d.waiting k in
+          inl (record { number = h.number; waits = old; is = sym (get-more d.world.sent more h.number (below-any (length d.world.sent) h.number d.waiting sound.below old)) ∙ ap (λ l. slice_get l h.number) (sym f) ∙ h.is })
+      by (inr k) = inr (new-has d.world.sent more h.number x k (ap (λ l. slice_get l h.number) (sym f) ∙ h.is))
+
   step-comes : (d : Course) (step : Step) (taken : Option Sent) (w : World) → Sound n start d → after step d.world ≡ w
       → ((x : Sent) (h : Waits d.world.sent d.waiting x) → (taken ≡ Some x) ⊎ (list_any (nat_eq h.number) (still_waiting step d.waiting) ≡ true)) → Comes d (go step d) taken w
   step-comes d step taken w sound e on = record {
     world = e;
     waits = λ x h. by x h (on x h);
     new = λ more f x h. now-waits n at_most start d step more x (ap (λ (z : World). z.sent) e ∙ f) h;
-    back = λ more f x h. from more (ap (λ (z : World). z.sent) e ∙ f) x h (any-either (nat_eq h.number) (still_waiting step d.waiting) (numbered (length d.world.sent) more)
-        (subst (λ ks. list_any (nat_eq h.number) ks ≡ true) (waiting-is n at_most start d step more (ap (λ (z : World). z.sent) e ∙ f)) h.waits));
+    back = λ more f x h. came-from d step more sound (ap (λ (z : World). z.sent) e ∙ f) x h;
     still = still_waiting step d.waiting;
     numbers = λ more f. waiting-is n at_most start d step more (ap (λ (z : World). z.sent) e ∙ f);
   }
     where
-      from : (more : List Sent) → (after step d.world).sent ≡ d.world.sent ++ more → (x : Sent) (h : Waits (go step d).world.sent (go step d).waiting x)
-          → (list_any (nat_eq h.number) (still_waiting step d.waiting) ≡ true) ⊎ (list_any (nat_eq h.number) (numbered (length d.world.sent) more) ≡ true) → Waits d.world.sent d.waiting x ⊎ Has x more
-      from more f x h (inl k) = let old = still-old h.number step d.waiting k in
-          inl (record { number = h.number; waits = old; is = sym (get-more d.world.sent more h.number (below-any (length d.world.sent) h.number d.waiting sound.below old)) ∙ ap (λ l. slice_get l h.number) (sym f) ∙ h.is })
-      from more f x h (inr k) = inr (new-has d.world.sent more h.number x k (ap (λ l. slice_get l h.number) (sym f) ∙ h.is))
-
       by : (x : Sent) (h : Waits d.world.sent d.waiting x) → (taken ≡ Some x) ⊎ (list_any (nat_eq h.number) (still_waiting step d.waiting) ≡ true) → (taken ≡ Some x) ⊎ Waits (go step d).world.sent (go step d).waiting x
       by x h (inl t) = inl t
       by x h (inr l) = inr (still-waits n at_most start d step x sound h l)

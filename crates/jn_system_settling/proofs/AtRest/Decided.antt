@@ -107,6 +107,23 @@ quiet-client T t fits none y h = by t.outstanding refl (subst (λ z. Has y (sent
         at (Some o) e (inl q) = ap (λ (z : Sent). is_about T z.1) (sym q) ∙ message o e o.command refl (fits o e)
         at (Some o) e (inr k) = absurd k
 
+-- ---- what is live
+
+-- its entry at its server
+pub entry-of : (w : World) (W : WorkId) (v : Work) → live_at w W ≡ Some v → (m : Memory) × (w.memory W.server ≡ Some m) × (work_at W m.worker ≡ Some v)
+entry-of w W v e = by (w.memory W.server) refl e
+  where
+    by : (o : Option Memory) → w.memory W.server ≡ o → entry_in o W ≡ Some v → (m : Memory) × (w.memory W.server ≡ Some m) × (work_at W m.worker ≡ Some v)
+    by None q f = absurd (cc f)
+    by (Some m) q f = (m, q, f)
+
+-- it isn't there
+pub not-there : (w : World) (W : WorkId) (v : Work) → live_at w W ≡ Some v → NotLive w W → ⊥
+not-there w W v e q = no (sym q.none ∙ sym (ap (λ o. entry_in o W) q.up) ∙ e)
+  where
+    no : None ≡ Some v → ⊥
+    no z = cc
+
 -- ---- a settle
 
 module _ (n : ℕ) (at_most : n ≤ 8) (files : AllFiles) (epochs : ServerNo → ℕ) where
@@ -126,7 +143,7 @@ module _ (n : ℕ) (at_most : n ≤ 8) (files : AllFiles) (epochs : ServerNo →
         (λ d now k room s message m g is up comes first h. server-old n at_most files epochs (reached n at_most files epochs) (broken n at_most files epochs) W d now k room s message m g up comes h)
         (λ d now s m v g e up goes comes h. work-old n at_most files epochs (reached n at_most files epochs) (broken n at_most files epochs) W d now s m v g up comes h)
 
-    rest-gone : (j : ℕ) (chances : ℕ → Chance) (d : Course) → IsGood d → AreUp n (until_rest (servers_from 0 n) chances j d).world → NotLive d.world W → NotLive (until_rest (servers_from 0 n) chances j d).world W
+    pub rest-gone : (j : ℕ) (chances : ℕ → Chance) (d : Course) → IsGood d → AreUp n (until_rest (servers_from 0 n) chances j d).world → NotLive d.world W → NotLive (until_rest (servers_from 0 n) chances j d).world W
     rest-gone = rest-calm n at_most start IsGood (λ d h. h.talking.sound) (good-go n at_most start files epochs) (inside n at_most files epochs) (λ d. NotLive d.world W)
         (λ d now k c message g is comes first h. still-gone n at_most files epochs (reached n at_most files epochs) (broken n at_most files epochs) W d now (took-same n at_most files epochs (reached n at_most files epochs) (broken n at_most files epochs) W d now k c message comes) h)
         (λ d now k room s message m g is up comes first h. server-gone n at_most files epochs (reached n at_most files epochs) (broken n at_most files epochs) W d now k room s message m g up comes h)
@@ -157,20 +174,6 @@ module _ (n : ℕ) (at_most : n ≤ 8) (files : AllFiles) (epochs : ServerNo →
 
     up-d : AreUp n d.world
     up-d = up-first n at_most files epochs first second c i k h rests up
-
-    entry-of : (w : World) (W : WorkId) (v : Work) → live_at w W ≡ Some v → (m : Memory) × (w.memory W.server ≡ Some m) × (work_at W m.worker ≡ Some v)
-    entry-of w W v e = by (w.memory W.server) refl e
-      where
-        by : (o : Option Memory) → w.memory W.server ≡ o → entry_in o W ≡ Some v → (m : Memory) × (w.memory W.server ≡ Some m) × (work_at W m.worker ≡ Some v)
-        by None q f = absurd (cc f)
-        by (Some m) q f = (m, q, f)
-
-    -- it isn't there
-    not-there : (w : World) (W : WorkId) (v : Work) → live_at w W ≡ Some v → NotLive w W → ⊥
-    not-there w W v e q = no (sym q.none ∙ sym (ap (λ o. entry_in o W) q.up) ∙ e)
-      where
-        no : None ≡ Some v → ⊥
-        no z = cc
 
     -- one that was live when the servers asked
     module _ (W : WorkId) (near : W.server.0 < n) (v : Work) (m : Memory) (up-m : d.world.memory W.server ≡ Some m) (live : work_at W m.worker ≡ Some v) where

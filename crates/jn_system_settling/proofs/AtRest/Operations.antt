@@ -1,9 +1,7 @@
 -- An operation that a client waits for is answered: its work performs it next, has performed it last, or is closed for operations.
-use Rattle.jn_system_settling.proofs.Common.{◌≡◌, ◌⊎◌, inl, inr, ℕ, ◌+◌, Bool, true, false, List, [], ◌∷◌, Option, Some, None, refl, sym, ◌∙◌, ap, subst, arith, ◌&&◌, if◌then◌else◌, nat_eq, nat_tests, ServerNo, ClientNo, WorkId, Client, Op, Answer, Command, Do, client_eq, work_eq, work_tells, Message, AllFiles, change, answer_to, list_change, Work, Phase, Active, Broken, Stored, ActiveWork, OpenWork, Outstanding, Taken, Ignored, stable, RowOutcome, ignored, WorkerTable, Wanted, work_at, granted_row, performed, repeated, by_number, op_phase, op_row, refusal_of, wants_of, is_fit, ClientTable, open_at, is_operation, is_end_or_abort, if_waits, told, idle, answer_line, Machine, run_atoms, opening_world, World, Memory, Room, server_row, IsCurrent, is_closing, operation_of, request_eq, RequestNo, AskedOp, Here, asked_for, asked_here, numberless, plain_client}
-use Rattle.jn_base.specs.declared.op.Answer.TheVariants.{Broken as BrokenAnswer, Lost as LostAnswer, Closing}
+use Rattle.jn_system_settling.proofs.Common.{◌≡◌, ◌⊎◌, inl, inr, ℕ, ◌+◌, Bool, true, false, List, [], ◌∷◌, Option, Some, None, refl, sym, ◌∙◌, ap, subst, arith, ◌&&◌, if◌then◌else◌, nat_eq, nat_tests, ServerNo, ClientNo, WorkId, Client, Op, Answer, Command, Do, client_eq, work_eq, work_tells, Message, AllFiles, change, answer_to, list_change, Work, Phase, Active, Broken, Stored, ActiveWork, OpenWork, Outstanding, Taken, Ignored, stable, RowOutcome, Sent, ignored, WorkerTable, Wanted, work_at, granted_row, performed, repeated, by_number, op_phase, op_row, refusal_of, wants_of, is_fit, ClientTable, open_at, is_operation, is_end_or_abort, if_waits, told, idle, answer_line, Machine, run_atoms, opening_world, World, Memory, Room, server_row, IsCurrent, is_closing, operation_of, request_eq, RequestNo, AskedOp, Here, asked_for, asked_here, numberless, plain_client, BrokenAnswer, LostAnswer, Closing, acting_at, acting_of, acting_in}
 use Rattle.jn_msgs.specs.declared.message.Message.TheVariants as messages
 use Rattle.jn_system_order.proofs.Mirroring.ClientRows.{found-open}
-use Rattle.jn_system_reports.proofs.Telling.Acting.{acting_at, acting_of, acting_in}
 use Rattle.jn_system_reports.proofs.Telling.Facts.{said, op_in, op_asked, IsOperation, IsAsking, Hears, IsRunningAt}
 use Rattle.jn_system_settling.proofs.AtRest.Ways.{Has, Reply, IsEnd}
 use Rattle.jn_system_settling.proofs.AtRest.Twins.{HasTwin}
@@ -41,7 +39,7 @@ waits-as t u o e is = by u.outstanding refl
     }
 
 -- its answer ends the waiting
-answer-ends : (t : ClientTable) (o : Outstanding) (answer : Answer) → t.outstanding ≡ Some o → is_operation o.command ≡ true → IsEnd t (messages.Answer t.client o.request answer)
+pub answer-ends : (t : ClientTable) (o : Outstanding) (answer : Answer) → t.outstanding ≡ Some o → is_operation o.command ≡ true → IsEnd t (messages.Answer t.client o.request answer)
 answer-ends t o answer e does = ap (λ z. (if_waits t z test row).0.outstanding) e ∙ ap (λ (b : Bool). (if b then row o.event else (t, Ignored)).0.outstanding) passes
   where
     test : Outstanding → Bool
@@ -53,13 +51,13 @@ answer-ends t o answer e does = ap (λ z. (if_waits t z test row).0.outstanding)
     passes : test o ≡ true
     passes = grind (arith, nat_tests, does)
 
--- every row of the operation answers it
-abbrev Answers : ClientNo → RequestNo → RowOutcome WorkerTable → Type 0
-Answers c q row = (answer : Answer) × (row.messages ≡ (Client c, messages.Answer c q answer) ∷ [])
+-- what is sent for an operation answers it, and nothing else is sent
+abbrev pub Answers : ClientNo → RequestNo → List Sent → Type 0
+Answers c q sent = (answer : Answer) × (sent ≡ (Client c, messages.Answer c q answer) ∷ [])
 
 module _ (h : Here) (q : AskedOp) (W : WorkId) where
   abbrev IsAnswered : RowOutcome WorkerTable → Type 0
-  IsAnswered row = Answers q.client q.request row
+  IsAnswered row = Answers q.client q.request row.messages
 
   granted-answers : (x : Work) (a : ActiveWork) (answer : Answer) (wants : List Wanted) (refusal : Option Answer) → IsAnswered (granted_row h q x a answer wants refusal)
   granted-answers x a answer wants (Some refusal) = (refusal, refl)
@@ -94,9 +92,10 @@ module _ (h : Here) (q : AskedOp) (W : WorkId) where
       by (Broken u T) f = (BrokenAnswer u T, refl)
       by (Stored p) f = (Closing, refl)
 
-pub op-reply : (files : AllFiles) (epochs : ServerNo → ℕ) (r : World) → HasTwin files epochs r → (c : ClientNo) (o : Outstanding) (s : ServerNo) (op : Op) (m : Memory) (room : Room) → (r.clients c).client ≡ c
-    → (r.clients c).outstanding ≡ Some o → o.command ≡ Do s op → r.memory s ≡ Some m → Reply c (r.clients c) (server_row m (stable (r.found s)) room o.message).messages
-op-reply files epochs r has c o s op m room name e does up = subst (λ (z : Message). Reply c (r.clients c) (server_row m (stable (r.found s)) room z).messages) (sym message) (replied (row-answers here asks v.work (work_at v.work m.worker) numbers))
+-- wherever the operation comes while it is waited for, it is answered
+pub op-answers : (files : AllFiles) (epochs : ServerNo → ℕ) (r : World) → HasTwin files epochs r → (c : ClientNo) (o : Outstanding) (s : ServerNo) (op : Op) (m : Memory) (room : Room)
+    → (r.clients c).outstanding ≡ Some o → o.command ≡ Do s op → r.memory s ≡ Some m → Answers c o.request (server_row m (stable (r.found s)) room o.message).messages
+op-answers files epochs r has c o s op m room e does up = subst (λ (z : Message). Answers c o.request (server_row m (stable (r.found s)) room z).messages) (sym message) (row-answers here asks v.work (work_at v.work m.worker) numbers)
   where
     q : World
     q = has.is.twin
@@ -151,9 +150,10 @@ op-reply files epochs r has c o s op m room name e does up = subst (λ (z : Mess
         by (inl h) = inl (sym h.0)
         by (inr h) = inr (sym h.0, (h.1.0, h.1.1.0))
 
-    replied : Answers c o.request (op_row here asks v.work (work_at v.work m.worker)) → Reply c (r.clients c) (server_row m (stable (r.found s)) room (messages.Op c o.request v.work (operation_of v.last) op)).messages
-    replied x = record {
-      message = messages.Answer c o.request x.0;
-      has = subst (λ l. Has (Client c, messages.Answer c o.request x.0) l) (sym x.1) (inl refl);
-      ends_it = subst (λ (z : ClientNo). IsEnd (r.clients c) (messages.Answer z o.request x.0)) name (answer-ends (r.clients c) o x.0 e (ap is_operation does));
-    }
+pub op-reply : (files : AllFiles) (epochs : ServerNo → ℕ) (r : World) → HasTwin files epochs r → (c : ClientNo) (o : Outstanding) (s : ServerNo) (op : Op) (m : Memory) (room : Room) → (r.clients c).client ≡ c
+    → (r.clients c).outstanding ≡ Some o → o.command ≡ Do s op → r.memory s ≡ Some m → Reply c (r.clients c) (server_row m (stable (r.found s)) room o.message).messages
+op-reply files epochs r has c o s op m room name e does up = let x = op-answers files epochs r has c o s op m room e does up in record {
+  message = messages.Answer c o.request x.0;
+  has = subst (λ l. Has (Client c, messages.Answer c o.request x.0) l) (sym x.1) (inl refl);
+  ends_it = subst (λ (z : ClientNo). IsEnd (r.clients c) (messages.Answer z o.request x.0)) name (answer-ends (r.clients c) o x.0 e (ap is_operation does));
+}

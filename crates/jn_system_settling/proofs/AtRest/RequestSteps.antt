@@ -88,6 +88,7 @@ still-draws t now e (inr q) h = record { some = let s = h.some in omega (arith, 
 pub record Commands (u t : ClientTable) (to : Party) (m : Message) : Type 0 where
   pub waits : Outstanding
   pub outstanding : t.outstanding ≡ Some waits
+  pub place : waits.to ≡ to
   pub message : waits.message ≡ m
   pub request : waits.request.0 ≡ u.next
   pub next : t.next ≡ u.next + 1
@@ -124,7 +125,7 @@ not-open-as u None row h = h
 not-open-as u (Some w) row h = tt
 
 sends-as : (u : ClientTable) (works : List OpenWork) (j : ℕ) (command : Command) (to : Party) (m : Message) → CommandsAs u (sends_command (record u { works = works }) j command to m)
-sends-as u works j command to m = record { waits = record { event = j; request = request_of u.next; command = command; to = to; message = m }; outstanding = refl; message = refl; request = refl; next = refl }
+sends-as u works j command to m = record { waits = record { event = j; request = request_of u.next; command = command; to = to; message = m }; outstanding = refl; place = refl; message = refl; request = refl; next = refl }
 
 pub commands-as : (u : ClientTable) (j : ℕ) (command : Command) → CommandsAs u (command_row u j command)
 commands-as u j (commands.Begin s) = server-as u s _ (idle-as u u.outstanding _ (no-transaction-as u u.transaction _ (sends-as u u.works j (commands.Begin s) (Server s) (messages.Begin u.client (request_of u.next)))))

@@ -48,7 +48,7 @@ module _ (n : ℕ) (at_most : n ≤ 8) (files : AllFiles) (epochs : ServerNo →
       no-message : (x : Sent) → None ≡ Some x → ⊥
       no-message x e = cc
 
-  go-on-talking : (start : World) (steps : List Step) (c : Course) → Good n at_most start files epochs c → IsRun steps c.world → Good n at_most start files epochs (go_on steps c)
+  pub go-on-talking : (start : World) (steps : List Step) (c : Course) → Good n at_most start files epochs c → IsRun steps c.world → Good n at_most start files epochs (go_on steps c)
   go-on-talking start [] c h i = h
   go-on-talking start (step ∷ steps) c h i = go-on-talking start steps (go step c) (good-go n at_most start files epochs c step h i.0) i.1
 

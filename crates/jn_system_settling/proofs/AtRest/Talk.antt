@@ -1,6 +1,5 @@
 -- What a client waits for: the message that it sent fits its command, and it stays the same until it is answered.
-use Rattle.jn_system_settling.proofs.Common.{◌≡◌, ◌⊎◌, inl, inr, ℕ, ◌+◌, Bool, true, false, Option, Some, None, refl, sym, ◌∙◌, subst, if◌then◌else◌, nat_lt, Tid, WorkId, Party, Server, Command, Begin, Do, End, Abort, client_eq, Message, Outcome, Text, Taken, Ignored, Outstanding, OpenWork, ClientTable, Refuses, command_row, take_row, names_of, is_current, if_waits, if_idle, if_transaction, if_no_transaction, if_open, if_not_open, with_operation, begun_row, opened_row, decided_row, outcome_row, after_command, request_of, operation_of, sends}
-use Rattle.jn_base.specs.declared.names.OperationNo.{OperationNo}
+use Rattle.jn_system_settling.proofs.Common.{◌≡◌, ◌⊎◌, inl, inr, ℕ, ◌+◌, Bool, true, false, Option, Some, None, refl, sym, ◌∙◌, subst, if◌then◌else◌, nat_lt, Tid, WorkId, Party, Server, Command, Begin, Do, End, Abort, client_eq, Message, Outcome, Text, Taken, Ignored, Outstanding, OpenWork, ClientTable, Refuses, command_row, take_row, names_of, is_current, if_waits, if_idle, if_transaction, if_no_transaction, if_open, if_not_open, with_operation, begun_row, opened_row, decided_row, outcome_row, after_command, request_of, operation_of, sends, OperationNo}
 use Rattle.jn_base.specs.declared.op.Command.TheVariants.{Open}
 use Rattle.jn_msgs.specs.declared.message.Message.TheVariants as messages
 use Rattle.jn_msgs.specs.declared.message.Outcome.TheVariants as outcomes

@@ -6,18 +6,13 @@ use Rattle.jn_system_settling.proofs.Settling.Burdens.{are_below, get-more, get-
 use Rattle.jn_system_settling.proofs.Settling.Courses.{Sound, waiting-is}
 use Rattle.jn_system_settling.proofs.Settling.Parts.{get-some}
 use Rattle.jn_system_settling.proofs.AtRest.Talk.{IsStill, take-still}
+pub use Rattle.jn_system_settling.specs.AtRest.Calls.{Waits}
 
 -- ---- messages that wait
 
 abbrev pub Has : Sent → List Sent → Type 0
 Has x [] = ⊥
 Has x (y ∷ ys) = (y ≡ x) ⊎ Has x ys
-
--- a message of this number waits
-pub record Waits (sent : List Sent) (waiting : List ℕ) (x : Sent) : Type 0 where
-  pub number : ℕ
-  pub waits : list_any (nat_eq number) waiting ≡ true
-  pub is : slice_get sent number ≡ Some x
 
 pub any-left : {A : Type 0} → (f : A → Bool) (a b : List A) → list_any f a ≡ true → list_any f (a ++ b) ≡ true
 any-left f [] b h = absurd (true≢false (sym h))

@@ -1,9 +1,9 @@
 -- The end of a run, and the settle after it.
-use Rattle.jn_system_settling.proofs.Common.{◌≡◌, ◌≢◌, ◌⊎◌, inl, inr, ◌≤◌, ◌<◌, ℕ, zero, suc, ◌+◌, Bool, true, false, List, [], ◌∷◌, ◌++◌, append-nil, Option, Some, None, is_some, true≢false, refl, sym, ◌∙◌, ap, subst, arith, if◌then◌else◌, ◌&&◌, ◌||◌, nat_lt, nat_eq, map, list_any, nat_tests, ServerNo, ClientNo, Tid, WorkId, server_eq, server_tells, AllFiles, Transaction, Stage, Open, Voting, Committed, Aborted, Commitment, StableState, Prepared, FlagState, Pick, stable, is_ready, is_going, Sent, WorkerTable, work_at, restored_work, restored_worker, is_work, all_in, thanked, all_thanked, restored_transaction, restored_transactions, close_clients_row, run_atoms, opening_world, AreTransactions, none_unless, none_of, false_unless, some_of, clash, World, Memory, opening, servers_from, restored, of_coordinator, Step, Again, Nudge, Crash, Narrow, Restart, Dismiss, CloseClients, IsStep, IsRun, run, after, nudge, crash, restart, close_clients, UpFact, Course, still_waiting, opening_course, go, go_on, Chance, clients_from, until_rest, ask_again, settled, committed_at, NothingGoes, Ends, AreUp, Reached, next-reached, opening-reached, invariant, some-memory, one-server, none-memory}
+use Rattle.jn_system_settling.proofs.Common.{◌≡◌, ◌≢◌, ◌⊎◌, inl, inr, ◌≤◌, ◌<◌, ℕ, zero, suc, ◌+◌, Bool, true, false, List, [], ◌∷◌, ◌++◌, append-nil, Option, Some, None, is_some, true≢false, refl, sym, ◌∙◌, ap, subst, arith, if◌then◌else◌, ◌&&◌, ◌||◌, nat_lt, nat_eq, map, list_any, nat_tests, ServerNo, ClientNo, Tid, WorkId, server_eq, server_tells, AllFiles, Transaction, Stage, Open, Voting, Committed, Aborted, Commitment, StableState, Prepared, FlagState, Pick, stable, is_ready, is_going, Sent, WorkerTable, work_at, restored_work, restored_worker, is_work, all_in, thanked, all_thanked, restored_transaction, restored_transactions, close_clients_row, run_atoms, opening_world, AreTransactions, none_unless, none_of, false_unless, some_of, clash, World, Memory, opening, servers_from, restored, of_coordinator, Step, Again, Nudge, Narrow, Restart, Dismiss, CloseClients, IsStep, IsRun, run, after, nudge, crash, restart, close_clients, UpFact, Course, still_waiting, opening_course, go, go_on, Chance, clients_from, until_rest, ask_again, settled, committed_at, NothingGoes, Ends, AreUp, Reached, next-reached, opening-reached, invariant, some-memory, one-server, none-memory, moves-in-order}
+use Rattle.jn_system.specs.WholeSystem.Steps.{Crash}
 use Rattle.jn_records.specs.MapPlaces.{no_maps}
 use Rattle.jn_system.proofs.WholeSystem.Closes.{is_committed}
 use Rattle.jn_system_order.specs.Ordering.Runs.{IsInOrder}
-use Rattle.jn_system_order.proofs.Ordering.Runs.{moves-in-order}
 use Rattle.jn_system_settling.proofs.Settling.Courses.{Sound, go-sound, waiting-is}
 use Rattle.jn_system_settling.proofs.Settling.Settling.{opening-sound, on-world, settle-ends}
 use Rattle.jn_system_settling.proofs.Settling.WorldSizes.{up-sizes, up-locks}

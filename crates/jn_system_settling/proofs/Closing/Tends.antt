@@ -1,7 +1,6 @@
 -- What holds of a course after the end, and on what each work and each transaction waits.
-use Rattle.jn_system_settling.proofs.Common.{◌≡◌, ◌≢◌, ◌⊎◌, inl, inr, ◌≤◌, ℕ, ◌+◌, Bool, true, false, List, [], ◌∷◌, ◌++◌, length, length-append, append_assoc, Option, Some, None, is_some, true≢false, refl, sym, ◌∙◌, ap, subst, arith, if◌then◌else◌, slice_get, ◌&&◌, nat_tests, ServerNo, ClientNo, Tid, WorkId, Server, server_eq, server_tells, AllFiles, Message, Work, Transaction, Stage, Open, Voting, Committed, Aborted, StableState, Prepared, Pick, stable, made_all, is_ready, RowOutcome, Sent, work_at, transaction_at, is_work, Machine, Invariant, Knows, Says, run_atoms, opening_world, some_is, some_of, not_both, World, Memory, Room, server_row, Step, IsStep, after, done, UpFact, ServerFact, IsAddressed, IsTransaction, IsStage, knowledge_of, known_in, found-is, Course, numbered, still_waiting, go, Reached, next-reached, MayBeFound}
+use Rattle.jn_system_settling.proofs.Common.{◌≡◌, ◌≢◌, ◌⊎◌, inl, inr, ◌≤◌, ℕ, ◌+◌, Bool, true, false, List, [], ◌∷◌, ◌++◌, length, length-append, append_assoc, Option, Some, None, is_some, true≢false, refl, sym, ◌∙◌, ap, subst, arith, if◌then◌else◌, slice_get, ◌&&◌, nat_tests, ServerNo, ClientNo, Tid, WorkId, Server, server_eq, server_tells, AllFiles, Message, Work, Transaction, Stage, Open, Voting, Committed, Aborted, StableState, Prepared, Pick, stable, made_all, is_ready, RowOutcome, Sent, work_at, transaction_at, is_work, Machine, Invariant, Knows, Says, run_atoms, opening_world, some_is, some_of, not_both, World, Memory, Room, server_row, Step, IsStep, after, done, UpFact, ServerFact, IsAddressed, IsTransaction, IsStage, knowledge_of, known_in, found-is, Course, numbered, still_waiting, go, Reached, next-reached, MayBeFound, run_kept, opening_kept}
 use Rattle.jn_msgs.specs.declared.message.Message.TheVariants as messages
-use Rattle.jn_system.proofs.SmallSteps.Runs.{run_kept, opening_kept}
 use Rattle.jn_system_settling.proofs.Settling.Burdens.{are_below, get-more, get-next}
 use Rattle.jn_system_settling.proofs.Settling.Courses.{Sound, go-sound, waiting-is, below-still}
 use Rattle.jn_system_settling.proofs.AtRest.Within.{Within, within-step}

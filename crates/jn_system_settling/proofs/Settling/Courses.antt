@@ -1,6 +1,5 @@
 -- What holds of a course after each of its steps, and what a step does to its burden.
-use Rattle.jn_system_settling.proofs.Common.{◌≡◌, ◌≤◌, ℕ, true, List, [], ◌∷◌, ◌++◌, length-append, refl, sym, ◌∙◌, ap, subst, arith, ◌+◌, length, drop, Sent, World, servers_from, Step, Deliver, StopDelivery, IsStep, IsRun, after, run, LockFacts, locks-keep, Course, numbered, without_number, still_waiting, go, go_on, weigh, going_works, burden, Sizes, one_if_delivery, deliveries, IsCourse, Grows, grows}
-use Rattle.std.proofs.Math.Seq.{drop-append_seam}
+use Rattle.jn_system_settling.proofs.Common.{◌≡◌, ◌≤◌, ℕ, true, List, [], ◌∷◌, ◌++◌, length-append, refl, sym, ◌∙◌, ap, subst, arith, ◌+◌, length, drop, Sent, World, servers_from, Step, Deliver, StopDelivery, IsStep, IsRun, after, run, LockFacts, locks-keep, Course, numbered, without_number, still_waiting, go, go_on, weigh, going_works, burden, Sizes, one_if_delivery, deliveries, IsCourse, Grows, grows, drop-append_seam}
 use Rattle.jn_system_settling.proofs.Settling.WorldSizes.{sizes-keep}
 use Rattle.jn_system_settling.proofs.Settling.Burdens.{are_below, weigh-more, weigh-both, weigh-new, below-both, below-more, below-new, Leads}
 

@@ -1,5 +1,4 @@
-use Rattle.jn_system_settling.proofs.Common.{[], ◌∷◌, Some, None, refl, arith, tid_eq, work_eq, work_tells, tid_tells, work_before, Prepared, FlagState, at_work, at_tid, AreNames, tid_before}
-use Rattle.jn_system.specs.WholeSystem.Example.{the_transaction, the_work}
+use Rattle.jn_system_settling.proofs.Common.{[], ◌∷◌, Some, None, refl, arith, tid_eq, work_eq, work_tells, tid_tells, work_before, Prepared, FlagState, at_work, at_tid, AreNames, tid_before, the_transaction, the_work}
 use Rattle.jn_system_settling.proofs.closed.a_stopped_commit_ends.Goals as goal
 
 one_work : (p : Prepared) → AreNames work_eq work_before (at_work (λ V. None) the_work (Some p)) (the_work ∷ [])
