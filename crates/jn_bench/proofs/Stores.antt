@@ -5,7 +5,7 @@ use Rattle.jn_recovery.specs.declared.counts.PageCounts.{PageCounts}
 use Rattle.jn_store.specs.Store.{StoreView}
 use Rattle.jn_page_state.specs.Recoverable.{IsRecoverable}
 use Rattle.jn_recovery.specs.Counts.{counts_by}
-use Rattle.jn_world.specs.Standing.{AreStores}
+use Rattle.jn_events.specs.Stores.{AreStores}
 use Rattle.jn_run.specs.Running.{IsStore}
 
 some-is : {A : Type 0} (a b : A) → Some a ≡ Some b → a ≡ b

@@ -27,7 +27,7 @@ pub use Rattle.std.proofs.lemmas.Option.{slice_get_within, get_or_from_slice_get
 pub use Rattle.jn_device.specs.Device.{DeviceState}
 pub use Rattle.jn_records.specs.StablePages.{Counts, Pages, block_in, block_behind, address_by, head_of, files_of_pages}
 pub use Rattle.jn_store.specs.Store.{StoreView}
-pub use Rattle.jn_world.specs.Written.{standing_of, GoesTo, DoesScheduled, AreStoresOf, IsClosed}
+pub use Rattle.jn_world.specs.Written.{standing_of, GoesTo}
 pub use Rattle.jn_world_refines.specs.Stands.{Stands, StandsAt, PlaceStands}
 pub use Rattle.jn_base.specs.declared.names.WorkId.{WorkId}
 pub use Rattle.std.proofs.Math.Seq.{drop-append_seam, take-length, take-append_seam, drop-append-add}

@@ -1,5 +1,6 @@
 -- Where a world stands that has started and done events.
-use Rattle.jn_laws.proofs.Common.{◌≡◌, ℕ, ◌+◌, ◌≤◌, List, [], ◌∷◌, ◌++◌, append-nil, append_assoc, length, refl, sym, ◌∙◌, ap, subst, drop, Result, Ok, Err, drop-append_seam, map, AllByRecursion, ServerNo, AllFiles, Event, EventInRange, always, between-events, Setup, Devices, ending, Moment, DoesStep, Leads, Begins, InSchedule, AtEnd, before, AreImages, IsWritten, DeviceState, StoreView, Stands, standing_of, GoesTo, DoesScheduled, AreStoresOf, IsClosed}
+use Rattle.jn_laws.proofs.Common.{◌≡◌, ℕ, ◌+◌, ◌≤◌, List, [], ◌∷◌, ◌++◌, append-nil, append_assoc, length, refl, sym, ◌∙◌, ap, subst, drop, Result, Ok, Err, drop-append_seam, map, AllByRecursion, ServerNo, AllFiles, Event, EventInRange, always, between-events, Setup, Devices, ending, Moment, DoesStep, Leads, Begins, InSchedule, AtEnd, before, AreImages, IsWritten, DeviceState, StoreView, Stands, standing_of, GoesTo}
+use Rattle.jn_events.specs.Written.{DoesScheduled, AreStoresOf, IsClosed}
 use Rattle.std.proofs.lemmas.List.{append_cancel_right}
 use Rattle.jn_recovery.specs.declared.counts.PageCounts.{PageCounts}
 use Rattle.jn_report.specs.declared.line.Line.{Line}

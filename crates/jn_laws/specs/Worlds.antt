@@ -12,7 +12,8 @@ use Rattle.jn_world_refines.specs.Stands.{Stands}
 use Rattle.jn_world.specs.declared.ended.Ended.{Ended}
 use Rattle.jn_world.specs.declared.ended.Ended.TheVariants.{Memory}
 use Rattle.jn_world.specs.declared.world.World.{World}
-use Rattle.jn_world.specs.Written.{standing_of, Starts, DoesScheduled, IsClosed}
+use Rattle.jn_world.specs.Written.{standing_of}
+use Rattle.jn_events.specs.Written.{Starts, DoesScheduled, IsClosed}
 use Rattle.jn_machine.specs.Chances.{Setup}
 use Rattle.jn_machine.specs.Devices.{Devices}
 use Rattle.jn_machine.specs.Events.{ending}

@@ -14,7 +14,7 @@ use jn_store::Powered;
 
 /// A world of servers, as its calls keep it, stands at a moment of a run (`a_world_is_at_the_moment_of_its_events`). Then each data page of a server
 /// that is up is free, that of a stored block, a map page that a head names, or held by a prepared work, and there is no other: whatever was stopped
-/// before, no page is lost, and none is in use twice.
+/// before, no page is lost, and none is in use twice. So it is as the server counts, and by the pages alone where it counts as free what is free there.
 pub fn data_pages_are_counted<S: Powered + Drop>()
     ensures { (x : Setup) (m : Moment) (w : World S) → IsWorld (λ s. S.view s) w → Stands (λ s. S.view s) (λ s. S.device s) x (standing_of w) m
         → (n : ℕ) (p : Place S) → slice_get w.places.items n ≡ Some p → CountsDataPages (λ s. S.view s) x m n p.slot }

@@ -28,7 +28,7 @@ pub use Rattle.jn_device.specs.Device.{DeviceState}
 pub use Rattle.jn_disks.specs.Disks.{IsNewStore, IsNewDisk, image_of, files_in, HasNewDevice}
 pub use Rattle.jn_page_state.specs.Images.{IsFresh, IsImage}
 pub use Rattle.jn_image.proofs.SoundPages.{sound_pages}
-pub use Rattle.jn_image_files.specs.Opened.{IsStoreOf, AreStoresOf as AreStoresOfImages, AreWithin, IsOpened, AreClosed, AreStoresOf, found_at}
+pub use Rattle.jn_image_files.specs.Opened.{IsStoreOf, AreStoresOf as AreStoresOfImages, AreWithin, IsOpened, AreClosed, found_at}
 pub use Rattle.jn_options.specs.Words.{IsOpening, command_of}
 pub use Rattle.jn_order.specs.Files.{Files, AllFiles, no_files}
 pub use Rattle.jn_records.specs.Sound.{HasRoot}
@@ -40,6 +40,7 @@ pub use Rattle.jn_store.specs.Pairs.{pairs_view}
 pub use Rattle.jn_store.specs.Store.{StoreView}
 pub use Rattle.jn_machine.specs.Whole.{closed_world, AreImages, IsFresh as IsFreshDevice, IsWhole as IsWholeRun, IsLimited, IsPartOfRun, before, IsWritten}
 pub use Rattle.jn_run.specs.Opening.{AreDisks, AreOpened, IsDisk}
+pub use Rattle.jn_events.specs.Written.{AreStoresOf, StartsAt, Closes, IsClosed}
 pub use Rattle.std.specs.List.{AllByRecursion}
 pub use Rattle.jn_schedule.specs.Ranges.{EventInRange}
 pub use Rattle.jn_machine.specs.Runs.{Moment, Leads, MayLead, DoesStep}
@@ -48,8 +49,9 @@ pub use Rattle.jn_run.specs.Parts.{EndsOn}
 pub use Rattle.std.specs.declared.alloc.Global.{Global}
 pub use Rattle.std.specs.Io.KnownBytes.{prepend_known}
 pub use Rattle.jn_memdisk.specs.declared.disk.MemDisk.{MemDisk}
-pub use Rattle.jn_world.specs.Standing.{AreStores, IsWorld}
+pub use Rattle.jn_events.specs.Stores.{AreStores}
 pub use Rattle.std.proofs.lemmas.List.{length-drop, length-take, take-append-drop, length-append, length-map}
 pub use Rattle.jn_base.specs.Counts.{Rose}
 pub use Rattle.std.proofs.lemmas.Grind.{common_steps}
 pub use Rattle.std.proofs.lemmas.Result.{err_from_is_err_and}
+pub use Rattle.jn_world.specs.Standing.{IsWorld}

@@ -1,11 +1,10 @@
 -- What a run begins with, of the stores that were opened.
-use Rattle.jn_run.proofs.Common.{◌≡◌, ℕ, zero, suc, ◌≤◌, ◌<◌, Bool, true, false, List, [], ◌∷◌, length, slice_get, Option, Some, None, refl, sym, ◌∙◌, ap, subst, arith, slice_get_past, nat_lt, ServerNo, DeviceState, IsNewStore, IsNewDisk, image_of, files_in, IsFresh, Contents, sound_pages, IsStoreOf, AreStoresOfImages, AreWithin, Has, image_name, IsOpening, Geometry, New, Images, Options, Files, AllFiles, HasRoot, Counts, PageCounts, counts_by, StableState, Pick, pairs_view, StoreView, Setup, Devices, closed_world, AreImages, AreDisks, AreOpened, geometry_counts, root_by, AreNew, BeginsWith, IsOpened, Opens, no_files, ◌*◌, page_count, HasNewDevice, IsFreshDevice, Opening}
+use Rattle.jn_run.proofs.Common.{◌≡◌, ℕ, zero, suc, ◌≤◌, ◌<◌, Bool, true, false, List, [], ◌∷◌, length, slice_get, Option, Some, None, refl, sym, ◌∙◌, ap, subst, arith, slice_get_past, nat_lt, ServerNo, DeviceState, IsNewStore, IsNewDisk, image_of, files_in, IsFresh, Contents, sound_pages, IsStoreOf, AreStoresOfImages, AreWithin, Has, image_name, IsOpening, Geometry, New, Images, Options, Files, AllFiles, HasRoot, Counts, PageCounts, counts_by, StableState, Pick, pairs_view, StoreView, Setup, Devices, closed_world, AreImages, AreDisks, AreOpened, geometry_counts, root_by, AreNew, BeginsWith, IsOpened, Opens, no_files, ◌*◌, page_count, HasNewDevice, IsFreshDevice, Opening, AreStoresOf}
 use Rattle.jn_image_files.proofs.OneDisk.{root-of, opened-of, fresh-of}
 use Rattle.jn_store.specs.DeviceCalls.{put_calls}
 use Rattle.std.proofs.Math.Path.{fun_ext}
 use Rattle.jn_base.specs.declared.names.LockUnit.{LockUnit}
 use Rattle.jn_page_state.specs.Pages.{found_on}
-use Rattle.jn_world.specs.Written.{AreStoresOf}
 
 -- these are their devices
 abbrev pub AreDevices : {S : Type 0} → (S → DeviceState) → List (S × PageCounts) → Devices → Type 0

@@ -1,5 +1,6 @@
 -- The stores of servers, one after another.
-use Rattle.jn_run.proofs.Common.{◌≡◌, ℕ, zero, suc, ◌+◌, ◌<◌, ◌≤◌, Bool, true, false, List, [], ◌∷◌, ◌++◌, length, slice_get, Option, Some, None, refl, sym, ◌∙◌, subst, arith, nat_lt, ServerNo, sound_pages, IsStoreOf, AreStoresOf, Geometry, HasRoot, Counts, image_of, DeviceState, MemDisk, PageCounts, pairs_view, StoreView, AreStores, IsDisk, AreDisks, IsStore}
+use Rattle.jn_run.proofs.Common.{◌≡◌, ℕ, zero, suc, ◌+◌, ◌<◌, ◌≤◌, Bool, true, false, List, [], ◌∷◌, ◌++◌, length, slice_get, Option, Some, None, refl, sym, ◌∙◌, subst, arith, nat_lt, ServerNo, sound_pages, IsStoreOf, Geometry, HasRoot, Counts, image_of, DeviceState, MemDisk, PageCounts, pairs_view, StoreView, AreStores, IsDisk, AreDisks, IsStore}
+use Rattle.jn_image_files.specs.Opened.{AreStoresOf}
 
 -- a place in front of what is added, and the one that is added
 get-front : {A : Type 0} (xs ys : List A) (n : ℕ) → n < length xs → slice_get (xs ++ ys) n ≡ slice_get xs n

@@ -1,5 +1,5 @@
 -- A run that is reported, call by call.
-use Rattle.jn_run.proofs.Common.{◌≡◌, ℕ, zero, suc, ◌≤◌, ◌<◌, false, List, [], ◌∷◌, ◌++◌, ◌+◌, map, length, drop, drop-cons, get_or, append-nil, Result, Ok, Err, refl, sym, ◌∙◌, ap, subst, arith, true≢false, is_ok, length-append, DeviceState, StoreView, Line, Rose, Reporting, Joins, Moment, Leads, MayLead, DoesStep, Setup, Event, ServerNo, AllFiles, before, AreImages, IsWritten, RunFault, Course, AreLeft, HasTold, StandsBefore, TookLimited, TookPart, ToldTo, Reaches, RunsFrom, TookWhole, Reported, lines_kept, is_limit}
+use Rattle.jn_run.proofs.Common.{◌≡◌, ℕ, zero, suc, ◌≤◌, ◌<◌, false, List, [], ◌∷◌, ◌++◌, ◌+◌, map, length, drop, drop-cons, get_or, append-nil, Result, Ok, Err, refl, sym, ◌∙◌, ap, subst, arith, true≢false, is_ok, length-append, DeviceState, StoreView, Line, Rose, Reporting, Joins, Moment, Leads, MayLead, DoesStep, Setup, Event, ServerNo, AllFiles, before, AreImages, IsWritten, RunFault, Course, AreLeft, HasTold, StandsBefore, TookLimited, TookPart, ToldTo, Reaches, RunsFrom, TookWhole, Reported, lines_kept, is_limit, StartsAt, Closes, IsClosed}
 use Rattle.jn_machine.specs.Kinds.{events_left}
 use Rattle.jn_machine.proofs.Counted.{events-counted, left-of}
 use Rattle.jn_machine.specs.Events.{ending}
@@ -11,7 +11,7 @@ use Rattle.jn_world_refines.specs.Going.{Limit, NoMessageLeft, NoEpochLeft, WasC
 use Rattle.jn_world_refines.proofs.Joined.{cut-leads}
 use Rattle.jn_world.specs.declared.ended.Ended.{Ended}
 use Rattle.jn_world.specs.declared.ended.Ended.TheVariants.{Messages, Epoch, Memory}
-use Rattle.jn_world.specs.Written.{standing_of, GoesTo, StartsAt, Closes, IsClosed}
+use Rattle.jn_world.specs.Written.{standing_of, GoesTo}
 use Rattle.jn_run.specs.declared.running.RunFault.TheVariants as runs
 
 -- a run that goes on from where it is

@@ -31,7 +31,7 @@ use Rattle.jn_headline.specs.Headline.{IsTrueOfBegun, IsOfItsCommits}
 use Rattle.jn_system.specs.WholeSystem.World.{AreFilesOf}
 use Rattle.jn_rows.specs.Stable.{Pick}
 use Rattle.jn_serial.specs.Lines.{history_of}
-use Rattle.jn_serial.specs.Order.{replay_operations}
+use Rattle.jn_serial.specs.Order.{replay}
 use Rattle.jn_machine.specs.Chances.{Setup}
 use Rattle.jn_machine.specs.Devices.{Devices}
 use Rattle.jn_machine.specs.Tasks.{CutShort}
@@ -72,7 +72,7 @@ pub record Opens (options : Options) (kept : Option Contents) : Type 0 where
 
 -- The disks that are left hold, by every pick of halves, the files that the run began with and the commits that the lines name leave.
 abbrev pub LeavesFiles : Setup → AllFiles → List Event → List Line → Devices → Type 0
-LeavesFiles x files events lines closing = (q : ServerNo) (u : LockUnit) (c : Pick) → q.0 < x.servers → (found_on (x.counts q) (pairs_view (closing q)) c).files u ≡ replay_operations files events lines (history_of lines) q u
+LeavesFiles x files events lines closing = (q : ServerNo) (u : LockUnit) (c : Pick) → q.0 < x.servers → (found_on (x.counts q) (pairs_view (closing q)) c).files u ≡ replay files events lines (history_of lines) q u
 
 -- The lines are those of a run of the written machine over all events, from these disks to others, and those of its commits.
 pub record IsWholeReport (options : Options) (kept : Option Contents) (events : List Event) (lines : List Line) : Type 0 where

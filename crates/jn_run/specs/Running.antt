@@ -19,7 +19,8 @@ use Rattle.jn_world_refines.specs.Stands.{Stands}
 use Rattle.jn_world.specs.declared.ended.Ended.{Ended}
 use Rattle.jn_world.specs.declared.ended.Ended.TheVariants as ends
 use Rattle.jn_world.specs.declared.world.World.{World}
-use Rattle.jn_world.specs.Written.{GivesImage, standing_of}
+use Rattle.jn_events.specs.Written.{GivesImage}
+use Rattle.jn_world.specs.Written.{standing_of}
 use Rattle.jn_run.specs.declared.running.RunFault.{RunFault}
 use Rattle.jn_run.specs.declared.running.RunFault.TheVariants as runs
 

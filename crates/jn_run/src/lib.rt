@@ -8,7 +8,7 @@ ghost use Rattle.jn_image_files.specs.Texts.{refusal_text};
 ghost use Rattle.jn_options.specs.Words.{AreWithinLimits, IsTrialInRange, command_of};
 ghost use Rattle.jn_schedule.specs.Grammar.{IsSchedule};
 ghost use Rattle.jn_schedule.specs.Ranges.{EventInRange};
-ghost use Rattle.jn_world.specs.Standing.{AreStores};
+ghost use Rattle.jn_events.specs.Stores.{AreStores};
 ghost use Rattle.jn_run.specs.Opening.{AreOpened};
 ghost use Rattle.jn_run.specs.Outcome.{OutcomeOf, RunEnds, TrialEnds, WordsEnd, refused_line};
 ghost use Rattle.jn_writing.specs.Outside.{outside, sink_state, keeper_state};

@@ -6,7 +6,7 @@ ghost use Rattle.jn_image_files.specs.declared.refusal.Refusal.{Refusal as ARefu
 ghost use Rattle.jn_options.specs.Words.{AreWithinLimits};
 ghost use Rattle.jn_options.specs.declared.asked.Opening.TheVariants.{Images};
 ghost use Rattle.jn_records.specs.Pages.{format_version};
-ghost use Rattle.jn_world.specs.Standing.{AreStores};
+ghost use Rattle.jn_events.specs.Stores.{AreStores};
 ghost use Rattle.jn_run.specs.Opening.{AreDisks, AreOpened, FailsToOpen};
 ghost use Rattle.jn_run.specs.Outcome.{IsRefusedImage, IsRefusedOf};
 ghost use Rattle.jn_run.specs.Running.{IsStore};

@@ -10,18 +10,20 @@ ghost use Rattle.jn_machine.specs.Chances.{Setup};
 ghost use Rattle.jn_machine.specs.Whole.{AreImages};
 ghost use Rattle.jn_base.specs.declared.names.ServerNo.{ServerNo as AnyServer};
 ghost use Rattle.jn_order.specs.Files.{AllFiles};
-ghost use Rattle.jn_world.specs.Standing.{IsWorld, AreStores};
-ghost use Rattle.jn_world.specs.Written.{AreStoresOf};
+ghost use Rattle.jn_world.specs.Standing.{IsWorld};
+ghost use Rattle.jn_events.specs.Stores.{AreStores};
+ghost use Rattle.jn_events.specs.Written.{AreStoresOf};
 ghost use Rattle.jn_run.specs.declared.running.RunFault.TheVariants as runs;
 ghost use Rattle.jn_run.specs.Running.{Course, course_of, AreLeft, HasTold, StandsBefore, Reaches, RunsFrom, Reported, ReportedLast};
 
+use jn_events::{close, do_event, start};
 use jn_intent::PageCounts;
 use jn_memdisk::MemDisk;
 use jn_report::Line;
 use jn_schedule::Event;
 use jn_stable::Pairs;
 use jn_store::{Powered, StableStore};
-use jn_world::{Ended, World, start};
+use jn_world::{Ended, World};
 use jn_writing::{ReportFault, Reporter};
 use std::alloc::{AllocError, Global};
 
@@ -132,7 +134,7 @@ fn run_event<O, R: Reporter<O>>(
         → Reaches R.reporting c (λ done. StandsBefore (⟦<Pairs<MemDisk> as StableStore>⟧.view) (⟦<Pairs<MemDisk> as Powered>⟧.device) c.setup rest world.new) result output.new }
 {
     lines.clear();
-    let done = world.event(number, event, lines);
+    let done = do_event(world, number, event, lines);
     report_lines(lines, done, reporter, output)
 }
 
@@ -149,7 +151,7 @@ pub fn close_world<O, R: Reporter<O>>(
         → RunsFrom R.reporting c (λ left. AreLeft (⟦<Pairs<MemDisk> as Powered>⟧.device) c.setup left.items) result output.new }
 {
     lines.clear();
-    let closed = world.close(lines);
+    let closed = close(world, lines);
     report_lines(lines, closed, reporter, output)
 }
 

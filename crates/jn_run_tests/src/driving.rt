@@ -2,10 +2,12 @@
 ghost use Rattle.std.specs.Prelude.{◌≡◌, ◌≤◌, ◌∷◌, [], OnOk, IfOk, vec_len};
 ghost use Rattle.std.specs.List.{AllByRecursion};
 ghost use Rattle.jn_schedule.specs.Ranges.{EventInRange};
-ghost use Rattle.jn_world.specs.Standing.{AreStores, IsWorld};
+ghost use Rattle.jn_events.specs.Stores.{AreStores};
+ghost use Rattle.jn_world.specs.Standing.{IsWorld};
 
 use jn_base::ServerNo;
 use jn_disks::new_store;
+use jn_events::{close, do_event, start};
 use jn_intent::PageCounts;
 use jn_memdisk::MemDisk;
 use jn_records::{FORMAT_VERSION, Root};
@@ -13,7 +15,7 @@ use jn_report::Line;
 use jn_schedule::{Event, ParseFault, parse, words_are_in_range};
 use jn_stable::Pairs;
 use jn_store::{Powered, StableStore};
-use jn_world::{Ended, World, start};
+use jn_world::{Ended, World};
 use std::alloc::{AllocError, Global};
 
 /// The servers of a run, whose disks are new.
@@ -108,7 +110,7 @@ fn do_all<S: Powered + Drop>(
     let mut number: u32 = 0;
     for event in events {
         number = number.saturating_add(1);
-        world.event(number, event, lines)?;
+        do_event(world, number, event, lines)?;
     }
     Ok(())
 }
@@ -127,7 +129,7 @@ fn run_from<S: Powered + Drop>(
     let mut lines = Vec::new(alloc);
     let mut world = start(alloc, stores, trace, &mut lines)?;
     do_all(&mut world, events, &mut lines)?;
-    let _stores = world.close(&mut lines)?;
+    let _stores = close(world, &mut lines)?;
     Ok(lines)
 }
 

@@ -1,14 +1,17 @@
 -- What a call of a client does, and its messages, is an event of the written machine.
-use Rattle.jn_world.proofs.Common.{posted_by, ◌≡◌, ◌<◌, ℕ, zero, suc, ◌+◌, ◌-◌, true, false, List, [], ◌∷◌, ◌++◌, length, append-nil, Option, Some, None, Result, refl, sym, ◌∙◌, ap, subst, arith, set, nat_tests, slice_get-get_or, drop, slice_get, ClientNo, Client, Command, DeviceState, Carried, with_delivered, Taken, Posted, sent_now, Line, Text, When, AtEvent, ClientTable, Commanded, Refuses, command_row, take_row, again_row, new_table, Sent, IsStepTo, Standing, is_client_number, with_sent, pairs_view, StoreView, sent_for, Ended, DoesEvent, EndsStep, IsSentTo, lines_at, message_texts, traced, Stage, InSchedule, AtEnd, CutShort, when_at, when_of, none-traced, texts_taken, texts_commanded}
-use Rattle.std.proofs.Math.ListN.{get_or}
-use Rattle.jn_report.specs.declared.line.Text.TheVariants as says
-use Rattle.jn_schedule.specs.declared.Event.TheVariants as events
-use Rattle.jn_world_refines.specs.Clients.{with_client, sent_commanded}
+use Rattle.jn_world.proofs.Common.{ClientNo, Client, Command, DeviceState, message_texts, traced, Stage, InSchedule, AtEnd, CutShort, when_at, when_of, with_delivered, Carried, Posted, lines_at, Line, Text, When, sent_for, ClientTable, Commanded, command_row, again_row, Refuses, take_row, new_table, Sent, Taken, pairs_view, StoreView, sent_now, DoesEvent, EndsStep, Ended, none-traced, IsStepTo, Standing, is_client_number, posted_by, with_sent, ◌≡◌, ℕ, ◌-◌, ◌+◌, [], ◌++◌, append-nil, sym, ap, ◌<◌, true, length, Some, ◌∙◌, arith, Option, subst, None, ◌∷◌, false, set, nat_tests, slice_get-get_or, List, slice_get, Result, drop}
+use Rattle.jn_machine.specs.Deeds.{texts_commanded, texts_taken}
+use Rattle.jn_report.specs.declared.line.Refusal.{Refusal}
+use Rattle.jn_report.specs.declared.line.When.TheVariants.{Event as AtEvent}
 use Rattle.jn_rows.specs.ClientLaws.{after_command}
+use Rattle.jn_world.proofs.Places.{delivered-length}
+use Rattle.jn_world.proofs.ServerCalls.{step-ends}
 use Rattle.jn_world_refines.proofs.ClientSteps.{client-took-step, other-took-step}
 use Rattle.jn_world_refines.proofs.Commands.{told-step, asked-step}
-use Rattle.jn_report.specs.declared.line.Refusal.{Refusal}
-use Rattle.jn_world.proofs.Calls.{step-ends}
+use Rattle.jn_world_refines.specs.Clients.{with_client, sent_commanded}
+use Rattle.std.proofs.Math.ListN.{get_or}
+use Rattle.jn_schedule.specs.declared.Event.TheVariants as events
+use Rattle.jn_report.specs.declared.line.Text.TheVariants as says
 
 -- the number of the event under way
 event-number : (stage : Stage) (event number : ℕ) → when_at stage event ≡ AtEvent number → event ≡ number
@@ -25,15 +28,6 @@ pub client-is : (ts : List ClientTable) (c : ClientNo) (i : ℕ) (t : ClientTabl
 client-is ts c i t is index eight read =
     let within : i < length ts = grind (arith, nat_tests) in
     slice_get-get_or ts i t within ∙ ap (λ (x : ClientTable). Some x) (sym read)
-
-delivered-many : (k : ℕ) (ms : List Posted) → length (with_delivered k ms) ≡ length ms
-delivered-many k [] = refl
-delivered-many zero (m ∷ ms) = refl
-delivered-many (suc k) (m ∷ ms) = ap suc (delivered-many k ms)
-
--- a message that was sent to a client
-pub sent-to : (ms : List Posted) (k : ℕ) (one : Posted) (c : ClientNo) → slice_get ms k ≡ Some one → IsSentTo (Client c) (slice_get ms k) → one.to ≡ Client c
-sent-to ms k one c at to = subst (λ (o : Option Posted). IsSentTo (Client c) o) at to
 
 module _ {S : Type 0} (look : S → StoreView) (device : S → DeviceState) (seen : (s : S) → look s ≡ pairs_view (device s)) {A : Type 0} (w : Standing S) (c : ClientNo) (r : Result A Ended) (u : Standing S) (first later : List Line) where
   module _ (is : is_client_number c.0 ≡ true) (i : ℕ) (index : i + 1 ≡ c.0) (t : ClientTable) (at : slice_get w.clients i ≡ Some t) where
@@ -121,7 +115,7 @@ module _ {S : Type 0} (look : S → StoreView) (device : S → DeviceState) (see
             (first ++ lines_at when (texts_taken k taken ++ traced w.trace (message_texts (Client c) (length w.net.sent) (sent_for taken)))) later
         by-length when k taken net now e h =
             subst (λ (n : ℕ). EndsStep r (with_sent (posted_by (Client c) (sent_for taken)) (record w { clients = set w.clients i now; net = record w.net { sent = with_delivered k w.net.sent } })) u first
-            (first ++ lines_at when (texts_taken k taken ++ traced w.trace (message_texts (Client c) n (sent_for taken)))) later) (ap (λ (n : Carried). length n.sent) e ∙ delivered-many k w.net.sent)
+            (first ++ lines_at when (texts_taken k taken ++ traced w.trace (message_texts (Client c) n (sent_for taken)))) later) (ap (λ (n : Carried). length n.sent) e ∙ delivered-length k w.net.sent)
             (subst (λ (n : Carried). EndsStep r (with_sent (posted_by (Client c) (sent_for taken)) (record w { clients = set w.clients i now; net = n })) u first
             (first ++ lines_at when (texts_taken k taken ++ traced w.trace (message_texts (Client c) (length net.sent) (sent_for taken)))) later) e h)
 
@@ -149,6 +143,6 @@ module _ {S : Type 0} (look : S → StoreView) (device : S → DeviceState) (see
       (subst (λ (z : Taken). EndsStep r (with_sent (posted_by (Client c) (sent_for z)) (record w { net = record w.net { sent = with_delivered k w.net.sent } })) u first
       (first ++ lines_at when (texts_taken k z ++ traced w.trace (message_texts (Client c) (length w.net.sent) (sent_for z)))) later) (row ∙ ap (λ (n : ℕ). (take_row (new_table c n) one.message).1) many)
       (subst (λ (n : ℕ). EndsStep r (with_sent (posted_by (Client c) (sent_for taken)) (record w { net = record w.net { sent = with_delivered k w.net.sent } })) u first
-      (first ++ lines_at when (texts_taken k taken ++ traced w.trace (message_texts (Client c) n (sent_for taken)))) later) (ap (λ (n : Carried). length n.sent) delivers ∙ delivered-many k w.net.sent)
+      (first ++ lines_at when (texts_taken k taken ++ traced w.trace (message_texts (Client c) n (sent_for taken)))) later) (ap (λ (n : Carried). length n.sent) delivers ∙ delivered-length k w.net.sent)
       (subst (λ (n : Carried). EndsStep r (with_sent (posted_by (Client c) (sent_for taken)) (record w { net = n })) u first
       (first ++ lines_at when (texts_taken k taken ++ traced w.trace (message_texts (Client c) (length net.sent) (sent_for taken)))) later) delivers ends)))

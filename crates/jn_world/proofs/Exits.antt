@@ -1,7 +1,7 @@
 -- Where a call ends early.
-use Rattle.jn_world.proofs.Common.{◌≡◌, ◌<◌, List, length, Result, Ok, Err, true≢false, refl, sym, subst, IsErr, IsErrAnd, Line, Standing, Ended, Messages, Epoch, Memory, EndsStep, EndsPart}
 use Rattle.jn_net.specs.declared.SendFault.{SendFault}
 use Rattle.jn_net.specs.declared.SendFault.TheVariants.{Limit, Memory as NoMemory}
+use Rattle.jn_world.proofs.Common.{Line, EndsStep, EndsPart, Ended, Memory, Messages, Epoch, Standing, ◌≡◌, Ok, Err, true≢false, sym, subst, ◌<◌, length, refl, List, Result, IsErr, IsErrAnd}
 use Rattle.jn_world.specs.Faults.{ended_by}
 
 pub ends-memory : {S A : Type 0} (r : Result A Ended) (w now : Standing S) (lines wanted later : List Line) → IsErr r → IsErrAnd r (λ e. e ≡ Memory) → EndsStep r w now lines wanted later

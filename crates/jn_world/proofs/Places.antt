@@ -1,11 +1,49 @@
 -- The places of a list of servers, and the world whose places they are.
-use Rattle.jn_world.proofs.Common.{◌≡◌, ◌≤◌, ◌<◌, ℕ, zero, suc, ◌+◌, true, false, length, length-append, append-nil, [], ◌∷◌, ◌++◌, get_or, Option, Some, None, Ok, Err, true≢false, refl, sym, ◌∙◌, ap, subst, arith, set, nat_tests, All-append, All-map, All-nil, All-cons, All-set, All-weaker, All-get_or, All-from_recursion, recursion_from_All, slice_get_within, slice_get-get_or, get_or_from_slice_get, ByRecursion, All, Result, OnOk, slice_get, with_item, ClientNo, Party, Server, ServerNo, Command, Collected, Carried, with_delivered, Posted, sent_now, Counts, counts_by, PageCounts, ClientTable, Sends, command_row, take_row, again_row, new_table, Taken, Sent, StoreView, command-fits, command-draws, take-fits, take-number, new-fits, AllCanBeTaken, ClientFits, CommandFits, sent_for, LeavesPlace, Place, Slot, Up, Down, Gone, World, IsPlace, is_up, is_client_number, ArePlaces, IsClientOf, ArePosted, IsWorld, posted_by, messages_in, is_up_at, AreStores, AreClosed, IsRecoverable}
-use Rattle.jn_msgs.specs.Ranges.{CanBeTaken}
 use Rattle.jn_base.specs.Ops.{CommandInRange}
-use Rattle.std.proofs.Common.{List, vec_len}
+use Rattle.jn_world.proofs.Common.{ClientNo, Party, Server, ServerNo, Command, Collected, Carried, with_delivered, Posted, LeavesPlace, StandsThere, CountsAt, IsPlace, Stands, is_up, Place, Slot, Up, Down, Gone, Counts, counts_by, AllCanBeTaken, ClientFits, CommandFits, sent_for, ClientTable, again_row, Sends, command_row, take_row, new_table, Sent, Taken, view_with, state, StoreView, sent_now, ArePlaces, ArePosted, IsClientOf, IsWorld, is_up_at, messages_in, World, HasCounts, posted_by, is_client_number, ◌≡◌, ℕ, zero, suc, [], ◌∷◌, refl, ap, ◌<◌, length, Some, arith, get_or, sym, ◌∙◌, subst, ◌≤◌, ◌+◌, false, ◌++◌, length-append, vec_len, true, true≢false, append-nil, Option, None, Ok, Err, set, nat_tests, All-append, All-map, All-weaker, All-set, All-nil, All-get_or, All-cons, All-from_recursion, recursion_from_All, slice_get-get_or, slice_get_within, get_or_from_slice_get, List, slice_get, All, Result, OnOk, with_item}
+use Rattle.jn_msgs.specs.Ranges.{CanBeTaken}
 use Rattle.jn_msgs.specs.declared.message.Message.{Message}
+use Rattle.jn_page_state.specs.Recoverable.{IsRecoverable}
+use Rattle.jn_row_ranges.proofs.Taking.{command-fits, command-draws, take-fits, take-number, new-fits}
 use Rattle.jn_row_ranges.specs.Drawing.{DrawsOne}
-use Rattle.jn_place.specs.Places.{Stands}
+use Rattle.jn_server.specs.Counted.{CountsAll}
+use Rattle.jn_server.specs.Standing.{standing_pages, beside_on}
+use Rattle.std.specs.List.{AllByRecursion as ByRecursion}
+
+pub get-other : {A : Type 0} (xs : List A) (i n : ℕ) (y : A) → (i ≡ n → ⊥) → slice_get (set xs i y) n ≡ slice_get xs n
+get-other [] i n y h = refl
+get-other (x ∷ xs) zero zero y h = absurd (h refl)
+get-other (x ∷ xs) zero (suc n) y h = refl
+get-other (x ∷ xs) (suc i) zero y h = refl
+get-other (x ∷ xs) (suc i) (suc n) y h = get-other xs i n y (λ e. h (ap (λ (k : ℕ). suc k) e))
+
+pub get-same : {A : Type 0} (xs : List A) (i : ℕ) (y : A) → i < length xs → slice_get (set xs i y) i ≡ Some y
+get-same [] i y h = absurd (omega arith)
+get-same (x ∷ xs) zero y h = refl
+get-same (x ∷ xs) (suc i) y h = get-same xs i y (omega arith)
+
+-- ---- the place that an index reads
+
+pub place-got : {S : Type 0} (ps : List (Place S)) (q : ServerNo) (i : ℕ) (p : Place S) → i ≡ q.0 → q.0 < length ps → p ≡ get_or ps i p → slice_get ps q.0 ≡ Some p
+place-got {S} ps q i p at within read = slice_get-get_or ps q.0 p within ∙ ap (λ (k : ℕ). Some (get_or ps k p)) (sym at) ∙ ap (λ (x : Place S). Some x) (sym read)
+
+has-by : {S : Type 0} (look : S → StoreView) (q : ServerNo) (g : Counts) (most : ℕ) (slot : Slot S) → StandsThere look q g most slot → CountsAt look slot → HasCounts look q g slot
+has-by look q g most (Up p) h keeps =
+    let v = view_with look p in
+    let pages = standing_pages (look p.storage.0) in
+    let serves = h.serves refl in
+    let own = keeps.counts serves.works.serving.power in (
+      h.counts,
+      own.beside ∙ ap (λ (n : Counts). beside_on n pages) h.counts,
+      subst (λ (n : Counts). CountsAll n (state v.storage) pages) h.counts (keeps.all serves),
+      subst (λ (s : ServerNo). IsRecoverable s g (look p.storage.0)) h.its (subst (λ (n : Counts). IsRecoverable v.storage.accounts.server n (look p.storage.0)) h.counts keeps.recoverable),
+    )
+has-by look q g most (Down s) h keeps = h
+has-by look q g most Gone h keeps = absurd h
+
+-- a place that stands has its pages
+pub has-counts : {S : Type 0} (look : S → StoreView) (q : ServerNo) (most : ℕ) (p p' : Place S) → p'.counts ≡ p.counts → IsPlace look q most p' → HasCounts look q (counts_by p.counts) p'.slot
+has-counts look q most p p' e h = subst (λ (c : _). HasCounts look q (counts_by c) p'.slot) e (has-by look q (counts_by p'.counts) most p'.slot h.stands h.counted)
 
 -- ---- one place
 
@@ -132,11 +170,6 @@ up-at [] i d e = absurd (true≢false (sym e))
 up-at (p ∷ ps) zero d e = e
 up-at (p ∷ ps) (suc i) d e = up-at ps i d e
 
-down-at-index : {S : Type 0} (ps : List (Place S)) (i : ℕ) (d : Place S) → i < length ps → is_up_at i ps ≡ false → is_up (get_or ps i d).slot ≡ false
-down-at-index [] i d h e = absurd (omega arith)
-down-at-index (p ∷ ps) zero d h e = e
-down-at-index (p ∷ ps) (suc i) d h e = down-at-index ps i d (omega arith) e
-
 -- the place that an index reads
 pub place-there : {S : Type 0} (look : S → StoreView) (w : World S) (server : ServerNo) (i : ℕ) (p : Place S) → i ≡ server.0 → server.0 < length w.places.items → p ≡ get_or w.places.items i p → IsWorld look w → IsPlace look server (length w.net.sent) p
 place-there {S} look w server i p at within read h =
@@ -150,9 +183,6 @@ place-million look w server p h place = place-more look server (length w.net.sen
 
 pub up-here : {S : Type 0} (w : World S) (server : ServerNo) (i : ℕ) (p : Place S) → i ≡ server.0 → is_up_at server.0 w.places.items ≡ true → p ≡ get_or w.places.items i p → is_up p.slot ≡ true
 up-here {S} w server i p at up read = subst (λ (q : Place S). is_up q.slot ≡ true) (sym (read ∙ ap (λ (k : ℕ). get_or w.places.items k p) at)) (up-at w.places.items server.0 p up)
-
-pub down-here : {S : Type 0} (w : World S) (server : ServerNo) (i : ℕ) (p : Place S) → i ≡ server.0 → server.0 < length w.places.items → is_up_at server.0 w.places.items ≡ false → p ≡ get_or w.places.items i p → is_up p.slot ≡ false
-down-here {S} w server i p at within down read = subst (λ (q : Place S). is_up q.slot ≡ false) (sym (read ∙ ap (λ (k : ℕ). get_or w.places.items k p) at)) (down-at-index w.places.items server.0 p within down)
 
 -- the place of a server that is up, as a list reads it
 pub place-is : {S : Type 0} (w : World S) (server : ServerNo) (i : ℕ) (p : Place S) → i ≡ server.0 → is_up_at server.0 w.places.items ≡ true → p ≡ get_or w.places.items i p → slice_get w.places.items server.0 ≡ Some p
@@ -236,23 +266,7 @@ pub new-taken : (c : ClientNo) (servers : ℕ) (now : ClientTable) (message : Me
 new-taken c servers now message taken few row =
     let fits : ClientFits now × AllCanBeTaken (sent_for taken) = subst (λ (z : ClientTable × Taken). ClientFits z.0 × AllCanBeTaken (sent_for z.1)) (sym row) (take-fits (new_table c servers) message (new-fits c servers few)) in fits.1
 
-pub new-client : (c : ClientNo) (servers : ℕ) → servers ≤ 8 → IsClientOf 0 (new_table c servers)
-new-client c servers few = record { fits = new-fits c servers few; numbers = omega arith }
-
--- ---- the network
-
--- other messages of the same kind wait
-pub world-net : {S : Type 0} (look : S → StoreView) (a : World S) (n : Carried) → IsWorld look a → n.sent ≡ a.net.sent → IsWorld look (record a { net = n })
-world-net look a n h same = record {
-  few = h.few;
-  places = subst (λ (k : ℕ). ArePlaces look k 0 a.places.items) (sym (ap length same)) h.places;
-  eight = h.eight;
-  clients = subst (λ (k : ℕ). All (IsClientOf k) a.clients.items) (sym (ap length same)) h.clients;
-  posted = subst ArePosted (sym same) h.posted;
-  limit = subst (λ (ms : List Posted). length ms ≤ 1000000) (sym same) h.limit;
-}
-
-delivered-length : (k : ℕ) (ms : List Posted) → length (with_delivered k ms) ≡ length ms
+pub delivered-length : (k : ℕ) (ms : List Posted) → length (with_delivered k ms) ≡ length ms
 delivered-length k [] = refl
 delivered-length zero (m ∷ ms) = refl
 delivered-length (suc k) (m ∷ ms) = ap suc (delivered-length k ms)
@@ -285,60 +299,3 @@ pub posted-at : (ms : List Posted) (k : ℕ) (m : Posted) → ArePosted ms → S
 posted-at ms k m h e =
     let within = slice_get_within ms k m (sym e) in
     subst (λ (x : Posted). CanBeTaken x.message) (get_or_from_slice_get ms k m m (sym e)) (All-get_or (λ (x : Posted). CanBeTaken x.message) ms k m within h)
-
--- ---- the end
-
-closed-from : {S : Type 0} (look : S → StoreView) (n : ℕ) (ss : List S) (g : Counts) (s : S) → IsRecoverable (record { 0 = n + length ss }) g (look s) → AreClosed look n ss → AreClosed look n (ss ++ s ∷ [])
-closed-from look n [] g s h all = let at : n + 0 ≡ n = omega arith in ((g, subst (λ (k : ℕ). IsRecoverable (record { 0 = k }) g (look s)) at h), tt)
-closed-from look n (x ∷ xs) g s h all =
-    let at : n + length (x ∷ xs) ≡ n + 1 + length xs = omega arith in
-    (all.0, closed-from look (n + 1) xs g s (subst (λ (k : ℕ). IsRecoverable (record { 0 = k }) g (look s)) at h) all.1)
-
--- one more store is given back
-pub closed-more : {S : Type 0} (look : S → StoreView) (ss : List S) (n : ℕ) (g : Counts) (s : S) → length ss ≡ n → IsRecoverable (record { 0 = n }) g (look s) → AreClosed look 0 ss → AreClosed look 0 (ss ++ s ∷ [])
-closed-more look ss n g s many h all =
-    let at : n ≡ 0 + length ss = omega arith in closed-from look 0 ss g s (subst (λ (k : ℕ). IsRecoverable (record { 0 = k }) g (look s)) at h) all
-
--- ---- the start
-
-stores-from : {S : Type 0} (look : S → StoreView) (n : ℕ) (xs : List (S × PageCounts)) (i : ℕ) (d : S × PageCounts) → i < length xs → AreStores look n xs
-    → IsRecoverable (record { 0 = n + i }) (counts_by (get_or xs i d).1) (look (get_or xs i d).0) × ((look (get_or xs i d).0).told ≡ [])
-stores-from look n [] i d h all = absurd (omega arith)
-stores-from look n (x ∷ xs) zero d h all = let at : n ≡ n + 0 = omega arith in (subst (λ (k : ℕ). IsRecoverable (record { 0 = k }) (counts_by x.1) (look x.0)) at all.0, all.1)
-stores-from look n (x ∷ xs) (suc i) d h all =
-    let rest = stores-from look (n + 1) xs i d (omega arith) all.2 in
-    let at : n + 1 + i ≡ n + suc i = omega arith in
-    (subst (λ (k : ℕ). IsRecoverable (record { 0 = k }) (counts_by (get_or xs i d).1) (look (get_or xs i d).0)) at rest.0, rest.1)
-
--- a server's place at the start
-pub store-place : {S : Type 0} (look : S → StoreView) (xs : List (S × PageCounts)) (i : ℕ) (s : S) (n : PageCounts) → i < length xs → (s, n) ≡ get_or xs i (s, n) → AreStores look 0 xs → IsPlace look (record { 0 = i }) 0 (record { counts = n; slot = Down s })
-store-place {S} look xs i s n h read all =
-    let found = stores-from look 0 xs i (s, n) h all in
-    let at : 0 + i ≡ i = omega arith in
-    let here : IsRecoverable (record { 0 = i }) (counts_by n) (look s) × ((look s).told ≡ []) =
-    subst (λ (x : S × PageCounts). IsRecoverable (record { 0 = i }) (counts_by x.1) (look x.0) × ((look x.0).told ≡ [])) (sym read)
-    (subst (λ (k : ℕ). IsRecoverable (record { 0 = k }) (counts_by (get_or xs i (s, n)).1) (look (get_or xs i (s, n)).0)) at found.0, found.1) in
-    record { stands = here.0; told = here.1; counted = tt }
-
-push-from : {S : Type 0} (look : S → StoreView) (most n : ℕ) (ps : List (Place S)) (q : Place S) → IsPlace look (record { 0 = n + length ps }) most q → ArePlaces look most n ps → ArePlaces look most n (ps ++ q ∷ [])
-push-from look most n [] q h all = let at : n + 0 ≡ n = omega arith in (subst (λ (k : ℕ). IsPlace look (record { 0 = k }) most q) at h, tt)
-push-from look most n (p ∷ ps) q h all =
-    let at : n + length (p ∷ ps) ≡ n + 1 + length ps = omega arith in
-    (all.0, push-from look most (n + 1) ps q (subst (λ (k : ℕ). IsPlace look (record { 0 = k }) most q) at h) all.1)
-
--- one more place
-pub places-push : {S : Type 0} (look : S → StoreView) (most n : ℕ) (ps : List (Place S)) (q : Place S) → length ps ≡ n → IsPlace look (record { 0 = n }) most q → ArePlaces look most 0 ps → ArePlaces look most 0 (ps ++ q ∷ [])
-places-push look most n ps q many h all =
-    let at : n ≡ 0 + length ps = omega arith in push-from look most 0 ps q (subst (λ (k : ℕ). IsPlace look (record { 0 = k }) most q) at h) all
-
-pub start-world : {S : Type 0} (look : S → StoreView) (w : World S) → vec_len w.places ≤ 8 → ArePlaces look 0 0 w.places.items → vec_len w.clients ≡ 8 → All (IsClientOf 0) w.clients.items → w.net.sent ≡ [] → IsWorld look w
-start-world look w few places eight clients none =
-    let same : length w.net.sent ≡ 0 = ap length none in
-    record {
-      few = few;
-      places = subst (λ (k : ℕ). ArePlaces look k 0 w.places.items) (sym same) places;
-      eight = eight;
-      clients = subst (λ (k : ℕ). All (IsClientOf k) w.clients.items) (sym same) clients;
-      posted = subst ArePosted (sym none) (All-nil (λ (m : Posted). CanBeTaken m.message));
-      limit = omega arith;
-    }

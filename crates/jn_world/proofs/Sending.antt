@@ -1,11 +1,16 @@
 -- Messages and notes of a step one after another, and what the world has then.
-use Rattle.jn_world.proofs.Common.{posted_by, ◌≡◌, ◌≤◌, ◌<◌, ℕ, suc, ◌+◌, Bool, true, false, ◌||◌, List, [], ◌∷◌, ◌++◌, length, length-append, append_assoc, Option, Some, Result, refl, sym, ◌∙◌, ap, arith, fun_ext, map-append, Party, Server, ServerNo, Tid, tid_eq, Posted, lines_of, commits_in, has_line, Line, Text, When, Sent, Collected, Standing, with_sent, with_named, with_answer, texts_sent, Ended, World, has_tid, standing_of, EndsPart, lines_at, message_texts, traced, lines-append}
-use Rattle.std.proofs.lemmas.List.Folds.{list_any-append}
-use Rattle.std.proofs.Math.Bool.{or_comm}
-use Rattle.jn_msgs.specs.declared.message.Note.{Note}
+use Rattle.jn_base.specs.Names.{tid_eq}
+use Rattle.jn_world.proofs.Common.{Party, Server, ServerNo, message_texts, traced, Collected, Posted, lines_at, Line, Text, When, Sent, has_tid, lines_of, commits_in, has_line, standing_of, EndsPart, Ended, World, lines-append, posted_by, with_named, Standing, with_sent, with_answer, texts_sent, ◌≡◌, ◌+◌, ◌++◌, append_assoc, sym, ◌∙◌, ap, ℕ, suc, [], ◌∷◌, length, arith, Bool, true, false, refl, length-append, Option, Some, ◌≤◌, ◌<◌, List, ◌||◌, Result}
+use Rattle.jn_base.specs.declared.names.Tid.{Tid}
 use Rattle.jn_msgs.specs.Kinds.{kind_of}
-use Rattle.jn_report.specs.declared.line.Text.TheVariants as says
+use Rattle.jn_msgs.specs.declared.message.Note.{Note}
+use Rattle.jn_world.proofs.Places.{as-many}
 use Rattle.jn_world.proofs.Exits.{part-as}
+use Rattle.std.proofs.Math.Bool.{or_comm}
+use Rattle.std.proofs.Math.Path.{fun_ext}
+use Rattle.std.proofs.lemmas.List.{map-append}
+use Rattle.std.proofs.lemmas.List.Folds.{list_any-append}
+use Rattle.jn_report.specs.declared.line.Text.TheVariants as says
 
 -- ---- lines
 
@@ -46,12 +51,8 @@ sent-then {S} from a b c xs ys first then' =
     then' ∙ ap (λ (w : Standing S). with_sent (posted_by from ys) w) first
     ∙ ap (λ (more : List Posted). record a { net = record a.net { sent = more } }) (append_assoc a.net.sent (posted_by from xs) (posted_by from ys) ∙ ap (λ (more : List Posted). a.net.sent ++ more) (sym (posted-append from xs ys)))
 
-pub as-many-posted : (from : Party) (xs : List Sent) → length (posted_by from xs) ≡ length xs
-as-many-posted from [] = refl
-as-many-posted from (x ∷ xs) = ap suc (as-many-posted from xs)
-
 pub many-sent : {S : Type 0} (from : Party) (a b : Standing S) (xs : List Sent) → b ≡ with_sent (posted_by from xs) a → length b.net.sent ≡ length a.net.sent + length xs
-many-sent {S} from a b xs e = ap (λ (w : Standing S). length w.net.sent) e ∙ length-append a.net.sent (posted_by from xs) ∙ ap (λ (n : ℕ). length a.net.sent + n) (as-many-posted from xs)
+many-sent {S} from a b xs e = ap (λ (w : Standing S). length w.net.sent) e ∙ length-append a.net.sent (posted_by from xs) ∙ ap (λ (n : ℕ). length a.net.sent + n) (as-many from xs)
 
 -- and their lines
 pub texts-then : {S : Type 0} (when : When) (from : Party) (trace : Bool) (a b : Standing S) (told now later : List Line) (xs ys : List Sent) → b ≡ with_sent (posted_by from xs) a

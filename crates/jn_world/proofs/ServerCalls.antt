@@ -1,29 +1,31 @@
 -- What a call of a server's place does, and its messages and notes, is an event of the written machine.
-use Rattle.jn_world.proofs.Common.{◌≡◌, ℕ, Bool, false, List, [], ◌∷◌, ◌++◌, length, Option, Some, None, Result, Ok, Err, true≢false, sym, ap, subst, set, drop, slice_get, IsErr, IsErrAnd, FaultKind, Server, ServerNo, Tid, DeviceState, PageDecays, PageRevives, FaultArmed, Collected, with_delivered, Posted, Place, Down, Took, WorkedBy, ScrubbedBy, Showed, AsksAgain, TimedOut, Crashed, Befell, has_work_at, WhereUp, TakeLeaves, WorkLeaves, KeepsBeside, counts_by, TooManyArmed, Line, When, Event, IsStepTo, HasCounts, ReadsPages, texts_shown, Standing, texts_sent, with_answer, lost-step, crashed-step, pairs_view, StoreView, Ended, Memory, DoesEvent, EndsStep, Setup, told_unless, Moment, lines_at, Task, LeavesClean}
-use Rattle.std.specs.Prelude.{slice_set}
-use Rattle.jn_base.specs.declared.device.FaultKind.TheVariants as faults
-use Rattle.jn_report.specs.declared.line.Text.TheVariants as says
-use Rattle.jn_schedule.specs.declared.Event.TheVariants as events
+use Rattle.jn_world.proofs.Common.{Server, ServerNo, DeviceState, Task, Collected, with_delivered, Posted, Took, WhereUp, TakeLeaves, WorkedBy, WorkLeaves, ScrubbedBy, KeepsBeside, LeavesClean, Showed, Crashed, AsksAgain, has_work_at, Place, Down, counts_by, lines_at, Line, When, pairs_view, StoreView, GoesTo, EndsStep, DoesEvent, Ended, Messages, Epoch, Memory, lost-step, NoMessageLeft, WentOn, WasCut, IsStepTo, HasCounts, ReadsPages, texts_shown, Standing, texts_sent, with_answer, Ok, Err, sym, subst, ◌≡◌, ℕ, ap, [], ◌++◌, length, Option, Some, None, Bool, ◌∷◌, false, set, List, Result, slice_set, drop, slice_get}
+use Rattle.jn_machine.specs.Chances.{Setup}
+use Rattle.jn_machine.specs.Runs.{Moment}
 use Rattle.jn_server.specs.declared.show.Shown.{Shown}
-use Rattle.jn_world_refines.proofs.Took.{took-step}
-use Rattle.jn_world_refines.proofs.Working.{idle-step, worked-step}
-use Rattle.jn_world_refines.proofs.Nudging.{nudged-step, nudged-down-step, timed-out-step}
+use Rattle.jn_world_refines.proofs.Crashing.{crashed-step}
 use Rattle.jn_world_refines.proofs.Looking.{scrubbed-step, showed-step}
-use Rattle.jn_world_refines.proofs.Befalling.{decayed-step, revived-step, armed-step}
-use Rattle.jn_world.proofs.Calls.{step-ends}
+use Rattle.jn_world_refines.proofs.Nudging.{nudged-step}
+use Rattle.jn_world_refines.proofs.Took.{took-step}
+use Rattle.jn_world_refines.proofs.Working.{worked-step, idle-step}
+use Rattle.jn_schedule.specs.declared.Event.TheVariants as events
+use Rattle.jn_report.specs.declared.line.Text.TheVariants as says
+
+-- a step that ended so
+pub step-ends : {S A : Type 0} (look : S → StoreView) (device : S → DeviceState) (x : Setup) (m : Moment) (rest : List Task) (w' now : Standing S) (r : Result A Ended) (lines wanted lines' : List Line)
+    → IsStepTo look device x m rest w' lines wanted → EndsStep r w' now lines wanted lines' → GoesTo look device x m rest r now lines lines'
+step-ends {S} look device x m rest w' now (Ok a) lines wanted lines' step (same, told, few) =
+    subst (λ (w : Standing S). WentOn look device x m rest w lines lines') (sym same) (subst (λ (l : List Line). WentOn look device x m rest w' lines l) (sym told) (step.done few))
+step-ends look device x m rest w' now (Err Messages) lines wanted lines' step (many, told) = subst (λ (l : List Line). WasCut x m NoMessageLeft lines l) (sym told) (step.cut many)
+step-ends look device x m rest w' now (Err (Epoch q)) lines wanted lines' step h = absurd h
+step-ends look device x m rest w' now (Err Memory) lines wanted lines' step h = tt
 
 module _ {S : Type 0} (look : S → StoreView) (device : S → DeviceState) (seen : (s : S) → look s ≡ pairs_view (device s)) where
-  -- without memory nothing is said
-  pub event-without : {A : Type 0} (r : Result A Ended) (event : Event) (when : When) (w u : Standing S) (first later : List Line) → IsErr r → IsErrAnd r (λ e. e ≡ Memory) → DoesEvent look device event when w r u first later
-  event-without (Ok a) event when w u first later is which = absurd (true≢false (sym is))
-  event-without {A} (Err e) event when w u first later is which = subst (λ (f : Ended). DoesEvent {S = S} {A = A} look device event when w (Err f) u first later) (sym which) (λ x m more stands next at. tt)
-
-  -- a step of one place, which is written by an index
   module _ (w : Standing S) (q : ServerNo) (place new : Place S) (i : ℕ) (index : i ≡ q.0) (same : new.counts ≡ place.counts) where
     place-is : record place { slot = new.slot } ≡ new
     place-is = ap (λ (c : _). record new { counts = c }) (sym same)
 
-    written : (x : Setup) (m : Moment) (rest : List Task) (f : List (Place S) → Standing S) (lines wanted : List Line)
+    pub written : (x : Setup) (m : Moment) (rest : List Task) (f : List (Place S) → Standing S) (lines wanted : List Line)
         → IsStepTo look device x m rest (f (slice_set w.places q.0 (record place { slot = new.slot }))) lines wanted → IsStepTo look device x m rest (f (set w.places i new)) lines wanted
     written x m rest f lines wanted step =
         subst (λ (n : ℕ). IsStepTo look device x m rest (f (set w.places n new)) lines wanted) (sym index)
@@ -79,15 +81,6 @@ module _ {S : Type 0} (look : S → StoreView) (device : S → DeviceState) (see
           (showed-step look device seen x w m stands q place at more first now list new.slot s counts kept next)) showed)
           ends
 
-      -- a work may be broken from now on
-      pub timed-out-does : (T : Tid) (answer : Bool) → TimedOut look T place.slot answer new.slot
-          → EndsStep r (record w { places = set w.places i new }) u first first later → DoesEvent look device (events.Timeout q T) when w r u first later
-      timed-out-does T answer timed ends x m more stands next is =
-          step-ends look device x m (more ++ drop 1 m.state.tasks) (record w { places = set w.places i new }) u r first first later
-          (written x m (more ++ drop 1 m.state.tasks) (λ ps. record w { places = ps }) first first
-          (timed-out-step look device seen x w m stands q place at T more next answer new.slot timed counts first))
-          ends
-
       -- it goes down
       pub crashed-does : Crashed look device (counts_by place.counts) place.slot new.slot
           → EndsStep r (record w { places = set w.places i new }) u first (first ++ record { when = when; text = says.Down q } ∷ []) later → DoesEvent look device (events.Crash q) when w r u first later
@@ -96,35 +89,6 @@ module _ {S : Type 0} (look : S → StoreView) (device : S → DeviceState) (see
           (subst (λ (t : When). IsStepTo look device x m (more ++ drop 1 m.state.tasks) (record w { places = set w.places i new }) first (first ++ record { when = t; text = says.Down q } ∷ [])) is
           (written x m (more ++ drop 1 m.state.tasks) (λ ps. record w { places = ps }) first _
           (crashed-step look device seen x w m stands q place at first more new.slot crashed next)))
-          ends
-
-      -- a page goes bad, is good again, or a fault is to wait
-      pub decayed-does : (p : ℕ) (answer : Bool) → Befell look device (counts_by place.counts) (λ d e. PageDecays d p answer e) place.slot new.slot → WhereUp look KeepsBeside place.slot new.slot
-          → EndsStep r (record w { places = set w.places i new }) u first (first ++ lines_at when (told_unless answer (says.Outside q (record { kind = faults.Decay p; page = p })))) later
-          → DoesEvent look device (events.Decay q p) when w r u first later
-      decayed-does p answer befell kept ends x m more stands next is =
-          step-ends look device x m (more ++ drop 1 m.state.tasks) (record w { places = set w.places i new }) u r first (first ++ lines_at when (told_unless answer (says.Outside q (record { kind = faults.Decay p; page = p })))) later
-          (subst (λ (t : When). IsStepTo look device x m (more ++ drop 1 m.state.tasks) (record w { places = set w.places i new }) first (first ++ lines_at t (told_unless answer (says.Outside q (record { kind = faults.Decay p; page = p }))))) is
-          (written x m (more ++ drop 1 m.state.tasks) (λ ps. record w { places = ps }) first _
-          (decayed-step look device seen x w m stands q place at new.slot counts kept first more p answer next befell)))
-          ends
-
-      pub revived-does : (p : ℕ) → Befell look device (counts_by place.counts) (λ d e. PageRevives d p e) place.slot new.slot → WhereUp look KeepsBeside place.slot new.slot
-          → EndsStep r (record w { places = set w.places i new }) u first first later → DoesEvent look device (events.Revive q p) when w r u first later
-      revived-does p befell kept ends x m more stands next is =
-          step-ends look device x m (more ++ drop 1 m.state.tasks) (record w { places = set w.places i new }) u r first first later
-          (written x m (more ++ drop 1 m.state.tasks) (λ ps. record w { places = ps }) first first
-          (revived-step look device seen x w m stands q place at new.slot counts kept first more p next befell))
-          ends
-
-      pub armed-does : (n : ℕ) (kind : FaultKind) (answer : Bool) → Befell look device (counts_by place.counts) (λ d e. FaultArmed d n kind answer e) place.slot new.slot → WhereUp look KeepsBeside place.slot new.slot
-          → EndsStep r (record w { places = set w.places i new }) u first (first ++ lines_at when (told_unless answer (says.RefusedEvent TooManyArmed))) later
-          → DoesEvent look device (events.Arm q n kind) when w r u first later
-      armed-does n kind answer befell kept ends x m more stands next is =
-          step-ends look device x m (more ++ drop 1 m.state.tasks) (record w { places = set w.places i new }) u r first (first ++ lines_at when (told_unless answer (says.RefusedEvent TooManyArmed))) later
-          (subst (λ (t : When). IsStepTo look device x m (more ++ drop 1 m.state.tasks) (record w { places = set w.places i new }) first (first ++ lines_at t (told_unless answer (says.RefusedEvent TooManyArmed)))) is
-          (written x m (more ++ drop 1 m.state.tasks) (λ ps. record w { places = ps }) first _
-          (armed-step look device seen x w m stands q place at new.slot counts kept first more n kind answer next befell)))
           ends
 
   module _ {A : Type 0} (w : Standing S) (q : ServerNo) (place : Place S) (at : slice_get w.places q.0 ≡ Some place) (when : When) (r : Result A Ended) (u : Standing S) (first later : List Line) where
@@ -136,10 +100,6 @@ module _ {S : Type 0} (look : S → StoreView) (device : S → DeviceState) (see
         (subst (λ (t : When). IsStepTo look device x m (more ++ drop 1 m.state.tasks) (with_answer q None (Some out) w) first (first ++ lines_at t (texts_sent q None w.trace (length w.net.sent) (Some out)))) is
         (nudged-step look device seen x w m stands q place at more next out asks first))
         ends
-
-    pub nudged-down-does : (s : S) → place.slot ≡ Down s → EndsStep r w u first first later → DoesEvent look device (events.Nudge q) when w r u first later
-    nudged-down-does s down ends x m more stands next is =
-        step-ends look device x m (more ++ drop 1 m.state.tasks) w u r first first later (nudged-down-step look device seen x w m stands q place at s down more next first) ends
 
     -- it has nothing to do
     pub idle-does : ReadsPages look device (counts_by place.counts) place.slot → has_work_at look place.slot ≡ false → EndsStep r w u first first later → DoesEvent look device (events.Step q) when w r u first later

@@ -1,5 +1,5 @@
 -- Parts of the world that a call leaves.
-use Rattle.jn_world.proofs.Common.{◌≡◌, ap, World}
+use Rattle.jn_world.proofs.Common.{World, ◌≡◌, ap}
 
 pub places-of : {S : Type 0} (a b : World S) → b ≡ record a { net = b.net; named = b.named } → b.places ≡ a.places
 places-of {S} a b e = ap (λ (w : World S). w.places) e

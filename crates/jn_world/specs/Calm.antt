@@ -1,12 +1,12 @@
 -- While no fault waits no call is stopped: a server that is up stays up, and one that is down comes up.
-use Rattle.std.specs.Prelude.{◌≡◌, ℕ, true, false, List, [], All, slice_get, Some}
+use Rattle.jn_place.specs.Exact.{IsCalmAt}
+use Rattle.jn_place.specs.Places.{is_up}
 use Rattle.jn_place.specs.declared.place.Place.{Place}
 use Rattle.jn_place.specs.declared.place.Slot.{Slot}
 use Rattle.jn_place.specs.declared.place.Slot.TheVariants.{Up, Down, Gone}
-use Rattle.jn_place.specs.Exact.{IsCalmAt}
-use Rattle.jn_place.specs.Places.{is_up}
 use Rattle.jn_store.specs.Store.{StoreView}
 use Rattle.jn_world.specs.Standing.{is_up_at}
+use Rattle.std.specs.Prelude.{◌≡◌, [], List, All, true, ℕ, false}
 
 -- no fault waits at this place
 abbrev pub IsQuietAt : {S : Type 0} → (S → StoreView) → Slot S → Type 0
@@ -31,16 +31,7 @@ AreUpAndCalm {S} look places = All (λ (p : Place S). IsUpAndCalm look p) places
 abbrev pub StayUp : {S : Type 0} → (S → StoreView) → List (Place S) → List (Place S) → Type 0
 StayUp look before after = AreUpAndCalm look before → AreUpAndCalm look after
 
--- every server is down
-abbrev pub AreDown : {S : Type 0} → List (Place S) → Type 0
-AreDown places = (n : ℕ) → is_up_at n places ≡ false
-
 -- this one is down now, and those that were down are
 pub record IsTakenDown {S : Type 0} (n : ℕ) (before after : List (Place S)) : Type 0 where
   pub down : is_up_at n after ≡ false
   pub others : (i : ℕ) → is_up_at i before ≡ false → is_up_at i after ≡ false
-
--- this one came up where no fault waited, and the others are as they were
-pub record IsRisen {S : Type 0} (look : S → StoreView) (n : ℕ) (before after : List (Place S)) : Type 0 where
-  pub here : (p q : Place S) → slice_get before n ≡ Some p → slice_get after n ≡ Some q → IsQuietAt look p.slot → IsUpAndCalm look q
-  pub others : (i : ℕ) → (n ≡ i → ⊥) → slice_get after i ≡ slice_get before i

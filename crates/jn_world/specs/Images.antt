@@ -1,5 +1,4 @@
 -- Servers whose stores are left as images: no record of them is rubbish, and their pages are cleaned.
-use Rattle.std.specs.Prelude.{◌≡◌, ℕ, ⊤, List, [], All, slice_get, Some}
 use Rattle.jn_base.specs.declared.names.ServerNo.{ServerNo}
 use Rattle.jn_page_state.specs.Images.{IsImage}
 use Rattle.jn_place.specs.declared.place.Place.{Place}
@@ -12,6 +11,7 @@ use Rattle.jn_server.specs.Settled.{IsSettledState}
 use Rattle.jn_storage.specs.Calls.{state}
 use Rattle.jn_store.specs.Store.{StoreView}
 use Rattle.jn_world.specs.Calm.{AreUpAndCalm}
+use Rattle.std.specs.Prelude.{◌≡◌, ⊤, [], List, All, ℕ, slice_get, Some}
 
 -- no record of a server that is up is rubbish
 abbrev pub HasNoRubbish : {S : Type 0} → (S → StoreView) → Slot S → Type 0
@@ -34,10 +34,6 @@ HoldsImage look q g Gone = ⊥
 
 abbrev pub HoldsImageAt : {S : Type 0} → (S → StoreView) → ℕ → Place S → Type 0
 HoldsImageAt look n p = HoldsImage look (record { 0 = n }) (counts_by p.counts) p.slot
-
--- so do all of them
-abbrev pub HoldImages : {S : Type 0} → (S → StoreView) → List (Place S) → Type 0
-HoldImages {S} look places = (n : ℕ) (p : Place S) → slice_get places n ≡ Some p → HoldsImageAt look n p
 
 -- this one does now, and the others are as they were
 pub record IsScrubbedAt {S : Type 0} (look : S → StoreView) (n : ℕ) (before after : List (Place S)) : Type 0 where

@@ -1,11 +1,6 @@
 pub mod Standing
-pub mod Naming
 pub mod Faults
 pub mod Written
-pub mod Settling
-pub mod Bringing
-pub mod Closing
-pub mod Meeting
-pub mod Opening
+pub mod Counting
 pub mod Calm
 pub mod Images

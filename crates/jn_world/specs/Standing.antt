@@ -1,21 +1,17 @@
 -- When the world stands so that every event can be done.
-use Rattle.std.specs.Prelude.{◌≡◌, ◌≤◌, ◌+◌, ℕ, Bool, false, List, [], ◌∷◌, length, slice_get, All, vec_len, Option, Some, None}
-use Rattle.jn_page_state.specs.Recoverable.{IsRecoverable}
+use Rattle.jn_machine.specs.Steps.{most_messages}
 use Rattle.jn_msgs.specs.Collected.{Collected}
+use Rattle.jn_msgs.specs.Ranges.{CanBeTaken}
 use Rattle.jn_net.specs.declared.Sent.{Sent as Posted}
-use Rattle.jn_records.specs.StablePages.{Counts}
-use Rattle.jn_recovery.specs.declared.counts.PageCounts.{PageCounts}
-use Rattle.jn_recovery.specs.Counts.{counts_by}
+use Rattle.jn_place.specs.Exact.{has_work_at}
+use Rattle.jn_place.specs.Places.{IsPlace, is_up}
+use Rattle.jn_place.specs.declared.place.Place.{Place}
+use Rattle.jn_row_ranges.specs.Taking.{ClientFits}
 use Rattle.jn_rows.specs.Client.{ClientTable}
 use Rattle.jn_rows.specs.Outcomes.{Sent}
 use Rattle.jn_store.specs.Store.{StoreView}
-use Rattle.jn_place.specs.declared.place.Place.{Place}
 use Rattle.jn_world.specs.declared.world.World.{World}
-use Rattle.jn_row_ranges.specs.Taking.{ClientFits}
-use Rattle.jn_msgs.specs.Ranges.{CanBeTaken}
-use Rattle.jn_place.specs.Places.{IsPlace, is_up}
-use Rattle.jn_place.specs.Exact.{has_work_at}
-use Rattle.jn_machine.specs.Steps.{most_messages}
+use Rattle.std.specs.Prelude.{◌+◌, ℕ, List, [], ◌∷◌, ◌≤◌, All, ◌≡◌, length, vec_len, Option, Some, None, Bool, false, slice_get}
 
 -- the places of the servers from this number on
 abbrev pub ArePlaces : {S : Type 0} → (S → StoreView) → ℕ → ℕ → List (Place S) → Type 0
@@ -64,15 +60,3 @@ works_in look (Some p) = has_work_at look p.slot
 
 abbrev pub works_at : {S : Type 0} → (S → StoreView) → ℕ → List (Place S) → Bool
 works_at look n ps = works_in look (slice_get ps n)
-
--- ---- the start and the end
-
--- the stores of the servers from this number on: from each a restart may begin, and no fault that was outside is reported
-abbrev pub AreStores : {S : Type 0} → (S → StoreView) → ℕ → List (S × PageCounts) → Type 0
-AreStores look n [] = Unit {0}
-AreStores look n (x ∷ xs) = IsRecoverable (record { 0 = n }) (counts_by x.1) (look x.0) × ((look x.0).told ≡ []) × AreStores look (n + 1) xs
-
--- and so again at the end
-abbrev pub AreClosed : {S : Type 0} → (S → StoreView) → ℕ → List S → Type 0
-AreClosed look n [] = Unit {0}
-AreClosed look n (s ∷ ss) = ((g : Counts) × IsRecoverable (record { 0 = n }) g (look s)) × AreClosed look (n + 1) ss

@@ -1,5 +1,5 @@
 //! What clients do.
-ghost use Rattle.std.specs.Prelude.{◌≡◌, ◌<◌, ◌≤◌, ◌+◌, true, false, vec_len, length, OnOk, IfOk, IfSome, All, [], ◌∷◌, ◌++◌, slice_get};
+ghost use Rattle.std.specs.Prelude.{◌≡◌, ◌<◌, ◌≤◌, ◌+◌, true, false, length, OnOk, IfOk, [], ◌∷◌, ◌++◌, slice_get};
 ghost use Rattle.jn_base.specs.declared.names.Party.TheVariants.{Client as AClient};
 ghost use Rattle.jn_net.specs.Carried.{with_delivered};
 ghost use Rattle.jn_report.specs.declared.line.When.TheVariants.{Event as AtEvent};
@@ -10,15 +10,14 @@ ghost use Rattle.jn_world_refines.specs.Stands.{is_client_number, posted_by, wit
 ghost use Rattle.jn_row_ranges.specs.Taking.{sent_for, AllCanBeTaken};
 ghost use Rattle.jn_base.specs.Ops.{CommandInRange};
 ghost use Rattle.jn_world.specs.Calm.{StayUp};
-ghost use Rattle.jn_world.specs.Opening.{AreNew};
-ghost use Rattle.jn_world.specs.Settling.{handed};
-ghost use Rattle.jn_world.specs.Standing.{IsWorld, IsClientOf};
+ghost use Rattle.jn_world.specs.Counting.{handed};
+ghost use Rattle.jn_world.specs.Standing.{IsWorld};
 ghost use Rattle.jn_world.specs.Written.{DoesEvent, EndsStep, IsSentTo, standing_of};
 ghost use Rattle.jn_machine.specs.Steps.{message_texts, traced, most_messages};
 ghost use Rattle.jn_report.specs.Lines.{lines_at};
 
 use crate::ended::Ended;
-use crate::world::{CLIENTS, World, is_client_number};
+use crate::world::{World, is_client_number};
 use jn_base::{ClientNo, Command, Party};
 use jn_client::{Client, CommandFault};
 use jn_msgs::Message;
@@ -27,18 +26,6 @@ use jn_report::{Line, Text, When};
 use jn_rows::Taken;
 use jn_store::Powered;
 use std::alloc::{AllocError, Global};
-
-/// All clients, which have no transaction yet.
-pub(crate) fn new_clients(alloc: Global, servers: u8) -> Result<Vec<Client>, AllocError>
-    requires { servers ≤ 8 }
-    ensures { IfOk result (λ clients. (vec_len clients ≡ 8) × All (IsClientOf 0) clients.items × AreNew servers clients.items) }
-{
-    let mut clients = Vec::new(alloc);
-    for c in 0..CLIENTS {
-        clients.push(Client::new(alloc, ClientNo(c + 1), servers))?;
-    }
-    Ok(clients)
-}
 
 /// Where a client stands among all clients.
 fn index_of(client: ClientNo) -> usize
@@ -65,7 +52,7 @@ fn take_as_new(
 
 impl<S: Powered + Drop> World<S> {
     /// A client is told to do something by the event of this number.
-    pub(crate) fn command(
+    pub fn command(
         &mut self,
         client: ClientNo,
         number: u32,
@@ -110,7 +97,7 @@ impl<S: Powered + Drop> World<S> {
     }
 
     /// A client sends its outstanding message once more.
-    pub(crate) fn again(
+    pub fn again(
         &mut self,
         client: ClientNo,
         when: When,
@@ -133,7 +120,7 @@ impl<S: Powered + Drop> World<S> {
     }
 
     /// A client takes a message. One that isn't of the clients there are is as new, and stays so.
-    pub(crate) fn take_at_client(
+    pub fn take_at_client(
         &mut self,
         client: ClientNo,
         k: u32,

@@ -1,42 +1,24 @@
 //! Messages that are handed over.
-ghost use Rattle.std.specs.Prelude.{◌≡◌, ◌<◌, ◌∷◌, [], true, false, length, OnOk, slice_get};
+ghost use Rattle.std.specs.Prelude.{◌≡◌, ◌<◌, [], true, false, length, OnOk, slice_get};
 ghost use Rattle.jn_base.specs.declared.names.Party.TheVariants.{Server as AServer};
 ghost use Rattle.jn_net.specs.Carried.{with_delivered};
 ghost use Rattle.jn_schedule.specs.declared.Event.TheVariants as events;
 ghost use Rattle.jn_world.specs.Calm.{StayUp};
-ghost use Rattle.jn_world.specs.Settling.{handed};
+ghost use Rattle.jn_world.specs.Counting.{handed};
 ghost use Rattle.jn_world.specs.Standing.{IsWorld, is_up_at};
-ghost use Rattle.jn_world.specs.Written.{DoesEvent, DoesTasks, IsSentTo, standing_of};
-ghost use Rattle.jn_machine.specs.Tasks.{Meets};
+ghost use Rattle.jn_world.specs.Written.{DoesEvent, IsSentTo, standing_of};
 
 use crate::ended::Ended;
-use crate::world::{World, refuse};
+use crate::world::World;
 use jn_base::{Party, ServerNo};
 use jn_msgs::Out;
 use jn_place::tell;
-use jn_report::{EventRefusal, Line, Text, When};
+use jn_report::{Line, Text, When};
 use jn_store::Powered;
 
 impl<S: Powered + Drop> World<S> {
-    /// The message of this number is handed over, as an event of its own.
-    pub(crate) fn deliver(&mut self, k: u32, when: When, lines: &mut Vec<Line>) -> Result<(), Ended>
-        requires world { IsWorld (λ s. S.view s) self.old }
-        ensures world { OnOk result (IsWorld (λ s. S.view s) self.new) }
-        ensures does { DoesTasks (λ s. S.view s) (λ s. S.device s) (λ x. Meets (events.Deliver k) ∷ []) when (standing_of self.old) result (standing_of self.new) lines.old.items lines.new.items }
-    {
-        if k >= self.net.count() {
-            return refuse(lines, when, EventRefusal::NoSuchMessage);
-        }
-        self.hand_over(k, when, lines)
-    }
-
     /// The message of this number, which was sent, is handed over.
-    pub(crate) fn hand_over(
-        &mut self,
-        k: u32,
-        when: When,
-        lines: &mut Vec<Line>,
-    ) -> Result<(), Ended>
+    pub fn hand_over(&mut self, k: u32, when: When, lines: &mut Vec<Line>) -> Result<(), Ended>
         requires world { IsWorld (λ s. S.view s) self.old }
         requires sent { k < length self.old.net.sent }
         ensures world { OnOk result (IsWorld (λ s. S.view s) self.new) }

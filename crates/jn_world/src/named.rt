@@ -8,7 +8,7 @@ use std::alloc::{AllocError, Global};
 
 /// The transactions that have a commit line, in the order of these lines.
 #[derive(Drop)]
-pub(crate) struct Named {
+pub struct Named {
     pub(crate) names: Vec<Tid>,
     ghost few: { vec_len names < 2 ^ 32 },
 }

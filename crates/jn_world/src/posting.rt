@@ -1,5 +1,5 @@
 //! What a step sends and reports.
-ghost use Rattle.std.specs.Prelude.{◌≡◌, ◌≤◌, ◌++◌, ◌∷◌, [], false, length, OnOk, Some};
+ghost use Rattle.std.specs.Prelude.{◌≡◌, ◌≤◌, ◌++◌, ◌∷◌, [], length, OnOk, Some};
 ghost use Rattle.jn_base.specs.declared.names.Party.TheVariants.{Server};
 ghost use Rattle.jn_system.specs.WholeSystem.Servers.{line_of, lines_of};
 ghost use Rattle.jn_system.specs.WholeSystem.World.{commits_in};

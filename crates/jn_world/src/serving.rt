@@ -1,23 +1,21 @@
 //! What servers that are up do without a message.
-ghost use Rattle.std.specs.Prelude.{◌≡◌, ◌<◌, ◌∷◌, ◌++◌, [], true, map, vec_len, OnOk, IfOk};
+ghost use Rattle.std.specs.Prelude.{◌≡◌, ◌<◌, ◌++◌, [], true, map, vec_len, OnOk};
 ghost use Rattle.jn_place.specs.Exact.{items_of};
 ghost use Rattle.jn_schedule.specs.declared.Event.TheVariants as events;
 ghost use Rattle.jn_world_refines.specs.Showing.{text_shown, texts_shown};
 ghost use Rattle.jn_world.specs.Calm.{AreQuiet, AreUpAndCalm, IsTakenDown, StayUp};
-ghost use Rattle.jn_world.specs.Closing.{AreIdle};
 ghost use Rattle.jn_world.specs.Images.{AreClean, IsScrubbedAt, StayClean};
-ghost use Rattle.jn_world.specs.Settling.{handed, steps_of_all};
+ghost use Rattle.jn_world.specs.Counting.{handed, steps_of_all};
 ghost use Rattle.jn_world.specs.Standing.{IsWorld, is_up_at, works_at};
-ghost use Rattle.jn_world.specs.Written.{DoesEvent, DoesTasks, standing_of};
+ghost use Rattle.jn_world.specs.Written.{DoesEvent, standing_of};
 ghost use Rattle.jn_report.specs.Lines.{lines_at};
-ghost use Rattle.jn_machine.specs.Tasks.{ClosesClients, Meets};
 
 use crate::ended::Ended;
-use crate::world::{World, refuse};
-use jn_base::{ServerNo, Tid};
+use crate::world::World;
+use jn_base::ServerNo;
 use jn_msgs::Out;
 use jn_place::tell;
-use jn_report::{EventRefusal, Line, Text, When};
+use jn_report::{Line, Text, When};
 use jn_server::Shown;
 use jn_store::Powered;
 use std::alloc::AllocError;
@@ -65,12 +63,7 @@ fn tell_list(
 
 impl<S: Powered + Drop> World<S> {
     /// One background step, if there is something to do.
-    pub(crate) fn work(
-        &mut self,
-        server: ServerNo,
-        when: When,
-        lines: &mut Vec<Line>,
-    ) -> Result<(), Ended>
+    pub fn work(&mut self, server: ServerNo, when: When, lines: &mut Vec<Line>) -> Result<(), Ended>
         requires world { IsWorld (λ s. S.view s) self.old }
         requires up { is_up_at server.0 self.old.places.items ≡ true }
         ensures world { OnOk result (IsWorld (λ s. S.view s) self.new) }
@@ -84,7 +77,7 @@ impl<S: Powered + Drop> World<S> {
     }
 
     /// A server that has something to do makes one background step, which leaves fewer to make.
-    pub(crate) fn make_step(
+    pub fn make_step(
         &mut self,
         server: ServerNo,
         when: When,
@@ -128,7 +121,7 @@ impl<S: Powered + Drop> World<S> {
     }
 
     /// A server sends again what waits for an answer.
-    pub(crate) fn nudge(
+    pub fn nudge(
         &mut self,
         server: ServerNo,
         when: When,
@@ -166,27 +159,8 @@ impl<S: Powered + Drop> World<S> {
         self.end_step(server, None, Some(out), when, told, lines)
     }
 
-    /// The transaction's work may be broken from now on.
-    pub(crate) fn timeout(
-        &mut self,
-        server: ServerNo,
-        tid: Tid,
-        when: When,
-        lines: &mut Vec<Line>,
-    ) -> Result<(), Ended>
-        requires world { IsWorld (λ s. S.view s) self.old }
-        requires up { is_up_at server.0 self.old.places.items ≡ true }
-        ensures world { OnOk result (IsWorld (λ s. S.view s) self.new) }
-        ensures does { DoesTasks (λ s. S.view s) (λ s. S.device s) (λ x. Meets (events.Timeout server tid) ∷ []) when (standing_of self.old) result (standing_of self.new) lines.old.items lines.new.items }
-    {
-        if !self.places[usize::from(server.0)].timeout(tid) {
-            return refuse(lines, when, EventRefusal::NoSuchWork);
-        }
-        Ok(())
-    }
-
     /// Each pair of pages is cleaned.
-    pub(crate) fn scrub(
+    pub fn scrub(
         &mut self,
         server: ServerNo,
         when: When,
@@ -206,12 +180,7 @@ impl<S: Powered + Drop> World<S> {
     }
 
     /// The server's files are printed.
-    pub(crate) fn show(
-        &mut self,
-        server: ServerNo,
-        when: When,
-        lines: &mut Vec<Line>,
-    ) -> Result<(), Ended>
+    pub fn show(&mut self, server: ServerNo, when: When, lines: &mut Vec<Line>) -> Result<(), Ended>
         requires world { IsWorld (λ s. S.view s) self.old }
         requires up { is_up_at server.0 self.old.places.items ≡ true }
         ensures world { OnOk result (IsWorld (λ s. S.view s) self.new) }
@@ -227,29 +196,8 @@ impl<S: Powered + Drop> World<S> {
         Ok(())
     }
 
-    /// Each outcome counts as thanked.
-    pub(crate) fn close_clients(
-        &mut self,
-        server: ServerNo,
-        when: When,
-        lines: &mut Vec<Line>,
-    ) -> Result<(), Ended>
-        requires world { IsWorld (λ s. S.view s) self.old }
-        requires up { is_up_at server.0 self.old.places.items ≡ true }
-        requires calm { AreUpAndCalm (λ s. S.view s) self.old.places.items }
-        requires idle { AreIdle self.old.clients.items }
-        ensures world { OnOk result (IsWorld (λ s. S.view s) self.new) }
-        ensures as_many { OnOk result (vec_len self.new.places ≡ vec_len self.old.places) }
-        ensures calm { OnOk result (StayUp (λ s. S.view s) self.old.places.items self.new.places.items) }
-        ensures clients { OnOk result (self.new.clients ≡ self.old.clients) }
-        ensures does { DoesTasks (λ s. S.view s) (λ s. S.device s) (λ x. ClosesClients server ∷ []) when (standing_of self.old) result (standing_of self.new) lines.old.items lines.new.items }
-    {
-        self.places[usize::from(server.0)].close_clients(server, when, lines)?;
-        Ok(())
-    }
-
     /// A server goes down.
-    pub(crate) fn crash(
+    pub fn crash(
         &mut self,
         server: ServerNo,
         when: When,

@@ -1,7 +1,7 @@
 //! The stores that a run begins with: new ones, or those of images that are set back to version 1.
 ghost use Rattle.std.specs.Prelude.{◌≤◌, IfOk, vec_len};
 ghost use Rattle.jn_run.specs.Running.{IsStore};
-ghost use Rattle.jn_world.specs.Standing.{AreStores};
+ghost use Rattle.jn_events.specs.Stores.{AreStores};
 
 use crate::storm::judging::Wrong;
 use jn_base::ServerNo;

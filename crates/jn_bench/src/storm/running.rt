@@ -2,14 +2,16 @@
 ghost use Rattle.std.specs.Prelude.{◌≡◌, ◌≤◌, OnOk, IfOk, vec_len};
 ghost use Rattle.std.specs.List.{AllByRecursion};
 ghost use Rattle.jn_schedule.specs.Ranges.{EventInRange};
-ghost use Rattle.jn_world.specs.Standing.{AreStores, IsWorld};
+ghost use Rattle.jn_events.specs.Stores.{AreStores};
+ghost use Rattle.jn_world.specs.Standing.{IsWorld};
 
 use crate::storm::watching::{MapCounts, Watched};
+use jn_events::{close, do_event, start};
 use jn_intent::PageCounts;
 use jn_report::Line;
 use jn_schedule::Event;
 use jn_store::{Powered, StableStore};
-use jn_world::{Ended, World, start};
+use jn_world::{Ended, World};
 use std::alloc::{AllocError, Global};
 
 /// A store with its counts of pages, watched.
@@ -53,7 +55,7 @@ fn do_all<S: Powered + Drop>(
     let mut number: u32 = 0;
     for event in events {
         number = number.saturating_add(1);
-        world.event(number, event, lines)?;
+        do_event(world, number, event, lines)?;
     }
     Ok(())
 }
@@ -73,7 +75,7 @@ pub(crate) fn lines_of<S: Powered + Drop>(
     let mut lines = Vec::new(alloc);
     let mut world = start(alloc, watched, false, &mut lines)?;
     do_all(&mut world, events, &mut lines)?;
-    let stores = world.close(&mut lines)?;
+    let stores = close(world, &mut lines)?;
     for store in &stores {
         counts.add_all(&store.counts());
     }

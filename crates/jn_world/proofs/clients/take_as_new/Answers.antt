@@ -1,6 +1,6 @@
-use Rattle.std.proofs.lemmas.Result.{IfOk-weaker}
-use Rattle.jn_world.proofs.Common.{ap, ◌∙◌, Taken, ClientTable, take_row}
+use Rattle.jn_world.proofs.Common.{ClientTable, take_row, Taken, ap, ◌∙◌}
 use Rattle.jn_world.proofs.Places.{new-taken}
+use Rattle.std.proofs.lemmas.Result.{IfOk-weaker}
 use Rattle.jn_world.proofs.clients.take_as_new.Goals as goal
 
 pub returns-clause-can : goal.returns-clause-can

@@ -1,4 +1,4 @@
-use Rattle.jn_world.proofs.Common.{◌≡◌, ◌≤◌, length, take, has_tid}
+use Rattle.jn_world.proofs.Common.{has_tid, ◌≡◌, ◌≤◌, length, take}
 use Rattle.jn_world.proofs.named.is_in.Given as goal
 
 abbrev pub invariant-loop-left : goal.invariant-loop-left

@@ -1,4 +1,4 @@
-use Rattle.jn_world.proofs.Common.{◌≡◌, ◌++◌, map, text_shown, lines_at}
+use Rattle.jn_world.proofs.Common.{lines_at, text_shown, ◌≡◌, ◌++◌, map}
 use Rattle.jn_world.proofs.serving.tell_shown.Given as goal
 
 abbrev pub invariant-loop-shown : goal.invariant-loop-shown

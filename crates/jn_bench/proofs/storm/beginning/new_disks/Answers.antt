@@ -1,7 +1,7 @@
 use Rattle.std.specs.Prelude.{◌≡◌, ◌+◌, ℕ, length}
 use Rattle.std.proofs.Common.{arith, subst, sym}
 use Rattle.std.proofs.lemmas.Grind.{common_steps}
-use Rattle.jn_world.specs.Standing.{AreStores}
+use Rattle.jn_events.specs.Stores.{AreStores}
 use Rattle.jn_run.specs.Running.{IsStore}
 use Rattle.jn_run.proofs.Stores.{look, one-more-store}
 use Rattle.jn_bench.proofs.storm.beginning.new_disks.Goals as goal

@@ -3,7 +3,7 @@ use Rattle.std.proofs.Common.{arith, subst, sym, ap, ◌∙◌}
 use Rattle.std.proofs.lemmas.Grind.{common_steps}
 use Rattle.std.proofs.lemmas.Iterator.Adapters.{YieldsList-from_vec}
 use Rattle.std.proofs.lemmas.Iterator.Consumers.{YieldsList-turn}
-use Rattle.jn_world.specs.Standing.{AreStores}
+use Rattle.jn_events.specs.Stores.{AreStores}
 use Rattle.jn_image_files.proofs.Kept.{get-some}
 use Rattle.jn_run.proofs.Stores.{one-more-store}
 use Rattle.jn_bench.proofs.Stores.{store-at, watched-store}

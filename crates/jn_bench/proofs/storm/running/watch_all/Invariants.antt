@@ -1,5 +1,5 @@
 use Rattle.std.specs.Prelude.{◌≡◌, ◌≤◌, length}
-use Rattle.jn_world.specs.Standing.{AreStores}
+use Rattle.jn_events.specs.Stores.{AreStores}
 use Rattle.jn_bench.proofs.storm.running.watch_all.Given as goal
 
 abbrev pub invariant-loop-disk : goal.invariant-loop-disk

@@ -1,10 +1,10 @@
-use Rattle.jn_world.proofs.Common.{DeviceState, standing_of, sent_again, StoreView, Client, ◌≡◌, ap, option_map, false, None, Option, Bor, [], ◌∷◌, sym, ◌∙◌, ℕ, Some, Ok, refl, arith}
-use Rattle.jn_world.proofs.ClientCalls.{asked-none, client-is, asked-now}
-use Rattle.std.proofs.Common.{is_some}
+use Rattle.jn_world.proofs.Common.{Client, DeviceState, sent_again, StoreView, standing_of, ◌≡◌, ap, option_map, false, None, Option, Bor, [], ◌∷◌, sym, ◌∙◌, ℕ, Some, Ok, refl, arith}
 use Rattle.jn_rows.specs.declared.client.Outstanding.{Outstanding}
+use Rattle.jn_world.proofs.Calm.{stay-places}
+use Rattle.jn_world.proofs.ClientCalls.{asked-none, client-is, asked-now}
 use Rattle.jn_world.proofs.Places.{client-here, again-can, sent-world}
 use Rattle.jn_world.proofs.Worlds.{net-places, net-clients}
-use Rattle.jn_world.proofs.Calm.{stay-places}
+use Rattle.std.proofs.Common.{is_some}
 use Rattle.jn_world.proofs.world.World.again.Goals as goal
 
 none-waits : (o : Option (Bor Outstanding)) (out : Option Outstanding) → option_map (λ x. x.now) o ≡ out → is_some o ≡ false → sent_again out ≡ None

@@ -1,4 +1,4 @@
-use Rattle.jn_world.proofs.Common.{ℕ, Ok, refl, arith, DeviceState, standing_of, Sends, with_item, StoreView, Client}
+use Rattle.jn_world.proofs.Common.{Client, DeviceState, Sends, StoreView, standing_of, ℕ, Ok, refl, arith, with_item}
 use Rattle.jn_world.proofs.ClientCalls.{commanded-does, refused-does, client-is}
 use Rattle.jn_world.proofs.Places.{commanded-world}
 use Rattle.jn_world.proofs.Worlds.{net-places, net-clients}

@@ -1,8 +1,7 @@
-use Rattle.jn_world.proofs.Common.{ℕ, length, refl, Ok, with_item, DeviceState, StoreView, standing_of}
-use Rattle.jn_world.proofs.Bringing.{place-got, has-counts}
-use Rattle.jn_world.proofs.Places.{place-here, up-here, up-within, moved-quiet}
-use Rattle.jn_world.proofs.ServerCalls.{crashed-does}
+use Rattle.jn_world.proofs.Common.{DeviceState, StoreView, standing_of, ℕ, length, refl, Ok, with_item}
 use Rattle.jn_world.proofs.Calm.{quiet-set, taken-down}
+use Rattle.jn_world.proofs.Places.{place-got, has-counts, place-here, up-here, up-within, moved-quiet}
+use Rattle.jn_world.proofs.ServerCalls.{crashed-does}
 use Rattle.jn_world.proofs.world.World.crash.Goals as goal
 
 pub crash-requires : goal.crash-requires

@@ -1,4 +1,4 @@
-use Rattle.jn_world.proofs.Common.{sym, Client, Server}
+use Rattle.jn_world.proofs.Common.{Client, Server, sym}
 use Rattle.jn_world.proofs.LostCalls.{to-it}
 use Rattle.jn_world.proofs.world.World.hand_over.Goals as goal
 

@@ -1,7 +1,7 @@
-use Rattle.jn_world.proofs.Common.{ℕ, Ok, refl, DeviceState, StoreView, standing_of}
+use Rattle.jn_world.proofs.Common.{DeviceState, StoreView, standing_of, ℕ, Ok, refl}
 use Rattle.jn_world.proofs.LostCalls.{lost-to, delivered-limit}
-use Rattle.jn_world.proofs.Places.{delivered-world}
 use Rattle.jn_world.proofs.Measures.{hands-one}
+use Rattle.jn_world.proofs.Places.{delivered-world}
 use Rattle.jn_world.proofs.world.World.lose.Goals as goal
 
 pub returns-clause-world : goal.returns-clause-world

@@ -1,4 +1,4 @@
-use Rattle.jn_world.proofs.Common.{subst, sym, Carried, StoreView, IsWorld}
+use Rattle.jn_world.proofs.Common.{Carried, StoreView, IsWorld, subst, sym}
 use Rattle.jn_world.proofs.world.World.make_step.Goals as goal
 
 pub step_into-requires-clause-world : goal.step_into-requires-clause-world

@@ -1,8 +1,8 @@
-use Rattle.jn_world.proofs.Common.{DeviceState, standing_of, StoreView, Server, counts_by, serves-here}
-use Rattle.jn_world.proofs.Busy.{nudged-now}
+use Rattle.jn_world.proofs.Common.{Server, DeviceState, serves-here, counts_by, StoreView, standing_of}
+use Rattle.jn_world.proofs.UpServers.{nudged-now}
+use Rattle.jn_world.proofs.Calm.{stay-places}
 use Rattle.jn_world.proofs.Places.{place-is, place-here, place-million, up-here, sent-world}
 use Rattle.jn_world.proofs.Worlds.{places-of, clients-of}
-use Rattle.jn_world.proofs.Calm.{stay-places}
 use Rattle.jn_world.proofs.world.World.nudge_into.Goals as goal
 
 pub again-requires : goal.again-requires

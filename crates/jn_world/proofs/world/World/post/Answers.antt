@@ -1,6 +1,6 @@
-use Rattle.std.proofs.Common.{◌∙◌, ap, Err}
 use Rattle.jn_world.proofs.Exits.{ends-memory, ends-unsent}
 use Rattle.jn_world.proofs.Sending.{over-limit}
+use Rattle.std.proofs.Common.{◌∙◌, ap, Err}
 use Rattle.jn_world.proofs.world.World.post.Goals as goal
 
 pub returns-in_err-k-clause-ends : goal.returns-in_err-k-clause-ends

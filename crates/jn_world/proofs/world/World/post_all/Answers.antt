@@ -1,4 +1,4 @@
-use Rattle.jn_world.proofs.Common.{Bool, ◌++◌, ◌∷◌, [], length, ap, ◌∙◌, Standing, World, standing_of, lines_at, message_texts, traced}
+use Rattle.jn_world.proofs.Common.{message_texts, traced, lines_at, standing_of, World, Standing, Bool, ◌++◌, ◌∷◌, [], length, ap, ◌∙◌}
 use Rattle.jn_world.proofs.Sending.{sent-then, texts-then}
 use Rattle.jn_world.proofs.world.World.post_all.Goals as goal
 

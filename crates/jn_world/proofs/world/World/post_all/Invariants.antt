@@ -1,4 +1,4 @@
-use Rattle.jn_world.proofs.Common.{◌≡◌, ◌≤◌, ◌++◌, length, with_sent, posted_by, standing_of, lines_at, message_texts, traced}
+use Rattle.jn_world.proofs.Common.{message_texts, traced, lines_at, standing_of, with_sent, posted_by, ◌≡◌, ◌≤◌, ◌++◌, length}
 use Rattle.jn_world.proofs.world.World.post_all.Given as goal
 
 abbrev pub invariant-loop-to : goal.invariant-loop-to

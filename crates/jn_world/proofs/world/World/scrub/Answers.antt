@@ -1,9 +1,8 @@
-use Rattle.jn_world.proofs.Common.{ℕ, Ok, refl, length, true, with_item, StoreView, DeviceState, standing_of, counts_by}
-use Rattle.jn_world.proofs.Bringing.{has-counts}
-use Rattle.jn_world.proofs.ServerCalls.{scrubbed-does}
-use Rattle.jn_world.proofs.Places.{place-here, place-is, place-million, up-here, moved-quiet}
+use Rattle.jn_world.proofs.Common.{DeviceState, counts_by, StoreView, standing_of, ℕ, Ok, refl, length, true, with_item}
 use Rattle.jn_world.proofs.Calm.{stay-put, stays-up}
 use Rattle.jn_world.proofs.Images.{clean-put, scrubbed-put}
+use Rattle.jn_world.proofs.Places.{has-counts, place-here, place-is, place-million, up-here, moved-quiet}
+use Rattle.jn_world.proofs.ServerCalls.{scrubbed-does}
 use Rattle.jn_world.proofs.world.World.scrub.Goals as goal
 
 pub scrub-requires-clause-place : goal.scrub-requires-clause-place

@@ -1,6 +1,6 @@
-use Rattle.jn_world.proofs.Common.{◌∙◌, standing_of}
 use Rattle.jn_world.proofs.Exits.{part-memory}
 use Rattle.jn_world.proofs.Sending.{sends-out}
+use Rattle.jn_world.proofs.Common.{standing_of, ◌∙◌}
 use Rattle.jn_world.proofs.world.World.send_out.Goals as goal
 
 pub returns-in_err-tell_notes-clause-ends : goal.returns-in_err-tell_notes-clause-ends

@@ -1,9 +1,8 @@
-use Rattle.jn_world.proofs.Common.{ℕ, Ok, refl, length, is_some, with_item, StoreView, DeviceState, standing_of, items_of}
-use Rattle.jn_world.proofs.Bringing.{has-counts}
-use Rattle.jn_world.proofs.ServerCalls.{showed-does}
-use Rattle.jn_world.proofs.Places.{place-here, place-is, place-million, up-here, moved-quiet}
+use Rattle.jn_world.proofs.Common.{DeviceState, items_of, StoreView, standing_of, ℕ, Ok, refl, length, is_some, with_item}
 use Rattle.jn_world.proofs.Calm.{stay-put}
 use Rattle.jn_world.proofs.Images.{clean-put}
+use Rattle.jn_world.proofs.Places.{has-counts, place-here, place-is, place-million, up-here, moved-quiet}
+use Rattle.jn_world.proofs.ServerCalls.{showed-does}
 use Rattle.jn_world.proofs.world.World.show.Goals as goal
 
 pub show-requires-clause-place : goal.show-requires-clause-place

@@ -1,9 +1,9 @@
-use Rattle.jn_world.proofs.Common.{length, sym, ◌∙◌, ap, is_some, with_item, DeviceState, StoreView, standing_of, messages_in, Server}
-use Rattle.jn_world.proofs.Busy.{left-counts, reads-here, worked-now, works-here}
-use Rattle.jn_world.proofs.Places.{place-is, place-here, place-million, up-here, moved-sent}
-use Rattle.jn_world.proofs.Worlds.{places-of, clients-of}
+use Rattle.jn_world.proofs.Common.{Server, DeviceState, StoreView, messages_in, standing_of, length, sym, ◌∙◌, ap, is_some, with_item}
+use Rattle.jn_world.proofs.UpServers.{left-counts, reads-here, worked-now, works-here}
 use Rattle.jn_world.proofs.Calm.{stay-moved}
 use Rattle.jn_world.proofs.Measures.{hands-none, steps-less}
+use Rattle.jn_world.proofs.Places.{place-is, place-here, place-million, up-here, moved-sent}
+use Rattle.jn_world.proofs.Worlds.{places-of, clients-of}
 use Rattle.jn_world.proofs.world.World.step_into.Goals as goal
 
 pub step-requires-clause-place : goal.step-requires-clause-place

@@ -1,10 +1,10 @@
-use Rattle.jn_world.proofs.LostCalls.{delivered-limit}
-use Rattle.jn_world.proofs.Common.{sym, ◌∙◌, DeviceState, standing_of, StoreView, Client, sent_for}
-use Rattle.jn_world.proofs.ClientCalls.{other-took-now, sent-to}
+use Rattle.jn_world.proofs.Common.{Client, DeviceState, sent_for, StoreView, standing_of, sym, ◌∙◌}
+use Rattle.jn_world.proofs.Calm.{stay-places}
+use Rattle.jn_world.proofs.ClientCalls.{other-took-now}
+use Rattle.jn_world.proofs.LostCalls.{sent-for, delivered-limit}
+use Rattle.jn_world.proofs.Measures.{hands-on}
 use Rattle.jn_world.proofs.Places.{delivered-world, sent-world}
 use Rattle.jn_world.proofs.Worlds.{net-places, net-clients}
-use Rattle.jn_world.proofs.Calm.{stay-places}
-use Rattle.jn_world.proofs.Measures.{hands-on}
 use Rattle.jn_world.proofs.world.World.take_at_other.Goals as goal
 
 pub tell_taken-requires : goal.tell_taken-requires
@@ -28,7 +28,7 @@ returns-clause-does g c =
     let w = standing_of c.args.self.now in
     let one = c.in-Some.sent.now in
     other-took-now look device g.met.S.Powered.seen w c.args.client c.tell_taken.result (standing_of c.tell_taken.new.self) c.args.lines.now.items c.tell_taken.new.lines.items
-    c.args.when c.args.k one (sym c.in-Some.ensures) (sent-to w.net.sent c.args.k one c.args.client (sym c.in-Some.ensures) c.requires.to) c.requires.other
+    c.args.when c.args.k one (sym c.in-Some.ensures) (sent-for w.net.sent c.args.k one (Client c.args.client) (sym c.in-Some.ensures) c.requires.to) c.requires.other
     c.servers-servers.result c.in_ok-taken.taken c.delivered.new.self (c.servers-servers.ensures ∙ c.args.self.now.places.ok.0) c.in_ok-taken.ensures.row c.delivered.ensures c.tell_taken.ensures.ends
 
 pub returns-clause-calm : goal.returns-clause-calm

@@ -1,10 +1,10 @@
-use Rattle.jn_world.proofs.LostCalls.{delivered-limit}
-use Rattle.jn_world.proofs.Common.{arith, sym, DeviceState, standing_of, with_item, StoreView, Client, sent_for}
-use Rattle.jn_world.proofs.ClientCalls.{client-took-now, client-is, sent-to}
+use Rattle.jn_world.proofs.Common.{Client, DeviceState, sent_for, StoreView, standing_of, arith, sym, with_item}
+use Rattle.jn_world.proofs.Calm.{stay-places}
+use Rattle.jn_world.proofs.ClientCalls.{client-took-now, client-is}
+use Rattle.jn_world.proofs.LostCalls.{sent-for, delivered-limit}
+use Rattle.jn_world.proofs.Measures.{hands-on}
 use Rattle.jn_world.proofs.Places.{delivered-world, taken-world}
 use Rattle.jn_world.proofs.Worlds.{net-places, net-clients}
-use Rattle.jn_world.proofs.Calm.{stay-places}
-use Rattle.jn_world.proofs.Measures.{hands-on}
 use Rattle.jn_world.proofs.world.World.take_at_own.Goals as goal
 
 pub tell_taken-requires : goal.tell_taken-requires
@@ -33,7 +33,7 @@ returns-clause-does g c =
     let one = c.in-Some.sent.now in
     client-took-now look device g.met.S.Powered.seen w c.args.client c.tell_taken.result (standing_of c.tell_taken.new.self) c.args.lines.now.items c.tell_taken.new.lines.items c.requires.client i c.index_of.ensures t
     (client-is w.clients c.args.client i t c.requires.client c.index_of.ensures (let has = c.requires.world in let eight = has.eight in omega (arith, c.args.self.now.clients.ok.0)) c.index_mut.ensures.value)
-    c.args.when c.args.k one (sym c.in-Some.ensures) (sent-to w.net.sent c.args.k one c.args.client (sym c.in-Some.ensures) c.requires.to)
+    c.args.when c.args.k one (sym c.in-Some.ensures) (sent-for w.net.sent c.args.k one (Client c.args.client) (sym c.in-Some.ensures) c.requires.to)
     c.take.new.self c.in_ok-taken.taken c.delivered.new.self c.in_ok-taken.ensures.ok c.delivered.ensures c.tell_taken.ensures.ends
 
 pub returns-clause-calm : goal.returns-clause-calm

@@ -1,4 +1,4 @@
-use Rattle.jn_world.proofs.Common.{subst, sym, Carried, StoreView, IsWorld}
+use Rattle.jn_world.proofs.Common.{Carried, StoreView, IsWorld, subst, sym}
 use Rattle.jn_world.proofs.world.World.take_at_server.Goals as goal
 
 pub take_at_up-requires-clause-world : goal.take_at_up-requires-clause-world

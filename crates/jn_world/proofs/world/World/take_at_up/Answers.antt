@@ -1,10 +1,10 @@
-use Rattle.jn_world.proofs.Common.{ℕ, length, subst, sym, is_some, with_item, Server, DeviceState, LeavesPlace, StoreView, standing_of, messages_in}
-use Rattle.jn_world.proofs.Busy.{left-counts, reads-here, took-now}
+use Rattle.jn_world.proofs.Common.{Server, DeviceState, LeavesPlace, StoreView, messages_in, standing_of, ℕ, length, subst, sym, is_some, with_item}
+use Rattle.jn_world.proofs.UpServers.{left-counts, reads-here, took-now}
+use Rattle.jn_world.proofs.Calm.{stay-moved}
 use Rattle.jn_world.proofs.LostCalls.{sent-for}
+use Rattle.jn_world.proofs.Measures.{hands-on}
 use Rattle.jn_world.proofs.Places.{place-is, delivered-world, delivered-many, place-here, place-million, up-here, moved-sent, posted-at}
 use Rattle.jn_world.proofs.Worlds.{places-of, clients-of}
-use Rattle.jn_world.proofs.Calm.{stay-moved}
-use Rattle.jn_world.proofs.Measures.{hands-on}
 use Rattle.jn_world.proofs.world.World.take_at_up.Goals as goal
 
 pub take-requires-clause-place : goal.take-requires-clause-place

@@ -1,5 +1,5 @@
-use Rattle.std.proofs.Common.{ℕ}
 use Rattle.jn_world.proofs.Exits.{ends-memory, ends-again}
+use Rattle.std.proofs.Common.{ℕ}
 use Rattle.jn_world.proofs.world.World.tell_and_send.Goals as goal
 
 pub returns-in_err-tell-clause-ends : goal.returns-in_err-tell-clause-ends

@@ -1,4 +1,4 @@
-use Rattle.jn_world.proofs.Common.{◌≡◌, ◌++◌, drop, lines_of, commits_in, lines_at}
+use Rattle.jn_world.proofs.Common.{lines_at, lines_of, commits_in, ◌≡◌, ◌++◌, drop}
 use Rattle.jn_world.proofs.world.World.tell_notes.Given as goal
 
 abbrev pub invariant-loop-note : goal.invariant-loop-note

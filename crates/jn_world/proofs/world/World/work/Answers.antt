@@ -1,5 +1,5 @@
-use Rattle.jn_world.proofs.Common.{ℕ, length, Ok, refl, sym, ◌∙◌, DeviceState, serves-here, counts_by, StoreView, standing_of}
-use Rattle.jn_world.proofs.Busy.{reads-here, works-here}
+use Rattle.jn_world.proofs.Common.{DeviceState, serves-here, counts_by, StoreView, standing_of, ℕ, length, Ok, refl, sym, ◌∙◌}
+use Rattle.jn_world.proofs.UpServers.{reads-here, works-here}
 use Rattle.jn_world.proofs.Places.{place-is, place-here, place-million, up-here}
 use Rattle.jn_world.proofs.ServerCalls.{idle-does}
 use Rattle.jn_world.proofs.world.World.work.Goals as goal

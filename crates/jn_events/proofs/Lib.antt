@@ -1,0 +1,21 @@
+mod Common
+pub mod Bringing
+pub mod Busy
+pub mod Calls
+pub mod Calm
+pub mod Closing
+pub mod Finishing
+pub mod Images
+pub mod Measures
+pub mod Numbers
+pub mod PageRefusals
+pub mod Places
+pub mod Pushed
+pub mod Refusing
+pub mod RestartRefusals
+pub mod Resting
+pub mod Scheduled
+pub mod ServerEvents
+pub mod Timeouts
+pub mod Turns
+pub mod Waits
