@@ -20,7 +20,7 @@ use Rattle.jn_report.specs.declared.line.Refusal.TheVariants as refusals
 use Rattle.jn_rows.specs.declared.client.Outstanding.{Outstanding}
 use Rattle.jn_rows.specs.declared.client.Taken.{Taken as TableTaken}
 use Rattle.jn_rows.specs.declared.client.Taken.TheVariants as takes
-use Rattle.jn_rows.specs.Client.{ClientTable, Commanded, Refuses, Sends, new_table, command_row, take_row, idle}
+use Rattle.jn_rows.specs.Client.{ClientTable, Commanded, Refuses, Sends, new_table, command_row, take_row, idle, over}
 use Rattle.jn_bytes.specs.declared.next.Next.TheVariants as byte_nexts
 use Rattle.jn_names.specs.declared.next.NameNext.TheVariants as name_nexts
 use Rattle.jn_calls.specs.declared.reply.Reply.{Reply}
@@ -45,6 +45,10 @@ of_table t = record { table = t; doing = None; spoiled = false }
 
 abbrev pub new_caller : ClientNo → ℕ → Caller
 new_caller c servers = of_table (new_table c servers)
+
+-- it has no transaction and waits for nothing any more
+abbrev pub dismissed_caller : Caller → Caller
+dismissed_caller c = of_table (over c.table)
 
 -- ---- orders
 

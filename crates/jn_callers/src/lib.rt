@@ -13,5 +13,6 @@ pub use examples::{
 pub use laws::{
     a_call_ends_with_its_transaction, a_call_goes_on, a_caller_asks_fewer, a_caller_stays_one,
     a_caller_without_calls_is_its_table, a_reply_is_told_to_its_client, an_order_is_its_command,
+    calls_stay_in_range,
 };
 pub use taken::Taken;

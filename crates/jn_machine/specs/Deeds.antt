@@ -5,17 +5,22 @@ use Rattle.jn_base.specs.declared.names.ClientNo.{ClientNo}
 use Rattle.jn_base.specs.declared.names.Party.{Party}
 use Rattle.jn_base.specs.declared.names.Party.TheVariants.{Client, Server}
 use Rattle.jn_base.specs.declared.device.FaultKind.{FaultKind}
-use Rattle.jn_base.specs.declared.op.Command.{Command}
+use Rattle.jn_base.specs.declared.op.Command.TheVariants.{Do}
+use Rattle.jn_msgs.specs.declared.message.Message.TheVariants as messages
 use Rattle.jn_report.specs.declared.line.EventRefusal.TheVariants.{EpochsUsedUp}
 use Rattle.jn_report.specs.declared.line.Text.{Text}
 use Rattle.jn_report.specs.declared.line.Text.TheVariants as says
 use Rattle.jn_records.specs.MapPlaces.{no_maps}
 use Rattle.jn_records.specs.Pages.{last_epoch}
-use Rattle.jn_rows.specs.declared.client.Taken.{Taken}
-use Rattle.jn_rows.specs.declared.client.Taken.TheVariants as taken
-use Rattle.jn_rows.specs.Client.{ClientTable, Commanded, Refuses, Sends, take_row}
+use Rattle.jn_rows.specs.Client.{Commanded, Refuses, Sends, command_row}
 use Rattle.jn_rows.specs.Stable.{StableState, Pick, stable, Left, whole_only}
 use Rattle.jn_rows.specs.Outcomes.{Sent}
+use Rattle.jn_calls.specs.declared.order.Order.{Order}
+use Rattle.jn_calls.specs.declared.reply.Reply.TheVariants as replies
+use Rattle.jn_callers.specs.declared.taken.Taken.{Taken}
+use Rattle.jn_callers.specs.declared.taken.Taken.TheVariants as taken
+use Rattle.jn_callers.specs.Callers.{Caller, Ordered, Refused, Sent as Accepted, command_of, order_row, take_call_row}
+use Rattle.jn_callers.specs.Texts.{texts_of_reply}
 use Rattle.jn_system.specs.WholeSystem.World.{World, Memory, at_client}
 use Rattle.jn_system.specs.WholeSystem.Servers.{Room, is_busy as has_going}
 use Rattle.jn_system.specs.WholeSystem.Steps.{Step, Tell, Deliver, StopWork, Crash, Narrow, StopRestart, Restart, handing, working}
@@ -46,8 +51,8 @@ pub record Deed : Type 0 where
   pub actor : Party
   pub device : Use
   pub steps : List Step
-  -- what the clients' tables become by it
-  pub clients : (ClientNo → ClientTable) → ClientNo → ClientTable
+  -- what the clients become by it
+  pub callers : (ClientNo → Caller) → ClientNo → Caller
   -- what it reports in place of what its steps report; none: what they report
   pub said : Option (List Text)
   -- and what behind that
@@ -57,9 +62,9 @@ pub record Deed : Type 0 where
   -- whether the run can't go on
   pub cuts : Bool
 
--- steps without a device, which leave the clients' tables and report what they report
+-- steps without a device, which leave the clients and report what they report
 abbrev pub plain : Party → List Step → Deed
-plain actor steps = record { actor = actor; device = Nothing; steps = steps; clients = λ f. f; said = None; texts = []; tasks = []; cuts = false }
+plain actor steps = record { actor = actor; device = Nothing; steps = steps; callers = λ f. f; said = None; texts = []; tasks = []; cuts = false }
 
 -- steps of a server that calls its device so many times at most
 abbrev pub served : ServerNo → ℕ → List Step → Deed
@@ -83,23 +88,43 @@ uses q device texts = record (plain (Server q) []) { device = device; texts = te
 
 -- ---- clients
 
--- what a command of event j makes of its client's table, and what it reports
-abbrev pub tables_commanded : ClientNo → Commanded → (ClientNo → ClientTable) → ClientNo → ClientTable
-tables_commanded c (Refuses refusal) f = f
-tables_commanded c (Sends t to message) f = at_client f c t
+-- What the table refuses the system is told too, which only reports there that it is refused. Of what is refused for the sake of calls it
+-- hears nothing.
+abbrev pub refused_steps : ClientNo → Order → Commanded → List Step
+refused_steps c order (Refuses refusal) = Tell c (command_of order) ∷ []
+refused_steps c order (Sends t to message) = []
 
-abbrev pub texts_commanded : ClientNo → ℕ → Commanded → List Text
-texts_commanded c j (Refuses refusal) = says.Refused c j refusal ∷ []
-texts_commanded c j (Sends t to message) = []
+abbrev pub steps_ordered : ClientNo → Order → Commanded → Ordered → List Step
+steps_ordered c order row (Refused refusal) = refused_steps c order row
+steps_ordered c order row (Accepted now to message) = Tell c (command_of order) ∷ []
 
-abbrev pub told_command : ClientNo → Command → ℕ → Commanded → Deed
-told_command c command j row = record (plain (Client c) (Tell c command ∷ [])) { clients = tables_commanded c row; said = Some (texts_commanded c j row) }
+abbrev pub callers_ordered : ClientNo → Ordered → (ClientNo → Caller) → ClientNo → Caller
+callers_ordered c (Refused refusal) f = f
+callers_ordered c (Accepted now to message) f = at_client f c now
+
+abbrev pub texts_ordered : ClientNo → ℕ → Ordered → List Text
+texts_ordered c j (Refused refusal) = says.Refused c j refusal ∷ []
+texts_ordered c j (Accepted now to message) = []
+
+-- what an order of event j does, by the table's row of its command and the client's own
+abbrev pub told_order : ClientNo → Order → Commanded → ℕ → Ordered → Deed
+told_order c order row j ordered = record (plain (Client c) (steps_ordered c order row ordered)) { callers = callers_ordered c ordered; said = Some (texts_ordered c j ordered) }
+
+abbrev pub ordered_by : ClientNo → Caller → ℕ → Order → Deed
+ordered_by c now j order = told_order c order (command_row now.table j (command_of order)) j (order_row now j order)
 
 -- what a client reports of the message of this number
-abbrev pub texts_taken : ℕ → Taken → List Text
-texts_taken k taken.Ignored = says.Ignored k ∷ []
-texts_taken k (taken.Send to message) = []
-texts_taken k (taken.Told line answer) = line ∷ []
+abbrev pub texts_taken : ClientNo → ℕ → Taken → List Text
+texts_taken c k taken.Ignored = says.Ignored k ∷ []
+texts_taken c k (taken.Send to message) = []
+texts_taken c k (taken.Told line answer) = line ∷ []
+texts_taken c k (taken.Last j next) = texts_of_reply c j (replies.OfBytes next)
+texts_taken c k (taken.LastName j next) = texts_of_reply c j (replies.OfNames next)
+
+-- where a call goes on, the system is told its next operation in the same step
+abbrev pub next_told : ClientNo → Taken → List Step
+next_told c (taken.Send to (messages.Op client request W number op)) = Tell c (Do W.server op) ∷ []
+next_told c taken = []
 
 -- ---- messages and background steps
 
@@ -114,13 +139,13 @@ delivered_at h k q (Some m) = served q row_calls (handing k (room h q) h.stop �
 abbrev pub no_room : Room
 no_room = record { free = none_free; maps = no_maps; rubbish = false }
 
-abbrev pub took_message : ClientNo → ℕ → ClientTable × Taken → Deed
-took_message c k row = record (plain (Client c) (Deliver k no_room ∷ [])) { clients = λ f. at_client f c row.0; said = Some (texts_taken k row.1) }
+abbrev pub took_message : ClientNo → ℕ → Caller × Taken → Deed
+took_message c k row = record (plain (Client c) (Deliver k no_room ∷ next_told c row.1)) { callers = λ f. at_client f c row.0; said = Some (texts_taken c k row.1) }
 
 -- the message of this number is handed over
-abbrev pub delivered : Chance → ℕ → (ClientNo → ClientTable) → World → Option Sent → Deed
+abbrev pub delivered : Chance → ℕ → (ClientNo → Caller) → World → Option Sent → Deed
 delivered h k t w None = nothing
-delivered h k t w (Some (Client c, message)) = took_message c k (take_row (t c) message)
+delivered h k t w (Some (Client c, message)) = took_message c k (take_call_row (t c) message)
 delivered h k t w (Some (Server q, message)) = delivered_at h k q (w.memory q)
 
 -- a server that is up has something to do where a work of its goes, or a rubbish record is left

@@ -12,14 +12,15 @@ use Rattle.jn_report.specs.declared.line.Line.{Line}
 use Rattle.jn_report.specs.declared.line.Text.{Text}
 use Rattle.jn_report.specs.declared.line.Text.TheVariants as says
 use Rattle.jn_serial.specs.Lines.{history_of}
-use Rattle.jn_rows.specs.Client.{ClientTable, command_row, over}
+use Rattle.jn_calls.specs.declared.order.Order.TheVariants as orders
+use Rattle.jn_callers.specs.Callers.{Caller, dismissed_caller}
 use Rattle.jn_system.specs.WholeSystem.World.{World, servers_from, clients_from}
 use Rattle.jn_system.specs.WholeSystem.Steps.{NextEvent, Again, Nudge, Timeout, Dismiss, CloseClients}
 use Rattle.jn_system.specs.WholeSystem.Course.{Course}
 use Rattle.jn_storage.specs.DeviceCalls.{row_calls}
 use Rattle.jn_machine.specs.Chances.{Setup, Chance, allowed}
 use Rattle.jn_machine.specs.Tasks.{Task, Begins, Meets, Acts, Rests, ComesUp, Dismisses, GoesDown, ClosesClients, CountsCommits, State}
-use Rattle.jn_machine.specs.Deeds.{Decays, Revives, Arms, Disarms, Deed, plain, served, nobody, nothing, tells, leaves, uses, told_command, delivered, is_busy, worked, scrubbed, showing, crashed_at, restarted, brought_up}
+use Rattle.jn_machine.specs.Deeds.{Decays, Revives, Arms, Disarms, Deed, plain, served, nobody, nothing, tells, leaves, uses, ordered_by, delivered, is_busy, worked, scrubbed, showing, crashed_at, restarted, brought_up}
 use Rattle.jn_machine.specs.Refusals.{refusal_of}
 
 abbrev pub servers_of : Setup → List ServerNo
@@ -54,10 +55,10 @@ next_in x rubbish c = next_event c.waiting (first_busy rubbish c.world (servers_
 abbrev pub told_unless : Bool → Text → List Text
 told_unless is_so text = if is_so then [] else text ∷ []
 
--- what an event does that isn't refused beforehand; the tables are the clients' own
-abbrev pub acted : Setup → Chance → Event → (ClientNo → ClientTable) → World → Deed
-acted x h (events.Command c command) t w = told_command c command w.event (command_row (t c) w.event command)
-acted x h (events.Call c s call) t w = nothing
+-- what an event does that isn't refused beforehand; the clients have their own tables
+abbrev pub acted : Setup → Chance → Event → (ClientNo → Caller) → World → Deed
+acted x h (events.Command c command) t w = ordered_by c (t c) w.event (orders.Command command)
+acted x h (events.Call c s call) t w = ordered_by c (t c) w.event (orders.Call s call)
 acted x h (events.Again c) t w = plain (Client c) (Again c ∷ [])
 acted x h (events.Deliver k) t w = delivered h k t w (slice_get w.sent k)
 acted x h events.Settle t w = leaves (settling x)
@@ -73,18 +74,18 @@ acted x h (events.Restart q) t w = restarted h q w
 acted x h (events.Show q) t w = showing h q
 
 -- it is refused, or done
-abbrev pub met : Setup → Chance → Event → (ClientNo → ClientTable) → World → Option EventRefusal → Deed
+abbrev pub met : Setup → Chance → Event → (ClientNo → Caller) → World → Option EventRefusal → Deed
 met x h event t w (Some refusal) = tells (says.RefusedEvent refusal ∷ [])
 met x h event t w None = acted x h event t w
 
 -- ---- every task
 
-abbrev pub resting : Setup → Chance → (ClientNo → ClientTable) → World → Option Event → Deed
+abbrev pub resting : Setup → Chance → (ClientNo → Caller) → World → Option Event → Deed
 resting x h t w None = nothing
 resting x h t w (Some event) = record (acted x h event t w) { tasks = Rests ∷ [] }
 
 abbrev pub dismissing : Deed
-dismissing = record (plain nobody (Dismiss ∷ [])) { device = Disarms; clients = λ f c. over (f c) }
+dismissing = record (plain nobody (Dismiss ∷ [])) { device = Disarms; callers = λ f c. dismissed_caller (f c) }
 
 -- how many commits the report names
 abbrev pub counting : List Line → List Text
@@ -92,9 +93,9 @@ counting lines = says.Commits (length (history_of lines)) ∷ []
 
 abbrev pub deed_of : Setup → Chance → Task → State → Deed
 deed_of x h (Begins event) s = record (plain nobody (NextEvent ∷ [])) { tasks = Meets event ∷ [] }
-deed_of x h (Meets event) s = met x h event s.clients s.course.world (refusal_of x s.course.world event)
-deed_of x h (Acts event) s = acted x h event s.clients s.course.world
-deed_of x h Rests s = resting x h s.clients s.course.world (next_in x h.rubbish s.course)
+deed_of x h (Meets event) s = met x h event s.callers s.course.world (refusal_of x s.course.world event)
+deed_of x h (Acts event) s = acted x h event s.callers s.course.world
+deed_of x h Rests s = resting x h s.callers s.course.world (next_in x h.rubbish s.course)
 deed_of x h (ComesUp q) s = brought_up h q s.course.world
 deed_of x h Dismisses s = dismissing
 deed_of x h (GoesDown q) s = crashed_at q (s.course.world.memory q)

@@ -1,3 +1,4 @@
+pub mod Callers
 pub mod Chances
 pub mod Tasks
 pub mod Deeds

@@ -53,7 +53,7 @@ is_too_much deed c = deed.cuts || nat_lt most_messages (length c.world.sent)
 abbrev pub come_to : Setup → Chance → Deed → Course → State → State
 come_to x h deed c s = record {
   course = c;
-  clients = deed.clients s.clients;
+  callers = deed.callers s.callers;
   tasks = deed.tasks ++ s.tasks;
   lines = s.lines ++ lines_at (when_of s) (texts_of x h deed s.course.world c.world);
   stage = s.stage;

@@ -6,7 +6,7 @@ use Rattle.jn_schedule.specs.declared.Event.{Event}
 use Rattle.jn_report.specs.declared.line.When.{When}
 use Rattle.jn_report.specs.declared.line.When.TheVariants.{Event as AtEvent, End}
 use Rattle.jn_report.specs.declared.line.Line.{Line}
-use Rattle.jn_rows.specs.Client.{ClientTable}
+use Rattle.jn_callers.specs.Callers.{Caller}
 use Rattle.jn_system.specs.WholeSystem.Course.{Course}
 
 pub data Task : Type 0 where
@@ -35,8 +35,8 @@ pub data Stage : Type 0 where
 pub record State : Type 0 where
   -- the world, the messages that wait, and the steps of the system so far
   pub course : Course
-  -- each client's own table, which decides what it reports
-  pub clients : ClientNo → ClientTable
+  -- each client with its own table and the call that it waits for, which decide what it reports
+  pub callers : ClientNo → Caller
   -- what is left to do, the next task first
   pub tasks : List Task
   pub lines : List Line

@@ -7,7 +7,7 @@ use Rattle.jn_records.specs.StablePages.{page_count}
 use Rattle.jn_store.specs.DeviceCalls.{put_calls}
 use Rattle.jn_schedule.specs.declared.Event.{Event}
 use Rattle.jn_report.specs.declared.line.Line.{Line}
-use Rattle.jn_rows.specs.Client.{new_table}
+use Rattle.jn_callers.specs.Callers.{new_caller}
 use Rattle.jn_system.specs.WholeSystem.World.{World, new_memory, opening, AreFilesOf}
 use Rattle.jn_machine.specs.Chances.{Setup}
 use Rattle.jn_machine.specs.Tasks.{InSchedule, CutShort, AtEnd, State}
@@ -22,7 +22,7 @@ closed_world servers files epochs = record (opening servers files epochs) { memo
 abbrev pub before : Setup → List Event → AllFiles → (ServerNo → ℕ) → State
 before x schedule files epochs = record {
   course = record { world = closed_world x.servers files epochs; waiting = []; steps = [] };
-  clients = λ c. new_table c x.servers;
+  callers = λ c. new_caller c x.servers;
   tasks = tasks_of x schedule;
   lines = [];
   stage = InSchedule;

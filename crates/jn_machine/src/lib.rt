@@ -7,18 +7,21 @@ mod settling;
 mod wrong;
 
 ghost use Rattle.std.specs.Prelude.{◌≡◌, ◌+◌, ℕ, true, false, List, [], ◌∷◌, ◌++◌, length};
+ghost use Rattle.std.specs.List.{list_any};
 ghost use Rattle.jn_base.specs.declared.names.ServerNo.{ServerNo};
 ghost use Rattle.jn_base.specs.declared.names.ClientNo.{ClientNo};
 ghost use Rattle.jn_order.specs.Files.{AllFiles};
 ghost use Rattle.jn_schedule.specs.declared.Event.{Event};
 ghost use Rattle.jn_report.specs.declared.line.Line.{Line};
 ghost use Rattle.jn_serial.specs.Lines.{history_of};
+ghost use Rattle.jn_callers.specs.Callers.{of_table};
 ghost use Rattle.jn_system.specs.WholeSystem.World.{commits_in};
 ghost use Rattle.jn_machine.specs.Chances.{Setup, Chance};
 ghost use Rattle.jn_machine.specs.Tasks.{CutShort, State};
 ghost use Rattle.jn_machine.specs.Runs.{MayLead};
 ghost use Rattle.jn_machine.specs.Steps.{after};
 ghost use Rattle.jn_machine.specs.Whole.{before};
+ghost use Rattle.jn_machine.specs.Callers.{HasItsTable, is_call};
 ghost use Rattle.jn_machine.specs.Kinds.{are_in_order, are_quiet, count_right, events_left};
 
 pub use devices::{
@@ -80,8 +83,14 @@ pub fn commits_are_the_systems()
         → history_of t.lines ≡ commits_in t.course.world.lines }
 {}
 
-/// Each client's own table is the one that the system has of it.
+/// Each client's own table is the one that the system has of it, but for the numbers of events.
 pub fn tables_are_the_systems()
     ensures { (x : Setup) (schedule : List Event) (files : AllFiles) (epochs : ServerNo → ℕ) (t : State) → MayLead x (before x schedule files epochs) t
-        → (c : ClientNo) → t.clients c ≡ t.course.world.clients c }
+        → (c : ClientNo) → HasItsTable t c }
+{}
+
+/// In a run of a schedule without calls each client is its table, and that is the system's.
+pub fn without_calls_clients_are_their_tables()
+    ensures { (x : Setup) (schedule : List Event) (files : AllFiles) (epochs : ServerNo → ℕ) (t : State) → list_any is_call schedule ≡ false → MayLead x (before x schedule files epochs) t
+        → (c : ClientNo) → t.callers c ≡ of_table (t.course.world.clients c) }
 {}

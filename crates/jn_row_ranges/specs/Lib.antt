@@ -1,3 +1,4 @@
+pub mod Callers
 pub mod Taking
 pub mod Drawing
 pub mod Naming

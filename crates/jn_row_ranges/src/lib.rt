@@ -3,11 +3,13 @@
 //! And a server leaves less to do than the message that it took.
 #![tactic(auto)]
 
+mod callers;
 mod clients;
 mod names;
 mod runs;
 mod servers;
 
+pub use callers::{a_caller_fits, a_number_goes_with_an_operation, a_scheduled_call_is_in_range};
 pub use clients::{a_client_fits, a_number_goes_with_a_message, a_scheduled_command_is_in_range};
 pub use names::{
     a_client_names_servers_that_there_are, a_server_names_servers_that_there_are,

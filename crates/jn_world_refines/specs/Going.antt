@@ -58,7 +58,7 @@ pub record WasCut (x : Setup) (m : Moment) (limit : Limit) (lines lines' : List 
 pub record ActsNext (x : Setup) (m : Moment) (event : Event) (more : List Task) : Type 0 where
   pub task : Task
   pub next : next_task m.state ≡ Some task
-  pub deed : (h : Chance) → ((q : ServerNo) → h.rubbish q ≡ rubbish_on x m.devices q) → deed_of x h task m.state ≡ record (acted x h event m.state.clients m.state.course.world) { tasks = more }
+  pub deed : (h : Chance) → ((q : ServerNo) → h.rubbish q ≡ rubbish_on x m.devices q) → deed_of x h task m.state ≡ record (acted x h event m.state.callers m.state.course.world) { tasks = more }
   pub begun_is : begun task m.state ≡ record m.state { tasks = drop 1 m.state.tasks }
 
 -- what a step leads to: it is done where its messages can all be sent, and else the run is cut short

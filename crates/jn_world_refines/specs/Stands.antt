@@ -19,13 +19,15 @@ use Rattle.jn_records.specs.StablePages.{Counts}
 use Rattle.jn_recovery.specs.Counts.{counts_by}
 use Rattle.jn_report.specs.declared.line.Text.{Text}
 use Rattle.jn_world_refines.specs.Waiting.{Carries}
-use Rattle.jn_rows.specs.Client.{ClientTable, new_table}
+use Rattle.jn_callers.specs.Callers.{Caller, new_caller}
+use Rattle.jn_callers.specs.Ranges.{DoingFits}
 use Rattle.jn_rows.specs.Outcomes.{Sent}
 use Rattle.jn_rows.specs.Stable.{StableState, Pick, IsUp}
 use Rattle.jn_serial.specs.Lines.{history_of}
 use Rattle.jn_server.specs.Seen.{view_with, memory_of}
 use Rattle.jn_store.specs.Store.{StoreView}
 use Rattle.jn_row_ranges.specs.Within.{Within}
+use Rattle.jn_machine.specs.Callers.{HasItsTable}
 use Rattle.jn_machine.specs.Chances.{Setup}
 use Rattle.jn_machine.specs.Devices.{AreFound, AreRecoverable}
 use Rattle.jn_machine.specs.Leaving.{AreAllCounted}
@@ -37,7 +39,7 @@ use Rattle.jn_world_refines.specs.Pages.{HasCounts}
 -- commit line, with the count of these lines
 pub record Standing (S : Type 0) : Type 0 where
   pub places : List (Place S)
-  pub clients : List ClientTable
+  pub clients : List Caller
   pub net : Carried
   pub named : Tid → Bool
   pub commits : ℕ
@@ -64,11 +66,12 @@ pub record Stands {S : Type 0} (look : S → StoreView) (device : S → DeviceSt
   pub trace : w.trace ≡ x.trace
   pub places : (n : ℕ) (p : Place S) → slice_get w.places n ≡ Some p → PlaceStands look device x m n p
   pub eight : length w.clients ≡ 8
-  pub clients : (n : ℕ) (t : ClientTable) → slice_get w.clients n ≡ Some t → m.state.clients (record { 0 = suc n }) ≡ t
+  pub clients : (n : ℕ) (c : Caller) → slice_get w.clients n ≡ Some c → m.state.callers (record { 0 = suc n }) ≡ c
   -- a client that isn't one of the eight stays as it begins
-  pub other_clients : (c : ClientNo) → is_client_number c.0 ≡ false → m.state.clients c ≡ new_table c x.servers
-  -- and the system has the same tables
-  pub tables : m.state.clients ≡ m.state.course.world.clients
+  pub other_clients : (c : ClientNo) → is_client_number c.0 ≡ false → m.state.callers c ≡ new_caller c x.servers
+  -- the system has the same tables, and calls ask for blocks that files can have
+  pub tables : (c : ClientNo) → HasItsTable m.state c
+  pub calls : (c : ClientNo) → DoingFits (m.state.callers c).doing
   pub net : Carries w.net m.state.course
   pub named : (T : Tid) → w.named T ≡ has_line T m.state.course.world.lines
   pub commits : w.commits ≡ length (commits_in m.state.course.world.lines)
