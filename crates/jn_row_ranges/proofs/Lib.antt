@@ -1,5 +1,6 @@
 mod Common
 pub mod Taking
+pub mod Calling
 pub mod Sending
 pub mod NamedByClients
 pub mod NamedByWorkers
