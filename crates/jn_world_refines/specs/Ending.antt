@@ -6,7 +6,7 @@ use Rattle.jn_place.specs.declared.place.Place.{Place}
 use Rattle.jn_place.specs.Exact.{Befell}
 use Rattle.jn_recovery.specs.Counts.{counts_by}
 use Rattle.jn_report.specs.declared.line.Line.{Line}
-use Rattle.jn_rows.specs.Client.{ClientTable, over}
+use Rattle.jn_callers.specs.Callers.{dismissed_caller}
 use Rattle.jn_store.specs.Store.{StoreView}
 use Rattle.jn_machine.specs.Chances.{Setup}
 use Rattle.jn_machine.specs.Runs.{Moment, Leads}
@@ -28,7 +28,7 @@ pub record AreDisarmed {S : Type 0} (look : S → StoreView) (device : S → Dev
 
 -- no message waits any more, and no client has a transaction
 abbrev pub dismissed : {S : Type 0} → List (Place S) → Standing S → Standing S
-dismissed places w = record w { places = places; clients = map (λ (t : ClientTable). over t) w.clients; net = record w.net { forgotten = length w.net.sent } }
+dismissed places w = record w { places = places; clients = map dismissed_caller w.clients; net = record w.net { forgotten = length w.net.sent } }
 
 -- The machine has begun the end, and the code stands there.
 pub record BeganEnd {S : Type 0} (look : S → StoreView) (device : S → DeviceState) (x : Setup) (m : Moment) (w' : Standing S) (lines : List Line) : Type 0 where

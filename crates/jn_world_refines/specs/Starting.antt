@@ -5,7 +5,7 @@ use Rattle.jn_device.specs.Device.{DeviceState}
 use Rattle.jn_place.specs.declared.place.Place.{Place}
 use Rattle.jn_place.specs.declared.place.Slot.TheVariants.{Down}
 use Rattle.jn_recovery.specs.Counts.{counts_by}
-use Rattle.jn_rows.specs.Client.{ClientTable, new_table}
+use Rattle.jn_callers.specs.Callers.{Caller, new_caller}
 use Rattle.jn_machine.specs.Chances.{Setup}
 use Rattle.jn_machine.specs.Devices.{Devices}
 use Rattle.jn_world_refines.specs.Stands.{Standing}
@@ -22,7 +22,7 @@ pub record IsFirst {S : Type 0} (device : S → DeviceState) (x : Setup) (images
   pub servers : length w.places ≡ x.servers
   pub places : (n : ℕ) (p : Place S) → slice_get w.places n ≡ Some p → IsDownOn device x images n p
   pub eight : length w.clients ≡ 8
-  pub clients : (n : ℕ) (t : ClientTable) → slice_get w.clients n ≡ Some t → t ≡ new_table (record { 0 = suc n }) x.servers
+  pub clients : (n : ℕ) (c : Caller) → slice_get w.clients n ≡ Some c → c ≡ new_caller (record { 0 = suc n }) x.servers
   pub net : w.net ≡ record { sent = []; forgotten = 0 }
   pub named : (T : Tid) → w.named T ≡ false
   pub commits : w.commits ≡ 0

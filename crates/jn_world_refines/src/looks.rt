@@ -9,7 +9,7 @@ ghost use Rattle.jn_place.specs.Places.{is_up};
 ghost use Rattle.jn_system.specs.WholeSystem.Steps.{IsIdle};
 ghost use Rattle.jn_recovery.specs.Counts.{counts_by};
 ghost use Rattle.jn_report.specs.declared.line.Line.{Line};
-ghost use Rattle.jn_rows.specs.Client.{ClientTable};
+ghost use Rattle.jn_callers.specs.Callers.{Caller};
 ghost use Rattle.jn_schedule.specs.declared.Event.TheVariants as events;
 ghost use Rattle.jn_server.specs.declared.show.Shown.{Shown};
 ghost use Rattle.jn_machine.specs.Chances.{Setup};
@@ -41,7 +41,7 @@ pub fn a_look_is_a_step<S: Powered>()
 /// Each outcome at a server counts as thanked, where no client has a transaction or waits, and the server isn't stopped.
 pub fn a_closing_is_a_step<S: Powered>()
     ensures { (x : Setup) (w : Standing S) (m : Moment) → Stands (λ s. S.view s) (λ s. S.device s) x w m → (q : ServerNo) (place : Place S) → slice_get w.places q.0 ≡ Some place
-        → (lines : List Line) → ((n : ℕ) (t : ClientTable) → slice_get w.clients n ≡ Some t → IsIdle t) → next_task m.state ≡ Some (ClosesClients q)
+        → (lines : List Line) → ((n : ℕ) (c : Caller) → slice_get w.clients n ≡ Some c → IsIdle c.table) → next_task m.state ≡ Some (ClosesClients q)
         → (done : Bool) (slot : Slot S) (lines' : List Line) → Closed (λ s. S.view s) (λ s. S.device s) q (counts_by place.counts) (when_of m.state) place.slot done slot lines lines' → is_up slot ≡ true → HasCounts (λ s. S.view s) q (counts_by place.counts) slot
         → WhereUp (λ s. S.view s) KeepsBeside place.slot slot
         → IsStepTo (λ s. S.view s) (λ s. S.device s) x m (drop 1 m.state.tasks) (record w { places = slice_set w.places q.0 (record place { slot = slot }) }) lines lines' }
