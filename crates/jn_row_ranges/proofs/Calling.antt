@@ -23,14 +23,16 @@ use Rattle.jn_calls.proofs.Fitting.{stays}
 use Rattle.jn_callers.specs.declared.doing.Doing.{Doing}
 use Rattle.jn_callers.specs.declared.taken.Taken.{Taken}
 use Rattle.jn_callers.specs.declared.taken.Taken.TheVariants.{Ignored, Send}
-use Rattle.jn_callers.specs.Callers.{Caller, Ordered, Refused, Sent as Accepted, new_caller, dismissed_caller, command_of, order_row, as_table, with_table, last, is_refused, goes_on, after_turn, take_answer, take_call_row}
-use Rattle.jn_callers.specs.Laws.{IsCaller, after_order, operations_sent}
+use Rattle.jn_callers.specs.Callers.{Caller, Ordered, Refused, Sent as Accepted, new_caller, of_table, dismissed_caller, command_of, order_row, as_table, with_table, last, is_refused, goes_on, after_turn, take_answer, take_call_row}
+use Rattle.jn_callers.specs.Laws.{IsCaller, after_order, operations_sent, still}
 use Rattle.jn_callers.specs.Ranges.{OrderInRange, CallInRange, DoingFits}
+use Rattle.jn_callers.proofs.Fewer.{asks-fewer}
+use Rattle.jn_callers.proofs.Plain.{plain-message}
 use Rattle.jn_callers.proofs.Sending.{order-sent}
 use Rattle.jn_callers.proofs.Kept.{order-keeps, message-keeps}
 use Rattle.jn_callers.proofs.Ranging.{first-fits, order-fits, message-fits}
 use Rattle.jn_row_ranges.specs.Callers.{CallerFits, OrderFits, sent_taken}
-use Rattle.jn_row_ranges.proofs.Taking.{new-fits, command-fits, command-draws, take-fits, take-number, take-asks-none, over-fits}
+use Rattle.jn_row_ranges.proofs.Taking.{new-fits, command-fits, command-draws, take-fits, take-number, over-fits}
 
 -- ---- the first client, and one that is dismissed
 
@@ -75,15 +77,20 @@ no-more n = omega arith
 still-fits : (c : Caller) → CallerFits c → FitsThen c.table (c, Ignored)
 still-fits c h = (h.table, none-sent, no-more c.table.next)
 
-same-sent : (taken : TableTaken) → sent_taken (as_table taken) ≡ sent_for taken
+-- what a client's table sends for a message
+pub same-sent : (taken : TableTaken) → sent_taken (as_table taken) ≡ sent_for taken
 same-sent takes.Ignored = refl
 same-sent (takes.Send to m) = refl
 same-sent (takes.Told text more) = refl
 
+-- of which none is an operation
+pub table-asks-none : (t : ClientTable) (m : Message) → operations_sent (as_table (take_row t m).1) ≡ 0
+table-asks-none t m = let fewer = subst (λ (row : Caller × Taken). operations_sent row.1 + still row.0.doing ≤ 0) (plain-message t m) (asks-fewer (of_table t) m) in omega (arith, fewer)
+
 table-fits : (c : Caller) (m : Message) → CallerFits c → FitsThen c.table (with_table c (take_row c.table m))
 table-fits c m h =
     let took = take-fits c.table m h.table in
-    let none = take-asks-none c.table m h.table in
+    let none = table-asks-none c.table m in
     let same = take-number c.table m in
     (took.0, rw (same-sent (take_row c.table m).1) took.1, rw (none, same) (no-more c.table.next))
 

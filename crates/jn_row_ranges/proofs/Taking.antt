@@ -11,8 +11,6 @@ use Rattle.jn_msgs.specs.declared.message.Outcome.{Outcome}
 use Rattle.jn_msgs.specs.declared.message.Outcome.TheVariants as outcomes
 use Rattle.jn_report.specs.declared.line.Refusal.TheVariants as refusals
 use Rattle.jn_schedule.specs.declared.Event.TheVariants as events
-use Rattle.jn_callers.specs.Callers.{as_table}
-use Rattle.jn_callers.specs.Laws.{operations_sent}
 use Rattle.jn_schedule.specs.Grammar.{op_parts}
 use Rattle.jn_schedule.specs.Ranges.{PartsInRange, EventInRange}
 
@@ -104,20 +102,19 @@ command-draws t j Abort = grind arith
 
 -- ---- messages
 
--- what a message leaves of a table, and what is sent for it, which is no operation
+-- what a message leaves of a table, and what is sent for it
 record Takes (t : ClientTable) (r : ClientTable × Taken) : Type 0 where
   pub again : Again r.0.outstanding
   pub servers : r.0.servers ≡ t.servers
   pub next : r.0.next ≡ t.next
   pub sent : AllCanBeTaken (sent_for r.1)
-  pub none : operations_sent (as_table r.1) ≡ 0
 
 module _ (t : ClientTable) (again : Again t.outstanding) where
   none-again : Again None
   none-again = All-nil (λ (x : Sent). CanBeTaken x.1)
 
   still : Takes t (ignored t)
-  still = record { again = again; servers = refl; next = refl; sent = none-again; none = refl }
+  still = record { again = again; servers = refl; next = refl; sent = none-again }
 
   waits : (o : Option Outstanding) (test : Outstanding → Bool) (row : ℕ → ClientTable × Taken) → ((j : ℕ) → Takes t (row j)) → Takes t (if_waits t o test row)
   waits None test row h = still
@@ -131,12 +128,12 @@ module _ (t : ClientTable) (again : Again t.outstanding) where
   thanked to c T = one-taken (to, messages.Thanks c T) (record { in_range = tt; few = tt })
 
   begun : (j : ℕ) (answer : Option Tid) → Takes t (begun_row t j answer)
-  begun j (Some T) = record { again = none-again; servers = refl; next = refl; sent = none-again; none = refl }
-  begun j None = record { again = none-again; servers = refl; next = refl; sent = none-again; none = refl }
+  begun j (Some T) = record { again = none-again; servers = refl; next = refl; sent = none-again }
+  begun j None = record { again = none-again; servers = refl; next = refl; sent = none-again }
 
   opened : (j : ℕ) (answer : Option WorkId) → Takes t (opened_row t j answer)
-  opened j (Some W) = record { again = none-again; servers = refl; next = refl; sent = none-again; none = refl }
-  opened j None = record { again = none-again; servers = refl; next = refl; sent = none-again; none = refl }
+  opened j (Some W) = record { again = none-again; servers = refl; next = refl; sent = none-again }
+  opened j None = record { again = none-again; servers = refl; next = refl; sent = none-again }
 
   choose : (b : Bool) (p q : ClientTable × Taken) → Takes t p → Takes t q → Takes t (if b then p else q)
   choose true p q h k = h
@@ -144,19 +141,19 @@ module _ (t : ClientTable) (again : Again t.outstanding) where
 
   decided : (T : Tid) (line : ℕ → Text) → Takes t (decided_row t T line)
   decided T line = choose (is_current t T) _ _
-      (waits t.outstanding _ _ (λ j. record { again = none-again; servers = refl; next = refl; sent = thanked _ _ _; none = refl }))
-      (record { again = again; servers = refl; next = refl; sent = thanked _ _ _; none = refl })
+      (waits t.outstanding _ _ (λ j. record { again = none-again; servers = refl; next = refl; sent = thanked _ _ _ }))
+      (record { again = again; servers = refl; next = refl; sent = thanked _ _ _ })
 
   outcome : (T : Tid) (o : Outcome) → Takes t (outcome_row t T o)
   outcome T outcomes.Committed = decided T _
   outcome T (outcomes.Aborted cause) = decided T _
-  outcome T (outcomes.Waiting s u by) = choose (is_current t T) _ _ (waits t.outstanding _ _ (λ j. record { again = again; servers = refl; next = refl; sent = none-again; none = refl })) still
-  outcome T (outcomes.NotKnown s epoch) = choose (is_current t T) _ _ (waits t.outstanding _ _ (λ j. record { again = none-again; servers = refl; next = refl; sent = none-again; none = refl })) still
+  outcome T (outcomes.Waiting s u by) = choose (is_current t T) _ _ (waits t.outstanding _ _ (λ j. record { again = again; servers = refl; next = refl; sent = none-again })) still
+  outcome T (outcomes.NotKnown s epoch) = choose (is_current t T) _ _ (waits t.outstanding _ _ (λ j. record { again = none-again; servers = refl; next = refl; sent = none-again })) still
 
   takes : (m : Message) → Takes t (take_row t m)
   takes (messages.Begun c request answer) = waits t.outstanding _ _ (λ j. begun j answer)
   takes (messages.Opened c request T answer) = waits t.outstanding _ _ (λ j. opened j answer)
-  takes (messages.Answer c request answer) = waits t.outstanding _ _ (λ j. record { again = none-again; servers = refl; next = refl; sent = none-again; none = refl })
+  takes (messages.Answer c request answer) = waits t.outstanding _ _ (λ j. record { again = none-again; servers = refl; next = refl; sent = none-again })
   takes (messages.Outcome c T o) = choose (client_eq c t.client) _ _ (outcome T o) still
   takes m = still
 
@@ -169,9 +166,6 @@ take-fits t m h = let took = takes t h.again m in (
   },
   took.sent,
 )
-
-pub take-asks-none : (t : ClientTable) (m : Message) → ClientFits t → operations_sent (as_table (take_row t m).1) ≡ 0
-take-asks-none t m h = (takes t h.again m).none
 
 pub take-number : (t : ClientTable) (m : Message) → (take_row t m).0.next ≡ t.next
 take-number t (messages.Begun c request answer) = grind arith

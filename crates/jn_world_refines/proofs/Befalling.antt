@@ -27,7 +27,7 @@ module _ {S : Type 0} (look : S → StoreView) (device : S → DeviceState) (see
   befell-leaves before after becomes b h = absurd b
 
   befallen-step : (event : Event) (answer : Bool) (becomes : DeviceState → DeviceState → Type 0) (using : Use) (texts : List Text) → ActsNext x m event more
-      → acted x (allowing answer) event m.state.clients m.state.course.world ≡ uses q using texts → outside_texts using [] ≡ [] → commits_in texts ≡ []
+      → acted x (allowing answer) event m.state.callers m.state.course.world ≡ uses q using texts → outside_texts using [] ≡ [] → commits_in texts ≡ []
       → ((es : Devices) → Alone q becomes m.devices es → IsUsed x (allowing answer) using m.state.course.world m.state.course.world m.devices es)
       → Befell look device (counts_by place.counts) becomes place.slot slot
       → IsStepTo look device x m (more ++ drop 1 m.state.tasks) now lines (lines ++ lines_at (when_of m.state) texts)
@@ -44,7 +44,7 @@ module _ {S : Type 0} (look : S → StoreView) (device : S → DeviceState) (see
             here = subst (λ (e : DeviceState). StandsAt look device (counts_by place.counts) slot (m.state.course.world.memory q) (m.state.course.world.found q) e) (sym (device-here look device x w m stand seen q place at still.now)) still.stands;
             counts = counts;
           })
-          refl (record { net = stand.net; named = stand.named; commits = stand.commits }) (sym (append-nil m.state.course.world.lines)) refl tt
+          (refl, refl) (record { net = stand.net; named = stand.named; commits = stand.commits }) (sym (append-nil m.state.course.world.lines)) refl tt
           (used (devices-now look device x w m stand seen q place at still.now) (record {
             its = subst (λ (e : DeviceState). becomes (m.devices q) e) (sym (device-here look device x w m stand seen q place at still.now)) still.becomes_it;
             others = λ s o. device-there look device x w m stand seen q place at still.now s o;

@@ -1,13 +1,19 @@
--- Where clients stand, and what they report.
-use Rattle.jn_world_refines.proofs.Common.{◌≡◌, ◌⊎◌, inl, inr, ◌≢◌, ◌-◌, ℕ, suc, Bool, true, false, [], ◌∷◌, slice_get, slice_set, Option, Some, None, refl, sym, ◌∙◌, ap, subst, arith, ◌&&◌, nat_lt, if◌then◌else◌, length-set, nat_tests, ClientNo, Tid, WorkId, client_eq, client_tells, DeviceState, Message, World, commits_in, Text, Taken, ClientTable, new_table, take_row, if_waits, ignored, begun_row, opened_row, answer_line, is_current, decided_row, outcome_row, pairs_view, StoreView, Setup, Moment, Standing, is_client_number, Stands, texts_taken}
+-- Where clients stand, and what the system reports of them.
+use Rattle.jn_world_refines.proofs.Common.{◌≡◌, ◌⊎◌, inl, inr, ◌≢◌, ◌-◌, ℕ, suc, Bool, true, false, List, [], ◌∷◌, slice_get, slice_set, Option, Some, None, refl, sym, ◌∙◌, ap, subst, arith, ◌&&◌, nat_lt, if◌then◌else◌, length-set, nat_tests, ClientNo, Tid, WorkId, client_eq, client_tells, DeviceState, Message, commits_in, Text, Taken, ClientTable, new_table, take_row, if_waits, ignored, begun_row, opened_row, answer_line, is_current, decided_row, outcome_row, pairs_view, StoreView, Setup, Moment, Standing, is_client_number, Stands}
 use Rattle.jn_base.specs.declared.op.Answer.{Answer}
 use Rattle.jn_base.specs.declared.op.Answer.TheVariants as answers
 use Rattle.jn_msgs.specs.declared.message.Message.TheVariants as messages
 use Rattle.jn_msgs.specs.declared.message.Outcome.{Outcome}
 use Rattle.jn_msgs.specs.declared.message.Outcome.TheVariants.{Committed, Aborted, Waiting, NotKnown}
+use Rattle.jn_report.specs.declared.line.Text.TheVariants as says
 use Rattle.jn_rows.specs.declared.client.Outstanding.{Outstanding}
+use Rattle.jn_rows.specs.declared.client.Taken.TheVariants as taken
+use Rattle.jn_callers.specs.declared.taken.Taken.{Taken as CallTaken}
+use Rattle.jn_callers.specs.Callers.{Caller, new_caller, of_table, take_call_row}
+use Rattle.jn_callers.specs.Ranges.{DoingFits}
+use Rattle.jn_callers.proofs.Plain.{plain-message}
 use Rattle.jn_world_refines.proofs.Placed.{each-set}
-use Rattle.jn_world_refines.proofs.Core.{ClientsStand, client-is, other-is}
+use Rattle.jn_world_refines.proofs.Core.{ClientsStand}
 
 -- ---- clients of a world
 
@@ -28,44 +34,62 @@ not-first : (a b : Bool) → (a && b) ≡ true → a ≡ true
 not-first a b h = grind arith
 
 module _ {S : Type 0} (look : S → StoreView) (device : S → DeviceState) (seen : (s : S) → look s ≡ pairs_view (device s)) (x : Setup) (w : Standing S) (m : Moment) (stand : Stands look device x w m) where
-  -- one of the eight has this table now
-  pub client-moved : (c : ClientNo) → is_client_number c.0 ≡ true → (t : ClientTable) (u : World) → u.clients c ≡ t → ((d : ClientNo) → client_eq c d ≡ false → u.clients d ≡ m.state.course.world.clients d)
-      → ClientsStand x (slice_set w.clients (c.0 - 1) t) u
-  client-moved c is t u here others = record {
-    eight = length-set w.clients (c.0 - 1) t ∙ stand.eight;
-    clients = each-set (λ n a. u.clients (record { 0 = suc n }) ≡ a) w.clients (c.0 - 1) t (subst (λ (n : ℕ). u.clients (record { 0 = n }) ≡ t) (sym (one-of c is)) here)
-        (λ n a d e. others (record { 0 = suc n }) (other-client c n (not-first (nat_lt 0 c.0) (nat_lt c.0 9) is) d) ∙ client-is look device x w m stand n a e);
-    others = λ d o. others d (apart d o (client_tells c d)) ∙ other-is look device x w m stand d o;
-  }
-    where
-      apart : (d : ClientNo) → is_client_number d.0 ≡ false → ((client_eq c d ≡ true) × (c ≡ d)) ⊎ ((client_eq c d ≡ false) × (c ≢ d)) → client_eq c d ≡ false
-      apart d o (inl z) = absurd (clash (sym (subst (λ (e : ClientNo). is_client_number e.0 ≡ true) z.1 is) ∙ o))
-        where
-          clash : true ≡ false → ⊥
-          clash e = cc
-      apart d o (inr z) = z.0
+  pub here-of : (c : ClientNo) → is_client_number c.0 ≡ true → (t : Caller) → slice_get w.clients (c.0 - 1) ≡ Some t → m.state.callers c ≡ t
+  here-of c is t at = subst (λ (n : ℕ). m.state.callers (record { 0 = n }) ≡ t) (one-of c is) (stand.clients (c.0 - 1) t at)
 
-  -- one that isn't stays as it begins
-  pub other-stays : (c : ClientNo) → is_client_number c.0 ≡ false → (u : World) → u.clients c ≡ new_table c x.servers → ((d : ClientNo) → client_eq c d ≡ false → u.clients d ≡ m.state.course.world.clients d)
-      → ClientsStand x w.clients u
-  other-stays c is u here others = record {
-    eight = stand.eight;
-    clients = λ n t e. clients-are n t e (client_tells c (record { 0 = suc n }));
-    others = λ d o. others-are d o (client_tells c d);
-  }
-    where
-      clients-are : (n : ℕ) (t : ClientTable) → slice_get w.clients n ≡ Some t → ((client_eq c (record { 0 = suc n }) ≡ true) × (c ≡ record { 0 = suc n })) ⊎ ((client_eq c (record { 0 = suc n }) ≡ false) × (c ≢ record { 0 = suc n })) → u.clients (record { 0 = suc n }) ≡ t
-      clients-are n t e (inl z) = subst (λ (d : ClientNo). u.clients d ≡ t) z.1 (here ∙ sym (other-is look device x w m stand c is) ∙ ap m.state.course.world.clients z.1 ∙ client-is look device x w m stand n t e)
-      clients-are n t e (inr z) = others (record { 0 = suc n }) z.0 ∙ client-is look device x w m stand n t e
+  module _ (c : ClientNo) (t : Caller) (callers : ClientNo → Caller) (here : callers c ≡ t) (fits : DoingFits t.doing) (there : (d : ClientNo) → client_eq c d ≡ false → callers d ≡ m.state.callers d) where
+    -- the calls that are under way then
+    still-calls : (d : ClientNo) → DoingFits (callers d).doing
+    still-calls d = by (client_tells c d)
+      where
+        by : ((client_eq c d ≡ true) × (c ≡ d)) ⊎ ((client_eq c d ≡ false) × (c ≢ d)) → DoingFits (callers d).doing
+        by (inl z) = subst (λ (e : ClientNo). DoingFits (callers e).doing) z.1 (subst (λ (a : Caller). DoingFits a.doing) (sym here) fits)
+        by (inr z) = subst (λ (a : Caller). DoingFits a.doing) (sym (there d z.0)) (stand.calls d)
 
-      others-are : (d : ClientNo) → is_client_number d.0 ≡ false → ((client_eq c d ≡ true) × (c ≡ d)) ⊎ ((client_eq c d ≡ false) × (c ≢ d)) → u.clients d ≡ new_table d x.servers
-      others-are d o (inl z) = subst (λ (e : ClientNo). u.clients e ≡ new_table e x.servers) z.1 here
-      others-are d o (inr z) = others d z.0 ∙ other-is look device x w m stand d o
+    -- one of the eight is so now
+    pub client-moved : is_client_number c.0 ≡ true → ClientsStand x (slice_set w.clients (c.0 - 1) t) callers
+    client-moved is = record {
+      eight = length-set w.clients (c.0 - 1) t ∙ stand.eight;
+      clients = each-set (λ n a. callers (record { 0 = suc n }) ≡ a) w.clients (c.0 - 1) t (subst (λ (n : ℕ). callers (record { 0 = n }) ≡ t) (sym (one-of c is)) here)
+          (λ n a d e. there (record { 0 = suc n }) (other-client c n (not-first (nat_lt 0 c.0) (nat_lt c.0 9) is) d) ∙ stand.clients n a e);
+      others = λ d o. there d (apart d o (client_tells c d)) ∙ stand.other_clients d o;
+      calls = still-calls;
+    }
+      where
+        apart : (d : ClientNo) → is_client_number d.0 ≡ false → ((client_eq c d ≡ true) × (c ≡ d)) ⊎ ((client_eq c d ≡ false) × (c ≢ d)) → client_eq c d ≡ false
+        apart d o (inl z) = absurd (clash (sym (subst (λ (e : ClientNo). is_client_number e.0 ≡ true) z.1 is) ∙ o))
+          where
+            clash : true ≡ false → ⊥
+            clash e = cc
+        apart d o (inr z) = z.0
+
+    -- one that isn't stays as it begins
+    pub other-stays : is_client_number c.0 ≡ false → t ≡ new_caller c x.servers → ClientsStand x w.clients callers
+    other-stays is new = record {
+      eight = stand.eight;
+      clients = λ n a e. clients-are n a e (client_tells c (record { 0 = suc n }));
+      others = λ d o. others-are d o (client_tells c d);
+      calls = still-calls;
+    }
+      where
+        clients-are : (n : ℕ) (a : Caller) → slice_get w.clients n ≡ Some a → ((client_eq c (record { 0 = suc n }) ≡ true) × (c ≡ record { 0 = suc n })) ⊎ ((client_eq c (record { 0 = suc n }) ≡ false) × (c ≢ record { 0 = suc n })) → callers (record { 0 = suc n }) ≡ a
+        clients-are n a e (inl z) = subst (λ (d : ClientNo). callers d ≡ a) z.1 (here ∙ new ∙ sym (stand.other_clients c is) ∙ ap m.state.callers z.1 ∙ stand.clients n a e)
+        clients-are n a e (inr z) = there (record { 0 = suc n }) z.0 ∙ stand.clients n a e
+
+        others-are : (d : ClientNo) → is_client_number d.0 ≡ false → ((client_eq c d ≡ true) × (c ≡ d)) ⊎ ((client_eq c d ≡ false) × (c ≢ d)) → callers d ≡ new_caller d x.servers
+        others-are d o (inl z) = subst (λ (e : ClientNo). callers e ≡ new_caller e x.servers) z.1 (here ∙ new)
+        others-are d o (inr z) = there d z.0 ∙ stand.other_clients d o
 
 -- ---- a client's lines name no commit
 
+-- what the system reports of a message that a client takes
+abbrev pub system_texts : ℕ → Taken → List Text
+system_texts k taken.Ignored = says.Ignored k ∷ []
+system_texts k (taken.Send to message) = []
+system_texts k (taken.Told line answer) = line ∷ []
+
 abbrev NamesNone : ℕ → ClientTable × Taken → Type 0
-NamesNone k row = commits_in (texts_taken k row.1) ≡ []
+NamesNone k row = commits_in (system_texts k row.1) ≡ []
 
 waits : (k : ℕ) (t : ClientTable) (o : Option Outstanding) (test : Outstanding → Bool) (row : ℕ → ClientTable × Taken) → ((j : ℕ) → NamesNone k (row j)) → NamesNone k (if_waits t o test row)
 waits k t None test row h = refl
@@ -108,7 +132,7 @@ outcome-none k t T (Aborted cause) = decided-none k t T _ (λ j. refl)
 outcome-none k t T (Waiting s u by) = either k (is_current t T) _ _ (waits k t t.outstanding _ _ (λ j. refl)) refl
 outcome-none k t T (NotKnown s epoch) = either k (is_current t T) _ _ (waits k t t.outstanding _ _ (λ j. refl)) refl
 
-pub taken-none : (k : ℕ) (t : ClientTable) (m : Message) → commits_in (texts_taken k (take_row t m).1) ≡ []
+pub taken-none : (k : ℕ) (t : ClientTable) (m : Message) → commits_in (system_texts k (take_row t m).1) ≡ []
 taken-none k t (messages.Begun c request answer) = waits k t t.outstanding _ _ (λ j. begun-none k t j answer)
 taken-none k t (messages.Opened c request T answer) = waits k t t.outstanding _ _ (λ j. opened-none k t j answer)
 taken-none k t (messages.Answer c request answer) = waits k t t.outstanding _ _ (λ j. answer-none t.client j answer)
@@ -123,10 +147,13 @@ new-outcome c n T (Aborted cause) = refl
 new-outcome c n T (Waiting s u by) = refl
 new-outcome c n T (NotKnown s epoch) = refl
 
-pub new-stays : (c : ClientNo) (n : ℕ) (m : Message) → (take_row (new_table c n) m).0 ≡ new_table c n
-new-stays c n (messages.Outcome d T what) = by (client_eq d c)
+new-table-stays : (c : ClientNo) (n : ℕ) (m : Message) → (take_row (new_table c n) m).0 ≡ new_table c n
+new-table-stays c n (messages.Outcome d T what) = by (client_eq d c)
   where
     by : (b : Bool) → (if b then outcome_row (new_table c n) T what else ignored (new_table c n)).0 ≡ new_table c n
     by true = new-outcome c n T what
     by false = refl
-new-stays c n m = refl
+new-table-stays c n m = refl
+
+pub new-stays : (c : ClientNo) (n : ℕ) (m : Message) → (take_call_row (new_caller c n) m).0 ≡ new_caller c n
+new-stays c n m = ap (λ (row : Caller × CallTaken). row.0) (plain-message (new_table c n) m) ∙ ap (λ (t : ClientTable). of_table t) (new-table-stays c n m)

@@ -1,22 +1,35 @@
 -- Each outcome at a server counts as thanked, once the clients are dismissed.
 use Rattle.jn_world_refines.proofs.Common.{◌≡◌, ◌<◌, ℕ, zero, suc, Bool, true, false, List, [], ◌∷◌, ◌++◌, append-nil, drop, slice_get, slice_set, Option, Some, None, refl, sym, ◌∙◌, ap, subst, arith, true≢false, if◌then◌else◌, nat_lt, fun_ext, nat_tests, ServerNo, ClientNo, Outside, DeviceState, Place, Slot, Up, Down, Gone, IsDoneAt, Closed, texts_of_step, WhereUp, KeepsBeside, is_up, World, Memory, of_coordinator, CloseClients, IsIdle, after, done, close_clients, counts_by, Line, Text, ClientTable, RowOutcome, StableState, Pick, made_all, Parts, view_with, memory_of, go_on, state, pairs_view, StoreView, Setup, Chance, served, Moment, lines_at, ClosesClients, when_of, next_task, Standing, is_client_number, Stands, HasCounts, IsStepTo, row_calls, beside_by}
 use Rattle.jn_rows.specs.Coordinator.{close_clients_row}
-use Rattle.jn_world_refines.proofs.Core.{client-is, other-is}
+use Rattle.jn_rows.specs.declared.client.Outstanding.{Outstanding}
+use Rattle.jn_system.specs.WholeSystem.Numbers.{numberless}
+use Rattle.jn_callers.specs.Callers.{Caller}
 use Rattle.jn_world_refines.proofs.Dismissing.{there-is}
 use Rattle.jn_world_refines.proofs.Moving.{same-server, carries-on, net-quiet, device-here, device-there, moved-step}
 use Rattle.jn_world_refines.proofs.Idle.{here, idling, calling}
 use Rattle.jn_world_refines.proofs.Left.{leaves-from}
 
 module _ {S : Type 0} (look : S → StoreView) (device : S → DeviceState) (seen : (s : S) → look s ≡ pairs_view (device s)) (x : Setup) (w : Standing S) (m : Moment) (stand : Stands look device x w m) where
+  -- a client of the system is idle where its own table is
+  system-idle : (c : ClientNo) → IsIdle (m.state.callers c).table → IsIdle (m.state.course.world.clients c)
+  system-idle c h = let its = stand.tables c in (
+    ap (λ (t : ClientTable). t.transaction) (sym its.table) ∙ h.0,
+    idle-too (m.state.course.world.clients c).outstanding (ap (λ (t : ClientTable). t.outstanding) (sym its.table) ∙ ap numberless h.1),
+  )
+    where
+      idle-too : (o : Option Outstanding) → numberless o ≡ None → o ≡ None
+      idle-too None e = refl
+      idle-too (Some o) e = absurd (cc e)
+
   -- every client of the machine is idle where the code's eight are
-  pub all-idle : ((n : ℕ) (t : ClientTable) → slice_get w.clients n ≡ Some t → IsIdle t) → (c : ClientNo) → IsIdle (m.state.course.world.clients c)
+  pub all-idle : ((n : ℕ) (c : Caller) → slice_get w.clients n ≡ Some c → IsIdle c.table) → (c : ClientNo) → IsIdle (m.state.course.world.clients c)
   all-idle idle c = by c.0
     where
       others : (k : ℕ) → is_client_number k ≡ false → IsIdle (m.state.course.world.clients (record { 0 = k }))
-      others k e = subst (λ (t : ClientTable). IsIdle t) (sym (other-is look device x w m stand (record { 0 = k }) e)) (refl, refl)
+      others k e = system-idle (record { 0 = k }) (subst (λ (c : Caller). IsIdle c.table) (sym (stand.other_clients (record { 0 = k }) e)) (refl, refl))
 
-      one : (n : ℕ) → (t : ClientTable) × (slice_get w.clients n ≡ Some t) → IsIdle (m.state.course.world.clients (record { 0 = suc n }))
-      one n (t, e) = subst (λ (u : ClientTable). IsIdle u) (sym (client-is look device x w m stand n t e)) (idle n t e)
+      one : (n : ℕ) → (c : Caller) × (slice_get w.clients n ≡ Some c) → IsIdle (m.state.course.world.clients (record { 0 = suc n }))
+      one n (c, e) = system-idle (record { 0 = suc n }) (subst (λ (d : Caller). IsIdle d.table) (sym (stand.clients n c e)) (idle n c e))
 
       below : (n : ℕ) → nat_lt n 8 ≡ true → n < 8
       below n e = grind (arith, nat_tests, e)
@@ -32,7 +45,7 @@ module _ {S : Type 0} (look : S → StoreView) (device : S → DeviceState) (see
       by zero = others 0 refl
       by (suc n) = either n (nat_lt n 8) refl
 
-  module _ (q : ServerNo) (place : Place S) (at : slice_get w.places q.0 ≡ Some place) (lines : List Line) (idle : (n : ℕ) (t : ClientTable) → slice_get w.clients n ≡ Some t → IsIdle t) (next : next_task m.state ≡ Some (ClosesClients q)) where
+  module _ (q : ServerNo) (place : Place S) (at : slice_get w.places q.0 ≡ Some place) (lines : List Line) (idle : (n : ℕ) (c : Caller) → slice_get w.clients n ≡ Some c → IsIdle c.table) (next : next_task m.state ≡ Some (ClosesClients q)) where
     abbrev world : World
     world = m.state.course.world
 
@@ -56,7 +69,7 @@ module _ {S : Type 0} (look : S → StoreView) (device : S → DeviceState) (see
           );
           counts = counts;
         })
-        (ap (λ (u : World). u.clients) after-is)
+        (refl, refl)
         (net-quiet look device x w m stand (go_on (CloseClients q ∷ []) m.state.course) [] (carries-on w.net m.state.course (CloseClients q) refl sent-is stand.net) (ap (λ (u : World). u.lines) after-is) refl)
         (ap (λ (u : World). u.lines) after-is) sent-is (all-idle idle, tt)
         (record {

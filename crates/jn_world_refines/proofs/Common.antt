@@ -16,7 +16,7 @@ pub use Rattle.jn_schedule.specs.declared.Event.{Event}
 pub use Rattle.jn_store.specs.Pairs.{pairs_view}
 pub use Rattle.jn_store.specs.Store.{StoreView, IsCalm, IsClean, IsWholePage, IsOnly}
 pub use Rattle.jn_machine.specs.Chances.{Setup, Chance, Allows, Free, Finding, Prints as HasPrints, none_free, free_found, maps_found, Recovered}
-pub use Rattle.jn_machine.specs.Deeds.{Use, Decays, Revives, Arms, uses, plain, delivered, no_room, texts_taken, took_message, served, texts_commanded, tables_commanded, Deed, PowersOff, nothing, crashed_at, Reads, Cleans, shown, room, delivered_at, Nothing, is_busy, working_steps, worked, is_used_up, given_up, recovered, restarted, stopped_idle, recovering, brought_up, pick_read, Calls, nobody, is_busy_with}
+pub use Rattle.jn_machine.specs.Deeds.{Use, Decays, Revives, Arms, uses, plain, delivered, no_room, texts_taken, took_message, served, Deed, PowersOff, nothing, crashed_at, Reads, Cleans, shown, room, delivered_at, Nothing, is_busy, working_steps, worked, is_used_up, given_up, recovered, restarted, stopped_idle, recovering, brought_up, pick_read, Calls, nobody, is_busy_with}
 pub use Rattle.jn_machine.specs.Devices.{Devices, Alone, IsUsed, AreFound, rubbish_on, AreRecoverable, IsCalled, pages_of, IsServed, IsLookedOver, IsScrubbed, Befalls, IsRecovery}
 pub use Rattle.jn_machine.specs.Events.{told_unless, acted, deed_of, dismissing, met, servers_of, asking, settling, next_in, resting, first_busy, next_event}
 pub use Rattle.jn_machine.specs.Runs.{Moment, Leads, DoesStep, none, more}
@@ -38,7 +38,7 @@ pub use Rattle.jn_system.specs.WholeSystem.Steps.{Deliver, after, took, taken_by
 pub use Rattle.jn_rows.specs.declared.client.Taken.{Taken}
 pub use Rattle.jn_rows.specs.Client.{ClientTable, new_table, take_row, if_waits, ignored, begun_row, opened_row, answer_line, is_current, decided_row, outcome_row, Commanded, Refuses, command_row, again_row, over}
 pub use Rattle.jn_rows.specs.Outcomes.{Sent, RowOutcome}
-pub use Rattle.jn_world_refines.specs.Clients.{with_client, sent_commanded}
+pub use Rattle.jn_world_refines.specs.Clients.{with_client}
 pub use Rattle.jn_machine.proofs.LeftBy.{left-told, left-sent, left_with, left-work}
 pub use Rattle.std.proofs.lemmas.List.{length-set, length-map, map-append, drop-append-le}
 pub use Rattle.jn_base.specs.declared.names.Tid.{Tid}

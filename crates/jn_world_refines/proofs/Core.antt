@@ -1,7 +1,7 @@
 -- From the next task to where the code stands once it is done.
 use Rattle.jn_world_refines.proofs.Common.{◌≡◌, ◌≤◌, ℕ, suc, Bool, false, List, [], ◌∷◌, ◌++◌, length, slice_get, drop, Option, Some, refl, sym, ◌∙◌, ap, subst, ServerNo, ClientNo, Tid, Outside, DeviceState, Carried, Place, World, commits_in, has_line, Step, run, IsRun, Line, Carries, ClientTable, new_table, Pick, Event, Course, go, go_on, StoreView, Within, run-within, Setup, Chance, Deed, Devices, IsUsed, AreFound, rubbish_on, acted, deed_of, AreLeft, AreAllCounted, Moment, Leads, texts_of, lines_at, come_to, Task, State, when_of, next_task, begun, may-lead, Standing, is_client_number, PlaceStands, Stands, ActsNext, IsStepTo, AreRecoverable, Free, Left, MapPlaces, own_texts, reported}
 use Rattle.jn_records.specs.declared.net_list.Need.{Need}
-use Rattle.jn_machine.proofs.Clients.{own-said, tables-lead}
+use Rattle.jn_machine.proofs.Clients.{tables-lead}
 use Rattle.jn_machine.proofs.Named.{names}
 use Rattle.jn_world_refines.proofs.Made.{Makes, made-leads, made-cut, carried-length, not-too-much}
 
@@ -22,10 +22,11 @@ pub record ServersStand {S : Type 0} (look : S → StoreView) (device : S → De
   pub counted : AreAllCounted x m.state.course.world m.devices
   pub recoverable : AreRecoverable x m.devices
 
-pub record ClientsStand (x : Setup) (ts : List ClientTable) (w : World) : Type 0 where
-  pub eight : length ts ≡ 8
-  pub clients : (n : ℕ) (t : ClientTable) → slice_get ts n ≡ Some t → w.clients (record { 0 = suc n }) ≡ t
-  pub others : (c : ClientNo) → is_client_number c.0 ≡ false → w.clients c ≡ new_table c x.servers
+pub record ClientsStand (x : Setup) (cs : List Caller) (callers : ClientNo → Caller) : Type 0 where
+  pub eight : length cs ≡ 8
+  pub clients : (n : ℕ) (c : Caller) → slice_get cs n ≡ Some c → callers (record { 0 = suc n }) ≡ c
+  pub others : (c : ClientNo) → is_client_number c.0 ≡ false → callers c ≡ new_caller c x.servers
+  pub calls : (c : ClientNo) → DoingFits (callers c).doing
 
 pub record NetStands (n : Carried) (its : Tid → Bool) (count : ℕ) (c : Course) : Type 0 where
   pub net : Carries n c
@@ -36,32 +37,24 @@ pub record NetStands (n : Carried) (its : Tid → Bool) (count : ℕ) (c : Cours
 pub record PartsStand {S : Type 0} (look : S → StoreView) (device : S → DeviceState) (x : Setup) (w : Standing S) (m : Moment) : Type 0 where
   pub trace : w.trace ≡ x.trace
   pub servers : ServersStand look device x w.places m
-  pub clients : ClientsStand x w.clients m.state.course.world
+  pub clients : ClientsStand x w.clients m.state.callers
   pub net : NetStands w.net w.named w.commits m.state.course
 
+-- a deed leaves the clients, and reports what its steps report
+abbrev pub LeavesClients : Deed → Type 0
+LeavesClients deed = (deed.callers ≡ (λ f. f)) × (deed.said ≡ None)
+
 module _ {S : Type 0} (look : S → StoreView) (device : S → DeviceState) (x : Setup) (w : Standing S) (m : Moment) (stand : Stands look device x w m) where
-  -- the system's tables of these clients
-  pub client-is : (n : ℕ) (t : ClientTable) → slice_get w.clients n ≡ Some t → m.state.course.world.clients (record { 0 = suc n }) ≡ t
-  client-is n t e = rw (← stand.tables) (stand.clients n t e)
-
-  pub other-is : (c : ClientNo) → is_client_number c.0 ≡ false → m.state.course.world.clients c ≡ new_table c x.servers
-  other-is c e = rw (← stand.tables) (stand.other_clients c e)
-
-  -- a deed reports what its steps report
-  pub says-own : (h : Chance) (task : Task) (deed : Deed) → deed_of x h task m.state ≡ deed
-      → reported deed.said (own_texts m.state.course.world (go_on deed.steps m.state.course).world) ≡ own_texts m.state.course.world (go_on deed.steps m.state.course).world
-  says-own h task deed e = subst (λ (d : Deed). reported d.said (own_texts m.state.course.world (go_on d.steps m.state.course).world) ≡ own_texts m.state.course.world (go_on d.steps m.state.course).world) e
-      (own-said x h task m.state stand.tables m.state.course refl)
-
   pub parts-after : (last : Moment) (w' : Standing S) (steps : List Step) → Leads x m last → last.state.course ≡ go_on steps m.state.course → PartsStand look device x w' last → Stands look device x w' last
   parts-after last w' steps leads course parts = record {
     servers = parts.servers.servers;
     trace = parts.trace;
     places = parts.servers.places;
     eight = parts.clients.eight;
-    clients = λ n t e. rw tables (parts.clients.clients n t e);
-    other_clients = λ c e. rw tables (parts.clients.others c e);
-    tables = tables;
+    clients = parts.clients.clients;
+    other_clients = parts.clients.others;
+    tables = tables-lead x m.state last.state (may-lead x m last leads) stand.tables;
+    calls = parts.clients.calls;
     net = parts.net.net;
     named = parts.net.named;
     commits = parts.net.commits;
@@ -71,9 +64,6 @@ module _ {S : Type 0} (look : S → StoreView) (device : S → DeviceState) (x :
     counted = parts.servers.counted;
     recoverable = parts.servers.recoverable;
   }
-    where
-      tables : last.state.clients ≡ last.state.course.world.clients
-      tables = tables-lead x m.state last.state (may-lead x m last leads) stand.tables
 
   abbrev pub left : State
   left = record m.state { tasks = drop 1 m.state.tasks }
@@ -132,7 +122,7 @@ module _ {S : Type 0} (look : S → StoreView) (device : S → DeviceState) (x :
 
   -- So where the next task does this event.
   pub step-made : (event : Event) (more : List Task) → ActsNext x m event more → (h : Chance) → ((q : ServerNo) → h.rubbish q ≡ rubbish_on x m.devices q)
-      → (deed : Deed) → acted x h event m.state.clients m.state.course.world ≡ deed → deed.cuts ≡ false
+      → (deed : Deed) → acted x h event m.state.callers m.state.course.world ≡ deed → deed.cuts ≡ false
       → (es : Devices) → IsRun deed.steps m.state.course.world → IsUsed x h deed.device m.state.course.world (run deed.steps m.state.course.world) m.devices es
       → AreLeft x deed.steps m.state.course.world m.devices es
       → (w' : Standing S) → PartsStand look device x w' (last-of h deed more es)

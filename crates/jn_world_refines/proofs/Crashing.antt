@@ -31,7 +31,7 @@ module _ {S : Type 0} (look : S → StoreView) (device : S → DeviceState) (see
         );
         counts = down-recoverable;
       })
-      (ap (λ (u : World). u.clients) after-is)
+      (refl, refl)
       (net-quiet look device x w m stand (go_on (Crash q ∷ []) m.state.course) (says.Down q ∷ []) (carries-on w.net m.state.course (Crash q) refl (ap (λ (u : World). u.sent) after-is) stand.net) (ap (λ (u : World). u.lines) after-is) refl)
       (ap (λ (u : World). u.lines) after-is) (ap (λ (u : World). u.sent) after-is) (tt, tt)
       (record { its = device-here look device x w m stand seen q place at (device s) ∙ crashed.device_is ∙ ap powered_off (sym here.2); others = λ r o. device-there look device x w m stand seen q place at (device s) r o })
@@ -69,7 +69,7 @@ module _ {S : Type 0} (look : S → StoreView) (device : S → DeviceState) (see
       (record {
         trace = stand.trace;
         servers = servers-same look device seen x w m stand (led-to x m (quiet_chance x m.devices) (record nothing { tasks = more }) m.devices) (record { memory = λ s. refl; found = λ s. refl; devices = λ s. refl });
-        clients = clients-same look device seen x w m stand world refl;
+        clients = clients-same look device seen x w m stand;
         net = net-same look device seen x w m stand;
       })
       lines lines (sym (append-nil lines) ∙ ap (λ (ts : List Text). lines ++ lines_at (when_of m.state) ts) (sym (quiet-texts x (quiet_chance x m.devices) (record nothing { tasks = more }) world)))

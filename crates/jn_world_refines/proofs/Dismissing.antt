@@ -2,6 +2,7 @@
 use Rattle.jn_world_refines.proofs.Common.{◌≡◌, ◌<◌, ℕ, zero, suc, List, [], ◌∷◌, ◌++◌, length, append-nil, drop, Option, Some, None, refl, sym, ◌∙◌, ap, subst, arith, map, slice_get, length-map, slice_get_within, slice_get-map, DeviceState, disarmed, Posted, Place, Slot, Up, Down, Befell, Memory, commits_in, Dismiss, Counts, counts_by, Line, Text, Carries, ClientTable, over, StableState, Pick, IsUp, Course, go, StoreView, run-within, Setup, Dismisses, AtEnd, State, when_of, next_task, Devices, dismissing, Moment, texts_of, lines_at, come_to, Standing, StandsAt, PlaceStands, Stands, HasCounts, AreRecoverable}
 use Rattle.jn_world_refines.proofs.WaitingNumbers.{carries-step, carries-forgotten}
 use Rattle.std.specs.Option.{option_map}
+use Rattle.jn_callers.specs.Callers.{Caller, dismissed_caller}
 use Rattle.jn_world_refines.specs.Ending.{AreDisarmed, dismissed, BeginsEnd}
 use Rattle.jn_world_refines.proofs.Lines.{history-same}
 use Rattle.jn_world_refines.proofs.Made.{quiet_chance, Makes, made-leads, made-cut, carried-length, not-too-much, quiet-texts}
@@ -66,25 +67,29 @@ module _ {S : Type 0} (look : S → StoreView) (device : S → DeviceState) (x :
   still-recoverable : AreRecoverable x es
   still-recoverable q l = let h = stands.recoverable q l in record { count = h.count; each = h.each; clean = h.clean }
 
-  client : (n : ℕ) (t : ClientTable) → slice_get (map (λ (t : ClientTable). over t) w.clients) n ≡ Some t → over (m.state.clients (record { 0 = suc n })) ≡ t
-  client n t e = by (slice_get w.clients n) refl (sym (slice_get-map (λ (t : ClientTable). over t) w.clients n) ∙ e)
+  client : (n : ℕ) (c : Caller) → slice_get (map dismissed_caller w.clients) n ≡ Some c → dismissed_caller (m.state.callers (record { 0 = suc n })) ≡ c
+  client n c e = by (slice_get w.clients n) refl (sym (slice_get-map dismissed_caller w.clients n) ∙ e)
     where
-      some : (a b : ClientTable) → Some a ≡ Some b → a ≡ b
+      some : (a b : Caller) → Some a ≡ Some b → a ≡ b
       some a b q = cc
 
-      by : (o : Option ClientTable) → slice_get w.clients n ≡ o → option_map (λ (t : ClientTable). over t) o ≡ Some t → over (m.state.clients (record { 0 = suc n })) ≡ t
+      by : (o : Option Caller) → slice_get w.clients n ≡ o → option_map dismissed_caller o ≡ Some c → dismissed_caller (m.state.callers (record { 0 = suc n })) ≡ c
       by None q h = absurd (cc h)
-      by (Some old) q h = ap (λ (t : ClientTable). over t) (stands.clients n old q) ∙ some (over old) t h
+      by (Some old) q h = ap dismissed_caller (stands.clients n old q) ∙ some (dismissed_caller old) c h
 
   dismissed-stands : Stands look device x (dismissed places w) (record { state = last; devices = es })
   dismissed-stands = record {
     servers = disarms.as_many ∙ stands.servers;
     trace = stands.trace;
     places = place;
-    eight = length-map w.clients (λ (t : ClientTable). over t) ∙ stands.eight;
+    eight = length-map w.clients dismissed_caller ∙ stands.eight;
     clients = client;
-    other_clients = λ c e. ap (λ (t : ClientTable). over t) (stands.other_clients c e);
-    tables = ap dismissing.clients stands.tables;
+    other_clients = λ c e. ap dismissed_caller (stands.other_clients c e);
+    tables = λ c. record {
+      caller = record { table = record { works = refl; waits = refl }; doing = refl; spoiled = refl };
+      table = let its = stands.tables c in ap (λ (t : ClientTable). over t) its.table;
+    };
+    calls = λ c. tt;
     net = subst (λ (sent : List Posted). Carries (record w.net { sent = sent; forgotten = length w.net.sent }) (go Dismiss begun_course)) (append-nil w.net.sent)
         (carries-step (record w.net { forgotten = length w.net.sent }) begun_course Dismiss [] (carries-forgotten w.net m.state.course m.state.course.steps stands.net) refl (sym (append-nil m.state.course.world.sent)));
     named = stands.named;

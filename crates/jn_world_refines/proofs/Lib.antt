@@ -26,6 +26,7 @@ pub mod Looking
 pub mod Closing
 pub mod Numbered
 pub mod Clients
+pub mod Ordered
 pub mod ClientSteps
 pub mod Commands
 pub mod Losing

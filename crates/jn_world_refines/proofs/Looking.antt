@@ -92,7 +92,7 @@ module _ {S : Type 0} (look : S → StoreView) (device : S → DeviceState) (see
         (Down s) (device s) (says.Stopped q ∷ []) w.named w.commits
         (stopped-alone look device seen x w m stand q place at p is told _ s e counts
         (led-to x m (idling look device seen x w m stand q place at p is told (Some (λ c. whole_only 0))) (record (scrubs (stopping look device seen x w m stand q place at p is told ∷ [])) { tasks = more }) (devices-now look device x w m stand seen q place at (device s))) refl refl)
-        (ap (λ (u : World). u.clients) (after-stop look device seen x w m stand q place at p is told))
+        (refl, refl)
         (net-quiet look device x w m stand (go_on (stopping look device seen x w m stand q place at p is told ∷ []) m.state.course) (says.Stopped q ∷ []) (stop-carries look device seen x w m stand q place at p is told)
         (ap (λ (u : World). u.lines) (after-stop look device seen x w m stand q place at p is told)) refl)
         (ap (λ (u : World). u.lines) (after-stop look device seen x w m stand q place at p is told)) (ap (λ (u : World). u.sent) (after-stop look device seen x w m stand q place at p is told)) (tt, tt)
@@ -155,7 +155,7 @@ module _ {S : Type 0} (look : S → StoreView) (device : S → DeviceState) (see
         (does-next x m (events.Show q) more next h (λ r. refl) deed refl) refl
         (Down s) (device s) (says.Stopped q ∷ []) w.named w.commits
         (stopped-alone look device seen x w m stand q place at p is told _ s e counts (led-to x m h (record deed { tasks = more }) (devices-now look device x w m stand seen q place at (device s))) refl refl)
-        (ap (λ (u : World). u.clients) (after-stop look device seen x w m stand q place at p is told))
+        (refl, refl)
         (net-quiet look device x w m stand (go_on (stopping look device seen x w m stand q place at p is told ∷ []) m.state.course) (says.Stopped q ∷ []) (stop-carries look device seen x w m stand q place at p is told)
         (ap (λ (u : World). u.lines) (after-stop look device seen x w m stand q place at p is told)) refl)
         (ap (λ (u : World). u.lines) (after-stop look device seen x w m stand q place at p is told)) (ap (λ (u : World). u.sent) (after-stop look device seen x w m stand q place at p is told)) (tt, tt)

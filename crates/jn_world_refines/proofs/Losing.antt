@@ -23,11 +23,11 @@ module _ {S : Type 0} (look : S → StoreView) (device : S → DeviceState) (see
     pub lost-step : (place : Place S) (s : S) → slice_get w.places q.0 ≡ Some place → place.slot ≡ Down s → (more : List Task) → ActsNext x m (events.Deliver k) more → (lines : List Line)
         → IsStepTo look device x m (more ++ drop 1 m.state.tasks) (record w { net = record w.net { sent = with_delivered k w.net.sent } }) lines (lines ++ lines_at (when_of m.state) (says.Lost k ∷ []))
     lost-step place s at is more next lines = silent-step look device seen x w m stand (events.Deliver k) more next (Server q) (Deliver k (room (no-chance look device seen x w m stand) q))
-        (ap (delivered (no-chance look device seen x w m stand) k m.state.clients v) (is-sent look device seen x w m stand k one posted (Server q) to) ∙ ap (delivered_at (no-chance look device seen x w m stand) k q) (down-is q place s at is)) tt
+        (ap (delivered (no-chance look device seen x w m stand) k m.state.callers v) (is-sent look device seen x w m stand k one posted (Server q) to) ∙ ap (delivered_at (no-chance look device seen x w m stand) k q) (down-is q place s at is)) tt
         (lost-quiet v q k (room (no-chance look device seen x w m stand) q) one.message (is-sent look device seen x w m stand k one posted (Server q) to) (down-is q place s at is))
         (says.Lost k ∷ []) refl (ap (λ (u : World). u.sent) after-is) (ap (λ (u : World). u.lines) after-is)
         w.places (servers-same look device seen x w m stand _ (record { memory = λ r. ap (λ (u : World). u.memory r) after-is; found = λ r. ap (λ (u : World). u.found r) after-is; devices = λ r. refl }))
-        w.clients (clients-same look device seen x w m stand _ (ap (λ (u : World). u.clients) after-is)) (with_delivered k w.net.sent) refl lines
+        w.clients (clients-same look device seen x w m stand) (with_delivered k w.net.sent) refl lines
       where
         after-is : after (Deliver k (room (no-chance look device seen x w m stand) q)) v ≡ record v { lines = v.lines ++ says.Lost k ∷ [] }
         after-is = ap (λ (o : Option Sent). handed k (room (no-chance look device seen x w m stand) q) None o v) (is-sent look device seen x w m stand k one posted (Server q) to)

@@ -58,7 +58,7 @@ pub meets-acts : (x : Setup) (m : Moment) (event : Event) → next_task m.state 
 meets-acts x m event e s r = record {
   task = Meets event;
   next = e;
-  deed = λ h rubbish. ap (met x h event m.state.clients m.state.course.world) r ∙ no-tasks (acted x h event m.state.clients m.state.course.world) (acts x h event m.state.clients m.state.course.world s);
+  deed = λ h rubbish. ap (met x h event m.state.callers m.state.course.world) r ∙ no-tasks (acted x h event m.state.callers m.state.course.world) (acts x h event m.state.callers m.state.course.world s);
   begun_is = refl;
 }
 
@@ -67,7 +67,7 @@ pub acts-acts : (x : Setup) (m : Moment) (event : Event) → next_task m.state �
 acts-acts x m event e s = record {
   task = Acts event;
   next = e;
-  deed = λ h rubbish. no-tasks (acted x h event m.state.clients m.state.course.world) (acts x h event m.state.clients m.state.course.world s);
+  deed = λ h rubbish. no-tasks (acted x h event m.state.callers m.state.course.world) (acts x h event m.state.callers m.state.course.world s);
   begun_is = refl;
 }
 

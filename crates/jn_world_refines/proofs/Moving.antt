@@ -3,7 +3,7 @@ use Rattle.jn_world_refines.proofs.Common.{◌≡◌, ℕ, ◌+◌, Bool, true, 
 use Rattle.jn_world_refines.proofs.WaitingNumbers.{carries-step}
 use Rattle.jn_world_refines.proofs.Lines.{line-append, count-append}
 use Rattle.jn_world_refines.proofs.Posted.{none-traced, texts-are}
-use Rattle.jn_world_refines.proofs.Core.{PartsStand, NetStands, deed-made as task-made, run-is, says-own}
+use Rattle.jn_world_refines.proofs.Core.{PartsStand, ClientsStand, NetStands, LeavesClients, deed-made as task-made, run-is}
 use Rattle.jn_world_refines.proofs.Servers.{IsAlone, server-moved, clients-same}
 use Rattle.jn_world_refines.proofs.Left.{AreQuiet, Leaves, left-alone}
 
@@ -23,7 +23,7 @@ pub record Does (x : Setup) (m : Moment) (h : Chance) (deed : Deed) : Type 0 whe
   pub begun_is : begun task m.state ≡ record m.state { tasks = drop 1 m.state.tasks }
 
 pub does-next : (x : Setup) (m : Moment) (event : Event) (more : List Task) → ActsNext x m event more → (h : Chance) → ((q : ServerNo) → h.rubbish q ≡ rubbish_on x m.devices q) → (deed : Deed)
-    → acted x h event m.state.clients m.state.course.world ≡ deed → Does x m h (record deed { tasks = more })
+    → acted x h event m.state.callers m.state.course.world ≡ deed → Does x m h (record deed { tasks = more })
 does-next x m event more next h rubbish deed e = record {
   task = next.task;
   next = next.next;
@@ -82,7 +82,7 @@ module _ {S : Type 0} (look : S → StoreView) (device : S → DeviceState) (x :
     pub moved-step : (h : Chance) → ((q : ServerNo) → h.rubbish q ≡ rubbish_on x m.devices q) → (deed : Deed) → Does x m h deed → deed.cuts ≡ false
         → (slot : Slot S) (e : DeviceState) (own : List Text) (names : Tid → Bool) (commits : ℕ)
         → IsAlone look device seen x w m stand (led-to x m h deed (devices-now e)) q (counts_by place.counts) slot
-        → (go_on deed.steps m.state.course).world.clients ≡ m.state.course.world.clients → NetStands w.net names commits (go_on deed.steps m.state.course)
+        → LeavesClients deed → NetStands w.net names commits (go_on deed.steps m.state.course)
         → (go_on deed.steps m.state.course).world.lines ≡ m.state.course.world.lines ++ own → (go_on deed.steps m.state.course).world.sent ≡ m.state.course.world.sent
         → IsRun deed.steps m.state.course.world → IsUsed x h deed.device m.state.course.world (run deed.steps m.state.course.world) m.devices (devices-now e)
         → ((s : ServerNo) → server_eq q s ≡ false → AreQuiet m.state.course.world deed.steps s) → Leaves look (beside_by x m.devices q) m.state.course.world q deed.steps slot place.slot
@@ -94,11 +94,11 @@ module _ {S : Type 0} (look : S → StoreView) (device : S → DeviceState) (x :
         (record {
           trace = stand.trace;
           servers = server-moved look device seen x w m stand (led-to x m h deed (devices-now e)) q place slot at alone;
-          clients = clients-same look device seen x w m stand (go_on deed.steps m.state.course).world clients;
+          clients = subst (λ (becomes : (ClientNo → Caller) → ClientNo → Caller). ClientsStand x w.clients (becomes m.state.callers)) (sym clients.0) (clients-same look device seen x w m stand);
           net = net;
         })
         lines lines' (told ∙ ap (λ (ts : List Text). lines ++ lines_at (when_of m.state) ts) (sym texts))
       where
         texts : texts_of x h deed m.state.course.world (go_on deed.steps m.state.course).world ≡ outside_texts deed.device h.told ++ own ++ deed.texts
-        texts = texts-are x h deed m.state.course.world (go_on deed.steps m.state.course).world own [] (says-own look device x w m stand h does.task deed does.deed_is) lines-are (sent-are ∙ sym (append-nil m.state.course.world.sent))
+        texts = texts-are x h deed m.state.course.world (go_on deed.steps m.state.course).world own own [] (ap (λ (o : Option (List Text)). reported o own) clients.1) lines-are (sent-are ∙ sym (append-nil m.state.course.world.sent))
             ∙ ap (λ (ts : List Text). outside_texts deed.device h.told ++ own ++ deed.texts ++ ts) (none-traced x.trace) ∙ append-nil (outside_texts deed.device h.told ++ own ++ deed.texts)

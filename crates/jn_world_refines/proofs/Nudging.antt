@@ -34,9 +34,9 @@ module _ {S : Type 0} (look : S → StoreView) (device : S → DeviceState) (see
           made : StandsAt look device (counts_by place.counts) (Up p) (v.memory q) (v.found q) (m.devices q)
               → IsStepTo look device x m (more ++ drop 1 m.state.tasks) (with_answer q None (Some out-of) w) lines (lines ++ lines_at (when_of m.state) (texts_sent q None w.trace (length w.net.sent) (Some out-of)))
           made h = subst (λ (n : ℕ). IsStepTo look device x m (more ++ drop 1 m.state.tasks) (record (with_answer q None (Some out-of) w) { commits = n }) lines (lines ++ lines_at (when_of m.state) (texts_sent q None w.trace (length w.net.sent) (Some out-of)))) plus-none
-              (plain-step look device seen x w m stand (events.Nudge q) more next (Server q) (Nudge q) (λ f. f) None refl tt (λ s reads n. refl) out-of.messages [] refl (ap (λ (u : World). u.sent) after-is) (ap (λ (u : World). u.lines) after-is ∙ sym (append-nil v.lines))
+              (plain-step look device seen x w m stand (events.Nudge q) more next (Server q) (Nudge q) refl tt (λ s reads n. refl) out-of.messages [] refl (ap (λ (u : World). u.sent) after-is) (ap (λ (u : World). u.lines) after-is ∙ sym (append-nil v.lines))
               w.places (servers-same look device seen x w m stand _ (record { memory = λ r. ap (λ (u : World). u.memory r) after-is; found = λ r. ap (λ (u : World). u.found r) after-is; devices = λ r. refl }))
-              w.clients (clients-same look device seen x w m stand _ (ap (λ (u : World). u.clients) after-is)) w.net.sent refl lines)
+              w.clients (clients-same look device seen x w m stand) w.net.sent refl lines)
             where
               after-is : after (Nudge q) v ≡ record v { sent = v.sent ++ out-of.messages }
               after-is = ap (λ (o : Option Memory). nudge q o v) h.0 ∙ ap (λ (f : Pick → StableState). record v { sent = v.sent ++ server_again (memory_of (view_with look p)) (stable f) }) h.1
@@ -49,7 +49,7 @@ module _ {S : Type 0} (look : S → StoreView) (device : S → DeviceState) (see
   nudged-down-step s is more next lines = subst (λ (ls : List Line). IsStepTo look device x m (more ++ drop 1 m.state.tasks) w lines ls) (append-nil lines)
       (silent-step look device seen x w m stand (events.Nudge q) more next (Server q) (Nudge q) refl tt (λ s reads n. refl) [] refl (ap (λ (u : World). u.sent) after-is) (ap (λ (u : World). u.lines) after-is ∙ sym (append-nil v.lines))
       w.places (servers-same look device seen x w m stand _ (record { memory = λ r. ap (λ (u : World). u.memory r) after-is; found = λ r. ap (λ (u : World). u.found r) after-is; devices = λ r. refl }))
-      w.clients (clients-same look device seen x w m stand _ (ap (λ (u : World). u.clients) after-is)) w.net.sent refl lines)
+      w.clients (clients-same look device seen x w m stand) w.net.sent refl lines)
     where
       after-is : after (Nudge q) v ≡ v
       after-is = ap (λ (o : Option Memory). nudge q o v) (down-is look device seen x w m stand q place s at is)
@@ -76,7 +76,7 @@ module _ {S : Type 0} (look : S → StoreView) (device : S → DeviceState) (see
             );
             counts = counts';
           }))
-          w.clients (clients-same look device seen x w m stand _ (ap (λ (u : World). u.clients) after-is)) w.net.sent refl lines)
+          w.clients (clients-same look device seen x w m stand) w.net.sent refl lines)
         where
           after-is : after (Timeout q T) v ≡ record v { memory = at_server v.memory q (Some (server_timeout (memory_of (view_with look p)) T)) }
           after-is = ap (λ (o : Option Memory). timeout q T o v) h.0

@@ -129,9 +129,9 @@ rests x h t w (Some event) = let a = acts x h event t w in record { steps = a.st
 
 quiet-task : (x : Setup) (h : Chance) (task : Task) (s : State) → begun_by task ≡ 0 → Quiet (deed_of x h task s)
 quiet-task x h (Begins event) s e = absurd (cc e)
-quiet-task x h (Meets event) s e = meets x h event s.clients s.course.world (refusal_of x s.course.world event)
-quiet-task x h (Acts event) s e = acts x h event s.clients s.course.world
-quiet-task x h Rests s e = rests x h s.clients s.course.world (next_in x h.rubbish s.course)
+quiet-task x h (Meets event) s e = meets x h event s.callers s.course.world (refusal_of x s.course.world event)
+quiet-task x h (Acts event) s e = acts x h event s.callers s.course.world
+quiet-task x h Rests s e = rests x h s.callers s.course.world (next_in x h.rubbish s.course)
 quiet-task x h (ComesUp q) s e = comes h q s.course.world
 quiet-task x h Dismisses s e = record { steps = refl; tasks = refl }
 quiet-task x h (GoesDown q) s e = crashes q (s.course.world.memory q)

@@ -13,13 +13,13 @@ pub none-traced : (trace : Bool) → traced trace [] ≡ []
 none-traced true = refl
 none-traced false = refl
 
--- the texts of a step, where what the system reported and sent in it is known
-pub texts-are : (x : Setup) (h : Chance) (deed : Deed) (before now : World) (own : List Text) (sent : List Sent) → reported deed.said (own_texts before now) ≡ own_texts before now → now.lines ≡ before.lines ++ own → now.sent ≡ before.sent ++ sent
-    → texts_of x h deed before now ≡ outside_texts deed.device h.told ++ own ++ deed.texts ++ traced x.trace (message_texts deed.actor (length before.sent) sent)
-texts-are x h deed before now own sent says lines-are sent-are =
-    ap (λ (texts : List Text). outside_texts deed.device h.told ++ texts ++ deed.texts ++ traced x.trace (message_texts deed.actor (length before.sent) (drop (length before.sent) now.sent)))
-    (says ∙ ap (λ (ls : List Text). drop (length before.lines) ls) lines-are ∙ drop-append_seam before.lines own)
-    ∙ ap (λ (ms : List Sent). outside_texts deed.device h.told ++ own ++ deed.texts ++ traced x.trace (message_texts deed.actor (length before.sent) ms))
+-- the texts of a step, where what the system reported and sent in it is known, and what is said of that
+pub texts-are : (x : Setup) (h : Chance) (deed : Deed) (before now : World) (own texts : List Text) (sent : List Sent) → reported deed.said own ≡ texts → now.lines ≡ before.lines ++ own → now.sent ≡ before.sent ++ sent
+    → texts_of x h deed before now ≡ outside_texts deed.device h.told ++ texts ++ deed.texts ++ traced x.trace (message_texts deed.actor (length before.sent) sent)
+texts-are x h deed before now own texts sent says lines-are sent-are =
+    ap (λ (ts : List Text). outside_texts deed.device h.told ++ ts ++ deed.texts ++ traced x.trace (message_texts deed.actor (length before.sent) (drop (length before.sent) now.sent)))
+    (ap (λ (ls : List Text). reported deed.said (drop (length before.lines) ls)) lines-are ∙ ap (reported deed.said) (drop-append_seam before.lines own) ∙ says)
+    ∙ ap (λ (ms : List Sent). outside_texts deed.device h.told ++ texts ++ deed.texts ++ traced x.trace (message_texts deed.actor (length before.sent) ms))
     (ap (λ (ms : List Sent). drop (length before.sent) ms) sent-are ∙ drop-append_seam before.sent sent)
 
 pub lines-append : (when : When) (a b : List Text) → lines_at when (a ++ b) ≡ lines_at when a ++ lines_at when b

@@ -102,10 +102,10 @@ module _ {S : Type 0} (look : S → StoreView) (device : S → DeviceState) (see
     rest-next event e = record {
       task = Rests;
       next = rests;
-      deed = λ h same. ap (λ (f : ServerNo → Bool). resting x h m.state.clients v (next_in x f m.state.course)) (fun_ext same) ∙ ap (λ (o : Option Event). resting x h m.state.clients v o) e;
+      deed = λ h same. ap (λ (f : ServerNo → Bool). resting x h m.state.callers v (next_in x f m.state.course)) (fun_ext same) ∙ ap (λ (o : Option Event). resting x h m.state.callers v o) e;
       begun_is = refl;
     }
 
     -- It is over where nothing is left.
     pub rest-over-step : next_in x rubbish m.state.course ≡ None → (lines : List Line) → IsStepTo look device x m (drop 1 m.state.tasks) w lines lines
-    rest-over-step e lines = nothing-step look device seen x w m stand Rests [] rests refl (ap (λ (o : Option Event). resting x (no-chance look device seen x w m stand) m.state.clients v o) e) lines
+    rest-over-step e lines = nothing-step look device seen x w m stand Rests [] rests refl (ap (λ (o : Option Event). resting x (no-chance look device seen x w m stand) m.state.callers v o) e) lines

@@ -89,7 +89,7 @@ module _ {S : Type 0} (look : S → StoreView) (device : S → DeviceState) (see
           );
           counts = counts;
         })
-        (ap (λ (u : World). u.clients) after-up)
+        (refl, refl)
         (net-named look device x w m stand (go_on (Restart q up.pick up.works tids ∷ []) m.state.course) own (carries-on w.net m.state.course (Restart q up.pick up.works tids) refl (ap (λ (u : World). u.sent) after-up) stand.net) after-lines)
         after-lines (ap (λ (u : World). u.sent) after-up)
         ((subst (λ (y : StableState). AreNames work_eq work_before y.works up.works) (sym found-there) up.work_names, subst (λ (y : StableState). AreNames tid_eq tid_before y.flags tids) (sym found-there) up.flag_names), tt)

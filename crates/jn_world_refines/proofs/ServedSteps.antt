@@ -19,7 +19,7 @@ module _ {S : Type 0} (look : S → StoreView) (device : S → DeviceState) (see
 
   -- the event is done by these steps of the system, which do the row or stop it, and leave these messages of those before
   pub record IsRowStep : Type 0 where
-    pub acts : (told : List Outside) (stop : Option (Pick → Left)) → acted x (chance look device seen x w m stand q place at p is reads told stop) event m.state.clients v ≡ served q calls (step stop ∷ [])
+    pub acts : (told : List Outside) (stop : Option (Pick → Left)) → acted x (chance look device seen x w m stand q place at p is reads told stop) event m.state.callers v ≡ served q calls (step stop ∷ [])
     pub does : (stop : Option (Pick → Left)) → after (step stop) v ≡ ends q k stop row v
     pub may : (stop : Option (Pick → Left)) → IsStep (step stop) v
     pub delivers : (stop : Option (Pick → Left)) → delivered_by (step stop) w.net.sent ≡ sent
@@ -57,7 +57,7 @@ module _ {S : Type 0} (look : S → StoreView) (device : S → DeviceState) (see
         parts = record {
           trace = stand.trace;
           servers = server-moved look device seen x w m stand last q place (Up p') at alone;
-          clients = clients-same look device seen x w m stand last.state.course.world (ap (λ (u : World). u.clients) (acts.does None));
+          clients = clients-same look device seen x w m stand;
           net = subst (λ (ms : List Posted). NetStands (record w.net { sent = ms ++ posted_by (Server q) row.messages }) (λ T. has_line T (lines_of q k row.notes) || w.named T) (w.commits + length (commits_in (lines_of q k row.notes))) (go (step None) m.state.course))
               (acts.delivers None) (net-moved look device seen x w m stand (step None) (posted_by (Server q) row.messages) (lines_of q k row.notes) (record {
                 new = new-posted (Server q) row.messages;
@@ -70,7 +70,7 @@ module _ {S : Type 0} (look : S → StoreView) (device : S → DeviceState) (see
             ≡ lines ++ lines_at (when_of m.state) (texts_of x h (served q calls (step None ∷ [])) v (after (step None) v))
         told-are = lines-in-two (when_of m.state) lines (texts_of_step q told true) (texts_sent q k w.trace (length w.net.sent) of-row)
             ∙ ap (λ (ts : List Text). lines ++ lines_at (when_of m.state) ts) (sym (
-            texts-are x h (served q calls (step None ∷ [])) v (after (step None) v) (lines_of q k row.notes) row.messages refl (ap (λ (u : World). u.lines) (acts.does None)) (ap (λ (u : World). u.sent) (acts.does None))
+            texts-are x h (served q calls (step None ∷ [])) v (after (step None) v) (lines_of q k row.notes) (lines_of q k row.notes) row.messages refl (ap (λ (u : World). u.lines) (acts.does None)) (ap (λ (u : World). u.sent) (acts.does None))
             ∙ in-order (outside_texts (Calls q calls) told) (lines_of q k row.notes) (traced x.trace (message_texts (Server q) (length v.sent) row.messages)) (traced w.trace (message_texts (Server q) (length w.net.sent) row.messages))
             (ap (λ (b : Bool). traced b (message_texts (Server q) (length v.sent) row.messages)) (sym stand.trace) ∙ ap (λ (n : ℕ). traced w.trace (message_texts (Server q) n row.messages)) length-is)))
 
@@ -98,7 +98,7 @@ module _ {S : Type 0} (look : S → StoreView) (device : S → DeviceState) (see
         parts = record {
           trace = stand.trace;
           servers = server-moved look device seen x w m stand last q place (Down s) at alone;
-          clients = clients-same look device seen x w m stand last.state.course.world (ap (λ (u : World). u.clients) (acts.does stop));
+          clients = clients-same look device seen x w m stand;
           net = subst (λ (ms : List Posted). NetStands (record w.net { sent = ms ++ [] }) w.named (w.commits + 0) (go (step stop) m.state.course))
               (acts.delivers stop) (net-moved look device seen x w m stand (step stop) [] (says.Stopped q ∷ []) (record {
                 new = refl;
@@ -111,7 +111,7 @@ module _ {S : Type 0} (look : S → StoreView) (device : S → DeviceState) (see
             ≡ lines ++ lines_at (when_of m.state) (texts_of x h (served q calls (step stop ∷ [])) v (after (step stop) v))
         told-are = lines-in-two (when_of m.state) lines (texts_of_step q told false) []
             ∙ ap (λ (ts : List Text). lines ++ lines_at (when_of m.state) ts) (sym (
-            texts-are x h (served q calls (step stop ∷ [])) v (after (step stop) v) (says.Stopped q ∷ []) [] refl (ap (λ (u : World). u.lines) (acts.does stop)) (ap (λ (u : World). u.sent) (acts.does stop) ∙ sym (append-nil v.sent))
+            texts-are x h (served q calls (step stop ∷ [])) v (after (step stop) v) (says.Stopped q ∷ []) (says.Stopped q ∷ []) [] refl (ap (λ (u : World). u.lines) (acts.does stop)) (ap (λ (u : World). u.sent) (acts.does stop) ∙ sym (append-nil v.sent))
             ∙ ap (λ (ts : List Text). outside_texts (Calls q calls) told ++ says.Stopped q ∷ [] ++ [] ++ ts) (none-traced x.trace)
             ∙ ap (λ (ts : List Text). ts ++ []) (append-nil (outside_texts (Calls q calls) told ++ says.Stopped q ∷ []))))
 

@@ -4,7 +4,7 @@ use Rattle.jn_server.specs.Counted.{CountsAll}
 use Rattle.jn_world_refines.proofs.WaitingNumbers.{carries-step}
 use Rattle.jn_world_refines.proofs.Placed.{each-set}
 use Rattle.jn_world_refines.proofs.Lines.{line-append, count-append}
-use Rattle.jn_world_refines.proofs.Core.{ServersStand, ClientsStand, NetStands, client-is, other-is}
+use Rattle.jn_world_refines.proofs.Core.{ServersStand, ClientsStand, NetStands}
 
 module _ {S : Type 0} (look : S → StoreView) (device : S → DeviceState) (seen : (s : S) → look s ≡ pairs_view (device s)) (x : Setup) (w : Standing S) (m : Moment) (stand : Stands look device x w m) where
   -- ---- servers
@@ -116,12 +116,8 @@ module _ {S : Type 0} (look : S → StoreView) (device : S → DeviceState) (see
 
   -- ---- clients
 
-  pub clients-same : (v : World) → v.clients ≡ m.state.course.world.clients → ClientsStand x w.clients v
-  clients-same v e = record {
-    eight = stand.eight;
-    clients = λ n t g. ap (λ (f : ClientNo → ClientTable). f (record { 0 = suc n })) e ∙ client-is look device x w m stand n t g;
-    others = λ c o. ap (λ (f : ClientNo → ClientTable). f c) e ∙ other-is look device x w m stand c o;
-  }
+  pub clients-same : ClientsStand x w.clients m.state.callers
+  clients-same = record { eight = stand.eight; clients = stand.clients; others = stand.other_clients; calls = stand.calls }
 
   -- ---- the network, and what was named
 
@@ -141,6 +137,20 @@ module _ {S : Type 0} (look : S → StoreView) (device : S → DeviceState) (see
     where
       turn : (a b : Bool) → (a || b) ≡ (b || a)
       turn a b = grind arith
+
+  -- after steps that name no commit, whatever the network is
+  pub net-quietly : (n : Carried) (own : List Text) (c : Course) → Carries n c → c.world.lines ≡ m.state.course.world.lines ++ own → commits_in own ≡ [] → NetStands n w.named w.commits c
+  net-quietly n own c carries e none = record {
+    net = carries;
+    named = λ T. stand.named T ∙ no-more (has_line T m.state.course.world.lines) (has_line T own) (ap (list_any (λ U. tid_eq U T)) none) ∙ sym (line-append T m.state.course.world.lines own) ∙ ap (has_line T) (sym e);
+    commits = stand.commits ∙ as-many (length (commits_in m.state.course.world.lines)) (length (commits_in own)) (ap length none) ∙ sym (count-append m.state.course.world.lines own) ∙ ap (λ (ls : List Text). length (commits_in ls)) (sym e);
+  }
+    where
+      no-more : (a b : Bool) → b ≡ false → a ≡ (a || b)
+      no-more a b h = grind arith
+
+      as-many : (a b : ℕ) → b ≡ 0 → a ≡ a + b
+      as-many a b h = omega (arith, h)
 
   pub net-same : NetStands w.net w.named w.commits m.state.course
   net-same = record { net = stand.net; named = stand.named; commits = stand.commits }

@@ -9,7 +9,7 @@ use Rattle.jn_world_refines.proofs.Made.{quiet_chance, made-step, quiet-texts}
 module _ {S : Type 0} (look : S → StoreView) (device : S → DeviceState) (x : Setup) (w : Standing S) (m : Moment) (stands : Stands look device x w m) where
   -- only tasks and lines change
   pub still-stands : (tasks : List Task) (lines : List Line) (stage : Stage) → history_of lines ≡ history_of m.state.lines
-      → Stands look device x w (record { state = record { course = m.state.course; clients = m.state.clients; tasks = tasks; lines = lines; stage = stage }; devices = m.devices })
+      → Stands look device x w (record { state = record { course = m.state.course; callers = m.state.callers; tasks = tasks; lines = lines; stage = stage }; devices = m.devices })
   still-stands tasks lines stage e = record {
     servers = stands.servers;
     trace = stands.trace;
@@ -18,6 +18,7 @@ module _ {S : Type 0} (look : S → StoreView) (device : S → DeviceState) (x :
     clients = stands.clients;
     other_clients = stands.other_clients;
     tables = stands.tables;
+    calls = stands.calls;
     net = stands.net;
     named = stands.named;
     commits = stands.commits;
@@ -48,7 +49,7 @@ module _ {S : Type 0} (look : S → StoreView) (device : S → DeviceState) (x :
       → IsStepTo look device x m (drop 1 m.state.tasks) w lines (lines ++ record { when = when_of m.state; text = says.RefusedEvent refusal } ∷ [])
   refused-step event refusal lines next refused =
       still-step (Meets event) (says.RefusedEvent refusal ∷ []) [] lines (lines ++ record { when = when_of m.state; text = says.RefusedEvent refusal } ∷ []) next
-      (ap (met x (quiet_chance x m.devices) event m.state.clients m.state.course.world) refused) refl refl refl
+      (ap (met x (quiet_chance x m.devices) event m.state.callers m.state.course.world) refused) refl refl refl
 
   -- a settle begins
   pub settles-step : (lines : List Line) → next_task m.state ≡ Some (Meets events.Settle) → IsStepTo look device x m (settling x ++ drop 1 m.state.tasks) w lines lines
@@ -63,7 +64,7 @@ module _ {S : Type 0} (look : S → StoreView) (device : S → DeviceState) (x :
 
   -- the next event begins
   event-stands : (tasks : List Task) (lines : List Line) (stage : Stage) → history_of lines ≡ history_of m.state.lines
-      → Stands look device x w (record { state = record { course = go NextEvent m.state.course; clients = m.state.clients; tasks = tasks; lines = lines; stage = stage }; devices = m.devices })
+      → Stands look device x w (record { state = record { course = go NextEvent m.state.course; callers = m.state.callers; tasks = tasks; lines = lines; stage = stage }; devices = m.devices })
   event-stands tasks lines stage e = record {
     servers = stands.servers;
     trace = stands.trace;
@@ -72,6 +73,7 @@ module _ {S : Type 0} (look : S → StoreView) (device : S → DeviceState) (x :
     clients = stands.clients;
     other_clients = stands.other_clients;
     tables = stands.tables;
+    calls = stands.calls;
     net = subst (λ (sent : List Posted). Carries (record w.net { sent = sent }) (go NextEvent m.state.course)) (append-nil w.net.sent)
         (carries-step w.net m.state.course NextEvent [] stands.net refl (sym (append-nil m.state.course.world.sent)));
     named = stands.named;

@@ -99,7 +99,7 @@ module _ {S : Type 0} (look : S → StoreView) (device : S → DeviceState) (see
           here = (ap (λ (u : World). u.memory q) stop-is ∙ there.0, ap (λ (u : World). u.found q) stop-is ∙ fun_ext stop-found, device-here look device x w m stand seen q place at (device t));
           counts = counts;
         })
-        (ap (λ (u : World). u.clients) stop-is)
+        (refl, refl)
         (net-quiet look device x w m stand (go_on (Narrow q finds ∷ StopRestart q raised ∷ []) m.state.course) (says.Stopped q ∷ []) stop-carries (ap (λ (u : World). u.lines) stop-is) refl)
         (ap (λ (u : World). u.lines) stop-is) (ap (λ (u : World). u.sent) stop-is) (tt, (tt, tt))
         (record {
@@ -157,7 +157,7 @@ module _ {S : Type 0} (look : S → StoreView) (device : S → DeviceState) (see
         moved-step look device x w m stand seen q place at used-chance (λ s. refl) (record (given_up used-chance q) { texts = says.RefusedEvent EpochsUsedUp ∷ []; tasks = deed.tasks }) (subst (λ (d : Deed). Does x m used-chance d) deed-is does) refl
         (Down t) (device t) [] w.named w.commits
         (used-alone counts (led-to x m used-chance (record (given_up used-chance q) { texts = says.RefusedEvent EpochsUsedUp ∷ []; tasks = deed.tasks }) (devices-now look device x w m stand seen q place at (device t))) refl refl)
-        (ap (λ (u : World). u.clients) (after-narrow reads))
+        (refl, refl)
         (net-quiet look device x w m stand (go_on (Narrow q reads ∷ []) m.state.course) [] (carries-on w.net m.state.course (Narrow q reads) refl (ap (λ (u : World). u.sent) (after-narrow reads)) stand.net)
         (ap (λ (u : World). u.lines) (after-narrow reads) ∙ sym (append-nil world.lines)) refl)
         (ap (λ (u : World). u.lines) (after-narrow reads) ∙ sym (append-nil world.lines)) (ap (λ (u : World). u.sent) (after-narrow reads)) (tt, tt) used-device

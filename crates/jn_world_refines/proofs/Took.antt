@@ -31,8 +31,8 @@ module _ {S : Type 0} (look : S → StoreView) (device : S → DeviceState) (see
         mem : Memory
         mem = memory_of (view_with look p)
 
-        acts : (told : List Outside) (stop : Option (Pick → Left)) → delivered (chance look device seen x w m stand q place at p is reads told stop) k m.state.clients m.state.course.world (slice_get m.state.course.world.sent k) ≡ served q row_calls (handing k its stop ∷ [])
-        acts told stop = ap (delivered (chance look device seen x w m stand q place at p is reads told stop) k m.state.clients m.state.course.world) (is-sent (Server q) to)
+        acts : (told : List Outside) (stop : Option (Pick → Left)) → delivered (chance look device seen x w m stand q place at p is reads told stop) k m.state.callers m.state.course.world (slice_get m.state.course.world.sent k) ≡ served q row_calls (handing k its stop ∷ [])
+        acts told stop = ap (delivered (chance look device seen x w m stand q place at p is reads told stop) k m.state.callers m.state.course.world) (is-sent (Server q) to)
             ∙ ap (delivered_at (chance look device seen x w m stand q place at p is reads told stop) k q) (let stands = here look device seen x w m stand q place at p is reads in stands.0)
             ∙ ap (λ (r : Room). served q row_calls (handing k r stop ∷ [])) (room-is look device seen x w m stand q place at p is reads told stop)
 
