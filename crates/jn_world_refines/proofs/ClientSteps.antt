@@ -1,6 +1,7 @@
 -- A client takes a message; where a call goes on, its next operation is sent in the same step.
 use Rattle.jn_world_refines.proofs.Common.{◌≡◌, ◌⊎◌, inl, inr, ◌-◌, ℕ, Bool, true, false, List, [], ◌∷◌, ◌++◌, append-nil, length, drop, slice_get, Option, Some, None, refl, sym, ◌∙◌, ap, subst, if◌then◌else◌, ServerNo, ClientNo, Client, client_eq, DeviceState, Posted, with_delivered, Step, Deliver, Tell, IsRun, run, after, World, at_client, Message, Line, Text, Course, go, go_on, Carries, Sent, pairs_view, StoreView, Setup, delivered, no_room, Moment, message_texts, traced, lines_at, Task, when_of, Standing, is_client_number, Stands, posted_by, with_sent, with_client, texts_taken, ActsNext, IsStepTo, left-told, took_message, Beside, Pick}
 use Rattle.jn_base.specs.declared.op.Command.TheVariants.{Do}
+use Rattle.jn_msgs.specs.declared.message.Message.TheVariants as messages
 use Rattle.jn_schedule.specs.declared.Event.TheVariants as events
 use Rattle.jn_callers.specs.declared.taken.Taken.{Taken}
 use Rattle.jn_callers.specs.Callers.{Caller, new_caller, take_call_row}
@@ -12,7 +13,7 @@ use Rattle.jn_world_refines.proofs.Core.{ClientsStand, run-is}
 use Rattle.jn_world_refines.proofs.Servers.{servers-same, net-quietly}
 use Rattle.jn_world_refines.proofs.Clients.{here-of, client-moved, other-stays, new-stays}
 use Rattle.jn_world_refines.proofs.Left.{AreQuiet}
-use Rattle.jn_world_refines.proofs.Ordered.{same-client, own_world, own-sends, IsOfClients, one-then, delivered-so, Next, none_next, op_next, next-of, next-so, message-sends}
+use Rattle.jn_world_refines.proofs.Ordered.{same-client, own_world, own-sends, IsOfClients, one-then, delivered-so, Next, none_next, op_next, next-of, next-so, SendsSo, message-sends}
 use Rattle.jn_world_refines.proofs.Plain.{no-chance, steps-step}
 use Rattle.jn_world_refines.proofs.Posted.{sent-posted, new-posted}
 use Rattle.jn_world_refines.proofs.Took.{is-sent}
@@ -41,7 +42,7 @@ module _ {S : Type 0} (look : S → StoreView) (device : S → DeviceState) (see
       where
         by : (what : Taken) → Next c what → IsRun (steps what) v
         by _ (none_next what e) = subst (λ (more : List Step). IsRun (Deliver k no_room ∷ more) v) (sym e) (tt, tt)
-        by _ (op_next to client request W number op) = (tt, tt, tt)
+        by _ (op_next to client request W number op) = (tt, (tt, tt))
 
     steps-quiet : (what : Taken) (s : ServerNo) → AreQuiet v (steps what) s
     steps-quiet what s = by what (next-of c what)
@@ -71,9 +72,9 @@ module _ {S : Type 0} (look : S → StoreView) (device : S → DeviceState) (see
         by _ (op_next to client request W number op) (inl e) all = absurd (clash (Tell c (Do W.server op)) e)
         by _ (op_next to client request W number op) (inr e) all =
             let between : Carries (record w.net { sent = with_delivered k w.net.sent }) (go (Deliver k no_room) m.state.course) =
-                subst (λ (ms : List Posted). Carries (record w.net { sent = ms }) (go (Deliver k no_room) m.state.course)) (append-nil (with_delivered k w.net.sent)) (delivery [] (e ∙ sym (append-nil v.sent))) in
-            carries-step (record w.net { sent = with_delivered k w.net.sent }) (go (Deliver k no_room) m.state.course) (Tell c (Do W.server op)) _ between refl
-            (all ∙ ap (λ (ms : List Sent). ms ++ _ ∷ []) (sym e))
+            subst (λ (ms : List Posted). Carries (record w.net { sent = ms }) (go (Deliver k no_room) m.state.course)) (append-nil (with_delivered k w.net.sent)) (delivery [] (e ∙ sym (append-nil v.sent))) in
+            carries-step (record w.net { sent = with_delivered k w.net.sent }) (go (Deliver k no_room) m.state.course) (Tell c (Do W.server op)) (posted_by (Client c) ((to, messages.Op client request W number op) ∷ [])) between refl
+            (all ∙ ap (λ (ms : List Sent). ms ++ (to, messages.Op client request W number op) ∷ []) (sym e))
 
     takes : (cs : List Caller) → ClientsStand x cs (at_client m.state.callers c (take_call_row its one.message).0) → (more : List Task) → ActsNext x m (events.Deliver k) more → (lines : List Line)
         → IsStepTo look device x m (more ++ drop 1 m.state.tasks)
@@ -98,6 +99,7 @@ module _ {S : Type 0} (look : S → StoreView) (device : S → DeviceState) (see
         so : IsOfClients v (run (steps what) v)
         so = steps-so what
 
+        own-so : SendsSo (own_world m.state.callers v) k c what
         own-so = let tables = stand.tables c in message-sends m.state.callers v k c one.message there tables.caller
 
         sent : (run (steps what) v).sent ≡ v.sent ++ sent_taken what

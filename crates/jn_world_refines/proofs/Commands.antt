@@ -1,5 +1,5 @@
 -- Steps of clients without a message: each is told a command or a call, or sends once more.
-use Rattle.jn_world_refines.proofs.Common.{◌≡◌, ◌-◌, ℕ, Bool, true, List, [], ◌∷◌, ◌++◌, append-nil, length, slice_get, drop, Some, None, refl, sym, ◌∙◌, ap, subst, if◌then◌else◌, ServerNo, ClientNo, Client, client_eq, DeviceState, Posted, Step, IsRun, run, Tell, Again, sent_now, World, at_client, Line, Course, go_on, Carries, Sent, Commanded, Refuses, command_row, again_row, pairs_view, StoreView, Setup, acted, Moment, message_texts, traced, lines_at, Task, when_of, Standing, is_client_number, Stands, posted_by, with_sent, with_client, ActsNext, IsStepTo}
+use Rattle.jn_world_refines.proofs.Common.{false, ◌≡◌, ◌-◌, ℕ, Bool, true, List, [], ◌∷◌, ◌++◌, append-nil, length, slice_get, drop, Some, None, refl, sym, ◌∙◌, ap, subst, if◌then◌else◌, ServerNo, ClientNo, Client, client_eq, DeviceState, Posted, Step, IsRun, run, Tell, Again, sent_now, World, at_client, Line, Course, go_on, Carries, Sent, Commanded, Refuses, command_row, again_row, pairs_view, StoreView, Setup, acted, Moment, message_texts, traced, lines_at, Task, when_of, Standing, is_client_number, Stands, posted_by, with_sent, with_client, ActsNext, IsStepTo}
 use Rattle.jn_schedule.specs.declared.Event.TheVariants as events
 use Rattle.jn_rows.specs.Client.{Sends}
 use Rattle.jn_calls.specs.declared.order.Order.{Order}
@@ -47,18 +47,18 @@ module _ {S : Type 0} (look : S → StoreView) (device : S → DeviceState) (see
     may : IsRun steps v
     may = by its row
       where
-        by : (its : Commanded) (row : Ordered) → IsRun (steps_ordered c order its row) v
+        by : (command : Commanded) (row : Ordered) → IsRun (steps_ordered c order command row) v
         by (Refuses other) (Refused refusal) = (tt, tt)
         by (Sends now to message) (Refused refusal) = tt
-        by its (Accepted now to message) = (tt, tt)
+        by command (Accepted now to message) = (tt, tt)
 
     quiet : (s : ServerNo) → AreQuiet v steps s
     quiet s = by its row
       where
-        by : (its : Commanded) (row : Ordered) → AreQuiet v (steps_ordered c order its row) s
+        by : (command : Commanded) (row : Ordered) → AreQuiet v (steps_ordered c order command row) s
         by (Refuses other) (Refused refusal) reads n = refl
         by (Sends now to message) (Refused refusal) reads n = refl
-        by its (Accepted now to message) reads n = refl
+        by command (Accepted now to message) reads n = refl
 
     sent : (run steps v).sent ≡ v.sent ++ sent_ordered row
     sent = own-sends m.state.callers v (λ d. let tables = stand.tables d in tables.table) steps (v.sent ++ sent_ordered row)
@@ -72,11 +72,11 @@ module _ {S : Type 0} (look : S → StoreView) (device : S → DeviceState) (see
             → Carries (record w.net { sent = w.net.sent ++ posted_by (Client c) messages }) (go_on (Tell c (command_of order) ∷ []) m.state.course)
         one step messages e = carries-step w.net m.state.course (Tell c (command_of order)) (posted_by (Client c) messages) stand.net (new-posted (Client c) messages) (e ∙ ap (λ (ms : List Sent). v.sent ++ ms) (sym (sent-posted (Client c) messages)))
 
-        by : (its : Commanded) (row : Ordered) → (run (steps_ordered c order its row) v).sent ≡ v.sent ++ sent_ordered row
-            → Carries (record w.net { sent = w.net.sent ++ posted_by (Client c) (sent_ordered row) }) (go_on (steps_ordered c order its row) m.state.course)
+        by : (command : Commanded) (row : Ordered) → (run (steps_ordered c order command row) v).sent ≡ v.sent ++ sent_ordered row
+            → Carries (record w.net { sent = w.net.sent ++ posted_by (Client c) (sent_ordered row) }) (go_on (steps_ordered c order command row) m.state.course)
         by (Refuses other) (Refused refusal) e = one (Tell c (command_of order)) [] e
         by (Sends now to message) (Refused refusal) e = subst (λ (ms : List Posted). Carries (record w.net { sent = ms }) m.state.course) (sym (append-nil w.net.sent)) stand.net
-        by its (Accepted now to message) e = one (Tell c (command_of order)) ((to, message) ∷ []) e
+        by command (Accepted now to message) e = one (Tell c (command_of order)) ((to, message) ∷ []) e
 
     here-now : (row : Ordered) → callers_ordered c row m.state.callers c ≡ after_order row t
     here-now (Refused refusal) = here-is

@@ -1,6 +1,6 @@
 -- What the system's steps for a client send and report. They send what they would where the system had the client's own table, since
 -- the two differ in numbers of events alone.
-use Rattle.jn_world_refines.proofs.Common.{◌≡◌, ◌⊎◌, inl, inr, ◌≢◌, ℕ, Bool, true, false, List, [], ◌∷◌, ◌++◌, append-nil, append_assoc, Option, Some, None, refl, sym, ◌∙◌, ap, subst, arith, true≢false, ◌&&◌, nat_lt, if◌then◌else◌, fun_ext, nat_tests, slice_get, is_some, ServerNo, ClientNo, Tid, Client, client_eq, server_eq, server_tells, Message, World, at_client, commits_in, Text, Taken, ClientTable, Commanded, Refuses, command_row, take_row, if_waits, ignored, again_row, Sent, Step, Deliver, Tell, Again, after, took, handed, commanded, sent_now, run, no_room}
+use Rattle.jn_world_refines.proofs.Common.{◌+◌, ◌≡◌, ◌⊎◌, inl, inr, ◌≢◌, ℕ, Bool, true, false, List, [], ◌∷◌, ◌++◌, append-nil, append_assoc, Option, Some, None, refl, sym, ◌∙◌, ap, subst, arith, true≢false, ◌&&◌, nat_lt, if◌then◌else◌, fun_ext, nat_tests, slice_get, is_some, ServerNo, ClientNo, Tid, Client, client_eq, server_eq, server_tells, Message, World, at_client, commits_in, Text, Taken, ClientTable, Commanded, Refuses, command_row, take_row, if_waits, ignored, again_row, Sent, Step, Deliver, Tell, Again, after, took, handed, commanded, sent_now, run, no_room}
 use Rattle.jn_base.specs.declared.names.Party.{Party}
 use Rattle.jn_base.specs.declared.names.Party.TheVariants.{Server}
 use Rattle.jn_base.specs.declared.names.RequestNo.{RequestNo}
@@ -118,14 +118,14 @@ module _ (callers : ClientNo → Caller) (v : World) (c : ClientNo) (order : Ord
 -- a work is found at its server
 work-there : (s : ServerNo) (ws : List OpenWork) (w : OpenWork) → work_at s ws ≡ Some w → w.work.server ≡ s
 work-there s [] w e = absurd (cc e)
-work-there s (a ∷ ws) w e = by (server_tells a.work.server s)
+work-there s (a ∷ ws) w e = by (server_tells a.work.server s) (work-there s ws w)
   where
     one : (a b : OpenWork) → Some a ≡ Some b → a ≡ b
     one a b e = cc
 
-    by : ((server_eq a.work.server s ≡ true) × (a.work.server ≡ s)) ⊎ ((server_eq a.work.server s ≡ false) × (a.work.server ≢ s)) → w.work.server ≡ s
-    by (inl t) = ap (λ (b : OpenWork). b.work.server) (sym (one a w (ap (λ (b : Bool). if b then Some a else work_at s ws) (sym t.0) ∙ e))) ∙ t.1
-    by (inr t) = work-there s ws w (ap (λ (b : Bool). if b then Some a else work_at s ws) (sym t.0) ∙ e)
+    by : ((server_eq a.work.server s ≡ true) × (a.work.server ≡ s)) ⊎ ((server_eq a.work.server s ≡ false) × (a.work.server ≢ s)) → (work_at s ws ≡ Some w → w.work.server ≡ s) → w.work.server ≡ s
+    by (inl t) later = ap (λ (b : OpenWork). b.work.server) (sym (one a w (ap (λ (b : Bool). if b then Some a else work_at s ws) (sym t.0) ∙ e))) ∙ t.1
+    by (inr t) later = later (ap (λ (b : Bool). if b then Some a else work_at s ws) (sym t.0) ∙ e)
 
 -- An operation is refused, or the system is told it and sends the same message, whatever the number of the event.
 abbrev IsSameOperation : ClientNo → ServerNo → Op → (ℕ → Commanded) → Commanded → Type 0
