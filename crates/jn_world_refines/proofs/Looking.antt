@@ -79,7 +79,7 @@ module _ {S : Type 0} (look : S → StoreView) (device : S → DeviceState) (see
         (does-next x m (events.Scrub q) more next (idling look device seen x w m stand q place at p is told None) (λ r. refl) (scrubs []) refl) refl
         (Up p') (device p'.storage.0) [] w.named w.commits
         (done-alone look device seen x w m stand q place at p is told _ p' e counts (led-to x m (idling look device seen x w m stand q place at p is told None) (record (scrubs []) { tasks = more }) (devices-now look device x w m stand seen q place at (device p'.storage.0))) refl refl)
-        refl (record { net = stand.net; named = stand.named; commits = stand.commits }) (sym (append-nil world.lines)) refl tt
+        (refl, refl) (record { net = stand.net; named = stand.named; commits = stand.commits }) (sym (append-nil world.lines)) refl tt
         (cleaned told None true p'.storage.0 refl e.spent (λ none. clean.clean) (λ none. clean.whole))
         (λ r o reads n. refl) (leaves-from look (beside_by x m.devices q) world q [] place.slot (Up p) (Up p') is kept)
         lines (lines ++ lines_at (when_of m.state) (texts_of_step q told true)) (ap (λ (ts : List Text). lines ++ lines_at (when_of m.state) ts) (sym (append-nil (texts_of_step q told true))))
@@ -128,7 +128,7 @@ module _ {S : Type 0} (look : S → StoreView) (device : S → DeviceState) (see
         (does-next x m (events.Show q) more next h (λ r. refl) deed (ap (λ (texts : List Text). record (looks []) { texts = texts }) texts-are)) refl
         (Up p') (device p'.storage.0) [] w.named w.commits
         (done-alone look device seen x w m stand q place at p is told _ p' e counts (led-to x m h (record deed { tasks = more }) (devices-now look device x w m stand seen q place at (device p'.storage.0))) refl refl)
-        refl (record { net = stand.net; named = stand.named; commits = stand.commits }) (sym (append-nil world.lines)) refl tt
+        (refl, refl) (record { net = stand.net; named = stand.named; commits = stand.commits }) (sym (append-nil world.lines)) refl tt
         (reading told None (map print_of list) true (device p'.storage.0) refl e.spent
         (λ z. subst (λ (f : Pick → StableState). ArePrints (prints_in mem.worker (stable f).files) (map print_of list)) (sym found-is) prints))
         (λ r o reads n. refl) (leaves-from look (beside_by x m.devices q) world q [] place.slot (Up p) (Up p') is kept)

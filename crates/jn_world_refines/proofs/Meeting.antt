@@ -1,12 +1,13 @@
 -- An event that isn't refused, and one of a settle or of the end, is what the next task does.
-use Rattle.jn_world_refines.proofs.Common.{◌≡◌, ℕ, Bool, true, false, List, [], ◌∷◌, Option, Some, None, refl, ◌∙◌, ap, if◌then◌else◌, slice_get, ServerNo, Client, Server, EpochsUsedUp, Event, Sent, World, Memory, Setup, Chance, Task, Meets, Acts, GoesDown, next_task, Deed, served, nothing, delivered_at, delivered, is_busy, working_steps, worked, crashed_at, is_used_up, given_up, recovered, restarted, acted, met, refusal_of, Moment, ActsNext, is_settle, step_calls, ClientNo, ClientTable}
+use Rattle.jn_world_refines.proofs.Common.{◌≡◌, ℕ, Bool, true, false, List, [], ◌∷◌, Option, Some, None, refl, ◌∙◌, ap, if◌then◌else◌, slice_get, ServerNo, Client, Server, EpochsUsedUp, Event, Sent, World, Memory, Setup, Chance, Task, Meets, Acts, GoesDown, next_task, Deed, served, nothing, delivered_at, delivered, is_busy, working_steps, worked, crashed_at, is_used_up, given_up, recovered, restarted, acted, met, refusal_of, Moment, ActsNext, is_settle, step_calls, ClientNo}
 use Rattle.jn_report.specs.declared.line.Text.TheVariants as says
 use Rattle.jn_schedule.specs.declared.Event.TheVariants as events
+use Rattle.jn_callers.specs.Callers.{Caller}
 
 no-tasks : (d : Deed) → d.tasks ≡ [] → d ≡ record d { tasks = [] }
 no-tasks d e = ap (λ (tasks : List Task). record d { tasks = tasks }) e
 
-delivers : (h : Chance) (k : ℕ) (t : ClientNo → ClientTable) (w : World) (o : Option Sent) → (delivered h k t w o).tasks ≡ []
+delivers : (h : Chance) (k : ℕ) (t : ClientNo → Caller) (w : World) (o : Option Sent) → (delivered h k t w o).tasks ≡ []
 delivers h k t w None = refl
 delivers h k t w (Some (Client c, message)) = refl
 delivers h k t w (Some (Server q, message)) = by (w.memory q)
@@ -33,7 +34,7 @@ restarts h q w = by (is_used_up h q w)
     by true = refl
     by false = refl
 
-acts : (x : Setup) (h : Chance) (event : Event) (t : ClientNo → ClientTable) (w : World) → is_settle event ≡ false → (acted x h event t w).tasks ≡ []
+acts : (x : Setup) (h : Chance) (event : Event) (t : ClientNo → Caller) (w : World) → is_settle event ≡ false → (acted x h event t w).tasks ≡ []
 acts x h (events.Command c command) t w e = refl
 acts x h (events.Call c s call) t w e = refl
 acts x h (events.Again c) t w e = refl

@@ -1,7 +1,15 @@
 -- The number of the event under way rises where an event begins, and nowhere else.
-use Rattle.jn_world_refines.proofs.Common.{◌≡◌, ℕ, ◌+◌, Bool, true, false, List, [], ◌∷◌, ◌++◌, drop, map, Option, Some, None, refl, sym, ◌∙◌, ap, arith, ◌&&◌, if◌then◌else◌, slice_get, list_all, ServerNo, ClientNo, Client, Server, DeviceState, EventRefusal, EpochsUsedUp, Line, Sent, Pick, Event, StoreView, World, Memory, Room, Step, NextEvent, Course, go, go_on, handing, working, clients_from, Setup, Chance, Task, Begins, Meets, Acts, Rests, ComesUp, Dismisses, GoesDown, ClosesClients, CountsCommits, Stage, InSchedule, CutShort, AtEnd, State, when_at, when_of, next_at, next_task, begun, Deed, served, nothing, delivered_at, delivered, is_busy, working_steps, worked, stopped_idle, crashed_at, recovering, is_used_up, given_up, recovered, restarted, brought_up, servers_of, asking, settling, next_in, acted, met, resting, deed_of, refusal_of, Moment, DoesStep, Leads, none, more, is_too_much, come_to, cut_short, Standing, WentOn, begun_by, begins_in, step_calls, free_found, Left, maps_found, ClientTable}
+use Rattle.jn_world_refines.proofs.Common.{Commanded, Refuses, command_row, Deliver, no_room, ◌≡◌, ℕ, ◌+◌, Bool, true, false, List, [], ◌∷◌, ◌++◌, drop, map, Option, Some, None, refl, sym, ◌∙◌, ap, arith, ◌&&◌, if◌then◌else◌, slice_get, list_all, ServerNo, ClientNo, Client, Server, DeviceState, EventRefusal, EpochsUsedUp, Line, Sent, Pick, Event, StoreView, World, Memory, Room, Step, NextEvent, Course, go, go_on, handing, working, clients_from, Setup, Chance, Task, Begins, Meets, Acts, Rests, ComesUp, Dismisses, GoesDown, ClosesClients, CountsCommits, Stage, InSchedule, CutShort, AtEnd, State, when_at, when_of, next_at, next_task, begun, Deed, served, nothing, delivered_at, delivered, is_busy, working_steps, worked, stopped_idle, crashed_at, recovering, is_used_up, given_up, recovered, restarted, brought_up, servers_of, asking, settling, next_in, acted, met, resting, deed_of, refusal_of, Moment, DoesStep, Leads, none, more, is_too_much, come_to, cut_short, Standing, WentOn, begun_by, begins_in, step_calls, free_found, Left, maps_found}
 use Rattle.jn_report.specs.declared.line.Text.TheVariants as says
 use Rattle.jn_schedule.specs.declared.Event.TheVariants as events
+use Rattle.jn_msgs.specs.declared.message.Message.TheVariants as messages
+use Rattle.jn_rows.specs.Client.{Sends}
+use Rattle.jn_calls.specs.declared.order.Order.{Order}
+use Rattle.jn_calls.specs.declared.order.Order.TheVariants as orders
+use Rattle.jn_callers.specs.declared.taken.Taken.{Taken}
+use Rattle.jn_callers.specs.declared.taken.Taken.TheVariants as calls
+use Rattle.jn_callers.specs.Callers.{Caller, Ordered, Refused, Sent as Accepted, command_of, order_row, take_call_row}
+use Rattle.jn_machine.specs.Deeds.{next_told, steps_ordered}
 use Rattle.jn_machine.proofs.Telling.{event_after, adds}
 
 -- ---- steps that begin no event
@@ -54,9 +62,16 @@ hands : (h : Chance) (k : ℕ) (room : Room) (stop : Option (Pick → Left)) →
 hands h k room None = refl
 hands h k room (Some made) = refl
 
-delivers : (h : Chance) (k : ℕ) (t : ClientNo → ClientTable) (w : World) (o : Option Sent) → Quiet (delivered h k t w o)
+goes-on : (k : ℕ) (c : ClientNo) (what : Taken) → list_all keeps (Deliver k no_room ∷ next_told c what) ≡ true
+goes-on k c (calls.Send to (messages.Op client request W number op)) = refl
+goes-on k c (calls.Send to (messages.Begin client request)) = refl
+goes-on k c (calls.Send to message) = refl
+goes-on k c calls.Ignored = refl
+goes-on k c what = refl
+
+delivers : (h : Chance) (k : ℕ) (t : ClientNo → Caller) (w : World) (o : Option Sent) → Quiet (delivered h k t w o)
 delivers h k t w None = record { steps = refl; tasks = refl }
-delivers h k t w (Some (Client c, message)) = record { steps = refl; tasks = refl }
+delivers h k t w (Some (Client c, message)) = record { steps = goes-on k c (take_call_row (t c) message).1; tasks = refl }
 delivers h k t w (Some (Server q, message)) = by (w.memory q)
   where
     by : (o : Option Memory) → Quiet (delivered_at h k q o)
@@ -100,9 +115,14 @@ comes h q w = by (is_used_up h q w)
     by true = record { steps = refl; tasks = refl }
     by false = record { steps = recovers-so h q h.stop; tasks = refl }
 
-acts : (x : Setup) (h : Chance) (event : Event) (t : ClientNo → ClientTable) (w : World) → Quiet (acted x h event t w)
-acts x h (events.Command c command) t w = record { steps = refl; tasks = refl }
-acts x h (events.Call c s call) t w = record { steps = refl; tasks = refl }
+ordered : (c : ClientNo) (order : Order) (row : Commanded) (done : Ordered) → list_all keeps (steps_ordered c order row done) ≡ true
+ordered c order (Refuses other) (Refused refusal) = refl
+ordered c order (Sends t to message) (Refused refusal) = refl
+ordered c order row (Accepted now to message) = refl
+
+acts : (x : Setup) (h : Chance) (event : Event) (t : ClientNo → Caller) (w : World) → Quiet (acted x h event t w)
+acts x h (events.Command c command) t w = record { steps = ordered c (orders.Command command) (command_row (t c).table w.event command) (order_row (t c) w.event (orders.Command command)); tasks = refl }
+acts x h (events.Call c s call) t w = record { steps = ordered c (orders.Call s call) (command_row (t c).table w.event (command_of (orders.Call s call))) (order_row (t c) w.event (orders.Call s call)); tasks = refl }
 acts x h (events.Again c) t w = record { steps = refl; tasks = refl }
 acts x h (events.Deliver k) t w = delivers h k t w (slice_get w.sent k)
 acts x h events.Settle t w = record { steps = refl; tasks = settles-none x }
@@ -117,11 +137,11 @@ acts x h (events.Crash q) t w = crashes q (w.memory q)
 acts x h (events.Restart q) t w = restarts h q w
 acts x h (events.Show q) t w = record { steps = idles q h.stop; tasks = refl }
 
-meets : (x : Setup) (h : Chance) (event : Event) (t : ClientNo → ClientTable) (w : World) (o : Option EventRefusal) → Quiet (met x h event t w o)
+meets : (x : Setup) (h : Chance) (event : Event) (t : ClientNo → Caller) (w : World) (o : Option EventRefusal) → Quiet (met x h event t w o)
 meets x h event t w (Some refusal) = record { steps = refl; tasks = refl }
 meets x h event t w None = acts x h event t w
 
-rests : (x : Setup) (h : Chance) (t : ClientNo → ClientTable) (w : World) (o : Option Event) → Quiet (resting x h t w o)
+rests : (x : Setup) (h : Chance) (t : ClientNo → Caller) (w : World) (o : Option Event) → Quiet (resting x h t w o)
 rests x h t w None = record { steps = refl; tasks = refl }
 rests x h t w (Some event) = let a = acts x h event t w in record { steps = a.steps; tasks = refl }
 
