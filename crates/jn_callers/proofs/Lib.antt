@@ -3,3 +3,4 @@ pub mod Plain
 pub mod Fewer
 pub mod Sending
 pub mod Told
+pub mod Ranging

@@ -4,15 +4,12 @@ use Rattle.jn_base.specs.declared.call.ByteCommand.TheVariants.{ReadBytes, Write
 use Rattle.jn_base.specs.declared.call.Call.{Call}
 use Rattle.jn_base.specs.declared.call.Call.TheVariants.{OfBytes, OfNames}
 use Rattle.jn_base.specs.Limits.{block_size}
-use Rattle.jn_base.specs.Ops.{BlockInRange, CommandInRange}
-use Rattle.jn_msgs.specs.declared.message.Message.TheVariants as messages
+use Rattle.jn_base.specs.Ops.{CommandInRange}
 use Rattle.jn_names.specs.Calls.{Named}
 use Rattle.jn_calls.specs.declared.order.Order.{Order}
 use Rattle.jn_calls.specs.declared.order.Order.TheVariants as orders
 use Rattle.jn_calls.specs.Turns.{StateFits}
 use Rattle.jn_callers.specs.declared.doing.Doing.{Doing}
-use Rattle.jn_callers.specs.declared.taken.Taken.{Taken}
-use Rattle.jn_callers.specs.declared.taken.Taken.TheVariants.{Send}
 
 -- a write is of a block's bytes at most, and a name is one
 abbrev pub CallInRange : Call → Type 0
@@ -28,8 +25,3 @@ OrderInRange (orders.Call s call) = CallInRange call
 abbrev pub DoingFits : Option Doing → Type 0
 DoingFits None = ⊤
 DoingFits (Some d) = StateFits d.state
-
--- an operation that is sent asks for a block that a file can have
-abbrev pub BlockIsInRange : Taken → Type 0
-BlockIsInRange (Send to (messages.Op client request W number op)) = BlockInRange op
-BlockIsInRange taken = ⊤

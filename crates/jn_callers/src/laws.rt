@@ -15,7 +15,7 @@ ghost use Rattle.jn_callers.specs.declared.doing.Doing.{Doing};
 ghost use Rattle.jn_callers.specs.Callers.{Caller, Refused, Sent, new_caller, of_table, command_of, order_row, take_call_row, as_table};
 ghost use Rattle.jn_callers.specs.Texts.{RepliesAreTold};
 ghost use Rattle.jn_base.specs.Ops.{CommandInRange};
-ghost use Rattle.jn_callers.specs.Ranges.{OrderInRange, DoingFits, BlockIsInRange};
+ghost use Rattle.jn_callers.specs.Ranges.{OrderInRange, DoingFits};
 ghost use Rattle.jn_callers.specs.Laws.{IsCaller, after_order, by_table, is_sent, operations_sent, still, waits_at};
 
 /// What a client sends at an order is what its table sends at the order's command, a call's first operation; and what the table
@@ -56,13 +56,12 @@ pub fn a_caller_asks_fewer()
     ensures { (c : Caller) (m : Message) → operations_sent (take_call_row c m).1 + still (take_call_row c m).0.doing ≤ still c.doing }
 {}
 
-/// A call that may be given asks for blocks that files can have, from its first operation on, and with each answer. A write that
-/// would pass the last place is refused before it asks anything.
+/// A call that may be given asks first for a block that files can have, and stays such a call with each answer. A write that would
+/// pass the last place is refused before it asks anything.
 pub fn calls_stay_in_range()
     ensures first { (order : Order) → OrderInRange order → CommandInRange (command_of order) }
     ensures orders { (c : Caller) (j : ℕ) (order : Order) → DoingFits c.doing → OrderInRange order → DoingFits (after_order (order_row c j order) c).doing }
     ensures messages { (c : Caller) (m : Message) → DoingFits c.doing → DoingFits (take_call_row c m).0.doing }
-    ensures sent { (c : Caller) (m : Message) → IsCaller c → DoingFits c.doing → BlockIsInRange (take_call_row c m).1 }
 {}
 
 /// The lines that report how a call ends tell its client, of the event that asked for it.
