@@ -21,16 +21,16 @@ use Rattle.jn_callers.specs.declared.doing.Doing.{Doing}
 use Rattle.jn_callers.specs.declared.taken.Taken.{Taken}
 use Rattle.jn_callers.specs.declared.taken.Taken.TheVariants as taken
 use Rattle.jn_callers.specs.Callers.{Caller, Ordered, Refused, Sent as Accepted, command_of, order_row, take_call_row, dismissed_caller, with_table, as_table, last}
-use Rattle.jn_callers.specs.Laws.{IsCaller, after_order}
-use Rattle.jn_callers.proofs.Kept.{order-keeps, message-keeps}
+use Rattle.jn_callers.specs.Laws.{IsCaller, after_order, waits_at}
+use Rattle.jn_callers.proofs.Kept.{order-keeps, message-keeps, call-waits}
 use Rattle.jn_callers.proofs.Sending.{order-sent}
 use Rattle.jn_system.specs.WholeSystem.Numbers.{plain_client}
 use Rattle.jn_machine.specs.Callers.{HasItsTable, is_call}
 use Rattle.jn_machine.specs.Deeds.{steps_ordered, callers_ordered, texts_ordered, next_told}
 use Rattle.jn_machine.proofs.Alike.{Alike, idle-same, over-same, exact, row-same, SentBy, sent-anew, took-clients, take-alike}
 use Rattle.jn_machine.proofs.Computed.{may-lead}
-use Rattle.jn_machine.proofs.Taking.{answers_operation, is_of_client, table-goes-not, is_reply, takes-same, IsAnswered, Takes, by_table, unmoved, goes_further, comes_over, call-takes, taken-says, call-operation}
-use Rattle.jn_machine.proofs.Telling.{may_tell, is_of_delivery, both, first, second}
+use Rattle.jn_machine.proofs.Taking.{answers_operation, is_of_client, table-goes-not, is_reply, takes-same, IsAnswered, Takes, by_table, unmoved, goes_further, comes_over, call-takes, call-says, call-operation}
+use Rattle.jn_machine.proofs.Telling.{may_tell, is_of_delivery, both, weaker}
 
 -- ---- steps of servers leave the clients
 
@@ -251,6 +251,10 @@ module _ (f : ClientNo → Caller) (w : World) (its : (c : ClientNo) → Its (f 
 
   -- ---- a message
 
+  -- the system sends a call's next operation too
+  next-sent : (c : ClientNo) (s : ServerNo) (op : Op) (u : ClientTable) (j : ℕ) (to : Party) (sent : Message) → command_row (idle (f c).table) j (Do s op) ≡ Sends u to sent → SentBy (command_row (idle (w.clients c)) w.event (Do s op)) u to sent
+  next-sent c s op u j to sent row = subst (λ (t : ClientTable). SentBy (command_row t w.event (Do s op)) u to sent) (idle-same (f c).table (w.clients c) (its c).table) (sent-anew (idle (f c).table) u j w.event s op to sent row)
+
   module _ (k : ℕ) (c : ClientNo) (m : Message) (is : slice_get w.sent k ≡ Some (Client c, m)) where
     abbrev own_row : ClientTable × TableTaken
     own_row = take_row (w.clients c) m
@@ -280,14 +284,14 @@ module _ (f : ClientNo → Caller) (w : World) (its : (c : ClientNo) → Its (f 
       answered-is : after (Deliver k no_room) w ≡ answered
       answered-is = handed-is ∙ ap (λ (r : ClientTable × TableTaken). took c k r.0 r.1 w) row
 
+      next-tells : (s : ServerNo) (op : Op) (u : ClientTable) (to : Party) (sent : Message) (b : SentBy (command_row (idle (w.clients c)) w.event (Do s op)) u to sent) → after (Tell c (Do s op)) answered ≡ commanded c (Sends b.table to sent) answered
+      next-tells s op u to sent b = ap (λ (t : ClientTable). commanded c (command_row t w.event (Do s op)) answered) (at-itself w.clients c (idle (w.clients c))) ∙ ap (λ (r : Commanded). commanded c r answered) b.is
+
       next-its : (s : ServerNo) (op : Op) (now : Caller) (u : ClientTable) (to : Party) (sent : Message) → IsCaller now → (now.doing ≡ None → ⊥) → now.table ≡ u
           → SentBy (command_row (idle (w.clients c)) w.event (Do s op)) u to sent → AllIts (Deliver k no_room ∷ Tell c (Do s op) ∷ []) (λ g. at_client g c now)
       next-its s op now u to sent caller busy table b d = subst (λ (v : World). Its (at_client f c now d) ((after (Tell c (Do s op)) v).clients d)) (sym answered-is)
-          (subst (λ (v : World). Its (at_client f c now d) (v.clients d)) (sym tells) (by (client_eq c d)))
+          (subst (λ (v : World). Its (at_client f c now d) (v.clients d)) (sym (next-tells s op u to sent b)) (by (client_eq c d)))
         where
-          tells : after (Tell c (Do s op)) answered ≡ commanded c (Sends b.table to sent) answered
-          tells = ap (λ (t : ClientTable). commanded c (command_row t w.event (Do s op)) answered) (at-itself w.clients c (idle (w.clients c))) ∙ ap (λ (r : Commanded). commanded c r answered) b.is
-
           by : (q : Bool) → Its (if q then now else f d) (if q then b.table else (if q then idle (w.clients c) else w.clients d))
           by true = record { caller = caller; table = ap (λ (t : ClientTable). plain_client t) table ∙ b.alike; same = λ e. absurd (busy e) }
           by false = its d
@@ -301,7 +305,7 @@ module _ (f : ClientNo → Caller) (w : World) (its : (c : ClientNo) → Its (f 
     message-its _ (unmoved d doing ignores) h = row-its (f c) (w.clients c, takes.Ignored) (ignores (w.clients c) (its c).table) (its c)
     message-its _ (goes_further d now j op u to sent answers row told) h = subst (λ (steps : List Step). AllIts (Deliver k no_room ∷ steps) (λ g. at_client g c (record (f c) { table = u; doing = Some now }))) (sym told)
         (next-its (answers (w.clients c) (its c).table).line (answers (w.clients c) (its c).table).row d.server op (record (f c) { table = u; doing = Some now }) u to sent h (λ e. clash now e) refl
-        (subst (λ (t : ClientTable). SentBy (command_row t w.event (Do d.server op)) u to sent) (idle-same (f c).table (w.clients c) (its c).table) (sent-anew (idle (f c).table) u j w.event d.server op to sent row)))
+        (next-sent c d.server op u j to sent row))
       where
         clash : (x : Doing) → Some x ≡ None → ⊥
         clash x e = cc
@@ -318,3 +322,175 @@ module _ (f : ClientNo → Caller) (w : World) (its : (c : ClientNo) → Its (f 
   all-its calls _ _ _ (by_message k c message is) = message-its k c message is (take_call_row (f c) message) (call-takes c (f c) (its c).caller message) (message-keeps (f c) message (its c).caller)
   all-its calls _ _ _ by_dismissing = λ d. dismissed-its (f d) (w.clients d) (its d)
   all-its calls _ _ _ (plainly steps keeps) = λ d. subst (λ (g : ClientNo → ClientTable). Its (f d) (g d)) (sym keeps) (its d)
+
+-- ---- any run
+
+-- each client's table is the system's, but for the number of an event in a call
+abbrev pub HasTables : State → Type 0
+HasTables s = (c : ClientNo) → HasItsTable s c
+
+abbrev AllHave : State → Type 0
+AllHave s = (c : ClientNo) → Its (s.callers c) (s.course.world.clients c)
+
+have-all : (s : State) → HasTables s → AllHave s
+have-all s has c = record { caller = (has c).caller; table = (has c).table; same = (has c).same }
+
+all-have : (s : State) → AllHave s → HasTables s
+all-have s all c = record { caller = (all c).caller; table = (all c).table; same = (all c).same }
+
+pub run-is : (steps : List Step) (c : Course) → (go_on steps c).world ≡ run steps c.world
+run-is [] c = refl
+run-is (step ∷ steps) c = run-is steps (go step c)
+
+begun-have : (task : Task) (s : State) → AllHave s → AllHave (begun task s)
+begun-have Dismisses s all = all
+begun-have task s all = all
+
+pub begun-world : (task : Task) (s : State) → (begun task s).course.world ≡ s.course.world
+begun-world Dismisses s = refl
+begun-world task s = refl
+
+pub begun-tables : (task : Task) (s : State) → HasTables s → HasTables (begun task s)
+begun-tables task s has = all-have (begun task s) (begun-have task s (have-all s has))
+
+module _ (x : Setup) (h : Chance) where
+  deed-have : (task : Task) (s : State) → AllHave s → (d : ClientNo) → Its ((deed_of x h task s).callers s.callers d) ((run (deed_of x h task s).steps s.course.world).clients d)
+  deed-have task s all = all-its s.callers s.course.world all (is_call_task task) _ _ _ (task-handles x h task s)
+
+  become-have : (task : Task) (s : State) → AllHave s → (d : ClientNo) → Its ((deed_of x h task s).callers (begun task s).callers d) ((go_on (deed_of x h task s).steps (begun task s).course).world.clients d)
+  become-have Dismisses s all d = deed-have Dismisses s all d
+  become-have task s all d = subst (λ (w : World). Its ((deed_of x h task s).callers s.callers d) (w.clients d)) (sym (run-is (deed_of x h task s).steps s.course)) (deed-have task s all d)
+
+step-have : (x : Setup) (s t : State) → MayStep x s t → AllHave s → AllHave t
+step-have x s t m all = subst AllHave (sym m.state_is) (by (is_too_much deed (go_on deed.steps (begun m.task s).course)))
+  where
+    deed : Deed
+    deed = deed_of x m.chance m.task s
+
+    by : (b : Bool) → AllHave (if b then cut_short (begun m.task s) else come_to x m.chance deed (go_on deed.steps (begun m.task s).course) (begun m.task s))
+    by true = begun-have m.task s all
+    by false = become-have x m.chance m.task s all
+
+have-lead : (x : Setup) (s t : State) → MayLead x s t → AllHave s → AllHave t
+have-lead x s t (none u) all = all
+have-lead x s t (more a b c m rest) all = have-lead x b t rest (step-have x s b m all)
+
+pub step-tables : (x : Setup) (s t : State) → MayStep x s t → HasTables s → HasTables t
+step-tables x s t m has = all-have t (step-have x s t m (have-all s has))
+
+pub tables-lead : (x : Setup) (s t : State) → MayLead x s t → HasTables s → HasTables t
+tables-lead x s t m has = all-have t (have-lead x s t m (have-all s has))
+
+pub start-tables : (x : Setup) (schedule : List Event) (files : AllFiles) (epochs : ServerNo → ℕ) → HasTables (before x schedule files epochs)
+start-tables x schedule files epochs c = record { caller = record { table = record { works = refl; waits = refl }; doing = refl; spoiled = refl }; table = refl; same = λ e. refl }
+
+pub before-tables : (x : Setup) (schedule : List Event) (files : AllFiles) (epochs : ServerNo → ℕ) (t : State) → MayLead x (before x schedule files epochs) t → HasTables t
+before-tables x schedule files epochs t m = tables-lead x (before x schedule files epochs) t m (start-tables x schedule files epochs)
+
+pub does-tables : (x : Setup) (a b : Moment) → DoesStep x a b → HasTables a.state → HasTables b.state
+does-tables x a b d = step-tables x a.state b.state (record { chance = d.chance; task = d.task; task_is = d.task_is; state_is = d.state_is })
+
+pub written-tables : (x : Setup) (schedule : List Event) (images : Devices) (now : Moment) → IsWritten x schedule images now → HasTables now.state
+written-tables x schedule images now h = before-tables x schedule h.files h.epochs now.state (may-lead x (record { state = before x schedule h.files h.epochs; devices = images }) now h.leads)
+
+-- ---- what holds of all that a client says
+
+says-kind : (calls : Bool) (f : ClientNo → Caller) (w : World) (steps : List Step) (becomes : (ClientNo → Caller) → ClientNo → Caller) (said : Option (List Text)) → Handles calls f w steps becomes said
+    → list_all is_of_client (reported said []) ≡ true
+says-kind calls f w _ _ _ (by_order c order may) = by (order_row (f c) w.event order)
+  where
+    by : (o : Ordered) → list_all is_of_client (texts_ordered c w.event o) ≡ true
+    by (Refused refusal) = refl
+    by (Accepted now to m) = refl
+says-kind calls f w _ _ _ (by_message k c message is) = call-says c k (f c) message
+says-kind calls f w _ _ _ by_dismissing = refl
+says-kind calls f w _ _ _ (plainly steps keeps) = refl
+
+pub task-kind : (x : Setup) (h : Chance) (task : Task) (s : State) → list_all is_of_client (reported (deed_of x h task s).said []) ≡ true
+task-kind x h task s = says-kind (is_call_task task) s.callers s.course.world _ _ _ (task-handles x h task s)
+
+module _ (test : Text → Bool) (system : (step : Step) (text : Text) → may_tell step text ≡ true → test text ≡ true) where
+  of-client : (text : Text) → is_of_client text ≡ true → test text ≡ true
+  of-client text h = system (Deliver 0 no_room) text (of-delivery text h)
+    where
+      of-delivery : (text : Text) → is_of_client text ≡ true → is_of_delivery text ≡ true
+      of-delivery text k = grind arith
+
+  pub task-says : (x : Setup) (h : Chance) (task : Task) (s : State) → list_all test (reported (deed_of x h task s).said []) ≡ true
+  task-says x h task s = weaker is_of_client test of-client (reported (deed_of x h task s).said []) (task-kind x h task s)
+
+-- ---- what is said in place of what the steps report
+
+drop-all : {A : Type 0} (xs : List A) → drop (length xs) xs ≡ []
+drop-all xs = subst (λ ys. drop (length xs) ys ≡ []) (append-nil xs) (drop-append_seam xs [])
+
+pub taken-own : (w : World) (who c : ClientNo) (k : ℕ) (t : ClientTable) (what : TableTaken) → texts_taken who k (as_table what) ≡ own_texts w (took c k t what w)
+taken-own w who c k t takes.Ignored = sym (drop-append_seam w.lines _)
+taken-own w who c k t (takes.Send to message) = sym (drop-all w.lines)
+taken-own w who c k t (takes.Told line answer) = sym (drop-append_seam w.lines _)
+
+-- it is the same, or the steps report answers of operations alone
+abbrev pub SaysOwn : World → List Step → Option (List Text) → Type 0
+SaysOwn w steps said = (reported said (own_texts w (run steps w)) ≡ own_texts w (run steps w)) ⊎ (list_all answers_operation (own_texts w (run steps w)) ≡ true)
+
+module _ (f : ClientNo → Caller) (w : World) (its : (c : ClientNo) → Its (f c) (w.clients c)) where
+  none-own : (now : World) → now.lines ≡ w.lines → own_texts w now ≡ []
+  none-own now e = ap (drop (length w.lines)) e ∙ drop-all w.lines
+
+  one-own : (now : World) (line : Text) → now.lines ≡ w.lines ++ line ∷ [] → own_texts w now ≡ line ∷ []
+  one-own now line e = ap (drop (length w.lines)) e ∙ drop-append_seam w.lines (line ∷ [])
+
+  answers-none : (now : World) → now.lines ≡ w.lines → list_all answers_operation (own_texts w now) ≡ true
+  answers-none now e = subst (λ (texts : List Text). list_all answers_operation texts ≡ true) (sym (none-own now e)) refl
+
+  answers-one : (now : World) (line : Text) → now.lines ≡ w.lines ++ line ∷ [] → answers_operation line ≡ true → list_all answers_operation (own_texts w now) ≡ true
+  answers-one now line e k = subst (λ (texts : List Text). list_all answers_operation texts ≡ true) (sym (one-own now line e)) (both _ true k refl)
+
+  order-says : (c : ClientNo) (order : Order) (row : Commanded) → command_row (f c).table w.event (command_of order) ≡ row → (o : Ordered) → order_row (f c) w.event order ≡ o
+      → list_all answers_operation (own_texts w (run (steps_ordered c order row o) w)) ≡ true
+  order-says c order (Refuses refusal) e (Refused why) is = answers-one (after (Tell c (command_of order)) w) (says.Refused c w.event refusal) (ap (λ (v : World). v.lines) (told-so f w its c order (Refuses refusal) e)) refl
+  order-says c order (Sends t to m) e (Refused why) is = answers-none w refl
+  order-says c order row e (Accepted now to m) is = answers-none (after (Tell c (command_of order)) w) (ap (λ (v : World). v.lines) (told-so f w its c order (Sends now.table to m) (order-sent (f c) w.event order now to m is)))
+
+  module _ (k : ℕ) (c : ClientNo) (m : Message) (is : slice_get w.sent k ≡ Some (Client c, m)) where
+    -- with the row that the system does
+    table-own : (what : TableTaken) → (take_row (w.clients c) m).1 ≡ what → texts_taken c k (as_table what) ≡ own_texts w (after (Deliver k no_room) w)
+    table-own what e = ap (λ (r : TableTaken). texts_taken c k (as_table r)) (sym e) ∙ taken-own w c c k (take_row (w.clients c) m).0 (take_row (w.clients c) m).1 ∙ ap (λ (v : World). own_texts w v) (sym (handed-is f w its k c m is))
+
+    in-call : (d : Doing) → (f c).doing ≡ Some d → is_reply m ≡ false → (o : Option Outstanding) → (f c).table.outstanding ≡ o → (take_row (w.clients c) m).1 ≡ (take_row (f c).table m).1
+    in-call d doing far None there = absurd (true≢false (sym (subst (λ (x : Option Outstanding). waits_at d.server x ≡ true) there (call-waits (f c) d (its c).caller doing))))
+    in-call d doing far (Some o) there = sym (takes-same (f c).table (w.clients c) o (its c).table there (call-operation (f c) (its c).caller d doing o there) m far)
+
+    same-row : ((d : Doing) → (f c).doing ≡ Some d → is_reply m ≡ false) → (x : Option Doing) → (f c).doing ≡ x → (take_row (w.clients c) m).1 ≡ (take_row (f c).table m).1
+    same-row far None doing = ap (λ (t : ClientTable). (take_row t m).1) (sym ((its c).same doing))
+    same-row far (Some d) doing = in-call d doing (far d doing) (f c).table.outstanding refl
+
+    message-says : (out : Caller × Taken) → Takes c (f c) m out → SaysOwn w (Deliver k no_room ∷ next_told c out.1) (Some (texts_taken c k out.1))
+    message-says _ (by_table far) = inl (subst (λ (steps : List Step). texts_taken c k (as_table (take_row (f c).table m).1) ≡ own_texts w (run (Deliver k no_room ∷ steps) w)) (sym (table-goes-not c (f c).table m))
+        (table-own (take_row (f c).table m).1 (same-row far (f c).doing refl)))
+    message-says _ (unmoved d doing ignores) = inl (table-own takes.Ignored (ap (λ (r : ClientTable × TableTaken). r.1) (ignores (w.clients c) (its c).table)))
+    message-says _ (goes_further d now j op u to sent answers row told) = inr (subst (λ (steps : List Step). list_all answers_operation (own_texts w (run (Deliver k no_room ∷ steps) w)) ≡ true) (sym told)
+        (subst (λ (v : World). list_all answers_operation (own_texts w (after (Tell c (Do d.server op)) v)) ≡ true) (sym (answered-is f w its k c m is (answers (w.clients c) (its c).table).line (answers (w.clients c) (its c).table).row))
+        (subst (λ (v : World). list_all answers_operation (own_texts w v) ≡ true)
+        (sym (next-tells f w its k c m is (answers (w.clients c) (its c).table).line (answers (w.clients c) (its c).table).row d.server op u to sent (next-sent f w its c d.server op u j to sent row)))
+        (answers-one (took c k (idle (w.clients c)) (takes.Told (answers (w.clients c) (its c).table).line None) w) (answers (w.clients c) (its c).table).line refl (answers (w.clients c) (its c).table).kind))))
+    message-says _ (comes_over j reply spoiled answers) = inr (subst (λ (steps : List Step). list_all answers_operation (own_texts w (run (Deliver k no_room ∷ steps) w)) ≡ true) (sym (last-told f w its k c m is j reply))
+        (answers-one (after (Deliver k no_room) w) (answers (w.clients c) (its c).table).line (ap (λ (v : World). v.lines) (answered-is f w its k c m is (answers (w.clients c) (its c).table).line (answers (w.clients c) (its c).table).row)) (answers (w.clients c) (its c).table).kind))
+
+  says-own : (calls : Bool) (steps : List Step) (becomes : (ClientNo → Caller) → ClientNo → Caller) (said : Option (List Text)) → Handles calls f w steps becomes said → SaysOwn w steps said
+  says-own calls _ _ _ (by_order c order may) = inr (order-says c order (command_row (f c).table w.event (command_of order)) refl (order_row (f c) w.event order) refl)
+  says-own calls _ _ _ (by_message k c message is) = message-says k c message is (take_call_row (f c) message) (call-takes c (f c) (its c).caller message)
+  says-own calls _ _ _ by_dismissing = inl refl
+  says-own calls _ _ _ (plainly steps keeps) = inl refl
+
+-- once a task is begun, so does its deed
+abbrev pub IsSaid : Deed → Course → Type 0
+IsSaid deed c = (reported deed.said (own_texts c.world (go_on deed.steps c).world) ≡ own_texts c.world (go_on deed.steps c).world) ⊎ (list_all answers_operation (own_texts c.world (go_on deed.steps c).world) ≡ true)
+
+module _ (x : Setup) (h : Chance) (task : Task) (s : State) (has : HasTables s) where
+  pub own-said : (c : Course) → c.world ≡ s.course.world → IsSaid (deed_of x h task s) c
+  own-said c e = subst (λ (now : World). (reported (deed_of x h task s).said (own_texts c.world now) ≡ own_texts c.world now) ⊎ (list_all answers_operation (own_texts c.world now) ≡ true)) (sym (run-is (deed_of x h task s).steps c))
+      (subst (λ (w : World). SaysOwn w (deed_of x h task s).steps (deed_of x h task s).said) (sym e) (says-own s.callers s.course.world (have-all s has) (is_call_task task) _ _ _ (task-handles x h task s)))
+
+  pub begun-said : IsSaid (deed_of x h task s) (begun task s).course
+  begun-said = own-said (begun task s).course (begun-world task s)

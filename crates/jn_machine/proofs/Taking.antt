@@ -368,11 +368,34 @@ table-says c k (t, takes.Ignored) h = refl
 table-says c k (t, takes.Send to message) h = refl
 table-says c k (t, takes.Told line answer) h = both _ true (of-answer line h) refl
 
-pub taken-says : (who : ClientNo) (c : Caller) (m : Message) (k : ℕ) (out : Caller × Taken) → Takes who c m out → list_all is_of_client (texts_taken who k out.1) ≡ true
-taken-says who c m k _ (by_table far) = table-says who k (take_row c.table m) (take-tells c.table m)
-taken-says who c m k _ (unmoved d is ignores) = refl
-taken-says who c m k _ (goes_further d now j op u to sent answered row told) = refl
-taken-says who c m k _ (comes_over j reply spoiled answered) = last-says who k j reply
+module _ (who : ClientNo) (k : ℕ) (c : Caller) where
+  abbrev Says : Caller × Taken → Type 0
+  Says out = list_all is_of_client (texts_taken who k out.1) ≡ true
+
+  table-taken : (m : Message) → Says (with_table c (take_row c.table m))
+  table-taken m = table-says who k (take_row c.table m) (take-tells c.table m)
+
+  goes-says : (d : Doing) (row : Commanded) → Says (goes_on c d row)
+  goes-says d (Refuses refusal) = refl
+  goes-says d (Sends t to m) = refl
+
+  turn-says : (j : ℕ) (d : Doing) (a : Answer) (t : Turn) → Says (after_turn c j d a t)
+  turn-says j d a (Asks op state) = goes-says _ (command_row (idle c.table) j (Do d.server op))
+  turn-says j d a (Over reply) = last-says who k j reply
+
+  reply-says : (x : Option Doing) (o : Option Outstanding) (client : ClientNo) (request : RequestNo) (a : Answer) → Says (take_answer c x o client request a)
+  reply-says None o client request a = table-taken (messages.Answer client request a)
+  reply-says (Some d) None client request a = table-taken (messages.Answer client request a)
+  reply-says (Some d) (Some o) client request a = by (client_eq client c.table.client && request_eq o.request request)
+    where
+      by : (b : Bool) → Says (if b then after_turn c o.event d a (turn d.state a) else (c, taken.Ignored))
+      by true = turn-says o.event d a (turn d.state a)
+      by false = refl
+
+  pub call-says : (m : Message) → list_all is_of_client (texts_taken who k (take_call_row c m).1) ≡ true
+  call-says (messages.Answer client request a) = reply-says c.doing c.table.outstanding client request a
+  call-says (messages.Begin client request) = table-taken (messages.Begin client request)
+  call-says m = table-taken m
 
 -- a client in a call waits for an operation
 pub call-operation : (c : Caller) → IsCaller c → (d : Doing) → c.doing ≡ Some d → (o : Outstanding) → c.table.outstanding ≡ Some o → is_operation o.command ≡ true
