@@ -5,6 +5,8 @@ pub mod Telling
 pub mod Ordered
 pub mod Counted
 pub mod Texts
+pub mod Alike
+pub mod Taking
 pub mod Clients
 pub mod Quiet
 pub mod Resting
