@@ -1,11 +1,7 @@
 -- A settle, task by task, is within its bound.
-use Rattle.jn_bounds.proofs.Common.{◌≡◌, ◌⊎◌, inl, inr, ◌≤◌, ◌<◌, ℕ, ◌+◌, ◌*◌, List, [], ◌∷◌, ◌++◌, append_assoc, length, Option, Some, None, refl, sym, ◌∙◌, ap, subst, arith, map, ServerNo, ClientNo, Event, World, servers_from, Course, go_on, clients_from, Sound, IsBalanced, Bounded, Asked, servers-length, waiting-light, waiting-weighs, Setup, Chance, Task, Acts, Rests, State, begun, servers_of, settling, next_in, resting, deed_of, none, more, Steps, Moment, DoesStep, DoesEarlier, Settles, IsWithinBound, ClientTable}
+use Rattle.jn_bounds.proofs.Common.{◌≡◌, ◌⊎◌, inl, inr, ◌≤◌, ◌<◌, ℕ, ◌+◌, ◌*◌, List, [], ◌∷◌, ◌++◌, append_assoc, length, Option, Some, None, refl, sym, ◌∙◌, ap, subst, arith, map, ServerNo, ClientNo, Event, World, servers_from, Course, go_on, clients_from, Sound, IsBalanced, Asked, servers-length, waiting-light, waiting-weighs, Setup, Chance, Task, Acts, Rests, State, begun, servers_of, settling, next_in, resting, deed_of, none, more, Steps, Moment, DoesStep, DoesEarlier, Settles, IsWithinBound, burden, deliveries, Caller, calls_left, NoOtherCalls, load}
 use Rattle.jn_schedule.specs.declared.Event.TheVariants as events
-use Rattle.jn_system_settling.specs.Settling.Weights.{burden}
-use Rattle.jn_system_settling.specs.Settling.Bounds.{deliveries}
 use Rattle.jn_bounds.proofs.Doing.{GoesOn, IsCut, does}
-use Rattle.jn_callers.specs.Callers.{Caller}
-use Rattle.jn_bounds.specs.Settles.{calls_left, NoOtherCalls, load}
 use Rattle.jn_bounds.proofs.Lighter.{Lightens, rests, client-asks, server-asks}
 
 -- ---- what tasks may add

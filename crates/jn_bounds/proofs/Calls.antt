@@ -1,47 +1,24 @@
 -- What each step of a run leaves of the operations that calls under way may still ask.
-use Rattle.std.proofs.Common.{◌≡◌, ◌⊎◌, inl, inr, ◌≤◌, ℕ, ◌+◌, ◌*◌, Bool, true, false, List, [], ◌∷◌, ◌++◌, Option, Some, None, refl, sym, ◌∙◌, ap, subst, arith, true≢false}
-use Rattle.std.specs.Prelude.{map, if◌then◌else◌, slice_get, ◌||◌}
+use Rattle.jn_bounds.proofs.Common.{◌≡◌, ◌⊎◌, inl, inr, ◌≤◌, ℕ, ◌+◌, ◌*◌, Bool, true, false, List, [], ◌∷◌, ◌++◌, Option, Some, None, refl, sym, ◌∙◌, ap, subst, arith, true≢false, map, if◌then◌else◌, slice_get, ◌||◌, ServerNo, ClientNo, Event, World, Memory, at_client, Caller, ordered, order_row, take_call_row, is_too_far, still, asks-fewer, Setup, Chance, Task, Begins, Meets, Acts, Rests, State, Stage, InSchedule, AtEnd, CutShort, next_at, Deed, is_busy, working_steps, served, nothing, delivered, delivered_at, crashed_at, is_used_up, given_up, recovered, brought_up, restarted, worked, callers_ordered, acted, met, resting, deed_of, next_event, first_busy, servers_of, coming_up, settling, printing, ending, tasks_of, Devices, none, more, Moment, DoesStep, Leads, IsWritten, calling, and_once, calls_left, NoOtherCalls, AsksFew, AsksOfBytes, Client, Server, Commanded, Refuses, Sends, command_row, Sent, step_calls, clients_from, ComesUp, Dismisses, GoesDown, ClosesClients, CountsCommits}
 use Rattle.std.specs.List.{list_any, AllByRecursion}
 use Rattle.std.proofs.lemmas.Bool.Decides.{nat_tests}
-use Rattle.jn_base.specs.declared.names.ServerNo.{ServerNo}
-use Rattle.jn_base.specs.declared.names.ClientNo.{ClientNo}
 use Rattle.jn_base.specs.Names.{client_eq}
 use Rattle.jn_base.proofs.Tells.{client_tells}
-use Rattle.jn_schedule.specs.declared.Event.{Event}
-use Rattle.jn_system.specs.WholeSystem.World.{World, Memory, at_client}
 use Rattle.jn_system.proofs.WholeSystem.OneChange.{one-client}
-use Rattle.jn_callers.specs.Callers.{Caller, ordered, order_row, take_call_row, is_too_far}
-use Rattle.jn_callers.specs.Laws.{still, operations_sent}
-use Rattle.jn_callers.proofs.Fewer.{asks-fewer}
-use Rattle.jn_machine.specs.Chances.{Setup, Chance}
-use Rattle.jn_machine.specs.Tasks.{Task, Begins, Meets, Acts, Rests, State, Stage, InSchedule, AtEnd, CutShort, next_at}
-use Rattle.jn_machine.specs.Deeds.{Deed, is_busy, working_steps, served, nothing, delivered, delivered_at, crashed_at, is_used_up, given_up, recovered, brought_up, restarted, worked, callers_ordered}
-use Rattle.jn_machine.specs.Events.{acted, met, resting, deed_of, next_event, first_busy, servers_of, coming_up, settling, printing, ending, tasks_of}
-use Rattle.jn_machine.specs.Devices.{Devices}
-use Rattle.jn_machine.specs.Runs.{none, more, Moment, DoesStep, Leads}
-use Rattle.jn_machine.specs.Whole.{IsWritten}
-use Rattle.jn_bounds.specs.Settles.{calling, and_once, calls_left, NoOtherCalls, AsksFew, AsksOfBytes}
 use Rattle.jn_report.specs.declared.line.EventRefusal.TheVariants.{EpochsUsedUp}
 use Rattle.jn_report.specs.declared.line.Text.TheVariants as says
-use Rattle.jn_base.specs.declared.call.Call.{Call}
 use Rattle.jn_base.specs.declared.call.Call.TheVariants.{OfBytes, OfNames}
 use Rattle.jn_base.specs.declared.call.ByteCommand.TheVariants.{ReadBytes, WriteBytes}
 use Rattle.jn_base.specs.declared.op.Command.{Command}
 use Rattle.jn_base.specs.declared.op.Command.TheVariants as commands
-use Rattle.jn_base.specs.declared.names.Party.TheVariants.{Client, Server}
+use Rattle.jn_msgs.specs.declared.message.Message.{Message}
 use Rattle.jn_report.specs.declared.line.EventRefusal.{EventRefusal}
-use Rattle.jn_rows.specs.Client.{Commanded, Refuses, Sends, command_row}
-use Rattle.jn_rows.specs.Outcomes.{Sent}
-use Rattle.jn_calls.specs.declared.order.Order.{Order}
 use Rattle.jn_calls.specs.declared.order.Order.TheVariants as orders
-use Rattle.jn_calls.specs.Turns.{begun as call_begun, first_op, left}
+use Rattle.jn_calls.specs.Turns.{begun as call_begun, first_op}
 use Rattle.jn_calls.proofs.Fewer.{read-few, write-few, names-few}
 use Rattle.jn_callers.specs.declared.doing.Doing.{Doing}
 use Rattle.jn_schedule.specs.declared.Event.TheVariants as events
-use Rattle.jn_storage.specs.DeviceCalls.{step_calls}
-use Rattle.jn_system.specs.WholeSystem.World.{clients_from}
 use Rattle.jn_machine.specs.Refusals.{refusal_of}
-use Rattle.jn_machine.specs.Tasks.{ComesUp, Dismisses, GoesDown, ClosesClients, CountsCommits}
 use Rattle.jn_bounds.proofs.Doing.{GoesOn, IsCut, does}
 
 -- ---- a sum over clients
@@ -67,12 +44,12 @@ module _ (f : ClientNo → Caller) (c : ClientNo) (now : Caller) (sent : ℕ) (f
   sum-falls [] h = absurd (cc h)
   sum-falls (d ∷ clients) h = elim (client_tells c d) [
     | inl p ↦
-      let here : still (after_it d).doing ≡ still now.doing = ap (λ (b : Bool). still (if b then now else f d).doing) p.0 in
-      let was : still (f c).doing ≡ still (f d).doing = ap (λ (e : ClientNo). still (f e).doing) p.1 in
-      let rest = sum-less f after_it each-less clients in omega (arith, here, was, rest, fewer)
+        let here : still (after_it d).doing ≡ still now.doing = ap (λ (b : Bool). still (if b then now else f d).doing) p.0 in
+        let was : still (f c).doing ≡ still (f d).doing = ap (λ (e : ClientNo). still (f e).doing) p.1 in
+        let rest = sum-less f after_it each-less clients in omega (arith, here, was, rest, fewer)
     | inr p ↦
-      let again = sum-falls clients (sym (ap (λ (b : Bool). b || list_any (client_eq c) clients) p.0) ∙ h) in
-      let here = each-less d in omega (arith, again, here)
+        let again = sum-falls clients (sym (ap (λ (b : Bool). b || list_any (client_eq c) clients) p.0) ∙ h) in
+        let here = each-less d in omega (arith, again, here)
   ]
 
   -- among these clients, beside which none may ask an operation
@@ -89,12 +66,12 @@ module _ (f : ClientNo → Caller) (c : ClientNo) (now : Caller) (sent : ℕ) (f
 
 -- ---- what holds of each client's call, where it holds of those that are given
 
-module _ (P : ClientNo → ℕ → Type 0) (none-left : (c : ClientNo) → P c 0) (fewer : (c : ClientNo) (m n : ℕ) → m ≤ n → P c n → P c m) where
+module _ (P : ClientNo → Option Doing → Type 0) (none-left : (c : ClientNo) → P c None) (goes-on : (c : ClientNo) (now : Caller) (m : Message) → P c now.doing → P c (take_call_row now m).0.doing) where
   abbrev Each : (ClientNo → Caller) → Type 0
-  Each f = (c : ClientNo) → P c (still (f c).doing)
+  Each f = (c : ClientNo) → P c (f c).doing
 
   abbrev pub EventIs : Event → Type 0
-  EventIs (events.Call c s call) = P c (left (call_begun call))
+  EventIs (events.Call c s call) = P c (Some (record { server = s; state = call_begun call; wrote = false }))
   EventIs event = Unit {0}
 
   abbrev TaskIs : Task → Type 0
@@ -115,15 +92,18 @@ module _ (P : ClientNo → ℕ → Type 0) (none-left : (c : ClientNo) → P c 0
   tasks-both [] us h k = k
   tasks-both (t ∷ ts) us h k = (h.0, tasks-both ts us h.1 k)
 
-  tasks-of : {A : Type 0} (f : A → Task) → ((a : A) → TaskIs (f a)) → (as : List A) → TasksAre (map f as)
+  tasks-of : {A : Type 0} (f : A → Task) → ((a : A) → TaskIs (f a)) → (these : List A) → TasksAre (map f these)
   tasks-of f h [] = tt
-  tasks-of f h (a ∷ as) = (h a, tasks-of f h as)
+  tasks-of f h (a ∷ these) = (h a, tasks-of f h these)
 
   settling-are : (x : Setup) → TasksAre (settling x)
-  settling-are x = (tt, tasks-both (map (λ (c : ClientNo). Acts (events.Again c)) (clients_from 1 8) ++ map (λ (q : ServerNo). Acts (events.Nudge q)) (servers_of x)) (Rests ∷ [])
-      (tasks-both (map (λ (c : ClientNo). Acts (events.Again c)) (clients_from 1 8)) (map (λ (q : ServerNo). Acts (events.Nudge q)) (servers_of x))
-      (tasks-of (λ (c : ClientNo). Acts (events.Again c)) (λ c. tt) (clients_from 1 8)) (tasks-of (λ (q : ServerNo). Acts (events.Nudge q)) (λ q. tt) (servers_of x)))
-      (tt, tt))
+  settling-are x = (
+    tt,
+    tasks-both (map (λ (c : ClientNo). Acts (events.Again c)) (clients_from 1 8) ++ map (λ (q : ServerNo). Acts (events.Nudge q)) (servers_of x)) (Rests ∷ [])
+        (tasks-both (map (λ (c : ClientNo). Acts (events.Again c)) (clients_from 1 8)) (map (λ (q : ServerNo). Acts (events.Nudge q)) (servers_of x))
+        (tasks-of (λ (c : ClientNo). Acts (events.Again c)) (λ c. tt) (clients_from 1 8)) (tasks-of (λ (q : ServerNo). Acts (events.Nudge q)) (λ q. tt) (servers_of x)))
+        (tt, tt),
+  )
 
   printing-are : (servers : List ServerNo) → TasksAre (printing servers)
   printing-are servers = tasks-both (map (λ (q : ServerNo). Acts (events.Show q)) servers) (map (λ (q : ServerNo). Acts (events.Scrub q)) servers)
@@ -131,11 +111,11 @@ module _ (P : ClientNo → ℕ → Type 0) (none-left : (c : ClientNo) → P c 0
 
   -- ---- orders
 
-  ordered-still : (f : ClientNo → Caller) (c : ClientNo) (now : Caller) (spoiled far : Bool) (doing : Option Doing) (row : Commanded) → Each f → P c (still doing) → Each (callers_ordered c (ordered now spoiled far doing row) f)
+  ordered-still : (f : ClientNo → Caller) (c : ClientNo) (now : Caller) (spoiled far : Bool) (doing : Option Doing) (row : Commanded) → Each f → P c doing → Each (callers_ordered c (ordered now spoiled far doing row) f)
   ordered-still f c now spoiled far doing (Refuses refusal) h k = h
   ordered-still f c now true far doing (Sends t to m) h k = h
   ordered-still f c now false true doing (Sends t to m) h k = h
-  ordered-still f c now false false doing (Sends t to m) h k = one-client (λ d y. P d (still y.doing)) f c (record now { table = t; doing = doing }) k (λ d other. h d)
+  ordered-still f c now false false doing (Sends t to m) h k = one-client (λ d y. P d y.doing) f c (record now { table = t; doing = doing }) k (λ d other. h d)
 
   command-still : (f : ClientNo → Caller) (c : ClientNo) (now : Caller) (j : ℕ) (command : Command) → Each f → Each (callers_ordered c (order_row now j (orders.Command command)) f)
   command-still f c now j commands.Abort h = ordered-still f c now false false None (command_row now.table j commands.Abort) h (none-left c)
@@ -149,8 +129,8 @@ module _ (P : ClientNo → ℕ → Type 0) (none-left : (c : ClientNo) → P c 0
   module _ (x : Setup) (h : Chance) (f : ClientNo → Caller) (each : Each f) (w : World) where
     message-leaves : (k : ℕ) (o : Option Sent) → Leaves (delivered h k f w o) f
     message-leaves k None = (each, tt)
-    message-leaves k (Some (Client c, message)) = let l = asks-fewer (f c) message in
-        (one-client (λ d y. P d (still y.doing)) f c (take_call_row (f c) message).0 (fewer c _ (still (f c).doing) (omega (arith, l)) (each c)) (λ d other. each d), tt)
+    message-leaves k (Some (Client c, message)) =
+        (one-client (λ d y. P d y.doing) f c (take_call_row (f c) message).0 (goes-on c (f c) message (each c)) (λ d other. each d), tt)
     message-leaves k (Some (Server q, message)) = by (w.memory q)
       where
         by : (o : Option Memory) → Leaves (delivered_at h k q o) f
@@ -291,31 +271,31 @@ all-named (events.Call c s call ∷ schedule) = (named-first c (calling schedule
 all-named (event ∷ schedule) = (tt, all-named schedule)
 
 module _ (clients : List ClientNo) where
-  abbrev IsOther : ClientNo → ℕ → Type 0
-  IsOther c n = list_any (client_eq c) clients ≡ false → n ≡ 0
+  abbrev IsOther : ClientNo → Option Doing → Type 0
+  IsOther c doing = list_any (client_eq c) clients ≡ false → still doing ≡ 0
 
-  other-fewer : (c : ClientNo) (m n : ℕ) → m ≤ n → IsOther c n → IsOther c m
-  other-fewer c m n l h e = let none = h e in omega (arith, l, none)
+  other-on : (c : ClientNo) (now : Caller) (m : Message) → IsOther c now.doing → IsOther c (take_call_row now m).0.doing
+  other-on c now m h e = let none = h e in let l = asks-fewer now m in omega (arith, l, none)
 
-  all-others : (schedule : List Event) → AllByRecursion (IsNamed clients) schedule → AllByRecursion (EventIs IsOther (λ c e. refl) other-fewer) schedule
+  all-others : (schedule : List Event) → AllByRecursion (IsNamed clients) schedule → AllByRecursion (EventIs IsOther (λ c e. refl) other-on) schedule
   all-others [] h = tt
   all-others (events.Call c s call ∷ schedule) h = (λ e. absurd (true≢false (sym h.0 ∙ e)), all-others schedule h.1)
   all-others (event ∷ schedule) h = (tt, all-others schedule h.1)
 
 pub no-others : (x : Setup) (schedule : List Event) (images : Devices) (a : Moment) → IsWritten x schedule images a → NoOtherCalls a.state.callers (calling schedule)
-no-others x schedule images a run = each-written (IsOther (calling schedule)) (λ c e. refl) (other-fewer (calling schedule)) x schedule images a (all-others (calling schedule) schedule (all-named schedule)) run
+no-others x schedule images a run = each-written (IsOther (calling schedule)) (λ c e. refl) (other-on (calling schedule)) x schedule images a (all-others (calling schedule) schedule (all-named schedule)) run
 
 -- ---- few operations
 
 module _ (most : ℕ) where
-  abbrev AreFew : ClientNo → ℕ → Type 0
-  AreFew c n = n ≤ most
+  abbrev AreFew : ClientNo → Option Doing → Type 0
+  AreFew c doing = still doing ≤ most
 
-  none-few : (c : ClientNo) → AreFew c 0
+  none-few : (c : ClientNo) → AreFew c None
   none-few c = omega arith
 
-  fewer-few : (c : ClientNo) (m n : ℕ) → m ≤ n → AreFew c n → AreFew c m
-  fewer-few c m n l h = omega (arith, l, h)
+  fewer-few : (c : ClientNo) (now : Caller) (m : Message) → AreFew c now.doing → AreFew c (take_call_row now m).0.doing
+  fewer-few c now m h = let l = asks-fewer now m in omega (arith, l, h)
 
   few-left : (x : Setup) (schedule : List Event) (images : Devices) (a : Moment) → AllByRecursion (EventIs AreFew none-few fewer-few) schedule → IsWritten x schedule images a → calls_left a.state.callers (clients_from 1 8) ≤ 8 * most
   few-left x schedule images a h run = sum-most a.state.callers most (each-written AreFew none-few fewer-few x schedule images a h run)

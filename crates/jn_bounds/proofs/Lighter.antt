@@ -1,29 +1,17 @@
 -- What each task of a settle does to what waits and goes: it adds no more than it weighs itself, and each message that is handed over weighs less than before.
-use Rattle.jn_bounds.proofs.Common.{◌≡◌, inl, inr, ◌≤◌, ◌<◌, ℕ, zero, suc, ◌+◌, Bool, true, false, List, [], ◌∷◌, append-nil, Option, Some, None, refl, sym, ap, arith, if◌then◌else◌, slice_get, ServerNo, ClientNo, World, Memory, servers_from, Again, Nudge, Work, StopWork, after, work, works, Course, go, go_on, handing, working, Sound, go-sound, go-balance, burden-after, deliveries-more, Bounded, Asked, asked, Setup, Chance, Deed, room, no_room, nothing, served, delivered, delivered_at, is_busy, working_steps, servers_of, first_busy, next_event, next_in, resting, ClientTable, ◌*◌}
+use Rattle.jn_bounds.proofs.Common.{IsBalanced, ◌≡◌, inl, inr, ◌≤◌, ◌<◌, ℕ, zero, suc, ◌+◌, Bool, true, false, List, [], ◌∷◌, append-nil, Option, Some, None, refl, sym, ap, arith, if◌then◌else◌, slice_get, ServerNo, ClientNo, World, Memory, servers_from, Again, Nudge, Work, StopWork, after, work, works, Course, go, go_on, handing, working, Sound, go-sound, go-balance, burden-after, deliveries-more, Asked, asked, Setup, Chance, Deed, room, no_room, nothing, served, delivered, delivered_at, is_busy, working_steps, servers_of, first_busy, next_event, next_in, resting, ClientTable, ◌*◌, Client, Server, RowOutcome, Sent, step_calls, Commanded, Refuses, Sends, command_row, Caller, take_call_row, still, operations_sent, asks-fewer, at_client, Tell, Deliver, commanded, burden, deliveries, next_told, calls_left, NoOtherCalls}
+use Rattle.jn_system_settling.proofs.Settling.Parts.{Bounded}
 use Rattle.jn_system.specs.WholeSystem.Settle.{Chance as Befalling, first_busy as first_going, next_step}
-use Rattle.jn_base.specs.declared.names.Party.TheVariants.{Client, Server}
 use Rattle.jn_rows.specs.Stable.{Pick, stable, Left}
-use Rattle.jn_rows.specs.Outcomes.{RowOutcome, Sent}
 use Rattle.jn_system.specs.WholeSystem.Servers.{Room, server_step}
 use Rattle.jn_system_settling.proofs.Settling.Burdens.{Leads, work-leads}
 use Rattle.jn_system_settling.proofs.Settling.BoundedLoops.{list-bounded}
-use Rattle.jn_storage.specs.DeviceCalls.{step_calls}
 use Rattle.jn_base.specs.declared.op.Op.{Op}
 use Rattle.jn_base.specs.declared.op.Command.TheVariants.{Do}
 use Rattle.jn_msgs.specs.Weights.{weight}
 use Rattle.jn_msgs.specs.declared.message.Message.TheVariants as messages
-use Rattle.jn_rows.specs.Client.{Commanded, Refuses, Sends, command_row}
-use Rattle.jn_callers.specs.Callers.{Caller, take_call_row}
-use Rattle.jn_callers.specs.Laws.{still, operations_sent}
 use Rattle.jn_callers.specs.declared.taken.Taken.{Taken}
 use Rattle.jn_callers.specs.declared.taken.Taken.TheVariants as takes
-use Rattle.jn_callers.proofs.Fewer.{asks-fewer}
-use Rattle.jn_system.specs.WholeSystem.World.{at_client}
-use Rattle.jn_system.specs.WholeSystem.Steps.{Tell, Deliver, commanded}
-use Rattle.jn_system_settling.specs.Settling.Weights.{burden}
-use Rattle.jn_system_settling.specs.Settling.Bounds.{deliveries}
-use Rattle.jn_machine.specs.Deeds.{next_told}
-use Rattle.jn_bounds.specs.Settles.{calls_left, NoOtherCalls}
 use Rattle.jn_bounds.proofs.Calls.{calls-fall, others-stay}
 
 -- what a command sends weighs
@@ -90,7 +78,7 @@ module _ (n : ℕ) (at_most : n ≤ 8) (start : World) where
 
     module _ (f : ClientNo → Caller) (others : NoOtherCalls f clients) (c d : Course) (client : ClientNo) (now : Caller) where
       -- a client has taken a message, and is told nothing or its next operation
-      quietly : still now.doing ≤ still (f client).doing → Within c d → Lightens c f d (at_client f client now)
+      quietly : 0 + still now.doing ≤ still (f client).doing → Within c d → Lightens c f d (at_client f client now)
       quietly fewer b = record {
         sound = b.sound;
         few = let few = b.few in let calls = calls-fall f client now 0 fewer clients others in omega (arith, few, calls);

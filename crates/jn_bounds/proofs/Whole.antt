@@ -1,5 +1,5 @@
 -- Every whole run has each settle of its schedule's events and that of its end.
-use Rattle.jn_bounds.proofs.Common.{◌≡◌, ◌⊎◌, inl, inr, ◌≤◌, List, [], ◌∷◌, ◌++◌, append_assoc, sym, ◌∙◌, ap, map, Event, World, Sound, Setup, Task, Begins, Meets, Dismisses, GoesDown, ClosesClients, CountsCommits, AtEnd, CutShort, Devices, servers_of, settling, coming_up, ending, printing, none, more, Moment, DoesStep, Leads, before, closed_world, IsWhole, HasSettle, HasItsSettles}
+use Rattle.jn_bounds.proofs.Common.{◌≡◌, ◌⊎◌, inl, inr, ◌≤◌, List, [], ◌∷◌, ◌++◌, append_assoc, sym, ◌∙◌, ap, map, Event, World, Sound, Setup, Task, Begins, Meets, Dismisses, GoesDown, ClosesClients, CountsCommits, AtEnd, CutShort, Devices, servers_of, settling, coming_up, ending, printing, none, more, Moment, DoesStep, Leads, before, closed_world, IsWhole, HasSettle, HasItsSettles, calling, NoOtherCalls, ClientNo}
 use Rattle.std.proofs.lemmas.List.{map-append}
 use Rattle.jn_schedule.specs.declared.Event.TheVariants as events
 use Rattle.jn_report.specs.declared.line.Line.{Line}
@@ -9,8 +9,6 @@ use Rattle.jn_bounds.proofs.Passing.{comes-to, forget}
 use Rattle.jn_bounds.proofs.Sounds.{all-steps, closed-sound}
 use Rattle.jn_bounds.proofs.Bounded.{is-bounded}
 use Rattle.jn_bounds.proofs.Calls.{no-others}
-use Rattle.jn_bounds.specs.Settles.{calling, NoOtherCalls}
-use Rattle.jn_base.specs.declared.names.ClientNo.{ClientNo}
 
 module _ (x : Setup) (last : Moment) (nothing : last.state.tasks ≡ []) (whole : last.state.stage ≡ AtEnd) where
   -- a task that is left is done, and the run goes on
