@@ -33,7 +33,7 @@ pub use Rattle.jn_base.specs.declared.names.Party.TheVariants.{Client, Server}
 pub use Rattle.jn_rows.specs.Outcomes.{Sent, RowOutcome}
 pub use Rattle.jn_system.specs.WholeSystem.Servers.{Room, server_timeout, server_step, is_busy as has_going}
 pub use Rattle.jn_storage.specs.DeviceCalls.{step_calls}
-pub use Rattle.jn_rows.specs.Client.{ClientTable}
+pub use Rattle.jn_callers.specs.Callers.{Caller}
 pub use Rattle.std.proofs.Math.Seq.{drop-length, drop-append_seam}
 pub use Rattle.jn_machine.specs.Steps.{is_too_much, come_to, cut_short, outside_texts, message_texts, traced, texts_of, reported}
 pub use Rattle.jn_machine_refines.specs.Retold.{behind}

@@ -1,6 +1,11 @@
 -- The tasks of a settle one after another: what comes between two of them, and that a server that is down stays down.
-use Rattle.jn_at_rest.proofs.Common.{◌≡◌, ◌⊎◌, inl, inr, ℕ, suc, ◌+◌, ◌<◌, Bool, true, false, List, [], ◌∷◌, ◌++◌, append_assoc, length, length-append, Option, Some, None, is_some, true≢false, refl, sym, ◌∙◌, ap, subst, arith, ◌&&◌, if◌then◌else◌, slice_get, list_all, ServerNo, ClientNo, Client, Server, Sent, Pick, Event, World, Memory, at_server, Step, Restart, after, run, handing, working, Room, server_timeout, Course, go_on, AreUp, on-world, Setup, Chance, Task, Acts, Rests, CutShort, State, begun, room, nothing, served, delivered, delivered_at, is_busy, working_steps, deed_of, resting, next_event, first_busy, next_in, servers_of, none, more, Steps, Moment, DoesStep, DoesEarlier, GoesOn, IsCut, does, stays, longer, forget, step_calls, Left, ClientTable}
+use Rattle.jn_at_rest.proofs.Common.{◌≡◌, ◌⊎◌, inl, inr, ℕ, suc, ◌+◌, ◌<◌, Bool, true, false, List, [], ◌∷◌, ◌++◌, append_assoc, length, length-append, Option, Some, None, is_some, true≢false, refl, sym, ◌∙◌, ap, subst, arith, ◌&&◌, if◌then◌else◌, slice_get, list_all, ServerNo, ClientNo, Client, Server, Sent, Pick, Event, World, Memory, at_server, Step, Restart, after, run, handing, working, Room, server_timeout, Course, go_on, AreUp, on-world, Setup, Chance, Task, Acts, Rests, CutShort, State, begun, room, nothing, served, delivered, delivered_at, is_busy, working_steps, deed_of, resting, next_event, first_busy, next_in, servers_of, none, more, Steps, Moment, DoesStep, DoesEarlier, GoesOn, IsCut, does, stays, longer, forget, step_calls, Left, Caller}
 use Rattle.jn_schedule.specs.declared.Event.TheVariants as events
+use Rattle.jn_msgs.specs.declared.message.Message.TheVariants as messages
+use Rattle.jn_callers.specs.declared.taken.Taken.{Taken}
+use Rattle.jn_callers.specs.declared.taken.Taken.TheVariants as takes
+use Rattle.jn_callers.specs.Callers.{take_call_row}
+use Rattle.jn_machine.specs.Deeds.{next_told}
 use Rattle.jn_system.proofs.WholeSystem.OneChange.{one-server}
 use Rattle.jn_system.proofs.WholeSystem.StepCases.{StepCase, row_done, row_stopped, gone_late, gone_down, come_up, step-case}
 
@@ -58,7 +63,7 @@ down-run q (step ∷ steps) w h down = down-run q steps (after step w) (second (
 -- ---- one step
 
 module _ (x : Setup) where
-  module _ (h : Chance) (t : ClientNo → ClientTable) (w : World) where
+  module _ (h : Chance) (t : ClientNo → Caller) (w : World) where
     handing-starts : (k : ℕ) (r : Room) (stop : Option (Pick → Left)) → starts_none (handing k r stop) ≡ true
     handing-starts k r None = refl
     handing-starts k r (Some made) = refl
@@ -70,9 +75,15 @@ module _ (x : Setup) where
     both-true : (a : Bool) → a ≡ true → (a && true) ≡ true
     both-true a e = grind arith
 
+    told-starts : (c : ClientNo) (r : Taken) → list_all starts_none (next_told c r) ≡ true
+    told-starts c (takes.Send to (messages.Op owner request W number op)) = refl
+    told-starts c (takes.Send to message) = refl
+    told-starts c takes.Ignored = refl
+    told-starts c r = refl
+
     deed-starts : (k : ℕ) (o : Option Sent) → list_all starts_none (delivered h k t w o).steps ≡ true
     deed-starts k None = refl
-    deed-starts k (Some (Client c, message)) = refl
+    deed-starts k (Some (Client c, message)) = told-starts c (take_call_row (t c) message).1
     deed-starts k (Some (Server q, message)) = by (w.memory q)
       where
         by : (o : Option Memory) → list_all starts_none (delivered_at h k q o).steps ≡ true
@@ -89,7 +100,7 @@ module _ (x : Setup) where
     rest-starts [] None = refl
 
   starts : (h : Chance) (t : Task) (s : State) → InSettle t → list_all starts_none (deed_of x h t s).steps ≡ true
-  starts h t s a_rest = rest-starts h s.clients s.course.world s.course.waiting (first_busy h.rubbish s.course.world (servers_of x))
+  starts h t s a_rest = rest-starts h s.callers s.course.world s.course.waiting (first_busy h.rubbish s.course.world (servers_of x))
   starts h t s (a_client c) = refl
   starts h t s (a_server q) = refl
 
@@ -98,12 +109,12 @@ module _ (x : Setup) where
   begun-same t s (a_client c) = refl
   begun-same t s (a_server q) = refl
 
-  rest-leaves : (h : Chance) (t : ClientNo → ClientTable) (w : World) (o : Option Event) → AllInSettle (resting x h t w o).tasks
+  rest-leaves : (h : Chance) (t : ClientNo → Caller) (w : World) (o : Option Event) → AllInSettle (resting x h t w o).tasks
   rest-leaves h t w None = tt
   rest-leaves h t w (Some event) = (a_rest, tt)
 
   leaves-in : (h : Chance) (t : Task) (s : State) → InSettle t → AllInSettle (deed_of x h t s).tasks
-  leaves-in h t s a_rest = rest-leaves h s.clients s.course.world (next_in x h.rubbish s.course)
+  leaves-in h t s a_rest = rest-leaves h s.callers s.course.world (next_in x h.rubbish s.course)
   leaves-in h t s (a_client c) = tt
   leaves-in h t s (a_server q) = tt
 

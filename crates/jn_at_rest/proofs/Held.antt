@@ -2,7 +2,9 @@
 use Rattle.jn_at_rest.proofs.Common.{◌≡◌, ◌⊎◌, inl, inr, ℕ, ◌≤◌, Bool, true, false, List, [], ◌∷◌, length, Some, None, refl, sym, ◌∙◌, ap, subst, drop-length, if◌then◌else◌, ServerNo, AllFiles, Text, Event, World, opening, servers_from, Step, Dismiss, IsRun, Course, opening_course, go, go_on, numbered, Setup, Chance, Task, Dismisses, Stage, CutShort, State, next_at, begun, Deed, Devices, deed_of, is_too_much, come_to, cut_short, none, more, Moment, DoesStep, Leads, closed_world, IsWritten}
 use Rattle.jn_rows.specs.declared.client.Outstanding.{Outstanding}
 use Rattle.jn_system_settling.proofs.AtRest.Begins.{Good, good-go}
+use Rattle.jn_system_settling.specs.AtRest.Calls.{AreOnTheirWay}
 use Rattle.jn_system_settling.proofs.AtRest.Settling.{course-talking}
+use Rattle.jn_system_settling.proofs.AtRest.OnTheWay.{on-way, on-their-way}
 use Rattle.jn_at_rest.proofs.Lined.{IsLined, go-lined, on-lined, may-lined}
 use Rattle.jn_at_rest.proofs.Downs.{downs, downs-mute, crashes, may-crash, closed-lined}
 
@@ -21,6 +23,7 @@ module _ (x : Setup) (few : x.servers ≤ 8) (files : AllFiles) (epochs : Server
     pub twin : Course
     pub lined : IsLined (downs 0 x.servers) c twin
     pub good : Good x.servers few (opening x.servers files epochs) files epochs twin
+    pub way : AreOnTheirWay twin
 
   good-on : (steps : List Step) (d : Course) → IsGood d → IsRun steps d.world → IsGood (go_on steps d)
   good-on [] d h i = h
@@ -31,6 +34,7 @@ module _ (x : Setup) (few : x.servers ≤ 8) (files : AllFiles) (epochs : Server
     twin = go_on steps h.twin;
     lined = on-lined before_all (downs-mute 0 x.servers) steps c h.twin h.lined;
     good = good-on steps h.twin h.good (may-lined before_all (downs-mute 0 x.servers) steps c h.twin h.lined i);
+    way = on-way x.servers few files epochs steps h.twin h.good (may-lined before_all (downs-mute 0 x.servers) steps c h.twin h.lined i) h.way;
   }
 
   -- what waits is dropped as the clients are dismissed
@@ -51,6 +55,7 @@ module _ (x : Setup) (few : x.servers ≤ 8) (files : AllFiles) (epochs : Server
       requests = g.requests;
       replies = record { each = λ k c q a e. inr (λ o is same. absurd (none-waits o is)) };
     };
+    way = λ client o is does. absurd (none-waits o is);
   }
     where
       none-waits : (o : Outstanding) → None ≡ Some o → ⊥
@@ -91,6 +96,7 @@ module _ (x : Setup) (few : x.servers ≤ 8) (files : AllFiles) (epochs : Server
     twin = go_on (crashes 0 x.servers) (opening_course x.servers files epochs);
     lined = closed-lined x.servers files epochs;
     good = course-talking x.servers few files epochs (crashes 0 x.servers) (may-crash (servers_from 0 x.servers) (opening x.servers files epochs));
+    way = on-their-way x.servers few files epochs (crashes 0 x.servers) (may-crash (servers_from 0 x.servers) (opening x.servers files epochs));
   }
 
 pub written-held : (x : Setup) (few : x.servers ≤ 8) (schedule : List Event) (images : Devices) (a : Moment) (run : IsWritten x schedule images a) → (a.state.stage ≡ CutShort → ⊥) → Held x few run.files run.epochs a.state.course

@@ -3,6 +3,7 @@ pub mod Lined
 pub mod Downs
 pub mod Held
 pub mod Going
+pub mod Awaiting
 pub mod Resting
 pub mod Asking
 pub mod Settling

@@ -1,5 +1,5 @@
 -- A run comes once to where these tasks are left, unless a rest is the first of them.
-use Rattle.jn_at_rest.proofs.Common.{◌≡◌, ◌⊎◌, inl, inr, ℕ, suc, ◌+◌, ◌≤◌, ◌<◌, Bool, true, false, List, [], ◌∷◌, ◌++◌, length, Option, Some, None, refl, sym, ◌∙◌, ap, subst, arith, if◌then◌else◌, slice_get, ServerNo, Client, Server, Sent, Event, World, Memory, Setup, Chance, Task, Begins, Meets, Acts, Rests, ComesUp, Dismisses, GoesDown, ClosesClients, CountsCommits, Stage, InSchedule, AtEnd, CutShort, State, next_at, first_of_tasks, delivered, delivered_at, is_busy, served, working_steps, nothing, crashed_at, is_used_up, given_up, recovered, settling, asking, acted, met, resting, next_in, deed_of, none, more, Moment, DoesStep, Leads, GoesOn, IsCut, does, step_calls, ClientNo, ClientTable}
+use Rattle.jn_at_rest.proofs.Common.{◌≡◌, ◌⊎◌, inl, inr, ℕ, suc, ◌+◌, ◌≤◌, ◌<◌, Bool, true, false, List, [], ◌∷◌, ◌++◌, length, Option, Some, None, refl, sym, ◌∙◌, ap, subst, arith, if◌then◌else◌, slice_get, ServerNo, Client, Server, Sent, Event, World, Memory, Setup, Chance, Task, Begins, Meets, Acts, Rests, ComesUp, Dismisses, GoesDown, ClosesClients, CountsCommits, Stage, InSchedule, AtEnd, CutShort, State, next_at, first_of_tasks, delivered, delivered_at, is_busy, served, working_steps, nothing, crashed_at, is_used_up, given_up, recovered, settling, asking, acted, met, resting, next_in, deed_of, none, more, Moment, DoesStep, Leads, GoesOn, IsCut, does, step_calls, ClientNo, Caller}
 use Rattle.jn_report.specs.declared.line.EventRefusal.{EventRefusal}
 use Rattle.jn_report.specs.declared.line.EventRefusal.TheVariants.{EpochsUsedUp}
 use Rattle.jn_report.specs.declared.line.Text.TheVariants as says
@@ -41,7 +41,7 @@ module _ (x : Setup) (size : ℕ) (size_is : length (settling x) ≡ size) where
   none-left : (n : ℕ) → 0 ≤ n
   none-left n = omega arith
 
-  module _ (h : Chance) (t : ClientNo → ClientTable) (w : World) where
+  module _ (h : Chance) (t : ClientNo → Caller) (w : World) where
     delivered-few : (k : ℕ) (o : Option Sent) → weigh (delivered h k t w o).tasks ≤ size
     delivered-few k None = none-left size
     delivered-few k (Some (Client c, message)) = none-left size
@@ -110,17 +110,17 @@ module _ (x : Setup) (size : ℕ) (size_is : length (settling x) ≡ size) where
   -- what a task leaves weighs less
   lightens : (h : Chance) (t : Task) (s : State) → (t ≡ Rests) ⊎ (weigh (deed_of x h t s).tasks < weight t)
   lightens h (Begins event) s = inr (omega arith)
-  lightens h (Meets event) s = inr (met-less h s.clients s.course.world event (refusal_of x s.course.world event))
-  lightens h (Acts event) s = inr (acts-less h s.clients s.course.world event)
+  lightens h (Meets event) s = inr (met-less h s.callers s.course.world event (refusal_of x s.course.world event))
+  lightens h (Acts event) s = inr (acts-less h s.callers s.course.world event)
   lightens h Rests s = inl refl
-  lightens h (ComesUp q) s = inr (up-less h s.clients s.course.world q (is_used_up h q s.course.world))
+  lightens h (ComesUp q) s = inr (up-less h s.callers s.course.world q (is_used_up h q s.course.world))
   lightens h Dismisses s = inr (omega arith)
-  lightens h (GoesDown q) s = inr (down-less h s.clients s.course.world q (s.course.world.memory q))
+  lightens h (GoesDown q) s = inr (down-less h s.callers s.course.world q (s.course.world.memory q))
   lightens h (ClosesClients q) s = inr (omega arith)
   lightens h CountsCommits s = inr (omega arith)
 
   rests-few : (h : Chance) (s : State) → weigh (deed_of x h Rests s).tasks ≤ 1
-  rests-few h s = rest-few h s.clients s.course.world (next_in x h.rubbish s.course)
+  rests-few h s = rest-few h s.callers s.course.world (next_in x h.rubbish s.course)
 
   positive : (t : Task) → 0 < weight t
   positive (Begins event) = omega arith

@@ -1,9 +1,21 @@
 -- What a settle of a run leaves where all servers are up as it ends.
 use Rattle.jn_at_rest.proofs.Common.{◌≡◌, ◌⊎◌, inl, inr, ℕ, ◌+◌, ◌≤◌, ◌<◌, true, false, List, [], ◌∷◌, ◌++◌, append_assoc, length, drop, None, refl, sym, ◌∙◌, ap, subst, arith, list_any, ServerNo, AllFiles, Text, World, servers_from, commits_in, Course, go_on, Befalling, clients_from, ask_again, until_rest, settled, NothingGoes, AreUp, AreAnswered, AreForgotten, AreDecided, EndsWait, IsSettled, LeavesBetween, own_texts, tells_waiting, tells_outcome, holds_undecided, live_at, chances_of, asked, reached, Setup, Task, Rests, CutShort, asking, settling, rubbish_on, Steps, Moment, behind, DoesEarlier}
-use Rattle.jn_system_settling.proofs.AtRest.Decided.{settle-settles}
+use Rattle.jn_system_settling.specs.AtRest.Calls.{AreOnTheirWay}
+use Rattle.jn_system_settling.proofs.AtRest.OnTheWay.{on-way}
+use Rattle.jn_system_settling.proofs.AtRest.WithCalls.{told-run, settles-told}
+use Rattle.jn_base.specs.declared.names.ClientNo.{ClientNo}
+use Rattle.jn_base.specs.declared.op.Command.{Command}
+use Rattle.jn_base.specs.declared.op.Command.TheVariants.{Do, End}
+use Rattle.jn_rows.specs.declared.client.Outstanding.{Outstanding}
+use Rattle.jn_callers.specs.declared.doing.Doing.{Doing}
+use Rattle.jn_callers.specs.Laws.{is_done_at, waits_at, may_be_doing}
+use Rattle.jn_machine.specs.Callers.{HasItsTable}
+use Rattle.jn_machine.proofs.Computed.{join}
+use Rattle.jn_machine.proofs.Taking.{waits-alike}
+use Rattle.jn_at_rest.proofs.Common.{Option, Some, Bool, ◌&&◌, Event, Devices, IsWritten, DoesStep, forget, written-tables}
 use Rattle.jn_at_rest.proofs.Lined.{IsLined, on-lined}
 use Rattle.jn_at_rest.proofs.Downs.{downs, downs-mute}
-use Rattle.jn_at_rest.proofs.Held.{Held}
+use Rattle.jn_at_rest.proofs.Held.{Held, written-held}
 use Rattle.jn_at_rest.proofs.Going.{a_rest, all-both, up-before, not-cut, Splits, splits}
 use Rattle.jn_at_rest.proofs.Resting.{Rested, rests}
 use Rattle.jn_at_rest.proofs.Asking.{asking-in, asks}
@@ -51,8 +63,11 @@ module _ (texts : List Text) where
 
 -- ---- the settle
 
-module _ (x : Setup) (few : x.servers ≤ 8) (files : AllFiles) (epochs : ServerNo → ℕ) (rest : List Task) (a b : Moment) (held : Held x few files epochs a.state.course)
+module _ (x : Setup) (few : x.servers ≤ 8) (schedule : List Event) (images : Devices) (rest : List Task) (a b : Moment) (written : IsWritten x schedule images a) (going : a.state.stage ≡ CutShort → ⊥)
     (begins : a.state.tasks ≡ settling x ++ rest) (steps : Steps Moment (DoesEarlier x rest) a b) (ends : b.state.tasks ≡ rest) (whole : b.state.stage ≡ CutShort → ⊥) (up : AreUp x.servers b.state.course.world) where
+  held : Held x few written.files written.epochs a.state.course
+  held = written-held x few schedule images a written going
+
   abbrev last_rest : List Task
   last_rest = Rests ∷ []
 
@@ -74,8 +89,8 @@ module _ (x : Setup) (few : x.servers ≤ 8) (files : AllFiles) (epochs : Server
   up-one : AreUp x.servers one.last.state.course.world
   up-one = up-before x rest (asking x ++ last_rest) one.last b one.tasks (all-both (asking x) last_rest (asking-in x) (a_rest, tt)) one.second up
 
-  first-rest : Rested x texts mute held.twin one.last
-  first-rest = rests x texts mute held.twin ((asking x ++ last_rest) ++ rest) a one.last one.first up-one one.tasks (not-cut x rest one.last b one.second whole) begins held.lined
+  first-rest : Rested x few schedule images texts mute held.twin one.last
+  first-rest = rests x few schedule images texts mute held.twin ((asking x ++ last_rest) ++ rest) a one.last one.first up-one one.tasks (not-cut x rest one.last b one.second whole) begins written held.lined
 
   abbrev middle : Course
   middle = asked x.servers (go_on first-rest.these held.twin)
@@ -84,34 +99,52 @@ module _ (x : Setup) (few : x.servers ≤ 8) (files : AllFiles) (epochs : Server
   at-middle = subst (λ (k : Course). IsLined texts k middle) (sym (asks x (last_rest ++ rest) one.last two.last two.first two.tasks (not-cut x rest two.last b two.second whole) one-tasks))
       (on-lined texts mute (ask_again (clients_from 1 8) (servers_from 0 x.servers)) one.last.state.course (go_on first-rest.these held.twin) first-rest.lined)
 
-  second-rest : Rested x texts mute (asked x.servers (go_on first-rest.these held.twin)) b
-  second-rest = rests x texts mute middle rest two.last b two.second up ends whole two.tasks at-middle
+  written-two : IsWritten x schedule images two.last
+  written-two = record {
+    files = written.files;
+    epochs = written.epochs;
+    are_images = written.are_images;
+    leads = join Moment (DoesStep x) _ one.last two.last (join Moment (DoesStep x) _ a one.last written.leads (forget x ((asking x ++ last_rest) ++ rest) a one.last one.first)) (forget x (last_rest ++ rest) one.last two.last two.first);
+  }
 
-  abbrev first : ℕ → Befalling
-  first = chances_of (servers_from 0 x.servers) first-rest.these held.twin first-rest.comes.next
+  second-rest : Rested x few schedule images texts mute (asked x.servers (go_on first-rest.these held.twin)) b
+  second-rest = rests x few schedule images texts mute middle rest two.last b two.second up ends whole two.tasks written-two at-middle
 
-  abbrev second : ℕ → Befalling
-  second = chances_of (servers_from 0 x.servers) second-rest.these (asked x.servers (go_on first-rest.these held.twin)) second-rest.comes.next
-
-  leaves : LeavesBetween x.servers first second held.twin (IsSettled x.servers)
-  leaves = settle-settles x.servers few files epochs first second held.twin held.good
-
-  abbrev enough : ℕ
-  enough = leaves.steps + (length first-rest.these + length second-rest.these)
-
-  is-settle : settled x.servers (record { first = first; second = second; steps = enough }) held.twin ≡ go_on second-rest.these middle
-  is-settle = ap (λ (k : Course). until_rest (servers_from 0 x.servers) second enough (asked x.servers k)) (reached (servers_from 0 x.servers) first-rest.these held.twin first-rest.comes enough (omega arith))
-      ∙ reached (servers_from 0 x.servers) second-rest.these middle second-rest.comes enough (omega arith)
+  way : AreOnTheirWay (go_on first-rest.these held.twin)
+  way = on-way x.servers few written.files written.epochs first-rest.these held.twin held.good (told-run (servers_from 0 x.servers) first-rest.these held.twin first-rest.comes.each) held.way
 
   up-then : AreUp x.servers (go_on second-rest.these middle).world
   up-then = subst (λ (w : World). AreUp x.servers w) (sym second-rest.lined.world) up
 
   settled-there : IsSettled x.servers held.twin (go_on second-rest.these middle)
-  settled-there = subst (λ (k : Course). IsSettled x.servers held.twin k) is-settle
-      (leaves.each enough (omega arith) (subst (λ (k : Course). AreUp x.servers k.world) (sym is-settle) up-then))
+  settled-there = settles-told x.servers few written.files written.epochs held.twin held.good first-rest.these second-rest.these first-rest.comes second-rest.comes way up-then
 
   pub is-settled : IsSettled x.servers a.state.course b.state.course
   is-settled = settled-lined texts x.servers a.state.course b.state.course held.twin (go_on second-rest.these middle) held.lined second-rest.lined settled-there
 
   pub no-rubbish : (q : ServerNo) → q.0 < x.servers → rubbish_on x b.devices q ≡ false
   no-rubbish = second-rest.rubbish
+
+  -- a client in a call would wait for an operation
+  pub none-calls : (c : ClientNo) → 1 ≤ c.0 → c.0 ≤ 8 → (b.state.callers c).doing ≡ None
+  none-calls c low high = by (b.state.callers c).doing refl
+    where
+      table : HasItsTable b.state c
+      table = written-tables x schedule images b (record { files = written.files; epochs = written.epochs; are_images = written.are_images; leads = join Moment (DoesStep x) _ a b written.leads (forget x rest a b steps) }) c
+
+      first : (p q : Bool) → (p && q) ≡ true → p ≡ true
+      first p q h = grind arith
+
+      not-end : (s : ServerNo) (command : Command) → is_done_at s command ≡ true → command ≡ End → ⊥
+      not-end s End h e = absurd (cc h)
+      not-end s (Do r op) h e = absurd (cc e)
+      not-end s command h e = absurd (cc h)
+
+      waits : (s : ServerNo) (o : Option Outstanding) → (b.state.callers c).table.outstanding ≡ o → waits_at s o ≡ true → ⊥
+      waits s None e h = absurd (cc h)
+      waits s (Some o) e h = let w = waits-alike (b.state.callers c).table (b.state.course.world.clients c) o table.table e in
+          not-end s o.command h (is-settled.answers c (record o { event = w.event }) low high w.outstanding)
+
+      by : (doing : Option Doing) → (b.state.callers c).doing ≡ doing → doing ≡ None
+      by None e = refl
+      by (Some d) e = absurd (waits d.server (b.state.callers c).table.outstanding refl (first _ _ (subst (λ (doing : Option Doing). may_be_doing (b.state.callers c).table doing ≡ true) e table.caller.doing)))

@@ -1,9 +1,8 @@
 -- Every settle of every run settles where it isn't cut short and all servers are up as it ends.
 use Rattle.jn_at_rest.proofs.Common.{◌≡◌, ◌⊎◌, inl, inr, ℕ, suc, ◌≤◌, ◌<◌, List, [], ◌∷◌, ◌++◌, length, Option, sym, ◌∙◌, ap, subst, arith, Event, Text, ServerNo, World, Memory, Course, AreUp, AreDecided, EndsWait, Setup, Task, Begins, Meets, CutShort, settling, Devices, none, more, Steps, Moment, DoesStep, Leads, IsWritten, DoesEarlier, IsOver, IsUnderWay, GoesOn, IsCut, does, stays, comes-through, ComesThrough, LeavesSettled, HasTables, written-tables}
 use Rattle.jn_schedule.specs.declared.Event.TheVariants as events
-use Rattle.jn_machine.proofs.Computed.{join}
-use Rattle.jn_at_rest.proofs.Held.{written-held}
-use Rattle.jn_at_rest.proofs.Settling.{is-settled, no-rubbish}
+use Rattle.jn_at_rest.proofs.Resting.{written-on}
+use Rattle.jn_at_rest.proofs.Settling.{is-settled, no-rubbish, none-calls}
 use Rattle.jn_at_rest.proofs.Told.{told-in-lines}
 use Rattle.jn_at_rest.proofs.Once.{once}
 
@@ -29,10 +28,11 @@ module _ (x : Setup) (behind : List Task) (b : Moment) where
   not-cut-before a leads whole cut = whole (ap (λ (m : Moment). m.state.stage) (stays x a b leads cut) ∙ cut)
 
   pub settles : (few : x.servers ≤ 8) (schedule : List Event) (images : Devices) (a : Moment) → IsWritten x schedule images a → ComesThrough x (settling x) behind a b → AreUp x.servers b.state.course.world → LeavesSettled x a b
-  settles few schedule images a run s up = let held = written-held x few schedule images a run (not-cut-before a s.leads s.whole) in record {
-    settled = is-settled x few run.files run.epochs behind a b held s.begins (its-steps a s) s.ends s.whole up;
+  settles few schedule images a run s up = let going = not-cut-before a s.leads s.whole in record {
+    settled = is-settled x few schedule images behind a b run going s.begins (its-steps a s) s.ends s.whole up;
+    calls = none-calls x few schedule images behind a b run going s.begins (its-steps a s) s.ends s.whole up;
     told = told-in-lines x a b (written-tables x schedule images a run) s.leads;
-    rubbish = no-rubbish x few run.files run.epochs behind a b held s.begins (its-steps a s) s.ends s.whole up;
+    rubbish = no-rubbish x few schedule images behind a b run going s.begins (its-steps a s) s.ends s.whole up;
   }
 
   -- ---- an event
@@ -66,18 +66,11 @@ module _ (x : Setup) (behind : List Task) (b : Moment) where
   pub met : (a : Moment) → ComesThrough x (Meets events.Settle ∷ []) behind a b → First (Meets events.Settle) (settling x) a
   met a s = first-done (Meets events.Settle) a s (settling x) (λ c d g. g.tasks)
 
-  pub written-on : (schedule : List Event) (images : Devices) (a c : Moment) → DoesStep x a c → IsWritten x schedule images a → IsWritten x schedule images c
-  written-on schedule images a c d run = record {
-    files = run.files;
-    epochs = run.epochs;
-    are_images = run.are_images;
-    leads = join Moment (DoesStep x) _ a c run.leads (more a c c d (none c));
-  }
-
   -- the lines of the system and its servers are those of before
   earlier : (a c : Moment) → HasTables a.state → c.state.course.world.lines ≡ a.state.course.world.lines → c.state.course.world.memory ≡ a.state.course.world.memory → LeavesSettled x c b → Leads x a b → LeavesSettled x a b
   earlier a c has lines memory l leads = record {
     settled = record { waits = l.settled.waits; goes = l.settled.goes; answers = l.settled.answers; ends = both.0; flags = l.settled.flags; works = both.1 };
+    calls = l.calls;
     told = told-in-lines x a b has leads;
     rubbish = l.rubbish;
   }
@@ -93,8 +86,8 @@ module _ (x : Setup) (behind : List Task) (b : Moment) where
 
   pub settles-met : (few : x.servers ≤ 8) (schedule : List Event) (images : Devices) (a : Moment) → IsWritten x schedule images a → ComesThrough x (Meets events.Settle ∷ []) behind a b → AreUp x.servers b.state.course.world → LeavesSettled x a b
   settles-met few schedule images a run s up = let f = met a s in
-      earlier a f.next (written-tables x schedule images a run) (ap (λ (k : Course). k.world.lines) f.course.course) (ap (λ (k : Course). k.world.memory) f.course.course) (settles few schedule images f.next (written-on schedule images a f.next f.step run) f.done up) s.leads
+      earlier a f.next (written-tables x schedule images a run) (ap (λ (k : Course). k.world.lines) f.course.course) (ap (λ (k : Course). k.world.memory) f.course.course) (settles few schedule images f.next (written-on x schedule images a f.next f.step run) f.done up) s.leads
 
   pub settles-begun : (few : x.servers ≤ 8) (schedule : List Event) (images : Devices) (a : Moment) → IsWritten x schedule images a → ComesThrough x (Begins events.Settle ∷ []) behind a b → AreUp x.servers b.state.course.world → LeavesSettled x a b
   settles-begun few schedule images a run s up = let f = begun a s in
-      earlier a f.next (written-tables x schedule images a run) (ap (λ (k : Course). k.world.lines) f.course.course) (ap (λ (k : Course). k.world.memory) f.course.course) (settles-met few schedule images f.next (written-on schedule images a f.next f.step run) f.done up) s.leads
+      earlier a f.next (written-tables x schedule images a run) (ap (λ (k : Course). k.world.lines) f.course.course) (ap (λ (k : Course). k.world.memory) f.course.course) (settles-met few schedule images f.next (written-on x schedule images a f.next f.step run) f.done up) s.leads

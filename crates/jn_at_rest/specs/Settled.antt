@@ -1,9 +1,11 @@
 -- What a settle of a run leaves behind where all servers are up as it ends.
-use Rattle.std.specs.Prelude.{◌≡◌, ◌<◌, Bool, true, false, List, [], ◌∷◌, ◌++◌, map, length, drop, Some}
+use Rattle.std.specs.Prelude.{◌≡◌, ◌≤◌, ◌<◌, Bool, true, false, List, [], ◌∷◌, ◌++◌, map, length, drop, Some, None}
 use Rattle.std.specs.List.{list_any}
 use Rattle.jn_base.specs.declared.names.ServerNo.{ServerNo}
+use Rattle.jn_base.specs.declared.names.ClientNo.{ClientNo}
 use Rattle.jn_report.specs.declared.line.Line.{Line}
 use Rattle.jn_report.specs.declared.line.Text.{Text}
+use Rattle.jn_report.specs.declared.line.Text.TheVariants as says
 use Rattle.jn_schedule.specs.declared.Event.{Event}
 use Rattle.jn_schedule.specs.declared.Event.TheVariants as events
 use Rattle.jn_system_settling.specs.AtRest.Settled.{AreUp, IsSettled}
@@ -18,6 +20,13 @@ use Rattle.jn_machine.specs.Tasks.{Task, Begins, Rests, CountsCommits, CutShort,
 abbrev pub texts_since : List Line → List Line → List Text
 texts_since before now = map (λ (l : Line). l.text) (drop (length before) now)
 
+-- What a client is told of an operation. Of one that a call asks it is told nothing, or how the call ends.
+abbrev pub answers_operation : Text → Bool
+answers_operation (says.Did c j) = true
+answers_operation (says.Read c j bytes) = true
+answers_operation (says.Refused c j refusal) = true
+answers_operation text = false
+
 -- These tasks come next at the first moment, and at the second one they are done, with those behind them left, of which the first is no rest. It isn't cut short.
 pub record ComesThrough (x : Setup) (tasks behind : List Task) (a b : Moment) : Type 0 where
   pub begins : a.state.tasks ≡ tasks ++ behind
@@ -30,8 +39,10 @@ pub record ComesThrough (x : Setup) (tasks behind : List Task) (a b : Moment) : 
 -- settle, and each live work is of a transaction that its coordinator holds undecided or whose outcome was reported in it, or it wasn't live before.
 pub record LeavesSettled (x : Setup) (a b : Moment) : Type 0 where
   pub settled : IsSettled x.servers a.state.course b.state.course
-  -- whatever the system reported in this settle is in a line of it
-  pub told : (is : Text → Bool) → list_any is (own_texts a.state.course.world b.state.course.world) ≡ true → list_any is (texts_since a.state.lines b.state.lines) ≡ true
+  -- no call is under way
+  pub calls : (c : ClientNo) → 1 ≤ c.0 → c.0 ≤ 8 → (b.state.callers c).doing ≡ None
+  -- whatever the system reported in this settle is in a line of it, but for what is told of operations
+  pub told : (is : Text → Bool) → ((text : Text) → answers_operation text ≡ true → is text ≡ false) → list_any is (own_texts a.state.course.world b.state.course.world) ≡ true → list_any is (texts_since a.state.lines b.state.lines) ≡ true
   -- and no record on a server's pages is rubbish
   pub rubbish : (q : ServerNo) → q.0 < x.servers → rubbish_on x b.devices q ≡ false
 

@@ -4,7 +4,7 @@
 ghost use Rattle.std.specs.Prelude.{◌≡◌, ◌≤◌, List, [], ◌∷◌, ◌++◌, map, Some};
 ghost use Rattle.std.specs.List.{AllByRecursion};
 ghost use Rattle.jn_at_rest.specs.Settled.{ComesThrough, LeavesSettled, SettleEach, SettlesAtEnd};
-ghost use Rattle.jn_bounds.specs.Settles.{IsWithinBound};
+ghost use Rattle.jn_bounds.specs.Settles.{IsWithinBound, calling};
 ghost use Rattle.jn_report.specs.declared.line.Line.{Line};
 ghost use Rattle.jn_schedule.specs.declared.Event.{Event};
 ghost use Rattle.jn_schedule.specs.declared.Event.TheVariants as events;
@@ -31,11 +31,11 @@ pub fn a_settle_of_a_run_settles()
 /// And it is within its bound, also where servers are stopped in it.
 pub fn a_settle_of_a_run_is_within_its_bound()
     ensures tasks { (x : Setup) (schedule : List Event) (images : Devices) (a b : Moment) (behind : List Task) → x.servers ≤ 8 → IsWritten x schedule images a → ComesThrough x (settling x) behind a b
-        → IsWithinBound x.servers a.state.course b.state.course }
+        → IsWithinBound x.servers (calling schedule) a.state b.state }
     ensures meets { (x : Setup) (schedule : List Event) (images : Devices) (a b : Moment) (behind : List Task) → x.servers ≤ 8 → IsWritten x schedule images a → ComesThrough x (Meets events.Settle ∷ []) behind a b
-        → IsWithinBound x.servers a.state.course b.state.course }
+        → IsWithinBound x.servers (calling schedule) a.state b.state }
     ensures begins { (x : Setup) (schedule : List Event) (images : Devices) (a b : Moment) (behind : List Task) → x.servers ≤ 8 → IsWritten x schedule images a → ComesThrough x (Begins events.Settle ∷ []) behind a b
-        → IsWithinBound x.servers a.state.course b.state.course }
+        → IsWithinBound x.servers (calling schedule) a.state b.state }
 {}
 
 /// No rest is left after a settle: after that of an event the next event begins, or the end does, and after that of the end the files are printed.

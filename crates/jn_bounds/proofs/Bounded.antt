@@ -1,10 +1,8 @@
 -- A settle, task by task, is within its bound.
-use Rattle.jn_bounds.proofs.Common.{◌≡◌, ◌⊎◌, inl, inr, ◌≤◌, ◌<◌, ℕ, ◌+◌, ◌*◌, List, [], ◌∷◌, ◌++◌, append_assoc, length, Option, Some, None, refl, sym, ◌∙◌, ap, subst, arith, map, ServerNo, ClientNo, Event, World, servers_from, Course, go_on, clients_from, Sound, IsBalanced, Bounded, Asked, servers-length, waiting-light, waiting-weighs, Setup, Chance, Task, Acts, Rests, State, begun, servers_of, settling, next_in, resting, deed_of, none, more, Steps, Moment, DoesStep, DoesEarlier, Settles, IsWithinBound, ClientTable}
+use Rattle.jn_bounds.proofs.Common.{◌≡◌, ◌⊎◌, inl, inr, ◌≤◌, ◌<◌, ℕ, ◌+◌, ◌*◌, List, [], ◌∷◌, ◌++◌, append_assoc, length, Option, Some, None, refl, sym, ◌∙◌, ap, subst, arith, map, ServerNo, ClientNo, Event, World, servers_from, Course, go_on, clients_from, Sound, IsBalanced, Asked, servers-length, waiting-light, waiting-weighs, Setup, Chance, Task, Acts, Rests, State, begun, servers_of, settling, next_in, resting, deed_of, none, more, Steps, Moment, DoesStep, DoesEarlier, Settles, IsWithinBound, burden, deliveries, Caller, calls_left, NoOtherCalls, load}
 use Rattle.jn_schedule.specs.declared.Event.TheVariants as events
-use Rattle.jn_system_settling.specs.Settling.Weights.{burden}
-use Rattle.jn_system_settling.specs.Settling.Bounds.{deliveries}
 use Rattle.jn_bounds.proofs.Doing.{GoesOn, IsCut, does}
-use Rattle.jn_bounds.proofs.Lighter.{rests, client-asks, server-asks}
+use Rattle.jn_bounds.proofs.Lighter.{Lightens, rests, client-asks, server-asks}
 
 -- ---- what tasks may add
 
@@ -51,7 +49,7 @@ servers-in : (qs : List ServerNo) → AllInSettle (map (λ (q : ServerNo). Acts 
 servers-in [] = tt
 servers-in (q ∷ qs) = (a_server q, servers-in qs)
 
-module _ (x : Setup) (at_most : x.servers ≤ 8) (start : World) where
+module _ (x : Setup) where
   abbrev its_clients : List Task
   its_clients = map (λ (c : ClientNo). Acts (events.Again c)) (clients_from 1 8)
 
@@ -65,91 +63,99 @@ module _ (x : Setup) (at_most : x.servers ≤ 8) (start : World) where
   settling-in : AllInSettle (settling x)
   settling-in = (a_rest, all-both (its_clients ++ its_servers) (Rests ∷ []) (all-both its_clients its_servers (clients-in (clients_from 1 8)) (servers-in (servers_of x))) (a_rest, tt))
 
+  begun-same : (t : Task) (s : State) → InSettle t → (begun t s).course ≡ s.course
+  begun-same t s a_rest = refl
+  begun-same t s (a_client c) = refl
+  begun-same t s (a_server q) = refl
+
+module _ (x : Setup) (at_most : x.servers ≤ 8) (start : World) (clients : List ClientNo) where
   -- ---- one step
 
-  -- from a course with tasks that may add so much to one with tasks that may add so much
-  record Lighter (c now : Course) (before left : ℕ) : Type 0 where
+  -- from a course and clients, with tasks that may add so much, to others with tasks that may add so much
+  record Lighter (c : Course) (f : ClientNo → Caller) (now : Course) (g : ClientNo → Caller) (before left : ℕ) : Type 0 where
     sound : Sound x.servers start now
-    few : deliveries now.steps + burden (servers_from 0 x.servers) now + left ≤ deliveries c.steps + burden (servers_from 0 x.servers) c + before
+    few : deliveries now.steps + (burden (servers_from 0 x.servers) now + 2 * calls_left g clients) + left ≤ deliveries c.steps + (burden (servers_from 0 x.servers) c + 2 * calls_left f clients) + before
     balance : IsBalanced c now
+    others : NoOtherCalls g clients
 
-  as-bounded : (c now : Course) → Bounded x.servers at_most start c now → Lighter c now 0 0
-  as-bounded c now b = record { sound = b.sound; few = let l = b.few in omega (arith, l); balance = b.balance }
+  as-lightens : (c : Course) (f : ClientNo → Caller) (now : Course) (g : ClientNo → Caller) → Lightens x.servers at_most start clients c f now g → Lighter c f now g 0 0
+  as-lightens c f now g b = record { sound = b.sound; few = let l = b.few in omega (arith, l); balance = b.balance; others = b.others }
 
-  as-asked : (c now : Course) (extra : ℕ) → Asked x.servers at_most start c now extra → Lighter c now extra 0
-  as-asked c now extra a = record { sound = a.sound; few = let l = a.heavier in let same = a.same in omega (arith, l, same); balance = a.balance }
+  as-asked : (c now : Course) (f : ClientNo → Caller) (extra : ℕ) → NoOtherCalls f clients → Asked x.servers at_most start c now extra → Lighter c f now f extra 0
+  as-asked c now f extra others a = record { sound = a.sound; few = let l = a.heavier in let same = a.same in omega (arith, l, same); balance = a.balance; others = others }
 
-  unmoved : (c now : Course) (before : ℕ) → Sound x.servers start c → now ≡ c → Lighter c now before 0
-  unmoved c now before h e = subst (λ (z : Course). Lighter c z before 0) (sym e) (record { sound = h; few = omega arith; balance = refl })
+  unmoved : (c now : Course) (f g : ClientNo → Caller) (before : ℕ) → Sound x.servers start c → NoOtherCalls f clients → now ≡ c → g ≡ f → Lighter c f now g before 0
+  unmoved c now f g before h others e k = subst (λ (z : Course). Lighter c f z g before 0) (sym e) (subst (λ (z : ClientNo → Caller). Lighter c f c z before 0) (sym k)
+      (record { sound = h; few = omega arith; balance = refl; others = others }))
 
   -- what it leaves to do is of a settle too
   record Goes (behind : List Task) (a c : Moment) (before : ℕ) : Type 0 where
     left : List Task
     tasks : c.state.tasks ≡ left ++ behind
     all : AllInSettle left
-    lighter : Lighter a.state.course c.state.course before (add_all left)
+    lighter : Lighter a.state.course a.state.callers c.state.course c.state.callers before (add_all left)
 
-  rest-tasks : (h : Chance) (t : ClientNo → ClientTable) (w : World) (o : Option Event) → AllInSettle (resting x h t w o).tasks × (add_all (resting x h t w o).tasks ≡ 0)
-  rest-tasks h t w None = (tt, refl)
-  rest-tasks h t w (Some event) = ((a_rest, tt), refl)
+  rest-tasks : (h : Chance) (f : ClientNo → Caller) (w : World) (o : Option Event) → AllInSettle (resting x h f w o).tasks × (add_all (resting x h f w o).tasks ≡ 0)
+  rest-tasks h f w None = (tt, refl)
+  rest-tasks h f w (Some event) = ((a_rest, tt), refl)
 
   -- what a task leaves to do
   record Leaves (h : Chance) (t : Task) (a : Moment) : Type 0 where
     all : AllInSettle (deed_of x h t a.state).tasks
     nothing : add_all (deed_of x h t a.state).tasks ≡ 0
-    lighter : Lighter a.state.course (go_on (deed_of x h t a.state).steps a.state.course) (adds t) 0
+    lighter : Lighter a.state.course a.state.callers (go_on (deed_of x h t a.state).steps a.state.course) ((deed_of x h t a.state).callers a.state.callers) (adds t) 0
 
-  leaves : (h : Chance) (t : Task) (a : Moment) → InSettle t → Sound x.servers start a.state.course → Leaves h t a
-  leaves h t a a_rest s = let ts = rest-tasks h a.state.clients a.state.course.world (next_in x h.rubbish a.state.course) in
-      record { all = ts.0; nothing = ts.1; lighter = as-bounded a.state.course _ (rests x at_most start h a.state.clients a.state.course s) }
-  leaves h t a (a_client c) s = record { all = tt; nothing = refl; lighter = as-asked a.state.course _ 161 (client-asks x.servers at_most start a.state.course c s) }
-  leaves h t a (a_server q) s = record { all = tt; nothing = refl; lighter = as-asked a.state.course _ 103040 (server-asks x.servers at_most start a.state.course q s) }
+  leaves : (h : Chance) (t : Task) (a : Moment) → InSettle t → Sound x.servers start a.state.course → NoOtherCalls a.state.callers clients → Leaves h t a
+  leaves h t a a_rest s others = let ts = rest-tasks h a.state.callers a.state.course.world (next_in x h.rubbish a.state.course) in
+      record { all = ts.0; nothing = ts.1; lighter = as-lightens a.state.course a.state.callers _ _ (rests x at_most start clients h a.state.callers others a.state.course s) }
+  leaves h t a (a_client c) s others = record { all = tt; nothing = refl; lighter = as-asked a.state.course _ a.state.callers 161 others (client-asks x.servers at_most start a.state.course c s) }
+  leaves h t a (a_server q) s others = record { all = tt; nothing = refl; lighter = as-asked a.state.course _ a.state.callers 103040 others (server-asks x.servers at_most start a.state.course q s) }
 
-  begun-same : (t : Task) (s : State) → InSettle t → (begun t s).course ≡ s.course
-  begun-same t s a_rest = refl
-  begun-same t s (a_client c) = refl
-  begun-same t s (a_server q) = refl
-
-  goes : (behind : List Task) (t : Task) (front : List Task) (a c : Moment) → DoesStep x a c → a.state.tasks ≡ t ∷ front ++ behind → InSettle t → AllInSettle front → Sound x.servers start a.state.course
+  goes : (behind : List Task) (t : Task) (front : List Task) (a c : Moment) → DoesStep x a c → a.state.tasks ≡ t ∷ front ++ behind → InSettle t → AllInSettle front → Sound x.servers start a.state.course → NoOtherCalls a.state.callers clients
       → Goes behind a c (add_all (t ∷ front))
-  goes behind t front a c d is one all s = by (does x t (front ++ behind) a c d is)
+  goes behind t front a c d is one all s others = by (does x t (front ++ behind) a c d is)
     where
       same : (begun t a.state).course ≡ a.state.course
-      same = begun-same t a.state one
+      same = begun-same x t a.state one
 
       by : GoesOn x d.chance t (front ++ behind) a c ⊎ IsCut t (front ++ behind) a c → Goes behind a c (add_all (t ∷ front))
-      by (inl g) = let l = leaves d.chance t a one s in let course : c.state.course ≡ go_on (deed_of x d.chance t a.state).steps a.state.course = g.course ∙ ap (go_on (deed_of x d.chance t a.state).steps) same in
+      by (inl g) = let l = leaves d.chance t a one s others in let course : c.state.course ≡ go_on (deed_of x d.chance t a.state).steps a.state.course = g.course ∙ ap (go_on (deed_of x d.chance t a.state).steps) same in
           let both = adds-both (deed_of x d.chance t a.state).tasks front in let nothing = l.nothing in record {
             left = (deed_of x d.chance t a.state).tasks ++ front;
             tasks = g.tasks ∙ sym (append_assoc (deed_of x d.chance t a.state).tasks front behind);
             all = all-both (deed_of x d.chance t a.state).tasks front l.all all;
-            lighter = subst (λ (z : Course). Lighter a.state.course z (add_all (t ∷ front)) (add_all ((deed_of x d.chance t a.state).tasks ++ front))) (sym course)
-                (record { sound = l.lighter.sound; few = let few = l.lighter.few in omega (arith, few, both, nothing); balance = l.lighter.balance });
+            lighter = subst (λ (z : Course). Lighter a.state.course a.state.callers z c.state.callers (add_all (t ∷ front)) (add_all ((deed_of x d.chance t a.state).tasks ++ front))) (sym course)
+                (subst (λ (z : ClientNo → Caller). Lighter a.state.course a.state.callers (go_on (deed_of x d.chance t a.state).steps a.state.course) z (add_all (t ∷ front)) (add_all ((deed_of x d.chance t a.state).tasks ++ front))) (sym g.callers)
+                (record { sound = l.lighter.sound; few = let few = l.lighter.few in omega (arith, few, both, nothing); balance = l.lighter.balance; others = l.lighter.others }));
           }
-      by (inr k) = let u = unmoved a.state.course c.state.course (adds t) s (k.course ∙ same) in record {
+      by (inr k) = let u = unmoved a.state.course c.state.course a.state.callers c.state.callers (adds t) s others (k.course ∙ same) k.callers in record {
         left = front;
         tasks = k.tasks;
         all = all;
-        lighter = record { sound = u.sound; few = let few = u.few in omega (arith, few); balance = u.balance };
+        lighter = record { sound = u.sound; few = let few = u.few in omega (arith, few); balance = u.balance; others = u.others };
       }
 
   -- ---- all steps
 
-  walk : (behind left : List Task) (a b : Moment) → a.state.tasks ≡ left ++ behind → AllInSettle left → Sound x.servers start a.state.course → Steps Moment (DoesEarlier x behind) a b
-      → Lighter a.state.course b.state.course (add_all left) 0
-  walk behind left a b is all s (none m) = record { sound = s; few = omega arith; balance = refl }
-  walk behind [] a b is all s (more u c v d rest) = absurd (no-less (length behind) (subst (λ (ts : List Task). length behind < length ts) is d.earlier))
+  walk : (behind left : List Task) (a b : Moment) → a.state.tasks ≡ left ++ behind → AllInSettle left → Sound x.servers start a.state.course → NoOtherCalls a.state.callers clients → Steps Moment (DoesEarlier x behind) a b
+      → Lighter a.state.course a.state.callers b.state.course b.state.callers (add_all left) 0
+  walk behind left a b is all s others (none m) = record { sound = s; few = omega arith; balance = refl; others = others }
+  walk behind [] a b is all s others (more u c v d rest) = absurd (no-less (length behind) (subst (λ (ts : List Task). length behind < length ts) is d.earlier))
     where
       no-less : (m : ℕ) → m < m → ⊥
       no-less m l = omega (arith, l)
-  walk behind (t ∷ front) a b is all s (more u c v d rest) = let one = goes behind t front a c d.step is all.0 all.1 s in
-      let more = walk behind one.left c b one.tasks one.all one.lighter.sound rest in
-      record { sound = more.sound; few = let p = one.lighter.few in let q = more.few in omega (arith, p, q); balance = let p = one.lighter.balance in let q = more.balance in omega (arith, p, q) }
+  walk behind (t ∷ front) a b is all s others (more u c v d rest) = let one = goes behind t front a c d.step is all.0 all.1 s others in
+      let more = walk behind one.left c b one.tasks one.all one.lighter.sound one.lighter.others rest in
+      record { sound = more.sound; few = let p = one.lighter.few in let q = more.few in omega (arith, p, q); balance = let p = one.lighter.balance in let q = more.balance in omega (arith, p, q); others = more.others }
 
-  pub is-bounded : (behind : List Task) (a b : Moment) → Sound x.servers start a.state.course → Settles x behind a b → IsWithinBound x.servers a.state.course b.state.course
-  is-bounded behind a b s h = let w = walk behind (settling x) a b h.begins settling-in s h.steps in let few = w.few in let balance = w.balance in let adds = settling-adds in
+  pub is-bounded : (behind : List Task) (a b : Moment) → Sound x.servers start a.state.course → NoOtherCalls a.state.callers clients → Settles x behind a b → IsWithinBound x.servers clients a.state b.state
+  is-bounded behind a b s others h = let w = walk behind (settling x) a b h.begins (settling-in x) s others h.steps in let few = w.few in let balance = w.balance in let adds = settling-adds x in
       let waits = waiting-light a.state.course.world.sent a.state.course.waiting in let left = waiting-weighs b.state.course.world.sent b.state.course.waiting w.sound.below in record {
         handed = omega (arith, few, adds, waits);
         no_longer_waiting = omega (arith, few, adds, waits, balance);
         sent = omega (arith, few, adds, waits, balance, left);
       }
+
+  pub each-lightens : (behind : List Task) (a b : Moment) → Sound x.servers start a.state.course → NoOtherCalls a.state.callers clients → a.state.tasks ≡ Rests ∷ behind → DoesStep x a b
+      → deliveries b.state.course.steps + load x.servers clients b.state ≤ deliveries a.state.course.steps + load x.servers clients a.state
+  each-lightens behind a b s others is d = let g = goes behind Rests [] a b d is a_rest tt s others in let few = g.lighter.few in omega (arith, few)

@@ -19,15 +19,21 @@ begun-tasks : (task : Task) (s : State) → (begun task s).tasks ≡ drop 1 s.ta
 begun-tasks Dismisses s = refl
 begun-tasks task s = refl
 
+begun-callers : (task : Task) (s : State) → (begun task s).callers ≡ s.callers
+begun-callers Dismisses s = refl
+begun-callers task s = refl
+
 -- the step goes on, or cuts the run short
 pub record GoesOn (x : Setup) (h : Chance) (t : Task) (behind : List Task) (a c : Moment) : Type 0 where
   pub tasks : c.state.tasks ≡ (deed_of x h t a.state).tasks ++ behind
   pub course : c.state.course ≡ go_on (deed_of x h t a.state).steps (begun t a.state).course
+  pub callers : c.state.callers ≡ (deed_of x h t a.state).callers a.state.callers
   pub stage : c.state.stage ≡ (begun t a.state).stage
 
 pub record IsCut (t : Task) (behind : List Task) (a c : Moment) : Type 0 where
   pub tasks : c.state.tasks ≡ behind
   pub course : c.state.course ≡ (begun t a.state).course
+  pub callers : c.state.callers ≡ a.state.callers
   pub stage : c.state.stage ≡ CutShort
 
 module _ (x : Setup) where
@@ -56,9 +62,9 @@ module _ (x : Setup) where
 
       by : (b : Bool) → is_too_much deed (go_on deed.steps (begun t a.state).course) ≡ b → GoesOn x d.chance t behind a c ⊎ IsCut t behind a c
       by true e = let s : c.state ≡ cut_short (begun t a.state) = its ∙ ap made_if e in
-          inr (record { tasks = ap (λ (s : State). s.tasks) s ∙ left; course = ap (λ (s : State). s.course) s; stage = ap (λ (s : State). s.stage) s })
+          inr (record { tasks = ap (λ (s : State). s.tasks) s ∙ left; course = ap (λ (s : State). s.course) s; callers = ap (λ (s : State). s.callers) s ∙ begun-callers t a.state; stage = ap (λ (s : State). s.stage) s })
       by false e = let s : c.state ≡ come_to x d.chance deed (go_on deed.steps (begun t a.state).course) (begun t a.state) = its ∙ ap made_if e in
-          inl (record { tasks = ap (λ (s : State). s.tasks) s ∙ ap (λ (ts : List Task). deed.tasks ++ ts) left; course = ap (λ (s : State). s.course) s; stage = ap (λ (s : State). s.stage) s })
+          inl (record { tasks = ap (λ (s : State). s.tasks) s ∙ ap (λ (ts : List Task). deed.tasks ++ ts) left; course = ap (λ (s : State). s.course) s; callers = ap (λ (s : State). s.callers) s ∙ ap deed.callers (begun-callers t a.state); stage = ap (λ (s : State). s.stage) s })
 
   -- a run that was cut short goes no further
   pub stays : (a b : Moment) → Leads x a b → a.state.stage ≡ CutShort → b ≡ a
