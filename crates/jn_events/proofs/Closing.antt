@@ -1,5 +1,5 @@
 -- The parts of the end, as the written machine has them.
-use Rattle.jn_events.proofs.Common.{slice_get-get_or, ServerNo, DeviceState, AreIdle, DoesTasks, Task, ClosesClients, CountsCommits, when_of, Closed, WhereUp, KeepsBeside, StandsThere, is_up, Place, Slot, Down, Up, Gone, Counts, counts_by, Line, When, over-fits, ClientTable, over, pairs_view, StoreView, place-at, IsWorld, is_up_at, is_up_in, IsClientOf, standing_of, DoesEvent, World, there-is, counts-step, WentOn, HasCounts, Standing, ◌≡◌, ℕ, Some, false, true≢false, refl, ◌<◌, get_or, length, Option, sym, ◌∙◌, ap, Ok, Bool, true, ◌≤◌, [], ◌∷◌, slice_set, subst, ◌+◌, ◌++◌, map, None, zero, suc, arith, set, All-set, All-get_or, slice_get-map, with_item}
+use Rattle.jn_events.proofs.Common.{slice_get-get_or, ServerNo, DeviceState, AreIdle, DoesTasks, Task, ClosesClients, CountsCommits, when_of, Closed, WhereUp, KeepsBeside, StandsThere, is_up, Place, Slot, Down, Up, Gone, Counts, counts_by, Line, When, dismissed-fits, Caller, dismissed_caller, pairs_view, StoreView, place-at, IsWorld, is_up_at, is_up_in, IsClientOf, standing_of, DoesEvent, World, there-is, counts-step, WentOn, HasCounts, Standing, ◌≡◌, ℕ, Some, false, true≢false, refl, ◌<◌, get_or, length, Option, sym, ◌∙◌, ap, Ok, Bool, true, ◌≤◌, [], ◌∷◌, slice_set, subst, ◌+◌, ◌++◌, map, None, zero, suc, arith, set, All-set, All-get_or, slice_get-map, with_item}
 use Rattle.jn_events.proofs.Bringing.{same-place}
 use Rattle.jn_events.proofs.Turns.{next-first}
 use Rattle.jn_system.specs.WholeSystem.Steps.{IsIdle}
@@ -73,47 +73,47 @@ module _ {S : Type 0} (look : S → StoreView) (device : S → DeviceState) (see
 
 -- ---- dismissed clients
 
-pub are-idle : (ts : List ClientTable) → AreIdle (map over ts)
-are-idle ts n t e = by (slice_get ts n) (sym (slice_get-map over ts n) ∙ e)
+pub are-idle : (ts : List Caller) → AreIdle (map dismissed_caller ts)
+are-idle ts n t e = by (slice_get ts n) (sym (slice_get-map dismissed_caller ts n) ∙ e)
   where
-    some : (a b : ClientTable) → Some a ≡ Some b → a ≡ b
+    some : (a b : Caller) → Some a ≡ Some b → a ≡ b
     some a b q = cc
 
-    by : (o : Option ClientTable) → option_map over o ≡ Some t → IsIdle t
+    by : (o : Option Caller) → option_map dismissed_caller o ≡ Some t → IsIdle t.table
     by None h = absurd (cc h)
-    by (Some old) h = subst (λ (u : ClientTable). IsIdle u) (some (over old) t h) (refl, refl)
+    by (Some old) h = subst (λ (u : Caller). IsIdle u.table) (some (dismissed_caller old) t h) (refl, refl)
 
--- so many of them are over
-abbrev pub over_first : ℕ → List ClientTable → List ClientTable
+-- so many of them are dismissed
+abbrev pub over_first : ℕ → List Caller → List Caller
 over_first zero ts = ts
 over_first (suc n) [] = []
-over_first (suc n) (t ∷ ts) = over t ∷ over_first n ts
+over_first (suc n) (t ∷ ts) = dismissed_caller t ∷ over_first n ts
 
-pub over-more : (n : ℕ) (ts : List ClientTable) (d : ClientTable) → n < length ts → set (over_first n ts) n (over (get_or (over_first n ts) n d)) ≡ over_first (suc n) ts
+pub over-more : (n : ℕ) (ts : List Caller) (d : Caller) → n < length ts → set (over_first n ts) n (dismissed_caller (get_or (over_first n ts) n d)) ≡ over_first (suc n) ts
 over-more zero [] d h = absurd (omega arith)
 over-more zero (t ∷ ts) d h = refl
 over-more (suc n) [] d h = absurd (omega arith)
-over-more (suc n) (t ∷ ts) d h = ap (λ (us : List ClientTable). over t ∷ us) (over-more n ts d (omega arith))
+over-more (suc n) (t ∷ ts) d h = ap (λ (us : List Caller). dismissed_caller t ∷ us) (over-more n ts d (omega arith))
 
-pub over-all : (n : ℕ) (ts : List ClientTable) → length ts ≤ n → over_first n ts ≡ map over ts
+pub over-all : (n : ℕ) (ts : List Caller) → length ts ≤ n → over_first n ts ≡ map dismissed_caller ts
 over-all zero [] h = refl
 over-all zero (t ∷ ts) h = absurd (omega arith)
 over-all (suc n) [] h = refl
-over-all (suc n) (t ∷ ts) h = ap (λ (us : List ClientTable). over t ∷ us) (over-all n ts (omega arith))
+over-all (suc n) (t ∷ ts) h = ap (λ (us : List Caller). dismissed_caller t ∷ us) (over-all n ts (omega arith))
 
-pub over-next : (n : ℕ) (ts us : List ClientTable) (old new : ClientTable) → us ≡ over_first n ts → n < length ts → old ≡ get_or us n old → new ≡ over old → set us n new ≡ over_first (n + 1) ts
+pub over-next : (n : ℕ) (ts us : List Caller) (old new : Caller) → us ≡ over_first n ts → n < length ts → old ≡ get_or us n old → new ≡ dismissed_caller old → set us n new ≡ over_first (n + 1) ts
 over-next n ts us old new is within read e =
     let more : suc n ≡ n + 1 = omega arith in
-    ap (λ (t : ClientTable). set us n t) (e ∙ ap over (read ∙ ap (λ (ys : List ClientTable). get_or ys n old) is))
-    ∙ ap (λ (ys : List ClientTable). set ys n (over (get_or (over_first n ts) n old))) is
+    ap (λ (t : Caller). set us n t) (e ∙ ap dismissed_caller (read ∙ ap (λ (ys : List Caller). get_or ys n old) is))
+    ∙ ap (λ (ys : List Caller). set ys n (dismissed_caller (get_or (over_first n ts) n old))) is
     ∙ over-more n ts old within ∙ ap (λ (k : ℕ). over_first k ts) more
 
-pub over-world : {S : Type 0} (look : S → StoreView) (w : World S) (n : ℕ) (old new : ClientTable) → n < length w.clients.items → old ≡ get_or w.clients.items n old → new ≡ over old → IsWorld look w → IsWorld look (record w { clients = with_item w.clients n new })
+pub over-world : {S : Type 0} (look : S → StoreView) (w : World S) (n : ℕ) (old new : Caller) → n < length w.clients.items → old ≡ get_or w.clients.items n old → new ≡ dismissed_caller old → IsWorld look w → IsWorld look (record w { clients = with_item w.clients n new })
 over-world look w n old new below read e h = let here : IsClientOf (length w.net.sent) old = subst (IsClientOf (length w.net.sent)) (sym read) (All-get_or (IsClientOf (length w.net.sent)) w.clients.items n old below h.clients) in record {
   few = h.few;
   places = h.places;
   eight = h.eight;
-  clients = All-set (IsClientOf (length w.net.sent)) w.clients.items n new (subst (IsClientOf (length w.net.sent)) (sym e) (record { fits = over-fits old here.fits; numbers = here.numbers })) h.clients;
+  clients = All-set (IsClientOf (length w.net.sent)) w.clients.items n new (subst (IsClientOf (length w.net.sent)) (sym e) (record { fits = dismissed-fits old here.fits; numbers = here.numbers })) h.clients;
   posted = h.posted;
   limit = h.limit;
 }

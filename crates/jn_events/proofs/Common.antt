@@ -55,8 +55,8 @@ pub use Rattle.jn_world_refines.specs.Ending.{AreDisarmed, IsDisarmed, dismissed
 pub use Rattle.std.proofs.Math.ListN.{set}
 pub use Rattle.std.proofs.lemmas.List.Elements.{All-nil, All-from_get_or, All-set, All-get_or, All-push}
 pub use Rattle.jn_events.specs.Closing.{AreIdle, closing_clients, turning, telling, finishing, AreTheirs, going_down, showing_all, scrubbing_all, thanking, HoldImages, HasStore}
-pub use Rattle.jn_row_ranges.proofs.Taking.{over-fits, new-fits}
-pub use Rattle.jn_rows.specs.Client.{ClientTable, over, new_table}
+pub use Rattle.jn_row_ranges.proofs.Calling.{dismissed-fits, new-caller-fits}
+pub use Rattle.jn_callers.specs.Callers.{Caller, dismissed_caller, new_caller}
 pub use Rattle.jn_world_refines.proofs.Still.{counts-step, refused-step, begins-step, settles-step}
 pub use Rattle.jn_report.specs.declared.line.When.TheVariants.{End, Event as AtEvent}
 pub use Rattle.jn_schedule.specs.declared.Event.{Event as AnEvent, Event}

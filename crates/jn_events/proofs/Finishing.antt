@@ -1,5 +1,5 @@
 -- The start and the end of a run, as the written machine has them.
-use Rattle.jn_events.proofs.Common.{same_Some, length-set, ServerNo, DeviceState, closing_clients, turning, telling, finishing, AreTheirs, going_down, showing_all, scrubbing_all, thanking, is_going, DoesTasks, GivesImage, IsClosed, Closes, AreStoresOf, Starts, Setup, Devices, ending, settling, printing, servers_of, coming_up, Moment, DoesStep, Task, Dismisses, Stage, InSchedule, next_at, AtEnd, CountsCommits, when_at, Begins, GoesDown, ComesUp, ClosesClients, Acts, Carried, Place, PageCounts, Line, End, AtEvent, ClientTable, over, AnEvent, Show, Scrub, pairs_view, StoreView, get-same, get-other, GoesTo, standing_of, Ended, Messages, Epoch, Memory, World, dismissed-step, IsDisarmed, AreDisarmed, dismissed, BeganEnd, WentOn, Limit, WasCut, NoMessageLeft, NoEpochLeft, Standing, Stands, ◌≡◌, ℕ, zero, suc, [], ◌∷◌, length, refl, ap, ◌<◌, ◌+◌, inl, inr, arith, ◌≤◌, Some, sym, ◌∙◌, subst, true, ◌++◌, append_assoc, append-nil, Ok, Err, true≢false, Bool, map, set, List, ◌⊎◌, slice_get, drop, Result, IsErr, IsErrAnd}
+use Rattle.jn_events.proofs.Common.{same_Some, length-set, ServerNo, DeviceState, closing_clients, turning, telling, finishing, AreTheirs, going_down, showing_all, scrubbing_all, thanking, is_going, DoesTasks, GivesImage, IsClosed, Closes, AreStoresOf, Starts, Setup, Devices, ending, settling, printing, servers_of, coming_up, Moment, DoesStep, Task, Dismisses, Stage, InSchedule, next_at, AtEnd, CountsCommits, when_at, Begins, GoesDown, ComesUp, ClosesClients, Acts, Carried, Place, PageCounts, Line, End, AtEvent, Caller, dismissed_caller, AnEvent, Show, Scrub, pairs_view, StoreView, get-same, get-other, GoesTo, standing_of, Ended, Messages, Epoch, Memory, World, dismissed-step, IsDisarmed, AreDisarmed, dismissed, BeganEnd, WentOn, Limit, WasCut, NoMessageLeft, NoEpochLeft, Standing, Stands, ◌≡◌, ℕ, zero, suc, [], ◌∷◌, length, refl, ap, ◌<◌, ◌+◌, inl, inr, arith, ◌≤◌, Some, sym, ◌∙◌, subst, true, ◌++◌, append_assoc, append-nil, Ok, Err, true≢false, Bool, map, set, List, ◌⊎◌, slice_get, drop, Result, IsErr, IsErrAnd}
 use Rattle.jn_events.proofs.Calls.{told-then, servers-quiet}
 use Rattle.jn_events.proofs.Numbers.{count_begins, begins-append, settling-begins}
 use Rattle.jn_machine.proofs.Computed.{join}
@@ -196,11 +196,11 @@ thanking-quiet x = both-quiet (closing_clients x) (settling x) (closing-quiet x)
 -- ---- the world that is dismissed
 
 pub dismissed-standing : {S : Type 0} (a b d : World S) (n : Carried) → b ≡ record a { places = b.places } → n ≡ record b.net { forgotten = length b.net.sent } → d ≡ record (record b { net = n }) { clients = d.clients }
-    → d.clients.items ≡ map over b.clients.items → standing_of d ≡ dismissed d.places.items (standing_of a)
+    → d.clients.items ≡ map dismissed_caller b.clients.items → standing_of d ≡ dismissed d.places.items (standing_of a)
 dismissed-standing {S} a b d n ab net bd clients =
     let places : d.places ≡ b.places = ap (λ (w : World S). w.places) bd in
     ap (λ (w : World S). standing_of w) bd
-    ∙ ap (λ (ts : List ClientTable). record (standing_of b) { net = n; clients = ts }) clients
-    ∙ ap (λ (m : Carried). record (standing_of b) { net = m; clients = map over b.clients.items }) net
+    ∙ ap (λ (ts : List Caller). record (standing_of b) { net = n; clients = ts }) clients
+    ∙ ap (λ (m : Carried). record (standing_of b) { net = m; clients = map dismissed_caller b.clients.items }) net
     ∙ ap (λ (w : World S). dismissed w.places.items (standing_of w)) ab
     ∙ ap (λ (v : _). dismissed v.items (standing_of a)) (sym places)

@@ -1,8 +1,15 @@
 -- The event under way changes only as one begins.
-use Rattle.jn_events.proofs.Common.{ClientNo, ServerNo, is_going, Setup, Chance, asking, servers_of, settling, acted, met, resting, deed_of, next_in, refusal_of, none, Moment, DoesStep, more, Leads, Task, Begins, Acts, Rests, Meets, ComesUp, Dismisses, GoesDown, ClosesClients, CountsCommits, State, Stage, InSchedule, AtEnd, CutShort, next_at, begun, EventRefusal, EpochsUsedUp, ClientTable, Pick, Left, Event, clients_from, ℕ, ◌+◌, [], ◌∷◌, ◌≡◌, ◌++◌, arith, refl, ◌∙◌, ap, map, Option, Some, None, Bool, true, false, sym, true≢false, subst, List, if◌then◌else◌, slice_get, is_some, drop}
+use Rattle.jn_events.proofs.Common.{ClientNo, ServerNo, is_going, Setup, Chance, asking, servers_of, settling, acted, met, resting, deed_of, next_in, refusal_of, none, Moment, DoesStep, more, Leads, Task, Begins, Acts, Rests, Meets, ComesUp, Dismisses, GoesDown, ClosesClients, CountsCommits, State, Stage, InSchedule, AtEnd, CutShort, next_at, begun, EventRefusal, EpochsUsedUp, Caller, Pick, Left, Event, clients_from, ℕ, ◌+◌, [], ◌∷◌, ◌≡◌, ◌++◌, arith, refl, ◌∙◌, ap, map, Option, Some, None, Bool, true, false, sym, true≢false, subst, List, if◌then◌else◌, slice_get, is_some, drop}
 use Rattle.jn_base.specs.declared.names.Party.TheVariants.{Client, Server}
 use Rattle.jn_machine.proofs.Telling.{event_after, adds}
-use Rattle.jn_machine.specs.Deeds.{Deed, stopped_idle, room, recovering, delivered, delivered_at, crashed_at, given_up, recovered, is_used_up, restarted, brought_up, nothing, served, working_steps, worked, is_busy, scrubbed, showing}
+use Rattle.jn_calls.specs.declared.order.Order.{Order}
+use Rattle.jn_calls.specs.declared.order.Order.TheVariants as orders
+use Rattle.jn_callers.specs.declared.taken.Taken.{Taken}
+use Rattle.jn_callers.specs.declared.taken.Taken.TheVariants.{Send}
+use Rattle.jn_callers.specs.Callers.{Ordered, Refused, Sent as Accepted, command_of, order_row, take_call_row}
+use Rattle.jn_msgs.specs.declared.message.Message.TheVariants as messages
+use Rattle.jn_rows.specs.Client.{Commanded, Refuses, Sends, command_row}
+use Rattle.jn_machine.specs.Deeds.{Deed, ordered_by, told_order, took_message, stopped_idle, room, recovering, delivered, delivered_at, crashed_at, given_up, recovered, is_used_up, restarted, brought_up, nothing, served, working_steps, worked, is_busy, scrubbed, showing}
 use Rattle.jn_machine.specs.Steps.{is_too_much, come_to, cut_short, made_to}
 use Rattle.jn_rows.specs.Outcomes.{Sent}
 use Rattle.jn_storage.specs.DeviceCalls.{step_calls}
@@ -81,9 +88,24 @@ module _ (n : ℕ) where
   recovering-same h q None = refl
   recovering-same h q (Some made) = refl
 
-  delivered-counts : (h : Chance) (k : ℕ) (t : ClientNo → ClientTable) (w : World) (o : Option Sent) → Counts n n (delivered h k t w o)
+  -- an order is told, or only refused
+  ordered-same : (c : ClientNo) (order : Order) (row : Commanded) (j : ℕ) (ordered : Ordered) → number_after (told_order c order row j ordered).steps n ≡ n
+  ordered-same c order (Refuses refusal) j (Refused why) = refl
+  ordered-same c order (Sends t to m) j (Refused why) = refl
+  ordered-same c order row j (Accepted now to m) = refl
+
+  told-counts : (c : ClientNo) (now : Caller) (j : ℕ) (order : Order) → Counts n n (ordered_by c now j order)
+  told-counts c now j order = plain-counts (ordered_by c now j order) (ordered-same c order (command_row now.table j (command_of order)) j (order_row now j order)) refl
+
+  -- a call goes on in the same step
+  taken-same : (c : ClientNo) (k : ℕ) (now : Caller) (taken : Taken) → number_after (took_message c k (now, taken)).steps n ≡ n
+  taken-same c k now (Send to (messages.Op client request W number op)) = refl
+  taken-same c k now (Send to m) = refl
+  taken-same c k now taken = refl
+
+  delivered-counts : (h : Chance) (k : ℕ) (t : ClientNo → Caller) (w : World) (o : Option Sent) → Counts n n (delivered h k t w o)
   delivered-counts h k t w None = plain-counts (delivered h k t w None) refl refl
-  delivered-counts h k t w (Some (Client c, message)) = plain-counts (delivered h k t w (Some (Client c, message))) refl refl
+  delivered-counts h k t w (Some (Client c, message)) = let row = take_call_row (t c) message in plain-counts (took_message c k row) (taken-same c k row.0 row.1) refl
   delivered-counts h k t w (Some (Server q, message)) = at (w.memory q)
     where
       at : (o : Option Memory) → Counts n n (delivered_at h k q o)
@@ -115,9 +137,9 @@ module _ (n : ℕ) where
       by true = plain-counts (served q step_calls (working_steps h q)) (working-same h q h.stop) refl
       by false = plain-counts nothing refl refl
 
-  acted-counts : (x : Setup) (h : Chance) (event : Event) (t : ClientNo → ClientTable) (w : World) → Counts n n (acted x h event t w)
-  acted-counts x h (events.Command c command) t w = plain-counts (acted x h (events.Command c command) t w) refl refl
-  acted-counts x h (events.Call c s call) t w = plain-counts (acted x h (events.Call c s call) t w) refl refl
+  acted-counts : (x : Setup) (h : Chance) (event : Event) (t : ClientNo → Caller) (w : World) → Counts n n (acted x h event t w)
+  acted-counts x h (events.Command c command) t w = told-counts c (t c) w.event (orders.Command command)
+  acted-counts x h (events.Call c s call) t w = told-counts c (t c) w.event (orders.Call s call)
   acted-counts x h (events.Again c) t w = plain-counts (acted x h (events.Again c) t w) refl refl
   acted-counts x h (events.Deliver k) t w = delivered-counts h k t w (slice_get w.sent k)
   acted-counts x h events.Settle t w = plain-counts (acted x h events.Settle t w) refl (settling-begins x)
@@ -132,25 +154,25 @@ module _ (n : ℕ) where
   acted-counts x h (events.Restart q) t w = restarted-counts h q w
   acted-counts x h (events.Show q) t w = plain-counts (showing h q) (stopped-same q h.stop) refl
 
-  met-counts : (x : Setup) (h : Chance) (event : Event) (t : ClientNo → ClientTable) (w : World) (o : Option EventRefusal) → Counts n n (met x h event t w o)
+  met-counts : (x : Setup) (h : Chance) (event : Event) (t : ClientNo → Caller) (w : World) (o : Option EventRefusal) → Counts n n (met x h event t w o)
   met-counts x h event t w None = acted-counts x h event t w
   met-counts x h event t w (Some r) = plain-counts (met x h event t w (Some r)) refl refl
 
-  rests-counts : (x : Setup) (h : Chance) (t : ClientNo → ClientTable) (w : World) (o : Option Event) → Counts n n (resting x h t w o)
+  rests-counts : (x : Setup) (h : Chance) (t : ClientNo → Caller) (w : World) (o : Option Event) → Counts n n (resting x h t w o)
   rests-counts x h t w None = plain-counts (resting x h t w None) refl refl
   rests-counts x h t w (Some event) = let own = acted-counts x h event t w in plain-counts (resting x h t w (Some event)) own.steps refl
 
   deed-counts : (x : Setup) (h : Chance) (task : Task) (s : State) → Counts n (n + begins_in task) (deed_of x h task s)
   deed-counts x h (Begins event) s = record { steps = refl; tasks = refl }
-  deed-counts x h (Meets event) s = wide (met-counts x h event s.clients s.course.world (refusal_of x s.course.world event))
+  deed-counts x h (Meets event) s = wide (met-counts x h event s.callers s.course.world (refusal_of x s.course.world event))
     where
       wide : Counts n n (deed_of x h (Meets event) s) → Counts n (n + 0) (deed_of x h (Meets event) s)
       wide c = let steps = c.steps in record { steps = omega arith; tasks = c.tasks }
-  deed-counts x h (Acts event) s = wide (acted-counts x h event s.clients s.course.world)
+  deed-counts x h (Acts event) s = wide (acted-counts x h event s.callers s.course.world)
     where
       wide : Counts n n (deed_of x h (Acts event) s) → Counts n (n + 0) (deed_of x h (Acts event) s)
       wide c = let steps = c.steps in record { steps = omega arith; tasks = c.tasks }
-  deed-counts x h Rests s = wide (rests-counts x h s.clients s.course.world (next_in x h.rubbish s.course))
+  deed-counts x h Rests s = wide (rests-counts x h s.callers s.course.world (next_in x h.rubbish s.course))
     where
       wide : Counts n n (deed_of x h Rests s) → Counts n (n + 0) (deed_of x h Rests s)
       wide c = let steps = c.steps in record { steps = omega arith; tasks = c.tasks }

@@ -1,5 +1,5 @@
 -- The places that a world begins with, and the stores that it gives back.
-use Rattle.jn_events.proofs.Common.{ClientNo, ServerNo, AreClosed, AreStores, Carried, Posted, IsRecoverable, is_up, IsPlace, Place, Down, Counts, counts_by, PageCounts, new-fits, new_table, StoreView, is_up_at, IsClientOf, ArePlaces, ArePosted, IsWorld, World, ◌≡◌, ◌<◌, ℕ, zero, suc, false, length, [], ◌∷◌, get_or, arith, sym, ◌∙◌, ap, subst, ◌≤◌, ◌+◌, ◌++◌, All-nil, All}
+use Rattle.jn_events.proofs.Common.{ClientNo, ServerNo, AreClosed, AreStores, Carried, Posted, IsRecoverable, is_up, IsPlace, Place, Down, Counts, counts_by, PageCounts, new-caller-fits, new_caller, StoreView, is_up_at, IsClientOf, ArePlaces, ArePosted, IsWorld, World, ◌≡◌, ◌<◌, ℕ, zero, suc, false, length, [], ◌∷◌, get_or, arith, sym, ◌∙◌, ap, subst, ◌≤◌, ◌+◌, ◌++◌, All-nil, All}
 use Rattle.jn_msgs.specs.Ranges.{CanBeTaken}
 use Rattle.std.proofs.Common.{List, vec_len}
 
@@ -11,8 +11,8 @@ down-at-index (p ∷ ps) (suc i) d h e = down-at-index ps i d (omega arith) e
 pub down-here : {S : Type 0} (w : World S) (server : ServerNo) (i : ℕ) (p : Place S) → i ≡ server.0 → server.0 < length w.places.items → is_up_at server.0 w.places.items ≡ false → p ≡ get_or w.places.items i p → is_up p.slot ≡ false
 down-here {S} w server i p at within down read = subst (λ (q : Place S). is_up q.slot ≡ false) (sym (read ∙ ap (λ (k : ℕ). get_or w.places.items k p) at)) (down-at-index w.places.items server.0 p within down)
 
-pub new-client : (c : ClientNo) (servers : ℕ) → servers ≤ 8 → IsClientOf 0 (new_table c servers)
-new-client c servers few = record { fits = new-fits c servers few; numbers = omega arith }
+pub new-client : (c : ClientNo) (servers : ℕ) → servers ≤ 8 → IsClientOf 0 (new_caller c servers)
+new-client c servers few = record { fits = new-caller-fits c servers few; numbers = omega arith }
 
 -- ---- the network
 

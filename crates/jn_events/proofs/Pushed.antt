@@ -1,5 +1,5 @@
 -- Lists that are built one by one.
-use Rattle.jn_events.proofs.Common.{same_Some, Tid, DeviceState, HasStore, AreTheirs, AreNew, Opens, StandsOn, Place, Slot, Down, Up, Gone, counts_by, PageCounts, ClientTable, new_table, Standing, ◌≡◌, ℕ, Some, [], ◌∷◌, map, refl, ◌∙◌, ap, zero, suc, ◌+◌, ◌++◌, length, subst, sym, arith, false, List, slice_get}
+use Rattle.jn_events.proofs.Common.{same_Some, Tid, DeviceState, HasStore, AreTheirs, AreNew, Opens, StandsOn, Place, Slot, Down, Up, Gone, counts_by, PageCounts, Caller, new_caller, Standing, ◌≡◌, ℕ, Some, [], ◌∷◌, map, refl, ◌∙◌, ap, zero, suc, ◌+◌, ◌++◌, length, subst, sym, arith, false, List, slice_get}
 
 -- the server is down on its store
 pub record StandsFor {S : Type 0} (stores : List (S × PageCounts)) (n : ℕ) (p : Place S) : Type 0 where
@@ -47,8 +47,8 @@ theirs-more {S} ps ss p s many on h = pushed-each (λ n t. HasStore (ps ++ p ∷
 pub new-none : (servers : ℕ) → AreNew servers []
 new-none servers n t e = absurd (cc e)
 
-pub new-more : (servers c : ℕ) (ts : List ClientTable) (t : ClientTable) → length ts ≡ c → t ≡ new_table (record { 0 = c + 1 }) servers → AreNew servers ts → AreNew servers (ts ++ t ∷ [])
-new-more servers c ts t many is h = pushed-each (λ n u. u ≡ new_table (record { 0 = suc n }) servers) ts t h (is ∙ ap (λ (k : ℕ). new_table (record { 0 = k }) servers) (omega (arith, many)))
+pub new-more : (servers c : ℕ) (ts : List Caller) (t : Caller) → length ts ≡ c → t ≡ new_caller (record { 0 = c + 1 }) servers → AreNew servers ts → AreNew servers (ts ++ t ∷ [])
+new-more servers c ts t many is h = pushed-each (λ n u. u ≡ new_caller (record { 0 = suc n }) servers) ts t h (is ∙ ap (λ (k : ℕ). new_caller (record { 0 = k }) servers) (omega (arith, many)))
 
 pub stand-more : {S : Type 0} (stores : List (S × PageCounts)) (ps : List (Place S)) (s : S) (counts : PageCounts) → length ps ≡ length stores → StandFor stores ps → StandFor (stores ++ (s, counts) ∷ []) (ps ++ record { counts = counts; slot = Down s } ∷ [])
 stand-more {S} stores ps s counts many h = pushed-each (λ n p. StandsFor (stores ++ (s, counts) ∷ []) n p) ps (record { counts = counts; slot = Down s })
@@ -67,7 +67,7 @@ opens {S} device stores w many places eight clients net named commits x images o
     image = of.devices n at.store at.at;
   });
   eight = eight;
-  clients = λ n t e. clients n t e ∙ ap (λ (k : ℕ). new_table (record { 0 = suc n }) k) of.servers;
+  clients = λ n t e. clients n t e ∙ ap (λ (k : ℕ). new_caller (record { 0 = suc n }) k) of.servers;
   net = net;
   named = named;
   commits = commits;

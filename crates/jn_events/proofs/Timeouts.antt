@@ -71,6 +71,7 @@ module _ {S : Type 0} (look : S → StoreView) (device : S → DeviceState) (see
       clients = stands.clients;
       other_clients = stands.other_clients;
       tables = stands.tables;
+      calls = stands.calls;
       net = stands.net;
       named = stands.named;
       commits = stands.commits;

@@ -5,7 +5,7 @@ use Rattle.jn_machine.specs.Events.{servers_of, coming_up, settling, printing}
 use Rattle.jn_machine.specs.Tasks.{Task, GoesDown, ClosesClients, Acts, CountsCommits}
 use Rattle.jn_place.specs.Calls.{StandsOn}
 use Rattle.jn_place.specs.declared.place.Place.{Place}
-use Rattle.jn_rows.specs.Client.{ClientTable}
+use Rattle.jn_callers.specs.Callers.{Caller}
 use Rattle.jn_schedule.specs.declared.Event.TheVariants.{Show, Scrub}
 use Rattle.jn_store.specs.Store.{StoreView}
 use Rattle.jn_system.specs.WholeSystem.Steps.{IsIdle}
@@ -41,8 +41,8 @@ abbrev pub finishing : Setup → List Task
 finishing x = turning x ++ thanking x ++ telling x
 
 -- no client has a transaction or waits for an answer
-abbrev pub AreIdle : List ClientTable → Type 0
-AreIdle clients = (n : ℕ) (t : ClientTable) → slice_get clients n ≡ Some t → IsIdle t
+abbrev pub AreIdle : List Caller → Type 0
+AreIdle clients = (n : ℕ) (c : Caller) → slice_get clients n ≡ Some c → IsIdle c.table
 
 -- each of these is the store of its server
 pub record HasStore {S : Type 0} (places : List (Place S)) (n : ℕ) (s : S) : Type 0 where

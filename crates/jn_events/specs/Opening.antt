@@ -4,14 +4,14 @@ use Rattle.jn_events.specs.Written.{AreStoresOf}
 use Rattle.jn_machine.specs.Chances.{Setup}
 use Rattle.jn_machine.specs.Devices.{Devices}
 use Rattle.jn_recovery.specs.declared.counts.PageCounts.{PageCounts}
-use Rattle.jn_rows.specs.Client.{ClientTable, new_table}
+use Rattle.jn_callers.specs.Callers.{Caller, new_caller}
 use Rattle.jn_world_refines.specs.Stands.{Standing}
 use Rattle.jn_world_refines.specs.Starting.{IsFirst}
 use Rattle.std.specs.Prelude.{◌≡◌, ℕ, suc, List, slice_get, Some, Bool}
 
 -- each client has done nothing yet
-abbrev pub AreNew : ℕ → List ClientTable → Type 0
-AreNew servers clients = (n : ℕ) (t : ClientTable) → slice_get clients n ≡ Some t → t ≡ new_table (record { 0 = suc n }) servers
+abbrev pub AreNew : ℕ → List Caller → Type 0
+AreNew servers clients = (n : ℕ) (c : Caller) → slice_get clients n ≡ Some c → c ≡ new_caller (record { 0 = suc n }) servers
 
 -- as a run begins on these stores
 abbrev pub Opens : {S : Type 0} → (S → DeviceState) → List (S × PageCounts) → Bool → Standing S → Type 0

@@ -9,7 +9,7 @@ ghost use Rattle.jn_machine.specs.Runs.{Moment};
 ghost use Rattle.jn_machine.specs.Steps.{most_messages};
 ghost use Rattle.jn_machine.specs.Tasks.{InSchedule, CountsCommits, ClosesClients};
 ghost use Rattle.jn_report.specs.declared.line.When.TheVariants.{End};
-ghost use Rattle.jn_rows.specs.Client.{over};
+ghost use Rattle.jn_callers.specs.Callers.{dismissed_caller};
 ghost use Rattle.jn_schedule.specs.declared.Event.TheVariants.{Crash};
 ghost use Rattle.jn_world.specs.Calm.{AreQuiet, AreUpAndCalm, IsTakenDown, StayUp};
 ghost use Rattle.jn_world.specs.Images.{AreClean};
@@ -135,7 +135,7 @@ fn dismiss_clients<S: Powered + Drop>(world: &mut World<S>)
     requires { IsWorld (λ s. S.view s) world.old }
     ensures world { IsWorld (λ s. S.view s) world.new }
     ensures others { world.new ≡ record world.old { clients = world.new.clients } }
-    ensures over { world.new.clients.items ≡ map over world.old.clients.items }
+    ensures over { world.new.clients.items ≡ map dismissed_caller world.old.clients.items }
 {
     for c in 0..usize::from(CLIENTS) {
         world.clients[c].dismiss();

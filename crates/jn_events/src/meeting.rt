@@ -51,8 +51,7 @@ fn meet<S: Powered + Drop>(
     let when = When::Event(number);
     match event {
         Event::Command(client, command) => world.command(*client, number, command, lines),
-        // No call is in range yet.
-        Event::Call(_, _, _) => unreachable!(),
+        Event::Call(client, server, call) => world.call(*client, number, *server, call, lines),
         Event::Again(client) => world.again(*client, when, lines),
         Event::Deliver(k) => deliver(world, *k, when, lines),
         Event::Settle => settle_at(world, when, lines),

@@ -28,10 +28,15 @@ pub use Rattle.jn_report.specs.Lines.{lines_at}
 pub use Rattle.jn_report.specs.declared.line.Line.{Line}
 pub use Rattle.jn_report.specs.declared.line.Text.{Text}
 pub use Rattle.jn_report.specs.declared.line.When.{When}
-pub use Rattle.jn_row_ranges.specs.Taking.{sent_for, AllCanBeTaken, ClientFits, CommandFits}
-pub use Rattle.jn_rows.specs.Client.{ClientTable, Commanded, command_row, again_row, Refuses, take_row, new_table, Sends, sent_again}
+pub use Rattle.jn_callers.specs.Callers.{Caller, Ordered, Refused, Sent as Accepted, new_caller, order_row, take_call_row}
+pub use Rattle.jn_callers.specs.Laws.{after_order}
+pub use Rattle.jn_callers.specs.Ranges.{OrderInRange}
+pub use Rattle.jn_calls.specs.declared.order.Order.{Order}
+pub use Rattle.jn_row_ranges.specs.Callers.{sent_taken}
+pub use Rattle.jn_row_ranges.specs.Taking.{AllCanBeTaken}
+pub use Rattle.jn_rows.specs.Client.{again_row, sent_again}
 pub use Rattle.jn_rows.specs.Outcomes.{Sent}
-pub use Rattle.jn_rows.specs.declared.client.Taken.{Taken}
+pub use Rattle.jn_callers.specs.declared.taken.Taken.{Taken}
 pub use Rattle.jn_system.specs.WholeSystem.Steps.{sent_now}
 pub use Rattle.jn_world.specs.Written.{DoesEvent, EndsStep, EndsPart, IsSentTo, GoesTo, standing_of}
 pub use Rattle.jn_world.specs.declared.ended.Ended.{Ended}

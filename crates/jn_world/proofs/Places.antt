@@ -1,11 +1,14 @@
 -- The places of a list of servers, and the world whose places they are.
-use Rattle.jn_base.specs.Ops.{CommandInRange}
-use Rattle.jn_world.proofs.Common.{ClientNo, Party, Server, ServerNo, Command, Collected, Carried, with_delivered, Posted, LeavesPlace, StandsThere, CountsAt, IsPlace, Stands, is_up, Place, Slot, Up, Down, Gone, Counts, counts_by, AllCanBeTaken, ClientFits, CommandFits, sent_for, ClientTable, again_row, Sends, command_row, take_row, new_table, Sent, Taken, view_with, state, StoreView, sent_now, ArePlaces, ArePosted, IsClientOf, IsWorld, is_up_at, messages_in, World, HasCounts, posted_by, is_client_number, ◌≡◌, ℕ, zero, suc, [], ◌∷◌, refl, ap, ◌<◌, length, Some, arith, get_or, sym, ◌∙◌, subst, ◌≤◌, ◌+◌, false, ◌++◌, length-append, vec_len, true, true≢false, append-nil, Option, None, Ok, Err, set, nat_tests, All-append, All-map, All-weaker, All-set, All-nil, All-get_or, All-cons, All-from_recursion, recursion_from_All, slice_get-get_or, slice_get_within, get_or_from_slice_get, List, slice_get, All, Result, OnOk, with_item}
+use Rattle.std.specs.Prelude.{◌^◌}
+use Rattle.jn_callers.specs.Laws.{operations_sent}
+use Rattle.jn_world.proofs.Common.{ClientNo, Party, Server, ServerNo, Collected, Carried, with_delivered, Posted, LeavesPlace, StandsThere, CountsAt, IsPlace, Stands, is_up, Place, Slot, Up, Down, Gone, Counts, counts_by, AllCanBeTaken, sent_taken, Caller, Order, OrderInRange, Accepted, new_caller, order_row, take_call_row, again_row, Sent, Taken, view_with, state, StoreView, sent_now, ArePlaces, ArePosted, IsClientOf, IsWorld, is_up_at, messages_in, World, HasCounts, posted_by, is_client_number, ◌≡◌, ℕ, zero, suc, [], ◌∷◌, refl, ap, ◌<◌, length, Some, arith, get_or, sym, ◌∙◌, subst, ◌≤◌, ◌+◌, false, ◌++◌, length-append, vec_len, true, true≢false, append-nil, Option, None, Ok, Err, set, nat_tests, All-append, All-map, All-weaker, All-set, All-nil, All-get_or, All-cons, All-from_recursion, recursion_from_All, slice_get-get_or, slice_get_within, get_or_from_slice_get, List, slice_get, All, Result, OnOk, with_item}
 use Rattle.jn_msgs.specs.Ranges.{CanBeTaken}
 use Rattle.jn_msgs.specs.declared.message.Message.{Message}
 use Rattle.jn_page_state.specs.Recoverable.{IsRecoverable}
-use Rattle.jn_row_ranges.proofs.Taking.{command-fits, command-draws, take-fits, take-number, new-fits}
-use Rattle.jn_row_ranges.specs.Drawing.{DrawsOne}
+use Rattle.jn_msgs.specs.declared.message.Message.TheVariants as messages
+use Rattle.jn_callers.specs.declared.taken.Taken.TheVariants.{Send}
+use Rattle.jn_row_ranges.proofs.Calling.{ordered-fits, order-draws, taken-fits, taken-draws, new-caller-fits}
+use Rattle.jn_row_ranges.specs.Callers.{CallerFits, OrderFits}
 use Rattle.jn_server.specs.Counted.{CountsAll}
 use Rattle.jn_server.specs.Standing.{standing_pages, beside_on}
 use Rattle.std.specs.List.{AllByRecursion as ByRecursion}
@@ -101,7 +104,7 @@ as-many from (m ∷ ms) = ap suc (as-many from ms)
 more-sent : (a b : List Posted) (from : Party) (messages : List Sent) → b ≡ a ++ posted_by from messages → length b ≡ length a + length messages
 more-sent a b from messages e = ap length e ∙ length-append a (posted_by from messages) ∙ ap (λ (n : ℕ). length a + n) (as-many from messages)
 
-clients-more : (a b : ℕ) (ts : List ClientTable) → a ≤ b → All (IsClientOf a) ts → All (IsClientOf b) ts
+clients-more : (a b : ℕ) (ts : List Caller) → a ≤ b → All (IsClientOf a) ts → All (IsClientOf b) ts
 clients-more a b ts le h = All-weaker (IsClientOf a) (IsClientOf b) (λ t c. record { fits = c.fits; numbers = (let before = c.numbers in omega arith) }) ts h
 
 -- a server has made a step
@@ -124,7 +127,7 @@ world-moved {S} look a b server q from messages h place can items as_many client
     }
 
 -- a client has made a step
-pub world-told : {S : Type 0} (look : S → StoreView) (a b : World S) (i : ℕ) (t : ClientTable) (from : Party) (messages : List Sent)
+pub world-told : {S : Type 0} (look : S → StoreView) (a b : World S) (i : ℕ) (t : Caller) (from : Party) (messages : List Sent)
     → IsWorld look a → IsClientOf (length a.net.sent + length messages) t → AllCanBeTaken messages
     → b.places ≡ a.places → b.clients.items ≡ set a.clients.items i t → vec_len b.clients ≡ vec_len a.clients
     → b.net.sent ≡ a.net.sent ++ posted_by from messages → length b.net.sent ≤ 1000000 → IsWorld look b
@@ -135,7 +138,7 @@ world-told {S} look a b i t from messages h client can places items as_many sent
       few = subst (λ (ps : _). vec_len ps ≤ 8) (sym places) h.few;
       places = subst (λ (ps : _). ArePlaces look (length b.net.sent) 0 ps.items) (sym places) (places-more look (length a.net.sent) (length b.net.sent) 0 a.places.items le h.places);
       eight = as_many ∙ h.eight;
-      clients = subst (λ (cs : List ClientTable). All (IsClientOf (length b.net.sent)) cs) (sym items)
+      clients = subst (λ (cs : List Caller). All (IsClientOf (length b.net.sent)) cs) (sym items)
           (All-set (IsClientOf (length b.net.sent)) a.clients.items i t (subst (λ (n : ℕ). IsClientOf n t) (sym most) client)
           (clients-more (length a.net.sent) (length b.net.sent) a.clients.items le h.clients));
       posted = subst ArePosted (sym sent) (posted-more from a.net.sent messages h.posted can);
@@ -221,8 +224,8 @@ sent-world look a b from messages (Ok x) h can places clients sent limit = world
 client-within : (n i : ℕ) → is_client_number n ≡ true → i + 1 ≡ n → i < 8
 client-within n i e at = grind (arith, nat_tests)
 
--- the table that an index reads
-pub client-here : {S : Type 0} (look : S → StoreView) (w : World S) (n i : ℕ) (t : ClientTable) → IsWorld look w → is_client_number n ≡ true → i + 1 ≡ n → t ≡ get_or w.clients.items i t → IsClientOf (length w.net.sent) t
+-- the client that an index reads
+pub client-here : {S : Type 0} (look : S → StoreView) (w : World S) (n i : ℕ) (t : Caller) → IsWorld look w → is_client_number n ≡ true → i + 1 ≡ n → t ≡ get_or w.clients.items i t → IsClientOf (length w.net.sent) t
 client-here look w n i t h e at read =
     let below = client-within n i e at in
     subst (IsClientOf (length w.net.sent)) (sym read) (All-get_or (IsClientOf (length w.net.sent)) w.clients.items i t (let few = h.eight in omega (arith, w.clients.ok.0)) h.clients)
@@ -230,41 +233,56 @@ client-here look w n i t h e at read =
 pub one : (to : Party) (message : Message) → CanBeTaken message → AllCanBeTaken ((to, message) ∷ [])
 one to message can = All-cons (λ (x : Sent). CanBeTaken x.1) (to, message) [] can (All-nil (λ (x : Sent). CanBeTaken x.1))
 
--- what a client sends once more can be taken
-pub again-can : (t : ClientTable) (to : Party) (message : Message) → ClientFits t → Some (to, message) ≡ again_row t → AllCanBeTaken ((to, message) ∷ [])
-again-can t to message fits e = subst (λ (x : Option Sent). AllCanBeTaken (sent_now x)) (sym e) fits.again
+-- its next request has a number
+pub few-numbers : {S : Type 0} (look : S → StoreView) (w : World S) (n i : ℕ) (t : Caller) → IsWorld look w → is_client_number n ≡ true → i + 1 ≡ n → t ≡ get_or w.clients.items i t → t.table.next < 2 ^ 32
+few-numbers look w n i t h e at read =
+    let here = client-here look w n i t h e at read in
+    let numbers = here.numbers in
+    let limit = h.limit in
+    omega arith
 
-commanded-by : (t : ClientTable) (j : ℕ) (command : Command) (now : ClientTable) (to : Party) (message : Message) (most : ℕ) → IsClientOf most t → CommandInRange command → command_row t j command ≡ Sends now to message → IsClientOf (most + 1) now × CanBeTaken message
-commanded-by t j command now to message most h range e =
-    let fits : CommandFits (Sends now to message) = subst CommandFits e (command-fits t j command h.fits range) in
-    let draws : DrawsOne t (Sends now to message) = subst (DrawsOne t) e (command-draws t j command) in
+-- what a client sends once more can be taken
+pub again-can : (t : Caller) (to : Party) (message : Message) → CallerFits t → Some (to, message) ≡ again_row t.table → AllCanBeTaken ((to, message) ∷ [])
+again-can t to message fits e = subst (λ (x : Option Sent). AllCanBeTaken (sent_now x)) (sym e) fits.table.again
+
+ordered-by : (t : Caller) (j : ℕ) (order : Order) (now : Caller) (to : Party) (message : Message) (most : ℕ) → IsClientOf most t → OrderInRange order → order_row t j order ≡ Accepted now to message → IsClientOf (most + 1) now × CanBeTaken message
+ordered-by t j order now to message most h range e =
+    let fits : OrderFits (Accepted now to message) = subst OrderFits e (ordered-fits t j order h.fits range) in
+    let draws = order-draws t j order now to message e in
     (record { fits = fits.0; numbers = (let before = h.numbers in omega arith) }, fits.1)
 
-pub commanded-world : {S A E : Type 0} (look : S → StoreView) (a b : World S) (from : Party) (n i j : ℕ) (t now : ClientTable) (command : Command) (to : Party) (message : Message) (r : Result A E)
-    → IsWorld look a → is_client_number n ≡ true → i + 1 ≡ n → t ≡ get_or a.clients.items i t → CommandInRange command → command_row t j command ≡ Sends now to message
+pub ordered-world : {S A E : Type 0} (look : S → StoreView) (a b : World S) (from : Party) (n i j : ℕ) (t now : Caller) (order : Order) (to : Party) (message : Message) (r : Result A E)
+    → IsWorld look a → is_client_number n ≡ true → i + 1 ≡ n → t ≡ get_or a.clients.items i t → OrderInRange order → order_row t j order ≡ Accepted now to message
     → b.places ≡ a.places → b.clients ≡ with_item a.clients i now
     → OnOk r (b.net.sent ≡ a.net.sent ++ posted_by from ((to, message) ∷ [])) → OnOk r (length b.net.sent ≤ 1000000) → OnOk r (IsWorld look b)
-commanded-world look a b from n i j t now command to message (Err e) h is at read range row places clients sent limit = tt
-commanded-world {S} look a b from n i j t now command to message (Ok x) h is at read range row places clients sent limit =
-    let made = commanded-by t j command now to message (length a.net.sent) (client-here look a n i t h is at read) range row in
+ordered-world look a b from n i j t now order to message (Err e) h is at read range row places clients sent limit = tt
+ordered-world {S} look a b from n i j t now order to message (Ok x) h is at read range row places clients sent limit =
+    let made = ordered-by t j order now to message (length a.net.sent) (client-here look a n i t h is at read) range row in
     world-told look a b i now from ((to, message) ∷ []) h made.0 (one to message made.1) places (ap (λ (v : _). v.items) clients) (ap vec_len clients) sent limit
 
+-- an operation goes with a message
+sent-few : (taken : Taken) → operations_sent taken ≤ length (sent_taken taken)
+sent-few (Send to (messages.Op client request work number op)) = omega arith
+sent-few (Send to m) = omega arith
+sent-few taken = omega arith
+
 -- a message is taken by one of the clients
-pub taken-world : {S A E : Type 0} (look : S → StoreView) (a b : World S) (from : Party) (n i : ℕ) (t now : ClientTable) (message : Message) (taken : Taken) (r : Result A E)
-    → IsWorld look a → is_client_number n ≡ true → i + 1 ≡ n → t ≡ get_or a.clients.items i t → (now, taken) ≡ take_row t message
+pub taken-world : {S A E : Type 0} (look : S → StoreView) (a b : World S) (from : Party) (n i : ℕ) (t now : Caller) (message : Message) (taken : Taken) (r : Result A E)
+    → IsWorld look a → is_client_number n ≡ true → i + 1 ≡ n → t ≡ get_or a.clients.items i t → (now, taken) ≡ take_call_row t message
     → b.places ≡ a.places → b.clients ≡ with_item a.clients i now
-    → OnOk r (b.net.sent ≡ a.net.sent ++ posted_by from (sent_for taken)) → OnOk r (length b.net.sent ≤ 1000000) → OnOk r (IsWorld look b)
+    → OnOk r (b.net.sent ≡ a.net.sent ++ posted_by from (sent_taken taken)) → OnOk r (length b.net.sent ≤ 1000000) → OnOk r (IsWorld look b)
 taken-world look a b from n i t now message taken (Err e) h is at read row places clients sent limit = tt
 taken-world {S} look a b from n i t now message taken (Ok x) h is at read row places clients sent limit =
     let was = client-here look a n i t h is at read in
-    let fits : ClientFits now × AllCanBeTaken (sent_for taken) = subst (λ (z : ClientTable × Taken). ClientFits z.0 × AllCanBeTaken (sent_for z.1)) (sym row) (take-fits t message was.fits) in
-    let number : now.next ≡ t.next = ap (λ (z : ClientTable × Taken). z.0.next) row ∙ take-number t message in
-    world-told look a b i now from (sent_for taken) h (record { fits = fits.0; numbers = (let before = was.numbers in omega arith) }) fits.1 places (ap (λ (v : _). v.items) clients) (ap vec_len clients) sent limit
+    let fits : CallerFits now × AllCanBeTaken (sent_taken taken) = subst (λ (z : Caller × Taken). CallerFits z.0 × AllCanBeTaken (sent_taken z.1)) (sym row) (taken-fits t message was.fits) in
+    let number : now.table.next ≡ t.table.next + operations_sent taken = subst (λ (z : Caller × Taken). z.0.table.next ≡ t.table.next + operations_sent z.1) (sym row) (taken-draws t message was.fits) in
+    let few = sent-few taken in
+    world-told look a b i now from (sent_taken taken) h (record { fits = fits.0; numbers = (let before = was.numbers in omega arith) }) fits.1 places (ap (λ (v : _). v.items) clients) (ap vec_len clients) sent limit
 
 -- or by one that is as new
-pub new-taken : (c : ClientNo) (servers : ℕ) (now : ClientTable) (message : Message) (taken : Taken) → servers ≤ 8 → (now, taken) ≡ take_row (new_table c servers) message → AllCanBeTaken (sent_for taken)
+pub new-taken : (c : ClientNo) (servers : ℕ) (now : Caller) (message : Message) (taken : Taken) → servers ≤ 8 → (now, taken) ≡ take_call_row (new_caller c servers) message → AllCanBeTaken (sent_taken taken)
 new-taken c servers now message taken few row =
-    let fits : ClientFits now × AllCanBeTaken (sent_for taken) = subst (λ (z : ClientTable × Taken). ClientFits z.0 × AllCanBeTaken (sent_for z.1)) (sym row) (take-fits (new_table c servers) message (new-fits c servers few)) in fits.1
+    let fits : CallerFits now × AllCanBeTaken (sent_taken taken) = subst (λ (z : Caller × Taken). CallerFits z.0 × AllCanBeTaken (sent_taken z.1)) (sym row) (taken-fits (new_caller c servers) message (new-caller-fits c servers few)) in fits.1
 
 pub delivered-length : (k : ℕ) (ms : List Posted) → length (with_delivered k ms) ≡ length ms
 delivered-length k [] = refl

@@ -1,6 +1,7 @@
 -- Messages and notes of a step one after another, and what the world has then.
 use Rattle.jn_base.specs.Names.{tid_eq}
-use Rattle.jn_world.proofs.Common.{Party, Server, ServerNo, message_texts, traced, Collected, Posted, lines_at, Line, Text, When, Sent, has_tid, lines_of, commits_in, has_line, standing_of, EndsPart, Ended, World, lines-append, posted_by, with_named, Standing, with_sent, with_answer, texts_sent, ◌≡◌, ◌+◌, ◌++◌, append_assoc, sym, ◌∙◌, ap, ℕ, suc, [], ◌∷◌, length, arith, Bool, true, false, refl, length-append, Option, Some, ◌≤◌, ◌<◌, List, ◌||◌, Result}
+use Rattle.jn_machine.specs.Deeds.{texts_taken}
+use Rattle.jn_world.proofs.Common.{append-nil, none-traced, Client, ClientNo, EndsStep, Ok, sent_taken, Taken, Party, Server, ServerNo, message_texts, traced, Collected, Posted, lines_at, Line, Text, When, Sent, has_tid, lines_of, commits_in, has_line, standing_of, EndsPart, Ended, World, lines-append, posted_by, with_named, Standing, with_sent, with_answer, texts_sent, ◌≡◌, ◌+◌, ◌++◌, append_assoc, sym, ◌∙◌, ap, ℕ, suc, [], ◌∷◌, length, arith, Bool, true, false, refl, length-append, Option, Some, ◌≤◌, ◌<◌, List, ◌||◌, Result}
 use Rattle.jn_base.specs.declared.names.Tid.{Tid}
 use Rattle.jn_msgs.specs.Kinds.{kind_of}
 use Rattle.jn_msgs.specs.declared.message.Note.{Note}
@@ -89,3 +90,22 @@ sends-out {S} q k when out a b notes messages new told now later r its-notes its
 -- as many were sent as a network carries
 pub over-limit : (sent : List Posted) (m : Posted) → 1000000 ≤ length sent → 1000000 < length (sent ++ m ∷ [])
 over-limit sent m h = let many = length-append sent (m ∷ []) in omega arith
+
+-- a client reports these lines, and nothing is sent
+pub told-alone : {S A : Type 0} (c : ClientNo) (w : Standing S) (when : When) (first later : List Line) (texts : List Text) (x : A) → length w.net.sent ≤ 1000000 → later ≡ first ++ lines_at when texts
+    → EndsStep (Ok x) (with_sent (posted_by (Client c) []) w) w first (first ++ lines_at when (texts ++ traced w.trace (message_texts (Client c) (length w.net.sent) []))) later
+told-alone {S} c w when first later texts x few told =
+    let none = length-append w.net.sent [] in (
+    ap (λ (ms : List Posted). record w { net = record w.net { sent = ms } }) (sym (append-nil w.net.sent)),
+    told ∙ ap (λ (ts : List Text). first ++ lines_at when ts) (sym (append-nil texts) ∙ ap (λ (more : List Text). texts ++ more) (sym (none-traced w.trace))),
+    omega (arith, none),
+)
+
+-- so where a call is over
+pub told-last : {S A : Type 0} (c : ClientNo) (k : ℕ) (taken : Taken) (w : Standing S) (when : When) (first later : List Line) (texts : List Text) (x : A) → sent_taken taken ≡ [] → texts_taken c k taken ≡ texts
+    → length w.net.sent ≤ 1000000 → later ≡ first ++ lines_at when texts
+    → EndsStep (Ok x) (with_sent (posted_by (Client c) (sent_taken taken)) w) w first (first ++ lines_at when (texts_taken c k taken ++ traced w.trace (message_texts (Client c) (length w.net.sent) (sent_taken taken)))) later
+told-last {S} {A} c k taken w when first later texts x none is few told =
+    subst (λ (ms : List Sent). EndsStep {S = S} {A = A} (Ok x) (with_sent (posted_by (Client c) ms) w) w first (first ++ lines_at when (texts_taken c k taken ++ traced w.trace (message_texts (Client c) (length w.net.sent) ms))) later) (sym none)
+    (subst (λ (ts : List Text). EndsStep {S = S} {A = A} (Ok x) (with_sent (posted_by (Client c) []) w) w first (first ++ lines_at when (ts ++ traced w.trace (message_texts (Client c) (length w.net.sent) []))) later) (sym is)
+    (told-alone c w when first later texts x few told))

@@ -6,8 +6,8 @@ use Rattle.jn_net.specs.declared.Sent.{Sent as Posted}
 use Rattle.jn_place.specs.Exact.{has_work_at}
 use Rattle.jn_place.specs.Places.{IsPlace, is_up}
 use Rattle.jn_place.specs.declared.place.Place.{Place}
-use Rattle.jn_row_ranges.specs.Taking.{ClientFits}
-use Rattle.jn_rows.specs.Client.{ClientTable}
+use Rattle.jn_row_ranges.specs.Callers.{CallerFits}
+use Rattle.jn_callers.specs.Callers.{Caller}
 use Rattle.jn_rows.specs.Outcomes.{Sent}
 use Rattle.jn_store.specs.Store.{StoreView}
 use Rattle.jn_world.specs.declared.world.World.{World}
@@ -18,10 +18,10 @@ abbrev pub ArePlaces : {S : Type 0} → (S → StoreView) → ℕ → ℕ → Li
 ArePlaces look most n [] = Unit {0}
 ArePlaces look most n (p ∷ ps) = IsPlace look (record { 0 = n }) most p × ArePlaces look most (n + 1) ps
 
--- a client's table fits, and it has given no more numbers than this
-pub record IsClientOf (most : ℕ) (t : ClientTable) : Type 0 where
-  pub fits : ClientFits t
-  pub numbers : t.next ≤ most + 1
+-- a client fits, and it has given no more numbers than this
+pub record IsClientOf (most : ℕ) (c : Caller) : Type 0 where
+  pub fits : CallerFits c
+  pub numbers : c.table.next ≤ most + 1
 
 -- each message that was sent can be taken
 abbrev pub ArePosted : List Posted → Type 0

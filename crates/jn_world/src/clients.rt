@@ -3,11 +3,13 @@ ghost use Rattle.std.specs.Prelude.{◌≡◌, ◌<◌, ◌≤◌, ◌+◌, true
 ghost use Rattle.jn_base.specs.declared.names.Party.TheVariants.{Client as AClient};
 ghost use Rattle.jn_net.specs.Carried.{with_delivered};
 ghost use Rattle.jn_report.specs.declared.line.When.TheVariants.{Event as AtEvent};
-ghost use Rattle.jn_rows.specs.Client.{new_table, take_row};
+ghost use Rattle.jn_callers.specs.Callers.{new_caller, take_call_row};
+ghost use Rattle.jn_callers.specs.Ranges.{CallInRange};
 ghost use Rattle.jn_schedule.specs.declared.Event.TheVariants as events;
 ghost use Rattle.jn_machine.specs.Deeds.{texts_taken};
 ghost use Rattle.jn_world_refines.specs.Stands.{is_client_number, posted_by, with_sent};
-ghost use Rattle.jn_row_ranges.specs.Taking.{sent_for, AllCanBeTaken};
+ghost use Rattle.jn_row_ranges.specs.Callers.{sent_taken};
+ghost use Rattle.jn_row_ranges.specs.Taking.{AllCanBeTaken};
 ghost use Rattle.jn_base.specs.Ops.{CommandInRange};
 ghost use Rattle.jn_world.specs.Calm.{StayUp};
 ghost use Rattle.jn_world.specs.Counting.{handed};
@@ -17,13 +19,13 @@ ghost use Rattle.jn_machine.specs.Steps.{message_texts, traced, most_messages};
 ghost use Rattle.jn_report.specs.Lines.{lines_at};
 
 use crate::ended::Ended;
+use crate::replies::{tell_bytes, tell_names};
 use crate::world::{World, is_client_number};
-use jn_base::{ClientNo, Command, Party};
-use jn_client::{Client, CommandFault};
+use jn_base::{Call, ClientNo, Command, Party, ServerNo};
+use jn_client::{Client, CommandFault, Taken};
 use jn_msgs::Message;
 use jn_place::tell;
 use jn_report::{Line, Text, When};
-use jn_rows::Taken;
 use jn_store::Powered;
 use std::alloc::{AllocError, Global};
 
@@ -43,8 +45,8 @@ fn take_as_new(
     message: &Message,
 ) -> Result<Taken, AllocError>
     requires { servers ≤ 8 }
-    ensures can { IfOk result (λ taken. AllCanBeTaken (sent_for taken)) }
-    ensures row { IfOk result (λ taken. taken ≡ (take_row (new_table client servers) message.now).1) }
+    ensures can { IfOk result (λ taken. AllCanBeTaken (sent_taken taken)) }
+    ensures row { IfOk result (λ taken. taken ≡ (take_call_row (new_caller client servers) message.now).1) }
 {
     let mut new = Client::new(alloc, client, servers);
     new.take(message)
@@ -67,6 +69,33 @@ impl<S: Powered + Drop> World<S> {
     {
         let when = When::Event(number);
         match self.clients[index_of(client)].command(number, command) {
+            Ok(Some((to, message))) => self.send(client, to, message, when, lines),
+            Ok(None) => unreachable!(),
+            Err(CommandFault::Refused(refusal)) => {
+                tell(lines, when, Text::Refused(client, number, refusal))?;
+                Ok(())
+            }
+            Err(CommandFault::Memory) => Err(Ended::Memory),
+        }
+    }
+
+    /// A client is given a call at a server by the event of this number.
+    pub fn call(
+        &mut self,
+        client: ClientNo,
+        number: u32,
+        server: ServerNo,
+        call: &Call,
+        lines: &mut Vec<Line>,
+    ) -> Result<(), Ended>
+        requires world { IsWorld (λ s. S.view s) self.old }
+        requires client { is_client_number client.0 ≡ true }
+        requires range { CallInRange call.now }
+        ensures world { OnOk result (IsWorld (λ s. S.view s) self.new) }
+        ensures does { DoesEvent (λ s. S.view s) (λ s. S.device s) (events.Call client server call.now) (AtEvent number) (standing_of self.old) result (standing_of self.new) lines.old.items lines.new.items }
+    {
+        let when = When::Event(number);
+        match self.clients[index_of(client)].call(number, server, call) {
             Ok(Some((to, message))) => self.send(client, to, message, when, lines),
             Ok(None) => unreachable!(),
             Err(CommandFault::Refused(refusal)) => {
@@ -192,6 +221,7 @@ impl<S: Powered + Drop> World<S> {
         self.tell_taken(client, k, taken, when, lines)
     }
 
+    /// What a client reports and sends of the message of this number.
     fn tell_taken(
         &mut self,
         client: ClientNo,
@@ -202,10 +232,10 @@ impl<S: Powered + Drop> World<S> {
     ) -> Result<(), Ended>
         requires few { length self.old.net.sent ≤ most_messages }
         ensures others { self.new ≡ record self.old { net = self.new.net } }
-        ensures sent { OnOk result (self.new.net.sent ≡ self.old.net.sent ++ posted_by (AClient client) (sent_for taken)) }
+        ensures sent { OnOk result (self.new.net.sent ≡ self.old.net.sent ++ posted_by (AClient client) (sent_taken taken)) }
         ensures limit { OnOk result (length self.new.net.sent ≤ most_messages) }
-        ensures ends { EndsStep result (with_sent (posted_by (AClient client) (sent_for taken)) (standing_of self.old)) (standing_of self.new) lines.old.items
-            (lines.old.items ++ lines_at when (texts_taken k taken ++ traced self.old.trace (message_texts (AClient client) (length self.old.net.sent) (sent_for taken)))) lines.new.items }
+        ensures ends { EndsStep result (with_sent (posted_by (AClient client) (sent_taken taken)) (standing_of self.old)) (standing_of self.new) lines.old.items
+            (lines.old.items ++ lines_at when (texts_taken client k taken ++ traced self.old.trace (message_texts (AClient client) (length self.old.net.sent) (sent_taken taken)))) lines.new.items }
     {
         match taken {
             Taken::Ignored => {
@@ -222,6 +252,14 @@ impl<S: Powered + Drop> World<S> {
                     self.tell_and_send(client, text, to, message, when, lines)
                 }
             },
+            Taken::Last(event, next) => {
+                tell_bytes(self.alloc, lines, when, client, event, next)?;
+                Ok(())
+            }
+            Taken::LastName(event, next) => {
+                tell_names(self.alloc, lines, when, client, event, next)?;
+                Ok(())
+            }
         }
     }
 

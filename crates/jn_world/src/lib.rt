@@ -9,6 +9,7 @@ mod delivering;
 mod ended;
 mod named;
 mod posting;
+mod replies;
 mod serving;
 mod world;
 

@@ -1,5 +1,5 @@
 use Rattle.jn_events.proofs.Closing.{over-next, over-all, over-world}
-use Rattle.jn_events.proofs.Common.{ClientTable, StoreView, World, ◌<◌, ℕ, length, ◌∙◌, ap, arith, with_item}
+use Rattle.jn_events.proofs.Common.{Caller, StoreView, World, ◌<◌, ℕ, length, ◌∙◌, ap, arith, with_item}
 use Rattle.jn_events.proofs.ending.dismiss_clients.Goals as goal
 
 pub loop-c-preserved : goal.loop-c-preserved
@@ -7,8 +7,8 @@ loop-c-preserved g c =
     let look : g.row.S.Denot → StoreView = λ s. g.S.StableStore.view s in
     let w = c.loop-c.world in
     let n : ℕ = c.loop-c.c in
-    let old : ClientTable = c.index_mut.result.now in
-    let new : ClientTable = c.dismiss.new.self in
+    let old : Caller = c.index_mut.result.now in
+    let new : Caller = c.dismiss.new.self in
     let end = c.from-c-end.ensures in
     let test = c.loop-c-test.true in
     let eight = c.requires.eight in

@@ -20,7 +20,7 @@ returns-then-is_none-clause-does g c =
     let t = c.index-own.result.now in
     asked-none look device g.met.S.Powered.seen {A = ℕ} w c.args.client (Ok 0) w c.args.lines.now.items c.args.lines.now.items c.requires.client i c.index_of.ensures t
     (client-is w.clients c.args.client i t c.requires.client c.index_of.ensures (let has = c.requires.world in let eight = has.eight in omega (arith, c.args.self.now.clients.ok.0)) c.index-own.ensures)
-    c.args.when (none-waits c.waits_for.result t.outstanding c.waits_for.ensures c.if-is_none.ensures) (refl, refl, (let has = c.requires.world in has.limit))
+    c.args.when (none-waits c.waits_for.result t.table.outstanding c.waits_for.ensures c.if-is_none.ensures) (refl, refl, (let has = c.requires.world in has.limit))
 
 pub returns-then-is_none-clause-calm : goal.returns-then-is_none-clause-calm
 returns-then-is_none-clause-calm g c = λ all. all

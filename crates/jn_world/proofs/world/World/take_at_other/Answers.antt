@@ -1,4 +1,4 @@
-use Rattle.jn_world.proofs.Common.{Client, DeviceState, sent_for, StoreView, standing_of, sym, ◌∙◌}
+use Rattle.jn_world.proofs.Common.{Client, DeviceState, sent_taken, StoreView, standing_of, sym, ◌∙◌}
 use Rattle.jn_world.proofs.Calm.{stay-places}
 use Rattle.jn_world.proofs.ClientCalls.{other-took-now}
 use Rattle.jn_world.proofs.LostCalls.{sent-for, delivered-limit}
@@ -17,7 +17,7 @@ returns-clause-world g c =
     let n = c.delivered.new.self in
     let a = record w { net = n } in
     let b = c.tell_taken.new.self in
-    sent-world look a b (Client c.args.client) (sent_for c.in_ok-taken.taken) c.tell_taken.result
+    sent-world look a b (Client c.args.client) (sent_taken c.in_ok-taken.taken) c.tell_taken.result
     (delivered-world look w c.args.k n c.requires.world c.delivered.ensures) c.in_ok-taken.ensures.can
     (net-places a b c.tell_taken.ensures.others) (net-clients a b c.tell_taken.ensures.others) c.tell_taken.ensures.sent c.tell_taken.ensures.limit
 
@@ -41,4 +41,4 @@ returns-clause-calm g c =
 
 pub returns-clause-hands : goal.returns-clause-hands
 returns-clause-hands g c =
-    hands-on c.tell_taken.result c.args.self.now.net c.delivered.new.self c.args.k c.tell_taken.new.self.net.sent (Client c.args.client) (sent_for c.in_ok-taken.taken) c.delivered.ensures c.tell_taken.ensures.sent
+    hands-on c.tell_taken.result c.args.self.now.net c.delivered.new.self c.args.k c.tell_taken.new.self.net.sent (Client c.args.client) (sent_taken c.in_ok-taken.taken) c.delivered.ensures c.tell_taken.ensures.sent

@@ -1,4 +1,4 @@
-use Rattle.jn_world.proofs.Common.{Client, DeviceState, sent_for, StoreView, standing_of, arith, sym, with_item}
+use Rattle.jn_world.proofs.Common.{Client, DeviceState, sent_taken, StoreView, standing_of, arith, sym, with_item}
 use Rattle.jn_world.proofs.Calm.{stay-places}
 use Rattle.jn_world.proofs.ClientCalls.{client-took-now, client-is}
 use Rattle.jn_world.proofs.LostCalls.{sent-for, delivered-limit}
@@ -46,4 +46,4 @@ returns-clause-calm g c =
 
 pub returns-clause-hands : goal.returns-clause-hands
 returns-clause-hands g c =
-    hands-on c.tell_taken.result c.args.self.now.net c.delivered.new.self c.args.k c.tell_taken.new.self.net.sent (Client c.args.client) (sent_for c.in_ok-taken.taken) c.delivered.ensures c.tell_taken.ensures.sent
+    hands-on c.tell_taken.result c.args.self.now.net c.delivered.new.self c.args.k c.tell_taken.new.self.net.sent (Client c.args.client) (sent_taken c.in_ok-taken.taken) c.delivered.ensures c.tell_taken.ensures.sent
