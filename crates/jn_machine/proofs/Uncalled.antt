@@ -15,7 +15,8 @@ use Rattle.jn_callers.specs.Callers.{Caller, Ordered, of_table, command_of, orde
 use Rattle.jn_callers.specs.Laws.{by_table as ordered_by_table}
 use Rattle.jn_callers.proofs.Plain.{plain-order, plain-message}
 use Rattle.jn_machine.specs.Callers.{is_call}
-use Rattle.jn_machine.specs.Deeds.{steps_ordered, callers_ordered, texts_ordered, next_told}
+use Rattle.jn_machine.specs.Deeds.{steps_ordered, callers_ordered, texts_ordered, next_told, brought_up, crashed_at}
+use Rattle.jn_machine.specs.Events.{met, resting}
 use Rattle.jn_machine.proofs.Alike.{took-clients}
 use Rattle.jn_machine.proofs.Computed.{may-lead}
 use Rattle.jn_machine.proofs.Taking.{table-goes-not}
@@ -113,14 +114,18 @@ settling-none (task ∷ tasks) h = neither _ _ (one task (first _ _ h)) (settlin
     one (Meets event) k = absurd (true≢false (sym k))
     one task k = refl
 
+-- a deed within an event leaves no call
+within-none : (deed : Deed) → IsWithin deed → list_any is_call_task deed.tasks ≡ false
+within-none deed d = settling-none deed.tasks d.tasks
+
 pub task-leaves : (x : Setup) (h : Chance) (task : Task) (s : State) → is_call_task task ≡ false → list_any is_call_task (deed_of x h task s).tasks ≡ false
-task-leaves x h (Begins event) s e = neither _ false e refl
-task-leaves x h (Meets event) s e = settling-none _ (met-within x h event s.callers s.course.world (refusal_of x s.course.world event)).tasks
-task-leaves x h (Acts event) s e = settling-none _ (acted-within x h event s.callers s.course.world).tasks
-task-leaves x h Rests s e = settling-none _ (rests-within x h s.callers s.course.world (next_in x h.rubbish s.course)).tasks
-task-leaves x h (ComesUp q) s e = settling-none _ (up-within h q s.course.world).tasks
+task-leaves x h (Begins event) s e = neither (is_call event) false e refl
+task-leaves x h (Meets event) s e = within-none (met x h event s.callers s.course.world (refusal_of x s.course.world event)) (met-within x h event s.callers s.course.world (refusal_of x s.course.world event))
+task-leaves x h (Acts event) s e = within-none (acted x h event s.callers s.course.world) (acted-within x h event s.callers s.course.world)
+task-leaves x h Rests s e = within-none (resting x h s.callers s.course.world (next_in x h.rubbish s.course)) (rests-within x h s.callers s.course.world (next_in x h.rubbish s.course))
+task-leaves x h (ComesUp q) s e = within-none (brought_up h q s.course.world) (up-within h q s.course.world)
 task-leaves x h Dismisses s e = refl
-task-leaves x h (GoesDown q) s e = settling-none _ (crashed-within q (s.course.world.memory q)).tasks
+task-leaves x h (GoesDown q) s e = within-none (crashed_at q (s.course.world.memory q)) (crashed-within q (s.course.world.memory q))
 task-leaves x h (ClosesClients q) s e = refl
 task-leaves x h CountsCommits s e = refl
 
@@ -131,13 +136,25 @@ begins-none (e ∷ schedule) h = neither _ _ (first-none _ _ h) (begins-none sch
 up-none : (x : Setup) → list_any is_call_task (coming_up x) ≡ false
 up-none x = none-in ComesUp (servers_of x) (λ q. refl)
 
+printing-none : (x : Setup) → list_any is_call_task (printing (servers_of x)) ≡ false
+printing-none x = none-joined (map (λ (q : ServerNo). Acts (events.Show q)) (servers_of x)) (map (λ (q : ServerNo). Acts (events.Scrub q)) (servers_of x))
+    (none-in (λ (q : ServerNo). Acts (events.Show q)) (servers_of x) (λ q. refl)) (none-in (λ (q : ServerNo). Acts (events.Scrub q)) (servers_of x) (λ q. refl))
+
 ending-none : (x : Setup) → list_any is_call_task (ending x) ≡ false
-ending-none x = none-joined _ (CountsCommits ∷ []) (none-joined _ (printing (servers_of x)) (none-joined _ (settling x) (none-joined _ (map ClosesClients (servers_of x)) (none-joined _ (coming_up x)
-    (none-in GoesDown (servers_of x) (λ q. refl)) (up-none x)) (none-in ClosesClients (servers_of x) (λ q. refl))) (settling-none (settling x) (settles-within x)))
-    (none-joined _ (map (λ (q : ServerNo). Acts (events.Scrub q)) (servers_of x)) (none-in (λ (q : ServerNo). Acts (events.Show q)) (servers_of x) (λ q. refl)) (none-in (λ (q : ServerNo). Acts (events.Scrub q)) (servers_of x) (λ q. refl)))) refl
+ending-none x = none-joined (down ++ coming_up x ++ closed ++ settling x ++ printing (servers_of x)) (CountsCommits ∷ [])
+    (none-joined (down ++ coming_up x ++ closed ++ settling x) (printing (servers_of x))
+    (none-joined (down ++ coming_up x ++ closed) (settling x)
+    (none-joined (down ++ coming_up x) closed (none-joined down (coming_up x) (none-in GoesDown (servers_of x) (λ q. refl)) (up-none x)) (none-in ClosesClients (servers_of x) (λ q. refl)))
+    (settling-none (settling x) (settles-within x))) (printing-none x)) refl
+  where
+    down : List Task
+    down = map GoesDown (servers_of x)
+
+    closed : List Task
+    closed = map ClosesClients (servers_of x)
 
 all-none : (x : Setup) (schedule : List Event) → list_any is_call schedule ≡ false → list_any is_call_task (tasks_of x schedule) ≡ false
-all-none x schedule h = none-joined _ (ending x) (none-joined (coming_up x) _ (up-none x) (begins-none schedule h)) (ending-none x)
+all-none x schedule h = none-joined (coming_up x ++ map (λ (e : Event). Begins e) schedule) (ending x) (none-joined (coming_up x) (map (λ (e : Event). Begins e) schedule) (up-none x) (begins-none schedule h)) (ending-none x)
 
 -- ---- any run
 
