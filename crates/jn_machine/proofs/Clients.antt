@@ -90,7 +90,7 @@ module _ (x : Setup) (h : Chance) (f : ClientNo → Caller) (w : World) where
   HandlesBy calls deed = Handles calls f w deed.steps deed.callers deed.said
 
   module _ (calls : Bool) where
-    delivers : (k : ℕ) (o : Option Sent) → slice_get w.sent k ≡ o → HandlesBy calls (delivered h k f w o)
+    pub delivers : (k : ℕ) (o : Option Sent) → slice_get w.sent k ≡ o → HandlesBy calls (delivered h k f w o)
     delivers k None is = plainly [] refl
     delivers k (Some (Client c, message)) is = by_message k c message is
     delivers k (Some (Server q, message)) is = by (w.memory q)

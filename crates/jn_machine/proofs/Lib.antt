@@ -4,6 +4,7 @@ pub mod Computed
 pub mod Telling
 pub mod Ordered
 pub mod Counted
+pub mod Uncalled
 pub mod Texts
 pub mod Alike
 pub mod Taking
