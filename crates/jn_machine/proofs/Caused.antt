@@ -1,5 +1,6 @@
 -- A refusal is reported only where its cause holds.
-use Rattle.jn_machine.proofs.Common.{◌≡◌, ℕ, Bool, true, false, List, [], ◌∷◌, map, Option, Some, None, refl, sym, subst, arith, if◌then◌else◌, slice_get, list_all, ServerNo, ClientNo, Event, EventRefusal, TooManyArmed, EpochsUsedUp, Text, Pick, World, Printed, FileThere, PageStored, UnitLocked, go_on, text_printed, Setup, Chance, prints_found, allowed, Task, Begins, Meets, Acts, Rests, ComesUp, Dismisses, GoesDown, ClosesClients, CountsCommits, State, Deed, delivered, worked, shown, crashed_at, is_used_up, brought_up, given_up, recovered, refusal_of, servers_of, first_busy, next_event, told_unless, acted, met, resting, deed_of, texts_of, no_refusal, refused_while, or_else, cause_of, Left, ClientTable}
+use Rattle.jn_callers.specs.Callers.{Caller}
+use Rattle.jn_machine.proofs.Common.{◌≡◌, ℕ, Bool, true, false, List, [], ◌∷◌, map, Option, Some, None, refl, sym, subst, arith, if◌then◌else◌, slice_get, list_all, ServerNo, ClientNo, Event, EventRefusal, TooManyArmed, EpochsUsedUp, Text, Pick, World, Printed, FileThere, PageStored, UnitLocked, go_on, text_printed, Setup, Chance, prints_found, allowed, Task, Begins, Meets, Acts, Rests, ComesUp, Dismisses, GoesDown, ClosesClients, CountsCommits, State, Deed, delivered, worked, shown, crashed_at, is_used_up, brought_up, given_up, recovered, refusal_of, servers_of, first_busy, next_event, told_unless, acted, met, resting, deed_of, texts_of, no_refusal, refused_while, or_else, cause_of, Left}
 use Rattle.jn_base.specs.declared.device.FaultKind.TheVariants as faults
 use Rattle.jn_schedule.specs.declared.Event.TheVariants as events
 use Rattle.jn_report.specs.declared.line.Text.TheVariants as says
@@ -23,7 +24,7 @@ shows q prints (Some made) = refl
 silent : (deed : Deed) → deed.texts ≡ [] → list_all no_refusal deed.texts ≡ true
 silent deed e = subst (λ (ls : List Text). list_all no_refusal ls ≡ true) (sym e) refl
 
-acts : (x : Setup) (h : Chance) (event : Event) (t : ClientNo → ClientTable) (w : World) → refused_while h event w ≡ None → list_all no_refusal (acted x h event t w).texts ≡ true
+acts : (x : Setup) (h : Chance) (event : Event) (t : ClientNo → Caller) (w : World) → refused_while h event w ≡ None → list_all no_refusal (acted x h event t w).texts ≡ true
 acts x h (events.Command c command) t w e = refl
 acts x h (events.Call c s call) t w e = refl
 acts x h (events.Again c) t w e = refl
@@ -58,23 +59,23 @@ acts x h (events.Restart q) t w e = by (is_used_up h q w) e
     by false k = refl
 acts x h (events.Show q) t w e = shows q (prints_found h.found) h.stop
 
-meets : (x : Setup) (h : Chance) (event : Event) (t : ClientNo → ClientTable) (w : World) (o : Option EventRefusal) → or_else o (refused_while h event w) ≡ None → list_all no_refusal (met x h event t w o).texts ≡ true
+meets : (x : Setup) (h : Chance) (event : Event) (t : ClientNo → Caller) (w : World) (o : Option EventRefusal) → or_else o (refused_while h event w) ≡ None → list_all no_refusal (met x h event t w o).texts ≡ true
 meets x h event t w (Some refusal) e = absurd (clash e)
   where
     clash : Some refusal ≡ None → ⊥
     clash z = cc
 meets x h event t w None e = acts x h event t w e
 
-rests : (x : Setup) (h : Chance) (t : ClientNo → ClientTable) (w : World) (waiting : List ℕ) (busy : Option ServerNo) → list_all no_refusal (resting x h t w (next_event waiting busy)).texts ≡ true
+rests : (x : Setup) (h : Chance) (t : ClientNo → Caller) (w : World) (waiting : List ℕ) (busy : Option ServerNo) → list_all no_refusal (resting x h t w (next_event waiting busy)).texts ≡ true
 rests x h t w (k ∷ waiting) busy = acts x h (events.Deliver k) t w refl
 rests x h t w [] (Some q) = acts x h (events.Step q) t w refl
 rests x h t w [] None = refl
 
 texts : (x : Setup) (h : Chance) (task : Task) (s : State) → cause_of x h task s.course.world ≡ None → list_all no_refusal (deed_of x h task s).texts ≡ true
 texts x h (Begins event) s e = refl
-texts x h (Meets event) s e = meets x h event s.clients s.course.world (refusal_of x s.course.world event) e
-texts x h (Acts event) s e = acts x h event s.clients s.course.world e
-texts x h Rests s e = rests x h s.clients s.course.world s.course.waiting (first_busy h.rubbish s.course.world (servers_of x))
+texts x h (Meets event) s e = meets x h event s.callers s.course.world (refusal_of x s.course.world event) e
+texts x h (Acts event) s e = acts x h event s.callers s.course.world e
+texts x h Rests s e = rests x h s.callers s.course.world s.course.waiting (first_busy h.rubbish s.course.world (servers_of x))
 texts x h (ComesUp q) s e = silent (brought_up h q s.course.world) (comes h q s.course.world)
 texts x h Dismisses s e = refl
 texts x h (GoesDown q) s e = silent (crashed_at q (s.course.world.memory q)) (crashes q (s.course.world.memory q))

@@ -18,7 +18,7 @@ pub use Rattle.jn_system.specs.WholeSystem.Printing.{Printed, FileThere, PageSto
 pub use Rattle.jn_system.specs.WholeSystem.Course.{go_on, Course, go, newly_sent}
 pub use Rattle.jn_system.specs.WholeSystem.PrintedLines.{text_printed}
 pub use Rattle.jn_machine.specs.Tasks.{Task, Begins, Meets, Acts, Rests, ComesUp, Dismisses, GoesDown, ClosesClients, CountsCommits, State, begun, next_task, Stage, InSchedule, AtEnd, CutShort, next_at, when_of, when_at}
-pub use Rattle.jn_machine.specs.Deeds.{Deed, delivered, worked, shown, crashed_at, is_used_up, brought_up, given_up, recovered, delivered_at, is_busy, working_steps, served, nothing, stopped_idle, restarted, recovering, room, no_room, tables_commanded, texts_commanded, texts_taken, Use, Calls, Reads, Recovers, Cleans, nobody, tells}
+pub use Rattle.jn_machine.specs.Deeds.{Deed, delivered, worked, shown, crashed_at, is_used_up, brought_up, given_up, recovered, delivered_at, is_busy, working_steps, served, nothing, stopped_idle, restarted, recovering, room, no_room, texts_taken, Use, Calls, Reads, Recovers, Cleans, nobody, tells}
 pub use Rattle.jn_machine.specs.Refusals.{refusal_of}
 pub use Rattle.jn_machine.specs.Events.{servers_of, first_busy, next_event, told_unless, acted, met, resting, deed_of, next_in, asking, settling, printing, coming_up, ending, tasks_of}
 pub use Rattle.jn_machine.specs.Steps.{texts_of, is_too_much, come_to, cut_short, made, reported, done, next_by, made_to, outside_texts, message_texts, traced, most_messages}

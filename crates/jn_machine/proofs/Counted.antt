@@ -1,6 +1,16 @@
 -- Each event begins once: those that began and those that are left are all.
-use Rattle.jn_machine.proofs.Common.{◌≡◌, ℕ, ◌+◌, Bool, true, false, List, [], ◌∷◌, ◌++◌, map, length, Option, Some, None, refl, sym, ◌∙◌, ap, subst, arith, if◌then◌else◌, drop, slice_get, list_all, AllFiles, ServerNo, ClientNo, Client, Server, Event, EventRefusal, Sent, Pick, Room, World, Memory, Step, NextEvent, Course, go, go_on, Setup, Chance, Task, Begins, Meets, Acts, Rests, ComesUp, Dismisses, GoesDown, ClosesClients, CountsCommits, Stage, InSchedule, AtEnd, CutShort, State, next_at, begun, Deed, delivered, delivered_at, is_busy, worked, working_steps, served, nothing, stopped_idle, crashed_at, restarted, recovered, recovering, brought_up, is_used_up, servers_of, asking, settling, acted, met, resting, next_in, deed_of, printing, coming_up, ending, tasks_of, refusal_of, is_too_much, come_to, cut_short, made_to, none, more, MayStep, MayLead, before, events_left, handing, working, step_calls, clients_from, Left, ClientTable}
-use Rattle.jn_machine.proofs.Telling.{event_after, adds}
+use Rattle.jn_machine.proofs.Common.{◌≡◌, ℕ, ◌+◌, Bool, true, false, List, [], ◌∷◌, ◌++◌, map, length, Option, Some, None, refl, sym, ◌∙◌, ap, subst, arith, if◌then◌else◌, drop, slice_get, list_all, AllFiles, ServerNo, ClientNo, Client, Server, Event, EventRefusal, Sent, Pick, Room, World, Memory, Step, NextEvent, Course, go, go_on, Setup, Chance, Task, Begins, Meets, Acts, Rests, ComesUp, Dismisses, GoesDown, ClosesClients, CountsCommits, Stage, InSchedule, AtEnd, CutShort, State, next_at, begun, Deed, delivered, delivered_at, is_busy, worked, working_steps, served, nothing, stopped_idle, crashed_at, restarted, recovered, recovering, brought_up, is_used_up, servers_of, asking, settling, acted, met, resting, next_in, deed_of, printing, coming_up, ending, tasks_of, refusal_of, is_too_much, come_to, cut_short, made_to, none, more, MayStep, MayLead, before, events_left, handing, working, step_calls, clients_from, Left}
+use Rattle.jn_callers.specs.Callers.{Caller}
+use Rattle.std.proofs.Common.{true≢false}
+use Rattle.jn_machine.proofs.Common.{list_all-append, Commanded, Refuses, Sends, command_row}
+use Rattle.jn_msgs.specs.declared.message.Message.TheVariants as messages
+use Rattle.jn_calls.specs.declared.order.Order.{Order}
+use Rattle.jn_calls.specs.declared.order.Order.TheVariants as orders
+use Rattle.jn_callers.specs.declared.taken.Taken.{Taken}
+use Rattle.jn_callers.specs.declared.taken.Taken.TheVariants as taken
+use Rattle.jn_callers.specs.Callers.{Ordered, Refused, Sent as Accepted, command_of, order_row, take_call_row}
+use Rattle.jn_machine.specs.Deeds.{steps_ordered, ordered_by, next_told}
+use Rattle.jn_machine.proofs.Telling.{event_after, adds, both, first, second}
 use Rattle.jn_schedule.specs.declared.Event.TheVariants as events
 
 -- ---- lists of tasks
@@ -23,23 +33,48 @@ abbrev stays : Step → Bool
 stays NextEvent = false
 stays step = true
 
--- its steps begin no event, and neither do the tasks that it leaves
-record IsWithin (deed : Deed) : Type 0 where
-  steps : list_all stays deed.steps ≡ true
-  tasks : events_left deed.tasks ≡ 0
+-- tasks of a settle
+abbrev pub is_settling : Task → Bool
+is_settling (Acts (events.Again c)) = true
+is_settling (Acts (events.Nudge q)) = true
+is_settling Rests = true
+is_settling task = false
+
+-- its steps begin no event, and the tasks that it leaves are those of a settle
+pub record IsWithin (deed : Deed) : Type 0 where
+  pub steps : list_all stays deed.steps ≡ true
+  pub tasks : list_all is_settling deed.tasks ≡ true
 
 none-in : {A : Type 0} (f : A → Task) (xs : List A) → ((a : A) → events_left (f a ∷ []) ≡ 0) → events_left (map f xs) ≡ 0
 none-in f [] h = refl
 none-in f (a ∷ xs) h = let one = left-append (f a ∷ []) (map f xs) in let here = h a in let behind = none-in f xs h in grind (arith, one, here, behind)
 
+all-in : {A : Type 0} (f : A → Task) (xs : List A) → ((a : A) → is_settling (f a) ≡ true) → list_all is_settling (map f xs) ≡ true
+all-in f [] h = refl
+all-in f (a ∷ xs) h = both _ _ (h a) (all-in f xs h)
+
 none-joined : (a b : List Task) → events_left a ≡ 0 → events_left b ≡ 0 → events_left (a ++ b) ≡ 0
 none-joined a b p q = let one = left-append a b in grind (arith, one, p, q)
 
-asks-within : (x : Setup) → events_left (asking x) ≡ 0
-asks-within x = none-joined (map (λ (c : ClientNo). Acts (events.Again c)) (clients_from 1 8)) (map (λ (q : ServerNo). Acts (events.Nudge q)) (servers_of x)) (none-in (λ (c : ClientNo). Acts (events.Again c)) (clients_from 1 8) (λ c. refl)) (none-in (λ (q : ServerNo). Acts (events.Nudge q)) (servers_of x) (λ q. refl))
+asks-within : (x : Setup) → list_all is_settling (asking x) ≡ true
+asks-within x = list_all-append is_settling (map (λ (c : ClientNo). Acts (events.Again c)) (clients_from 1 8)) (map (λ (q : ServerNo). Acts (events.Nudge q)) (servers_of x))
+    ∙ both _ _ (all-in (λ (c : ClientNo). Acts (events.Again c)) (clients_from 1 8) (λ c. refl)) (all-in (λ (q : ServerNo). Acts (events.Nudge q)) (servers_of x) (λ q. refl))
 
-settles-within : (x : Setup) → events_left (settling x) ≡ 0
-settles-within x = none-joined (asking x) (Rests ∷ []) (asks-within x) refl
+pub settles-within : (x : Setup) → list_all is_settling (settling x) ≡ true
+settles-within x = list_all-append is_settling (asking x) (Rests ∷ []) ∙ both _ true (asks-within x) refl
+
+settling-left : (task : Task) → is_settling task ≡ true → events_left (task ∷ []) ≡ 0
+settling-left (Begins event) h = absurd (true≢false (sym h))
+settling-left task h = refl
+
+-- so no event begins in them
+none-begin : (tasks : List Task) → list_all is_settling tasks ≡ true → events_left tasks ≡ 0
+none-begin [] h = refl
+none-begin (task ∷ tasks) h =
+    let one = left-append (task ∷ []) tasks in
+    let here = settling-left task (first _ _ h) in
+    let behind = none-begin tasks (second _ _ h) in
+    grind (arith, one, here, behind)
 
 handing-stays : (k : ℕ) (room : Room) (stop : Option (Pick → Left)) → list_all stays (handing k room stop ∷ []) ≡ true
 handing-stays k room None = refl
@@ -57,9 +92,23 @@ at-within : (h : Chance) (k : ℕ) (q : ServerNo) (m : Option Memory) → IsWith
 at-within h k q None = record { steps = refl; tasks = refl }
 at-within h k q (Some m) = record { steps = handing-stays k _ h.stop; tasks = refl }
 
-delivered-within : (h : Chance) (k : ℕ) (t : ClientNo → ClientTable) (w : World) (sent : Option Sent) → IsWithin (delivered h k t w sent)
+-- what a client that calls tells the system
+next-stays : (c : ClientNo) (what : Taken) → list_all stays (next_told c what) ≡ true
+next-stays c (taken.Send to (messages.Op client request W number op)) = refl
+next-stays c (taken.Send to message) = refl
+next-stays c what = refl
+
+ordered-within : (c : ClientNo) (now : Caller) (j : ℕ) (order : Order) → IsWithin (ordered_by c now j order)
+ordered-within c now j order = record { steps = by (command_row now.table j (command_of order)) (order_row now j order); tasks = refl }
+  where
+    by : (row : Commanded) (o : Ordered) → list_all stays (steps_ordered c order row o) ≡ true
+    by (Refuses refusal) (Refused why) = refl
+    by (Sends t to m) (Refused why) = refl
+    by row (Accepted now to m) = refl
+
+delivered-within : (h : Chance) (k : ℕ) (t : ClientNo → Caller) (w : World) (sent : Option Sent) → IsWithin (delivered h k t w sent)
 delivered-within h k t w None = record { steps = refl; tasks = refl }
-delivered-within h k t w (Some (Client c, message)) = record { steps = refl; tasks = refl }
+delivered-within h k t w (Some (Client c, message)) = record { steps = next-stays c (take_call_row (t c) message).1; tasks = refl }
 delivered-within h k t w (Some (Server q, message)) = at-within h k q (w.memory q)
 
 by-test : (b : Bool) (d e : Deed) → IsWithin d → IsWithin e → IsWithin (if b then d else e)
@@ -69,7 +118,7 @@ by-test false d e p q = q
 worked-within : (h : Chance) (q : ServerNo) (w : World) → IsWithin (worked h q w)
 worked-within h q w = by-test (is_busy h.rubbish w q) (served q step_calls (working_steps h q)) nothing (record { steps = working-stays q _ h.stop; tasks = refl }) (record { steps = refl; tasks = refl })
 
-crashed-within : (q : ServerNo) (m : Option Memory) → IsWithin (crashed_at q m)
+pub crashed-within : (q : ServerNo) (m : Option Memory) → IsWithin (crashed_at q m)
 crashed-within q None = record { steps = refl; tasks = refl }
 crashed-within q (Some m) = record { steps = refl; tasks = refl }
 
@@ -80,12 +129,12 @@ recovering-stays h q (Some made) = refl
 restarted-within : (h : Chance) (q : ServerNo) (w : World) → IsWithin (restarted h q w)
 restarted-within h q w = by-test (is_used_up h q w) _ (recovered h q) (record { steps = refl; tasks = refl }) (record { steps = recovering-stays h q h.stop; tasks = refl })
 
-up-within : (h : Chance) (q : ServerNo) (w : World) → IsWithin (brought_up h q w)
+pub up-within : (h : Chance) (q : ServerNo) (w : World) → IsWithin (brought_up h q w)
 up-within h q w = by-test (is_used_up h q w) _ (recovered h q) (record { steps = refl; tasks = refl }) (record { steps = recovering-stays h q h.stop; tasks = refl })
 
-acted-within : (x : Setup) (h : Chance) (event : Event) (t : ClientNo → ClientTable) (w : World) → IsWithin (acted x h event t w)
-acted-within x h (events.Command c command) t w = record { steps = refl; tasks = refl }
-acted-within x h (events.Call c s call) t w = record { steps = refl; tasks = refl }
+pub acted-within : (x : Setup) (h : Chance) (event : Event) (t : ClientNo → Caller) (w : World) → IsWithin (acted x h event t w)
+acted-within x h (events.Command c command) t w = ordered-within c (t c) w.event (orders.Command command)
+acted-within x h (events.Call c s call) t w = ordered-within c (t c) w.event (orders.Call s call)
 acted-within x h (events.Again c) t w = record { steps = refl; tasks = refl }
 acted-within x h (events.Deliver k) t w = delivered-within h k t w (slice_get w.sent k)
 acted-within x h events.Settle t w = record { steps = refl; tasks = settles-within x }
@@ -100,11 +149,11 @@ acted-within x h (events.Crash q) t w = crashed-within q (w.memory q)
 acted-within x h (events.Restart q) t w = restarted-within h q w
 acted-within x h (events.Show q) t w = record { steps = idle-stays q h.stop; tasks = refl }
 
-met-within : (x : Setup) (h : Chance) (event : Event) (t : ClientNo → ClientTable) (w : World) (refusal : Option EventRefusal) → IsWithin (met x h event t w refusal)
+pub met-within : (x : Setup) (h : Chance) (event : Event) (t : ClientNo → Caller) (w : World) (refusal : Option EventRefusal) → IsWithin (met x h event t w refusal)
 met-within x h event t w None = acted-within x h event t w
 met-within x h event t w (Some refusal) = record { steps = refl; tasks = refl }
 
-rests-within : (x : Setup) (h : Chance) (t : ClientNo → ClientTable) (w : World) (next : Option Event) → IsWithin (resting x h t w next)
+pub rests-within : (x : Setup) (h : Chance) (t : ClientNo → Caller) (w : World) (next : Option Event) → IsWithin (resting x h t w next)
 rests-within x h t w None = record { steps = refl; tasks = refl }
 rests-within x h t w (Some event) = record { steps = (acted-within x h event t w).steps; tasks = refl }
 
@@ -145,9 +194,9 @@ module _ (x : Setup) (h : Chance) (deed : Deed) (s : State) (n : ℕ) where
 
 within-counts : (x : Setup) (h : Chance) (deed : Deed) (s : State) (n : ℕ) → IsWithin deed → count_of s ≡ n → Counts n (made_to x h deed (go_on deed.steps s.course) s)
 within-counts x h deed s n d is = made-counts x h deed s n (go_on deed.steps s.course)
-    (let a = kept deed.steps s.course d.steps in let b = left-append deed.tasks s.tasks in let c = d.tasks in grind (arith, a, b, c, is))
+    (let a = kept deed.steps s.course d.steps in let b = left-append deed.tasks s.tasks in let c = none-begin deed.tasks d.tasks in grind (arith, a, b, c, is))
 
-first-task : (stage : Stage) (tasks : List Task) (task : Task) → next_at stage tasks ≡ Some task → tasks ≡ task ∷ drop 1 tasks
+pub first-task : (stage : Stage) (tasks : List Task) (task : Task) → next_at stage tasks ≡ Some task → tasks ≡ task ∷ drop 1 tasks
 first-task CutShort tasks task h = absurd (clash h)
   where
     clash : None ≡ Some task → ⊥
@@ -179,9 +228,9 @@ not-cut AtEnd tasks task h e = cc
 
 step-counts : (x : Setup) (h : Chance) (task : Task) (s : State) (n : ℕ) → s.tasks ≡ task ∷ drop 1 s.tasks → count_of s ≡ n → Counts n (made_to x h (deed_of x h task s) (go_on (deed_of x h task s).steps (begun task s).course) (begun task s))
 step-counts x h (Begins event) s n t is = made-counts x h (deed_of x h (Begins event) s) (begun (Begins event) s) n _ (let a = ap events_left t in grind (arith, a, is))
-step-counts x h (Meets event) s n t is = within-counts x h _ (begun (Meets event) s) n (met-within x h event s.clients s.course.world (refusal_of x s.course.world event)) (let a = ap events_left t in grind (arith, a, is))
-step-counts x h (Acts event) s n t is = within-counts x h _ (begun (Acts event) s) n (acted-within x h event s.clients s.course.world) (let a = ap events_left t in grind (arith, a, is))
-step-counts x h Rests s n t is = within-counts x h _ (begun Rests s) n (rests-within x h s.clients s.course.world (next_in x h.rubbish s.course)) (let a = ap events_left t in grind (arith, a, is))
+step-counts x h (Meets event) s n t is = within-counts x h _ (begun (Meets event) s) n (met-within x h event s.callers s.course.world (refusal_of x s.course.world event)) (let a = ap events_left t in grind (arith, a, is))
+step-counts x h (Acts event) s n t is = within-counts x h _ (begun (Acts event) s) n (acted-within x h event s.callers s.course.world) (let a = ap events_left t in grind (arith, a, is))
+step-counts x h Rests s n t is = within-counts x h _ (begun Rests s) n (rests-within x h s.callers s.course.world (next_in x h.rubbish s.course)) (let a = ap events_left t in grind (arith, a, is))
 step-counts x h (ComesUp q) s n t is = within-counts x h _ (begun (ComesUp q) s) n (up-within h q s.course.world) (let a = ap events_left t in grind (arith, a, is))
 step-counts x h Dismisses s n t is = within-counts x h (deed_of x h Dismisses s) (begun Dismisses s) n (record { steps = refl; tasks = refl }) (let a = ap events_left t in grind (arith, a, is))
 step-counts x h (GoesDown q) s n t is = within-counts x h _ (begun (GoesDown q) s) n (crashed-within q (s.course.world.memory q)) (let a = ap events_left t in grind (arith, a, is))
@@ -217,7 +266,7 @@ six : (a b c d e f : List Task) → events_left a ≡ 0 → events_left b ≡ 0 
 six a b c d e f p q r s t u = grind (arith, left-append, p, q, r, s, t, u)
 
 ending-left : (x : Setup) → events_left (ending x) ≡ 0
-ending-left x = six (map GoesDown (servers_of x)) (coming_up x) (map ClosesClients (servers_of x)) (settling x) (printing (servers_of x)) (CountsCommits ∷ []) (down-within x) (up-tasks-within x) (closed-within x) (settles-within x) (prints-within x) refl
+ending-left x = six (map GoesDown (servers_of x)) (coming_up x) (map ClosesClients (servers_of x)) (settling x) (printing (servers_of x)) (CountsCommits ∷ []) (down-within x) (up-tasks-within x) (closed-within x) (none-begin (settling x) (settles-within x)) (prints-within x) refl
 
 three : (a b c : List Task) (n : ℕ) → events_left a ≡ 0 → events_left b ≡ n → events_left c ≡ 0 → events_left (a ++ b ++ c) ≡ n
 three a b c n p q r = grind (arith, left-append, p, q, r)

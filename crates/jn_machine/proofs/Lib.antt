@@ -4,7 +4,10 @@ pub mod Computed
 pub mod Telling
 pub mod Ordered
 pub mod Counted
+pub mod Uncalled
 pub mod Texts
+pub mod Alike
+pub mod Taking
 pub mod Clients
 pub mod Quiet
 pub mod Resting

@@ -1,9 +1,11 @@
 -- The commits that the lines name are those that the system names.
-use Rattle.jn_machine.proofs.Common.{◌≡◌, ℕ, ◌+◌, Bool, true, false, List, [], ◌∷◌, ◌++◌, append-nil, append_assoc, length, drop, map, refl, sym, ◌∙◌, ap, subst, if◌then◌else◌, list_all, drop-append_seam, ServerNo, Tid, Party, Outside, When, Text, Line, commit_in, history_of, Sent, World, committed_in, commits_in, Step, Course, go_on, newly_sent, Setup, Chance, Task, Begins, Meets, Acts, Rests, ComesUp, Dismisses, GoesDown, ClosesClients, CountsCommits, State, when_of, begun, Use, Calls, Reads, Recovers, Deed, deed_of, outside_texts, own_texts, message_texts, traced, texts_of, lines_at, is_too_much, come_to, cut_short, made, none, more, MayStep, MayLead, Cleans, reported}
+use Rattle.jn_machine.proofs.Common.{◌≡◌, ℕ, ◌+◌, Bool, true, false, List, [], ◌∷◌, ◌++◌, append-nil, append_assoc, length, drop, map, refl, sym, ◌∙◌, ap, subst, arith, if◌then◌else◌, list_all, drop-append_seam, ServerNo, Tid, Party, Outside, When, Text, Line, commit_in, history_of, Sent, World, committed_in, commits_in, Step, Course, go_on, newly_sent, Setup, Chance, Task, Begins, Meets, Acts, Rests, ComesUp, Dismisses, GoesDown, ClosesClients, CountsCommits, State, when_of, begun, Use, Calls, Reads, Recovers, Deed, deed_of, outside_texts, own_texts, message_texts, traced, texts_of, lines_at, is_too_much, come_to, cut_short, made, none, more, MayStep, MayLead, Cleans, reported}
 use Rattle.jn_report.specs.declared.line.Text.TheVariants as says
-use Rattle.jn_machine.proofs.Telling.{first, second}
+use Rattle.jn_machine.proofs.Telling.{first, second, weaker}
 use Rattle.jn_machine.proofs.Texts.{gone-on, More, task-texts, Besides}
-use Rattle.jn_machine.proofs.Clients.{HasTables, begun-said, step-tables}
+use Rattle.std.proofs.Common.{◌⊎◌, inl, inr, Option, Some, None}
+use Rattle.jn_machine.proofs.Taking.{answers_operation, is_of_client}
+use Rattle.jn_machine.proofs.Clients.{HasTables, IsSaid, begun-said, step-tables, task-kind}
 
 -- ---- commits in texts and lines
 
@@ -40,6 +42,14 @@ names-none text h = refl
 none-in : (texts : List Text) → list_all no_commit texts ≡ true → commits_in texts ≡ []
 none-in [] h = refl
 none-in (text ∷ texts) h = ap (λ (Ts : List Tid). Ts ++ commits_in texts) (names-none text (first _ _ h)) ∙ none-in texts (second _ _ h)
+
+operation-none : (text : Text) → answers_operation text ≡ true → no_commit text ≡ true
+unfolding no_commit
+operation-none text h = grind arith
+
+client-none : (text : Text) → is_of_client text ≡ true → no_commit text ≡ true
+unfolding no_commit
+client-none text h = grind arith
 
 faults-none : (q : ServerNo) (told : List Outside) → commits_in (map (λ (fault : Outside). says.Outside q fault) told) ≡ []
 faults-none q [] = refl
@@ -94,9 +104,25 @@ abbrev AreNamed : State → Type 0
 AreNamed s = history_of s.lines ≡ commits_in s.course.world.lines
 
 module _ (x : Setup) (h : Chance) (deed : Deed) (s : State) where
-  makes : reported deed.said (own_texts s.course.world (go_on deed.steps s.course).world) ≡ own_texts s.course.world (go_on deed.steps s.course).world → list_all no_commit deed.texts ≡ true
+  -- what is said names what the steps name
+  says-names : IsSaid deed s.course → list_all is_of_client (reported deed.said []) ≡ true
+      → commits_in (reported deed.said (own_texts s.course.world (go_on deed.steps s.course).world)) ≡ commits_in (own_texts s.course.world (go_on deed.steps s.course).world)
+  says-names (inl e) k = ap commits_in e
+  says-names (inr e) k = by deed.said k
+    where
+      own : List Text
+      own = own_texts s.course.world (go_on deed.steps s.course).world
+
+      none-named : commits_in own ≡ []
+      none-named = none-in own (weaker answers_operation no_commit operation-none own e)
+
+      by : (said : Option (List Text)) → list_all is_of_client (reported said []) ≡ true → commits_in (reported said own) ≡ commits_in own
+      by None z = refl
+      by (Some texts) z = none-in texts (weaker is_of_client no_commit client-none texts z) ∙ sym none-named
+
+  makes : IsSaid deed s.course → list_all is_of_client (reported deed.said []) ≡ true → list_all no_commit deed.texts ≡ true
       → AreNamed s → AreNamed (made x h deed s)
-  makes says t old = by (is_too_much deed (go_on deed.steps s.course))
+  makes says kind t old = by (is_too_much deed (go_on deed.steps s.course))
     where
       now : World
       now = (go_on deed.steps s.course).world
@@ -107,7 +133,7 @@ module _ (x : Setup) (h : Chance) (deed : Deed) (s : State) where
       told : commits_in texts ≡ commits_in (own_texts s.course.world now)
       told = middle (outside_texts deed.device h.told) (reported deed.said (own_texts s.course.world now)) deed.texts (traced x.trace (message_texts deed.actor (length s.course.world.sent) (newly_sent s.course.world now)))
           (outside-none deed.device h.told) (none-in deed.texts t) (traced-none x.trace deed.actor (length s.course.world.sent) (newly_sent s.course.world now))
-          ∙ ap commits_in says
+          ∙ says-names says kind
 
       by : (b : Bool) → AreNamed (if b then cut_short s else come_to x h deed (go_on deed.steps s.course) s)
       by true = old
@@ -121,7 +147,7 @@ begins task s e = e
 
 step-names : (x : Setup) (s t : State) → MayStep x s t → HasTables s → AreNamed s → AreNamed t
 step-names x s t m has e = subst (λ (u : State). AreNamed u) (sym m.state_is)
-    (makes x m.chance (deed_of x m.chance m.task s) (begun m.task s) (begun-said x m.chance m.task s has) (texts-none x m.chance m.task s) (begins m.task s e))
+    (makes x m.chance (deed_of x m.chance m.task s) (begun m.task s) (begun-said x m.chance m.task s has) (task-kind x m.chance m.task s) (texts-none x m.chance m.task s) (begins m.task s e))
 
 pub names : (x : Setup) (s t : State) → MayLead x s t → HasTables s → history_of s.lines ≡ commits_in s.course.world.lines → history_of t.lines ≡ commits_in t.course.world.lines
 names x s t (none u) has e = e

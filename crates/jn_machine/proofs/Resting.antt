@@ -52,10 +52,10 @@ none-busy rubbish w first (suc n) h q low high = by (is_busy rubbish w (record {
 
 module _ (x : Setup) (h : Chance) (s : State) where
   pub rest-ends : (done x h Rests s).stage ≢ CutShort → (done x h Rests s).tasks ≡ drop 1 s.tasks → IsAtRest x h.rubbish s.course
-  rest-ends k e = by s.course.waiting refl (first_busy h.rubbish s.course.world (servers_of x)) refl (sym (made-tasks x h (resting x h s.clients s.course.world (next_in x h.rubbish s.course)) _ (begun Rests s) k) ∙ e)
+  rest-ends k e = by s.course.waiting refl (first_busy h.rubbish s.course.world (servers_of x)) refl (sym (made-tasks x h (resting x h s.callers s.course.world (next_in x h.rubbish s.course)) _ (begun Rests s) k) ∙ e)
     where
       by : (waiting : List ℕ) → s.course.waiting ≡ waiting → (busy : Option ServerNo) → first_busy h.rubbish s.course.world (servers_of x) ≡ busy
-          → (resting x h s.clients s.course.world (next_event waiting busy)).tasks ++ drop 1 s.tasks ≡ drop 1 s.tasks → IsAtRest x h.rubbish s.course
+          → (resting x h s.callers s.course.world (next_event waiting busy)).tasks ++ drop 1 s.tasks ≡ drop 1 s.tasks → IsAtRest x h.rubbish s.course
       by (n ∷ waiting) w busy b z = absurd (no-longer Rests (drop 1 s.tasks) z)
       by [] w (Some q) b z = absurd (no-longer Rests (drop 1 s.tasks) z)
       by [] w None b z = record { waiting = w; idle = λ q l. none-busy h.rubbish s.course.world 0 x.servers b q (least q.0) (most q.0 l) }
@@ -67,10 +67,10 @@ module _ (x : Setup) (h : Chance) (s : State) where
           most n m = omega arith
 
   pub is-refused : (event : Event) (refusal : EventRefusal) → refusal_of x s.course.world event ≡ Some refusal → done x h (Meets event) s ≡ made x h (tells (RefusedEvent refusal ∷ [])) (begun (Meets event) s)
-  is-refused event refusal e = ap (λ o. made x h (met x h event s.clients s.course.world o) (begun (Meets event) s)) e
+  is-refused event refusal e = ap (λ o. made x h (met x h event s.callers s.course.world o) (begun (Meets event) s)) e
 
-  pub is-done : (event : Event) → refusal_of x s.course.world event ≡ None → done x h (Meets event) s ≡ made x h (acted x h event s.clients s.course.world) (begun (Meets event) s)
-  is-done event e = ap (λ o. made x h (met x h event s.clients s.course.world o) (begun (Meets event) s)) e
+  pub is-done : (event : Event) → refusal_of x s.course.world event ≡ None → done x h (Meets event) s ≡ made x h (acted x h event s.callers s.course.world) (begun (Meets event) s)
+  is-done event e = ap (λ o. made x h (met x h event s.callers s.course.world o) (begun (Meets event) s)) e
 
 -- ---- a step of nothing
 
@@ -97,7 +97,7 @@ module _ (x : Setup) (h : Chance) (s : State) where
 
 module _ (x : Setup) (h : Chance) (s : State) where
   pub rest-over : nat_lt most_messages (length s.course.world.sent) ≡ false → next_in x h.rubbish s.course ≡ None → done x h Rests s ≡ begun Rests s
-  rest-over few e = ap (λ o. made x h (resting x h s.clients s.course.world o) (begun Rests s)) e ∙ made-nothing x h (begun Rests s) few
+  rest-over few e = ap (λ o. made x h (resting x h s.callers s.course.world o) (begun Rests s)) e ∙ made-nothing x h (begun Rests s) few
 
-  pub rest-goes-on : (event : Event) → next_in x h.rubbish s.course ≡ Some event → done x h Rests s ≡ made x h (record (acted x h event s.clients s.course.world) { tasks = Rests ∷ [] }) (begun Rests s)
-  rest-goes-on event e = ap (λ o. made x h (resting x h s.clients s.course.world o) (begun Rests s)) e
+  pub rest-goes-on : (event : Event) → next_in x h.rubbish s.course ≡ Some event → done x h Rests s ≡ made x h (record (acted x h event s.callers s.course.world) { tasks = Rests ∷ [] }) (begun Rests s)
+  rest-goes-on event e = ap (λ o. made x h (resting x h s.callers s.course.world o) (begun Rests s)) e

@@ -1,5 +1,6 @@
 -- What holds of all that is reported, where it holds of what each step of the system may report and of what deeds report besides.
-use Rattle.jn_machine.proofs.Common.{◌≡◌, ℕ, ◌+◌, Bool, true, false, List, [], ◌∷◌, ◌++◌, append-nil, append_assoc, map, length, drop, Option, Some, None, refl, sym, ◌∙◌, ap, subst, if◌then◌else◌, slice_get, list_all, drop-append_seam, list_all-append, ServerNo, ClientNo, Tid, Party, Client, Server, Outside, Event, EventRefusal, EpochsUsedUp, Text, Pick, Sent, World, Memory, Step, after, Printed, FileThere, PageStored, UnitLocked, Course, go, go_on, newly_sent, text_printed, Setup, Chance, prints_found, allowed, Task, Begins, Meets, Acts, Rests, ComesUp, Dismisses, GoesDown, ClosesClients, CountsCommits, State, Use, Calls, Reads, Recovers, Deed, delivered, delivered_at, is_busy, worked, shown, crashed_at, is_used_up, restarted, brought_up, given_up, recovered, served, nothing, working_steps, refusal_of, told_unless, acted, met, next_in, resting, deed_of, outside_texts, own_texts, message_texts, traced, texts_of, Cleans, step_calls, Left, ClientTable, reported}
+use Rattle.jn_machine.proofs.Common.{◌≡◌, ℕ, ◌+◌, Bool, true, false, List, [], ◌∷◌, ◌++◌, append-nil, append_assoc, map, length, drop, Option, Some, None, refl, sym, ◌∙◌, ap, subst, if◌then◌else◌, slice_get, list_all, drop-append_seam, list_all-append, ServerNo, ClientNo, Tid, Party, Client, Server, Outside, Event, EventRefusal, EpochsUsedUp, Text, Pick, Sent, World, Memory, Step, after, Printed, FileThere, PageStored, UnitLocked, Course, go, go_on, newly_sent, text_printed, Setup, Chance, prints_found, allowed, Task, Begins, Meets, Acts, Rests, ComesUp, Dismisses, GoesDown, ClosesClients, CountsCommits, State, Use, Calls, Reads, Recovers, Deed, delivered, delivered_at, is_busy, worked, shown, crashed_at, is_used_up, restarted, brought_up, given_up, recovered, served, nothing, working_steps, refusal_of, told_unless, acted, met, next_in, resting, deed_of, outside_texts, own_texts, message_texts, traced, texts_of, Cleans, step_calls, Left, reported}
+use Rattle.jn_callers.specs.Callers.{Caller}
 use Rattle.jn_machine.proofs.Telling.{may_tell, event_after, both, Adds, adds, weaker}
 use Rattle.jn_base.specs.declared.names.FileNo.{FileNo}
 use Rattle.jn_base.specs.declared.names.BlockNo.{BlockNo}
@@ -76,7 +77,7 @@ pub record Besides (test : Text → Bool) : Type 0 where
   pub refused : (refusal : EventRefusal) → test (says.RefusedEvent refusal) ≡ true
   pub outside : (q : ServerNo) (fault : Outside) → test (says.Outside q fault) ≡ true
 
-pub delivers : (h : Chance) (k : ℕ) (t : ClientNo → ClientTable) (w : World) (o : Option Sent) → (delivered h k t w o).texts ≡ []
+pub delivers : (h : Chance) (k : ℕ) (t : ClientNo → Caller) (w : World) (o : Option Sent) → (delivered h k t w o).texts ≡ []
 delivers h k t w None = refl
 delivers h k t w (Some (Client c, message)) = refl
 delivers h k t w (Some (Server q, message)) = by (w.memory q)
@@ -128,7 +129,7 @@ module _ (test : Text → Bool) (b : Besides test) where
       by true = both _ true (b.refused _) refl
       by false = refl
 
-  pub acts : (x : Setup) (h : Chance) (event : Event) (t : ClientNo → ClientTable) (w : World) → list_all test (acted x h event t w).texts ≡ true
+  pub acts : (x : Setup) (h : Chance) (event : Event) (t : ClientNo → Caller) (w : World) → list_all test (acted x h event t w).texts ≡ true
   acts x h (events.Command c command) t w = refl
   acts x h (events.Call c s call) t w = refl
   acts x h (events.Again c) t w = refl
@@ -145,19 +146,19 @@ module _ (test : Text → Bool) (b : Besides test) where
   acts x h (events.Restart q) t w = restarts h q w
   acts x h (events.Show q) t w = shows q (prints_found h.found) h.stop
 
-  meets : (x : Setup) (h : Chance) (event : Event) (t : ClientNo → ClientTable) (w : World) (o : Option EventRefusal) → list_all test (met x h event t w o).texts ≡ true
+  meets : (x : Setup) (h : Chance) (event : Event) (t : ClientNo → Caller) (w : World) (o : Option EventRefusal) → list_all test (met x h event t w o).texts ≡ true
   meets x h event t w (Some refusal) = both _ true (b.refused refusal) refl
   meets x h event t w None = acts x h event t w
 
-  rests : (x : Setup) (h : Chance) (t : ClientNo → ClientTable) (w : World) (o : Option Event) → list_all test (resting x h t w o).texts ≡ true
+  rests : (x : Setup) (h : Chance) (t : ClientNo → Caller) (w : World) (o : Option Event) → list_all test (resting x h t w o).texts ≡ true
   rests x h t w None = refl
   rests x h t w (Some event) = acts x h event t w
 
   pub task-texts : (x : Setup) (h : Chance) (task : Task) (s : State) → (task ≡ CountsCommits → ⊥) → list_all test (deed_of x h task s).texts ≡ true
   task-texts x h (Begins event) s k = refl
-  task-texts x h (Meets event) s k = meets x h event s.clients s.course.world (refusal_of x s.course.world event)
-  task-texts x h (Acts event) s k = acts x h event s.clients s.course.world
-  task-texts x h Rests s k = rests x h s.clients s.course.world (next_in x h.rubbish s.course)
+  task-texts x h (Meets event) s k = meets x h event s.callers s.course.world (refusal_of x s.course.world event)
+  task-texts x h (Acts event) s k = acts x h event s.callers s.course.world
+  task-texts x h Rests s k = rests x h s.callers s.course.world (next_in x h.rubbish s.course)
   task-texts x h (ComesUp q) s k = silent (brought_up h q s.course.world) (comes h q s.course.world)
   task-texts x h Dismisses s k = refl
   task-texts x h (GoesDown q) s k = silent (crashed_at q (s.course.world.memory q)) (crashes q (s.course.world.memory q))

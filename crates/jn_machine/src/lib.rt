@@ -83,7 +83,7 @@ pub fn commits_are_the_systems()
         → history_of t.lines ≡ commits_in t.course.world.lines }
 {}
 
-/// Each client's own table is the one that the system has of it, but for the numbers of events.
+/// Each client's own table is the one that the system has of it, but for the number of an event while a call is under way.
 pub fn tables_are_the_systems()
     ensures { (x : Setup) (schedule : List Event) (files : AllFiles) (epochs : ServerNo → ℕ) (t : State) → MayLead x (before x schedule files epochs) t
         → (c : ClientNo) → HasItsTable t c }

@@ -30,7 +30,7 @@ pub fn a_rest_is_over_where_nothing_is_left()
 /// Else the next event is done, and the rest goes on.
 pub fn a_rest_goes_on()
     ensures { (x : Setup) (h : Chance) (s : State) (event : Event) → next_in x h.rubbish s.course ≡ Some event
-        → done x h Rests s ≡ made x h (record (acted x h event s.clients s.course.world) { tasks = Rests ∷ [] }) (begun Rests s) }
+        → done x h Rests s ≡ made x h (record (acted x h event s.callers s.course.world) { tasks = Rests ∷ [] }) (begun Rests s) }
 {}
 
 /// An event that has a cause to be refused is refused, and does nothing else.
@@ -42,7 +42,7 @@ pub fn an_event_with_a_cause_is_refused()
 /// Any other does its step.
 pub fn an_event_without_a_cause_is_done()
     ensures { (x : Setup) (h : Chance) (s : State) (event : Event) → refusal_of x s.course.world event ≡ None
-        → done x h (Meets event) s ≡ made x h (acted x h event s.clients s.course.world) (begun (Meets event) s) }
+        → done x h (Meets event) s ≡ made x h (acted x h event s.callers s.course.world) (begun (Meets event) s) }
 {}
 
 /// Whatever else is done, a refusal is reported only where its cause holds.
