@@ -1,14 +1,7 @@
 -- A client takes a message; where a call goes on, its next operation is sent in the same step.
-use Rattle.jn_world_refines.proofs.Common.{◌≡◌, ◌⊎◌, inl, inr, ◌-◌, ℕ, Bool, true, false, List, [], ◌∷◌, ◌++◌, append-nil, length, drop, slice_get, Option, Some, None, refl, sym, ◌∙◌, ap, subst, if◌then◌else◌, ServerNo, ClientNo, Client, client_eq, DeviceState, Posted, with_delivered, Step, Deliver, Tell, IsRun, run, after, World, at_client, Message, Line, Text, Course, go, go_on, Carries, Sent, pairs_view, StoreView, Setup, delivered, no_room, Moment, message_texts, traced, lines_at, Task, when_of, Standing, is_client_number, Stands, posted_by, with_sent, with_client, texts_taken, ActsNext, IsStepTo, left-told, took_message, Beside, Pick}
-use Rattle.jn_base.specs.declared.op.Command.TheVariants.{Do}
+use Rattle.jn_world_refines.proofs.Common.{◌≡◌, ◌⊎◌, inl, inr, ◌-◌, ℕ, Bool, true, false, List, [], ◌∷◌, ◌++◌, append-nil, length, drop, slice_get, Some, refl, sym, ◌∙◌, ap, subst, if◌then◌else◌, ServerNo, ClientNo, Client, client_eq, DeviceState, Posted, with_delivered, Step, Deliver, Tell, IsRun, run, after, World, at_client, Line, go, go_on, Carries, Sent, pairs_view, StoreView, Setup, delivered, no_room, Moment, message_texts, traced, lines_at, Task, when_of, Standing, is_client_number, Stands, posted_by, with_sent, with_client, texts_taken, ActsNext, IsStepTo, left-told, Do, Taken, Caller, new_caller, take_call_row, DoingFits, message-fits, sent_taken, next_told}
 use Rattle.jn_msgs.specs.declared.message.Message.TheVariants as messages
 use Rattle.jn_schedule.specs.declared.Event.TheVariants as events
-use Rattle.jn_callers.specs.declared.taken.Taken.{Taken}
-use Rattle.jn_callers.specs.Callers.{Caller, new_caller, take_call_row}
-use Rattle.jn_callers.specs.Ranges.{DoingFits}
-use Rattle.jn_callers.proofs.Ranging.{message-fits}
-use Rattle.jn_row_ranges.specs.Callers.{sent_taken}
-use Rattle.jn_machine.specs.Deeds.{next_told}
 use Rattle.jn_world_refines.proofs.Core.{ClientsStand, run-is}
 use Rattle.jn_world_refines.proofs.Servers.{servers-same, net-quietly}
 use Rattle.jn_world_refines.proofs.Clients.{here-of, client-moved, other-stays, new-stays}

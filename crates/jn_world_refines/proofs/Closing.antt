@@ -1,9 +1,6 @@
 -- Each outcome at a server counts as thanked, once the clients are dismissed.
-use Rattle.jn_world_refines.proofs.Common.{◌≡◌, ◌<◌, ℕ, zero, suc, Bool, true, false, List, [], ◌∷◌, ◌++◌, append-nil, drop, slice_get, slice_set, Option, Some, None, refl, sym, ◌∙◌, ap, subst, arith, true≢false, if◌then◌else◌, nat_lt, fun_ext, nat_tests, ServerNo, ClientNo, Outside, DeviceState, Place, Slot, Up, Down, Gone, IsDoneAt, Closed, texts_of_step, WhereUp, KeepsBeside, is_up, World, Memory, of_coordinator, CloseClients, IsIdle, after, done, close_clients, counts_by, Line, Text, ClientTable, RowOutcome, StableState, Pick, made_all, Parts, view_with, memory_of, go_on, state, pairs_view, StoreView, Setup, Chance, served, Moment, lines_at, ClosesClients, when_of, next_task, Standing, is_client_number, Stands, HasCounts, IsStepTo, row_calls, beside_by}
+use Rattle.jn_world_refines.proofs.Common.{◌≡◌, ◌<◌, ℕ, zero, suc, Bool, true, false, List, [], ◌∷◌, ◌++◌, append-nil, drop, slice_get, slice_set, Option, Some, None, refl, sym, ◌∙◌, ap, subst, arith, true≢false, if◌then◌else◌, nat_lt, fun_ext, nat_tests, ServerNo, ClientNo, Outside, DeviceState, Place, Slot, Up, Down, Gone, IsDoneAt, Closed, texts_of_step, WhereUp, KeepsBeside, is_up, World, Memory, of_coordinator, CloseClients, IsIdle, after, done, close_clients, counts_by, Line, Text, ClientTable, RowOutcome, StableState, Pick, made_all, Parts, view_with, memory_of, go_on, state, pairs_view, StoreView, Setup, Chance, served, Moment, lines_at, ClosesClients, when_of, next_task, Standing, is_client_number, Stands, HasCounts, IsStepTo, row_calls, beside_by, Outstanding, numberless, Caller}
 use Rattle.jn_rows.specs.Coordinator.{close_clients_row}
-use Rattle.jn_rows.specs.declared.client.Outstanding.{Outstanding}
-use Rattle.jn_system.specs.WholeSystem.Numbers.{numberless}
-use Rattle.jn_callers.specs.Callers.{Caller}
 use Rattle.jn_world_refines.proofs.Dismissing.{there-is}
 use Rattle.jn_world_refines.proofs.Moving.{same-server, carries-on, net-quiet, device-here, device-there, moved-step}
 use Rattle.jn_world_refines.proofs.Idle.{here, idling, calling}

@@ -1,15 +1,7 @@
 -- Steps of clients without a message: each is told a command or a call, or sends once more.
-use Rattle.jn_world_refines.proofs.Common.{false, ◌≡◌, ◌-◌, ℕ, Bool, true, List, [], ◌∷◌, ◌++◌, append-nil, length, slice_get, drop, Some, None, refl, sym, ◌∙◌, ap, subst, if◌then◌else◌, ServerNo, ClientNo, Client, client_eq, DeviceState, Posted, Step, IsRun, run, Tell, Again, sent_now, World, at_client, Line, Course, go_on, Carries, Sent, Commanded, Refuses, command_row, again_row, pairs_view, StoreView, Setup, acted, Moment, message_texts, traced, lines_at, Task, when_of, Standing, is_client_number, Stands, posted_by, with_sent, with_client, ActsNext, IsStepTo}
+use Rattle.jn_world_refines.proofs.Common.{false, ◌≡◌, ◌-◌, Bool, true, List, [], ◌∷◌, ◌++◌, append-nil, length, slice_get, drop, Some, refl, sym, ◌∙◌, ap, subst, if◌then◌else◌, ServerNo, ClientNo, Client, client_eq, DeviceState, Posted, Step, IsRun, run, Tell, Again, sent_now, World, Line, go_on, Carries, Sent, Commanded, Refuses, command_row, again_row, pairs_view, StoreView, Setup, acted, Moment, message_texts, traced, lines_at, Task, when_of, Standing, is_client_number, Stands, posted_by, with_sent, with_client, ActsNext, IsStepTo, Sends, Order, Caller, Ordered, Refused, Accepted, command_of, order_row, after_order, OrderInRange, DoingFits, order-fits, told_order, steps_ordered, callers_ordered, texts_ordered, sent_ordered, ordering}
 use Rattle.jn_schedule.specs.declared.Event.TheVariants as events
-use Rattle.jn_rows.specs.Client.{Sends}
-use Rattle.jn_calls.specs.declared.order.Order.{Order}
 use Rattle.jn_calls.specs.declared.order.Order.TheVariants as orders
-use Rattle.jn_callers.specs.Callers.{Caller, Ordered, Refused, Sent as Accepted, command_of, order_row}
-use Rattle.jn_callers.specs.Laws.{after_order}
-use Rattle.jn_callers.specs.Ranges.{OrderInRange, DoingFits}
-use Rattle.jn_callers.proofs.Ranging.{order-fits}
-use Rattle.jn_machine.specs.Deeds.{told_order, steps_ordered, callers_ordered, texts_ordered}
-use Rattle.jn_world_refines.specs.Clients.{sent_ordered, ordering}
 use Rattle.jn_world_refines.proofs.Core.{run-is}
 use Rattle.jn_world_refines.proofs.Servers.{servers-same, clients-same, net-quietly}
 use Rattle.jn_world_refines.proofs.Clients.{here-of, client-moved}

@@ -1,8 +1,6 @@
 -- From the next task to where the code stands once it is done.
-use Rattle.jn_world_refines.proofs.Common.{None, ◌≡◌, ◌≤◌, ℕ, suc, Bool, false, List, [], ◌∷◌, ◌++◌, length, slice_get, drop, Option, Some, refl, sym, ◌∙◌, ap, subst, ServerNo, ClientNo, Tid, Outside, DeviceState, Carried, Place, World, commits_in, has_line, Step, run, IsRun, Line, Carries, ClientTable, new_table, Pick, Event, Course, go, go_on, StoreView, Within, run-within, Setup, Chance, Deed, Devices, IsUsed, AreFound, rubbish_on, acted, deed_of, AreLeft, AreAllCounted, Moment, Leads, texts_of, lines_at, come_to, Task, State, when_of, next_task, begun, may-lead, Standing, is_client_number, PlaceStands, Stands, ActsNext, IsStepTo, AreRecoverable, Free, Left, MapPlaces, own_texts, reported}
+use Rattle.jn_world_refines.proofs.Common.{None, ◌≡◌, ◌≤◌, ℕ, suc, Bool, false, List, [], ◌∷◌, ◌++◌, length, slice_get, drop, Option, Some, refl, sym, ◌∙◌, ap, subst, ServerNo, ClientNo, Tid, Outside, DeviceState, Carried, Place, World, commits_in, has_line, Step, run, IsRun, Line, Carries, Pick, Event, Course, go, go_on, StoreView, Within, run-within, Setup, Chance, Deed, Devices, IsUsed, AreFound, rubbish_on, acted, deed_of, AreLeft, AreAllCounted, Moment, Leads, texts_of, lines_at, come_to, Task, State, when_of, next_task, begun, may-lead, Standing, is_client_number, PlaceStands, Stands, ActsNext, IsStepTo, AreRecoverable, Free, Left, MapPlaces, Caller, new_caller, DoingFits}
 use Rattle.jn_records.specs.declared.net_list.Need.{Need}
-use Rattle.jn_callers.specs.Callers.{Caller, new_caller}
-use Rattle.jn_callers.specs.Ranges.{DoingFits}
 use Rattle.jn_machine.proofs.Clients.{tables-lead}
 use Rattle.jn_machine.proofs.Named.{names}
 use Rattle.jn_world_refines.proofs.Made.{Makes, made-leads, made-cut, carried-length, not-too-much}

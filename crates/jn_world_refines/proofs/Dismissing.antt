@@ -1,8 +1,7 @@
 -- The end begins.
-use Rattle.jn_world_refines.proofs.Common.{◌≡◌, ◌<◌, ℕ, zero, suc, List, [], ◌∷◌, ◌++◌, length, append-nil, drop, Option, Some, None, refl, sym, ◌∙◌, ap, subst, arith, map, slice_get, length-map, slice_get_within, slice_get-map, DeviceState, disarmed, Posted, Place, Slot, Up, Down, Befell, Memory, commits_in, Dismiss, Counts, counts_by, Line, Text, Carries, ClientTable, over, StableState, Pick, IsUp, Course, go, StoreView, run-within, Setup, Dismisses, AtEnd, State, when_of, next_task, Devices, dismissing, Moment, texts_of, lines_at, come_to, Standing, StandsAt, PlaceStands, Stands, HasCounts, AreRecoverable}
+use Rattle.jn_world_refines.proofs.Common.{◌≡◌, ◌<◌, ℕ, zero, suc, List, [], ◌∷◌, ◌++◌, length, append-nil, drop, Option, Some, None, refl, sym, ◌∙◌, ap, subst, arith, map, slice_get, length-map, slice_get_within, slice_get-map, DeviceState, disarmed, Posted, Place, Slot, Up, Down, Befell, Memory, commits_in, Dismiss, Counts, counts_by, Line, Text, Carries, ClientTable, over, StableState, Pick, IsUp, Course, go, StoreView, run-within, Setup, Dismisses, AtEnd, State, when_of, next_task, Devices, dismissing, Moment, texts_of, lines_at, come_to, Standing, StandsAt, PlaceStands, Stands, HasCounts, AreRecoverable, Caller, dismissed_caller}
 use Rattle.jn_world_refines.proofs.WaitingNumbers.{carries-step, carries-forgotten}
 use Rattle.std.specs.Option.{option_map}
-use Rattle.jn_callers.specs.Callers.{Caller, dismissed_caller}
 use Rattle.jn_world_refines.specs.Ending.{AreDisarmed, dismissed, BeginsEnd}
 use Rattle.jn_world_refines.proofs.Lines.{history-same}
 use Rattle.jn_world_refines.proofs.Made.{quiet_chance, Makes, made-leads, made-cut, carried-length, not-too-much, quiet-texts}
@@ -88,6 +87,7 @@ module _ {S : Type 0} (look : S → StoreView) (device : S → DeviceState) (x :
     tables = λ c. record {
       caller = record { table = record { works = refl; waits = refl }; doing = refl; spoiled = refl };
       table = let its = stands.tables c in ap (λ (t : ClientTable). over t) its.table;
+      same = λ e. let its = stands.tables c in ap (λ (t : ClientTable). over t) its.table;
     };
     calls = λ c. tt;
     net = subst (λ (sent : List Posted). Carries (record w.net { sent = sent; forgotten = length w.net.sent }) (go Dismiss begun_course)) (append-nil w.net.sent)

@@ -1,8 +1,7 @@
 -- An event that isn't refused, and one of a settle or of the end, is what the next task does.
-use Rattle.jn_world_refines.proofs.Common.{◌≡◌, ℕ, Bool, true, false, List, [], ◌∷◌, Option, Some, None, refl, ◌∙◌, ap, if◌then◌else◌, slice_get, ServerNo, Client, Server, EpochsUsedUp, Event, Sent, World, Memory, Setup, Chance, Task, Meets, Acts, GoesDown, next_task, Deed, served, nothing, delivered_at, delivered, is_busy, working_steps, worked, crashed_at, is_used_up, given_up, recovered, restarted, acted, met, refusal_of, Moment, ActsNext, is_settle, step_calls, ClientNo}
+use Rattle.jn_world_refines.proofs.Common.{◌≡◌, ℕ, Bool, true, false, List, [], ◌∷◌, Option, Some, None, refl, ◌∙◌, ap, if◌then◌else◌, slice_get, ServerNo, Client, Server, EpochsUsedUp, Event, Sent, World, Memory, Setup, Chance, Task, Meets, Acts, GoesDown, next_task, Deed, served, nothing, delivered_at, delivered, is_busy, working_steps, worked, crashed_at, is_used_up, given_up, recovered, restarted, acted, met, refusal_of, Moment, ActsNext, is_settle, step_calls, ClientNo, Caller}
 use Rattle.jn_report.specs.declared.line.Text.TheVariants as says
 use Rattle.jn_schedule.specs.declared.Event.TheVariants as events
-use Rattle.jn_callers.specs.Callers.{Caller}
 
 no-tasks : (d : Deed) → d.tasks ≡ [] → d ≡ record d { tasks = [] }
 no-tasks d e = ap (λ (tasks : List Task). record d { tasks = tasks }) e

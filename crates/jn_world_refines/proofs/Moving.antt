@@ -1,6 +1,5 @@
 -- A task at one server, in which nothing is sent.
-use Rattle.jn_world_refines.proofs.Common.{Option, None, ClientNo, reported, ◌≡◌, ℕ, ◌+◌, Bool, true, false, List, [], ◌++◌, append-nil, drop, length, slice_get, slice_set, Some, refl, sym, ◌∙◌, ap, subst, arith, ◌||◌, if◌then◌else◌, list_any, nat_tests, ServerNo, Tid, server_eq, tid_eq, DeviceState, Posted, Carried, Place, Slot, at_server, commits_in, has_line, Step, after, run, IsRun, counts_by, Line, Text, Carries, delivered_by, Event, Course, go, go_on, pairs_view, StoreView, Setup, Chance, Deed, Devices, IsUsed, rubbish_on, acted, deed_of, Moment, outside_texts, texts_of, lines_at, come_to, Task, when_of, next_task, begun, Standing, Stands, ActsNext, IsStepTo, AreLeft, beside_by}
-use Rattle.jn_callers.specs.Callers.{Caller}
+use Rattle.jn_world_refines.proofs.Common.{Option, ClientNo, reported, ◌≡◌, ℕ, ◌+◌, Bool, true, false, List, [], ◌++◌, append-nil, drop, length, slice_get, slice_set, Some, refl, sym, ◌∙◌, ap, subst, arith, ◌||◌, if◌then◌else◌, list_any, nat_tests, ServerNo, Tid, server_eq, tid_eq, DeviceState, Posted, Carried, Place, Slot, at_server, commits_in, has_line, Step, after, run, IsRun, counts_by, Line, Text, Carries, delivered_by, Event, Course, go, go_on, pairs_view, StoreView, Setup, Chance, Deed, Devices, IsUsed, rubbish_on, acted, deed_of, Moment, outside_texts, texts_of, lines_at, come_to, Task, when_of, next_task, begun, Standing, Stands, ActsNext, IsStepTo, AreLeft, beside_by, Caller}
 use Rattle.jn_world_refines.proofs.WaitingNumbers.{carries-step}
 use Rattle.jn_world_refines.proofs.Lines.{line-append, count-append}
 use Rattle.jn_world_refines.proofs.Posted.{none-traced, texts-are}

@@ -1,15 +1,10 @@
 -- The number of the event under way rises where an event begins, and nowhere else.
-use Rattle.jn_world_refines.proofs.Common.{Commanded, Refuses, command_row, Deliver, no_room, ◌≡◌, ℕ, ◌+◌, Bool, true, false, List, [], ◌∷◌, ◌++◌, drop, map, Option, Some, None, refl, sym, ◌∙◌, ap, arith, ◌&&◌, if◌then◌else◌, slice_get, list_all, ServerNo, ClientNo, Client, Server, DeviceState, EventRefusal, EpochsUsedUp, Line, Sent, Pick, Event, StoreView, World, Memory, Room, Step, NextEvent, Course, go, go_on, handing, working, clients_from, Setup, Chance, Task, Begins, Meets, Acts, Rests, ComesUp, Dismisses, GoesDown, ClosesClients, CountsCommits, Stage, InSchedule, CutShort, AtEnd, State, when_at, when_of, next_at, next_task, begun, Deed, served, nothing, delivered_at, delivered, is_busy, working_steps, worked, stopped_idle, crashed_at, recovering, is_used_up, given_up, recovered, restarted, brought_up, servers_of, asking, settling, next_in, acted, met, resting, deed_of, refusal_of, Moment, DoesStep, Leads, none, more, is_too_much, come_to, cut_short, Standing, WentOn, begun_by, begins_in, step_calls, free_found, Left, maps_found}
+use Rattle.jn_world_refines.proofs.Common.{Commanded, Refuses, command_row, Deliver, no_room, ◌≡◌, ℕ, ◌+◌, Bool, true, false, List, [], ◌∷◌, ◌++◌, drop, map, Option, Some, None, refl, sym, ◌∙◌, ap, arith, ◌&&◌, if◌then◌else◌, slice_get, list_all, ServerNo, ClientNo, Client, Server, DeviceState, EventRefusal, EpochsUsedUp, Line, Sent, Pick, Event, StoreView, World, Memory, Room, Step, NextEvent, Course, go, go_on, handing, working, clients_from, Setup, Chance, Task, Begins, Meets, Acts, Rests, ComesUp, Dismisses, GoesDown, ClosesClients, CountsCommits, Stage, InSchedule, CutShort, AtEnd, State, when_at, when_of, next_at, next_task, begun, Deed, served, nothing, delivered_at, delivered, is_busy, working_steps, worked, stopped_idle, crashed_at, recovering, is_used_up, given_up, recovered, restarted, brought_up, servers_of, asking, settling, next_in, acted, met, resting, deed_of, refusal_of, Moment, DoesStep, Leads, none, more, is_too_much, come_to, cut_short, Standing, WentOn, begun_by, begins_in, step_calls, free_found, Left, maps_found, Sends, Order, Taken, Caller, Ordered, Refused, Accepted, command_of, order_row, take_call_row, next_told, steps_ordered}
 use Rattle.jn_report.specs.declared.line.Text.TheVariants as says
 use Rattle.jn_schedule.specs.declared.Event.TheVariants as events
 use Rattle.jn_msgs.specs.declared.message.Message.TheVariants as messages
-use Rattle.jn_rows.specs.Client.{Sends}
-use Rattle.jn_calls.specs.declared.order.Order.{Order}
 use Rattle.jn_calls.specs.declared.order.Order.TheVariants as orders
-use Rattle.jn_callers.specs.declared.taken.Taken.{Taken}
 use Rattle.jn_callers.specs.declared.taken.Taken.TheVariants as calls
-use Rattle.jn_callers.specs.Callers.{Caller, Ordered, Refused, Sent as Accepted, command_of, order_row, take_call_row}
-use Rattle.jn_machine.specs.Deeds.{next_told, steps_ordered}
 use Rattle.jn_machine.proofs.Telling.{event_after, adds}
 
 -- ---- steps that begin no event

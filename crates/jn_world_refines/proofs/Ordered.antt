@@ -1,40 +1,25 @@
 -- What the system's steps for a client send and report. They send what they would where the system had the client's own table, since
 -- the two differ in numbers of events alone.
-use Rattle.jn_world_refines.proofs.Common.{◌+◌, ◌≡◌, ◌⊎◌, inl, inr, ◌≢◌, ℕ, Bool, true, false, List, [], ◌∷◌, ◌++◌, append-nil, append_assoc, Option, Some, None, refl, sym, ◌∙◌, ap, subst, arith, true≢false, ◌&&◌, nat_lt, if◌then◌else◌, fun_ext, nat_tests, slice_get, is_some, ServerNo, ClientNo, Tid, Client, client_eq, server_eq, server_tells, Message, World, at_client, commits_in, Text, Taken, ClientTable, Commanded, Refuses, command_row, take_row, if_waits, ignored, again_row, Sent, Step, Deliver, Tell, Again, after, took, handed, commanded, sent_now, run, no_room}
-use Rattle.jn_base.specs.declared.names.Party.{Party}
-use Rattle.jn_base.specs.declared.names.Party.TheVariants.{Server}
+use Rattle.jn_world_refines.proofs.Common.{◌+◌, ◌≡◌, ◌⊎◌, inl, inr, ◌≢◌, ℕ, Bool, true, false, List, [], ◌∷◌, ◌++◌, append-nil, append_assoc, Option, Some, None, refl, sym, ◌∙◌, ap, subst, arith, true≢false, ◌&&◌, nat_lt, if◌then◌else◌, fun_ext, nat_tests, slice_get, ServerNo, ClientNo, Tid, Client, client_eq, server_eq, server_tells, Message, World, commits_in, Text, ClientTable, Commanded, Refuses, command_row, take_row, if_waits, ignored, Sent, Step, Deliver, Tell, after, took, handed, commanded, run, no_room, Party, Server, WorkId, Answer, Begin, Open, Do, End, Abort, request_eq, request_of, operation_of, Outstanding, Sends, idle, sends, work_at, with_operation, if_idle, if_transaction, if_open, is_operation, told, answer_line, Order, CallTaken, Caller, Ordered, Refused, Accepted, command_of, order_row, as_table, with_table, last, goes_on, after_turn, take_answer, take_call_row, IsCaller, operations_sent, waits_at, is_done_at, sent_taken, plain_client, plain_world, next_told, steps_ordered, sent_ordered}
+use Rattle.jn_rows.specs.declared.client.Taken.{Taken}
 use Rattle.jn_base.specs.declared.names.RequestNo.{RequestNo}
-use Rattle.jn_base.specs.declared.names.WorkId.{WorkId}
 use Rattle.jn_base.specs.declared.names.OperationNo.{OperationNo}
-use Rattle.jn_base.specs.declared.op.Answer.{Answer}
 use Rattle.jn_base.specs.declared.op.Command.{Command}
-use Rattle.jn_base.specs.declared.op.Command.TheVariants.{Begin, Open, Do, End, Abort}
 use Rattle.jn_base.specs.declared.op.Op.{Op}
-use Rattle.jn_base.specs.Names.{request_eq, request_of, operation_of}
 use Rattle.jn_msgs.specs.declared.message.Message.TheVariants as messages
 use Rattle.jn_report.specs.declared.line.Refusal.TheVariants as refusals
 use Rattle.jn_rows.specs.declared.client.OpenWork.{OpenWork}
-use Rattle.jn_rows.specs.declared.client.Outstanding.{Outstanding}
 use Rattle.jn_rows.specs.declared.client.Taken.TheVariants as taken
-use Rattle.jn_rows.specs.Client.{Sends, idle, sends, work_at, with_operation, if_idle, if_transaction, if_open, is_operation, told, answer_line}
-use Rattle.jn_calls.specs.declared.order.Order.{Order}
 use Rattle.jn_calls.specs.declared.reply.Reply.{Reply}
 use Rattle.jn_calls.specs.declared.reply.Reply.TheVariants as replies
 use Rattle.jn_calls.specs.Turns.{Turn, Asks, Over, turn}
 use Rattle.jn_callers.specs.declared.doing.Doing.{Doing}
-use Rattle.jn_callers.specs.declared.taken.Taken.{Taken as CallTaken}
 use Rattle.jn_callers.specs.declared.taken.Taken.TheVariants as calls
-use Rattle.jn_callers.specs.Callers.{Caller, Ordered, Refused, Sent as Accepted, command_of, order_row, as_table, with_table, last, goes_on, after_turn, take_answer, take_call_row}
-use Rattle.jn_callers.specs.Laws.{IsCaller, operations_sent, waits_at, is_done_at}
 use Rattle.jn_callers.proofs.Kept.{call-waits}
 use Rattle.jn_callers.proofs.Sending.{order-sent}
 use Rattle.jn_row_ranges.specs.Taking.{sent_for}
-use Rattle.jn_row_ranges.specs.Callers.{sent_taken}
 use Rattle.jn_row_ranges.proofs.Calling.{same-sent, table-asks-none}
-use Rattle.jn_system.specs.WholeSystem.Numbers.{plain_client, plain_world}
 use Rattle.jn_system.proofs.WholeSystem.Numbers.{steps-alike}
-use Rattle.jn_machine.specs.Deeds.{next_told, steps_ordered, refused_steps}
-use Rattle.jn_world_refines.specs.Clients.{sent_ordered}
 use Rattle.jn_world_refines.proofs.Clients.{system_texts, taken-none}
 use Rattle.jn_world_refines.proofs.Lines.{commits-append}
 

@@ -1,11 +1,8 @@
 -- Steps of the system for which no device is called.
-use Rattle.jn_world_refines.proofs.Common.{◌≡◌, ℕ, ◌+◌, Bool, List, [], ◌∷◌, ◌++◌, append-nil, length, drop, Some, None, refl, sym, ◌∙◌, ap, subst, arith, ◌||◌, list_any, ServerNo, Tid, Party, tid_eq, DeviceState, Posted, Place, Step, IsStep, after, World, commits_in, has_line, Text, Line, Carries, delivered_by, ClientTable, Sent, Event, go, pairs_view, StoreView, Setup, Chance, plain, nothing, acted, deed_of, Moment, message_texts, traced, lines_at, Task, when_of, next_task, begun, Standing, Stands, posted_by, with_sent, ActsNext, IsStepTo, left_by_step, none_free, no_maps, Pick, Beside, ClientNo, Deed, own_texts, reported}
+use Rattle.jn_world_refines.proofs.Common.{◌≡◌, ℕ, ◌+◌, Bool, List, [], ◌∷◌, ◌++◌, append-nil, length, drop, Some, None, refl, sym, ◌∙◌, ap, subst, ServerNo, Party, DeviceState, Posted, Place, Step, IsStep, after, World, commits_in, Text, Line, Carries, delivered_by, Sent, Event, go, pairs_view, StoreView, Setup, Chance, plain, nothing, acted, deed_of, Moment, message_texts, traced, lines_at, Task, when_of, next_task, begun, Standing, Stands, posted_by, with_sent, ActsNext, IsStepTo, left_by_step, none_free, no_maps, Pick, Beside, ClientNo, Deed, reported, IsRun, go_on, Caller}
 use Rattle.std.specs.Prelude.{Option}
-use Rattle.jn_system.specs.WholeSystem.Steps.{IsRun}
-use Rattle.jn_system.specs.WholeSystem.Course.{go_on}
 use Rattle.jn_world_refines.proofs.Made.{carried-length, quiet-texts}
 use Rattle.jn_world_refines.proofs.Posted.{sent-posted, new-posted, none-traced, texts-are}
-use Rattle.jn_callers.specs.Callers.{Caller}
 use Rattle.jn_world_refines.proofs.Core.{ServersStand, ClientsStand, NetStands, chance-of, last-by, last-of, deed-made, step-made}
 use Rattle.jn_world_refines.proofs.WaitingNumbers.{carries-step}
 use Rattle.jn_world_refines.proofs.Servers.{AreSame, servers-same, clients-same, net-quietly, net-same}

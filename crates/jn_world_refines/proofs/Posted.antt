@@ -1,5 +1,5 @@
 -- What a step reports and sends, as the machine and the code have it.
-use Rattle.jn_world_refines.proofs.Common.{◌≡◌, Bool, true, false, List, [], ◌∷◌, ◌++◌, append_assoc, length, drop, refl, sym, ◌∙◌, ap, drop-append_seam, map-append, Party, World, When, Text, Line, sent_of, are_new, Sent, Setup, Chance, Deed, outside_texts, message_texts, traced, texts_of, lines_at, posted_by, own_texts, reported}
+use Rattle.jn_world_refines.proofs.Common.{◌≡◌, Bool, true, false, List, [], ◌∷◌, ◌++◌, append_assoc, length, drop, refl, sym, ◌∙◌, ap, drop-append_seam, map-append, Party, World, When, Text, Line, sent_of, are_new, Sent, Setup, Chance, Deed, outside_texts, message_texts, traced, texts_of, lines_at, posted_by, reported}
 
 pub sent-posted : (from : Party) (messages : List Sent) → sent_of (posted_by from messages) ≡ messages
 sent-posted from [] = refl

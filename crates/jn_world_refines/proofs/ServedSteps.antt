@@ -1,5 +1,6 @@
 -- A row of a server that is up, done or stopped, is a step of the machine.
-use Rattle.jn_world_refines.proofs.Common.{◌≡◌, ℕ, ◌+◌, Bool, true, false, List, [], ◌∷◌, ◌++◌, append-nil, append_assoc, length, slice_get, slice_set, drop, Option, Some, None, is_some, refl, sym, ◌∙◌, ap, subst, ◌||◌, ServerNo, Server, Outside, DeviceState, Collected, Posted, Place, Slot, Up, Down, Gone, texts_of_step, IsDoneAt, IsStoppedAt, IsStepOf, Sends, lines_of, Step, IsStep, after, ends, World, Memory, commits_in, has_line, counts_by, Text, Line, delivered_by, RowOutcome, Sent, Pick, Event, Parts, go, pairs_view, StoreView, Setup, Chance, Calls, served, acted, Moment, outside_texts, message_texts, traced, texts_of, lines_at, Task, when_of, Standing, Stands, posted_by, texts_sent, with_answer, HasCounts, ReadsPages, ActsNext, IsStepTo, server_eq, Left, beside_by}
+use Rattle.jn_world_refines.proofs.Common.{◌≡◌, ℕ, ◌+◌, Bool, true, false, List, [], ◌∷◌, ◌++◌, append-nil, append_assoc, length, slice_get, slice_set, drop, Option, Some, None, is_some, refl, sym, ◌∙◌, ap, subst, ◌||◌, ServerNo, Server, Outside, DeviceState, Collected, Posted, Place, Slot, Up, Down, Gone, texts_of_step, IsDoneAt, IsStoppedAt, IsStepOf, lines_of, Step, IsStep, after, ends, World, Memory, commits_in, has_line, counts_by, Text, Line, delivered_by, RowOutcome, Sent, Pick, Event, Parts, go, pairs_view, StoreView, Setup, Chance, Calls, served, acted, Moment, outside_texts, message_texts, traced, texts_of, lines_at, Task, when_of, Standing, Stands, posted_by, texts_sent, with_answer, HasCounts, ReadsPages, ActsNext, IsStepTo, server_eq, Left, beside_by}
+use Rattle.jn_place.specs.Exact.{Sends}
 use Rattle.jn_report.specs.declared.line.Text.TheVariants as says
 use Rattle.jn_world_refines.proofs.Made.{carried-length}
 use Rattle.jn_world_refines.proofs.Posted.{sent-posted, new-posted, none-traced, texts-are, lines-in-two}

@@ -1,5 +1,5 @@
 -- Where the code's parts stand after a step of the system.
-use Rattle.jn_world_refines.proofs.Common.{[], Carried, list_any, tid_eq, Course, Carries, Tid, ◌≡◌, ◌⊎◌, inl, inr, ◌≢◌, ℕ, suc, ◌+◌, Bool, true, false, ◌<◌, List, ◌++◌, length, slice_get, slice_set, Option, Some, sym, ◌∙◌, ap, subst, arith, is_some, true≢false, ◌||◌, length-set, ServerNo, ClientNo, server_eq, server_tells, DeviceState, found_on, Posted, Place, Slot, Up, Down, Gone, World, Memory, commits_in, has_line, Step, after, Counts, counts_by, Text, sent_of, are_new, delivered_by, ClientTable, StableState, Pick, stable, go, view_with, standing_pages, state, pairs_view, StoreView, Setup, Moment, Standing, StandsAt, PlaceStands, Stands, HasCounts, IsRecoverable}
+use Rattle.jn_world_refines.proofs.Common.{[], Carried, list_any, tid_eq, Course, Carries, ◌≡◌, ◌⊎◌, inl, inr, ◌≢◌, ℕ, ◌+◌, Bool, true, false, ◌<◌, List, ◌++◌, length, slice_get, slice_set, Option, Some, sym, ◌∙◌, ap, subst, arith, is_some, true≢false, ◌||◌, length-set, ServerNo, server_eq, server_tells, DeviceState, found_on, Posted, Place, Slot, Up, Down, Gone, Memory, commits_in, has_line, Step, after, Counts, counts_by, Text, sent_of, are_new, delivered_by, StableState, Pick, stable, go, view_with, standing_pages, state, pairs_view, StoreView, Setup, Moment, Standing, StandsAt, PlaceStands, Stands, HasCounts, IsRecoverable}
 use Rattle.jn_server.specs.Counted.{CountsAll}
 use Rattle.jn_world_refines.proofs.WaitingNumbers.{carries-step}
 use Rattle.jn_world_refines.proofs.Placed.{each-set}

@@ -25,7 +25,7 @@ module _ {S : Type 0} (look : S → StoreView) (device : S → DeviceState) (see
     eight = first.eight;
     clients = λ n t e. sym (first.clients n t e);
     other_clients = λ c e. refl;
-    tables = λ c. record { caller = record { table = record { works = refl; waits = refl }; doing = refl; spoiled = refl }; table = refl };
+    tables = λ c. record { caller = record { table = record { works = refl; waits = refl }; doing = refl; spoiled = refl }; table = refl; same = λ e. refl };
     calls = λ c. tt;
     net = subst (λ net. Carries net (before x schedule files epochs).course) (sym first.net) (record { forgotten = omega arith; sent = refl; waiting = refl });
     named = first.named;

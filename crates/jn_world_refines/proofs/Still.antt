@@ -17,7 +17,7 @@ module _ {S : Type 0} (look : S → StoreView) (device : S → DeviceState) (x :
     eight = stands.eight;
     clients = stands.clients;
     other_clients = stands.other_clients;
-    tables = λ c. let its = stands.tables c in record { caller = its.caller; table = its.table };
+    tables = λ c. let its = stands.tables c in record { caller = its.caller; table = its.table; same = its.same };
     calls = stands.calls;
     net = stands.net;
     named = stands.named;
@@ -72,7 +72,7 @@ module _ {S : Type 0} (look : S → StoreView) (device : S → DeviceState) (x :
     eight = stands.eight;
     clients = stands.clients;
     other_clients = stands.other_clients;
-    tables = λ c. let its = stands.tables c in record { caller = its.caller; table = its.table };
+    tables = λ c. let its = stands.tables c in record { caller = its.caller; table = its.table; same = its.same };
     calls = stands.calls;
     net = subst (λ (sent : List Posted). Carries (record w.net { sent = sent }) (go NextEvent m.state.course)) (append-nil w.net.sent)
         (carries-step w.net m.state.course NextEvent [] stands.net refl (sym (append-nil m.state.course.world.sent)));
