@@ -1,5 +1,5 @@
 -- The end of a run begins: what it comes to from there.
-use Rattle.jn_headline.proofs.Common.{◌≡◌, ◌⊎◌, inl, ℕ, ◌<◌, Bool, true, false, List, [], ◌∷◌, ◌++◌, append-nil, length, drop, Option, Some, None, is_some, refl, sym, ◌∙◌, ap, subst, slice_get, if◌then◌else◌, ServerNo, Server, Message, AllFiles, DeviceState, Text, Line, plain, World, Memory, opening, Step, Dismiss, after, run, Course, go, go_on, newly_sent, Item, steps_of, world_of, lines_of, at_end, Setup, Chance, Task, Dismisses, InSchedule, AtEnd, CutShort, Stage, State, next_at, begun, Befalls, ending, deed_of, dismissing, own_texts, is_too_much, come_to, cut_short, made, done, none, more, Moment, Leads, IsToldBy, does-tables}
+use Rattle.jn_headline.proofs.Common.{◌≡◌, ◌⊎◌, inl, ℕ, ◌<◌, Bool, true, false, List, [], ◌∷◌, ◌++◌, append-nil, length, drop, Option, Some, None, is_some, refl, sym, ◌∙◌, ap, subst, slice_get, if◌then◌else◌, ServerNo, Server, Message, AllFiles, DeviceState, Text, Line, plain, World, Memory, opening, Step, Dismiss, after, run, Course, go, go_on, newly_sent, Item, steps_of, world_of, lines_of, at_end, Setup, Chance, Task, Dismisses, InSchedule, AtEnd, CutShort, Stage, State, next_at, begun, Befalls, ending, deed_of, dismissing, own_texts, is_too_much, come_to, cut_short, made, done, none, more, Moment, Leads, IsToldBy, does-tables, told-tables}
 use Rattle.jn_row_ranges.proofs.WorldSteps.{run-within, opening-within, sent-near}
 use Rattle.jn_headline.proofs.Behind.{GoesWith, go-behind}
 use Rattle.jn_headline.proofs.Texts.{no-messages, lines-left, lines-more}
@@ -66,7 +66,7 @@ module _ (x : Setup) (files : AllFiles) (epochs : ServerNo → ℕ) (items : Lis
       came e = record {
         stage = ap (λ (s : State). s.stage) e;
         goes = subst (λ (k : Course). GoesWith told.ups k start) (sym (ap (λ (s : State). s.course) e)) (go-behind told.ups told.are_up Dismiss ended.course (record { world = w; waiting = []; steps = [] }) (record { world = told.world; waiting = refl }));
-        tables = does-tables x last n d told.tables;
+        tables = does-tables x last n d (told-tables x files epochs items last told tasks);
         is_run = tt;
         of_end = refl;
         prints = refl;

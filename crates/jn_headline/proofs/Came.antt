@@ -1,5 +1,5 @@
 -- A run that has come so far within its end, step by step.
-use Rattle.jn_headline.proofs.Common.{◌≡◌, ◌⊎◌, inl, inr, ℕ, Bool, true, false, List, [], ◌∷◌, ◌++◌, append_assoc, append-nil, length, drop, Some, None, refl, sym, ◌∙◌, ap, subst, arith, ◌&&◌, if◌then◌else◌, list_all, Text, Line, plain, Sent, World, Step, IsStep, IsRun, after, run, Course, numbered, newly_sent, still_waiting, go, go_on, on-world, Does, told_by, told_by_steps, at_end, is_of_end, is_print, Setup, Chance, Task, AtEnd, CutShort, Stage, State, when_at, next_at, begun, is_up, Deed, Befalls, deed_of, outside_texts, own_texts, texts_of, is_too_much, come_to, cut_short, made, done, none, more, Moment, DoesStep, Leads, both, behind, HasTables, reported}
+use Rattle.jn_headline.proofs.Common.{◌≡◌, ◌⊎◌, inl, inr, ℕ, Bool, true, false, List, [], ◌∷◌, ◌++◌, append_assoc, append-nil, length, drop, Some, None, refl, sym, ◌∙◌, ap, subst, arith, ◌&&◌, if◌then◌else◌, list_all, Text, Line, plain, Sent, World, Step, IsStep, IsRun, after, run, Course, numbered, newly_sent, still_waiting, go, go_on, on-world, Does, told_by, told_by_steps, at_end, is_of_end, is_print, Setup, Chance, Task, AtEnd, CutShort, Stage, State, when_at, next_at, begun, is_up, Deed, Befalls, outside_texts, own_texts, texts_of, is_too_much, come_to, cut_short, made, done, none, more, Moment, DoesStep, Leads, both, behind, HasTables, reported, deed_plainly, Plainly, its-deed}
 use Rattle.std.proofs.Math.Seq.{drop-append_seam}
 use Rattle.jn_report.specs.Lines.{lines_at}
 use Rattle.jn_machine_refines.proofs.Items.{is-run-both}
@@ -37,27 +37,30 @@ some e = cc
 pub record Makes (x : Setup) (m n : Moment) (t : Task) (rest : List Task) : Type 0 where
   pub chance : Chance
   -- it doesn't cut the run short
-  pub goes_on : is_too_much (deed_of x chance t m.state) (go_on (deed_of x chance t m.state).steps m.state.course) ≡ false
-  pub state_is : n.state ≡ come_to x chance (deed_of x chance t m.state) (go_on (deed_of x chance t m.state).steps m.state.course) (record m.state { tasks = rest })
-  pub befalls : Befalls x chance (deed_of x chance t m.state) m.state.course.world m.devices n.devices
+  pub goes_on : is_too_much (deed_plainly x chance t m.state) (go_on (deed_plainly x chance t m.state).steps m.state.course) ≡ false
+  pub state_is : n.state ≡ come_to x chance (deed_plainly x chance t m.state) (go_on (deed_plainly x chance t m.state).steps m.state.course) (record m.state { tasks = rest })
+  pub befalls : Befalls x chance (deed_plainly x chance t m.state) m.state.course.world m.devices n.devices
 
-pub one-step : (x : Setup) (m n : Moment) (t : Task) (rest : List Task) → IsOrdinary t → m.state.stage ≡ AtEnd → m.state.tasks ≡ t ∷ rest → DoesStep x m n
+pub one-step : (x : Setup) (m n : Moment) (t : Task) (rest : List Task) → IsOrdinary t → m.state.stage ≡ AtEnd → m.state.tasks ≡ t ∷ rest → HasTables m.state → DoesStep x m n
     → (n.state ≡ cut_short (record m.state { tasks = rest })) ⊎ Makes x m n t rest
-one-step x m n t rest ordinary stage tasks d = by (is_too_much deed (go_on deed.steps m.state.course)) refl now
+one-step x m n t rest ordinary stage tasks has d = by (is_too_much deed (go_on deed.steps m.state.course)) refl now
   where
     the-task : d.task ≡ t
     the-task = some (sym d.task_is ∙ ap (λ (s : Stage). next_at s m.state.tasks) stage ∙ ap (next_at AtEnd) tasks)
 
+    plainly : Plainly x m n d.chance d.task
+    plainly = its-deed x m n has d
+
     deed : Deed
-    deed = deed_of x d.chance t m.state
+    deed = deed_plainly x d.chance t m.state
 
-    now : n.state ≡ made x d.chance (deed_of x d.chance t m.state) (record m.state { tasks = rest })
-    now = d.state_is ∙ ap (λ (z : Task). done x d.chance z m.state) the-task ∙ ap (made x d.chance deed) (ordinary m.state ∙ ap (λ (ts : List Task). record m.state { tasks = drop 1 ts }) tasks)
+    now : n.state ≡ made x d.chance (deed_plainly x d.chance t m.state) (record m.state { tasks = rest })
+    now = plainly.state_is ∙ ap (λ (z : Task). made x d.chance (deed_plainly x d.chance z m.state) (begun z m.state)) the-task ∙ ap (made x d.chance deed) (ordinary m.state ∙ ap (λ (ts : List Task). record m.state { tasks = drop 1 ts }) tasks)
 
-    by : (b : Bool) → is_too_much (deed_of x d.chance t m.state) (go_on (deed_of x d.chance t m.state).steps m.state.course) ≡ b → n.state ≡ (if b then cut_short (record m.state { tasks = rest }) else come_to x d.chance (deed_of x d.chance t m.state) (go_on (deed_of x d.chance t m.state).steps m.state.course) (record m.state { tasks = rest }))
+    by : (b : Bool) → is_too_much (deed_plainly x d.chance t m.state) (go_on (deed_plainly x d.chance t m.state).steps m.state.course) ≡ b → n.state ≡ (if b then cut_short (record m.state { tasks = rest }) else come_to x d.chance (deed_plainly x d.chance t m.state) (go_on (deed_plainly x d.chance t m.state).steps m.state.course) (record m.state { tasks = rest }))
         → (n.state ≡ cut_short (record m.state { tasks = rest })) ⊎ Makes x m n t rest
     by true much e = inl e
-    by false much e = inr (record { chance = d.chance; goes_on = much; state_is = e; befalls = subst (λ (z : Task). Befalls x d.chance (deed_of x d.chance z m.state) m.state.course.world m.devices n.devices) the-task d.befalls })
+    by false much e = inr (record { chance = d.chance; goes_on = much; state_is = e; befalls = subst (λ (z : Task). Befalls x d.chance (deed_plainly x d.chance z m.state) m.state.course.world m.devices n.devices) the-task plainly.befalls })
 
 -- a run that is cut short goes no further
 pub stuck : (x : Setup) (a b : Moment) → Leads x a b → a.state.stage ≡ CutShort → b ≡ a

@@ -21,7 +21,8 @@ pub use Rattle.jn_machine.specs.Events.{ending, deed_of, dismissing, first_busy,
 pub use Rattle.jn_machine.specs.Steps.{is_too_much, come_to, cut_short, made, done, outside_texts, texts_of, reported, message_texts, traced}
 pub use Rattle.jn_machine.specs.Runs.{none, more, Moment, Leads, DoesStep}
 pub use Rattle.jn_machine_refines.specs.Retold.{IsToldBy, behind, IsRetold, IsRetoldInPart}
-pub use Rattle.jn_machine.proofs.Clients.{does-tables, HasTables, delivered-says}
+pub use Rattle.jn_machine_refines.proofs.Tables.{does-tables, HasTables, Plainly, its-deed, told-tables}
+pub use Rattle.jn_machine_refines.proofs.Plainly.{delivered-says, delivered_plainly, took_plainly, resting_plainly, deed_plainly}
 pub use Rattle.std.specs.List.{list_all, list_any, AllByRecursion}
 pub use Rattle.jn_report.specs.Kinds.{is_up, is_print, commit_in, is_answer, commit_in as committed_in}
 pub use Rattle.std.proofs.lemmas.Bool.Decides.{nat_tests}

@@ -69,7 +69,7 @@ module _ (x : Setup) (ups : List Text) (start : Course) (before : List Line) whe
   pub drive : (m now : Moment) → Leads x m now → (steps : List Step) (printed : List Text) → Came x ups start before m steps printed → (t : Task) (rest : List Task) → IsOrdinary t → m.state.tasks ≡ t ∷ rest
       → Part start before now ⊎ Onward x m now t rest
   drive m now (none a) steps printed came t rest ordinary tasks = inl (left m steps printed came t rest tasks)
-  drive m now (more a n c d leads) steps printed came t rest ordinary tasks = by (one-step x m n t rest ordinary came.stage tasks d)
+  drive m now (more a n c d leads) steps printed came t rest ordinary tasks = by (one-step x m n t rest ordinary came.stage tasks came.tables d)
     where
       by : (n.state ≡ cut_short (record m.state { tasks = rest })) ⊎ Makes x m n t rest → Part start before now ⊎ Onward x m now t rest
       by (inl e) = inl (cut-off m n now steps printed came rest e leads)

@@ -1,5 +1,5 @@
 -- A rest within the end: its steps, but for erasures, are each what comes next.
-use Rattle.jn_headline.proofs.Common.{◌≡◌, ◌⊎◌, inl, inr, ℕ, ◌+◌, ◌<◌, ◌≤◌, Bool, true, false, List, [], ◌∷◌, ◌++◌, append_assoc, append-nil, Option, Some, None, is_some, refl, sym, ◌∙◌, ap, subst, arith, ◌&&◌, slice_get, if◌then◌else◌, list_all, ServerNo, Client, Server, server_eq, Message, Text, Line, Sent, Pick, stable, World, Memory, servers_from, Room, Step, Deliver, Work, after, run, Course, go_on, first_going, has_going, handing, working, next_step, on-world, ComesNext, AreNext, ComeToRest, in-turn, settles, Setup, Chance, Task, Rests, Deed, served, room, no_room, delivered, delivered_at, is_busy_with, worked, working_steps, Befalls, IsServed, Alone, first_busy, next_event, resting, is_up, come_to, cut_short, none, more, Moment, Leads, Left, nothing, take_row, took_message, HasTables, does-tables, delivered-says}
+use Rattle.jn_headline.proofs.Common.{◌≡◌, ◌⊎◌, inl, inr, ℕ, ◌+◌, ◌<◌, ◌≤◌, Bool, true, false, List, [], ◌∷◌, ◌++◌, append_assoc, append-nil, Option, Some, None, is_some, refl, sym, ◌∙◌, ap, subst, arith, ◌&&◌, slice_get, if◌then◌else◌, list_all, ServerNo, Client, Server, server_eq, Message, Text, Line, Sent, Pick, stable, World, Memory, servers_from, Room, Step, Deliver, Work, after, run, Course, go_on, first_going, has_going, handing, working, next_step, on-world, ComesNext, AreNext, ComeToRest, in-turn, settles, Setup, Chance, Task, Rests, Deed, served, room, no_room, delivered_at, is_busy_with, worked, working_steps, Befalls, IsServed, Alone, first_busy, next_event, is_up, come_to, cut_short, none, more, Moment, Leads, Left, nothing, take_row, HasTables, does-tables, delivered-says, delivered_plainly, took_plainly, resting_plainly}
 use Rattle.jn_system.proofs.WholeSystem.BusyServers.{first-is, first-none}
 use Rattle.jn_machine.specs.Deeds.{plain}
 use Rattle.jn_headline.proofs.Quiet.{Calm, called-calm, quiet-same, quiet-called, delivered-up, worked-up}
@@ -79,13 +79,13 @@ module _ (x : Setup) (ups : List Text) (are_up : list_all is_up ups ≡ true) (s
           served-by : (most : ℕ) → Does (on (served q most (handing k (room h q) h.stop ∷ []))) → Result now steps rest
           served-by most d = let b = d.1 in let a = b.used in calmly most (called-calm most h (m.devices q) (n.devices q) a.its.called (came.quiet.power q below (ap is_some a.its.up)) (came.quiet.told q below) (came.quiet.waiting q below)) a.others h.stop refl d
 
-      delivers : (o : Option Sent) → slice_get w.sent k ≡ o → Does (on (delivered h k m.state.clients w o)) → Result now steps rest
+      delivers : (o : Option Sent) → slice_get w.sent k ≡ o → Does (on (delivered_plainly h k w o)) → Result now steps rest
       delivers None e d = again these (came-none x ups are_up start before m n h (on nothing) rest d.0 refl tables (steps ++ these) [] came refl refl refl (quiet-same x w w m.devices n.devices came.quiet (λ s z. z) (let b = d.1 in b.used))) settle next
           (tasks-then x ups are_up start before m n h (on nothing) rest d.0 refl tables (steps ++ these) [] came)
       delivers (Some (Client c, message)) e d = steps-on (Deliver k no_room) refl (comes no_room)
-          (came-one x ups are_up start before m n h (on (took_message c k (take_row (m.state.clients c) message))) rest d.0 (delivered-says x h k m.state.clients w came.tables (Some (Client c, message)) e) tables (steps ++ these) came (Deliver k no_room) refl refl refl tt refl
+          (came-one x ups are_up start before m n h (on (took_plainly c k (take_row (w.clients c) message))) rest d.0 (delivered-says x h k w (Some (Client c, message)) e) tables (steps ++ these) came (Deliver k no_room) refl refl refl tt refl
           (quiet-same x w (after (Deliver k no_room) w) m.devices n.devices came.quiet (λ s. delivered-up w s k no_room) (let b = d.1 in b.used)))
-          (tasks-then x ups are_up start before m n h (on (took_message c k (take_row (m.state.clients c) message))) rest d.0 (delivered-says x h k m.state.clients w came.tables (Some (Client c, message)) e) tables (steps ++ these) [] came)
+          (tasks-then x ups are_up start before m n h (on (took_plainly c k (take_row (w.clients c) message))) rest d.0 (delivered-says x h k w (Some (Client c, message)) e) tables (steps ++ these) [] came)
       delivers (Some (Server q, message)) e d = handed q message (near (steps ++ these) k q message (ap (λ (sent : List Sent). slice_get sent k) (sym sent-is) ∙ e)) (w.memory q) refl d
 
     -- ---- a server makes a step
@@ -163,18 +163,18 @@ module _ (x : Setup) (ups : List Text) (are_up : list_all is_up ups ≡ true) (s
 
     -- ---- whichever it is
 
-    whichever : (waiting : List ℕ) → m.state.course.waiting ≡ waiting → (busy : Option ServerNo) → first_busy h.rubbish w (servers_from 0 x.servers) ≡ busy → Does (resting x h m.state.clients w (next_event waiting busy)) → Result now steps rest
+    whichever : (waiting : List ℕ) → m.state.course.waiting ≡ waiting → (busy : Option ServerNo) → first_busy h.rubbish w (servers_from 0 x.servers) ≡ busy → Does (resting_plainly x h w (next_event waiting busy)) → Result now steps rest
     whichever (k ∷ ks) waits busy b d = delivers k ks waits (slice_get w.sent k) refl d
     whichever [] waits (Some q) b d = works waits q b d
     whichever [] waits None b d = over waits b d
 
-    pub rests-once : Does (resting x h m.state.clients w (next_event m.state.course.waiting (first_busy h.rubbish w (servers_from 0 x.servers)))) → Result now steps rest
+    pub rests-once : Does (resting_plainly x h w (next_event m.state.course.waiting (first_busy h.rubbish w (servers_from 0 x.servers)))) → Result now steps rest
     rests-once d = whichever m.state.course.waiting refl (first_busy h.rubbish w (servers_from 0 x.servers)) refl d
 
   pub rests-on : (m now : Moment) → Leads x m now → (steps these : List Step) → Came x ups start before m (steps ++ these) [] → list_all settles these ≡ true → AreNext (servers_from 0 x.servers) these (go_on steps start)
       → (rest : List Task) → m.state.tasks ≡ Rests ∷ rest → Part start before now ⊎ Rested now steps rest
   rests-on m now (none a) steps these came settle next rest tasks = inl (left x ups start before m (steps ++ these) [] came Rests rest tasks)
-  rests-on m now (more a n c d leads) steps these came settle next rest tasks = by (one-step x m n Rests rest (λ s. refl) came.stage tasks d) (λ those k s i t. rests-on n now leads steps those k s i rest t)
+  rests-on m now (more a n c d leads) steps these came settle next rest tasks = by (one-step x m n Rests rest (λ s. refl) came.stage tasks came.tables d) (λ those k s i t. rests-on n now leads steps those k s i rest t)
     where
       by : (n.state ≡ cut_short (record m.state { tasks = rest })) ⊎ Makes x m n Rests rest
           → ((those : List Step) → Came x ups start before n (steps ++ those) [] → list_all settles those ≡ true → AreNext (servers_from 0 x.servers) those (go_on steps start) → n.state.tasks ≡ Rests ∷ rest → Part start before now ⊎ Rested now steps rest)

@@ -1,5 +1,5 @@
 -- What each of an end's tasks does that makes a step.
-use Rattle.jn_headline.proofs.Common.{◌≡◌, ◌≢◌, ◌⊎◌, inl, inr, ℕ, zero, suc, ◌+◌, ◌<◌, ◌≤◌, Bool, true, false, List, [], ◌∷◌, ◌++◌, append_assoc, append-nil, length, Option, Some, None, is_some, refl, sym, ◌∙◌, ap, subst, arith, map, if◌then◌else◌, list_all, ServerNo, ClientNo, Client, Server, server_eq, server_tells, DeviceState, Text, Line, Pick, World, Memory, servers_from, Step, Again, Nudge, Crash, Restart, CloseClients, after, run, crash, Course, go_on, Comeback, restarts_from, Setup, Chance, Task, Acts, ComesUp, GoesDown, ClosesClients, Deed, crashed_at, recovers, recovering, recovered, given_up, is_used_up, pick_read, Befalls, IsServed, IsRecovery, Alone, is_up, is_too_much, come_to, Moment, Leads, deed_of, works_found, tids_found, Left, HasTables}
+use Rattle.jn_headline.proofs.Common.{◌≡◌, ◌≢◌, ◌⊎◌, inl, inr, ℕ, zero, suc, ◌+◌, ◌<◌, ◌≤◌, Bool, true, false, List, [], ◌∷◌, ◌++◌, append_assoc, append-nil, length, Option, Some, None, is_some, refl, sym, ◌∙◌, ap, subst, arith, map, if◌then◌else◌, list_all, ServerNo, ClientNo, Client, Server, server_eq, server_tells, DeviceState, Text, Line, Pick, World, Memory, servers_from, Step, Again, Nudge, Crash, Restart, CloseClients, after, run, crash, Course, go_on, Comeback, restarts_from, Setup, Chance, Task, Acts, ComesUp, GoesDown, ClosesClients, Deed, crashed_at, recovers, recovering, recovered, given_up, is_used_up, pick_read, Befalls, IsServed, IsRecovery, Alone, is_up, is_too_much, come_to, Moment, Leads, works_found, tids_found, Left, HasTables, deed_plainly}
 use Rattle.jn_base.specs.declared.device.Outside.{Outside}
 use Rattle.jn_schedule.specs.declared.Event.TheVariants as events
 use Rattle.jn_report.specs.declared.line.Text.TheVariants as says
@@ -72,9 +72,9 @@ module _ (x : Setup) (ups : List Text) (are_up : list_all is_up ups ≡ true) (s
           goes : (most : ℕ) → Alone q (IsServed (x.counts q) most h w q) m.devices on.moment.devices → After now (steps ++ CloseClients q ∷ []) rest
           goes most a = let calm = called-calm most h (m.devices q) (on.moment.devices q) a.its.called (came.quiet.power q below (ap is_some a.its.up)) (came.quiet.told q below) (came.quiet.waiting q below) in inr (record {
             moment = on.moment;
-            came = came-one x ups are_up start before m on.moment h (deed_of x h (ClosesClients q) m.state) rest on.makes.state_is refl on.tables steps came (CloseClients q) refl refl (no-faults q h.told calm.told) (let b = on.makes.befalls in b.steps.0) refl
+            came = came-one x ups are_up start before m on.moment h (deed_plainly x h (ClosesClients q) m.state) rest on.makes.state_is refl on.tables steps came (CloseClients q) refl refl (no-faults q h.told calm.told) (let b = on.makes.befalls in b.steps.0) refl
                 (quiet-called x w (after (CloseClients q) w) m.devices on.moment.devices came.quiet h q (λ s. closed-up w s q) a.others calm);
-            tasks = tasks-then x ups are_up start before m on.moment h (deed_of x h (ClosesClients q) m.state) rest on.makes.state_is refl on.tables steps [] came;
+            tasks = tasks-then x ups are_up start before m on.moment h (deed_plainly x h (ClosesClients q) m.state) rest on.makes.state_is refl on.tables steps [] came;
             leads = on.leads;
           })
 

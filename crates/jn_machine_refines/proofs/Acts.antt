@@ -1,5 +1,6 @@
 -- What a deed does and reports, as acts under an event.
-use Rattle.jn_machine_refines.proofs.Common.{◌≡◌, ℕ, ◌+◌, Bool, true, false, List, [], ◌∷◌, ◌++◌, append-nil, append_assoc, length, drop, map, Option, Some, None, refl, sym, ◌∙◌, ap, subst, if◌then◌else◌, list_all, ServerNo, Outside, Event, TooManyArmed, EpochsUsedUp, Text, Line, Pick, Sent, World, Step, after, run, Act, Does, Refuses, Tells, Shows, steps_in, told_in, is_aside, plain, plain-append, plain-none, Setup, Chance, Use, Calls, Reads, Recovers, Deed, is_used_up, acted, outside_texts, own_texts, message_texts, traced, texts_of, lines_at, may_tell, Adds, adds, behind, Cleans, allowed, prints_found, Printed, Left, reported, newly_sent}
+use Rattle.jn_machine_refines.proofs.Common.{◌≡◌, ℕ, ◌+◌, Bool, true, false, List, [], ◌∷◌, ◌++◌, append-nil, append_assoc, length, drop, map, Option, Some, None, refl, sym, ◌∙◌, ap, subst, if◌then◌else◌, list_all, ServerNo, Outside, Event, TooManyArmed, EpochsUsedUp, Text, Line, Pick, Sent, World, Step, after, run, Act, Does, Refuses, Tells, Shows, steps_in, told_in, is_aside, plain, plain-append, plain-none, Setup, Chance, Use, Calls, Reads, Recovers, Deed, is_used_up, outside_texts, own_texts, message_texts, traced, texts_of, lines_at, may_tell, Adds, adds, behind, Cleans, allowed, prints_found, Printed, Left, reported, newly_sent}
+use Rattle.jn_machine_refines.proofs.Plainly.{acted_plainly}
 use Rattle.std.proofs.Math.Seq.{drop-append_seam}
 use Rattle.jn_base.specs.declared.names.Party.{Party}
 use Rattle.jn_base.specs.declared.device.FaultKind.TheVariants as faults
@@ -36,7 +37,7 @@ abbrev pub acts_of : Chance → Deed → List Act → List Act
 acts_of h deed more = outside_acts deed.device h.told ++ all_done deed.steps ++ more
 
 abbrev pub acts_by : Setup → Chance → Event → World → List Act
-acts_by x h event w = acts_of h (acted x h event w.clients w) (besides h event w)
+acts_by x h event w = acts_of h (acted_plainly x h event w) (besides h event w)
 
 -- ---- how lines grow
 

@@ -1,5 +1,7 @@
 -- An event begins, and then it is refused or done.
-use Rattle.jn_machine_refines.proofs.Common.{◌≡◌, ◌⊎◌, inl, inr, ◌<◌, ℕ, Bool, true, false, List, [], ◌∷◌, ◌++◌, append-nil, drop, length, Option, Some, None, refl, sym, ◌∙◌, ap, subst, nat_lt, slice_get, is_some, ServerNo, Server, Message, AllFiles, Event, EventRefusal, Line, Text, RowOutcome, Sent, Pick, stable, Room, server_step, World, Memory, opening, NextEvent, run, after, work, works, Item, Act, Does, Refuses, Waiting, IsUnder, IsShown, AreStruck, steps_in, world_of, with_event, strike_all, told_in, at_event, lines_of, none_wait, plain, is_show, plain-append, sent-near, Setup, Chance, Task, Begins, Meets, Rests, State, Deed, nobody, no_room, plain_deed, stopped_idle, tells, refusal_of, settling, acted, met, go_on, most_messages, is_too_much, come_to, cut_short, made, own_texts, IsUsed, Befalls, Moment, DoesStep, behind, Left, whole_only, reported, HasTables, event-says, is_call}
+use Rattle.jn_machine_refines.proofs.Common.{◌≡◌, ◌⊎◌, inl, inr, ◌<◌, ℕ, Bool, true, false, List, [], ◌∷◌, ◌++◌, append-nil, drop, length, Option, Some, None, refl, sym, ◌∙◌, ap, subst, nat_lt, slice_get, is_some, ServerNo, Server, Message, AllFiles, Event, EventRefusal, Line, Text, RowOutcome, Sent, Pick, stable, Room, server_step, World, Memory, opening, NextEvent, run, after, work, works, Item, Act, Does, Refuses, Waiting, IsUnder, IsShown, AreStruck, steps_in, world_of, with_event, strike_all, told_in, at_event, lines_of, none_wait, plain, is_show, plain-append, sent-near, Setup, Chance, Task, Begins, Meets, Rests, State, Deed, nobody, no_room, plain_deed, stopped_idle, tells, refusal_of, settling, go_on, most_messages, is_too_much, come_to, cut_short, made, own_texts, IsUsed, Befalls, Moment, DoesStep, behind, Left, whole_only, reported, is_call}
+use Rattle.jn_machine_refines.proofs.Plainly.{acted_plainly, met_plainly, event-says}
+use Rattle.jn_machine_refines.proofs.Tables.{HasTables}
 use Rattle.jn_schedule.specs.declared.Event.TheVariants as events
 use Rattle.jn_report.specs.declared.line.Text.TheVariants as says
 use Rattle.jn_machine_refines.proofs.Behind.{ups-name-none}
@@ -160,25 +162,25 @@ module _ (x : Setup) (files : AllFiles) (epochs : ServerNo → ℕ) (schedule : 
     no-own : own_texts v v ≡ []
     no-own = grown-own v v [] (sym (append-nil v.lines))
 
-    done-shown : (event : Event) (chance : Chance) → IsUsed x chance (acted x chance event v.clients v).device v (run (acted x chance event v.clients v).steps v) a.devices b.devices → IsShown event v (acts_by x chance event v)
+    done-shown : (event : Event) (chance : Chance) → IsUsed x chance (acted_plainly x chance event v).device v (run (acted_plainly x chance event v).steps v) a.devices b.devices → IsShown event v (acts_by x chance event v)
     done-shown (events.Show q) chance used = shown-acts (x.counts q) q v chance (a.devices q) (b.devices q) used.its
     done-shown event chance used = tt
 
     -- a show sends nothing
-    show-quiet : (event : Event) (chance : Chance) → is_show event ≡ true → is_too_much (acted x chance event v.clients v) (go_on (acted x chance event v.clients v).steps a.state.course) ≡ false
+    show-quiet : (event : Event) (chance : Chance) → is_show event ≡ true → is_too_much (acted_plainly x chance event v) (go_on (acted_plainly x chance event v).steps a.state.course) ≡ false
     show-quiet (events.Show q) chance k = ap (λ (u : World). nat_lt most_messages (length u.sent)) (go-world (stopped_idle q chance.stop) a.state.course)
         ∙ ap (λ (sent : List Sent). nat_lt most_messages (length sent)) (idle-sent q chance.stop a.state.course.world) ∙ h.at.few
     show-quiet event chance k = absurd (cc k)
 
-    by-cause : (chance : Chance) (o : Option EventRefusal) → refusal_of x v e ≡ o → b.state ≡ made x chance (met x chance e v.clients v o) before → Befalls x chance (met x chance e v.clients v o) v a.devices b.devices → Held x files epochs schedule b
+    by-cause : (chance : Chance) (o : Option EventRefusal) → refusal_of x v e ≡ o → b.state ≡ made x chance (met_plainly x chance e v o) before → Befalls x chance (met_plainly x chance e v o) v a.devices b.devices → Held x files epochs schedule b
     by-cause chance (Some refusal) k is befalls = met-step chance (tells (says.RefusedEvent refusal ∷ [])) (Refuses refusal ∷ []) refl (ap (λ (own : List Text). own ++ says.RefusedEvent refusal ∷ []) (sym no-own)) befalls
         (refused-befell x chance v a.devices b.devices z st near e refusal befalls.used) refl (refusal-under x v e refusal k) (refused-shown e refusal v) (inl refl) (λ show. h.at.few) is
-    by-cause chance None k is befalls = met-step chance (acted x chance e v.clients v) (acts_by x chance e v) (steps-of-acts chance (acted x chance e v.clients v) (besides chance e v) (besides-steps chance e v))
-        (told-of-acts chance (acted x chance e v.clients v) (besides chance e v) (besides-told x chance e v) v) befalls
+    by-cause chance None k is befalls = met-step chance (acted_plainly x chance e v) (acts_by x chance e v) (steps-of-acts chance (acted_plainly x chance e v) (besides chance e v) (besides-steps chance e v))
+        (told-of-acts chance (acted_plainly x chance e v) (besides chance e v) (besides-told x chance e v) v) befalls
         (acted-befell x chance v a.devices b.devices z st near e (is-ready x v e k) befalls.used) (event-says x chance e v) (acts-under x chance e v uncalled) (done-shown e chance befalls.used) (acted-tasks x chance e v) (show-quiet e chance) is
 
     pub meet-step : HasTables a.state → DoesStep x a b → Held x files epochs schedule b
     meet-step has d = let n = does-next x (Meets e) (left x files epochs schedule rest) a b has d h.at.stage h.tasks in
         by-cause n.chance (refusal_of x v e) refl
-        (subst (λ (u : World). b.state ≡ made x n.chance (met x n.chance e u.clients u (refusal_of x u e)) before) h.at.world n.state_is)
-        (subst (λ (u : World). Befalls x n.chance (met x n.chance e u.clients u (refusal_of x u e)) u a.devices b.devices) h.at.world n.befalls)
+        (subst (λ (u : World). b.state ≡ made x n.chance (met_plainly x n.chance e u (refusal_of x u e)) before) h.at.world n.state_is)
+        (subst (λ (u : World). Befalls x n.chance (met_plainly x n.chance e u (refusal_of x u e)) u a.devices b.devices) h.at.world n.befalls)

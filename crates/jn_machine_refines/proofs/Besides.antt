@@ -1,9 +1,10 @@
 -- What an event reports besides its steps, and what it leaves to be done.
-use Rattle.jn_machine_refines.proofs.Common.{◌≡◌, ◌⊎◌, inl, inr, Bool, true, false, List, [], ◌∷◌, ◌++◌, append-nil, map, Option, Some, None, refl, sym, ◌∙◌, ap, ◌&&◌, if◌then◌else◌, slice_get, list_all, list_all-append, ServerNo, ClientNo, Client, Server, Event, EventRefusal, TooManyArmed, EpochsUsedUp, Pick, Sent, World, Memory, clients_from, Refuses, Tells, IsShown, told_in, Setup, Chance, Task, Acts, Rests, served, nothing, delivered, delivered_at, is_busy, working_steps, shown, crashed_at, is_used_up, given_up, recovered, servers_of, asking, settling, told_unless, acted, step_calls, allowed, prints_found, Left}
+use Rattle.jn_machine_refines.proofs.Common.{◌≡◌, ◌⊎◌, inl, inr, Bool, true, false, List, [], ◌∷◌, ◌++◌, append-nil, map, Option, Some, None, refl, sym, ◌∙◌, ap, ◌&&◌, if◌then◌else◌, slice_get, list_all, list_all-append, ServerNo, ClientNo, Client, Server, Event, EventRefusal, TooManyArmed, EpochsUsedUp, Pick, Sent, World, Memory, clients_from, Refuses, Tells, IsShown, told_in, Setup, Chance, Task, Acts, Rests, served, nothing, delivered_at, is_busy, working_steps, shown, crashed_at, is_used_up, given_up, recovered, servers_of, asking, settling, told_unless, step_calls, allowed, prints_found, Left}
+use Rattle.jn_machine_refines.proofs.Plainly.{acted_plainly, delivered_plainly}
 use Rattle.jn_base.specs.declared.device.FaultKind.TheVariants as faults
 use Rattle.jn_schedule.specs.declared.Event.TheVariants as events
 use Rattle.jn_report.specs.declared.line.Text.TheVariants as says
-use Rattle.jn_machine.proofs.Texts.{delivers, works, crashes}
+use Rattle.jn_machine.proofs.Texts.{works, crashes}
 use Rattle.jn_machine_refines.proofs.Acts.{shown_acts, besides}
 
 abbrev pub is_settling : Task → Bool
@@ -14,11 +15,20 @@ is_settling task = false
 
 -- ---- what an event reports besides
 
-pub besides-told : (x : Setup) (h : Chance) (event : Event) (w u : World) → told_in (besides h event w) u ≡ (acted x h event w.clients w).texts
+pub besides-told : (x : Setup) (h : Chance) (event : Event) (w u : World) → told_in (besides h event w) u ≡ (acted_plainly x h event w).texts
 besides-told x h (events.Command c command) w u = refl
 besides-told x h (events.Call c s call) w u = refl
 besides-told x h (events.Again c) w u = refl
-besides-told x h (events.Deliver k) w u = sym (delivers h k w.clients w (slice_get w.sent k))
+besides-told x h (events.Deliver k) w u = sym (by (slice_get w.sent k))
+  where
+    at : (q : ServerNo) (o : Option Memory) → (delivered_at h k q o).texts ≡ []
+    at q None = refl
+    at q (Some m) = refl
+
+    by : (o : Option Sent) → (delivered_plainly h k w o).texts ≡ []
+    by None = refl
+    by (Some (Client c, message)) = refl
+    by (Some (Server q, message)) = at q (w.memory q)
 besides-told x h events.Settle w u = refl
 besides-told x h (events.Step q) w u = sym (works h q w)
 besides-told x h (events.Nudge q) w u = refl
@@ -48,7 +58,7 @@ besides-told x h (events.Show q) w u = by h.stop
     by (Some made) = refl
 
 -- a settle alone leaves something to be done
-pub acted-tasks : (x : Setup) (h : Chance) (event : Event) (w : World) → ((acted x h event w.clients w).tasks ≡ []) ⊎ ((event ≡ events.Settle) × ((acted x h event w.clients w).tasks ≡ settling x))
+pub acted-tasks : (x : Setup) (h : Chance) (event : Event) (w : World) → ((acted_plainly x h event w).tasks ≡ []) ⊎ ((event ≡ events.Settle) × ((acted_plainly x h event w).tasks ≡ settling x))
 acted-tasks x h (events.Command c command) w = inl refl
 acted-tasks x h (events.Call c s call) w = inl refl
 acted-tasks x h (events.Again c) w = inl refl
@@ -58,7 +68,7 @@ acted-tasks x h (events.Deliver k) w = inl (by (slice_get w.sent k))
     at q None = refl
     at q (Some m) = refl
 
-    by : (o : Option Sent) → (delivered h k w.clients w o).tasks ≡ []
+    by : (o : Option Sent) → (delivered_plainly h k w o).tasks ≡ []
     by None = refl
     by (Some (Client c, message)) = refl
     by (Some (Server q, message)) = at q (w.memory q)

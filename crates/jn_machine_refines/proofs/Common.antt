@@ -41,7 +41,6 @@ pub use Rattle.jn_row_ranges.proofs.WorldSteps.{sent-near, run-within, opening-w
 pub use Rattle.jn_machine.specs.Tasks.{Task, Begins, Meets, Rests, State, Acts, CutShort, Stage, InSchedule, when_at, when_of, next_at, begun, ComesUp, AtEnd}
 pub use Rattle.jn_machine.specs.Refusals.{refusal_of, if_down}
 pub use Rattle.jn_machine.specs.Runs.{Moment, DoesStep, none, more, Leads}
-pub use Rattle.jn_machine.proofs.Clients.{HasTables, event-says, does-tables}
 pub use Rattle.jn_serial.specs.Order.{is_call}
 pub use Rattle.jn_base.specs.declared.names.ClientNo.{ClientNo}
 pub use Rattle.jn_base.specs.declared.names.Tid.{Tid}

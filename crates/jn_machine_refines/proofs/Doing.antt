@@ -1,5 +1,6 @@
 -- What befalls the devices in each event that is done.
-use Rattle.jn_machine_refines.proofs.Common.{◌≡◌, ◌≢◌, ◌⊎◌, inl, inr, ◌<◌, ℕ, Bool, true, false, List, [], ◌∷◌, ◌++◌, append-nil, map, Option, Some, None, refl, sym, ◌∙◌, ap, subst, arith, ⊤, ◌&&◌, ◌||◌, if◌then◌else◌, nat_eq, slice_get, is_some, list_all, ServerNo, ClientNo, Tid, Client, Server, server_eq, server_tells, Message, EventRefusal, EpochsUsedUp, TooManyArmed, Text, Event, Taken, Pick, stable, Sent, World, Memory, Printed, FileThere, PageStored, UnitLocked, Tell, Again, Deliver, Nudge, Timeout, Crash, after, run, commanded, took, at_memory, handed, nudge, timeout, crash, has_going, text_printed, Waiting, with_event, strike_all, AreStruck, Setup, Chance, Deed, room, no_room, served, nothing, tells, delivered, delivered_at, is_busy, working_steps, scrubbed, shown, showing, crashed_at, pick_read, is_used_up, given_up, recovered, restarted, told_unless, acted, own_texts, Devices, IsUsed, is_answer, is_of_delivery, Adds, adds, weaker, step_calls, allowed, prints_found, Left}
+use Rattle.jn_machine_refines.proofs.Common.{◌≡◌, ◌≢◌, ◌⊎◌, inl, inr, ◌<◌, ℕ, Bool, true, false, List, [], ◌∷◌, ◌++◌, append-nil, map, Option, Some, None, refl, sym, ◌∙◌, ap, subst, arith, ⊤, ◌&&◌, ◌||◌, if◌then◌else◌, nat_eq, slice_get, is_some, list_all, ServerNo, ClientNo, Tid, Client, Server, server_eq, server_tells, Message, EventRefusal, EpochsUsedUp, TooManyArmed, Text, Event, Taken, Pick, stable, Sent, World, Memory, Printed, FileThere, PageStored, UnitLocked, Tell, Again, Deliver, Nudge, Timeout, Crash, after, run, commanded, took, at_memory, handed, nudge, timeout, crash, has_going, text_printed, Waiting, with_event, strike_all, AreStruck, Setup, Chance, Deed, room, no_room, served, nothing, tells, delivered_at, is_busy, working_steps, scrubbed, shown, showing, crashed_at, pick_read, is_used_up, given_up, recovered, restarted, told_unless, own_texts, Devices, IsUsed, is_answer, is_of_delivery, Adds, adds, weaker, step_calls, allowed, prints_found, Left}
+use Rattle.jn_machine_refines.proofs.Plainly.{acted_plainly, delivered_plainly}
 use Rattle.jn_base.specs.declared.op.Command.{Command}
 use Rattle.jn_base.specs.declared.device.FaultKind.TheVariants as faults
 use Rattle.jn_report.specs.declared.line.Text.TheVariants as says
@@ -114,8 +115,8 @@ module _ (x : Setup) (h : Chance) (w : World) (ds es : Devices) (z : Waiting) (s
     to-server k q message e (Some m) up used = let now = run (delivered_at h k q (Some m)).steps w in let t = delivery-turns w q (same-server q) m up k message (room h q) h.stop e in let l = near k q message e in
         turned q l now used.others (call-spends _ h (is_some (now.memory q)) (ds q) (es q) used.its.called (st.power q m l up) (st.told q l)) [] refl h.stop refl t
 
-    delivers : (k : ℕ) (o : Option Sent) → slice_get w.sent k ≡ o → IsUsed x h (delivered h k w.clients w o).device w (run (delivered h k w.clients w o).steps w) ds es
-        → JustBefell x.servers (texts_by h (delivered h k w.clients w o) w (run (delivered h k w.clients w o).steps w)) w (run (delivered h k w.clients w o).steps w) es z
+    delivers : (k : ℕ) (o : Option Sent) → slice_get w.sent k ≡ o → IsUsed x h (delivered_plainly h k w o).device w (run (delivered_plainly h k w o).steps w) ds es
+        → JustBefell x.servers (texts_by h (delivered_plainly h k w o) w (run (delivered_plainly h k w o).steps w)) w (run (delivered_plainly h k w o).steps w) es z
     delivers k None e used = calm w stays used
     delivers k (Some (Client c, message)) e used = calm (after (Deliver k no_room) w) (calm-by (after (Deliver k no_room) w) is_of_delivery delivery-harmless (adds w (Deliver k no_room)) (same-up (after (Deliver k no_room) w) same)) used
       where
@@ -195,8 +196,8 @@ module _ (x : Setup) (h : Chance) (w : World) (ds es : Devices) (z : Waiting) (s
       number = b.number;
     }
 
-    pub acted-befell : (event : Event) → IsReady x.servers w event → IsUsed x h (acted x h event w.clients w).device w (run (acted x h event w.clients w).steps w) ds es
-        → Befell x.servers event (texts_by h (acted x h event w.clients w) w (run (acted x h event w.clients w).steps w)) w (run (acted x h event w.clients w).steps w) es z
+    pub acted-befell : (event : Event) → IsReady x.servers w event → IsUsed x h (acted_plainly x h event w).device w (run (acted_plainly x h event w).steps w) ds es
+        → Befell x.servers event (texts_by h (acted_plainly x h event w) w (run (acted_plainly x h event w).steps w)) w (run (acted_plainly x h event w).steps w) es z
     acted-befell (events.Command c command) r used = as-event _ _ _ refl (calm (after (Tell c command) w) (tells-calm c command) used)
     acted-befell (events.Call c s call) r used = as-event _ _ _ refl (calm w stays used)
     acted-befell (events.Again c) r used = as-event _ _ _ refl (calm (after (Again c) w) (again-calm c) used)

@@ -1,6 +1,8 @@
 -- Where a run under its schedule stands: between two events, with one that has begun, or within a settle.
-use Rattle.jn_machine_refines.proofs.Common.{◌≡◌, ◌<◌, ℕ, Bool, ◌+◌, true, false, List, [], ◌∷◌, ◌++◌, append-nil, append_assoc, length, map, refl, sym, ◌∙◌, ap, subst, arith, ◌||◌, list_all, list_any, ServerNo, AllFiles, Event, World, opening, NextEvent, after, run, Text, Item, Act, Waiting, IsReported, events_of, world_of, after_item, waiting_in, strike_all, told_under, lines_of, none_wait, plain, is_show, Setup, Task, Begins, Meets, CutShort, ending, is_up, Moment, behind, IsAsIn, IsToldBy, IsRetold, IsRetoldInPart, HasTables}
+use Rattle.jn_machine_refines.proofs.Common.{◌≡◌, ◌<◌, ℕ, Bool, ◌+◌, true, false, List, [], ◌∷◌, ◌++◌, append-nil, append_assoc, length, map, refl, sym, ◌∙◌, ap, subst, arith, ◌||◌, list_all, list_any, ServerNo, ClientNo, AllFiles, Event, World, opening, NextEvent, after, run, Text, Item, Act, Waiting, IsReported, events_of, world_of, after_item, waiting_in, strike_all, told_under, lines_of, none_wait, plain, is_show, Setup, Task, Begins, Meets, CutShort, ending, is_up, Moment, behind, IsAsIn, IsToldBy, IsRetold, IsRetoldInPart}
+use Rattle.jn_machine_refines.proofs.Tables.{HasTables}
 use Rattle.jn_schedule.specs.declared.Event.TheVariants as events
+use Rattle.jn_callers.specs.Callers.{Caller}
 use Rattle.jn_machine_refines.proofs.Items.{waits_after, IsNext, one_more, reported-more, world-more, waits-more, events-more, length-more}
 use Rattle.jn_machine_refines.proofs.Besides.{is_settling}
 use Rattle.jn_machine_refines.proofs.Going.{At}
@@ -132,7 +134,7 @@ module _ (x : Setup) (files : AllFiles) (epochs : ServerNo → ℕ) (schedule : 
     ups = h.at.ups;
     are_up = h.at.are_up;
     world = h.at.world;
-    tables = has;
+    tables = λ c. ap (λ (f : ClientNo → Caller). f c) has.tables;
     lines = h.lines;
     well = record { power = λ q memory l up. h.at.stands.power q memory l (sym (ap (λ (w : World). w.memory q) h.at.world) ∙ up); told = h.at.stands.told };
   }

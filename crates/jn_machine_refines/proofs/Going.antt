@@ -1,6 +1,7 @@
 -- Where a run under its schedule stands, and how a step of it goes on.
-use Rattle.jn_machine_refines.proofs.Common.{◌≡◌, ◌⊎◌, inl, inr, Bool, true, false, List, [], ◌∷◌, ◌++◌, length, Some, refl, sym, ◌∙◌, ap, subst, arith, ◌||◌, nat_lt, if◌then◌else◌, list_all, AtEvent, Line, Text, World, commits_in, Step, IsRun, run, Course, go, go_on, Act, Waiting, steps_in, told_in, at_event, plain, plain-append, run-within, Setup, Chance, Task, Stage, InSchedule, State, when_at, when_of, next_at, begun, Deed, deed_of, texts_of, lines_at, most_messages, is_too_much, come_to, cut_short, made, Devices, Befalls, is_up, Moment, DoesStep, behind, ClientNo, own_texts, reported, HasTables}
-use Rattle.jn_rows.specs.Client.{ClientTable}
+use Rattle.jn_machine_refines.proofs.Common.{◌≡◌, ◌⊎◌, inl, inr, Bool, true, false, List, [], ◌∷◌, ◌++◌, length, Some, refl, sym, ◌∙◌, ap, subst, arith, ◌||◌, nat_lt, if◌then◌else◌, list_all, AtEvent, Line, Text, World, commits_in, Step, IsRun, run, Course, go, go_on, Act, Waiting, steps_in, told_in, at_event, plain, plain-append, run-within, Setup, Chance, Task, Stage, InSchedule, State, when_at, when_of, next_at, begun, Deed, texts_of, lines_at, most_messages, is_too_much, come_to, cut_short, made, Devices, Befalls, is_up, Moment, DoesStep, behind, own_texts, reported}
+use Rattle.jn_machine_refines.proofs.Plainly.{deed_plainly}
+use Rattle.jn_machine_refines.proofs.Tables.{HasTables, its-deed}
 use Rattle.jn_row_ranges.specs.Within.{Within}
 use Rattle.jn_machine_refines.proofs.Behind.{ups-name-none, run-behind}
 use Rattle.jn_machine_refines.proofs.Acts.{texts_by, plain-texts}
@@ -9,25 +10,19 @@ use Rattle.jn_machine_refines.proofs.Standing.{Stands}
 
 -- ---- the next task
 
--- with the system's tables of the clients
-abbrev pub as_systems : State → State
-as_systems s = record s { clients = s.course.world.clients }
-
 pub record Next (x : Setup) (task : Task) (a b : Moment) : Type 0 where
   pub chance : Chance
-  pub state_is : b.state ≡ made x chance (deed_of x chance task (as_systems a.state)) (begun task a.state)
-  pub befalls : Befalls x chance (deed_of x chance task (as_systems a.state)) a.state.course.world a.devices b.devices
+  pub state_is : b.state ≡ made x chance (deed_plainly x chance task a.state) (begun task a.state)
+  pub befalls : Befalls x chance (deed_plainly x chance task a.state) a.state.course.world a.devices b.devices
 
 its-task : (stage : Stage) (tasks ts : List Task) (t task : Task) → stage ≡ InSchedule → tasks ≡ t ∷ ts → next_at stage tasks ≡ Some task → task ≡ t
 its-task stage tasks ts t task e k h = cc (h, e, k)
 
 pub does-next : (x : Setup) (t : Task) (ts : List Task) (a b : Moment) → HasTables a.state → DoesStep x a b → a.state.stage ≡ InSchedule → a.state.tasks ≡ t ∷ ts → Next x t a b
-does-next x t ts a b has d e k = let same = its-task a.state.stage a.state.tasks ts t d.task e k d.task_is in record {
+does-next x t ts a b has d e k = let same = its-task a.state.stage a.state.tasks ts t d.task e k d.task_is in let plainly = its-deed x a b has d in record {
   chance = d.chance;
-  state_is = subst (λ (task : Task). b.state ≡ made x d.chance (deed_of x d.chance task (as_systems a.state)) (begun task a.state)) same
-      (subst (λ (f : ClientNo → ClientTable). b.state ≡ made x d.chance (deed_of x d.chance d.task (record a.state { clients = f })) (begun d.task a.state)) has d.state_is);
-  befalls = subst (λ (task : Task). Befalls x d.chance (deed_of x d.chance task (as_systems a.state)) a.state.course.world a.devices b.devices) same
-      (subst (λ (f : ClientNo → ClientTable). Befalls x d.chance (deed_of x d.chance d.task (record a.state { clients = f })) a.state.course.world a.devices b.devices) has d.befalls);
+  state_is = rw (← same) plainly.state_is;
+  befalls = rw (← same) plainly.befalls;
 }
 
 -- either it goes on, or too many messages would be sent

@@ -1,4 +1,5 @@
 mod Common
+pub mod Plainly
 pub mod Behind
 pub mod Items
 pub mod Acts
@@ -10,6 +11,7 @@ pub mod Befalling
 pub mod Doing
 pub mod May
 pub mod Besides
+pub mod Tables
 pub mod Showing
 pub mod Going
 pub mod Forms

@@ -1,5 +1,6 @@
 -- What is done under each event is what it may have, and what is known of an event that isn't refused.
-use Rattle.jn_machine_refines.proofs.Common.{◌≡◌, ◌<◌, ℕ, Bool, true, false, List, [], ◌∷◌, ◌++◌, map, Option, Some, None, refl, ◌∙◌, arith, ◌&&◌, if◌then◌else◌, nat_eq, slice_get, list_all, nat_tests, list_all-append, ServerNo, ClientNo, Tid, WorkId, Client, Server, Outside, client_eq, tid_eq, EventRefusal, EpochsUsedUp, TooManyArmed, Event, Pick, Sent, World, Memory, Printed, Room, Deliver, StopDelivery, Work, StopWork, Narrow, StopRestart, Restart, handing, working, Act, Does, Refuses, Tells, Shows, may_refuse, may_act, IsUnder, Setup, Chance, Deed, served, nothing, delivered, delivered_at, is_busy, no_room, working_steps, stopped_idle, scrubbed, showing, given_up, recovering, recovered, crashed_at, is_used_up, room, refusal_of, if_down, step_calls, allowed, prints_found, Left, is_call}
+use Rattle.jn_machine_refines.proofs.Common.{◌≡◌, ◌<◌, ℕ, Bool, true, false, List, [], ◌∷◌, ◌++◌, map, Option, Some, None, refl, ◌∙◌, arith, ◌&&◌, if◌then◌else◌, nat_eq, slice_get, list_all, nat_tests, list_all-append, ServerNo, ClientNo, Tid, WorkId, Client, Server, Outside, client_eq, tid_eq, EventRefusal, EpochsUsedUp, TooManyArmed, Event, Pick, Sent, World, Memory, Printed, Room, Deliver, StopDelivery, Work, StopWork, Narrow, StopRestart, Restart, handing, working, Act, Does, Refuses, Tells, Shows, may_refuse, may_act, IsUnder, Setup, Chance, Deed, served, nothing, delivered_at, is_busy, no_room, working_steps, stopped_idle, scrubbed, showing, given_up, recovering, recovered, crashed_at, is_used_up, room, refusal_of, if_down, step_calls, allowed, prints_found, Left, is_call}
+use Rattle.jn_machine_refines.proofs.Plainly.{delivered_plainly}
 use Rattle.jn_base.specs.declared.device.FaultKind.TheVariants as faults
 use Rattle.jn_report.specs.declared.line.Text.TheVariants as says
 use Rattle.jn_schedule.specs.declared.Event.TheVariants as events
@@ -34,7 +35,7 @@ module _ (test : Act → Bool) where
       at-may q None = both _ true (handed (room h q)) refl
       at-may q (Some m) = parts h (delivered_at h k q (Some m)) [] (told-may q h.told (tells q)) (both _ true (handing-may (room h q) h.stop) refl) refl
 
-      pub delivered-may : (o : Option Sent) → list_all test (acts_of h (delivered h k w.clients w o) []) ≡ true
+      pub delivered-may : (o : Option Sent) → list_all test (acts_of h (delivered_plainly h k w o) []) ≡ true
       delivered-may None = refl
       delivered-may (Some (Client c, message)) = both _ true (handed no_room) refl
       delivered-may (Some (Server q, message)) = at-may q (w.memory q)

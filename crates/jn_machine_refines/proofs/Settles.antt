@@ -1,5 +1,7 @@
 -- A step of a settle.
-use Rattle.jn_machine_refines.proofs.Common.{◌≡◌, ◌⊎◌, inl, inr, ◌<◌, ℕ, zero, suc, ◌+◌, Bool, true, false, List, [], ◌∷◌, ◌++◌, append-nil, append_assoc, drop, Option, Some, None, refl, sym, ◌∙◌, ap, subst, arith, ◌&&◌, if◌then◌else◌, slice_get, list_all, list_all-append, ServerNo, Server, Message, AllFiles, Event, Line, AtEvent, Text, World, opening, servers_from, Step, NextEvent, IsRun, run, after, go_on, Item, Act, Waiting, AreStruck, may_act, steps_in, world_of, after_item, strike_all, told_in, at_event, lines_of, none_wait, plain, plain-append, sent-near, Setup, Chance, Task, Acts, Rests, State, Deed, nothing, is_busy, servers_of, first_busy, next_event, resting, acted, is_too_much, come_to, cut_short, made, own_texts, Befalls, Moment, DoesStep, behind, reported, HasTables, event-says}
+use Rattle.jn_machine_refines.proofs.Common.{◌≡◌, ◌⊎◌, inl, inr, ◌<◌, ℕ, zero, suc, ◌+◌, Bool, true, false, List, [], ◌∷◌, ◌++◌, append-nil, append_assoc, drop, Option, Some, None, refl, sym, ◌∙◌, ap, subst, arith, ◌&&◌, if◌then◌else◌, slice_get, list_all, list_all-append, ServerNo, Server, Message, AllFiles, Event, Line, AtEvent, Text, World, opening, servers_from, Step, NextEvent, IsRun, run, after, go_on, Item, Act, Waiting, AreStruck, may_act, steps_in, world_of, after_item, strike_all, told_in, at_event, lines_of, none_wait, plain, plain-append, sent-near, Setup, Chance, Task, Acts, Rests, State, Deed, nothing, is_busy, servers_of, first_busy, next_event, is_too_much, come_to, cut_short, made, own_texts, Befalls, Moment, DoesStep, behind, reported}
+use Rattle.jn_machine_refines.proofs.Plainly.{acted_plainly, resting_plainly, event-says}
+use Rattle.jn_machine_refines.proofs.Tables.{HasTables}
 use Rattle.jn_schedule.specs.declared.Event.TheVariants as events
 use Rattle.jn_machine_refines.proofs.Behind.{ups-name-none}
 use Rattle.jn_machine_refines.proofs.Items.{waits_after, one_more, run-both, is-run-both, lines-more, steps-join, told-join, strike-join, struck-join}
@@ -134,21 +136,21 @@ module _ (x : Setup) (files : AllFiles) (epochs : ServerNo → ℕ) (schedule : 
   st : Stands x.servers v a.devices z
   st = stands-behind x h.at.ups w a.devices z h.at.stands
 
-  rests : (chance : Chance) (waiting : List ℕ) (busy : Option ServerNo) → ((q : ServerNo) → busy ≡ Some q → q.0 < x.servers) → b.state ≡ made x chance (resting x chance v.clients v (next_event waiting busy)) before
-      → Befalls x chance (resting x chance v.clients v (next_event waiting busy)) v a.devices b.devices → Held x files epochs schedule b
+  rests : (chance : Chance) (waiting : List ℕ) (busy : Option ServerNo) → ((q : ServerNo) → busy ≡ Some q → q.0 < x.servers) → b.state ≡ made x chance (resting_plainly x chance v (next_event waiting busy)) before
+      → Befalls x chance (resting_plainly x chance v (next_event waiting busy)) v a.devices b.devices → Held x files epochs schedule b
   rests chance (k ∷ waiting) busy there is befalls = let e = acted-befell x chance v a.devices b.devices z st near (events.Deliver k) tt befalls.used in
-      goes chance (record (acted x chance (events.Deliver k) v.clients v) { tasks = Rests ∷ [] }) (acts_by x chance (events.Deliver k) v) (steps-of-acts chance (acted x chance (events.Deliver k) v.clients v) [] refl)
-      (told-of-acts chance (acted x chance (events.Deliver k) v.clients v) [] (besides-told x chance (events.Deliver k) v) v) befalls (record { struck = e.struck; stands = e.stands; number = e.number }) (event-says x chance (events.Deliver k) v) (settle-delivers x chance k v) refl is
+      goes chance (record (acted_plainly x chance (events.Deliver k) v) { tasks = Rests ∷ [] }) (acts_by x chance (events.Deliver k) v) (steps-of-acts chance (acted_plainly x chance (events.Deliver k) v) [] refl)
+      (told-of-acts chance (acted_plainly x chance (events.Deliver k) v) [] (besides-told x chance (events.Deliver k) v) v) befalls (record { struck = e.struck; stands = e.stands; number = e.number }) (event-says x chance (events.Deliver k) v) (settle-delivers x chance k v) refl is
   rests chance [] (Some q) there is befalls = let e = acted-befell x chance v a.devices b.devices z st near (events.Step q) (there q refl) befalls.used in
-      goes chance (record (acted x chance (events.Step q) v.clients v) { tasks = Rests ∷ [] }) (acts_by x chance (events.Step q) v) (steps-of-acts chance (acted x chance (events.Step q) v.clients v) [] refl)
-      (told-of-acts chance (acted x chance (events.Step q) v.clients v) [] (besides-told x chance (events.Step q) v) v) befalls (record { struck = e.struck; stands = e.stands; number = e.number }) (event-says x chance (events.Step q) v) (settle-works x chance q v) refl is
+      goes chance (record (acted_plainly x chance (events.Step q) v) { tasks = Rests ∷ [] }) (acts_by x chance (events.Step q) v) (steps-of-acts chance (acted_plainly x chance (events.Step q) v) [] refl)
+      (told-of-acts chance (acted_plainly x chance (events.Step q) v) [] (besides-told x chance (events.Step q) v) v) befalls (record { struck = e.struck; stands = e.stands; number = e.number }) (event-says x chance (events.Step q) v) (settle-works x chance q v) refl is
   rests chance [] None there is befalls = let e = acted-befell x chance v a.devices b.devices z st near events.Settle tt befalls.used in
       goes chance nothing [] refl (sym (append-nil (own_texts v v) ∙ grown-own v v [] (sym (append-nil v.lines)))) befalls (record { struck = e.struck; stands = e.stands; number = e.number }) refl refl refl is
 
-  asks : (chance : Chance) (event : Event) → list_all (may_act events.Settle) (acts_by x chance event v) ≡ true → ((acted x chance event v.clients v).tasks ≡ []) → b.state ≡ made x chance (acted x chance event v.clients v) before
-      → Befalls x chance (acted x chance event v.clients v) v a.devices b.devices → JustBefell x.servers (texts_by chance (acted x chance event v.clients v) v (run (acted x chance event v.clients v).steps v)) v (run (acted x chance event v.clients v).steps v) b.devices z
-      → steps_in (acts_by x chance event v) ≡ (acted x chance event v.clients v).steps → told_in (acts_by x chance event v) v ≡ texts_by chance (acted x chance event v.clients v) v (run (acted x chance event v.clients v).steps v) → Held x files epochs schedule b
-  asks chance event may none is befalls just does tells = goes chance (acted x chance event v.clients v) (acts_by x chance event v) does tells befalls just (event-says x chance event v) may (ap (λ (ts : List Task). list_all is_settling ts) none) is
+  asks : (chance : Chance) (event : Event) → list_all (may_act events.Settle) (acts_by x chance event v) ≡ true → ((acted_plainly x chance event v).tasks ≡ []) → b.state ≡ made x chance (acted_plainly x chance event v) before
+      → Befalls x chance (acted_plainly x chance event v) v a.devices b.devices → JustBefell x.servers (texts_by chance (acted_plainly x chance event v) v (run (acted_plainly x chance event v).steps v)) v (run (acted_plainly x chance event v).steps v) b.devices z
+      → steps_in (acts_by x chance event v) ≡ (acted_plainly x chance event v).steps → told_in (acts_by x chance event v) v ≡ texts_by chance (acted_plainly x chance event v) v (run (acted_plainly x chance event v).steps v) → Held x files epochs schedule b
+  asks chance event may none is befalls just does tells = goes chance (acted_plainly x chance event v) (acts_by x chance event v) does tells befalls just (event-says x chance event v) may (ap (λ (ts : List Task). list_all is_settling ts) none) is
 
   by-task : (t : Task) → task ≡ t → is_settling t ≡ true → HasTables a.state → DoesStep x a b → Held x files epochs schedule b
   by-task t same ok has d = go t same ok
@@ -162,14 +164,14 @@ module _ (x : Setup) (files : AllFiles) (epochs : ServerNo → ℕ) (schedule : 
       go : (t : Task) → task ≡ t → is_settling t ≡ true → Held x files epochs schedule b
       go Rests k ok = let n = does-next x Rests (pending ++ left x files epochs schedule rest) a b has d h.at.stage (subst (λ (t : Task). a.state.tasks ≡ t ∷ (pending ++ left x files epochs schedule rest)) k first) in
           rests n.chance a.state.course.waiting (first_busy n.chance.rubbish v (servers_of x)) (λ q e. no-more q.0 x.servers (busy-near n.chance.rubbish v 0 x.servers q e))
-          (subst (λ (u : World). b.state ≡ made x n.chance (resting x n.chance u.clients u (next_event a.state.course.waiting (first_busy n.chance.rubbish u (servers_of x)))) before) h.at.world n.state_is)
-          (subst (λ (u : World). Befalls x n.chance (resting x n.chance u.clients u (next_event a.state.course.waiting (first_busy n.chance.rubbish u (servers_of x)))) u a.devices b.devices) h.at.world n.befalls)
+          (subst (λ (u : World). b.state ≡ made x n.chance (resting_plainly x n.chance u (next_event a.state.course.waiting (first_busy n.chance.rubbish u (servers_of x)))) before) h.at.world n.state_is)
+          (subst (λ (u : World). Befalls x n.chance (resting_plainly x n.chance u (next_event a.state.course.waiting (first_busy n.chance.rubbish u (servers_of x)))) u a.devices b.devices) h.at.world n.befalls)
       go (Acts (events.Again c)) k ok = let n = does-next x (Acts (events.Again c)) (pending ++ left x files epochs schedule rest) a b has d h.at.stage (subst (λ (t : Task). a.state.tasks ≡ t ∷ (pending ++ left x files epochs schedule rest)) k first) in
-          let f = subst (λ (u : World). Befalls x n.chance (acted x n.chance (events.Again c) u.clients u) u a.devices b.devices) h.at.world n.befalls in
+          let f = subst (λ (u : World). Befalls x n.chance (acted_plainly x n.chance (events.Again c) u) u a.devices b.devices) h.at.world n.befalls in
           let e = acted-befell x n.chance v a.devices b.devices z st near (events.Again c) tt f.used in
           asks n.chance (events.Again c) refl refl n.state_is f (record { struck = e.struck; stands = e.stands; number = e.number }) refl refl
       go (Acts (events.Nudge q)) k ok = let n = does-next x (Acts (events.Nudge q)) (pending ++ left x files epochs schedule rest) a b has d h.at.stage (subst (λ (t : Task). a.state.tasks ≡ t ∷ (pending ++ left x files epochs schedule rest)) k first) in
-          let f = subst (λ (u : World). Befalls x n.chance (acted x n.chance (events.Nudge q) u.clients u) u a.devices b.devices) h.at.world n.befalls in
+          let f = subst (λ (u : World). Befalls x n.chance (acted_plainly x n.chance (events.Nudge q) u) u a.devices b.devices) h.at.world n.befalls in
           let e = acted-befell x n.chance v a.devices b.devices z st near (events.Nudge q) tt f.used in
           asks n.chance (events.Nudge q) refl refl n.state_is f (record { struck = e.struck; stands = e.stands; number = e.number }) refl refl
       go t k ok = absurd (cc ok)

@@ -1,5 +1,6 @@
 -- Until every server has come up.
-use Rattle.jn_machine_refines.proofs.Common.{◌≡◌, ◌⊎◌, inl, inr, ◌≤◌, ◌<◌, ℕ, suc, ◌+◌, Bool, true, false, List, [], ◌∷◌, ◌++◌, append-nil, map, drop, Option, Some, None, refl, sym, ◌∙◌, ap, subst, arith, length, not, ◌&&◌, ◌||◌, if◌then◌else◌, nat_lt, is_some, list_all, list_all-append, nat_tests, ServerNo, Tid, WorkId, Outside, server_eq, tid_eq, work_eq, server_tells, Armed, DeviceState, powered_off, count_kind, is_stop, AllFiles, Event, Line, Text, Pick, World, Memory, new_memory, opening, servers_from, Step, Restart, IsRun, run, after, tid_before, go_on, IsReported, plain, plain-append, opening-within, Setup, Chance, Task, Begins, ComesUp, InSchedule, State, when_at, pick_read, is_used_up, given_up, recovering, recovered, brought_up, ending, is_too_much, most_messages, own_texts, texts_of, lines_at, come_to, cut_short, made, IsRecovery, Befalls, is_up, Moment, DoesStep, nothing-strikes, IsAsIn, IsRetoldInPart, Counts, called-later, works_found, tids_found, Left, HasTables}
+use Rattle.jn_machine_refines.proofs.Common.{◌≡◌, ◌⊎◌, inl, inr, ◌≤◌, ◌<◌, ℕ, suc, ◌+◌, Bool, true, false, List, [], ◌∷◌, ◌++◌, append-nil, map, drop, Option, Some, None, refl, sym, ◌∙◌, ap, subst, arith, length, not, ◌&&◌, ◌||◌, if◌then◌else◌, nat_lt, is_some, list_all, list_all-append, nat_tests, ServerNo, Tid, WorkId, Outside, server_eq, tid_eq, work_eq, server_tells, Armed, DeviceState, powered_off, count_kind, is_stop, AllFiles, Event, Line, Text, Pick, World, Memory, new_memory, opening, servers_from, Step, Restart, IsRun, run, after, tid_before, go_on, IsReported, plain, plain-append, opening-within, Setup, Chance, Task, Begins, ComesUp, InSchedule, State, when_at, pick_read, is_used_up, given_up, recovering, recovered, brought_up, ending, is_too_much, most_messages, own_texts, texts_of, lines_at, come_to, cut_short, made, IsRecovery, Befalls, is_up, Moment, DoesStep, nothing-strikes, IsAsIn, IsRetoldInPart, Counts, called-later, works_found, tids_found, Left}
+use Rattle.jn_machine_refines.proofs.Tables.{HasTables}
 use Rattle.jn_locks.specs.Locks.{work_before}
 use Rattle.jn_report.specs.declared.line.Text.TheVariants as says
 use Rattle.jn_machine_refines.proofs.Acts.{texts_by, grown-own, plain-texts}

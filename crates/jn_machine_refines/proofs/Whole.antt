@@ -1,5 +1,6 @@
 -- Every written run is retold.
-use Rattle.jn_machine_refines.proofs.Common.{◌++◌, false, ◌≡◌, ◌⊎◌, inl, inr, ◌≤◌, ◌<◌, ℕ, zero, suc, ◌+◌, List, [], ◌∷◌, append-nil, Some, None, refl, sym, ◌∙◌, ap, subst, arith, AllByRecursion, ServerNo, AllFiles, Event, Item, events_of, Setup, Task, InSchedule, AtEnd, CutShort, Stage, next_at, Devices, none, more, Moment, DoesStep, Leads, before, AreImages, IsWritten, IsRetold, IsRetoldInPart, HasTables, does-tables, is_call}
+use Rattle.jn_machine_refines.proofs.Common.{list_any, ◌++◌, false, ◌≡◌, ◌⊎◌, inl, inr, ◌≤◌, ◌<◌, ℕ, zero, suc, ◌+◌, List, [], ◌∷◌, append-nil, Some, None, refl, sym, ◌∙◌, ap, subst, arith, AllByRecursion, ServerNo, AllFiles, Event, Item, events_of, Setup, Task, InSchedule, AtEnd, CutShort, Stage, next_at, Devices, none, more, Moment, DoesStep, Leads, before, AreImages, IsWritten, IsRetold, IsRetoldInPart, is_call}
+use Rattle.jn_machine_refines.proofs.Tables.{HasTables, does-tables, before-tables}
 use Rattle.jn_schedule.specs.Ranges.{EventInRange}
 use Rattle.jn_schedule.specs.declared.Event.TheVariants as events
 use Rattle.jn_machine.proofs.Computed.{join}
@@ -13,6 +14,10 @@ use Rattle.jn_machine_refines.proofs.Starting.{Starts, all-started, start-part, 
 no-call : (e : Event) → EventInRange e → is_call e ≡ false
 no-call (events.Call c s call) h = let low = h.0.0 in let high = h.0.1 in absurd (omega (arith, low, high))
 no-call _ h = refl
+
+no-calls : (schedule : List Event) → AllByRecursion EventInRange schedule → list_any is_call schedule ≡ false
+no-calls [] h = refl
+no-calls (e ∷ schedule) h = let one = no-call e h.0 in let rest = no-calls schedule h.1 in grind (arith, one, rest)
 
 its-range : (done : List Event) (e : Event) (rest : List Event) → AllByRecursion EventInRange (done ++ e ∷ rest) → EventInRange e
 its-range [] e rest h = h.0
@@ -97,7 +102,7 @@ module _ (x : Setup) (few : x.servers ≤ 8) (files : AllFiles) (epochs : Server
       none-below m l = omega (arith, l)
 
   pub so-written : (images : Devices) (now : Moment) → AreImages x files epochs images → Leads x (record { state = before x schedule files epochs; devices = images }) now → So now
-  so-written images now h leads = so-run _ now (started 0 x.servers _ (images-start images h)) refl leads
+  so-written images now h leads = so-run _ now (started 0 x.servers _ (images-start images h)) (before-tables x schedule files epochs (no-calls schedule ranges)) leads
 
   -- ---- what it comes to
 

@@ -2,9 +2,11 @@
 use Rattle.std.specs.Prelude.{◌≡◌, ◌<◌, ℕ, ◌+◌, true, false, List, [], ◌++◌, Some, length, map}
 use Rattle.std.specs.List.{list_all, list_any}
 use Rattle.jn_base.specs.declared.names.ServerNo.{ServerNo}
+use Rattle.jn_base.specs.declared.names.ClientNo.{ClientNo}
 use Rattle.jn_order.specs.Files.{AllFiles}
 use Rattle.jn_schedule.specs.declared.Event.{Event}
 use Rattle.jn_report.specs.declared.line.Text.{Text}
+use Rattle.jn_callers.specs.Callers.{of_table}
 use Rattle.jn_aside.specs.Aside.{plain, is_show}
 use Rattle.jn_system.specs.WholeSystem.World.{World, Memory, opening}
 use Rattle.jn_system.specs.WholeSystem.Steps.{NextEvent, run}
@@ -43,8 +45,8 @@ pub record IsToldBy (x : Setup) (files : AllFiles) (epochs : ServerNo → ℕ) (
   pub ups : List Text
   pub are_up : list_all is_up ups ≡ true
   pub world : m.state.course.world ≡ behind ups (world_of items (opening x.servers files epochs))
-  -- the clients' own tables are the system's
-  pub tables : m.state.clients ≡ m.state.course.world.clients
+  -- no client is in a call, and its own table is the system's
+  pub tables : (c : ClientNo) → m.state.callers c ≡ of_table (m.state.course.world.clients c)
   pub lines : plain m.state.lines ≡ plain (lines_of items (opening x.servers files epochs))
   pub well : IsWell x m
 
