@@ -6,7 +6,7 @@ use Rattle.jn_base.specs.Names.{server_eq}
 use Rattle.jn_base.proofs.Tells.{server_tells}
 use Rattle.jn_rows.specs.declared.client.OpenWork.{OpenWork}
 use Rattle.jn_rows.specs.Client.{with_operation}
-use Rattle.jn_client.specs.Calls.{are_below}
+use Rattle.jn_client.specs.Tables.{are_below}
 
 -- the work at place i is the server's first
 pub counted_at : (s : ServerNo) (d : OpenWork) (ws : List OpenWork) (i : ℕ) → i < length ws → server_eq (slice_index_or ws i d).work.server s ≡ true

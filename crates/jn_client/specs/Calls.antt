@@ -1,69 +1,52 @@
 -- What the calls of a client give.
-use Rattle.std.specs.Prelude.{◌≡◌, ℕ, Bool, true, false, nat_eq, nat_lt, ◌+◌, ◌&&◌, if◌then◌else◌, List, [], ◌∷◌, Option, Some, None, Result, Ok, Err}
-use Rattle.jn_base.specs.declared.names.RequestNo.{RequestNo}
-use Rattle.jn_base.specs.declared.names.ClientNo.{ClientNo}
+use Rattle.std.specs.Prelude.{◌≡◌, ℕ, ◌&&◌, ◌||◌, Bool, true, false, not, if◌then◌else◌, Option, Some, None, Result, Ok, Err}
 use Rattle.jn_base.specs.declared.names.Party.{Party}
+use Rattle.jn_base.specs.declared.op.Op.{Op}
 use Rattle.jn_base.specs.declared.op.Command.{Command}
-use Rattle.jn_base.specs.declared.op.Command.TheVariants.{Do}
-use Rattle.jn_base.specs.Names.{client_eq, request_eq, request_of}
-use Rattle.jn_base.specs.declared.names.Cause.{Cause}
+use Rattle.jn_base.specs.declared.op.Command.TheVariants.{Do, Abort}
 use Rattle.jn_msgs.specs.declared.message.Message.{Message}
-use Rattle.jn_msgs.specs.declared.message.Outcome.{Outcome}
-use Rattle.jn_msgs.specs.declared.message.Outcome.TheVariants.{Committed, Aborted}
-use Rattle.jn_rows.specs.declared.client.OpenWork.{OpenWork}
-use Rattle.jn_rows.specs.declared.client.Outstanding.{Outstanding}
-use Rattle.jn_rows.specs.declared.client.Taken.{Taken}
-use Rattle.jn_rows.specs.declared.client.Taken.TheVariants.{Told}
-use Rattle.jn_report.specs.declared.line.Text.{Text}
-use Rattle.jn_report.specs.declared.line.Text.TheVariants as says
-use Rattle.jn_rows.specs.Client.{ClientTable, Commanded, Refuses, Sends, with_operation}
+use Rattle.jn_report.specs.declared.line.Refusal.{Refusal}
+use Rattle.jn_report.specs.declared.line.Refusal.TheVariants as refusals
+use Rattle.jn_rows.specs.Client.{Commanded, Refuses, Sends, command_row, idle}
+use Rattle.jn_callers.specs.declared.doing.Doing.{Doing}
+use Rattle.jn_callers.specs.declared.taken.Taken.{Taken}
+use Rattle.jn_callers.specs.declared.taken.Taken.TheVariants.{Ignored}
+use Rattle.jn_calls.specs.declared.reply.Reply.{Reply}
+use Rattle.jn_callers.specs.Callers.{Caller, Ordered, Refused as IsRefused, Sent, comes_first, goes_on, last, is_refused}
 use Rattle.jn_client.specs.declared.words.CommandFault.{CommandFault}
 use Rattle.jn_client.specs.declared.words.CommandFault.TheVariants.{Refused, Memory}
 
--- a command whose row this is: what it gives, and the table after it; without memory nothing changes
-abbrev pub Gives : Commanded → ClientTable → Result (Option (Party × Message)) CommandFault → ClientTable → Type 0
-Gives row t (Ok (Some m)) t' = row ≡ Sends t' m.0 m.1
-Gives row t (Ok None) t' = ⊥
-Gives row t (Err (Refused refusal)) t' = (row ≡ Refuses refusal) × (t' ≡ t)
-Gives row t (Err Memory) t' = t' ≡ t
+-- an order whose row this is: what it gives, and the client after it; without memory nothing changes
+abbrev pub Gives : Ordered → Caller → Result (Option (Party × Message)) CommandFault → Caller → Type 0
+Gives row c (Ok (Some m)) c' = row ≡ Sent c' m.0 m.1
+Gives row c (Ok None) c' = ⊥
+Gives row c (Err (Refused refusal)) c' = (row ≡ IsRefused refusal) × (c' ≡ c)
+Gives row c (Err Memory) c' = c' ≡ c
 
--- the table once the message of a command is sent
-abbrev pub works_after : Command → List OpenWork → List OpenWork
-works_after (Do s op) ws = with_operation s ws
-works_after c ws = ws
+abbrev pub is_abort : Command → Bool
+is_abort Abort = true
+is_abort command = false
 
-abbrev pub sent_table : ClientTable → ℕ → Command → Party → Message → ClientTable
-sent_table t j command to m = record t {
-  works = works_after command t.works;
-  next = t.next + 1;
-  outstanding = Some (record { event = j; request = request_of t.next; command = command; to = to; message = m });
-}
+-- what a spoiled transaction tells of an order that the table refuses so, or not at all
+abbrev pub spoiled_by : Option Refusal → Refusal
+spoiled_by None = refusals.Spoiled
+spoiled_by (Some refusal) = if not (comes_first refusal) then refusals.Spoiled else refusal
 
--- the event and the command of the outstanding request, where a client's message replies to it
-abbrev pub replied_to : ClientNo → Option Outstanding → ClientNo → RequestNo → Option (ℕ × Command)
-replied_to me None client request = None
-replied_to me (Some o) client request = if client_eq client me && request_eq o.request request then Some (o.event, o.command) else None
+-- what a call that is too far is told
+abbrev pub far_by : Option Refusal → Refusal
+far_by None = refusals.TooFar
+far_by (Some refusal) = refusal
 
--- the event of the outstanding command, where it passes the test
-abbrev pub event_where : (Command → Bool) → Option Outstanding → Option ℕ
-event_where test None = None
-event_where test (Some o) = if test o.command then Some o.event else None
+-- what comes behind an answer to the call under way, whose state is that of the next turn already: its next operation is sent, once it is
+-- noted whether a write was done
+abbrev pub next_row : Caller → ℕ → Option Doing → Bool → Op → Caller × Taken
+next_row c j None did op = (c, Ignored)
+next_row c j (Some d) did op = goes_on c (record d { wrote = d.wrote || did }) (command_row (idle c.table) j (Do d.server op))
 
--- no work has had as many operations
-abbrev pub are_below : ℕ → List OpenWork → Bool
-are_below n [] = true
-are_below n (w ∷ ws) = nat_lt w.last n && are_below n ws
+abbrev pub has_written : Option Doing → Bool
+has_written None = false
+has_written (Some d) = d.wrote
 
--- committed, or aborted for a cause
-abbrev pub decision : Option Cause → Outcome
-decision None = Committed
-decision (Some cause) = Aborted cause
-
--- a line with the bytes of a block, which is all that a client wants memory for
-abbrev pub has_block : Text → Bool
-has_block (says.Read c j bytes) = true
-has_block line = false
-
-abbrev pub tells_block : Taken → Bool
-tells_block (Told line sent) = has_block line
-tells_block taken = false
+-- or the call is over
+abbrev pub over_row : Caller → ℕ → Reply → Caller × Taken
+over_row c j reply = (record { table = idle c.table; doing = None; spoiled = c.spoiled || (has_written c.doing && is_refused reply) }, last j reply)
