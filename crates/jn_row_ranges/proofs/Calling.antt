@@ -75,7 +75,7 @@ same-sent (takes.Send to m) = refl
 same-sent (takes.Told text more) = refl
 
 -- of which none is an operation
-pub table-asks-none : (t : ClientTable) (m : Message) → operations_sent (as_table (take_row t m).1) ≡ 0
+table-asks-none : (t : ClientTable) (m : Message) → operations_sent (as_table (take_row t m).1) ≡ 0
 table-asks-none t m = let fewer = subst (λ (row : Caller × Taken). operations_sent row.1 + still row.0.doing ≤ 0) (plain-message t m) (asks-fewer (of_table t) m) in omega (arith, fewer)
 
 table-fits : (c : Caller) (m : Message) → CallerFits c → FitsThen c.table (with_table c (take_row c.table m))
